@@ -1,0 +1,4 @@
+pub mod Words
+pub mod Operators
+pub mod Known
+pub mod Trips
