@@ -1,0 +1,4 @@
+pub mod Name
+pub mod Value
+pub mod Run
+pub mod Straight

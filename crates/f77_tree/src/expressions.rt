@@ -1,0 +1,27 @@
+use df_sequence::Sequence;
+use op_table::Op;
+
+/// Expressions, one after another.
+pub type ExprList = Sequence<Expr>;
+
+/// An expression, whose names are indices into the table of names (ANSI X3.9-1978, section 6).
+#[cycle(expression)]
+#[derive(Drop)]
+pub enum Expr {
+    /// A constant.
+    Const(i32),
+    /// The value of a variable or an array element.
+    Read(Access),
+    /// An operator at its operands, from left to right.
+    Apply(Op, ExprList),
+}
+
+/// A variable, or an array element with its subscripts.
+#[cycle(expression)]
+#[derive(Drop)]
+pub struct Access {
+    /// The index of the name.
+    pub name: u32,
+    /// One expression for each dimension.
+    pub subs: ExprList,
+}
