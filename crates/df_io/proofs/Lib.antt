@@ -1,1 +1,2 @@
+mod MemLemmas
 mod Transfers

@@ -1,3 +1,6 @@
 pub mod Faults
+pub mod MemSink
+pub mod MemSource
 pub mod Read
+pub mod Table
 pub mod Write

@@ -2,13 +2,16 @@
 #![tactic(auto)]
 
 mod faults;
+mod mem_source;
 mod read;
 mod sink;
 mod source;
+mod table;
 mod write;
 
 pub use df_sequence::NoMemory;
 pub use faults::Failed;
+pub use mem_source::MemSource;
 pub use read::{ReadEnd, read_all};
 pub use sink::Sink;
 pub use source::Source;
