@@ -1,3 +1,4 @@
+pub mod Adapter
 pub mod Faults
 pub mod MemSink
 pub mod MemSource
