@@ -27,7 +27,7 @@ impl Model for MemSink {
       fails = s.fails.items;
       piece = s.piece;
       calls = s.calls;
-      faults = s.faults
+      faults = s.faults;
     } };
 
     ghost invariant = { λ s. (vec_len s.got ≤ s.room) × (s.room ≤ vec_capacity s.got) × (0 < s.piece) };
@@ -38,12 +38,7 @@ impl MemSink {
 
     /// A sink with room for this many bytes, of which one call takes at most `piece`. The calls whose numbers, counted
     /// from 0, are in `fails` fail, and so do calls with bytes when there is no room left.
-    pub fn new(
-        alloc: Global,
-        room: u32,
-        fails: &[u32],
-        piece: u32,
-    ) -> Result<MemSink, NoMemory>
+    pub fn new(alloc: Global, room: u32, fails: &[u32], piece: u32) -> Result<MemSink, NoMemory>
         requires { 0 < piece }
         ensures { IfOk result (λ sink. sink ≡ record { got = []; room = room; fails = fails.now; piece = piece; calls = 0; faults = 0 }) }
     {

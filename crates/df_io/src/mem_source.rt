@@ -25,7 +25,7 @@ impl Model for MemSource {
       fails = s.fails.items;
       piece = s.piece;
       calls = s.calls;
-      faults = s.faults
+      faults = s.faults;
     } };
 
     ghost invariant = { λ s. (s.at ≤ vec_len s.bytes) × (0 < s.piece) };

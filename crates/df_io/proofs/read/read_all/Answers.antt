@@ -1,5 +1,5 @@
-use Rattle.std.proofs.Common.{rules, ◌+◌, ◌≤◌, length, arith}
-use Rattle.df_io.specs.Read.{Takes, TakesAtMost}
+use Rattle.std.proofs.Common.{rules, ◌+◌}
+use Rattle.df_io.specs.Read.{TakesAtMost}
 use Rattle.df_io.proofs.Transfers.{Takes-more, TakesAtMost-more}
 use Rattle.df_io.proofs.read.read_all.Goals as goal
 

@@ -1,4 +1,4 @@
-use Rattle.std.proofs.Common.{◌≡◌, ◌+◌, ◌<◌, ◌≤◌, ◌∙◌, ap, sym, length, rules, arith, vec_len}
+use Rattle.std.proofs.Common.{◌≡◌, ◌+◌, ◌<◌, ◌≤◌, ◌∙◌, ap, sym, length, rules, arith}
 use Rattle.df_io.specs.MemSource.{SourceState}
 use Rattle.df_io.proofs.MemLemmas.{read_taken, read_end, length-filled}
 use Rattle.df_io.proofs.mem_source.MemSourceSource.read.Goals as goal
