@@ -10,3 +10,6 @@ pub use boxed::Boxed;
 pub use copied::Copied;
 pub use no_memory::NoMemory;
 pub use sequence::{CharList, LabelList, NumList, Sequence, WordList};
+
+#[cfg(test)]
+mod tests;

@@ -92,10 +92,9 @@ impl Sequence<u8> {
 }
 
 // What the type of bytes says of them.
-fn fit(_bytes: &Vec<u8>)
-    ensures { All (λ byte. byte < 256) _bytes.now.items }
-{
-}
+fn fit(bytes: &Vec<u8>)
+    ensures { All (λ byte. byte < 256) bytes.now.items }
+{}
 
 impl<T: Drop> Sequence<T> {
     /// Puts one more item at the end. Where there is no memory for it, the item is dropped.

@@ -1,0 +1,2 @@
+mod MemLemmas
+mod Transfers
