@@ -1,2 +1,4 @@
 pub mod Rows
 pub mod Powers
+pub mod Trapping
+pub mod Folds

@@ -50,8 +50,11 @@ pub enum Trap {
     Overflow,
 }
 
+mod risks;
 mod table;
+mod trips;
 mod values;
 mod words;
 
-pub use table::{apply, arity};
+pub use table::{apply, arity, fold, may_trap};
+pub use trips::do_count;
