@@ -2,3 +2,4 @@ pub mod Rows
 pub mod Powers
 pub mod Trapping
 pub mod Folds
+pub mod Counts

@@ -1,17 +1,17 @@
 -- When an operator traps at some words that its operands may be.
-use Rattle.std.proofs.Common.{◌≡◌, ℕ, ◌+◌, ◌-◌, ◌*◌, ◌^◌, ◌<◌, ◌≤◌, ◌⊎◌, inl, inr, ⊎_elim, ◌↔◌, ℤ, pos, negsuc, neg_ℤ, ◌+ℤ◌, ◌-ℤ◌, ◌*ℤ◌, ◌<ℤ◌, ◌≤ℤ◌, Bool, true, false, List, [], ◌∷◌, Option, Some, None, Result, Ok, Err, refl, sym, ap, subst, ◌∙◌, w32, to_z, of_z, arith, suc, zero}
-use Rattle.std.specs.Prelude.{T, not, nat_eq, if◌then◌else◌, ◌||◌, ◌==◌, ◌%◌, int_div, unwrap_or, is_err, IsTrue, int_lt, int_le, unsigned_abs}
+use Rattle.std.proofs.Common.{◌≡◌, ℕ, ◌^◌, ◌<◌, ◌≤◌, ◌⊎◌, inl, inr, ⊎_elim, ◌↔◌, ℤ, pos, negsuc, neg_ℤ, ◌+ℤ◌, ◌-ℤ◌, ◌*ℤ◌, ◌<ℤ◌, ◌≤ℤ◌, Bool, true, false, List, [], ◌∷◌, Option, Some, None, Result, Ok, Err, refl, sym, ap, subst, ◌∙◌, w32, to_z, of_z, arith, suc, zero}
+use Rattle.std.specs.Prelude.{T, not, nat_eq, if◌then◌else◌, ◌||◌, ◌==◌, ◌%◌, int_div, unwrap_or, is_err, IsTrue, int_lt, unsigned_abs}
 use Rattle.std.specs.Ordering.{int_eq}
-use Rattle.std.proofs.lemmas.Int.{ints, unsigned_abs-mul, fits_signed_from_abs}
+use Rattle.std.proofs.lemmas.Int.{ints}
 use Rattle.std.proofs.lemmas.Bool.Decides.{Decides-int_eq, Decides-eqb}
 use Rattle.op_table.specs.declared.Op.{Op}
-use Rattle.op_table.specs.declared.Op.TheVariants.{Add, Sub, Mul, Div, Pow, Neg, Lt, Le, Eq, Ne, Ge, Gt, Not, And, Or, Eqv, Neqv, Mod, Abs, Sign, Max, Min, Truth, Bound, Place, Three, Pick, Step, AddChecked, SubChecked, MulChecked, NegChecked, AbsChecked, PowChecked}
+use Rattle.op_table.specs.declared.Op.TheVariants.{Div, Pow, Mod, Bound, Step, AddChecked, SubChecked, MulChecked, NegChecked, AbsChecked, PowChecked}
 use Rattle.op_table.specs.declared.Trap.{Trap}
 use Rattle.op_table.specs.declared.Trap.TheVariants.{Divide, Subscript, Step as NoStep, Overflow}
-use Rattle.op_table.specs.Words.{IsWord, is_word, wrapped}
+use Rattle.op_table.specs.Words.{IsWord, is_word}
 use Rattle.op_table.specs.Operators.{applied, unary, binary, ternary, in_a_word, checked, quotient, remainder, offset, power, raised, raised_checked, absolute, can_trap}
 use Rattle.op_table.specs.Known.{MayBe, MayAllBe, CanTrap, MayBeBelow}
-use Rattle.std.proofs.Math.Nat.{one-le-pow, pow-le-pow_left, pow-suc, mul-le-mul}
+use Rattle.std.proofs.Math.Nat.{one-le-pow, pow-le-pow_left, pow-suc}
 use lib.IntN.{*ℤ_comm}
 use Rattle.op_table.proofs.Powers.{unsigned_abs-power, power-one, power-minus_one, two-le-pow, inverse-zero, inverse-one, inverse-minus_one}
 use Rattle.op_table.proofs.Rows.{is_word-word, word-is_word, not_word-is_word, word-unsigned_abs, bits_back}
@@ -143,13 +143,14 @@ T-true false t = absurd t
 
 pub below_can : (k j : Option ℤ) → int_lt (least k) (greatest j) ≡ true ↔ MayBeBelow k j
 below_can k j = (
-    λ e. record { low = least k; high = greatest j; may_be_low = least_may k; may_be_high = greatest_may j; below = omega (arith, ints) },
-    λ m.
-    let at_least = least-le k m.low m.may_be_low in
-    let at_most = le-greatest j m.high m.may_be_high in
-    let below = m.below in
-    let lt : least k <ℤ greatest j = omega (arith, ints) in
-    T-true (int_lt (least k) (greatest j)) lt.lt)
+  λ e. record { low = least k; high = greatest j; may_be_low = least_may k; may_be_high = greatest_may j; below = omega (arith, ints) },
+  λ m.
+      let at_least = least-le k m.low m.may_be_low in
+      let at_most = le-greatest j m.high m.may_be_high in
+      let below = m.below in
+      let lt : least k <ℤ greatest j = omega (arith, ints) in
+      T-true (int_lt (least k) (greatest j)) lt.lt,
+)
 
 -- ---- operators that trap at a zero
 
@@ -208,8 +209,9 @@ raised-err x (negsuc n) e = (power-eq-zero x (suc n) (quotient-err (pos 1) (powe
 pub pow_can : (a b : Option ℤ) → (MayBe a (pos 0) × MayBeBelow b (Some (pos 0))) ↔ TrapsAtTwo Pow a b
 unfolding binary
 pow_can a b = (
-    λ h. record { x = pos 0; y = h.1.low; may_x = h.0; may_y = h.1.may_be_low; traps = zero-raised h.1.low (subst (λ z. h.1.low <ℤ z) h.1.may_be_high h.1.below) },
-    λ t. let e = raised-err t.x t.y t.traps in (subst (MayBe a) e.0 t.may_x, record { low = t.y; high = pos 0; may_be_low = t.may_y; may_be_high = refl; below = e.1 }))
+  λ h. record { x = pos 0; y = h.1.low; may_x = h.0; may_y = h.1.may_be_low; traps = zero-raised h.1.low (subst (λ z. h.1.low <ℤ z) h.1.may_be_high h.1.below) },
+  λ t. let e = raised-err t.x t.y t.traps in (subst (MayBe a) e.0 t.may_x, record { low = t.y; high = pos 0; may_be_low = t.may_y; may_be_high = refl; below = e.1 }),
+)
 
 -- ---- subscripts
 
@@ -234,14 +236,15 @@ offset-err v low high = by (int_lt v low) (int_lt high v) refl refl
 pub bound_can : (v low high : Option ℤ) → (MayBeBelow v low ⊎ MayBeBelow high v) ↔ TrapsAtThree Bound v low high
 unfolding ternary
 bound_can v low high = (
-    λ h. ⊎_elim
-    (λ (m : MayBeBelow v low). record { x = m.low; y = m.high; z = least high; may_x = m.may_be_low; may_y = m.may_be_high; may_z = least_may high; traps = offset-below m.low m.high (least high) m.below })
-    (λ (m : MayBeBelow high v). record { x = m.high; y = least low; z = m.low; may_x = m.may_be_high; may_y = least_may low; may_z = m.may_be_low; traps = offset-above m.high (least low) m.low m.below })
-    h,
-    λ t. ⊎_elim
-    (λ (below : t.x <ℤ t.y). inl (record { low = t.x; high = t.y; may_be_low = t.may_x; may_be_high = t.may_y; below = below }))
-    (λ (above : t.z <ℤ t.x). inr (record { low = t.z; high = t.x; may_be_low = t.may_z; may_be_high = t.may_x; below = above }))
-    (offset-err t.x t.y t.z t.traps))
+  λ h. ⊎_elim
+      (λ (m : MayBeBelow v low). record { x = m.low; y = m.high; z = least high; may_x = m.may_be_low; may_y = m.may_be_high; may_z = least_may high; traps = offset-below m.low m.high (least high) m.below })
+      (λ (m : MayBeBelow high v). record { x = m.high; y = least low; z = m.low; may_x = m.may_be_high; may_y = least_may low; may_z = m.may_be_low; traps = offset-above m.high (least low) m.low m.below })
+      h,
+  λ t. ⊎_elim
+      (λ (below : t.x <ℤ t.y). inl (record { low = t.x; high = t.y; may_be_low = t.may_x; may_be_high = t.may_y; below = below }))
+      (λ (above : t.z <ℤ t.x). inr (record { low = t.z; high = t.x; may_be_low = t.may_z; may_be_high = t.may_x; below = above }))
+      (offset-err t.x t.y t.z t.traps),
+)
 
 -- ---- the checked dialect
 

@@ -3,8 +3,7 @@ ghost use Rattle.std.specs.Prelude.{◌≡◌, ◌↔◌, IsTrue, false, pos, []
 ghost use Rattle.op_table.specs.Operators.{can_trap};
 ghost use Rattle.op_table.specs.Known.{MayBe, MayBeBelow, CanTrap};
 
-use crate::values;
-use crate::Op;
+use crate::{Op, values};
 
 /// Whether an operand may be 0.
 fn may_be_zero(k: Option<i32>) -> bool

@@ -3,9 +3,7 @@ ghost use Rattle.std.specs.Prelude.{◌≡◌, ◌↔◌, IsTrue, length};
 ghost use Rattle.op_table.specs.Operators.{arity_of, applied};
 ghost use Rattle.op_table.specs.Known.{CanTrap, folded};
 
-use crate::risks;
-use crate::values;
-use crate::{Op, Trap};
+use crate::{Op, Trap, risks, values};
 
 // A row has the operator, how many operands it has, the function of its value, and whether it can trap. What reads the
 // table makes of each row what it wants.

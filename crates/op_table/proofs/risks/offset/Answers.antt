@@ -11,10 +11,10 @@ returns-then-may_be_below c =
 
 pub returns-else-may_be_below : goal.returns-else-may_be_below
 returns-else-may_be_below c =
-    let can = through (bound_can c.args.v c.args.low c.args.high) (three_can Bound c.args.v c.args.low c.args.high) in
-    (
+    let can = through (bound_can c.args.v c.args.low c.args.high) (three_can Bound c.args.v c.args.low c.args.high) in (
       λ e. can.0 (inr (c.may_be_below-else-may_be_below.ensures.0 e)),
       λ t. ⊎_elim
-      (λ (m : MayBeBelow c.args.v c.args.low). true-false (c.may_be_below.ensures.1 m) c.if-may_be_below.false)
-      (λ (m : MayBeBelow c.args.high c.args.v). c.may_be_below-else-may_be_below.ensures.1 m)
-      (can.1 t))
+          (λ (m : MayBeBelow c.args.v c.args.low). true-false (c.may_be_below.ensures.1 m) c.if-may_be_below.false)
+          (λ (m : MayBeBelow c.args.high c.args.v). c.may_be_below-else-may_be_below.ensures.1 m)
+          (can.1 t),
+    )
