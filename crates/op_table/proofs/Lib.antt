@@ -3,3 +3,4 @@ pub mod Powers
 pub mod Trapping
 pub mod Folds
 pub mod Counts
+pub mod Laws

@@ -99,14 +99,15 @@ macro_rules! known_value {
     };
 }
 
-/// How many operands an operator has.
+/// How many operands an operator has, from 1 to 3.
 pub fn arity(op: Op) -> u32
     ensures { result ≡ arity_of op }
 {
     table!(op, operands)
 }
 
-/// The value of an operator at its operands, or its trap.
+/// The value of an operator at its operands, or its trap. There are as many operands as `arity` says. A power takes
+/// at most 62 products.
 pub fn apply(op: Op, args: &[i32]) -> Result<i32, Trap>
     requires { length args.now ≡ arity_of op }
     ensures { result ≡ applied op args.now }
@@ -114,7 +115,8 @@ pub fn apply(op: Op, args: &[i32]) -> Result<i32, Trap>
     table!(op, value, args)
 }
 
-/// Whether an operator traps at some words that its operands may be, where some of them are known.
+/// Whether an operator traps at some words that its operands may be: the number that is known of one, and any word
+/// where none is. It takes a few comparisons, and no search.
 pub fn may_trap(op: Op, known: &[Option<i32>]) -> bool
     requires { length known.now ≡ arity_of op }
     ensures { IsTrue result ↔ CanTrap op known.now }
@@ -122,7 +124,7 @@ pub fn may_trap(op: Op, known: &[Option<i32>]) -> bool
     table!(op, risk, known)
 }
 
-/// The value of an operator, where all its operands are known and it does not trap at them.
+/// The value of an operator where all its operands are known and it does not trap at them, else none.
 pub fn fold(op: Op, known: &[Option<i32>]) -> Option<i32>
     requires { length known.now ≡ arity_of op }
     ensures { result ≡ folded op known.now }
