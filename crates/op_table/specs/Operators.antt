@@ -87,7 +87,7 @@ abbrev pub raised_checked : ℤ → ℤ → Result ℤ Trap
 raised_checked a (pos n) = checked (power a n)
 raised_checked a (negsuc n) = quotient (pos 1) (power a (suc n))
 
--- ---- the rows, over whole numbers
+-- ---- the rows, over whole numbers: an operator stands in the table of its arity, and has no meaning in another
 
 -- operators of one operand
 unfoldable pub unary : Op → ℤ → Result ℤ Trap

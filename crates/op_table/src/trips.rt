@@ -3,7 +3,7 @@ ghost use Rattle.std.specs.Prelude.{◌≡◌, ◌≢◌, pos};
 ghost use Rattle.op_table.specs.Trips.{trip_count};
 
 /// The iteration count of a DO: (last - first + step) / step over whole numbers, cut towards zero, and no less than 0
-/// (section 11.10.3). The step isn't 0. The count is at most 4294967296.
+/// (section 11.10.3). The step isn't 0.
 pub fn do_count(first: i32, last: i32, step: i32) -> u64
     requires { step ≢ pos 0 }
     ensures { result ≡ trip_count first last step }
