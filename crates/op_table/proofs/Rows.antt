@@ -90,7 +90,7 @@ with_sign_negative a b f e = by b (sym (ap (int_le (pos 0)) (bits_back b f)) ∙
 
 -- ---- numbers that have to be words
 
-word-is_word : (z : ℤ) → IsWord z → is_word z ≡ true
+pub word-is_word : (z : ℤ) → IsWord z → is_word z ≡ true
 word-is_word (pos n) f = grind (arith, nat_tests, f.sfits)
 word-is_word (negsuc n) f = grind (arith, nat_tests, f.sfits)
 

@@ -1,5 +1,5 @@
 -- The value of each operator: a whole number, which is then wrapped to a word, or a trap.
-use Rattle.std.specs.Prelude.{ℕ, zero, suc, ℤ, pos, negsuc, neg_ℤ, ◌+ℤ◌, ◌-ℤ◌, ◌*ℤ◌, not, ◌&&◌, ◌||◌, if◌then◌else◌, List, [], ◌∷◌, Result, Ok, Err, int_lt, int_le, int_div, unsigned_abs}
+use Rattle.std.specs.Prelude.{Bool, true, false, ℕ, zero, suc, ℤ, pos, negsuc, neg_ℤ, ◌+ℤ◌, ◌-ℤ◌, ◌*ℤ◌, not, ◌&&◌, ◌||◌, if◌then◌else◌, List, [], ◌∷◌, Result, Ok, Err, int_lt, int_le, int_div, unsigned_abs}
 use Rattle.std.specs.Int.{int_max, int_min}
 use Rattle.std.specs.Bool.{beq}
 use Rattle.std.specs.Ordering.{int_eq}
@@ -22,6 +22,21 @@ arity_of AbsChecked = 1
 arity_of Bound = 3
 arity_of Place = 3
 arity_of _ = 2
+
+-- whether an operator traps at any words
+abbrev pub can_trap : Op → Bool
+can_trap Div = true
+can_trap Pow = true
+can_trap Mod = true
+can_trap Bound = true
+can_trap Step = true
+can_trap AddChecked = true
+can_trap SubChecked = true
+can_trap MulChecked = true
+can_trap NegChecked = true
+can_trap AbsChecked = true
+can_trap PowChecked = true
+can_trap _ = false
 
 -- a / b, cut towards zero
 abbrev pub quotient : ℤ → ℤ → Result ℤ Trap
@@ -72,7 +87,7 @@ abbrev pub raised_checked : ℤ → ℤ → Result ℤ Trap
 raised_checked a (pos n) = checked (power a n)
 raised_checked a (negsuc n) = quotient (pos 1) (power a (suc n))
 
--- ---- the rows, over whole numbers
+-- ---- the rows, over whole numbers: an operator stands in the table of its arity, and has no meaning in another
 
 -- operators of one operand
 unfoldable pub unary : Op → ℤ → Result ℤ Trap
