@@ -1,0 +1,5 @@
+pub mod Lines
+pub mod Pieces
+pub mod Statements
+pub mod Early
+pub mod Programs

@@ -1,0 +1,9 @@
+//! Reads programs of early lines: the first part of the language, of assignments of sums, PRINT and END.
+#![tactic(auto)]
+
+mod early_end;
+mod operands;
+mod pieces;
+mod statements;
+
+pub use early_end::EarlyEnd;
