@@ -51,7 +51,7 @@ assign_of target None rest = None
 assign_of target (Some first) None = None
 assign_of target (Some first) (Some rest) = Some (Assign target first rest)
 
--- the target, and the pieces of the sum with the signs between them
+-- The target, and the pieces of the sum with the signs between them. No piece of nothing is an operand, so there is an `=`.
 abbrev pub assigned : List ℕ → List (List ℕ) → List ℕ → Option Statement
 assigned target [] signs = None
 assigned target (first ∷ pieces) signs = if is_early_name target then assign_of target (operand_of first) (terms_of signs pieces) else None
@@ -62,10 +62,17 @@ assignment_of text =
     let sum = after_first (λ b. b == 61) text in
     assigned (before_first (λ b. b == 61) text) (slice_split is_sign sum) (filter is_sign sum)
 
+abbrev pub early_names : List (List ℕ) → Option (List (List ℕ))
+early_names pieces = if list_all is_early_name pieces then Some pieces else None
+
+abbrev pub print_of : Option (List (List ℕ)) → Option Statement
+print_of None = None
+print_of (Some names) = Some (Print names)
+
 -- nothing, and a name after each comma
 abbrev pub printed : List (List ℕ) → Option Statement
 printed [] = None
-printed (nothing ∷ names) = if length nothing == 0 && list_all is_early_name names then Some (Print names) else None
+printed (nothing ∷ pieces) = if length nothing == 0 then print_of (early_names pieces) else None
 
 abbrev pub print : List ℕ
 print = codes "PRINT *"
@@ -78,5 +85,9 @@ statement_in text =
     else assignment_of text)
 
 -- at most 72 bytes, the first six of them blanks
+abbrev pub has_margin : List ℕ → Bool
+has_margin line = nat_le (length line) 72 && starts_with ◌==◌ line (replicate 6 32)
+
+-- the statement of a line, if it has one
 unfoldable pub statement_of : List ℕ → Option Statement
-statement_of line = if nat_le (length line) 72 && starts_with ◌==◌ line (replicate 6 32) then statement_in (drop 6 line) else None
+statement_of line = if has_margin line then statement_in (drop 6 line) else None

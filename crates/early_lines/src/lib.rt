@@ -3,6 +3,7 @@
 
 mod early_end;
 mod operands;
+mod parse;
 mod pieces;
 mod statements;
 

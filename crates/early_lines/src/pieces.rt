@@ -50,7 +50,7 @@ fn place_of_sign(text: &[u8]) -> usize
 }
 
 /// The text from a place on.
-fn from(text: &[u8], n: usize) -> &[u8]
+pub(crate) fn from(text: &[u8], n: usize) -> &[u8]
     requires { n ≤ length text.now }
     ensures { result.now ≡ drop n text.now }
 {
