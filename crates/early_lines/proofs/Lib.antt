@@ -1,3 +1,5 @@
 mod Cuts
 mod Numbers
+mod StatementNames
+mod TableLemmas
 mod LaterPieces

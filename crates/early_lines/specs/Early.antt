@@ -44,11 +44,15 @@ is_end (Assign target first rest) = false
 is_end (Print names) = false
 is_end End = true
 
--- Whether a line is early, by its statement, the statements of the lines before it, and the lines after it: it has a
--- statement, is one of the first 4000 lines, is the last one if it is END, and there are at most 255 names up to it.
+-- a statement may stand after so many lines and before others: below line 4000, END at the end alone
+abbrev pub may_stand : ℕ → Statement → List (List ℕ) → Bool
+may_stand before statement after = nat_lt before 4000 && (not (is_end statement) || length after == 0)
+
+-- Whether a line is early, by its statement, the statements of the lines before it, and the lines after it. There are
+-- at most 255 names up to it.
 abbrev pub is_early : List Statement → Option Statement → List (List ℕ) → Bool
 is_early before None after = false
-is_early before (Some statement) after = nat_lt (length before) 4000 && (not (is_end statement) || length after == 0) && nat_le (length (table_of (before ++ statement ∷ []))) 255
+is_early before (Some statement) after = may_stand (length before) statement after && nat_le (length (table_of (before ++ statement ∷ []))) 255
 
 abbrev pub followed_by : List Statement → Option Statement → List Statement
 followed_by before None = before
