@@ -1,6 +1,6 @@
 -- A list, cut at the first element that passes a test.
 use Rattle.std.proofs.Common.{◌≡◌, ◌==◌, nat_lt, ℕ, zero, suc, ◌+◌, ◌-◌, ◌<◌, ◌≤◌, Bool, true, false, not, cond, Option, Some, None, List, [], ◌∷◌, length, take, drop, filter, refl, sym, ap, ◌∙◌, subst, ⊎_elim, arith}
-use Rattle.std.proofs.lemmas.Bool.{ltb-false, cases_Bool, cond_both}
+use Rattle.std.proofs.lemmas.Bool.{ltb-false, cases_Bool, cond_both, ne_eqb}
 use Rattle.std.proofs.lemmas.List.Sums.{prefix_len-le-length}
 use Rattle.std.proofs.lemmas.Option.{cond_some}
 use Rattle.std.specs.List.{slice_split, onto_first, position, position_or_len, prefix_len}
@@ -86,11 +86,15 @@ begins_at p xs n rest place is = rw (is, place) (begins_cut p xs)
 pub lines_at : (xs : List ℕ) (n : ℕ) (rest : List ℕ) → 0 < length xs → n ≡ position_or_len (λ b. b == 10) xs → rest ≡ drop (n + 1) xs → lines xs ≡ take n xs ∷ lines rest
 lines_at xs n rest some place is = rw (is, place) (lines_cut xs some)
 
+some_length : (n : ℕ) → (suc n == 0) ≡ false
+some_length n = ne_eqb (suc n) 0 (λ z. omega (arith, z))
+
 onto_some : (x : ℕ) (ls : List (List ℕ)) → (length (onto_first x ls) == 0) ≡ false
 onto_some x [] = refl
-onto_some x (l ∷ ls) = refl
+onto_some x (l ∷ ls) = some_length (length ls)
 
 -- a text has no line exactly where it is empty
 pub no_lines : (xs : List ℕ) → (length (lines xs) == 0) ≡ (length xs == 0)
 no_lines [] = refl
-no_lines (x ∷ xs) = cond_both (x == 10) ([] ∷ lines xs) (onto_first x (lines xs)) (λ ls. (length ls == 0) ≡ false) (λ _. refl) (λ _. onto_some x (lines xs))
+no_lines (x ∷ xs) =
+    cond_both (x == 10) ([] ∷ lines xs) (onto_first x (lines xs)) (λ ls. (length ls == 0) ≡ false) (λ _. some_length (length (lines xs))) (λ _. onto_some x (lines xs)) ∙ sym (some_length (length xs))
