@@ -12,3 +12,6 @@ mod table;
 
 pub use early::read_early;
 pub use early_end::EarlyEnd;
+
+#[cfg(test)]
+mod tests;

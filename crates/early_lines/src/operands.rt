@@ -13,7 +13,11 @@ pub(crate) fn early_name(piece: &[u8]) -> Option<Name>
     ensures { result ≡ (if is_early_name piece.now then Some piece.now else None) }
 {
     let name = Name::new(piece)?;
-    if b'I' <= piece[0] && piece[0] <= b'N' { Some(name) } else { None }
+    if b'I' <= piece[0] && piece[0] <= b'N' {
+        Some(name)
+    } else {
+        None
+    }
 }
 
 /// Whether there are only digits.

@@ -86,7 +86,11 @@ fn assignment(alloc: Global, text: &[u8]) -> Result<Option<Statement>, NoMemory>
         return Ok(None);
     };
     match terms(alloc, rest)? {
-        Some(rest) => Ok(Some(Statement::Assign { target, first, rest })),
+        Some(rest) => Ok(Some(Statement::Assign {
+            target,
+            first,
+            rest,
+        })),
         None => Ok(None),
     }
 }

@@ -62,7 +62,11 @@ fn after(text: &[u8], n: usize) -> &[u8]
     requires { n ≤ length text.now }
     ensures { result.now ≡ drop (n + 1) text.now }
 {
-    if n < text.len() { &text[n + 1..] } else { &text[n..] }
+    if n < text.len() {
+        &text[n + 1..]
+    } else {
+        &text[n..]
+    }
 }
 
 /// The first line, and the text after it.

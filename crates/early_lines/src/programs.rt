@@ -7,7 +7,9 @@ ghost use Rattle.early_lines.specs.Programs.{access_of, execs_from, item_of, kin
 use crate::statements::{Operand, Sign, Statement, Term};
 use crate::table::index_of;
 use df_sequence::{NoMemory, Sequence, WordList};
-use f77_tree::{Access, Exec, ExecKind, ExecList, Expr, Item, ItemList, Name, NameInfoList, Program};
+use f77_tree::{
+    Access, Exec, ExecKind, ExecList, Expr, Item, ItemList, Name, NameInfoList, Program,
+};
 use op_table::Op;
 use std::alloc::Global;
 
@@ -50,7 +52,12 @@ fn with_term(alloc: Global, table: &NameInfoList, sum: Expr, term: &Term) -> Res
 }
 
 /// A sum, joined from the left.
-fn sum_value(alloc: Global, table: &NameInfoList, first: &Operand, rest: &[Term]) -> Result<Expr, NoMemory>
+fn sum_value(
+    alloc: Global,
+    table: &NameInfoList,
+    first: &Operand,
+    rest: &[Term],
+) -> Result<Expr, NoMemory>
     ensures { IfOk result (λ value. value ≡ spec_sum_value table.now first.now rest.now) }
 {
     let mut sum = operand_value(alloc, table, first);
@@ -73,12 +80,21 @@ fn items(alloc: Global, table: &NameInfoList, names: &[Name]) -> Result<ItemList
 }
 
 /// What the executable k does, which goes to the next.
-fn kind(alloc: Global, table: &NameInfoList, k: u32, statement: &Statement) -> Result<ExecKind, NoMemory>
+fn kind(
+    alloc: Global,
+    table: &NameInfoList,
+    k: u32,
+    statement: &Statement,
+) -> Result<ExecKind, NoMemory>
     requires { k < 4000 }
     ensures { IfOk result (λ kind. kind ≡ kind_of table.now k statement.now) }
 {
     match statement {
-        Statement::Assign { target, first, rest } => Ok(ExecKind::Assign {
+        Statement::Assign {
+            target,
+            first,
+            rest,
+        } => Ok(ExecKind::Assign {
             value: sum_value(alloc, table, first, rest.as_slice())?,
             target: access(alloc, table, target),
             next: k + 1,
@@ -92,7 +108,11 @@ fn kind(alloc: Global, table: &NameInfoList, k: u32, statement: &Statement) -> R
 }
 
 /// The executables of statements.
-fn executables(alloc: Global, table: &NameInfoList, statements: &[Statement]) -> Result<ExecList, NoMemory>
+fn executables(
+    alloc: Global,
+    table: &NameInfoList,
+    statements: &[Statement],
+) -> Result<ExecList, NoMemory>
     requires { length statements.now ≤ 4000 }
     ensures { IfOk result (λ execs. execs ≡ execs_from table.now 0 statements.now) }
 {
@@ -118,7 +138,11 @@ fn zeros(alloc: Global, n: u32) -> Result<WordList, NoMemory>
 }
 
 /// The program of statements, whose names are in the table.
-pub(crate) fn program(alloc: Global, table: NameInfoList, statements: &[Statement]) -> Result<Program, NoMemory>
+pub(crate) fn program(
+    alloc: Global,
+    table: NameInfoList,
+    statements: &[Statement],
+) -> Result<Program, NoMemory>
     requires few { length statements.now ≤ 4000 }
     requires table { table ≡ table_of statements.now }
     ensures { IfOk result (λ program. program ≡ program_of statements.now) }

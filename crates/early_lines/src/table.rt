@@ -139,7 +139,11 @@ pub(crate) fn add_statement(table: &mut NameInfoList, statement: &Statement) -> 
     ensures cause { IfErr result (IsTableCause (fold with_name table.old (statement_names statement.now))) }
 {
     match statement {
-        Statement::Assign { target, first, rest } => {
+        Statement::Assign {
+            target,
+            first,
+            rest,
+        } => {
             add(table, target)?;
             add_operand(table, first)?;
             add_terms(table, rest.as_slice())
