@@ -1,6 +1,5 @@
 -- What the statements of a text make of it.
-use Rattle.std.proofs.Common.{◌≡◌, ℕ, suc, ◌+◌, ◌-◌, Bool, true, false, cond, List, [], length, Result, Ok, Err, refl, sym, ap, ◌∙◌, arith}
-use Rattle.f77_tree.specs.declared.programs.Program.{Program}
+use Rattle.std.proofs.Common.{◌≡◌, ℕ, ◌+◌, true, false, List, [], length, Result, Ok, Err, refl, ap, ◌∙◌, arith}
 use Rattle.early_lines.specs.declared.early_end.EarlyEnd.{EarlyEnd}
 use Rattle.early_lines.specs.declared.early_end.EarlyEnd.TheVariants.{NotYet, NoEnd, NoMemory}
 use Rattle.early_lines.specs.declared.statements.Statement.{Statement}

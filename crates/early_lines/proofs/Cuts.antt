@@ -1,9 +1,9 @@
 -- A list, cut at the first element that passes a test.
-use Rattle.std.proofs.Common.{◌≡◌, ◌==◌, nat_lt, ℕ, zero, suc, ◌+◌, ◌-◌, ◌<◌, ◌≤◌, Bool, true, false, not, cond, Option, Some, None, List, [], ◌∷◌, length, take, drop, filter, refl, sym, ap, ◌∙◌, subst, ⊎_elim, arith}
+use Rattle.std.proofs.Common.{◌≡◌, ◌==◌, nat_lt, ℕ, suc, ◌+◌, ◌<◌, ◌≤◌, Bool, true, false, not, cond, Some, None, List, [], ◌∷◌, length, take, drop, filter, refl, sym, ap, ◌∙◌, ⊎_elim, arith}
 use Rattle.std.proofs.lemmas.Bool.{ltb-false, cases_Bool, cond_both, ne_eqb}
 use Rattle.std.proofs.lemmas.List.Sums.{prefix_len-le-length}
 use Rattle.std.proofs.lemmas.Option.{cond_some}
-use Rattle.std.specs.List.{slice_split, onto_first, position, position_or_len, prefix_len}
+use Rattle.std.specs.List.{slice_split, onto_first, position, position_or_len}
 use Rattle.early_lines.specs.Lines.{lines}
 use Rattle.early_lines.specs.Pieces.{BeginsWith}
 

@@ -1,8 +1,8 @@
 -- Terms and names, taken one by one from the front of a text.
-use Rattle.std.proofs.Common.{◌≡◌, ◌==◌, ℕ, zero, suc, ◌+◌, ◌<◌, ◌≤◌, Bool, true, false, ◌&&◌, cond, Option, Some, None, List, [], ◌∷◌, ◌++◌, length, get_or, drop, filter, refl, sym, ap, ◌∙◌, arith, append_assoc}
+use Rattle.std.proofs.Common.{◌≡◌, ◌==◌, ℕ, ◌+◌, ◌<◌, ◌≤◌, Bool, true, false, cond, Option, Some, None, List, [], ◌∷◌, ◌++◌, length, get_or, drop, filter, refl, sym, ap, ◌∙◌, arith, append_assoc}
 use Rattle.std.proofs.lemmas.List.{append-nil, length_push, length-drop}
 use Rattle.std.proofs.lemmas.List.Folds.{list_all-append}
-use Rattle.std.specs.List.{slice_split, onto_first, list_all}
+use Rattle.std.specs.List.{slice_split, list_all}
 use Rattle.early_lines.specs.declared.statements.Operand.{Operand}
 use Rattle.early_lines.specs.declared.statements.Term.{Term}
 use Rattle.early_lines.specs.Pieces.{BeginsWith}

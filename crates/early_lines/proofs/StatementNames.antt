@@ -1,5 +1,5 @@
 -- The names of a statement are early names.
-use Rattle.std.proofs.Common.{◌≡◌, ◌==◌, ℕ, zero, suc, Bool, true, false, ◌&&◌, cond, Option, Some, None, List, [], ◌∷◌, ◌++◌, length, drop, filter, codes, refl, sym, ap, ◌∙◌}
+use Rattle.std.proofs.Common.{◌≡◌, ◌==◌, ℕ, Bool, true, false, cond, Option, Some, None, List, [], ◌∷◌, length, drop, filter, codes, refl, ◌∙◌}
 use Rattle.std.proofs.lemmas.Bool.{cond_both}
 use Rattle.std.proofs.lemmas.List.Folds.{list_all-append}
 use Rattle.std.proofs.lemmas.Option.{MatchOption-at_some}
@@ -8,7 +8,7 @@ use Rattle.std.specs.Option.{IfSome}
 use Rattle.std.specs.List.{flat_map, list_all, slice_split, starts_with, before_first, after_first}
 use Rattle.std.specs.Str.{bytes_eq}
 use Rattle.early_lines.specs.declared.statements.Operand.{Operand}
-use Rattle.early_lines.specs.declared.statements.Operand.TheVariants.{Number, Named}
+use Rattle.early_lines.specs.declared.statements.Operand.TheVariants.{Named}
 use Rattle.early_lines.specs.declared.statements.Term.{Term}
 use Rattle.early_lines.specs.declared.statements.Statement.{Statement}
 use Rattle.early_lines.specs.Early.{operand_names, statement_names, term_names}

@@ -1,19 +1,15 @@
 -- The program of early lines is straight.
-use Rattle.std.proofs.Common.{◌≡◌, ℕ, zero, suc, ◌+◌, ◌-◌, ◌<◌, Bool, true, false, not, ◌&&◌, Option, Some, None, List, [], ◌∷◌, ◌++◌, length, map, replicate, take, pos, Result, Ok, refl, sym, ap, subst, ◌∙◌, arith}
+use Rattle.std.proofs.Common.{◌≡◌, ℕ, zero, suc, ◌+◌, ◌-◌, ◌<◌, true, Option, Some, None, List, [], ◌∷◌, ◌++◌, length, take, pos, Ok, refl, sym, ap, subst, ◌∙◌, arith}
 use Rattle.std.proofs.lemmas.List.{length-replicate}
 use Rattle.std.proofs.lemmas.Bool.{and_parts}
-use Rattle.std.specs.List.{flat_map, list_all, list_any, position_or_len, slice_get}
+use Rattle.std.specs.List.{flat_map, list_all, slice_get}
 use Rattle.std.specs.Option.{option_map}
-use Rattle.f77_tree.specs.declared.expressions.Access.{Access}
 use Rattle.f77_tree.specs.declared.programs.Exec.{Exec}
 use Rattle.f77_tree.specs.declared.programs.NameInfo.{NameInfo}
-use Rattle.f77_tree.specs.declared.programs.Program.{Program}
 use Rattle.f77_tree.specs.Straight.{IsEnd, IsScalar, IsStraight, IsStraightKind}
-use Rattle.f77_tree.specs.Value.{place_of}
-use Rattle.early_lines.specs.declared.early_end.EarlyEnd.{EarlyEnd}
 use Rattle.early_lines.specs.declared.statements.Statement.{Statement}
 use Rattle.early_lines.specs.declared.statements.Statement.TheVariants.{Assign, Print, End}
-use Rattle.early_lines.specs.Early.{early_statements, is_end, is_entry, is_in_table, operand_names, statement_names, table_of, term_names}
+use Rattle.early_lines.specs.Early.{early_statements, is_entry, is_in_table, operand_names, statement_names, table_of, term_names}
 use Rattle.early_lines.specs.Programs.{access_of, ends_with_end, execs_from, is_end_at, kind_of, program_of}
 use Rattle.early_lines.proofs.KnownNames.{index_within, known_names, place_within}
 use Rattle.early_lines.proofs.SafeValues.{sum_is_safe, items_are_safe}

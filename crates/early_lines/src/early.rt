@@ -104,7 +104,6 @@ fn ends_with_end(statements: &Sequence<Statement>) -> bool
 ///
 /// `NotYet` with the lowest line that isn't early; else `NoEnd` where there is no line or the last one isn't END.
 pub fn read_early(alloc: Global, bytes: &[u8]) -> Result<Program, EarlyEnd>
-    requires { length bytes.now ≤ 4194304 }
     ensures accepted { IfOk result (λ program. reading bytes.now ≡ Ok program) }
     ensures refused { IfErr result (IsRefusalOf (reading bytes.now)) }
     ensures straight { IfOk result IsStraight }

@@ -1,4 +1,4 @@
-use Rattle.std.proofs.Common.{sym, ap, subst, ◌∙◌, ◌+◌, Err, Ok, length, List}
+use Rattle.std.proofs.Common.{sym, ap, subst, ◌∙◌, Ok, List}
 use Rattle.std.proofs.lemmas.Result.{err_from_is_err_and}
 use Rattle.f77_tree.specs.declared.programs.Program.{Program}
 use Rattle.f77_tree.specs.Straight.{IsStraight}

@@ -1,4 +1,4 @@
-use Rattle.std.proofs.Common.{rules, ◌<◌, length, arith}
+use Rattle.std.proofs.Common.{rules, ◌<◌, arith}
 use Rattle.early_lines.proofs.Numbers.{before_ninth}
 use Rattle.early_lines.proofs.operands.number_in.Goals as goal
 

@@ -1,7 +1,7 @@
-use Rattle.std.proofs.Common.{rules, ◌≡◌, ◌==◌, ◌<◌, ◌++◌, [], ◌∷◌, ap, sym, ◌∙◌, length, List, ℕ, true, arith}
+use Rattle.std.proofs.Common.{rules, ◌≡◌, ◌==◌, ◌<◌, ◌++◌, [], ◌∷◌, ap, sym, ◌∙◌, length, List, ℕ}
 use Rattle.std.proofs.lemmas.Option.{cond_some}
 use Rattle.std.specs.List.{list_all}
-use Rattle.early_lines.specs.Statements.{is_early_name, early_names}
+use Rattle.early_lines.specs.Statements.{is_early_name}
 use Rattle.early_lines.proofs.LaterPieces.{later_pieces, names_next, names_one_more, early_names_none, cond_none, room_next}
 use Rattle.early_lines.proofs.parse.names.Goals as goal
 

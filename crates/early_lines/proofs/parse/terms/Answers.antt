@@ -1,5 +1,4 @@
-use Rattle.std.proofs.Common.{rules, ◌<◌, ◌++◌, [], ◌∷◌, ap, sym, ◌∙◌, length, arith}
-use Rattle.early_lines.specs.Statements.{is_sign}
+use Rattle.std.proofs.Common.{rules, ◌<◌, ◌++◌, [], ◌∷◌, ap, sym, ◌∙◌, length}
 use Rattle.early_lines.proofs.LaterPieces.{after_terms, later_terms, after_terms_next, room_next}
 use Rattle.early_lines.proofs.parse.terms.Goals as goal
 

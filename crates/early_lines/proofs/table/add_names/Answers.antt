@@ -1,4 +1,3 @@
-use Rattle.std.proofs.Common.{sym}
 use Rattle.std.proofs.lemmas.Result.{err_from_is_err_and}
 use Rattle.early_lines.proofs.TableLemmas.{names_cause}
 use Rattle.early_lines.proofs.table.add_names.Goals as goal

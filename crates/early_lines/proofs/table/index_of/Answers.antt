@@ -1,6 +1,5 @@
-use Rattle.std.proofs.Common.{length, ap, sym, ◌∙◌}
+use Rattle.std.proofs.Common.{sym, ◌∙◌}
 use Rattle.early_lines.specs.Early.{is_entry}
-use Rattle.std.specs.List.{position, position_or_len}
 use Rattle.early_lines.proofs.Cuts.{place_missing}
 use Rattle.early_lines.proofs.table.index_of.Goals as goal
 
