@@ -1,4 +1,1 @@
 pub mod Name
-pub mod Value
-pub mod Run
-pub mod Straight

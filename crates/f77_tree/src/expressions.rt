@@ -8,8 +8,12 @@ pub type ExprList = Sequence<Expr>;
 #[cycle(expression)]
 #[derive(Drop)]
 pub enum Expr {
-    /// A constant.
+    /// An integer constant.
     Const(i32),
+    /// A logical constant.
+    Truth(bool),
+    /// The next word of the data, which READ takes.
+    Input,
     /// The value of a variable or an array element.
     Read(Access),
     /// An operator at its operands, from left to right.

@@ -1,12 +1,17 @@
-//! The program tree of integer Fortran 77, and the value of an expression.
+//! The program tree of integer Fortran 77, its validity and its meaning.
 #![tactic(auto)]
 
-mod evaluation;
+mod declarations;
 mod expressions;
 mod names;
 mod programs;
+mod statements;
 
-pub use evaluation::evaluate;
+pub use declarations::{
+    CommonPart, CommonPartList, Decl, DeclList, Dim, DimList, GroupList, InitPart, InitPartList,
+    InitValue, InitValueList, Kind, LetterRange, LetterRangeList, Lit, Member, MemberList, Text,
+};
 pub use expressions::{Access, Expr, ExprList};
 pub use names::Name;
 pub use programs::{Exec, ExecKind, ExecList, Item, ItemList, NameInfo, NameInfoList, Program};
+pub use statements::{Labelled, LabelledList, RawExpr, RawItem, RawItemList, RawList, Stmt};
