@@ -146,7 +146,7 @@ pub record IsAccess (names : List NameInfo) (access : Access) : Type 0 where
 -- the words of a name lie in a store of so many words
 pub record IsPlaced (words : ℕ) (info : NameInfo) : Type 0 where
   pub bounds : All (λ dim. dim.lo ≤ℤ dim.hi) info.dims
-  pub inside : pos info.place +ℤ size_of info.dims ≤ℤ pos words
+  pub inside : (pos info.place +ℤ size_of info.dims) ≤ℤ pos words
 
 -- the words of each name lie in the store, whose words have numbers that are words
 pub record ArePlaced (names : List NameInfo) (words : ℕ) : Type 0 where
