@@ -1,1 +1,5 @@
 pub mod Name
+pub mod Value
+pub mod Line
+pub mod Execution
+pub mod Run
