@@ -1,0 +1,10 @@
+mod Cuts
+mod KnownNames
+mod Numbers
+mod SafeValues
+mod Conclusions
+mod StatementNames
+mod Steps
+mod StraightPrograms
+mod TableLemmas
+mod LaterPieces

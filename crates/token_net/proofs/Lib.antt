@@ -1,0 +1,11 @@
+mod Distances
+mod Searches
+mod StepLemmas
+mod InStepLemmas
+mod ReadLemmas
+mod RouteLemmas
+mod LineLemmas
+mod NeedLemmas
+mod MoveLemmas
+mod FireLemmas
+mod FollowLemmas

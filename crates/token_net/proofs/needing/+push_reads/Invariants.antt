@@ -1,0 +1,7 @@
+use Rattle.std.proofs.Common.{◌≡◌, ◌++◌, drop}
+use Rattle.token_net.specs.Needs.{reads}
+use Rattle.token_net.proofs.ReadLemmas.{all_reads}
+use Rattle.token_net.proofs.needing.+push_reads.Given as goal
+
+abbrev pub invariant-loop-arg : goal.invariant-loop-arg
+invariant-loop-arg l = l.lines ++ all_reads (drop l.arg-index l.arg-items) ≡ l.fn.lines ++ reads l.e

@@ -1,0 +1,6 @@
+pub mod Needs
+pub mod Marking
+pub mod InStep
+pub mod StraightNet
+pub mod Firing
+pub mod Following

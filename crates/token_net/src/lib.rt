@@ -1,0 +1,24 @@
+//! Dataflow nets that fire in place of a program's steps.
+#![tactic(auto)]
+
+mod acting;
+mod following;
+mod lines;
+mod needing;
+mod printing;
+mod straight;
+mod upcoming;
+
+pub use following::{PlayEnd, follow};
+pub use straight::StraightNet;
+
+/// What a firing did.
+#[derive(Clone, Copy, Debug, PartialEq, Eq)]
+pub enum Fired {
+    /// Lines moved, and a word may have been stored.
+    Moved,
+    /// A line of output was written too.
+    Line,
+    /// There was no memory; the marking is as before.
+    NoMemory,
+}
