@@ -1,5 +1,5 @@
 -- What the top call answers and writes, by what is due.
-use Rattle.std.specs.Prelude.{◌≡◌, ℕ, ◌+◌, ◌≤◌, List, length, Option, Some, None, Ok, nat_lt, MatchBool, ⊤}
+use Rattle.std.specs.Prelude.{◌≡◌, [], ℕ, ◌+◌, ◌≤◌, List, length, Option, Some, None, Ok, nat_lt, MatchBool, ⊤}
 use Rattle.std.specs.Io.KnownBytes.{Appends, Keeps, IsAtEnd}
 use Rattle.df_io.specs.Read.{Takes}
 use Rattle.df_io.specs.Write.{AppendsFront}
@@ -56,7 +56,7 @@ ReadsFor (Some Fire) old new code = code ≤ 4 → IsReadWhole old new
 -- some of what the program of a text writes was written, from the front
 pub record IsRunFront (program : Program) (old new : Option (List ℕ)) : Type 0 where
   pub steps : ℕ
-  pub written : AppendsFront old new (out program steps)
+  pub written : AppendsFront old new (out program [] steps)
 
 -- a status that comes where a text is refused
 abbrev pub IsRefusing : Status → Type 0
@@ -76,8 +76,8 @@ IsFiring _ = ⊥
 pub record IsRunOf (program : Program) (old new : Option (List ℕ)) : Type 0 where
   pub rests : IsAtRest program (played program (count_before_end program))
   pub steps : ℕ
-  pub ends : EndsIn program steps
-  pub written : Appends old new (out program steps)
+  pub ends : EndsIn program [] steps
+  pub written : Appends old new (out program [] steps)
 
 -- the text is a program, and it ran to its end
 pub record IsRun (bytes : List ℕ) (old new : Option (List ℕ)) : Type 0 where

@@ -1,4 +1,4 @@
--- Straight programs: integer scalars alone, no control and no trap, so that the executables run in the order of the text.
+-- Straight programs: scalars alone, no control and no trap, so that the executables run in the order of the text.
 use Rattle.std.specs.Prelude.{◌≡◌, ℕ, suc, ◌-◌, ◌<◌, ℤ, List, [], length, Option, Some, None, All, IsOk, slice_get}
 use Rattle.f77_tree.specs.declared.declarations.Kind.TheVariants.{Integer}
 use Rattle.f77_tree.specs.declared.expressions.Access.{Access}
@@ -18,14 +18,14 @@ pub record IsSafe (names : List NameInfo) (e : Expr) : Type 0 where
   pub expression : IsExpression names e
   pub no_trap : (store : List ℤ) → IsOk (value names store None e)
 
--- an item that is an integer
+-- an integer that is written
 pub record IsSafeInteger (names : List NameInfo) (e : Expr) : Type 0 where
   pub safe : IsSafe names e
   pub integer : kind_of_expression names e ≡ Integer
 
 abbrev pub IsSafeItem : List NameInfo → Item → Type 0
 IsSafeItem names (Value e) = IsSafeInteger names e
-IsSafeItem names (Chars text) = ⊥
+IsSafeItem names (Chars text) = Unit {0}
 
 -- a scalar of the table
 pub record IsScalar (names : List NameInfo) (target : Access) : Type 0 where

@@ -6,11 +6,12 @@ use Rattle.std.proofs.lemmas.List.{length-take-le, length-map}
 use Rattle.std.specs.List.{list_all}
 use Rattle.std.specs.Option.{option_map}
 use Rattle.f77_tree.specs.declared.programs.ExecKind.{ExecKind}
-use Rattle.f77_tree.specs.declared.programs.ExecKind.TheVariants.{Assign, Print, End}
+use Rattle.f77_tree.specs.declared.programs.ExecKind.TheVariants.{Assign, Print, Pass, Test, Sign, Pick, DoStart, DoNext, End}
 use Rattle.f77_tree.specs.declared.programs.Exec.{Exec}
 use Rattle.f77_tree.specs.declared.programs.NameInfo.{NameInfo}
 use Rattle.f77_tree.specs.declared.programs.Program.{Program}
-use Rattle.f77_tree.specs.Run.{Ended, State, source, step_from, executed, executed_at}
+use Rattle.f77_tree.specs.Execution.{outcome}
+use Rattle.f77_tree.specs.Run.{Running, Ended, State, source, step_from, executed_at, after}
 use Rattle.f77_tree.specs.Straight.{IsStraight, IsStraightKind, IsEnd, count_before_end}
 use Rattle.token_net.specs.Needs.{needs, nodes_of, all_needs, lines_in, needs_at, is_among, distance}
 use Rattle.token_net.specs.Marking.{ready, store_after, line_from, kind_in, kind_at, lowest_ready, fired_if, bytes_in, written_if, played, written}
@@ -49,6 +50,12 @@ needs_at-exec p k exec below is =
 not_ready : (names : List NameInfo) (k : ℕ) (test : ℕ → Bool) (kind : ExecKind) → IsStraightKind names k kind → ((line : ℕ) → test line ≡ false) → list_all test (needs kind) ≡ false
 not_ready names k test (Assign target e next) is fails = rw (fails (suc target.name)) refl
 not_ready names k test (Print items next) is fails = rw (fails 0) refl
+not_ready names k test (Pass next) is fails = absurd is
+not_ready names k test (Test cond' yes' no') is fails = absurd is
+not_ready names k test (Sign e neg zero' pos') is fails = absurd is
+not_ready names k test (Pick e targets other) is fails = absurd is
+not_ready names k test (DoStart loop_no var first last step' body exit) is fails = absurd is
+not_ready names k test (DoNext loop_no var body exit) is fails = absurd is
 not_ready names k test End is fails = absurd is
 
 -- a line that is needed moves on, and any other stays
@@ -80,19 +87,19 @@ module _ (p : Program) (straight : IsStraight p) where
       first_from-Some (ready p m) 0 (count_before_end p) n (omega arith) (omega (arith, below)) earlier (ready_next n below s)
 
   -- a step of the program
-  step-straight : (n : ℕ) (exec : Exec) → n < count_before_end p → slice_get p.execs n ≡ Some exec → IsInStep p n → source p (suc n) ≡ straight_state p.names (source p n) n exec.kind
+  step-straight : (n : ℕ) (exec : Exec) → n < count_before_end p → slice_get p.execs n ≡ Some exec → IsInStep p n → source p [] (suc n) ≡ straight_state p.names (source p [] n) n exec.kind
   step-straight n exec below is s =
-      let x = source p n in
-      ap (step_from p x) s.running
-      ∙ ap (λ (k : ℕ). executed_at p.names x (slice_get p.execs k)) s.position
-      ∙ ap (executed_at p.names x) is
+      let x = source p [] n in
+      ap (step_from p [] x) s.running
+      ∙ ap (λ (k : ℕ). executed_at p [] x (slice_get p.execs k)) s.position
+      ∙ ap (executed_at p [] x) is
       ∙ executed-straight p.names x exec.line n exec.kind (straight.straight n exec below is)
 
   -- one firing more, and one step more
   advance : (n : ℕ) → n < count_before_end p → IsInStep p n → IsInStep p (suc n)
   advance n below s =
       let m = played p n in
-      let x = source p n in
+      let x = source p [] n in
       let exec = exec_below p n below in
       let kind = exec.0.kind in
       let in_range : n < length (all_needs p) = omega (arith, below, length-all_needs p) in
@@ -103,8 +110,8 @@ module _ (p : Program) (straight : IsStraight p) where
         position = ap (λ (y : State). y.position) stepped;
         running = ap (λ (y : State). y.mark) stepped ∙ s.running;
         before = λ line. ap (λ (o : Option ℕ). (fired_if p m o).before line) low ∙ moved (is_among line (needs_at p n)) n (distance line (drop (suc n) (all_needs p))) (m.before line) (distance line (drop n (all_needs p))) (s.before line) (distance-drop (all_needs p) line n in_range);
-        store = ap (λ (o : Option ℕ). (fired_if p m o).store) low ∙ ap (λ (k : ExecKind). store_after p.names m.store k) kind_is ∙ ap (λ (store : List ℤ). store_after p.names store kind) s.store ∙ sym (ap (λ (y : State). y.store) stepped);
-        output = ap (λ (o : Option ℕ). written p n ++ written_if p m o) low ∙ ap (λ (k : ExecKind). written p n ++ bytes_in (line_from p.names m.store k)) kind_is ∙ ap (λ (store : List ℤ). written p n ++ bytes_in (line_from p.names store kind)) s.store ∙ ap (λ (bytes : List ℕ). bytes ++ bytes_in (line_from p.names x.store kind)) s.output ∙ sym (ap (λ (y : State). y.out) stepped);
+        store = ap (λ (o : Option ℕ). (fired_if p m o).store) low ∙ ap (λ (k : ExecKind). store_after p.names m.store k) kind_is ∙ ap (λ (store : List ℤ). store_after p.names store kind) s.store ∙ sym (ap (λ (y : State). y.memory.store) stepped);
+        output = ap (λ (o : Option ℕ). written p n ++ written_if p m o) low ∙ ap (λ (k : ExecKind). written p n ++ bytes_in (line_from p.names m.store k)) kind_is ∙ ap (λ (store : List ℤ). written p n ++ bytes_in (line_from p.names store kind)) s.store ∙ ap (λ (bytes : List ℕ). bytes ++ bytes_in (line_from p.names x.memory.store kind)) s.output ∙ sym (ap (λ (y : State). y.out) stepped);
       }
 
   pub in_step : (n : ℕ) → n ≤ count_before_end p → IsInStep p n
@@ -132,16 +139,16 @@ module _ (p : Program) (straight : IsStraight p) where
   end_exec (Some exec) is = (exec, refl, is)
 
   -- the step of END
-  last_step : source p (suc (count_before_end p)) ≡ record (source p (count_before_end p)) { mark = Ended }
+  last_step : source p [] (suc (count_before_end p)) ≡ record (source p [] (count_before_end p)) { mark = Ended }
   last_step =
       let n = count_before_end p in
       let s = in_step n (omega arith) in
-      let x = source p n in
+      let x = source p [] n in
       let exec = end_exec (slice_get p.execs n) straight.end in
-      ap (step_from p x) s.running
-      ∙ ap (λ (k : ℕ). executed_at p.names x (slice_get p.execs k)) s.position
-      ∙ ap (executed_at p.names x) exec.1
-      ∙ ap (executed p.names x exec.0.line) exec.2
+      ap (step_from p [] x) s.running
+      ∙ ap (λ (k : ℕ). executed_at p [] x (slice_get p.execs k)) s.position
+      ∙ ap (executed_at p [] x) exec.1
+      ∙ ap (λ (kind : ExecKind). after x exec.0.line (outcome p.names [] x.memory kind)) exec.2
 
   pub runs_to_end : RunsToEnd p
   runs_to_end =
@@ -149,7 +156,7 @@ module _ (p : Program) (straight : IsStraight p) where
       record {
         rests = λ k below is. let e : false ≡ true = sym (past n k below (omega arith)) ∙ is in cc;
         ends = record {
-          ended = ap (λ (y : State). y.mark) last_step;
+          reached = ap (λ (y : State). y.mark) last_step;
           before = λ m early. (in_step m (omega (arith, early))).running;
         };
         output = ap (λ (y : State). y.out) last_step ∙ sym (in_step n (omega arith)).output;

@@ -5,17 +5,17 @@ use Rattle.std.proofs.lemmas.List.Elements.{All-append, All-map}
 use Rattle.std.proofs.lemmas.Option.{slice_get-get_or}
 use Rattle.std.specs.List.{list_all}
 use Rattle.f77_tree.specs.declared.expressions.Expr.{Expr, Row_of-Expr, end_of-Expr, more_of-Expr}
-use Rattle.f77_tree.specs.declared.expressions.Expr.TheVariants.{Const, Read', Apply'}
+use Rattle.f77_tree.specs.declared.expressions.Expr.TheVariants.{Const, Truth, Input, Read', Apply'}
 use Rattle.f77_tree.specs.declared.programs.Item.{Item}
-use Rattle.f77_tree.specs.declared.programs.Item.TheVariants.{Value}
+use Rattle.f77_tree.specs.declared.programs.Item.TheVariants.{Value, Chars}
 use Rattle.f77_tree.specs.declared.programs.ExecKind.{ExecKind}
-use Rattle.f77_tree.specs.declared.programs.ExecKind.TheVariants.{Assign, Print, End}
+use Rattle.f77_tree.specs.declared.programs.ExecKind.TheVariants.{Assign, Print, Pass, Test, Sign, Pick, DoStart, DoNext, End}
 use Rattle.f77_tree.specs.declared.programs.Exec.{Exec}
 use Rattle.f77_tree.specs.declared.programs.NameInfo.{NameInfo}
 use Rattle.f77_tree.specs.declared.programs.Program.{Program}
 use Rattle.f77_tree.specs.Value.{IsExpression, AllExpressions}
 use Rattle.f77_tree.specs.Straight.{IsStraight, IsStraightKind, IsSafeItem, count_before_end}
-use Rattle.token_net.specs.Needs.{reads, row_reads, item_reads, needs, nodes_of, all_needs, lines_in, AreWithin}
+use Rattle.token_net.specs.Needs.{reads, row_reads, reads_of_item, item_reads, needs, nodes_of, all_needs, lines_in, AreWithin}
 use Rattle.token_net.proofs.InStepLemmas.{get-take}
 
 -- one of so many lines
@@ -32,21 +32,33 @@ All-cons P x xs is all (suc k) d below = all k d (omega (arith, below))
 mutual
   reads-within : (names : List NameInfo) (e : Expr) → IsExpression names e → All (IsLine (suc (length names))) (reads e)
   reads-within names (Const z) is = All-none (IsLine (suc (length names)))
-  reads-within names (Read' name shape subs) is = All-cons (IsLine (suc (length names))) (suc name) [] (omega (arith, is.0)) (All-none (IsLine (suc (length names))))
+  reads-within names (Truth b) is = All-none (IsLine (suc (length names)))
+  reads-within names Input is = All-none (IsLine (suc (length names)))
+  reads-within names (Read' name shape subs) is = All-cons (IsLine (suc (length names))) (suc name) (row_reads subs) (omega (arith, is.0)) (row_reads-within names subs is.2)
   reads-within names (Apply' op shape args) is = row_reads-within names args is.1
 
   row_reads-within : {m : _} (names : List NameInfo) (row : Row_of-Expr m) → AllExpressions names row → All (IsLine (suc (length names))) (row_reads row)
   row_reads-within names end_of-Expr are = All-none (IsLine (suc (length names)))
   row_reads-within names (more_of-Expr e rest) are = All-append (IsLine (suc (length names))) (reads e) (row_reads rest) (reads-within names e are.0) (row_reads-within names rest are.1)
 
+reads_of_item-within : (names : List NameInfo) (item : Item) → IsSafeItem names item → All (IsLine (suc (length names))) (reads_of_item item)
+reads_of_item-within names (Value e) safe = reads-within names e safe.safe.expression
+reads_of_item-within names (Chars text) safe = All-none (IsLine (suc (length names)))
+
 item_reads-within : (names : List NameInfo) (items : List Item) → All (IsSafeItem names) items → All (IsLine (suc (length names))) (item_reads items)
 item_reads-within names [] safe = All-none (IsLine (suc (length names)))
-item_reads-within names (Value e ∷ items) safe =
-    All-append (IsLine (suc (length names))) (reads e) (item_reads items) (reads-within names e (safe 0 (Value e) (omega arith)).expression) (item_reads-within names items (λ k d below. safe (suc k) d (omega (arith, below))))
+item_reads-within names (item ∷ items) safe =
+    All-append (IsLine (suc (length names))) (reads_of_item item) (item_reads items) (reads_of_item-within names item (safe 0 item (omega arith))) (item_reads-within names items (λ k d below. safe (suc k) d (omega (arith, below))))
 
 needs-within : (names : List NameInfo) (k : ℕ) (kind : ExecKind) → IsStraightKind names k kind → All (IsLine (suc (length names))) (needs kind)
 needs-within names k (Assign target e next) is = All-cons (IsLine (suc (length names))) (suc target.name) (reads e) (omega (arith, is.0.known)) (reads-within names e is.1.expression)
 needs-within names k (Print items next) is = All-cons (IsLine (suc (length names))) 0 (item_reads items) (omega arith) (item_reads-within names items is.0)
+needs-within names k (Pass next) is = absurd is
+needs-within names k (Test cond' yes' no') is = absurd is
+needs-within names k (Sign e neg zero' pos') is = absurd is
+needs-within names k (Pick e targets other) is = absurd is
+needs-within names k (DoStart loop_no var first last step' body exit) is = absurd is
+needs-within names k (DoNext loop_no var body exit) is = absurd is
 needs-within names k End is = absurd is
 
 -- the nodes of a straight program need OUT and the lines of its names

@@ -1,49 +1,84 @@
 -- A firing of a straight net does what a step of the program does.
-use Rattle.std.proofs.Common.{◌≡◌, ℕ, suc, ℤ, List, [], ◌∷◌, ◌++◌, map, All, Result, Ok, Err, IsOk, refl, sym, ap, ◌∙◌, append-nil, arith}
+use Rattle.std.proofs.Common.{◌≡◌, ℕ, suc, ◌+◌, ◌<◌, ℤ, List, [], ◌∷◌, ◌++◌, map, length, All, None, Result, Ok, Err, IsOk, refl, sym, ap, ◌∙◌, append-nil, arith}
 use Rattle.op_table.specs.declared.Trap.{Trap}
+use Rattle.f77_tree.specs.declared.expressions.Access.{Access}
 use Rattle.f77_tree.specs.declared.programs.Item.{Item}
-use Rattle.f77_tree.specs.declared.programs.Item.TheVariants.{Value}
+use Rattle.f77_tree.specs.declared.programs.Item.TheVariants.{Value, Chars}
 use Rattle.f77_tree.specs.declared.programs.ExecKind.{ExecKind}
-use Rattle.f77_tree.specs.declared.programs.ExecKind.TheVariants.{Assign, Print, End}
+use Rattle.f77_tree.specs.declared.programs.ExecKind.TheVariants.{Assign, Print, Pass, Test, Sign, Pick, DoStart, DoNext, End}
 use Rattle.f77_tree.specs.declared.programs.NameInfo.{NameInfo}
-use Rattle.f77_tree.specs.Value.{value, all_values, value_before, place_of}
-use Rattle.f77_tree.specs.Run.{State, executed, assigned, printed, item_value}
-use Rattle.f77_tree.specs.Straight.{IsSafeItem, IsStraightKind}
+use Rattle.f77_tree.specs.Execution.{Memory, Outcome, outcome, assigned, printed, words_taken}
+use Rattle.f77_tree.specs.Line.{item_text, item_before, line_of, line_of_texts, text_of, kind_of_expression}
+use Rattle.f77_tree.specs.Run.{State, after}
+use Rattle.f77_tree.specs.Straight.{IsSafe, IsSafeItem, IsScalar, IsStraightKind}
+use Rattle.f77_tree.specs.Value.{value, place, and_then}
 use Rattle.token_net.specs.Marking.{store_after, stored, line_from, line_if, bytes_in}
 
-value_before-Ok : (first : Result ℤ Trap) (more : Result (List ℤ) Trap) → IsOk first → IsOk more → IsOk (value_before first more)
-value_before-Ok (Err trap) more is_first is_more = is_first
-value_before-Ok (Ok z) (Err trap) is_first is_more = is_more
-value_before-Ok (Ok z) (Ok zs) is_first is_more = refl
+item_before-Ok : (first more : Result (List ℕ) Trap) → IsOk first → IsOk more → IsOk (item_before first more)
+item_before-Ok (Err trap) more is_first is_more = is_first
+item_before-Ok (Ok text) (Err trap) is_first is_more = is_more
+item_before-Ok (Ok text) (Ok texts) is_first is_more = refl
 
-item_value-Ok : (names : List NameInfo) (store : List ℤ) (item : Item) → IsSafeItem names item → IsOk (item_value names store item)
-item_value-Ok names store (Value e) safe = safe.no_trap store
+and_then-Ok : (f : ℤ → List ℕ) (v : Result ℤ Trap) → IsOk v → IsOk (and_then (λ z. Ok (f z)) v)
+and_then-Ok f (Err trap) ok = absurd cc
+and_then-Ok f (Ok z) ok = refl
+
+item_text-Ok : (names : List NameInfo) (store : List ℤ) (item : Item) → IsSafeItem names item → IsOk (item_text names store item)
+item_text-Ok names store (Value e) safe = and_then-Ok (text_of (kind_of_expression names e)) (value names store None e) (safe.safe.no_trap store)
+item_text-Ok names store (Chars text) safe = refl
 
 -- the items of a straight PRINT have values
-items-Ok : (names : List NameInfo) (store : List ℤ) (items : List Item) → All (IsSafeItem names) items → IsOk (all_values (map (item_value names store) items))
+items-Ok : (names : List NameInfo) (store : List ℤ) (items : List Item) → All (IsSafeItem names) items → IsOk (line_of names store items)
 items-Ok names store [] safe = refl
 items-Ok names store (item ∷ items) safe =
-    value_before-Ok (item_value names store item) (all_values (map (item_value names store) items)) (item_value-Ok names store item (safe 0 item (omega arith))) (items-Ok names store items (λ k d below. safe (suc k) d (omega (arith, below))))
+    item_before-Ok (item_text names store item) (line_of names store items) (item_text-Ok names store item (safe 0 item (omega arith))) (items-Ok names store items (λ k d below. safe (suc k) d (omega (arith, below))))
+
+-- how many words of the data an executable takes
+abbrev pub taken_by : ExecKind → ℕ
+taken_by (Assign target e next) = words_taken e
+taken_by _ = 0
 
 -- the state after a straight executable
 abbrev pub straight_state : List NameInfo → State → (k : ℕ) → ExecKind → State
-straight_state names x k kind = record { position = suc k; store = store_after names x.store kind; out = x.out ++ bytes_in (line_from names x.store kind); mark = x.mark }
+straight_state names x k kind = record {
+  position = suc k;
+  memory = record x.memory { store = store_after names x.memory.store kind; taken = x.memory.taken + taken_by kind };
+  out = x.out ++ bytes_in (line_from names x.memory.store kind);
+  mark = x.mark;
+}
 
-assigned-Ok : (x : State) (line word next : ℕ) (v : Result ℤ Trap) → IsOk v → assigned x line word next v ≡ record x { position = next; store = stored x.store word v }
-assigned-Ok x line word next (Err trap) ok = absurd cc
-assigned-Ok x line word next (Ok z) ok = refl
+assigned-Ok : (x : State) (line next taken : ℕ) (w : Result ℕ Trap) (v : Result ℤ Trap) → IsOk w → IsOk v → after x line (assigned x.memory next taken w v) ≡ record x { position = next; memory = record x.memory { store = stored x.memory.store w v; taken = taken }; out = x.out ++ [] }
+assigned-Ok x line next taken (Err trap) v is_word ok = absurd cc
+assigned-Ok x line next taken (Ok word) (Err trap) is_word ok = absurd cc
+assigned-Ok x line next taken (Ok word) (Ok z) is_word ok = refl
 
-printed-Ok : (x : State) (line next : ℕ) (vs : Result (List ℤ) Trap) → IsOk vs → printed x line next vs ≡ record x { position = next; out = x.out ++ bytes_in (line_if vs) }
+printed-Ok : (x : State) (line next : ℕ) (text : Result (List ℕ) Trap) → IsOk text → after x line (printed x.memory next text) ≡ record x { position = next; out = x.out ++ bytes_in (line_if text) }
 printed-Ok x line next (Err trap) ok = absurd cc
-printed-Ok x line next (Ok zs) ok = refl
+printed-Ok x line next (Ok text) ok = refl
+
+-- a scalar has a word
+scalar-Ok : (names : List NameInfo) (store : List ℤ) (target : Access) → IsScalar names target → IsOk (place names store None target)
+scalar-Ok names store target is = rw is.scalar refl
 
 -- a straight executable stores or writes, and the one after it comes next
-pub executed-straight : (names : List NameInfo) (x : State) (line k : ℕ) (kind : ExecKind) → IsStraightKind names k kind → executed names x line kind ≡ straight_state names x k kind
+pub executed-straight : (names : List NameInfo) (x : State) (line k : ℕ) (kind : ExecKind) → IsStraightKind names k kind → after x line (outcome names [] x.memory kind) ≡ straight_state names x k kind
 executed-straight names x line k (Assign target e next) is =
-    assigned-Ok x line (place_of names target.name) next (value names x.store e) (is.1.no_trap x.store)
-    ∙ ap (λ (n : ℕ). record x { position = n; store = stored x.store (place_of names target.name) (value names x.store e) }) is.2
-    ∙ ap (λ (bytes : List ℕ). record x { position = suc k; store = stored x.store (place_of names target.name) (value names x.store e); out = bytes }) (sym (append-nil x.out))
+    let word = place names x.memory.store None target in
+    let v = value names x.memory.store None e in
+    let taken = x.memory.taken + words_taken e in
+    assigned-Ok x line next taken word v (scalar-Ok names x.memory.store target is.0) (is.1.no_trap x.memory.store)
+    ∙ ap (λ (n : ℕ). record x { position = n; memory = record x.memory { store = stored x.memory.store word v; taken = taken }; out = x.out ++ [] }) is.2
 executed-straight names x line k (Print items next) is =
-    printed-Ok x line next (all_values (map (item_value names x.store) items)) (items-Ok names x.store items is.0)
-    ∙ ap (λ (n : ℕ). record x { position = n; out = x.out ++ bytes_in (line_if (all_values (map (item_value names x.store) items))) }) is.1
+    printed-Ok x line next (line_of names x.memory.store items) (items-Ok names x.memory.store items is.0)
+    ∙ ap (λ (n : ℕ). record x { position = n; out = x.out ++ bytes_in (line_if (line_of names x.memory.store items)) }) is.1
+    ∙ ap (λ (n : ℕ). record x { position = suc k; memory = record x.memory { taken = n }; out = x.out ++ bytes_in (line_if (line_of names x.memory.store items)) }) none_more
+  where
+  none_more : x.memory.taken ≡ x.memory.taken + 0
+  none_more = omega arith
+executed-straight names x line k (Pass next) is = absurd is
+executed-straight names x line k (Test cond yes' no') is = absurd is
+executed-straight names x line k (Sign e neg zero' pos') is = absurd is
+executed-straight names x line k (Pick e targets other) is = absurd is
+executed-straight names x line k (DoStart loop_no var first last step body exit) is = absurd is
+executed-straight names x line k (DoNext loop_no var body exit) is = absurd is
 executed-straight names x line k End is = absurd is

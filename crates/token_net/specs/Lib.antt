@@ -4,3 +4,4 @@ pub mod InStep
 pub mod StraightNet
 pub mod Firing
 pub mod Following
+pub mod Printing

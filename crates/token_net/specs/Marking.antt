@@ -3,12 +3,12 @@ use Rattle.std.specs.Prelude.{◌≢◌, ℕ, zero, suc, ◌<◌, ℤ, Bool, tru
 use Rattle.std.specs.List.{list_all}
 use Rattle.op_table.specs.declared.Trap.{Trap}
 use Rattle.f77_tree.specs.declared.programs.ExecKind.{ExecKind}
-use Rattle.f77_tree.specs.declared.programs.ExecKind.TheVariants.{Assign, Print, End}
+use Rattle.f77_tree.specs.declared.programs.ExecKind.TheVariants.{Assign, Print, Pass, Test, Sign, Pick, DoStart, DoNext, End}
 use Rattle.f77_tree.specs.declared.programs.Exec.{Exec}
 use Rattle.f77_tree.specs.declared.programs.NameInfo.{NameInfo}
 use Rattle.f77_tree.specs.declared.programs.Program.{Program}
-use Rattle.f77_tree.specs.Value.{value, all_values, place_of}
-use Rattle.f77_tree.specs.Run.{line_of, item_value}
+use Rattle.f77_tree.specs.Value.{value, place}
+use Rattle.f77_tree.specs.Line.{line_of}
 use Rattle.f77_tree.specs.Straight.{count_before_end}
 use Rattle.token_net.specs.Needs.{needs_at, next_need, is_among}
 
@@ -25,25 +25,25 @@ opening p = record { before = λ line. next_need p line 0; store = p.initial }
 abbrev pub ready : Program → Marking → ℕ → Bool
 ready p m k = list_all (λ line. nat_eq (m.before line) k) (needs_at p k)
 
-abbrev pub stored : List ℤ → ℕ → Result ℤ Trap → List ℤ
-stored store word (Err trap) = store
-stored store word (Ok z) = slice_set store word z
+-- the value is stored in the word, unless either traps
+abbrev pub stored : List ℤ → Result ℕ Trap → Result ℤ Trap → List ℤ
+stored store (Err trap) value = store
+stored store (Ok word) (Err trap) = store
+stored store (Ok word) (Ok z) = slice_set store word z
 
 -- the store after an executable
 abbrev pub store_after : List NameInfo → List ℤ → ExecKind → List ℤ
-store_after names store (Assign target e next) = stored store (place_of names target.name) (value names store e)
-store_after names store (Print items next) = store
-store_after names store End = store
+store_after names store (Assign target e next) = stored store (place names store None target) (value names store None e)
+store_after names store _ = store
 
-abbrev pub line_if : Result (List ℤ) Trap → Option (List ℕ)
+abbrev pub line_if : Result (List ℕ) Trap → Option (List ℕ)
 line_if (Err trap) = None
-line_if (Ok zs) = Some (line_of zs)
+line_if (Ok line) = Some line
 
 -- the line that an executable writes
 abbrev pub line_from : List NameInfo → List ℤ → ExecKind → Option (List ℕ)
-line_from names store (Assign target e next) = None
-line_from names store (Print items next) = line_if (all_values (map (item_value names store) items))
-line_from names store End = None
+line_from names store (Print items next) = line_if (line_of names store items)
+line_from names store _ = None
 
 abbrev pub kind_in : Option Exec → ExecKind
 kind_in None = End

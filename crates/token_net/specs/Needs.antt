@@ -2,11 +2,11 @@
 use Rattle.std.specs.Prelude.{ℕ, suc, ◌+◌, ◌<◌, Bool, List, [], ◌∷◌, ◌++◌, map, take, drop, Option, Some, None, slice_get, All, nat_eq, if◌then◌else◌}
 use Rattle.std.specs.List.{list_any}
 use Rattle.f77_tree.specs.declared.expressions.Expr.{Expr, Row_of-Expr, end_of-Expr, more_of-Expr}
-use Rattle.f77_tree.specs.declared.expressions.Expr.TheVariants.{Const, Read', Apply'}
+use Rattle.f77_tree.specs.declared.expressions.Expr.TheVariants.{Const, Truth, Input, Read', Apply'}
 use Rattle.f77_tree.specs.declared.programs.Item.{Item}
-use Rattle.f77_tree.specs.declared.programs.Item.TheVariants.{Value}
+use Rattle.f77_tree.specs.declared.programs.Item.TheVariants.{Value, Chars}
 use Rattle.f77_tree.specs.declared.programs.ExecKind.{ExecKind}
-use Rattle.f77_tree.specs.declared.programs.ExecKind.TheVariants.{Assign, Print, End}
+use Rattle.f77_tree.specs.declared.programs.ExecKind.TheVariants.{Assign, Print, Pass, Test, Sign, Pick, DoStart, DoNext, End}
 use Rattle.f77_tree.specs.declared.programs.Exec.{Exec}
 use Rattle.f77_tree.specs.declared.programs.Program.{Program}
 use Rattle.f77_tree.specs.Straight.{count_before_end}
@@ -15,22 +15,28 @@ abbrev mutual
   -- the lines of the names that an expression reads, from left to right
   pub reads : Expr → List ℕ
   reads (Const z) = []
-  reads (Read' name shape subs) = suc name ∷ []
+  reads (Truth b) = []
+  reads Input = []
+  reads (Read' name shape subs) = suc name ∷ row_reads subs
   reads (Apply' op shape args) = row_reads args
 
   pub row_reads : {m : _} → Row_of-Expr m → List ℕ
   row_reads end_of-Expr = []
   row_reads (more_of-Expr e rest) = reads e ++ row_reads rest
 
+abbrev pub reads_of_item : Item → List ℕ
+reads_of_item (Value e) = reads e
+reads_of_item (Chars text) = []
+
 abbrev pub item_reads : List Item → List ℕ
 item_reads [] = []
-item_reads (Value e ∷ items) = reads e ++ item_reads items
+item_reads (item ∷ items) = reads_of_item item ++ item_reads items
 
 -- the lines that an executable needs: those of the names that it stores or reads, and OUT where it writes
 abbrev pub needs : ExecKind → List ℕ
 needs (Assign target e next) = suc target.name ∷ reads e
 needs (Print items next) = 0 ∷ item_reads items
-needs End = []
+needs _ = []
 
 -- the nodes: the executables before END
 abbrev pub nodes_of : Program → List Exec

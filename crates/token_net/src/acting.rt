@@ -1,15 +1,15 @@
 // What a node does beside moving lines.
 
-ghost use Rattle.std.specs.Prelude.{◌≡◌, ℕ, ◌<◌, length, vec_len};
-ghost use Rattle.f77_tree.specs.Straight.{IsStraight, IsSafe, count_before_end};
-ghost use Rattle.f77_tree.specs.Value.{place_of, value};
+ghost use Rattle.std.specs.Prelude.{◌≡◌, ◌<◌, length, vec_len, None};
+ghost use Rattle.f77_tree.specs.Straight.{IsStraight, IsSafe, IsScalar, count_before_end};
+ghost use Rattle.f77_tree.specs.Value.{ArePlaced, place, value};
 ghost use Rattle.token_net.specs.Firing.{ActedIs};
 ghost use Rattle.token_net.specs.Marking.{stored};
 
 use crate::Fired;
 use crate::printing::printed_line;
 use df_sequence::NoMemory;
-use f77_tree::{ExecKind, Expr, NameInfoList, Program, evaluate};
+use f77_tree::{Access, ExecKind, Expr, NameInfoList, Program, evaluate, locate};
 use std::alloc::Global;
 
 // Stores a value, or makes the line that is written.
@@ -28,7 +28,7 @@ pub fn act(
 {
     match &program.execs.at(k).kind {
         ExecKind::Assign { target, value, .. } => {
-            store_value(target.name, value, &program.names, store);
+            store_value(target, value, &program.names, store);
             Fired::Moved
         }
         ExecKind::Print { items, .. } => {
@@ -41,19 +41,21 @@ pub fn act(
                 Err(NoMemory) => Fired::NoMemory,
             }
         }
-        ExecKind::End => Fired::Moved,
+        _ => Fired::Moved,
     }
 }
 
-// Stores the value of an expression in the word of a name, unless it traps.
-fn store_value(name: u32, e: &Expr, names: &NameInfoList, store: &mut Vec<i32>)
-    requires name { name < length names.now }
+// Stores the value of an expression in the word of an access, unless either traps.
+fn store_value(target: &Access, e: &Expr, names: &NameInfoList, store: &mut Vec<i32>)
+    requires target { IsScalar names.now target.now }
     requires safe { IsSafe names.now e.now }
-    requires places { (k : ℕ) → k < length names.now → place_of names.now k < vec_len store.old }
-    ensures stored { store.new.items ≡ stored store.old.items (place_of names.now name) (value names.now store.old.items e.now) }
+    requires places { ArePlaced names.now (vec_len store.old) }
+    ensures stored { store.new.items ≡ stored store.old.items (place names.now store.old.items None target.now) (value names.now store.old.items None e.now) }
     ensures words { vec_len store.new ≡ vec_len store.old }
 {
-    if let Ok(word) = evaluate(e, names, store) {
-        store[names.at(name).place as usize] = word;
+    let place = locate(target, names, store, None);
+    let value = evaluate(e, names, store, None);
+    if let (Ok(word), Ok(value)) = (place, value) {
+        store[word as usize] = value;
     }
 }

@@ -1,7 +1,7 @@
 // The lines that the nodes of a straight net need.
 
 ghost use Rattle.std.specs.Prelude.{◌≡◌, ◌<◌, ◌++◌, length, IfOk, OnOk};
-ghost use Rattle.token_net.specs.Needs.{reads, item_reads, needs, all_needs};
+ghost use Rattle.token_net.specs.Needs.{reads, reads_of_item, item_reads, needs, all_needs};
 
 use crate::lines::LineList;
 use df_sequence::NoMemory;
@@ -13,8 +13,14 @@ fn push_reads(e: &Expr, lines: &mut LineList) -> Result<(), NoMemory>
     ensures { OnOk result (lines.new ≡ lines.old ++ reads e.now) }
 {
     match e {
-        Expr::Const(_) => Ok(()),
-        Expr::Read(access) => lines.push(access.name as usize + 1),
+        Expr::Const(_) | Expr::Truth(_) | Expr::Input => Ok(()),
+        Expr::Read(access) => {
+            lines.push(access.name as usize + 1)?;
+            for sub in access.subs.as_slice() {
+                push_reads(sub, lines)?;
+            }
+            Ok(())
+        }
         Expr::Apply(_, args) => {
             for arg in args.as_slice() {
                 push_reads(arg, lines)?;
@@ -29,10 +35,19 @@ fn push_item_reads(items: &[Item], lines: &mut LineList) -> Result<(), NoMemory>
     ensures { OnOk result (lines.new ≡ lines.old ++ item_reads items.now) }
 {
     for item in items {
-        let Item::Value(e) = item;
-        push_reads(e, lines)?;
+        push_reads_of(item, lines)?;
     }
     Ok(())
+}
+
+// Appends the lines of the names that an item reads.
+fn push_reads_of(item: &Item, lines: &mut LineList) -> Result<(), NoMemory>
+    ensures { OnOk result (lines.new ≡ lines.old ++ reads_of_item item.now) }
+{
+    match item {
+        Item::Value(e) => push_reads(e, lines),
+        Item::Chars(_) => Ok(()),
+    }
 }
 
 // The lines that an executable needs.
@@ -51,7 +66,7 @@ fn needs_of(alloc: Global, kind: &ExecKind) -> Result<LineList, NoMemory>
             push_item_reads(items.as_slice(), &mut lines)?;
             Ok(lines)
         }
-        ExecKind::End => Ok(lines),
+        _ => Ok(lines),
     }
 }
 
