@@ -1,14 +1,17 @@
--- The table has each name of the statements, each with a word of its own.
-use Rattle.std.proofs.Common.{◌≡◌, ℕ, zero, suc, ◌+◌, ◌<◌, Bool, true, false, ◌||◌, Some, List, [], ◌∷◌, ◌++◌, length, refl, sym, subst, ◌∙◌, ⊎_elim, arith}
+-- The table has each name of the statements, each an integer scalar with a word of its own.
+use Rattle.std.proofs.Common.{◌≡◌, ℕ, zero, suc, ◌+◌, ◌<◌, ◌≤◌, pos, ◌+ℤ◌, ◌≤ℤ◌, Bool, true, false, ◌||◌, Some, List, [], ◌∷◌, ◌++◌, length, refl, sym, subst, ◌∙◌, ⊎_elim, arith}
 use Rattle.std.proofs.lemmas.Bool.{and_parts, cases_Bool, cond_both}
+use Rattle.std.proofs.lemmas.Int.{ints}
 use Rattle.std.proofs.lemmas.List.Folds.{list_all-append, list_any-append}
 use Rattle.std.proofs.lemmas.Slice.Eq.{bytes_eq-Decides}
-use Rattle.std.specs.List.{flat_map, fold, list_all, list_any, position_or_len, slice_get}
+use Rattle.std.specs.List.{All, flat_map, fold, list_all, list_any, position_or_len, slice_get}
 use Rattle.std.specs.Str.{bytes_eq}
+use Rattle.f77_tree.specs.declared.declarations.Dim.{Dim}
+use Rattle.f77_tree.specs.declared.declarations.Kind.TheVariants.{Integer}
 use Rattle.f77_tree.specs.declared.programs.NameInfo.{NameInfo}
-use Rattle.f77_tree.specs.Value.{place_of}
+use Rattle.f77_tree.specs.Value.{kind_of, dims_of, size_of, IsPlaced, ArePlaced}
 use Rattle.early_lines.specs.declared.statements.Statement.{Statement}
-use Rattle.early_lines.specs.Early.{is_entry, is_in_table, statement_names, table_of, with_name}
+use Rattle.early_lines.specs.Early.{is_entry, is_in_table, scalar_at, statement_names, table_of, with_name}
 
 or-true : (b : Bool) → (b || true) ≡ true
 or-true true = refl
@@ -17,9 +20,9 @@ or-true false = refl
 same_name : (name : List ℕ) → bytes_eq name name ≡ true
 same_name name = (bytes_eq-Decides name name).1 refl
 
-push_has : (table : List NameInfo) (name : List ℕ) (place : ℕ) → is_in_table (table ++ record { name = name; place = place } ∷ []) name ≡ true
+push_has : (table : List NameInfo) (name : List ℕ) (place : ℕ) → is_in_table (table ++ scalar_at name place ∷ []) name ≡ true
 push_has table name place =
-    list_any-append (is_entry name) table (record { name = name; place = place } ∷ []) ∙ rw (same_name name) (or-true (is_in_table table name))
+    list_any-append (is_entry name) table (scalar_at name place ∷ []) ∙ rw (same_name name) (or-true (is_in_table table name))
 
 push_keeps : (table : List NameInfo) (info : NameInfo) (name : List ℕ) → is_in_table table name ≡ true → is_in_table (table ++ info ∷ []) name ≡ true
 push_keeps table info name has = list_any-append (is_entry name) table (info ∷ []) ∙ rw has refl
@@ -27,12 +30,12 @@ push_keeps table info name has = list_any-append (is_entry name) table (info ∷
 with_name_has : (table : List NameInfo) (name : List ℕ) → is_in_table (with_name table name) name ≡ true
 unfolding with_name
 with_name_has table name =
-    cond_both (is_in_table table name) table (table ++ record { name = name; place = length table } ∷ []) (λ (t : List NameInfo). is_in_table t name ≡ true) (λ has. has) (λ _. push_has table name (length table))
+    cond_both (is_in_table table name) table (table ++ scalar_at name (length table) ∷ []) (λ (t : List NameInfo). is_in_table t name ≡ true) (λ has. has) (λ _. push_has table name (length table))
 
 with_name_keeps : (table : List NameInfo) (name other : List ℕ) → is_in_table table other ≡ true → is_in_table (with_name table name) other ≡ true
 unfolding with_name
 with_name_keeps table name other has =
-    cond_both (is_in_table table name) table (table ++ record { name = name; place = length table } ∷ []) (λ (t : List NameInfo). is_in_table t other ≡ true) (λ _. has) (λ _. push_keeps table (record { name = name; place = length table }) other has)
+    cond_both (is_in_table table name) table (table ++ scalar_at name (length table) ∷ []) (λ (t : List NameInfo). is_in_table t other ≡ true) (λ _. has) (λ _. push_keeps table (scalar_at name (length table)) other has)
 
 with_names_keep : (table : List NameInfo) (names : List (List ℕ)) (name : List ℕ) → is_in_table table name ≡ true → is_in_table (fold with_name table names) name ≡ true
 with_names_keep table [] name has = has
@@ -66,30 +69,61 @@ index_within p (x ∷ xs) any =
     (λ (h : p x ≡ false). rw h (omega (arith, index_within p xs (rw h at any))))
     (cases_Bool (p x))
 
--- ---- words of storage
+-- ---- each name of the table is an integer scalar, with a word of its own
 
--- the places are numbers from j on
-abbrev ArePlacesFrom : ℕ → List NameInfo → Type 0
-ArePlacesFrom j [] = Unit {0}
-ArePlacesFrom j (info ∷ more) = (info.place ≡ j) × ArePlacesFrom (suc j) more
+pub record IsScalarAt (place : ℕ) (info : NameInfo) : Type 0 where
+  pub at : info.place ≡ place
+  pub integer : info.kind ≡ Integer
+  pub scalar : info.dims ≡ []
 
-places_push : (j : ℕ) (table : List NameInfo) (info : NameInfo) → info.place ≡ j + length table → ArePlacesFrom j table → ArePlacesFrom j (table ++ info ∷ [])
-places_push j [] info is places = (omega (arith, is), tt)
-places_push j (first ∷ more) info is places = (places.0, places_push (suc j) more info (omega (arith, is)) places.1)
+-- integer scalars, whose places are numbers from j on
+abbrev pub AreScalarsFrom : ℕ → List NameInfo → Type 0
+AreScalarsFrom j [] = Unit {0}
+AreScalarsFrom j (info ∷ more) = IsScalarAt j info × AreScalarsFrom (suc j) more
 
-with_name_places : (table : List NameInfo) (name : List ℕ) → ArePlacesFrom 0 table → ArePlacesFrom 0 (with_name table name)
+scalars_push : (j : ℕ) (table : List NameInfo) (name : List ℕ) (place : ℕ) → place ≡ j + length table → AreScalarsFrom j table → AreScalarsFrom j (table ++ scalar_at name place ∷ [])
+scalars_push j [] name place is scalars = (record { at = omega (arith, is); integer = refl; scalar = refl }, tt)
+scalars_push j (first ∷ more) name place is scalars = (scalars.0, scalars_push (suc j) more name place (omega (arith, is)) scalars.1)
+
+with_name_scalars : (table : List NameInfo) (name : List ℕ) → AreScalarsFrom 0 table → AreScalarsFrom 0 (with_name table name)
 unfolding with_name
-with_name_places table name places =
-    cond_both (is_in_table table name) table (table ++ record { name = name; place = length table } ∷ []) (λ (t : List NameInfo). ArePlacesFrom 0 t) (λ _. places) (λ _. places_push 0 table (record { name = name; place = length table }) (omega arith) places)
+with_name_scalars table name scalars =
+    cond_both (is_in_table table name) table (table ++ scalar_at name (length table) ∷ []) (λ (t : List NameInfo). AreScalarsFrom 0 t) (λ _. scalars) (λ _. scalars_push 0 table name (length table) (omega arith) scalars)
 
-with_names_places : (table : List NameInfo) (names : List (List ℕ)) → ArePlacesFrom 0 table → ArePlacesFrom 0 (fold with_name table names)
-with_names_places table [] places = places
-with_names_places table (name ∷ names) places = with_names_places (with_name table name) names (with_name_places table name places)
+with_names_scalars : (table : List NameInfo) (names : List (List ℕ)) → AreScalarsFrom 0 table → AreScalarsFrom 0 (fold with_name table names)
+with_names_scalars table [] scalars = scalars
+with_names_scalars table (name ∷ names) scalars = with_names_scalars (with_name table name) names (with_name_scalars table name scalars)
 
-place_at : (j : ℕ) (table : List NameInfo) (k : ℕ) → k < length table → ArePlacesFrom j table → place_of table k ≡ j + k
-place_at j [] k lt places = absurd (omega (arith, lt))
-place_at j (info ∷ more) zero lt places = omega (arith, places.0)
-place_at j (info ∷ more) (suc k) lt places = omega (arith, place_at (suc j) more k (omega (arith, lt)) places.1)
+pub table_scalars : (statements : List Statement) → AreScalarsFrom 0 (table_of statements)
+table_scalars statements = with_names_scalars [] (flat_map statement_names statements) tt
 
-pub place_within : (statements : List Statement) (k : ℕ) → k < length (table_of statements) → place_of (table_of statements) k ≡ k
-place_within statements k lt = place_at 0 (table_of statements) k lt (with_names_places [] (flat_map statement_names statements) tt) ∙ omega arith
+pub scalars_kind : (j : ℕ) (table : List NameInfo) (k : ℕ) → AreScalarsFrom j table → kind_of table k ≡ Integer
+scalars_kind j [] k scalars = refl
+scalars_kind j (info ∷ more) zero scalars = scalars.0.integer
+scalars_kind j (info ∷ more) (suc k) scalars = scalars_kind (suc j) more k scalars.1
+
+pub scalars_dims : (j : ℕ) (table : List NameInfo) (k : ℕ) → AreScalarsFrom j table → dims_of table k ≡ []
+scalars_dims j [] k scalars = refl
+scalars_dims j (info ∷ more) zero scalars = scalars.0.scalar
+scalars_dims j (info ∷ more) (suc k) scalars = scalars_dims (suc j) more k scalars.1
+
+-- ---- their words lie in a store of so many
+
+no_bounds : All (λ (dim : Dim). dim.lo ≤ℤ dim.hi) []
+no_bounds k d lt = absurd (omega (arith, lt))
+
+scalar_placed : (words place : ℕ) (info : NameInfo) → place < words → IsScalarAt place info → IsPlaced words info
+scalar_placed words place info lt is =
+    let one : (pos place +ℤ size_of []) ≤ℤ pos words = omega (arith, ints, lt) in
+    record {
+      bounds = subst (λ (dims : List Dim). All (λ (dim : Dim). dim.lo ≤ℤ dim.hi) dims) (sym is.scalar) no_bounds;
+      inside = rw (is.at, is.scalar) one;
+    }
+
+scalars_placed : (words j : ℕ) (table : List NameInfo) → j + length table ≤ words → AreScalarsFrom j table → All (IsPlaced words) table
+scalars_placed words j [] few scalars k d lt = absurd (omega (arith, lt))
+scalars_placed words j (info ∷ more) few scalars zero d lt = scalar_placed words j info (omega (arith, few)) scalars.0
+scalars_placed words j (info ∷ more) few scalars (suc k) d lt = scalars_placed words (suc j) more (omega (arith, few)) scalars.1 k d (omega (arith, lt))
+
+pub table_placed : (statements : List Statement) (words : ℕ) → words ≡ length (table_of statements) → words ≤ 255 → ArePlaced (table_of statements) words
+table_placed statements words same few = record { each = scalars_placed words 0 (table_of statements) (omega (arith, same)) (table_scalars statements); few = omega (arith, few) }

@@ -1,6 +1,6 @@
--- Only the last statement is END.
-use Rattle.std.proofs.Common.{◌≡◌, ◌==◌, ℕ, zero, suc, ◌-◌, nat_le, Bool, true, false, not, ◌||◌, cond, Option, Some, None, List, [], ◌∷◌, ◌++◌, length, take, Result, Ok, Err, refl, sym, ap, subst, ◌∙◌, ⊎_elim, arith}
-use Rattle.std.proofs.lemmas.Bool.{and_parts, cases_Bool, ne_eqb}
+-- Only the last statement is END, and there are few names.
+use Rattle.std.proofs.Common.{◌≡◌, ◌==◌, ℕ, zero, suc, ◌-◌, ◌≤◌, nat_le, Bool, true, false, not, ◌||◌, cond, Option, Some, None, List, [], ◌∷◌, ◌++◌, length, take, Result, Ok, Err, refl, sym, ap, subst, ◌∙◌, ⊎_elim, arith}
+use Rattle.std.proofs.lemmas.Bool.{and_parts, cases_Bool, leb-true, ne_eqb}
 use Rattle.std.proofs.lemmas.List.{length_push, take_at}
 use Rattle.std.proofs.lemmas.List.Folds.{list_all-append}
 use Rattle.std.specs.List.{list_all}
@@ -62,3 +62,22 @@ steps_with before (Some s) (line ∷ after) statements all goes_on is =
 pub steps : (before : List Statement) (lines : List (List ℕ)) (statements : List Statement) → list_all is_step before ≡ true → early_statements before lines ≡ Ok statements → AreSteps statements
 steps before [] statements all is = subst (λ (ss : List Statement). AreSteps ss) (same_Ok before statements is) (steps_all before all)
 steps before (line ∷ after) statements all is = steps_with before (statement_of line) after statements all (λ next h e. steps next after statements h e) is
+
+-- ---- at most 255 names
+
+few_with : (before : List Statement) (line : Option Statement) (after : List (List ℕ)) (statements : List Statement)
+    → ((next : List Statement) → length (table_of next) ≤ 255 → early_statements next after ≡ Ok statements → length (table_of statements) ≤ 255)
+    → cond (is_early before line after) (early_statements (followed_by before line) after) (Err (NotYet (suc (length before)))) ≡ Ok statements → length (table_of statements) ≤ 255
+few_with before None after statements goes_on is = absurd cc
+few_with before (Some s) after statements goes_on is =
+    let next = before ++ s ∷ [] in
+    ⊎_elim
+    (λ (h : is_early before (Some s) after ≡ true).
+    let early = and_parts (may_stand (length before) s after) (nat_le (length (table_of next)) 255) h in
+    goes_on next (leb-true (length (table_of next)) 255 early.1) (rw h at is))
+    (λ (h : is_early before (Some s) after ≡ false). let e = rw h at is in absurd cc)
+    (cases_Bool (is_early before (Some s) after))
+
+pub few_names : (before : List Statement) (lines : List (List ℕ)) (statements : List Statement) → length (table_of before) ≤ 255 → early_statements before lines ≡ Ok statements → length (table_of statements) ≤ 255
+few_names before [] statements few is = subst (λ (ss : List Statement). length (table_of ss) ≤ 255) (same_Ok before statements is) few
+few_names before (line ∷ after) statements few is = few_with before (statement_of line) after statements (λ next h e. few_names next after statements h e) is

@@ -12,7 +12,7 @@ use Rattle.early_lines.specs.declared.statements.Statement.TheVariants.{Assign}
 use Rattle.early_lines.specs.declared.table.TableEnd.{TableEnd}
 use Rattle.early_lines.specs.declared.table.TableEnd.TheVariants.{Full, NoMemory}
 use Rattle.early_lines.specs.Causes.{IsTableCause}
-use Rattle.early_lines.specs.Early.{is_in_table, operand_names, statement_names, term_names, with_name}
+use Rattle.early_lines.specs.Early.{is_in_table, operand_names, scalar_at, statement_names, term_names, with_name}
 use Rattle.early_lines.specs.Statements.{is_early_name}
 
 cond_grows : (b : Bool) (table : List NameInfo) (info : NameInfo) → length table ≤ length (cond b table (table ++ info ∷ []))
@@ -21,7 +21,7 @@ cond_grows false table info = omega (arith, length_push table info)
 
 pub with_name_grows : (table : List NameInfo) (name : List ℕ) → length table ≤ length (with_name table name)
 unfolding with_name
-with_name_grows table name = cond_grows (is_in_table table name) table (record { name = name; place = length table })
+with_name_grows table name = cond_grows (is_in_table table name) table (scalar_at name (length table))
 
 pub with_names_grow : (table : List NameInfo) (names : List (List ℕ)) → length table ≤ length (fold with_name table names)
 with_names_grow table [] = omega arith

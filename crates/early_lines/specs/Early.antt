@@ -2,6 +2,7 @@
 use Rattle.std.specs.Prelude.{ℕ, suc, ◌==◌, Bool, true, false, not, ◌&&◌, ◌||◌, nat_lt, nat_le, if◌then◌else◌, List, [], ◌∷◌, ◌++◌, length, Option, Some, None, Result, Ok, Err}
 use Rattle.std.specs.List.{fold, flat_map, list_any}
 use Rattle.std.specs.Str.{bytes_eq}
+use Rattle.f77_tree.specs.declared.declarations.Kind.TheVariants.{Integer}
 use Rattle.f77_tree.specs.declared.programs.NameInfo.{NameInfo}
 use Rattle.early_lines.specs.declared.early_end.EarlyEnd.{EarlyEnd}
 use Rattle.early_lines.specs.declared.early_end.EarlyEnd.TheVariants.{NotYet}
@@ -31,9 +32,13 @@ is_entry name info = bytes_eq info.name name
 abbrev pub is_in_table : List NameInfo → List ℕ → Bool
 is_in_table table name = list_any (is_entry name) table
 
+-- an integer scalar, at a word of storage
+abbrev pub scalar_at : List ℕ → ℕ → NameInfo
+scalar_at name place = record { name = name; kind = Integer; dims = []; place = place }
+
 -- a name that isn't in the table gets the next word of storage
 unfoldable pub with_name : List NameInfo → List ℕ → List NameInfo
-with_name table name = if is_in_table table name then table else table ++ record { name = name; place = length table } ∷ []
+with_name table name = if is_in_table table name then table else table ++ scalar_at name (length table) ∷ []
 
 -- the different names of statements, in the order in which they first appear
 abbrev pub table_of : List Statement → List NameInfo

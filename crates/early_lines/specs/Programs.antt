@@ -59,11 +59,11 @@ abbrev pub execs_from : List NameInfo → ℕ → List Statement → List Exec
 execs_from table k [] = []
 execs_from table k (statement ∷ more) = record { line = suc k; kind = kind_of table k statement } ∷ execs_from table (suc k) more
 
--- one word of storage for each name, which is 0 at first
+-- one word of storage for each name, which is 0 at first; no declarations, and no DO
 abbrev pub program_of : List Statement → Program
 program_of statements =
     let table = table_of statements in
-    record { names = table; words = length table; initial = replicate (length table) (pos 0); execs = execs_from table 0 statements }
+    record { names = table; words = length table; initial = replicate (length table) (pos 0); commons = []; groups = []; inits = []; execs = execs_from table 0 statements; loops = 0 }
 
 abbrev pub is_end_at : Option Statement → Bool
 is_end_at None = false

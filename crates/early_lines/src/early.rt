@@ -58,7 +58,7 @@ fn read_line(
     if !may_stand(before.len(), &statement, next) {
         return Err(EarlyEnd::NotYet(number));
     }
-    match add_statement(table, &statement) {
+    match add_statement(alloc, table, &statement) {
         Ok(()) => Ok(statement),
         Err(TableEnd::Full) => Err(EarlyEnd::NotYet(number)),
         Err(TableEnd::NoMemory) => Err(EarlyEnd::NoMemory),

@@ -154,6 +154,10 @@ pub(crate) fn program(
         names: table,
         words,
         initial,
+        commons: Sequence::new(alloc),
+        groups: Sequence::new(alloc),
+        inits: Sequence::new(alloc),
         execs,
+        loops: 0,
     })
 }

@@ -7,8 +7,9 @@ ghost use Rattle.early_lines.specs.Early.{is_entry as spec_is_entry, is_in_table
 ghost use Rattle.early_lines.specs.Statements.{is_early_name};
 
 use crate::statements::{Operand, Statement, Term};
-use df_sequence::NoMemory;
-use f77_tree::{Name, NameInfo, NameInfoList};
+use df_sequence::{NoMemory, Sequence};
+use f77_tree::{Kind, Name, NameInfo, NameInfoList};
+use std::alloc::Global;
 
 // The most names that a program of early lines has.
 const MOST_NAMES: u32 = 255;
@@ -67,9 +68,9 @@ fn copy(name: &Name) -> Name
     Name::new(name.as_bytes()).unwrap()
 }
 
-/// Puts a name into the table, where it isn't there.
+/// Puts a name into the table, where it isn't there, as an integer scalar.
 #[tactic(auto, unfolding(crate::specs::Early::with_name))]
-fn add(table: &mut NameInfoList, name: &Name) -> Result<(), TableEnd>
+fn add(alloc: Global, table: &mut NameInfoList, name: &Name) -> Result<(), TableEnd>
     requires few { length table.old ≤ 255 }
     requires early { is_early_name name.now ≡ true }
     ensures added { OnOk result (table.new ≡ with_name table.old name.now) }
@@ -84,12 +85,17 @@ fn add(table: &mut NameInfoList, name: &Name) -> Result<(), TableEnd>
     }
     let place = table.len();
     let name = copy(name);
-    table.push(NameInfo { name, place })?;
+    table.push(NameInfo {
+        name,
+        kind: Kind::Integer,
+        dims: Sequence::new(alloc),
+        place,
+    })?;
     Ok(())
 }
 
 /// Puts names into the table, one after another.
-fn add_names(table: &mut NameInfoList, names: &[Name]) -> Result<(), TableEnd>
+fn add_names(alloc: Global, table: &mut NameInfoList, names: &[Name]) -> Result<(), TableEnd>
     requires few { length table.old ≤ 255 }
     requires early { list_all is_early_name names.now ≡ true }
     ensures added { OnOk result (table.new ≡ fold with_name table.old names.now) }
@@ -97,13 +103,13 @@ fn add_names(table: &mut NameInfoList, names: &[Name]) -> Result<(), TableEnd>
     ensures cause { IfErr result (IsTableCause (fold with_name table.old names.now)) }
 {
     for name in names {
-        add(table, name)?;
+        add(alloc, table, name)?;
     }
     Ok(())
 }
 
 /// Puts the name of an operand into the table, if it has one.
-fn add_operand(table: &mut NameInfoList, operand: &Operand) -> Result<(), TableEnd>
+fn add_operand(alloc: Global, table: &mut NameInfoList, operand: &Operand) -> Result<(), TableEnd>
     requires few { length table.old ≤ 255 }
     requires early { list_all is_early_name (operand_names operand.now) ≡ true }
     ensures added { OnOk result (table.new ≡ fold with_name table.old (operand_names operand.now)) }
@@ -112,12 +118,12 @@ fn add_operand(table: &mut NameInfoList, operand: &Operand) -> Result<(), TableE
 {
     match operand {
         Operand::Number(_) => Ok(()),
-        Operand::Named(name) => add(table, name),
+        Operand::Named(name) => add(alloc, table, name),
     }
 }
 
 /// Puts the names of terms into the table, one after another.
-fn add_terms(table: &mut NameInfoList, terms: &[Term]) -> Result<(), TableEnd>
+fn add_terms(alloc: Global, table: &mut NameInfoList, terms: &[Term]) -> Result<(), TableEnd>
     requires few { length table.old ≤ 255 }
     requires early { list_all is_early_name (flat_map term_names terms.now) ≡ true }
     ensures added { OnOk result (table.new ≡ fold with_name table.old (flat_map term_names terms.now)) }
@@ -125,13 +131,17 @@ fn add_terms(table: &mut NameInfoList, terms: &[Term]) -> Result<(), TableEnd>
     ensures cause { IfErr result (IsTableCause (fold with_name table.old (flat_map term_names terms.now))) }
 {
     for term in terms {
-        add_operand(table, &term.operand)?;
+        add_operand(alloc, table, &term.operand)?;
     }
     Ok(())
 }
 
 /// Puts the names of a statement into the table, in the order of the text.
-pub(crate) fn add_statement(table: &mut NameInfoList, statement: &Statement) -> Result<(), TableEnd>
+pub(crate) fn add_statement(
+    alloc: Global,
+    table: &mut NameInfoList,
+    statement: &Statement,
+) -> Result<(), TableEnd>
     requires few { length table.old ≤ 255 }
     requires early { list_all is_early_name (statement_names statement.now) ≡ true }
     ensures added { OnOk result (table.new ≡ fold with_name table.old (statement_names statement.now)) }
@@ -144,11 +154,11 @@ pub(crate) fn add_statement(table: &mut NameInfoList, statement: &Statement) -> 
             first,
             rest,
         } => {
-            add(table, target)?;
-            add_operand(table, first)?;
-            add_terms(table, rest.as_slice())
+            add(alloc, table, target)?;
+            add_operand(alloc, table, first)?;
+            add_terms(alloc, table, rest.as_slice())
         }
-        Statement::Print(names) => add_names(table, names.as_slice()),
+        Statement::Print(names) => add_names(alloc, table, names.as_slice()),
         Statement::End => Ok(()),
     }
 }
