@@ -1,1 +1,8 @@
+pub mod Control
+pub mod Declarations
+pub mod InitialWords
+pub mod Kinds
+pub mod Loops
 pub mod Name
+pub mod Places
+pub mod WellFormed
