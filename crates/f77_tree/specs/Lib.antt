@@ -5,4 +5,5 @@ pub mod Kinds
 pub mod Loops
 pub mod Name
 pub mod Places
+pub mod Value
 pub mod WellFormed
