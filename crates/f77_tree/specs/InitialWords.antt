@@ -1,5 +1,5 @@
 -- Initial words: DATA gives values to words, and each other word begins at 0 (ANSI X3.9-1978, section 9).
-use Rattle.std.specs.Prelude.{◌≡◌, ℕ, zero, suc, ◌+◌, ◌<◌, ◌≤◌, ℤ, pos, if◌then◌else◌, ◌==◌, List, [], ◌∷◌, map, length, replicate, All, flat_map, Some, slice_get}
+use Rattle.std.specs.Prelude.{◌≡◌, ℕ, zero, suc, ◌+◌, ◌<◌, ◌≤◌, ℤ, pos, nat_abs, if◌then◌else◌, ◌==◌, List, [], ◌∷◌, map, length, replicate, All, flat_map, Some, slice_get}
 use Rattle.op_table.specs.Words.{truth}
 use Rattle.f77_tree.specs.declared.declarations.Kind.{Kind}
 use Rattle.f77_tree.specs.declared.declarations.Kind.TheVariants.{Integer, Logical}
@@ -9,7 +9,8 @@ use Rattle.f77_tree.specs.declared.declarations.Member.{Member}
 use Rattle.f77_tree.specs.declared.declarations.InitValue.{InitValue}
 use Rattle.f77_tree.specs.declared.declarations.InitPart.{InitPart}
 use Rattle.f77_tree.specs.declared.programs.NameInfo.{NameInfo}
-use Rattle.f77_tree.specs.Declarations.{CanBeWritten, IsMember, at_least_zero, kind_at, first_word, size_at, member_index, member_offset}
+use Rattle.f77_tree.specs.Value.{kind_of, dims_of, place_of, size_of}
+use Rattle.f77_tree.specs.Declarations.{CanBeWritten, IsMember, member_index, member_offset}
 
 -- ---- values
 
@@ -47,8 +48,8 @@ words_from first (suc n) = first ∷ words_from (suc first) n
 -- the words of the name at an index, or of its element behind so many others; without subscripts a name stands for all
 -- its elements
 abbrev pub words_at : List NameInfo → ℕ → List ℤ → ℤ → List ℕ
-words_at names k [] offset = words_from (first_word names k) (size_at names k)
-words_at names k (sub ∷ subs) offset = (first_word names k + at_least_zero offset) ∷ []
+words_at names k [] offset = words_from (place_of names k) (nat_abs (size_of (dims_of names k)))
+words_at names k (sub ∷ subs) offset = (place_of names k + nat_abs offset) ∷ []
 
 -- the words of an item
 abbrev pub item_words : List NameInfo → Member → List ℕ
@@ -56,7 +57,7 @@ item_words names item = words_at names (member_index names item) item.subs (memb
 
 -- the kind of an item, once for each of its words
 abbrev pub item_kinds : List NameInfo → Member → List Kind
-item_kinds names item = map (λ word. kind_at names (member_index names item)) (item_words names item)
+item_kinds names item = map (λ word. kind_of names (member_index names item)) (item_words names item)
 
 -- the words of a part, in order
 abbrev pub part_words : List NameInfo → InitPart → List ℕ

@@ -1,5 +1,5 @@
 -- Expressions of a program: the names, subscripts, operators and kinds that they may have (ANSI X3.9-1978, section 6).
-use Rattle.std.specs.Prelude.{◌≡◌, ℕ, suc, ◌<◌, ◌⊎◌, pos, ◌≤ℤ◌, Bool, true, false, List, [], ◌∷◌, length}
+use Rattle.std.specs.Prelude.{◌≡◌, ◌<◌, ◌⊎◌, pos, ◌≤ℤ◌, Bool, true, false, List, [], ◌∷◌, length}
 use Rattle.op_table.specs.declared.Op.{Op}
 use Rattle.op_table.specs.declared.Op.TheVariants.{Lt, Le, Eq, Ne, Ge, Gt, Not, And, Or, Eqv, Neqv, Truth, Bound, Place, Three, Pick, Step}
 use Rattle.op_table.specs.Operators.{arity_of}
@@ -9,7 +9,7 @@ use Rattle.f77_tree.specs.declared.expressions.Access.{Access}
 use Rattle.f77_tree.specs.declared.expressions.Expr.{Expr, Row_of-Expr, end_of-Expr, more_of-Expr}
 use Rattle.f77_tree.specs.declared.expressions.Expr.TheVariants.{Const, Truth as TruthOf, Input, Read, Apply, Read', Apply'}
 use Rattle.f77_tree.specs.declared.programs.NameInfo.{NameInfo}
-use Rattle.f77_tree.specs.Declarations.{kind_at, dims_at}
+use Rattle.f77_tree.specs.Value.{kind_of, dims_of, row_length}
 
 -- ---- operators
 
@@ -50,17 +50,12 @@ result_kind _ = Integer
 -- ---- expressions
 
 -- the kind of an expression's value
-abbrev pub kind_of : List NameInfo → Expr → Kind
-kind_of names (Const z) = Integer
-kind_of names (TruthOf b) = Logical
-kind_of names Input = Integer
-kind_of names (Read' name shape subs) = kind_at names name
-kind_of names (Apply' op shape args) = result_kind op
-
--- how many there are in a row
-abbrev pub row_count : {m : _} → Row_of-Expr m → ℕ
-row_count end_of-Expr = 0
-row_count (more_of-Expr e rest) = suc (row_count rest)
+abbrev pub expression_kind : List NameInfo → Expr → Kind
+expression_kind names (Const z) = Integer
+expression_kind names (TruthOf b) = Logical
+expression_kind names Input = Integer
+expression_kind names (Read' name shape subs) = kind_of names name
+expression_kind names (Apply' op shape args) = result_kind op
 
 abbrev mutual
   -- an expression of the program: constants are at least 0; an access names an index of the table and has an integer
@@ -70,18 +65,18 @@ abbrev mutual
   IsProper names (Const z) = pos 0 ≤ℤ z
   IsProper names (TruthOf b) = Unit {0}
   IsProper names Input = ⊥
-  IsProper names (Read' name shape subs) = (name < length names) × (row_count subs ≡ length (dims_at names name)) × AllOfKind names Integer subs
-  IsProper names (Apply' op shape args) = (is_written op ≡ true) × (row_count args ≡ arity_of op) × AllOfKind names (operand_kind op) args
+  IsProper names (Read' name shape subs) = (name < length names) × (row_length subs ≡ length (dims_of names name)) × AllOfKind names Integer subs
+  IsProper names (Apply' op shape args) = (is_written op ≡ true) × (row_length args ≡ arity_of op) × AllOfKind names (operand_kind op) args
 
   -- each of a row is an expression of the program, of one kind
   pub AllOfKind : {m : _} → List NameInfo → Kind → Row_of-Expr m → Type 0
   AllOfKind names kind end_of-Expr = Unit {0}
-  AllOfKind names kind (more_of-Expr e rest) = IsProper names e × (kind_of names e ≡ kind) × AllOfKind names kind rest
+  AllOfKind names kind (more_of-Expr e rest) = IsProper names e × (expression_kind names e ≡ kind) × AllOfKind names kind rest
 
 -- an expression of the program, of a kind
 pub record IsOfKind (names : List NameInfo) (kind : Kind) (e : Expr) : Type 0 where
   pub proper : IsProper names e
-  pub of_kind : kind_of names e ≡ kind
+  pub of_kind : expression_kind names e ≡ kind
 
 -- a scalar or an array element: what can be read can be a target
 abbrev pub IsProperAccess : List NameInfo → Access → Type 0
@@ -97,4 +92,4 @@ taken_as Logical = Apply Truth (Input ∷ [])
 -- the target's kind is the value's, or the value is the next data word, taken as the target's kind
 pub record IsAssignment (names : List NameInfo) (target : Access) (value : Expr) : Type 0 where
   pub access : IsProperAccess names target
-  pub of_kind : IsOfKind names (kind_at names target.name) value ⊎ (value ≡ taken_as (kind_at names target.name))
+  pub of_kind : IsOfKind names (kind_of names target.name) value ⊎ (value ≡ taken_as (kind_of names target.name))

@@ -1,5 +1,5 @@
 -- Well-formed programs: the trees that have a text and a meaning.
-use Rattle.std.specs.Prelude.{◌≡◌, ℕ, ◌<◌, ◌≤◌, true, List, [], ◌∷◌, map, length, All, flat_map, sum_by, Option, Some, None, slice_get}
+use Rattle.std.specs.Prelude.{◌≡◌, ℕ, ◌<◌, ◌≤◌, List, [], ◌∷◌, length, All, sum_by}
 use Rattle.f77_tree.specs.declared.declarations.Kind.TheVariants.{Integer, Logical}
 use Rattle.f77_tree.specs.declared.declarations.CommonPart.{CommonPart}
 use Rattle.f77_tree.specs.declared.declarations.Member.{Member}
@@ -12,8 +12,7 @@ use Rattle.f77_tree.specs.declared.programs.ExecKind.{ExecKind}
 use Rattle.f77_tree.specs.declared.programs.ExecKind.TheVariants.{Assign, Print, Test, Sign, Pick, DoStart, DoNext}
 use Rattle.f77_tree.specs.declared.programs.Exec.{Exec}
 use Rattle.f77_tree.specs.declared.programs.Program.{Program}
-use Rattle.f77_tree.specs.Name.{is_name}
-use Rattle.f77_tree.specs.Declarations.{IsNameInfo, NamesDiffer, IsMember, IsCommonName, IsIntegerScalar, index_of}
+use Rattle.f77_tree.specs.Declarations.{IsNameInfo, NamesDiffer, IsCommonPart, CommonOnce, IsGroup, IsIntegerScalar}
 use Rattle.f77_tree.specs.Kinds.{IsProper, IsOfKind, IsAssignment}
 use Rattle.f77_tree.specs.Control.{EndsWithEnd, SuccessorsExist, HasLabel, labels_of}
 use Rattle.f77_tree.specs.Loops.{AreLoops}
@@ -72,29 +71,6 @@ pub record AreExecs (names : List NameInfo) (execs : List Exec) (loops : ℕ) : 
   pub label_count : sum_by (λ exec. length (labels_of exec.kind)) execs ≤ 4000
 
 -- ---- declarations
-
-abbrev pub IsBlock : Option (List ℕ) → Type 0
-IsBlock None = Unit {0}
-IsBlock (Some block) = is_name block ≡ true
-
--- a block of COMMON and names in it
-pub record IsCommonPart (names : List NameInfo) (part : CommonPart) : Type 0 where
-  pub block_name : IsBlock part.block
-  pub some : 0 < length part.decls
-  pub names_known : All (IsCommonName names) part.decls
-
--- the names in COMMON, in order
-abbrev pub common_names : List NameInfo → List CommonPart → List ℕ
-common_names names commons = flat_map (λ part. map (λ decl. index_of names decl.name) part.decls) commons
-
--- no name stands twice in COMMON
-abbrev pub CommonOnce : List NameInfo → List CommonPart → Type 0
-CommonOnce names commons = (j k x : ℕ) → slice_get (common_names names commons) j ≡ Some x → slice_get (common_names names commons) k ≡ Some x → j ≡ k
-
--- two members or more
-pub record IsGroup (names : List NameInfo) (group : List Member) : Type 0 where
-  pub two : 2 ≤ length group
-  pub members : All (IsMember names) group
 
 -- the declarations of a program
 pub record AreDeclarations (names : List NameInfo) (commons : List CommonPart) (groups : List (List Member)) (inits : List InitPart) : Type 0 where
