@@ -3,3 +3,4 @@ pub mod Value
 pub mod Line
 pub mod Execution
 pub mod Run
+pub mod CanRun
