@@ -1,0 +1,64 @@
+-- The line that PRINT writes.
+use Rattle.std.specs.Prelude.{ℕ, ℤ, Bool, true, false, if◌then◌else◌, List, [], ◌∷◌, ◌++◌, map, Option, None, Result, Ok, Err}
+use Rattle.std.specs.Fmt.{signed_decimal}
+use Rattle.op_table.specs.declared.Op.{Op}
+use Rattle.op_table.specs.declared.Op.TheVariants.{Lt, Le, Eq, Ne, Ge, Gt, Not, And, Or, Eqv, Neqv, Truth as Truth_of}
+use Rattle.op_table.specs.declared.Trap.{Trap}
+use Rattle.op_table.specs.Words.{is_true}
+use Rattle.f77_tree.specs.declared.declarations.Kind.{Kind}
+use Rattle.f77_tree.specs.declared.declarations.Kind.TheVariants.{Integer, Logical}
+use Rattle.f77_tree.specs.declared.expressions.Expr.{Expr}
+use Rattle.f77_tree.specs.declared.expressions.Expr.TheVariants.{Const, Truth, Input, Read', Apply'}
+use Rattle.f77_tree.specs.declared.programs.Item.{Item}
+use Rattle.f77_tree.specs.declared.programs.Item.TheVariants.{Value, Chars}
+use Rattle.f77_tree.specs.declared.programs.NameInfo.{NameInfo}
+use Rattle.f77_tree.specs.Value.{value, kind_of, and_then}
+
+-- the kind of an operator's value: relations and operators on truths give truths
+abbrev pub kind_of_op : Op → Kind
+kind_of_op Lt = Logical
+kind_of_op Le = Logical
+kind_of_op Eq = Logical
+kind_of_op Ne = Logical
+kind_of_op Ge = Logical
+kind_of_op Gt = Logical
+kind_of_op Not = Logical
+kind_of_op And = Logical
+kind_of_op Or = Logical
+kind_of_op Eqv = Logical
+kind_of_op Neqv = Logical
+kind_of_op Truth_of = Logical
+kind_of_op _ = Integer
+
+-- the kind of an expression's value
+abbrev pub kind_of_expression : List NameInfo → Expr → Kind
+kind_of_expression names (Const z) = Integer
+kind_of_expression names (Truth b) = Logical
+kind_of_expression names Input = Integer
+kind_of_expression names (Read' name shape subs) = kind_of names name
+kind_of_expression names (Apply' op shape args) = kind_of_op op
+
+-- a value as it is written: a number in decimal, a truth as T or F
+abbrev pub text_of : Kind → ℤ → List ℕ
+text_of Integer z = signed_decimal z
+text_of Logical z = if is_true z then 84 ∷ [] else (70 ∷ [])
+
+-- an item as it is written, or the trap of its expression
+abbrev pub item_text : List NameInfo → List ℤ → Item → Result (List ℕ) Trap
+item_text names store (Value e) = and_then (λ z. Ok (text_of (kind_of_expression names e) z)) (value names store None e)
+item_text names store (Chars text) = Ok text
+
+-- a blank and an item in front of the rest of a line
+abbrev pub item_before : Result (List ℕ) Trap → Result (List ℕ) Trap → Result (List ℕ) Trap
+item_before (Err trap) rest = Err trap
+item_before (Ok text) (Err trap) = Err trap
+item_before (Ok text) (Ok more) = Ok (32 ∷ (text ++ more))
+
+-- one blank before each item, and a line feed at the end; or the first trap from the left
+abbrev pub line_of_texts : List (Result (List ℕ) Trap) → Result (List ℕ) Trap
+line_of_texts [] = Ok (10 ∷ [])
+line_of_texts (text ∷ texts) = item_before text (line_of_texts texts)
+
+-- the line of these items, where each of them has its value
+abbrev pub line_of : List NameInfo → List ℤ → List Item → Result (List ℕ) Trap
+line_of names store items = line_of_texts (map (item_text names store) items)
