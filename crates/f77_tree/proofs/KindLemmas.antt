@@ -1,5 +1,5 @@
 -- Expressions of a well-formed program: they fit its table of names, and their operands and subscripts are a list.
-use Rattle.std.proofs.Common.{◌≡◌, ℕ, zero, suc, ◌<◌, List, [], ◌∷◌, length, get_or, true, refl, sym, ap, subst, ◌∙◌, arith}
+use Rattle.std.proofs.Common.{◌≡◌, zero, suc, ◌<◌, List, length, true, refl, sym, ap, subst, ◌∙◌, arith}
 use Rattle.std.specs.Prelude.{All}
 use mathlib.Core.Former.{Count}
 use Rattle.op_table.specs.declared.Op.{Op}
@@ -12,7 +12,7 @@ use Rattle.f77_tree.specs.declared.expressions.Expr.TheVariants.{Const, Truth, I
 use Rattle.f77_tree.specs.declared.programs.NameInfo.{NameInfo}
 use Rattle.f77_tree.specs.Value.{dims_of, row_length, IsExpression, AllExpressions}
 use Rattle.f77_tree.proofs.AllLemmas.{All-cons}
-use Rattle.f77_tree.specs.Kinds.{IsProper, AllOfKind, IsOfKind, IsProperAccess, is_written, operand_kind, expression_kind}
+use Rattle.f77_tree.specs.Kinds.{IsProper, AllOfKind, IsOfKind, IsProperAccess, is_written, operand_kind}
 
 -- ---- they fit the table
 
@@ -49,6 +49,16 @@ to_row names kind n end_of-Expr all = tt
 to_row names kind n (more_of-Expr e rest) all =
     let head = all zero e (omega arith) in
     (head.proper, head.of_kind, to_row names kind _ rest (λ k d lt. all (suc k) d (omega (arith, lt))))
+
+expressions_row : (names : List NameInfo) (n : _) (row : Row_of-Expr n) → All (IsExpression names) (items-the_row-Expr n row) → AllExpressions names row
+expressions_row names n end_of-Expr all = tt
+expressions_row names n (more_of-Expr e rest) all = (all zero e (omega arith), expressions_row names _ rest (λ k d lt. all (suc k) d (omega (arith, lt))))
+
+-- an operator whose operands fit the table does
+pub operands-expression : (names : List NameInfo) (op : Op) (args : List Expr) → length args ≡ arity_of op → All (IsExpression names) args → IsExpression names (Apply op args)
+operands-expression names op args as_many all =
+    let row = row_of (Apply op args) in
+    ((row_length-list row.0 row.1 ∙ ap length (items_hidden-the_row-Expr-0 args)) ∙ as_many, expressions_row names row.0 row.1 (subst (λ (es : List Expr). All (IsExpression names) es) (sym (items_hidden-the_row-Expr-0 args)) all))
 
 -- ---- operands
 
