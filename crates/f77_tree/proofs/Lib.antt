@@ -1,1 +1,4 @@
+pub mod AllLemmas
+pub mod KindLemmas
 pub mod RunLaws
+pub mod WellFormedLaws

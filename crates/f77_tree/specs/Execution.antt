@@ -8,9 +8,8 @@ use Rattle.op_table.specs.declared.Trap.TheVariants.{Step as NoStep}
 use Rattle.op_table.specs.Words.{is_true, wrapped}
 use Rattle.op_table.specs.Operators.{which_of_three, picked}
 use Rattle.op_table.specs.Trips.{at_least_zero, trip_count}
-use Rattle.f77_tree.specs.declared.expressions.Access.{Access}
 use Rattle.f77_tree.specs.declared.expressions.Expr.{Expr, Row_of-Expr, end_of-Expr, more_of-Expr}
-use Rattle.f77_tree.specs.declared.expressions.Expr.TheVariants.{Const, Truth, Input, Read', Apply'}
+use Rattle.f77_tree.specs.declared.expressions.Expr.TheVariants.{Input, Apply'}
 use Rattle.f77_tree.specs.declared.programs.ExecKind.{ExecKind}
 use Rattle.f77_tree.specs.declared.programs.ExecKind.TheVariants.{Assign, Print, Pass, Test, Sign, Pick, DoStart, DoNext, End}
 use Rattle.f77_tree.specs.declared.programs.NameInfo.{NameInfo}

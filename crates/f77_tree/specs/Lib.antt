@@ -1,6 +1,14 @@
-pub mod Name
-pub mod Value
-pub mod Line
+pub mod CanRun
+pub mod Control
+pub mod Declarations
 pub mod Execution
+pub mod InitialWords
+pub mod Kinds
+pub mod Line
+pub mod Loops
+pub mod Name
+pub mod Places
 pub mod Run
 pub mod Straight
+pub mod Value
+pub mod WellFormed

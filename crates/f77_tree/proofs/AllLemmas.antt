@@ -1,0 +1,31 @@
+-- What holds of each item of a list.
+use Rattle.std.proofs.Common.{◌≡◌, ℕ, zero, suc, ◌<◌, List, [], ◌∷◌, length, Some, subst, arith}
+use Rattle.std.specs.Prelude.{All, slice_get}
+
+module _ {X : Type 0} (P : X → Type 0) where
+  pub All-nil : All P []
+  All-nil k d lt = absurd (omega (arith, lt))
+
+  pub All-cons : (x : X) (xs : List X) → P x → All P xs → All P (x ∷ xs)
+  All-cons x xs holds all zero d lt = holds
+  All-cons x xs holds all (suc k) d lt = all k d (omega (arith, lt))
+
+  pub All-first : (x : X) (xs : List X) → All P (x ∷ xs) → P x
+  All-first x xs all = all zero x (omega arith)
+
+  pub All-rest : (x : X) (xs : List X) → All P (x ∷ xs) → All P xs
+  All-rest x xs all k d lt = all (suc k) d (omega (arith, lt))
+
+  -- it holds of the item at an index
+  pub All-get : (xs : List X) (k : ℕ) (x : X) → All P xs → slice_get xs k ≡ Some x → P x
+  All-get [] k x all is = absurd cc
+  All-get (y ∷ ys) zero x all is =
+      let same : y ≡ x = cc in
+      subst (λ z. P z) same (All-first y ys all)
+  All-get (y ∷ ys) (suc k) x all is = All-get ys k x (All-rest y ys all) is
+
+-- an item at an index lies below the length
+pub get-below : {X : Type 0} (xs : List X) (k : ℕ) (x : X) → slice_get xs k ≡ Some x → k < length xs
+get-below [] k x is = absurd cc
+get-below (y ∷ ys) zero x is = omega arith
+get-below (y ∷ ys) (suc k) x is = omega (arith, get-below ys k x is)
