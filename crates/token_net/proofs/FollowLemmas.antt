@@ -1,5 +1,5 @@
 -- One firing more of a net that is followed.
-use Rattle.std.proofs.Common.{◌≡◌, ℕ, ◌+◌, ◌<◌, List, ◌++◌, take, Option, Some, None, sym, ap, subst, ◌∙◌, add-one, append_assoc}
+use Rattle.std.proofs.Common.{◌≡◌, ℕ, ◌≤◌, ◌+◌, ◌<◌, List, ◌++◌, length, take, Option, Some, None, sym, ap, subst, ◌∙◌, add-one, append_assoc}
 use Rattle.std.specs.Io.KnownBytes.{Appends, Keeps}
 use Rattle.df_io.specs.Write.{AppendsFront}
 use Rattle.f77_tree.specs.declared.programs.Program.{Program}
@@ -53,6 +53,7 @@ module _ (p : Program) (n k : ℕ) (low : lowest_ready p (played p n) ≡ Some k
     marking = played-next m is;
     cut = record {
       count = adds.count;
+      within = subst (λ (o : Option ℕ). adds.count ≤ length (written_if p (played p n) o)) (sym low) adds.within;
       added = subst (λ (o : Option ℕ). Appends old new (written p n ++ take adds.count (written_if p (played p n) o))) (sym low) (Appends-twice old now new (written p n) (take adds.count (bytes_in (line_at p (played p n) k))) before adds.added);
     };
   }

@@ -1,5 +1,5 @@
 -- Firing the lowest ready node again and again, and writing the lines.
-use Rattle.std.specs.Prelude.{◌≡◌, ℕ, suc, ◌<◌, List, ◌++◌, take, Option}
+use Rattle.std.specs.Prelude.{◌≡◌, ℕ, suc, ◌<◌, ◌≤◌, List, ◌++◌, length, take, Option}
 use Rattle.std.specs.Io.KnownBytes.{Appends, Keeps}
 use Rattle.df_io.specs.Write.{AppendsFront}
 use Rattle.f77_tree.specs.declared.programs.Program.{Program}
@@ -13,6 +13,7 @@ use Rattle.token_net.specs.Marking.{Marking, fired, line_at, lowest_ready, bytes
 -- The lines of the first n firings were written, and some bytes of the next firing's line, from the front.
 pub record IsCutAt (p : Program) (n : ℕ) (old new : Option (List ℕ)) : Type 0 where
   pub count : ℕ
+  pub within : count ≤ length (written_if p (played p n) (lowest_ready p (played p n)))
   pub added : Appends old new (written p n ++ take count (written_if p (played p n) (lowest_ready p (played p n))))
 
 -- n firings were made, and their lines written
