@@ -1,0 +1,10 @@
+//! The list type that all crates of the compiler share, and their error for want of memory.
+#![tactic(auto)]
+
+mod copied;
+mod no_memory;
+mod sequence;
+
+pub use copied::Copied;
+pub use no_memory::NoMemory;
+pub use sequence::{CharList, LabelList, NumList, Sequence, WordList};
