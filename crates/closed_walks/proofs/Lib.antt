@@ -1,0 +1,4 @@
+pub mod Walks
+pub mod Reaching
+pub mod Decided
+pub mod Classes
