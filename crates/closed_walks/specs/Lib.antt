@@ -1,2 +1,4 @@
+pub mod Digraph
+pub mod EdgeEnd
 pub mod Graph
 pub mod Walk
