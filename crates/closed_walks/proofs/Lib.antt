@@ -1,5 +1,6 @@
-pub mod Walks
-pub mod Reaching
-pub mod Decided
 pub mod Classes
 pub mod Cuts
+pub mod Decided
+pub mod Digraphs
+pub mod Reaching
+pub mod Walks
