@@ -1,4 +1,5 @@
 pub mod Digraph
 pub mod EdgeEnd
 pub mod Graph
+pub mod Search
 pub mod Walk

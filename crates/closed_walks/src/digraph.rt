@@ -103,6 +103,14 @@ impl Digraph {
         self.ends[e as usize].1
     }
 
+    /// All edges that touch the node, in the order of their numbers.
+    pub(crate) fn edges_at(&self, node: u32) -> &[u32]
+        requires { node < self.now.nodes }
+        ensures { result.now ≡ edges_at self.now node }
+    {
+        self.touching[node as usize].as_slice()
+    }
+
     /// The k-th edge that touches the node, counted from 0 in the order of their numbers. An edge from the node to itself
     /// stands once. It takes one step, and a time that doesn't depend on the graph.
     pub fn edge_at<L: Ledger>(&self, node: u32, k: u32, steps: &mut Steps<L>) -> EdgeEnd
@@ -111,7 +119,7 @@ impl Digraph {
         ensures step { steps.new ≡ steps.old + 1 }
     {
         steps.tick();
-        match self.touching[node as usize].as_slice().get(k as usize) {
+        match self.edges_at(node).get(k as usize) {
             Some(e) => EdgeEnd::Edge(*e),
             None => EdgeEnd::NoMore,
         }

@@ -4,6 +4,8 @@
 mod digraph;
 mod edge_list;
 mod laws;
+mod search;
 
 pub use digraph::{Digraph, EdgeEnd};
 pub use laws::{cuts_are_classes, walks_without};
+pub use search::same_class_plain;
