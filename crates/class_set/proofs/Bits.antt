@@ -1,13 +1,13 @@
 -- Words of 64 bits as sets of numbers.
-use Rattle.std.proofs.Common.{◌≡◌, ◌≢◌, ℕ, zero, suc, ◌+◌, ◌-◌, ◌*◌, ◌/◌, ◌%◌, ◌^◌, ◌<◌, ◌≤◌, min, max, Bool, true, false, ◌||◌, ◌==◌, eqb, List, [], length, get_or, set, replicate, refl, ap, ◌∙◌, sym, subst, ⊎_elim, arith, bit_and, bit_or, get_or-set_same, get_or-set_other, div-le_self, Option, Some, None, MatchOption}
-use Rattle.std.proofs.lemmas.Nat.Bits.{bit_at-zero, shr_and_one, bit_at_and, bit_at_or, bit_at_set_same, bit_at_set_other, bit_at-trailing_zeros, bit_at-lt, bit_at_above}
+use Rattle.std.proofs.Common.{◌≡◌, ◌≢◌, ℕ, zero, ◌+◌, ◌-◌, ◌*◌, ◌/◌, ◌%◌, ◌^◌, ◌<◌, ◌≤◌, min, Bool, true, false, ◌||◌, ◌==◌, List, length, get_or, set, replicate, refl, ap, ◌∙◌, sym, ⊎_elim, arith, bit_and, bit_or, get_or-set_same, get_or-set_other, div-le_self, Option, Some, None, MatchOption}
+use Rattle.std.proofs.lemmas.Nat.Bits.{bit_at-zero, bit_at_and, bit_at_or, bit_at_set_same, bit_at_set_other, bit_at-trailing_zeros, bit_at-lt, bit_at_above}
 use Rattle.std.proofs.lemmas.List.{get_or_past, get_or-replicate, length-replicate}
 use Rattle.std.proofs.lemmas.Bool.{cases_eq, cases_lt}
 use Rattle.std.proofs.lemmas.Bool.Decides.{nat_tests}
 use Rattle.std.proofs.lemmas.Nat.{shr-shr}
 use Rattle.std.specs.Int.Bits.{and_lt}
 use Rattle.std.specs.Int.{bit_at, trailing_zeros, w64}
-use Rattle.class_set.specs.Members.{bit_of, IsAbove, IsNext, IsLast, IsLeast, IsPast, IsLowest, IsClear, first_above}
+use Rattle.class_set.specs.Members.{bit_of, IsNext, IsLast, IsLeast, IsPast, IsLowest, IsClear, first_above}
 
 -- a blank word has no bit
 blank : (i : ℕ) → (bit_at 0 i == 1) ≡ false
@@ -79,12 +79,12 @@ IsLowest-shifted word first fits some =
       set = is_set;
       from = omega arith;
       within = ⊎_elim
-        (λ (h : first + z < 64). h)
-        (λ (h : 64 ≤ first + z). absurd (omega (arith, is_set, bit_at_above word 64 (first + z) fits h)))
-        (cases_lt (first + z) 64);
+          (λ (h : first + z < 64). h)
+          (λ (h : 64 ≤ first + z). absurd (omega (arith, is_set, bit_at_above word 64 (first + z) fits h)))
+          (cases_lt (first + z) 64);
       lowest = λ k above below.
-        let e : first + (k - first) ≡ k = omega arith in
-        ap (bit_at word) (sym e) ∙ sym (shifted word first (k - first)) ∙ found.2 (k - first) (omega arith);
+          let e : first + (k - first) ≡ k = omega arith in
+          ap (bit_at word) (sym e) ∙ sym (shifted word first (k - first)) ∙ found.2 (k - first) (omega arith);
     }
 
 -- a member is a bit of its word
@@ -126,12 +126,12 @@ IsLeast-found words first at low bit in_word begin passed found =
       member = bit_of-at words at bit found.within ∙ ap (λ x. x == 1) found.set;
       from = omega arith;
       least = λ k from below. ⊎_elim
-        (λ (h : k < 64 * at + low). passed k from h)
-        (λ (h : 64 * at + low ≤ k).
-        let e : 64 * at + (k - 64 * at) ≡ k = omega arith in
-        let none : bit_at (get_or words at 0) (k - 64 * at) ≡ 0 = found.lowest (k - 64 * at) (omega arith) (omega arith) in
-        ap (bit_of words) (sym e) ∙ bit_of-at words at (k - 64 * at) (omega arith) ∙ ap (λ x. x == 1) none)
-        (cases_lt k (64 * at + low));
+          (λ (h : k < 64 * at + low). passed k from h)
+          (λ (h : 64 * at + low ≤ k).
+          let e : 64 * at + (k - 64 * at) ≡ k = omega arith in
+          let none : bit_at (get_or words at 0) (k - 64 * at) ≡ 0 = found.lowest (k - 64 * at) (omega arith) (omega arith) in
+          ap (bit_of words) (sym e) ∙ bit_of-at words at (k - 64 * at) (omega arith) ∙ ap (λ x. x == 1) none)
+          (cases_lt k (64 * at + low));
     }
 
 module _ (p : ℕ → Bool) where

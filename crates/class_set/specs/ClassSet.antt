@@ -1,12 +1,7 @@
 -- What a contract sees of a `ClassSet`: which numbers are members.
-use Rattle.std.specs.Prelude.{ℕ, ◌≤◌, Bool}
+use Rattle.std.specs.Prelude.{ℕ, Bool}
 use Rattle.class_set.specs.Members.{bit_of}
 use Rattle.class_set.specs.declared.ClassSet.{ClassSet}
-
--- how many words a set may have
-pub record IsWidth (words : ℕ) : Type 0 where
-  pub some : 1 ≤ words
-  pub few : words ≤ 16
 
 module _ {W : ℕ} where
   -- whether the number is a member

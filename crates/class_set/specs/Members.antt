@@ -1,6 +1,11 @@
 -- Words of 64 bits as sets of numbers.
-use Rattle.std.specs.Prelude.{◌≡◌, ℕ, ◌+◌, ◌*◌, ◌/◌, ◌%◌, ◌<◌, ◌≤◌, Bool, true, false, ◌==◌, slice_index, List, Option, Some, None, IfSome}
+use Rattle.std.specs.Prelude.{◌≡◌, ℕ, ◌+◌, ◌/◌, ◌%◌, ◌<◌, ◌≤◌, Bool, true, false, ◌==◌, slice_index, List, Option, Some, None, IfSome}
 use Rattle.std.specs.Int.{bit_at}
+
+-- how many words a set may have
+pub record IsWidth (words : ℕ) : Type 0 where
+  pub some : 1 ≤ words
+  pub few : words ≤ 16
 
 -- a number is a member of the words where its bit is set, 64 bits a word
 unfoldable pub bit_of : List ℕ → ℕ → Bool

@@ -1,9 +1,8 @@
 //! Small sets of numbers, as of the alias classes that a statement touches.
 #![tactic(auto)]
 
-ghost use Rattle.std.specs.Prelude.{◌≡◌, ◌*◌, ◌<◌, ◌↔◌, ◌==◌, ◌||◌, ℕ, false, true, IsTrue, MatchOption};
-
-ghost use Rattle.class_set.specs.Members.{first_above, IsNext, IsLast};
+ghost use Rattle.std.specs.Prelude.{◌≡◌, ◌*◌, ◌<◌, ◌≤◌, ◌↔◌, ◌==◌, ◌||◌, ℕ, false, true, IsTrue, MatchOption, IfSome, All};
+ghost use Rattle.class_set.specs.Members.{first_above, IsNext, IsLast, IsWidth};
 
 mod words;
 
@@ -16,7 +15,7 @@ pub struct ClassSet<const W: usize> {
 }
 
 impl<const W: usize> ClassSet<W> {
-    ghost use Rattle.class_set.specs.ClassSet.{IsWidth, holds};
+    ghost use Rattle.class_set.specs.ClassSet.{holds};
 
     /// The set with no member.
     pub fn empty() -> Self
@@ -40,7 +39,8 @@ impl<const W: usize> ClassSet<W> {
     /// Whether the number is a member. No number from `64 * W` on is one.
     pub fn holds(&self, n: u32) -> bool
         requires { IsWidth W }
-        ensures { result ≡ holds self.now n }
+        ensures member { result ≡ holds self.now n }
+        ensures beyond { 64 * W ≤ n → result ≡ false }
     {
         let at = (n / 64) as usize;
         at < W && self.words[at] >> (n % 64) & 1 == 1
@@ -67,7 +67,8 @@ impl<const W: usize> ClassSet<W> {
     /// The least member above the number, or the least of all where there is no number.
     pub fn next_after(&self, n: Option<u32>) -> Option<u32>
         requires { IsWidth W }
-        ensures { MatchOption result (IsLast (holds self.now) n) (IsNext (holds self.now) n) }
+        ensures next { MatchOption result (IsLast (holds self.now) n) (IsNext (holds self.now) n) }
+        ensures within { IfSome result (λ m. m < 64 * W) }
     {
         least_from(&self.words, first_above(n))
     }
@@ -80,5 +81,64 @@ fn first_above(n: Option<u32>) -> usize
     match n {
         None => 0,
         Some(n) => n as usize + 1,
+    }
+}
+
+#[cfg(test)]
+mod tests {
+    use super::*;
+
+    fn set_of<const W: usize>(members: &[u32]) -> ClassSet<W>
+        requires width { IsWidth W }
+        requires below { All (λ n. n < 64 * W) members.now }
+    {
+        let mut set = ClassSet::empty();
+        for n in members {
+            set = set.with(*n);
+        }
+        set
+    }
+
+    #[test]
+    fn members_come_in_order(rt: HostRuntime) {
+        let set: ClassSet<2> = set_of(&[64, 3, 127, 63, 3]);
+        let mut at = None;
+        for want in [Some(3), Some(63), Some(64), Some(127), None] {
+            at = set.next_after(at);
+            assert_eq!(rt; at, want);
+        }
+        for (n, want) in [
+            (0, Some(3)),
+            (2, Some(3)),
+            (3, Some(63)),
+            (126, Some(127)),
+            (127, None),
+            (128, None),
+            (u32::MAX, None),
+        ] {
+            assert_eq!(rt; set.next_after(Some(n)), want, "after {n}");
+        }
+        let none: ClassSet<16> = ClassSet::empty();
+        assert_eq!(rt; none.next_after(None), None);
+        assert_eq!(rt; none.with(1023).next_after(Some(0)), Some(1023));
+    }
+
+    #[test]
+    fn sets_join_and_meet(rt: HostRuntime) {
+        for (members, others, meet) in [
+            (&[0, 65], &[65, 66], true),
+            (&[0, 65], &[1, 66], false),
+            (&[63, 64], &[64, 127], true),
+            (&[63, 64], &[62, 65], false),
+        ] {
+            let set: ClassSet<2> = set_of(members);
+            let other: ClassSet<2> = set_of(others);
+            assert_eq!(rt; set.meets(&other), meet);
+            let both = set.union(&other);
+            for n in 0..130 {
+                let want = members.contains(&n) || others.contains(&n);
+                assert_eq!(rt; both.holds(n), want, "{n}");
+            }
+        }
     }
 }

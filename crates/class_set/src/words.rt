@@ -1,6 +1,6 @@
 //! Sets of numbers as words of 64 bits, a word at a time.
 
-ghost use Rattle.std.specs.Prelude.{◌≡◌, ◌<◌, ◌≤◌, ◌↔◌, ◌||◌, ℕ, false, true, IsTrue, MatchOption, length};
+ghost use Rattle.std.specs.Prelude.{◌≡◌, ◌*◌, ◌<◌, ◌≤◌, ◌↔◌, ◌||◌, ℕ, false, true, IsTrue, MatchOption, IfSome, length};
 ghost use Rattle.class_set.specs.Members.{bit_of, IsLowest, IsClear, IsLeast, IsPast};
 
 /// Adds the members of the others, which have as many words.
@@ -42,7 +42,8 @@ fn lowest_from(word: u64, from: u32) -> Option<u32>
 /// The least member from a number on.
 pub(crate) fn least_from(words: &[u64], first: usize) -> Option<u32>
     requires { length words.now ≤ 16 }
-    ensures { MatchOption result (IsPast (bit_of words.now) first) (IsLeast (bit_of words.now) first) }
+    ensures least { MatchOption result (IsPast (bit_of words.now) first) (IsLeast (bit_of words.now) first) }
+    ensures within { IfSome result (λ m. m < 64 * length words.now) }
 {
     let mut low = (first % 64) as u32;
     for at in first / 64..words.len() {

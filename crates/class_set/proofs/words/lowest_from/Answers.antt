@@ -1,4 +1,4 @@
-use Rattle.std.proofs.Common.{arith, ◌<◌, ◌≤◌, ◌/◌, ◌^◌}
+use Rattle.std.proofs.Common.{arith}
 use Rattle.class_set.proofs.Bits.{IsClear-shifted, IsLowest-shifted}
 use Rattle.class_set.proofs.words.lowest_from.Goals as goal
 

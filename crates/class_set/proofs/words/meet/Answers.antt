@@ -1,4 +1,4 @@
-use Rattle.std.proofs.Common.{arith, refl, ◌<◌, ◌≤◌, ◌/◌, length, ⊎_elim}
+use Rattle.std.proofs.Common.{arith, refl, ◌<◌, ◌≤◌, ◌/◌, ⊎_elim}
 use Rattle.std.proofs.lemmas.Bool.{cases_lt, false≢true}
 use Rattle.class_set.proofs.Bits.{common_bit, no_common, no_common_past, Common}
 use Rattle.class_set.proofs.words.meet.Goals as goal
@@ -9,10 +9,11 @@ returns-then-words-i-ne0 c =
     (λ _. (found.number, found.first, found.second), λ _. refl)
 
 pub returns : goal.returns
-returns c =
-    (λ h. absurd (false≢true h),
-    λ (k, first, second).
-    ⊎_elim
-    (λ (h : k / 64 < c.loop-i.i). absurd (no_common c.args.words.now c.args.others.now k (c.loop-i.invariant (k / 64) h) first second))
-    (λ (h : c.loop-i.i ≤ k / 64). absurd (no_common_past c.args.words.now k (omega arith) first))
-    (cases_lt (k / 64) c.loop-i.i))
+returns c = (
+  λ h. absurd (false≢true h),
+  λ (k, first, second).
+      ⊎_elim
+      (λ (h : k / 64 < c.loop-i.i). absurd (no_common c.args.words.now c.args.others.now k (c.loop-i.invariant (k / 64) h) first second))
+      (λ (h : c.loop-i.i ≤ k / 64). absurd (no_common_past c.args.words.now k (omega arith) first))
+      (cases_lt (k / 64) c.loop-i.i),
+)

@@ -1,4 +1,4 @@
-use Rattle.std.proofs.Common.{arith, ⊎_elim, ◌≡◌, ◌<◌, ◌≤◌, ◌/◌, length, get_or, bit_or, ◌∙◌}
+use Rattle.std.proofs.Common.{arith, ⊎_elim, ◌<◌, ◌≤◌, ◌/◌, ◌∙◌}
 use Rattle.std.proofs.lemmas.Bool.{cases_lt}
 use Rattle.class_set.proofs.Bits.{bit_of-or, or_past}
 use Rattle.class_set.proofs.words.unite.Goals as goal
