@@ -15,12 +15,13 @@ not_held w b avoids holds = false≢true (sym (Avoids-at (only b) w b avoids hol
 module _ (g : Graph) where
   -- Each closed walk with a holds b exactly where a lies on no closed walk of the graph without b.
   pub only_with : (a b : ℕ) → ((w : List ℕ) → IsClosed g w → Holds w a → Holds w b) ↔ IsOnlyOnWalksWith g b a
-  only_with a b =
-      (λ each w closed avoids holds. not_held w b avoids (each w closed holds),
-      λ none w closed holds. ⊎_elim
-      (λ h. h)
-      (λ missing. absurd (none w closed (Avoids-only w b missing) holds))
-      (cases_Holds w b))
+  only_with a b = (
+    λ each w closed avoids holds. not_held w b avoids (each w closed holds),
+    λ none w closed holds. ⊎_elim
+        (λ h. h)
+        (λ missing. absurd (none w closed (Avoids-only w b missing) holds))
+        (cases_Holds w b),
+  )
 
   -- the way back to where a begins, of a closed walk without b
   pub Reach-closed : (a b : ℕ) (w : List ℕ) → IsClosed g w → Holds w a → (Holds w b → ⊥) → Reach g (only b) (to g a) (from g a)

@@ -88,7 +88,7 @@ module _ (g : Graph) where
 
     not_past : Reach g (only b) (to g a) (to g b) → ⊥
     not_past past = elim (first_of_two a b (to g b) (from g b) (strong (to g b) (from g b) (sound.ends b b_edge) (sound.begins b b_edge))) [
-      meets_none r ↦ no_back (without_first a b (to g b) (from g b) r)
+      | meets_none r ↦ no_back (without_first a b (to g b) (from g b) r)
       | meets_a front back ↦ no_way (join g (only b) (to g a) (to g b) (from g a) past (without_second a b (to g b) (from g a) front))
       | meets_b front back ↦ no_back (without_first a b (to g b) (from g b) front)
     ]
@@ -96,7 +96,7 @@ module _ (g : Graph) where
     -- a way from b's head to an edge that goes into the set, and on from there to b
     not_round : (e : ℕ) → e < edge_count g → Reach g (either a b) (to g b) (to g e) → Reach g (only b) (to g a) (to g e) → ⊥
     not_round e edge round inside = elim (first_of_two a b (to g e) (from g b) (strong (to g e) (from g b) (sound.ends e edge) (sound.begins b b_edge))) [
-      meets_none r ↦ no_back (without_first a b (to g b) (from g b) (join g (either a b) (to g b) (to g e) (from g b) round r))
+      | meets_none r ↦ no_back (without_first a b (to g b) (from g b) (join g (either a b) (to g b) (to g e) (from g b) round r))
       | meets_a front back ↦ no_way (join g (only b) (to g a) (to g e) (from g a) inside (without_second a b (to g e) (from g a) front))
       | meets_b front back ↦ no_back (without_first a b (to g b) (from g b) (join g (either a b) (to g b) (to g e) (from g b) round front))
     ]
@@ -104,7 +104,7 @@ module _ (g : Graph) where
     -- no other edge enters the set
     not_entered : (e : ℕ) → e < edge_count g → e ≢ a → e ≢ b → Reach g (only b) (to g a) (to g e) → (Reach g (only b) (to g a) (from g e) → ⊥) → ⊥
     not_entered e edge not_a not_b inside outside = elim (last_of_two a b (to g a) (from g e) (strong (to g a) (from g e) (sound.ends a a_edge) (sound.begins e edge))) [
-      meets_none r ↦ outside (without_second a b (to g a) (from g e) r)
+      | meets_none r ↦ outside (without_second a b (to g a) (from g e) r)
       | meets_a front back ↦ outside (without_second a b (to g a) (from g e) back)
       | meets_b front back ↦ not_round e edge (along_last g (either a b) e (to g b) edge (or_from (e == a) (e == b) (free_of a e not_a) (free_of b e not_b)) back) inside
     ]

@@ -101,15 +101,15 @@ module _ (g : Graph) (avoided : ℕ → Bool) where
       (from_new k v (subst (λ n. passes_below (suc k) n v ≡ true) h second)))
       (λ (h : (x < k) ⊎ (k < x)). ⊎_elim
       (λ (l : x < k). ⊎_elim
-        (λ (a : passes_below k u x ≡ true). ⊎_elim
-        (λ (b : passes_below k x v ≡ true). passes_more k u v (passes_joined k u x v l a b))
-        (λ b. let p = and_parts (passes_below k x k) (passes_below k k v) b in passes_through k u v (passes_joined k u x k l a p.0) p.1)
-        (or_cases (passes_below k x v) (passes_below k x k && passes_below k k v) second))
-        (λ a. let p = and_parts (passes_below k u k) (passes_below k k x) a in ⊎_elim
-        (λ (b : passes_below k x v ≡ true). passes_through k u v p.0 (passes_joined k k x v l p.1 b))
-        (λ b. let q = and_parts (passes_below k x k) (passes_below k k v) b in passes_through k u v p.0 q.1)
-        (or_cases (passes_below k x v) (passes_below k x k && passes_below k k v) second))
-        (or_cases (passes_below k u x) (passes_below k u k && passes_below k k x) first))
+      (λ (a : passes_below k u x ≡ true). ⊎_elim
+      (λ (b : passes_below k x v ≡ true). passes_more k u v (passes_joined k u x v l a b))
+      (λ b. let p = and_parts (passes_below k x k) (passes_below k k v) b in passes_through k u v (passes_joined k u x k l a p.0) p.1)
+      (or_cases (passes_below k x v) (passes_below k x k && passes_below k k v) second))
+      (λ a. let p = and_parts (passes_below k u k) (passes_below k k x) a in ⊎_elim
+      (λ (b : passes_below k x v ≡ true). passes_through k u v p.0 (passes_joined k k x v l p.1 b))
+      (λ b. let q = and_parts (passes_below k x k) (passes_below k k v) b in passes_through k u v p.0 q.1)
+      (or_cases (passes_below k x v) (passes_below k x k && passes_below k k v) second))
+      (or_cases (passes_below k u x) (passes_below k u k && passes_below k k x) first))
       (λ (l : k < x). absurd (omega arith))
       h)
       (cases_order x k)

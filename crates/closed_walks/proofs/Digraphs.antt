@@ -6,27 +6,27 @@ use Rattle.closed_walks.specs.Graph.{Graph, IsGraph, edge_count, from, to, with_
 use Rattle.closed_walks.specs.Digraph.{Keeps}
 
 -- an edge that is there already keeps its ends
-from-old : (g : Graph) (u v e : ℕ) → e < edge_count g → from (with_edge g u v) e ≡ from g e
+pub from-old : (g : Graph) (u v e : ℕ) → e < edge_count g → from (with_edge g u v) e ≡ from g e
 unfolding from
 from-old g u v e edge = ap (λ p. p.0) (get_or_append_left g.edges ((u, v) ∷ []) (0, 0) e edge)
 
-to-old : (g : Graph) (u v e : ℕ) → e < edge_count g → to (with_edge g u v) e ≡ to g e
+pub to-old : (g : Graph) (u v e : ℕ) → e < edge_count g → to (with_edge g u v) e ≡ to g e
 unfolding to
 to-old g u v e edge = ap (λ p. p.1) (get_or_append_left g.edges ((u, v) ∷ []) (0, 0) e edge)
 
-from-new : (g : Graph) (u v : ℕ) → from (with_edge g u v) (edge_count g) ≡ u
+pub from-new : (g : Graph) (u v : ℕ) → from (with_edge g u v) (edge_count g) ≡ u
 unfolding from
 from-new g u v = ap (λ p. p.0) (get_or_push g.edges (u, v) (0, 0) (edge_count g) refl)
 
-to-new : (g : Graph) (u v : ℕ) → to (with_edge g u v) (edge_count g) ≡ v
+pub to-new : (g : Graph) (u v : ℕ) → to (with_edge g u v) (edge_count g) ≡ v
 unfolding to
 to-new g u v = ap (λ p. p.1) (get_or_push g.edges (u, v) (0, 0) (edge_count g) refl)
 
-edge_count-with : (g : Graph) (u v : ℕ) → edge_count (with_edge g u v) ≡ suc (edge_count g)
+pub edge_count-with : (g : Graph) (u v : ℕ) → edge_count (with_edge g u v) ≡ suc (edge_count g)
 edge_count-with g u v = omega (arith, length-append g.edges ((u, v) ∷ []))
 
 -- an edge of the larger graph is an old one or the new one
-cases_edge : (g : Graph) (u v e : ℕ) → e < edge_count (with_edge g u v) → (e < edge_count g) ⊎ (e ≡ edge_count g)
+pub cases_edge : (g : Graph) (u v e : ℕ) → e < edge_count (with_edge g u v) → (e < edge_count g) ⊎ (e ≡ edge_count g)
 cases_edge g u v e edge =
     let more = edge_count-with g u v in
     ⊎_elim (λ h. inr h) (⊎_elim (λ h. inl h) (λ h. absurd (omega arith))) (cases_order e (edge_count g))
@@ -34,13 +34,13 @@ cases_edge g u v e edge =
 pub IsGraph-with : (g : Graph) (u v : ℕ) → IsGraph g → u < g.nodes → v < g.nodes → IsGraph (with_edge g u v)
 IsGraph-with g u v sound begins ends = record {
   begins = λ e edge. ⊎_elim
-    (λ (old : e < edge_count g). rw (from-old g u v e old) (sound.begins e old))
-    (λ (new : e ≡ edge_count g). rw (new, from-new g u v) begins)
-    (cases_edge g u v e edge);
+      (λ (old : e < edge_count g). rw (from-old g u v e old) (sound.begins e old))
+      (λ (new : e ≡ edge_count g). rw (new, from-new g u v) begins)
+      (cases_edge g u v e edge);
   ends = λ e edge. ⊎_elim
-    (λ (old : e < edge_count g). rw (to-old g u v e old) (sound.ends e old))
-    (λ (new : e ≡ edge_count g). rw (new, to-new g u v) ends)
-    (cases_edge g u v e edge);
+      (λ (old : e < edge_count g). rw (to-old g u v e old) (sound.ends e old))
+      (λ (new : e ≡ edge_count g). rw (new, to-new g u v) ends)
+      (cases_edge g u v e edge);
 }
 
 touching_below-with : (g : Graph) (u v node k : ℕ) → k ≤ edge_count g → touching_below (with_edge g u v) node k ≡ touching_below g node k

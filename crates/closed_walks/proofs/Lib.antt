@@ -3,6 +3,7 @@ pub mod Cuts
 pub mod Decided
 pub mod Digraphs
 pub mod Reaching
+pub mod Reversals
 pub mod Searches
 pub mod Touching
 pub mod Walks

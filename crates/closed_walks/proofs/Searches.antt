@@ -50,9 +50,9 @@ module _ (g : Graph) (without node : ℕ) (visited : List Bool) (frontier : List
     nodes = o.nodes;
     waiting = o.waiting;
     leaving = λ e edge other tail head. ⊎_elim
-      (λ h. inl h)
-      (λ (begins : from g e ≡ node). inr (begins, Holds-edges_at-from g node e edge begins))
-      (o.leaving e edge other tail head);
+        (λ h. inl h)
+        (λ (begins : from g e ≡ node). inr (begins, Holds-edges_at-from g node e edge begins))
+        (o.leaving e edge other tail head);
   }
 
   pub IsOpen-done : (edges : List ℕ) (k : ℕ) → length edges ≤ k → IsOpen g without visited frontier (RestOf g node (drop k edges)) → IsOpen g without visited frontier Nothing
@@ -60,9 +60,9 @@ module _ (g : Graph) (without node : ℕ) (visited : List Bool) (frontier : List
     nodes = o.nodes;
     waiting = o.waiting;
     leaving = λ e edge other tail head. ⊎_elim
-      (λ h. inl h)
-      (λ rest. absurd (Holds-drop_end edges k e end rest.1))
-      (o.leaving e edge other tail head);
+        (λ h. inl h)
+        (λ rest. absurd (Holds-drop_end edges k e end rest.1))
+        (o.leaving e edge other tail head);
   }
 
   module _ (edges : List ℕ) (k : ℕ) (within : k < length edges) (o : IsOpen g without visited frontier (RestOf g node (drop k edges))) where
@@ -72,13 +72,13 @@ module _ (g : Graph) (without node : ℕ) (visited : List Bool) (frontier : List
       nodes = o.nodes;
       waiting = o.waiting;
       leaving = λ e edge other tail head. ⊎_elim
-        (λ h. inl h)
-        (λ rest. ⊎_elim
-        (λ (same : get_or edges k 0 ≡ e).
-        absurd (none (ap (from g) same ∙ rest.0) (λ is. other (sym same ∙ is)) (ap (λ x. is_visited visited (to g x)) same ∙ head)))
-        (λ (later : Holds (drop (k + 1) edges) e). inr (rest.0, later))
-        (Holds-drop edges k e within rest.1))
-        (o.leaving e edge other tail head);
+          (λ h. inl h)
+          (λ rest. ⊎_elim
+          (λ (same : get_or edges k 0 ≡ e).
+          absurd (none (ap (from g) same ∙ rest.0) (λ is. other (sym same ∙ is)) (ap (λ x. is_visited visited (to g x)) same ∙ head)))
+          (λ (later : Holds (drop (k + 1) edges) e). inr (rest.0, later))
+          (Holds-drop edges k e within rest.1))
+          (o.leaving e edge other tail head);
     }
 
     -- an edge that leads to a node that isn't visited
@@ -86,23 +86,23 @@ module _ (g : Graph) (without node : ℕ) (visited : List Bool) (frontier : List
     IsOpen-visit n leads inside = record {
       nodes = length-set visited n true ∙ o.nodes;
       waiting = λ v holds. ⊎_elim
-        (λ (h : Holds frontier v). visited-old visited n v inside (o.waiting v h))
-        (⊎_elim
-        (λ (same : n ≡ v). subst (λ x. is_visited (set visited n true) x ≡ true) same (get_or-set_same visited n true false inside))
-        (λ none. absurd none))
-        (Holds-append frontier (n ∷ []) v holds);
+          (λ (h : Holds frontier v). visited-old visited n v inside (o.waiting v h))
+          (⊎_elim
+          (λ (same : n ≡ v). subst (λ x. is_visited (set visited n true) x ≡ true) same (get_or-set_same visited n true false inside))
+          (λ none. absurd none))
+          (Holds-append frontier (n ∷ []) v holds);
       leaving = λ e edge other tail head.
-        let outside = visited-not visited n (to g e) inside head in
-        ⊎_elim
-        (λ (same : from g e ≡ n). inl (Holds-right frontier (n ∷ []) (from g e) (inl (sym same))))
-        (λ (old : is_visited visited (from g e) ≡ true). ⊎_elim
-        (λ (h : Holds frontier (from g e)). inl (Holds-left frontier (n ∷ []) (from g e) h))
-        (λ rest. ⊎_elim
-        (λ (same : get_or edges k 0 ≡ e). absurd (outside.0 (ap (to g) (sym same) ∙ sym leads)))
-        (λ (later : Holds (drop (k + 1) edges) e). inr (rest.0, later))
-        (Holds-drop edges k e within rest.1))
-        (o.leaving e edge other old outside.1))
-        (visited-cases visited n (from g e) tail);
+          let outside = visited-not visited n (to g e) inside head in
+          ⊎_elim
+          (λ (same : from g e ≡ n). inl (Holds-right frontier (n ∷ []) (from g e) (inl (sym same))))
+          (λ (old : is_visited visited (from g e) ≡ true). ⊎_elim
+          (λ (h : Holds frontier (from g e)). inl (Holds-left frontier (n ∷ []) (from g e) h))
+          (λ rest. ⊎_elim
+          (λ (same : get_or edges k 0 ≡ e). absurd (outside.0 (ap (to g) (sym same) ∙ sym leads)))
+          (λ (later : Holds (drop (k + 1) edges) e). inr (rest.0, later))
+          (Holds-drop edges k e within rest.1))
+          (o.leaving e edge other old outside.1))
+          (visited-cases visited n (from g e) tail);
     }
 
 -- What has been done for the node after its first k edges, since the marks and the frontier were as before.
@@ -129,9 +129,9 @@ module _ (g : Graph) (without node : ℕ) (before : List Bool) (first : List ℕ
     IsVisiting-visit n edge begins other ends inside blank = record {
       leaves = IsOpen-visit g without node visited frontier edges k within s.leaves n ends inside;
       grown = λ v now. ⊎_elim
-        (λ (same : v ≡ n). inr (record { edge = get_or edges k 0; exists = edge; other = other; begins = begins; ends = sym ends ∙ sym same }))
-        (λ (old : is_visited visited v ≡ true). s.grown v old)
-        (visited-cases visited n v now);
+          (λ (same : v ≡ n). inr (record { edge = get_or edges k 0; exists = edge; other = other; begins = begins; ends = sym ends ∙ sym same }))
+          (λ (old : is_visited visited v ≡ true). s.grown v old)
+          (visited-cases visited n v now);
       kept = λ v old. visited-old visited n v inside (s.kept v old);
       work = omega (arith, s.work, blanks-set visited n inside blank, length-append frontier (n ∷ []));
     }
@@ -145,12 +145,12 @@ module _ (g : Graph) (without : ℕ) (visited : List Bool) where
     nodes = o.nodes;
     waiting = λ v holds. o.waiting v (rw parts (Holds-left frontier (u ∷ []) v holds));
     leaving = λ e edge other tail head. ⊎_elim
-      (λ (h : Holds all (from g e)). ⊎_elim
-      (λ (l : Holds frontier (from g e)). inl l)
-      (⊎_elim (λ (same : u ≡ from g e). inr (sym same)) (λ none. absurd none))
-      (Holds-append frontier (u ∷ []) (from g e) (rw parts at h)))
-      (λ none. absurd none)
-      (o.leaving e edge other tail head);
+        (λ (h : Holds all (from g e)). ⊎_elim
+        (λ (l : Holds frontier (from g e)). inl l)
+        (⊎_elim (λ (same : u ≡ from g e). inr (sym same)) (λ none. absurd none))
+        (Holds-append frontier (u ∷ []) (from g e) (rw parts at h)))
+        (λ none. absurd none)
+        (o.leaving e edge other tail head);
   }
 
   pub popped_visited : (all frontier : List ℕ) (u : ℕ) → all ≡ frontier ++ u ∷ [] → IsOpen g without visited all Nothing → is_visited visited u ≡ true

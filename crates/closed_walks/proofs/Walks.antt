@@ -72,13 +72,13 @@ module _ (g : Graph) where
     edge = edge;
     leads = Walk-append (to g e) base (from g e) back front after before;
     within = λ f holds. ⊎_elim
-      (λ (h : Holds back f). Holds-right front (e ∷ back) f (inr h))
-      (λ (h : Holds front f). Holds-left front (e ∷ back) f h)
-      (Holds-append back front f holds);
+        (λ (h : Holds back f). Holds-right front (e ∷ back) f (inr h))
+        (λ (h : Holds front f). Holds-left front (e ∷ back) f h)
+        (Holds-append back front f holds);
     covers = λ f holds. ⊎_elim
-      (λ (h : Holds front f). inr (Holds-right back front f h))
-      (⊎_elim (λ same. inl same) (λ h. inr (Holds-left back front f h)))
-      (Holds-append front (e ∷ back) f holds);
+        (λ (h : Holds front f). inr (Holds-right back front f h))
+        (⊎_elim (λ same. inl same) (λ h. inr (Holds-left back front f h)))
+        (Holds-append front (e ∷ back) f holds);
   }
 
   pub rotate : (w : List ℕ) (e : ℕ) → IsClosed g w → Holds w e → IsAround w e

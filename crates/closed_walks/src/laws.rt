@@ -8,12 +8,10 @@ ghost use Rattle.closed_walks.specs.Walk.{IsClosed, Holds, IsOnlyOnWalksWith, Is
 /// without the other.
 pub fn walks_without()
     ensures { (g : Graph) (a b : ℕ) → ((w : List ℕ) → IsClosed g w → Holds w a → Holds w b) ↔ IsOnlyOnWalksWith g b a }
-{
-}
+{}
 
 /// In a strongly connected graph two different edges are cycle equivalent exactly where they are a cut: of all edges they
 /// alone join nodes of some set with nodes outside it.
 pub fn cuts_are_classes()
     ensures { (g : Graph) (a b : ℕ) → IsGraph g → IsStrong g → a < edge_count g → b < edge_count g → a ≢ b → IsCycleEquivalent g a b ↔ ((side : ℕ → Bool) × IsCut g side a b) }
-{
-}
+{}

@@ -72,21 +72,21 @@ module _ (g : Graph) where
       below = λ j h. let l = n.below j h in omega (arith, l);
       own = λ j h. old_number k (get_or low j 0) (n.below j h) ∙ n.own j h;
       within = λ d h. ⊎_elim
-        (λ (l : d < e). rw (old_number k d l) (n.within d l))
-        (λ (same : d ≡ e). rw (same, new_number k) is_class)
-        (cases_below d e h);
+          (λ (l : d < e). rw (old_number k d l) (n.within d l))
+          (λ (same : d ≡ e). rw (same, new_number k) is_class)
+          (cases_below d e h);
       same = λ d h. ⊎_elim
-        (λ (l : d < e). rw (old_number k d l) (n.same d l))
-        (λ (same : d ≡ e). rw (same, new_number k) equivalent)
-        (cases_below d e h);
+          (λ (l : d < e). rw (old_number k d l) (n.same d l))
+          (λ (same : d ≡ e). rw (same, new_number k) equivalent)
+          (cases_below d e h);
       apart = n.apart;
       count = omega (arith, fresh-push classes k, n.count);
       lowest = λ d h first. ⊎_elim
-        (λ (l : d < e). old_lowest k d l first)
-        (λ (same : d ≡ e).
-        let first_e : IsFirst (classes ++ k ∷ []) e = subst (λ x. IsFirst (classes ++ k ∷ []) x) same first in
-        absurd (first_e (get_or low k 0) (n.below k is_class) (old_number k (get_or low k 0) (n.below k is_class) ∙ n.own k is_class ∙ sym (new_number k))))
-        (cases_below d e h);
+          (λ (l : d < e). old_lowest k d l first)
+          (λ (same : d ≡ e).
+          let first_e : IsFirst (classes ++ k ∷ []) e = subst (λ x. IsFirst (classes ++ k ∷ []) x) same first in
+          absurd (first_e (get_or low k 0) (n.below k is_class) (old_number k (get_or low k 0) (n.below k is_class) ∙ n.own k is_class ∙ sym (new_number k))))
+          (cases_below d e h);
     }
 
     old_low : (k : ℕ) → k < length low → get_or (low ++ e ∷ []) k 0 ≡ get_or low k 0
@@ -104,30 +104,30 @@ module _ (g : Graph) where
       edges = omega (arith, length-append classes (length low ∷ []), n.edges);
       few = omega (arith, n.few, more_low);
       below = λ k h. ⊎_elim
-        (λ (l : k < length low). rw (old_low k l) (let b = n.below k l in omega (arith, b)))
-        (λ (same : k ≡ length low). rw (same, new_low) (omega arith))
-        (cases_below k (length low) (omega (arith, more_low)));
+          (λ (l : k < length low). rw (old_low k l) (let b = n.below k l in omega (arith, b)))
+          (λ (same : k ≡ length low). rw (same, new_low) (omega arith))
+          (cases_below k (length low) (omega (arith, more_low)));
       own = λ k h. ⊎_elim
-        (λ (l : k < length low). rw (old_low k l, old_number (length low) (get_or low k 0) (n.below k l)) (n.own k l))
-        (λ (same : k ≡ length low). rw (same, new_low) (new_number (length low)))
-        (cases_below k (length low) (omega (arith, more_low)));
+          (λ (l : k < length low). rw (old_low k l, old_number (length low) (get_or low k 0) (n.below k l)) (n.own k l))
+          (λ (same : k ≡ length low). rw (same, new_low) (new_number (length low)))
+          (cases_below k (length low) (omega (arith, more_low)));
       within = λ d h. ⊎_elim
-        (λ (l : d < e). rw (old_number (length low) d l) (let b = n.within d l in omega (arith, b, more_low)))
-        (λ (same : d ≡ e). rw (same, new_number (length low)) (omega (arith, more_low)))
-        (cases_below d e h);
+          (λ (l : d < e). rw (old_number (length low) d l) (let b = n.within d l in omega (arith, b, more_low)))
+          (λ (same : d ≡ e). rw (same, new_number (length low)) (omega (arith, more_low)))
+          (cases_below d e h);
       same = λ d h. ⊎_elim
-        (λ (l : d < e). rw (old_number (length low) d l, old_low (get_or classes d 0) (n.within d l)) (n.same d l))
-        (λ (same : d ≡ e). rw (same, new_number (length low), new_low) (equivalent_itself g e))
-        (cases_below d e h);
+          (λ (l : d < e). rw (old_number (length low) d l, old_low (get_or classes d 0) (n.within d l)) (n.same d l))
+          (λ (same : d ≡ e). rw (same, new_number (length low), new_low) (equivalent_itself g e))
+          (cases_below d e h);
       apart = λ j k less h equivalent. ⊎_elim
-        (λ (l : k < length low). n.apart j k less l (rw (old_low k l, old_low j (omega arith)) at equivalent))
-        (λ (same : k ≡ length low). none j (omega arith) (rw (same, new_low, old_low j (omega arith)) at equivalent))
-        (cases_below k (length low) (omega (arith, more_low)));
+          (λ (l : k < length low). n.apart j k less l (rw (old_low k l, old_low j (omega arith)) at equivalent))
+          (λ (same : k ≡ length low). none j (omega arith) (rw (same, new_low, old_low j (omega arith)) at equivalent))
+          (cases_below k (length low) (omega (arith, more_low)));
       count = omega (arith, fresh-push classes (length low), n.count, more_low);
       lowest = λ d h first. ⊎_elim
-        (λ (l : d < e). old_lowest (length low) d l first)
-        (λ (same : d ≡ e). rw same (new_number (length low) ∙ sym n.count ∙ ap fresh (sym (old_front (length low) e (omega arith) ∙ whole_front))))
-        (cases_below d e h);
+          (λ (l : d < e). old_lowest (length low) d l first)
+          (λ (same : d ≡ e). rw same (new_number (length low) ∙ sym n.count ∙ ap fresh (sym (old_front (length low) e (omega arith) ∙ whole_front))))
+          (cases_below d e h);
     }
 
     -- equal numbers are those of equivalent edges
@@ -178,8 +178,8 @@ lower_below classes e (suc k) few = ⊎_elim
     (cases_eq (get_or classes k 0) (get_or classes e 0)))
     (lower_below classes e k (omega arith))
   where
-  below_suc : (d k : ℕ) → d < suc k → (d < k) ⊎ (d ≡ k)
-  below_suc d k h = ⊎_elim (λ same. inr same) (⊎_elim (λ l. inl l) (λ m. absurd (omega arith))) (cases_order d k)
+    below_suc : (d k : ℕ) → d < suc k → (d < k) ⊎ (d ≡ k)
+    below_suc d k h = ⊎_elim (λ same. inr same) (⊎_elim (λ l. inl l) (λ m. absurd (omega arith))) (cases_order d k)
 
 cases_lower : (classes : List ℕ) (e : ℕ) → HasLower classes e ⊎ IsFirst classes e
 cases_lower classes e = lower_below classes e e (omega arith)

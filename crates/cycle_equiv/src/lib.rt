@@ -6,6 +6,9 @@ ghost use Rattle.closed_walks.specs.Graph.{Graph, edge_count};
 ghost use Rattle.closed_walks.specs.Walk.{IsStrong, IsCycleEquivalent};
 ghost use Rattle.cycle_equiv.specs.Numbering.{IsNumbering};
 
+#[cfg(test)]
+mod tests;
+
 use closed_walks::{Digraph, same_class_plain};
 use df_sequence::NoMemory;
 use std::alloc::Global;
@@ -59,5 +62,4 @@ fn class_of(alloc: Global, g: &Digraph, lowest: &[u32], e: u32) -> Result<u32, N
 /// The clause of `edge_classes` determines the numbers.
 pub fn one_numbering()
     ensures { (g : Graph) (classes others : List ℕ) → IsNumbering g classes → IsNumbering g others → classes ≡ others }
-{
-}
+{}

@@ -18,13 +18,13 @@ loop-e-preserved g c =
     let first = subst (λ (xs : List ℕ). (k : ℕ) → k < class → IsCycleEquivalent graph e (get_or xs k 0) → ⊥) c.deref.ensures.value c.in_ok-class.ensures.first in
     rw c.in_ok-push-2.ensures.items
     (elim c.if-class-len.branch [
-      then-class-len+in_ok-push w ↦
-        let new : class ≡ length low = w.if-class-len.true ∙ len in
-        rw (w.lowest-is, w.in_ok-push.ensures.items, new)
-        (IsNumbered-new graph e low classes c.loop-e.invariant (λ k h equivalent. first k (omega (arith, new)) equivalent))
+      | then-class-len+in_ok-push w ↦
+          let new : class ≡ length low = w.if-class-len.true ∙ len in
+          rw (w.lowest-is, w.in_ok-push.ensures.items, new)
+          (IsNumbered-new graph e low classes c.loop-e.invariant (λ k h equivalent. first k (omega (arith, new)) equivalent))
       | else-class-len w ↦
-        let old : class < length low = omega (arith, within, w.if-class-len.false, len) in
-        rw w.lowest-is (IsNumbered-old graph e low classes c.loop-e.invariant class old (same old))
+          let old : class < length low = omega (arith, within, w.if-class-len.false, len) in
+          rw w.lowest-is (IsNumbered-old graph e low classes c.loop-e.invariant class old (same old))
     ])
 
 pub returns : goal.returns

@@ -32,20 +32,20 @@ loop-e-preserved c =
     record {
       edges = c.loop-e.invariant.edges;
       visiting = elim c.if-from-node.branch [
-        then-from-node+then-e-without+then-not-index+in_ok-push w ↦
-          rw (w.visited-is, w.frontier-is, w.in_ok-push.ensures.items)
-          (IsVisiting-visit g c.args.without c.args.node c.args.visited.now.items c.args.frontier.now.items edges k c.loop-e-test.true visited frontier c.loop-e.invariant.visiting n
-          (edge_exists g c.args.node edges k c.loop-e.invariant.edges c.loop-e-test.true)
-          (sym c.from.ensures.node ∙ w.if-from-node.true)
-          w.if-e-without.true c.to-to.ensures.node inside
-          (is_visited-read visited n w.index.result.now inside w.index.ensures ∙ w.if-not-index.true))
+        | then-from-node+then-e-without+then-not-index+in_ok-push w ↦
+            rw (w.visited-is, w.frontier-is, w.in_ok-push.ensures.items)
+            (IsVisiting-visit g c.args.without c.args.node c.args.visited.now.items c.args.frontier.now.items edges k c.loop-e-test.true visited frontier c.loop-e.invariant.visiting n
+            (edge_exists g c.args.node edges k c.loop-e.invariant.edges c.loop-e-test.true)
+            (sym c.from.ensures.node ∙ w.if-from-node.true)
+            w.if-e-without.true c.to-to.ensures.node inside
+            (is_visited-read visited n w.index.result.now inside w.index.ensures ∙ w.if-not-index.true))
         | else-from-node w ↦
-          rw (w.visited-is, w.frontier-is)
-          (IsVisiting-skip g c.args.without c.args.node c.args.visited.now.items c.args.frontier.now.items edges k c.loop-e-test.true visited frontier c.loop-e.invariant.visiting
-          (λ begins other blank. elim w.else-from-node.branch [
-            else-from-node-via-then-from-node+then-e-without+else-not-index x ↦ false≢true (sym blank ∙ (ap (is_visited visited) (sym c.to-to.ensures.node) ∙ (is_visited-read visited n x.index.result.now inside x.index.ensures ∙ x.if-not-index.false)))
-            | else-from-node-via-then-from-node+else-e-without x ↦ other x.if-e-without.false
-            | else-from-node-via-else-from-node x ↦ x.if-from-node.false (c.from.ensures.node ∙ begins)
-          ]))
+            rw (w.visited-is, w.frontier-is)
+            (IsVisiting-skip g c.args.without c.args.node c.args.visited.now.items c.args.frontier.now.items edges k c.loop-e-test.true visited frontier c.loop-e.invariant.visiting
+            (λ begins other blank. elim w.else-from-node.branch [
+              | else-from-node-via-then-from-node+then-e-without+else-not-index x ↦ false≢true (sym blank ∙ (ap (is_visited visited) (sym c.to-to.ensures.node) ∙ (is_visited-read visited n x.index.result.now inside x.index.ensures ∙ x.if-not-index.false)))
+              | else-from-node-via-then-from-node+else-e-without x ↦ other x.if-e-without.false
+              | else-from-node-via-else-from-node x ↦ x.if-from-node.false (c.from.ensures.node ∙ begins)
+            ]))
       ];
     }
