@@ -1,8 +1,8 @@
 -- When two edges are cycle equivalent.
-use Rattle.std.proofs.Common.{◌≡◌, ◌≢◌, ℕ, ◌<◌, ◌⊎◌, ◌↔◌, Bool, true, false, ◌==◌, List, [], ◌∷◌, refl, sym, ap, ◌∙◌, subst, inl, inr, ⊎_elim}
-use Rattle.std.proofs.lemmas.Bool.{cases_eq, ne_eqb, eqb-true, eq-eqb, false≢true}
+use Rattle.std.proofs.Common.{◌≡◌, ◌≢◌, ℕ, ◌<◌, ◌↔◌, List, ◌∷◌, refl, sym, ◌∙◌, subst, inl, ⊎_elim}
+use Rattle.std.proofs.lemmas.Bool.{ne_eqb, eq-eqb, false≢true}
 use Rattle.closed_walks.specs.Graph.{Graph, edge_count, from, to}
-use Rattle.closed_walks.specs.Walk.{Walk, IsClosed, Holds, Avoids, Reach, only, IsCycleEquivalent, IsOnlyOnWalksWith}
+use Rattle.closed_walks.specs.Walk.{IsClosed, Holds, Avoids, Reach, only, IsCycleEquivalent, IsOnlyOnWalksWith}
 use Rattle.closed_walks.proofs.Walks.{cases_Holds, IsAround, rotate, IsClosed-around, Avoids-each, Avoids-at}
 
 -- a walk avoids b where it doesn't hold it

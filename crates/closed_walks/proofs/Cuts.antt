@@ -1,9 +1,9 @@
 -- Cuts of two edges: in a strongly connected graph two edges are cycle equivalent exactly where they are one.
-use Rattle.std.proofs.Common.{◌≡◌, ◌≢◌, ℕ, ◌<◌, ◌⊎◌, ◌↔◌, Bool, true, false, ◌==◌, ◌||◌, refl, sym, ap, ◌∙◌, subst, inl, inr, ⊎_elim}
-use Rattle.std.proofs.lemmas.Bool.{cases_Bool, cases_eq, or_cases, or_parts, or_from, ne_eqb, eqb-true, eqb-false, eq-eqb, false≢true, true≢false, false_from_ne_true}
+use Rattle.std.proofs.Common.{◌≡◌, ◌≢◌, ℕ, ◌<◌, ◌⊎◌, ◌↔◌, Bool, true, false, ◌==◌, refl, sym, ◌∙◌, subst, ⊎_elim}
+use Rattle.std.proofs.lemmas.Bool.{cases_Bool, or_cases, or_parts, or_from, ne_eqb, eqb-true, eqb-false, false≢true, false_from_ne_true}
 use Rattle.closed_walks.specs.Graph.{Graph, IsGraph, edge_count, from, to}
 use Rattle.closed_walks.specs.Walk.{Reach, no_edge, only, either, IsStrong, IsCycleEquivalent, IsCut}
-use Rattle.closed_walks.proofs.Reaching.{stay, join, along, along_first, along_last, Reach-within, IsMet, first_of, last_of, same_along}
+use Rattle.closed_walks.proofs.Reaching.{stay, join, along_last, Reach-within, IsMet, first_of, last_of, same_along}
 use Rattle.closed_walks.proofs.Decided.{reaches, Reach-reaches, reaches-Reach}
 use Rattle.closed_walks.proofs.Classes.{IsCycleEquivalent-closed, first_closed, second_closed}
 

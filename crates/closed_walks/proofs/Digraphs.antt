@@ -1,8 +1,8 @@
 -- What a `Digraph` keeps, at its beginning and as edges are added.
-use Rattle.std.proofs.Common.{◌≡◌, ◌≢◌, ℕ, zero, suc, ◌+◌, ◌<◌, ◌≤◌, ◌^◌, ◌⊎◌, Bool, true, false, ◌==◌, ◌||◌, if◌then◌else◌, List, [], ◌∷◌, ◌++◌, length, get_or, set, refl, sym, ap, ◌∙◌, subst, inl, inr, ⊎_elim, arith, lit<, length-append, get_or-set_same, get_or-set_other}
+use Rattle.std.proofs.Common.{◌≡◌, ◌≢◌, ℕ, zero, suc, ◌+◌, ◌<◌, ◌≤◌, ◌^◌, ◌⊎◌, ◌==◌, ◌||◌, if◌then◌else◌, List, [], ◌∷◌, ◌++◌, length, get_or, set, refl, sym, ap, ◌∙◌, inl, inr, ⊎_elim, arith, lit<, length-append, get_or-set_same}
 use Rattle.std.proofs.lemmas.Bool.{cases_order, cases_eq, cases_lt}
 use Rattle.std.proofs.lemmas.List.{get_or_append_left, get_or_default, get_or_past, get_or_push, set-set, set-get_or}
-use Rattle.closed_walks.specs.Graph.{Graph, IsGraph, edge_count, from, to, with_edge, touches, touching_below, edges_at}
+use Rattle.closed_walks.specs.Graph.{Graph, IsGraph, edge_count, from, to, with_edge, touching_below, edges_at}
 use Rattle.closed_walks.specs.Digraph.{Keeps}
 
 -- an edge that is there already keeps its ends

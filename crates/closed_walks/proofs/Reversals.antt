@@ -1,10 +1,9 @@
 -- Ways in a graph with each edge turned round, and strong connection by them.
-use Rattle.std.proofs.Common.{◌≡◌, ◌≢◌, ℕ, ◌+◌, ◌<◌, ◌⊎◌, ◌↔◌, Bool, true, false, List, [], ◌∷◌, length, refl, sym, ap, ◌∙◌, subst, ⊎_elim, arith}
-use Rattle.std.proofs.lemmas.Bool.{ne_eqb, cases_order}
+use Rattle.std.proofs.Common.{◌≡◌, ℕ, ◌+◌, ◌<◌, List, [], ◌∷◌, refl, sym, ap, ◌∙◌, subst, ⊎_elim, arith}
+use Rattle.std.proofs.lemmas.Bool.{ne_eqb}
 use Rattle.closed_walks.specs.Graph.{Graph, edge_count, from, to, with_edge}
 use Rattle.closed_walks.specs.Walk.{Walk, Avoids, Reach, no_edge, only, IsStrong}
 use Rattle.closed_walks.specs.Reversed.{IsReversed}
-use Rattle.closed_walks.proofs.Walks.{Avoids-within}
 use Rattle.closed_walks.proofs.Reaching.{stay, join, along_last, Reach-within}
 use Rattle.closed_walks.proofs.Digraphs.{from-old, to-old, from-new, to-new, edge_count-with, cases_edge}
 
@@ -64,11 +63,11 @@ IsReversedBelow-more g back e u v begins ends r = record {
   nodes = r.nodes;
   edges = omega (arith, edge_count-with back u v, r.edges);
   begins = λ d edge. ⊎_elim
-    (λ (old : d < edge_count back). from-old back u v d old ∙ r.begins d old)
-    (λ (new : d ≡ edge_count back). rw (new, from-new back u v) (begins ∙ ap (to g) (sym r.edges)))
-    (cases_edge back u v d edge);
+      (λ (old : d < edge_count back). from-old back u v d old ∙ r.begins d old)
+      (λ (new : d ≡ edge_count back). rw (new, from-new back u v) (begins ∙ ap (to g) (sym r.edges)))
+      (cases_edge back u v d edge);
   ends = λ d edge. ⊎_elim
-    (λ (old : d < edge_count back). to-old back u v d old ∙ r.ends d old)
-    (λ (new : d ≡ edge_count back). rw (new, to-new back u v) (ends ∙ ap (from g) (sym r.edges)))
-    (cases_edge back u v d edge);
+      (λ (old : d < edge_count back). to-old back u v d old ∙ r.ends d old)
+      (λ (new : d ≡ edge_count back). rw (new, to-new back u v) (ends ∙ ap (from g) (sym r.edges)))
+      (cases_edge back u v d edge);
 }

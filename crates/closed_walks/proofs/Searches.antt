@@ -1,8 +1,8 @@
 -- The steps of a search.
-use Rattle.std.proofs.Common.{◌≡◌, ◌≢◌, ℕ, zero, suc, ◌+◌, ◌*◌, ◌<◌, ◌≤◌, ◌⊎◌, Bool, true, false, ◌==◌, List, [], ◌∷◌, ◌++◌, length, get_or, set, drop, refl, sym, ap, ◌∙◌, subst, inl, inr, ⊎_elim, arith, get_or-set_same, get_or-set_other, length-set, length-append}
+use Rattle.std.proofs.Common.{◌≡◌, ◌≢◌, ℕ, zero, suc, ◌+◌, ◌*◌, ◌<◌, ◌≤◌, ◌⊎◌, Bool, true, false, List, [], ◌∷◌, ◌++◌, length, get_or, set, drop, refl, sym, ap, ◌∙◌, subst, inl, inr, ⊎_elim, arith, get_or-set_same, get_or-set_other, length-set, length-append}
 use Rattle.std.proofs.lemmas.Bool.{cases_Bool, cases_eq, cases_lt, eqb-false, ne_eqb, false≢true}
 use Rattle.std.proofs.lemmas.List.{get_or_past, get_or_default}
-use Rattle.closed_walks.specs.Graph.{Graph, IsGraph, edge_count, from, to, edges_at}
+use Rattle.closed_walks.specs.Graph.{Graph, edge_count, from, to, edges_at}
 use Rattle.closed_walks.specs.Walk.{Holds, Reach, only}
 use Rattle.closed_walks.specs.Search.{is_visited, blanks, Leads, IsOpen, Nothing}
 use Rattle.closed_walks.proofs.Walks.{Holds-left, Holds-right, Holds-append}

@@ -1,7 +1,7 @@
 -- The edges that touch a node.
-use Rattle.std.proofs.Common.{◌≡◌, ℕ, zero, suc, ◌+◌, ◌<◌, ◌≤◌, ◌⊎◌, Bool, true, false, ◌==◌, ◌||◌, if◌then◌else◌, List, [], ◌∷◌, ◌++◌, length, get_or, drop, refl, sym, ap, ◌∙◌, subst, inl, inr, ⊎_elim, arith, add-one, drop-cons}
-use Rattle.std.proofs.lemmas.Bool.{cases_Bool, cases_order, or_left, or_right, eq-eqb, false≢true}
-use Rattle.std.proofs.lemmas.List.{drop_all}
+use Rattle.std.proofs.Common.{◌≡◌, ℕ, zero, suc, ◌+◌, ◌<◌, ◌≤◌, ◌⊎◌, Bool, true, false, ◌==◌, if◌then◌else◌, List, [], ◌∷◌, ◌++◌, length, get_or, drop, refl, sym, subst, inl, inr, ⊎_elim, arith, add-one, drop-cons, length-append}
+use Rattle.std.proofs.lemmas.Bool.{cases_Bool, cases_order, cases_lt, or_left, eq-eqb}
+use Rattle.std.proofs.lemmas.List.{drop_all, get_or_append_left, get_or_push, append-nil}
 use Rattle.closed_walks.specs.Graph.{Graph, edge_count, from, to, touches, touching_below, edges_at}
 use Rattle.closed_walks.specs.Walk.{Holds}
 use Rattle.closed_walks.proofs.Walks.{Holds-left, Holds-right, Holds-append}
@@ -67,3 +67,33 @@ Holds-drop_end xs k x end holds = subst (λ ys. Holds ys x) (drop_all k xs end) 
 -- an item of a node's edges is an edge
 pub edge_exists : (g : Graph) (node : ℕ) (edges : List ℕ) (k : ℕ) → edges ≡ edges_at g node → k < length edges → get_or edges k 0 < edge_count g
 edge_exists g node edges k is within = (edges_at-Holds g node (get_or edges k 0) (subst (λ xs. Holds xs (get_or edges k 0)) is (Holds-at edges k within))).0
+
+-- ---- the edges of a node rise
+
+-- each item is below the ones after it
+abbrev pub IsRising : List ℕ → Type 0
+IsRising xs = (i j : ℕ) → i < j → j < length xs → get_or xs i 0 < get_or xs j 0
+
+-- a number above all items of a rising list goes at its end
+IsRising-push : (xs : List ℕ) (x : ℕ) → IsRising xs → ((y : ℕ) → Holds xs y → y < x) → IsRising (xs ++ x ∷ [])
+IsRising-push xs x rises below i j less within =
+    let len = length-append xs (x ∷ []) in
+    let before : i < length xs = omega arith in
+    ⊎_elim
+    (λ (h : j < length xs). rw (get_or_append_left xs (x ∷ []) 0 i before, get_or_append_left xs (x ∷ []) 0 j h) (rises i j less h))
+    (λ (h : length xs ≤ j).
+    let last : length xs ≡ j = omega arith in
+    rw (get_or_append_left xs (x ∷ []) 0 i before, get_or_push xs x 0 j last) (below (get_or xs i 0) (Holds-at xs i before)))
+    (cases_lt j (length xs))
+
+module _ (g : Graph) (node : ℕ) where
+  touching-rises : (k : ℕ) → IsRising (touching_below g node k)
+  touching-rises zero = λ i j less within. absurd (omega (arith, within))
+  touching-rises (suc k) = ⊎_elim
+      (λ (passes : touches g node k ≡ true). rw passes (IsRising-push (touching_below g node k) k (touching-rises k) (λ y holds. (touching-Holds g node k y holds).0)))
+      (λ (fails : touches g node k ≡ false). rw (fails, append-nil) (touching-rises k))
+      (cases_Bool (touches g node k))
+
+  pub edges_at-rising : IsRising (edges_at g node)
+  unfolding edges_at
+  edges_at-rising = touching-rises (edge_count g)

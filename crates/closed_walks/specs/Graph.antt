@@ -1,7 +1,7 @@
 -- A directed graph: its nodes are the numbers below `nodes`, and its edges have the numbers of their places.
 -- Several edges may lead from one node to another, and an edge may lead back to the node at which it begins.
 use Rattle.std.proofs.Common.{zero, suc}
-use Rattle.std.specs.Prelude.{◌≡◌, ℕ, ◌<◌, Bool, ◌==◌, ◌||◌, if◌then◌else◌, List, [], ◌∷◌, ◌++◌, length, slice_index_or}
+use Rattle.std.specs.Prelude.{ℕ, ◌<◌, Bool, ◌==◌, ◌||◌, if◌then◌else◌, List, [], ◌∷◌, ◌++◌, length, slice_index_or}
 
 pub record Graph : Type 0 where
   pub nodes : ℕ

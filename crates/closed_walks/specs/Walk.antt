@@ -1,6 +1,6 @@
 -- Walks in a directed graph, as lists of edges, and what is said by them: which nodes are reached, which edges are
 -- cycle equivalent, and which two edges are a cut.
-use Rattle.std.specs.Prelude.{◌≡◌, ◌≢◌, ℕ, ◌<◌, ◌⊎◌, ◌↔◌, Bool, true, false, ◌==◌, ◌||◌, List, [], ◌∷◌}
+use Rattle.std.specs.Prelude.{◌≡◌, ◌≢◌, ℕ, ◌<◌, ◌⊎◌, Bool, false, ◌==◌, ◌||◌, List, [], ◌∷◌}
 use Rattle.closed_walks.specs.Graph.{Graph, edge_count, from, to}
 
 -- The edges lead from u to v: each begins where the last one ended.

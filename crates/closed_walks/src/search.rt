@@ -36,7 +36,12 @@ fn returns_without(alloc: Global, g: &Digraph, e: u32, without: u32) -> Result<b
 }
 
 /// The nodes that are reached from the start without the edge: for each node whether it is.
-pub(crate) fn visited_from(alloc: Global, g: &Digraph, start: u32, without: u32) -> Result<Vec<bool>, NoMemory>
+pub(crate) fn visited_from(
+    alloc: Global,
+    g: &Digraph,
+    start: u32,
+    without: u32,
+) -> Result<Vec<bool>, NoMemory>
     requires { start < g.now.nodes }
     ensures nodes { IfOk result (λ visited. length visited.items ≡ g.now.nodes) }
     ensures reached { IfOk result (λ visited. (v : ℕ) → (is_visited visited.items v ≡ true) ↔ Reach g.now (only without) start v) }

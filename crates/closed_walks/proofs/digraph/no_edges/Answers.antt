@@ -1,4 +1,4 @@
-use Rattle.std.proofs.Common.{◌≡◌, ◌+◌, ◌∙◌, ap, arith, [], ◌∷◌, ◌++◌, length, get_or, length-append}
+use Rattle.std.proofs.Common.{◌∙◌, ap, arith, [], ◌∷◌, ◌++◌, get_or}
 use Rattle.closed_walks.proofs.Digraphs.{blank-push}
 use Rattle.closed_walks.proofs.digraph.no_edges.Goals as goal
 

@@ -1,4 +1,4 @@
-use Rattle.std.proofs.Common.{◌≡◌, ◌<◌, ◌∙◌, ap, arith, [], ◌∷◌, ◌++◌, length, set, length-set}
+use Rattle.std.proofs.Common.{◌<◌, ◌∙◌, ap, [], ◌∷◌, ◌++◌, length, set, length-set}
 use Rattle.std.proofs.lemmas.List.{get_or_default}
 use Rattle.closed_walks.proofs.Digraphs.{set-undone}
 use Rattle.closed_walks.proofs.digraph.touch.Goals as goal

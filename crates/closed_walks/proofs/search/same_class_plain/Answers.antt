@@ -1,4 +1,4 @@
-use Rattle.std.proofs.Common.{◌≡◌, false, true, sym, ◌∙◌}
+use Rattle.std.proofs.Common.{sym, ◌∙◌}
 use Rattle.std.proofs.lemmas.Bool.{false≢true, not-true, not_from_false, false_from_ne_true}
 use Rattle.closed_walks.proofs.Classes.{first_closed, second_closed, IsCycleEquivalent-closed}
 use Rattle.closed_walks.proofs.search.same_class_plain.Goals as goal

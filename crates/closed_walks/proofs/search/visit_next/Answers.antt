@@ -1,9 +1,8 @@
-use Rattle.std.proofs.Common.{◌≡◌, ◌≢◌, ◌+◌, ◌<◌, ◌++◌, ◌∷◌, [], ◌∙◌, List, Bool, false, ap, sym, subst, get_or, length, arith}
+use Rattle.std.proofs.Common.{◌<◌, ◌∙◌, ap, sym, get_or, length, arith}
 use Rattle.std.proofs.lemmas.Bool.{false≢true}
-use Rattle.closed_walks.specs.Graph.{edge_count, edges_at, from, to}
 use Rattle.closed_walks.specs.Search.{is_visited}
 use Rattle.closed_walks.proofs.Touching.{edge_exists}
-use Rattle.closed_walks.proofs.Searches.{IsVisiting, IsVisiting-begin, IsVisiting-skip, IsVisiting-visit, is_visited-read}
+use Rattle.closed_walks.proofs.Searches.{IsVisiting-begin, IsVisiting-skip, IsVisiting-visit, is_visited-read}
 use Rattle.closed_walks.proofs.search.visit_next.Goals as goal
 use Rattle.closed_walks.proofs.search.visit_next.Goals.{then-from-node+then-e-without+then-not-index+in_ok-push, else-from-node, else-from-node-via-then-from-node+then-e-without+else-not-index, else-from-node-via-then-from-node+else-e-without, else-from-node-via-else-from-node}
 

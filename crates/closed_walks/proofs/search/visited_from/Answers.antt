@@ -1,6 +1,5 @@
-use Rattle.std.proofs.Common.{◌≡◌, ◌+◌, ◌<◌, ◌++◌, ◌∷◌, [], ◌∙◌, List, Bool, true, false, ap, sym, subst, get_or, length, arith}
-use Rattle.closed_walks.specs.Walk.{only}
-use Rattle.closed_walks.specs.Search.{is_visited, Nothing, IsOpen}
+use Rattle.std.proofs.Common.{◌≡◌, [], subst, arith}
+use Rattle.closed_walks.specs.Search.{Nothing, IsOpen}
 use Rattle.closed_walks.proofs.Searches.{nothing-left, IsOpen-pop, popped_visited, visited_exists, visited-Reach, Reach-grown}
 use Rattle.closed_walks.proofs.search.visited_from.Goals as goal
 

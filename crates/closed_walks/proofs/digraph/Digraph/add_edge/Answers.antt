@@ -1,4 +1,4 @@
-use Rattle.std.proofs.Common.{◌≡◌, ◌+◌, ◌-◌, ◌<◌, ◌∙◌, ◌^◌, ◌==◌, ◌||◌, if◌then◌else◌, ap, arith, subst, sym, [], ◌∷◌, ◌++◌, length, get_or}
+use Rattle.std.proofs.Common.{◌≡◌, ◌-◌, ◌<◌, ◌^◌, arith, subst, sym}
 use Rattle.closed_walks.specs.Graph.{Graph, edge_count}
 use Rattle.closed_walks.specs.Digraph.{graph_of}
 use Rattle.closed_walks.proofs.Digraphs.{Keeps-with}

@@ -1,5 +1,5 @@
-use Rattle.std.proofs.Common.{◌≡◌, ◌<◌, ℕ, get_or, subst, sym}
-use Rattle.closed_walks.specs.Graph.{Graph, IsGraph, from}
+use Rattle.std.proofs.Common.{◌≡◌, get_or, subst}
+use Rattle.closed_walks.specs.Graph.{Graph, IsGraph}
 use Rattle.closed_walks.proofs.Digraphs.{from-read}
 use Rattle.closed_walks.proofs.digraph.Digraph.from.Goals as goal
 
