@@ -1,11 +1,11 @@
 -- The numbering of classes, as far as it has come.
-use Rattle.std.proofs.Common.{◌≡◌, ◌≢◌, ℕ, zero, suc, ◌+◌, ◌<◌, ◌≤◌, ◌⊎◌, ◌↔◌, max, List, [], ◌∷◌, ◌++◌, length, get_or, take, refl, sym, ap, ◌∙◌, subst, inl, inr, ⊎_elim, arith, length-append, append_assoc}
-use Rattle.std.proofs.lemmas.Bool.{cases_order, cases_eq, cases_lt}
+use Rattle.std.proofs.Common.{◌≡◌, ◌≢◌, ℕ, zero, suc, ◌+◌, ◌<◌, ◌≤◌, ◌⊎◌, max, List, [], ◌∷◌, ◌++◌, length, get_or, take, refl, sym, ap, ◌∙◌, subst, inl, inr, ⊎_elim, arith, length-append}
+use Rattle.std.proofs.lemmas.Bool.{cases_order, cases_eq}
 use Rattle.std.proofs.lemmas.List.{get_or_append_left, get_or_push, take-append-le, take_all, length-take, get_or-take}
 use Rattle.std.proofs.lemmas.Grind.{same_number_lists}
 use Rattle.closed_walks.specs.Graph.{Graph, edge_count}
 use Rattle.closed_walks.specs.Walk.{IsCycleEquivalent}
-use Rattle.closed_walks.proofs.Classes.{equivalent_itself, equivalent_back, equivalent_on, equivalent_same}
+use Rattle.closed_walks.proofs.Classes.{equivalent_itself, equivalent_back, equivalent_on}
 use Rattle.cycle_equiv.specs.Numbering.{fresh, IsNumbering}
 
 pub fresh-push : (xs : List ℕ) (x : ℕ) → fresh (xs ++ x ∷ []) ≡ max (fresh xs) (x + 1)

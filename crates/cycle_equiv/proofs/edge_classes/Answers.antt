@@ -1,5 +1,4 @@
-use Rattle.std.proofs.Common.{◌≡◌, ℕ, List, get_or, ◌<◌, ◌≤◌, ◌+◌, ◌∙◌, [], ◌∷◌, ◌++◌, length, subst, sym, arith}
-use Rattle.closed_walks.specs.Graph.{edge_count}
+use Rattle.std.proofs.Common.{◌≡◌, ℕ, List, get_or, ◌<◌, ◌≤◌, ◌∙◌, length, subst, arith}
 use Rattle.closed_walks.specs.Walk.{IsCycleEquivalent}
 use Rattle.cycle_equiv.proofs.Numbers.{IsNumbered, IsNumbered-old, IsNumbered-new, IsNumbering-all}
 use Rattle.cycle_equiv.proofs.edge_classes.Goals as goal

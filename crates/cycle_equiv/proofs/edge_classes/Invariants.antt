@@ -1,4 +1,3 @@
-use Rattle.std.proofs.Common.{length}
 use Rattle.cycle_equiv.proofs.Numbers.{IsNumbered}
 use Rattle.cycle_equiv.proofs.edge_classes.Given as goal
 
