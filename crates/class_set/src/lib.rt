@@ -7,6 +7,8 @@ ghost use Rattle.class_set.specs.Members.{first_above, IsNext, IsLast, IsWidth};
 mod words;
 
 use crate::words::{least_from, meet, unite};
+use df_sequence::{Copied, NoMemory};
+use std::alloc::Global;
 
 /// A set of numbers below `64 * W`, as `W` words of 64 bits. `W` is from 1 to 16.
 #[derive(Clone, Copy)]
@@ -74,6 +76,12 @@ impl<const W: usize> ClassSet<W> {
     }
 }
 
+impl<const W: usize> Copied for ClassSet<W> {
+    fn copy(&self, _alloc: Global) -> Result<Self, NoMemory> {
+        Ok(*self)
+    }
+}
+
 /// The least number above the number.
 fn first_above(n: Option<u32>) -> usize
     ensures { result ≡ first_above n }
@@ -87,6 +95,7 @@ fn first_above(n: Option<u32>) -> usize
 #[cfg(test)]
 mod tests {
     use super::*;
+    use std::test::Fail;
 
     fn set_of<const W: usize>(members: &[u32]) -> ClassSet<W>
         requires width { IsWidth W }
@@ -100,7 +109,7 @@ mod tests {
     }
 
     #[test]
-    fn members_come_in_order(rt: HostRuntime) {
+    fn members_come_in_order(rt: HostRuntime) -> Result<(), Fail> {
         let set: ClassSet<2> = set_of(&[64, 3, 127, 63, 3]);
         let mut at = None;
         for want in [Some(3), Some(63), Some(64), Some(127), None] {
@@ -120,7 +129,9 @@ mod tests {
         }
         let none: ClassSet<16> = ClassSet::empty();
         assert_eq!(rt; none.next_after(None), None);
-        assert_eq!(rt; none.with(1023).next_after(Some(0)), Some(1023));
+        let copied = none.with(1023).copy(rt.alloc())?;
+        assert_eq!(rt; copied.next_after(Some(0)), Some(1023));
+        Ok(())
     }
 
     #[test]
