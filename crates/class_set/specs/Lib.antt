@@ -1,0 +1,2 @@
+pub mod ClassSet
+pub mod Members

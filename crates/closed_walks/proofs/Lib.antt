@@ -1,0 +1,9 @@
+pub mod Classes
+pub mod Cuts
+pub mod Decided
+pub mod Digraphs
+pub mod Reaching
+pub mod Reversals
+pub mod Searches
+pub mod Touching
+pub mod Walks

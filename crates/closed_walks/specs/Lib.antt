@@ -1,0 +1,6 @@
+pub mod Digraph
+pub mod EdgeEnd
+pub mod Graph
+pub mod Reversed
+pub mod Search
+pub mod Walk

@@ -1,0 +1,17 @@
+//! Laws on closed walks, as contracts of functions that do nothing.
+
+ghost use Rattle.std.specs.Prelude.{◌≡◌, ◌≢◌, ◌<◌, ◌↔◌, ℕ, Bool, List};
+ghost use Rattle.closed_walks.specs.Graph.{Graph, IsGraph, edge_count};
+ghost use Rattle.closed_walks.specs.Walk.{IsClosed, Holds, IsOnlyOnWalksWith, IsStrong, IsCycleEquivalent, IsCut};
+
+/// Every closed walk that holds the one edge holds the other exactly where the one lies on no closed walk of the graph
+/// without the other.
+pub fn walks_without()
+    ensures { (g : Graph) (a b : ℕ) → ((w : List ℕ) → IsClosed g w → Holds w a → Holds w b) ↔ IsOnlyOnWalksWith g b a }
+{}
+
+/// In a strongly connected graph two different edges are cycle equivalent exactly where they are a cut: of all edges they
+/// alone join nodes of some set with nodes outside it.
+pub fn cuts_are_classes()
+    ensures { (g : Graph) (a b : ℕ) → IsGraph g → IsStrong g → a < edge_count g → b < edge_count g → a ≢ b → IsCycleEquivalent g a b ↔ ((side : ℕ → Bool) × IsCut g side a b) }
+{}

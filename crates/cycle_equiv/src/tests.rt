@@ -1,0 +1,126 @@
+//! Small graphs, with their classes. Three of them are the flow graphs of programs.
+
+ghost use Rattle.std.specs.Prelude.{◌≡◌, ◌<◌};
+ghost use Rattle.closed_walks.specs.Graph.{edge_count};
+ghost use Rattle.closed_walks.specs.Walk.{IsStrong};
+
+use crate::edge_classes;
+use closed_walks::{Digraph, is_strong, same_class_plain};
+use df_sequence::NoMemory;
+use std::alloc::Global;
+use std::marker::Brand;
+use std::process::Abort;
+use std::sync::ledger::{Blank, Ledger};
+use std::test::Fail;
+use step_count::Steps;
+
+/// The graph of these edges.
+fn graph_of(
+    rt: &impl Abort,
+    alloc: Global,
+    nodes: u32,
+    edges: &[(u32, u32)],
+) -> Result<Digraph, NoMemory> {
+    let mut g = Digraph::new(alloc, nodes)?;
+    for (from, to) in edges {
+        assert!(rt; *from < g.nodes() && *to < g.nodes() && g.edges() < 1000);
+        g.add_edge(alloc, *from, *to)?;
+    }
+    Ok(g)
+}
+
+/// The classes of the graph's edges, counted on a ledger of their own.
+fn classes_of<L: Ledger>(alloc: Global, g: &Digraph, blank: Blank) -> Result<Vec<u32>, NoMemory>
+    requires strong { IsStrong g.now }
+    requires edge { 0 < edge_count g.now }
+    requires name { blank.name ≡ L.name }
+    requires parts { blank.parts ≡ L.parts }
+    requires some { 0 < blank.parts }
+{
+    let mut steps: Steps<L> = Steps::new(blank);
+    edge_classes(alloc, g, &mut steps)
+}
+
+#[test]
+fn classes_are_those_known(rt: HostRuntime) -> Result<(), Fail> {
+    for (nodes, edges, want) in [
+        (1, [(0, 0)].as_slice(), [0].as_slice()),
+        (1, [(0, 0), (0, 0)].as_slice(), [0, 1].as_slice()),
+        (
+            3,
+            [(0, 1), (1, 2), (1, 2), (2, 0)].as_slice(),
+            [0, 1, 2, 0].as_slice(),
+        ),
+        (
+            7,
+            [
+                (6, 0),
+                (0, 1),
+                (1, 2),
+                (2, 3),
+                (2, 4),
+                (3, 4),
+                (4, 5),
+                (5, 6),
+            ]
+            .as_slice(),
+            [0, 0, 0, 1, 2, 1, 0, 0].as_slice(),
+        ),
+        (
+            7,
+            [
+                (5, 0),
+                (0, 1),
+                (1, 2),
+                (2, 6),
+                (3, 4),
+                (4, 2),
+                (6, 3),
+                (6, 5),
+            ]
+            .as_slice(),
+            [0, 0, 0, 1, 2, 2, 2, 0].as_slice(),
+        ),
+        (
+            13,
+            [
+                (12, 0),
+                (0, 1),
+                (1, 2),
+                (2, 3),
+                (3, 4),
+                (3, 10),
+                (3, 7),
+                (4, 5),
+                (5, 6),
+                (5, 7),
+                (6, 1),
+                (7, 8),
+                (8, 9),
+                (9, 12),
+                (10, 11),
+                (11, 1),
+            ]
+            .as_slice(),
+            [0, 0, 1, 1, 2, 3, 4, 2, 5, 6, 5, 0, 0, 0, 3, 3].as_slice(),
+        ),
+    ] {
+        let g = graph_of(&rt, rt.alloc(), nodes, edges)?;
+        assert!(rt; is_strong(rt.alloc(), &g)? && g.edges() > 0);
+        let classes = classes_of::<Brand>(rt.alloc(), &g, Blank::new(1))?;
+        assert_eq!(rt; classes.as_slice(), want, "of {edges:?}");
+        for a in 0..g.edges() {
+            for b in 0..g.edges() {
+                let same = classes.get(a as usize) == classes.get(b as usize);
+                assert_eq!(rt;
+                    same_class_plain(rt.alloc(), &g, a, b)?,
+                    same,
+                    "{a} and {b} of {edges:?}"
+                );
+            }
+        }
+    }
+    let split = graph_of(&rt, rt.alloc(), 2, &[(0, 1)])?;
+    assert!(rt; !is_strong(rt.alloc(), &split)?);
+    Ok(())
+}
