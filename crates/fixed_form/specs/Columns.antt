@@ -1,5 +1,7 @@
 -- What stands in columns 1 to 72 of a line. Those 72 characters are the line's card.
 use Rattle.std.specs.Prelude.{ℕ, ◌+◌, ◌-◌, ◌*◌, Bool, not, ◌||◌, ◌&&◌, ◌==◌, nat_le, if◌then◌else◌, List, ◌++◌, take, drop, length, replicate, slice_index}
+use Rattle.std.specs.Char.{is_ascii_digit}
+use Rattle.std.specs.Int.{is_in_range}
 use Rattle.std.specs.List.{list_all, filter, fold}
 use Rattle.fixed_form.specs.declared.line.LineKind.{LineKind}
 use Rattle.fixed_form.specs.declared.line.LineKind.TheVariants.{Comment, Initial, Continuation}
@@ -16,9 +18,13 @@ column n card = slice_index card (n - 1)
 abbrev pub is_blank : List ℕ → Bool
 is_blank characters = list_all (λ c. c == 32) characters
 
--- a comment has `C`, `c` or `*` in column 1, or is blank
+-- `C`, `c` or `*`
+abbrev pub marks_comment : ℕ → Bool
+marks_comment c = c == 67 || c == 99 || c == 42
+
+-- a comment has a mark in column 1, or is blank
 abbrev pub is_comment : List ℕ → Bool
-is_comment card = column 1 card == 67 || column 1 card == 99 || column 1 card == 42 || is_blank card
+is_comment card = marks_comment (column 1 card) || is_blank card
 
 -- an initial line has a blank or `0` in column 6, and a continuation line any other character
 abbrev pub kind : List ℕ → LineKind
@@ -26,10 +32,7 @@ kind card = if is_comment card then Comment else (if column 6 card == 32 || colu
 
 -- a character of the source, from the blank to the tilde
 abbrev pub is_character : ℕ → Bool
-is_character c = nat_le 32 c && nat_le c 126
-
-abbrev pub is_digit : ℕ → Bool
-is_digit c = nat_le 48 c && nat_le c 57
+is_character c = is_in_range 32 126 c
 
 -- columns 1 to 5
 abbrev pub label_field : List ℕ → List ℕ
@@ -45,7 +48,7 @@ number digits = fold (λ n d. 10 * n + (d - 48)) 0 digits
 
 -- the digits of the label
 abbrev pub label_digits : List ℕ → List ℕ
-label_digits card = filter is_digit (label_field card)
+label_digits card = filter is_ascii_digit (label_field card)
 
 -- the label, or 0 where there is none
 abbrev pub label : List ℕ → ℕ
@@ -53,7 +56,7 @@ label card = number (label_digits card)
 
 -- another character than digits and blanks, or digits that are all 0
 abbrev pub has_bad_label : List ℕ → Bool
-has_bad_label card = not (list_all (λ c. c == 32 || is_digit c) (label_field card)) || (nat_le 1 (length (label_digits card)) && label card == 0)
+has_bad_label card = not (list_all (λ c. c == 32 || is_ascii_digit c) (label_field card)) || (nat_le 1 (length (label_digits card)) && label card == 0)
 
 -- a byte that is no character
 abbrev pub has_bad_byte : List ℕ → Bool

@@ -1,18 +1,15 @@
 -- The statements that lines make.
 use Rattle.std.specs.Prelude.{ℕ, ◌-◌, Bool, true, false, not, ◌&&◌, ◌==◌, nat_le, if◌then◌else◌, List, [], ◌∷◌, ◌++◌, map, codes}
+use Rattle.std.specs.Char.{to_ascii_uppercase}
 use Rattle.std.specs.List.{concat}
 use Rattle.std.specs.Str.{bytes_eq}
 use Rattle.fixed_form.specs.declared.raw_stmt.RawStmt.{RawStmt}
 use Rattle.fixed_form.specs.Columns.{label, statement_field}
 use Rattle.fixed_form.specs.SourceLine.{SourceLine, is_initial_line, is_continuation_line}
 
--- a letter in upper case, or another character as it is
-abbrev pub upper_case : ℕ → ℕ
-upper_case c = if nat_le 97 c && nat_le c 122 then c - 32 else c
-
 -- what a character gives to the text: inside a character constant itself, outside nothing for a blank, and upper case
 abbrev pub kept : Bool → ℕ → List ℕ
-kept inside c = if inside then c ∷ [] else (if c == 32 then [] else upper_case c ∷ [])
+kept inside c = if inside then c ∷ [] else (if c == 32 then [] else to_ascii_uppercase c ∷ [])
 
 -- an apostrophe opens a constant, and the next one closes it
 abbrev pub inside_after : Bool → ℕ → Bool
