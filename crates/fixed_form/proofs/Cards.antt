@@ -1,13 +1,14 @@
 -- What a card has where the line is short.
-use Rattle.std.proofs.Common.{◌≡◌, ◌==◌, ℕ, ◌+◌, ◌-◌, ◌<◌, ◌≤◌, Bool, true, false, ◌&&◌, List, [], ◌++◌, length, get_or, take, drop, replicate, refl, sym, ap, ◌∙◌, subst, ⊎_elim, arith, length-append}
+use Rattle.std.proofs.Common.{◌≡◌, ◌==◌, ℕ, zero, suc, ◌+◌, ◌-◌, ◌<◌, ◌≤◌, Bool, true, false, cond, not, ◌&&◌, ◌||◌, List, [], ◌∷◌, ◌++◌, length, get_or, take, drop, replicate, refl, sym, ap, ◌∙◌, subst, ⊎_elim, arith, length-append}
 use Rattle.std.proofs.Math.Seq.{take-append-add, drop-append-add}
 use Rattle.std.proofs.lemmas.Bool.{cases_lt}
 use Rattle.std.proofs.lemmas.List.{take-append-le, take-take, length-take-le, take-replicate, drop-replicate, drop-append-le, drop_all, take_all, append-nil, get_or_append_left, get_or_default, get_or-append_right, get_or-replicate, get_or_past}
-use Rattle.std.proofs.lemmas.List.Elements.{All-replicate}
-use Rattle.std.proofs.lemmas.List.Folds.{list_all-append}
+use Rattle.std.proofs.lemmas.List.Elements.{All-replicate, filter-append}
+use Rattle.std.proofs.lemmas.List.Folds.{list_all-append, list_any-append}
 use Rattle.std.proofs.lemmas.List.Sums.{list_all-from_AllPass}
-use Rattle.std.specs.List.{list_all}
-use Rattle.fixed_form.specs.Columns.{card, is_blank}
+use Rattle.std.specs.Char.{is_ascii_digit}
+use Rattle.std.specs.List.{list_all, list_any, filter}
+use Rattle.fixed_form.specs.Columns.{card, is_blank, is_label_character, is_bad_label_field, has_bad_label, label, number}
 
 filled : (n : ℕ) (xs : List ℕ) → length xs ≤ n → take n (xs ++ replicate n 32) ≡ xs ++ replicate (n - length xs) 32
 filled n xs h =
@@ -82,3 +83,39 @@ take-card n xs short le = ap (take n) (card-short xs short) ∙ take-filled n (7
 
 pub drop-card : (n : ℕ) (xs : List ℕ) (m : ℕ) → length xs ≤ 72 → m ≡ (72 - length xs) - (n - length xs) → drop n (card xs) ≡ drop n xs ++ replicate m 32
 drop-card n xs m short e = ap (drop n) (card-short xs short) ∙ drop-filled n (72 - length xs) xs ∙ ap (λ k. drop n xs ++ replicate k 32) (sym e)
+
+list_any-blanks : (p : ℕ → Bool) → p 32 ≡ false → (n : ℕ) → list_any p (replicate n 32) ≡ false
+list_any-blanks p h zero = refl
+list_any-blanks p h (suc n) = ap (λ b. b || list_any p (replicate n 32)) h ∙ list_any-blanks p h n
+
+filter-blanks : (p : ℕ → Bool) → p 32 ≡ false → (n : ℕ) → filter p (replicate n 32) ≡ []
+filter-blanks p h zero = refl
+filter-blanks p h (suc n) = ap (λ b. cond b (32 ∷ filter p (replicate n 32)) (filter p (replicate n 32))) h ∙ filter-blanks p h n
+
+or-false : (b : Bool) → (b || false) ≡ b
+or-false true = refl
+or-false false = refl
+
+list_any-filled : (p : ℕ → Bool) → p 32 ≡ false → (xs : List ℕ) (n : ℕ) → list_any p (xs ++ replicate n 32) ≡ list_any p xs
+list_any-filled p h xs n =
+    list_any-append p xs (replicate n 32) ∙ ap (λ b. list_any p xs || b) (list_any-blanks p h n) ∙ or-false (list_any p xs)
+
+filter-filled : (p : ℕ → Bool) → p 32 ≡ false → (xs : List ℕ) (n : ℕ) → filter p (xs ++ replicate n 32) ≡ filter p xs
+filter-filled p h xs n =
+    filter-append p xs (replicate n 32) ∙ ap (λ ys. filter p xs ++ ys) (filter-blanks p h n) ∙ append-nil (filter p xs)
+
+digits_card : (xs : List ℕ) → length xs ≤ 72 → filter is_ascii_digit (take 5 (card xs)) ≡ filter is_ascii_digit (take 5 xs)
+digits_card xs short =
+    ap (filter is_ascii_digit) (take-card 5 xs short (omega arith)) ∙ filter-filled is_ascii_digit refl (take 5 xs) (5 - length xs)
+
+pub label_card : (xs : List ℕ) → length xs ≤ 72 → label (card xs) ≡ number (filter is_ascii_digit (take 5 xs))
+label_card xs short = ap number (digits_card xs short)
+
+pub bad_label_card : (xs : List ℕ) → length xs ≤ 72 → has_bad_label (card xs) ≡ is_bad_label_field (take 5 xs)
+bad_label_card xs short =
+    let field : take 5 (card xs) ≡ take 5 xs ++ replicate (5 - length xs) 32 = take-card 5 xs short (omega arith) in
+    let all : list_all is_label_character (take 5 (card xs)) ≡ list_all is_label_character (take 5 xs) = ap (list_all is_label_character) field ∙ list_all-filled is_label_character refl (take 5 xs) (5 - length xs) in
+    let any : list_any is_ascii_digit (take 5 (card xs)) ≡ list_any is_ascii_digit (take 5 xs) = ap (list_any is_ascii_digit) field ∙ list_any-filled is_ascii_digit refl (take 5 xs) (5 - length xs) in
+    ap (λ b. not b || (list_any is_ascii_digit (take 5 (card xs)) && number (filter is_ascii_digit (take 5 (card xs))) == 0)) all
+    ∙ ap (λ b. not (list_all is_label_character (take 5 xs)) || (b && number (filter is_ascii_digit (take 5 (card xs))) == 0)) any
+    ∙ ap (λ ds. not (list_all is_label_character (take 5 xs)) || (list_any is_ascii_digit (take 5 xs) && number ds == 0)) (digits_card xs short)

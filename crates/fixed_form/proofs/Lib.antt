@@ -1,1 +1,2 @@
 mod Cards
+mod Lines

@@ -2,7 +2,7 @@
 use Rattle.std.specs.Prelude.{ℕ, ◌+◌, ◌-◌, ◌*◌, Bool, not, ◌||◌, ◌&&◌, ◌==◌, nat_le, if◌then◌else◌, List, ◌++◌, take, drop, length, replicate, slice_index}
 use Rattle.std.specs.Char.{is_ascii_digit}
 use Rattle.std.specs.Int.{is_in_range}
-use Rattle.std.specs.List.{list_all, filter, fold}
+use Rattle.std.specs.List.{list_all, list_any, filter, fold}
 use Rattle.fixed_form.specs.declared.line.LineKind.{LineKind}
 use Rattle.fixed_form.specs.declared.line.LineKind.TheVariants.{Comment, Initial, Continuation}
 
@@ -34,6 +34,9 @@ kind card = if is_comment card then Comment else (if column 6 card == 32 || colu
 abbrev pub is_character : ℕ → Bool
 is_character c = is_in_range 32 126 c
 
+abbrev pub is_label_character : ℕ → Bool
+is_label_character c = c == 32 || is_ascii_digit c
+
 -- columns 1 to 5
 abbrev pub label_field : List ℕ → List ℕ
 label_field card = take 5 card
@@ -46,17 +49,16 @@ statement_field card = drop 6 card
 abbrev pub number : List ℕ → ℕ
 number digits = fold (λ n d. 10 * n + (d - 48)) 0 digits
 
--- the digits of the label
-abbrev pub label_digits : List ℕ → List ℕ
-label_digits card = filter is_ascii_digit (label_field card)
-
--- the label, or 0 where there is none
+-- the label in columns 1 to 5: the number that their digits write, or 0 where there are none
 abbrev pub label : List ℕ → ℕ
-label card = number (label_digits card)
+label card = number (filter is_ascii_digit (label_field card))
 
 -- another character than digits and blanks, or digits that are all 0
+abbrev pub is_bad_label_field : List ℕ → Bool
+is_bad_label_field field = not (list_all is_label_character field) || (list_any is_ascii_digit field && number (filter is_ascii_digit field) == 0)
+
 abbrev pub has_bad_label : List ℕ → Bool
-has_bad_label card = not (list_all (λ c. c == 32 || is_ascii_digit c) (label_field card)) || (nat_le 1 (length (label_digits card)) && label card == 0)
+has_bad_label card = is_bad_label_field (label_field card)
 
 -- a byte that is no character
 abbrev pub has_bad_byte : List ℕ → Bool

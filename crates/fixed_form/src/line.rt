@@ -1,10 +1,10 @@
 //! What stands in the columns of one line.
 
-ghost use Rattle.std.specs.Prelude.{◌≡◌, ◌<◌, ◌≤◌, ◌^◌, ◌∷◌, length, take, Option, None, Some, if◌then◌else◌};
+ghost use Rattle.std.specs.Prelude.{◌≡◌, ◌==◌, ◌<◌, ◌≤◌, ◌^◌, ◌∷◌, length, take, Option, None, Some, if◌then◌else◌};
 ghost use Rattle.std.specs.Char.{is_ascii_digit};
-ghost use Rattle.std.specs.List.{list_all, filter};
-ghost use Rattle.std.specs.Str.Lines.{lines};
-ghost use Rattle.fixed_form.specs.Columns.{card, column, kind, is_character, is_comment as spec_is_comment, marks_comment as spec_marks_comment, is_blank as spec_is_blank, has_bad_byte as spec_has_bad_byte, has_bad_label, label, label_field as spec_label_field, label_digits, number};
+ghost use Rattle.std.specs.List.{list_all, list_any, filter, position};
+ghost use Rattle.std.specs.Str.Lines.{lines, strip_carriage_return};
+ghost use Rattle.fixed_form.specs.Columns.{card, is_bad_label_field, is_label_character, column, kind, is_character, is_comment as spec_is_comment, marks_comment as spec_marks_comment, is_blank as spec_is_blank, has_bad_byte as spec_has_bad_byte, has_bad_label, label, label_field as spec_label_field, number};
 
 /// What a line of the source is.
 #[derive(Clone, Copy, Debug, PartialEq, Eq)]
@@ -85,4 +85,86 @@ pub(crate) fn has_bad_byte(columns: &[u8]) -> bool
     ensures { result ≡ spec_has_bad_byte (card columns.now) }
 {
     !are_characters(columns)
+}
+
+/// Columns 1 to 5, as far as the line has them.
+pub(crate) fn label_field(columns: &[u8]) -> &[u8]
+    ensures field { result.now ≡ take 5 columns.now }
+    ensures short { length result.now ≤ 5 }
+{
+    if columns.len() < 5 { columns } else { &columns[..5] }
+}
+
+/// Whether there are only digits and blanks.
+fn are_label_characters(field: &[u8]) -> bool
+    ensures { result ≡ list_all is_label_character field.now }
+{
+    field.iter().all(|c| *c == b' ' || c.is_ascii_digit())
+}
+
+/// Whether there is a digit.
+fn has_digit(field: &[u8]) -> bool
+    ensures { result ≡ list_any is_ascii_digit field.now }
+{
+    field.iter().any(|c| c.is_ascii_digit())
+}
+
+/// The number that the digits write.
+fn number_in(field: &[u8]) -> u32
+    requires { length field.now ≤ 5 }
+    ensures value { result ≡ number (filter is_ascii_digit field.now) }
+    ensures small { result < 100000 }
+{
+    let mut number: u32 = 0;
+    for c in field {
+        if c.is_ascii_digit() {
+            number = 10 * number + u32::from(*c - b'0');
+        }
+    }
+    number
+}
+
+/// Whether this is no label field of an initial line.
+fn is_bad_label(field: &[u8]) -> bool
+    requires { length field.now ≤ 5 }
+    ensures { result ≡ is_bad_label_field field.now }
+{
+    !are_label_characters(field) || (has_digit(field) && number_in(field) == 0)
+}
+
+/// The label of an initial line, 0 where there is none; `None` where the label field is a fault.
+#[tactic(auto, using(crate::proofs::Cards::bad_label_card, crate::proofs::Cards::label_card))]
+pub(crate) fn label_of(columns: &[u8]) -> Option<u32>
+    requires { length columns.now ≤ 72 }
+    ensures { result ≡ (if has_bad_label (card columns.now) then None else Some (label (card columns.now))) }
+{
+    let field = label_field(columns);
+    if is_bad_label(field) { None } else { Some(number_in(field)) }
+}
+
+/// The line without the carriage return at its end, if it has one.
+fn without_return(line: &[u8]) -> &[u8]
+    ensures { result.now ≡ strip_carriage_return line.now }
+{
+    let n = line.len();
+    if n > 0 && line[n - 1] == b'\r' { &line[..n - 1] } else { line }
+}
+
+/// The place of the first LF.
+fn first_break(text: &[u8]) -> Option<usize>
+    ensures { result ≡ position (λ c. c == 10) text.now }
+{
+    text.iter().position(|c| *c == b'\n')
+}
+
+/// The first line of a text, and the text after it.
+pub(crate) fn split_line(text: &[u8]) -> (&[u8], &[u8])
+    requires { 0 < length text.now }
+    ensures lines { lines text.now ≡ result.0.now ∷ lines result.1.now }
+    ensures shorter { length result.1.now < length text.now }
+{
+    match first_break(text) {
+        Some(n) => (without_return(&text[..n]), &text[n + 1..]),
+        None => (text, &text[text.len()..]),
+    }
 }
