@@ -1,2 +1,3 @@
 mod Cards
 mod Lines
+mod Texts

@@ -1,5 +1,6 @@
 pub mod Columns
 pub mod Fault
+pub mod OpenStmt
 pub mod Reading
 pub mod SourceLine
 pub mod Statement

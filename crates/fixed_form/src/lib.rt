@@ -3,6 +3,7 @@
 
 mod form_end;
 mod line;
+mod open_stmt;
 mod raw_stmt;
 
 pub use form_end::FormEnd;
