@@ -2,7 +2,7 @@
 use Rattle.std.proofs.Common.{◌≡◌, ◌==◌, ℕ, zero, suc, ◌+◌, ◌-◌, ◌<◌, ◌≤◌, Bool, true, false, cond, not, ◌&&◌, ◌||◌, List, [], ◌∷◌, ◌++◌, length, get_or, take, drop, replicate, refl, sym, ap, ◌∙◌, subst, ⊎_elim, arith, length-append}
 use Rattle.std.proofs.Math.Seq.{take-append-add, drop-append-add}
 use Rattle.std.proofs.lemmas.Bool.{cases_lt}
-use Rattle.std.proofs.lemmas.List.{take-append-le, take-take, length-take-le, take-replicate, drop-replicate, drop-append-le, drop_all, take_all, append-nil, get_or_append_left, get_or_default, get_or-append_right, get_or-replicate, get_or_past}
+use Rattle.std.proofs.lemmas.List.{length-drop, length-replicate, take-append-le, take-take, length-take-le, take-replicate, drop-replicate, drop-append-le, drop_all, take_all, append-nil, get_or_append_left, get_or_default, get_or-append_right, get_or-replicate, get_or_past}
 use Rattle.std.proofs.lemmas.List.Elements.{All-replicate, filter-append}
 use Rattle.std.proofs.lemmas.List.Folds.{list_all-append, list_any-append}
 use Rattle.std.proofs.lemmas.List.Sums.{list_all-from_AllPass}
@@ -119,3 +119,11 @@ bad_label_card xs short =
     ap (λ b. not b || (list_any is_ascii_digit (take 5 (card xs)) && number (filter is_ascii_digit (take 5 (card xs))) == 0)) all
     ∙ ap (λ b. not (list_all is_label_character (take 5 xs)) || (b && number (filter is_ascii_digit (take 5 (card xs))) == 0)) any
     ∙ ap (λ ds. not (list_all is_label_character (take 5 xs)) || (list_any is_ascii_digit (take 5 xs) && number ds == 0)) (digits_card xs short)
+
+pub length-card : (xs : List ℕ) → length (card xs) ≡ 72
+unfolding card
+length-card xs =
+    length-take-le 72 (xs ++ replicate 72 32) (omega (arith, length-append xs (replicate 72 32), length-replicate {A = ℕ} 72 32))
+
+pub length-statement_field : (xs : List ℕ) → length (drop 6 (card xs)) ≡ 66
+length-statement_field xs = omega (arith, length-drop 6 (card xs), length-card xs)

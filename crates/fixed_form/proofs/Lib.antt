@@ -1,3 +1,5 @@
 mod Cards
+mod Faults
 mod Lines
+mod Steps
 mod Texts

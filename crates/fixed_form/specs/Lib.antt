@@ -1,6 +1,7 @@
 pub mod Columns
 pub mod Fault
 pub mod OpenStmt
+pub mod Reader
 pub mod Reading
 pub mod SourceLine
 pub mod Statement

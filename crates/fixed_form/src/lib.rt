@@ -5,6 +5,7 @@ mod form_end;
 mod line;
 mod open_stmt;
 mod raw_stmt;
+mod reader;
 
 pub use form_end::FormEnd;
 pub use raw_stmt::{RawStmt, RawStmtList};

@@ -4,9 +4,10 @@ ghost use Rattle.std.specs.Prelude.{◌≡◌, ◌+◌, ◌-◌, ◌<◌, ◌≤
 ghost use Rattle.std.specs.Option.{option_to_list};
 ghost use Rattle.fixed_form.specs.Columns.{card, statement_field as spec_statement_field};
 ghost use Rattle.fixed_form.specs.Statement.{kept as spec_kept, inside_after as spec_inside_after};
-ghost use Rattle.fixed_form.specs.OpenStmt.{with_characters};
+ghost use Rattle.fixed_form.specs.OpenStmt.{begun, with_characters};
 
 use df_sequence::{CharList, NoMemory};
+use std::alloc::Global;
 
 /// A statement whose last line may be still to come.
 #[derive(Drop)]
@@ -51,6 +52,13 @@ fn statement_field(columns: &[u8]) -> &[u8]
 }
 
 impl OpenStmt {
+    /// A statement without characters.
+    pub(crate) fn new(alloc: Global, label: u32, line: u32) -> OpenStmt
+        ensures { result ≡ begun label line }
+    {
+        OpenStmt { label, line, text: CharList::new(alloc), is_inside: false, continuations: 0 }
+    }
+
     /// Goes on with a character.
     fn put(&mut self, character: u8) -> Result<(), NoMemory>
         requires { length self.old.text < 4294967295 }
