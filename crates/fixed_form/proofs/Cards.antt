@@ -127,3 +127,7 @@ length-card xs =
 
 pub length-statement_field : (xs : List ℕ) → length (drop 6 (card xs)) ≡ 66
 length-statement_field xs = omega (arith, length-drop 6 (card xs), length-card xs)
+
+pub blank_field_card : (xs : List ℕ) → length xs ≤ 72 → is_blank (take 5 (card xs)) ≡ is_blank (take 5 xs)
+blank_field_card xs short =
+    ap is_blank (take-card 5 xs short (omega arith)) ∙ list_all-filled (λ c. c == 32) refl (take 5 xs) (5 - length xs)

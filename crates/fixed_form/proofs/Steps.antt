@@ -1,8 +1,9 @@
 -- What one line more makes of what is read.
-use Rattle.std.proofs.Common.{◌≡◌, ℕ, suc, ◌+◌, ◌<◌, ◌≤◌, Bool, true, false, cond, List, [], ◌∷◌, ◌++◌, length, Option, Some, None, refl, sym, ap, ◌∙◌, arith, length-append, append_assoc}
+use Rattle.std.proofs.Common.{◌≡◌, ℕ, suc, ◌+◌, ◌<◌, ◌≤◌, Bool, true, false, cond, List, [], ◌∷◌, ◌++◌, length, Option, Some, None, Ok, Err, refl, sym, ap, ◌∙◌, arith, length-append, append_assoc}
 use Rattle.std.proofs.lemmas.List.{length_push}
 use Rattle.std.proofs.lemmas.Bool.{cond-true, cond-false}
 use Rattle.std.specs.List.{filter}
+use Rattle.fixed_form.specs.declared.form_end.FormEnd.TheVariants.{NoEnd}
 use Rattle.fixed_form.specs.declared.line.LineKind.{LineKind}
 use Rattle.fixed_form.specs.declared.line.LineKind.TheVariants.{Comment, Initial, Continuation}
 use Rattle.fixed_form.specs.declared.raw_stmt.RawStmt.{RawStmt}
@@ -10,9 +11,10 @@ use Rattle.fixed_form.specs.declared.open_stmt.OpenStmt.{OpenStmt}
 use Rattle.fixed_form.specs.declared.reader.Reader.{Reader}
 use Rattle.fixed_form.specs.Columns.{kind, label, statement_field}
 use Rattle.fixed_form.specs.SourceLine.{SourceLine, is_initial_kind, is_continuation_kind, is_statement_kind, is_initial_line, is_continuation_line, is_statement_line}
-use Rattle.fixed_form.specs.Statement.{continuations, joined, statement_of, statements_of}
+use Rattle.fixed_form.specs.Statement.{continuations, joined, statement_of, statements_of, ends_with_end}
 use Rattle.fixed_form.specs.Fault.{initial_count, continuation_count}
 use Rattle.fixed_form.specs.OpenStmt.{with_characters, begun}
+use Rattle.fixed_form.specs.Reading.{outcome}
 use Rattle.fixed_form.specs.Reader.{closed, closed_last, statements_from, CountsLast, IsLast}
 use Rattle.fixed_form.proofs.Texts.{put-append, put_none}
 
@@ -112,3 +114,27 @@ module _ (line : SourceLine) where
     pub go_on_counts : (stmt : OpenStmt) (done : List RawStmt) (above : List SourceLine) → CountsLast (Some stmt) done above → CountsLast (Some (continued stmt line)) done (line ∷ above)
     go_on_counts stmt done above counts =
         (continuation_initials above ∙ counts.0, omega (arith, continuation_continuations above, counts.1))
+
+-- no line follows
+pub statements_at_end : (done : List RawStmt) (last : Option OpenStmt) → done ++ statements_from last [] ≡ done ++ closed_last last
+statements_at_end done None = refl
+statements_at_end done (Some stmt) = ap (λ s. done ++ (closed s ∷ [])) (put_none stmt)
+
+ends_with_end_push : (done : List RawStmt) (stmt : RawStmt) → ends_with_end (done ++ stmt ∷ []) ≡ ends_with_end (stmt ∷ [])
+ends_with_end_push [] stmt = refl
+ends_with_end_push (first ∷ []) stmt = refl
+ends_with_end_push (first ∷ second ∷ more) stmt = ends_with_end_push (second ∷ more) stmt
+
+-- the statement begun last is the last one
+ends_at_last : (done : List RawStmt) (last : Option OpenStmt) → IsLast last done → ends_with_end (done ++ closed_last last) ≡ ends_with_end (closed_last last)
+ends_at_last done None bounds = ap (λ (ss : List RawStmt). ends_with_end (ss ++ [])) bounds
+ends_at_last done (Some stmt) bounds = ends_with_end_push done (closed stmt)
+
+module _ (done : List RawStmt) (last : Option OpenStmt) (lines : ℕ) (bounds : IsLast last done) where
+  pub refused_at_end : ends_with_end (closed_last last) ≡ false → outcome None (done ++ statements_from last []) lines ≡ Err (NoEnd (lines + 1))
+  refused_at_end e =
+      ap (λ ss. outcome None ss lines) (statements_at_end done last) ∙ cond-false (ends_with_end (done ++ closed_last last)) (Ok (done ++ closed_last last)) (Err (NoEnd (lines + 1))) (ends_at_last done last bounds ∙ e)
+
+  pub accepted_at_end : ends_with_end (closed_last last) ≡ true → outcome None (done ++ statements_from last []) lines ≡ Ok (done ++ closed_last last)
+  accepted_at_end e =
+      ap (λ ss. outcome None ss lines) (statements_at_end done last) ∙ cond-true (ends_with_end (done ++ closed_last last)) (Ok (done ++ closed_last last)) (Err (NoEnd (lines + 1))) (ends_at_last done last bounds ∙ e)

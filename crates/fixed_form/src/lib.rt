@@ -6,6 +6,8 @@ mod line;
 mod open_stmt;
 mod raw_stmt;
 mod reader;
+mod source;
 
 pub use form_end::FormEnd;
 pub use raw_stmt::{RawStmt, RawStmtList};
+pub use source::statements;

@@ -36,7 +36,7 @@ fn character_in(columns: &[u8], n: usize) -> u8
 }
 
 /// Whether there are only blanks.
-pub(crate) fn is_blank(characters: &[u8]) -> bool
+fn is_blank(characters: &[u8]) -> bool
     ensures { result ≡ spec_is_blank characters.now }
 {
     characters.iter().all(|c| *c == b' ')
@@ -88,7 +88,7 @@ pub(crate) fn has_bad_byte(columns: &[u8]) -> bool
 }
 
 /// Columns 1 to 5, as far as the line has them.
-pub(crate) fn label_field(columns: &[u8]) -> &[u8]
+fn label_field(columns: &[u8]) -> &[u8]
     ensures field { result.now ≡ take 5 columns.now }
     ensures short { length result.now ≤ 5 }
 {
@@ -140,6 +140,15 @@ pub(crate) fn label_of(columns: &[u8]) -> Option<u32>
 {
     let field = label_field(columns);
     if is_bad_label(field) { None } else { Some(number_in(field)) }
+}
+
+/// Whether columns 1 to 5 are blank.
+#[tactic(auto, using(crate::proofs::Cards::blank_field_card))]
+pub(crate) fn has_blank_label(columns: &[u8]) -> bool
+    requires { length columns.now ≤ 72 }
+    ensures { result ≡ spec_is_blank (spec_label_field (card columns.now)) }
+{
+    is_blank(label_field(columns))
 }
 
 /// The line without the carriage return at its end, if it has one.

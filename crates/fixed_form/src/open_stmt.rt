@@ -107,4 +107,16 @@ impl OpenStmt {
         self.put_blanks(66 - field.len())?;
         Ok(())
     }
+
+    /// Goes on with a continuation line.
+    pub(crate) fn go_on(&mut self, columns: &[u8]) -> Result<(), NoMemory>
+        requires short { length columns.now ≤ 72 }
+        requires room { length self.old.text + 66 < 4294967296 }
+        requires count { self.old.continuations < 4294967295 }
+        ensures { OnOk result (self.new ≡ record (with_characters self.old (spec_statement_field (card columns.now))) { continuations = self.old.continuations + 1 }) }
+    {
+        self.add(columns)?;
+        self.continuations += 1;
+        Ok(())
+    }
 }
