@@ -64,7 +64,6 @@ module _ (line : SourceLine) where
     begins : (more : List SourceLine) → statements_of (line ∷ more) ≡ statement_of line (continuations more) ∷ statements_of more
     begins more = cond-true (is_initial_line line) (statement_of line (continuations more) ∷ statements_of more) (statements_of more) (ap is_initial_kind k)
 
-
     from_initial : (last : Option OpenStmt) (more : List SourceLine) → statements_from last (line ∷ more) ≡ closed_last last ++ (statement_of line (continuations more) ∷ statements_of more)
     from_initial None more = begins more
     from_initial (Some stmt) more =

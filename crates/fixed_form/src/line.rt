@@ -32,7 +32,11 @@ fn character_in(columns: &[u8], n: usize) -> u8
     requires last { n ≤ 72 }
     ensures { result ≡ column n (card columns.now) }
 {
-    if n <= columns.len() { columns[n - 1] } else { b' ' }
+    if n <= columns.len() {
+        columns[n - 1]
+    } else {
+        b' '
+    }
 }
 
 /// Whether there are only blanks.
@@ -92,7 +96,11 @@ fn label_field(columns: &[u8]) -> &[u8]
     ensures field { result.now ≡ take 5 columns.now }
     ensures short { length result.now ≤ 5 }
 {
-    if columns.len() < 5 { columns } else { &columns[..5] }
+    if columns.len() < 5 {
+        columns
+    } else {
+        &columns[..5]
+    }
 }
 
 /// Whether there are only digits and blanks.
@@ -139,7 +147,11 @@ pub(crate) fn label_of(columns: &[u8]) -> Option<u32>
     ensures { result ≡ (if has_bad_label (card columns.now) then None else Some (label (card columns.now))) }
 {
     let field = label_field(columns);
-    if is_bad_label(field) { None } else { Some(number_in(field)) }
+    if is_bad_label(field) {
+        None
+    } else {
+        Some(number_in(field))
+    }
 }
 
 /// Whether columns 1 to 5 are blank.
@@ -156,7 +168,11 @@ fn without_return(line: &[u8]) -> &[u8]
     ensures { result.now ≡ strip_carriage_return line.now }
 {
     let n = line.len();
-    if n > 0 && line[n - 1] == b'\r' { &line[..n - 1] } else { line }
+    if n > 0 && line[n - 1] == b'\r' {
+        &line[..n - 1]
+    } else {
+        line
+    }
 }
 
 /// The place of the first LF.

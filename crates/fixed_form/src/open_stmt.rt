@@ -39,7 +39,11 @@ fn kept(is_inside: bool, character: u8) -> Option<u8>
 fn inside_after(is_inside: bool, character: u8) -> bool
     ensures { result ≡ spec_inside_after is_inside character }
 {
-    if character == b'\'' { !is_inside } else { is_inside }
+    if character == b'\'' {
+        !is_inside
+    } else {
+        is_inside
+    }
 }
 
 /// Columns 7 to 72, as far as the line has them.
@@ -48,7 +52,11 @@ fn statement_field(columns: &[u8]) -> &[u8]
     ensures field { result.now ≡ drop 6 columns.now }
     ensures len { length result.now ≡ length columns.now - 6 }
 {
-    if columns.len() < 6 { &columns[columns.len()..] } else { &columns[6..] }
+    if columns.len() < 6 {
+        &columns[columns.len()..]
+    } else {
+        &columns[6..]
+    }
 }
 
 impl OpenStmt {
@@ -56,7 +64,13 @@ impl OpenStmt {
     pub(crate) fn new(alloc: Global, label: u32, line: u32) -> OpenStmt
         ensures { result ≡ begun label line }
     {
-        OpenStmt { label, line, text: CharList::new(alloc), is_inside: false, continuations: 0 }
+        OpenStmt {
+            label,
+            line,
+            text: CharList::new(alloc),
+            is_inside: false,
+            continuations: 0,
+        }
     }
 
     /// Goes on with a character.

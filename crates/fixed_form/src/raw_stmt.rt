@@ -18,6 +18,10 @@ pub type RawStmtList = Sequence<RawStmt>;
 impl Copied for RawStmt {
     fn copy(&self, alloc: Global) -> Result<RawStmt, NoMemory> {
         let text = self.text.copy(alloc)?;
-        Ok(RawStmt { label: self.label, line: self.line, text })
+        Ok(RawStmt {
+            label: self.label,
+            line: self.line,
+            text,
+        })
     }
 }

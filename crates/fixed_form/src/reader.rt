@@ -8,7 +8,9 @@ ghost use Rattle.fixed_form.specs.Statement.{ends_with_end};
 ghost use Rattle.fixed_form.specs.Reading.{outcome};
 ghost use Rattle.fixed_form.specs.Reader.{closed, closed_last, statements_after, HasRead, IsBounded, Reads};
 
-use crate::line::{LineKind, has_bad_byte, has_blank_label, in_columns, kind_of, label_of, split_line};
+use crate::line::{
+    LineKind, has_bad_byte, has_blank_label, in_columns, kind_of, label_of, split_line,
+};
 use crate::open_stmt::OpenStmt;
 use crate::{FormEnd, RawStmt, RawStmtList};
 use df_sequence::{CharList, NoMemory};
@@ -36,7 +38,11 @@ impl Reader {
     pub(crate) fn new(alloc: Global) -> Reader
         ensures { result ≡ record { done = []; last = None; lines = 0 } }
     {
-        Reader { done: RawStmtList::new(alloc), last: None, lines: 0 }
+        Reader {
+            done: RawStmtList::new(alloc),
+            last: None,
+            lines: 0,
+        }
     }
 
     /// Puts the statement begun last beside the others.
@@ -45,7 +51,11 @@ impl Reader {
         ensures { OnOk result (self.new ≡ record self.old { done = self.old.done ++ closed_last self.old.last; last = None }) }
     {
         if let Some(stmt) = self.last.take() {
-            self.done.push(RawStmt { label: stmt.label, line: stmt.line, text: stmt.text })?;
+            self.done.push(RawStmt {
+                label: stmt.label,
+                line: stmt.line,
+                text: stmt.text,
+            })?;
         }
         Ok(())
     }

@@ -15,5 +15,5 @@ returns-in-Some-clause-lines c =
 pub returns-in-None-clause-lines : goal.returns-in-None-clause-lines
 returns-in-None-clause-lines c =
     let text = c.args.text.now in
-    lines_whole text (sym c.in-None.ensures) c.requires 
+    lines_whole text (sym c.in-None.ensures) c.requires
     ∙ ap (λ rest. text ∷ lines rest) (sym (take_rest text (length text) ∙ drop_all (length text) text (omega arith)))

@@ -43,9 +43,8 @@ returns-clause-reads c above has =
     let found = label_some (has_bad_label line.card) c.in-Some.label (label line.card) c.in-Some.ensures in
     let done : c.close.new.self.done ≡ old.done ++ closed_last old.last = ap (λ r. r.done) c.in_ok-close.ensures in
     let few : initial_count above < 4000 = omega (arith, initial_count_is old.last old.done above has c.requires.bounded.last, ap (λ (ss : List RawStmt). length ss) done) in
-    let counts = begin_counts line c.requires.initial old.last old.done above has c.requires.bounded.last in
-    (
+    let counts = begin_counts line c.requires.initial old.last old.done above has c.requires.bounded.last in (
       initial_fine above line c.requires.initial (sym c.has_bad_byte.ensures ∙ c.if-has_bad_byte.false) found.0 few,
       (counts.0 ∙ ap (λ (ss : List RawStmt). length ss + 1) (sym done), ap (λ s. s.continuations) (stmt_is c) ∙ counts.1),
-      λ rest. begin_statements line c.requires.initial old.last old.done rest ∙ ap (λ (ss : List RawStmt). ss ++ statements_from (Some (new_stmt line)) (filter is_statement_line rest)) (sym done) ∙ ap (λ (s : OpenStmt). c.close.new.self.done ++ statements_from (Some s) (filter is_statement_line rest)) (sym (stmt_is c))
+      λ rest. begin_statements line c.requires.initial old.last old.done rest ∙ ap (λ (ss : List RawStmt). ss ++ statements_from (Some (new_stmt line)) (filter is_statement_line rest)) (sym done) ∙ ap (λ (s : OpenStmt). c.close.new.self.done ++ statements_from (Some s) (filter is_statement_line rest)) (sym (stmt_is c)),
     )

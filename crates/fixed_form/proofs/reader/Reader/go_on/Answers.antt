@@ -31,9 +31,8 @@ returns-clause-reads c above has =
     let line = numbered old.lines c.args.columns.now in
     let counts = subst (λ (last : Option OpenStmt). CountsLast last old.done above) c.in-Some.is has in
     let is : c.go_on.new.self ≡ continued stmt line = c.in_ok-go_on.ensures in
-    let more = go_on_counts line c.requires.continuation stmt old.done above counts in
-    (
+    let more = go_on_counts line c.requires.continuation stmt old.done above counts in (
       continuation_fine above line c.requires.continuation (sym c.has_bad_byte.ensures ∙ c.if-has_bad_byte.false) (sym c.has_blank_label.ensures ∙ c.if-not-has_blank_label.false) (omega (arith, counts.0)) (omega (arith, counts.1)),
       (more.0, ap (λ s. s.continuations) is ∙ more.1),
-      λ rest. ap (λ (last : Option OpenStmt). old.done ++ statements_from last (filter is_statement_line (line ∷ rest))) c.in-Some.is ∙ go_on_statements line c.requires.continuation stmt old.done rest ∙ ap (λ (s : OpenStmt). old.done ++ statements_from (Some s) (filter is_statement_line rest)) (sym is)
+      λ rest. ap (λ (last : Option OpenStmt). old.done ++ statements_from last (filter is_statement_line (line ∷ rest))) c.in-Some.is ∙ go_on_statements line c.requires.continuation stmt old.done rest ∙ ap (λ (s : OpenStmt). old.done ++ statements_from (Some s) (filter is_statement_line rest)) (sym is),
     )
