@@ -1,5 +1,6 @@
 mod Cards
 mod Faults
+mod Limits
 mod Lines
 mod SoFar
 mod Steps

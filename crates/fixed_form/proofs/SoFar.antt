@@ -1,5 +1,7 @@
 -- What holds while a text is read: the lines read so far and the rest make the reading of the whole.
 use Rattle.std.proofs.Common.{◌≡◌, ◌≢◌, ℕ, ◌+◌, ◌<◌, ◌≤◌, List, [], ◌∷◌, length, Option, Some, None, Result, Ok, Err, refl, sym, ap, ◌∙◌, subst, arith, add-zero, zero-add}
+use Rattle.std.proofs.lemmas.List.Elements.{All-nil}
+use Rattle.fixed_form.specs.Limits.{IsWithinForm}
 use Rattle.std.specs.List.{filter}
 use Rattle.std.specs.Option.{option_or}
 use Rattle.std.specs.Str.Lines.{lines}
@@ -32,7 +34,7 @@ blank_reader = record { done = []; last = None; lines = 0 }
 pub begins_so_far : (bytes : List ℕ) → IsSoFar bytes blank_reader bytes
 begins_so_far bytes = record {
   above = [];
-  bounded = record { done = omega arith; last = refl };
+  bounded = record { done = omega arith; few = omega arith; each = All-nil IsWithinForm; last = refl };
   few = omega arith;
   has_read = refl;
   faults = refl;

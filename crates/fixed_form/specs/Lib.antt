@@ -1,5 +1,6 @@
 pub mod Columns
 pub mod Fault
+pub mod Limits
 pub mod OpenStmt
 pub mod Reader
 pub mod Reading

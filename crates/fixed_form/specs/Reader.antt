@@ -1,13 +1,15 @@
 -- What the reader has read, and what its answer will be.
-use Rattle.std.specs.Prelude.{◌≡◌, ◌≢◌, ℕ, ◌+◌, ◌*◌, ◌≤◌, List, [], ◌∷◌, ◌++◌, length, Option, Some, None, Result, Ok, Err}
-use Rattle.std.specs.List.{filter}
+use Rattle.std.specs.Prelude.{◌≡◌, ◌≢◌, ℕ, ◌+◌, ◌*◌, ◌≤◌, true, false, List, [], ◌∷◌, ◌++◌, length, Option, Some, None, Result, Ok, Err}
+use Rattle.std.specs.List.{All, list_all, filter, fold}
 use Rattle.fixed_form.specs.declared.form_end.FormEnd.{FormEnd}
 use Rattle.fixed_form.specs.declared.form_end.FormEnd.TheVariants.{NoMemory}
 use Rattle.fixed_form.specs.declared.raw_stmt.RawStmt.{RawStmt}
 use Rattle.fixed_form.specs.declared.open_stmt.OpenStmt.{OpenStmt}
 use Rattle.fixed_form.specs.declared.reader.Reader.{Reader}
 use Rattle.fixed_form.specs.SourceLine.{SourceLine, is_statement_line}
-use Rattle.fixed_form.specs.Statement.{continuations, joined, statements_of}
+use Rattle.fixed_form.specs.Columns.{is_character}
+use Rattle.fixed_form.specs.Statement.{text_from, inside_after, continuations, joined, statements_of}
+use Rattle.fixed_form.specs.Limits.{IsWithinForm}
 use Rattle.fixed_form.specs.Fault.{initial_count, continuation_count, fault}
 use Rattle.fixed_form.specs.OpenStmt.{with_characters}
 
@@ -36,14 +38,24 @@ CountsLast (Some stmt) done above = (initial_count above ≡ length done + 1) ×
 abbrev pub HasRead : Reader → List SourceLine → Type 0
 HasRead reader above = CountsLast reader.last reader.done above
 
--- within the bounds of a statement
+-- within the limits of a statement
+pub record IsOpenWithinForm (stmt : OpenStmt) : Type 0 where
+  pub label : stmt.label ≤ 99999
+  pub continued : stmt.continuations ≤ 19
+  pub short : length stmt.text ≤ 66 * (stmt.continuations + 1)
+  pub characters : list_all is_character stmt.text ≡ true
+  pub folded : text_from false stmt.text ≡ stmt.text
+  pub inside : fold inside_after false stmt.text ≡ stmt.is_inside
+
 abbrev pub IsLast : Option OpenStmt → List RawStmt → Type 0
 IsLast None done = done ≡ []
-IsLast (Some stmt) done = (stmt.continuations ≤ 19) × (length stmt.text ≤ 66 * (stmt.continuations + 1))
+IsLast (Some stmt) done = IsOpenWithinForm stmt
 
--- within the bounds of a text
+-- within the limits of a text
 pub record IsBounded (reader : Reader) : Type 0 where
   pub done : length reader.done ≤ 4000
+  pub few : length (reader.done ++ closed_last reader.last) ≤ 4000
+  pub each : All IsWithinForm reader.done
   pub last : IsLast reader.last reader.done
 
 -- a line was read below these, or refused

@@ -1,6 +1,6 @@
 //! What stands in the columns of one line.
 
-ghost use Rattle.std.specs.Prelude.{◌≡◌, ◌==◌, ◌<◌, ◌≤◌, ◌^◌, ◌∷◌, length, take, Option, None, Some, if◌then◌else◌};
+ghost use Rattle.std.specs.Prelude.{◌≡◌, ◌==◌, ◌<◌, ◌≤◌, ◌^◌, ◌∷◌, length, take, Option, None, Some, IfSome, if◌then◌else◌};
 ghost use Rattle.std.specs.Char.{is_ascii_digit};
 ghost use Rattle.std.specs.List.{list_all, list_any, filter, position};
 ghost use Rattle.std.specs.Str.Lines.{lines, strip_carriage_return};
@@ -144,7 +144,8 @@ fn is_bad_label(field: &[u8]) -> bool
 #[tactic(auto, using(crate::proofs::Cards::bad_label_card, crate::proofs::Cards::label_card))]
 pub(crate) fn label_of(columns: &[u8]) -> Option<u32>
     requires { length columns.now ≤ 72 }
-    ensures { result ≡ (if has_bad_label (card columns.now) then None else Some (label (card columns.now))) }
+    ensures value { result ≡ (if has_bad_label (card columns.now) then None else Some (label (card columns.now))) }
+    ensures small { IfSome result (λ n. n ≤ 99999) }
 {
     let field = label_field(columns);
     if is_bad_label(field) {

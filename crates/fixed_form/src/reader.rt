@@ -5,6 +5,7 @@ ghost use Rattle.fixed_form.specs.declared.line.LineKind.TheVariants.{Initial, C
 ghost use Rattle.fixed_form.specs.Columns.{card, kind};
 ghost use Rattle.fixed_form.specs.SourceLine.{SourceLine, numbered};
 ghost use Rattle.fixed_form.specs.Statement.{ends_with_end};
+ghost use Rattle.fixed_form.specs.Limits.{AreWithinForm};
 ghost use Rattle.fixed_form.specs.Reading.{outcome};
 ghost use Rattle.fixed_form.specs.Reader.{closed, closed_last, statements_after, HasRead, IsBounded, Reads};
 
@@ -143,6 +144,7 @@ impl Reader {
     pub(crate) fn finish(mut self) -> Result<RawStmtList, FormEnd>
         requires few { self.lines < 4294967295 }
         requires bounded { IsBounded self }
+        ensures limits { IfOk result AreWithinForm }
         ensures accepted { IfOk result (λ list. outcome None (statements_after self []) self.lines ≡ Ok list) }
         ensures refused { IfErr result (λ end. end ≢ FormEnd.NoMemory → outcome None (statements_after self []) self.lines ≡ Err end) }
     {

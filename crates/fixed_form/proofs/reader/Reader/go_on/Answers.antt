@@ -1,14 +1,13 @@
-use Rattle.std.proofs.Common.{◌≡◌, ◌++◌, ◌∷◌, ◌+◌, ◌<◌, ◌≤◌, length, Option, Some, ap, sym, ◌∙◌, subst, arith, List}
+use Rattle.std.proofs.Common.{◌≡◌, ◌++◌, [], ◌∷◌, ◌+◌, ◌<◌, ◌≤◌, length, length-append, refl, Option, Some, ap, sym, ◌∙◌, subst, arith, List}
 use Rattle.std.specs.List.{filter}
 use Rattle.fixed_form.specs.declared.open_stmt.OpenStmt.{OpenStmt}
 use Rattle.fixed_form.specs.Columns.{statement_field}
 use Rattle.fixed_form.specs.SourceLine.{SourceLine, numbered, is_statement_line}
 use Rattle.fixed_form.specs.Fault.{initial_count, continuation_count}
 use Rattle.fixed_form.specs.OpenStmt.{with_characters}
-use Rattle.fixed_form.specs.Reader.{statements_from, CountsLast, IsLast, HasRead}
-use Rattle.fixed_form.proofs.Cards.{length-statement_field}
+use Rattle.fixed_form.specs.Reader.{closed, closed_last, statements_from, CountsLast, IsLast, IsOpenWithinForm}
+use Rattle.fixed_form.proofs.Limits.{continued_within}
 use Rattle.fixed_form.proofs.Faults.{continuation_fine}
-use Rattle.fixed_form.proofs.Texts.{put_length}
 use Rattle.fixed_form.proofs.Steps.{continued, go_on_counts, go_on_statements}
 use Rattle.fixed_form.proofs.reader.Reader.go_on.Goals as goal
 
@@ -17,11 +16,14 @@ returns-clause-bounded c =
     let old = c.args.self.now in
     let stmt = c.in-Some.stmt in
     let line = numbered old.lines c.args.columns.now in
-    let bounds = subst (λ (last : Option OpenStmt). IsLast last old.done) c.in-Some.is c.requires.bounded.last in
+    let within = subst (λ (last : Option OpenStmt). IsLast last old.done) c.in-Some.is c.requires.bounded.last in
     let is : c.go_on.new.self ≡ continued stmt line = c.in_ok-go_on.ensures in
+    let few = subst (λ (last : Option OpenStmt). length (old.done ++ closed_last last) ≤ 4000) c.in-Some.is c.requires.bounded.few in
     record {
       done = c.requires.bounded.done;
-      last = (omega (arith, ap (λ s. s.continuations) is), omega (arith, bounds.1, ap (λ s. s.continuations) is, ap (λ s. length s.text) is, put_length stmt (statement_field line.card), length-statement_field c.args.columns.now));
+      few = omega (arith, few, length-append old.done (closed stmt ∷ []), length-append old.done (closed c.go_on.new.self ∷ []));
+      each = c.requires.bounded.each;
+      last = subst IsOpenWithinForm (sym is) (continued_within stmt line c.args.columns.now refl within (omega arith) (sym c.has_bad_byte.ensures ∙ c.if-has_bad_byte.false));
     }
 
 pub returns-clause-reads : goal.returns-clause-reads
