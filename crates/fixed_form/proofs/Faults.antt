@@ -1,8 +1,7 @@
 -- The fault of a line, by its kind.
-use Rattle.std.proofs.Common.{◌≡◌, ℕ, ◌+◌, ◌<◌, ◌≤◌, Bool, true, false, not, cond, leb, eqb, arith, List, Option, Some, None, refl, ap, ◌∙◌, subst}
+use Rattle.std.proofs.Common.{◌≡◌, ℕ, ◌<◌, ◌≤◌, Bool, true, false, not, cond, leb, eqb, arith, List, Some, None, refl, ap, ◌∙◌}
 use Rattle.std.proofs.lemmas.Option.{same_Some}
 use Rattle.std.proofs.lemmas.Bool.{cond-true, cond-false, le-leb, lt-leb, eq-eqb, ne_eqb}
-use Rattle.fixed_form.specs.declared.form_end.FormEnd.{FormEnd}
 use Rattle.fixed_form.specs.declared.form_end.FormEnd.TheVariants.{BadByte, BadLabelField, StrayContinuation, TooManyContinuations, TooManyStatements}
 use Rattle.fixed_form.specs.declared.line.LineKind.TheVariants.{Comment, Initial, Continuation}
 use Rattle.fixed_form.specs.Columns.{kind, is_blank, label_field, has_bad_label, has_bad_byte}

@@ -1,12 +1,11 @@
 -- What is read stays within the limits.
-use Rattle.std.proofs.Common.{◌≡◌, ◌==◌, ℕ, suc, ◌+◌, ◌-◌, ◌*◌, ◌<◌, ◌≤◌, Bool, true, false, not, cond, ◌&&◌, List, [], ◌∷◌, ◌++◌, length, take, drop, Option, Some, None, refl, sym, ap, ◌∙◌, arith, length-append, nat_lt, leb}
-use Rattle.std.proofs.lemmas.Bool.{cond_both, cond-true, cond-false, cases_Bool, and_from, and_parts, eqb-true, eqb-false, eq-eqb, ne_eqb, le-leb, lt-ltb, le-ltb, ltb-true, ltb-false, not-false}
-use Rattle.std.proofs.lemmas.List.{take-append-drop, length_push}
+use Rattle.std.proofs.Common.{◌≡◌, ◌==◌, ℕ, ◌-◌, ◌<◌, ◌≤◌, Bool, true, false, cond, ◌&&◌, List, [], ◌∷◌, ◌++◌, length, take, drop, Option, Some, None, refl, sym, ap, ◌∙◌, arith, nat_lt, leb}
+use Rattle.std.proofs.lemmas.Bool.{cond_both, cond-true, cond-false, and_from, and_parts, eqb-true, ne_eqb, le-leb, lt-ltb, le-ltb, ltb-true, ltb-false, not-false}
+use Rattle.std.proofs.lemmas.List.{take-append-drop}
 use Rattle.std.proofs.lemmas.List.Elements.{All-push, All-append, All-nil}
 use Rattle.std.proofs.lemmas.List.Folds.{list_all-append}
 use Rattle.std.proofs.lemmas.List.Sums.{fold-append}
 use Rattle.std.specs.Char.{to_ascii_uppercase}
-use Rattle.std.specs.Int.{is_in_range}
 use Rattle.std.specs.List.{All, list_all, fold}
 use Rattle.fixed_form.specs.declared.raw_stmt.RawStmt.{RawStmt}
 use Rattle.fixed_form.specs.declared.open_stmt.OpenStmt.{OpenStmt}

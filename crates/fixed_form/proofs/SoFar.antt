@@ -1,13 +1,11 @@
 -- What holds while a text is read: the lines read so far and the rest make the reading of the whole.
-use Rattle.std.proofs.Common.{◌≡◌, ◌≢◌, ℕ, ◌+◌, ◌<◌, ◌≤◌, List, [], ◌∷◌, length, Option, Some, None, Result, Ok, Err, refl, sym, ap, ◌∙◌, subst, arith, add-zero, zero-add}
+use Rattle.std.proofs.Common.{◌≡◌, ℕ, ◌+◌, ◌<◌, ◌≤◌, List, [], ◌∷◌, length, Some, None, Ok, Err, refl, sym, ap, ◌∙◌, arith, add-zero, zero-add}
 use Rattle.std.proofs.lemmas.List.Elements.{All-nil}
 use Rattle.fixed_form.specs.Limits.{IsWithinForm}
 use Rattle.std.specs.List.{filter}
 use Rattle.std.specs.Option.{option_or}
 use Rattle.std.specs.Str.Lines.{lines}
 use Rattle.fixed_form.specs.declared.form_end.FormEnd.{FormEnd}
-use Rattle.fixed_form.specs.declared.form_end.FormEnd.TheVariants.{NoMemory}
-use Rattle.fixed_form.specs.declared.raw_stmt.RawStmt.{RawStmt}
 use Rattle.fixed_form.specs.declared.reader.Reader.{Reader}
 use Rattle.fixed_form.specs.SourceLine.{SourceLine, numbered, numbered_from, source_lines, is_statement_line}
 use Rattle.fixed_form.specs.Statement.{statements_of}

@@ -1,14 +1,12 @@
 -- What one line more makes of what is read.
-use Rattle.std.proofs.Common.{◌≡◌, ℕ, suc, ◌+◌, ◌<◌, ◌≤◌, Bool, true, false, cond, List, [], ◌∷◌, ◌++◌, length, Option, Some, None, Ok, Err, refl, sym, ap, ◌∙◌, arith, length-append, append_assoc}
+use Rattle.std.proofs.Common.{◌≡◌, ℕ, suc, ◌+◌, true, false, List, [], ◌∷◌, ◌++◌, length, Option, Some, None, Ok, Err, refl, sym, ap, ◌∙◌, arith, append_assoc}
 use Rattle.std.proofs.lemmas.List.{length_push}
 use Rattle.std.proofs.lemmas.Bool.{cond-true, cond-false}
 use Rattle.std.specs.List.{filter}
 use Rattle.fixed_form.specs.declared.form_end.FormEnd.TheVariants.{NoEnd}
-use Rattle.fixed_form.specs.declared.line.LineKind.{LineKind}
 use Rattle.fixed_form.specs.declared.line.LineKind.TheVariants.{Comment, Initial, Continuation}
 use Rattle.fixed_form.specs.declared.raw_stmt.RawStmt.{RawStmt}
 use Rattle.fixed_form.specs.declared.open_stmt.OpenStmt.{OpenStmt}
-use Rattle.fixed_form.specs.declared.reader.Reader.{Reader}
 use Rattle.fixed_form.specs.Columns.{kind, label, statement_field}
 use Rattle.fixed_form.specs.SourceLine.{SourceLine, is_initial_kind, is_continuation_kind, is_statement_kind, is_initial_line, is_continuation_line, is_statement_line}
 use Rattle.fixed_form.specs.Statement.{continuations, joined, statement_of, statements_of, ends_with_end}

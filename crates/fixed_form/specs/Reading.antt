@@ -4,7 +4,7 @@ use Rattle.std.specs.List.{filter}
 use Rattle.fixed_form.specs.declared.form_end.FormEnd.{FormEnd}
 use Rattle.fixed_form.specs.declared.form_end.FormEnd.TheVariants.{NoEnd}
 use Rattle.fixed_form.specs.declared.raw_stmt.RawStmt.{RawStmt}
-use Rattle.fixed_form.specs.SourceLine.{SourceLine, source_lines, is_statement_line}
+use Rattle.fixed_form.specs.SourceLine.{source_lines, is_statement_line}
 use Rattle.fixed_form.specs.Statement.{statements_of, ends_with_end}
 use Rattle.fixed_form.specs.Fault.{first_fault}
 

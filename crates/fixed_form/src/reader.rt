@@ -7,14 +7,12 @@ ghost use Rattle.fixed_form.specs.SourceLine.{SourceLine, numbered};
 ghost use Rattle.fixed_form.specs.Statement.{ends_with_end};
 ghost use Rattle.fixed_form.specs.Limits.{AreWithinForm};
 ghost use Rattle.fixed_form.specs.Reading.{outcome};
-ghost use Rattle.fixed_form.specs.Reader.{closed, closed_last, statements_after, HasRead, IsBounded, Reads};
+ghost use Rattle.fixed_form.specs.Reader.{closed_last, statements_after, HasRead, IsBounded, Reads};
 
-use crate::line::{
-    LineKind, has_bad_byte, has_blank_label, in_columns, kind_of, label_of, split_line,
-};
+use crate::line::{LineKind, has_bad_byte, has_blank_label, in_columns, kind_of, label_of};
 use crate::open_stmt::OpenStmt;
 use crate::{FormEnd, RawStmt, RawStmtList};
-use df_sequence::{CharList, NoMemory};
+use df_sequence::NoMemory;
 use std::alloc::Global;
 
 /// A text has at most this many statements.

@@ -1,4 +1,4 @@
-use Rattle.std.proofs.Common.{◌-◌, List, ℕ, length, drop, replicate, sym, ap, ◌∙◌, arith}
+use Rattle.std.proofs.Common.{◌-◌, length, replicate, ap, ◌∙◌, arith}
 use Rattle.fixed_form.specs.OpenStmt.{with_characters}
 use Rattle.fixed_form.proofs.Texts.{put_length, put_card}
 use Rattle.fixed_form.proofs.open_stmt.OpenStmt.add.Goals as goal

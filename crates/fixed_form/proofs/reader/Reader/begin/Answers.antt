@@ -2,7 +2,7 @@ use Rattle.std.proofs.Common.{◌≡◌, ◌++◌, [], ◌∷◌, ◌+◌, ◌<�
 use Rattle.std.specs.List.{All, filter}
 use Rattle.fixed_form.specs.declared.open_stmt.OpenStmt.{OpenStmt}
 use Rattle.fixed_form.specs.declared.raw_stmt.RawStmt.{RawStmt}
-use Rattle.fixed_form.specs.Columns.{card, label, has_bad_label, statement_field}
+use Rattle.fixed_form.specs.Columns.{label, has_bad_label, statement_field}
 use Rattle.fixed_form.specs.SourceLine.{numbered, is_statement_line}
 use Rattle.fixed_form.specs.Fault.{initial_count}
 use Rattle.fixed_form.specs.OpenStmt.{begun, with_characters}

@@ -1,10 +1,7 @@
-use Rattle.std.proofs.Common.{◌≡◌, ◌++◌, [], ◌∷◌, ◌+◌, ◌<◌, ◌≤◌, length, length-append, refl, Option, Some, ap, sym, ◌∙◌, subst, arith, List}
+use Rattle.std.proofs.Common.{◌≡◌, ◌++◌, [], ◌∷◌, ◌≤◌, length, length-append, refl, Option, Some, ap, sym, ◌∙◌, subst, arith}
 use Rattle.std.specs.List.{filter}
 use Rattle.fixed_form.specs.declared.open_stmt.OpenStmt.{OpenStmt}
-use Rattle.fixed_form.specs.Columns.{statement_field}
-use Rattle.fixed_form.specs.SourceLine.{SourceLine, numbered, is_statement_line}
-use Rattle.fixed_form.specs.Fault.{initial_count, continuation_count}
-use Rattle.fixed_form.specs.OpenStmt.{with_characters}
+use Rattle.fixed_form.specs.SourceLine.{numbered, is_statement_line}
 use Rattle.fixed_form.specs.Reader.{closed, closed_last, statements_from, CountsLast, IsLast, IsOpenWithinForm}
 use Rattle.fixed_form.proofs.Limits.{continued_within}
 use Rattle.fixed_form.proofs.Faults.{continuation_fine}
