@@ -1,10 +1,15 @@
 //! The list type that all crates of the compiler share, and their error for want of memory.
 #![tactic(auto)]
 
+mod boxed;
 mod copied;
 mod no_memory;
 mod sequence;
 
+pub use boxed::Boxed;
 pub use copied::Copied;
 pub use no_memory::NoMemory;
 pub use sequence::{CharList, LabelList, NumList, Sequence, WordList};
+
+#[cfg(test)]
+mod tests;

@@ -1,4 +1,4 @@
-ghost use Rattle.std.specs.Prelude.{◌≡◌, ◌<◌, [], ◌∷◌, ◌++◌, length, IsTrue, ◌↔◌, ◌^◌, slice_get, slice_index_or, OnOk, OnErr};
+ghost use Rattle.std.specs.Prelude.{◌≡◌, ◌<◌, [], ◌∷◌, ◌++◌, All, length, IsTrue, ◌↔◌, ◌^◌, slice_get, slice_index_or, OnOk, OnErr};
 
 use crate::{Copied, NoMemory};
 use std::alloc::Global;
@@ -77,6 +77,24 @@ impl<T> Sequence<T> {
         self.items.as_slice()
     }
 }
+
+impl Sequence<u8> {
+    /// All bytes, in order.
+    pub fn as_bytes(&self) -> &[u8]
+        ensures items { result.now ≡ self.now }
+        ensures len { length result.now < 2 ^ 32 }
+        ensures fit { All (λ byte. byte < 256) self.now }
+    {
+        let items = &self.items;
+        fit(items);
+        items.as_slice()
+    }
+}
+
+// What the type of bytes says of them.
+fn fit(bytes: &Vec<u8>)
+    ensures { All (λ byte. byte < 256) bytes.now.items }
+{}
 
 impl<T: Drop> Sequence<T> {
     /// Puts one more item at the end. Where there is no memory for it, the item is dropped.

@@ -1,0 +1,7 @@
+pub mod Adapter
+pub mod Faults
+pub mod MemSink
+pub mod MemSource
+pub mod Read
+pub mod Table
+pub mod Write

@@ -1,0 +1,27 @@
+//! Where bytes come from and go to: sources and sinks that may fail, and count how often they did.
+#![tactic(auto)]
+
+mod faults;
+mod mem_sink;
+mod mem_source;
+mod read;
+mod sink;
+mod source;
+mod std_sink;
+mod std_source;
+mod table;
+mod write;
+
+pub use df_sequence::NoMemory;
+pub use faults::Failed;
+pub use mem_sink::MemSink;
+pub use mem_source::MemSource;
+pub use read::{ReadEnd, read_all};
+pub use sink::Sink;
+pub use source::Source;
+pub use std_sink::StdSink;
+pub use std_source::StdSource;
+pub use write::{WriteFault, write_all};
+
+#[cfg(test)]
+mod tests;
