@@ -1,0 +1,7 @@
+mod Cards
+mod Faults
+mod Limits
+mod Lines
+mod SoFar
+mod Steps
+mod Texts
