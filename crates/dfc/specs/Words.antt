@@ -1,7 +1,6 @@
 -- What the words ask for.
 use Rattle.std.specs.Prelude.{ℕ, List, [], ◌∷◌, Option, Some, None, codes, if◌then◌else◌}
 use Rattle.std.specs.Str.{bytes_eq}
-
 use Rattle.dfc.specs.declared.words.Job.{Job}
 use Rattle.dfc.specs.declared.words.Job.TheVariants.{Fire}
 

@@ -8,9 +8,8 @@ mod top;
 mod words;
 
 use df_io::{StdSink, StdSource};
-use std::env;
-use std::io;
 use std::process::ExitCode;
+use std::{env, io};
 
 // The words could not be had from the system.
 const NO_WORDS: u8 = 8;
@@ -44,3 +43,6 @@ fn arguments(rt: &HostRuntime) -> Result<Vec<String>, u8> {
     }
     Ok(words)
 }
+
+#[cfg(test)]
+mod tests;

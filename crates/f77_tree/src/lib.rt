@@ -10,3 +10,6 @@ pub use evaluation::evaluate;
 pub use expressions::{Access, Expr, ExprList};
 pub use names::Name;
 pub use programs::{Exec, ExecKind, ExecList, Item, ItemList, NameInfo, NameInfoList, Program};
+
+#[cfg(test)]
+mod tests;

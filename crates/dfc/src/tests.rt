@@ -1,0 +1,162 @@
+use crate::top::dfc_main;
+use df_io::{MemSink, MemSource};
+use std::alloc::Global;
+use std::process::Abort;
+use std::test::Fail;
+
+const PROGRAM: &str =
+    "      I=2\n      J=I+I+1\n      PRINT *,J,I\n      K=I-J\n      PRINT *,K\n      END\n";
+
+/// Which calls fail.
+#[derive(Clone, Copy)]
+struct Faults {
+    source: [u32; 1],
+    sink: [u32; 1],
+}
+
+const NONE: Faults = Faults {
+    source: [u32::MAX],
+    sink: [u32::MAX],
+};
+
+fn check(
+    rt: &impl Abort,
+    alloc: Global,
+    words: &[&str],
+    text: &[u8],
+    faults: &Faults,
+    status: u8,
+    written: &str,
+) -> Result<(), Fail> {
+    let mut given = Vec::new(alloc);
+    for word in words {
+        given.push(String::from_str(alloc, word)?)?;
+    }
+    let mut source = MemSource::new(alloc, text, &faults.source, 4096)?;
+    let mut sink = MemSink::new(alloc, 100, &faults.sink, 3)?;
+    let answer = dfc_main(alloc, &given, &mut source, &mut sink);
+    assert_eq!(rt; answer, status);
+    assert_eq!(rt; sink.written(), written.as_bytes());
+    Ok(())
+}
+
+#[test]
+fn fires_straight_programs(rt: HostRuntime) -> Result<(), Fail> {
+    for (text, status, written) in [
+        (PROGRAM, 0, " 5 2\n -3\n"),
+        ("      END\n", 0, ""),
+        ("      PRINT *\n      END", 0, "\n"),
+        (
+            "      I=2\n      J=I*I+1\n      END\n",
+            2,
+            "REFUSED 2 NOTYET\n",
+        ),
+        ("", 2, "REFUSED 1 NOEND\n"),
+        ("      I=1\n", 2, "REFUSED 2 NOEND\n"),
+        (
+            "      N=999999999+N\n      PRINT *,N-1\n      END\n",
+            2,
+            "REFUSED 2 NOTYET\n",
+        ),
+    ] {
+        check(
+            &rt,
+            rt.alloc(),
+            &["fire"],
+            text.as_bytes(),
+            &NONE,
+            status,
+            written,
+        )?;
+    }
+    Ok(())
+}
+
+#[test]
+fn tells_words_without_meaning(rt: HostRuntime) -> Result<(), Fail> {
+    check(
+        &rt,
+        rt.alloc(),
+        &[],
+        PROGRAM.as_bytes(),
+        &NONE,
+        1,
+        "USAGE\n",
+    )?;
+    check(
+        &rt,
+        rt.alloc(),
+        &["run"],
+        PROGRAM.as_bytes(),
+        &NONE,
+        1,
+        "USAGE\n",
+    )?;
+    check(
+        &rt,
+        rt.alloc(),
+        &["fire", "picks="],
+        b"",
+        &NONE,
+        1,
+        "USAGE\n",
+    )
+}
+
+#[test]
+fn blames_what_failed(rt: HostRuntime) -> Result<(), Fail> {
+    let source = Faults {
+        source: [0],
+        sink: [u32::MAX],
+    };
+    let sink = Faults {
+        source: [u32::MAX],
+        sink: [0],
+    };
+    let later = Faults {
+        source: [u32::MAX],
+        sink: [1],
+    };
+    check(
+        &rt,
+        rt.alloc(),
+        &["fire"],
+        PROGRAM.as_bytes(),
+        &source,
+        5,
+        "",
+    )?;
+    check(&rt, rt.alloc(), &["fire"], PROGRAM.as_bytes(), &sink, 6, "")?;
+    check(
+        &rt,
+        rt.alloc(),
+        &["fire"],
+        PROGRAM.as_bytes(),
+        &later,
+        6,
+        " 5 ",
+    )
+}
+
+#[test]
+fn refuses_long_texts(rt: HostRuntime) -> Result<(), Fail> {
+    let text = vec![in rt.alloc(); b'\n'; 4_194_305]?;
+    check(
+        &rt,
+        rt.alloc(),
+        &["fire"],
+        text.as_slice(),
+        &NONE,
+        2,
+        "REFUSED 0 TOOLONG\n",
+    )?;
+    check(
+        &rt,
+        rt.alloc(),
+        &["fire"],
+        &text.as_slice()[1..],
+        &NONE,
+        2,
+        "REFUSED 1 NOTYET\n",
+    )
+}
