@@ -1,6 +1,5 @@
-use crate::{Access, Expr, Name, NameInfo, evaluate};
+use crate::{Expr, Name, evaluate};
 use df_sequence::Sequence;
-use op_table::Op;
 use std::test::Fail;
 
 #[test]
@@ -22,19 +21,7 @@ fn names_have_up_to_six_characters(rt: HostRuntime) -> Result<(), Fail> {
 }
 
 #[test]
-fn sums_wrap(rt: HostRuntime) -> Result<(), Fail> {
-    let mut names = Sequence::new(rt.alloc());
-    names.push(NameInfo {
-        name: Name::new(b"I").ok_or("no name")?,
-        place: 1,
-    })?;
-    let mut operands = Sequence::new(rt.alloc());
-    operands.push(Expr::Read(Access {
-        name: 0,
-        subs: Sequence::new(rt.alloc()),
-    }))?;
-    operands.push(Expr::Const(2147483647))?;
-    let sum = Expr::Apply(Op::Add, operands);
-    assert_eq!(rt; evaluate(&sum, &names, &[7, 3]), Ok(-2147483646));
-    Ok(())
+fn constants_have_values(rt: HostRuntime) {
+    let names = Sequence::new(rt.alloc());
+    assert_eq!(rt; evaluate(&Expr::Const(-7), &names, &[]), Ok(-7));
 }
