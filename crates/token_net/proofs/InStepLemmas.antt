@@ -11,7 +11,7 @@ use Rattle.f77_tree.specs.declared.programs.Exec.{Exec}
 use Rattle.f77_tree.specs.declared.programs.NameInfo.{NameInfo}
 use Rattle.f77_tree.specs.declared.programs.Program.{Program}
 use Rattle.f77_tree.specs.Execution.{outcome}
-use Rattle.f77_tree.specs.Run.{Running, Ended, State, source, step_from, executed_at, after}
+use Rattle.f77_tree.specs.Run.{Ended, State, source, step_from, executed_at, after}
 use Rattle.f77_tree.specs.Straight.{IsStraight, IsStraightKind, IsEnd, count_before_end}
 use Rattle.token_net.specs.Needs.{needs, nodes_of, all_needs, lines_in, needs_at, is_among, distance}
 use Rattle.token_net.specs.Marking.{ready, store_after, line_from, kind_in, kind_at, lowest_ready, fired_if, bytes_in, written_if, played, written}

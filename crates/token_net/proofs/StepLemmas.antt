@@ -1,5 +1,5 @@
 -- A firing of a straight net does what a step of the program does.
-use Rattle.std.proofs.Common.{◌≡◌, ℕ, suc, ◌+◌, ◌<◌, ℤ, List, [], ◌∷◌, ◌++◌, map, length, All, None, Result, Ok, Err, IsOk, refl, sym, ap, ◌∙◌, append-nil, arith}
+use Rattle.std.proofs.Common.{◌≡◌, ℕ, suc, ◌+◌, ℤ, List, [], ◌∷◌, ◌++◌, All, None, Result, Ok, Err, IsOk, refl, ap, ◌∙◌, arith}
 use Rattle.op_table.specs.declared.Trap.{Trap}
 use Rattle.f77_tree.specs.declared.expressions.Access.{Access}
 use Rattle.f77_tree.specs.declared.programs.Item.{Item}
@@ -7,10 +7,10 @@ use Rattle.f77_tree.specs.declared.programs.Item.TheVariants.{Value, Chars}
 use Rattle.f77_tree.specs.declared.programs.ExecKind.{ExecKind}
 use Rattle.f77_tree.specs.declared.programs.ExecKind.TheVariants.{Assign, Print, Pass, Test, Sign, Pick, DoStart, DoNext, End}
 use Rattle.f77_tree.specs.declared.programs.NameInfo.{NameInfo}
-use Rattle.f77_tree.specs.Execution.{Memory, Outcome, outcome, assigned, printed, words_taken}
-use Rattle.f77_tree.specs.Line.{item_text, item_before, line_of, line_of_texts, text_of, kind_of_expression}
+use Rattle.f77_tree.specs.Execution.{outcome, assigned, printed, words_taken}
+use Rattle.f77_tree.specs.Line.{item_text, item_before, line_of, text_of, kind_of_expression}
 use Rattle.f77_tree.specs.Run.{State, after}
-use Rattle.f77_tree.specs.Straight.{IsSafe, IsSafeItem, IsScalar, IsStraightKind}
+use Rattle.f77_tree.specs.Straight.{IsSafeItem, IsScalar, IsStraightKind}
 use Rattle.f77_tree.specs.Value.{value, place, and_then}
 use Rattle.token_net.specs.Marking.{store_after, stored, line_from, line_if, bytes_in}
 
@@ -73,8 +73,8 @@ executed-straight names x line k (Print items next) is =
     ∙ ap (λ (n : ℕ). record x { position = n; out = x.out ++ bytes_in (line_if (line_of names x.memory.store items)) }) is.1
     ∙ ap (λ (n : ℕ). record x { position = suc k; memory = record x.memory { taken = n }; out = x.out ++ bytes_in (line_if (line_of names x.memory.store items)) }) none_more
   where
-  none_more : x.memory.taken ≡ x.memory.taken + 0
-  none_more = omega arith
+    none_more : x.memory.taken ≡ x.memory.taken + 0
+    none_more = omega arith
 executed-straight names x line k (Pass next) is = absurd is
 executed-straight names x line k (Test cond yes' no') is = absurd is
 executed-straight names x line k (Sign e neg zero' pos') is = absurd is

@@ -1,9 +1,9 @@
 -- Markings of a straight net, and how its nodes fire.
-use Rattle.std.specs.Prelude.{◌≢◌, ℕ, zero, suc, ◌<◌, ℤ, Bool, true, List, [], ◌++◌, map, Option, Some, None, Result, Ok, Err, slice_get, slice_set, nat_eq, if◌then◌else◌}
+use Rattle.std.specs.Prelude.{◌≢◌, ℕ, zero, suc, ◌<◌, ℤ, Bool, true, List, [], ◌++◌, Option, Some, None, Result, Ok, Err, slice_get, slice_set, nat_eq, if◌then◌else◌}
 use Rattle.std.specs.List.{list_all}
 use Rattle.op_table.specs.declared.Trap.{Trap}
 use Rattle.f77_tree.specs.declared.programs.ExecKind.{ExecKind}
-use Rattle.f77_tree.specs.declared.programs.ExecKind.TheVariants.{Assign, Print, Pass, Test, Sign, Pick, DoStart, DoNext, End}
+use Rattle.f77_tree.specs.declared.programs.ExecKind.TheVariants.{Assign, Print, End}
 use Rattle.f77_tree.specs.declared.programs.Exec.{Exec}
 use Rattle.f77_tree.specs.declared.programs.NameInfo.{NameInfo}
 use Rattle.f77_tree.specs.declared.programs.Program.{Program}

@@ -1,5 +1,5 @@
 use Rattle.std.proofs.Common.{◌≡◌, ap, sym, ◌∙◌, suc, ◌+◌, add-one, List, [], ◌∷◌, ◌++◌, append_assoc, ℕ, rules}
-use Rattle.f77_tree.specs.declared.expressions.Expr.{Expr, Read}
+use Rattle.f77_tree.specs.declared.expressions.Expr.{Expr}
 use Rattle.token_net.specs.Needs.{reads}
 use Rattle.token_net.proofs.ReadLemmas.{all_reads, reads-Apply, reads-Read}
 use Rattle.token_net.proofs.needing.+push_reads.Goals as goal
