@@ -1,4 +1,5 @@
 pub mod AllLemmas
+pub mod IllFormed
 pub mod KindLemmas
 pub mod RunLaws
 pub mod WellFormedExample
