@@ -1,4 +1,5 @@
 pub mod AllLemmas
+pub mod Coverage
 pub mod IllFormed
 pub mod KindLemmas
 pub mod RunLaws
