@@ -1,5 +1,6 @@
 pub mod AllLemmas
 pub mod Coverage
+pub mod Equations
 pub mod IllFormed
 pub mod KindLemmas
 pub mod RunLaws
