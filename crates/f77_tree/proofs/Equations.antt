@@ -102,7 +102,7 @@ All-filter {X} P test (x ∷ xs) all = by (test x) (All-filter P test xs (All-re
 
 module _ (names : List NameInfo) (bounds : (x : ℕ) → x < length names → All IsDim (dims_of names x)) where
   -- the equation, where it holds, links names whose words overlap or meet
-  abbrev TouchesIfEqual : Equation → Type 0
+  abbrev pub TouchesIfEqual : Equation → Type 0
   TouchesIfEqual e = pos (place_of names e.to) ≡ (pos (place_of names e.from) +ℤ e.distance) → Touches names e
 
   -- a name has at least one word
