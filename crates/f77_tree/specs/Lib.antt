@@ -1,2 +1,4 @@
 pub mod Name
 pub mod Value
+pub mod Known
+pub mod Operations
