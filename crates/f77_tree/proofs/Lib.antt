@@ -1,8 +1,10 @@
 pub mod AllLemmas
 pub mod Coverage
 pub mod Equations
+pub mod ExpressionLemmas
 pub mod IllFormed
 pub mod KindLemmas
+pub mod Places
 pub mod RunLaws
 pub mod WellFormedExample
 pub mod WellFormedLaws
