@@ -1,5 +1,5 @@
 -- What a well-formed program gives to the crates that work on it: each step of it reads and writes only what there is.
-use Rattle.std.proofs.Common.{◌≡◌, ℕ, zero, suc, ◌<◌, pos, List, [], ◌∷◌, ◌++◌, length, get_or, Some, ◌⊎◌, inl, inr, refl, sym, ap, subst, ◌∙◌, arith}
+use Rattle.std.proofs.Common.{◌≡◌, ℕ, zero, suc, ◌<◌, ℤ, Option, Ok, pos, List, [], ◌∷◌, ◌++◌, length, get_or, Some, ◌⊎◌, inl, inr, refl, sym, ap, subst, ◌∙◌, arith}
 use Rattle.std.specs.Prelude.{All, Contains, slice_get, ◌≤ℤ◌, ◌+ℤ◌}
 use Rattle.std.proofs.lemmas.Int.{ints}
 use Rattle.op_table.specs.declared.Op.TheVariants.{Truth}
@@ -15,7 +15,7 @@ use Rattle.f77_tree.specs.declared.programs.Exec.{Exec}
 use Rattle.f77_tree.specs.declared.programs.ExecKind.{ExecKind}
 use Rattle.f77_tree.specs.declared.programs.ExecKind.TheVariants.{Assign, Print, Pass, Test, Sign, Pick, DoStart, DoNext, End}
 use Rattle.f77_tree.specs.declared.programs.Program.{Program}
-use Rattle.f77_tree.specs.Value.{place_of, kind_of, dims_of, size_of, place_in, dims_in, IsExpression, IsAccess, ArePlaced}
+use Rattle.f77_tree.specs.Value.{place, place_of, kind_of, dims_of, size_of, place_in, dims_in, IsExpression, IsAccess, ArePlaced}
 use Rattle.f77_tree.specs.CanRun.{CanRun, CanExecute, IsNext, IsLoop as IsLoopOf, IsItem as IsItemOf}
 use Rattle.f77_tree.specs.Declarations.{IsNameInfo, IsDim, IsIntegerScalar}
 use Rattle.f77_tree.specs.Kinds.{IsOfKind, IsProperAccess, IsAssignment, taken_as}
@@ -26,6 +26,7 @@ use Rattle.f77_tree.specs.WellFormed.{IsWellFormed, HasKinds, IsItem}
 use Rattle.f77_tree.proofs.AllLemmas.{All-nil, All-cons, All-get, All-first, All-rest}
 use Rattle.f77_tree.proofs.Coverage.{HasWord, Touches, covered}
 use Rattle.f77_tree.proofs.Equations.{TouchesIfEqual, equations-touch, size-one}
+use Rattle.f77_tree.proofs.Places.{place-inside}
 use Rattle.f77_tree.proofs.KindLemmas.{IsProper-expression, IsProper-element, operands-expression}
 
 -- ---- places
@@ -167,3 +168,11 @@ pub well_formed-one_next : (p : Program) → IsWellFormed p → (j k : ℕ) (a b
 well_formed-one_next p is j k a b at_j at_k same =
     let loop = is.execs.loops_nest.each b.number (is.execs.loops_nest.nexts k b at_k) in
     loop.one_next j a at_j same ∙ sym (loop.one_next k b at_k refl)
+
+-- ---- accesses
+
+-- an access of a well-formed program whose subscripts have values within their bounds names a word of the program
+pub well_formed-access : (p : Program) (store : List ℤ) (next : Option ℤ) (access : Access) (word : ℕ) → IsWellFormed p → IsProperAccess p.names access → length store ≡ p.words → place p.names store next access ≡ Ok word → word < p.words
+well_formed-access p store next access word is proper whole at =
+    let placed = subst (λ words. ArePlaced p.names words) (sym whole) (well_formed-placed p is) in
+    subst (λ words. word < words) whole (place-inside p.names store next access word placed (access-of p.names access proper) at)
