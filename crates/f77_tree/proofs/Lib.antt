@@ -6,5 +6,6 @@ pub mod IllFormed
 pub mod KindLemmas
 pub mod Places
 pub mod RunLaws
+pub mod StorageExample
 pub mod WellFormedExample
 pub mod WellFormedLaws
