@@ -4,6 +4,7 @@ pub mod Equations
 pub mod ExpressionLemmas
 pub mod IllFormed
 pub mod KindLemmas
+pub mod NameLemmas
 pub mod Places
 pub mod RunLaws
 pub mod StorageExample
