@@ -1,2 +1,3 @@
 pub mod ExpressionLemmas
 pub mod Places
+pub mod Safety
