@@ -7,6 +7,7 @@ pub mod KindLemmas
 pub mod NameLemmas
 pub mod Places
 pub mod RunLaws
+pub mod Safety
 pub mod StorageExample
 pub mod WellFormedExample
 pub mod WellFormedLaws
