@@ -1,2 +1,4 @@
+pub mod ExpressionLemmas
+pub mod Places
 pub mod RunLaws
 pub mod Taking

@@ -1,6 +1,5 @@
 -- The value of an expression over a store, and the word that an access names.
 use Rattle.std.specs.Prelude.{◌≡◌, ℕ, suc, ◌<◌, ◌≤◌, ℤ, pos, ◌+ℤ◌, ◌-ℤ◌, ◌*ℤ◌, ◌≤ℤ◌, nat_abs, List, [], ◌∷◌, length, map, Option, Some, None, Result, Ok, Err, slice_get, unwrap_or, ok_or, All}
-use Rattle.op_table.specs.declared.Op.{Op}
 use Rattle.op_table.specs.declared.Op.TheVariants.{Bound, Place}
 use Rattle.op_table.specs.declared.Trap.{Trap}
 use Rattle.op_table.specs.declared.Trap.TheVariants.{Input as NoInput}

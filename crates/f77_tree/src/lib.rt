@@ -2,6 +2,7 @@
 #![tactic(auto)]
 
 mod declarations;
+mod evaluation;
 mod expressions;
 mod names;
 mod programs;
@@ -11,6 +12,7 @@ pub use declarations::{
     CommonPart, CommonPartList, Decl, DeclList, Dim, DimList, GroupList, InitPart, InitPartList,
     InitValue, InitValueList, Kind, LetterRange, LetterRangeList, Lit, Member, MemberList, Text,
 };
+pub use evaluation::{evaluate, locate};
 pub use expressions::{Access, Expr, ExprList};
 pub use names::Name;
 pub use programs::{Exec, ExecKind, ExecList, Item, ItemList, NameInfo, NameInfoList, Program};
