@@ -1,21 +1,22 @@
 // What the kinds of executables do that write nothing.
 
-ghost use Rattle.std.specs.Prelude.{◌≡◌, ◌+◌, ◌≤◌, pos, length, slice_get, if◌then◌else◌, OnErr, None};
+ghost use Rattle.std.specs.Prelude.{◌≡◌, ◌+◌, ◌<◌, ◌≤◌, IfOk, pos, length, slice_get, if◌then◌else◌, OnErr, None};
 ghost use Rattle.op_table.specs.Words.{is_true};
-ghost use Rattle.f77_tree.specs.Execution.{assigned, branched, by_sign, by_number, words_taken};
-ghost use Rattle.f77_tree.specs.Value.{value, place, IsExpression, IsAccess, ArePlaced};
-ghost use Rattle.f77_meaning.specs.Storage.{memory_of, outcome_of};
+ghost use Rattle.f77_tree.specs.Execution.{assigned, branched, begun, outcome, by_sign, by_number, words_taken};
+ghost use Rattle.f77_tree.specs.Value.{value, place, place_of, IsExpression, IsAccess, ArePlaced};
+ghost use Rattle.f77_tree.specs.CanRun.{CanExecute};
+ghost use Rattle.f77_meaning.specs.Kinds.{IsSilent};
+ghost use Rattle.f77_meaning.specs.Storage.{memory_of, outcome_of, HasSizes};
 
 use crate::branches::{successor_by_number, successor_by_sign};
-use crate::evaluation::{evaluate, locate};
-use crate::storage::Storage;
+
+use crate::storage::{Storage, begin, increment};
 use crate::taking::count_taken;
 use df_sequence::LabelList;
-use f77_tree::{Access, Expr, NameInfoList};
+use f77_tree::{Access, ExecKind, Expr, NameInfoList, Program, evaluate, locate};
 use op_table::Trap;
 
 // Assigns a value, and answers the successor.
-#[tactic(auto, using(f77_tree::proofs::Taking::taken_within))]
 pub fn assign(
     s: &mut Storage,
     names: &NameInfoList,
@@ -30,14 +31,48 @@ pub fn assign(
     requires data { s.old.taken ≤ length input.now.items }
     ensures outcome { let word = slice_get input.now.items s.old.taken in assigned (memory_of s.old) next (s.old.taken + words_taken e.now) (place names.now s.old.store.items word target.now) (value names.now s.old.store.items word e.now) ≡ outcome_of result (memory_of s.new) }
     ensures trap { OnErr result (s.new ≡ s.old) }
+    ensures sizes { HasSizes s.old s.new }
     ensures data { s.new.taken ≤ length input.now.items }
 {
-    let word = next_word(input, s.taken);
-    let k = locate(target, names, &s.store, word)?;
-    let z = evaluate(e, names, &s.store, word)?;
+    let k = word_of(target, names, &s.store, next_word(input, s.taken))?;
+    let z = value_of(e, names, &s.store, input, s.taken)?;
     s.store[k as usize] = z;
     s.taken += count_taken(e);
     Ok(next)
+}
+
+// The word that an access names.
+#[tactic(auto, using(crate::proofs::Words::place_inside))]
+fn word_of(
+    access: &Access,
+    names: &NameInfoList,
+    store: &Vec<i32>,
+    next: Option<i32>,
+) -> Result<u32, Trap>
+    requires access { IsAccess names.now access.now }
+    requires places { ArePlaced names.now (length store.now.items) }
+    ensures place { result ≡ place names.now store.now.items next access.now }
+    ensures inside { IfOk result (λ word. word < length store.now.items) }
+{
+    locate(access, names, store, next)
+}
+
+// The value of an expression over the next word of the data.
+
+fn value_of(
+    e: &Expr,
+    names: &NameInfoList,
+    store: &Vec<i32>,
+    input: &Vec<i32>,
+    taken: usize,
+) -> Result<i32, Trap>
+    requires expression { IsExpression names.now e.now }
+    requires places { ArePlaced names.now (length store.now.items) }
+    requires data { taken ≤ length input.now.items }
+    ensures value { result ≡ value names.now store.now.items (slice_get input.now.items taken) e.now }
+    ensures data { IfOk result (λ z. taken + words_taken e.now ≤ length input.now.items) }
+{
+    evaluate(e, names, store, next_word(input, taken))
 }
 
 // The next word of the data, if there is one.
@@ -88,4 +123,116 @@ pub fn pick(
 {
     let v = evaluate(e, names, &s.store, None)?;
     Ok(successor_by_number(v, targets, other))
+}
+
+// Begins a DO whose variable has this word.
+fn start_loop(
+    s: &mut Storage,
+    names: &NameInfoList,
+    loop_no: u32,
+    word: u32,
+    first: &Expr,
+    last: &Expr,
+    step: &Expr,
+    body: u32,
+    exit: u32,
+) -> Result<u32, Trap>
+    requires first { IsExpression names.now first.now }
+    requires last { IsExpression names.now last.now }
+    requires step { IsExpression names.now step.now }
+    requires places { ArePlaced names.now (length s.old.store.items) }
+    requires word { word < length s.old.store.items }
+    requires count { loop_no < length s.old.counts.items }
+    requires kept { loop_no < length s.old.steps.items }
+    ensures outcome { begun (memory_of s.old) loop_no word body exit (value names.now s.old.store.items None first.now) (value names.now s.old.store.items None last.now) (value names.now s.old.store.items None step.now) ≡ outcome_of result (memory_of s.new) }
+    ensures trap { OnErr result (s.new ≡ s.old) }
+    ensures sizes { HasSizes s.old s.new }
+    ensures data { s.new.taken ≡ s.old.taken }
+{
+    let first = evaluate(first, names, &s.store, None)?;
+    let last = evaluate(last, names, &s.store, None)?;
+    let step = evaluate(step, names, &s.store, None)?;
+    begin(s, loop_no, word, body, exit, first, last, step)
+}
+
+// The first word of a name.
+fn place_of_name(names: &NameInfoList, k: u32) -> u32
+    requires { k < length names.now }
+    ensures { result ≡ place_of names.now k }
+{
+    names.at(k).place
+}
+
+// Executes what writes nothing and does not end the run, and answers the successor.
+pub fn execute(
+    s: &mut Storage,
+    p: &Program,
+    input: &Vec<i32>,
+    kind: &ExecKind,
+) -> Result<u32, Trap>
+    requires silent { IsSilent kind.now }
+    requires executes { CanExecute p.now kind.now }
+    requires places { ArePlaced p.now.names (length s.old.store.items) }
+    requires words { length s.old.store.items ≡ p.now.words }
+    requires counts { length s.old.counts.items ≡ p.now.loops }
+    requires steps { length s.old.steps.items ≡ p.now.loops }
+    requires data { s.old.taken ≤ length input.now.items }
+    ensures outcome { outcome p.now.names input.now.items (memory_of s.old) kind.now ≡ outcome_of result (memory_of s.new) }
+    ensures trap { OnErr result (s.new ≡ s.old) }
+    ensures sizes { HasSizes s.old s.new }
+    ensures data { s.new.taken ≤ length input.now.items }
+{
+    let names = &p.names;
+    match kind {
+        ExecKind::Assign {
+            target,
+            value,
+            next,
+        } => assign(s, names, input, target, value, *next),
+        ExecKind::Pass { next } => Ok(*next),
+        ExecKind::Test { cond, yes, no } => test(s, names, cond, *yes, *no),
+        ExecKind::Sign {
+            value,
+            neg,
+            zero,
+            pos,
+        } => sign(s, names, value, *neg, *zero, *pos),
+        ExecKind::Pick {
+            value,
+            targets,
+            other,
+        } => pick(s, names, value, targets, *other),
+        ExecKind::DoStart {
+            loop_no,
+            var,
+            first,
+            last,
+            step,
+            body,
+            exit,
+        } => start_loop(
+            s,
+            names,
+            *loop_no,
+            place_of_name(names, *var),
+            first,
+            last,
+            step,
+            *body,
+            *exit,
+        ),
+        ExecKind::DoNext {
+            loop_no,
+            var,
+            body,
+            exit,
+        } => Ok(increment(
+            s,
+            *loop_no,
+            place_of_name(names, *var),
+            *body,
+            *exit,
+        )),
+        ExecKind::Print { items: _, next: _ } | ExecKind::End => Ok(0),
+    }
 }

@@ -2,8 +2,11 @@
 #![tactic(auto)]
 
 mod branches;
-mod evaluation;
 mod executing;
 mod line;
+mod room;
 mod storage;
+mod stepper;
 mod taking;
+
+pub use stepper::{Stepped, Stepper};

@@ -7,8 +7,8 @@ ghost use Rattle.f77_tree.specs.Value.{IsExpression, ArePlaced};
 ghost use Rattle.f77_tree.specs.CanRun.{IsItem};
 ghost use Rattle.f77_meaning.specs.Room.{item_room, line_room, item_pushed, told};
 
-use crate::evaluation::evaluate;
-use f77_tree::{Expr, Item, ItemList, Kind, NameInfoList};
+
+use f77_tree::{Expr, Item, ItemList, Kind, NameInfoList, evaluate};
 use itoa::Buffer;
 use op_table::{Op, Trap};
 

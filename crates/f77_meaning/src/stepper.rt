@@ -1,4 +1,4 @@
-ghost use Rattle.std.specs.Prelude.{◌≡◌, ◌<◌, ◌≤◌, ℕ, List, [], ◌++◌, length, vec_len, vec_capacity, IfOk, slice_index_or, slice_get, pos};
+ghost use Rattle.std.specs.Prelude.{◌≡◌, ◌<◌, ◌≤◌, ℕ, List, [], ◌++◌, length, vec_capacity, IfOk};
 ghost use Rattle.f77_tree.specs.CanRun.{CanRun};
 ghost use Rattle.f77_tree.specs.Value.{word_at};
 ghost use Rattle.f77_meaning.specs.Room.{HasRoom};
@@ -6,9 +6,9 @@ ghost use Rattle.f77_meaning.specs.Room.{HasRoom};
 use crate::executing::execute;
 use crate::line::write_line;
 use crate::room::most_room;
-use crate::storage::{Storage, initial_storage};
+use crate::storage::{Storage, initial_storage, word_in};
 use df_sequence::NoMemory;
-use f77_tree::{ExecKind, ItemList, Program};
+use f77_tree::{ExecKind, Program};
 use op_table::Trap;
 use std::alloc::Global;
 use std::mem::swap;
@@ -45,7 +45,6 @@ pub struct Stepper<'a> {
     line: Vec<u8>,
     draft: Vec<u8>,
     progress: Progress,
-    ghost here: { position < length program.now.execs },
     ghost words: { length storage.store.items ≡ program.now.words },
     ghost counts: { length storage.counts.items ≡ program.now.loops },
     ghost steps: { length storage.steps.items ≡ program.now.loops },
@@ -55,7 +54,7 @@ pub struct Stepper<'a> {
 }
 
 impl<'a> Stepper<'a> {
-    ghost use Rattle.f77_tree.specs.Run.{step, start};
+    ghost use Rattle.f77_tree.specs.Run.{step, start, Running};
     ghost use Rattle.f77_meaning.specs.Stepper.{program_of, input_of, state_of, line_of, told_mark, told_text, KeepsLine};
 
     /// A run at its beginning, over a copy of the data. It takes the store, the counts of DOs, and room for the longest
@@ -108,20 +107,35 @@ impl<'a> Stepper<'a> {
         ensures line { KeepsLine result (line_of self.old) (line_of self.new) }
     {
         let program = self.program;
+        if program.execs.len() <= self.position {
+            return Stepped::Moved;
+        }
         let exec = program.execs.at(self.position);
         match &exec.kind {
             ExecKind::Print { items, next } => {
-                let line = write_line(&mut self.draft, items, &program.names, &self.storage.store);
-                self.printed(line, *next, exec.line)
+                let printed = write_line(&mut self.draft, items, &program.names, &self.storage.store);
+                if let Err(trap) = printed {
+                    self.progress = Progress::Failed(trap, exec.line);
+                    return Stepped::Trapped(trap, exec.line);
+                }
+                swap(&mut self.line, &mut self.draft);
+                self.position = *next;
+                Stepped::Line
             }
             ExecKind::End => {
                 self.progress = Progress::Done;
                 Stepped::Ended
             }
-            kind => {
-                let next = execute(&mut self.storage, program, &self.input, kind);
-                self.moved(next, exec.line)
-            }
+            kind => match execute(&mut self.storage, program, &self.input, kind) {
+                Ok(next) => {
+                    self.position = next;
+                    Stepped::Moved
+                }
+                Err(trap) => {
+                    self.progress = Progress::Failed(trap, exec.line);
+                    Stepped::Trapped(trap, exec.line)
+                }
+            },
         }
     }
 

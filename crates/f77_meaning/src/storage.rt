@@ -5,7 +5,7 @@ ghost use Rattle.op_table.specs.Words.{wrapped};
 ghost use Rattle.f77_tree.specs.Execution.{begun, incremented, Goes};
 ghost use Rattle.f77_tree.specs.Run.{first_memory};
 ghost use Rattle.f77_tree.specs.Value.{word_at};
-ghost use Rattle.f77_meaning.specs.Storage.{memory_of, outcome_of};
+ghost use Rattle.f77_meaning.specs.Storage.{memory_of, outcome_of, HasSizes};
 
 use df_sequence::NoMemory;
 use f77_tree::Program;
@@ -51,6 +51,8 @@ pub fn begin(
     requires step { loop_no < length s.old.steps.items }
     ensures outcome { begun (memory_of s.old) loop_no word body exit (Ok first) (Ok last) (Ok step) ≡ outcome_of result (memory_of s.new) }
     ensures trap { OnErr result (s.new ≡ s.old) }
+    ensures sizes { HasSizes s.old s.new }
+    ensures data { s.new.taken ≡ s.old.taken }
 {
     if step == 0 {
         return Err(Trap::Step);
@@ -67,7 +69,9 @@ pub fn increment(s: &mut Storage, loop_no: u32, word: u32, body: u32, exit: u32)
     requires word { word < length s.old.store.items }
     requires count { loop_no < length s.old.counts.items }
     requires step { loop_no < length s.old.steps.items }
-    ensures { incremented (memory_of s.old) loop_no word body exit ≡ Goes result (memory_of s.new) [] }
+    ensures outcome { incremented (memory_of s.old) loop_no word body exit ≡ Goes result (memory_of s.new) [] }
+    ensures sizes { HasSizes s.old s.new }
+    ensures data { s.new.taken ≡ s.old.taken }
 {
     let variable = sum(word_in(&s.store, word), word_in(&s.steps, loop_no));
     let count = lowered(&s.counts, loop_no);

@@ -16,5 +16,10 @@ loop-item-preserved c =
       all = kept.all;
       room = omega (arith, kept.room, room, c.push_item.ensures.len, c.push_item.ensures.capacity);
       capacity = omega (arith, kept.capacity, c.push_item.ensures.capacity);
-      line = ?;
+      line = sym (line_next f items i item c.loop-item.line.items c.push_item.new.line.items lt c.item-item.is c.in_default.ensures.line) ∙ kept.line;
     }
+
+pub returns-in-Err-clause-line : goal.returns-in-Err-clause-line
+returns-in-Err-clause-line c =
+    let f = item_text c.args.names.now c.args.store.now in
+    sym c.loop-item.invariant.line ∙ line_trap f c.as_slice-item-items.result.now c.loop-item.item-index c.item-item.result c.loop-item.line.items c.in-Err.trap c.loop-item-test.true c.item-item.is c.in-Err.ensures.line
