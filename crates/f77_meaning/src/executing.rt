@@ -9,7 +9,6 @@ ghost use Rattle.f77_meaning.specs.Kinds.{IsSilent};
 ghost use Rattle.f77_meaning.specs.Storage.{memory_of, outcome_of, HasSizes};
 
 use crate::branches::{successor_by_number, successor_by_sign};
-
 use crate::storage::{Storage, begin, increment};
 use crate::taking::count_taken;
 use df_sequence::LabelList;
@@ -164,12 +163,7 @@ fn place_of_name(names: &NameInfoList, k: u32) -> u32
 }
 
 // Executes what writes nothing and does not end the run, and answers the successor.
-pub fn execute(
-    s: &mut Storage,
-    p: &Program,
-    input: &Vec<i32>,
-    kind: &ExecKind,
-) -> Result<u32, Trap>
+pub fn execute(s: &mut Storage, p: &Program, input: &Vec<i32>, kind: &ExecKind) -> Result<u32, Trap>
     requires silent { IsSilent kind.now }
     requires executes { CanExecute p.now kind.now }
     requires places { ArePlaced p.now.names (length s.old.store.items) }
@@ -226,13 +220,7 @@ pub fn execute(
             var,
             body,
             exit,
-        } => Ok(increment(
-            s,
-            *loop_no,
-            place_of_name(names, *var),
-            *body,
-            *exit,
-        )),
+        } => Ok(increment(s, *loop_no, place_of_name(names, *var), *body, *exit)),
         ExecKind::Print { items: _, next: _ } | ExecKind::End => Ok(0),
     }
 }

@@ -5,8 +5,8 @@ mod branches;
 mod executing;
 mod line;
 mod room;
-mod storage;
 mod stepper;
+mod storage;
 mod taking;
 
 pub use stepper::{Stepped, Stepper};

@@ -1,12 +1,10 @@
 // The line that PRINT writes.
 
-
 ghost use Rattle.std.specs.Prelude.{◌≡◌, ◌+◌, ◌≤◌, All, [], ◌∷◌, ◌++◌, length, vec_len, vec_capacity};
 ghost use Rattle.f77_tree.specs.Line.{text_of, kind_of_expression, kind_of_op, item_text, line_of};
 ghost use Rattle.f77_tree.specs.Value.{IsExpression, ArePlaced};
 ghost use Rattle.f77_tree.specs.CanRun.{IsItem};
 ghost use Rattle.f77_meaning.specs.Room.{item_room, line_room, item_pushed, told};
-
 
 use f77_tree::{Expr, Item, ItemList, Kind, NameInfoList, evaluate};
 use itoa::Buffer;
@@ -17,12 +15,12 @@ pub fn write_line(
     line: &mut Vec<u8>,
     items: &ItemList,
     names: &NameInfoList,
-    store: &[i32],
+    store: &Vec<i32>,
 ) -> Result<(), Trap>
     requires room { line_room items.now ≤ vec_capacity line.old }
     requires items { All (IsItem names.now) items.now }
-    requires places { ArePlaced names.now (length store.now) }
-    ensures line { line_of names.now store.now items.now ≡ told result line.new.items }
+    requires places { ArePlaced names.now (length store.now.items) }
+    ensures line { line_of names.now store.now.items items.now ≡ told result line.new.items }
     ensures capacity { vec_capacity line.old ≤ vec_capacity line.new }
 {
     line.clear();
@@ -40,12 +38,12 @@ fn push_item(
     line: &mut Vec<u8>,
     item: &Item,
     names: &NameInfoList,
-    store: &[i32],
+    store: &Vec<i32>,
 ) -> Result<(), Trap>
     requires room { vec_len line.old + item_room item.now ≤ vec_capacity line.old }
     requires item { IsItem names.now item.now }
-    requires places { ArePlaced names.now (length store.now) }
-    ensures line { item_pushed line.old.items (item_text names.now store.now item.now) ≡ told result line.new.items }
+    requires places { ArePlaced names.now (length store.now.items) }
+    ensures line { item_pushed line.old.items (item_text names.now store.now.items item.now) ≡ told result line.new.items }
     ensures len { vec_len line.new ≤ vec_len line.old + item_room item.now }
     ensures capacity { vec_capacity line.old ≤ vec_capacity line.new }
 {

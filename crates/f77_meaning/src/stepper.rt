@@ -113,7 +113,12 @@ impl<'a> Stepper<'a> {
         let exec = program.execs.at(self.position);
         match &exec.kind {
             ExecKind::Print { items, next } => {
-                let printed = write_line(&mut self.draft, items, &program.names, &self.storage.store);
+                let printed = write_line(
+                    &mut self.draft,
+                    items,
+                    &program.names,
+                    &self.storage.store,
+                );
                 if let Err(trap) = printed {
                     self.progress = Progress::Failed(trap, exec.line);
                     return Stepped::Trapped(trap, exec.line);

@@ -10,7 +10,7 @@ loop-item-preserved c =
     let i = c.loop-item.item-index in
     let item = c.item-item.result in
     let lt = c.loop-item-test.true in
-    let f = item_text c.args.names.now c.args.store.now in
+    let f = item_text c.args.names.now c.args.store.now.items in
     let room = room_next items i item lt c.item-item.is in
     record {
       all = kept.all;
@@ -21,5 +21,5 @@ loop-item-preserved c =
 
 pub returns-in-Err-clause-line : goal.returns-in-Err-clause-line
 returns-in-Err-clause-line c =
-    let f = item_text c.args.names.now c.args.store.now in
+    let f = item_text c.args.names.now c.args.store.now.items in
     sym c.loop-item.invariant.line ∙ line_trap f c.as_slice-item-items.result.now c.loop-item.item-index c.item-item.result c.loop-item.line.items c.in-Err.trap c.loop-item-test.true c.item-item.is c.in-Err.ensures.line

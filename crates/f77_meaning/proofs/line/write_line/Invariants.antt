@@ -9,5 +9,5 @@ invariant-loop-item l = record {
   all : All (IsItem l.names) l.item-items;
   room : vec_len l.line + line_room (drop l.item-index l.item-items) ≤ vec_capacity l.line;
   capacity : vec_capacity l.fn.line ≤ vec_capacity l.line;
-  line : line_after l.line.items (line_of_texts (map (item_text l.names l.store) (drop l.item-index l.item-items))) ≡ line_of_texts (map (item_text l.names l.store) l.items);
+  line : line_after l.line.items (line_of_texts (map (item_text l.names l.store.items) (drop l.item-index l.item-items))) ≡ line_of_texts (map (item_text l.names l.store.items) l.items);
 }
