@@ -9,5 +9,6 @@ pub mod Places
 pub mod RunLaws
 pub mod Safety
 pub mod StorageExample
+pub mod Taking
 pub mod WellFormedExample
 pub mod WellFormedLaws
