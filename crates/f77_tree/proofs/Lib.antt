@@ -1,6 +1,14 @@
 pub mod AllLemmas
+pub mod Coverage
+pub mod Equations
 pub mod ExpressionLemmas
+pub mod IllFormed
 pub mod KindLemmas
+pub mod NameLemmas
 pub mod Places
 pub mod RunLaws
+pub mod Safety
+pub mod StorageExample
+pub mod Taking
+pub mod WellFormedExample
 pub mod WellFormedLaws

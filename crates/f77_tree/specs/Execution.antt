@@ -1,5 +1,5 @@
 -- What an executable does: the meaning of each kind.
-use Rattle.std.specs.Prelude.{ℕ, ◌+◌, ◌-◌, ℤ, pos, ◌+ℤ◌, nat_lt, if◌then◌else◌, List, [], ◌∷◌, ◌++◌, length, None, Result, Ok, Err, slice_get, slice_index, slice_set}
+use Rattle.std.specs.Prelude.{Bool, true, false, ℕ, ◌+◌, ◌-◌, ℤ, pos, ◌+ℤ◌, nat_lt, if◌then◌else◌, List, [], ◌∷◌, ◌++◌, length, None, Result, Ok, Err, slice_get, slice_index, slice_set}
 use Rattle.std.specs.Ordering.{int_eq}
 use Rattle.op_table.specs.declared.Op.{Op}
 use Rattle.op_table.specs.declared.Op.TheVariants.{Truth as Truth_of}
@@ -35,14 +35,26 @@ pub data Outcome : Type 0 where
 
 -- ---- assignment: the target's subscripts come first, then the value, and then the word is stored
 
-abbrev pub count_if_input : {m : _} → Op → Row_of-Expr m → ℕ
-count_if_input Truth_of (more_of-Expr Input end_of-Expr) = 1
-count_if_input _ _ = 0
+abbrev pub is_input : Expr → Bool
+is_input Input = true
+is_input _ = false
+
+abbrev pub row_inputs : {m : _} → Row_of-Expr m → List Bool
+row_inputs end_of-Expr = []
+row_inputs (more_of-Expr e rest) = is_input e ∷ row_inputs rest
+
+abbrev pub is_truth : Op → Bool
+is_truth Truth_of = true
+is_truth _ = false
+
+abbrev pub count_if : Bool → List Bool → ℕ
+count_if true (true ∷ []) = 1
+count_if _ _ = 0
 
 -- how many words of the data a value takes: one, where it is the next word or the truth of that
 abbrev pub words_taken : Expr → ℕ
 words_taken Input = 1
-words_taken (Apply' op shape args) = count_if_input op args
+words_taken (Apply' op shape args) = count_if (is_truth op) (row_inputs args)
 words_taken _ = 0
 
 abbrev pub assigned : Memory → (next taken : ℕ) → Result ℕ Trap → Result ℤ Trap → Outcome

@@ -4,9 +4,11 @@ pub mod Declarations
 pub mod Execution
 pub mod InitialWords
 pub mod Kinds
+pub mod Known
 pub mod Line
 pub mod Loops
 pub mod Name
+pub mod Operations
 pub mod Places
 pub mod Run
 pub mod Straight

@@ -1,6 +1,7 @@
 //! The program tree of integer Fortran 77, its validity and its meaning.
 #![tactic(auto)]
 
+mod copies;
 mod declarations;
 mod evaluation;
 mod expressions;

@@ -46,6 +46,16 @@ impl Name {
     {
         &self.bytes[..self.len]
     }
+
+    // The same name once more.
+    pub(crate) fn again(&self) -> Name
+        ensures { result ≡ self.now }
+    {
+        Name {
+            bytes: self.bytes,
+            len: self.len,
+        }
+    }
 }
 
 // Whether the characters are a name.

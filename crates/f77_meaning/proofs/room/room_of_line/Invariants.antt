@@ -1,0 +1,6 @@
+use Rattle.std.proofs.Common.{◌≡◌, ◌+◌, drop}
+use Rattle.f77_meaning.specs.Room.{line_room}
+use Rattle.f77_meaning.proofs.room.room_of_line.Given as goal
+
+abbrev pub invariant-loop-item : goal.invariant-loop-item
+invariant-loop-item l = l.room + line_room (drop l.item-index l.items) ≡ line_room l.items

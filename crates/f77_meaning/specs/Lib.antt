@@ -1,0 +1,4 @@
+pub mod Storage
+pub mod Room
+pub mod Kinds
+pub mod Stepper
