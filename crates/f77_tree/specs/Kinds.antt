@@ -10,6 +10,7 @@ use Rattle.f77_tree.specs.declared.expressions.Expr.{Expr, Row_of-Expr, end_of-E
 use Rattle.f77_tree.specs.declared.expressions.Expr.TheVariants.{Const, Truth as TruthOf, Input, Read, Apply, Read', Apply'}
 use Rattle.f77_tree.specs.declared.programs.NameInfo.{NameInfo}
 use Rattle.f77_tree.specs.Value.{kind_of, dims_of, row_length}
+use Rattle.f77_tree.specs.Line.{kind_of_expression}
 
 -- ---- operators
 
@@ -32,30 +33,7 @@ operand_kind Eqv = Logical
 operand_kind Neqv = Logical
 operand_kind _ = Integer
 
--- the kind of the value: relations and logical operators give logicals
-abbrev pub result_kind : Op → Kind
-result_kind Lt = Logical
-result_kind Le = Logical
-result_kind Eq = Logical
-result_kind Ne = Logical
-result_kind Ge = Logical
-result_kind Gt = Logical
-result_kind Not = Logical
-result_kind And = Logical
-result_kind Or = Logical
-result_kind Eqv = Logical
-result_kind Neqv = Logical
-result_kind _ = Integer
-
 -- ---- expressions
-
--- the kind of an expression's value
-abbrev pub expression_kind : List NameInfo → Expr → Kind
-expression_kind names (Const z) = Integer
-expression_kind names (TruthOf b) = Logical
-expression_kind names Input = Integer
-expression_kind names (Read' name shape subs) = kind_of names name
-expression_kind names (Apply' op shape args) = result_kind op
 
 abbrev mutual
   -- an expression of the program: constants are at least 0; an access names an index of the table and has an integer
@@ -71,12 +49,12 @@ abbrev mutual
   -- each of a row is an expression of the program, of one kind
   pub AllOfKind : {m : _} → List NameInfo → Kind → Row_of-Expr m → Type 0
   AllOfKind names kind end_of-Expr = Unit {0}
-  AllOfKind names kind (more_of-Expr e rest) = IsProper names e × (expression_kind names e ≡ kind) × AllOfKind names kind rest
+  AllOfKind names kind (more_of-Expr e rest) = IsProper names e × (kind_of_expression names e ≡ kind) × AllOfKind names kind rest
 
 -- an expression of the program, of a kind
 pub record IsOfKind (names : List NameInfo) (kind : Kind) (e : Expr) : Type 0 where
   pub proper : IsProper names e
-  pub of_kind : expression_kind names e ≡ kind
+  pub of_kind : kind_of_expression names e ≡ kind
 
 -- a scalar or an array element: what can be read can be a target
 abbrev pub IsProperAccess : List NameInfo → Access → Type 0
