@@ -1,21 +1,21 @@
 -- An expression that cannot trap has a value over every store of words, and what is known of it is its value.
-use Rattle.std.proofs.Common.{◌≡◌, ℕ, zero, suc, ℤ, pos, ◌*ℤ◌, nat_abs, Bool, true, false, List, [], ◌∷◌, map, Option, Some, None, Result, Ok, Err, All, refl, sym, ap, ◌∙◌, arith}
-use Rattle.std.specs.Prelude.{is_ok, option_map}
+use Rattle.std.proofs.Common.{◌≡◌, ℕ, zero, suc, ◌<◌, ℤ, pos, ◌*ℤ◌, nat_abs, Bool, true, false, List, [], ◌∷◌, length, map, get_or, Option, Some, None, Result, Ok, Err, All, refl, sym, ap, subst, ◌∙◌, arith, w32}
+use Rattle.std.specs.Prelude.{is_ok, ◌⊎◌, option_map}
 use mathlib.Core.Logic.{inl, inr}
 use Rattle.std.proofs.lemmas.Int.{ints}
 use Rattle.op_table.specs.declared.Op.{Op}
 use Rattle.op_table.specs.declared.Op.TheVariants.{Bound, Place}
 use Rattle.op_table.specs.declared.Trap.{Trap}
-use Rattle.op_table.specs.Words.{IsWord, is_true, truth}
+use Rattle.op_table.specs.Words.{IsWord, is_true, truth, wrapped}
 use Rattle.op_table.specs.Operators.{applied, ternary}
 use Rattle.op_table.specs.Known.{all_known, folded, MayBe, MayAllBe, CanTrap}
-use Rattle.op_table.proofs.Laws.{applied-word, cannot_trap, folded-some}
+use Rattle.op_table.proofs.Laws.{applied-word, cannot_trap, folded-some, IsKnownValue}
 use Rattle.f77_tree.specs.declared.declarations.Dim.{Dim}
 use Rattle.f77_tree.specs.declared.declarations.Kind.{Kind}
 use Rattle.f77_tree.specs.declared.declarations.Kind.TheVariants.{Integer, Logical}
 use Rattle.f77_tree.specs.declared.expressions.Expr.{Expr, Const, Truth as IsTruth, Input, Read', Apply', Row_of-Expr, end_of-Expr, more_of-Expr}
 use Rattle.f77_tree.specs.declared.programs.NameInfo.{NameInfo}
-use Rattle.f77_tree.specs.Value.{value, row_values, all_values, value_before, and_then, subscripted, extent, word_of, read_of, read_as, kind_of, dims_of, place_of, word_at}
+use Rattle.f77_tree.specs.Value.{value, row_values, all_values, value_before, and_then, moved, subscripted, extent, word_of, read_of, read_as, kind_of, dims_of, place_of, word_at}
 use Rattle.f77_tree.specs.Known.{known, row_known, MayLieOutside, MayTrap, SomeMayTrap}
 
 -- ---- words
