@@ -1,22 +1,23 @@
 -- An expression that cannot trap has a value over every store of words, and what is known of it is its value.
-use Rattle.std.proofs.Common.{◌≡◌, ℕ, zero, suc, ◌<◌, ℤ, pos, ◌*ℤ◌, nat_abs, Bool, true, false, List, [], ◌∷◌, length, map, get_or, Option, Some, None, Result, Ok, Err, All, refl, sym, ap, subst, ◌∙◌, arith, w32}
-use Rattle.std.specs.Prelude.{is_ok, ◌⊎◌, option_map}
+use Rattle.std.proofs.Common.{◌≡◌, ℕ, zero, suc, ℤ, pos, ◌*ℤ◌, nat_abs, Bool, true, false, List, [], ◌∷◌, map, Option, Some, None, Result, Ok, Err, All, refl, sym, ap, ◌∙◌, arith}
+use Rattle.std.specs.Prelude.{is_ok, option_map, Any}
 use mathlib.Core.Logic.{inl, inr}
 use Rattle.std.proofs.lemmas.Int.{ints}
 use Rattle.op_table.specs.declared.Op.{Op}
 use Rattle.op_table.specs.declared.Op.TheVariants.{Bound, Place}
 use Rattle.op_table.specs.declared.Trap.{Trap}
-use Rattle.op_table.specs.Words.{IsWord, is_true, truth, wrapped}
+use Rattle.op_table.specs.Words.{IsWord, is_true, truth}
 use Rattle.op_table.specs.Operators.{applied, ternary}
 use Rattle.op_table.specs.Known.{all_known, folded, MayBe, MayAllBe, CanTrap}
-use Rattle.op_table.proofs.Laws.{applied-word, cannot_trap, folded-some, IsKnownValue}
+use Rattle.op_table.proofs.Laws.{applied-word, cannot_trap, folded-some}
 use Rattle.f77_tree.specs.declared.declarations.Dim.{Dim}
 use Rattle.f77_tree.specs.declared.declarations.Kind.{Kind}
 use Rattle.f77_tree.specs.declared.declarations.Kind.TheVariants.{Integer, Logical}
+use Rattle.f77_tree.specs.declared.expressions.Access.{Access}
 use Rattle.f77_tree.specs.declared.expressions.Expr.{Expr, Const, Truth as IsTruth, Input, Read', Apply', Row_of-Expr, end_of-Expr, more_of-Expr}
 use Rattle.f77_tree.specs.declared.programs.NameInfo.{NameInfo}
-use Rattle.f77_tree.specs.Value.{value, row_values, all_values, value_before, and_then, moved, subscripted, extent, word_of, read_of, read_as, kind_of, dims_of, place_of, word_at}
-use Rattle.f77_tree.specs.Known.{known, row_known, MayLieOutside, MayTrap, SomeMayTrap}
+use Rattle.f77_tree.specs.Value.{value, place, row_values, all_values, value_before, and_then, subscripted, extent, word_of, read_of, read_as, kind_of, dims_of, place_of, word_at}
+use Rattle.f77_tree.specs.Known.{known, row_known, MayLieOutside, MayTrap, SomeMayTrap, AccessMayTrap}
 
 -- ---- words
 
@@ -152,3 +153,62 @@ mutual
         are = ap (λ r. r ∷ row_values names store next rest) one.is ∙ ap (λ rs. Ok one.result ∷ rs) more.are;
         may = (one.may, more.may);
       }
+
+-- ---- the same, said of an access
+
+Any-head : {X : Type 0} (P : X → Type 0) (x : X) (xs : List X) → P x → Any P (x ∷ xs)
+Any-head P x xs p = (zero, x, omega arith, refl, p)
+
+Any-tail : {X : Type 0} (P : X → Type 0) (x : X) (xs : List X) → Any P xs → Any P (x ∷ xs)
+Any-tail P x xs a = (suc a.0, a.1, let lt = a.2 in omega (arith, lt), a.3, a.4)
+
+have-each : (names : List NameInfo) (store : List ℤ) (next : Option ℤ) (es : List Expr) → All IsWord store → (Any (MayTrap names) es → ⊥) → HaveValues (map known es) (map (value names store next) es)
+have-each names store next [] words h = record { results = []; are = refl; may = tt }
+have-each names store next (e ∷ es) words h =
+    let one = has-value names store next e words (λ t. h (Any-head (MayTrap names) e es t)) in
+    let more = have-each names store next es words (λ t. h (Any-tail (MayTrap names) e es t)) in
+    record {
+      results = one.result ∷ more.results;
+      are = ap (λ r. r ∷ map (value names store next) es) one.is ∙ ap (λ rs. Ok one.result ∷ rs) more.are;
+      may = (one.may, more.may);
+    }
+
+pub record NamesWord (r : Result ℕ Trap) : Type 0 where
+  pub word : ℕ
+  pub is : r ≡ Ok word
+
+-- an access that cannot trap names a word, over every store of words
+pub names-word : (names : List NameInfo) (store : List ℤ) (next : Option ℤ) (access : Access) → All IsWord store → (AccessMayTrap names access → ⊥) → NamesWord (place names store next access)
+names-word names store next access words h =
+    let have = have-each names store next access.subs words (λ t. h (inl t)) in
+    let at = subscripted-ok (dims_of names access.name) (pos 1) (pos (place_of names access.name)) (map known access.subs) have.results have.may (λ t. h (inr t)) in
+    record {
+      word = nat_abs at.result;
+      is = ap (λ (rs : List (Result ℤ Trap)). word_of names access.name rs) have.are ∙ ap (λ (r : Result ℤ Trap). and_then (λ p. Ok (nat_abs p)) r) at.is;
+    }
+
+-- ---- what is known of a value is the value, over any store
+
+known-more : (k : Option ℤ) (ks : List (Option ℤ)) (r : Result ℤ Trap) (rs : List (Result ℤ Trap)) (xs : List ℤ) → all_known (k ∷ ks) ≡ Some xs → ((z : ℤ) → k ≡ Some z → r ≡ Ok z) → ((zs : List ℤ) → all_known ks ≡ Some zs → rs ≡ map (λ z. Ok z) zs) → r ∷ rs ≡ map (λ z. Ok z) xs
+known-more None ks r rs xs e one more = let no : None ≡ Some xs = e in absurd cc
+known-more (Some k) ks r rs xs e one more = by (all_known ks) refl e
+  where
+    by : (o : Option (List ℤ)) → all_known ks ≡ o → option_map (λ zs. k ∷ zs) o ≡ Some xs → r ∷ rs ≡ map (λ z. Ok z) xs
+    by None f h = let no : None ≡ Some xs = h in absurd cc
+    by (Some zs) f h =
+        let is : k ∷ zs ≡ xs = cc in
+        ap (λ x. x ∷ rs) (one k refl) ∙ ap (λ ys. Ok k ∷ ys) (more zs f) ∙ ap (map (λ z. Ok z)) is
+
+mutual
+  pub known-is : (names : List NameInfo) (store : List ℤ) (next : Option ℤ) (e : Expr) (z : ℤ) → known e ≡ Some z → value names store next e ≡ Ok z
+  known-is names store next (Const c) z e = let is : c ≡ z = cc in ap (λ x. Ok x) is
+  known-is names store next (IsTruth b) z e = let is : truth b ≡ z = cc in ap (λ x. Ok x) is
+  known-is names store next Input z e = let no : None ≡ Some z = e in absurd cc
+  known-is names store next (Read' name shape subs) z e = let no : None ≡ Some z = e in absurd cc
+  known-is names store next (Apply' op shape args) z e =
+      let is = folded-some op (row_known args) z e in
+      ap (λ (rs : List (Result ℤ Trap)). and_then (applied op) (all_values rs)) (known-are names store next _ args is.args is.are_known) ∙ ap (and_then (applied op)) (all_values-ok is.args) ∙ is.value
+
+  known-are : (names : List NameInfo) (store : List ℤ) (next : Option ℤ) (n : _) (row : Row_of-Expr n) (xs : List ℤ) → all_known (row_known row) ≡ Some xs → row_values names store next row ≡ map (λ z. Ok z) xs
+  known-are names store next n end_of-Expr xs e = let is : [] ≡ xs = cc in ap (map (λ z. Ok z)) is
+  known-are names store next n (more_of-Expr e rest) xs h = known-more (known e) (row_known rest) (value names store next e) (row_values names store next rest) xs h (λ z. known-is names store next e z) (λ zs. known-are names store next _ rest zs)
