@@ -1,7 +1,7 @@
 -- Expressions of a program: the names, subscripts, operators and kinds that they may have (ANSI X3.9-1978, section 6).
 use Rattle.std.specs.Prelude.{◌≡◌, ◌<◌, ◌⊎◌, pos, ◌≤ℤ◌, Bool, true, false, List, [], ◌∷◌, length}
 use Rattle.op_table.specs.declared.Op.{Op}
-use Rattle.op_table.specs.declared.Op.TheVariants.{Lt, Le, Eq, Ne, Ge, Gt, Not, And, Or, Eqv, Neqv, Truth, Bound, Place, Three, Pick, Step}
+use Rattle.op_table.specs.declared.Op.TheVariants.{Not, And, Or, Eqv, Neqv, Truth, Bound, Place, Three, Pick, Step}
 use Rattle.op_table.specs.Operators.{arity_of}
 use Rattle.f77_tree.specs.declared.declarations.Kind.{Kind}
 use Rattle.f77_tree.specs.declared.declarations.Kind.TheVariants.{Integer, Logical}
