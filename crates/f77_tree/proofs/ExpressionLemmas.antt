@@ -74,6 +74,29 @@ IsExpression-access names access is =
       subscripts = subst (λ (es : List Expr). All (IsExpression names) es) (items_hidden-the_row-Expr-0 access.subs) (AllExpressions-items names row.0 row.1 is.2);
     }
 
+items-AllExpressions : (names : List NameInfo) (n : _) (row : Row_of-Expr n) → All (IsExpression names) (items-the_row-Expr n row) → AllExpressions names row
+items-AllExpressions names n end_of-Expr all = tt
+items-AllExpressions names n (more_of-Expr e rest) all = (all 0 e (omega arith), items-AllExpressions names _ rest (λ k d lt. all (suc k) d (omega (arith, lt))))
+
+-- an operator at as many expressions as it takes is an expression
+pub Apply-IsExpression : (names : List NameInfo) (op : Op) (args : List Expr) → length args ≡ arity_of op → All (IsExpression names) args → IsExpression names (Apply op args)
+Apply-IsExpression names op args as_many all =
+    let row = row_of (Apply op args) in
+    let items = items_hidden-the_row-Expr-0 args in
+    (row_length-items row.0 row.1 ∙ ap length items ∙ as_many, items-AllExpressions names row.0 row.1 (subst (λ (es : List Expr). All (IsExpression names) es) (sym items) all))
+
+-- the read of an access is an expression
+pub Read-IsExpression : (names : List NameInfo) (access : Access) → IsAccess names access → IsExpression names (Read access)
+Read-IsExpression names access is =
+    let row = row_of (Read access) in
+    let items = items_hidden-the_row-Expr-0 access.subs in
+    (is.known, row_length-items row.0 row.1 ∙ ap length items ∙ is.as_many, items-AllExpressions names row.0 row.1 (subst (λ (es : List Expr). All (IsExpression names) es) (sym items) is.subscripts))
+
+-- an operator at two operands
+pub IsExpression-two : (names : List NameInfo) (op : Op) (a b : Expr) (args : List Expr) → args ≡ a ∷ b ∷ [] → arity_of op ≡ 2 → IsExpression names a → IsExpression names b → IsExpression names (Apply op args)
+IsExpression-two names op a b args is two first second =
+    Apply-IsExpression names op args (ap length is ∙ sym two) (subst (All (IsExpression names)) (sym is) (All-cons (IsExpression names) a (b ∷ []) first (All-cons (IsExpression names) b [] second (λ k d lt. absurd (omega (arith, lt))))))
+
 pub arity_of-le : (op : Op) → arity_of op ≤ 3
 arity_of-le Neg = omega arith
 arity_of-le Not = omega arith
