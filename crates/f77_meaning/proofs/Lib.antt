@@ -1,3 +1,5 @@
 mod Words
 mod Lines
 mod Steps
+mod Fitting
+mod Placing

@@ -10,3 +10,8 @@ mod storage;
 mod taking;
 
 pub use stepper::{Stepped, Stepper};
+
+#[cfg(test)]
+mod runnable;
+#[cfg(test)]
+mod tests;
