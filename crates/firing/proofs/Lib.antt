@@ -1,0 +1,4 @@
+pub mod Example
+pub mod Pulling
+pub mod Resting
+pub mod Trapping

@@ -1,0 +1,110 @@
+-- A node that may fire can as well fire first.
+use Rattle.std.proofs.Common.{◌≡◌, ◌≢◌, ◌⊎◌, inl, inr, ℕ, suc, ◌++◌, List, [], ◌∷◌, length, Option, None, refl, sym, ap, subst, ◌∙◌, append-nil, ⊎_elim}
+use Rattle.std.proofs.lemmas.Bool.{cases_eq, cases_Bool}
+use Rattle.firing.specs.Laws.{IsLawful, AreReady}
+use Rattle.firing.specs.Moves.{Moves, CanFire, IsSilent, line_bytes}
+use Rattle.firing.specs.Orders.{IsOrder, after}
+
+-- k fires in this order: with k first, the rest is an order that leads to the same marking
+pub record FiresIn {M : Type 0} (s : Moves M) (m : M) (k : ℕ) (ks : List ℕ) : Type 0 where
+  pub rest : List ℕ
+  pub order : IsOrder s (s.fired m k) rest
+  pub count : length ks ≡ suc (length rest)
+  pub is : after s (s.fired m k) rest ≡ after s m ks
+
+-- k doesn't fire in this order: it may fire before it, or after it, with the same trap and output
+pub record FiresBeside {M : Type 0} (s : Moves M) (m : M) (k : ℕ) (ks : List ℕ) : Type 0 where
+  pub order : IsOrder s (s.fired m k) ks
+  pub is : after s (s.fired m k) ks ≡ s.fired (after s m ks) k
+  pub can : s.trap (after s m ks) ≡ None → CanFire s (after s m ks) k
+  pub same_trap : s.trap (after s (s.fired m k) ks) ≡ s.trap (after s m ks)
+  pub same_out : s.trap (after s m ks) ≢ None → s.out (after s (s.fired m k) ks) ≡ s.out (after s m ks)
+
+module _ {M : Type 0} (sound : M → Type 0) (s : Moves M) (lawful : IsLawful sound s) where
+  pub are_ready : (m : M) (j k : ℕ) → sound m → j ≢ k → CanFire s m j → CanFire s m k → AreReady sound s m j k
+  are_ready m j k is_sound differ first second = record { is_sound = is_sound; differ = differ; first = first; second = second }
+
+  -- a node stays ready while another fires
+  pub still : (m : M) (j k : ℕ) → AreReady sound s m j k → s.trap (s.fired m j) ≡ None → CanFire s (s.fired m j) k
+  still m j k both none = record { going = none; node = both.second.node; ready = lawful.stays_ready m j k both none }
+
+  pub swapped : (m : M) (j k : ℕ) → AreReady sound s m j k → AreReady sound s m k j
+  swapped m j k both = record { is_sound = both.is_sound; differ = λ e. both.differ (sym e); first = both.second; second = both.first }
+
+  -- beside a firing that traps the other nodes are silent
+  pub beside_trap : (m : M) (j k : ℕ) → AreReady sound s m j k → s.trap (s.fired m j) ≢ None → IsSilent s m k
+  beside_trap m j k both traps = ⊎_elim
+      (λ serial. lawful.silent m k both.is_sound both.second (lawful.one_serial m j k both serial))
+      (λ not. absurd (traps (lawful.silent m j both.is_sound both.first not).trap))
+      (cases_Bool (s.serial j))
+
+  pub prepend_line : (bytes : List ℕ) (line : Option (List ℕ)) → line ≡ None → bytes ++ line_bytes line ≡ bytes
+  prepend_line bytes line none = ap (λ l. bytes ++ line_bytes l) none ∙ append-nil bytes
+
+  -- a silent node that fires first leaves the output of the other
+  pub beside_out : (m : M) (j k : ℕ) → AreReady sound s m j k → IsSilent s m k → s.out (s.fired (s.fired m k) j) ≡ s.out (s.fired m j)
+  beside_out m j k both silent =
+      let fires = still m k j (swapped m j k both) silent.trap in
+      let first : s.out (s.fired m k) ≡ s.out m = lawful.written m k both.is_sound both.second ∙ prepend_line (s.out m) (s.line m k) silent.line in
+      lawful.written (s.fired m k) j (lawful.stays_sound m k both.is_sound both.second) fires
+      ∙ ap (λ bytes. bytes ++ line_bytes (s.line (s.fired m k) j)) first
+      ∙ ap (λ l. s.out m ++ line_bytes l) (lawful.same_line m k j (swapped m j k both) silent.trap)
+      ∙ sym (lawful.written m j both.is_sound both.first)
+
+  -- ---- one firing more in front
+
+  in-first : (m : M) (k : ℕ) (ks : List ℕ) → IsOrder s m (k ∷ ks) → FiresIn s m k (k ∷ ks)
+  in-first m k ks (can, order) = record { rest = ks; order = order; count = refl; is = refl }
+
+  in-later : (m : M) (j k : ℕ) (ks : List ℕ) → AreReady sound s m j k → s.trap (s.fired m k) ≡ None → FiresIn s (s.fired m j) k ks → FiresIn s m k (j ∷ ks)
+  in-later m j k ks both none fires = record {
+    rest = j ∷ fires.rest;
+    order = (still m k j (swapped m j k both) none, subst (λ x. IsOrder s x fires.rest) (lawful.either_order m j k both) fires.order);
+    count = ap suc fires.count;
+    is = ap (λ x. after s x fires.rest) (sym (lawful.either_order m j k both)) ∙ fires.is;
+  }
+
+  beside-none : (m : M) (k : ℕ) → CanFire s m k → s.trap (s.fired m k) ≡ None → FiresBeside s m k []
+  beside-none m k can none = record {
+    order = tt;
+    is = refl;
+    can = λ e. can;
+    same_trap = none ∙ sym can.going;
+    same_out = λ traps. absurd (traps can.going);
+  }
+
+  beside-one : (m : M) (j k : ℕ) → AreReady sound s m j k → s.trap (s.fired m k) ≡ None → FiresBeside s m k (j ∷ [])
+  beside-one m j k both none = record {
+    order = (still m k j (swapped m j k both) none, tt);
+    is = sym (lawful.either_order m j k both);
+    can = still m j k both;
+    same_trap = lawful.same_trap m k j (swapped m j k both) none;
+    same_out = λ traps. beside_out m j k both (beside_trap m j k both traps);
+  }
+
+  beside-later : (m : M) (j k : ℕ) (ks : List ℕ) → AreReady sound s m j k → s.trap (s.fired m k) ≡ None → FiresBeside s (s.fired m j) k ks → FiresBeside s m k (j ∷ ks)
+  beside-later m j k ks both none fires =
+      let same = lawful.either_order m j k both in
+      record {
+        order = (still m k j (swapped m j k both) none, subst (λ x. IsOrder s x ks) same fires.order);
+        is = ap (λ x. after s x ks) (sym same) ∙ fires.is;
+        can = fires.can;
+        same_trap = ap (λ x. s.trap (after s x ks)) (sym same) ∙ fires.same_trap;
+        same_out = λ traps. ap (λ x. s.out (after s x ks)) (sym same) ∙ fires.same_out traps;
+      }
+
+  pulled-on : (m : M) (j k : ℕ) (ks : List ℕ) → AreReady sound s m j k → s.trap (s.fired m k) ≡ None → IsOrder s (s.fired m j) ks → (CanFire s (s.fired m j) k → s.trap (s.fired (s.fired m j) k) ≡ None → FiresIn s (s.fired m j) k ks ⊎ FiresBeside s (s.fired m j) k ks) → FiresIn s m k (j ∷ ks) ⊎ FiresBeside s m k (j ∷ ks)
+  pulled-on m j k [] both none order further = inr (beside-one m j k both none)
+  pulled-on m j k (i ∷ ks) both none (next, order) further =
+      ⊎_elim
+      (λ fires. inl (in-later m j k (i ∷ ks) both none fires))
+      (λ fires. inr (beside-later m j k (i ∷ ks) both none fires))
+      (further (still m j k both next.going) (lawful.same_trap m j k both next.going ∙ none))
+
+  -- A node that may fire and doesn't trap can as well fire before the firings of an order, or beside them.
+  pub pulled : (m : M) (k : ℕ) (ks : List ℕ) → sound m → CanFire s m k → s.trap (s.fired m k) ≡ None → IsOrder s m ks → FiresIn s m k ks ⊎ FiresBeside s m k ks
+  pulled m k [] is_sound can none order = inr (beside-none m k can none)
+  pulled m k (j ∷ ks) is_sound can none (first, order) = ⊎_elim
+      (λ (same : j ≡ k). inl (subst (λ i. FiresIn s m i (j ∷ ks)) same (in-first m j ks (first, order))))
+      (λ differ. pulled-on m j k ks (are_ready m j k is_sound differ first can) none order (λ still_can still_none. pulled (s.fired m j) k ks (lawful.stays_sound m j is_sound first) still_can still_none order))
+      (cases_eq j k)

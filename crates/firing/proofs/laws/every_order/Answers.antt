@@ -1,0 +1,9 @@
+use Rattle.firing.proofs.Resting.{settles}
+use Rattle.firing.proofs.Trapping.{traps}
+use Rattle.firing.proofs.laws.every_order.Goals as goal
+
+pub returns-clause-rest : goal.returns-clause-rest
+returns-clause-rest g c = λ net m ks is_sound whole none. settles (g.S.StepSystem.sound net) (g.S.StepSystem.moves net) (g.met.S.StepSystem.lawful net) m ks is_sound whole none
+
+pub returns-clause-trap : goal.returns-clause-trap
+returns-clause-trap g c = λ net m ks trap line is_sound order trapped. traps (g.S.StepSystem.sound net) (g.S.StepSystem.moves net) (g.met.S.StepSystem.lawful net) (trap, line) m ks is_sound order trapped

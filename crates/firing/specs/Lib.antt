@@ -1,0 +1,4 @@
+-- Step systems, the laws of their firings, and what every order of firing comes to.
+pub mod Laws
+pub mod Moves
+pub mod Orders

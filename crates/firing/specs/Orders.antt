@@ -1,0 +1,61 @@
+-- Orders of firing, and what all of them come to.
+use Rattle.std.specs.Prelude.{◌≡◌, ◌≤◌, ◌+◌, ◌++◌, ℕ, List, [], ◌∷◌, length, Some, None}
+use Rattle.op_table.specs.declared.Trap.{Trap}
+use Rattle.firing.specs.Moves.{Moves, CanFire}
+
+-- the marking after firings in this order
+abbrev pub after : {M : Type 0} → Moves M → M → List ℕ → M
+after s m [] = m
+after s m (k ∷ ks) = after s (s.fired m k) ks
+
+-- each node may fire in its turn
+abbrev pub IsOrder : {M : Type 0} → Moves M → M → List ℕ → Type 0
+IsOrder s m [] = Unit {0}
+IsOrder s m (k ∷ ks) = CanFire s m k × IsOrder s (s.fired m k) ks
+
+-- no node may fire
+abbrev pub IsOver : {M : Type 0} → Moves M → M → Type 0
+IsOver s m = (k : ℕ) → CanFire s m k → ⊥
+
+-- an order that can't be made longer
+pub record IsWhole {M : Type 0} (s : Moves M) (m : M) (ks : List ℕ) : Type 0 where
+  pub order : IsOrder s m ks
+  pub over : IsOver s (after s m ks)
+
+-- the second list begins with the first one
+pub record IsPrefix (bytes all : List ℕ) : Type 0 where
+  pub more : List ℕ
+  pub is : all ≡ bytes ++ more
+
+-- an order that leads from this marking to that one
+pub record Leads {M : Type 0} (s : Moves M) (m : M) (n : ℕ) (end : M) : Type 0 where
+  pub rest : List ℕ
+  pub order : IsOrder s m rest
+  pub count : length rest ≡ n
+  pub is : after s m rest ≡ end
+
+-- Whatever the order, it comes to rest at this marking, after n firings, and nothing traps.
+pub record Settles {M : Type 0} (s : Moves M) (m : M) (n : ℕ) (end : M) : Type 0 where
+  pub at_most : (ks : List ℕ) → IsOrder s m ks → length ks ≤ n
+  pub no_trap : (ks : List ℕ) → IsOrder s m ks → s.trap (after s m ks) ≡ None
+  pub prefix : (ks : List ℕ) → IsOrder s m ks → IsPrefix (s.out (after s m ks)) (s.out end)
+  -- one that can't be made longer has n firings, and one of n firings has that marking
+  pub whole : (ks : List ℕ) → IsWhole s m ks → length ks ≡ n
+  pub same_end : (ks : List ℕ) → IsOrder s m ks → length ks ≡ n → after s m ks ≡ end
+  -- whatever has fired, the rest can
+  pub goes_on : (ks : List ℕ) → IsOrder s m ks → (k : ℕ) → length ks + k ≡ n → Leads s (after s m ks) k end
+
+-- a trap with this output can still come
+pub record Fails {M : Type 0} (s : Moves M) (m : M) (trap : Trap × ℕ) (output : List ℕ) : Type 0 where
+  pub rest : List ℕ
+  pub order : IsOrder s m rest
+  pub trapped : s.trap (after s m rest) ≡ Some trap
+  pub written : s.out (after s m rest) ≡ output
+
+-- Whatever the order, it ends only at this trap, with this output.
+pub record Traps {M : Type 0} (s : Moves M) (m : M) (trap : Trap × ℕ) (output : List ℕ) : Type 0 where
+  pub same_trap : (ks : List ℕ) → IsWhole s m ks → s.trap (after s m ks) ≡ Some trap
+  pub same_output : (ks : List ℕ) → IsWhole s m ks → s.out (after s m ks) ≡ output
+  pub prefix : (ks : List ℕ) → IsOrder s m ks → IsPrefix (s.out (after s m ks)) output
+  -- whatever has fired, the trap can still come
+  pub goes_on : (ks : List ℕ) → IsOrder s m ks → Fails s (after s m ks) trap output

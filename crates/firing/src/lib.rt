@@ -1,0 +1,8 @@
+//! Nodes that fire in any order: the laws of a step system, and what they say of every order.
+#![tactic(auto)]
+
+mod laws;
+mod system;
+
+pub use laws::every_order;
+pub use system::{Fired, NodeName, StepSystem};
