@@ -1,9 +1,8 @@
 -- The laws can hold: a step system of two nodes, of which one writes a line.
-use Rattle.std.proofs.Common.{◌≡◌, ◌≢◌, ◌<◌, ◌++◌, ℕ, zero, suc, Bool, true, false, List, [], ◌∷◌, Option, Some, None, refl, sym, append-nil, arith}
-use Rattle.op_table.specs.declared.Trap.{Trap}
+use Rattle.std.proofs.Common.{◌≡◌, ◌++◌, ℕ, zero, suc, Bool, true, false, List, [], ◌∷◌, Option, Some, None, refl, sym, append-nil, arith}
 use Rattle.firing.specs.declared.system.NodeName.TheVariants.{Act}
 use Rattle.firing.specs.Laws.{IsLawful, AreReady}
-use Rattle.firing.specs.Moves.{Moves, CanFire, line_bytes}
+use Rattle.firing.specs.Moves.{Moves, line_bytes}
 
 -- what the two nodes wait for, and what was written
 record Two : Type 0 where

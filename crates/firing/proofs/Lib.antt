@@ -1,3 +1,4 @@
+pub mod Counting
 pub mod Example
 pub mod Pulling
 pub mod Resting

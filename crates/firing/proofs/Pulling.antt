@@ -1,9 +1,9 @@
 -- A node that may fire can as well fire first.
-use Rattle.std.proofs.Common.{◌≡◌, ◌≢◌, ◌⊎◌, inl, inr, ℕ, suc, ◌++◌, List, [], ◌∷◌, length, Option, None, refl, sym, ap, subst, ◌∙◌, append-nil, ⊎_elim}
+use Rattle.std.proofs.Common.{◌≡◌, ◌≢◌, ◌⊎◌, inl, inr, ℕ, suc, ◌+◌, true, arith, ◌++◌, List, [], ◌∷◌, length, Option, None, refl, sym, ap, subst, ◌∙◌, append-nil, ⊎_elim}
 use Rattle.std.proofs.lemmas.Bool.{cases_eq, cases_Bool}
 use Rattle.firing.specs.Laws.{IsLawful, AreReady}
 use Rattle.firing.specs.Moves.{Moves, CanFire, IsSilent, line_bytes}
-use Rattle.firing.specs.Orders.{IsOrder, after}
+use Rattle.firing.specs.Orders.{IsOrder, after, counted, serial_count}
 
 -- k fires in this order: with k first, the rest is an order that leads to the same marking
 pub record FiresIn {M : Type 0} (s : Moves M) (m : M) (k : ℕ) (ks : List ℕ) : Type 0 where
@@ -11,6 +11,7 @@ pub record FiresIn {M : Type 0} (s : Moves M) (m : M) (k : ℕ) (ks : List ℕ) 
   pub order : IsOrder s (s.fired m k) rest
   pub count : length ks ≡ suc (length rest)
   pub is : after s (s.fired m k) rest ≡ after s m ks
+  pub serials : serial_count s ks ≡ counted (s.serial k) + serial_count s rest
 
 -- k doesn't fire in this order: it may fire before it, or after it, with the same trap and output
 pub record FiresBeside {M : Type 0} (s : Moves M) (m : M) (k : ℕ) (ks : List ℕ) : Type 0 where
@@ -19,6 +20,7 @@ pub record FiresBeside {M : Type 0} (s : Moves M) (m : M) (k : ℕ) (ks : List �
   pub can : s.trap (after s m ks) ≡ None → CanFire s (after s m ks) k
   pub same_trap : s.trap (after s (s.fired m k) ks) ≡ s.trap (after s m ks)
   pub same_out : s.trap (after s m ks) ≢ None → s.out (after s (s.fired m k) ks) ≡ s.out (after s m ks)
+  pub alone : s.serial k ≡ true → serial_count s ks ≡ 0
 
 module _ {M : Type 0} (sound : M → Type 0) (s : Moves M) (lawful : IsLawful sound s) where
   pub are_ready : (m : M) (j k : ℕ) → sound m → j ≢ k → CanFire s m j → CanFire s m k → AreReady sound s m j k
@@ -54,7 +56,7 @@ module _ {M : Type 0} (sound : M → Type 0) (s : Moves M) (lawful : IsLawful so
   -- ---- one firing more in front
 
   in-first : (m : M) (k : ℕ) (ks : List ℕ) → IsOrder s m (k ∷ ks) → FiresIn s m k (k ∷ ks)
-  in-first m k ks (can, order) = record { rest = ks; order = order; count = refl; is = refl }
+  in-first m k ks (can, order) = record { rest = ks; order = order; count = refl; is = refl; serials = refl }
 
   in-later : (m : M) (j k : ℕ) (ks : List ℕ) → AreReady sound s m j k → s.trap (s.fired m k) ≡ None → FiresIn s (s.fired m j) k ks → FiresIn s m k (j ∷ ks)
   in-later m j k ks both none fires = record {
@@ -62,6 +64,7 @@ module _ {M : Type 0} (sound : M → Type 0) (s : Moves M) (lawful : IsLawful so
     order = (still m k j (swapped m j k both) none, subst (λ x. IsOrder s x fires.rest) (lawful.either_order m j k both) fires.order);
     count = ap suc fires.count;
     is = ap (λ x. after s x fires.rest) (sym (lawful.either_order m j k both)) ∙ fires.is;
+    serials = omega (arith, fires.serials);
   }
 
   beside-none : (m : M) (k : ℕ) → CanFire s m k → s.trap (s.fired m k) ≡ None → FiresBeside s m k []
@@ -71,6 +74,7 @@ module _ {M : Type 0} (sound : M → Type 0) (s : Moves M) (lawful : IsLawful so
     can = λ e. can;
     same_trap = none ∙ sym can.going;
     same_out = λ traps. absurd (traps can.going);
+    alone = λ serial. refl;
   }
 
   beside-one : (m : M) (j k : ℕ) → AreReady sound s m j k → s.trap (s.fired m k) ≡ None → FiresBeside s m k (j ∷ [])
@@ -80,6 +84,7 @@ module _ {M : Type 0} (sound : M → Type 0) (s : Moves M) (lawful : IsLawful so
     can = still m j k both;
     same_trap = lawful.same_trap m k j (swapped m j k both) none;
     same_out = λ traps. beside_out m j k both (beside_trap m j k both traps);
+    alone = λ serial. ap (λ b. counted b + 0) (lawful.one_serial m k j (swapped m j k both) serial);
   }
 
   beside-later : (m : M) (j k : ℕ) (ks : List ℕ) → AreReady sound s m j k → s.trap (s.fired m k) ≡ None → FiresBeside s (s.fired m j) k ks → FiresBeside s m k (j ∷ ks)
@@ -91,6 +96,7 @@ module _ {M : Type 0} (sound : M → Type 0) (s : Moves M) (lawful : IsLawful so
         can = fires.can;
         same_trap = ap (λ x. s.trap (after s x ks)) (sym same) ∙ fires.same_trap;
         same_out = λ traps. ap (λ x. s.out (after s x ks)) (sym same) ∙ fires.same_out traps;
+        alone = λ serial. let here : counted (s.serial j) ≡ 0 = ap counted (lawful.one_serial m k j (swapped m j k both) serial) in let later = fires.alone serial in omega (arith, here, later);
       }
 
   pulled-on : (m : M) (j k : ℕ) (ks : List ℕ) → AreReady sound s m j k → s.trap (s.fired m k) ≡ None → IsOrder s (s.fired m j) ks → (CanFire s (s.fired m j) k → s.trap (s.fired (s.fired m j) k) ≡ None → FiresIn s (s.fired m j) k ks ⊎ FiresBeside s (s.fired m j) k ks) → FiresIn s m k (j ∷ ks) ⊎ FiresBeside s m k (j ∷ ks)

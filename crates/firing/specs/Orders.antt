@@ -1,5 +1,5 @@
 -- Orders of firing, and what all of them come to.
-use Rattle.std.specs.Prelude.{◌≡◌, ◌≤◌, ◌+◌, ◌++◌, ℕ, List, [], ◌∷◌, length, Some, None}
+use Rattle.std.specs.Prelude.{◌≡◌, ◌≤◌, ◌+◌, ◌++◌, ℕ, Bool, true, false, List, [], ◌∷◌, length, Some, None}
 use Rattle.op_table.specs.declared.Trap.{Trap}
 use Rattle.firing.specs.Moves.{Moves, CanFire}
 
@@ -12,6 +12,15 @@ after s m (k ∷ ks) = after s (s.fired m k) ks
 abbrev pub IsOrder : {M : Type 0} → Moves M → M → List ℕ → Type 0
 IsOrder s m [] = Unit {0}
 IsOrder s m (k ∷ ks) = CanFire s m k × IsOrder s (s.fired m k) ks
+
+-- how many firings of an order are of serial nodes
+abbrev pub counted : Bool → ℕ
+counted true = 1
+counted false = 0
+
+abbrev pub serial_count : {M : Type 0} → Moves M → List ℕ → ℕ
+serial_count s [] = 0
+serial_count s (k ∷ ks) = counted (s.serial k) + serial_count s ks
 
 -- no node may fire
 abbrev pub IsOver : {M : Type 0} → Moves M → M → Type 0
@@ -59,3 +68,8 @@ pub record Traps {M : Type 0} (s : Moves M) (m : M) (trap : Trap × ℕ) (output
   pub prefix : (ks : List ℕ) → IsOrder s m ks → IsPrefix (s.out (after s m ks)) output
   -- whatever has fired, the trap can still come
   pub goes_on : (ks : List ℕ) → IsOrder s m ks → Fails s (after s m ks) trap output
+
+-- An order that doesn't trap, and whose output is the front of another order's.
+pub record IsBehind {M : Type 0} (s : Moves M) (m : M) (ks others : List ℕ) : Type 0 where
+  pub no_trap : s.trap (after s m ks) ≡ None
+  pub prefix : IsPrefix (s.out (after s m ks)) (s.out (after s m others))

@@ -1,14 +1,16 @@
 // What every order of firing has in common, as contracts of a function that does nothing.
 
-ghost use Rattle.std.specs.Prelude.{◌≡◌, ℕ, List, Some, None, length};
+ghost use Rattle.std.specs.Prelude.{◌≡◌, ◌≤◌, ℕ, List, Some, None, length};
 ghost use Rattle.op_table.specs.declared.Trap.{Trap};
-ghost use Rattle.firing.specs.Orders.{IsOrder, IsWhole, Settles, Traps, after};
+ghost use Rattle.firing.specs.Orders.{IsBehind, IsOrder, IsWhole, Settles, Traps, after, serial_count};
 
 use crate::StepSystem;
 
 /// Where one order of firing comes to rest without a trap, each does, after as many firings, at the same marking. Where
-/// one traps, none ends without that trap, and each that ends has the same output.
+/// one traps, none ends without that trap, and each that ends has the same output. Of two orders the one with
+/// no more serial firings writes a front of what the other writes, where that one doesn't trap.
 pub fn every_order<S: StepSystem>()
     ensures rest { (net : S.Net) (m : S.Marking) (ks : List ℕ) → S.sound net m → IsWhole (S.moves net) m ks → (S.moves net).trap (after (S.moves net) m ks) ≡ None → Settles (S.moves net) m (length ks) (after (S.moves net) m ks) }
     ensures trap { (net : S.Net) (m : S.Marking) (ks : List ℕ) (trap : Trap) (line : ℕ) → S.sound net m → IsOrder (S.moves net) m ks → (S.moves net).trap (after (S.moves net) m ks) ≡ Some (trap, line) → Traps (S.moves net) m (trap, line) ((S.moves net).out (after (S.moves net) m ks)) }
+    ensures prefix { (net : S.Net) (m : S.Marking) (ks others : List ℕ) → S.sound net m → IsOrder (S.moves net) m ks → IsOrder (S.moves net) m others → (S.moves net).trap (after (S.moves net) m others) ≡ None → serial_count (S.moves net) ks ≤ serial_count (S.moves net) others → IsBehind (S.moves net) m ks others }
 {}

@@ -1,0 +1,75 @@
+-- An order with no more serial firings than another one has written no more.
+use Rattle.std.proofs.Common.{◌≡◌, ◌≢◌, ℕ, ◌+◌, ◌≤◌, true, false, List, [], ◌∷◌, None, refl, sym, ap, subst, ◌∙◌, ⊎_elim, arith}
+use Rattle.std.proofs.lemmas.Bool.{cases_eq, cases_Bool}
+use Rattle.firing.specs.Laws.{IsLawful}
+use Rattle.firing.specs.Moves.{Moves, CanFire}
+use Rattle.firing.specs.Orders.{IsOrder, IsPrefix, IsBehind, after, counted, serial_count}
+use Rattle.firing.proofs.Pulling.{FiresIn, FiresBeside, are_ready, still, swapped, beside_trap, prepend_line, pulled}
+use Rattle.firing.proofs.Resting.{none_before, out_grows, sound_after}
+use Rattle.firing.proofs.Trapping.{cases_trap}
+
+module _ {M : Type 0} (sound : M → Type 0) (s : Moves M) (lawful : IsLawful sound s) where
+  -- beside a ready node whose firing traps no serial node fires
+  no_serial : (m : M) (k : ℕ) (ks : List ℕ) → sound m → CanFire s m k → s.trap (s.fired m k) ≢ None → IsOrder s m ks → s.trap (after s m ks) ≡ None → serial_count s ks ≡ 0
+  no_serial m k [] is_sound can traps order none = refl
+  no_serial m k (j ∷ ks) is_sound can traps (first, order) none = ⊎_elim
+      (λ (same : j ≡ k).
+      let there : s.trap (s.fired m j) ≢ None = λ e. traps (ap (λ i. s.trap (s.fired m i)) (sym same) ∙ e) in
+      absurd (there (none_before s (s.fired m j) ks order none)))
+      (λ differ.
+      let both = are_ready sound s lawful m j k is_sound differ first can in
+      let apart = swapped sound s lawful m j k both in
+      let silent = beside_trap sound s lawful m k j apart traps in
+      let next = no_serial (s.fired m j) k ks (lawful.stays_sound m j is_sound first) (still sound s lawful m j k both silent.trap) (λ e. traps (sym (lawful.same_trap m j k both silent.trap) ∙ e)) order none in
+      not_serial j k ks next (λ serial. traps (lawful.silent m k is_sound can (lawful.one_serial m j k both serial)).trap))
+      (cases_eq j k)
+    where
+      not_serial : (j k : ℕ) (ks : List ℕ) → serial_count s ks ≡ 0 → s.serial j ≢ true → serial_count s (j ∷ ks) ≡ 0
+      not_serial j k ks next not = ⊎_elim
+          (λ (serial : s.serial j ≡ true). absurd (not serial))
+          (λ (serial : s.serial j ≡ false). let here : counted (s.serial j) ≡ 0 = ap counted serial in omega (arith, here, next))
+          (cases_Bool (s.serial j))
+
+  -- a node that isn't serial writes nothing
+  written_nothing : (m : M) (k : ℕ) → sound m → CanFire s m k → s.serial k ≡ false → s.out (s.fired m k) ≡ s.out m
+  written_nothing m k is_sound can not = lawful.written m k is_sound can ∙ prepend_line sound s lawful (s.out m) (s.line m k) (lawful.silent m k is_sound can not).line
+
+  is_serial : (k : ℕ) (n : ℕ) → counted (s.serial k) + n ≤ 0 → s.serial k ≡ false
+  is_serial k n le = ⊎_elim
+      (λ (serial : s.serial k ≡ true). let more : counted (s.serial k) ≡ 1 = ap counted serial in absurd (omega (arith, le, more)))
+      (λ (not : s.serial k ≡ false). not)
+      (cases_Bool (s.serial k))
+
+  -- the other order holds the first firing
+  behind-in : (m : M) (k : ℕ) (ks others : List ℕ) (fires : FiresIn s m k others) → IsBehind s (s.fired m k) ks fires.rest → IsBehind s m (k ∷ ks) others
+  behind-in m k ks others fires b = record { no_trap = b.no_trap; prefix = subst (λ x. IsPrefix (s.out (after s (s.fired m k) ks)) (s.out x)) fires.is b.prefix }
+
+  -- it doesn't, and the first firing isn't serial
+  behind-beside : (m : M) (k : ℕ) (ks others : List ℕ) → sound m → IsOrder s m others → s.trap (after s m others) ≡ None → s.serial k ≡ false → FiresBeside s m k others → IsBehind s (s.fired m k) ks others → IsBehind s m (k ∷ ks) others
+  behind-beside m k ks others is_sound order none not fires b =
+      let same : s.out (after s (s.fired m k) others) ≡ s.out (after s m others) = ap s.out fires.is ∙ written_nothing (after s m others) k (sound_after sound s lawful m others is_sound order) (fires.can none) not in
+      record { no_trap = b.no_trap; prefix = subst (λ bytes. IsPrefix (s.out (after s (s.fired m k) ks)) bytes) same b.prefix }
+
+  pub behind : (m : M) (ks others : List ℕ) → sound m → IsOrder s m ks → IsOrder s m others → s.trap (after s m others) ≡ None → serial_count s ks ≤ serial_count s others → IsBehind s m ks others
+  behind m [] others is_sound order other none le = record { no_trap = none_before s m others other none; prefix = out_grows sound s lawful m others is_sound other }
+  behind m (k ∷ ks) others is_sound (can, order) other none le = ⊎_elim (goes_on (λ apart mine there fewer. behind (s.fired m k) ks apart next order mine there fewer)) blocked (cases_trap s (s.trap (s.fired m k)))
+    where
+      next : sound (s.fired m k)
+      next = lawful.stays_sound m k is_sound can
+
+      goes_on : ((apart : List ℕ) → IsOrder s (s.fired m k) apart → s.trap (after s (s.fired m k) apart) ≡ None → serial_count s ks ≤ serial_count s apart → IsBehind s (s.fired m k) ks apart) → s.trap (s.fired m k) ≡ None → IsBehind s m (k ∷ ks) others
+      goes_on further quiet = ⊎_elim
+          (λ (fires : FiresIn s m k others). behind-in m k ks others fires (further fires.rest fires.order (ap s.trap fires.is ∙ none) (omega (arith, le, fires.serials))))
+          (λ (fires : FiresBeside s m k others).
+          let not : s.serial k ≡ false = ⊎_elim
+          (λ (serial : s.serial k ≡ true). let zero_others = fires.alone serial in is_serial k (serial_count s ks) (omega (arith, le, zero_others)))
+          (λ (no : s.serial k ≡ false). no)
+          (cases_Bool (s.serial k)) in
+          behind-beside m k ks others is_sound other none not fires (further others fires.order (fires.same_trap ∙ none) (omega (arith, le))))
+          (pulled sound s lawful m k others is_sound can quiet other)
+
+      blocked : s.trap (s.fired m k) ≢ None → IsBehind s m (k ∷ ks) others
+      blocked traps =
+          let zero_others = no_serial m k others is_sound can traps other none in
+          let not = is_serial k (serial_count s ks) (omega (arith, le, zero_others)) in
+          absurd (traps (lawful.silent m k is_sound can not).trap)
