@@ -1,5 +1,6 @@
 pub mod Counting
 pub mod Example
+pub mod Pacing
 pub mod Pulling
 pub mod Resting
 pub mod Trapping

@@ -4,5 +4,5 @@
 mod laws;
 mod system;
 
-pub use laws::every_order;
+pub use laws::{every_order, every_order_follows};
 pub use system::{Fired, NodeName, StepSystem};
