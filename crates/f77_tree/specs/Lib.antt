@@ -2,6 +2,7 @@ pub mod CanRun
 pub mod Control
 pub mod Declarations
 pub mod Execution
+pub mod Grammar
 pub mod InitialWords
 pub mod Kinds
 pub mod Known

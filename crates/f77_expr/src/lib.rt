@@ -1,0 +1,6 @@
+//! Expressions of fixed-form Fortran 77, read from a text and printed (ANSI X3.9-1978, section 6).
+#![tactic(auto)]
+
+mod parsed;
+
+pub use parsed::{ExprEnd, Parsed};

@@ -1,0 +1,23 @@
+use f77_tree::RawExpr;
+
+/// An expression that was read.
+#[derive(Drop)]
+pub struct Parsed {
+    /// The expression. Brackets and a sign `+` leave no trace in it.
+    pub expr: RawExpr,
+    /// The place behind the piece that was read, counted in characters from 0.
+    pub next: u32,
+}
+
+/// Why no expression was read. The first of these that holds is told.
+#[derive(Clone, Copy, Debug, PartialEq, Eq)]
+pub enum ExprEnd {
+    /// More than 60 brackets are open at some place of the piece.
+    TooDeep,
+    /// The piece is no expression.
+    NoForm,
+    /// An integer constant in the piece is above 2147483647.
+    BadConstant,
+    /// There was no memory.
+    NoMemory,
+}
