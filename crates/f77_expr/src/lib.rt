@@ -1,6 +1,15 @@
 //! Expressions of fixed-form Fortran 77, read from a text and printed (ANSI X3.9-1978, section 6).
 #![tactic(auto)]
 
+mod constants;
+mod operators;
+mod parse;
 mod parsed;
+mod reader;
+mod trees;
 
+pub use parse::parse_expr;
 pub use parsed::{ExprEnd, Parsed};
+
+#[cfg(test)]
+mod tests;

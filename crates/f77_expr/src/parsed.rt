@@ -1,3 +1,4 @@
+use df_sequence::NoMemory;
 use f77_tree::RawExpr;
 
 /// An expression that was read.
@@ -20,4 +21,15 @@ pub enum ExprEnd {
     BadConstant,
     /// There was no memory.
     NoMemory,
+}
+
+impl From<NoMemory> for ExprEnd {
+    ghost use Rattle.std.specs.Prelude.{◌≡◌};
+    ghost use Rattle.f77_expr.specs.declared.parsed.ExprEnd.TheVariants.{NoMemory};
+
+    ghost from_gives = { λ _ e. e ≡ NoMemory };
+
+    fn from(_refused: NoMemory) -> ExprEnd {
+        ExprEnd::NoMemory
+    }
 }

@@ -1,0 +1,191 @@
+//! What stands in front of a text: operators, signs, .NOT. and logical constants.
+
+ghost use Rattle.std.specs.Prelude.{◌≡◌};
+ghost use Rattle.std.specs.Option.{option_copied};
+ghost use Rattle.f77_tree.specs.Grammar.{Written, symbol as spec_symbol, operator_level as spec_operator_level, left_level as spec_left_level, right_level as spec_right_level};
+ghost use Rattle.f77_expr.specs.Reader.{read_as, after_front as spec_after_front, operator_at as spec_operator_at, prefix_at as spec_prefix_at, operand_level as spec_operand_level, truth_at as spec_truth_at};
+ghost use Rattle.f77_expr.specs.Answers.{seen, meant, allowed};
+
+use op_table::Op;
+
+/// What may stand before an operand (ANSI X3.9-1978, sections 6.1.4 and 6.4.2).
+#[derive(Clone, Copy, Debug, PartialEq, Eq)]
+pub(crate) enum Prefix {
+    Plus,
+    Minus,
+    Negation,
+}
+
+// The operators between operands. `**` stands before `*`, since it begins with it.
+const OPERATORS: [Op; 15] = [
+    Op::Pow,
+    Op::Mul,
+    Op::Div,
+    Op::Add,
+    Op::Sub,
+    Op::Lt,
+    Op::Le,
+    Op::Eq,
+    Op::Ne,
+    Op::Ge,
+    Op::Gt,
+    Op::And,
+    Op::Or,
+    Op::Eqv,
+    Op::Neqv,
+];
+
+/// How an operator between two operands is written.
+fn symbol(op: Op) -> &'static [u8]
+    ensures { result.now ≡ spec_symbol op }
+{
+    match op {
+        Op::Add => b"+",
+        Op::Sub => b"-",
+        Op::Mul => b"*",
+        Op::Div => b"/",
+        Op::Pow => b"**",
+        Op::Lt => b".LT.",
+        Op::Le => b".LE.",
+        Op::Eq => b".EQ.",
+        Op::Ne => b".NE.",
+        Op::Ge => b".GE.",
+        Op::Gt => b".GT.",
+        Op::And => b".AND.",
+        Op::Or => b".OR.",
+        Op::Eqv => b".EQV.",
+        Op::Neqv => b".NEQV.",
+        _ => b"",
+    }
+}
+
+/// The level of an operator between two operands, from those that bind least.
+pub(crate) fn operator_level(op: Op) -> u8
+    ensures { result ≡ spec_operator_level op }
+{
+    match op {
+        Op::Eqv | Op::Neqv => 0,
+        Op::Or => 1,
+        Op::And => 2,
+        Op::Lt | Op::Le | Op::Eq | Op::Ne | Op::Ge | Op::Gt => 4,
+        Op::Add | Op::Sub => 5,
+        Op::Mul | Op::Div => 6,
+        Op::Pow => 7,
+        _ => 9,
+    }
+}
+
+/// The least level of the operand on the left. Relations make no chain, and powers are grouped from the right.
+fn left_level(op: Op) -> u8
+    ensures { result ≡ spec_left_level op }
+{
+    match op {
+        Op::Eqv | Op::Neqv => 0,
+        Op::Or => 1,
+        Op::And => 2,
+        Op::Lt | Op::Le | Op::Eq | Op::Ne | Op::Ge | Op::Gt => 5,
+        Op::Add | Op::Sub => 5,
+        Op::Mul | Op::Div => 6,
+        Op::Pow => 8,
+        _ => 9,
+    }
+}
+
+/// The least level of the operand on the right.
+pub(crate) fn right_level(op: Op) -> u8
+    ensures { result ≡ spec_right_level op }
+{
+    match op {
+        Op::Eqv | Op::Neqv => 1,
+        Op::Or => 2,
+        Op::And => 3,
+        Op::Lt | Op::Le | Op::Eq | Op::Ne | Op::Ge | Op::Gt => 5,
+        Op::Add | Op::Sub => 6,
+        Op::Mul | Op::Div => 7,
+        Op::Pow => 7,
+        _ => 9,
+    }
+}
+
+/// The text behind these characters, where it begins with them.
+fn after_front<'a>(text: &'a [u8], front: &[u8]) -> Option<&'a [u8]>
+    ensures { option_copied result ≡ spec_after_front front.now text.now }
+{
+    text.strip_prefix(front)
+}
+
+/// The operator between operands with which a text begins, and the text behind it.
+fn operator_at(text: &[u8]) -> Option<(Op, &[u8])>
+    ensures { seen result ≡ spec_operator_at text.now }
+{
+    for op in &OPERATORS {
+        if let Some(rest) = after_front(text, symbol(*op)) {
+            return Some((*op, rest));
+        }
+    }
+    None
+}
+
+/// The operator with which a text begins, where it may stand behind an operand of this level in an expression of at least
+/// the level `least`, and the text behind it.
+pub(crate) fn operator_behind(text: &[u8], least: u8, level: u8) -> Option<(Op, &[u8])>
+    ensures { seen result ≡ allowed least level (spec_operator_at text.now) }
+{
+    let (op, rest) = operator_at(text)?;
+    if least <= operator_level(op) && left_level(op) <= level {
+        Some((op, rest))
+    } else {
+        None
+    }
+}
+
+/// The sign with which a text begins, and the text behind it.
+fn sign_at(text: &[u8]) -> Option<(Prefix, &[u8])> {
+    if let Some(rest) = after_front(text, b"+") {
+        return Some((Prefix::Plus, rest));
+    }
+    let rest = after_front(text, b"-")?;
+    Some((Prefix::Minus, rest))
+}
+
+/// The prefix with which a text begins, where an expression of the level `least` or a higher one may begin with it, and
+/// the text behind it.
+pub(crate) fn prefix_at(text: &[u8], least: u8) -> Option<(Prefix, &[u8])>
+    ensures { read_as meant (seen result) ≡ spec_prefix_at least text.now }
+{
+    if least <= 3 {
+        if let Some(rest) = after_front(text, b".NOT.") {
+            return Some((Prefix::Negation, rest));
+        }
+    }
+    if least <= 5 { sign_at(text) } else { None }
+}
+
+/// The least level of a prefix's operand. A sign stands before a whole term.
+pub(crate) fn operand_level(prefix: Prefix) -> u8
+    ensures { result ≡ spec_operand_level (meant prefix) }
+{
+    match prefix {
+        Prefix::Plus | Prefix::Minus => 6,
+        Prefix::Negation => 4,
+    }
+}
+
+/// The level of an expression that begins with a prefix.
+pub(crate) fn prefix_level(prefix: Prefix) -> u8 {
+    match prefix {
+        Prefix::Plus | Prefix::Minus => 5,
+        Prefix::Negation => 3,
+    }
+}
+
+/// The logical constant with which a text begins, and the text behind it.
+pub(crate) fn truth_at(text: &[u8]) -> Option<(bool, &[u8])>
+    ensures { read_as Written.truth (seen result) ≡ spec_truth_at text.now }
+{
+    if let Some(rest) = after_front(text, b".TRUE.") {
+        return Some((true, rest));
+    }
+    let rest = after_front(text, b".FALSE.")?;
+    Some((false, rest))
+}
