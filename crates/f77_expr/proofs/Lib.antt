@@ -1,0 +1,3 @@
+pub mod EachRead
+pub mod Fronts
+pub mod Descent
