@@ -1,12 +1,12 @@
 -- The readers at any depth: each rest is shorter, depth beyond what a text needs changes nothing, and so the readers are
 -- what they call one another for.
-use Rattle.std.proofs.Common.{◌≡◌, ◌==◌, ℕ, zero, suc, ◌+◌, ◌-◌, ◌*◌, ◌<◌, ◌≤◌, Bool, true, false, List, [], ◌∷◌, ◌++◌, length, drop, take_while, Option, Some, None, if◌then◌else◌, ◌&&◌, nat_le, codes, refl, sym, ap, subst, ◌∙◌, arith, length-append, length-drop}
+use Rattle.std.proofs.Common.{◌==◌, ℕ, zero, suc, ◌<◌, ◌≤◌, List, [], ◌∷◌, length, drop, take_while, Some, None, if◌then◌else◌, ◌&&◌, nat_le, arith}
 use Rattle.std.proofs.lemmas.Bool.{or_left}
 use Rattle.op_table.specs.declared.Op.{Op}
 use Rattle.f77_tree.specs.Name.{is_capital, is_figure}
 use Rattle.f77_tree.specs.Grammar.{Written, Arguments, level, operator_level, left_level, right_level}
-use Rattle.f77_expr.specs.Reader.{Reads, read_as, and_then_read, operator_at, Prefix, prefix_at, operand_level, prefixed, truth_at, is_symbolic, closed, Readers, no_readers, begun, continued, named, primary_by, more_arguments, deeper, readers, enough, expression_at, chain_at, primary_at, arguments_at, the_readers, after_front, this_or}
-use Rattle.f77_expr.proofs.EachRead.{Each, each_at, each_if, each_then, each_as, each_weaker, each_this_or, then_same}
+use Rattle.f77_expr.specs.Reader.{Reads, read_as, and_then_read, operator_at, Prefix, prefix_at, operand_level, prefixed, truth_at, is_symbolic, closed, Readers, begun, continued, named, primary_by, more_arguments, deeper, readers}
+use Rattle.f77_expr.proofs.EachRead.{Each, each_if, each_then, each_as, each_weaker}
 use Rattle.f77_expr.proofs.Fronts.{IsOperatorIn, operator_front, IsPrefixIn, prefix_front, IsTruthIn, truth_front, run_shorter}
 
 -- what each rest is shorter than
@@ -41,7 +41,7 @@ module _ (r : Readers) (s : Shorter r) where
       each_if (λ v rest. length rest < suc (length text)) (nat_le least (operator_level op) && nat_le (left_level op) (level w))
       (and_then_read (λ right rest. r.chain least (Written.binary op w right) rest) (r.expression (right_level op) operand)) (Some (w, text))
       (λ goes_on. each_then (λ right rest. length rest < length operand) (λ right rest. length rest < suc (length text)) (λ right rest. r.chain least (Written.binary op w right) rest) (r.expression (right_level op) operand) (s.expression (right_level op) operand)
-          (λ right rest lt. chain_below (suc (length text)) least (Written.binary op w right) rest (omega (arith, h.1, lt))))
+      (λ right rest lt. chain_below (suc (length text)) least (Written.binary op w right) rest (omega (arith, h.1, lt))))
       (λ stops. omega arith)
 
   named_below : (name text : List ℕ) → Below (suc (length text)) (named r name text)
@@ -70,12 +70,12 @@ module _ (r : Readers) (s : Shorter r) where
   primary_below (c ∷ text) =
       each_if P (is_figure c) (Some (Written.number digits, drop (length digits) whole)) not_number (λ figure. run_shorter is_figure c text figure)
       (λ no_figure. each_if P (is_capital c) (if nat_le (length run) 6 then named r run behind else None) not_name
-          (λ capital. each_if P (nat_le (length run) 6) (named r run behind) None
-              (λ short. below_less (suc (length behind)) (length whole) (named r run behind) (run_shorter is_symbolic c text (or_left (is_capital c) (is_figure c) capital)) (named_below run behind))
-              (λ long. tt))
-          (λ no_capital. each_if P (c == 40) (and_then_read (λ w rest. closed (Written.bracketed w) rest) (r.expression 0 text)) (truth_at whole)
-              (λ bracket. each_then (λ w rest. length rest < length text) P (λ w rest. closed (Written.bracketed w) rest) (r.expression 0 text) (s.expression 0 text) (λ w rest lt. closed_below (length whole) (Written.bracketed w) rest (omega arith)))
-              (λ none. each_weaker (λ w rest. IsTruthIn whole w rest) P (truth_at whole) (λ w rest is. is.3) (truth_front whole))))
+      (λ capital. each_if P (nat_le (length run) 6) (named r run behind) None
+      (λ short. below_less (suc (length behind)) (length whole) (named r run behind) (run_shorter is_symbolic c text (or_left (is_capital c) (is_figure c) capital)) (named_below run behind))
+      (λ long. tt))
+      (λ no_capital. each_if P (c == 40) (and_then_read (λ w rest. closed (Written.bracketed w) rest) (r.expression 0 text)) (truth_at whole)
+      (λ bracket. each_then (λ w rest. length rest < length text) P (λ w rest. closed (Written.bracketed w) rest) (r.expression 0 text) (s.expression 0 text) (λ w rest lt. closed_below (length whole) (Written.bracketed w) rest (omega arith)))
+      (λ none. each_weaker (λ w rest. IsTruthIn whole w rest) P (truth_at whole) (λ w rest is. is.3) (truth_front whole))))
     where
       P : Written → List ℕ → Type 0
       P w rest = length rest < suc (length text)

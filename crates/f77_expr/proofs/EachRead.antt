@@ -1,5 +1,5 @@
 -- What holds of each answer of a reader, and readers one behind another.
-use Rattle.std.proofs.Common.{◌≡◌, ℕ, Bool, true, false, List, [], ◌∷◌, length, Option, Some, None, if◌then◌else◌, refl, sym, ap, subst, ◌∙◌}
+use Rattle.std.proofs.Common.{◌≡◌, ℕ, Bool, true, false, List, Option, Some, None, if◌then◌else◌, refl, ap, subst, ◌∙◌}
 use Rattle.f77_expr.specs.Reader.{Reads, read_as, and_then_read, this_or}
 
 -- nothing is read, or what is read and the rest behind it are related so
@@ -45,3 +45,7 @@ module _ {A B : Type 0} where
       same : (z : Reads A) → Each P z → and_then_read go z ≡ and_then_read other z
       same None each = refl
       same (Some (a, rest)) each = k a rest each
+
+pub if_same : {A : Type 0} (b : Bool) (x x_other y y_other : A) → (b ≡ true → x ≡ x_other) → (b ≡ false → y ≡ y_other) → (if b then x else y) ≡ (if b then x_other else y_other)
+if_same true x x_other y y_other then_same else_same = then_same refl
+if_same false x x_other y y_other then_same else_same = else_same refl

@@ -1,5 +1,5 @@
 -- Fronts of texts: characters, operators and prefixes.
-use Rattle.std.proofs.Common.{◌≡◌, ◌==◌, ℕ, zero, suc, ◌+◌, ◌<◌, ◌≤◌, Bool, true, false, List, [], ◌∷◌, ◌++◌, length, drop, take_while, cond, ◌&&◌, Option, Some, None, if◌then◌else◌, nat_le, codes, refl, sym, ap, subst, ◌∙◌, arith, length-append, length-drop}
+use Rattle.std.proofs.Common.{◌≡◌, ◌==◌, ℕ, suc, ◌+◌, ◌<◌, ◌≤◌, Bool, true, false, List, [], ◌∷◌, ◌++◌, length, drop, take_while, cond, Some, None, if◌then◌else◌, nat_le, codes, refl, sym, ap, subst, ◌∙◌, arith, length-append, length-drop}
 use Rattle.std.proofs.lemmas.Bool.{eqb-true, leb-true, and_parts, and_from}
 use Rattle.std.proofs.lemmas.List.Sums.{take_while-cons}
 use Rattle.std.specs.List.{list_all}
@@ -80,9 +80,9 @@ prefix_front least text =
     signs : Each P sign
     signs = each_if P (nat_le least 5) both None
         (λ low. each_this_or P Plus (after_front (codes "+") text) minus
-            (λ rest e. (front_is (codes "+") text rest e, omega (arith, front_shorter (codes "+") text rest e), leb-true least 5 low))
-            (each_this_or P Minus (after_front (codes "-") text) None
-                (λ rest e. (front_is (codes "-") text rest e, omega (arith, front_shorter (codes "-") text rest e), leb-true least 5 low)) tt))
+        (λ rest e. (front_is (codes "+") text rest e, omega (arith, front_shorter (codes "+") text rest e), leb-true least 5 low))
+        (each_this_or P Minus (after_front (codes "-") text) None
+        (λ rest e. (front_is (codes "-") text rest e, omega (arith, front_shorter (codes "-") text rest e), leb-true least 5 low)) tt))
         (λ high. tt)
 
 -- ---- runs of characters of one kind
@@ -138,9 +138,9 @@ IsTruthIn text w rest = IsGrammatical w × (level w ≡ 8) × (spelling w ++ res
 pub truth_front : (text : List ℕ) → Each (λ w rest. IsTruthIn text w rest) (truth_at text)
 truth_front text =
     each_this_or P (Written.truth true) (after_front (codes ".TRUE.") text) others
-        (λ rest e. (tt, refl, front_is (codes ".TRUE.") text rest e, omega (arith, front_shorter (codes ".TRUE.") text rest e)))
-        (each_this_or P (Written.truth false) (after_front (codes ".FALSE.") text) None
-            (λ rest e. (tt, refl, front_is (codes ".FALSE.") text rest e, omega (arith, front_shorter (codes ".FALSE.") text rest e))) tt)
+    (λ rest e. (tt, refl, front_is (codes ".TRUE.") text rest e, omega (arith, front_shorter (codes ".TRUE.") text rest e)))
+    (each_this_or P (Written.truth false) (after_front (codes ".FALSE.") text) None
+    (λ rest e. (tt, refl, front_is (codes ".FALSE.") text rest e, omega (arith, front_shorter (codes ".FALSE.") text rest e))) tt)
   where
     P : Written → List ℕ → Type 0
     P w rest = IsTruthIn text w rest
