@@ -1,0 +1,4 @@
+pub mod EachRead
+pub mod Fronts
+pub mod Descent
+pub mod Depth
