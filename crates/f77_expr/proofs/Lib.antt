@@ -2,3 +2,6 @@ pub mod EachRead
 pub mod Fronts
 pub mod Descent
 pub mod Depth
+pub mod Parts
+pub mod Numbers
+pub mod Pieces

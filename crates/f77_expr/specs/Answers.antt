@@ -1,5 +1,5 @@
 -- What the parts of the reader answer, by the reader on lists.
-use Rattle.std.specs.Prelude.{◌≡◌, ℕ, ℤ, pos, ◌<◌, Bool, true, false, ◌||◌, ◌&&◌, ◌==◌, nat_le, nat_lt, if◌then◌else◌, List, [], ◌∷◌, length, Option, Some, None, Result, Ok, Err}
+use Rattle.std.specs.Prelude.{◌≡◌, ℕ, ℤ, pos, ◌<◌, Bool, true, false, ◌||◌, ◌&&◌, ◌==◌, nat_le, nat_lt, if◌then◌else◌, List, [], ◌∷◌, length, codes, Option, Some, None, Result, Ok, Err}
 use Rattle.std.specs.Borrow.{Bor}
 use Rattle.op_table.specs.declared.Op.{Op}
 use Rattle.op_table.specs.declared.Op.TheVariants.{Neg, Not}
@@ -12,7 +12,7 @@ use Rattle.f77_expr.specs.declared.parsed.ExprEnd.TheVariants.{TooDeep, NoForm, 
 use Rattle.f77_expr.specs.declared.operators.Prefix.{Prefix}
 use Rattle.f77_expr.specs.declared.operators.Prefix.TheVariants.{Plus, Minus, Negation}
 use Rattle.f77_expr.specs.Parsing.{IsReadAs, HasGreatConstant}
-use Rattle.f77_expr.specs.Reader.{Reads, Prefix as WrittenPrefix, expression_at, chain_at}
+use Rattle.f77_expr.specs.Reader.{Reads, this_or, after_front, Prefix as WrittenPrefix, expression_at, chain_at}
 
 -- ---- parts of a text
 
@@ -26,6 +26,10 @@ abbrev pub meant : Prefix → WrittenPrefix
 meant Plus = WrittenPrefix.Plus
 meant Minus = WrittenPrefix.Minus
 meant Negation = WrittenPrefix.Negation
+
+-- the sign with which a text begins
+abbrev pub sign_at : List ℕ → Reads WrittenPrefix
+sign_at text = this_or WrittenPrefix.Plus (after_front (codes "+") text) (this_or WrittenPrefix.Minus (after_front (codes "-") text) None)
 
 -- an operator, where it may stand behind an operand of this level
 abbrev pub allowed : (least : ℕ) → (behind : ℕ) → Reads Op → Reads Op

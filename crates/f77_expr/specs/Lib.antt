@@ -4,3 +4,4 @@ pub mod Parsing
 pub mod Piece
 pub mod Printing
 pub mod Reader
+pub mod Scanning

@@ -4,7 +4,7 @@ ghost use Rattle.std.specs.Prelude.{◌≡◌};
 ghost use Rattle.std.specs.Option.{option_copied};
 ghost use Rattle.f77_tree.specs.Grammar.{Written, symbol as spec_symbol, operator_level as spec_operator_level, left_level as spec_left_level, right_level as spec_right_level};
 ghost use Rattle.f77_expr.specs.Reader.{read_as, after_front as spec_after_front, operator_at as spec_operator_at, prefix_at as spec_prefix_at, operand_level as spec_operand_level, truth_at as spec_truth_at};
-ghost use Rattle.f77_expr.specs.Answers.{seen, meant, allowed};
+ghost use Rattle.f77_expr.specs.Answers.{seen, meant, allowed, sign_at as spec_sign_at};
 
 use op_table::Op;
 
@@ -140,7 +140,9 @@ pub(crate) fn operator_behind(text: &[u8], least: u8, level: u8) -> Option<(Op, 
 }
 
 /// The sign with which a text begins, and the text behind it.
-fn sign_at(text: &[u8]) -> Option<(Prefix, &[u8])> {
+fn sign_at(text: &[u8]) -> Option<(Prefix, &[u8])>
+    ensures { read_as meant (seen result) ≡ spec_sign_at text.now }
+{
     if let Some(rest) = after_front(text, b"+") {
         return Some((Prefix::Plus, rest));
     }

@@ -1,3 +1,8 @@
+ghost use Rattle.std.specs.Prelude.{◌≡◌, ◌<◌, ◌≤◌, drop, length};
+ghost use Rattle.f77_expr.specs.Piece.{piece as spec_piece, bracket_depth, open_after as spec_open_after, ends_piece as spec_ends_piece};
+ghost use Rattle.f77_expr.specs.Parsing.{IsParsed};
+ghost use Rattle.f77_expr.specs.Scanning.{is_open};
+
 use crate::reader::read_piece;
 use crate::{ExprEnd, Parsed};
 use df_sequence::CharList;
@@ -13,28 +18,31 @@ struct Open {
     brackets: usize,
 }
 
-/// How long a piece is, and how many brackets are open in it at most.
+/// The piece with which a text begins, and how many brackets are open in it at most.
 #[derive(Drop)]
-struct Extent {
-    length: usize,
+struct Piece<'a> {
+    text: &'a [u8],
     depth: usize,
 }
 
 /// What is open after a character. A closing bracket where none is open changes nothing.
-fn open_after(open: Open, c: u8) -> Open {
+fn open_after(state: Open, c: u8) -> Open
+    requires { state.brackets < 18446744073709551615 }
+    ensures { is_open result ≡ spec_open_after (is_open state) c }
+{
     if c == b'\'' {
         return Open {
-            is_quoted: !open.is_quoted,
-            brackets: open.brackets,
+            is_quoted: !state.is_quoted,
+            brackets: state.brackets,
         };
     }
-    if open.is_quoted {
-        return open;
+    if state.is_quoted {
+        return state;
     }
     let brackets = match c {
-        b'(' => open.brackets + 1,
-        b')' => open.brackets.saturating_sub(1),
-        _ => open.brackets,
+        b'(' => state.brackets + 1,
+        b')' => state.brackets.saturating_sub(1),
+        _ => state.brackets,
     };
     Open {
         is_quoted: false,
@@ -43,27 +51,34 @@ fn open_after(open: Open, c: u8) -> Open {
 }
 
 /// Whether a character ends the piece: a comma, a closing bracket, an equals sign or a colon, where nothing is open.
-fn ends_piece(open: Open, c: u8) -> bool {
-    !open.is_quoted && open.brackets == 0 && matches!(c, b',' | b')' | b'=' | b':')
+fn ends_piece(state: Open, c: u8) -> bool
+    ensures { result ≡ spec_ends_piece (is_open state) c }
+{
+    !state.is_quoted && state.brackets == 0 && matches!(c, b',' | b')' | b'=' | b':')
 }
 
 /// The piece with which a text begins.
-fn piece_in_front(text: &[u8]) -> Extent {
-    let mut open = Open {
+fn piece_in_front(text: &[u8]) -> Piece<'_>
+    ensures text { result.text.now ≡ spec_piece text.now }
+    ensures depth { result.depth ≡ bracket_depth (spec_piece text.now) }
+    ensures short { length result.text.now ≤ length text.now }
+{
+    let mut state = Open {
         is_quoted: false,
         brackets: 0,
     };
     let mut depth = 0;
-    let mut length = 0;
-    for c in text {
-        if ends_piece(open, *c) {
-            break;
+    for (i, c) in text.iter().enumerate() {
+        if ends_piece(state, *c) {
+            return Piece {
+                text: &text[..i],
+                depth,
+            };
         }
-        open = open_after(open, *c);
-        depth = open.brackets.max(depth);
-        length += 1;
+        state = open_after(state, *c);
+        depth = state.brackets.max(depth);
     }
-    Extent { length, depth }
+    Piece { text, depth }
 }
 
 /// The expression in a piece of a text (ANSI X3.9-1978, section 6). The piece runs from the place `from`, counted in
@@ -74,15 +89,17 @@ fn piece_in_front(text: &[u8]) -> Extent {
 /// The first of these that holds: TooDeep where more than 60 brackets are open at some place of the piece, NoForm where
 /// the piece is no expression, BadConstant where a constant in it is above 2147483647. NoMemory may come in place of any
 /// answer but TooDeep.
-pub fn parse_expr(alloc: Global, text: &CharList, from: u32) -> Result<Parsed, ExprEnd> {
-    let behind = &text.as_bytes()[from as usize..];
-    let extent = piece_in_front(behind);
-    if extent.depth > DEEPEST {
+pub fn parse_expr(alloc: Global, text: &CharList, from: u32) -> Result<Parsed, ExprEnd>
+    requires { from ≤ length text.now }
+    ensures { IsParsed (spec_piece (drop from text.now)) from result }
+{
+    let piece = piece_in_front(&text.as_bytes()[from as usize..]);
+    if piece.depth > DEEPEST {
         return Err(ExprEnd::TooDeep);
     }
-    let expr = read_piece(alloc, &behind[..extent.length])?;
+    let expr = read_piece(alloc, piece.text)?;
     Ok(Parsed {
         expr,
-        next: from + extent.length as u32,
+        next: from + piece.text.len() as u32,
     })
 }

@@ -1,0 +1,66 @@
+-- Pieces of texts, as a scan finds them.
+use Rattle.std.proofs.Common.{◌≡◌, ◌==◌, ℕ, zero, suc, ◌+◌, ◌<◌, ◌≤◌, Bool, true, false, if◌then◌else◌, max, List, [], ◌∷◌, ◌++◌, length, get_or, take, drop, refl, sym, ap, ◌∙◌, arith, append_assoc, subst}
+use Rattle.std.proofs.lemmas.Bool.{cond_both}
+use Rattle.std.proofs.lemmas.List.{append-nil, take_more, at_drop_more, at_drop_all, take_all}
+use Rattle.f77_expr.specs.Piece.{Open, nothing_open, open_after, ends_piece, piece_from, piece, deepest_from, bracket_depth}
+
+-- what a scan knows at the index i
+pub record IsScanned (text : List ℕ) (open_now : Open) (depth i : ℕ) : Type 0 where
+  pub whole : piece text ≡ take i text ++ piece_from open_now (drop i text)
+  pub deepest : bracket_depth (piece text) ≡ max depth (deepest_from open_now (piece_from open_now (drop i text)))
+  pub least : open_now.brackets ≤ depth
+  pub room : open_now.brackets ≤ i
+
+pub scan_begins : (text : List ℕ) → IsScanned text nothing_open 0 0
+scan_begins text = record { whole = refl; deepest = omega arith; least = omega arith; room = omega arith }
+
+-- brackets that are open are counted
+deepest_least : (open_now : Open) (text : List ℕ) → open_now.brackets ≤ deepest_from open_now text
+deepest_least open_now [] = omega arith
+deepest_least open_now (c ∷ text) = omega arith
+
+-- one character more opens one bracket at most
+open_more : (open_now : Open) (c : ℕ) → (open_after open_now c).brackets ≤ suc open_now.brackets
+open_more open_now c =
+    let P : Open → Type 0 = λ later. later.brackets ≤ suc open_now.brackets in
+    cond_both (c == 39) _ _ P (λ quote. omega arith) (λ no_quote.
+    cond_both open_now.quoted _ _ P (λ quoted. omega arith) (λ not_quoted.
+    cond_both (c == 40) _ _ P (λ opens. omega arith) (λ other.
+    cond_both (c == 41) _ _ P (λ closes. omega arith) (λ none. omega arith))))
+
+ends_there : (text : List ℕ) (open_now : Open) (depth i : ℕ) → IsScanned text open_now depth i → piece_from open_now (drop i text) ≡ [] → (take i text ≡ piece text) × (depth ≡ bracket_depth (piece text))
+ends_there text open_now depth i s e =
+    let least = s.least in
+    let deepest : bracket_depth (piece text) ≡ max depth open_now.brackets = s.deepest ∙ ap (λ p. max depth (deepest_from open_now p)) e in
+    (sym (s.whole ∙ ap (λ p. take i text ++ p) e ∙ append-nil (take i text)), omega arith)
+
+-- the scan ends at the end of the text
+pub scan_ends : (text : List ℕ) (open_now : Open) (depth i : ℕ) → IsScanned text open_now depth i → length text ≤ i → (text ≡ piece text) × (depth ≡ bracket_depth (piece text))
+scan_ends text open_now depth i s all =
+    let ends = ends_there text open_now depth i s (at_drop_all (λ rest. piece_from open_now rest) text i all) in
+    (sym (take_all i text all) ∙ ends.0, ends.1)
+
+-- or at a character that ends the piece
+pub scan_stops : (text : List ℕ) (open_now : Open) (depth i d : ℕ) → IsScanned text open_now depth i → i < length text → ends_piece open_now (get_or text i d) ≡ true → (take i text ≡ piece text) × (depth ≡ bracket_depth (piece text))
+scan_stops text open_now depth i d s lt ends =
+    ends_there text open_now depth i s (at_drop_more (λ rest. piece_from open_now rest) text i d lt ∙ ap (λ b. if b then [] else (get_or text i d ∷ piece_from (open_after open_now (get_or text i d)) (drop (i + 1) text))) ends)
+
+-- else it goes on
+pub scan_goes_on : (text : List ℕ) (open_now next : Open) (depth i d : ℕ) → IsScanned text open_now depth i → i < length text → ends_piece open_now (get_or text i d) ≡ false → next ≡ open_after open_now (get_or text i d) → IsScanned text next (max next.brackets depth) (i + 1)
+scan_goes_on text open_now next depth i d s lt goes_on is =
+    let c = get_or text i d in
+    let behind = piece_from next (drop (i + 1) text) in
+    let here : piece_from open_now (drop i text) ≡ c ∷ behind =
+    at_drop_more (λ rest. piece_from open_now rest) text i d lt ∙ ap (λ b. if b then [] else (c ∷ piece_from (open_after open_now c) (drop (i + 1) text))) goes_on ∙ ap (λ o. c ∷ piece_from o (drop (i + 1) text)) (sym is) in
+    let more : next.brackets ≤ suc open_now.brackets = subst (λ (o : Open). o.brackets ≤ suc open_now.brackets) (sym is) (open_more open_now c) in
+    let deepest : bracket_depth (piece text) ≡ max depth (max open_now.brackets (deepest_from next behind)) =
+    s.deepest ∙ ap (λ p. max depth (deepest_from open_now p)) here ∙ ap (λ o. max depth (max open_now.brackets (deepest_from o behind))) (sym is) in
+    let room = s.room in
+    let least = s.least in
+    let behind_least = deepest_least next behind in
+    record {
+      whole = s.whole ∙ ap (λ p. take i text ++ p) here ∙ sym (append_assoc (take i text) (c ∷ []) behind) ∙ ap (λ p. p ++ behind) (sym (take_more text i d lt));
+      deepest = omega arith;
+      least = omega arith;
+      room = omega arith;
+    }
