@@ -5,3 +5,6 @@ pub mod Depth
 pub mod Parts
 pub mod Numbers
 pub mod Pieces
+pub mod Chains
+pub mod Lists
+pub mod Primaries

@@ -27,6 +27,12 @@ meant Plus = WrittenPrefix.Plus
 meant Minus = WrittenPrefix.Minus
 meant Negation = WrittenPrefix.Negation
 
+-- the level of an expression that begins with a prefix
+abbrev pub prefix_level : Prefix → ℕ
+prefix_level Plus = 5
+prefix_level Minus = 5
+prefix_level Negation = 3
+
 -- the sign with which a text begins
 abbrev pub sign_at : List ℕ → Reads WrittenPrefix
 sign_at text = this_or WrittenPrefix.Plus (after_front (codes "+") text) (this_or WrittenPrefix.Minus (after_front (codes "-") text) None)

@@ -4,7 +4,7 @@ ghost use Rattle.std.specs.Prelude.{◌≡◌};
 ghost use Rattle.std.specs.Option.{option_copied};
 ghost use Rattle.f77_tree.specs.Grammar.{Written, symbol as spec_symbol, operator_level as spec_operator_level, left_level as spec_left_level, right_level as spec_right_level};
 ghost use Rattle.f77_expr.specs.Reader.{read_as, after_front as spec_after_front, operator_at as spec_operator_at, prefix_at as spec_prefix_at, operand_level as spec_operand_level, truth_at as spec_truth_at};
-ghost use Rattle.f77_expr.specs.Answers.{seen, meant, allowed, sign_at as spec_sign_at};
+ghost use Rattle.f77_expr.specs.Answers.{seen, meant, allowed, sign_at as spec_sign_at, prefix_level as spec_prefix_level};
 
 use op_table::Op;
 
@@ -174,7 +174,9 @@ pub(crate) fn operand_level(prefix: Prefix) -> u8
 }
 
 /// The level of an expression that begins with a prefix.
-pub(crate) fn prefix_level(prefix: Prefix) -> u8 {
+pub(crate) fn prefix_level(prefix: Prefix) -> u8
+    ensures { result ≡ spec_prefix_level prefix }
+{
     match prefix {
         Prefix::Plus | Prefix::Minus => 5,
         Prefix::Negation => 3,

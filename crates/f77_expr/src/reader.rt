@@ -94,6 +94,7 @@ impl<'a> Reader<'a> {
     /// An expression of at least this level, as long as it can be.
     #[cycle(descent)]
     fn expression(&mut self, alloc: Global, least: u8) -> Result<RawExpr, ExprEnd>
+        requires room { length self.old.rest.now < 4294967296 }
         ensures { Answers (λ e. IsRead self.old.rest.now self.old.has_great (expression_at least self.old.rest.now) e self.new.rest.now self.new.has_great) (expression_at least self.old.rest.now ≡ None) result }
     {
         let mut left = self.operand(alloc, least)?;
@@ -111,6 +112,7 @@ impl<'a> Reader<'a> {
     /// A prefix with its operand, where an expression of this level may begin with one, or a primary.
     #[cycle(descent)]
     fn operand(&mut self, alloc: Global, least: u8) -> Result<Operand, ExprEnd>
+        requires room { length self.old.rest.now < 4294967296 }
         ensures { Answers (λ operand. IsBegun least self.old.rest.now self.old.has_great operand.expr operand.level self.new.rest.now self.new.has_great) (expression_at least self.old.rest.now ≡ None) result }
     {
         match prefix_at(self.rest, least) {
@@ -132,6 +134,7 @@ impl<'a> Reader<'a> {
     /// A constant, a name, a name with arguments, or an expression between brackets.
     #[cycle(descent)]
     fn primary(&mut self, alloc: Global) -> Result<RawExpr, ExprEnd>
+        requires room { length self.old.rest.now < 4294967296 }
         ensures { Answers (λ e. IsRead self.old.rest.now self.old.has_great (primary_at self.old.rest.now) e self.new.rest.now self.new.has_great) (primary_at self.old.rest.now ≡ None) result }
     {
         let Some(first) = self.rest.first() else {
@@ -151,7 +154,8 @@ impl<'a> Reader<'a> {
     /// A name, with its arguments where a bracket follows.
     #[cycle(descent)]
     fn named(&mut self, alloc: Global) -> Result<RawExpr, ExprEnd>
-        requires { starts_name self.old.rest.now ≡ true }
+        requires letter { starts_name self.old.rest.now ≡ true }
+        requires room { length self.old.rest.now < 4294967296 }
         ensures { Answers (λ e. IsRead self.old.rest.now self.old.has_great (primary_at self.old.rest.now) e self.new.rest.now self.new.has_great) (primary_at self.old.rest.now ≡ None) result }
     {
         let Some(name) = self.name() else {
@@ -167,6 +171,7 @@ impl<'a> Reader<'a> {
     /// An expression, with the bracket that closes it.
     #[cycle(descent)]
     fn bracketed(&mut self, alloc: Global) -> Result<RawExpr, ExprEnd>
+        requires room { length self.old.rest.now < 4294967296 }
         ensures { Answers (λ e. IsRead self.old.rest.now self.old.has_great (and_then_read (λ w rest. closed (Written.bracketed w) rest) (expression_at 0 self.old.rest.now)) e self.new.rest.now self.new.has_great) (and_then_read (λ w rest. closed (Written.bracketed w) rest) (expression_at 0 self.old.rest.now) ≡ None) result }
     {
         let expr = self.expression(alloc, 0)?;
@@ -180,6 +185,7 @@ impl<'a> Reader<'a> {
     /// Arguments, with the bracket that closes them.
     #[cycle(descent)]
     fn arguments(&mut self, alloc: Global) -> Result<RawList, ExprEnd>
+        requires room { length self.old.rest.now < 4294967296 }
         ensures { Answers (λ es. AreRead self.old.rest.now self.old.has_great (arguments_at self.old.rest.now) es self.new.rest.now self.new.has_great) (arguments_at self.old.rest.now ≡ None) result }
     {
         let mut list = Sequence::new(alloc);

@@ -1,0 +1,95 @@
+-- Expressions read one operator after another.
+use Rattle.std.proofs.Common.{◌≡◌, ℕ, ◌<◌, Bool, true, false, if◌then◌else◌, ◌&&◌, ◌||◌, nat_le, List, [], ◌∷◌, length, Option, Some, None, refl, sym, ap, subst, ◌∙◌, arith}
+use Rattle.std.proofs.Math.Bool.{or_assoc}
+use Rattle.op_table.specs.declared.Op.{Op}
+use Rattle.f77_tree.specs.declared.statements.RawExpr.{RawExpr}
+use Rattle.f77_tree.specs.declared.statements.RawExpr.TheVariants.{Apply}
+use Rattle.f77_tree.specs.Grammar.{Written, level, operator_level, left_level, right_level, has_great_number}
+use Rattle.f77_expr.specs.Reader.{Reads, and_then_read, operator_at, Readers, continued, the_readers, expression_at, chain_at}
+use Rattle.f77_expr.specs.Answers.{allowed, kept, IsRead, IsBegun}
+use Rattle.f77_expr.proofs.EachRead.{each_at}
+use Rattle.f77_expr.proofs.Fronts.{IsOperatorIn, operator_front}
+use Rattle.f77_expr.proofs.Depth.{chain-step}
+
+-- behind an operand, and an operator with the text behind it
+abbrev pub after_operator : Readers → (least : ℕ) → Written → Op × List ℕ → Reads Written
+after_operator r least w front = and_then_read (λ right rest. r.chain least (Written.binary front.0 w right) rest) (r.expression (right_level front.0) front.1)
+
+-- a choice that gives nothing, and one that gives something
+chosen-none : {A B : Type 0} (b : Bool) (p : A) (x y : B) → (if b then Some p else None) ≡ None → (if b then x else y) ≡ y
+chosen-none true p x y e = absurd cc
+chosen-none false p x y e = refl
+
+chosen-some : {A B : Type 0} (b : Bool) (p q : A) (x y : B) → (if b then Some p else None) ≡ Some q → (p ≡ q) × ((if b then x else y) ≡ x)
+chosen-some true p q x y e = (cc, refl)
+chosen-some false p q x y e = absurd cc
+
+module _ (r : Readers) (least : ℕ) (w : Written) (text : List ℕ) where
+  -- no operator that may stand there: the expression ends
+  continued-none : (found : Reads Op) → allowed least (level w) found ≡ None → continued r least w text found ≡ Some (w, text)
+  continued-none None e = refl
+  continued-none (Some (op, rest)) e =
+      let front : Op × List ℕ = (op, rest) in
+      let ends : Written × List ℕ = (w, text) in
+      chosen-none (nat_le least (operator_level op) && nat_le (left_level op) (level w)) front (after_operator r least w front) (Some ends) e
+
+  -- one that may stand there: the expression goes on
+  continued-some : (found : Reads Op) (front : Op × List ℕ) → allowed least (level w) found ≡ Some front → continued r least w text found ≡ after_operator r least w front
+  continued-some None front e = absurd cc
+  continued-some (Some (op, rest)) front e =
+      let here : Op × List ℕ = (op, rest) in
+      let ends : Written × List ℕ = (w, text) in
+      let goes = chosen-some (nat_le least (operator_level op) && nat_le (left_level op) (level w)) here front (after_operator r least w here) (Some ends) e in
+      goes.1 ∙ ap (after_operator r least w) goes.0
+
+allowed-found : (least its_level : ℕ) (found : Reads Op) (front : Op × List ℕ) → allowed least its_level found ≡ Some front → found ≡ Some front
+allowed-found least its_level None front e = absurd cc
+allowed-found least its_level (Some (op, rest)) front e =
+    let here : Op × List ℕ = (op, rest) in
+    ap (λ (p : Op × List ℕ). Some p) (chosen-some (nat_le least (operator_level op) && nat_le (left_level op) its_level) here front true false e).0
+
+-- where an expression ends
+pub begun_ends : (least : ℕ) (text : List ℕ) (great : Bool) (e : RawExpr) (its_level : ℕ) (rest : List ℕ) (great_now : Bool) → IsBegun least text great e its_level rest great_now → allowed least its_level (operator_at rest) ≡ None → IsRead text great (expression_at least text) e rest great_now
+begun_ends least text great e its_level rest great_now b none =
+    let w = b.written in
+    let ends : allowed least (level w) (operator_at rest) ≡ None = subst (λ (n : ℕ). allowed least n (operator_at rest) ≡ None) b.has_level none in
+    record {
+      written = w;
+      is_read = b.goes_on ∙ chain-step least w rest ∙ continued-none the_readers least w rest (operator_at rest) ends;
+      is_kept = b.is_kept;
+      is_great = b.is_great;
+      shorter = b.shorter;
+    }
+
+module _ (least : ℕ) (text : List ℕ) (great : Bool) (e : RawExpr) (its_level : ℕ) (rest : List ℕ) (great_now : Bool) (b : IsBegun least text great e its_level rest great_now) (op : Op) (behind : List ℕ) (some : allowed least its_level (operator_at rest) ≡ Some (op, behind)) where
+  operator_goes_on : expression_at least text ≡ after_operator the_readers least b.written (op, behind)
+  operator_goes_on =
+      let goes : allowed least (level b.written) (operator_at rest) ≡ Some (op, behind) = subst (λ (n : ℕ). allowed least n (operator_at rest) ≡ Some (op, behind)) b.has_level some in
+      b.goes_on ∙ chain-step least b.written rest ∙ continued-some the_readers least b.written rest (operator_at rest) (op, behind) goes
+
+  -- the text behind an operator is shorter
+  pub behind_shorter : length behind < length text
+  behind_shorter =
+      let found = allowed-found least its_level (operator_at rest) (op, behind) some in
+      let front = each_at (λ o tail. IsOperatorIn rest o tail) (operator_at rest) (operator_front rest) op behind found in
+      let less = front.1 in
+      let shorter = b.shorter in
+      omega arith
+
+  -- an operator and its operand on the right
+  pub begun_more : (right : RawExpr) (rest_now : List ℕ) (great_later : Bool) → IsRead behind great_now (expression_at (right_level op) behind) right rest_now great_later → IsBegun least text great (Apply op (e ∷ right ∷ [])) (operator_level op) rest_now great_later
+  begun_more right rest_now great_later i =
+      let less = behind_shorter in
+      let shorter = i.shorter in
+      record {
+        written = Written.binary op b.written i.written;
+        goes_on = operator_goes_on ∙ ap (λ found. and_then_read (λ v tail. chain_at least (Written.binary op b.written v) tail) found) i.is_read;
+        is_kept = ap (λ x. Apply op (x ∷ right ∷ [])) b.is_kept ∙ ap (λ x. Apply op (kept b.written ∷ x ∷ [])) i.is_kept;
+        has_level = refl;
+        is_great = i.is_great ∙ ap (λ g. g || has_great_number i.written) b.is_great ∙ or_assoc great (has_great_number b.written) (has_great_number i.written);
+        shorter = omega arith;
+      }
+
+  -- without that operand there is no expression
+  pub begun_fails : expression_at (right_level op) behind ≡ None → expression_at least text ≡ None
+  begun_fails none = operator_goes_on ∙ ap (λ found. and_then_read (λ v tail. chain_at least (Written.binary op b.written v) tail) found) none
