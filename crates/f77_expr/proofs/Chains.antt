@@ -48,6 +48,12 @@ allowed-found least its_level (Some (op, rest)) front e =
     let here : Op × List ℕ = (op, rest) in
     ap (λ (p : Op × List ℕ). Some p) (chosen-some (nat_le least (operator_level op) && nat_le (left_level op) its_level) here front true false e).0
 
+-- the text behind an operator is shorter
+pub operator_shorter : (least its_level : ℕ) (text : List ℕ) (op : Op) (rest : List ℕ) → allowed least its_level (operator_at text) ≡ Some (op, rest) → length rest < length text
+operator_shorter least its_level text op rest some =
+    let found = allowed-found least its_level (operator_at text) (op, rest) some in
+    (each_at (λ o tail. IsOperatorIn text o tail) (operator_at text) (operator_front text) op rest found).1
+
 -- where an expression ends
 pub begun_ends : (least : ℕ) (text : List ℕ) (great : Bool) (e : RawExpr) (its_level : ℕ) (rest : List ℕ) (great_now : Bool) → IsBegun least text great e its_level rest great_now → allowed least its_level (operator_at rest) ≡ None → IsRead text great (expression_at least text) e rest great_now
 begun_ends least text great e its_level rest great_now b none =
@@ -67,29 +73,27 @@ module _ (least : ℕ) (text : List ℕ) (great : Bool) (e : RawExpr) (its_level
       let goes : allowed least (level b.written) (operator_at rest) ≡ Some (op, behind) = subst (λ (n : ℕ). allowed least n (operator_at rest) ≡ Some (op, behind)) b.has_level some in
       b.goes_on ∙ chain-step least b.written rest ∙ continued-some the_readers least b.written rest (operator_at rest) (op, behind) goes
 
-  -- the text behind an operator is shorter
   pub behind_shorter : length behind < length text
   behind_shorter =
-      let found = allowed-found least its_level (operator_at rest) (op, behind) some in
-      let front = each_at (λ o tail. IsOperatorIn rest o tail) (operator_at rest) (operator_front rest) op behind found in
-      let less = front.1 in
+      let less = operator_shorter least its_level rest op behind some in
       let shorter = b.shorter in
       omega arith
 
   -- an operator and its operand on the right
-  pub begun_more : (right : RawExpr) (rest_now : List ℕ) (great_later : Bool) → IsRead behind great_now (expression_at (right_level op) behind) right rest_now great_later → IsBegun least text great (Apply op (e ∷ right ∷ [])) (operator_level op) rest_now great_later
-  begun_more right rest_now great_later i =
+  pub begun_more : (made right : RawExpr) (made_level right_least : ℕ) (rest_now : List ℕ) (great_later : Bool) → IsRead behind great_now (expression_at right_least behind) right rest_now great_later → right_least ≡ right_level op → made ≡ Apply op (e ∷ right ∷ []) → made_level ≡ operator_level op → IsBegun least text great made made_level rest_now great_later
+  begun_more made right made_level right_least rest_now great_later i right_is made_is level_is =
       let less = behind_shorter in
       let shorter = i.shorter in
       record {
         written = Written.binary op b.written i.written;
-        goes_on = operator_goes_on ∙ ap (λ found. and_then_read (λ v tail. chain_at least (Written.binary op b.written v) tail) found) i.is_read;
-        is_kept = ap (λ x. Apply op (x ∷ right ∷ [])) b.is_kept ∙ ap (λ x. Apply op (kept b.written ∷ x ∷ [])) i.is_kept;
-        has_level = refl;
+        goes_on = operator_goes_on ∙ ap (λ found. and_then_read (λ v tail. chain_at least (Written.binary op b.written v) tail) found) (ap (λ n. expression_at n behind) (sym right_is) ∙ i.is_read);
+        is_kept = made_is ∙ ap (λ x. Apply op (x ∷ right ∷ [])) b.is_kept ∙ ap (λ x. Apply op (kept b.written ∷ x ∷ [])) i.is_kept;
+        has_level = level_is;
         is_great = i.is_great ∙ ap (λ g. g || has_great_number i.written) b.is_great ∙ or_assoc great (has_great_number b.written) (has_great_number i.written);
         shorter = omega arith;
       }
 
   -- without that operand there is no expression
-  pub begun_fails : expression_at (right_level op) behind ≡ None → expression_at least text ≡ None
-  begun_fails none = operator_goes_on ∙ ap (λ found. and_then_read (λ v tail. chain_at least (Written.binary op b.written v) tail) found) none
+  pub begun_fails : (right_least : ℕ) → right_least ≡ right_level op → expression_at right_least behind ≡ None → expression_at least text ≡ None
+  begun_fails right_least right_is none =
+      operator_goes_on ∙ ap (λ found. and_then_read (λ v tail. chain_at least (Written.binary op b.written v) tail) found) (ap (λ n. expression_at n behind) (sym right_is) ∙ none)

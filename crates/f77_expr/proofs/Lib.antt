@@ -8,3 +8,4 @@ pub mod Pieces
 pub mod Chains
 pub mod Lists
 pub mod Primaries
+pub mod Results
