@@ -48,7 +48,7 @@ great-behind : (before : List Written) (w : Written) → have_great_number (behi
 great-behind [] w = refl
 great-behind (v ∷ before) w = ap (λ g. has_great_number v || g) (great-behind before w) ∙ sym (or_assoc (has_great_number v) (some_great before) (has_great_number w))
 
-or-false : (b : Bool) → (b || false) ≡ b
+pub or-false : (b : Bool) → (b || false) ≡ b
 or-false true = refl
 or-false false = refl
 

@@ -1,14 +1,15 @@
-use Rattle.std.proofs.Common.{◌≡◌, ◌+◌, ◌<◌, ℕ, Bool, length, List, [], ◌∷◌, ◌++◌, Option, Some, None, Result, Ok, Err, rules, refl, sym, ap, subst, ◌∙◌, arith}
+use Rattle.std.proofs.Common.{◌≡◌, ◌+◌, ◌<◌, ℕ, Bool, true, false, slice_get, length, List, [], ◌∷◌, ◌++◌, Option, Some, None, Result, Ok, Err, rules, refl, sym, ap, subst, ◌∙◌, arith}
 use Rattle.f77_tree.specs.declared.statements.RawExpr.{RawExpr}
 use Rattle.f77_tree.specs.declared.statements.RawExpr.TheVariants.{Apply}
+use Rattle.f77_tree.specs.Name.{is_figure, is_capital, is_name}
 use Rattle.f77_tree.specs.Grammar.{right_level, operator_level}
 use Rattle.f77_expr.specs.declared.parsed.ExprEnd.{ExprEnd}
-use Rattle.f77_expr.specs.Reader.{operator_at, expression_at, arguments_at}
-use Rattle.f77_expr.specs.Answers.{allowed, passed, IsRead, AreRead, IsBegun}
+use Rattle.f77_expr.specs.Reader.{operator_at, prefix_at, operand_level, truth_at, expression_at, primary_at, arguments_at}
+use Rattle.f77_expr.specs.Answers.{allowed, passed, meant, prefix_level, kept_prefixed, IsRead, AreRead, IsBegun}
 use Rattle.f77_expr.proofs.Results.{fails, passed_on}
 use Rattle.f77_expr.proofs.Chains.{operator_shorter, behind_shorter, begun_ends, begun_more, begun_fails}
 use Rattle.f77_expr.proofs.Lists.{AreBegun, first_argument, no_first, next_argument, no_next, last_argument}
-use Rattle.f77_expr.proofs.Primaries.{primary-number}
+use Rattle.f77_expr.proofs.Primaries.{run_of, behind_run, primary-nothing, primary-number, primary-no_name, primary-call, primary-no_call, primary-name, call-shorter, primary-bracketed, primary-truth, primary-from, begun_primary, no_primary, begun_prefixed, no_operand}
 use Rattle.f77_expr.proofs.reader.Reader.+descent.Goals as goal
 
 pub arguments-returns-in_err-expression : goal.arguments-returns-in_err-expression
@@ -134,40 +135,149 @@ expression-returns t c =
     begun_ends c.args.least text great left.expr left.level rest c.loop-op.self.has_great c.loop-op.invariant none
 
 pub named-returns-in_default : goal.named-returns-in_default
-named-returns-in_default t c = ?
+named-returns-in_default t c =
+    let text = c.args.self.now.rest.now in
+    let is_none : is_name (run_of text) ≡ false = search rules in
+    primary-no_name text c.requires.letter is_none
 
 pub named-arguments-requires : goal.named-arguments-requires
-named-arguments-requires t c = ?
+named-arguments-requires t c =
+    let text = c.args.self.now.rest.now in
+    let great = c.args.self.now.has_great in
+    let moved : c.name.new.self.rest.now ≡ behind_run text = search rules in
+    let behind = c.passes.new.self.rest.now in
+    let passed_there : passed 40 c.name.new.self.rest.now ≡ Some behind = search rules in
+    let bracket = subst (λ (r : List ℕ). passed 40 r ≡ Some behind) moved passed_there in
+    let less = call-shorter text behind bracket in
+    let d = c.decreases in
+    let room = c.requires.room in
+    (omega (arith, d, less), omega (arith, less, room))
 
 pub named-returns-in_err-arguments : goal.named-returns-in_err-arguments
-named-returns-in_err-arguments t c = ?
+named-returns-in_err-arguments t c =
+    let text = c.args.self.now.rest.now in
+    let great = c.args.self.now.has_great in
+    let moved : c.name.new.self.rest.now ≡ behind_run text = search rules in
+    let is_one : is_name (run_of text) ≡ true = search rules in
+    let name : c.in-Some.name ≡ run_of text = search rules in
+    let behind = c.passes.new.self.rest.now in
+    let passed_there : passed 40 c.name.new.self.rest.now ≡ Some behind = search rules in
+    let bracket = subst (λ (r : List ℕ). passed 40 r ≡ Some behind) moved passed_there in
+    let whole : c.from_residual.result ≡ Err c.in_err-arguments.field-0.0 = search rules in
+    fails _ _ _ _ c.arguments.result c.from_residual.result c.in_err-arguments.field-0.0 c.in_err-arguments.was whole c.arguments.ensures
+        (λ none. primary-no_call text c.requires.letter is_one behind bracket none)
 
 pub named-returns-in_ok-arguments : goal.named-returns-in_ok-arguments
-named-returns-in_ok-arguments t c = ?
+named-returns-in_ok-arguments t c =
+    let text = c.args.self.now.rest.now in
+    let great = c.args.self.now.has_great in
+    let moved : c.name.new.self.rest.now ≡ behind_run text = search rules in
+    let is_one : is_name (run_of text) ≡ true = search rules in
+    let name : c.in-Some.name ≡ run_of text = search rules in
+    let behind = c.passes.new.self.rest.now in
+    let passed_there : passed 40 c.name.new.self.rest.now ≡ Some behind = search rules in
+    let bracket = subst (λ (r : List ℕ). passed 40 r ≡ Some behind) moved passed_there in
+    let es = c.in_ok-arguments.field-0 in
+    let rest_now = c.arguments.new.self.rest.now in
+    let great_now = c.arguments.new.self.has_great in
+    let same : c.passes.new.self.has_great ≡ great = search rules in
+    let read : AreRead behind c.passes.new.self.has_great (arguments_at behind) es rest_now great_now = search rules in
+    primary-call text c.requires.letter is_one great c.in-Some.name es behind rest_now great_now name bracket (subst (λ (g : Bool). AreRead behind g (arguments_at behind) es rest_now great_now) same read)
 
 pub named-returns-else-passes : goal.named-returns-else-passes
-named-returns-else-passes t c = ?
+named-returns-else-passes t c =
+    let text = c.args.self.now.rest.now in
+    let great = c.args.self.now.has_great in
+    let moved : c.name.new.self.rest.now ≡ behind_run text = search rules in
+    let is_one : is_name (run_of text) ≡ true = search rules in
+    let name : c.in-Some.name ≡ run_of text = search rules in
+    let unmoved : c.passes.new.self.rest.now ≡ c.name.new.self.rest.now = search rules in
+    let passed_there : passed 40 c.name.new.self.rest.now ≡ None = search rules in
+    let same : c.passes.new.self.has_great ≡ great = search rules in
+    primary-name text c.requires.letter is_one great c.in-Some.name c.passes.new.self.rest.now c.passes.new.self.has_great name (subst (λ (r : List ℕ). passed 40 r ≡ None) moved passed_there) (unmoved ∙ moved) same
 
 pub operand-returns-in_err-operand-in-Some : goal.operand-returns-in_err-operand-in-Some
-operand-returns-in_err-operand-in-Some t c = ?
+operand-returns-in_err-operand-in-Some t c =
+    let text = c.args.self.now.rest.now in
+    let great = c.args.self.now.has_great in
+    let some : prefix_at c.args.least text ≡ Some (meant c.in-Some.prefix, c.in-Some.rest.now) = search rules in
+    let level : c.operand_level.result ≡ operand_level (meant c.in-Some.prefix) = search rules in
+    let whole : c.from_residual.result ≡ Err c.in_err-operand-in-Some.field-0.0 = search rules in
+    fails _ _ _ _ c.expression.result c.from_residual.result c.in_err-operand-in-Some.field-0.0 c.in_err-operand-in-Some.was whole c.expression.ensures
+        (λ none. no_operand c.args.least text c.in-Some.prefix c.in-Some.rest.now some c.operand_level.result level none)
 
 pub operand-returns-in_err-primary-in-None : goal.operand-returns-in_err-primary-in-None
-operand-returns-in_err-primary-in-None t c = ?
+operand-returns-in_err-primary-in-None t c =
+    let text = c.args.self.now.rest.now in
+    let great = c.args.self.now.has_great in
+    let no_prefix : prefix_at c.args.least text ≡ None = search rules in
+    let whole : c.from_residual-in_err-primary-in-None.result ≡ Err c.in_err-primary-in-None.field-0.0 = search rules in
+    fails _ _ _ _ c.primary.result c.from_residual-in_err-primary-in-None.result c.in_err-primary-in-None.field-0.0 c.in_err-primary-in-None.was whole c.primary.ensures
+        (λ none. no_primary c.args.least text no_prefix none)
 
 pub operand-returns-in_ok-prefixed-in-Some : goal.operand-returns-in_ok-prefixed-in-Some
-operand-returns-in_ok-prefixed-in-Some t c = ?
+operand-returns-in_ok-prefixed-in-Some t c =
+    let text = c.args.self.now.rest.now in
+    let great = c.args.self.now.has_great in
+    let e = c.in_ok-operand-in-Some.operand in
+    let rest_now = c.expression.new.self.rest.now in
+    let great_now = c.expression.new.self.has_great in
+    let some : prefix_at c.args.least text ≡ Some (meant c.in-Some.prefix, c.in-Some.rest.now) = search rules in
+    let level : c.operand_level.result ≡ operand_level (meant c.in-Some.prefix) = search rules in
+    let operand : IsRead c.in-Some.rest.now great (expression_at c.operand_level.result c.in-Some.rest.now) e rest_now great_now = search rules in
+    let made : c.in_ok-prefixed-in-Some.field-0 ≡ kept_prefixed c.in-Some.prefix e = search rules in
+    let made_level : c.prefix_level.result ≡ prefix_level c.in-Some.prefix = search rules in
+    begun_prefixed c.args.least text c.in-Some.prefix c.in-Some.rest.now some c.operand_level.result level great c.in_ok-prefixed-in-Some.field-0 e c.prefix_level.result rest_now great_now operand made made_level
 
 pub operand-returns-in_ok-primary-in-None : goal.operand-returns-in_ok-primary-in-None
-operand-returns-in_ok-primary-in-None t c = ?
+operand-returns-in_ok-primary-in-None t c =
+    let text = c.args.self.now.rest.now in
+    let great = c.args.self.now.has_great in
+    let e = c.in_ok-primary-in-None.field-0 in
+    let no_prefix : prefix_at c.args.least text ≡ None = search rules in
+    let primary : IsRead text great (primary_at text) e c.primary.new.self.rest.now c.primary.new.self.has_great = search rules in
+    begun_primary c.args.least text no_prefix great e c.primary.new.self.rest.now c.primary.new.self.has_great primary
 
 pub primary-returns-in_default : goal.primary-returns-in_default
-primary-returns-in_default t c = ?
+primary-returns-in_default t c =
+    let text = c.args.self.now.rest.now in
+    let none : slice_get text 0 ≡ None = search rules in
+    primary-nothing text none
 
 pub primary-returns-then-is_digit : goal.primary-returns-then-is_digit
-primary-returns-then-is_digit t c = ?
+primary-returns-then-is_digit t c =
+    let text = c.args.self.now.rest.now in
+    let great = c.args.self.now.has_great in
+    let first : slice_get text 0 ≡ Some c.in-Some.first.now = search rules in
+    let figure : is_figure c.in-Some.first.now ≡ true = search rules in
+    primary-number text c.in-Some.first.now first figure great c.number.result c.number.new.self.rest.now c.number.new.self.has_great c.number.ensures.kept c.number.ensures.rest c.number.ensures.great
 
 pub primary-returns-then-passes : goal.primary-returns-then-passes
-primary-returns-then-passes t c = ?
+primary-returns-then-passes t c =
+    let text = c.args.self.now.rest.now in
+    let great = c.args.self.now.has_great in
+    let first : slice_get text 0 ≡ Some c.in-Some.first.now = search rules in
+    let figure : is_figure c.in-Some.first.now ≡ false = search rules in
+    let capital : is_capital c.in-Some.first.now ≡ false = search rules in
+    let behind = c.passes.new.self.rest.now in
+    let bracket : passed 40 text ≡ Some behind = search rules in
+    let same : c.passes.new.self.has_great ≡ great = search rules in
+    let is = primary-bracketed text c.in-Some.first.now first figure capital behind bracket in
+    passed_on _ _ _ _ c.bracketed.result
+        (λ e read. primary-from text behind great c.passes.new.self.has_great _ e c.bracketed.new.self.rest.now c.bracketed.new.self.has_great is same read)
+        (λ none. is ∙ none) c.bracketed.ensures
 
 pub primary-returns-else-passes : goal.primary-returns-else-passes
-primary-returns-else-passes t c = ?
+primary-returns-else-passes t c =
+    let text = c.args.self.now.rest.now in
+    let great = c.args.self.now.has_great in
+    let first : slice_get text 0 ≡ Some c.in-Some.first.now = search rules in
+    let figure : is_figure c.in-Some.first.now ≡ false = search rules in
+    let capital : is_capital c.in-Some.first.now ≡ false = search rules in
+    let no_bracket : passed 40 text ≡ None = search rules in
+    let unmoved : c.passes.new.self.rest.now ≡ text = search rules in
+    let same : c.passes.new.self.has_great ≡ great = search rules in
+    let is : primary_at text ≡ truth_at c.passes.new.self.rest.now = primary-truth text c.in-Some.first.now first figure capital no_bracket ∙ ap truth_at (sym unmoved) in
+    passed_on _ _ _ _ c.truth.result
+        (λ e read. primary-from text c.passes.new.self.rest.now great c.passes.new.self.has_great _ e c.truth.new.self.rest.now c.truth.new.self.has_great is same read)
+        (λ none. is ∙ none) c.truth.ensures
