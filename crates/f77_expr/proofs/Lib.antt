@@ -4,8 +4,8 @@ pub mod Descent
 pub mod Depth
 pub mod Parts
 pub mod Numbers
-pub mod Pieces
+pub mod Scans
 pub mod Chains
 pub mod Lists
-pub mod Primaries
+pub mod Begins
 pub mod Results

@@ -1,7 +1,7 @@
 use Rattle.std.proofs.Common.{◌≡◌, ℕ, ◌+◌, false, max, get_or, rules, sym, subst}
 use Rattle.f77_expr.specs.Piece.{ends_piece, open_after}
 use Rattle.f77_expr.specs.Scanning.{is_open}
-use Rattle.f77_expr.proofs.Pieces.{IsScanned, scan_goes_on}
+use Rattle.f77_expr.proofs.Scans.{IsScanned, scan_goes_on}
 use Rattle.f77_expr.proofs.parse.piece_in_front.Goals as goal
 
 pub loop-i-preserved : goal.loop-i-preserved

@@ -1,6 +1,6 @@
 use Rattle.std.proofs.Common.{length}
 use Rattle.f77_expr.specs.Scanning.{is_open}
-use Rattle.f77_expr.proofs.Pieces.{IsScanned}
+use Rattle.f77_expr.proofs.Scans.{IsScanned}
 use Rattle.f77_expr.proofs.parse.piece_in_front.Given as goal
 
 abbrev pub invariant-loop-i : goal.invariant-loop-i

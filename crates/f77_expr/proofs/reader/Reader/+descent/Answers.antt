@@ -9,7 +9,7 @@ use Rattle.f77_expr.specs.Answers.{allowed, passed, meant, prefix_level, kept_pr
 use Rattle.f77_expr.proofs.Results.{fails, passed_on}
 use Rattle.f77_expr.proofs.Chains.{operator_shorter, behind_shorter, begun_ends, begun_more, begun_fails}
 use Rattle.f77_expr.proofs.Lists.{AreBegun, first_argument, no_first, next_argument, no_next, last_argument}
-use Rattle.f77_expr.proofs.Primaries.{run_of, behind_run, primary-nothing, primary-number, primary-no_name, primary-call, primary-no_call, primary-name, call-shorter, primary-bracketed, primary-truth, primary-from, begun_primary, no_primary, begun_prefixed, no_operand}
+use Rattle.f77_expr.proofs.Begins.{run_of, behind_run, primary-nothing, primary-number, primary-no_name, primary-call, primary-no_call, primary-name, call-shorter, primary-bracketed, primary-truth, primary-from, begun_primary, no_primary, begun_prefixed, no_operand}
 use Rattle.f77_expr.proofs.reader.Reader.+descent.Goals as goal
 
 pub arguments-returns-in_err-expression : goal.arguments-returns-in_err-expression
