@@ -1,12 +1,11 @@
 -- What the readers read is spelled in front of the rest.
-use Rattle.std.proofs.Common.{◌≡◌, ◌==◌, ℕ, zero, suc, ◌+◌, ◌-◌, ◌<◌, ◌≤◌, Bool, true, false, List, [], ◌∷◌, ◌++◌, length, drop, take_while, Option, Some, None, if◌then◌else◌, ◌&&◌, nat_le, codes, refl, sym, ap, subst, ◌∙◌, arith, append_assoc, length-append}
+use Rattle.std.proofs.Common.{◌≡◌, ◌==◌, ℕ, zero, suc, ◌+◌, ◌-◌, ◌≤◌, List, [], ◌∷◌, ◌++◌, length, drop, take_while, Some, None, if◌then◌else◌, ◌&&◌, nat_le, refl, sym, ap, ◌∙◌, arith, append_assoc, length-append}
 use Rattle.std.proofs.Math.Seq.{drop-append-add}
 use Rattle.std.proofs.lemmas.Bool.{eqb-true}
 use Rattle.op_table.specs.declared.Op.{Op}
 use Rattle.f77_tree.specs.Name.{is_capital, is_figure}
 use Rattle.f77_tree.specs.Grammar.{Written, Arguments, symbol, level, operator_level, left_level, right_level, spelling, spellings}
 use Rattle.f77_expr.specs.Reader.{Reads, read_as, and_then_read, operator_at, Prefix, prefix_at, operand_level, prefixed, truth_at, is_symbolic, closed, Readers, begun, continued, named, primary_by, more_arguments, deeper, readers, enough, expression_at, chain_at, primary_at, arguments_at, the_readers}
-use Rattle.f77_expr.specs.Reader.Prefix.{Plus, Minus, Negation}
 use Rattle.f77_expr.proofs.Depth.{chain_shorter}
 use Rattle.f77_expr.proofs.EachRead.{Each, each_at, each_if, each_then, each_as, each_weaker}
 use Rattle.f77_expr.proofs.Fronts.{IsOperatorIn, operator_front, IsPrefixIn, prefix_front, prefix_text, IsTruthIn, truth_front, run_and_rest, drop_front}
@@ -27,8 +26,8 @@ module _ (r : Readers) (s : Spells r) where
   begun_spells least text (Some (prefix, operand)) h =
       each_then (λ w rest. spelling w ++ rest ≡ operand) (λ w rest. spelling w ++ rest ≡ text) (λ w rest. r.chain least (prefixed prefix w) rest) (r.expression (operand_level prefix) operand) (s.expression (operand_level prefix) operand)
       (λ w rest is. each_weaker (λ v tail. spelling v ++ tail ≡ spelling (prefixed prefix w) ++ rest) (λ v tail. spelling v ++ tail ≡ text) (r.chain least (prefixed prefix w) rest)
-          (λ v tail e. e ∙ prefixed_spelling prefix w rest ∙ ap (λ more. prefix_text prefix ++ more) is ∙ h.0)
-          (s.chain least (prefixed prefix w) rest))
+      (λ v tail e. e ∙ prefixed_spelling prefix w rest ∙ ap (λ more. prefix_text prefix ++ more) is ∙ h.0)
+      (s.chain least (prefixed prefix w) rest))
 
   continued_spells : (least : ℕ) (w : Written) (text : List ℕ) (o : Reads Op) → Each (λ op rest. IsOperatorIn text op rest) o → Each (λ v rest. spelling v ++ rest ≡ spelling w ++ text) (continued r least w text o)
   continued_spells least w text None h = refl
@@ -36,8 +35,8 @@ module _ (r : Readers) (s : Spells r) where
       each_if P (nat_le least (operator_level op) && nat_le (left_level op) (level w))
       (and_then_read (λ right rest. r.chain least (Written.binary op w right) rest) (r.expression (right_level op) operand)) (Some (w, text))
       (λ goes_on. each_then (λ right rest. spelling right ++ rest ≡ operand) P (λ right rest. r.chain least (Written.binary op w right) rest) (r.expression (right_level op) operand) (s.expression (right_level op) operand)
-          (λ right rest is. each_weaker (λ v tail. spelling v ++ tail ≡ spelling (Written.binary op w right) ++ rest) P (r.chain least (Written.binary op w right) rest)
-              (λ v tail e. e ∙ joined right rest is) (s.chain least (Written.binary op w right) rest)))
+      (λ right rest is. each_weaker (λ v tail. spelling v ++ tail ≡ spelling (Written.binary op w right) ++ rest) P (r.chain least (Written.binary op w right) rest)
+      (λ v tail e. e ∙ joined right rest is) (s.chain least (Written.binary op w right) rest)))
       (λ stops. refl)
     where
       P : Written → List ℕ → Type 0
@@ -71,7 +70,7 @@ module _ (r : Readers) (s : Spells r) where
   more_spells w (c ∷ text) =
       each_if P (c == 44) (read_as (λ more. Arguments.before w more) (r.arguments text)) (if c == 41 then Some (Arguments.last w, text) else None)
       (λ comma. each_as (λ args rest. spellings args ++ 41 ∷ rest ≡ text) P (λ more. Arguments.before w more) (r.arguments text) (s.arguments text)
-          (λ args rest is. before_spelling w args (41 ∷ rest) ∙ ap (λ more. spelling w ++ (44 ∷ more)) is ∙ ap (λ d. spelling w ++ (d ∷ text)) (sym (eqb-true c 44 comma))))
+      (λ args rest is. before_spelling w args (41 ∷ rest) ∙ ap (λ more. spelling w ++ (44 ∷ more)) is ∙ ap (λ d. spelling w ++ (d ∷ text)) (sym (eqb-true c 44 comma))))
       (λ none. each_if P (c == 41) (Some (Arguments.last w, text)) None (λ bracket. ap (λ d. spelling w ++ d ∷ text) (sym (eqb-true c 41 bracket))) (λ other. tt))
     where
       P : Arguments → List ℕ → Type 0
@@ -82,13 +81,13 @@ module _ (r : Readers) (s : Spells r) where
   primary_spells (c ∷ text) =
       each_if P (is_figure c) (Some (Written.number (take_while is_figure whole), drop (length (take_while is_figure whole)) whole)) not_number (λ figure. run_and_rest is_figure whole)
       (λ no_figure. each_if P (is_capital c) (if nat_le (length run) 6 then named r run behind else None) not_name
-          (λ capital. each_if P (nat_le (length run) 6) (named r run behind) None
-              (λ short. each_weaker (λ w rest. spelling w ++ rest ≡ run ++ behind) P (named r run behind) (λ w rest e. e ∙ run_and_rest is_symbolic whole) (named_spells run behind))
-              (λ long. tt))
-          (λ no_capital. each_if P (c == 40) (and_then_read (λ w rest. closed (Written.bracketed w) rest) (r.expression 0 text)) (truth_at whole)
-              (λ bracket. each_then (λ w rest. spelling w ++ rest ≡ text) P (λ w rest. closed (Written.bracketed w) rest) (r.expression 0 text) (s.expression 0 text)
-                  (λ w rest is. each_weaker (λ v tail. (v ≡ Written.bracketed w) × (41 ∷ tail ≡ rest)) P (closed (Written.bracketed w) rest) (λ v tail e. enclosing w rest v tail is e.0 e.1 (eqb-true c 40 bracket)) (closed_spells (Written.bracketed w) rest)))
-              (λ none. each_weaker (λ w rest. IsTruthIn whole w rest) P (truth_at whole) (λ w rest is. is.2) (truth_front whole))))
+      (λ capital. each_if P (nat_le (length run) 6) (named r run behind) None
+      (λ short. each_weaker (λ w rest. spelling w ++ rest ≡ run ++ behind) P (named r run behind) (λ w rest e. e ∙ run_and_rest is_symbolic whole) (named_spells run behind))
+      (λ long. tt))
+      (λ no_capital. each_if P (c == 40) (and_then_read (λ w rest. closed (Written.bracketed w) rest) (r.expression 0 text)) (truth_at whole)
+      (λ bracket. each_then (λ w rest. spelling w ++ rest ≡ text) P (λ w rest. closed (Written.bracketed w) rest) (r.expression 0 text) (s.expression 0 text)
+      (λ w rest is. each_weaker (λ v tail. (v ≡ Written.bracketed w) × (41 ∷ tail ≡ rest)) P (closed (Written.bracketed w) rest) (λ v tail e. enclosing w rest v tail is e.0 e.1 (eqb-true c 40 bracket)) (closed_spells (Written.bracketed w) rest)))
+      (λ none. each_weaker (λ w rest. IsTruthIn whole w rest) P (truth_at whole) (λ w rest is. is.2) (truth_front whole))))
     where
       P : Written → List ℕ → Type 0
       P w rest = spelling w ++ rest ≡ c ∷ text

@@ -1,5 +1,5 @@
 -- What is spelled, in front of more: with one bracketing of the parts.
-use Rattle.std.proofs.Common.{◌≡◌, ℕ, List, [], ◌∷◌, ◌++◌, codes, refl, sym, ap, ◌∙◌, append_assoc}
+use Rattle.std.proofs.Common.{◌≡◌, ℕ, List, ◌∷◌, ◌++◌, refl, ap, ◌∙◌, append_assoc}
 use Rattle.op_table.specs.declared.Op.{Op}
 use Rattle.f77_tree.specs.Grammar.{Written, Arguments, symbol, spelling, spellings}
 use Rattle.f77_expr.specs.Reader.{Prefix, prefixed}
