@@ -2,6 +2,7 @@ pub mod EachRead
 pub mod Fronts
 pub mod Descent
 pub mod Depth
+pub mod Followers
 pub mod Levels
 pub mod Soundness
 pub mod Spellings
