@@ -49,3 +49,9 @@ module _ {A B : Type 0} where
 pub if_same : {A : Type 0} (b : Bool) (x x_other y y_other : A) → (b ≡ true → x ≡ x_other) → (b ≡ false → y ≡ y_other) → (if b then x else y) ≡ (if b then x_other else y_other)
 if_same true x x_other y y_other then_same else_same = then_same refl
 if_same false x x_other y y_other then_same else_same = else_same refl
+
+pub if_true : {A : Type 0} (b : Bool) (x y : A) → b ≡ true → (if b then x else y) ≡ x
+if_true b x y e = ap (λ (test : Bool). if test then x else y) e
+
+pub if_false : {A : Type 0} (b : Bool) (x y : A) → b ≡ false → (if b then x else y) ≡ y
+if_false b x y e = ap (λ (test : Bool). if test then x else y) e

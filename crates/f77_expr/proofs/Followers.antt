@@ -1,14 +1,13 @@
 -- What may stand behind an expression, and behind a name or a number.
-use Rattle.std.proofs.Common.{◌≡◌, ◌==◌, ℕ, zero, suc, ◌+◌, ◌<◌, ◌≤◌, Bool, true, false, List, [], ◌∷◌, ◌++◌, length, take_while, Option, Some, None, if◌then◌else◌, ◌&&◌, ◌||◌, not, nat_le, codes, refl, sym, ap, subst, ◌∙◌, ⊎_elim, arith}
-use Rattle.std.proofs.lemmas.Bool.{eqb-true, leb-true, and_parts, and_left, and_right, ne_eqb, lt-leb, le-leb, or_cases, or_parts, not-true, false≢true}
+use Rattle.std.proofs.Common.{◌≡◌, ◌==◌, ℕ, ◌<◌, ◌≤◌, Bool, true, false, List, [], ◌∷◌, ◌++◌, Option, Some, None, if◌then◌else◌, ◌&&◌, ◌||◌, not, nat_le, codes, refl, sym, ap, subst, ◌∙◌, ⊎_elim, arith}
+use Rattle.std.proofs.lemmas.Bool.{eqb-true, and_parts, and_left, lt-leb, le-leb, or_cases}
 use Rattle.op_table.specs.declared.Op.{Op}
 use Rattle.op_table.specs.declared.Op.TheVariants.{Add, Sub, Mul, Div, Pow, Lt, Le, Eq, Ne, Ge, Gt, And, Or, Eqv, Neqv}
-use Rattle.f77_tree.specs.Name.{is_capital, is_figure}
 use Rattle.f77_tree.specs.Grammar.{Written, symbol, level, operator_level, left_level, right_level, truth_text}
-use Rattle.f77_expr.specs.Reader.{Reads, after_front, this_or, operators, operator_among, operator_at, Prefix, prefix_at, is_symbolic, continued, and_then_read, the_readers, expression_at, chain_at}
+use Rattle.f77_expr.specs.Reader.{Reads, after_front, this_or, operator_at, Prefix, prefix_at, is_symbolic, continued, and_then_read, the_readers, expression_at, chain_at}
 use Rattle.f77_expr.specs.Reader.Prefix.{Plus, Minus, Negation}
 use Rattle.f77_expr.proofs.EachRead.{Each, each_weaker}
-use Rattle.f77_expr.proofs.Fronts.{prefix_text, prefix_level, run_ends}
+use Rattle.f77_expr.proofs.Fronts.{prefix_text, prefix_level}
 use Rattle.f77_expr.proofs.Depth.{chain-step}
 
 -- nothing, or a comma, a closing bracket, an equals sign or a colon in front
