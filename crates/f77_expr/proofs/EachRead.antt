@@ -55,3 +55,9 @@ if_true b x y e = ap (λ (test : Bool). if test then x else y) e
 
 pub if_false : {A : Type 0} (b : Bool) (x y : A) → b ≡ false → (if b then x else y) ≡ y
 if_false b x y e = ap (λ (test : Bool). if test then x else y) e
+
+-- what was read, and the rest, where both answers are one
+pub same_read : {A : Type 0} (a b : A) (s t : List ℕ) → ◌≡◌ {A = Reads A} (Some (a, s)) (Some (b, t)) → (a ≡ b) × (s ≡ t)
+same_read {A = A} a b s t e =
+    let inner : ◌≡◌ {A = A × List ℕ} (a, s) (b, t) = cc in
+    (ap (λ (pair : A × List ℕ). pair.0) inner, ap (λ (pair : A × List ℕ). pair.1) inner)

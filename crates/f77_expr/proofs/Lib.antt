@@ -9,3 +9,4 @@ pub mod Levels
 pub mod Soundness
 pub mod Spellings
 pub mod Spelled
+pub mod Readings
