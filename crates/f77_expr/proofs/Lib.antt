@@ -10,3 +10,4 @@ pub mod Soundness
 pub mod Spellings
 pub mod Spelled
 pub mod Readings
+pub mod Quiet
