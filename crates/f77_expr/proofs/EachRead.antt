@@ -12,10 +12,6 @@ module _ {A : Type 0} (P : A → List ℕ → Type 0) where
   pub each_at : (x : Reads A) → Each P x → (a : A) (rest : List ℕ) → x ≡ Some (a, rest) → P a rest
   each_at x h a rest e = subst (λ (y : Reads A). Each P y) e h
 
-  pub each_from : (x : Reads A) → ((a : A) (rest : List ℕ) → x ≡ Some (a, rest) → P a rest) → Each P x
-  each_from None h = tt
-  each_from (Some (a, rest)) h = h a rest refl
-
   pub each_if : (b : Bool) (x y : Reads A) → (b ≡ true → Each P x) → (b ≡ false → Each P y) → Each P (if b then x else y)
   each_if true x y then_each else_each = then_each refl
   each_if false x y then_each else_each = else_each refl

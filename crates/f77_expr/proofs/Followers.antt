@@ -65,14 +65,10 @@ abbrev pub no_asterisk : List ℕ → Bool
 no_asterisk [] = true
 no_asterisk (c ∷ more) = not (42 == c)
 
-not_from : (b : Bool) → not b ≡ true → b ≡ false
-not_from true h = sym h
-not_from false h = refl
-
 product_reads : (text : List ℕ) → no_asterisk text ≡ true → operator_at (42 ∷ text) ≡ Some (Mul, text)
 product_reads [] h = refl
 product_reads (c ∷ more) h =
-    ap (λ b. this_or Pow (if b then Some more else None) (Some (Mul, c ∷ more))) (not_from (42 == c) h)
+    ap (λ b. this_or Pow (if b then Some more else None) (Some (Mul, c ∷ more))) (not-true (42 == c) h)
 
 pub operator_reads : (op : Op) (text : List ℕ) → left_level op ≤ 8 → no_asterisk text ≡ true → operator_at (symbol op ++ text) ≡ Some (op, text)
 operator_reads Eqv text real h = refl
@@ -136,9 +132,9 @@ pub prefix_none : (least c : ℕ) (more : List ℕ) → no_prefix (c ∷ more) �
 prefix_none least c more h =
     let last_two = and_parts (not (43 == c) && not (45 == c)) (not (46 == c)) h in
     let first_two = and_parts (not (43 == c)) (not (45 == c)) last_two.0 in
-    let plus_none : after_front (codes "+") (c ∷ more) ≡ None = ap (λ b. if b then Some more else None) (not_from (43 == c) first_two.0) in
-    let minus_none : after_front (codes "-") (c ∷ more) ≡ None = ap (λ b. if b then Some more else None) (not_from (45 == c) first_two.1) in
-    let word_none : after_front (codes ".NOT.") (c ∷ more) ≡ None = ap (λ b. if b then after_front (codes "NOT.") more else None) (not_from (46 == c) last_two.1) in
+    let plus_none : after_front (codes "+") (c ∷ more) ≡ None = ap (λ b. if b then Some more else None) (not-true (43 == c) first_two.0) in
+    let minus_none : after_front (codes "-") (c ∷ more) ≡ None = ap (λ b. if b then Some more else None) (not-true (45 == c) first_two.1) in
+    let word_none : after_front (codes ".NOT.") (c ∷ more) ≡ None = ap (λ b. if b then after_front (codes "NOT.") more else None) (not-true (46 == c) last_two.1) in
     ap (λ word. prefix_of word (after_front (codes "+") (c ∷ more)) (after_front (codes "-") (c ∷ more))) word_none
     ∙ ap (λ sign. prefix_of None sign (after_front (codes "-") (c ∷ more))) plus_none
     ∙ ap (λ sign. prefix_of None None sign) minus_none

@@ -11,3 +11,4 @@ pub mod Spellings
 pub mod Spelled
 pub mod Readings
 pub mod Quiet
+pub mod Pieces

@@ -1,6 +1,6 @@
 -- Primaries are read as they are written.
 use Rattle.std.proofs.Common.{◌≡◌, ◌==◌, ℕ, ◌<◌, ◌≤◌, Bool, true, false, List, [], ◌∷◌, ◌++◌, length, drop, take_while, Some, None, if◌then◌else◌, ◌&&◌, ◌||◌, not, nat_le, nat_lt, refl, sym, ap, ◌∙◌, arith}
-use Rattle.std.proofs.lemmas.Bool.{leb-true, and_parts, and_right, and_from, ne_eqb, lt-leb, or_parts}
+use Rattle.std.proofs.lemmas.Bool.{not-true, leb-true, and_parts, and_right, and_from, ne_eqb, lt-leb, or_parts}
 use Rattle.std.specs.List.{list_all}
 use Rattle.f77_tree.specs.Name.{is_capital, is_figure, is_name}
 use Rattle.f77_tree.specs.Grammar.{Written, Arguments, symbol, IsGrammatical, is_number, spelling, spellings, truth_text}
@@ -13,21 +13,17 @@ use Rattle.f77_expr.proofs.Spellings.{binary_spelling, call_spelling, bracketed_
 use Rattle.f77_expr.proofs.Followers.{breaks_off, no_asterisk, prefix_none}
 use Rattle.f77_expr.proofs.Depth.{primary-step}
 
-not_from : (b : Bool) → not b ≡ true → b ≡ false
-not_from true h = sym h
-not_from false h = refl
-
 -- what breaks off goes on with no run
 figures_break : (text : List ℕ) → breaks_off text ≡ true → take_while is_figure text ≡ []
 figures_break [] h = refl
 figures_break (c ∷ more) h =
-    let parts = or_parts (is_symbolic c) (c == 40) (not_from (is_symbolic c || c == 40) h) in
+    let parts = or_parts (is_symbolic c) (c == 40) (not-true (is_symbolic c || c == 40) h) in
     run_ends is_figure c more (or_parts (is_capital c) (is_figure c) parts.0).1
 
 symbols_break : (text : List ℕ) → breaks_off text ≡ true → take_while is_symbolic text ≡ []
 symbols_break [] h = refl
 symbols_break (c ∷ more) h =
-    let parts = or_parts (is_symbolic c) (c == 40) (not_from (is_symbolic c || c == 40) h) in
+    let parts = or_parts (is_symbolic c) (c == 40) (not-true (is_symbolic c || c == 40) h) in
     run_ends is_symbolic c more parts.0
 
 -- what characters are
@@ -90,7 +86,7 @@ name_reads name text h ends = name_run name text h (symbols_break text ends) ∙
   where
     alone : (rest : List ℕ) → breaks_off rest ≡ true → named the_readers name rest ≡ Some (Written.name name, rest)
     alone [] ends = refl
-    alone (c ∷ more) ends = if_false (c == 40) _ (Some (Written.name name, c ∷ more)) (or_parts (is_symbolic c) (c == 40) (not_from (is_symbolic c || c == 40) ends)).1
+    alone (c ∷ more) ends = if_false (c == 40) _ (Some (Written.name name, c ∷ more)) (or_parts (is_symbolic c) (c == 40) (not-true (is_symbolic c || c == 40) ends)).1
 
 pub call_reads : (name : List ℕ) (args : Arguments) (inside text : List ℕ) → is_name name ≡ true → arguments_at inside ≡ Some (args, text) → primary_at (name ++ (40 ∷ inside)) ≡ Some (Written.call name args, text)
 call_reads name args inside text h reads =

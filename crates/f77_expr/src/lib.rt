@@ -4,5 +4,5 @@
 mod laws;
 mod parsed;
 
-pub use laws::one_reading;
+pub use laws::{one_reading, piece_of_reading};
 pub use parsed::{ExprEnd, Parsed};
