@@ -1,6 +1,6 @@
 -- What may stand behind an expression, and behind a name or a number.
 use Rattle.std.proofs.Common.{◌≡◌, ◌==◌, ℕ, ◌<◌, ◌≤◌, Bool, true, false, List, [], ◌∷◌, ◌++◌, Option, Some, None, if◌then◌else◌, ◌&&◌, ◌||◌, not, nat_le, codes, refl, sym, ap, subst, ◌∙◌, ⊎_elim, arith}
-use Rattle.std.proofs.lemmas.Bool.{eqb-true, and_parts, and_left, lt-leb, le-leb, or_cases}
+use Rattle.std.proofs.lemmas.Bool.{not-true, eqb-true, and_parts, and_left, lt-leb, le-leb, or_cases}
 use Rattle.op_table.specs.declared.Op.{Op}
 use Rattle.op_table.specs.declared.Op.TheVariants.{Add, Sub, Mul, Div, Pow, Lt, Le, Eq, Ne, Ge, Gt, And, Or, Eqv, Neqv}
 use Rattle.f77_tree.specs.Grammar.{Written, symbol, level, operator_level, left_level, right_level, truth_text}

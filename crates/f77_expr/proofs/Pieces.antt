@@ -1,18 +1,17 @@
 -- The piece of a text, and what is read from it.
-use Rattle.std.proofs.Common.{◌≡◌, ◌==◌, ◌≢◌, ℕ, zero, suc, ◌+◌, ◌-◌, ◌<◌, ◌≤◌, max, Bool, true, false, List, [], ◌∷◌, ◌++◌, length, drop, fold, All, Option, Some, None, if◌then◌else◌, ◌&&◌, ◌||◌, not, slice_index_or, refl, sym, ap, subst, ◌∙◌, ⊎_elim, arith, append-nil}
+use Rattle.std.proofs.Common.{◌≡◌, ◌==◌, ◌≢◌, ℕ, ◌≤◌, max, Bool, true, false, List, [], ◌∷◌, ◌++◌, length, drop, fold, All, Some, if◌then◌else◌, ◌&&◌, ◌||◌, not, slice_index_or, refl, sym, ap, ◌∙◌, arith, append-nil}
 use Rattle.std.proofs.lemmas.Bool.{and_parts, not-true, eq-eqb, true≢false}
 use Rattle.std.proofs.lemmas.List.Sums.{AllPass-from_list_all}
 use Rattle.f77_tree.specs.Grammar.{Written, IsGrammatical, IsWritten, spelling}
 use Rattle.f77_expr.specs.Piece.{Open, nothing_open, open_after, ends_piece, piece_from, piece, deepest_from}
 use Rattle.f77_expr.specs.Reader.{expression_at}
-use Rattle.f77_expr.proofs.EachRead.{if_true, if_false}
+use Rattle.f77_expr.proofs.EachRead.{if_true}
 use Rattle.f77_expr.proofs.Fronts.{drop_front}
 use Rattle.f77_expr.proofs.Followers.{is_follower}
 use Rattle.f77_expr.proofs.Spelled.{expression_spells}
 use Rattle.f77_expr.proofs.Soundness.{expression_sound}
 use Rattle.f77_expr.proofs.Completeness.{read_in_front}
 use Rattle.f77_expr.proofs.Quiet.{brackets_open, quiet_written}
-use Rattle.f77_expr.proofs.Readings.{piece_ended}
 
 -- the piece and what stands behind it are the text
 pub piece_and_rest : (open_now : Open) (text : List ℕ) → piece_from open_now text ++ drop (length (piece_from open_now text)) text ≡ text

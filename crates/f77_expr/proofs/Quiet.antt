@@ -1,6 +1,6 @@
 -- A scan for the end of a piece passes over an expression, and comes back to what was open before it.
-use Rattle.std.proofs.Common.{◌≡◌, ◌==◌, ◌≢◌, ℕ, zero, suc, ◌+◌, ◌-◌, ◌<◌, ◌≤◌, Bool, true, false, List, [], ◌∷◌, ◌++◌, length, get_or, fold, All, if◌then◌else◌, ◌&&◌, ◌||◌, not, nat_lt, nat_le, codes, refl, sym, ap, subst, ◌∙◌, ⊎_elim, arith, append_assoc, append-nil}
-use Rattle.std.proofs.lemmas.Bool.{and_parts, and_from, and_left, and_right, or_cases, ne_eqb, eqb-true, leb-true, or_from, or_parts, not-true}
+use Rattle.std.proofs.Common.{◌≡◌, ◌==◌, ◌≢◌, ℕ, zero, suc, ◌-◌, ◌≤◌, Bool, true, false, List, [], ◌∷◌, ◌++◌, length, fold, ◌&&◌, ◌||◌, not, nat_lt, nat_le, codes, refl, sym, ap, subst, ◌∙◌, ⊎_elim, arith, append_assoc}
+use Rattle.std.proofs.lemmas.Bool.{and_parts, and_from, and_left, and_right, or_cases, ne_eqb, leb-true, or_from, or_parts, not-true}
 use Rattle.std.proofs.lemmas.List.Sums.{fold-append}
 use Rattle.std.proofs.lemmas.List.Folds.{list_all-append}
 use Rattle.std.specs.List.{list_all}
@@ -9,10 +9,9 @@ use Rattle.op_table.specs.declared.Op.TheVariants.{Add, Sub, Mul, Div, Pow, Lt, 
 use Rattle.f77_tree.specs.Name.{is_capital, is_figure, is_name}
 use Rattle.f77_tree.specs.Grammar.{Written, Arguments, symbol, IsGrammatical, AreGrammatical, is_number, spelling, spellings, truth_text}
 use Rattle.f77_expr.specs.Reader.{is_symbolic}
-use Rattle.f77_expr.specs.Piece.{Open, nothing_open, open_after, ends_piece, piece_from, piece}
+use Rattle.f77_expr.specs.Piece.{Open, open_after, ends_piece, piece_from}
 use Rattle.f77_expr.proofs.EachRead.{if_false}
-use Rattle.f77_expr.proofs.Spellings.{call_spelling}
-use Rattle.f77_expr.proofs.Primaries.{IsName, name_parts, capital_from}
+use Rattle.f77_expr.proofs.Primaries.{name_parts, capital_from}
 
 -- so many brackets are open, and no character constant
 abbrev pub brackets_open : ℕ → Open

@@ -1,7 +1,7 @@
 -- A text that is read to its end is an expression of the grammar, and each expression has one reading.
-use Rattle.std.proofs.Common.{◌≡◌, ◌==◌, ℕ, zero, suc, ◌<◌, ◌≤◌, Bool, true, false, List, [], ◌∷◌, ◌++◌, Option, Some, None, if◌then◌else◌, ◌||◌, refl, sym, ap, subst, ◌∙◌, arith, append-nil}
+use Rattle.std.proofs.Common.{◌≡◌, ◌==◌, ℕ, Bool, true, false, List, [], ◌∷◌, ◌++◌, Some, if◌then◌else◌, ◌||◌, refl, sym, ap, ◌∙◌, arith, append-nil}
 use Rattle.f77_tree.specs.Grammar.{Written, IsGrammatical, IsWritten, spelling}
-use Rattle.f77_expr.specs.Piece.{piece, piece_from, ends_piece, nothing_open, open_after}
+use Rattle.f77_expr.specs.Piece.{piece, piece_from, nothing_open, open_after}
 use Rattle.f77_expr.specs.Reader.{expression_at}
 use Rattle.f77_expr.proofs.EachRead.{same_read}
 use Rattle.f77_expr.proofs.Followers.{is_follower}
