@@ -12,10 +12,6 @@ module _ {A : Type 0} (P : A → List ℕ → Type 0) where
   pub each_at : (x : Reads A) → Each P x → (a : A) (rest : List ℕ) → x ≡ Some (a, rest) → P a rest
   each_at x h a rest e = subst (λ (y : Reads A). Each P y) e h
 
-  pub each_from : (x : Reads A) → ((a : A) (rest : List ℕ) → x ≡ Some (a, rest) → P a rest) → Each P x
-  each_from None h = tt
-  each_from (Some (a, rest)) h = h a rest refl
-
   pub each_if : (b : Bool) (x y : Reads A) → (b ≡ true → Each P x) → (b ≡ false → Each P y) → Each P (if b then x else y)
   each_if true x y then_each else_each = then_each refl
   each_if false x y then_each else_each = else_each refl
@@ -49,3 +45,15 @@ module _ {A B : Type 0} where
 pub if_same : {A : Type 0} (b : Bool) (x x_other y y_other : A) → (b ≡ true → x ≡ x_other) → (b ≡ false → y ≡ y_other) → (if b then x else y) ≡ (if b then x_other else y_other)
 if_same true x x_other y y_other then_same else_same = then_same refl
 if_same false x x_other y y_other then_same else_same = else_same refl
+
+pub if_true : {A : Type 0} (b : Bool) (x y : A) → b ≡ true → (if b then x else y) ≡ x
+if_true b x y e = ap (λ (test : Bool). if test then x else y) e
+
+pub if_false : {A : Type 0} (b : Bool) (x y : A) → b ≡ false → (if b then x else y) ≡ y
+if_false b x y e = ap (λ (test : Bool). if test then x else y) e
+
+-- what was read, and the rest, where both answers are one
+pub same_read : {A : Type 0} (a b : A) (s t : List ℕ) → ◌≡◌ {A = Reads A} (Some (a, s)) (Some (b, t)) → (a ≡ b) × (s ≡ t)
+same_read {A = A} a b s t e =
+    let inner : ◌≡◌ {A = A × List ℕ} (a, s) (b, t) = cc in
+    (ap (λ (pair : A × List ℕ). pair.0) inner, ap (λ (pair : A × List ℕ). pair.1) inner)

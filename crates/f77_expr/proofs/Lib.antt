@@ -1,7 +1,17 @@
 pub mod EachRead
 pub mod Fronts
 pub mod Descent
+pub mod Completeness
 pub mod Depth
+pub mod Followers
+pub mod Primaries
+pub mod Levels
+pub mod Soundness
+pub mod Spellings
+pub mod Spelled
+pub mod Readings
+pub mod Quiet
+pub mod Pieces
 pub mod Parts
 pub mod Numbers
 pub mod Scans
@@ -9,3 +19,4 @@ pub mod Chains
 pub mod Lists
 pub mod Begins
 pub mod Results
+pub mod Whole

@@ -2,12 +2,14 @@
 #![tactic(auto)]
 
 mod constants;
+mod laws;
 mod operators;
 mod parse;
 mod parsed;
 mod reader;
 mod trees;
 
+pub use laws::{one_reading, piece_of_reading};
 pub use parse::parse_expr;
 pub use parsed::{ExprEnd, Parsed};
 

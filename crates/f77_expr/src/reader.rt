@@ -204,6 +204,7 @@ impl<'a> Reader<'a> {
 /// The expression that a whole piece is: NoForm where it is none, then BadConstant where a number in it is above
 /// 2147483647.
 pub(crate) fn read_piece(alloc: Global, piece: &[u8]) -> Result<RawExpr, ExprEnd>
+    requires { length piece.now < 4294967296 }
     ensures { IsPieceRead piece.now result }
 {
     let mut reader = Reader {
