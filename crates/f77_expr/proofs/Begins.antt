@@ -11,7 +11,7 @@ use Rattle.f77_expr.specs.declared.operators.Prefix.{Prefix}
 use Rattle.f77_expr.specs.declared.operators.Prefix.TheVariants.{Plus, Minus, Negation}
 use Rattle.f77_expr.specs.Reader.{Reads, read_as, and_then_read, prefix_at, operand_level, prefixed, truth_at, this_or, after_front, is_symbolic, closed, Readers, begun, named, primary_by, the_readers, expression_at, chain_at, primary_at, arguments_at}
 use Rattle.f77_expr.specs.Answers.{passed, starts_name, constant_of, kept_number, too_great, meant, prefix_level, kept, kept_prefixed, IsRead, AreRead, IsBegun}
-use Rattle.f77_expr.proofs.EachRead.{Each, each_at, each_if, each_then, each_as, each_from, each_this_or}
+use Rattle.f77_expr.proofs.EachRead.{Each, each_at, each_if, each_then, each_as, each_this_or}
 use Rattle.f77_expr.proofs.Fronts.{IsPrefixIn, prefix_front, run_of_kind, run_shorter}
 use Rattle.f77_expr.proofs.Depth.{expression-step, primary-step, primary_shorter}
 use Rattle.f77_expr.proofs.Lists.{passed-shorter, or-false}
@@ -197,6 +197,10 @@ module _ (text : List ℕ) (c : ℕ) (first : slice_get text 0 ≡ Some c) (figu
 
 -- ---- what an expression begins with
 
+each_any : {A : Type 0} (found : Reads A) → Each (λ a rest. Unit {0}) found
+each_any None = tt
+each_any (Some (a, rest)) = tt
+
 -- primaries have the highest level
 primary-level : (text : List ℕ) (w : Written) (rest : List ℕ) → primary_at text ≡ Some (w, rest) → level w ≡ 8
 primary-level text w rest e = each_at (λ v tail. level v ≡ 8) (primary_by the_readers text) (by text) w rest (sym (primary-step text) ∙ e)
@@ -208,7 +212,7 @@ primary-level text w rest e = each_at (λ v tail. level v ≡ 8) (primary_by the
     of_name : (n tail : List ℕ) → Each (λ u after. level u ≡ 8) (named the_readers n tail)
     of_name n [] = refl
     of_name n (c ∷ tail) = each_if (λ u after. level u ≡ 8) (c == 40) (read_as (λ arguments. Written.call n arguments) (arguments_at tail)) (Some (Written.name n, c ∷ tail))
-        (λ bracket. each_as (λ a after. Unit {0}) (λ u after. level u ≡ 8) (λ arguments. Written.call n arguments) (arguments_at tail) (each_from (λ a after. Unit {0}) (arguments_at tail) (λ a after is. tt)) (λ a after any. refl))
+        (λ bracket. each_as (λ a after. Unit {0}) (λ u after. level u ≡ 8) (λ arguments. Written.call n arguments) (arguments_at tail) (each_any (arguments_at tail)) (λ a after any. refl))
         (λ none. refl)
 
     of_truth : (tail : List ℕ) → Each (λ u after. level u ≡ 8) (truth_at tail)
@@ -222,7 +226,7 @@ primary-level text w rest e = each_at (λ v tail. level v ≡ 8) (primary_by the
         (λ none. each_if (λ u after. level u ≡ 8) (is_capital c) (name_or_none c more) (no_letter c more)
             (λ capital. each_if (λ u after. level u ≡ 8) (nat_le (length (run_of (c ∷ more))) 6) (named the_readers (run_of (c ∷ more)) (behind_run (c ∷ more))) None (λ short. of_name (run_of (c ∷ more)) (behind_run (c ∷ more))) (λ long. tt))
             (λ no_capital. each_if (λ u after. level u ≡ 8) (c == 40) (and_then_read (λ v tail. closed (Written.bracketed v) tail) (expression_at 0 more)) (truth_at (c ∷ more))
-                (λ bracket. each_then (λ v tail. Unit {0}) (λ u after. level u ≡ 8) (λ v tail. closed (Written.bracketed v) tail) (expression_at 0 more) (each_from (λ v tail. Unit {0}) (expression_at 0 more) (λ v tail is. tt)) (λ v tail any. in_brackets v tail))
+                (λ bracket. each_then (λ v tail. Unit {0}) (λ u after. level u ≡ 8) (λ v tail. closed (Written.bracketed v) tail) (expression_at 0 more) (each_any (expression_at 0 more)) (λ v tail any. in_brackets v tail))
                 (λ no_bracket. of_truth (c ∷ more))))
       where
         name_or_none : ℕ → List ℕ → Reads Written

@@ -46,8 +46,10 @@ pub more_written : (piece : List ℕ) (great : Bool) (e : RawExpr) (rest : List 
 more_written piece great e rest great_now i some w is =
     let read = i.is_read in
     let whole = written-read piece w is in
-    let same : rest ≡ [] = cc in
-    some same
+    let end : Written × List ℕ = (i.written, rest) in
+    let front : Written × List ℕ = (w, []) in
+    let same : end ≡ front = cc in
+    some (ap (λ (p : Written × List ℕ). p.1) same)
 
 module _ (piece : List ℕ) (e : RawExpr) (rest : List ℕ) (great_now : Bool) (i : IsRead piece false (expression_at 0 piece) e rest great_now) (whole : rest ≡ []) where
   spells : IsWritten piece i.written

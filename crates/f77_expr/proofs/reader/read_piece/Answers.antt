@@ -1,4 +1,5 @@
-use Rattle.std.proofs.Common.{◌≡◌, [], List, ℕ, Bool, true, false, Err, rules}
+use Rattle.std.proofs.Common.{◌≡◌, [], List, ℕ, Bool, true, false, Err, length, rules}
+use Rattle.std.proofs.lemmas.List.{nil_from_length}
 use Rattle.f77_expr.specs.Reader.{expression_at}
 use Rattle.f77_expr.specs.Answers.{IsRead}
 use Rattle.f77_expr.proofs.Whole.{more_written, great_written, small_written, piece_fails}
@@ -22,7 +23,8 @@ returns-then-reader c =
     let piece = c.args.piece.now in
     let rest = c.expression.new.self.rest.now in
     let read : IsRead piece false (expression_at 0 piece) c.in_ok-expr.expr rest c.expression.new.self.has_great = search rules in
-    let whole : rest ≡ [] = search rules in
+    let none : length rest ≡ 0 = search rules in
+    let whole = nil_from_length rest none in
     let great : c.expression.new.self.has_great ≡ true = search rules in
     great_written piece c.in_ok-expr.expr rest c.expression.new.self.has_great read whole great
 
@@ -31,6 +33,7 @@ returns c =
     let piece = c.args.piece.now in
     let rest = c.expression.new.self.rest.now in
     let read : IsRead piece false (expression_at 0 piece) c.in_ok-expr.expr rest c.expression.new.self.has_great = search rules in
-    let whole : rest ≡ [] = search rules in
+    let none : length rest ≡ 0 = search rules in
+    let whole = nil_from_length rest none in
     let small : c.expression.new.self.has_great ≡ false = search rules in
     small_written piece c.in_ok-expr.expr rest c.expression.new.self.has_great read whole small
