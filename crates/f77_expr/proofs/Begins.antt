@@ -87,7 +87,7 @@ name-short c more capital all = and_middle (nat_lt 0 (length (c ∷ more))) (nat
 run-short : (c : ℕ) (text : List ℕ) → is_capital c ≡ true → is_name (take_while is_symbolic (c ∷ text)) ≡ nat_le (length (take_while is_symbolic (c ∷ text))) 6
 run-short c text capital =
     let grows : take_while is_symbolic (c ∷ text) ≡ c ∷ take_while is_symbolic text =
-        take_while-cons is_symbolic c text ∙ ap (λ b. cond b (c ∷ take_while is_symbolic text) []) (or_left (is_capital c) (is_figure c) capital) in
+    take_while-cons is_symbolic c text ∙ ap (λ b. cond b (c ∷ take_while is_symbolic text) []) (or_left (is_capital c) (is_figure c) capital) in
     let all : list_all is_symbolic (c ∷ take_while is_symbolic text) ≡ true = ap (list_all is_symbolic) (sym grows) ∙ run_of_kind is_symbolic (c ∷ text) in
     subst (λ (n : List ℕ). is_name n ≡ nat_le (length n) 6) (sym grows) (name-short c (take_while is_symbolic text) capital all)
 
@@ -224,10 +224,10 @@ primary-level text w rest e = each_at (λ v tail. level v ≡ 8) (primary_by the
     by (c ∷ more) =
         each_if (λ u after. level u ≡ 8) (is_figure c) (Some (Written.number (take_while is_figure (c ∷ more)), drop (length (take_while is_figure (c ∷ more))) (c ∷ more))) (no_number c more) (λ figure. refl)
         (λ none. each_if (λ u after. level u ≡ 8) (is_capital c) (name_or_none c more) (no_letter c more)
-            (λ capital. each_if (λ u after. level u ≡ 8) (nat_le (length (run_of (c ∷ more))) 6) (named the_readers (run_of (c ∷ more)) (behind_run (c ∷ more))) None (λ short. of_name (run_of (c ∷ more)) (behind_run (c ∷ more))) (λ long. tt))
-            (λ no_capital. each_if (λ u after. level u ≡ 8) (c == 40) (and_then_read (λ v tail. closed (Written.bracketed v) tail) (expression_at 0 more)) (truth_at (c ∷ more))
-                (λ bracket. each_then (λ v tail. Unit {0}) (λ u after. level u ≡ 8) (λ v tail. closed (Written.bracketed v) tail) (expression_at 0 more) (each_any (expression_at 0 more)) (λ v tail any. in_brackets v tail))
-                (λ no_bracket. of_truth (c ∷ more))))
+        (λ capital. each_if (λ u after. level u ≡ 8) (nat_le (length (run_of (c ∷ more))) 6) (named the_readers (run_of (c ∷ more)) (behind_run (c ∷ more))) None (λ short. of_name (run_of (c ∷ more)) (behind_run (c ∷ more))) (λ long. tt))
+        (λ no_capital. each_if (λ u after. level u ≡ 8) (c == 40) (and_then_read (λ v tail. closed (Written.bracketed v) tail) (expression_at 0 more)) (truth_at (c ∷ more))
+        (λ bracket. each_then (λ v tail. Unit {0}) (λ u after. level u ≡ 8) (λ v tail. closed (Written.bracketed v) tail) (expression_at 0 more) (each_any (expression_at 0 more)) (λ v tail any. in_brackets v tail))
+        (λ no_bracket. of_truth (c ∷ more))))
       where
         name_or_none : ℕ → List ℕ → Reads Written
         name_or_none d tail = if nat_le (length (run_of (d ∷ tail))) 6 then named the_readers (run_of (d ∷ tail)) (behind_run (d ∷ tail)) else None

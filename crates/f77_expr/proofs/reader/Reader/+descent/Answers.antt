@@ -40,7 +40,7 @@ arguments-returns-in_err-expression-2 t c =
     let comma : passed 44 rest ≡ Some behind = search rules in
     let whole : c.from_residual-in_err-expression-2.result ≡ Err c.in_err-expression-2.field-0.0 = search rules in
     fails _ _ _ _ c.expression-in-loop-alloc.result c.from_residual-in_err-expression-2.result c.in_err-expression-2.field-0.0 c.in_err-expression-2.was whole c.expression-in-loop-alloc.ensures
-        (λ none. no_next text great list rest great_now begun behind comma none)
+    (λ none. no_next text great list rest great_now begun behind comma none)
 
 pub arguments-loop-alloc-preserved : goal.arguments-loop-alloc-preserved
 arguments-loop-alloc-preserved t c =
@@ -74,7 +74,7 @@ arguments-returns-then-passes t c =
     let bracket : passed 41 c.passes.new.self.rest.now ≡ Some c.passes-2.new.self.rest.now = search rules in
     let great_same : c.passes-2.new.self.has_great ≡ great_now = search rules in
     subst (λ (g : Bool). AreRead text great (arguments_at text) list c.passes-2.new.self.rest.now g) (sym great_same)
-        (last_argument text great list rest great_now begun c.passes-2.new.self.rest.now no_comma (subst (λ (r : List ℕ). passed 41 r ≡ Some c.passes-2.new.self.rest.now) same bracket))
+    (last_argument text great list rest great_now begun c.passes-2.new.self.rest.now no_comma (subst (λ (r : List ℕ). passed 41 r ≡ Some c.passes-2.new.self.rest.now) same bracket))
 
 pub expression-expression-requires : goal.expression-expression-requires
 expression-expression-requires t c =
@@ -99,7 +99,7 @@ expression-returns-in_err-right t c =
     let level : c.right_level.result ≡ right_level c.in-Some.op = search rules in
     let whole : c.from_residual-in_err-right.result ≡ Err c.in_err-right.field-0.0 = search rules in
     fails _ _ _ _ c.expression.result c.from_residual-in_err-right.result c.in_err-right.field-0.0 c.in_err-right.was whole c.expression.ensures
-        (λ none. begun_fails c.args.least text great left.expr left.level rest c.loop-op.self.has_great c.loop-op.invariant c.in-Some.op c.in-Some.rest.now some c.right_level.result level none)
+    (λ none. begun_fails c.args.least text great left.expr left.level rest c.loop-op.self.has_great c.loop-op.invariant c.in-Some.op c.in-Some.rest.now some c.right_level.result level none)
 
 pub expression-loop-op-smaller : goal.expression-loop-op-smaller
 expression-loop-op-smaller t c =
@@ -165,7 +165,7 @@ named-returns-in_err-arguments t c =
     let bracket = subst (λ (r : List ℕ). passed 40 r ≡ Some behind) moved passed_there in
     let whole : c.from_residual.result ≡ Err c.in_err-arguments.field-0.0 = search rules in
     fails _ _ _ _ c.arguments.result c.from_residual.result c.in_err-arguments.field-0.0 c.in_err-arguments.was whole c.arguments.ensures
-        (λ none. primary-no_call text c.requires.letter is_one behind bracket none)
+    (λ none. primary-no_call text c.requires.letter is_one behind bracket none)
 
 pub named-returns-in_ok-arguments : goal.named-returns-in_ok-arguments
 named-returns-in_ok-arguments t c =
@@ -204,7 +204,7 @@ operand-returns-in_err-operand-in-Some t c =
     let level : c.operand_level.result ≡ operand_level (meant c.in-Some.prefix) = search rules in
     let whole : c.from_residual.result ≡ Err c.in_err-operand-in-Some.field-0.0 = search rules in
     fails _ _ _ _ c.expression.result c.from_residual.result c.in_err-operand-in-Some.field-0.0 c.in_err-operand-in-Some.was whole c.expression.ensures
-        (λ none. no_operand c.args.least text c.in-Some.prefix c.in-Some.rest.now some c.operand_level.result level none)
+    (λ none. no_operand c.args.least text c.in-Some.prefix c.in-Some.rest.now some c.operand_level.result level none)
 
 pub operand-returns-in_err-primary-in-None : goal.operand-returns-in_err-primary-in-None
 operand-returns-in_err-primary-in-None t c =
@@ -213,7 +213,7 @@ operand-returns-in_err-primary-in-None t c =
     let no_prefix : prefix_at c.args.least text ≡ None = search rules in
     let whole : c.from_residual-in_err-primary-in-None.result ≡ Err c.in_err-primary-in-None.field-0.0 = search rules in
     fails _ _ _ _ c.primary.result c.from_residual-in_err-primary-in-None.result c.in_err-primary-in-None.field-0.0 c.in_err-primary-in-None.was whole c.primary.ensures
-        (λ none. no_primary c.args.least text no_prefix none)
+    (λ none. no_primary c.args.least text no_prefix none)
 
 pub operand-returns-in_ok-prefixed-in-Some : goal.operand-returns-in_ok-prefixed-in-Some
 operand-returns-in_ok-prefixed-in-Some t c =
@@ -264,8 +264,8 @@ primary-returns-then-passes t c =
     let same : c.passes.new.self.has_great ≡ great = search rules in
     let is = primary-bracketed text c.in-Some.first.now first figure capital behind bracket in
     passed_on _ _ _ _ c.bracketed.result
-        (λ e read. primary-from text behind great c.passes.new.self.has_great _ e c.bracketed.new.self.rest.now c.bracketed.new.self.has_great is same read)
-        (λ none. is ∙ none) c.bracketed.ensures
+    (λ e read. primary-from text behind great c.passes.new.self.has_great _ e c.bracketed.new.self.rest.now c.bracketed.new.self.has_great is same read)
+    (λ none. is ∙ none) c.bracketed.ensures
 
 pub primary-returns-else-passes : goal.primary-returns-else-passes
 primary-returns-else-passes t c =
@@ -279,5 +279,5 @@ primary-returns-else-passes t c =
     let same : c.passes.new.self.has_great ≡ great = search rules in
     let is : primary_at text ≡ truth_at c.passes.new.self.rest.now = primary-truth text c.in-Some.first.now first figure capital no_bracket ∙ ap truth_at (sym unmoved) in
     passed_on _ _ _ _ c.truth.result
-        (λ e read. primary-from text c.passes.new.self.rest.now great c.passes.new.self.has_great _ e c.truth.new.self.rest.now c.truth.new.self.has_great is same read)
-        (λ none. is ∙ none) c.truth.ensures
+    (λ e read. primary-from text c.passes.new.self.rest.now great c.passes.new.self.has_great _ e c.truth.new.self.rest.now c.truth.new.self.has_great is same read)
+    (λ none. is ∙ none) c.truth.ensures
