@@ -1,10 +1,10 @@
 //! A reader of expressions by descent over the levels of the grammar (ANSI X3.9-1978, section 6). It looks at no character
 //! twice but for the operator behind an operand.
 
-ghost use Rattle.std.specs.Prelude.{◌≡◌, ◌||◌, ◌<◌, ◌∷◌, length, drop, take_while, false, true, None, Some, MatchBool, MatchOption, nat_lt, is_some};
+ghost use Rattle.std.specs.Prelude.{◌≡◌, ◌||◌, ◌<◌, length, drop, take_while, false, true, MatchBool, MatchOption};
 ghost use Rattle.f77_tree.specs.Name.{is_figure, is_name};
 ghost use Rattle.f77_tree.specs.Grammar.{Written};
-ghost use Rattle.f77_expr.specs.Reader.{read_as, is_symbolic, named as spec_named, closed, the_readers, and_then_read, primary_at, expression_at, arguments_at, truth_at as spec_truth_at};
+ghost use Rattle.f77_expr.specs.Reader.{is_symbolic, closed, and_then_read, primary_at, expression_at, arguments_at, truth_at as spec_truth_at};
 ghost use Rattle.f77_expr.specs.Answers.{passed, constant_of, kept_number, too_great, starts_name, IsRead, AreRead, IsBegun, Answers, IsPieceRead};
 
 use crate::ExprEnd;

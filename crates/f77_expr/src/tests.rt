@@ -3,6 +3,7 @@ use df_sequence::{CharList, NoMemory, Sequence};
 use f77_tree::RawExpr;
 use std::alloc::Global;
 use std::fmt::Write;
+use std::process::Abort;
 use std::test::Fail;
 
 // Texts, the place where each is read from, and what is read: the tree and the place behind the piece.
@@ -61,16 +62,20 @@ const REFUSALS: [(&str, ExprEnd); 22] = [
     ("1+2147483648,A+", ExprEnd::BadConstant),
 ];
 
+#[cycle(showing)]
 fn show_all(exprs: &[RawExpr], out: &mut String) -> Result<(), Fail> {
-    let mut mark = "";
+    let mut is_first = true;
     for e in exprs {
-        out.push_str(mark)?;
+        if !is_first {
+            out.push_str(",")?;
+        }
+        is_first = false;
         show(e, out)?;
-        mark = ",";
     }
     Ok(())
 }
 
+#[cycle(showing)]
 fn show(e: &RawExpr, out: &mut String) -> Result<(), Fail> {
     match e {
         RawExpr::Int(z) => write!(out, "{z}")?,
@@ -98,11 +103,10 @@ fn show_name(name: &[u8], out: &mut String) -> Result<(), Fail> {
     Ok(())
 }
 
-fn characters(alloc: Global, text: &[u8]) -> Result<CharList, NoMemory>
-    requires { length text.now < 4294967296 }
-{
+fn characters(rt: &impl Abort, alloc: Global, text: &[u8]) -> Result<CharList, NoMemory> {
     let mut list = Sequence::new(alloc);
     for c in text {
+        assert!(rt; list.len() < 4000);
         list.push(*c)?;
     }
     Ok(list)
@@ -111,7 +115,7 @@ fn characters(alloc: Global, text: &[u8]) -> Result<CharList, NoMemory>
 #[test]
 fn reads_trees(rt: HostRuntime) -> Result<(), Fail> {
     for (text, from, tree, next) in TREES {
-        let list = characters(rt.alloc(), text.as_bytes())?;
+        let list = characters(&rt, rt.alloc(), text.as_bytes())?;
         assert!(rt; from <= list.len());
         let Ok(parsed) = parse_expr(rt.alloc(), &list, from) else {
             return Err(text.into());
@@ -134,22 +138,23 @@ fn refusal(alloc: Global, text: &CharList) -> Option<ExprEnd> {
 #[test]
 fn refuses(rt: HostRuntime) -> Result<(), Fail> {
     for (text, want) in REFUSALS {
-        let list = characters(rt.alloc(), text.as_bytes())?;
+        let list = characters(&rt, rt.alloc(), text.as_bytes())?;
         assert_eq!(rt; refusal(rt.alloc(), &list), Some(want), "of {text}");
     }
     Ok(())
 }
 
-// So many brackets round a name.
-fn nested(alloc: Global, depth: u32) -> Result<CharList, NoMemory>
-    requires { depth < 100 }
-{
+// A name in so many brackets.
+fn nested(rt: &impl Abort, alloc: Global, depth: u32) -> Result<CharList, NoMemory> {
     let mut list = Sequence::new(alloc);
     for _ in 0..depth {
+        assert!(rt; list.len() < 4000);
         list.push(b'(')?;
     }
+    assert!(rt; list.len() < 4000);
     list.push(b'A')?;
     for _ in 0..depth {
+        assert!(rt; list.len() < 4000);
         list.push(b')')?;
     }
     Ok(list)
@@ -157,9 +162,9 @@ fn nested(alloc: Global, depth: u32) -> Result<CharList, NoMemory>
 
 #[test]
 fn nests_sixty_deep(rt: HostRuntime) -> Result<(), Fail> {
-    assert_eq!(rt; refusal(rt.alloc(), &nested(rt.alloc(), 60)?), None);
+    assert_eq!(rt; refusal(rt.alloc(), &nested(&rt, rt.alloc(), 60)?), None);
     assert_eq!(rt;
-        refusal(rt.alloc(), &nested(rt.alloc(), 61)?),
+        refusal(rt.alloc(), &nested(&rt, rt.alloc(), 61)?),
         Some(ExprEnd::TooDeep)
     );
     Ok(())
