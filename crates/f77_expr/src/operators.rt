@@ -2,7 +2,7 @@
 
 ghost use Rattle.std.specs.Prelude.{◌≡◌};
 ghost use Rattle.std.specs.Option.{option_copied};
-ghost use Rattle.f77_tree.specs.Grammar.{Written, symbol as spec_symbol, operator_level as spec_operator_level, left_level as spec_left_level, right_level as spec_right_level};
+ghost use Rattle.f77_tree.specs.Grammar.{Written, symbol as spec_symbol, operator_level, left_level, right_level};
 ghost use Rattle.f77_expr.specs.Reader.{read_as, after_front as spec_after_front, operator_at as spec_operator_at, prefix_at as spec_prefix_at, operand_level as spec_operand_level, truth_at as spec_truth_at};
 ghost use Rattle.f77_expr.specs.Answers.{seen, meant, allowed, sign_at as spec_sign_at, prefix_level as spec_prefix_level};
 
@@ -59,51 +59,38 @@ fn symbol(op: Op) -> &'static [u8]
     }
 }
 
-/// The level of an operator between two operands, from those that bind least.
-pub(crate) fn operator_level(op: Op) -> u8
-    ensures { result ≡ spec_operator_level op }
-{
-    match op {
-        Op::Eqv | Op::Neqv => 0,
-        Op::Or => 1,
-        Op::And => 2,
-        Op::Lt | Op::Le | Op::Eq | Op::Ne | Op::Ge | Op::Gt => 4,
-        Op::Add | Op::Sub => 5,
-        Op::Mul | Op::Div => 6,
-        Op::Pow => 7,
-        _ => 9,
-    }
+/// The levels of an operator between two operands: its own, and the least ones of the operands on its left and right.
+/// Operators that bind less have a lower level.
+#[derive(Clone, Copy, Debug, PartialEq, Eq)]
+pub(crate) struct Levels {
+    pub(crate) own: u8,
+    left: u8,
+    pub(crate) right: u8,
 }
 
-/// The least level of the operand on the left. Relations make no chain, and powers are grouped from the right.
-fn left_level(op: Op) -> u8
-    ensures { result ≡ spec_left_level op }
+// An operator of the level `own` is grouped with operands of at least these levels.
+fn grouped(own: u8, left: u8, right: u8) -> Levels
+    ensures { result ≡ record { own = own; left = left; right = right } }
 {
-    match op {
-        Op::Eqv | Op::Neqv => 0,
-        Op::Or => 1,
-        Op::And => 2,
-        Op::Lt | Op::Le | Op::Eq | Op::Ne | Op::Ge | Op::Gt => 5,
-        Op::Add | Op::Sub => 5,
-        Op::Mul | Op::Div => 6,
-        Op::Pow => 8,
-        _ => 9,
-    }
+    Levels { own, left, right }
 }
 
-/// The least level of the operand on the right.
-pub(crate) fn right_level(op: Op) -> u8
-    ensures { result ≡ spec_right_level op }
+/// The levels of an operator between two operands. A chain of one level is grouped from the left, but relations make no
+/// chain, and powers are grouped from the right (ANSI X3.9-1978, sections 6.1.2 and 6.3.1).
+pub(crate) fn levels_of(op: Op) -> Levels
+    ensures own { result.own ≡ operator_level op }
+    ensures left { result.left ≡ left_level op }
+    ensures right { result.right ≡ right_level op }
 {
     match op {
-        Op::Eqv | Op::Neqv => 1,
-        Op::Or => 2,
-        Op::And => 3,
-        Op::Lt | Op::Le | Op::Eq | Op::Ne | Op::Ge | Op::Gt => 5,
-        Op::Add | Op::Sub => 6,
-        Op::Mul | Op::Div => 7,
-        Op::Pow => 7,
-        _ => 9,
+        Op::Eqv | Op::Neqv => grouped(0, 0, 1),
+        Op::Or => grouped(1, 1, 2),
+        Op::And => grouped(2, 2, 3),
+        Op::Lt | Op::Le | Op::Eq | Op::Ne | Op::Ge | Op::Gt => grouped(4, 5, 5),
+        Op::Add | Op::Sub => grouped(5, 5, 6),
+        Op::Mul | Op::Div => grouped(6, 6, 7),
+        Op::Pow => grouped(7, 8, 7),
+        _ => grouped(9, 9, 9),
     }
 }
 
@@ -132,7 +119,8 @@ pub(crate) fn operator_behind(text: &[u8], least: u8, level: u8) -> Option<(Op, 
     ensures { seen result ≡ allowed least level (spec_operator_at text.now) }
 {
     let (op, rest) = operator_at(text)?;
-    if least <= operator_level(op) && left_level(op) <= level {
+    let levels = levels_of(op);
+    if least <= levels.own && levels.left <= level {
         Some((op, rest))
     } else {
         None

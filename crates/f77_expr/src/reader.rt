@@ -1,5 +1,5 @@
-//! A reader of expressions by descent over the levels of the grammar (ANSI X3.9-1978, section 6). It looks at no character
-//! twice but for the operator behind an operand.
+//! A reader of expressions by descent over the levels of the grammar (ANSI X3.9-1978, section 6). It never goes back, so
+//! its time is linear in the text, and calls are nested only as deep as brackets, arguments and chains of `**` are.
 
 ghost use Rattle.std.specs.Prelude.{◌≡◌, ◌||◌, ◌<◌, length, drop, take_while, false, true, MatchBool, MatchOption};
 ghost use Rattle.f77_tree.specs.Name.{is_figure, is_name};
@@ -10,7 +10,7 @@ ghost use Rattle.f77_expr.specs.Answers.{passed, constant_of, kept_number, too_g
 use crate::ExprEnd;
 use crate::constants::{constant, is_digit, is_letter, split_digits, split_symbolic};
 use crate::operators::{
-    operand_level, operator_behind, operator_level, prefix_at, prefix_level, right_level, truth_at,
+    levels_of, operand_level, operator_behind, prefix_at, prefix_level, truth_at,
 };
 use crate::trees::{prefixed, two};
 use df_sequence::Sequence;
@@ -100,10 +100,11 @@ impl<'a> Reader<'a> {
         let mut left = self.operand(alloc, least)?;
         while let Some((op, rest)) = operator_behind(self.rest, least, left.level) {
             self.rest = rest;
-            let right = self.expression(alloc, right_level(op))?;
+            let levels = levels_of(op);
+            let right = self.expression(alloc, levels.right)?;
             left = Operand {
                 expr: two(alloc, op, left.expr, right)?,
-                level: operator_level(op),
+                level: levels.own,
             };
         }
         Ok(left.expr)

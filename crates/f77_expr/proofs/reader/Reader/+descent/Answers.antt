@@ -96,17 +96,17 @@ expression-returns-in_err-right t c =
     let left = c.loop-op.left in
     let some : allowed c.args.least left.level (operator_at rest) ≡ Some (c.in-Some.op, c.in-Some.rest.now) = search rules in
     let less = behind_shorter c.args.least text great left.expr left.level rest c.loop-op.self.has_great c.loop-op.invariant c.in-Some.op c.in-Some.rest.now some in
-    let level : c.right_level.result ≡ right_level c.in-Some.op = search rules in
+    let level : c.levels_of-levels.result.right ≡ right_level c.in-Some.op = search rules in
     let whole : c.from_residual-in_err-right.result ≡ Err c.in_err-right.field-0.0 = search rules in
     fails _ _ _ _ c.expression.result c.from_residual-in_err-right.result c.in_err-right.field-0.0 c.in_err-right.was whole c.expression.ensures
-    (λ none. begun_fails c.args.least text great left.expr left.level rest c.loop-op.self.has_great c.loop-op.invariant c.in-Some.op c.in-Some.rest.now some c.right_level.result level none)
+    (λ none. begun_fails c.args.least text great left.expr left.level rest c.loop-op.self.has_great c.loop-op.invariant c.in-Some.op c.in-Some.rest.now some c.levels_of-levels.result.right level none)
 
 pub expression-loop-op-smaller : goal.expression-loop-op-smaller
 expression-loop-op-smaller t c =
     let rest = c.loop-op.self.rest.now in
     let some : allowed c.args.least c.loop-op.left.level (operator_at rest) ≡ Some (c.in-Some.op, c.in-Some.rest.now) = search rules in
     let less : length c.in-Some.rest.now < length rest = operator_shorter c.args.least c.loop-op.left.level rest c.in-Some.op c.in-Some.rest.now some in
-    let right : IsRead c.in-Some.rest.now c.loop-op.self.has_great (expression_at c.right_level.result c.in-Some.rest.now) c.in_ok-right.right c.expression.new.self.rest.now c.expression.new.self.has_great = search rules in
+    let right : IsRead c.in-Some.rest.now c.loop-op.self.has_great (expression_at c.levels_of-levels.result.right c.in-Some.rest.now) c.in_ok-right.right c.expression.new.self.rest.now c.expression.new.self.has_great = search rules in
     let shorter = right.shorter in
     let falls : length c.expression.new.self.rest.now < length rest = omega arith in
     falls
@@ -119,11 +119,11 @@ expression-loop-op-preserved t c =
     let left = c.loop-op.left in
     let some : allowed c.args.least left.level (operator_at rest) ≡ Some (c.in-Some.op, c.in-Some.rest.now) = search rules in
     let less = behind_shorter c.args.least text great left.expr left.level rest c.loop-op.self.has_great c.loop-op.invariant c.in-Some.op c.in-Some.rest.now some in
-    let level : c.right_level.result ≡ right_level c.in-Some.op = search rules in
-    let right : IsRead c.in-Some.rest.now c.loop-op.self.has_great (expression_at c.right_level.result c.in-Some.rest.now) c.in_ok-right.right c.expression.new.self.rest.now c.expression.new.self.has_great = search rules in
+    let level : c.levels_of-levels.result.right ≡ right_level c.in-Some.op = search rules in
+    let right : IsRead c.in-Some.rest.now c.loop-op.self.has_great (expression_at c.levels_of-levels.result.right c.in-Some.rest.now) c.in_ok-right.right c.expression.new.self.rest.now c.expression.new.self.has_great = search rules in
     let made : c.in_ok-two.field-0 ≡ Apply c.in-Some.op (left.expr ∷ c.in_ok-right.right ∷ []) = search rules in
-    let made_level : c.operator_level.result ≡ operator_level c.in-Some.op = search rules in
-    begun_more c.args.least text great left.expr left.level rest c.loop-op.self.has_great c.loop-op.invariant c.in-Some.op c.in-Some.rest.now some c.in_ok-two.field-0 c.in_ok-right.right c.operator_level.result c.right_level.result c.expression.new.self.rest.now c.expression.new.self.has_great right level made made_level
+    let made_level : c.levels_of-levels.result.own ≡ operator_level c.in-Some.op = search rules in
+    begun_more c.args.least text great left.expr left.level rest c.loop-op.self.has_great c.loop-op.invariant c.in-Some.op c.in-Some.rest.now some c.in_ok-two.field-0 c.in_ok-right.right c.levels_of-levels.result.own c.levels_of-levels.result.right c.expression.new.self.rest.now c.expression.new.self.has_great right level made made_level
 
 pub expression-returns : goal.expression-returns
 expression-returns t c =
