@@ -1,18 +1,18 @@
 -- What an expression begins with: prefixes and primaries.
-use Rattle.std.proofs.Common.{◌≡◌, ◌==◌, ℕ, zero, suc, ◌+◌, ◌<◌, ◌≤◌, Bool, true, false, eqb, if◌then◌else◌, ◌&&◌, ◌||◌, nat_lt, nat_le, List, [], ◌∷◌, length, drop, take_while, slice_get, slice_index, Option, Some, None, refl, sym, ap, subst, ◌∙◌, arith, codes, cond, length-drop}
+use Rattle.std.proofs.Common.{◌≡◌, ◌==◌, ℕ, ◌<◌, Bool, true, false, if◌then◌else◌, ◌&&◌, ◌||◌, nat_lt, nat_le, List, [], ◌∷◌, length, drop, take_while, slice_get, Some, None, refl, sym, ap, subst, ◌∙◌, arith, codes, cond, length-drop}
 use Rattle.std.specs.List.{list_all}
 use Rattle.std.proofs.lemmas.Bool.{or_left, and_parts, and_from, and_left, and_right, false_from_ne_true, leb-true, lt-ltb}
 use Rattle.std.proofs.lemmas.List.Sums.{take_while-cons}
 use Rattle.f77_tree.specs.Name.{is_capital, is_figure, is_name}
 use Rattle.f77_tree.specs.declared.statements.RawExpr.{RawExpr}
 use Rattle.f77_tree.specs.declared.statements.RawExpr.TheVariants.{Named, Call}
-use Rattle.f77_tree.specs.Grammar.{Written, Arguments, level, has_great_number}
+use Rattle.f77_tree.specs.Grammar.{Written, level, has_great_number}
 use Rattle.f77_expr.specs.declared.operators.Prefix.{Prefix}
 use Rattle.f77_expr.specs.declared.operators.Prefix.TheVariants.{Plus, Minus, Negation}
 use Rattle.f77_expr.specs.Reader.{Reads, read_as, and_then_read, prefix_at, operand_level, prefixed, truth_at, this_or, after_front, is_symbolic, closed, Readers, begun, named, primary_by, the_readers, expression_at, chain_at, primary_at, arguments_at}
 use Rattle.f77_expr.specs.Answers.{passed, starts_name, constant_of, kept_number, too_great, meant, prefix_level, kept, kept_prefixed, IsRead, AreRead, IsBegun}
 use Rattle.f77_expr.proofs.EachRead.{Each, each_at, each_if, each_then, each_as, each_this_or}
-use Rattle.f77_expr.proofs.Fronts.{IsPrefixIn, prefix_front, run_of_kind, run_shorter}
+use Rattle.f77_expr.proofs.Fronts.{IsPrefixIn, prefix_front, run_of_kind}
 use Rattle.f77_expr.proofs.Depth.{expression-step, primary-step, primary_shorter}
 use Rattle.f77_expr.proofs.Lists.{passed-shorter, or-false}
 

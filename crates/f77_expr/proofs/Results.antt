@@ -1,5 +1,5 @@
 -- Results that are passed on.
-use Rattle.std.proofs.Common.{◌≡◌, Result, Ok, Err, sym, subst, ◌∙◌}
+use Rattle.std.proofs.Common.{◌≡◌, Result, Ok, Err, sym, subst}
 use Rattle.f77_expr.specs.declared.parsed.ExprEnd.{ExprEnd}
 use Rattle.f77_expr.specs.declared.parsed.ExprEnd.TheVariants.{TooDeep, NoForm, BadConstant, NoMemory}
 use Rattle.f77_expr.specs.Answers.{Answers}

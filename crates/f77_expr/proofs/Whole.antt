@@ -1,16 +1,15 @@
 -- Whole pieces, as they are read.
-use Rattle.std.proofs.Common.{◌≡◌, ℕ, Bool, true, false, cond, ◌||◌, List, [], ◌∷◌, Option, Some, None, Result, Err, refl, sym, ap, subst, ◌∙◌, pos}
+use Rattle.std.proofs.Common.{◌≡◌, ℕ, Bool, true, false, cond, List, [], ◌∷◌, Some, None, Result, Err, refl, sym, ap, subst, ◌∙◌}
 use Rattle.std.proofs.lemmas.Bool.{or_parts}
 use Rattle.f77_tree.specs.declared.statements.RawExpr.{RawExpr}
-use Rattle.f77_tree.specs.declared.statements.RawExpr.TheVariants.{Int, Call, Apply}
-use Rattle.op_table.specs.declared.Op.{Op}
+use Rattle.f77_tree.specs.declared.statements.RawExpr.TheVariants.{Call, Apply}
 use Rattle.op_table.specs.declared.Op.TheVariants.{Neg, Not}
 use Rattle.f77_tree.specs.Grammar.{Written, Arguments, IsWritten, reading, readings, number_of, has_great_number, have_great_number}
 use Rattle.f77_expr.specs.declared.parsed.ExprEnd.{ExprEnd}
 use Rattle.f77_expr.specs.declared.parsed.ExprEnd.TheVariants.{TooDeep, NoForm, BadConstant, NoMemory}
 use Rattle.f77_expr.specs.Parsing.{IsReadAs, HasGreatConstant}
 use Rattle.f77_expr.specs.Reader.{expression_at}
-use Rattle.f77_expr.specs.Answers.{too_great, constant_of, kept_number, kept, kept_arguments, IsRead, Answers, IsPieceRead}
+use Rattle.f77_expr.specs.Answers.{kept_number, kept, kept_arguments, IsRead, Answers, IsPieceRead}
 use Rattle.f77_expr.proofs.Readings.{read-written, written-read}
 
 -- ---- what is kept is what is read, where no number is too great

@@ -1,5 +1,4 @@
-use Rattle.std.proofs.Common.{◌≡◌, List, None, rules, sym, ap, get_or, ◌∙◌, arith, ℕ}
-use Rattle.op_table.specs.declared.Op.{Op}
+use Rattle.std.proofs.Common.{◌≡◌, None, rules, sym, get_or, ◌∙◌}
 use Rattle.op_table.specs.declared.Op.TheVariants.{Pow}
 use Rattle.f77_tree.specs.Grammar.{symbol}
 use Rattle.f77_expr.specs.Reader.{operators, after_front}

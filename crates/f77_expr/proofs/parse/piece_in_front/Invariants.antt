@@ -1,4 +1,3 @@
-use Rattle.std.proofs.Common.{length}
 use Rattle.f77_expr.specs.Scanning.{is_open}
 use Rattle.f77_expr.proofs.Scans.{IsScanned}
 use Rattle.f77_expr.proofs.parse.piece_in_front.Given as goal

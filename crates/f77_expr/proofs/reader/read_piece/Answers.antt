@@ -1,4 +1,4 @@
-use Rattle.std.proofs.Common.{◌≡◌, [], List, ℕ, Bool, true, false, Err, length, rules}
+use Rattle.std.proofs.Common.{◌≡◌, [], true, false, Err, length, rules}
 use Rattle.std.proofs.lemmas.List.{nil_from_length}
 use Rattle.f77_expr.specs.Reader.{expression_at}
 use Rattle.f77_expr.specs.Answers.{IsRead}

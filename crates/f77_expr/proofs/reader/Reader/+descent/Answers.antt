@@ -1,11 +1,10 @@
-use Rattle.std.proofs.Common.{◌≡◌, ◌+◌, ◌<◌, ℕ, Bool, true, false, slice_get, length, List, [], ◌∷◌, ◌++◌, Option, Some, None, Result, Ok, Err, rules, refl, sym, ap, subst, ◌∙◌, arith}
+use Rattle.std.proofs.Common.{◌≡◌, ◌<◌, ℕ, Bool, true, false, slice_get, length, List, [], ◌∷◌, ◌++◌, Some, None, Err, rules, sym, ap, subst, ◌∙◌, arith}
 use Rattle.f77_tree.specs.declared.statements.RawExpr.{RawExpr}
 use Rattle.f77_tree.specs.declared.statements.RawExpr.TheVariants.{Apply}
 use Rattle.f77_tree.specs.Name.{is_figure, is_capital, is_name}
 use Rattle.f77_tree.specs.Grammar.{right_level, operator_level}
-use Rattle.f77_expr.specs.declared.parsed.ExprEnd.{ExprEnd}
 use Rattle.f77_expr.specs.Reader.{operator_at, prefix_at, operand_level, truth_at, expression_at, primary_at, arguments_at}
-use Rattle.f77_expr.specs.Answers.{allowed, passed, meant, prefix_level, kept_prefixed, IsRead, AreRead, IsBegun}
+use Rattle.f77_expr.specs.Answers.{allowed, passed, meant, prefix_level, kept_prefixed, IsRead, AreRead}
 use Rattle.f77_expr.proofs.Results.{fails, passed_on}
 use Rattle.f77_expr.proofs.Chains.{operator_shorter, behind_shorter, begun_ends, begun_more, begun_fails}
 use Rattle.f77_expr.proofs.Lists.{AreBegun, first_argument, no_first, next_argument, no_next, last_argument}

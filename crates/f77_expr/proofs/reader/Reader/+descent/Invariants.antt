@@ -1,4 +1,4 @@
-use Rattle.std.proofs.Common.{◌≡◌, ◌+◌, ◌*◌, length}
+use Rattle.std.proofs.Common.{◌+◌, ◌*◌, length}
 use Rattle.f77_expr.specs.Answers.{IsBegun}
 use Rattle.f77_expr.proofs.Lists.{AreBegun}
 use Rattle.f77_expr.proofs.reader.Reader.+descent.Given as goal
