@@ -1,0 +1,3 @@
+-- Lemmas on expressions as they are printed.
+mod PrintedNumbers
+mod PrintedLevels
