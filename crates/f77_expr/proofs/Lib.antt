@@ -1,3 +1,5 @@
 -- Lemmas on expressions as they are printed.
 mod PrintedNumbers
 mod PrintedLevels
+mod PrintedReadings
+mod PrintedForms

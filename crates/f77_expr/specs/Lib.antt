@@ -1,4 +1,5 @@
 -- Expressions read and printed: the piece of a text that is read, the reader by descent, and what is printed.
+pub mod Constants
 pub mod Parsing
 pub mod Piece
 pub mod Printing
