@@ -3,3 +3,7 @@ mod PrintedNumbers
 mod PrintedLevels
 mod PrintedReadings
 mod PrintedForms
+mod Appends
+mod PrintedItems
+mod PrintedLists
+mod PrintedTexts

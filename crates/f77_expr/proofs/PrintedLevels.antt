@@ -1,9 +1,9 @@
 -- What stands between brackets has the level that its place asks for, and is read alike.
-use Rattle.std.proofs.Common.{◌≡◌, ℕ, ◌≤◌, ◌<◌, Bool, true, false, cond, refl, arith, sym, subst}
+use Rattle.std.proofs.Common.{◌≡◌, ℕ, ◌≤◌, Bool, true, false, cond, refl}
 use Rattle.std.specs.Prelude.{nat_le}
 use Rattle.std.proofs.lemmas.Bool.{leb-true}
 use Rattle.f77_tree.specs.declared.statements.RawExpr.{RawExpr}
-use Rattle.f77_tree.specs.Grammar.{Written, Arguments, level, IsGrammatical, AreGrammatical, reading, readings, has_great_number, have_great_number}
+use Rattle.f77_tree.specs.Grammar.{Written, level, IsGrammatical, reading, has_great_number}
 use Rattle.f77_expr.specs.Printing.{enclosed}
 
 -- an expression of the grammar that is read as e, without a constant that is too great

@@ -1,5 +1,5 @@
 -- Printed expressions are read as the forms that a source has of them.
-use Rattle.std.proofs.Common.{◌≡◌, ℕ, suc, ◌≤◌, ◌<◌, ◌||◌, ◌^◌, ℤ, pos, nat_abs, ◌≤ℤ◌, Bool, true, false, List, [], ◌∷◌, ◌++◌, length, refl, ap, sym, subst, ◌∙◌, arith}
+use Rattle.std.proofs.Common.{◌≡◌, ℕ, ◌≤◌, ◌||◌, Bool, true, false, List, [], ◌∷◌, ◌++◌, length, refl, ap, subst, ◌∙◌, arith}
 use Rattle.std.specs.Prelude.{codes}
 use Rattle.op_table.specs.declared.Op.{Op}
 use Rattle.op_table.specs.declared.Op.TheVariants.{Add, Sub, Mul, Div, Pow, Neg, Lt, Le, Eq, Ne, Ge, Gt, Not, And, Or, Eqv, Neqv, Mod, Abs, Sign, Max, Min, Truth, Bound, Place, Three, Pick, Step, AddChecked, SubChecked, MulChecked, NegChecked, AbsChecked, PowChecked}
@@ -7,9 +7,9 @@ use Rattle.op_table.specs.Operators.{arity_of}
 use Rattle.f77_tree.specs.declared.statements.RawExpr.{RawExpr}
 use Rattle.f77_tree.specs.declared.statements.RawExpr.TheVariants.{Call, Apply}
 use Rattle.f77_tree.specs.Name.{is_name}
-use Rattle.f77_tree.specs.Grammar.{Written, Arguments, level, left_level, right_level, IsGrammatical, AreGrammatical, reading, readings, has_great_number, have_great_number}
+use Rattle.f77_tree.specs.Grammar.{Written, Arguments, left_level, right_level, AreGrammatical, reading, readings, has_great_number, have_great_number}
 use Rattle.f77_tree.specs.Kinds.{is_written}
-use Rattle.f77_expr.specs.Printing.{Printed, Form, enclosed, and_last, not_listed, plain_form, printed_max, printed_min, max_form, min_form, printed_one, printed_two, printed_operator, operator_form, forms_alone, listed, printed_access, access_form, plain}
+use Rattle.f77_expr.specs.Printing.{Printed, Form, enclosed, and_last, not_listed, plain_form, printed_one, printed_two, printed_operator, operator_form, forms_alone, listed, printed_access, access_form, plain}
 use Rattle.f77_expr.proofs.PrintedLevels.{Writes, writes_enclosed, level-enclosed}
 
 -- arguments that are read as these, without a constant that is too great

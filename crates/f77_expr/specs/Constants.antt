@@ -1,5 +1,5 @@
 -- Expressions whose constants a source can write.
-use Rattle.std.specs.Prelude.{ℕ, nat_abs, ◌≤◌}
+use Rattle.std.specs.Prelude.{nat_abs, ◌≤◌}
 use Rattle.f77_tree.specs.declared.expressions.Expr.{Expr, Row_of-Expr, end_of-Expr, more_of-Expr}
 use Rattle.f77_tree.specs.declared.expressions.Expr.TheVariants.{Const, Truth, Input, Read', Apply'}
 use Rattle.f77_tree.specs.Grammar.{greatest_constant}

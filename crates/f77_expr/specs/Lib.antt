@@ -1,5 +1,7 @@
 -- Expressions read and printed: the piece of a text that is read, the reader by descent, and what is printed.
+pub mod Appending
 pub mod Constants
+pub mod Operands
 pub mod Parsing
 pub mod Piece
 pub mod Printing
