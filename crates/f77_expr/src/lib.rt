@@ -9,3 +9,6 @@ mod print;
 
 pub use parsed::{ExprEnd, Parsed};
 pub use print::print_expr;
+
+#[cfg(test)]
+mod print_tests;
