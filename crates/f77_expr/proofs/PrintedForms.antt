@@ -16,7 +16,8 @@ use Rattle.f77_expr.specs.Parsing.{IsReadAs}
 use Rattle.f77_expr.specs.Printing.{name_at, printed, row_printed, form, row_forms, printed_text, raw_form}
 use Rattle.f77_expr.proofs.PrintedNumbers.{is_number-decimal, number_of-decimal}
 use Rattle.f77_expr.proofs.PrintedLevels.{Writes}
-use Rattle.f77_expr.proofs.PrintedReadings.{Agrees, Rows, plain_agrees, access_agrees, operator_agrees}
+use Rattle.f77_expr.proofs.PrintedReadings.{Agrees, plain_agrees, access_agrees, operators_agree}
+use Rattle.f77_expr.proofs.PrintedRows.{Rows, operator_keeps}
 
 -- each name of the table is one
 abbrev pub AreNames : List NameInfo → Type 0
@@ -41,7 +42,7 @@ constant_writes : (z : ℤ) → pos 0 ≤ℤ z → nat_abs z ≤ greatest_consta
 constant_writes (pos n) least le = number_writes n le
 constant_writes (negsuc n) least le = absurd (omega (arith, least))
 
-length-row_printed : (names : List NameInfo) {m : _} (row : Row_of-Expr m) → length (row_printed names row) ≡ row_length row
+pub length-row_printed : (names : List NameInfo) {m : _} (row : Row_of-Expr m) → length (row_printed names row) ≡ row_length row
 length-row_printed names end_of-Expr = refl
 length-row_printed names (more_of-Expr e rest) = ap suc (length-row_printed names rest)
 
@@ -51,9 +52,9 @@ mutual
   agrees names are (Truth b) proper small = plain_agrees (Written.truth b) (RawTruth b) (record { grammatical = tt; is = refl; constants = refl })
   agrees names are Input proper small = elim proper [ ]
   agrees names are (Read' k shape subs) proper small = access_agrees (name_at names k) (row_printed names subs) (row_forms names subs) (is_name-at names are k proper.0) (row_agrees names are subs _ proper.2 small)
-  agrees names are (Apply' op shape args) proper small = operator_agrees op (row_printed names args) (row_forms names args) proper.0 (length-row_printed names args ∙ proper.1) (row_agrees names are args _ proper.2 small)
+  agrees names are (Apply' op shape args) proper small = operator_keeps Agrees operators_agree op (row_printed names args) (row_forms names args) proper.0 (length-row_printed names args ∙ proper.1) (row_agrees names are args _ proper.2 small)
 
-  row_agrees : (names : List NameInfo) → AreNames names → {m : _} (row : Row_of-Expr m) (kind : Kind) → AllOfKind names kind row → HaveConstants row → Rows (row_printed names row) (row_forms names row)
+  row_agrees : (names : List NameInfo) → AreNames names → {m : _} (row : Row_of-Expr m) (kind : Kind) → AllOfKind names kind row → HaveConstants row → Rows Agrees (row_printed names row) (row_forms names row)
   row_agrees names are end_of-Expr kind all small = tt
   row_agrees names are (more_of-Expr e rest) kind all small = (agrees names are e all.0 small.0, row_agrees names are rest kind all.2 small.1)
 

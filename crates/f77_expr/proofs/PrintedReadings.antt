@@ -1,15 +1,14 @@
 -- Printed expressions are read as the forms that a source has of them.
-use Rattle.std.proofs.Common.{◌≡◌, ℕ, ◌≤◌, ◌||◌, Bool, true, false, List, [], ◌∷◌, ◌++◌, length, refl, ap, subst, ◌∙◌, arith}
+use Rattle.std.proofs.Common.{◌≡◌, ℕ, ◌≤◌, ◌||◌, Bool, true, false, List, [], ◌∷◌, ◌++◌, refl, ap, subst, ◌∙◌, arith}
 use Rattle.std.specs.Prelude.{codes}
 use Rattle.op_table.specs.declared.Op.{Op}
-use Rattle.op_table.specs.declared.Op.TheVariants.{Add, Sub, Mul, Div, Pow, Neg, Lt, Le, Eq, Ne, Ge, Gt, Not, And, Or, Eqv, Neqv, Mod, Abs, Sign, Max, Min, Truth, Bound, Place, Three, Pick, Step, AddChecked, SubChecked, MulChecked, NegChecked, AbsChecked, PowChecked}
-use Rattle.op_table.specs.Operators.{arity_of}
+use Rattle.op_table.specs.declared.Op.TheVariants.{Neg, Not, Mod, Abs, Sign, Max, Min}
 use Rattle.f77_tree.specs.declared.statements.RawExpr.{RawExpr}
 use Rattle.f77_tree.specs.declared.statements.RawExpr.TheVariants.{Call, Apply}
 use Rattle.f77_tree.specs.Name.{is_name}
 use Rattle.f77_tree.specs.Grammar.{Written, Arguments, left_level, right_level, AreGrammatical, reading, readings, has_great_number, have_great_number}
-use Rattle.f77_tree.specs.Kinds.{is_written}
-use Rattle.f77_expr.specs.Printing.{Printed, Form, enclosed, and_last, not_listed, plain_form, printed_one, printed_two, printed_operator, operator_form, forms_alone, listed, printed_access, access_form, plain}
+use Rattle.f77_expr.specs.Printing.{Printed, Form, enclosed, and_last, not_listed, plain_form, printed_one, printed_two, operator_form, forms_alone, listed, printed_access, access_form}
+use Rattle.f77_expr.proofs.PrintedRows.{Rows, Keeps}
 use Rattle.f77_expr.proofs.PrintedLevels.{Writes, writes_enclosed, level-enclosed}
 
 -- arguments that are read as these, without a constant that is too great
@@ -58,13 +57,7 @@ and_last_writes arguments es w e all writes =
     let P : List RawExpr → Type 0 = λ xs. WriteAll (and_last arguments w) (xs ++ (e ∷ [])) in
     subst P all.are (one_more arguments w e all.grammatical all.constants writes)
 
-abbrev pub Rows : List Printed → List Form → Type 0
-Rows [] [] = Unit {0}
-Rows (p ∷ ps) (f ∷ fs) = Agrees p f × Rows ps fs
-Rows [] (f ∷ fs) = ⊥
-Rows (p ∷ ps) [] = ⊥
-
-listed_writes : (p : Printed) (ps : List Printed) (f : Form) (fs : List Form) → Agrees p f → Rows ps fs → WriteAll (listed p ps) (forms_alone (f ∷ fs))
+listed_writes : (p : Printed) (ps : List Printed) (f : Form) (fs : List Form) → Agrees p f → Rows Agrees ps fs → WriteAll (listed p ps) (forms_alone (f ∷ fs))
 listed_writes p [] f [] first rest = last_writes p.alone f.alone first.alone
 listed_writes p [] f (g ∷ fs) first rest = elim rest [ ]
 listed_writes p (q ∷ ps) f [] first rest = elim rest [ ]
@@ -79,7 +72,7 @@ call_writes : (name : List ℕ) (arguments : Arguments) (es : List RawExpr) → 
 call_writes name arguments es named all = record { grammatical = (named, all.grammatical); is = ap (Call name) all.are; constants = all.constants }
 
 -- a scalar, or an array element
-pub access_agrees : (name : List ℕ) (ps : List Printed) (fs : List Form) → is_name name ≡ true → Rows ps fs → Agrees (printed_access name ps) (access_form name fs)
+pub access_agrees : (name : List ℕ) (ps : List Printed) (fs : List Form) → is_name name ≡ true → Rows Agrees ps fs → Agrees (printed_access name ps) (access_form name fs)
 access_agrees name [] [] named rows = plain_agrees (Written.name name) _ (record { grammatical = named; is = refl; constants = refl })
 access_agrees name [] (f ∷ fs) named rows = elim rows [ ]
 access_agrees name (p ∷ ps) [] named rows = elim rows [ ]
@@ -135,54 +128,14 @@ min_agrees p q f g is also =
 
 -- ---- operators at their operands
 
-by_one : (op : Op) → ((p : Printed) (f : Form) → Agrees p f → Agrees (printed_one op p) (operator_form op (f ∷ []))) → (ps : List Printed) (fs : List Form) → length ps ≡ 1 → Rows ps fs → Agrees (printed_operator op ps) (operator_form op fs)
-by_one op one [] fs len rows = absurd (omega (arith, len))
-by_one op one (p ∷ []) [] len rows = elim rows [ ]
-by_one op one (p ∷ []) (f ∷ []) len rows = one p f rows.0
-by_one op one (p ∷ []) (f ∷ g ∷ fs) len rows = elim rows.1 [ ]
-by_one op one (p ∷ q ∷ ps) fs len rows = absurd (omega (arith, len))
-
-by_two : (op : Op) → ((p q : Printed) (f g : Form) → Agrees p f → Agrees q g → Agrees (printed_two op p q) (operator_form op (f ∷ g ∷ []))) → (ps : List Printed) (fs : List Form) → length ps ≡ 2 → Rows ps fs → Agrees (printed_operator op ps) (operator_form op fs)
-by_two op two [] fs len rows = absurd (omega (arith, len))
-by_two op two (p ∷ []) fs len rows = absurd (omega (arith, len))
-by_two op two (p ∷ q ∷ []) [] len rows = elim rows [ ]
-by_two op two (p ∷ q ∷ []) (f ∷ []) len rows = elim rows.1 [ ]
-by_two op two (p ∷ q ∷ []) (f ∷ g ∷ []) len rows = two p q f g rows.0 rows.1.0
-by_two op two (p ∷ q ∷ []) (f ∷ g ∷ h ∷ fs) len rows = elim rows.1.1 [ ]
-by_two op two (p ∷ q ∷ r ∷ ps) fs len rows = absurd (omega (arith, len))
-
-pub operator_agrees : (op : Op) (ps : List Printed) (fs : List Form) → is_written op ≡ true → length ps ≡ arity_of op → Rows ps fs → Agrees (printed_operator (plain op) ps) (operator_form (plain op) fs)
-operator_agrees Neg ps fs written len rows = by_one Neg minus_agrees ps fs len rows
-operator_agrees NegChecked ps fs written len rows = by_one Neg minus_agrees ps fs len rows
-operator_agrees Not ps fs written len rows = by_one Not negation_agrees ps fs len rows
-operator_agrees Abs ps fs written len rows = by_one Abs abs_agrees ps fs len rows
-operator_agrees AbsChecked ps fs written len rows = by_one Abs abs_agrees ps fs len rows
-operator_agrees Mod ps fs written len rows = by_two Mod mod_agrees ps fs len rows
-operator_agrees Sign ps fs written len rows = by_two Sign sign_agrees ps fs len rows
-operator_agrees Max ps fs written len rows = by_two Max max_agrees ps fs len rows
-operator_agrees Min ps fs written len rows = by_two Min min_agrees ps fs len rows
-operator_agrees Truth ps fs written len rows = absurd cc
-operator_agrees Bound ps fs written len rows = absurd cc
-operator_agrees Place ps fs written len rows = absurd cc
-operator_agrees Three ps fs written len rows = absurd cc
-operator_agrees Pick ps fs written len rows = absurd cc
-operator_agrees Step ps fs written len rows = absurd cc
-operator_agrees Add ps fs written len rows = by_two Add (λ p q f g. binary_agrees Add p q f g (omega arith) (omega arith)) ps fs len rows
-operator_agrees Sub ps fs written len rows = by_two Sub (λ p q f g. binary_agrees Sub p q f g (omega arith) (omega arith)) ps fs len rows
-operator_agrees Mul ps fs written len rows = by_two Mul (λ p q f g. binary_agrees Mul p q f g (omega arith) (omega arith)) ps fs len rows
-operator_agrees Div ps fs written len rows = by_two Div (λ p q f g. binary_agrees Div p q f g (omega arith) (omega arith)) ps fs len rows
-operator_agrees Pow ps fs written len rows = by_two Pow (λ p q f g. binary_agrees Pow p q f g (omega arith) (omega arith)) ps fs len rows
-operator_agrees Lt ps fs written len rows = by_two Lt (λ p q f g. binary_agrees Lt p q f g (omega arith) (omega arith)) ps fs len rows
-operator_agrees Le ps fs written len rows = by_two Le (λ p q f g. binary_agrees Le p q f g (omega arith) (omega arith)) ps fs len rows
-operator_agrees Eq ps fs written len rows = by_two Eq (λ p q f g. binary_agrees Eq p q f g (omega arith) (omega arith)) ps fs len rows
-operator_agrees Ne ps fs written len rows = by_two Ne (λ p q f g. binary_agrees Ne p q f g (omega arith) (omega arith)) ps fs len rows
-operator_agrees Ge ps fs written len rows = by_two Ge (λ p q f g. binary_agrees Ge p q f g (omega arith) (omega arith)) ps fs len rows
-operator_agrees Gt ps fs written len rows = by_two Gt (λ p q f g. binary_agrees Gt p q f g (omega arith) (omega arith)) ps fs len rows
-operator_agrees And ps fs written len rows = by_two And (λ p q f g. binary_agrees And p q f g (omega arith) (omega arith)) ps fs len rows
-operator_agrees Or ps fs written len rows = by_two Or (λ p q f g. binary_agrees Or p q f g (omega arith) (omega arith)) ps fs len rows
-operator_agrees Eqv ps fs written len rows = by_two Eqv (λ p q f g. binary_agrees Eqv p q f g (omega arith) (omega arith)) ps fs len rows
-operator_agrees Neqv ps fs written len rows = by_two Neqv (λ p q f g. binary_agrees Neqv p q f g (omega arith) (omega arith)) ps fs len rows
-operator_agrees AddChecked ps fs written len rows = by_two Add (λ p q f g. binary_agrees Add p q f g (omega arith) (omega arith)) ps fs len rows
-operator_agrees SubChecked ps fs written len rows = by_two Sub (λ p q f g. binary_agrees Sub p q f g (omega arith) (omega arith)) ps fs len rows
-operator_agrees MulChecked ps fs written len rows = by_two Mul (λ p q f g. binary_agrees Mul p q f g (omega arith) (omega arith)) ps fs len rows
-operator_agrees PowChecked ps fs written len rows = by_two Pow (λ p q f g. binary_agrees Pow p q f g (omega arith) (omega arith)) ps fs len rows
+pub operators_agree : Keeps Agrees
+operators_agree = record {
+  minus = minus_agrees;
+  negation = negation_agrees;
+  abs = abs_agrees;
+  remainder = mod_agrees;
+  sign = sign_agrees;
+  max = max_agrees;
+  min = min_agrees;
+  binary = binary_agrees;
+}

@@ -1,7 +1,7 @@
-ghost use Rattle.std.specs.Prelude.{◌≡◌, ◌<◌, ◌++◌, List, [], map, length, codes, true, All, IfOk, OnOk, OnErr};
+ghost use Rattle.std.specs.Prelude.{◌≡◌, ◌≤◌, ◌<◌, ◌++◌, List, [], map, length, codes, true, All, IfOk, OnOk, OnErr};
 ghost use Rattle.op_table.specs.Operators.{arity_of};
 ghost use Rattle.f77_tree.specs.declared.programs.NameInfo.{NameInfo};
-ghost use Rattle.f77_tree.specs.Grammar.{Arguments, Written, spelling, spellings, level, left_level as left_of, right_level as right_of};
+ghost use Rattle.f77_tree.specs.Grammar.{Arguments, IsGrammatical, Written, level, reading, spelling, spellings, left_level as left_of, right_level as right_of};
 ghost use Rattle.f77_tree.specs.Kinds.{IsProper};
 ghost use Rattle.f77_tree.specs.Name.{is_name};
 ghost use Rattle.f77_expr.specs.Appending.{Appended, BeginsWith, arguments_text, listed_in, operator_of};
@@ -26,6 +26,7 @@ pub fn print_expr(_alloc: Global, p: &Program, e: &Expr, out: &mut Vec<u8>) -> R
     ensures text { OnOk result (out.new.items ≡ out.old.items ++ printed_text p.now.names e.now) }
     ensures kept { OnErr result (BeginsWith out.new.items out.old.items) }
     ensures read { All (λ info. is_name info.name ≡ true) p.now.names → OnOk result (IsReadAs (printed_text p.now.names e.now) (raw_form p.now.names e.now)) }
+    ensures shortest { OnOk result ((w : Written) → IsGrammatical w → reading w ≡ raw_form p.now.names e.now → length (printed_text p.now.names e.now) ≤ length (spelling w)) }
 {
     print_at(0, e, &p.names, out)
 }
