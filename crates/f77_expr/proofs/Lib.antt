@@ -20,3 +20,17 @@ pub mod Lists
 pub mod Begins
 pub mod Results
 pub mod Whole
+pub mod PrintedNumbers
+pub mod PrintedLevels
+pub mod PrintedRows
+pub mod PrintedReadings
+pub mod PrintedForms
+pub mod ShortNumbers
+pub mod RawParts
+pub mod ShortTexts
+pub mod ShortOperators
+pub mod ShortForms
+pub mod Appends
+pub mod PrintedItems
+pub mod PrintedLists
+pub mod PrintedTexts

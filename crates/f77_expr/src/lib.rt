@@ -1,17 +1,24 @@
 //! Expressions of fixed-form Fortran 77, read from a text and printed (ANSI X3.9-1978, section 6).
 #![tactic(auto)]
 
+mod appending;
 mod constants;
+mod extremes;
 mod laws;
 mod operators;
 mod parse;
 mod parsed;
+mod print;
+mod printed_operators;
 mod reader;
 mod trees;
 
 pub use laws::{one_reading, piece_of_reading};
 pub use parse::parse_expr;
 pub use parsed::{ExprEnd, Parsed};
+pub use print::print_expr;
 
+#[cfg(test)]
+mod print_tests;
 #[cfg(test)]
 mod tests;

@@ -36,7 +36,7 @@ const OPERATORS: [Op; 15] = [
 ];
 
 /// How an operator between two operands is written.
-fn symbol(op: Op) -> &'static [u8]
+pub(crate) fn symbol(op: Op) -> &'static [u8]
     ensures { result.now ≡ spec_symbol op }
 {
     match op {
@@ -64,7 +64,7 @@ fn symbol(op: Op) -> &'static [u8]
 #[derive(Clone, Copy, Debug, PartialEq, Eq)]
 pub(crate) struct Levels {
     pub(crate) own: u8,
-    left: u8,
+    pub(crate) left: u8,
     pub(crate) right: u8,
 }
 
