@@ -52,7 +52,7 @@ fn level_of(e: &Expr) -> u8
     ensures { (names : List NameInfo) → IsProper names e.now → result ≡ level (printed names e.now).alone }
 {
     match e {
-        Expr::Apply(op, _) => printed_level(plain(*op)),
+        Expr::Apply(op, _) => printed_level(*op),
         _ => 8,
     }
 }

@@ -22,10 +22,11 @@ pub(crate) fn plain(op: Op) -> Op
     }
 }
 
-/// The level of a plain operator at its operands, as it is printed: a sign has the level of a sum, and a call is a primary.
+/// The level of an operator at its operands, as it is printed: a sign has the level of a sum, and a call is a primary.
 pub(crate) fn printed_level(op: Op) -> u8
-    ensures { result ≡ level_as_printed op }
+    ensures { result ≡ level_as_printed (plain_of op) }
 {
+    let op = plain(op);
     match op {
         Op::Neg => 5,
         Op::Not => 3,
