@@ -9,7 +9,7 @@ use Rattle.f77_tree.specs.Kinds.{IsProper}
 use Rattle.f77_tree.proofs.KindLemmas.{IsProper-operation, IsProper-element}
 use Rattle.f77_expr.specs.Operands.{AreOperands, AreSubscripts}
 use Rattle.f77_expr.specs.Constants.{HasConstants, HaveConstants}
-use Rattle.f77_expr.specs.Printing.{plain, name_at, printed, row_printed, printed_operator, printed_access}
+use Rattle.f77_expr.specs.Printing.{plain, name_at, printed, row_printed, printed_operator, printed_access, form, row_forms, operator_form, access_form}
 
 abbrev row_of : Expr → (n : Count) × Row_of-Expr n
 row_of (Read' _ _ row) = (_, row)
@@ -31,6 +31,24 @@ pub printed-Read : (names : List NameInfo) (access : Access) → printed names (
 printed-Read names access =
     let row = row_of (Read access) in
     ap (printed_access (name_at names access.name)) (row_printed-items names row.0 row.1 ∙ ap (map (printed names)) (items_hidden-the_row-Expr-0 access.subs))
+
+-- ---- forms
+
+row_forms-items : (names : List NameInfo) (n : _) (row : Row_of-Expr n) → row_forms names row ≡ map (form names) (items-the_row-Expr n row)
+row_forms-items names n end_of-Expr = refl
+row_forms-items names n (more_of-Expr e rest) = ap (λ fs. form names e ∷ fs) (row_forms-items names _ rest)
+
+-- the form of an operator, over the list of its operands
+pub form-Apply : (names : List NameInfo) (op : Op) (args : List Expr) → form names (Apply op args) ≡ operator_form (plain op) (map (form names) args)
+form-Apply names op args =
+    let row = row_of (Apply op args) in
+    ap (operator_form (plain op)) (row_forms-items names row.0 row.1 ∙ ap (map (form names)) (items_hidden-the_row-Expr-0 args))
+
+-- the form of an access, over the list of its subscripts
+pub form-Read : (names : List NameInfo) (access : Access) → form names (Read access) ≡ access_form (name_at names access.name) (map (form names) access.subs)
+form-Read names access =
+    let row = row_of (Read access) in
+    ap (access_form (name_at names access.name)) (row_forms-items names row.0 row.1 ∙ ap (map (form names)) (items_hidden-the_row-Expr-0 access.subs))
 
 -- ---- constants
 
