@@ -1,7 +1,7 @@
 ghost use Rattle.std.specs.Prelude.{◌≡◌, ◌<◌, ◌≤◌, drop, length};
 ghost use Rattle.f77_expr.specs.Piece.{piece as spec_piece, bracket_depth, open_after as spec_open_after, ends_piece as spec_ends_piece};
 ghost use Rattle.f77_expr.specs.Parsing.{IsParsed};
-ghost use Rattle.f77_expr.specs.Scanning.{is_open};
+ghost use Rattle.f77_expr.specs.Scanning.{what_is_open};
 
 use crate::reader::read_piece;
 use crate::{ExprEnd, Parsed};
@@ -28,7 +28,7 @@ struct Piece<'a> {
 /// What is open after a character. A closing bracket where none is open changes nothing.
 fn open_after(state: Open, c: u8) -> Open
     requires { state.brackets < 18446744073709551615 }
-    ensures { is_open result ≡ spec_open_after (is_open state) c }
+    ensures { what_is_open result ≡ spec_open_after (what_is_open state) c }
 {
     if c == b'\'' {
         return Open {
@@ -52,7 +52,7 @@ fn open_after(state: Open, c: u8) -> Open
 
 /// Whether a character ends the piece: a comma, a closing bracket, an equals sign or a colon, where nothing is open.
 fn ends_piece(state: Open, c: u8) -> bool
-    ensures { result ≡ spec_ends_piece (is_open state) c }
+    ensures { result ≡ spec_ends_piece (what_is_open state) c }
 {
     !state.is_quoted && state.brackets == 0 && matches!(c, b',' | b')' | b'=' | b':')
 }

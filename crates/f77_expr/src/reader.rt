@@ -1,5 +1,5 @@
 //! A reader of expressions by descent over the levels of the grammar (ANSI X3.9-1978, section 6). It never goes back, so
-//! its time is linear in the text, and calls are nested only as deep as brackets, arguments and chains of `**` are.
+//! its time is linear in the text, and its calls are nested only as deep as brackets and chains of `**` are.
 
 ghost use Rattle.std.specs.Prelude.{◌≡◌, ◌||◌, ◌<◌, length, drop, take_while, false, true, MatchBool, MatchOption};
 ghost use Rattle.f77_tree.specs.Name.{is_figure, is_name};
@@ -173,7 +173,7 @@ impl<'a> Reader<'a> {
     #[cycle(descent)]
     fn bracketed(&mut self, alloc: Global) -> Result<RawExpr, ExprEnd>
         requires room { length self.old.rest.now < 4294967296 }
-        ensures { Answers (λ e. IsRead self.old.rest.now self.old.has_great (and_then_read (λ w rest. closed (Written.bracketed w) rest) (expression_at 0 self.old.rest.now)) e self.new.rest.now self.new.has_great) (and_then_read (λ w rest. closed (Written.bracketed w) rest) (expression_at 0 self.old.rest.now) ≡ None) result }
+        ensures { let read = and_then_read (λ w rest. closed (Written.bracketed w) rest) (expression_at 0 self.old.rest.now) in Answers (λ e. IsRead self.old.rest.now self.old.has_great read e self.new.rest.now self.new.has_great) (read ≡ None) result }
     {
         let expr = self.expression(alloc, 0)?;
         if self.passes(b')') {
