@@ -2,7 +2,9 @@
 #![tactic(auto)]
 
 mod laws;
+mod ready_set;
 mod system;
 
 pub use laws::{every_order, every_order_follows};
+pub use ready_set::ReadySet;
 pub use system::{Fired, NodeName, StepSystem};
