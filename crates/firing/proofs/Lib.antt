@@ -1,6 +1,7 @@
 pub mod CountLemmas
 pub mod Counting
 pub mod Example
+pub mod MarkLemmas
 pub mod Pacing
 pub mod Pulling
 pub mod RankLemmas
