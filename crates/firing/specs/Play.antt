@@ -1,10 +1,10 @@
 -- Runs of a step system, firing by firing: which node fires each time, what is shown, and why a run ends.
 use Rattle.std.specs.Prelude.{◌≡◌, ◌≤◌, ◌<◌, ◌%◌, ℕ, zero, suc, if◌then◌else◌, List, [], ◌∷◌, ◌++◌, length, take, slice_index, Option, Some, None}
 use Rattle.std.specs.Io.KnownBytes.{Appends}
-use Rattle.firing.specs.declared.play.PlayEnd.{PlayEnd}
-use Rattle.firing.specs.declared.play.PlayEnd.TheVariants.{Rest, Trapped, Limit, WriteFault}
-use Rattle.firing.specs.declared.play.Show.{Show}
-use Rattle.firing.specs.declared.play.Show.TheVariants.{Output, Nodes, Nothing}
+use Rattle.firing.specs.declared.playing.PlayEnd.{PlayEnd}
+use Rattle.firing.specs.declared.playing.PlayEnd.TheVariants.{Rest, Trapped, Limit, WriteFault}
+use Rattle.firing.specs.declared.playing.Show.{Show}
+use Rattle.firing.specs.declared.playing.Show.TheVariants.{Output, Nodes, Nothing}
 use Rattle.firing.specs.Moves.{Moves, CanFire, line_bytes}
 use Rattle.firing.specs.NameLine.{name_line}
 use Rattle.firing.specs.Orders.{IsOver}
@@ -13,6 +13,9 @@ use Rattle.firing.specs.Orders.{IsOver}
 pub record Moment (M C : Type 0) : Type 0 where
   pub marking : M
   pub control : C
+
+abbrev pub moment : {M C : Type 0} → M → C → Moment M C
+moment m c = record { marking = m; control = c }
 
 -- A way of playing: what firings do, and which node the firing of this number is of.
 pub record Way (M C : Type 0) : Type 0 where
@@ -48,7 +51,7 @@ by_order s steered due = record { moves = s; steered = steered; choice = λ i no
 
 -- the moment after a firing
 abbrev pub next : {M C : Type 0} → Way M C → Moment M C → ℕ → Moment M C
-next w now k = record { marking = w.moves.fired now.marking k; control = w.steered now.marking now.control k }
+next w now k = moment (w.moves.fired now.marking k) (w.steered now.marking now.control k)
 
 -- the moment after n firings
 abbrev pub played : {M C : Type 0} → Way M C → Moment M C → ℕ → Moment M C

@@ -4,12 +4,14 @@
 mod laws;
 mod marks;
 mod name_line;
-mod play;
+mod playing;
 mod ready_set;
+mod source_order;
 mod step;
 mod system;
 
 pub use laws::{every_order, every_order_follows};
-pub use play::{PlayEnd, Show};
+pub use playing::{PlayEnd, Show, play};
 pub use ready_set::ReadySet;
+pub use source_order::{SourceOrder, follow};
 pub use system::{Fired, NodeName, StepSystem};
