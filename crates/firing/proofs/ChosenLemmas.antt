@@ -1,5 +1,5 @@
 -- The ready node at a place, and the marked one.
-use Rattle.std.proofs.Common.{◌≡◌, ◌≢◌, ℕ, zero, suc, ◌+◌, ◌%◌, ◌<◌, ◌≤◌, ◌++◌, Bool, true, false, if◌then◌else◌, List, [], ◌∷◌, length, get_or, None, refl, sym, ap, subst, ◌∙◌, ⊎_elim, add-one, length-append, append-nil, arith}
+use Rattle.std.proofs.Common.{◌≡◌, ◌≢◌, ℕ, zero, suc, ◌+◌, ◌%◌, ◌<◌, ◌≤◌, ◌++◌, Bool, true, false, if◌then◌else◌, List, [], ◌∷◌, length, get_or, None, refl, sym, ap, subst, ◌∙◌, ⊎_elim, length-append, append-nil, arith}
 use Rattle.std.proofs.lemmas.Bool.{cases_eq, cases_Bool}
 use Rattle.std.proofs.lemmas.List.{get_or_push, get_or_append_left}
 use Rattle.std.specs.List.{Contains}
@@ -92,12 +92,12 @@ module _ {M : Type 0} (sound : M → Type 0) (s : Moves M) (lawful : IsLawful so
   marks_next old new are tested fired = record {
     room = tested.same_room ∙ are.room;
     right = λ j node. ⊎_elim
-    (λ (same : j ≡ k). subst (λ i. has new i ≡ s.ready (s.fired m k) i) (sym same) fired)
-    (λ differ. ⊎_elim
-    (λ kept. as_before j (has new j) node differ (kept ∙ are.right j node) (tested.right j))
-    (λ right. right)
-    (tested.either j))
-    (cases_eq j k);
+        (λ (same : j ≡ k). subst (λ i. has new i ≡ s.ready (s.fired m k) i) (sym same) fired)
+        (λ differ. ⊎_elim
+        (λ kept. as_before j (has new j) node differ (kept ∙ are.right j node) (tested.right j))
+        (λ right. right)
+        (tested.either j))
+        (cases_eq j k);
   }
 
 -- the same of what a system with an equal net tells, before and after it was tested

@@ -5,8 +5,8 @@ use Rattle.std.proofs.lemmas.List.{length-replicate, get_or_default, get_or_past
 use Rattle.std.proofs.Math.Nat.{mul-suc, mul-zero, mul-le-mul_left, mul-le-mul_right}
 use mathlib.Core.Bool.{beq}
 use Rattle.firing.specs.BlockCounts.{AreCounts, IsCounted, before, shifted}
-use Rattle.firing.specs.ReadySet.{IsMemberAt, has, rank, member_count}
-use Rattle.firing.proofs.RankLemmas.{HasOneMore, rank_past, rank_grows, rank_slow, rank_member, rank_short, rank_before, rank_after, rank_empty, more_put, more_taken}
+use Rattle.firing.specs.ReadySet.{has, rank, member_count}
+use Rattle.firing.proofs.RankLemmas.{HasOneMore, rank_past, rank_slow, rank_member, rank_short, rank_before, rank_after, rank_empty, more_put, more_taken}
 
 -- ---- sums of counts
 

@@ -1,13 +1,10 @@
 -- Marks that are set one by one, and after a firing.
-use Rattle.std.proofs.Common.{◌≡◌, ◌≢◌, ◌⊎◌, inl, inr, ℕ, zero, suc, ◌+◌, ◌<◌, ◌≤◌, Bool, true, false, List, length, get_or, set, None, refl, sym, ap, subst, ◌∙◌, ⊎_elim, arith, length-set}
-use Rattle.std.proofs.lemmas.Bool.{cases_eq, cases_Bool}
+use Rattle.std.proofs.Common.{◌≡◌, ◌⊎◌, inl, inr, ℕ, ◌+◌, ◌<◌, ◌≤◌, Bool, false, List, length, get_or, set, sym, ap, subst, ◌∙◌, ⊎_elim, arith, length-set}
+use Rattle.std.proofs.lemmas.Bool.{cases_eq}
 use Rattle.std.proofs.lemmas.List.{get_or_default, get_or-set_same, get_or-set_other}
-use Rattle.std.specs.List.{Contains}
-use Rattle.firing.specs.Laws.{IsLawful}
-use Rattle.firing.specs.Marks.{AreReadyMarks, Retested, Wakes}
-use Rattle.firing.specs.Moves.{Moves, CanFire}
+use Rattle.firing.specs.Marks.{AreReadyMarks, Retested}
+use Rattle.firing.specs.Moves.{Moves}
 use Rattle.firing.specs.ReadySet.{has}
-use Rattle.firing.proofs.Pulling.{are_ready}
 
 module _ {M : Type 0} (s : Moves M) (m : M) where
   -- the marks below n
@@ -40,9 +37,9 @@ module _ {M : Type 0} (s : Moves M) (m : M) where
       record {
         room = set_room old new k is ∙ below.room;
         right = λ j lt. ⊎_elim
-        (λ (same : j ≡ k). subst (λ i. has new i ≡ s.ready m i) (sym same) (set_here old new k inside is))
-        (λ differ. set_keeps old new k inside is j (below.right j (omega (arith, lt, differ))))
-        (cases_eq j k);
+            (λ (same : j ≡ k). subst (λ i. has new i ≡ s.ready m i) (sym same) (set_here old new k inside is))
+            (λ differ. set_keeps old new k inside is j (below.right j (omega (arith, lt, differ))))
+            (cases_eq j k);
       }
 
   pub below_all : (n : ℕ) (marks : List Bool) → s.nodes ≤ n → RightBelow n marks → AreReadyMarks s m marks
@@ -67,15 +64,15 @@ module _ {M : Type 0} (s : Moves M) (m : M) where
   retested_next nodes i k j old mid new before at inside is = record {
     same_room = set_room mid new j is ∙ before.same_room;
     either = λ x. ⊎_elim
-    (λ kept. ⊎_elim (λ was. inl (kept ∙ was)) (λ right. inr (kept ∙ right)) (before.either x))
-    (λ right. inr right)
-    (set_either mid new j inside is x);
+        (λ kept. ⊎_elim (λ was. inl (kept ∙ was)) (λ right. inr (kept ∙ right)) (before.either x))
+        (λ right. inr right)
+        (set_either mid new j inside is x);
     right = λ p lt. ⊎_elim
-    (λ (same : p ≡ i).
-    let there : j ≡ get_or nodes p 0 = at ∙ ap (λ q. get_or nodes q 0) (sym same) in
-    subst (λ x. has new x ≡ s.ready m x) there (set_here mid new j inside is))
-    (λ differ. set_keeps mid new j inside is (get_or nodes p 0) (before.right p (omega (arith, lt, differ))))
-    (cases_eq p i);
+        (λ (same : p ≡ i).
+        let there : j ≡ get_or nodes p 0 = at ∙ ap (λ q. get_or nodes q 0) (sym same) in
+        subst (λ x. has new x ≡ s.ready m x) there (set_here mid new j inside is))
+        (λ differ. set_keeps mid new j inside is (get_or nodes p 0) (before.right p (omega (arith, lt, differ))))
+        (cases_eq p i);
     fired = set_keeps mid new j inside is k before.fired;
   }
 
@@ -84,8 +81,8 @@ module _ {M : Type 0} (s : Moves M) (m : M) where
     same_room = to.same_room;
     either = to.either;
     right = λ j (p, lt, is).
-    let there : get_or nodes p 0 ≡ j = get_or_default nodes p 0 j lt ∙ is in
-    subst (λ x. has new x ≡ s.ready m x) there (to.right p (omega (arith, lt, le)));
+        let there : get_or nodes p 0 ≡ j = get_or_default nodes p 0 j lt ∙ is in
+        subst (λ x. has new x ≡ s.ready m x) there (to.right p (omega (arith, lt, le)));
   }
 
 -- a mark that was set by an equal net and marking

@@ -1,5 +1,5 @@
 -- Runs, one firing after another.
-use Rattle.std.proofs.Common.{◌≡◌, ◌≢◌, ℕ, zero, suc, ◌+◌, ◌<◌, ◌≤◌, ◌++◌, List, [], ◌∷◌, length, take, Option, Some, None, refl, sym, ap, subst, ◌∙◌, ⊎_elim, add-one, length-append, arith}
+use Rattle.std.proofs.Common.{◌≡◌, ℕ, zero, suc, ◌+◌, ◌<◌, ◌≤◌, ◌++◌, List, [], ◌∷◌, length, take, Option, Some, None, refl, sym, ap, subst, ◌∙◌, ⊎_elim, add-one, length-append, arith}
 use Rattle.std.proofs.lemmas.Bool.{cases_eq}
 use Rattle.std.proofs.KnownBytes.{Appends-nil, Appends-trans}
 use Rattle.std.specs.Io.KnownBytes.{Appends}
@@ -9,8 +9,8 @@ use Rattle.firing.specs.declared.playing.PlayEnd.TheVariants.{Rest, Trapped, Lim
 use Rattle.firing.specs.declared.playing.Show.{Show}
 use Rattle.firing.specs.Laws.{IsLawful}
 use Rattle.firing.specs.Moves.{Moves, CanFire}
-use Rattle.firing.specs.Orders.{IsOrder, IsOver, IsWhole, Settles, Traps, after}
-use Rattle.firing.specs.Play.{Moment, Way, moment, next, played, node_at, shown_of, shown_at, shown, BreaksOff, Plays}
+use Rattle.firing.specs.Orders.{IsOrder, IsOver, Settles, Traps, after}
+use Rattle.firing.specs.Play.{Moment, Way, moment, next, played, node_at, shown_of, shown_at, shown, Plays}
 use Rattle.firing.proofs.Resting.{settles}
 use Rattle.firing.proofs.Trapping.{traps}
 
@@ -115,13 +115,13 @@ module _ {M C : Type 0} (w : Way M C) (start : Moment M C) where
       writes = run.written;
     }
 
-    pub run_traps : (trap : Trap) (line : ℕ) → w.moves.trap now.marking ≡ Some (trap , line) → Plays w start limit show now old mid (Trapped trap line)
+    pub run_traps : (trap : Trap) (line : ℕ) → w.moves.trap now.marking ≡ Some (trap, line) → Plays w start limit show now old mid (Trapped trap line)
     run_traps trap line is = record {
       firings = made;
       leads = run.leads;
       going = run.going;
       bounded = run.bounded;
-      ends = subst (λ (x : Moment M C). w.moves.trap x.marking ≡ Some (trap , line)) run.leads is;
+      ends = subst (λ (x : Moment M C). w.moves.trap x.marking ≡ Some (trap, line)) run.leads is;
       writes = run.written;
     }
 
@@ -170,3 +170,6 @@ moment_told moves steered net other m then c later k same first second =
 
 pub same_moment : {M C : Type 0} (m then : M) (c later : C) → then ≡ m → later ≡ c → moment then later ≡ moment m c
 same_moment m then c later first second = ap (λ x. moment x later) first ∙ ap (λ x. moment m x) second
+
+pub due_told : {N M C : Type 0} (due : N → M → C → Option ℕ) (net other : N) (m : M) (c : C) (told : Option ℕ) → other ≡ net → told ≡ due other m c → due net m c ≡ told
+due_told due net other m c told same is = ap (λ n. due n m c) (sym same) ∙ sym is

@@ -1,11 +1,9 @@
 -- Ranks in sets that are kept as flags, and counts of their members by blocks.
-use Rattle.std.proofs.Common.{◌≡◌, ◌≢◌, ℕ, zero, suc, ◌+◌, ◌-◌, ◌*◌, ◌<◌, ◌≤◌, Bool, true, false, List, length, get_or, set, replicate, refl, sym, ap, subst, ◌∙◌, ⊎_elim, add-one, arith, length-set}
-use Rattle.std.proofs.lemmas.Bool.{cases_eq, cases_Bool, cases_lt}
+use Rattle.std.proofs.Common.{◌≡◌, ◌≢◌, ℕ, zero, suc, ◌+◌, ◌<◌, ◌≤◌, Bool, true, false, List, length, set, replicate, refl, sym, ap, subst, ◌∙◌, ⊎_elim, arith, length-set}
+use Rattle.std.proofs.lemmas.Bool.{cases_eq, cases_lt}
 use Rattle.std.proofs.lemmas.List.{get_or_past, get_or-set_same, get_or-set_other}
-use Rattle.std.proofs.Math.Nat.{mul-suc, mul-le-mul_left, lt_of_mul-lt-mul_left}
-use Rattle.firing.specs.BlockCounts.{AreCounts, IsCounted, before, shifted}
 use Rattle.firing.specs.Orders.{counted}
-use Rattle.firing.specs.ReadySet.{IsMemberAt, has, rank, member_count}
+use Rattle.firing.specs.ReadySet.{has, rank, member_count}
 
 -- ---- ranks
 

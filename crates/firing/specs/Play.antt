@@ -82,7 +82,7 @@ shown w show start (suc n) = shown w show start n ++ shown_at w show start n
 -- why a run ends after n firings
 abbrev pub EndsBy : {M C : Type 0} → Way M C → Moment M C → (limit n : ℕ) → PlayEnd → Type 0
 EndsBy w start limit n (Rest count) = (count ≡ n) × (w.moves.trap (played w start n).marking ≡ None) × IsOver w.moves (played w start n).marking
-EndsBy w start limit n (Trapped trap line) = w.moves.trap (played w start n).marking ≡ Some (trap , line)
+EndsBy w start limit n (Trapped trap line) = w.moves.trap (played w start n).marking ≡ Some (trap, line)
 EndsBy w start limit n Limit = (n ≡ limit) × CanFire w.moves (played w start n).marking (node_at w start n)
 EndsBy w start limit n (WriteFault count) = count ≡ n
 

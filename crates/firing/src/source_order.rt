@@ -1,4 +1,4 @@
-ghost use Rattle.std.specs.Prelude.{◌≡◌, ◌≤◌, ℕ, Option, None};
+ghost use Rattle.std.specs.Prelude.{◌≡◌, ◌≤◌, ℕ, None};
 ghost use Rattle.df_io.specs.Faults.{Rose};
 ghost use Rattle.op_table.specs.declared.Trap.{Trap};
 ghost use Rattle.firing.specs.Orders.{Settles, Traps};
@@ -11,33 +11,21 @@ use df_io::{Sink, WriteFault};
 
 /// A step system with the order in which the source itself fires its nodes.
 pub trait SourceOrder: StepSystem {
-    /// Holds of a marking and the control that can stand beside it.
-    ghost in_step: { Self.Net → Self.Marking → Self.Control → Type 0 };
-
-    /// The node that the source's order fires next. After a firing of another node than the one due it is the lowest
-    /// ready node.
-    ghost due_node: { Self.Net → Self.Marking → Self.Control → Option ℕ };
-
     /// The node that the source's order fires next, or none exactly where no node is ready. Nothing has trapped.
     fn due(&self) -> Option<u32>
         requires going { (Self.moves (Self.net self.now)).trap (Self.marking self.now) ≡ None }
         requires sound { Self.sound (Self.net self.now) (Self.marking self.now) }
-        requires in_step { in_step (Self.net self.now) (Self.marking self.now) (Self.control self.now) }
-        ensures { result ≡ due_node (Self.net self.now) (Self.marking self.now) (Self.control self.now) };
+        requires in_step { Self.in_step (Self.net self.now) (Self.marking self.now) (Self.control self.now) }
+        ensures { result ≡ Self.due_node (Self.net self.now) (Self.marking self.now) (Self.control self.now) };
 
     /// A node that is due can fire, and where none is due none can.
-    ghost ordered: { (net : Self.Net) → IsSourceOrder (Self.sound net) (Self.moves net) (Self.steered net) (in_step net) (due_node net) };
+    ghost ordered: { (net : Self.Net) → IsSourceOrder (Self.sound net) (Self.moves net) (Self.steered net) (Self.in_step net) (Self.due_node net) };
 }
 
 /// Fires the node that is due, again and again, up to a stop or `limit` firings.
 ///
 /// A trap, a rest and the limit are looked for in this order before each firing. It takes no memory.
-pub fn follow<S: SourceOrder, K: Sink>(
-    sys: &mut S,
-    limit: u64,
-    show: Show,
-    sink: &mut K,
-) -> PlayEnd
+pub fn follow<S: SourceOrder, K: Sink>(sys: &mut S, limit: u64, show: Show, sink: &mut K) -> PlayEnd
     requires sound { S.sound (S.net sys.old) (S.marking sys.old) }
     requires in_step { S.in_step (S.net sys.old) (S.marking sys.old) (S.control sys.old) }
 

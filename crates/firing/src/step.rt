@@ -40,11 +40,7 @@ pub fn step<S: StepSystem, K: Sink>(
 }
 
 // Writes the line of a firing that wrote one.
-fn write_line<S: StepSystem, K: Sink>(
-    sys: &S,
-    fired: Fired,
-    sink: &mut K,
-) -> Result<(), WriteFault>
+fn write_line<S: StepSystem, K: Sink>(sys: &S, fired: Fired, sink: &mut K) -> Result<(), WriteFault>
     ensures all { OnOk result (Appends (K.got sink.old) (K.got sink.new) (line_after fired (S.last sys.now))) }
     ensures front { OnErr result (AppendsFront (K.got sink.old) (K.got sink.new) (line_after fired (S.last sys.now))) }
     ensures later { K.faults sink.old ≤ K.faults sink.new }

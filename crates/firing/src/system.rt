@@ -1,4 +1,4 @@
-ghost use Rattle.std.specs.Prelude.{◌≡◌, ◌<◌, ℕ, Bool, List, None, true, length, set, All};
+ghost use Rattle.std.specs.Prelude.{◌≡◌, ◌<◌, ℕ, Bool, List, Option, None, true, length, set};
 ghost use Rattle.firing.specs.Laws.{IsLawful};
 ghost use Rattle.firing.specs.Marks.{Wakes};
 ghost use Rattle.firing.specs.Moves.{Moves, FiredIs, newest};
@@ -68,6 +68,13 @@ pub trait StepSystem {
 
     /// The control after a node fires.
     ghost steered: { Self.Net → Self.Marking → Self.Control → ℕ → Self.Control };
+
+    /// Holds of a marking and the control that can stand beside it. Only a `SourceOrder` is asked for more than anything.
+    ghost in_step: { Self.Net → Self.Marking → Self.Control → Type 0 };
+
+    /// The node that the source's own order fires next. After a firing of another node than the one due it is the lowest
+    /// ready node. Only a `SourceOrder` is asked for more than none.
+    ghost due_node: { Self.Net → Self.Marking → Self.Control → Option ℕ };
 
     /// How many nodes there are. The marked ones are among them.
     fn nodes(&self) -> u32

@@ -1,4 +1,4 @@
-use Rattle.std.proofs.Common.{◌≡◌, ◌∙◌, arith}
+use Rattle.std.proofs.Common.{◌∙◌, arith}
 use Rattle.firing.proofs.MarkLemmas.{below_next, below_all, same_mark}
 use Rattle.firing.proofs.marks.mark_ready.Goals as goal
 

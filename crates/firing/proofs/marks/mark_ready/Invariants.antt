@@ -1,5 +1,4 @@
-use Rattle.std.proofs.Common.{◌≡◌, ◌<◌, length, ℕ}
-use Rattle.firing.specs.ReadySet.{has}
+use Rattle.std.proofs.Common.{◌≡◌}
 use Rattle.firing.proofs.MarkLemmas.{RightBelow}
 use Rattle.firing.proofs.marks.mark_ready.Given as goal
 

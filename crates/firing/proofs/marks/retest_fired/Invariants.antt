@@ -1,4 +1,4 @@
-use Rattle.std.proofs.Common.{◌≡◌, ◌<◌, length, ℕ}
+use Rattle.std.proofs.Common.{◌≡◌, length}
 use Rattle.firing.proofs.MarkLemmas.{RetestedTo}
 use Rattle.firing.proofs.marks.retest_fired.Given as goal
 

@@ -1,11 +1,9 @@
-use Rattle.std.proofs.Common.{◌≡◌, ◌+◌, ◌%◌, ◌<◌, ◌≤◌, ℕ, length, slice_index, Some, None, sym, ap, subst, ◌∙◌, rules, arith}
-use Rattle.op_table.specs.declared.Trap.{Trap}
-use Rattle.firing.specs.Marks.{AreReadyMarks, Retested, Wakes}
+use Rattle.std.proofs.Common.{◌≡◌, ◌%◌, ◌<◌, length, slice_index, Some, None, sym, ap, subst, ◌∙◌, rules, arith}
 use Rattle.firing.specs.Orders.{Settles}
-use Rattle.firing.specs.Play.{by_picks, moment, shown_of}
-use Rattle.firing.specs.ReadySet.{IsMemberAt, has, member_count}
+use Rattle.firing.specs.Play.{by_picks, moment}
+use Rattle.firing.specs.ReadySet.{IsMemberAt, member_count}
 use Rattle.firing.proofs.ChosenLemmas.{marked_chosen, marked_fires, none_marked, marks_told}
-use Rattle.firing.proofs.PlayLemmas.{Running, run_on, run_breaks, run_rests, run_traps, run_stops, run_settles, run_trapped, trap_told, moment_told, same_moment, appends_told, front_told}
+use Rattle.firing.proofs.PlayLemmas.{run_on, run_breaks, run_rests, run_stops, run_settles, run_trapped, trap_told, moment_told, same_moment, appends_told, front_told}
 use Rattle.firing.proofs.playing.play.Goals as goal
 
 pub returns-in-Some-clause-traps : goal.returns-in-Some-clause-traps
@@ -21,10 +19,10 @@ returns-in-Some-clause-traps g c =
     let old = g.K.Sink.got c.args.sink.now in
     let mid = g.K.Sink.got c.firing.sink in
     let made = c.firing.made in
-    let trapped : s.trap m ≡ Some (c.in-Some.trap , c.in-Some.line) = trap_told y.moves net (y.net c.firing.sys) kept.net m (Some (c.in-Some.trap , c.in-Some.line)) (search rules) in
+    let trapped : s.trap m ≡ Some (c.in-Some.trap, c.in-Some.line) = trap_told y.moves net (y.net c.firing.sys) kept.net m (Some (c.in-Some.trap, c.in-Some.line)) (search rules) in
     λ trap line is.
-    let same : (c.in-Some.trap , c.in-Some.line) ≡ (trap , line) = cc in
-    run_trapped w start now c.args.limit c.args.show made old mid kept.run (y.sound net) (g.met.S.StepSystem.lawful net) c.requires.sound (trap , line) (trapped ∙ ap Some same)
+    let same : (c.in-Some.trap, c.in-Some.line) ≡ (trap, line) = cc in
+    run_trapped w start now c.args.limit c.args.show made old mid kept.run (y.sound net) (g.met.S.StepSystem.lawful net) c.requires.sound (trap, line) (trapped ∙ ap Some same)
 
 pub returns-then-ready-eq0-clause-plays : goal.returns-then-ready-eq0-clause-plays
 returns-then-ready-eq0-clause-plays g c =

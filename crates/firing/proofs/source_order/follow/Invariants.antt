@@ -11,8 +11,8 @@ invariant-firing g l =
     record {
       net : y.net l.sys ≡ fixed;
       sound : y.sound fixed (y.marking l.sys);
-      in_step : g.S.SourceOrder.in_step fixed (y.marking l.sys) (y.control l.sys);
-      run : Running (by_order (y.moves fixed) (y.steered fixed) (g.S.SourceOrder.due_node fixed)) (moment (y.marking l.fn.sys) (y.control l.fn.sys)) now l.limit l.show l.made (g.K.Sink.got l.fn.sink) (g.K.Sink.got l.sink);
+      in_step : y.in_step fixed (y.marking l.sys) (y.control l.sys);
+      run : Running (by_order (y.moves fixed) (y.steered fixed) (y.due_node fixed)) (moment (y.marking l.fn.sys) (y.control l.fn.sys)) now l.limit l.show l.made (g.K.Sink.got l.fn.sink) (g.K.Sink.got l.sink);
       later : g.K.Sink.faults l.fn.sink ≤ g.K.Sink.faults l.sink;
     }
 

@@ -1,6 +1,6 @@
-use Rattle.std.proofs.Common.{◌≡◌, ◌+◌, ◌*◌, ◌<◌, ℕ, List, Bool, subst, sym, ap, ◌∙◌, arith}
+use Rattle.std.proofs.Common.{◌<◌, subst, sym, ◌∙◌, arith}
 use Rattle.firing.specs.ReadySet.{IsMemberAt, member_count}
-use Rattle.firing.proofs.CountLemmas.{starts, continues, ends, Continues, Ends}
+use Rattle.firing.proofs.CountLemmas.{starts, continues, ends}
 use Rattle.firing.proofs.ready_set.ReadySet.at.Goals as goal
 
 pub scan-high-requires-clause-some : goal.scan-high-requires-clause-some

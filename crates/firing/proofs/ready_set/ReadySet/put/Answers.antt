@@ -1,4 +1,4 @@
-use Rattle.std.proofs.Common.{◌≡◌, ◌/◌, ℕ, get_or, set, ap, subst, arith}
+use Rattle.std.proofs.Common.{◌/◌, ℕ, get_or, set, ap, subst, arith}
 use Rattle.firing.specs.BlockCounts.{IsCounted, shifted}
 use Rattle.firing.proofs.CountLemmas.{all_put, changes, come_fits, go_some, total_fits, total_some}
 use Rattle.firing.proofs.ready_set.ReadySet.put.Goals as goal

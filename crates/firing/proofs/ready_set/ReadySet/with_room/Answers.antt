@@ -1,4 +1,4 @@
-use Rattle.std.proofs.Common.{◌≡◌, ◌/◌, arith}
+use Rattle.std.proofs.Common.{arith}
 use Rattle.firing.proofs.CountLemmas.{empty_counted}
 use Rattle.firing.proofs.ready_set.ReadySet.with_room.Goals as goal
 
