@@ -69,11 +69,11 @@ pub trait StepSystem {
     /// The control after a node fires.
     ghost steered: { Self.Net → Self.Marking → Self.Control → ℕ → Self.Control };
 
-    /// Holds of a marking and the control that can stand beside it. Only a `SourceOrder` is asked for more than anything.
+    /// Holds of a marking and the control that can stand beside it: of any two, where the system has no order of its own.
     ghost in_step: { Self.Net → Self.Marking → Self.Control → Type 0 };
 
     /// The node that the source's own order fires next. After a firing of another node than the one due it is the lowest
-    /// ready node. Only a `SourceOrder` is asked for more than none.
+    /// ready node. A system without an order of its own has none.
     ghost due_node: { Self.Net → Self.Marking → Self.Control → Option ℕ };
 
     /// How many nodes there are. The marked ones are among them.
