@@ -1,16 +1,19 @@
 -- Runs, one firing after another.
-use Rattle.std.proofs.Common.{◌≡◌, ℕ, zero, suc, ◌+◌, ◌<◌, ◌≤◌, ◌++◌, List, [], ◌∷◌, length, take, Option, Some, None, refl, sym, ap, subst, ◌∙◌, ⊎_elim, add-one, length-append, arith}
+use Rattle.std.proofs.Common.{◌≡◌, ℕ, zero, suc, ◌+◌, ◌<◌, ◌≤◌, ◌++◌, List, [], ◌∷◌, length, take, Option, Some, None, refl, sym, ap, subst, ◌∙◌, ⊎_elim, add-one, length-append, append-nil, append_assoc, arith}
 use Rattle.std.proofs.lemmas.Bool.{cases_eq}
+use Rattle.std.proofs.Math.Seq.{take-append-add}
 use Rattle.std.proofs.KnownBytes.{Appends-nil, Appends-trans}
 use Rattle.std.specs.Io.KnownBytes.{Appends}
 use Rattle.df_io.specs.Write.{AppendsFront}
 use Rattle.op_table.specs.declared.Trap.{Trap}
+use Rattle.firing.specs.declared.playing.PlayEnd.{PlayEnd}
 use Rattle.firing.specs.declared.playing.PlayEnd.TheVariants.{Rest, Trapped, Limit, WriteFault}
 use Rattle.firing.specs.declared.playing.Show.{Show}
+use Rattle.firing.specs.declared.playing.Show.TheVariants.{Output, Nodes, Nothing}
 use Rattle.firing.specs.Laws.{IsLawful}
-use Rattle.firing.specs.Moves.{Moves, CanFire}
+use Rattle.firing.specs.Moves.{Moves, CanFire, line_bytes}
 use Rattle.firing.specs.Orders.{IsOrder, IsOver, Settles, Traps, after}
-use Rattle.firing.specs.Play.{Moment, Way, moment, next, played, node_at, shown_of, shown_at, shown, Plays}
+use Rattle.firing.specs.Play.{Moment, Way, moment, next, played, node_at, shown_of, shown_at, shown, BreaksOff, Writes, WritesOutput, MakesOrder, Plays}
 use Rattle.firing.proofs.Resting.{settles}
 use Rattle.firing.proofs.Trapping.{traps}
 
@@ -150,6 +153,56 @@ module _ {M C : Type 0} (w : Way M C) (start : Moment M C) where
           let all = ordered made run.going in
           let is : after w.moves start.marking all.nodes ≡ now.marking = all.is ∙ ap (λ (x : Moment M C). x.marking) (sym run.leads) in
           subst (λ m. Traps w.moves start.marking trap (w.moves.out m)) is (traps sound w.moves lawful trap start.marking all.nodes is_sound all.order (ap w.moves.trap is ∙ trapped))
+
+-- ---- the order that a run makes
+
+module _ {M C : Type 0} (sound : M → Type 0) (w : Way M C) (lawful : IsLawful sound w.moves) (start : Moment M C) (is_sound : sound start.marking) where
+  sound_at : (n : ℕ) → ((j : ℕ) → j < n → CanFire w.moves (played w start j).marking (node_at w start j)) → sound (played w start n).marking
+  sound_at zero going = is_sound
+  sound_at (suc n) going = lawful.stays_sound (played w start n).marking (node_at w start n) (sound_at n (λ j lt. going j (omega (arith, lt)))) (going n (omega arith))
+
+  output_at : (n : ℕ) → ((j : ℕ) → j < n → CanFire w.moves (played w start j).marking (node_at w start j)) → w.moves.out (played w start n).marking ≡ w.moves.out start.marking ++ shown w Output start n
+  output_at zero going = sym (append-nil (w.moves.out start.marking))
+  output_at (suc n) going =
+      let below : (j : ℕ) → j < n → CanFire w.moves (played w start j).marking (node_at w start j) = λ j lt. going j (omega (arith, lt)) in
+      let m = (played w start n).marking in
+      let k = node_at w start n in
+      lawful.written m k (sound_at n below) (going n (omega arith))
+      ∙ ap (λ bytes. bytes ++ line_bytes (w.moves.line m k)) (output_at n below)
+      ∙ append_assoc (w.moves.out start.marking) (shown w Output start n) (line_bytes (w.moves.line m k))
+
+  broken : (n : ℕ) (old new : Option (List ℕ)) → BreaksOff w Output start n old new → AppendsFront old new (shown w Output start n)
+  broken n old new b =
+      let before = shown w Output start b.last in
+      let last = shown_at w Output start b.last in
+      let within = b.within in
+      let front : AppendsFront old new (before ++ last) = record {
+        count = length before + b.count;
+        within = let all = length-append before last in omega (arith, all, within);
+        added = subst (Appends old new) (sym (take-append-add before last b.count)) b.written;
+      } in
+      subst (λ i. AppendsFront old new (shown w Output start i)) (sym b.is) front
+
+  writes_output : (show : Show) (n : ℕ) (old new : Option (List ℕ)) (result : PlayEnd) → Writes w show start n old new result → WritesOutput show (shown w Output start n) old new result
+  writes_output Output n old new (WriteFault count) writes = broken n old new writes
+  writes_output Output n old new (Rest count) writes = writes
+  writes_output Output n old new (Trapped trap line) writes = writes
+  writes_output Output n old new Limit writes = writes
+  writes_output Nodes n old new result writes = tt
+  writes_output Nothing n old new result writes = tt
+
+  pub makes_order : (limit : ℕ) (show : Show) (end : Moment M C) (old new : Option (List ℕ)) (result : PlayEnd) → Plays w start limit show end old new result → MakesOrder w.moves start.marking show end.marking old new result
+  makes_order limit show end old new result plays =
+      let all = ordered w start plays.firings plays.going in
+      let there : (played w start plays.firings).marking ≡ end.marking = ap (λ (x : Moment M C). x.marking) (sym plays.leads) in
+      record {
+        nodes = all.nodes;
+        order = all.order;
+        leads = all.is ∙ there;
+        added = shown w Output start plays.firings;
+        output = ap w.moves.out (sym there) ∙ output_at plays.firings plays.going;
+        written = writes_output show plays.firings old new result plays.writes;
+      }
 
 -- ---- what a system with an equal net tells
 

@@ -1,13 +1,14 @@
 -- Runs of a step system, firing by firing: which node fires each time, what is shown, and why a run ends.
 use Rattle.std.specs.Prelude.{◌≡◌, ◌≤◌, ◌<◌, ◌%◌, ℕ, zero, suc, if◌then◌else◌, List, [], ◌∷◌, ◌++◌, length, take, slice_index, Option, Some, None}
 use Rattle.std.specs.Io.KnownBytes.{Appends}
+use Rattle.df_io.specs.Write.{AppendsFront}
 use Rattle.firing.specs.declared.playing.PlayEnd.{PlayEnd}
 use Rattle.firing.specs.declared.playing.PlayEnd.TheVariants.{Rest, Trapped, Limit, WriteFault}
 use Rattle.firing.specs.declared.playing.Show.{Show}
 use Rattle.firing.specs.declared.playing.Show.TheVariants.{Output, Nodes, Nothing}
 use Rattle.firing.specs.Moves.{Moves, CanFire, line_bytes}
 use Rattle.firing.specs.NameLine.{name_line}
-use Rattle.firing.specs.Orders.{IsOver}
+use Rattle.firing.specs.Orders.{IsOrder, IsOver, after}
 
 -- a marking, and the control beside it
 pub record Moment (M C : Type 0) : Type 0 where
@@ -108,3 +109,20 @@ pub record Plays {M C : Type 0} (w : Way M C) (start : Moment M C) (limit : ℕ)
   pub bounded : firings ≤ limit
   pub ends : EndsBy w start limit firings result
   pub writes : Writes w show start firings old new result
+
+-- ---- the order that a run makes
+
+-- Where lines are shown, what was added to the output was written, or after a fault a front of it.
+abbrev pub WritesOutput : Show → List ℕ → (old new : Option (List ℕ)) → PlayEnd → Type 0
+WritesOutput Output added old new (WriteFault count) = AppendsFront old new added
+WritesOutput Output added old new _ = Appends old new added
+WritesOutput _ added old new _ = Unit {0}
+
+-- The nodes that fired are an order, and what is written as output is what it adds to the output.
+pub record MakesOrder {M : Type 0} (s : Moves M) (start : M) (show : Show) (end : M) (old new : Option (List ℕ)) (result : PlayEnd) : Type 0 where
+  pub nodes : List ℕ
+  pub order : IsOrder s start nodes
+  pub leads : after s start nodes ≡ end
+  pub added : List ℕ
+  pub output : s.out end ≡ s.out start ++ added
+  pub written : WritesOutput show added old new result

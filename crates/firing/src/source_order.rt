@@ -2,7 +2,7 @@ ghost use Rattle.std.specs.Prelude.{◌≡◌, ◌≤◌, ℕ, None};
 ghost use Rattle.df_io.specs.Faults.{Rose};
 ghost use Rattle.op_table.specs.declared.Trap.{Trap};
 ghost use Rattle.firing.specs.Orders.{Settles, Traps};
-ghost use Rattle.firing.specs.Play.{Plays, by_order, moment};
+ghost use Rattle.firing.specs.Play.{MakesOrder, Plays, by_order, moment};
 ghost use Rattle.firing.specs.SourceOrder.{IsSourceOrder};
 
 use crate::step::step;
@@ -38,6 +38,9 @@ pub fn follow<S: SourceOrder, K: Sink>(sys: &mut S, limit: u64, show: Show, sink
     // The sink is blamed only where it failed.
     ensures later { K.faults sink.old ≤ K.faults sink.new }
     ensures fault { (n : ℕ) → result ≡ PlayEnd.WriteFault n → Rose (K.faults sink.old) (K.faults sink.new) }
+
+    // The firings are an order, and its output is what was written as such.
+    ensures order { MakesOrder (S.moves (S.net sys.old)) (S.marking sys.old) show (S.marking sys.new) (K.got sink.old) (K.got sink.new) result }
 
     // No other order of firing comes to another end.
     ensures settles { (n : ℕ) → result ≡ PlayEnd.Rest n → Settles (S.moves (S.net sys.old)) (S.marking sys.old) n (S.marking sys.new) }
