@@ -1,6 +1,11 @@
+pub mod ChosenLemmas
+pub mod CountLemmas
 pub mod Counting
 pub mod Example
+pub mod MarkLemmas
 pub mod Pacing
+pub mod PlayLemmas
 pub mod Pulling
+pub mod RankLemmas
 pub mod Resting
 pub mod Trapping

@@ -1,5 +1,11 @@
--- Step systems, the laws of their firings, and what every order of firing comes to.
+-- Step systems, the laws of their firings, what every order of firing comes to, and runs.
+pub mod BlockCounts
 pub mod Laws
+pub mod Marks
 pub mod Moves
+pub mod NameLine
 pub mod Orders
 pub mod Pacing
+pub mod Play
+pub mod ReadySet
+pub mod SourceOrder

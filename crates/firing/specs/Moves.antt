@@ -47,3 +47,8 @@ abbrev pub FiredIs : {M : Type 0} → Moves M → M → ℕ → Fired → Type 0
 FiredIs s m k Moved = IsSilent s m k
 FiredIs s m k Line = (s.line m k ≢ None) × (s.trap (s.fired m k) ≡ None)
 FiredIs s m k Trapped = (s.line m k ≡ None) × (s.trap (s.fired m k) ≢ None)
+
+-- the newest line, where the last firing wrote it
+abbrev pub line_after : Fired → List ℕ → List ℕ
+line_after Line newest = newest
+line_after _ newest = []

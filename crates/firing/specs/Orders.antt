@@ -13,11 +13,12 @@ abbrev pub IsOrder : {M : Type 0} → Moves M → M → List ℕ → Type 0
 IsOrder s m [] = Unit {0}
 IsOrder s m (k ∷ ks) = CanFire s m k × IsOrder s (s.fired m k) ks
 
--- how many firings of an order are of serial nodes
+-- what a truth adds to a count
 abbrev pub counted : Bool → ℕ
 counted true = 1
 counted false = 0
 
+-- how many firings of an order are of serial nodes
 abbrev pub serial_count : {M : Type 0} → Moves M → List ℕ → ℕ
 serial_count s [] = 0
 serial_count s (k ∷ ks) = counted (s.serial k) + serial_count s ks

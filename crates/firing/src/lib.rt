@@ -2,7 +2,16 @@
 #![tactic(auto)]
 
 mod laws;
+mod marks;
+mod name_line;
+mod playing;
+mod ready_set;
+mod source_order;
+mod step;
 mod system;
 
 pub use laws::{every_order, every_order_follows};
+pub use playing::{PlayEnd, Show, play};
+pub use ready_set::ReadySet;
+pub use source_order::{SourceOrder, follow};
 pub use system::{Fired, NodeName, StepSystem};

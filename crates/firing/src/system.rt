@@ -1,6 +1,8 @@
-ghost use Rattle.std.specs.Prelude.{◌≡◌, ◌<◌, ℕ, List, None, true};
+ghost use Rattle.std.specs.Prelude.{◌≡◌, ◌<◌, ℕ, Bool, List, Option, None, true, length, set};
 ghost use Rattle.firing.specs.Laws.{IsLawful};
+ghost use Rattle.firing.specs.Marks.{Wakes};
 ghost use Rattle.firing.specs.Moves.{Moves, FiredIs, newest};
+ghost use Rattle.firing.specs.ReadySet.{IsMemberAt, member_count};
 
 use op_table::Trap;
 
@@ -38,13 +40,25 @@ pub trait StepSystem {
     /// What the nodes have to work on, at one moment.
     ghost Marking: { Type 0 };
 
+    /// What is kept beside the marking for the source's own order: the place of control. A system without an order of
+    /// its own takes the unit type.
+    ghost Control: { Type 0 };
+
     ghost net: { Self → Self.Net };
 
     /// The moment's marking.
     ghost marking: { Self → Self.Marking };
 
+    ghost control: { Self → Self.Control };
+
     /// The line of the last firing that wrote one.
     ghost last: { Self → List ℕ };
+
+    /// The nodes that the last firing can have made ready.
+    ghost woken: { Self → List ℕ };
+
+    /// The nodes that are marked, in a set that no firing changes. It is room for whoever plays the system.
+    ghost marks: { Self → List Bool };
 
     /// Holds of the markings that can come.
     ghost sound: { Self.Net → Self.Marking → Type 0 };
@@ -52,9 +66,20 @@ pub trait StepSystem {
     /// What markings mean.
     ghost moves: { Self.Net → Moves Self.Marking };
 
-    /// How many nodes there are.
+    /// The control after a node fires.
+    ghost steered: { Self.Net → Self.Marking → Self.Control → ℕ → Self.Control };
+
+    /// Holds of a marking and the control that can stand beside it: of any two, where the system has no order of its own.
+    ghost in_step: { Self.Net → Self.Marking → Self.Control → Type 0 };
+
+    /// The node that the source's own order fires next. After a firing of another node than the one due it is the lowest
+    /// ready node. A system without an order of its own has none.
+    ghost due_node: { Self.Net → Self.Marking → Self.Control → Option ℕ };
+
+    /// How many nodes there are. The marked ones are among them.
     fn nodes(&self) -> u32
-        ensures { result ≡ (Self.moves (Self.net self.now)).nodes };
+        ensures count { result ≡ (Self.moves (Self.net self.now)).nodes }
+        ensures room { length (Self.marks self.now) ≡ result };
 
     /// Whether a node has all that it needs.
     fn ready(&self, k: u32) -> bool
@@ -69,12 +94,38 @@ pub trait StepSystem {
         requires sound { Self.sound (Self.net self.old) (Self.marking self.old) }
         ensures net { Self.net self.new ≡ Self.net self.old }
         ensures marking { Self.marking self.new ≡ (Self.moves (Self.net self.old)).fired (Self.marking self.old) k }
+        ensures control { Self.control self.new ≡ Self.steered (Self.net self.old) (Self.marking self.old) (Self.control self.old) k }
+        ensures wakes { Wakes (Self.moves (Self.net self.old)) (Self.marking self.old) k (Self.woken self.new) }
+        ensures marks { Self.marks self.new ≡ Self.marks self.old }
         ensures fired { FiredIs (Self.moves (Self.net self.old)) (Self.marking self.old) k result }
         ensures last { Self.last self.new ≡ newest ((Self.moves (Self.net self.old)).line (Self.marking self.old) k) (Self.last self.old) };
 
     /// The line of the last firing that wrote one, empty before one did.
     fn line(&self) -> &[u8]
         ensures { result.now ≡ Self.last self.now };
+
+    /// The nodes that the last firing can have made ready, in any order, and others besides.
+    fn woken(&self) -> &[u32]
+        ensures { result.now ≡ Self.woken self.now };
+
+    /// Marks a node, or takes its mark away.
+    fn mark(&mut self, k: u32, ready: bool)
+        requires { k < (Self.moves (Self.net self.old)).nodes }
+        ensures marks { Self.marks self.new ≡ set (Self.marks self.old) k ready }
+        ensures net { Self.net self.new ≡ Self.net self.old }
+        ensures marking { Self.marking self.new ≡ Self.marking self.old }
+        ensures control { Self.control self.new ≡ Self.control self.old }
+        ensures woken { Self.woken self.new ≡ Self.woken self.old }
+        ensures last { Self.last self.new ≡ Self.last self.old };
+
+    /// How many nodes are marked.
+    fn marked(&self) -> u32
+        ensures { result ≡ member_count (Self.marks self.now) };
+
+    /// The marked node at this place, counted from 0 in number order.
+    fn marked_at(&self, place: u32) -> u32
+        requires { place < member_count (Self.marks self.now) }
+        ensures { IsMemberAt (Self.marks self.now) place result };
 
     /// The trap, and the line of the source at which it came.
     fn trap(&self) -> Option<(Trap, u32)>

@@ -1,0 +1,106 @@
+use firing::Fired;
+
+/// What the nodes of the counters have to work on.
+#[derive(Clone, Copy, Debug, PartialEq, Eq)]
+pub struct Counts {
+    /// How often the feeder can still fire.
+    pub supply: u32,
+    /// What the feeder gave to the counter, and it hasn't taken.
+    pub left: u32,
+    /// What the feeder gave to the writer, and it hasn't taken.
+    pub right: u32,
+    /// How many lines the writer may still write.
+    pub lines: u32,
+    /// How much was counted.
+    pub counted: u32,
+    /// How many lines were written.
+    pub written: u32,
+    /// Whether the net has trapped.
+    pub trapped: bool,
+}
+
+impl Counts {
+    ghost use Rattle.std.specs.Prelude.{◌≡◌, ◌<◌, false, true};
+    ghost use Rattle.firing.specs.Moves.{FiredIs};
+    ghost use Rattle.counter_nets.specs.Counting.{AreSmall, after_node, counter_moves, highest, is_ready, lowest};
+
+    // Whether a node has all that it needs.
+    pub(crate) fn is_ready(&self, k: u32) -> bool
+        ensures { result ≡ is_ready self.now k }
+    {
+        match k {
+            0 => 0 < self.supply,
+            1 => 0 < self.left,
+            2 => 0 < self.right && 0 < self.lines,
+            _ => 0 < self.right && self.lines == 0,
+        }
+    }
+
+    // The lowest ready node.
+    pub(crate) fn lowest(&self) -> Option<u32>
+        ensures { result ≡ lowest self.now }
+    {
+        if self.is_ready(0) {
+            Some(0)
+        } else if self.is_ready(1) {
+            Some(1)
+        } else if self.is_ready(2) {
+            Some(2)
+        } else if self.is_ready(3) {
+            Some(3)
+        } else {
+            None
+        }
+    }
+
+    // The highest ready node.
+    pub(crate) fn highest(&self) -> Option<u32>
+        ensures { result ≡ highest self.now }
+    {
+        if self.is_ready(3) {
+            Some(3)
+        } else if self.is_ready(2) {
+            Some(2)
+        } else if self.is_ready(1) {
+            Some(1)
+        } else if self.is_ready(0) {
+            Some(0)
+        } else {
+            None
+        }
+    }
+
+    // Fires a ready node.
+    pub(crate) fn fire(&mut self, k: u32) -> Fired
+        requires node { k < 4 }
+        requires ready { is_ready self.old k ≡ true }
+        requires going { self.old.trapped ≡ false }
+        requires small { AreSmall self.old }
+        ensures after { self.new ≡ after_node self.old k }
+        ensures fired { FiredIs counter_moves self.old k result }
+    {
+        match k {
+            0 => {
+                self.supply -= 1;
+                self.left += 1;
+                self.right += 1;
+                Fired::Moved
+            }
+            1 => {
+                self.left -= 1;
+                self.counted += 1;
+                Fired::Moved
+            }
+            2 => {
+                self.right -= 1;
+                self.lines -= 1;
+                self.written += 1;
+                Fired::Line
+            }
+            _ => {
+                self.trapped = true;
+                Fired::Trapped
+            }
+        }
+    }
+}

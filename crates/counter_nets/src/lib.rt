@@ -1,0 +1,13 @@
+//! Two small nets: one that keeps the laws of firing, and is played, and one of two rivals that can't keep them.
+#![tactic(auto)]
+
+mod counters;
+mod counts;
+mod rivals;
+
+pub use counters::Counters;
+pub use counts::Counts;
+pub use rivals::{OnTokens, Token, rivals_break_the_laws};
+
+#[cfg(test)]
+mod tests;

@@ -1,0 +1,319 @@
+-- Counts of members by blocks: what they add up to, and how a member that comes or goes changes them.
+use Rattle.std.proofs.Common.{◌≡◌, ◌≢◌, ◌⊎◌, inl, inr, ℕ, zero, suc, ◌+◌, ◌-◌, ◌*◌, ◌/◌, ◌<◌, ◌≤◌, ◌^◌, Bool, true, false, List, length, get_or, set, replicate, refl, sym, ap, subst, ◌∙◌, ⊎_elim, add-one, arith, length-set}
+use Rattle.std.proofs.lemmas.Bool.{cases_eq, cases_Bool, cases_lt}
+use Rattle.std.proofs.lemmas.List.{length-replicate, get_or_default, get_or_past, get_or-set_same, get_or-set_other}
+use Rattle.std.proofs.Math.Nat.{mul-suc, mul-zero, mul-le-mul_left, mul-le-mul_right}
+use mathlib.Core.Bool.{beq}
+use Rattle.firing.specs.BlockCounts.{AreCounts, IsCounted, before, shifted}
+use Rattle.firing.specs.ReadySet.{has, rank, member_count}
+use Rattle.firing.proofs.RankLemmas.{HasOneMore, rank_past, rank_slow, rank_member, rank_short, rank_before, rank_after, rank_empty, more_put, more_taken}
+
+-- ---- sums of counts
+
+pub before_next : (counts : List ℕ) (n : ℕ) → before counts (n + 1) ≡ before counts n + get_or counts n 0
+before_next counts n = rw add-one refl
+
+-- a sum that falls short ends within
+pub before_inside : (counts : List ℕ) (b left : ℕ) → b ≤ length counts → before counts b + left < before counts (length counts) → b < length counts
+before_inside counts b left within short = ⊎_elim
+    (λ (same : b ≡ length counts). let e : before counts b ≡ before counts (length counts) = ap (before counts) same in absurd (omega (arith, short, e)))
+    (λ differ. omega (arith, within, differ))
+    (cases_eq b (length counts))
+
+module _ (width : ℕ) (counts : List ℕ) (flags : List Bool) (are : AreCounts width counts flags) where
+  pub before_rank : (b : ℕ) → b ≤ length counts → before counts b ≡ rank flags (width * b)
+  before_rank zero le = rw mul-zero refl
+  before_rank (suc b) le =
+      let step = before_rank b (omega (arith, le)) in
+      let here = are.counted b (omega (arith, le)) in
+      let e : rank flags (width * suc b) ≡ rank flags (width * b + width) = ap (rank flags) (mul-suc width b) in
+      omega (arith, step, here, e)
+
+  pub before_all : before counts (length counts) ≡ member_count flags
+  before_all = before_rank (length counts) (omega arith) ∙ rank_past flags (width * length counts) are.covered
+
+  -- no block has more members than numbers
+  pub count_fits : (b : ℕ) → b < length counts → get_or counts b 0 ≤ width
+  count_fits b inside =
+      let here = are.counted b inside in
+      let slow = rank_slow flags (width * b) (width * b + width) (omega arith) in
+      omega (arith, here, slow)
+
+  -- the count of a member's block
+  pub count_some : (k b : ℕ) → b < length counts → has flags k ≡ true → width * b ≤ k → k < width * b + width → 0 < get_or counts b 0
+  count_some k b inside member low high =
+      let here = are.counted b inside in
+      let more = rank_member flags k (width * b) (width * b + width) member low high in
+      omega (arith, here, more)
+
+  -- the block of a number in the room
+  pub block_inside : (k b : ℕ) → k < length flags → width * b ≤ k → b < length counts
+  block_inside k b inside low = ⊎_elim
+      (λ lt. lt)
+      (λ (past : length counts ≤ b).
+      let le : width * length counts ≤ width * b = mul-le-mul_left width past in
+      let covered = are.covered in
+      absurd (omega (arith, inside, low, le, covered)))
+      (cases_lt b (length counts))
+
+  -- a block with a member begins in the room
+  pub block_begins : (b left : ℕ) → b < length counts → left < get_or counts b 0 → width * b < length flags
+  block_begins b left inside short = ⊎_elim
+      (λ lt. lt)
+      (λ (past : length flags ≤ width * b).
+      let here = are.counted b inside in
+      let first = rank_past flags (width * b) past in
+      let last = rank_past flags (width * b + width) (omega (arith, past)) in
+      absurd (omega (arith, here, first, last, short)))
+      (cases_lt (width * b) (length flags))
+
+-- ---- a change of one count
+
+-- the second list counts one more
+record CountsOneMore (few many : List ℕ) (b : ℕ) : Type 0 where
+  same_length : length few ≡ length many
+  is : get_or many b 0 ≡ get_or few b 0 + 1
+  others : (j : ℕ) → j ≢ b → get_or few j 0 ≡ get_or many j 0
+
+-- blocks before and after another one
+apart : (width a b : ℕ) → a < b → width * a + width ≤ width * b
+apart width a b lt =
+    let le : width * suc a ≤ width * b = mul-le-mul_left width (omega (arith, lt)) in
+    let e = mul-suc width a in
+    omega (arith, le, e)
+
+module _ (width : ℕ) (few many : List Bool) (k b : ℕ) (more : HasOneMore few many k) (low : width * b ≤ k) (high : k < width * b + width) where
+  -- what the block at a number gains
+  record Gains (j one : ℕ) : Type 0 where
+    first : ℕ
+    start : rank many (width * j) ≡ rank few (width * j) + first
+    end : rank many (width * j + width) ≡ rank few (width * j + width) + (first + one)
+
+  gains_here : Gains b 1
+  gains_here = record { first = 0; start = let e = rank_before few many k (width * b) more low in omega (arith, e); end = rank_after few many k (width * b + width) more high }
+
+  gains_other : (j : ℕ) → j ≢ b → Gains j 0
+  gains_other j differ = ⊎_elim
+      (λ (lt : j < b).
+      let room = apart width j b lt in
+      let start = rank_before few many k (width * j) more (omega (arith, room, low)) in
+      let end = rank_before few many k (width * j + width) more (omega (arith, room, low)) in
+      record { first = 0; start = omega (arith, start); end = omega (arith, end) })
+      (λ (le : b ≤ j).
+      let room = apart width b j (omega (arith, le, differ)) in
+      let start = rank_after few many k (width * j) more (omega (arith, room, high)) in
+      let end = rank_after few many k (width * j + width) more (omega (arith, room, high)) in
+      record { first = 1; start = omega (arith, start); end = omega (arith, end) })
+      (cases_lt j b)
+
+  counts_come : (cf cm : List ℕ) → CountsOneMore cf cm b → AreCounts width cf few → AreCounts width cm many
+  counts_come cf cm one are = record {
+    covered = let covered = are.covered in let same = more.same_room in let length = ap (λ n. width * n) one.same_length in omega (arith, covered, same, length);
+    counted = λ j inside. let old = are.counted j (omega (arith, inside, one.same_length)) in ⊎_elim
+        (λ (same : j ≡ b).
+        let gains = subst (λ i. Gains i 1) (sym same) gains_here in
+        let here : get_or cm j 0 ≡ get_or cf j 0 + 1 = subst (λ i. get_or cm i 0 ≡ get_or cf i 0 + 1) (sym same) one.is in
+        omega (arith, old, here, gains.start, gains.end))
+        (λ differ. let gains = gains_other j differ in let here = one.others j differ in omega (arith, old, here, gains.start, gains.end))
+        (cases_eq j b);
+  }
+
+  counts_go : (cf cm : List ℕ) → CountsOneMore cf cm b → AreCounts width cm many → AreCounts width cf few
+  counts_go cf cm one are = record {
+    covered = let covered = are.covered in let same = more.same_room in let length = ap (λ n. width * n) one.same_length in omega (arith, covered, same, length);
+    counted = λ j inside. let old = are.counted j (omega (arith, inside, one.same_length)) in ⊎_elim
+        (λ (same : j ≡ b).
+        let gains = subst (λ i. Gains i 1) (sym same) gains_here in
+        let here : get_or cm j 0 ≡ get_or cf j 0 + 1 = subst (λ i. get_or cm i 0 ≡ get_or cf i 0 + 1) (sym same) one.is in
+        omega (arith, old, here, gains.start, gains.end))
+        (λ differ. let gains = gains_other j differ in let here = one.others j differ in omega (arith, old, here, gains.start, gains.end))
+        (cases_eq j b);
+  }
+
+count_put : (counts : List ℕ) (b : ℕ) → b < length counts → CountsOneMore counts (set counts b (get_or counts b 0 + 1)) b
+count_put counts b inside = record {
+  same_length = sym (length-set counts b (get_or counts b 0 + 1));
+  is = get_or-set_same counts b (get_or counts b 0 + 1) 0 inside;
+  others = λ j differ. sym (get_or-set_other counts b j (get_or counts b 0 + 1) 0 differ);
+}
+
+count_taken : (counts : List ℕ) (b : ℕ) → b < length counts → 0 < get_or counts b 0 → CountsOneMore (set counts b (get_or counts b 0 - 1)) counts b
+count_taken counts b inside some = record {
+  same_length = length-set counts b (get_or counts b 0 - 1);
+  is = let e = get_or-set_same counts b (get_or counts b 0 - 1) 0 inside in omega (arith, e, some);
+  others = λ j differ. get_or-set_other counts b j (get_or counts b 0 - 1) 0 differ;
+}
+
+-- a flag that changes, and the count of its block with it
+pub counts_put : (width : ℕ) (counts : List ℕ) (flags : List Bool) (k b : ℕ) (ready : Bool) → AreCounts width counts flags → k < length flags → has flags k ≢ ready → width * b ≤ k → k < width * b + width → AreCounts width (set counts b (shifted (get_or counts b 0) ready)) (set flags k ready)
+counts_put width counts flags k b true are inside differ low high =
+    let lacks : has flags k ≡ false = lacking (has flags k) differ in
+    let within = block_inside width counts flags are k b inside low in
+    counts_come width flags (set flags k true) k b (more_put flags k inside lacks) low high counts (set counts b (get_or counts b 0 + 1)) (count_put counts b within) are
+  where
+    lacking : (b : Bool) → b ≢ true → b ≡ false
+    lacking true not = absurd (not refl)
+    lacking false not = refl
+counts_put width counts flags k b false are inside differ low high =
+    let member : has flags k ≡ true = holding (has flags k) differ in
+    let within = block_inside width counts flags are k b inside low in
+    let some = count_some width counts flags are k b within member low high in
+    counts_go width (set flags k false) flags k b (more_taken flags k inside member) low high (set counts b (get_or counts b 0 - 1)) counts (count_taken counts b within some) are
+  where
+    holding : (b : Bool) → b ≢ false → b ≡ true
+    holding true not = refl
+    holding false not = absurd (not refl)
+
+same_bool : (a b : Bool) → (a ≡ b) ⊎ (a ≢ b)
+same_bool true true = inl refl
+same_bool true false = inr (λ e. absurd cc)
+same_bool false true = inr (λ e. absurd cc)
+same_bool false false = inl refl
+
+total_put : (flags : List Bool) (k : ℕ) (ready : Bool) → k < length flags → has flags k ≢ ready → member_count (set flags k ready) ≡ shifted (member_count flags) ready
+total_put flags k true inside differ =
+    let lacks : has flags k ≡ false = ⊎_elim (λ is. absurd (differ is)) (λ is. is) (cases_Bool (has flags k)) in
+    ap (rank (set flags k true)) (length-set flags k true) ∙ rank_after flags (set flags k true) k (length flags) (more_put flags k inside lacks) inside
+total_put flags k false inside differ =
+    let member : has flags k ≡ true = ⊎_elim (λ is. is) (λ is. absurd (differ is)) (cases_Bool (has flags k)) in
+    let more = rank_after (set flags k false) flags k (length flags) (more_taken flags k inside member) inside in
+    let same : member_count (set flags k false) ≡ rank (set flags k false) (length flags) = ap (rank (set flags k false)) (length-set flags k false) in
+    omega (arith, more, same)
+
+module _ (flags : List Bool) (low mid high : List ℕ) (total : ℕ) (are : IsCounted flags low mid high total) where
+  pub all_put : (k : ℕ) (ready : Bool) → k < length flags → has flags k ≢ ready → IsCounted (set flags k ready) (set low (k / 32) (shifted (get_or low (k / 32) 0) ready)) (set mid (k / 1024) (shifted (get_or mid (k / 1024) 0) ready)) (set high (k / 32768) (shifted (get_or high (k / 32768) 0) ready)) (shifted total ready)
+  all_put k ready inside differ = record {
+    room = let room = are.room in let e = length-set flags k ready in omega (arith, room, e);
+    low_counts = counts_put 32 low flags k (k / 32) ready are.low_counts inside differ (omega arith) (omega arith);
+    mid_counts = counts_put 1024 mid flags k (k / 1024) ready are.mid_counts inside differ (omega arith) (omega arith);
+    high_counts = counts_put 32768 high flags k (k / 32768) ready are.high_counts inside differ (omega arith) (omega arith);
+    all = ap (λ n. shifted n ready) are.all ∙ sym (total_put flags k ready inside differ);
+  }
+
+-- what a number that comes needs of a count, and what one that goes does
+pub come_fits : (width : ℕ) (counts : List ℕ) (flags : List Bool) (k b : ℕ) → AreCounts width counts flags → k < length flags → width * b ≤ k → get_or counts b 0 ≤ width
+come_fits width counts flags k b are inside low = count_fits width counts flags are b (block_inside width counts flags are k b inside low)
+
+pub go_some : (width : ℕ) (counts : List ℕ) (flags : List Bool) (k b : ℕ) (ready : Bool) → AreCounts width counts flags → k < length flags → has flags k ≢ ready → width * b ≤ k → k < width * b + width → ready ≡ false → 0 < get_or counts b 0
+go_some width counts flags k b ready are inside differ low high is =
+    let member : has flags k ≡ true = ⊎_elim (λ e. e) (λ e. absurd (differ (e ∙ sym is))) (cases_Bool (has flags k)) in
+    count_some width counts flags are k b (block_inside width counts flags are k b inside low) member low high
+
+pub total_fits : (flags : List Bool) (k : ℕ) (ready : Bool) → k < length flags → has flags k ≢ ready → ready ≡ true → member_count flags < length flags
+total_fits flags k ready inside differ is = rank_short flags k (length flags) (⊎_elim (λ e. absurd (differ (e ∙ sym is))) (λ e. e) (cases_Bool (has flags k))) inside
+
+pub total_some : (flags : List Bool) (k : ℕ) (ready : Bool) → k < length flags → has flags k ≢ ready → ready ≡ false → 0 < member_count flags
+total_some flags k ready inside differ is =
+    let member : has flags k ≡ true = ⊎_elim (λ e. e) (λ e. absurd (differ (e ∙ sym is))) (cases_Bool (has flags k)) in
+    let more = rank_member flags k 0 (length flags) member (omega arith) inside in
+    omega (arith, more)
+
+-- ---- from the counts of one width to those of a smaller one
+
+pub record Descends (upper lower : List ℕ) (flags : List Bool) (width b : ℕ) : Type 0 where
+  pub inside : 32 * b ≤ length lower
+  pub same : before lower (32 * b) ≡ before upper b
+  pub few : width * (32 * b) < length flags
+
+times : (width b : ℕ) → 32 * width * b ≡ width * (32 * b)
+times width b = grind arith
+
+pub descends : (upper lower : List ℕ) (flags : List Bool) (width b left : ℕ) → AreCounts (32 * width) upper flags → AreCounts width lower flags → b < length upper → left < get_or upper b 0 → Descends upper lower flags width b
+descends upper lower flags width b left above below inside short =
+    let begins = block_begins (32 * width) upper flags above b left inside short in
+    let same = times width b in
+    let covered = below.covered in
+    let within : 32 * b ≤ length lower = ⊎_elim
+    (λ (past : length lower < 32 * b). let le : width * length lower ≤ width * (32 * b) = mul-le-mul_left width (omega (arith, past)) in absurd (omega (arith, begins, same, covered, le)))
+    (λ le. le)
+    (cases_lt (length lower) (32 * b)) in
+    record {
+      inside = within;
+      same = before_rank width lower flags below (32 * b) within ∙ ap (rank flags) (sym same) ∙ sym (before_rank (32 * width) upper flags above b (omega (arith, inside)));
+      few = omega (arith, begins, same);
+    }
+
+-- ---- a write that changes a flag
+
+pub record Changes (flags : List Bool) (k : ℕ) (ready : Bool) : Type 0 where
+  pub inside : k < length flags
+  pub differs : has flags k ≢ ready
+
+not_same : (seen ready : Bool) → beq seen ready ≡ false → seen ≢ ready
+not_same true true e is = absurd cc
+not_same true false e is = absurd cc
+not_same false true e is = absurd cc
+not_same false false e is = absurd cc
+
+pub changes : (flags value : List Bool) (k : ℕ) (seen ready : Bool) → flags ≡ value → k < length value → seen ≡ get_or flags k seen → beq seen ready ≡ false → Changes flags k ready
+changes flags value k seen ready is inside here test =
+    let within : k < length flags = subst (λ xs. k < length xs) (sym is) inside in
+    let same : seen ≡ has flags k = here ∙ get_or_default flags k seen false within in
+    record { inside = within; differs = subst (λ b. b ≢ ready) same (not_same seen ready test) }
+
+-- ---- the empty set
+
+zeros : (n i : ℕ) → get_or {A = ℕ} (replicate n 0) i 0 ≡ 0
+zeros zero i = get_or_past (replicate zero 0) i 0 (omega arith)
+zeros (suc n) zero = refl
+zeros (suc n) (suc i) = zeros n i
+
+none_counted : (width room blocks : ℕ) → room ≤ width * blocks → AreCounts width (replicate blocks 0) (replicate room false)
+none_counted width room blocks enough = record {
+  covered = rw (length-replicate, length-replicate) enough;
+  counted = λ b inside. let first = rank_empty room (width * b) in let last = rank_empty room (width * b + width) in let none = zeros blocks b in omega (arith, first, last, none);
+}
+
+pub empty_counted : (room : ℕ) → room < 2 ^ 32 → IsCounted (replicate room false) (replicate (room / 32 + 1) 0) (replicate (room / 1024 + 1) 0) (replicate (room / 32768 + 1) 0) 0
+empty_counted room fits = record {
+  room = rw length-replicate fits;
+  low_counts = none_counted 32 room (room / 32 + 1) (omega arith);
+  mid_counts = none_counted 1024 room (room / 1024 + 1) (omega arith);
+  high_counts = none_counted 32768 room (room / 32768 + 1) (omega arith);
+  all = sym (rank_empty room (length (replicate room false)));
+}
+
+-- ---- the search from the counts of one width to those of a smaller one, over slices of them
+
+pub record Continues (ys : List ℕ) (first left place : ℕ) : Type 0 where
+  pub fits : first < 2 ^ 32
+  pub inside : first ≤ length ys
+  pub same : before ys first + left ≡ place
+  pub some : before ys first + left < before ys (length ys)
+
+module _ (flags : List Bool) (place : ℕ) (room : length flags < 2 ^ 32) (within : place < member_count flags) where
+  pub starts : (xs high : List ℕ) (width : ℕ) → AreCounts width high flags → xs ≡ high → 0 + place < before xs (length xs)
+  starts xs high width are is = let all : before xs (length xs) ≡ member_count flags = rw is (before_all width high flags are) in omega (arith, all, within)
+
+  pub continues : (xs ys upper lower : List ℕ) (width b left : ℕ) → AreCounts (32 * width) upper flags → AreCounts width lower flags → 0 < width → xs ≡ upper → ys ≡ lower → b < length xs → before xs b + left ≡ place → left < get_or xs b 0 → Continues ys (32 * b) left place
+  continues xs ys upper lower width b left above below some is also inside same short =
+      let next = descends upper lower flags width b left above below (subst (λ zs. b < length zs) is inside) (subst (λ zs. left < get_or zs b 0) is short) in
+      let here : before ys (32 * b) ≡ before xs b = rw (is, also) next.same in
+      let all : before ys (length ys) ≡ member_count flags = rw also (before_all width lower flags below) in
+      let few = next.few in
+      let wide : 1 * (32 * b) ≤ width * (32 * b) = mul-le-mul_right (32 * b) some in
+      record {
+        fits = omega (arith, room, few, wide);
+        inside = subst (λ zs. 32 * b ≤ length zs) (sym also) next.inside;
+        same = omega (arith, here, same);
+        some = omega (arith, here, same, all, within);
+      }
+
+  pub record Ends (ys : List Bool) (first left : ℕ) : Type 0 where
+    pub fits : first < 2 ^ 32
+    pub inside : first ≤ length ys
+    pub same : rank ys first + left ≡ place
+    pub some : rank ys first + left < member_count ys
+
+  pub ends : (xs low : List ℕ) (ys : List Bool) (b left : ℕ) → AreCounts 32 low flags → xs ≡ low → ys ≡ flags → b < length xs → before xs b + left ≡ place → left < get_or xs b 0 → Ends ys (32 * b) left
+  ends xs low ys b left are is also inside same short =
+      let begins = block_begins 32 low flags are b left (subst (λ zs. b < length zs) is inside) (subst (λ zs. left < get_or zs b 0) is short) in
+      let there : b < length low = subst (λ zs. b < length zs) is inside in
+      let here : rank ys (32 * b) ≡ before xs b = rw (is, also) (sym (before_rank 32 low flags are b (omega (arith, there)))) in
+      let all : member_count ys ≡ member_count flags = ap member_count also in
+      record {
+        fits = omega (arith, room, begins);
+        inside = subst (λ zs. 32 * b ≤ length zs) (sym also) (omega (arith, begins));
+        same = omega (arith, here, same);
+        some = omega (arith, here, same, all, within);
+      }

@@ -1,0 +1,22 @@
+use Rattle.std.proofs.Common.{◌≡◌, ◌-◌, ◌≤◌, length, None}
+use Rattle.firing.specs.Marks.{AreReadyMarks}
+use Rattle.firing.specs.Play.{by_picks, moment}
+use Rattle.firing.proofs.PlayLemmas.{Running}
+use Rattle.firing.proofs.playing.play.Given as goal
+
+abbrev pub invariant-firing : goal.invariant-firing
+invariant-firing g l =
+    let y = g.S.StepSystem in
+    let fixed = y.net l.fn.sys in
+    let now = moment (y.marking l.sys) (y.control l.sys) in
+    record {
+      net : y.net l.sys ≡ fixed;
+      sound : y.sound fixed (y.marking l.sys);
+      run : Running (by_picks (y.moves fixed) (y.steered fixed) l.picks) (moment (y.marking l.fn.sys) (y.control l.fn.sys)) now l.limit l.show l.made (g.K.Sink.got l.fn.sink) (g.K.Sink.got l.sink);
+      room : length (y.marks l.sys) ≡ (y.moves fixed).nodes;
+      marks : (y.moves fixed).trap (y.marking l.sys) ≡ None → AreReadyMarks (y.moves fixed) (y.marking l.sys) (y.marks l.sys);
+      later : g.K.Sink.faults l.fn.sink ≤ g.K.Sink.faults l.sink;
+    }
+
+abbrev pub decreases-firing : goal.decreases-firing
+decreases-firing g l = l.limit - l.made

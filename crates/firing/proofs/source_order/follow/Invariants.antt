@@ -1,0 +1,20 @@
+use Rattle.std.proofs.Common.{◌≡◌, ◌-◌, ◌≤◌}
+use Rattle.firing.specs.Play.{by_order, moment}
+use Rattle.firing.proofs.PlayLemmas.{Running}
+use Rattle.firing.proofs.source_order.follow.Given as goal
+
+abbrev pub invariant-firing : goal.invariant-firing
+invariant-firing g l =
+    let y = g.S.StepSystem in
+    let fixed = y.net l.fn.sys in
+    let now = moment (y.marking l.sys) (y.control l.sys) in
+    record {
+      net : y.net l.sys ≡ fixed;
+      sound : y.sound fixed (y.marking l.sys);
+      in_step : y.in_step fixed (y.marking l.sys) (y.control l.sys);
+      run : Running (by_order (y.moves fixed) (y.steered fixed) (y.due_node fixed)) (moment (y.marking l.fn.sys) (y.control l.fn.sys)) now l.limit l.show l.made (g.K.Sink.got l.fn.sink) (g.K.Sink.got l.sink);
+      later : g.K.Sink.faults l.fn.sink ≤ g.K.Sink.faults l.sink;
+    }
+
+abbrev pub decreases-firing : goal.decreases-firing
+decreases-firing g l = l.limit - l.made

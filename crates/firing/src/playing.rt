@@ -1,0 +1,90 @@
+ghost use Rattle.std.specs.Prelude.{◌≡◌, ◌<◌, ◌≤◌, ℕ, length};
+ghost use Rattle.df_io.specs.Faults.{Rose};
+ghost use Rattle.op_table.specs.declared.Trap.{Trap};
+ghost use Rattle.firing.specs.Orders.{Settles, Traps};
+ghost use Rattle.firing.specs.Play.{MakesOrder, Plays, by_picks, moment};
+
+use crate::StepSystem;
+use crate::marks::{mark_ready, retest_fired};
+use crate::step::step;
+use df_io::{Sink, WriteFault};
+use op_table::Trap;
+
+/// What is shown of a run.
+#[derive(Clone, Copy, Debug, PartialEq, Eq)]
+pub enum Show {
+    /// The lines of output.
+    Output,
+    /// The nodes as they fire: a line for each, of its number and its name.
+    Nodes,
+    /// Nothing.
+    Nothing,
+}
+
+/// How a run ended.
+#[derive(Clone, Copy, Debug, PartialEq, Eq)]
+pub enum PlayEnd {
+    /// No node is ready, after so many firings.
+    Rest(u64),
+    /// This trap came, at this line of the source.
+    Trapped(Trap, u32),
+    /// As many firings were made as are allowed, and more are possible.
+    Limit,
+    /// The sink failed at what is shown of the last of so many firings.
+    WriteFault(u64),
+}
+
+/// Fires ready nodes, one by one, up to a stop or `limit` firings. The firing number i, counted from 0, is of the node that
+/// the pick number i chooses: of the r ready nodes, in number order, the one at the place pick mod r. The picks are used
+/// over and over.
+///
+/// A trap, a rest and the limit are looked for in this order before each firing. It takes no memory, and uses the marks of
+/// the system for its own.
+pub fn play<S: StepSystem, K: Sink>(
+    sys: &mut S,
+    picks: &[u32],
+    limit: u64,
+    show: Show,
+    sink: &mut K,
+) -> PlayEnd
+    requires picks { 0 < length picks.now }
+    requires sound { S.sound (S.net sys.old) (S.marking sys.old) }
+
+    // The run that the picks choose, and what was written of it.
+    ensures plays { Plays (by_picks (S.moves (S.net sys.old)) (S.steered (S.net sys.old)) picks.now) (moment (S.marking sys.old) (S.control sys.old)) limit show (moment (S.marking sys.new) (S.control sys.new)) (K.got sink.old) (K.got sink.new) result }
+    ensures net { S.net sys.new ≡ S.net sys.old }
+    ensures sound { S.sound (S.net sys.old) (S.marking sys.new) }
+
+    // The sink is blamed only where it failed.
+    ensures later { K.faults sink.old ≤ K.faults sink.new }
+    ensures fault { (n : ℕ) → result ≡ PlayEnd.WriteFault n → Rose (K.faults sink.old) (K.faults sink.new) }
+
+    // The firings are an order, and its output is what was written as such.
+    ensures order { MakesOrder (S.moves (S.net sys.old)) (S.marking sys.old) show (S.marking sys.new) (K.got sink.old) (K.got sink.new) result }
+
+    // No other order of firing comes to another end.
+    ensures settles { (n : ℕ) → result ≡ PlayEnd.Rest n → Settles (S.moves (S.net sys.old)) (S.marking sys.old) n (S.marking sys.new) }
+    ensures traps { (trap : Trap) (line : ℕ) → result ≡ PlayEnd.Trapped trap line → Traps (S.moves (S.net sys.old)) (S.marking sys.old) (trap, line) ((S.moves (S.net sys.old)).out (S.marking sys.new)) }
+{
+    mark_ready(sys);
+    let mut made: u64 = 0;
+    'firing: loop {
+        if let Some((trap, line)) = sys.trap() {
+            return PlayEnd::Trapped(trap, line);
+        }
+        let ready = sys.marked();
+        if ready == 0 {
+            return PlayEnd::Rest(made);
+        }
+        let pick = picks[(made % picks.len() as u64) as usize];
+        let k = sys.marked_at(pick % ready);
+        if made == limit {
+            return PlayEnd::Limit;
+        }
+        made += 1;
+        if let Err(WriteFault) = step(sys, k, show, sink) {
+            return PlayEnd::WriteFault(made);
+        }
+        retest_fired(sys, k);
+    }
+}

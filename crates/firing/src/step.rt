@@ -1,0 +1,53 @@
+// One firing, and what is shown of it.
+
+ghost use Rattle.std.specs.Prelude.{◌≡◌, ◌≤◌, OnOk, OnErr};
+ghost use Rattle.std.specs.Io.KnownBytes.{Appends};
+ghost use Rattle.df_io.specs.Faults.{Rose};
+ghost use Rattle.df_io.specs.Write.{AppendsFront};
+ghost use Rattle.firing.specs.Marks.{Wakes};
+ghost use Rattle.firing.specs.Moves.{CanFire, line_after};
+ghost use Rattle.firing.specs.Play.{shown_of};
+
+use crate::name_line::write_name;
+use crate::{Fired, Show, StepSystem};
+use df_io::{Sink, WriteFault, write_all};
+
+// Fires a node that can fire, and writes what is shown of it.
+pub fn step<S: StepSystem, K: Sink>(
+    sys: &mut S,
+    k: u32,
+    show: Show,
+    sink: &mut K,
+) -> Result<(), WriteFault>
+    requires can { CanFire (S.moves (S.net sys.old)) (S.marking sys.old) k }
+    requires sound { S.sound (S.net sys.old) (S.marking sys.old) }
+    ensures net { S.net sys.new ≡ S.net sys.old }
+    ensures marking { S.marking sys.new ≡ (S.moves (S.net sys.old)).fired (S.marking sys.old) k }
+    ensures control { S.control sys.new ≡ S.steered (S.net sys.old) (S.marking sys.old) (S.control sys.old) k }
+    ensures wakes { Wakes (S.moves (S.net sys.old)) (S.marking sys.old) k (S.woken sys.new) }
+    ensures marks { S.marks sys.new ≡ S.marks sys.old }
+    ensures all { OnOk result (Appends (K.got sink.old) (K.got sink.new) (shown_of (S.moves (S.net sys.old)) show (S.marking sys.old) k)) }
+    ensures front { OnErr result (AppendsFront (K.got sink.old) (K.got sink.new) (shown_of (S.moves (S.net sys.old)) show (S.marking sys.old) k)) }
+    ensures later { K.faults sink.old ≤ K.faults sink.new }
+    ensures fault { OnErr result (Rose (K.faults sink.old) (K.faults sink.new)) }
+{
+    let fired = sys.fire(k);
+    match show {
+        Show::Output => write_line(sys, fired, sink),
+        Show::Nodes => write_name(sink, k, sys.name(k)),
+        Show::Nothing => Ok(()),
+    }
+}
+
+// Writes the line of a firing that wrote one.
+fn write_line<S: StepSystem, K: Sink>(sys: &S, fired: Fired, sink: &mut K) -> Result<(), WriteFault>
+    ensures all { OnOk result (Appends (K.got sink.old) (K.got sink.new) (line_after fired (S.last sys.now))) }
+    ensures front { OnErr result (AppendsFront (K.got sink.old) (K.got sink.new) (line_after fired (S.last sys.now))) }
+    ensures later { K.faults sink.old ≤ K.faults sink.new }
+    ensures fault { OnErr result (Rose (K.faults sink.old) (K.faults sink.new)) }
+{
+    match fired {
+        Fired::Line => write_all(sink, sys.line()),
+        Fired::Moved | Fired::Trapped => Ok(()),
+    }
+}

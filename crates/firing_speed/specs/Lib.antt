@@ -1,0 +1,3 @@
+-- The meaning of swings, and their laws.
+pub mod SwingLaws
+pub mod Swinging
