@@ -193,6 +193,7 @@ fn reads_fronts(rt: HostRuntime) -> Result<(), Fail> {
     }
     let deep = nested(&rt, rt.alloc(), 61)?;
     assert!(rt; read_expr(rt.alloc(), &deep, 0).is_ok());
+    assert!(rt; 62 <= deep.len());
     assert!(rt; matches!(read_expr(rt.alloc(), &deep, 62), Err(ReadEnd::NoForm)));
     Ok(())
 }
