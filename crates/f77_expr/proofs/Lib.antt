@@ -1,0 +1,14 @@
+pub mod EachRead
+pub mod Fronts
+pub mod Descent
+pub mod Completeness
+pub mod Depth
+pub mod Followers
+pub mod Primaries
+pub mod Levels
+pub mod Soundness
+pub mod Spellings
+pub mod Spelled
+pub mod Readings
+pub mod Quiet
+pub mod Pieces
