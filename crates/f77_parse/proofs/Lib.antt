@@ -1,1 +1,4 @@
+pub mod Followers
+pub mod PartsWanted
 pub mod Free
+pub mod FormsUnequal
