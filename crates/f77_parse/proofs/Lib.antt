@@ -1,0 +1,3 @@
+-- Lemmas of the readers of statements.
+pub mod Followers
+pub mod PartsWanted
