@@ -1,4 +1,7 @@
-pub mod Followers
-pub mod PartsWanted
+-- Lemmas of the readers of statements.
 pub mod Free
 pub mod FormsUnequal
+pub mod FormsFree
+pub mod FormsSound
+pub mod Followers
+pub mod PartsWanted

@@ -1,0 +1,300 @@
+-- The parts of statements: what is wanted.
+use Rattle.std.proofs.Common.{◌≡◌, ℕ, ◌≤◌, Bool, true, false, not, ◌&&◌, List, [], ◌∷◌, ◌++◌, length, map, flat_map, codes, All, Option, Some, None}
+use Rattle.std.specs.List.{list_all}
+use Rattle.f77_tree.specs.declared.declarations.Kind.{Kind}
+use Rattle.f77_tree.specs.Name.{is_capital, is_name}
+use Rattle.f77_tree.specs.Grammar.{Written, IsGrammatical, spelling, is_number, truth_text}
+use Rattle.f77_tree.specs.StatementGrammar.{with_commas, in_brackets, comma_if, SignedDigits, signed_text, is_signed, WrittenDim, dim_text, dim_numbers, bracketed_list, WrittenDecl, decl_text, decls_text, IsDecl, WrittenRange, range_text, is_range, kind_text, WrittenLetters, letters_text, are_letters, WrittenBlock, block_text, is_block, is_said, WrittenPart, part_text, IsPart, WrittenMember, member_text, is_member, group_text, is_group, WrittenConstant, constant_text, is_constant, WrittenValue, value_text, is_value, WrittenData, data_text, is_data, characters_text, WrittenItem, item_text, IsItem, behind_commas, IsVariable}
+use Rattle.f77_expr.specs.Reader.{Reads}
+use Rattle.f77_expr.proofs.EachRead.{Each}
+use Rattle.f77_expr.proofs.Followers.{breaks_off}
+use Rattle.f77_parse.specs.Parts.{after, then_front, where_it, number_at, name_at, letter_at, signed_at, list_at, bracketed_at, bracketed_or_none, dim_at, decl_at, range_at, kind_at, letters_at, block_at, comma_at, part_at, first_part_at, member_at, group_at, truth_at, constant_at, value_at, data_behind, data_at, parts_to_end, ends_expression, expression_in_front, variable_at, characters_at, item_at}
+use Rattle.f77_parse.proofs.Followers.{no_front, no_figure, no_symbol, ends_dim, ends_value, ends_list, ends_decls, anything, IsInFront, Every, IsListed}
+
+-- ---- readers one behind another
+
+module _ {A : Type 0} (Q : A → List ℕ → Type 0) where
+  -- behind a front that stands there
+  pub after_sound : (front : List ℕ) (go : List ℕ → Reads A) (text : List ℕ) → ((rest : List ℕ) → front ++ rest ≡ text → Each Q (go rest)) → Each Q (after front go text)
+  after_sound front go text k = ?
+
+  pub then_front_sound : (P : A → List ℕ → Type 0) (front : List ℕ) (x : Reads A) → Each P x → ((a : A) (rest : List ℕ) → P a (front ++ rest) → Q a rest) → Each Q (then_front front x)
+  then_front_sound P front x h k = ?
+
+  pub where_sound : (test : A → Bool) (x : Reads A) → Each Q x → Each (λ a rest. Q a rest × (test a ≡ true)) (where_it test x)
+  where_sound test x h = ?
+
+-- ---- lists
+
+module _ {A : Type 0} (Fits : A → Type 0) where
+  pub every_all : (xs : List A) → Every Fits xs → All Fits xs
+  every_all xs h = ?
+
+  pub all_every : (xs : List A) → All Fits xs → Every Fits xs
+  all_every xs h = ?
+
+module _ {A : Type 0} (p : A → Bool) where
+  pub every_pass : (xs : List A) → Every (λ a. p a ≡ true) xs → list_all p xs ≡ true
+  every_pass xs h = ?
+
+  pub pass_every : (xs : List A) → list_all p xs ≡ true → Every (λ a. p a ≡ true) xs
+  pass_every xs h = ?
+
+module _ {A : Type 0} {item : List ℕ → Reads A} {to_text : A → List ℕ} {Fits : A → Type 0} {follows : List ℕ → Bool} (r : IsListed item to_text Fits follows) where
+  -- one or more items with commas between them
+  pub list_sound : (text : List ℕ) → Each (λ items rest. IsInFront (λ items. (1 ≤ length items) × Every Fits items) (λ items. with_commas (map to_text items)) text items rest) (list_at item text)
+  list_sound text = ?
+
+  pub list_reads : (items : List A) (rest : List ℕ) → 1 ≤ length items → Every Fits items → follows rest ≡ true → ends_list rest ≡ true → list_at item (with_commas (map to_text items) ++ rest) ≡ Some (items, rest)
+  list_reads items rest some fit follow ends = ?
+
+  -- between brackets
+  pub bracketed_sound : (text : List ℕ) → Each (λ items rest. IsInFront (λ items. (1 ≤ length items) × Every Fits items) (λ items. in_brackets (with_commas (map to_text items))) text items rest) (bracketed_at item text)
+  bracketed_sound text = ?
+
+  pub bracketed_reads : (items : List A) (rest : List ℕ) → 1 ≤ length items → Every Fits items → bracketed_at item (in_brackets (with_commas (map to_text items)) ++ rest) ≡ Some (items, rest)
+  bracketed_reads items rest some fit = ?
+
+  -- between brackets, or none
+  pub bracketed_or_none_sound : (text : List ℕ) → Each (λ items rest. IsInFront (λ items. Every Fits items) (λ items. bracketed_list (map to_text items)) text items rest) (bracketed_or_none item text)
+  bracketed_or_none_sound text = ?
+
+  pub bracketed_or_none_reads : (items : List A) (rest : List ℕ) → Every Fits items → no_front 40 rest ≡ true → bracketed_or_none item (bracketed_list (map to_text items) ++ rest) ≡ Some (items, rest)
+  bracketed_or_none_reads items rest fit none = ?
+
+-- a comma in front of each item is one in front of them all
+pub behind_commas_is : (text : List ℕ) (more : List (List ℕ)) → behind_commas (text ∷ more) ≡ codes "," ++ with_commas (text ∷ more)
+behind_commas_is text more = ?
+
+-- the comma that may stand in front
+pub comma_is : (text : List ℕ) → comma_if (comma_at text).0 ++ (comma_at text).1 ≡ text
+comma_is text = ?
+
+pub comma_reads : (there : Bool) (text : List ℕ) → no_front 44 text ≡ true → comma_at (comma_if there ++ text) ≡ (there, text)
+comma_reads there text none = ?
+
+-- ---- numbers and names
+
+pub number_sound : (text : List ℕ) → Each (λ digits rest. IsInFront (λ digits. is_number digits ≡ true) (λ digits. digits) text digits rest) (number_at text)
+number_sound text = ?
+
+pub number_reads : (digits rest : List ℕ) → is_number digits ≡ true → no_figure rest ≡ true → number_at (digits ++ rest) ≡ Some (digits, rest)
+number_reads digits rest fits follows = ?
+
+pub name_sound : (text : List ℕ) → Each (λ name rest. IsInFront (λ name. is_name name ≡ true) (λ name. name) text name rest) (name_at text)
+name_sound text = ?
+
+pub name_reads : (name rest : List ℕ) → is_name name ≡ true → no_symbol rest ≡ true → name_at (name ++ rest) ≡ Some (name, rest)
+name_reads name rest fits follows = ?
+
+pub letter_sound : (text : List ℕ) → Each (λ c rest. IsInFront (λ c. is_capital c ≡ true) (λ c. c ∷ []) text c rest) (letter_at text)
+letter_sound text = ?
+
+pub letter_reads : (c : ℕ) (rest : List ℕ) → is_capital c ≡ true → letter_at (c ∷ rest) ≡ Some (c, rest)
+letter_reads c rest fits = ?
+
+pub signed_sound : (text : List ℕ) → Each (λ n rest. IsInFront (λ n. is_signed n ≡ true) signed_text text n rest) (signed_at text)
+signed_sound text = ?
+
+pub signed_reads : (n : SignedDigits) (rest : List ℕ) → is_signed n ≡ true → no_figure rest ≡ true → signed_at (signed_text n ++ rest) ≡ Some (n, rest)
+signed_reads n rest fits follows = ?
+
+-- labels, of which the list is a list of texts
+pub label_listed : IsListed number_at (λ digits. digits) (λ digits. is_number digits ≡ true) no_figure
+label_listed = ?
+
+pub labels_sound : (text : List ℕ) → Each (λ labels rest. IsInFront (λ labels. (1 ≤ length labels) × (list_all is_number labels ≡ true)) (λ labels. in_brackets (with_commas labels)) text labels rest) (bracketed_at number_at text)
+labels_sound text = ?
+
+pub labels_reads : (labels : List (List ℕ)) (rest : List ℕ) → 1 ≤ length labels → list_all is_number labels ≡ true → bracketed_at number_at (in_brackets (with_commas labels) ++ rest) ≡ Some (labels, rest)
+labels_reads labels rest some fit = ?
+
+pub signed_listed : IsListed signed_at signed_text (λ n. is_signed n ≡ true) no_figure
+signed_listed = ?
+
+-- ---- declarations
+
+abbrev pub is_dim : WrittenDim → Bool
+is_dim d = list_all is_signed (dim_numbers d)
+
+pub dim_sound : (text : List ℕ) → Each (λ d rest. IsInFront (λ d. is_dim d ≡ true) dim_text text d rest) (dim_at text)
+dim_sound text = ?
+
+pub dim_reads : (d : WrittenDim) (rest : List ℕ) → is_dim d ≡ true → ends_dim rest ≡ true → dim_at (dim_text d ++ rest) ≡ Some (d, rest)
+dim_reads d rest fits follows = ?
+
+pub dim_listed : IsListed dim_at dim_text (λ d. is_dim d ≡ true) ends_dim
+dim_listed = ?
+
+pub decl_sound : (text : List ℕ) → Each (λ d rest. IsInFront IsDecl decl_text text d rest) (decl_at text)
+decl_sound text = ?
+
+pub decl_reads : (d : WrittenDecl) (rest : List ℕ) → IsDecl d → breaks_off rest ≡ true → decl_at (decl_text d ++ rest) ≡ Some (d, rest)
+decl_reads d rest fits follows = ?
+
+pub decl_listed : IsListed decl_at decl_text IsDecl breaks_off
+decl_listed = ?
+
+pub decls_sound : (text : List ℕ) → Each (λ ds rest. IsInFront (λ ds. (1 ≤ length ds) × All IsDecl ds) decls_text text ds rest) (list_at decl_at text)
+decls_sound text = ?
+
+pub decls_reads : (ds : List WrittenDecl) (rest : List ℕ) → 1 ≤ length ds → All IsDecl ds → ends_decls rest ≡ true → list_at decl_at (decls_text ds ++ rest) ≡ Some (ds, rest)
+decls_reads ds rest some fit follows = ?
+
+pub range_sound : (text : List ℕ) → Each (λ r rest. IsInFront (λ r. is_range r ≡ true) range_text text r rest) (range_at text)
+range_sound text = ?
+
+pub range_reads : (r : WrittenRange) (rest : List ℕ) → is_range r ≡ true → no_front 45 rest ≡ true → range_at (range_text r ++ rest) ≡ Some (r, rest)
+range_reads r rest fits follows = ?
+
+pub kind_sound : (text : List ℕ) → Each (λ kind rest. IsInFront (λ kind. Unit {0}) kind_text text kind rest) (kind_at text)
+kind_sound text = ?
+
+pub kind_reads : (kind : Kind) (rest : List ℕ) → kind_at (kind_text kind ++ rest) ≡ Some (kind, rest)
+kind_reads kind rest = ?
+
+pub letters_sound : (text : List ℕ) → Each (λ letters rest. IsInFront (λ letters. are_letters letters ≡ true) letters_text text letters rest) (letters_at text)
+letters_sound text = ?
+
+pub letters_reads : (letters : WrittenLetters) (rest : List ℕ) → are_letters letters ≡ true → letters_at (letters_text letters ++ rest) ≡ Some (letters, rest)
+letters_reads letters rest fits = ?
+
+pub letters_listed : IsListed letters_at letters_text (λ letters. are_letters letters ≡ true) anything
+letters_listed = ?
+
+pub letters_list_sound : (text : List ℕ) → Each (λ letters rest. IsInFront (λ letters. (1 ≤ length letters) × (list_all are_letters letters ≡ true)) (λ letters. with_commas (map letters_text letters)) text letters rest) (list_at letters_at text)
+letters_list_sound text = ?
+
+pub letters_list_reads : (letters : List WrittenLetters) (rest : List ℕ) → 1 ≤ length letters → list_all are_letters letters ≡ true → ends_list rest ≡ true → list_at letters_at (with_commas (map letters_text letters) ++ rest) ≡ Some (letters, rest)
+letters_list_reads letters rest some fit ends = ?
+
+-- ---- COMMON
+
+pub block_sound : (text : List ℕ) → Each (λ b rest. IsInFront (λ b. (is_block b ≡ true) × (is_said b ≡ true)) block_text text b rest) (block_at text)
+block_sound text = ?
+
+pub block_reads : (b : WrittenBlock) (rest : List ℕ) → is_block b ≡ true → is_said b ≡ true → block_at (block_text b ++ rest) ≡ Some (b, rest)
+block_reads b rest fits said = ?
+
+pub part_sound : (text : List ℕ) → Each (λ p rest. IsInFront (λ p. IsPart p × (is_said p.block ≡ true)) part_text text p rest) (part_at text)
+part_sound text = ?
+
+pub part_reads : (p : WrittenPart) (rest : List ℕ) → IsPart p → is_said p.block ≡ true → ends_decls rest ≡ true → part_at (part_text p ++ rest) ≡ Some (p, rest)
+part_reads p rest fits said follows = ?
+
+pub first_part_sound : (text : List ℕ) → Each (λ p rest. IsInFront (λ p. IsPart p × (p.comma ≡ false)) part_text text p rest) (first_part_at text)
+first_part_sound text = ?
+
+pub first_part_reads : (p : WrittenPart) (rest : List ℕ) → IsPart p → p.comma ≡ false → ends_decls rest ≡ true → first_part_at (part_text p ++ rest) ≡ Some (p, rest)
+first_part_reads p rest fits none follows = ?
+
+-- parts of COMMON up to the end
+pub common_parts_sound : (text : List ℕ) → Each (λ parts rest. All IsPart parts × (list_all (λ p. is_said p.block) parts ≡ true) × (flat_map part_text parts ≡ text) × (rest ≡ [])) (parts_to_end (length text) part_at text)
+common_parts_sound text = ?
+
+pub common_parts_reads : (parts : List WrittenPart) → All IsPart parts → list_all (λ p. is_said p.block) parts ≡ true → parts_to_end (length (flat_map part_text parts)) part_at (flat_map part_text parts) ≡ Some (parts, [])
+common_parts_reads parts fit said = ?
+
+-- and they may stand behind a part
+pub common_parts_follow : (parts : List WrittenPart) → list_all (λ p. is_said p.block) parts ≡ true → ends_decls (flat_map part_text parts) ≡ true
+common_parts_follow parts said = ?
+
+-- ---- EQUIVALENCE and DATA
+
+pub member_sound : (text : List ℕ) → Each (λ m rest. IsInFront (λ m. is_member m ≡ true) member_text text m rest) (member_at text)
+member_sound text = ?
+
+pub member_reads : (m : WrittenMember) (rest : List ℕ) → is_member m ≡ true → breaks_off rest ≡ true → member_at (member_text m ++ rest) ≡ Some (m, rest)
+member_reads m rest fits follows = ?
+
+pub member_listed : IsListed member_at member_text (λ m. is_member m ≡ true) breaks_off
+member_listed = ?
+
+pub group_sound : (text : List ℕ) → Each (λ members rest. IsInFront (λ members. is_group members ≡ true) group_text text members rest) (group_at text)
+group_sound text = ?
+
+pub group_reads : (members : List WrittenMember) (rest : List ℕ) → is_group members ≡ true → group_at (group_text members ++ rest) ≡ Some (members, rest)
+group_reads members rest fits = ?
+
+pub groups_sound : (text : List ℕ) → Each (λ groups rest. IsInFront (λ groups. (1 ≤ length groups) × (list_all is_group groups ≡ true)) (λ groups. with_commas (map group_text groups)) text groups rest) (list_at group_at text)
+groups_sound text = ?
+
+pub groups_reads : (groups : List (List WrittenMember)) (rest : List ℕ) → 1 ≤ length groups → list_all is_group groups ≡ true → ends_list rest ≡ true → list_at group_at (with_commas (map group_text groups) ++ rest) ≡ Some (groups, rest)
+groups_reads groups rest some fit ends = ?
+
+pub constant_sound : (text : List ℕ) → Each (λ k rest. IsInFront (λ k. is_constant k ≡ true) constant_text text k rest) (constant_at text)
+constant_sound text = ?
+
+pub constant_reads : (k : WrittenConstant) (rest : List ℕ) → is_constant k ≡ true → no_figure rest ≡ true → constant_at (constant_text k ++ rest) ≡ Some (k, rest)
+constant_reads k rest fits follows = ?
+
+pub value_sound : (text : List ℕ) → Each (λ v rest. IsInFront (λ v. is_value v ≡ true) value_text text v rest) (value_at text)
+value_sound text = ?
+
+pub value_reads : (v : WrittenValue) (rest : List ℕ) → is_value v ≡ true → ends_value rest ≡ true → value_at (value_text v ++ rest) ≡ Some (v, rest)
+value_reads v rest fits follows = ?
+
+pub value_listed : IsListed value_at value_text (λ v. is_value v ≡ true) ends_value
+value_listed = ?
+
+-- a part of DATA, behind a comma or none
+pub data_sound : (text : List ℕ) → Each (λ d rest. IsInFront (λ d. is_data d ≡ true) data_text text d rest) (data_at text)
+data_sound text = ?
+
+pub data_reads : (d : WrittenData) (rest : List ℕ) → is_data d ≡ true → data_at (data_text d ++ rest) ≡ Some (d, rest)
+data_reads d rest fits = ?
+
+-- the first part of DATA
+pub first_data_sound : (text : List ℕ) → Each (λ d rest. IsInFront (λ d. (is_data d ≡ true) × (d.comma ≡ false)) data_text text d rest) (data_behind false text)
+first_data_sound text = ?
+
+pub first_data_reads : (d : WrittenData) (rest : List ℕ) → is_data d ≡ true → d.comma ≡ false → data_behind false (data_text d ++ rest) ≡ Some (d, rest)
+first_data_reads d rest fits none = ?
+
+-- parts of DATA up to the end
+pub data_parts_sound : (text : List ℕ) → Each (λ parts rest. (list_all is_data parts ≡ true) × (flat_map data_text parts ≡ text) × (rest ≡ [])) (parts_to_end (length text) data_at text)
+data_parts_sound text = ?
+
+pub data_parts_reads : (parts : List WrittenData) → list_all is_data parts ≡ true → parts_to_end (length (flat_map data_text parts)) data_at (flat_map data_text parts) ≡ Some (parts, [])
+data_parts_reads parts fit = ?
+
+-- ---- parts of executable statements
+
+pub expression_sound : (text : List ℕ) → Each (λ w rest. IsGrammatical w × (spelling w ++ rest ≡ text) × (ends_expression rest ≡ true)) (expression_in_front text)
+expression_sound text = ?
+
+pub expression_reads : (w : Written) (rest : List ℕ) → IsGrammatical w → ends_expression rest ≡ true → expression_in_front (spelling w ++ rest) ≡ Some (w, rest)
+expression_reads w rest fits follows = ?
+
+pub expression_listed : IsListed expression_in_front spelling IsGrammatical ends_expression
+expression_listed = ?
+
+pub variable_sound : (text : List ℕ) → Each (λ w rest. IsInFront IsVariable spelling text w rest) (variable_at text)
+variable_sound text = ?
+
+pub variable_reads : (w : Written) (rest : List ℕ) → IsVariable w → breaks_off rest ≡ true → variable_at (spelling w ++ rest) ≡ Some (w, rest)
+variable_reads w rest fits follows = ?
+
+pub variables_sound : (text : List ℕ) → Each (λ ws rest. IsInFront (λ ws. (1 ≤ length ws) × All IsVariable ws) (λ ws. with_commas (map spelling ws)) text ws rest) (list_at variable_at text)
+variables_sound text = ?
+
+pub variables_reads : (ws : List Written) (rest : List ℕ) → 1 ≤ length ws → All IsVariable ws → breaks_off rest ≡ true → ends_list rest ≡ true → list_at variable_at (with_commas (map spelling ws) ++ rest) ≡ Some (ws, rest)
+variables_reads ws rest some fit follows ends = ?
+
+pub characters_sound : (text : List ℕ) → Each (λ characters rest. IsInFront (λ characters. 1 ≤ length characters) characters_text text characters rest) (characters_at text)
+characters_sound text = ?
+
+pub characters_reads : (characters rest : List ℕ) → 1 ≤ length characters → no_front 39 rest ≡ true → characters_at (characters_text characters ++ rest) ≡ Some (characters, rest)
+characters_reads characters rest some follows = ?
+
+pub item_sound : (text : List ℕ) → Each (λ i rest. IsInFront IsItem item_text text i rest) (item_at text)
+item_sound text = ?
+
+pub item_reads : (i : WrittenItem) (rest : List ℕ) → IsItem i → ends_expression rest ≡ true → item_at (item_text i ++ rest) ≡ Some (i, rest)
+item_reads i rest fits follows = ?
+
+pub items_sound : (text : List ℕ) → Each (λ items rest. IsInFront (λ items. (1 ≤ length items) × All IsItem items) (λ items. with_commas (map item_text items)) text items rest) (list_at item_at text)
+items_sound text = ?
+
+pub items_reads : (items : List WrittenItem) (rest : List ℕ) → 1 ≤ length items → All IsItem items → ends_expression rest ≡ true → ends_list rest ≡ true → list_at item_at (with_commas (map item_text items) ++ rest) ≡ Some (items, rest)
+items_reads items rest some fit follows ends = ?
