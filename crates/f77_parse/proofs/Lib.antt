@@ -3,5 +3,6 @@ pub mod Free
 pub mod FormsUnequal
 pub mod FormsFree
 pub mod FormsSound
+pub mod FormsSoundIf
 pub mod Followers
 pub mod PartsWanted
