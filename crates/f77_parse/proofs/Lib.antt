@@ -4,5 +4,6 @@ pub mod FormsUnequal
 pub mod FormsFree
 pub mod FormsSound
 pub mod FormsSoundIf
+pub mod FormsSoundDeclared
 pub mod Followers
 pub mod PartsWanted
