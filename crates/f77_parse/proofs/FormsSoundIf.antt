@@ -68,7 +68,7 @@ inner_if_sound text =
     (λ w rest is. subst (λ (whole : List ℕ). Each (λ s behind. IsSimpleInFront whole s behind) (sign_labels_at w rest)) (if_behind w text rest is.1) (sign_labels_sound w rest is.0))
 
 -- a statement behind a condition
-conditional_text : (w : Written) (s : WrittenStatement) (text rest : List ℕ) → statement_text s ++ rest ≡ text → statement_text (WrittenStatement.logical_if w s) ++ rest ≡ if_text w text
+pub conditional_text : (w : Written) (s : WrittenStatement) (text rest : List ℕ) → statement_text s ++ rest ≡ text → statement_text (WrittenStatement.logical_if w s) ++ rest ≡ if_text w text
 conditional_text w s text rest e = append_assoc (codes "IF" ++ in_brackets (spelling w)) (statement_text s) rest ∙ ap (λ (more : List ℕ). codes "IF" ++ in_brackets (spelling w) ++ more) e
 
 behind_condition_sound : (w : Written) (text : List ℕ) → IsGrammatical w → Each (λ s rest. IsStatementInFront (if_text w text) s rest) (behind_condition w text)

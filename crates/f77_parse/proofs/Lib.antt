@@ -5,5 +5,6 @@ pub mod FormsFree
 pub mod FormsSound
 pub mod FormsSoundIf
 pub mod FormsSoundDeclared
+pub mod FormsSoundAssigned
 pub mod Followers
 pub mod PartsWanted
