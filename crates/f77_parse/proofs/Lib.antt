@@ -6,5 +6,6 @@ pub mod FormsSound
 pub mod FormsSoundIf
 pub mod FormsSoundDeclared
 pub mod FormsSoundAssigned
+pub mod FormsSoundWhole
 pub mod Followers
 pub mod PartsWanted
