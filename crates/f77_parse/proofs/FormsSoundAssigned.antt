@@ -109,13 +109,16 @@ module _ (label : List ℕ) (comma : Bool) (variable : List ℕ) where
   abbrev do_before : List ℕ → List ℕ
   do_before text = codes "DO" ++ (label ++ (comma_if comma ++ (variable ++ text)))
 
-  abbrev step_part : Written → Written → List ℕ → Reads WrittenStatement
+  -- DO from its step on
+  abbrev pub step_part : Written → Written → List ℕ → Reads WrittenStatement
   step_part first last text = read_as (λ step. WrittenStatement.do_loop label comma variable first last step) (step_at text)
 
-  abbrev last_part : Written → List ℕ → Reads WrittenStatement
+  -- from its last value on
+  abbrev pub last_part : Written → List ℕ → Reads WrittenStatement
   last_part first text = and_then_read (λ last rest. step_part first last rest) (after (codes ",") (λ next. expression_in_front next) text)
 
-  abbrev first_part : List ℕ → Reads WrittenStatement
+  -- from its first value on
+  abbrev pub first_part : List ℕ → Reads WrittenStatement
   first_part text = and_then_read (λ first rest. last_part first rest) (after (codes "=") (λ next. expression_in_front next) text)
 
 module _ (label : List ℕ) (comma : Bool) (variable : List ℕ) (label_is : is_number label ≡ true) (variable_is : is_name variable ≡ true) where
@@ -138,7 +141,8 @@ module _ (label : List ℕ) (comma : Bool) (variable : List ℕ) (label_is : is_
       each_then (λ w rest. IsGrammatical w × (61 ∷ (spelling w ++ rest) ≡ text)) (λ s rest. IsStatementInFront (do_before label comma variable text) s rest) (λ first rest. last_part label comma variable first rest) (after (codes "=") (λ next. expression_in_front next) text) (expression_behind 61 text)
       (λ first rest is. subst (λ (whole : List ℕ). Each (λ s behind. IsStatementInFront (do_before label comma variable whole) s behind) (last_part label comma variable first rest)) is.1 (last_part_sound first rest is.0))
 
-abbrev variable_part : List ℕ → List ℕ → Reads WrittenStatement
+-- DO from its comma on
+abbrev pub variable_part : List ℕ → List ℕ → Reads WrittenStatement
 variable_part label text = and_then_read (λ variable rest. first_part label (comma_at text).0 variable rest) (name_at (comma_at text).1)
 
 variable_part_sound : (label text : List ℕ) → is_number label ≡ true → Each (λ s rest. IsStatementInFront (codes "DO" ++ (label ++ text)) s rest) (variable_part label text)

@@ -7,5 +7,10 @@ pub mod FormsSoundIf
 pub mod FormsSoundDeclared
 pub mod FormsSoundAssigned
 pub mod FormsSoundWhole
+pub mod FormsReads
+pub mod FormsReadsIf
+pub mod FormsReadsDeclared
+pub mod FormsReadsAssigned
+pub mod FormsReadsWhole
 pub mod Followers
 pub mod PartsWanted
