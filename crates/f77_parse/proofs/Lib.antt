@@ -1,3 +1,6 @@
 -- Lemmas of the readers of statements.
 pub mod Followers
+pub mod PartLists
+pub mod PartNumbers
+pub mod PartReaders
 pub mod PartsWanted

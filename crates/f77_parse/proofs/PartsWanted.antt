@@ -13,104 +13,15 @@ use Rattle.f77_parse.proofs.Followers.{no_front, no_figure, no_symbol, ends_dim,
 
 -- ---- readers one behind another
 
-module _ {A : Type 0} (Q : A → List ℕ → Type 0) where
-  -- behind a front that stands there
-  pub after_sound : (front : List ℕ) (go : List ℕ → Reads A) (text : List ℕ) → ((rest : List ℕ) → front ++ rest ≡ text → Each Q (go rest)) → Each Q (after front go text)
-  after_sound front go text k = ?
-
-  pub then_front_sound : (P : A → List ℕ → Type 0) (front : List ℕ) (x : Reads A) → Each P x → ((a : A) (rest : List ℕ) → P a (front ++ rest) → Q a rest) → Each Q (then_front front x)
-  then_front_sound P front x h k = ?
-
-  pub where_sound : (test : A → Bool) (x : Reads A) → Each Q x → Each (λ a rest. Q a rest × (test a ≡ true)) (where_it test x)
-  where_sound test x h = ?
-
 -- ---- lists
 
-module _ {A : Type 0} (Fits : A → Type 0) where
-  pub every_all : (xs : List A) → Every Fits xs → All Fits xs
-  every_all xs h = ?
-
-  pub all_every : (xs : List A) → All Fits xs → Every Fits xs
-  all_every xs h = ?
-
-module _ {A : Type 0} (p : A → Bool) where
-  pub every_pass : (xs : List A) → Every (λ a. p a ≡ true) xs → list_all p xs ≡ true
-  every_pass xs h = ?
-
-  pub pass_every : (xs : List A) → list_all p xs ≡ true → Every (λ a. p a ≡ true) xs
-  pass_every xs h = ?
-
-module _ {A : Type 0} {item : List ℕ → Reads A} {to_text : A → List ℕ} {Fits : A → Type 0} {follows : List ℕ → Bool} (r : IsListed item to_text Fits follows) where
-  -- one or more items with commas between them
-  pub list_sound : (text : List ℕ) → Each (λ items rest. IsInFront (λ items. (1 ≤ length items) × Every Fits items) (λ items. with_commas (map to_text items)) text items rest) (list_at item text)
-  list_sound text = ?
-
-  pub list_reads : (items : List A) (rest : List ℕ) → 1 ≤ length items → Every Fits items → follows rest ≡ true → ends_list rest ≡ true → list_at item (with_commas (map to_text items) ++ rest) ≡ Some (items, rest)
-  list_reads items rest some fit follow ends = ?
-
-  -- between brackets
-  pub bracketed_sound : (text : List ℕ) → Each (λ items rest. IsInFront (λ items. (1 ≤ length items) × Every Fits items) (λ items. in_brackets (with_commas (map to_text items))) text items rest) (bracketed_at item text)
-  bracketed_sound text = ?
-
-  pub bracketed_reads : (items : List A) (rest : List ℕ) → 1 ≤ length items → Every Fits items → bracketed_at item (in_brackets (with_commas (map to_text items)) ++ rest) ≡ Some (items, rest)
-  bracketed_reads items rest some fit = ?
-
-  -- between brackets, or none
-  pub bracketed_or_none_sound : (text : List ℕ) → Each (λ items rest. IsInFront (λ items. Every Fits items) (λ items. bracketed_list (map to_text items)) text items rest) (bracketed_or_none item text)
-  bracketed_or_none_sound text = ?
-
-  pub bracketed_or_none_reads : (items : List A) (rest : List ℕ) → Every Fits items → no_front 40 rest ≡ true → bracketed_or_none item (bracketed_list (map to_text items) ++ rest) ≡ Some (items, rest)
-  bracketed_or_none_reads items rest fit none = ?
-
--- a comma in front of each item is one in front of them all
-pub behind_commas_is : (text : List ℕ) (more : List (List ℕ)) → behind_commas (text ∷ more) ≡ codes "," ++ with_commas (text ∷ more)
-behind_commas_is text more = ?
-
--- the comma that may stand in front
-pub comma_is : (text : List ℕ) → comma_if (comma_at text).0 ++ (comma_at text).1 ≡ text
-comma_is text = ?
-
-pub comma_reads : (there : Bool) (text : List ℕ) → no_front 44 text ≡ true → comma_at (comma_if there ++ text) ≡ (there, text)
-comma_reads there text none = ?
-
 -- ---- numbers and names
-
-pub number_sound : (text : List ℕ) → Each (λ digits rest. IsInFront (λ digits. is_number digits ≡ true) (λ digits. digits) text digits rest) (number_at text)
-number_sound text = ?
-
-pub number_reads : (digits rest : List ℕ) → is_number digits ≡ true → no_figure rest ≡ true → number_at (digits ++ rest) ≡ Some (digits, rest)
-number_reads digits rest fits follows = ?
-
-pub name_sound : (text : List ℕ) → Each (λ name rest. IsInFront (λ name. is_name name ≡ true) (λ name. name) text name rest) (name_at text)
-name_sound text = ?
-
-pub name_reads : (name rest : List ℕ) → is_name name ≡ true → no_symbol rest ≡ true → name_at (name ++ rest) ≡ Some (name, rest)
-name_reads name rest fits follows = ?
-
-pub letter_sound : (text : List ℕ) → Each (λ c rest. IsInFront (λ c. is_capital c ≡ true) (λ c. c ∷ []) text c rest) (letter_at text)
-letter_sound text = ?
-
-pub letter_reads : (c : ℕ) (rest : List ℕ) → is_capital c ≡ true → letter_at (c ∷ rest) ≡ Some (c, rest)
-letter_reads c rest fits = ?
-
-pub signed_sound : (text : List ℕ) → Each (λ n rest. IsInFront (λ n. is_signed n ≡ true) signed_text text n rest) (signed_at text)
-signed_sound text = ?
-
-pub signed_reads : (n : SignedDigits) (rest : List ℕ) → is_signed n ≡ true → no_figure rest ≡ true → signed_at (signed_text n ++ rest) ≡ Some (n, rest)
-signed_reads n rest fits follows = ?
-
--- labels, of which the list is a list of texts
-pub label_listed : IsListed number_at (λ digits. digits) (λ digits. is_number digits ≡ true) no_figure
-label_listed = ?
 
 pub labels_sound : (text : List ℕ) → Each (λ labels rest. IsInFront (λ labels. (1 ≤ length labels) × (list_all is_number labels ≡ true)) (λ labels. in_brackets (with_commas labels)) text labels rest) (bracketed_at number_at text)
 labels_sound text = ?
 
 pub labels_reads : (labels : List (List ℕ)) (rest : List ℕ) → 1 ≤ length labels → list_all is_number labels ≡ true → bracketed_at number_at (in_brackets (with_commas labels) ++ rest) ≡ Some (labels, rest)
 labels_reads labels rest some fit = ?
-
-pub signed_listed : IsListed signed_at signed_text (λ n. is_signed n ≡ true) no_figure
-signed_listed = ?
 
 -- ---- declarations
 
