@@ -1,5 +1,6 @@
 -- Lemmas of the readers of statements.
 pub mod Followers
+pub mod PartDeclarations
 pub mod PartLists
 pub mod PartNumbers
 pub mod PartReaders

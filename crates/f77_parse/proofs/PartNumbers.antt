@@ -7,12 +7,13 @@ use Rattle.f77_tree.specs.Grammar.{is_number}
 use Rattle.f77_tree.specs.StatementGrammar.{with_commas, in_brackets, Sign, SignedDigits, sign_text, signed_text, is_signed}
 use Rattle.f77_tree.specs.StatementGrammar.Sign.{No_sign, Plus_sign, Minus_sign}
 use Rattle.f77_expr.specs.Reader.{Reads, read_as, is_symbolic}
-use Rattle.f77_expr.proofs.EachRead.{Each, each_if, each_as, if_true, if_false}
+use Rattle.f77_expr.proofs.EachRead.{Each, each_if, each_as, each_weaker, if_true, if_false}
 use Rattle.f77_expr.proofs.Fronts.{run_of_kind, run_and_rest, run_ends, whole_run, drop_front}
 use Rattle.f77_expr.proofs.Followers.{breaks_off}
 use Rattle.f77_expr.proofs.Primaries.{capital_from, figure_from, name_parts}
 use Rattle.f77_parse.specs.Parts.{number_at, name_at, letter_at, sign_at, signed_at, list_at, bracketed_at}
-use Rattle.f77_parse.proofs.Followers.{no_front, no_figure, no_symbol, IsInFront, IsListed}
+use Rattle.f77_parse.proofs.Followers.{no_front, no_figure, no_symbol, IsInFront, Every, IsListed}
+use Rattle.f77_parse.proofs.PartLists.{every_pass, pass_every, bracketed_sound, bracketed_reads}
 
 -- ---- first characters
 
@@ -174,3 +175,18 @@ signed_listed = record {
   bracket = λ more. refl;
   no_stroke = signed_no_stroke;
 }
+
+map_same : (xs : List (List ℕ)) → map (λ x. x) xs ≡ xs
+map_same [] = refl
+map_same (x ∷ xs) = ap (λ (rest : List (List ℕ)). x ∷ rest) (map_same xs)
+
+-- labels between brackets
+pub labels_sound : (text : List ℕ) → Each (λ labels rest. IsInFront (λ labels. (1 ≤ length labels) × (list_all is_number labels ≡ true)) (λ labels. in_brackets (with_commas labels)) text labels rest) (bracketed_at number_at text)
+labels_sound text =
+    each_weaker (λ labels rest. IsInFront (λ labels. (1 ≤ length labels) × Every (λ digits. is_number digits ≡ true) labels) (λ labels. in_brackets (with_commas (map (λ digits. digits) labels))) text labels rest)
+    (λ labels rest. IsInFront (λ labels. (1 ≤ length labels) × (list_all is_number labels ≡ true)) (λ labels. in_brackets (with_commas labels)) text labels rest) (bracketed_at number_at text)
+    (λ labels rest is. ((is.0.0, every_pass is_number labels is.0.1), ap (λ texts. in_brackets (with_commas texts) ++ rest) (sym (map_same labels)) ∙ is.1)) (bracketed_sound label_listed text)
+
+pub labels_reads : (labels : List (List ℕ)) (rest : List ℕ) → 1 ≤ length labels → list_all is_number labels ≡ true → bracketed_at number_at (in_brackets (with_commas labels) ++ rest) ≡ Some (labels, rest)
+labels_reads labels rest some fit =
+    ap (λ texts. bracketed_at number_at (in_brackets (with_commas texts) ++ rest)) (sym (map_same labels)) ∙ bracketed_reads label_listed labels rest some (pass_every is_number labels fit)

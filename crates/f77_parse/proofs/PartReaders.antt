@@ -47,6 +47,11 @@ pub after_none : (c : ℕ) (front text : List ℕ) → no_front c text ≡ true 
 after_none c front [] h = refl
 after_none c front (d ∷ text) h = if_false (c == d) (after_front front text) None (flip c d (no_front_in c d text h))
 
+-- ---- parts one behind another
+
+pub between : (a front b tail : List ℕ) → a ++ front ++ b ++ tail ≡ a ++ (front ++ (b ++ tail))
+between a front b tail = append_assoc (a ++ front) b tail ∙ append_assoc a front (b ++ tail)
+
 -- ---- brackets, and the comma that may stand in front
 
 pub brackets_front : (text rest : List ℕ) → in_brackets text ++ rest ≡ 40 ∷ (text ++ (41 ∷ rest))

@@ -17,40 +17,7 @@ use Rattle.f77_parse.proofs.Followers.{no_front, no_figure, no_symbol, ends_dim,
 
 -- ---- numbers and names
 
-pub labels_sound : (text : List ℕ) → Each (λ labels rest. IsInFront (λ labels. (1 ≤ length labels) × (list_all is_number labels ≡ true)) (λ labels. in_brackets (with_commas labels)) text labels rest) (bracketed_at number_at text)
-labels_sound text = ?
-
-pub labels_reads : (labels : List (List ℕ)) (rest : List ℕ) → 1 ≤ length labels → list_all is_number labels ≡ true → bracketed_at number_at (in_brackets (with_commas labels) ++ rest) ≡ Some (labels, rest)
-labels_reads labels rest some fit = ?
-
 -- ---- declarations
-
-abbrev pub is_dim : WrittenDim → Bool
-is_dim d = list_all is_signed (dim_numbers d)
-
-pub dim_sound : (text : List ℕ) → Each (λ d rest. IsInFront (λ d. is_dim d ≡ true) dim_text text d rest) (dim_at text)
-dim_sound text = ?
-
-pub dim_reads : (d : WrittenDim) (rest : List ℕ) → is_dim d ≡ true → ends_dim rest ≡ true → dim_at (dim_text d ++ rest) ≡ Some (d, rest)
-dim_reads d rest fits follows = ?
-
-pub dim_listed : IsListed dim_at dim_text (λ d. is_dim d ≡ true) ends_dim
-dim_listed = ?
-
-pub decl_sound : (text : List ℕ) → Each (λ d rest. IsInFront IsDecl decl_text text d rest) (decl_at text)
-decl_sound text = ?
-
-pub decl_reads : (d : WrittenDecl) (rest : List ℕ) → IsDecl d → breaks_off rest ≡ true → decl_at (decl_text d ++ rest) ≡ Some (d, rest)
-decl_reads d rest fits follows = ?
-
-pub decl_listed : IsListed decl_at decl_text IsDecl breaks_off
-decl_listed = ?
-
-pub decls_sound : (text : List ℕ) → Each (λ ds rest. IsInFront (λ ds. (1 ≤ length ds) × All IsDecl ds) decls_text text ds rest) (list_at decl_at text)
-decls_sound text = ?
-
-pub decls_reads : (ds : List WrittenDecl) (rest : List ℕ) → 1 ≤ length ds → All IsDecl ds → ends_decls rest ≡ true → list_at decl_at (decls_text ds ++ rest) ≡ Some (ds, rest)
-decls_reads ds rest some fit follows = ?
 
 pub range_sound : (text : List ℕ) → Each (λ r rest. IsInFront (λ r. is_range r ≡ true) range_text text r rest) (range_at text)
 range_sound text = ?
