@@ -1,6 +1,7 @@
 -- Lemmas of the readers of statements.
 pub mod Followers
 pub mod PartDeclarations
+pub mod PartLetters
 pub mod PartLists
 pub mod PartNumbers
 pub mod PartReaders

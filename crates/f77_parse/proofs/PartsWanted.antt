@@ -19,33 +19,6 @@ use Rattle.f77_parse.proofs.Followers.{no_front, no_figure, no_symbol, ends_dim,
 
 -- ---- declarations
 
-pub range_sound : (text : List ℕ) → Each (λ r rest. IsInFront (λ r. is_range r ≡ true) range_text text r rest) (range_at text)
-range_sound text = ?
-
-pub range_reads : (r : WrittenRange) (rest : List ℕ) → is_range r ≡ true → no_front 45 rest ≡ true → range_at (range_text r ++ rest) ≡ Some (r, rest)
-range_reads r rest fits follows = ?
-
-pub kind_sound : (text : List ℕ) → Each (λ kind rest. IsInFront (λ kind. Unit {0}) kind_text text kind rest) (kind_at text)
-kind_sound text = ?
-
-pub kind_reads : (kind : Kind) (rest : List ℕ) → kind_at (kind_text kind ++ rest) ≡ Some (kind, rest)
-kind_reads kind rest = ?
-
-pub letters_sound : (text : List ℕ) → Each (λ letters rest. IsInFront (λ letters. are_letters letters ≡ true) letters_text text letters rest) (letters_at text)
-letters_sound text = ?
-
-pub letters_reads : (letters : WrittenLetters) (rest : List ℕ) → are_letters letters ≡ true → letters_at (letters_text letters ++ rest) ≡ Some (letters, rest)
-letters_reads letters rest fits = ?
-
-pub letters_listed : IsListed letters_at letters_text (λ letters. are_letters letters ≡ true) anything
-letters_listed = ?
-
-pub letters_list_sound : (text : List ℕ) → Each (λ letters rest. IsInFront (λ letters. (1 ≤ length letters) × (list_all are_letters letters ≡ true)) (λ letters. with_commas (map letters_text letters)) text letters rest) (list_at letters_at text)
-letters_list_sound text = ?
-
-pub letters_list_reads : (letters : List WrittenLetters) (rest : List ℕ) → 1 ≤ length letters → list_all are_letters letters ≡ true → ends_list rest ≡ true → list_at letters_at (with_commas (map letters_text letters) ++ rest) ≡ Some (letters, rest)
-letters_list_reads letters rest some fit ends = ?
-
 -- ---- COMMON
 
 pub block_sound : (text : List ℕ) → Each (λ b rest. IsInFront (λ b. (is_block b ≡ true) × (is_said b ≡ true)) block_text text b rest) (block_at text)
