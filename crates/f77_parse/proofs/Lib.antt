@@ -3,6 +3,7 @@ pub mod Followers
 pub mod PartDeclarations
 pub mod PartLetters
 pub mod PartLists
+pub mod PartMembers
 pub mod PartNumbers
 pub mod PartReaders
 pub mod PartsWanted

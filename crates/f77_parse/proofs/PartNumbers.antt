@@ -70,6 +70,12 @@ number_reads digits rest fits follows =
     ∙ if_true (nat_lt 0 (length digits)) (Some (digits, drop (length digits) (digits ++ rest))) None both.0
     ∙ ap (λ tail. Some (digits, tail)) (drop_front digits rest)
 
+-- no number stands where no digit does
+pub number_none : (c : ℕ) (text : List ℕ) → is_figure c ≡ false → number_at (c ∷ text) ≡ None
+number_none c text h =
+    let read_of : List ℕ → Reads (List ℕ) = λ run. if nat_lt 0 (length run) then Some (run, drop (length run) (c ∷ text)) else None in
+    ap read_of (run_ends is_figure c text h)
+
 -- ---- names and letters
 
 pub name_sound : (text : List ℕ) → Each (λ name rest. IsInFront (λ name. is_name name ≡ true) (λ name. name) text name rest) (name_at text)
@@ -147,14 +153,17 @@ signed_reads n rest fits follows = here n.sign
     here Plus_sign = reads Plus_sign
     here Minus_sign = reads Minus_sign
 
--- no signed number begins with a stroke or an asterisk, say
-pub signed_no_stroke : (n : SignedDigits) (rest : List ℕ) → is_signed n ≡ true → no_front 47 (signed_text n ++ rest) ≡ true
-signed_no_stroke n rest fits = here n.sign
+-- a signed number begins with a digit or a sign
+pub signed_no_front : (k : ℕ) (n : SignedDigits) (rest : List ℕ) → is_signed n ≡ true → k < 48 → not (43 == k) ≡ true → not (45 == k) ≡ true → no_front k (signed_text n ++ rest) ≡ true
+signed_no_front k n rest fits below no_plus no_minus = here n.sign
   where
-    here : (sign : Sign) → no_front 47 ((sign_text sign ++ n.digits) ++ rest) ≡ true
-    here No_sign = number_no_front 47 n.digits rest fits (omega arith)
-    here Plus_sign = refl
-    here Minus_sign = refl
+    here : (sign : Sign) → no_front k ((sign_text sign ++ n.digits) ++ rest) ≡ true
+    here No_sign = number_no_front k n.digits rest fits below
+    here Plus_sign = no_plus
+    here Minus_sign = no_minus
+
+pub signed_no_stroke : (n : SignedDigits) (rest : List ℕ) → is_signed n ≡ true → no_front 47 (signed_text n ++ rest) ≡ true
+signed_no_stroke n rest fits = signed_no_front 47 n rest fits (omega arith) refl refl
 
 -- ---- lists of them
 

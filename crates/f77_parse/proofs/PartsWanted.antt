@@ -52,27 +52,6 @@ common_parts_follow parts said = ?
 
 -- ---- EQUIVALENCE and DATA
 
-pub member_sound : (text : List ℕ) → Each (λ m rest. IsInFront (λ m. is_member m ≡ true) member_text text m rest) (member_at text)
-member_sound text = ?
-
-pub member_reads : (m : WrittenMember) (rest : List ℕ) → is_member m ≡ true → breaks_off rest ≡ true → member_at (member_text m ++ rest) ≡ Some (m, rest)
-member_reads m rest fits follows = ?
-
-pub member_listed : IsListed member_at member_text (λ m. is_member m ≡ true) breaks_off
-member_listed = ?
-
-pub group_sound : (text : List ℕ) → Each (λ members rest. IsInFront (λ members. is_group members ≡ true) group_text text members rest) (group_at text)
-group_sound text = ?
-
-pub group_reads : (members : List WrittenMember) (rest : List ℕ) → is_group members ≡ true → group_at (group_text members ++ rest) ≡ Some (members, rest)
-group_reads members rest fits = ?
-
-pub groups_sound : (text : List ℕ) → Each (λ groups rest. IsInFront (λ groups. (1 ≤ length groups) × (list_all is_group groups ≡ true)) (λ groups. with_commas (map group_text groups)) text groups rest) (list_at group_at text)
-groups_sound text = ?
-
-pub groups_reads : (groups : List (List WrittenMember)) (rest : List ℕ) → 1 ≤ length groups → list_all is_group groups ≡ true → ends_list rest ≡ true → list_at group_at (with_commas (map group_text groups) ++ rest) ≡ Some (groups, rest)
-groups_reads groups rest some fit ends = ?
-
 pub constant_sound : (text : List ℕ) → Each (λ k rest. IsInFront (λ k. is_constant k ≡ true) constant_text text k rest) (constant_at text)
 constant_sound text = ?
 
