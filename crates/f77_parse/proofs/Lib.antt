@@ -1,5 +1,6 @@
 -- Lemmas of the readers of statements.
 pub mod Followers
+pub mod PartConstants
 pub mod PartDeclarations
 pub mod PartLetters
 pub mod PartLists

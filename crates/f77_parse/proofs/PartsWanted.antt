@@ -52,21 +52,6 @@ common_parts_follow parts said = ?
 
 -- ---- EQUIVALENCE and DATA
 
-pub constant_sound : (text : List ℕ) → Each (λ k rest. IsInFront (λ k. is_constant k ≡ true) constant_text text k rest) (constant_at text)
-constant_sound text = ?
-
-pub constant_reads : (k : WrittenConstant) (rest : List ℕ) → is_constant k ≡ true → no_figure rest ≡ true → constant_at (constant_text k ++ rest) ≡ Some (k, rest)
-constant_reads k rest fits follows = ?
-
-pub value_sound : (text : List ℕ) → Each (λ v rest. IsInFront (λ v. is_value v ≡ true) value_text text v rest) (value_at text)
-value_sound text = ?
-
-pub value_reads : (v : WrittenValue) (rest : List ℕ) → is_value v ≡ true → ends_value rest ≡ true → value_at (value_text v ++ rest) ≡ Some (v, rest)
-value_reads v rest fits follows = ?
-
-pub value_listed : IsListed value_at value_text (λ v. is_value v ≡ true) ends_value
-value_listed = ?
-
 -- a part of DATA, behind a comma or none
 pub data_sound : (text : List ℕ) → Each (λ d rest. IsInFront (λ d. is_data d ≡ true) data_text text d rest) (data_at text)
 data_sound text = ?
