@@ -1,10 +1,12 @@
 -- Lemmas of the readers of statements.
 pub mod Followers
 pub mod PartConstants
+pub mod PartData
 pub mod PartDeclarations
 pub mod PartLetters
 pub mod PartLists
 pub mod PartMembers
 pub mod PartNumbers
 pub mod PartReaders
+pub mod PartSequences
 pub mod PartsWanted

@@ -52,27 +52,6 @@ common_parts_follow parts said = ?
 
 -- ---- EQUIVALENCE and DATA
 
--- a part of DATA, behind a comma or none
-pub data_sound : (text : List ℕ) → Each (λ d rest. IsInFront (λ d. is_data d ≡ true) data_text text d rest) (data_at text)
-data_sound text = ?
-
-pub data_reads : (d : WrittenData) (rest : List ℕ) → is_data d ≡ true → data_at (data_text d ++ rest) ≡ Some (d, rest)
-data_reads d rest fits = ?
-
--- the first part of DATA
-pub first_data_sound : (text : List ℕ) → Each (λ d rest. IsInFront (λ d. (is_data d ≡ true) × (d.comma ≡ false)) data_text text d rest) (data_behind false text)
-first_data_sound text = ?
-
-pub first_data_reads : (d : WrittenData) (rest : List ℕ) → is_data d ≡ true → d.comma ≡ false → data_behind false (data_text d ++ rest) ≡ Some (d, rest)
-first_data_reads d rest fits none = ?
-
--- parts of DATA up to the end
-pub data_parts_sound : (text : List ℕ) → Each (λ parts rest. (list_all is_data parts ≡ true) × (flat_map data_text parts ≡ text) × (rest ≡ [])) (parts_to_end (length text) data_at text)
-data_parts_sound text = ?
-
-pub data_parts_reads : (parts : List WrittenData) → list_all is_data parts ≡ true → parts_to_end (length (flat_map data_text parts)) data_at (flat_map data_text parts) ≡ Some (parts, [])
-data_parts_reads parts fit = ?
-
 -- ---- parts of executable statements
 
 pub expression_sound : (text : List ℕ) → Each (λ w rest. IsGrammatical w × (spelling w ++ rest ≡ text) × (ends_expression rest ≡ true)) (expression_in_front text)
