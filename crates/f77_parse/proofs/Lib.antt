@@ -1,5 +1,6 @@
 -- Lemmas of the readers of statements.
 pub mod Followers
+pub mod PartCommon
 pub mod PartConstants
 pub mod PartData
 pub mod PartDeclarations

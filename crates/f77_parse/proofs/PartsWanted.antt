@@ -21,35 +21,6 @@ use Rattle.f77_parse.proofs.Followers.{no_front, no_figure, no_symbol, ends_dim,
 
 -- ---- COMMON
 
-pub block_sound : (text : List ℕ) → Each (λ b rest. IsInFront (λ b. (is_block b ≡ true) × (is_said b ≡ true)) block_text text b rest) (block_at text)
-block_sound text = ?
-
-pub block_reads : (b : WrittenBlock) (rest : List ℕ) → is_block b ≡ true → is_said b ≡ true → block_at (block_text b ++ rest) ≡ Some (b, rest)
-block_reads b rest fits said = ?
-
-pub part_sound : (text : List ℕ) → Each (λ p rest. IsInFront (λ p. IsPart p × (is_said p.block ≡ true)) part_text text p rest) (part_at text)
-part_sound text = ?
-
-pub part_reads : (p : WrittenPart) (rest : List ℕ) → IsPart p → is_said p.block ≡ true → ends_decls rest ≡ true → part_at (part_text p ++ rest) ≡ Some (p, rest)
-part_reads p rest fits said follows = ?
-
-pub first_part_sound : (text : List ℕ) → Each (λ p rest. IsInFront (λ p. IsPart p × (p.comma ≡ false)) part_text text p rest) (first_part_at text)
-first_part_sound text = ?
-
-pub first_part_reads : (p : WrittenPart) (rest : List ℕ) → IsPart p → p.comma ≡ false → ends_decls rest ≡ true → first_part_at (part_text p ++ rest) ≡ Some (p, rest)
-first_part_reads p rest fits none follows = ?
-
--- parts of COMMON up to the end
-pub common_parts_sound : (text : List ℕ) → Each (λ parts rest. All IsPart parts × (list_all (λ p. is_said p.block) parts ≡ true) × (flat_map part_text parts ≡ text) × (rest ≡ [])) (parts_to_end (length text) part_at text)
-common_parts_sound text = ?
-
-pub common_parts_reads : (parts : List WrittenPart) → All IsPart parts → list_all (λ p. is_said p.block) parts ≡ true → parts_to_end (length (flat_map part_text parts)) part_at (flat_map part_text parts) ≡ Some (parts, [])
-common_parts_reads parts fit said = ?
-
--- and they may stand behind a part
-pub common_parts_follow : (parts : List WrittenPart) → list_all (λ p. is_said p.block) parts ≡ true → ends_decls (flat_map part_text parts) ≡ true
-common_parts_follow parts said = ?
-
 -- ---- EQUIVALENCE and DATA
 
 -- ---- parts of executable statements
