@@ -4,10 +4,11 @@ pub mod PartCommon
 pub mod PartConstants
 pub mod PartData
 pub mod PartDeclarations
+pub mod PartExpressions
+pub mod PartItems
 pub mod PartLetters
 pub mod PartLists
 pub mod PartMembers
 pub mod PartNumbers
 pub mod PartReaders
 pub mod PartSequences
-pub mod PartsWanted

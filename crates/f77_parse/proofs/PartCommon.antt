@@ -1,5 +1,5 @@
 -- Blocks and parts of COMMON.
-use Rattle.std.proofs.Common.{◌≡◌, ◌==◌, ℕ, ◌+◌, ◌<◌, ◌≤◌, Bool, true, false, not, ◌&&◌, List, [], ◌∷◌, ◌++◌, length, flat_map, codes, All, Option, Some, None, if◌then◌else◌, refl, sym, ap, subst, ◌∙◌, arith, append_assoc, length-append}
+use Rattle.std.proofs.Common.{◌≡◌, ◌==◌, ℕ, ◌≤◌, Bool, true, false, List, [], ◌∷◌, ◌++◌, length, flat_map, codes, All, Option, Some, refl, sym, ap, ◌∙◌, arith, append_assoc, length-append}
 use Rattle.std.specs.List.{list_all}
 use Rattle.f77_tree.specs.Name.{is_name}
 use Rattle.f77_tree.specs.StatementGrammar.{comma_if, WrittenDecl, decls_text, IsDecl, WrittenBlock, block_text, is_block, is_said, WrittenPart, part_text, IsPart}

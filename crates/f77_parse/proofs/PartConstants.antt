@@ -1,15 +1,14 @@
 -- Constants and values of DATA.
-use Rattle.std.proofs.Common.{◌≡◌, ◌==◌, ℕ, ◌<◌, ◌≤◌, Bool, true, false, not, ◌&&◌, List, [], ◌∷◌, ◌++◌, codes, Option, Some, None, if◌then◌else◌, refl, sym, ap, ◌∙◌, arith, append_assoc}
+use Rattle.std.proofs.Common.{◌≡◌, ◌==◌, ℕ, Bool, true, false, List, [], ◌∷◌, ◌++◌, codes, Option, Some, None, refl, sym, ap, ◌∙◌, arith}
 use Rattle.std.proofs.lemmas.Bool.{and_parts, and_from}
-use Rattle.std.specs.List.{list_all}
 use Rattle.f77_tree.specs.Grammar.{is_number, truth_text}
-use Rattle.f77_tree.specs.StatementGrammar.{Sign, SignedDigits, sign_text, signed_text, is_signed, WrittenConstant, constant_text, is_constant, WrittenValue, times_text, value_text, are_times, is_value}
+use Rattle.f77_tree.specs.StatementGrammar.{Sign, signed_text, is_signed, WrittenConstant, constant_text, is_constant, WrittenValue, value_text, is_value}
 use Rattle.f77_tree.specs.StatementGrammar.Sign.{No_sign, Plus_sign, Minus_sign}
 use Rattle.f77_tree.specs.StatementGrammar.WrittenConstant.{Whole, Logical_value}
 use Rattle.f77_expr.specs.Reader.{Reads, read_as, after_front, this_or}
 use Rattle.f77_expr.proofs.EachRead.{Each, each_if, each_as, each_this_or, if_false}
 use Rattle.f77_expr.proofs.Fronts.{front_is}
-use Rattle.f77_parse.specs.Parts.{number_at, signed_at, truth_at, constant_at, unsigned, value_behind, value_begun, value_at}
+use Rattle.f77_parse.specs.Parts.{number_at, signed_at, truth_at, constant_at, value_behind, value_begun, value_at}
 use Rattle.f77_parse.proofs.Followers.{no_front, no_figure, ends_value, IsInFront, IsListed}
 use Rattle.f77_parse.proofs.PartReaders.{no_front_in, after_none, between}
 use Rattle.f77_parse.proofs.PartNumbers.{number_sound, number_reads, number_none, number_no_front, signed_sound, signed_reads, signed_no_front, signed_no_stroke}

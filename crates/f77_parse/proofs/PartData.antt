@@ -1,12 +1,12 @@
 -- Parts of DATA: items and their values between strokes.
-use Rattle.std.proofs.Common.{◌≡◌, ℕ, ◌+◌, ◌<◌, ◌≤◌, Bool, true, false, ◌&&◌, List, [], ◌∷◌, ◌++◌, length, map, flat_map, codes, Some, nat_lt, refl, sym, ap, ◌∙◌, arith, append_assoc, length-append, append-nil}
+use Rattle.std.proofs.Common.{◌≡◌, ℕ, ◌<◌, ◌≤◌, Bool, true, false, ◌&&◌, List, [], ◌∷◌, ◌++◌, length, map, flat_map, codes, Some, nat_lt, refl, sym, ap, ◌∙◌, arith, append_assoc, length-append}
 use Rattle.std.proofs.lemmas.Bool.{and_parts, and_from, ltb-true, lt-ltb}
 use Rattle.std.specs.List.{list_all}
 use Rattle.f77_tree.specs.StatementGrammar.{with_commas, comma_if, WrittenMember, member_text, is_member, WrittenValue, value_text, is_value, WrittenData, data_text, is_data}
 use Rattle.f77_expr.specs.Reader.{Reads, read_as, and_then_read}
 use Rattle.f77_expr.proofs.EachRead.{Each, each_then, each_as, each_weaker}
 use Rattle.f77_parse.specs.Parts.{after, then_front, list_at, comma_at, member_at, value_at, data_behind, data_at, parts_to_end}
-use Rattle.f77_parse.proofs.Followers.{no_front, anything, IsInFront, Every}
+use Rattle.f77_parse.proofs.Followers.{anything, IsInFront}
 use Rattle.f77_parse.proofs.PartReaders.{after_sound, then_front_sound, comma_is, comma_reads}
 use Rattle.f77_parse.proofs.PartLists.{every_pass, pass_every, list_no_front, list_pass_sound, list_pass_reads}
 use Rattle.f77_parse.proofs.PartMembers.{member_no_front, member_listed}

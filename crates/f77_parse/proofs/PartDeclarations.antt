@@ -1,22 +1,19 @@
 -- Dimensions, declarators, ranges of letters, and letters with their kind.
-use Rattle.std.proofs.Common.{◌≡◌, ◌==◌, ℕ, ◌<◌, ◌≤◌, Bool, true, false, not, ◌&&◌, List, [], ◌∷◌, ◌++◌, length, map, flat_map, codes, All, Option, Some, None, nat_le, nat_lt, refl, sym, ap, ◌∙◌, arith, append_assoc}
-use Rattle.std.proofs.lemmas.Bool.{and_parts, and_from, leb-true, le-leb, ltb-true, lt-ltb}
+use Rattle.std.proofs.Common.{◌≡◌, ℕ, ◌≤◌, Bool, true, ◌&&◌, List, [], ◌∷◌, ◌++◌, length, map, flat_map, codes, All, Option, Some, None, nat_le, refl, sym, ap, ◌∙◌, arith, append_assoc}
+use Rattle.std.proofs.lemmas.Bool.{and_parts, and_from, leb-true, le-leb}
 use Rattle.std.proofs.lemmas.List.Folds.{list_all-append}
 use Rattle.std.specs.List.{list_all}
-use Rattle.f77_tree.specs.declared.declarations.Kind.{Kind}
-use Rattle.f77_tree.specs.declared.declarations.Kind.TheVariants.{Integer, Logical}
-use Rattle.f77_tree.specs.Name.{is_capital, is_name}
-use Rattle.f77_tree.specs.StatementGrammar.{with_commas, in_brackets, SignedDigits, signed_text, is_signed, WrittenDim, dim_text, low_text, dim_numbers, bracketed_list, WrittenDecl, decl_text, decls_text, decl_numbers, IsDecl, WrittenRange, range_text, last_text, is_range, kind_text, WrittenLetters, letters_text, are_letters}
-use Rattle.f77_expr.specs.Reader.{Reads, read_as, and_then_read, after_front, this_or}
-use Rattle.f77_expr.proofs.EachRead.{Each, each_then, each_as, each_this_or, each_weaker}
+use Rattle.f77_tree.specs.Name.{is_name}
+use Rattle.f77_tree.specs.StatementGrammar.{SignedDigits, signed_text, is_signed, WrittenDim, dim_text, dim_numbers, bracketed_list, WrittenDecl, decl_text, decls_text, IsDecl}
+use Rattle.f77_expr.specs.Reader.{Reads, read_as, and_then_read, after_front}
+use Rattle.f77_expr.proofs.EachRead.{Each, each_then, each_as}
 use Rattle.f77_expr.proofs.Fronts.{front_is}
 use Rattle.f77_expr.proofs.Followers.{breaks_off}
-use Rattle.f77_expr.proofs.Primaries.{capital_from}
-use Rattle.f77_parse.specs.Parts.{where_it, name_at, letter_at, signed_at, list_at, bracketed_at, bracketed_or_none, dim_behind, dim_at, decl_at, range_behind, range_at, kind_at, letters_at}
-use Rattle.f77_parse.proofs.Followers.{no_front, no_figure, no_symbol, ends_dim, ends_list, ends_decls, anything, IsInFront, Every, IsListed}
+use Rattle.f77_parse.specs.Parts.{where_it, name_at, signed_at, list_at, bracketed_or_none, dim_behind, dim_at, decl_at}
+use Rattle.f77_parse.proofs.Followers.{no_front, no_figure, no_symbol, ends_dim, ends_list, ends_decls, IsInFront, Every, IsListed}
 use Rattle.f77_parse.proofs.PartReaders.{where_sound, where_reads, after_none, between}
-use Rattle.f77_parse.proofs.PartLists.{every_pass, pass_every, bracketed_sound, bracketed_reads, bracketed_or_none_sound, bracketed_or_none_reads, list_all_sound, list_all_reads, list_pass_sound, list_pass_reads}
-use Rattle.f77_parse.proofs.PartNumbers.{is_no, name_no_front, breaks_symbol, breaks_bracket, name_sound, name_reads, letter_sound, letter_reads, signed_sound, signed_reads, signed_no_stroke}
+use Rattle.f77_parse.proofs.PartLists.{bracketed_or_none_sound, bracketed_or_none_reads, list_all_sound, list_all_reads}
+use Rattle.f77_parse.proofs.PartNumbers.{name_no_front, breaks_symbol, breaks_bracket, name_sound, name_reads, signed_sound, signed_reads, signed_no_stroke}
 
 -- ---- dimensions
 

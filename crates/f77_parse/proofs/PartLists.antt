@@ -1,11 +1,11 @@
 -- Lists of items with commas between them, between brackets or not, for any reader of items.
-use Rattle.std.proofs.Common.{◌≡◌, ◌==◌, ℕ, zero, suc, ◌+◌, ◌<◌, ◌≤◌, Bool, true, false, not, ◌&&◌, List, [], ◌∷◌, ◌++◌, length, map, flat_map, codes, All, Option, Some, None, if◌then◌else◌, refl, sym, ap, subst, ◌∙◌, arith, append_assoc, append-nil, length-append}
+use Rattle.std.proofs.Common.{◌≡◌, ◌==◌, ℕ, zero, suc, ◌≤◌, Bool, true, false, not, ◌&&◌, List, [], ◌∷◌, ◌++◌, length, map, codes, All, Option, Some, None, if◌then◌else◌, refl, sym, ap, ◌∙◌, arith, append_assoc, append-nil, length-append}
 use Rattle.std.proofs.lemmas.Bool.{not-true, eqb-true, and_parts, and_from}
 use Rattle.std.proofs.lemmas.List.Elements.{All-nil, All-cons}
 use Rattle.std.specs.List.{list_all}
 use Rattle.f77_tree.specs.StatementGrammar.{with_commas, in_brackets, bracketed_list, behind_commas}
 use Rattle.f77_expr.specs.Reader.{Reads, read_as, and_then_read}
-use Rattle.f77_expr.proofs.EachRead.{Each, each_if, each_then, each_as, each_weaker, if_true, if_false}
+use Rattle.f77_expr.proofs.EachRead.{Each, each_if, each_then, each_as, each_weaker, if_false}
 use Rattle.f77_parse.specs.Parts.{then_front, behind_comma, more_listed, listed, list_at, bracketed_at, bracketed_or_none}
 use Rattle.f77_parse.proofs.Followers.{no_front, ends_list, IsInFront, Every, IsListed}
 use Rattle.f77_parse.proofs.PartReaders.{after_sound, then_front_sound, no_front_in, brackets_front}

@@ -1,5 +1,5 @@
 -- Members of EQUIVALENCE and items of DATA: names with subscripts or without, and groups of them.
-use Rattle.std.proofs.Common.{◌≡◌, ℕ, ◌<◌, ◌≤◌, Bool, true, ◌&&◌, List, ◌++◌, length, map, Some, nat_le, refl, ap, ◌∙◌, arith, append_assoc}
+use Rattle.std.proofs.Common.{◌≡◌, ℕ, ◌<◌, ◌≤◌, Bool, true, List, ◌++◌, length, map, Some, nat_le, refl, ap, ◌∙◌, arith, append_assoc}
 use Rattle.std.proofs.lemmas.Bool.{and_parts, and_from, leb-true}
 use Rattle.std.specs.List.{list_all}
 use Rattle.f77_tree.specs.Name.{is_name}

@@ -1,5 +1,5 @@
 -- Numbers, names, letters and signed numbers.
-use Rattle.std.proofs.Common.{◌≡◌, ◌==◌, ℕ, ◌<◌, ◌≤◌, Bool, true, false, not, ◌&&◌, ◌||◌, List, [], ◌∷◌, ◌++◌, length, drop, take_while, map, codes, Some, None, if◌then◌else◌, nat_le, nat_lt, refl, sym, ap, ◌∙◌, arith, append_assoc}
+use Rattle.std.proofs.Common.{◌≡◌, ◌==◌, ℕ, ◌<◌, ◌≤◌, Bool, true, false, not, ◌||◌, List, [], ◌∷◌, ◌++◌, length, drop, take_while, map, Some, None, if◌then◌else◌, nat_lt, refl, sym, ap, ◌∙◌, arith, append_assoc}
 use Rattle.std.proofs.lemmas.Bool.{not-true, eqb-true, and_parts, and_from, ne_eqb, or_parts}
 use Rattle.std.specs.List.{list_all}
 use Rattle.f77_tree.specs.Name.{is_capital, is_figure, is_name}
@@ -11,7 +11,7 @@ use Rattle.f77_expr.proofs.EachRead.{Each, each_if, each_as, each_weaker, if_tru
 use Rattle.f77_expr.proofs.Fronts.{run_of_kind, run_and_rest, run_ends, whole_run, drop_front}
 use Rattle.f77_expr.proofs.Followers.{breaks_off}
 use Rattle.f77_expr.proofs.Primaries.{capital_from, figure_from, name_parts}
-use Rattle.f77_parse.specs.Parts.{number_at, name_at, letter_at, sign_at, signed_at, list_at, bracketed_at}
+use Rattle.f77_parse.specs.Parts.{number_at, name_at, letter_at, sign_at, signed_at, bracketed_at}
 use Rattle.f77_parse.proofs.Followers.{no_front, no_figure, no_symbol, IsInFront, Every, IsListed}
 use Rattle.f77_parse.proofs.PartLists.{every_pass, pass_every, bracketed_sound, bracketed_reads}
 

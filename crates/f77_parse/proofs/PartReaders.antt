@@ -1,14 +1,19 @@
 -- Readers one behind another, and fronts that don't stand there.
-use Rattle.std.proofs.Common.{◌≡◌, ◌≢◌, ◌==◌, ℕ, ◌<◌, ◌≤◌, Bool, true, false, not, List, [], ◌∷◌, ◌++◌, codes, Option, Some, None, if◌then◌else◌, refl, sym, ap, subst, ◌∙◌, append_assoc}
+use Rattle.std.proofs.Common.{◌≡◌, ◌==◌, ℕ, Bool, true, false, List, [], ◌∷◌, ◌++◌, Option, Some, None, if◌then◌else◌, refl, sym, ap, subst, ◌∙◌, append_assoc}
 use Rattle.std.proofs.lemmas.Bool.{not-true, eqb-true, eq-eqb, ne_eqb, true≢false}
 use Rattle.f77_tree.specs.StatementGrammar.{in_brackets, comma_if}
-use Rattle.f77_expr.specs.Reader.{Reads, and_then_read, after_front}
+use Rattle.f77_expr.specs.Reader.{Reads, after_front}
 use Rattle.f77_expr.proofs.EachRead.{Each, each_if, each_then, if_false}
 use Rattle.f77_expr.proofs.Fronts.{front_is}
 use Rattle.f77_parse.specs.Parts.{behind, after, then_front, where_it, comma_at}
 use Rattle.f77_parse.proofs.Followers.{no_front}
 
 module _ {A : Type 0} (Q : A → List ℕ → Type 0) where
+  -- of what is read
+  pub each_read : (x : Reads A) → ((a : A) (rest : List ℕ) → x ≡ Some (a, rest) → Q a rest) → Each Q x
+  each_read None k = tt
+  each_read (Some (a, rest)) k = k a rest refl
+
   -- behind a front that stands there
   pub after_sound : (front : List ℕ) (go : List ℕ → Reads A) (text : List ℕ) → ((rest : List ℕ) → front ++ rest ≡ text → Each Q (go rest)) → Each Q (after front go text)
   after_sound front go text k = here (after_front front text) refl
