@@ -13,4 +13,15 @@ pub mod FormsReadsDeclared
 pub mod FormsReadsAssigned
 pub mod FormsReadsWhole
 pub mod Followers
-pub mod PartsWanted
+pub mod PartCommon
+pub mod PartConstants
+pub mod PartData
+pub mod PartDeclarations
+pub mod PartExpressions
+pub mod PartItems
+pub mod PartLetters
+pub mod PartLists
+pub mod PartMembers
+pub mod PartNumbers
+pub mod PartReaders
+pub mod PartSequences
