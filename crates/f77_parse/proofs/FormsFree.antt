@@ -8,7 +8,7 @@ use Rattle.f77_tree.specs.Grammar.{Written, Arguments, IsGrammatical, AreGrammat
 use Rattle.f77_tree.specs.StatementGrammar.{with_commas, in_brackets, comma_if, characters_text, WrittenItem, item_text, IsItem, behind_commas, PrintForm, print_text, ReadForm, read_text, WrittenStop, stop_text, is_stop, IsVariable, step_text, WrittenStatement, statement_text, IsStatement, letters_text, decls_text, kind_text, part_text, group_text, data_text}
 use Rattle.f77_parse.specs.Forms.{stands_free}
 use Rattle.f77_parse.proofs.Followers.{Every}
-use Rattle.f77_parse.proofs.PartsWanted.{all_every, pass_every, behind_commas_is}
+use Rattle.f77_parse.proofs.PartLists.{all_every, pass_every, behind_commas_is}
 use Rattle.f77_parse.proofs.Free.{PassesOver, pass_both, absent, is_mark, expression_passes, plain_passes, constant_passes, HasNoEquals, unequal_both, unequal_free}
 use Rattle.f77_parse.proofs.FormsUnequal.{unequal_nothing, unequal_number, unequal_name, unequal_list, unequal_decls, unequal_kind, unequal_letters_list, unequal_parts, unequal_groups, unequal_data_parts}
 

@@ -13,7 +13,11 @@ use Rattle.f77_expr.proofs.Primaries.{figure_from}
 use Rattle.f77_parse.specs.Parts.{where_it, number_at, list_at, bracketed_at, expression_in_front, variable_at, characters_at, item_at}
 use Rattle.f77_parse.specs.Forms.{stop_at, computed_at, go_to_at, items_behind, items_at, targets_at, simple_at}
 use Rattle.f77_parse.proofs.Followers.{no_front}
-use Rattle.f77_parse.proofs.PartsWanted.{behind_commas_is, comma_reads, number_reads, labels_reads, expression_reads, variables_reads, characters_reads, items_reads}
+use Rattle.f77_parse.proofs.PartExpressions.{expression_reads, variables_reads}
+use Rattle.f77_parse.proofs.PartItems.{characters_reads, items_reads}
+use Rattle.f77_parse.proofs.PartLists.{behind_commas_is}
+use Rattle.f77_parse.proofs.PartNumbers.{number_reads, labels_reads}
+use Rattle.f77_parse.proofs.PartReaders.{comma_reads}
 
 -- up to the end of a text
 pub to_the_end : {A : Type 0} (reader : List ℕ → Reads A) (text : List ℕ) (a : A) → reader (text ++ []) ≡ Some (a, []) → reader text ≡ Some (a, [])

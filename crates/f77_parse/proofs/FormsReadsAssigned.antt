@@ -11,7 +11,10 @@ use Rattle.f77_expr.proofs.Spellings.{call_spelling}
 use Rattle.f77_parse.specs.Parts.{after, number_at, name_at, comma_at, ends_expression, bracketed_or_none, variable_of, expression_in_front, variable_at}
 use Rattle.f77_parse.specs.Forms.{step_at, do_at, assigned_at, condition_of, conditional_at, equals_behind, equals_at}
 use Rattle.f77_parse.proofs.Followers.{no_front, no_figure}
-use Rattle.f77_parse.proofs.PartsWanted.{comma_reads, number_reads, name_reads, expression_reads, expression_listed, variable_reads, bracketed_reads}
+use Rattle.f77_parse.proofs.PartExpressions.{expression_reads, expression_listed, variable_reads}
+use Rattle.f77_parse.proofs.PartLists.{bracketed_reads}
+use Rattle.f77_parse.proofs.PartNumbers.{number_reads, name_reads}
+use Rattle.f77_parse.proofs.PartReaders.{comma_reads}
 use Rattle.f77_parse.proofs.FormsReads.{to_the_end}
 use Rattle.f77_parse.proofs.FormsFree.{do_spelling}
 use Rattle.f77_parse.proofs.FormsSoundAssigned.{step_part, last_part, first_part, variable_part}

@@ -11,7 +11,12 @@ use Rattle.f77_expr.specs.Reader.{Reads, read_as, and_then_read, after_front}
 use Rattle.f77_expr.proofs.EachRead.{if_true}
 use Rattle.f77_parse.specs.Parts.{where_it, name_at, list_at, letters_at, decl_at, first_part_at, part_at, group_at, data_behind, data_at, parts_to_end}
 use Rattle.f77_parse.specs.Forms.{form_or, alone, implicit_at, typed_at, keyword_at}
-use Rattle.f77_parse.proofs.PartsWanted.{name_reads, letters_list_reads, decls_reads, first_part_reads, common_parts_reads, common_parts_follow, groups_reads, first_data_reads, data_parts_reads}
+use Rattle.f77_parse.proofs.PartCommon.{first_part_reads, common_parts_reads, common_parts_follow}
+use Rattle.f77_parse.proofs.PartData.{first_data_reads, data_parts_reads}
+use Rattle.f77_parse.proofs.PartDeclarations.{decls_reads}
+use Rattle.f77_parse.proofs.PartLetters.{letters_list_reads}
+use Rattle.f77_parse.proofs.PartMembers.{groups_reads}
+use Rattle.f77_parse.proofs.PartNumbers.{name_reads}
 use Rattle.f77_parse.proofs.FormsReads.{to_the_end}
 
 pub program_reads : (name : List ℕ) → is_name name ≡ true → keyword_at (codes "PROGRAM" ++ name) ≡ Some (WrittenStatement.program name, [])

@@ -9,7 +9,8 @@ use Rattle.f77_expr.specs.Reader.{read_as, and_then_read, after_front}
 use Rattle.f77_expr.proofs.EachRead.{if_true}
 use Rattle.f77_parse.specs.Parts.{then_front, after, number_at}
 use Rattle.f77_parse.specs.Forms.{form_or, alone, sign_labels_at, simple_at, condition_at, inner_if_at, behind_condition, if_at, else_if_at, keyword_at}
-use Rattle.f77_parse.proofs.PartsWanted.{number_reads, expression_reads}
+use Rattle.f77_parse.proofs.PartExpressions.{expression_reads}
+use Rattle.f77_parse.proofs.PartNumbers.{number_reads}
 use Rattle.f77_parse.proofs.FormsReads.{to_the_end, has_own_keyword, simple_reads}
 
 -- a condition with the bracket that closes it

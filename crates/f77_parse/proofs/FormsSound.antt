@@ -14,7 +14,11 @@ use Rattle.f77_expr.proofs.Fronts.{front_is}
 use Rattle.f77_parse.specs.Parts.{after, then_front, where_it, number_at, name_at, list_at, bracketed_at, comma_at, ends_expression, expression_in_front, variable_at, characters_at, item_at}
 use Rattle.f77_parse.specs.Forms.{form_or, alone, sign_labels_at, stop_at, computed_at, go_to_at, items_behind, items_at, targets_at, simple_at, condition_at, inner_if_at, behind_condition, if_at, else_if_at}
 use Rattle.f77_parse.proofs.Followers.{IsInFront}
-use Rattle.f77_parse.proofs.PartsWanted.{after_sound, then_front_sound, where_sound, behind_commas_is, comma_is, number_sound, labels_sound, expression_sound, variables_sound, characters_sound, items_sound}
+use Rattle.f77_parse.proofs.PartExpressions.{expression_sound, variables_sound}
+use Rattle.f77_parse.proofs.PartItems.{characters_sound, items_sound}
+use Rattle.f77_parse.proofs.PartLists.{behind_commas_is}
+use Rattle.f77_parse.proofs.PartNumbers.{number_sound, labels_sound}
+use Rattle.f77_parse.proofs.PartReaders.{after_sound, then_front_sound, where_sound, comma_is}
 
 -- what was read behind a front of the text
 abbrev pub IsBehind : List ℕ → List ℕ → WrittenStatement → List ℕ → Type 0

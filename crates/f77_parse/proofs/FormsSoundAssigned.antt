@@ -11,7 +11,9 @@ use Rattle.f77_expr.proofs.EachRead.{Each, each_if, each_then, each_as, each_wea
 use Rattle.f77_parse.specs.Parts.{after, number_at, name_at, comma_at, ends_expression, expression_in_front, variable_at}
 use Rattle.f77_parse.specs.Forms.{step_at, do_at, assigned_at, condition_of, conditional_at, equals_behind, equals_at}
 use Rattle.f77_parse.proofs.Followers.{IsInFront}
-use Rattle.f77_parse.proofs.PartsWanted.{after_sound, comma_is, number_sound, name_sound, expression_sound, variable_sound}
+use Rattle.f77_parse.proofs.PartExpressions.{expression_sound, variable_sound}
+use Rattle.f77_parse.proofs.PartNumbers.{number_sound, name_sound}
+use Rattle.f77_parse.proofs.PartReaders.{after_sound, comma_is}
 use Rattle.f77_parse.proofs.FormsSound.{IsStatementInFront, IsSimpleInFront}
 use Rattle.f77_parse.proofs.FormsSoundIf.{conditional_text}
 

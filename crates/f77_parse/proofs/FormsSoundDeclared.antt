@@ -11,7 +11,13 @@ use Rattle.f77_expr.proofs.EachRead.{Each, each_then, each_as}
 use Rattle.f77_parse.specs.Parts.{where_it, name_at, list_at, letters_at, decl_at, first_part_at, part_at, group_at, data_behind, data_at, parts_to_end}
 use Rattle.f77_parse.specs.Forms.{implicit_at, typed_at, dimension_at, common_at, equivalence_at, data_statement_at}
 use Rattle.f77_parse.proofs.Followers.{IsInFront}
-use Rattle.f77_parse.proofs.PartsWanted.{where_sound, name_sound, letters_list_sound, decls_sound, first_part_sound, common_parts_sound, groups_sound, first_data_sound, data_parts_sound}
+use Rattle.f77_parse.proofs.PartCommon.{first_part_sound, common_parts_sound}
+use Rattle.f77_parse.proofs.PartData.{first_data_sound, data_parts_sound}
+use Rattle.f77_parse.proofs.PartDeclarations.{decls_sound}
+use Rattle.f77_parse.proofs.PartLetters.{letters_list_sound}
+use Rattle.f77_parse.proofs.PartMembers.{groups_sound}
+use Rattle.f77_parse.proofs.PartNumbers.{name_sound}
+use Rattle.f77_parse.proofs.PartReaders.{where_sound}
 use Rattle.f77_parse.proofs.FormsSound.{IsStatementInFront}
 
 pub program_sound : (text : List ℕ) → Each (λ s rest. IsStatementInFront (codes "PROGRAM" ++ text) s rest) (read_as (λ n. WrittenStatement.program n) (name_at text))

@@ -9,7 +9,9 @@ use Rattle.f77_expr.proofs.EachRead.{Each, each_if, each_then, each_as, each_wea
 use Rattle.f77_parse.specs.Parts.{after, number_at, ends_expression, expression_in_front}
 use Rattle.f77_parse.specs.Forms.{form_or, alone, sign_labels_at, simple_at, condition_at, inner_if_at, behind_condition, if_at, else_if_at}
 use Rattle.f77_parse.proofs.Followers.{IsInFront}
-use Rattle.f77_parse.proofs.PartsWanted.{after_sound, then_front_sound, number_sound, expression_sound}
+use Rattle.f77_parse.proofs.PartExpressions.{expression_sound}
+use Rattle.f77_parse.proofs.PartNumbers.{number_sound}
+use Rattle.f77_parse.proofs.PartReaders.{after_sound, then_front_sound}
 use Rattle.f77_parse.proofs.FormsSound.{IsStatementInFront, IsSimpleInFront, form_or_sound, simple_sound}
 
 -- a condition in front of its closing bracket

@@ -11,7 +11,7 @@ use Rattle.f77_tree.specs.StatementGrammar.{with_commas, in_brackets, comma_if, 
 use Rattle.f77_expr.specs.Reader.{is_symbolic}
 use Rattle.f77_expr.proofs.Primaries.{name_parts}
 use Rattle.f77_parse.proofs.Followers.{Every}
-use Rattle.f77_parse.proofs.PartsWanted.{all_every, pass_every}
+use Rattle.f77_parse.proofs.PartLists.{all_every, pass_every}
 use Rattle.f77_parse.proofs.Free.{HasNoEquals, unequal_both}
 
 pub unequal_nothing : HasNoEquals []
