@@ -1,16 +1,16 @@
 -- What stands free in each statement: an equals sign in assignments, in logical IFs of assignments and in DO, and of those a
 -- comma in DO alone.
-use Rattle.std.proofs.Common.{◌≡◌, ◌==◌, ℕ, Bool, true, false, List, [], ◌∷◌, ◌++◌, map, flat_map, ◌&&◌, ◌||◌, nat_le, length, All, Option, Some, None, codes, refl, ap, subst, ◌∙◌, append_assoc}
+use Rattle.std.proofs.Common.{◌≡◌, ℕ, Bool, true, false, List, [], ◌∷◌, ◌++◌, map, flat_map, nat_le, length, All, Option, codes, refl, ap, subst, ◌∙◌, append_assoc}
 use Rattle.std.proofs.lemmas.Bool.{and_parts}
 use Rattle.std.specs.List.{list_all}
 use Rattle.f77_tree.specs.Name.{is_name}
 use Rattle.f77_tree.specs.Grammar.{Written, Arguments, IsGrammatical, AreGrammatical, is_number, spelling, spellings}
-use Rattle.f77_tree.specs.StatementGrammar.{with_commas, in_brackets, comma_if, characters_text, WrittenItem, item_text, IsItem, behind_commas, PrintForm, print_text, ReadForm, read_text, WrittenStop, stop_text, is_stop, IsVariable, step_text, WrittenStatement, statement_text, IsStatement, letters_text, decls_text, kind_text, part_text, group_text, data_text}
+use Rattle.f77_tree.specs.StatementGrammar.{with_commas, in_brackets, comma_if, characters_text, WrittenItem, item_text, IsItem, PrintForm, print_text, ReadForm, read_text, WrittenStop, stop_text, is_stop, IsVariable, step_text, WrittenStatement, statement_text, IsStatement, letters_text, decls_text, kind_text, part_text, group_text, data_text}
 use Rattle.f77_parse.specs.Forms.{stands_free}
 use Rattle.f77_parse.proofs.Followers.{Every}
-use Rattle.f77_parse.proofs.PartLists.{all_every, pass_every, behind_commas_is}
-use Rattle.f77_parse.proofs.Free.{PassesOver, pass_both, absent, is_mark, expression_passes, plain_passes, constant_passes, HasNoEquals, unequal_both, unequal_free}
-use Rattle.f77_parse.proofs.FormsUnequal.{unequal_nothing, unequal_number, unequal_name, unequal_list, unequal_decls, unequal_kind, unequal_letters_list, unequal_parts, unequal_groups, unequal_data_parts}
+use Rattle.f77_parse.proofs.PartLists.{all_every, behind_commas_is}
+use Rattle.f77_parse.proofs.Free.{PassesOver, pass_both, absent, is_mark, expression_passes, constant_passes, HasNoEquals, unequal_both, unequal_free}
+use Rattle.f77_parse.proofs.FormsUnequal.{unequal_nothing, unequal_number, unequal_decls, unequal_kind, unequal_letters_list, unequal_parts, unequal_groups, unequal_data_parts}
 
 -- ---- parts
 

@@ -1,41 +1,23 @@
 -- Simple forms are read as they are written.
-use Rattle.std.proofs.Common.{◌≡◌, ◌==◌, ◌≢◌, ℕ, ◌<◌, ◌≤◌, Bool, true, false, not, List, [], ◌∷◌, ◌++◌, length, map, nat_le, nat_lt, ◌&&◌, ◌||◌, All, Option, Some, None, if◌then◌else◌, codes, refl, sym, ap, subst, ◌∙◌, append_assoc, append-nil, arith}
-use Rattle.std.proofs.lemmas.Bool.{and_parts, eqb-true, ne_eqb, ltb-true, leb-true, true≢false}
+use Rattle.std.proofs.Common.{◌≡◌, ◌==◌, ℕ, ◌≤◌, Bool, true, false, List, [], ◌∷◌, ◌++◌, length, map, nat_le, All, Some, None, refl, sym, ap, ◌∙◌, append_assoc, append-nil, arith}
+use Rattle.std.proofs.lemmas.Bool.{and_parts, ne_eqb, ltb-true}
 use Rattle.std.specs.List.{list_all}
-use Rattle.f77_tree.specs.Name.{is_figure}
 use Rattle.f77_tree.specs.Grammar.{Written, IsGrammatical, is_number, spelling}
-use Rattle.f77_tree.specs.StatementGrammar.{with_commas, in_brackets, comma_if, WrittenItem, item_text, IsItem, behind_commas, PrintForm, print_text, ReadForm, WrittenStop, stop_text, is_stop, IsVariable, characters_text, WrittenStatement, statement_text, IsStatement}
-use Rattle.f77_expr.specs.Piece.{nothing_open, open_after, ends_piece, piece_from, piece}
+use Rattle.f77_tree.specs.StatementGrammar.{with_commas, in_brackets, comma_if, WrittenItem, item_text, IsItem, PrintForm, print_text, ReadForm, WrittenStop, stop_text, is_stop, IsVariable, characters_text, WrittenStatement, statement_text, IsStatement}
 use Rattle.f77_expr.specs.Reader.{Reads, read_as, and_then_read}
 use Rattle.f77_expr.proofs.EachRead.{if_true, if_false}
-use Rattle.f77_expr.proofs.Pieces.{piece_spelled}
-use Rattle.f77_expr.proofs.Primaries.{figure_from}
 use Rattle.f77_parse.specs.Parts.{where_it, number_at, list_at, bracketed_at, expression_in_front, variable_at, characters_at, item_at}
 use Rattle.f77_parse.specs.Forms.{stop_at, computed_at, go_to_at, items_behind, items_at, targets_at, simple_at}
 use Rattle.f77_parse.proofs.Followers.{no_front}
-use Rattle.f77_parse.proofs.PartExpressions.{expression_reads, variables_reads}
+use Rattle.f77_parse.proofs.PartExpressions.{other_no_front, expression_no_comma, expression_reads, variables_reads}
 use Rattle.f77_parse.proofs.PartItems.{characters_reads, items_reads}
 use Rattle.f77_parse.proofs.PartLists.{behind_commas_is}
-use Rattle.f77_parse.proofs.PartNumbers.{number_reads, labels_reads}
+use Rattle.f77_parse.proofs.PartNumbers.{number_from, number_reads, labels_reads}
 use Rattle.f77_parse.proofs.PartReaders.{comma_reads}
 
 -- up to the end of a text
 pub to_the_end : {A : Type 0} (reader : List ℕ → Reads A) (text : List ℕ) (a : A) → reader (text ++ []) ≡ Some (a, []) → reader text ≡ Some (a, [])
 to_the_end reader text a e = ap reader (sym (append-nil text)) ∙ e
-
--- no expression begins with a comma
-pub expression_no_comma : (w : Written) → IsGrammatical w → no_front 44 (spelling w) ≡ true
-expression_no_comma w h = from (spelling w) (ap piece (sym (append-nil (spelling w))) ∙ piece_spelled w [] h refl)
-  where
-    from : (text : List ℕ) → piece text ≡ text → no_front 44 text ≡ true
-    from [] e = refl
-    from (c ∷ more) e = here (c == 44) refl
-      where
-        here : (b : Bool) → (c == 44) ≡ b → not b ≡ true
-        here true at =
-            let none : [] ≡ c ∷ more = sym (ap (λ d. piece (d ∷ more)) (eqb-true c 44 at)) ∙ e in
-            absurd cc
-        here false at = refl
 
 -- ---- STOP
 
@@ -44,7 +26,7 @@ stop_reads WrittenStop.Nothing_shown h = refl
 stop_reads (WrittenStop.Digits []) h = absurd cc
 stop_reads (WrittenStop.Digits (d ∷ more)) h =
     let both = and_parts (is_number (d ∷ more)) (nat_le (length (d ∷ more)) 5) h in
-    let from : 48 ≤ d = figure_from d (and_parts (is_figure d) (list_all is_figure more) (and_parts (nat_lt 0 (length (d ∷ more))) (list_all is_figure (d ∷ more)) both.0).1).0 in
+    let from : 48 ≤ d = number_from d more both.0 in
     if_false (d == 39) _ (read_as (λ digits. WrittenStatement.stop (WrittenStop.Digits digits)) (where_it (λ digits. nat_le (length digits) 5) (number_at (d ∷ more)))) (ne_eqb d 39 (λ e. omega arith))
     ∙ ap (λ x. read_as (λ digits. WrittenStatement.stop (WrittenStop.Digits digits)) (where_it (λ digits. nat_le (length digits) 5) x)) (to_the_end number_at (d ∷ more) (d ∷ more) (number_reads (d ∷ more) [] both.0 refl))
     ∙ ap (read_as (λ digits. WrittenStatement.stop (WrittenStop.Digits digits))) (if_true (nat_le (length (d ∷ more)) 5) (Some (d ∷ more, [])) None both.1)
@@ -57,7 +39,7 @@ stop_reads (WrittenStop.Shown characters) h =
 go_to_reads : (label : List ℕ) → is_number label ≡ true → go_to_at label ≡ Some (WrittenStatement.go_to label, [])
 go_to_reads [] h = absurd cc
 go_to_reads (d ∷ more) h =
-    let from : 48 ≤ d = figure_from d (and_parts (is_figure d) (list_all is_figure more) (and_parts (nat_lt 0 (length (d ∷ more))) (list_all is_figure (d ∷ more)) h).1).0 in
+    let from : 48 ≤ d = number_from d more h in
     if_false (d == 40) (and_then_read (λ labels rest. computed_at labels rest) (bracketed_at number_at (d ∷ more))) (read_as (λ label. WrittenStatement.go_to label) (number_at (d ∷ more))) (ne_eqb d 40 (λ e. omega arith))
     ∙ ap (read_as (λ label. WrittenStatement.go_to label)) (to_the_end number_at (d ∷ more) (d ∷ more) (number_reads (d ∷ more) [] h refl))
 
@@ -65,7 +47,7 @@ computed_reads : (labels : List (List ℕ)) (comma : Bool) (w : Written) → 1 �
 computed_reads labels comma w some all h =
     ap go_to_at (append_assoc (in_brackets (with_commas labels)) (comma_if comma) (spelling w))
     ∙ ap (and_then_read (λ labels rest. computed_at labels rest)) (labels_reads labels (comma_if comma ++ spelling w) some all)
-    ∙ ap (λ (at : Bool × List ℕ). read_as (λ v. WrittenStatement.computed_go_to labels at.0 v) (expression_in_front at.1)) (comma_reads comma (spelling w) (expression_no_comma w h))
+    ∙ ap (λ (at : Bool × List ℕ). read_as (λ v. WrittenStatement.computed_go_to labels at.0 v) (expression_in_front at.1)) (comma_reads comma (spelling w) (ap (no_front 44) (sym (append-nil (spelling w))) ∙ other_no_front 44 (spelling w ++ []) (expression_no_comma w [] h)))
     ∙ ap (read_as (λ v. WrittenStatement.computed_go_to labels comma v)) (to_the_end expression_in_front (spelling w) w (expression_reads w [] h refl))
 
 -- ---- PRINT, WRITE and READ

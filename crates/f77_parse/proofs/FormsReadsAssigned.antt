@@ -1,19 +1,19 @@
 -- Assignments and DO are read as they are written.
-use Rattle.std.proofs.Common.{◌≡◌, ◌==◌, ◌≢◌, ℕ, ◌≤◌, Bool, true, false, not, List, [], ◌∷◌, ◌++◌, ◌&&◌, nat_le, Option, Some, None, if◌then◌else◌, codes, refl, sym, ap, ◌∙◌, append_assoc, arith}
-use Rattle.std.proofs.lemmas.Bool.{ne_eqb, lt-leb, and_right, not-true, true≢false}
-use Rattle.f77_tree.specs.Name.{is_capital, is_figure, is_name}
-use Rattle.f77_tree.specs.Grammar.{Written, Arguments, IsGrammatical, is_number, spelling, spellings}
+use Rattle.std.proofs.Common.{◌≡◌, ◌==◌, ℕ, ◌≤◌, Bool, true, false, not, List, [], ◌∷◌, ◌++◌, nat_le, Option, Some, None, codes, refl, sym, ap, ◌∙◌, append_assoc, arith}
+use Rattle.std.proofs.lemmas.Bool.{lt-leb, and_right, not-true, true≢false}
+use Rattle.f77_tree.specs.Name.{is_name}
+use Rattle.f77_tree.specs.Grammar.{Written, Arguments, IsGrammatical, spelling, spellings}
 use Rattle.f77_tree.specs.StatementGrammar.{in_brackets, comma_if, IsVariable, step_text, IsStep, WrittenStatement, statement_text, IsStatement}
-use Rattle.f77_expr.specs.Reader.{Reads, read_as, and_then_read}
+use Rattle.f77_expr.specs.Reader.{read_as, and_then_read}
 use Rattle.f77_expr.proofs.EachRead.{if_false}
 use Rattle.f77_expr.proofs.Primaries.{capital_from, name_parts}
 use Rattle.f77_expr.proofs.Spellings.{call_spelling}
-use Rattle.f77_parse.specs.Parts.{after, number_at, name_at, comma_at, ends_expression, bracketed_or_none, variable_of, expression_in_front, variable_at}
+use Rattle.f77_parse.specs.Parts.{name_at, ends_expression, bracketed_or_none, variable_of, expression_in_front, variable_at}
 use Rattle.f77_parse.specs.Forms.{step_at, do_at, assigned_at, condition_of, conditional_at, equals_behind, equals_at}
 use Rattle.f77_parse.proofs.Followers.{no_front, no_figure}
 use Rattle.f77_parse.proofs.PartExpressions.{expression_reads, expression_listed, variable_reads}
 use Rattle.f77_parse.proofs.PartLists.{bracketed_reads}
-use Rattle.f77_parse.proofs.PartNumbers.{number_reads, name_reads}
+use Rattle.f77_parse.proofs.PartNumbers.{name_no_front, number_reads, name_reads}
 use Rattle.f77_parse.proofs.PartReaders.{comma_reads}
 use Rattle.f77_parse.proofs.FormsReads.{to_the_end}
 use Rattle.f77_parse.proofs.FormsFree.{do_spelling}
@@ -21,22 +21,17 @@ use Rattle.f77_parse.proofs.FormsSoundAssigned.{step_part, last_part, first_part
 
 -- ---- the first character of a name
 
--- what holds where a letter stands in front
-name_in_front : (p : List ℕ → Bool) → ((c : ℕ) (more : List ℕ) → 65 ≤ c → p (c ∷ more) ≡ true) → (name text : List ℕ) → is_name name ≡ true → p (name ++ text) ≡ true
-name_in_front p holds [] text h = absurd cc
-name_in_front p holds (c ∷ more) text h = holds c (more ++ text) (capital_from c (name_parts c more h).capital)
-
-letter_no_figure : (c : ℕ) (more : List ℕ) → 65 ≤ c → no_figure (c ∷ more) ≡ true
-letter_no_figure c more from = ap not (and_right (nat_le 48 c) (nat_le c 57) (lt-leb c 57 (omega arith)))
-
-letter_no_mark : (d : ℕ) → d ≤ 64 → (c : ℕ) (more : List ℕ) → 65 ≤ c → no_front d (c ∷ more) ≡ true
-letter_no_mark d most c more from = ap not (ne_eqb c d (λ e. omega arith))
+name_no_figure : (name text : List ℕ) → is_name name ≡ true → no_figure (name ++ text) ≡ true
+name_no_figure [] text h = absurd cc
+name_no_figure (c ∷ more) text h =
+    let from : 65 ≤ c = capital_from c (name_parts c more h).capital in
+    ap not (and_right (nat_le 48 c) (nat_le c 57) (lt-leb c 57 (omega arith)))
 
 -- no variable begins with an equals sign
 variable_no_equals : (w : Written) (text : List ℕ) → IsVariable w → no_front 61 (spelling w ++ text) ≡ true
-variable_no_equals (Written.name n) text h = name_in_front (no_front 61) (letter_no_mark 61 (omega arith)) n text h.grammatical
+variable_no_equals (Written.name n) text h = name_no_front 61 n text h.grammatical (omega arith)
 variable_no_equals (Written.call n args) text h =
-    ap (no_front 61) (call_spelling n args text) ∙ name_in_front (no_front 61) (letter_no_mark 61 (omega arith)) n (40 ∷ (spellings args ++ (41 ∷ text))) h.grammatical.0
+    ap (no_front 61) (call_spelling n args text) ∙ name_no_front 61 n (40 ∷ (spellings args ++ (41 ∷ text))) h.grammatical.0 (omega arith)
 variable_no_equals (Written.number digits) text h = absurd (true≢false (sym h.variable))
 variable_no_equals (Written.truth b) text h = absurd (true≢false (sym h.variable))
 variable_no_equals (Written.bracketed w) text h = absurd (true≢false (sym h.variable))
@@ -90,7 +85,7 @@ step_ends (Some w) = refl
 
 comma_no_figure : (comma : Bool) (variable text : List ℕ) → is_name variable ≡ true → no_figure (comma_if comma ++ (variable ++ text)) ≡ true
 comma_no_figure true variable text h = refl
-comma_no_figure false variable text h = name_in_front no_figure letter_no_figure variable text h
+comma_no_figure false variable text h = name_no_figure variable text h
 
 pub do_reads : (label : List ℕ) (comma : Bool) (variable : List ℕ) (first last : Written) (step : Option Written) → IsStatement (WrittenStatement.do_loop label comma variable first last step) → do_at (statement_text (WrittenStatement.do_loop label comma variable first last step)) ≡ Some (WrittenStatement.do_loop label comma variable first last step, [])
 do_reads label comma variable first last step h =
@@ -98,7 +93,7 @@ do_reads label comma variable first last step h =
     let behind_variable : List ℕ = spelling first ++ (44 ∷ behind_first) in
     ap do_at (do_spelling label comma variable first last step)
     ∙ ap (and_then_read (λ label rest. variable_part label rest)) (number_reads label (comma_if comma ++ (variable ++ (61 ∷ behind_variable))) h.0 (comma_no_figure comma variable (61 ∷ behind_variable) h.1))
-    ∙ ap (λ (at : Bool × List ℕ). and_then_read (λ variable rest. first_part label at.0 variable rest) (name_at at.1)) (comma_reads comma (variable ++ (61 ∷ behind_variable)) (name_in_front (no_front 44) (letter_no_mark 44 (omega arith)) variable (61 ∷ behind_variable) h.1))
+    ∙ ap (λ (at : Bool × List ℕ). and_then_read (λ variable rest. first_part label at.0 variable rest) (name_at at.1)) (comma_reads comma (variable ++ (61 ∷ behind_variable)) (name_no_front 44 variable (61 ∷ behind_variable) h.1 (omega arith)))
     ∙ ap (and_then_read (λ variable rest. first_part label comma variable rest)) (name_reads variable (61 ∷ behind_variable) h.1 refl)
     ∙ ap (and_then_read (λ first rest. last_part label comma variable first rest)) (expression_reads first (44 ∷ behind_first) h.2 refl)
     ∙ ap (and_then_read (λ last rest. step_part label comma variable first last rest)) (expression_reads last (step_text step) h.3 (step_ends step))

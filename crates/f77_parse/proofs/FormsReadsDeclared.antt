@@ -1,15 +1,15 @@
 -- Declarations are read as they are written.
-use Rattle.std.proofs.Common.{◌≡◌, ℕ, ◌≤◌, Bool, true, false, not, List, [], ◌∷◌, ◌++◌, length, map, flat_map, ◌&&◌, All, Option, Some, None, codes, refl, ap, ◌∙◌, append_assoc, arith}
+use Rattle.std.proofs.Common.{◌≡◌, ℕ, ◌≤◌, true, not, List, [], ◌∷◌, ◌++◌, length, map, flat_map, All, Some, None, codes, refl, ap, ◌∙◌, append_assoc, arith}
 use Rattle.std.proofs.lemmas.Bool.{and_parts, not-true}
 use Rattle.std.proofs.lemmas.List.Elements.{All-head, All-tail}
 use Rattle.std.specs.List.{list_all}
 use Rattle.f77_tree.specs.declared.declarations.Kind.{Kind}
 use Rattle.f77_tree.specs.declared.declarations.Kind.TheVariants.{Integer, Logical}
 use Rattle.f77_tree.specs.Name.{is_name}
-use Rattle.f77_tree.specs.StatementGrammar.{with_commas, in_brackets, decls_text, WrittenDecl, IsDecl, has_dims, kind_text, range_text, WrittenLetters, letters_text, are_letters, WrittenPart, part_text, IsPart, is_said, WrittenMember, group_text, is_group, WrittenData, data_text, is_data, WrittenStatement, statement_text, IsStatement}
-use Rattle.f77_expr.specs.Reader.{Reads, read_as, and_then_read, after_front}
+use Rattle.f77_tree.specs.StatementGrammar.{with_commas, in_brackets, decls_text, WrittenDecl, IsDecl, has_dims, kind_text, range_text, WrittenLetters, letters_text, are_letters, WrittenPart, part_text, IsPart, is_said, WrittenMember, group_text, is_group, WrittenData, data_text, is_data, WrittenStatement, IsStatement}
+use Rattle.f77_expr.specs.Reader.{read_as, and_then_read, after_front}
 use Rattle.f77_expr.proofs.EachRead.{if_true}
-use Rattle.f77_parse.specs.Parts.{where_it, name_at, list_at, letters_at, decl_at, first_part_at, part_at, group_at, data_behind, data_at, parts_to_end}
+use Rattle.f77_parse.specs.Parts.{where_it, name_at, list_at, letters_at, decl_at, part_at, group_at, data_at, parts_to_end}
 use Rattle.f77_parse.specs.Forms.{form_or, alone, implicit_at, typed_at, keyword_at}
 use Rattle.f77_parse.proofs.PartCommon.{first_part_reads, common_parts_reads, common_parts_follow}
 use Rattle.f77_parse.proofs.PartData.{first_data_reads, data_parts_reads}

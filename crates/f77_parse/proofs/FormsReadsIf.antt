@@ -1,14 +1,14 @@
 -- IF statements are read as they are written.
-use Rattle.std.proofs.Common.{◌≡◌, ◌==◌, ℕ, Bool, true, false, List, [], ◌∷◌, ◌++◌, length, nat_lt, ◌&&◌, Some, None, if◌then◌else◌, codes, refl, ap, ◌∙◌, append_assoc}
+use Rattle.std.proofs.Common.{◌≡◌, ℕ, true, List, [], ◌∷◌, ◌++◌, length, nat_lt, ◌&&◌, Some, codes, refl, ap, ◌∙◌, append_assoc}
 use Rattle.std.proofs.lemmas.Bool.{and_parts}
 use Rattle.std.specs.List.{list_all}
 use Rattle.f77_tree.specs.Name.{is_figure}
 use Rattle.f77_tree.specs.Grammar.{Written, IsGrammatical, is_number, spelling}
 use Rattle.f77_tree.specs.StatementGrammar.{with_commas, in_brackets, PrintForm, ReadForm, WrittenStatement, statement_text, IsStatement}
-use Rattle.f77_expr.specs.Reader.{read_as, and_then_read, after_front}
+use Rattle.f77_expr.specs.Reader.{read_as, and_then_read}
 use Rattle.f77_expr.proofs.EachRead.{if_true}
 use Rattle.f77_parse.specs.Parts.{then_front, after, number_at}
-use Rattle.f77_parse.specs.Forms.{form_or, alone, sign_labels_at, simple_at, condition_at, inner_if_at, behind_condition, if_at, else_if_at, keyword_at}
+use Rattle.f77_parse.specs.Forms.{sign_labels_at, simple_at, condition_at, behind_condition, keyword_at}
 use Rattle.f77_parse.proofs.PartExpressions.{expression_reads}
 use Rattle.f77_parse.proofs.PartNumbers.{number_reads}
 use Rattle.f77_parse.proofs.FormsReads.{to_the_end, has_own_keyword, simple_reads}

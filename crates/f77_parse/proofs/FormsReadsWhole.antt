@@ -1,5 +1,5 @@
 -- A statement that the grammar writes so is what is read from its text, and no text is two statements.
-use Rattle.std.proofs.Common.{◌≡◌, ℕ, Bool, true, false, List, [], Option, Some, if◌then◌else◌, refl, sym, ap, ◌∙◌}
+use Rattle.std.proofs.Common.{◌≡◌, ℕ, true, false, List, [], Option, Some, if◌then◌else◌, refl, sym, ap, ◌∙◌}
 use Rattle.f77_tree.specs.Grammar.{Written, IsGrammatical}
 use Rattle.f77_tree.specs.StatementGrammar.{PrintForm, ReadForm, WrittenStatement, statement_text, is_simple, IsStatement, IsWrittenStatement}
 use Rattle.f77_parse.specs.Forms.{stands_free, whole, do_at, equals_at, simple_at, keyword_at, form_at, statement_at}
@@ -67,8 +67,8 @@ logical_if_reads w _ h s_is simple = absurd cc
 
 -- ---- all statements
 
-own : (s : WrittenStatement) → IsStatement s → has_own_keyword s ≡ true → has_equals s ≡ false → form_at (statement_text s) ≡ Some (s, [])
-own s h keyword none = by_keyword s h none (own_reads s h keyword)
+own_form_reads : (s : WrittenStatement) → IsStatement s → has_own_keyword s ≡ true → has_equals s ≡ false → form_at (statement_text s) ≡ Some (s, [])
+own_form_reads s h keyword none = by_keyword s h none (own_reads s h keyword)
 
 pub form_reads : (s : WrittenStatement) → IsStatement s → form_at (statement_text s) ≡ Some (s, [])
 form_reads (WrittenStatement.program n) h = by_keyword (WrittenStatement.program n) h refl (program_reads n h)
@@ -81,12 +81,12 @@ form_reads (WrittenStatement.equivalence groups) h = by_keyword (WrittenStatemen
 form_reads (WrittenStatement.init parts) h = by_keyword (WrittenStatement.init parts) h refl (data_reads parts h)
 form_reads (WrittenStatement.assignment target value) h =
     by_equals (WrittenStatement.assignment target value) (assignment_equals target value h.0) (assignment_comma target value h.0 h.1) (assignment_reads target value h.0 h.1)
-form_reads (WrittenStatement.print form items) h = own (WrittenStatement.print form items) h refl refl
-form_reads (WrittenStatement.read form targets) h = own (WrittenStatement.read form targets) h refl refl
+form_reads (WrittenStatement.print form items) h = own_form_reads (WrittenStatement.print form items) h refl refl
+form_reads (WrittenStatement.read form targets) h = own_form_reads (WrittenStatement.read form targets) h refl refl
 form_reads WrittenStatement.continue h = refl
-form_reads (WrittenStatement.stop shown) h = own (WrittenStatement.stop shown) h refl refl
-form_reads (WrittenStatement.go_to label) h = own (WrittenStatement.go_to label) h refl refl
-form_reads (WrittenStatement.computed_go_to labels comma w) h = own (WrittenStatement.computed_go_to labels comma w) h refl refl
+form_reads (WrittenStatement.stop shown) h = own_form_reads (WrittenStatement.stop shown) h refl refl
+form_reads (WrittenStatement.go_to label) h = own_form_reads (WrittenStatement.go_to label) h refl refl
+form_reads (WrittenStatement.computed_go_to labels comma w) h = own_form_reads (WrittenStatement.computed_go_to labels comma w) h refl refl
 form_reads (WrittenStatement.arithmetic_if w negative zero positive) h = by_keyword (WrittenStatement.arithmetic_if w negative zero positive) h refl (arithmetic_if_reads w negative zero positive h)
 form_reads (WrittenStatement.logical_if w s) h = logical_if_reads w s h.0 h.1 h.2
 form_reads (WrittenStatement.block_if w) h = by_keyword (WrittenStatement.block_if w) h refl (block_if_reads w h)

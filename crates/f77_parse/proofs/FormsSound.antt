@@ -1,24 +1,21 @@
 -- What the readers of whole statements read is of the grammar, and its text stands in front of the rest.
-use Rattle.std.proofs.Common.{◌≡◌, ◌==◌, ℕ, ◌≤◌, Bool, true, false, not, List, [], ◌∷◌, ◌++◌, length, map, flat_map, nat_le, ◌&&◌, All, Option, Some, None, if◌then◌else◌, codes, refl, sym, ap, subst, ◌∙◌, append_assoc, append-nil, arith}
+use Rattle.std.proofs.Common.{◌≡◌, ◌==◌, ℕ, ◌≤◌, true, List, [], ◌∷◌, ◌++◌, length, map, nat_le, All, Option, Some, None, codes, refl, sym, ap, subst, ◌∙◌, append_assoc, append-nil, arith}
 use Rattle.std.proofs.lemmas.Bool.{and_from, eqb-true, lt-ltb}
 use Rattle.std.proofs.lemmas.List.Elements.{All-nil}
 use Rattle.std.specs.List.{list_all}
-use Rattle.f77_tree.specs.declared.declarations.Kind.{Kind}
-use Rattle.f77_tree.specs.declared.declarations.Kind.TheVariants.{Integer, Logical}
-use Rattle.f77_tree.specs.Name.{is_figure, is_name}
-use Rattle.f77_tree.specs.Grammar.{Written, Arguments, IsGrammatical, is_number, spelling}
-use Rattle.f77_tree.specs.StatementGrammar.{with_commas, in_brackets, comma_if, WrittenItem, item_text, IsItem, behind_commas, PrintForm, print_text, ReadForm, read_text, WrittenStop, stop_text, is_stop, IsVariable, IsStep, step_text, WrittenStatement, statement_text, is_simple, IsStatement, IsWrittenStatement}
+use Rattle.f77_tree.specs.Grammar.{IsGrammatical, is_number, spelling}
+use Rattle.f77_tree.specs.StatementGrammar.{with_commas, in_brackets, comma_if, WrittenItem, item_text, IsItem, PrintForm, print_text, ReadForm, read_text, WrittenStop, stop_text, IsVariable, WrittenStatement, statement_text, is_simple, IsStatement}
 use Rattle.f77_expr.specs.Reader.{Reads, read_as, and_then_read, after_front}
-use Rattle.f77_expr.proofs.EachRead.{Each, each_at, each_if, each_then, each_as, each_weaker}
+use Rattle.f77_expr.proofs.EachRead.{Each, each_if, each_then, each_as}
 use Rattle.f77_expr.proofs.Fronts.{front_is}
-use Rattle.f77_parse.specs.Parts.{after, then_front, where_it, number_at, name_at, list_at, bracketed_at, comma_at, ends_expression, expression_in_front, variable_at, characters_at, item_at}
-use Rattle.f77_parse.specs.Forms.{form_or, alone, sign_labels_at, stop_at, computed_at, go_to_at, items_behind, items_at, targets_at, simple_at, condition_at, inner_if_at, behind_condition, if_at, else_if_at}
+use Rattle.f77_parse.specs.Parts.{where_it, number_at, list_at, bracketed_at, comma_at, ends_expression, expression_in_front, variable_at, characters_at, item_at}
+use Rattle.f77_parse.specs.Forms.{form_or, alone, stop_at, computed_at, go_to_at, items_behind, items_at, targets_at, simple_at}
 use Rattle.f77_parse.proofs.Followers.{IsInFront}
 use Rattle.f77_parse.proofs.PartExpressions.{expression_sound, variables_sound}
 use Rattle.f77_parse.proofs.PartItems.{characters_sound, items_sound}
 use Rattle.f77_parse.proofs.PartLists.{behind_commas_is}
 use Rattle.f77_parse.proofs.PartNumbers.{number_sound, labels_sound}
-use Rattle.f77_parse.proofs.PartReaders.{after_sound, then_front_sound, where_sound, comma_is}
+use Rattle.f77_parse.proofs.PartReaders.{where_sound, comma_is}
 
 -- what was read behind a front of the text
 abbrev pub IsBehind : List ℕ → List ℕ → WrittenStatement → List ℕ → Type 0

@@ -1,12 +1,12 @@
 -- What the readers of declarations, assignments and DO read is of the grammar, and its text stands in front of the rest.
-use Rattle.std.proofs.Common.{◌≡◌, ◌==◌, ℕ, ◌≤◌, Bool, true, false, not, List, [], ◌∷◌, ◌++◌, length, map, flat_map, ◌&&◌, All, Option, Some, None, if◌then◌else◌, codes, refl, sym, ap, subst, ◌∙◌, append_assoc, append-nil}
-use Rattle.std.proofs.lemmas.Bool.{and_from, eqb-true}
+use Rattle.std.proofs.Common.{◌≡◌, ℕ, ◌≤◌, true, false, not, List, [], ◌∷◌, ◌++◌, length, map, flat_map, All, codes, ap, ◌∙◌, append_assoc, append-nil}
+use Rattle.std.proofs.lemmas.Bool.{and_from}
 use Rattle.std.proofs.lemmas.List.Elements.{All-cons}
 use Rattle.std.specs.List.{list_all}
 use Rattle.f77_tree.specs.declared.declarations.Kind.{Kind}
 use Rattle.f77_tree.specs.Name.{is_name}
-use Rattle.f77_tree.specs.StatementGrammar.{with_commas, decls_text, IsDecl, has_dims, kind_text, letters_text, are_letters, WrittenPart, part_text, IsPart, is_said, are_in_place, group_text, is_group, WrittenData, data_text, is_data, begins_alone, WrittenStatement, statement_text, IsStatement}
-use Rattle.f77_expr.specs.Reader.{Reads, read_as, and_then_read}
+use Rattle.f77_tree.specs.StatementGrammar.{with_commas, decls_text, IsDecl, has_dims, kind_text, letters_text, are_letters, part_text, IsPart, is_said, group_text, is_group, data_text, is_data, WrittenStatement}
+use Rattle.f77_expr.specs.Reader.{read_as}
 use Rattle.f77_expr.proofs.EachRead.{Each, each_then, each_as}
 use Rattle.f77_parse.specs.Parts.{where_it, name_at, list_at, letters_at, decl_at, first_part_at, part_at, group_at, data_behind, data_at, parts_to_end}
 use Rattle.f77_parse.specs.Forms.{implicit_at, typed_at, dimension_at, common_at, equivalence_at, data_statement_at}

@@ -1,9 +1,9 @@
 -- What the readers of IF statements read is of the grammar, and its text stands in front of the rest.
-use Rattle.std.proofs.Common.{◌≡◌, ◌==◌, ℕ, Bool, true, false, List, [], ◌∷◌, ◌++◌, ◌&&◌, None, if◌then◌else◌, codes, refl, sym, ap, subst, ◌∙◌, append_assoc}
+use Rattle.std.proofs.Common.{◌≡◌, ℕ, true, List, [], ◌∷◌, ◌++◌, ◌&&◌, codes, refl, sym, ap, subst, ◌∙◌, append_assoc}
 use Rattle.std.proofs.lemmas.Bool.{and_from}
 use Rattle.f77_tree.specs.Name.{is_figure}
 use Rattle.f77_tree.specs.Grammar.{Written, IsGrammatical, is_number, spelling}
-use Rattle.f77_tree.specs.StatementGrammar.{in_brackets, WrittenStatement, statement_text, is_simple, IsStatement}
+use Rattle.f77_tree.specs.StatementGrammar.{in_brackets, WrittenStatement, statement_text}
 use Rattle.f77_expr.specs.Reader.{Reads, read_as, and_then_read, after_front}
 use Rattle.f77_expr.proofs.EachRead.{Each, each_if, each_then, each_as, each_weaker}
 use Rattle.f77_parse.specs.Parts.{after, number_at, ends_expression, expression_in_front}

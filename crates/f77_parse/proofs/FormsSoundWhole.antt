@@ -1,7 +1,7 @@
 -- A text that is read as a statement is one that the grammar writes so.
-use Rattle.std.proofs.Common.{◌≡◌, ℕ, Bool, true, List, [], ◌∷◌, ◌++◌, Some, None, if◌then◌else◌, codes, sym, subst, ◌∙◌, append-nil}
+use Rattle.std.proofs.Common.{◌≡◌, ℕ, List, [], ◌∷◌, ◌++◌, Some, None, if◌then◌else◌, codes, sym, subst, ◌∙◌, append-nil}
 use Rattle.f77_tree.specs.declared.declarations.Kind.TheVariants.{Integer, Logical}
-use Rattle.f77_tree.specs.StatementGrammar.{WrittenStatement, statement_text, IsStatement, IsWrittenStatement}
+use Rattle.f77_tree.specs.StatementGrammar.{WrittenStatement, statement_text, IsWrittenStatement}
 use Rattle.f77_expr.specs.Reader.{Reads, read_as}
 use Rattle.f77_expr.proofs.EachRead.{Each, each_at, each_if, each_weaker}
 use Rattle.f77_parse.specs.Parts.{name_at}

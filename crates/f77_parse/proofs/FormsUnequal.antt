@@ -1,5 +1,5 @@
 -- Texts in which no equals sign stands: numbers, names, and the parts of declarations.
-use Rattle.std.proofs.Common.{◌≡◌, ◌==◌, ◌≢◌, ℕ, ◌≤◌, Bool, true, false, List, [], ◌∷◌, ◌++◌, length, map, flat_map, ◌&&◌, ◌||◌, not, nat_lt, nat_le, All, Option, Some, None, codes, refl, sym, ap, ◌∙◌, ⊎_elim, arith}
+use Rattle.std.proofs.Common.{◌≡◌, ◌==◌, ◌≢◌, ℕ, ◌≤◌, Bool, true, false, List, [], ◌∷◌, ◌++◌, length, map, flat_map, ◌&&◌, not, nat_lt, nat_le, All, Option, Some, None, codes, refl, sym, ap, ◌∙◌, ⊎_elim, arith}
 use Rattle.std.proofs.lemmas.Bool.{and_parts, and_from, or_cases, ne_eqb, leb-true}
 use Rattle.std.proofs.lemmas.List.Folds.{list_all-append}
 use Rattle.std.specs.List.{list_all}
@@ -7,7 +7,7 @@ use Rattle.f77_tree.specs.declared.declarations.Kind.{Kind}
 use Rattle.f77_tree.specs.declared.declarations.Kind.TheVariants.{Integer, Logical}
 use Rattle.f77_tree.specs.Name.{is_capital, is_figure, is_name}
 use Rattle.f77_tree.specs.Grammar.{is_number, truth_text}
-use Rattle.f77_tree.specs.StatementGrammar.{with_commas, in_brackets, comma_if, Sign, SignedDigits, sign_text, signed_text, is_signed, WrittenDim, low_text, dim_text, dim_numbers, numbers_of, bracketed_list, WrittenDecl, decl_text, decls_text, decl_numbers, IsDecl, WrittenRange, last_text, last_of, range_text, is_range, kind_text, WrittenLetters, letters_text, are_letters, WrittenBlock, block_text, is_block, WrittenPart, part_text, IsPart, WrittenMember, member_text, is_member, group_text, is_group, WrittenConstant, constant_text, is_constant, times_text, are_times, WrittenValue, value_text, is_value, WrittenData, data_text, is_data}
+use Rattle.f77_tree.specs.StatementGrammar.{with_commas, in_brackets, comma_if, Sign, SignedDigits, sign_text, signed_text, is_signed, WrittenDim, low_text, dim_text, dim_numbers, numbers_of, bracketed_list, WrittenDecl, decl_text, decls_text, IsDecl, WrittenRange, last_text, last_of, range_text, is_range, kind_text, WrittenLetters, letters_text, are_letters, WrittenBlock, block_text, is_block, WrittenPart, part_text, IsPart, WrittenMember, member_text, is_member, group_text, is_group, WrittenConstant, constant_text, is_constant, times_text, are_times, WrittenValue, value_text, is_value, WrittenData, data_text, is_data}
 use Rattle.f77_expr.specs.Reader.{is_symbolic}
 use Rattle.f77_expr.proofs.Primaries.{name_parts}
 use Rattle.f77_parse.proofs.Followers.{Every}

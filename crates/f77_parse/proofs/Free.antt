@@ -1,5 +1,5 @@
 -- What stands free, outside brackets and character constants, in texts one behind another.
-use Rattle.std.proofs.Common.{◌≡◌, ◌==◌, ℕ, ◌≤◌, Bool, true, false, List, [], ◌∷◌, ◌++◌, fold, flat_map, ◌&&◌, ◌||◌, not, if◌then◌else◌, refl, sym, ap, ◌∙◌, arith, append_assoc, append-nil}
+use Rattle.std.proofs.Common.{◌≡◌, ◌==◌, ℕ, Bool, true, false, List, [], ◌∷◌, ◌++◌, fold, flat_map, ◌&&◌, ◌||◌, not, if◌then◌else◌, refl, sym, ap, ◌∙◌, arith, append_assoc, append-nil}
 use Rattle.std.proofs.lemmas.Bool.{and_parts, and_from, and_right, not-true, eqb-true}
 use Rattle.std.proofs.lemmas.List.Folds.{list_all-append}
 use Rattle.std.specs.List.{list_all}
@@ -7,7 +7,7 @@ use Rattle.f77_tree.specs.Grammar.{Written, IsGrammatical, spelling}
 use Rattle.f77_tree.specs.StatementGrammar.{character_text, characters_text}
 use Rattle.f77_expr.specs.Piece.{Open, nothing_open, open_after, ends_piece, piece_from}
 use Rattle.f77_expr.proofs.EachRead.{if_false}
-use Rattle.f77_expr.proofs.Quiet.{brackets_open, IsQuiet, is_plain, quiet_plain, quiet_written}
+use Rattle.f77_expr.proofs.Quiet.{IsQuiet, is_plain, quiet_plain, quiet_written}
 use Rattle.f77_parse.specs.Forms.{stands_free_from, stands_free}
 
 -- a character that ends a piece
