@@ -13,11 +13,10 @@ use Rattle.f77_expr.proofs.Soundness.{expression_sound as read_grammatical}
 use Rattle.f77_expr.proofs.Spelled.{expression_spells}
 use Rattle.f77_expr.proofs.Completeness.{read_in_front}
 use Rattle.f77_parse.specs.Parts.{list_at, bracketed_or_none, ends_expression, expression_in_front, arguments_of, variable_of, variable_at, name_at}
-use Rattle.f77_parse.proofs.Followers.{no_front, ends_list, IsInFront, Every, IsListed}
+use Rattle.f77_parse.proofs.Followers.{no_front, no_symbol, ends_list, IsInFront, Every, IsListed}
 use Rattle.f77_parse.proofs.PartReaders.{each_read, brackets_front}
-use Rattle.f77_parse.proofs.PartLists.{bracketed_or_none_sound, bracketed_or_none_reads, list_all_sound, list_all_reads}
-use Rattle.f77_parse.proofs.PartNumbers.{is_no, number_from, breaks_bracket, name_sound, name_reads}
-use Rattle.f77_parse.proofs.PartDeclarations.{name_ends}
+use Rattle.f77_parse.proofs.PartLists.{bracketed_reads, bracketed_or_none_sound, bracketed_or_none_reads, list_all_sound, list_all_reads}
+use Rattle.f77_parse.proofs.PartNumbers.{is_no, number_from, breaks_symbol, breaks_bracket, name_sound, name_reads}
 
 -- ---- expressions
 
@@ -147,17 +146,28 @@ unfolding listed_arguments
 listed_fit (Arguments.last w) h = (h, tt)
 listed_fit (Arguments.before w more) h = (h.0, listed_fit more h.1)
 
-parts_read : (name : List ℕ) (subs : List Written) (rest : List ℕ) → is_name name ≡ true → Every IsGrammatical subs → breaks_off rest ≡ true → variable_at (spelling (variable_of name subs) ++ rest) ≡ Some (variable_of name subs, rest)
-parts_read name subs rest is fit follows =
-    let behind : List ℕ = bracketed_list (map spelling subs) ++ rest in
+parts_read : (name : List ℕ) (subs : List Written) (rest : List ℕ) → is_name name ≡ true → no_symbol (bracketed_list (map spelling subs) ++ rest) ≡ true → bracketed_or_none expression_in_front (bracketed_list (map spelling subs) ++ rest) ≡ Some (subs, rest) → variable_at (spelling (variable_of name subs) ++ rest) ≡ Some (variable_of name subs, rest)
+parts_read name subs rest is ends reads =
     ap variable_at (variable_spelling name subs rest)
-    ∙ ap (and_then_read (λ name rest. read_as (λ subs. variable_of name subs) (bracketed_or_none expression_in_front rest))) (name_reads name behind is (name_ends (map spelling subs) rest follows))
-    ∙ ap (read_as (λ subs. variable_of name subs)) (bracketed_or_none_reads expression_listed subs rest fit (breaks_bracket rest follows))
+    ∙ ap (and_then_read (λ name rest. read_as (λ subs. variable_of name subs) (bracketed_or_none expression_in_front rest))) (name_reads name (bracketed_list (map spelling subs) ++ rest) is ends)
+    ∙ ap (read_as (λ subs. variable_of name subs)) reads
+
+element_reads : (name : List ℕ) (w : Written) (more : List Written) (rest : List ℕ) → is_name name ≡ true → Every IsGrammatical (w ∷ more) → variable_at (spelling (variable_of name (w ∷ more)) ++ rest) ≡ Some (variable_of name (w ∷ more), rest)
+element_reads name w more rest is fit = parts_read name (w ∷ more) rest is refl (bracketed_reads expression_listed (w ∷ more) rest (omega arith) fit)
+
+-- an array element is read in front of anything: its bracket closes it
+pub call_reads : (name : List ℕ) (args : Arguments) (rest : List ℕ) → is_name name ≡ true → AreGrammatical args → variable_at (spelling (Written.call name args) ++ rest) ≡ Some (Written.call name args, rest)
+unfolding listed_arguments
+call_reads name (Arguments.last w) rest is fit = element_reads name w [] rest is (fit, tt)
+call_reads name (Arguments.before w more) rest is fit =
+    subst (λ w. variable_at (spelling w ++ rest) ≡ Some (w, rest)) (call_back name (Arguments.before w more)) (element_reads name w (listed_arguments more) rest is (fit.0, listed_fit more fit.1))
+
+name_reads_alone : (name rest : List ℕ) → is_name name ≡ true → breaks_off rest ≡ true → variable_at (name ++ rest) ≡ Some (Written.name name, rest)
+name_reads_alone name rest is follows = parts_read name [] rest is (breaks_symbol rest follows) (bracketed_or_none_reads expression_listed [] rest tt (breaks_bracket rest follows))
 
 reads_by : (w : Written) → IsGrammatical w → is_variable w ≡ true → (rest : List ℕ) → breaks_off rest ≡ true → variable_at (spelling w ++ rest) ≡ Some (w, rest)
-reads_by (Written.name name) h is rest follows = parts_read name [] rest h tt follows
-reads_by (Written.call name args) h is rest follows =
-    subst (λ w. variable_at (spelling w ++ rest) ≡ Some (w, rest)) (call_back name args) (parts_read name (listed_arguments args) rest h.0 (listed_fit args h.1) follows)
+reads_by (Written.name name) h is rest follows = name_reads_alone name rest h follows
+reads_by (Written.call name args) h is rest follows = call_reads name args rest h.0 h.1
 reads_by _ h is rest follows = absurd cc
 
 pub variable_reads : (w : Written) (rest : List ℕ) → IsVariable w → breaks_off rest ≡ true → variable_at (spelling w ++ rest) ≡ Some (w, rest)
