@@ -1,22 +1,21 @@
 -- Expressions in front of what ends them, and variables.
-use Rattle.std.proofs.Common.{◌≡◌, ◌==◌, ℕ, ◌<◌, ◌≤◌, Bool, true, false, not, List, [], ◌∷◌, ◌++◌, length, map, codes, All, Some, None, if◌then◌else◌, refl, sym, ap, subst, ◌∙◌, arith}
+use Rattle.std.proofs.Common.{◌≡◌, ◌==◌, ℕ, ◌<◌, ◌≤◌, true, false, not, List, [], ◌∷◌, ◌++◌, length, map, codes, All, Some, None, if◌then◌else◌, refl, sym, ap, subst, ◌∙◌, arith}
 use Rattle.f77_tree.specs.Name.{is_name}
-use Rattle.f77_tree.specs.Grammar.{Written, Arguments, symbol, IsGrammatical, AreGrammatical, is_number, spelling, spellings}
+use Rattle.f77_tree.specs.Grammar.{Written, Arguments, symbol, IsGrammatical, AreGrammatical, spelling, spellings}
 use Rattle.f77_tree.specs.StatementGrammar.{with_commas, bracketed_list, is_variable, IsVariable}
 use Rattle.f77_expr.specs.Reader.{read_as, and_then_read, expression_at}
 use Rattle.f77_expr.specs.Reader.Prefix.{Plus, Minus, Negation}
 use Rattle.f77_expr.proofs.EachRead.{Each, each_if, each_then, each_as, each_weaker, if_true}
 use Rattle.f77_expr.proofs.Followers.{breaks_off, is_follower}
-use Rattle.f77_expr.proofs.Primaries.{capital_from, name_parts}
 use Rattle.f77_expr.proofs.Spellings.{binary_spelling, call_spelling, bracketed_spelling, prefixed_spelling}
 use Rattle.f77_expr.proofs.Soundness.{expression_sound as read_grammatical}
 use Rattle.f77_expr.proofs.Spelled.{expression_spells}
 use Rattle.f77_expr.proofs.Completeness.{read_in_front}
 use Rattle.f77_parse.specs.Parts.{list_at, bracketed_or_none, ends_expression, expression_in_front, arguments_of, variable_of, variable_at, name_at}
-use Rattle.f77_parse.proofs.Followers.{no_front, no_symbol, ends_list, IsInFront, Every, IsListed}
+use Rattle.f77_parse.proofs.Followers.{other_front, other_no_front, capital_front, no_symbol, ends_list, IsInFront, Every, IsListed}
 use Rattle.f77_parse.proofs.PartReaders.{each_read, brackets_front}
 use Rattle.f77_parse.proofs.PartLists.{bracketed_reads, bracketed_or_none_sound, bracketed_or_none_reads, list_all_sound, list_all_reads}
-use Rattle.f77_parse.proofs.PartNumbers.{is_no, number_from, breaks_symbol, breaks_bracket, name_sound, name_reads}
+use Rattle.f77_parse.proofs.PartNumbers.{number_other, name_other, name_capital_front, breaks_symbol, breaks_bracket, name_sound, name_reads}
 
 -- ---- expressions
 
@@ -40,15 +39,6 @@ expression_reads w rest fits follows =
 
 -- ---- first characters
 
--- some character in front, but not this one
-abbrev pub other_front : ℕ → List ℕ → Bool
-other_front k [] = false
-other_front k (c ∷ more) = not (c == k)
-
-pub other_no_front : (k : ℕ) (text : List ℕ) → other_front k text ≡ true → no_front k text ≡ true
-other_no_front k [] h = refl
-other_no_front k (c ∷ more) h = h
-
 -- a character below the digits that is no bracket, sign or point
 record BeginsNone (k : ℕ) : Type 0 where
   below : k < 48
@@ -57,20 +47,12 @@ record BeginsNone (k : ℕ) : Type 0 where
   no_minus : not (45 == k) ≡ true
   no_point : not (46 == k) ≡ true
 
-number_other : (k : ℕ) (digits rest : List ℕ) → is_number digits ≡ true → k < 48 → other_front k (digits ++ rest) ≡ true
-number_other k [] rest h below = absurd cc
-number_other k (c ∷ more) rest h below = let from : 48 ≤ c = number_from c more h in ap not (is_no k c (omega arith))
-
-name_other : (k : ℕ) (name rest : List ℕ) → is_name name ≡ true → k < 48 → other_front k (name ++ rest) ≡ true
-name_other k [] rest h below = absurd cc
-name_other k (c ∷ more) rest h below = let from : 65 ≤ c = capital_from c (name_parts c more h).capital in ap not (is_no k c (omega arith))
-
 expression_other : (k : ℕ) → BeginsNone k → (w : Written) → IsGrammatical w → (rest : List ℕ) → other_front k (spelling w ++ rest) ≡ true
 expression_other k none (Written.number digits) h rest = number_other k digits rest h none.below
 expression_other k none (Written.truth true) h rest = none.no_point
 expression_other k none (Written.truth false) h rest = none.no_point
-expression_other k none (Written.name name) h rest = name_other k name rest h none.below
-expression_other k none (Written.call name args) h rest = ap (other_front k) (call_spelling name args rest) ∙ name_other k name (40 ∷ (spellings args ++ (41 ∷ rest))) h.0 none.below
+expression_other k none (Written.name name) h rest = name_other k name rest h (omega (arith, none.below))
+expression_other k none (Written.call name args) h rest = ap (other_front k) (call_spelling name args rest) ∙ name_other k name (40 ∷ (spellings args ++ (41 ∷ rest))) h.0 (omega (arith, none.below))
 expression_other k none (Written.bracketed w) h rest = ap (other_front k) (bracketed_spelling w rest) ∙ none.no_bracket
 expression_other k none (Written.plus w) h rest = ap (other_front k) (prefixed_spelling Plus w rest) ∙ none.no_plus
 expression_other k none (Written.minus w) h rest = ap (other_front k) (prefixed_spelling Minus w rest) ∙ none.no_minus
@@ -181,6 +163,15 @@ variable_listed = record {
   bracket = λ more. refl;
   no_stroke = λ w rest fits. other_no_front 47 (spelling w ++ rest) (expression_no_stroke w rest fits.grammatical);
 }
+
+-- a variable begins with a letter
+pub variable_capital_front : (w : Written) (rest : List ℕ) → IsVariable w → capital_front (spelling w ++ rest) ≡ true
+variable_capital_front w rest fits = here w fits.grammatical fits.variable
+  where
+    here : (w : Written) → IsGrammatical w → is_variable w ≡ true → capital_front (spelling w ++ rest) ≡ true
+    here (Written.name name) h is = name_capital_front name rest h
+    here (Written.call name args) h is = ap capital_front (call_spelling name args rest) ∙ name_capital_front name (40 ∷ (spellings args ++ (41 ∷ rest))) h.0
+    here _ h is = absurd cc
 
 pub variables_sound : (text : List ℕ) → Each (λ ws rest. IsInFront (λ ws. (1 ≤ length ws) × All IsVariable ws) (λ ws. with_commas (map spelling ws)) text ws rest) (list_at variable_at text)
 variables_sound text = list_all_sound variable_listed text
