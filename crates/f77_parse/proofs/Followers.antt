@@ -1,6 +1,6 @@
 -- What may stand behind the parts of statements, and what holds of a part that was read.
-use Rattle.std.proofs.Common.{◌≡◌, ◌==◌, ℕ, Bool, true, not, ◌&&◌, List, [], ◌∷◌, ◌++◌, Some}
-use Rattle.f77_tree.specs.Name.{is_figure}
+use Rattle.std.proofs.Common.{◌≡◌, ◌==◌, ℕ, Bool, true, false, not, ◌&&◌, List, [], ◌∷◌, ◌++◌, Some, refl}
+use Rattle.f77_tree.specs.Name.{is_capital, is_figure}
 use Rattle.f77_expr.specs.Reader.{Reads, is_symbolic}
 use Rattle.f77_expr.proofs.EachRead.{Each}
 use Rattle.f77_expr.proofs.Followers.{breaks_off}
@@ -42,6 +42,27 @@ ends_decls text = breaks_off text && ends_list text
 -- anything
 abbrev pub anything : List ℕ → Bool
 anything text = true
+
+-- ---- what stands in front
+
+-- some character in front, but not this one
+abbrev pub other_front : ℕ → List ℕ → Bool
+other_front k [] = false
+other_front k (c ∷ more) = not (c == k)
+
+-- a digit in front
+abbrev pub figure_front : List ℕ → Bool
+figure_front [] = false
+figure_front (c ∷ more) = is_figure c
+
+-- a letter in front
+abbrev pub capital_front : List ℕ → Bool
+capital_front [] = false
+capital_front (c ∷ more) = is_capital c
+
+pub other_no_front : (k : ℕ) (text : List ℕ) → other_front k text ≡ true → no_front k text ≡ true
+other_no_front k [] h = refl
+other_no_front k (c ∷ more) h = h
 
 -- ---- parts that were read
 

@@ -10,7 +10,7 @@ use Rattle.f77_expr.proofs.Fronts.{front_is}
 use Rattle.f77_parse.specs.Parts.{after, then_front, name_at, list_at, decl_at, block_at, comma_at, part_behind, part_at, first_part_at, parts_to_end}
 use Rattle.f77_parse.proofs.Followers.{no_front, ends_decls, IsInFront, Every}
 use Rattle.f77_parse.proofs.PartReaders.{after_sound, then_front_sound, no_front_in, after_none, between, comma_is, comma_reads}
-use Rattle.f77_parse.proofs.PartLists.{every_all, all_every, every_pass, pass_every, list_no_front}
+use Rattle.f77_parse.proofs.PartLists.{every_all, all_every, every_pass, pass_every, list_front}
 use Rattle.f77_parse.proofs.PartNumbers.{name_no_front, name_sound, name_reads}
 use Rattle.f77_parse.proofs.PartDeclarations.{decl_listed, decls_sound, decls_reads}
 use Rattle.f77_parse.proofs.PartSequences.{AreAll, parts_sound, parts_follow, parts_reads}
@@ -132,7 +132,7 @@ first_part_reads p rest fits none follows =
     said_reads b e said = ap (and_then_read (λ block rest. part_behind false block rest)) (block_reads b decls (ap is_block (sym e) ∙ fits.block) said)
 
     here : (b : WrittenBlock) → p.block ≡ b → first_part_at (block_text b ++ decls) ≡ part_behind false b decls
-    here Unsaid e = unsaid_at decls (list_no_front decl_listed 47 decl_listed.no_stroke p.decls rest fits.some (all_every IsDecl p.decls fits.decls))
+    here Unsaid e = unsaid_at decls (list_front decl_listed (no_front 47) decl_listed.no_stroke p.decls rest fits.some (all_every IsDecl p.decls fits.decls))
     here Blank e = said_reads Blank e refl
     here (Block name) e = said_reads (Block name) e refl
 

@@ -6,9 +6,9 @@ use Rattle.f77_tree.specs.StatementGrammar.{with_commas, comma_if, WrittenMember
 use Rattle.f77_expr.specs.Reader.{Reads, read_as, and_then_read}
 use Rattle.f77_expr.proofs.EachRead.{Each, each_then, each_as, each_weaker}
 use Rattle.f77_parse.specs.Parts.{after, then_front, list_at, comma_at, member_at, value_at, data_behind, data_at, parts_to_end}
-use Rattle.f77_parse.proofs.Followers.{anything, IsInFront}
+use Rattle.f77_parse.proofs.Followers.{no_front, anything, IsInFront}
 use Rattle.f77_parse.proofs.PartReaders.{after_sound, then_front_sound, comma_is, comma_reads}
-use Rattle.f77_parse.proofs.PartLists.{every_pass, pass_every, list_no_front, list_pass_sound, list_pass_reads}
+use Rattle.f77_parse.proofs.PartLists.{every_pass, pass_every, list_front, list_pass_sound, list_pass_reads}
 use Rattle.f77_parse.proofs.PartMembers.{member_no_front, member_listed}
 use Rattle.f77_parse.proofs.PartConstants.{value_listed}
 use Rattle.f77_parse.proofs.PartSequences.{AreAll, parts_sound, parts_reads}
@@ -103,7 +103,7 @@ pub data_reads : (d : WrittenData) (rest : List ℕ) → is_data d ≡ true → 
 data_reads d rest fits =
     let is : IsData d = data_parts d fits in
     ap data_at (data_front d rest)
-    ∙ ap (λ (comma : Bool × List ℕ). data_behind comma.0 comma.1) (comma_reads d.comma (body d rest) (list_no_front member_listed 44 (member_no_front 44 (omega arith)) d.items (47 ∷ (values_text d.values ++ (47 ∷ rest))) is.some_items (pass_every is_member d.items is.members)))
+    ∙ ap (λ (comma : Bool × List ℕ). data_behind comma.0 comma.1) (comma_reads d.comma (body d rest) (list_front member_listed (no_front 44) (member_no_front 44 (omega arith)) d.items (47 ∷ (values_text d.values ++ (47 ∷ rest))) is.some_items (pass_every is_member d.items is.members)))
     ∙ behind_reads d.comma d rest fits
 
 -- the first part of DATA

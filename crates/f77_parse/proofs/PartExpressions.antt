@@ -1,23 +1,21 @@
 -- Expressions in front of what ends them, and variables.
-use Rattle.std.proofs.Common.{◌≡◌, ◌==◌, ℕ, ◌<◌, ◌≤◌, Bool, true, false, not, List, [], ◌∷◌, ◌++◌, length, map, codes, All, Some, None, if◌then◌else◌, refl, sym, ap, subst, ◌∙◌, arith}
+use Rattle.std.proofs.Common.{◌≡◌, ◌==◌, ℕ, ◌<◌, ◌≤◌, true, false, not, List, [], ◌∷◌, ◌++◌, length, map, codes, All, Some, None, if◌then◌else◌, refl, sym, ap, subst, ◌∙◌, arith}
 use Rattle.f77_tree.specs.Name.{is_name}
-use Rattle.f77_tree.specs.Grammar.{Written, Arguments, symbol, IsGrammatical, AreGrammatical, is_number, spelling, spellings}
+use Rattle.f77_tree.specs.Grammar.{Written, Arguments, symbol, IsGrammatical, AreGrammatical, spelling, spellings}
 use Rattle.f77_tree.specs.StatementGrammar.{with_commas, bracketed_list, is_variable, IsVariable}
 use Rattle.f77_expr.specs.Reader.{read_as, and_then_read, expression_at}
 use Rattle.f77_expr.specs.Reader.Prefix.{Plus, Minus, Negation}
 use Rattle.f77_expr.proofs.EachRead.{Each, each_if, each_then, each_as, each_weaker, if_true}
 use Rattle.f77_expr.proofs.Followers.{breaks_off, is_follower}
-use Rattle.f77_expr.proofs.Primaries.{capital_from, name_parts}
 use Rattle.f77_expr.proofs.Spellings.{binary_spelling, call_spelling, bracketed_spelling, prefixed_spelling}
 use Rattle.f77_expr.proofs.Soundness.{expression_sound as read_grammatical}
 use Rattle.f77_expr.proofs.Spelled.{expression_spells}
 use Rattle.f77_expr.proofs.Completeness.{read_in_front}
 use Rattle.f77_parse.specs.Parts.{list_at, bracketed_or_none, ends_expression, expression_in_front, arguments_of, variable_of, variable_at, name_at}
-use Rattle.f77_parse.proofs.Followers.{no_front, ends_list, IsInFront, Every, IsListed}
+use Rattle.f77_parse.proofs.Followers.{other_front, other_no_front, capital_front, no_symbol, ends_list, IsInFront, Every, IsListed}
 use Rattle.f77_parse.proofs.PartReaders.{each_read, brackets_front}
-use Rattle.f77_parse.proofs.PartLists.{bracketed_or_none_sound, bracketed_or_none_reads, list_all_sound, list_all_reads}
-use Rattle.f77_parse.proofs.PartNumbers.{is_no, number_from, breaks_bracket, name_sound, name_reads}
-use Rattle.f77_parse.proofs.PartDeclarations.{name_ends}
+use Rattle.f77_parse.proofs.PartLists.{bracketed_reads, bracketed_or_none_sound, bracketed_or_none_reads, list_all_sound, list_all_reads}
+use Rattle.f77_parse.proofs.PartNumbers.{number_other, name_other, name_capital_front, breaks_symbol, breaks_bracket, name_sound, name_reads}
 
 -- ---- expressions
 
@@ -41,15 +39,6 @@ expression_reads w rest fits follows =
 
 -- ---- first characters
 
--- some character in front, but not this one
-abbrev pub other_front : ℕ → List ℕ → Bool
-other_front k [] = false
-other_front k (c ∷ more) = not (c == k)
-
-pub other_no_front : (k : ℕ) (text : List ℕ) → other_front k text ≡ true → no_front k text ≡ true
-other_no_front k [] h = refl
-other_no_front k (c ∷ more) h = h
-
 -- a character below the digits that is no bracket, sign or point
 record BeginsNone (k : ℕ) : Type 0 where
   below : k < 48
@@ -58,20 +47,12 @@ record BeginsNone (k : ℕ) : Type 0 where
   no_minus : not (45 == k) ≡ true
   no_point : not (46 == k) ≡ true
 
-number_other : (k : ℕ) (digits rest : List ℕ) → is_number digits ≡ true → k < 48 → other_front k (digits ++ rest) ≡ true
-number_other k [] rest h below = absurd cc
-number_other k (c ∷ more) rest h below = let from : 48 ≤ c = number_from c more h in ap not (is_no k c (omega arith))
-
-name_other : (k : ℕ) (name rest : List ℕ) → is_name name ≡ true → k < 48 → other_front k (name ++ rest) ≡ true
-name_other k [] rest h below = absurd cc
-name_other k (c ∷ more) rest h below = let from : 65 ≤ c = capital_from c (name_parts c more h).capital in ap not (is_no k c (omega arith))
-
 expression_other : (k : ℕ) → BeginsNone k → (w : Written) → IsGrammatical w → (rest : List ℕ) → other_front k (spelling w ++ rest) ≡ true
 expression_other k none (Written.number digits) h rest = number_other k digits rest h none.below
 expression_other k none (Written.truth true) h rest = none.no_point
 expression_other k none (Written.truth false) h rest = none.no_point
-expression_other k none (Written.name name) h rest = name_other k name rest h none.below
-expression_other k none (Written.call name args) h rest = ap (other_front k) (call_spelling name args rest) ∙ name_other k name (40 ∷ (spellings args ++ (41 ∷ rest))) h.0 none.below
+expression_other k none (Written.name name) h rest = name_other k name rest h (omega (arith, none.below))
+expression_other k none (Written.call name args) h rest = ap (other_front k) (call_spelling name args rest) ∙ name_other k name (40 ∷ (spellings args ++ (41 ∷ rest))) h.0 (omega (arith, none.below))
 expression_other k none (Written.bracketed w) h rest = ap (other_front k) (bracketed_spelling w rest) ∙ none.no_bracket
 expression_other k none (Written.plus w) h rest = ap (other_front k) (prefixed_spelling Plus w rest) ∙ none.no_plus
 expression_other k none (Written.minus w) h rest = ap (other_front k) (prefixed_spelling Minus w rest) ∙ none.no_minus
@@ -147,17 +128,28 @@ unfolding listed_arguments
 listed_fit (Arguments.last w) h = (h, tt)
 listed_fit (Arguments.before w more) h = (h.0, listed_fit more h.1)
 
-parts_read : (name : List ℕ) (subs : List Written) (rest : List ℕ) → is_name name ≡ true → Every IsGrammatical subs → breaks_off rest ≡ true → variable_at (spelling (variable_of name subs) ++ rest) ≡ Some (variable_of name subs, rest)
-parts_read name subs rest is fit follows =
-    let behind : List ℕ = bracketed_list (map spelling subs) ++ rest in
+parts_read : (name : List ℕ) (subs : List Written) (rest : List ℕ) → is_name name ≡ true → no_symbol (bracketed_list (map spelling subs) ++ rest) ≡ true → bracketed_or_none expression_in_front (bracketed_list (map spelling subs) ++ rest) ≡ Some (subs, rest) → variable_at (spelling (variable_of name subs) ++ rest) ≡ Some (variable_of name subs, rest)
+parts_read name subs rest is ends reads =
     ap variable_at (variable_spelling name subs rest)
-    ∙ ap (and_then_read (λ name rest. read_as (λ subs. variable_of name subs) (bracketed_or_none expression_in_front rest))) (name_reads name behind is (name_ends (map spelling subs) rest follows))
-    ∙ ap (read_as (λ subs. variable_of name subs)) (bracketed_or_none_reads expression_listed subs rest fit (breaks_bracket rest follows))
+    ∙ ap (and_then_read (λ name rest. read_as (λ subs. variable_of name subs) (bracketed_or_none expression_in_front rest))) (name_reads name (bracketed_list (map spelling subs) ++ rest) is ends)
+    ∙ ap (read_as (λ subs. variable_of name subs)) reads
+
+element_reads : (name : List ℕ) (w : Written) (more : List Written) (rest : List ℕ) → is_name name ≡ true → Every IsGrammatical (w ∷ more) → variable_at (spelling (variable_of name (w ∷ more)) ++ rest) ≡ Some (variable_of name (w ∷ more), rest)
+element_reads name w more rest is fit = parts_read name (w ∷ more) rest is refl (bracketed_reads expression_listed (w ∷ more) rest (omega arith) fit)
+
+-- an array element is read in front of anything: its bracket closes it
+pub call_reads : (name : List ℕ) (args : Arguments) (rest : List ℕ) → is_name name ≡ true → AreGrammatical args → variable_at (spelling (Written.call name args) ++ rest) ≡ Some (Written.call name args, rest)
+unfolding listed_arguments
+call_reads name (Arguments.last w) rest is fit = element_reads name w [] rest is (fit, tt)
+call_reads name (Arguments.before w more) rest is fit =
+    subst (λ w. variable_at (spelling w ++ rest) ≡ Some (w, rest)) (call_back name (Arguments.before w more)) (element_reads name w (listed_arguments more) rest is (fit.0, listed_fit more fit.1))
+
+name_reads_alone : (name rest : List ℕ) → is_name name ≡ true → breaks_off rest ≡ true → variable_at (name ++ rest) ≡ Some (Written.name name, rest)
+name_reads_alone name rest is follows = parts_read name [] rest is (breaks_symbol rest follows) (bracketed_or_none_reads expression_listed [] rest tt (breaks_bracket rest follows))
 
 reads_by : (w : Written) → IsGrammatical w → is_variable w ≡ true → (rest : List ℕ) → breaks_off rest ≡ true → variable_at (spelling w ++ rest) ≡ Some (w, rest)
-reads_by (Written.name name) h is rest follows = parts_read name [] rest h tt follows
-reads_by (Written.call name args) h is rest follows =
-    subst (λ w. variable_at (spelling w ++ rest) ≡ Some (w, rest)) (call_back name args) (parts_read name (listed_arguments args) rest h.0 (listed_fit args h.1) follows)
+reads_by (Written.name name) h is rest follows = name_reads_alone name rest h follows
+reads_by (Written.call name args) h is rest follows = call_reads name args rest h.0 h.1
 reads_by _ h is rest follows = absurd cc
 
 pub variable_reads : (w : Written) (rest : List ℕ) → IsVariable w → breaks_off rest ≡ true → variable_at (spelling w ++ rest) ≡ Some (w, rest)
@@ -171,6 +163,15 @@ variable_listed = record {
   bracket = λ more. refl;
   no_stroke = λ w rest fits. other_no_front 47 (spelling w ++ rest) (expression_no_stroke w rest fits.grammatical);
 }
+
+-- a variable begins with a letter
+pub variable_capital_front : (w : Written) (rest : List ℕ) → IsVariable w → capital_front (spelling w ++ rest) ≡ true
+variable_capital_front w rest fits = here w fits.grammatical fits.variable
+  where
+    here : (w : Written) → IsGrammatical w → is_variable w ≡ true → capital_front (spelling w ++ rest) ≡ true
+    here (Written.name name) h is = name_capital_front name rest h
+    here (Written.call name args) h is = ap capital_front (call_spelling name args rest) ∙ name_capital_front name (40 ∷ (spellings args ++ (41 ∷ rest))) h.0
+    here _ h is = absurd cc
 
 pub variables_sound : (text : List ℕ) → Each (λ ws rest. IsInFront (λ ws. (1 ≤ length ws) × All IsVariable ws) (λ ws. with_commas (map spelling ws)) text ws rest) (list_at variable_at text)
 variables_sound text = list_all_sound variable_listed text

@@ -7,10 +7,10 @@ use Rattle.f77_tree.specs.StatementGrammar.WrittenItem.{Expression, Characters}
 use Rattle.f77_expr.specs.Reader.{read_as}
 use Rattle.f77_expr.proofs.EachRead.{Each, each_if, each_as, each_weaker, if_false}
 use Rattle.f77_parse.specs.Parts.{where_it, list_at, ends_expression, expression_in_front, characters_behind, characters_at, item_at}
-use Rattle.f77_parse.proofs.Followers.{no_front, ends_list, IsInFront, IsListed}
+use Rattle.f77_parse.proofs.Followers.{no_front, other_front, other_no_front, ends_list, IsInFront, IsListed}
 use Rattle.f77_parse.proofs.PartReaders.{after_sound, where_sound, where_reads, no_front_in, between}
-use Rattle.f77_parse.proofs.PartLists.{list_all_sound, list_all_reads}
-use Rattle.f77_parse.proofs.PartExpressions.{other_front, other_no_front, expression_sound, expression_reads, expression_no_stroke, expression_no_quote}
+use Rattle.f77_parse.proofs.PartLists.{all_every, list_front, list_all_sound, list_all_reads}
+use Rattle.f77_parse.proofs.PartExpressions.{expression_sound, expression_reads, expression_no_stroke, expression_no_quote}
 
 -- ---- character constants
 
@@ -147,9 +147,10 @@ item_reads (Characters characters) rest fits follows =
     ∙ ap (λ text. read_as (λ characters. Characters characters) (characters_at text)) (sym (characters_front characters rest))
     ∙ ap (read_as (λ characters. Characters characters)) (characters_reads characters rest fits (ends_no_quote rest follows))
 
-item_no_stroke : (i : WrittenItem) (rest : List ℕ) → IsItem i → no_front 47 (item_text i ++ rest) ≡ true
-item_no_stroke (Expression w) rest fits = other_no_front 47 (spelling w ++ rest) (expression_no_stroke w rest fits)
-item_no_stroke (Characters characters) rest fits = ap (no_front 47) (characters_front characters rest)
+-- an item begins with some character that is no stroke
+pub item_other : (i : WrittenItem) (rest : List ℕ) → IsItem i → other_front 47 (item_text i ++ rest) ≡ true
+item_other (Expression w) rest fits = expression_no_stroke w rest fits
+item_other (Characters characters) rest fits = ap (other_front 47) (characters_front characters rest)
 
 pub item_listed : IsListed item_at item_text IsItem ends_expression
 item_listed = record {
@@ -157,7 +158,7 @@ item_listed = record {
   reads = item_reads;
   comma = λ more. refl;
   bracket = λ more. refl;
-  no_stroke = item_no_stroke;
+  no_stroke = λ i rest fits. other_no_front 47 (item_text i ++ rest) (item_other i rest fits);
 }
 
 pub items_sound : (text : List ℕ) → Each (λ items rest. IsInFront (λ items. (1 ≤ length items) × All IsItem items) (λ items. with_commas (map item_text items)) text items rest) (list_at item_at text)
@@ -165,3 +166,7 @@ items_sound text = list_all_sound item_listed text
 
 pub items_reads : (items : List WrittenItem) (rest : List ℕ) → 1 ≤ length items → All IsItem items → ends_expression rest ≡ true → ends_list rest ≡ true → list_at item_at (with_commas (map item_text items) ++ rest) ≡ Some (items, rest)
 items_reads items rest some fit follows ends = list_all_reads item_listed items rest some fit follows ends
+
+-- some items have some text
+pub items_other : (items : List WrittenItem) (rest : List ℕ) → 1 ≤ length items → All IsItem items → other_front 47 (with_commas (map item_text items) ++ rest) ≡ true
+items_other items rest some fit = list_front item_listed (other_front 47) item_other items rest some (all_every IsItem items fit)

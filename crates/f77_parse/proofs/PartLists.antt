@@ -98,10 +98,10 @@ module _ {A : Type 0} {item : List ℕ → Reads A} {to_text : A → List ℕ} {
   list_sound text = listed_sound (suc (length text)) text
 
   -- a list begins as its items do
-  pub list_no_front : (k : ℕ) → ((a : A) (rest : List ℕ) → Fits a → no_front k (to_text a ++ rest) ≡ true) → (items : List A) (rest : List ℕ) → 1 ≤ length items → Every Fits items → no_front k (with_commas (map to_text items) ++ rest) ≡ true
-  list_no_front k each [] rest some fit = absurd (omega arith)
-  list_no_front k each (a ∷ []) rest some fit = each a rest fit.0
-  list_no_front k each (a ∷ b ∷ more) rest some fit = ap (no_front k) (commas_front a (b ∷ more) rest (omega arith)) ∙ each a (44 ∷ (list_text (b ∷ more) ++ rest)) fit.0
+  pub list_front : (front : List ℕ → Bool) → ((a : A) (rest : List ℕ) → Fits a → front (to_text a ++ rest) ≡ true) → (items : List A) (rest : List ℕ) → 1 ≤ length items → Every Fits items → front (with_commas (map to_text items) ++ rest) ≡ true
+  list_front front each [] rest some fit = absurd (omega arith)
+  list_front front each (a ∷ []) rest some fit = each a rest fit.0
+  list_front front each (a ∷ b ∷ more) rest some fit = ap front (commas_front a (b ∷ more) rest (omega arith)) ∙ each a (44 ∷ (list_text (b ∷ more) ++ rest)) fit.0
 
   -- a list has no more items than one more than characters
   few_items : (items : List A) (rest : List ℕ) → length items ≤ suc (length (list_text items ++ rest))
@@ -121,7 +121,7 @@ module _ {A : Type 0} {item : List ℕ → Reads A} {to_text : A → List ℕ} {
       let others : List ℕ = list_text (b ∷ more) ++ rest in
       ap (listed (suc n) item) (commas_front a (b ∷ more) rest (omega arith))
       ∙ ap (and_then_read (λ b tail. more_listed (λ next. listed n item next) b tail (behind_comma tail))) (r.reads a (44 ∷ others) is.1.0 (r.comma others))
-      ∙ ap (more_listed (λ next. listed n item next) a (44 ∷ others)) (comma_some others (list_no_front 47 r.no_stroke (b ∷ more) rest (omega arith) is.1.1))
+      ∙ ap (more_listed (λ next. listed n item next) a (44 ∷ others)) (comma_some others (list_front (no_front 47) r.no_stroke (b ∷ more) rest (omega arith) is.1.1))
       ∙ ap (read_as (λ items. a ∷ items)) (listed_reads n (b ∷ more) rest (omega arith) (omega arith, is.1.1) follow ends)
 
   pub list_reads : (items : List A) (rest : List ℕ) → 1 ≤ length items → Every Fits items → follows rest ≡ true → ends_list rest ≡ true → list_at item (with_commas (map to_text items) ++ rest) ≡ Some (items, rest)

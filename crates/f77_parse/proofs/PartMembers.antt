@@ -75,7 +75,7 @@ group_reads members rest fits =
     let two : 2 ≤ length members = leb-true 2 (length members) both.0 in
     where_reads two_or_more (bracketed_at member_at (group_text members ++ rest)) members rest (bracketed_reads member_listed members rest (omega (arith, two)) (pass_every is_member members both.1)) both.0
 
-group_listed : IsListed group_at group_text (λ members. is_group members ≡ true) anything
+pub group_listed : IsListed group_at group_text (λ members. is_group members ≡ true) anything
 group_listed = record {
   sound = group_sound;
   reads = λ members rest fits follows. group_reads members rest fits;

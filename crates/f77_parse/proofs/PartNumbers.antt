@@ -1,6 +1,6 @@
 -- Numbers, names, letters and signed numbers.
-use Rattle.std.proofs.Common.{◌≡◌, ◌==◌, ℕ, ◌<◌, ◌≤◌, Bool, true, false, not, ◌||◌, List, [], ◌∷◌, ◌++◌, length, drop, take_while, map, Some, None, if◌then◌else◌, nat_lt, refl, sym, ap, ◌∙◌, arith, append_assoc}
-use Rattle.std.proofs.lemmas.Bool.{not-true, eqb-true, and_parts, and_from, ne_eqb, or_parts}
+use Rattle.std.proofs.Common.{◌≡◌, ◌==◌, ℕ, ◌<◌, ◌≤◌, Bool, true, false, not, ◌||◌, List, [], ◌∷◌, ◌++◌, length, drop, take_while, map, Some, None, if◌then◌else◌, nat_le, nat_lt, refl, sym, ap, ◌∙◌, arith, append_assoc}
+use Rattle.std.proofs.lemmas.Bool.{not-true, eqb-true, and_parts, and_from, and_right, ne_eqb, lt-leb, or_parts}
 use Rattle.std.specs.List.{list_all}
 use Rattle.f77_tree.specs.Name.{is_capital, is_figure, is_name}
 use Rattle.f77_tree.specs.Grammar.{is_number}
@@ -12,7 +12,7 @@ use Rattle.f77_expr.proofs.Fronts.{run_of_kind, run_and_rest, run_ends, whole_ru
 use Rattle.f77_expr.proofs.Followers.{breaks_off}
 use Rattle.f77_expr.proofs.Primaries.{capital_from, figure_from, name_parts}
 use Rattle.f77_parse.specs.Parts.{number_at, name_at, letter_at, sign_at, signed_at, bracketed_at}
-use Rattle.f77_parse.proofs.Followers.{no_front, no_figure, no_symbol, IsInFront, Every, IsListed}
+use Rattle.f77_parse.proofs.Followers.{no_front, other_front, other_no_front, figure_front, capital_front, no_figure, no_symbol, IsInFront, Every, IsListed}
 use Rattle.f77_parse.proofs.PartLists.{every_pass, pass_every, bracketed_sound, bracketed_reads}
 
 -- ---- first characters
@@ -23,14 +23,39 @@ is_no k c lt = ne_eqb c k (λ e. omega arith)
 pub number_from : (c : ℕ) (more : List ℕ) → is_number (c ∷ more) ≡ true → 48 ≤ c
 number_from c more h = figure_from c (and_parts (is_figure c) (list_all is_figure more) (and_parts (nat_lt 0 (length (c ∷ more))) (list_all is_figure (c ∷ more)) h).1).0
 
--- a number begins with no character below 0, and a name with none below A
+-- a number begins with a digit, and a name with a letter
+pub number_figure_front : (digits rest : List ℕ) → is_number digits ≡ true → figure_front (digits ++ rest) ≡ true
+number_figure_front [] rest h = absurd cc
+number_figure_front (c ∷ more) rest h = (and_parts (is_figure c) (list_all is_figure more) (and_parts (nat_lt 0 (length (c ∷ more))) (list_all is_figure (c ∷ more)) h).1).0
+
+pub name_capital_front : (name rest : List ℕ) → is_name name ≡ true → capital_front (name ++ rest) ≡ true
+name_capital_front [] rest h = absurd cc
+name_capital_front (c ∷ more) rest h = (name_parts c more h).capital
+
+-- and so with no character below 0 or A
+pub figure_other : (k : ℕ) (text : List ℕ) → figure_front text ≡ true → k < 48 → other_front k text ≡ true
+figure_other k [] h below = absurd cc
+figure_other k (c ∷ more) h below = let from : 48 ≤ c = figure_from c h in ap not (is_no k c (omega arith))
+
+pub capital_other : (k : ℕ) (text : List ℕ) → capital_front text ≡ true → k < 65 → other_front k text ≡ true
+capital_other k [] h below = absurd cc
+capital_other k (c ∷ more) h below = let from : 65 ≤ c = capital_from c h in ap not (is_no k c (omega arith))
+
+pub capital_no_figure : (text : List ℕ) → capital_front text ≡ true → no_figure text ≡ true
+capital_no_figure [] h = absurd cc
+capital_no_figure (c ∷ more) h = let from : 65 ≤ c = capital_from c h in ap not (and_right (nat_le 48 c) (nat_le c 57) (lt-leb c 57 (omega arith)))
+
+pub number_other : (k : ℕ) (digits rest : List ℕ) → is_number digits ≡ true → k < 48 → other_front k (digits ++ rest) ≡ true
+number_other k digits rest h below = figure_other k (digits ++ rest) (number_figure_front digits rest h) below
+
+pub name_other : (k : ℕ) (name rest : List ℕ) → is_name name ≡ true → k < 65 → other_front k (name ++ rest) ≡ true
+name_other k name rest h below = capital_other k (name ++ rest) (name_capital_front name rest h) below
+
 pub number_no_front : (k : ℕ) (digits rest : List ℕ) → is_number digits ≡ true → k < 48 → no_front k (digits ++ rest) ≡ true
-number_no_front k [] rest h below = absurd cc
-number_no_front k (c ∷ more) rest h below = let from : 48 ≤ c = number_from c more h in ap not (is_no k c (omega arith))
+number_no_front k digits rest h below = other_no_front k (digits ++ rest) (number_other k digits rest h below)
 
 pub name_no_front : (k : ℕ) (name rest : List ℕ) → is_name name ≡ true → k < 65 → no_front k (name ++ rest) ≡ true
-name_no_front k [] rest h below = absurd cc
-name_no_front k (c ∷ more) rest h below = let from : 65 ≤ c = capital_from c (name_parts c more h).capital in ap not (is_no k c (omega arith))
+name_no_front k name rest h below = other_no_front k (name ++ rest) (name_other k name rest h below)
 
 -- ---- what breaks off
 
