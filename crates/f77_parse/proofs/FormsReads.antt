@@ -8,8 +8,8 @@ use Rattle.f77_expr.specs.Reader.{Reads, read_as, and_then_read}
 use Rattle.f77_expr.proofs.EachRead.{if_true, if_false}
 use Rattle.f77_parse.specs.Parts.{where_it, number_at, list_at, bracketed_at, expression_in_front, variable_at, characters_at, item_at}
 use Rattle.f77_parse.specs.Forms.{stop_at, computed_at, go_to_at, items_behind, items_at, targets_at, simple_at}
-use Rattle.f77_parse.proofs.Followers.{no_front}
-use Rattle.f77_parse.proofs.PartExpressions.{other_no_front, expression_no_comma, expression_reads, variables_reads}
+use Rattle.f77_parse.proofs.Followers.{no_front, other_no_front}
+use Rattle.f77_parse.proofs.PartExpressions.{expression_no_comma, expression_reads, variables_reads}
 use Rattle.f77_parse.proofs.PartItems.{characters_reads, items_reads}
 use Rattle.f77_parse.proofs.PartLists.{behind_commas_is}
 use Rattle.f77_parse.proofs.PartNumbers.{number_from, number_reads, labels_reads}
