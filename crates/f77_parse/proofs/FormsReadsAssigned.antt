@@ -1,44 +1,25 @@
 -- Assignments and DO are read as they are written.
-use Rattle.std.proofs.Common.{◌≡◌, ◌==◌, ℕ, ◌≤◌, Bool, true, false, not, List, [], ◌∷◌, ◌++◌, nat_le, Option, Some, None, codes, refl, sym, ap, ◌∙◌, append_assoc, arith}
-use Rattle.std.proofs.lemmas.Bool.{lt-leb, and_right, not-true, true≢false}
+use Rattle.std.proofs.Common.{◌≡◌, ◌==◌, ℕ, Bool, true, false, List, [], ◌∷◌, ◌++◌, Option, Some, None, codes, refl, ap, ◌∙◌, append_assoc, arith}
+use Rattle.std.proofs.lemmas.Bool.{not-true}
 use Rattle.f77_tree.specs.Name.{is_name}
-use Rattle.f77_tree.specs.Grammar.{Written, Arguments, IsGrammatical, spelling, spellings}
+use Rattle.f77_tree.specs.Grammar.{Written, Arguments, IsGrammatical, spelling}
 use Rattle.f77_tree.specs.StatementGrammar.{in_brackets, comma_if, IsVariable, step_text, IsStep, WrittenStatement, statement_text, IsStatement}
 use Rattle.f77_expr.specs.Reader.{read_as, and_then_read}
 use Rattle.f77_expr.proofs.EachRead.{if_false}
-use Rattle.f77_expr.proofs.Primaries.{capital_from, name_parts}
-use Rattle.f77_expr.proofs.Spellings.{call_spelling}
 use Rattle.f77_parse.specs.Parts.{name_at, ends_expression, bracketed_or_none, variable_of, expression_in_front, variable_at}
 use Rattle.f77_parse.specs.Forms.{step_at, do_at, assigned_at, condition_of, conditional_at, equals_behind, equals_at}
-use Rattle.f77_parse.proofs.Followers.{no_front, no_figure}
-use Rattle.f77_parse.proofs.PartExpressions.{expression_reads, expression_listed, variable_reads}
+use Rattle.f77_parse.proofs.Followers.{other_no_front, no_front, no_figure}
+use Rattle.f77_parse.proofs.PartExpressions.{variable_capital_front, expression_reads, expression_listed, variable_reads}
 use Rattle.f77_parse.proofs.PartLists.{bracketed_reads}
-use Rattle.f77_parse.proofs.PartNumbers.{name_no_front, number_reads, name_reads}
+use Rattle.f77_parse.proofs.PartNumbers.{name_capital_front, capital_other, capital_no_figure, name_no_front, number_reads, name_reads}
 use Rattle.f77_parse.proofs.PartReaders.{comma_reads}
 use Rattle.f77_parse.proofs.FormsReads.{to_the_end}
 use Rattle.f77_parse.proofs.FormsFree.{do_spelling}
 use Rattle.f77_parse.proofs.FormsSoundAssigned.{step_part, last_part, first_part, variable_part}
 
--- ---- the first character of a name
-
-name_no_figure : (name text : List ℕ) → is_name name ≡ true → no_figure (name ++ text) ≡ true
-name_no_figure [] text h = absurd cc
-name_no_figure (c ∷ more) text h =
-    let from : 65 ≤ c = capital_from c (name_parts c more h).capital in
-    ap not (and_right (nat_le 48 c) (nat_le c 57) (lt-leb c 57 (omega arith)))
-
 -- no variable begins with an equals sign
 variable_no_equals : (w : Written) (text : List ℕ) → IsVariable w → no_front 61 (spelling w ++ text) ≡ true
-variable_no_equals (Written.name n) text h = name_no_front 61 n text h.grammatical (omega arith)
-variable_no_equals (Written.call n args) text h =
-    ap (no_front 61) (call_spelling n args text) ∙ name_no_front 61 n (40 ∷ (spellings args ++ (41 ∷ text))) h.grammatical.0 (omega arith)
-variable_no_equals (Written.number digits) text h = absurd (true≢false (sym h.variable))
-variable_no_equals (Written.truth b) text h = absurd (true≢false (sym h.variable))
-variable_no_equals (Written.bracketed w) text h = absurd (true≢false (sym h.variable))
-variable_no_equals (Written.plus w) text h = absurd (true≢false (sym h.variable))
-variable_no_equals (Written.minus w) text h = absurd (true≢false (sym h.variable))
-variable_no_equals (Written.negation w) text h = absurd (true≢false (sym h.variable))
-variable_no_equals (Written.binary op a b) text h = absurd (true≢false (sym h.variable))
+variable_no_equals w text h = other_no_front 61 (spelling w ++ text) (capital_other 61 (spelling w ++ text) (variable_capital_front w text h) (omega arith))
 
 -- ---- assignments
 
@@ -85,7 +66,7 @@ step_ends (Some w) = refl
 
 comma_no_figure : (comma : Bool) (variable text : List ℕ) → is_name variable ≡ true → no_figure (comma_if comma ++ (variable ++ text)) ≡ true
 comma_no_figure true variable text h = refl
-comma_no_figure false variable text h = name_no_figure variable text h
+comma_no_figure false variable text h = capital_no_figure (variable ++ text) (name_capital_front variable text h)
 
 pub do_reads : (label : List ℕ) (comma : Bool) (variable : List ℕ) (first last : Written) (step : Option Written) → IsStatement (WrittenStatement.do_loop label comma variable first last step) → do_at (statement_text (WrittenStatement.do_loop label comma variable first last step)) ≡ Some (WrittenStatement.do_loop label comma variable first last step, [])
 do_reads label comma variable first last step h =
