@@ -1,13 +1,14 @@
 -- Parts of texts as the code takes them off.
-use Rattle.std.proofs.Common.{◌≡◌, ℕ, ◌+◌, ◌<◌, Bool, true, false, eqb, if◌then◌else◌, ◌&&◌, List, [], ◌∷◌, length, take, drop, get_or, Option, Some, None, MatchOption, refl, sym, ap, ◌∙◌}
+use Rattle.std.proofs.Common.{◌≡◌, ◌==◌, ℕ, ◌+◌, ◌<◌, Bool, true, false, eqb, if◌then◌else◌, ◌&&◌, ◌||◌, List, [], ◌∷◌, length, take, drop, get_or, Option, Some, None, MatchOption, refl, sym, ap, ◌∙◌}
 use Rattle.std.specs.Borrow.{Bor}
 use Rattle.std.specs.Option.{option_copied}
-use Rattle.std.proofs.lemmas.Bool.{eqb-true, eqb-false, eq-eqb, ne_eqb}
+use Rattle.std.proofs.lemmas.Bool.{or_parts, eqb-true, eqb-false, eq-eqb, ne_eqb}
 use Rattle.std.proofs.lemmas.List.{at_drop_more}
 use lib.Pointwise.{pointwise}
 use Rattle.op_table.specs.declared.Op.{Op}
 use Rattle.f77_tree.specs.Grammar.{symbol}
-use Rattle.f77_expr.specs.Reader.{after_front, this_or, operator_among}
+use Rattle.f77_expr.specs.Reader.{after_front, this_or, operator_among, operator_at}
+use Rattle.f77_expr.specs.Answers.{begins_operator}
 
 eqb-swapped : (a b : ℕ) → eqb a b ≡ eqb b a
 eqb-swapped a b = by (eqb a b) refl
@@ -35,3 +36,18 @@ front_stripped front text (Some x) h = ap (λ (rest : List ℕ). Some rest) h.1 
 pub among_missed : (ops : List Op) (i : ℕ) (d : Op) (text : List ℕ) → i < length ops → after_front (symbol (get_or ops i d)) text ≡ None → operator_among (drop i ops) text ≡ operator_among (drop (i + 1) ops) text
 among_missed ops i d text lt e =
     at_drop_more (λ rest. operator_among rest text) ops i d lt ∙ ap (λ tail. this_or (get_or ops i d) tail (operator_among (drop (i + 1) ops) text)) e
+
+-- no operator begins with another character
+pub no_operator : (text : List ℕ) → begins_operator text ≡ false → operator_at text ≡ None
+no_operator [] none = refl
+no_operator (c ∷ text) none =
+    let some = or_parts (c == 42 || c == 47 || c == 43 || c == 45) (c == 46) none in
+    let signs = or_parts (c == 42 || c == 47 || c == 43) (c == 45) some.0 in
+    let plus = or_parts (c == 42 || c == 47) (c == 43) signs.0 in
+    let stars = or_parts (c == 42) (c == 47) plus.0 in
+    let star : eqb 42 c ≡ false = eqb-swapped 42 c ∙ stars.0 in
+    let slash : eqb 47 c ≡ false = eqb-swapped 47 c ∙ stars.1 in
+    let add : eqb 43 c ≡ false = eqb-swapped 43 c ∙ plus.1 in
+    let minus : eqb 45 c ≡ false = eqb-swapped 45 c ∙ signs.1 in
+    let dot : eqb 46 c ≡ false = eqb-swapped 46 c ∙ some.1 in
+    rw (star, slash, add, minus, dot) refl

@@ -40,6 +40,11 @@ prefix_level Negation = 3
 abbrev pub sign_at : List ℕ → Reads WrittenPrefix
 sign_at text = this_or WrittenPrefix.Plus (after_front (codes "+") text) (this_or WrittenPrefix.Minus (after_front (codes "-") text) None)
 
+-- a text that begins with the first character of some operator
+abbrev pub begins_operator : List ℕ → Bool
+begins_operator [] = false
+begins_operator (c ∷ text) = c == 42 || c == 47 || c == 43 || c == 45 || c == 46
+
 -- an operator, where it may stand behind an operand of this level
 abbrev pub allowed : (least : ℕ) → (behind : ℕ) → Reads Op → Reads Op
 allowed least behind None = None

@@ -4,7 +4,7 @@ ghost use Rattle.std.specs.Prelude.{◌≡◌};
 ghost use Rattle.std.specs.Option.{option_copied};
 ghost use Rattle.f77_tree.specs.Grammar.{Written, symbol as spec_symbol, operator_level, left_level, right_level};
 ghost use Rattle.f77_expr.specs.Reader.{read_as, after_front as spec_after_front, operator_at as spec_operator_at, prefix_at as spec_prefix_at, operand_level as spec_operand_level, truth_at as spec_truth_at};
-ghost use Rattle.f77_expr.specs.Answers.{seen, meant, allowed, sign_at as spec_sign_at, prefix_level as spec_prefix_level};
+ghost use Rattle.f77_expr.specs.Answers.{seen, meant, allowed, begins_operator as spec_begins_operator, sign_at as spec_sign_at, prefix_level as spec_prefix_level};
 
 use op_table::Op;
 
@@ -101,8 +101,18 @@ fn after_front<'a>(text: &'a [u8], front: &[u8]) -> Option<&'a [u8]>
     text.strip_prefix(front)
 }
 
-/// The operator between operands with which a text begins, and the text behind it.
-fn operator_at(text: &[u8]) -> Option<(Op, &[u8])>
+/// Whether a text begins with the first character of some operator between operands.
+fn begins_operator(text: &[u8]) -> bool
+    ensures { result ≡ spec_begins_operator text.now }
+{
+    match text.first() {
+        Some(c) => matches!(*c, b'*' | b'/' | b'+' | b'-' | b'.'),
+        None => false,
+    }
+}
+
+/// The first of the operators with which a text begins, and the text behind it.
+fn first_operator(text: &[u8]) -> Option<(Op, &[u8])>
     ensures { seen result ≡ spec_operator_at text.now }
 {
     for op in &OPERATORS {
@@ -111,6 +121,19 @@ fn operator_at(text: &[u8]) -> Option<(Op, &[u8])>
         }
     }
     None
+}
+
+/// The operator between operands with which a text begins, and the text behind it. Behind most operands there is none,
+/// which the first character tells.
+#[tactic(auto, using(crate::proofs::Parts::no_operator))]
+fn operator_at(text: &[u8]) -> Option<(Op, &[u8])>
+    ensures { seen result ≡ spec_operator_at text.now }
+{
+    if begins_operator(text) {
+        first_operator(text)
+    } else {
+        None
+    }
 }
 
 /// The operator with which a text begins, where it may stand behind an operand of this level in an expression of at least

@@ -3,7 +3,7 @@ use Rattle.op_table.specs.declared.Op.TheVariants.{Pow}
 use Rattle.f77_tree.specs.Grammar.{symbol}
 use Rattle.f77_expr.specs.Reader.{operators, after_front}
 use Rattle.f77_expr.proofs.Parts.{among_missed}
-use Rattle.f77_expr.proofs.operators.operator_at.Goals as goal
+use Rattle.f77_expr.proofs.operators.first_operator.Goals as goal
 
 pub loop-op-preserved : goal.loop-op-preserved
 loop-op-preserved c =
