@@ -23,7 +23,7 @@ with_count nodes k false = ap length (append-nil nodes) ∙ omega arith
 with_front : (nodes : List ℕ) (k : ℕ) (ready : Bool) (i : ℕ) → i < length nodes → get_or (with_if nodes k ready) i 0 ≡ get_or nodes i 0
 with_front nodes k ready i lt = get_or_append_left nodes (if ready then k ∷ [] else []) 0 i lt
 
-module _ {M : Type 0} (s : Moves M) (m : M) (marks : List Bool) (are : AreReadyMarks s m marks) where
+module _ {M : Type 0} {s : Moves M} {m : M} {marks : List Bool} (are : AreReadyMarks s m marks) where
   ready_count : (n : ℕ) → n ≤ s.nodes → length (ready_below s m n) ≡ rank marks n
   ready_count zero le = refl
   ready_count (suc n) le =
@@ -56,24 +56,25 @@ module _ {M : Type 0} (s : Moves M) (m : M) (marks : List Bool) (are : AreReadyM
   all_count : length (ready_below s m s.nodes) ≡ member_count marks
   all_count = ready_count s.nodes (omega arith) ∙ ap (rank marks) (sym are.room)
 
-  -- the marked node at a pick's place is the one that the pick chooses
-  pub marked_chosen : (pick k : ℕ) → IsMemberAt marks (pick % member_count marks) k → k ≡ chosen s m pick
-  marked_chosen pick k at =
-      let node : k < s.nodes = let inside = at.inside in let room = are.room in omega (arith, inside, room) in
-      let place = ready_place s.nodes k (omega arith) node (marked_is k node at.member) in
-      sym place ∙ ap (λ p. get_or (ready_below s m s.nodes) p 0) (at.below ∙ ap (λ n. pick % n) (sym all_count))
-
-  pub marked_fires : (place k : ℕ) → s.trap m ≡ None → IsMemberAt marks place k → CanFire s m k
-  marked_fires place k none at =
-      let node : k < s.nodes = let inside = at.inside in let room = are.room in omega (arith, inside, room) in
-      record { going = none; node = node; ready = marked_is k node at.member }
-
   pub none_marked : member_count marks ≡ 0 → IsOver s m
   none_marked none k can =
       let room = are.room in
       let node = can.node in
       let more = rank_member marks k 0 (length marks) (are.right k can.node ∙ can.ready) (omega arith) (omega (arith, room, node)) in
       omega (arith, more, none)
+
+  marked_node : {place k : ℕ} → IsMemberAt marks place k → k < s.nodes
+  marked_node at = let inside = at.inside in let room = are.room in omega (arith, inside, room)
+
+  -- the marked node at a pick's place is the one that the pick chooses
+  module _ (pick : ℕ) {count k : ℕ} (all : count ≡ member_count marks) (at : IsMemberAt marks (pick % count) k) where
+    pub marked_chosen : k ≡ chosen s m pick
+    marked_chosen =
+        let place = ready_place s.nodes k (omega arith) (marked_node at) (marked_is k (marked_node at) at.member) in
+        sym place ∙ ap (λ p. get_or (ready_below s m s.nodes) p 0) (at.below ∙ ap (λ n. pick % n) (all ∙ sym all_count))
+
+    pub marked_fires : s.trap m ≡ None → CanFire s m k
+    marked_fires none = record { going = none; node = marked_node at; ready = marked_is k (marked_node at) at.member }
 
 -- ---- the marks after a firing
 
@@ -101,8 +102,8 @@ module _ {M : Type 0} (sound : M → Type 0) (s : Moves M) (lawful : IsLawful so
   }
 
 -- the same of what a system with an equal net tells, before and after it was tested
-pub marks_told : {N M : Type 0} (sound : M → Type 0) (moves : N → Moves M) (net before after : N) (lawful : IsLawful sound (moves net)) (m moved last : M) (k : ℕ) (woken : List ℕ) (old mid new : List Bool) → before ≡ net → after ≡ net → sound m → CanFire (moves net) m k → moved ≡ (moves net).fired m k → last ≡ moved → Wakes (moves before) m k woken → mid ≡ old → AreReadyMarks (moves net) m old → Retested (moves after) moved woken mid new → has new k ≡ (moves after).ready moved k → (moves net).trap last ≡ None → AreReadyMarks (moves net) last new
-marks_told sound moves net before after lawful m moved last k woken old mid new first second is_sound can moved_is last_is wakes mid_is are tested fired none =
+pub marks_told : {N M : Type 0} {sound : M → Type 0} (moves : N → Moves M) {net before after : N} (lawful : IsLawful sound (moves net)) {m moved last : M} {k : ℕ} {woken : List ℕ} {old mid new : List Bool} → before ≡ net → after ≡ net → sound m → CanFire (moves net) m k → moved ≡ (moves net).fired m k → last ≡ moved → Wakes (moves before) m k woken → mid ≡ old → AreReadyMarks (moves net) m old → Retested (moves after) moved woken mid new → has new k ≡ (moves after).ready moved k → (moves net).trap last ≡ None → AreReadyMarks (moves net) last new
+marks_told {sound} moves {net} {before} {after} lawful {m} {moved} {last} {k} {woken} {old} {mid} {new} first second is_sound can moved_is last_is wakes mid_is are tested fired none =
     let s = moves net in
     let f = s.fired m k in
     let all : Wakes s m k woken = subst (λ n. Wakes (moves n) m k woken) first wakes in

@@ -8,4 +8,5 @@ pub mod PlayLemmas
 pub mod Pulling
 pub mod RankLemmas
 pub mod Resting
+pub mod RunLemmas
 pub mod Trapping

@@ -66,6 +66,25 @@ pub fn play<S: StepSystem, K: Sink>(
     ensures settles { (n : ℕ) → result ≡ PlayEnd.Rest n → Settles (S.moves (S.net sys.old)) (S.marking sys.old) n (S.marking sys.new) }
     ensures traps { (trap : Trap) (line : ℕ) → result ≡ PlayEnd.Trapped trap line → Traps (S.moves (S.net sys.old)) (S.marking sys.old) (trap, line) ((S.moves (S.net sys.old)).out (S.marking sys.new)) }
 {
+    fire_chosen(sys, picks, limit, show, sink)
+}
+
+// Fires the nodes that the picks choose. What follows of such a run by the laws is a matter of `play`.
+fn fire_chosen<S: StepSystem, K: Sink>(
+    sys: &mut S,
+    picks: &[u32],
+    limit: u64,
+    show: Show,
+    sink: &mut K,
+) -> PlayEnd
+    requires picks { 0 < length picks.now }
+    requires sound { S.sound (S.net sys.old) (S.marking sys.old) }
+    ensures plays { Plays (by_picks (S.moves (S.net sys.old)) (S.steered (S.net sys.old)) picks.now) (moment (S.marking sys.old) (S.control sys.old)) limit show (moment (S.marking sys.new) (S.control sys.new)) (K.got sink.old) (K.got sink.new) result }
+    ensures net { S.net sys.new ≡ S.net sys.old }
+    ensures sound { S.sound (S.net sys.old) (S.marking sys.new) }
+    ensures later { K.faults sink.old ≤ K.faults sink.new }
+    ensures fault { (n : ℕ) → result ≡ PlayEnd.WriteFault n → Rose (K.faults sink.old) (K.faults sink.new) }
+{
     mark_ready(sys);
     let mut made: u64 = 0;
     'firing: loop {

@@ -46,6 +46,20 @@ pub fn follow<S: SourceOrder, K: Sink>(sys: &mut S, limit: u64, show: Show, sink
     ensures settles { (n : ℕ) → result ≡ PlayEnd.Rest n → Settles (S.moves (S.net sys.old)) (S.marking sys.old) n (S.marking sys.new) }
     ensures traps { (trap : Trap) (line : ℕ) → result ≡ PlayEnd.Trapped trap line → Traps (S.moves (S.net sys.old)) (S.marking sys.old) (trap, line) ((S.moves (S.net sys.old)).out (S.marking sys.new)) }
 {
+    fire_due(sys, limit, show, sink)
+}
+
+// Fires the nodes that are due. What follows of such a run by the laws is a matter of `follow`.
+fn fire_due<S: SourceOrder, K: Sink>(sys: &mut S, limit: u64, show: Show, sink: &mut K) -> PlayEnd
+    requires sound { S.sound (S.net sys.old) (S.marking sys.old) }
+    requires in_step { S.in_step (S.net sys.old) (S.marking sys.old) (S.control sys.old) }
+    ensures plays { Plays (by_order (S.moves (S.net sys.old)) (S.steered (S.net sys.old)) (S.due_node (S.net sys.old))) (moment (S.marking sys.old) (S.control sys.old)) limit show (moment (S.marking sys.new) (S.control sys.new)) (K.got sink.old) (K.got sink.new) result }
+    ensures net { S.net sys.new ≡ S.net sys.old }
+    ensures sound { S.sound (S.net sys.old) (S.marking sys.new) }
+    ensures in_step { S.in_step (S.net sys.old) (S.marking sys.new) (S.control sys.new) }
+    ensures later { K.faults sink.old ≤ K.faults sink.new }
+    ensures fault { (n : ℕ) → result ≡ PlayEnd.WriteFault n → Rose (K.faults sink.old) (K.faults sink.new) }
+{
     let mut made: u64 = 0;
     'firing: loop {
         if let Some((trap, line)) = sys.trap() {

@@ -2,7 +2,7 @@ use Rattle.std.proofs.Common.{◌≡◌, ◌-◌, ◌≤◌, length, None}
 use Rattle.firing.specs.Marks.{AreReadyMarks}
 use Rattle.firing.specs.Play.{by_picks, moment}
 use Rattle.firing.proofs.PlayLemmas.{Running}
-use Rattle.firing.proofs.playing.play.Given as goal
+use Rattle.firing.proofs.playing.fire_chosen.Given as goal
 
 abbrev pub invariant-firing : goal.invariant-firing
 invariant-firing g l =

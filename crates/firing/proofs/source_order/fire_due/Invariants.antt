@@ -1,7 +1,7 @@
 use Rattle.std.proofs.Common.{◌≡◌, ◌-◌, ◌≤◌}
 use Rattle.firing.specs.Play.{by_order, moment}
 use Rattle.firing.proofs.PlayLemmas.{Running}
-use Rattle.firing.proofs.source_order.follow.Given as goal
+use Rattle.firing.proofs.source_order.fire_due.Given as goal
 
 abbrev pub invariant-firing : goal.invariant-firing
 invariant-firing g l =

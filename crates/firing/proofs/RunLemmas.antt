@@ -1,0 +1,117 @@
+-- What the laws say of a run: the order that its firings are, and what every other order comes to.
+use Rattle.std.proofs.Common.{◌≡◌, ℕ, zero, suc, ◌+◌, ◌<◌, ◌++◌, List, [], ◌∷◌, length, Option, Some, refl, sym, ap, subst, ◌∙◌, add-one, length-append, append-nil, append_assoc, arith}
+use Rattle.std.proofs.Math.Seq.{take-append-add}
+use Rattle.std.specs.Io.KnownBytes.{Appends}
+use Rattle.df_io.specs.Write.{AppendsFront}
+use Rattle.op_table.specs.declared.Trap.{Trap}
+use Rattle.firing.specs.declared.playing.PlayEnd.{PlayEnd}
+use Rattle.firing.specs.declared.playing.PlayEnd.TheVariants.{Rest, Trapped, Limit, WriteFault}
+use Rattle.firing.specs.declared.playing.Show.{Show}
+use Rattle.firing.specs.declared.playing.Show.TheVariants.{Output, Nodes, Nothing}
+use Rattle.firing.specs.Laws.{IsLawful}
+use Rattle.firing.specs.Moves.{Moves, CanFire, line_bytes}
+use Rattle.firing.specs.Orders.{IsOrder, IsOver, IsWhole, Settles, Traps, after}
+use Rattle.firing.specs.Play.{Moment, Way, played, node_at, shown_at, shown, BreaksOff, Writes, WritesOutput, MakesOrder, Plays}
+use Rattle.firing.proofs.Resting.{settles}
+use Rattle.firing.proofs.Trapping.{traps}
+
+module _ {M : Type 0} (s : Moves M) where
+  after_last : (m : M) (ks : List ℕ) (k : ℕ) → after s m (ks ++ k ∷ []) ≡ s.fired (after s m ks) k
+  after_last m [] k = refl
+  after_last m (j ∷ ks) k = after_last (s.fired m j) ks k
+
+  order_last : (m : M) (ks : List ℕ) (k : ℕ) → IsOrder s m ks → CanFire s (after s m ks) k → IsOrder s m (ks ++ k ∷ [])
+  order_last m [] k order can = (can, tt)
+  order_last m (j ∷ ks) k (first, order) can = (first, order_last (s.fired m j) ks k order can)
+
+-- n firings as an order that leads to this end
+record Ordered {M : Type 0} (s : Moves M) (start : M) (n : ℕ) (end : M) : Type 0 where
+  nodes : List ℕ
+  order : IsOrder s start nodes
+  count : length nodes ≡ n
+  leads : after s start nodes ≡ end
+
+module _ {M C : Type 0} (w : Way M C) (start : Moment M C) where
+  ordered : (n : ℕ) → ((j : ℕ) → j < n → CanFire w.moves (played w start j).marking (node_at w start j)) → Ordered w.moves start.marking n (played w start n).marking
+  ordered zero going = record { nodes = []; order = tt; count = refl; leads = refl }
+  ordered (suc n) going =
+      let before = ordered n (λ j lt. going j (omega (arith, lt))) in
+      let k = node_at w start n in
+      record {
+        nodes = before.nodes ++ k ∷ [];
+        order = order_last w.moves start.marking before.nodes k before.order (subst (λ m. CanFire w.moves m k) (sym before.leads) (going n (omega arith)));
+        count = length-append before.nodes (k ∷ []) ∙ ap (λ i. i + 1) before.count ∙ add-one n;
+        leads = after_last w.moves start.marking before.nodes k ∙ ap (λ m. w.moves.fired m k) before.leads;
+      }
+
+-- ---- what is written of a run as output
+
+module _ {M C : Type 0} {sound : M → Type 0} (w : Way M C) (lawful : IsLawful sound w.moves) (start : Moment M C) (is_sound : sound start.marking) where
+  sound_at : (n : ℕ) → ((j : ℕ) → j < n → CanFire w.moves (played w start j).marking (node_at w start j)) → sound (played w start n).marking
+  sound_at zero going = is_sound
+  sound_at (suc n) going = lawful.stays_sound (played w start n).marking (node_at w start n) (sound_at n (λ j lt. going j (omega (arith, lt)))) (going n (omega arith))
+
+  output_at : (n : ℕ) → ((j : ℕ) → j < n → CanFire w.moves (played w start j).marking (node_at w start j)) → w.moves.out (played w start n).marking ≡ w.moves.out start.marking ++ shown w Output start n
+  output_at zero going = sym (append-nil (w.moves.out start.marking))
+  output_at (suc n) going =
+      let below : (j : ℕ) → j < n → CanFire w.moves (played w start j).marking (node_at w start j) = λ j lt. going j (omega (arith, lt)) in
+      let m = (played w start n).marking in
+      let k = node_at w start n in
+      lawful.written m k (sound_at n below) (going n (omega arith))
+      ∙ ap (λ bytes. bytes ++ line_bytes (w.moves.line m k)) (output_at n below)
+      ∙ append_assoc (w.moves.out start.marking) (shown w Output start n) (line_bytes (w.moves.line m k))
+
+module _ {M C : Type 0} (w : Way M C) (start : Moment M C) where
+  broken : (n : ℕ) (old new : Option (List ℕ)) → BreaksOff w Output start n old new → AppendsFront old new (shown w Output start n)
+  broken n old new b =
+      let before = shown w Output start b.last in
+      let last = shown_at w Output start b.last in
+      let within = b.within in
+      let front : AppendsFront old new (before ++ last) = record {
+        count = length before + b.count;
+        within = let all = length-append before last in omega (arith, all, within);
+        added = subst (Appends old new) (sym (take-append-add before last b.count)) b.written;
+      } in
+      subst (λ i. AppendsFront old new (shown w Output start i)) (sym b.is) front
+
+  writes_output : (show : Show) (n : ℕ) (old new : Option (List ℕ)) (result : PlayEnd) → Writes w show start n old new result → WritesOutput show (shown w Output start n) old new result
+  writes_output Output n old new (WriteFault count) writes = broken n old new writes
+  writes_output Output n old new (Rest count) writes = writes
+  writes_output Output n old new (Trapped trap line) writes = writes
+  writes_output Output n old new Limit writes = writes
+  writes_output Nodes n old new result writes = tt
+  writes_output Nothing n old new result writes = tt
+
+-- ---- what the laws say of a run
+
+module _ {M C : Type 0} {sound : M → Type 0} {w : Way M C} (lawful : IsLawful sound w.moves) {start : Moment M C} (is_sound : sound start.marking) {limit : ℕ} {show : Show} {end : Moment M C} {old new : Option (List ℕ)} where
+  firings_of : {result : PlayEnd} (plays : Plays w start limit show end old new result) → Ordered w.moves start.marking plays.firings end.marking
+  firings_of plays = subst (λ (x : Moment M C). Ordered w.moves start.marking plays.firings x.marking) (sym plays.leads) (ordered w start plays.firings plays.going)
+
+  pub makes_order : {result : PlayEnd} → Plays w start limit show end old new result → MakesOrder w.moves start.marking show end.marking old new result
+  makes_order {result} plays =
+      let all = firings_of plays in
+      record {
+        nodes = all.nodes;
+        order = all.order;
+        leads = all.leads;
+        added = shown w Output start plays.firings;
+        output = ap (λ (x : Moment M C). w.moves.out x.marking) plays.leads ∙ output_at w lawful start is_sound plays.firings plays.going;
+        written = writes_output w start show plays.firings old new result plays.writes;
+      }
+
+  pub rest_settles : {result : PlayEnd} → Plays w start limit show end old new result → (n : ℕ) → result ≡ Rest n → Settles w.moves start.marking n end.marking
+  rest_settles plays n is =
+      let run : Plays w start limit show end old new (Rest n) = subst (Plays w start limit show end old new) is plays in
+      let all = firings_of run in
+      let there : (played w start run.firings).marking ≡ after w.moves start.marking all.nodes = ap (λ (x : Moment M C). x.marking) (sym run.leads) ∙ sym all.leads in
+      let whole : IsWhole w.moves start.marking all.nodes = record { order = all.order; over = subst (IsOver w.moves) there run.ends.2 } in
+      let rest = settles sound w.moves lawful start.marking all.nodes is_sound whole (ap w.moves.trap (sym there) ∙ run.ends.1) in
+      subst (λ i. Settles w.moves start.marking i end.marking) (all.count ∙ sym run.ends.0) (subst (Settles w.moves start.marking (length all.nodes)) all.leads rest)
+
+  pub trap_traps : {result : PlayEnd} → Plays w start limit show end old new result → (trap : Trap) (line : ℕ) → result ≡ Trapped trap line → Traps w.moves start.marking (trap, line) (w.moves.out end.marking)
+  trap_traps plays trap line is =
+      let run : Plays w start limit show end old new (Trapped trap line) = subst (Plays w start limit show end old new) is plays in
+      let all = firings_of run in
+      let trapped : w.moves.trap (after w.moves start.marking all.nodes) ≡ Some (trap, line) = ap w.moves.trap all.leads ∙ ap (λ (x : Moment M C). w.moves.trap x.marking) run.leads ∙ run.ends in
+      subst (λ m. Traps w.moves start.marking (trap, line) (w.moves.out m)) all.leads (traps sound w.moves lawful (trap, line) start.marking all.nodes is_sound all.order trapped)
