@@ -12,6 +12,7 @@ pub mod Name
 pub mod Operations
 pub mod Places
 pub mod Run
+pub mod StatementGrammar
 pub mod Straight
 pub mod Value
 pub mod WellFormed

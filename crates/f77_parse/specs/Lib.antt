@@ -1,0 +1,3 @@
+-- Statements read from their texts: readers of the parts and of the forms of statements.
+pub mod Forms
+pub mod Parts
