@@ -5,11 +5,12 @@ use Rattle.f77_tree.specs.declared.statements.RawExpr.{RawExpr}
 use Rattle.f77_tree.specs.declared.statements.RawExpr.TheVariants.{Call, Apply}
 use Rattle.op_table.specs.declared.Op.TheVariants.{Neg, Not}
 use Rattle.f77_tree.specs.Grammar.{Written, Arguments, IsWritten, reading, readings, number_of, has_great_number, have_great_number}
-use Rattle.f77_expr.specs.declared.parsed.ExprEnd.{ExprEnd}
-use Rattle.f77_expr.specs.declared.parsed.ExprEnd.TheVariants.{TooDeep, NoForm, BadConstant, NoMemory}
-use Rattle.f77_expr.specs.Parsing.{IsReadAs, HasGreatConstant}
+use Rattle.f77_expr.specs.declared.parsed.ReadEnd.{ReadEnd}
+use Rattle.f77_expr.specs.declared.parsed.ReadEnd.TheVariants.{NoForm, NoMemory}
+use Rattle.f77_expr.specs.declared.parsed.ReadExpr.{ReadExpr}
+use Rattle.f77_expr.specs.Parsing.{IsReadWhole, IsPieceRead}
 use Rattle.f77_expr.specs.Reader.{expression_at}
-use Rattle.f77_expr.specs.Answers.{kept_number, kept, kept_arguments, IsRead, Answers, IsPieceRead}
+use Rattle.f77_expr.specs.Answers.{kept_number, kept, kept_arguments, IsRead, Answers}
 use Rattle.f77_expr.proofs.Readings.{read-written, written-read}
 
 -- ---- what is kept is what is read, where no number is too great
@@ -54,23 +55,15 @@ module _ (piece : List ℕ) (e : RawExpr) (rest : List ℕ) (great_now : Bool) (
   spells : IsWritten piece i.written
   spells = read-written piece i.written (i.is_read ∙ ap (λ tail. Some (i.written, tail)) whole)
 
-  -- an expression with a constant that is too great
-  pub great_written : great_now ≡ true → HasGreatConstant piece
-  great_written great = record { written = i.written; spells = spells; constant = sym i.is_great ∙ great }
-
-  -- and one with none
-  pub small_written : great_now ≡ false → IsReadAs piece e
-  small_written small =
-      let none : has_great_number i.written ≡ false = sym i.is_great ∙ small in
-      record { written = i.written; spells = spells; is = sym (i.is_kept ∙ kept-reading i.written none); constants = none }
+  -- an expression that is the whole piece
+  pub whole_written : IsReadWhole piece e great_now
+  whole_written = record { written = i.written; spells = spells; is_great = i.is_great; is = λ small. sym (i.is_kept ∙ kept-reading i.written small) }
 
 -- an error of the reader
-pub piece_fails : {A : Type 0} (P : A → Type 0) (piece : List ℕ) (part : Result A ExprEnd) (whole : Result RawExpr ExprEnd) (e : ExprEnd) → part ≡ Err e → whole ≡ Err e → Answers P (expression_at 0 piece ≡ None) part → IsPieceRead piece whole
-piece_fails {A = A} P piece part whole e part_is whole_is h =
-    subst (λ (r : Result RawExpr ExprEnd). IsPieceRead piece r) (sym whole_is) (by e (subst (λ (r : Result A ExprEnd). Answers P (expression_at 0 piece ≡ None) r) part_is h))
+pub piece_fails : {A : Type 0} (P : A → Type 0) (piece : List ℕ) (from : ℕ) (part : Result A ReadEnd) (whole : Result ReadExpr ReadEnd) (e : ReadEnd) → part ≡ Err e → whole ≡ Err e → Answers P (expression_at 0 piece ≡ None) part → IsPieceRead piece from whole
+piece_fails {A = A} P piece from part whole e part_is whole_is h =
+    subst (λ (r : Result ReadExpr ReadEnd). IsPieceRead piece from r) (sym whole_is) (by e (subst (λ (r : Result A ReadEnd). Answers P (expression_at 0 piece ≡ None) r) part_is h))
   where
-    by : (end : ExprEnd) → Answers P (expression_at 0 piece ≡ None) (Err end) → IsPieceRead piece (Err end)
-    by TooDeep h = h
+    by : (end : ReadEnd) → Answers P (expression_at 0 piece ≡ None) (Err end) → IsPieceRead piece from (Err end)
     by NoForm none = nothing_written piece none
-    by BadConstant h = absurd h
     by NoMemory h = tt

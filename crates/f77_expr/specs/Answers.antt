@@ -6,12 +6,15 @@ use Rattle.op_table.specs.declared.Op.TheVariants.{Neg, Not}
 use Rattle.f77_tree.specs.declared.statements.RawExpr.{RawExpr}
 use Rattle.f77_tree.specs.declared.statements.RawExpr.TheVariants.{Int, Truth, Named, Call, Apply}
 use Rattle.f77_tree.specs.Name.{is_capital}
-use Rattle.f77_tree.specs.Grammar.{Written, IsWritten, Arguments, level, operator_level, left_level, number_of, greatest_constant, has_great_number, have_great_number}
+use Rattle.f77_tree.specs.Grammar.{Written, Arguments, level, operator_level, left_level, number_of, greatest_constant, has_great_number, have_great_number}
 use Rattle.f77_expr.specs.declared.parsed.ExprEnd.{ExprEnd}
-use Rattle.f77_expr.specs.declared.parsed.ExprEnd.TheVariants.{TooDeep, NoForm, BadConstant, NoMemory}
+use Rattle.f77_expr.specs.declared.parsed.ExprEnd.TheVariants.{BadConstant}
+use Rattle.f77_expr.specs.declared.parsed.Parsed.{Parsed}
+use Rattle.f77_expr.specs.declared.parsed.ReadEnd.{ReadEnd}
+use Rattle.f77_expr.specs.declared.parsed.ReadEnd.TheVariants.{NoForm, NoMemory}
+use Rattle.f77_expr.specs.declared.parsed.ReadExpr.{ReadExpr}
 use Rattle.f77_expr.specs.declared.operators.Prefix.{Prefix}
 use Rattle.f77_expr.specs.declared.operators.Prefix.TheVariants.{Plus, Minus, Negation}
-use Rattle.f77_expr.specs.Parsing.{IsReadAs, HasGreatConstant}
 use Rattle.f77_expr.specs.Reader.{Reads, this_or, after_front, Prefix as WrittenPrefix, expression_at, chain_at}
 
 -- ---- parts of a text
@@ -122,18 +125,12 @@ pub record IsBegun (least : ℕ) (text : List ℕ) (great : Bool) (e : RawExpr) 
   pub is_great : great_now ≡ (great || has_great_number written)
   pub shorter : length rest < length text
 
--- a result that is good, or NoForm where there is none; no other error but NoMemory
-abbrev pub Answers : {A : Type 0} → (A → Type 0) → Type 0 → Result A ExprEnd → Type 0
+-- a result that is good, or NoForm where there is none
+abbrev pub Answers : {A : Type 0} → (A → Type 0) → Type 0 → Result A ReadEnd → Type 0
 Answers Good NoneIs (Ok a) = Good a
-Answers Good NoneIs (Err TooDeep) = ⊥
 Answers Good NoneIs (Err NoForm) = NoneIs
-Answers Good NoneIs (Err BadConstant) = ⊥
 Answers Good NoneIs (Err NoMemory) = Unit {0}
 
--- what a whole piece answers, where its brackets are not too deep
-abbrev pub IsPieceRead : List ℕ → Result RawExpr ExprEnd → Type 0
-IsPieceRead piece (Ok e) = IsReadAs piece e
-IsPieceRead piece (Err TooDeep) = ⊥
-IsPieceRead piece (Err NoForm) = (w : Written) → IsWritten piece w → ⊥
-IsPieceRead piece (Err BadConstant) = HasGreatConstant piece
-IsPieceRead piece (Err NoMemory) = Unit {0}
+-- what was read, where each constant in it is in range
+abbrev pub kept_in_range : ReadExpr → Result Parsed ExprEnd
+kept_in_range read = if read.has_great_constant then Err BadConstant else Ok (record { expr = read.expr; next = read.next })

@@ -14,8 +14,8 @@ mod reader;
 mod trees;
 
 pub use laws::{one_reading, piece_of_reading};
-pub use parse::parse_expr;
-pub use parsed::{ExprEnd, Parsed};
+pub use parse::{parse_expr, read_expr};
+pub use parsed::{ExprEnd, Parsed, ReadEnd, ReadExpr};
 pub use print::print_expr;
 
 #[cfg(test)]

@@ -1,10 +1,11 @@
 ghost use Rattle.std.specs.Prelude.{◌≡◌, ◌<◌, ◌≤◌, drop, length};
 ghost use Rattle.f77_expr.specs.Piece.{piece as spec_piece, bracket_depth, open_after as spec_open_after, ends_piece as spec_ends_piece};
-ghost use Rattle.f77_expr.specs.Parsing.{IsParsed};
+ghost use Rattle.f77_expr.specs.Parsing.{IsParsed, IsPieceRead};
 ghost use Rattle.f77_expr.specs.Scanning.{is_open};
+ghost use Rattle.f77_expr.specs.Answers.{kept_in_range};
 
 use crate::reader::read_piece;
-use crate::{ExprEnd, Parsed};
+use crate::{ExprEnd, Parsed, ReadEnd, ReadExpr};
 use df_sequence::CharList;
 use std::alloc::Global;
 
@@ -81,6 +82,35 @@ fn piece_in_front(text: &[u8]) -> Piece<'_>
     Piece { text, depth }
 }
 
+/// The expression in a piece of a text, for a reader that goes on behind it (ANSI X3.9-1978, section 6). The piece runs
+/// from the place `from`, counted in characters from 0, to the first `,`, `)`, `=` or `:` outside brackets and character
+/// constants, or to the end. How deep its brackets are isn't tested, and an expression with a constant above 2147483647 is
+/// read to its end.
+///
+/// # Errors
+///
+/// NoForm where the piece is no expression. NoMemory may come in place of any answer.
+pub fn read_expr(alloc: Global, text: &CharList, from: u32) -> Result<ReadExpr, ReadEnd>
+    requires { from ≤ length text.now }
+    ensures { IsPieceRead (spec_piece (drop from text.now)) from result }
+{
+    let piece = piece_in_front(&text.as_bytes()[from as usize..]);
+    read_piece(alloc, piece.text, from)
+}
+
+/// What was read, where each constant in it is in range.
+fn in_range(read: ReadExpr) -> Result<Parsed, ExprEnd>
+    ensures { result ≡ kept_in_range read }
+{
+    if read.has_great_constant {
+        return Err(ExprEnd::BadConstant);
+    }
+    Ok(Parsed {
+        expr: read.expr,
+        next: read.next,
+    })
+}
+
 /// The expression in a piece of a text (ANSI X3.9-1978, section 6). The piece runs from the place `from`, counted in
 /// characters from 0, to the first `,`, `)`, `=` or `:` outside brackets and character constants, or to the end.
 ///
@@ -97,9 +127,9 @@ pub fn parse_expr(alloc: Global, text: &CharList, from: u32) -> Result<Parsed, E
     if piece.depth > DEEPEST {
         return Err(ExprEnd::TooDeep);
     }
-    let expr = read_piece(alloc, piece.text)?;
-    Ok(Parsed {
-        expr,
-        next: from + piece.text.len() as u32,
-    })
+    match read_piece(alloc, piece.text, from) {
+        Ok(read) => in_range(read),
+        Err(ReadEnd::NoForm) => Err(ExprEnd::NoForm),
+        Err(ReadEnd::NoMemory) => Err(ExprEnd::NoMemory),
+    }
 }

@@ -10,6 +10,26 @@ pub struct Parsed {
     pub next: u32,
 }
 
+/// An expression that was read, whether or not its constants are in range.
+#[derive(Drop)]
+pub struct ReadExpr {
+    /// The expression. A constant above 2147483647 is kept as 0.
+    pub expr: RawExpr,
+    /// The place behind the piece that was read, counted in characters from 0.
+    pub next: u32,
+    /// Whether an integer constant in the piece is above 2147483647.
+    pub has_great_constant: bool,
+}
+
+/// Why nothing was read by a reader that goes on behind the expression.
+#[derive(Clone, Copy, Debug, PartialEq, Eq)]
+pub enum ReadEnd {
+    /// The piece is no expression.
+    NoForm,
+    /// There was no memory.
+    NoMemory,
+}
+
 /// Why no expression was read. The first of these that holds is told.
 #[derive(Clone, Copy, Debug, PartialEq, Eq)]
 pub enum ExprEnd {
@@ -21,6 +41,17 @@ pub enum ExprEnd {
     BadConstant,
     /// There was no memory.
     NoMemory,
+}
+
+impl From<NoMemory> for ReadEnd {
+    ghost use Rattle.std.specs.Prelude.{◌≡◌};
+    ghost use Rattle.f77_expr.specs.declared.parsed.ReadEnd.TheVariants.{NoMemory};
+
+    ghost from_gives = { λ _ e. e ≡ NoMemory };
+
+    fn from(_refused: NoMemory) -> ReadEnd {
+        ReadEnd::NoMemory
+    }
 }
 
 impl From<NoMemory> for ExprEnd {

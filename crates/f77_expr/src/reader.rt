@@ -1,18 +1,19 @@
 //! A reader of expressions by descent over the levels of the grammar (ANSI X3.9-1978, section 6). It never goes back, so
 //! its time is linear in the text, and calls are nested only as deep as brackets, arguments and chains of `**` are.
 
-ghost use Rattle.std.specs.Prelude.{◌≡◌, ◌||◌, ◌<◌, length, drop, take_while, false, true, MatchBool, MatchOption};
+ghost use Rattle.std.specs.Prelude.{◌≡◌, ◌||◌, ◌<◌, ◌+◌, length, drop, take_while, false, true, MatchBool, MatchOption};
 ghost use Rattle.f77_tree.specs.Name.{is_figure, is_name};
 ghost use Rattle.f77_tree.specs.Grammar.{Written};
 ghost use Rattle.f77_expr.specs.Reader.{is_symbolic, closed, and_then_read, primary_at, expression_at, arguments_at, truth_at as spec_truth_at};
-ghost use Rattle.f77_expr.specs.Answers.{passed, constant_of, kept_number, too_great, starts_name, IsRead, AreRead, IsBegun, Answers, IsPieceRead};
+ghost use Rattle.f77_expr.specs.Answers.{passed, constant_of, kept_number, too_great, starts_name, IsRead, AreRead, IsBegun, Answers};
+ghost use Rattle.f77_expr.specs.Parsing.{IsPieceRead};
 
-use crate::ExprEnd;
 use crate::constants::{constant, is_digit, is_letter, split_digits, split_symbolic};
 use crate::operators::{
     levels_of, operand_level, operator_behind, prefix_at, prefix_level, truth_at,
 };
 use crate::trees::{prefixed, two};
+use crate::{ReadEnd, ReadExpr};
 use df_sequence::Sequence;
 use f77_tree::{Name, RawExpr, RawList};
 use std::alloc::Global;
@@ -79,7 +80,7 @@ impl<'a> Reader<'a> {
     }
 
     /// A logical constant.
-    fn truth(&mut self) -> Result<RawExpr, ExprEnd>
+    fn truth(&mut self) -> Result<RawExpr, ReadEnd>
         ensures { Answers (λ e. IsRead self.old.rest.now self.old.has_great (spec_truth_at self.old.rest.now) e self.new.rest.now self.new.has_great) (spec_truth_at self.old.rest.now ≡ None) result }
     {
         match truth_at(self.rest) {
@@ -87,13 +88,13 @@ impl<'a> Reader<'a> {
                 self.rest = rest;
                 Ok(RawExpr::Truth(value))
             }
-            None => Err(ExprEnd::NoForm),
+            None => Err(ReadEnd::NoForm),
         }
     }
 
     /// An expression of at least this level, as long as it can be.
     #[cycle(descent)]
-    fn expression(&mut self, alloc: Global, least: u8) -> Result<RawExpr, ExprEnd>
+    fn expression(&mut self, alloc: Global, least: u8) -> Result<RawExpr, ReadEnd>
         requires room { length self.old.rest.now < 4294967296 }
         ensures { Answers (λ e. IsRead self.old.rest.now self.old.has_great (expression_at least self.old.rest.now) e self.new.rest.now self.new.has_great) (expression_at least self.old.rest.now ≡ None) result }
     {
@@ -112,7 +113,7 @@ impl<'a> Reader<'a> {
 
     /// A prefix with its operand, where an expression of this level may begin with one, or a primary.
     #[cycle(descent)]
-    fn operand(&mut self, alloc: Global, least: u8) -> Result<Operand, ExprEnd>
+    fn operand(&mut self, alloc: Global, least: u8) -> Result<Operand, ReadEnd>
         requires room { length self.old.rest.now < 4294967296 }
         ensures { Answers (λ operand. IsBegun least self.old.rest.now self.old.has_great operand.expr operand.level self.new.rest.now self.new.has_great) (expression_at least self.old.rest.now ≡ None) result }
     {
@@ -134,12 +135,12 @@ impl<'a> Reader<'a> {
 
     /// A constant, a name, a name with arguments, or an expression between brackets.
     #[cycle(descent)]
-    fn primary(&mut self, alloc: Global) -> Result<RawExpr, ExprEnd>
+    fn primary(&mut self, alloc: Global) -> Result<RawExpr, ReadEnd>
         requires room { length self.old.rest.now < 4294967296 }
         ensures { Answers (λ e. IsRead self.old.rest.now self.old.has_great (primary_at self.old.rest.now) e self.new.rest.now self.new.has_great) (primary_at self.old.rest.now ≡ None) result }
     {
         let Some(first) = self.rest.first() else {
-            return Err(ExprEnd::NoForm);
+            return Err(ReadEnd::NoForm);
         };
         if is_digit(*first) {
             Ok(self.number())
@@ -154,13 +155,13 @@ impl<'a> Reader<'a> {
 
     /// A name, with its arguments where a bracket follows.
     #[cycle(descent)]
-    fn named(&mut self, alloc: Global) -> Result<RawExpr, ExprEnd>
+    fn named(&mut self, alloc: Global) -> Result<RawExpr, ReadEnd>
         requires letter { starts_name self.old.rest.now ≡ true }
         requires room { length self.old.rest.now < 4294967296 }
         ensures { Answers (λ e. IsRead self.old.rest.now self.old.has_great (primary_at self.old.rest.now) e self.new.rest.now self.new.has_great) (primary_at self.old.rest.now ≡ None) result }
     {
         let Some(name) = self.name() else {
-            return Err(ExprEnd::NoForm);
+            return Err(ReadEnd::NoForm);
         };
         if self.passes(b'(') {
             Ok(RawExpr::Call(name, self.arguments(alloc)?))
@@ -171,7 +172,7 @@ impl<'a> Reader<'a> {
 
     /// An expression, with the bracket that closes it.
     #[cycle(descent)]
-    fn bracketed(&mut self, alloc: Global) -> Result<RawExpr, ExprEnd>
+    fn bracketed(&mut self, alloc: Global) -> Result<RawExpr, ReadEnd>
         requires room { length self.old.rest.now < 4294967296 }
         ensures { Answers (λ e. IsRead self.old.rest.now self.old.has_great (and_then_read (λ w rest. closed (Written.bracketed w) rest) (expression_at 0 self.old.rest.now)) e self.new.rest.now self.new.has_great) (and_then_read (λ w rest. closed (Written.bracketed w) rest) (expression_at 0 self.old.rest.now) ≡ None) result }
     {
@@ -179,13 +180,13 @@ impl<'a> Reader<'a> {
         if self.passes(b')') {
             Ok(expr)
         } else {
-            Err(ExprEnd::NoForm)
+            Err(ReadEnd::NoForm)
         }
     }
 
     /// Arguments, with the bracket that closes them.
     #[cycle(descent)]
-    fn arguments(&mut self, alloc: Global) -> Result<RawList, ExprEnd>
+    fn arguments(&mut self, alloc: Global) -> Result<RawList, ReadEnd>
         requires room { length self.old.rest.now < 4294967296 }
         ensures { Answers (λ es. AreRead self.old.rest.now self.old.has_great (arguments_at self.old.rest.now) es self.new.rest.now self.new.has_great) (arguments_at self.old.rest.now ≡ None) result }
     {
@@ -197,16 +198,15 @@ impl<'a> Reader<'a> {
         if self.passes(b')') {
             Ok(list)
         } else {
-            Err(ExprEnd::NoForm)
+            Err(ReadEnd::NoForm)
         }
     }
 }
 
-/// The expression that a whole piece is: NoForm where it is none, then BadConstant where a number in it is above
-/// 2147483647.
-pub(crate) fn read_piece(alloc: Global, piece: &[u8]) -> Result<RawExpr, ExprEnd>
-    requires { length piece.now < 4294967296 }
-    ensures { IsPieceRead piece.now result }
+/// The expression that a whole piece is. The piece begins at the place `from`.
+pub(crate) fn read_piece(alloc: Global, piece: &[u8], from: u32) -> Result<ReadExpr, ReadEnd>
+    requires { from + length piece.now < 4294967296 }
+    ensures { IsPieceRead piece.now from result }
 {
     let mut reader = Reader {
         rest: piece,
@@ -214,10 +214,11 @@ pub(crate) fn read_piece(alloc: Global, piece: &[u8]) -> Result<RawExpr, ExprEnd
     };
     let expr = reader.expression(alloc, 0)?;
     if !reader.rest.is_empty() {
-        return Err(ExprEnd::NoForm);
+        return Err(ReadEnd::NoForm);
     }
-    if reader.has_great {
-        return Err(ExprEnd::BadConstant);
-    }
-    Ok(expr)
+    Ok(ReadExpr {
+        expr,
+        next: from + piece.len() as u32,
+        has_great_constant: reader.has_great,
+    })
 }

@@ -1,4 +1,4 @@
-use crate::{ExprEnd, parse_expr};
+use crate::{ExprEnd, ReadEnd, parse_expr, read_expr};
 use df_sequence::{CharList, NoMemory, Sequence};
 use f77_tree::RawExpr;
 use std::alloc::Global;
@@ -167,5 +167,32 @@ fn nests_sixty_deep(rt: HostRuntime) -> Result<(), Fail> {
         refusal(rt.alloc(), &nested(&rt, rt.alloc(), 61)?),
         Some(ExprEnd::TooDeep)
     );
+    Ok(())
+}
+
+// A text, the place where it is read from, what is read of it, the place behind it, and whether a constant is too great.
+const FRONTS: [(&str, u32, &str, u32, bool); 3] = [
+    ("IF(K.NE.3)J=1", 3, "Ne(K,3)", 9, false),
+    ("I=A(2147483648),B", 2, "A[0]", 15, true),
+    ("A+1", 0, "Add(A,1)", 3, false),
+];
+
+#[test]
+fn reads_fronts(rt: HostRuntime) -> Result<(), Fail> {
+    for (text, from, tree, next, is_great) in FRONTS {
+        let list = characters(&rt, rt.alloc(), text.as_bytes())?;
+        assert!(rt; from <= list.len());
+        let Ok(read) = read_expr(rt.alloc(), &list, from) else {
+            return Err(text.into());
+        };
+        let mut shown = String::new(rt.alloc());
+        show(&read.expr, &mut shown)?;
+        assert_eq!(rt; shown.as_str(), tree, "of {text}");
+        assert_eq!(rt; read.next, next, "of {text}");
+        assert_eq!(rt; read.has_great_constant, is_great, "of {text}");
+    }
+    let deep = nested(&rt, rt.alloc(), 61)?;
+    assert!(rt; read_expr(rt.alloc(), &deep, 0).is_ok());
+    assert!(rt; matches!(read_expr(rt.alloc(), &deep, 62), Err(ReadEnd::NoForm)));
     Ok(())
 }
