@@ -1,0 +1,78 @@
+-- What the readers of declarations, assignments and DO read is of the grammar, and its text stands in front of the rest.
+use Rattle.std.proofs.Common.{◌≡◌, ℕ, ◌≤◌, true, false, not, List, [], ◌∷◌, ◌++◌, length, map, flat_map, All, codes, ap, ◌∙◌, append_assoc, append-nil}
+use Rattle.std.proofs.lemmas.Bool.{and_from}
+use Rattle.std.proofs.lemmas.List.Elements.{All-cons}
+use Rattle.std.specs.List.{list_all}
+use Rattle.f77_tree.specs.declared.declarations.Kind.{Kind}
+use Rattle.f77_tree.specs.Name.{is_name}
+use Rattle.f77_tree.specs.StatementGrammar.{with_commas, decls_text, IsDecl, has_dims, kind_text, letters_text, are_letters, part_text, IsPart, is_said, group_text, is_group, data_text, is_data, WrittenStatement}
+use Rattle.f77_expr.specs.Reader.{read_as}
+use Rattle.f77_expr.proofs.EachRead.{Each, each_then, each_as}
+use Rattle.f77_parse.specs.Parts.{where_it, name_at, list_at, letters_at, decl_at, first_part_at, part_at, group_at, data_behind, data_at, parts_to_end}
+use Rattle.f77_parse.specs.Forms.{implicit_at, typed_at, dimension_at, common_at, equivalence_at, data_statement_at}
+use Rattle.f77_parse.proofs.Followers.{IsInFront}
+use Rattle.f77_parse.proofs.PartCommon.{first_part_sound, common_parts_sound}
+use Rattle.f77_parse.proofs.PartData.{first_data_sound, data_parts_sound}
+use Rattle.f77_parse.proofs.PartDeclarations.{decls_sound}
+use Rattle.f77_parse.proofs.PartLetters.{letters_list_sound}
+use Rattle.f77_parse.proofs.PartMembers.{groups_sound}
+use Rattle.f77_parse.proofs.PartNumbers.{name_sound}
+use Rattle.f77_parse.proofs.PartReaders.{where_sound}
+use Rattle.f77_parse.proofs.FormsSound.{IsStatementInFront}
+
+pub program_sound : (text : List ℕ) → Each (λ s rest. IsStatementInFront (codes "PROGRAM" ++ text) s rest) (read_as (λ n. WrittenStatement.program n) (name_at text))
+program_sound text =
+    each_as (λ name rest. IsInFront (λ name. is_name name ≡ true) (λ name. name) text name rest) (λ s rest. IsStatementInFront (codes "PROGRAM" ++ text) s rest) (λ n. WrittenStatement.program n) (name_at text) (name_sound text)
+    (λ name rest is. (is.0, ap (λ more. codes "PROGRAM" ++ more) is.1))
+
+pub implicit_sound : (text : List ℕ) → Each (λ s rest. IsStatementInFront (codes "IMPLICIT" ++ text) s rest) (implicit_at text)
+implicit_sound text =
+    each_as (λ letters rest. IsInFront (λ letters. (1 ≤ length letters) × (list_all are_letters letters ≡ true)) (λ letters. with_commas (map letters_text letters)) text letters rest) (λ s rest. IsStatementInFront (codes "IMPLICIT" ++ text) s rest)
+    (λ letters. WrittenStatement.implicit letters) (list_at letters_at text) (letters_list_sound text) (λ letters rest is. (is.0, ap (λ more. codes "IMPLICIT" ++ more) is.1))
+
+pub typed_sound : (kind : Kind) (text : List ℕ) → Each (λ s rest. IsStatementInFront (kind_text kind ++ text) s rest) (typed_at kind text)
+typed_sound kind text =
+    each_as (λ ds rest. IsInFront (λ ds. (1 ≤ length ds) × All IsDecl ds) decls_text text ds rest) (λ s rest. IsStatementInFront (kind_text kind ++ text) s rest)
+    (λ decls. WrittenStatement.typed kind decls) (list_at decl_at text) (decls_sound text)
+    (λ decls rest is. (is.0, append_assoc (kind_text kind) (decls_text decls) rest ∙ ap (λ more. kind_text kind ++ more) is.1))
+
+pub dimension_sound : (text : List ℕ) → Each (λ s rest. IsStatementInFront (codes "DIMENSION" ++ text) s rest) (dimension_at text)
+dimension_sound text =
+    each_as (λ ds rest. IsInFront (λ ds. (1 ≤ length ds) × All IsDecl ds) decls_text text ds rest × (list_all has_dims ds ≡ true)) (λ s rest. IsStatementInFront (codes "DIMENSION" ++ text) s rest)
+    (λ decls. WrittenStatement.dimension decls) (where_it (λ decls. list_all has_dims decls) (list_at decl_at text))
+    (where_sound (λ ds rest. IsInFront (λ ds. (1 ≤ length ds) × All IsDecl ds) decls_text text ds rest) (λ decls. list_all has_dims decls) (list_at decl_at text) (decls_sound text))
+    (λ decls rest is. ((is.0.0.0, is.0.0.1, is.1), ap (λ more. codes "DIMENSION" ++ more) is.0.1))
+
+pub equivalence_sound : (text : List ℕ) → Each (λ s rest. IsStatementInFront (codes "EQUIVALENCE" ++ text) s rest) (equivalence_at text)
+equivalence_sound text =
+    each_as (λ groups rest. IsInFront (λ groups. (1 ≤ length groups) × (list_all is_group groups ≡ true)) (λ groups. with_commas (map group_text groups)) text groups rest) (λ s rest. IsStatementInFront (codes "EQUIVALENCE" ++ text) s rest)
+    (λ groups. WrittenStatement.equivalence groups) (list_at group_at text) (groups_sound text) (λ groups rest is. (is.0, ap (λ more. codes "EQUIVALENCE" ++ more) is.1))
+
+-- parts up to the end of the text, behind the first
+to_end : (front text_of_first others rest text : List ℕ) (behind : List ℕ) → text_of_first ++ behind ≡ text → others ≡ behind → rest ≡ [] → (front ++ (text_of_first ++ others)) ++ rest ≡ front ++ text
+to_end front text_of_first others rest text behind e same none =
+    ap (λ more. (front ++ (text_of_first ++ others)) ++ more) none ∙ append-nil (front ++ (text_of_first ++ others)) ∙ ap (λ more. front ++ (text_of_first ++ more)) same ∙ ap (λ more. front ++ more) e
+
+pub common_sound : (text : List ℕ) → Each (λ s rest. IsStatementInFront (codes "COMMON" ++ text) s rest) (common_at text)
+common_sound text =
+    each_then (λ p rest. IsInFront (λ p. IsPart p × (p.comma ≡ false)) part_text text p rest) P (λ first rest. read_as (λ others. WrittenStatement.common (first ∷ others)) (parts_to_end (length rest) part_at rest)) (first_part_at text) (first_part_sound text)
+    (λ first behind is. each_as (λ parts rest. All IsPart parts × (list_all (λ p. is_said p.block) parts ≡ true) × (flat_map part_text parts ≡ behind) × (rest ≡ [])) P (λ others. WrittenStatement.common (first ∷ others)) (parts_to_end (length behind) part_at behind) (common_parts_sound behind)
+    (λ others rest are. (
+      (and_from (not first.comma) (list_all (λ p. is_said p.block) others) (ap not is.0.1) are.1, All-cons IsPart first others is.0.0 are.0),
+      to_end (codes "COMMON") (part_text first) (flat_map part_text others) rest text behind is.1 are.2 are.3,
+    )))
+  where
+    P : WrittenStatement → List ℕ → Type 0
+    P s rest = IsStatementInFront (codes "COMMON" ++ text) s rest
+
+pub data_statement_sound : (text : List ℕ) → Each (λ s rest. IsStatementInFront (codes "DATA" ++ text) s rest) (data_statement_at text)
+data_statement_sound text =
+    each_then (λ d rest. IsInFront (λ d. (is_data d ≡ true) × (d.comma ≡ false)) data_text text d rest) P (λ first rest. read_as (λ others. WrittenStatement.init (first ∷ others)) (parts_to_end (length rest) data_at rest)) (data_behind false text) (first_data_sound text)
+    (λ first behind is. each_as (λ parts rest. (list_all is_data parts ≡ true) × (flat_map data_text parts ≡ behind) × (rest ≡ [])) P (λ others. WrittenStatement.init (first ∷ others)) (parts_to_end (length behind) data_at behind) (data_parts_sound behind)
+    (λ others rest are. (
+      (ap not is.0.1, and_from (is_data first) (list_all is_data others) is.0.0 are.0),
+      to_end (codes "DATA") (data_text first) (flat_map data_text others) rest text behind is.1 are.1 are.2,
+    )))
+  where
+    P : WrittenStatement → List ℕ → Type 0
+    P s rest = IsStatementInFront (codes "DATA" ++ text) s rest

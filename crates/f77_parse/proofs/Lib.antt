@@ -1,0 +1,27 @@
+-- Lemmas of the readers of statements.
+pub mod Free
+pub mod FormsUnequal
+pub mod FormsFree
+pub mod FormsSound
+pub mod FormsSoundIf
+pub mod FormsSoundDeclared
+pub mod FormsSoundAssigned
+pub mod FormsSoundWhole
+pub mod FormsReads
+pub mod FormsReadsIf
+pub mod FormsReadsDeclared
+pub mod FormsReadsAssigned
+pub mod FormsReadsWhole
+pub mod Followers
+pub mod PartCommon
+pub mod PartConstants
+pub mod PartData
+pub mod PartDeclarations
+pub mod PartExpressions
+pub mod PartItems
+pub mod PartLetters
+pub mod PartLists
+pub mod PartMembers
+pub mod PartNumbers
+pub mod PartReaders
+pub mod PartSequences
