@@ -1,0 +1,102 @@
+//! Parts of executable statements: expressions, variables and items of output (ANSI X3.9-1978, sections 6, 10 and 12).
+
+use crate::reader::Reader;
+use df_sequence::Sequence;
+use f77_expr::ReadEnd;
+use f77_tree::{RawExpr, RawItem, RawItemList, RawList, Text};
+use std::alloc::Global;
+
+impl<'a> Reader<'a> {
+    /// Expressions with commas between them, behind these.
+    pub(crate) fn more_expressions(
+        &mut self,
+        alloc: Global,
+        list: &mut RawList,
+    ) -> Result<(), ReadEnd> {
+        while self.passes_comma() {
+            list.push(self.expression(alloc)?)?;
+        }
+        Ok(())
+    }
+
+    /// Expressions with commas between them.
+    fn expressions(&mut self, alloc: Global) -> Result<RawList, ReadEnd> {
+        let mut list = Sequence::new(alloc);
+        list.push(self.expression(alloc)?)?;
+        while self.passes_comma() {
+            list.push(self.expression(alloc)?)?;
+        }
+        Ok(list)
+    }
+
+    /// A variable or an array element.
+    pub(crate) fn variable(&mut self, alloc: Global) -> Result<RawExpr, ReadEnd> {
+        let name = self.name()?;
+        if !self.passes(b"(") {
+            return Ok(RawExpr::Named(name));
+        }
+        let subs = self.expressions(alloc)?;
+        self.wants(b")")?;
+        Ok(RawExpr::Call(name, subs))
+    }
+
+    /// Variables with commas between them.
+    pub(crate) fn variables(&mut self, alloc: Global) -> Result<RawList, ReadEnd> {
+        let mut list = Sequence::new(alloc);
+        list.push(self.variable(alloc)?)?;
+        while self.passes_comma() {
+            list.push(self.variable(alloc)?)?;
+        }
+        Ok(list)
+    }
+
+    /// The next character of a character constant, where it isn't the apostrophe that closes it. Two apostrophes are one
+    /// character.
+    fn next_of_constant(&mut self) -> Result<Option<u8>, ReadEnd> {
+        if self.passes(b"''") {
+            return Ok(Some(b'\''));
+        }
+        if self.passes(b"'") {
+            return Ok(None);
+        }
+        Ok(Some(self.character()?))
+    }
+
+    /// The characters of a constant behind its apostrophe, up to the one that closes it.
+    fn characters(&mut self, alloc: Global) -> Result<Text, ReadEnd> {
+        let mut list = Sequence::new(alloc);
+        while let Some(c) = self.next_of_constant()? {
+            list.push(c)?;
+        }
+        Ok(list)
+    }
+
+    /// A character constant of at least one character.
+    pub(crate) fn character_constant(&mut self, alloc: Global) -> Result<Text, ReadEnd> {
+        self.wants(b"'")?;
+        let characters = self.characters(alloc)?;
+        if characters.is_empty() {
+            return Err(ReadEnd::NoForm);
+        }
+        Ok(characters)
+    }
+
+    /// An item of output. One that begins with an apostrophe is a character constant.
+    fn item(&mut self, alloc: Global) -> Result<RawItem, ReadEnd> {
+        if self.is_at(b'\'') {
+            Ok(RawItem::Chars(self.character_constant(alloc)?))
+        } else {
+            Ok(RawItem::Value(self.expression(alloc)?))
+        }
+    }
+
+    /// Items of output with commas between them.
+    pub(crate) fn items(&mut self, alloc: Global) -> Result<RawItemList, ReadEnd> {
+        let mut list = Sequence::new(alloc);
+        list.push(self.item(alloc)?)?;
+        while self.passes_comma() {
+            list.push(self.item(alloc)?)?;
+        }
+        Ok(list)
+    }
+}
