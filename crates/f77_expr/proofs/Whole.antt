@@ -16,7 +16,7 @@ use Rattle.f77_expr.proofs.Readings.{read-written, written-read}
 -- ---- what is kept is what is read, where no number is too great
 
 mutual
-  kept-reading : (w : Written) → has_great_number w ≡ false → kept w ≡ reading w
+  pub kept-reading : (w : Written) → has_great_number w ≡ false → kept w ≡ reading w
   kept-reading (Written.number digits) small = ap (λ b. kept_number (cond b None (Some (number_of digits)))) small
   kept-reading (Written.truth b) small = refl
   kept-reading (Written.name n) small = refl
@@ -57,7 +57,7 @@ module _ (piece : List ℕ) (e : RawExpr) (rest : List ℕ) (great_now : Bool) (
 
   -- an expression that is the whole piece
   pub whole_written : IsReadWhole piece e great_now
-  whole_written = record { written = i.written; spells = spells; is_great = i.is_great; is = λ small. sym (i.is_kept ∙ kept-reading i.written small) }
+  whole_written = record { written = i.written; spells = spells; is_great = i.is_great; is_kept = i.is_kept; is = λ small. sym (i.is_kept ∙ kept-reading i.written small) }
 
 -- an error of the reader
 pub piece_fails : {A : Type 0} (P : A → Type 0) (piece : List ℕ) (from : ℕ) (part : Result A ReadEnd) (whole : Result ReadExpr ReadEnd) (e : ReadEnd) → part ≡ Err e → whole ≡ Err e → Answers P (expression_at 0 piece ≡ None) part → IsPieceRead piece from whole

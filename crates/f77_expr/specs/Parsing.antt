@@ -7,6 +7,7 @@ use Rattle.f77_expr.specs.declared.parsed.ExprEnd.TheVariants.{TooDeep, NoForm, 
 use Rattle.f77_expr.specs.declared.parsed.Parsed.{Parsed}
 use Rattle.f77_expr.specs.declared.parsed.ReadEnd.{ReadEnd}
 use Rattle.f77_expr.specs.declared.parsed.ReadExpr.{ReadExpr}
+use Rattle.f77_expr.specs.Answers.{kept}
 use Rattle.f77_expr.specs.Piece.{bracket_depth}
 
 -- the most brackets that may be open
@@ -26,12 +27,13 @@ pub record HasGreatConstant (piece : List ℕ) : Type 0 where
   pub spells : IsWritten piece written
   pub constant : has_great_number written ≡ true
 
--- a piece that is an expression, and whether some constant of it is too great; where none is, the expression that it is
--- read as
+-- a piece that is an expression, and whether some constant of it is too great; what is kept of it is the expression that
+-- it is read as, where none is
 pub record IsReadWhole (piece : List ℕ) (e : RawExpr) (great : Bool) : Type 0 where
   pub written : Written
   pub spells : IsWritten piece written
   pub is_great : great ≡ has_great_number written
+  pub is_kept : e ≡ kept written
   pub is : has_great_number written ≡ false → reading written ≡ e
 
 -- what is read of a piece that begins at a place, for a reader that goes on behind it

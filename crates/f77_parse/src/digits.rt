@@ -1,40 +1,64 @@
 //! Digits and names in front of a text, and the number that digits write.
+ghost use Rattle.std.specs.Prelude.{◌≡◌, ◌≤◌, ◌+◌, ◌-◌, ◌*◌, length, min, take_while, true};
+ghost use Rattle.std.specs.List.{list_all};
+ghost use Rattle.f77_tree.specs.Name.{is_capital, is_figure};
+ghost use Rattle.f77_tree.specs.Grammar.{number_of};
+ghost use Rattle.f77_expr.specs.Reader.{is_symbolic as spec_is_symbolic};
 
 /// The greatest integer constant.
-pub(crate) const GREATEST: u64 = 2147483647;
+const GREATEST: u64 = 2147483647;
 
 /// Whether a character is a digit.
-fn is_digit(c: u8) -> bool {
+fn is_digit(c: u8) -> bool
+    ensures { result ≡ is_figure c }
+{
     b'0' <= c && c <= b'9'
 }
 
 /// Whether a character is a letter.
-pub(crate) fn is_letter(c: u8) -> bool {
+pub(crate) fn is_letter(c: u8) -> bool
+    ensures { result ≡ is_capital c }
+{
     b'A' <= c && c <= b'Z'
 }
 
 /// Whether a character may stand in a name.
-fn is_symbolic(c: u8) -> bool {
+fn is_symbolic(c: u8) -> bool
+    ensures { result ≡ spec_is_symbolic c }
+{
     is_letter(c) || is_digit(c)
 }
 
 /// How many digits stand in front of a text.
-pub(crate) fn digits_in_front(text: &[u8]) -> usize {
+pub(crate) fn digits_in_front(text: &[u8]) -> usize
+    ensures count { result ≡ length (take_while is_figure text.now) }
+    ensures short { result ≤ length text.now }
+{
     text.iter().take_while(|c| is_digit(**c)).count()
 }
 
 /// How many letters and digits stand in front of a text.
-pub(crate) fn symbolic_in_front(text: &[u8]) -> usize {
+pub(crate) fn symbolic_in_front(text: &[u8]) -> usize
+    ensures count { result ≡ length (take_while spec_is_symbolic text.now) }
+    ensures short { result ≤ length text.now }
+{
     text.iter().take_while(|c| is_symbolic(**c)).count()
 }
 
 /// The number after one more digit, or one more than the greatest constant where that is less.
-fn number_after(number: u64, digit: u8) -> u64 {
+fn number_after(number: u64, digit: u8) -> u64
+    requires digit { 48 ≤ digit }
+    requires bound { number ≤ 2147483648 }
+    ensures { result ≡ min (10 * number + (digit - 48)) 2147483648 }
+{
     (10 * number + u64::from(digit - b'0')).min(GREATEST + 1)
 }
 
 /// The number that digits write, or one more than the greatest constant where that is less.
-pub(crate) fn bounded_number(digits: &[u8]) -> u64 {
+pub(crate) fn bounded_number(digits: &[u8]) -> u64
+    requires { list_all is_figure digits.now ≡ true }
+    ensures { result ≡ min (number_of digits.now) 2147483648 }
+{
     let mut number = 0;
     for digit in digits {
         number = number_after(number, *digit);

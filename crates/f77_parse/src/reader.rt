@@ -1,5 +1,12 @@
 //! A reader of the text of one statement. It never goes back, and nothing is read twice.
 
+ghost use Rattle.std.specs.Prelude.{◌≡◌, ◌≤◌, ◌<◌, ◌+◌, ◌-◌, ◌||◌, ◌&&◌, ◌^◌, not, nat_le, nat_lt, length, [], drop, take_while, codes, true, false, Some, None, MatchBool};
+ghost use Rattle.f77_tree.specs.Name.{is_figure};
+ghost use Rattle.f77_expr.specs.Reader.{after_front};
+ghost use Rattle.f77_parse.specs.Parts.{behind_comma};
+ghost use Rattle.f77_parse.specs.Keeping.{Keeps, wanted, begins, number_kept, name_kept, letter_kept, character_kept, few_digits_kept, expression_kept};
+ghost use Rattle.f77_parse.specs.Answers.{Gives, Passes};
+
 use crate::digits::{bounded_number, digits_in_front, is_letter, symbolic_in_front};
 use df_sequence::CharList;
 use f77_expr::{ReadEnd, read_expr};
@@ -13,67 +20,97 @@ const MOST_DIGITS: usize = 5;
 #[derive(Drop)]
 pub(crate) struct Reader<'a> {
     text: &'a CharList,
-    /// The place of the next character, counted from 0.
-    place: u32,
+    /// What is left of the text.
+    rest: &'a [u8],
     /// Whether a constant, a label or a repeat that was read is out of range.
     is_bad: bool,
+    ghost is_end: { rest.now ≡ drop (length text.now - length rest.now) text.now },
+    ghost shorter: { length rest.now ≤ length text.now },
+    ghost room: { length text.now < 4294967296 },
 }
 
 impl<'a> Reader<'a> {
     /// A reader at the begin of a text.
-    pub(crate) fn new(text: &'a CharList) -> Reader<'a> {
+    pub(crate) fn new(text: &'a CharList) -> Reader<'a>
+        ensures rest { result.rest.now ≡ text.now }
+        ensures good { result.is_bad ≡ false }
+    {
         Reader {
             text,
-            place: 0,
+            rest: text.as_bytes(),
             is_bad: false,
         }
     }
 
     /// Whether a constant, a label or a repeat that was read is out of range.
-    pub(crate) fn is_bad(&self) -> bool {
+    pub(crate) fn is_bad(&self) -> bool
+        ensures { result ≡ self.now.is_bad }
+    {
         self.is_bad
     }
 
     /// Tells that what was read is out of range.
-    pub(crate) fn spoil(&mut self) {
+    pub(crate) fn spoil(&mut self)
+        ensures bad { self.new.is_bad ≡ true }
+        ensures rest { self.new.rest.now ≡ self.old.rest.now }
+    {
         self.is_bad = true;
     }
 
-    /// What is left of the text.
-    fn rest(&self) -> &'a [u8] {
-        &self.text.as_bytes()[self.place as usize..]
+    /// Passes so many characters.
+    fn skip(&mut self, n: usize)
+        requires { n ≤ length self.old.rest.now }
+        ensures rest { self.new.rest.now ≡ drop n self.old.rest.now }
+        ensures same { self.new.is_bad ≡ self.old.is_bad }
+        ensures text { self.new.text.now ≡ self.old.text.now }
+    {
+        self.rest = &self.rest[n..];
     }
 
     /// Whether nothing is left.
-    pub(crate) fn is_at_end(&self) -> bool {
-        self.place == self.text.len()
+    pub(crate) fn is_at_end(&self) -> bool
+        ensures { MatchBool result (self.now.rest.now ≡ []) (0 < length self.now.rest.now) }
+    {
+        self.rest.is_empty()
     }
 
     /// Whether this character is the next one.
-    pub(crate) fn is_at(&self, c: u8) -> bool {
-        match self.rest().first() {
+    pub(crate) fn is_at(&self, c: u8) -> bool
+        ensures { result ≡ begins c self.now.rest.now }
+    {
+        match self.rest.first() {
             Some(first) => *first == c,
             None => false,
         }
     }
 
     /// Whether the next character is a digit.
-    pub(crate) fn is_at_digit(&self) -> bool {
-        digits_in_front(self.rest()) > 0
+    pub(crate) fn is_at_digit(&self) -> bool
+        ensures { result ≡ nat_lt 0 (length (take_while is_figure self.now.rest.now)) }
+    {
+        digits_in_front(self.rest) > 0
     }
 
     /// Passes these characters, if they are the next ones.
-    pub(crate) fn passes(&mut self, front: &[u8]) -> bool {
-        if self.rest().starts_with(front) {
-            self.place += front.len() as u32;
-            true
-        } else {
-            false
+    pub(crate) fn passes(&mut self, front: &[u8]) -> bool
+        ensures rest { Passes (after_front front.now self.old.rest.now) result self.old.rest.now self.new.rest.now }
+        ensures same { self.new.is_bad ≡ self.old.is_bad }
+        ensures shorter { length self.new.rest.now ≤ length self.old.rest.now }
+    {
+        match self.rest.strip_prefix(front) {
+            Some(_) => {
+                self.skip(front.len());
+                true
+            }
+            None => false,
         }
     }
 
     /// Passes these characters, which have to be the next ones.
-    pub(crate) fn wants(&mut self, front: &[u8]) -> Result<(), ReadEnd> {
+    pub(crate) fn wants(&mut self, front: &[u8]) -> Result<(), ReadEnd>
+        ensures gives { Gives (wanted front.now self.old.is_bad self.old.rest.now) result self.new.is_bad self.new.rest.now }
+        ensures shorter { length self.new.rest.now ≤ length self.old.rest.now }
+    {
         if self.passes(front) {
             Ok(())
         } else {
@@ -82,41 +119,56 @@ impl<'a> Reader<'a> {
     }
 
     /// Passes a comma that stands between two items of a list. One before a stroke stands before a block of COMMON.
-    pub(crate) fn passes_comma(&mut self) -> bool {
-        let rest = self.rest();
-        if rest.starts_with(b",") && !rest.starts_with(b",/") {
-            self.place += 1;
-            true
-        } else {
-            false
+    pub(crate) fn passes_comma(&mut self) -> bool
+        ensures rest { Passes (behind_comma self.old.rest.now) result self.old.rest.now self.new.rest.now }
+        ensures same { self.new.is_bad ≡ self.old.is_bad }
+        ensures shorter { MatchBool result (length self.new.rest.now < length self.old.rest.now) (length self.new.rest.now ≤ length self.old.rest.now) }
+    {
+        if self.rest.is_empty() || self.rest[0] != b',' {
+            return false;
         }
+        if self.rest.len() > 1 && self.rest[1] == b'/' {
+            return false;
+        }
+        self.skip(1);
+        true
     }
 
     /// Digits, as the number that they write, or one more than the greatest constant where that is less.
-    pub(crate) fn number(&mut self) -> Result<u32, ReadEnd> {
-        let rest = self.rest();
+    pub(crate) fn number(&mut self) -> Result<u32, ReadEnd>
+        ensures gives { Gives (number_kept self.old.is_bad self.old.rest.now) result self.new.is_bad self.new.rest.now }
+        ensures shorter { length self.new.rest.now ≤ length self.old.rest.now }
+    {
+        let rest = self.rest;
         let n = digits_in_front(rest);
         if n == 0 {
             return Err(ReadEnd::NoForm);
         }
-        self.place += n as u32;
+        self.skip(n);
         Ok(bounded_number(&rest[..n]) as u32)
     }
 
     /// At most five digits.
-    pub(crate) fn few_digits(&mut self) -> Result<(), ReadEnd> {
-        let n = digits_in_front(self.rest());
+    pub(crate) fn few_digits(&mut self) -> Result<(), ReadEnd>
+        ensures gives { Gives (few_digits_kept self.old.is_bad self.old.rest.now) result self.new.is_bad self.new.rest.now }
+        ensures shorter { length self.new.rest.now ≤ length self.old.rest.now }
+    {
+        let n = digits_in_front(self.rest);
         if n == 0 || n > MOST_DIGITS {
             return Err(ReadEnd::NoForm);
         }
-        self.place += n as u32;
+        self.skip(n);
         Ok(())
     }
 
     /// An expression, as long as it can be.
-    pub(crate) fn expression(&mut self, alloc: Global) -> Result<RawExpr, ReadEnd> {
-        let read = read_expr(alloc, self.text, self.place)?;
-        self.place = read.next;
+    pub(crate) fn expression(&mut self, alloc: Global) -> Result<RawExpr, ReadEnd>
+        ensures gives { Gives (expression_kept self.old.is_bad self.old.rest.now) result self.new.is_bad self.new.rest.now }
+        ensures shorter { length self.new.rest.now ≤ length self.old.rest.now }
+    {
+        let from = self.text.len() - self.rest.len() as u32;
+        let read = read_expr(alloc, self.text, from)?;
+        self.skip((read.next - from) as usize);
         if read.has_great_constant {
             self.is_bad = true;
         }
@@ -124,12 +176,14 @@ impl<'a> Reader<'a> {
     }
 
     /// All letters and digits that stand in front, as a name.
-    pub(crate) fn name(&mut self) -> Result<Name, ReadEnd> {
-        let rest = self.rest();
-        let n = symbolic_in_front(rest);
-        match Name::new(&rest[..n]) {
+    pub(crate) fn name(&mut self) -> Result<Name, ReadEnd>
+        ensures gives { Gives (name_kept self.old.is_bad self.old.rest.now) result self.new.is_bad self.new.rest.now }
+        ensures shorter { length self.new.rest.now ≤ length self.old.rest.now }
+    {
+        let n = symbolic_in_front(self.rest);
+        match Name::new(&self.rest[..n]) {
             Some(name) => {
-                self.place += n as u32;
+                self.skip(n);
                 Ok(name)
             }
             None => Err(ReadEnd::NoForm),
@@ -137,22 +191,30 @@ impl<'a> Reader<'a> {
     }
 
     /// A letter.
-    pub(crate) fn letter(&mut self) -> Result<u8, ReadEnd> {
-        match self.rest().first() {
+    pub(crate) fn letter(&mut self) -> Result<u8, ReadEnd>
+        ensures gives { Gives (letter_kept self.old.is_bad self.old.rest.now) result self.new.is_bad self.new.rest.now }
+        ensures shorter { length self.new.rest.now ≤ length self.old.rest.now }
+    {
+        match self.rest.first() {
             Some(c) if is_letter(*c) => {
-                self.place += 1;
-                Ok(*c)
+                let c = *c;
+                self.skip(1);
+                Ok(c)
             }
             _ => Err(ReadEnd::NoForm),
         }
     }
 
     /// The next character, whichever it is.
-    pub(crate) fn character(&mut self) -> Result<u8, ReadEnd> {
-        match self.rest().first() {
+    pub(crate) fn character(&mut self) -> Result<u8, ReadEnd>
+        ensures gives { Gives (character_kept self.old.is_bad self.old.rest.now) result self.new.is_bad self.new.rest.now }
+        ensures shorter { length self.new.rest.now ≤ length self.old.rest.now }
+    {
+        match self.rest.first() {
             Some(c) => {
-                self.place += 1;
-                Ok(*c)
+                let c = *c;
+                self.skip(1);
+                Ok(c)
             }
             None => Err(ReadEnd::NoForm),
         }
