@@ -1,5 +1,5 @@
 -- What the parts of the reader answer.
-use Rattle.std.specs.Prelude.{◌≡◌, ◌≤◌, ℕ, Bool, true, false, List, [], Option, Some, None, Result, Ok, Err}
+use Rattle.std.specs.Prelude.{◌≡◌, ◌<◌, ℕ, Bool, true, false, List, length, Option, Some, None, Result, Ok, Err}
 use Rattle.f77_expr.specs.declared.parsed.ReadEnd.{ReadEnd}
 use Rattle.f77_expr.specs.declared.parsed.ReadEnd.TheVariants.{NoForm, NoMemory}
 use Rattle.f77_parse.specs.Keeping.{Keeps}
@@ -14,3 +14,8 @@ Gives keeps (Err NoMemory) bad_now rest = Unit {0}
 abbrev pub Passes : Option (List ℕ) → (there : Bool) → (text rest : List ℕ) → Type 0
 Passes behind true text rest = behind ≡ Some rest
 Passes behind false text rest = (behind ≡ None) × (rest ≡ text)
+
+-- less is left where something was read
+abbrev pub Shortens : {V : Type 0} → Result V ReadEnd → (text rest : List ℕ) → Type 0
+Shortens (Ok v) text rest = length rest < length text
+Shortens (Err end) text rest = Unit {0}

@@ -1,5 +1,9 @@
 //! Parts of declarations (ANSI X3.9-1978, sections 5, 8 and 9).
 
+ghost use Rattle.std.specs.Prelude.{◌≡◌, ◌≤◌, ◌<◌, ◌+◌, length, IfOk};
+ghost use Rattle.f77_parse.specs.Keeping.{kept_list, kept_behind, kept_parts, dim_kept, decl_kept, arrays_kept, range_kept, kind_kept, letters_kept, block_kept, block_and_decls, first_part_kept, part_kept, member_kept, group_kept, init_part_kept, next_init_part_kept};
+ghost use Rattle.f77_parse.specs.Answers.{Gives, Shortens};
+
 use crate::reader::Reader;
 use df_sequence::Sequence;
 use f77_expr::ReadEnd;
@@ -14,7 +18,11 @@ const MOST_DIMENSIONS: u32 = 7;
 
 impl<'a> Reader<'a> {
     /// A bound alone, or two with a colon between them.
-    fn dim(&mut self) -> Result<Dim, ReadEnd> {
+    #[tactic(auto, unfolding(crate::specs::Keeping::dim_kept))]
+    fn dim(&mut self) -> Result<Dim, ReadEnd>
+        ensures gives { Gives (dim_kept self.old.is_bad self.old.rest.now) result self.new.is_bad self.new.rest.now }
+        ensures shorter { Shortens result self.old.rest.now self.new.rest.now }
+    {
         let first = self.signed()?;
         if self.passes(b":") {
             Ok(Dim {
@@ -27,7 +35,10 @@ impl<'a> Reader<'a> {
     }
 
     /// Dimensions with commas between them.
-    fn dims(&mut self, alloc: Global) -> Result<DimList, ReadEnd> {
+    fn dims(&mut self, alloc: Global) -> Result<DimList, ReadEnd>
+        ensures gives { Gives (kept_list dim_kept self.old.is_bad self.old.rest.now) result self.new.is_bad self.new.rest.now }
+        ensures shorter { Shortens result self.old.rest.now self.new.rest.now }
+    {
         let mut list = Sequence::new(alloc);
         list.push(self.dim()?)?;
         while self.passes_comma() {
@@ -37,7 +48,11 @@ impl<'a> Reader<'a> {
     }
 
     /// A name, with at most seven dimensions or without.
-    fn decl(&mut self, alloc: Global) -> Result<Decl, ReadEnd> {
+    #[tactic(auto, unfolding(crate::specs::Keeping::decl_kept))]
+    fn decl(&mut self, alloc: Global) -> Result<Decl, ReadEnd>
+        ensures gives { Gives (decl_kept self.old.is_bad self.old.rest.now) result self.new.is_bad self.new.rest.now }
+        ensures shorter { Shortens result self.old.rest.now self.new.rest.now }
+    {
         let name = self.name()?;
         if !self.passes(b"(") {
             return Ok(Decl {
@@ -54,7 +69,10 @@ impl<'a> Reader<'a> {
     }
 
     /// Declarators with commas between them.
-    pub(crate) fn decls(&mut self, alloc: Global) -> Result<DeclList, ReadEnd> {
+    pub(crate) fn decls(&mut self, alloc: Global) -> Result<DeclList, ReadEnd>
+        ensures gives { Gives (kept_list decl_kept self.old.is_bad self.old.rest.now) result self.new.is_bad self.new.rest.now }
+        ensures shorter { Shortens result self.old.rest.now self.new.rest.now }
+    {
         let mut list = Sequence::new(alloc);
         list.push(self.decl(alloc)?)?;
         while self.passes_comma() {
@@ -64,7 +82,11 @@ impl<'a> Reader<'a> {
     }
 
     /// Declarators of arrays with commas between them.
-    pub(crate) fn arrays(&mut self, alloc: Global) -> Result<DeclList, ReadEnd> {
+    #[tactic(auto, unfolding(crate::specs::Keeping::arrays_kept))]
+    pub(crate) fn arrays(&mut self, alloc: Global) -> Result<DeclList, ReadEnd>
+        ensures gives { Gives (arrays_kept self.old.is_bad self.old.rest.now) result self.new.is_bad self.new.rest.now }
+        ensures shorter { Shortens result self.old.rest.now self.new.rest.now }
+    {
         let decls = self.decls(alloc)?;
         if decls.as_slice().iter().all(|decl| !decl.dims.is_empty()) {
             Ok(decls)
@@ -74,18 +96,33 @@ impl<'a> Reader<'a> {
     }
 
     /// A letter, or two with a minus sign between them.
-    fn range(&mut self, kind: Kind) -> Result<LetterRange, ReadEnd> {
+    #[tactic(auto, unfolding(crate::specs::Keeping::range_kept))]
+    fn range(&mut self, kind: Kind) -> Result<LetterRange, ReadEnd>
+        ensures gives { Gives (range_kept kind self.old.is_bad self.old.rest.now) result self.new.is_bad self.new.rest.now }
+        ensures shorter { Shortens result self.old.rest.now self.new.rest.now }
+    {
         let from = self.letter()?;
-        let to = if self.passes(b"-") {
-            self.letter()?
+        if self.passes(b"-") {
+            Ok(LetterRange {
+                kind,
+                from,
+                to: self.letter()?,
+            })
         } else {
-            from
-        };
-        Ok(LetterRange { kind, from, to })
+            Ok(LetterRange {
+                kind,
+                from,
+                to: from,
+            })
+        }
     }
 
     /// The name of a type.
-    fn kind(&mut self) -> Result<Kind, ReadEnd> {
+    #[tactic(auto, unfolding(crate::specs::Keeping::kind_kept))]
+    fn kind(&mut self) -> Result<Kind, ReadEnd>
+        ensures gives { Gives (kind_kept self.old.is_bad self.old.rest.now) result self.new.is_bad self.new.rest.now }
+        ensures shorter { Shortens result self.old.rest.now self.new.rest.now }
+    {
         if self.passes(b"INTEGER") {
             return Ok(Kind::Integer);
         }
@@ -93,29 +130,50 @@ impl<'a> Reader<'a> {
         Ok(Kind::Logical)
     }
 
-    /// A type and its letters, which are put behind those in the list.
-    fn letters(&mut self, list: &mut LetterRangeList) -> Result<(), ReadEnd> {
-        let kind = self.kind()?;
-        self.wants(b"(")?;
+    /// Ranges of letters with commas between them, behind those in the list.
+    fn ranges(&mut self, kind: Kind, mut list: LetterRangeList) -> Result<LetterRangeList, ReadEnd>
+        requires room { length list + length self.old.rest.now < 4294967296 }
+        ensures room { IfOk result (λ longer. length longer + length self.new.rest.now ≤ length list + length self.old.rest.now) }
+        ensures gives { Gives (kept_behind (range_kept kind) list self.old.is_bad self.old.rest.now) result self.new.is_bad self.new.rest.now }
+        ensures shorter { Shortens result self.old.rest.now self.new.rest.now }
+    {
         list.push(self.range(kind)?)?;
         while self.passes_comma() {
             list.push(self.range(kind)?)?;
         }
-        self.wants(b")")
+        Ok(list)
+    }
+
+    /// A type and its letters, behind those in the list.
+    #[tactic(auto, unfolding(crate::specs::Keeping::letters_kept))]
+    fn letters(&mut self, list: LetterRangeList) -> Result<LetterRangeList, ReadEnd>
+        requires room { length list + length self.old.rest.now < 4294967296 }
+        ensures room { IfOk result (λ longer. length longer + length self.new.rest.now ≤ length list + length self.old.rest.now) }
+        ensures gives { Gives (letters_kept list self.old.is_bad self.old.rest.now) result self.new.is_bad self.new.rest.now }
+        ensures shorter { Shortens result self.old.rest.now self.new.rest.now }
+    {
+        let kind = self.kind()?;
+        self.wants(b"(")?;
+        let list = self.ranges(kind, list)?;
+        self.wants(b")")?;
+        Ok(list)
     }
 
     /// Types and their letters, with commas between them.
     pub(crate) fn letters_list(&mut self, alloc: Global) -> Result<LetterRangeList, ReadEnd> {
-        let mut list = Sequence::new(alloc);
-        self.letters(&mut list)?;
+        let mut list = self.letters(Sequence::new(alloc))?;
         while self.passes_comma() {
-            self.letters(&mut list)?;
+            list = self.letters(list)?;
         }
         Ok(list)
     }
 
     /// Blank common as two strokes, or a named block.
-    fn block(&mut self) -> Result<Option<Name>, ReadEnd> {
+    #[tactic(auto, unfolding(crate::specs::Keeping::block_kept))]
+    fn block(&mut self) -> Result<Option<Name>, ReadEnd>
+        ensures gives { Gives (block_kept self.old.is_bad self.old.rest.now) result self.new.is_bad self.new.rest.now }
+        ensures shorter { Shortens result self.old.rest.now self.new.rest.now }
+    {
         if self.passes(b"//") {
             return Ok(None);
         }
@@ -126,26 +184,43 @@ impl<'a> Reader<'a> {
     }
 
     /// The first part of COMMON, which may tell its block.
-    fn first_part(&mut self, alloc: Global) -> Result<CommonPart, ReadEnd> {
-        let block = if self.is_at(b'/') {
-            self.block()?
-        } else {
-            None
-        };
+    #[tactic(auto, unfolding(crate::specs::Keeping::first_part_kept))]
+    fn first_part(&mut self, alloc: Global) -> Result<CommonPart, ReadEnd>
+        ensures gives { Gives (first_part_kept self.old.is_bad self.old.rest.now) result self.new.is_bad self.new.rest.now }
+        ensures shorter { Shortens result self.old.rest.now self.new.rest.now }
+    {
+        if self.is_at(b'/') {
+            return self.told_part(alloc);
+        }
         let decls = self.decls(alloc)?;
-        Ok(CommonPart { block, decls })
+        Ok(CommonPart { block: None, decls })
     }
 
-    /// A part of COMMON that tells its block, with a comma in front or without.
-    fn part(&mut self, alloc: Global) -> Result<CommonPart, ReadEnd> {
-        self.passes(b",");
+    /// A block of COMMON and its names.
+    fn told_part(&mut self, alloc: Global) -> Result<CommonPart, ReadEnd>
+        ensures gives { Gives (block_and_decls (block_kept self.old.is_bad self.old.rest.now)) result self.new.is_bad self.new.rest.now }
+        ensures shorter { Shortens result self.old.rest.now self.new.rest.now }
+    {
         let block = self.block()?;
         let decls = self.decls(alloc)?;
         Ok(CommonPart { block, decls })
     }
 
+    /// A part of COMMON that tells its block, with a comma in front or without.
+    #[tactic(auto, unfolding(crate::specs::Keeping::part_kept))]
+    fn part(&mut self, alloc: Global) -> Result<CommonPart, ReadEnd>
+        ensures gives { Gives (part_kept self.old.is_bad self.old.rest.now) result self.new.is_bad self.new.rest.now }
+        ensures shorter { Shortens result self.old.rest.now self.new.rest.now }
+    {
+        self.skips(b",");
+        self.told_part(alloc)
+    }
+
     /// Parts of COMMON up to the end of the text.
-    pub(crate) fn parts(&mut self, alloc: Global) -> Result<CommonPartList, ReadEnd> {
+    pub(crate) fn parts(&mut self, alloc: Global) -> Result<CommonPartList, ReadEnd>
+        ensures gives { Gives (kept_parts first_part_kept part_kept self.old.is_bad self.old.rest.now) result self.new.is_bad self.new.rest.now }
+        ensures shorter { Shortens result self.old.rest.now self.new.rest.now }
+    {
         let mut list = Sequence::new(alloc);
         list.push(self.first_part(alloc)?)?;
         while !self.is_at_end() {
@@ -155,7 +230,11 @@ impl<'a> Reader<'a> {
     }
 
     /// A name, with subscripts or without.
-    fn member(&mut self, alloc: Global) -> Result<Member, ReadEnd> {
+    #[tactic(auto, unfolding(crate::specs::Keeping::member_kept))]
+    fn member(&mut self, alloc: Global) -> Result<Member, ReadEnd>
+        ensures gives { Gives (member_kept self.old.is_bad self.old.rest.now) result self.new.is_bad self.new.rest.now }
+        ensures shorter { Shortens result self.old.rest.now self.new.rest.now }
+    {
         let name = self.name()?;
         if !self.passes(b"(") {
             return Ok(Member {
@@ -169,7 +248,10 @@ impl<'a> Reader<'a> {
     }
 
     /// Members with commas between them.
-    fn members(&mut self, alloc: Global) -> Result<MemberList, ReadEnd> {
+    fn members(&mut self, alloc: Global) -> Result<MemberList, ReadEnd>
+        ensures gives { Gives (kept_list member_kept self.old.is_bad self.old.rest.now) result self.new.is_bad self.new.rest.now }
+        ensures shorter { Shortens result self.old.rest.now self.new.rest.now }
+    {
         let mut list = Sequence::new(alloc);
         list.push(self.member(alloc)?)?;
         while self.passes_comma() {
@@ -179,7 +261,11 @@ impl<'a> Reader<'a> {
     }
 
     /// Two members or more, between brackets.
-    fn group(&mut self, alloc: Global) -> Result<MemberList, ReadEnd> {
+    #[tactic(auto, unfolding(crate::specs::Keeping::group_kept))]
+    fn group(&mut self, alloc: Global) -> Result<MemberList, ReadEnd>
+        ensures gives { Gives (group_kept self.old.is_bad self.old.rest.now) result self.new.is_bad self.new.rest.now }
+        ensures shorter { Shortens result self.old.rest.now self.new.rest.now }
+    {
         self.wants(b"(")?;
         let members = self.members(alloc)?;
         self.wants(b")")?;
@@ -190,7 +276,10 @@ impl<'a> Reader<'a> {
     }
 
     /// Groups with commas between them.
-    pub(crate) fn groups(&mut self, alloc: Global) -> Result<GroupList, ReadEnd> {
+    pub(crate) fn groups(&mut self, alloc: Global) -> Result<GroupList, ReadEnd>
+        ensures gives { Gives (kept_list group_kept self.old.is_bad self.old.rest.now) result self.new.is_bad self.new.rest.now }
+        ensures shorter { Shortens result self.old.rest.now self.new.rest.now }
+    {
         let mut list = Sequence::new(alloc);
         list.push(self.group(alloc)?)?;
         while self.passes_comma() {
@@ -200,7 +289,11 @@ impl<'a> Reader<'a> {
     }
 
     /// Items of DATA and their values.
-    fn init_part(&mut self, alloc: Global) -> Result<InitPart, ReadEnd> {
+    #[tactic(auto, unfolding(crate::specs::Keeping::init_part_kept))]
+    fn init_part(&mut self, alloc: Global) -> Result<InitPart, ReadEnd>
+        ensures gives { Gives (init_part_kept self.old.is_bad self.old.rest.now) result self.new.is_bad self.new.rest.now }
+        ensures shorter { Shortens result self.old.rest.now self.new.rest.now }
+    {
         let items = self.members(alloc)?;
         self.wants(b"/")?;
         let values = self.values(alloc)?;
@@ -208,13 +301,25 @@ impl<'a> Reader<'a> {
         Ok(InitPart { items, values })
     }
 
+    /// Items of DATA and their values, with a comma in front or without.
+    #[tactic(auto, unfolding(crate::specs::Keeping::next_init_part_kept))]
+    fn next_init_part(&mut self, alloc: Global) -> Result<InitPart, ReadEnd>
+        ensures gives { Gives (next_init_part_kept self.old.is_bad self.old.rest.now) result self.new.is_bad self.new.rest.now }
+        ensures shorter { Shortens result self.old.rest.now self.new.rest.now }
+    {
+        self.skips(b",");
+        self.init_part(alloc)
+    }
+
     /// Parts of DATA up to the end of the text, with commas between them or without.
-    pub(crate) fn init_parts(&mut self, alloc: Global) -> Result<InitPartList, ReadEnd> {
+    pub(crate) fn init_parts(&mut self, alloc: Global) -> Result<InitPartList, ReadEnd>
+        ensures gives { Gives (kept_parts init_part_kept next_init_part_kept self.old.is_bad self.old.rest.now) result self.new.is_bad self.new.rest.now }
+        ensures shorter { Shortens result self.old.rest.now self.new.rest.now }
+    {
         let mut list = Sequence::new(alloc);
         list.push(self.init_part(alloc)?)?;
         while !self.is_at_end() {
-            self.passes(b",");
-            list.push(self.init_part(alloc)?)?;
+            list.push(self.next_init_part(alloc)?)?;
         }
         Ok(list)
     }

@@ -11,7 +11,7 @@ impl<'a> Reader<'a> {
     pub(crate) fn do_loop(&mut self, alloc: Global) -> Result<Stmt, ReadEnd> {
         self.wants(b"DO")?;
         let label = self.label()?;
-        self.passes(b",");
+        self.skips(b",");
         let variable = self.name()?;
         self.wants(b"=")?;
         let first = self.expression(alloc)?;
@@ -108,7 +108,7 @@ impl<'a> Reader<'a> {
         }
         let labels = self.labels(alloc)?;
         self.wants(b")")?;
-        self.passes(b",");
+        self.skips(b",");
         let index = self.expression(alloc)?;
         Ok(Stmt::PickGoTo(labels, index))
     }

@@ -1,5 +1,9 @@
 //! Parts of executable statements: expressions, variables and items of output (ANSI X3.9-1978, sections 6, 10 and 12).
 
+ghost use Rattle.std.specs.Prelude.{◌≡◌, ◌<◌, length};
+ghost use Rattle.f77_parse.specs.Keeping.{kept_list, expression_kept, variable_kept, next_character_kept, characters_kept, character_constant_kept, item_kept};
+ghost use Rattle.f77_parse.specs.Answers.{Gives, Shortens};
+
 use crate::reader::Reader;
 use df_sequence::Sequence;
 use f77_expr::ReadEnd;
@@ -20,7 +24,10 @@ impl<'a> Reader<'a> {
     }
 
     /// Expressions with commas between them.
-    fn expressions(&mut self, alloc: Global) -> Result<RawList, ReadEnd> {
+    fn expressions(&mut self, alloc: Global) -> Result<RawList, ReadEnd>
+        ensures gives { Gives (kept_list expression_kept self.old.is_bad self.old.rest.now) result self.new.is_bad self.new.rest.now }
+        ensures shorter { Shortens result self.old.rest.now self.new.rest.now }
+    {
         let mut list = Sequence::new(alloc);
         list.push(self.expression(alloc)?)?;
         while self.passes_comma() {
@@ -30,7 +37,11 @@ impl<'a> Reader<'a> {
     }
 
     /// A variable or an array element.
-    pub(crate) fn variable(&mut self, alloc: Global) -> Result<RawExpr, ReadEnd> {
+    #[tactic(auto, unfolding(crate::specs::Keeping::variable_kept))]
+    pub(crate) fn variable(&mut self, alloc: Global) -> Result<RawExpr, ReadEnd>
+        ensures gives { Gives (variable_kept self.old.is_bad self.old.rest.now) result self.new.is_bad self.new.rest.now }
+        ensures shorter { Shortens result self.old.rest.now self.new.rest.now }
+    {
         let name = self.name()?;
         if !self.passes(b"(") {
             return Ok(RawExpr::Named(name));
@@ -41,7 +52,10 @@ impl<'a> Reader<'a> {
     }
 
     /// Variables with commas between them.
-    pub(crate) fn variables(&mut self, alloc: Global) -> Result<RawList, ReadEnd> {
+    pub(crate) fn variables(&mut self, alloc: Global) -> Result<RawList, ReadEnd>
+        ensures gives { Gives (kept_list variable_kept self.old.is_bad self.old.rest.now) result self.new.is_bad self.new.rest.now }
+        ensures shorter { Shortens result self.old.rest.now self.new.rest.now }
+    {
         let mut list = Sequence::new(alloc);
         list.push(self.variable(alloc)?)?;
         while self.passes_comma() {
@@ -52,7 +66,11 @@ impl<'a> Reader<'a> {
 
     /// The next character of a character constant, where it isn't the apostrophe that closes it. Two apostrophes are one
     /// character.
-    fn next_of_constant(&mut self) -> Result<Option<u8>, ReadEnd> {
+    #[tactic(auto, unfolding(crate::specs::Keeping::next_character_kept))]
+    fn next_of_constant(&mut self) -> Result<Option<u8>, ReadEnd>
+        ensures gives { Gives (next_character_kept self.old.is_bad self.old.rest.now) result self.new.is_bad self.new.rest.now }
+        ensures shorter { Shortens result self.old.rest.now self.new.rest.now }
+    {
         if self.passes(b"''") {
             return Ok(Some(b'\''));
         }
@@ -63,7 +81,10 @@ impl<'a> Reader<'a> {
     }
 
     /// The characters of a constant behind its apostrophe, up to the one that closes it.
-    fn characters(&mut self, alloc: Global) -> Result<Text, ReadEnd> {
+    fn characters(&mut self, alloc: Global) -> Result<Text, ReadEnd>
+        ensures gives { Gives (characters_kept self.old.is_bad self.old.rest.now) result self.new.is_bad self.new.rest.now }
+        ensures shorter { Shortens result self.old.rest.now self.new.rest.now }
+    {
         let mut list = Sequence::new(alloc);
         while let Some(c) = self.next_of_constant()? {
             list.push(c)?;
@@ -72,7 +93,11 @@ impl<'a> Reader<'a> {
     }
 
     /// A character constant of at least one character.
-    pub(crate) fn character_constant(&mut self, alloc: Global) -> Result<Text, ReadEnd> {
+    #[tactic(auto, unfolding(crate::specs::Keeping::character_constant_kept))]
+    pub(crate) fn character_constant(&mut self, alloc: Global) -> Result<Text, ReadEnd>
+        ensures gives { Gives (character_constant_kept self.old.is_bad self.old.rest.now) result self.new.is_bad self.new.rest.now }
+        ensures shorter { Shortens result self.old.rest.now self.new.rest.now }
+    {
         self.wants(b"'")?;
         let characters = self.characters(alloc)?;
         if characters.is_empty() {
@@ -82,7 +107,11 @@ impl<'a> Reader<'a> {
     }
 
     /// An item of output. One that begins with an apostrophe is a character constant.
-    fn item(&mut self, alloc: Global) -> Result<RawItem, ReadEnd> {
+    #[tactic(auto, unfolding(crate::specs::Keeping::item_kept))]
+    fn item(&mut self, alloc: Global) -> Result<RawItem, ReadEnd>
+        ensures gives { Gives (item_kept self.old.is_bad self.old.rest.now) result self.new.is_bad self.new.rest.now }
+        ensures shorter { Shortens result self.old.rest.now self.new.rest.now }
+    {
         if self.is_at(b'\'') {
             Ok(RawItem::Chars(self.character_constant(alloc)?))
         } else {
@@ -91,7 +120,10 @@ impl<'a> Reader<'a> {
     }
 
     /// Items of output with commas between them.
-    pub(crate) fn items(&mut self, alloc: Global) -> Result<RawItemList, ReadEnd> {
+    pub(crate) fn items(&mut self, alloc: Global) -> Result<RawItemList, ReadEnd>
+        ensures gives { Gives (kept_list item_kept self.old.is_bad self.old.rest.now) result self.new.is_bad self.new.rest.now }
+        ensures shorter { Shortens result self.old.rest.now self.new.rest.now }
+    {
         let mut list = Sequence::new(alloc);
         list.push(self.item(alloc)?)?;
         while self.passes_comma() {

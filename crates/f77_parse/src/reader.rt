@@ -4,10 +4,10 @@ ghost use Rattle.std.specs.Prelude.{◌≡◌, ◌≤◌, ◌<◌, ◌+◌, ◌-
 ghost use Rattle.f77_tree.specs.Name.{is_figure};
 ghost use Rattle.f77_expr.specs.Reader.{after_front};
 ghost use Rattle.f77_parse.specs.Parts.{behind_comma};
-ghost use Rattle.f77_parse.specs.Keeping.{Keeps, wanted, begins, number_kept, name_kept, letter_kept, character_kept, few_digits_kept, expression_kept};
-ghost use Rattle.f77_parse.specs.Answers.{Gives, Passes};
+ghost use Rattle.f77_parse.specs.Keeping.{wanted, skipped, begins, number_kept, name_kept, letter_kept, character_kept, few_digits_kept, expression_kept};
+ghost use Rattle.f77_parse.specs.Answers.{Gives, Passes, Shortens};
 
-use crate::digits::{bounded_number, digits_in_front, is_letter, symbolic_in_front};
+use crate::digits::{behind_front, bounded_number, digits_of, is_letter, symbolic_of};
 use df_sequence::CharList;
 use f77_expr::{ReadEnd, read_expr};
 use f77_tree::{Name, RawExpr};
@@ -49,12 +49,12 @@ impl<'a> Reader<'a> {
         self.is_bad
     }
 
-    /// Tells that what was read is out of range.
-    pub(crate) fn spoil(&mut self)
-        ensures bad { self.new.is_bad ≡ true }
+    /// Tells whether what was read is out of range.
+    pub(crate) fn tell(&mut self, is_bad: bool)
+        ensures bad { self.new.is_bad ≡ (self.old.is_bad || is_bad) }
         ensures rest { self.new.rest.now ≡ self.old.rest.now }
     {
-        self.is_bad = true;
+        self.is_bad = self.is_bad || is_bad;
     }
 
     /// Passes so many characters.
@@ -88,7 +88,7 @@ impl<'a> Reader<'a> {
     pub(crate) fn is_at_digit(&self) -> bool
         ensures { result ≡ nat_lt 0 (length (take_while is_figure self.now.rest.now)) }
     {
-        digits_in_front(self.rest) > 0
+        !digits_of(self.rest).is_empty()
     }
 
     /// Passes these characters, if they are the next ones.
@@ -97,16 +97,28 @@ impl<'a> Reader<'a> {
         ensures same { self.new.is_bad ≡ self.old.is_bad }
         ensures shorter { length self.new.rest.now ≤ length self.old.rest.now }
     {
-        match self.rest.strip_prefix(front) {
-            Some(_) => {
-                self.skip(front.len());
+        match behind_front(self.rest, front) {
+            Some(rest) => {
+                self.skip(self.rest.len() - rest.len());
                 true
             }
             None => false,
         }
     }
 
+    /// Passes these characters, if they are the next ones, and tells nothing of it.
+    pub(crate) fn skips(&mut self, front: &[u8])
+        ensures rest { self.new.rest.now ≡ skipped (after_front front.now self.old.rest.now) self.old.rest.now }
+        ensures same { self.new.is_bad ≡ self.old.is_bad }
+        ensures shorter { length self.new.rest.now ≤ length self.old.rest.now }
+    {
+        if self.passes(front) {
+            return;
+        }
+    }
+
     /// Passes these characters, which have to be the next ones.
+    #[tactic(auto, unfolding(crate::specs::Keeping::wanted))]
     pub(crate) fn wants(&mut self, front: &[u8]) -> Result<(), ReadEnd>
         ensures gives { Gives (wanted front.now self.old.is_bad self.old.rest.now) result self.new.is_bad self.new.rest.now }
         ensures shorter { length self.new.rest.now ≤ length self.old.rest.now }
@@ -135,25 +147,26 @@ impl<'a> Reader<'a> {
     }
 
     /// Digits, as the number that they write, or one more than the greatest constant where that is less.
+    #[tactic(auto, unfolding(crate::specs::Keeping::number_kept))]
     pub(crate) fn number(&mut self) -> Result<u32, ReadEnd>
         ensures gives { Gives (number_kept self.old.is_bad self.old.rest.now) result self.new.is_bad self.new.rest.now }
-        ensures shorter { length self.new.rest.now ≤ length self.old.rest.now }
+        ensures shorter { Shortens result self.old.rest.now self.new.rest.now }
     {
-        let rest = self.rest;
-        let n = digits_in_front(rest);
-        if n == 0 {
+        let digits = digits_of(self.rest);
+        if digits.is_empty() {
             return Err(ReadEnd::NoForm);
         }
-        self.skip(n);
-        Ok(bounded_number(&rest[..n]) as u32)
+        self.skip(digits.len());
+        Ok(bounded_number(digits) as u32)
     }
 
     /// At most five digits.
+    #[tactic(auto, unfolding(crate::specs::Keeping::few_digits_kept))]
     pub(crate) fn few_digits(&mut self) -> Result<(), ReadEnd>
         ensures gives { Gives (few_digits_kept self.old.is_bad self.old.rest.now) result self.new.is_bad self.new.rest.now }
-        ensures shorter { length self.new.rest.now ≤ length self.old.rest.now }
+        ensures shorter { Shortens result self.old.rest.now self.new.rest.now }
     {
-        let n = digits_in_front(self.rest);
+        let n = digits_of(self.rest).len();
         if n == 0 || n > MOST_DIGITS {
             return Err(ReadEnd::NoForm);
         }
@@ -162,28 +175,28 @@ impl<'a> Reader<'a> {
     }
 
     /// An expression, as long as it can be.
+    #[tactic(auto, unfolding(crate::specs::Keeping::expression_kept))]
     pub(crate) fn expression(&mut self, alloc: Global) -> Result<RawExpr, ReadEnd>
         ensures gives { Gives (expression_kept self.old.is_bad self.old.rest.now) result self.new.is_bad self.new.rest.now }
-        ensures shorter { length self.new.rest.now ≤ length self.old.rest.now }
+        ensures shorter { Shortens result self.old.rest.now self.new.rest.now }
     {
         let from = self.text.len() - self.rest.len() as u32;
         let read = read_expr(alloc, self.text, from)?;
         self.skip((read.next - from) as usize);
-        if read.has_great_constant {
-            self.is_bad = true;
-        }
+        self.tell(read.has_great_constant);
         Ok(read.expr)
     }
 
     /// All letters and digits that stand in front, as a name.
+    #[tactic(auto, unfolding(crate::specs::Keeping::name_kept))]
     pub(crate) fn name(&mut self) -> Result<Name, ReadEnd>
         ensures gives { Gives (name_kept self.old.is_bad self.old.rest.now) result self.new.is_bad self.new.rest.now }
-        ensures shorter { length self.new.rest.now ≤ length self.old.rest.now }
+        ensures shorter { Shortens result self.old.rest.now self.new.rest.now }
     {
-        let n = symbolic_in_front(self.rest);
-        match Name::new(&self.rest[..n]) {
+        let front = symbolic_of(self.rest);
+        match Name::new(front) {
             Some(name) => {
-                self.skip(n);
+                self.skip(front.len());
                 Ok(name)
             }
             None => Err(ReadEnd::NoForm),
@@ -191,9 +204,10 @@ impl<'a> Reader<'a> {
     }
 
     /// A letter.
+    #[tactic(auto, unfolding(crate::specs::Keeping::letter_kept))]
     pub(crate) fn letter(&mut self) -> Result<u8, ReadEnd>
         ensures gives { Gives (letter_kept self.old.is_bad self.old.rest.now) result self.new.is_bad self.new.rest.now }
-        ensures shorter { length self.new.rest.now ≤ length self.old.rest.now }
+        ensures shorter { Shortens result self.old.rest.now self.new.rest.now }
     {
         match self.rest.first() {
             Some(c) if is_letter(*c) => {
@@ -206,9 +220,10 @@ impl<'a> Reader<'a> {
     }
 
     /// The next character, whichever it is.
+    #[tactic(auto, unfolding(crate::specs::Keeping::character_kept))]
     pub(crate) fn character(&mut self) -> Result<u8, ReadEnd>
         ensures gives { Gives (character_kept self.old.is_bad self.old.rest.now) result self.new.is_bad self.new.rest.now }
-        ensures shorter { length self.new.rest.now ≤ length self.old.rest.now }
+        ensures shorter { Shortens result self.old.rest.now self.new.rest.now }
     {
         match self.rest.first() {
             Some(c) => {
