@@ -25,3 +25,5 @@ pub mod PartMembers
 pub mod PartNumbers
 pub mod PartReaders
 pub mod PartSequences
+pub mod ListsKept
+pub mod ExpressionsKept

@@ -208,6 +208,14 @@ letters_kept list bad text = keep_then (kind_kept bad text) (λ kind bad_now res
     keep_then (kept_behind (range_kept kind) list bad_then inside) (λ longer bad_later behind.
     keep_then (wanted (codes ")") bad_later behind) (λ closed bad_last more. Some (longer, bad_last, more)))))
 
+-- so many types and their letters at most, with commas between them, behind those of a list
+abbrev pub ranges_onto : ℕ → List LetterRange → Bool → List ℕ → Keeps (List LetterRange)
+ranges_onto zero list bad text = None
+ranges_onto (suc n) list bad text = keep_then (letters_kept list bad text) (λ longer bad_now rest. kept_next (ranges_onto n) longer bad_now rest (behind_comma rest))
+
+unfoldable pub kept_ranges : Bool → List ℕ → Keeps (List LetterRange)
+kept_ranges bad text = ranges_onto (suc (length text)) [] bad text
+
 unfoldable pub block_kept : Bool → List ℕ → Keeps (Option (List ℕ))
 block_kept bad text =
     where_front (after_front (codes "//") text) (λ rest. Some (None, bad, rest))

@@ -2,4 +2,5 @@
 pub mod Answers
 pub mod Forms
 pub mod Keeping
+pub mod KeptForms
 pub mod Parts

@@ -1,7 +1,7 @@
 //! Parts of declarations (ANSI X3.9-1978, sections 5, 8 and 9).
 
 ghost use Rattle.std.specs.Prelude.{◌≡◌, ◌≤◌, ◌<◌, ◌+◌, length, IfOk};
-ghost use Rattle.f77_parse.specs.Keeping.{kept_list, kept_behind, kept_parts, dim_kept, decl_kept, arrays_kept, range_kept, kind_kept, letters_kept, block_kept, block_and_decls, first_part_kept, part_kept, member_kept, group_kept, init_part_kept, next_init_part_kept};
+ghost use Rattle.f77_parse.specs.Keeping.{kept_list, kept_behind, kept_parts, dim_kept, decl_kept, arrays_kept, range_kept, kind_kept, letters_kept, kept_ranges, block_kept, block_and_decls, first_part_kept, part_kept, member_kept, group_kept, init_part_kept, next_init_part_kept};
 ghost use Rattle.f77_parse.specs.Answers.{Gives, Shortens};
 
 use crate::reader::Reader;
@@ -160,7 +160,10 @@ impl<'a> Reader<'a> {
     }
 
     /// Types and their letters, with commas between them.
-    pub(crate) fn letters_list(&mut self, alloc: Global) -> Result<LetterRangeList, ReadEnd> {
+    pub(crate) fn letters_list(&mut self, alloc: Global) -> Result<LetterRangeList, ReadEnd>
+        ensures gives { Gives (kept_ranges self.old.is_bad self.old.rest.now) result self.new.is_bad self.new.rest.now }
+        ensures shorter { Shortens result self.old.rest.now self.new.rest.now }
+    {
         let mut list = self.letters(Sequence::new(alloc))?;
         while self.passes_comma() {
             list = self.letters(list)?;

@@ -65,7 +65,7 @@ pub(crate) fn symbolic_of(text: &[u8]) -> &[u8]
 /// The text behind these characters, where it begins with them.
 pub(crate) fn behind_front<'a>(text: &'a [u8], front: &[u8]) -> Option<&'a [u8]>
     ensures rest { option_copied result ≡ after_front front.now text.now }
-    ensures drops { IfSome result (λ rest. (rest.now ≡ drop (length text.now - length rest.now) text.now) × (length rest.now ≤ length text.now)) }
+    ensures drops { IfSome result (λ rest. (rest.now ≡ drop (length text.now - length rest.now) text.now) × (length rest.now + length front.now ≤ length text.now)) }
 {
     text.strip_prefix(front)
 }

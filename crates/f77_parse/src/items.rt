@@ -1,7 +1,7 @@
 //! Parts of executable statements: expressions, variables and items of output (ANSI X3.9-1978, sections 6, 10 and 12).
 
-ghost use Rattle.std.specs.Prelude.{◌≡◌, ◌<◌, length};
-ghost use Rattle.f77_parse.specs.Keeping.{kept_list, expression_kept, variable_kept, next_character_kept, characters_kept, character_constant_kept, item_kept};
+ghost use Rattle.std.specs.Prelude.{◌≡◌, ◌<◌, ◌+◌, length};
+ghost use Rattle.f77_parse.specs.Keeping.{kept_list, kept_behind, expression_kept, variable_kept, next_character_kept, characters_kept, character_constant_kept, item_kept};
 ghost use Rattle.f77_parse.specs.Answers.{Gives, Shortens};
 
 use crate::reader::Reader;
@@ -11,16 +11,21 @@ use f77_tree::{RawExpr, RawItem, RawItemList, RawList, Text};
 use std::alloc::Global;
 
 impl<'a> Reader<'a> {
-    /// Expressions with commas between them, behind these.
-    pub(crate) fn more_expressions(
+    /// Expressions with commas between them, behind those in the list.
+    pub(crate) fn expressions_behind(
         &mut self,
         alloc: Global,
-        list: &mut RawList,
-    ) -> Result<(), ReadEnd> {
+        mut list: RawList,
+    ) -> Result<RawList, ReadEnd>
+        requires room { length list + length self.old.rest.now < 4294967296 }
+        ensures gives { Gives (kept_behind expression_kept list self.old.is_bad self.old.rest.now) result self.new.is_bad self.new.rest.now }
+        ensures shorter { Shortens result self.old.rest.now self.new.rest.now }
+    {
+        list.push(self.expression(alloc)?)?;
         while self.passes_comma() {
             list.push(self.expression(alloc)?)?;
         }
-        Ok(())
+        Ok(list)
     }
 
     /// Expressions with commas between them.
@@ -28,12 +33,7 @@ impl<'a> Reader<'a> {
         ensures gives { Gives (kept_list expression_kept self.old.is_bad self.old.rest.now) result self.new.is_bad self.new.rest.now }
         ensures shorter { Shortens result self.old.rest.now self.new.rest.now }
     {
-        let mut list = Sequence::new(alloc);
-        list.push(self.expression(alloc)?)?;
-        while self.passes_comma() {
-            list.push(self.expression(alloc)?)?;
-        }
-        Ok(list)
+        self.expressions_behind(alloc, Sequence::new(alloc))
     }
 
     /// A variable or an array element.

@@ -1,5 +1,9 @@
 //! Whole statements: what tells their form (ANSI X3.9-1978, sections 4 to 12).
 
+ghost use Rattle.std.specs.Prelude.{◌≡◌};
+ghost use Rattle.f77_parse.specs.KeptForms.{kept_whole, form_kept, equated_kept, keyword_kept, storage_kept, executable_kept};
+ghost use Rattle.f77_parse.specs.Answers.{Gives};
+
 use crate::reader::Reader;
 use f77_expr::ReadEnd;
 use f77_tree::{Kind, Stmt};
@@ -13,12 +17,10 @@ impl<'a> Reader<'a> {
         alloc: Global,
         has_equals: bool,
         has_comma: bool,
-    ) -> Result<Stmt, ReadEnd> {
-        let stmt = if has_equals {
-            self.equated(alloc, has_comma)?
-        } else {
-            self.keyword(alloc)?
-        };
+    ) -> Result<Stmt, ReadEnd>
+        ensures { Gives (kept_whole (form_kept has_equals has_comma self.old.is_bad self.old.rest.now)) result self.new.is_bad self.new.rest.now }
+    {
+        let stmt = self.form(alloc, has_equals, has_comma)?;
         if self.is_at_end() {
             Ok(stmt)
         } else {
@@ -26,8 +28,23 @@ impl<'a> Reader<'a> {
         }
     }
 
+    /// A statement in front of the text.
+    #[tactic(auto, unfolding(crate::specs::KeptForms::form_kept))]
+    fn form(&mut self, alloc: Global, has_equals: bool, has_comma: bool) -> Result<Stmt, ReadEnd>
+        ensures { Gives (form_kept has_equals has_comma self.old.is_bad self.old.rest.now) result self.new.is_bad self.new.rest.now }
+    {
+        if has_equals {
+            self.equated(alloc, has_comma)
+        } else {
+            self.keyword(alloc)
+        }
+    }
+
     /// A statement with an equals sign: DO where there is a comma too, and else an assignment.
-    fn equated(&mut self, alloc: Global, has_comma: bool) -> Result<Stmt, ReadEnd> {
+    #[tactic(auto, unfolding(crate::specs::KeptForms::equated_kept))]
+    fn equated(&mut self, alloc: Global, has_comma: bool) -> Result<Stmt, ReadEnd>
+        ensures { Gives (equated_kept has_comma self.old.is_bad self.old.rest.now) result self.new.is_bad self.new.rest.now }
+    {
         if has_comma {
             self.do_loop(alloc)
         } else {
@@ -36,7 +53,10 @@ impl<'a> Reader<'a> {
     }
 
     /// A statement by its keyword. One that begins with another's stands before it.
-    fn keyword(&mut self, alloc: Global) -> Result<Stmt, ReadEnd> {
+    #[tactic(auto, unfolding(crate::specs::KeptForms::keyword_kept))]
+    fn keyword(&mut self, alloc: Global) -> Result<Stmt, ReadEnd>
+        ensures { Gives (keyword_kept self.old.is_bad self.old.rest.now) result self.new.is_bad self.new.rest.now }
+    {
         if self.passes(b"PROGRAM") {
             self.name()?;
             return Ok(Stmt::Program);
@@ -57,7 +77,10 @@ impl<'a> Reader<'a> {
     }
 
     /// A statement on arrays and storage, or an executable one, by its keyword.
-    fn storage(&mut self, alloc: Global) -> Result<Stmt, ReadEnd> {
+    #[tactic(auto, unfolding(crate::specs::KeptForms::storage_kept))]
+    fn storage(&mut self, alloc: Global) -> Result<Stmt, ReadEnd>
+        ensures { Gives (storage_kept self.old.is_bad self.old.rest.now) result self.new.is_bad self.new.rest.now }
+    {
         if self.passes(b"DIMENSION") {
             return Ok(Stmt::Dimension(self.arrays(alloc)?));
         }
@@ -74,7 +97,10 @@ impl<'a> Reader<'a> {
     }
 
     /// An executable statement, by its keyword.
-    fn executable(&mut self, alloc: Global) -> Result<Stmt, ReadEnd> {
+    #[tactic(auto, unfolding(crate::specs::KeptForms::executable_kept))]
+    fn executable(&mut self, alloc: Global) -> Result<Stmt, ReadEnd>
+        ensures { Gives (executable_kept self.old.is_bad self.old.rest.now) result self.new.is_bad self.new.rest.now }
+    {
         if self.passes(b"ENDIF") {
             return Ok(Stmt::EndIf);
         }

@@ -1,6 +1,6 @@
 //! A reader of the text of one statement. It never goes back, and nothing is read twice.
 
-ghost use Rattle.std.specs.Prelude.{◌≡◌, ◌≤◌, ◌<◌, ◌+◌, ◌-◌, ◌||◌, ◌&&◌, ◌^◌, not, nat_le, nat_lt, length, [], drop, take_while, codes, true, false, Some, None, MatchBool};
+ghost use Rattle.std.specs.Prelude.{◌≡◌, ◌≤◌, ◌<◌, ◌+◌, ◌-◌, ◌||◌, ◌&&◌, ◌^◌, not, nat_le, nat_lt, length, [], drop, take_while, codes, true, false, Some, None, MatchBool, IfOk};
 ghost use Rattle.f77_tree.specs.Name.{is_figure};
 ghost use Rattle.f77_expr.specs.Reader.{after_front};
 ghost use Rattle.f77_parse.specs.Parts.{behind_comma};
@@ -95,7 +95,7 @@ impl<'a> Reader<'a> {
     pub(crate) fn passes(&mut self, front: &[u8]) -> bool
         ensures rest { Passes (after_front front.now self.old.rest.now) result self.old.rest.now self.new.rest.now }
         ensures same { self.new.is_bad ≡ self.old.is_bad }
-        ensures shorter { length self.new.rest.now ≤ length self.old.rest.now }
+        ensures shorter { MatchBool result (length self.new.rest.now + length front.now ≤ length self.old.rest.now) (length self.new.rest.now ≤ length self.old.rest.now) }
     {
         match behind_front(self.rest, front) {
             Some(rest) => {
@@ -121,7 +121,7 @@ impl<'a> Reader<'a> {
     #[tactic(auto, unfolding(crate::specs::Keeping::wanted))]
     pub(crate) fn wants(&mut self, front: &[u8]) -> Result<(), ReadEnd>
         ensures gives { Gives (wanted front.now self.old.is_bad self.old.rest.now) result self.new.is_bad self.new.rest.now }
-        ensures shorter { length self.new.rest.now ≤ length self.old.rest.now }
+        ensures shorter { IfOk result (λ found. length self.new.rest.now + length front.now ≤ length self.old.rest.now) }
     {
         if self.passes(front) {
             Ok(())
