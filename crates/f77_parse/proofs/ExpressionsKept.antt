@@ -1,9 +1,13 @@
 -- Expressions that are kept, by the piece that is one.
-use Rattle.std.proofs.Common.{◌≡◌, ℕ, ◌<◌, ◌≤◌, ◌||◌, Bool, true, false, List, [], ◌∷◌, ◌++◌, length, drop, Some, None, if◌then◌else◌, refl, sym, ap, subst, ◌∙◌, arith, length-append}
+use Rattle.std.proofs.Common.{◌≡◌, ℕ, ◌<◌, ◌≤◌, ◌||◌, Bool, true, false, List, [], ◌∷◌, ◌++◌, length, drop, Some, None, Result, Err, if◌then◌else◌, refl, sym, ap, subst, ◌∙◌, arith, length-append}
 use Rattle.f77_tree.specs.declared.statements.RawExpr.{RawExpr}
 use Rattle.f77_tree.specs.Grammar.{Written, IsWritten, IsGrammatical, spelling, has_great_number}
 use Rattle.f77_expr.specs.Piece.{nothing_open, piece}
-use Rattle.f77_expr.specs.Parsing.{IsReadWhole}
+use Rattle.f77_expr.specs.Parsing.{IsReadWhole, IsPieceRead}
+use Rattle.f77_expr.specs.declared.parsed.ReadEnd.{ReadEnd}
+use Rattle.f77_expr.specs.declared.parsed.ReadEnd.TheVariants.{NoForm, NoMemory}
+use Rattle.f77_expr.specs.declared.parsed.ReadExpr.{ReadExpr}
+use Rattle.f77_parse.specs.Answers.{Gives}
 use Rattle.f77_expr.specs.Answers.{kept}
 use Rattle.f77_expr.specs.Reader.{Reads, and_then_read, expression_at}
 use Rattle.f77_expr.proofs.EachRead.{Each, each_at, if_true}
@@ -55,6 +59,15 @@ expression_none bad text none = here (expression_in_front text) refl
         let is = each_at (λ w rest. IsGrammatical w × (spelling w ++ rest ≡ text) × (ends_expression rest ≡ true)) (expression_in_front text) (expression_sound text) w rest e in
         let front : piece text ≡ spelling w = ap piece (sym is.1) ∙ piece_spelled w rest is.0 (follower_ends rest (follows_from rest is.2)) in
         absurd (none w (record { grammatical = is.0; is = sym front }))
+
+-- an error
+pub piece_failed : (text again : List ℕ) → text ≡ again → (from : ℕ) (bad bad_now : Bool) (rest : List ℕ) (part : Result ReadExpr ReadEnd) (whole : Result RawExpr ReadEnd) (e : ReadEnd) → part ≡ Err e → whole ≡ Err e → IsPieceRead (piece again) from part → Gives (expression_kept bad text) whole bad_now rest
+piece_failed text again same from bad bad_now rest part whole e part_is whole_is h =
+    subst (λ (r : Result RawExpr ReadEnd). Gives (expression_kept bad text) r bad_now rest) (sym whole_is) (by e (subst (λ (r : Result ReadExpr ReadEnd). IsPieceRead (piece again) from r) part_is h))
+  where
+    by : (end : ReadEnd) → IsPieceRead (piece again) from (Err end) → Gives (expression_kept bad text) (Err end) bad_now rest
+    by NoForm none = expression_none bad text (λ w is. none w (subst (λ (t : List ℕ). IsWritten (piece t) w) same is))
+    by NoMemory free = tt
 
 -- the piece that is an expression isn't empty
 unfolding_shorter : (text : List ℕ) (w : Written) (rest : List ℕ) → expression_at 0 text ≡ Some (w, rest) → length rest < length text

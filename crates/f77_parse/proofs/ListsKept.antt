@@ -9,6 +9,7 @@ pub record IsBegun {V : Type 0} (item : Bool → List ℕ → Keeps V) (before :
   pub enough : length rest ≤ fuel
   pub goes_on : total ≡ kept_next (kept_onto fuel item) list bad rest (behind_comma rest)
   pub room : length list + length rest ≤ length before + length text
+  pub shorter : length rest < length text
 
 module _ {V : Type 0} (item : Bool → List ℕ → Keeps V) where
   grown : (list : List V) (v : V) → length (list ++ v ∷ []) ≡ suc (length list)
@@ -27,6 +28,7 @@ module _ {V : Type 0} (item : Bool → List ℕ → Keeps V) where
         enough = omega arith;
         goes_on = ap (λ x. keep_then x (λ v bad_now rest. kept_next (kept_onto (length text) item) (before ++ v ∷ []) bad_now rest (behind_comma rest))) some;
         room = omega arith;
+        shorter = less;
       }
 
   module _ (before : List V) (text : List ℕ) (total : Keeps (List V)) (list : List V) (bad : Bool) (rest : List ℕ) (begun : IsBegun item before text total list bad rest) where
@@ -48,11 +50,13 @@ module _ {V : Type 0} (item : Bool → List ℕ → Keeps V) where
     more (suc n) next v bad_now later is less enough some shorter =
         let longer = grown list v in
         let room = begun.room in
+        let before_less = begun.shorter in
         record {
           fuel = n;
           enough = omega arith;
           goes_on = is ∙ ap (λ x. keep_then x (λ v bad_now more. kept_next (kept_onto n item) (list ++ v ∷ []) bad_now more (behind_comma more))) some;
           room = omega arith;
+          shorter = omega arith;
         }
 
     pub next_item : (next : List ℕ) (v : V) (bad_now : Bool) (later : List ℕ) → behind_comma rest ≡ Some next → length next < length rest → item bad next ≡ Some (v, bad_now, later) → length later < length next → IsBegun item before text total (list ++ v ∷ []) bad_now later
