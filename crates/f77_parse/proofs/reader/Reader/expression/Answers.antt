@@ -21,7 +21,28 @@ skip-requires c =
     omega arith
 
 pub returns-clause-gives : goal.returns-clause-gives
-returns-clause-gives c = ?
+returns-clause-gives c =
+    let text = c.args.self.now.rest.now in
+    let e = c.in_ok-read.read.expr in
+    let great = c.in_ok-read.read.has_great_constant in
+    let end : text ≡ drop (c.len.result - length text) c.args.self.now.text.now = search rules in
+    let next : c.in_ok-read.read.next ≡ (c.len.result - length text) + length (piece (drop (c.len.result - length text) c.args.self.now.text.now)) = c.in_ok-read.ensures.1 in
+    let same = ap (λ (t : List ℕ). length (piece t)) end in
+    let count : c.in_ok-read.read.next - (c.len.result - length text) ≡ length (piece text) = omega arith in
+    let is = subst (λ (t : List ℕ). IsReadWhole (piece t) e great) (sym end) c.in_ok-read.ensures.0 in
+    let bad : c.tell.new.self.is_bad ≡ (c.args.self.now.is_bad || great) = search rules in
+    expression_there c.args.self.now.is_bad text e great c.tell.new.self.rest.now c.tell.new.self.is_bad is (c.tell.ensures.rest ∙ c.skip.ensures.rest ∙ ap (λ (n : ℕ). drop n text) count) bad
 
 pub returns-clause-shorter : goal.returns-clause-shorter
-returns-clause-shorter c = ?
+returns-clause-shorter c =
+    let text = c.args.self.now.rest.now in
+    let e = c.in_ok-read.read.expr in
+    let great = c.in_ok-read.read.has_great_constant in
+    let end : text ≡ drop (c.len.result - length text) c.args.self.now.text.now = search rules in
+    let next : c.in_ok-read.read.next ≡ (c.len.result - length text) + length (piece (drop (c.len.result - length text) c.args.self.now.text.now)) = c.in_ok-read.ensures.1 in
+    let same = ap (λ (t : List ℕ). length (piece t)) end in
+    let count : c.in_ok-read.read.next - (c.len.result - length text) ≡ length (piece text) = omega arith in
+    let is = subst (λ (t : List ℕ). IsReadWhole (piece t) e great) (sym end) c.in_ok-read.ensures.0 in
+    let less = piece_some text e great is in
+    let rest : length c.tell.new.self.rest.now ≡ length (drop (length (piece text)) text) = ap length (c.tell.ensures.rest ∙ c.skip.ensures.rest ∙ ap (λ (n : ℕ). drop n text) count) in
+    omega arith
