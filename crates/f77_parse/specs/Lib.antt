@@ -4,3 +4,4 @@ pub mod Forms
 pub mod Keeping
 pub mod KeptForms
 pub mod Parts
+pub mod Scanning

@@ -1,7 +1,8 @@
 //! Parts of declarations (ANSI X3.9-1978, sections 5, 8 and 9).
 
 ghost use Rattle.std.specs.Prelude.{◌≡◌, ◌≤◌, ◌<◌, ◌+◌, length, IfOk};
-ghost use Rattle.f77_parse.specs.Keeping.{kept_list, kept_behind, kept_parts, dim_kept, decl_kept, arrays_kept, range_kept, kind_kept, letters_kept, kept_ranges, block_kept, block_and_decls, first_part_kept, part_kept, member_kept, group_kept, init_part_kept, next_init_part_kept};
+ghost use Rattle.std.specs.List.{list_all};
+ghost use Rattle.f77_parse.specs.Keeping.{is_array, kept_list, kept_behind, kept_parts, dim_kept, decl_kept, arrays_kept, range_kept, kind_kept, letters_kept, kept_ranges, block_kept, block_and_decls, first_part_kept, part_kept, member_kept, group_kept, init_part_kept, next_init_part_kept};
 ghost use Rattle.f77_parse.specs.Answers.{Gives, Shortens};
 
 use crate::reader::Reader;
@@ -88,7 +89,7 @@ impl<'a> Reader<'a> {
         ensures shorter { Shortens result self.old.rest.now self.new.rest.now }
     {
         let decls = self.decls(alloc)?;
-        if decls.as_slice().iter().all(|decl| !decl.dims.is_empty()) {
+        if are_arrays(decls.as_slice()) {
             Ok(decls)
         } else {
             Err(ReadEnd::NoForm)
@@ -326,4 +327,11 @@ impl<'a> Reader<'a> {
         }
         Ok(list)
     }
+}
+
+/// Whether each declarator has dimensions.
+fn are_arrays(decls: &[Decl]) -> bool
+    ensures { result ≡ list_all is_array decls.now }
+{
+    decls.iter().all(|decl| 0 < decl.dims.len())
 }

@@ -1,5 +1,10 @@
 //! What stands outside brackets and character constants, and how deep brackets are.
 
+ghost use Rattle.std.specs.Prelude.{◌≡◌, ◌<◌, ◌&&◌, ◌||◌, ◌==◌, not, max};
+ghost use Rattle.f77_expr.specs.Piece.{bracket_depth, open_after as spec_open_after};
+ghost use Rattle.f77_parse.specs.Forms.{stands_free as spec_stands_free};
+ghost use Rattle.f77_parse.specs.Scanning.{is_open};
+
 /// What is open where a scan stands: a character constant or none, and how many brackets.
 #[derive(Clone, Copy)]
 struct Open {
@@ -19,7 +24,10 @@ pub(crate) struct Marks {
 }
 
 /// What is open after a character. A closing bracket where none is open changes nothing.
-fn open_after(state: Open, c: u8) -> Open {
+fn open_after(state: Open, c: u8) -> Open
+    requires { state.brackets < 18446744073709551615 }
+    ensures { is_open result ≡ spec_open_after (is_open state) c }
+{
     if c == b'\'' {
         return Open {
             is_quoted: !state.is_quoted,
@@ -40,13 +48,34 @@ fn open_after(state: Open, c: u8) -> Open {
     }
 }
 
-/// Whether nothing is open.
-fn is_free(state: Open) -> bool {
-    !state.is_quoted && state.brackets == 0
+/// Whether a character is this one, where nothing is open.
+fn stands_free(state: Open, c: u8, wanted: u8) -> bool
+    ensures { result ≡ ((c == wanted) && not state.is_quoted && (state.brackets == 0)) }
+{
+    c == wanted && !state.is_quoted && state.brackets == 0
+}
+
+/// What is told after a character, where `state` is what is open before it, and `next` after it.
+fn marks_after(marks: Marks, state: Open, next: Open, c: u8) -> Marks
+    ensures depth { result.depth ≡ max marks.depth next.brackets }
+    ensures equals { result.has_equals ≡ (marks.has_equals || ((c == 61) && not state.is_quoted && (state.brackets == 0))) }
+    ensures comma { result.has_comma ≡ (marks.has_comma || ((c == 44) && not state.is_quoted && (state.brackets == 0))) }
+{
+    let is_equals = stands_free(state, c, b'=');
+    let is_comma = stands_free(state, c, b',');
+    Marks {
+        depth: marks.depth.max(next.brackets),
+        has_equals: marks.has_equals || is_equals,
+        has_comma: marks.has_comma || is_comma,
+    }
 }
 
 /// What one scan of a text tells.
-pub(crate) fn marks_of(text: &[u8]) -> Marks {
+pub(crate) fn marks_of(text: &[u8]) -> Marks
+    ensures depth { result.depth ≡ bracket_depth text.now }
+    ensures equals { result.has_equals ≡ spec_stands_free 61 text.now }
+    ensures comma { result.has_comma ≡ spec_stands_free 44 text.now }
+{
     let mut state = Open {
         is_quoted: false,
         brackets: 0,
@@ -57,13 +86,9 @@ pub(crate) fn marks_of(text: &[u8]) -> Marks {
         has_comma: false,
     };
     for c in text {
-        let is_free = is_free(state);
-        state = open_after(state, *c);
-        marks = Marks {
-            depth: marks.depth.max(state.brackets),
-            has_equals: marks.has_equals || (is_free && *c == b'='),
-            has_comma: marks.has_comma || (is_free && *c == b','),
-        };
+        let next = open_after(state, *c);
+        marks = marks_after(marks, state, next, *c);
+        state = next;
     }
     marks
 }
