@@ -3,5 +3,6 @@ pub mod Answers
 pub mod Forms
 pub mod Keeping
 pub mod KeptForms
+pub mod Parsing
 pub mod Parts
 pub mod Scanning

@@ -1,3 +1,5 @@
+ghost use Rattle.f77_parse.specs.Parsing.{IsParsed};
+
 use crate::StmtEnd;
 use crate::reader::Reader;
 use crate::scan::marks_of;
@@ -17,7 +19,9 @@ const DEEPEST: usize = 60;
 /// Each tells the statement's line. The first of these that holds: TooDeep where more than 60 brackets are open at some
 /// place, NoForm where the text has the form of no statement, BadConstant where a constant in it is above 2147483647, a
 /// label isn't from 1 to 99999, or a repeat is 0. NoMemory may come in place of any answer but TooDeep.
-pub fn parse_stmt(alloc: Global, raw: &RawStmt) -> Result<Labelled, StmtEnd> {
+pub fn parse_stmt(alloc: Global, raw: &RawStmt) -> Result<Labelled, StmtEnd>
+    ensures { IsParsed raw.now result }
+{
     let marks = marks_of(raw.text.as_bytes());
     if marks.depth > DEEPEST {
         return Err(StmtEnd::TooDeep(raw.line));
@@ -26,11 +30,15 @@ pub fn parse_stmt(alloc: Global, raw: &RawStmt) -> Result<Labelled, StmtEnd> {
     match reader.statement(alloc, marks.has_equals, marks.has_comma) {
         Err(ReadEnd::NoForm) => Err(StmtEnd::NoForm(raw.line)),
         Err(ReadEnd::NoMemory) => Err(StmtEnd::NoMemory),
-        Ok(_) if reader.is_bad() => Err(StmtEnd::BadConstant(raw.line)),
-        Ok(stmt) => Ok(Labelled {
-            label: raw.label,
-            line: raw.line,
-            stmt,
-        }),
+        Ok(stmt) => {
+            if reader.is_bad() {
+                return Err(StmtEnd::BadConstant(raw.line));
+            }
+            Ok(Labelled {
+                label: raw.label,
+                line: raw.line,
+                stmt,
+            })
+        }
     }
 }
