@@ -25,3 +25,10 @@ pub mod PartMembers
 pub mod PartNumbers
 pub mod PartReaders
 pub mod PartSequences
+pub mod ListsKept
+pub mod ExpressionsKept
+pub mod Given
+pub mod Marks
+pub mod Agreement
+pub mod AgreeConstants
+pub mod StatementsKept

@@ -1,0 +1,78 @@
+use Rattle.std.proofs.Common.{◌≡◌, ◌<◌, Bool, List, ℕ, [], ◌∷◌, ◌++◌, length, Some, None, Err, rules, arith, sym, subst}
+use Rattle.f77_parse.specs.Parts.{behind_comma}
+use Rattle.f77_parse.specs.Keeping.{kept_behind, expression_kept}
+use Rattle.f77_parse.proofs.Given.{given_fails}
+use Rattle.f77_parse.proofs.ListsKept.{IsBegun, no_first, first_item, last_item, no_next, next_item}
+use Rattle.f77_parse.proofs.reader.Reader.expressions_behind.Goals as goal
+
+pub returns-in_err-expression-clause-gives : goal.returns-in_err-expression-clause-gives
+returns-in_err-expression-clause-gives c =
+    let text = c.args.self.now.rest.now in
+    let bad = c.args.self.now.is_bad in
+    let whole : c.from_residual.result ≡ Err c.in_err-expression.field-0.0 = search rules in
+    given_fails _ _ c.expression.result c.from_residual.result c.in_err-expression.field-0.0 _ _ _ _ c.in_err-expression.was whole c.expression.ensures.gives (λ none. no_first expression_kept c.args.list bad text none)
+
+pub loop-alloc-init : goal.loop-alloc-init
+loop-alloc-init c =
+    let text = c.args.self.now.rest.now in
+    let bad = c.args.self.now.is_bad in
+    let rest = c.expression.new.self.rest.now in
+    let bad_now = c.expression.new.self.is_bad in
+    let some : expression_kept bad text ≡ Some (c.in_ok-expression.field-0, bad_now, rest) = search rules in
+    let less : length rest < length text = search rules in
+    let made : c.push.new.self ≡ c.args.list ++ c.in_ok-expression.field-0 ∷ [] = search rules in
+    subst (λ (list : List _). IsBegun expression_kept c.args.list text (kept_behind expression_kept c.args.list bad text) list bad_now rest) (sym made) (first_item expression_kept c.args.list bad text c.in_ok-expression.field-0 bad_now rest some less)
+
+pub returns-in_err-expression-2-clause-gives : goal.returns-in_err-expression-2-clause-gives
+returns-in_err-expression-2-clause-gives c =
+    let begun = c.loop-alloc.invariant in
+    let next = c.passes_comma.new.self.rest.now in
+    let comma : behind_comma c.loop-alloc.self.rest.now ≡ Some next = search rules in
+    let same : c.passes_comma.new.self.is_bad ≡ c.loop-alloc.self.is_bad = search rules in
+    let whole : c.from_residual-in_err-expression-2.result ≡ Err c.in_err-expression-2.field-0.0 = search rules in
+    given_fails _ _ c.expression-in-loop-alloc.result c.from_residual-in_err-expression-2.result c.in_err-expression-2.field-0.0 _ _ _ _ c.in_err-expression-2.was whole c.expression-in-loop-alloc.ensures.gives
+    (λ none. no_next expression_kept _ _ _ _ _ _ begun next comma (subst (λ (b : Bool). expression_kept b next ≡ None) same none))
+
+pub push-requires-in-loop-alloc : goal.push-requires-in-loop-alloc
+push-requires-in-loop-alloc c =
+    let room = c.loop-alloc.invariant.room in
+    let less : length c.passes_comma.new.self.rest.now < length c.loop-alloc.self.rest.now = search rules in
+    let bound = c.args.self.now.room in
+    let whole = c.args.self.now.shorter in
+    omega arith
+
+pub loop-alloc-smaller : goal.loop-alloc-smaller
+loop-alloc-smaller c =
+    let less : length c.passes_comma.new.self.rest.now < length c.loop-alloc.self.rest.now = search rules in
+    let shorter : length c.expression-in-loop-alloc.new.self.rest.now < length c.passes_comma.new.self.rest.now = search rules in
+    let falls : length c.expression-in-loop-alloc.new.self.rest.now < length c.loop-alloc.self.rest.now = omega arith in
+    falls
+
+pub loop-alloc-preserved : goal.loop-alloc-preserved
+loop-alloc-preserved c =
+    let text = c.args.self.now.rest.now in
+    let begun = c.loop-alloc.invariant in
+    let next = c.passes_comma.new.self.rest.now in
+    let later = c.expression-in-loop-alloc.new.self.rest.now in
+    let bad_now = c.expression-in-loop-alloc.new.self.is_bad in
+    let comma : behind_comma c.loop-alloc.self.rest.now ≡ Some next = search rules in
+    let less : length next < length c.loop-alloc.self.rest.now = search rules in
+    let same : c.passes_comma.new.self.is_bad ≡ c.loop-alloc.self.is_bad = search rules in
+    let shorter : length later < length next = search rules in
+    let some : expression_kept c.passes_comma.new.self.is_bad next ≡ Some (c.in_ok-expression-2.field-0, bad_now, later) = search rules in
+    let made : c.push-in-loop-alloc.new.self ≡ c.loop-alloc.list ++ c.in_ok-expression-2.field-0 ∷ [] = search rules in
+    let there = subst (λ (b : Bool). expression_kept b next ≡ Some (c.in_ok-expression-2.field-0, bad_now, later)) same some in
+    subst (λ (list : List _). IsBegun expression_kept c.args.list text (kept_behind expression_kept c.args.list c.args.self.now.is_bad text) list bad_now later) (sym made) (next_item expression_kept _ _ _ _ _ _ begun next c.in_ok-expression-2.field-0 bad_now later comma less there shorter)
+
+pub returns-clause-gives : goal.returns-clause-gives
+returns-clause-gives c =
+    let begun = c.loop-alloc.invariant in
+    let none : behind_comma c.loop-alloc.self.rest.now ≡ None = search rules in
+    let ends : kept_behind expression_kept c.args.list c.args.self.now.is_bad c.args.self.now.rest.now ≡ Some (c.loop-alloc.list, c.loop-alloc.self.is_bad, c.loop-alloc.self.rest.now) = last_item expression_kept _ _ _ _ _ _ begun none in
+    search rules
+
+pub returns-clause-shorter : goal.returns-clause-shorter
+returns-clause-shorter c =
+    let less = c.loop-alloc.invariant.shorter in
+    let rest : length c.passes_comma.new.self.rest.now < length c.args.self.now.rest.now = search rules in
+    rest

@@ -1,0 +1,58 @@
+use Rattle.std.proofs.Common.{◌≡◌, ◌<◌, Bool, List, ℕ, [], ◌∷◌, ◌++◌, length, Some, None, Err, rules, arith, sym, subst}
+use Rattle.f77_parse.specs.Keeping.{kept_parts, init_part_kept, next_init_part_kept}
+use Rattle.f77_parse.proofs.Given.{given_fails}
+use Rattle.f77_parse.proofs.ListsKept.{IsFilled, no_first_part, first_part, parts_end, no_part, next_part}
+use Rattle.f77_parse.proofs.reader.Reader.init_parts.Goals as goal
+
+pub returns-in_err-init_part-clause-gives : goal.returns-in_err-init_part-clause-gives
+returns-in_err-init_part-clause-gives c =
+    let text = c.args.self.now.rest.now in
+    let bad = c.args.self.now.is_bad in
+    let whole : c.from_residual.result ≡ Err c.in_err-init_part.field-0.0 = search rules in
+    given_fails _ _ c.init_part.result c.from_residual.result c.in_err-init_part.field-0.0 _ _ _ _ c.in_err-init_part.was whole c.init_part.ensures.gives (λ none. no_first_part init_part_kept next_init_part_kept bad text none)
+
+pub loop-alloc-init : goal.loop-alloc-init
+loop-alloc-init c =
+    let text = c.args.self.now.rest.now in
+    let bad = c.args.self.now.is_bad in
+    let rest = c.init_part.new.self.rest.now in
+    let bad_now = c.init_part.new.self.is_bad in
+    let some : init_part_kept bad text ≡ Some (c.in_ok-init_part.field-0, bad_now, rest) = search rules in
+    let less : length rest < length text = search rules in
+    let made : c.push.new.self ≡ c.in_ok-init_part.field-0 ∷ [] = search rules in
+    subst (λ (list : List _). IsFilled next_init_part_kept text (kept_parts init_part_kept next_init_part_kept bad text) list bad_now rest) (sym made) (first_part init_part_kept next_init_part_kept bad text c.in_ok-init_part.field-0 bad_now rest some less)
+
+pub returns-in_err-next_init_part-clause-gives : goal.returns-in_err-next_init_part-clause-gives
+returns-in_err-next_init_part-clause-gives c =
+    let filled = c.loop-alloc.invariant in
+    let some : 0 < length c.loop-alloc.self.rest.now = search rules in
+    let whole : c.from_residual-in_err-next_init_part.result ≡ Err c.in_err-next_init_part.field-0.0 = search rules in
+    given_fails _ _ c.next_init_part.result c.from_residual-in_err-next_init_part.result c.in_err-next_init_part.field-0.0 _ _ _ _ c.in_err-next_init_part.was whole c.next_init_part.ensures.gives
+    (λ none. no_part next_init_part_kept _ _ _ _ _ filled none some)
+
+pub push-requires-in-loop-alloc : goal.push-requires-in-loop-alloc
+push-requires-in-loop-alloc c =
+    let room = c.loop-alloc.invariant.room in
+    let less : length c.next_init_part.new.self.rest.now < length c.loop-alloc.self.rest.now = search rules in
+    let bound = c.args.self.now.room in
+    let whole = c.args.self.now.shorter in
+    omega arith
+
+pub loop-alloc-preserved : goal.loop-alloc-preserved
+loop-alloc-preserved c =
+    let text = c.args.self.now.rest.now in
+    let filled = c.loop-alloc.invariant in
+    let later = c.next_init_part.new.self.rest.now in
+    let bad_now = c.next_init_part.new.self.is_bad in
+    let less : length later < length c.loop-alloc.self.rest.now = search rules in
+    let some : next_init_part_kept c.loop-alloc.self.is_bad c.loop-alloc.self.rest.now ≡ Some (c.in_ok-next_init_part.field-0, bad_now, later) = search rules in
+    let made : c.push-in-loop-alloc.new.self ≡ c.loop-alloc.list ++ c.in_ok-next_init_part.field-0 ∷ [] = search rules in
+    subst (λ (list : List _). IsFilled next_init_part_kept text (kept_parts init_part_kept next_init_part_kept c.args.self.now.is_bad text) list bad_now later) (sym made) (next_part next_init_part_kept _ _ _ _ _ filled c.in_ok-next_init_part.field-0 bad_now later some less)
+
+pub returns-clause-gives : goal.returns-clause-gives
+returns-clause-gives c =
+    let none : c.loop-alloc.self.rest.now ≡ [] = search rules in
+    parts_end next_init_part_kept _ _ _ _ _ c.loop-alloc.invariant none
+
+pub returns-clause-shorter : goal.returns-clause-shorter
+returns-clause-shorter c = c.loop-alloc.invariant.shorter
