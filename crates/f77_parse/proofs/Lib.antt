@@ -27,3 +27,4 @@ pub mod PartReaders
 pub mod PartSequences
 pub mod ListsKept
 pub mod ExpressionsKept
+pub mod FollowWanted
