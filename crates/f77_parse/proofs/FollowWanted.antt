@@ -1,0 +1,72 @@
+-- What each kept reader of parts keeps: statements, until they are proved in files of their topics.
+use Rattle.std.proofs.Common.{◌≡◌, ℕ, Bool, true, false, List, [], ◌∷◌, ◌++◌, length, map, Option, Some, None, ◌||◌, ◌==◌}
+use Rattle.std.specs.Prelude.{flat_map, nat_lt, min}
+use Rattle.std.specs.List.{list_any}
+use Rattle.f77_tree.specs.Grammar.{Written, reading, has_great_number, number_of}
+use Rattle.f77_tree.specs.declared.declarations.Kind.{Kind}
+use Rattle.f77_tree.specs.StatementGrammar.{whole_number, is_great, are_great, is_bad_label, dim_of, dim_numbers, decl_of, decl_numbers, last_of, letters_of, block_of, part_of, member_of, constant_of, constant_is_great, value_of, value_is_bad, data_of, item_of, item_is_great}
+use Rattle.f77_tree.specs.StatementGrammar
+use Rattle.f77_expr.specs.Reader.{Reads, read_as, and_then_read}
+use Rattle.f77_parse.specs.Parts.{number_at, name_at, letter_at, signed_at, truth_at, constant_at, value_at, dim_at, decl_at, range_at, kind_at, letters_at, block_at, first_part_at, part_at, member_at, group_at, data_behind, data_at, variable_at, characters_behind, characters_at, item_at, expression_in_front, list_at, parts_to_end, where_it}
+use Rattle.f77_tree.specs.StatementGrammar.{has_dims}
+use Rattle.std.specs.List.{list_all}
+use Rattle.f77_parse.specs.Keeping.{Keeps, name_kept, letter_kept, label_kept, signed_kept, truth_kept, constant_kept, value_kept, dim_kept, decl_kept, arrays_kept, range_kept, kind_kept, kept_ranges, block_kept, first_part_kept, part_kept, member_kept, group_kept, init_part_kept, next_init_part_kept, variable_kept, characters_kept, character_constant_kept, item_kept, expression_kept, kept_list, kept_behind, kept_parts, keep_then}
+use Rattle.f77_parse.specs.Following.{Follows}
+
+nothing_bad : {A : Type 0} → A → Bool
+nothing_bad a = false
+
+module _ {A V : Type 0} (value : A → V) (is_bad : A → Bool) (item : List ℕ → Reads A) (kept_item : Bool → List ℕ → Keeps V) (follows : (bad : Bool) (text : List ℕ) → Follows value is_bad bad (item text) (kept_item bad text)) where
+  pub list_keeps : (bad : Bool) (text : List ℕ) → Follows (map value) (list_any is_bad) bad (list_at item text) (kept_list kept_item bad text)
+  list_keeps bad text = ?
+
+  pub behind_keeps : (list : List V) (bad : Bool) (text : List ℕ) → Follows (λ items. list ++ map value items) (list_any is_bad) bad (list_at item text) (kept_behind kept_item list bad text)
+  behind_keeps list bad text = ?
+
+  pub parts_keep : (first : List ℕ → Reads A) (kept_first : Bool → List ℕ → Keeps V) → ((bad : Bool) (text : List ℕ) → Follows value is_bad bad (first text) (kept_first bad text)) → (bad : Bool) (text : List ℕ) → Follows (map value) (list_any is_bad) bad (and_then_read (λ a rest. read_as (λ others. a ∷ others) (parts_to_end (length rest) item rest)) (first text)) (kept_parts kept_first kept_item bad text)
+  parts_keep first kept_first follows_first bad text = ?
+
+pub name_keeps : (bad : Bool) (text : List ℕ) → Follows (λ (name : List ℕ). name) (λ (name : List ℕ). false) bad (name_at text) (name_kept bad text)
+name_keeps bad text = ?
+
+pub letter_keeps : (bad : Bool) (text : List ℕ) → Follows (λ (c : ℕ). c) (λ (c : ℕ). false) bad (letter_at text) (letter_kept bad text)
+letter_keeps bad text = ?
+
+pub expression_keeps : (bad : Bool) (text : List ℕ) → Follows reading has_great_number bad (expression_in_front text) (expression_kept bad text)
+expression_keeps bad text = ?
+
+pub label_keeps : (bad : Bool) (text : List ℕ) → Follows number_of is_bad_label bad (number_at text) (label_kept bad text)
+label_keeps bad text = ?
+
+pub decl_keeps : (bad : Bool) (text : List ℕ) → Follows decl_of (λ decl. are_great (decl_numbers decl)) bad (decl_at text) (decl_kept bad text)
+decl_keeps bad text = ?
+
+pub arrays_keep : (bad : Bool) (text : List ℕ) → Follows (map decl_of) (list_any (λ decl. are_great (decl_numbers decl))) bad (where_it (λ decls. list_all has_dims decls) (list_at decl_at text)) (arrays_kept bad text)
+arrays_keep bad text = ?
+
+pub ranges_keep : (bad : Bool) (text : List ℕ) → Follows (flat_map letters_of) (λ letters. false) bad (list_at letters_at text) (kept_ranges bad text)
+ranges_keep bad text = ?
+
+pub first_part_keeps : (bad : Bool) (text : List ℕ) → Follows part_of (λ part. list_any (λ decl. are_great (decl_numbers decl)) part.decls) bad (first_part_at text) (first_part_kept bad text)
+first_part_keeps bad text = ?
+
+pub part_keeps : (bad : Bool) (text : List ℕ) → Follows part_of (λ part. list_any (λ decl. are_great (decl_numbers decl)) part.decls) bad (part_at text) (part_kept bad text)
+part_keeps bad text = ?
+
+pub group_keeps : (bad : Bool) (text : List ℕ) → Follows (map member_of) (list_any (λ member. are_great member.subs)) bad (group_at text) (group_kept bad text)
+group_keeps bad text = ?
+
+pub data_keeps : (bad : Bool) (text : List ℕ) → Follows data_of (λ data'. list_any (λ member. are_great member.subs) data'.items || list_any value_is_bad data'.values) bad (data_behind false text) (init_part_kept bad text)
+data_keeps bad text = ?
+
+pub next_data_keeps : (bad : Bool) (text : List ℕ) → Follows data_of (λ data'. list_any (λ member. are_great member.subs) data'.items || list_any value_is_bad data'.values) bad (data_at text) (next_init_part_kept bad text)
+next_data_keeps bad text = ?
+
+pub variable_keeps : (bad : Bool) (text : List ℕ) → Follows reading has_great_number bad (variable_at text) (variable_kept bad text)
+variable_keeps bad text = ?
+
+pub character_constant_keeps : (bad : Bool) (text : List ℕ) → Follows (λ (characters : List ℕ). characters) (λ (characters : List ℕ). false) bad (characters_at text) (character_constant_kept bad text)
+character_constant_keeps bad text = ?
+
+pub item_keeps : (bad : Bool) (text : List ℕ) → Follows item_of item_is_great bad (item_at text) (item_kept bad text)
+item_keeps bad text = ?
