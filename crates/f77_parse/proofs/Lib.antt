@@ -29,3 +29,4 @@ pub mod ListsKept
 pub mod ExpressionsKept
 pub mod FollowForms
 pub mod FollowWanted
+pub mod FollowFormsAssigned
