@@ -30,3 +30,4 @@ pub mod ExpressionsKept
 pub mod FollowForms
 pub mod FollowWanted
 pub mod FollowFormsAssigned
+pub mod FollowFormsDo
