@@ -31,3 +31,4 @@ pub mod FollowForms
 pub mod FollowWanted
 pub mod FollowFormsAssigned
 pub mod FollowFormsDo
+pub mod FollowFormsEquals
