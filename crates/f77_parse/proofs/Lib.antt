@@ -32,3 +32,4 @@ pub mod FollowWanted
 pub mod FollowFormsAssigned
 pub mod FollowFormsDo
 pub mod FollowFormsEquals
+pub mod FollowFormsSimple
