@@ -33,3 +33,4 @@ pub mod FollowFormsAssigned
 pub mod FollowFormsDo
 pub mod FollowFormsEquals
 pub mod FollowFormsSimple
+pub mod FollowFormsIf
