@@ -34,3 +34,5 @@ pub mod FollowFormsDo
 pub mod FollowFormsEquals
 pub mod FollowFormsSimple
 pub mod FollowFormsIf
+pub mod FollowFormsDeclared
+pub mod FollowFormsWhole
