@@ -28,3 +28,4 @@ pub mod PartSequences
 pub mod ListsKept
 pub mod ExpressionsKept
 pub mod FollowWanted
+pub mod FollowLemmas
