@@ -2,6 +2,7 @@
 use Rattle.std.proofs.Common.{◌≡◌, ℕ, Bool, true, false, ◌||◌, List, Option, Some, None, if◌then◌else◌, refl, sym, ap, subst, ◌∙◌}
 use Rattle.std.specs.Prelude.{not}
 use Rattle.f77_expr.specs.Reader.{Reads, read_as, and_then_read, after_front}
+use Rattle.f77_expr.proofs.EachRead.{Each}
 use Rattle.f77_parse.specs.Parts.{behind, after, then_front, where_it}
 use Rattle.f77_parse.specs.Keeping.{Keeps, keep_then, where_front, kept_plain, wanted}
 use Rattle.f77_parse.specs.Following.{Follows}
@@ -62,6 +63,13 @@ module _ {A B V W : Type 0} (R : A → V → Bool → Type 0) (Q : B → W → B
   alike_as f g (Some (a, rest)) None h next = absurd h
   alike_as f g (Some (a, rest)) (Some (v, bad, end)) h next = (h.0, next a v bad h.1)
 
+  -- the flag goes up where what was kept is out of range
+  pub alike_flagged : (f : A → B) (g : V → W) (is_out : V → Bool) (x : Reads A) (k : Keeps V) → Alike R x k → ((a : A) (v : V) (bad : Bool) → R a v bad → Q (f a) (g v) (bad || is_out v)) → Alike Q (read_as f x) (keep_then k (λ v bad rest. Some (g v, bad || is_out v, rest)))
+  alike_flagged f g is_out None None h next = tt
+  alike_flagged f g is_out None (Some (v, bad, end)) h next = absurd h
+  alike_flagged f g is_out (Some (a, rest)) None h next = absurd h
+  alike_flagged f g is_out (Some (a, rest)) (Some (v, bad, end)) h next = (h.0, next a v bad h.1)
+
   -- what passed a test, where another test fails alike
   pub alike_unless : (test : A → Bool) (fails : V → Bool) (f : A → B) (g : V → W) (x : Reads A) (k : Keeps V) → Alike R x k → ((a : A) (v : V) (bad : Bool) → R a v bad → fails v ≡ not (test a)) → ((a : A) (v : V) (bad : Bool) → R a v bad → Q (f a) (g v) bad) → Alike Q (read_as f (where_it test x)) (keep_then k (λ v bad rest. if fails v then None else Some (g v, bad, rest)))
   alike_unless test fails f g None None h same next = tt
@@ -95,6 +103,18 @@ module _ {A B V : Type 0} (R : A → V → Bool → Type 0) (Q : B → V → Boo
   alike_read_as f (Some (a, rest)) None h next = absurd h
   alike_read_as f (Some (a, rest)) (Some (v, bad, end)) h next = (h.0, next a v bad h.1)
 
+module _ {A V : Type 0} (R : A → V → Bool → Type 0) where
+  pub alike_same : (x : Reads A) (k : Keeps V) → Alike R (read_as (λ a. a) x) k → Alike R x k
+  alike_same None k h = h
+  alike_same (Some (a, rest)) k h = h
+
+  -- what is known of each answer of the reader
+  pub alike_with : (P : A → Type 0) (x : Reads A) (k : Keeps V) → Each (λ a rest. P a) x → Alike R x k → Alike (λ a v bad. P a × R a v bad) x k
+  alike_with P None None each h = tt
+  alike_with P None (Some (v, bad, end)) each h = absurd h
+  alike_with P (Some (a, rest)) None each h = absurd h
+  alike_with P (Some (a, rest)) (Some (v, bad, end)) each h = (h.0, (each, h.1))
+
 module _ {A V : Type 0} (R Q : A → V → Bool → Type 0) where
   pub alike_weaker : (x : Reads A) (k : Keeps V) → Alike R x k → ((a : A) (v : V) (bad : Bool) → R a v bad → Q a v bad) → Alike Q x k
   alike_weaker None None h next = tt
@@ -110,14 +130,18 @@ module _ {B W : Type 0} (Q : B → W → Bool → Type 0) where
   alike_front reads there others None here else_here = else_here refl
   alike_front reads there others (Some rest) here else_here = here rest refl
 
+  -- a front that has to stand there
+  pub alike_needed : (reads : Option (List ℕ) → Reads B) (more : Unit → Bool → List ℕ → Keeps W) (front : List ℕ) (bad : Bool) (text : List ℕ) → Alike Q (reads None) None → ((rest : List ℕ) → after_front front text ≡ Some rest → Alike Q (reads (Some rest)) (more tt bad rest)) → Alike Q (reads (after_front front text)) (keep_then (wanted front bad text) more)
+  unfolding wanted
+  alike_needed reads more front bad text none here = by (after_front front text) here
+    where
+      by : (o : Option (List ℕ)) → ((rest : List ℕ) → o ≡ Some rest → Alike Q (reads (Some rest)) (more tt bad rest)) → Alike Q (reads o) (keep_then (where_front o (λ rest. Some (tt, bad, rest)) None) more)
+      by None k = none
+      by (Some rest) k = k rest refl
+
   -- behind a front that has to stand there
   pub alike_wanted : (go : List ℕ → Reads B) (more : Unit → Bool → List ℕ → Keeps W) (front : List ℕ) (bad : Bool) (text : List ℕ) → ((rest : List ℕ) → after_front front text ≡ Some rest → Alike Q (go rest) (more tt bad rest)) → Alike Q (after front go text) (keep_then (wanted front bad text) more)
-  unfolding wanted
-  alike_wanted go more front bad text here = by (after_front front text) here
-    where
-      by : (o : Option (List ℕ)) → ((rest : List ℕ) → o ≡ Some rest → Alike Q (go rest) (more tt bad rest)) → Alike Q (behind go o) (keep_then (where_front o (λ rest. Some (tt, bad, rest)) None) more)
-      by None k = tt
-      by (Some rest) k = k rest refl
+  alike_wanted go more front bad text here = alike_needed (λ o. behind go o) more front bad text tt here
 
   pub alike_if : (b c : Bool) (x y : Reads B) (k l : Keeps W) → c ≡ b → (b ≡ true → Alike Q x k) → (b ≡ false → Alike Q y l) → Alike Q (if b then x else y) (if c then k else l)
   alike_if true true x y k l e then_each else_each = then_each refl

@@ -29,3 +29,5 @@ pub mod ListsKept
 pub mod ExpressionsKept
 pub mod FollowWanted
 pub mod FollowLemmas
+pub mod FollowLists
+pub mod FollowNumbers
