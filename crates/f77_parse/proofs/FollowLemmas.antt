@@ -1,6 +1,7 @@
 -- What is kept beside what is read: readers one behind another whose answers are alike.
 use Rattle.std.proofs.Common.{◌≡◌, ℕ, Bool, true, false, ◌||◌, List, Option, Some, None, if◌then◌else◌, refl, sym, ap, subst, ◌∙◌}
 use Rattle.std.specs.Prelude.{not}
+use Rattle.std.proofs.Math.Bool.{or_assoc}
 use Rattle.f77_expr.specs.Reader.{Reads, read_as, and_then_read, after_front}
 use Rattle.f77_expr.proofs.EachRead.{Each}
 use Rattle.f77_parse.specs.Parts.{behind, after, then_front, where_it}
@@ -30,6 +31,14 @@ pub record Told {A V : Type 0} (value : A → V) (is_bad : A → Bool) (also : A
 pub or_none : (b : Bool) → (b || false) ≡ b
 or_none true = refl
 or_none false = refl
+
+-- the flag behind two parts
+pub flag_two : (bad bad_now bad_then first last : Bool) → bad_now ≡ (bad || first) → bad_then ≡ (bad_now || last) → bad_then ≡ (bad || (first || last))
+flag_two bad bad_now bad_then first last e f = f ∙ ap (λ (b : Bool). b || last) e ∙ or_assoc bad first last
+
+-- the flag behind a part that has no numbers
+pub flag_last : (bad bad_now bad_then last : Bool) → bad_now ≡ (bad || false) → bad_then ≡ (bad_now || last) → bad_then ≡ (bad || last)
+flag_last bad bad_now bad_then last e f = f ∙ ap (λ (b : Bool). b || last) (e ∙ or_none bad)
 
 module _ {A V : Type 0} (value : A → V) (is_bad : A → Bool) where
   pub follows_alike : (bad : Bool) (x : Reads A) (k : Keeps V) → Follows value is_bad bad x k → Alike (Told value is_bad Nothing bad) x k

@@ -89,7 +89,7 @@ label_keeps bad text = alike_follows number_of is_bad_label Nothing bad (number_
 
 -- ---- signed numbers
 
-abbrev IsSigned : Bool → SignedDigits → ℤ → Bool → Type 0
+abbrev pub IsSigned : Bool → SignedDigits → ℤ → Bool → Type 0
 IsSigned bad = Told whole_number (λ n. is_great n.digits) Nothing bad
 
 -- a sign in front of digits

@@ -16,21 +16,6 @@ use Rattle.f77_parse.specs.Following.{Follows}
 nothing_bad : {A : Type 0} → A → Bool
 nothing_bad a = false
 
-pub name_keeps : (bad : Bool) (text : List ℕ) → Follows (λ (name : List ℕ). name) (λ (name : List ℕ). false) bad (name_at text) (name_kept bad text)
-name_keeps bad text = ?
-
-pub letter_keeps : (bad : Bool) (text : List ℕ) → Follows (λ (c : ℕ). c) (λ (c : ℕ). false) bad (letter_at text) (letter_kept bad text)
-letter_keeps bad text = ?
-
-pub expression_keeps : (bad : Bool) (text : List ℕ) → Follows reading has_great_number bad (expression_in_front text) (expression_kept bad text)
-expression_keeps bad text = ?
-
-pub decl_keeps : (bad : Bool) (text : List ℕ) → Follows decl_of (λ decl. are_great (decl_numbers decl)) bad (decl_at text) (decl_kept bad text)
-decl_keeps bad text = ?
-
-pub arrays_keep : (bad : Bool) (text : List ℕ) → Follows (map decl_of) (list_any (λ decl. are_great (decl_numbers decl))) bad (where_it (λ decls. list_all has_dims decls) (list_at decl_at text)) (arrays_kept bad text)
-arrays_keep bad text = ?
-
 pub ranges_keep : (bad : Bool) (text : List ℕ) → Follows (flat_map letters_of) (λ letters. false) bad (list_at letters_at text) (kept_ranges bad text)
 ranges_keep bad text = ?
 

@@ -31,3 +31,5 @@ pub mod FollowWanted
 pub mod FollowLemmas
 pub mod FollowLists
 pub mod FollowNumbers
+pub mod FollowReaders
+pub mod FollowDeclarations
