@@ -124,6 +124,11 @@ module _ {A V : Type 0} (R : A → V → Bool → Type 0) where
   alike_with P (Some (a, rest)) None each h = absurd h
   alike_with P (Some (a, rest)) (Some (v, bad, end)) each h = (h.0, (each, h.1))
 
+-- what was changed before what goes on behind it
+pub then_as : {A B C : Type 0} (go : B → List ℕ → Reads C) (f : A → B) (x : Reads A) → and_then_read go (read_as f x) ≡ and_then_read (λ a rest. go (f a) rest) x
+then_as go f None = refl
+then_as go f (Some (a, rest)) = refl
+
 module _ {A V : Type 0} (R Q : A → V → Bool → Type 0) where
   pub alike_weaker : (x : Reads A) (k : Keeps V) → Alike R x k → ((a : A) (v : V) (bad : Bool) → R a v bad → Q a v bad) → Alike Q x k
   alike_weaker None None h next = tt

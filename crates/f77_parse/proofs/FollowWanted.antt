@@ -16,9 +16,6 @@ use Rattle.f77_parse.specs.Following.{Follows}
 nothing_bad : {A : Type 0} → A → Bool
 nothing_bad a = false
 
-pub ranges_keep : (bad : Bool) (text : List ℕ) → Follows (flat_map letters_of) (λ letters. false) bad (list_at letters_at text) (kept_ranges bad text)
-ranges_keep bad text = ?
-
 pub first_part_keeps : (bad : Bool) (text : List ℕ) → Follows part_of (λ part. list_any (λ decl. are_great (decl_numbers decl)) part.decls) bad (first_part_at text) (first_part_kept bad text)
 first_part_keeps bad text = ?
 

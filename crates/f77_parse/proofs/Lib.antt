@@ -33,3 +33,4 @@ pub mod FollowLists
 pub mod FollowNumbers
 pub mod FollowReaders
 pub mod FollowDeclarations
+pub mod FollowLetters
