@@ -13,7 +13,9 @@ use Rattle.f77_parse.specs.Keeping.{Keeps, keep_then, skipped, name_kept, expres
 use Rattle.f77_parse.specs.KeptForms.{as_stmt, step_kept, bounds_kept, do_kept, assigned_kept, conditional_kept}
 use Rattle.f77_parse.specs.Following.{Follows}
 use Rattle.f77_parse.proofs.FollowForms.{IsKept, IsStatementKept, FollowsStatement, two_flags, no_flag, then_follows, as_follows, wanted_follows, wanted_part_follows, character_follows, skipped_comma}
-use Rattle.f77_parse.proofs.FollowWanted.{name_keeps, label_keeps, expression_keeps, variable_keeps}
+use Rattle.f77_parse.proofs.FollowNumbers.{label_keeps}
+use Rattle.f77_parse.proofs.FollowReaders.{name_keeps, expression_keeps}
+use Rattle.f77_parse.proofs.FollowWanted.{variable_keeps}
 
 -- ---- assignments
 

@@ -20,7 +20,10 @@ use Rattle.f77_parse.specs.Keeping.{Keeps, kept_list, kept_parts, kept_ranges, d
 use Rattle.f77_parse.specs.KeptForms.{as_stmt}
 use Rattle.f77_parse.specs.Following.{Follows}
 use Rattle.f77_parse.proofs.FollowForms.{IsKept, IsStatementKept, FollowsStatement, as_follows}
-use Rattle.f77_parse.proofs.FollowWanted.{decl_keeps, arrays_keep, ranges_keep, first_part_keeps, part_keeps, group_keeps, data_keeps, next_data_keeps, list_keeps, parts_keep}
+use Rattle.f77_parse.proofs.FollowDeclarations.{decl_keeps, arrays_keep}
+use Rattle.f77_parse.proofs.FollowLetters.{ranges_keep}
+use Rattle.f77_parse.proofs.FollowLists.{list_keeps, parts_keep}
+use Rattle.f77_parse.proofs.FollowWanted.{first_part_keeps, part_keeps, group_keeps, data_keeps, next_data_keeps}
 
 -- ---- numbers that are too great
 

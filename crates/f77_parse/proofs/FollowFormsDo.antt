@@ -14,7 +14,8 @@ use Rattle.f77_parse.specs.KeptForms.{as_stmt, step_kept, bounds_kept, do_kept}
 use Rattle.f77_parse.specs.Following.{Follows}
 use Rattle.f77_parse.proofs.FormsSoundAssigned.{step_part, last_part, first_part, variable_part}
 use Rattle.f77_parse.proofs.FollowForms.{IsKept, IsStatementKept, FollowsStatement, two_flags, no_flag, then_follows, as_follows, wanted_follows, wanted_part_follows, character_follows, skipped_comma}
-use Rattle.f77_parse.proofs.FollowWanted.{name_keeps, label_keeps, expression_keeps}
+use Rattle.f77_parse.proofs.FollowNumbers.{label_keeps}
+use Rattle.f77_parse.proofs.FollowReaders.{name_keeps, expression_keeps}
 
 step_keeps : (bad : Bool) (text : List ℕ) → Follows step_of step_is_great bad (step_at text) (step_kept bad text)
 unfolding step_kept

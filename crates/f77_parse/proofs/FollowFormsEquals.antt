@@ -19,7 +19,8 @@ use Rattle.f77_parse.specs.Following.{Follows}
 use Rattle.f77_parse.proofs.FollowForms.{IsKept, FollowsStatement, no_flag, then_follows, front_if}
 use Rattle.f77_parse.proofs.FollowFormsAssigned.{assigned_keeps, conditional_keeps}
 use Rattle.f77_parse.proofs.FollowFormsDo.{flags_grow}
-use Rattle.f77_parse.proofs.FollowWanted.{name_keeps, expression_keeps, behind_keeps}
+use Rattle.f77_parse.proofs.FollowLists.{behind_keeps}
+use Rattle.f77_parse.proofs.FollowReaders.{name_keeps, expression_keeps}
 
 -- ---- lists: reading of as many items as there is room for
 

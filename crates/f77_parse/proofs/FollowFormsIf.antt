@@ -20,7 +20,8 @@ use Rattle.f77_parse.proofs.FollowForms.{IsKept, IsStatementKept, FollowsStateme
 use Rattle.f77_parse.proofs.FollowFormsAssigned.{guarded_is_kept}
 use Rattle.f77_parse.proofs.FollowFormsDo.{flags_grow}
 use Rattle.f77_parse.proofs.FollowFormsSimple.{simple_keeps}
-use Rattle.f77_parse.proofs.FollowWanted.{label_keeps, expression_keeps}
+use Rattle.f77_parse.proofs.FollowNumbers.{label_keeps}
+use Rattle.f77_parse.proofs.FollowReaders.{expression_keeps}
 
 -- ---- three labels
 

@@ -18,7 +18,10 @@ use Rattle.f77_parse.specs.KeptForms.{as_stmt, at_end, stop_kept, go_to_kept, it
 use Rattle.f77_parse.specs.Following.{Follows}
 use Rattle.f77_parse.proofs.FollowForms.{IsKept, IsStatementKept, FollowsStatement, no_flag, then_follows, as_follows, if_follows, form_follows, alone_follows, wanted_follows, wanted_character_follows, character_follows, skipped_comma, front_if}
 use Rattle.f77_parse.proofs.FollowFormsDo.{flags_grow}
-use Rattle.f77_parse.proofs.FollowWanted.{label_keeps, expression_keeps, variable_keeps, item_keeps, character_constant_keeps, list_keeps}
+use Rattle.f77_parse.proofs.FollowLists.{list_keeps}
+use Rattle.f77_parse.proofs.FollowNumbers.{label_keeps}
+use Rattle.f77_parse.proofs.FollowReaders.{expression_keeps}
+use Rattle.f77_parse.proofs.FollowWanted.{variable_keeps, item_keeps, character_constant_keeps}
 
 -- ---- STOP
 

@@ -16,7 +16,7 @@ use Rattle.f77_parse.proofs.FollowFormsEquals.{equals_keep}
 use Rattle.f77_parse.proofs.FollowFormsSimple.{simple_keeps}
 use Rattle.f77_parse.proofs.FollowFormsIf.{if_keeps, else_if_keeps}
 use Rattle.f77_parse.proofs.FollowFormsDeclared.{implicit_keeps, typed_keeps, dimension_keeps, common_keeps, equivalence_keeps, data_statement_keeps}
-use Rattle.f77_parse.proofs.FollowWanted.{name_keeps}
+use Rattle.f77_parse.proofs.FollowReaders.{name_keeps}
 
 -- ---- by the keyword
 

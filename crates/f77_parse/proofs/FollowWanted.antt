@@ -16,37 +16,6 @@ use Rattle.f77_parse.specs.Following.{Follows}
 nothing_bad : {A : Type 0} → A → Bool
 nothing_bad a = false
 
-module _ {A V : Type 0} (value : A → V) (is_bad : A → Bool) (item : List ℕ → Reads A) (kept_item : Bool → List ℕ → Keeps V) (follows : (bad : Bool) (text : List ℕ) → Follows value is_bad bad (item text) (kept_item bad text)) where
-  pub list_keeps : (bad : Bool) (text : List ℕ) → Follows (map value) (list_any is_bad) bad (list_at item text) (kept_list kept_item bad text)
-  list_keeps bad text = ?
-
-  pub behind_keeps : (list : List V) (bad : Bool) (text : List ℕ) → Follows (λ items. list ++ map value items) (list_any is_bad) bad (list_at item text) (kept_behind kept_item list bad text)
-  behind_keeps list bad text = ?
-
-  pub parts_keep : (first : List ℕ → Reads A) (kept_first : Bool → List ℕ → Keeps V) → ((bad : Bool) (text : List ℕ) → Follows value is_bad bad (first text) (kept_first bad text)) → (bad : Bool) (text : List ℕ) → Follows (map value) (list_any is_bad) bad (and_then_read (λ a rest. read_as (λ others. a ∷ others) (parts_to_end (length rest) item rest)) (first text)) (kept_parts kept_first kept_item bad text)
-  parts_keep first kept_first follows_first bad text = ?
-
-pub name_keeps : (bad : Bool) (text : List ℕ) → Follows (λ (name : List ℕ). name) (λ (name : List ℕ). false) bad (name_at text) (name_kept bad text)
-name_keeps bad text = ?
-
-pub letter_keeps : (bad : Bool) (text : List ℕ) → Follows (λ (c : ℕ). c) (λ (c : ℕ). false) bad (letter_at text) (letter_kept bad text)
-letter_keeps bad text = ?
-
-pub expression_keeps : (bad : Bool) (text : List ℕ) → Follows reading has_great_number bad (expression_in_front text) (expression_kept bad text)
-expression_keeps bad text = ?
-
-pub label_keeps : (bad : Bool) (text : List ℕ) → Follows number_of is_bad_label bad (number_at text) (label_kept bad text)
-label_keeps bad text = ?
-
-pub decl_keeps : (bad : Bool) (text : List ℕ) → Follows decl_of (λ decl. are_great (decl_numbers decl)) bad (decl_at text) (decl_kept bad text)
-decl_keeps bad text = ?
-
-pub arrays_keep : (bad : Bool) (text : List ℕ) → Follows (map decl_of) (list_any (λ decl. are_great (decl_numbers decl))) bad (where_it (λ decls. list_all has_dims decls) (list_at decl_at text)) (arrays_kept bad text)
-arrays_keep bad text = ?
-
-pub ranges_keep : (bad : Bool) (text : List ℕ) → Follows (flat_map letters_of) (λ letters. false) bad (list_at letters_at text) (kept_ranges bad text)
-ranges_keep bad text = ?
-
 pub first_part_keeps : (bad : Bool) (text : List ℕ) → Follows part_of (λ part. list_any (λ decl. are_great (decl_numbers decl)) part.decls) bad (first_part_at text) (first_part_kept bad text)
 first_part_keeps bad text = ?
 

@@ -36,3 +36,9 @@ pub mod FollowFormsSimple
 pub mod FollowFormsIf
 pub mod FollowFormsDeclared
 pub mod FollowFormsWhole
+pub mod FollowLemmas
+pub mod FollowLists
+pub mod FollowNumbers
+pub mod FollowReaders
+pub mod FollowDeclarations
+pub mod FollowLetters
