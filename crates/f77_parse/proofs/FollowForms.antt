@@ -1,11 +1,11 @@
 -- Readers one behind another, and what is kept of them.
-use Rattle.std.proofs.Common.{◌≡◌, ◌==◌, ◌||◌, ℕ, Bool, true, false, List, [], ◌∷◌, ◌++◌, Option, Some, None, if◌then◌else◌, codes, refl, sym, ap, subst, ◌∙◌}
+use Rattle.std.proofs.Common.{◌≡◌, ◌==◌, ◌||◌, ℕ, Bool, true, false, List, [], ◌∷◌, Option, Some, None, if◌then◌else◌, codes, refl, sym, ap, subst, ◌∙◌}
 use Rattle.std.proofs.lemmas.Bool.{eq-eqb, eqb-true}
 use Rattle.f77_tree.specs.declared.statements.Stmt.{Stmt}
 use Rattle.f77_tree.specs.StatementGrammar.{WrittenStatement, statement_of, has_bad_constant}
 use Rattle.f77_expr.specs.Reader.{Reads, read_as, and_then_read, after_front}
 use Rattle.f77_expr.proofs.EachRead.{if_true, if_false}
-use Rattle.f77_parse.specs.Parts.{behind, after, then_front, comma_at}
+use Rattle.f77_parse.specs.Parts.{behind, after, comma_at}
 use Rattle.f77_parse.specs.Forms.{form_or, alone}
 use Rattle.f77_parse.specs.Keeping.{Keeps, keep_then, where_front, skipped, wanted}
 use Rattle.f77_parse.specs.Following.{Follows}

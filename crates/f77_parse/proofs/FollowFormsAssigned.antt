@@ -1,20 +1,19 @@
 -- DO, and assignments behind a variable: what is kept of them.
-use Rattle.std.proofs.Common.{◌≡◌, ◌==◌, ◌||◌, ℕ, Bool, true, false, List, [], ◌∷◌, Option, Some, None, if◌then◌else◌, codes, refl, sym, ap, subst, ◌∙◌}
+use Rattle.std.proofs.Common.{◌||◌, ℕ, Bool, List, Some, None, codes, sym, ap, subst, ◌∙◌}
 use Rattle.std.proofs.lemmas.Bool.{or_parts}
 use Rattle.f77_tree.specs.declared.statements.RawExpr.{RawExpr}
 use Rattle.f77_tree.specs.declared.statements.Stmt.{Stmt}
-use Rattle.f77_tree.specs.declared.statements.Stmt.TheVariants.{Assign, ThenIf, Do}
-use Rattle.f77_tree.specs.Grammar.{Written, reading, has_great_number, number_of}
-use Rattle.f77_tree.specs.StatementGrammar.{WrittenStatement, statement_of, has_bad_constant, step_of, step_is_great, is_bad_label}
-use Rattle.f77_expr.specs.Reader.{Reads, read_as, and_then_read, after_front}
-use Rattle.f77_parse.specs.Parts.{after, comma_at, number_at, name_at, expression_in_front, variable_at}
-use Rattle.f77_parse.specs.Forms.{step_at, do_at, assigned_at, conditional_at}
-use Rattle.f77_parse.specs.Keeping.{Keeps, keep_then, skipped, name_kept, expression_kept, variable_kept}
-use Rattle.f77_parse.specs.KeptForms.{as_stmt, step_kept, bounds_kept, do_kept, assigned_kept, conditional_kept}
+use Rattle.f77_tree.specs.declared.statements.Stmt.TheVariants.{Assign, ThenIf}
+use Rattle.f77_tree.specs.Grammar.{Written, reading, has_great_number}
+use Rattle.f77_tree.specs.StatementGrammar.{WrittenStatement, statement_of, has_bad_constant}
+use Rattle.f77_expr.specs.Reader.{Reads, read_as, and_then_read}
+use Rattle.f77_parse.specs.Parts.{expression_in_front, variable_at}
+use Rattle.f77_parse.specs.Forms.{assigned_at, conditional_at}
+use Rattle.f77_parse.specs.Keeping.{Keeps, keep_then, expression_kept, variable_kept}
+use Rattle.f77_parse.specs.KeptForms.{as_stmt, assigned_kept, conditional_kept}
 use Rattle.f77_parse.specs.Following.{Follows}
-use Rattle.f77_parse.proofs.FollowForms.{IsKept, IsStatementKept, FollowsStatement, two_flags, no_flag, then_follows, as_follows, wanted_follows, wanted_part_follows, character_follows, skipped_comma}
-use Rattle.f77_parse.proofs.FollowNumbers.{label_keeps}
-use Rattle.f77_parse.proofs.FollowReaders.{name_keeps, expression_keeps}
+use Rattle.f77_parse.proofs.FollowForms.{IsKept, IsStatementKept, FollowsStatement, two_flags, as_follows, wanted_follows}
+use Rattle.f77_parse.proofs.FollowReaders.{expression_keeps}
 use Rattle.f77_parse.proofs.FollowWanted.{variable_keeps}
 
 -- ---- assignments

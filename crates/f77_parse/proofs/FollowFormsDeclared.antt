@@ -1,25 +1,20 @@
 -- Declarations: what is kept of them.
-use Rattle.std.proofs.Common.{◌≡◌, ◌||◌, ℕ, Bool, true, false, List, [], ◌∷◌, ◌++◌, length, map, Option, Some, None, refl, sym, ap, subst, ◌∙◌}
+use Rattle.std.proofs.Common.{◌≡◌, ◌||◌, ℕ, Bool, false, List, [], ◌∷◌, length, map, Some, None, refl, sym, ap, subst, ◌∙◌}
 use Rattle.std.specs.Prelude.{flat_map}
 use Rattle.std.specs.List.{list_any, list_all}
 use Rattle.std.proofs.lemmas.List.Concat.{flat_map-cons}
 use Rattle.std.proofs.lemmas.List.Folds.{list_any-append}
 use Rattle.f77_tree.specs.declared.declarations.Kind.{Kind}
-use Rattle.f77_tree.specs.declared.declarations.Decl.{Decl}
-use Rattle.f77_tree.specs.declared.declarations.LetterRange.{LetterRange}
-use Rattle.f77_tree.specs.declared.declarations.CommonPart.{CommonPart}
-use Rattle.f77_tree.specs.declared.declarations.Member.{Member}
-use Rattle.f77_tree.specs.declared.declarations.InitPart.{InitPart}
 use Rattle.f77_tree.specs.declared.statements.Stmt.{Stmt}
 use Rattle.f77_tree.specs.declared.statements.Stmt.TheVariants.{Implicit, TypeOf, Dimension, Common, Equivalence, Init}
-use Rattle.f77_tree.specs.StatementGrammar.{SignedDigits, WrittenDecl, WrittenLetters, WrittenPart, WrittenMember, WrittenData, WrittenStatement, statement_of, has_bad_constant, has_dims, is_great, are_great, decl_of, decl_numbers, letters_of, part_of, member_of, data_of, value_is_bad}
+use Rattle.f77_tree.specs.StatementGrammar.{SignedDigits, WrittenLetters, WrittenPart, WrittenData, WrittenStatement, statement_of, has_bad_constant, has_dims, is_great, are_great, decl_of, decl_numbers, letters_of, part_of, member_of, data_of, value_is_bad}
 use Rattle.f77_expr.specs.Reader.{Reads, read_as, and_then_read}
 use Rattle.f77_parse.specs.Parts.{where_it, decl_at, letters_at, list_at, parts_to_end, first_part_at, part_at, group_at, data_behind, data_at}
 use Rattle.f77_parse.specs.Forms.{implicit_at, typed_at, dimension_at, common_at, equivalence_at, data_statement_at}
 use Rattle.f77_parse.specs.Keeping.{Keeps, kept_list, kept_parts, kept_ranges, decl_kept, arrays_kept, first_part_kept, part_kept, group_kept, init_part_kept, next_init_part_kept}
 use Rattle.f77_parse.specs.KeptForms.{as_stmt}
 use Rattle.f77_parse.specs.Following.{Follows}
-use Rattle.f77_parse.proofs.FollowForms.{IsKept, IsStatementKept, FollowsStatement, as_follows}
+use Rattle.f77_parse.proofs.FollowForms.{FollowsStatement, as_follows}
 use Rattle.f77_parse.proofs.FollowDeclarations.{decl_keeps, arrays_keep}
 use Rattle.f77_parse.proofs.FollowLetters.{ranges_keep}
 use Rattle.f77_parse.proofs.FollowLists.{list_keeps, parts_keep}

@@ -1,13 +1,13 @@
 -- DO: what is kept of it.
-use Rattle.std.proofs.Common.{◌≡◌, ◌==◌, ◌||◌, ℕ, Bool, true, false, List, [], ◌∷◌, Option, Some, None, if◌then◌else◌, codes, refl, sym, ap, subst, ◌∙◌}
+use Rattle.std.proofs.Common.{◌≡◌, ◌||◌, ℕ, Bool, false, List, [], ◌∷◌, Option, Some, None, codes, refl, sym, ap, subst, ◌∙◌}
 use Rattle.std.proofs.lemmas.Bool.{or_parts}
 use Rattle.f77_tree.specs.declared.statements.RawExpr.{RawExpr}
 use Rattle.f77_tree.specs.declared.statements.Stmt.{Stmt}
 use Rattle.f77_tree.specs.declared.statements.Stmt.TheVariants.{Do}
 use Rattle.f77_tree.specs.Grammar.{Written, reading, has_great_number, number_of}
 use Rattle.f77_tree.specs.StatementGrammar.{WrittenStatement, statement_of, has_bad_constant, step_of, step_is_great, is_bad_label}
-use Rattle.f77_expr.specs.Reader.{Reads, read_as, and_then_read, after_front}
-use Rattle.f77_parse.specs.Parts.{after, comma_at, number_at, name_at, expression_in_front}
+use Rattle.f77_expr.specs.Reader.{read_as, and_then_read, after_front}
+use Rattle.f77_parse.specs.Parts.{comma_at, number_at, name_at, expression_in_front}
 use Rattle.f77_parse.specs.Forms.{step_at, do_at}
 use Rattle.f77_parse.specs.Keeping.{Keeps, keep_then, skipped, wanted, name_kept, label_kept, expression_kept}
 use Rattle.f77_parse.specs.KeptForms.{as_stmt, step_kept, bounds_kept, do_kept}

@@ -9,9 +9,9 @@ use Rattle.f77_tree.specs.declared.statements.Stmt.{Stmt}
 use Rattle.f77_tree.specs.Grammar.{Written, Arguments, reading, readings, has_great_number, have_great_number}
 use Rattle.f77_tree.specs.StatementGrammar.{WrittenStatement, statement_of, has_bad_constant}
 use Rattle.f77_expr.specs.Reader.{Reads, read_as, and_then_read, after_front, expression_at}
-use Rattle.f77_expr.proofs.EachRead.{Each, each_at, each_if, each_then, each_as, then_same, if_false}
+use Rattle.f77_expr.proofs.EachRead.{Each, each_at, each_if, each_then, then_same, if_false}
 use Rattle.f77_expr.proofs.Descent.{readers_shorter}
-use Rattle.f77_parse.specs.Parts.{behind, then_front, name_at, behind_comma, more_listed, listed, list_at, bracketed_or_none, ends_expression, expression_in_front, arguments_of, variable_of, variable_at}
+use Rattle.f77_parse.specs.Parts.{behind, then_front, name_at, behind_comma, more_listed, listed, list_at, bracketed_or_none, ends_expression, expression_in_front, arguments_of, variable_of}
 use Rattle.f77_parse.specs.Forms.{assigned_at, condition_of, conditional_at, equals_behind, equals_at}
 use Rattle.f77_parse.specs.Keeping.{Keeps, keep_then, where_front, wanted, begins, name_kept, expression_kept, kept_behind}
 use Rattle.f77_parse.specs.KeptForms.{assigned_kept, conditional_kept, behind_one_kept, behind_first_kept, assignment_kept}

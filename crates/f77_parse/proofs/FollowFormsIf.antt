@@ -1,8 +1,7 @@
 -- IF statements: what is kept of them.
-use Rattle.std.proofs.Common.{◌≡◌, ◌==◌, ◌&&◌, ◌||◌, ◌<◌, ◌≤◌, ℕ, zero, suc, Bool, true, false, not, List, [], ◌∷◌, ◌++◌, length, take_while, Option, Some, None, if◌then◌else◌, codes, refl, sym, ap, subst, ◌∙◌, arith}
+use Rattle.std.proofs.Common.{◌≡◌, ◌||◌, ℕ, suc, Bool, true, false, List, [], ◌∷◌, length, take_while, Some, None, if◌then◌else◌, codes, refl, sym, ap, subst, ◌∙◌, arith}
 use Rattle.std.specs.Prelude.{nat_lt}
 use Rattle.std.proofs.lemmas.Bool.{or_parts, lt-ltb}
-use Rattle.std.specs.List.{list_any}
 use Rattle.f77_tree.specs.declared.statements.RawExpr.{RawExpr}
 use Rattle.f77_tree.specs.declared.statements.Stmt.{Stmt}
 use Rattle.f77_tree.specs.declared.statements.Stmt.TheVariants.{SignIf, ThenIf, BlockIf, ElseIf}
@@ -16,7 +15,7 @@ use Rattle.f77_parse.specs.Forms.{form_or, alone, sign_labels_at, condition_at, 
 use Rattle.f77_parse.specs.Keeping.{Keeps, keep_then, where_front, wanted, label_kept, expression_kept}
 use Rattle.f77_parse.specs.KeptForms.{as_stmt, sign_labels_kept, condition_kept, guarded_kept, if_kept, else_if_kept, simple_kept}
 use Rattle.f77_parse.specs.Following.{Follows}
-use Rattle.f77_parse.proofs.FollowForms.{IsKept, IsStatementKept, FollowsStatement, no_flag, then_follows, as_follows, if_follows, form_follows, alone_follows, wanted_follows, wanted_part_follows, wanted_last_follows}
+use Rattle.f77_parse.proofs.FollowForms.{IsKept, IsStatementKept, FollowsStatement, then_follows, as_follows, if_follows, form_follows, wanted_follows, wanted_part_follows, wanted_last_follows}
 use Rattle.f77_parse.proofs.FollowFormsAssigned.{guarded_is_kept}
 use Rattle.f77_parse.proofs.FollowFormsDo.{flags_grow}
 use Rattle.f77_parse.proofs.FollowFormsSimple.{simple_keeps}

@@ -1,5 +1,5 @@
 -- Forms that may stand behind a condition: what is kept of them.
-use Rattle.std.proofs.Common.{◌≡◌, ◌==◌, ◌&&◌, ◌||◌, ◌<◌, ◌≤◌, ℕ, zero, suc, Bool, true, false, not, List, [], ◌∷◌, ◌++◌, length, drop, take_while, map, Option, Some, None, if◌then◌else◌, codes, refl, sym, ap, subst, ◌∙◌, arith}
+use Rattle.std.proofs.Common.{◌≡◌, ◌==◌, ◌&&◌, ◌||◌, ℕ, Bool, true, false, List, [], ◌∷◌, length, drop, take_while, map, Option, Some, None, if◌then◌else◌, codes, refl, sym, ap, subst, ◌∙◌}
 use Rattle.std.specs.Prelude.{nat_lt, nat_le}
 use Rattle.std.proofs.lemmas.Bool.{or_parts}
 use Rattle.std.specs.List.{list_any}
@@ -8,15 +8,15 @@ use Rattle.f77_tree.specs.declared.statements.RawItem.{RawItem}
 use Rattle.f77_tree.specs.declared.statements.Stmt.{Stmt}
 use Rattle.f77_tree.specs.declared.statements.Stmt.TheVariants.{Print, Take, Continue, Stop, GoTo, PickGoTo}
 use Rattle.f77_tree.specs.Name.{is_figure}
-use Rattle.f77_tree.specs.Grammar.{Written, reading, has_great_number, number_of}
+use Rattle.f77_tree.specs.Grammar.{reading, has_great_number, number_of}
 use Rattle.f77_tree.specs.StatementGrammar.{WrittenStatement, WrittenStop, PrintForm, ReadForm, statement_of, has_bad_constant, is_bad_label, item_of, item_is_great}
 use Rattle.f77_expr.specs.Reader.{Reads, read_as, and_then_read, after_front}
-use Rattle.f77_parse.specs.Parts.{behind, after, then_front, where_it, comma_at, number_at, list_at, bracketed_at, item_at, variable_at, expression_in_front, characters_at}
-use Rattle.f77_parse.specs.Forms.{form_or, alone, stop_at, computed_at, go_to_at, items_behind, items_at, targets_at, simple_at}
-use Rattle.f77_parse.specs.Keeping.{Keeps, keep_then, where_front, skipped, wanted, begins, few_digits_kept, label_kept, character_constant_kept, expression_kept, kept_list, item_kept, variable_kept}
-use Rattle.f77_parse.specs.KeptForms.{as_stmt, at_end, stop_kept, go_to_kept, items_behind_kept, items_or_none_kept, targets_kept, transfer_kept, simple_kept}
+use Rattle.f77_parse.specs.Parts.{behind, then_front, where_it, comma_at, number_at, list_at, item_at, variable_at, expression_in_front, characters_at}
+use Rattle.f77_parse.specs.Forms.{alone, stop_at, computed_at, go_to_at, items_behind, items_at, targets_at, simple_at}
+use Rattle.f77_parse.specs.Keeping.{Keeps, keep_then, where_front, skipped, wanted, few_digits_kept, label_kept, character_constant_kept, expression_kept, kept_list, item_kept, variable_kept}
+use Rattle.f77_parse.specs.KeptForms.{as_stmt, stop_kept, go_to_kept, items_behind_kept, items_or_none_kept, targets_kept, transfer_kept, simple_kept}
 use Rattle.f77_parse.specs.Following.{Follows}
-use Rattle.f77_parse.proofs.FollowForms.{IsKept, IsStatementKept, FollowsStatement, no_flag, then_follows, as_follows, if_follows, form_follows, alone_follows, wanted_follows, wanted_character_follows, character_follows, skipped_comma, front_if}
+use Rattle.f77_parse.proofs.FollowForms.{IsKept, IsStatementKept, FollowsStatement, no_flag, as_follows, if_follows, form_follows, alone_follows, wanted_character_follows, skipped_comma, front_if}
 use Rattle.f77_parse.proofs.FollowFormsDo.{flags_grow}
 use Rattle.f77_parse.proofs.FollowLists.{list_keeps}
 use Rattle.f77_parse.proofs.FollowNumbers.{label_keeps}
