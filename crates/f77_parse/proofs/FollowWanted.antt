@@ -16,21 +16,6 @@ use Rattle.f77_parse.specs.Following.{Follows}
 nothing_bad : {A : Type 0} → A → Bool
 nothing_bad a = false
 
-pub first_part_keeps : (bad : Bool) (text : List ℕ) → Follows part_of (λ part. list_any (λ decl. are_great (decl_numbers decl)) part.decls) bad (first_part_at text) (first_part_kept bad text)
-first_part_keeps bad text = ?
-
-pub part_keeps : (bad : Bool) (text : List ℕ) → Follows part_of (λ part. list_any (λ decl. are_great (decl_numbers decl)) part.decls) bad (part_at text) (part_kept bad text)
-part_keeps bad text = ?
-
-pub group_keeps : (bad : Bool) (text : List ℕ) → Follows (map member_of) (list_any (λ member. are_great member.subs)) bad (group_at text) (group_kept bad text)
-group_keeps bad text = ?
-
-pub data_keeps : (bad : Bool) (text : List ℕ) → Follows data_of (λ data'. list_any (λ member. are_great member.subs) data'.items || list_any value_is_bad data'.values) bad (data_behind false text) (init_part_kept bad text)
-data_keeps bad text = ?
-
-pub next_data_keeps : (bad : Bool) (text : List ℕ) → Follows data_of (λ data'. list_any (λ member. are_great member.subs) data'.items || list_any value_is_bad data'.values) bad (data_at text) (next_init_part_kept bad text)
-next_data_keeps bad text = ?
-
 pub variable_keeps : (bad : Bool) (text : List ℕ) → Follows reading has_great_number bad (variable_at text) (variable_kept bad text)
 variable_keeps bad text = ?
 

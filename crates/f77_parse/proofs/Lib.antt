@@ -42,3 +42,5 @@ pub mod FollowNumbers
 pub mod FollowReaders
 pub mod FollowDeclarations
 pub mod FollowLetters
+pub mod FollowBlocks
+pub mod FollowMembers
