@@ -26,6 +26,10 @@ pub no_flag : (start : Bool) → start ≡ (start || false)
 no_flag true = refl
 no_flag false = refl
 
+-- flags one behind another
+pub flags_grow : (start x y bad bad_now : Bool) → bad ≡ (start || x) → bad_now ≡ (bad || y) → bad_now ≡ (start || (x || y))
+flags_grow start x y bad bad_now e f = f ∙ ap (λ (b : Bool). b || y) e ∙ two_flags start x y
+
 module _ {A B V W : Type 0} (value : A → V) (is_bad : A → Bool) (start : Bool) (whole : B → W) (is_bad_whole : B → Bool) (begin : Bool) where
   -- reading goes on behind a part
   pub then_follows : (go : A → List ℕ → Reads B) (next : V → Bool → List ℕ → Keeps W) (x : Reads A) (k : Keeps V) → Follows value is_bad start x k → ((a : A) (v : V) (bad : Bool) (rest : List ℕ) → IsKept value is_bad start a v bad → Follows whole is_bad_whole begin (go a rest) (next v bad rest)) → Follows whole is_bad_whole begin (and_then_read go x) (keep_then k next)

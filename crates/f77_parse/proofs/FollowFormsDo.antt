@@ -1,5 +1,5 @@
 -- DO: what is kept of it.
-use Rattle.std.proofs.Common.{◌≡◌, ◌||◌, ℕ, Bool, false, List, [], ◌∷◌, Option, Some, None, codes, refl, sym, ap, subst, ◌∙◌}
+use Rattle.std.proofs.Common.{◌||◌, ℕ, Bool, false, List, [], ◌∷◌, Option, Some, None, codes, refl, sym, ap, subst, ◌∙◌}
 use Rattle.std.proofs.lemmas.Bool.{or_parts}
 use Rattle.f77_tree.specs.declared.statements.RawExpr.{RawExpr}
 use Rattle.f77_tree.specs.declared.statements.Stmt.{Stmt}
@@ -13,7 +13,7 @@ use Rattle.f77_parse.specs.Keeping.{Keeps, keep_then, skipped, wanted, name_kept
 use Rattle.f77_parse.specs.KeptForms.{as_stmt, step_kept, bounds_kept, do_kept}
 use Rattle.f77_parse.specs.Following.{Follows}
 use Rattle.f77_parse.proofs.FormsSoundAssigned.{step_part, last_part, first_part, variable_part}
-use Rattle.f77_parse.proofs.FollowForms.{IsKept, IsStatementKept, FollowsStatement, two_flags, no_flag, then_follows, as_follows, wanted_follows, wanted_part_follows, character_follows, skipped_comma}
+use Rattle.f77_parse.proofs.FollowForms.{IsKept, IsStatementKept, FollowsStatement, flags_grow, no_flag, then_follows, as_follows, wanted_follows, wanted_part_follows, character_follows, skipped_comma}
 use Rattle.f77_parse.proofs.FollowNumbers.{label_keeps}
 use Rattle.f77_parse.proofs.FollowReaders.{name_keeps, expression_keeps}
 
@@ -26,10 +26,6 @@ step_keeps bad (c ∷ text) =
     (as_follows reading has_great_number bad step_of step_is_great bad (λ w. Some w) (λ e. Some e) (expression_in_front text) (expression_kept bad text) (expression_keeps bad text)
     (λ w e bad_now is. (is.0, λ good. ap (λ (x : RawExpr). Some x) (is.1 good))))
     (refl, no_flag bad, λ good. refl)
-
--- flags one behind another
-pub flags_grow : (start x y bad bad_now : Bool) → bad ≡ (start || x) → bad_now ≡ (bad || y) → bad_now ≡ (start || (x || y))
-flags_grow start x y bad bad_now e f = f ∙ ap (λ (b : Bool). b || y) e ∙ two_flags start x y
 
 module _ (start : Bool) (label : List ℕ) (comma : Bool) (variable : List ℕ) (n : ℕ) (bad : Bool) (label_is : IsKept number_of is_bad_label start label n bad) where
   do_is_kept : (first : Written) (a : RawExpr) (bad_1 : Bool) → IsKept reading has_great_number bad first a bad_1 → (last : Written) (b : RawExpr) (bad_2 : Bool) → IsKept reading has_great_number bad_1 last b bad_2 → (step : Option Written) (c : Option RawExpr) (bad_3 : Bool) → IsKept step_of step_is_great bad_2 step c bad_3 → IsStatementKept start (WrittenStatement.do_loop label comma variable first last step) (Do n variable a b c) bad_3

@@ -16,9 +16,8 @@ use Rattle.f77_parse.specs.Forms.{assigned_at, condition_of, conditional_at, equ
 use Rattle.f77_parse.specs.Keeping.{Keeps, keep_then, where_front, wanted, begins, name_kept, expression_kept, kept_behind}
 use Rattle.f77_parse.specs.KeptForms.{assigned_kept, conditional_kept, behind_one_kept, behind_first_kept, assignment_kept}
 use Rattle.f77_parse.specs.Following.{Follows}
-use Rattle.f77_parse.proofs.FollowForms.{IsKept, FollowsStatement, no_flag, then_follows, front_if}
+use Rattle.f77_parse.proofs.FollowForms.{IsKept, FollowsStatement, flags_grow, no_flag, then_follows, front_if}
 use Rattle.f77_parse.proofs.FollowFormsAssigned.{assigned_keeps, conditional_keeps}
-use Rattle.f77_parse.proofs.FollowFormsDo.{flags_grow}
 use Rattle.f77_parse.proofs.FollowLists.{behind_keeps}
 use Rattle.f77_parse.proofs.FollowReaders.{name_keeps, expression_keeps}
 
@@ -85,11 +84,7 @@ expression_shorter text =
 -- ---- subscripts
 
 have_great_of : (w : Written) (more : List Written) → have_great_number (arguments_of w more) ≡ list_any has_great_number (w ∷ more)
-have_great_of w [] = here (has_great_number w)
-  where
-    here : (b : Bool) → b ≡ (b || false)
-    here true = refl
-    here false = refl
+have_great_of w [] = no_flag (has_great_number w)
 have_great_of w (next ∷ more) = ap (λ (b : Bool). has_great_number w || b) (have_great_of next more)
 
 readings_of : (w : Written) (more : List Written) → readings (arguments_of w more) ≡ map reading (w ∷ more)

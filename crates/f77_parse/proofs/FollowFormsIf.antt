@@ -15,9 +15,8 @@ use Rattle.f77_parse.specs.Forms.{form_or, alone, sign_labels_at, condition_at, 
 use Rattle.f77_parse.specs.Keeping.{Keeps, keep_then, where_front, wanted, label_kept, expression_kept}
 use Rattle.f77_parse.specs.KeptForms.{as_stmt, sign_labels_kept, condition_kept, guarded_kept, if_kept, else_if_kept, simple_kept}
 use Rattle.f77_parse.specs.Following.{Follows}
-use Rattle.f77_parse.proofs.FollowForms.{IsKept, IsStatementKept, FollowsStatement, then_follows, as_follows, if_follows, form_follows, wanted_follows, wanted_part_follows, wanted_last_follows}
+use Rattle.f77_parse.proofs.FollowForms.{IsKept, IsStatementKept, FollowsStatement, flags_grow, no_flag, then_follows, as_follows, if_follows, form_follows, wanted_follows, wanted_part_follows, wanted_last_follows}
 use Rattle.f77_parse.proofs.FollowFormsAssigned.{guarded_is_kept}
-use Rattle.f77_parse.proofs.FollowFormsDo.{flags_grow}
 use Rattle.f77_parse.proofs.FollowFormsSimple.{simple_keeps}
 use Rattle.f77_parse.proofs.FollowNumbers.{label_keeps}
 use Rattle.f77_parse.proofs.FollowReaders.{expression_keeps}
@@ -32,7 +31,7 @@ module _ (start : Bool) (w : Written) (e : RawExpr) (bad : Bool) (w_is : IsKept 
       let one : bad_3 ≡ (bad_1 || (z || p)) = flags_grow bad_1 z p bad_2 bad_3 zero_is.0 positive_is.0 in
       let two : bad_3 ≡ (bad || (is_bad_label negative || (z || p))) = flags_grow bad (is_bad_label negative) (z || p) bad_1 bad_3 negative_is.0 one in
       let three : bad_3 ≡ (start || (has_great_number w || (is_bad_label negative || (z || p)))) = flags_grow start (has_great_number w) (is_bad_label negative || (z || p)) bad bad_3 w_is.0 two in (
-        three ∙ ap (λ (end : Bool). start || (has_great_number w || (is_bad_label negative || (z || end)))) (or_false p),
+        three ∙ ap (λ (end : Bool). start || (has_great_number w || (is_bad_label negative || (z || end)))) (no_flag p),
         λ good.
             let outer = or_parts (has_great_number w) (is_bad_label negative || (z || (p || false))) good in
             let inner = or_parts (is_bad_label negative) (z || (p || false)) outer.1 in
@@ -40,12 +39,8 @@ module _ (start : Bool) (w : Written) (e : RawExpr) (bad : Bool) (w_is : IsKept 
             ap (λ (x : RawExpr). SignIf x a b c) (w_is.1 outer.0)
             ∙ ap (λ (x : ℕ). SignIf (reading w) x b c) (negative_is.1 inner.0)
             ∙ ap (λ (x : ℕ). SignIf (reading w) (number_of negative) x c) (zero_is.1 last.0)
-            ∙ ap (λ (x : ℕ). SignIf (reading w) (number_of negative) (number_of zero_label) x) (positive_is.1 (or_false p ∙ last.1)),
+            ∙ ap (λ (x : ℕ). SignIf (reading w) (number_of negative) (number_of zero_label) x) (positive_is.1 (no_flag p ∙ last.1)),
       )
-    where
-      or_false : (b : Bool) → b ≡ (b || false)
-      or_false true = refl
-      or_false false = refl
 
   sign_labels_keep : (text : List ℕ) → FollowsStatement start (sign_labels_at w text) (sign_labels_kept e bad text)
   unfolding sign_labels_kept

@@ -16,8 +16,7 @@ use Rattle.f77_parse.specs.Forms.{alone, stop_at, computed_at, go_to_at, items_b
 use Rattle.f77_parse.specs.Keeping.{Keeps, keep_then, where_front, skipped, wanted, few_digits_kept, label_kept, character_constant_kept, expression_kept, kept_list, item_kept, variable_kept}
 use Rattle.f77_parse.specs.KeptForms.{as_stmt, stop_kept, go_to_kept, items_behind_kept, items_or_none_kept, targets_kept, transfer_kept, simple_kept}
 use Rattle.f77_parse.specs.Following.{Follows}
-use Rattle.f77_parse.proofs.FollowForms.{IsKept, IsStatementKept, FollowsStatement, no_flag, as_follows, if_follows, form_follows, alone_follows, wanted_character_follows, skipped_comma, front_if}
-use Rattle.f77_parse.proofs.FollowFormsDo.{flags_grow}
+use Rattle.f77_parse.proofs.FollowForms.{IsKept, IsStatementKept, FollowsStatement, flags_grow, no_flag, as_follows, if_follows, form_follows, alone_follows, wanted_character_follows, skipped_comma, front_if}
 use Rattle.f77_parse.proofs.FollowLists.{list_keeps}
 use Rattle.f77_parse.proofs.FollowNumbers.{label_keeps}
 use Rattle.f77_parse.proofs.FollowReaders.{expression_keeps}
