@@ -1,5 +1,6 @@
 -- Statements read from their texts: readers of the parts and of the forms of statements.
 pub mod Answers
+pub mod Following
 pub mod Forms
 pub mod Keeping
 pub mod KeptForms
