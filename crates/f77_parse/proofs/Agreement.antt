@@ -75,3 +75,12 @@ module _ {A V : Type 0} (value : A → V) (is_bad : A → Bool) (bad : Bool) whe
       by : (o : Option (List ℕ)) → Agrees value is_bad bad (behind (λ more. Some (a, more)) o) (keep_then (where_front {V = Unit {0}} o (λ more. Some (tt, bad_now, more)) None) (λ found bad_then more. Some (v, bad_then, more)))
       by None = tt
       by (Some more) = (h.0, h.1, refl)
+
+-- what was read is more than what the agreement is on, and its constants with it
+pub agrees_under : {A B W : Type 0} (value : A → W) (is_bad : A → Bool) (value_too : B → W) (is_bad_too : B → Bool) (bad bad_before : Bool) (f : A → B) (x : Reads A) (y : Keeps W) → ((a : A) → (bad || is_bad a) ≡ (bad_before || is_bad_too (f a)))
+    → ((a : A) → is_bad_too (f a) ≡ false → (is_bad a ≡ false) × (value a ≡ value_too (f a))) → Agrees value is_bad bad x y → Agrees value_too is_bad_too bad_before (read_as f x) y
+agrees_under value is_bad value_too is_bad_too bad bad_before f None None flags values h = tt
+agrees_under value is_bad value_too is_bad_too bad bad_before f None (Some kept) flags values h = absurd h
+agrees_under value is_bad value_too is_bad_too bad bad_before f (Some read) None flags values h = absurd h
+agrees_under value is_bad value_too is_bad_too bad bad_before f (Some (a, rest)) (Some (v, bad_now, rest_now)) flags values h =
+    (λ good. let is = values a good in h.0 is.0 ∙ is.1, h.1 ∙ flags a, h.2)

@@ -32,3 +32,4 @@ pub mod Marks
 pub mod Agreement
 pub mod AgreeConstants
 pub mod StatementsKept
+pub mod AgreeLists
