@@ -29,8 +29,6 @@ pub mod ListsKept
 pub mod ExpressionsKept
 pub mod Given
 pub mod Marks
-pub mod Agreement
-pub mod AgreeConstants
 pub mod StatementsKept
 pub mod FollowForms
 pub mod FollowWanted
