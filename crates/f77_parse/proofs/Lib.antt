@@ -27,7 +27,6 @@ pub mod PartReaders
 pub mod PartSequences
 pub mod ListsKept
 pub mod ExpressionsKept
-pub mod FollowWanted
 pub mod FollowLemmas
 pub mod FollowLists
 pub mod FollowNumbers
@@ -36,3 +35,4 @@ pub mod FollowDeclarations
 pub mod FollowLetters
 pub mod FollowBlocks
 pub mod FollowMembers
+pub mod FollowItems
