@@ -28,7 +28,6 @@ pub mod PartSequences
 pub mod ListsKept
 pub mod ExpressionsKept
 pub mod FollowForms
-pub mod FollowWanted
 pub mod FollowFormsAssigned
 pub mod FollowFormsDo
 pub mod FollowFormsEquals
@@ -44,3 +43,4 @@ pub mod FollowDeclarations
 pub mod FollowLetters
 pub mod FollowBlocks
 pub mod FollowMembers
+pub mod FollowItems
