@@ -1,14 +1,14 @@
 -- Parts of COMMON that are kept.
-use Rattle.std.proofs.Common.{◌≡◌, ◌==◌, ℕ, Bool, true, false, ◌||◌, List, [], ◌∷◌, codes, length, map, Option, Some, None, if◌then◌else◌, refl, sym, ap, subst, ◌∙◌}
+use Rattle.std.proofs.Common.{◌==◌, ℕ, Bool, true, false, List, [], ◌∷◌, codes, Option, Some, None, if◌then◌else◌, refl, sym, ap, subst, ◌∙◌}
 use Rattle.std.specs.List.{list_any}
 use Rattle.f77_tree.specs.declared.declarations.Decl.{Decl}
 use Rattle.f77_tree.specs.declared.declarations.CommonPart.{CommonPart}
-use Rattle.f77_tree.specs.StatementGrammar.{WrittenBlock, block_of, WrittenDecl, decl_of, decl_numbers, are_great, WrittenPart, part_of}
+use Rattle.f77_tree.specs.StatementGrammar.{WrittenBlock, block_of, decl_numbers, are_great, WrittenPart, part_of}
 use Rattle.f77_expr.specs.Reader.{Reads, read_as, and_then_read, after_front, this_or}
 use Rattle.f77_parse.specs.Parts.{behind, after, then_front, name_at, list_at, decl_at, block_at, comma_at, part_behind, part_at, first_part_at}
-use Rattle.f77_parse.specs.Keeping.{Keeps, keep_then, where_front, skipped, wanted, begins, name_kept, decl_kept, kept_list, block_kept, block_and_decls, first_part_kept, part_kept}
+use Rattle.f77_parse.specs.Keeping.{Keeps, keep_then, wanted, name_kept, decl_kept, kept_list, block_kept, block_and_decls, first_part_kept, part_kept}
 use Rattle.f77_parse.specs.Following.{Follows}
-use Rattle.f77_parse.proofs.FollowLemmas.{Alike, Nothing, never_bad, Told, or_none, flag_last, alike_follows, alike_then, alike_as, alike_front, alike_wanted, then_as, alike_if}
+use Rattle.f77_parse.proofs.FollowLemmas.{Alike, Nothing, never_bad, Told, or_none, flag_last, alike_follows, alike_then, alike_as, alike_front, alike_wanted, then_as}
 use Rattle.f77_parse.proofs.FollowReaders.{name_alike, comma_skipped}
 use Rattle.f77_parse.proofs.FollowDeclarations.{AreKeptDecls, decls_alike}
 

@@ -14,7 +14,7 @@ use Rattle.f77_parse.specs.KeptForms.{as_stmt, assigned_kept, conditional_kept}
 use Rattle.f77_parse.specs.Following.{Follows}
 use Rattle.f77_parse.proofs.FollowForms.{IsKept, IsStatementKept, FollowsStatement, two_flags, as_follows, wanted_follows}
 use Rattle.f77_parse.proofs.FollowReaders.{expression_keeps}
-use Rattle.f77_parse.proofs.FollowWanted.{variable_keeps}
+use Rattle.f77_parse.proofs.FollowItems.{variable_keeps}
 
 -- ---- assignments
 

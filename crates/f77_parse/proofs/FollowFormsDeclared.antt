@@ -88,7 +88,7 @@ data_statement_keeps bad text =
     (made_keeps (map data_of) (list_any bad_data) (λ parts. WrittenStatement.init parts) (λ parts. Init parts) (λ parts. refl)
     (λ parts. any_same (λ d. are_great (flat_map (λ m. m.subs) d.items) || list_any value_is_bad d.values) bad_data (λ d. ap (λ (b : Bool). b || list_any value_is_bad d.values) (great_in (λ m. m.subs) d.items)) parts)
     bad (and_then_read (λ a rest. read_as (λ others. a ∷ others) (parts_to_end (length rest) data_at rest)) (data_behind false text)) (kept_parts init_part_kept next_init_part_kept bad text)
-    (parts_keep data_of bad_data data_at next_init_part_kept next_data_keeps (data_behind false) init_part_kept (data_keeps false) bad text))
+    (parts_keep data_of bad_data data_at next_init_part_kept next_data_keeps (data_behind false) init_part_kept data_keeps bad text))
   where
     bad_data : WrittenData → Bool
     bad_data part = list_any (λ member. are_great member.subs) part.items || list_any value_is_bad part.values

@@ -20,7 +20,7 @@ use Rattle.f77_parse.proofs.FollowForms.{IsKept, IsStatementKept, FollowsStateme
 use Rattle.f77_parse.proofs.FollowLists.{list_keeps}
 use Rattle.f77_parse.proofs.FollowNumbers.{label_keeps}
 use Rattle.f77_parse.proofs.FollowReaders.{expression_keeps}
-use Rattle.f77_parse.proofs.FollowWanted.{variable_keeps, item_keeps, character_constant_keeps}
+use Rattle.f77_parse.proofs.FollowItems.{variable_keeps, item_keeps, character_constant_keeps}
 
 -- ---- STOP
 

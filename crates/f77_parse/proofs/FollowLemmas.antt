@@ -129,6 +129,24 @@ pub then_as : {A B C : Type 0} (go : B → List ℕ → Reads C) (f : A → B) (
 then_as go f None = refl
 then_as go f (Some (a, rest)) = refl
 
+-- what was changed behind another
+pub as_behind : {A B C D : Type 0} (f : C → D) (g : A → B → C) (go : A → List ℕ → Reads B) (x : Reads A) → read_as f (and_then_read (λ a rest. read_as (g a) (go a rest)) x) ≡ and_then_read (λ a rest. read_as (λ b. f (g a b)) (go a rest)) x
+as_behind f g go None = refl
+as_behind {B = B} {D = D} f g go (Some (a, rest)) = by (go a rest)
+  where
+    by : (y : Reads B) → read_as f (read_as (g a) y) ≡ read_as (λ b. f (g a b)) y
+    by None = refl
+    by (Some (b, end)) = refl
+
+-- what was changed before a front
+pub as_before : {A B : Type 0} (front : List ℕ) (f : A → B) (x : Reads A) → then_front front (read_as f x) ≡ read_as f (then_front front x)
+as_before front f None = refl
+as_before {B = B} front f (Some (a, rest)) = by (after_front front rest)
+  where
+    by : (o : Option (List ℕ)) → behind (λ more. Some (f a, more)) o ≡ read_as f (behind (λ more. Some (a, more)) o)
+    by None = refl
+    by (Some more) = refl
+
 module _ {A V : Type 0} (R Q : A → V → Bool → Type 0) where
   pub alike_weaker : (x : Reads A) (k : Keeps V) → Alike R x k → ((a : A) (v : V) (bad : Bool) → R a v bad → Q a v bad) → Alike Q x k
   alike_weaker None None h next = tt
@@ -169,6 +187,21 @@ module _ {B W : Type 0} (Q : B → W → Bool → Type 0) where
       (λ a v bad rest r. alike_wanted (λ more. Some (a, more)) (λ found bad_then more. Some (v, bad_then, more)) front bad rest (λ more e. (refl, r)))
 
 -- ---- whole readers, by what they keep
+
+module _ {B W : Type 0} (value : B → W) (is_bad : B → Bool) where
+  -- where a front stands there, and where it doesn't
+  pub follows_front : (bad : Bool) (reads : Option (List ℕ) → Reads B) (there : List ℕ → Keeps W) (others : Keeps W) (front : Option (List ℕ)) → ((rest : List ℕ) → front ≡ Some rest → Follows value is_bad bad (reads (Some rest)) (there rest)) → (front ≡ None → Follows value is_bad bad (reads None) others) → Follows value is_bad bad (reads front) (where_front front there others)
+  follows_front bad reads there others None here else_here = else_here refl
+  follows_front bad reads there others (Some rest) here else_here = here rest refl
+
+  -- a front that has to stand there
+  pub follows_needed : (whole_bad : Bool) (reads : Option (List ℕ) → Reads B) (more : Unit → Bool → List ℕ → Keeps W) (front : List ℕ) (bad : Bool) (text : List ℕ) → Follows value is_bad whole_bad (reads None) None → ((rest : List ℕ) → after_front front text ≡ Some rest → Follows value is_bad whole_bad (reads (Some rest)) (more tt bad rest)) → Follows value is_bad whole_bad (reads (after_front front text)) (keep_then (wanted front bad text) more)
+  unfolding wanted
+  follows_needed whole_bad reads more front bad text none here = by (after_front front text) here
+    where
+      by : (o : Option (List ℕ)) → ((rest : List ℕ) → o ≡ Some rest → Follows value is_bad whole_bad (reads (Some rest)) (more tt bad rest)) → Follows value is_bad whole_bad (reads o) (keep_then (where_front o (λ rest. Some (tt, bad, rest)) None) more)
+      by None k = none
+      by (Some rest) k = k rest refl
 
 module _ {A B V W : Type 0} (value : A → V) (is_bad : A → Bool) (value_too : B → W) (is_bad_too : B → Bool) where
   -- what was read and kept, changed alike

@@ -1,5 +1,5 @@
 -- Letters of IMPLICIT that are kept.
-use Rattle.std.proofs.Common.{◌≡◌, ℕ, zero, suc, Bool, true, false, ◌||◌, List, [], ◌∷◌, ◌++◌, codes, length, map, Option, Some, None, refl, sym, ap, subst, ◌∙◌, append_assoc}
+use Rattle.std.proofs.Common.{◌≡◌, ℕ, zero, suc, Bool, false, ◌||◌, List, [], ◌∷◌, ◌++◌, codes, length, Option, Some, None, refl, sym, ap, subst, ◌∙◌, append_assoc}
 use Rattle.std.specs.Prelude.{flat_map}
 use Rattle.std.specs.List.{list_any}
 use Rattle.std.proofs.lemmas.List.{append-nil}
@@ -8,7 +8,7 @@ use Rattle.f77_tree.specs.declared.declarations.Kind.TheVariants.{Integer, Logic
 use Rattle.f77_tree.specs.declared.declarations.LetterRange.{LetterRange}
 use Rattle.f77_tree.specs.StatementGrammar.{WrittenRange, WrittenLetters, last_of, letters_of}
 use Rattle.f77_expr.specs.Reader.{Reads, read_as, after_front, this_or}
-use Rattle.f77_parse.specs.Parts.{behind, then_front, letter_at, list_at, listed, more_listed, behind_comma, bracketed_at, range_behind, range_at, kind_at, letters_at}
+use Rattle.f77_parse.specs.Parts.{behind, then_front, letter_at, list_at, listed, more_listed, behind_comma, range_behind, range_at, kind_at, letters_at}
 use Rattle.f77_parse.specs.Keeping.{Keeps, keep_then, where_front, wanted, letter_kept, range_kept, kind_kept, kept_behind, kept_next, letters_kept, ranges_onto, kept_ranges}
 use Rattle.f77_parse.specs.Following.{Follows}
 use Rattle.f77_parse.proofs.FollowLemmas.{Alike, Nothing, never_bad, Told, or_none, alike_follows, alike_then, alike_as, alike_read_as, alike_weaker, alike_front, alike_needed, alike_then_front}

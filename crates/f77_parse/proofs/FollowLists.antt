@@ -1,5 +1,5 @@
 -- Lists that are kept item by item, beside lists that are read.
-use Rattle.std.proofs.Common.{◌≡◌, ℕ, zero, suc, Bool, true, false, ◌||◌, List, [], ◌∷◌, ◌++◌, length, map, Option, Some, None, refl, sym, ap, subst, ◌∙◌, append_assoc}
+use Rattle.std.proofs.Common.{◌≡◌, ℕ, zero, suc, Bool, ◌||◌, List, [], ◌∷◌, ◌++◌, length, map, Option, Some, None, refl, sym, ap, subst, ◌∙◌, append_assoc}
 use Rattle.std.specs.Prelude.{◌&&◌, flat_map}
 use Rattle.std.specs.List.{list_any, list_all}
 use Rattle.std.proofs.Math.Bool.{or_assoc}
@@ -8,7 +8,7 @@ use Rattle.std.proofs.lemmas.List.{append-nil}
 use Rattle.std.proofs.lemmas.List.Folds.{list_any-append}
 use Rattle.f77_expr.specs.Reader.{Reads, read_as, and_then_read}
 use Rattle.f77_parse.specs.Parts.{behind_comma, more_listed, listed, list_at, parts_to_end}
-use Rattle.f77_parse.specs.Keeping.{Keeps, keep_then, kept_next, kept_onto, kept_behind, kept_list, kept_to_end, kept_parts}
+use Rattle.f77_parse.specs.Keeping.{Keeps, kept_next, kept_onto, kept_behind, kept_list, kept_to_end, kept_parts}
 use Rattle.f77_parse.specs.Following.{Follows}
 use Rattle.f77_parse.proofs.FollowLemmas.{Alike, Nothing, Told, or_none, follows_alike, alike_follows, alike_then, alike_read_as, alike_weaker}
 

@@ -1,5 +1,5 @@
 -- Members of EQUIVALENCE and of DATA that are kept.
-use Rattle.std.proofs.Common.{◌≡◌, ◌<◌, ◌≤◌, ℕ, ℤ, Bool, true, false, ◌||◌, List, [], ◌∷◌, codes, length, map, Option, Some, None, if◌then◌else◌, ⊎_elim, refl, sym, ap, subst, ◌∙◌, arith}
+use Rattle.std.proofs.Common.{◌≡◌, ℕ, ℤ, Bool, false, ◌||◌, List, [], codes, length, map, Some, None, if◌then◌else◌, ⊎_elim, refl, sym, ap, subst, ◌∙◌}
 use Rattle.std.specs.Prelude.{not, nat_le, nat_lt}
 use Rattle.std.specs.List.{list_any}
 use Rattle.std.proofs.lemmas.Bool.{or_parts, cases_lt, lt-ltb, le-ltb, le-leb, lt-leb}
@@ -7,9 +7,9 @@ use Rattle.f77_tree.specs.declared.declarations.Member.{Member}
 use Rattle.f77_tree.specs.declared.declarations.InitValue.{InitValue}
 use Rattle.f77_tree.specs.declared.declarations.InitPart.{InitPart}
 use Rattle.f77_tree.specs.StatementGrammar.{SignedDigits, whole_number, is_great, are_great, WrittenMember, member_of, WrittenValue, value_of, value_is_bad, WrittenData, data_of}
-use Rattle.f77_expr.specs.Reader.{Reads, read_as, and_then_read, after_front}
-use Rattle.f77_parse.specs.Parts.{behind, after, then_front, where_it, name_at, signed_at, list_at, bracketed_or_none, bracketed_at, comma_at, member_at, group_at, value_at, data_behind, data_at}
-use Rattle.f77_parse.specs.Keeping.{Keeps, keep_then, where_front, skipped, wanted, name_kept, signed_kept, closed_list, kept_list, member_kept, group_kept, value_kept, init_part_kept, next_init_part_kept}
+use Rattle.f77_expr.specs.Reader.{Reads, read_as, after_front}
+use Rattle.f77_parse.specs.Parts.{behind, after, then_front, where_it, name_at, signed_at, list_at, bracketed_or_none, comma_at, member_at, group_at, value_at, data_behind, data_at}
+use Rattle.f77_parse.specs.Keeping.{Keeps, keep_then, where_front, wanted, name_kept, signed_kept, closed_list, kept_list, member_kept, group_kept, value_kept, init_part_kept, next_init_part_kept}
 use Rattle.f77_parse.specs.Following.{Follows}
 use Rattle.f77_parse.proofs.FollowLemmas.{Alike, Nothing, never_bad, Told, or_none, flag_two, flag_last, alike_follows, alike_then, alike_as, alike_unless, alike_same, alike_needed, alike_wanted, then_as}
 use Rattle.f77_parse.proofs.FollowLists.{Both, both_length, list_alike}
@@ -132,11 +132,16 @@ data_alike bad comma text =
     (list_alike member_of member_is_great Nothing member_at member_kept member_alike bad text)
     (λ items kept bad_now rest told. alike_wanted (IsKeptData bad) (values_at comma items) (λ found bad_then behind. kept_values kept bad_then behind) (codes "/") bad_now rest (λ next e. values_alike bad comma items kept bad_now told next))
 
-pub data_keeps : (comma bad : Bool) (text : List ℕ) → Follows data_of data_is_bad bad (data_behind comma text) (init_part_kept bad text)
-data_keeps comma bad text = alike_follows data_of data_is_bad Nothing bad (data_behind comma text) (init_part_kept bad text) (data_alike bad comma text)
+pub data_behind_keeps : (comma bad : Bool) (text : List ℕ) → Follows data_of data_is_bad bad (data_behind comma text) (init_part_kept bad text)
+data_behind_keeps comma bad text = alike_follows data_of data_is_bad Nothing bad (data_behind comma text) (init_part_kept bad text) (data_alike bad comma text)
 
+-- the first part, before which no comma stands
+pub data_keeps : (bad : Bool) (text : List ℕ) → Follows data_of data_is_bad bad (data_behind false text) (init_part_kept bad text)
+data_keeps bad text = data_behind_keeps false bad text
+
+-- the others
 pub next_data_keeps : (bad : Bool) (text : List ℕ) → Follows data_of data_is_bad bad (data_at text) (next_init_part_kept bad text)
 unfolding next_init_part_kept
 next_data_keeps bad text =
     subst (λ (next : List ℕ). Follows data_of data_is_bad bad (data_at text) (init_part_kept bad next)) (comma_skipped text)
-    (let comma = comma_at text in data_keeps comma.0 bad comma.1)
+    (let comma = comma_at text in data_behind_keeps comma.0 bad comma.1)

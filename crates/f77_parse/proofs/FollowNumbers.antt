@@ -1,8 +1,8 @@
 -- Numbers, labels, repeats and constants that are kept.
-use Rattle.std.proofs.Common.{◌≡◌, ◌<◌, ◌≤◌, ◌==◌, ℕ, ℤ, Bool, true, false, ◌||◌, List, [], ◌∷◌, codes, length, Option, Some, None, if◌then◌else◌, ⊎_elim, refl, sym, ap, subst, ◌∙◌, arith}
+use Rattle.std.proofs.Common.{◌≡◌, ◌≤◌, ◌==◌, ℕ, ℤ, Bool, true, false, ◌||◌, List, [], ◌∷◌, codes, length, Some, None, if◌then◌else◌, ⊎_elim, refl, sym, ap, subst, ◌∙◌, arith}
 use Rattle.std.specs.Prelude.{pos, ◌-ℤ◌, min, nat_lt, drop, take_while}
 use Rattle.std.proofs.Math.Bool.{or_assoc, or_comm}
-use Rattle.std.proofs.lemmas.Bool.{or_parts, or_right, cases_lt, cases_Bool, lt-ltb, le-ltb, ltb-false, eqb-true, eq-eqb, true≢false}
+use Rattle.std.proofs.lemmas.Bool.{or_parts, or_right, cases_lt, cases_Bool, lt-ltb, le-ltb, ltb-false, eqb-true, eq-eqb}
 use Rattle.f77_tree.specs.Name.{is_figure}
 use Rattle.f77_tree.specs.Grammar.{number_of}
 use Rattle.f77_tree.specs.declared.declarations.Lit.{Lit}
@@ -11,7 +11,7 @@ use Rattle.f77_tree.specs.declared.declarations.InitValue.{InitValue}
 use Rattle.f77_tree.specs.StatementGrammar.{Sign, SignedDigits, signed_value, whole_number, is_great, is_bad_label, WrittenConstant, constant_of, constant_is_great, WrittenValue, value_of, value_is_bad}
 use Rattle.f77_expr.specs.Reader.{Reads, read_as, after_front, this_or}
 use Rattle.f77_expr.proofs.EachRead.{if_false}
-use Rattle.f77_parse.specs.Parts.{number_at, sign_at, signed_at, truth_at, constant_at, value_behind, value_begun, value_at, unsigned}
+use Rattle.f77_parse.specs.Parts.{number_at, signed_at, truth_at, constant_at, value_behind, value_begun, value_at, unsigned}
 use Rattle.f77_parse.specs.Keeping.{Keeps, keep_then, where_front, kept_plain, skipped, wanted, number_kept, is_great_number, constant_in, is_no_label, label_in, is_no_repeat, repeat_in, label_kept, signed_kept, truth_kept, constant_kept, some_constants, value_kept}
 use Rattle.f77_parse.specs.Following.{Follows}
 use Rattle.f77_parse.proofs.PartReaders.{flip}

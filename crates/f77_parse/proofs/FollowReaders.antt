@@ -1,17 +1,16 @@
 -- Names, letters and expressions that are kept, and lists between brackets.
-use Rattle.std.proofs.Common.{◌≡◌, ◌==◌, ℕ, suc, zero, Bool, true, false, ◌||◌, List, [], ◌∷◌, codes, length, map, Option, Some, None, if◌then◌else◌, refl, sym, ap, subst, ◌∙◌}
+use Rattle.std.proofs.Common.{◌≡◌, ◌==◌, ℕ, suc, zero, Bool, true, false, List, [], ◌∷◌, codes, length, map, Option, Some, None, if◌then◌else◌, refl, sym, ap, subst, ◌∙◌}
 use Rattle.std.specs.List.{list_any}
-use Rattle.f77_tree.specs.declared.statements.RawExpr.{RawExpr}
 use Rattle.f77_tree.specs.Grammar.{Written, reading, has_great_number}
 use Rattle.f77_expr.specs.Reader.{Reads, read_as, and_then_read, after_front, expression_at}
-use Rattle.f77_expr.proofs.EachRead.{Each, each_then, each_as}
+use Rattle.f77_expr.proofs.EachRead.{Each}
 use Rattle.f77_expr.proofs.Whole.{kept-reading}
-use Rattle.f77_parse.specs.Parts.{behind, then_front, name_at, letter_at, expression_in_front, behind_comma, more_listed, listed, list_at, bracketed_at, bracketed_or_none, comma_at}
-use Rattle.f77_parse.specs.Keeping.{Keeps, keep_then, where_front, skipped, name_kept, letter_kept, kept_expression, expression_kept, kept_list, closed_list}
+use Rattle.f77_parse.specs.Parts.{behind, then_front, name_at, letter_at, expression_in_front, behind_comma, more_listed, listed, list_at, bracketed_or_none, comma_at}
+use Rattle.f77_parse.specs.Keeping.{Keeps, where_front, skipped, name_kept, letter_kept, kept_expression, expression_kept, kept_list, closed_list}
 use Rattle.f77_parse.specs.Following.{Follows}
-use Rattle.f77_parse.proofs.FollowLemmas.{Alike, Nothing, never_bad, Told, alike_follows, follows_alike, alike_plain, alike_front, alike_then_front}
+use Rattle.f77_parse.proofs.FollowLemmas.{Alike, Nothing, never_bad, Told, alike_follows, follows_alike, alike_plain, alike_then_front}
 use Rattle.f77_parse.proofs.FollowLists.{Both, list_alike}
-use Rattle.f77_parse.proofs.FollowNumbers.{eq_flip, one_front}
+use Rattle.f77_parse.proofs.FollowNumbers.{one_front}
 
 -- ---- names and letters
 

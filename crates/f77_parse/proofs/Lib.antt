@@ -31,7 +31,6 @@ pub mod Given
 pub mod Marks
 pub mod StatementsKept
 pub mod FollowForms
-pub mod FollowWanted
 pub mod FollowFormsAssigned
 pub mod FollowFormsDo
 pub mod FollowFormsEquals
@@ -47,3 +46,4 @@ pub mod FollowDeclarations
 pub mod FollowLetters
 pub mod FollowBlocks
 pub mod FollowMembers
+pub mod FollowItems
