@@ -1,5 +1,5 @@
 -- Whole statements, by what is kept of them.
-use Rattle.std.proofs.Common.{◌≡◌, ℕ, Bool, true, false, List, Some, None, sym, ◌∙◌}
+use Rattle.std.proofs.Common.{◌≡◌, ℕ, Bool, true, false, List, Some, None, sym, ap, ◌∙◌}
 use Rattle.f77_tree.specs.declared.statements.Stmt.{Stmt}
 use Rattle.f77_tree.specs.StatementGrammar.{WrittenStatement, IsWrittenStatement, has_bad_constant}
 use Rattle.f77_parse.specs.Forms.{stands_free, statement_at}
@@ -29,3 +29,11 @@ pub read_bad : (text : List ℕ) (stmt : Stmt) (bad : Bool) (rest : List ℕ) �
 read_bad text stmt bad rest e is_bad =
     let t = statement_kept text stmt bad rest e in
     record { written = t.written; spells = statement_sound text t.written t.is_read; constant = sym t.is_bad ∙ is_bad }
+
+-- the marks that a scan found are those of the whole text
+pub as_marked : (equals comma bad : Bool) (rest text : List ℕ) → equals ≡ stands_free 61 text → comma ≡ stands_free 44 text → bad ≡ false → rest ≡ text → kept_whole (form_kept equals comma bad rest) ≡ kept_whole (marked_form text)
+as_marked equals comma bad rest text equals_is comma_is bad_is rest_is =
+    ap (λ (b : Bool). kept_whole (form_kept b comma bad rest)) equals_is
+    ∙ ap (λ (b : Bool). kept_whole (form_kept (stands_free 61 text) b bad rest)) comma_is
+    ∙ ap (λ (b : Bool). kept_whole (form_kept (stands_free 61 text) (stands_free 44 text) b rest)) bad_is
+    ∙ ap (λ (r : List ℕ). kept_whole (form_kept (stands_free 61 text) (stands_free 44 text) false r)) rest_is
