@@ -1,5 +1,5 @@
 -- Expressions that are kept, by the piece that is one.
-use Rattle.std.proofs.Common.{◌≡◌, ℕ, ◌<◌, ◌≤◌, ◌||◌, Bool, true, false, List, [], ◌∷◌, ◌++◌, length, drop, Some, None, Result, Err, if◌then◌else◌, refl, sym, ap, subst, ◌∙◌, arith, length-append}
+use Rattle.std.proofs.Common.{◌≡◌, ℕ, ◌<◌, ◌≤◌, ◌||◌, Bool, true, List, [], ◌∷◌, ◌++◌, length, drop, Some, None, Result, Err, if◌then◌else◌, refl, sym, ap, subst, ◌∙◌, arith, length-append}
 use Rattle.f77_tree.specs.declared.statements.RawExpr.{RawExpr}
 use Rattle.f77_tree.specs.Grammar.{Written, IsWritten, IsGrammatical, spelling, has_great_number}
 use Rattle.f77_expr.specs.Piece.{nothing_open, piece}
@@ -8,14 +8,13 @@ use Rattle.f77_expr.specs.declared.parsed.ReadEnd.{ReadEnd}
 use Rattle.f77_expr.specs.declared.parsed.ReadEnd.TheVariants.{NoForm, NoMemory}
 use Rattle.f77_expr.specs.declared.parsed.ReadExpr.{ReadExpr}
 use Rattle.f77_parse.specs.Answers.{Gives}
-use Rattle.f77_expr.specs.Answers.{kept}
 use Rattle.f77_expr.specs.Reader.{Reads, and_then_read, expression_at}
-use Rattle.f77_expr.proofs.EachRead.{Each, each_at, if_true}
+use Rattle.f77_expr.proofs.EachRead.{each_at, if_true}
 use Rattle.f77_expr.proofs.Followers.{is_follower}
 use Rattle.f77_expr.proofs.Pieces.{piece_and_rest, behind_piece, follower_ends, piece_spelled, read_piece}
 use Rattle.f77_expr.proofs.Descent.{readers_shorter}
 use Rattle.f77_parse.specs.Parts.{expression_in_front, ends_expression}
-use Rattle.f77_parse.specs.Keeping.{Keeps, kept_expression, expression_kept}
+use Rattle.f77_parse.specs.Keeping.{kept_expression, expression_kept}
 use Rattle.f77_parse.proofs.PartExpressions.{expression_sound}
 
 ends_from : (rest : List ℕ) → is_follower rest ≡ true → ends_expression rest ≡ true

@@ -1,5 +1,5 @@
 -- Results that are passed on.
-use Rattle.std.proofs.Common.{◌≡◌, ℕ, Bool, List, None, Result, Ok, Err, sym, subst}
+use Rattle.std.proofs.Common.{◌≡◌, ℕ, Bool, List, None, Result, Err, sym, subst}
 use Rattle.f77_expr.specs.declared.parsed.ReadEnd.{ReadEnd}
 use Rattle.f77_expr.specs.declared.parsed.ReadEnd.TheVariants.{NoForm, NoMemory}
 use Rattle.f77_parse.specs.Keeping.{Keeps}

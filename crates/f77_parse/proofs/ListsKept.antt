@@ -1,5 +1,5 @@
 -- Lists that are kept item by item.
-use Rattle.std.proofs.Common.{◌≡◌, ℕ, zero, suc, ◌+◌, ◌<◌, ◌≤◌, Bool, true, false, List, [], ◌∷◌, ◌++◌, length, Option, Some, None, refl, sym, ap, subst, ◌∙◌, arith, length-append}
+use Rattle.std.proofs.Common.{◌≡◌, ℕ, zero, suc, ◌+◌, ◌<◌, ◌≤◌, Bool, List, [], ◌∷◌, ◌++◌, length, Some, None, refl, sym, ap, ◌∙◌, arith, length-append}
 use Rattle.f77_tree.specs.declared.declarations.LetterRange.{LetterRange}
 use Rattle.f77_parse.specs.Parts.{behind_comma}
 use Rattle.f77_parse.specs.Keeping.{Keeps, keep_then, kept_next, kept_onto, kept_behind, kept_to_end, kept_parts, characters_onto, characters_next, characters_kept, next_character_kept, ranges_onto, kept_ranges, letters_kept}

@@ -1,8 +1,8 @@
 -- Whole statements, by what is kept of them.
 use Rattle.std.proofs.Common.{◌≡◌, ℕ, Bool, true, false, List, Some, None, sym, ap, ◌∙◌}
 use Rattle.f77_tree.specs.declared.statements.Stmt.{Stmt}
-use Rattle.f77_tree.specs.StatementGrammar.{WrittenStatement, IsWrittenStatement, has_bad_constant}
-use Rattle.f77_parse.specs.Forms.{stands_free, statement_at}
+use Rattle.f77_tree.specs.StatementGrammar.{WrittenStatement, IsWrittenStatement}
+use Rattle.f77_parse.specs.Forms.{stands_free}
 use Rattle.f77_parse.specs.Keeping.{Keeps}
 use Rattle.f77_parse.specs.KeptForms.{kept_whole, form_kept}
 use Rattle.f77_parse.specs.Parsing.{IsReadAs, HasBadConstant}

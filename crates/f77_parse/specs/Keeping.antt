@@ -1,6 +1,6 @@
 -- What the code keeps of the parts of statements: the readers on lists, with values in place of what is written. A number
 -- that is out of range is told by a flag, which stays up.
-use Rattle.std.specs.Prelude.{ℕ, ℤ, pos, ◌-ℤ◌, zero, suc, ◌+◌, Bool, true, false, not, ◌||◌, ◌&&◌, ◌==◌, if◌then◌else◌, nat_le, nat_lt, min, List, [], ◌∷◌, ◌++◌, length, drop, codes, take_while, Option, Some, None}
+use Rattle.std.specs.Prelude.{ℕ, ℤ, pos, ◌-ℤ◌, zero, suc, Bool, true, false, ◌||◌, ◌&&◌, ◌==◌, if◌then◌else◌, nat_le, nat_lt, min, List, [], ◌∷◌, ◌++◌, length, drop, codes, take_while, Option, Some, None}
 use Rattle.f77_tree.specs.declared.statements.RawExpr.{RawExpr}
 use Rattle.f77_tree.specs.declared.declarations.Kind.{Kind}
 use Rattle.f77_tree.specs.declared.declarations.Kind.TheVariants.{Integer, Logical}
@@ -17,10 +17,10 @@ use Rattle.std.specs.List.{list_all}
 use Rattle.f77_tree.specs.declared.statements.RawItem.{RawItem}
 use Rattle.f77_tree.specs.declared.statements.RawItem.TheVariants.{Value, Chars}
 use Rattle.f77_tree.specs.declared.statements.RawExpr.TheVariants.{Named, Call}
-use Rattle.f77_tree.specs.Name.{is_figure, is_capital, is_name}
+use Rattle.f77_tree.specs.Name.{is_figure}
 use Rattle.f77_tree.specs.Grammar.{Written, number_of, has_great_number}
 use Rattle.f77_expr.specs.Answers.{kept}
-use Rattle.f77_expr.specs.Reader.{Reads, after_front, is_symbolic}
+use Rattle.f77_expr.specs.Reader.{Reads, after_front}
 use Rattle.f77_parse.specs.Parts.{behind_comma, number_at, name_at, letter_at, expression_in_front}
 
 -- what is kept of the front of a text, whether something was out of range so far, and the rest of the text

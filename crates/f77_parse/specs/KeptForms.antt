@@ -1,5 +1,5 @@
 -- What the code keeps of the forms of statements.
-use Rattle.std.specs.Prelude.{ℕ, Bool, true, false, not, ◌||◌, ◌&&◌, if◌then◌else◌, nat_le, nat_lt, List, [], ◌∷◌, length, drop, codes, take_while, Option, Some, None}
+use Rattle.std.specs.Prelude.{ℕ, Bool, not, ◌&&◌, if◌then◌else◌, nat_lt, List, [], ◌∷◌, length, codes, take_while, Option, Some, None}
 use Rattle.std.specs.Str.{bytes_eq}
 use Rattle.f77_tree.specs.declared.declarations.Kind.TheVariants.{Integer, Logical}
 use Rattle.f77_tree.specs.declared.statements.RawExpr.{RawExpr}
@@ -9,7 +9,7 @@ use Rattle.f77_tree.specs.declared.statements.Stmt.TheVariants.{Program, Implici
 use Rattle.f77_tree.specs.Name.{is_figure}
 use Rattle.f77_expr.specs.Reader.{after_front}
 use Rattle.f77_parse.specs.Parts.{behind_comma}
-use Rattle.f77_parse.specs.Keeping.{Keeps, keep_then, where_front, skipped, kept_list, kept_behind, kept_parts, kept_ranges, wanted, begins, name_kept, few_digits_kept, expression_kept, label_kept, decl_kept, arrays_kept, letters_kept, first_part_kept, part_kept, group_kept, init_part_kept, next_init_part_kept, variable_kept, character_constant_kept, item_kept}
+use Rattle.f77_parse.specs.Keeping.{Keeps, keep_then, where_front, skipped, kept_list, kept_behind, kept_parts, kept_ranges, wanted, begins, name_kept, few_digits_kept, expression_kept, label_kept, decl_kept, arrays_kept, first_part_kept, part_kept, group_kept, init_part_kept, next_init_part_kept, variable_kept, character_constant_kept, item_kept}
 
 -- a statement of what was read
 abbrev pub as_stmt : {V : Type 0} → (V → Stmt) → Keeps V → Keeps Stmt

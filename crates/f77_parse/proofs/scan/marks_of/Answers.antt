@@ -1,7 +1,7 @@
 use Rattle.std.proofs.Common.{◌≡◌, ◌==◌, ◌&&◌, ◌||◌, not, max, get_or, rules}
 use Rattle.f77_expr.specs.Piece.{open_after}
 use Rattle.f77_parse.specs.Scanning.{is_open}
-use Rattle.f77_parse.proofs.Marks.{IsMarked, marks_begin, marks_go_on, marks_end}
+use Rattle.f77_parse.proofs.Marks.{marks_begin, marks_go_on, marks_end}
 use Rattle.f77_parse.proofs.scan.marks_of.Goals as goal
 
 pub loop-c-init : goal.loop-c-init

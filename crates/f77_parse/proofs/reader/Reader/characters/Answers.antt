@@ -1,6 +1,6 @@
-use Rattle.std.proofs.Common.{◌≡◌, ◌<◌, ℕ, List, [], ◌∷◌, ◌++◌, length, Some, None, rules, sym, subst}
+use Rattle.std.proofs.Common.{◌≡◌, ◌<◌, ℕ, List, [], ◌∷◌, ◌++◌, length, Some, rules, sym, subst}
 use Rattle.f77_parse.specs.Keeping.{next_character_kept, characters_kept}
-use Rattle.f77_parse.proofs.ListsKept.{IsQuoting, quoting_begins, quoting_fails, quoting_ends, quoting_goes_on}
+use Rattle.f77_parse.proofs.ListsKept.{IsQuoting, quoting_begins, quoting_goes_on}
 use Rattle.f77_parse.proofs.reader.Reader.characters.Goals as goal
 
 pub loop-list-init : goal.loop-list-init

@@ -1,6 +1,6 @@
-use Rattle.std.proofs.Common.{◌≡◌, ℕ, ◌+◌, ◌-◌, ◌<◌, ◌≤◌, ◌||◌, List, length, drop, Err, rules, arith, sym, ap, subst, ◌∙◌}
+use Rattle.std.proofs.Common.{◌≡◌, ℕ, ◌+◌, ◌-◌, ◌||◌, List, length, drop, Err, rules, arith, sym, ap, subst, ◌∙◌}
 use Rattle.f77_expr.specs.Piece.{piece}
-use Rattle.f77_expr.specs.Parsing.{IsReadWhole, IsPieceRead}
+use Rattle.f77_expr.specs.Parsing.{IsReadWhole}
 use Rattle.f77_parse.proofs.ExpressionsKept.{piece_short, piece_some, piece_failed, expression_there}
 use Rattle.f77_parse.proofs.reader.Reader.expression.Goals as goal
 

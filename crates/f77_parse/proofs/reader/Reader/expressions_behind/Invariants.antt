@@ -1,4 +1,4 @@
-use Rattle.std.proofs.Common.{[], length}
+use Rattle.std.proofs.Common.{length}
 use Rattle.f77_parse.specs.Keeping.{kept_behind, expression_kept}
 use Rattle.f77_parse.proofs.ListsKept.{IsBegun}
 use Rattle.f77_parse.proofs.reader.Reader.expressions_behind.Given as goal

@@ -1,9 +1,9 @@
-use Rattle.std.proofs.Common.{◌≡◌, ◌<◌, ◌≤◌, ◌+◌, ℕ, Bool, List, [], length, Some, None, Err, rules, arith, sym, ap, subst, ◌∙◌}
+use Rattle.std.proofs.Common.{◌≡◌, ◌<◌, ◌≤◌, ◌+◌, Bool, List, [], length, Some, Err, rules, arith, sym, ap, subst, ◌∙◌}
 use Rattle.f77_tree.specs.declared.declarations.LetterRange.{LetterRange}
 use Rattle.f77_parse.specs.Parts.{behind_comma}
-use Rattle.f77_parse.specs.Keeping.{letters_kept, kept_ranges}
+use Rattle.f77_parse.specs.Keeping.{letters_kept}
 use Rattle.f77_parse.proofs.Given.{given_fails}
-use Rattle.f77_parse.proofs.ListsKept.{AreRanged, no_letters, first_letters, next_letters}
+use Rattle.f77_parse.proofs.ListsKept.{no_letters, first_letters, next_letters}
 use Rattle.f77_parse.proofs.reader.Reader.letters_list.Goals as goal
 
 pub returns-in_err-list-clause-gives : goal.returns-in_err-list-clause-gives

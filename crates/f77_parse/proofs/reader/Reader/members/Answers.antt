@@ -1,4 +1,4 @@
-use Rattle.std.proofs.Common.{◌≡◌, ◌<◌, Bool, List, ℕ, [], ◌∷◌, ◌++◌, length, Some, None, Err, rules, arith, sym, subst}
+use Rattle.std.proofs.Common.{◌≡◌, ◌<◌, Bool, List, [], ◌∷◌, ◌++◌, length, Some, None, Err, rules, arith, sym, subst}
 use Rattle.f77_parse.specs.Parts.{behind_comma}
 use Rattle.f77_parse.specs.Keeping.{kept_list, member_kept}
 use Rattle.f77_parse.proofs.Given.{given_fails}

@@ -1,4 +1,4 @@
-use Rattle.std.proofs.Common.{◌≡◌, ◌<◌, Bool, List, ℕ, [], ◌∷◌, ◌++◌, length, Some, None, Err, rules, arith, sym, subst}
+use Rattle.std.proofs.Common.{◌≡◌, ◌<◌, List, [], ◌∷◌, ◌++◌, length, Some, Err, rules, arith, sym, subst}
 use Rattle.f77_parse.specs.Keeping.{kept_parts, first_part_kept, part_kept}
 use Rattle.f77_parse.proofs.Given.{given_fails}
 use Rattle.f77_parse.proofs.ListsKept.{IsFilled, no_first_part, first_part, parts_end, no_part, next_part}

@@ -1,4 +1,4 @@
-use Rattle.std.proofs.Common.{[], length}
+use Rattle.std.proofs.Common.{length}
 use Rattle.f77_parse.specs.Keeping.{kept_behind, range_kept}
 use Rattle.f77_parse.proofs.ListsKept.{IsBegun}
 use Rattle.f77_parse.proofs.reader.Reader.ranges.Given as goal
