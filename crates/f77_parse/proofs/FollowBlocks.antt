@@ -38,9 +38,6 @@ block_alike bad text =
     named : List ℕ → Reads WrittenBlock
     named rest = then_front (codes "/") (read_as (λ name. WrittenBlock.Block name) (name_at rest))
 
-pub block_keeps : (bad : Bool) (text : List ℕ) → Follows block_of never_bad bad (block_at text) (block_kept bad text)
-block_keeps bad text = alike_follows block_of never_bad Nothing bad (block_at text) (block_kept bad text) (block_alike bad text)
-
 -- ---- parts
 
 -- a bound is out of range in some declarator of a part

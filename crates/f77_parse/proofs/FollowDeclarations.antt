@@ -51,9 +51,6 @@ dim_alike bad text =
     behind_first : ℤ → Bool → List ℕ → Keeps Dim
     behind_first first bad_now rest = where_front (after_front (codes ":") rest) (behind_colon first bad_now) (Some (record { lo = pos 1; hi = first }, bad_now, rest))
 
-pub dim_keeps : (bad : Bool) (text : List ℕ) → Follows dim_of (λ d. are_great (dim_numbers d)) bad (dim_at text) (dim_kept bad text)
-dim_keeps bad text = alike_follows dim_of (λ d. are_great (dim_numbers d)) Nothing bad (dim_at text) (dim_kept bad text) (dim_alike bad text)
-
 -- ---- declarators
 
 -- both are arrays or neither is

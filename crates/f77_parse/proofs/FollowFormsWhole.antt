@@ -1,16 +1,14 @@
 -- Whole statements: what is kept of them.
-use Rattle.std.proofs.Common.{◌≡◌, ℕ, Bool, false, List, [], ◌∷◌, Option, Some, None, if◌then◌else◌, codes, refl, sym, ap, subst, ◌∙◌}
+use Rattle.std.proofs.Common.{◌≡◌, ℕ, Bool, false, List, [], ◌∷◌, Option, Some, None, if◌then◌else◌, codes, refl, sym, subst, ◌∙◌}
 use Rattle.f77_tree.specs.declared.declarations.Kind.TheVariants.{Integer, Logical}
 use Rattle.f77_tree.specs.declared.statements.Stmt.{Stmt}
 use Rattle.f77_tree.specs.declared.statements.Stmt.TheVariants.{Program, ImplicitNone, Implicit, TypeOf, Dimension, Common, Equivalence, Init, EndIf, End, Else}
-use Rattle.f77_tree.specs.StatementGrammar.{WrittenStatement, IsWrittenStatement, statement_of, has_bad_constant}
+use Rattle.f77_tree.specs.StatementGrammar.{WrittenStatement, statement_of, has_bad_constant}
 use Rattle.f77_expr.specs.Reader.{Reads, read_as, after_front}
 use Rattle.f77_parse.specs.Parts.{name_at}
 use Rattle.f77_parse.specs.Forms.{stands_free, whole, alone, do_at, equals_at, simple_at, if_at, else_if_at, implicit_at, typed_at, dimension_at, common_at, equivalence_at, data_statement_at, keyword_at, form_at, statement_at}
 use Rattle.f77_parse.specs.Keeping.{Keeps, kept_list, kept_parts, kept_ranges, name_kept, decl_kept, arrays_kept, first_part_kept, part_kept, group_kept, init_part_kept, next_init_part_kept}
 use Rattle.f77_parse.specs.KeptForms.{as_stmt, simple_kept, if_kept, else_if_kept, do_kept, assignment_kept, executable_kept, storage_kept, keyword_kept, equated_kept, form_kept, kept_whole}
-use Rattle.f77_parse.proofs.FormsReadsWhole.{statement_reads, one_written_statement}
-use Rattle.f77_parse.proofs.FormsSoundWhole.{statement_sound}
 use Rattle.f77_parse.proofs.FollowForms.{FollowsStatement, if_follows, as_follows, form_follows, alone_follows}
 use Rattle.f77_parse.proofs.FollowFormsDo.{do_keeps}
 use Rattle.f77_parse.proofs.FollowFormsEquals.{equals_keep}
@@ -93,20 +91,3 @@ no_statement_kept text e = here (statement_at text) refl (subst (λ (k : Keeps S
     here : (x : Option WrittenStatement) → statement_at text ≡ x → IsWholeKept x None → statement_at text ≡ None
     here None is h = is
     here (Some s) is h = absurd h
-
--- ---- by the grammar
-
--- a statement that is kept is written by the text
-pub kept_is_written : (text : List ℕ) (stmt : Stmt) (bad : Bool) (kept : IsStatementKeptOf text stmt bad) → IsWrittenStatement text kept.written
-kept_is_written text stmt bad kept = statement_sound text kept.written kept.is_read
-
--- and each that is written by it has the constants that were told
-pub bad_as_written : (text : List ℕ) (stmt : Stmt) (bad : Bool) → IsStatementKeptOf text stmt bad → (s : WrittenStatement) → IsWrittenStatement text s → bad ≡ has_bad_constant s
-bad_as_written text stmt bad kept s is = kept.is_bad ∙ ap has_bad_constant (one_written_statement text kept.written s (kept_is_written text stmt bad kept) is)
-
--- where none is kept, none is written
-pub nothing_is_written : (text : List ℕ) → kept_whole (form_kept (stands_free 61 text) (stands_free 44 text) false text) ≡ None → (s : WrittenStatement) → IsWrittenStatement text s → ⊥
-nothing_is_written text none s is =
-    let read = statement_reads text s is in
-    let no_read = no_statement_kept text none in
-    absurd cc

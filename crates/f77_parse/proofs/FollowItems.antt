@@ -1,9 +1,8 @@
 -- Variables, character constants and items of output that are kept.
 use Rattle.std.proofs.Common.{◌≡◌, ◌<◌, ◌==◌, ℕ, zero, suc, Bool, true, false, ◌||◌, List, [], ◌∷◌, ◌++◌, codes, length, map, Option, Some, None, if◌then◌else◌, refl, sym, ap, subst, ◌∙◌, arith, append_assoc}
-use Rattle.std.specs.Prelude.{◌&&◌, nat_le, nat_lt, drop, take_while}
+use Rattle.std.specs.Prelude.{nat_lt}
 use Rattle.std.specs.List.{list_any}
 use Rattle.std.proofs.lemmas.List.{append-nil}
-use Rattle.f77_tree.specs.Name.{is_figure}
 use Rattle.f77_tree.specs.declared.statements.RawExpr.{RawExpr}
 use Rattle.f77_tree.specs.declared.statements.RawExpr.TheVariants.{Named, Call}
 use Rattle.f77_tree.specs.declared.statements.RawItem.{RawItem}
@@ -12,8 +11,8 @@ use Rattle.f77_tree.specs.Grammar.{Written, reading, readings, has_great_number,
 use Rattle.f77_tree.specs.StatementGrammar.{WrittenItem, item_of, item_is_great}
 use Rattle.f77_expr.specs.Reader.{Reads, read_as, after_front}
 use Rattle.f77_expr.proofs.EachRead.{Each}
-use Rattle.f77_parse.specs.Parts.{behind, then_front, where_it, number_at, name_at, list_at, bracketed_or_none, expression_in_front, arguments_of, variable_of, variable_at, characters_behind, characters_at, item_at}
-use Rattle.f77_parse.specs.Keeping.{Keeps, keep_then, where_front, wanted, few_digits_kept, name_kept, expression_kept, closed_list, variable_kept, character_kept, next_character_kept, characters_next, characters_onto, characters_kept, character_constant_kept, item_kept}
+use Rattle.f77_parse.specs.Parts.{behind, then_front, where_it, name_at, list_at, bracketed_or_none, expression_in_front, arguments_of, variable_of, variable_at, characters_behind, characters_at, item_at}
+use Rattle.f77_parse.specs.Keeping.{Keeps, keep_then, where_front, wanted, name_kept, expression_kept, closed_list, variable_kept, character_kept, next_character_kept, characters_next, characters_onto, characters_kept, character_constant_kept, item_kept}
 use Rattle.f77_parse.specs.Following.{Follows}
 use Rattle.f77_parse.proofs.FollowLemmas.{Alike, Nothing, never_bad, Told, or_none, flag_last, follows_alike, alike_follows, alike_then, alike_as, alike_read_as, alike_where, alike_same, alike_with, alike_wanted, alike_if}
 use Rattle.f77_parse.proofs.FollowLists.{Both}
@@ -85,29 +84,6 @@ variable_alike bad text =
 
 pub variable_keeps : (bad : Bool) (text : List ℕ) → Follows reading has_great_number bad (variable_at text) (variable_kept bad text)
 variable_keeps bad text = alike_follows reading has_great_number Nothing bad (variable_at text) (variable_kept bad text) (variable_alike bad text)
-
--- ---- digits that STOP shows
-
-abbrev pub nothing_shown : List ℕ → Unit {0}
-nothing_shown digits = tt
-
-pub few_digits_keep : (bad : Bool) (text : List ℕ) → Follows nothing_shown never_bad bad (where_it (λ digits. nat_le (length digits) 5) (number_at text)) (few_digits_kept bad text)
-unfolding few_digits_kept
-few_digits_keep bad text = by (nat_lt 0 (length digits))
-  where
-    digits : List ℕ
-    digits = take_while is_figure text
-
-    rest : List ℕ
-    rest = drop (length digits) text
-
-    shown : (few : Bool) → Follows nothing_shown never_bad bad (if few then Some (digits, rest) else None) (if few then Some (tt, bad, rest) else None)
-    shown true = (refl, sym (or_none bad), λ small. refl)
-    shown false = tt
-
-    by : (some : Bool) → Follows nothing_shown never_bad bad (where_it (λ digits. nat_le (length digits) 5) (if some then Some (digits, rest) else None)) (if some && nat_le (length digits) 5 then Some (tt, bad, rest) else None)
-    by true = shown (nat_le (length digits) 5)
-    by false = tt
 
 -- ---- character constants
 

@@ -129,24 +129,6 @@ pub then_as : {A B C : Type 0} (go : B → List ℕ → Reads C) (f : A → B) (
 then_as go f None = refl
 then_as go f (Some (a, rest)) = refl
 
--- what was changed behind another
-pub as_behind : {A B C D : Type 0} (f : C → D) (g : A → B → C) (go : A → List ℕ → Reads B) (x : Reads A) → read_as f (and_then_read (λ a rest. read_as (g a) (go a rest)) x) ≡ and_then_read (λ a rest. read_as (λ b. f (g a b)) (go a rest)) x
-as_behind f g go None = refl
-as_behind {B = B} {D = D} f g go (Some (a, rest)) = by (go a rest)
-  where
-    by : (y : Reads B) → read_as f (read_as (g a) y) ≡ read_as (λ b. f (g a b)) y
-    by None = refl
-    by (Some (b, end)) = refl
-
--- what was changed before a front
-pub as_before : {A B : Type 0} (front : List ℕ) (f : A → B) (x : Reads A) → then_front front (read_as f x) ≡ read_as f (then_front front x)
-as_before front f None = refl
-as_before {B = B} front f (Some (a, rest)) = by (after_front front rest)
-  where
-    by : (o : Option (List ℕ)) → behind (λ more. Some (f a, more)) o ≡ read_as f (behind (λ more. Some (a, more)) o)
-    by None = refl
-    by (Some more) = refl
-
 module _ {A V : Type 0} (R Q : A → V → Bool → Type 0) where
   pub alike_weaker : (x : Reads A) (k : Keeps V) → Alike R x k → ((a : A) (v : V) (bad : Bool) → R a v bad → Q a v bad) → Alike Q x k
   alike_weaker None None h next = tt
@@ -185,36 +167,3 @@ module _ {B W : Type 0} (Q : B → W → Bool → Type 0) where
   pub alike_then_front : (front : List ℕ) (x : Reads B) (k : Keeps W) → Alike Q x k → Alike Q (then_front front x) (keep_then k (λ v bad rest. keep_then (wanted front bad rest) (λ found bad_then more. Some (v, bad_then, more))))
   alike_then_front front x k h = alike_then Q Q (λ a rest. behind (λ more. Some (a, more)) (after_front front rest)) (λ v bad rest. keep_then (wanted front bad rest) (λ found bad_then more. Some (v, bad_then, more))) x k h
       (λ a v bad rest r. alike_wanted (λ more. Some (a, more)) (λ found bad_then more. Some (v, bad_then, more)) front bad rest (λ more e. (refl, r)))
-
--- ---- whole readers, by what they keep
-
-module _ {B W : Type 0} (value : B → W) (is_bad : B → Bool) where
-  -- where a front stands there, and where it doesn't
-  pub follows_front : (bad : Bool) (reads : Option (List ℕ) → Reads B) (there : List ℕ → Keeps W) (others : Keeps W) (front : Option (List ℕ)) → ((rest : List ℕ) → front ≡ Some rest → Follows value is_bad bad (reads (Some rest)) (there rest)) → (front ≡ None → Follows value is_bad bad (reads None) others) → Follows value is_bad bad (reads front) (where_front front there others)
-  follows_front bad reads there others None here else_here = else_here refl
-  follows_front bad reads there others (Some rest) here else_here = here rest refl
-
-  -- a front that has to stand there
-  pub follows_needed : (whole_bad : Bool) (reads : Option (List ℕ) → Reads B) (more : Unit → Bool → List ℕ → Keeps W) (front : List ℕ) (bad : Bool) (text : List ℕ) → Follows value is_bad whole_bad (reads None) None → ((rest : List ℕ) → after_front front text ≡ Some rest → Follows value is_bad whole_bad (reads (Some rest)) (more tt bad rest)) → Follows value is_bad whole_bad (reads (after_front front text)) (keep_then (wanted front bad text) more)
-  unfolding wanted
-  follows_needed whole_bad reads more front bad text none here = by (after_front front text) here
-    where
-      by : (o : Option (List ℕ)) → ((rest : List ℕ) → o ≡ Some rest → Follows value is_bad whole_bad (reads (Some rest)) (more tt bad rest)) → Follows value is_bad whole_bad (reads o) (keep_then (where_front o (λ rest. Some (tt, bad, rest)) None) more)
-      by None k = none
-      by (Some rest) k = k rest refl
-
-module _ {A B V W : Type 0} (value : A → V) (is_bad : A → Bool) (value_too : B → W) (is_bad_too : B → Bool) where
-  -- what was read and kept, changed alike
-  pub follows_as : (f : A → B) (g : V → W) (bad : Bool) (x : Reads A) (k : Keeps V) → ((a : A) → is_bad_too (f a) ≡ is_bad a) → ((a : A) → g (value a) ≡ value_too (f a)) → Follows value is_bad bad x k → Follows value_too is_bad_too bad (read_as f x) (keep_then k (λ v bad_now rest. Some (g v, bad_now, rest)))
-  follows_as f g bad None None same_flag same h = tt
-  follows_as f g bad None (Some (v, bad_now, end)) same_flag same h = absurd h
-  follows_as f g bad (Some (a, rest)) None same_flag same h = absurd h
-  follows_as f g bad (Some (a, rest)) (Some (v, bad_now, end)) same_flag same h =
-      (h.0, h.1 ∙ ap (λ (b : Bool). bad || b) (sym (same_flag a)), (λ small. ap g (h.2 (sym (same_flag a) ∙ small)) ∙ same a))
-
-  -- one reader behind another: the flag of both is that of the whole
-  pub follows_then : (bad whole_bad : Bool) (go : A → List ℕ → Reads B) (more : V → Bool → List ℕ → Keeps W) (x : Reads A) (k : Keeps V) → Follows value is_bad bad x k → ((a : A) (v : V) (bad_now : Bool) (rest : List ℕ) → bad_now ≡ (bad || is_bad a) → (is_bad a ≡ false → v ≡ value a) → Follows value_too is_bad_too whole_bad (go a rest) (more v bad_now rest)) → Follows value_too is_bad_too whole_bad (and_then_read go x) (keep_then k more)
-  follows_then bad whole_bad go more None None h next = tt
-  follows_then bad whole_bad go more None (Some (v, bad_now, end)) h next = absurd h
-  follows_then bad whole_bad go more (Some (a, rest)) None h next = absurd h
-  follows_then bad whole_bad go more (Some (a, rest)) (Some (v, bad_now, end)) h next = subst (λ (tail : List ℕ). Follows value_too is_bad_too whole_bad (go a rest) (more v bad_now tail)) (sym h.0) (next a v bad_now rest h.1 h.2)

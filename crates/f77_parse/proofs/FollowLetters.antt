@@ -50,9 +50,6 @@ range_alike kind bad text =
     behind_first : ℕ → Bool → List ℕ → Keeps LetterRange
     behind_first first bad_now rest = where_front (after_front (codes "-") rest) (behind_minus first bad_now) (Some (record { kind = kind; from = first; to = first }, bad_now, rest))
 
-pub range_keeps : (kind : Kind) (bad : Bool) (text : List ℕ) → Follows (range_of kind) never_bad bad (range_at text) (range_kept kind bad text)
-range_keeps kind bad text = alike_follows (range_of kind) never_bad Nothing bad (range_at text) (range_kept kind bad text) (range_alike kind bad text)
-
 -- ---- kinds
 
 abbrev IsKeptKind : Bool → Kind → Kind → Bool → Type 0
@@ -67,9 +64,6 @@ kind_alike bad text =
   where
     plain : (kind : Kind) → IsKeptKind bad kind kind bad
     plain kind = record { flag = sym (or_none bad); is = λ small. refl; more = tt }
-
-pub kind_keeps : (bad : Bool) (text : List ℕ) → Follows (λ (kind : Kind). kind) never_bad bad (kind_at text) (kind_kept bad text)
-kind_keeps bad text = alike_follows (λ kind. kind) never_bad Nothing bad (kind_at text) (kind_kept bad text) (kind_alike bad text)
 
 -- ---- kinds and their letters
 

@@ -54,9 +54,6 @@ member_alike bad text =
     behind_name : List ℕ → Bool → List ℕ → Keeps Member
     behind_name name bad_now rest = where_front (after_front (codes "(") rest) (behind_bracket name bad_now) (Some (record { name = name; subs = [] }, bad_now, rest))
 
-pub member_keeps : (bad : Bool) (text : List ℕ) → Follows member_of member_is_great bad (member_at text) (member_kept bad text)
-member_keeps bad text = alike_follows member_of member_is_great Nothing bad (member_at text) (member_kept bad text) (member_alike bad text)
-
 -- ---- groups
 
 abbrev AreKeptMembers : Bool → List WrittenMember → List Member → Bool → Type 0

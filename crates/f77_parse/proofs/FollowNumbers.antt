@@ -124,9 +124,6 @@ signed_alike bad (c ∷ text) =
     by false true not_both = with_sign Sign.Minus_sign (λ n. pos 0 -ℤ pos (constant_in n)) (λ n. refl) bad text
     by false false not_both = with_sign Sign.No_sign (λ n. pos (constant_in n)) (λ n. refl) bad (c ∷ text)
 
-pub signed_keeps : (bad : Bool) (text : List ℕ) → Follows whole_number (λ n. is_great n.digits) bad (signed_at text) (signed_kept bad text)
-signed_keeps bad text = alike_follows whole_number (λ n. is_great n.digits) Nothing bad (signed_at text) (signed_kept bad text) (signed_alike bad text)
-
 -- ---- constants
 
 pub truth_alike : (bad : Bool) (text : List ℕ) → Alike (Told (λ (b : Bool). b) never_bad Nothing bad) (truth_at text) (truth_kept bad text)
@@ -138,9 +135,6 @@ truth_alike bad text =
   where
     plain : (b : Bool) → Told (λ (b : Bool). b) never_bad Nothing bad b b bad
     plain b = record { flag = sym (or_none bad); is = λ small. refl; more = tt }
-
-pub truth_keeps : (bad : Bool) (text : List ℕ) → Follows (λ (b : Bool). b) never_bad bad (truth_at text) (truth_kept bad text)
-truth_keeps bad text = alike_follows (λ b. b) never_bad Nothing bad (truth_at text) (truth_kept bad text) (truth_alike bad text)
 
 abbrev IsConstant : Bool → WrittenConstant → Lit → Bool → Type 0
 IsConstant bad = Told constant_of constant_is_great Nothing bad
@@ -162,9 +156,6 @@ constant_alike bad (c ∷ text) =
     alike_if (IsConstant bad) (c == 46) (c == 46) (read_as (λ b. WrittenConstant.Logical_value b) (truth_at (c ∷ text))) (read_as (λ n. WrittenConstant.Whole n) (signed_at (c ∷ text)))
     (keep_then (truth_kept bad (c ∷ text)) (λ b bad_now rest. Some (Truth b, bad_now, rest))) (keep_then (signed_kept bad (c ∷ text)) (λ z bad_now rest. Some (Int z, bad_now, rest)))
     refl (λ point. truth_constant bad (c ∷ text)) (λ none. number_constant bad (c ∷ text))
-
-pub constant_keeps : (bad : Bool) (text : List ℕ) → Follows constant_of constant_is_great bad (constant_at text) (constant_kept bad text)
-constant_keeps bad text = alike_follows constant_of constant_is_great Nothing bad (constant_at text) (constant_kept bad text) (constant_alike bad text)
 
 -- ---- values of DATA
 
@@ -223,6 +214,3 @@ value_alike bad text = by (nat_lt 0 (length digits))
         (λ next e. repeated digits bad next)
         (λ e. (refl, digits_alone digits rest bad))
     by false = constant_alone bad text
-
-pub value_keeps : (bad : Bool) (text : List ℕ) → Follows value_of value_is_bad bad (value_at text) (value_kept bad text)
-value_keeps bad text = alike_follows value_of value_is_bad Nothing bad (value_at text) (value_kept bad text) (value_alike bad text)

@@ -25,9 +25,6 @@ pub letter_alike : (bad : Bool) (text : List ℕ) → Alike (Told (λ (c : ℕ).
 unfolding letter_kept
 letter_alike bad text = alike_plain (λ c. c) bad (letter_at text)
 
-pub letter_keeps : (bad : Bool) (text : List ℕ) → Follows (λ (c : ℕ). c) never_bad bad (letter_at text) (letter_kept bad text)
-letter_keeps bad text = alike_follows (λ c. c) never_bad Nothing bad (letter_at text) (letter_kept bad text) (letter_alike bad text)
-
 -- ---- expressions
 
 pub expression_keeps : (bad : Bool) (text : List ℕ) → Follows reading has_great_number bad (expression_in_front text) (expression_kept bad text)

@@ -7,7 +7,7 @@ use Rattle.f77_tree.specs.Grammar.{Written, IsGrammatical, spelling}
 use Rattle.f77_tree.specs.StatementGrammar.{character_text, characters_text}
 use Rattle.f77_expr.specs.Piece.{Open, nothing_open, open_after, ends_piece, piece_from}
 use Rattle.f77_expr.proofs.EachRead.{if_false}
-use Rattle.f77_expr.proofs.Quiet.{IsQuiet, is_plain, quiet_plain, quiet_written}
+use Rattle.f77_expr.proofs.Quiet.{IsQuiet, quiet_written}
 use Rattle.f77_parse.specs.Forms.{stands_free_from, stands_free}
 
 -- a character that ends a piece
@@ -61,9 +61,6 @@ module _ (c : ℕ) (mark : is_mark c ≡ true) where
 
   pub expression_passes : (w : Written) → IsGrammatical w → PassesOver c (spelling w)
   expression_passes w h = quiet_passes (spelling w) (quiet_written w h)
-
-  pub plain_passes : (xs : List ℕ) → list_all is_plain xs ≡ true → PassesOver c xs
-  plain_passes xs h = quiet_passes xs (quiet_plain 0 xs h)
 
 -- ---- character constants
 

@@ -9,7 +9,7 @@ use Rattle.f77_expr.proofs.EachRead.{Each, each_if, each_as, each_weaker, if_fal
 use Rattle.f77_parse.specs.Parts.{where_it, list_at, ends_expression, expression_in_front, characters_behind, characters_at, item_at}
 use Rattle.f77_parse.proofs.Followers.{no_front, other_front, other_no_front, ends_list, IsInFront, IsListed}
 use Rattle.f77_parse.proofs.PartReaders.{after_sound, where_sound, where_reads, no_front_in, between}
-use Rattle.f77_parse.proofs.PartLists.{all_every, list_front, list_all_sound, list_all_reads}
+use Rattle.f77_parse.proofs.PartLists.{list_all_sound, list_all_reads}
 use Rattle.f77_parse.proofs.PartExpressions.{expression_sound, expression_reads, expression_no_stroke, expression_no_quote}
 
 -- ---- character constants
@@ -166,7 +166,3 @@ items_sound text = list_all_sound item_listed text
 
 pub items_reads : (items : List WrittenItem) (rest : List ℕ) → 1 ≤ length items → All IsItem items → ends_expression rest ≡ true → ends_list rest ≡ true → list_at item_at (with_commas (map item_text items) ++ rest) ≡ Some (items, rest)
 items_reads items rest some fit follows ends = list_all_reads item_listed items rest some fit follows ends
-
--- some items have some text
-pub items_other : (items : List WrittenItem) (rest : List ℕ) → 1 ≤ length items → All IsItem items → other_front 47 (with_commas (map item_text items) ++ rest) ≡ true
-items_other items rest some fit = list_front item_listed (other_front 47) item_other items rest some (all_every IsItem items fit)
