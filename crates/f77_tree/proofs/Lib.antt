@@ -6,6 +6,7 @@ pub mod ExpressionLemmas
 pub mod KindLemmas
 pub mod LineLaws
 pub mod NameLemmas
+pub mod NameWords
 pub mod Offsets
 pub mod OperationLaws
 pub mod Places
