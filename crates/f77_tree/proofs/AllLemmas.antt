@@ -1,6 +1,6 @@
--- What holds of each item of a list.
-use Rattle.std.proofs.Common.{◌≡◌, ℕ, zero, suc, ◌<◌, List, [], ◌∷◌, length, Some, subst, arith}
-use Rattle.std.specs.Prelude.{All, slice_get}
+-- What holds of each item of a list, or of some.
+use Rattle.std.proofs.Common.{◌≡◌, ℕ, zero, suc, ◌<◌, List, [], ◌∷◌, length, Some, refl, subst, arith}
+use Rattle.std.specs.Prelude.{All, Any, slice_get}
 
 module _ {X : Type 0} (P : X → Type 0) where
   pub All-nil : All P []
@@ -23,6 +23,12 @@ module _ {X : Type 0} (P : X → Type 0) where
       let same : y ≡ x = cc in
       subst (λ z. P z) same (All-first y ys all)
   All-get (y ∷ ys) (suc k) x all is = All-get ys k x (All-rest y ys all) is
+
+  pub Any-first : (x : X) (xs : List X) → P x → Any P (x ∷ xs)
+  Any-first x xs holds = (zero, x, omega arith, refl, holds)
+
+  pub Any-rest : (x : X) (xs : List X) → Any P xs → Any P (x ∷ xs)
+  Any-rest x xs some = (suc some.0, some.1, let lt = some.2 in omega (arith, lt), some.3, some.4)
 
 -- an item at an index lies below the length
 pub get-below : {X : Type 0} (xs : List X) (k : ℕ) (x : X) → slice_get xs k ≡ Some x → k < length xs

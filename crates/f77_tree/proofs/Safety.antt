@@ -39,7 +39,7 @@ word_at-word (z ∷ store) (suc k) all = word_at-word store k (λ i d lt. all (s
 
 -- ---- the values of operands that have them
 
-all_values-ok : (zs : List ℤ) → all_values (map (λ z. Ok z) zs) ≡ Ok zs
+pub all_values-ok : (zs : List ℤ) → all_values (map (λ z. Ok z) zs) ≡ Ok zs
 all_values-ok [] = refl
 all_values-ok (z ∷ zs) = ap (value_before (Ok z)) (all_values-ok zs)
 
@@ -189,7 +189,7 @@ names-word names store next access words h =
 
 -- ---- what is known of a value is the value, over any store
 
-known-more : (k : Option ℤ) (ks : List (Option ℤ)) (r : Result ℤ Trap) (rs : List (Result ℤ Trap)) (xs : List ℤ) → all_known (k ∷ ks) ≡ Some xs → ((z : ℤ) → k ≡ Some z → r ≡ Ok z) → ((zs : List ℤ) → all_known ks ≡ Some zs → rs ≡ map (λ z. Ok z) zs) → r ∷ rs ≡ map (λ z. Ok z) xs
+pub known-more : (k : Option ℤ) (ks : List (Option ℤ)) (r : Result ℤ Trap) (rs : List (Result ℤ Trap)) (xs : List ℤ) → all_known (k ∷ ks) ≡ Some xs → ((z : ℤ) → k ≡ Some z → r ≡ Ok z) → ((zs : List ℤ) → all_known ks ≡ Some zs → rs ≡ map (λ z. Ok z) zs) → r ∷ rs ≡ map (λ z. Ok z) xs
 known-more None ks r rs xs e one more = let no : None ≡ Some xs = e in absurd cc
 known-more (Some k) ks r rs xs e one more = by (all_known ks) refl e
   where
@@ -209,6 +209,6 @@ mutual
       let is = folded-some op (row_known args) z e in
       ap (λ (rs : List (Result ℤ Trap)). and_then (applied op) (all_values rs)) (known-are names store next _ args is.args is.are_known) ∙ ap (and_then (applied op)) (all_values-ok is.args) ∙ is.value
 
-  known-are : (names : List NameInfo) (store : List ℤ) (next : Option ℤ) (n : _) (row : Row_of-Expr n) (xs : List ℤ) → all_known (row_known row) ≡ Some xs → row_values names store next row ≡ map (λ z. Ok z) xs
+  pub known-are : (names : List NameInfo) (store : List ℤ) (next : Option ℤ) (n : _) (row : Row_of-Expr n) (xs : List ℤ) → all_known (row_known row) ≡ Some xs → row_values names store next row ≡ map (λ z. Ok z) xs
   known-are names store next n end_of-Expr xs e = let is : [] ≡ xs = cc in ap (map (λ z. Ok z)) is
   known-are names store next n (more_of-Expr e rest) xs h = known-more (known e) (row_known rest) (value names store next e) (row_values names store next rest) xs h (λ z. known-is names store next e z) (λ zs. known-are names store next _ rest zs)

@@ -1,0 +1,75 @@
+//! Laws on runs, and on what executables read and change, as contracts of functions that do nothing.
+
+ghost use Rattle.std.specs.Prelude.{◌≡◌, ◌≢◌, ◌≤◌, ◌<◌, ◌↔◌, ℕ, ℤ, List, ◌++◌, Contains, Any, Option, Some, None, Ok, slice_get, slice_index};
+ghost use Rattle.f77_tree.specs.declared.expressions.Access.{Access};
+ghost use Rattle.f77_tree.specs.declared.expressions.Expr.{Expr};
+ghost use Rattle.f77_tree.specs.declared.programs.Exec.{Exec};
+ghost use Rattle.f77_tree.specs.declared.programs.ExecKind.{ExecKind};
+ghost use Rattle.f77_tree.specs.declared.programs.Item.{Item};
+ghost use Rattle.f77_tree.specs.declared.programs.NameInfo.{NameInfo};
+ghost use Rattle.f77_tree.specs.declared.programs.Program.{Program};
+ghost use Rattle.f77_tree.specs.CanRun.{CanRun, CanExecute, IsNext};
+ghost use Rattle.f77_tree.specs.Control.{successors};
+ghost use Rattle.f77_tree.specs.Execution.{Memory, outcome};
+ghost use Rattle.f77_tree.specs.KnownWith.{known_with, AreRight};
+ghost use Rattle.f77_tree.specs.Line.{line_of};
+ghost use Rattle.f77_tree.specs.Loops.{InRange, AreLoops, do_start};
+ghost use Rattle.f77_tree.specs.Run.{Mark, Running, source};
+ghost use Rattle.f77_tree.specs.Steps.{IfGoes, IsMemoryOf, KeepsRest, HasRoomFor, AgreeFor, AreAlike, Changes, StopsWithin};
+ghost use Rattle.f77_tree.specs.Touched.{ExecMayChange, MayRead, ItemMayRead, ReadsData};
+ghost use Rattle.f77_tree.specs.Value.{value, place, word_at, IsExpression, IsAccess, ArePlaced};
+
+/// In each state of a run of a program that can run, the position is that of an executable, and there are as many words,
+/// counts and steps as the program has.
+pub fn runs_stay_inside()
+    ensures position { (p : Program) (input : List ℤ) (n : ℕ) → CanRun p → IsNext p (source p input n).position }
+    ensures memory { (p : Program) (input : List ℤ) (n : ℕ) → CanRun p → IsMemoryOf p input (source p input n).memory }
+{}
+
+/// A run that has ended or trapped after n steps did so first at one of them.
+pub fn runs_stop_first()
+    ensures { (p : Program) (input : List ℤ) (n : ℕ) (mark : Mark) → mark ≢ Running → (source p input n).mark ≡ mark → StopsWithin p input n mark }
+{}
+
+/// An executable that goes on goes to one of its successors.
+pub fn executables_lead_to_successors()
+    ensures { (names : List NameInfo) (input : List ℤ) (m : Memory) (kind : ExecKind) → IfGoes (outcome names input m kind) (λ next new text. Contains (successors kind) next) }
+{}
+
+/// An executable that goes on changes its target's word or its DO's variable, count and step, takes data where it reads
+/// some, and leaves the rest as it is.
+pub fn executables_keep_the_rest()
+    ensures rest { (names : List NameInfo) (input : List ℤ) (m : Memory) (kind : ExecKind) → IfGoes (outcome names input m kind) (λ next new text. KeepsRest names input kind m new) }
+
+    // The word that it changes is one that its text may name.
+    ensures changes { (names : List NameInfo) (input : List ℤ) (m : Memory) (kind : ExecKind) (word : ℕ) → Changes names input m kind word → ExecMayChange names kind word }
+{}
+
+/// Over stores that agree on each word that may be read, of whatever lengths, values, words and lines are equal, and an
+/// executable does the same.
+pub fn reads_decide()
+    ensures values { (names : List NameInfo) (a b : List ℤ) (next next' : Option ℤ) (e : Expr) → ((word : ℕ) → MayRead names e word → word_at a word ≡ word_at b word) → (ReadsData e → next ≡ next') → value names a next e ≡ value names b next' e }
+    ensures places { (names : List NameInfo) (a b : List ℤ) (next next' : Option ℤ) (access : Access) → ((word : ℕ) → Any (λ sub. MayRead names sub word) access.subs → word_at a word ≡ word_at b word) → (Any ReadsData access.subs → next ≡ next') → place names a next access ≡ place names b next' access }
+    ensures lines { (names : List NameInfo) (a b : List ℤ) (items : List Item) → ((word : ℕ) → Any (λ item. ItemMayRead names item word) items → word_at a word ≡ word_at b word) → line_of names a items ≡ line_of names b items }
+    ensures outcomes { (p : Program) (input : List ℤ) (m n : Memory) (kind : ExecKind) → ArePlaced p.names p.words → HasRoomFor p m → HasRoomFor p n → CanExecute p kind → AgreeFor p.names kind m n → AreAlike p.names input kind m (outcome p.names input m kind) (outcome p.names input n kind) }
+    ensures changes { (names : List NameInfo) (input : List ℤ) (m n : Memory) (kind : ExecKind) (word : ℕ) → AgreeFor names kind m n → Changes names input m kind word ↔ Changes names input n kind word }
+{}
+
+/// While control is in the range of a DO, its count is at least 1; control comes into the range by the DoStart alone, with
+/// a count that isn't 0.
+pub fn ranges_have_counts()
+    ensures counts { (p : Program) (input : List ℤ) (steps n : ℕ) → CanRun p → AreLoops p.execs p.loops → n < p.loops → InRange p.execs n (source p input steps).position → 1 ≤ slice_index (source p input steps).memory.counts n }
+    ensures entered { (p : Program) (input : List ℤ) (n k : ℕ) (exec : Exec) (m : Memory) → AreLoops p.execs p.loops → n < p.loops → slice_get p.execs k ≡ Some exec → IsMemoryOf p input m → (InRange p.execs n k → ⊥) → IfGoes (outcome p.names input m exec.kind) (λ next new text. InRange p.execs n next → (k ≡ do_start p.execs n) × (1 ≤ slice_index new.counts n)) }
+{}
+
+/// Names behind those of a table leave the values, the words and the outcomes of what the table fits.
+pub fn longer_tables_agree()
+    ensures values { (names more : List NameInfo) (store : List ℤ) (next : Option ℤ) (e : Expr) → IsExpression names e → value (names ++ more) store next e ≡ value names store next e }
+    ensures places { (names more : List NameInfo) (store : List ℤ) (next : Option ℤ) (access : Access) → IsAccess names access → place (names ++ more) store next access ≡ place names store next access }
+    ensures outcomes { (p : Program) (more : List NameInfo) (input : List ℤ) (m : Memory) (kind : ExecKind) → CanExecute p kind → outcome (p.names ++ more) input m kind ≡ outcome p.names input m kind }
+{}
+
+/// What is known of an expression where some words are known is its value, over each store in which those words are right.
+pub fn known_values_are_right()
+    ensures { (names : List NameInfo) (words : ℕ → Option ℤ) (store : List ℤ) (next : Option ℤ) (e : Expr) (z : ℤ) → AreRight words store → known_with names words e ≡ Some z → value names store next e ≡ Ok z }
+{}
