@@ -1,5 +1,5 @@
 -- What is known of a value where some words of the store are known is the value.
-use Rattle.std.proofs.Common.{◌≡◌, ℕ, ℤ, List, [], map, Option, Some, None, Result, Ok, Err, refl, ap, ◌∙◌}
+use Rattle.std.proofs.Common.{◌≡◌, ℕ, ℤ, List, [], ◌∷◌, map, Option, Some, None, Result, Ok, Err, refl, sym, ap, ◌∙◌}
 use Rattle.std.specs.Option.{option_map, option_and_then}
 use Rattle.std.specs.Result.{result_ok}
 use Rattle.op_table.specs.declared.Trap.{Trap}
@@ -12,6 +12,7 @@ use Rattle.f77_tree.specs.declared.expressions.Expr.TheVariants.{Const, Truth, I
 use Rattle.f77_tree.specs.declared.programs.NameInfo.{NameInfo}
 use Rattle.f77_tree.specs.Known.{row_known}
 use Rattle.f77_tree.specs.KnownWith.{known_word, known_with, row_known_with, AreRight}
+use Rattle.f77_tree.specs.Touched.{AreAsKnown, MayName}
 use Rattle.f77_tree.specs.Value.{value, row_values, all_values, and_then, word_of, read_of, read_as, kind_of}
 use Rattle.f77_tree.proofs.Safety.{known-are, known-more, all_values-ok}
 
@@ -31,6 +32,20 @@ surely names name known word e = by (all_known known) refl e
     by : (o : Option (List ℤ)) → all_known known ≡ o → option_and_then (λ subs. result_ok (word_of names name (map (λ z. Ok z) subs))) o ≡ Some word → IsSurely names name known word
     by None f h = let no : None ≡ Some word = h in absurd cc
     by (Some subs) f h = at subs f (word_of names name (map (λ z. Ok z) subs)) refl h
+
+-- operands that are all known are those
+as_known-all : (known : List (Option ℤ)) (zs : List ℤ) (values : List (Result ℤ Trap)) → all_known known ≡ Some zs → AreAsKnown known values → values ≡ map (λ z. Ok z) zs
+as_known-all [] zs [] e are = let is : [] ≡ zs = cc in ap (map (λ z. Ok z)) is
+as_known-all [] zs (value ∷ values) e are = absurd are
+as_known-all (k ∷ known) zs [] e are = absurd are
+as_known-all (k ∷ known) zs (value ∷ values) e are = known-more k known value values zs e are.0 (λ more is. as_known-all known more values is are.1)
+
+-- a word that is surely named is the only one that may be
+pub surely-only : (names : List NameInfo) (name : ℕ) (known : List (Option ℤ)) (word other : ℕ) → known_word names name known ≡ Some word → MayName names name known other → other ≡ word
+surely-only names name known word other is may =
+    let at = surely names name known word is in
+    let both : Ok other ≡ Ok word = sym may.is ∙ ap (word_of names name) (as_known-all known at.subs may.values at.are_known may.as_known) ∙ at.is in
+    cc
 
 -- the word that a known read reads, and what is known of it
 record IsKnownRead (names : List NameInfo) (words : ℕ → Option ℤ) (name : ℕ) (known : List (Option ℤ)) (z : ℤ) : Type 0 where

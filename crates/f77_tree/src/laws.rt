@@ -11,12 +11,12 @@ ghost use Rattle.f77_tree.specs.declared.programs.Program.{Program};
 ghost use Rattle.f77_tree.specs.CanRun.{CanRun, CanExecute, IsNext};
 ghost use Rattle.f77_tree.specs.Control.{successors};
 ghost use Rattle.f77_tree.specs.Execution.{Memory, outcome};
-ghost use Rattle.f77_tree.specs.KnownWith.{known_with, AreRight};
+ghost use Rattle.f77_tree.specs.KnownWith.{known_word, known_with, AreRight};
 ghost use Rattle.f77_tree.specs.Line.{line_of};
 ghost use Rattle.f77_tree.specs.Loops.{InRange, AreLoops, do_start};
 ghost use Rattle.f77_tree.specs.Run.{Mark, Running, source};
 ghost use Rattle.f77_tree.specs.Steps.{IfGoes, IsMemoryOf, KeepsRest, HasRoomFor, AgreeFor, AreAlike, Changes, StopsWithin};
-ghost use Rattle.f77_tree.specs.Touched.{ExecMayChange, MayRead, ItemMayRead, ReadsData};
+ghost use Rattle.f77_tree.specs.Touched.{ExecMayChange, MayName, MayRead, ItemMayRead, ReadsData};
 ghost use Rattle.f77_tree.specs.Value.{value, place, word_at, IsExpression, IsAccess, ArePlaced};
 
 /// In each state of a run of a program that can run, the position is that of an executable, and there are as many words,
@@ -67,6 +67,11 @@ pub fn longer_tables_agree()
     ensures values { (names more : List NameInfo) (store : List ℤ) (next : Option ℤ) (e : Expr) → IsExpression names e → value (names ++ more) store next e ≡ value names store next e }
     ensures places { (names more : List NameInfo) (store : List ℤ) (next : Option ℤ) (access : Access) → IsAccess names access → place (names ++ more) store next access ≡ place names store next access }
     ensures outcomes { (p : Program) (more : List NameInfo) (input : List ℤ) (m : Memory) (kind : ExecKind) → CanExecute p kind → outcome (p.names ++ more) input m kind ≡ outcome p.names input m kind }
+{}
+
+/// A word that an access surely names is the only one that it may name.
+pub fn known_words_are_alone()
+    ensures { (names : List NameInfo) (name : ℕ) (known : List (Option ℤ)) (word other : ℕ) → known_word names name known ≡ Some word → MayName names name known other → other ≡ word }
 {}
 
 /// What is known of an expression where some words are known is its value, over each store in which those words are right.
