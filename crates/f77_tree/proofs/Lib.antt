@@ -1,5 +1,4 @@
 pub mod Agreement
-pub mod Alike
 pub mod AllLemmas
 pub mod Coverage
 pub mod Equations
@@ -12,6 +11,7 @@ pub mod LongerTable
 pub mod LoopCounts
 pub mod NameLemmas
 pub mod Outcomes
+pub mod OutcomesAlike
 pub mod Places
 pub mod RunEnds
 pub mod RunInvariants

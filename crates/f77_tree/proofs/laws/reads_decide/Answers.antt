@@ -1,5 +1,5 @@
 use Rattle.f77_tree.proofs.Agreement.{value-agrees, place-agrees, line-agrees}
-use Rattle.f77_tree.proofs.Alike.{outcomes-alike, changes-alike}
+use Rattle.f77_tree.proofs.OutcomesAlike.{outcomes-alike, changes-alike}
 use Rattle.f77_tree.proofs.laws.reads_decide.Goals as goal
 
 pub returns-clause-values : goal.returns-clause-values
