@@ -2,7 +2,7 @@
 
 ghost use Rattle.std.specs.Prelude.{◌≡◌, ◌≤ℤ◌, ◌+ℤ◌, ◌-ℤ◌, pos, ℕ, All, IsTrue, Some, slice_get};
 ghost use Rattle.f77_tree.specs.declared.programs.Exec.{Exec};
-ghost use Rattle.f77_tree.specs.CanRun.{CanRun, CanExecute, IsItem, IsNext, IsLoop};
+ghost use Rattle.f77_tree.specs.CanRun.{CanRun, CanExecute, CanPrint, IsNext, CanLoop};
 ghost use Rattle.f77_tree.specs.Value.{IsExpression, IsAccess, IsPlaced};
 
 use f77_tree::{Access, Dim, Exec, ExecKind, Expr, Item, NameInfo, NameInfoList, Program};
@@ -60,7 +60,7 @@ fn is_expression(e: &Expr, names: &NameInfoList) -> bool
 }
 
 fn is_item(item: &Item, names: &NameInfoList) -> bool
-    ensures { IsTrue result → IsItem names.now item.now }
+    ensures { IsTrue result → CanPrint names.now item.now }
 {
     match item {
         Item::Value(e) => is_expression(e, names),
@@ -69,7 +69,7 @@ fn is_item(item: &Item, names: &NameInfoList) -> bool
 }
 
 fn are_items(items: &[Item], names: &NameInfoList) -> bool
-    ensures { IsTrue result → All (IsItem names.now) items.now }
+    ensures { IsTrue result → All (CanPrint names.now) items.now }
 {
     items.iter().all(|item| is_item(item, names))
 }
@@ -87,7 +87,7 @@ fn is_next(next: u32, p: &Program) -> bool
 }
 
 fn is_loop(loop_no: u32, var: u32, body: u32, exit: u32, p: &Program) -> bool
-    ensures { IsTrue result → IsLoop p.now loop_no var body exit }
+    ensures { IsTrue result → CanLoop p.now loop_no var body exit }
 {
     if p.loops <= loop_no || p.names.len() <= var {
         return false;

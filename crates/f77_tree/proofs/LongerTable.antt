@@ -12,8 +12,8 @@ use Rattle.f77_tree.specs.declared.programs.Item.{Item}
 use Rattle.f77_tree.specs.declared.programs.Item.TheVariants.{Value, Chars}
 use Rattle.f77_tree.specs.declared.programs.NameInfo.{NameInfo}
 use Rattle.f77_tree.specs.declared.programs.Program.{Program}
-use Rattle.f77_tree.specs.CanRun.{CanExecute, IsItem as CanPrint, IsLoop as CanLoop}
-use Rattle.f77_tree.specs.Execution.{Memory, outcome, words_taken, assigned, printed, branched, begun as do_begun, incremented as do_incremented, by_sign, by_number}
+use Rattle.f77_tree.specs.CanRun.{CanExecute, CanPrint, CanLoop}
+use Rattle.f77_tree.specs.Execution.{Memory, outcome, words_taken, assigned, printed, branched, do_begun, do_incremented, by_sign, by_number}
 use Rattle.f77_tree.specs.Line.{item_text, line_of_texts, text_of, kind_of_expression}
 use Rattle.f77_tree.specs.Value.{value, row_values, all_values, and_then, place, word_of, read_of, read_as, kind_in, dims_in, place_in, place_of, subscripted, word_at, IsExpression, AllExpressions, IsAccess}
 use Rattle.f77_tree.proofs.AllLemmas.{All-first, All-rest}

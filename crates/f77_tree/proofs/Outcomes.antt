@@ -12,7 +12,7 @@ use Rattle.f77_tree.specs.declared.programs.ExecKind.{ExecKind}
 use Rattle.f77_tree.specs.declared.programs.ExecKind.TheVariants.{Assign, Print, Pass, Test, Sign, Pick, DoStart, DoNext, End}
 use Rattle.f77_tree.specs.declared.programs.NameInfo.{NameInfo}
 use Rattle.f77_tree.specs.Control.{successors}
-use Rattle.f77_tree.specs.Execution.{Memory, Outcome, Goes, Stops, Ends, outcome, assigned, printed, branched, begun, started, by_sign, by_number, words_taken}
+use Rattle.f77_tree.specs.Execution.{Memory, Outcome, Goes, Stops, Ends, outcome, assigned, printed, branched, do_begun, started, by_sign, by_number, words_taken}
 use Rattle.f77_tree.specs.Steps.{IfGoes}
 use Rattle.f77_tree.specs.Line.{line_of}
 use Rattle.f77_tree.specs.Value.{value, place, place_of}
@@ -47,13 +47,13 @@ module _ (P : ℕ → Memory → List ℕ → Type 0) (m : Memory) where
   branched-goes next_at (Err trap) so = tt
   branched-goes next_at (Ok z) so = so z refl
 
-  pub begun-goes : (loop_no word body exit : ℕ) (first last step : Result ℤ Trap) → ((a b c : ℤ) → first ≡ Ok a → last ≡ Ok b → step ≡ Ok c → int_eq c (pos 0) ≡ false → IfGoes (started m loop_no word body exit a b c) P) → IfGoes (begun m loop_no word body exit first last step) P
+  pub begun-goes : (loop_no word body exit : ℕ) (first last step : Result ℤ Trap) → ((a b c : ℤ) → first ≡ Ok a → last ≡ Ok b → step ≡ Ok c → int_eq c (pos 0) ≡ false → IfGoes (started m loop_no word body exit a b c) P) → IfGoes (do_begun m loop_no word body exit first last step) P
   begun-goes loop_no word body exit (Err trap) last step so = tt
   begun-goes loop_no word body exit (Ok a) (Err trap) step so = tt
   begun-goes loop_no word body exit (Ok a) (Ok b) (Err trap) so = tt
   begun-goes loop_no word body exit (Ok a) (Ok b) (Ok c) so = by (int_eq c (pos 0)) refl
     where
-      by : (is_zero : Bool) → int_eq c (pos 0) ≡ is_zero → IfGoes (begun m loop_no word body exit (Ok a) (Ok b) (Ok c)) P
+      by : (is_zero : Bool) → int_eq c (pos 0) ≡ is_zero → IfGoes (do_begun m loop_no word body exit (Ok a) (Ok b) (Ok c)) P
       by true is = rw is tt
       by false is = rw is (so a b c refl refl refl is)
 

@@ -1,6 +1,7 @@
 -- Two memories that agree on what an executable may read make it do the same.
 use Rattle.std.proofs.Common.{◌≡◌, ℕ, ◌+◌, ◌-◌, ◌<◌, ℤ, pos, ◌+ℤ◌, Bool, true, false, if◌then◌else◌, List, length, ◌↔◌, None, Result, Ok, Err, slice_get, slice_index, slice_set, unwrap_or, nat_lt, inl, inr, refl, sym, ap, subst, ◌∙◌, get_or-set_same, arith}
 use Rattle.std.specs.Ordering.{int_eq}
+use Rattle.std.proofs.lemmas.Int.{ints}
 use Rattle.op_table.specs.declared.Trap.{Trap}
 use Rattle.op_table.specs.Words.{is_true, wrapped}
 use Rattle.op_table.specs.Trips.{trip_count}
@@ -11,13 +12,13 @@ use Rattle.f77_tree.specs.declared.programs.ExecKind.TheVariants.{Assign, Print,
 use Rattle.f77_tree.specs.declared.programs.NameInfo.{NameInfo}
 use Rattle.f77_tree.specs.declared.programs.Program.{Program}
 use Rattle.f77_tree.specs.CanRun.{CanExecute}
-use Rattle.f77_tree.specs.Execution.{Memory, outcome, words_taken, assigned, printed, branched, begun, by_sign, by_number}
+use Rattle.f77_tree.specs.Execution.{Memory, outcome, words_taken, assigned, printed, branched, do_begun, by_sign, by_number}
 use Rattle.f77_tree.specs.Line.{line_of}
 use Rattle.f77_tree.specs.Steps.{AgreeFor, AreAlike, Changes, ChangeAlike, HasRoomFor}
-use Rattle.f77_tree.specs.Value.{value, place, place_of, word_at, IsAccess, ArePlaced}
+use Rattle.f77_tree.specs.Value.{value, place, place_of, dims_of, word_at, IsAccess, ArePlaced}
 use Rattle.f77_tree.proofs.Agreement.{value-agrees, place-agrees, value_in-agrees, line-agrees}
 use Rattle.f77_tree.proofs.Keeping.{get-set_same}
-use Rattle.f77_tree.proofs.Places.{place-in, name-taken}
+use Rattle.f77_tree.proofs.Places.{place-in, name-taken, count-is}
 
 word-set_same : (store : List ℤ) (k : ℕ) (z : ℤ) → k < length store → word_at (slice_set store k z) k ≡ z
 word-set_same store k z lt = ap (λ o. unwrap_or o (pos 0)) (get-set_same store k z lt)
@@ -65,7 +66,7 @@ module _ (names : List NameInfo) (input : List ℤ) (m n : Memory) where
         (get_or-set_same m.counts loop_no count 0 count_here ∙ sym (get_or-set_same n.counts loop_no count 0 count_there))
 
     begun-alike : (first' last' step' : Expr) (body exit : ℕ) (first last step : Result ℤ Trap) → loop_no < length m.steps → loop_no < length n.steps →
-        AreAlike names input (DoStart loop_no var first' last' step' body exit) m (begun m loop_no (place_of names var) body exit first last step) (begun n loop_no (place_of names var) body exit first last step)
+        AreAlike names input (DoStart loop_no var first' last' step' body exit) m (do_begun m loop_no (place_of names var) body exit first last step) (do_begun n loop_no (place_of names var) body exit first last step)
     begun-alike first' last' step' body exit (Err trap) last step step_here step_there = refl
     begun-alike first' last' step' body exit (Ok a) (Err trap) step step_here step_there = refl
     begun-alike first' last' step' body exit (Ok a) (Ok b) (Err trap) step_here step_there = refl
@@ -76,7 +77,7 @@ module _ (names : List NameInfo) (input : List ℤ) (m n : Memory) where
             subst (λ i. word_at (slice_set m.steps loop_no c) i ≡ word_at (slice_set n.steps loop_no c) i) is
             (word-set_same m.steps loop_no c step_here ∙ sym (word-set_same n.steps loop_no c step_there))
 
-        by : (is_zero : Bool) → int_eq c (pos 0) ≡ is_zero → AreAlike names input (DoStart loop_no var first' last' step' body exit) m (begun m loop_no (place_of names var) body exit (Ok a) (Ok b) (Ok c)) (begun n loop_no (place_of names var) body exit (Ok a) (Ok b) (Ok c))
+        by : (is_zero : Bool) → int_eq c (pos 0) ≡ is_zero → AreAlike names input (DoStart loop_no var first' last' step' body exit) m (do_begun m loop_no (place_of names var) body exit (Ok a) (Ok b) (Ok c)) (do_begun n loop_no (place_of names var) body exit (Ok a) (Ok b) (Ok c))
         by true is = rw is refl
         by false is = rw is (refl, refl, record { store = word-alike a; counts = count-alike (trip_count a b c); steps = step-alike; taken = λ reads. absurd reads })
 
@@ -104,9 +105,11 @@ module _ (names : List NameInfo) (input : List ℤ) (m n : Memory) where
 -- the words of names lie in a store that has room for those of the program
 target-inside : (p : Program) (input : List ℤ) (m : Memory) (target : Access) (word : ℕ) → ArePlaced p.names p.words → IsAccess p.names target → place p.names m.store (slice_get input m.taken) target ≡ Ok word → word < p.words
 target-inside p input m target word placed access is =
-    let within = (place-in p.names m.store (slice_get input m.taken) target p.words word placed access is).below in
-    let inside = (name-taken p.names target.name p.words placed access.known).inside in
-    omega (arith, within, inside)
+    let within = (place-in p.names m.store (slice_get input m.taken) target p.words word placed access is).ends in
+    let taken = name-taken p.names target.name p.words placed access.known in
+    let size = count-is (dims_of p.names target.name) taken.bounds in
+    let inside = taken.inside in
+    omega (arith, ints, within, size, inside)
 
 module _ (p : Program) (input : List ℤ) (m n : Memory) (placed : ArePlaced p.names p.words) (room_m : HasRoomFor p m) (room_n : HasRoomFor p n) where
   -- an executable does the same from two memories with room for the program that agree on what it may read
@@ -161,8 +164,8 @@ module _ (p : Program) (input : List ℤ) (m n : Memory) (placed : ArePlaced p.n
       let counts_n = room_n.counts in
       let steps_m = room_m.steps in
       let steps_n = room_n.steps in
-      let same : begun n loop_no word body exit (f first) (f last) (f step) ≡ outcome p.names input n (DoStart loop_no var first last step body exit) =
-      ap (λ x. begun n loop_no word body exit x (f last) (f step)) one ∙ ap (λ x. begun n loop_no word body exit (g first) x (f step)) two ∙ ap (begun n loop_no word body exit (g first) (g last)) three
+      let same : do_begun n loop_no word body exit (f first) (f last) (f step) ≡ outcome p.names input n (DoStart loop_no var first last step body exit) =
+      ap (λ x. do_begun n loop_no word body exit x (f last) (f step)) one ∙ ap (λ x. do_begun n loop_no word body exit (g first) x (f step)) two ∙ ap (do_begun n loop_no word body exit (g first) (g last)) three
       in
       subst (λ o. AreAlike p.names input (DoStart loop_no var first last step body exit) m (outcome p.names input m (DoStart loop_no var first last step body exit)) o) same
       (begun-alike p.names input m n loop_no var (omega (arith, below, words_m)) (omega (arith, below, words_n)) (omega (arith, loop, counts_m)) (omega (arith, loop, counts_n)) first last step body exit (f first) (f last) (f step) (omega (arith, loop, steps_m)) (omega (arith, loop, steps_n)))

@@ -16,6 +16,10 @@ IfGoes (Goes next memory text) P = P next memory text
 IfGoes (Stops trap) P = Unit {0}
 IfGoes Ends P = Unit {0}
 
+abbrev pub DoesNotTrap : Outcome → Type 0
+DoesNotTrap (Stops trap) = ⊥
+DoesNotTrap _ = Unit {0}
+
 -- ---- sizes
 
 -- a memory of a program over its data: as many words, counts and steps as the program has, and no more data taken than

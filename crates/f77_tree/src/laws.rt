@@ -1,6 +1,8 @@
 //! Laws on runs, and on what executables read and change, as contracts of functions that do nothing.
 
-ghost use Rattle.std.specs.Prelude.{◌≡◌, ◌≢◌, ◌≤◌, ◌<◌, ◌↔◌, ℕ, ℤ, List, ◌++◌, Contains, Any, Option, Some, None, Ok, slice_get, slice_index};
+ghost use Rattle.std.specs.Prelude.{◌≡◌, ◌≢◌, ◌≤◌, ◌<◌, ◌↔◌, Bool, true, false, ℕ, ℤ, List, ◌++◌, All, Contains, Any, flat_map, Option, Some, None, Ok, slice_get, slice_index};
+ghost use Rattle.op_table.specs.Words.{IsWord};
+ghost use Rattle.f77_tree.specs.declared.declarations.Dim.{Dim};
 ghost use Rattle.f77_tree.specs.declared.expressions.Access.{Access};
 ghost use Rattle.f77_tree.specs.declared.expressions.Expr.{Expr};
 ghost use Rattle.f77_tree.specs.declared.programs.Exec.{Exec};
@@ -11,13 +13,17 @@ ghost use Rattle.f77_tree.specs.declared.programs.Program.{Program};
 ghost use Rattle.f77_tree.specs.CanRun.{CanRun, CanExecute, IsNext};
 ghost use Rattle.f77_tree.specs.Control.{successors};
 ghost use Rattle.f77_tree.specs.Execution.{Memory, outcome};
+ghost use Rattle.f77_tree.specs.Kinds.{IsProper};
+ghost use Rattle.f77_tree.specs.Known.{IsInBounds, ExecMayTrapBut};
 ghost use Rattle.f77_tree.specs.KnownWith.{known_word, known_with, AreRight};
 ghost use Rattle.f77_tree.specs.Line.{line_of};
 ghost use Rattle.f77_tree.specs.Loops.{InRange, AreLoops, do_start};
+ghost use Rattle.f77_tree.specs.Operations.{statements_of, is_increment, exec_operations, statement_operations, most_operations};
 ghost use Rattle.f77_tree.specs.Run.{Mark, Running, source};
-ghost use Rattle.f77_tree.specs.Steps.{IfGoes, IsMemoryOf, KeepsRest, HasRoomFor, AgreeFor, AreAlike, Changes, StopsWithin};
+ghost use Rattle.f77_tree.specs.Steps.{IfGoes, DoesNotTrap, IsMemoryOf, HoldsWords, KeepsRest, HasRoomFor, AgreeFor, AreAlike, Changes, StopsWithin};
 ghost use Rattle.f77_tree.specs.Touched.{ExecMayChange, MayName, MayRead, ItemMayRead, ReadsData};
 ghost use Rattle.f77_tree.specs.Value.{value, place, word_at, IsExpression, IsAccess, ArePlaced};
+ghost use Rattle.f77_tree.specs.WellFormed.{IsWellFormed};
 
 /// In each state of a run of a program that can run, the position is that of an executable, and there are as many words,
 /// counts and steps as the program has.
@@ -77,4 +83,25 @@ pub fn known_words_are_alone()
 /// What is known of an expression where some words are known is its value, over each store in which those words are right.
 pub fn known_values_are_right()
     ensures { (names : List NameInfo) (words : ℕ → Option ℤ) (store : List ℤ) (next : Option ℤ) (e : Expr) (z : ℤ) → AreRight words store → known_with names words e ≡ Some z → value names store next e ≡ Ok z }
+{}
+
+/// The store and the steps of a run of a well-formed program over data of words hold words, and the value of an expression
+/// of a program over a store of words is a word.
+pub fn runs_hold_words()
+    ensures states { (p : Program) (input : List ℤ) (n : ℕ) → IsWellFormed p → All IsWord input → HoldsWords (source p input n).memory }
+    ensures values { (names : List NameInfo) (store : List ℤ) (next : Option ℤ) (e : Expr) (z : ℤ) → All IsWord store → IsProper names e → value names store next e ≡ Ok z → IsWord z }
+{}
+
+/// Over a store of words, an executable that can't trap but in excepted subscripts, which have values within their bounds,
+/// doesn't trap.
+pub fn what_cannot_trap_does_not()
+    ensures { (excepted : Expr → Dim → Bool) (names : List NameInfo) (input : List ℤ) (m : Memory) (kind : ExecKind) → All IsWord m.store → ((next : Option ℤ) (sub : Expr) (dim : Dim) → excepted sub dim ≡ true → IsInBounds dim (value names m.store next sub)) → (ExecMayTrapBut (λ sub dim. excepted sub dim ≡ true) names kind → ⊥) → DoesNotTrap (outcome names input m kind) }
+{}
+
+/// Statements are the executables of a program, in order. An executable that is no increment takes at most the operations
+/// of its statement, and each takes at most the greatest number of the program.
+pub fn statements_bound_operations()
+    ensures parts { (execs : List Exec) → flat_map (λ statement. statement) (statements_of execs) ≡ execs }
+    ensures statement { (statement : List Exec) (k : ℕ) (exec : Exec) → slice_get statement k ≡ Some exec → is_increment exec.kind ≡ false → exec_operations exec.kind ≤ statement_operations statement }
+    ensures most { (p : Program) (k : ℕ) (exec : Exec) → slice_get p.execs k ≡ Some exec → exec_operations exec.kind ≤ most_operations p }
 {}

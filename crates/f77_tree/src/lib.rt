@@ -18,8 +18,8 @@ pub use evaluation::{evaluate, locate};
 pub use expressions::{Access, Expr, ExprList};
 pub use laws::{
     executables_keep_the_rest, executables_lead_to_successors, known_values_are_right,
-    known_words_are_alone, longer_tables_agree, ranges_have_counts, reads_decide, runs_stay_inside,
-    runs_stop_first,
+    known_words_are_alone, longer_tables_agree, ranges_have_counts, reads_decide, runs_hold_words,
+    runs_stay_inside, runs_stop_first, statements_bound_operations, what_cannot_trap_does_not,
 };
 pub use names::Name;
 pub use programs::{Exec, ExecKind, ExecList, Item, ItemList, NameInfo, NameInfoList, Program};

@@ -1,6 +1,6 @@
-use Rattle.std.proofs.Common.{rules, ◌≡◌, List, [], ◌∷◌, pos, refl}
+use Rattle.std.proofs.Common.{rules, ◌≡◌, [], ◌∷◌, pos, refl}
 use Rattle.op_table.specs.declared.Op.TheVariants.{Div, Sub}
-use Rattle.f77_tree.specs.declared.expressions.Expr.{Expr, Const, Input, Apply}
+use Rattle.f77_tree.specs.declared.expressions.Expr.{Const, Input, Apply}
 use Rattle.f77_tree.proofs.ExpressionLemmas.{IsExpression-two}
 use Rattle.f77_tree.proofs.tests.operands_from_the_left.Goals as goal
 
