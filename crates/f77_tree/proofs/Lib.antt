@@ -22,6 +22,7 @@ pub mod RunInvariants
 pub mod RunLaws
 pub mod Safety
 pub mod Taking
+pub mod TouchedWords
 pub mod Untrapped
 pub mod WellFormedLaws
 pub mod WordValues

@@ -1,5 +1,5 @@
 -- What is said of steps: what an executable leaves as it is, when two memories make it do the same, and when a run stops.
-use Rattle.std.specs.Prelude.{◌≡◌, ℕ, ◌≤◌, ℤ, List, length, Ok, slice_get, slice_index, All}
+use Rattle.std.specs.Prelude.{◌≡◌, ℕ, ◌≤◌, ◌⊎◌, ℤ, List, length, Ok, slice_get, slice_index, All}
 use Rattle.op_table.specs.Words.{IsWord}
 use Rattle.f77_tree.specs.declared.programs.ExecKind.{ExecKind}
 use Rattle.f77_tree.specs.declared.programs.ExecKind.TheVariants.{Assign, DoStart, DoNext}
@@ -67,20 +67,21 @@ pub record HasRoomFor (p : Program) (m : Memory) : Type 0 where
   pub counts : p.loops ≤ length m.counts
   pub steps : p.loops ≤ length m.steps
 
--- from two memories, two others: what the executable changes is then the same in both
-pub record ChangeAlike (names : List NameInfo) (input : List ℤ) (kind : ExecKind) (m new_m new_n : Memory) : Type 0 where
-  pub store : (word : ℕ) → Changes names input m kind word → word_at new_m.store word ≡ word_at new_n.store word
-  pub counts : (k : ℕ) → SetsCount kind k → slice_index new_m.counts k ≡ slice_index new_n.counts k
-  pub steps : (k : ℕ) → SetsCount kind k → word_at new_m.steps k ≡ word_at new_n.steps k
-  pub taken : ExecReadsData kind → new_m.taken ≡ new_n.taken
+-- from two memories, two others: each word that the executable changes, or on which the two agreed before, is then the
+-- same in both; so for counts and steps, and for the data
+pub record ChangeAlike (names : List NameInfo) (input : List ℤ) (kind : ExecKind) (m n new_m new_n : Memory) : Type 0 where
+  pub store : (word : ℕ) → Changes names input m kind word ⊎ (word_at m.store word ≡ word_at n.store word) → word_at new_m.store word ≡ word_at new_n.store word
+  pub counts : (k : ℕ) → SetsCount kind k ⊎ (slice_index m.counts k ≡ slice_index n.counts k) → slice_index new_m.counts k ≡ slice_index new_n.counts k
+  pub steps : (k : ℕ) → SetsCount kind k ⊎ (word_at m.steps k ≡ word_at n.steps k) → word_at new_m.steps k ≡ word_at new_n.steps k
+  pub taken : m.taken ≡ n.taken → new_m.taken ≡ new_n.taken
 
--- two outcomes, of which the first comes from the memory m: the same executable follows after the same text, and what is
--- changed is the same; or both trap in the same way; or both end the run
-abbrev pub AreAlike : List NameInfo → List ℤ → ExecKind → Memory → Outcome → Outcome → Type 0
-AreAlike names input kind m (Goes next new_m text) (Goes next' new_n text') = (next ≡ next') × (text ≡ text') × ChangeAlike names input kind m new_m new_n
-AreAlike names input kind m (Stops trap) (Stops trap') = trap ≡ trap'
-AreAlike names input kind m Ends Ends = Unit {0}
-AreAlike names input kind m _ _ = ⊥
+-- two outcomes, from the memories m and n: the same executable follows after the same text, and what is changed is the
+-- same; or both trap in the same way; or both end the run
+abbrev pub AreAlike : List NameInfo → List ℤ → ExecKind → (m n : Memory) → Outcome → Outcome → Type 0
+AreAlike names input kind m n (Goes next new_m text) (Goes next' new_n text') = (next ≡ next') × (text ≡ text') × ChangeAlike names input kind m n new_m new_n
+AreAlike names input kind m n (Stops trap) (Stops trap') = trap ≡ trap'
+AreAlike names input kind m n Ends Ends = Unit {0}
+AreAlike names input kind m n _ _ = ⊥
 
 -- ---- ends
 

@@ -1,6 +1,6 @@
 //! Laws on runs, and on what executables read and change, as contracts of functions that do nothing.
 
-ghost use Rattle.std.specs.Prelude.{◌≡◌, ◌≢◌, ◌≤◌, ◌<◌, ◌↔◌, Bool, true, false, ℕ, ℤ, List, ◌++◌, All, Contains, Any, flat_map, Option, Some, None, Ok, slice_get, slice_index};
+ghost use Rattle.std.specs.Prelude.{◌≡◌, ◌≢◌, ◌≤◌, ◌<◌, ◌↔◌, Bool, true, false, ℕ, ℤ, List, ◌++◌, All, Contains, Any, flat_map, length, Option, Some, None, Ok, slice_get, slice_index};
 ghost use Rattle.op_table.specs.Words.{IsWord};
 ghost use Rattle.f77_tree.specs.declared.declarations.Dim.{Dim};
 ghost use Rattle.f77_tree.specs.declared.expressions.Access.{Access};
@@ -19,10 +19,11 @@ ghost use Rattle.f77_tree.specs.KnownWith.{known_word, known_with, AreRight};
 ghost use Rattle.f77_tree.specs.Line.{line_of};
 ghost use Rattle.f77_tree.specs.Loops.{InRange, AreLoops, do_start};
 ghost use Rattle.f77_tree.specs.Operations.{statements_of, is_increment, exec_operations, statement_operations, most_operations};
+ghost use Rattle.f77_tree.specs.Places.{IsWordOf};
 ghost use Rattle.f77_tree.specs.Run.{Mark, Running, source};
 ghost use Rattle.f77_tree.specs.Steps.{IfGoes, DoesNotTrap, IsMemoryOf, HoldsWords, KeepsRest, HasRoomFor, AgreeFor, AreAlike, Changes, StopsWithin};
-ghost use Rattle.f77_tree.specs.Touched.{ExecMayChange, MayName, MayRead, ItemMayRead, ReadsData};
-ghost use Rattle.f77_tree.specs.Value.{value, place, word_at, IsExpression, IsAccess, ArePlaced};
+ghost use Rattle.f77_tree.specs.Touched.{ExecMayChange, ExecMayRead, MayName, MayRead, ItemMayRead, ReadsData};
+ghost use Rattle.f77_tree.specs.Value.{value, place, word_at, dims_of, IsExpression, IsAccess, ArePlaced};
 ghost use Rattle.f77_tree.specs.WellFormed.{IsWellFormed};
 
 /// In each state of a run of a program that can run, the position is that of an executable, and there are as many words,
@@ -57,7 +58,7 @@ pub fn reads_decide()
     ensures values { (names : List NameInfo) (a b : List ℤ) (next next' : Option ℤ) (e : Expr) → ((word : ℕ) → MayRead names e word → word_at a word ≡ word_at b word) → (ReadsData e → next ≡ next') → value names a next e ≡ value names b next' e }
     ensures places { (names : List NameInfo) (a b : List ℤ) (next next' : Option ℤ) (access : Access) → ((word : ℕ) → Any (λ sub. MayRead names sub word) access.subs → word_at a word ≡ word_at b word) → (Any ReadsData access.subs → next ≡ next') → place names a next access ≡ place names b next' access }
     ensures lines { (names : List NameInfo) (a b : List ℤ) (items : List Item) → ((word : ℕ) → Any (λ item. ItemMayRead names item word) items → word_at a word ≡ word_at b word) → line_of names a items ≡ line_of names b items }
-    ensures outcomes { (p : Program) (input : List ℤ) (m n : Memory) (kind : ExecKind) → ArePlaced p.names p.words → HasRoomFor p m → HasRoomFor p n → CanExecute p kind → AgreeFor p.names kind m n → AreAlike p.names input kind m (outcome p.names input m kind) (outcome p.names input n kind) }
+    ensures outcomes { (p : Program) (input : List ℤ) (m n : Memory) (kind : ExecKind) → ArePlaced p.names p.words → HasRoomFor p m → HasRoomFor p n → CanExecute p kind → AgreeFor p.names kind m n → AreAlike p.names input kind m n (outcome p.names input m kind) (outcome p.names input n kind) }
     ensures changes { (names : List NameInfo) (input : List ℤ) (m n : Memory) (kind : ExecKind) (word : ℕ) → AgreeFor names kind m n → Changes names input m kind word ↔ Changes names input n kind word }
 {}
 
@@ -75,9 +76,13 @@ pub fn longer_tables_agree()
     ensures outcomes { (p : Program) (more : List NameInfo) (input : List ℤ) (m : Memory) (kind : ExecKind) → CanExecute p kind → outcome (p.names ++ more) input m kind ≡ outcome p.names input m kind }
 {}
 
-/// A word that an access surely names is the only one that it may name.
-pub fn known_words_are_alone()
-    ensures { (names : List NameInfo) (name : ℕ) (known : List (Option ℤ)) (word other : ℕ) → known_word names name known ≡ Some word → MayName names name known other → other ≡ word }
+/// A word that an access may name is one of its name, and the only one where all its subscripts are known; what an
+/// executable may read or change is a word of the program.
+pub fn accesses_stay_in_their_names()
+    ensures own { (names : List NameInfo) (words name : ℕ) (known : List (Option ℤ)) (word : ℕ) → ArePlaced names words → name < length names → length known ≡ length (dims_of names name) → MayName names name known word → IsWordOf names name word }
+    ensures alone { (names : List NameInfo) (name : ℕ) (known : List (Option ℤ)) (word other : ℕ) → known_word names name known ≡ Some word → MayName names name known other → other ≡ word }
+    ensures reads { (p : Program) (kind : ExecKind) (word : ℕ) → ArePlaced p.names p.words → CanExecute p kind → ExecMayRead p.names kind word → word < p.words }
+    ensures changes { (p : Program) (kind : ExecKind) (word : ℕ) → ArePlaced p.names p.words → CanExecute p kind → ExecMayChange p.names kind word → word < p.words }
 {}
 
 /// What is known of an expression where some words are known is its value, over each store in which those words are right.

@@ -17,8 +17,8 @@ pub use declarations::{
 pub use evaluation::{evaluate, locate};
 pub use expressions::{Access, Expr, ExprList};
 pub use laws::{
-    executables_keep_the_rest, executables_lead_to_successors, known_values_are_right,
-    known_words_are_alone, longer_tables_agree, ranges_have_counts, reads_decide, runs_hold_words,
+    accesses_stay_in_their_names, executables_keep_the_rest, executables_lead_to_successors,
+    known_values_are_right, longer_tables_agree, ranges_have_counts, reads_decide, runs_hold_words,
     runs_stay_inside, runs_stop_first, statements_bound_operations, what_cannot_trap_does_not,
 };
 pub use names::Name;
