@@ -22,7 +22,7 @@ row_values-items : (names : List NameInfo) (store : List ℤ) (next : Option ℤ
 row_values-items names store next n end_of-Expr = refl
 row_values-items names store next n (more_of-Expr e rest) = ap (λ rs. value names store next e ∷ rs) (row_values-items names store next _ rest)
 
-row_length-items : (n : _) (row : Row_of-Expr n) → row_length row ≡ length (items-the_row-Expr n row)
+pub row_length-items : (n : _) (row : Row_of-Expr n) → row_length row ≡ length (items-the_row-Expr n row)
 row_length-items n end_of-Expr = refl
 row_length-items n (more_of-Expr e rest) = ap suc (row_length-items _ rest)
 

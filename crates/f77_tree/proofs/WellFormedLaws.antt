@@ -27,7 +27,8 @@ use Rattle.f77_tree.proofs.AllLemmas.{All-nil, All-cons, All-get, All-first, All
 use Rattle.f77_tree.proofs.Coverage.{Touches, covered}
 use Rattle.f77_tree.proofs.Equations.{TouchesIfEqual, equations-touch, size-one}
 use Rattle.f77_tree.proofs.Places.{place-inside}
-use Rattle.f77_tree.proofs.KindLemmas.{IsProper-expression, IsProper-element, operands-expression}
+use Rattle.f77_tree.proofs.ExpressionLemmas.{Apply-IsExpression}
+use Rattle.f77_tree.proofs.KindLemmas.{IsProper-expression, IsProper-element}
 
 -- ---- places
 
@@ -62,7 +63,7 @@ scalar-below names words k within is =
 -- the value that READ assigns is an expression of the table
 taken-expression : (names : List NameInfo) (kind : Kind) → IsExpression names (taken_as kind)
 taken-expression names Integer = tt
-taken-expression names Logical = operands-expression names Truth (Input ∷ []) refl (All-cons (IsExpression names) Input [] tt (All-nil (IsExpression names)))
+taken-expression names Logical = Apply-IsExpression names Truth (Input ∷ []) refl (All-cons (IsExpression names) Input [] tt (All-nil (IsExpression names)))
 
 access-of : (names : List NameInfo) (access : Access) → IsProperAccess names access → IsAccess names access
 access-of names access is =

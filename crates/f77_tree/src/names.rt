@@ -40,19 +40,19 @@ impl Name {
         })
     }
 
-    /// The characters. They are those of a name, whatever the name came from.
+    /// The characters.
     pub fn as_bytes(&self) -> &[u8]
-        ensures bytes { result.now ≡ self.now }
-        ensures name { IsTrue (is_name self.now) }
+        ensures { result.now ≡ self.now }
     {
         &self.bytes[..self.len]
     }
 
-    /// How many characters there are: one to six.
+    /// How many characters there are: one to six. They are those of a name, whatever the name came from.
     pub fn len(&self) -> u32
         ensures len { result ≡ length self.now }
         ensures some { 1 ≤ result }
         ensures few { result ≤ 6 }
+        ensures name { IsTrue (is_name self.now) }
     {
         self.len as u32
     }
