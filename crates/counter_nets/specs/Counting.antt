@@ -1,5 +1,5 @@
 -- What the counters do: a feeder gives to a counter and to a writer, and too many lines trap.
-use Rattle.std.specs.Prelude.{◌+◌, ◌-◌, ◌<◌, ◌^◌, ◌&&◌, ℕ, zero, suc, Bool, true, false, nat_lt, nat_eq, if◌then◌else◌, List, [], ◌∷◌, ◌++◌, Option, Some, None, codes}
+use Rattle.std.specs.Prelude.{◌+◌, ◌-◌, ◌<◌, ◌^◌, ◌&&◌, ℕ, zero, suc, Bool, true, false, nat_lt, nat_eq, if◌then◌else◌, List, [], ◌∷◌, Option, Some, None, codes}
 use Rattle.op_table.specs.declared.Trap.{Trap}
 use Rattle.op_table.specs.declared.Trap.TheVariants.{Overflow}
 use Rattle.firing.specs.declared.system.NodeName.{NodeName}
@@ -9,11 +9,6 @@ use Rattle.counter_nets.specs.declared.counts.Counts.{Counts}
 
 abbrev pub tick : List ℕ
 tick = codes "tick\n"
-
--- so many lines
-abbrev pub ticks : ℕ → List ℕ
-ticks zero = []
-ticks (suc n) = ticks n ++ tick
 
 abbrev pub name_of : ℕ → NodeName
 name_of zero = Act 5
@@ -55,7 +50,6 @@ counter_moves = record {
   ready = is_ready;
   fired = after_node;
   line = λ m k. line_of k;
-  out = λ m. ticks m.written;
   trap = λ m. trap_of m.trapped;
 }
 

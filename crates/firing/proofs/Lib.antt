@@ -1,8 +1,8 @@
 pub mod ChosenLemmas
 pub mod CountLemmas
 pub mod Counting
-pub mod Example
 pub mod MarkLemmas
+pub mod OwnLemmas
 pub mod Pacing
 pub mod PlayLemmas
 pub mod Pulling

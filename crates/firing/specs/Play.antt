@@ -8,7 +8,7 @@ use Rattle.firing.specs.declared.playing.Show.{Show}
 use Rattle.firing.specs.declared.playing.Show.TheVariants.{Output, Nodes, Nothing}
 use Rattle.firing.specs.Moves.{Moves, CanFire, line_bytes}
 use Rattle.firing.specs.NameLine.{name_line}
-use Rattle.firing.specs.Orders.{IsOrder, IsOver, after}
+use Rattle.firing.specs.Orders.{IsOrder, IsOver, after, written as written_by}
 
 -- a marking, and the control beside it
 pub record Moment (M C : Type 0) : Type 0 where
@@ -118,11 +118,17 @@ WritesOutput Output added old new (WriteFault count) = AppendsFront old new adde
 WritesOutput Output added old new _ = Appends old new added
 WritesOutput _ added old new _ = Unit {0}
 
+-- how many firings an answer tells
+abbrev pub Counts : (limit made : ℕ) → PlayEnd → Type 0
+Counts limit made (Rest n) = made ≡ n
+Counts limit made (Trapped trap line) = made ≤ limit
+Counts limit made Limit = made ≡ limit
+Counts limit made (WriteFault n) = made ≡ n
+
 -- The nodes that fired are an order, and what is written as output is what it adds to the output.
-pub record MakesOrder {M : Type 0} (s : Moves M) (start : M) (show : Show) (end : M) (old new : Option (List ℕ)) (result : PlayEnd) : Type 0 where
+pub record MakesOrder {M : Type 0} (s : Moves M) (start : M) (limit : ℕ) (show : Show) (end : M) (old new : Option (List ℕ)) (result : PlayEnd) : Type 0 where
   pub nodes : List ℕ
+  pub count : Counts limit (length nodes) result
   pub order : IsOrder s start nodes
   pub leads : after s start nodes ≡ end
-  pub added : List ℕ
-  pub output : s.out end ≡ s.out start ++ added
-  pub written : WritesOutput show added old new result
+  pub written : WritesOutput show (written_by s start nodes) old new result

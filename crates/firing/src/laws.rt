@@ -12,7 +12,7 @@ use crate::StepSystem;
 /// no more serial firings writes a front of what the other writes, where that one doesn't trap.
 pub fn every_order<S: StepSystem>()
     ensures rest { (net : S.Net) (m : S.Marking) (ks : List ℕ) → S.sound net m → IsWhole (S.moves net) m ks → (S.moves net).trap (after (S.moves net) m ks) ≡ None → Settles (S.moves net) m (length ks) (after (S.moves net) m ks) }
-    ensures trap { (net : S.Net) (m : S.Marking) (ks : List ℕ) (trap : Trap) (line : ℕ) → S.sound net m → IsOrder (S.moves net) m ks → (S.moves net).trap (after (S.moves net) m ks) ≡ Some (trap, line) → Traps (S.moves net) m (trap, line) ((S.moves net).out (after (S.moves net) m ks)) }
+    ensures trap { (net : S.Net) (m : S.Marking) (ks : List ℕ) (trap : Trap) (line : ℕ) → S.sound net m → IsOrder (S.moves net) m ks → (S.moves net).trap (after (S.moves net) m ks) ≡ Some (trap, line) → Traps (S.moves net) m (trap, line) }
     ensures prefix { (net : S.Net) (m : S.Marking) (ks others : List ℕ) → S.sound net m → IsOrder (S.moves net) m ks → IsOrder (S.moves net) m others → (S.moves net).trap (after (S.moves net) m others) ≡ None → serial_count (S.moves net) ks ≤ serial_count (S.moves net) others → IsBehind (S.moves net) m ks others }
 {}
 

@@ -60,11 +60,11 @@ pub fn play<S: StepSystem, K: Sink>(
     ensures fault { (n : ℕ) → result ≡ PlayEnd.WriteFault n → Rose (K.faults sink.old) (K.faults sink.new) }
 
     // The firings are an order, and its output is what was written as such.
-    ensures order { MakesOrder (S.moves (S.net sys.old)) (S.marking sys.old) show (S.marking sys.new) (K.got sink.old) (K.got sink.new) result }
+    ensures order { MakesOrder (S.moves (S.net sys.old)) (S.marking sys.old) limit show (S.marking sys.new) (K.got sink.old) (K.got sink.new) result }
 
     // No other order of firing comes to another end.
     ensures settles { (n : ℕ) → result ≡ PlayEnd.Rest n → Settles (S.moves (S.net sys.old)) (S.marking sys.old) n (S.marking sys.new) }
-    ensures traps { (trap : Trap) (line : ℕ) → result ≡ PlayEnd.Trapped trap line → Traps (S.moves (S.net sys.old)) (S.marking sys.old) (trap, line) ((S.moves (S.net sys.old)).out (S.marking sys.new)) }
+    ensures traps { (trap : Trap) (line : ℕ) → result ≡ PlayEnd.Trapped trap line → Traps (S.moves (S.net sys.old)) (S.marking sys.old) (trap, line) }
 {
     fire_chosen(sys, picks, limit, show, sink)
 }

@@ -1,9 +1,9 @@
-ghost use Rattle.std.specs.Prelude.{◌≡◌, ◌≤◌, ℕ, None};
+ghost use Rattle.std.specs.Prelude.{◌≡◌, ◌≢◌, ◌≤◌, ℕ, List, length, None};
 ghost use Rattle.df_io.specs.Faults.{Rose};
 ghost use Rattle.op_table.specs.declared.Trap.{Trap};
-ghost use Rattle.firing.specs.Orders.{Settles, Traps};
+ghost use Rattle.firing.specs.Orders.{IsOver, Settles, Traps, after};
 ghost use Rattle.firing.specs.Play.{MakesOrder, Plays, by_order, moment};
-ghost use Rattle.firing.specs.SourceOrder.{IsSourceOrder};
+ghost use Rattle.firing.specs.SourceOrder.{IsDueOrder, IsSourceOrder};
 
 use crate::step::step;
 use crate::{PlayEnd, Show, StepSystem};
@@ -40,11 +40,14 @@ pub fn follow<S: SourceOrder, K: Sink>(sys: &mut S, limit: u64, show: Show, sink
     ensures fault { (n : ℕ) → result ≡ PlayEnd.WriteFault n → Rose (K.faults sink.old) (K.faults sink.new) }
 
     // The firings are an order, and its output is what was written as such.
-    ensures order { MakesOrder (S.moves (S.net sys.old)) (S.marking sys.old) show (S.marking sys.new) (K.got sink.old) (K.got sink.new) result }
+    ensures order { MakesOrder (S.moves (S.net sys.old)) (S.marking sys.old) limit show (S.marking sys.new) (K.got sink.old) (K.got sink.new) result }
+
+    // Where the nodes that are due come to an end within the limit, the run does.
+    ensures enough { (ks : List ℕ) → IsDueOrder (S.moves (S.net sys.old)) (S.steered (S.net sys.old)) (S.due_node (S.net sys.old)) (S.marking sys.old) (S.control sys.old) ks → IsOver (S.moves (S.net sys.old)) (after (S.moves (S.net sys.old)) (S.marking sys.old) ks) → length ks ≤ limit → result ≢ PlayEnd.Limit }
 
     // No other order of firing comes to another end.
     ensures settles { (n : ℕ) → result ≡ PlayEnd.Rest n → Settles (S.moves (S.net sys.old)) (S.marking sys.old) n (S.marking sys.new) }
-    ensures traps { (trap : Trap) (line : ℕ) → result ≡ PlayEnd.Trapped trap line → Traps (S.moves (S.net sys.old)) (S.marking sys.old) (trap, line) ((S.moves (S.net sys.old)).out (S.marking sys.new)) }
+    ensures traps { (trap : Trap) (line : ℕ) → result ≡ PlayEnd.Trapped trap line → Traps (S.moves (S.net sys.old)) (S.marking sys.old) (trap, line) }
 {
     fire_due(sys, limit, show, sink)
 }

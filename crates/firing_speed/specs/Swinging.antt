@@ -30,7 +30,6 @@ swing_moves pairs = record {
   ready = is_ready pairs;
   fired = after_node;
   line = λ m k. None;
-  out = λ m. [];
   trap = λ m. None;
 }
 
