@@ -1,4 +1,5 @@
 pub mod ChosenLemmas
+pub mod ControlLemmas
 pub mod CountLemmas
 pub mod Counting
 pub mod MarkLemmas
@@ -8,5 +9,6 @@ pub mod PlayLemmas
 pub mod Pulling
 pub mod RankLemmas
 pub mod Resting
+pub mod ResumeLemmas
 pub mod RunLemmas
 pub mod Trapping
