@@ -1,12 +1,14 @@
 pub mod ChosenLemmas
+pub mod ControlLemmas
 pub mod CountLemmas
 pub mod Counting
-pub mod Example
 pub mod MarkLemmas
+pub mod OwnLemmas
 pub mod Pacing
 pub mod PlayLemmas
 pub mod Pulling
 pub mod RankLemmas
 pub mod Resting
+pub mod ResumeLemmas
 pub mod RunLemmas
 pub mod Trapping
