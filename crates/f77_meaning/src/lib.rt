@@ -9,6 +9,8 @@ mod stepper;
 mod storage;
 mod taking;
 
+pub use line::write_line;
+pub use room::most_room;
 pub use stepper::{Stepped, Stepper};
 
 #[cfg(test)]

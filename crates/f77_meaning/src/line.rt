@@ -10,7 +10,7 @@ use f77_tree::{Expr, Item, ItemList, Kind, NameInfoList, evaluate};
 use itoa::Buffer;
 use op_table::{Op, Trap};
 
-// Writes the line of these items, for which there is room, or finds the first that traps.
+/// Writes the line of these items, for which there is room, or finds the first that traps. It takes no memory.
 pub fn write_line(
     line: &mut Vec<u8>,
     items: &ItemList,

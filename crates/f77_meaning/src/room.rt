@@ -6,7 +6,7 @@ ghost use Rattle.f77_meaning.specs.Room.{item_room, line_room, kind_room, HasRoo
 use df_sequence::NoMemory;
 use f77_tree::{Exec, ExecKind, Item};
 
-// Room for each line that the executables write.
+/// Room for each line that the executables write, in bytes.
 pub fn most_room(execs: &[Exec]) -> Result<usize, NoMemory>
     ensures { IfOk result (HasRoom execs.now) }
 {
