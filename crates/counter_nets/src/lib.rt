@@ -8,6 +8,3 @@ mod rivals;
 pub use counters::Counters;
 pub use counts::Counts;
 pub use rivals::{OnTokens, Token, rivals_break_the_laws};
-
-#[cfg(test)]
-mod tests;

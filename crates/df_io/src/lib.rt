@@ -22,6 +22,3 @@ pub use source::Source;
 pub use std_sink::StdSink;
 pub use std_source::StdSource;
 pub use write::{WriteFault, write_all};
-
-#[cfg(test)]
-mod tests;

@@ -11,7 +11,3 @@ mod taking;
 
 pub use stepper::{Stepped, Stepper};
 
-#[cfg(test)]
-mod runnable;
-#[cfg(test)]
-mod tests;
