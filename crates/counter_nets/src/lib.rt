@@ -10,6 +10,3 @@ pub use counters::Counters;
 pub use counts::Counts;
 pub use rivals::{OnTokens, Token, rivals_break_the_laws};
 pub use turn::Turn;
-
-#[cfg(test)]
-mod tests;

@@ -17,8 +17,3 @@ pub use laws::{one_reading, piece_of_reading};
 pub use parse::{parse_expr, read_expr};
 pub use parsed::{ExprEnd, Parsed, ReadEnd, ReadExpr};
 pub use print::print_expr;
-
-#[cfg(test)]
-mod print_tests;
-#[cfg(test)]
-mod tests;

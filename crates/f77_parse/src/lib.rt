@@ -16,6 +16,3 @@ mod stmt_end;
 pub use laws::one_statement;
 pub use parse::parse_stmt;
 pub use stmt_end::StmtEnd;
-
-#[cfg(test)]
-mod tests;

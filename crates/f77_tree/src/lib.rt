@@ -24,6 +24,3 @@ pub use laws::{
 pub use names::Name;
 pub use programs::{Exec, ExecKind, ExecList, Item, ItemList, NameInfo, NameInfoList, Program};
 pub use statements::{Labelled, LabelledList, RawExpr, RawItem, RawItemList, RawList, Stmt};
-
-#[cfg(test)]
-mod tests;
