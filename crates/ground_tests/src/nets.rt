@@ -1,6 +1,4 @@
 //! A small net, played by picks and in its own order.
-ghost use Rattle.std.specs.Prelude.{◌<◌, length};
-
 use counter_nets::Counters;
 use df_io::{MemSink, NoMemory};
 use firing::{PlayEnd, Show, follow, play};
@@ -8,141 +6,129 @@ use op_table::Trap;
 use std::alloc::Global;
 use std::test::Fail;
 
-// A run by picks with two for the feeder, over a sink that fails at a call, and how it ended.
-fn played(
-    alloc: Global,
-    lines: u32,
-    picks: &[u32],
-    limit: u64,
-    show: Show,
-    fails: u32,
-) -> Result<(PlayEnd, MemSink), NoMemory>
-    requires { 0 < length picks.now }
-{
-    let mut counters = Counters::new(alloc, 2, lines)?;
-    let mut sink = MemSink::new(alloc, 100, &[fails], 100)?;
-    let end = play(&mut counters, picks, limit, show, &mut sink);
-    Ok((end, sink))
-}
+// A run with two for the feeder: the picks, or none for the own order; how many lines the net may write; the limit; what
+// is shown; and the call at which the sink fails. Then how it ends, and what was written.
+type Case = (&'static [u32], u32, u64, Show, u32, PlayEnd, &'static str);
 
-// The same in the counters' own order.
-fn followed(
-    alloc: Global,
-    lines: u32,
-    limit: u64,
-    show: Show,
-    fails: u32,
-) -> Result<(PlayEnd, MemSink), NoMemory> {
-    let mut counters = Counters::new(alloc, 2, lines)?;
-    let mut sink = MemSink::new(alloc, 100, &[fails], 100)?;
-    let end = follow(&mut counters, limit, show, &mut sink);
+const CASES: [Case; 14] = [
+    // Picks choose among the ready nodes.
+    (
+        &[0],
+        5,
+        99,
+        Show::Nodes,
+        99,
+        PlayEnd::Rest(6),
+        "0 ACT 5\n0 ACT 5\n1 OP 5 1\n1 OP 5 1\n2 MERGE 6 2\n2 MERGE 6 2\n",
+    ),
+    (
+        &[2, 0, 1],
+        5,
+        99,
+        Show::Nodes,
+        99,
+        PlayEnd::Rest(6),
+        "0 ACT 5\n0 ACT 5\n2 MERGE 6 2\n1 OP 5 1\n1 OP 5 1\n2 MERGE 6 2\n",
+    ),
+    (
+        &[5, 4],
+        5,
+        99,
+        Show::Nodes,
+        99,
+        PlayEnd::Rest(6),
+        "0 ACT 5\n1 OP 5 1\n2 MERGE 6 2\n0 ACT 5\n2 MERGE 6 2\n1 OP 5 1\n",
+    ),
+    // The own order is followed.
+    (
+        &[],
+        5,
+        99,
+        Show::Nodes,
+        99,
+        PlayEnd::Rest(6),
+        "0 ACT 5\n2 MERGE 6 2\n1 OP 5 1\n0 ACT 5\n2 MERGE 6 2\n1 OP 5 1\n",
+    ),
+    // Lines are shown up to a trap.
+    (&[0], 5, 99, Show::Output, 99, PlayEnd::Rest(6), "A\nB\n"),
+    (
+        &[2],
+        1,
+        99,
+        Show::Output,
+        99,
+        PlayEnd::Trapped(Trap::Overflow, 12),
+        "A\n",
+    ),
+    (
+        &[],
+        1,
+        99,
+        Show::Nodes,
+        99,
+        PlayEnd::Trapped(Trap::Overflow, 12),
+        "0 ACT 5\n2 MERGE 6 2\n1 OP 5 1\n0 ACT 5\n3 SWITCH 7 3\n",
+    ),
+    // A rest and a trap come before the limit.
+    (&[0], 5, 0, Show::Nodes, 99, PlayEnd::Limit, ""),
+    (&[0], 5, 5, Show::Nothing, 99, PlayEnd::Limit, ""),
+    (&[0], 5, 6, Show::Nothing, 99, PlayEnd::Rest(6), ""),
+    (
+        &[],
+        1,
+        5,
+        Show::Nothing,
+        99,
+        PlayEnd::Trapped(Trap::Overflow, 12),
+        "",
+    ),
+    (&[], 1, 4, Show::Nothing, 99, PlayEnd::Limit, ""),
+    // A sink fails.
+    (&[0], 5, 99, Show::Output, 1, PlayEnd::WriteFault(6), "A\n"),
+    (
+        &[0],
+        5,
+        99,
+        Show::Nodes,
+        2,
+        PlayEnd::WriteFault(3),
+        "0 ACT 5\n0 ACT 5\n",
+    ),
+];
+
+fn run(alloc: Global, case: &Case) -> Result<(PlayEnd, MemSink), NoMemory> {
+    let mut counters = Counters::new(alloc, 2, case.1)?;
+    let mut sink = MemSink::new(alloc, 100, &[case.4], 100)?;
+    let end = if case.0.is_empty() {
+        follow(&mut counters, case.2, case.3, &mut sink)
+    } else {
+        play(&mut counters, case.0, case.2, case.3, &mut sink)
+    };
     Ok((end, sink))
 }
 
 #[test]
-fn picks_choose_among_ready_nodes(rt: HostRuntime) -> Result<(), Fail> {
-    let (end, sink) = played(rt.alloc(), 5, &[0], 99, Show::Nodes, 99)?;
-    assert_eq!(rt; end, PlayEnd::Rest(6));
-    assert_eq!(rt;
-        sink.written(),
-        b"0 ACT 5\n0 ACT 5\n1 OP 5 1\n1 OP 5 1\n2 MERGE 6 2\n2 MERGE 6 2\n".as_slice()
-    );
-    let (end, sink) = played(rt.alloc(), 5, &[2, 0, 1], 99, Show::Nodes, 99)?;
-    assert_eq!(rt; end, PlayEnd::Rest(6));
-    assert_eq!(rt;
-        sink.written(),
-        b"0 ACT 5\n0 ACT 5\n2 MERGE 6 2\n1 OP 5 1\n1 OP 5 1\n2 MERGE 6 2\n".as_slice()
-    );
-    let (end, sink) = played(rt.alloc(), 5, &[5, 4], 99, Show::Nodes, 99)?;
-    assert_eq!(rt; end, PlayEnd::Rest(6));
-    assert_eq!(rt;
-        sink.written(),
-        b"0 ACT 5\n1 OP 5 1\n2 MERGE 6 2\n0 ACT 5\n2 MERGE 6 2\n1 OP 5 1\n".as_slice()
-    );
+fn runs_end_and_write_as_due(rt: HostRuntime) -> Result<(), Fail> {
+    for case in CASES {
+        let (end, sink) = run(rt.alloc(), &case)?;
+        assert_eq!(rt; end, case.5, "of {:?}", case.0);
+        assert_eq!(rt; sink.written(), case.6.as_bytes(), "of {:?}", case.0);
+    }
     Ok(())
 }
 
+// After a firing of another node than the one due, the lowest ready node is due.
 #[test]
-fn the_own_order_is_followed(rt: HostRuntime) -> Result<(), Fail> {
-    let (end, sink) = followed(rt.alloc(), 5, 99, Show::Nodes, 99)?;
-    assert_eq!(rt; end, PlayEnd::Rest(6));
-    assert_eq!(rt;
-        sink.written(),
-        b"0 ACT 5\n2 MERGE 6 2\n1 OP 5 1\n0 ACT 5\n2 MERGE 6 2\n1 OP 5 1\n".as_slice()
-    );
-
-    // After a firing of another node than the one due, the lowest ready node is due.
+fn a_lost_order_goes_on(rt: HostRuntime) -> Result<(), Fail> {
     let mut counters = Counters::new(rt.alloc(), 2, 5)?;
-    let mut sink = MemSink::new(rt.alloc(), 100, &[], 100)?;
-    assert_eq!(rt;
-        play(&mut counters, &[1], 2, Show::Nothing, &mut sink),
-        PlayEnd::Limit
-    );
-    assert_eq!(rt;
-        follow(&mut counters, 99, Show::Nodes, &mut sink),
-        PlayEnd::Rest(4)
-    );
+    let mut sink = MemSink::new(rt.alloc(), 100, &[], 1)?;
+    let end = play(&mut counters, &[1], 2, Show::Nothing, &mut sink);
+    assert_eq!(rt; end, PlayEnd::Limit);
+    let end = follow(&mut counters, 99, Show::Nodes, &mut sink);
+    assert_eq!(rt; end, PlayEnd::Rest(4));
     assert_eq!(rt;
         sink.written(),
         b"0 ACT 5\n1 OP 5 1\n2 MERGE 6 2\n2 MERGE 6 2\n".as_slice()
     );
-    Ok(())
-}
-
-#[test]
-fn lines_are_shown_up_to_a_trap(rt: HostRuntime) -> Result<(), Fail> {
-    let (end, sink) = played(rt.alloc(), 5, &[0], 99, Show::Output, 99)?;
-    assert_eq!(rt; end, PlayEnd::Rest(6));
-    assert_eq!(rt; sink.written(), b"A\nB\n".as_slice());
-    let (end, sink) = played(rt.alloc(), 1, &[2], 99, Show::Output, 99)?;
-    assert_eq!(rt; end, PlayEnd::Trapped(Trap::Overflow, 12));
-    assert_eq!(rt; sink.written(), b"A\n".as_slice());
-    let (end, sink) = followed(rt.alloc(), 1, 99, Show::Nodes, 99)?;
-    assert_eq!(rt; end, PlayEnd::Trapped(Trap::Overflow, 12));
-    assert_eq!(rt;
-        sink.written(),
-        b"0 ACT 5\n2 MERGE 6 2\n1 OP 5 1\n0 ACT 5\n3 SWITCH 7 3\n".as_slice()
-    );
-    Ok(())
-}
-
-#[test]
-fn stops_come_in_their_order(rt: HostRuntime) -> Result<(), Fail> {
-    let (end, sink) = played(rt.alloc(), 5, &[0], 0, Show::Nodes, 99)?;
-    assert_eq!(rt; end, PlayEnd::Limit);
-    assert_eq!(rt; sink.written(), b"".as_slice());
-    let (end, _) = played(rt.alloc(), 5, &[0], 5, Show::Nothing, 99)?;
-    assert_eq!(rt; end, PlayEnd::Limit);
-    let (end, _) = played(rt.alloc(), 5, &[0], 6, Show::Nothing, 99)?;
-    assert_eq!(rt; end, PlayEnd::Rest(6));
-    let (end, _) = followed(rt.alloc(), 1, 5, Show::Nothing, 99)?;
-    assert_eq!(rt; end, PlayEnd::Trapped(Trap::Overflow, 12));
-    let (end, _) = followed(rt.alloc(), 1, 4, Show::Nothing, 99)?;
-    assert_eq!(rt; end, PlayEnd::Limit);
-    Ok(())
-}
-
-#[test]
-fn a_sink_fails_at_a_write(rt: HostRuntime) -> Result<(), Fail> {
-    let (end, sink) = played(rt.alloc(), 5, &[0], 99, Show::Output, 1)?;
-    assert_eq!(rt; end, PlayEnd::WriteFault(6));
-    assert_eq!(rt; sink.written(), b"A\n".as_slice());
-    let (end, sink) = played(rt.alloc(), 5, &[0], 99, Show::Nodes, 2)?;
-    assert_eq!(rt; end, PlayEnd::WriteFault(3));
-    assert_eq!(rt; sink.written(), b"0 ACT 5\n0 ACT 5\n".as_slice());
-    let (end, _) = played(rt.alloc(), 5, &[0], 99, Show::Nothing, 0)?;
-    assert_eq!(rt; end, PlayEnd::Rest(6));
-    let (end, sink) = followed(rt.alloc(), 5, 99, Show::Output, 0)?;
-    assert_eq!(rt; end, PlayEnd::WriteFault(2));
-    assert_eq!(rt; sink.written(), b"".as_slice());
-
-    // A front of the last line.
-    let mut counters = Counters::new(rt.alloc(), 2, 5)?;
-    let mut sink = MemSink::new(rt.alloc(), 100, &[3], 1)?;
-    assert_eq!(rt;
-        play(&mut counters, &[0], 99, Show::Output, &mut sink),
-        PlayEnd::WriteFault(6)
-    );
-    assert_eq!(rt; sink.written(), b"A\nB".as_slice());
     Ok(())
 }
