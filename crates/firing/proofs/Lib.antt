@@ -1,12 +1,15 @@
 pub mod ChosenLemmas
 pub mod CountLemmas
 pub mod Counting
+pub mod DigitLemmas
 pub mod MarkLemmas
 pub mod OwnLemmas
 pub mod Pacing
 pub mod PlayLemmas
 pub mod Pulling
+pub mod PutLemmas
 pub mod RankLemmas
 pub mod Resting
 pub mod RunLemmas
 pub mod Trapping
+pub mod WordLemmas
