@@ -2,13 +2,16 @@ pub mod ChosenLemmas
 pub mod ControlLemmas
 pub mod CountLemmas
 pub mod Counting
+pub mod DigitLemmas
 pub mod MarkLemmas
 pub mod OwnLemmas
 pub mod Pacing
 pub mod PlayLemmas
 pub mod Pulling
+pub mod PutLemmas
 pub mod RankLemmas
 pub mod Resting
 pub mod ResumeLemmas
 pub mod RunLemmas
 pub mod Trapping
+pub mod WordLemmas

@@ -1,4 +1,4 @@
-ghost use Rattle.std.specs.Prelude.{◌≡◌, ◌<◌, ◌≤◌, ℕ, length};
+ghost use Rattle.std.specs.Prelude.{◌≡◌, ◌+◌, ◌%◌, ◌<◌, ◌≤◌, ℕ, length};
 ghost use Rattle.df_io.specs.Faults.{Rose};
 ghost use Rattle.op_table.specs.declared.Trap.{Trap};
 ghost use Rattle.firing.specs.Control.{IsInStep};
@@ -40,7 +40,7 @@ pub enum PlayEnd {
 /// over and over.
 ///
 /// A trap, a rest and the limit are looked for in this order before each firing. It takes no memory, and uses the marks of
-/// the system for its own.
+/// the system for its own. Control is lost once a pick chooses another node than the one that is due.
 pub fn play<S: StepSystem, K: Sink>(
     sys: &mut S,
     picks: &[u32],
@@ -92,6 +92,7 @@ fn fire_chosen<S: StepSystem, K: Sink>(
 {
     mark_ready(sys);
     let mut made: u64 = 0;
+    let mut turn = 0;
     'firing: loop {
         if let Some((trap, line)) = sys.trap() {
             return PlayEnd::Trapped(trap, line);
@@ -100,15 +101,23 @@ fn fire_chosen<S: StepSystem, K: Sink>(
         if ready == 0 {
             return PlayEnd::Rest(made);
         }
-        let pick = picks[(made % picks.len() as u64) as usize];
-        let k = sys.marked_at(pick % ready);
+        let k = sys.marked_at(picks[turn] % ready);
         if made == limit {
             return PlayEnd::Limit;
         }
         made += 1;
+        turn = next_turn(turn, picks.len());
         if let Err(WriteFault) = step(sys, k, show, sink) {
             return PlayEnd::WriteFault(made);
         }
         retest_fired(sys, k);
     }
+}
+
+// The place after this one in a list of so many, which is gone through over and over.
+fn next_turn(turn: usize, count: usize) -> usize
+    requires { turn < count }
+    ensures { result ≡ (turn + 1) % count }
+{
+    if turn + 1 == count { 0 } else { turn + 1 }
 }

@@ -1,4 +1,5 @@
-use Rattle.std.proofs.Common.{◌≡◌, ◌%◌, ◌<◌, length, slice_index, None, sym, ap, subst, ◌∙◌, rules, arith}
+use Rattle.std.proofs.Common.{◌≡◌, ◌+◌, ◌%◌, ◌<◌, length, slice_index, None, sym, ap, subst, ◌∙◌, rules, arith}
+use Rattle.std.proofs.Math.Nat.{mod-add-mod}
 use Rattle.firing.specs.Control.{IsInStep}
 use Rattle.firing.specs.Play.{Moment, by_picks, moment}
 use Rattle.firing.proofs.ChosenLemmas.{marked_chosen, marked_fires, none_marked, marks_told}
@@ -26,8 +27,9 @@ returns-then-made-limit-clause-plays g c =
     let none : (y.moves net).trap (y.marking c.firing.sys) ≡ None = trap_told y.moves kept.net (search rules) in
     let are = kept.marks none in
     let pick = slice_index c.args.picks.now (c.firing.made % length c.args.picks.now) in
-    let chose = marked_chosen are pick c.marked-ready.ensures c.marked_at-k.ensures in
-    let can = marked_fires are pick c.marked-ready.ensures c.marked_at-k.ensures none in
+    let told = rw kept.turn at c.marked_at-k.ensures in
+    let chose = marked_chosen are pick c.marked-ready.ensures told in
+    let can = marked_fires are pick c.marked-ready.ensures told none in
     run_stops w start kept.run c.if-made-limit.true chose can
 
 pub returns-in-Err-clause-plays : goal.returns-in-Err-clause-plays
@@ -40,8 +42,9 @@ returns-in-Err-clause-plays g c =
     let none : (y.moves net).trap (y.marking c.firing.sys) ≡ None = trap_told y.moves kept.net (search rules) in
     let are = kept.marks none in
     let pick = slice_index c.args.picks.now (c.firing.made % length c.args.picks.now) in
-    let chose = marked_chosen are pick c.marked-ready.ensures c.marked_at-k.ensures in
-    let can = marked_fires are pick c.marked-ready.ensures c.marked_at-k.ensures none in
+    let told = rw kept.turn at c.marked_at-k.ensures in
+    let chose = marked_chosen are pick c.marked-ready.ensures told in
+    let can = marked_fires are pick c.marked-ready.ensures told none in
     let below : c.firing.made < c.args.limit = omega (arith, kept.run.bounded, c.if-made-limit.false) in
     let did = c.in-Err.ensures in
     let leads = moment_told y.moves y.course (y.place c.firing.sys) kept.net did.marking did.place in
@@ -59,8 +62,9 @@ firing-preserved g c =
     let none : (y.moves net).trap m ≡ None = trap_told y.moves kept.net (search rules) in
     let are = kept.marks none in
     let pick = slice_index c.args.picks.now (c.firing.made % length c.args.picks.now) in
-    let chose = marked_chosen are pick c.marked-ready.ensures c.marked_at-k.ensures in
-    let can = marked_fires are pick c.marked-ready.ensures c.marked_at-k.ensures none in
+    let told = rw kept.turn at c.marked_at-k.ensures in
+    let chose = marked_chosen are pick c.marked-ready.ensures told in
+    let can = marked_fires are pick c.marked-ready.ensures told none in
     let below : c.firing.made < c.args.limit = omega (arith, kept.run.bounded, c.if-made-limit.false) in
     let did = c.in_default-step.ensures in
     let tested = c.retest_fired.ensures in
@@ -75,4 +79,5 @@ firing-preserved g c =
       room = tested.woken.same_room ∙ ap length did.marks ∙ kept.room;
       marks = λ quiet. marks_told y.moves lawful kept.net (did.net ∙ kept.net) kept.sound can fired tested.marking did.wakes did.marks are tested.woken tested.fired quiet;
       later = omega (arith, kept.later, did.later);
+      turn = c.next_turn-turn.ensures ∙ ap (λ i. (i + 1) % length c.args.picks.now) kept.turn ∙ mod-add-mod c.firing.made (length c.args.picks.now) 1;
     }

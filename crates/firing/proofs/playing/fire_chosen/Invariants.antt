@@ -1,4 +1,4 @@
-use Rattle.std.proofs.Common.{◌≡◌, ◌-◌, ◌≤◌, length, None}
+use Rattle.std.proofs.Common.{◌≡◌, ◌-◌, ◌%◌, ◌≤◌, length, None}
 use Rattle.firing.specs.Control.{IsInStep}
 use Rattle.firing.specs.Marks.{AreReadyMarks}
 use Rattle.firing.specs.Play.{by_picks, moment}
@@ -17,6 +17,7 @@ invariant-firing g l =
       run : Running (by_picks (y.moves fixed) (y.course fixed) l.picks) (moment (y.marking l.fn.sys) (y.place l.fn.sys)) now l.limit l.show l.made (g.K.Sink.got l.fn.sink) (g.K.Sink.got l.sink);
       room : length (y.marks l.sys) ≡ (y.moves fixed).nodes;
       marks : (y.moves fixed).trap (y.marking l.sys) ≡ None → AreReadyMarks (y.moves fixed) (y.marking l.sys) (y.marks l.sys);
+      turn : l.turn ≡ l.made % length l.picks;
       later : g.K.Sink.faults l.fn.sink ≤ g.K.Sink.faults l.sink;
     }
 
