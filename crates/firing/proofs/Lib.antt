@@ -2,6 +2,7 @@ pub mod ChosenLemmas
 pub mod CountLemmas
 pub mod Counting
 pub mod DigitLemmas
+pub mod FootprintLemmas
 pub mod MarkLemmas
 pub mod OwnLemmas
 pub mod Pacing

@@ -1,5 +1,6 @@
 -- Step systems, the laws of their firings, what every order of firing comes to, and runs.
 pub mod BlockCounts
+pub mod Footprints
 pub mod Laws
 pub mod Marks
 pub mod Moves
