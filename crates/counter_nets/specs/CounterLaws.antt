@@ -4,7 +4,7 @@ use Rattle.std.proofs.lemmas.Bool.{ltb-true, lt-ltb, eqb-true, and_from}
 use Rattle.counter_nets.specs.declared.counts.Counts.{Counts}
 use Rattle.firing.specs.Laws.{IsLawful, AreReady}
 use Rattle.firing.specs.Moves.{CanFire, IsSilent}
-use Rattle.counter_nets.specs.Counting.{AreSmall, counter_moves, is_ready, after_node, is_serial, trap_of}
+use Rattle.counter_nets.specs.Counting.{AreSmall, counter_moves, is_ready, after_node, is_serial, line_of, trap_of}
 
 abbrev Both : Counts → ℕ → ℕ → Type 0
 Both m j k = AreReady AreSmall counter_moves m j k
@@ -94,6 +94,15 @@ one m (suc (suc (suc i))) (suc zero) both serial = refl
 one m (suc (suc (suc i))) (suc (suc zero)) both serial = never m both.second.ready both.first.ready
 one m (suc (suc (suc i))) (suc (suc (suc j))) both serial = same_node m i j both
 
+same_line_of : (m : Counts) (j k : ℕ) → Both m j k → line_of (after_node m j) k ≡ line_of m k
+same_line_of m j zero both = refl
+same_line_of m j (suc zero) both = refl
+same_line_of m zero (suc (suc zero)) both = refl
+same_line_of m (suc zero) (suc (suc zero)) both = refl
+same_line_of m (suc (suc zero)) (suc (suc zero)) both = absurd (both.differ refl)
+same_line_of m (suc (suc (suc i))) (suc (suc zero)) both = refl
+same_line_of m j (suc (suc (suc k))) both = refl
+
 same_trap_of : (m : Counts) (j k : ℕ) → Both m j k → trap_of (after_node m j).trapped ≡ None → trap_of (after_node (after_node m j) k).trapped ≡ trap_of (after_node m k).trapped
 same_trap_of m zero zero both none = refl
 same_trap_of m zero (suc zero) both none = refl
@@ -135,7 +144,7 @@ counter_laws = record {
   either_order = either;
   stays_ready = stays;
   one_serial = one;
-  same_line = λ m j k both none. refl;
+  same_line = λ m j k both none. same_line_of m j k both;
   same_trap = same_trap_of;
   silent = λ m k small can not. quiet m k can not;
   stays_sound = λ m k small can. stays_small m k small can;

@@ -3,3 +3,4 @@ pub mod Counting
 pub mod CounterLaws
 pub mod CounterOrder
 pub mod Rivals
+pub mod Turns

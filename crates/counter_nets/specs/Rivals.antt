@@ -1,5 +1,5 @@
 -- Two rivals for one token: whichever fires first, the other one can't any more.
-use Rattle.std.proofs.Common.{◌≡◌, ◌<◌, ℕ, true, false, [], None, refl, arith}
+use Rattle.std.proofs.Common.{◌≡◌, ◌<◌, ℕ, true, false, None, refl, arith}
 use Rattle.firing.specs.declared.system.NodeName.TheVariants.{Act}
 use Rattle.firing.specs.Laws.{IsLawful, AreReady}
 use Rattle.firing.specs.Moves.{Moves, CanFire}

@@ -4,10 +4,12 @@
 mod counters;
 mod counts;
 mod rivals;
+mod turn;
 
 pub use counters::Counters;
 pub use counts::Counts;
 pub use rivals::{OnTokens, Token, rivals_break_the_laws};
+pub use turn::Turn;
 
 #[cfg(test)]
 mod tests;

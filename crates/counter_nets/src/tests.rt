@@ -92,10 +92,10 @@ fn the_own_order_is_followed(rt: HostRuntime) -> Result<(), Fail> {
 fn lines_are_shown_up_to_a_trap(rt: HostRuntime) -> Result<(), Fail> {
     let (end, sink) = played(rt.alloc(), 5, &[0], 99, Show::Output, 99)?;
     assert_eq!(rt; end, PlayEnd::Rest(6));
-    assert_eq!(rt; sink.written(), b"tick\ntick\n".as_slice());
+    assert_eq!(rt; sink.written(), b"A\nB\n".as_slice());
     let (end, sink) = played(rt.alloc(), 1, &[2], 99, Show::Output, 99)?;
     assert_eq!(rt; end, PlayEnd::Trapped(Trap::Overflow, 12));
-    assert_eq!(rt; sink.written(), b"tick\n".as_slice());
+    assert_eq!(rt; sink.written(), b"A\n".as_slice());
     let (end, sink) = followed(rt.alloc(), 1, 99, Show::Nodes, 99)?;
     assert_eq!(rt; end, PlayEnd::Trapped(Trap::Overflow, 12));
     assert_eq!(rt;
@@ -125,7 +125,7 @@ fn stops_come_in_their_order(rt: HostRuntime) -> Result<(), Fail> {
 fn a_sink_fails_at_a_write(rt: HostRuntime) -> Result<(), Fail> {
     let (end, sink) = played(rt.alloc(), 5, &[0], 99, Show::Output, 1)?;
     assert_eq!(rt; end, PlayEnd::WriteFault(6));
-    assert_eq!(rt; sink.written(), b"tick\n".as_slice());
+    assert_eq!(rt; sink.written(), b"A\n".as_slice());
     let (end, sink) = played(rt.alloc(), 5, &[0], 99, Show::Nodes, 2)?;
     assert_eq!(rt; end, PlayEnd::WriteFault(3));
     assert_eq!(rt; sink.written(), b"0 ACT 5\n0 ACT 5\n".as_slice());
@@ -137,11 +137,11 @@ fn a_sink_fails_at_a_write(rt: HostRuntime) -> Result<(), Fail> {
 
     // A front of the last line.
     let mut counters = Counters::new(rt.alloc(), 2, 5)?;
-    let mut sink = MemSink::new(rt.alloc(), 100, &[3], 4)?;
+    let mut sink = MemSink::new(rt.alloc(), 100, &[3], 1)?;
     assert_eq!(rt;
         play(&mut counters, &[0], 99, Show::Output, &mut sink),
         PlayEnd::WriteFault(6)
     );
-    assert_eq!(rt; sink.written(), b"tick\ntick".as_slice());
+    assert_eq!(rt; sink.written(), b"A\nB".as_slice());
     Ok(())
 }

@@ -7,7 +7,7 @@ use Rattle.firing.specs.Laws.{IsLawful}
 use Rattle.firing.specs.Marks.{AreReadyMarks, Retested, Wakes}
 use Rattle.firing.specs.Moves.{Moves, CanFire}
 use Rattle.firing.specs.Orders.{IsOver, counted}
-use Rattle.firing.specs.Play.{ready_below, chosen}
+use Rattle.firing.specs.Choice.{ready_below, chosen}
 use Rattle.firing.specs.ReadySet.{IsMemberAt, has, rank, member_count}
 use Rattle.firing.proofs.Pulling.{are_ready}
 use Rattle.firing.proofs.RankLemmas.{rank_member}

@@ -1,4 +1,5 @@
 pub mod ChosenLemmas
+pub mod ControlLemmas
 pub mod CountLemmas
 pub mod Counting
 pub mod DigitLemmas
@@ -11,6 +12,7 @@ pub mod Pulling
 pub mod PutLemmas
 pub mod RankLemmas
 pub mod Resting
+pub mod ResumeLemmas
 pub mod RunLemmas
 pub mod Trapping
 pub mod WordLemmas

@@ -102,4 +102,6 @@ module _ {M : Type 0} (sound : M → Type 0) (s : Moves M) (lawful : IsLawful so
     front = λ ks order. let b = paced.busy (serial_count s ks) in front-by ks order b (is_stage (stage b.at));
     rests = λ ks order over none. let b = paced.busy (suc (length ks)) in rests-by ks (record { order = order; over = over }) none b (is_stage (stage b.at));
     traps = λ ks trap order is. let b = paced.busy (serial_count s ks) in traps-by ks trap order is b (is_stage (stage b.at));
+    ends = settled;
+    fails = trapped;
   }

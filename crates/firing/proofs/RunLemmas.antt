@@ -36,7 +36,7 @@ record Ordered {M : Type 0} (s : Moves M) (start : M) (n : ℕ) (end : M) (outpu
   leads : after s start nodes ≡ end
   lines : written_by s start nodes ≡ output
 
-module _ {M C : Type 0} (w : Way M C) (start : Moment M C) where
+module _ {M P : Type 0} (w : Way M P) (start : Moment M P) where
   ordered : (n : ℕ) → ((j : ℕ) → j < n → CanFire w.moves (played w start j).marking (node_at w start j)) → Ordered w.moves start.marking n (played w start n).marking (shown w Output start n)
   ordered zero going = record { nodes = []; order = tt; count = refl; leads = refl; lines = refl }
   ordered (suc n) going =
@@ -54,7 +54,7 @@ module _ {M C : Type 0} (w : Way M C) (start : Moment M C) where
 
 -- ---- what is written of a run as output
 
-module _ {M C : Type 0} (w : Way M C) (start : Moment M C) where
+module _ {M P : Type 0} (w : Way M P) (start : Moment M P) where
   broken : (n : ℕ) (old new : Option (List ℕ)) → BreaksOff w Output start n old new → AppendsFront old new (shown w Output start n)
   broken n old new b =
       let before = shown w Output start b.last in
@@ -77,15 +77,15 @@ module _ {M C : Type 0} (w : Way M C) (start : Moment M C) where
 
 -- ---- what the laws say of a run
 
-counts : {M C : Type 0} (w : Way M C) (start : Moment M C) (limit n made : ℕ) (result : PlayEnd) → made ≡ n → n ≤ limit → EndsBy w start limit n result → Counts limit made result
+counts : {M P : Type 0} (w : Way M P) (start : Moment M P) (limit n made : ℕ) (result : PlayEnd) → made ≡ n → n ≤ limit → EndsBy w start limit n result → Counts limit made result
 counts w start limit n made (Rest count) is le ends = is ∙ sym ends.0
 counts w start limit n made (Trapped trap line) is le ends = omega (arith, is, le)
 counts w start limit n made Limit is le ends = is ∙ ends.0
 counts w start limit n made (WriteFault count) is le ends = is ∙ sym ends
 
-module _ {M C : Type 0} {sound : M → Type 0} {w : Way M C} (lawful : IsLawful sound w.moves) {start : Moment M C} (is_sound : sound start.marking) {limit : ℕ} {show : Show} {end : Moment M C} {old new : Option (List ℕ)} where
+module _ {M P : Type 0} {sound : M → Type 0} {w : Way M P} (lawful : IsLawful sound w.moves) {start : Moment M P} (is_sound : sound start.marking) {limit : ℕ} {show : Show} {end : Moment M P} {old new : Option (List ℕ)} where
   firings_of : {result : PlayEnd} (plays : Plays w start limit show end old new result) → Ordered w.moves start.marking plays.firings end.marking (shown w Output start plays.firings)
-  firings_of plays = subst (λ (x : Moment M C). Ordered w.moves start.marking plays.firings x.marking (shown w Output start plays.firings)) (sym plays.leads) (ordered w start plays.firings plays.going)
+  firings_of plays = subst (λ (x : Moment M P). Ordered w.moves start.marking plays.firings x.marking (shown w Output start plays.firings)) (sym plays.leads) (ordered w start plays.firings plays.going)
 
   pub makes_order : {result : PlayEnd} → Plays w start limit show end old new result → MakesOrder w.moves start.marking limit show end.marking old new result
   makes_order {result} plays =
@@ -102,7 +102,7 @@ module _ {M C : Type 0} {sound : M → Type 0} {w : Way M C} (lawful : IsLawful 
   rest_settles plays n is =
       let run : Plays w start limit show end old new (Rest n) = subst (Plays w start limit show end old new) is plays in
       let all = firings_of run in
-      let there : (played w start run.firings).marking ≡ after w.moves start.marking all.nodes = ap (λ (x : Moment M C). x.marking) (sym run.leads) ∙ sym all.leads in
+      let there : (played w start run.firings).marking ≡ after w.moves start.marking all.nodes = ap (λ (x : Moment M P). x.marking) (sym run.leads) ∙ sym all.leads in
       let whole : IsWhole w.moves start.marking all.nodes = record { order = all.order; over = subst (IsOver w.moves) there run.ends.2 } in
       let rest = settles sound w.moves lawful start.marking all.nodes is_sound whole (ap w.moves.trap (sym there) ∙ run.ends.1) in
       subst (λ i. Settles w.moves start.marking i end.marking) (all.count ∙ sym run.ends.0) (subst (Settles w.moves start.marking (length all.nodes)) all.leads rest)
@@ -111,5 +111,5 @@ module _ {M C : Type 0} {sound : M → Type 0} {w : Way M C} (lawful : IsLawful 
   trap_traps plays trap line is =
       let run : Plays w start limit show end old new (Trapped trap line) = subst (Plays w start limit show end old new) is plays in
       let all = firings_of run in
-      let trapped : w.moves.trap (after w.moves start.marking all.nodes) ≡ Some (trap, line) = ap w.moves.trap all.leads ∙ ap (λ (x : Moment M C). w.moves.trap x.marking) run.leads ∙ run.ends in
+      let trapped : w.moves.trap (after w.moves start.marking all.nodes) ≡ Some (trap, line) = ap w.moves.trap all.leads ∙ ap (λ (x : Moment M P). w.moves.trap x.marking) run.leads ∙ run.ends in
       traps sound w.moves lawful (trap, line) start.marking all.nodes is_sound all.order trapped

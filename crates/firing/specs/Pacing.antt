@@ -2,7 +2,7 @@
 use Rattle.std.specs.Prelude.{◌≡◌, ◌≢◌, ◌≤◌, ◌⊎◌, ℕ, List, length, Some, None}
 use Rattle.op_table.specs.declared.Trap.{Trap}
 use Rattle.firing.specs.Moves.{Moves}
-use Rattle.firing.specs.Orders.{IsOrder, IsOver, IsPrefix, after, serial_count, written}
+use Rattle.firing.specs.Orders.{IsOrder, IsOver, IsPrefix, Settles, Traps, after, serial_count, written}
 
 -- where a source is: it goes on, has ended, or has trapped
 pub data Stage : Type 0 where
@@ -49,8 +49,10 @@ pub record TrapsWith (text : ℕ → List ℕ) (stage : ℕ → Stage) (trap : T
   pub lines : output ≡ text steps
 
 -- Whatever the order, its output is a front of the source's; it rests only where the source has ended, and traps only
--- where the source has trapped.
+-- where the source has trapped. Where the source ends, every order comes to rest; where it traps, none ends otherwise.
 pub record FollowsSource {M : Type 0} (s : Moves M) (start : M) (text : ℕ → List ℕ) (stage : ℕ → Stage) (own : ℕ → List ℕ) : Type 0 where
   pub front : (ks : List ℕ) → IsOrder s start ks → WritesFront text (written s start ks)
   pub rests : (ks : List ℕ) → IsOrder s start ks → IsOver s (after s start ks) → s.trap (after s start ks) ≡ None → EndsWith s start text stage own ks
   pub traps : (ks : List ℕ) (trap : Trap × ℕ) → IsOrder s start ks → s.trap (after s start ks) ≡ Some trap → TrapsWith text stage trap (written s start ks)
+  pub ends : (n : ℕ) → stage n ≡ Done → Settles s start (length (own n)) (after s start (own n))
+  pub fails : (n : ℕ) (trap : Trap × ℕ) → stage n ≡ Failed trap → Traps s start trap

@@ -1,6 +1,7 @@
 ghost use Rattle.std.specs.Prelude.{◌≡◌, ◌+◌, ◌%◌, ◌<◌, ◌≤◌, ℕ, length};
 ghost use Rattle.df_io.specs.Faults.{Rose};
 ghost use Rattle.op_table.specs.declared.Trap.{Trap};
+ghost use Rattle.firing.specs.Control.{IsInStep};
 ghost use Rattle.firing.specs.Orders.{Settles, Traps};
 ghost use Rattle.firing.specs.Play.{MakesOrder, Plays, by_picks, moment};
 
@@ -49,11 +50,13 @@ pub fn play<S: StepSystem, K: Sink>(
 ) -> PlayEnd
     requires picks { 0 < length picks.now }
     requires sound { S.sound (S.net sys.old) (S.marking sys.old) }
+    requires in_step { IsInStep (S.moves (S.net sys.old)) (S.in_step (S.net sys.old)) (S.marking sys.old) (S.place sys.old) }
 
     // The run that the picks choose, and what was written of it.
-    ensures plays { Plays (by_picks (S.moves (S.net sys.old)) (S.steered (S.net sys.old)) picks.now) (moment (S.marking sys.old) (S.control sys.old)) limit show (moment (S.marking sys.new) (S.control sys.new)) (K.got sink.old) (K.got sink.new) result }
+    ensures plays { Plays (by_picks (S.moves (S.net sys.old)) (S.course (S.net sys.old)) picks.now) (moment (S.marking sys.old) (S.place sys.old)) limit show (moment (S.marking sys.new) (S.place sys.new)) (K.got sink.old) (K.got sink.new) result }
     ensures net { S.net sys.new ≡ S.net sys.old }
     ensures sound { S.sound (S.net sys.old) (S.marking sys.new) }
+    ensures in_step { IsInStep (S.moves (S.net sys.old)) (S.in_step (S.net sys.old)) (S.marking sys.new) (S.place sys.new) }
 
     // The sink is blamed only where it failed.
     ensures later { K.faults sink.old ≤ K.faults sink.new }
@@ -79,9 +82,11 @@ fn fire_chosen<S: StepSystem, K: Sink>(
 ) -> PlayEnd
     requires picks { 0 < length picks.now }
     requires sound { S.sound (S.net sys.old) (S.marking sys.old) }
-    ensures plays { Plays (by_picks (S.moves (S.net sys.old)) (S.steered (S.net sys.old)) picks.now) (moment (S.marking sys.old) (S.control sys.old)) limit show (moment (S.marking sys.new) (S.control sys.new)) (K.got sink.old) (K.got sink.new) result }
+    requires in_step { IsInStep (S.moves (S.net sys.old)) (S.in_step (S.net sys.old)) (S.marking sys.old) (S.place sys.old) }
+    ensures plays { Plays (by_picks (S.moves (S.net sys.old)) (S.course (S.net sys.old)) picks.now) (moment (S.marking sys.old) (S.place sys.old)) limit show (moment (S.marking sys.new) (S.place sys.new)) (K.got sink.old) (K.got sink.new) result }
     ensures net { S.net sys.new ≡ S.net sys.old }
     ensures sound { S.sound (S.net sys.old) (S.marking sys.new) }
+    ensures in_step { IsInStep (S.moves (S.net sys.old)) (S.in_step (S.net sys.old)) (S.marking sys.new) (S.place sys.new) }
     ensures later { K.faults sink.old ≤ K.faults sink.new }
     ensures fault { (n : ℕ) → result ≡ PlayEnd.WriteFault n → Rose (K.faults sink.old) (K.faults sink.new) }
 {
