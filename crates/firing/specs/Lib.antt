@@ -2,6 +2,7 @@
 pub mod BlockCounts
 pub mod Choice
 pub mod Control
+pub mod Footprints
 pub mod Laws
 pub mod Marks
 pub mod Moves
