@@ -6,11 +6,12 @@ use Rattle.op_table.specs.declared.Trap.{Trap}
 use Rattle.op_table.specs.Words.{truth}
 use Rattle.op_table.specs.Operators.{applied}
 use Rattle.op_table.specs.Known.{all_known}
-use Rattle.op_table.proofs.Laws.{folded-some}
+use Rattle.op_table.proofs.Folds.{next_known}
+use Rattle.op_table.proofs.Laws.{folded-some, some-folded}
 use Rattle.f77_tree.specs.declared.expressions.Expr.{Expr, Row_of-Expr, end_of-Expr, more_of-Expr}
 use Rattle.f77_tree.specs.declared.expressions.Expr.TheVariants.{Const, Truth, Input, Read', Apply'}
 use Rattle.f77_tree.specs.declared.programs.NameInfo.{NameInfo}
-use Rattle.f77_tree.specs.Known.{row_known}
+use Rattle.f77_tree.specs.Known.{known, row_known}
 use Rattle.f77_tree.specs.KnownWith.{known_word, known_with, row_known_with, AreRight}
 use Rattle.f77_tree.specs.Touched.{AreAsKnown, MayName}
 use Rattle.f77_tree.specs.Value.{value, row_values, all_values, and_then, word_of, read_of, read_as, kind_of}
@@ -90,3 +91,38 @@ module _ (names : List NameInfo) (words : ℕ → Option ℤ) (store : List ℤ)
     known_with-are n end_of-Expr xs e = let is : [] ≡ xs = cc in ap (map (λ z. Ok z)) is
     known_with-are n (more_of-Expr e rest) xs h =
         known-more (known_with names words e) (row_known_with names words rest) (value names store next e) (row_values names store next rest) xs h (λ z. known_with-is e z) (λ zs. known_with-are _ rest zs)
+
+-- ---- what is known without words
+
+record AreKnownBehind (k : Option ℤ) (known : List (Option ℤ)) (xs : List ℤ) : Type 0 where
+  first : ℤ
+  rest : List ℤ
+  here : k ≡ Some first
+  behind : all_known known ≡ Some rest
+  are : first ∷ rest ≡ xs
+
+known-parts : (k : Option ℤ) (known : List (Option ℤ)) (xs : List ℤ) → all_known (k ∷ known) ≡ Some xs → AreKnownBehind k known xs
+known-parts None known xs e = let no : None ≡ Some xs = e in absurd cc
+known-parts (Some k) known xs e = by (all_known known) refl e
+  where
+    by : (o : Option (List ℤ)) → all_known known ≡ o → option_map (λ more. k ∷ more) o ≡ Some xs → AreKnownBehind (Some k) known xs
+    by None f h = let no : None ≡ Some xs = h in absurd cc
+    by (Some more) f h = let is : k ∷ more ≡ xs = cc in record { first = k; rest = more; here = refl; behind = f; are = is }
+
+module _ (names : List NameInfo) (words : ℕ → Option ℤ) where
+  mutual
+    -- what is known where no word is stays known
+    pub known-known_with : (e : Expr) (z : ℤ) → known e ≡ Some z → known_with names words e ≡ Some z
+    known-known_with (Const c) z e = e
+    known-known_with (Truth b) z e = e
+    known-known_with Input z e = let no : None ≡ Some z = e in absurd cc
+    known-known_with (Read' name shape subs) z e = let no : None ≡ Some z = e in absurd cc
+    known-known_with (Apply' op shape args) z e =
+        let is = folded-some op (row_known args) z e in
+        some-folded op (row_known_with names words args) is.args z (row-known_with args is.args is.are_known) is.value
+
+    row-known_with : {m : _} (row : Row_of-Expr m) (xs : List ℤ) → all_known (row_known row) ≡ Some xs → all_known (row_known_with names words row) ≡ Some xs
+    row-known_with end_of-Expr xs e = e
+    row-known_with (more_of-Expr e rest) xs h =
+        let parts = known-parts (known e) (row_known rest) xs h in
+        next_known (known_with names words e) (row_known_with names words rest) parts.first parts.rest (known-known_with e parts.first parts.here) (row-known_with rest parts.rest parts.behind) ∙ ap Some parts.are

@@ -11,6 +11,7 @@ pub mod LineLaws
 pub mod LongerTable
 pub mod LoopCounts
 pub mod NameLemmas
+pub mod NameWords
 pub mod Offsets
 pub mod OperationBounds
 pub mod OperationLaws

@@ -16,12 +16,7 @@ use Rattle.f77_tree.specs.CanRun.{CanExecute, CanPrint, CanLoop}
 use Rattle.f77_tree.specs.Execution.{Memory, outcome, words_taken, assigned, printed, branched, do_begun, do_incremented, by_sign, by_number}
 use Rattle.f77_tree.specs.Line.{item_text, line_of_texts, text_of, kind_of_expression}
 use Rattle.f77_tree.specs.Value.{value, row_values, all_values, and_then, place, word_of, read_of, read_as, kind_in, dims_in, place_in, place_of, subscripted, word_at, IsExpression, AllExpressions, IsAccess}
-use Rattle.f77_tree.proofs.AllLemmas.{All-first, All-rest}
-
-get-longer : {X : Type 0} (xs ys : List X) (k : ℕ) → k < length xs → slice_get (xs ++ ys) k ≡ slice_get xs k
-get-longer [] ys k lt = absurd (omega (arith, lt))
-get-longer (x ∷ xs) ys zero lt = refl
-get-longer (x ∷ xs) ys (suc k) lt = get-longer xs ys k (omega (arith, lt))
+use Rattle.f77_tree.proofs.AllLemmas.{All-first, All-rest, get-longer}
 
 -- the word at subscripts, of a name by its entry of the table
 abbrev entry_word : Option NameInfo → List (Result ℤ Trap) → Result ℕ Trap

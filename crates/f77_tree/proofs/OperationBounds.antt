@@ -1,9 +1,10 @@
 -- The operations of executables and of the statements that they belong to.
 use Rattle.std.proofs.Common.{◌≡◌, ℕ, zero, suc, ◌+◌, ◌≤◌, max, Bool, true, false, not, cond, ◌==◌, if◌then◌else◌, List, [], ◌∷◌, ◌++◌, length, map, flat_map, fold, sum_by, Some, None, option_map, slice_get, refl, ap, subst, ◌∙◌, arith}
-use Rattle.std.proofs.lemmas.Option.{slice_get-map}
+use Rattle.std.proofs.lemmas.Option.{slice_get-map, slice_get_within}
 use Rattle.std.proofs.lemmas.List.Sums.{sum_by-cons}
 use Rattle.f77_tree.specs.declared.programs.Exec.{Exec}
 use Rattle.f77_tree.specs.declared.programs.Program.{Program}
+use Rattle.f77_tree.proofs.AllLemmas.{get-longer}
 use Rattle.f77_tree.specs.Operations.{exec_operations, joined, statements_of, is_increment, increments, others, statement_operations, most_operations}
 
 -- ---- statements are the executables, in order
@@ -112,11 +113,6 @@ max-contained a (y ∷ xs) zero x at =
     omega (arith, more, same)
 max-contained a (y ∷ xs) (suc k) x at = max-contained (max a y) xs k x at
 
-get-front : {X : Type 0} (xs ys : List X) (k : ℕ) (x : X) → slice_get xs k ≡ Some x → slice_get (xs ++ ys) k ≡ Some x
-get-front [] ys k x at = absurd cc
-get-front (y ∷ xs) ys zero x at = at
-get-front (y ∷ xs) ys (suc k) x at = get-front xs ys k x at
-
 get-back : {X : Type 0} (xs ys : List X) (k n : ℕ) (x : X) → n ≡ length xs + k → slice_get ys k ≡ Some x → slice_get (xs ++ ys) n ≡ Some x
 get-back [] ys k n x is at = let same : k ≡ n = omega (arith, is) in subst (λ i. slice_get ys i ≡ Some x) same at
 get-back (y ∷ xs) ys k zero x is at = absurd (omega (arith, is))
@@ -149,7 +145,7 @@ most-asked p k exec at = by (is_increment exec.kind) refl
         let found = of_statement p.execs k exec at in
         let least = statement-asked found.statement found.index exec found.is other in
         let among : slice_get statements found.place ≡ Some (statement_operations found.statement) = slice_get-map statement_operations (statements_of p.execs) found.place ∙ ap (option_map statement_operations) found.stands in
-        let most : statement_operations found.statement ≤ fold max 1 (statements ++ alone) = max-contained 1 (statements ++ alone) found.place (statement_operations found.statement) (get-front statements alone found.place (statement_operations found.statement) among) in
+        let most : statement_operations found.statement ≤ fold max 1 (statements ++ alone) = max-contained 1 (statements ++ alone) found.place (statement_operations found.statement) (get-longer statements alone found.place (slice_get_within statements found.place (statement_operations found.statement) among) ∙ among) in
         omega (arith, least, most)
     by true is =
         let found = increment-at p.execs k exec at is in

@@ -15,7 +15,7 @@ use Rattle.f77_tree.specs.CanRun.{CanExecute}
 use Rattle.f77_tree.specs.Execution.{Memory, outcome, words_taken, assigned, printed, branched, do_begun, by_sign, by_number}
 use Rattle.f77_tree.specs.Line.{line_of}
 use Rattle.f77_tree.specs.Steps.{AgreeFor, AreAlike, Changes, ChangeAlike, HasRoomFor}
-use Rattle.f77_tree.specs.Touched.{SetsCount}
+use Rattle.f77_tree.specs.Touched.{SetsCount, SetsStep}
 use Rattle.f77_tree.specs.Value.{value, place, place_of, word_at, ArePlaced}
 use Rattle.f77_tree.proofs.Agreement.{value-agrees, place-agrees, value_in-agrees, line-agrees}
 use Rattle.f77_tree.proofs.Keeping.{get-set_same, get-set_other}
@@ -56,8 +56,8 @@ module _ (names : List NameInfo) (input : List ℤ) (m n : Memory) where
   -- ---- the same results, from two memories
 
   -- where nothing is changed
-  unchanged-alike : (kind : ExecKind) → ((word : ℕ) → Changes names input m kind word → ⊥) → ((k : ℕ) → SetsCount kind k → ⊥) → ChangeAlike names input kind m n m n
-  unchanged-alike kind no_word no_count = record { store = same_word; counts = same_count; steps = same_step; taken = λ same. same }
+  unchanged-alike : (kind : ExecKind) → ((word : ℕ) → Changes names input m kind word → ⊥) → ((k : ℕ) → SetsCount kind k → ⊥) → ((k : ℕ) → SetsStep kind k → ⊥) → ChangeAlike names input kind m n m n
+  unchanged-alike kind no_word no_count no_step = record { store = same_word; counts = same_count; steps = same_step; taken = λ same. same }
     where
       same_word : (word : ℕ) → Changes names input m kind word ⊎ (word_at m.store word ≡ word_at n.store word) → word_at m.store word ≡ word_at n.store word
       same_word word (inl changes) = absurd (no_word word changes)
@@ -67,8 +67,8 @@ module _ (names : List NameInfo) (input : List ℤ) (m n : Memory) where
       same_count k (inl sets) = absurd (no_count k sets)
       same_count k (inr same) = same
 
-      same_step : (k : ℕ) → SetsCount kind k ⊎ (word_at m.steps k ≡ word_at n.steps k) → word_at m.steps k ≡ word_at n.steps k
-      same_step k (inl sets) = absurd (no_count k sets)
+      same_step : (k : ℕ) → SetsStep kind k ⊎ (word_at m.steps k ≡ word_at n.steps k) → word_at m.steps k ≡ word_at n.steps k
+      same_step k (inl sets) = absurd (no_step k sets)
       same_step k (inr same) = same
 
   assigned-alike : (target : Access) (e : Expr) (next taken : ℕ) (at : Result ℕ Trap) (given : Result ℤ Trap) → place names m.store (slice_get input m.taken) target ≡ at → ((word : ℕ) → at ≡ Ok word → (word < length m.store) × (word < length n.store)) →
@@ -150,8 +150,8 @@ module _ (names : List NameInfo) (input : List ℤ) (m n : Memory) where
           },
         )
       where
-        same_step : (k : ℕ) → (loop_no ≡ k) ⊎ (word_at m.steps k ≡ word_at n.steps k) → word_at m.steps k ≡ word_at n.steps k
-        same_step k (inl is) = agree.steps k is
+        same_step : (k : ℕ) → ⊥ ⊎ (word_at m.steps k ≡ word_at n.steps k) → word_at m.steps k ≡ word_at n.steps k
+        same_step k (inl none) = absurd none
         same_step k (inr same) = same
 
 -- ---- the law
@@ -178,22 +178,22 @@ module _ (p : Program) (input : List ℤ) (m n : Memory) (placed : ArePlaced p.n
   outcomes-alike (Print items next) can agree =
       subst (λ o. AreAlike p.names input (Print items next) m n (outcome p.names input m (Print items next)) o)
       (ap (printed n next) (line-agrees p.names m.store n.store items agree.store))
-      (printed-alike p.names input m n (Print items next) next (line_of p.names m.store items) (unchanged-alike p.names input m n (Print items next) (λ w changes. changes) (λ k sets. sets)))
-  outcomes-alike (Pass next) can agree = (refl, refl, unchanged-alike p.names input m n (Pass next) (λ w changes. changes) (λ k sets. sets))
+      (printed-alike p.names input m n (Print items next) next (line_of p.names m.store items) (unchanged-alike p.names input m n (Print items next) (λ w changes. changes) (λ k sets. sets) (λ k sets. sets)))
+  outcomes-alike (Pass next) can agree = (refl, refl, unchanged-alike p.names input m n (Pass next) (λ w changes. changes) (λ k sets. sets) (λ k sets. sets))
   outcomes-alike (Test cond if_true if_false) can agree =
       let next_at : ℤ → ℕ = λ z. if is_true z then if_true else if_false in
       subst (λ o. AreAlike p.names input (Test cond if_true if_false) m n (outcome p.names input m (Test cond if_true if_false)) o)
       (ap (branched n next_at) (value_in-agrees p.names m.store n.store cond agree.store))
-      (branched-alike p.names input m n (Test cond if_true if_false) next_at (value p.names m.store None cond) (unchanged-alike p.names input m n (Test cond if_true if_false) (λ w changes. changes) (λ k sets. sets)))
+      (branched-alike p.names input m n (Test cond if_true if_false) next_at (value p.names m.store None cond) (unchanged-alike p.names input m n (Test cond if_true if_false) (λ w changes. changes) (λ k sets. sets) (λ k sets. sets)))
   outcomes-alike (Sign e neg equal pos') can agree =
       subst (λ o. AreAlike p.names input (Sign e neg equal pos') m n (outcome p.names input m (Sign e neg equal pos')) o)
       (ap (branched n (by_sign neg equal pos')) (value_in-agrees p.names m.store n.store e agree.store))
-      (branched-alike p.names input m n (Sign e neg equal pos') (by_sign neg equal pos') (value p.names m.store None e) (unchanged-alike p.names input m n (Sign e neg equal pos') (λ w changes. changes) (λ k sets. sets)))
+      (branched-alike p.names input m n (Sign e neg equal pos') (by_sign neg equal pos') (value p.names m.store None e) (unchanged-alike p.names input m n (Sign e neg equal pos') (λ w changes. changes) (λ k sets. sets) (λ k sets. sets)))
   outcomes-alike (Pick e targets other) can agree =
       let next_at = by_number targets other (pos (length targets)) in
       subst (λ o. AreAlike p.names input (Pick e targets other) m n (outcome p.names input m (Pick e targets other)) o)
       (ap (branched n next_at) (value_in-agrees p.names m.store n.store e agree.store))
-      (branched-alike p.names input m n (Pick e targets other) next_at (value p.names m.store None e) (unchanged-alike p.names input m n (Pick e targets other) (λ w changes. changes) (λ k sets. sets)))
+      (branched-alike p.names input m n (Pick e targets other) next_at (value p.names m.store None e) (unchanged-alike p.names input m n (Pick e targets other) (λ w changes. changes) (λ k sets. sets) (λ k sets. sets)))
   outcomes-alike (DoStart loop_no var first last step body exit) can agree =
       let f : Expr → Result ℤ Trap = value p.names m.store None in
       let g : Expr → Result ℤ Trap = value p.names n.store None in

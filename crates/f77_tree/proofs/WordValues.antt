@@ -1,7 +1,7 @@
 -- The store and the steps of a run hold words, and values are words.
 use Rattle.std.proofs.Common.{◌≡◌, ℕ, zero, suc, ◌+◌, ℤ, pos, negsuc, ◌+ℤ◌, ◌≤ℤ◌, Bool, true, false, List, [], ◌∷◌, length, replicate, flat_map, All, Option, Some, None, Result, Ok, Err, slice_get, slice_set, zip, find, ◌==◌, ◌⊎◌, inl, inr, refl, sym, ap, subst, ◌∙◌, w32, arith}
 use Rattle.std.proofs.lemmas.Int.{ints, SFits-int_wrap}
-use Rattle.std.proofs.lemmas.List.Elements.{All-append, All-replicate}
+use Rattle.std.proofs.lemmas.List.Elements.{All-append, All-replicate, All-set}
 use Rattle.std.proofs.lemmas.Option.{get_or_from_slice_get}
 use Rattle.op_table.specs.declared.Op.{Op}
 use Rattle.op_table.specs.declared.Op.TheVariants.{Truth as Truth_of}
@@ -80,11 +80,6 @@ module _ (names : List NameInfo) (store : List ℤ) (next : Option ℤ) (words :
       by (inr taken) = taken-is_word (kind_of names target.name) z fed (ap (value names store next) (sym taken) ∙ given)
 
 -- ---- executables
-
-All-set : {X : Type 0} (P : X → Type 0) (xs : List X) (k : ℕ) (x : X) → P x → All P xs → All P (slice_set xs k x)
-All-set P [] k x holds all = all
-All-set P (y ∷ xs) zero x holds all = All-cons P x xs holds (All-rest P y xs all)
-All-set P (y ∷ xs) (suc k) x holds all = All-cons P y (slice_set xs k x) (All-first P y xs all) (All-set P xs k x holds (All-rest P y xs all))
 
 wrapped-word : (z : ℤ) → IsWord (wrapped z)
 wrapped-word z = SFits-int_wrap w32 z

@@ -5,9 +5,9 @@ use Rattle.f77_tree.specs.declared.programs.ExecKind.{ExecKind}
 use Rattle.f77_tree.specs.declared.programs.ExecKind.TheVariants.{Assign, DoStart, DoNext}
 use Rattle.f77_tree.specs.declared.programs.NameInfo.{NameInfo}
 use Rattle.f77_tree.specs.declared.programs.Program.{Program}
-use Rattle.f77_tree.specs.Execution.{Memory, Outcome, Goes, Stops, Ends}
+use Rattle.f77_tree.specs.Execution.{Memory, next_word, Outcome, Goes, Stops, Ends}
 use Rattle.f77_tree.specs.Run.{Mark, StopsFirst}
-use Rattle.f77_tree.specs.Touched.{ExecMayRead, ExecReadsData, SetsCount, ReadsCount}
+use Rattle.f77_tree.specs.Touched.{ExecMayRead, ExecReadsData, SetsCount, SetsStep, ReadsCount}
 use Rattle.f77_tree.specs.Value.{place, place_of, word_at}
 
 -- what is said of an outcome holds where it goes on
@@ -39,17 +39,17 @@ pub record HoldsWords (m : Memory) : Type 0 where
 
 -- the word that an executable changes where it goes on: its target's, or that of a DO variable
 abbrev pub Changes : List NameInfo → List ℤ → Memory → ExecKind → ℕ → Type 0
-Changes names input m (Assign target e next) word = place names m.store (slice_get input m.taken) target ≡ Ok word
+Changes names input m (Assign target e next) word = place names m.store (next_word input m) target ≡ Ok word
 Changes names input m (DoStart loop_no var first last step body exit) word = place_of names var ≡ word
 Changes names input m (DoNext loop_no var body exit) word = place_of names var ≡ word
 Changes names input m _ word = ⊥
 
--- what an executable leaves as it is: every other word, the count and the step of every DO that isn't its own, and the
--- data, where it reads none
+-- what an executable leaves as it is: every other word, the count of every DO that isn't its own, the step of every DO that
+-- it doesn't begin, and the data, where it reads none
 pub record KeepsRest (names : List NameInfo) (input : List ℤ) (kind : ExecKind) (m new : Memory) : Type 0 where
   pub store : (word : ℕ) → (Changes names input m kind word → ⊥) → slice_get new.store word ≡ slice_get m.store word
   pub counts : (n : ℕ) → (SetsCount kind n → ⊥) → slice_get new.counts n ≡ slice_get m.counts n
-  pub steps : (n : ℕ) → (SetsCount kind n → ⊥) → slice_get new.steps n ≡ slice_get m.steps n
+  pub steps : (n : ℕ) → (SetsStep kind n → ⊥) → slice_get new.steps n ≡ slice_get m.steps n
   pub taken : (ExecReadsData kind → ⊥) → new.taken ≡ m.taken
 
 -- ---- what is read
@@ -72,7 +72,7 @@ pub record HasRoomFor (p : Program) (m : Memory) : Type 0 where
 pub record ChangeAlike (names : List NameInfo) (input : List ℤ) (kind : ExecKind) (m n new_m new_n : Memory) : Type 0 where
   pub store : (word : ℕ) → Changes names input m kind word ⊎ (word_at m.store word ≡ word_at n.store word) → word_at new_m.store word ≡ word_at new_n.store word
   pub counts : (k : ℕ) → SetsCount kind k ⊎ (slice_index m.counts k ≡ slice_index n.counts k) → slice_index new_m.counts k ≡ slice_index new_n.counts k
-  pub steps : (k : ℕ) → SetsCount kind k ⊎ (word_at m.steps k ≡ word_at n.steps k) → word_at new_m.steps k ≡ word_at new_n.steps k
+  pub steps : (k : ℕ) → SetsStep kind k ⊎ (word_at m.steps k ≡ word_at n.steps k) → word_at new_m.steps k ≡ word_at new_n.steps k
   pub taken : m.taken ≡ n.taken → new_m.taken ≡ new_n.taken
 
 -- two outcomes, from the memories m and n: the same executable follows after the same text, and what is changed is the

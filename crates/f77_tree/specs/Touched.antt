@@ -88,11 +88,16 @@ ExecReadsData _ = ⊥
 
 -- ---- DOs
 
--- an executable sets the count of this DO, and at its start the step
+-- an executable sets the count of this DO
 abbrev pub SetsCount : ExecKind → ℕ → Type 0
 SetsCount (DoStart loop_no var first last step body exit) n = loop_no ≡ n
 SetsCount (DoNext loop_no var body exit) n = loop_no ≡ n
 SetsCount _ n = ⊥
+
+-- an executable sets the step of this DO, which its increments keep
+abbrev pub SetsStep : ExecKind → ℕ → Type 0
+SetsStep (DoStart loop_no var first last step body exit) n = loop_no ≡ n
+SetsStep _ n = ⊥
 
 -- an executable reads the count and the step of this DO
 abbrev pub ReadsCount : ExecKind → ℕ → Type 0

@@ -14,7 +14,7 @@ ghost use Rattle.f77_tree.specs.CanRun.{CanRun, CanExecute, IsNext};
 ghost use Rattle.f77_tree.specs.Control.{successors};
 ghost use Rattle.f77_tree.specs.Execution.{Memory, outcome};
 ghost use Rattle.f77_tree.specs.Kinds.{IsProper};
-ghost use Rattle.f77_tree.specs.Known.{IsInBounds, ExecMayTrapBut};
+ghost use Rattle.f77_tree.specs.Known.{known, IsInBounds, ExecMayTrap, ExecMayTrapBut};
 ghost use Rattle.f77_tree.specs.KnownWith.{known_word, known_with, AreRight};
 ghost use Rattle.f77_tree.specs.Line.{line_of};
 ghost use Rattle.f77_tree.specs.Loops.{InRange, AreLoops, do_start};
@@ -52,8 +52,9 @@ pub fn executables_keep_the_rest()
     ensures changes { (names : List NameInfo) (input : List ℤ) (m : Memory) (kind : ExecKind) (word : ℕ) → Changes names input m kind word → ExecMayChange names kind word }
 {}
 
-/// Over stores that agree on each word that may be read, of whatever lengths, values, words and lines are equal, and an
-/// executable does the same.
+/// Over stores that agree on each word that may be read, of whatever lengths, values, words and lines are equal. An
+/// executable does the same: it goes to the same one after the same text, traps alike or ends, and each word that it
+/// changes, or on which the stores agreed before, is then the same in both.
 pub fn reads_decide()
     ensures values { (names : List NameInfo) (a b : List ℤ) (next next' : Option ℤ) (e : Expr) → ((word : ℕ) → MayRead names e word → word_at a word ≡ word_at b word) → (ReadsData e → next ≡ next') → value names a next e ≡ value names b next' e }
     ensures places { (names : List NameInfo) (a b : List ℤ) (next next' : Option ℤ) (access : Access) → ((word : ℕ) → Any (λ sub. MayRead names sub word) access.subs → word_at a word ≡ word_at b word) → (Any ReadsData access.subs → next ≡ next') → place names a next access ≡ place names b next' access }
@@ -87,7 +88,10 @@ pub fn accesses_stay_in_their_names()
 
 /// What is known of an expression where some words are known is its value, over each store in which those words are right.
 pub fn known_values_are_right()
-    ensures { (names : List NameInfo) (words : ℕ → Option ℤ) (store : List ℤ) (next : Option ℤ) (e : Expr) (z : ℤ) → AreRight words store → known_with names words e ≡ Some z → value names store next e ≡ Ok z }
+    ensures value { (names : List NameInfo) (words : ℕ → Option ℤ) (store : List ℤ) (next : Option ℤ) (e : Expr) (z : ℤ) → AreRight words store → known_with names words e ≡ Some z → value names store next e ≡ Ok z }
+
+    // What is known without those words stays known.
+    ensures more { (names : List NameInfo) (words : ℕ → Option ℤ) (e : Expr) (z : ℤ) → known e ≡ Some z → known_with names words e ≡ Some z }
 {}
 
 /// The store and the steps of a run of a well-formed program over data of words hold words, and the value of an expression
@@ -100,7 +104,10 @@ pub fn runs_hold_words()
 /// Over a store of words, an executable that can't trap but in excepted subscripts, which have values within their bounds,
 /// doesn't trap.
 pub fn what_cannot_trap_does_not()
-    ensures { (excepted : Expr → Dim → Bool) (names : List NameInfo) (input : List ℤ) (m : Memory) (kind : ExecKind) → All IsWord m.store → ((next : Option ℤ) (sub : Expr) (dim : Dim) → excepted sub dim ≡ true → IsInBounds dim (value names m.store next sub)) → (ExecMayTrapBut (λ sub dim. excepted sub dim ≡ true) names kind → ⊥) → DoesNotTrap (outcome names input m kind) }
+    ensures executables { (excepted : Expr → Dim → Bool) (names : List NameInfo) (input : List ℤ) (m : Memory) (kind : ExecKind) → All IsWord m.store → ((next : Option ℤ) (sub : Expr) (dim : Dim) → excepted sub dim ≡ true → IsInBounds dim (value names m.store next sub)) → (ExecMayTrapBut (λ sub dim. excepted sub dim ≡ true) names kind → ⊥) → DoesNotTrap (outcome names input m kind) }
+
+    // So it is at each step of a well-formed program over data of words.
+    ensures runs { (p : Program) (input : List ℤ) (n : ℕ) (exec : Exec) → IsWellFormed p → All IsWord input → slice_get p.execs (source p input n).position ≡ Some exec → (ExecMayTrap p.names exec.kind → ⊥) → DoesNotTrap (outcome p.names input (source p input n).memory exec.kind) }
 {}
 
 /// Statements are the executables of a program, in order. An executable that is no increment takes at most the operations
