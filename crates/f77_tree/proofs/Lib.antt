@@ -9,6 +9,7 @@ pub mod Places
 pub mod RunLaws
 pub mod Safety
 pub mod StorageExample
+pub mod Subroutines
 pub mod Taking
 pub mod WellFormedExample
 pub mod WellFormedLaws

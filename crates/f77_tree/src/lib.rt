@@ -17,7 +17,9 @@ pub use evaluation::{evaluate, locate};
 pub use expressions::{Access, Expr, ExprList};
 pub use names::Name;
 pub use programs::{Exec, ExecKind, ExecList, Item, ItemList, NameInfo, NameInfoList, Program};
-pub use statements::{Labelled, LabelledList, RawExpr, RawItem, RawItemList, RawList, Stmt};
+pub use statements::{
+    Labelled, LabelledList, NameList, RawExpr, RawItem, RawItemList, RawList, Stmt,
+};
 
 #[cfg(test)]
 mod tests;
