@@ -1,5 +1,5 @@
 -- The store and the steps of a run hold words, and values are words.
-use Rattle.std.proofs.Common.{◌≡◌, ℕ, zero, suc, ◌+◌, ℤ, pos, negsuc, ◌+ℤ◌, ◌≤ℤ◌, Bool, true, false, List, [], ◌∷◌, length, replicate, flat_map, All, Option, Some, None, Result, Ok, Err, slice_get, slice_set, zip, find, ◌==◌, ◌⊎◌, inl, inr, refl, sym, ap, subst, ◌∙◌, w32, arith}
+use Rattle.std.proofs.Common.{◌≡◌, ℕ, ◌+◌, ℤ, pos, negsuc, ◌+ℤ◌, ◌≤ℤ◌, Bool, true, false, List, [], ◌∷◌, length, replicate, flat_map, All, Option, Some, None, Result, Ok, Err, slice_get, zip, find, ◌==◌, ◌⊎◌, inl, inr, refl, sym, ap, subst, ◌∙◌, w32, arith}
 use Rattle.std.proofs.lemmas.Int.{ints, SFits-int_wrap}
 use Rattle.std.proofs.lemmas.List.Elements.{All-append, All-replicate, All-set}
 use Rattle.std.proofs.lemmas.Option.{get_or_from_slice_get}
@@ -30,7 +30,7 @@ use Rattle.f77_tree.specs.Run.{source}
 use Rattle.f77_tree.specs.Steps.{IfGoes, HoldsWords}
 use Rattle.f77_tree.specs.Value.{value, row_values, all_values, and_then, place, place_of, read_of, read_as, kind_of, word_of, word_at}
 use Rattle.f77_tree.specs.WellFormed.{IsWellFormed, IsExecutable}
-use Rattle.f77_tree.proofs.AllLemmas.{All-nil, All-cons, All-first, All-rest, All-get}
+use Rattle.f77_tree.proofs.AllLemmas.{All-nil, All-first, All-rest, All-get}
 use Rattle.f77_tree.proofs.Outcomes.{assigned-goes, printed-goes, branched-goes, begun-goes}
 use Rattle.f77_tree.proofs.RunInvariants.{source-keeps}
 use Rattle.f77_tree.proofs.Safety.{truth-word, read-word, zero-word, word_at-word}
