@@ -27,7 +27,8 @@ pub fn every_order_follows<S: StepSystem>()
 {}
 
 /// A run that was stopped can go on. After the first a firings a run by picks goes on as a run from there by the picks
-/// turned by a, and a run in the source's own order as such a run from there.
+/// turned by a, and a run in the source's own order as such a run from there. So a run that stopped at the limit a and one
+/// from there up to a limit b are one run up to the limit a + b.
 pub fn runs_go_on<S: StepSystem>()
     ensures picks { (net : S.Net) (picks : List ℕ) (start : Moment S.Marking S.Place) (a : ℕ) → 0 < length picks → GoesOn (by_picks (S.moves net) (S.course net) picks) start a (by_picks (S.moves net) (S.course net) (turned a picks)) }
     ensures order { (net : S.Net) (start : Moment S.Marking S.Place) (a : ℕ) → GoesOn (by_order (S.moves net) (S.course net)) start a (by_order (S.moves net) (S.course net)) }

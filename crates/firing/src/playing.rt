@@ -40,7 +40,7 @@ pub enum PlayEnd {
 /// over and over.
 ///
 /// A trap, a rest and the limit are looked for in this order before each firing. It takes no memory, and uses the marks of
-/// the system for its own.
+/// the system for its own. Control is lost once a pick chooses another node than the one that is due.
 pub fn play<S: StepSystem, K: Sink>(
     sys: &mut S,
     picks: &[u32],
