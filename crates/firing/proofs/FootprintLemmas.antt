@@ -1,9 +1,9 @@
 -- Nodes that touch different parts of a marking, or share parts, keep the laws of firing.
-use Rattle.std.proofs.Common.{◌≡◌, ◌≢◌, ◌⊎◌, inl, inr, ℕ, Bool, true, false, None, refl, sym, ap, ◌∙◌, ⊎_elim}
+use Rattle.std.proofs.Common.{◌≡◌, ◌⊎◌, inl, inr, ℕ, Bool, true, false, refl, sym, ap, ◌∙◌, ⊎_elim}
 use Rattle.std.proofs.lemmas.Bool.{cases_Bool}
 use Rattle.firing.specs.Footprints.{IsReadyAt, LooksSame, HasFootprints, IsUpdated, LooksShared, SharesFootprints}
 use Rattle.firing.specs.Laws.{IsLawful, AreReady}
-use Rattle.firing.specs.Moves.{Moves, CanFire}
+use Rattle.firing.specs.Moves.{Moves}
 
 module _ {M Part : Type 0} {V : Part → Type 0} (sound : M → Type 0) (s : Moves M) (at : M → (part : Part) → V part) (foot shares : ℕ → Part → Bool) (update : ℕ → (part : Part) → V part → V part) (has : SharesFootprints sound s at foot shares update) where
   turned : (m : M) (j k : ℕ) → AreReady sound s m j k → AreReady sound s m k j
