@@ -1,5 +1,5 @@
 -- Conditions of an IF that were read as an array element.
-use Rattle.std.proofs.Common.{◌≡◌, ℕ, List, [], ◌∷◌, ◌++◌, length, Option, Some, None, if◌then◌else◌, codes, refl, ap, arith, length-append}
+use Rattle.std.proofs.Common.{◌≡◌, ℕ, List, [], ◌∷◌, ◌++◌, length, Some, None, if◌then◌else◌, codes, refl, ap, arith, length-append}
 use Rattle.std.specs.Str.{bytes_eq}
 use Rattle.f77_tree.specs.declared.statements.RawExpr.{RawExpr, items_hidden-the_row-RawExpr-0}
 use Rattle.f77_tree.specs.declared.statements.RawExpr.TheVariants.{Call}

@@ -15,8 +15,8 @@ use Rattle.f77_expr.specs.Reader.{Reads, read_as, and_then_read, after_front, th
 use Rattle.f77_parse.specs.Parts.{behind, after, then_front, where_it, name_at, letter_at, signed_at, list_at, listed, more_listed, behind_comma, bracketed_or_none, dim_behind, dim_at, decl_at, range_behind, range_at, kind_at, letters_at, block_at, comma_at, part_behind, part_at, first_part_at}
 use Rattle.f77_parse.specs.Keeping.{Keeps, keep_then, where_front, wanted, name_kept, letter_kept, signed_kept, dim_kept, closed_list, decl_kept, is_array, arrays_kept, kept_list, kept_behind, kept_next, range_kept, kind_kept, letters_kept, ranges_onto, kept_ranges, block_kept, block_and_decls, first_part_kept, part_kept}
 use Rattle.f77_parse.specs.KeptValues.{kept_signed, kept_dim, kept_decl, kept_part}
-use Rattle.f77_parse.proofs.FollowLemmas.{told, never_bad, no_flag, or_none, flag_first, flag_last, then_told, as_told, where_told, unless_told, then_as, same_as, front_told, wanted_told, if_told, then_front_told, skipped_comma}
-use Rattle.f77_parse.proofs.FollowLists.{told_onto, behind_told, list_told, closed_told, brackets_told}
+use Rattle.f77_parse.proofs.FollowLemmas.{told, never_bad, no_flag, or_none, flag_first, flag_last, then_told, as_told, where_told, unless_told, then_as, same_as, front_told, wanted_told, then_front_told, skipped_comma}
+use Rattle.f77_parse.proofs.FollowLists.{behind_told, list_told, closed_told, brackets_told}
 use Rattle.f77_parse.proofs.FollowNumbers.{name_told, letter_told, signed_told}
 
 -- ---- dimensions

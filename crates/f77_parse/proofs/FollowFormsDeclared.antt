@@ -12,7 +12,7 @@ use Rattle.f77_parse.specs.Forms.{implicit_at, typed_at, dimension_at, common_at
 use Rattle.f77_parse.specs.Keeping.{Keeps, kept_list, kept_parts, kept_ranges, decl_kept, arrays_kept, first_part_kept, part_kept, group_kept, init_part_kept, next_init_part_kept}
 use Rattle.f77_parse.specs.KeptForms.{as_stmt}
 use Rattle.f77_parse.specs.KeptValues.{kept_decl, kept_part, kept_member, kept_data, kept_statement}
-use Rattle.f77_parse.proofs.FollowLemmas.{told, never_bad, as_told, as_then}
+use Rattle.f77_parse.proofs.FollowLemmas.{told, never_bad, as_told}
 use Rattle.f77_parse.proofs.FollowLists.{list_told, parts_told}
 use Rattle.f77_parse.proofs.FollowDeclarations.{decl_is_great, any_among, decls_told, arrays_told, ranges_told, part_is_great, first_part_told, part_told}
 use Rattle.f77_parse.proofs.FollowMembers.{member_is_great, group_told, data_is_bad, data_told, next_data_told}

@@ -1,5 +1,5 @@
 -- Variables, names between brackets, character constants and items of output that are kept.
-use Rattle.std.proofs.Common.{◌≡◌, ◌<◌, ◌==◌, ℕ, zero, suc, Bool, true, false, ◌||◌, List, [], ◌∷◌, ◌++◌, codes, length, map, Option, Some, None, if◌then◌else◌, refl, sym, ap, subst, ◌∙◌, arith, append_assoc}
+use Rattle.std.proofs.Common.{◌≡◌, ◌<◌, ◌==◌, ℕ, zero, suc, Bool, true, false, ◌||◌, List, [], ◌∷◌, ◌++◌, codes, length, map, Option, Some, None, if◌then◌else◌, refl, sym, ap, ◌∙◌, arith, append_assoc}
 use Rattle.std.specs.Prelude.{nat_lt}
 use Rattle.std.specs.List.{list_any}
 use Rattle.std.proofs.lemmas.List.{append-nil}
@@ -12,7 +12,7 @@ use Rattle.f77_expr.specs.Answers.{kept, kept_arguments}
 use Rattle.f77_expr.specs.Reader.{Reads, read_as, and_then_read, after_front, this_or, expression_at}
 use Rattle.f77_expr.proofs.EachRead.{Each}
 use Rattle.f77_parse.specs.Parts.{behind, then_front, where_it, name_at, list_at, listed, more_listed, behind_comma, bracketed_or_none, expression_in_front, arguments_of, variable_of, variable_at, characters_behind, characters_at, item_at, names_inside, names_begun, names_at}
-use Rattle.f77_parse.specs.Keeping.{Keeps, keep_then, where_front, wanted, name_kept, expression_kept, closed_list, variable_kept, character_kept, next_character_kept, characters_next, characters_onto, characters_kept, character_constant_kept, item_kept, names_kept}
+use Rattle.f77_parse.specs.Keeping.{Keeps, keep_then, where_front, name_kept, expression_kept, closed_list, variable_kept, character_kept, next_character_kept, characters_next, characters_onto, characters_kept, character_constant_kept, item_kept, names_kept}
 use Rattle.f77_parse.specs.KeptValues.{kept_item}
 use Rattle.f77_parse.proofs.FollowLemmas.{told, never_bad, no_flag, or_none, flag_last, then_told, as_told, where_told, same_as, front_told, wanted_told, if_told, eq_flip}
 use Rattle.f77_parse.proofs.FollowLists.{closed_told, brackets_told}

@@ -4,7 +4,7 @@ use Rattle.std.specs.List.{list_any}
 use Rattle.std.proofs.Math.Bool.{or_assoc}
 use Rattle.f77_expr.specs.Reader.{Reads, read_as, and_then_read, after_front}
 use Rattle.f77_parse.specs.Parts.{behind, then_front, behind_comma, more_listed, listed, list_at, bracketed_or_none, parts_to_end}
-use Rattle.f77_parse.specs.Keeping.{Keeps, keep_then, where_front, kept_next, kept_onto, kept_behind, kept_list, kept_to_end, kept_parts, closed_list}
+use Rattle.f77_parse.specs.Keeping.{Keeps, where_front, kept_next, kept_onto, kept_behind, kept_list, kept_to_end, kept_parts, closed_list}
 use Rattle.std.proofs.lemmas.List.{append-nil}
 use Rattle.f77_parse.proofs.FollowLemmas.{told, flag_first, no_flag, then_told, then_front_told, one_front}
 

@@ -1,5 +1,5 @@
 -- What is kept of a statement is the statement, where no number in it is out of range.
-use Rattle.std.proofs.Common.{◌≡◌, ℕ, ℤ, Bool, false, ◌||◌, ◌&&◌, List, [], ◌∷◌, map, Option, Some, None, refl, sym, ap, ◌∙◌}
+use Rattle.std.proofs.Common.{◌≡◌, ℕ, ℤ, Bool, false, ◌||◌, List, [], ◌∷◌, map, Option, Some, None, refl, sym, ap, ◌∙◌}
 use Rattle.std.specs.Prelude.{pos, flat_map}
 use Rattle.std.specs.List.{list_any}
 use Rattle.std.proofs.lemmas.Bool.{or_parts}
@@ -17,11 +17,11 @@ use Rattle.f77_tree.specs.declared.statements.RawItem.TheVariants.{Value}
 use Rattle.f77_tree.specs.declared.statements.Stmt.{Stmt}
 use Rattle.f77_tree.specs.declared.statements.Stmt.TheVariants.{TypeOf, Dimension, Common, Equivalence, Init, Assign, Print, Take, GoTo, PickGoTo, SignIf, ThenIf, BlockIf, ElseIf, Do}
 use Rattle.f77_tree.specs.Grammar.{Written, reading, has_great_number, number_of}
-use Rattle.f77_tree.specs.StatementGrammar.{SignedDigits, signed_value, whole_number, is_great, are_great, is_bad_label, WrittenDim, low_of, dim_of, dim_numbers, WrittenDecl, decl_of, decl_numbers, block_of, WrittenPart, part_of, WrittenMember, member_of, WrittenConstant, constant_of, constant_is_great, times_of, WrittenValue, value_of, value_is_bad, WrittenData, data_of, WrittenItem, item_of, item_is_great, step_of, step_is_great, WrittenStatement, statement_of, has_bad_constant, is_of_subroutines}
+use Rattle.f77_tree.specs.StatementGrammar.{SignedDigits, signed_value, whole_number, is_great, are_great, is_bad_label, WrittenDim, dim_of, dim_numbers, WrittenDecl, decl_of, decl_numbers, block_of, WrittenPart, part_of, WrittenMember, member_of, WrittenConstant, constant_of, constant_is_great, WrittenValue, value_of, value_is_bad, WrittenData, data_of, WrittenItem, item_of, item_is_great, step_of, step_is_great, WrittenStatement, statement_of, has_bad_constant, is_of_subroutines}
 use Rattle.f77_tree.proofs.Subroutines.{guarded_subroutines}
 use Rattle.f77_expr.specs.Answers.{kept}
 use Rattle.f77_expr.proofs.Whole.{kept-reading}
-use Rattle.f77_parse.specs.KeptValues.{or_zero, kept_label, kept_number, kept_signed, kept_low, kept_dim, kept_decl, kept_part, kept_member, kept_constant, is_bad_repeat, kept_times, kept_value, kept_data, kept_item, kept_step, kept_statement}
+use Rattle.f77_parse.specs.KeptValues.{or_zero, kept_label, kept_signed, kept_dim, kept_decl, kept_part, kept_member, kept_constant, is_bad_repeat, kept_value, kept_data, kept_item, kept_step, kept_statement}
 use Rattle.f77_parse.proofs.FollowFormsDeclared.{great_in}
 
 -- ---- lists

@@ -1,6 +1,5 @@
 -- Names between brackets, or nothing: what stands behind the name of a subroutine.
 use Rattle.std.proofs.Common.{◌≡◌, ◌≤◌, ℕ, true, length, List, [], ◌∷◌, ◌++◌, map, Option, Some, None, codes, refl, sym, ap, ◌∙◌, arith}
-use Rattle.std.proofs.lemmas.Bool.{and_parts}
 use Rattle.std.specs.List.{list_all}
 use Rattle.f77_tree.specs.Name.{is_name}
 use Rattle.f77_tree.specs.StatementGrammar.{with_commas, in_brackets, names_text, are_names, WrittenStatement}

@@ -1,6 +1,6 @@
 -- The values that are kept of what is written: those of the grammar, but for a number that is out of range, in whose place
 -- 0 is kept.
-use Rattle.std.specs.Prelude.{ℕ, ℤ, pos, Bool, ◌||◌, ◌==◌, if◌then◌else◌, nat_lt, List, map, flat_map, Option, Some, None}
+use Rattle.std.specs.Prelude.{ℕ, ℤ, pos, Bool, ◌||◌, ◌==◌, if◌then◌else◌, List, map, flat_map, Option, Some, None}
 use Rattle.f77_tree.specs.declared.declarations.Dim.{Dim}
 use Rattle.f77_tree.specs.declared.declarations.Decl.{Decl}
 use Rattle.f77_tree.specs.declared.declarations.CommonPart.{CommonPart}
@@ -14,7 +14,7 @@ use Rattle.f77_tree.specs.declared.statements.RawItem.{RawItem}
 use Rattle.f77_tree.specs.declared.statements.RawItem.TheVariants.{Value, Chars}
 use Rattle.f77_tree.specs.declared.statements.Stmt.{Stmt}
 use Rattle.f77_tree.specs.declared.statements.Stmt.TheVariants.{Program, Implicit, ImplicitNone, TypeOf, Dimension, Common, Equivalence, Init, Assign, Print, Take, Continue, Stop, GoTo, PickGoTo, SignIf, ThenIf, BlockIf, ElseIf, Else, EndIf, Do, Sub, CallTo, Back, End}
-use Rattle.f77_tree.specs.Grammar.{Written, number_of, greatest_constant}
+use Rattle.f77_tree.specs.Grammar.{Written, number_of}
 use Rattle.f77_tree.specs.StatementGrammar.{SignedDigits, signed_value, is_great, is_bad_label, WrittenDim, WrittenDecl, WrittenPart, block_of, letters_of, WrittenMember, WrittenConstant, WrittenValue, WrittenData, WrittenItem, WrittenStatement, names_of}
 use Rattle.f77_expr.specs.Answers.{kept}
 
