@@ -50,7 +50,7 @@ pub enum Lit {
 }
 
 /// A name with its dimensions, if it is an array.
-#[derive(Debug, Drop)]
+#[derive(Drop)]
 pub struct Decl {
     pub name: Name,
     pub dims: DimList,
@@ -65,14 +65,14 @@ pub struct LetterRange {
 }
 
 /// A block of COMMON, unnamed for blank common, and the names in it (ANSI X3.9-1978, section 8.3).
-#[derive(Debug, Drop)]
+#[derive(Drop)]
 pub struct CommonPart {
     pub block: Option<Name>,
     pub decls: DeclList,
 }
 
 /// A variable or an array element with constant subscripts.
-#[derive(Debug, Drop)]
+#[derive(Drop)]
 pub struct Member {
     pub name: Name,
     pub subs: NumList,
@@ -86,7 +86,7 @@ pub struct InitValue {
 }
 
 /// Items of DATA and their values (ANSI X3.9-1978, section 9).
-#[derive(Debug, Drop)]
+#[derive(Drop)]
 pub struct InitPart {
     pub items: MemberList,
     pub values: InitValueList,

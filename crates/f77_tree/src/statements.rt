@@ -16,7 +16,7 @@ pub type LabelledList = Sequence<Labelled>;
 
 /// An expression as read. Brackets and a unary `+` leave no trace, and a name with arguments is a call, whether it is
 /// an array's or an intrinsic's.
-#[derive(Debug, Drop)]
+#[derive(Drop)]
 pub enum RawExpr {
     Int(i32),
     Truth(bool),
@@ -26,14 +26,14 @@ pub enum RawExpr {
 }
 
 /// An item of output as read.
-#[derive(Debug, Drop)]
+#[derive(Drop)]
 pub enum RawItem {
     Value(RawExpr),
     Chars(Text),
 }
 
 /// A statement as read.
-#[derive(Debug, Drop)]
+#[derive(Drop)]
 pub enum Stmt {
     Program,
     Implicit(LetterRangeList),
@@ -68,7 +68,7 @@ pub enum Stmt {
 }
 
 /// A statement with its label, 0 where it has none, and the line where it begins, counted from 1.
-#[derive(Debug, Drop)]
+#[derive(Drop)]
 pub struct Labelled {
     pub label: u32,
     pub line: u32,
