@@ -15,7 +15,3 @@ pub use room::{longest_line, room_of_line};
 pub use stepper::{Stepped, Stepper};
 pub use storage::{Storage, begin, following, increment, initial_storage, word_in};
 
-#[cfg(test)]
-mod runnable;
-#[cfg(test)]
-mod tests;

@@ -22,6 +22,7 @@ pub mod RunEnds
 pub mod RunInvariants
 pub mod RunLaws
 pub mod Safety
+pub mod Subroutines
 pub mod Taking
 pub mod TouchedWords
 pub mod Untrapped

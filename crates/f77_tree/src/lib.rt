@@ -23,7 +23,6 @@ pub use laws::{
 };
 pub use names::Name;
 pub use programs::{Exec, ExecKind, ExecList, Item, ItemList, NameInfo, NameInfoList, Program};
-pub use statements::{Labelled, LabelledList, RawExpr, RawItem, RawItemList, RawList, Stmt};
-
-#[cfg(test)]
-mod tests;
+pub use statements::{
+    Labelled, LabelledList, NameList, RawExpr, RawItem, RawItemList, RawList, Stmt,
+};
