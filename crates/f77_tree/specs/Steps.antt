@@ -16,6 +16,7 @@ IfGoes (Goes next memory text) P = P next memory text
 IfGoes (Stops trap) P = Unit {0}
 IfGoes Ends P = Unit {0}
 
+-- it goes on, or the run ends
 abbrev pub DoesNotTrap : Outcome → Type 0
 DoesNotTrap (Stops trap) = ⊥
 DoesNotTrap _ = Unit {0}
@@ -30,7 +31,7 @@ pub record IsMemoryOf (p : Program) (input : List ℤ) (m : Memory) : Type 0 whe
   pub steps : length m.steps ≡ p.loops
   pub taken : m.taken ≤ length input
 
--- a memory whose words and steps are words
+-- a memory in whose store and steps each number is a word
 pub record HoldsWords (m : Memory) : Type 0 where
   pub store : All IsWord m.store
   pub steps : All IsWord m.steps
