@@ -54,6 +54,11 @@ abbrev pub TellsWords : Option Job → Option (List ℕ) → Option (List ℕ) �
 TellsWords None old new code = Answers usage old new code × ((code ≡ 1) ⊎ (code ≡ 6))
 TellsWords (Some job) old new code = code ≢ 1
 
+-- Where the source failed or there was no memory, nothing was written.
+pub record IsUnwritten (old new : Option (List ℕ)) (code : ℕ) : Type 0 where
+  pub fault : code ≡ 5 → Keeps old new
+  pub memory : code ≡ 7 → Keeps old new
+
 -- neither the source failed, nor did memory end
 pub record HasAll (code : ℕ) : Type 0 where
   pub bytes : code ≢ 5

@@ -1,10 +1,9 @@
 ghost use Rattle.std.specs.Prelude.{◌≡◌, ◌≢◌, ◌≤◌, map, IfSome};
-ghost use Rattle.std.specs.Io.KnownBytes.{Keeps};
 ghost use Rattle.std.specs.String.{string_bytes};
 ghost use Rattle.df_io.specs.Faults.{Rose};
 ghost use Rattle.f77_tree.specs.Straight.{IsStraight};
-ghost use Rattle.dfc.specs.Answers.{Answers, AnswersAs, Blames, HasAll, ReadsFor, ReadsText, TellsWords, code_of};
-ghost use Rattle.dfc.specs.Due.{due, due_on, due_read};
+ghost use Rattle.dfc.specs.Answers.{Answers, AnswersAs, Blames, HasAll, IsUnwritten, ReadsFor, ReadsText, TellsWords, code_of};
+ghost use Rattle.dfc.specs.Due.{due, due_of, due_on, due_read};
 ghost use Rattle.dfc.specs.Headline.{Means, MeansFor, MeansRead};
 ghost use Rattle.dfc.specs.Reading.{reading};
 ghost use Rattle.dfc.specs.Words.{job_of};
@@ -33,6 +32,9 @@ pub fn dfc_main<S: Source, K: Sink>(
     // Status 1 comes exactly where the words ask for no job, whatever the source tells.
     ensures words { TellsWords (job_of (map string_bytes words.now.items)) (K.got sink.old) (K.got sink.new) result }
 
+    // After a fault of the source and without memory nothing was written, whatever the source tells.
+    ensures unwritten { IsUnwritten (K.got sink.old) (K.got sink.new) result }
+
     // What the job promises of the program of the text.
     ensures means { HasAll result → IfSome (S.left source.old) (MeansFor (job_of (map string_bytes words.now.items))) }
 
@@ -44,16 +46,31 @@ pub fn dfc_main<S: Source, K: Sink>(
     ensures bound { result ≤ 7 }
 {
     let status = match read_words(words) {
-        Some(Job::On(task)) => on_text(alloc, task, source, sink),
+        Some(job) => do_job(alloc, job, source, sink),
         None => tell_usage(sink),
     };
     status as u8
+}
+
+// Does what some words ask for.
+fn do_job<S: Source, K: Sink>(alloc: Global, job: Job, source: &mut S, sink: &mut K) -> Status
+    ensures due { IfSome (S.left source.old) (λ bytes. AnswersAs (due_of (Some job) bytes) (K.got sink.old) (K.got sink.new) result) }
+    ensures words { result ≢ Status.Usage }
+    ensures unwritten { IsUnwritten (K.got sink.old) (K.got sink.new) (code_of result) }
+    ensures means { HasAll (code_of result) → IfSome (S.left source.old) (MeansFor (Some job)) }
+    ensures takes { ReadsFor S.left (Some job) source.old source.new (code_of result) }
+    ensures blames { Blames (S.faults source.old) (S.faults source.new) (K.faults sink.old) (K.faults sink.new) (code_of result) }
+{
+    match job {
+        Job::On(task) => on_text(alloc, task, source, sink),
+    }
 }
 
 // Does a task on the program of the text that the source has.
 fn on_text<S: Source, K: Sink>(alloc: Global, task: Task, source: &mut S, sink: &mut K) -> Status
     ensures due { IfSome (S.left source.old) (λ bytes. AnswersAs (due_read task (reading bytes)) (K.got sink.old) (K.got sink.new) result) }
     ensures words { result ≢ Status.Usage }
+    ensures unwritten { IsUnwritten (K.got sink.old) (K.got sink.new) (code_of result) }
     ensures means { HasAll (code_of result) → IfSome (S.left source.old) (λ bytes. MeansRead task (reading bytes)) }
     ensures takes { ReadsText (S.left source.old) (S.left source.new) (code_of result) }
     ensures blames { Blames (S.faults source.old) (S.faults source.new) (K.faults sink.old) (K.faults sink.new) (code_of result) }
