@@ -1,10 +1,11 @@
 ghost use Rattle.std.specs.Prelude.{◌≡◌, ◌<◌, ◌≤◌, drop, length};
-ghost use Rattle.f77_expr.specs.Piece.{piece as spec_piece, bracket_depth, open_after as spec_open_after, ends_piece as spec_ends_piece};
+ghost use Rattle.f77_expr.specs.Piece.{piece as spec_piece, bracket_depth, ends_piece as spec_ends_piece};
 ghost use Rattle.f77_expr.specs.Parsing.{IsParsed, IsPieceRead};
 ghost use Rattle.f77_expr.specs.Scanning.{what_is_open};
 ghost use Rattle.f77_expr.specs.Answers.{kept_in_range};
 
 use crate::reader::read_piece;
+use crate::scan::{Open, open_after};
 use crate::{ExprEnd, Parsed, ReadEnd, ReadExpr};
 use df_sequence::CharList;
 use std::alloc::Global;
@@ -12,43 +13,11 @@ use std::alloc::Global;
 /// The most brackets that may be open in a statement.
 pub const DEEPEST_ALLOWED: usize = 60;
 
-/// What is open where a scan stands: a character constant or none, and how many brackets.
-#[derive(Clone, Copy)]
-struct Open {
-    is_quoted: bool,
-    brackets: usize,
-}
-
 /// The piece with which a text begins, and how many brackets are open in it at most.
 #[derive(Drop)]
 struct Piece<'a> {
     text: &'a [u8],
     depth: usize,
-}
-
-/// What is open after a character. A closing bracket where none is open changes nothing.
-fn open_after(state: Open, c: u8) -> Open
-    requires { state.brackets < 18446744073709551615 }
-    ensures { what_is_open result ≡ spec_open_after (what_is_open state) c }
-{
-    if c == b'\'' {
-        return Open {
-            is_quoted: !state.is_quoted,
-            brackets: state.brackets,
-        };
-    }
-    if state.is_quoted {
-        return state;
-    }
-    let brackets = match c {
-        b'(' => state.brackets + 1,
-        b')' => state.brackets.saturating_sub(1),
-        _ => state.brackets,
-    };
-    Open {
-        is_quoted: false,
-        brackets,
-    }
 }
 
 /// Whether a character ends the piece: a comma, a closing bracket, an equals sign or a colon, where nothing is open.
@@ -64,10 +33,7 @@ fn piece_in_front(text: &[u8]) -> Piece<'_>
     ensures depth { result.depth ≡ bracket_depth (spec_piece text.now) }
     ensures short { length result.text.now ≤ length text.now }
 {
-    let mut state = Open {
-        is_quoted: false,
-        brackets: 0,
-    };
+    let mut state = Open::nothing();
     let mut depth = 0;
     for (i, c) in text.iter().enumerate() {
         if ends_piece(state, *c) {

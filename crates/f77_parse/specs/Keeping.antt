@@ -18,7 +18,7 @@ use Rattle.f77_tree.specs.declared.statements.RawItem.{RawItem}
 use Rattle.f77_tree.specs.declared.statements.RawItem.TheVariants.{Value, Chars}
 use Rattle.f77_tree.specs.declared.statements.RawExpr.TheVariants.{Named, Call}
 use Rattle.f77_tree.specs.Name.{is_figure}
-use Rattle.f77_tree.specs.Grammar.{Written, number_of, has_great_number}
+use Rattle.f77_tree.specs.Grammar.{Written, number_of, has_great_number, greatest_constant}
 use Rattle.f77_expr.specs.Answers.{kept}
 use Rattle.f77_expr.specs.Reader.{Reads, after_front}
 use Rattle.f77_parse.specs.Parts.{behind_comma, number_at, name_at, letter_at, expression_in_front}
@@ -116,7 +116,7 @@ expression_kept bad text = kept_expression bad (expression_in_front text)
 -- ---- constants, labels and repeats: one that is out of range is kept as 0
 
 abbrev pub is_great_number : ℕ → Bool
-is_great_number n = nat_lt 2147483647 n
+is_great_number n = nat_lt greatest_constant n
 
 abbrev pub constant_in : ℕ → ℕ
 constant_in n = if is_great_number n then 0 else n
@@ -128,7 +128,7 @@ abbrev pub label_in : ℕ → ℕ
 label_in n = if is_no_label n then 0 else n
 
 abbrev pub is_no_repeat : ℕ → Bool
-is_no_repeat n = (n == 0) || nat_lt 2147483647 n
+is_no_repeat n = (n == 0) || nat_lt greatest_constant n
 
 abbrev pub repeat_in : ℕ → ℕ
 repeat_in n = if is_no_repeat n then 0 else n

@@ -6,4 +6,3 @@ pub mod KeptValues
 pub mod KeptForms
 pub mod Parsing
 pub mod Parts
-pub mod Scanning

@@ -5,11 +5,8 @@ ghost use Rattle.f77_parse.specs.Keeping.{constant_in, is_great_number, label_in
 ghost use Rattle.f77_parse.specs.Answers.{Gives, Shortens};
 
 use crate::reader::Reader;
-use f77_expr::ReadEnd;
+use f77_expr::{GREATEST_CONSTANT, ReadEnd};
 use f77_tree::{InitValue, Lit};
-
-/// The greatest integer constant.
-const GREATEST: u32 = 2147483647;
 
 /// The greatest label.
 const LAST_LABEL: u32 = 99999;
@@ -21,7 +18,7 @@ impl<'a> Reader<'a> {
         ensures bad { self.new.is_bad ≡ (self.old.is_bad || is_great_number number) }
         ensures rest { self.new.rest.now ≡ self.old.rest.now }
     {
-        let is_great = number > GREATEST;
+        let is_great = number > GREATEST_CONSTANT;
         self.tell(is_great);
         if is_great { 0 } else { number as i32 }
     }
@@ -43,7 +40,7 @@ impl<'a> Reader<'a> {
         ensures bad { self.new.is_bad ≡ (self.old.is_bad || is_no_repeat number) }
         ensures rest { self.new.rest.now ≡ self.old.rest.now }
     {
-        let is_none = number == 0 || number > GREATEST;
+        let is_none = number == 0 || number > GREATEST_CONSTANT;
         self.tell(is_none);
         if is_none { 0 } else { number }
     }

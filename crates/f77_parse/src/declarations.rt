@@ -2,7 +2,7 @@
 
 ghost use Rattle.std.specs.Prelude.{◌≡◌, ◌≤◌, ◌<◌, ◌+◌, length, IfOk};
 ghost use Rattle.std.specs.List.{list_all};
-ghost use Rattle.f77_parse.specs.Keeping.{is_array, kept_list, kept_behind, kept_parts, dim_kept, decl_kept, arrays_kept, range_kept, kind_kept, letters_kept, kept_ranges, block_kept, block_and_decls, first_part_kept, part_kept, member_kept, group_kept, init_part_kept, next_init_part_kept};
+ghost use Rattle.f77_parse.specs.Keeping.{is_array, kept_behind, dim_kept, decl_kept, arrays_kept, range_kept, kind_kept, letters_kept, kept_ranges, block_kept, block_and_decls, first_part_kept, part_kept, member_kept, group_kept, init_part_kept, next_init_part_kept};
 ghost use Rattle.f77_parse.specs.Answers.{Gives, Shortens};
 
 use crate::listing::{DeclPart, DimPart, MemberPart, SignedPart, ValuePart};
@@ -10,8 +10,8 @@ use crate::reader::Reader;
 use df_sequence::Sequence;
 use f77_expr::ReadEnd;
 use f77_tree::{
-    CommonPart, CommonPartList, Decl, DeclList, Dim, InitPart, InitPartList, Kind, LetterRange,
-    LetterRangeList, Member, MemberList, Name,
+    CommonPart, Decl, DeclList, Dim, InitPart, Kind, LetterRange, LetterRangeList, Member,
+    MemberList, Name,
 };
 use std::alloc::Global;
 
@@ -164,7 +164,7 @@ impl<'a> Reader<'a> {
 
     /// The first part of COMMON, which may tell its block.
     #[tactic(auto, unfolding(crate::specs::Keeping::first_part_kept))]
-    fn first_part(&mut self, alloc: Global) -> Result<CommonPart, ReadEnd>
+    pub(crate) fn first_part(&mut self, alloc: Global) -> Result<CommonPart, ReadEnd>
         ensures gives { Gives (first_part_kept self.old.is_bad self.old.rest.now) result self.new.is_bad self.new.rest.now }
         ensures shorter { Shortens result self.old.rest.now self.new.rest.now }
     {
@@ -187,25 +187,12 @@ impl<'a> Reader<'a> {
 
     /// A part of COMMON that tells its block, with a comma in front or without.
     #[tactic(auto, unfolding(crate::specs::Keeping::part_kept))]
-    fn part(&mut self, alloc: Global) -> Result<CommonPart, ReadEnd>
+    pub(crate) fn part(&mut self, alloc: Global) -> Result<CommonPart, ReadEnd>
         ensures gives { Gives (part_kept self.old.is_bad self.old.rest.now) result self.new.is_bad self.new.rest.now }
         ensures shorter { Shortens result self.old.rest.now self.new.rest.now }
     {
         self.skips(b",");
         self.told_part(alloc)
-    }
-
-    /// Parts of COMMON up to the end of the text.
-    pub(crate) fn parts(&mut self, alloc: Global) -> Result<CommonPartList, ReadEnd>
-        ensures gives { Gives (kept_parts first_part_kept part_kept self.old.is_bad self.old.rest.now) result self.new.is_bad self.new.rest.now }
-        ensures shorter { Shortens result self.old.rest.now self.new.rest.now }
-    {
-        let mut list = Sequence::new(alloc);
-        list.push(self.first_part(alloc)?)?;
-        while !self.is_at_end() {
-            list.push(self.part(alloc)?)?;
-        }
-        Ok(list)
     }
 
     /// A name, with subscripts or without.
@@ -243,7 +230,7 @@ impl<'a> Reader<'a> {
 
     /// Items of DATA and their values.
     #[tactic(auto, unfolding(crate::specs::Keeping::init_part_kept))]
-    fn init_part(&mut self, alloc: Global) -> Result<InitPart, ReadEnd>
+    pub(crate) fn init_part(&mut self, alloc: Global) -> Result<InitPart, ReadEnd>
         ensures gives { Gives (init_part_kept self.old.is_bad self.old.rest.now) result self.new.is_bad self.new.rest.now }
         ensures shorter { Shortens result self.old.rest.now self.new.rest.now }
     {
@@ -256,25 +243,12 @@ impl<'a> Reader<'a> {
 
     /// Items of DATA and their values, with a comma in front or without.
     #[tactic(auto, unfolding(crate::specs::Keeping::next_init_part_kept))]
-    fn next_init_part(&mut self, alloc: Global) -> Result<InitPart, ReadEnd>
+    pub(crate) fn next_init_part(&mut self, alloc: Global) -> Result<InitPart, ReadEnd>
         ensures gives { Gives (next_init_part_kept self.old.is_bad self.old.rest.now) result self.new.is_bad self.new.rest.now }
         ensures shorter { Shortens result self.old.rest.now self.new.rest.now }
     {
         self.skips(b",");
         self.init_part(alloc)
-    }
-
-    /// Parts of DATA up to the end of the text, with commas between them or without.
-    pub(crate) fn init_parts(&mut self, alloc: Global) -> Result<InitPartList, ReadEnd>
-        ensures gives { Gives (kept_parts init_part_kept next_init_part_kept self.old.is_bad self.old.rest.now) result self.new.is_bad self.new.rest.now }
-        ensures shorter { Shortens result self.old.rest.now self.new.rest.now }
-    {
-        let mut list = Sequence::new(alloc);
-        list.push(self.init_part(alloc)?)?;
-        while !self.is_at_end() {
-            list.push(self.next_init_part(alloc)?)?;
-        }
-        Ok(list)
     }
 }
 

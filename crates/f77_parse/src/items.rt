@@ -1,6 +1,5 @@
 //! Parts of executable statements: expressions, variables and items of output (ANSI X3.9-1978, sections 6, 10 and 12).
 
-ghost use Rattle.std.specs.Prelude.{◌≡◌, ◌<◌, ◌+◌, length};
 ghost use Rattle.f77_parse.specs.Keeping.{variable_kept, names_kept, next_character_kept, characters_kept, character_constant_kept, item_kept};
 ghost use Rattle.f77_parse.specs.Answers.{Gives, Shortens};
 

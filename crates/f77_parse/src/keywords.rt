@@ -4,7 +4,7 @@ ghost use Rattle.std.specs.Prelude.{◌≡◌};
 ghost use Rattle.f77_parse.specs.KeptForms.{kept_whole, form_kept, equated_kept, keyword_kept, storage_kept, executable_kept};
 ghost use Rattle.f77_parse.specs.Answers.{Gives};
 
-use crate::listing::{DeclPart, GroupPart};
+use crate::listing::{CommonSeries, DataSeries, DeclPart, GroupPart};
 use crate::reader::Reader;
 use f77_expr::ReadEnd;
 use f77_tree::{Kind, Stmt};
@@ -89,13 +89,13 @@ impl<'a> Reader<'a> {
             return Ok(Stmt::Dimension(self.arrays(alloc)?));
         }
         if self.passes(b"COMMON") {
-            return Ok(Stmt::Common(self.parts(alloc)?));
+            return Ok(Stmt::Common(self.series::<CommonSeries>(alloc)?));
         }
         if self.passes(b"EQUIVALENCE") {
             return Ok(Stmt::Equivalence(self.list::<GroupPart>(alloc)?));
         }
         if self.passes(b"DATA") {
-            return Ok(Stmt::Init(self.init_parts(alloc)?));
+            return Ok(Stmt::Init(self.series::<DataSeries>(alloc)?));
         }
         self.executable(alloc)
     }

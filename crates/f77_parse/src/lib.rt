@@ -3,7 +3,6 @@
 
 mod constants;
 mod declarations;
-mod digits;
 mod forms;
 mod items;
 mod keywords;

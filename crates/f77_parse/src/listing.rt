@@ -1,13 +1,15 @@
 //! Lists with commas between their items.
 
 ghost use Rattle.std.specs.Prelude.{◌≡◌, ℕ, Bool, List};
-ghost use Rattle.f77_parse.specs.Keeping.{Keeps, kept_list, label_kept, signed_kept, value_kept, dim_kept, decl_kept, member_kept, group_kept, name_kept, expression_kept, item_kept, variable_kept};
+ghost use Rattle.f77_parse.specs.Keeping.{Keeps, kept_list, kept_parts, first_part_kept, part_kept, init_part_kept, next_init_part_kept, label_kept, signed_kept, value_kept, dim_kept, decl_kept, member_kept, group_kept, name_kept, expression_kept, item_kept, variable_kept};
 ghost use Rattle.f77_parse.specs.Answers.{Gives, Shortens};
 
 use crate::reader::Reader;
 use df_sequence::Sequence;
 use f77_expr::ReadEnd;
-use f77_tree::{Decl, Dim, InitValue, Member, MemberList, Name, RawExpr, RawItem};
+use f77_tree::{
+    CommonPart, Decl, Dim, InitPart, InitValue, Member, MemberList, Name, RawExpr, RawItem,
+};
 use std::alloc::Global;
 
 /// What may stand in a list.
@@ -36,6 +38,79 @@ impl<'a> Reader<'a> {
             list.push(P::read(self, alloc)?)?;
         }
         Ok(list)
+    }
+
+    /// Parts up to the end of the text.
+    pub(crate) fn series<S: Series>(&mut self, alloc: Global) -> Result<Sequence<S::Value>, ReadEnd>
+        ensures gives { Gives (kept_parts S.kept_first S.kept_next self.old.is_bad self.old.rest.now) result self.new.is_bad self.new.rest.now }
+        ensures shorter { Shortens result self.old.rest.now self.new.rest.now }
+    {
+        let mut list = Sequence::new(alloc);
+        list.push(S::read_first(self, alloc)?)?;
+        while !self.is_at_end() {
+            list.push(S::read_next(self, alloc)?)?;
+        }
+        Ok(list)
+    }
+}
+
+/// The parts of a statement, of which the first is read otherwise than those behind it.
+pub(crate) trait Series {
+    /// What is kept of a part.
+    type Value: Drop;
+
+    /// What is kept of the first part in front of a text.
+    ghost kept_first: { Bool → List ℕ → Keeps Self.Value };
+
+    /// What is kept of another one.
+    ghost kept_next: { Bool → List ℕ → Keeps Self.Value };
+
+    /// Reads the first.
+    fn read_first(reader: &mut Reader<'_>, alloc: Global) -> Result<Self::Value, ReadEnd>
+        ensures gives { Gives (kept_first reader.old.is_bad reader.old.rest.now) result reader.new.is_bad reader.new.rest.now }
+        ensures shorter { Shortens result reader.old.rest.now reader.new.rest.now };
+
+    /// Reads another one.
+    fn read_next(reader: &mut Reader<'_>, alloc: Global) -> Result<Self::Value, ReadEnd>
+        ensures gives { Gives (kept_next reader.old.is_bad reader.old.rest.now) result reader.new.is_bad reader.new.rest.now }
+        ensures shorter { Shortens result reader.old.rest.now reader.new.rest.now };
+}
+
+/// Parts of COMMON. The first may leave its block unsaid.
+pub(crate) struct CommonSeries;
+
+impl Series for CommonSeries {
+    type Value = CommonPart;
+
+    ghost kept_first = { first_part_kept };
+
+    ghost kept_next = { part_kept };
+
+    fn read_first(reader: &mut Reader<'_>, alloc: Global) -> Result<CommonPart, ReadEnd> {
+        reader.first_part(alloc)
+    }
+
+    fn read_next(reader: &mut Reader<'_>, alloc: Global) -> Result<CommonPart, ReadEnd> {
+        reader.part(alloc)
+    }
+}
+
+/// Parts of DATA. A comma may stand before each but the first.
+pub(crate) struct DataSeries;
+
+impl Series for DataSeries {
+    type Value = InitPart;
+
+    ghost kept_first = { init_part_kept };
+
+    ghost kept_next = { next_init_part_kept };
+
+    fn read_first(reader: &mut Reader<'_>, alloc: Global) -> Result<InitPart, ReadEnd> {
+        reader.init_part(alloc)
+    }
+
+    fn read_next(reader: &mut Reader<'_>, alloc: Global) -> Result<InitPart, ReadEnd> {
+        reader.next_init_part(alloc)
     }
 }
 

@@ -1,23 +1,24 @@
-//! Digits and names in front of a text, and the number that digits write.
-ghost use Rattle.std.specs.Prelude.{◌≡◌, ◌≤◌, ◌+◌, ◌-◌, ◌*◌, length, drop, IfSome, min, take_while, true};
+//! Letters and digits in front of a text, and the number that digits write.
+
+ghost use Rattle.std.specs.Prelude.{◌≡◌, ◌≤◌, ◌+◌, ◌-◌, ◌*◌, length, drop, min, take_while, true, IfSome};
 ghost use Rattle.std.specs.List.{list_all};
 ghost use Rattle.std.specs.Option.{option_copied};
 ghost use Rattle.f77_tree.specs.Name.{is_capital, is_figure};
 ghost use Rattle.f77_tree.specs.Grammar.{number_of};
-ghost use Rattle.f77_expr.specs.Reader.{after_front, is_symbolic as spec_is_symbolic};
+ghost use Rattle.f77_expr.specs.Reader.{after_front as spec_after_front, is_symbolic as spec_is_symbolic};
 
 /// The greatest integer constant.
-const GREATEST: u64 = 2147483647;
+pub const GREATEST_CONSTANT: u32 = 2147483647;
 
 /// Whether a character is a digit.
-fn is_digit(c: u8) -> bool
+pub(crate) fn is_digit(c: u8) -> bool
     ensures { result ≡ is_figure c }
 {
     b'0' <= c && c <= b'9'
 }
 
 /// Whether a character is a letter.
-pub(crate) fn is_letter(c: u8) -> bool
+pub fn is_letter(c: u8) -> bool
     ensures { result ≡ is_capital c }
 {
     b'A' <= c && c <= b'Z'
@@ -47,7 +48,7 @@ fn symbolic_in_front(text: &[u8]) -> usize
 }
 
 /// The digits in front of a text.
-pub(crate) fn digits_of(text: &[u8]) -> &[u8]
+pub fn digits_of(text: &[u8]) -> &[u8]
     ensures digits { result.now ≡ take_while is_figure text.now }
     ensures short { length result.now ≤ length text.now }
 {
@@ -55,7 +56,7 @@ pub(crate) fn digits_of(text: &[u8]) -> &[u8]
 }
 
 /// The letters and digits in front of a text.
-pub(crate) fn symbolic_of(text: &[u8]) -> &[u8]
+pub fn symbolic_of(text: &[u8]) -> &[u8]
     ensures name { result.now ≡ take_while spec_is_symbolic text.now }
     ensures short { length result.now ≤ length text.now }
 {
@@ -63,8 +64,8 @@ pub(crate) fn symbolic_of(text: &[u8]) -> &[u8]
 }
 
 /// The text behind these characters, where it begins with them.
-pub(crate) fn behind_front<'a>(text: &'a [u8], front: &[u8]) -> Option<&'a [u8]>
-    ensures rest { option_copied result ≡ after_front front.now text.now }
+pub fn after_front<'a>(text: &'a [u8], front: &[u8]) -> Option<&'a [u8]>
+    ensures rest { option_copied result ≡ spec_after_front front.now text.now }
     ensures drops { IfSome result (λ rest. (rest.now ≡ drop (length text.now - length rest.now) text.now) × (length rest.now + length front.now ≤ length text.now)) }
 {
     text.strip_prefix(front)
@@ -76,11 +77,11 @@ fn number_after(number: u64, digit: u8) -> u64
     requires bound { number ≤ 2147483648 }
     ensures { result ≡ min (10 * number + (digit - 48)) 2147483648 }
 {
-    (10 * number + u64::from(digit - b'0')).min(GREATEST + 1)
+    (10 * number + u64::from(digit - b'0')).min(u64::from(GREATEST_CONSTANT) + 1)
 }
 
 /// The number that digits write, or one more than the greatest constant where that is less.
-pub(crate) fn bounded_number(digits: &[u8]) -> u64
+pub fn bounded_number(digits: &[u8]) -> u64
     requires { list_all is_figure digits.now ≡ true }
     ensures { result ≡ min (number_of digits.now) 2147483648 }
 {
