@@ -45,6 +45,7 @@ pub struct Stepper<'a> {
     line: Vec<u8>,
     draft: Vec<u8>,
     progress: Progress,
+    ghost place: { position < length program.now.execs },
     ghost words: { length storage.store.items ≡ program.now.words },
     ghost counts: { length storage.counts.items ≡ program.now.loops },
     ghost steps: { length storage.steps.items ≡ program.now.loops },
@@ -107,9 +108,6 @@ impl<'a> Stepper<'a> {
         ensures line { KeepsLine result (last_line self.old) (last_line self.new) }
     {
         let program = self.program;
-        if program.execs.len() <= self.position {
-            return Stepped::Moved;
-        }
         let exec = program.execs.at(self.position);
         match &exec.kind {
             ExecKind::Print { items, next } => {

@@ -1,5 +1,5 @@
 -- An expression that cannot trap has a value over every store of words, and what is known of it is its value.
-use Rattle.std.proofs.Common.{◌≡◌, ℕ, zero, suc, ℤ, pos, ◌-ℤ◌, ◌*ℤ◌, ◌≤ℤ◌, nat_abs, Bool, true, false, List, [], ◌∷◌, map, Option, Some, None, Result, Ok, Err, All, refl, sym, ap, ◌∙◌, arith}
+use Rattle.std.proofs.Common.{◌≡◌, ℕ, zero, suc, ℤ, pos, ◌-ℤ◌, ◌*ℤ◌, nat_abs, Bool, true, false, List, [], ◌∷◌, map, Option, Some, None, Result, Ok, Err, All, refl, sym, ap, ◌∙◌, arith}
 use Rattle.std.specs.Prelude.{is_ok, option_map}
 use mathlib.Core.Logic.{inl, inr}
 use Rattle.std.proofs.lemmas.Int.{ints}
@@ -17,30 +17,30 @@ use Rattle.f77_tree.specs.declared.expressions.Access.{Access}
 use Rattle.f77_tree.specs.declared.expressions.Expr.{Expr, Const, Truth as IsTruth, Input, Read, Read', Apply', Row_of-Expr, end_of-Expr, more_of-Expr}
 use Rattle.f77_tree.specs.declared.programs.NameInfo.{NameInfo}
 use Rattle.f77_tree.specs.Value.{value, place, row_values, all_values, value_before, and_then, moved, subscripted, extent, word_of, read_of, read_as, kind_of, dims_of, place_of, word_at}
-use Rattle.f77_tree.specs.Known.{known, row_known, none, MayTrapBut, MayTrap, SomeMayTrap, SubscriptsMayTrap, AccessMayTrapBut, AccessMayTrap}
+use Rattle.f77_tree.specs.Known.{known, row_known, IsInBounds, none, MayTrapBut, MayTrap, SomeMayTrap, SubscriptsMayTrap, AccessMayTrapBut, AccessMayTrap}
 use Rattle.f77_tree.proofs.ExpressionLemmas.{row_of, row_values-list}
 
 -- ---- words
 
-truth-word : (b : Bool) → IsWord (truth b)
+pub truth-word : (b : Bool) → IsWord (truth b)
 truth-word true = omega (arith, ints)
 truth-word false = omega (arith, ints)
 
-read-word : (kind : Kind) (z : ℤ) → IsWord z → IsWord (read_as kind z)
+pub read-word : (kind : Kind) (z : ℤ) → IsWord z → IsWord (read_as kind z)
 read-word Integer z w = w
 read-word Logical z w = truth-word (is_true z)
 
-zero-word : IsWord (pos 0)
+pub zero-word : IsWord (pos 0)
 zero-word = omega (arith, ints)
 
-word_at-word : (store : List ℤ) (k : ℕ) → All IsWord store → IsWord (word_at store k)
+pub word_at-word : (store : List ℤ) (k : ℕ) → All IsWord store → IsWord (word_at store k)
 word_at-word [] k all = zero-word
 word_at-word (z ∷ store) zero all = all 0 z (omega arith)
 word_at-word (z ∷ store) (suc k) all = word_at-word store k (λ i d lt. all (suc i) d (omega (arith, lt)))
 
 -- ---- the values of operands that have them
 
-all_values-ok : (zs : List ℤ) → all_values (map (λ z. Ok z) zs) ≡ Ok zs
+pub all_values-ok : (zs : List ℤ) → all_values (map (λ z. Ok z) zs) ≡ Ok zs
 all_values-ok [] = refl
 all_values-ok (z ∷ zs) = ap (value_before (Ok z)) (all_values-ok zs)
 
@@ -87,13 +87,6 @@ pub record HaveValues (ks : List (Option ℤ)) (rs : List (Result ℤ Trap)) : T
 Place-ok : (p d size : ℤ) → (z : ℤ) × (applied Place (p ∷ d ∷ size ∷ []) ≡ Ok z)
 unfolding applied ternary
 Place-ok p d size = (_, refl)
-
--- a subscript has a value within the bounds of its dimension
-pub record IsInBounds (dim : Dim) (r : Result ℤ Trap) : Type 0 where
-  pub result : ℤ
-  pub is : r ≡ Ok result
-  pub lower : dim.lo ≤ℤ result
-  pub upper : result ≤ℤ dim.hi
 
 -- a subscript has a value at which its bounds don't trap
 record IsFit (dim : Dim) (r : Result ℤ Trap) : Type 0 where
@@ -227,7 +220,7 @@ names-word names store next access words h = names-word-but none names store nex
 
 -- ---- what is known of a value is the value, over any store
 
-known-more : (k : Option ℤ) (ks : List (Option ℤ)) (r : Result ℤ Trap) (rs : List (Result ℤ Trap)) (xs : List ℤ) → all_known (k ∷ ks) ≡ Some xs → ((z : ℤ) → k ≡ Some z → r ≡ Ok z) → ((zs : List ℤ) → all_known ks ≡ Some zs → rs ≡ map (λ z. Ok z) zs) → r ∷ rs ≡ map (λ z. Ok z) xs
+pub known-more : (k : Option ℤ) (ks : List (Option ℤ)) (r : Result ℤ Trap) (rs : List (Result ℤ Trap)) (xs : List ℤ) → all_known (k ∷ ks) ≡ Some xs → ((z : ℤ) → k ≡ Some z → r ≡ Ok z) → ((zs : List ℤ) → all_known ks ≡ Some zs → rs ≡ map (λ z. Ok z) zs) → r ∷ rs ≡ map (λ z. Ok z) xs
 known-more None ks r rs xs e one more = let no : None ≡ Some xs = e in absurd cc
 known-more (Some k) ks r rs xs e one more = by (all_known ks) refl e
   where
@@ -247,6 +240,6 @@ mutual
       let is = folded-some op (row_known args) z e in
       ap (λ (rs : List (Result ℤ Trap)). and_then (applied op) (all_values rs)) (known-are names store next _ args is.args is.are_known) ∙ ap (and_then (applied op)) (all_values-ok is.args) ∙ is.value
 
-  known-are : (names : List NameInfo) (store : List ℤ) (next : Option ℤ) (n : _) (row : Row_of-Expr n) (xs : List ℤ) → all_known (row_known row) ≡ Some xs → row_values names store next row ≡ map (λ z. Ok z) xs
+  pub known-are : (names : List NameInfo) (store : List ℤ) (next : Option ℤ) (n : _) (row : Row_of-Expr n) (xs : List ℤ) → all_known (row_known row) ≡ Some xs → row_values names store next row ≡ map (λ z. Ok z) xs
   known-are names store next n end_of-Expr xs e = let is : [] ≡ xs = cc in ap (map (λ z. Ok z)) is
   known-are names store next n (more_of-Expr e rest) xs h = known-more (known e) (row_known rest) (value names store next e) (row_values names store next rest) xs h (λ z. known-is names store next e z) (λ zs. known-are names store next _ rest zs)

@@ -1,6 +1,7 @@
 -- What is known of an expression before the program runs: its value, and whether it can trap.
-use Rattle.std.specs.Prelude.{ℤ, List, [], ◌∷◌, Option, Some, None, ◌⊎◌, Any}
+use Rattle.std.specs.Prelude.{◌≡◌, ℤ, ◌≤ℤ◌, Result, Ok, List, [], ◌∷◌, Option, Some, None, ◌⊎◌, Any}
 use Rattle.op_table.specs.declared.Op.TheVariants.{Bound, Step}
+use Rattle.op_table.specs.declared.Trap.{Trap}
 use Rattle.op_table.specs.Words.{truth}
 use Rattle.op_table.specs.Known.{folded, CanTrap}
 use Rattle.f77_tree.specs.declared.declarations.Dim.{Dim}
@@ -34,6 +35,13 @@ MayLieOutside dim sub = CanTrap Bound (known sub ∷ Some dim.lo ∷ Some dim.hi
 
 -- ---- what can trap, where some subscripts are excepted: they are seen by other means to have values within the bounds of
 -- their dimensions, and nothing in them counts
+
+-- a subscript has a value within the bounds of its dimension
+pub record IsInBounds (dim : Dim) (r : Result ℤ Trap) : Type 0 where
+  pub result : ℤ
+  pub is : r ≡ Ok result
+  pub lower : dim.lo ≤ℤ result
+  pub upper : result ≤ℤ dim.hi
 
 -- a subscript that isn't excepted can trap, or may lie outside its bounds
 abbrev pub SubscriptMayTrap : (Expr → Dim → Type 0) → Dim → (sub : Expr) → (trap : Type 0) → Type 0
