@@ -1,5 +1,3 @@
 mod Words
 pub mod Lines
 mod Steps
-mod Fitting
-mod Placing
