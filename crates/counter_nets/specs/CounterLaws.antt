@@ -1,10 +1,10 @@
 -- The counters keep the laws of firing.
-use Rattle.std.proofs.Common.{◌≡◌, ◌+◌, ◌-◌, ◌<◌, ◌&&◌, ◌++◌, ℕ, zero, suc, Bool, true, false, nat_lt, nat_eq, None, refl, sym, ap, append-nil, add-one, arith}
+use Rattle.std.proofs.Common.{◌≡◌, ◌+◌, ◌-◌, ◌<◌, ◌&&◌, ℕ, zero, suc, Bool, true, false, nat_lt, nat_eq, None, refl, sym, ap, arith}
 use Rattle.std.proofs.lemmas.Bool.{ltb-true, lt-ltb, eqb-true, and_from}
 use Rattle.counter_nets.specs.declared.counts.Counts.{Counts}
 use Rattle.firing.specs.Laws.{IsLawful, AreReady}
-use Rattle.firing.specs.Moves.{CanFire, IsSilent, line_bytes}
-use Rattle.counter_nets.specs.Counting.{AreSmall, counter_moves, is_ready, after_node, is_serial, trap_of, ticks, line_of}
+use Rattle.firing.specs.Moves.{CanFire, IsSilent}
+use Rattle.counter_nets.specs.Counting.{AreSmall, counter_moves, is_ready, after_node, is_serial, line_of, trap_of}
 
 abbrev Both : Counts → ℕ → ℕ → Type 0
 Both m j k = AreReady AreSmall counter_moves m j k
@@ -64,21 +64,23 @@ either m (suc (suc (suc i))) (suc (suc (suc j))) both = same_node m i j both
 more : (n : ℕ) → nat_lt 0 (n + 1) ≡ true
 more n = lt-ltb 0 (n + 1) (omega arith)
 
--- where the first one doesn't trap
-stays : (m : Counts) (j k : ℕ) → Both m j k → trap_of (after_node m j).trapped ≡ None → is_ready (after_node m j) k ≡ true
-stays m zero zero both none = absurd (both.differ refl)
-stays m zero (suc zero) both none = more m.left
-stays m zero (suc (suc zero)) both none = and_from (nat_lt 0 (m.right + 1)) (nat_lt 0 m.lines) (more m.right) (right_true (nat_lt 0 m.right) (nat_lt 0 m.lines) both.second.ready)
-stays m zero (suc (suc (suc j))) both none = and_from (nat_lt 0 (m.right + 1)) (nat_eq m.lines 0) (more m.right) (right_true (nat_lt 0 m.right) (nat_eq m.lines 0) both.second.ready)
-stays m (suc zero) zero both none = both.second.ready
-stays m (suc zero) (suc zero) both none = absurd (both.differ refl)
-stays m (suc zero) (suc (suc zero)) both none = both.second.ready
-stays m (suc zero) (suc (suc (suc j))) both none = both.second.ready
-stays m (suc (suc zero)) zero both none = both.second.ready
-stays m (suc (suc zero)) (suc zero) both none = both.second.ready
-stays m (suc (suc zero)) (suc (suc zero)) both none = absurd (both.differ refl)
-stays m (suc (suc zero)) (suc (suc (suc j))) both none = never m both.first.ready both.second.ready
-stays m (suc (suc (suc i))) k both none = absurd cc
+stays : (m : Counts) (j k : ℕ) → Both m j k → is_ready (after_node m j) k ≡ true
+stays m zero zero both = absurd (both.differ refl)
+stays m zero (suc zero) both = more m.left
+stays m zero (suc (suc zero)) both = and_from (nat_lt 0 (m.right + 1)) (nat_lt 0 m.lines) (more m.right) (right_true (nat_lt 0 m.right) (nat_lt 0 m.lines) both.second.ready)
+stays m zero (suc (suc (suc j))) both = and_from (nat_lt 0 (m.right + 1)) (nat_eq m.lines 0) (more m.right) (right_true (nat_lt 0 m.right) (nat_eq m.lines 0) both.second.ready)
+stays m (suc zero) zero both = both.second.ready
+stays m (suc zero) (suc zero) both = absurd (both.differ refl)
+stays m (suc zero) (suc (suc zero)) both = both.second.ready
+stays m (suc zero) (suc (suc (suc j))) both = both.second.ready
+stays m (suc (suc zero)) zero both = both.second.ready
+stays m (suc (suc zero)) (suc zero) both = both.second.ready
+stays m (suc (suc zero)) (suc (suc zero)) both = absurd (both.differ refl)
+stays m (suc (suc zero)) (suc (suc (suc j))) both = never m both.first.ready both.second.ready
+stays m (suc (suc (suc i))) zero both = both.second.ready
+stays m (suc (suc (suc i))) (suc zero) both = both.second.ready
+stays m (suc (suc (suc i))) (suc (suc zero)) both = both.second.ready
+stays m (suc (suc (suc i))) (suc (suc (suc j))) both = both.second.ready
 
 one : (m : Counts) (j k : ℕ) → Both m j k → is_serial j ≡ true → is_serial k ≡ false
 one m zero k both serial = absurd cc
@@ -91,6 +93,15 @@ one m (suc (suc (suc i))) zero both serial = refl
 one m (suc (suc (suc i))) (suc zero) both serial = refl
 one m (suc (suc (suc i))) (suc (suc zero)) both serial = never m both.second.ready both.first.ready
 one m (suc (suc (suc i))) (suc (suc (suc j))) both serial = same_node m i j both
+
+same_line_of : (m : Counts) (j k : ℕ) → Both m j k → line_of (after_node m j) k ≡ line_of m k
+same_line_of m j zero both = refl
+same_line_of m j (suc zero) both = refl
+same_line_of m zero (suc (suc zero)) both = refl
+same_line_of m (suc zero) (suc (suc zero)) both = refl
+same_line_of m (suc (suc zero)) (suc (suc zero)) both = absurd (both.differ refl)
+same_line_of m (suc (suc (suc i))) (suc (suc zero)) both = refl
+same_line_of m j (suc (suc (suc k))) both = refl
 
 same_trap_of : (m : Counts) (j k : ℕ) → Both m j k → trap_of (after_node m j).trapped ≡ None → trap_of (after_node (after_node m j) k).trapped ≡ trap_of (after_node m k).trapped
 same_trap_of m zero zero both none = refl
@@ -111,12 +122,6 @@ quiet : (m : Counts) (k : ℕ) → CanFire counter_moves m k → is_serial k ≡
 quiet m zero can not = record { line = refl; trap = can.going }
 quiet m (suc zero) can not = record { line = refl; trap = can.going }
 quiet m (suc (suc k)) can not = absurd cc
-
-adds : (m : Counts) (k : ℕ) → ticks (after_node m k).written ≡ ticks m.written ++ line_bytes (line_of k)
-adds m zero = sym (append-nil (ticks m.written))
-adds m (suc zero) = sym (append-nil (ticks m.written))
-adds m (suc (suc zero)) = rw add-one refl
-adds m (suc (suc (suc k))) = sym (append-nil (ticks m.written))
 
 pub stays_small : (m : Counts) (k : ℕ) → AreSmall m → CanFire counter_moves m k → AreSmall (after_node m k)
 stays_small m zero small can =
@@ -139,9 +144,8 @@ counter_laws = record {
   either_order = either;
   stays_ready = stays;
   one_serial = one;
-  same_line = λ m j k both none. refl;
+  same_line = λ m j k both none. same_line_of m j k both;
   same_trap = same_trap_of;
   silent = λ m k small can not. quiet m k can not;
-  written = λ m k small can. adds m k;
   stays_sound = λ m k small can. stays_small m k small can;
 }

@@ -1,5 +1,5 @@
 -- What the counters do: a feeder gives to a counter and to a writer, and too many lines trap.
-use Rattle.std.specs.Prelude.{◌+◌, ◌-◌, ◌<◌, ◌^◌, ◌&&◌, ℕ, zero, suc, Bool, true, false, nat_lt, nat_eq, if◌then◌else◌, List, [], ◌∷◌, ◌++◌, Option, Some, None, codes}
+use Rattle.std.specs.Prelude.{◌+◌, ◌-◌, ◌<◌, ◌%◌, ◌^◌, ◌&&◌, ℕ, zero, suc, Bool, true, false, nat_lt, nat_eq, List, [], ◌∷◌, Option, Some, None}
 use Rattle.op_table.specs.declared.Trap.{Trap}
 use Rattle.op_table.specs.declared.Trap.TheVariants.{Overflow}
 use Rattle.firing.specs.declared.system.NodeName.{NodeName}
@@ -7,13 +7,9 @@ use Rattle.firing.specs.declared.system.NodeName.TheVariants.{Act, Merge, Switch
 use Rattle.firing.specs.Moves.{Moves}
 use Rattle.counter_nets.specs.declared.counts.Counts.{Counts}
 
-abbrev pub tick : List ℕ
-tick = codes "tick\n"
-
--- so many lines
-abbrev pub ticks : ℕ → List ℕ
-ticks zero = []
-ticks (suc n) = ticks n ++ tick
+-- the line number n, counted from 0: a letter
+abbrev pub letter_line : ℕ → List ℕ
+letter_line n = (65 + n % 26) ∷ 10 ∷ []
 
 abbrev pub name_of : ℕ → NodeName
 name_of zero = Act 5
@@ -39,9 +35,9 @@ after_node m (suc zero) = record m { left = m.left - 1; counted = m.counted + 1 
 after_node m (suc (suc zero)) = record m { right = m.right - 1; lines = m.lines - 1; written = m.written + 1 }
 after_node m _ = record m { trapped = true }
 
-abbrev pub line_of : ℕ → Option (List ℕ)
-line_of (suc (suc zero)) = Some tick
-line_of _ = None
+abbrev pub line_of : Counts → ℕ → Option (List ℕ)
+line_of m (suc (suc zero)) = Some (letter_line m.written)
+line_of m _ = None
 
 abbrev pub trap_of : Bool → Option (Trap × ℕ)
 trap_of true = Some (Overflow, 12)
@@ -54,8 +50,7 @@ counter_moves = record {
   serial = is_serial;
   ready = is_ready;
   fired = after_node;
-  line = λ m k. line_of k;
-  out = λ m. ticks m.written;
+  line = line_of;
   trap = λ m. trap_of m.trapped;
 }
 
@@ -64,31 +59,8 @@ pub record AreSmall (m : Counts) : Type 0 where
   pub counter_side : m.supply + m.left + m.counted < 2 ^ 32
   pub writer_side : m.supply + m.right + m.written < 2 ^ 32
 
--- ---- the own order: the highest ready node, until another one fires; from then on the lowest
-
-abbrev pub lowest : Counts → Option ℕ
-lowest m = if is_ready m 0 then Some 0 else (if is_ready m 1 then Some 1 else (if is_ready m 2 then Some 2 else (if is_ready m 3 then Some 3 else None)))
-
-abbrev pub highest : Counts → Option ℕ
-highest m = if is_ready m 3 then Some 3 else (if is_ready m 2 then Some 2 else (if is_ready m 1 then Some 1 else (if is_ready m 0 then Some 0 else None)))
-
-abbrev pub due_of : Counts → Bool → Option ℕ
-due_of m in_order = if in_order then highest m else lowest m
-
-abbrev pub is_some_node : Option ℕ → ℕ → Bool
-is_some_node None k = false
-is_some_node (Some j) k = nat_eq j k
-
-abbrev pub order_after : Counts → Bool → ℕ → Bool
-order_after m in_order k = in_order && is_some_node (highest m) k
-
 -- what firing a node can make ready
 abbrev pub woken_by : ℕ → List ℕ
 woken_by zero = 1 ∷ 2 ∷ 3 ∷ []
 woken_by (suc (suc zero)) = 3 ∷ []
 woken_by _ = []
-
--- the line of the last firing that wrote one
-abbrev pub last_of : ℕ → List ℕ
-last_of zero = []
-last_of (suc n) = tick

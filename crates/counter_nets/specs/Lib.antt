@@ -1,5 +1,8 @@
--- The meaning of the counters, their laws, and the rivals.
+-- The meaning of the counters, their laws, the readers of one word, and the rivals.
 pub mod Counting
 pub mod CounterLaws
 pub mod CounterOrder
+pub mod ForkLaws
+pub mod Forks
 pub mod Rivals
+pub mod Turns

@@ -1,5 +1,5 @@
 -- Two rivals for one token: whichever fires first, the other one can't any more.
-use Rattle.std.proofs.Common.{◌≡◌, ◌<◌, ℕ, true, false, [], None, refl, arith}
+use Rattle.std.proofs.Common.{◌≡◌, ◌<◌, ℕ, true, false, None, refl, arith}
 use Rattle.firing.specs.declared.system.NodeName.TheVariants.{Act}
 use Rattle.firing.specs.Laws.{IsLawful, AreReady}
 use Rattle.firing.specs.Moves.{Moves, CanFire}
@@ -14,7 +14,6 @@ rivals = record {
   ready = λ m k. m.free;
   fired = λ m k. record { free = false; winner = k };
   line = λ m k. None;
-  out = λ m. [];
   trap = λ m. None;
 }
 
@@ -29,4 +28,4 @@ both : (sound : Token → Type 0) → sound free_token → AreReady sound rivals
 both sound is_sound = record { is_sound = is_sound; differ = λ e. absurd cc; first = can 0 (omega arith); second = can 1 (omega arith) }
 
 pub no_laws : (sound : Token → Type 0) → sound free_token → IsLawful sound rivals → ⊥
-no_laws sound is_sound lawful = let stays : false ≡ true = lawful.stays_ready free_token 0 1 (both sound is_sound) refl in absurd cc
+no_laws sound is_sound lawful = let stays : false ≡ true = lawful.stays_ready free_token 0 1 (both sound is_sound) in absurd cc

@@ -1,6 +1,6 @@
-ghost use Rattle.std.specs.Prelude.{◌≡◌, length};
+ghost use Rattle.std.specs.Prelude.{◌≡◌, ◌≤◌, ◌+◌, ◌%◌, length};
 
-use crate::Counts;
+use crate::{Counts, Turn};
 use df_io::NoMemory;
 use firing::{Fired, NodeName, ReadySet, SourceOrder, StepSystem};
 use op_table::Trap;
@@ -10,19 +10,26 @@ use std::alloc::Global;
 #[derive(Drop)]
 pub struct Counters {
     counts: Counts,
-    in_order: bool,
+    turn: Option<Turn>,
     last_fired: u32,
+    text: [u8; 2],
+    len: usize,
     set: ReadySet,
     ghost room: { length set ≡ 4 },
+    ghost short: { len ≤ 2 },
+    ghost text_room: { length text ≡ 2 },
 }
 
 impl Counters {
-    ghost use Rattle.std.specs.Prelude.{◌≡◌, ◌<◌, ◌^◌, IfOk, false, true};
+    ghost use Rattle.std.specs.Prelude.{◌≡◌, [], IfOk, Some, false, take};
+    ghost use Rattle.firing.specs.Control.{steered};
+    ghost use Rattle.counter_nets.specs.Turns.{counter_course};
 
     /// The counters before any firing: the feeder fires at most `supply` times, the writer at most `lines` times.
     pub fn new(alloc: Global, supply: u32, lines: u32) -> Result<Counters, NoMemory>
         ensures counts { IfOk result (λ c. c.counts ≡ record { supply = supply; left = 0; right = 0; lines = lines; counted = 0; written = 0; trapped = false }) }
-        ensures order { IfOk result (λ c. c.in_order ≡ true) }
+        ensures turn { IfOk result (λ c. c.turn ≡ Some Turn.Feed) }
+        ensures last { IfOk result (λ c. take c.len c.text ≡ []) }
     {
         let set = ReadySet::with_room(alloc, 4)?;
         let counts = Counts {
@@ -36,36 +43,58 @@ impl Counters {
         };
         Ok(Counters {
             counts,
-            in_order: true,
+            turn: Some(Turn::Feed),
             last_fired: 1,
+            text: [0, 0],
+            len: 0,
             set,
         })
     }
+
+    // The turn after a node fires.
+    fn turn_after(&self, k: u32) -> Option<Turn>
+        ensures { result ≡ steered counter_course self.now.counts self.now.turn k }
+    {
+        match self.turn {
+            Some(turn) if self.counts.due(turn) == Some(k) => Some(turn.next()),
+            _ => None,
+        }
+    }
+}
+
+// The letter of the line with this number.
+fn letter(number: u32) -> u8
+    ensures { result ≡ 65 + number % 26 }
+{
+    b'A' + (number % 26) as u8
 }
 
 impl StepSystem for Counters {
-    ghost use Rattle.std.specs.Prelude.{◌≡◌, ◌<◌, ⊤, Bool, true, None, set as set_at, length};
+    ghost use Rattle.std.specs.Prelude.{◌≡◌, ◌<◌, ⊤, true, None, set as set_at, length, take};
+    ghost use Rattle.firing.specs.Control.{IsInStep, steered};
     ghost use Rattle.firing.specs.Marks.{Wakes};
     ghost use Rattle.firing.specs.Moves.{FiredIs, newest};
     ghost use Rattle.firing.specs.ReadySet.{IsMemberAt, member_count};
     ghost use Rattle.counter_nets.specs.declared.counts.Counts.{Counts as Marking_of};
-    ghost use Rattle.counter_nets.specs.Counting.{AreSmall, counter_moves, due_of, last_of, order_after, woken_by};
-    ghost use Rattle.counter_nets.specs.CounterOrder.{anywhere};
+    ghost use Rattle.counter_nets.specs.declared.turn.Turn.{Turn as Place_of};
+    ghost use Rattle.counter_nets.specs.Counting.{AreSmall, counter_moves, woken_by};
+    ghost use Rattle.counter_nets.specs.Turns.{counter_course, in_turn};
+    ghost use Rattle.counter_nets.specs.CounterOrder.{counter_control};
     ghost use Rattle.counter_nets.specs.CounterLaws.{counter_laws};
 
     ghost Net = { ⊤ };
 
     ghost Marking = { Marking_of };
 
-    ghost Control = { Bool };
+    ghost Place = { Place_of };
 
     ghost net = { λ _. tt };
 
     ghost marking = { λ s. s.counts };
 
-    ghost control = { λ s. s.in_order };
+    ghost place = { λ s. s.turn };
 
-    ghost last = { λ s. last_of s.counts.written };
+    ghost last = { λ s. take s.len s.text };
 
     ghost woken = { λ s. woken_by s.last_fired };
 
@@ -75,11 +104,9 @@ impl StepSystem for Counters {
 
     ghost moves = { λ _. counter_moves };
 
-    ghost steered = { λ _. order_after };
+    ghost course = { λ _. counter_course };
 
-    ghost in_step = { λ _. anywhere };
-
-    ghost due_node = { λ _. due_of };
+    ghost in_step = { λ _. in_turn };
 
     fn nodes(&self) -> u32 {
         4
@@ -90,17 +117,17 @@ impl StepSystem for Counters {
     }
 
     fn fire(&mut self, k: u32) -> Fired {
-        self.in_order = self.in_order && self.counts.highest() == Some(k);
+        self.turn = self.turn_after(k);
         self.last_fired = k;
+        if k == 2 {
+            self.text = [letter(self.counts.written), b'\n'];
+            self.len = 2;
+        }
         self.counts.fire(k)
     }
 
     fn line(&self) -> &[u8] {
-        if self.counts.written == 0 {
-            &[]
-        } else {
-            b"tick\n"
-        }
+        &self.text[..self.len]
     }
 
     fn woken(&self) -> &[u32] {
@@ -141,16 +168,21 @@ impl StepSystem for Counters {
     }
 
     ghost lawful = { λ _. counter_laws };
+
+    ghost steady = { λ _. counter_control };
 }
 
 impl SourceOrder for Counters {
     ghost use Rattle.counter_nets.specs.CounterOrder.{counter_order};
 
+    fn has_control(&self) -> bool {
+        self.turn.is_some()
+    }
+
     fn due(&self) -> Option<u32> {
-        if self.in_order {
-            self.counts.highest()
-        } else {
-            self.counts.lowest()
+        match self.turn {
+            Some(turn) => self.counts.due(turn),
+            None => None,
         }
     }
 

@@ -1,3 +1,4 @@
+use crate::Turn;
 use firing::Fired;
 
 /// What the nodes of the counters have to work on.
@@ -22,7 +23,8 @@ pub struct Counts {
 impl Counts {
     ghost use Rattle.std.specs.Prelude.{◌≡◌, ◌<◌, false, true};
     ghost use Rattle.firing.specs.Moves.{FiredIs};
-    ghost use Rattle.counter_nets.specs.Counting.{AreSmall, after_node, counter_moves, highest, is_ready, lowest};
+    ghost use Rattle.counter_nets.specs.Counting.{AreSmall, after_node, counter_moves, is_ready};
+    ghost use Rattle.counter_nets.specs.Turns.{due_in};
 
     // Whether a node has all that it needs.
     pub(crate) fn is_ready(&self, k: u32) -> bool
@@ -36,37 +38,14 @@ impl Counts {
         }
     }
 
-    // The lowest ready node.
-    pub(crate) fn lowest(&self) -> Option<u32>
-        ensures { result ≡ lowest self.now }
+    // The node that is due at a turn.
+    pub(crate) fn due(&self, turn: Turn) -> Option<u32>
+        ensures { result ≡ due_in self.now turn }
     {
-        if self.is_ready(0) {
-            Some(0)
-        } else if self.is_ready(1) {
-            Some(1)
-        } else if self.is_ready(2) {
-            Some(2)
-        } else if self.is_ready(3) {
-            Some(3)
-        } else {
-            None
-        }
-    }
-
-    // The highest ready node.
-    pub(crate) fn highest(&self) -> Option<u32>
-        ensures { result ≡ highest self.now }
-    {
-        if self.is_ready(3) {
-            Some(3)
-        } else if self.is_ready(2) {
-            Some(2)
-        } else if self.is_ready(1) {
-            Some(1)
-        } else if self.is_ready(0) {
-            Some(0)
-        } else {
-            None
+        match turn {
+            Turn::Feed => { if 0 < self.supply { Some(0) } else { None } }
+            Turn::Write => Some(if 0 < self.lines { 2 } else { 3 }),
+            Turn::Count => Some(1),
         }
     }
 

@@ -24,6 +24,3 @@ pub use std_sink::StdSink;
 pub use std_source::StdSource;
 pub use text_buffer::TextBuffer;
 pub use write::{WriteFault, write_all};
-
-#[cfg(test)]
-mod tests;

@@ -9,8 +9,8 @@ use crate::{ExprEnd, Parsed, ReadEnd, ReadExpr};
 use df_sequence::CharList;
 use std::alloc::Global;
 
-// The most brackets that may be open.
-const DEEPEST: usize = 60;
+/// The most brackets that may be open in a statement.
+pub const DEEPEST_ALLOWED: usize = 60;
 
 /// What is open where a scan stands: a character constant or none, and how many brackets.
 #[derive(Clone, Copy)]
@@ -84,8 +84,10 @@ fn piece_in_front(text: &[u8]) -> Piece<'_>
 
 /// The expression in a piece of a text, for a reader that goes on behind it (ANSI X3.9-1978, section 6). The piece runs
 /// from the place `from`, counted in characters from 0, to the first `,`, `)`, `=` or `:` outside brackets and character
-/// constants, or to the end. How deep its brackets are isn't tested, and an expression with a constant above 2147483647 is
-/// read to its end.
+/// constants, or to the end. An expression with a constant above 2147483647 is read to its end.
+///
+/// How deep its brackets are isn't tested, though calls are nested as deep as brackets and chains of `**` are. In a
+/// statement of at most 1,320 characters these are few enough; 5,000 of them, one in another, overflow the stack.
 ///
 /// # Errors
 ///
@@ -118,13 +120,13 @@ fn in_range(read: ReadExpr) -> Result<Parsed, ExprEnd>
 ///
 /// The first of these that holds: TooDeep where more than 60 brackets are open at some place of the piece, NoForm where
 /// the piece is no expression, BadConstant where a constant in it is above 2147483647. NoMemory may come in place of any
-/// answer but TooDeep.
+/// answer.
 pub fn parse_expr(alloc: Global, text: &CharList, from: u32) -> Result<Parsed, ExprEnd>
     requires { from ≤ length text.now }
     ensures { IsParsed (spec_piece (drop from text.now)) from result }
 {
     let piece = piece_in_front(&text.as_bytes()[from as usize..]);
-    if piece.depth > DEEPEST {
+    if piece.depth > DEEPEST_ALLOWED {
         return Err(ExprEnd::TooDeep);
     }
     match read_piece(alloc, piece.text, from) {

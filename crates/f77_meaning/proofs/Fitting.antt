@@ -1,5 +1,5 @@
 -- Expressions that fit, by what their operands and subscripts are.
-use Rattle.std.proofs.Common.{◌≡◌, ℕ, zero, suc, ◌<◌, List, [], ◌∷◌, length, get_or, All, refl, sym, ap, subst, ◌∙◌, arith}
+use Rattle.std.proofs.Common.{◌≡◌, zero, suc, List, [], ◌∷◌, length, All, refl, sym, ap, subst, ◌∙◌, arith}
 use mathlib.Core.Former.{Count}
 use Rattle.op_table.specs.declared.Op.{Op}
 use Rattle.op_table.specs.Operators.{arity_of}

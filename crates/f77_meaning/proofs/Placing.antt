@@ -1,9 +1,9 @@
 -- Names whose words lie in a store.
-use Rattle.std.proofs.Common.{◌≡◌, ℕ, zero, suc, ◌+◌, ◌<◌, ℤ, pos, ◌+ℤ◌, ◌-ℤ◌, ◌*ℤ◌, ◌≤ℤ◌, List, [], ◌∷◌, length, get_or, All, sym, subst, arith}
+use Rattle.std.proofs.Common.{◌≡◌, ℕ, zero, suc, ◌<◌, pos, ◌+ℤ◌, ◌-ℤ◌, ◌≤ℤ◌, List, [], ◌∷◌, length, get_or, All, subst, arith}
 use Rattle.std.proofs.lemmas.Int.{ints}
 use Rattle.f77_tree.specs.declared.declarations.Dim.{Dim}
 use Rattle.f77_tree.specs.declared.programs.NameInfo.{NameInfo}
-use Rattle.f77_tree.specs.Value.{extent, size_of, IsPlaced}
+use Rattle.f77_tree.specs.Value.{size_of, IsPlaced}
 
 pub record IsSpan (place words : ℕ) (dims : List Dim) : Type 0 where
   pub bounds : All (λ dim. dim.lo ≤ℤ dim.hi) dims

@@ -9,11 +9,9 @@ mod stepper;
 mod storage;
 mod taking;
 
-pub use line::write_line;
-pub use room::most_room;
+pub use executing::{assign, execute};
+pub use line::{write_line, write_values};
+pub use room::{longest_line, room_of_line};
 pub use stepper::{Stepped, Stepper};
+pub use storage::{Storage, begin, following, increment, initial_storage, word_in};
 
-#[cfg(test)]
-mod runnable;
-#[cfg(test)]
-mod tests;

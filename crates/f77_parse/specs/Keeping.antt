@@ -260,6 +260,13 @@ variable_kept bad text = keep_then (name_kept bad text) (λ name bad_now rest.
     (λ behind. keep_then (closed_list expression_kept bad_now behind) (λ subs bad_then more. Some (Call name subs, bad_then, more)))
     (Some (Named name, bad_now, rest)))
 
+-- names between brackets, of which there may be none, or nothing
+unfoldable pub names_kept : Bool → List ℕ → Keeps (List (List ℕ))
+names_kept bad text =
+    where_front (after_front (codes "(") text)
+    (λ inside. where_front (after_front (codes ")") inside) (λ rest. Some ([], bad, rest)) (closed_list name_kept bad inside))
+    (Some ([], bad, text))
+
 -- the next character of a character constant, or none where the apostrophe that closes it stands
 unfoldable pub next_character_kept : Bool → List ℕ → Keeps (Option ℕ)
 next_character_kept bad text =

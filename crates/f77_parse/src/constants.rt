@@ -1,14 +1,12 @@
 //! Constants, labels and repeats (ANSI X3.9-1978, sections 3.4, 4.3 and 9). One that is out of range is told, and kept as 0.
 
 ghost use Rattle.std.specs.Prelude.{◌≡◌, ◌||◌, pos};
-ghost use Rattle.f77_parse.specs.Keeping.{kept_list, constant_in, is_great_number, label_in, is_no_label, repeat_in, is_no_repeat, label_kept, signed_kept, truth_kept, constant_kept, value_kept};
+ghost use Rattle.f77_parse.specs.Keeping.{constant_in, is_great_number, label_in, is_no_label, repeat_in, is_no_repeat, label_kept, signed_kept, truth_kept, constant_kept, value_kept};
 ghost use Rattle.f77_parse.specs.Answers.{Gives, Shortens};
 
 use crate::reader::Reader;
-use df_sequence::{LabelList, NumList, Sequence};
 use f77_expr::ReadEnd;
-use f77_tree::{InitValue, InitValueList, Lit};
-use std::alloc::Global;
+use f77_tree::{InitValue, Lit};
 
 /// The greatest integer constant.
 const GREATEST: u32 = 2147483647;
@@ -60,19 +58,6 @@ impl<'a> Reader<'a> {
         Ok(self.label_of(number))
     }
 
-    /// Labels with commas between them.
-    pub(crate) fn labels(&mut self, alloc: Global) -> Result<LabelList, ReadEnd>
-        ensures gives { Gives (kept_list label_kept self.old.is_bad self.old.rest.now) result self.new.is_bad self.new.rest.now }
-        ensures shorter { Shortens result self.old.rest.now self.new.rest.now }
-    {
-        let mut list = Sequence::new(alloc);
-        list.push(self.label()?)?;
-        while self.passes_comma() {
-            list.push(self.label()?)?;
-        }
-        Ok(list)
-    }
-
     /// A number with a sign or without.
     #[tactic(auto, unfolding(crate::specs::Keeping::signed_kept))]
     pub(crate) fn signed(&mut self) -> Result<i32, ReadEnd>
@@ -86,19 +71,6 @@ impl<'a> Reader<'a> {
         self.skips(b"+");
         let number = self.number()?;
         Ok(self.constant_of(number))
-    }
-
-    /// Numbers with commas between them.
-    pub(crate) fn signed_list(&mut self, alloc: Global) -> Result<NumList, ReadEnd>
-        ensures gives { Gives (kept_list signed_kept self.old.is_bad self.old.rest.now) result self.new.is_bad self.new.rest.now }
-        ensures shorter { Shortens result self.old.rest.now self.new.rest.now }
-    {
-        let mut list = Sequence::new(alloc);
-        list.push(self.signed()?)?;
-        while self.passes_comma() {
-            list.push(self.signed()?)?;
-        }
-        Ok(list)
     }
 
     /// A logical constant.
@@ -129,7 +101,7 @@ impl<'a> Reader<'a> {
 
     /// A constant of DATA, alone or repeated. Digits before an asterisk are a repeat, and others are the constant.
     #[tactic(auto, unfolding(crate::specs::Keeping::value_kept))]
-    fn value(&mut self) -> Result<InitValue, ReadEnd>
+    pub(crate) fn value(&mut self) -> Result<InitValue, ReadEnd>
         ensures gives { Gives (value_kept self.old.is_bad self.old.rest.now) result self.new.is_bad self.new.rest.now }
         ensures shorter { Shortens result self.old.rest.now self.new.rest.now }
     {
@@ -151,18 +123,5 @@ impl<'a> Reader<'a> {
                 value: Lit::Int(self.constant_of(number)),
             })
         }
-    }
-
-    /// Constants of DATA with commas between them.
-    pub(crate) fn values(&mut self, alloc: Global) -> Result<InitValueList, ReadEnd>
-        ensures gives { Gives (kept_list value_kept self.old.is_bad self.old.rest.now) result self.new.is_bad self.new.rest.now }
-        ensures shorter { Shortens result self.old.rest.now self.new.rest.now }
-    {
-        let mut list = Sequence::new(alloc);
-        list.push(self.value()?)?;
-        while self.passes_comma() {
-            list.push(self.value()?)?;
-        }
-        Ok(list)
     }
 }

@@ -7,7 +7,7 @@ use Rattle.firing.specs.Laws.{IsLawful}
 use Rattle.firing.specs.Marks.{AreReadyMarks, Retested, Wakes}
 use Rattle.firing.specs.Moves.{Moves, CanFire}
 use Rattle.firing.specs.Orders.{IsOver, counted}
-use Rattle.firing.specs.Play.{ready_below, chosen}
+use Rattle.firing.specs.Choice.{ready_below, chosen}
 use Rattle.firing.specs.ReadySet.{IsMemberAt, has, rank, member_count}
 use Rattle.firing.proofs.Pulling.{are_ready}
 use Rattle.firing.proofs.RankLemmas.{rank_member}
@@ -83,7 +83,7 @@ module _ {M : Type 0} (sound : M → Type 0) (s : Moves M) (lawful : IsLawful so
   as_before : (j : ℕ) (b : Bool) → j < s.nodes → j ≢ k → b ≡ s.ready m j → (Contains woken j → b ≡ s.ready (s.fired m k) j) → b ≡ s.ready (s.fired m k) j
   as_before j true node differ is tested =
       let other : CanFire s m j = record { going = can.going; node = node; ready = sym is } in
-      sym (lawful.stays_ready m k j (are_ready sound s lawful m k j is_sound (λ e. differ (sym e)) can other) none)
+      sym (lawful.stays_ready m k j (are_ready sound s lawful m k j is_sound (λ e. differ (sym e)) can other))
   as_before j false node differ is tested = ⊎_elim
       (λ (ready : s.ready (s.fired m k) j ≡ true). tested (wakes.all none j node differ (sym is) ready))
       (λ not. sym not)

@@ -1,10 +1,9 @@
 -- Counts of members by blocks: what they add up to, and how a member that comes or goes changes them.
-use Rattle.std.proofs.Common.{◌≡◌, ◌≢◌, ◌⊎◌, inl, inr, ℕ, zero, suc, ◌+◌, ◌-◌, ◌*◌, ◌/◌, ◌<◌, ◌≤◌, ◌^◌, Bool, true, false, List, length, get_or, set, replicate, refl, sym, ap, subst, ◌∙◌, ⊎_elim, add-one, arith, length-set}
+use Rattle.std.proofs.Common.{◌≡◌, ◌≢◌, ◌⊎◌, inl, inr, ℕ, zero, suc, ◌+◌, ◌-◌, ◌*◌, ◌/◌, ◌<◌, ◌≤◌, Bool, true, false, List, length, get_or, set, replicate, refl, sym, ap, subst, ◌∙◌, ⊎_elim, add-one, arith, length-set}
 use Rattle.std.proofs.lemmas.Bool.{cases_eq, cases_Bool, cases_lt}
-use Rattle.std.proofs.lemmas.List.{length-replicate, get_or_default, get_or_past, get_or-set_same, get_or-set_other}
-use Rattle.std.proofs.Math.Nat.{mul-suc, mul-zero, mul-le-mul_left, mul-le-mul_right}
-use mathlib.Core.Bool.{beq}
-use Rattle.firing.specs.BlockCounts.{AreCounts, IsCounted, before, shifted}
+use Rattle.std.proofs.lemmas.List.{length-replicate, get_or_past, get_or-set_same, get_or-set_other}
+use Rattle.std.proofs.Math.Nat.{mul-suc, mul-zero, mul-le-mul_left}
+use Rattle.firing.specs.BlockCounts.{AreCounts, IsCounted, IsInBlock, before, shifted}
 use Rattle.firing.specs.ReadySet.{has, rank, member_count}
 use Rattle.firing.proofs.RankLemmas.{HasOneMore, rank_past, rank_slow, rank_member, rank_short, rank_before, rank_after, rank_empty, more_put, more_taken}
 
@@ -181,12 +180,11 @@ total_put flags k false inside differ =
     omega (arith, more, same)
 
 module _ (flags : List Bool) (low mid high : List ℕ) (total : ℕ) (are : IsCounted flags low mid high total) where
-  pub all_put : (k : ℕ) (ready : Bool) → k < length flags → has flags k ≢ ready → IsCounted (set flags k ready) (set low (k / 32) (shifted (get_or low (k / 32) 0) ready)) (set mid (k / 1024) (shifted (get_or mid (k / 1024) 0) ready)) (set high (k / 32768) (shifted (get_or high (k / 32768) 0) ready)) (shifted total ready)
+  pub all_put : (k : ℕ) (ready : Bool) → k < length flags → has flags k ≢ ready → IsCounted (set flags k ready) (set low (k / 1024) (shifted (get_or low (k / 1024) 0) ready)) (set mid (k / 32768) (shifted (get_or mid (k / 32768) 0) ready)) (set high (k / 1048576) (shifted (get_or high (k / 1048576) 0) ready)) (shifted total ready)
   all_put k ready inside differ = record {
-    room = let room = are.room in let e = length-set flags k ready in omega (arith, room, e);
-    low_counts = counts_put 32 low flags k (k / 32) ready are.low_counts inside differ (omega arith) (omega arith);
-    mid_counts = counts_put 1024 mid flags k (k / 1024) ready are.mid_counts inside differ (omega arith) (omega arith);
-    high_counts = counts_put 32768 high flags k (k / 32768) ready are.high_counts inside differ (omega arith) (omega arith);
+    low_counts = counts_put 1024 low flags k (k / 1024) ready are.low_counts inside differ (omega arith) (omega arith);
+    mid_counts = counts_put 32768 mid flags k (k / 32768) ready are.mid_counts inside differ (omega arith) (omega arith);
+    high_counts = counts_put 1048576 high flags k (k / 1048576) ready are.high_counts inside differ (omega arith) (omega arith);
     all = ap (λ n. shifted n ready) are.all ∙ sym (total_put flags k ready inside differ);
   }
 
@@ -208,52 +206,9 @@ total_some flags k ready inside differ is =
     let more = rank_member flags k 0 (length flags) member (omega arith) inside in
     omega (arith, more)
 
--- ---- from the counts of one width to those of a smaller one
-
-pub record Descends (upper lower : List ℕ) (flags : List Bool) (width b : ℕ) : Type 0 where
-  pub inside : 32 * b ≤ length lower
-  pub same : before lower (32 * b) ≡ before upper b
-  pub few : width * (32 * b) < length flags
-
-times : (width b : ℕ) → 32 * width * b ≡ width * (32 * b)
-times width b = grind arith
-
-pub descends : (upper lower : List ℕ) (flags : List Bool) (width b left : ℕ) → AreCounts (32 * width) upper flags → AreCounts width lower flags → b < length upper → left < get_or upper b 0 → Descends upper lower flags width b
-descends upper lower flags width b left above below inside short =
-    let begins = block_begins (32 * width) upper flags above b left inside short in
-    let same = times width b in
-    let covered = below.covered in
-    let within : 32 * b ≤ length lower = ⊎_elim
-    (λ (past : length lower < 32 * b). let le : width * length lower ≤ width * (32 * b) = mul-le-mul_left width (omega (arith, past)) in absurd (omega (arith, begins, same, covered, le)))
-    (λ le. le)
-    (cases_lt (length lower) (32 * b)) in
-    record {
-      inside = within;
-      same = before_rank width lower flags below (32 * b) within ∙ ap (rank flags) (sym same) ∙ sym (before_rank (32 * width) upper flags above b (omega (arith, inside)));
-      few = omega (arith, begins, same);
-    }
-
--- ---- a write that changes a flag
-
-pub record Changes (flags : List Bool) (k : ℕ) (ready : Bool) : Type 0 where
-  pub inside : k < length flags
-  pub differs : has flags k ≢ ready
-
-not_same : (seen ready : Bool) → beq seen ready ≡ false → seen ≢ ready
-not_same true true e is = absurd cc
-not_same true false e is = absurd cc
-not_same false true e is = absurd cc
-not_same false false e is = absurd cc
-
-pub changes : (flags value : List Bool) (k : ℕ) (seen ready : Bool) → flags ≡ value → k < length value → seen ≡ get_or flags k seen → beq seen ready ≡ false → Changes flags k ready
-changes flags value k seen ready is inside here test =
-    let within : k < length flags = subst (λ xs. k < length xs) (sym is) inside in
-    let same : seen ≡ has flags k = here ∙ get_or_default flags k seen false within in
-    record { inside = within; differs = subst (λ b. b ≢ ready) same (not_same seen ready test) }
-
 -- ---- the empty set
 
-zeros : (n i : ℕ) → get_or {A = ℕ} (replicate n 0) i 0 ≡ 0
+pub zeros : (n i : ℕ) → get_or {A = ℕ} (replicate n 0) i 0 ≡ 0
 zeros zero i = get_or_past (replicate zero 0) i 0 (omega arith)
 zeros (suc n) zero = refl
 zeros (suc n) (suc i) = zeros n i
@@ -264,56 +219,56 @@ none_counted width room blocks enough = record {
   counted = λ b inside. let first = rank_empty room (width * b) in let last = rank_empty room (width * b + width) in let none = zeros blocks b in omega (arith, first, last, none);
 }
 
-pub empty_counted : (room : ℕ) → room < 2 ^ 32 → IsCounted (replicate room false) (replicate (room / 32 + 1) 0) (replicate (room / 1024 + 1) 0) (replicate (room / 32768 + 1) 0) 0
-empty_counted room fits = record {
-  room = rw length-replicate fits;
-  low_counts = none_counted 32 room (room / 32 + 1) (omega arith);
-  mid_counts = none_counted 1024 room (room / 1024 + 1) (omega arith);
-  high_counts = none_counted 32768 room (room / 32768 + 1) (omega arith);
+pub empty_counted : (room : ℕ) → IsCounted (replicate room false) (replicate (room / 1024 + 1) 0) (replicate (room / 32768 + 1) 0) (replicate (room / 1048576 + 1) 0) 0
+empty_counted room = record {
+  low_counts = none_counted 1024 room (room / 1024 + 1) (omega arith);
+  mid_counts = none_counted 32768 room (room / 32768 + 1) (omega arith);
+  high_counts = none_counted 1048576 room (room / 1048576 + 1) (omega arith);
   all = sym (rank_empty room (length (replicate room false)));
 }
 
--- ---- the search from the counts of one width to those of a smaller one, over slices of them
+-- ---- the search for a member, from the blocks of one width to those of a smaller one
 
-pub record Continues (ys : List ℕ) (first left place : ℕ) : Type 0 where
-  pub fits : first < 2 ^ 32
-  pub inside : first ≤ length ys
-  pub same : before ys first + left ≡ place
-  pub some : before ys first + left < before ys (length ys)
+module _ (flags : List Bool) (width place b left : ℕ) (within : place < member_count flags) (block : IsInBlock flags width place b left) where
+  pub block_few : width * b < length flags
+  block_few = ⊎_elim
+      (λ lt. lt)
+      (λ (past : length flags ≤ width * b). let all = rank_past flags (width * b) past in let start = block.start in absurd (omega (arith, within, all, start)))
+      (cases_lt (width * b) (length flags))
 
-module _ (flags : List Bool) (place : ℕ) (room : length flags < 2 ^ 32) (within : place < member_count flags) where
-  pub starts : (xs high : List ℕ) (width : ℕ) → AreCounts width high flags → xs ≡ high → 0 + place < before xs (length xs)
-  starts xs high width are is = let all : before xs (length xs) ≡ member_count flags = rw is (before_all width high flags are) in omega (arith, all, within)
+-- where a search through the counts of smaller blocks begins
+pub record Starts (counts : List ℕ) (first left place : ℕ) : Type 0 where
+  pub inside : first ≤ length counts
+  pub same : before counts first + left ≡ place
+  pub some : before counts first + left < before counts (length counts)
 
-  pub continues : (xs ys upper lower : List ℕ) (width b left : ℕ) → AreCounts (32 * width) upper flags → AreCounts width lower flags → 0 < width → xs ≡ upper → ys ≡ lower → b < length xs → before xs b + left ≡ place → left < get_or xs b 0 → Continues ys (32 * b) left place
-  continues xs ys upper lower width b left above below some is also inside same short =
-      let next = descends upper lower flags width b left above below (subst (λ zs. b < length zs) is inside) (subst (λ zs. left < get_or zs b 0) is short) in
-      let here : before ys (32 * b) ≡ before xs b = rw (is, also) next.same in
-      let all : before ys (length ys) ≡ member_count flags = rw also (before_all width lower flags below) in
-      let few = next.few in
-      let wide : 1 * (32 * b) ≤ width * (32 * b) = mul-le-mul_right (32 * b) some in
-      record {
-        fits = omega (arith, room, few, wide);
-        inside = subst (λ zs. 32 * b ≤ length zs) (sym also) next.inside;
-        same = omega (arith, here, same);
-        some = omega (arith, here, same, all, within);
-      }
+times : (ratio width b : ℕ) → ratio * width * b ≡ width * (ratio * b)
+times ratio width b = grind arith
 
-  pub record Ends (ys : List Bool) (first left : ℕ) : Type 0 where
-    pub fits : first < 2 ^ 32
-    pub inside : first ≤ length ys
-    pub same : rank ys first + left ≡ place
-    pub some : rank ys first + left < member_count ys
+module _ (width : ℕ) (counts : List ℕ) (flags : List Bool) (are : AreCounts width counts flags) (place : ℕ) (within : place < member_count flags) where
+  pub starts : (ratio b left : ℕ) → IsInBlock flags (ratio * width) place b left → Starts counts (ratio * b) left place
+  starts ratio b left block =
+      let few = block_few flags (ratio * width) place b left within block in
+      let turned = times ratio width b in
+      let covered = are.covered in
+      let inside : ratio * b ≤ length counts = ⊎_elim
+      (λ (past : length counts < ratio * b). let le : width * length counts ≤ width * (ratio * b) = mul-le-mul_left width (omega (arith, past)) in absurd (omega (arith, few, turned, covered, le)))
+      (λ le. le)
+      (cases_lt (length counts) (ratio * b)) in
+      let same : before counts (ratio * b) ≡ rank flags (ratio * width * b) = before_rank width counts flags are (ratio * b) inside ∙ ap (rank flags) (sym turned) in
+      let start = block.start in
+      let all = before_all width counts flags are in
+      record { inside = inside; same = omega (arith, same, start); some = omega (arith, same, start, all, within) }
 
-  pub ends : (xs low : List ℕ) (ys : List Bool) (b left : ℕ) → AreCounts 32 low flags → xs ≡ low → ys ≡ flags → b < length xs → before xs b + left ≡ place → left < get_or xs b 0 → Ends ys (32 * b) left
-  ends xs low ys b left are is also inside same short =
-      let begins = block_begins 32 low flags are b left (subst (λ zs. b < length zs) is inside) (subst (λ zs. left < get_or zs b 0) is short) in
-      let there : b < length low = subst (λ zs. b < length zs) is inside in
-      let here : rank ys (32 * b) ≡ before xs b = rw (is, also) (sym (before_rank 32 low flags are b (omega (arith, there)))) in
-      let all : member_count ys ≡ member_count flags = ap member_count also in
-      record {
-        fits = omega (arith, room, begins);
-        inside = subst (λ zs. 32 * b ≤ length zs) (sym also) (omega (arith, begins));
-        same = omega (arith, here, same);
-        some = omega (arith, here, same, all, within);
-      }
+  pub starts_first : Starts counts 0 place place
+  starts_first = record { inside = omega arith; same = omega arith; some = let all = before_all width counts flags are in omega (arith, all, within) }
+
+  pub found : (b left : ℕ) → b < length counts → before counts b + left ≡ place → left < get_or counts b 0 → IsInBlock flags width place b left
+  found b left inside same short =
+      let rank_is = before_rank width counts flags are b (omega (arith, inside)) in
+      let next = are.counted b inside in
+      record { start = omega (arith, same, rank_is); end = omega (arith, same, rank_is, next, short) }
+
+-- counts in a slice, and a set as its callers see it
+pub counts_of : (width : ℕ) (slice counts : List ℕ) (flags value : List Bool) → slice ≡ counts → flags ≡ value → AreCounts width counts flags → AreCounts width slice value
+counts_of width slice counts flags value is seen are = subst (λ xs. AreCounts width xs value) (sym is) (subst (λ set. AreCounts width counts set) seen are)

@@ -1,11 +1,11 @@
 -- An order with no more serial firings than another one has written no more.
-use Rattle.std.proofs.Common.{◌≡◌, ◌≢◌, ℕ, ◌+◌, ◌≤◌, true, false, List, [], ◌∷◌, None, refl, sym, ap, subst, ◌∙◌, ⊎_elim, arith}
+use Rattle.std.proofs.Common.{◌≡◌, ◌≢◌, ℕ, ◌+◌, ◌++◌, ◌≤◌, true, false, List, [], ◌∷◌, None, refl, sym, ap, ◌∙◌, append_assoc, ⊎_elim, arith}
 use Rattle.std.proofs.lemmas.Bool.{cases_eq, cases_Bool}
 use Rattle.firing.specs.Laws.{IsLawful}
-use Rattle.firing.specs.Moves.{Moves, CanFire}
-use Rattle.firing.specs.Orders.{IsOrder, IsPrefix, IsBehind, after, counted, serial_count}
-use Rattle.firing.proofs.Pulling.{FiresIn, FiresBeside, are_ready, still, swapped, beside_trap, prepend_line, pulled}
-use Rattle.firing.proofs.Resting.{none_before, out_grows, sound_after}
+use Rattle.firing.specs.Moves.{Moves, CanFire, line_bytes}
+use Rattle.firing.specs.Orders.{IsOrder, IsPrefix, IsBehind, after, counted, serial_count, written}
+use Rattle.firing.proofs.Pulling.{FiresIn, FiresBeside, are_ready, still, swapped, beside_trap, pulled}
+use Rattle.firing.proofs.Resting.{none_before}
 use Rattle.firing.proofs.Trapping.{cases_trap}
 
 module _ {M : Type 0} (sound : M → Type 0) (s : Moves M) (lawful : IsLawful sound s) where
@@ -30,9 +30,9 @@ module _ {M : Type 0} (sound : M → Type 0) (s : Moves M) (lawful : IsLawful so
           (λ (serial : s.serial j ≡ false). let here : counted (s.serial j) ≡ 0 = ap counted serial in omega (arith, here, next))
           (cases_Bool (s.serial j))
 
-  -- a node that isn't serial writes nothing
-  written_nothing : (m : M) (k : ℕ) → sound m → CanFire s m k → s.serial k ≡ false → s.out (s.fired m k) ≡ s.out m
-  written_nothing m k is_sound can not = lawful.written m k is_sound can ∙ prepend_line sound s lawful (s.out m) (s.line m k) (lawful.silent m k is_sound can not).line
+  -- a line more in front of both
+  prefix_after : (line a b c : List ℕ) → line ++ b ≡ c → IsPrefix a b → IsPrefix (line ++ a) c
+  prefix_after line a b c is p = record { more = p.more; is = sym is ∙ ap (λ bytes. line ++ bytes) p.is ∙ sym (append_assoc line a p.more) }
 
   is_serial : (k : ℕ) (n : ℕ) → counted (s.serial k) + n ≤ 0 → s.serial k ≡ false
   is_serial k n le = ⊎_elim
@@ -42,16 +42,16 @@ module _ {M : Type 0} (sound : M → Type 0) (s : Moves M) (lawful : IsLawful so
 
   -- the other order holds the first firing
   behind-in : (m : M) (k : ℕ) (ks others : List ℕ) (fires : FiresIn s m k others) → IsBehind s (s.fired m k) ks fires.rest → IsBehind s m (k ∷ ks) others
-  behind-in m k ks others fires b = record { no_trap = b.no_trap; prefix = subst (λ x. IsPrefix (s.out (after s (s.fired m k) ks)) (s.out x)) fires.is b.prefix }
+  behind-in m k ks others fires b = record { no_trap = b.no_trap; prefix = prefix_after (line_bytes (s.line m k)) (written s (s.fired m k) ks) (written s (s.fired m k) fires.rest) (written s m others) fires.lines b.prefix }
 
   -- it doesn't, and the first firing isn't serial
-  behind-beside : (m : M) (k : ℕ) (ks others : List ℕ) → sound m → IsOrder s m others → s.trap (after s m others) ≡ None → s.serial k ≡ false → FiresBeside s m k others → IsBehind s (s.fired m k) ks others → IsBehind s m (k ∷ ks) others
-  behind-beside m k ks others is_sound order none not fires b =
-      let same : s.out (after s (s.fired m k) others) ≡ s.out (after s m others) = ap s.out fires.is ∙ written_nothing (after s m others) k (sound_after sound s lawful m others is_sound order) (fires.can none) not in
-      record { no_trap = b.no_trap; prefix = subst (λ bytes. IsPrefix (s.out (after s (s.fired m k) ks)) bytes) same b.prefix }
+  behind-beside : (m : M) (k : ℕ) (ks others : List ℕ) → sound m → CanFire s m k → s.serial k ≡ false → FiresBeside s m k others → IsBehind s (s.fired m k) ks others → IsBehind s m (k ∷ ks) others
+  behind-beside m k ks others is_sound can not fires b =
+      let same : line_bytes (s.line m k) ++ written s (s.fired m k) others ≡ written s m others = ap (λ l. line_bytes l ++ written s (s.fired m k) others) (lawful.silent m k is_sound can not).line ∙ fires.same_lines in
+      record { no_trap = b.no_trap; prefix = prefix_after (line_bytes (s.line m k)) (written s (s.fired m k) ks) (written s (s.fired m k) others) (written s m others) same b.prefix }
 
   pub behind : (m : M) (ks others : List ℕ) → sound m → IsOrder s m ks → IsOrder s m others → s.trap (after s m others) ≡ None → serial_count s ks ≤ serial_count s others → IsBehind s m ks others
-  behind m [] others is_sound order other none le = record { no_trap = none_before s m others other none; prefix = out_grows sound s lawful m others is_sound other }
+  behind m [] others is_sound order other none le = record { no_trap = none_before s m others other none; prefix = record { more = written s m others; is = refl } }
   behind m (k ∷ ks) others is_sound (can, order) other none le = ⊎_elim (goes_on (λ apart mine there fewer. behind (s.fired m k) ks apart next order mine there fewer)) blocked (cases_trap s (s.trap (s.fired m k)))
     where
       next : sound (s.fired m k)
@@ -65,7 +65,7 @@ module _ {M : Type 0} (sound : M → Type 0) (s : Moves M) (lawful : IsLawful so
           (λ (serial : s.serial k ≡ true). let zero_others = fires.alone serial in is_serial k (serial_count s ks) (omega (arith, le, zero_others)))
           (λ (no : s.serial k ≡ false). no)
           (cases_Bool (s.serial k)) in
-          behind-beside m k ks others is_sound other none not fires (further others fires.order (fires.same_trap ∙ none) (omega (arith, le))))
+          behind-beside m k ks others is_sound can not fires (further others fires.order (fires.same_trap ∙ none) (omega (arith, le))))
           (pulled sound s lawful m k others is_sound can quiet other)
 
       blocked : s.trap (s.fired m k) ≢ None → IsBehind s m (k ∷ ks) others

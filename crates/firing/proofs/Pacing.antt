@@ -3,7 +3,7 @@ use Rattle.std.proofs.Common.{◌≡◌, ◌≢◌, ◌⊎◌, inl, inr, ℕ, su
 use Rattle.op_table.specs.declared.Trap.{Trap}
 use Rattle.firing.specs.Laws.{IsLawful}
 use Rattle.firing.specs.Moves.{Moves}
-use Rattle.firing.specs.Orders.{IsOrder, IsOver, IsWhole, IsPrefix, IsBehind, Settles, Traps, after, counted, serial_count}
+use Rattle.firing.specs.Orders.{IsOrder, IsOver, IsWhole, IsPrefix, IsBehind, Settles, Traps, after, counted, serial_count, written}
 use Rattle.firing.specs.Pacing.{Stage, Going, Done, Failed, StandsAt, IsBusy, IsPaced, WritesFront, EndsWith, TrapsWith, FollowsSource}
 use Rattle.firing.proofs.Counting.{behind}
 use Rattle.firing.proofs.Resting.{settles}
@@ -55,8 +55,13 @@ module _ {M : Type 0} (sound : M → Type 0) (s : Moves M) (lawful : IsLawful so
   settled : (n : ℕ) → stage n ≡ Done → Settles s start (length (own n)) (after s start (own n))
   settled n is = settles sound s lawful start (own n) is_sound (whole_own n (done n is)) (none_own n (done n is))
 
-  trapped : (n : ℕ) (trap : Trap × ℕ) → stage n ≡ Failed trap → Traps s start trap (s.out (after s start (own n)))
+  trapped : (n : ℕ) (trap : Trap × ℕ) → stage n ≡ Failed trap → Traps s start trap
   trapped n trap is = traps sound s lawful trap start (own n) is_sound (paced.order n) (failed n trap is)
+
+  own_output : (n : ℕ) (trap : Trap × ℕ) (is : stage n ≡ Failed trap) → (trapped n trap is).output ≡ written s start (own n)
+  own_output n trap is =
+      let whole : IsWhole s start (own n) = record { order = paced.order n; over = over_trap s (after s start (own n)) trap (failed n trap is) } in
+      sym ((trapped n trap is).same_output (own n) whole)
 
   -- an order that makes no fewer serial firings than these
   caught_up : (n count : ℕ) → stage n ≡ Going → (stage n ≢ Going) ⊎ (count ≤ serial_count s (own n)) → count ≤ serial_count s (own n)
@@ -66,12 +71,12 @@ module _ {M : Type 0} (sound : M → Type 0) (s : Moves M) (lawful : IsLawful so
   ahead : (n : ℕ) (ks : List ℕ) → IsOrder s start ks → stage n ≡ Going → serial_count s ks ≤ serial_count s (own n) → IsBehind s start ks (own n)
   ahead n ks order is fewer = behind sound s lawful start ks (own n) is_sound order (paced.order n) (quiet n is) fewer
 
-  front-by : (ks : List ℕ) → IsOrder s start ks → (b : IsBusy s own stage (serial_count s ks)) → IsStage (stage b.at) → WritesFront text (s.out (after s start ks))
-  front-by ks order b (IsGoing is) = record { steps = b.at; prefix = subst (λ bytes. IsPrefix (s.out (after s start ks)) bytes) (paced.written b.at) (ahead b.at ks order is (caught_up b.at (serial_count s ks) is b.enough)).prefix }
-  front-by ks order b (IsDone is) = record { steps = b.at; prefix = subst (λ bytes. IsPrefix (s.out (after s start ks)) bytes) (paced.written b.at) ((settled b.at is).prefix ks order) }
-  front-by ks order b (IsFailed trap is) = record { steps = b.at; prefix = subst (λ bytes. IsPrefix (s.out (after s start ks)) bytes) (paced.written b.at) ((trapped b.at trap is).prefix ks order) }
+  front-by : (ks : List ℕ) → IsOrder s start ks → (b : IsBusy s own stage (serial_count s ks)) → IsStage (stage b.at) → WritesFront text (written s start ks)
+  front-by ks order b (IsGoing is) = record { steps = b.at; prefix = subst (λ bytes. IsPrefix (written s start ks) bytes) (paced.lines b.at) (ahead b.at ks order is (caught_up b.at (serial_count s ks) is b.enough)).prefix }
+  front-by ks order b (IsDone is) = record { steps = b.at; prefix = subst (λ bytes. IsPrefix (written s start ks) bytes) (sym ((settled b.at is).same_output (own b.at) (paced.order b.at) refl) ∙ paced.lines b.at) ((settled b.at is).prefix ks order) }
+  front-by ks order b (IsFailed trap is) = record { steps = b.at; prefix = subst (λ bytes. IsPrefix (written s start ks) bytes) (own_output b.at trap is ∙ paced.lines b.at) ((trapped b.at trap is).prefix ks order) }
 
-  rests-by : (ks : List ℕ) → IsWhole s start ks → s.trap (after s start ks) ≡ None → (b : IsBusy s own stage (suc (length ks))) → IsStage (stage b.at) → EndsWith s start stage own ks
+  rests-by : (ks : List ℕ) → IsWhole s start ks → s.trap (after s start ks) ≡ None → (b : IsBusy s own stage (suc (length ks))) → IsStage (stage b.at) → EndsWith s start text stage own ks
   rests-by ks whole none b (IsGoing is) =
       let at_most = (settles sound s lawful start ks is_sound whole none).at_most (own b.at) (paced.order b.at) in
       let enough = caught_up b.at (suc (length ks)) is b.enough in
@@ -80,21 +85,23 @@ module _ {M : Type 0} (sound : M → Type 0) (s : Moves M) (lawful : IsLawful so
   rests-by ks whole none b (IsDone is) =
       let all = settled b.at is in
       let count = all.whole ks whole in
-      record { steps = b.at; done = is; count = count; is = all.same_end ks whole.order count }
+      record { steps = b.at; done = is; count = count; is = all.same_end ks whole.order count; lines = all.same_output ks whole.order count ∙ sym (all.same_output (own b.at) (paced.order b.at) refl) ∙ paced.lines b.at }
   rests-by ks whole none b (IsFailed trap is) = absurd (some_traps s (s.trap (after s start ks)) trap ((trapped b.at trap is).same_trap ks whole) none)
 
-  traps-by : (ks : List ℕ) (trap : Trap × ℕ) → IsOrder s start ks → s.trap (after s start ks) ≡ Some trap → (b : IsBusy s own stage (serial_count s ks)) → IsStage (stage b.at) → TrapsWith text stage trap (s.out (after s start ks))
+  traps-by : (ks : List ℕ) (trap : Trap × ℕ) → IsOrder s start ks → s.trap (after s start ks) ≡ Some trap → (b : IsBusy s own stage (serial_count s ks)) → IsStage (stage b.at) → TrapsWith text stage trap (written s start ks)
   traps-by ks trap order is_trap b (IsGoing is) = absurd (some_traps s (s.trap (after s start ks)) trap is_trap (ahead b.at ks order is (caught_up b.at (serial_count s ks) is b.enough)).no_trap)
   traps-by ks trap order is_trap b (IsDone is) = absurd (some_traps s (s.trap (after s start ks)) trap is_trap ((settled b.at is).no_trap ks order))
   traps-by ks trap order is_trap b (IsFailed other is) =
       let whole : IsWhole s start ks = record { order = order; over = over_trap s (after s start ks) trap is_trap } in
       let all = trapped b.at other is in
       let same : other ≡ trap = same_some other trap (sym (all.same_trap ks whole) ∙ is_trap) in
-      record { steps = b.at; failed = is ∙ ap Failed same; written = all.same_output ks whole ∙ paced.written b.at }
+      record { steps = b.at; failed = is ∙ ap Failed same; lines = all.same_output ks whole ∙ own_output b.at other is ∙ paced.lines b.at }
 
   pub follows : FollowsSource s start text stage own
   follows = record {
     front = λ ks order. let b = paced.busy (serial_count s ks) in front-by ks order b (is_stage (stage b.at));
     rests = λ ks order over none. let b = paced.busy (suc (length ks)) in rests-by ks (record { order = order; over = over }) none b (is_stage (stage b.at));
     traps = λ ks trap order is. let b = paced.busy (serial_count s ks) in traps-by ks trap order is b (is_stage (stage b.at));
+    ends = settled;
+    fails = trapped;
   }

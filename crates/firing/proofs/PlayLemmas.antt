@@ -7,18 +7,19 @@ use Rattle.df_io.specs.Write.{AppendsFront}
 use Rattle.op_table.specs.declared.Trap.{Trap}
 use Rattle.firing.specs.declared.playing.PlayEnd.TheVariants.{Rest, Trapped, Limit, WriteFault}
 use Rattle.firing.specs.declared.playing.Show.{Show}
+use Rattle.firing.specs.Control.{Course, steered}
 use Rattle.firing.specs.Moves.{Moves, CanFire}
 use Rattle.firing.specs.Orders.{IsOver}
 use Rattle.firing.specs.Play.{Moment, Way, moment, next, played, node_at, shown_of, shown_at, shown, Plays}
 
 -- a run that has come to this moment
-pub record Running {M C : Type 0} (w : Way M C) (start now : Moment M C) (limit : ℕ) (show : Show) (made : ℕ) (old new : Option (List ℕ)) : Type 0 where
+pub record Running {M P : Type 0} (w : Way M P) (start now : Moment M P) (limit : ℕ) (show : Show) (made : ℕ) (old new : Option (List ℕ)) : Type 0 where
   pub leads : now ≡ played w start made
   pub going : (n : ℕ) → n < made → CanFire w.moves (played w start n).marking (node_at w start n)
   pub bounded : made ≤ limit
   pub written : Appends old new (shown w show start made)
 
-module _ {M C : Type 0} (w : Way M C) (start : Moment M C) where
+module _ {M P : Type 0} (w : Way M P) (start : Moment M P) where
   pub run_starts : (limit : ℕ) (show : Show) (got : Option (List ℕ)) → Running w start start limit show 0 got got
   run_starts limit show got = record {
     leads = refl;
@@ -27,14 +28,14 @@ module _ {M C : Type 0} (w : Way M C) (start : Moment M C) where
     written = Appends-nil got;
   }
 
-  module _ {now : Moment M C} {limit : ℕ} {show : Show} {made : ℕ} {old mid : Option (List ℕ)} (run : Running w start now limit show made old mid) where
+  module _ {now : Moment M P} {limit : ℕ} {show : Show} {made : ℕ} {old mid : Option (List ℕ)} (run : Running w start now limit show made old mid) where
     -- ---- one firing more
     module _ {k : ℕ} (below : made < limit) (at : k ≡ w.choice made now) (can : CanFire w.moves now.marking k) where
       here : k ≡ node_at w start made
       here = at ∙ ap (w.choice made) run.leads
 
       fires : CanFire w.moves (played w start made).marking (node_at w start made)
-      fires = subst (λ (x : Moment M C). CanFire w.moves x.marking (node_at w start made)) run.leads (subst (λ i. CanFire w.moves now.marking i) here can)
+      fires = subst (λ (x : Moment M P). CanFire w.moves x.marking (node_at w start made)) run.leads (subst (λ i. CanFire w.moves now.marking i) here can)
 
       goes : (n : ℕ) → n < suc made → CanFire w.moves (played w start n).marking (node_at w start n)
       goes n lt = ⊎_elim
@@ -43,12 +44,12 @@ module _ {M C : Type 0} (w : Way M C) (start : Moment M C) where
           (cases_eq made n)
 
       shows : shown_of w.moves show now.marking k ≡ shown_at w show start made
-      shows = ap (shown_of w.moves show now.marking) here ∙ ap (λ (x : Moment M C). shown_of w.moves show x.marking (node_at w start made)) run.leads
+      shows = ap (shown_of w.moves show now.marking) here ∙ ap (λ (x : Moment M P). shown_of w.moves show x.marking (node_at w start made)) run.leads
 
-      moves_on : (then : Moment M C) → then ≡ next w now k → then ≡ played w start (suc made)
-      moves_on then is = is ∙ ap (next w now) here ∙ ap (λ (x : Moment M C). next w x (node_at w start made)) run.leads
+      moves_on : (then : Moment M P) → then ≡ next w now k → then ≡ played w start (suc made)
+      moves_on then is = is ∙ ap (next w now) here ∙ ap (λ (x : Moment M P). next w x (node_at w start made)) run.leads
 
-      pub run_on : {then : Moment M C} {new : Option (List ℕ)} → then ≡ next w now k → Appends mid new (shown_of w.moves show now.marking k) → Running w start then limit show (made + 1) old new
+      pub run_on : {then : Moment M P} {new : Option (List ℕ)} → then ≡ next w now k → Appends mid new (shown_of w.moves show now.marking k) → Running w start then limit show (made + 1) old new
       run_on {then} {new} is added = rw add-one (record {
         leads = moves_on then is;
         going = goes;
@@ -56,7 +57,7 @@ module _ {M C : Type 0} (w : Way M C) (start : Moment M C) where
         written = Appends-trans old mid new (shown w show start made) (shown_at w show start made) run.written (subst (Appends mid new) shows added);
       })
 
-      pub run_breaks : {then : Moment M C} {new : Option (List ℕ)} → then ≡ next w now k → AppendsFront mid new (shown_of w.moves show now.marking k) → Plays w start limit show then old new (WriteFault (made + 1))
+      pub run_breaks : {then : Moment M P} {new : Option (List ℕ)} → then ≡ next w now k → AppendsFront mid new (shown_of w.moves show now.marking k) → Plays w start limit show then old new (WriteFault (made + 1))
       run_breaks {then} {new} is front = record {
         firings = suc made;
         leads = moves_on then is;
@@ -80,7 +81,7 @@ module _ {M C : Type 0} (w : Way M C) (start : Moment M C) where
       leads = run.leads;
       going = run.going;
       bounded = run.bounded;
-      ends = (refl, subst (λ (x : Moment M C). w.moves.trap x.marking ≡ None) run.leads none, subst (λ (x : Moment M C). IsOver w.moves x.marking) run.leads over);
+      ends = (refl, subst (λ (x : Moment M P). w.moves.trap x.marking ≡ None) run.leads none, subst (λ (x : Moment M P). IsOver w.moves x.marking) run.leads over);
       writes = run.written;
     }
 
@@ -90,7 +91,7 @@ module _ {M C : Type 0} (w : Way M C) (start : Moment M C) where
       leads = run.leads;
       going = run.going;
       bounded = run.bounded;
-      ends = subst (λ (x : Moment M C). w.moves.trap x.marking ≡ Some (trap, line)) run.leads is;
+      ends = subst (λ (x : Moment M P). w.moves.trap x.marking ≡ Some (trap, line)) run.leads is;
       writes = run.written;
     }
 
@@ -100,7 +101,7 @@ module _ {M C : Type 0} (w : Way M C) (start : Moment M C) where
       leads = run.leads;
       going = run.going;
       bounded = run.bounded;
-      ends = (is, subst (λ (x : Moment M C). CanFire w.moves x.marking (node_at w start made)) run.leads (subst (λ i. CanFire w.moves now.marking i) (at ∙ ap (w.choice made) run.leads) can));
+      ends = (is, subst (λ (x : Moment M P). CanFire w.moves x.marking (node_at w start made)) run.leads (subst (λ i. CanFire w.moves now.marking i) (at ∙ ap (w.choice made) run.leads) can));
       writes = run.written;
     }
 
@@ -117,13 +118,10 @@ module _ {N M : Type 0} (moves : N → Moves M) {net other : N} (same : other �
     pub front_told : AppendsFront old new (shown_of (moves other) show m k) → AppendsFront old new (shown_of (moves net) show m k)
     front_told is = subst (λ n. AppendsFront old new (shown_of (moves n) show m k)) same is
 
-pub moment_told : {N M C : Type 0} (moves : N → Moves M) (steered : N → M → C → ℕ → C) {net other : N} {m then : M} {c later : C} {k : ℕ} → other ≡ net → then ≡ (moves other).fired m k → later ≡ steered other m c k → moment then later ≡ moment ((moves net).fired m k) (steered net m c k)
-moment_told moves steered {net} {other} {m} {then} {c} {later} {k} same first second =
+pub moment_told : {N M P : Type 0} (moves : N → Moves M) (course : N → Course M P) {net other : N} {m then : M} (c : Option P) {later : Option P} {k : ℕ} → other ≡ net → then ≡ (moves other).fired m k → later ≡ steered (course other) m c k → moment then later ≡ moment ((moves net).fired m k) (steered (course net) m c k)
+moment_told moves course {net} {other} {m} {then} c {later} {k} same first second =
     ap (λ x. moment x later) (first ∙ ap (λ n. (moves n).fired m k) same)
-    ∙ ap (λ x. moment ((moves net).fired m k) x) (second ∙ ap (λ n. steered n m c k) same)
+    ∙ ap (λ x. moment ((moves net).fired m k) x) (second ∙ ap (λ n. steered (course n) m c k) same)
 
-pub same_moment : {M C : Type 0} {m then : M} {c later : C} → then ≡ m → later ≡ c → moment then later ≡ moment m c
+pub same_moment : {M P : Type 0} {m then : M} {c later : Option P} → then ≡ m → later ≡ c → moment then later ≡ moment m c
 same_moment {m} {then} {c} {later} first second = ap (λ x. moment x later) first ∙ ap (λ x. moment m x) second
-
-pub due_told : {N M C : Type 0} (due : N → M → C → Option ℕ) {net other : N} {m : M} {c : C} {told : Option ℕ} → other ≡ net → told ≡ due other m c → due net m c ≡ told
-due_told due {net} {other} {m} {c} same is = ap (λ n. due n m c) (sym same) ∙ sym is

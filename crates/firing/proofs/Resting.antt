@@ -2,15 +2,16 @@
 use Rattle.std.proofs.Common.{◌≡◌, ℕ, suc, ◌+◌, ◌++◌, List, [], ◌∷◌, length, None, refl, sym, ap, subst, ◌∙◌, append_assoc, append-nil, ⊎_elim, arith}
 use Rattle.firing.specs.Laws.{IsLawful}
 use Rattle.firing.specs.Moves.{Moves, line_bytes}
-use Rattle.firing.specs.Orders.{IsOrder, IsOver, IsWhole, IsPrefix, Settles, after}
+use Rattle.firing.specs.Orders.{IsOrder, IsOver, IsWhole, Settles, after, written}
 use Rattle.firing.proofs.Pulling.{FiresIn, FiresBeside, pulled}
 
--- firings that lead on to this marking, so many with those before
-pub record Remains {M : Type 0} (s : Moves M) (m : M) (before n : ℕ) (end : M) : Type 0 where
+-- firings that lead on to this marking, so many with those before, with this output where that was written before
+pub record Remains {M : Type 0} (s : Moves M) (m : M) (before n : ℕ) (end : M) (front output : List ℕ) : Type 0 where
   pub rest : List ℕ
   pub order : IsOrder s m rest
   pub count : before + length rest ≡ n
   pub is : after s m rest ≡ end
+  pub lines : front ++ written s m rest ≡ output
 
 module _ {M : Type 0} (s : Moves M) where
   -- nothing has trapped before the end of an order that ends without a trap
@@ -26,55 +27,62 @@ module _ {M : Type 0} (s : Moves M) where
   no_more m end [] none is = is
   no_more m end (k ∷ rest) none is = absurd (omega (arith, none))
 
-  -- firings add to the output
-  prefix_same : (bytes : List ℕ) → IsPrefix bytes bytes
-  prefix_same bytes = record { more = []; is = sym (append-nil bytes) }
-
-  prefix_on : (a b c line : List ℕ) → b ≡ a ++ line → IsPrefix b c → IsPrefix a c
-  prefix_on a b c line is p = record { more = line ++ p.more; is = p.is ∙ ap (λ xs. xs ++ p.more) is ∙ append_assoc a line p.more }
-
 module _ {M : Type 0} (sound : M → Type 0) (s : Moves M) (lawful : IsLawful sound s) where
-  pub out_grows : (m : M) (ks : List ℕ) → sound m → IsOrder s m ks → IsPrefix (s.out m) (s.out (after s m ks))
-  out_grows m [] is_sound order = prefix_same s (s.out m)
-  out_grows m (k ∷ ks) is_sound (can, order) = prefix_on s (s.out m) (s.out (s.fired m k)) (s.out (after s m (k ∷ ks))) (line_bytes (s.line m k)) (lawful.written m k is_sound can) (out_grows (s.fired m k) ks (lawful.stays_sound m k is_sound can) order)
+  no_more_lines : (m : M) (rest front output : List ℕ) → length rest ≡ 0 → front ++ written s m rest ≡ output → front ≡ output
+  no_more_lines m [] front output none is = sym (append-nil front) ∙ is
+  no_more_lines m (k ∷ rest) front output none is = absurd (omega (arith, none))
 
-  pub sound_after : (m : M) (ks : List ℕ) → sound m → IsOrder s m ks → sound (after s m ks)
-  sound_after m [] is_sound order = is_sound
-  sound_after m (k ∷ ks) is_sound (can, order) = sound_after (s.fired m k) ks (lawful.stays_sound m k is_sound can) order
-
-  remains-none : (m end : M) (ks : List ℕ) → m ≡ end → ks ≡ [] → Remains s (after s m ks) (length ks) 0 end
-  remains-none m end [] is none = record { rest = []; order = tt; count = refl; is = is }
+  remains-none : (m end : M) (ks : List ℕ) → m ≡ end → ks ≡ [] → Remains s (after s m ks) (length ks) 0 end (written s m ks) []
+  remains-none m end [] is none = record { rest = []; order = tt; count = refl; is = is; lines = refl }
   remains-none m end (k ∷ ks) is none = absurd cc
 
   -- the order holds the first firing of the other one
-  remains-in : (m : M) (k n : ℕ) (ks : List ℕ) (end : M) (fires : FiresIn s m k ks) → Remains s (after s (s.fired m k) fires.rest) (length fires.rest) n end → Remains s (after s m ks) (length ks) (suc n) end
-  remains-in m k n ks end fires r = record {
+  remains-in : (m : M) (k n : ℕ) (ks : List ℕ) (end : M) (output : List ℕ) (fires : FiresIn s m k ks) → Remains s (after s (s.fired m k) fires.rest) (length fires.rest) n end (written s (s.fired m k) fires.rest) output → Remains s (after s m ks) (length ks) (suc n) end (written s m ks) (line_bytes (s.line m k) ++ output)
+  remains-in m k n ks end output fires r = record {
     rest = r.rest;
     order = subst (λ x. IsOrder s x r.rest) fires.is r.order;
     count = omega (arith, fires.count, r.count);
     is = ap (λ x. after s x r.rest) (sym fires.is) ∙ r.is;
+    lines = ap (λ bytes. bytes ++ written s (after s m ks) r.rest) (sym fires.lines)
+        ∙ ap (λ (x : M). (line_bytes (s.line m k) ++ written s (s.fired m k) fires.rest) ++ written s x r.rest) (sym fires.is)
+        ∙ append_assoc (line_bytes (s.line m k)) (written s (s.fired m k) fires.rest) (written s (after s (s.fired m k) fires.rest) r.rest)
+        ∙ ap (λ bytes. line_bytes (s.line m k) ++ bytes) r.lines;
   }
 
+  -- k's line after those of an order beside it, and more
+  pub lines-beside : (m : M) (k : ℕ) (ks more : List ℕ) (output : List ℕ) (fires : FiresBeside s m k ks) → s.trap (after s m ks) ≡ None → written s (s.fired m k) ks ++ written s (after s (s.fired m k) ks) more ≡ output → written s m ks ++ written s (after s m ks) (k ∷ more) ≡ line_bytes (s.line m k) ++ output
+  lines-beside m k ks more output fires none is =
+      let mine = line_bytes (s.line m k) in
+      let last = written s (after s (s.fired m k) ks) more in
+      ap (λ l. written s m ks ++ (line_bytes l ++ written s (s.fired (after s m ks) k) more)) (fires.same_line none)
+      ∙ ap (λ (x : M). written s m ks ++ (mine ++ written s x more)) (sym fires.is)
+      ∙ sym (append_assoc (written s m ks) mine last)
+      ∙ ap (λ bytes. bytes ++ last) (sym fires.swap)
+      ∙ append_assoc mine (written s m ks) last
+      ∙ ap (λ bytes. mine ++ (bytes ++ last)) (sym fires.same_lines)
+      ∙ ap (λ bytes. mine ++ bytes) is
+
   -- the first firing of the other order comes after all of this one
-  remains-beside : (m : M) (k n : ℕ) (ks : List ℕ) (end : M) → FiresBeside s m k ks → s.trap end ≡ None → Remains s (after s (s.fired m k) ks) (length ks) n end → Remains s (after s m ks) (length ks) (suc n) end
-  remains-beside m k n ks end fires none r =
+  remains-beside : (m : M) (k n : ℕ) (ks : List ℕ) (end : M) (output : List ℕ) → FiresBeside s m k ks → s.trap end ≡ None → Remains s (after s (s.fired m k) ks) (length ks) n end (written s (s.fired m k) ks) output → Remains s (after s m ks) (length ks) (suc n) end (written s m ks) (line_bytes (s.line m k) ++ output)
+  remains-beside m k n ks end output fires none r =
       let there : s.trap (after s (s.fired m k) ks) ≡ None = none_before s (after s (s.fired m k) ks) r.rest r.order (ap s.trap r.is ∙ none) in
       record {
         rest = k ∷ r.rest;
         order = (fires.can (sym fires.same_trap ∙ there), subst (λ x. IsOrder s x r.rest) fires.is r.order);
         count = omega (arith, r.count);
         is = ap (λ x. after s x r.rest) (sym fires.is) ∙ r.is;
+        lines = lines-beside m k ks r.rest output fires (sym fires.same_trap ∙ there) r.lines;
       }
 
   -- Whatever has fired, the rest of an order that comes to rest can.
-  pub remains : (m : M) (whole ks : List ℕ) → sound m → IsOrder s m whole → IsOver s (after s m whole) → s.trap (after s m whole) ≡ None → IsOrder s m ks → Remains s (after s m ks) (length ks) (length whole) (after s m whole)
+  pub remains : (m : M) (whole ks : List ℕ) → sound m → IsOrder s m whole → IsOver s (after s m whole) → s.trap (after s m whole) ≡ None → IsOrder s m ks → Remains s (after s m ks) (length ks) (length whole) (after s m whole) (written s m ks) (written s m whole)
   remains m [] ks is_sound order over none other = remains-none m m ks refl (nothing_left s m ks over other)
   remains m (k ∷ whole) ks is_sound (can, order) over none other =
       let next = lawful.stays_sound m k is_sound can in
       let end = after s (s.fired m k) whole in
       ⊎_elim
-      (λ (fires : FiresIn s m k ks). remains-in m k (length whole) ks end fires (remains (s.fired m k) whole fires.rest next order over none fires.order))
-      (λ (fires : FiresBeside s m k ks). remains-beside m k (length whole) ks end fires none (remains (s.fired m k) whole ks next order over none fires.order))
+      (λ (fires : FiresIn s m k ks). remains-in m k (length whole) ks end (written s (s.fired m k) whole) fires (remains (s.fired m k) whole fires.rest next order over none fires.order))
+      (λ (fires : FiresBeside s m k ks). remains-beside m k (length whole) ks end (written s (s.fired m k) whole) fires none (remains (s.fired m k) whole ks next order over none fires.order))
       (pulled sound s lawful m k ks is_sound can (none_before s (s.fired m k) whole order none) other)
 
   -- ---- what follows
@@ -86,7 +94,9 @@ module _ {M : Type 0} (sound : M → Type 0) (s : Moves M) (lawful : IsLawful so
       record {
         at_most = λ ks order. let r = left ks order in omega (arith, r.count);
         no_trap = λ ks order. let r = left ks order in none_before s (after s m ks) r.rest r.order (ap s.trap r.is ∙ none);
-        prefix = λ ks order. let r = left ks order in subst (λ x. IsPrefix (s.out (after s m ks)) (s.out x)) r.is (out_grows (after s m ks) r.rest (sound_after m ks is_sound order) r.order);
+        output = written s m whole;
+        prefix = λ ks order. let r = left ks order in record { more = written s (after s m ks) r.rest; is = sym r.lines };
+        same_output = λ ks order count. let r = left ks order in no_more_lines (after s m ks) r.rest (written s m ks) (written s m whole) (omega (arith, r.count, count)) r.lines;
         whole = λ ks full. let r = left ks full.order in let empty : length r.rest ≡ 0 = ap length (nothing_left s (after s m ks) r.rest full.over r.order) in omega (arith, r.count, empty);
         same_end = λ ks order count. let r = left ks order in no_more s (after s m ks) end r.rest (omega (arith, r.count, count)) r.is;
         goes_on = λ ks order k count. let r = left ks order in record { rest = r.rest; order = r.order; count = omega (arith, r.count, count); is = r.is };

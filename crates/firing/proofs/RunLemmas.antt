@@ -1,5 +1,5 @@
 -- What the laws say of a run: the order that its firings are, and what every other order comes to.
-use Rattle.std.proofs.Common.{◌≡◌, ℕ, zero, suc, ◌+◌, ◌<◌, ◌++◌, List, [], ◌∷◌, length, Option, Some, refl, sym, ap, subst, ◌∙◌, add-one, length-append, append-nil, append_assoc, arith}
+use Rattle.std.proofs.Common.{◌≡◌, ℕ, zero, suc, ◌+◌, ◌<◌, ◌≤◌, ◌++◌, List, [], ◌∷◌, length, Option, Some, refl, sym, ap, subst, ◌∙◌, add-one, length-append, append-nil, append_assoc, arith}
 use Rattle.std.proofs.Math.Seq.{take-append-add}
 use Rattle.std.specs.Io.KnownBytes.{Appends}
 use Rattle.df_io.specs.Write.{AppendsFront}
@@ -10,8 +10,8 @@ use Rattle.firing.specs.declared.playing.Show.{Show}
 use Rattle.firing.specs.declared.playing.Show.TheVariants.{Output, Nodes, Nothing}
 use Rattle.firing.specs.Laws.{IsLawful}
 use Rattle.firing.specs.Moves.{Moves, CanFire, line_bytes}
-use Rattle.firing.specs.Orders.{IsOrder, IsOver, IsWhole, Settles, Traps, after}
-use Rattle.firing.specs.Play.{Moment, Way, played, node_at, shown_at, shown, BreaksOff, Writes, WritesOutput, MakesOrder, Plays}
+use Rattle.firing.specs.Orders.{IsOrder, IsOver, IsWhole, Settles, Traps, after, written as written_by}
+use Rattle.firing.specs.Play.{Moment, Way, played, node_at, shown_at, shown, BreaksOff, EndsBy, Writes, WritesOutput, Counts, MakesOrder, Plays}
 use Rattle.firing.proofs.Resting.{settles}
 use Rattle.firing.proofs.Trapping.{traps}
 
@@ -24,16 +24,21 @@ module _ {M : Type 0} (s : Moves M) where
   order_last m [] k order can = (can, tt)
   order_last m (j ∷ ks) k (first, order) can = (first, order_last (s.fired m j) ks k order can)
 
+  lines_last : (m : M) (ks : List ℕ) (k : ℕ) → written_by s m (ks ++ k ∷ []) ≡ written_by s m ks ++ line_bytes (s.line (after s m ks) k)
+  lines_last m [] k = append-nil (line_bytes (s.line m k))
+  lines_last m (j ∷ ks) k = ap (λ bytes. line_bytes (s.line m j) ++ bytes) (lines_last (s.fired m j) ks k) ∙ sym (append_assoc (line_bytes (s.line m j)) (written_by s (s.fired m j) ks) (line_bytes (s.line (after s (s.fired m j) ks) k)))
+
 -- n firings as an order that leads to this end
-record Ordered {M : Type 0} (s : Moves M) (start : M) (n : ℕ) (end : M) : Type 0 where
+record Ordered {M : Type 0} (s : Moves M) (start : M) (n : ℕ) (end : M) (output : List ℕ) : Type 0 where
   nodes : List ℕ
   order : IsOrder s start nodes
   count : length nodes ≡ n
   leads : after s start nodes ≡ end
+  lines : written_by s start nodes ≡ output
 
-module _ {M C : Type 0} (w : Way M C) (start : Moment M C) where
-  ordered : (n : ℕ) → ((j : ℕ) → j < n → CanFire w.moves (played w start j).marking (node_at w start j)) → Ordered w.moves start.marking n (played w start n).marking
-  ordered zero going = record { nodes = []; order = tt; count = refl; leads = refl }
+module _ {M P : Type 0} (w : Way M P) (start : Moment M P) where
+  ordered : (n : ℕ) → ((j : ℕ) → j < n → CanFire w.moves (played w start j).marking (node_at w start j)) → Ordered w.moves start.marking n (played w start n).marking (shown w Output start n)
+  ordered zero going = record { nodes = []; order = tt; count = refl; leads = refl; lines = refl }
   ordered (suc n) going =
       let before = ordered n (λ j lt. going j (omega (arith, lt))) in
       let k = node_at w start n in
@@ -42,26 +47,14 @@ module _ {M C : Type 0} (w : Way M C) (start : Moment M C) where
         order = order_last w.moves start.marking before.nodes k before.order (subst (λ m. CanFire w.moves m k) (sym before.leads) (going n (omega arith)));
         count = length-append before.nodes (k ∷ []) ∙ ap (λ i. i + 1) before.count ∙ add-one n;
         leads = after_last w.moves start.marking before.nodes k ∙ ap (λ m. w.moves.fired m k) before.leads;
+        lines = lines_last w.moves start.marking before.nodes k
+            ∙ ap (λ bytes. bytes ++ line_bytes (w.moves.line (after w.moves start.marking before.nodes) k)) before.lines
+            ∙ ap (λ m. shown w Output start n ++ line_bytes (w.moves.line m k)) before.leads;
       }
 
 -- ---- what is written of a run as output
 
-module _ {M C : Type 0} {sound : M → Type 0} (w : Way M C) (lawful : IsLawful sound w.moves) (start : Moment M C) (is_sound : sound start.marking) where
-  sound_at : (n : ℕ) → ((j : ℕ) → j < n → CanFire w.moves (played w start j).marking (node_at w start j)) → sound (played w start n).marking
-  sound_at zero going = is_sound
-  sound_at (suc n) going = lawful.stays_sound (played w start n).marking (node_at w start n) (sound_at n (λ j lt. going j (omega (arith, lt)))) (going n (omega arith))
-
-  output_at : (n : ℕ) → ((j : ℕ) → j < n → CanFire w.moves (played w start j).marking (node_at w start j)) → w.moves.out (played w start n).marking ≡ w.moves.out start.marking ++ shown w Output start n
-  output_at zero going = sym (append-nil (w.moves.out start.marking))
-  output_at (suc n) going =
-      let below : (j : ℕ) → j < n → CanFire w.moves (played w start j).marking (node_at w start j) = λ j lt. going j (omega (arith, lt)) in
-      let m = (played w start n).marking in
-      let k = node_at w start n in
-      lawful.written m k (sound_at n below) (going n (omega arith))
-      ∙ ap (λ bytes. bytes ++ line_bytes (w.moves.line m k)) (output_at n below)
-      ∙ append_assoc (w.moves.out start.marking) (shown w Output start n) (line_bytes (w.moves.line m k))
-
-module _ {M C : Type 0} (w : Way M C) (start : Moment M C) where
+module _ {M P : Type 0} (w : Way M P) (start : Moment M P) where
   broken : (n : ℕ) (old new : Option (List ℕ)) → BreaksOff w Output start n old new → AppendsFront old new (shown w Output start n)
   broken n old new b =
       let before = shown w Output start b.last in
@@ -84,34 +77,39 @@ module _ {M C : Type 0} (w : Way M C) (start : Moment M C) where
 
 -- ---- what the laws say of a run
 
-module _ {M C : Type 0} {sound : M → Type 0} {w : Way M C} (lawful : IsLawful sound w.moves) {start : Moment M C} (is_sound : sound start.marking) {limit : ℕ} {show : Show} {end : Moment M C} {old new : Option (List ℕ)} where
-  firings_of : {result : PlayEnd} (plays : Plays w start limit show end old new result) → Ordered w.moves start.marking plays.firings end.marking
-  firings_of plays = subst (λ (x : Moment M C). Ordered w.moves start.marking plays.firings x.marking) (sym plays.leads) (ordered w start plays.firings plays.going)
+counts : {M P : Type 0} (w : Way M P) (start : Moment M P) (limit n made : ℕ) (result : PlayEnd) → made ≡ n → n ≤ limit → EndsBy w start limit n result → Counts limit made result
+counts w start limit n made (Rest count) is le ends = is ∙ sym ends.0
+counts w start limit n made (Trapped trap line) is le ends = omega (arith, is, le)
+counts w start limit n made Limit is le ends = is ∙ ends.0
+counts w start limit n made (WriteFault count) is le ends = is ∙ sym ends
 
-  pub makes_order : {result : PlayEnd} → Plays w start limit show end old new result → MakesOrder w.moves start.marking show end.marking old new result
+module _ {M P : Type 0} {sound : M → Type 0} {w : Way M P} (lawful : IsLawful sound w.moves) {start : Moment M P} (is_sound : sound start.marking) {limit : ℕ} {show : Show} {end : Moment M P} {old new : Option (List ℕ)} where
+  firings_of : {result : PlayEnd} (plays : Plays w start limit show end old new result) → Ordered w.moves start.marking plays.firings end.marking (shown w Output start plays.firings)
+  firings_of plays = subst (λ (x : Moment M P). Ordered w.moves start.marking plays.firings x.marking (shown w Output start plays.firings)) (sym plays.leads) (ordered w start plays.firings plays.going)
+
+  pub makes_order : {result : PlayEnd} → Plays w start limit show end old new result → MakesOrder w.moves start.marking limit show end.marking old new result
   makes_order {result} plays =
       let all = firings_of plays in
       record {
         nodes = all.nodes;
+        count = counts w start limit plays.firings (length all.nodes) result all.count plays.bounded plays.ends;
         order = all.order;
         leads = all.leads;
-        added = shown w Output start plays.firings;
-        output = ap (λ (x : Moment M C). w.moves.out x.marking) plays.leads ∙ output_at w lawful start is_sound plays.firings plays.going;
-        written = writes_output w start show plays.firings old new result plays.writes;
+        written = subst (λ bytes. WritesOutput show bytes old new result) (sym all.lines) (writes_output w start show plays.firings old new result plays.writes);
       }
 
   pub rest_settles : {result : PlayEnd} → Plays w start limit show end old new result → (n : ℕ) → result ≡ Rest n → Settles w.moves start.marking n end.marking
   rest_settles plays n is =
       let run : Plays w start limit show end old new (Rest n) = subst (Plays w start limit show end old new) is plays in
       let all = firings_of run in
-      let there : (played w start run.firings).marking ≡ after w.moves start.marking all.nodes = ap (λ (x : Moment M C). x.marking) (sym run.leads) ∙ sym all.leads in
+      let there : (played w start run.firings).marking ≡ after w.moves start.marking all.nodes = ap (λ (x : Moment M P). x.marking) (sym run.leads) ∙ sym all.leads in
       let whole : IsWhole w.moves start.marking all.nodes = record { order = all.order; over = subst (IsOver w.moves) there run.ends.2 } in
       let rest = settles sound w.moves lawful start.marking all.nodes is_sound whole (ap w.moves.trap (sym there) ∙ run.ends.1) in
       subst (λ i. Settles w.moves start.marking i end.marking) (all.count ∙ sym run.ends.0) (subst (Settles w.moves start.marking (length all.nodes)) all.leads rest)
 
-  pub trap_traps : {result : PlayEnd} → Plays w start limit show end old new result → (trap : Trap) (line : ℕ) → result ≡ Trapped trap line → Traps w.moves start.marking (trap, line) (w.moves.out end.marking)
+  pub trap_traps : {result : PlayEnd} → Plays w start limit show end old new result → (trap : Trap) (line : ℕ) → result ≡ Trapped trap line → Traps w.moves start.marking (trap, line)
   trap_traps plays trap line is =
       let run : Plays w start limit show end old new (Trapped trap line) = subst (Plays w start limit show end old new) is plays in
       let all = firings_of run in
-      let trapped : w.moves.trap (after w.moves start.marking all.nodes) ≡ Some (trap, line) = ap w.moves.trap all.leads ∙ ap (λ (x : Moment M C). w.moves.trap x.marking) run.leads ∙ run.ends in
-      subst (λ m. Traps w.moves start.marking (trap, line) (w.moves.out m)) all.leads (traps sound w.moves lawful (trap, line) start.marking all.nodes is_sound all.order trapped)
+      let trapped : w.moves.trap (after w.moves start.marking all.nodes) ≡ Some (trap, line) = ap w.moves.trap all.leads ∙ ap (λ (x : Moment M P). w.moves.trap x.marking) run.leads ∙ run.ends in
+      traps sound w.moves lawful (trap, line) start.marking all.nodes is_sound all.order trapped

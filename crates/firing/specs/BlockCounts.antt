@@ -1,6 +1,36 @@
--- How a set keeps the counts of its members by blocks of its room.
-use Rattle.std.specs.Prelude.{◌≡◌, ◌+◌, ◌-◌, ◌*◌, ◌<◌, ◌≤◌, ◌^◌, ℕ, zero, suc, Bool, true, false, List, length, get_or}
+-- How a set keeps its members: digits of words, and counts of them by blocks of its room.
+use Rattle.std.specs.Prelude.{◌≡◌, ◌==◌, ◌+◌, ◌-◌, ◌*◌, ◌/◌, ◌%◌, ◌<◌, ◌≤◌, ◌^◌, ℕ, zero, suc, Bool, true, false, List, length, get_or, map, count_ones}
+use Rattle.std.specs.Int.{bit_at}
+use Rattle.std.specs.List.{range_with_len}
 use Rattle.firing.specs.ReadySet.{rank, member_count}
+
+-- ---- words
+
+-- the digit for a number: 64 numbers have one word, the lowest number its lowest digit
+abbrev pub digit_at : List ℕ → ℕ → Bool
+digit_at words k = bit_at (get_or words (k / 64) 0) (k % 64) == 1
+
+-- the flags of the numbers below a room
+abbrev pub flags_of : List ℕ → ℕ → List Bool
+flags_of words room = map (digit_at words) (range_with_len 0 room)
+
+-- how many members each word has
+abbrev pub ones_of : List ℕ → List ℕ
+ones_of words = map count_ones words
+
+-- the words cover the room, and past it no digit is set
+pub record AreWords (words : List ℕ) (room : ℕ) : Type 0 where
+  pub room_fits : room < 2 ^ 32
+  pub covered : room ≤ 64 * length words
+  pub past : (k : ℕ) → room ≤ k → digit_at words k ≡ false
+
+-- the digit that is set and has so many set digits below it
+pub record IsDigitAt (word place digit : ℕ) : Type 0 where
+  pub inside : digit < 64
+  pub is_set : bit_at word digit ≡ 1
+  pub below : count_ones (word % 2 ^ digit) ≡ place
+
+-- ---- counts
 
 -- the sum of the counts before a number
 abbrev pub before : List ℕ → ℕ → ℕ
@@ -19,8 +49,12 @@ pub record AreCounts (width : ℕ) (counts : List ℕ) (flags : List Bool) : Typ
 
 -- counts of three widths, and of all
 pub record IsCounted (flags : List Bool) (low mid high : List ℕ) (total : ℕ) : Type 0 where
-  pub room : length flags < 2 ^ 32
-  pub low_counts : AreCounts 32 low flags
-  pub mid_counts : AreCounts 1024 mid flags
-  pub high_counts : AreCounts 32768 high flags
+  pub low_counts : AreCounts 1024 low flags
+  pub mid_counts : AreCounts 32768 mid flags
+  pub high_counts : AreCounts 1048576 high flags
   pub all : total ≡ member_count flags
+
+-- the block of this width that has the member at a place, and the member's place in it
+pub record IsInBlock (flags : List Bool) (width place b left : ℕ) : Type 0 where
+  pub start : rank flags (width * b) + left ≡ place
+  pub end : place < rank flags (width * b + width)

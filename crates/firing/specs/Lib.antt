@@ -1,5 +1,8 @@
 -- Step systems, the laws of their firings, what every order of firing comes to, and runs.
 pub mod BlockCounts
+pub mod Choice
+pub mod Control
+pub mod Footprints
 pub mod Laws
 pub mod Marks
 pub mod Moves
@@ -8,4 +11,5 @@ pub mod Orders
 pub mod Pacing
 pub mod Play
 pub mod ReadySet
+pub mod Resuming
 pub mod SourceOrder

@@ -16,8 +16,6 @@ pub record Moves (M : Type 0) : Type 0 where
   pub fired : M → ℕ → M
   -- the line that a firing writes
   pub line : M → ℕ → Option (List ℕ)
-  -- what was written
-  pub out : M → List ℕ
   -- what trapped, and at which line of the source
   pub trap : M → Option (Trap × ℕ)
 

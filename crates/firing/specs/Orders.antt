@@ -1,12 +1,17 @@
 -- Orders of firing, and what all of them come to.
 use Rattle.std.specs.Prelude.{◌≡◌, ◌≤◌, ◌+◌, ◌++◌, ℕ, Bool, true, false, List, [], ◌∷◌, length, Some, None}
 use Rattle.op_table.specs.declared.Trap.{Trap}
-use Rattle.firing.specs.Moves.{Moves, CanFire}
+use Rattle.firing.specs.Moves.{Moves, CanFire, line_bytes}
 
 -- the marking after firings in this order
 abbrev pub after : {M : Type 0} → Moves M → M → List ℕ → M
 after s m [] = m
 after s m (k ∷ ks) = after s (s.fired m k) ks
+
+-- the lines that firings in this order write
+abbrev pub written : {M : Type 0} → Moves M → M → List ℕ → List ℕ
+written s m [] = []
+written s m (k ∷ ks) = line_bytes (s.line m k) ++ written s (s.fired m k) ks
 
 -- each node may fire in its turn
 abbrev pub IsOrder : {M : Type 0} → Moves M → M → List ℕ → Type 0
@@ -46,31 +51,34 @@ pub record Leads {M : Type 0} (s : Moves M) (m : M) (n : ℕ) (end : M) : Type 0
 
 -- Whatever the order, it comes to rest at this marking, after n firings, and nothing traps.
 pub record Settles {M : Type 0} (s : Moves M) (m : M) (n : ℕ) (end : M) : Type 0 where
+  pub output : List ℕ
   pub at_most : (ks : List ℕ) → IsOrder s m ks → length ks ≤ n
   pub no_trap : (ks : List ℕ) → IsOrder s m ks → s.trap (after s m ks) ≡ None
-  pub prefix : (ks : List ℕ) → IsOrder s m ks → IsPrefix (s.out (after s m ks)) (s.out end)
+  pub prefix : (ks : List ℕ) → IsOrder s m ks → IsPrefix (written s m ks) output
   -- one that can't be made longer has n firings, and one of n firings has that marking
   pub whole : (ks : List ℕ) → IsWhole s m ks → length ks ≡ n
   pub same_end : (ks : List ℕ) → IsOrder s m ks → length ks ≡ n → after s m ks ≡ end
+  pub same_output : (ks : List ℕ) → IsOrder s m ks → length ks ≡ n → written s m ks ≡ output
   -- whatever has fired, the rest can
   pub goes_on : (ks : List ℕ) → IsOrder s m ks → (k : ℕ) → length ks + k ≡ n → Leads s (after s m ks) k end
 
--- a trap with this output can still come
-pub record Fails {M : Type 0} (s : Moves M) (m : M) (trap : Trap × ℕ) (output : List ℕ) : Type 0 where
+-- a trap can still come, with this output where that was written before
+pub record Fails {M : Type 0} (s : Moves M) (m : M) (trap : Trap × ℕ) (before output : List ℕ) : Type 0 where
   pub rest : List ℕ
   pub order : IsOrder s m rest
   pub trapped : s.trap (after s m rest) ≡ Some trap
-  pub written : s.out (after s m rest) ≡ output
+  pub lines : before ++ written s m rest ≡ output
 
 -- Whatever the order, it ends only at this trap, with this output.
-pub record Traps {M : Type 0} (s : Moves M) (m : M) (trap : Trap × ℕ) (output : List ℕ) : Type 0 where
+pub record Traps {M : Type 0} (s : Moves M) (m : M) (trap : Trap × ℕ) : Type 0 where
+  pub output : List ℕ
   pub same_trap : (ks : List ℕ) → IsWhole s m ks → s.trap (after s m ks) ≡ Some trap
-  pub same_output : (ks : List ℕ) → IsWhole s m ks → s.out (after s m ks) ≡ output
-  pub prefix : (ks : List ℕ) → IsOrder s m ks → IsPrefix (s.out (after s m ks)) output
+  pub same_output : (ks : List ℕ) → IsWhole s m ks → written s m ks ≡ output
+  pub prefix : (ks : List ℕ) → IsOrder s m ks → IsPrefix (written s m ks) output
   -- whatever has fired, the trap can still come
-  pub goes_on : (ks : List ℕ) → IsOrder s m ks → Fails s (after s m ks) trap output
+  pub goes_on : (ks : List ℕ) → IsOrder s m ks → Fails s (after s m ks) trap (written s m ks) output
 
 -- An order that doesn't trap, and whose output is the front of another order's.
 pub record IsBehind {M : Type 0} (s : Moves M) (m : M) (ks others : List ℕ) : Type 0 where
   pub no_trap : s.trap (after s m ks) ≡ None
-  pub prefix : IsPrefix (s.out (after s m ks)) (s.out (after s m others))
+  pub prefix : IsPrefix (written s m ks) (written s m others)

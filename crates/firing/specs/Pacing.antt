@@ -2,7 +2,7 @@
 use Rattle.std.specs.Prelude.{◌≡◌, ◌≢◌, ◌≤◌, ◌⊎◌, ℕ, List, length, Some, None}
 use Rattle.op_table.specs.declared.Trap.{Trap}
 use Rattle.firing.specs.Moves.{Moves}
-use Rattle.firing.specs.Orders.{IsOrder, IsOver, IsPrefix, after, serial_count}
+use Rattle.firing.specs.Orders.{IsOrder, IsOver, IsPrefix, Settles, Traps, after, serial_count, written}
 
 -- where a source is: it goes on, has ended, or has trapped
 pub data Stage : Type 0 where
@@ -26,7 +26,7 @@ pub record IsBusy {M : Type 0} (s : Moves M) (own : ℕ → List ℕ) (stage : �
 pub record IsPaced {M : Type 0} (s : Moves M) (start : M) (text : ℕ → List ℕ) (stage : ℕ → Stage) (own : ℕ → List ℕ) : Type 0 where
   pub order : (n : ℕ) → IsOrder s start (own n)
   pub stands : (n : ℕ) → StandsAt s (after s start (own n)) (stage n)
-  pub written : (n : ℕ) → s.out (after s start (own n)) ≡ text n
+  pub lines : (n : ℕ) → written s start (own n) ≡ text n
   pub busy : (count : ℕ) → IsBusy s own stage count
 
 -- the output is a front of the source's
@@ -35,21 +35,24 @@ pub record WritesFront (text : ℕ → List ℕ) (output : List ℕ) : Type 0 wh
   pub prefix : IsPrefix output (text steps)
 
 -- the source has ended, at the same marking and after as many firings
-pub record EndsWith {M : Type 0} (s : Moves M) (start : M) (stage : ℕ → Stage) (own : ℕ → List ℕ) (ks : List ℕ) : Type 0 where
+pub record EndsWith {M : Type 0} (s : Moves M) (start : M) (text : ℕ → List ℕ) (stage : ℕ → Stage) (own : ℕ → List ℕ) (ks : List ℕ) : Type 0 where
   pub steps : ℕ
   pub done : stage steps ≡ Done
   pub count : length ks ≡ length (own steps)
   pub is : after s start ks ≡ after s start (own steps)
+  pub lines : written s start ks ≡ text steps
 
 -- the source has trapped, with the same trap and output
 pub record TrapsWith (text : ℕ → List ℕ) (stage : ℕ → Stage) (trap : Trap × ℕ) (output : List ℕ) : Type 0 where
   pub steps : ℕ
   pub failed : stage steps ≡ Failed trap
-  pub written : output ≡ text steps
+  pub lines : output ≡ text steps
 
 -- Whatever the order, its output is a front of the source's; it rests only where the source has ended, and traps only
--- where the source has trapped.
+-- where the source has trapped. Where the source ends, every order comes to rest; where it traps, none ends otherwise.
 pub record FollowsSource {M : Type 0} (s : Moves M) (start : M) (text : ℕ → List ℕ) (stage : ℕ → Stage) (own : ℕ → List ℕ) : Type 0 where
-  pub front : (ks : List ℕ) → IsOrder s start ks → WritesFront text (s.out (after s start ks))
-  pub rests : (ks : List ℕ) → IsOrder s start ks → IsOver s (after s start ks) → s.trap (after s start ks) ≡ None → EndsWith s start stage own ks
-  pub traps : (ks : List ℕ) (trap : Trap × ℕ) → IsOrder s start ks → s.trap (after s start ks) ≡ Some trap → TrapsWith text stage trap (s.out (after s start ks))
+  pub front : (ks : List ℕ) → IsOrder s start ks → WritesFront text (written s start ks)
+  pub rests : (ks : List ℕ) → IsOrder s start ks → IsOver s (after s start ks) → s.trap (after s start ks) ≡ None → EndsWith s start text stage own ks
+  pub traps : (ks : List ℕ) (trap : Trap × ℕ) → IsOrder s start ks → s.trap (after s start ks) ≡ Some trap → TrapsWith text stage trap (written s start ks)
+  pub ends : (n : ℕ) → stage n ≡ Done → Settles s start (length (own n)) (after s start (own n))
+  pub fails : (n : ℕ) (trap : Trap × ℕ) → stage n ≡ Failed trap → Traps s start trap

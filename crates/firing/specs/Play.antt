@@ -1,43 +1,36 @@
 -- Runs of a step system, firing by firing: which node fires each time, what is shown, and why a run ends.
-use Rattle.std.specs.Prelude.{◌≡◌, ◌≤◌, ◌<◌, ◌%◌, ℕ, zero, suc, if◌then◌else◌, List, [], ◌∷◌, ◌++◌, length, take, slice_index, Option, Some, None}
+use Rattle.std.specs.Prelude.{◌≡◌, ◌≤◌, ◌<◌, ◌%◌, ℕ, zero, suc, List, [], ◌++◌, length, take, slice_index, Option, Some, None}
 use Rattle.std.specs.Io.KnownBytes.{Appends}
 use Rattle.df_io.specs.Write.{AppendsFront}
 use Rattle.firing.specs.declared.playing.PlayEnd.{PlayEnd}
 use Rattle.firing.specs.declared.playing.PlayEnd.TheVariants.{Rest, Trapped, Limit, WriteFault}
 use Rattle.firing.specs.declared.playing.Show.{Show}
 use Rattle.firing.specs.declared.playing.Show.TheVariants.{Output, Nodes, Nothing}
+use Rattle.firing.specs.Choice.{chosen}
+use Rattle.firing.specs.Control.{Course, due_node, steered}
 use Rattle.firing.specs.Moves.{Moves, CanFire, line_bytes}
 use Rattle.firing.specs.NameLine.{name_line}
-use Rattle.firing.specs.Orders.{IsOrder, IsOver, after}
+use Rattle.firing.specs.Orders.{IsOrder, IsOver, after, written as written_by}
 
 -- a marking, and the control beside it
-pub record Moment (M C : Type 0) : Type 0 where
+pub record Moment (M P : Type 0) : Type 0 where
   pub marking : M
-  pub control : C
+  pub control : Option P
 
-abbrev pub moment : {M C : Type 0} → M → C → Moment M C
+abbrev pub moment : {M P : Type 0} → M → Option P → Moment M P
 moment m c = record { marking = m; control = c }
 
 -- A way of playing: what firings do, and which node the firing of this number is of.
-pub record Way (M C : Type 0) : Type 0 where
+pub record Way (M P : Type 0) : Type 0 where
   pub moves : Moves M
-  pub steered : M → C → ℕ → C
-  pub choice : ℕ → Moment M C → ℕ
+  pub course : Course M P
+  pub choice : ℕ → Moment M P → ℕ
 
 -- ---- which node fires
 
--- the ready nodes below n, in number order
-abbrev pub ready_below : {M : Type 0} → Moves M → M → ℕ → List ℕ
-ready_below s m zero = []
-ready_below s m (suc n) = ready_below s m n ++ (if s.ready m n then n ∷ [] else [])
-
--- the ready node that a pick q chooses: of the r ready nodes, in number order, the one at the place q mod r
-abbrev pub chosen : {M : Type 0} → Moves M → M → ℕ → ℕ
-chosen s m q = let nodes = ready_below s m s.nodes in slice_index nodes (q % length nodes)
-
 -- the picks choose, over and over
-abbrev pub by_picks : {M C : Type 0} → Moves M → (M → C → ℕ → C) → List ℕ → Way M C
-by_picks s steered picks = record { moves = s; steered = steered; choice = λ i now. chosen s now.marking (slice_index picks (i % length picks)) }
+abbrev pub by_picks : {M P : Type 0} → Moves M → Course M P → List ℕ → Way M P
+by_picks s course picks = record { moves = s; course = course; choice = λ i now. chosen s now.marking (slice_index picks (i % length picks)) }
 
 -- the node, if there is one
 abbrev pub node_of : Option ℕ → ℕ
@@ -45,22 +38,22 @@ node_of None = 0
 node_of (Some k) = k
 
 -- the node that is due fires
-abbrev pub by_order : {M C : Type 0} → Moves M → (M → C → ℕ → C) → (M → C → Option ℕ) → Way M C
-by_order s steered due = record { moves = s; steered = steered; choice = λ i now. node_of (due now.marking now.control) }
+abbrev pub by_order : {M P : Type 0} → Moves M → Course M P → Way M P
+by_order s course = record { moves = s; course = course; choice = λ i now. node_of (due_node s course now.marking now.control) }
 
 -- ---- runs
 
 -- the moment after a firing
-abbrev pub next : {M C : Type 0} → Way M C → Moment M C → ℕ → Moment M C
-next w now k = moment (w.moves.fired now.marking k) (w.steered now.marking now.control k)
+abbrev pub next : {M P : Type 0} → Way M P → Moment M P → ℕ → Moment M P
+next w now k = moment (w.moves.fired now.marking k) (steered w.course now.marking now.control k)
 
 -- the moment after n firings
-abbrev pub played : {M C : Type 0} → Way M C → Moment M C → ℕ → Moment M C
+abbrev pub played : {M P : Type 0} → Way M P → Moment M P → ℕ → Moment M P
 played w start zero = start
 played w start (suc n) = next w (played w start n) (w.choice n (played w start n))
 
 -- the node of the firing number n
-abbrev pub node_at : {M C : Type 0} → Way M C → Moment M C → ℕ → ℕ
+abbrev pub node_at : {M P : Type 0} → Way M P → Moment M P → ℕ → ℕ
 node_at w start n = w.choice n (played w start n)
 
 -- what is shown of a firing
@@ -70,25 +63,25 @@ shown_of s Nodes m k = name_line k (s.name k)
 shown_of s Nothing m k = []
 
 -- what is shown of the firing number n
-abbrev pub shown_at : {M C : Type 0} → Way M C → Show → Moment M C → ℕ → List ℕ
+abbrev pub shown_at : {M P : Type 0} → Way M P → Show → Moment M P → ℕ → List ℕ
 shown_at w show start n = shown_of w.moves show (played w start n).marking (node_at w start n)
 
 -- what is shown of n firings
-abbrev pub shown : {M C : Type 0} → Way M C → Show → Moment M C → ℕ → List ℕ
+abbrev pub shown : {M P : Type 0} → Way M P → Show → Moment M P → ℕ → List ℕ
 shown w show start zero = []
 shown w show start (suc n) = shown w show start n ++ shown_at w show start n
 
 -- ---- ends
 
 -- why a run ends after n firings
-abbrev pub EndsBy : {M C : Type 0} → Way M C → Moment M C → (limit n : ℕ) → PlayEnd → Type 0
+abbrev pub EndsBy : {M P : Type 0} → Way M P → Moment M P → (limit n : ℕ) → PlayEnd → Type 0
 EndsBy w start limit n (Rest count) = (count ≡ n) × (w.moves.trap (played w start n).marking ≡ None) × IsOver w.moves (played w start n).marking
 EndsBy w start limit n (Trapped trap line) = w.moves.trap (played w start n).marking ≡ Some (trap, line)
 EndsBy w start limit n Limit = (n ≡ limit) × CanFire w.moves (played w start n).marking (node_at w start n)
 EndsBy w start limit n (WriteFault count) = count ≡ n
 
 -- What is shown of all firings but the last was written, and of the last one a front.
-pub record BreaksOff {M C : Type 0} (w : Way M C) (show : Show) (start : Moment M C) (n : ℕ) (old new : Option (List ℕ)) : Type 0 where
+pub record BreaksOff {M P : Type 0} (w : Way M P) (show : Show) (start : Moment M P) (n : ℕ) (old new : Option (List ℕ)) : Type 0 where
   pub last : ℕ
   pub is : n ≡ suc last
   pub count : ℕ
@@ -96,12 +89,12 @@ pub record BreaksOff {M C : Type 0} (w : Way M C) (show : Show) (start : Moment 
   pub written : Appends old new (shown w show start last ++ take count (shown_at w show start last))
 
 -- what was written of n firings
-abbrev pub Writes : {M C : Type 0} → Way M C → Show → Moment M C → ℕ → (old new : Option (List ℕ)) → PlayEnd → Type 0
+abbrev pub Writes : {M P : Type 0} → Way M P → Show → Moment M P → ℕ → (old new : Option (List ℕ)) → PlayEnd → Type 0
 Writes w show start n old new (WriteFault count) = BreaksOff w show start n old new
 Writes w show start n old new _ = Appends old new (shown w show start n)
 
 -- A run up to a stop or the limit.
-pub record Plays {M C : Type 0} (w : Way M C) (start : Moment M C) (limit : ℕ) (show : Show) (end : Moment M C) (old new : Option (List ℕ)) (result : PlayEnd) : Type 0 where
+pub record Plays {M P : Type 0} (w : Way M P) (start : Moment M P) (limit : ℕ) (show : Show) (end : Moment M P) (old new : Option (List ℕ)) (result : PlayEnd) : Type 0 where
   pub firings : ℕ
   pub leads : end ≡ played w start firings
   -- each node could fire in its turn, so that there was no stop before
@@ -118,11 +111,17 @@ WritesOutput Output added old new (WriteFault count) = AppendsFront old new adde
 WritesOutput Output added old new _ = Appends old new added
 WritesOutput _ added old new _ = Unit {0}
 
+-- how many firings an answer tells
+abbrev pub Counts : (limit made : ℕ) → PlayEnd → Type 0
+Counts limit made (Rest n) = made ≡ n
+Counts limit made (Trapped trap line) = made ≤ limit
+Counts limit made Limit = made ≡ limit
+Counts limit made (WriteFault n) = made ≡ n
+
 -- The nodes that fired are an order, and what is written as output is what it adds to the output.
-pub record MakesOrder {M : Type 0} (s : Moves M) (start : M) (show : Show) (end : M) (old new : Option (List ℕ)) (result : PlayEnd) : Type 0 where
+pub record MakesOrder {M : Type 0} (s : Moves M) (start : M) (limit : ℕ) (show : Show) (end : M) (old new : Option (List ℕ)) (result : PlayEnd) : Type 0 where
   pub nodes : List ℕ
+  pub count : Counts limit (length nodes) result
   pub order : IsOrder s start nodes
   pub leads : after s start nodes ≡ end
-  pub added : List ℕ
-  pub output : s.out end ≡ s.out start ++ added
-  pub written : WritesOutput show added old new result
+  pub written : WritesOutput show (written_by s start nodes) old new result

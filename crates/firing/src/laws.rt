@@ -1,9 +1,11 @@
 // What every order of firing has in common, as contracts of a function that does nothing.
 
-ghost use Rattle.std.specs.Prelude.{◌≡◌, ◌≤◌, ℕ, List, Some, None, length};
+ghost use Rattle.std.specs.Prelude.{◌≡◌, ◌<◌, ◌≤◌, ℕ, List, Some, None, length};
 ghost use Rattle.op_table.specs.declared.Trap.{Trap};
 ghost use Rattle.firing.specs.Orders.{IsBehind, IsOrder, IsWhole, Settles, Traps, after, serial_count};
 ghost use Rattle.firing.specs.Pacing.{FollowsSource, IsPaced, Stage};
+ghost use Rattle.firing.specs.Play.{Moment, by_order, by_picks};
+ghost use Rattle.firing.specs.Resuming.{GoesOn, turned};
 
 use crate::StepSystem;
 
@@ -12,13 +14,22 @@ use crate::StepSystem;
 /// no more serial firings writes a front of what the other writes, where that one doesn't trap.
 pub fn every_order<S: StepSystem>()
     ensures rest { (net : S.Net) (m : S.Marking) (ks : List ℕ) → S.sound net m → IsWhole (S.moves net) m ks → (S.moves net).trap (after (S.moves net) m ks) ≡ None → Settles (S.moves net) m (length ks) (after (S.moves net) m ks) }
-    ensures trap { (net : S.Net) (m : S.Marking) (ks : List ℕ) (trap : Trap) (line : ℕ) → S.sound net m → IsOrder (S.moves net) m ks → (S.moves net).trap (after (S.moves net) m ks) ≡ Some (trap, line) → Traps (S.moves net) m (trap, line) ((S.moves net).out (after (S.moves net) m ks)) }
+    ensures trap { (net : S.Net) (m : S.Marking) (ks : List ℕ) (trap : Trap) (line : ℕ) → S.sound net m → IsOrder (S.moves net) m ks → (S.moves net).trap (after (S.moves net) m ks) ≡ Some (trap, line) → Traps (S.moves net) m (trap, line) }
     ensures prefix { (net : S.Net) (m : S.Marking) (ks others : List ℕ) → S.sound net m → IsOrder (S.moves net) m ks → IsOrder (S.moves net) m others → (S.moves net).trap (after (S.moves net) m others) ≡ None → serial_count (S.moves net) ks ≤ serial_count (S.moves net) others → IsBehind (S.moves net) m ks others }
 {}
 
 /// Where one order keeps pace with a source that is given by its output and stage after each number of steps, every order
 /// follows the source: its output is a front of the source's, it comes to rest only where the source has ended, after as
 /// many firings and at the same marking, and it traps only where the source has trapped, with the same trap and output.
+/// Where the source ends, every order comes to rest; where it traps, none ends otherwise.
 pub fn every_order_follows<S: StepSystem>()
     ensures { (net : S.Net) (start : S.Marking) (text : ℕ → List ℕ) (stage : ℕ → Stage) (own : ℕ → List ℕ) → S.sound net start → IsPaced (S.moves net) start text stage own → FollowsSource (S.moves net) start text stage own }
+{}
+
+/// A run that was stopped can go on. After the first a firings a run by picks goes on as a run from there by the picks
+/// turned by a, and a run in the source's own order as such a run from there. So a run that stopped at the limit a and one
+/// from there up to a limit b are one run up to the limit a + b.
+pub fn runs_go_on<S: StepSystem>()
+    ensures picks { (net : S.Net) (picks : List ℕ) (start : Moment S.Marking S.Place) (a : ℕ) → 0 < length picks → GoesOn (by_picks (S.moves net) (S.course net) picks) start a (by_picks (S.moves net) (S.course net) (turned a picks)) }
+    ensures order { (net : S.Net) (start : Moment S.Marking S.Place) (a : ℕ) → GoesOn (by_order (S.moves net) (S.course net)) start a (by_order (S.moves net) (S.course net)) }
 {}

@@ -1,6 +1,7 @@
 //! Nodes that fire in any order: the laws of a step system, and what they say of every order.
 #![tactic(auto)]
 
+mod footprints;
 mod laws;
 mod marks;
 mod name_line;
@@ -10,7 +11,8 @@ mod source_order;
 mod step;
 mod system;
 
-pub use laws::{every_order, every_order_follows};
+pub use footprints::{InParts, footprints_commute};
+pub use laws::{every_order, every_order_follows, runs_go_on};
 pub use playing::{PlayEnd, Show, play};
 pub use ready_set::ReadySet;
 pub use source_order::{SourceOrder, follow};

@@ -1,6 +1,7 @@
-ghost use Rattle.std.specs.Prelude.{◌≡◌, ◌<◌, ◌≤◌, ℕ, length};
+ghost use Rattle.std.specs.Prelude.{◌≡◌, ◌+◌, ◌%◌, ◌<◌, ◌≤◌, ℕ, length};
 ghost use Rattle.df_io.specs.Faults.{Rose};
 ghost use Rattle.op_table.specs.declared.Trap.{Trap};
+ghost use Rattle.firing.specs.Control.{IsInStep};
 ghost use Rattle.firing.specs.Orders.{Settles, Traps};
 ghost use Rattle.firing.specs.Play.{MakesOrder, Plays, by_picks, moment};
 
@@ -39,7 +40,7 @@ pub enum PlayEnd {
 /// over and over.
 ///
 /// A trap, a rest and the limit are looked for in this order before each firing. It takes no memory, and uses the marks of
-/// the system for its own.
+/// the system for its own. Control is lost once a pick chooses another node than the one that is due.
 pub fn play<S: StepSystem, K: Sink>(
     sys: &mut S,
     picks: &[u32],
@@ -49,22 +50,24 @@ pub fn play<S: StepSystem, K: Sink>(
 ) -> PlayEnd
     requires picks { 0 < length picks.now }
     requires sound { S.sound (S.net sys.old) (S.marking sys.old) }
+    requires in_step { IsInStep (S.moves (S.net sys.old)) (S.in_step (S.net sys.old)) (S.marking sys.old) (S.place sys.old) }
 
     // The run that the picks choose, and what was written of it.
-    ensures plays { Plays (by_picks (S.moves (S.net sys.old)) (S.steered (S.net sys.old)) picks.now) (moment (S.marking sys.old) (S.control sys.old)) limit show (moment (S.marking sys.new) (S.control sys.new)) (K.got sink.old) (K.got sink.new) result }
+    ensures plays { Plays (by_picks (S.moves (S.net sys.old)) (S.course (S.net sys.old)) picks.now) (moment (S.marking sys.old) (S.place sys.old)) limit show (moment (S.marking sys.new) (S.place sys.new)) (K.got sink.old) (K.got sink.new) result }
     ensures net { S.net sys.new ≡ S.net sys.old }
     ensures sound { S.sound (S.net sys.old) (S.marking sys.new) }
+    ensures in_step { IsInStep (S.moves (S.net sys.old)) (S.in_step (S.net sys.old)) (S.marking sys.new) (S.place sys.new) }
 
     // The sink is blamed only where it failed.
     ensures later { K.faults sink.old ≤ K.faults sink.new }
     ensures fault { (n : ℕ) → result ≡ PlayEnd.WriteFault n → Rose (K.faults sink.old) (K.faults sink.new) }
 
     // The firings are an order, and its output is what was written as such.
-    ensures order { MakesOrder (S.moves (S.net sys.old)) (S.marking sys.old) show (S.marking sys.new) (K.got sink.old) (K.got sink.new) result }
+    ensures order { MakesOrder (S.moves (S.net sys.old)) (S.marking sys.old) limit show (S.marking sys.new) (K.got sink.old) (K.got sink.new) result }
 
     // No other order of firing comes to another end.
     ensures settles { (n : ℕ) → result ≡ PlayEnd.Rest n → Settles (S.moves (S.net sys.old)) (S.marking sys.old) n (S.marking sys.new) }
-    ensures traps { (trap : Trap) (line : ℕ) → result ≡ PlayEnd.Trapped trap line → Traps (S.moves (S.net sys.old)) (S.marking sys.old) (trap, line) ((S.moves (S.net sys.old)).out (S.marking sys.new)) }
+    ensures traps { (trap : Trap) (line : ℕ) → result ≡ PlayEnd.Trapped trap line → Traps (S.moves (S.net sys.old)) (S.marking sys.old) (trap, line) }
 {
     fire_chosen(sys, picks, limit, show, sink)
 }
@@ -79,14 +82,17 @@ fn fire_chosen<S: StepSystem, K: Sink>(
 ) -> PlayEnd
     requires picks { 0 < length picks.now }
     requires sound { S.sound (S.net sys.old) (S.marking sys.old) }
-    ensures plays { Plays (by_picks (S.moves (S.net sys.old)) (S.steered (S.net sys.old)) picks.now) (moment (S.marking sys.old) (S.control sys.old)) limit show (moment (S.marking sys.new) (S.control sys.new)) (K.got sink.old) (K.got sink.new) result }
+    requires in_step { IsInStep (S.moves (S.net sys.old)) (S.in_step (S.net sys.old)) (S.marking sys.old) (S.place sys.old) }
+    ensures plays { Plays (by_picks (S.moves (S.net sys.old)) (S.course (S.net sys.old)) picks.now) (moment (S.marking sys.old) (S.place sys.old)) limit show (moment (S.marking sys.new) (S.place sys.new)) (K.got sink.old) (K.got sink.new) result }
     ensures net { S.net sys.new ≡ S.net sys.old }
     ensures sound { S.sound (S.net sys.old) (S.marking sys.new) }
+    ensures in_step { IsInStep (S.moves (S.net sys.old)) (S.in_step (S.net sys.old)) (S.marking sys.new) (S.place sys.new) }
     ensures later { K.faults sink.old ≤ K.faults sink.new }
     ensures fault { (n : ℕ) → result ≡ PlayEnd.WriteFault n → Rose (K.faults sink.old) (K.faults sink.new) }
 {
     mark_ready(sys);
     let mut made: u64 = 0;
+    let mut turn = 0;
     'firing: loop {
         if let Some((trap, line)) = sys.trap() {
             return PlayEnd::Trapped(trap, line);
@@ -95,15 +101,23 @@ fn fire_chosen<S: StepSystem, K: Sink>(
         if ready == 0 {
             return PlayEnd::Rest(made);
         }
-        let pick = picks[(made % picks.len() as u64) as usize];
-        let k = sys.marked_at(pick % ready);
+        let k = sys.marked_at(picks[turn] % ready);
         if made == limit {
             return PlayEnd::Limit;
         }
         made += 1;
+        turn = next_turn(turn, picks.len());
         if let Err(WriteFault) = step(sys, k, show, sink) {
             return PlayEnd::WriteFault(made);
         }
         retest_fired(sys, k);
     }
+}
+
+// The place after this one in a list of so many, which is gone through over and over.
+fn next_turn(turn: usize, count: usize) -> usize
+    requires { turn < count }
+    ensures { result ≡ (turn + 1) % count }
+{
+    if turn + 1 == count { 0 } else { turn + 1 }
 }

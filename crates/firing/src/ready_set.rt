@@ -1,15 +1,18 @@
 //! Sets of numbers that find a member by its place.
 
-ghost use Rattle.std.specs.Prelude.{◌≡◌, ◌+◌, ◌-◌, ◌<◌, ◌≤◌, ◌^◌, true, false, length, get_or, replicate, set, vec_len, IfOk};
-ghost use Rattle.firing.specs.BlockCounts.{before, shifted};
-ghost use Rattle.firing.specs.ReadySet.{IsMemberAt, member_count, rank};
+ghost use Rattle.std.specs.Prelude.{◌≡◌, ◌+◌, ◌-◌, ◌*◌, ◌<◌, ◌≤◌, ◌^◌, true, false, length, get_or, replicate, set, vec_len, count_ones, IfOk};
+ghost use Rattle.firing.specs.BlockCounts.{IsDigitAt, IsInBlock, before, ones_of, shifted};
+ghost use Rattle.firing.specs.ReadySet.{IsMemberAt, member_count};
 
 use df_io::NoMemory;
 use std::alloc::Global;
 use std::marker::Model;
 
-// How many numbers a block of each level holds. Each block has 32 of the level below, so that few counts are read.
-const LOW: usize = 32;
+// How many numbers a word and a block of each level hold. A block has 16 or 32 of the level below, so that few counts are
+// read on the way to a member.
+const WORD: usize = 64;
+
+const LOW: usize = 16 * WORD;
 
 const MID: usize = 32 * LOW;
 
@@ -18,7 +21,8 @@ const HIGH: usize = 32 * MID;
 /// A set of the numbers below a room. Contracts see it as a flag for each of them.
 #[derive(Drop)]
 pub struct ReadySet {
-    flags: Vec<bool>,
+    room: u32,
+    words: Vec<u64>,
     low: Vec<u32>,
     mid: Vec<u32>,
     high: Vec<u32>,
@@ -27,13 +31,13 @@ pub struct ReadySet {
 
 impl Model for ReadySet {
     ghost use Rattle.std.specs.Prelude.{Bool, List};
-    ghost use Rattle.firing.specs.BlockCounts.{IsCounted};
+    ghost use Rattle.firing.specs.BlockCounts.{AreWords, IsCounted, flags_of};
 
     ghost Value = { List Bool };
 
-    ghost view = { λ s. s.flags.items };
+    ghost view = { λ s. flags_of s.words.items s.room };
 
-    ghost invariant = { λ s. IsCounted s.flags.items s.low.items s.mid.items s.high.items s.total };
+    ghost invariant = { λ s. AreWords s.words.items s.room × IsCounted (flags_of s.words.items s.room) s.low.items s.mid.items s.high.items s.total };
 }
 
 impl ReadySet {
@@ -43,7 +47,8 @@ impl ReadySet {
     {
         let room = nodes as usize;
         Ok(ReadySet {
-            flags: vec![in alloc; false; room]?,
+            room: nodes,
+            words: vec![in alloc; 0; room / WORD + 1]?,
             low: vec![in alloc; 0; room / LOW + 1]?,
             mid: vec![in alloc; 0; room / MID + 1]?,
             high: vec![in alloc; 0; room / HIGH + 1]?,
@@ -64,10 +69,12 @@ impl ReadySet {
         ensures { self.new ≡ set self.old k ready }
     {
         let k = k as usize;
-        if self.flags[k] == ready {
+        let word = self.words[k / WORD];
+        let digit = 1 << (k % WORD);
+        if (word & digit != 0) == ready {
             return;
         }
-        self.flags[k] = ready;
+        self.words[k / WORD] = word ^ digit;
         shift(&mut self.low, k / LOW, ready);
         shift(&mut self.mid, k / MID, ready);
         shift(&mut self.high, k / HIGH, ready);
@@ -83,10 +90,43 @@ impl ReadySet {
         requires { place < member_count self.now }
         ensures { IsMemberAt self.now place result }
     {
-        let (high, place) = scan(&self.high, 0, place);
-        let (mid, place) = scan(&self.mid, 32 * high, place);
-        let (low, place) = scan(&self.low, 32 * mid, place);
-        member_from(&self.flags, LOW * low, place) as u32
+        let (b, left) = self.word(place);
+        let word = self.words[b];
+        let digit = set_digit(word, left);
+        (WORD * b) as u32 + digit
+    }
+
+    // The word that has the member at this place, and its place in the word. The other functions tell so of a block.
+    fn word(&self, place: u32) -> (usize, u32)
+        requires { place < member_count self.now }
+        ensures { IsInBlock self.now 64 place result.0 result.1 }
+    {
+        let (b, left) = self.low_block(place);
+        let words = self.words.as_slice();
+        scan_words(words, 16 * b, left)
+    }
+
+    fn low_block(&self, place: u32) -> (usize, u32)
+        requires { place < member_count self.now }
+        ensures { IsInBlock self.now 1024 place result.0 result.1 }
+    {
+        let (b, left) = self.mid_block(place);
+        scan(&self.low, 32 * b, left)
+    }
+
+    fn mid_block(&self, place: u32) -> (usize, u32)
+        requires { place < member_count self.now }
+        ensures { IsInBlock self.now 32768 place result.0 result.1 }
+    {
+        let (b, left) = self.high_block(place);
+        scan(&self.mid, 32 * b, left)
+    }
+
+    fn high_block(&self, place: u32) -> (usize, u32)
+        requires { place < member_count self.now }
+        ensures { IsInBlock self.now 1048576 place result.0 result.1 }
+    {
+        scan(&self.high, 0, place)
     }
 }
 
@@ -121,23 +161,32 @@ fn scan(counts: &[u32], first: usize, place: u32) -> (usize, u32)
     (b, left)
 }
 
-// The member at this place among those from a first number on.
-fn member_from(flags: &[bool], first: usize, place: u32) -> usize
-    requires inside { first ≤ length flags.now }
-    requires some { rank flags.now first + place < member_count flags.now }
-    ensures { IsMemberAt flags.now (rank flags.now first + place) result }
+// The word, from a first one on, to which the member at this place belongs, and the place among its members.
+fn scan_words(words: &[u64], first: usize, place: u32) -> (usize, u32)
+    requires inside { first ≤ length words.now }
+    requires some { before (ones_of words.now) first + place < before (ones_of words.now) (length words.now) }
+    ensures within { result.0 < length words.now }
+    ensures same { before (ones_of words.now) result.0 + result.1 ≡ before (ones_of words.now) first + place }
+    ensures short { result.1 < get_or (ones_of words.now) result.0 0 }
 {
-    let mut k = first;
+    let mut b = first;
     let mut left = place;
-    loop {
-        if !flags[k] {
-            k += 1;
-            continue;
-        }
-        if left == 0 {
-            return k;
-        }
-        left -= 1;
-        k += 1;
+    while left >= words[b].count_ones() {
+        left -= words[b].count_ones();
+        b += 1;
     }
+    (b, left)
+}
+
+// The set digit at this place, counted from the lowest.
+fn set_digit(word: u64, place: u32) -> u32
+    requires { place < count_ones word }
+    ensures { IsDigitAt word place result }
+{
+    let mut rest = word;
+    for _taken in 0..place {
+        // Takes the lowest set digit away.
+        rest &= rest - 1;
+    }
+    rest.trailing_zeros()
 }

@@ -4,6 +4,7 @@ ghost use Rattle.std.specs.Prelude.{◌≡◌, ◌≤◌, OnOk, OnErr};
 ghost use Rattle.std.specs.Io.KnownBytes.{Appends};
 ghost use Rattle.df_io.specs.Faults.{Rose};
 ghost use Rattle.df_io.specs.Write.{AppendsFront};
+ghost use Rattle.firing.specs.Control.{IsInStep, steered};
 ghost use Rattle.firing.specs.Marks.{Wakes};
 ghost use Rattle.firing.specs.Moves.{CanFire, line_after};
 ghost use Rattle.firing.specs.Play.{shown_of};
@@ -21,9 +22,12 @@ pub fn step<S: StepSystem, K: Sink>(
 ) -> Result<(), WriteFault>
     requires can { CanFire (S.moves (S.net sys.old)) (S.marking sys.old) k }
     requires sound { S.sound (S.net sys.old) (S.marking sys.old) }
+    requires in_step { IsInStep (S.moves (S.net sys.old)) (S.in_step (S.net sys.old)) (S.marking sys.old) (S.place sys.old) }
     ensures net { S.net sys.new ≡ S.net sys.old }
     ensures marking { S.marking sys.new ≡ (S.moves (S.net sys.old)).fired (S.marking sys.old) k }
-    ensures control { S.control sys.new ≡ S.steered (S.net sys.old) (S.marking sys.old) (S.control sys.old) k }
+    ensures place { S.place sys.new ≡ steered (S.course (S.net sys.old)) (S.marking sys.old) (S.place sys.old) k }
+    ensures sound { S.sound (S.net sys.old) (S.marking sys.new) }
+    ensures in_step { IsInStep (S.moves (S.net sys.old)) (S.in_step (S.net sys.old)) (S.marking sys.new) (S.place sys.new) }
     ensures wakes { Wakes (S.moves (S.net sys.old)) (S.marking sys.old) k (S.woken sys.new) }
     ensures marks { S.marks sys.new ≡ S.marks sys.old }
     ensures all { OnOk result (Appends (K.got sink.old) (K.got sink.new) (shown_of (S.moves (S.net sys.old)) show (S.marking sys.old) k)) }

@@ -1,4 +1,5 @@
 ghost use Rattle.std.specs.Prelude.{◌≡◌, ◌<◌, ℕ, Bool, List, Option, None, true, length, set};
+ghost use Rattle.firing.specs.Control.{Course, IsInStep, KeepsStep, steered};
 ghost use Rattle.firing.specs.Laws.{IsLawful};
 ghost use Rattle.firing.specs.Marks.{Wakes};
 ghost use Rattle.firing.specs.Moves.{Moves, FiredIs, newest};
@@ -40,18 +41,19 @@ pub trait StepSystem {
     /// What the nodes have to work on, at one moment.
     ghost Marking: { Type 0 };
 
-    /// What is kept beside the marking for the source's own order: the place of control. A system without an order of
-    /// its own takes the unit type.
-    ghost Control: { Type 0 };
+    /// A place in the source's own order. A system without an order of its own takes the unit type.
+    ghost Place: { Type 0 };
 
     ghost net: { Self → Self.Net };
 
     /// The moment's marking.
     ghost marking: { Self → Self.Marking };
 
-    ghost control: { Self → Self.Control };
+    /// The place of control. It is lost once another node fires than the one that is due there, and then it stays lost;
+    /// without an order of its own a system never has one.
+    ghost place: { Self → Option Self.Place };
 
-    /// The line of the last firing that wrote one.
+    /// The line of the last firing that wrote one, empty before one did.
     ghost last: { Self → List ℕ };
 
     /// The nodes that the last firing can have made ready.
@@ -66,15 +68,11 @@ pub trait StepSystem {
     /// What markings mean.
     ghost moves: { Self.Net → Moves Self.Marking };
 
-    /// The control after a node fires.
-    ghost steered: { Self.Net → Self.Marking → Self.Control → ℕ → Self.Control };
+    /// The node that is due at a place, and the place to which its firing leads.
+    ghost course: { Self.Net → Course Self.Marking Self.Place };
 
-    /// Holds of a marking and the control that can stand beside it: of any two, where the system has no order of its own.
-    ghost in_step: { Self.Net → Self.Marking → Self.Control → Type 0 };
-
-    /// The node that the source's own order fires next. After a firing of another node than the one due it is the lowest
-    /// ready node. A system without an order of its own has none.
-    ghost due_node: { Self.Net → Self.Marking → Self.Control → Option ℕ };
+    /// Holds of a marking and a place that can stand beside it.
+    ghost in_step: { Self.Net → Self.Marking → Self.Place → Type 0 };
 
     /// How many nodes there are. The marked ones are among them.
     fn nodes(&self) -> u32
@@ -83,7 +81,8 @@ pub trait StepSystem {
 
     /// Whether a node has all that it needs.
     fn ready(&self, k: u32) -> bool
-        requires { k < (Self.moves (Self.net self.now)).nodes }
+        requires node { k < (Self.moves (Self.net self.now)).nodes }
+        requires sound { Self.sound (Self.net self.now) (Self.marking self.now) }
         ensures { result ≡ (Self.moves (Self.net self.now)).ready (Self.marking self.now) k };
 
     /// Fires a node that is ready, where nothing has trapped.
@@ -92,9 +91,10 @@ pub trait StepSystem {
         requires ready { (Self.moves (Self.net self.old)).ready (Self.marking self.old) k ≡ true }
         requires going { (Self.moves (Self.net self.old)).trap (Self.marking self.old) ≡ None }
         requires sound { Self.sound (Self.net self.old) (Self.marking self.old) }
+        requires in_step { IsInStep (Self.moves (Self.net self.old)) (Self.in_step (Self.net self.old)) (Self.marking self.old) (Self.place self.old) }
         ensures net { Self.net self.new ≡ Self.net self.old }
         ensures marking { Self.marking self.new ≡ (Self.moves (Self.net self.old)).fired (Self.marking self.old) k }
-        ensures control { Self.control self.new ≡ Self.steered (Self.net self.old) (Self.marking self.old) (Self.control self.old) k }
+        ensures place { Self.place self.new ≡ steered (Self.course (Self.net self.old)) (Self.marking self.old) (Self.place self.old) k }
         ensures wakes { Wakes (Self.moves (Self.net self.old)) (Self.marking self.old) k (Self.woken self.new) }
         ensures marks { Self.marks self.new ≡ Self.marks self.old }
         ensures fired { FiredIs (Self.moves (Self.net self.old)) (Self.marking self.old) k result }
@@ -104,7 +104,8 @@ pub trait StepSystem {
     fn line(&self) -> &[u8]
         ensures { result.now ≡ Self.last self.now };
 
-    /// The nodes that the last firing can have made ready, in any order, and others besides.
+    /// The nodes that the last firing can have made ready, in any order, and others besides. Each is tested as often as it
+    /// is named, so a system does well to name it once.
     fn woken(&self) -> &[u32]
         ensures { result.now ≡ Self.woken self.now };
 
@@ -114,7 +115,7 @@ pub trait StepSystem {
         ensures marks { Self.marks self.new ≡ set (Self.marks self.old) k ready }
         ensures net { Self.net self.new ≡ Self.net self.old }
         ensures marking { Self.marking self.new ≡ Self.marking self.old }
-        ensures control { Self.control self.new ≡ Self.control self.old }
+        ensures place { Self.place self.new ≡ Self.place self.old }
         ensures woken { Self.woken self.new ≡ Self.woken self.old }
         ensures last { Self.last self.new ≡ Self.last self.old };
 
@@ -123,9 +124,9 @@ pub trait StepSystem {
         ensures { result ≡ member_count (Self.marks self.now) };
 
     /// The marked node at this place, counted from 0 in number order.
-    fn marked_at(&self, place: u32) -> u32
-        requires { place < member_count (Self.marks self.now) }
-        ensures { IsMemberAt (Self.marks self.now) place result };
+    fn marked_at(&self, nth: u32) -> u32
+        requires { nth < member_count (Self.marks self.now) }
+        ensures { IsMemberAt (Self.marks self.now) nth result };
 
     /// The trap, and the line of the source at which it came.
     fn trap(&self) -> Option<(Trap, u32)>
@@ -138,4 +139,7 @@ pub trait StepSystem {
 
     /// Of two nodes that may both fire, neither minds if the other fires first.
     ghost lawful: { (net : Self.Net) → IsLawful (Self.sound net) (Self.moves net) };
+
+    /// Where the node that is due fires, the place of control stays in step with the marking.
+    ghost steady: { (net : Self.Net) → KeepsStep (Self.sound net) (Self.moves net) (Self.course net) (Self.in_step net) };
 }

@@ -47,12 +47,11 @@ module _ (pairs : Pairs) where
   pub swing_laws : IsLawful (has_pairs pairs) (swing_moves pairs)
   swing_laws = record {
     either_order = λ m j k both. set_comm m (j / 2) (k / 2) (nat_eq (j % 2) 1) (nat_eq (k % 2) 1) (apart m j k both.differ both.first.ready both.second.ready);
-    stays_ready = λ m j k both none. as_before m j k (λ e. apart m j k both.differ both.first.ready both.second.ready (sym e)) ∙ both.second.ready;
+    stays_ready = λ m j k both. as_before m j k (λ e. apart m j k both.differ both.first.ready both.second.ready (sym e)) ∙ both.second.ready;
     one_serial = λ m j k both serial. absurd cc;
     same_line = λ m j k both none. refl;
     same_trap = λ m j k both none. refl;
     silent = λ m k small can is. record { line = refl; trap = refl };
-    written = λ m k small can. refl;
     stays_sound = λ m k small can. length-set m (k / 2) (nat_eq (k % 2) 1) ∙ small;
   }
 

@@ -1,5 +1,5 @@
 -- Pairs of nodes that pass a token to and fro, from a first live pair on.
-use Rattle.std.specs.Prelude.{◌≡◌, ◌+◌, ◌-◌, ◌*◌, ◌/◌, ◌%◌, ◌&&◌, ℕ, Bool, false, not, nat_le, nat_eq, if◌then◌else◌, List, [], length, get_or, set, None}
+use Rattle.std.specs.Prelude.{◌≡◌, ◌+◌, ◌-◌, ◌*◌, ◌/◌, ◌%◌, ◌&&◌, ℕ, Bool, false, not, nat_le, nat_eq, if◌then◌else◌, List, length, get_or, set, None}
 use Rattle.firing.specs.declared.system.NodeName.TheVariants.{Act}
 use Rattle.firing.specs.Moves.{Moves}
 
@@ -30,7 +30,6 @@ swing_moves pairs = record {
   ready = is_ready pairs;
   fired = after_node;
   line = λ m k. None;
-  out = λ m. [];
   trap = λ m. None;
 }
 

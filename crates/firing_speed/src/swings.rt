@@ -14,7 +14,6 @@ pub struct Swings {
     even_has: Vec<bool>,
     woken: [u32; 1],
     set: ReadySet,
-    ghost tokens: { vec_len even_has ≡ count },
     ghost few: { 2 * count < 2 ^ 32 },
     ghost room: { length set ≡ 2 * count },
     ghost woken_one: { length woken ≡ 1 },
@@ -23,10 +22,11 @@ pub struct Swings {
 impl Swings {
     ghost use Rattle.std.specs.Prelude.{◌≡◌, ◌<◌, ◌≤◌, ◌^◌, IfOk, vec_len};
 
-    /// So many pairs, of which those from `first` on have a token at their even node.
+    /// So many pairs, of which those from `first` on have a token at their even node. They have no order of their own.
     pub fn new(alloc: Global, count: u32, first: u32) -> Result<Swings, NoMemory>
         requires { count < 2 ^ 31 }
-        ensures { IfOk result (λ s. s.count ≡ count) }
+        ensures count { IfOk result (λ s. s.count ≡ count) }
+        ensures tokens { IfOk result (λ s. vec_len s.even_has ≡ count) }
     {
         let even_has = vec![in alloc; true; count as usize]?;
         let set = ReadySet::with_room(alloc, 2 * count)?;
@@ -64,13 +64,13 @@ impl StepSystem for Swings {
 
     ghost Marking = { List Bool };
 
-    ghost Control = { ⊤ };
+    ghost Place = { ⊤ };
 
     ghost net = { λ s. record { count = s.count; first = s.first } };
 
     ghost marking = { λ s. s.even_has.items };
 
-    ghost control = { λ _. tt };
+    ghost place = { λ _. None };
 
     ghost last = { λ _. [] };
 
@@ -82,11 +82,9 @@ impl StepSystem for Swings {
 
     ghost moves = { swing_moves };
 
-    ghost steered = { λ _ _ c _. c };
+    ghost course = { λ _. record { due = λ _ _. None; moved = λ _ p. p } };
 
     ghost in_step = { λ _ _ _. ⊤ };
-
-    ghost due_node = { λ _ _ _. None };
 
     fn nodes(&self) -> u32 {
         2 * self.count
@@ -132,4 +130,6 @@ impl StepSystem for Swings {
     }
 
     ghost lawful = { swing_laws };
+
+    ghost steady = { λ _. record { kept = λ _ _ _ _ _ _ _ _. tt } };
 }

@@ -1,9 +1,9 @@
 // What a node does beside moving lines.
 
-ghost use Rattle.std.specs.Prelude.{◌≡◌, ◌<◌, length, vec_len, vec_capacity, None};
+ghost use Rattle.std.specs.Prelude.{◌≡◌, ◌<◌, ◌≤◌, length, vec_len, vec_capacity, None};
 ghost use Rattle.f77_tree.specs.Straight.{IsStraight, IsSafe, IsScalar, count_before_end};
 ghost use Rattle.f77_tree.specs.Value.{ArePlaced, place, value};
-ghost use Rattle.f77_meaning.specs.Room.{HasRoom};
+ghost use Rattle.f77_meaning.specs.Room.{most_room};
 ghost use Rattle.token_net.specs.Firing.{ActedIs};
 ghost use Rattle.token_net.specs.Marking.{stored};
 
@@ -16,10 +16,10 @@ pub fn act(program: &Program, k: u32, store: &mut Vec<i32>, text: &mut Vec<u8>) 
     requires straight { IsStraight program.now }
     requires node { k < count_before_end program.now }
     requires words { vec_len store.old ≡ length program.now.initial }
-    requires room { HasRoom program.now.execs (vec_capacity text.old) }
+    requires room { most_room program.now.execs ≤ vec_capacity text.old }
     ensures acted { ActedIs program.now store.old.items text.old.items k store.new.items text.new.items result }
     ensures words { vec_len store.new ≡ vec_len store.old }
-    ensures room { HasRoom program.now.execs (vec_capacity text.new) }
+    ensures room { most_room program.now.execs ≤ vec_capacity text.new }
 {
     match &program.execs.at(k).kind {
         ExecKind::Assign { target, value, .. } => {

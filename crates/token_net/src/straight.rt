@@ -1,6 +1,6 @@
 ghost use Rattle.std.specs.List.{list_all};
-ghost use Rattle.std.specs.Prelude.{◌≡◌, ℕ, ◌<◌, All, false, length, nat_eq, vec_len, vec_capacity, slice_index, slice_index_or};
-ghost use Rattle.f77_meaning.specs.Room.{HasRoom};
+ghost use Rattle.std.specs.Prelude.{◌≡◌, ℕ, ◌<◌, ◌≤◌, All, false, length, nat_eq, vec_len, vec_capacity, slice_index, slice_index_or};
+ghost use Rattle.f77_meaning.specs.Room.{most_room};
 ghost use Rattle.token_net.specs.Needs.{all_needs, all_nexts, needs_at, AreWithin, moved_to};
 
 use crate::Fired;
@@ -9,7 +9,7 @@ use crate::lines::LineList;
 use crate::needing::needs_of_nodes;
 use crate::upcoming::{Route, route_through};
 use df_sequence::NoMemory;
-use f77_meaning::most_room;
+use f77_meaning::longest_line;
 use f77_tree::Program;
 use std::alloc::Global;
 
@@ -30,7 +30,7 @@ pub struct StraightNet<'a> {
     ghost nexts_are: { nexts.items ≡ all_nexts 0 (all_needs program.now) },
     ghost within: { AreWithin needs.items (vec_len before) },
     ghost words: { vec_len store ≡ length program.now.initial },
-    ghost room: { HasRoom program.now.execs (vec_capacity text) },
+    ghost room: { most_room program.now.execs ≤ vec_capacity text },
     ghost passed: { (k : ℕ) → k < lowest → list_all (λ line. nat_eq (slice_index_or before.items line (vec_len needs)) k) (needs_at program.now k) ≡ false },
 }
 
@@ -52,7 +52,7 @@ impl<'a> StraightNet<'a> {
         let needs = needs_of_nodes(alloc, program)?;
         let route = route_through(alloc, &needs, program.names.len() as usize + 1)?;
         let store = Vec::from_slice(alloc, program.initial.as_slice())?;
-        let text = Vec::with_capacity(alloc, most_room(program.execs.as_slice())?)?;
+        let text = Vec::with_capacity(alloc, longest_line(program.execs.as_slice())?)?;
         let Route { before, nexts } = route;
         Ok(StraightNet {
             program,

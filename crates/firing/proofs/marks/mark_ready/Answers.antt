@@ -14,7 +14,7 @@ loop-k-preserved g c =
     record {
       net = did.net ∙ kept.net;
       marking = did.marking ∙ kept.marking;
-      control = did.control ∙ kept.control;
+      place = did.place ∙ kept.place;
       below = below_next (y.moves net) m k (y.marks c.loop-k.sys) (y.marks c.retest.new.sys) (omega (arith, c.nodes-k-end.ensures.count, c.loop-k-test.true)) kept.below is;
     }
 

@@ -1,4 +1,5 @@
-use Rattle.std.proofs.Common.{◌≡◌, ◌-◌, ◌≤◌}
+use Rattle.std.proofs.Common.{◌≡◌, ◌≢◌, ◌-◌, ◌≤◌, None}
+use Rattle.firing.specs.Control.{IsInStep}
 use Rattle.firing.specs.Play.{by_order, moment}
 use Rattle.firing.proofs.PlayLemmas.{Running}
 use Rattle.firing.proofs.source_order.fire_due.Given as goal
@@ -7,12 +8,13 @@ abbrev pub invariant-firing : goal.invariant-firing
 invariant-firing g l =
     let y = g.S.StepSystem in
     let fixed = y.net l.fn.sys in
-    let now = moment (y.marking l.sys) (y.control l.sys) in
+    let now = moment (y.marking l.sys) (y.place l.sys) in
     record {
       net : y.net l.sys ≡ fixed;
       sound : y.sound fixed (y.marking l.sys);
-      in_step : y.in_step fixed (y.marking l.sys) (y.control l.sys);
-      run : Running (by_order (y.moves fixed) (y.steered fixed) (y.due_node fixed)) (moment (y.marking l.fn.sys) (y.control l.fn.sys)) now l.limit l.show l.made (g.K.Sink.got l.fn.sink) (g.K.Sink.got l.sink);
+      in_step : IsInStep (y.moves fixed) (y.in_step fixed) (y.marking l.sys) (y.place l.sys);
+      control : y.place l.sys ≢ None;
+      run : Running (by_order (y.moves fixed) (y.course fixed)) (moment (y.marking l.fn.sys) (y.place l.fn.sys)) now l.limit l.show l.made (g.K.Sink.got l.fn.sink) (g.K.Sink.got l.sink);
       later : g.K.Sink.faults l.fn.sink ≤ g.K.Sink.faults l.sink;
     }
 

@@ -1,11 +1,33 @@
+use Rattle.std.proofs.Common.{◌≡◌, None, subst, sym, ◌∙◌}
+use Rattle.firing.specs.Play.{Plays, by_order, moment}
+use Rattle.firing.proofs.ControlLemmas.{lost_control}
+use Rattle.firing.proofs.OwnLemmas.{lowest_due, not_limit}
 use Rattle.firing.proofs.RunLemmas.{makes_order, rest_settles, trap_traps}
 use Rattle.firing.proofs.source_order.follow.Goals as goal
 
-pub returns-clause-order : goal.returns-clause-order
-returns-clause-order g c = makes_order (g.met.S.StepSystem.lawful (g.S.StepSystem.net c.args.sys.now)) c.requires.sound c.fire_due.ensures.plays
+pub returns-then-has_control-clause-order : goal.returns-then-has_control-clause-order
+returns-then-has_control-clause-order g c = makes_order (g.met.S.StepSystem.lawful (g.S.StepSystem.net c.args.sys.now)) c.requires.sound c.fire_due.ensures.plays
 
-pub returns-clause-settles : goal.returns-clause-settles
-returns-clause-settles g c = rest_settles (g.met.S.StepSystem.lawful (g.S.StepSystem.net c.args.sys.now)) c.requires.sound c.fire_due.ensures.plays
+pub returns-then-has_control-clause-settles : goal.returns-then-has_control-clause-settles
+returns-then-has_control-clause-settles g c = rest_settles (g.met.S.StepSystem.lawful (g.S.StepSystem.net c.args.sys.now)) c.requires.sound c.fire_due.ensures.plays
 
-pub returns-clause-traps : goal.returns-clause-traps
-returns-clause-traps g c = trap_traps (g.met.S.StepSystem.lawful (g.S.StepSystem.net c.args.sys.now)) c.requires.sound c.fire_due.ensures.plays
+pub returns-then-has_control-clause-traps : goal.returns-then-has_control-clause-traps
+returns-then-has_control-clause-traps g c = trap_traps (g.met.S.StepSystem.lawful (g.S.StepSystem.net c.args.sys.now)) c.requires.sound c.fire_due.ensures.plays
+
+pub returns-then-has_control-clause-enough : goal.returns-then-has_control-clause-enough
+returns-then-has_control-clause-enough g c p ks at order over le is =
+    let y = g.S.StepSystem in
+    let net = y.net c.args.sys.now in
+    let w = by_order (y.moves net) (y.course net) in
+    let start = moment (y.marking c.args.sys.now) (y.place c.args.sys.now) in
+    let end = moment (y.marking c.fire_due.new.sys) (y.place c.fire_due.new.sys) in
+    let plays = subst (Plays w start c.args.limit c.args.show end (g.K.Sink.got c.args.sink.now) (g.K.Sink.got c.fire_due.new.sink)) is c.fire_due.ensures.plays in
+    not_limit (y.moves net) (y.course net) (y.marking c.args.sys.now) (y.place c.args.sys.now) p ks at order over c.args.limit le plays
+
+pub returns-else-has_control-clause-plays : goal.returns-else-has_control-clause-plays
+returns-else-has_control-clause-plays g c =
+    let y = g.S.StepSystem in
+    let net = y.net c.args.sys.now in
+    let control = y.place c.args.sys.now in
+    let lost : control ≡ None = lost_control control (sym c.if-has_control.false ∙ c.has_control.ensures) in
+    lowest_due (y.moves net) (y.course net) (y.marking c.args.sys.now) control lost c.play.ensures.plays

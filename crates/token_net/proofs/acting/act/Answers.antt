@@ -1,10 +1,11 @@
-use Rattle.std.proofs.Common.{◌≡◌, ℕ, ◌≤◌, List, Some, Result, Ok, Err, IsOk, vec_capacity, sym, ap, subst, ◌∙◌}
+use Rattle.std.proofs.Common.{◌≡◌, ℕ, ◌≤◌, List, Some, Result, Ok, Err, IsOk, vec_capacity, sym, ap, subst, ◌∙◌, arith}
 use Rattle.op_table.specs.declared.Trap.{Trap}
 use Rattle.f77_tree.specs.declared.programs.ExecKind.{ExecKind}
 use Rattle.f77_tree.specs.declared.programs.ExecKind.TheVariants.{Print}
 use Rattle.f77_tree.specs.Line.{line_of}
 use Rattle.f77_tree.specs.Straight.{IsStraightKind}
 use Rattle.f77_meaning.specs.Room.{kind_room, told}
+use Rattle.f77_meaning.proofs.Lines.{most_enough}
 use Rattle.token_net.specs.Marking.{store_after, line_from, line_if, kind_in, kind_at}
 use Rattle.token_net.proofs.StepLemmas.{items-Ok}
 use Rattle.token_net.proofs.acting.act.Goals as goal
@@ -18,7 +19,10 @@ told_line {A} (Err trap) text line ok is =
 
 pub write_line-written-requires-clause-room : goal.write_line-written-requires-clause-room
 write_line-written-requires-clause-room c =
-    subst (λ (kind : ExecKind). kind_room kind ≤ vec_capacity c.args.text.now) c.in-Print.is (c.requires.room c.args.k c.at.result.now c.at.ensures.item)
+    let p = c.args.program.now in
+    let enough = most_enough p.execs c.args.k c.at.result.now c.at.ensures.item in
+    let room = c.requires.room in
+    subst (λ (kind : ExecKind). kind_room kind ≤ vec_capacity c.args.text.now) c.in-Print.is (omega (arith, enough, room))
 
 pub returns-in-Print-clause-acted : goal.returns-in-Print-clause-acted
 returns-in-Print-clause-acted c =

@@ -1,9 +1,14 @@
-use Rattle.std.proofs.Common.{arith}
+use Rattle.std.proofs.Common.{◌+◌, ◌/◌, ◌∙◌, ap, arith}
+use Rattle.firing.specs.BlockCounts.{flags_of}
 use Rattle.firing.proofs.CountLemmas.{empty_counted}
+use Rattle.firing.proofs.WordLemmas.{empty_flags, empty_words}
 use Rattle.firing.proofs.ready_set.ReadySet.with_room.Goals as goal
 
 pub invariant_of-result : goal.invariant_of-result
 invariant_of-result c =
-    let flags = c.in_ok-vec.ensures in
-    let low = c.in_ok-vec-2.ensures in
-    rw (flags.items_if_clones_equal, low.items_if_clones_equal, c.in_ok-vec-3.ensures.items_if_clones_equal, c.in_ok-vec-4.ensures.items_if_clones_equal) (empty_counted c.args.nodes (omega (arith, c.ranges.nodes.fits)))
+    let words = c.in_ok-vec.ensures.items_if_clones_equal in
+    let nodes = c.args.nodes in
+    (rw words (empty_words nodes (omega (arith, c.ranges.nodes.fits))), rw (words, empty_flags (nodes / 64 + 1) nodes, c.in_ok-vec-2.ensures.items_if_clones_equal, c.in_ok-vec-3.ensures.items_if_clones_equal, c.in_ok-vec-4.ensures.items_if_clones_equal) (empty_counted nodes))
+
+pub returns : goal.returns
+returns c = ap (λ words. flags_of words c.args.nodes) (c.in_ok-vec.ensures.items_if_clones_equal (λ y e. e)) ∙ empty_flags (c.args.nodes / 64 + 1) c.args.nodes
