@@ -1,0 +1,10 @@
+pub mod ApartLemmas
+pub mod CellLemmas
+pub mod ChainLemmas
+pub mod ConcatLemmas
+pub mod DeleteLemmas
+pub mod JoinLemmas
+pub mod KeptLemmas
+pub mod PushLemmas
+pub mod RoomLemmas
+pub mod SizeLemmas
