@@ -1,7 +1,7 @@
 //! Sources and sinks in memory and over std, with faults at chosen calls.
 use df_io::{
-    Failed, MemSink, MemSource, ReadEnd, Sink, Source, StdSink, StdSource, WriteFault, read_all,
-    write_all,
+    Failed, MemSink, MemSource, ReadEnd, Sink, Source, StdSink, StdSource, TextBuffer, WriteFault,
+    read_all, write_all,
 };
 use std::alloc::Global;
 use std::io;
@@ -118,5 +118,18 @@ fn writers_of_std_are_sinks(rt: HostRuntime) -> Result<(), Fail> {
     });
     assert_eq!(rt; slow.write(b"123"), Ok(2));
     assert_eq!(rt; slow.write(b"3"), Err(Failed));
+    Ok(())
+}
+
+#[test]
+fn a_text_goes_through_a_buffer(rt: HostRuntime) -> Result<(), Fail> {
+    let mut buffer = TextBuffer::new(rt.alloc())?;
+    let mut sink = MemSink::new(rt.alloc(), 100, &[], 3)?;
+    assert!(rt; buffer.append(b"EDGE ", &mut sink).is_ok());
+    assert!(rt; buffer.append_number(40, &mut sink).is_ok());
+    assert!(rt; buffer.append_signed(-7, &mut sink).is_ok());
+    assert!(rt; sink.written().is_empty());
+    assert!(rt; buffer.write_out(&mut sink).is_ok());
+    assert_eq!(rt; sink.written(), b"EDGE 40-7".as_slice());
     Ok(())
 }
