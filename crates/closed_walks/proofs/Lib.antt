@@ -1,9 +1,11 @@
 pub mod Classes
 pub mod Cuts
+pub mod Cycles
 pub mod Decided
 pub mod Digraphs
 pub mod Reaching
 pub mod Reversals
 pub mod Searches
+pub mod Simple
 pub mod Touching
 pub mod Walks

@@ -1,3 +1,4 @@
+pub mod Cycle
 pub mod Digraph
 pub mod EdgeEnd
 pub mod Graph

@@ -8,6 +8,6 @@ mod search;
 mod strong;
 
 pub use digraph::{Digraph, EdgeEnd};
-pub use laws::{cuts_are_classes, walks_without};
+pub use laws::{cuts_are_classes, cycles_are_classes, walks_without};
 pub use search::same_class_plain;
 pub use strong::is_strong;
