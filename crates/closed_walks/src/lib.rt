@@ -6,8 +6,6 @@ mod edge_list;
 mod laws;
 mod search;
 mod strong;
-#[cfg(test)]
-mod tests;
 
 pub use digraph::{Digraph, EdgeEnd};
 pub use laws::{cuts_are_classes, walks_without};

@@ -13,6 +13,3 @@ pub use counts::Counts;
 pub use forks::readers_keep_the_laws;
 pub use rivals::{OnTokens, Token, rivals_break_the_laws};
 pub use turn::Turn;
-
-#[cfg(test)]
-mod tests;

@@ -6,8 +6,6 @@ ghost use Rattle.closed_walks.specs.Graph.{Graph, edge_count};
 ghost use Rattle.closed_walks.specs.Walk.{IsStrong, IsCycleEquivalent};
 ghost use Rattle.cycle_equiv.specs.Numbering.{IsNumbering};
 
-#[cfg(test)]
-mod tests;
 
 use closed_walks::{Digraph, same_class_plain};
 use df_sequence::NoMemory;

@@ -1,3 +1,4 @@
 pub mod Fronts
+pub mod LongTexts
 mod MemLemmas
 mod Transfers

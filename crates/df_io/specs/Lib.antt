@@ -5,3 +5,4 @@ pub mod MemSource
 pub mod Read
 pub mod Table
 pub mod Write
+pub mod TextBuffer

@@ -10,6 +10,7 @@ mod source;
 mod std_sink;
 mod std_source;
 mod table;
+mod text_buffer;
 mod write;
 
 pub use df_sequence::NoMemory;
@@ -21,7 +22,5 @@ pub use sink::Sink;
 pub use source::Source;
 pub use std_sink::StdSink;
 pub use std_source::StdSource;
+pub use text_buffer::TextBuffer;
 pub use write::{WriteFault, write_all};
-
-#[cfg(test)]
-mod tests;

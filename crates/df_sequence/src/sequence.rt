@@ -1,4 +1,4 @@
-ghost use Rattle.std.specs.Prelude.{◌≡◌, ◌<◌, [], ◌∷◌, ◌++◌, All, length, IsTrue, ◌↔◌, ◌^◌, slice_get, slice_index_or, OnOk, OnErr};
+ghost use Rattle.std.specs.Prelude.{◌≡◌, ◌<◌, [], ◌∷◌, ◌++◌, All, length, IsTrue, ◌↔◌, ◌^◌, slice_get, slice_index_or, option_to_list, IfNone, OnOk, OnErr};
 
 use crate::{Copied, NoMemory};
 use std::alloc::Global;
@@ -105,6 +105,16 @@ impl<T: Drop> Sequence<T> {
     {
         self.items.push(item)?;
         Ok(())
+    }
+}
+
+impl<T> Sequence<T> {
+    /// Takes the last item away, if there is one.
+    pub fn pop(&mut self) -> Option<T>
+        ensures items { self.old ≡ self.new ++ option_to_list result }
+        ensures none { IfNone result (self.old ≡ []) }
+    {
+        self.items.pop()
     }
 }
 

@@ -1,18 +1,14 @@
--- What the top call answers and writes, by what is due.
-use Rattle.std.specs.Prelude.{◌≡◌, [], ℕ, ◌+◌, ◌≤◌, List, length, Option, Some, None, Ok, nat_lt, MatchBool, ⊤}
-use Rattle.std.specs.Io.KnownBytes.{Appends, Keeps, IsAtEnd}
-use Rattle.df_io.specs.Read.{Takes}
+-- What the top call answers, writes and reads, by what is due.
+use Rattle.std.specs.Prelude.{◌≡◌, ◌≢◌, ◌⊎◌, ◌≤◌, ℕ, List, Option, Some, None}
+use Rattle.std.specs.Io.KnownBytes.{Appends, Keeps}
+use Rattle.df_io.specs.Faults.{Rose}
 use Rattle.df_io.specs.Write.{AppendsFront}
-use Rattle.f77_tree.specs.declared.programs.Program.{Program}
-use Rattle.f77_tree.specs.Run.{EndsIn, out}
-use Rattle.f77_tree.specs.Straight.{count_before_end}
-use Rattle.early_lines.specs.Programs.{reading}
-use Rattle.token_net.specs.Marking.{played, IsAtRest}
 use Rattle.dfc.specs.declared.status.Status.{Status}
 use Rattle.dfc.specs.declared.status.Status.TheVariants.{Done, Usage, Refused, Trapped, Limit, ReadFault, WriteFault, NoMemory}
 use Rattle.dfc.specs.declared.words.Job.{Job}
-use Rattle.dfc.specs.declared.words.Job.TheVariants.{Fire}
-use Rattle.dfc.specs.Due.{Due, most_bytes}
+use Rattle.dfc.specs.declared.words.Job.TheVariants.{On}
+use Rattle.dfc.specs.Due.{Due, all_due, usage}
+use Rattle.dfc.specs.Reading.{IsReadWhole, IsReadWithin}
 
 -- the exit status
 abbrev pub code_of : Status → ℕ
@@ -25,17 +21,27 @@ code_of ReadFault = 5
 code_of WriteFault = 6
 code_of NoMemory = 7
 
--- The status and all bytes are those that are due. Or the source failed, and nothing was written; or the sink failed or
--- there was no memory, and the bytes that are due were written up to some place.
+-- the status is the one that is due, and all that is due was written
+pub record IsTold (due : Due) (old new : Option (List ℕ)) (status : Status) : Type 0 where
+  pub same : status ≡ due.status
+  pub written : Appends old new (all_due due)
+
+-- What is due was told. Or the source failed or there was no memory, and nothing was written; or the sink failed, and a
+-- front of what is due was written.
 abbrev pub AnswersAs : Due → Option (List ℕ) → Option (List ℕ) → Status → Type 0
 AnswersAs due old new ReadFault = Keeps old new
-AnswersAs due old new WriteFault = AppendsFront old new due.text
-AnswersAs due old new NoMemory = AppendsFront old new due.text
-AnswersAs due old new Done = (Done ≡ due.status) × Appends old new due.text
-AnswersAs due old new Usage = (Usage ≡ due.status) × Appends old new due.text
-AnswersAs due old new Refused = (Refused ≡ due.status) × Appends old new due.text
-AnswersAs due old new Trapped = (Trapped ≡ due.status) × Appends old new due.text
-AnswersAs due old new Limit = (Limit ≡ due.status) × Appends old new due.text
+AnswersAs due old new NoMemory = Keeps old new
+AnswersAs due old new WriteFault = AppendsFront old new (all_due due)
+AnswersAs due old new Done = IsTold due old new Done
+AnswersAs due old new Usage = IsTold due old new Usage
+AnswersAs due old new Refused = IsTold due old new Refused
+AnswersAs due old new Trapped = IsTold due old new Trapped
+AnswersAs due old new Limit = IsTold due old new Limit
+
+-- What is due was told, or the sink failed: neither the source nor memory is used.
+pub record Tells (due : Due) (old new : Option (List ℕ)) (status : Status) : Type 0 where
+  pub answers : AnswersAs due old new status
+  pub told : (status ≡ due.status) ⊎ (status ≡ WriteFault)
 
 -- the same, by the exit status
 pub record Answers (due : Due) (old new : Option (List ℕ)) (code : ℕ) : Type 0 where
@@ -43,48 +49,35 @@ pub record Answers (due : Due) (old new : Option (List ℕ)) (code : ℕ) : Type
   pub code_is : code ≡ code_of status
   pub answers : AnswersAs due old new status
 
--- The source was read to its end, or to the first byte past what a text may have.
-abbrev pub IsReadWhole : Option (List ℕ) → Option (List ℕ) → Type 0
-IsReadWhole None new = ⊤
-IsReadWhole (Some bytes) new = MatchBool (nat_lt most_bytes (length bytes)) (Takes (Some bytes) new (most_bytes + 1)) (IsAtEnd new)
+-- Words without meaning are told so, unless the sink fails. No other words are.
+abbrev pub TellsWords : Option Job → Option (List ℕ) → Option (List ℕ) → ℕ → Type 0
+TellsWords None old new code = Answers usage old new code × ((code ≡ 1) ⊎ (code ≡ 6))
+TellsWords (Some job) old new code = code ≢ 1
 
--- How much of the source was read: nothing where the words have no meaning, else all, where the status is at most 4.
-abbrev pub ReadsFor : Option Job → Option (List ℕ) → Option (List ℕ) → ℕ → Type 0
-ReadsFor None old new code = Keeps old new
-ReadsFor (Some Fire) old new code = code ≤ 4 → IsReadWhole old new
+-- Where the source failed or there was no memory, nothing was written.
+pub record IsUnwritten (old new : Option (List ℕ)) (code : ℕ) : Type 0 where
+  pub fault : code ≡ 5 → Keeps old new
+  pub memory : code ≡ 7 → Keeps old new
 
--- some of what the program of a text writes was written, from the front
-pub record IsRunFront (program : Program) (old new : Option (List ℕ)) : Type 0 where
-  pub steps : ℕ
-  pub written : AppendsFront old new (out program [] steps)
+-- neither the source failed, nor did memory end
+pub record HasAll (code : ℕ) : Type 0 where
+  pub bytes : code ≢ 5
+  pub memory : code ≢ 7
 
--- a status that comes where a text is refused
-abbrev pub IsRefusing : Status → Type 0
-IsRefusing Refused = ⊤
-IsRefusing WriteFault = ⊤
-IsRefusing NoMemory = ⊤
-IsRefusing _ = ⊥
+-- Where neither failed, the source was read to its end, or to the first byte past what a text may have; and in no case
+-- further.
+pub record ReadsText (old new : Option (List ℕ)) (code : ℕ) : Type 0 where
+  pub whole : HasAll code → IsReadWhole old new
+  pub within : IsReadWithin old new
 
--- a status that comes where the program of a text is fired
-abbrev pub IsFiring : Status → Type 0
-IsFiring Done = ⊤
-IsFiring WriteFault = ⊤
-IsFiring NoMemory = ⊤
-IsFiring _ = ⊥
+-- How much of a source was read, by what is left of it: words that ask for no text leave it as it was.
+abbrev pub ReadsFor : {A : Type 0} → (A → Option (List ℕ)) → Option Job → A → A → ℕ → Type 0
+ReadsFor left None old new code = new ≡ old
+ReadsFor left (Some (On task)) old new code = ReadsText (left old) (left new) code
 
--- The net of a program is at rest after each node has fired, the program's run ends, and all that it writes was written.
-pub record IsRunOf (program : Program) (old new : Option (List ℕ)) : Type 0 where
-  pub rests : IsAtRest program (played program (count_before_end program))
-  pub steps : ℕ
-  pub ends : EndsIn program [] steps
-  pub written : Appends old new (out program [] steps)
-
--- the text is a program, and it ran to its end
-pub record IsRun (bytes : List ℕ) (old new : Option (List ℕ)) : Type 0 where
-  pub program : Program
-  pub reads : reading bytes ≡ Ok program
-  pub run : IsRunOf program old new
-
--- whatever program the text is, no more than some of what it writes was written, from the front
-abbrev pub IsFrontFor : List ℕ → Option (List ℕ) → Option (List ℕ) → Type 0
-IsFrontFor bytes old new = (program : Program) → reading bytes ≡ Ok program → IsRunFront program old new
+-- Source and sink are blamed only where they failed: no count of faults falls, and each rose where it is blamed.
+pub record Blames (source_old source_new sink_old sink_new code : ℕ) : Type 0 where
+  pub source_later : source_old ≤ source_new
+  pub source_fault : code ≡ 5 → Rose source_old source_new
+  pub sink_later : sink_old ≤ sink_new
+  pub sink_fault : code ≡ 6 → Rose sink_old sink_new

@@ -1,57 +1,57 @@
 -- What is due for some words and a text: a status, and the bytes that are written.
-use Rattle.std.specs.Prelude.{ℕ, List, [], ◌∷◌, ◌++◌, length, Option, Some, None, Result, Ok, Err, codes, nat_lt, if◌then◌else◌}
+use Rattle.std.specs.Prelude.{ℕ, List, [], ◌∷◌, ◌++◌, Option, Some, None, codes}
 use Rattle.std.specs.Fmt.{decimal}
 use Rattle.f77_tree.specs.declared.programs.Program.{Program}
-use Rattle.f77_tree.specs.Straight.{count_before_end}
-use Rattle.early_lines.specs.declared.early_end.EarlyEnd.{EarlyEnd}
-use Rattle.early_lines.specs.declared.early_end.EarlyEnd.TheVariants as early
-use Rattle.early_lines.specs.Programs.{reading}
-use Rattle.token_net.specs.Marking.{written}
+use Rattle.dfc.specs.declared.reading.Code.{Code}
 use Rattle.dfc.specs.declared.status.Status.{Status}
-use Rattle.dfc.specs.declared.status.Status.TheVariants.{Done, Usage, Refused, NoMemory}
+use Rattle.dfc.specs.declared.status.Status.TheVariants as status
 use Rattle.dfc.specs.declared.words.Job.{Job}
-use Rattle.dfc.specs.declared.words.Job.TheVariants.{Fire}
+use Rattle.dfc.specs.declared.words.Job.TheVariants.{On}
+use Rattle.dfc.specs.declared.words.Task.{Task}
+use Rattle.dfc.specs.declared.words.Task.TheVariants.{Play}
+use Rattle.dfc.specs.Codes.{name_of}
+use Rattle.dfc.specs.Game.{Game, game_of}
+use Rattle.dfc.specs.Reading.{Reading, Accepted, Refused, reading}
 use Rattle.dfc.specs.Words.{job_of}
 
+-- a status, what the job writes, and after that the line that tells how it ended, or nothing
 pub record Due : Type 0 where
   pub status : Status
   pub text : List ℕ
+  pub last : List ℕ
+
+-- all bytes that are written
+abbrev pub all_due : Due → List ℕ
+all_due due = due.text ++ due.last
 
 -- the words have no meaning
 abbrev pub usage : Due
-usage = record { status = Usage; text = codes "USAGE" ++ 10 ∷ [] }
+usage = record { status = status.Usage; text = []; last = codes "USAGE" ++ 10 ∷ [] }
 
 -- the text is refused, by a code and the line that it is told at
-abbrev pub refusal : ℕ → List ℕ → Due
-refusal line code = record { status = Refused; text = codes "REFUSED " ++ decimal line ++ 32 ∷ [] ++ code ++ 10 ∷ [] }
+abbrev pub refusal : ℕ → Code → Due
+refusal line code = record { status = status.Refused; text = []; last = codes "REFUSED " ++ decimal line ++ 32 ∷ [] ++ name_of code ++ 10 ∷ [] }
 
--- a text may have so many bytes
-abbrev pub most_bytes : ℕ
-most_bytes = 4194304
+-- the job is done
+abbrev pub done : List ℕ → Due
+done text = record { status = status.Done; text = text; last = [] }
 
--- The program's net fires its lowest ready node until none is ready, which is once for each node. The lines that it
--- writes are due.
-abbrev pub firing : Program → Due
-firing p = record { status = Done; text = written p (count_before_end p) }
+-- the game is over, with all that its firings write
+abbrev pub over : Game → Due
+over game = done (game.written game.firings)
 
--- why a text is refused; reading has no want of memory
-abbrev pub refusal_for : EarlyEnd → Due
-refusal_for (early.NotYet line) = refusal line (codes "NOTYET")
-refusal_for (early.NoEnd line) = refusal line (codes "NOEND")
-refusal_for early.NoMemory = record { status = NoMemory; text = [] }
+-- what each task owes on a program
+abbrev pub due_on : Task → Program → Due
+due_on Play p = over (game_of p)
 
-abbrev pub firing_of : Result Program EarlyEnd → Due
-firing_of (Ok p) = firing p
-firing_of (Err refused) = refusal_for refused
+abbrev pub due_read : Task → Reading → Due
+due_read task (Refused line code) = refusal line code
+due_read task (Accepted p) = due_on task p
 
--- what is due for a text that is to be fired
-abbrev pub due_for_fire : List ℕ → Due
-due_for_fire bytes = if nat_lt most_bytes (length bytes) then refusal 0 (codes "TOOLONG") else firing_of (reading bytes)
-
-abbrev pub due_for : Option Job → List ℕ → Due
-due_for None bytes = usage
-due_for (Some Fire) bytes = due_for_fire bytes
+abbrev pub due_of : Option Job → List ℕ → Due
+due_of None bytes = usage
+due_of (Some (On task)) bytes = due_read task (reading bytes)
 
 -- what is due
 abbrev pub due : List (List ℕ) → List ℕ → Due
-due words bytes = due_for (job_of words) bytes
+due words bytes = due_of (job_of words) bytes

@@ -1,8 +1,9 @@
 //! `dfc`, a dependence flow graph compiler for integer Fortran 77.
 #![tactic(auto)]
 
-mod fire;
-mod refuse;
+mod lines;
+mod playing;
+mod reading;
 mod status;
 mod top;
 mod words;

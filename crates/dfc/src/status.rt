@@ -15,6 +15,6 @@ pub enum Status {
     ReadFault,
     /// The sink failed; some of what is due was written, from the front.
     WriteFault,
-    /// There was no memory; some of what is due was written, from the front.
+    /// There was no memory; nothing was written.
     NoMemory,
 }

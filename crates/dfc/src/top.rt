@@ -1,15 +1,20 @@
-ghost use Rattle.std.specs.Prelude.{◌≡◌, ℕ, ◌≤◌, length, map, IfSome, IfNone};
-ghost use Rattle.std.specs.Io.KnownBytes.{Keeps};
+ghost use Rattle.std.specs.Prelude.{◌≡◌, ◌≢◌, ◌≤◌, map, IfSome};
 ghost use Rattle.std.specs.String.{string_bytes};
 ghost use Rattle.df_io.specs.Faults.{Rose};
-ghost use Rattle.dfc.specs.Answers.{Answers, ReadsFor, IsRun, IsFrontFor};
-ghost use Rattle.dfc.specs.Due.{due, usage, most_bytes};
+ghost use Rattle.f77_tree.specs.Straight.{IsStraight};
+ghost use Rattle.dfc.specs.Answers.{Answers, AnswersAs, Blames, HasAll, IsUnwritten, ReadsFor, ReadsText, TellsWords, code_of};
+ghost use Rattle.dfc.specs.Due.{due, due_of, due_on, due_read};
+ghost use Rattle.dfc.specs.Headline.{Means, MeansFor, MeansRead};
+ghost use Rattle.dfc.specs.Reading.{reading};
 ghost use Rattle.dfc.specs.Words.{job_of};
 
-use crate::fire::fire;
-use crate::refuse::tell_usage;
-use crate::words::{Job, read_words};
+use crate::lines::{tell_refusal, tell_usage};
+use crate::playing::play;
+use crate::reading::{NoProgram, read_program};
+use crate::status::Status;
+use crate::words::{Job, Task, read_words};
 use df_io::{Sink, Source};
+use f77_tree::Program;
 use std::alloc::Global;
 
 /// Does what the words ask for, on the bytes of the source, and writes to the sink. It answers the exit status: 0 done,
@@ -23,27 +28,72 @@ pub fn dfc_main<S: Source, K: Sink>(
 ) -> u8
     // The status and the bytes are those that are due, where the source tells its bytes and the sink what it got.
     ensures due { IfSome (S.left source.old) (λ bytes. Answers (due (map string_bytes words.now.items) bytes) (K.got sink.old) (K.got sink.new) result) }
-    ensures usage { IfNone (job_of (map string_bytes words.now.items)) (Answers usage (K.got sink.old) (K.got sink.new) result) }
-    ensures bound { result ≤ 7 }
 
-    // After status 0 the program of the text has run to its end, and its whole output was written. Whatever the status,
-    // no more than a front of its output was.
-    ensures run { result ≡ 0 → IfSome (S.left source.old) (λ bytes. IsRun bytes (K.got sink.old) (K.got sink.new)) }
-    ensures front { IfSome (job_of (map string_bytes words.now.items)) (λ job. IfSome (S.left source.old) (λ bytes. length bytes ≤ most_bytes → IsFrontFor bytes (K.got sink.old) (K.got sink.new))) }
+    // Status 1 comes exactly where the words ask for no job, whatever the source tells.
+    ensures words { TellsWords (job_of (map string_bytes words.now.items)) (K.got sink.old) (K.got sink.new) result }
+
+    // After a fault of the source and without memory nothing was written, whatever the source tells.
+    ensures unwritten { IsUnwritten (K.got sink.old) (K.got sink.new) result }
+
+    // What the job promises of the program of the text.
+    ensures means { HasAll result → IfSome (S.left source.old) (MeansFor (job_of (map string_bytes words.now.items))) }
 
     // How much of the source was read.
-    ensures reads { ReadsFor (job_of (map string_bytes words.now.items)) (S.left source.old) (S.left source.new) result }
+    ensures takes { ReadsFor S.left (job_of (map string_bytes words.now.items)) source.old source.new result }
 
-    // Source and sink are blamed only where they failed, and after a fault of the source nothing was written.
-    ensures unread { result ≡ 5 → Keeps (K.got sink.old) (K.got sink.new) }
-    ensures source_later { S.faults source.old ≤ S.faults source.new }
-    ensures source_fault { result ≡ 5 → Rose (S.faults source.old) (S.faults source.new) }
-    ensures sink_later { K.faults sink.old ≤ K.faults sink.new }
-    ensures sink_fault { result ≡ 6 → Rose (K.faults sink.old) (K.faults sink.new) }
+    // Source and sink are blamed only where they failed.
+    ensures blames { Blames (S.faults source.old) (S.faults source.new) (K.faults sink.old) (K.faults sink.new) result }
+    ensures bound { result ≤ 7 }
 {
     let status = match read_words(words) {
-        Some(Job::Fire) => fire(alloc, source, sink),
+        Some(job) => do_job(alloc, job, source, sink),
         None => tell_usage(sink),
     };
     status as u8
+}
+
+// Does what some words ask for.
+fn do_job<S: Source, K: Sink>(alloc: Global, job: Job, source: &mut S, sink: &mut K) -> Status
+    ensures due { IfSome (S.left source.old) (λ bytes. AnswersAs (due_of (Some job) bytes) (K.got sink.old) (K.got sink.new) result) }
+    ensures words { result ≢ Status.Usage }
+    ensures unwritten { IsUnwritten (K.got sink.old) (K.got sink.new) (code_of result) }
+    ensures means { HasAll (code_of result) → IfSome (S.left source.old) (MeansFor (Some job)) }
+    ensures takes { ReadsFor S.left (Some job) source.old source.new (code_of result) }
+    ensures blames { Blames (S.faults source.old) (S.faults source.new) (K.faults sink.old) (K.faults sink.new) (code_of result) }
+{
+    match job {
+        Job::On(task) => on_text(alloc, task, source, sink),
+    }
+}
+
+// Does a task on the program of the text that the source has.
+fn on_text<S: Source, K: Sink>(alloc: Global, task: Task, source: &mut S, sink: &mut K) -> Status
+    ensures due { IfSome (S.left source.old) (λ bytes. AnswersAs (due_read task (reading bytes)) (K.got sink.old) (K.got sink.new) result) }
+    ensures words { result ≢ Status.Usage }
+    ensures unwritten { IsUnwritten (K.got sink.old) (K.got sink.new) (code_of result) }
+    ensures means { HasAll (code_of result) → IfSome (S.left source.old) (λ bytes. MeansRead task (reading bytes)) }
+    ensures takes { ReadsText (S.left source.old) (S.left source.new) (code_of result) }
+    ensures blames { Blames (S.faults source.old) (S.faults source.new) (K.faults sink.old) (K.faults sink.new) (code_of result) }
+{
+    match read_program(alloc, source) {
+        Ok(program) => on_program(alloc, task, &program, sink),
+        Err(NoProgram::Refused { line, code }) => tell_refusal(line, code, sink),
+        Err(NoProgram::ReadFault) => Status::ReadFault,
+        Err(NoProgram::NoMemory) => Status::NoMemory,
+    }
+}
+
+// Does a task on a program.
+fn on_program<K: Sink>(alloc: Global, task: Task, program: &Program, sink: &mut K) -> Status
+    requires { IsStraight program.now }
+    ensures due { AnswersAs (due_on task program.now) (K.got sink.old) (K.got sink.new) result }
+    ensures words { result ≢ Status.Usage }
+    ensures reads { result ≢ Status.ReadFault }
+    ensures means { result ≢ Status.NoMemory → Means task program.now (due_on task program.now) }
+    ensures later { K.faults sink.old ≤ K.faults sink.new }
+    ensures fault { result ≡ Status.WriteFault → Rose (K.faults sink.old) (K.faults sink.new) }
+{
+    match task {
+        Task::Play => play(alloc, program, sink),
+    }
 }

@@ -12,6 +12,3 @@ mod table;
 
 pub use early::read_early;
 pub use early_end::EarlyEnd;
-
-#[cfg(test)]
-mod tests;

@@ -48,7 +48,7 @@ length-row_printed names (more_of-Expr e rest) = ap suc (length-row_printed name
 
 mutual
   pub agrees : (names : List NameInfo) → AreNames names → (e : Expr) → IsProper names e → HasConstants e → Agrees (printed names e) (form names e)
-  agrees names are (Const z) proper small = plain_agrees (Written.number (decimal (nat_abs z))) (Int z) (constant_writes z proper small)
+  agrees names are (Const z) proper small = plain_agrees (Written.number (decimal (nat_abs z))) (Int z) (constant_writes z proper.least small)
   agrees names are (Truth b) proper small = plain_agrees (Written.truth b) (RawTruth b) (record { grammatical = tt; is = refl; constants = refl })
   agrees names are Input proper small = elim proper [ ]
   agrees names are (Read' k shape subs) proper small = access_agrees (name_at names k) (row_printed names subs) (row_forms names subs) (is_name-at names are k proper.0) (row_agrees names are subs _ proper.2 small)

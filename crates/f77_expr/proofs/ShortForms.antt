@@ -21,7 +21,7 @@ constant_least (negsuc n) least le = absurd (omega (arith, least))
 
 mutual
   short : (names : List NameInfo) (e : Expr) → IsProper names e → HasConstants e → IsShort (printed names e) (form names e)
-  short names (Const z) proper small = plain_short (Written.number (decimal (nat_abs z))) (Int z) (constant_least z proper small)
+  short names (Const z) proper small = plain_short (Written.number (decimal (nat_abs z))) (Int z) (constant_least z proper.least small)
   short names (Truth b) proper small = plain_short (Written.truth b) (RawTruth b) (truth_least b)
   short names Input proper small = elim proper [ ]
   short names (Read' k shape subs) proper small = access_short (name_at names k) (row_printed names subs) (row_forms names subs) (row_short names subs _ proper.2 small)

@@ -8,11 +8,7 @@ use Rattle.f77_expr.specs.declared.parsed.Parsed.{Parsed}
 use Rattle.f77_expr.specs.declared.parsed.ReadEnd.{ReadEnd}
 use Rattle.f77_expr.specs.declared.parsed.ReadExpr.{ReadExpr}
 use Rattle.f77_expr.specs.Answers.{kept}
-use Rattle.f77_expr.specs.Piece.{bracket_depth}
-
--- the most brackets that may be open
-abbrev pub deepest_allowed : ℕ
-deepest_allowed = 60
+use Rattle.f77_expr.specs.Piece.{bracket_depth, deepest_allowed}
 
 -- a piece that is read as an expression whose constants are none of them too great
 pub record IsReadAs (piece : List ℕ) (e : RawExpr) : Type 0 where

@@ -38,3 +38,7 @@ deepest_from open_now (c ∷ more) = max open_now.brackets (deepest_from (open_a
 
 abbrev pub bracket_depth : List ℕ → ℕ
 bracket_depth text = deepest_from nothing_open text
+
+-- the most brackets that may be open
+abbrev pub deepest_allowed : ℕ
+deepest_allowed = 60

@@ -1,5 +1,5 @@
--- What the scan of a piece has found, by the definition of pieces.
-use Rattle.f77_expr.specs.declared.parse.Open.{Open}
+-- What a scan of a text has found, by the definition of pieces.
+use Rattle.f77_expr.specs.declared.scan.Open.{Open}
 use Rattle.f77_expr.specs.Piece.{Open as OpenOnList}
 
 -- what the code says is open

@@ -2,6 +2,7 @@
 #![tactic(auto)]
 
 mod appending;
+mod characters;
 mod constants;
 mod extremes;
 mod laws;
@@ -11,14 +12,14 @@ mod parsed;
 mod print;
 mod printed_operators;
 mod reader;
+mod scan;
 mod trees;
 
+pub use characters::{
+    GREATEST_CONSTANT, after_front, bounded_number, digits_of, is_letter, symbolic_of,
+};
 pub use laws::{one_reading, piece_of_reading};
-pub use parse::{parse_expr, read_expr};
+pub use parse::{DEEPEST_ALLOWED, parse_expr, read_expr};
 pub use parsed::{ExprEnd, Parsed, ReadEnd, ReadExpr};
 pub use print::print_expr;
-
-#[cfg(test)]
-mod print_tests;
-#[cfg(test)]
-mod tests;
+pub use scan::{Open, open_after};

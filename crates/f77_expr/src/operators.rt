@@ -1,11 +1,11 @@
 //! What stands in front of a text: operators, signs, .NOT. and logical constants.
 
 ghost use Rattle.std.specs.Prelude.{◌≡◌};
-ghost use Rattle.std.specs.Option.{option_copied};
 ghost use Rattle.f77_tree.specs.Grammar.{Written, symbol as spec_symbol, operator_level, left_level, right_level};
-ghost use Rattle.f77_expr.specs.Reader.{read_as, after_front as spec_after_front, operator_at as spec_operator_at, prefix_at as spec_prefix_at, operand_level as spec_operand_level, truth_at as spec_truth_at};
+ghost use Rattle.f77_expr.specs.Reader.{read_as, operator_at as spec_operator_at, prefix_at as spec_prefix_at, operand_level as spec_operand_level, truth_at as spec_truth_at};
 ghost use Rattle.f77_expr.specs.Answers.{seen, meant, allowed, begins_operator as spec_begins_operator, sign_at as spec_sign_at, prefix_level as spec_prefix_level};
 
+use crate::characters::after_front;
 use op_table::Op;
 
 /// What may stand before an operand (ANSI X3.9-1978, sections 6.1.4 and 6.4.2).
@@ -92,13 +92,6 @@ pub(crate) fn levels_of(op: Op) -> Levels
         Op::Pow => grouped(7, 8, 7),
         _ => grouped(9, 9, 9),
     }
-}
-
-/// The text behind these characters, where it begins with them.
-fn after_front<'a>(text: &'a [u8], front: &[u8]) -> Option<&'a [u8]>
-    ensures { option_copied result ≡ spec_after_front front.now text.now }
-{
-    text.strip_prefix(front)
 }
 
 /// Whether a text begins with the first character of some operator between operands.

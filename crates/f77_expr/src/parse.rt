@@ -1,54 +1,23 @@
 ghost use Rattle.std.specs.Prelude.{◌≡◌, ◌<◌, ◌≤◌, drop, length};
-ghost use Rattle.f77_expr.specs.Piece.{piece as spec_piece, bracket_depth, open_after as spec_open_after, ends_piece as spec_ends_piece};
+ghost use Rattle.f77_expr.specs.Piece.{piece as spec_piece, bracket_depth, ends_piece as spec_ends_piece};
 ghost use Rattle.f77_expr.specs.Parsing.{IsParsed, IsPieceRead};
 ghost use Rattle.f77_expr.specs.Scanning.{what_is_open};
 ghost use Rattle.f77_expr.specs.Answers.{kept_in_range};
 
 use crate::reader::read_piece;
+use crate::scan::{Open, open_after};
 use crate::{ExprEnd, Parsed, ReadEnd, ReadExpr};
 use df_sequence::CharList;
 use std::alloc::Global;
 
-// The most brackets that may be open.
-const DEEPEST: usize = 60;
-
-/// What is open where a scan stands: a character constant or none, and how many brackets.
-#[derive(Clone, Copy)]
-struct Open {
-    is_quoted: bool,
-    brackets: usize,
-}
+/// The most brackets that may be open in a statement.
+pub const DEEPEST_ALLOWED: usize = 60;
 
 /// The piece with which a text begins, and how many brackets are open in it at most.
 #[derive(Drop)]
 struct Piece<'a> {
     text: &'a [u8],
     depth: usize,
-}
-
-/// What is open after a character. A closing bracket where none is open changes nothing.
-fn open_after(state: Open, c: u8) -> Open
-    requires { state.brackets < 18446744073709551615 }
-    ensures { what_is_open result ≡ spec_open_after (what_is_open state) c }
-{
-    if c == b'\'' {
-        return Open {
-            is_quoted: !state.is_quoted,
-            brackets: state.brackets,
-        };
-    }
-    if state.is_quoted {
-        return state;
-    }
-    let brackets = match c {
-        b'(' => state.brackets + 1,
-        b')' => state.brackets.saturating_sub(1),
-        _ => state.brackets,
-    };
-    Open {
-        is_quoted: false,
-        brackets,
-    }
 }
 
 /// Whether a character ends the piece: a comma, a closing bracket, an equals sign or a colon, where nothing is open.
@@ -64,10 +33,7 @@ fn piece_in_front(text: &[u8]) -> Piece<'_>
     ensures depth { result.depth ≡ bracket_depth (spec_piece text.now) }
     ensures short { length result.text.now ≤ length text.now }
 {
-    let mut state = Open {
-        is_quoted: false,
-        brackets: 0,
-    };
+    let mut state = Open::nothing();
     let mut depth = 0;
     for (i, c) in text.iter().enumerate() {
         if ends_piece(state, *c) {
@@ -84,8 +50,10 @@ fn piece_in_front(text: &[u8]) -> Piece<'_>
 
 /// The expression in a piece of a text, for a reader that goes on behind it (ANSI X3.9-1978, section 6). The piece runs
 /// from the place `from`, counted in characters from 0, to the first `,`, `)`, `=` or `:` outside brackets and character
-/// constants, or to the end. How deep its brackets are isn't tested, and an expression with a constant above 2147483647 is
-/// read to its end.
+/// constants, or to the end. An expression with a constant above 2147483647 is read to its end.
+///
+/// How deep its brackets are isn't tested, though calls are nested as deep as brackets and chains of `**` are. In a
+/// statement of at most 1,320 characters these are few enough; 5,000 of them, one in another, overflow the stack.
 ///
 /// # Errors
 ///
@@ -118,13 +86,13 @@ fn in_range(read: ReadExpr) -> Result<Parsed, ExprEnd>
 ///
 /// The first of these that holds: TooDeep where more than 60 brackets are open at some place of the piece, NoForm where
 /// the piece is no expression, BadConstant where a constant in it is above 2147483647. NoMemory may come in place of any
-/// answer but TooDeep.
+/// answer.
 pub fn parse_expr(alloc: Global, text: &CharList, from: u32) -> Result<Parsed, ExprEnd>
     requires { from ≤ length text.now }
     ensures { IsParsed (spec_piece (drop from text.now)) from result }
 {
     let piece = piece_in_front(&text.as_bytes()[from as usize..]);
-    if piece.depth > DEEPEST {
+    if piece.depth > DEEPEST_ALLOWED {
         return Err(ExprEnd::TooDeep);
     }
     match read_piece(alloc, piece.text, from) {

@@ -30,15 +30,15 @@ pub enum ReadEnd {
     NoMemory,
 }
 
-/// Why no expression was read. The first of these that holds is told.
+/// Why no expression was read. Where several hold, TooDeep is told before NoForm, and NoForm before BadConstant.
 #[derive(Clone, Copy, Debug, PartialEq, Eq)]
 pub enum ExprEnd {
-    /// More than 60 brackets are open at some place of the piece.
-    TooDeep,
     /// The piece is no expression.
     NoForm,
     /// An integer constant in the piece is above 2147483647.
     BadConstant,
+    /// More than 60 brackets are open at some place of the piece.
+    TooDeep,
     /// There was no memory.
     NoMemory,
 }

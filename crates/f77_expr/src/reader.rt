@@ -8,7 +8,8 @@ ghost use Rattle.f77_expr.specs.Reader.{is_symbolic, closed, and_then_read, prim
 ghost use Rattle.f77_expr.specs.Answers.{passed, constant_of, kept_number, too_great, starts_name, IsRead, AreRead, IsBegun, Answers};
 ghost use Rattle.f77_expr.specs.Parsing.{IsPieceRead};
 
-use crate::constants::{constant, is_digit, is_letter, split_digits, split_symbolic};
+use crate::characters::{is_digit, is_letter};
+use crate::constants::{constant, split_digits, split_symbolic};
 use crate::operators::{
     levels_of, operand_level, operator_behind, prefix_at, prefix_level, truth_at,
 };

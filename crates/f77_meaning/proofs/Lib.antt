@@ -1,5 +1,3 @@
 mod Words
-mod Lines
+pub mod Lines
 mod Steps
-mod Fitting
-mod Placing

@@ -1,19 +1,22 @@
 -- A step, by what comes of its executable.
-use Rattle.std.proofs.Common.{◌≡◌, ◌≢◌, refl, ℕ, zero, suc, ◌≤◌, ℤ, List, [], ◌∷◌, ◌++◌, length, None, arith, Some, slice_get, sym, ap, ◌∙◌, append-nil}
+use Rattle.std.proofs.Common.{◌≡◌, ◌≢◌, refl, ℕ, ◌<◌, ℤ, List, [], ◌++◌, length, Some, slice_get, sym, ap, ◌∙◌, append-nil}
 use Rattle.op_table.specs.declared.Trap.{Trap}
 use Rattle.f77_tree.specs.declared.programs.Exec.{Exec}
 use Rattle.f77_tree.specs.declared.programs.Program.{Program}
 use Rattle.f77_tree.specs.Execution.{Memory, Outcome, Goes, Stops, Ends, outcome}
-use Rattle.f77_tree.specs.Run.{Mark, Running, Ended, Trapped, State, after, executed_at, step_from, step}
+use Rattle.f77_tree.specs.Run.{Mark, Running, Ended, Trapped, State, after, step_from, step}
+use Rattle.f77_tree.specs.CanRun.{CanExecute}
+use Rattle.f77_tree.specs.declared.programs.ExecKind.{ExecKind}
+use Rattle.f77_tree.proofs.Outcomes.{goes}
+use Rattle.f77_tree.proofs.RunInvariants.{goes-to_exec}
 use Rattle.f77_tree.proofs.RunLaws.{step-running}
 
 abbrev state : ℕ → Memory → List ℕ → Mark → State
 state position memory out mark = record { position = position; memory = memory; out = out; mark = mark }
 
-get_past : (execs : List Exec) (k : ℕ) → length execs ≤ k → slice_get execs k ≡ None
-get_past [] k le = refl
-get_past (exec ∷ execs) zero le = absurd (omega (arith, le))
-get_past (exec ∷ execs) (suc k) le = get_past execs k (omega (arith, le))
+-- where an executable goes on, an executable follows
+pub next_is : (p : Program) (input : List ℤ) (memory new : Memory) (kind : ExecKind) (next : ℕ) → CanExecute p kind → outcome p.names input memory kind ≡ Goes next new [] → next < length p.execs
+next_is p input memory new kind next can is = goes (λ to after text. to < length p.execs) (outcome p.names input memory kind) next new [] (goes-to_exec p input memory kind can) is
 
 module _ (p : Program) (input : List ℤ) (position : ℕ) (memory : Memory) (mark : Mark) (going : mark ≡ Running) where
   ran : (out : List ℕ) (exec : Exec) (o : Outcome) → slice_get p.execs position ≡ Some exec → outcome p.names input memory exec.kind ≡ o → step p input (state position memory out mark) ≡ after (state position memory out mark) exec.line o
@@ -27,13 +30,6 @@ module _ (p : Program) (input : List ℤ) (position : ℕ) (memory : Memory) (ma
 
   pub step_ends : (out : List ℕ) (exec : Exec) → slice_get p.execs position ≡ Some exec → outcome p.names input memory exec.kind ≡ Ends → step p input (state position memory out mark) ≡ state position memory (out ++ []) Ended
   step_ends out exec at is = ran out exec Ends at is ∙ ap (λ (xs : List ℕ). state position memory xs Ended) (sym (append-nil out))
-
-  -- where no executable stands
-  pub step_outside : (out : List ℕ) → length p.execs ≤ position → step p input (state position memory out mark) ≡ state position memory (out ++ []) mark
-  step_outside out past =
-      ap (step_from p input (state position memory out mark)) going
-      ∙ ap (executed_at p input (state position memory out mark)) (get_past p.execs position past)
-      ∙ ap (λ (xs : List ℕ). state position memory xs mark) (sym (append-nil out))
 
 -- a state whose mark isn't Running stays as it is
 pub step_stays : (p : Program) (input : List ℤ) (x : State) (out : List ℕ) → x.mark ≢ Running → step p input (record x { out = out }) ≡ record x { out = out ++ [] }

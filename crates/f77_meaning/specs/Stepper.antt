@@ -1,6 +1,7 @@
 -- A stepper as a state of a run.
-use Rattle.std.specs.Prelude.{◌≡◌, ℕ, ℤ, List, [], ◌++◌}
+use Rattle.std.specs.Prelude.{◌≡◌, ℕ, ℤ, List, []}
 use Rattle.f77_tree.specs.declared.programs.Program.{Program}
+use Rattle.f77_tree.specs.Line.{IsLine}
 use Rattle.f77_tree.specs.Run.{Mark, Running, Ended, Trapped, State}
 use Rattle.f77_meaning.specs.declared.stepper.Progress.{Progress}
 use Rattle.f77_meaning.specs.declared.stepper.Progress.TheVariants.{Going, Done, Failed}
@@ -26,8 +27,8 @@ abbrev pub state_of : Stepper → List ℕ → State
 state_of s out = record { position = s.position; memory = memory_of s.storage; out = out; mark = mark_in s.progress }
 
 -- the line that was made last
-abbrev pub line_of : Stepper → List ℕ
-line_of s = s.line.items
+abbrev pub last_line : Stepper → List ℕ
+last_line s = s.line.items
 
 -- the mark that an answer tells
 abbrev pub told_mark : Stepped → Mark
@@ -43,9 +44,9 @@ told_text Line line = line
 told_text End_told line = []
 told_text (Trap_told trap line_no) line = []
 
--- the line that was made last, before a step and after it
+-- the line that was made last, before a step and after it: a step that answers Line has made a whole one
 abbrev pub KeepsLine : Stepped → List ℕ → List ℕ → Type 0
-KeepsLine Line old new = Unit {0}
+KeepsLine Line old new = IsLine new
 KeepsLine Moved old new = new ≡ old
 KeepsLine End_told old new = new ≡ old
 KeepsLine (Trap_told trap line_no) old new = new ≡ old

@@ -1,8 +1,6 @@
-// What the kinds of executables do that write nothing.
-
 ghost use Rattle.std.specs.Prelude.{◌≡◌, ◌+◌, ◌<◌, ◌≤◌, IfOk, pos, length, slice_get, if◌then◌else◌, OnErr, None};
 ghost use Rattle.op_table.specs.Words.{is_true};
-ghost use Rattle.f77_tree.specs.Execution.{assigned, branched, begun, outcome, by_sign, by_number, words_taken};
+ghost use Rattle.f77_tree.specs.Execution.{assigned, branched, do_begun, outcome, by_sign, by_number, words_taken};
 ghost use Rattle.f77_tree.specs.Value.{value, place, place_of, IsExpression, IsAccess, ArePlaced};
 ghost use Rattle.f77_tree.specs.CanRun.{CanExecute};
 ghost use Rattle.f77_meaning.specs.Kinds.{IsSilent};
@@ -15,7 +13,8 @@ use df_sequence::LabelList;
 use f77_tree::{Access, ExecKind, Expr, NameInfoList, Program, evaluate, locate};
 use op_table::Trap;
 
-// Assigns a value, and answers the successor.
+/// Assigns a value, and answers the successor. The target's subscripts come before the value; where one of them or the
+/// value traps, nothing changes (ANSI X3.9-1978, section 10). It takes no memory.
 pub fn assign(
     s: &mut Storage,
     names: &NameInfoList,
@@ -57,7 +56,6 @@ fn word_of(
 }
 
 // The value of an expression over the next word of the data.
-
 fn value_of(
     e: &Expr,
     names: &NameInfoList,
@@ -82,7 +80,7 @@ fn next_word(input: &Vec<i32>, taken: usize) -> Option<i32>
 }
 
 // The successor of a test.
-pub fn test(s: &Storage, names: &NameInfoList, cond: &Expr, yes: u32, no: u32) -> Result<u32, Trap>
+fn test(s: &Storage, names: &NameInfoList, cond: &Expr, yes: u32, no: u32) -> Result<u32, Trap>
     requires expression { IsExpression names.now cond.now }
     requires places { ArePlaced names.now (length s.now.store.items) }
     ensures { branched (memory_of s.now) (λ z. if is_true z then yes else no) (value names.now s.now.store.items None cond.now) ≡ outcome_of result (memory_of s.now) }
@@ -92,7 +90,7 @@ pub fn test(s: &Storage, names: &NameInfoList, cond: &Expr, yes: u32, no: u32) -
 }
 
 // The successor of an arithmetic IF.
-pub fn sign(
+fn sign(
     s: &Storage,
     names: &NameInfoList,
     e: &Expr,
@@ -109,7 +107,7 @@ pub fn sign(
 }
 
 // The successor of a computed GO TO.
-pub fn pick(
+fn pick(
     s: &Storage,
     names: &NameInfoList,
     e: &Expr,
@@ -143,7 +141,7 @@ fn start_loop(
     requires word { word < length s.old.store.items }
     requires count { loop_no < length s.old.counts.items }
     requires kept { loop_no < length s.old.steps.items }
-    ensures outcome { begun (memory_of s.old) loop_no word body exit (value names.now s.old.store.items None first.now) (value names.now s.old.store.items None last.now) (value names.now s.old.store.items None step.now) ≡ outcome_of result (memory_of s.new) }
+    ensures outcome { do_begun (memory_of s.old) loop_no word body exit (value names.now s.old.store.items None first.now) (value names.now s.old.store.items None last.now) (value names.now s.old.store.items None step.now) ≡ outcome_of result (memory_of s.new) }
     ensures trap { OnErr result (s.new ≡ s.old) }
     ensures sizes { HasSizes s.old s.new }
     ensures data { s.new.taken ≡ s.old.taken }
@@ -162,7 +160,8 @@ fn place_of_name(names: &NameInfoList, k: u32) -> u32
     names.at(k).place
 }
 
-// Executes what writes nothing and does not end the run, and answers the successor.
+/// Executes what writes nothing and does not end the run, and answers the successor; where it traps, nothing changes. It
+/// takes no memory.
 pub fn execute(s: &mut Storage, p: &Program, input: &Vec<i32>, kind: &ExecKind) -> Result<u32, Trap>
     requires silent { IsSilent kind.now }
     requires executes { CanExecute p.now kind.now }

@@ -9,9 +9,8 @@ mod stepper;
 mod storage;
 mod taking;
 
+pub use executing::{assign, execute};
+pub use line::{write_line, write_values};
+pub use room::{longest_line, room_of_line};
 pub use stepper::{Stepped, Stepper};
-
-#[cfg(test)]
-mod runnable;
-#[cfg(test)]
-mod tests;
+pub use storage::{Storage, begin, following, increment, initial_storage, word_in};

@@ -1,16 +1,15 @@
-// The line that PRINT writes.
-
 ghost use Rattle.std.specs.Prelude.{◌≡◌, ◌+◌, ◌≤◌, All, [], ◌∷◌, ◌++◌, length, vec_len, vec_capacity};
-ghost use Rattle.f77_tree.specs.Line.{text_of, kind_of_expression, kind_of_op, item_text, line_of};
+ghost use Rattle.f77_tree.specs.Line.{text_of, kind_of_expression, kind_of_op, item_text, line_of, text_with, values_behind, line_with, item_room, line_room};
 ghost use Rattle.f77_tree.specs.Value.{IsExpression, ArePlaced};
-ghost use Rattle.f77_tree.specs.CanRun.{IsItem};
-ghost use Rattle.f77_meaning.specs.Room.{item_room, line_room, item_pushed, told};
+ghost use Rattle.f77_tree.specs.CanRun.{CanPrint};
+ghost use Rattle.f77_meaning.specs.Room.{item_pushed, told};
 
 use f77_tree::{Expr, Item, ItemList, Kind, NameInfoList, evaluate};
 use itoa::Buffer;
 use op_table::{Op, Trap};
 
-// Writes the line of these items, for which there is room, or finds the first that traps.
+/// Writes the line of these items, for which there is room, over what stood there, or finds the first of them that traps.
+/// It takes no memory (ANSI X3.9-1978, section 12).
 pub fn write_line(
     line: &mut Vec<u8>,
     items: &ItemList,
@@ -18,7 +17,7 @@ pub fn write_line(
     store: &Vec<i32>,
 ) -> Result<(), Trap>
     requires room { line_room items.now ≤ vec_capacity line.old }
-    requires items { All (IsItem names.now) items.now }
+    requires items { All (CanPrint names.now) items.now }
     requires places { ArePlaced names.now (length store.now.items) }
     ensures line { line_of names.now store.now.items items.now ≡ told result line.new.items }
     ensures capacity { vec_capacity line.old ≤ vec_capacity line.new }
@@ -33,6 +32,52 @@ pub fn write_line(
     Ok(())
 }
 
+/// Writes the line of these items, for which there is room, over what stood there. Their expressions have these values,
+/// one after another; an expression for which none is left is written as nothing. It takes no memory.
+pub fn write_values(line: &mut Vec<u8>, items: &ItemList, names: &NameInfoList, values: &[i32])
+    requires room { line_room items.now ≤ vec_capacity line.old }
+    requires items { All (CanPrint names.now) items.now }
+    ensures line { line.new.items ≡ line_with names.now items.now values.now }
+    ensures capacity { vec_capacity line.old ≤ vec_capacity line.new }
+{
+    line.clear();
+    let mut rest = values;
+    for item in items.as_slice() {
+        push_item_with(line, item, names, rest);
+        rest = values_behind(item, rest);
+    }
+    push_byte(line, b'\n');
+}
+
+// Appends a blank and an item, where these values are still to come.
+fn push_item_with(line: &mut Vec<u8>, item: &Item, names: &NameInfoList, values: &[i32])
+    requires room { vec_len line.old + item_room item.now ≤ vec_capacity line.old }
+    requires item { CanPrint names.now item.now }
+    ensures line { line.new.items ≡ line.old.items ++ 32 ∷ text_with names.now item.now values.now }
+    ensures len { vec_len line.new ≤ vec_len line.old + item_room item.now }
+    ensures capacity { vec_capacity line.old ≤ vec_capacity line.new }
+{
+    push_byte(line, b' ');
+    match item {
+        Item::Value(e) => {
+            if let Some(z) = values.first() {
+                push_value(line, kind_of_value(e, names), *z);
+            }
+        }
+        Item::Chars(text) => push_bytes(line, text.as_bytes()),
+    }
+}
+
+// The values that are still to come behind an item.
+fn values_behind<'a>(item: &Item, values: &'a [i32]) -> &'a [i32]
+    ensures { result.now ≡ values_behind item.now values.now }
+{
+    match item {
+        Item::Value(_) => values.get(1..).unwrap_or_default(),
+        Item::Chars(_) => values,
+    }
+}
+
 // Appends a blank and an item, or finds that it traps.
 fn push_item(
     line: &mut Vec<u8>,
@@ -41,7 +86,7 @@ fn push_item(
     store: &Vec<i32>,
 ) -> Result<(), Trap>
     requires room { vec_len line.old + item_room item.now ≤ vec_capacity line.old }
-    requires item { IsItem names.now item.now }
+    requires item { CanPrint names.now item.now }
     requires places { ArePlaced names.now (length store.now.items) }
     ensures line { item_pushed line.old.items (item_text names.now store.now.items item.now) ≡ told result line.new.items }
     ensures len { vec_len line.new ≤ vec_len line.old + item_room item.now }

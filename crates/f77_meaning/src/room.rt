@@ -1,14 +1,14 @@
-// How many bytes the lines of a program may have.
-
 ghost use Rattle.std.specs.Prelude.{◌≡◌, ◌+◌, IfOk};
-ghost use Rattle.f77_meaning.specs.Room.{item_room, line_room, kind_room, HasRoom};
+ghost use Rattle.f77_tree.specs.Line.{item_room, line_room};
+ghost use Rattle.f77_meaning.specs.Room.{kind_room, most_room};
 
 use df_sequence::NoMemory;
 use f77_tree::{Exec, ExecKind, Item};
 
-// Room for each line that the executables write.
-pub fn most_room(execs: &[Exec]) -> Result<usize, NoMemory>
-    ensures { IfOk result (HasRoom execs.now) }
+/// How many bytes the longest line may have that the executables write. A number that no memory holds is want of memory.
+#[tactic(auto, using(crate::proofs::Lines::most_next))]
+pub fn longest_line(execs: &[Exec]) -> Result<usize, NoMemory>
+    ensures { IfOk result (λ room. room ≡ most_room execs.now) }
 {
     let mut most = 0;
     for exec in execs {
@@ -27,9 +27,9 @@ fn room_of(kind: &ExecKind) -> Result<usize, NoMemory>
     }
 }
 
-// Room for the items and a line feed.
+/// How many bytes the line of these items may have.
 #[tactic(auto, using(crate::proofs::Lines::room_next))]
-fn room_of_line(items: &[Item]) -> Result<usize, NoMemory>
+pub fn room_of_line(items: &[Item]) -> Result<usize, NoMemory>
     ensures { IfOk result (λ room. room ≡ line_room items.now) }
 {
     let mut room: usize = 0;

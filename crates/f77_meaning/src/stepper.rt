@@ -1,11 +1,11 @@
 ghost use Rattle.std.specs.Prelude.{◌≡◌, ◌<◌, ◌≤◌, ℕ, List, [], ◌++◌, length, vec_capacity, IfOk};
 ghost use Rattle.f77_tree.specs.CanRun.{CanRun};
 ghost use Rattle.f77_tree.specs.Value.{word_at};
-ghost use Rattle.f77_meaning.specs.Room.{HasRoom};
+ghost use Rattle.f77_meaning.specs.Room.{most_room};
 
 use crate::executing::execute;
 use crate::line::write_line;
-use crate::room::most_room;
+use crate::room::longest_line;
 use crate::storage::{Storage, initial_storage, word_in};
 use df_sequence::NoMemory;
 use f77_tree::{ExecKind, Program};
@@ -45,17 +45,18 @@ pub struct Stepper<'a> {
     line: Vec<u8>,
     draft: Vec<u8>,
     progress: Progress,
+    ghost place: { position < length program.now.execs },
     ghost words: { length storage.store.items ≡ program.now.words },
     ghost counts: { length storage.counts.items ≡ program.now.loops },
     ghost steps: { length storage.steps.items ≡ program.now.loops },
     ghost data: { storage.taken ≤ length input.items },
-    ghost line_room: { HasRoom program.now.execs (vec_capacity line) },
-    ghost draft_room: { HasRoom program.now.execs (vec_capacity draft) },
+    ghost line_room: { most_room program.now.execs ≤ vec_capacity line },
+    ghost draft_room: { most_room program.now.execs ≤ vec_capacity draft },
 }
 
 impl<'a> Stepper<'a> {
     ghost use Rattle.f77_tree.specs.Run.{step, start, Running};
-    ghost use Rattle.f77_meaning.specs.Stepper.{program_of, input_of, state_of, line_of, told_mark, told_text, KeepsLine};
+    ghost use Rattle.f77_meaning.specs.Stepper.{program_of, input_of, state_of, last_line, told_mark, told_text, KeepsLine};
 
     /// A run at its beginning, over a copy of the data. It takes the store, the counts of DOs, and room for the longest
     /// line.
@@ -64,9 +65,9 @@ impl<'a> Stepper<'a> {
         ensures program { IfOk result (λ s. program_of s ≡ p.now) }
         ensures data { IfOk result (λ s. input_of s ≡ input.now.items) }
         ensures state { IfOk result (λ s. state_of s [] ≡ start p.now) }
-        ensures line { IfOk result (λ s. line_of s ≡ []) }
+        ensures line { IfOk result (λ s. last_line s ≡ []) }
     {
-        let room = most_room(p.execs.as_slice())?;
+        let room = longest_line(p.execs.as_slice())?;
         Ok(Stepper {
             program: p,
             input: Vec::from_slice(alloc, input)?,
@@ -85,9 +86,9 @@ impl<'a> Stepper<'a> {
         ensures data { input_of self.new ≡ input_of self.old }
 
         // Whatever was written before, the state is the next one of the run.
-        ensures state { (out : List ℕ) → step (program_of self.old) (input_of self.old) (state_of self.old out) ≡ state_of self.new (out ++ told_text result (line_of self.new)) }
+        ensures state { (out : List ℕ) → step (program_of self.old) (input_of self.old) (state_of self.old out) ≡ state_of self.new (out ++ told_text result (last_line self.new)) }
         ensures mark { (state_of self.new []).mark ≡ told_mark result }
-        ensures line { KeepsLine result (line_of self.old) (line_of self.new) }
+        ensures line { KeepsLine result (last_line self.old) (last_line self.new) }
     {
         match self.progress {
             Progress::Going => self.run(),
@@ -102,14 +103,11 @@ impl<'a> Stepper<'a> {
         requires going { (state_of self.old []).mark ≡ Running }
         ensures program { program_of self.new ≡ program_of self.old }
         ensures data { input_of self.new ≡ input_of self.old }
-        ensures state { (out : List ℕ) → step (program_of self.old) (input_of self.old) (state_of self.old out) ≡ state_of self.new (out ++ told_text result (line_of self.new)) }
+        ensures state { (out : List ℕ) → step (program_of self.old) (input_of self.old) (state_of self.old out) ≡ state_of self.new (out ++ told_text result (last_line self.new)) }
         ensures mark { (state_of self.new []).mark ≡ told_mark result }
-        ensures line { KeepsLine result (line_of self.old) (line_of self.new) }
+        ensures line { KeepsLine result (last_line self.old) (last_line self.new) }
     {
         let program = self.program;
-        if program.execs.len() <= self.position {
-            return Stepped::Moved;
-        }
         let exec = program.execs.at(self.position);
         match &exec.kind {
             ExecKind::Print { items, next } => {
@@ -146,7 +144,7 @@ impl<'a> Stepper<'a> {
 
     /// The line of the last step that made one, with its line feed; empty before one did.
     pub fn line(&self) -> &[u8]
-        ensures { result.now ≡ line_of self.now }
+        ensures { result.now ≡ last_line self.now }
     {
         &self.line
     }

@@ -1,29 +1,37 @@
--- Numbers, labels, repeats and constants that are kept.
+-- Names, letters, numbers, labels, repeats, constants and expressions that are kept.
 use Rattle.std.proofs.Common.{◌≡◌, ◌≤◌, ◌==◌, ℕ, ℤ, Bool, true, false, ◌||◌, List, [], ◌∷◌, codes, length, Some, None, if◌then◌else◌, ⊎_elim, refl, sym, ap, subst, ◌∙◌, arith}
 use Rattle.std.specs.Prelude.{pos, ◌-ℤ◌, min, nat_lt, drop, take_while}
 use Rattle.std.proofs.Math.Bool.{or_assoc, or_comm}
-use Rattle.std.proofs.lemmas.Bool.{or_parts, or_right, cases_lt, cases_Bool, lt-ltb, le-ltb, ltb-false, eqb-true, eq-eqb}
+use Rattle.std.proofs.lemmas.Bool.{or_parts, or_right, cases_lt, lt-ltb, le-ltb, ltb-false, eqb-true}
 use Rattle.f77_tree.specs.Name.{is_figure}
-use Rattle.f77_tree.specs.Grammar.{number_of}
-use Rattle.f77_tree.specs.declared.declarations.Lit.{Lit}
+use Rattle.f77_tree.specs.Grammar.{Written, number_of, has_great_number}
 use Rattle.f77_tree.specs.declared.declarations.Lit.TheVariants.{Int, Truth}
 use Rattle.f77_tree.specs.declared.declarations.InitValue.{InitValue}
-use Rattle.f77_tree.specs.StatementGrammar.{Sign, SignedDigits, signed_value, whole_number, is_great, is_bad_label, WrittenConstant, constant_of, constant_is_great, WrittenValue, value_of, value_is_bad}
+use Rattle.f77_tree.specs.StatementGrammar.{Sign, signed_value, is_great, is_bad_label, WrittenConstant, constant_is_great, value_is_bad}
+use Rattle.f77_expr.specs.Answers.{kept}
 use Rattle.f77_expr.specs.Reader.{Reads, read_as, after_front, this_or}
-use Rattle.f77_expr.proofs.EachRead.{if_false}
-use Rattle.f77_parse.specs.Parts.{number_at, signed_at, truth_at, constant_at, value_behind, value_begun, value_at, unsigned}
-use Rattle.f77_parse.specs.Keeping.{Keeps, keep_then, where_front, kept_plain, skipped, wanted, number_kept, is_great_number, constant_in, is_no_label, label_in, is_no_repeat, repeat_in, label_kept, signed_kept, truth_kept, constant_kept, some_constants, value_kept}
-use Rattle.f77_parse.specs.Following.{Follows}
-use Rattle.f77_parse.proofs.PartReaders.{flip}
-use Rattle.f77_parse.proofs.FollowLemmas.{Alike, Nothing, never_bad, Told, or_none, alike_follows, alike_plain, alike_as, alike_flagged, alike_same, alike_front, alike_needed, alike_if}
+use Rattle.f77_parse.specs.Parts.{number_at, name_at, letter_at, signed_at, truth_at, constant_at, value_behind, value_begun, value_at, unsigned, expression_in_front}
+use Rattle.f77_parse.specs.Keeping.{Keeps, keep_then, where_front, kept_plain, skipped, wanted, name_kept, letter_kept, number_kept, kept_expression, expression_kept, is_great_number, constant_in, is_no_label, label_in, is_no_repeat, repeat_in, label_kept, signed_kept, truth_kept, constant_kept, some_constants, value_kept}
+use Rattle.f77_parse.specs.KeptValues.{or_zero, kept_label, kept_number, kept_signed, kept_constant, is_bad_repeat, kept_value}
+use Rattle.f77_parse.proofs.FollowLemmas.{told, never_bad, no_flag, plain_told, as_told, front_told, wanted_told, if_told, eq_flip}
 
--- ---- the first character of a text
+-- ---- names, letters and expressions
 
-pub eq_flip : (a b : ℕ) → (a == b) ≡ (b == a)
-eq_flip a b = ⊎_elim (λ yes. yes ∙ sym (eq-eqb b a (sym (eqb-true a b yes)))) (λ no. no ∙ sym (flip b a no)) (cases_Bool (a == b))
+pub name_told : (bad : Bool) (text : List ℕ) → name_kept bad text ≡ told (λ (name : List ℕ). name) never_bad bad (name_at text)
+unfolding name_kept
+name_told bad text = plain_told (λ name. name) bad (name_at text)
 
-pub one_front : (c d : ℕ) (text : List ℕ) → after_front (c ∷ []) (d ∷ text) ≡ (if d == c then Some text else None)
-one_front c d text = ap (λ (b : Bool). if b then Some text else None) (eq_flip c d)
+pub letter_told : (bad : Bool) (text : List ℕ) → letter_kept bad text ≡ told (λ (c : ℕ). c) never_bad bad (letter_at text)
+unfolding letter_kept
+letter_told bad text = plain_told (λ c. c) bad (letter_at text)
+
+pub expression_told : (bad : Bool) (text : List ℕ) → expression_kept bad text ≡ told kept has_great_number bad (expression_in_front text)
+unfolding expression_kept
+expression_told bad text = by (expression_in_front text)
+  where
+    by : (x : Reads Written) → kept_expression bad x ≡ told kept has_great_number bad x
+    by None = refl
+    by (Some (w, rest)) = refl
 
 -- ---- a number is kept up to one more than the greatest constant
 
@@ -33,10 +41,14 @@ great_kept n = ⊎_elim (λ less. lt-ltb 2147483647 (min n 2147483648) (omega ar
 small_kept : (n : ℕ) → n ≤ 2147483648 → min n 2147483648 ≡ n
 small_kept n h = omega arith
 
-in_range : (n : ℕ) → nat_lt 2147483647 n ≡ false → constant_in (min n 2147483648) ≡ n
-in_range n small =
-    let few : n ≤ 2147483647 = ltb-false 2147483647 n small in
-    if_false (is_great_number (min n 2147483648)) 0 (min n 2147483648) (great_kept n ∙ small) ∙ small_kept n (omega arith)
+or_zero_same : (b : Bool) (m n : ℕ) → (b ≡ false → m ≡ n) → or_zero b m ≡ or_zero b n
+or_zero_same true m n same = refl
+or_zero_same false m n same = same refl
+
+value_in : (n : ℕ) → constant_in (min n 2147483648) ≡ or_zero (nat_lt 2147483647 n) n
+value_in n =
+    ap (λ (b : Bool). or_zero b (min n 2147483648)) (great_kept n)
+    ∙ or_zero_same (nat_lt 2147483647 n) (min n 2147483648) n (λ small. small_kept n (omega (arith, ltb-false 2147483647 n small)))
 
 no_label : (n : ℕ) → is_no_label (min n 2147483648) ≡ ((n == 0) || nat_lt 99999 n)
 no_label n = ⊎_elim
@@ -44,10 +56,10 @@ no_label n = ⊎_elim
     (λ small. ap is_no_label (small_kept n (omega arith)))
     (cases_lt 2147483647 n)
 
-label_range : (n : ℕ) → ((n == 0) || nat_lt 99999 n) ≡ false → label_in (min n 2147483648) ≡ n
-label_range n small =
-    let few : n ≤ 99999 = ltb-false 99999 n (or_parts (n == 0) (nat_lt 99999 n) small).1 in
-    if_false (is_no_label (min n 2147483648)) 0 (min n 2147483648) (no_label n ∙ small) ∙ small_kept n (omega arith)
+label_value : (n : ℕ) → label_in (min n 2147483648) ≡ or_zero ((n == 0) || nat_lt 99999 n) n
+label_value n =
+    ap (λ (b : Bool). or_zero b (min n 2147483648)) (no_label n)
+    ∙ or_zero_same ((n == 0) || nat_lt 99999 n) (min n 2147483648) n (λ small. small_kept n (omega (arith, ltb-false 99999 n (or_parts (n == 0) (nat_lt 99999 n) small).1)))
 
 no_repeat : (n : ℕ) → is_no_repeat (min n 2147483648) ≡ (nat_lt 2147483647 n || (n == 0))
 no_repeat n = ⊎_elim
@@ -55,57 +67,40 @@ no_repeat n = ⊎_elim
     (λ small. ap is_no_repeat (small_kept n (omega arith)) ∙ or_comm (n == 0) (nat_lt 2147483647 n))
     (cases_lt 2147483647 n)
 
-repeat_range : (n : ℕ) → (nat_lt 2147483647 n || (n == 0)) ≡ false → repeat_in (min n 2147483648) ≡ n
-repeat_range n small =
-    let few : n ≤ 2147483647 = ltb-false 2147483647 n (or_parts (nat_lt 2147483647 n) (n == 0) small).0 in
-    if_false (is_no_repeat (min n 2147483648)) 0 (min n 2147483648) (no_repeat n ∙ small) ∙ small_kept n (omega arith)
-
--- the flag behind a number
-flag_behind : (bad bad_now out out_too : Bool) → bad_now ≡ (bad || false) → out ≡ out_too → (bad_now || out) ≡ (bad || out_too)
-flag_behind bad bad_now out out_too e same = ap (λ (b : Bool). b || out) (e ∙ or_none bad) ∙ ap (λ (b : Bool). bad || b) same
-
-abbrev IsNumber : Bool → List ℕ → ℕ → Bool → Type 0
-IsNumber bad = Told (λ digits. min (number_of digits) 2147483648) never_bad Nothing bad
-
-pub number_alike : (bad : Bool) (text : List ℕ) → Alike (IsNumber bad) (number_at text) (number_kept bad text)
-unfolding number_kept
-number_alike bad text = alike_plain (λ digits. min (number_of digits) 2147483648) bad (number_at text)
+repeat_value : (n : ℕ) → repeat_in (min n 2147483648) ≡ or_zero (nat_lt 2147483647 n || (n == 0)) n
+repeat_value n =
+    ap (λ (b : Bool). or_zero b (min n 2147483648)) (no_repeat n)
+    ∙ or_zero_same (nat_lt 2147483647 n || (n == 0)) (min n 2147483648) n (λ small. small_kept n (omega (arith, ltb-false 2147483647 n (or_parts (nat_lt 2147483647 n) (n == 0) small).0)))
 
 -- ---- labels
 
-pub label_alike : (bad : Bool) (text : List ℕ) → Alike (Told number_of is_bad_label Nothing bad) (number_at text) (label_kept bad text)
-unfolding label_kept
-label_alike bad text =
-    alike_same (Told number_of is_bad_label Nothing bad) (number_at text) (label_kept bad text)
-    (alike_flagged (IsNumber bad) (Told number_of is_bad_label Nothing bad) (λ digits. digits) label_in is_no_label (number_at text) (number_kept bad text) (number_alike bad text)
-    (λ digits n bad_now told. record {
-      flag = flag_behind bad bad_now (is_no_label n) (is_bad_label digits) told.flag (ap is_no_label (told.is refl) ∙ no_label (number_of digits));
-      is = λ small. ap label_in (told.is refl) ∙ label_range (number_of digits) small;
-      more = tt;
-    }))
-
-pub label_keeps : (bad : Bool) (text : List ℕ) → Follows number_of is_bad_label bad (number_at text) (label_kept bad text)
-label_keeps bad text = alike_follows number_of is_bad_label Nothing bad (number_at text) (label_kept bad text) (label_alike bad text)
+pub label_told : (bad : Bool) (text : List ℕ) → label_kept bad text ≡ told kept_label is_bad_label bad (number_at text)
+unfolding label_kept number_kept
+label_told bad text = by (number_at text)
+  where
+    by : (x : Reads (List ℕ)) → keep_then (kept_plain (λ digits. min (number_of digits) 2147483648) bad x) (λ n bad_now rest. Some (label_in n, bad_now || is_no_label n, rest)) ≡ told kept_label is_bad_label bad x
+    by None = refl
+    by (Some (digits, rest)) =
+        ap (λ (n : ℕ). Some (n, bad || is_no_label (min (number_of digits) 2147483648), rest)) (label_value (number_of digits))
+        ∙ ap (λ (b : Bool). Some (kept_label digits, bad || b, rest)) (no_label (number_of digits))
 
 -- ---- signed numbers
 
-abbrev pub IsSigned : Bool → SignedDigits → ℤ → Bool → Type 0
-IsSigned bad = Told whole_number (λ n. is_great n.digits) Nothing bad
-
 -- a sign in front of digits
-with_sign : (sign : Sign) (g : ℕ → ℤ) → ((n : ℕ) → g n ≡ signed_value sign (constant_in n)) → (bad : Bool) (text : List ℕ) → Alike (IsSigned bad) (read_as (λ digits. record { sign = sign; digits = digits }) (number_at text)) (keep_then (number_kept bad text) (λ n bad_now rest. Some (g n, bad_now || is_great_number n, rest)))
-with_sign sign g same bad text =
-    alike_flagged (IsNumber bad) (IsSigned bad) (λ digits. record { sign = sign; digits = digits }) g is_great_number (number_at text) (number_kept bad text) (number_alike bad text)
-    (λ digits n bad_now told. record {
-      flag = flag_behind bad bad_now (is_great_number n) (is_great digits) told.flag (ap is_great_number (told.is refl) ∙ great_kept (number_of digits));
-      is = λ small. same n ∙ ap (λ (m : ℕ). signed_value sign (constant_in m)) (told.is refl) ∙ ap (signed_value sign) (in_range (number_of digits) small);
-      more = tt;
-    })
+with_sign : (sign : Sign) (g : ℕ → ℤ) → ((n : ℕ) → g n ≡ signed_value sign (constant_in n)) → (bad : Bool) (text : List ℕ) → keep_then (number_kept bad text) (λ n bad_now rest. Some (g n, bad_now || is_great_number n, rest)) ≡ told kept_signed (λ n. is_great n.digits) bad (read_as (λ digits. record { sign = sign; digits = digits }) (number_at text))
+unfolding number_kept
+with_sign sign g same bad text = by (number_at text)
+  where
+    by : (x : Reads (List ℕ)) → keep_then (kept_plain (λ digits. min (number_of digits) 2147483648) bad x) (λ n bad_now rest. Some (g n, bad_now || is_great_number n, rest)) ≡ told kept_signed (λ n. is_great n.digits) bad (read_as (λ digits. record { sign = sign; digits = digits }) x)
+    by None = refl
+    by (Some (digits, rest)) =
+        ap (λ (z : ℤ). Some (z, bad || is_great_number (min (number_of digits) 2147483648), rest)) (same (min (number_of digits) 2147483648) ∙ ap (signed_value sign) (value_in (number_of digits)))
+        ∙ ap (λ (b : Bool). Some (signed_value sign (kept_number digits), bad || b, rest)) (great_kept (number_of digits))
 
-pub signed_alike : (bad : Bool) (text : List ℕ) → Alike (Told whole_number (λ n. is_great n.digits) Nothing bad) (signed_at text) (signed_kept bad text)
+pub signed_told : (bad : Bool) (text : List ℕ) → signed_kept bad text ≡ told kept_signed (λ n. is_great n.digits) bad (signed_at text)
 unfolding signed_kept
-signed_alike bad [] = with_sign Sign.No_sign (λ n. pos (constant_in n)) (λ n. refl) bad []
-signed_alike bad (c ∷ text) =
+signed_told bad [] = with_sign Sign.No_sign (λ n. pos (constant_in n)) (λ n. refl) bad []
+signed_told bad (c ∷ text) =
     subst (λ (b : Bool). Signed (c == 43) (c == 45) b (43 == c)) (eq_flip c 45)
     (subst (λ (b : Bool). Signed (c == 43) (c == 45) (c == 45) b) (eq_flip c 43)
     (by (c == 43) (c == 45) (λ plus minus. absurd (omega (arith, eqb-true c 43 plus, eqb-true c 45 minus)))))
@@ -113,10 +108,10 @@ signed_alike bad (c ∷ text) =
     Signed : Bool → Bool → Bool → Bool → Type 0
     Signed plus minus minus_kept plus_kept =
         let sign : Sign × List ℕ = if plus then (Sign.Plus_sign, text) else (if minus then (Sign.Minus_sign, text) else (Sign.No_sign, c ∷ text)) in
-        Alike (IsSigned bad) (read_as (λ digits. record { sign = sign.0; digits = digits }) (number_at sign.1))
-        (where_front (if minus_kept then Some text else None)
+        where_front (if minus_kept then Some text else None)
         (λ behind. keep_then (number_kept bad behind) (λ n bad_now rest. Some (pos 0 -ℤ pos (constant_in n), bad_now || is_great_number n, rest)))
-        (keep_then (number_kept bad (skipped (if plus_kept then Some text else None) (c ∷ text))) (λ n bad_now rest. Some (pos (constant_in n), bad_now || is_great_number n, rest))))
+        (keep_then (number_kept bad (skipped (if plus_kept then Some text else None) (c ∷ text))) (λ n bad_now rest. Some (pos (constant_in n), bad_now || is_great_number n, rest)))
+        ≡ told kept_signed (λ n. is_great n.digits) bad (read_as (λ digits. record { sign = sign.0; digits = digits }) (number_at sign.1))
 
     by : (plus minus : Bool) → (plus ≡ true → minus ≡ true → ⊥) → Signed plus minus minus plus
     by true true not_both = absurd (not_both refl refl)
@@ -126,76 +121,52 @@ signed_alike bad (c ∷ text) =
 
 -- ---- constants
 
-pub truth_alike : (bad : Bool) (text : List ℕ) → Alike (Told (λ (b : Bool). b) never_bad Nothing bad) (truth_at text) (truth_kept bad text)
+truth_told : (bad : Bool) (text : List ℕ) → truth_kept bad text ≡ told (λ (b : Bool). b) never_bad bad (truth_at text)
 unfolding truth_kept
-truth_alike bad text =
-    alike_front (Told (λ b. b) never_bad Nothing bad) (λ front. this_or true front (this_or false (after_front (codes ".FALSE.") text) None)) (λ rest. Some (true, bad, rest)) (keep_then (wanted (codes ".FALSE.") bad text) (λ found bad_now rest. Some (false, bad_now, rest))) (after_front (codes ".TRUE.") text)
-    (λ rest e. (refl, plain true))
-    (λ e. alike_needed (Told (λ b. b) never_bad Nothing bad) (λ front. this_or false front None) (λ found bad_now rest. Some (false, bad_now, rest)) (codes ".FALSE.") bad text tt (λ rest is. (refl, plain false)))
-  where
-    plain : (b : Bool) → Told (λ (b : Bool). b) never_bad Nothing bad b b bad
-    plain b = record { flag = sym (or_none bad); is = λ small. refl; more = tt }
+truth_told bad text =
+    front_told (λ b. b) never_bad bad (λ front. this_or true front (this_or false (after_front (codes ".FALSE.") text) None)) (λ rest. Some (true, bad, rest)) (keep_then (wanted (codes ".FALSE.") bad text) (λ found bad_now rest. Some (false, bad_now, rest))) (after_front (codes ".TRUE.") text)
+    (λ rest. no_flag true bad rest)
+    (wanted_told (λ b. b) never_bad bad (λ front. this_or false front None) (λ found bad_now rest. Some (false, bad_now, rest)) (codes ".FALSE.") bad text refl (λ rest. no_flag false bad rest))
 
-abbrev IsConstant : Bool → WrittenConstant → Lit → Bool → Type 0
-IsConstant bad = Told constant_of constant_is_great Nothing bad
+number_constant : (bad : Bool) (text : List ℕ) → keep_then (signed_kept bad text) (λ z bad_now rest. Some (Int z, bad_now, rest)) ≡ told kept_constant constant_is_great bad (read_as (λ n. WrittenConstant.Whole n) (signed_at text))
+number_constant bad text = as_told kept_signed (λ n. is_great n.digits) bad kept_constant constant_is_great bad (λ n. WrittenConstant.Whole n) (λ z. Int z) (signed_at text) (signed_kept bad text) (signed_told bad text) (λ n. refl) (λ n. refl)
 
-number_constant : (bad : Bool) (text : List ℕ) → Alike (IsConstant bad) (read_as (λ n. WrittenConstant.Whole n) (signed_at text)) (keep_then (signed_kept bad text) (λ z bad_now rest. Some (Int z, bad_now, rest)))
-number_constant bad text =
-    alike_as (IsSigned bad) (IsConstant bad) (λ n. WrittenConstant.Whole n) (λ z. Int z) (signed_at text) (signed_kept bad text) (signed_alike bad text)
-    (λ n z bad_now told. record { flag = told.flag; is = λ small. ap (λ (z : ℤ). Int z) (told.is small); more = tt })
+truth_constant : (bad : Bool) (text : List ℕ) → keep_then (truth_kept bad text) (λ b bad_now rest. Some (Truth b, bad_now, rest)) ≡ told kept_constant constant_is_great bad (read_as (λ b. WrittenConstant.Logical_value b) (truth_at text))
+truth_constant bad text = as_told (λ (b : Bool). b) never_bad bad kept_constant constant_is_great bad (λ b. WrittenConstant.Logical_value b) (λ b. Truth b) (truth_at text) (truth_kept bad text) (truth_told bad text) (λ b. refl) (λ b. refl)
 
-truth_constant : (bad : Bool) (text : List ℕ) → Alike (IsConstant bad) (read_as (λ b. WrittenConstant.Logical_value b) (truth_at text)) (keep_then (truth_kept bad text) (λ b bad_now rest. Some (Truth b, bad_now, rest)))
-truth_constant bad text =
-    alike_as (Told (λ (b : Bool). b) never_bad Nothing bad) (IsConstant bad) (λ b. WrittenConstant.Logical_value b) (λ b. Truth b) (truth_at text) (truth_kept bad text) (truth_alike bad text)
-    (λ b kept_b bad_now told. record { flag = told.flag; is = λ small. ap (λ (b : Bool). Truth b) (told.is small); more = tt })
-
-pub constant_alike : (bad : Bool) (text : List ℕ) → Alike (Told constant_of constant_is_great Nothing bad) (constant_at text) (constant_kept bad text)
+constant_told : (bad : Bool) (text : List ℕ) → constant_kept bad text ≡ told kept_constant constant_is_great bad (constant_at text)
 unfolding constant_kept
-constant_alike bad [] = number_constant bad []
-constant_alike bad (c ∷ text) =
-    alike_if (IsConstant bad) (c == 46) (c == 46) (read_as (λ b. WrittenConstant.Logical_value b) (truth_at (c ∷ text))) (read_as (λ n. WrittenConstant.Whole n) (signed_at (c ∷ text)))
+constant_told bad [] = number_constant bad []
+constant_told bad (c ∷ text) =
+    if_told kept_constant constant_is_great bad (c == 46) (read_as (λ b. WrittenConstant.Logical_value b) (truth_at (c ∷ text))) (read_as (λ n. WrittenConstant.Whole n) (signed_at (c ∷ text)))
     (keep_then (truth_kept bad (c ∷ text)) (λ b bad_now rest. Some (Truth b, bad_now, rest))) (keep_then (signed_kept bad (c ∷ text)) (λ z bad_now rest. Some (Int z, bad_now, rest)))
-    refl (λ point. truth_constant bad (c ∷ text)) (λ none. number_constant bad (c ∷ text))
+    (truth_constant bad (c ∷ text)) (number_constant bad (c ∷ text))
 
 -- ---- values of DATA
 
-abbrev IsValue : Bool → WrittenValue → InitValue → Bool → Type 0
-IsValue bad = Told value_of value_is_bad Nothing bad
-
 -- a constant that is alone
-constant_alone : (bad : Bool) (text : List ℕ) → Alike (IsValue bad) (read_as (λ constant. record { times = None; constant = constant }) (constant_at text)) (some_constants 1 bad text)
+constant_alone : (bad : Bool) (text : List ℕ) → some_constants 1 bad text ≡ told kept_value value_is_bad bad (read_as (λ constant. record { times = None; constant = constant }) (constant_at text))
 constant_alone bad text =
-    alike_as (IsConstant bad) (IsValue bad) (λ constant. record { times = None; constant = constant }) (λ constant. record { times = 1; value = constant }) (constant_at text) (constant_kept bad text) (constant_alike bad text)
-    (λ constant kept_constant bad_now told. record { flag = told.flag; is = λ small. ap (λ (k : Lit). record { times = 1; value = k }) (told.is small); more = tt })
+    as_told kept_constant constant_is_great bad kept_value value_is_bad bad (λ constant. record { times = None; constant = constant }) (λ constant. record { times = 1; value = constant }) (constant_at text) (constant_kept bad text) (constant_told bad text)
+    (λ constant. refl) (λ constant. refl)
 
 -- a constant behind a repeat
-repeated : (digits : List ℕ) (bad : Bool) (text : List ℕ) → let n = min (number_of digits) 2147483648 in Alike (IsValue bad) (read_as (λ constant. record { times = Some digits; constant = constant }) (constant_at text)) (some_constants (repeat_in n) (bad || is_no_repeat n) text)
+repeated : (digits : List ℕ) (bad : Bool) (text : List ℕ) → some_constants (repeat_in (min (number_of digits) 2147483648)) (bad || is_no_repeat (min (number_of digits) 2147483648)) text ≡ told kept_value value_is_bad bad (read_as (λ constant. record { times = Some digits; constant = constant }) (constant_at text))
 repeated digits bad text =
-    let n = min (number_of digits) 2147483648 in
-    let m = number_of digits in
-    let first = bad || is_no_repeat n in
-    alike_as (IsConstant first) (IsValue bad) (λ constant. record { times = Some digits; constant = constant }) (λ constant. record { times = repeat_in n; value = constant }) (constant_at text) (constant_kept first text) (constant_alike first text)
-    (λ constant kept_constant bad_now told. record {
-      flag = told.flag ∙ ap (λ (b : Bool). (bad || b) || constant_is_great constant) (no_repeat m) ∙ or_assoc bad (nat_lt 2147483647 m || (m == 0)) (constant_is_great constant);
-      is = λ small.
-          let parts = or_parts (nat_lt 2147483647 m || (m == 0)) (constant_is_great constant) small in
-          ap (λ (k : Lit). record { times = repeat_in n; value = k }) (told.is parts.1) ∙ ap (λ (times : ℕ). record { times = times; value = constant_of constant }) (repeat_range m parts.0);
-      more = tt;
-    })
+    ap (λ (times : ℕ). some_constants times (bad || is_no_repeat (min (number_of digits) 2147483648)) text) (repeat_value (number_of digits))
+    ∙ ap (λ (b : Bool). some_constants (or_zero (is_bad_repeat digits) (number_of digits)) (bad || b) text) (no_repeat (number_of digits))
+    ∙ as_told kept_constant constant_is_great (bad || is_bad_repeat digits) kept_value value_is_bad bad (λ constant. record { times = Some digits; constant = constant }) (λ constant. record { times = or_zero (is_bad_repeat digits) (number_of digits); value = constant }) (constant_at text) (constant_kept (bad || is_bad_repeat digits) text) (constant_told (bad || is_bad_repeat digits) text)
+    (λ constant. refl) (λ constant. or_assoc bad (is_bad_repeat digits) (constant_is_great constant))
 
 -- digits that are the constant
-digits_alone : (digits rest : List ℕ) (bad : Bool) → let n = min (number_of digits) 2147483648 in IsValue bad (record { times = None; constant = WrittenConstant.Whole (unsigned digits) }) (record { times = 1; value = Int (pos (constant_in n)) }) (bad || is_great_number n)
-digits_alone digits rest bad =
-    let n = min (number_of digits) 2147483648 in
-    record {
-      flag = ap (λ (b : Bool). bad || b) (great_kept (number_of digits));
-      is = λ small. ap (λ (m : ℕ). record { times = 1; value = Int (pos m) }) (in_range (number_of digits) small);
-      more = tt;
-    }
+digits_alone : (digits : List ℕ) (bad : Bool) (rest : List ℕ) → ◌≡◌ {A = Keeps InitValue} (Some (record { times = 1; value = Int (pos (constant_in (min (number_of digits) 2147483648))) }, bad || is_great_number (min (number_of digits) 2147483648), rest)) (told kept_value value_is_bad bad (Some (record { times = None; constant = WrittenConstant.Whole (unsigned digits) }, rest)))
+digits_alone digits bad rest =
+    ap (λ (n : ℕ). Some (record { times = 1; value = Int (pos n) }, bad || is_great_number (min (number_of digits) 2147483648), rest)) (value_in (number_of digits))
+    ∙ ap (λ (b : Bool). Some (record { times = 1; value = Int (pos (kept_number digits)) }, bad || b, rest)) (great_kept (number_of digits))
 
-pub value_alike : (bad : Bool) (text : List ℕ) → Alike (Told value_of value_is_bad Nothing bad) (value_at text) (value_kept bad text)
+pub value_told : (bad : Bool) (text : List ℕ) → value_kept bad text ≡ told kept_value value_is_bad bad (value_at text)
 unfolding value_kept number_kept
-value_alike bad text = by (nat_lt 0 (length digits))
+value_told bad text = by (nat_lt 0 (length digits))
   where
     digits : List ℕ
     digits = take_while is_figure text
@@ -206,11 +177,11 @@ value_alike bad text = by (nat_lt 0 (length digits))
         (λ behind. some_constants (repeat_in n) (bad_now || is_no_repeat n) behind)
         (Some (record { times = 1; value = Int (pos (constant_in n)) }, bad_now || is_great_number n, rest))
 
-    by : (some : Bool) → let number : Reads (List ℕ) = if some then Some (digits, drop (length digits) text) else None in Alike (IsValue bad) (value_begun text number) (if some then keep_then (kept_plain (λ digits. min (number_of digits) 2147483648) bad number) behind_number else some_constants 1 bad text)
+    by : (some : Bool) → let number : Reads (List ℕ) = if some then Some (digits, drop (length digits) text) else None in (if some then keep_then (kept_plain (λ digits. min (number_of digits) 2147483648) bad number) behind_number else some_constants 1 bad text) ≡ told kept_value value_is_bad bad (value_begun text number)
     by true =
         let rest : List ℕ = drop (length digits) text in
         let n = min (number_of digits) 2147483648 in
-        alike_front (IsValue bad) (λ front. value_behind digits rest front) (λ behind. some_constants (repeat_in n) (bad || is_no_repeat n) behind) (Some (record { times = 1; value = Int (pos (constant_in n)) }, bad || is_great_number n, rest)) (after_front (codes "*") rest)
-        (λ next e. repeated digits bad next)
-        (λ e. (refl, digits_alone digits rest bad))
+        front_told kept_value value_is_bad bad (λ front. value_behind digits rest front) (λ behind. some_constants (repeat_in n) (bad || is_no_repeat n) behind) (Some (record { times = 1; value = Int (pos (constant_in n)) }, bad || is_great_number n, rest)) (after_front (codes "*") rest)
+        (λ next. repeated digits bad next)
+        (digits_alone digits bad rest)
     by false = constant_alone bad text

@@ -1,16 +1,16 @@
 -- What stands free in each statement: an equals sign in assignments, in logical IFs of assignments and in DO, and of those a
 -- comma in DO alone.
-use Rattle.std.proofs.Common.{◌≡◌, ℕ, Bool, true, false, List, [], ◌∷◌, ◌++◌, map, flat_map, nat_le, length, All, Option, codes, refl, ap, subst, ◌∙◌, append_assoc}
+use Rattle.std.proofs.Common.{◌≡◌, ℕ, Bool, true, false, List, [], ◌∷◌, ◌++◌, map, flat_map, nat_le, length, All, Option, Some, None, codes, refl, ap, subst, ◌∙◌, append_assoc}
 use Rattle.std.proofs.lemmas.Bool.{and_parts}
 use Rattle.std.specs.List.{list_all}
 use Rattle.f77_tree.specs.Name.{is_name}
 use Rattle.f77_tree.specs.Grammar.{Written, Arguments, IsGrammatical, AreGrammatical, is_number, spelling, spellings}
-use Rattle.f77_tree.specs.StatementGrammar.{with_commas, in_brackets, comma_if, characters_text, WrittenItem, item_text, IsItem, PrintForm, print_text, ReadForm, read_text, WrittenStop, stop_text, is_stop, IsVariable, step_text, WrittenStatement, statement_text, IsStatement, letters_text, decls_text, kind_text, part_text, group_text, data_text}
+use Rattle.f77_tree.specs.StatementGrammar.{with_commas, in_brackets, comma_if, characters_text, WrittenItem, item_text, IsItem, PrintForm, print_text, ReadForm, read_text, WrittenStop, stop_text, is_stop, IsVariable, names_text, are_names, step_text, WrittenStatement, statement_text, IsStatement, letters_text, decls_text, kind_text, part_text, group_text, data_text}
 use Rattle.f77_parse.specs.Forms.{stands_free}
 use Rattle.f77_parse.proofs.Followers.{Every}
 use Rattle.f77_parse.proofs.PartLists.{all_every, behind_commas_is}
 use Rattle.f77_parse.proofs.Free.{PassesOver, pass_both, absent, is_mark, expression_passes, constant_passes, HasNoEquals, unequal_both, unequal_free}
-use Rattle.f77_parse.proofs.FormsUnequal.{unequal_nothing, unequal_number, unequal_decls, unequal_kind, unequal_letters_list, unequal_parts, unequal_groups, unequal_data_parts}
+use Rattle.f77_parse.proofs.FormsUnequal.{unequal_nothing, unequal_number, unequal_name, unequal_brackets, unequal_decls, unequal_kind, unequal_letters_list, unequal_parts, unequal_groups, unequal_data_parts}
 
 -- ---- parts
 
@@ -65,12 +65,22 @@ item_passes (WrittenItem.Characters characters) h = constant_passes 61 refl char
 
 -- ---- statements with no equals sign that stands free
 
-unequal_labels : (labels : List (List ℕ)) → list_all is_number labels ≡ true → HasNoEquals (with_commas labels)
-unequal_labels [] h = unequal_nothing
-unequal_labels (a ∷ []) h = unequal_number a (and_parts (is_number a) true h).0
-unequal_labels (a ∷ b ∷ more) h =
-    let both = and_parts (is_number a) (list_all is_number (b ∷ more)) h in
-    unequal_both (a ++ codes ",") (with_commas (b ∷ more)) (unequal_both a (codes ",") (unequal_number a both.0) (record { each = refl })) (unequal_labels (b ∷ more) both.1)
+module _ (p : List ℕ → Bool) (unequal : (text : List ℕ) → p text ≡ true → HasNoEquals text) where
+  unequal_texts : (texts : List (List ℕ)) → list_all p texts ≡ true → HasNoEquals (with_commas texts)
+  unequal_texts [] h = unequal_nothing
+  unequal_texts (a ∷ []) h = unequal a (and_parts (p a) true h).0
+  unequal_texts (a ∷ b ∷ more) h =
+      let both = and_parts (p a) (list_all p (b ∷ more)) h in
+      unequal_both (a ++ codes ",") (with_commas (b ∷ more)) (unequal_both a (codes ",") (unequal a both.0) (record { each = refl })) (unequal_texts (b ∷ more) both.1)
+
+unequal_names : (names : Option (List (List ℕ))) → are_names names ≡ true → HasNoEquals (names_text names)
+unequal_names None h = unequal_nothing
+unequal_names (Some names) h = unequal_brackets (with_commas names) (unequal_texts is_name unequal_name names h)
+
+-- a keyword, a name, and names between brackets or nothing
+unequal_named : (word name : List ℕ) (names : Option (List (List ℕ))) → HasNoEquals word → is_name name ≡ true → are_names names ≡ true → stands_free 61 (word ++ name ++ names_text names) ≡ false
+unequal_named word name names h is are =
+    unequal_free (word ++ name ++ names_text names) (unequal_both (word ++ name) (names_text names) (unequal_both word name h (unequal_name name is)) (unequal_names names are))
 
 stop_free : (shown : WrittenStop) → is_stop shown ≡ true → stands_free 61 (codes "STOP" ++ stop_text shown) ≡ false
 stop_free WrittenStop.Nothing_shown h = refl
@@ -123,7 +133,7 @@ no_equals (WrittenStatement.computed_go_to labels comma w) h none =
     (pass_both 61 (codes "GOTO" ++ in_brackets (with_commas labels)) (comma_if comma) (labels_pass labels h.1) (comma_passes comma)) (expression_passes 61 refl w h.2))
 no_equals (WrittenStatement.arithmetic_if w negative zero positive) h none =
     (condition_passes 61 refl (codes "IF") refl w h.0).passes (with_commas (negative ∷ zero ∷ positive ∷ []))
-    ∙ unequal_free (with_commas (negative ∷ zero ∷ positive ∷ [])) (unequal_labels (negative ∷ zero ∷ positive ∷ []) h.1)
+    ∙ unequal_free (with_commas (negative ∷ zero ∷ positive ∷ [])) (unequal_texts is_number unequal_number (negative ∷ zero ∷ positive ∷ []) h.1)
 no_equals (WrittenStatement.logical_if w s) h none =
     (condition_passes 61 refl (codes "IF") refl w h.0).passes (statement_text s) ∙ no_equals s h.1 none
 no_equals (WrittenStatement.block_if w) h none = (condition_passes 61 refl (codes "IF") refl w h).passes (codes "THEN")
@@ -131,6 +141,9 @@ no_equals (WrittenStatement.else_if w) h none = (condition_passes 61 refl (codes
 no_equals WrittenStatement.else h none = refl
 no_equals WrittenStatement.end_if h none = refl
 no_equals (WrittenStatement.do_loop label comma variable first last step) h none = absurd cc
+no_equals (WrittenStatement.subroutine name dummies) h none = unequal_named (codes "SUBROUTINE") name dummies (record { each = refl }) h.0 h.1
+no_equals (WrittenStatement.call_of name arguments) h none = unequal_named (codes "CALL") name arguments (record { each = refl }) h.0 h.1
+no_equals WrittenStatement.go_back h none = refl
 no_equals WrittenStatement.end h none = refl
 
 -- ---- statements with an equals sign that stands free

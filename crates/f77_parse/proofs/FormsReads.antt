@@ -12,6 +12,7 @@ use Rattle.f77_parse.proofs.Followers.{no_front, other_no_front}
 use Rattle.f77_parse.proofs.PartExpressions.{expression_no_comma, expression_reads, variables_reads}
 use Rattle.f77_parse.proofs.PartItems.{characters_reads, items_reads}
 use Rattle.f77_parse.proofs.PartLists.{behind_commas_is}
+use Rattle.f77_parse.proofs.PartNames.{named_reads}
 use Rattle.f77_parse.proofs.PartNumbers.{number_from, number_reads, labels_reads}
 use Rattle.f77_parse.proofs.PartReaders.{comma_reads}
 
@@ -86,6 +87,8 @@ has_own_keyword WrittenStatement.continue = true
 has_own_keyword (WrittenStatement.stop shown) = true
 has_own_keyword (WrittenStatement.go_to label) = true
 has_own_keyword (WrittenStatement.computed_go_to labels comma w) = true
+has_own_keyword (WrittenStatement.call_of name arguments) = true
+has_own_keyword WrittenStatement.go_back = true
 has_own_keyword _ = false
 
 pub simple_reads : (s : WrittenStatement) → IsStatement s → has_own_keyword s ≡ true → simple_at (statement_text s) ≡ Some (s, [])
@@ -97,4 +100,6 @@ simple_reads WrittenStatement.continue h own = refl
 simple_reads (WrittenStatement.stop shown) h own = stop_reads shown h
 simple_reads (WrittenStatement.go_to label) h own = go_to_reads label h
 simple_reads (WrittenStatement.computed_go_to labels comma w) h own = computed_reads labels comma w h.0 h.1 h.2
+simple_reads (WrittenStatement.call_of name arguments) h own = named_reads (λ name arguments. WrittenStatement.call_of name arguments) name arguments h.0 h.1
+simple_reads WrittenStatement.go_back h own = refl
 simple_reads _ h own = absurd cc

@@ -1,12 +1,12 @@
 -- Declarations are read as they are written.
-use Rattle.std.proofs.Common.{◌≡◌, ℕ, ◌≤◌, true, not, List, [], ◌∷◌, ◌++◌, length, map, flat_map, All, Some, None, codes, refl, ap, ◌∙◌, append_assoc, arith}
+use Rattle.std.proofs.Common.{◌≡◌, ℕ, ◌≤◌, true, not, List, [], ◌∷◌, ◌++◌, length, map, flat_map, All, Option, Some, None, codes, refl, ap, ◌∙◌, append_assoc, arith}
 use Rattle.std.proofs.lemmas.Bool.{and_parts, not-true}
 use Rattle.std.proofs.lemmas.List.Elements.{All-head, All-tail}
 use Rattle.std.specs.List.{list_all}
 use Rattle.f77_tree.specs.declared.declarations.Kind.{Kind}
 use Rattle.f77_tree.specs.declared.declarations.Kind.TheVariants.{Integer, Logical}
 use Rattle.f77_tree.specs.Name.{is_name}
-use Rattle.f77_tree.specs.StatementGrammar.{with_commas, in_brackets, decls_text, WrittenDecl, IsDecl, has_dims, kind_text, range_text, WrittenLetters, letters_text, are_letters, WrittenPart, part_text, IsPart, is_said, WrittenMember, group_text, is_group, WrittenData, data_text, is_data, WrittenStatement, IsStatement}
+use Rattle.f77_tree.specs.StatementGrammar.{with_commas, in_brackets, decls_text, WrittenDecl, IsDecl, has_dims, kind_text, range_text, WrittenLetters, letters_text, are_letters, WrittenPart, part_text, IsPart, is_said, WrittenMember, group_text, is_group, WrittenData, data_text, is_data, names_text, are_names, WrittenStatement, IsStatement}
 use Rattle.f77_expr.specs.Reader.{read_as, and_then_read, after_front}
 use Rattle.f77_expr.proofs.EachRead.{if_true}
 use Rattle.f77_parse.specs.Parts.{where_it, name_at, list_at, letters_at, decl_at, part_at, group_at, data_at, parts_to_end}
@@ -16,11 +16,15 @@ use Rattle.f77_parse.proofs.PartData.{first_data_reads, data_parts_reads}
 use Rattle.f77_parse.proofs.PartDeclarations.{decls_reads}
 use Rattle.f77_parse.proofs.PartLetters.{letters_list_reads}
 use Rattle.f77_parse.proofs.PartMembers.{groups_reads}
+use Rattle.f77_parse.proofs.PartNames.{named_reads}
 use Rattle.f77_parse.proofs.PartNumbers.{name_reads}
 use Rattle.f77_parse.proofs.FormsReads.{to_the_end}
 
 pub program_reads : (name : List ℕ) → is_name name ≡ true → keyword_at (codes "PROGRAM" ++ name) ≡ Some (WrittenStatement.program name, [])
 program_reads name h = ap (read_as (λ n. WrittenStatement.program n)) (to_the_end name_at name name (name_reads name [] h refl))
+
+pub subroutine_reads : (name : List ℕ) (dummies : Option (List (List ℕ))) → is_name name ≡ true → are_names dummies ≡ true → keyword_at (codes "SUBROUTINE" ++ name ++ names_text dummies) ≡ Some (WrittenStatement.subroutine name dummies, [])
+subroutine_reads name dummies is are = named_reads (λ name dummies. WrittenStatement.subroutine name dummies) name dummies is are
 
 -- ---- IMPLICIT
 

@@ -52,6 +52,8 @@ simple_behind w WrittenStatement.continue own = refl
 simple_behind w (WrittenStatement.stop shown) own = refl
 simple_behind w (WrittenStatement.go_to label) own = refl
 simple_behind w (WrittenStatement.computed_go_to labels comma v) own = refl
+simple_behind w (WrittenStatement.call_of name arguments) own = refl
+simple_behind w WrittenStatement.go_back own = refl
 simple_behind w _ own = absurd cc
 
 pub arithmetic_if_reads : (w : Written) (negative zero positive : List ℕ) → IsStatement (WrittenStatement.arithmetic_if w negative zero positive) → keyword_at (statement_text (WrittenStatement.arithmetic_if w negative zero positive)) ≡ Some (WrittenStatement.arithmetic_if w negative zero positive, [])

@@ -8,7 +8,7 @@ use Rattle.f77_parse.proofs.FormsFree.{has_equals, no_equals, assignment_equals,
 use Rattle.f77_parse.proofs.FormsReads.{has_own_keyword, simple_reads}
 use Rattle.f77_parse.proofs.FormsReadsIf.{arithmetic_if_reads, block_if_reads, else_if_reads, own_if_reads, nested_if_reads}
 use Rattle.f77_parse.proofs.FormsReadsAssigned.{assignment_reads, conditional_reads, do_reads}
-use Rattle.f77_parse.proofs.FormsReadsDeclared.{program_reads, implicit_reads, typed_reads, dimension_reads, common_reads, equivalence_reads, data_reads}
+use Rattle.f77_parse.proofs.FormsReadsDeclared.{program_reads, subroutine_reads, implicit_reads, typed_reads, dimension_reads, common_reads, equivalence_reads, data_reads}
 
 -- a simple form by its own keyword
 own_keyword : (s : WrittenStatement) → has_own_keyword s ≡ true → keyword_at (statement_text s) ≡ simple_at (statement_text s)
@@ -22,6 +22,8 @@ own_keyword WrittenStatement.continue own = refl
 own_keyword (WrittenStatement.stop shown) own = refl
 own_keyword (WrittenStatement.go_to label) own = refl
 own_keyword (WrittenStatement.computed_go_to labels comma v) own = refl
+own_keyword (WrittenStatement.call_of name arguments) own = refl
+own_keyword WrittenStatement.go_back own = refl
 own_keyword _ own = absurd cc
 
 own_reads : (s : WrittenStatement) → IsStatement s → has_own_keyword s ≡ true → keyword_at (statement_text s) ≡ Some (s, [])
@@ -63,6 +65,8 @@ logical_if_reads w WrittenStatement.continue h s_is simple = own_if w WrittenSta
 logical_if_reads w (WrittenStatement.stop shown) h s_is simple = own_if w (WrittenStatement.stop shown) h s_is refl refl refl
 logical_if_reads w (WrittenStatement.go_to label) h s_is simple = own_if w (WrittenStatement.go_to label) h s_is refl refl refl
 logical_if_reads w (WrittenStatement.computed_go_to labels comma v) h s_is simple = own_if w (WrittenStatement.computed_go_to labels comma v) h s_is refl refl refl
+logical_if_reads w (WrittenStatement.call_of name arguments) h s_is simple = own_if w (WrittenStatement.call_of name arguments) h s_is refl refl refl
+logical_if_reads w WrittenStatement.go_back h s_is simple = own_if w WrittenStatement.go_back h s_is refl refl refl
 logical_if_reads w _ h s_is simple = absurd cc
 
 -- ---- all statements
@@ -95,6 +99,9 @@ form_reads WrittenStatement.else h = refl
 form_reads WrittenStatement.end_if h = refl
 form_reads (WrittenStatement.do_loop label comma variable first last step) h =
     by_do (WrittenStatement.do_loop label comma variable first last step) (do_equals label comma variable first last step h.0 h.1) (do_comma label comma variable first last step h.0 h.1 h.2) (do_reads label comma variable first last step h)
+form_reads (WrittenStatement.subroutine name dummies) h = by_keyword (WrittenStatement.subroutine name dummies) h refl (subroutine_reads name dummies h.0 h.1)
+form_reads (WrittenStatement.call_of name arguments) h = own_form_reads (WrittenStatement.call_of name arguments) h refl refl
+form_reads WrittenStatement.go_back h = refl
 form_reads WrittenStatement.end h = refl
 
 -- a statement that the grammar writes so is what is read from its text

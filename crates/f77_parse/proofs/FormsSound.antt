@@ -4,18 +4,19 @@ use Rattle.std.proofs.lemmas.Bool.{and_from, eqb-true, lt-ltb}
 use Rattle.std.proofs.lemmas.List.Elements.{All-nil}
 use Rattle.std.specs.List.{list_all}
 use Rattle.f77_tree.specs.Grammar.{IsGrammatical, is_number, spelling}
-use Rattle.f77_tree.specs.StatementGrammar.{with_commas, in_brackets, comma_if, WrittenItem, item_text, IsItem, PrintForm, print_text, ReadForm, read_text, WrittenStop, stop_text, IsVariable, WrittenStatement, statement_text, is_simple, IsStatement}
+use Rattle.f77_tree.specs.StatementGrammar.{with_commas, in_brackets, comma_if, WrittenItem, item_text, IsItem, PrintForm, print_text, ReadForm, read_text, WrittenStop, stop_text, names_text, IsVariable, WrittenStatement, statement_text, is_simple, IsStatement}
 use Rattle.f77_expr.specs.Reader.{Reads, read_as, and_then_read, after_front}
 use Rattle.f77_expr.proofs.EachRead.{Each, each_if, each_then, each_as}
 use Rattle.f77_expr.proofs.Fronts.{front_is}
 use Rattle.f77_parse.specs.Parts.{where_it, number_at, list_at, bracketed_at, comma_at, ends_expression, expression_in_front, variable_at, characters_at, item_at}
-use Rattle.f77_parse.specs.Forms.{form_or, alone, stop_at, computed_at, go_to_at, items_behind, items_at, targets_at, simple_at}
+use Rattle.f77_parse.specs.Forms.{form_or, alone, stop_at, computed_at, go_to_at, items_behind, items_at, targets_at, call_at, simple_at}
 use Rattle.f77_parse.proofs.Followers.{IsInFront}
 use Rattle.f77_parse.proofs.PartExpressions.{expression_sound, variables_sound}
 use Rattle.f77_parse.proofs.PartItems.{characters_sound, items_sound}
 use Rattle.f77_parse.proofs.PartLists.{behind_commas_is}
+use Rattle.f77_parse.proofs.PartNames.{named_sound}
 use Rattle.f77_parse.proofs.PartNumbers.{number_sound, labels_sound}
-use Rattle.f77_parse.proofs.PartReaders.{where_sound, comma_is}
+use Rattle.f77_parse.proofs.PartReaders.{where_sound, comma_is, between}
 
 -- what was read behind a front of the text
 abbrev pub IsBehind : List ℕ → List ℕ → WrittenStatement → List ℕ → Type 0
@@ -115,18 +116,25 @@ targets_sound form text =
     (λ targets. WrittenStatement.read form targets) (list_at variable_at text) (variables_sound text)
     (λ targets rest is. (is.0, refl, append_assoc (read_text form) (with_commas (map spelling targets)) rest ∙ ap (λ whole. read_text form ++ whole) is.1))
 
+call_sound : (text : List ℕ) → Each (λ s rest. IsSimpleInFront (codes "CALL" ++ text) s rest) (call_at text)
+call_sound text =
+    named_sound (λ s rest. IsSimpleInFront (codes "CALL" ++ text) s rest) (λ name arguments. WrittenStatement.call_of name arguments) text
+    (λ name arguments rest is are e. ((is, are), refl, between (codes "CALL") name (names_text arguments) rest ∙ ap (λ more. codes "CALL" ++ more) e))
+
 pub simple_sound : (text : List ℕ) → Each (λ s rest. IsSimpleInFront text s rest) (simple_at text)
 simple_sound text =
     form_or_sound P (alone WrittenStatement.continue) (codes "CONTINUE") text _ (λ rest e. (tt, refl, e))
     (form_or_sound P stop_at (codes "STOP") text _ (λ rest e. moved (codes "STOP" ++ rest) e (stop_at rest) (stop_sound rest))
     (form_or_sound P go_to_at (codes "GOTO") text _ (λ rest e. moved (codes "GOTO" ++ rest) e (go_to_at rest) (go_to_sound rest))
+    (form_or_sound P call_at (codes "CALL") text _ (λ rest e. moved (codes "CALL" ++ rest) e (call_at rest) (call_sound rest))
+    (form_or_sound P (alone WrittenStatement.go_back) (codes "RETURN") text _ (λ rest e. (tt, refl, e))
     (form_or_sound P items_behind (codes "PRINT*") text _ (λ rest e. moved (codes "PRINT*" ++ rest) e (items_behind rest) (print_sound rest))
     (form_or_sound P (items_at PrintForm.Write_star) (codes "WRITE(*,*)") text _ (λ rest e. moved (codes "WRITE(*,*)" ++ rest) e (items_at PrintForm.Write_star rest) (write_sound PrintForm.Write_star (codes "WRITE(*,*)") rest (λ items. refl)))
     (form_or_sound P (items_at PrintForm.Write_six) (codes "WRITE(6,*)") text _ (λ rest e. moved (codes "WRITE(6,*)" ++ rest) e (items_at PrintForm.Write_six rest) (write_sound PrintForm.Write_six (codes "WRITE(6,*)") rest (λ items. refl)))
     (form_or_sound P (targets_at ReadForm.Read_star) (codes "READ*,") text _ (λ rest e. moved (codes "READ*," ++ rest) e (targets_at ReadForm.Read_star rest) (targets_sound ReadForm.Read_star rest))
     (form_or_sound P (targets_at ReadForm.Read_unit_star) (codes "READ(*,*)") text _ (λ rest e. moved (codes "READ(*,*)" ++ rest) e (targets_at ReadForm.Read_unit_star rest) (targets_sound ReadForm.Read_unit_star rest))
     (form_or_sound P (targets_at ReadForm.Read_five) (codes "READ(5,*)") text None (λ rest e. moved (codes "READ(5,*)" ++ rest) e (targets_at ReadForm.Read_five rest) (targets_sound ReadForm.Read_five rest))
-    tt))))))))
+    tt))))))))))
   where
     P : WrittenStatement → List ℕ → Type 0
     P s rest = IsSimpleInFront text s rest

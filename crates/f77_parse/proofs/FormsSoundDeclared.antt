@@ -5,25 +5,31 @@ use Rattle.std.proofs.lemmas.List.Elements.{All-cons}
 use Rattle.std.specs.List.{list_all}
 use Rattle.f77_tree.specs.declared.declarations.Kind.{Kind}
 use Rattle.f77_tree.specs.Name.{is_name}
-use Rattle.f77_tree.specs.StatementGrammar.{with_commas, decls_text, IsDecl, has_dims, kind_text, letters_text, are_letters, part_text, IsPart, is_said, group_text, is_group, data_text, is_data, WrittenStatement}
+use Rattle.f77_tree.specs.StatementGrammar.{with_commas, decls_text, IsDecl, has_dims, kind_text, letters_text, are_letters, part_text, IsPart, is_said, group_text, is_group, data_text, is_data, names_text, WrittenStatement}
 use Rattle.f77_expr.specs.Reader.{read_as}
 use Rattle.f77_expr.proofs.EachRead.{Each, each_then, each_as}
 use Rattle.f77_parse.specs.Parts.{where_it, name_at, list_at, letters_at, decl_at, first_part_at, part_at, group_at, data_behind, data_at, parts_to_end}
-use Rattle.f77_parse.specs.Forms.{implicit_at, typed_at, dimension_at, common_at, equivalence_at, data_statement_at}
+use Rattle.f77_parse.specs.Forms.{subroutine_at, implicit_at, typed_at, dimension_at, common_at, equivalence_at, data_statement_at}
 use Rattle.f77_parse.proofs.Followers.{IsInFront}
 use Rattle.f77_parse.proofs.PartCommon.{first_part_sound, common_parts_sound}
 use Rattle.f77_parse.proofs.PartData.{first_data_sound, data_parts_sound}
 use Rattle.f77_parse.proofs.PartDeclarations.{decls_sound}
 use Rattle.f77_parse.proofs.PartLetters.{letters_list_sound}
 use Rattle.f77_parse.proofs.PartMembers.{groups_sound}
+use Rattle.f77_parse.proofs.PartNames.{named_sound}
 use Rattle.f77_parse.proofs.PartNumbers.{name_sound}
-use Rattle.f77_parse.proofs.PartReaders.{where_sound}
+use Rattle.f77_parse.proofs.PartReaders.{where_sound, between}
 use Rattle.f77_parse.proofs.FormsSound.{IsStatementInFront}
 
 pub program_sound : (text : List ℕ) → Each (λ s rest. IsStatementInFront (codes "PROGRAM" ++ text) s rest) (read_as (λ n. WrittenStatement.program n) (name_at text))
 program_sound text =
     each_as (λ name rest. IsInFront (λ name. is_name name ≡ true) (λ name. name) text name rest) (λ s rest. IsStatementInFront (codes "PROGRAM" ++ text) s rest) (λ n. WrittenStatement.program n) (name_at text) (name_sound text)
     (λ name rest is. (is.0, ap (λ more. codes "PROGRAM" ++ more) is.1))
+
+pub subroutine_sound : (text : List ℕ) → Each (λ s rest. IsStatementInFront (codes "SUBROUTINE" ++ text) s rest) (subroutine_at text)
+subroutine_sound text =
+    named_sound (λ s rest. IsStatementInFront (codes "SUBROUTINE" ++ text) s rest) (λ name dummies. WrittenStatement.subroutine name dummies) text
+    (λ name dummies rest is are e. ((is, are), between (codes "SUBROUTINE") name (names_text dummies) rest ∙ ap (λ more. codes "SUBROUTINE" ++ more) e))
 
 pub implicit_sound : (text : List ℕ) → Each (λ s rest. IsStatementInFront (codes "IMPLICIT" ++ text) s rest) (implicit_at text)
 implicit_sound text =

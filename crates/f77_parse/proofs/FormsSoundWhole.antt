@@ -5,16 +5,17 @@ use Rattle.f77_tree.specs.StatementGrammar.{WrittenStatement, statement_text, Is
 use Rattle.f77_expr.specs.Reader.{Reads, read_as}
 use Rattle.f77_expr.proofs.EachRead.{Each, each_at, each_if, each_weaker}
 use Rattle.f77_parse.specs.Parts.{name_at}
-use Rattle.f77_parse.specs.Forms.{stands_free, whole, do_at, equals_at, alone, simple_at, if_at, else_if_at, implicit_at, typed_at, dimension_at, common_at, equivalence_at, data_statement_at, keyword_at, form_at, statement_at}
+use Rattle.f77_parse.specs.Forms.{stands_free, whole, do_at, equals_at, alone, simple_at, if_at, else_if_at, subroutine_at, implicit_at, typed_at, dimension_at, common_at, equivalence_at, data_statement_at, keyword_at, form_at, statement_at}
 use Rattle.f77_parse.proofs.FormsSound.{IsStatementInFront, IsSimpleInFront, form_or_sound, simple_sound}
 use Rattle.f77_parse.proofs.FormsSoundIf.{if_sound, else_if_sound}
-use Rattle.f77_parse.proofs.FormsSoundDeclared.{program_sound, implicit_sound, typed_sound, dimension_sound, common_sound, equivalence_sound, data_statement_sound}
+use Rattle.f77_parse.proofs.FormsSoundDeclared.{program_sound, subroutine_sound, implicit_sound, typed_sound, dimension_sound, common_sound, equivalence_sound, data_statement_sound}
 use Rattle.f77_parse.proofs.FormsSoundAssigned.{equals_sound, do_sound}
 
 -- by its keyword
 keyword_sound : (text : List ℕ) → Each (λ s rest. IsStatementInFront text s rest) (keyword_at text)
 keyword_sound text =
     form_or_sound P (λ rest. read_as (λ n. WrittenStatement.program n) (name_at rest)) (codes "PROGRAM") text _ (λ rest e. moved (codes "PROGRAM" ++ rest) e (read_as (λ n. WrittenStatement.program n) (name_at rest)) (program_sound rest))
+    (form_or_sound P subroutine_at (codes "SUBROUTINE") text _ (λ rest e. moved (codes "SUBROUTINE" ++ rest) e (subroutine_at rest) (subroutine_sound rest))
     (form_or_sound P (alone WrittenStatement.implicit_none) (codes "IMPLICITNONE") text _ (λ rest e. (tt, e))
     (form_or_sound P implicit_at (codes "IMPLICIT") text _ (λ rest e. moved (codes "IMPLICIT" ++ rest) e (implicit_at rest) (implicit_sound rest))
     (form_or_sound P (typed_at Integer) (codes "INTEGER") text _ (λ rest e. moved (codes "INTEGER" ++ rest) e (typed_at Integer rest) (typed_sound Integer rest))
@@ -28,7 +29,7 @@ keyword_sound text =
     (form_or_sound P else_if_at (codes "ELSEIF(") text _ (λ rest e. moved (codes "ELSEIF(" ++ rest) e (else_if_at rest) (else_if_sound rest))
     (form_or_sound P (alone WrittenStatement.else) (codes "ELSE") text _ (λ rest e. (tt, e))
     (form_or_sound P if_at (codes "IF(") text (simple_at text) (λ rest e. moved (codes "IF(" ++ rest) e (if_at rest) (if_sound rest))
-    (each_weaker (λ s rest. IsSimpleInFront text s rest) P (simple_at text) (λ s rest is. (is.0, is.2)) (simple_sound text)))))))))))))))
+    (each_weaker (λ s rest. IsSimpleInFront text s rest) P (simple_at text) (λ s rest is. (is.0, is.2)) (simple_sound text))))))))))))))))
   where
     P : WrittenStatement → List ℕ → Type 0
     P s rest = IsStatementInFront text s rest

@@ -210,7 +210,7 @@ signed_listed = record {
   no_stroke = signed_no_stroke;
 }
 
-map_same : (xs : List (List ℕ)) → map (λ x. x) xs ≡ xs
+pub map_same : (xs : List (List ℕ)) → map (λ x. x) xs ≡ xs
 map_same [] = refl
 map_same (x ∷ xs) = ap (λ (rest : List (List ℕ)). x ∷ rest) (map_same xs)
 

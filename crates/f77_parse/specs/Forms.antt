@@ -10,7 +10,7 @@ use Rattle.f77_tree.specs.Grammar.{Written, Arguments}
 use Rattle.f77_tree.specs.StatementGrammar.{WrittenStatement, WrittenStop, PrintForm, ReadForm, has_dims}
 use Rattle.f77_expr.specs.Piece.{Open, nothing_open, open_after}
 use Rattle.f77_expr.specs.Reader.{Reads, read_as, and_then_read, after_front}
-use Rattle.f77_parse.specs.Parts.{after, then_front, where_it, number_at, name_at, list_at, bracketed_at, parts_to_end, letters_at, decl_at, first_part_at, part_at, group_at, data_behind, data_at, comma_at, expression_in_front, variable_at, characters_at, item_at}
+use Rattle.f77_parse.specs.Parts.{after, then_front, where_it, number_at, name_at, names_at, list_at, bracketed_at, parts_to_end, letters_at, decl_at, first_part_at, part_at, group_at, data_behind, data_at, comma_at, expression_in_front, variable_at, characters_at, item_at}
 
 -- ---- what stands outside brackets and character constants
 
@@ -122,19 +122,28 @@ items_at form (c ∷ text) = read_as (λ items. WrittenStatement.print form item
 abbrev pub targets_at : ReadForm → List ℕ → Reads WrittenStatement
 targets_at form text = read_as (λ targets. WrittenStatement.read form targets) (list_at variable_at text)
 
+-- a name, and names between brackets or nothing
+abbrev pub named_at : (List ℕ → Option (List (List ℕ)) → WrittenStatement) → List ℕ → Reads WrittenStatement
+named_at made text = and_then_read (λ name rest. read_as (λ names. made name names) (names_at rest)) (name_at text)
+
+abbrev pub call_at : List ℕ → Reads WrittenStatement
+call_at text = named_at (λ name arguments. WrittenStatement.call_of name arguments) text
+
 -- a form that may stand behind a condition
 abbrev pub simple_at : List ℕ → Reads WrittenStatement
 simple_at text =
     form_or (alone WrittenStatement.continue) (after_front (codes "CONTINUE") text)
     (form_or stop_at (after_front (codes "STOP") text)
     (form_or go_to_at (after_front (codes "GOTO") text)
+    (form_or call_at (after_front (codes "CALL") text)
+    (form_or (alone WrittenStatement.go_back) (after_front (codes "RETURN") text)
     (form_or items_behind (after_front (codes "PRINT*") text)
     (form_or (items_at PrintForm.Write_star) (after_front (codes "WRITE(*,*)") text)
     (form_or (items_at PrintForm.Write_six) (after_front (codes "WRITE(6,*)") text)
     (form_or (targets_at ReadForm.Read_star) (after_front (codes "READ*,") text)
     (form_or (targets_at ReadForm.Read_unit_star) (after_front (codes "READ(*,*)") text)
     (form_or (targets_at ReadForm.Read_five) (after_front (codes "READ(5,*)") text)
-    None))))))))
+    None))))))))))
 
 -- a condition, with the bracket that closes it
 abbrev pub condition_at : List ℕ → Reads Written
@@ -158,6 +167,9 @@ if_at text = and_then_read (λ w rest. behind_condition w rest) (condition_at te
 abbrev pub else_if_at : List ℕ → Reads WrittenStatement
 else_if_at text = then_front (codes "THEN") (read_as (λ w. WrittenStatement.else_if w) (condition_at text))
 
+abbrev pub subroutine_at : List ℕ → Reads WrittenStatement
+subroutine_at text = named_at (λ name dummies. WrittenStatement.subroutine name dummies) text
+
 abbrev pub implicit_at : List ℕ → Reads WrittenStatement
 implicit_at text = read_as (λ letters. WrittenStatement.implicit letters) (list_at letters_at text)
 
@@ -180,6 +192,7 @@ data_statement_at text = and_then_read (λ first rest. read_as (λ others. Writt
 abbrev pub keyword_at : List ℕ → Reads WrittenStatement
 keyword_at text =
     form_or (λ rest. read_as (λ n. WrittenStatement.program n) (name_at rest)) (after_front (codes "PROGRAM") text)
+    (form_or subroutine_at (after_front (codes "SUBROUTINE") text)
     (form_or (alone WrittenStatement.implicit_none) (after_front (codes "IMPLICITNONE") text)
     (form_or implicit_at (after_front (codes "IMPLICIT") text)
     (form_or (typed_at Integer) (after_front (codes "INTEGER") text)
@@ -193,7 +206,7 @@ keyword_at text =
     (form_or else_if_at (after_front (codes "ELSEIF(") text)
     (form_or (alone WrittenStatement.else) (after_front (codes "ELSE") text)
     (form_or if_at (after_front (codes "IF(") text)
-    (simple_at text))))))))))))))
+    (simple_at text)))))))))))))))
 
 -- ---- statements
 

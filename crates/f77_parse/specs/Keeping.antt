@@ -18,7 +18,7 @@ use Rattle.f77_tree.specs.declared.statements.RawItem.{RawItem}
 use Rattle.f77_tree.specs.declared.statements.RawItem.TheVariants.{Value, Chars}
 use Rattle.f77_tree.specs.declared.statements.RawExpr.TheVariants.{Named, Call}
 use Rattle.f77_tree.specs.Name.{is_figure}
-use Rattle.f77_tree.specs.Grammar.{Written, number_of, has_great_number}
+use Rattle.f77_tree.specs.Grammar.{Written, number_of, has_great_number, greatest_constant}
 use Rattle.f77_expr.specs.Answers.{kept}
 use Rattle.f77_expr.specs.Reader.{Reads, after_front}
 use Rattle.f77_parse.specs.Parts.{behind_comma, number_at, name_at, letter_at, expression_in_front}
@@ -116,7 +116,7 @@ expression_kept bad text = kept_expression bad (expression_in_front text)
 -- ---- constants, labels and repeats: one that is out of range is kept as 0
 
 abbrev pub is_great_number : ℕ → Bool
-is_great_number n = nat_lt 2147483647 n
+is_great_number n = nat_lt greatest_constant n
 
 abbrev pub constant_in : ℕ → ℕ
 constant_in n = if is_great_number n then 0 else n
@@ -128,7 +128,7 @@ abbrev pub label_in : ℕ → ℕ
 label_in n = if is_no_label n then 0 else n
 
 abbrev pub is_no_repeat : ℕ → Bool
-is_no_repeat n = (n == 0) || nat_lt 2147483647 n
+is_no_repeat n = (n == 0) || nat_lt greatest_constant n
 
 abbrev pub repeat_in : ℕ → ℕ
 repeat_in n = if is_no_repeat n then 0 else n
@@ -259,6 +259,13 @@ variable_kept bad text = keep_then (name_kept bad text) (λ name bad_now rest.
     where_front (after_front (codes "(") rest)
     (λ behind. keep_then (closed_list expression_kept bad_now behind) (λ subs bad_then more. Some (Call name subs, bad_then, more)))
     (Some (Named name, bad_now, rest)))
+
+-- names between brackets, of which there may be none, or nothing
+unfoldable pub names_kept : Bool → List ℕ → Keeps (List (List ℕ))
+names_kept bad text =
+    where_front (after_front (codes "(") text)
+    (λ inside. where_front (after_front (codes ")") inside) (λ rest. Some ([], bad, rest)) (closed_list name_kept bad inside))
+    (Some ([], bad, text))
 
 -- the next character of a character constant, or none where the apostrophe that closes it stands
 unfoldable pub next_character_kept : Bool → List ℕ → Keeps (Option ℕ)

@@ -1,15 +1,14 @@
 -- What the code keeps of the forms of statements.
-use Rattle.std.specs.Prelude.{ℕ, Bool, not, ◌&&◌, if◌then◌else◌, nat_lt, List, [], ◌∷◌, length, codes, take_while, Option, Some, None}
+use Rattle.std.specs.Prelude.{ℕ, Bool, if◌then◌else◌, nat_lt, List, [], ◌∷◌, length, codes, take_while, Option, Some, None}
 use Rattle.std.specs.Str.{bytes_eq}
 use Rattle.f77_tree.specs.declared.declarations.Kind.TheVariants.{Integer, Logical}
-use Rattle.f77_tree.specs.declared.statements.RawExpr.{RawExpr}
-use Rattle.f77_tree.specs.declared.statements.RawExpr.TheVariants.{Named, Call}
+use Rattle.f77_tree.specs.declared.statements.RawExpr.{RawExpr, items-the_row-RawExpr}
+use Rattle.f77_tree.specs.declared.statements.RawExpr.TheVariants.{Call'}
 use Rattle.f77_tree.specs.declared.statements.Stmt.{Stmt}
-use Rattle.f77_tree.specs.declared.statements.Stmt.TheVariants.{Program, Implicit, ImplicitNone, TypeOf, Dimension, Common, Equivalence, Init, Assign, Print, Take, Continue, Stop, GoTo, PickGoTo, SignIf, ThenIf, BlockIf, ElseIf, Else, EndIf, Do, End}
+use Rattle.f77_tree.specs.declared.statements.Stmt.TheVariants.{Program, Implicit, ImplicitNone, TypeOf, Dimension, Common, Equivalence, Init, Assign, Print, Take, Continue, Stop, GoTo, PickGoTo, SignIf, ThenIf, BlockIf, ElseIf, Else, EndIf, Do, Sub, CallTo, Back, End}
 use Rattle.f77_tree.specs.Name.{is_figure}
 use Rattle.f77_expr.specs.Reader.{after_front}
-use Rattle.f77_parse.specs.Parts.{behind_comma}
-use Rattle.f77_parse.specs.Keeping.{Keeps, keep_then, where_front, skipped, kept_list, kept_behind, kept_parts, kept_ranges, wanted, begins, name_kept, few_digits_kept, expression_kept, label_kept, decl_kept, arrays_kept, first_part_kept, part_kept, group_kept, init_part_kept, next_init_part_kept, variable_kept, character_constant_kept, item_kept}
+use Rattle.f77_parse.specs.Keeping.{Keeps, keep_then, where_front, skipped, kept_list, kept_parts, kept_ranges, wanted, begins, name_kept, few_digits_kept, expression_kept, label_kept, decl_kept, arrays_kept, first_part_kept, part_kept, group_kept, init_part_kept, next_init_part_kept, variable_kept, names_kept, character_constant_kept, item_kept}
 
 -- a statement of what was read
 abbrev pub as_stmt : {V : Type 0} → (V → Stmt) → Keeps V → Keeps Stmt
@@ -45,26 +44,25 @@ unfoldable pub conditional_kept : RawExpr → Bool → List ℕ → Keeps Stmt
 conditional_kept condition bad text =
     keep_then (variable_kept bad text) (λ target bad_now rest. as_stmt (λ stmt. ThenIf condition stmt) (assigned_kept target bad_now rest))
 
--- what stands behind a name and one expression in brackets
-unfoldable pub behind_one_kept : List ℕ → RawExpr → Bool → List ℕ → Keeps Stmt
-behind_one_kept name first bad text =
-    if bytes_eq name (codes "IF") && not (begins 61 text) then conditional_kept first bad text else assigned_kept (Call name (first ∷ [])) bad text
+-- the item of a list that has one
+abbrev pub the_only : List RawExpr → Option RawExpr
+the_only (e ∷ []) = Some e
+the_only _ = None
 
--- what stands behind a name, a bracket and the first of several subscripts
-unfoldable pub behind_first_kept : List ℕ → RawExpr → Bool → List ℕ → Keeps Stmt
-behind_first_kept name first bad text =
-    where_front (behind_comma text)
-    (λ behind. keep_then (kept_behind expression_kept (first ∷ []) bad behind) (λ subs bad_now rest.
-    keep_then (wanted (codes ")") bad_now rest) (λ found bad_then more. assigned_kept (Call name subs) bad_then more)))
-    None
+-- the condition of an IF that was read as an array element with one subscript
+abbrev pub condition_in : RawExpr → Option RawExpr
+condition_in (Call' name shape subs) = if bytes_eq name (codes "IF") then the_only (items-the_row-RawExpr _ subs) else None
+condition_in _ = None
+
+-- behind the condition of an IF, where it is one
+abbrev pub behind_if_kept : Option RawExpr → Bool → List ℕ → Keeps Stmt
+behind_if_kept None bad text = None
+behind_if_kept (Some condition) bad text = conditional_kept condition bad text
 
 unfoldable pub assignment_kept : Bool → List ℕ → Keeps Stmt
 assignment_kept bad text =
-    keep_then (name_kept bad text) (λ name bad_now rest.
-    where_front (after_front (codes "(") rest)
-    (λ inside. keep_then (expression_kept bad_now inside) (λ first bad_then behind.
-    where_front (after_front (codes ")") behind) (λ more. behind_one_kept name first bad_then more) (behind_first_kept name first bad_then behind)))
-    (assigned_kept (Named name) bad_now rest))
+    keep_then (variable_kept bad text) (λ target bad_now rest.
+    if begins 61 rest then assigned_kept target bad_now rest else behind_if_kept (condition_in target) bad_now rest)
 
 unfoldable pub sign_labels_kept : RawExpr → Bool → List ℕ → Keeps Stmt
 sign_labels_kept condition bad text =
@@ -103,6 +101,12 @@ items_or_none_kept bad text = at_end text (Some (Print [], bad, [])) (as_stmt (�
 unfoldable pub targets_kept : Bool → List ℕ → Keeps Stmt
 targets_kept bad text = as_stmt (λ targets. Take targets) (kept_list variable_kept bad text)
 
+unfoldable pub call_kept : Bool → List ℕ → Keeps Stmt
+call_kept bad text = keep_then (name_kept bad text) (λ name bad_now rest. as_stmt (λ arguments. CallTo name arguments) (names_kept bad_now rest))
+
+unfoldable pub subroutine_kept : Bool → List ℕ → Keeps Stmt
+subroutine_kept bad text = keep_then (name_kept bad text) (λ name bad_now rest. as_stmt (λ dummies. Sub name dummies) (names_kept bad_now rest))
+
 -- output or input
 unfoldable pub transfer_kept : Bool → List ℕ → Keeps Stmt
 transfer_kept bad text =
@@ -119,7 +123,9 @@ simple_kept bad text =
     where_front (after_front (codes "CONTINUE") text) (λ rest. Some (Continue, bad, rest))
     (where_front (after_front (codes "STOP") text) (λ rest. stop_kept bad rest)
     (where_front (after_front (codes "GOTO") text) (λ rest. go_to_kept bad rest)
-    (transfer_kept bad text)))
+    (where_front (after_front (codes "CALL") text) (λ rest. call_kept bad rest)
+    (where_front (after_front (codes "RETURN") text) (λ rest. Some (Back, bad, rest))
+    (transfer_kept bad text)))))
 
 unfoldable pub condition_kept : Bool → List ℕ → Keeps RawExpr
 condition_kept bad text =
@@ -164,11 +170,12 @@ storage_kept bad text =
 unfoldable pub keyword_kept : Bool → List ℕ → Keeps Stmt
 keyword_kept bad text =
     where_front (after_front (codes "PROGRAM") text) (λ rest. as_stmt (λ name. Program) (name_kept bad rest))
+    (where_front (after_front (codes "SUBROUTINE") text) (λ rest. subroutine_kept bad rest)
     (where_front (after_front (codes "IMPLICITNONE") text) (λ rest. Some (ImplicitNone, bad, rest))
     (where_front (after_front (codes "IMPLICIT") text) (λ rest. as_stmt (λ ranges. Implicit ranges) (kept_ranges bad rest))
     (where_front (after_front (codes "INTEGER") text) (λ rest. as_stmt (λ decls. TypeOf Integer decls) (kept_list decl_kept bad rest))
     (where_front (after_front (codes "LOGICAL") text) (λ rest. as_stmt (λ decls. TypeOf Logical decls) (kept_list decl_kept bad rest))
-    (storage_kept bad text)))))
+    (storage_kept bad text))))))
 
 -- ---- whole statements
 

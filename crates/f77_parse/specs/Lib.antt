@@ -1,9 +1,8 @@
 -- Statements read from their texts: readers of the parts and of the forms of statements.
 pub mod Answers
-pub mod Following
 pub mod Forms
 pub mod Keeping
+pub mod KeptValues
 pub mod KeptForms
 pub mod Parsing
 pub mod Parts
-pub mod Scanning

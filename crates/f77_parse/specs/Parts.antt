@@ -79,6 +79,18 @@ abbrev pub bracketed_or_none : {A : Type 0} → (List ℕ → Reads A) → List 
 bracketed_or_none item [] = Some ([], [])
 bracketed_or_none item (c ∷ text) = if c == 40 then bracketed_at item (c ∷ text) else Some ([], c ∷ text)
 
+-- names behind an opening bracket, with the bracket that closes them; there may be none
+abbrev pub names_inside : List ℕ → Reads (List (List ℕ))
+names_inside text = this_or [] (after_front (codes ")") text) (then_front (codes ")") (list_at name_at text))
+
+abbrev pub names_begun : List ℕ → Option (List ℕ) → Reads (Option (List (List ℕ)))
+names_begun text None = Some (None, text)
+names_begun text (Some inside) = read_as (λ names. Some names) (names_inside inside)
+
+-- names between brackets, or nothing where no bracket stands in front
+abbrev pub names_at : List ℕ → Reads (Option (List (List ℕ)))
+names_at text = names_begun text (after_front (codes "(") text)
+
 -- ---- parts of declarations
 
 -- a bound, or two with a colon between them

@@ -1,17 +1,12 @@
 //! Constants, labels and repeats (ANSI X3.9-1978, sections 3.4, 4.3 and 9). One that is out of range is told, and kept as 0.
 
 ghost use Rattle.std.specs.Prelude.{◌≡◌, ◌||◌, pos};
-ghost use Rattle.f77_parse.specs.Keeping.{kept_list, constant_in, is_great_number, label_in, is_no_label, repeat_in, is_no_repeat, label_kept, signed_kept, truth_kept, constant_kept, value_kept};
+ghost use Rattle.f77_parse.specs.Keeping.{constant_in, is_great_number, label_in, is_no_label, repeat_in, is_no_repeat, label_kept, signed_kept, truth_kept, constant_kept, value_kept};
 ghost use Rattle.f77_parse.specs.Answers.{Gives, Shortens};
 
 use crate::reader::Reader;
-use df_sequence::{LabelList, NumList, Sequence};
-use f77_expr::ReadEnd;
-use f77_tree::{InitValue, InitValueList, Lit};
-use std::alloc::Global;
-
-/// The greatest integer constant.
-const GREATEST: u32 = 2147483647;
+use f77_expr::{GREATEST_CONSTANT, ReadEnd};
+use f77_tree::{InitValue, Lit};
 
 /// The greatest label.
 const LAST_LABEL: u32 = 99999;
@@ -23,7 +18,7 @@ impl<'a> Reader<'a> {
         ensures bad { self.new.is_bad ≡ (self.old.is_bad || is_great_number number) }
         ensures rest { self.new.rest.now ≡ self.old.rest.now }
     {
-        let is_great = number > GREATEST;
+        let is_great = number > GREATEST_CONSTANT;
         self.tell(is_great);
         if is_great { 0 } else { number as i32 }
     }
@@ -45,7 +40,7 @@ impl<'a> Reader<'a> {
         ensures bad { self.new.is_bad ≡ (self.old.is_bad || is_no_repeat number) }
         ensures rest { self.new.rest.now ≡ self.old.rest.now }
     {
-        let is_none = number == 0 || number > GREATEST;
+        let is_none = number == 0 || number > GREATEST_CONSTANT;
         self.tell(is_none);
         if is_none { 0 } else { number }
     }
@@ -58,19 +53,6 @@ impl<'a> Reader<'a> {
     {
         let number = self.number()?;
         Ok(self.label_of(number))
-    }
-
-    /// Labels with commas between them.
-    pub(crate) fn labels(&mut self, alloc: Global) -> Result<LabelList, ReadEnd>
-        ensures gives { Gives (kept_list label_kept self.old.is_bad self.old.rest.now) result self.new.is_bad self.new.rest.now }
-        ensures shorter { Shortens result self.old.rest.now self.new.rest.now }
-    {
-        let mut list = Sequence::new(alloc);
-        list.push(self.label()?)?;
-        while self.passes_comma() {
-            list.push(self.label()?)?;
-        }
-        Ok(list)
     }
 
     /// A number with a sign or without.
@@ -86,19 +68,6 @@ impl<'a> Reader<'a> {
         self.skips(b"+");
         let number = self.number()?;
         Ok(self.constant_of(number))
-    }
-
-    /// Numbers with commas between them.
-    pub(crate) fn signed_list(&mut self, alloc: Global) -> Result<NumList, ReadEnd>
-        ensures gives { Gives (kept_list signed_kept self.old.is_bad self.old.rest.now) result self.new.is_bad self.new.rest.now }
-        ensures shorter { Shortens result self.old.rest.now self.new.rest.now }
-    {
-        let mut list = Sequence::new(alloc);
-        list.push(self.signed()?)?;
-        while self.passes_comma() {
-            list.push(self.signed()?)?;
-        }
-        Ok(list)
     }
 
     /// A logical constant.
@@ -129,7 +98,7 @@ impl<'a> Reader<'a> {
 
     /// A constant of DATA, alone or repeated. Digits before an asterisk are a repeat, and others are the constant.
     #[tactic(auto, unfolding(crate::specs::Keeping::value_kept))]
-    fn value(&mut self) -> Result<InitValue, ReadEnd>
+    pub(crate) fn value(&mut self) -> Result<InitValue, ReadEnd>
         ensures gives { Gives (value_kept self.old.is_bad self.old.rest.now) result self.new.is_bad self.new.rest.now }
         ensures shorter { Shortens result self.old.rest.now self.new.rest.now }
     {
@@ -151,18 +120,5 @@ impl<'a> Reader<'a> {
                 value: Lit::Int(self.constant_of(number)),
             })
         }
-    }
-
-    /// Constants of DATA with commas between them.
-    pub(crate) fn values(&mut self, alloc: Global) -> Result<InitValueList, ReadEnd>
-        ensures gives { Gives (kept_list value_kept self.old.is_bad self.old.rest.now) result self.new.is_bad self.new.rest.now }
-        ensures shorter { Shortens result self.old.rest.now self.new.rest.now }
-    {
-        let mut list = Sequence::new(alloc);
-        list.push(self.value()?)?;
-        while self.passes_comma() {
-            list.push(self.value()?)?;
-        }
-        Ok(list)
     }
 }

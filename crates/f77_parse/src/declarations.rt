@@ -2,15 +2,16 @@
 
 ghost use Rattle.std.specs.Prelude.{◌≡◌, ◌≤◌, ◌<◌, ◌+◌, length, IfOk};
 ghost use Rattle.std.specs.List.{list_all};
-ghost use Rattle.f77_parse.specs.Keeping.{is_array, kept_list, kept_behind, kept_parts, dim_kept, decl_kept, arrays_kept, range_kept, kind_kept, letters_kept, kept_ranges, block_kept, block_and_decls, first_part_kept, part_kept, member_kept, group_kept, init_part_kept, next_init_part_kept};
+ghost use Rattle.f77_parse.specs.Keeping.{is_array, kept_behind, dim_kept, decl_kept, arrays_kept, range_kept, kind_kept, letters_kept, kept_ranges, block_kept, block_and_decls, first_part_kept, part_kept, member_kept, group_kept, init_part_kept, next_init_part_kept};
 ghost use Rattle.f77_parse.specs.Answers.{Gives, Shortens};
 
+use crate::listing::{DeclPart, DimPart, MemberPart, SignedPart, ValuePart};
 use crate::reader::Reader;
 use df_sequence::Sequence;
 use f77_expr::ReadEnd;
 use f77_tree::{
-    CommonPart, CommonPartList, Decl, DeclList, Dim, DimList, GroupList, InitPart, InitPartList,
-    Kind, LetterRange, LetterRangeList, Member, MemberList, Name,
+    CommonPart, Decl, DeclList, Dim, InitPart, Kind, LetterRange, LetterRangeList, Member,
+    MemberList, Name,
 };
 use std::alloc::Global;
 
@@ -20,7 +21,7 @@ const MOST_DIMENSIONS: u32 = 7;
 impl<'a> Reader<'a> {
     /// A bound alone, or two with a colon between them.
     #[tactic(auto, unfolding(crate::specs::Keeping::dim_kept))]
-    fn dim(&mut self) -> Result<Dim, ReadEnd>
+    pub(crate) fn dim(&mut self) -> Result<Dim, ReadEnd>
         ensures gives { Gives (dim_kept self.old.is_bad self.old.rest.now) result self.new.is_bad self.new.rest.now }
         ensures shorter { Shortens result self.old.rest.now self.new.rest.now }
     {
@@ -35,22 +36,9 @@ impl<'a> Reader<'a> {
         }
     }
 
-    /// Dimensions with commas between them.
-    fn dims(&mut self, alloc: Global) -> Result<DimList, ReadEnd>
-        ensures gives { Gives (kept_list dim_kept self.old.is_bad self.old.rest.now) result self.new.is_bad self.new.rest.now }
-        ensures shorter { Shortens result self.old.rest.now self.new.rest.now }
-    {
-        let mut list = Sequence::new(alloc);
-        list.push(self.dim()?)?;
-        while self.passes_comma() {
-            list.push(self.dim()?)?;
-        }
-        Ok(list)
-    }
-
     /// A name, with at most seven dimensions or without.
     #[tactic(auto, unfolding(crate::specs::Keeping::decl_kept))]
-    fn decl(&mut self, alloc: Global) -> Result<Decl, ReadEnd>
+    pub(crate) fn decl(&mut self, alloc: Global) -> Result<Decl, ReadEnd>
         ensures gives { Gives (decl_kept self.old.is_bad self.old.rest.now) result self.new.is_bad self.new.rest.now }
         ensures shorter { Shortens result self.old.rest.now self.new.rest.now }
     {
@@ -61,25 +49,12 @@ impl<'a> Reader<'a> {
                 dims: Sequence::new(alloc),
             });
         }
-        let dims = self.dims(alloc)?;
+        let dims = self.list::<DimPart>(alloc)?;
         self.wants(b")")?;
         if dims.len() > MOST_DIMENSIONS {
             return Err(ReadEnd::NoForm);
         }
         Ok(Decl { name, dims })
-    }
-
-    /// Declarators with commas between them.
-    pub(crate) fn decls(&mut self, alloc: Global) -> Result<DeclList, ReadEnd>
-        ensures gives { Gives (kept_list decl_kept self.old.is_bad self.old.rest.now) result self.new.is_bad self.new.rest.now }
-        ensures shorter { Shortens result self.old.rest.now self.new.rest.now }
-    {
-        let mut list = Sequence::new(alloc);
-        list.push(self.decl(alloc)?)?;
-        while self.passes_comma() {
-            list.push(self.decl(alloc)?)?;
-        }
-        Ok(list)
     }
 
     /// Declarators of arrays with commas between them.
@@ -88,7 +63,7 @@ impl<'a> Reader<'a> {
         ensures gives { Gives (arrays_kept self.old.is_bad self.old.rest.now) result self.new.is_bad self.new.rest.now }
         ensures shorter { Shortens result self.old.rest.now self.new.rest.now }
     {
-        let decls = self.decls(alloc)?;
+        let decls = self.list::<DeclPart>(alloc)?;
         if are_arrays(decls.as_slice()) {
             Ok(decls)
         } else {
@@ -189,14 +164,14 @@ impl<'a> Reader<'a> {
 
     /// The first part of COMMON, which may tell its block.
     #[tactic(auto, unfolding(crate::specs::Keeping::first_part_kept))]
-    fn first_part(&mut self, alloc: Global) -> Result<CommonPart, ReadEnd>
+    pub(crate) fn first_part(&mut self, alloc: Global) -> Result<CommonPart, ReadEnd>
         ensures gives { Gives (first_part_kept self.old.is_bad self.old.rest.now) result self.new.is_bad self.new.rest.now }
         ensures shorter { Shortens result self.old.rest.now self.new.rest.now }
     {
         if self.is_at(b'/') {
             return self.told_part(alloc);
         }
-        let decls = self.decls(alloc)?;
+        let decls = self.list::<DeclPart>(alloc)?;
         Ok(CommonPart { block: None, decls })
     }
 
@@ -206,13 +181,13 @@ impl<'a> Reader<'a> {
         ensures shorter { Shortens result self.old.rest.now self.new.rest.now }
     {
         let block = self.block()?;
-        let decls = self.decls(alloc)?;
+        let decls = self.list::<DeclPart>(alloc)?;
         Ok(CommonPart { block, decls })
     }
 
     /// A part of COMMON that tells its block, with a comma in front or without.
     #[tactic(auto, unfolding(crate::specs::Keeping::part_kept))]
-    fn part(&mut self, alloc: Global) -> Result<CommonPart, ReadEnd>
+    pub(crate) fn part(&mut self, alloc: Global) -> Result<CommonPart, ReadEnd>
         ensures gives { Gives (part_kept self.old.is_bad self.old.rest.now) result self.new.is_bad self.new.rest.now }
         ensures shorter { Shortens result self.old.rest.now self.new.rest.now }
     {
@@ -220,22 +195,9 @@ impl<'a> Reader<'a> {
         self.told_part(alloc)
     }
 
-    /// Parts of COMMON up to the end of the text.
-    pub(crate) fn parts(&mut self, alloc: Global) -> Result<CommonPartList, ReadEnd>
-        ensures gives { Gives (kept_parts first_part_kept part_kept self.old.is_bad self.old.rest.now) result self.new.is_bad self.new.rest.now }
-        ensures shorter { Shortens result self.old.rest.now self.new.rest.now }
-    {
-        let mut list = Sequence::new(alloc);
-        list.push(self.first_part(alloc)?)?;
-        while !self.is_at_end() {
-            list.push(self.part(alloc)?)?;
-        }
-        Ok(list)
-    }
-
     /// A name, with subscripts or without.
     #[tactic(auto, unfolding(crate::specs::Keeping::member_kept))]
-    fn member(&mut self, alloc: Global) -> Result<Member, ReadEnd>
+    pub(crate) fn member(&mut self, alloc: Global) -> Result<Member, ReadEnd>
         ensures gives { Gives (member_kept self.old.is_bad self.old.rest.now) result self.new.is_bad self.new.rest.now }
         ensures shorter { Shortens result self.old.rest.now self.new.rest.now }
     {
@@ -246,32 +208,19 @@ impl<'a> Reader<'a> {
                 subs: Sequence::new(alloc),
             });
         }
-        let subs = self.signed_list(alloc)?;
+        let subs = self.list::<SignedPart>(alloc)?;
         self.wants(b")")?;
         Ok(Member { name, subs })
     }
 
-    /// Members with commas between them.
-    fn members(&mut self, alloc: Global) -> Result<MemberList, ReadEnd>
-        ensures gives { Gives (kept_list member_kept self.old.is_bad self.old.rest.now) result self.new.is_bad self.new.rest.now }
-        ensures shorter { Shortens result self.old.rest.now self.new.rest.now }
-    {
-        let mut list = Sequence::new(alloc);
-        list.push(self.member(alloc)?)?;
-        while self.passes_comma() {
-            list.push(self.member(alloc)?)?;
-        }
-        Ok(list)
-    }
-
     /// Two members or more, between brackets.
     #[tactic(auto, unfolding(crate::specs::Keeping::group_kept))]
-    fn group(&mut self, alloc: Global) -> Result<MemberList, ReadEnd>
+    pub(crate) fn group(&mut self, alloc: Global) -> Result<MemberList, ReadEnd>
         ensures gives { Gives (group_kept self.old.is_bad self.old.rest.now) result self.new.is_bad self.new.rest.now }
         ensures shorter { Shortens result self.old.rest.now self.new.rest.now }
     {
         self.wants(b"(")?;
-        let members = self.members(alloc)?;
+        let members = self.list::<MemberPart>(alloc)?;
         self.wants(b")")?;
         if members.len() < 2 {
             return Err(ReadEnd::NoForm);
@@ -279,53 +228,27 @@ impl<'a> Reader<'a> {
         Ok(members)
     }
 
-    /// Groups with commas between them.
-    pub(crate) fn groups(&mut self, alloc: Global) -> Result<GroupList, ReadEnd>
-        ensures gives { Gives (kept_list group_kept self.old.is_bad self.old.rest.now) result self.new.is_bad self.new.rest.now }
-        ensures shorter { Shortens result self.old.rest.now self.new.rest.now }
-    {
-        let mut list = Sequence::new(alloc);
-        list.push(self.group(alloc)?)?;
-        while self.passes_comma() {
-            list.push(self.group(alloc)?)?;
-        }
-        Ok(list)
-    }
-
     /// Items of DATA and their values.
     #[tactic(auto, unfolding(crate::specs::Keeping::init_part_kept))]
-    fn init_part(&mut self, alloc: Global) -> Result<InitPart, ReadEnd>
+    pub(crate) fn init_part(&mut self, alloc: Global) -> Result<InitPart, ReadEnd>
         ensures gives { Gives (init_part_kept self.old.is_bad self.old.rest.now) result self.new.is_bad self.new.rest.now }
         ensures shorter { Shortens result self.old.rest.now self.new.rest.now }
     {
-        let items = self.members(alloc)?;
+        let items = self.list::<MemberPart>(alloc)?;
         self.wants(b"/")?;
-        let values = self.values(alloc)?;
+        let values = self.list::<ValuePart>(alloc)?;
         self.wants(b"/")?;
         Ok(InitPart { items, values })
     }
 
     /// Items of DATA and their values, with a comma in front or without.
     #[tactic(auto, unfolding(crate::specs::Keeping::next_init_part_kept))]
-    fn next_init_part(&mut self, alloc: Global) -> Result<InitPart, ReadEnd>
+    pub(crate) fn next_init_part(&mut self, alloc: Global) -> Result<InitPart, ReadEnd>
         ensures gives { Gives (next_init_part_kept self.old.is_bad self.old.rest.now) result self.new.is_bad self.new.rest.now }
         ensures shorter { Shortens result self.old.rest.now self.new.rest.now }
     {
         self.skips(b",");
         self.init_part(alloc)
-    }
-
-    /// Parts of DATA up to the end of the text, with commas between them or without.
-    pub(crate) fn init_parts(&mut self, alloc: Global) -> Result<InitPartList, ReadEnd>
-        ensures gives { Gives (kept_parts init_part_kept next_init_part_kept self.old.is_bad self.old.rest.now) result self.new.is_bad self.new.rest.now }
-        ensures shorter { Shortens result self.old.rest.now self.new.rest.now }
-    {
-        let mut list = Sequence::new(alloc);
-        list.push(self.init_part(alloc)?)?;
-        while !self.is_at_end() {
-            list.push(self.next_init_part(alloc)?)?;
-        }
-        Ok(list)
     }
 }
 

@@ -2,13 +2,14 @@
 
 ghost use Rattle.std.specs.Prelude.{◌≡◌, codes};
 ghost use Rattle.std.specs.Str.{bytes_eq};
-ghost use Rattle.f77_parse.specs.KeptForms.{step_kept, bounds_kept, do_kept, assigned_kept, conditional_kept, behind_one_kept, behind_first_kept, assignment_kept, sign_labels_kept, stop_kept, go_to_kept, items_behind_kept, items_or_none_kept, targets_kept, transfer_kept, simple_kept, condition_kept, guarded_kept, if_kept, else_if_kept};
+ghost use Rattle.f77_parse.specs.KeptForms.{step_kept, bounds_kept, do_kept, assigned_kept, conditional_kept, condition_in, assignment_kept, sign_labels_kept, stop_kept, go_to_kept, items_behind_kept, items_or_none_kept, targets_kept, call_kept, subroutine_kept, transfer_kept, simple_kept, condition_kept, guarded_kept, if_kept, else_if_kept};
 ghost use Rattle.f77_parse.specs.Answers.{Gives};
 
+use crate::listing::{ItemPart, LabelPart, VariablePart};
 use crate::reader::Reader;
 use df_sequence::{Boxed, Sequence};
 use f77_expr::ReadEnd;
-use f77_tree::{Name, RawExpr, RawList, Stmt};
+use f77_tree::{Name, RawExpr, Stmt};
 use std::alloc::Global;
 
 impl<'a> Reader<'a> {
@@ -69,50 +70,20 @@ impl<'a> Reader<'a> {
         Ok(Stmt::ThenIf(condition, Boxed::new(alloc, stmt)?))
     }
 
-    /// An assignment, or an assignment behind the condition of a logical IF: what stands behind IF is a condition where no
-    /// equals sign follows it, and a subscript where one does.
+    /// An assignment, or an assignment behind the condition of a logical IF: what stands behind IF is a subscript where an
+    /// equals sign follows it, and a condition where none does.
     #[tactic(auto, unfolding(crate::specs::KeptForms::assignment_kept))]
     pub(crate) fn assignment(&mut self, alloc: Global) -> Result<Stmt, ReadEnd>
         ensures { Gives (assignment_kept self.old.is_bad self.old.rest.now) result self.new.is_bad self.new.rest.now }
     {
-        let name = self.name()?;
-        if !self.passes(b"(") {
-            return self.assigned(alloc, RawExpr::Named(name));
+        let target = self.variable(alloc)?;
+        if self.is_at(b'=') {
+            return self.assigned(alloc, target);
         }
-        let first = self.expression(alloc)?;
-        if self.passes(b")") {
-            self.behind_one(alloc, name, first)
-        } else {
-            self.behind_first(alloc, name, first)
+        match condition_of(target) {
+            Some(condition) => self.conditional(alloc, condition),
+            None => Err(ReadEnd::NoForm),
         }
-    }
-
-    /// What stands behind a name and one expression in brackets.
-    #[tactic(auto, unfolding(crate::specs::KeptForms::behind_one_kept))]
-    fn behind_one(&mut self, alloc: Global, name: Name, first: RawExpr) -> Result<Stmt, ReadEnd>
-        ensures { Gives (behind_one_kept name first self.old.is_bad self.old.rest.now) result self.new.is_bad self.new.rest.now }
-    {
-        if is_if(&name) && !self.is_at(b'=') {
-            return self.conditional(alloc, first);
-        }
-        let mut subs = Sequence::new(alloc);
-        subs.push(first)?;
-        self.assigned(alloc, RawExpr::Call(name, subs))
-    }
-
-    /// What stands behind a name, a bracket and the first subscript of several.
-    #[tactic(auto, unfolding(crate::specs::KeptForms::behind_first_kept))]
-    fn behind_first(&mut self, alloc: Global, name: Name, first: RawExpr) -> Result<Stmt, ReadEnd>
-        ensures { Gives (behind_first_kept name first self.old.is_bad self.old.rest.now) result self.new.is_bad self.new.rest.now }
-    {
-        let mut subs = Sequence::new(alloc);
-        subs.push(first)?;
-        if !self.passes_comma() {
-            return Err(ReadEnd::NoForm);
-        }
-        let subs = self.expressions_behind(alloc, subs)?;
-        self.wants(b")")?;
-        self.assigned(alloc, RawExpr::Call(name, subs))
     }
 
     /// The labels of an arithmetic IF.
@@ -152,7 +123,7 @@ impl<'a> Reader<'a> {
         if !self.passes(b"(") {
             return Ok(Stmt::GoTo(self.label()?));
         }
-        let labels = self.labels(alloc)?;
+        let labels = self.list::<LabelPart>(alloc)?;
         self.wants(b")")?;
         self.skips(b",");
         let index = self.expression(alloc)?;
@@ -168,7 +139,7 @@ impl<'a> Reader<'a> {
             return Ok(Stmt::Print(Sequence::new(alloc)));
         }
         self.wants(b",")?;
-        Ok(Stmt::Print(self.items(alloc)?))
+        Ok(Stmt::Print(self.list::<ItemPart>(alloc)?))
     }
 
     /// What WRITE shows: items, or none.
@@ -179,7 +150,7 @@ impl<'a> Reader<'a> {
         if self.is_at_end() {
             return Ok(Stmt::Print(Sequence::new(alloc)));
         }
-        Ok(Stmt::Print(self.items(alloc)?))
+        Ok(Stmt::Print(self.list::<ItemPart>(alloc)?))
     }
 
     /// What READ reads.
@@ -187,7 +158,27 @@ impl<'a> Reader<'a> {
     fn targets(&mut self, alloc: Global) -> Result<Stmt, ReadEnd>
         ensures { Gives (targets_kept self.old.is_bad self.old.rest.now) result self.new.is_bad self.new.rest.now }
     {
-        Ok(Stmt::Take(self.variables(alloc)?))
+        Ok(Stmt::Take(self.list::<VariablePart>(alloc)?))
+    }
+
+    /// The subroutine that CALL names, and its arguments.
+    #[tactic(auto, unfolding(crate::specs::KeptForms::call_kept))]
+    fn call(&mut self, alloc: Global) -> Result<Stmt, ReadEnd>
+        ensures { Gives (call_kept self.old.is_bad self.old.rest.now) result self.new.is_bad self.new.rest.now }
+    {
+        let name = self.name()?;
+        let arguments = self.names(alloc)?;
+        Ok(Stmt::CallTo(name, arguments))
+    }
+
+    /// The name of a subroutine, and its dummy arguments.
+    #[tactic(auto, unfolding(crate::specs::KeptForms::subroutine_kept))]
+    pub(crate) fn subroutine(&mut self, alloc: Global) -> Result<Stmt, ReadEnd>
+        ensures { Gives (subroutine_kept self.old.is_bad self.old.rest.now) result self.new.is_bad self.new.rest.now }
+    {
+        let name = self.name()?;
+        let dummies = self.names(alloc)?;
+        Ok(Stmt::Sub(name, dummies))
     }
 
     /// A form that may stand behind a condition.
@@ -203,6 +194,12 @@ impl<'a> Reader<'a> {
         }
         if self.passes(b"GOTO") {
             return self.go_to(alloc);
+        }
+        if self.passes(b"CALL") {
+            return self.call(alloc);
+        }
+        if self.passes(b"RETURN") {
+            return Ok(Stmt::Back);
         }
         self.transfer(alloc)
     }
@@ -279,6 +276,22 @@ impl<'a> Reader<'a> {
         let condition = self.condition(alloc)?;
         self.wants(b"THEN")?;
         Ok(Stmt::ElseIf(condition))
+    }
+}
+
+/// The condition of an IF that was read as an array element with one subscript.
+fn condition_of(variable: RawExpr) -> Option<RawExpr>
+    ensures { result ≡ condition_in variable }
+{
+    match variable {
+        RawExpr::Call(name, mut subs) => {
+            if is_if(&name) && subs.len() == 1 {
+                subs.pop()
+            } else {
+                None
+            }
+        }
+        _ => None,
     }
 }
 

@@ -1,41 +1,16 @@
 //! Parts of executable statements: expressions, variables and items of output (ANSI X3.9-1978, sections 6, 10 and 12).
 
-ghost use Rattle.std.specs.Prelude.{◌≡◌, ◌<◌, ◌+◌, length};
-ghost use Rattle.f77_parse.specs.Keeping.{kept_list, kept_behind, expression_kept, variable_kept, next_character_kept, characters_kept, character_constant_kept, item_kept};
+ghost use Rattle.f77_parse.specs.Keeping.{variable_kept, names_kept, next_character_kept, characters_kept, character_constant_kept, item_kept};
 ghost use Rattle.f77_parse.specs.Answers.{Gives, Shortens};
 
+use crate::listing::{ExpressionPart, NamePart};
 use crate::reader::Reader;
 use df_sequence::Sequence;
 use f77_expr::ReadEnd;
-use f77_tree::{RawExpr, RawItem, RawItemList, RawList, Text};
+use f77_tree::{NameList, RawExpr, RawItem, Text};
 use std::alloc::Global;
 
 impl<'a> Reader<'a> {
-    /// Expressions with commas between them, behind those in the list.
-    pub(crate) fn expressions_behind(
-        &mut self,
-        alloc: Global,
-        mut list: RawList,
-    ) -> Result<RawList, ReadEnd>
-        requires room { length list + length self.old.rest.now < 4294967296 }
-        ensures gives { Gives (kept_behind expression_kept list self.old.is_bad self.old.rest.now) result self.new.is_bad self.new.rest.now }
-        ensures shorter { Shortens result self.old.rest.now self.new.rest.now }
-    {
-        list.push(self.expression(alloc)?)?;
-        while self.passes_comma() {
-            list.push(self.expression(alloc)?)?;
-        }
-        Ok(list)
-    }
-
-    /// Expressions with commas between them.
-    fn expressions(&mut self, alloc: Global) -> Result<RawList, ReadEnd>
-        ensures gives { Gives (kept_list expression_kept self.old.is_bad self.old.rest.now) result self.new.is_bad self.new.rest.now }
-        ensures shorter { Shortens result self.old.rest.now self.new.rest.now }
-    {
-        self.expressions_behind(alloc, Sequence::new(alloc))
-    }
-
     /// A variable or an array element.
     #[tactic(auto, unfolding(crate::specs::Keeping::variable_kept))]
     pub(crate) fn variable(&mut self, alloc: Global) -> Result<RawExpr, ReadEnd>
@@ -46,22 +21,25 @@ impl<'a> Reader<'a> {
         if !self.passes(b"(") {
             return Ok(RawExpr::Named(name));
         }
-        let subs = self.expressions(alloc)?;
+        let subs = self.list::<ExpressionPart>(alloc)?;
         self.wants(b")")?;
         Ok(RawExpr::Call(name, subs))
     }
 
-    /// Variables with commas between them.
-    pub(crate) fn variables(&mut self, alloc: Global) -> Result<RawList, ReadEnd>
-        ensures gives { Gives (kept_list variable_kept self.old.is_bad self.old.rest.now) result self.new.is_bad self.new.rest.now }
-        ensures shorter { Shortens result self.old.rest.now self.new.rest.now }
+    /// Names in brackets, of which there may be none, or nothing.
+    #[tactic(auto, unfolding(crate::specs::Keeping::names_kept))]
+    pub(crate) fn names(&mut self, alloc: Global) -> Result<NameList, ReadEnd>
+        ensures { Gives (names_kept self.old.is_bad self.old.rest.now) result self.new.is_bad self.new.rest.now }
     {
-        let mut list = Sequence::new(alloc);
-        list.push(self.variable(alloc)?)?;
-        while self.passes_comma() {
-            list.push(self.variable(alloc)?)?;
+        if !self.passes(b"(") {
+            return Ok(Sequence::new(alloc));
         }
-        Ok(list)
+        if self.passes(b")") {
+            return Ok(Sequence::new(alloc));
+        }
+        let names = self.list::<NamePart>(alloc)?;
+        self.wants(b")")?;
+        Ok(names)
     }
 
     /// The next character of a character constant, where it isn't the apostrophe that closes it. Two apostrophes are one
@@ -108,7 +86,7 @@ impl<'a> Reader<'a> {
 
     /// An item of output. One that begins with an apostrophe is a character constant.
     #[tactic(auto, unfolding(crate::specs::Keeping::item_kept))]
-    fn item(&mut self, alloc: Global) -> Result<RawItem, ReadEnd>
+    pub(crate) fn item(&mut self, alloc: Global) -> Result<RawItem, ReadEnd>
         ensures gives { Gives (item_kept self.old.is_bad self.old.rest.now) result self.new.is_bad self.new.rest.now }
         ensures shorter { Shortens result self.old.rest.now self.new.rest.now }
     {
@@ -117,18 +95,5 @@ impl<'a> Reader<'a> {
         } else {
             Ok(RawItem::Value(self.expression(alloc)?))
         }
-    }
-
-    /// Items of output with commas between them.
-    pub(crate) fn items(&mut self, alloc: Global) -> Result<RawItemList, ReadEnd>
-        ensures gives { Gives (kept_list item_kept self.old.is_bad self.old.rest.now) result self.new.is_bad self.new.rest.now }
-        ensures shorter { Shortens result self.old.rest.now self.new.rest.now }
-    {
-        let mut list = Sequence::new(alloc);
-        list.push(self.item(alloc)?)?;
-        while self.passes_comma() {
-            list.push(self.item(alloc)?)?;
-        }
-        Ok(list)
     }
 }

@@ -4,6 +4,7 @@ ghost use Rattle.std.specs.Prelude.{◌≡◌};
 ghost use Rattle.f77_parse.specs.KeptForms.{kept_whole, form_kept, equated_kept, keyword_kept, storage_kept, executable_kept};
 ghost use Rattle.f77_parse.specs.Answers.{Gives};
 
+use crate::listing::{CommonSeries, DataSeries, DeclPart, GroupPart};
 use crate::reader::Reader;
 use f77_expr::ReadEnd;
 use f77_tree::{Kind, Stmt};
@@ -61,6 +62,9 @@ impl<'a> Reader<'a> {
             self.name()?;
             return Ok(Stmt::Program);
         }
+        if self.passes(b"SUBROUTINE") {
+            return self.subroutine(alloc);
+        }
         if self.passes(b"IMPLICITNONE") {
             return Ok(Stmt::ImplicitNone);
         }
@@ -68,10 +72,10 @@ impl<'a> Reader<'a> {
             return Ok(Stmt::Implicit(self.letters_list(alloc)?));
         }
         if self.passes(b"INTEGER") {
-            return Ok(Stmt::TypeOf(Kind::Integer, self.decls(alloc)?));
+            return Ok(Stmt::TypeOf(Kind::Integer, self.list::<DeclPart>(alloc)?));
         }
         if self.passes(b"LOGICAL") {
-            return Ok(Stmt::TypeOf(Kind::Logical, self.decls(alloc)?));
+            return Ok(Stmt::TypeOf(Kind::Logical, self.list::<DeclPart>(alloc)?));
         }
         self.storage(alloc)
     }
@@ -85,13 +89,13 @@ impl<'a> Reader<'a> {
             return Ok(Stmt::Dimension(self.arrays(alloc)?));
         }
         if self.passes(b"COMMON") {
-            return Ok(Stmt::Common(self.parts(alloc)?));
+            return Ok(Stmt::Common(self.series::<CommonSeries>(alloc)?));
         }
         if self.passes(b"EQUIVALENCE") {
-            return Ok(Stmt::Equivalence(self.groups(alloc)?));
+            return Ok(Stmt::Equivalence(self.list::<GroupPart>(alloc)?));
         }
         if self.passes(b"DATA") {
-            return Ok(Stmt::Init(self.init_parts(alloc)?));
+            return Ok(Stmt::Init(self.series::<DataSeries>(alloc)?));
         }
         self.executable(alloc)
     }

@@ -3,19 +3,16 @@
 
 mod constants;
 mod declarations;
-mod digits;
 mod forms;
 mod items;
 mod keywords;
 mod laws;
+mod listing;
 mod parse;
 mod reader;
 mod scan;
 mod stmt_end;
 
-pub use laws::one_statement;
+pub use laws::{one_answer, one_statement};
 pub use parse::parse_stmt;
 pub use stmt_end::StmtEnd;
-
-#[cfg(test)]
-mod tests;

@@ -1,15 +1,16 @@
 //! A reader of the text of one statement. It never goes back, and nothing is read twice.
 
-ghost use Rattle.std.specs.Prelude.{◌≡◌, ◌≤◌, ◌<◌, ◌+◌, ◌-◌, ◌||◌, ◌&&◌, ◌^◌, not, nat_le, nat_lt, length, [], drop, take_while, codes, true, false, Some, None, MatchBool, IfOk};
+ghost use Rattle.std.specs.Prelude.{◌≡◌, ◌≤◌, ◌<◌, ◌+◌, ◌-◌, ◌||◌, ◌&&◌, ◌^◌, nat_lt, length, [], drop, take_while, true, false, Some, None, MatchBool, IfOk};
 ghost use Rattle.f77_tree.specs.Name.{is_figure};
-ghost use Rattle.f77_expr.specs.Reader.{after_front};
+ghost use Rattle.f77_expr.specs.Reader.{after_front as spec_after_front};
 ghost use Rattle.f77_parse.specs.Parts.{behind_comma};
 ghost use Rattle.f77_parse.specs.Keeping.{wanted, skipped, begins, number_kept, name_kept, letter_kept, character_kept, few_digits_kept, expression_kept};
 ghost use Rattle.f77_parse.specs.Answers.{Gives, Passes, Shortens};
 
-use crate::digits::{behind_front, bounded_number, digits_of, is_letter, symbolic_of};
 use df_sequence::CharList;
-use f77_expr::{ReadEnd, read_expr};
+use f77_expr::{
+    ReadEnd, after_front, bounded_number, digits_of, is_letter, read_expr, symbolic_of,
+};
 use f77_tree::{Name, RawExpr};
 use std::alloc::Global;
 
@@ -93,11 +94,11 @@ impl<'a> Reader<'a> {
 
     /// Passes these characters, if they are the next ones.
     pub(crate) fn passes(&mut self, front: &[u8]) -> bool
-        ensures rest { Passes (after_front front.now self.old.rest.now) result self.old.rest.now self.new.rest.now }
+        ensures rest { Passes (spec_after_front front.now self.old.rest.now) result self.old.rest.now self.new.rest.now }
         ensures same { self.new.is_bad ≡ self.old.is_bad }
         ensures shorter { MatchBool result (length self.new.rest.now + length front.now ≤ length self.old.rest.now) (length self.new.rest.now ≤ length self.old.rest.now) }
     {
-        match behind_front(self.rest, front) {
+        match after_front(self.rest, front) {
             Some(rest) => {
                 self.skip(self.rest.len() - rest.len());
                 true
@@ -108,7 +109,7 @@ impl<'a> Reader<'a> {
 
     /// Passes these characters, if they are the next ones, and tells nothing of it.
     pub(crate) fn skips(&mut self, front: &[u8])
-        ensures rest { self.new.rest.now ≡ skipped (after_front front.now self.old.rest.now) self.old.rest.now }
+        ensures rest { self.new.rest.now ≡ skipped (spec_after_front front.now self.old.rest.now) self.old.rest.now }
         ensures same { self.new.is_bad ≡ self.old.is_bad }
         ensures shorter { length self.new.rest.now ≤ length self.old.rest.now }
     {

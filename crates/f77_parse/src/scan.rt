@@ -1,16 +1,10 @@
 //! What stands outside brackets and character constants, and how deep brackets are.
 
-ghost use Rattle.std.specs.Prelude.{◌≡◌, ◌<◌, ◌&&◌, ◌||◌, ◌==◌, not, max};
-ghost use Rattle.f77_expr.specs.Piece.{bracket_depth, open_after as spec_open_after};
+ghost use Rattle.std.specs.Prelude.{◌≡◌, ◌&&◌, ◌||◌, ◌==◌, not, max};
+ghost use Rattle.f77_expr.specs.Piece.{bracket_depth};
 ghost use Rattle.f77_parse.specs.Forms.{stands_free as spec_stands_free};
-ghost use Rattle.f77_parse.specs.Scanning.{is_open};
 
-/// What is open where a scan stands: a character constant or none, and how many brackets.
-#[derive(Clone, Copy)]
-struct Open {
-    is_quoted: bool,
-    brackets: usize,
-}
+use f77_expr::{Open, open_after};
 
 /// What a scan of a text tells.
 #[derive(Clone, Copy)]
@@ -21,31 +15,6 @@ pub(crate) struct Marks {
     pub(crate) has_equals: bool,
     /// Whether a comma does.
     pub(crate) has_comma: bool,
-}
-
-/// What is open after a character. A closing bracket where none is open changes nothing.
-fn open_after(state: Open, c: u8) -> Open
-    requires { state.brackets < 18446744073709551615 }
-    ensures { is_open result ≡ spec_open_after (is_open state) c }
-{
-    if c == b'\'' {
-        return Open {
-            is_quoted: !state.is_quoted,
-            brackets: state.brackets,
-        };
-    }
-    if state.is_quoted {
-        return state;
-    }
-    let brackets = match c {
-        b'(' => state.brackets + 1,
-        b')' => state.brackets.saturating_sub(1),
-        _ => state.brackets,
-    };
-    Open {
-        is_quoted: false,
-        brackets,
-    }
 }
 
 /// Whether a character is this one, where nothing is open.
@@ -76,10 +45,7 @@ pub(crate) fn marks_of(text: &[u8]) -> Marks
     ensures equals { result.has_equals ≡ spec_stands_free 61 text.now }
     ensures comma { result.has_comma ≡ spec_stands_free 44 text.now }
 {
-    let mut state = Open {
-        is_quoted: false,
-        brackets: 0,
-    };
+    let mut state = Open::nothing();
     let mut marks = Marks {
         depth: 0,
         has_equals: false,

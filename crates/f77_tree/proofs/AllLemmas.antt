@@ -1,6 +1,6 @@
--- What holds of each item of a list.
-use Rattle.std.proofs.Common.{◌≡◌, ℕ, zero, suc, ◌<◌, List, [], ◌∷◌, length, Some, subst, arith}
-use Rattle.std.specs.Prelude.{All, slice_get}
+-- What holds of each item of a list, or of some.
+use Rattle.std.proofs.Common.{◌≡◌, ℕ, zero, suc, ◌<◌, List, [], ◌∷◌, ◌++◌, length, Some, refl, subst, arith}
+use Rattle.std.specs.Prelude.{All, Any, slice_get}
 
 module _ {X : Type 0} (P : X → Type 0) where
   pub All-nil : All P []
@@ -24,8 +24,14 @@ module _ {X : Type 0} (P : X → Type 0) where
       subst (λ z. P z) same (All-first y ys all)
   All-get (y ∷ ys) (suc k) x all is = All-get ys k x (All-rest y ys all) is
 
--- an item at an index lies below the length
-pub get-below : {X : Type 0} (xs : List X) (k : ℕ) (x : X) → slice_get xs k ≡ Some x → k < length xs
-get-below [] k x is = absurd cc
-get-below (y ∷ ys) zero x is = omega arith
-get-below (y ∷ ys) (suc k) x is = omega (arith, get-below ys k x is)
+  pub Any-first : (x : X) (xs : List X) → P x → Any P (x ∷ xs)
+  Any-first x xs holds = (zero, x, omega arith, refl, holds)
+
+  pub Any-rest : (x : X) (xs : List X) → Any P xs → Any P (x ∷ xs)
+  Any-rest x xs some = (suc some.0, some.1, let lt = some.2 in omega (arith, lt), some.3, some.4)
+
+-- items behind those of a list leave them
+pub get-longer : {X : Type 0} (xs ys : List X) (k : ℕ) → k < length xs → slice_get (xs ++ ys) k ≡ slice_get xs k
+get-longer [] ys k lt = absurd (omega (arith, lt))
+get-longer (x ∷ xs) ys zero lt = refl
+get-longer (x ∷ xs) ys (suc k) lt = get-longer xs ys k (omega (arith, lt))

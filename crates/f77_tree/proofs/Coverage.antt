@@ -5,7 +5,7 @@ use Rattle.std.proofs.lemmas.Int.{ints, by_lt_z}
 use Rattle.f77_tree.specs.declared.declarations.CommonPart.{CommonPart}
 use Rattle.f77_tree.specs.declared.programs.NameInfo.{NameInfo}
 use Rattle.f77_tree.specs.Value.{place_of, dims_of, size_of}
-use Rattle.f77_tree.specs.Places.{ArePlaces, BeginsBehind, EndsAt, Equation, Linked, itself, along, against, end_of}
+use Rattle.f77_tree.specs.Places.{ArePlaces, BeginsBehind, EndsAt, Equation, Linked, itself, along, against, end_of, IsWordOf}
 
 -- an equation between two names of the table whose words overlap or meet
 pub record Touches (names : List NameInfo) (e : Equation) : Type 0 where
@@ -13,12 +13,6 @@ pub record Touches (names : List NameInfo) (e : Equation) : Type 0 where
   pub to_known : e.to < length names
   pub from_meets : pos (place_of names e.to) ≤ℤ end_of names e.from
   pub to_meets : pos (place_of names e.from) ≤ℤ end_of names e.to
-
--- the word is one of the name's
-pub record HasWord (names : List NameInfo) (word x : ℕ) : Type 0 where
-  pub known : x < length names
-  pub begins : place_of names x ≤ word
-  pub ends : pos word <ℤ end_of names x
 
 decide : (a b : ℤ) → (a <ℤ b) ⊎ (b ≤ℤ a)
 decide a b = by_lt_z a b inl inr
@@ -29,16 +23,16 @@ module _ (names : List NameInfo) (commons : List CommonPart) (all : List Equatio
   abbrev Misses : ℕ → Type 0
   Misses x = (end_of names x ≤ℤ pos word) ⊎ (pos word <ℤ pos (place_of names x))
 
-  look : (x : ℕ) → x < length names → HasWord names word x ⊎ Misses x
+  look : (x : ℕ) → x < length names → IsWordOf names x word ⊎ Misses x
   look x known = by (decide (pos word) (pos (place_of names x))) (decide (pos word) (end_of names x))
     where
-      by : (pos word <ℤ pos (place_of names x)) ⊎ (pos (place_of names x) ≤ℤ pos word) → (pos word <ℤ end_of names x) ⊎ (end_of names x ≤ℤ pos word) → HasWord names word x ⊎ Misses x
+      by : (pos word <ℤ pos (place_of names x)) ⊎ (pos (place_of names x) ≤ℤ pos word) → (pos word <ℤ end_of names x) ⊎ (end_of names x ≤ℤ pos word) → IsWordOf names x word ⊎ Misses x
       by (inl before) _ = inr (inr before)
       by (inr begins) (inl ends) = inl (record { known = known; begins = omega (arith, ints, begins); ends = ends })
       by (inr begins) (inr behind) = inr (inl behind)
 
   -- one of the first n names has the word, or each misses it
-  search_names : (n : ℕ) → n ≤ length names → ((x : ℕ) × HasWord names word x) ⊎ ((x : ℕ) → x < n → Misses x)
+  search_names : (n : ℕ) → n ≤ length names → ((x : ℕ) × IsWordOf names x word) ⊎ ((x : ℕ) → x < n → Misses x)
   search_names zero le = inr (λ x lt. absurd (omega (arith, lt)))
   search_names (suc n) le = by (search_names n (omega (arith, le))) (look n (omega (arith, le)))
     where
@@ -49,7 +43,7 @@ module _ (names : List NameInfo) (commons : List CommonPart) (all : List Equatio
           pick (inl below) = earlier x (omega (arith, ints, below))
           pick (inr same) = subst (λ y. Misses y) (omega (arith, ints, same, lt)) misses
 
-      by : ((x : ℕ) × HasWord names word x) ⊎ ((x : ℕ) → x < n → Misses x) → HasWord names word n ⊎ Misses n → ((x : ℕ) × HasWord names word x) ⊎ ((x : ℕ) → x < suc n → Misses x)
+      by : ((x : ℕ) × IsWordOf names x word) ⊎ ((x : ℕ) → x < n → Misses x) → IsWordOf names n word ⊎ Misses n → ((x : ℕ) × IsWordOf names x word) ⊎ ((x : ℕ) → x < suc n → Misses x)
       by (inl found) _ = inl found
       by (inr earlier) (inl has) = inl (n, has)
       by (inr earlier) (inr misses) = inr (more earlier misses)
@@ -111,9 +105,9 @@ module _ (names : List NameInfo) (commons : List CommonPart) (all : List Equatio
             over (inr high) = no_high (suc (place_of names ends.name)) ends.name ends.known (omega arith) high
 
   -- each word is a word of some name
-  pub covered : word < words → (x : ℕ) × HasWord names word x
+  pub covered : word < words → (x : ℕ) × IsWordOf names x word
   covered lt = by (search_names (length names) (omega arith))
     where
-      by : ((x : ℕ) × HasWord names word x) ⊎ ((x : ℕ) → x < length names → Misses x) → (x : ℕ) × HasWord names word x
+      by : ((x : ℕ) × IsWordOf names x word) ⊎ ((x : ℕ) → x < length names → Misses x) → (x : ℕ) × IsWordOf names x word
       by (inl found) = found
       by (inr miss) = absurd (none_missed miss lt)

@@ -1,8 +1,8 @@
 -- The equations between places link names whose words overlap or meet.
-use Rattle.std.proofs.Common.{◌≡◌, ℕ, suc, ◌+◌, ◌*◌, ◌<◌, ◌≤◌, ℤ, pos, negsuc, List, [], ◌∷◌, ◌++◌, map, length, get_or, Bool, true, false, ◌⊎◌, inl, inr, refl, sym, subst, arith}
+use Rattle.std.proofs.Common.{◌≡◌, ℕ, suc, ◌+◌, ◌*◌, ◌<◌, ◌≤◌, ℤ, pos, List, [], ◌∷◌, ◌++◌, map, length, get_or, Bool, true, false, ◌⊎◌, inl, inr, refl, sym, subst, arith}
 use Rattle.std.specs.Prelude.{All, ◌≤ℤ◌, ◌<ℤ◌, ◌+ℤ◌, ◌-ℤ◌, ◌*ℤ◌, nat_abs, flat_map, filter, cond, Option}
 use Rattle.std.proofs.lemmas.Int.{ints}
-use Rattle.std.proofs.Math.Nat.{mul-le-mul_left, mul-le-mul_right}
+use Rattle.std.proofs.Math.Nat.{mul-le-mul_left}
 use Rattle.f77_tree.specs.declared.declarations.CommonPart.{CommonPart}
 use Rattle.f77_tree.specs.declared.declarations.Decl.{Decl}
 use Rattle.f77_tree.specs.declared.declarations.Dim.{Dim}
@@ -13,39 +13,12 @@ use Rattle.f77_tree.specs.Declarations.{IsDim, AreWithin, IsMember, IsGroup, IsC
 use Rattle.f77_tree.specs.Places.{Equation, block_names, same_block, common_equations, equated, equations, group_equations, neighbours}
 use Rattle.f77_tree.proofs.AllLemmas.{All-nil, All-cons, All-first, All-rest}
 use Rattle.f77_tree.proofs.Coverage.{Touches}
+use Rattle.f77_tree.proofs.Places.{IsOrdered, nonneg, count_of, extent-pos, count-is, count-one}
 
--- ---- sizes and offsets are counts
+-- ---- offsets are counts
 
-nonneg : (z : ℤ) → pos 0 ≤ℤ z → z ≡ pos (nat_abs z)
-nonneg (pos n) h = refl
-nonneg (negsuc n) h = absurd (omega (arith, ints))
-
--- a dimension has at least one subscript
-extent-count : (dim : Dim) → IsDim dim → (extent dim ≡ pos (nat_abs (extent dim))) × (1 ≤ nat_abs (extent dim))
-extent-count dim is =
-    let order = is.order in
-    let e = nonneg (extent dim) (omega (arith, ints, order)) in
-    (e, omega (arith, ints, order, e))
-
--- how many elements there are
-abbrev count_of : List Dim → ℕ
-count_of [] = 1
-count_of (dim ∷ dims) = nat_abs (extent dim) * count_of dims
-
-pub size-count : (dims : List Dim) → All IsDim dims → size_of dims ≡ pos (count_of dims)
-size-count [] all = refl
-size-count (dim ∷ dims) all =
-    let e = (extent-count dim (All-first IsDim dim dims all)).0 in
-    let s = size-count dims (All-rest IsDim dim dims all) in
-    rw (e, s) refl
-
-pub count-one : (dims : List Dim) → All IsDim dims → 1 ≤ count_of dims
-count-one [] all = omega arith
-count-one (dim ∷ dims) all =
-    let e = (extent-count dim (All-first IsDim dim dims all)).1 in
-    let c = count-one dims (All-rest IsDim dim dims all) in
-    let m = mul-le-mul_right (count_of dims) e in
-    omega (arith, c, m)
+ordered : (dims : List Dim) → All IsDim dims → All IsOrdered dims
+ordered dims all k d lt = (all k d lt).order
 
 -- an element within the bounds lies among the elements
 pub offset-below : (dims : List Dim) (subs : List ℤ) → All IsDim dims → AreWithin dims subs → (k : ℕ) × (offset_of dims subs ≡ pos k) × (k < count_of dims)
@@ -53,17 +26,18 @@ offset-below [] [] all is = (0, refl, omega arith)
 offset-below [] (sub ∷ subs) all is = absurd is
 offset-below (dim ∷ dims) [] all is = absurd is
 offset-below (dim ∷ dims) (sub ∷ subs) all is =
-    let e = extent-count dim (All-first IsDim dim dims all) in
+    let order = (All-first IsDim dim dims all).order in
+    let e = extent-pos dim order in
     let rest = offset-below dims subs (All-rest IsDim dim dims all) is.2 in
     let low = is.0 in
     let high = is.1 in
     let a = nonneg (sub -ℤ dim.lo) (omega (arith, ints, low)) in
     let m = nat_abs (extent dim) in
-    let f : nat_abs (sub -ℤ dim.lo) < m = omega (arith, ints, a, e.0, high) in
+    let f : nat_abs (sub -ℤ dim.lo) < m = omega (arith, ints, a, e, high) in
     let k = rest.0 in
     let below : suc k ≤ count_of dims = omega (arith, rest.2) in
     let product = mul-le-mul_left m below in
-    (nat_abs (sub -ℤ dim.lo) + m * k, whole (sub -ℤ dim.lo) (extent dim) (offset_of dims subs) (nat_abs (sub -ℤ dim.lo)) m k a e.0 rest.1, under (nat_abs (sub -ℤ dim.lo)) m k (count_of dims) f product)
+    (nat_abs (sub -ℤ dim.lo) + m * k, whole (sub -ℤ dim.lo) (extent dim) (offset_of dims subs) (nat_abs (sub -ℤ dim.lo)) m k a e rest.1, under (nat_abs (sub -ℤ dim.lo)) m k (count_of dims) f product)
   where
     whole : (x y z : ℤ) (a m k : ℕ) → x ≡ pos a → y ≡ pos m → z ≡ pos k → (x +ℤ y *ℤ z) ≡ pos (a + m * k)
     whole x y z a m k ex ey ez = rw (ex, ey, ez) refl
@@ -108,8 +82,8 @@ module _ (names : List NameInfo) (bounds : (x : ℕ) → x < length names → Al
   -- a name has at least one word
   pub size-one : (x : ℕ) → x < length names → pos 1 ≤ℤ size_of (dims_of names x)
   size-one x known =
-      let s = size-count (dims_of names x) (bounds x known) in
-      let c = count-one (dims_of names x) (bounds x known) in
+      let s = count-is (dims_of names x) (ordered (dims_of names x) (bounds x known)) in
+      let c = count-one (dims_of names x) (ordered (dims_of names x) (bounds x known)) in
       omega (arith, ints, s, c)
 
   neighbour-touches : (x y : ℕ) → x < length names → y < length names → TouchesIfEqual (record { from = x; to = y; distance = size_of (dims_of names x) })
@@ -133,7 +107,7 @@ module _ (names : List NameInfo) (bounds : (x : ℕ) → x < length names → Al
           (0, subst (λ subs. offset_of (dims_of names (member_index names m)) subs ≡ pos 0) (sym alone) (offset-alone (dims_of names (member_index names m))), omega (arith, ints, s))
       by (inr within) =
           let below = offset-below (dims_of names (member_index names m)) m.subs (bounds (member_index names m) is.known) within in
-          let s = size-count (dims_of names (member_index names m)) (bounds (member_index names m) is.known) in
+          let s = count-is (dims_of names (member_index names m)) (ordered (dims_of names (member_index names m)) (bounds (member_index names m) is.known)) in
           let lt = below.2 in
           (below.0, below.1, omega (arith, ints, s, lt))
 

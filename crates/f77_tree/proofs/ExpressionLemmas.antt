@@ -12,7 +12,8 @@ use Rattle.f77_tree.specs.Value.{value, row_values, row_length, value_before, al
 
 -- ---- rows are lists
 
-abbrev row_of : Expr → (n : Count) × Row_of-Expr n
+-- the row behind a list of operands or subscripts
+abbrev pub row_of : Expr → (n : Count) × Row_of-Expr n
 row_of (Read' _ _ row) = (_, row)
 row_of (Apply' _ _ row) = (_, row)
 row_of _ = (_, end_of-Expr)
@@ -21,9 +22,15 @@ row_values-items : (names : List NameInfo) (store : List ℤ) (next : Option ℤ
 row_values-items names store next n end_of-Expr = refl
 row_values-items names store next n (more_of-Expr e rest) = ap (λ rs. value names store next e ∷ rs) (row_values-items names store next _ rest)
 
-row_length-items : (n : _) (row : Row_of-Expr n) → row_length row ≡ length (items-the_row-Expr n row)
+pub row_length-items : (n : _) (row : Row_of-Expr n) → row_length row ≡ length (items-the_row-Expr n row)
 row_length-items n end_of-Expr = refl
 row_length-items n (more_of-Expr e rest) = ap suc (row_length-items _ rest)
+
+-- the values of subscripts, over the row or over the list
+pub row_values-list : (names : List NameInfo) (store : List ℤ) (next : Option ℤ) (access : Access) → row_values names store next (row_of (Read access)).1 ≡ map (value names store next) access.subs
+row_values-list names store next access =
+    let row = row_of (Read access) in
+    row_values-items names store next row.0 row.1 ∙ ap (map (value names store next)) (items_hidden-the_row-Expr-0 access.subs)
 
 -- ---- values
 
@@ -36,8 +43,7 @@ value-Apply names store next op args =
 -- what is read of a name, at the word that the access names
 pub value-Read : (names : List NameInfo) (store : List ℤ) (next : Option ℤ) (access : Access) → value names store next (Read access) ≡ read_of names store access.name (place names store next access)
 value-Read names store next access =
-    let row = row_of (Read access) in
-    ap (λ rs. read_of names store access.name (word_of names access.name rs)) (row_values-items names store next row.0 row.1 ∙ ap (map (value names store next)) (items_hidden-the_row-Expr-0 access.subs))
+    ap (λ rs. read_of names store access.name (word_of names access.name rs)) (row_values-list names store next access)
 
 -- ---- expressions that fit the table
 

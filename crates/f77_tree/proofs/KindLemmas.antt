@@ -1,7 +1,6 @@
 -- Expressions of a well-formed program: they fit its table of names, and their operands and subscripts are a list.
-use Rattle.std.proofs.Common.{◌≡◌, zero, suc, ◌<◌, List, length, true, refl, sym, ap, subst, ◌∙◌, arith}
+use Rattle.std.proofs.Common.{◌≡◌, zero, suc, ◌<◌, List, length, true, sym, ap, subst, ◌∙◌, arith}
 use Rattle.std.specs.Prelude.{All}
-use mathlib.Core.Former.{Count}
 use Rattle.op_table.specs.declared.Op.{Op}
 use Rattle.op_table.specs.Operators.{arity_of}
 use Rattle.f77_tree.specs.declared.declarations.Kind.{Kind}
@@ -10,8 +9,9 @@ use Rattle.f77_tree.specs.declared.expressions.Access.{Access}
 use Rattle.f77_tree.specs.declared.expressions.Expr.{Expr, Row_of-Expr, end_of-Expr, more_of-Expr, items-the_row-Expr, items_hidden-the_row-Expr-0}
 use Rattle.f77_tree.specs.declared.expressions.Expr.TheVariants.{Const, Truth, Input, Read, Apply, Read', Apply'}
 use Rattle.f77_tree.specs.declared.programs.NameInfo.{NameInfo}
-use Rattle.f77_tree.specs.Value.{dims_of, row_length, IsExpression, AllExpressions}
+use Rattle.f77_tree.specs.Value.{dims_of, IsExpression, AllExpressions}
 use Rattle.f77_tree.proofs.AllLemmas.{All-cons}
+use Rattle.f77_tree.proofs.ExpressionLemmas.{row_of, row_length-items}
 use Rattle.f77_tree.specs.Kinds.{IsProper, AllOfKind, IsOfKind, IsProperAccess, is_written, operand_kind}
 
 -- ---- they fit the table
@@ -31,15 +31,6 @@ mutual
 
 -- ---- rows are lists
 
-abbrev row_of : Expr → (n : Count) × Row_of-Expr n
-row_of (Read' _ _ row) = (_, row)
-row_of (Apply' _ _ row) = (_, row)
-row_of _ = (_, end_of-Expr)
-
-row_length-list : (n : _) (row : Row_of-Expr n) → row_length row ≡ length (items-the_row-Expr n row)
-row_length-list n end_of-Expr = refl
-row_length-list n (more_of-Expr e rest) = ap suc (row_length-list _ rest)
-
 to_list : (names : List NameInfo) (kind : Kind) (n : _) (row : Row_of-Expr n) → AllOfKind names kind row → All (IsOfKind names kind) (items-the_row-Expr n row)
 to_list names kind n end_of-Expr all = λ k d lt. absurd (omega (arith, lt))
 to_list names kind n (more_of-Expr e rest) all = All-cons (IsOfKind names kind) e (items-the_row-Expr _ rest) (record { proper = all.0; of_kind = all.1 }) (to_list names kind _ rest all.2)
@@ -49,16 +40,6 @@ to_row names kind n end_of-Expr all = tt
 to_row names kind n (more_of-Expr e rest) all =
     let head = all zero e (omega arith) in
     (head.proper, head.of_kind, to_row names kind _ rest (λ k d lt. all (suc k) d (omega (arith, lt))))
-
-expressions_row : (names : List NameInfo) (n : _) (row : Row_of-Expr n) → All (IsExpression names) (items-the_row-Expr n row) → AllExpressions names row
-expressions_row names n end_of-Expr all = tt
-expressions_row names n (more_of-Expr e rest) all = (all zero e (omega arith), expressions_row names _ rest (λ k d lt. all (suc k) d (omega (arith, lt))))
-
--- an operator whose operands fit the table does
-pub operands-expression : (names : List NameInfo) (op : Op) (args : List Expr) → length args ≡ arity_of op → All (IsExpression names) args → IsExpression names (Apply op args)
-operands-expression names op args as_many all =
-    let row = row_of (Apply op args) in
-    ((row_length-list row.0 row.1 ∙ ap length (items_hidden-the_row-Expr-0 args)) ∙ as_many, expressions_row names row.0 row.1 (subst (λ (es : List Expr). All (IsExpression names) es) (sym (items_hidden-the_row-Expr-0 args)) all))
 
 -- ---- operands
 
@@ -73,14 +54,14 @@ IsProper-operation names op args is =
     let row = row_of (Apply op args) in
     record {
       written = is.0;
-      as_many = sym (row_length-list row.0 row.1 ∙ ap length (items_hidden-the_row-Expr-0 args)) ∙ is.1;
+      as_many = sym (row_length-items row.0 row.1 ∙ ap length (items_hidden-the_row-Expr-0 args)) ∙ is.1;
       operands = subst (λ (es : List Expr). All (IsOfKind names (operand_kind op)) es) (items_hidden-the_row-Expr-0 args) (to_list names (operand_kind op) row.0 row.1 is.2);
     }
 
 pub operation-IsProper : (names : List NameInfo) (op : Op) (args : List Expr) → IsOperation names op args → IsProper names (Apply op args)
 operation-IsProper names op args is =
     let row = row_of (Apply op args) in
-    (is.written, (row_length-list row.0 row.1 ∙ ap length (items_hidden-the_row-Expr-0 args)) ∙ is.as_many, to_row names (operand_kind op) row.0 row.1 (subst (λ (es : List Expr). All (IsOfKind names (operand_kind op)) es) (sym (items_hidden-the_row-Expr-0 args)) is.operands))
+    (is.written, (row_length-items row.0 row.1 ∙ ap length (items_hidden-the_row-Expr-0 args)) ∙ is.as_many, to_row names (operand_kind op) row.0 row.1 (subst (λ (es : List Expr). All (IsOfKind names (operand_kind op)) es) (sym (items_hidden-the_row-Expr-0 args)) is.operands))
 
 -- ---- subscripts
 
@@ -95,11 +76,11 @@ IsProper-element names access is =
     let row = row_of (Read access) in
     record {
       known = is.0;
-      as_many = sym (row_length-list row.0 row.1 ∙ ap length (items_hidden-the_row-Expr-0 access.subs)) ∙ is.1;
+      as_many = sym (row_length-items row.0 row.1 ∙ ap length (items_hidden-the_row-Expr-0 access.subs)) ∙ is.1;
       subscripts = subst (λ (es : List Expr). All (IsOfKind names Integer) es) (items_hidden-the_row-Expr-0 access.subs) (to_list names Integer row.0 row.1 is.2);
     }
 
 pub element-IsProper : (names : List NameInfo) (access : Access) → IsElement names access → IsProperAccess names access
 element-IsProper names access is =
     let row = row_of (Read access) in
-    (is.known, (row_length-list row.0 row.1 ∙ ap length (items_hidden-the_row-Expr-0 access.subs)) ∙ is.as_many, to_row names Integer row.0 row.1 (subst (λ (es : List Expr). All (IsOfKind names Integer) es) (sym (items_hidden-the_row-Expr-0 access.subs)) is.subscripts))
+    (is.known, (row_length-items row.0 row.1 ∙ ap length (items_hidden-the_row-Expr-0 access.subs)) ∙ is.as_many, to_row names Integer row.0 row.1 (subst (λ (es : List Expr). All (IsOfKind names Integer) es) (sym (items_hidden-the_row-Expr-0 access.subs)) is.subscripts))

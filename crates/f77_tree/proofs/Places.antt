@@ -14,14 +14,15 @@ use Rattle.f77_tree.specs.declared.declarations.Dim.{Dim}
 use Rattle.f77_tree.specs.declared.expressions.Access.{Access}
 use Rattle.f77_tree.specs.declared.programs.NameInfo.{NameInfo}
 use Rattle.f77_tree.specs.Value.{value, place, IsAccess, and_then, moved, subscripted, word_of, extent, size_of, dims_of, place_of, IsPlaced, ArePlaced}
+use Rattle.f77_tree.specs.Places.{IsWordOf}
 
 -- the bounds of a dimension in order
-abbrev pub IsDim : Dim → Type 0
-IsDim dim = dim.lo ≤ℤ dim.hi
+abbrev pub IsOrdered : Dim → Type 0
+IsOrdered dim = dim.lo ≤ℤ dim.hi
 
 -- ---- sizes are counts
 
-nonneg : (z : ℤ) → pos 0 ≤ℤ z → z ≡ pos (nat_abs z)
+pub nonneg : (z : ℤ) → pos 0 ≤ℤ z → z ≡ pos (nat_abs z)
 nonneg (pos n) h = refl
 nonneg (negsuc n) h = absurd (omega (arith, ints))
 
@@ -29,13 +30,13 @@ abbrev pub width_of : Dim → ℕ
 width_of dim = nat_abs (extent dim)
 
 -- a dimension has at least one subscript
-pub extent-pos : (dim : Dim) → IsDim dim → extent dim ≡ pos (width_of dim)
+pub extent-pos : (dim : Dim) → IsOrdered dim → extent dim ≡ pos (width_of dim)
 extent-pos dim h = nonneg (extent dim) (omega (arith, ints))
 
-pub extent-one : (dim : Dim) → IsDim dim → 1 ≤ width_of dim
+pub extent-one : (dim : Dim) → IsOrdered dim → 1 ≤ width_of dim
 extent-one dim h = let e = extent-pos dim h in omega (arith, ints)
 
-All-head : {X : Type 0} (P : X → Type 0) (x : X) (xs : List X) → All P (x ∷ xs) → P x
+pub All-head : {X : Type 0} (P : X → Type 0) (x : X) (xs : List X) → All P (x ∷ xs) → P x
 All-head P x xs all = all 0 x (omega arith)
 
 pub All-tail : {X : Type 0} (P : X → Type 0) (x : X) (xs : List X) → All P (x ∷ xs) → All P xs
@@ -46,16 +47,16 @@ abbrev pub count_of : List Dim → ℕ
 count_of [] = 1
 count_of (dim ∷ dims) = width_of dim * count_of dims
 
-pub count-is : (dims : List Dim) → All IsDim dims → size_of dims ≡ pos (count_of dims)
+pub count-is : (dims : List Dim) → All IsOrdered dims → size_of dims ≡ pos (count_of dims)
 count-is [] all = refl
 count-is (dim ∷ dims) all =
-    rw (extent-pos dim (All-head IsDim dim dims all), count-is dims (All-tail IsDim dim dims all)) refl
+    rw (extent-pos dim (All-head IsOrdered dim dims all), count-is dims (All-tail IsOrdered dim dims all)) refl
 
-pub count-one : (dims : List Dim) → All IsDim dims → 1 ≤ count_of dims
+pub count-one : (dims : List Dim) → All IsOrdered dims → 1 ≤ count_of dims
 count-one [] all = omega arith
 count-one (dim ∷ dims) all =
-    let e = extent-one dim (All-head IsDim dim dims all) in
-    let c = count-one dims (All-tail IsDim dim dims all) in
+    let e = extent-one dim (All-head IsOrdered dim dims all) in
+    let c = count-one dims (All-tail IsOrdered dim dims all) in
     let m = mul-le-mul_right (count_of dims) e in
     omega (arith, c, m)
 
@@ -95,14 +96,14 @@ pub record IsAt (dims : List Dim) (first words : ℕ) (size p : ℤ) : Type 0 wh
   pub fits : first + part * count_of dims ≤ words
 
 -- a subscript that does not trap leaves the place within a smaller part
-pub moved-at : (dim : Dim) (dims : List Dim) (first words : ℕ) (size p v q : ℤ) → words ≤ 2147483647 → All IsDim (dim ∷ dims) → IsAt (dim ∷ dims) first words size p → moved size dim p v ≡ Ok q → IsAt dims first words (size *ℤ extent dim) q
+pub moved-at : (dim : Dim) (dims : List Dim) (first words : ℕ) (size p v q : ℤ) → words ≤ 2147483647 → All IsOrdered (dim ∷ dims) → IsAt (dim ∷ dims) first words size p → moved size dim p v ≡ Ok q → IsAt dims first words (size *ℤ extent dim) q
 moved-at dim dims first words size p v q few all at e = by (applied Bound (v ∷ dim.lo ∷ dim.hi ∷ [])) refl e
   where
-    is_dim : IsDim dim
-    is_dim = All-head IsDim dim dims all
+    is_dim : IsOrdered dim
+    is_dim = All-head IsOrdered dim dims all
 
     more : 1 ≤ count_of dims
-    more = count-one dims (All-tail IsDim dim dims all)
+    more = count-one dims (All-tail IsOrdered dim dims all)
 
     -- the part of a dimension
     part_fits : at.part * width_of dim ≤ at.part * width_of dim * count_of dims
@@ -146,7 +147,7 @@ moved-at dim dims first words size p v q few all at e = by (applied Bound (v ∷
 
 -- a name whose words lie in a store
 pub record HasWords (names : List NameInfo) (k words : ℕ) : Type 0 where
-  pub bounds : All IsDim (dims_of names k)
+  pub bounds : All IsOrdered (dims_of names k)
   pub inside : (pos (place_of names k) +ℤ size_of (dims_of names k)) ≤ℤ pos words
 
 has_words : (names : List NameInfo) (k words : ℕ) → All (IsPlaced words) names → k < length names → HasWords names k words
@@ -158,23 +159,23 @@ has_words (info ∷ names) (suc k) words all lt =
     let rest = has_words names k words (All-tail (IsPlaced words) info names all) (omega (arith, lt)) in
     record { bounds = rest.bounds; inside = rest.inside }
 
--- where a name begins and ends
-abbrev pub end_of : List NameInfo → ℕ → ℕ
-end_of names k = place_of names k + count_of (dims_of names k)
+-- where the words of a name end, as a count
+abbrev pub count_end : List NameInfo → ℕ → ℕ
+count_end names k = place_of names k + count_of (dims_of names k)
 
 pub record IsTaken (names : List NameInfo) (k words : ℕ) : Type 0 where
-  pub bounds : All IsDim (dims_of names k)
-  pub few : end_of names k ≤ 2147483647
-  pub inside : end_of names k ≤ words
-  pub start : IsAt (dims_of names k) (place_of names k) (end_of names k) (pos 1) (pos (place_of names k))
+  pub bounds : All IsOrdered (dims_of names k)
+  pub few : count_end names k ≤ 2147483647
+  pub inside : count_end names k ≤ words
+  pub start : IsAt (dims_of names k) (place_of names k) (count_end names k) (pos 1) (pos (place_of names k))
 
 pub name-taken : (names : List NameInfo) (k words : ℕ) → ArePlaced names words → k < length names → IsTaken names k words
 name-taken names k words placed lt =
     let has = has_words names k words placed.each lt in
     let is = count-is (dims_of names k) has.bounds in
     let fits = has.inside in
-    let inside : end_of names k ≤ words = omega (arith, ints, is, fits) in
-    let few : end_of names k ≤ 2147483647 = let f = placed.few in omega (arith, inside, f) in
+    let inside : count_end names k ≤ words = omega (arith, ints, is, fits) in
+    let few : count_end names k ≤ 2147483647 = let f = placed.few in omega (arith, inside, f) in
     record {
       bounds = has.bounds;
       few = few;
@@ -182,12 +183,12 @@ name-taken names k words placed lt =
       start = record { part = 1; here = place_of names k; size_is = refl; here_is = refl; some = omega arith; above = omega arith; below = omega arith; fits = omega arith };
     }
 
--- a word of a name
-pub record IsIn (names : List NameInfo) (k w : ℕ) : Type 0 where
+-- a word between the first one of a name and the end of its words
+record IsBetween (names : List NameInfo) (k w : ℕ) : Type 0 where
   pub above : place_of names k ≤ w
-  pub below : w < end_of names k
+  pub below : w < count_end names k
 
-at-end : (names : List NameInfo) (k words : ℕ) (size p : ℤ) → words ≡ end_of names k → IsAt [] (place_of names k) words size p → IsIn names k (nat_abs p)
+at-end : (names : List NameInfo) (k words : ℕ) (size p : ℤ) → words ≡ count_end names k → IsAt [] (place_of names k) words size p → IsBetween names k (nat_abs p)
 at-end names k words size p e at =
     let is : nat_abs p ≡ at.here = ap nat_abs at.here_is in
     let above = at.above in
@@ -196,48 +197,54 @@ at-end names k words size p e at =
     record { above = omega (arith, is, above); below = omega (arith, is, below, fits, e) }
 
 -- what the subscripts leave, where none traps
-subscripted-at : (names : List NameInfo) (k : ℕ) (dims : List Dim) (size p q : ℤ) (values : List (Result ℤ Trap)) → end_of names k ≤ 2147483647 → All IsDim dims → length values ≡ length dims → IsAt dims (place_of names k) (end_of names k) size p → subscripted dims size p values ≡ Ok q → IsIn names k (nat_abs q)
+subscripted-at : (names : List NameInfo) (k : ℕ) (dims : List Dim) (size p q : ℤ) (values : List (Result ℤ Trap)) → count_end names k ≤ 2147483647 → All IsOrdered dims → length values ≡ length dims → IsAt dims (place_of names k) (count_end names k) size p → subscripted dims size p values ≡ Ok q → IsBetween names k (nat_abs q)
 subscripted-at names k [] size p q [] few all len at e =
     let is : p ≡ q = cc in
-    subst (λ x. IsIn names k (nat_abs x)) is (at-end names k (end_of names k) size p refl at)
+    subst (λ x. IsBetween names k (nat_abs x)) is (at-end names k (count_end names k) size p refl at)
 subscripted-at names k (dim ∷ dims) size p q [] few all len at e = absurd (omega (arith, len))
 subscripted-at names k [] size p q (v ∷ values) few all len at e = absurd (omega (arith, len))
 subscripted-at names k (dim ∷ dims) size p q (v ∷ values) few all len at e =
-    by v refl (λ y there h. subscripted-at names k dims (size *ℤ extent dim) y q values few (All-tail IsDim dim dims all) (omega (arith, len)) there h)
+    by v refl (λ y there h. subscripted-at names k dims (size *ℤ extent dim) y q values few (All-tail IsOrdered dim dims all) (omega (arith, len)) there h)
   where
     so : (r : Result ℤ Trap) → v ≡ r → and_then (λ y. subscripted dims (size *ℤ extent dim) y values) (and_then (moved size dim p) r) ≡ Ok q
     so r f = sym (ap (λ s. and_then (λ y. subscripted dims (size *ℤ extent dim) y values) (and_then (moved size dim p) s)) f) ∙ e
 
-    on : (x : ℤ) (r : Result ℤ Trap) → ((y : ℤ) → IsAt dims (place_of names k) (end_of names k) (size *ℤ extent dim) y → subscripted dims (size *ℤ extent dim) y values ≡ Ok q → IsIn names k (nat_abs q)) → moved size dim p x ≡ r → and_then (λ y. subscripted dims (size *ℤ extent dim) y values) r ≡ Ok q → IsIn names k (nat_abs q)
+    on : (x : ℤ) (r : Result ℤ Trap) → ((y : ℤ) → IsAt dims (place_of names k) (count_end names k) (size *ℤ extent dim) y → subscripted dims (size *ℤ extent dim) y values ≡ Ok q → IsBetween names k (nat_abs q)) → moved size dim p x ≡ r → and_then (λ y. subscripted dims (size *ℤ extent dim) y values) r ≡ Ok q → IsBetween names k (nat_abs q)
     on x (Err trap) rest g h = let no : Err trap ≡ Ok q = h in absurd cc
-    on x (Ok y) rest g h = rest y (moved-at dim dims (place_of names k) (end_of names k) size p x y few all at g) h
+    on x (Ok y) rest g h = rest y (moved-at dim dims (place_of names k) (count_end names k) size p x y few all at g) h
 
-    by : (r : Result ℤ Trap) → v ≡ r → ((y : ℤ) → IsAt dims (place_of names k) (end_of names k) (size *ℤ extent dim) y → subscripted dims (size *ℤ extent dim) y values ≡ Ok q → IsIn names k (nat_abs q)) → IsIn names k (nat_abs q)
+    by : (r : Result ℤ Trap) → v ≡ r → ((y : ℤ) → IsAt dims (place_of names k) (count_end names k) (size *ℤ extent dim) y → subscripted dims (size *ℤ extent dim) y values ≡ Ok q → IsBetween names k (nat_abs q)) → IsBetween names k (nat_abs q)
     by (Err trap) f rest = let no : Err trap ≡ Ok q = so (Err trap) f in absurd cc
     by (Ok x) f rest = on x (moved size dim p x) rest refl (so (Ok x) f)
 
+word-of : (names : List NameInfo) (k w : ℕ) → k < length names → All IsOrdered (dims_of names k) → IsBetween names k w → IsWordOf names k w
+word-of names k w known bounds between =
+    let is = count-is (dims_of names k) bounds in
+    let below = between.below in
+    record { known = known; begins = between.above; ends = omega (arith, ints, is, below) }
+
 -- an access that does not trap names a word of its name
-pub word-in : (names : List NameInfo) (k words w : ℕ) (values : List (Result ℤ Trap)) → ArePlaced names words → k < length names → length values ≡ length (dims_of names k) → word_of names k values ≡ Ok w → IsIn names k w
+pub word-in : (names : List NameInfo) (k words w : ℕ) (values : List (Result ℤ Trap)) → ArePlaced names words → k < length names → length values ≡ length (dims_of names k) → word_of names k values ≡ Ok w → IsWordOf names k w
 word-in names k words w values placed lt len e = by (subscripted (dims_of names k) (pos 1) (pos (place_of names k)) values) refl e
   where
-    by : (r : Result ℤ Trap) → subscripted (dims_of names k) (pos 1) (pos (place_of names k)) values ≡ r → and_then (λ p. Ok (nat_abs p)) r ≡ Ok w → IsIn names k w
+    by : (r : Result ℤ Trap) → subscripted (dims_of names k) (pos 1) (pos (place_of names k)) values ≡ r → and_then (λ p. Ok (nat_abs p)) r ≡ Ok w → IsWordOf names k w
     by (Err trap) f h = let no : Err trap ≡ Ok w = h in absurd cc
     by (Ok q) f h =
         let is : nat_abs q ≡ w = cc in
         let taken = name-taken names k words placed lt in
-        subst (IsIn names k) is (subscripted-at names k (dims_of names k) (pos 1) (pos (place_of names k)) q values taken.few taken.bounds len taken.start f)
+        subst (IsWordOf names k) is (word-of names k (nat_abs q) lt taken.bounds (subscripted-at names k (dims_of names k) (pos 1) (pos (place_of names k)) q values taken.few taken.bounds len taken.start f))
 
 -- the same, said of an access
-pub place-in : (names : List NameInfo) (store : List ℤ) (next : Option ℤ) (access : Access) (words w : ℕ) → ArePlaced names words → IsAccess names access → place names store next access ≡ Ok w → IsIn names access.name w
+pub place-in : (names : List NameInfo) (store : List ℤ) (next : Option ℤ) (access : Access) (words w : ℕ) → ArePlaced names words → IsAccess names access → place names store next access ≡ Ok w → IsWordOf names access.name w
 place-in names store next access words w placed is e =
     word-in names access.name words w (map (value names store next) access.subs) placed is.known (length-map access.subs (value names store next) ∙ is.as_many) e
 
 -- the words of the names lie in the store
 pub place-inside : (names : List NameInfo) (store : List ℤ) (next : Option ℤ) (access : Access) (w : ℕ) → ArePlaced names (length store) → IsAccess names access → place names store next access ≡ Ok w → w < length store
 place-inside names store next access w placed is e =
-    let below = (place-in names store next access (length store) w placed is e).below in
-    let inside = (name-taken names access.name (length store) placed is.known).inside in
-    omega (arith, below, inside)
+    let below = (place-in names store next access (length store) w placed is e).ends in
+    let inside = (has_words names access.name (length store) placed.each is.known).inside in
+    omega (arith, ints, below, inside)
 
 -- ---- one subscript more
 
@@ -261,7 +268,7 @@ pub record AreWords (size p : ℤ) : Type 0 where
   pub size_word : IsWord size
   pub place_word : IsWord p
 
-pub at-words : (dims : List Dim) (first words : ℕ) (size p : ℤ) → words ≤ 2147483647 → All IsDim dims → IsAt dims first words size p → AreWords size p
+pub at-words : (dims : List Dim) (first words : ℕ) (size p : ℤ) → words ≤ 2147483647 → All IsOrdered dims → IsAt dims first words size p → AreWords size p
 at-words dims first words size p few all at =
     let more = count-one dims all in
     let m = mul-le-mul_left at.part more in
@@ -274,16 +281,16 @@ at-words dims first words size p few all at =
 
 -- a dimension that is still to come
 pub record HasNext (dims : List Dim) (k : ℕ) (dim : Dim) (first words : ℕ) (size p : ℤ) : Type 0 where
-  pub is_dim : IsDim dim
+  pub is_dim : IsOrdered dim
   pub few : extent dim <ℤ pos 2147483648
-  pub rest : All IsDim (drop (k + 1) dims)
+  pub rest : All IsOrdered (drop (k + 1) dims)
   pub goes_on : (v q : ℤ) → moved size dim p v ≡ Ok q → IsAt (drop (k + 1) dims) first words (size *ℤ extent dim) q
 
-next-dim : (dims : List Dim) (k : ℕ) (dim : Dim) (more : List Dim) (first words : ℕ) (size p : ℤ) → more ≡ drop (k + 1) dims → words ≤ 2147483647 → All IsDim (dim ∷ more) → IsAt (dim ∷ more) first words size p → HasNext dims k dim first words size p
+next-dim : (dims : List Dim) (k : ℕ) (dim : Dim) (more : List Dim) (first words : ℕ) (size p : ℤ) → more ≡ drop (k + 1) dims → words ≤ 2147483647 → All IsOrdered (dim ∷ more) → IsAt (dim ∷ more) first words size p → HasNext dims k dim first words size p
 next-dim dims k dim more first words size p e few all at =
-    let is_dim = All-head IsDim dim more all in
+    let is_dim = All-head IsOrdered dim more all in
     let width = extent-pos dim is_dim in
-    let one = count-one more (All-tail IsDim dim more all) in
+    let one = count-one more (All-tail IsOrdered dim more all) in
     let m = mul-le-mul_left (width_of dim) one in
     let n = mul-le-mul_right (width_of dim * count_of more) at.some in
     let fits = at.fits in
@@ -291,11 +298,11 @@ next-dim dims k dim more first words size p e few all at =
     record {
       is_dim = is_dim;
       few = omega (arith, ints, width, small);
-      rest = subst (All IsDim) e (All-tail IsDim dim more all);
+      rest = subst (All IsOrdered) e (All-tail IsOrdered dim more all);
       goes_on = λ v q h. subst (λ ds. IsAt ds first words (size *ℤ extent dim) q) e (moved-at dim more first words size p v q few all at h);
     }
 
-pub has_next : (dims : List Dim) (k : ℕ) (dim : Dim) (first words : ℕ) (size p : ℤ) → k < length dims → dim ≡ get_or dims k dim → words ≤ 2147483647 → All IsDim (drop k dims) → IsAt (drop k dims) first words size p → HasNext dims k dim first words size p
+pub has_next : (dims : List Dim) (k : ℕ) (dim : Dim) (first words : ℕ) (size p : ℤ) → k < length dims → dim ≡ get_or dims k dim → words ≤ 2147483647 → All IsOrdered (drop k dims) → IsAt (drop k dims) first words size p → HasNext dims k dim first words size p
 has_next dims k dim first words size p lt is few all at =
     let cons : drop k dims ≡ dim ∷ drop (suc k) dims = rw (drop-cons dims k dim, ← is) refl in
-    next-dim dims k dim (drop (suc k) dims) first words size p (ap (λ n. drop n dims) (sym (add-one k))) few (subst (All IsDim) cons all) (subst (λ ds. IsAt ds first words size p) cons at)
+    next-dim dims k dim (drop (suc k) dims) first words size p (ap (λ n. drop n dims) (sym (add-one k))) few (subst (All IsOrdered) cons all) (subst (λ ds. IsAt ds first words size p) cons at)

@@ -12,10 +12,10 @@ pub record Grows (old new : List ℕ) : Type 0 where
   pub more : List ℕ
   pub is : new ≡ old ++ more
 
-grows_not : (old : List ℕ) → Grows old old
+pub grows_not : (old : List ℕ) → Grows old old
 grows_not old = record { more = []; is = sym (append-nil old) }
 
-grows_on : (a b c : List ℕ) → Grows a b → Grows b c → Grows a c
+pub grows_on : (a b c : List ℕ) → Grows a b → Grows b c → Grows a c
 grows_on a b c first then' = record { more = first.more ++ then'.more; is = then'.is ∙ ap (λ xs. xs ++ then'.more) first.is ∙ append_assoc a first.more then'.more }
 
 after-out : (x : State) (line : ℕ) (o : Outcome) → Grows x.out (after x line o).out

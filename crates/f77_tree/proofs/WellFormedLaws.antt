@@ -16,18 +16,19 @@ use Rattle.f77_tree.specs.declared.programs.ExecKind.{ExecKind}
 use Rattle.f77_tree.specs.declared.programs.ExecKind.TheVariants.{Assign, Print, Pass, Test, Sign, Pick, DoStart, DoNext, End}
 use Rattle.f77_tree.specs.declared.programs.Program.{Program}
 use Rattle.f77_tree.specs.Value.{place, place_of, kind_of, dims_of, size_of, place_in, dims_in, IsExpression, IsAccess, ArePlaced}
-use Rattle.f77_tree.specs.CanRun.{CanRun, CanExecute, IsNext, IsLoop as IsLoopOf, IsItem as IsItemOf}
+use Rattle.f77_tree.specs.CanRun.{CanRun, CanExecute, IsNext, CanLoop, CanPrint}
 use Rattle.f77_tree.specs.Declarations.{IsNameInfo, IsDim, IsIntegerScalar}
 use Rattle.f77_tree.specs.Kinds.{IsOfKind, IsProperAccess, IsAssignment, taken_as}
 use Rattle.f77_tree.specs.Control.{successors}
 use Rattle.f77_tree.specs.Loops.{Loop, begun, incremented, begun_in, incremented_in, begun_at, incremented_at}
-use Rattle.f77_tree.specs.Places.{Equation, end_of, equations}
-use Rattle.f77_tree.specs.WellFormed.{IsWellFormed, HasKinds, IsItem}
+use Rattle.f77_tree.specs.Places.{Equation, IsWordOf, end_of, equations}
+use Rattle.f77_tree.specs.WellFormed.{IsWellFormed, IsExecutable, IsProperItem}
 use Rattle.f77_tree.proofs.AllLemmas.{All-nil, All-cons, All-get, All-first, All-rest}
-use Rattle.f77_tree.proofs.Coverage.{HasWord, Touches, covered}
+use Rattle.f77_tree.proofs.Coverage.{Touches, covered}
 use Rattle.f77_tree.proofs.Equations.{TouchesIfEqual, equations-touch, size-one}
 use Rattle.f77_tree.proofs.Places.{place-inside}
-use Rattle.f77_tree.proofs.KindLemmas.{IsProper-expression, IsProper-element, operands-expression}
+use Rattle.f77_tree.proofs.ExpressionLemmas.{Apply-IsExpression}
+use Rattle.f77_tree.proofs.KindLemmas.{IsProper-expression, IsProper-element}
 
 -- ---- places
 
@@ -62,7 +63,7 @@ scalar-below names words k within is =
 -- the value that READ assigns is an expression of the table
 taken-expression : (names : List NameInfo) (kind : Kind) → IsExpression names (taken_as kind)
 taken-expression names Integer = tt
-taken-expression names Logical = operands-expression names Truth (Input ∷ []) refl (All-cons (IsExpression names) Input [] tt (All-nil (IsExpression names)))
+taken-expression names Logical = Apply-IsExpression names Truth (Input ∷ []) refl (All-cons (IsExpression names) Input [] tt (All-nil (IsExpression names)))
 
 access-of : (names : List NameInfo) (access : Access) → IsProperAccess names access → IsAccess names access
 access-of names access is =
@@ -80,7 +81,7 @@ value-of names target value is = by is.of_kind
     by (inl of_kind) = IsProper-expression names value of_kind.proper
     by (inr taken) = subst (λ e. IsExpression names e) (sym taken) (taken-expression names (kind_of names target.name))
 
-item-of : (names : List NameInfo) (item : Item) → IsItem names item → IsItemOf names item
+item-of : (names : List NameInfo) (item : Item) → IsProperItem names item → CanPrint names item
 item-of names (Value e) is = IsProper-expression names e is
 item-of names (Chars text) is = tt
 
@@ -95,7 +96,7 @@ All-back P [] x all = all zero x (omega arith)
 All-back P (y ∷ ys) x all = All-back P ys x (λ j e below. all (suc j) e (omega (arith, below)))
 
 module _ (p : Program) (within : (x : ℕ) → x < length p.names → end_of p.names x ≤ℤ pos p.words) where
-  loop-of : (loop_no var body exit : ℕ) → loop_no < p.loops → IsIntegerScalar p.names var → All (IsNext p) (body ∷ exit ∷ []) → IsLoopOf p loop_no var body exit
+  loop-of : (loop_no var body exit : ℕ) → loop_no < p.loops → IsIntegerScalar p.names var → All (IsNext p) (body ∷ exit ∷ []) → CanLoop p loop_no var body exit
   loop-of loop_no var body exit below scalar nexts = record {
     loop = below;
     name = scalar.known;
@@ -104,13 +105,13 @@ module _ (p : Program) (within : (x : ℕ) → x < length p.names → end_of p.n
     exit_next = nexts 1 body (omega arith);
   }
 
-  can_execute : (kind : ExecKind) → HasKinds p.names kind → All (IsNext p) (successors kind) → ((loop : Loop) → begun kind ≡ Some loop → loop.number < p.loops) → ((loop : Loop) → incremented kind ≡ Some loop → loop.number < p.loops) → CanExecute p kind
+  can_execute : (kind : ExecKind) → IsExecutable p.names kind → All (IsNext p) (successors kind) → ((loop : Loop) → begun kind ≡ Some loop → loop.number < p.loops) → ((loop : Loop) → incremented kind ≡ Some loop → loop.number < p.loops) → CanExecute p kind
   can_execute (Assign target value next) is nexts starts steps = (access-of p.names target is.access, value-of p.names target value is, nexts 0 next (omega arith))
   can_execute (Print items next) is nexts starts steps = (λ k d lt. item-of p.names _ (is k d lt), nexts 0 next (omega arith))
   can_execute (Pass next) is nexts starts steps = nexts 0 next (omega arith)
   can_execute (Test cond if_true if_false) is nexts starts steps = (IsProper-expression p.names cond is.proper, nexts 0 if_true (omega arith), nexts 1 if_true (omega arith))
   can_execute (Sign value neg zero' pos') is nexts starts steps = (IsProper-expression p.names value is.proper, nexts 0 neg (omega arith), nexts 1 neg (omega arith), nexts 2 neg (omega arith))
-  can_execute (Pick value targets other) is nexts starts steps = (IsProper-expression p.names value is.proper, All-front (IsNext p) targets other nexts, All-back (IsNext p) targets other nexts)
+  can_execute (Pick value targets other) is nexts starts steps = (IsProper-expression p.names value is.0.proper, All-front (IsNext p) targets other nexts, All-back (IsNext p) targets other nexts)
   can_execute (DoStart loop_no var first last step body exit) is nexts starts steps = (
     loop-of loop_no var body exit (starts _ refl) is.variable nexts,
     IsProper-expression p.names first (is.integers 0 first (omega arith)).proper,
@@ -127,7 +128,7 @@ well_formed-runs p is = record {
   initial = is.initial_count;
   begins = is.execs.end.some;
   executes = λ k exec at. can_execute p is.places.within exec.kind
-      (All-get (λ (e : Exec). HasKinds p.names e.kind) p.execs k exec is.execs.kinds at)
+      (All-get (λ (e : Exec). IsExecutable p.names e.kind) p.execs k exec is.execs.each at)
       (All-get (λ (e : Exec). All (IsNext p) (successors e.kind)) p.execs k exec is.execs.successors at)
       (λ loop begins. is.execs.loops_nest.starts k loop (ap begun_in at ∙ begins))
       (λ loop steps. is.execs.loops_nest.nexts k loop (ap incremented_in at ∙ steps));
@@ -146,7 +147,7 @@ pub well_formed-size : (p : Program) → IsWellFormed p → (x : ℕ) → x < le
 well_formed-size p is = size-one p.names (table-bounds p.names is.declarations.table)
 
 -- each word of a well-formed program is a word of some name
-pub well_formed-covered : (p : Program) → IsWellFormed p → (word : ℕ) → word < p.words → (x : ℕ) × HasWord p.names word x
+pub well_formed-covered : (p : Program) → IsWellFormed p → (word : ℕ) → word < p.words → (x : ℕ) × IsWordOf p.names x word
 well_formed-covered p is word lt =
     covered p.names p.commons (equations p.names p.commons p.groups) p.words is.places touch (well_formed-size p is) word lt
   where

@@ -9,16 +9,16 @@ use Rattle.f77_tree.specs.declared.programs.NameInfo.{NameInfo}
 use Rattle.f77_tree.specs.declared.programs.Program.{Program}
 use Rattle.f77_tree.specs.Value.{place_of, IsExpression, IsAccess, ArePlaced}
 
-abbrev pub IsItem : List NameInfo → Item → Type 0
-IsItem names (Value e) = IsExpression names e
-IsItem names (Chars text) = Unit {0}
+abbrev pub CanPrint : List NameInfo → Item → Type 0
+CanPrint names (Value e) = IsExpression names e
+CanPrint names (Chars text) = Unit {0}
 
 -- an index of an executable
 abbrev pub IsNext : Program → ℕ → Type 0
 IsNext p next = next < length p.execs
 
 -- a DO of the program, and the word of its variable
-pub record IsLoop (p : Program) (loop_no var body exit : ℕ) : Type 0 where
+pub record CanLoop (p : Program) (loop_no var body exit : ℕ) : Type 0 where
   pub loop : loop_no < p.loops
   pub name : var < length p.names
   pub word : place_of p.names var < p.words
@@ -28,13 +28,13 @@ pub record IsLoop (p : Program) (loop_no var body exit : ℕ) : Type 0 where
 -- names, subscripts and operands are as the table of names and the operators ask, and successors are executables
 abbrev pub CanExecute : Program → ExecKind → Type 0
 CanExecute p (Assign target value next) = IsAccess p.names target × IsExpression p.names value × IsNext p next
-CanExecute p (Print items next) = All (IsItem p.names) items × IsNext p next
+CanExecute p (Print items next) = All (CanPrint p.names) items × IsNext p next
 CanExecute p (Pass next) = IsNext p next
 CanExecute p (Test cond yes' no') = IsExpression p.names cond × IsNext p yes' × IsNext p no'
 CanExecute p (Sign value neg zero' pos') = IsExpression p.names value × IsNext p neg × IsNext p zero' × IsNext p pos'
 CanExecute p (Pick value targets other) = IsExpression p.names value × All (IsNext p) targets × IsNext p other
-CanExecute p (DoStart loop_no var first last step body exit) = IsLoop p loop_no var body exit × IsExpression p.names first × IsExpression p.names last × IsExpression p.names step
-CanExecute p (DoNext loop_no var body exit) = IsLoop p loop_no var body exit
+CanExecute p (DoStart loop_no var first last step body exit) = CanLoop p loop_no var body exit × IsExpression p.names first × IsExpression p.names last × IsExpression p.names step
+CanExecute p (DoNext loop_no var body exit) = CanLoop p loop_no var body exit
 CanExecute p End = Unit {0}
 
 -- each executable can run, and the first one is there

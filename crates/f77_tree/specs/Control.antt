@@ -24,15 +24,10 @@ successors_in (Some exec) = successors exec.kind
 abbrev pub LeadsTo : List Exec → ℕ → ℕ → Type 0
 LeadsTo execs k s = Contains (successors_in (slice_get execs k)) s
 
--- the labels of a computed GO TO
-abbrev pub labels_of : ExecKind → List ℕ
-labels_of (Pick value targets other) = targets
-labels_of _ = []
-
--- a computed GO TO has a label
-abbrev pub HasLabel : ExecKind → Type 0
-HasLabel (Pick value targets other) = 0 < length targets
-HasLabel _ = Unit {0}
+-- the executables that the labels of a computed GO TO stand for
+abbrev pub targets_of : ExecKind → List ℕ
+targets_of (Pick value targets other) = targets
+targets_of _ = []
 
 -- the last executable is END, and no other is
 pub record EndsWithEnd (execs : List Exec) : Type 0 where

@@ -9,13 +9,14 @@ use Rattle.f77_tree.specs.declared.declarations.CommonPart.{CommonPart}
 use Rattle.f77_tree.specs.declared.declarations.Member.{Member}
 use Rattle.f77_tree.specs.declared.programs.NameInfo.{NameInfo}
 use Rattle.f77_tree.specs.Name.{is_name}
+use Rattle.f77_tree.specs.Grammar.{greatest_constant}
 use Rattle.f77_tree.specs.Value.{kind_of, dims_of, extent, size_of}
 
 -- ---- dimensions
 
--- a number that a source can write: digits up to 2147483647, and a sign
+-- a number that a source can write: digits up to the greatest constant, and a sign
 abbrev pub CanBeWritten : ℤ → Type 0
-CanBeWritten z = nat_abs z ≤ 2147483647
+CanBeWritten z = nat_abs z ≤ greatest_constant
 
 -- bounds that a source can write, the lower one not above the upper one
 pub record IsDim (dim : Dim) : Type 0 where

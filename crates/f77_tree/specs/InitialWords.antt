@@ -1,5 +1,5 @@
 -- Initial words: DATA gives values to words, and each other word begins at 0 (ANSI X3.9-1978, section 9).
-use Rattle.std.specs.Prelude.{◌≡◌, ℕ, zero, suc, ◌+◌, ◌<◌, ◌≤◌, ℤ, pos, nat_abs, if◌then◌else◌, ◌==◌, List, [], ◌∷◌, map, length, replicate, All, flat_map, Some, slice_get}
+use Rattle.std.specs.Prelude.{◌≡◌, ℕ, zero, suc, ◌+◌, ◌<◌, ◌≤◌, ℤ, pos, nat_abs, ◌==◌, List, [], ◌∷◌, map, length, replicate, All, flat_map, zip, find, Option, Some, None, slice_get}
 use Rattle.op_table.specs.Words.{truth}
 use Rattle.f77_tree.specs.declared.declarations.Kind.{Kind}
 use Rattle.f77_tree.specs.declared.declarations.Kind.TheVariants.{Integer, Logical}
@@ -10,7 +10,7 @@ use Rattle.f77_tree.specs.declared.declarations.InitValue.{InitValue}
 use Rattle.f77_tree.specs.declared.declarations.InitPart.{InitPart}
 use Rattle.f77_tree.specs.declared.programs.NameInfo.{NameInfo}
 use Rattle.f77_tree.specs.Value.{kind_of, dims_of, place_of, size_of}
-use Rattle.f77_tree.specs.Declarations.{CanBeWritten, IsMember, member_index, member_offset}
+use Rattle.f77_tree.specs.Declarations.{CanBeWritten, IsMember, member_index, offset_of}
 
 -- ---- values
 
@@ -45,15 +45,22 @@ abbrev pub words_from : ℕ → ℕ → List ℕ
 words_from first zero = []
 words_from first (suc n) = first ∷ words_from (suc first) n
 
--- the words of the name at an index, or of its element behind so many others; without subscripts a name stands for all
--- its elements
-abbrev pub words_at : List NameInfo → ℕ → List ℤ → ℤ → List ℕ
-words_at names k [] offset = words_from (place_of names k) (nat_abs (size_of (dims_of names k)))
-words_at names k (sub ∷ subs) offset = (place_of names k + nat_abs offset) ∷ []
+-- all words of a name
+abbrev pub words_of : List NameInfo → ℕ → List ℕ
+words_of names k = words_from (place_of names k) (nat_abs (size_of (dims_of names k)))
+
+-- the word of a name's element with these subscripts
+abbrev pub element_word : List NameInfo → ℕ → List ℤ → ℕ
+element_word names k subs = place_of names k + nat_abs (offset_of (dims_of names k) subs)
+
+-- the words of a name with these subscripts: without any the name stands for all its elements
+abbrev pub words_at : List NameInfo → ℕ → List ℤ → List ℕ
+words_at names k [] = words_of names k
+words_at names k (sub ∷ subs) = element_word names k (sub ∷ subs) ∷ []
 
 -- the words of an item
 abbrev pub item_words : List NameInfo → Member → List ℕ
-item_words names item = words_at names (member_index names item) item.subs (member_offset names item)
+item_words names item = words_at names (member_index names item) item.subs
 
 -- the kind of an item, once for each of its words
 abbrev pub item_kinds : List NameInfo → Member → List Kind
@@ -88,13 +95,17 @@ GivenOnce names inits = (j k word : ℕ) → slice_get (given_words names inits)
 
 -- ---- initial words
 
--- what a word begins as: the constant beside it, or else 0
-abbrev pub beside : ℕ → List ℕ → List Lit → ℤ
-beside word (given ∷ words) (lit ∷ lits) = if given == word then lit_word lit else beside word words lits
-beside word _ _ = pos 0
+-- the words that DATA gives values to, each with its constant
+abbrev pub given : List NameInfo → List InitPart → List (ℕ × Lit)
+given names inits = zip (given_words names inits) (given_constants inits)
 
+abbrev pub word_of_pair : Option (ℕ × Lit) → ℤ
+word_of_pair None = pos 0
+word_of_pair (Some pair) = lit_word pair.1
+
+-- what a word begins as: the constant beside it, or else 0
 abbrev pub initial_word : List NameInfo → List InitPart → ℕ → ℤ
-initial_word names inits word = beside word (given_words names inits) (given_constants inits)
+initial_word names inits word = word_of_pair (find (λ pair. pair.0 == word) (given names inits))
 
 -- each word begins as DATA says
 abbrev pub AreInitial : List NameInfo → List InitPart → List ℤ → Type 0

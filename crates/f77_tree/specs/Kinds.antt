@@ -1,5 +1,5 @@
 -- Expressions of a program: the names, subscripts, operators and kinds that they may have (ANSI X3.9-1978, section 6).
-use Rattle.std.specs.Prelude.{◌≡◌, ◌<◌, ◌⊎◌, pos, ◌≤ℤ◌, Bool, true, false, List, [], ◌∷◌, length}
+use Rattle.std.specs.Prelude.{◌≡◌, ◌<◌, ◌⊎◌, ℤ, pos, ◌≤ℤ◌, Bool, true, false, List, [], ◌∷◌, length}
 use Rattle.op_table.specs.declared.Op.{Op}
 use Rattle.op_table.specs.declared.Op.TheVariants.{Not, And, Or, Eqv, Neqv, Truth, Bound, Place, Three, Pick, Step}
 use Rattle.op_table.specs.Operators.{arity_of}
@@ -11,6 +11,7 @@ use Rattle.f77_tree.specs.declared.expressions.Expr.TheVariants.{Const, Truth as
 use Rattle.f77_tree.specs.declared.programs.NameInfo.{NameInfo}
 use Rattle.f77_tree.specs.Value.{kind_of, dims_of, row_length}
 use Rattle.f77_tree.specs.Line.{kind_of_expression}
+use Rattle.f77_tree.specs.Grammar.{greatest_constant}
 
 -- ---- operators
 
@@ -35,12 +36,17 @@ operand_kind _ = Integer
 
 -- ---- expressions
 
+-- a constant that a source can write without a sign
+pub record IsConstant (z : ℤ) : Type 0 where
+  pub least : pos 0 ≤ℤ z
+  pub most : z ≤ℤ pos greatest_constant
+
 abbrev mutual
-  -- an expression of the program: constants are at least 0; an access names an index of the table and has an integer
+  -- an expression of the program: a source can write each constant; an access names an index of the table and has an integer
   -- subscript for each dimension of that name; an operator is one that a source can write, and has as many operands as
   -- it takes, of the kind that it takes; data words are read by no expression
   pub IsProper : List NameInfo → Expr → Type 0
-  IsProper names (Const z) = pos 0 ≤ℤ z
+  IsProper names (Const z) = IsConstant z
   IsProper names (TruthOf b) = Unit {0}
   IsProper names Input = ⊥
   IsProper names (Read' name shape subs) = (name < length names) × (row_length subs ≡ length (dims_of names name)) × AllOfKind names Integer subs

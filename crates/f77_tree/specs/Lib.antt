@@ -6,6 +6,7 @@ pub mod Grammar
 pub mod InitialWords
 pub mod Kinds
 pub mod Known
+pub mod KnownWith
 pub mod Line
 pub mod Loops
 pub mod Name
@@ -13,6 +14,8 @@ pub mod Operations
 pub mod Places
 pub mod Run
 pub mod StatementGrammar
+pub mod Steps
 pub mod Straight
+pub mod Touched
 pub mod Value
 pub mod WellFormed

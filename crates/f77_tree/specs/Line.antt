@@ -1,5 +1,5 @@
 -- The line that PRINT writes.
-use Rattle.std.specs.Prelude.{ℕ, ℤ, if◌then◌else◌, List, [], ◌∷◌, ◌++◌, map, None, Result, Ok, Err}
+use Rattle.std.specs.Prelude.{◌≡◌, ℕ, ◌+◌, ℤ, if◌then◌else◌, List, [], ◌∷◌, ◌++◌, length, map, None, Result, Ok, Err}
 use Rattle.std.specs.Fmt.{signed_decimal}
 use Rattle.op_table.specs.declared.Op.{Op}
 use Rattle.op_table.specs.declared.Op.TheVariants.{Lt, Le, Eq, Ne, Ge, Gt, Not, And, Or, Eqv, Neqv, Truth as Truth_of}
@@ -59,6 +59,48 @@ abbrev pub line_of_texts : List (Result (List ℕ) Trap) → Result (List ℕ) T
 line_of_texts [] = Ok (10 ∷ [])
 line_of_texts (text ∷ texts) = item_before text (line_of_texts texts)
 
--- the line of these items, where each of them has its value
+-- the line of these items, or the first trap of their expressions
 abbrev pub line_of : List NameInfo → List ℤ → List Item → Result (List ℕ) Trap
 line_of names store items = line_of_texts (map (item_text names store) items)
+
+-- characters, and a line feed at the end
+pub record IsLine (line : List ℕ) : Type 0 where
+  pub front : List ℕ
+  pub is : line ≡ front ++ 10 ∷ []
+
+-- ---- the line of values that were taken before
+
+-- the values of the expressions among the items, or the traps
+abbrev pub item_values : List NameInfo → List ℤ → List Item → List (Result ℤ Trap)
+item_values names store [] = []
+item_values names store (Value e ∷ items) = value names store None e ∷ item_values names store items
+item_values names store (Chars text ∷ items) = item_values names store items
+
+-- an item as it is written, where these values are still to come; an expression without a value is nothing
+abbrev pub text_with : List NameInfo → Item → List ℤ → List ℕ
+text_with names (Value e) [] = []
+text_with names (Value e) (z ∷ values) = text_of (kind_of_expression names e) z
+text_with names (Chars text) values = text
+
+-- the values that are still to come behind an item
+abbrev pub values_behind : Item → List ℤ → List ℤ
+values_behind (Value e) [] = []
+values_behind (Value e) (z ∷ values) = values
+values_behind (Chars text) values = values
+
+-- the line of these items, where their expressions have these values, one after another
+abbrev pub line_with : List NameInfo → List Item → List ℤ → List ℕ
+line_with names [] values = 10 ∷ []
+line_with names (item ∷ items) values = 32 ∷ (text_with names item values ++ line_with names items (values_behind item values))
+
+-- ---- how long a line may be
+
+-- a blank and the item: a value has eleven characters at most
+abbrev pub item_room : Item → ℕ
+item_room (Value e) = 12
+item_room (Chars text) = 1 + length text
+
+-- the items, and a line feed
+abbrev pub line_room : List Item → ℕ
+line_room [] = 1
+line_room (item ∷ items) = item_room item + line_room items

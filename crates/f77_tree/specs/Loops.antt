@@ -82,10 +82,11 @@ Holds execs m n = (k : ℕ) → InRange execs n k → InRange execs m k
 abbrev pub ShareNone : List Exec → ℕ → ℕ → Type 0
 ShareNone execs m n = (k : ℕ) → InRange execs m k → InRange execs n k → ⊥
 
--- the DOs are numbered below a count, and their ranges are nested or share nothing
+-- the DOs are numbered below a count, in the order in which they begin, and their ranges are nested or share nothing
 pub record AreLoops (execs : List Exec) (count : ℕ) : Type 0 where
   pub each : (n : ℕ) → n < count → IsLoop execs n
   pub starts : (k : ℕ) (loop : Loop) → begun_at execs k ≡ Some loop → loop.number < count
   pub nexts : (k : ℕ) (loop : Loop) → incremented_at execs k ≡ Some loop → loop.number < count
+  pub rising : (m n : ℕ) → m < n → n < count → do_start execs m < do_start execs n
   pub entered : (n : ℕ) → n < count → IsEnteredAtStart execs n
   pub nested : (m n : ℕ) → m < count → n < count → Holds execs m n ⊎ (Holds execs n m ⊎ ShareNone execs m n)

@@ -1,6 +1,6 @@
 -- Places of names in storage: COMMON and EQUIVALENCE are equations between places, names that equations link share a
 -- storage, and the words are numbered storage by storage (ANSI X3.9-1978, sections 8.2 and 8.3).
-use Rattle.std.specs.Prelude.{◌≡◌, ℕ, ◌<◌, ◌≤◌, ◌⊎◌, ℤ, pos, ◌+ℤ◌, ◌-ℤ◌, ◌≤ℤ◌, Bool, true, false, List, [], ◌∷◌, ◌++◌, map, length, Contains, flat_map, filter, Option, Some, None, slice_get, bytes_eq}
+use Rattle.std.specs.Prelude.{◌≡◌, ℕ, ◌<◌, ◌≤◌, ◌⊎◌, ℤ, pos, ◌+ℤ◌, ◌-ℤ◌, ◌≤ℤ◌, ◌<ℤ◌, Bool, true, false, List, [], ◌∷◌, ◌++◌, map, length, Contains, flat_map, filter, Option, Some, None, slice_get, bytes_eq}
 use Rattle.f77_tree.specs.declared.declarations.CommonPart.{CommonPart}
 use Rattle.f77_tree.specs.declared.declarations.Member.{Member}
 use Rattle.f77_tree.specs.declared.programs.NameInfo.{NameInfo}
@@ -66,6 +66,12 @@ pub record IsEarlier (all : List Equation) (x y : ℕ) : Type 0 where
 -- where the words of a name end: the number of the word behind its last one
 abbrev pub end_of : List NameInfo → ℕ → ℤ
 end_of names x = pos (place_of names x) +ℤ size_of (dims_of names x)
+
+-- the word is one of the words of the name x
+pub record IsWordOf (names : List NameInfo) (x word : ℕ) : Type 0 where
+  pub known : x < length names
+  pub begins : place_of names x ≤ word
+  pub ends : pos word <ℤ end_of names x
 
 -- x is the first name of a COMMON block
 pub record IsFirstOfBlock (names : List NameInfo) (commons : List CommonPart) (x : ℕ) : Type 0 where

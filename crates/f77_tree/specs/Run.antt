@@ -1,5 +1,5 @@
 -- What a run of a program does over its data: one executable at each step.
-use Rattle.std.specs.Prelude.{◌≡◌, ℕ, zero, suc, ◌<◌, ℤ, pos, List, [], ◌++◌, replicate, Option, Some, None, slice_get}
+use Rattle.std.specs.Prelude.{◌≡◌, ℕ, zero, suc, ◌<◌, ◌↔◌, ℤ, pos, List, [], ◌++◌, replicate, Option, Some, None, slice_get}
 use Rattle.op_table.specs.declared.Trap.{Trap}
 use Rattle.f77_tree.specs.declared.programs.Exec.{Exec}
 use Rattle.f77_tree.specs.declared.programs.Program.{Program}
@@ -66,3 +66,31 @@ EndsIn p input n = StopsFirst p input n Ended
 -- the run traps at step n, and not before, at this line
 abbrev pub TrapsAt : Program → List ℤ → ℕ → Trap → ℕ → Type 0
 TrapsAt p input n trap line = StopsFirst p input n (Trapped trap line)
+
+-- ---- two runs
+
+-- what was written at some time begins with this text
+pub record Reaches (run : ℕ → State) (text : List ℕ) : Type 0 where
+  pub steps : ℕ
+  pub rest : List ℕ
+  pub is : (run steps).out ≡ text ++ rest
+
+-- the run ends
+pub record HasEnded (run : ℕ → State) : Type 0 where
+  pub steps : ℕ
+  pub ended : (run steps).mark ≡ Ended
+
+-- the run traps, at any line, and this text is its whole output
+pub record HasTrapped (run : ℕ → State) (trap : Trap) (text : List ℕ) : Type 0 where
+  pub steps : ℕ
+  pub line : ℕ
+  pub trapped : (run steps).mark ≡ Trapped trap line
+  pub whole : (run steps).out ≡ text
+
+-- two runs print the same: what either has written is a front of what the other reaches; one ends exactly where the
+-- other ends, and traps exactly where the other traps, with the same kind and the same whole output
+pub record PrintAlike (a b : ℕ → State) : Type 0 where
+  pub front : (n : ℕ) → Reaches b (a n).out
+  pub back : (n : ℕ) → Reaches a (b n).out
+  pub ends : HasEnded a ↔ HasEnded b
+  pub traps : (trap : Trap) (text : List ℕ) → HasTrapped a trap text ↔ HasTrapped b trap text

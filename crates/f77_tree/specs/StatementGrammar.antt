@@ -1,6 +1,7 @@
 -- Statements as they are written (ANSI X3.9-1978, sections 4 and 5 and 7 to 12), and the statements that are read from
 -- them. Texts are free of blanks but for those in character constants.
-use Rattle.std.specs.Prelude.{◌≡◌, ◌≤◌, ℕ, ℤ, pos, ◌-ℤ◌, Bool, true, false, not, if◌then◌else◌, ◌&&◌, ◌||◌, nat_le, nat_lt, ◌==◌, List, [], ◌∷◌, ◌++◌, length, map, flat_map, codes, Option, Some, None, All}
+use Rattle.std.specs.Prelude.{◌≡◌, ◌≤◌, ℕ, ℤ, pos, ◌-ℤ◌, Bool, true, false, not, if◌then◌else◌, ◌&&◌, ◌||◌, nat_le, nat_lt, ◌==◌, List, [], ◌∷◌, ◌++◌, length, map, flat_map, codes, Option, Some, None, All, IsTrue}
+use Rattle.std.specs.Int.{is_in_range}
 use Rattle.std.specs.List.{list_all, list_any}
 use Rattle.f77_tree.specs.declared.declarations.Kind.{Kind}
 use Rattle.f77_tree.specs.declared.declarations.Kind.TheVariants.{Integer, Logical}
@@ -16,8 +17,8 @@ use Rattle.f77_tree.specs.declared.declarations.InitPart.{InitPart}
 use Rattle.f77_tree.specs.declared.statements.RawExpr.{RawExpr}
 use Rattle.f77_tree.specs.declared.statements.RawItem.{RawItem}
 use Rattle.f77_tree.specs.declared.statements.RawItem.TheVariants.{Value, Chars}
-use Rattle.f77_tree.specs.declared.statements.Stmt.{Stmt}
-use Rattle.f77_tree.specs.declared.statements.Stmt.TheVariants.{Program, Implicit, ImplicitNone, TypeOf, Dimension, Common, Equivalence, Init, Assign, Print, Take, Continue, Stop, GoTo, PickGoTo, SignIf, ThenIf, BlockIf, ElseIf, Else, EndIf, Do, End}
+use Rattle.f77_tree.specs.declared.statements.Stmt.{Stmt, more_of-Stmt}
+use Rattle.f77_tree.specs.declared.statements.Stmt.TheVariants.{Program, Implicit, ImplicitNone, TypeOf, Dimension, Common, Equivalence, Init, Assign, Print, Take, Continue, Stop, GoTo, PickGoTo, SignIf, ThenIf, ThenIf', BlockIf, ElseIf, Else, EndIf, Do, Sub, CallTo, Back, End}
 use Rattle.f77_tree.specs.Name.{is_capital, is_name}
 use Rattle.f77_tree.specs.Grammar.{Written, IsGrammatical, spelling, reading, has_great_number, is_number, number_of, greatest_constant, truth_text}
 
@@ -400,6 +401,18 @@ abbrev pub step_is_great : Option Written → Bool
 step_is_great None = false
 step_is_great (Some w) = has_great_number w
 
+-- what stands behind the name of a subroutine: nothing, or names between brackets, of which there may be none
+abbrev pub names_text : Option (List (List ℕ)) → List ℕ
+names_text None = []
+names_text (Some names) = in_brackets (with_commas names)
+
+abbrev pub names_of : Option (List (List ℕ)) → List (List ℕ)
+names_of None = []
+names_of (Some names) = names
+
+abbrev pub are_names : Option (List (List ℕ)) → Bool
+are_names names = list_all is_name (names_of names)
+
 -- ---- statements
 
 pub data WrittenStatement : Type 0 where
@@ -425,6 +438,9 @@ pub data WrittenStatement : Type 0 where
   else : WrittenStatement
   end_if : WrittenStatement
   do_loop : (label : List ℕ) → (comma : Bool) → (variable : List ℕ) → (first last : Written) → Option Written → WrittenStatement
+  subroutine : (name : List ℕ) → (dummies : Option (List (List ℕ))) → WrittenStatement
+  call_of : (name : List ℕ) → (arguments : Option (List (List ℕ))) → WrittenStatement
+  go_back : WrittenStatement
   end : WrittenStatement
 
 abbrev pub statement_text : WrittenStatement → List ℕ
@@ -450,10 +466,21 @@ statement_text (WrittenStatement.else_if w) = codes "ELSEIF" ++ in_brackets (spe
 statement_text WrittenStatement.else = codes "ELSE"
 statement_text WrittenStatement.end_if = codes "ENDIF"
 statement_text (WrittenStatement.do_loop label comma variable first last step) = codes "DO" ++ label ++ comma_if comma ++ variable ++ codes "=" ++ spelling first ++ codes "," ++ spelling last ++ step_text step
+statement_text (WrittenStatement.subroutine name dummies) = codes "SUBROUTINE" ++ name ++ names_text dummies
+statement_text (WrittenStatement.call_of name arguments) = codes "CALL" ++ name ++ names_text arguments
+statement_text WrittenStatement.go_back = codes "RETURN"
 statement_text WrittenStatement.end = codes "END"
 
 -- a statement that may stand in a logical IF
 abbrev pub is_simple : WrittenStatement → Bool
+is_simple (WrittenStatement.program n) = false
+is_simple WrittenStatement.implicit_none = false
+is_simple (WrittenStatement.implicit letters) = false
+is_simple (WrittenStatement.typed kind decls) = false
+is_simple (WrittenStatement.dimension decls) = false
+is_simple (WrittenStatement.common parts) = false
+is_simple (WrittenStatement.equivalence groups) = false
+is_simple (WrittenStatement.init parts) = false
 is_simple (WrittenStatement.assignment target value) = true
 is_simple (WrittenStatement.print form items) = true
 is_simple (WrittenStatement.read form targets) = true
@@ -462,11 +489,21 @@ is_simple (WrittenStatement.stop shown) = true
 is_simple (WrittenStatement.go_to label) = true
 is_simple (WrittenStatement.computed_go_to labels comma w) = true
 is_simple (WrittenStatement.arithmetic_if w negative zero positive) = true
-is_simple _ = false
+is_simple (WrittenStatement.logical_if w s) = false
+is_simple (WrittenStatement.block_if w) = false
+is_simple (WrittenStatement.else_if w) = false
+is_simple WrittenStatement.else = false
+is_simple WrittenStatement.end_if = false
+is_simple (WrittenStatement.do_loop label comma variable first last step) = false
+is_simple (WrittenStatement.subroutine name dummies) = false
+is_simple (WrittenStatement.call_of name arguments) = true
+is_simple WrittenStatement.go_back = true
+is_simple WrittenStatement.end = false
 
 -- the grammar of statements
 abbrev pub IsStatement : WrittenStatement → Type 0
 IsStatement (WrittenStatement.program n) = is_name n ≡ true
+IsStatement WrittenStatement.implicit_none = Unit {0}
 IsStatement (WrittenStatement.implicit letters) = (1 ≤ length letters) × (list_all are_letters letters ≡ true)
 IsStatement (WrittenStatement.typed kind decls) = (1 ≤ length decls) × All IsDecl decls
 IsStatement (WrittenStatement.dimension decls) = (1 ≤ length decls) × All IsDecl decls × (list_all has_dims decls ≡ true)
@@ -476,6 +513,7 @@ IsStatement (WrittenStatement.init parts) = (begins_alone parts ≡ true) × (li
 IsStatement (WrittenStatement.assignment target value) = IsVariable target × IsGrammatical value
 IsStatement (WrittenStatement.print form items) = All IsItem items
 IsStatement (WrittenStatement.read form targets) = (1 ≤ length targets) × All IsVariable targets
+IsStatement WrittenStatement.continue = Unit {0}
 IsStatement (WrittenStatement.stop shown) = is_stop shown ≡ true
 IsStatement (WrittenStatement.go_to label) = is_number label ≡ true
 IsStatement (WrittenStatement.computed_go_to labels comma w) = (1 ≤ length labels) × (list_all is_number labels ≡ true) × IsGrammatical w
@@ -483,8 +521,13 @@ IsStatement (WrittenStatement.arithmetic_if w negative zero positive) = IsGramma
 IsStatement (WrittenStatement.logical_if w s) = IsGrammatical w × IsStatement s × (is_simple s ≡ true)
 IsStatement (WrittenStatement.block_if w) = IsGrammatical w
 IsStatement (WrittenStatement.else_if w) = IsGrammatical w
+IsStatement WrittenStatement.else = Unit {0}
+IsStatement WrittenStatement.end_if = Unit {0}
 IsStatement (WrittenStatement.do_loop label comma variable first last step) = (is_number label ≡ true) × (is_name variable ≡ true) × IsGrammatical first × IsGrammatical last × IsStep step
-IsStatement _ = Unit {0}
+IsStatement (WrittenStatement.subroutine name dummies) = (is_name name ≡ true) × (are_names dummies ≡ true)
+IsStatement (WrittenStatement.call_of name arguments) = (is_name name ≡ true) × (are_names arguments ≡ true)
+IsStatement WrittenStatement.go_back = Unit {0}
+IsStatement WrittenStatement.end = Unit {0}
 
 -- ---- the statements that are read
 
@@ -511,6 +554,9 @@ statement_of (WrittenStatement.else_if w) = ElseIf (reading w)
 statement_of WrittenStatement.else = Else
 statement_of WrittenStatement.end_if = EndIf
 statement_of (WrittenStatement.do_loop label comma variable first last step) = Do (number_of label) variable (reading first) (reading last) (step_of step)
+statement_of (WrittenStatement.subroutine name dummies) = Sub name (names_of dummies)
+statement_of (WrittenStatement.call_of name arguments) = CallTo name (names_of arguments)
+statement_of WrittenStatement.go_back = Back
 statement_of WrittenStatement.end = End
 
 -- ---- constants
@@ -524,6 +570,9 @@ are_great numbers = list_any (λ n. is_great n.digits) numbers
 
 -- a number above the greatest constant, a label that is none, or a repeat of 0
 abbrev pub has_bad_constant : WrittenStatement → Bool
+has_bad_constant (WrittenStatement.program n) = false
+has_bad_constant WrittenStatement.implicit_none = false
+has_bad_constant (WrittenStatement.implicit letters) = false
 has_bad_constant (WrittenStatement.typed kind decls) = are_great (flat_map decl_numbers decls)
 has_bad_constant (WrittenStatement.dimension decls) = are_great (flat_map decl_numbers decls)
 has_bad_constant (WrittenStatement.common parts) = are_great (flat_map (λ p. flat_map decl_numbers p.decls) parts)
@@ -532,16 +581,70 @@ has_bad_constant (WrittenStatement.init parts) = list_any (λ d. are_great (flat
 has_bad_constant (WrittenStatement.assignment target value) = has_great_number target || has_great_number value
 has_bad_constant (WrittenStatement.print form items) = list_any item_is_great items
 has_bad_constant (WrittenStatement.read form targets) = list_any has_great_number targets
+has_bad_constant WrittenStatement.continue = false
+has_bad_constant (WrittenStatement.stop shown) = false
 has_bad_constant (WrittenStatement.go_to label) = is_bad_label label
 has_bad_constant (WrittenStatement.computed_go_to labels comma w) = list_any is_bad_label labels || has_great_number w
 has_bad_constant (WrittenStatement.arithmetic_if w negative zero positive) = has_great_number w || list_any is_bad_label (negative ∷ zero ∷ positive ∷ [])
 has_bad_constant (WrittenStatement.logical_if w s) = has_great_number w || has_bad_constant s
 has_bad_constant (WrittenStatement.block_if w) = has_great_number w
 has_bad_constant (WrittenStatement.else_if w) = has_great_number w
+has_bad_constant WrittenStatement.else = false
+has_bad_constant WrittenStatement.end_if = false
 has_bad_constant (WrittenStatement.do_loop label comma variable first last step) = is_bad_label label || has_great_number first || has_great_number last || step_is_great step
-has_bad_constant _ = false
+has_bad_constant (WrittenStatement.subroutine name dummies) = false
+has_bad_constant (WrittenStatement.call_of name arguments) = false
+has_bad_constant WrittenStatement.go_back = false
+has_bad_constant WrittenStatement.end = false
 
 -- a statement of the grammar that a text spells
 pub record IsWrittenStatement (text : List ℕ) (s : WrittenStatement) : Type 0 where
   pub grammatical : IsStatement s
   pub is : statement_text s ≡ text
+
+-- a text that is read as a statement, each constant of which is in range
+pub record IsReadAs (text : List ℕ) (stmt : Stmt) : Type 0 where
+  pub written : WrittenStatement
+  pub spells : IsWrittenStatement text written
+  pub is : statement_of written ≡ stmt
+  pub constants : has_bad_constant written ≡ false
+
+-- a character that may stand in a text: from the blank of ASCII to the tilde
+abbrev pub is_printable : ℕ → Bool
+is_printable c = is_in_range 32 126 c
+
+-- a statement that some text of printable characters is read as: whoever works on a program may take this for given of
+-- each of its statements
+pub record IsGiven (stmt : Stmt) : Type 0 where
+  pub text : List ℕ
+  pub printable : IsTrue (list_all is_printable text)
+  pub is_read : IsReadAs text stmt
+
+-- a statement of subroutines, alone or behind a condition
+abbrev pub is_of_subroutines : Stmt → Bool
+is_of_subroutines (Sub name dummies) = true
+is_of_subroutines (CallTo name arguments) = true
+is_of_subroutines Back = true
+is_of_subroutines (ThenIf' condition shape (more_of-Stmt stmt rest)) = is_of_subroutines stmt
+is_of_subroutines Program = false
+is_of_subroutines (Implicit ranges) = false
+is_of_subroutines ImplicitNone = false
+is_of_subroutines (TypeOf kind decls) = false
+is_of_subroutines (Dimension decls) = false
+is_of_subroutines (Common parts) = false
+is_of_subroutines (Equivalence groups) = false
+is_of_subroutines (Init parts) = false
+is_of_subroutines (Assign target value) = false
+is_of_subroutines (Print items) = false
+is_of_subroutines (Take targets) = false
+is_of_subroutines Continue = false
+is_of_subroutines Stop = false
+is_of_subroutines (GoTo label) = false
+is_of_subroutines (PickGoTo labels index) = false
+is_of_subroutines (SignIf value negative zero positive) = false
+is_of_subroutines (BlockIf condition) = false
+is_of_subroutines (ElseIf condition) = false
+is_of_subroutines Else = false
+is_of_subroutines EndIf = false
+is_of_subroutines (Do label variable first last step) = false
+is_of_subroutines End = false

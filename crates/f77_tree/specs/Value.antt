@@ -1,4 +1,9 @@
 -- The value of an expression over a store, and the word that an access names.
+--
+-- Contracts see the operands of an expression, and the subscripts of an access, as a list: `Apply op args`,
+-- `Read access`. A definition that goes into them takes them as a row, which is what lies behind the list: `Apply' op
+-- shape row`, `Read' name shape row`. A row ends at `end_of-Expr`, and `more_of-Expr e rest` has e before the rest; its
+-- shape says how long it is, and nothing more.
 use Rattle.std.specs.Prelude.{◌≡◌, ℕ, suc, ◌<◌, ◌≤◌, ℤ, pos, ◌+ℤ◌, ◌-ℤ◌, ◌*ℤ◌, ◌≤ℤ◌, nat_abs, List, [], ◌∷◌, length, map, Option, Some, None, Result, Ok, Err, slice_get, unwrap_or, ok_or, All}
 use Rattle.op_table.specs.declared.Op.TheVariants.{Bound, Place}
 use Rattle.op_table.specs.declared.Trap.{Trap}

@@ -322,6 +322,11 @@ impl Copied for Stmt {
                 last.copy(alloc)?,
                 copied_step(step, alloc)?,
             )),
+            Stmt::Sub(name, dummies) => Ok(Stmt::Sub(name.copy(alloc)?, dummies.copy(alloc)?)),
+            Stmt::CallTo(name, arguments) => {
+                Ok(Stmt::CallTo(name.copy(alloc)?, arguments.copy(alloc)?))
+            }
+            Stmt::Back => Ok(Stmt::Back),
             Stmt::End => Ok(Stmt::End),
         }
     }

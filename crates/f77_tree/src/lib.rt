@@ -5,6 +5,7 @@ mod copies;
 mod declarations;
 mod evaluation;
 mod expressions;
+mod laws;
 mod names;
 mod programs;
 mod statements;
@@ -15,9 +16,13 @@ pub use declarations::{
 };
 pub use evaluation::{evaluate, locate};
 pub use expressions::{Access, Expr, ExprList};
+pub use laws::{
+    accesses_stay_in_their_names, executables_keep_the_rest, executables_lead_to_successors,
+    known_values_are_right, longer_tables_agree, ranges_have_counts, reads_decide, runs_hold_words,
+    runs_stay_inside, runs_stop_first, statements_bound_operations, what_cannot_trap_does_not,
+};
 pub use names::Name;
 pub use programs::{Exec, ExecKind, ExecList, Item, ItemList, NameInfo, NameInfoList, Program};
-pub use statements::{Labelled, LabelledList, RawExpr, RawItem, RawItemList, RawList, Stmt};
-
-#[cfg(test)]
-mod tests;
+pub use statements::{
+    Labelled, LabelledList, NameList, RawExpr, RawItem, RawItemList, RawList, Stmt,
+};

@@ -1,5 +1,5 @@
 ghost use Rattle.std.specs.List.{list_all};
-ghost use Rattle.std.specs.Prelude.{◌≡◌, ◌↔◌, ◌||◌, IsSome, IsTrue, IfSome};
+ghost use Rattle.std.specs.Prelude.{◌≡◌, ◌<◌, ◌≤◌, ◌↔◌, ◌||◌, Some, IsSome, IsTrue, IfSome, length, slice_get, slice_index_or};
 ghost use Rattle.f77_tree.specs.Name.{is_name, is_capital, is_figure};
 
 use std::marker::Model;
@@ -45,6 +45,25 @@ impl Name {
         ensures { result.now ≡ self.now }
     {
         &self.bytes[..self.len]
+    }
+
+    /// How many characters there are: one to six. They are those of a name, whatever the name came from.
+    pub fn len(&self) -> u32
+        ensures len { result ≡ length self.now }
+        ensures some { 1 ≤ result }
+        ensures few { result ≤ 6 }
+        ensures name { IsTrue (is_name self.now) }
+    {
+        self.len as u32
+    }
+
+    /// The character at a place, counted from 0.
+    pub fn at(&self, k: u32) -> &u8
+        requires { k < length self.now }
+        ensures item { slice_get self.now k ≡ Some result.now }
+        ensures lookup { result.now ≡ slice_index_or self.now k result.now }
+    {
+        &self.bytes[k as usize]
     }
 
     // The same name once more.

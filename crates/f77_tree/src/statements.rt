@@ -8,6 +8,9 @@ pub type RawList = Sequence<RawExpr>;
 /// Items of output as read.
 pub type RawItemList = Sequence<RawItem>;
 
+/// Names, one after another.
+pub type NameList = Sequence<Name>;
+
 /// The statements of a program, in the order of the text.
 pub type LabelledList = Sequence<Labelled>;
 
@@ -55,6 +58,12 @@ pub enum Stmt {
     Else,
     EndIf,
     Do(u32, Name, RawExpr, RawExpr, Option<RawExpr>),
+    /// SUBROUTINE, its name and its dummy arguments.
+    Sub(Name, NameList),
+    /// CALL of the subroutine of this name with these arguments.
+    CallTo(Name, NameList),
+    /// RETURN.
+    Back,
     End,
 }
 

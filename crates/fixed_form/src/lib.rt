@@ -11,6 +11,3 @@ mod source;
 pub use form_end::FormEnd;
 pub use raw_stmt::{RawStmt, RawStmtList};
 pub use source::statements;
-
-#[cfg(test)]
-mod tests;

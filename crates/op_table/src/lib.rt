@@ -102,6 +102,3 @@ mod words;
 
 pub use table::{apply, arity, fold, may_trap};
 pub use trips::do_count;
-
-#[cfg(test)]
-mod tests;

@@ -1,9 +1,9 @@
 -- What a firing does to the marking, from what it does to the lines and to the store.
-use Rattle.std.proofs.Common.{◌≡◌, ℕ, suc, ◌+◌, ◌<◌, ℤ, List, map, drop, length, get_or, cond, refl, ap, ◌∙◌, zero-add}
+use Rattle.std.proofs.Common.{◌≡◌, ℕ, suc, ◌+◌, ◌<◌, ℤ, List, map, drop, length, get_or, cond, ap, ◌∙◌, zero-add}
 use mathlib.Core.Path.{fun_ext}
 use Rattle.f77_tree.specs.declared.programs.Program.{Program}
 use Rattle.token_net.specs.declared.Fired.{Fired}
-use Rattle.token_net.specs.declared.Fired.TheVariants.{Moved, Line, NoMemory}
+use Rattle.token_net.specs.declared.Fired.TheVariants.{Moved, Line}
 use Rattle.token_net.specs.Needs.{all_needs, all_nexts, needs_at, next_need, is_among, distance, moved_to}
 use Rattle.token_net.specs.Marking.{Marking, kind_at, store_after}
 use Rattle.token_net.specs.Firing.{FiredIs, ActedIs}
@@ -18,12 +18,11 @@ same_marking : (before after : ℕ → ℕ) (store words : List ℤ) → ((line 
 same_marking before after store words lines same =
     ap (λ (f : ℕ → ℕ). marking_at f store) (fun_ext lines) ∙ ap (marking_at after) same
 
-pub fired_from_acted : (p : Program) (before after : ℕ → ℕ) (store store' : List ℤ) (text text' : List ℕ) (k : ℕ) (answer : Fired) → ((line : ℕ) → after line ≡ cond (is_among line (needs_at p k)) (next_need p line (suc k)) (before line)) → (answer ≡ NoMemory → ⊥) → ActedIs p store text k store' text' answer → FiredIs p (record { before = before; store = store }) text k (record { before = after; store = store' }) text' answer
-fired_from_acted p before after store store' text text' k Moved goes ran acted =
+pub fired_from_acted : (p : Program) (before after : ℕ → ℕ) (store store' : List ℤ) (text text' : List ℕ) (k : ℕ) (answer : Fired) → ((line : ℕ) → after line ≡ cond (is_among line (needs_at p k)) (next_need p line (suc k)) (before line)) → ActedIs p store text k store' text' answer → FiredIs p (record { before = before; store = store }) text k (record { before = after; store = store' }) text' answer
+fired_from_acted p before after store store' text text' k Moved goes acted =
     (same_marking after (λ line. cond (is_among line (needs_at p k)) (next_need p line (suc k)) (before line)) store' (store_after p.names store (kind_at p k)) goes acted.0, acted.1, acted.2)
-fired_from_acted p before after store store' text text' k Line goes ran acted =
+fired_from_acted p before after store store' text text' k Line goes acted =
     (same_marking after (λ line. cond (is_among line (needs_at p k)) (next_need p line (suc k)) (before line)) store' (store_after p.names store (kind_at p k)) goes acted.0, acted.1)
-fired_from_acted p before after store store' text text' k NoMemory goes ran acted = absurd (ran refl)
 
 -- the nodes that the lines of the node k go to
 pub node_nexts : (p : Program) (nexts : List (List ℕ)) (k : ℕ) (nodes : List ℕ) → nexts ≡ all_nexts 0 (all_needs p) → k < length nexts → nodes ≡ get_or nexts k nodes → nodes ≡ map (λ (line : ℕ). next_need p line (suc k)) (needs_at p k)

@@ -1,24 +1,18 @@
 -- One firing more of a net that is followed.
 use Rattle.std.proofs.Common.{◌≡◌, ℕ, ◌≤◌, ◌+◌, ◌<◌, List, ◌++◌, length, take, Option, Some, None, sym, ap, subst, ◌∙◌, add-one, append_assoc}
-use Rattle.std.specs.Io.KnownBytes.{Appends, Keeps}
+use Rattle.std.specs.Io.KnownBytes.{Appends}
 use Rattle.df_io.specs.Write.{AppendsFront}
 use Rattle.f77_tree.specs.declared.programs.Program.{Program}
 use Rattle.f77_tree.specs.Straight.{count_before_end}
 use Rattle.token_net.specs.declared.following.Stepped.{Stepped}
 use Rattle.token_net.specs.Marking.{Marking, fired, line_at, lowest_ready, fired_if, bytes_in, written_if, played, written}
-use Rattle.token_net.specs.Following.{SteppedIs, IsDone, IsBroken, IsStarved}
+use Rattle.token_net.specs.Following.{SteppedIs, IsDone, IsBroken}
 
 pub Appends-twice : (a b c : Option (List ℕ)) (xs ys : List ℕ) → Appends a b xs → Appends b c ys → Appends a c (xs ++ ys)
 Appends-twice None b c xs ys first then = tt
 Appends-twice (Some old) None c xs ys first then = absurd first
 Appends-twice (Some old) (Some bs) None xs ys first then = absurd then
 Appends-twice (Some old) (Some bs) (Some cs) xs ys first then = then ∙ ap (λ (some : List ℕ). some ++ ys) first ∙ append_assoc old xs ys
-
-Appends-kept : (a b c : Option (List ℕ)) (xs : List ℕ) → Appends a b xs → Keeps b c → Appends a c xs
-Appends-kept None b c xs first then = tt
-Appends-kept (Some old) None c xs first then = absurd first
-Appends-kept (Some old) (Some bs) None xs first then = absurd then
-Appends-kept (Some old) (Some bs) (Some cs) xs first then = then ∙ first
 
 -- what is known of a step, at a program and a marking that are equal
 pub stepped_at : (p q : Program) (m n : Marking) (k : ℕ) (old new : Option (List ℕ)) (end : Marking) (answer : Stepped) → q ≡ p → n ≡ m → SteppedIs q n k old new end answer → SteppedIs p m k old new end answer
@@ -57,11 +51,3 @@ module _ (p : Program) (n k : ℕ) (low : lowest_ready p (played p n) ≡ Some k
       added = subst (λ (o : Option ℕ). Appends old new (written p n ++ take adds.count (written_if p (played p n) o))) (sym low) (Appends-twice old now new (written p n) (take adds.count (bytes_in (line_at p (played p n) k))) before adds.added);
     };
   }
-
--- there was no memory for the firing
-pub starved_next : (p : Program) (n : ℕ) (m : Marking) (old now new : Option (List ℕ)) → n < count_before_end p → m ≡ played p n → Appends old now (written p n) → Keeps now new → IsStarved p m old new
-starved_next p n m old now new below is before kept = record {
-  made = n;
-  within = below;
-  done = record { marking = is; added = Appends-kept old now new (written p n) before kept };
-}

@@ -4,7 +4,6 @@ mod StepLemmas
 mod InStepLemmas
 mod ReadLemmas
 mod RouteLemmas
-mod LineLemmas
 mod NeedLemmas
 mod MoveLemmas
 mod FireLemmas

@@ -28,7 +28,7 @@ item_text-Ok names store (Value e) safe = and_then-Ok (text_of (kind_of_expressi
 item_text-Ok names store (Chars text) safe = refl
 
 -- the items of a straight PRINT have values
-items-Ok : (names : List NameInfo) (store : List ℤ) (items : List Item) → All (IsSafeItem names) items → IsOk (line_of names store items)
+pub items-Ok : (names : List NameInfo) (store : List ℤ) (items : List Item) → All (IsSafeItem names) items → IsOk (line_of names store items)
 items-Ok names store [] safe = refl
 items-Ok names store (item ∷ items) safe =
     item_before-Ok (item_text names store item) (line_of names store items) (item_text-Ok names store item (safe 0 item (omega arith))) (items-Ok names store items (λ k d below. safe (suc k) d (omega (arith, below))))

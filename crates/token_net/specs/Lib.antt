@@ -4,4 +4,3 @@ pub mod InStep
 pub mod StraightNet
 pub mod Firing
 pub mod Following
-pub mod Printing

@@ -1,30 +1,25 @@
 // What a node does beside moving lines.
 
-ghost use Rattle.std.specs.Prelude.{◌≡◌, ◌<◌, length, vec_len, None};
+ghost use Rattle.std.specs.Prelude.{◌≡◌, ◌<◌, ◌≤◌, length, vec_len, vec_capacity, None};
 ghost use Rattle.f77_tree.specs.Straight.{IsStraight, IsSafe, IsScalar, count_before_end};
 ghost use Rattle.f77_tree.specs.Value.{ArePlaced, place, value};
+ghost use Rattle.f77_meaning.specs.Room.{most_room};
 ghost use Rattle.token_net.specs.Firing.{ActedIs};
 ghost use Rattle.token_net.specs.Marking.{stored};
 
 use crate::Fired;
-use crate::printing::printed_line;
-use df_sequence::NoMemory;
+use f77_meaning::write_line;
 use f77_tree::{Access, ExecKind, Expr, NameInfoList, Program, evaluate, locate};
-use std::alloc::Global;
 
-// Stores a value, or makes the line that is written.
-pub fn act(
-    alloc: Global,
-    program: &Program,
-    k: u32,
-    store: &mut Vec<i32>,
-    text: &mut Vec<u8>,
-) -> Fired
+// Stores a value, or makes the line that is written, for which there is room.
+pub fn act(program: &Program, k: u32, store: &mut Vec<i32>, text: &mut Vec<u8>) -> Fired
     requires straight { IsStraight program.now }
     requires node { k < count_before_end program.now }
     requires words { vec_len store.old ≡ length program.now.initial }
+    requires room { most_room program.now.execs ≤ vec_capacity text.old }
     ensures acted { ActedIs program.now store.old.items text.old.items k store.new.items text.new.items result }
     ensures words { vec_len store.new ≡ vec_len store.old }
+    ensures room { most_room program.now.execs ≤ vec_capacity text.new }
 {
     match &program.execs.at(k).kind {
         ExecKind::Assign { target, value, .. } => {
@@ -32,14 +27,9 @@ pub fn act(
             Fired::Moved
         }
         ExecKind::Print { items, .. } => {
-            match printed_line(alloc, items.as_slice(), &program.names, store) {
-                Ok(Some(line)) => {
-                    *text = line;
-                    Fired::Line
-                }
-                Ok(None) => Fired::Moved,
-                Err(NoMemory) => Fired::NoMemory,
-            }
+            // No item of a straight program traps.
+            let _written = write_line(text, items, &program.names, store);
+            Fired::Line
         }
         _ => Fired::Moved,
     }

@@ -16,12 +16,10 @@ pub enum PlayEnd {
     Rest(u64),
     /// The sink failed at the line of this firing, counted from 1.
     WriteFault(u64),
-    /// There was no memory for a firing.
-    NoMemory,
 }
 
 /// Fires the lowest ready node again and again, which is the source's own order, and writes the lines of output. From
-/// the opening marking on the net does what its program does.
+/// the opening marking on the net does what its program does. It takes no memory.
 pub fn follow<K: Sink>(net: &mut StraightNet<'_>, sink: &mut K) -> PlayEnd
     requires straight { IsStraight (program_of net.old) }
     requires opening { marking_of net.old ≡ opening (program_of net.old) }
@@ -41,7 +39,6 @@ pub fn follow<K: Sink>(net: &mut StraightNet<'_>, sink: &mut K) -> PlayEnd
         match step(net, k, sink) {
             Stepped::Done => made += 1,
             Stepped::WriteFault => return PlayEnd::WriteFault(made + 1),
-            Stepped::NoMemory => return PlayEnd::NoMemory,
         }
     }
     PlayEnd::Rest(made)
@@ -52,7 +49,6 @@ pub fn follow<K: Sink>(net: &mut StraightNet<'_>, sink: &mut K) -> PlayEnd
 enum Stepped {
     Done,
     WriteFault,
-    NoMemory,
 }
 
 // Fires a node, and writes its line.
@@ -71,6 +67,5 @@ fn step<K: Sink>(net: &mut StraightNet<'_>, k: u32, sink: &mut K) -> Stepped
             Ok(()) => Stepped::Done,
             Err(_) => Stepped::WriteFault,
         },
-        Fired::NoMemory => Stepped::NoMemory,
     }
 }

@@ -5,7 +5,6 @@ mod acting;
 mod following;
 mod lines;
 mod needing;
-mod printing;
 mod straight;
 mod upcoming;
 
@@ -19,6 +18,4 @@ pub enum Fired {
     Moved,
     /// A line of output was written too.
     Line,
-    /// There was no memory; the marking is as before.
-    NoMemory,
 }

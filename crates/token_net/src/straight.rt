@@ -1,5 +1,6 @@
 ghost use Rattle.std.specs.List.{list_all};
-ghost use Rattle.std.specs.Prelude.{◌≡◌, ℕ, ◌<◌, All, false, length, nat_eq, vec_len, slice_index, slice_index_or};
+ghost use Rattle.std.specs.Prelude.{◌≡◌, ℕ, ◌<◌, ◌≤◌, All, false, length, nat_eq, vec_len, vec_capacity, slice_index, slice_index_or};
+ghost use Rattle.f77_meaning.specs.Room.{most_room};
 ghost use Rattle.token_net.specs.Needs.{all_needs, all_nexts, needs_at, AreWithin, moved_to};
 
 use crate::Fired;
@@ -8,6 +9,7 @@ use crate::lines::LineList;
 use crate::needing::needs_of_nodes;
 use crate::upcoming::{Route, route_through};
 use df_sequence::NoMemory;
+use f77_meaning::longest_line;
 use f77_tree::Program;
 use std::alloc::Global;
 
@@ -24,11 +26,11 @@ pub struct StraightNet<'a> {
     text: Vec<u8>,
     // No node below is ready.
     lowest: u32,
-    alloc: Global,
     ghost needs_are: { needs.items ≡ all_needs program.now },
     ghost nexts_are: { nexts.items ≡ all_nexts 0 (all_needs program.now) },
     ghost within: { AreWithin needs.items (vec_len before) },
     ghost words: { vec_len store ≡ length program.now.initial },
+    ghost room: { most_room program.now.execs ≤ vec_capacity text },
     ghost passed: { (k : ℕ) → k < lowest → list_all (λ line. nat_eq (slice_index_or before.items line (vec_len needs)) k) (needs_at program.now k) ≡ false },
 }
 
@@ -39,7 +41,8 @@ impl<'a> StraightNet<'a> {
     ghost use Rattle.token_net.specs.Marking.{opening, ready, lowest_ready};
     ghost use Rattle.token_net.specs.StraightNet.{program_of, marking_of, text_of};
 
-    /// The net of a program with its opening marking: each line stands before the first node that needs it.
+    /// The net of a program with its opening marking: each line stands before the first node that needs it. All memory
+    /// is taken here, room for the longest line too.
     pub fn new(alloc: Global, program: &'a Program) -> Result<StraightNet<'a>, NoMemory>
         requires { IsStraight program.now }
         ensures program { IfOk result (λ net. program_of net ≡ program.now) }
@@ -49,6 +52,7 @@ impl<'a> StraightNet<'a> {
         let needs = needs_of_nodes(alloc, program)?;
         let route = route_through(alloc, &needs, program.names.len() as usize + 1)?;
         let store = Vec::from_slice(alloc, program.initial.as_slice())?;
+        let text = Vec::with_capacity(alloc, longest_line(program.execs.as_slice())?)?;
         let Route { before, nexts } = route;
         Ok(StraightNet {
             program,
@@ -56,9 +60,8 @@ impl<'a> StraightNet<'a> {
             nexts,
             before,
             store,
-            text: Vec::new(alloc),
+            text,
             lowest: 0,
-            alloc,
         })
     }
 
@@ -109,7 +112,7 @@ impl<'a> StraightNet<'a> {
     }
 
     /// Fires a node that is ready: its lines come to stand before the next nodes that need them, and it stores a value
-    /// or writes a line. After `Fired::NoMemory` the net is as before.
+    /// or writes a line. It takes no memory.
     pub fn fire(&mut self, k: u32) -> Fired
         requires straight { IsStraight (program_of self.old) }
         requires node { k < count_before_end (program_of self.old) }
@@ -117,18 +120,14 @@ impl<'a> StraightNet<'a> {
         ensures fired { FiredIs (program_of self.old) (marking_of self.old) (text_of self.old) k (marking_of self.new) (text_of self.new) result }
         ensures program { program_of self.new ≡ program_of self.old }
     {
-        match act(self.alloc, self.program, k, &mut self.store, &mut self.text) {
-            Fired::NoMemory => Fired::NoMemory,
-            done => {
-                let node = k as usize;
-                move_lines(
-                    self.needs[node].as_slice(),
-                    self.nexts[node].as_slice(),
-                    &mut self.before,
-                );
-                done
-            }
-        }
+        let done = act(self.program, k, &mut self.store, &mut self.text);
+        let node = k as usize;
+        move_lines(
+            self.needs[node].as_slice(),
+            self.nexts[node].as_slice(),
+            &mut self.before,
+        );
+        done
     }
 
     /// The line that a firing wrote last; empty before one did.

@@ -1,4 +1,4 @@
-use Rattle.std.proofs.Common.{◌≡◌, arith, sym, ◌∙◌}
+use Rattle.std.proofs.Common.{arith, sym, ◌∙◌}
 use Rattle.f77_tree.specs.Line.{item_text}
 use Rattle.f77_meaning.proofs.Lines.{line_next, line_trap, room_next}
 use Rattle.f77_meaning.proofs.line.write_line.Goals as goal

@@ -1,5 +1,5 @@
 use Rattle.std.proofs.Common.{◌≡◌, ◌+◌, drop}
-use Rattle.f77_meaning.specs.Room.{line_room}
+use Rattle.f77_tree.specs.Line.{line_room}
 use Rattle.f77_meaning.proofs.room.room_of_line.Given as goal
 
 abbrev pub invariant-loop-item : goal.invariant-loop-item

@@ -1,49 +1,11 @@
-use Rattle.std.proofs.Common.{◌≡◌, ◌≤◌, true, false, Some, None, refl, rules, sym, ◌∙◌}
-use Rattle.f77_expr.specs.Piece.{bracket_depth}
-use Rattle.f77_parse.specs.Forms.{stands_free}
-use Rattle.f77_parse.specs.KeptForms.{kept_whole, form_kept}
-use Rattle.f77_parse.proofs.StatementsKept.{as_marked, not_told, read_good, read_bad}
+use Rattle.f77_parse.proofs.StatementsKept.{accepted_of, refused_of, given_of}
 use Rattle.f77_parse.proofs.parse.parse_stmt.Goals as goal
 
-pub returns-in-Err-NoForm : goal.returns-in-Err-NoForm
-returns-in-Err-NoForm c =
-    let text = c.args.raw.now.text in
-    let m = c.marks_of-marks.result in
-    let few : bracket_depth text ≤ 60 = search rules in
-    let equals : m.has_equals ≡ stands_free 61 text = search rules in
-    let comma : m.has_comma ≡ stands_free 44 text = search rules in
-    let begun : c.new-reader.result.rest.now ≡ text = search rules in
-    let good : c.new-reader.result.is_bad ≡ false = search rules in
-    let marked = sym (as_marked m.has_equals m.has_comma c.new-reader.result.is_bad c.new-reader.result.rest.now text equals comma good begun) in
-    let none : kept_whole (form_kept m.has_equals m.has_comma c.new-reader.result.is_bad c.new-reader.result.rest.now) ≡ None = search rules in
-    (few, not_told text (marked ∙ none), refl)
+pub returns-clause-accepted : goal.returns-clause-accepted
+returns-clause-accepted c = accepted_of c.args.raw.now c.parsed.result c.parsed.ensures
 
-pub returns-then-is_bad : goal.returns-then-is_bad
-returns-then-is_bad c =
-    let text = c.args.raw.now.text in
-    let m = c.marks_of-marks.result in
-    let few : bracket_depth text ≤ 60 = search rules in
-    let equals : m.has_equals ≡ stands_free 61 text = search rules in
-    let comma : m.has_comma ≡ stands_free 44 text = search rules in
-    let begun : c.new-reader.result.rest.now ≡ text = search rules in
-    let good : c.new-reader.result.is_bad ≡ false = search rules in
-    let marked = sym (as_marked m.has_equals m.has_comma c.new-reader.result.is_bad c.new-reader.result.rest.now text equals comma good begun) in
-    let stmt = c.in-Ok.stmt in
-    let some : kept_whole (form_kept m.has_equals m.has_comma c.new-reader.result.is_bad c.new-reader.result.rest.now) ≡ Some (stmt, c.statement.new.self.is_bad, c.statement.new.self.rest.now) = search rules in
-    let bad : c.statement.new.self.is_bad ≡ true = search rules in
-    (few, read_bad text stmt c.statement.new.self.is_bad c.statement.new.self.rest.now (marked ∙ some) bad, refl)
+pub returns-clause-refused : goal.returns-clause-refused
+returns-clause-refused c = refused_of c.args.raw.now c.parsed.result c.parsed.ensures
 
-pub returns-else-is_bad : goal.returns-else-is_bad
-returns-else-is_bad c =
-    let text = c.args.raw.now.text in
-    let m = c.marks_of-marks.result in
-    let few : bracket_depth text ≤ 60 = search rules in
-    let equals : m.has_equals ≡ stands_free 61 text = search rules in
-    let comma : m.has_comma ≡ stands_free 44 text = search rules in
-    let begun : c.new-reader.result.rest.now ≡ text = search rules in
-    let good : c.new-reader.result.is_bad ≡ false = search rules in
-    let marked = sym (as_marked m.has_equals m.has_comma c.new-reader.result.is_bad c.new-reader.result.rest.now text equals comma good begun) in
-    let stmt = c.in-Ok.stmt in
-    let some : kept_whole (form_kept m.has_equals m.has_comma c.new-reader.result.is_bad c.new-reader.result.rest.now) ≡ Some (stmt, c.statement.new.self.is_bad, c.statement.new.self.rest.now) = search rules in
-    let fine : c.statement.new.self.is_bad ≡ false = search rules in
-    (few, read_good text stmt c.statement.new.self.is_bad c.statement.new.self.rest.now (marked ∙ some) fine, refl, refl)
+pub returns-clause-given : goal.returns-clause-given
+returns-clause-given c = given_of c.args.raw.now c.parsed.result c.parsed.ensures

@@ -12,7 +12,7 @@ use Rattle.f77_tree.specs.declared.expressions.Expr.{Expr, Read, Apply}
 use Rattle.f77_tree.specs.declared.programs.NameInfo.{NameInfo}
 use Rattle.f77_tree.specs.Value.{value, and_then, place, all_values, moved, subscripted, extent, dims_in, dims_of, place_in, place_of, kind_in, kind_of, read_as, word_at, read_of, IsExpression}
 use Rattle.f77_tree.proofs.ExpressionLemmas.{weights, All-at, weight, weight-Read, weight-Apply, weight-at, value-Apply, value-Read, IsExpression-access, IsExpression-arity, IsExpression-operands, arity_of-le, values_after-none, values_after-next}
-use Rattle.f77_tree.proofs.Places.{IsDim, IsAt, place-inside, name-taken, end_of, has_next, at-words, subscripted-next, subscripted-trap, subscripted-outside}
+use Rattle.f77_tree.proofs.Places.{IsOrdered, IsAt, place-inside, name-taken, count_end, has_next, at-words, subscripted-next, subscripted-trap, subscripted-outside}
 use Rattle.f77_tree.proofs.evaluation.+evaluation.Goals as goal
 
 -- ---- evaluate
@@ -118,7 +118,7 @@ pub locate-overflow_cast-word : goal.locate-overflow_cast-word
 locate-overflow_cast-word t c =
     let names = c.args.names.now in
     let taken = name-taken names c.args.access.now.name (length c.args.store.now) c.requires.places c.requires.access.known in
-    let words = at-words (dims_of names c.args.access.now.name) (place_of names c.args.access.now.name) (end_of names c.args.access.now.name) (pos 1) (pos (place_of names c.args.access.now.name)) taken.few taken.bounds taken.start in
+    let words = at-words (dims_of names c.args.access.now.name) (place_of names c.args.access.now.name) (count_end names c.args.access.now.name) (pos 1) (pos (place_of names c.args.access.now.name)) taken.few taken.bounds taken.start in
     subst (λ (n : ℕ). SFits w32 (pos n)) (ap place_in c.at-info.ensures.item) words.place_word
 
 pub locate-loop-sub-init : goal.locate-loop-sub-init
@@ -128,7 +128,7 @@ locate-loop-sub-init t c =
     let name = c.args.access.now.name in
     let access = c.requires.access in
     let taken = name-taken names name (length store) c.requires.places access.known in
-    let words = at-words (dims_of names name) (place_of names name) (end_of names name) (pos 1) (pos (place_of names name)) taken.few taken.bounds taken.start in
+    let words = at-words (dims_of names name) (place_of names name) (count_end names name) (pos 1) (pos (place_of names name)) taken.few taken.bounds taken.start in
     let dims : dims_of names name ≡ c.as_slice-dims.result.now = ap dims_in c.at-info.ensures.item ∙ sym c.as_slice-dims.ensures.items in
     let first : pos (place_of names name) ≡ pos c.at-info.result.now.place = ap (λ info. pos (place_in info)) c.at-info.ensures.item in
     let begun : to_z w32 c.at-info.result.now.place ≡ pos (place_of names name) = to_z-of_z w32 (pos c.at-info.result.now.place) (subst (SFits w32) first words.place_word) ∙ sym first in
@@ -137,9 +137,9 @@ locate-loop-sub-init t c =
       counted = refl;
       as_many = ap length subs ∙ access.as_many ∙ ap length dims;
       expressions = subst (λ (es : List Expr). All (IsExpression names) es) (sym subs) access.subscripts;
-      bounds = subst (All IsDim) dims taken.bounds;
+      bounds = subst (All IsOrdered) dims taken.bounds;
       few = taken.few;
-      here = subst (λ (ds : List Dim). IsAt ds (place_of names name) (end_of names name) (pos 1) (to_z w32 c.at-info.result.now.place)) dims (subst (λ p. IsAt (dims_of names name) (place_of names name) (end_of names name) (pos 1) p) (sym begun) taken.start);
+      here = subst (λ (ds : List Dim). IsAt ds (place_of names name) (count_end names name) (pos 1) (to_z w32 c.at-info.result.now.place)) dims (subst (λ p. IsAt (dims_of names name) (place_of names name) (count_end names name) (pos 1) p) (sym begun) taken.start);
       rest = ap (λ p. subscripted c.as_slice-dims.result.now (pos 1) p (map (value names store c.args.next) c.as_slice-sub-items.result.now)) begun ∙ ap (λ (ds : List Dim). subscripted ds (pos 1) (pos (place_of names name)) (map (value names store c.args.next) c.as_slice-sub-items.result.now)) (sym dims) ∙ ap (λ (es : List Expr). subscripted (dims_of names name) (pos 1) (pos (place_of names name)) (map (value names store c.args.next) es)) subs;
     }
 
@@ -214,9 +214,9 @@ locate-width-size-requires-clause-few t c =
     let as_many = kept.as_many in
     let test = c.loop-sub-test.true in
     let lt : k < length dims = omega (arith, counted, as_many, test) in
-    (has_next dims k (get_or dims k no_dim) (place_of names name) (end_of names name) (to_z w32 c.loop-sub.size-bits) (to_z w32 c.loop-sub.word-bits) lt (item-is dims k no_dim lt) kept.few kept.bounds kept.here).few
+    (has_next dims k (get_or dims k no_dim) (place_of names name) (count_end names name) (to_z w32 c.loop-sub.size-bits) (to_z w32 c.loop-sub.word-bits) lt (item-is dims k no_dim lt) kept.few kept.bounds kept.here).few
 
-extent-word : (dim : Dim) → IsDim dim → extent dim <ℤ pos 2147483648 → SFits w32 (extent dim)
+extent-word : (dim : Dim) → IsOrdered dim → extent dim <ℤ pos 2147483648 → SFits w32 (extent dim)
 extent-word dim is few = omega (arith, ints, is, few)
 
 width-back : (z e : ℤ) → z ≡ e → SFits w32 e → to_z w32 (of_z w32 z) ≡ e
@@ -239,9 +239,9 @@ locate-overflow_mul-size t c =
     let test = c.loop-sub-test.true in
     let lt : k < length dims = omega (arith, counted, as_many, test) in
     let shifted : moved size dim p v ≡ Ok q = search rules in
-    let next = has_next dims k dim (place_of names name) (end_of names name) size p lt (item-is dims k no_dim lt) kept.few kept.bounds kept.here in
+    let next = has_next dims k dim (place_of names name) (count_end names name) size p lt (item-is dims k no_dim lt) kept.few kept.bounds kept.here in
     let wide : SFits w32 (extent dim) = extent-word dim next.is_dim next.few in
-    let words = at-words (drop (k + 1) dims) (place_of names name) (end_of names name) (size *ℤ extent dim) q kept.few next.rest (next.goes_on v q shifted) in
+    let words = at-words (drop (k + 1) dims) (place_of names name) (count_end names name) (size *ℤ extent dim) q kept.few next.rest (next.goes_on v q shifted) in
     subst (λ e. SFits w32 (size *ℤ e)) (sym (width-back c.width-size.result (extent dim) c.width-size.ensures wide)) words.size_word
 
 pub locate-loop-sub-preserved : goal.locate-loop-sub-preserved
@@ -261,9 +261,9 @@ locate-loop-sub-preserved t c =
     let test = c.loop-sub-test.true in
     let lt : k < length dims = omega (arith, counted, as_many, test) in
     let shifted : moved size dim p v ≡ Ok q = search rules in
-    let next = has_next dims k dim (place_of names name) (end_of names name) size p lt (item-is dims k no_dim lt) kept.few kept.bounds kept.here in
+    let next = has_next dims k dim (place_of names name) (count_end names name) size p lt (item-is dims k no_dim lt) kept.few kept.bounds kept.here in
     let wide : SFits w32 (extent dim) = extent-word dim next.is_dim next.few in
-    let words = at-words (drop (k + 1) dims) (place_of names name) (end_of names name) (size *ℤ extent dim) q kept.few next.rest (next.goes_on v q shifted) in
+    let words = at-words (drop (k + 1) dims) (place_of names name) (count_end names name) (size *ℤ extent dim) q kept.few next.rest (next.goes_on v q shifted) in
     let f = value names c.args.store.now c.args.next in
     let subs = c.as_slice-sub-items.result.now in
     let sub = c.sub-item.result in

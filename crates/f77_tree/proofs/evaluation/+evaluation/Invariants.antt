@@ -2,7 +2,7 @@ use Rattle.std.proofs.Common.{◌≡◌, suc, ◌≤◌, pos, length, take, drop
 use Rattle.op_table.specs.Operators.{arity_of, applied}
 use Rattle.f77_tree.specs.Value.{value, all_values, and_then, subscripted, dims_of, place_of, IsExpression}
 use Rattle.f77_tree.proofs.ExpressionLemmas.{values_after, weight, weights}
-use Rattle.f77_tree.proofs.Places.{IsDim, IsAt, end_of}
+use Rattle.f77_tree.proofs.Places.{IsOrdered, IsAt, count_end}
 use Rattle.f77_tree.proofs.evaluation.+evaluation.Given as goal
 
 abbrev pub decreases-evaluate : goal.decreases-evaluate
@@ -27,8 +27,8 @@ invariant-locate-loop-sub l = record {
   counted : l.k ≡ l.sub-index;
   as_many : length l.sub-items ≡ length l.dims;
   expressions : All (IsExpression l.names) l.sub-items;
-  bounds : All IsDim (drop l.k l.dims);
-  few : end_of l.names l.access.name ≤ 2147483647;
-  here : IsAt (drop l.k l.dims) (place_of l.names l.access.name) (end_of l.names l.access.name) l.size l.word;
+  bounds : All IsOrdered (drop l.k l.dims);
+  few : count_end l.names l.access.name ≤ 2147483647;
+  here : IsAt (drop l.k l.dims) (place_of l.names l.access.name) (count_end l.names l.access.name) l.size l.word;
   rest : subscripted (drop l.k l.dims) l.size l.word (map (value l.names l.store l.next) (drop l.k l.sub-items)) ≡ subscripted (dims_of l.names l.access.name) (pos 1) (pos (place_of l.names l.access.name)) (map (value l.names l.store l.next) l.access.subs);
 }

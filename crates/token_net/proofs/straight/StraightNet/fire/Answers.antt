@@ -7,8 +7,8 @@ use Rattle.token_net.proofs.MoveLemmas.{still_passed, length-all_nexts, not_befo
 use Rattle.token_net.proofs.FireLemmas.{fired_from_acted, node_nexts, moved-needs}
 use Rattle.token_net.proofs.straight.StraightNet.fire.Goals as goal
 
-pub index-requires-in_default : goal.index-requires-in_default
-index-requires-in_default c =
+pub index-requires-2 : goal.index-requires-2
+index-requires-2 c =
     let net = c.args.self.now in
     let room : length net.nexts.items ≡ vec_len net.nexts = search rules in
     omega (arith, room, c.requires.node, ap (λ (all : List (List ℕ)). length all) net.nexts_are, length-all_nexts (all_needs net.program.now) 0, length-all_needs net.program.now)
@@ -19,7 +19,7 @@ move_lines-requires c =
     let p = net.program.now in
     let k = c.args.k in
     let lines = c.as_slice.result.now in
-    let nodes = c.as_slice-in_default.result.now in
+    let nodes = c.as_slice-2.result.now in
     let below : k < length net.needs.items = omega (arith, c.requires.node, ap (λ (all : List (List ℕ)). length all) net.needs_are, length-all_needs p) in
     let below_nexts : k < length net.nexts.items = omega (arith, c.requires.node, ap (λ (all : List (List ℕ)). length all) net.nexts_are, length-all_nexts (all_needs p) 0, length-all_needs p) in
     let at : lines ≡ get_or net.needs.items k lines = search rules in
@@ -31,13 +31,13 @@ move_lines-requires c =
       pairs = ap (λ (some : List ℕ). length some) go ∙ length-map (needs_at p k) (λ (line : ℕ). next_need p line (suc k)) ∙ ap (λ (some : List ℕ). length some) (sym is);
     }
 
-pub invariant_of-self-in_default : goal.invariant_of-self-in_default
-invariant_of-self-in_default c =
+pub invariant_of-self : goal.invariant_of-self
+invariant_of-self c =
     let net = c.args.self.now in
     let p = net.program.now in
     let k = c.args.k in
     let lines = c.as_slice.result.now in
-    let nodes = c.as_slice-in_default.result.now in
+    let nodes = c.as_slice-2.result.now in
     let below : k < length net.needs.items = omega (arith, c.requires.node, ap (λ (all : List (List ℕ)). length all) net.needs_are, length-all_needs p) in
     let below_nexts : k < length net.nexts.items = omega (arith, c.requires.node, ap (λ (all : List (List ℕ)). length all) net.nexts_are, length-all_nexts (all_needs p) 0, length-all_needs p) in
     let at : lines ≡ get_or net.needs.items k lines = search rules in
@@ -53,16 +53,17 @@ invariant_of-self-in_default c =
       nexts_are = net.nexts_are;
       within = subst (λ (m : ℕ). AreWithin net.needs.items m) (sym c.move_lines.ensures.lines) net.within;
       words = search rules;
+      room = c.act-done.ensures.room;
       passed = λ j early. still_passed (needs_at p j) (needs_at p k) (λ line. get_or net.before.items line n) (λ line. get_or c.move_lines.new.stands.items line n) (λ line. next_need p line (suc k)) j k (not_before j k (λ late. let e : false ≡ true = sym (net.passed k (omega (arith, early, late))) ∙ c.requires.ready in cc)) (λ line. omega arith) goes (net.passed j early);
     }
 
-pub returns-in_default-clause-fired : goal.returns-in_default-clause-fired
-returns-in_default-clause-fired c =
+pub returns-clause-fired : goal.returns-clause-fired
+returns-clause-fired c =
     let net = c.args.self.now in
     let p = net.program.now in
     let k = c.args.k in
     let lines = c.as_slice.result.now in
-    let nodes = c.as_slice-in_default.result.now in
+    let nodes = c.as_slice-2.result.now in
     let below : k < length net.needs.items = omega (arith, c.requires.node, ap (λ (all : List (List ℕ)). length all) net.needs_are, length-all_needs p) in
     let below_nexts : k < length net.nexts.items = omega (arith, c.requires.node, ap (λ (all : List (List ℕ)). length all) net.nexts_are, length-all_nexts (all_needs p) 0, length-all_needs p) in
     let at : lines ≡ get_or net.needs.items k lines = search rules in
@@ -73,4 +74,4 @@ returns-in_default-clause-fired c =
     let goes : (line : ℕ) → get_or c.move_lines.new.stands.items line n ≡ cond (is_among line (needs_at p k)) (next_need p line (suc k)) (get_or net.before.items line n) =
     λ line. c.move_lines.ensures.stands line n ∙ moved-needs p k lines nodes is go line (get_or net.before.items line n)
     in
-    fired_from_acted p (λ line. get_or net.before.items line n) (λ line. get_or c.move_lines.new.stands.items line n) net.store.items c.act.new.store.items net.text.items c.act.new.text.items k c.act.result goes (search rules) c.act.ensures.acted
+    fired_from_acted p (λ line. get_or net.before.items line n) (λ line. get_or c.move_lines.new.stands.items line n) net.store.items c.act-done.new.store.items net.text.items c.act-done.new.text.items k c.act-done.result goes c.act-done.ensures.acted

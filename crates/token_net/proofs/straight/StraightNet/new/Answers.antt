@@ -21,5 +21,6 @@ invariant_of-result c =
       nexts_are = c.in_ok-route.ensures.nexts ∙ ap (all_nexts 0) seen;
       within = subst (λ (all : List (List ℕ)). AreWithin all c.in_ok-route.route.before.len) (sym needs_are) (subst (λ (n : ℕ). AreWithin (all_needs p) n) count (all_needs-within p c.requires));
       words = search rules;
+      room = search rules;
       passed = λ k below. absurd (omega (arith, below));
     }

@@ -1,0 +1,34 @@
+-- What each job promises of the program of a text, beyond the bytes that are due.
+use Rattle.std.specs.Prelude.{◌≡◌, ◌≢◌, ◌<◌, [], ℕ, true, List, Option, Some, None}
+use Rattle.f77_tree.specs.declared.programs.Program.{Program}
+use Rattle.f77_tree.specs.Run.{EndsIn, out}
+use Rattle.dfc.specs.declared.status.Status.TheVariants.{Done}
+use Rattle.dfc.specs.declared.words.Job.{Job}
+use Rattle.dfc.specs.declared.words.Job.TheVariants.{On}
+use Rattle.dfc.specs.declared.words.Task.{Task}
+use Rattle.dfc.specs.declared.words.Task.TheVariants.{Play}
+use Rattle.dfc.specs.Due.{Due, due_on}
+use Rattle.dfc.specs.Game.{Game, game_of}
+use Rattle.dfc.specs.Reading.{Reading, Accepted, Refused, reading}
+
+-- The game comes to rest, the program's run ends after more steps than there were firings, and the text is all that the
+-- run writes.
+pub record MeansRun (p : Program) (game : Game) (due : Due) : Type 0 where
+  pub rests : (node : ℕ) → node < game.nodes → game.ready game.firings node ≢ true
+  pub steps : ℕ
+  pub more : game.firings < steps
+  pub ends : EndsIn p [] steps
+  pub done : due.status ≡ Done
+  pub output : due.text ≡ out p [] steps
+
+-- what each task promises
+abbrev pub Means : Task → Program → Due → Type 0
+Means Play p due = MeansRun p (game_of p) due
+
+abbrev pub MeansRead : Task → Reading → Type 0
+MeansRead task (Refused line code) = Unit {0}
+MeansRead task (Accepted p) = Means task p (due_on task p)
+
+abbrev pub MeansFor : Option Job → List ℕ → Type 0
+MeansFor None bytes = Unit {0}
+MeansFor (Some (On task)) bytes = MeansRead task (reading bytes)

@@ -1,0 +1,54 @@
+-- What a text is: a program, or refused. Want of memory has no place in it.
+use Rattle.std.specs.Prelude.{◌≡◌, ℕ, ◌+◌, List, length, Option, Some, None, Result, Ok, Err, nat_lt, MatchBool, if◌then◌else◌}
+use Rattle.std.specs.Io.KnownBytes.{IsAtEnd}
+use Rattle.df_io.specs.Read.{Takes, TakesAtMost}
+use Rattle.f77_tree.specs.declared.programs.Program.{Program}
+use Rattle.early_lines.specs.declared.early_end.EarlyEnd.{EarlyEnd}
+use Rattle.early_lines.specs.declared.early_end.EarlyEnd.TheVariants as end
+use Rattle.early_lines.specs.Programs as early
+use Rattle.dfc.specs.declared.reading.Code.{Code}
+use Rattle.dfc.specs.declared.reading.Code.TheVariants.{TooLong, NotYet, NoEnd}
+use Rattle.dfc.specs.declared.reading.NoProgram.{NoProgram}
+use Rattle.dfc.specs.declared.reading.NoProgram.TheVariants as none
+
+-- a program, or a code and the line that it is told at
+pub data Reading : Type 0 where
+  Accepted : (program : Program) → Reading
+  Refused : (line : ℕ) (code : Code) → Reading
+
+-- a text may have so many bytes
+abbrev pub most_bytes : ℕ
+most_bytes = 4194304
+
+-- early lines have no want of memory: their definition never comes to the last row
+abbrev pub read_early : Result Program EarlyEnd → Reading
+read_early (Ok program) = Accepted program
+read_early (Err (end.NotYet line)) = Refused line NotYet
+read_early (Err (end.NoEnd line)) = Refused line NoEnd
+read_early (Err end.NoMemory) = Refused 0 NotYet
+
+-- a text that is too long is refused before anything else
+abbrev pub reading : List ℕ → Reading
+reading bytes = if nat_lt most_bytes (length bytes) then Refused 0 TooLong else read_early (early.reading bytes)
+
+-- A text was read as what it is, or the source failed or memory ended.
+abbrev pub IsReadAs : Reading → Result Program NoProgram → Type 0
+IsReadAs read (Ok program) = read ≡ Accepted program
+IsReadAs read (Err (none.Refused line code)) = read ≡ Refused line code
+IsReadAs read (Err none.ReadFault) = Unit {0}
+IsReadAs read (Err none.NoMemory) = Unit {0}
+
+-- The source was read to its end, or to the first byte past what a text may have.
+abbrev pub IsReadWhole : Option (List ℕ) → Option (List ℕ) → Type 0
+IsReadWhole None new = Unit {0}
+IsReadWhole (Some bytes) new = MatchBool (nat_lt most_bytes (length bytes)) (Takes (Some bytes) new (most_bytes + 1)) (IsAtEnd new)
+
+abbrev pub IsReadFor : Option (List ℕ) → Option (List ℕ) → Result Program NoProgram → Type 0
+IsReadFor old new (Ok program) = IsReadWhole old new
+IsReadFor old new (Err (none.Refused line code)) = IsReadWhole old new
+IsReadFor old new (Err none.ReadFault) = Unit {0}
+IsReadFor old new (Err none.NoMemory) = Unit {0}
+
+-- In no case was the source read further than to that byte.
+abbrev pub IsReadWithin : Option (List ℕ) → Option (List ℕ) → Type 0
+IsReadWithin old new = TakesAtMost old new (most_bytes + 1)

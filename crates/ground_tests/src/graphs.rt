@@ -1,0 +1,146 @@
+//! Small graphs, with what was found for them by hand. Three of them are the flow graphs of programs.
+
+ghost use Rattle.std.specs.Prelude.{◌≡◌, ◌<◌};
+ghost use Rattle.closed_walks.specs.Graph.{edge_count};
+ghost use Rattle.closed_walks.specs.Walk.{IsStrong};
+
+use closed_walks::{Digraph, is_strong, same_class_plain};
+use cycle_equiv::edge_classes;
+use df_sequence::NoMemory;
+use std::alloc::Global;
+use std::marker::Brand;
+use std::process::Abort;
+use std::sync::ledger::{Blank, Ledger};
+use std::test::Fail;
+use step_count::Steps;
+
+// A graph of so many nodes and these edges, and the class of each edge.
+type Case = (u32, &'static [(u32, u32)], &'static [u32]);
+
+// Strongly connected graphs: loops, parallel edges, and the flow graphs of three programs.
+const STRONG: [Case; 8] = [
+    (1, &[(0, 0)], &[0]),
+    (1, &[(0, 0), (0, 0)], &[0, 1]),
+    (2, &[(0, 1), (0, 1), (1, 0)], &[0, 1, 2]),
+    (3, &[(0, 1), (1, 2), (1, 2), (2, 0)], &[0, 1, 2, 0]),
+    (3, &[(0, 1), (1, 2), (2, 0), (1, 0)], &[0, 1, 1, 2]),
+    (
+        7,
+        &[
+            (6, 0),
+            (0, 1),
+            (1, 2),
+            (2, 3),
+            (2, 4),
+            (3, 4),
+            (4, 5),
+            (5, 6),
+        ],
+        &[0, 0, 0, 1, 2, 1, 0, 0],
+    ),
+    (
+        7,
+        &[
+            (5, 0),
+            (0, 1),
+            (1, 2),
+            (2, 6),
+            (3, 4),
+            (4, 2),
+            (6, 3),
+            (6, 5),
+        ],
+        &[0, 0, 0, 1, 2, 2, 2, 0],
+    ),
+    (
+        13,
+        &[
+            (12, 0),
+            (0, 1),
+            (1, 2),
+            (2, 3),
+            (3, 4),
+            (3, 10),
+            (3, 7),
+            (4, 5),
+            (5, 6),
+            (5, 7),
+            (6, 1),
+            (7, 8),
+            (8, 9),
+            (9, 12),
+            (10, 11),
+            (11, 1),
+        ],
+        &[0, 0, 1, 1, 2, 3, 4, 2, 5, 6, 5, 0, 0, 0, 3, 3],
+    ),
+];
+
+// Graphs in which some edge lies on no closed walk, or on none with some other edge.
+const OTHERS: [Case; 3] = [
+    (1, &[], &[]),
+    (3, &[(0, 1), (1, 2), (0, 2)], &[0, 0, 0]),
+    (3, &[(0, 1), (1, 2), (2, 1), (2, 2)], &[0, 1, 1, 2]),
+];
+
+// The graph of these edges.
+fn graph_of(
+    rt: &impl Abort,
+    alloc: Global,
+    nodes: u32,
+    edges: &[(u32, u32)],
+) -> Result<Digraph, NoMemory> {
+    let mut g = Digraph::new(alloc, nodes)?;
+    for (from, to) in edges {
+        assert!(rt; *from < g.nodes() && *to < g.nodes() && g.edges() < 1000);
+        g.add_edge(alloc, *from, *to)?;
+    }
+    Ok(g)
+}
+
+// The classes of the graph's edges, counted on a ledger of their own.
+fn classes_of<L: Ledger>(alloc: Global, g: &Digraph, blank: Blank) -> Result<Vec<u32>, NoMemory>
+    requires strong { IsStrong g.now }
+    requires edge { 0 < edge_count g.now }
+    requires name { blank.name ≡ L.name }
+    requires parts { blank.parts ≡ L.parts }
+    requires some { 0 < blank.parts }
+{
+    let mut steps: Steps<L> = Steps::new(blank);
+    edge_classes(alloc, g, &mut steps)
+}
+
+// Whether two edges are cycle equivalent exactly where they have one class.
+fn are_classes(alloc: Global, g: &Digraph, classes: &[u32]) -> Result<bool, NoMemory> {
+    for a in 0..g.edges() {
+        for b in 0..g.edges() {
+            let same = classes.get(a as usize) == classes.get(b as usize);
+            if same_class_plain(alloc, g, a, b)? != same {
+                return Ok(false);
+            }
+        }
+    }
+    Ok(true)
+}
+
+#[test]
+fn edges_are_cycle_equivalent(rt: HostRuntime) -> Result<(), Fail> {
+    for (nodes, edges, classes) in OTHERS {
+        let g = graph_of(&rt, rt.alloc(), nodes, edges)?;
+        assert!(rt; !is_strong(rt.alloc(), &g)? || nodes == 1);
+        assert!(rt; are_classes(rt.alloc(), &g, classes)?, "of {edges:?}");
+    }
+    Ok(())
+}
+
+#[test]
+fn classes_are_those_known(rt: HostRuntime) -> Result<(), Fail> {
+    for (nodes, edges, want) in STRONG {
+        let g = graph_of(&rt, rt.alloc(), nodes, edges)?;
+        assert!(rt; is_strong(rt.alloc(), &g)? && g.edges() > 0);
+        let classes = classes_of::<Brand>(rt.alloc(), &g, Blank::new(1))?;
+        assert_eq!(rt; classes.as_slice(), want, "of {edges:?}");
+        assert!(rt; are_classes(rt.alloc(), &g, want)?, "of {edges:?}");
+    }
+    Ok(())
+}

@@ -1,0 +1,20 @@
+//! Tests of the crates of the language: lines, statements, expressions, programs and their values. They go over public
+//! calls alone, and stand apart because a crate that has tests is proved a second time with them.
+#![tactic(auto)]
+
+#[cfg(test)]
+mod expressions;
+#[cfg(test)]
+mod lines;
+#[cfg(test)]
+mod printing;
+#[cfg(test)]
+mod programs;
+#[cfg(test)]
+mod runs;
+#[cfg(test)]
+mod showing;
+#[cfg(test)]
+mod statements;
+#[cfg(test)]
+mod values;

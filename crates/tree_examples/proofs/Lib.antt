@@ -1,0 +1,6 @@
+mod Counts
+mod Faults
+mod Lists
+mod Looping
+mod Storage
+mod Whole
