@@ -4,6 +4,7 @@ ghost use Rattle.std.specs.Prelude.{◌≡◌, ◌<◌};
 ghost use Rattle.closed_walks.specs.Graph.{edge_count};
 ghost use Rattle.closed_walks.specs.Walk.{IsStrong};
 
+use brackets::BracketLists;
 use closed_walks::{Digraph, is_strong, same_class_plain};
 use cycle_equiv::edge_classes;
 use df_sequence::NoMemory;
@@ -142,5 +143,23 @@ fn classes_are_those_known(rt: HostRuntime) -> Result<(), Fail> {
         assert_eq!(rt; classes.as_slice(), want, "of {edges:?}");
         assert!(rt; are_classes(rt.alloc(), &g, want)?, "of {edges:?}");
     }
+    Ok(())
+}
+
+// The top of a list with one bracket, and the size of an empty one.
+fn pushed<L: Ledger>(alloc: Global, blank: Blank) -> Result<(Option<u32>, u32), NoMemory>
+    requires name { blank.name ≡ L.name }
+    requires parts { blank.parts ≡ L.parts }
+    requires some { 0 < blank.parts }
+{
+    let mut steps: Steps<L> = Steps::new(blank);
+    let mut lists = BracketLists::with_room(alloc, 3)?;
+    lists.push(0, 4, &mut steps);
+    Ok((lists.top(0, &mut steps), lists.size(1, &mut steps)))
+}
+
+#[test]
+fn brackets_stand_in_lists(rt: HostRuntime) -> Result<(), Fail> {
+    assert_eq!(rt; pushed::<Brand>(rt.alloc(), Blank::new(1))?, (Some(4), 0));
     Ok(())
 }

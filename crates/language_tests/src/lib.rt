@@ -1,4 +1,4 @@
-//! Tests of the crates of the language: lines, statements, expressions, programs and their values. They go over public
+//! Tests of the crates of the language: lines, statements, expressions, names, programs and runs. They go over public
 //! calls alone, and stand apart because a crate that has tests is proved a second time with them.
 #![tactic(auto)]
 
@@ -6,6 +6,8 @@
 mod expressions;
 #[cfg(test)]
 mod lines;
+#[cfg(test)]
+mod names;
 #[cfg(test)]
 mod printing;
 #[cfg(test)]
@@ -16,5 +18,3 @@ mod runs;
 mod showing;
 #[cfg(test)]
 mod statements;
-#[cfg(test)]
-mod values;
