@@ -1,1 +1,2 @@
+pub mod DepthFirst
 pub mod Numbering
