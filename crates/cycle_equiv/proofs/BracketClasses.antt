@@ -6,7 +6,7 @@ use Rattle.closed_walks.specs.Graph.{Graph, IsGraph, edge_count, from, to}
 use Rattle.closed_walks.specs.Walk.{IsStrong, IsCycleEquivalent, IsCut}
 use Rattle.closed_walks.proofs.Classes.{equivalent_same}
 use Rattle.closed_walks.proofs.Cuts.{class_is_cut}
-use Rattle.cycle_equiv.specs.DepthFirst.{Tree, Joins, IsChild, IsBackEdge, IsDepthFirst, IsBracket, AreToldByBrackets}
+use Rattle.cycle_equiv.specs.DepthFirst.{Tree, Joins, IsChild, IsBackEdge, IsDepthFirst, IsBracket, AreToldByBrackets, BracketsTellClasses}
 use Rattle.cycle_equiv.proofs.Changes.{xor_since, xor_first, xor_second}
 use Rattle.cycle_equiv.proofs.TreeChanges.{below, along_edge, edge_along, IsFound, cases_tree, same_at_child, changes_at_own, bracket_changes, same_without_bracket, changes_by_bracket, one_value}
 
@@ -195,3 +195,7 @@ module _ (g : Graph) (t : Tree) (tree : IsDepthFirst g t) (sound : IsGraph g) wh
     -- the brackets of the tree edges say which edges are cycle equivalent
     pub classes_by_brackets : AreToldByBrackets g t
     classes_by_brackets = record { tree_edges = tree_edges; tree_and_back = tree_and_back; back_edges = back_edges }
+
+-- the law
+pub brackets_tell_classes : BracketsTellClasses
+brackets_tell_classes g t sound strong tree = classes_by_brackets g t tree sound strong

@@ -1,13 +1,7 @@
 -- Tests that change together: at each step both are as they were, or both turn.
-use Rattle.std.proofs.Common.{◌≡◌, ◌≢◌, ◌⊎◌, ◌↔◌, Bool, true, false, refl, inl, inr}
+use Rattle.std.proofs.Common.{◌≡◌, ◌↔◌, Bool, true, false, refl}
 use Rattle.std.proofs.lemmas.Bool.{true≢false, false≢true}
 use Rattle.std.proofs.Math.Bool.{xor}
-
-pub cases_same : (a b : Bool) → (a ≡ b) ⊎ (a ≢ b)
-cases_same true true = inl refl
-cases_same true false = inr true≢false
-cases_same false true = inr false≢true
-cases_same false false = inl refl
 
 -- whether one of two tests holds changes where just one of them does
 pub xor_since : (a b c d : Bool) → (a ≡ c ↔ b ≡ d) → xor a b ≡ xor c d

@@ -41,7 +41,7 @@ module _ (g : Graph) (t : Tree) (tree : IsDepthFirst g t) where
       (below_itself (t.parent x) (tree.parent_node x child))
 
   -- a child that is below another one is below the parent of neither
-  not_nested : (a b : ℕ) → IsChild g t a → IsChild g t b → t.parent a ≡ t.parent b → a ≢ b → IsBelow t a b → ⊥
+  pub not_nested : (a b : ℕ) → IsChild g t a → IsChild g t b → t.parent a ≡ t.parent b → a ≢ b → IsBelow t a b → ⊥
   not_nested a b a_child b_child same apart below =
       let up : IsBelow t a (t.parent b) = (tree.by_parent a b a_child.node b_child apart).1 below in
       parent_above a a_child (subst (λ p. IsBelow t a p) (sym same) up)

@@ -1,8 +1,8 @@
 -- Depth-first trees of the undirected view of a graph, in which an edge may be taken from either of its ends.
 use Rattle.std.specs.Prelude.{◌≡◌, ◌≢◌, ℕ, ◌<◌, ◌≤◌, ◌⊎◌, ◌↔◌}
 use Rattle.std.proofs.Common.{min, max}
-use Rattle.closed_walks.specs.Graph.{Graph, edge_count, from, to}
-use Rattle.closed_walks.specs.Walk.{IsCycleEquivalent}
+use Rattle.closed_walks.specs.Graph.{Graph, IsGraph, edge_count, from, to}
+use Rattle.closed_walks.specs.Walk.{IsStrong, IsCycleEquivalent}
 
 -- What a depth-first walk writes down of each node.
 pub record Tree : Type 0 where
@@ -40,6 +40,7 @@ pub record IsDepthFirst (g : Graph) (t : Tree) : Type 0 where
   pub root_node : t.root < g.nodes
   pub root_first : t.preorder t.root ≡ 0
   pub root_last : (x : ℕ) → x < g.nodes → t.preorder x < t.finish t.root
+  pub in_range : (x : ℕ) → x < g.nodes → t.preorder x < g.nodes
   pub one_place : (x y : ℕ) → x < g.nodes → y < g.nodes → t.preorder x ≡ t.preorder y → x ≡ y
   pub left_later : (x : ℕ) → x < g.nodes → t.preorder x < t.finish x
   pub nested : (c x : ℕ) → c < g.nodes → x < g.nodes → IsBelow t c x → t.finish x ≤ t.finish c
@@ -71,3 +72,7 @@ pub record AreToldByBrackets (g : Graph) (t : Tree) : Type 0 where
   pub tree_edges : (c d : ℕ) → IsChild g t c → IsChild g t d → IsCycleEquivalent g (t.parent_edge c) (t.parent_edge d) ↔ ((e : ℕ) → IsBracket g t c e ↔ IsBracket g t d e)
   pub tree_and_back : (c b : ℕ) → IsChild g t c → IsBackEdge g t b → IsCycleEquivalent g (t.parent_edge c) b ↔ ((e : ℕ) → IsBracket g t c e ↔ (e ≡ b))
   pub back_edges : (a b : ℕ) → IsBackEdge g t a → IsBackEdge g t b → IsCycleEquivalent g a b ↔ (a ≡ b)
+
+-- In a strongly connected graph the brackets of any depth-first tree do so.
+abbrev pub BracketsTellClasses : Type 0
+BracketsTellClasses = (g : Graph) (t : Tree) → IsGraph g → IsStrong g → IsDepthFirst g t → AreToldByBrackets g t
