@@ -3,6 +3,7 @@ use Rattle.std.proofs.Common.{◌≡◌, ◌≢◌, ℕ, ◌<◌, ◌⊎◌, ◌
 use Rattle.std.proofs.lemmas.Bool.{cases_Bool, or_cases, or_parts, or_from, ne_eqb, eqb-true, eqb-false, false≢true, false_from_ne_true}
 use Rattle.closed_walks.specs.Graph.{Graph, IsGraph, edge_count, from, to}
 use Rattle.closed_walks.specs.Walk.{Reach, no_edge, only, either, IsStrong, IsCycleEquivalent, IsCut}
+use Rattle.closed_walks.specs.Region.{IsPair, IsInside, IsEntered}
 use Rattle.closed_walks.proofs.Reaching.{stay, join, along_last, Reach-within, IsMet, first_of, last_of, same_along}
 use Rattle.closed_walks.proofs.Decided.{reaches, Reach-reaches, reaches-Reach}
 use Rattle.closed_walks.proofs.Classes.{IsCycleEquivalent-closed, first_closed, second_closed}
@@ -45,10 +46,10 @@ module _ (g : Graph) where
   pub last_of_two : (a b u v : ℕ) → Reach g no_edge u v → MeetsOf a b no_edge (either a b) u v
   last_of_two a b u v r = met a b no_edge (either a b) u v (last_of g (either a b) no_edge (either a b) (λ e h none. h) u v r)
 
-  without_first : (a b u v : ℕ) → Reach g (either a b) u v → Reach g (only a) u v
+  pub without_first : (a b u v : ℕ) → Reach g (either a b) u v → Reach g (only a) u v
   without_first a b u v r = Reach-within g (either a b) (only a) (either_first a b) u v r
 
-  without_second : (a b u v : ℕ) → Reach g (either a b) u v → Reach g (only b) u v
+  pub without_second : (a b u v : ℕ) → Reach g (either a b) u v → Reach g (only b) u v
   without_second a b u v r = Reach-within g (either a b) (only b) (either_second a b) u v r
 
   -- without b as far as the first b
@@ -63,14 +64,6 @@ module _ (g : Graph) where
   -- the nodes that are reached from the head of a without b
   abbrev pub side : (a b : ℕ) → ℕ → Bool
   side a b p = reaches g (only b) (to g a) p
-
-  -- Of all edges a alone enters the set, and b alone leaves it.
-  pub record IsEntered (inside : ℕ → Bool) (a b : ℕ) : Type 0 where
-    pub head : inside (to g a) ≡ true
-    pub tail : inside (from g a) ≡ false
-    pub exit_tail : inside (from g b) ≡ true
-    pub exit_head : inside (to g b) ≡ false
-    pub others : (e : ℕ) → e < edge_count g → e ≢ a → e ≢ b → inside (from g e) ≡ inside (to g e)
 
   module _ (sound : IsGraph g) (strong : IsStrong g) (a b : ℕ) (a_edge : a < edge_count g) (b_edge : b < edge_count g)
       (no_way : Reach g (only b) (to g a) (from g a) → ⊥) (no_back : Reach g (only a) (to g b) (from g b) → ⊥) where
@@ -116,7 +109,7 @@ module _ (g : Graph) where
         h ∙ sym (is_outside (to g e) (λ r. not_entered e edge not_a not_b r (λ inside. false≢true (sym h ∙ is_inside (from g e) inside)))))
         (cases_Bool (side a b (from g e)))
 
-    pub entered : IsEntered (side a b) a b
+    pub entered : IsEntered g (side a b) a b
     entered = record {
       head = is_inside (to g a) (stay g (only b) (to g a) (to g a) refl);
       tail = is_outside (from g a) no_way;
@@ -134,11 +127,19 @@ module _ (g : Graph) where
 
   -- Two edges of one class are a cut: of all edges the one alone enters the nodes that are reached from its head without
   -- the other, and the other alone leaves them.
-  pub class_entered : IsGraph g → IsStrong g → (a b : ℕ) → a < edge_count g → b < edge_count g → a ≢ b → IsCycleEquivalent g a b → IsEntered (side a b) a b
+  pub class_entered : IsGraph g → IsStrong g → (a b : ℕ) → a < edge_count g → b < edge_count g → a ≢ b → IsCycleEquivalent g a b → IsEntered g (side a b) a b
   class_entered sound strong a b a_edge b_edge apart same = entered sound strong a b a_edge b_edge (first_closed g a b a_edge apart same) (second_closed g a b b_edge apart same)
 
   pub class_cut : IsGraph g → IsStrong g → (a b : ℕ) → a < edge_count g → b < edge_count g → a ≢ b → IsCycleEquivalent g a b → IsCut g (side a b) a b
   class_cut sound strong a b a_edge b_edge apart same = IsCut-entered sound strong a b a_edge b_edge (first_closed g a b a_edge apart same) (second_closed g a b b_edge apart same)
+
+  -- that set, as the nodes that lie between the two edges
+  pub class_side : IsGraph g → IsStrong g → (a b : ℕ) → IsPair g a b → (inside : ℕ → Bool) × ((node : ℕ) → (inside node ≡ true) ↔ IsInside g a b node) × IsEntered g inside a b
+  class_side sound strong a b p = (
+    side a b,
+    (λ node. (Reach-reaches g (only b) (to g a) node, reaches-Reach g (only b) sound (to g a) node)),
+    class_entered sound strong a b p.first p.second p.apart p.same,
+  )
 
   -- ---- a cut is a class, in any graph
 

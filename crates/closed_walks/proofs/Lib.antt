@@ -1,9 +1,16 @@
 pub mod Classes
 pub mod Cuts
+pub mod Cycles
 pub mod Decided
 pub mod Digraphs
+pub mod Nesting
+pub mod Orders
+pub mod Ranks
 pub mod Reaching
+pub mod Regions
 pub mod Reversals
 pub mod Searches
+pub mod Simple
+pub mod Single
 pub mod Touching
 pub mod Walks

@@ -3,6 +3,7 @@
 ghost use Rattle.std.specs.Prelude.{◌≡◌, ◌≢◌, ◌<◌, ◌↔◌, ℕ, Bool, List};
 ghost use Rattle.closed_walks.specs.Graph.{Graph, IsGraph, edge_count};
 ghost use Rattle.closed_walks.specs.Walk.{IsClosed, Holds, IsOnlyOnWalksWith, IsStrong, IsCycleEquivalent, IsCut};
+ghost use Rattle.closed_walks.specs.Cycle.{AreOnSameCycles};
 
 /// Every closed walk that holds the one edge holds the other exactly where the one lies on no closed walk of the graph
 /// without the other.
@@ -14,4 +15,10 @@ pub fn walks_without()
 /// alone join nodes of some set with nodes outside it.
 pub fn cuts_are_classes()
     ensures { (g : Graph) (a b : ℕ) → IsGraph g → IsStrong g → a < edge_count g → b < edge_count g → a ≢ b → IsCycleEquivalent g a b ↔ ((side : ℕ → Bool) × IsCut g side a b) }
+{}
+
+/// In a strongly connected graph two edges are cycle equivalent exactly where no undirected cycle has just one of them. Such a
+/// cycle may take an edge from either of its ends, but takes no edge and passes no node twice.
+pub fn cycles_are_classes()
+    ensures { (g : Graph) (a b : ℕ) → IsGraph g → IsStrong g → a < edge_count g → b < edge_count g → IsCycleEquivalent g a b ↔ AreOnSameCycles g a b }
 {}

@@ -4,10 +4,15 @@
 mod digraph;
 mod edge_list;
 mod laws;
+mod region_laws;
 mod search;
 mod strong;
 
 pub use digraph::{Digraph, EdgeEnd};
-pub use laws::{cuts_are_classes, walks_without};
+pub use laws::{cuts_are_classes, cycles_are_classes, walks_without};
+pub use region_laws::{
+    class_order, edge_ranks, passed_nodes, region_edges, regions_are_passed, regions_nest,
+    sides_of_classes,
+};
 pub use search::same_class_plain;
 pub use strong::is_strong;

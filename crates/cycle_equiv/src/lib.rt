@@ -6,7 +6,6 @@ ghost use Rattle.closed_walks.specs.Graph.{Graph, edge_count};
 ghost use Rattle.closed_walks.specs.Walk.{IsStrong, IsCycleEquivalent};
 ghost use Rattle.cycle_equiv.specs.Numbering.{IsNumbering};
 
-
 use closed_walks::{Digraph, same_class_plain};
 use df_sequence::NoMemory;
 use std::alloc::Global;

@@ -1,0 +1,71 @@
+-- Walks that pass no node twice.
+use Rattle.std.proofs.Common.{◌≡◌, ℕ, Bool, List, [], ◌∷◌, map, sym, ◌∙◌, subst, inl, inr, ⊎_elim}
+use Rattle.std.proofs.lemmas.Bool.{cases_eq}
+use Rattle.closed_walks.specs.Graph.{Graph, from, to}
+use Rattle.closed_walks.specs.Walk.{Walk, Holds, Avoids, Reach}
+use Rattle.closed_walks.specs.Cycle.{AllDiffer}
+use Rattle.closed_walks.proofs.Walks.{cases_Holds, Avoids-each, Avoids-at}
+
+module _ (g : Graph) where
+  -- the walk leaves no node twice, and ends at none that it left
+  pub record IsSimple (w : List ℕ) (v : ℕ) : Type 0 where
+    pub passes : AllDiffer (map (from g) w)
+    pub ends : Holds (map (from g) w) v → ⊥
+
+  -- a simple walk from u to v whose edges are among those of w
+  pub record IsShortened (u v : ℕ) (w : List ℕ) : Type 0 where
+    pub walk : List ℕ
+    pub leads : Walk g u walk v
+    pub simple : IsSimple walk v
+    pub within : (e : ℕ) → Holds walk e → Holds w e
+
+  IsSimple-tail : (e : ℕ) (w : List ℕ) (v : ℕ) → IsSimple (e ∷ w) v → IsSimple w v
+  IsSimple-tail e w v s = record { passes = s.passes.1; ends = λ h. s.ends (inr h) }
+
+  -- the part of a simple walk from one of its nodes on
+  part_from : (x u v : ℕ) (w : List ℕ) → Walk g x w v → IsSimple w v → Holds (map (from g) w) u → IsShortened u v w
+  part_from x u v [] leads simple holds = absurd holds
+  part_from x u v (e ∷ w) leads simple (inl same) =
+      record { walk = e ∷ w; leads = (leads.0, same, leads.2); simple = simple; within = λ f h. h }
+  part_from x u v (e ∷ w) leads simple (inr holds) =
+      let s : IsShortened u v w = part_from (to g e) u v w leads.2 (IsSimple-tail e w v simple) holds in
+      record { walk = s.walk; leads = s.leads; simple = s.simple; within = λ f h. inr (s.within f h) }
+
+  pub shorten : (u v : ℕ) (w : List ℕ) → Walk g u w v → IsShortened u v w
+  shorten u v [] leads = record { walk = []; leads = leads; simple = record { passes = tt; ends = λ h. h }; within = λ e h. h }
+  shorten u v (e ∷ w) leads =
+      let s : IsShortened (to g e) v w = shorten (to g e) v w leads.2 in
+      ⊎_elim
+      (λ (here : v ≡ u). record { walk = []; leads = sym here; simple = record { passes = tt; ends = λ h. h }; within = λ f h. absurd h })
+      (λ apart. ⊎_elim
+      (λ (again : Holds (map (from g) s.walk) u).
+      let p : IsShortened u v s.walk = part_from (to g e) u v s.walk s.leads s.simple again in
+      record { walk = p.walk; leads = p.leads; simple = p.simple; within = λ f h. inr (s.within f (p.within f h)) })
+      (λ once. record {
+        walk = e ∷ s.walk;
+        leads = (leads.0, leads.1, s.leads);
+        simple = record {
+          passes = (λ h. once (subst (λ x. Holds (map (from g) s.walk) x) leads.1 h), s.simple.passes);
+          ends = ⊎_elim (λ same. apart (sym same ∙ leads.1)) s.simple.ends;
+        };
+        within = λ f h. ⊎_elim (λ same. inl same) (λ rest. inr (s.within f rest)) h;
+      })
+      (cases_Holds (map (from g) s.walk) u))
+      (cases_eq v u)
+
+  -- A node that is reached without some edges is reached by a walk without them that passes no node twice.
+  pub record IsSimplyReached (avoided : ℕ → Bool) (u v : ℕ) : Type 0 where
+    pub walk : List ℕ
+    pub leads : Walk g u walk v
+    pub avoids : Avoids avoided walk
+    pub simple : IsSimple walk v
+
+  pub Reach-simple : (avoided : ℕ → Bool) (u v : ℕ) → Reach g avoided u v → IsSimplyReached avoided u v
+  Reach-simple avoided u v r =
+      let s : IsShortened u v r.walk = shorten u v r.walk r.leads in
+      record {
+        walk = s.walk;
+        leads = s.leads;
+        avoids = Avoids-each avoided s.walk (λ e h. Avoids-at avoided r.walk e r.avoids (s.within e h));
+        simple = s.simple;
+      }
