@@ -1,5 +1,5 @@
 -- Lists of brackets that are the same: by their names, or by the back edges in them.
-use Rattle.std.proofs.Common.{◌≡◌, ◌≢◌, ℕ, ◌+◌, ◌<◌, ◌≤◌, ◌⊎◌, ◌↔◌, List, [], ◌∷◌, length, Some, refl, sym, ap, ◌∙◌, subst, inl, inr, ⊎_elim, arith}
+use Rattle.std.proofs.Common.{◌≡◌, ◌≢◌, ℕ, ◌+◌, ◌<◌, ◌≤◌, ◌⊎◌, ◌↔◌, List, [], ◌∷◌, length, Some, refl, sym, ◌∙◌, subst, inl, inr, ⊎_elim, arith}
 use Rattle.std.proofs.lemmas.Bool.{cases_eq}
 use Rattle.closed_walks.specs.Graph.{Graph, IsGraph}
 use Rattle.closed_walks.specs.Walk.{Holds, IsStrong}
@@ -10,15 +10,7 @@ use Rattle.cycle_equiv.proofs.Ordered.{IsWithin, same_list, one_list, first_leas
 use Rattle.cycle_equiv.proofs.Held.{has_bracket, lower_node, leads_up, leads_more, leads_bracket, held_place, held_node, held_more, bracket_held, held_bracket, child_under}
 use Rattle.cycle_equiv.proofs.Upwards.{up_the_tree}
 
--- a list with a top begins with it
-pub record BeginsWith (xs : List ℕ) (b : ℕ) : Type 0 where
-  pub rest : List ℕ
-  pub parts : xs ≡ b ∷ rest
-
-pub top_begins : (xs : List ℕ) (b : ℕ) → top xs ≡ Some b → BeginsWith xs b
-top_begins [] b h = absurd cc
-top_begins (x ∷ xs) b h = let same : x ≡ b = cc in record { rest = xs; parts = ap (λ y. y ∷ xs) same }
-
+-- a list with a bracket has a top
 pub record HasTop (xs : List ℕ) : Type 0 where
   pub bracket : ℕ
   pub first : top xs ≡ Some bracket
