@@ -1,1 +1,10 @@
+pub mod BracketClasses
+pub mod Changes
+pub mod Held
+pub mod NamedClasses
 pub mod Numbers
+pub mod Ordered
+pub mod SameLists
+pub mod TreeChanges
+pub mod Trees
+pub mod Upwards

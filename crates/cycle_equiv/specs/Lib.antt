@@ -1,1 +1,3 @@
+pub mod BracketLists
+pub mod DepthFirst
 pub mod Numbering

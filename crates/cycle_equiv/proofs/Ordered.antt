@@ -1,0 +1,82 @@
+-- Lists in a strict order: one is determined by its members.
+use Rattle.std.proofs.Common.{◌≡◌, ◌≢◌, ℕ, ◌<◌, ◌≤◌, List, [], ◌∷◌, length, refl, sym, ap, ap₂, ◌∙◌, subst, inl, inr, ⊎_elim, arith}
+use Rattle.std.proofs.lemmas.Bool.{cases_eq}
+use Rattle.closed_walks.specs.Graph.{Graph}
+use Rattle.closed_walks.specs.Walk.{Holds}
+use Rattle.cycle_equiv.specs.DepthFirst.{Tree}
+use Rattle.cycle_equiv.specs.BracketLists.{place, IsOver, AreInOrder}
+
+-- the members of the one list are members of the other
+abbrev pub IsWithin : List ℕ → List ℕ → Type 0
+IsWithin xs ys = (z : ℕ) → Holds xs z → Holds ys z
+
+module _ (g : Graph) (t : Tree) where
+  pub over_apart : (b c : ℕ) → IsOver g t b c → IsOver g t c b → ⊥
+  over_apart b c first second = ⊎_elim
+      (λ (less : place g t b < place g t c). ⊎_elim
+      (λ (more : place g t c < place g t b). omega (arith, less, more))
+      (λ (same : (place g t c ≡ place g t b) × (b < c)). omega (arith, less, same.0))
+      second)
+      (λ (same : (place g t b ≡ place g t c) × (c < b)). ⊎_elim
+      (λ (more : place g t c < place g t b). omega (arith, more, same.0))
+      (λ (back : (place g t c ≡ place g t b) × (b < c)). omega (arith, same.1, back.1))
+      second)
+      first
+
+  -- a list within another one, without the first of each, or the whole within the rest
+  tails_within : (x y : ℕ) (xs ys : List ℕ) → AreInOrder g t (x ∷ xs) → IsWithin (x ∷ xs) (y ∷ ys) → x ≡ y → IsWithin xs ys
+  tails_within x y xs ys order within same z holds = ⊎_elim
+      (λ (here : y ≡ z). absurd (over_apart x z (order.0 z holds) (subst (λ v. IsOver g t v x) (same ∙ here) (subst (λ v. IsOver g t x v) (sym (same ∙ here)) (order.0 z holds)))))
+      (λ (h : Holds ys z). h)
+      (within z (inr holds))
+
+  whole_within : (x y : ℕ) (xs ys : List ℕ) → AreInOrder g t (x ∷ xs) → AreInOrder g t (y ∷ ys) → IsWithin (x ∷ xs) (y ∷ ys) → x ≢ y → IsWithin (x ∷ xs) ys
+  whole_within x y xs ys order others within apart z holds =
+      let x_later : Holds ys x = ⊎_elim (λ (same : y ≡ x). absurd (apart (sym same))) (λ (h : Holds ys x). h) (within x (inl refl)) in
+      ⊎_elim
+      (λ (here : y ≡ z). ⊎_elim
+      (λ (same : x ≡ z). absurd (apart (same ∙ sym here)))
+      (λ (h : Holds xs z). absurd (over_apart x y (subst (λ v. IsOver g t x v) (sym here) (order.0 z h)) (others.0 x x_later)))
+      holds)
+      (λ (h : Holds ys z). h)
+      (within z holds)
+
+  pub not_longer : (xs ys : List ℕ) → AreInOrder g t xs → AreInOrder g t ys → IsWithin xs ys → length xs ≤ length ys
+  not_longer [] ys order others within = omega arith
+  not_longer (x ∷ xs) [] order others within = absurd (within x (inl refl))
+  not_longer (x ∷ xs) (y ∷ ys) order others within = ⊎_elim
+      (λ (same : x ≡ y). let rest = not_longer xs ys order.1 others.1 (tails_within x y xs ys order within same) in omega (arith, rest))
+      (λ (apart : x ≢ y). let rest = not_longer (x ∷ xs) ys order others.1 (whole_within x y xs ys order others within apart) in omega (arith, rest))
+      (cases_eq x y)
+
+  pub same_list : (xs ys : List ℕ) → AreInOrder g t xs → AreInOrder g t ys → IsWithin xs ys → length xs ≡ length ys → xs ≡ ys
+  same_list [] [] order others within long = refl
+  same_list [] (y ∷ ys) order others within long = absurd (omega (arith, long))
+  same_list (x ∷ xs) [] order others within long = absurd (within x (inl refl))
+  same_list (x ∷ xs) (y ∷ ys) order others within long = ⊎_elim
+      (λ (same : x ≡ y). ap₂ (λ h r. h ∷ r) same (same_list xs ys order.1 others.1 (tails_within x y xs ys order within same) (omega (arith, long))))
+      (λ (apart : x ≢ y). let rest = not_longer (x ∷ xs) ys order others.1 (whole_within x y xs ys order others within apart) in absurd (omega (arith, rest, long)))
+      (cases_eq x y)
+
+  -- lists in order with the same members are the same
+  pub one_list : (xs ys : List ℕ) → AreInOrder g t xs → AreInOrder g t ys → IsWithin xs ys → IsWithin ys xs → xs ≡ ys
+  one_list xs ys order others within back =
+      let first = not_longer xs ys order others within in
+      let second = not_longer ys xs others order back in
+      same_list xs ys order others within (omega (arith, first, second))
+
+  -- a list in order that has one member
+  pub single : (xs : List ℕ) (b : ℕ) → AreInOrder g t xs → Holds xs b → ((z : ℕ) → Holds xs z → z ≡ b) → xs ≡ b ∷ []
+  single xs b order holds alone = one_list xs (b ∷ []) order ((λ c h. absurd h), tt)
+      (λ z h. inl (sym (alone z h)))
+      (λ z h. ⊎_elim (λ (same : b ≡ z). subst (λ v. Holds xs v) same holds) (λ none. absurd none) h)
+
+  -- the first of a list in order stands no lower than the others
+  pub first_least : (x : ℕ) (xs : List ℕ) → AreInOrder g t (x ∷ xs) → (z : ℕ) → Holds (x ∷ xs) z → place g t x ≤ place g t z
+  first_least x xs order z holds = ⊎_elim
+      (λ (same : x ≡ z). let places : place g t x ≡ place g t z = ap (λ v. place g t v) same in omega (arith, places))
+      (λ (h : Holds xs z). ⊎_elim
+      (λ (less : place g t x < place g t z). omega (arith, less))
+      (λ (same : (place g t x ≡ place g t z) × (z < x)). omega (arith, same.0))
+      (order.0 z h))
+      holds
