@@ -6,8 +6,11 @@ ghost use Rattle.closed_walks.specs.Graph.{Graph, edge_count};
 ghost use Rattle.closed_walks.specs.Walk.{IsStrong, IsCycleEquivalent};
 ghost use Rattle.cycle_equiv.specs.Numbering.{IsNumbering};
 
+mod laws;
+
 use closed_walks::{Digraph, same_class_plain};
 use df_sequence::NoMemory;
+pub use laws::{brackets_tell_classes, names_tell_classes};
 use std::alloc::Global;
 use std::sync::ledger::Ledger;
 use step_count::Steps;
