@@ -1,8 +1,10 @@
 -- Lists in a strict order: one is determined by its members.
-use Rattle.std.proofs.Common.{◌≡◌, ◌≢◌, ℕ, ◌<◌, ◌≤◌, List, [], ◌∷◌, length, refl, sym, ap, ap₂, ◌∙◌, subst, inl, inr, ⊎_elim, arith}
-use Rattle.std.proofs.lemmas.Bool.{cases_eq}
+use Rattle.std.proofs.Common.{◌≡◌, ◌≢◌, ℕ, ◌<◌, ◌≤◌, List, [], ◌∷◌, ◌++◌, length, refl, sym, ap, ap₂, ◌∙◌, subst, inl, inr, ⊎_elim, arith}
+use Rattle.std.proofs.lemmas.Bool.{cases_eq, eq-eqb, ne_eqb}
 use Rattle.closed_walks.specs.Graph.{Graph}
 use Rattle.closed_walks.specs.Walk.{Holds}
+use Rattle.closed_walks.proofs.Walks.{Holds-append}
+use Rattle.brackets.specs.Brackets.{without}
 use Rattle.cycle_equiv.specs.DepthFirst.{Tree}
 use Rattle.cycle_equiv.specs.BracketLists.{place, IsOver, AreInOrder}
 
@@ -80,3 +82,63 @@ module _ (g : Graph) (t : Tree) where
       (λ (same : (place g t x ≡ place g t z) × (z < x)). omega (arith, same.0))
       (order.0 z h))
       holds
+
+-- a list whose brackets have the same places in another tree
+pub in_order_as : (g : Graph) (s t : Tree) (xs : List ℕ) → ((b : ℕ) → Holds xs b → place g t b ≡ place g s b) → AreInOrder g s xs → AreInOrder g t xs
+in_order_as g s t [] same order = tt
+in_order_as g s t (x ∷ xs) same order = (
+  λ c holds.
+      let first = same x (inl refl) in
+      let other = same c (inr holds) in
+      ⊎_elim
+      (λ (less : place g s x < place g s c). inl (omega (arith, first, other, less)))
+      (λ (level : (place g s x ≡ place g s c) × (c < x)). inr (first ∙ level.0 ∙ sym other, level.1))
+      (order.0 c holds),
+  in_order_as g s t xs (λ b holds. same b (inr holds)) order.1,
+)
+
+-- a list without one of its members, and two lists one under the other
+module _ (g : Graph) (t : Tree) where
+  pub without_was : (xs : List ℕ) (e c : ℕ) → Holds (without xs e) c → Holds xs c
+  without_was [] e c holds = holds
+  without_was (x ∷ xs) e c holds = ⊎_elim
+      (λ (same : x ≡ e). inr (rw (eq-eqb x e same) at holds))
+      (λ (apart : x ≢ e).
+      let there : Holds (x ∷ without xs e) c = rw (ne_eqb x e apart) at holds in
+      ⊎_elim (λ here. inl here) (λ (rest : Holds (without xs e) c). inr (without_was xs e c rest)) there)
+      (cases_eq x e)
+
+  pub in_order_without : (xs : List ℕ) (e : ℕ) → AreInOrder g t xs → AreInOrder g t (without xs e)
+  in_order_without [] e order = tt
+  in_order_without (x ∷ xs) e order = ⊎_elim
+      (λ (same : x ≡ e). rw (eq-eqb x e same) order.1)
+      (λ (apart : x ≢ e). rw (ne_eqb x e apart) (λ c holds. order.0 c (without_was xs e c holds), in_order_without xs e order.1))
+      (cases_eq x e)
+
+  pub without_apart : (xs : List ℕ) (e c : ℕ) → AreInOrder g t xs → Holds (without xs e) c → c ≢ e
+  without_apart [] e c order holds = absurd holds
+  without_apart (x ∷ xs) e c order holds = ⊎_elim
+      (λ (same : x ≡ e).
+      let rest : Holds xs c = rw (eq-eqb x e same) at holds in
+      λ equal. let over = order.0 c rest in over_apart g t x c over (subst (λ n. IsOver g t n x) (same ∙ sym equal) (subst (λ n. IsOver g t x n) (equal ∙ sym same) over)))
+      (λ (apart : x ≢ e).
+      let there : Holds (x ∷ without xs e) c = rw (ne_eqb x e apart) at holds in
+      ⊎_elim (λ (here : x ≡ c). λ equal. apart (here ∙ equal)) (λ (rest : Holds (without xs e) c). without_apart xs e c order.1 rest) there)
+      (cases_eq x e)
+
+  pub without_still : (xs : List ℕ) (e c : ℕ) → Holds xs c → c ≢ e → Holds (without xs e) c
+  without_still [] e c holds apart = holds
+  without_still (x ∷ xs) e c holds apart = ⊎_elim
+      (λ (same : x ≡ e). rw (eq-eqb x e same) (⊎_elim (λ (here : x ≡ c). absurd (apart (sym here ∙ same))) (λ (rest : Holds xs c). rest) holds))
+      (λ (differs : x ≢ e). rw (ne_eqb x e differs) (⊎_elim (λ (here : x ≡ c). inl here) (λ (rest : Holds xs c). inr (without_still xs e c rest apart)) holds))
+      (cases_eq x e)
+
+  pub in_order_append : (xs ys : List ℕ) → AreInOrder g t xs → AreInOrder g t ys → ((b c : ℕ) → Holds xs b → Holds ys c → IsOver g t b c) → AreInOrder g t (xs ++ ys)
+  in_order_append [] ys first second over = second
+  in_order_append (x ∷ xs) ys first second over = (
+    λ c holds. ⊎_elim
+        (λ (h : Holds xs c). first.0 c h)
+        (λ (h : Holds ys c). over x c (inl refl) h)
+        (Holds-append xs ys c holds),
+    in_order_append xs ys first.1 second (λ b c b_holds c_holds. over b c (inr b_holds) c_holds),
+  )

@@ -1,3 +1,6 @@
 pub mod BracketLists
 pub mod DepthFirst
 pub mod Numbering
+pub mod Pending
+pub mod Reaches
+pub mod Walking
