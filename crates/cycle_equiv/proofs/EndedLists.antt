@@ -1,13 +1,16 @@
 -- The lists of brackets, where the walk is at its end.
-use Rattle.std.proofs.Common.{◌≡◌, ℕ, ◌<◌, true, List, sym, ap, ◌∙◌, subst, inl, inr, ⊎_elim, arith}
+use Rattle.std.proofs.Common.{◌≡◌, ℕ, ◌<◌, ◌≤◌, true, List, Option, Some, refl, sym, ap, ◌∙◌, subst, inl, inr, ⊎_elim, arith}
 use Rattle.closed_walks.specs.Graph.{Graph, IsGraph, edge_count, touches, from, to}
 use Rattle.closed_walks.specs.Walk.{IsStrong}
-use Rattle.cycle_equiv.specs.DepthFirst.{IsChild, IsBelow, IsDepthFirst}
-use Rattle.cycle_equiv.specs.BracketLists.{Brackets, IsBackBracket, IsCap, IsHeld, AreBracketLists}
+use Rattle.cycle_equiv.specs.DepthFirst.{Joins, IsChild, IsBackEdge, IsBelow, IsDepthFirst}
+use Rattle.cycle_equiv.specs.BracketLists.{Brackets, IsBackBracket, IsCap, IsHeld, AreBracketLists, AreNames, AreClassNames}
 use Rattle.cycle_equiv.specs.Walking.{Trail, IsTaken, IsTrail, IsCounted}
 use Rattle.cycle_equiv.specs.Reaches.{Reaches, IsUpwards, AreReaches}
-use Rattle.cycle_equiv.specs.Pending.{IsCapping, IsHeldNow, AreLeftLists}
-use Rattle.cycle_equiv.proofs.Ending.{all_found, left_or_root, walk_depth_first}
+use Rattle.cycle_equiv.specs.Pending.{IsCapping, IsHeldNow, AreLeftLists, AreNamed}
+use Rattle.std.proofs.lemmas.Bool.{cases_lt}
+use Rattle.cycle_equiv.proofs.NamedClasses.{names_tell_classes}
+use Rattle.cycle_equiv.proofs.Steps.{joins_touches}
+use Rattle.cycle_equiv.proofs.Ending.{all_found, all_taken, left_or_root, walk_depth_first}
 use Rattle.cycle_equiv.proofs.Reached.{upper_is, ends_of, upwards_back, back_upwards, highest_some, as_near, reached}
 
 module _ (g : Graph) (w : Trail) (walk : IsTrail g w w.tree.root) (counted : IsCounted g w)
@@ -112,3 +115,27 @@ module _ (g : Graph) (w : Trail) (walk : IsTrail g w w.tree.root) (counted : IsC
     );
     in_order = λ c child. lists.in_order c (left c child) child.other;
   }
+
+  -- And the names tell the classes.
+  module _ (tops : ℕ → Option ℕ) (sizes : ℕ → ℕ) (named : AreNamed g w final tops sizes) where
+    back_named : (b x z : ℕ) → x < g.nodes → IsBackEdge g w.tree b → Joins g b x z → w.tree.preorder z ≤ w.tree.preorder x → (tops b ≡ Some b) × (sizes b ≡ 1)
+    back_named b x z node back ends order = named.back_edge b x z (found x node)
+        (all_taken g w walk counted taken x b (found x node) back.edge (joins_touches g b x z ends)) ends order
+        (λ y y_found other. back.found_none y (record { node = walk.node y y_found; other = other }))
+
+    back_name : (b : ℕ) → IsBackEdge g w.tree b → (tops b ≡ Some b) × (sizes b ≡ 1)
+    back_name b back = ⊎_elim
+        (λ (up : w.tree.preorder (from g b) < w.tree.preorder (to g b)). back_named b (to g b) (from g b) (sound.ends b back.edge) back (inr (refl, refl)) (omega (arith, up)))
+        (λ (down : w.tree.preorder (to g b) ≤ w.tree.preorder (from g b)). back_named b (from g b) (to g b) (sound.begins b back.edge) back (inl (refl, refl)) down)
+        (cases_lt (w.tree.preorder (from g b)) (w.tree.preorder (to g b)))
+
+    names : AreNames g w.tree (record { second_reach = r.second; list = final }) tops sizes
+    names = record {
+      tree_top = λ c child. (named.tree_edge c (left c child) child.other).0;
+      tree_size = λ c child. (named.tree_edge c (left c child) child.other).1;
+      back_top = λ b back. (back_name b back).0;
+      back_size = λ b back. (back_name b back).1;
+    }
+
+    pub walk_names : AreClassNames g tops sizes
+    walk_names = names_tell_classes g w.tree (record { second_reach = r.second; list = final }) tops sizes sound strong tree walk_lists names

@@ -1,8 +1,11 @@
+pub mod Beginning
 pub mod BracketClasses
 pub mod Changes
+pub mod EdgeAt
 pub mod EndedLists
 pub mod Ending
 pub mod Finding
+pub mod Handshake
 pub mod Held
 pub mod Leaving
 pub mod LeftLists

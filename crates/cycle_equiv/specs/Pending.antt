@@ -1,9 +1,9 @@
 -- The lists of brackets that a depth-first walk keeps, while it isn't at its end.
-use Rattle.std.specs.Prelude.{◌≡◌, ◌≢◌, ℕ, ◌+◌, ◌<◌, ◌≤◌, ◌⊎◌, ◌↔◌, List, [], true}
+use Rattle.std.specs.Prelude.{◌≡◌, ◌≢◌, ℕ, ◌+◌, ◌<◌, ◌≤◌, ◌⊎◌, ◌↔◌, List, [], length, true, Option, Some}
 use Rattle.closed_walks.specs.Graph.{Graph, edge_count}
 use Rattle.closed_walks.specs.Walk.{Holds}
-use Rattle.cycle_equiv.specs.DepthFirst.{IsBelow}
-use Rattle.cycle_equiv.specs.BracketLists.{AreInOrder}
+use Rattle.cycle_equiv.specs.DepthFirst.{Joins, IsBelow}
+use Rattle.cycle_equiv.specs.BracketLists.{AreInOrder, top}
 use Rattle.cycle_equiv.specs.Walking.{Trail, IsTaken, IsOpen}
 use Rattle.cycle_equiv.specs.Reaches.{Reaches, IsUpwards}
 
@@ -71,3 +71,9 @@ pub record HasCap (g : Graph) (w : Trail) (r : Reaches) (y f : ℕ) : Type 0 whe
 pub record AreCaps (g : Graph) (w : Trail) (r : Reaches) (caps : ℕ → List ℕ) : Type 0 where
   pub listed : (y f : ℕ) → IsOpen w y → Holds (caps (w.tree.preorder y)) f ↔ HasCap g w r y f
   pub unused : (k f : ℕ) → w.count ≤ k → Holds (caps k) f → ⊥
+
+-- Each edge that leads nowhere further from the root, and by which no node was found, has the name of itself and one, and an
+-- edge by which a node was found that was left has the name of the node's list.
+pub record AreNamed (g : Graph) (w : Trail) (final : ℕ → List ℕ) (tops : ℕ → Option ℕ) (sizes : ℕ → ℕ) : Type 0 where
+  pub back_edge : (e x z : ℕ) → w.found x ≡ true → IsTaken g w x e → Joins g e x z → w.tree.preorder z ≤ w.tree.preorder x → ((y : ℕ) → w.found y ≡ true → y ≢ w.tree.root → w.tree.parent_edge y ≢ e) → (tops e ≡ Some e) × (sizes e ≡ 1)
+  pub tree_edge : (c : ℕ) → w.left c ≡ true → c ≢ w.tree.root → (tops (w.tree.parent_edge c) ≡ top (final c)) × (sizes (w.tree.parent_edge c) ≡ length (final c))

@@ -97,3 +97,19 @@ finding w u e v = record {
 -- The node was left for good.
 abbrev pub leaving : Trail → ℕ → Trail
 leaving w u = record { tree = w.tree; found = w.found; left = put w.left u true; taken = w.taken; count = w.count }
+
+-- The walk is at the root, and took no edge yet.
+abbrev pub beginning : ℕ → Trail
+beginning root = record {
+  tree = record { root = root; preorder = λ x. 0; finish = λ x. 1; parent = λ x. 0; parent_edge = λ x. 0 };
+  found = put (λ x. false) root true;
+  left = λ x. false;
+  taken = λ x. 0;
+  count = 1;
+}
+
+-- the node at a place
+pub record HasPlace (w : Trail) (k : ℕ) : Type 0 where
+  pub node : ℕ
+  pub found : w.found node ≡ true
+  pub exact : w.tree.preorder node ≡ k
