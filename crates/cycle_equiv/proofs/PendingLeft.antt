@@ -4,7 +4,7 @@ use Rattle.std.proofs.lemmas.Bool.{cases_eq, cases_lt, cases_Bool, false≢true}
 use Rattle.closed_walks.specs.Graph.{Graph, edge_count, touches}
 use Rattle.closed_walks.specs.Walk.{Holds}
 use Rattle.cycle_equiv.specs.DepthFirst.{Joins, IsBelow}
-use Rattle.cycle_equiv.specs.BracketLists.{place, AreInOrder}
+use Rattle.cycle_equiv.specs.BracketLists.{IsOver, place, AreInOrder}
 use Rattle.cycle_equiv.specs.Walking.{Trail, IsTaken, IsOpen, IsTrail, put, leaving}
 use Rattle.cycle_equiv.specs.Reaches.{Reaches, IsUpwards, AreReaches, highest, merging}
 use Rattle.cycle_equiv.specs.Pending.{IsCapping, LeadsUp, IsPending, IsCarried, LeadsSomewhere, AreOpenLists, AreCaps, IsHeldNow, AreLeftLists}
@@ -228,6 +228,27 @@ module _ (g : Graph) (w : Trail) (u : ℕ) (walk : IsTrail g w u) (r : Reaches) 
         )))
         (cases_eq h.low u))
         h.leads
+
+    -- the node's own capping bracket stands above all that is left
+    pub own_over : (end : ℕ) → w.found end ≡ true → w.tree.preorder end ≡ r.second u → r.second u < w.tree.preorder u → (b : ℕ) → Holds xs b → IsOver g w.tree (edge_count g + w.tree.parent_edge u) b
+    own_over end found exact above b holds =
+        let c = (kept.listed u b walk.here not_root).0 ((rest b).0 holds).0 in
+        let later = c.carrier.later in
+        let own : place g w.tree (edge_count g + w.tree.parent_edge u) ≡ w.tree.preorder u = place_leads g after (w.tree.parent u) (leave_trail g w u walk not_root taken) merged (edge_count g + w.tree.parent_edge u) u end
+        (inr (own_capping end found exact above)) in
+        let from_place = place_pending g w u walk r b c.low c.pending in
+        ⊎_elim
+        (λ (less : w.tree.preorder u < w.tree.preorder c.low). inl (omega (arith, own, from_place, less)))
+        (λ (more : w.tree.preorder c.low ≤ w.tree.preorder u). inr (
+          omega (arith, own, from_place, more, later),
+          ⊎_elim
+              (λ (back : IsUpwards g w b c.low c.pending.end). let edge = back.taken.edge in omega (arith, edge))
+              (λ (cap : IsCapping g w r b c.low c.pending.end).
+              let same : c.low ≡ u = walk.one_place c.low u (walk.left_found c.low cap.left) walk.here.found (omega (arith, more, later)) in
+              absurd (false≢true (sym walk.here.stays ∙ subst (λ n. w.left n ≡ true) same cap.left)))
+              (pending_leads g w u walk r b c.low c.pending),
+        ))
+        (cases_lt (w.tree.preorder u) (w.tree.preorder c.low))
 
     -- the node's list, where it gets no capping bracket
     pub held_without_cap : w.tree.preorder u ≤ r.second u → (b : ℕ) → Holds xs b ↔ IsHeldNow g after merged u b
