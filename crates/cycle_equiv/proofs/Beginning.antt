@@ -3,7 +3,7 @@ use Rattle.std.proofs.Common.{◌≡◌, ◌≢◌, ℕ, zero, suc, ◌+◌, ◌
 use Rattle.std.proofs.lemmas.Bool.{cases_eq, cases_lt, false≢true}
 use Rattle.closed_walks.specs.Graph.{Graph}
 use Rattle.cycle_equiv.specs.Walking.{Trail, IsTaken, IsOpen, IsTrail, IsCounted, HasPlace, unfound, put, beginning, finding}
-use Rattle.cycle_equiv.specs.Reaches.{Reaches, AreReaches}
+use Rattle.cycle_equiv.specs.TrailReaches.{Reaches, AreReaches}
 use Rattle.cycle_equiv.specs.Pending.{AreOpenLists, AreLeftLists, AreCaps}
 use Rattle.cycle_equiv.proofs.Steps.{put_same, put_other}
 use Rattle.cycle_equiv.proofs.Ending.{unfound_find}

@@ -5,7 +5,7 @@ use Rattle.closed_walks.specs.Walk.{IsStrong}
 use Rattle.cycle_equiv.specs.DepthFirst.{Joins, IsChild, IsBackEdge, IsBelow, IsDepthFirst}
 use Rattle.cycle_equiv.specs.BracketLists.{Brackets, IsBackBracket, IsCap, IsHeld, AreBracketLists, AreNames, AreClassNames}
 use Rattle.cycle_equiv.specs.Walking.{Trail, IsTaken, IsTrail, IsCounted}
-use Rattle.cycle_equiv.specs.Reaches.{Reaches, IsUpwards, AreReaches}
+use Rattle.cycle_equiv.specs.TrailReaches.{Reaches, IsUpwards, AreReaches}
 use Rattle.cycle_equiv.specs.Pending.{IsCapping, IsHeldNow, AreLeftLists, AreNamed}
 use Rattle.std.proofs.lemmas.Bool.{cases_lt}
 use Rattle.cycle_equiv.proofs.NamedClasses.{names_tell_classes}

@@ -5,7 +5,7 @@ use Rattle.closed_walks.specs.Graph.{Graph, edge_count, touches}
 use Rattle.closed_walks.specs.Walk.{Holds}
 use Rattle.cycle_equiv.specs.DepthFirst.{Joins, IsBelow}
 use Rattle.cycle_equiv.specs.Walking.{Trail, IsTaken, IsOpen, IsFoundBy, IsTrail, earlier, put, taking, finding}
-use Rattle.cycle_equiv.specs.Reaches.{Reaches, IsUpwards, IsLeftChild, highest, LeadsTo, HasChild, HasChildren, AreReaches, starting}
+use Rattle.cycle_equiv.specs.TrailReaches.{Reaches, IsUpwards, IsLeftChild, highest, LeadsTo, HasChild, HasChildren, AreReaches, starting}
 use Rattle.cycle_equiv.specs.BracketLists.{place, AreInOrder}
 use Rattle.cycle_equiv.specs.Pending.{IsCapping, LeadsUp, IsPending, IsCarried, AreOpenLists}
 use Rattle.cycle_equiv.proofs.Ordered.{in_order_as}

@@ -4,7 +4,7 @@ use Rattle.closed_walks.specs.Graph.{Graph, edge_count, touches}
 use Rattle.closed_walks.specs.Walk.{Holds}
 use Rattle.cycle_equiv.specs.DepthFirst.{Joins}
 use Rattle.cycle_equiv.specs.Walking.{Trail, IsOpen, IsTrail, earlier, finding}
-use Rattle.cycle_equiv.specs.Reaches.{Reaches, IsUpwards, AreReaches, starting}
+use Rattle.cycle_equiv.specs.TrailReaches.{Reaches, IsUpwards, AreReaches, starting}
 use Rattle.cycle_equiv.specs.Pending.{IsCapping, LeadsUp, AreCaps, IsHeldNow, AreLeftLists}
 use Rattle.cycle_equiv.proofs.Ordered.{in_order_as}
 use Rattle.cycle_equiv.proofs.Finding.{below_as, below_was, place_new, place_old, place_same, open_was, capping_still, capping_was, upwards_still, upwards_was}

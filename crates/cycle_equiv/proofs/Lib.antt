@@ -5,7 +5,6 @@ pub mod EdgeAt
 pub mod EndedLists
 pub mod Ending
 pub mod Finding
-pub mod Handshake
 pub mod Held
 pub mod Leaving
 pub mod LeftLists

@@ -6,7 +6,7 @@ use Rattle.closed_walks.specs.Walk.{Holds}
 use Rattle.cycle_equiv.specs.DepthFirst.{Joins, IsBelow}
 use Rattle.cycle_equiv.specs.BracketLists.{IsOver, place, AreInOrder}
 use Rattle.cycle_equiv.specs.Walking.{Trail, IsTaken, IsOpen, IsTrail, put, leaving}
-use Rattle.cycle_equiv.specs.Reaches.{Reaches, IsUpwards, AreReaches, highest, merging}
+use Rattle.cycle_equiv.specs.TrailReaches.{Reaches, IsUpwards, AreReaches, highest, merging}
 use Rattle.cycle_equiv.specs.Pending.{IsCapping, LeadsUp, IsPending, IsCarried, LeadsSomewhere, AreOpenLists, AreCaps, IsHeldNow, AreLeftLists}
 use Rattle.closed_walks.proofs.Walks.{Holds-left, Holds-right, Holds-append}
 use Rattle.cycle_equiv.proofs.Ordered.{in_order_append}

@@ -6,7 +6,7 @@ use Rattle.closed_walks.specs.Walk.{Holds}
 use Rattle.cycle_equiv.specs.DepthFirst.{Joins, IsBelow}
 use Rattle.cycle_equiv.specs.BracketLists.{place, IsOver, AreInOrder}
 use Rattle.cycle_equiv.specs.Walking.{Trail, IsTaken, IsOpen, IsTrail, earlier, put, taking}
-use Rattle.cycle_equiv.specs.Reaches.{Reaches, IsUpwards, reaching}
+use Rattle.cycle_equiv.specs.TrailReaches.{Reaches, IsUpwards, reaching}
 use Rattle.cycle_equiv.specs.Pending.{IsCapping, LeadsUp, IsPending, IsCarrier, IsCarried, LeadsSomewhere, AreOpenLists, AreCaps, IsHeldNow, AreLeftLists}
 use Rattle.cycle_equiv.proofs.Steps.{put_same, put_other, joins_back, joins_one, two_ends, joins_touches, earlier_less, taken_still, taken_elsewhere, taken_now, taken_here}
 use Rattle.cycle_equiv.proofs.OpenPath.{one_edge, not_taken_above}

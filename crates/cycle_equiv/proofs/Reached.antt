@@ -6,7 +6,7 @@ use Rattle.closed_walks.specs.Walk.{IsStrong}
 use Rattle.cycle_equiv.specs.DepthFirst.{Tree, Joins, IsChild, IsBackEdge, IsBelow, IsDepthFirst, upper_end, lower_end}
 use Rattle.cycle_equiv.specs.BracketLists.{LeadsAbove, IsReached}
 use Rattle.cycle_equiv.specs.Walking.{Trail, IsTaken, IsTrail, IsCounted}
-use Rattle.cycle_equiv.specs.Reaches.{Reaches, IsUpwards, IsLeftChild, highest, AreReaches}
+use Rattle.cycle_equiv.specs.TrailReaches.{Reaches, IsUpwards, IsLeftChild, highest, AreReaches}
 use Rattle.cycle_equiv.proofs.Steps.{joins_touches, joins_back, two_ends}
 use Rattle.cycle_equiv.proofs.Trees.{through, child_below, below_on}
 use Rattle.cycle_equiv.proofs.Ending.{all_found, all_taken, left_or_root, walk_depth_first}

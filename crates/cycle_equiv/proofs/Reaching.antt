@@ -4,7 +4,7 @@ use Rattle.std.proofs.lemmas.Bool.{cases_eq, cases_lt, false≢true}
 use Rattle.closed_walks.specs.Graph.{Graph}
 use Rattle.cycle_equiv.specs.DepthFirst.{IsBelow}
 use Rattle.cycle_equiv.specs.Walking.{Trail, IsOpen, IsTrail, put, leaving}
-use Rattle.cycle_equiv.specs.Reaches.{Reaches, IsUpwards, IsLeftChild, highest, HasChild, HasChildren, AreReaches, merging}
+use Rattle.cycle_equiv.specs.TrailReaches.{Reaches, IsUpwards, IsLeftChild, highest, HasChild, HasChildren, AreReaches, merging}
 use Rattle.cycle_equiv.proofs.Steps.{put_same, put_other}
 use Rattle.cycle_equiv.proofs.Leaving.{open_above, parent_open}
 

@@ -4,7 +4,7 @@ use Rattle.std.proofs.lemmas.Bool.{cases_eq, cases_lt, cases_Bool, false≢true}
 use Rattle.closed_walks.specs.Graph.{Graph, edge_count, touches}
 use Rattle.cycle_equiv.specs.DepthFirst.{Joins}
 use Rattle.cycle_equiv.specs.Walking.{Trail, IsTaken, IsOpen, IsTrail, earlier, taking}
-use Rattle.cycle_equiv.specs.Reaches.{Reaches, IsUpwards, IsLeftChild, highest, LeadsTo, HasChild, HasChildren, AreReaches, reaching}
+use Rattle.cycle_equiv.specs.TrailReaches.{Reaches, IsUpwards, IsLeftChild, highest, LeadsTo, HasChild, HasChildren, AreReaches, reaching}
 use Rattle.cycle_equiv.proofs.Steps.{put_same, put_other, joins_one, taken_still, taken_elsewhere, taken_now, taken_here}
 
 module _ (g : Graph) (w : Trail) (u : ℕ) (walk : IsTrail g w u) (r : Reaches) (reaches : AreReaches g w r)

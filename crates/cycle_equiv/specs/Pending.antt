@@ -5,7 +5,7 @@ use Rattle.closed_walks.specs.Walk.{Holds}
 use Rattle.cycle_equiv.specs.DepthFirst.{Joins, IsBelow}
 use Rattle.cycle_equiv.specs.BracketLists.{AreInOrder, top}
 use Rattle.cycle_equiv.specs.Walking.{Trail, IsTaken, IsOpen}
-use Rattle.cycle_equiv.specs.Reaches.{Reaches, IsUpwards}
+use Rattle.cycle_equiv.specs.TrailReaches.{Reaches, IsUpwards}
 
 -- The capping bracket b leads from the node `low`, which was left, to the node at its second reach.
 pub record IsCapping (g : Graph) (w : Trail) (r : Reaches) (b low end : ℕ) : Type 0 where
