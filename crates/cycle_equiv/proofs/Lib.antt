@@ -4,6 +4,7 @@ pub mod Held
 pub mod NamedClasses
 pub mod Numbers
 pub mod Ordered
+pub mod Reaches
 pub mod SameLists
 pub mod TreeChanges
 pub mod Trees

@@ -1,3 +1,4 @@
 pub mod BracketLists
 pub mod DepthFirst
 pub mod Numbering
+pub mod Reaches
