@@ -1,4 +1,4 @@
--- How near to the root the back edges of each node and its descendants lead. No public clause cites this module.
+-- How near to the root the back edges of each node and its descendants lead.
 use Rattle.std.specs.Prelude.{◌≡◌, ◌≢◌, ℕ, ◌<◌, ◌≤◌}
 use Rattle.std.proofs.Common.{min, max}
 use Rattle.closed_walks.specs.Graph.{Graph}
