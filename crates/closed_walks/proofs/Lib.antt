@@ -2,6 +2,7 @@ pub mod Classes
 pub mod Cuts
 pub mod Cycles
 pub mod Decided
+pub mod Degrees
 pub mod Digraphs
 pub mod Nesting
 pub mod Orders

@@ -1,7 +1,11 @@
 -- Walks that pass no node twice.
-use Rattle.std.proofs.Common.{◌≡◌, ℕ, Bool, List, [], ◌∷◌, map, sym, ◌∙◌, subst, inl, inr, ⊎_elim}
-use Rattle.std.proofs.lemmas.Bool.{cases_eq}
-use Rattle.closed_walks.specs.Graph.{Graph, from, to}
+use Rattle.std.proofs.Common.{◌≡◌, ℕ, ◌<◌, ◌≤◌, Bool, true, false, List, [], ◌∷◌, length, map, refl, sym, ◌∙◌, subst, inl, inr, ⊎_elim, arith}
+use Rattle.std.proofs.lemmas.Bool.{cases_eq, or_cases, ne_eqb, eqb-true, false≢true}
+use Rattle.std.proofs.lemmas.List.{length-map}
+use Rattle.std.proofs.Math.Dec.{eqb}
+use Rattle.std.specs.List.{IsDistinct, AllByRecursion, list_any}
+use Rattle.std.proofs.lemmas.Map.Steps.{length-le_from_distinct_below}
+use Rattle.closed_walks.specs.Graph.{Graph, IsGraph, from, to}
 use Rattle.closed_walks.specs.Walk.{Walk, Holds, Avoids, Reach}
 use Rattle.closed_walks.specs.Cycle.{AllDiffer}
 use Rattle.closed_walks.proofs.Walks.{cases_Holds, Avoids-each, Avoids-at}
@@ -69,3 +73,36 @@ module _ (g : Graph) where
         avoids = Avoids-each avoided s.walk (λ e h. Avoids-at avoided r.walk e r.avoids (s.within e h));
         simple = s.simple;
       }
+
+-- ---- a walk that passes no node twice is short
+
+-- numbers that differ, as the keys of a set
+apart_from : (x : ℕ) (xs : List ℕ) → (Holds xs x → ⊥) → AllByRecursion (λ y. eqb x y ≡ false) xs
+apart_from x [] none = tt
+apart_from x (y ∷ xs) none = (ne_eqb x y (λ same. none (inl (sym same))), apart_from x xs (λ h. none (inr h)))
+
+distinct : (xs : List ℕ) → AllDiffer xs → IsDistinct eqb xs
+unfolding IsDistinct
+distinct [] differ = tt
+distinct (x ∷ xs) differ = (apart_from x xs differ.0, distinct xs differ.1)
+
+found_below : (xs : List ℕ) (n : ℕ) → ((x : ℕ) → Holds xs x → x < n) → (q : ℕ) → list_any (eqb q) xs ≡ true → q < n
+found_below [] n each q found = absurd (false≢true found)
+found_below (x ∷ xs) n each q found = ⊎_elim
+    (λ (h : eqb q x ≡ true). subst (λ y. y < n) (sym (eqb-true q x h)) (each x (inl refl)))
+    (λ (h : list_any (eqb q) xs ≡ true). found_below xs n (λ y held. each y (inr held)) q h)
+    (or_cases (eqb q x) (list_any (eqb q) xs) found)
+
+module _ (g : Graph) (sound : IsGraph g) where
+  begins_below : (u v : ℕ) (w : List ℕ) → Walk g u w v → (x : ℕ) → Holds (map (from g) w) x → x < g.nodes
+  begins_below u v [] leads x held = absurd held
+  begins_below u v (e ∷ w) leads x (inl same) = subst (λ y. y < g.nodes) same (sound.begins e leads.0)
+  begins_below u v (e ∷ w) leads x (inr held) = begins_below (to g e) v w leads.2 x held
+
+  pub simple_length : (u v : ℕ) (w : List ℕ) → v < g.nodes → Walk g u w v → IsSimple g w v → length w < g.nodes
+  simple_length u v w node leads simple =
+      let few : length (v ∷ map (from g) w) ≤ g.nodes = length-le_from_distinct_below (v ∷ map (from g) w) g.nodes
+      (distinct (v ∷ map (from g) w) (simple.ends, simple.passes))
+      (found_below (v ∷ map (from g) w) g.nodes (λ x held. ⊎_elim (λ same. subst (λ y. y < g.nodes) same node) (begins_below u v w leads x) held)) in
+      let same : length (map (from g) w) ≡ length w = length-map w (from g) in
+      omega (arith, few, same)

@@ -10,11 +10,12 @@ pub mod Leaving
 pub mod LeftLists
 pub mod NamedClasses
 pub mod Numbers
-pub mod Ordered
 pub mod OpenPath
+pub mod Ordered
 pub mod PendingLeft
 pub mod PendingSteps
 pub mod Reached
+pub mod Reaches
 pub mod Reaching
 pub mod ReachingSteps
 pub mod SameLists

