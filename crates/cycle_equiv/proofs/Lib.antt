@@ -15,7 +15,6 @@ pub mod Ordered
 pub mod PendingLeft
 pub mod PendingSteps
 pub mod Reached
-pub mod Reaches
 pub mod Reaching
 pub mod ReachingSteps
 pub mod SameLists
