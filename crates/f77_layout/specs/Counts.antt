@@ -1,0 +1,24 @@
+-- How much a program and each of its statements may ask.
+use Rattle.std.specs.Prelude.{ℕ, ◌+◌, Bool, ◌||◌, nat_lt, List, length, sum_by}
+use Rattle.f77_tree.specs.declared.statements.Labelled.{Labelled}
+use Rattle.f77_tree.specs.declared.statements.Stmt.{Stmt, more_of-Stmt}
+use Rattle.f77_tree.specs.declared.statements.Stmt.TheVariants.{Take, PickGoTo, ThenIf'}
+use Rattle.f77_tree.specs.declared.programs.NameInfo.{NameInfo}
+use Rattle.f77_tree.specs.Operations.{statement_operations}
+use Rattle.f77_layout.specs.Executables.{executables_at}
+
+-- the labels of a computed GO TO
+abbrev pub labels_picked : Stmt → ℕ
+labels_picked (PickGoTo labels index) = length labels
+labels_picked (ThenIf' condition shape (more_of-Stmt stmt rest)) = labels_picked stmt
+labels_picked _ = 0
+
+-- the items of READ
+abbrev pub items_taken : Stmt → ℕ
+items_taken (Take targets) = length targets
+items_taken (ThenIf' condition shape (more_of-Stmt stmt rest)) = items_taken stmt
+items_taken _ = 0
+
+-- more than 500 operations, or more than 4,000 labels in computed GO TO or items of READ up to and with the statement
+abbrev pub asks_too_much : List NameInfo → (checked : Bool) → (whole above : List Labelled) → Labelled → Bool
+asks_too_much names checked whole above s = nat_lt 500 (statement_operations (executables_at names checked whole (length above) s)) || nat_lt 4000 (sum_by (λ a. labels_picked a.stmt) above + labels_picked s.stmt) || nat_lt 4000 (sum_by (λ a. items_taken a.stmt) above + items_taken s.stmt)

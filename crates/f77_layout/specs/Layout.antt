@@ -1,0 +1,107 @@
+-- The program that statements make, or the first refusal.
+use Rattle.std.specs.Prelude.{ℕ, ◌+◌, ◌-◌, Bool, nat_lt, if◌then◌else◌, List, [], ◌∷◌, length, map, filter, Option, Some, None, slice_get}
+use Rattle.std.specs.List.{range_with_len}
+use Rattle.f77_tree.specs.declared.programs.NameInfo.{NameInfo}
+use Rattle.f77_tree.specs.declared.programs.Program.{Program}
+use Rattle.f77_tree.specs.declared.statements.Labelled.{Labelled}
+use Rattle.f77_tree.specs.InitialWords.{initial_word}
+use Rattle.f77_layout.specs.declared.layout_end.LayoutEnd.{LayoutEnd}
+use Rattle.f77_layout.specs.declared.layout_end.LayoutEnd.TheVariants.{OutOfOrder, RealName, TypeWrong, LayoutWrong, LabelTwice, LabelMissing, BadNesting, JumpInto, TooManyWords, TooManyOps}
+use Rattle.f77_layout.specs.Faults.{first_line, first_answer}
+use Rattle.f77_layout.specs.Declarations.{kind_of, dims_of, all_commons, all_groups, all_inits}
+use Rattle.f77_layout.specs.Appearances.{all_names, has_real_name}
+use Rattle.f77_layout.specs.Order.{is_out_of_order}
+use Rattle.f77_layout.specs.TypeFaults.{has_wrong_type}
+use Rattle.f77_layout.specs.Storage.{Spot, equations, spots_by, place_of, words_in_all}
+use Rattle.f77_layout.specs.StorageFaults.{has_wrong_storage}
+use Rattle.f77_layout.specs.Labels.{is_labelled_twice, lacks_label}
+use Rattle.f77_layout.specs.Nesting.{first_unnested}
+use Rattle.f77_layout.specs.Jumps.{jumps_into}
+use Rattle.f77_layout.specs.Executables.{executables, kind_or_integer, is_do}
+use Rattle.f77_layout.specs.Counts.{asks_too_much}
+
+-- ---- the table of names
+
+-- a name with what the declarations say of it
+abbrev pub name_info : List Labelled → List ℕ → NameInfo
+name_info stmts name = record { name = name; kind = kind_or_integer (kind_of stmts name); dims = dims_of stmts name; place = 0 }
+
+-- the names in the order in which they first appear; their places aren't known yet
+abbrev pub names_of : List Labelled → List NameInfo
+names_of stmts = map (name_info stmts) (all_names stmts)
+
+-- the places that the declarations give to the names
+abbrev pub spots_of : List Labelled → List Spot
+spots_of stmts = spots_by (length (names_of stmts)) (equations (names_of stmts) (all_commons stmts) (all_groups stmts))
+
+abbrev pub placed_from : (names : List NameInfo) → List Spot → ℕ → List NameInfo → List NameInfo
+placed_from names spots k [] = []
+placed_from names spots k (info ∷ rest) = record info { place = place_of names spots k } ∷ placed_from names spots (k + 1) rest
+
+-- the names with their places
+abbrev pub placed_names : List Labelled → List NameInfo
+placed_names stmts = placed_from (names_of stmts) (spots_of stmts) 0 (names_of stmts)
+
+abbrev pub word_count : List Labelled → ℕ
+word_count stmts = words_in_all (names_of stmts) (spots_of stmts)
+
+-- ---- refusals
+
+-- the line of END
+abbrev pub line_or_none : Option Labelled → ℕ
+line_or_none None = 0
+line_or_none (Some s) = s.line
+
+abbrev pub last_line : List Labelled → ℕ
+last_line stmts = line_or_none (slice_get stmts (length stmts - 1))
+
+abbrev pub line_of_words : List Labelled → Option ℕ
+line_of_words stmts = if nat_lt 262144 (word_count stmts) then Some (last_line stmts) else None
+
+abbrev pub at_line : (ℕ → LayoutEnd) → Option ℕ → Option LayoutEnd
+at_line refusal None = None
+at_line refusal (Some line) = Some (refusal line)
+
+-- the refusals in order, each with the lowest line that has its fault
+abbrev pub refusals : List Labelled → (checked : Bool) → List (Option LayoutEnd)
+refusals stmts checked =
+    at_line OutOfOrder (first_line is_out_of_order stmts) ∷
+    at_line RealName (first_line (has_real_name stmts) stmts) ∷
+    at_line TypeWrong (first_line (has_wrong_type (names_of stmts)) stmts) ∷
+    at_line LayoutWrong (first_line (has_wrong_storage (names_of stmts) (placed_names stmts) stmts) stmts) ∷
+    at_line LabelTwice (first_line is_labelled_twice stmts) ∷
+    at_line LabelMissing (first_line (lacks_label stmts) stmts) ∷
+    at_line BadNesting (first_unnested [] stmts) ∷
+    at_line JumpInto (first_line (jumps_into stmts) stmts) ∷
+    at_line TooManyWords (line_of_words stmts) ∷
+    at_line TooManyOps (first_line (asks_too_much (names_of stmts) checked stmts) stmts) ∷ []
+
+-- the refusal, if there is one
+abbrev pub refusal : List Labelled → (checked : Bool) → Option LayoutEnd
+refusal stmts checked = first_answer (λ r. r) (refusals stmts checked)
+
+-- ---- the program
+
+abbrev pub program : List Labelled → (checked : Bool) → Program
+program stmts checked = record {
+  names = placed_names stmts;
+  words = word_count stmts;
+  initial = map (initial_word (placed_names stmts) (all_inits stmts)) (range_with_len 0 (word_count stmts));
+  commons = all_commons stmts;
+  groups = all_groups stmts;
+  inits = all_inits stmts;
+  execs = executables (names_of stmts) checked stmts;
+  loops = length (filter (λ s. is_do s.stmt) stmts);
+}
+
+pub data Layout : Type 0 where
+  Laid : Program → Layout
+  Refused : LayoutEnd → Layout
+
+abbrev pub laid_unless : Option LayoutEnd → Program → Layout
+laid_unless None p = Laid p
+laid_unless (Some end) p = Refused end
+
+-- what the statements are: a program, or the first refusal
+abbrev pub layout : List Labelled → (checked : Bool) → Layout
+layout stmts checked = laid_unless (refusal stmts checked) (program stmts checked)

@@ -1,0 +1,16 @@
+pub mod Appearances
+pub mod Counts
+pub mod Declarations
+pub mod Executables
+pub mod Faults
+pub mod Jumps
+pub mod Labels
+pub mod Layout
+pub mod Nesting
+pub mod Order
+pub mod Resolved
+pub mod Source
+pub mod Storage
+pub mod StorageFaults
+pub mod TypeFaults
+pub mod Types
