@@ -1,11 +1,17 @@
 -- The k-th edge of a node is the one with k edges of lower numbers at the node.
-use Rattle.std.proofs.Common.{◌≡◌, ℕ, zero, suc, ◌<◌, ◌≤◌, true, false, if◌then◌else◌, [], ◌∷◌, length, get_or, slice_get, Some, None, refl, sym, ◌∙◌, subst, ⊎_elim, arith, length-append}
+use Rattle.std.proofs.Common.{◌≡◌, ℕ, Bool, zero, suc, ◌<◌, ◌≤◌, true, false, if◌then◌else◌, [], ◌∷◌, length, get_or, slice_get, Option, Some, None, refl, sym, ◌∙◌, subst, ⊎_elim, arith, length-append}
 use Rattle.std.proofs.lemmas.Bool.{cases_lt, cases_Bool}
 use Rattle.std.proofs.lemmas.List.{get_or_append_left, get_or_push}
 use Rattle.std.proofs.lemmas.Option.{slice_get_within, get_or_from_slice_get, slice_get-get_or}
 use Rattle.closed_walks.specs.Graph.{Graph, edge_count, touches, touching_below, edges_at}
+use Rattle.closed_walks.specs.EdgeEnd.{edge_end}
+use Rattle.closed_walks.specs.declared.digraph.EdgeEnd.TheVariants.{Edge, NoMore}
 use Rattle.cycle_equiv.specs.Walking.{earlier}
 use Rattle.cycle_equiv.proofs.Steps.{earlier_less}
+
+length_if : (b : Bool) (k : ℕ) → length (if b then k ∷ [] else []) ≤ 1
+length_if true k = omega arith
+length_if false k = omega arith
 
 pub record IsEdgeAt (g : Graph) (x k e n : ℕ) : Type 0 where
   pub edge : e < n
@@ -51,3 +57,21 @@ module _ (g : Graph) (x : ℕ) where
       absurd (let both : Some (get_or (edges_at g x) k 0) ≡ None = sym some ∙ none in cc))
       (λ (past : length (edges_at g x) ≤ k). omega (arith, less, past))
       (cases_lt k (length (edges_at g x)))
+
+-- fewer edges stand before an edge than its number
+pub earlier_few : (g : Graph) (x e : ℕ) → earlier g x e ≤ e
+earlier_few g x zero = omega arith
+earlier_few g x (suc e) =
+    let rest = earlier_few g x e in
+    let long = length-append (touching_below g x e) (if touches g x e then e ∷ [] else []) in
+    let one = length_if (touches g x e) e in
+    omega (arith, rest, long, one)
+
+-- what an answer says
+pub answered_edge : (o : Option ℕ) (e : ℕ) → Edge e ≡ edge_end o → o ≡ Some e
+answered_edge None e same = absurd cc
+answered_edge (Some d) e same = cc
+
+pub answered_none : (o : Option ℕ) → NoMore ≡ edge_end o → o ≡ None
+answered_none None same = refl
+answered_none (Some d) same = absurd cc

@@ -7,7 +7,9 @@ use Rattle.cycle_equiv.specs.Walking.{Trail, IsOpen, IsTrail, earlier, finding}
 use Rattle.cycle_equiv.specs.TrailReaches.{Reaches, IsUpwards, AreReaches, starting}
 use Rattle.cycle_equiv.specs.Pending.{IsCapping, LeadsUp, AreCaps, IsHeldNow, AreLeftLists}
 use Rattle.cycle_equiv.proofs.Ordered.{in_order_as}
-use Rattle.cycle_equiv.proofs.Finding.{below_as, below_was, place_new, place_old, place_same, open_was, capping_still, capping_was, upwards_still, upwards_was}
+use Rattle.cycle_equiv.proofs.Finding.{below_as, below_was, place_new, place_old, open_was}
+use Rattle.cycle_equiv.proofs.FindingLists.{place_same, capping_still, capping_was}
+use Rattle.cycle_equiv.proofs.FindingReaches.{upwards_still, upwards_was}
 
 module _ (g : Graph) (w : Trail) (u : ℕ) (walk : IsTrail g w u) (e v : ℕ) (edge : e < edge_count g) (touched : touches g u e ≡ true)
     (next : earlier g u e ≡ w.taken u) (ends : Joins g e u v) (node : v < g.nodes) (hidden : w.found v ≡ false) (r : Reaches) (reaches : AreReaches g w r) where

@@ -1,6 +1,11 @@
 pub mod BracketLists
+pub mod CapLists
 pub mod DepthFirst
+pub mod Names
 pub mod Numbering
 pub mod Pending
 pub mod TrailReaches
+pub mod WalkState
+pub mod WalkSteps
+pub mod WalkTables
 pub mod Walking

@@ -18,8 +18,9 @@ use step_count::Steps;
 // A graph of so many nodes and these edges, and the class of each edge.
 type Case = (u32, &'static [(u32, u32)], &'static [u32]);
 
-// Strongly connected graphs: loops, parallel edges, and the flow graphs of three programs.
-const STRONG: [Case; 8] = [
+// Strongly connected graphs: loops, parallel edges, the flow graphs of three programs, and graphs on which a walk with one
+// fault gives other classes.
+const STRONG: [Case; 15] = [
     (1, &[(0, 0)], &[0]),
     (1, &[(0, 0), (0, 0)], &[0, 1]),
     (2, &[(0, 1), (0, 1), (1, 0)], &[0, 1, 2]),
@@ -75,6 +76,40 @@ const STRONG: [Case; 8] = [
         ],
         &[0, 0, 1, 1, 2, 3, 4, 2, 5, 6, 5, 0, 0, 0, 3, 3],
     ),
+    // no capping bracket
+    (
+        4,
+        &[(2, 1), (0, 1), (3, 2), (1, 3), (1, 0), (2, 0)],
+        &[0, 1, 2, 2, 3, 4],
+    ),
+    // a capping bracket that ends at the highest reach, or never
+    (
+        5,
+        &[(3, 2), (1, 4), (4, 3), (1, 2), (2, 0), (0, 1)],
+        &[0, 0, 0, 1, 2, 2],
+    ),
+    // a capping bracket at the bottom of its list
+    (
+        4,
+        &[(0, 1), (3, 1), (1, 3), (1, 3), (2, 1), (0, 2), (3, 0)],
+        &[0, 1, 2, 3, 4, 4, 5],
+    ),
+    // the list of a later child on top of an earlier one's
+    (
+        3,
+        &[(0, 1), (1, 0), (1, 2), (1, 2), (2, 0)],
+        &[0, 1, 2, 3, 4],
+    ),
+    // a node's own brackets under those of its children
+    (
+        3,
+        &[(2, 0), (1, 2), (1, 0), (0, 1), (0, 2)],
+        &[0, 1, 2, 3, 4],
+    ),
+    // a bracket that doesn't end
+    (3, &[(0, 1), (1, 2), (2, 0), (2, 1)], &[0, 1, 0, 2]),
+    // names without the length of the list
+    (2, &[(1, 0), (0, 1), (1, 0)], &[0, 1, 2]),
 ];
 
 // Graphs in which some edge lies on no closed walk, or on none with some other edge.

@@ -10,7 +10,7 @@ use std::test::Fail;
 // is shown; and the call at which the sink fails. Then how it ends, and what was written.
 type Case = (&'static [u32], u32, u64, Show, u32, PlayEnd, &'static str);
 
-const CASES: [Case; 14] = [
+const CASES: [Case; 10] = [
     // Picks choose among the ready nodes.
     (
         &[0],
@@ -20,15 +20,6 @@ const CASES: [Case; 14] = [
         99,
         PlayEnd::Rest(6),
         "0 ACT 5\n0 ACT 5\n1 OP 5 1\n1 OP 5 1\n2 MERGE 6 2\n2 MERGE 6 2\n",
-    ),
-    (
-        &[2, 0, 1],
-        5,
-        99,
-        Show::Nodes,
-        99,
-        PlayEnd::Rest(6),
-        "0 ACT 5\n0 ACT 5\n2 MERGE 6 2\n1 OP 5 1\n1 OP 5 1\n2 MERGE 6 2\n",
     ),
     (
         &[5, 4],
@@ -69,19 +60,8 @@ const CASES: [Case; 14] = [
         PlayEnd::Trapped(Trap::Overflow, 12),
         "0 ACT 5\n2 MERGE 6 2\n1 OP 5 1\n0 ACT 5\n3 SWITCH 7 3\n",
     ),
-    // A rest and a trap come before the limit.
-    (&[0], 5, 0, Show::Nodes, 99, PlayEnd::Limit, ""),
+    // The limit is reached.
     (&[0], 5, 5, Show::Nothing, 99, PlayEnd::Limit, ""),
-    (&[0], 5, 6, Show::Nothing, 99, PlayEnd::Rest(6), ""),
-    (
-        &[],
-        1,
-        5,
-        Show::Nothing,
-        99,
-        PlayEnd::Trapped(Trap::Overflow, 12),
-        "",
-    ),
     (&[], 1, 4, Show::Nothing, 99, PlayEnd::Limit, ""),
     // A sink fails.
     (&[0], 5, 99, Show::Output, 1, PlayEnd::WriteFault(6), "A\n"),
@@ -114,21 +94,5 @@ fn runs_end_and_write_as_due(rt: HostRuntime) -> Result<(), Fail> {
         assert_eq!(rt; end, case.5, "of {:?}", case.0);
         assert_eq!(rt; sink.written(), case.6.as_bytes(), "of {:?}", case.0);
     }
-    Ok(())
-}
-
-// After a firing of another node than the one due, the lowest ready node is due.
-#[test]
-fn a_lost_order_goes_on(rt: HostRuntime) -> Result<(), Fail> {
-    let mut counters = Counters::new(rt.alloc(), 2, 5)?;
-    let mut sink = MemSink::new(rt.alloc(), 100, &[], 1)?;
-    let end = play(&mut counters, &[1], 2, Show::Nothing, &mut sink);
-    assert_eq!(rt; end, PlayEnd::Limit);
-    let end = follow(&mut counters, 99, Show::Nodes, &mut sink);
-    assert_eq!(rt; end, PlayEnd::Rest(4));
-    assert_eq!(rt;
-        sink.written(),
-        b"0 ACT 5\n1 OP 5 1\n2 MERGE 6 2\n2 MERGE 6 2\n".as_slice()
-    );
     Ok(())
 }

@@ -1,164 +1,247 @@
 //! Worked values of operators, and of what can trap.
-use op_table::{Op, Trap, apply, arity, do_count, fold, may_trap};
+use op_table::{Op, apply, arity, do_count, fold, may_trap};
+use std::alloc::{AllocError, Global};
+use std::process::Abort;
+use std::test::Fail;
 
-// Operators, their operands, and the value or the trap.
-const VALUES: [(Op, &[i32], Result<i32, Trap>); 89] = [
-    (Op::Add, &[2, 3], Ok(5)),
-    (Op::Add, &[i32::MAX, 1], Ok(i32::MIN)),
-    (Op::Sub, &[2, 3], Ok(-1)),
-    (Op::Sub, &[i32::MIN, 1], Ok(i32::MAX)),
-    (Op::Mul, &[-4, 5], Ok(-20)),
-    (Op::Mul, &[46341, 46341], Ok(-2147479015)),
-    (Op::Div, &[-7, 2], Ok(-3)),
-    (Op::Div, &[7, -2], Ok(-3)),
-    (Op::Div, &[i32::MIN, -1], Ok(i32::MIN)),
-    (Op::Div, &[5, 0], Err(Trap::Divide)),
-    (Op::Pow, &[-3, 3], Ok(-27)),
-    (Op::Pow, &[0, 0], Ok(1)),
-    (Op::Pow, &[2, 31], Ok(i32::MIN)),
-    (Op::Pow, &[2, 32], Ok(0)),
-    (Op::Pow, &[2, i32::MAX], Ok(0)),
-    (Op::Pow, &[3, i32::MAX], Ok(-1431655765)),
-    (Op::Pow, &[-1, -3], Ok(-1)),
-    (Op::Pow, &[-1, i32::MIN], Ok(1)),
-    (Op::Pow, &[1, -9], Ok(1)),
-    (Op::Pow, &[7, -2], Ok(0)),
-    (Op::Pow, &[0, -1], Err(Trap::Divide)),
-    (Op::Neg, &[5], Ok(-5)),
-    (Op::Neg, &[i32::MIN], Ok(i32::MIN)),
-    (Op::Lt, &[-1, 0], Ok(1)),
-    (Op::Lt, &[0, 0], Ok(0)),
-    (Op::Le, &[0, 0], Ok(1)),
-    (Op::Le, &[1, 0], Ok(0)),
-    (Op::Eq, &[4, 4], Ok(1)),
-    (Op::Eq, &[4, -4], Ok(0)),
-    (Op::Ne, &[4, -4], Ok(1)),
-    (Op::Ne, &[4, 4], Ok(0)),
-    (Op::Ge, &[3, 3], Ok(1)),
-    (Op::Ge, &[2, 3], Ok(0)),
-    (Op::Gt, &[i32::MAX, i32::MIN], Ok(1)),
-    (Op::Gt, &[3, 3], Ok(0)),
-    (Op::Not, &[0], Ok(1)),
-    (Op::Not, &[-5], Ok(0)),
-    (Op::And, &[2, 4], Ok(1)),
-    (Op::And, &[0, 4], Ok(0)),
-    (Op::Or, &[0, 4], Ok(1)),
-    (Op::Or, &[0, 0], Ok(0)),
-    (Op::Eqv, &[2, 4], Ok(1)),
-    (Op::Eqv, &[0, 4], Ok(0)),
-    (Op::Neqv, &[0, 4], Ok(1)),
-    (Op::Neqv, &[2, 4], Ok(0)),
-    (Op::Mod, &[-7, 3], Ok(-1)),
-    (Op::Mod, &[7, -3], Ok(1)),
-    (Op::Mod, &[i32::MIN, -1], Ok(0)),
-    (Op::Mod, &[1, 0], Err(Trap::Divide)),
-    (Op::Abs, &[-5], Ok(5)),
-    (Op::Abs, &[i32::MIN], Ok(i32::MIN)),
-    (Op::Sign, &[-5, 0], Ok(5)),
-    (Op::Sign, &[5, -1], Ok(-5)),
-    (Op::Sign, &[i32::MIN, -1], Ok(i32::MIN)),
-    (Op::Max, &[3, -4], Ok(3)),
-    (Op::Min, &[3, -4], Ok(-4)),
-    (Op::Truth, &[-7], Ok(1)),
-    (Op::Truth, &[0], Ok(0)),
-    (Op::Bound, &[5, 2, 9], Ok(3)),
-    (Op::Bound, &[i32::MAX, i32::MIN, i32::MAX], Ok(-1)),
-    (Op::Bound, &[1, 2, 9], Err(Trap::Subscript)),
-    (Op::Bound, &[10, 2, 9], Err(Trap::Subscript)),
-    (Op::Place, &[100, -3, 7], Ok(79)),
-    (Op::Three, &[-8], Ok(0)),
-    (Op::Three, &[0], Ok(1)),
-    (Op::Three, &[8], Ok(2)),
-    (Op::Pick, &[1, 3], Ok(0)),
-    (Op::Pick, &[3, 3], Ok(2)),
-    (Op::Pick, &[4, 3], Ok(3)),
-    (Op::Pick, &[0, 3], Ok(3)),
-    (Op::Step, &[-2], Ok(-2)),
-    (Op::Step, &[0], Err(Trap::Step)),
-    (Op::AddChecked, &[i32::MAX, -1], Ok(2147483646)),
-    (Op::AddChecked, &[i32::MAX, 1], Err(Trap::Overflow)),
-    (Op::SubChecked, &[-1, i32::MAX], Ok(i32::MIN)),
-    (Op::SubChecked, &[0, i32::MIN], Err(Trap::Overflow)),
-    (Op::MulChecked, &[46340, 46340], Ok(2147395600)),
-    (Op::MulChecked, &[46341, 46341], Err(Trap::Overflow)),
-    (Op::NegChecked, &[i32::MAX], Ok(-i32::MAX)),
-    (Op::NegChecked, &[i32::MIN], Err(Trap::Overflow)),
-    (Op::AbsChecked, &[-5], Ok(5)),
-    (Op::AbsChecked, &[i32::MIN], Err(Trap::Overflow)),
-    (Op::PowChecked, &[-2, 31], Ok(i32::MIN)),
-    (Op::PowChecked, &[2, 31], Err(Trap::Overflow)),
-    (Op::PowChecked, &[3, i32::MAX], Err(Trap::Overflow)),
-    (Op::PowChecked, &[-1, i32::MAX], Ok(-1)),
-    (Op::PowChecked, &[0, 0], Ok(1)),
-    (Op::PowChecked, &[-1, -3], Ok(-1)),
-    (Op::PowChecked, &[0, -1], Err(Trap::Divide)),
+const OPERATORS: [Op; 34] = [
+    Op::Add,
+    Op::Sub,
+    Op::Mul,
+    Op::Div,
+    Op::Pow,
+    Op::Neg,
+    Op::Lt,
+    Op::Le,
+    Op::Eq,
+    Op::Ne,
+    Op::Ge,
+    Op::Gt,
+    Op::Not,
+    Op::And,
+    Op::Or,
+    Op::Eqv,
+    Op::Neqv,
+    Op::Mod,
+    Op::Abs,
+    Op::Sign,
+    Op::Max,
+    Op::Min,
+    Op::Truth,
+    Op::Bound,
+    Op::Place,
+    Op::Three,
+    Op::Pick,
+    Op::Step,
+    Op::AddChecked,
+    Op::SubChecked,
+    Op::MulChecked,
+    Op::NegChecked,
+    Op::AbsChecked,
+    Op::PowChecked,
 ];
 
-// Operators, what is known of their operands, and whether they may trap.
-const RISKS: [(Op, &[Option<i32>], bool); 30] = [
-    (Op::Add, &[None, None], false),
-    (Op::Place, &[None, Some(1), None], false),
-    (Op::Div, &[None, Some(-1)], false),
-    (Op::Div, &[Some(0), Some(3)], false),
-    (Op::Div, &[Some(1), None], true),
-    (Op::Mod, &[None, Some(0)], true),
-    (Op::Pow, &[Some(2), None], false),
-    (Op::Pow, &[None, Some(-1)], true),
-    (Op::Pow, &[None, Some(0)], false),
-    (Op::Bound, &[None, Some(1), Some(9)], true),
-    (Op::Bound, &[None, Some(i32::MIN), Some(i32::MAX)], false),
-    (Op::Bound, &[Some(i32::MAX), None, Some(i32::MAX)], false),
-    (Op::Bound, &[Some(5), None, Some(9)], true),
-    (Op::Bound, &[Some(5), Some(1), Some(9)], false),
-    (Op::Bound, &[Some(i32::MIN), Some(i32::MIN), None], false),
-    (Op::Step, &[None], true),
-    (Op::Step, &[Some(-1)], false),
-    (Op::AddChecked, &[None, Some(0)], false),
-    (Op::AddChecked, &[Some(1), None], true),
-    (Op::SubChecked, &[None, Some(0)], false),
-    (Op::SubChecked, &[Some(-1), None], false),
-    (Op::SubChecked, &[Some(0), None], true),
-    (Op::MulChecked, &[Some(1), None], false),
-    (Op::MulChecked, &[None, Some(-1)], true),
-    (Op::NegChecked, &[None], true),
-    (Op::AbsChecked, &[Some(i32::MIN)], true),
-    (Op::PowChecked, &[Some(-1), None], false),
-    (Op::PowChecked, &[Some(0), None], true),
-    (Op::PowChecked, &[None, Some(1)], false),
-    (Op::PowChecked, &[None, Some(2)], true),
-];
+// Operators, their operands, and the value or the trap. One on a line.
+const VALUES: &str = "Add 2 3 = 5
+Add 2147483647 1 = -2147483648
+Sub 2 3 = -1
+Sub -2147483648 1 = 2147483647
+Mul -4 5 = -20
+Mul 46341 46341 = -2147479015
+Div -7 2 = -3
+Div 7 -2 = -3
+Div -2147483648 -1 = -2147483648
+Div 5 0 = Divide
+Pow -3 3 = -27
+Pow 0 0 = 1
+Pow 2 31 = -2147483648
+Pow 2 32 = 0
+Pow 2 2147483647 = 0
+Pow 3 2147483647 = -1431655765
+Pow -1 -3 = -1
+Pow -1 -2147483648 = 1
+Pow 1 -9 = 1
+Pow 7 -2 = 0
+Pow 0 -1 = Divide
+Neg 5 = -5
+Neg -2147483648 = -2147483648
+Lt -1 0 = 1
+Lt 0 0 = 0
+Le 0 0 = 1
+Le 1 0 = 0
+Eq 4 4 = 1
+Eq 4 -4 = 0
+Ne 4 -4 = 1
+Ne 4 4 = 0
+Ge 3 3 = 1
+Ge 2 3 = 0
+Gt 2147483647 -2147483648 = 1
+Gt 3 3 = 0
+Not 0 = 1
+Not -5 = 0
+And 2 4 = 1
+And 0 4 = 0
+Or 0 4 = 1
+Or 0 0 = 0
+Eqv 2 4 = 1
+Eqv 0 4 = 0
+Neqv 0 4 = 1
+Neqv 2 4 = 0
+Mod -7 3 = -1
+Mod 7 -3 = 1
+Mod -2147483648 -1 = 0
+Mod 1 0 = Divide
+Abs -5 = 5
+Abs -2147483648 = -2147483648
+Sign -5 0 = 5
+Sign 5 -1 = -5
+Sign -2147483648 -1 = -2147483648
+Max 3 -4 = 3
+Min 3 -4 = -4
+Truth -7 = 1
+Truth 0 = 0
+Bound 5 2 9 = 3
+Bound 2147483647 -2147483648 2147483647 = -1
+Bound 1 2 9 = Subscript
+Bound 10 2 9 = Subscript
+Place 100 -3 7 = 79
+Three -8 = 0
+Three 0 = 1
+Three 8 = 2
+Pick 1 3 = 0
+Pick 3 3 = 2
+Pick 4 3 = 3
+Pick 0 3 = 3
+Step -2 = -2
+Step 0 = Step
+AddChecked 2147483647 -1 = 2147483646
+AddChecked 2147483647 1 = Overflow
+SubChecked -1 2147483647 = -2147483648
+SubChecked 0 -2147483648 = Overflow
+MulChecked 46340 46340 = 2147395600
+MulChecked 46341 46341 = Overflow
+NegChecked 2147483647 = -2147483647
+NegChecked -2147483648 = Overflow
+AbsChecked -5 = 5
+AbsChecked -2147483648 = Overflow
+PowChecked -2 31 = -2147483648
+PowChecked 2 31 = Overflow
+PowChecked 3 2147483647 = Overflow
+PowChecked -1 2147483647 = -1
+PowChecked 0 0 = 1
+PowChecked -1 -3 = -1
+PowChecked 0 -1 = Divide";
 
-#[test]
-fn values(rt: HostRuntime) {
-    for (op, args, want) in VALUES {
-        assert!(rt; args.len() == arity(op) as usize);
-        assert_eq!(rt; apply(op, args), want);
+// Operators, what is known of their operands, and whether they may trap. One on a line.
+const RISKS: &str = "Add ? ? = false
+Place ? 1 ? = false
+Div ? -1 = false
+Div 0 3 = false
+Div 1 ? = true
+Mod ? 0 = true
+Pow 2 ? = false
+Pow ? -1 = true
+Pow ? 0 = false
+Bound ? 1 9 = true
+Bound ? -2147483648 2147483647 = false
+Bound 2147483647 ? 2147483647 = false
+Bound 5 ? 9 = true
+Bound 5 1 9 = false
+Bound -2147483648 -2147483648 ? = false
+Step ? = true
+Step -1 = false
+AddChecked ? 0 = false
+AddChecked 1 ? = true
+SubChecked ? 0 = false
+SubChecked -1 ? = false
+SubChecked 0 ? = true
+MulChecked 1 ? = false
+MulChecked ? -1 = true
+NegChecked ? = true
+AbsChecked -2147483648 = true
+PowChecked -1 ? = false
+PowChecked 0 ? = true
+PowChecked ? 1 = false
+PowChecked ? 2 = true";
+
+fn operator(alloc: Global, name: &str) -> Result<Op, Fail> {
+    for op in OPERATORS {
+        if format!(in alloc; "{op:?}")?.as_str() == name {
+            return Ok(op);
+        }
+    }
+    Err(name.into())
+}
+
+// An operator and what is known of its operands: a number, or nothing where there is none.
+fn operation(alloc: Global, words: &str) -> Result<(Op, Vec<Option<i32>>), Fail> {
+    let (name, rest) = words.split_once(' ').ok_or("no operands")?;
+    let op = operator(alloc, name)?;
+    let mut known = Vec::new(alloc);
+    for word in rest.split_whitespace() {
+        known.push(word.parse().ok())?;
+    }
+    Ok((op, known))
+}
+
+fn value(
+    rt: &impl Abort,
+    alloc: Global,
+    op: Op,
+    known: &[Option<i32>],
+) -> Result<String, AllocError> {
+    let mut args = Vec::new(alloc);
+    for z in known {
+        args.push(z.unwrap_or(0))?;
+    }
+    assert!(rt; args.len() == arity(op) as usize);
+    match apply(op, &args) {
+        Ok(z) => format!(in alloc; "{z}"),
+        Err(trap) => format!(in alloc; "{trap:?}"),
     }
 }
 
 #[test]
-fn risks(rt: HostRuntime) {
-    for (op, known, want) in RISKS {
+fn values(rt: HostRuntime) -> Result<(), Fail> {
+    for case in VALUES.lines() {
+        let (applied, want) = case.split_once(" = ").ok_or("no value")?;
+        let (op, known) = operation(rt.alloc(), applied)?;
         assert!(rt; known.len() == arity(op) as usize);
-        assert_eq!(rt; may_trap(op, known), want);
+        assert_eq!(rt;
+            value(&rt, rt.alloc(), op, &known)?.as_str(),
+            want,
+            "of {applied}"
+        );
     }
+    Ok(())
+}
+
+#[test]
+fn risks(rt: HostRuntime) -> Result<(), Fail> {
+    for case in RISKS.lines() {
+        let (applied, want) = case.split_once(" = ").ok_or("no answer")?;
+        let (op, known) = operation(rt.alloc(), applied)?;
+        assert!(rt; known.len() == arity(op) as usize);
+        assert_eq!(rt; may_trap(op, &known), want == "true", "of {applied}");
+    }
+    Ok(())
 }
 
 #[test]
 fn known_values(rt: HostRuntime) {
     assert_eq!(rt; fold(Op::Mul, &[Some(6), Some(7)]), Some(42));
-    assert_eq!(rt; fold(Op::Mul, &[Some(0), None]), None);
-    assert_eq!(rt; fold(Op::Div, &[Some(1), Some(0)]), None);
-    assert_eq!(rt; fold(Op::Neg, &[Some(i32::MIN)]), Some(i32::MIN));
     assert_eq!(rt; fold(Op::NegChecked, &[Some(i32::MIN)]), None);
-    assert_eq!(rt; fold(Op::Bound, &[Some(3), Some(1), Some(9)]), Some(2));
 }
 
 #[test]
 fn trips(rt: HostRuntime) {
-    assert_eq!(rt; do_count(1, i32::MAX, 1), 2147483647);
-    assert_eq!(rt; do_count(i32::MIN, i32::MAX, 1), 4294967296);
-    assert_eq!(rt; do_count(i32::MAX, i32::MIN, i32::MIN), 2);
-    assert_eq!(rt; do_count(5, 1, -2), 3);
-    assert_eq!(rt; do_count(5, 1, 1), 0);
+    for (first, last, step, count) in [
+        (1, i32::MAX, 1, 2147483647),
+        (i32::MIN, i32::MAX, 1, 4294967296),
+        (i32::MAX, i32::MIN, i32::MIN, 2),
+        (5, 1, -2, 3),
+        (5, 1, 1, 0),
+    ] {
+        assert_eq!(rt; do_count(first, last, step), count);
+    }
 }

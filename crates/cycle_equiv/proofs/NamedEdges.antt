@@ -1,0 +1,237 @@
+-- The numbering of edges by their names, as far as it has come.
+use Rattle.std.proofs.Common.{◌≡◌, ◌≢◌, ℕ, zero, suc, Bool, true, false, ◌&&◌, nat_eq, ◌+◌, ◌<◌, ◌≤◌, ◌⊎◌, List, [], ◌∷◌, ◌++◌, length, get_or, take, refl, sym, ap, ◌∙◌, subst, inl, inr, ⊎_elim, arith, length-append}
+use Rattle.std.proofs.lemmas.Bool.{cases_order, and_parts, and_from, eqb-true, eq-eqb}
+use Rattle.std.proofs.lemmas.List.{get_or_append_left, get_or_push, take-append-le, take_all}
+use Rattle.cycle_equiv.specs.Numbering.{fresh}
+use Rattle.std.specs.List.{list_any, position_or_len}
+use Rattle.indexmap.specs.IndexSet.{insert_key}
+use Rattle.cycle_equiv.specs.Names.{AreNumbered}
+use Rattle.cycle_equiv.proofs.Numbers.{fresh-push, IsFirst}
+
+-- what stands at places past the end of a list of names
+abbrev pub no_name : ℕ × ℕ
+no_name = (0, 0)
+
+cases_below : (d e : ℕ) → d < e + 1 → (d < e) ⊎ (d ≡ e)
+cases_below d e h = ⊎_elim (λ same. inr same) (⊎_elim (λ l. inl l) (λ m. absurd (omega arith))) (cases_order d e)
+
+-- an edge below e with this number
+pub record HasEdge (classes : List ℕ) (e k : ℕ) : Type 0 where
+  pub edge : ℕ
+  pub below : edge < e
+  pub own : get_or classes edge 0 ≡ k
+
+module _ (tops sizes : List ℕ) where
+  -- the name of an edge
+  abbrev pub name : ℕ → ℕ × ℕ
+  name e = (get_or tops e 0, get_or sizes e 0)
+
+  -- The edges below e have numbers, and `names` has the names of the numbers, each once.
+  pub record IsNamed (e : ℕ) (names : List (ℕ × ℕ)) (classes : List ℕ) : Type 0 where
+    pub edges : length classes ≡ e
+    pub own : (k : ℕ) → k < length names → HasEdge classes e k
+    pub within : (d : ℕ) → d < e → get_or classes d 0 < length names
+    pub named : (d : ℕ) → d < e → get_or names (get_or classes d 0) no_name ≡ name d
+    pub apart : (j k : ℕ) → j < k → k < length names → get_or names j no_name ≢ get_or names k no_name
+    pub few : length names ≤ e
+    pub count : fresh classes ≡ length names
+    pub lowest : (d : ℕ) → d < e → IsFirst classes d → get_or classes d 0 ≡ fresh (take d classes)
+
+  pub IsNamed-none : IsNamed 0 [] []
+  IsNamed-none = record {
+    edges = refl;
+    own = λ k h. absurd (omega arith);
+    within = λ d h. absurd (omega arith);
+    named = λ d h. absurd (omega arith);
+    apart = λ j k h l s. absurd (omega arith);
+    few = omega arith;
+    count = refl;
+    lowest = λ d h f. absurd (omega arith);
+  }
+
+  module _ (e : ℕ) (names : List (ℕ × ℕ)) (classes : List ℕ) (n : IsNamed e names classes) where
+    old_number : (k d : ℕ) → d < e → get_or (classes ++ k ∷ []) d 0 ≡ get_or classes d 0
+    old_number k d h = get_or_append_left classes (k ∷ []) 0 d (omega (arith, n.edges))
+
+    new_number : (k : ℕ) → get_or (classes ++ k ∷ []) e 0 ≡ k
+    new_number k = get_or_push classes k 0 e n.edges
+
+    old_front : (k d : ℕ) → d ≤ e → take d (classes ++ k ∷ []) ≡ take d classes
+    old_front k d h = take-append-le d classes (k ∷ []) (omega (arith, n.edges))
+
+    whole_front : take e classes ≡ classes
+    whole_front = take_all e classes (omega (arith, n.edges))
+
+    old_first : (k d : ℕ) → d < e → IsFirst (classes ++ k ∷ []) d → IsFirst classes d
+    old_first k d h first b l same = first b l (old_number k b (omega arith) ∙ same ∙ sym (old_number k d h))
+
+    old_lowest : (k d : ℕ) → d < e → IsFirst (classes ++ k ∷ []) d → get_or (classes ++ k ∷ []) d 0 ≡ fresh (take d (classes ++ k ∷ []))
+    old_lowest k d h first = old_number k d h ∙ n.lowest d h (old_first k d h first) ∙ ap fresh (sym (old_front k d (omega arith)))
+
+    old_edge : (k j : ℕ) → j < length names → HasEdge (classes ++ k ∷ []) (e + 1) j
+    old_edge k j h =
+        let has = n.own j h in
+        record { edge = has.edge; below = let b = has.below in omega (arith, b); own = old_number k has.edge has.below ∙ has.own }
+
+    -- an edge of a name that is there
+    pub IsNamed-old : (k : ℕ) → k < length names → get_or names k no_name ≡ name e → IsNamed (e + 1) names (classes ++ k ∷ [])
+    IsNamed-old k is_name same_name = record {
+      edges = omega (arith, length-append classes (k ∷ []), n.edges);
+      own = λ j h. old_edge k j h;
+      within = λ d h. ⊎_elim
+          (λ (l : d < e). rw (old_number k d l) (n.within d l))
+          (λ (same : d ≡ e). rw (same, new_number k) is_name)
+          (cases_below d e h);
+      named = λ d h. ⊎_elim
+          (λ (l : d < e). rw (old_number k d l) (n.named d l))
+          (λ (same : d ≡ e). rw (same, new_number k) same_name)
+          (cases_below d e h);
+      apart = n.apart;
+      few = let f = n.few in omega (arith, f);
+      count = omega (arith, fresh-push classes k, n.count);
+      lowest = λ d h first. ⊎_elim
+          (λ (l : d < e). old_lowest k d l first)
+          (λ (same : d ≡ e).
+          let first_e : IsFirst (classes ++ k ∷ []) e = subst (λ x. IsFirst (classes ++ k ∷ []) x) same first in
+          let has = n.own k is_name in
+          absurd (first_e has.edge has.below (old_number k has.edge has.below ∙ has.own ∙ sym (new_number k))))
+          (cases_below d e h);
+    }
+
+    old_name : (k : ℕ) → k < length names → get_or (names ++ name e ∷ []) k no_name ≡ get_or names k no_name
+    old_name k h = get_or_append_left names (name e ∷ []) no_name k h
+
+    new_name : get_or (names ++ name e ∷ []) (length names) no_name ≡ name e
+    new_name = get_or_push names (name e) no_name (length names) refl
+
+    more_names : length (names ++ name e ∷ []) ≡ length names + 1
+    more_names = omega (arith, length-append names (name e ∷ []))
+
+    -- an edge of a new name
+    pub IsNamed-new : ((k : ℕ) → k < length names → get_or names k no_name ≢ name e) → IsNamed (e + 1) (names ++ name e ∷ []) (classes ++ length names ∷ [])
+    IsNamed-new none = record {
+      edges = omega (arith, length-append classes (length names ∷ []), n.edges);
+      own = λ k h. ⊎_elim
+          (λ (l : k < length names). old_edge (length names) k l)
+          (λ (same : k ≡ length names). record { edge = e; below = omega arith; own = new_number (length names) ∙ sym same })
+          (cases_below k (length names) (omega (arith, more_names)));
+      within = λ d h. ⊎_elim
+          (λ (l : d < e). rw (old_number (length names) d l) (let b = n.within d l in omega (arith, b, more_names)))
+          (λ (same : d ≡ e). rw (same, new_number (length names)) (omega (arith, more_names)))
+          (cases_below d e h);
+      named = λ d h. ⊎_elim
+          (λ (l : d < e). rw (old_number (length names) d l, old_name (get_or classes d 0) (n.within d l)) (n.named d l))
+          (λ (same : d ≡ e). rw (same, new_number (length names)) new_name)
+          (cases_below d e h);
+      apart = λ j k less h same_name. ⊎_elim
+          (λ (l : k < length names). n.apart j k less l (rw (old_name k l, old_name j (omega arith)) at same_name))
+          (λ (same : k ≡ length names). none j (omega arith) (rw (same, new_name, old_name j (omega arith)) at same_name))
+          (cases_below k (length names) (omega (arith, more_names)));
+      few = let f = n.few in omega (arith, f, more_names);
+      count = omega (arith, fresh-push classes (length names), n.count, more_names);
+      lowest = λ d h first. ⊎_elim
+          (λ (l : d < e). old_lowest (length names) d l first)
+          (λ (same : d ≡ e). rw same (new_number (length names) ∙ sym n.count ∙ ap fresh (sym (old_front (length names) e (omega arith) ∙ whole_front))))
+          (cases_below d e h);
+    }
+
+    -- equal numbers are those of equal names
+    number_name : (a b : ℕ) → a < e → b < e → get_or classes a 0 ≡ get_or classes b 0 → name a ≡ name b
+    number_name a b a_edge b_edge same = sym (n.named a a_edge) ∙ ap (λ k. get_or names k no_name) same ∙ n.named b b_edge
+
+    name_number : (a b : ℕ) → a < e → b < e → name a ≡ name b → get_or classes a 0 ≡ get_or classes b 0
+    name_number a b a_edge b_edge same =
+        let j = get_or classes a 0 in
+        let k = get_or classes b 0 in
+        let both : get_or names j no_name ≡ get_or names k no_name = n.named a a_edge ∙ same ∙ sym (n.named b b_edge) in
+        ⊎_elim
+        (λ same. same)
+        (⊎_elim
+        (λ (less : j < k). absurd (n.apart j k less (n.within b b_edge) both))
+        (λ (more : k < j). absurd (n.apart k j more (n.within a a_edge) (sym both))))
+        (cases_order j k)
+
+  pub AreNumbered-all : (names : List (ℕ × ℕ)) (classes : List ℕ) → IsNamed (length tops) names classes → AreNumbered tops sizes classes
+  AreNumbered-all names classes n = record {
+    edges = n.edges;
+    same = λ a b a_edge b_edge. (λ same. let names_same = number_name (length tops) names classes n a b a_edge b_edge same in (ap (λ p. p.0) names_same, ap (λ p. p.1) names_same), λ same. name_number (length tops) names classes n a b a_edge b_edge (λ i. (same.0 i, same.1 i)));
+    lowest = λ e edge first. n.lowest e edge first;
+  }
+
+-- ---- a name's place among the names
+
+module _ (eq : ℕ × ℕ → ℕ × ℕ → Bool) (x : ℕ × ℕ) where
+  pub record IsFound (xs : List (ℕ × ℕ)) : Type 0 where
+    pub within : position_or_len (eq x) xs < length xs
+    pub equal : eq x (get_or xs (position_or_len (eq x) xs) no_name) ≡ true
+
+  pub record IsAbsent (xs : List (ℕ × ℕ)) : Type 0 where
+    pub last : position_or_len (eq x) xs ≡ length xs
+    pub none : (k : ℕ) → k < length xs → eq x (get_or xs k no_name) ≡ false
+
+  get_or_next : (y : ℕ × ℕ) (ys : List (ℕ × ℕ)) (k : ℕ) → get_or (y ∷ ys) (1 + k) no_name ≡ get_or ys k no_name
+  get_or_next y ys k = let one : 1 + k ≡ suc k = omega arith in ap (λ j. get_or (y ∷ ys) j no_name) one
+
+  found_more : (y : ℕ × ℕ) (ys : List (ℕ × ℕ)) → (list_any (eq x) ys ≡ true → IsFound ys) → list_any (eq x) (y ∷ ys) ≡ true → (b : Bool) → eq x y ≡ b → IsFound (y ∷ ys)
+  found_more y ys more any true p = record { within = rw p (omega arith); equal = rw p p }
+  found_more y ys more any false p =
+      let rest = more (rw p at any) in
+      record { within = rw p (let w = rest.within in omega (arith, w)); equal = rw (p, get_or_next y ys (position_or_len (eq x) ys)) rest.equal }
+
+  pub found : (xs : List (ℕ × ℕ)) → list_any (eq x) xs ≡ true → IsFound xs
+  found [] any = let e : false ≡ true = any in absurd cc
+  found (y ∷ ys) any = found_more y ys (found ys) any (eq x y) refl
+
+  none_more : (y : ℕ × ℕ) (ys : List (ℕ × ℕ)) → eq x y ≡ false → ((k : ℕ) → k < length ys → eq x (get_or ys k no_name) ≡ false) → (k : ℕ) → k < length (y ∷ ys) → eq x (get_or (y ∷ ys) k no_name) ≡ false
+  none_more y ys first rest zero h = first
+  none_more y ys first rest (suc k) h = rest k (omega (arith, h))
+
+  absent_more : (y : ℕ × ℕ) (ys : List (ℕ × ℕ)) → (list_any (eq x) ys ≡ false → IsAbsent ys) → list_any (eq x) (y ∷ ys) ≡ false → (b : Bool) → eq x y ≡ b → IsAbsent (y ∷ ys)
+  absent_more y ys more any true p = let e : true ≡ false = rw p at any in absurd cc
+  absent_more y ys more any false p =
+      let rest = more (rw p at any) in
+      record { last = rw p (let l = rest.last in omega (arith, l)); none = none_more y ys p rest.none }
+
+  pub absent : (xs : List (ℕ × ℕ)) → list_any (eq x) xs ≡ false → IsAbsent xs
+  absent [] any = record { last = refl; none = λ k h. absurd (omega (arith, h)) }
+  absent (y ∷ ys) any = absent_more y ys (absent ys) any (eq x y) refl
+
+  place_by : (xs : List (ℕ × ℕ)) (b : Bool) → list_any (eq x) xs ≡ b → position_or_len (eq x) xs ≤ length xs
+  place_by xs true p = let w = (found xs p).within in omega (arith, w)
+  place_by xs false p = let l = (absent xs p).last in omega (arith, l)
+
+  pub place_within : (xs : List (ℕ × ℕ)) → position_or_len (eq x) xs ≤ length xs
+  place_within xs = place_by xs (list_any (eq x) xs) refl
+
+-- whether two names are equal
+abbrev pub same_names : ℕ × ℕ → ℕ × ℕ → Bool
+same_names x y = nat_eq x.0 y.0 && nat_eq x.1 y.1
+
+pub same_names-equal : (x y : ℕ × ℕ) → same_names x y ≡ true → x ≡ y
+same_names-equal x y both =
+    let parts = and_parts (nat_eq x.0 y.0) (nat_eq x.1 y.1) both in
+    let first : x.0 ≡ y.0 = eqb-true x.0 y.0 parts.0 in
+    let second : x.1 ≡ y.1 = eqb-true x.1 y.1 parts.1 in
+    λ i. (first i, second i)
+
+pub same_names-itself : (x : ℕ × ℕ) → same_names x x ≡ true
+same_names-itself x = and_from (nat_eq x.0 x.0) (nat_eq x.1 x.1) (eq-eqb x.0 x.0 refl) (eq-eqb x.1 x.1 refl)
+
+module _ (tops sizes : List ℕ) where
+  -- the next edge's name is put among the names, and its place is the edge's number
+  pub IsNamed-next : (e k : ℕ) (names more : List (ℕ × ℕ)) (classes : List ℕ) → IsNamed tops sizes e names classes → more ≡ insert_key same_names names (name tops sizes e) → k ≡ position_or_len (same_names (name tops sizes e)) names → IsNamed tops sizes (e + 1) more (classes ++ k ∷ [])
+  IsNamed-next e k names more classes n more_is k_is = rw (more_is, k_is) (by (list_any (same_names (name tops sizes e)) names) refl)
+    where
+      by : (b : Bool) → list_any (same_names (name tops sizes e)) names ≡ b → IsNamed tops sizes (e + 1) (insert_key same_names names (name tops sizes e)) (classes ++ position_or_len (same_names (name tops sizes e)) names ∷ [])
+      by true p =
+          let x = name tops sizes e in
+          let f = found same_names x names p in
+          rw p (IsNamed-old tops sizes e names classes n (position_or_len (same_names x) names) f.within (sym (same_names-equal x (get_or names (position_or_len (same_names x) names) no_name) f.equal)))
+      by false p =
+          let x = name tops sizes e in
+          let a = absent same_names x names p in
+          rw (p, a.last)
+          (IsNamed-new tops sizes e names classes n (λ j h equal.
+          let found_it : same_names x (get_or names j no_name) ≡ true = rw equal (same_names-itself x) in
+          let both : true ≡ false = sym found_it ∙ a.none j h in
+          absurd cc))
