@@ -36,9 +36,13 @@ abbrev pub is_do_in : ℕ → Option Labelled → Bool
 is_do_in label None = false
 is_do_in label (Some s) = is_do_to label s.stmt
 
--- the DOs whose ranges end at the statement at this place, the innermost first
-abbrev pub loops_to : List Labelled → ℕ → List ℕ
-loops_to stmts label = reverse (filter (λ d. is_do_in label (slice_get stmts d)) (range_with_len 0 (length stmts)))
+-- the places of the DOs above this place whose ranges end at the statement with the label, in the order of the text
+abbrev pub loops_above : List Labelled → (label place : ℕ) → List ℕ
+loops_above stmts label place = filter (λ d. is_do_in label (slice_get stmts d)) (range_with_len 0 place)
+
+-- the DOs whose ranges end at the statement with the label, the innermost first
+abbrev pub loops_to : List Labelled → (label : ℕ) → List ℕ
+loops_to stmts label = reverse (loops_above stmts label (length stmts))
 
 -- how many executables a statement has, with the increments of the DOs that end at it
 abbrev pub executables_with_ends : List Labelled → Labelled → ℕ
@@ -150,9 +154,12 @@ increments names whole place index (d ∷ outer) = DoNext (loop_number whole d) 
 abbrev pub kinds_at : List NameInfo → (checked : Bool) → (whole : List Labelled) → (place : ℕ) → Labelled → List ExecKind
 kinds_at names checked whole place s = own_kinds names checked whole place (first_of whole place) (behind whole place s) s.stmt ++ increments names whole place (first_of whole place + own_executables s.stmt) (loops_to whole s.label)
 
+abbrev pub at_line : (line : ℕ) → List ExecKind → List Exec
+at_line line kinds = map (λ kind. record { line = line; kind = kind }) kinds
+
 -- the executables of the statement at this place; each has its line
 abbrev pub executables_at : List NameInfo → (checked : Bool) → (whole : List Labelled) → (place : ℕ) → Labelled → List Exec
-executables_at names checked whole place s = map (λ kind. record { line = s.line; kind = kind }) (kinds_at names checked whole place s)
+executables_at names checked whole place s = at_line s.line (kinds_at names checked whole place s)
 
 abbrev pub executables_if_any : List NameInfo → (checked : Bool) → (whole : List Labelled) → (place : ℕ) → Option Labelled → List Exec
 executables_if_any names checked whole place None = []

@@ -1,5 +1,5 @@
 -- The program that statements make, or the first refusal.
-use Rattle.std.specs.Prelude.{ℕ, ◌+◌, ◌-◌, Bool, nat_lt, if◌then◌else◌, List, [], ◌∷◌, length, map, filter, Option, Some, None, slice_get}
+use Rattle.std.specs.Prelude.{◌≡◌, ◌++◌, Result, Ok, Err, ℕ, ◌+◌, ◌-◌, Bool, nat_lt, if◌then◌else◌, List, [], ◌∷◌, length, map, filter, Option, Some, None, slice_get}
 use Rattle.std.specs.List.{range_with_len}
 use Rattle.f77_tree.specs.declared.programs.NameInfo.{NameInfo}
 use Rattle.f77_tree.specs.declared.programs.Program.{Program}
@@ -62,9 +62,9 @@ abbrev pub at_line : (ℕ → LayoutEnd) → Option ℕ → Option LayoutEnd
 at_line refusal None = None
 at_line refusal (Some line) = Some (refusal line)
 
--- the refusals in order, each with the lowest line that has its fault
-abbrev pub refusals : List Labelled → (checked : Bool) → List (Option LayoutEnd)
-refusals stmts checked =
+-- the refusals in order but for the last one, each with the lowest line that has its fault
+abbrev pub refusals_of_form : List Labelled → List (Option LayoutEnd)
+refusals_of_form stmts =
     at_line OutOfOrder (first_line is_out_of_order stmts) ∷
     at_line RealName (first_line (has_real_name stmts) stmts) ∷
     at_line TypeWrong (first_line (has_wrong_type (names_of stmts)) stmts) ∷
@@ -73,8 +73,14 @@ refusals stmts checked =
     at_line LabelMissing (first_line (lacks_label stmts) stmts) ∷
     at_line BadNesting (first_unnested [] stmts) ∷
     at_line JumpInto (first_line (jumps_into stmts) stmts) ∷
-    at_line TooManyWords (line_of_words stmts) ∷
-    at_line TooManyOps (first_line (asks_too_much (names_of stmts) checked stmts) stmts) ∷ []
+    at_line TooManyWords (line_of_words stmts) ∷ []
+
+-- statements that have none of these refusals
+abbrev pub HasForm : List Labelled → Type 0
+HasForm stmts = first_answer (λ r. r) (refusals_of_form stmts) ≡ None
+
+abbrev pub refusals : List Labelled → (checked : Bool) → List (Option LayoutEnd)
+refusals stmts checked = refusals_of_form stmts ++ at_line TooManyOps (first_line (asks_too_much (names_of stmts) checked stmts) stmts) ∷ []
 
 -- the refusal, if there is one
 abbrev pub refusal : List Labelled → (checked : Bool) → Option LayoutEnd
@@ -94,14 +100,10 @@ program stmts checked = record {
   loops = length (filter (λ s. is_do s.stmt) stmts);
 }
 
-pub data Layout : Type 0 where
-  Laid : Program → Layout
-  Refused : LayoutEnd → Layout
-
-abbrev pub laid_unless : Option LayoutEnd → Program → Layout
-laid_unless None p = Laid p
-laid_unless (Some end) p = Refused end
+abbrev pub unless_refused : Option LayoutEnd → Program → Result Program LayoutEnd
+unless_refused None p = Ok p
+unless_refused (Some end) p = Err end
 
 -- what the statements are: a program, or the first refusal
-abbrev pub layout : List Labelled → (checked : Bool) → Layout
-layout stmts checked = laid_unless (refusal stmts checked) (program stmts checked)
+abbrev pub layout : List Labelled → (checked : Bool) → Result Program LayoutEnd
+layout stmts checked = unless_refused (refusal stmts checked) (program stmts checked)

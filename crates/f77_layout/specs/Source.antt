@@ -10,8 +10,8 @@ pub record EndsWithEnd (stmts : List Labelled) : Type 0 where
   pub stands : slice_get stmts (length stmts - 1) ≡ Some last
   pub is : last.stmt ≡ End
 
--- Statements that were read from a text: each has a text of the grammar and is no statement of subroutines, their lines rise,
--- and there are at most 4,000, with END at the end. A label is a number of up to five digits, or 0.
+-- Statements that were read from a text: each has a text of the grammar and is no statement of subroutines. Their
+-- lines rise, and there are at most 4,000, with END at the end. A label is a number of up to five digits, or 0.
 pub record IsSource (stmts : List Labelled) : Type 0 where
   pub given : All (λ s. IsGiven s.stmt) stmts
   pub no_subroutines : All (λ s. is_of_subroutines s.stmt ≡ false) stmts

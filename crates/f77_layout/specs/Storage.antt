@@ -10,7 +10,7 @@ use Rattle.f77_tree.specs.declared.declarations.CommonPart.{CommonPart}
 use Rattle.f77_tree.specs.declared.declarations.Member.{Member}
 use Rattle.f77_tree.specs.declared.programs.NameInfo.{NameInfo}
 use Rattle.f77_tree.specs.Value.{dims_of}
-use Rattle.f77_tree.specs.Declarations.{offset_of, index_of, member_index}
+use Rattle.f77_tree.specs.Declarations.{index_of, member_index}
 use Rattle.f77_tree.specs.Places.{Equation, same_block}
 
 -- ---- sizes
@@ -31,9 +31,15 @@ elements (dim ∷ dims) = extent dim * elements dims
 abbrev pub size_of : List Dim → ℕ
 size_of dims = min too_many (elements dims)
 
--- how far an element lies behind the first one
+-- how many subscripts of a dimension stand before this one
+abbrev pub subscripts_before : Dim → ℤ → ℕ
+subscripts_before dim sub = if int_lt sub dim.lo then 0 else nat_abs (sub -ℤ dim.lo)
+
+-- How far an element lies behind the first one: the first subscript runs fastest. Of subscripts outside the bounds nothing
+-- depends: they are a fault of the statement where they stand.
 abbrev pub distance_of : List Dim → List ℤ → ℕ
-distance_of dims subs = min too_many (nat_abs (offset_of dims subs))
+distance_of (dim ∷ dims) (sub ∷ subs) = min too_many (subscripts_before dim sub + extent dim * distance_of dims subs)
+distance_of _ _ = 0
 
 -- the words of the name with this index
 abbrev pub size_at : List NameInfo → ℕ → ℕ

@@ -1,10 +1,11 @@
 -- Faults of declarations of storage: dimensions, COMMON, EQUIVALENCE and DATA that contradict each other (ANSI X3.9-1978,
 -- sections 5.1, 8.2, 8.3 and 9).
-use Rattle.std.specs.Prelude.{ℕ, ℤ, int_le, int_lt, Bool, true, false, not, ◌&&◌, ◌||◌, nat_lt, ◌==◌, List, [], ◌∷◌, ◌++◌, length, map, flat_map, filter, bytes_eq}
+use Rattle.std.specs.Prelude.{◌≡◌, ℕ, ℤ, int_le, int_lt, Bool, true, false, not, ◌&&◌, ◌||◌, nat_lt, ◌==◌, List, [], ◌∷◌, ◌++◌, length, map, flat_map, filter, bytes_eq}
 use Rattle.std.specs.List.{list_any}
 use Rattle.f77_tree.specs.declared.declarations.Kind.{Kind}
 use Rattle.f77_tree.specs.declared.declarations.Kind.TheVariants.{Integer, Logical}
 use Rattle.f77_tree.specs.declared.declarations.Dim.{Dim}
+use Rattle.f77_tree.specs.declared.declarations.Decl.{Decl}
 use Rattle.f77_tree.specs.declared.declarations.Member.{Member}
 use Rattle.f77_tree.specs.declared.declarations.InitPart.{InitPart}
 use Rattle.f77_tree.specs.declared.programs.NameInfo.{NameInfo}
@@ -20,8 +21,12 @@ use Rattle.f77_layout.specs.Storage.{elements, standings, equations, spots_by, a
 
 -- ---- dimensions
 
+-- the names that these declarators give dimensions to
+abbrev pub array_names : List Decl → List (List ℕ)
+array_names decls = map (λ decl. decl.name) (filter has_dims decls)
+
 abbrev pub dimensioned : Stmt → List (List ℕ)
-dimensioned stmt = map (λ decl. decl.name) (filter has_dims (declarators stmt))
+dimensioned stmt = array_names (declarators stmt)
 
 -- a name has dimensions above or before in the statement
 abbrev pub has_dims_twice : (above : List Labelled) → Labelled → Bool
@@ -42,6 +47,11 @@ common_names stmt = flat_map (λ part. map (λ decl. decl.name) part.decls) (par
 -- a name stands in COMMON above or before in the statement
 abbrev pub is_common_twice : (above : List Labelled) → Labelled → Bool
 is_common_twice above s = has_repeat bytes_eq (flat_map (λ a. common_names a.stmt) above) (common_names s.stmt)
+
+-- these names have dimensions in the statements, and these stand in COMMON
+pub record HasDeclared (arrays commons : List (List ℕ)) (stmts : List Labelled) : Type 0 where
+  pub arrays_are : arrays ≡ flat_map (λ s. dimensioned s.stmt) stmts
+  pub commons_are : commons ≡ flat_map (λ s. common_names s.stmt) stmts
 
 -- ---- members of EQUIVALENCE and items of DATA
 
@@ -80,6 +90,10 @@ has_wrong_places names whole above s = is_equivalence s.stmt && not (gives_place
 
 -- ---- DATA, over the table of names with their places
 
+abbrev pub is_data : Stmt → Bool
+is_data (Init parts) = true
+is_data _ = false
+
 abbrev pub same_kind : Kind → Kind → Bool
 same_kind Integer Integer = true
 same_kind Logical Logical = true
@@ -104,5 +118,9 @@ has_wrong_data names above s = has_wrong_part names (flat_map (part_words names)
 
 -- ---- all of them
 
+-- what a statement declares of storage contradicts itself or a statement above it
+abbrev pub has_wrong_declaration : (names : List NameInfo) → (above : List Labelled) → Labelled → Bool
+has_wrong_declaration names above s = has_dims_twice above s || has_wrong_dims s || is_common_twice above s || has_wrong_member names s
+
 abbrev pub has_wrong_storage : (names placed : List NameInfo) → (whole above : List Labelled) → Labelled → Bool
-has_wrong_storage names placed whole above s = has_dims_twice above s || has_wrong_dims s || is_common_twice above s || has_wrong_member names s || has_wrong_places names whole above s || has_wrong_data placed above s
+has_wrong_storage names placed whole above s = has_wrong_declaration names above s || has_wrong_places names whole above s || has_wrong_data placed above s

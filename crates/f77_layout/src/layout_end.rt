@@ -1,3 +1,4 @@
+use df_sequence::NoMemory;
 use thiserror::Error;
 
 /// Why statements make no program. Each number is the line of the statement at fault. The first refusal in this order is
@@ -38,4 +39,15 @@ pub enum LayoutEnd {
     /// There was no memory.
     #[error("out of memory")]
     NoMemory,
+}
+
+impl From<NoMemory> for LayoutEnd {
+    ghost use Rattle.std.specs.Prelude.{◌≡◌};
+    ghost use Rattle.f77_layout.specs.declared.layout_end.LayoutEnd.TheVariants.{NoMemory};
+
+    ghost from_gives = { λ _ e. e ≡ NoMemory };
+
+    fn from(_refused: NoMemory) -> LayoutEnd {
+        LayoutEnd::NoMemory
+    }
 }

@@ -2,6 +2,49 @@
 //! first refusal (ANSI X3.9-1978, sections 2, 3, 5 and 7 to 11).
 #![tactic(auto)]
 
+mod appearances;
+mod assembly;
+mod blocks;
+mod collecting;
+mod constants;
+mod counts;
+mod data;
+mod data_items;
+mod data_kinds;
+mod data_spans;
+mod declaration_faults;
+mod declarations;
+mod dimensions;
+mod equations;
+mod executables;
+mod flow;
+mod forest;
+mod given_words;
+mod increments;
+mod initial;
+mod intrinsics;
+mod jumps;
+mod kinds;
+mod labels;
+mod laws;
 mod layout_end;
+mod loops;
+mod members;
+mod name_set;
+mod names;
+mod nesting;
+mod open_stack;
+mod operations;
+mod order;
+mod resolve;
+mod roles;
+mod sizes;
+mod statement_kinds;
+mod storage_faults;
+mod storages;
+mod type_faults;
+mod word_numbers;
 
+pub use assembly::assemble;
+pub use laws::{executables_stand_in_order, labels_lead_to_their_statements};
 pub use layout_end::LayoutEnd;

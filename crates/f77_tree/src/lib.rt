@@ -6,6 +6,7 @@ mod declarations;
 mod evaluation;
 mod expressions;
 mod laws;
+mod name_keys;
 mod names;
 mod programs;
 mod statements;

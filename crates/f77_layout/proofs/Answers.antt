@@ -1,0 +1,41 @@
+-- What is told of an answer of the layout.
+use Rattle.std.proofs.Common.{◌≡◌, ◌≢◌, Bool, List, Result, Ok, Err, IfOk, IfErr, refl}
+use Rattle.f77_tree.specs.declared.programs.Program.{Program}
+use Rattle.f77_layout.specs.declared.layout_end.LayoutEnd.{LayoutEnd}
+use Rattle.f77_layout.specs.declared.layout_end.LayoutEnd.TheVariants.{OutOfOrder, RealName, TypeWrong, LayoutWrong, LabelTwice, LabelMissing, BadNesting, JumpInto, TooManyWords, TooManyOps, NoMemory}
+use Rattle.f77_tree.specs.declared.statements.Labelled.{Labelled}
+use Rattle.f77_tree.specs.Operations.{HasFewOperations}
+use Rattle.f77_tree.specs.WellFormed.{IsWellFormed}
+use Rattle.f77_layout.specs.Answers.{IsLaidAs}
+use Rattle.f77_layout.specs.Layout.{layout}
+use Rattle.f77_layout.specs.Source.{IsSource}
+use Rattle.f77_layout.proofs.WellFormedPrograms.{laid-few_operations, laid-well_formed}
+
+pub laid_accepted : (laid result : Result Program LayoutEnd) → IsLaidAs laid result → IfOk result (λ program. laid ≡ Ok program)
+laid_accepted laid (Ok program) is = is
+laid_accepted laid (Err end) is = tt
+
+refused_by : (laid : Result Program LayoutEnd) (end : LayoutEnd) → IsLaidAs laid (Err end) → end ≢ NoMemory → laid ≡ Err end
+refused_by laid (OutOfOrder line) is other = is
+refused_by laid (RealName line) is other = is
+refused_by laid (TypeWrong line) is other = is
+refused_by laid (LayoutWrong line) is other = is
+refused_by laid (LabelTwice line) is other = is
+refused_by laid (LabelMissing line) is other = is
+refused_by laid (BadNesting line) is other = is
+refused_by laid (JumpInto line) is other = is
+refused_by laid (TooManyWords line) is other = is
+refused_by laid (TooManyOps line) is other = is
+refused_by laid NoMemory is other = absurd (other refl)
+
+pub laid_refused : (laid result : Result Program LayoutEnd) → IsLaidAs laid result → IfErr result (λ end. end ≢ NoMemory → laid ≡ Err end)
+laid_refused laid (Ok program) is = tt
+laid_refused laid (Err end) is = refused_by laid end is
+
+pub laid_well_formed : (stmts : List Labelled) (checked : Bool) (result : Result Program LayoutEnd) → IsSource stmts → IsLaidAs (layout stmts checked) result → IfOk result (λ program. IsWellFormed program)
+laid_well_formed stmts checked (Ok p) source is = laid-well_formed stmts checked source p is
+laid_well_formed stmts checked (Err end) source is = tt
+
+pub laid_modest : (stmts : List Labelled) (checked : Bool) (result : Result Program LayoutEnd) → IsSource stmts → IsLaidAs (layout stmts checked) result → IfOk result (λ program. HasFewOperations program)
+laid_modest stmts checked (Ok p) source is = laid-few_operations stmts checked source p is
+laid_modest stmts checked (Err end) source is = tt

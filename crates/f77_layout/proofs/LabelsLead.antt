@@ -1,0 +1,134 @@
+-- The executables of a program stand where its statements do, and labels lead to them.
+use Rattle.std.proofs.Common.{◌≡◌, ℕ, suc, ◌+◌, ◌≤◌, Bool, true, false, not, ◌&&◌, ◌||◌, ◌==◌, List, [], ◌∷◌, length, Some, Ok, slice_get, map, refl, sym, ap, subst, ◌∙◌, arith}
+use Rattle.std.specs.List.{list_any}
+use Rattle.std.proofs.lemmas.Bool.{and_parts, eqb-true, false_from_ne_true, not-false, not-true}
+use Rattle.std.proofs.lemmas.List.{length-map}
+use Rattle.std.proofs.lemmas.Option.{slice_get_within, get_or_from_slice_get}
+use Rattle.std.proofs.lemmas.Map.Keys.{any_passes_from_place}
+use Rattle.f77_tree.specs.declared.programs.ExecKind.{ExecKind}
+use Rattle.f77_tree.specs.declared.programs.Program.{Program}
+use Rattle.f77_tree.specs.declared.statements.Labelled.{Labelled}
+use Rattle.f77_tree.specs.declared.statements.RawExpr.{RawExpr}
+use Rattle.f77_tree.specs.declared.statements.Stmt.{Stmt, more_of-Stmt}
+use Rattle.f77_tree.specs.declared.statements.Stmt.TheVariants.{Program as Program', Implicit, ImplicitNone, TypeOf, Dimension, Common, Equivalence, Init, Sub, Take, Else, ThenIf'}
+use Rattle.f77_tree.specs.StatementGrammar.{WrittenStatement, IsStatement, IsGiven, statement_of as stmt_of}
+use Rattle.f77_tree.specs.Grammar.{reading}
+use Rattle.f77_layout.specs.Executables.{behind, first_of, increments, labelled, loops_to, own_executables, own_kinds, executables}
+use Rattle.f77_layout.specs.Labels.{bears, used, lacks_label, statement_of, is_executable, is_arm}
+use Rattle.f77_layout.specs.Layout.{layout, names_of}
+use Rattle.f77_layout.specs.Leading.{IsLedTo}
+use Rattle.f77_layout.specs.Source.{IsSource}
+use Rattle.f77_layout.specs.LabelTable.{IsLabel}
+use Rattle.f77_layout.proofs.LabelLemmas.{faultless, statement_of-own}
+use Rattle.f77_layout.proofs.LoopPlaces.{length-own_kinds, own-at, end-at}
+use Rattle.f77_layout.proofs.SourceLabels.{given_at}
+use Rattle.f77_layout.proofs.Usable.{usable}
+use Rattle.f77_layout.proofs.UsedLabels.{used_given}
+use Rattle.f77_layout.proofs.WellFormedPrograms.{AreFaultless, laid-faultless, laid-is}
+
+-- ---- statements have executables
+
+-- READ has an item
+taken_some : (w : WrittenStatement) → IsStatement w → (targets : List RawExpr) → stmt_of w ≡ Take targets → 1 ≤ length targets
+taken_some (WrittenStatement.read form items) is targets e =
+    let same : map reading items ≡ targets = cc in
+    omega (arith, is.0, length-map items reading, ap (λ (xs : List RawExpr). length xs) same)
+taken_some _ is targets e = cc
+
+own_some : (stmt : Stmt) → ((targets : List RawExpr) → stmt ≡ Take targets → 1 ≤ length targets) → is_executable stmt ≡ true → is_arm stmt ≡ false → 1 ≤ own_executables stmt
+own_some (Take targets) some x a = some targets refl
+own_some (ThenIf' condition shape (more_of-Stmt stmt rest)) some x a = omega arith
+own_some Else some x a = let h : true ≡ false = a in absurd cc
+own_some Program' some x a = let h : false ≡ true = x in absurd cc
+own_some (Implicit ranges) some x a = let h : false ≡ true = x in absurd cc
+own_some ImplicitNone some x a = let h : false ≡ true = x in absurd cc
+own_some (TypeOf kind decls) some x a = let h : false ≡ true = x in absurd cc
+own_some (Dimension decls) some x a = let h : false ≡ true = x in absurd cc
+own_some (Common parts) some x a = let h : false ≡ true = x in absurd cc
+own_some (Equivalence groups) some x a = let h : false ≡ true = x in absurd cc
+own_some (Init parts) some x a = let h : false ≡ true = x in absurd cc
+own_some (Sub name dummies) some x a = let h : false ≡ true = x in absurd cc
+own_some _ some x a = omega arith
+
+given_some : (stmt : Stmt) → IsGiven stmt → is_executable stmt ≡ true → is_arm stmt ≡ false → 1 ≤ own_executables stmt
+given_some stmt given x a =
+    own_some stmt (λ targets e. taken_some given.is_read.written given.is_read.spells.grammatical targets (given.is_read.is ∙ e)) x a
+
+-- ---- the statement that bears a label
+
+record Bearer (stmts : List Labelled) (label : ℕ) : Type 0 where
+  place : ℕ
+  statement : Labelled
+  stands : slice_get stmts place ≡ Some statement
+  bears_it : bears label statement ≡ true
+
+bearer : (label : ℕ) (stmts : List Labelled) → list_any (bears label) stmts ≡ true → Bearer stmts label
+bearer label [] e = let h : false ≡ true = e in absurd cc
+bearer label (s ∷ rest) e = by (bears label s) refl (bearer label rest)
+  where
+    by : (b : Bool) → bears label s ≡ b → (list_any (bears label) rest ≡ true → Bearer rest label) → Bearer (s ∷ rest) label
+    by true is next = record { place = 0; statement = s; stands = refl; bears_it = is }
+    by false is next =
+        let found = next (rw (← ap (λ b. b || list_any (bears label) rest) is) e) in
+        record { place = suc found.place; statement = found.statement; stands = found.stands; bears_it = found.bears_it }
+
+module _ (stmts : List Labelled) (checked : Bool) (p : Program) (source : IsSource stmts) (laid : layout stmts checked ≡ Ok p) where
+  none : AreFaultless stmts checked
+  none = laid-faultless stmts checked source p laid
+
+  execs_are : executables (names_of stmts) checked stmts ≡ p.execs
+  execs_are = ap (λ (q : Program). q.execs) (laid-is stmts checked source p laid)
+
+  pub own-stand : (i j : ℕ) (s : Labelled) (kind : ExecKind) → slice_get stmts i ≡ Some s → slice_get (own_kinds (names_of stmts) checked stmts i (first_of stmts i) (behind stmts i s) s.stmt) j ≡ Some kind → slice_get p.execs (first_of stmts i + j) ≡ Some (record { line = s.line; kind = kind })
+  own-stand i j s kind here is =
+      ap (λ execs. slice_get execs (first_of stmts i + j)) (sym execs_are) ∙ own-at (names_of stmts) checked stmts (usable stmts source none.borne) i j s kind here is
+
+  pub increments-stand : (i j : ℕ) (s : Labelled) (kind : ExecKind) → slice_get stmts i ≡ Some s → slice_get (increments (names_of stmts) stmts i (first_of stmts i + own_executables s.stmt) (loops_to stmts s.label)) j ≡ Some kind → slice_get p.execs (first_of stmts i + own_executables s.stmt + j) ≡ Some (record { line = s.line; kind = kind })
+  increments-stand i j s kind here is =
+      ap (λ execs. slice_get execs (first_of stmts i + own_executables s.stmt + j)) (sym execs_are) ∙ end-at (names_of stmts) checked stmts (usable stmts source none.borne) i j s kind here is
+
+  -- ---- where a label leads
+
+  label_is : (label : ℕ) (s : Labelled) → bears label s ≡ true → s.label ≡ label
+  label_is label s e = eqb-true s.label label (and_parts (s.label == label) (is_executable s.stmt) (and_parts ((s.label == label) && is_executable s.stmt) (not (is_arm s.stmt)) e).0).0
+
+  used_label : (i j : ℕ) (s : Labelled) (label : ℕ) → slice_get stmts i ≡ Some s → slice_get (used s.stmt) j ≡ Some label → IsLabel label
+  used_label i j s label here is =
+      subst IsLabel (get_or_from_slice_get (used s.stmt) j label label is) (used_given stmts source i s here j label (slice_get_within (used s.stmt) j label is))
+
+  borne : (i j : ℕ) (s : Labelled) (label : ℕ) → slice_get stmts i ≡ Some s → slice_get (used s.stmt) j ≡ Some label → list_any (bears label) stmts ≡ true
+  borne i j s label here is =
+      let lacks : ℕ → Bool = λ label. not (list_any (bears label) stmts) in
+      let kept : list_any lacks (used s.stmt) ≡ false = faultless (lacks_label stmts) [] stmts none.borne i s here in
+      let not_lacking : lacks label ≡ false = false_from_ne_true (lacks label) (λ e. let h : true ≡ false = sym (any_passes_from_place lacks (used s.stmt) j label is e) ∙ kept in absurd cc) in
+      not-false (list_any (bears label) stmts) not_lacking
+
+  first_item : (xs : List ExecKind) → 1 ≤ length xs → (kind : ExecKind) × (slice_get xs 0 ≡ Some kind)
+  first_item [] some = absurd (omega (arith, some))
+  first_item (kind ∷ xs) some = (kind, refl)
+
+  led : (label : ℕ) → IsLabel label → Bearer stmts label → IsLedTo stmts p.execs label (labelled stmts label)
+  led label is b =
+      let same = label_is label b.statement b.bears_it in
+      let some : b.statement.label ≡ 0 → ⊥ = λ e. is.0 (sym same ∙ e) in
+      let at : statement_of stmts label ≡ b.place = ap (statement_of stmts) (sym same) ∙ statement_of-own stmts none.once b.place b.statement b.stands some in
+      let parts = and_parts ((b.statement.label == label) && is_executable b.statement.stmt) (not (is_arm b.statement.stmt)) b.bears_it in
+      let given = given_at stmts source b.place b.statement b.stands in
+      let own = own_kinds (names_of stmts) checked stmts b.place (first_of stmts b.place) (behind stmts b.place b.statement) b.statement.stmt in
+      let many = length-own_kinds (names_of stmts) checked stmts (usable stmts source none.borne) b.place b.statement b.stands in
+      let one = given_some b.statement.stmt given (and_parts (b.statement.label == label) (is_executable b.statement.stmt) parts.0).1 (not-true (is_arm b.statement.stmt) parts.1) in
+      let item = first_item own (omega (arith, many, one)) in
+      record {
+        place = b.place;
+        statement = b.statement;
+        stands = b.stands;
+        bears_it = b.bears_it;
+        alone = λ j other there e. sym (statement_of-own stmts none.once j other there (λ z. is.0 (sym e ∙ z))) ∙ ap (statement_of stmts) e ∙ at;
+        first = ap (first_of stmts) at;
+        exec = record { line = b.statement.line; kind = item.0 };
+        is = ap (slice_get p.execs) (let e : labelled stmts label ≡ first_of stmts b.place + 0 = omega (arith, ap (first_of stmts) at) in e) ∙ own-stand b.place 0 b.statement item.0 b.stands item.1;
+        line = refl;
+      }
+
+  pub labels-lead : (i j : ℕ) (s : Labelled) (label : ℕ) → slice_get stmts i ≡ Some s → slice_get (used s.stmt) j ≡ Some label → IsLedTo stmts p.execs label (labelled stmts label)
+  labels-lead i j s label here is = led label (used_label i j s label here is) (bearer label stmts (borne i j s label here is))

@@ -1,0 +1,43 @@
+-- Labels of a source, and of the statements that it has.
+use Rattle.std.proofs.Common.{◌≡◌, ℕ, ◌<◌, ◌≤◌, List, slice_get, Some, None, subst, arith}
+use Rattle.std.proofs.lemmas.Option.{slice_get_within, get_or_from_slice_get}
+use Rattle.f77_tree.specs.declared.statements.Labelled.{Labelled}
+use Rattle.f77_tree.specs.StatementGrammar.{IsGiven}
+use Rattle.f77_layout.specs.declared.open_stack.Opened.TheVariants.{Loop}
+use Rattle.f77_layout.specs.declared.roles.Role.{Role}
+use Rattle.f77_layout.specs.declared.roles.Role.TheVariants.{BeginLoop, NextArm}
+use Rattle.f77_layout.specs.Faults.{first_line}
+use Rattle.f77_layout.specs.Source.{IsSource}
+use Rattle.f77_layout.specs.LabelTable.{IsLabel}
+use Rattle.f77_layout.specs.Labels.{is_labelled_twice}
+use Rattle.f77_layout.specs.Roles.{role_of}
+use Rattle.f77_layout.specs.OpenStack.{HasSmallLabel}
+use Rattle.f77_layout.proofs.LabelLemmas.{TellsLabel, role_label, statement_of-own}
+use Rattle.f77_layout.proofs.RoleLemmas.{opened_by}
+use Rattle.f77_layout.proofs.OpenSpans.{AreLabelled}
+
+pub given_at : (stmts : List Labelled) → IsSource stmts → (i : ℕ) (s : Labelled) → slice_get stmts i ≡ Some s → IsGiven s.stmt
+given_at stmts source i s here = subst (λ (t : Labelled). IsGiven t.stmt) (get_or_from_slice_get stmts i s s here) (source.given i s (slice_get_within stmts i s here))
+
+opens_loop : (role : Role) (terminal : ℕ) → opened_by role ≡ Some (Loop terminal) → TellsLabel role → IsLabel terminal
+opens_loop (BeginLoop label) terminal h is = let same : label ≡ terminal = cc in subst IsLabel same is
+opens_loop NextArm terminal h is = absurd cc
+opens_loop _ terminal h is = absurd cc
+
+pub AreLabelled-source : (stmts : List Labelled) → IsSource stmts → first_line is_labelled_twice stmts ≡ None → AreLabelled stmts
+AreLabelled-source stmts source once = record {
+  places = statement_of-own stmts once;
+  loops = λ h terminal at. (opens_loop (role_of at.s.stmt) terminal at.opens (role_label at.s.stmt (given_at stmts source h at.s at.stands))).0;
+}
+
+small_by : (role : Role) → TellsLabel role → HasSmallLabel role
+small_by (BeginLoop terminal) is = is.1
+small_by _ is = tt
+
+pub role_is_small : (stmts : List Labelled) → IsSource stmts → (i : ℕ) (s : Labelled) → slice_get stmts i ≡ Some s → HasSmallLabel (role_of s.stmt)
+role_is_small stmts source i s here = small_by (role_of s.stmt) (role_label s.stmt (given_at stmts source i s here))
+
+pub label_is_small : (stmts : List Labelled) → IsSource stmts → (i : ℕ) (s : Labelled) → slice_get stmts i ≡ Some s → s.label < 100000
+label_is_small stmts source i s here =
+    let le : s.label ≤ 99999 = subst (λ (t : Labelled). t.label ≤ 99999) (get_or_from_slice_get stmts i s s here) (source.labels i s (slice_get_within stmts i s here)) in
+    omega (arith, le)

@@ -1,0 +1,30 @@
+use Rattle.std.proofs.Common.{length, sym, ap, ◌∙◌}
+use Rattle.f77_layout.proofs.KnownStatements.{statements-known}
+use Rattle.f77_layout.proofs.MadePrograms.{as-many, found-is, stored-placed}
+use Rattle.f77_layout.proofs.assembly.numbers_of.Goals as goal
+
+pub place_names-requires : goal.place_names-requires
+place_names-requires c = rw c.requires.table (statements-known c.args.stmts.now)
+
+pub first_wrong_storage-requires-clause-as_many : goal.first_wrong_storage-requires-clause-as_many
+first_wrong_storage-requires-clause-as_many c =
+    let stored = stored-placed c.args.stmts.now c.args.names.now c.in_ok-line.field-0 c.in-Right.storages c.in_ok-numbers-in-Right.numbers c.requires.table c.in-Right.is c.in_ok-line.ensures c.in_ok-numbers-in-Right.ensures in
+    ap length c.deref.ensures.value ∙ as-many c.args.stmts.now c.in_ok-numbers-in-Right.numbers stored ∙ sym (ap length c.requires.table)
+
+pub first_wrong_storage-requires-clause-few : goal.first_wrong_storage-requires-clause-few
+first_wrong_storage-requires-clause-few c =
+    let stored = stored-placed c.args.stmts.now c.args.names.now c.in_ok-line.field-0 c.in-Right.storages c.in_ok-numbers-in-Right.numbers c.requires.table c.in-Right.is c.in_ok-line.ensures c.in_ok-numbers-in-Right.ensures in
+    rw c.deref.ensures.value stored.few
+
+pub returns-in-Some-clause-faulty : goal.returns-in-Some-clause-faulty
+returns-in-Some-clause-faulty c =
+    let stored = stored-placed c.args.stmts.now c.args.names.now c.in_ok-line.field-0 c.in-Right.storages c.in_ok-numbers-in-Right.numbers c.requires.table c.in-Right.is c.in_ok-line.ensures c.in_ok-numbers-in-Right.ensures in
+    sym c.in-Some.is ∙ found-is c.args.stmts.now c.in_ok-numbers-in-Right.numbers stored c.args.names.now c.deref.result.now c.in_ok-line-in-Right.field-0 c.requires.table c.deref.ensures.value c.in_ok-line-in-Right.ensures
+
+pub returns-clause-faulty : goal.returns-clause-faulty
+returns-clause-faulty c =
+    let stored = stored-placed c.args.stmts.now c.args.names.now c.in_ok-line.field-0 c.in-Right.storages c.in_ok-numbers-in-Right.numbers c.requires.table c.in-Right.is c.in_ok-line.ensures c.in_ok-numbers-in-Right.ensures in
+    sym c.in-None.is ∙ found-is c.args.stmts.now c.in_ok-numbers-in-Right.numbers stored c.args.names.now c.deref.result.now c.in_ok-line-in-Right.field-0 c.requires.table c.deref.ensures.value c.in_ok-line-in-Right.ensures
+
+pub returns-clause-numbers : goal.returns-clause-numbers
+returns-clause-numbers c = stored-placed c.args.stmts.now c.args.names.now c.in_ok-line.field-0 c.in-Right.storages c.in_ok-numbers-in-Right.numbers c.requires.table c.in-Right.is c.in_ok-line.ensures c.in_ok-numbers-in-Right.ensures

@@ -1,0 +1,7 @@
+use Rattle.std.proofs.Common.{◌≡◌, take}
+use Rattle.std.specs.Prelude.{flat_map}
+use Rattle.f77_layout.specs.Declarations.{parts_of}
+use Rattle.f77_layout.proofs.collecting.commons_of.Given as goal
+
+abbrev pub invariant-loop-s : goal.invariant-loop-s
+invariant-loop-s l = l.commons ≡ flat_map (λ s. parts_of s.stmt) (take l.s-index l.stmts)

@@ -1,0 +1,7 @@
+use Rattle.std.proofs.Common.{◌≡◌, take}
+use Rattle.std.specs.Prelude.{flat_map}
+use Rattle.f77_layout.specs.Declarations.{groups_of}
+use Rattle.f77_layout.proofs.collecting.groups_of.Given as goal
+
+abbrev pub invariant-loop-s : goal.invariant-loop-s
+invariant-loop-s l = l.groups ≡ flat_map (λ s. groups_of s.stmt) (take l.s-index l.stmts)

@@ -1,0 +1,78 @@
+//! DATA that gives a value of the wrong kind, too few or too many values, or a word two values (ANSI X3.9-1978, section 9).
+
+ghost use Rattle.std.specs.Prelude.{◌≡◌, ℕ, ◌++◌, not, true, false, List, flat_map, IfOk};
+ghost use Rattle.std.specs.List.{list_any};
+ghost use Rattle.std.specs.Ordering.{nat_cmp};
+ghost use Rattle.std.specs.BTreeMap.{get};
+ghost use Rattle.f77_tree.specs.InitialWords.{part_words};
+ghost use Rattle.f77_layout.specs.Declarations.{inits_of};
+ghost use Rattle.f77_layout.specs.StorageFaults.{is_member, has_wrong_member, is_data, is_wrong_part, has_wrong_part};
+ghost use Rattle.f77_layout.specs.PlacedNames.{with_places, ArePlaces};
+ghost use Rattle.f77_layout.specs.GivenWords.{Holds};
+
+use crate::data_items::spans_of;
+use crate::data_kinds::fits;
+use crate::given_words::GivenWords;
+use crate::names::Names;
+use df_sequence::NoMemory;
+use f77_tree::{InitPart, Labelled, Stmt};
+use std::alloc::Global;
+
+/// Whether the values of a statement don't fit its items, where the names have these places, or one of its words has a value.
+/// It adds the words, if not.
+pub(crate) fn is_wrong(
+    alloc: Global,
+    names: &Names,
+    places: &[u64],
+    given: &mut GivenWords,
+    s: &Labelled,
+) -> Result<bool, NoMemory>
+    requires members { has_wrong_member names.now s.now ≡ false }
+    requires places { is_data s.now.stmt ≡ true → ArePlaces names.now places.now }
+    ensures wrong { IfOk result (λ wrong. (seen : List ℕ) → Holds (get nat_cmp given.old.ends) seen → wrong ≡ has_wrong_part (with_places names.now places.now) seen (inits_of s.now.stmt)) }
+    ensures added { IfOk result (λ wrong. (seen : List ℕ) → Holds (get nat_cmp given.old.ends) seen → wrong ≡ false → Holds (get nat_cmp given.new.ends) (seen ++ flat_map (part_words (with_places names.now places.now)) (inits_of s.now.stmt))) }
+{
+    match &s.stmt {
+        Stmt::Init(parts) => are_wrong_parts(alloc, names, places, given, parts.as_slice()),
+        _ => Ok(false),
+    }
+}
+
+fn are_wrong_parts(
+    alloc: Global,
+    names: &Names,
+    places: &[u64],
+    given: &mut GivenWords,
+    parts: &[InitPart],
+) -> Result<bool, NoMemory>
+    requires members { list_any (λ part. list_any (λ member. not (is_member names.now member)) part.items) parts.now ≡ false }
+    requires places { ArePlaces names.now places.now }
+    ensures wrong { IfOk result (λ wrong. (seen : List ℕ) → Holds (get nat_cmp given.old.ends) seen → wrong ≡ has_wrong_part (with_places names.now places.now) seen parts.now) }
+    ensures added { IfOk result (λ wrong. (seen : List ℕ) → Holds (get nat_cmp given.old.ends) seen → wrong ≡ false → Holds (get nat_cmp given.new.ends) (seen ++ flat_map (part_words (with_places names.now places.now)) parts.now)) }
+{
+    for part in parts {
+        if is_wrong_part_of(alloc, names, places, given, part)? {
+            return Ok(true);
+        }
+    }
+    Ok(false)
+}
+
+fn is_wrong_part_of(
+    alloc: Global,
+    names: &Names,
+    places: &[u64],
+    given: &mut GivenWords,
+    part: &InitPart,
+) -> Result<bool, NoMemory>
+    requires members { list_any (λ member. not (is_member names.now member)) part.now.items ≡ false }
+    requires places { ArePlaces names.now places.now }
+    ensures wrong { IfOk result (λ wrong. (seen : List ℕ) → Holds (get nat_cmp given.old.ends) seen → wrong ≡ is_wrong_part (with_places names.now places.now) seen part.now) }
+    ensures added { IfOk result (λ wrong. (seen : List ℕ) → Holds (get nat_cmp given.old.ends) seen → wrong ≡ false → Holds (get nat_cmp given.new.ends) (seen ++ part_words (with_places names.now places.now) part.now)) }
+{
+    let spans = spans_of(alloc, names, places, part.items.as_slice())?;
+    if !fits(&spans, part.values.as_slice()) {
+        return Ok(true);
+    }
+    Ok(!given.add_spans(&spans)?)
+}

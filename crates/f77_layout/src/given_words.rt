@@ -1,0 +1,80 @@
+//! The words that DATA has given values to (ANSI X3.9-1978, section 9).
+
+ghost use Rattle.std.specs.Prelude.{◌≡◌, ℕ, ◌<◌, ◌+◌, ◌-◌, ◌^◌, [], ◌++◌, not, ◌==◌, true, List, flat_map, IfOk};
+ghost use Rattle.std.specs.Ordering.{nat_cmp};
+ghost use Rattle.std.specs.BTreeMap.{get};
+ghost use Rattle.f77_tree.specs.InitialWords.{words_from};
+ghost use Rattle.f77_layout.specs.Faults.{has_repeat};
+ghost use Rattle.f77_layout.specs.Runs.{span_words};
+ghost use Rattle.f77_layout.specs.GivenWords.{Holds, IsLastBefore};
+
+use crate::data_spans::Span;
+use df_sequence::NoMemory;
+use std::alloc::Global;
+use std::collections::BTreeMap;
+
+/// Words with numbers up to 2^64, in intervals without a common word: the number behind the last word, by the first word.
+#[derive(Drop)]
+pub(crate) struct GivenWords {
+    ends: BTreeMap<u64, u64>,
+}
+
+impl GivenWords {
+    /// No words.
+    pub(crate) fn new(alloc: Global) -> GivenWords
+        ensures { Holds (get nat_cmp result.ends) [] }
+    {
+        GivenWords {
+            ends: BTreeMap::new(alloc),
+        }
+    }
+
+    // The last interval that begins before this word.
+    fn last_before(&self, word: u64) -> Option<(u64, u64)>
+        ensures { IsLastBefore (get nat_cmp self.now.ends) word result }
+    {
+        match self.ends.range(..word).next_back() {
+            Some((first, end)) => Some((*first, *end)),
+            None => None,
+        }
+    }
+
+    // Whether none of these words is held.
+    fn is_free(&self, first: u64, len: u32) -> bool
+        requires some { 0 < len }
+        requires room { first + len < 2 ^ 64 }
+        ensures { (seen : List ℕ) → Holds (get nat_cmp self.now.ends) seen → result ≡ not (has_repeat (λ a b. a == b) seen (words_from first len)) }
+    {
+        match self.last_before(first + len as u64) {
+            Some((_, last)) => last <= first,
+            None => true,
+        }
+    }
+
+    /// Adds so many words from the first one on, if none of them is held.
+    pub(crate) fn add(&mut self, first: u64, len: u32) -> Result<bool, NoMemory>
+        requires some { 0 < len }
+        requires room { first + len < 2 ^ 64 }
+        ensures free { IfOk result (λ free. (seen : List ℕ) → Holds (get nat_cmp self.old.ends) seen → free ≡ not (has_repeat (λ a b. a == b) seen (words_from first len))) }
+        ensures added { IfOk result (λ free. (seen : List ℕ) → Holds (get nat_cmp self.old.ends) seen → free ≡ true → Holds (get nat_cmp self.new.ends) (seen ++ words_from first len)) }
+    {
+        if !self.is_free(first, len) {
+            return Ok(false);
+        }
+        self.ends.insert(first, first + len as u64)?;
+        Ok(true)
+    }
+
+    /// Adds the words of spans, if none of them is held or stands twice.
+    pub(crate) fn add_spans(&mut self, spans: &[Span]) -> Result<bool, NoMemory>
+        ensures free { IfOk result (λ free. (seen : List ℕ) → Holds (get nat_cmp self.old.ends) seen → free ≡ not (has_repeat (λ a b. a == b) seen (flat_map span_words spans.now))) }
+        ensures added { IfOk result (λ free. (seen : List ℕ) → Holds (get nat_cmp self.old.ends) seen → free ≡ true → Holds (get nat_cmp self.new.ends) (seen ++ flat_map span_words spans.now)) }
+    {
+        for span in spans {
+            if !self.add(span.first, span.len)? {
+                return Ok(false);
+            }
+        }
+        Ok(true)
+    }
+}

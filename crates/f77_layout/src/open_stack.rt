@@ -1,0 +1,117 @@
+//! The DO loops and blocks that are open at a place of the text.
+
+ghost use Rattle.std.specs.Prelude.{◌≡◌, ◌<◌, [], ◌∷◌, ◌++◌, slice_get, option_to_list, IfOk, IfNone, OnOk};
+ghost use Rattle.std.specs.List.{list_any};
+ghost use Rattle.f77_layout.specs.OpenStack.{ends_at, head_of, opened_of, TellsSmallLabels};
+
+use crate::labels::LABELS;
+use df_sequence::NoMemory;
+use std::alloc::Global;
+use std::marker::Model;
+
+/// What is open.
+#[derive(Clone, Copy, Drop)]
+pub(crate) enum Opened {
+    /// A loop whose range ends at the statement with this label.
+    Loop(u32),
+    /// An arm of a block, and whether it is the last one.
+    Block(bool),
+}
+
+/// What is open, and the place of the statement that begins it.
+#[derive(Clone, Copy, Drop)]
+pub(crate) struct Entry {
+    pub(crate) begin: u32,
+    pub(crate) opened: Opened,
+}
+
+/// What is open. Contracts see it as the list of its entries, the innermost first.
+#[derive(Drop)]
+pub(crate) struct OpenStack {
+    entries: Vec<Entry>,
+    /// For each label how many loops that end there are open.
+    loops: Vec<usize>,
+}
+
+impl Model for OpenStack {
+    ghost use Rattle.std.specs.Prelude.{List, reverse};
+    ghost use Rattle.f77_layout.specs.declared.open_stack.Entry.{Entry};
+    ghost use Rattle.f77_layout.specs.OpenStack.{AreCounted};
+
+    ghost Value = { List Entry };
+
+    ghost view = { λ s. reverse s.entries.items };
+
+    ghost invariant = { λ s. AreCounted (reverse s.entries.items) s.loops.items };
+}
+
+impl OpenStack {
+    /// Nothing is open.
+    pub(crate) fn new(alloc: Global) -> Result<OpenStack, NoMemory>
+        ensures { IfOk result (λ stack. stack ≡ []) }
+    {
+        Ok(OpenStack {
+            entries: Vec::new(alloc),
+            loops: vec![in alloc; 0; LABELS]?,
+        })
+    }
+
+    /// Puts an entry on top.
+    pub(crate) fn push(&mut self, entry: Entry) -> Result<(), NoMemory>
+        requires { TellsSmallLabels entry }
+        ensures { OnOk result (self.new ≡ entry ∷ self.old) }
+    {
+        self.entries.push(entry)?;
+        if let Opened::Loop(label) = entry.opened {
+            self.loops[label as usize] += 1;
+        }
+        Ok(())
+    }
+
+    /// Takes the top away, if there is one.
+    pub(crate) fn pop(&mut self) -> Option<Entry>
+        ensures items { self.old ≡ option_to_list result ++ self.new }
+        ensures none { IfNone result (self.old ≡ []) }
+    {
+        let entry = self.entries.pop()?;
+        if let Opened::Loop(label) = entry.opened {
+            self.loops[label as usize] -= 1;
+        }
+        Some(entry)
+    }
+
+    /// The innermost entry.
+    pub(crate) fn top(&self) -> Option<Entry>
+        ensures { result ≡ slice_get self.now 0 }
+    {
+        self.entries.last().copied()
+    }
+
+    /// Where the innermost entry begins.
+    pub(crate) fn head(&self) -> Option<u32>
+        ensures { result ≡ head_of self.now }
+    {
+        match self.top() {
+            Some(entry) => Some(entry.begin),
+            None => None,
+        }
+    }
+
+    /// What the innermost entry is.
+    pub(crate) fn opened(&self) -> Option<Opened>
+        ensures { result ≡ opened_of self.now }
+    {
+        match self.top() {
+            Some(entry) => Some(entry.opened),
+            None => None,
+        }
+    }
+
+    /// Whether a loop is open that ends at the label.
+    pub(crate) fn has_loop_to(&self, label: u32) -> bool
+        requires { label < 100000 }
+        ensures { result ≡ list_any (ends_at label) self.now }
+    {
+        self.loops[label as usize] > 0
+    }
+}
