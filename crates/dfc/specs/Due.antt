@@ -1,8 +1,12 @@
 -- What is due for some words and a text: a status, and the bytes that are written.
-use Rattle.std.specs.Prelude.{ℕ, List, [], ◌∷◌, ◌++◌, Option, Some, None, codes}
+use Rattle.std.specs.Prelude.{ℕ, Bool, true, false, List, [], ◌∷◌, ◌++◌, Option, Some, None, codes, slice_get}
 use Rattle.std.specs.Fmt.{decimal}
+use Rattle.f77_tree.specs.declared.programs.Exec.{Exec}
 use Rattle.f77_tree.specs.declared.programs.Program.{Program}
+use Rattle.f77_tree.specs.Straight.{count_before_end}
+use Rattle.token_net.specs.Playable.{is_playable}
 use Rattle.dfc.specs.declared.reading.Code.{Code}
+use Rattle.dfc.specs.declared.reading.Code.TheVariants.{NotYet}
 use Rattle.dfc.specs.declared.status.Status.{Status}
 use Rattle.dfc.specs.declared.status.Status.TheVariants as status
 use Rattle.dfc.specs.declared.words.Job.{Job}
@@ -40,9 +44,22 @@ done text = record { status = status.Done; text = text; last = [] }
 abbrev pub over : Game → Due
 over game = done (game.written game.firings)
 
+abbrev pub line_in : Option Exec → ℕ
+line_in None = 0
+line_in (Some exec) = exec.line
+
+-- the line of END
+abbrev pub end_line : Program → ℕ
+end_line p = line_in (slice_get p.execs (count_before_end p))
+
+-- the games of programs with control, arrays or traps aren't played yet
+abbrev pub due_played : (playable : Bool) → Program → Due
+due_played true p = over (game_of p)
+due_played false p = refusal (end_line p) NotYet
+
 -- what each task owes on a program
 abbrev pub due_on : Task → Program → Due
-due_on Play p = over (game_of p)
+due_on Play p = due_played (is_playable p) p
 
 abbrev pub due_read : Task → Reading → Due
 due_read task (Refused line code) = refusal line code
@@ -50,7 +67,7 @@ due_read task (Accepted p) = due_on task p
 
 abbrev pub due_of : Option Job → List ℕ → Due
 due_of None bytes = usage
-due_of (Some (On task)) bytes = due_read task (reading bytes)
+due_of (Some (On task dialect)) bytes = due_read task (reading dialect bytes)
 
 -- what is due
 abbrev pub due : List (List ℕ) → List ℕ → Due

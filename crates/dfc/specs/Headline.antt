@@ -1,7 +1,8 @@
 -- What each job promises of the program of a text, beyond the bytes that are due.
-use Rattle.std.specs.Prelude.{◌≡◌, ◌≢◌, ◌<◌, [], ℕ, true, List, Option, Some, None}
+use Rattle.std.specs.Prelude.{◌≡◌, ◌≢◌, ◌<◌, [], ℕ, Bool, true, false, List, Option, Some, None}
 use Rattle.f77_tree.specs.declared.programs.Program.{Program}
 use Rattle.f77_tree.specs.Run.{EndsIn, out}
+use Rattle.token_net.specs.Playable.{is_playable}
 use Rattle.dfc.specs.declared.status.Status.TheVariants.{Done}
 use Rattle.dfc.specs.declared.words.Job.{Job}
 use Rattle.dfc.specs.declared.words.Job.TheVariants.{On}
@@ -21,9 +22,14 @@ pub record MeansRun (p : Program) (game : Game) (due : Due) : Type 0 where
   pub done : due.status ≡ Done
   pub output : due.text ≡ out p [] steps
 
+-- nothing is promised of a program that isn't played yet
+abbrev pub MeansPlayed : (playable : Bool) → Program → Due → Type 0
+MeansPlayed true p due = MeansRun p (game_of p) due
+MeansPlayed false p due = Unit {0}
+
 -- what each task promises
 abbrev pub Means : Task → Program → Due → Type 0
-Means Play p due = MeansRun p (game_of p) due
+Means Play p due = MeansPlayed (is_playable p) p due
 
 abbrev pub MeansRead : Task → Reading → Type 0
 MeansRead task (Refused line code) = Unit {0}
@@ -31,4 +37,4 @@ MeansRead task (Accepted p) = Means task p (due_on task p)
 
 abbrev pub MeansFor : Option Job → List ℕ → Type 0
 MeansFor None bytes = Unit {0}
-MeansFor (Some (On task)) bytes = MeansRead task (reading bytes)
+MeansFor (Some (On task dialect)) bytes = MeansRead task (reading dialect bytes)

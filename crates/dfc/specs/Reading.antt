@@ -1,13 +1,14 @@
 -- What a text is: a program, or refused. Want of memory has no place in it.
-use Rattle.std.specs.Prelude.{◌≡◌, ℕ, ◌+◌, List, length, Option, Some, None, Result, Ok, Err, nat_lt, MatchBool, if◌then◌else◌}
+use Rattle.std.specs.Prelude.{◌≡◌, ℕ, ◌+◌, Bool, true, false, List, length, Option, Some, None, Result, Ok, Err, nat_lt, MatchBool, if◌then◌else◌}
 use Rattle.std.specs.Io.KnownBytes.{IsAtEnd}
 use Rattle.df_io.specs.Read.{Takes, TakesAtMost}
 use Rattle.f77_tree.specs.declared.programs.Program.{Program}
-use Rattle.early_lines.specs.declared.early_end.EarlyEnd.{EarlyEnd}
-use Rattle.early_lines.specs.declared.early_end.EarlyEnd.TheVariants as end
-use Rattle.early_lines.specs.Programs as early
+use Rattle.f77_source.specs.declared.source_end.Refusal.{Refusal}
+use Rattle.f77_source.specs.Reading as source
 use Rattle.dfc.specs.declared.reading.Code.{Code}
-use Rattle.dfc.specs.declared.reading.Code.TheVariants.{TooLong, NotYet, NoEnd}
+use Rattle.dfc.specs.declared.reading.Code.TheVariants.{TooLong, Text}
+use Rattle.dfc.specs.declared.words.Dialect.{Dialect}
+use Rattle.dfc.specs.declared.words.Dialect.TheVariants.{Plain, Checked}
 use Rattle.dfc.specs.declared.reading.NoProgram.{NoProgram}
 use Rattle.dfc.specs.declared.reading.NoProgram.TheVariants as none
 
@@ -20,16 +21,17 @@ pub data Reading : Type 0 where
 abbrev pub most_bytes : ℕ
 most_bytes = 4194304
 
--- early lines have no want of memory: their definition never comes to the last row
-abbrev pub read_early : Result Program EarlyEnd → Reading
-read_early (Ok program) = Accepted program
-read_early (Err (end.NotYet line)) = Refused line NotYet
-read_early (Err (end.NoEnd line)) = Refused line NoEnd
-read_early (Err end.NoMemory) = Refused 0 NotYet
+abbrev pub read_source : Result Program Refusal → Reading
+read_source (Ok program) = Accepted program
+read_source (Err refusal) = Refused refusal.line (Text refusal.code)
+
+abbrev pub is_checked : Dialect → Bool
+is_checked Plain = false
+is_checked Checked = true
 
 -- a text that is too long is refused before anything else
-abbrev pub reading : List ℕ → Reading
-reading bytes = if nat_lt most_bytes (length bytes) then Refused 0 TooLong else read_early (early.reading bytes)
+abbrev pub reading : Dialect → List ℕ → Reading
+reading dialect bytes = if nat_lt most_bytes (length bytes) then Refused 0 TooLong else read_source (source.reading bytes (is_checked dialect))
 
 -- A text was read as what it is, or the source failed or memory ended.
 abbrev pub IsReadAs : Reading → Result Program NoProgram → Type 0

@@ -3,21 +3,50 @@
 ghost use Rattle.std.specs.Prelude.{◌≡◌, ◌≢◌, ◌≤◌};
 ghost use Rattle.df_io.specs.Faults.{Rose};
 ghost use Rattle.f77_tree.specs.Straight.{IsStraight};
+ghost use Rattle.f77_tree.specs.WellFormed.{IsWellFormed};
 ghost use Rattle.token_net.specs.Marking.{opening};
 ghost use Rattle.token_net.specs.StraightNet.{program_of, marking_of};
 ghost use Rattle.dfc.specs.Answers.{AnswersAs, Tells};
-ghost use Rattle.dfc.specs.Due.{over};
+ghost use Rattle.dfc.specs.Due.{over, due_on, end_line};
 ghost use Rattle.dfc.specs.Game.{game_of};
-ghost use Rattle.dfc.specs.Headline.{MeansRun};
+ghost use Rattle.dfc.specs.Headline.{Means, MeansRun};
 
+use crate::lines::tell_refusal;
+use crate::reading::Code;
 use crate::status::Status;
+use crate::words::Task;
 use df_io::{NoMemory, Sink};
 use f77_tree::Program;
 use std::alloc::Global;
-use token_net::{PlayEnd, StraightNet, follow};
+use token_net::{PlayEnd, StraightNet, follow, is_playable};
 
-/// Makes the net of a program, and plays its game. All memory is taken before the first byte is written.
+/// Plays the game of a program, or refuses one that isn't played yet, at the line of END.
 pub fn play<K: Sink>(alloc: Global, program: &Program, sink: &mut K) -> Status
+    requires { IsWellFormed program.now }
+    ensures due { AnswersAs (due_on Task.Play program.now) (K.got sink.old) (K.got sink.new) result }
+    ensures means { result ≢ Status.NoMemory → Means Task.Play program.now (due_on Task.Play program.now) }
+    ensures words { result ≢ Status.Usage }
+    ensures reads { result ≢ Status.ReadFault }
+    ensures later { K.faults sink.old ≤ K.faults sink.new }
+    ensures fault { result ≡ Status.WriteFault → Rose (K.faults sink.old) (K.faults sink.new) }
+{
+    if is_playable(program) {
+        play_straight(alloc, program, sink)
+    } else {
+        tell_refusal(end_line_of(program), Code::NotYet, sink)
+    }
+}
+
+// The line of END.
+fn end_line_of(program: &Program) -> u32
+    requires { IsWellFormed program.now }
+    ensures { result ≡ end_line program.now }
+{
+    program.execs.at(program.execs.len() - 1).line
+}
+
+// Makes the net of a program, and plays its game. All memory is taken before the first byte is written.
+fn play_straight<K: Sink>(alloc: Global, program: &Program, sink: &mut K) -> Status
     requires { IsStraight program.now }
     ensures due { AnswersAs (over (game_of program.now)) (K.got sink.old) (K.got sink.new) result }
     ensures means { result ≢ Status.NoMemory → MeansRun program.now (game_of program.now) (over (game_of program.now)) }

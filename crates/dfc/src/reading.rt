@@ -1,11 +1,12 @@
 ghost use Rattle.std.specs.Prelude.{◌≡◌, ◌≢◌, ◌≤◌, length, IfOk, IfSome, IsErrOf};
 ghost use Rattle.df_io.specs.Faults.{Rose};
-ghost use Rattle.f77_tree.specs.Straight.{IsStraight};
+ghost use Rattle.f77_tree.specs.WellFormed.{IsWellFormed};
 ghost use Rattle.dfc.specs.Codes.{name_of};
 ghost use Rattle.dfc.specs.Reading.{reading, most_bytes, IsReadAs, IsReadFor, IsReadWithin};
 
+use crate::words::Dialect;
 use df_io::{ReadEnd, Source, read_all};
-use early_lines::{EarlyEnd, read_early};
+use f77_source::SourceEnd;
 use f77_tree::Program;
 use std::alloc::Global;
 
@@ -17,10 +18,10 @@ const MOST_BYTES: u32 = 4_194_304;
 pub enum Code {
     /// It has too many bytes.
     TooLong,
-    /// A line is one that isn't read yet.
+    /// The program isn't played yet.
     NotYet,
-    /// There is no END at its end.
-    NoEnd,
+    /// It is no program.
+    Text(f77_source::Code),
 }
 
 impl Code {
@@ -32,8 +33,36 @@ impl Code {
         match self {
             Code::TooLong => "TOOLONG",
             Code::NotYet => "NOTYET",
-            Code::NoEnd => "NOEND",
+            Code::Text(code) => text_name(code),
         }
+    }
+}
+
+// The code of a text that is no program, as it is written.
+fn text_name(code: f77_source::Code) -> &'static str
+    ensures name { result.now ≡ name_of (Code.Text code) }
+    ensures short { length result.now ≤ 12 }
+{
+    match code {
+        f77_source::Code::BadByte => "BADBYTE",
+        f77_source::Code::BadLabelField => "BADLABEL",
+        f77_source::Code::StrayContinuation => "STRAYCONT",
+        f77_source::Code::TooManyContinuations => "MANYCONT",
+        f77_source::Code::TooManyStatements => "MANYSTMTS",
+        f77_source::Code::NoEnd => "NOEND",
+        f77_source::Code::TooDeep => "TOODEEP",
+        f77_source::Code::NoForm => "NOFORM",
+        f77_source::Code::BadConstant => "BADCONST",
+        f77_source::Code::OutOfOrder => "BADORDER",
+        f77_source::Code::RealName => "REALNAME",
+        f77_source::Code::TypeWrong => "BADTYPE",
+        f77_source::Code::LayoutWrong => "BADLAYOUT",
+        f77_source::Code::LabelTwice => "LABELTWICE",
+        f77_source::Code::LabelMissing => "NOLABEL",
+        f77_source::Code::BadNesting => "BADNESTING",
+        f77_source::Code::JumpInto => "JUMPINTO",
+        f77_source::Code::TooManyWords => "MANYWORDS",
+        f77_source::Code::TooManyOps => "MANYOPS",
     }
 }
 
@@ -49,9 +78,13 @@ pub enum NoProgram {
 }
 
 /// Reads the program of the text that the source has, to its end or to the first byte past what a text may have.
-pub fn read_program<S: Source>(alloc: Global, source: &mut S) -> Result<Program, NoProgram>
-    ensures reads { IfSome (S.left source.old) (λ bytes. IsReadAs (reading bytes) result) }
-    ensures straight { IfOk result IsStraight }
+pub fn read_program<S: Source>(
+    alloc: Global,
+    source: &mut S,
+    dialect: Dialect,
+) -> Result<Program, NoProgram>
+    ensures reads { IfSome (S.left source.old) (λ bytes. IsReadAs (reading dialect bytes) result) }
+    ensures well_formed { IfOk result (λ program. IsWellFormed program) }
     ensures taken { IsReadFor (S.left source.old) (S.left source.new) result }
     ensures within { IsReadWithin (S.left source.old) (S.left source.new) }
 
@@ -60,7 +93,7 @@ pub fn read_program<S: Source>(alloc: Global, source: &mut S) -> Result<Program,
     ensures fault { IsErrOf result NoProgram.ReadFault → Rose (S.faults source.old) (S.faults source.new) }
 {
     match read_all(alloc, source, MOST_BYTES) {
-        Ok(bytes) => read_text(alloc, bytes.as_slice()),
+        Ok(bytes) => read_text(alloc, bytes.as_slice(), dialect),
         Err(ReadEnd::TooLong) => Err(NoProgram::Refused {
             line: 0,
             code: Code::TooLong,
@@ -71,22 +104,18 @@ pub fn read_program<S: Source>(alloc: Global, source: &mut S) -> Result<Program,
 }
 
 // The program of a text that isn't too long.
-fn read_text(alloc: Global, bytes: &[u8]) -> Result<Program, NoProgram>
+fn read_text(alloc: Global, bytes: &[u8], dialect: Dialect) -> Result<Program, NoProgram>
     requires { length bytes.now ≤ most_bytes }
-    ensures reads { IsReadAs (reading bytes.now) result }
-    ensures straight { IfOk result IsStraight }
+    ensures reads { IsReadAs (reading dialect bytes.now) result }
+    ensures well_formed { IfOk result (λ program. IsWellFormed program) }
     ensures read { IsErrOf result NoProgram.ReadFault → ⊥ }
 {
-    match read_early(alloc, bytes) {
+    match f77_source::read_program(alloc, bytes, dialect == Dialect::Checked) {
         Ok(program) => Ok(program),
-        Err(EarlyEnd::NotYet(line)) => Err(NoProgram::Refused {
-            line,
-            code: Code::NotYet,
+        Err(SourceEnd::Refused(refusal)) => Err(NoProgram::Refused {
+            line: refusal.line,
+            code: Code::Text(refusal.code),
         }),
-        Err(EarlyEnd::NoEnd(line)) => Err(NoProgram::Refused {
-            line,
-            code: Code::NoEnd,
-        }),
-        Err(EarlyEnd::NoMemory) => Err(NoProgram::NoMemory),
+        Err(SourceEnd::NoMemory) => Err(NoProgram::NoMemory),
     }
 }

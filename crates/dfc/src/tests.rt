@@ -47,22 +47,54 @@ fn fires_straight_programs(rt: HostRuntime) -> Result<(), Fail> {
         ("      END\n", 0, ""),
         ("      PRINT *\n      END", 0, "\n"),
         (
-            "      I=2\n      J=I*I+1\n      END\n",
+            "      I=2\n      J=I*I+1\n      PRINT *,J,'A'\n      END\n",
+            0,
+            " 5 A\n",
+        ),
+        (
+            "      I=2\n      GO TO 5\n    5 END\n",
             2,
-            "REFUSED 2 NOTYET\n",
+            "REFUSED 3 NOTYET\n",
+        ),
+        (
+            "      I=2\n      X=I\n      END\n",
+            2,
+            "REFUSED 2 REALNAME\n",
         ),
         ("", 2, "REFUSED 1 NOEND\n"),
         ("      I=1\n", 2, "REFUSED 2 NOEND\n"),
         (
             "      N=999999999+N\n      PRINT *,N-1\n      END\n",
-            2,
-            "REFUSED 2 NOTYET\n",
+            0,
+            " 999999998\n",
         ),
     ] {
         check(
             &rt,
             rt.alloc(),
             &["fire"],
+            text.as_bytes(),
+            &NONE,
+            status,
+            written,
+        )?;
+    }
+    Ok(())
+}
+
+#[test]
+fn takes_the_dialect_and_data(rt: HostRuntime) -> Result<(), Fail> {
+    let text = "      I=2\n      PRINT *,I+1\n      END\n";
+    for (words, status, written) in [
+        (["fire", "data=1,-2"], 0, " 3\n"),
+        (["fire", "checked"], 2, "REFUSED 3 NOTYET\n"),
+        (["fire", "data="], 1, "USAGE\n"),
+        (["fire", "checked="], 1, "USAGE\n"),
+    ] {
+        check(
+            &rt,
+            rt.alloc(),
+            &words,
             text.as_bytes(),
             &NONE,
             status,
@@ -157,6 +189,24 @@ fn refuses_long_texts(rt: HostRuntime) -> Result<(), Fail> {
         &text.as_slice()[1..],
         &NONE,
         2,
-        "REFUSED 1 NOTYET\n",
+        "REFUSED 4194305 NOEND\n",
+    )
+}
+
+#[test]
+fn counts_the_operations_of_a_statement(rt: HostRuntime) -> Result<(), Fail> {
+    let mut text = String::from_str(rt.alloc(), "      I=J\n")?;
+    for _ in 0..19 {
+        text.push_str("     &+J+J+J+J+J+J+J+J+J+J+J+J+J+J+J+J+J+J+J+J+J+J+J+J+J+J+J\n")?;
+    }
+    text.push_str("      END\n")?;
+    check(
+        &rt,
+        rt.alloc(),
+        &["fire"],
+        text.as_bytes(),
+        &NONE,
+        2,
+        "REFUSED 1 MANYOPS\n",
     )
 }

@@ -1,7 +1,7 @@
 ghost use Rattle.std.specs.Prelude.{◌≡◌, ◌≢◌, ◌≤◌, map, IfSome};
 ghost use Rattle.std.specs.String.{string_bytes};
 ghost use Rattle.df_io.specs.Faults.{Rose};
-ghost use Rattle.f77_tree.specs.Straight.{IsStraight};
+ghost use Rattle.f77_tree.specs.WellFormed.{IsWellFormed};
 ghost use Rattle.dfc.specs.Answers.{Answers, AnswersAs, Blames, HasAll, IsUnwritten, ReadsFor, ReadsText, TellsWords, code_of};
 ghost use Rattle.dfc.specs.Due.{due, due_of, due_on, due_read};
 ghost use Rattle.dfc.specs.Headline.{Means, MeansFor, MeansRead};
@@ -12,7 +12,7 @@ use crate::lines::{tell_refusal, tell_usage};
 use crate::playing::play;
 use crate::reading::{NoProgram, read_program};
 use crate::status::Status;
-use crate::words::{Job, Task, read_words};
+use crate::words::{Dialect, Job, Task, read_words};
 use df_io::{Sink, Source};
 use f77_tree::Program;
 use std::alloc::Global;
@@ -62,20 +62,26 @@ fn do_job<S: Source, K: Sink>(alloc: Global, job: Job, source: &mut S, sink: &mu
     ensures blames { Blames (S.faults source.old) (S.faults source.new) (K.faults sink.old) (K.faults sink.new) (code_of result) }
 {
     match job {
-        Job::On(task) => on_text(alloc, task, source, sink),
+        Job::On(task, dialect) => on_text(alloc, task, dialect, source, sink),
     }
 }
 
 // Does a task on the program of the text that the source has.
-fn on_text<S: Source, K: Sink>(alloc: Global, task: Task, source: &mut S, sink: &mut K) -> Status
-    ensures due { IfSome (S.left source.old) (λ bytes. AnswersAs (due_read task (reading bytes)) (K.got sink.old) (K.got sink.new) result) }
+fn on_text<S: Source, K: Sink>(
+    alloc: Global,
+    task: Task,
+    dialect: Dialect,
+    source: &mut S,
+    sink: &mut K,
+) -> Status
+    ensures due { IfSome (S.left source.old) (λ bytes. AnswersAs (due_read task (reading dialect bytes)) (K.got sink.old) (K.got sink.new) result) }
     ensures words { result ≢ Status.Usage }
     ensures unwritten { IsUnwritten (K.got sink.old) (K.got sink.new) (code_of result) }
-    ensures means { HasAll (code_of result) → IfSome (S.left source.old) (λ bytes. MeansRead task (reading bytes)) }
+    ensures means { HasAll (code_of result) → IfSome (S.left source.old) (λ bytes. MeansRead task (reading dialect bytes)) }
     ensures takes { ReadsText (S.left source.old) (S.left source.new) (code_of result) }
     ensures blames { Blames (S.faults source.old) (S.faults source.new) (K.faults sink.old) (K.faults sink.new) (code_of result) }
 {
-    match read_program(alloc, source) {
+    match read_program(alloc, source, dialect) {
         Ok(program) => on_program(alloc, task, &program, sink),
         Err(NoProgram::Refused { line, code }) => tell_refusal(line, code, sink),
         Err(NoProgram::ReadFault) => Status::ReadFault,
@@ -85,7 +91,7 @@ fn on_text<S: Source, K: Sink>(alloc: Global, task: Task, source: &mut S, sink: 
 
 // Does a task on a program.
 fn on_program<K: Sink>(alloc: Global, task: Task, program: &Program, sink: &mut K) -> Status
-    requires { IsStraight program.now }
+    requires { IsWellFormed program.now }
     ensures due { AnswersAs (due_on task program.now) (K.got sink.old) (K.got sink.new) result }
     ensures words { result ≢ Status.Usage }
     ensures reads { result ≢ Status.ReadFault }

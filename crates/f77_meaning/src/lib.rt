@@ -10,7 +10,7 @@ mod storage;
 mod taking;
 
 pub use executing::{assign, execute};
-pub use line::{write_line, write_values};
+pub use line::{kind_of_value, write_line, write_values};
 pub use room::{longest_line, room_of_line};
 pub use stepper::{Stepped, Stepper};
 pub use storage::{Storage, begin, following, increment, initial_storage, word_in};

@@ -144,7 +144,7 @@ fn push_value(line: &mut Vec<u8>, kind: Kind, z: i32)
 }
 
 // The kind of an expression's value.
-fn kind_of_value(e: &Expr, names: &NameInfoList) -> Kind
+pub fn kind_of_value(e: &Expr, names: &NameInfoList) -> Kind
     requires { IsExpression names.now e.now }
     ensures { result ≡ kind_of_expression names.now e.now }
 {

@@ -8,3 +8,4 @@ mod NeedLemmas
 mod MoveLemmas
 mod FireLemmas
 mod FollowLemmas
+mod SimplePrograms

@@ -1,4 +1,5 @@
 pub mod Needs
+pub mod Playable
 pub mod Marking
 pub mod InStep
 pub mod StraightNet

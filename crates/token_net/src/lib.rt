@@ -5,10 +5,12 @@ mod acting;
 mod following;
 mod lines;
 mod needing;
+mod playable;
 mod straight;
 mod upcoming;
 
 pub use following::{PlayEnd, follow};
+pub use playable::is_playable;
 pub use straight::StraightNet;
 
 /// What a firing did.

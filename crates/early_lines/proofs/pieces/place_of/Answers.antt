@@ -1,9 +1,0 @@
-use Rattle.std.proofs.Common.{◌==◌, sym}
-use Rattle.early_lines.proofs.Cuts.{place_found, place_missing}
-use Rattle.early_lines.proofs.pieces.place_of.Goals as goal
-
-pub returns-in-Some-clause-place : goal.returns-in-Some-clause-place
-returns-in-Some-clause-place c = place_found (λ b. b == c.args.byte) c.args.text.now c.in-Some.n (sym c.in-Some.ensures)
-
-pub returns-in-None-clause-place : goal.returns-in-None-clause-place
-returns-in-None-clause-place c = place_missing (λ b. b == c.args.byte) c.args.text.now (sym c.in-None.ensures)

@@ -1,0 +1,90 @@
+-- What a source text is: a program, or its first refusal. Want of memory has no place in it.
+use Rattle.std.specs.Prelude.{◌≡◌, ℕ, Bool, List, [], ◌∷◌, Result, Ok, Err}
+use Rattle.fixed_form.specs.declared.raw_stmt.RawStmt.{RawStmt}
+use Rattle.fixed_form.specs.declared.form_end.FormEnd.{FormEnd}
+use Rattle.fixed_form.specs.declared.form_end.FormEnd.TheVariants as form
+use Rattle.fixed_form.specs.Reading as lines
+use Rattle.f77_tree.specs.declared.programs.Program.{Program}
+use Rattle.f77_tree.specs.declared.statements.Labelled.{Labelled}
+use Rattle.f77_parse.specs.declared.stmt_end.StmtEnd.{StmtEnd}
+use Rattle.f77_parse.specs.declared.stmt_end.StmtEnd.TheVariants as stmt
+use Rattle.f77_parse.specs.Parsing.{reading_of}
+use Rattle.f77_layout.specs.declared.layout_end.LayoutEnd.{LayoutEnd}
+use Rattle.f77_layout.specs.declared.layout_end.LayoutEnd.TheVariants as layout
+use Rattle.f77_layout.specs.Layout as laid
+use Rattle.f77_source.specs.declared.source_end.Code.{Code}
+use Rattle.f77_source.specs.declared.source_end.Code.TheVariants as code
+use Rattle.f77_source.specs.declared.source_end.Refusal.{Refusal}
+
+abbrev pub told : Code → ℕ → Refusal
+told code line = record { line = line; code = code }
+
+-- ---- lines and statements
+
+-- the refusal of a line; the definition of lines never comes to the last row
+abbrev pub form_refusal : FormEnd → Refusal
+form_refusal (form.BadByte line) = told code.BadByte line
+form_refusal (form.BadLabelField line) = told code.BadLabelField line
+form_refusal (form.StrayContinuation line) = told code.StrayContinuation line
+form_refusal (form.TooManyContinuations line) = told code.TooManyContinuations line
+form_refusal (form.NoEnd line) = told code.NoEnd line
+form_refusal (form.TooManyStatements line) = told code.TooManyStatements line
+form_refusal form.NoMemory = told code.NoEnd 0
+
+-- the refusal of a statement's text; that of a statement never comes to the last row
+abbrev pub stmt_refusal : StmtEnd → Refusal
+stmt_refusal (stmt.NoForm line) = told code.NoForm line
+stmt_refusal (stmt.BadConstant line) = told code.BadConstant line
+stmt_refusal (stmt.TooDeep line) = told code.TooDeep line
+stmt_refusal stmt.NoMemory = told code.NoForm 0
+
+abbrev pub statement_before : Result Labelled StmtEnd → Result (List Labelled) Refusal → Result (List Labelled) Refusal
+statement_before (Err end) more = Err (stmt_refusal end)
+statement_before (Ok s) (Err refusal) = Err refusal
+statement_before (Ok s) (Ok more) = Ok (s ∷ more)
+
+-- the statements, or the refusal of the first text that is none
+abbrev pub statements_of : List RawStmt → Result (List Labelled) Refusal
+statements_of [] = Ok []
+statements_of (raw ∷ more) = statement_before (reading_of raw) (statements_of more)
+
+-- ---- programs
+
+-- the refusal of statements; that of a layout never comes to the last row
+abbrev pub layout_refusal : LayoutEnd → Refusal
+layout_refusal (layout.OutOfOrder line) = told code.OutOfOrder line
+layout_refusal (layout.RealName line) = told code.RealName line
+layout_refusal (layout.TypeWrong line) = told code.TypeWrong line
+layout_refusal (layout.LayoutWrong line) = told code.LayoutWrong line
+layout_refusal (layout.LabelTwice line) = told code.LabelTwice line
+layout_refusal (layout.LabelMissing line) = told code.LabelMissing line
+layout_refusal (layout.BadNesting line) = told code.BadNesting line
+layout_refusal (layout.JumpInto line) = told code.JumpInto line
+layout_refusal (layout.TooManyWords line) = told code.TooManyWords line
+layout_refusal (layout.TooManyOps line) = told code.TooManyOps line
+layout_refusal layout.NoMemory = told code.OutOfOrder 0
+
+abbrev pub program_laid : Result Program LayoutEnd → Result Program Refusal
+program_laid (Ok p) = Ok p
+program_laid (Err end) = Err (layout_refusal end)
+
+abbrev pub program_of : (checked : Bool) → Result (List Labelled) Refusal → Result Program Refusal
+program_of checked (Ok stmts) = program_laid (laid.layout stmts checked)
+program_of checked (Err refusal) = Err refusal
+
+abbrev pub program_in : (checked : Bool) → Result (List RawStmt) FormEnd → Result Program Refusal
+program_in checked (Ok raws) = program_of checked (statements_of raws)
+program_in checked (Err end) = Err (form_refusal end)
+
+-- what the text is, in the plain dialect or the checked one
+abbrev pub reading : (bytes : List ℕ) → (checked : Bool) → Result Program Refusal
+reading bytes checked = program_in checked (lines.reading bytes)
+
+-- The text is read as this program, whatever each of its statements asks.
+pub record Reads (bytes : List ℕ) (checked : Bool) (p : Program) : Type 0 where
+  pub raws : List RawStmt
+  pub stmts : List Labelled
+  pub lines : lines.reading bytes ≡ Ok raws
+  pub statements : statements_of raws ≡ Ok stmts
+  pub form : laid.HasForm stmts
+  pub is : laid.program stmts checked ≡ p

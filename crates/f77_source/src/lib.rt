@@ -1,0 +1,8 @@
+//! Source texts in fixed form: the program that a text is, or its first refusal (ANSI X3.9-1978).
+#![tactic(auto)]
+
+mod program;
+mod source_end;
+
+pub use program::read_program;
+pub use source_end::{Code, Refusal, SourceEnd};

@@ -1,0 +1,120 @@
+ghost use Rattle.std.specs.Prelude.{◌≡◌, ◌≢◌, ◌<◌, ◌≤◌, ◌+◌, ◌^◌, length, IfOk, IfErr, IsTrue, Ok, Err};
+ghost use Rattle.fixed_form.specs.Limits.{AreWithinForm};
+ghost use Rattle.f77_tree.specs.Operations.{HasFewOperations};
+ghost use Rattle.f77_tree.specs.WellFormed.{IsWellFormed};
+ghost use Rattle.f77_layout.specs.Layout.{layout};
+ghost use Rattle.f77_layout.specs.Source.{IsSource};
+ghost use Rattle.f77_source.specs.Accepted.{IsAccepted};
+ghost use Rattle.f77_source.specs.Answers.{IsReadAs, told_form, told_stmt, told_layout};
+ghost use Rattle.f77_source.specs.Reading.{reading, statements_of, program_of as program_of_statements};
+
+use crate::{Code, Refusal, SourceEnd};
+use df_sequence::Sequence;
+use f77_layout::{LayoutEnd, assemble};
+use f77_parse::{StmtEnd, one_statement, parse_stmt};
+use f77_tree::{LabelledList, Program};
+use fixed_form::{FormEnd, RawStmtList, statements};
+use std::alloc::Global;
+
+/// The program that a source text is. In the checked dialect arithmetic traps where a result is no word.
+///
+/// There are fewer than 2^32 - 1 bytes.
+///
+/// # Errors
+///
+/// Refused, with the first refusal in the order of `Code` and its line. NoMemory may come in place of any answer.
+pub fn read_program(alloc: Global, bytes: &[u8], checked: bool) -> Result<Program, SourceEnd>
+    requires { length bytes.now + 1 < 2 ^ 32 }
+    ensures read { IsReadAs (reading bytes.now checked) result }
+    ensures well_formed { IfOk result (λ program. IsWellFormed program) }
+    ensures modest { IfOk result (λ program. HasFewOperations program) }
+{
+    match statements(alloc, bytes) {
+        Err(end) => Err(form_refused(end)),
+        Ok(raws) => program_of(alloc, &raws, checked),
+    }
+}
+
+// The program that statements make, or their first refusal.
+fn program_of(alloc: Global, raws: &RawStmtList, checked: bool) -> Result<Program, SourceEnd>
+    requires within { AreWithinForm raws.now }
+    requires accepted { IsAccepted raws.now }
+    ensures read { IsReadAs (program_of_statements checked (statements_of raws.now)) result }
+    ensures well_formed { IfOk result (λ program. IsWellFormed program) }
+    ensures modest { IfOk result (λ program. HasFewOperations program) }
+{
+    let stmts = parsed(alloc, raws)?;
+    match assemble(alloc, &stmts, checked) {
+        Err(end) => Err(layout_refused(end)),
+        Ok(program) => Ok(program),
+    }
+}
+
+// The statements of texts, or the refusal of the first text that is none.
+fn parsed(alloc: Global, raws: &RawStmtList) -> Result<LabelledList, SourceEnd>
+    requires within { AreWithinForm raws.now }
+    requires accepted { IsAccepted raws.now }
+    ensures read { IsReadAs (statements_of raws.now) result }
+    ensures source { IfOk result (λ stmts. IsSource stmts) }
+{
+    let mut stmts = Sequence::new(alloc);
+    for raw in raws.as_slice() {
+        match parse_stmt(alloc, raw) {
+            Err(end) => return Err(stmt_refused(end)),
+            Ok(stmt) => stmts.push(stmt)?,
+        }
+    }
+    one_statement();
+    Ok(stmts)
+}
+
+// ---- refusals
+
+fn refused(code: Code, line: u32) -> SourceEnd
+    ensures { result ≡ SourceEnd.Refused (record { line = line; code = code }) }
+{
+    SourceEnd::Refused(Refusal { line, code })
+}
+
+fn form_refused(end: FormEnd) -> SourceEnd
+    ensures { result ≡ told_form end }
+{
+    match end {
+        FormEnd::BadByte(line) => refused(Code::BadByte, line),
+        FormEnd::BadLabelField(line) => refused(Code::BadLabelField, line),
+        FormEnd::StrayContinuation(line) => refused(Code::StrayContinuation, line),
+        FormEnd::TooManyContinuations(line) => refused(Code::TooManyContinuations, line),
+        FormEnd::NoEnd(line) => refused(Code::NoEnd, line),
+        FormEnd::TooManyStatements(line) => refused(Code::TooManyStatements, line),
+        FormEnd::NoMemory => SourceEnd::NoMemory,
+    }
+}
+
+fn stmt_refused(end: StmtEnd) -> SourceEnd
+    ensures { result ≡ told_stmt end }
+{
+    match end {
+        StmtEnd::NoForm(line) => refused(Code::NoForm, line),
+        StmtEnd::BadConstant(line) => refused(Code::BadConstant, line),
+        StmtEnd::TooDeep(line) => refused(Code::TooDeep, line),
+        StmtEnd::NoMemory => SourceEnd::NoMemory,
+    }
+}
+
+fn layout_refused(end: LayoutEnd) -> SourceEnd
+    ensures { result ≡ told_layout end }
+{
+    match end {
+        LayoutEnd::OutOfOrder(line) => refused(Code::OutOfOrder, line),
+        LayoutEnd::RealName(line) => refused(Code::RealName, line),
+        LayoutEnd::TypeWrong(line) => refused(Code::TypeWrong, line),
+        LayoutEnd::LayoutWrong(line) => refused(Code::LayoutWrong, line),
+        LayoutEnd::LabelTwice(line) => refused(Code::LabelTwice, line),
+        LayoutEnd::LabelMissing(line) => refused(Code::LabelMissing, line),
+        LayoutEnd::BadNesting(line) => refused(Code::BadNesting, line),
+        LayoutEnd::JumpInto(line) => refused(Code::JumpInto, line),
+        LayoutEnd::TooManyWords(line) => refused(Code::TooManyWords, line),
+        LayoutEnd::TooManyOps(line) => refused(Code::TooManyOps, line),
+        LayoutEnd::NoMemory => SourceEnd::NoMemory,
+    }
+}
