@@ -1,13 +1,11 @@
-//! Tests of the crates of the language: lines, statements, expressions, names, programs and runs. They go over public
-//! calls alone, and stand apart because a crate that has tests is proved a second time with them.
+//! Tests of the crates of the language: lines, statements, expressions, printing, runs and whole programs. They go over public calls
+//! alone, and stand apart because a crate that has tests is proved a second time with them.
 #![tactic(auto)]
 
 #[cfg(test)]
 mod expressions;
 #[cfg(test)]
 mod lines;
-#[cfg(test)]
-mod names;
 #[cfg(test)]
 mod printing;
 #[cfg(test)]

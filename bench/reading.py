@@ -1,0 +1,98 @@
+#!/usr/bin/env python3
+"""Times how long a built dfc takes to read the largest texts of several kinds.
+
+    python3 bench/reading.py DFC
+
+DFC is a command in quotes; each text is given to `DFC fire`, three times. Prints for each text its size, the best time,
+and what is answered: a refusal (NOTYET where the text is read, and its program isn't played yet) or `run`.
+"""
+import shlex
+import subprocess
+import sys
+import time
+
+DIGITS = "0123456789ABCDEFGHIJKLMNOPQRSTUVWXYZ"
+
+
+def text_of(statements):
+    """The lines of statements (label, text), up to 66 columns each, and END."""
+    lines = []
+    for label, text in statements + [("", "END")]:
+        for at in range(0, len(text), 66):
+            lines.append((label.rjust(5) + " " if at == 0 else "     &") + text[at: at + 66])
+    return "\n".join(lines) + "\n"
+
+
+def name(number):
+    """An integer name of six characters."""
+    return "I" + "".join(DIGITS[number // 36 ** place % 36] for place in (4, 3, 2, 1, 0))
+
+
+def unlabelled(texts):
+    return [("", text) for text in texts]
+
+
+def wide():
+    """Statements of 1,319 characters, on 20 lines each."""
+    return unlabelled("I=I%05d" % (number % 9) + "+J%05d" % (number % 7) * 187 + "+17" for number in range(2700))
+
+
+def jumps(count):
+    """As many labels, each on a GO TO to another one."""
+    return [(str(number + 1), "GO TO %d" % (number * 7919 % count + 1)) for number in range(count)]
+
+
+def ifs(depth):
+    return unlabelled(["IF(I.EQ.J)THEN"] * depth + ["END IF"] * depth)
+
+
+def loops(depth):
+    starts = [("", "DO %d I=1,2" % (depth - number)) for number in range(depth)]
+    return starts + [(str(number + 1), "CONTINUE") for number in range(depth)]
+
+
+def equivalent(count, part, shared):
+    """Groups of that many names; where `shared`, each group has the last name of the one before."""
+    groups = []
+    for at in range(0, count, part):
+        first = at - 1 if shared and at else at
+        groups.append("(" + ",".join(name(number) for number in range(first, min(count, at + part))) + ")")
+    each = 1300 // (7 * (part + 1) + 2)
+    return unlabelled("EQUIVALENCE" + ",".join(groups[at: at + each]) for at in range(0, len(groups), each))
+
+
+def one_by_one():
+    """DATA with a value for each word of 403 arrays."""
+    arrays = ["M%03d" % number for number in range(403)]
+    return unlabelled(["INTEGER %s(650)" % array for array in arrays] + ["DATA %s/1%s/" % (array, ",2" * 649) for array in arrays])
+
+
+TEXTS = [
+    ("2,700 statements of 1,319 characters", wide()),
+    ("3,999 statements I=1", unlabelled(["I=1"] * 3999)),
+    ("3,000 labels, 3,000 GO TOs", jumps(3000)),
+    ("1,999 nested IF blocks", ifs(1999)),
+    ("1,999 nested DO loops", loops(1999)),
+    ("100,000 names in EQUIVALENCE, one storage", equivalent(100000, 100, True)),
+    ("100,000 names in EQUIVALENCE, in pairs", equivalent(100000, 2, False)),
+    ("DATA of 262,144 words, one run", unlabelled(["INTEGER A(262144)", "DATA A/262144*1/"])),
+    ("DATA of 261,950 words, one by one", one_by_one()),
+    ("DATA of 3,998 elements", unlabelled(["INTEGER A(262144)"] + ["DATA A(%d)/1/" % (262144 - k) for k in range(3998)])),
+]
+
+
+def main():
+    if len(sys.argv) != 2:
+        sys.exit(__doc__)
+    for title, statements in TEXTS:
+        text, best = text_of(statements).encode(), None
+        for _ in range(3):
+            begin = time.perf_counter()
+            done = subprocess.run(shlex.split(sys.argv[1]) + ["fire"], input=text, stdout=subprocess.PIPE)
+            took = time.perf_counter() - begin
+            best = min(best or took, took)
+        answer = done.stdout.decode().strip() if done.returncode == 2 else "run" if done.returncode == 0 else f"status {done.returncode}"
+        print(f"{title:42} {len(text):9,} bytes  {best:7.3f} s  {answer}", flush=True)
+
+
+main()
