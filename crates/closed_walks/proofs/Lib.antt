@@ -13,5 +13,6 @@ pub mod Reversals
 pub mod Searches
 pub mod Simple
 pub mod Single
+pub mod Telling
 pub mod Touching
 pub mod Walks

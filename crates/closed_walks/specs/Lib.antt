@@ -2,6 +2,8 @@ pub mod Cycle
 pub mod Digraph
 pub mod EdgeEnd
 pub mod Graph
+pub mod Numbering
+pub mod Reaching
 pub mod Region
 pub mod Reversed
 pub mod Search

@@ -103,8 +103,8 @@ impl Digraph {
         self.ends[e as usize].1
     }
 
-    /// All edges that touch the node, in the order of their numbers.
-    pub(crate) fn edges_at(&self, node: u32) -> &[u32]
+    /// All edges that touch the node, each once, in the order of their numbers.
+    pub fn edges_at(&self, node: u32) -> &[u32]
         requires { node < self.now.nodes }
         ensures { result.now ≡ edges_at self.now node }
     {

@@ -1,9 +1,10 @@
 //! Laws on closed walks, as contracts of functions that do nothing.
 
-ghost use Rattle.std.specs.Prelude.{◌≡◌, ◌≢◌, ◌<◌, ◌↔◌, ℕ, Bool, List};
+ghost use Rattle.std.specs.Prelude.{◌≡◌, ◌≢◌, ◌<◌, ◌↔◌, ℕ, Bool, true, List};
 ghost use Rattle.closed_walks.specs.Graph.{Graph, IsGraph, edge_count};
-ghost use Rattle.closed_walks.specs.Walk.{IsClosed, Holds, IsOnlyOnWalksWith, IsStrong, IsCycleEquivalent, IsCut};
+ghost use Rattle.closed_walks.specs.Walk.{IsClosed, Holds, IsOnlyOnWalksWith, Reach, no_edge, IsStrong, IsCycleEquivalent, IsCut};
 ghost use Rattle.closed_walks.specs.Cycle.{AreOnSameCycles};
+ghost use Rattle.closed_walks.specs.Reaching.{reaches};
 
 /// Every closed walk that holds the one edge holds the other exactly where the one lies on no closed walk of the graph
 /// without the other.
@@ -21,4 +22,9 @@ pub fn cuts_are_classes()
 /// cycle may take an edge from either of its ends, but takes no edge and passes no node twice.
 pub fn cycles_are_classes()
     ensures { (g : Graph) (a b : ℕ) → IsGraph g → IsStrong g → a < edge_count g → b < edge_count g → IsCycleEquivalent g a b ↔ AreOnSameCycles g a b }
+{}
+
+/// The test `reaches` tells whether a node is reached from another.
+pub fn reaching_is_told()
+    ensures { (g : Graph) (u v : ℕ) → IsGraph g → u < g.nodes → (reaches g u v ≡ true) ↔ Reach g no_edge u v }
 {}

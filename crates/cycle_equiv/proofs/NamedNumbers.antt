@@ -3,7 +3,7 @@ use Rattle.std.proofs.Common.{◌≡◌, ℕ, ◌<◌, List, length, get_or, Opt
 use Rattle.closed_walks.specs.Graph.{Graph, edge_count}
 use Rattle.closed_walks.specs.Walk.{IsCycleEquivalent}
 use Rattle.cycle_equiv.specs.BracketLists.{AreClassNames}
-use Rattle.cycle_equiv.specs.Numbering.{IsNumbering}
+use Rattle.closed_walks.specs.Numbering.{IsNumbering}
 use Rattle.cycle_equiv.specs.Names.{AreNumbered, AreListed, NamesNumberClasses}
 
 abbrev number_in : Option ℕ → ℕ

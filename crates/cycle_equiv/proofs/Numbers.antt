@@ -6,7 +6,7 @@ use Rattle.std.proofs.lemmas.Grind.{same_number_lists}
 use Rattle.closed_walks.specs.Graph.{Graph, edge_count}
 use Rattle.closed_walks.specs.Walk.{IsCycleEquivalent}
 use Rattle.closed_walks.proofs.Classes.{equivalent_itself, equivalent_back, equivalent_on}
-use Rattle.cycle_equiv.specs.Numbering.{fresh, IsNumbering}
+use Rattle.closed_walks.specs.Numbering.{fresh, IsNumbering}
 
 pub fresh-push : (xs : List ℕ) (x : ℕ) → fresh (xs ++ x ∷ []) ≡ max (fresh xs) (x + 1)
 fresh-push [] x = omega arith

@@ -2,7 +2,6 @@ pub mod BracketLists
 pub mod CapLists
 pub mod DepthFirst
 pub mod Names
-pub mod Numbering
 pub mod Pending
 pub mod TrailReaches
 pub mod WalkState

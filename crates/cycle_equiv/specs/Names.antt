@@ -2,7 +2,7 @@
 use Rattle.std.specs.Prelude.{◌≡◌, ◌≢◌, ℕ, ◌<◌, ◌↔◌, List, length, take, slice_index, Option, Some}
 use Rattle.closed_walks.specs.Graph.{Graph, edge_count}
 use Rattle.cycle_equiv.specs.BracketLists.{AreClassNames}
-use Rattle.cycle_equiv.specs.Numbering.{fresh, IsNumbering}
+use Rattle.closed_walks.specs.Numbering.{fresh, IsNumbering}
 
 -- One number for each edge: the same for two edges exactly where they have one name, which is a top bracket and a size. An
 -- edge whose name no lower one has gets the least number above those of the lower edges.

@@ -4,7 +4,7 @@
 ghost use Rattle.std.specs.Prelude.{◌≡◌, ◌+◌, ◌*◌, ◌<◌, ◌≤◌, ℕ, List, IfOk, OnOk};
 ghost use Rattle.closed_walks.specs.Graph.{Graph, edge_count};
 ghost use Rattle.closed_walks.specs.Walk.{IsStrong};
-ghost use Rattle.cycle_equiv.specs.Numbering.{IsNumbering};
+ghost use Rattle.closed_walks.specs.Numbering.{IsNumbering};
 
 mod laws;
 mod naming;
