@@ -1,3 +1,4 @@
+pub mod Backwards
 pub mod Classes
 pub mod Cuts
 pub mod Cycles
@@ -15,4 +16,5 @@ pub mod Simple
 pub mod Single
 pub mod Telling
 pub mod Touching
+pub mod Turning
 pub mod Walks

@@ -6,6 +6,7 @@ mod edge_list;
 mod laws;
 mod region_laws;
 mod search;
+mod search_back;
 mod strong;
 
 pub use digraph::{Digraph, EdgeEnd};
@@ -14,5 +15,6 @@ pub use region_laws::{
     class_order, edge_ranks, passed_nodes, region_edges, regions_are_passed, regions_nest,
     sides_of_classes,
 };
-pub use search::same_class_plain;
+pub use search::{reached_from, same_class_plain};
+pub use search_back::mark_back;
 pub use strong::is_strong;

@@ -1,8 +1,8 @@
 //! Which nodes are reached from a node without an edge, and the cycle equivalence of two edges by that.
 
-ghost use Rattle.std.specs.Prelude.{◌≡◌, ◌+◌, ◌*◌, ◌<◌, ◌≤◌, ◌↔◌, ◌⊎◌, ℕ, true, length, IfOk, OnOk, IsTrue};
+ghost use Rattle.std.specs.Prelude.{◌≡◌, ◌+◌, ◌*◌, ◌<◌, ◌≤◌, ◌↔◌, ◌⊎◌, ℕ, true, false, length, slice_index_or, IfOk, OnOk, IsTrue};
 ghost use Rattle.closed_walks.specs.Graph.{edge_count, from, to};
-ghost use Rattle.closed_walks.specs.Walk.{Reach, only, IsCycleEquivalent};
+ghost use Rattle.closed_walks.specs.Walk.{Reach, no_edge, only, IsCycleEquivalent};
 ghost use Rattle.closed_walks.specs.Search.{is_visited, blanks, Leads, IsOpen, Nothing};
 
 use crate::Digraph;
@@ -33,6 +33,15 @@ fn returns_without(alloc: Global, g: &Digraph, e: u32, without: u32) -> Result<b
 {
     let visited = visited_from(alloc, g, g.to(e), without)?;
     Ok(visited[g.from(e) as usize])
+}
+
+/// The nodes that are reached from the start: for each node whether it is.
+pub fn reached_from(alloc: Global, g: &Digraph, start: u32) -> Result<Vec<bool>, NoMemory>
+    requires { start < g.now.nodes }
+    ensures nodes { IfOk result (λ marks. length marks.items ≡ g.now.nodes) }
+    ensures reached { IfOk result (λ marks. (v : ℕ) → (slice_index_or marks.items v false ≡ true) ↔ Reach g.now no_edge start v) }
+{
+    visited_from(alloc, g, start, g.edges())
 }
 
 /// The nodes that are reached from the start without the edge: for each node whether it is.
