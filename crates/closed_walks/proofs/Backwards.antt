@@ -5,7 +5,7 @@ use Rattle.closed_walks.specs.Graph.{Graph, edge_count, from, to}
 use Rattle.closed_walks.specs.Walk.{Reach, no_edge}
 use Rattle.closed_walks.specs.Search.{is_visited, Leads, IsOpen, Nothing}
 use Rattle.closed_walks.specs.Reversed.{turned}
-use Rattle.closed_walks.proofs.Reaching.{stay, along_last, kept}
+use Rattle.closed_walks.proofs.Reaching.{stay, along_first, along_last, kept}
 use Rattle.closed_walks.proofs.Searches.{visited-old, visited-cases, visited-not}
 use Rattle.closed_walks.proofs.Turning.{from-turned, to-turned, edge_count-turned, nodes-turned, Reach-to_turned, Reach-from_turned}
 
@@ -87,3 +87,10 @@ module _ (g : Graph) (node : ℕ) where
         (cases_Bool (is_visited marks (to (turned g) e))))
         node v (Reach-to_turned g v node way) m.begun),
   )
+
+  -- so they are closed again
+  pub closed_again : (before marks : List Bool) → IsClosedBack g before → ((v : ℕ) → (is_visited marks v ≡ true) ↔ ((is_visited before v ≡ true) ⊎ Reach g no_edge v node)) → IsClosedBack g marks
+  closed_again before marks closed are e edge tail = (are (from g e)).1 (⊎_elim
+      (λ (old : is_visited before (to g e) ≡ true). inl (closed e edge old))
+      (λ (way : Reach g no_edge (to g e) node). inr (along_first g no_edge e node edge refl way))
+      ((are (to g e)).0 tail))

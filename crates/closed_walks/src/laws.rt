@@ -1,7 +1,7 @@
 //! Laws on closed walks, as contracts of functions that do nothing.
 
-ghost use Rattle.std.specs.Prelude.{◌≡◌, ◌≢◌, ◌<◌, ◌↔◌, ℕ, Bool, true, List};
-ghost use Rattle.closed_walks.specs.Graph.{Graph, IsGraph, edge_count};
+ghost use Rattle.std.specs.Prelude.{◌≡◌, ◌≢◌, ◌<◌, ◌↔◌, ℕ, Bool, true, List, length, slice_index};
+ghost use Rattle.closed_walks.specs.Graph.{Graph, IsGraph, edge_count, touches, edges_at};
 ghost use Rattle.closed_walks.specs.Walk.{IsClosed, Holds, IsOnlyOnWalksWith, Reach, no_edge, IsStrong, IsCycleEquivalent, IsCut};
 ghost use Rattle.closed_walks.specs.Cycle.{AreOnSameCycles};
 ghost use Rattle.closed_walks.specs.Reaching.{reaches};
@@ -27,4 +27,10 @@ pub fn cycles_are_classes()
 /// The test `reaches` tells whether a node is reached from another.
 pub fn reaching_is_told()
     ensures { (g : Graph) (u v : ℕ) → IsGraph g → u < g.nodes → (reaches g u v ≡ true) ↔ Reach g no_edge u v }
+{}
+
+/// The edges of a node are those that touch it, in the order of their numbers.
+pub fn edges_of_nodes()
+    ensures touch { (g : Graph) (node e : ℕ) → Holds (edges_at g node) e ↔ ((e < edge_count g) × (touches g node e ≡ true)) }
+    ensures rise { (g : Graph) (node i j : ℕ) → i < j → j < length (edges_at g node) → slice_index (edges_at g node) i < slice_index (edges_at g node) j }
 {}

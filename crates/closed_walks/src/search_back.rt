@@ -10,9 +10,9 @@ use crate::Digraph;
 use df_sequence::NoMemory;
 use std::alloc::Global;
 
-/// Marks the nodes from which the node is reached, beside those that are marked. Where a node is marked, each from which an
-/// edge leads to it has to be marked as well; so it will be again. Only the edges of newly marked nodes are looked at. After an error
-/// no more is known of the marks than how many there are.
+/// Marks the nodes from which the node is reached, beside those that are marked. The marks have to be closed, and stay so: where
+/// a node is marked, so is each from which an edge leads to it. Only the edges of newly marked nodes are looked at, so that
+/// many calls for the same marks take no longer than one. After an error no more is known of the marks than how many there are.
 pub fn mark_back(
     alloc: Global,
     g: &Digraph,
@@ -24,6 +24,7 @@ pub fn mark_back(
     requires closed { (e : ℕ) → e < edge_count g.now → slice_index_or marks.old.items (to g.now e) false ≡ true → slice_index_or marks.old.items (from g.now e) false ≡ true }
     ensures nodes { length marks.new.items ≡ length marks.old.items }
     ensures marked { OnOk result ((v : ℕ) → (slice_index_or marks.new.items v false ≡ true) ↔ ((slice_index_or marks.old.items v false ≡ true) ⊎ Reach g.now no_edge v node)) }
+    ensures closed { OnOk result ((e : ℕ) → e < edge_count g.now → slice_index_or marks.new.items (to g.now e) false ≡ true → slice_index_or marks.new.items (from g.now e) false ≡ true) }
 {
     if marks[node as usize] {
         return Ok(());

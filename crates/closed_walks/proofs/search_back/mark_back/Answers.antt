@@ -4,7 +4,7 @@ use Rattle.closed_walks.specs.Search.{Nothing}
 use Rattle.closed_walks.specs.Reversed.{turned}
 use Rattle.closed_walks.proofs.Searches.{nothing-left, IsOpen-pop, popped_visited, visited_exists, is_visited-read}
 use Rattle.closed_walks.proofs.Turning.{nodes-turned}
-use Rattle.closed_walks.proofs.Backwards.{IsMarking, marked_already, IsMarking-begin, IsMarking-step, IsMarking-end}
+use Rattle.closed_walks.proofs.Backwards.{IsMarking, marked_already, IsMarking-begin, IsMarking-step, IsMarking-end, closed_again}
 use Rattle.closed_walks.proofs.search_back.mark_back.Goals as goal
 
 pub returns-then-index-clause-marked : goal.returns-then-index-clause-marked
@@ -37,3 +37,6 @@ returns-clause-marked c =
     let empty : c.loop-next.frontier.items ≡ [] = nothing-left c.loop-next.frontier.items (omega (arith, c.in_default.ensures.cases.0, c.loop-next.frontier.ok.0)) in
     IsMarking-end c.args.g.now c.args.node c.args.marks.now.items c.loop-next.marks.items
     (subst (λ xs. IsMarking c.args.g.now c.args.node c.args.marks.now.items c.loop-next.marks.items xs) empty c.loop-next.invariant)
+
+pub returns-clause-closed : goal.returns-clause-closed
+returns-clause-closed c = closed_again c.args.g.now c.args.node c.args.marks.now.items c.loop-next.marks.items c.requires.closed (returns-clause-marked c)
