@@ -1,0 +1,7 @@
+pub mod Classes
+pub mod Facts
+pub mod Listing
+pub mod Nesting
+pub mod RegionTable
+pub mod Scan
+pub mod Tree

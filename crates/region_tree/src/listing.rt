@@ -1,0 +1,39 @@
+//! The numbers of regions.
+
+ghost use Rattle.std.specs.Prelude.{◌≡◌, ◌<◌, ◌≤◌, ◌^◌, length, slice_index, IfOk};
+ghost use Rattle.region_tree.specs.Listing.{IsListing};
+
+use df_sequence::NoMemory;
+use std::alloc::Global;
+
+/// The entries and exits of regions, and for each edge the number of the region that it enters, or 0.
+#[derive(Drop)]
+pub(crate) struct Listing {
+    pub(crate) numbers: Vec<u32>,
+    pub(crate) entries: Vec<u32>,
+    pub(crate) exits: Vec<u32>,
+}
+
+/// Lists the edges that have a next one, and these.
+pub(crate) fn list(alloc: Global, next: &[Option<u32>]) -> Result<Listing, NoMemory>
+    requires { length next.now < 2 ^ 31 }
+    ensures { IfOk result (λ listing. IsListing next.now (length next.now) listing.numbers.items listing.entries.items listing.exits.items) }
+{
+    let mut numbers = Vec::new(alloc);
+    let mut entries = vec![in alloc; 0]?;
+    let mut exits = vec![in alloc; 0]?;
+    for e in 0..next.len() {
+        if let Some(exit) = next[e] {
+            numbers.push(entries.len() as u32)?;
+            entries.push(e as u32)?;
+            exits.push(exit)?;
+        } else {
+            numbers.push(0)?;
+        }
+    }
+    Ok(Listing {
+        numbers,
+        entries,
+        exits,
+    })
+}
