@@ -1,2 +1,4 @@
 pub mod Held
+pub mod Listings
+pub mod NextEdges
 pub mod Scanning

@@ -47,10 +47,13 @@ pub(crate) fn nest(
             here
         };
         let entered = listing.numbers[*e as usize];
-        if entered != 0 {
+        let there = if entered == 0 {
+            outer
+        } else {
             parents[entered as usize] = outer;
-        }
-        innermost[g.to(*e) as usize] = if entered != 0 { entered } else { outer };
+            entered
+        };
+        innermost[g.to(*e) as usize] = there;
     }
     Ok(Nesting { parents, innermost })
 }
