@@ -98,3 +98,18 @@ AllDiffer-front [] n differ within h = absurd (omega (arith, within))
 AllDiffer-front (x ∷ xs) zero differ within h = h
 AllDiffer-front (x ∷ xs) (suc n) differ within (inl same) = differ.0 (subst (λ y. Holds xs y) (sym same) (Holds-at xs n (omega arith)))
 AllDiffer-front (x ∷ xs) (suc n) differ within (inr h) = AllDiffer-front xs n differ.1 (omega arith) h
+
+pub AllDiffer-right : (xs ys : List ℕ) → AllDiffer (xs ++ ys) → AllDiffer ys
+AllDiffer-right [] ys differ = differ
+AllDiffer-right (x ∷ xs) ys differ = AllDiffer-right xs ys differ.1
+
+-- what stands before an item, and what stands behind it
+pub record IsSplitAt (xs : List ℕ) (e : ℕ) : Type 0 where
+  pub front : List ℕ
+  pub back : List ℕ
+  pub parts : xs ≡ front ++ e ∷ back
+
+pub split_at : (xs : List ℕ) (e : ℕ) → Holds xs e → IsSplitAt xs e
+split_at [] e h = absurd h
+split_at (x ∷ xs) e (inl same) = record { front = []; back = xs; parts = ap (λ y. y ∷ xs) same }
+split_at (x ∷ xs) e (inr h) = let s : IsSplitAt xs e = split_at xs e h in record { front = x ∷ s.front; back = s.back; parts = ap (λ ys. x ∷ ys) s.parts }
