@@ -1,5 +1,5 @@
 -- No class has a greater number than the edges in it.
-use Rattle.std.proofs.Common.{◌≡◌, ◌≢◌, ℕ, zero, suc, ◌+◌, ◌<◌, ◌≤◌, ◌⊎◌, List, [], ◌∷◌, length, take, get_or, refl, sym, ap, ◌∙◌, subst, inl, inr, ⊎_elim, arith, max}
+use Rattle.std.proofs.Common.{◌≡◌, ◌≢◌, ℕ, zero, suc, ◌+◌, ◌<◌, ◌≤◌, ◌⊎◌, List, [], ◌∷◌, length, take, get_or, refl, sym, subst, inl, inr, ⊎_elim, arith}
 use Rattle.std.proofs.lemmas.Bool.{cases_eq, cases_order}
 use Rattle.closed_walks.specs.Graph.{Graph, edge_count}
 use Rattle.closed_walks.specs.Numbering.{fresh, IsNumbering}
@@ -49,17 +49,17 @@ module _ (g : Graph) (classes : List ℕ) (numbering : IsNumbering g classes) wh
       omega (arith, inside, rest, same)) in
       omega (arith, fresh_is, few))
       (lower classes e (get_or classes e 0))
-      where
-        length_take : (n : ℕ) (xs : List ℕ) → n ≤ length xs → length (take n xs) ≡ n
-        length_take zero xs within = refl
-        length_take (suc n) [] within = absurd (omega (arith, within))
-        length_take (suc n) (x ∷ xs) within = let rest = length_take n xs (omega arith) in omega (arith, rest)
+    where
+      length_take : (n : ℕ) (xs : List ℕ) → n ≤ length xs → length (take n xs) ≡ n
+      length_take zero xs within = refl
+      length_take (suc n) [] within = absurd (omega (arith, within))
+      length_take (suc n) (x ∷ xs) within = let rest = length_take n xs (omega arith) in omega (arith, rest)
 
-        get_or_take : (n : ℕ) (xs : List ℕ) (i : ℕ) → i < n → get_or (take n xs) i 0 ≡ get_or xs i 0
-        get_or_take zero xs i within = absurd (omega (arith, within))
-        get_or_take (suc n) [] i within = refl
-        get_or_take (suc n) (x ∷ xs) zero within = refl
-        get_or_take (suc n) (x ∷ xs) (suc i) within = get_or_take n xs i (omega arith)
+      get_or_take : (n : ℕ) (xs : List ℕ) (i : ℕ) → i < n → get_or (take n xs) i 0 ≡ get_or xs i 0
+      get_or_take zero xs i within = absurd (omega (arith, within))
+      get_or_take (suc n) [] i within = refl
+      get_or_take (suc n) (x ∷ xs) zero within = refl
+      get_or_take (suc n) (x ∷ xs) (suc i) within = get_or_take n xs i (omega arith)
 
   pub class_below : (e : ℕ) → e < edge_count g → get_or classes e 0 < edge_count g
   class_below e edge = let most : get_or classes e 0 ≤ e = class_up_to (e + 1) e (omega arith) edge in omega (arith, most, edge)

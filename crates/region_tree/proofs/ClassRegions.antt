@@ -1,16 +1,16 @@
 -- In a scan the next edge of a class is the next one from the start.
-use Rattle.std.proofs.Common.{◌≡◌, ◌≢◌, ℕ, ◌+◌, ◌<◌, ◌⊎◌, ◌==◌, if◌then◌else◌, true, false, List, [], ◌∷◌, ◌++◌, Option, Some, None, length, take, get_or, refl, sym, ap, ◌∙◌, subst, inl, inr, ⊎_elim, arith, append_assoc, length-append}
+use Rattle.std.proofs.Common.{◌≡◌, ◌≢◌, ℕ, ◌<◌, ◌⊎◌, List, [], ◌∷◌, ◌++◌, Option, Some, None, length, take, get_or, refl, sym, ap, ◌∙◌, subst, inl, inr, ⊎_elim, arith, append_assoc, length-append}
 use Rattle.std.proofs.lemmas.Bool.{cases_eq, eq-eqb, ne_eqb}
 use Rattle.std.proofs.Math.Seq.{take-append_seam, get_or-append_seam}
-use Rattle.closed_walks.specs.Graph.{Graph, edge_count, from, to}
-use Rattle.closed_walks.specs.Walk.{Holds, IsCycleEquivalent}
+use Rattle.closed_walks.specs.Graph.{Graph, edge_count, from}
+use Rattle.closed_walks.specs.Walk.{Holds}
 use Rattle.closed_walks.specs.Cycle.{AllDiffer}
 use Rattle.closed_walks.specs.Numbering.{IsNumbering}
-use Rattle.closed_walks.specs.Region.{IsPair, IsBefore, IsInside, IsEntered, IsRegion}
+use Rattle.closed_walks.specs.Region.{IsPair, IsBefore, IsInside, IsRegion}
 use Rattle.region_tree.specs.Classes.{first_of, next_of}
 use Rattle.region_tree.specs.Scan.{IsScan}
 use Rattle.region_tree.specs.Facts.{RegionFacts, HasSides}
-use Rattle.region_tree.proofs.Held.{Holds-left, Holds-right, Holds-append, AllDiffer-apart, AllDiffer-right, IsSplitAt, split_at}
+use Rattle.region_tree.proofs.Held.{Holds-right, Holds-append, AllDiffer-apart, AllDiffer-right, IsSplitAt, split_at}
 
 pub option_cases : (v : Option ℕ) → (v ≡ None) ⊎ ((y : ℕ) × (v ≡ Some y))
 option_cases None = inl refl

@@ -1,6 +1,7 @@
 -- What lists hold, and lists whose items all differ.
-use Rattle.std.proofs.Common.{◌≡◌, ◌≢◌, ℕ, zero, suc, ◌<◌, ◌≤◌, ◌⊎◌, Bool, true, false, cond, List, [], ◌∷◌, ◌++◌, length, take, get_or, refl, sym, ap, ◌∙◌, subst, inl, inr, ⊎_elim, arith}
-use Rattle.std.proofs.lemmas.Bool.{cases_Bool, cases_eq}
+use Rattle.std.proofs.Common.{◌≡◌, ℕ, zero, suc, ◌<◌, ◌≤◌, ◌⊎◌, Bool, true, false, List, [], ◌∷◌, ◌++◌, length, take, replicate, get_or, refl, sym, ap, subst, inl, inr, ⊎_elim, arith}
+use Rattle.std.proofs.lemmas.Bool.{cases_Bool, cases_lt}
+use Rattle.std.proofs.lemmas.List.{get_or-replicate, get_or_past, length-replicate}
 use Rattle.std.specs.List.{filter}
 use Rattle.closed_walks.specs.Walk.{Holds}
 use Rattle.closed_walks.specs.Cycle.{AllDiffer}
@@ -113,3 +114,10 @@ pub split_at : (xs : List ℕ) (e : ℕ) → Holds xs e → IsSplitAt xs e
 split_at [] e h = absurd h
 split_at (x ∷ xs) e (inl same) = record { front = []; back = xs; parts = ap (λ y. y ∷ xs) same }
 split_at (x ∷ xs) e (inr h) = let s : IsSplitAt xs e = split_at xs e h in record { front = x ∷ s.front; back = s.back; parts = ap (λ ys. x ∷ ys) s.parts }
+
+-- a list of zeros
+pub zero_of : (xs : List ℕ) (n : ℕ) → xs ≡ replicate n 0 → (k : ℕ) → get_or xs k 0 ≡ 0
+zero_of xs n is k = ⊎_elim
+    (λ (l : k < n). rw is (get_or-replicate n k 0 0 l))
+    (λ (past : n ≤ k). rw is (get_or_past (replicate n 0) k 0 (let size = length-replicate {A = ℕ} n 0 in omega (arith, size, past))))
+    (cases_lt k n)

@@ -1,7 +1,9 @@
 pub mod ClassNumbers
 pub mod ClassRegions
 pub mod Held
+pub mod Listed
 pub mod Listings
+pub mod Nestings
 pub mod NextEdges
 pub mod Scanning
 pub mod Within

@@ -1,14 +1,14 @@
 -- The steps of a search over all edges.
-use Rattle.std.proofs.Common.{◌≡◌, ◌≢◌, ℕ, zero, suc, ◌+◌, ◌-◌, ◌<◌, ◌≤◌, ◌⊎◌, ◌↔◌, ◌==◌, Bool, true, false, cond, List, [], ◌∷◌, ◌++◌, length, take, get_or, set, refl, sym, ap, ◌∙◌, subst, inl, inr, ⊎_elim, arith, get_or-set_same, get_or-set_other, length-set, length-append, append_assoc}
-use Rattle.std.proofs.lemmas.Bool.{cases_Bool, cases_eq, cases_lt, eq-eqb, eqb-true, ne_eqb, or_left, false≢true}
-use Rattle.std.proofs.lemmas.List.{append-nil, get_or_append_left, get_or-append_right, take-append-le, take_all, take_more, get_or_past}
+use Rattle.std.proofs.Common.{◌≡◌, ◌≢◌, ℕ, zero, suc, ◌+◌, ◌-◌, ◌<◌, ◌≤◌, ◌↔◌, ◌==◌, Bool, true, false, List, [], ◌∷◌, ◌++◌, length, take, get_or, set, refl, sym, ap, ◌∙◌, subst, inl, inr, ⊎_elim, arith, get_or-set_same, get_or-set_other, length-set, length-append, append_assoc}
+use Rattle.std.proofs.lemmas.Bool.{cases_eq, cases_lt, eq-eqb, eqb-true, ne_eqb, or_left, false≢true}
+use Rattle.std.proofs.lemmas.List.{append-nil, get_or_append_left, get_or-append_right, take-append-le, take_all, take_more}
 use Rattle.std.proofs.lemmas.List.Elements.{filter_more}
-use Rattle.closed_walks.specs.Graph.{Graph, IsGraph, edge_count, from, to, touches, edges_at}
-use Rattle.closed_walks.specs.Walk.{Walk, Holds, Reach, no_edge, IsStrong}
+use Rattle.closed_walks.specs.Graph.{Graph, edge_count, from, to, touches, edges_at}
+use Rattle.closed_walks.specs.Walk.{Walk, Holds}
 use Rattle.closed_walks.specs.Cycle.{AllDiffer}
 use Rattle.closed_walks.specs.Region.{IsFlowGraph, IsReachedBy, IsGrown}
 use Rattle.region_tree.specs.Scan.{leaving, edges_from, IsScan, is_seen, unseen, IsOrder, IsHead, Discovers, Finds}
-use Rattle.region_tree.proofs.Held.{Holds-left, Holds-right, Holds-append, Holds-at, Holds-take, Holds-take_append, Holds-filter, filter-Holds, AllDiffer-append, AllDiffer-apart, AllDiffer-filter, AllDiffer-rising}
+use Rattle.region_tree.proofs.Held.{Holds-left, Holds-right, Holds-append, Holds-at, Holds-take_append, Holds-filter, filter-Holds, AllDiffer-append, AllDiffer-filter, AllDiffer-rising}
 
 -- ---- the edges that begin at nodes
 
@@ -258,10 +258,10 @@ module _ (g : Graph) (law : NodeEdges g) where
         once = subst (λ xs. AllDiffer xs) (sym all) (edges_differ g law order s.order_is.once);
         grown = s.grown;
       }
-      where
-        along : (u v : ℕ) (w : List ℕ) → ((e : ℕ) → e < edge_count g → Holds order (from g e) → Holds edges e) → ((e : ℕ) → Holds edges e → Holds order (to g e)) → Walk g u w v → Holds order u → Holds order v
-        along u v [] begin heads leads here = subst (λ n. Holds order n) leads here
-        along u v (e ∷ w) begin heads leads here = along (to g e) v w begin heads leads.2 (heads e (begin e leads.0 (subst (λ n. Holds order n) (sym leads.1) here)))
+    where
+      along : (u v : ℕ) (w : List ℕ) → ((e : ℕ) → e < edge_count g → Holds order (from g e) → Holds edges e) → ((e : ℕ) → Holds edges e → Holds order (to g e)) → Walk g u w v → Holds order u → Holds order v
+      along u v [] begin heads leads here = subst (λ n. Holds order n) leads here
+      along u v (e ∷ w) begin heads leads here = along (to g e) v w begin heads leads.2 (heads e (begin e leads.0 (subst (λ n. Holds order n) (sym leads.1) here)))
 
 module _ (g : Graph) (start_node : 0 < g.nodes) where
   -- only the start is in the order

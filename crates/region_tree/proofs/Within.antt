@@ -1,10 +1,10 @@
 -- Which regions hold the two ends of an edge.
-use Rattle.std.proofs.Common.{◌≡◌, ◌≢◌, ℕ, ◌<◌, ◌≤◌, ◌⊎◌, ◌↔◌, true, false, get_or, length, refl, sym, ap, ◌∙◌, subst, inl, inr, ⊎_elim, arith}
+use Rattle.std.proofs.Common.{◌≡◌, ◌≢◌, ℕ, ◌<◌, ◌≤◌, ◌⊎◌, length, sym, ◌∙◌, subst, inl, inr, ⊎_elim, arith}
 use Rattle.std.proofs.lemmas.Bool.{cases_eq, cases_lt, false≢true}
 use Rattle.closed_walks.specs.Graph.{Graph, edge_count, from, to}
-use Rattle.closed_walks.specs.Region.{IsInside, IsEntered, IsRegion, AreApart, IsWithin}
+use Rattle.closed_walks.specs.Region.{IsRegion, AreApart}
 use Rattle.region_tree.specs.Facts.{RegionFacts, HasSides}
-use Rattle.region_tree.specs.Tree.{Tree, entry_of, exit_of, parent_of, IsNumber, IsIn, IsPart, AreRegions, IsLeast, IsNone, IsLeastOrNone, IsAround}
+use Rattle.region_tree.specs.Tree.{Tree, entry_of, exit_of, IsNumber, IsIn, IsPart, AreRegions, IsLeast, IsLeastOrNone, IsAround}
 
 module _ (g : Graph) (t : Tree) where
   pub part_itself : (q r : ℕ) → q ≡ r → IsPart g t r q
@@ -153,4 +153,3 @@ module _ (g : Graph) (f : RegionFacts g) (t : Tree) (s : AreRegions g t) where
             (λ (not_entry : entry_of t q ≢ e). (outer_around q other (head_outer q other not_entry inside)).1)
             (cases_eq (entry_of t q) e);
       })
-

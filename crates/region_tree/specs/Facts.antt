@@ -1,6 +1,6 @@
 -- What is known of the regions of a flow graph. No public clause cites this module.
 use Rattle.std.specs.Prelude.{◌≡◌, ◌≢◌, ℕ, ◌<◌, ◌↔◌, ◌⊎◌, Bool, true, List, length, take, slice_index_or}
-use Rattle.closed_walks.specs.Graph.{Graph, edge_count, from, to}
+use Rattle.closed_walks.specs.Graph.{Graph, from}
 use Rattle.closed_walks.specs.Walk.{Holds, Reach, only}
 use Rattle.closed_walks.specs.Region.{IsPair, IsBefore, IsInside, IsEntered, IsRegion, IsRank, IsGrown, IsPassed, AreApart, IsWithin}
 

@@ -1,9 +1,9 @@
 -- What is known of parents and of the smallest regions that hold nodes after some edges of a scan. No public clause cites this module.
-use Rattle.std.specs.Prelude.{◌≡◌, ℕ, ◌+◌, ◌<◌, ◌⊎◌, List, [], length, take, slice_index}
-use Rattle.closed_walks.specs.Graph.{Graph, edge_count, from, to}
+use Rattle.std.specs.Prelude.{◌≡◌, ℕ, ◌<◌, ◌⊎◌, List, [], length, slice_index}
+use Rattle.closed_walks.specs.Graph.{Graph}
 use Rattle.closed_walks.specs.Walk.{Holds}
 use Rattle.region_tree.specs.Scan.{IsHead}
-use Rattle.region_tree.specs.Tree.{Tree, IsNumber, IsIn, IsAround, IsLeastOrNone, entry_of, parent_of, innermost_of}
+use Rattle.region_tree.specs.Tree.{Tree, IsNumber, IsIn, IsAround, IsLeastOrNone, entry_of}
 
 -- the regions alone
 abbrev pub table : (entries exits : List ℕ) → Tree

@@ -1,5 +1,5 @@
 -- The edges of a graph in the order in which a search from the start comes to them. No public clause cites this module.
-use Rattle.std.specs.Prelude.{◌≡◌, ℕ, ◌+◌, ◌<◌, ◌≤◌, ◌==◌, ◌↔◌, ◌⊎◌, Bool, true, false, List, [], ◌∷◌, ◌++◌, length, filter, set, slice_index_or}
+use Rattle.std.specs.Prelude.{◌≡◌, ℕ, ◌+◌, ◌<◌, ◌==◌, ◌↔◌, ◌⊎◌, Bool, true, false, List, [], ◌∷◌, ◌++◌, length, filter, set, slice_index_or}
 use Rattle.closed_walks.specs.Graph.{Graph, edge_count, from, to, edges_at}
 use Rattle.closed_walks.specs.Walk.{Holds}
 use Rattle.closed_walks.specs.Cycle.{AllDiffer}

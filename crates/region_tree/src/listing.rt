@@ -14,18 +14,19 @@ pub(crate) struct Listing {
     pub(crate) exits: Vec<u32>,
 }
 
-/// Lists the edges that have a next one, and these.
-pub(crate) fn list(alloc: Global, next: &[Option<u32>]) -> Result<Listing, NoMemory>
-    requires { length next.now < 2 ^ 31 }
-    ensures { IfOk result (λ listing. IsListing next.now (length next.now) listing.numbers.items listing.entries.items listing.exits.items) }
+/// Lists the edges below the count that have a next one, and these.
+pub(crate) fn list(alloc: Global, count: u32, next: &[Option<u32>]) -> Result<Listing, NoMemory>
+    requires few { count < 2 ^ 31 }
+    requires size { length next.now ≡ count }
+    ensures { IfOk result (λ listing. IsListing next.now count listing.numbers.items listing.entries.items listing.exits.items) }
 {
     let mut numbers = Vec::new(alloc);
     let mut entries = vec![in alloc; 0]?;
     let mut exits = vec![in alloc; 0]?;
-    for e in 0..next.len() {
-        if let Some(exit) = next[e] {
+    for e in 0..count {
+        if let Some(exit) = next[e as usize] {
             numbers.push(entries.len() as u32)?;
-            entries.push(e as u32)?;
+            entries.push(e)?;
             exits.push(exit)?;
         } else {
             numbers.push(0)?;

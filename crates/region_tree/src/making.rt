@@ -17,11 +17,7 @@ use std::alloc::Global;
 
 /// The tree of the regions of a flow graph, whose start is node 0. The classes are those of cycle equivalent edges. Its time and
 /// memory are a few steps and words for each edge and node.
-pub fn region_tree(
-    alloc: Global,
-    g: &Digraph,
-    classes: &Vec<u32>,
-) -> Result<RegionTree, NoMemory>
+pub fn region_tree(alloc: Global, g: &Digraph, classes: &Vec<u32>) -> Result<RegionTree, NoMemory>
     requires flow { IsFlowGraph g.now }
     requires classes { IsNumbering g.now classes.now.items }
     ensures { IfOk result (λ t. IsRegionTree g.now t) }
@@ -29,7 +25,7 @@ pub fn region_tree(
     region_facts();
     let edges = scan(alloc, g)?;
     let next = next_edges(alloc, classes.as_slice(), edges.as_slice())?;
-    let listing = list(alloc, next.as_slice())?;
+    let listing = list(alloc, g.edges(), next.as_slice())?;
     let nesting = nest(alloc, g, edges.as_slice(), &listing)?;
     Ok(RegionTree {
         entries: listing.entries,

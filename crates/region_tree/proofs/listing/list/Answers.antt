@@ -1,6 +1,5 @@
-use Rattle.std.proofs.Common.{◌≡◌, ◌+◌, ◌∷◌, ◌++◌, [], ℕ, length, get_or, sym, subst, arith}
-use Rattle.region_tree.specs.Listing.{IsListing}
-use Rattle.region_tree.proofs.Listings.{IsListing-none, IsListing-skip, IsListing-take}
+use Rattle.std.proofs.Common.{◌≡◌, length, arith}
+use Rattle.region_tree.proofs.Listings.{IsListing-skip, IsListing-take}
 use Rattle.region_tree.proofs.listing.list.Goals as goal
 use Rattle.region_tree.proofs.listing.list.Goals.{in-Some+in_ok-push+in_ok-push-2+in_ok-push-3, in_default+in_ok-push-4}
 

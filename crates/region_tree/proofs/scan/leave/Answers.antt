@@ -1,8 +1,8 @@
-use Rattle.std.proofs.Common.{◌≡◌, ◌+◌, ◌<◌, ◌∙◌, ℕ, length, get_or, sym, ap, subst, arith}
-use Rattle.closed_walks.specs.Graph.{edge_count, from, to, edges_at}
+use Rattle.std.proofs.Common.{◌≡◌, ◌<◌, ◌∙◌, length, get_or, sym, ap, subst}
+use Rattle.closed_walks.specs.Graph.{from, to, edges_at}
 use Rattle.closed_walks.specs.Walk.{Holds}
 use Rattle.region_tree.proofs.Held.{Holds-at}
-use Rattle.region_tree.proofs.Scanning.{IsLeaving-begin, IsLeaving-skip, IsLeaving-take, IsLeaving-end, IsFound, found}
+use Rattle.region_tree.proofs.Scanning.{IsLeaving-skip, IsLeaving-take, IsFound, found}
 use Rattle.region_tree.proofs.scan.leave.Goals as goal
 use Rattle.region_tree.proofs.scan.leave.Goals.{then-from-node+in_ok-push+in_ok-find, else-from-node}
 

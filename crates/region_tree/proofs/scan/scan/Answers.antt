@@ -1,9 +1,9 @@
-use Rattle.std.proofs.Common.{◌≡◌, ◌+◌, ◌<◌, ◌≤◌, ◌∙◌, ◌++◌, ℕ, length, get_or, sym, subst, arith}
+use Rattle.std.proofs.Common.{◌≡◌, ◌<◌, ◌++◌, length, get_or, subst, arith}
 use Rattle.std.proofs.lemmas.List.{get_or_read}
 use Rattle.closed_walks.specs.Graph.{edges_at}
 use Rattle.region_tree.specs.Scan.{leaving, Discovers}
 use Rattle.region_tree.proofs.Held.{Holds-at}
-use Rattle.region_tree.proofs.Scanning.{IsScanning, NodeEdges, IsScanning-begin, IsScanning-step, IsScanning-end}
+use Rattle.region_tree.proofs.Scanning.{NodeEdges, IsScanning-step, IsScanning-end}
 use Rattle.region_tree.proofs.scan.scan.Goals as goal
 
 pub leave-requires-clause-node : goal.leave-requires-clause-node
