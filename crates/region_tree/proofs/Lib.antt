@@ -1,3 +1,4 @@
+pub mod Chains
 pub mod ClassNumbers
 pub mod ClassRegions
 pub mod Held
@@ -5,5 +6,6 @@ pub mod Listed
 pub mod Listings
 pub mod Nestings
 pub mod NextEdges
+pub mod OneTree
 pub mod Scanning
 pub mod Within

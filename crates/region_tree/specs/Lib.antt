@@ -1,5 +1,6 @@
 pub mod Classes
 pub mod Facts
+pub mod Laws
 pub mod Listing
 pub mod Nesting
 pub mod RegionTable

@@ -1,6 +1,6 @@
 //! The table of regions.
 
-ghost use Rattle.std.specs.Prelude.{◌≡◌, ◌<◌, length};
+ghost use Rattle.std.specs.Prelude.{◌≡◌, ◌<◌, ◌^◌, length};
 
 use std::marker::Model;
 
@@ -30,7 +30,8 @@ impl RegionTree {
 
     /// How many regions there are.
     pub fn count(&self) -> u32
-        ensures { result ≡ region_count self.now }
+        ensures count { result ≡ region_count self.now }
+        ensures few { result < 2 ^ 31 }
     {
         (self.entries.len() - 1) as u32
     }
