@@ -1,6 +1,5 @@
 //! What is known of regions, in one clause.
 
-ghost use Rattle.std.specs.Prelude.{◌≡◌};
 ghost use Rattle.closed_walks.specs.Graph.{Graph};
 ghost use Rattle.closed_walks.specs.Region.{IsFlowGraph};
 ghost use Rattle.region_tree.specs.Facts.{RegionFacts};

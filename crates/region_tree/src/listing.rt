@@ -1,6 +1,6 @@
 //! The numbers of regions.
 
-ghost use Rattle.std.specs.Prelude.{◌≡◌, ◌<◌, ◌≤◌, ◌^◌, length, slice_index, IfOk};
+ghost use Rattle.std.specs.Prelude.{◌≡◌, ◌<◌, ◌^◌, length, IfOk};
 ghost use Rattle.region_tree.specs.Listing.{IsListing};
 
 use df_sequence::NoMemory;

@@ -1,6 +1,6 @@
 //! The making of a region tree.
 
-ghost use Rattle.std.specs.Prelude.{◌≡◌, IfOk};
+ghost use Rattle.std.specs.Prelude.{IfOk};
 ghost use Rattle.closed_walks.specs.Numbering.{IsNumbering};
 ghost use Rattle.closed_walks.specs.Region.{IsFlowGraph};
 ghost use Rattle.region_tree.specs.Tree.{IsRegionTree};

@@ -1,6 +1,6 @@
 //! Which regions lie in which.
 
-ghost use Rattle.std.specs.Prelude.{◌≡◌, ◌<◌, ◌≤◌, ◌^◌, ℕ, length, slice_index, IfOk};
+ghost use Rattle.std.specs.Prelude.{IfOk};
 ghost use Rattle.closed_walks.specs.Graph.{edge_count};
 ghost use Rattle.closed_walks.specs.Region.{IsFlowGraph};
 ghost use Rattle.region_tree.specs.Listing.{AreEntryNumbers};
@@ -23,7 +23,8 @@ pub(crate) struct Nesting {
 
 /// Goes once over the edges. What holds the end of an edge is what holds its beginning, but for the region that the edge leaves
 /// and with the one that it enters; of the regions that hold its beginning the one that it leaves is the smallest. A node's
-/// region is noted as often as an edge comes to the node, and is the same each time.
+/// region is noted as often as an edge comes to the node, and is the same each time. Where no region holds the beginning, 0 is
+/// noted there, and at place 0 of the exits and of the parents stands a 0 as well.
 pub(crate) fn nest(
     alloc: Global,
     g: &Digraph,

@@ -1,8 +1,7 @@
 //! A search from the start over all edges.
 
-ghost use Rattle.std.specs.Prelude.{◌≡◌, ◌+◌, ◌<◌, ◌≤◌, ◌++◌, ℕ, length, IfOk, OnOk};
+ghost use Rattle.std.specs.Prelude.{◌≡◌, ◌+◌, ◌<◌, ◌≤◌, ◌++◌, length, IfOk, OnOk};
 ghost use Rattle.closed_walks.specs.Graph.{edges_at};
-ghost use Rattle.closed_walks.specs.Walk.{Holds};
 ghost use Rattle.closed_walks.specs.Region.{IsFlowGraph};
 ghost use Rattle.region_tree.specs.Scan.{IsScan, IsOrder, Discovers, Finds, leaving, unseen};
 
