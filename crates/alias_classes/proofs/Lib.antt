@@ -1,0 +1,3 @@
+pub mod Covering
+pub mod Framing
+pub mod OneNumbering

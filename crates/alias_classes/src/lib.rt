@@ -1,0 +1,8 @@
+//! Alias classes: which words of storage may be the same to a dependence analysis.
+#![tactic(auto)]
+
+mod laws;
+
+pub use laws::{
+    classes_are_numbered, needs_are_a_frame, needs_cover_accesses, one_numbering,
+};
