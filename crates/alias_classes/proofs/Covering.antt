@@ -62,7 +62,7 @@ module _ (own : StayInNames) (alone : AreAlone) (t : ClassTable) (words word : �
 
 -- where one of a list may read the word, it needs the class
 some-needs : {X : Type 0} (Reads Fits Wants : X → Type 0) → ((x : X) → Fits x → Reads x → Wants x) → (xs : List X) → All Fits xs → Any Reads xs → Any Wants xs
-some-needs Reads Fits Wants one xs all some = (some.0, (some.1, (some.2, (some.3, one some.1 (subst Fits some.3 (all some.0 some.1 some.2)) some.4))))
+some-needs Reads Fits Wants one xs all some = (some.0, some.1, some.2, some.3, one some.1 (subst Fits some.3 (all some.0 some.1 some.2)) some.4)
 
 module _ (own : StayInNames) (alone : AreAlone) (p : Program) (t : ClassTable) (is_table : t.names ≡ p.names) (placed : ArePlaced p.names p.words) (word : ℕ) where
   pub hits : (access : Access) → IsAccess p.names access → MayName p.names access.name (map known access.subs) word → Hits t access (class_of_word t word)
