@@ -3,34 +3,33 @@ use Rattle.std.proofs.Common.{◌≡◌, ◌≢◌, ℕ, zero, suc, ◌+◌, ◌
 use Rattle.std.proofs.lemmas.Bool.{cases_order, cases_eq, cases_lt}
 use Rattle.std.proofs.lemmas.List.{get_or_past}
 use Rattle.std.proofs.lemmas.Grind.{same_number_lists}
-use Rattle.f77_tree.specs.declared.programs.NameInfo.{NameInfo}
 use Rattle.f77_tree.specs.declared.programs.Program.{Program}
 use Rattle.f77_tree.specs.Places.{IsWordOf}
 use Rattle.alias_classes.specs.Classes.{ClassTable, IsMet, IsNextNumber, SameNames, IsNumbering, IsClasses}
 
 -- a word of a name has a number, so it is one of the words
-pub word-below : (names : List NameInfo) (words count : ℕ) (numbers : List ℕ) → IsNumbering names words numbers count → (k w : ℕ) → IsWordOf names k w → w < words
-word-below names words count numbers n k w has = ⊎_elim
+pub word-below : (covers : ℕ → ℕ → Type 0) (words count : ℕ) (numbers : List ℕ) → IsNumbering covers words numbers count → (k w : ℕ) → covers k w → w < words
+word-below covers words count numbers n k w has = ⊎_elim
     (λ (h : w < words). h)
     (λ (h : words ≤ w). let none = get_or_past numbers w 0 (omega (arith, n.each, h)) in absurd (omega (arith, n.some k w has, none)))
     (cases_lt w words)
 
-module _ (names : List NameInfo) (words c d : ℕ) (one two : List ℕ) (a : IsNumbering names words one c) (b : IsNumbering names words two d) where
+module _ (covers : ℕ → ℕ → Type 0) (words c d : ℕ) (one two : List ℕ) (a : IsNumbering covers words one c) (b : IsNumbering covers words two d) where
   -- the numbers of the words that are met before are equal
   abbrev pub AgreeBefore : ℕ → ℕ → Type 0
-  AgreeBefore k w = (v : ℕ) → IsMet names k w v → get_or one v 0 ≡ get_or two v 0
+  AgreeBefore k w = (v : ℕ) → IsMet covers k w v → get_or one v 0 ≡ get_or two v 0
 
-  next-numbers : (k w : ℕ) → AgreeBefore k w → IsNextNumber names one k w (get_or one w 0) → IsNextNumber names two k w (get_or two w 0) → get_or one w 0 ≡ get_or two w 0
+  next-numbers : (k w : ℕ) → AgreeBefore k w → IsNextNumber covers one k w (get_or one w 0) → IsNextNumber covers two k w (get_or two w 0) → get_or one w 0 ≡ get_or two w 0
   next-numbers k w agree first second = ⊎_elim
       (λ (start : get_or one w 0 ≡ 1). ⊎_elim
       (λ (other_start : get_or two w 0 ≡ 1). start ∙ sym other_start)
-      (λ (last : (v : ℕ) × IsMet names k w v × (suc (get_or two v 0) ≡ get_or two w 0)).
+      (λ (last : (v : ℕ) × IsMet covers k w v × (suc (get_or two v 0) ≡ get_or two w 0)).
       let same = agree last.0 last.1 in let low = first.above last.0 last.1 in let is = last.2 in omega (arith, same, low, is, start))
       second.least)
-      (λ (last : (v : ℕ) × IsMet names k w v × (suc (get_or one v 0) ≡ get_or one w 0)). ⊎_elim
+      (λ (last : (v : ℕ) × IsMet covers k w v × (suc (get_or one v 0) ≡ get_or one w 0)). ⊎_elim
       (λ (other_start : get_or two w 0 ≡ 1).
       let same = agree last.0 last.1 in let low = second.above last.0 last.1 in let is = last.2 in omega (arith, same, low, is, other_start))
-      (λ (other_last : (v : ℕ) × IsMet names k w v × (suc (get_or two v 0) ≡ get_or two w 0)).
+      (λ (other_last : (v : ℕ) × IsMet covers k w v × (suc (get_or two v 0) ≡ get_or two w 0)).
       let same = agree last.0 last.1 in
       let other_same = agree other_last.0 other_last.1 in
       let low = second.above last.0 last.1 in
@@ -41,14 +40,14 @@ module _ (names : List NameInfo) (words c d : ℕ) (one two : List ℕ) (a : IsN
       second.least)
       first.least
 
-  agree-word : (k w : ℕ) → AgreeBefore k w → IsWordOf names k w → get_or one w 0 ≡ get_or two w 0
+  agree-word : (k w : ℕ) → AgreeBefore k w → covers k w → get_or one w 0 ≡ get_or two w 0
   agree-word k w agree has = ⊎_elim
       (λ (same : get_or one w 0 ≡ get_or two w 0). same)
       (λ (differ : get_or one w 0 ≢ get_or two w 0).
-      let here = word-below names words c one a k w has in
-      let below : (v : ℕ) → IsMet names k w v → v < words = λ v met. word-below names words c one a met.name v met.has in
-      let new_one : (v : ℕ) → IsMet names k w v → get_or one v 0 ≢ get_or one w 0 = λ v met same. differ (sym same ∙ agree v met ∙ (b.same v w (below v met) here).1 ((a.same v w (below v met) here).0 same)) in
-      let new_two : (v : ℕ) → IsMet names k w v → get_or two v 0 ≢ get_or two w 0 = λ v met same. differ (sym ((a.same v w (below v met) here).1 ((b.same v w (below v met) here).0 same)) ∙ agree v met ∙ same) in
+      let here = word-below covers words c one a k w has in
+      let below : (v : ℕ) → IsMet covers k w v → v < words = λ v met. word-below covers words c one a met.name v met.has in
+      let new_one : (v : ℕ) → IsMet covers k w v → get_or one v 0 ≢ get_or one w 0 = λ v met same. differ (sym same ∙ agree v met ∙ (b.same v w (below v met) here).1 ((a.same v w (below v met) here).0 same)) in
+      let new_two : (v : ℕ) → IsMet covers k w v → get_or two v 0 ≢ get_or two w 0 = λ v met same. differ (sym ((a.same v w (below v met) here).1 ((b.same v w (below v met) here).0 same)) ∙ agree v met ∙ same) in
       next-numbers k w agree (a.first k w has new_one) (b.first k w has new_two))
       (cases_eq (get_or one w 0) (get_or two w 0))
 
@@ -60,7 +59,7 @@ module _ (names : List NameInfo) (words c d : ℕ) (one two : List ℕ) (a : IsN
       (λ earlier. agree v (record { name = met.name; has = met.has; before = inl earlier }))
       (λ (here : (met.name ≡ k) × (v < suc w)). ⊎_elim
       (λ (l : v < w). agree v (record { name = met.name; has = met.has; before = inr (here.0, l) }))
-      (λ (same : v ≡ w). subst (λ x. get_or one x 0 ≡ get_or two x 0) (sym same) (agree-word k w agree (subst (λ x. IsWordOf names k x) same (subst (λ x. IsWordOf names x v) here.0 met.has))))
+      (λ (same : v ≡ w). subst (λ x. get_or one x 0 ≡ get_or two x 0) (sym same) (agree-word k w agree (subst (λ x. covers k x) same (subst (λ x. covers x v) here.0 met.has))))
       (below_suc v w here.1))
       met.before
 
@@ -73,7 +72,7 @@ module _ (names : List NameInfo) (words c d : ℕ) (one two : List ℕ) (a : IsN
   all-names (suc k) v met = ⊎_elim
       (λ (l : met.name < suc k). ⊎_elim
       (λ (earlier : met.name < k). all-names k v (record { name = met.name; has = met.has; before = inl earlier }))
-      (λ (same : met.name ≡ k). all-words k words (all-names k) v (record { name = met.name; has = met.has; before = inr (same, word-below names words c one a met.name v met.has) }))
+      (λ (same : met.name ≡ k). all-words k words (all-names k) v (record { name = met.name; has = met.has; before = inr (same, word-below covers words c one a met.name v met.has) }))
       (below_suc met.name k l))
       (λ (h : (met.name ≡ suc k) × (v < 0)). let l = h.1 in absurd (omega (arith, l)))
       met.before
@@ -82,7 +81,7 @@ module _ (names : List NameInfo) (words c d : ℕ) (one two : List ℕ) (a : IsN
   agree-all v = ⊎_elim
       (λ (same : get_or one v 0 ≡ get_or two v 0). same)
       (λ (differ : get_or one v 0 ≢ get_or two v 0).
-      let none : (k : ℕ) → IsWordOf names k v → ⊥ = λ k has. differ (all-names (suc k) v (record { name = k; has = has; before = inl (omega arith) })) in
+      let none : (k : ℕ) → covers k v → ⊥ = λ k has. differ (all-names (suc k) v (record { name = k; has = has; before = inl (omega arith) })) in
       a.bare v none ∙ sym (b.bare v none))
       (cases_eq (get_or one v 0) (get_or two v 0))
 
@@ -96,16 +95,16 @@ module _ (names : List NameInfo) (words c d : ℕ) (one two : List ℕ) (a : IsN
       let is = some.1 in let same = agree-all some.0 in let most = b.most some.0 in omega (arith, is, same, most))
       a.reached
 
-pub same-counts : (names : List NameInfo) (words c d : ℕ) (one two : List ℕ) → IsNumbering names words one c → IsNumbering names words two d → c ≡ d
-same-counts names words c d one two a b =
-    let up = count-within names words c d one two a b in
-    let down = count-within names words d c two one b a in
+pub same-counts : (covers : ℕ → ℕ → Type 0) (words c d : ℕ) (one two : List ℕ) → IsNumbering covers words one c → IsNumbering covers words two d → c ≡ d
+same-counts covers words c d one two a b =
+    let up = count-within covers words c d one two a b in
+    let down = count-within covers words d c two one b a in
     omega (arith, up, down)
 
 pub one-table : (p : Program) (t other : ClassTable) → IsClasses p t → IsClasses p other → t ≡ other
 one-table p t other a b =
     let names : t.names ≡ other.names = a.names ∙ sym b.names in
-    let numbers : t.numbers ≡ other.numbers = same-numbers p.names p.words t.word_classes other.word_classes t.numbers other.numbers a.numbering b.numbering in
-    let counts : t.word_classes ≡ other.word_classes = same-counts p.names p.words t.word_classes other.word_classes t.numbers other.numbers a.numbering b.numbering in
+    let numbers : t.numbers ≡ other.numbers = same-numbers (IsWordOf p.names) p.words t.word_classes other.word_classes t.numbers other.numbers a.numbering b.numbering in
+    let counts : t.word_classes ≡ other.word_classes = same-counts (IsWordOf p.names) p.words t.word_classes other.word_classes t.numbers other.numbers a.numbering b.numbering in
     let loops : t.loops ≡ other.loops = a.loops ∙ sym b.loops in
     λ i. record { names = names i; numbers = numbers i; word_classes = counts i; loops = loops i }

@@ -26,39 +26,41 @@ class_count t = t.word_classes + t.loops
 
 -- ---- the walk through the names in the order of the table, and through the words of each in their order
 
--- the word v is met before the walk comes to the word w of the name k
-pub record IsMet (names : List NameInfo) (k w v : ℕ) : Type 0 where
-  pub name : ℕ
-  pub has : IsWordOf names name v
-  pub before : (name < k) ⊎ ((name ≡ k) × (v < w))
+-- `covers k w` says that w is one of the words of the name k
+module _ (covers : ℕ → ℕ → Type 0) where
+  -- the word v is met before the walk comes to the word w of the name k
+  pub record IsMet (k w v : ℕ) : Type 0 where
+    pub name : ℕ
+    pub has : covers name v
+    pub before : (name < k) ⊎ ((name ≡ k) × (v < w))
 
--- the least number above those of the words that are met before; the first one is 1
-pub record IsNextNumber (names : List NameInfo) (numbers : List ℕ) (k w n : ℕ) : Type 0 where
-  pub above : (v : ℕ) → IsMet names k w v → slice_index numbers v < n
-  pub least : (n ≡ 1) ⊎ ((v : ℕ) × IsMet names k w v × (suc (slice_index numbers v) ≡ n))
+  -- the least number above those of the words that are met before; the first one is 1
+  pub record IsNextNumber (numbers : List ℕ) (k w n : ℕ) : Type 0 where
+    pub above : (v : ℕ) → IsMet k w v → slice_index numbers v < n
+    pub least : (n ≡ 1) ⊎ ((v : ℕ) × IsMet k w v × (suc (slice_index numbers v) ≡ n))
 
--- the same names cover two words
-abbrev pub SameNames : List NameInfo → ℕ → ℕ → Type 0
-SameNames names v w = (k : ℕ) → IsWordOf names k v ↔ IsWordOf names k w
+  -- the same names cover two words
+  abbrev pub SameNames : ℕ → ℕ → Type 0
+  SameNames v w = (k : ℕ) → covers k v ↔ covers k w
 
--- One number for each word: the same for two words exactly where the same names cover them. A word of whose class the walk
--- has met none has the least number above those that it has met, so that the classes are numbered from 1 in the order in
--- which the walk meets them. A word that no name covers has none.
-pub record IsNumbering (names : List NameInfo) (words : ℕ) (numbers : List ℕ) (count : ℕ) : Type 0 where
-  pub each : length numbers ≡ words
-  pub same : (v w : ℕ) → v < words → w < words → (slice_index numbers v ≡ slice_index numbers w) ↔ SameNames names v w
-  pub first : (k w : ℕ) → IsWordOf names k w → ((v : ℕ) → IsMet names k w v → slice_index numbers v ≢ slice_index numbers w) → IsNextNumber names numbers k w (slice_index numbers w)
-  pub bare : (w : ℕ) → ((k : ℕ) → IsWordOf names k w → ⊥) → slice_index numbers w ≡ 0
-  pub some : (k w : ℕ) → IsWordOf names k w → 1 ≤ slice_index numbers w
-  pub most : (w : ℕ) → slice_index numbers w ≤ count
-  pub reached : (count ≡ 0) ⊎ ((w : ℕ) × (slice_index numbers w ≡ count))
+  -- One number for each word: the same for two words exactly where the same names cover them. A word of whose class the walk
+  -- has met none has the least number above those that it has met, so that the classes are numbered from 1 in the order in
+  -- which the walk meets them. A word that no name covers has the number 0.
+  pub record IsNumbering (words : ℕ) (numbers : List ℕ) (count : ℕ) : Type 0 where
+    pub each : length numbers ≡ words
+    pub same : (v w : ℕ) → v < words → w < words → (slice_index numbers v ≡ slice_index numbers w) ↔ SameNames v w
+    pub first : (k w : ℕ) → covers k w → ((v : ℕ) → IsMet k w v → slice_index numbers v ≢ slice_index numbers w) → IsNextNumber numbers k w (slice_index numbers w)
+    pub bare : (w : ℕ) → ((k : ℕ) → covers k w → ⊥) → slice_index numbers w ≡ 0
+    pub some : (k w : ℕ) → covers k w → 1 ≤ slice_index numbers w
+    pub most : (w : ℕ) → slice_index numbers w ≤ count
+    pub reached : (count ≡ 0) ⊎ ((w : ℕ) × (slice_index numbers w ≡ count))
 
 -- ---- programs
 
 -- these are the classes of a program
 pub record IsClasses (p : Program) (t : ClassTable) : Type 0 where
   pub names : t.names ≡ p.names
-  pub numbering : IsNumbering p.names p.words t.numbers t.word_classes
+  pub numbering : IsNumbering (IsWordOf p.names) p.words t.numbers t.word_classes
   pub loops : t.loops ≡ p.loops
 
 -- the program has at least so many classes
