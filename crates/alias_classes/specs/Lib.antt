@@ -1,3 +1,5 @@
 pub mod Classes
-pub mod Needs
 pub mod Frame
+pub mod Needs
+pub mod Spans
+pub mod Walk

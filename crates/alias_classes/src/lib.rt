@@ -2,7 +2,6 @@
 #![tactic(auto)]
 
 mod laws;
+mod spans;
 
-pub use laws::{
-    classes_are_numbered, needs_are_a_frame, needs_cover_accesses, one_numbering,
-};
+pub use laws::{classes_are_numbered, needs_are_a_frame, needs_cover_accesses, one_numbering};
