@@ -230,3 +230,60 @@ module _ (covers : ℕ → ℕ → Type 0) (key : ℕ → ℕ × ℕ) where
           (λ (same : x ≡ w). inr (subst (λ i. IsMet covers i x x) (sym at.0) (subst (λ y. IsMet covers k y y) (sym same) (walked.own w is))))
           (λ (differ : x ≢ w). let less = at.1 in inl (inr (at.0, omega (arith, less, differ))))
           (cases_eq x w)
+
+  -- the whole walk numbers the classes, where keys tell the names that cover words
+  module _ (words count : ℕ) (numbers : List ℕ) (keys : List (ℕ × ℕ)) (walked : IsWalked covers key count 0 numbers keys) (each : length numbers ≡ words) (names_below : (k w : ℕ) → covers k w → k < count) (key-names : (v w : ℕ) → v < words → w < words → key v ≡ key w → SameNames covers v w) (names-key : (v w : ℕ) → v < words → w < words → SameNames covers v w → key v ≡ key w) where
+    covered-some : (k w : ℕ) → covers k w → 1 ≤ get_or numbers w 0
+    covered-some k w has = walked.met w (record { name = k; has = has; before = inl (names_below k w has) })
+
+    number-names : (v w : ℕ) → v < words → w < words → get_or numbers v 0 ≡ get_or numbers w 0 → SameNames covers v w
+    number-names v w v_in w_in same = ⊎_elim
+        (λ (none : get_or numbers v 0 ≡ 0). λ k. (λ has. absurd (let some = covered-some k v has in omega (arith, some, none)), λ has. absurd (let some = covered-some k w has in omega (arith, some, none, same))))
+        (λ (is : get_or numbers v 0 ≢ 0).
+        let v_some : 1 ≤ get_or numbers v 0 = omega (arith, is) in
+        let w_some : 1 ≤ get_or numbers w 0 = omega (arith, is, same) in
+        key-names v w v_in w_in (sym (walked.table.keyed v v_some) ∙ ap (λ n. get_or keys (n - 1) no_key) same ∙ walked.table.keyed w w_some))
+        (cases_eq (get_or numbers v 0) 0)
+
+    some-names : (v w : ℕ) → SameNames covers v w → 1 ≤ get_or numbers v 0 → 1 ≤ get_or numbers w 0
+    some-names v w same some = let met = walked.own v some in covered-some met.name w ((same met.name).0 met.has)
+
+    back : (v w : ℕ) → SameNames covers v w → SameNames covers w v
+    back v w same k = ((same k).1, (same k).0)
+
+    names-number : (v w : ℕ) → v < words → w < words → SameNames covers v w → get_or numbers v 0 ≡ get_or numbers w 0
+    names-number v w v_in w_in same = ⊎_elim
+        (λ (none : get_or numbers v 0 ≡ 0). ⊎_elim
+        (λ (no : get_or numbers w 0 ≡ 0). none ∙ sym no)
+        (λ (is : get_or numbers w 0 ≢ 0). let some = some-names w v (back v w same) (omega (arith, is)) in absurd (omega (arith, some, none)))
+        (cases_eq (get_or numbers w 0) 0))
+        (λ (is : get_or numbers v 0 ≢ 0).
+        let v_some : 1 ≤ get_or numbers v 0 = omega (arith, is) in
+        let w_some : 1 ≤ get_or numbers w 0 = some-names v w same v_some in
+        let v_few = walked.table.within v in
+        let w_few = walked.table.within w in
+        let both : get_or keys (get_or numbers v 0 - 1) no_key ≡ get_or keys (get_or numbers w 0 - 1) no_key = walked.table.keyed v v_some ∙ names-key v w v_in w_in same ∙ sym (walked.table.keyed w w_some) in
+        ⊎_elim
+        (λ (equal : get_or numbers v 0 ≡ get_or numbers w 0). equal)
+        (⊎_elim
+        (λ (less : get_or numbers v 0 < get_or numbers w 0). absurd (walked.table.apart (get_or numbers v 0 - 1) (get_or numbers w 0 - 1) (omega (arith, less, v_some)) (omega (arith, w_few, w_some)) both))
+        (λ (more : get_or numbers w 0 < get_or numbers v 0). absurd (walked.table.apart (get_or numbers w 0 - 1) (get_or numbers v 0 - 1) (omega (arith, more, w_some)) (omega (arith, v_few, v_some)) (sym both))))
+        (cases_order (get_or numbers v 0) (get_or numbers w 0)))
+        (cases_eq (get_or numbers v 0) 0)
+
+    pub walked-numbering : IsNumbering covers words numbers (length keys)
+    walked-numbering = record {
+      each = each;
+      same = λ v w v_in w_in. (number-names v w v_in w_in, names-number v w v_in w_in);
+      first = λ k w has new. walked.first k w has (inl (names_below k w has)) new;
+      bare = λ w none. ⊎_elim
+          (λ (h : get_or numbers w 0 ≡ 0). h)
+          (λ (h : get_or numbers w 0 ≢ 0). let met = walked.own w (omega (arith, h)) in absurd (none met.name met.has))
+          (cases_eq (get_or numbers w 0) 0);
+      some = covered-some;
+      most = walked.table.within;
+      reached = ⊎_elim
+          (λ (h : length keys ≡ 0). inl h)
+          (λ (h : length keys ≢ 0). inr (walked.table.reached (length keys) (omega (arith, h)) (omega arith)))
+          (cases_eq (length keys) 0);
+    }

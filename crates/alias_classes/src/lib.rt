@@ -3,5 +3,6 @@
 
 mod laws;
 mod spans;
+mod walk;
 
 pub use laws::{classes_are_numbered, needs_are_a_frame, needs_cover_accesses, one_numbering};
