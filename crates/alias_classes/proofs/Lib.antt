@@ -3,6 +3,7 @@ pub mod Framing
 pub mod KeyLemmas
 pub mod KeyPlaces
 pub mod OneNumbering
+pub mod RunLemmas
 pub mod SizeLemmas
 pub mod SpanLemmas
 pub mod Walked

@@ -231,6 +231,57 @@ module _ (covers : ℕ → ℕ → Type 0) (key : ℕ → ℕ × ℕ) where
           (λ (differ : x ≢ w). let less = at.1 in inl (inr (at.0, omega (arith, less, differ))))
           (cases_eq x w)
 
+  -- over words that have numbers
+  pub walked-over : (k w w' : ℕ) (numbers : List ℕ) (keys : List (ℕ × ℕ)) → IsWalked covers key k w numbers keys → w ≤ w' → ((v : ℕ) → w ≤ v → v < w' → 1 ≤ get_or numbers v 0) → IsWalked covers key k w' numbers keys
+  walked-over k w w' numbers keys walked later all = walked-move k w k w' numbers keys walked
+      (λ v met. record { name = met.name; has = met.has; before = ⊎_elim (λ l. inl l) (λ (h : (met.name ≡ k) × (v < w)). let less = h.1 in inr (h.0, omega (arith, less, later))) met.before })
+      (λ v met. ⊎_elim
+      (λ (l : met.name < k). walked.met v (record { name = met.name; has = met.has; before = inl l }))
+      (λ (h : (met.name ≡ k) × (v < w')). ⊎_elim
+      (λ (l : v < w). walked.met v (record { name = met.name; has = met.has; before = inr (h.0, l) }))
+      (λ (m : w ≤ v). all v m h.1)
+      (cases_lt v w))
+      met.before)
+      (λ j x has before. come j x before)
+    where
+      own-before : (j x : ℕ) → j ≡ k → w ≤ x → IsMet covers k w x → IsMet covers j x x
+      own-before j x same from met = record {
+        name = met.name;
+        has = met.has;
+        before = ⊎_elim
+            (λ (l : met.name < k). inl (omega (arith, l, same)))
+            (λ (h : (met.name ≡ k) × (x < w)). let less = h.1 in absurd (omega (arith, less, from)))
+            met.before;
+      }
+
+      come : (j x : ℕ) → Before covers key j x k w' → Before covers key j x k w ⊎ IsMet covers j x x
+      come j x (inl l) = inl (inl l)
+      come j x (inr at) = ⊎_elim
+          (λ (l : x < w). inl (inr (at.0, l)))
+          (λ (m : w ≤ x). inr (own-before j x at.0 m (walked.own x (all x m at.1))))
+          (cases_lt x w)
+
+  -- past the last word of a name
+  pub walked-past : (k w : ℕ) (numbers : List ℕ) (keys : List (ℕ × ℕ)) → IsWalked covers key k w numbers keys → ((x : ℕ) → covers k x → x < w) → IsWalked covers key (k + 1) 0 numbers keys
+  walked-past k w numbers keys walked past = walked-move k w (k + 1) 0 numbers keys walked
+      (λ v met. record { name = met.name; has = met.has; before = ⊎_elim (λ (l : met.name < k). inl (omega (arith, l))) (λ (h : (met.name ≡ k) × (v < w)). let same = h.0 in inl (omega (arith, same))) met.before })
+      (λ v met. walked.met v (record { name = met.name; has = met.has; before = before met.name v met.has met.before }))
+      (λ j x has come. inl (before j x has come))
+    where
+      at-last : (j x : ℕ) → covers j x → j < k + 1 → Before covers key j x k w
+      at-last j x has l = ⊎_elim
+          (λ (h : j < k). inl h)
+          (λ (h : k ≤ j). let same : j ≡ k = omega (arith, h, l) in inr (same, past x (subst (λ i. covers i x) same has)))
+          (cases_lt j k)
+
+      before : (j x : ℕ) → covers j x → Before covers key j x (k + 1) 0 → Before covers key j x k w
+      before j x has (inl l) = at-last j x has l
+      before j x has (inr at) = let less = at.1 in absurd (omega (arith, less))
+
+  -- the walk meets a word, and goes over those that have numbers
+  pub walked-step : (k w w' : ℕ) (numbers new : List ℕ) (keys more : List (ℕ × ℕ)) → IsWalked covers key k w numbers keys → covers k w → w < length numbers → IsMarked w (key w) numbers keys new more → w < w' → ((v : ℕ) → w < v → v < w' → 1 ≤ get_or new v 0) → IsWalked covers key k w' new more
+  walked-step k w w' numbers new keys more walked has inside marked later all = walked-over k (suc w) w' new more (walked-marked k w numbers new keys more walked has inside marked) later (λ v from to. all v from to)
+
   -- the whole walk numbers the classes, where keys tell the names that cover words
   module _ (words count : ℕ) (numbers : List ℕ) (keys : List (ℕ × ℕ)) (walked : IsWalked covers key count 0 numbers keys) (each : length numbers ≡ words) (names_below : (k w : ℕ) → covers k w → k < count) (key-names : (v w : ℕ) → v < words → w < words → key v ≡ key w → SameNames covers v w) (names-key : (v w : ℕ) → v < words → w < words → SameNames covers v w → key v ≡ key w) where
     covered-some : (k w : ℕ) → covers k w → 1 ≤ get_or numbers w 0
@@ -287,3 +338,9 @@ module _ (covers : ℕ → ℕ → Type 0) (key : ℕ → ℕ × ℕ) where
           (λ (h : length keys ≢ 0). inr (walked.table.reached (length keys) (omega (arith, h)) (omega arith)))
           (cases_eq (length keys) 0);
     }
+
+pub marked-length : (word : ℕ) (key : ℕ × ℕ) (numbers new : List ℕ) (keys more : List (ℕ × ℕ)) → IsMarked word key numbers keys new more → length new ≡ length numbers
+marked-length word key numbers new keys more marked = ⊎_elim
+    (λ (blank : get_or numbers word 0 ≡ 0). ap length (marked.blank blank).0 ∙ length-set numbers word (position_or_len (same_keys key) keys + 1))
+    (λ (old : get_or numbers word 0 ≢ 0). ap length (marked.kept old).0)
+    (cases_eq (get_or numbers word 0) 0)

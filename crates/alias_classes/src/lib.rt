@@ -2,6 +2,7 @@
 #![tactic(auto)]
 
 mod laws;
+mod runs;
 mod spans;
 mod walk;
 
