@@ -97,12 +97,7 @@ fn walk_name(walk: &mut Walk, marks: &Marks, spans: &Spans, k: usize) -> Result<
     let end = spans.ends[k];
     let mut word = spans.begins[k];
     while word < end {
-        mark(
-            &mut walk.numbers,
-            &mut walk.keys,
-            key(marks, word),
-            word,
-        )?;
+        mark(&mut walk.numbers, &mut walk.keys, key(marks, word), word)?;
         word = skip(&mut walk.skips, &walk.numbers, word);
     }
     Ok(())
