@@ -2,7 +2,9 @@ pub mod Covering
 pub mod Framing
 pub mod KeyLemmas
 pub mod KeyPlaces
+pub mod KnownPlaces
 pub mod OneNumbering
+pub mod Rows
 pub mod RunLemmas
 pub mod SizeLemmas
 pub mod SpanLemmas

@@ -339,8 +339,8 @@ module _ (covers : ℕ → ℕ → Type 0) (key : ℕ → ℕ × ℕ) where
           (cases_eq (length keys) 0);
     }
 
-pub marked-length : (word : ℕ) (key : ℕ × ℕ) (numbers new : List ℕ) (keys more : List (ℕ × ℕ)) → IsMarked word key numbers keys new more → length new ≡ length numbers
-marked-length word key numbers new keys more marked = ⊎_elim
+pub marked-length : (word : ℕ) (key : ℕ × ℕ) (numbers marks : List ℕ) (keys all : List (ℕ × ℕ)) → IsMarked word key numbers keys marks all → length marks ≡ length numbers
+marked-length word key numbers marks keys all marked = ⊎_elim
     (λ (blank : get_or numbers word 0 ≡ 0). ap length (marked.blank blank).0 ∙ length-set numbers word (position_or_len (same_keys key) keys + 1))
     (λ (old : get_or numbers word 0 ≢ 0). ap length (marked.kept old).0)
     (cases_eq (get_or numbers word 0) 0)

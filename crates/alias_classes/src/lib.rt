@@ -1,9 +1,12 @@
 //! Alias classes: which words of storage may be the same to a dependence analysis.
 #![tactic(auto)]
 
+mod classes;
+mod known;
 mod laws;
 mod runs;
 mod spans;
 mod walk;
 
+pub use classes::Classes;
 pub use laws::{classes_are_numbered, needs_are_a_frame, needs_cover_accesses, one_numbering};
