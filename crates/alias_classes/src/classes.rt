@@ -1,12 +1,13 @@
 ghost use Rattle.std.specs.Prelude.{◌≡◌, ◌≤◌, ◌<◌, ◌+◌, ◌*◌, ◌↔◌, ℕ, true, length, slice_index, IfOk, IfErr, All, Any};
 ghost use Rattle.class_set.specs.ClassSet.{holds};
+ghost use Rattle.class_set.specs.Members.{IsWidth};
 ghost use Rattle.f77_tree.specs.Value.{IsAccess, IsExpression};
 ghost use Rattle.alias_classes.specs.Classes.{class_of_word, class_of_loop, class_count};
 ghost use Rattle.alias_classes.specs.Needs.{Hits, Needs, ExprNeeds};
 
-use crate::known::known_word;
+use crate::needs::{WordClasses, access_hits, access_need, expr_need};
 use class_set::ClassSet;
-use f77_tree::{Access, Expr, ExprList, Program};
+use f77_tree::{Access, Expr, Program};
 use std::marker::Model;
 
 /// The alias classes of a program. Words that the same names cover form one, and the count and the step of each DO form
@@ -15,10 +16,7 @@ use std::marker::Model;
 #[derive(Drop)]
 pub struct Classes<'a, const W: usize> {
     program: &'a Program,
-    numbers: Vec<usize>,
-    word_classes: usize,
-    // The classes of each name.
-    names: Vec<ClassSet<W>>,
+    words: WordClasses<W>,
 }
 
 impl<'a, const W: usize> Model for Classes<'a, W> {
@@ -27,9 +25,9 @@ impl<'a, const W: usize> Model for Classes<'a, W> {
 
     ghost Value = { ClassTable };
 
-    ghost view = { λ c. table_of c.program.now c.numbers.items c.word_classes };
+    ghost view = { λ c. table_of c.program.now c.words.numbers.items c.words.count };
 
-    ghost invariant = { λ c. AreKept W c.program.now c.numbers.items c.word_classes c.names.items };
+    ghost invariant = { λ c. AreKept W c.program.now c.words.numbers.items c.words.count c.words.names.items };
 }
 
 impl<'a, const W: usize> Classes<'a, W> {
@@ -37,7 +35,7 @@ impl<'a, const W: usize> Classes<'a, W> {
     pub fn count(&self) -> u32
         ensures { result ≡ class_count self.now }
     {
-        (self.word_classes + self.program.loops as usize) as u32
+        (self.words.count + self.program.loops as usize) as u32
     }
 
     /// The class of a word, or 0 if no name covers it.
@@ -45,7 +43,7 @@ impl<'a, const W: usize> Classes<'a, W> {
         requires { k < length self.now.numbers }
         ensures { result ≡ class_of_word self.now k }
     {
-        self.numbers[k as usize] as u32
+        self.words.numbers[k as usize] as u32
     }
 
     /// The class of the count and the step of a DO.
@@ -53,7 +51,7 @@ impl<'a, const W: usize> Classes<'a, W> {
         requires { loop_no < self.now.loops }
         ensures { result ≡ class_of_loop self.now loop_no }
     {
-        self.word_classes as u32 + 1 + loop_no
+        self.words.count as u32 + 1 + loop_no
     }
 
     /// The classes that an access hits: that of its word, where all its subscripts have known values within their bounds,
@@ -62,44 +60,24 @@ impl<'a, const W: usize> Classes<'a, W> {
         requires { IsAccess self.now.names a.now }
         ensures { (n : ℕ) → (holds result n ≡ true) ↔ Hits self.now a.now n }
     {
-        match known_word(&self.program.names, self.program.initial.as_slice(), a) {
-            Some(word) => ClassSet::empty().with(self.numbers[word as usize] as u32),
-            None => self.names[a.name as usize],
-        }
+        access_hits(self.program, &self.words, a)
     }
 
     /// The classes that an access needs: those that it hits, and what the accesses in its subscripts need.
-    #[cycle(need)]
     pub fn need(&self, a: &Access) -> ClassSet<W>
-        requires { IsAccess self.now.names a.now }
+        requires width { IsWidth W }
+        requires access { IsAccess self.now.names a.now }
         ensures { (n : ℕ) → (holds result n ≡ true) ↔ Needs self.now a.now n }
     {
-        self.all_need(&a.subs).union(&self.hits(a))
+        access_need(self.program, &self.words, a)
     }
 
     /// The classes that the accesses in an expression need.
-    #[cycle(need)]
     pub fn expr_need(&self, e: &Expr) -> ClassSet<W>
-        requires { IsExpression self.now.names e.now }
+        requires width { IsWidth W }
+        requires expression { IsExpression self.now.names e.now }
         ensures { (n : ℕ) → (holds result n ≡ true) ↔ ExprNeeds self.now e.now n }
     {
-        match e {
-            Expr::Const(_) | Expr::Truth(_) | Expr::Input => ClassSet::empty(),
-            Expr::Read(access) => self.need(access),
-            Expr::Apply(_, args) => self.all_need(args),
-        }
-    }
-
-    // The classes that the accesses in some expressions need.
-    #[cycle(need)]
-    fn all_need(&self, es: &ExprList) -> ClassSet<W>
-        requires { All (IsExpression self.now.names) es.now }
-        ensures { (n : ℕ) → (holds result n ≡ true) ↔ Any (λ e. ExprNeeds self.now e n) es.now }
-    {
-        let mut set = ClassSet::empty();
-        for e in es.as_slice() {
-            set = set.union(&self.expr_need(e));
-        }
-        set
+        expr_need(self.program, &self.words, e)
     }
 }

@@ -4,6 +4,7 @@
 mod classes;
 mod known;
 mod laws;
+mod needs;
 mod runs;
 mod spans;
 mod walk;
