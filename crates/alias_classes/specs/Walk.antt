@@ -2,7 +2,7 @@
 use Rattle.std.specs.Prelude.{◌≡◌, ◌≢◌, ℕ, ◌+◌, ◌-◌, ◌<◌, ◌≤◌, ◌⊎◌, Bool, ◌&&◌, nat_eq, List, length, slice_index, slice_index_or, slice_set}
 use Rattle.std.specs.List.{position_or_len}
 use Rattle.indexmap.specs.IndexSet.{insert_key}
-use Rattle.alias_classes.specs.Classes.{IsMet, IsNextNumber}
+use Rattle.alias_classes.specs.Classes.{IsMet, IsNextNumber, SameNames}
 
 -- what tells the class of a word: one more than the last place at which a name begins that covers it, and the same from the
 -- end of the store
@@ -49,3 +49,8 @@ module _ (covers : ℕ → ℕ → Type 0) (key : ℕ → ℕ × ℕ) where
     pub own : (v : ℕ) → 1 ≤ slice_index numbers v → IsMet covers k w v
     pub table : IsKeyed numbers keys
     pub first : (j x : ℕ) → covers j x → Before j x k w → IsNew numbers j x → IsNextNumber covers numbers j x (slice_index numbers x)
+
+-- two words have the same key exactly where the same names cover them
+pub record KeysTell (covers : ℕ → ℕ → Type 0) (key : ℕ → ℕ × ℕ) (words : ℕ) : Type 0 where
+  pub names : (v w : ℕ) → v < words → w < words → key v ≡ key w → SameNames covers v w
+  pub keys : (v w : ℕ) → v < words → w < words → SameNames covers v w → key v ≡ key w

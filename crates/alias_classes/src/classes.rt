@@ -1,6 +1,5 @@
 ghost use Rattle.std.specs.Prelude.{◌≡◌, ◌≤◌, ◌<◌, ◌+◌, ◌*◌, ◌↔◌, ℕ, true, length, slice_index, IfOk, IfErr, All, Any};
 ghost use Rattle.class_set.specs.ClassSet.{holds};
-ghost use Rattle.class_set.specs.Members.{IsWidth};
 ghost use Rattle.f77_tree.specs.Value.{IsAccess, IsExpression};
 ghost use Rattle.alias_classes.specs.Classes.{class_of_word, class_of_loop, class_count};
 ghost use Rattle.alias_classes.specs.Needs.{Hits, Needs, ExprNeeds};
@@ -65,8 +64,7 @@ impl<'a, const W: usize> Classes<'a, W> {
 
     /// The classes that an access needs: those that it hits, and what the accesses in its subscripts need.
     pub fn need(&self, a: &Access) -> ClassSet<W>
-        requires width { IsWidth W }
-        requires access { IsAccess self.now.names a.now }
+        requires { IsAccess self.now.names a.now }
         ensures { (n : ℕ) → (holds result n ≡ true) ↔ Needs self.now a.now n }
     {
         access_need(self.program, &self.words, a)
@@ -74,8 +72,7 @@ impl<'a, const W: usize> Classes<'a, W> {
 
     /// The classes that the accesses in an expression need.
     pub fn expr_need(&self, e: &Expr) -> ClassSet<W>
-        requires width { IsWidth W }
-        requires expression { IsExpression self.now.names e.now }
+        requires { IsExpression self.now.names e.now }
         ensures { (n : ℕ) → (holds result n ≡ true) ↔ ExprNeeds self.now e.now n }
     {
         expr_need(self.program, &self.words, e)

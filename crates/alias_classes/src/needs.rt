@@ -8,7 +8,8 @@ ghost use Rattle.alias_classes.specs.Needs.{Hits, Needs, ExprNeeds};
 
 use crate::known::known_word;
 use class_set::ClassSet;
-use f77_tree::{Access, Expr, ExprList, Program};
+use f77_tree::{Access, Expr, ExprList, NameInfoList, Program};
+use op_table::Op;
 
 /// The classes of the words of a program: how many there are, the class of each word, and the classes of each name.
 #[derive(Drop)]
@@ -62,8 +63,14 @@ pub(crate) fn expr_need<const W: usize>(
 {
     match e {
         Expr::Const(_) | Expr::Truth(_) | Expr::Input => ClassSet::empty(),
-        Expr::Read(access) => access_need(p, words, access),
-        Expr::Apply(_, args) => all_need(p, words, args),
+        Expr::Read(access) => {
+            access_fits(&p.names, e, access);
+            access_need(p, words, access)
+        }
+        Expr::Apply(op, args) => {
+            operands_fit(&p.names, e, *op, args);
+            all_need(p, words, args)
+        }
     }
 }
 
@@ -80,3 +87,17 @@ fn all_need<const W: usize>(p: &Program, words: &WordClasses<W>, es: &ExprList) 
     }
     set
 }
+
+// What an expression that fits the table of names reads is an access of the table.
+fn access_fits(names: &NameInfoList, e: &Expr, a: &Access)
+    requires form { e.now ≡ Expr.Read a.now }
+    requires expression { IsExpression names.now e.now }
+    ensures { IsAccess names.now a.now }
+{}
+
+// The operands in an expression that fits the table of names fit it too.
+fn operands_fit(names: &NameInfoList, e: &Expr, op: Op, args: &ExprList)
+    requires form { e.now ≡ Expr.Apply op args.now }
+    requires expression { IsExpression names.now e.now }
+    ensures { All (IsExpression names.now) args.now }
+{}
