@@ -3,6 +3,7 @@ pub mod Framing
 pub mod KeyLemmas
 pub mod KeyPlaces
 pub mod KnownPlaces
+pub mod MakingLemmas
 pub mod OneNumbering
 pub mod Rows
 pub mod RunLemmas

@@ -20,7 +20,7 @@ width-is dim is = let order = is.order in omega (arith, ints, order)
 pub width-some : (dim : Dim) → IsDim dim → 1 ≤ width_of dim
 width-some dim is = let order = is.order in omega (arith, ints, order)
 
-counts : (dims : List Dim) → ((k : ℕ) (d : Dim) → k < length dims → IsDim (get_or dims k d)) → (pos (count_of dims) ≡ size_of dims) × (1 ≤ count_of dims)
+pub counts : (dims : List Dim) → ((k : ℕ) (d : Dim) → k < length dims → IsDim (get_or dims k d)) → (pos (count_of dims) ≡ size_of dims) × (1 ≤ count_of dims)
 counts [] all = (refl, omega arith)
 counts (dim ∷ dims) all =
     let here : IsDim dim = all 0 dim (omega arith) in

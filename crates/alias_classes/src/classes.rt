@@ -1,12 +1,18 @@
-ghost use Rattle.std.specs.Prelude.{◌≡◌, ◌≤◌, ◌<◌, ◌+◌, ◌*◌, ◌↔◌, ℕ, true, length, slice_index, IfOk, IfErr, All, Any};
+ghost use Rattle.std.specs.Prelude.{◌≡◌, ◌≤◌, ◌<◌, ◌+◌, ◌*◌, ◌↔◌, ℕ, true, length, slice_index, IfOk, IfErr};
 ghost use Rattle.class_set.specs.ClassSet.{holds};
+ghost use Rattle.class_set.specs.Members.{IsWidth};
 ghost use Rattle.f77_tree.specs.Value.{IsAccess, IsExpression};
-ghost use Rattle.alias_classes.specs.Classes.{class_of_word, class_of_loop, class_count};
+ghost use Rattle.f77_tree.specs.WellFormed.{IsWellFormed};
+ghost use Rattle.alias_classes.specs.Classes.{IsClasses, HasClasses, class_of_word, class_of_loop, class_count};
 ghost use Rattle.alias_classes.specs.Needs.{Hits, Needs, ExprNeeds};
 
 use crate::needs::{WordClasses, access_hits, access_need, expr_need};
+use crate::class_end::ClassEnd;
+use crate::making::{Numbered, name_sets, number_spans};
+use crate::spans::name_spans;
 use class_set::ClassSet;
 use f77_tree::{Access, Expr, Program};
+use std::alloc::Global;
 use std::marker::Model;
 
 /// The alias classes of a program. Words that the same names cover form one, and the count and the step of each DO form
@@ -77,4 +83,32 @@ impl<'a, const W: usize> Classes<'a, W> {
     {
         expr_need(self.program, &self.words, e)
     }
+}
+
+/// The classes of a program, or TooManyClasses where there are more than `64 * W - 1`, so that a set of W words does not
+/// hold them. The number 0 is none.
+pub fn classes_of<'a, const W: usize>(
+    alloc: Global,
+    p: &'a Program,
+) -> Result<Classes<'a, W>, ClassEnd>
+    requires width { IsWidth W }
+    requires program { IsWellFormed p.now }
+    ensures classes { IfOk result (λ classes. IsClasses p.now classes) }
+    ensures few { IfOk result (λ classes. class_count classes < 64 * W) }
+    ensures many { IfErr result (λ end. end ≡ ClassEnd.TooManyClasses → HasClasses p.now (64 * W)) }
+{
+    let spans = name_spans(alloc, &p.names)?;
+    let Numbered { numbers, count } = number_spans(alloc, &spans, p.words)?;
+    if 64 * W <= count + p.loops as usize {
+        return Err(ClassEnd::TooManyClasses);
+    }
+    let names = name_sets(alloc, &spans, &numbers)?;
+    Ok(Classes {
+        program: p,
+        words: WordClasses {
+            count,
+            numbers,
+            names,
+        },
+    })
 }

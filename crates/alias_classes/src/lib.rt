@@ -12,5 +12,5 @@ mod spans;
 mod walk;
 
 pub use class_end::ClassEnd;
-pub use classes::Classes;
+pub use classes::{Classes, classes_of};
 pub use laws::{classes_are_numbered, needs_are_a_frame, needs_cover_accesses, one_numbering};

@@ -47,8 +47,8 @@ pub(crate) struct Numbered {
     pub(crate) count: usize,
 }
 
-// The numbers of the classes of words, by the spans of names.
-fn number_spans(alloc: Global, spans: &Spans, words: u32) -> Result<Numbered, NoMemory>
+/// The numbers of the classes of words, by the spans of names.
+pub(crate) fn number_spans(alloc: Global, spans: &Spans, words: u32) -> Result<Numbered, NoMemory>
     requires spans { AreSpans words spans.now.begins.items spans.now.ends.items }
     requires few { words ≤ 262144 }
     ensures numbering { IfOk result (λ n. IsNumbering (Holds spans.now.begins.items spans.now.ends.items) words n.numbers.items n.count) }
@@ -66,8 +66,8 @@ fn number_spans(alloc: Global, spans: &Spans, words: u32) -> Result<Numbered, No
     })
 }
 
-// The classes of each name.
-fn name_sets<const W: usize>(
+/// The classes of each name.
+pub(crate) fn name_sets<const W: usize>(
     alloc: Global,
     spans: &Spans,
     numbers: &Vec<usize>,
