@@ -112,9 +112,10 @@ module _ (R S : ℕ → ℕ → Type 0) (over : (k w : ℕ) → R k w → S k w)
   numbering-over words count n = record {
     each = n.each;
     same = λ v w v_in w_in.
-        let both = n.same v w v_in w_in in
-        (λ equal k. (λ has. over k w ((both.0 equal k).0 (back k v has)), λ has. over k v ((both.0 equal k).1 (back k w has))),
-         λ names. both.1 (λ k. (λ has. back k w ((names k).0 (over k v has)), λ has. back k v ((names k).1 (over k w has)))));
+        let both = n.same v w v_in w_in in (
+          λ equal k. (λ has. over k w ((both.0 equal k).0 (back k v has)), λ has. over k v ((both.0 equal k).1 (back k w has))),
+          λ names. both.1 (λ k. (λ has. back k w ((names k).0 (over k v has)), λ has. back k v ((names k).1 (over k w has)))),
+        );
     first = λ k w has new. next-over k w (get_or numbers w 0) (n.first k w (back k w has) (λ v met. new v (met-over k w v met)));
     bare = λ w none. n.bare w (λ k has. none k (over k w has));
     some = λ k w has. n.some k w (back k w has);

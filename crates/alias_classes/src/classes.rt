@@ -6,9 +6,9 @@ ghost use Rattle.f77_tree.specs.WellFormed.{IsWellFormed};
 ghost use Rattle.alias_classes.specs.Classes.{IsClasses, HasClasses, class_of_word, class_of_loop, class_count};
 ghost use Rattle.alias_classes.specs.Needs.{Hits, Needs, ExprNeeds};
 
-use crate::needs::{WordClasses, access_hits, access_need, expr_need};
 use crate::class_end::ClassEnd;
 use crate::making::{Numbered, name_sets, number_spans};
+use crate::needs::{WordClasses, access_hits, access_need, expr_need};
 use crate::spans::name_spans;
 use class_set::ClassSet;
 use f77_tree::{Access, Expr, Program};
