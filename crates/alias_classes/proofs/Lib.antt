@@ -1,0 +1,12 @@
+pub mod Covering
+pub mod Framing
+pub mod KeyLemmas
+pub mod KeyPlaces
+pub mod KnownPlaces
+pub mod MakingLemmas
+pub mod OneNumbering
+pub mod Rows
+pub mod RunLemmas
+pub mod SizeLemmas
+pub mod SpanLemmas
+pub mod Walked

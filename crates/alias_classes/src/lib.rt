@@ -1,0 +1,16 @@
+//! Alias classes: which words of storage may be the same to a dependence analysis.
+#![tactic(auto)]
+
+mod class_end;
+mod classes;
+mod known;
+mod laws;
+mod making;
+mod needs;
+mod runs;
+mod spans;
+mod walk;
+
+pub use class_end::ClassEnd;
+pub use classes::{Classes, classes_of};
+pub use laws::{classes_are_numbered, needs_are_a_frame, needs_cover_accesses, one_numbering};
