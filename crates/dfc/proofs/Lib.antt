@@ -1,2 +1,4 @@
 mod Pieces
+mod RegionsTold
 mod RunLemmas
+pub mod Texts

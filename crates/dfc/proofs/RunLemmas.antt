@@ -53,6 +53,6 @@ tells_fault p n m old new broken =
     let within : suc broken.before ≤ count_before_end p = omega (arith, broken.within) in
     let front = front_of_all p (suc broken.before) old new within (front_of_cut p broken.before old new broken.cut) in
     record {
-      answers = subst (λ (bytes : List ℕ). AppendsFront old new bytes) (all-over p) front;
+      answers = record { due = over (game_of p); is = refl; front = subst (λ (bytes : List ℕ). AppendsFront old new bytes) (all-over p) front };
       told = inr refl;
     }

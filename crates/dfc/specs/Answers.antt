@@ -7,7 +7,7 @@ use Rattle.dfc.specs.declared.status.Status.{Status}
 use Rattle.dfc.specs.declared.status.Status.TheVariants.{Done, Usage, Refused, Trapped, Limit, ReadFault, WriteFault, NoMemory}
 use Rattle.dfc.specs.declared.words.Job.{Job}
 use Rattle.dfc.specs.declared.words.Job.TheVariants.{On}
-use Rattle.dfc.specs.Due.{Due, all_due, usage}
+use Rattle.dfc.specs.Due.{Due, IsJust, all_due, usage}
 use Rattle.dfc.specs.Reading.{IsReadWhole, IsReadWithin}
 
 -- the exit status
@@ -21,37 +21,45 @@ code_of ReadFault = 5
 code_of WriteFault = 6
 code_of NoMemory = 7
 
--- the status is the one that is due, and all that is due was written
-pub record IsTold (due : Due) (old new : Option (List ℕ)) (status : Status) : Type 0 where
+-- The status is one that is due, and all that is due with it was written.
+pub record IsTold (is_due : Due → Type 0) (old new : Option (List ℕ)) (status : Status) : Type 0 where
+  pub due : Due
+  pub is : is_due due
   pub same : status ≡ due.status
   pub written : Appends old new (all_due due)
 
+-- A front of what is due was written.
+pub record IsBegun (is_due : Due → Type 0) (old new : Option (List ℕ)) : Type 0 where
+  pub due : Due
+  pub is : is_due due
+  pub front : AppendsFront old new (all_due due)
+
 -- What is due was told. Or the source failed or there was no memory, and nothing was written; or the sink failed, and a
 -- front of what is due was written.
-abbrev pub AnswersAs : Due → Option (List ℕ) → Option (List ℕ) → Status → Type 0
-AnswersAs due old new ReadFault = Keeps old new
-AnswersAs due old new NoMemory = Keeps old new
-AnswersAs due old new WriteFault = AppendsFront old new (all_due due)
-AnswersAs due old new Done = IsTold due old new Done
-AnswersAs due old new Usage = IsTold due old new Usage
-AnswersAs due old new Refused = IsTold due old new Refused
-AnswersAs due old new Trapped = IsTold due old new Trapped
-AnswersAs due old new Limit = IsTold due old new Limit
+abbrev pub AnswersAs : (is_due : Due → Type 0) → Option (List ℕ) → Option (List ℕ) → Status → Type 0
+AnswersAs is_due old new ReadFault = Keeps old new
+AnswersAs is_due old new NoMemory = Keeps old new
+AnswersAs is_due old new WriteFault = IsBegun is_due old new
+AnswersAs is_due old new Done = IsTold is_due old new Done
+AnswersAs is_due old new Usage = IsTold is_due old new Usage
+AnswersAs is_due old new Refused = IsTold is_due old new Refused
+AnswersAs is_due old new Trapped = IsTold is_due old new Trapped
+AnswersAs is_due old new Limit = IsTold is_due old new Limit
 
 -- What is due was told, or the sink failed: neither the source nor memory is used.
 pub record Tells (due : Due) (old new : Option (List ℕ)) (status : Status) : Type 0 where
-  pub answers : AnswersAs due old new status
+  pub answers : AnswersAs (IsJust due) old new status
   pub told : (status ≡ due.status) ⊎ (status ≡ WriteFault)
 
 -- the same, by the exit status
-pub record Answers (due : Due) (old new : Option (List ℕ)) (code : ℕ) : Type 0 where
+pub record Answers (is_due : Due → Type 0) (old new : Option (List ℕ)) (code : ℕ) : Type 0 where
   pub status : Status
   pub code_is : code ≡ code_of status
-  pub answers : AnswersAs due old new status
+  pub answers : AnswersAs is_due old new status
 
 -- Words without meaning are told so, unless the sink fails. No other words are.
 abbrev pub TellsWords : Option Job → Option (List ℕ) → Option (List ℕ) → ℕ → Type 0
-TellsWords None old new code = Answers usage old new code × ((code ≡ 1) ⊎ (code ≡ 6))
+TellsWords None old new code = Answers (IsJust usage) old new code × ((code ≡ 1) ⊎ (code ≡ 6))
 TellsWords (Some job) old new code = code ≢ 1
 
 -- Where the source failed or there was no memory, nothing was written.

@@ -1,5 +1,5 @@
 -- What is due for some words and a text: a status, and the bytes that are written.
-use Rattle.std.specs.Prelude.{ℕ, Bool, true, false, List, [], ◌∷◌, ◌++◌, Option, Some, None, codes, slice_get}
+use Rattle.std.specs.Prelude.{◌≡◌, ℕ, Bool, true, false, List, [], ◌∷◌, ◌++◌, Option, Some, None, codes, slice_get}
 use Rattle.std.specs.Fmt.{decimal}
 use Rattle.f77_tree.specs.declared.programs.Exec.{Exec}
 use Rattle.f77_tree.specs.declared.programs.Program.{Program}
@@ -12,10 +12,11 @@ use Rattle.dfc.specs.declared.status.Status.TheVariants as status
 use Rattle.dfc.specs.declared.words.Job.{Job}
 use Rattle.dfc.specs.declared.words.Job.TheVariants.{On}
 use Rattle.dfc.specs.declared.words.Task.{Task}
-use Rattle.dfc.specs.declared.words.Task.TheVariants.{Play}
+use Rattle.dfc.specs.declared.words.Task.TheVariants.{Regions, Play}
 use Rattle.dfc.specs.Codes.{name_of}
 use Rattle.dfc.specs.Game.{Game, game_of}
 use Rattle.dfc.specs.Reading.{Reading, Accepted, Refused, reading}
+use Rattle.dfc.specs.Regions.{TellsRegions}
 use Rattle.dfc.specs.Words.{job_of}
 
 -- a status, what the job writes, and after that the line that tells how it ended, or nothing
@@ -57,18 +58,28 @@ abbrev pub due_played : (playable : Bool) → Program → Due
 due_played true p = over (game_of p)
 due_played false p = refusal (end_line p) NotYet
 
+-- this is due, and nothing else
+abbrev pub IsJust : Due → Due → Type 0
+IsJust only due = due ≡ only
+
+-- The job is done, with a text that is as asked.
+pub record IsDoneBy (asked : List ℕ → Type 0) (due : Due) : Type 0 where
+  pub text : asked due.text
+  pub done : due ≡ done due.text
+
 -- what each task owes on a program
-abbrev pub due_on : Task → Program → Due
-due_on Play p = due_played (is_playable p) p
+abbrev pub IsDueOn : Task → Program → Due → Type 0
+IsDueOn Regions p = IsDoneBy (TellsRegions p)
+IsDueOn Play p = IsJust (due_played (is_playable p) p)
 
-abbrev pub due_read : Task → Reading → Due
-due_read task (Refused line code) = refusal line code
-due_read task (Accepted p) = due_on task p
+abbrev pub IsDueRead : Task → Reading → Due → Type 0
+IsDueRead task (Refused line code) = IsJust (refusal line code)
+IsDueRead task (Accepted p) = IsDueOn task p
 
-abbrev pub due_of : Option Job → List ℕ → Due
-due_of None bytes = usage
-due_of (Some (On task dialect)) bytes = due_read task (reading dialect bytes)
+abbrev pub IsDueFor : Option Job → List ℕ → Due → Type 0
+IsDueFor None bytes = IsJust usage
+IsDueFor (Some (On task dialect)) bytes = IsDueRead task (reading dialect bytes)
 
--- what is due
-abbrev pub due : List (List ℕ) → List ℕ → Due
-due words bytes = due_of (job_of words) bytes
+-- this is due for the words and the text
+abbrev pub IsDue : List (List ℕ) → List ℕ → Due → Type 0
+IsDue words bytes = IsDueFor (job_of words) bytes

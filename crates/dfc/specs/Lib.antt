@@ -2,6 +2,8 @@ pub mod Words
 pub mod Codes
 pub mod Reading
 pub mod Game
+pub mod Regions
+pub mod Found
 pub mod Due
 pub mod Answers
 pub mod Headline

@@ -10,7 +10,7 @@ use Rattle.dfc.specs.declared.words.Dialect.TheVariants.{Plain, Checked}
 use Rattle.dfc.specs.declared.words.Job.{Job}
 use Rattle.dfc.specs.declared.words.Job.TheVariants.{On}
 use Rattle.dfc.specs.declared.words.Task.{Task}
-use Rattle.dfc.specs.declared.words.Task.TheVariants.{Play}
+use Rattle.dfc.specs.declared.words.Task.TheVariants.{Regions, Play}
 
 -- ---- data
 
@@ -49,7 +49,8 @@ abbrev pub on : Task → Option Dialect → Option Job
 on task None = None
 on task (Some dialect) = Some (On task dialect)
 
--- The job that these words ask for: `fire`, the data if there are any, and the dialect, as yet. Other words have no meaning.
+-- The job that these words ask for: `regions` and the dialect, or `fire`, the data if there are any, and the dialect, as yet.
+-- Other words have no meaning.
 abbrev pub job_of : List (List ℕ) → Option Job
 job_of [] = None
-job_of (word ∷ words) = if bytes_eq word (codes "fire") then on Play (dialect_of (behind_data words)) else None
+job_of (word ∷ words) = if bytes_eq word (codes "regions") then on Regions (dialect_of words) else if bytes_eq word (codes "fire") then on Play (dialect_of (behind_data words)) else None

@@ -4,6 +4,8 @@
 mod lines;
 mod playing;
 mod reading;
+mod region_line;
+mod regions;
 mod status;
 mod top;
 mod words;

@@ -7,9 +7,9 @@ ghost use Rattle.f77_tree.specs.WellFormed.{IsWellFormed};
 ghost use Rattle.token_net.specs.Marking.{opening};
 ghost use Rattle.token_net.specs.StraightNet.{program_of, marking_of};
 ghost use Rattle.dfc.specs.Answers.{AnswersAs, Tells};
-ghost use Rattle.dfc.specs.Due.{over, due_on, end_line};
+ghost use Rattle.dfc.specs.Due.{IsDueOn, IsJust, over, end_line};
 ghost use Rattle.dfc.specs.Game.{game_of};
-ghost use Rattle.dfc.specs.Headline.{Means, MeansRun};
+ghost use Rattle.dfc.specs.Headline.{MeansOn, MeansRun};
 
 use crate::lines::tell_refusal;
 use crate::reading::Code;
@@ -23,8 +23,8 @@ use token_net::{PlayEnd, StraightNet, follow, is_playable};
 /// Plays the game of a program, or refuses one that isn't played yet, at the line of END.
 pub fn play<K: Sink>(alloc: Global, program: &Program, sink: &mut K) -> Status
     requires { IsWellFormed program.now }
-    ensures due { AnswersAs (due_on Task.Play program.now) (K.got sink.old) (K.got sink.new) result }
-    ensures means { result ≢ Status.NoMemory → Means Task.Play program.now (due_on Task.Play program.now) }
+    ensures due { AnswersAs (IsDueOn Task.Play program.now) (K.got sink.old) (K.got sink.new) result }
+    ensures means { result ≢ Status.NoMemory → MeansOn Task.Play program.now }
     ensures words { result ≢ Status.Usage }
     ensures reads { result ≢ Status.ReadFault }
     ensures later { K.faults sink.old ≤ K.faults sink.new }
@@ -48,7 +48,7 @@ fn end_line_of(program: &Program) -> u32
 // Makes the net of a program, and plays its game. All memory is taken before the first byte is written.
 fn play_straight<K: Sink>(alloc: Global, program: &Program, sink: &mut K) -> Status
     requires { IsStraight program.now }
-    ensures due { AnswersAs (over (game_of program.now)) (K.got sink.old) (K.got sink.new) result }
+    ensures due { AnswersAs (IsJust (over (game_of program.now))) (K.got sink.old) (K.got sink.new) result }
     ensures means { result ≢ Status.NoMemory → MeansRun program.now (game_of program.now) (over (game_of program.now)) }
     ensures words { result ≢ Status.Usage }
     ensures reads { result ≢ Status.ReadFault }

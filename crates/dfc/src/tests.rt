@@ -33,7 +33,7 @@ fn check(
         given.push(String::from_str(alloc, word)?)?;
     }
     let mut source = MemSource::new(alloc, text, &faults.source, 4096)?;
-    let mut sink = MemSink::new(alloc, 100, &faults.sink, 3)?;
+    let mut sink = MemSink::new(alloc, 1000, &faults.sink, 3)?;
     let answer = dfc_main(alloc, &given, &mut source, &mut sink);
     assert_eq!(rt; answer, status);
     assert_eq!(rt; sink.written(), written.as_bytes());
@@ -102,6 +102,77 @@ fn takes_the_dialect_and_data(rt: HostRuntime) -> Result<(), Fail> {
         )?;
     }
     Ok(())
+}
+
+const TWO_WAYS: &str = "      I=2\n      IF(I.GT.1)J=5\n      PRINT *,J\n      END\n";
+
+const REGIONS: &str = "PIECES 7 EDGES 8 CLASSES 3 REGIONS 5
+P 0 START 0
+P 1 ACT 1
+P 2 BRANCH 2
+P 3 ACT 2
+P 4 JOIN 3
+P 5 ACT 3
+P 6 END 4
+E 0 6 0 0
+E 1 0 1 0
+E 2 1 2 0
+E 3 2 3 1
+E 4 2 4 2
+E 5 3 4 1
+E 6 4 5 0
+E 7 5 6 0
+R 1 1 2 0
+R 2 2 6 0
+R 3 3 5 2
+R 4 6 7 0
+R 5 7 0 0
+";
+
+#[test]
+fn tells_regions(rt: HostRuntime) -> Result<(), Fail> {
+    let text = TWO_WAYS.as_bytes();
+    let later = Faults {
+        source: [u32::MAX],
+        sink: [3],
+    };
+    check(&rt, rt.alloc(), &["regions"], text, &NONE, 0, REGIONS)?;
+    check(
+        &rt,
+        rt.alloc(),
+        &["regions", "checked"],
+        text,
+        &NONE,
+        0,
+        REGIONS,
+    )?;
+    check(
+        &rt,
+        rt.alloc(),
+        &["regions", "data=1"],
+        text,
+        &NONE,
+        1,
+        "USAGE\n",
+    )?;
+    check(
+        &rt,
+        rt.alloc(),
+        &["regions"],
+        &text[1..],
+        &NONE,
+        2,
+        "REFUSED 1 STRAYCONT\n",
+    )?;
+    check(
+        &rt,
+        rt.alloc(),
+        &["regions"],
+        text,
+        &later,
+        6,
+        &REGIONS[..9],
+    )
 }
 
 #[test]

@@ -3,14 +3,15 @@ ghost use Rattle.std.specs.String.{string_bytes};
 ghost use Rattle.df_io.specs.Faults.{Rose};
 ghost use Rattle.f77_tree.specs.WellFormed.{IsWellFormed};
 ghost use Rattle.dfc.specs.Answers.{Answers, AnswersAs, Blames, HasAll, IsUnwritten, ReadsFor, ReadsText, TellsWords, code_of};
-ghost use Rattle.dfc.specs.Due.{due, due_of, due_on, due_read};
-ghost use Rattle.dfc.specs.Headline.{Means, MeansFor, MeansRead};
+ghost use Rattle.dfc.specs.Due.{IsDue, IsDueFor, IsDueOn, IsDueRead};
+ghost use Rattle.dfc.specs.Headline.{MeansFor, MeansOn, MeansRead};
 ghost use Rattle.dfc.specs.Reading.{reading};
 ghost use Rattle.dfc.specs.Words.{job_of};
 
 use crate::lines::{tell_refusal, tell_usage};
 use crate::playing::play;
 use crate::reading::{NoProgram, read_program};
+use crate::regions::tell_regions;
 use crate::status::Status;
 use crate::words::{Dialect, Job, Task, read_words};
 use df_io::{Sink, Source};
@@ -27,7 +28,7 @@ pub fn dfc_main<S: Source, K: Sink>(
     sink: &mut K,
 ) -> u8
     // The status and the bytes are those that are due, where the source tells its bytes and the sink what it got.
-    ensures due { IfSome (S.left source.old) (λ bytes. Answers (due (map string_bytes words.now.items) bytes) (K.got sink.old) (K.got sink.new) result) }
+    ensures due { IfSome (S.left source.old) (λ bytes. Answers (IsDue (map string_bytes words.now.items) bytes) (K.got sink.old) (K.got sink.new) result) }
 
     // Status 1 comes exactly where the words ask for no job, whatever the source tells.
     ensures words { TellsWords (job_of (map string_bytes words.now.items)) (K.got sink.old) (K.got sink.new) result }
@@ -54,7 +55,7 @@ pub fn dfc_main<S: Source, K: Sink>(
 
 // Does what some words ask for.
 fn do_job<S: Source, K: Sink>(alloc: Global, job: Job, source: &mut S, sink: &mut K) -> Status
-    ensures due { IfSome (S.left source.old) (λ bytes. AnswersAs (due_of (Some job) bytes) (K.got sink.old) (K.got sink.new) result) }
+    ensures due { IfSome (S.left source.old) (λ bytes. AnswersAs (IsDueFor (Some job) bytes) (K.got sink.old) (K.got sink.new) result) }
     ensures words { result ≢ Status.Usage }
     ensures unwritten { IsUnwritten (K.got sink.old) (K.got sink.new) (code_of result) }
     ensures means { HasAll (code_of result) → IfSome (S.left source.old) (MeansFor (Some job)) }
@@ -74,7 +75,7 @@ fn on_text<S: Source, K: Sink>(
     source: &mut S,
     sink: &mut K,
 ) -> Status
-    ensures due { IfSome (S.left source.old) (λ bytes. AnswersAs (due_read task (reading dialect bytes)) (K.got sink.old) (K.got sink.new) result) }
+    ensures due { IfSome (S.left source.old) (λ bytes. AnswersAs (IsDueRead task (reading dialect bytes)) (K.got sink.old) (K.got sink.new) result) }
     ensures words { result ≢ Status.Usage }
     ensures unwritten { IsUnwritten (K.got sink.old) (K.got sink.new) (code_of result) }
     ensures means { HasAll (code_of result) → IfSome (S.left source.old) (λ bytes. MeansRead task (reading dialect bytes)) }
@@ -92,14 +93,15 @@ fn on_text<S: Source, K: Sink>(
 // Does a task on a program.
 fn on_program<K: Sink>(alloc: Global, task: Task, program: &Program, sink: &mut K) -> Status
     requires { IsWellFormed program.now }
-    ensures due { AnswersAs (due_on task program.now) (K.got sink.old) (K.got sink.new) result }
+    ensures due { AnswersAs (IsDueOn task program.now) (K.got sink.old) (K.got sink.new) result }
     ensures words { result ≢ Status.Usage }
     ensures reads { result ≢ Status.ReadFault }
-    ensures means { result ≢ Status.NoMemory → Means task program.now (due_on task program.now) }
+    ensures means { result ≢ Status.NoMemory → MeansOn task program.now }
     ensures later { K.faults sink.old ≤ K.faults sink.new }
     ensures fault { result ≡ Status.WriteFault → Rose (K.faults sink.old) (K.faults sink.new) }
 {
     match task {
+        Task::Regions => tell_regions(alloc, program, sink),
         Task::Play => play(alloc, program, sink),
     }
 }

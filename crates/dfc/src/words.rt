@@ -15,6 +15,8 @@ pub enum Job {
 /// What is done with a program.
 #[derive(Clone, Copy, Debug, PartialEq, Eq)]
 pub enum Task {
+    /// The pieces, edges, classes and regions of its flow graph are written.
+    Regions,
     /// The game of its net is played, and its output written.
     Play,
 }
@@ -33,6 +35,10 @@ pub fn read_words(words: &[String]) -> Option<Job>
     ensures { result ≡ job_of (map string_bytes words.now) }
 {
     match words {
+        [word, options @ ..] if word.as_str() == "regions" => {
+            let dialect = read_dialect(options)?;
+            Some(Job::On(Task::Regions, dialect))
+        }
         [word, options @ ..] if word.as_str() == "fire" => {
             let dialect = read_dialect(without_data(options))?;
             Some(Job::On(Task::Play, dialect))

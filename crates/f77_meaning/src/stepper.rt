@@ -142,6 +142,14 @@ impl<'a> Stepper<'a> {
         }
     }
 
+    /// The executable that the next step runs; after Ended or Trapped that of the last one.
+    pub fn position(&self) -> u32
+        ensures position { result ≡ (state_of self.now []).position }
+        ensures exists { result < length (program_of self.now).execs }
+    {
+        self.position
+    }
+
     /// The line of the last step that made one, with its line feed; empty before one did.
     pub fn line(&self) -> &[u8]
         ensures { result.now ≡ last_line self.now }

@@ -1,9 +1,11 @@
-//! Tests of the crates of the language: lines, statements, expressions, printing, runs and whole programs. They go over public calls
+//! Tests of the crates of the language: lines, statements, expressions, printing, runs, whole programs and their flow graphs. They go over public calls
 //! alone, and stand apart because a crate that has tests is proved a second time with them.
 #![tactic(auto)]
 
 #[cfg(test)]
 mod expressions;
+#[cfg(test)]
+mod flows;
 #[cfg(test)]
 mod lines;
 #[cfg(test)]
@@ -16,3 +18,5 @@ mod runs;
 mod showing;
 #[cfg(test)]
 mod statements;
+#[cfg(test)]
+mod walks;

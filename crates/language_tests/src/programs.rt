@@ -130,7 +130,7 @@ PRINT *,1;STOP;PRINT *,2;END=> 1/ended";
 const STEPS: u32 = 200;
 
 /// The text of statements, each on a line of its own.
-fn text_of(alloc: Global, statements: &str) -> Result<String, AllocError> {
+pub(crate) fn text_of(alloc: Global, statements: &str) -> Result<String, AllocError> {
     let mut text = String::new(alloc);
     for statement in statements.split(';') {
         match statement.split_once('~') {

@@ -1,0 +1,66 @@
+-- The text of regions, part after part, and what it means.
+use Rattle.std.proofs.Common.{◌≡◌, ℕ, ◌<◌, List, [], ◌++◌, Option, refl, sym, ap, subst, ◌∙◌, length}
+use Rattle.closed_walks.specs.Graph.{edge_count}
+use Rattle.closed_walks.specs.Numbering.{fresh, IsNumbering}
+use Rattle.cfg_build.specs.Joined.{FlowGraph}
+use Rattle.cfg_build.specs.Flow.{flow}
+use Rattle.df_io.specs.TextBuffer.{IsWrittenBut}
+use Rattle.df_io.specs.Write.{AppendsFront}
+use Rattle.df_io.proofs.Fronts.{AppendsFront-longer}
+use Rattle.df_io.proofs.LongTexts.{fault_at_piece}
+use Rattle.f77_tree.specs.declared.programs.Program.{Program}
+use Rattle.region_tree.specs.Tree.{IsRegionTree, region_count}
+use Rattle.dfc.specs.declared.regions.Found.{Found}
+use Rattle.dfc.specs.declared.words.Task.TheVariants.{Regions}
+use Rattle.dfc.specs.Due.{Due, IsDueOn}
+use Rattle.dfc.specs.Found.{IsFoundOf, text_of}
+use Rattle.dfc.specs.Headline.{MeansOn}
+use Rattle.dfc.specs.Regions.{counts_line, piece_lines, edge_lines, region_lines, regions_text, TellsRegions}
+
+-- the first part, behind an empty buffer
+pub told_first : (a b : Option (List ℕ)) (empty held bytes part : List ℕ) → empty ≡ [] → bytes ≡ part → IsWrittenBut held a b (empty ++ bytes) → IsWrittenBut held a b part
+told_first a b empty held bytes part none is now = subst (IsWrittenBut held a b) (ap (λ front. front ++ bytes) none ∙ is) now
+
+-- a fault at the first part, before three others
+pub fault_first : (a b : Option (List ℕ)) (empty bytes part second third last : List ℕ) → empty ≡ [] → bytes ≡ part → AppendsFront a b (empty ++ bytes) → AppendsFront a b (part ++ second ++ third ++ last)
+fault_first a b empty bytes part second third last none is front =
+    AppendsFront-longer a b (part ++ second ++ third) last (AppendsFront-longer a b (part ++ second) third (AppendsFront-longer a b part second
+    (subst (AppendsFront a b) (ap (λ front. front ++ bytes) none ∙ is) front)))
+
+-- a fault at a part, before two others
+pub fault_before_two : (a b c : Option (List ℕ)) (held text part next last : List ℕ) → IsWrittenBut held a b text → AppendsFront b c (held ++ part) → AppendsFront a c (text ++ part ++ next ++ last)
+fault_before_two a b c held text part next last before front =
+    AppendsFront-longer a c (text ++ part ++ next) last (AppendsFront-longer a c (text ++ part) next (fault_at_piece a b c held text part before front))
+
+-- a fault at a part, before another one
+pub fault_before_one : (a b c : Option (List ℕ)) (held text part last : List ℕ) → IsWrittenBut held a b text → AppendsFront b c (held ++ part) → AppendsFront a c (text ++ part ++ last)
+fault_before_one a b c held text part last before front =
+    AppendsFront-longer a c (text ++ part) last (fault_at_piece a b c held text part before front)
+
+-- the line of counts depends on the counts alone
+pub counts_same : (p p' e e' k k' r r' : ℕ) → p ≡ p' → e ≡ e' → k ≡ k' → r ≡ r' → counts_line p e k r ≡ counts_line p' e' k' r'
+counts_same p p' e e' k k' r r' one two three four =
+    ap (λ n. counts_line n e k r) one ∙ ap (λ n. counts_line p' n k r) two ∙ ap (λ n. counts_line p' e' n r) three ∙ ap (counts_line p' e' k') four
+
+-- the text of what was found tells the regions
+pub found_tells : (p : Program) (found : Found) → IsFoundOf p found → TellsRegions p (text_of found)
+found_tells p found is = record {
+  classes = found.classes.items;
+  numbering = subst (λ (f : FlowGraph). IsNumbering f.graph found.classes.items) is.flow is.classes;
+  tree = found.tree;
+  regions = subst (λ (f : FlowGraph). IsRegionTree f.graph found.tree) is.flow is.tree;
+  is = ap (λ (f : FlowGraph). regions_text f found.classes.items found.tree) is.flow;
+}
+
+-- what is due tells each edge once, with its class
+pub regions_mean : (p : Program) → MeansOn Regions p
+regions_mean p due is =
+    let f = flow p.execs in
+    record {
+      done = ap (λ (d : Due). d.status) is.done;
+      before = counts_line (length f.pieces) (edge_count f.graph) (fresh is.text.classes) (region_count is.text.tree) ++ piece_lines f.pieces (length f.pieces);
+      classes = is.text.classes;
+      after = region_lines is.text.tree (region_count is.text.tree);
+      lines = is.text.is;
+      same = is.text.numbering.same;
+    }

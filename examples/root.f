@@ -1,0 +1,6 @@
+C     THE LEAST NUMBER WHOSE SQUARE IS AT LEAST 50.
+      N=0
+   10 N=N+1
+      IF (N*N.LT.50) GO TO 10
+      PRINT *,N
+      END
