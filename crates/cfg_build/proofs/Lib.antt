@@ -1,1 +1,5 @@
 pub mod Fans
+pub mod Members
+pub mod Numbers
+pub mod PartOrder
+pub mod Places
