@@ -1,5 +1,7 @@
+pub mod ControlGraph
 pub mod Fans
 pub mod Members
 pub mod Numbers
 pub mod PartOrder
 pub mod Places
+pub mod Reached
