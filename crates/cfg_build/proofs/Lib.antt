@@ -1,5 +1,6 @@
 pub mod ControlGraph
 pub mod Fans
+pub mod JoinedGraph
 pub mod Members
 pub mod Numbers
 pub mod PartOrder
