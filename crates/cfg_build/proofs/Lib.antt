@@ -3,6 +3,7 @@ pub mod Fans
 pub mod JoinedGraph
 pub mod Members
 pub mod Numbers
+pub mod OutEdges
 pub mod PartOrder
 pub mod PartsFound
 pub mod Places
