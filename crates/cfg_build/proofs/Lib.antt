@@ -8,3 +8,4 @@ pub mod PartOrder
 pub mod PartsFound
 pub mod Places
 pub mod Reached
+pub mod ReachedPieces
