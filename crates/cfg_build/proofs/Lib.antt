@@ -1,6 +1,8 @@
 pub mod ControlGraph
 pub mod Fans
+pub mod HoldSteps
 pub mod JoinedGraph
+pub mod Lowest
 pub mod Members
 pub mod Numbers
 pub mod OutEdges
