@@ -1,4 +1,5 @@
 pub mod ControlGraph
+pub mod Counts
 pub mod Fans
 pub mod HoldSteps
 pub mod JoinedGraph

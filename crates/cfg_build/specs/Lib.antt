@@ -6,3 +6,4 @@ pub mod Flow
 pub mod Built
 pub mod Passes
 pub mod Chains
+pub mod Degrees
