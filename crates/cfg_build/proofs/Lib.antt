@@ -2,6 +2,7 @@ pub mod ControlGraph
 pub mod Counts
 pub mod Fans
 pub mod HoldSteps
+pub mod InDegrees
 pub mod JoinedGraph
 pub mod Lowest
 pub mod Members
@@ -9,6 +10,7 @@ pub mod Numbers
 pub mod OutEdges
 pub mod PartOrder
 pub mod PartsFound
+pub mod PieceKinds
 pub mod Places
 pub mod Reached
 pub mod ReachedPieces
