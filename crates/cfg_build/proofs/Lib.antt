@@ -1,8 +1,10 @@
 pub mod ControlGraph
 pub mod Counts
 pub mod Fans
+pub mod HeldEdges
 pub mod HoldSteps
 pub mod InDegrees
+pub mod JoinedDegrees
 pub mod JoinedGraph
 pub mod Lowest
 pub mod Members

@@ -85,7 +85,7 @@ way_to execs k kind p outs t same m =
 outs_of : (p q : Part) (t : Target) → q ≡ p → Member p.outs t → Member q.outs t
 outs_of p q t same m = subst (λ (x : Part). Member x.outs t) (sym same) m
 
-ways_in : (execs : List Exec) (k line : ℕ) (kind : ExecKind) (p : Part) (t : Target) → Member (parts_of execs k line kind) p → Member p.outs t → IsWay execs k kind t
+pub ways_in : (execs : List Exec) (k line : ℕ) (kind : ExecKind) (p : Part) (t : Target) → Member (parts_of execs k line kind) p → Member p.outs t → IsWay execs k kind t
 ways_in execs k line (Assign target value next) p t (inl same) m = way_to execs k (Assign target value next) p (First next ∷ []) t refl (outs_of p (part (First k) piece.Act line k (First next ∷ [])) t same m)
 ways_in execs k line (Print items next) p t (inl same) m = way_to execs k (Print items next) p (First next ∷ []) t refl (outs_of p (part (First k) piece.Act line k (First next ∷ [])) t same m)
 ways_in execs k line (Pass next) p t (inl same) m = way_to execs k (Pass next) p (First next ∷ []) t refl (outs_of p (part (First k) piece.Pass line k (First next ∷ [])) t same m)

@@ -184,7 +184,7 @@ module _ (told : IsTold) (names : List NameInfo) (execs : List Exec) (loops : �
       (λ (same : end_part execs ≡ p). inl same))
       (cases_part execs p m)
 
-  end_piece : (j : ℕ) → j < length (parts execs) → end_part execs ≡ part_at (parts execs) j → own_piece (parts execs) j ≡ finish execs
+  pub end_piece : (j : ℕ) → j < length (parts execs) → end_part execs ≡ part_at (parts execs) j → own_piece (parts execs) j ≡ finish execs
   end_piece j some same =
       let none : joins (parts execs) (part_at (parts execs) j) ≡ 0 = ap (λ p. joins (parts execs) p) (sym same) ∙ cond-false (is_joined (parts execs) (end_part execs)) 1 0 (end_not_joined (parts execs) (end_part execs) refl) in
       let is : finish execs ≡ first_piece (parts execs) j = number_of_one (parts execs) (finish execs) apart j (end_part execs) some (sym same) in
