@@ -3,6 +3,7 @@ pub mod Counts
 pub mod Fans
 pub mod HeldEdges
 pub mod HoldSteps
+pub mod Holding
 pub mod InDegrees
 pub mod JoinedDegrees
 pub mod JoinedGraph
@@ -16,3 +17,4 @@ pub mod PieceKinds
 pub mod Places
 pub mod Reached
 pub mod ReachedPieces
+pub mod Strong

@@ -4,6 +4,7 @@
 
 mod flow;
 mod holds;
+mod laws;
 mod numbers;
 mod parts;
 mod pieces;
@@ -11,4 +12,5 @@ mod reached;
 mod rows;
 
 pub use flow::{Flow, flow_of};
+pub use laws::flow_graph_is_strong;
 pub use pieces::{Piece, PieceKind};
