@@ -95,7 +95,7 @@ module _ (told : IsTold) (names : List NameInfo) (execs : List Exec) (loops : �
   abbrev g : Graph
   g = row_graph (parts execs) (finish execs)
 
-  first_is_zero : (j : ℕ) → j < length (parts execs) → first_piece (parts execs) j ≡ 0 → part_at (parts execs) j ≡ start_part
+  pub first_is_zero : (j : ℕ) → j < length (parts execs) → first_piece (parts execs) j ≡ 0 → part_at (parts execs) j ≡ start_part
   first_is_zero j some is =
       let zero_first : first_piece (parts execs) 0 ≡ 0 = refl in
       let same : j ≡ 0 = same_first (parts execs) j 0 some (omega arith) (is ∙ sym zero_first) in

@@ -2,6 +2,7 @@ pub mod ControlGraph
 pub mod Counts
 pub mod Fans
 pub mod HeldEdges
+pub mod HoldDegrees
 pub mod HoldSteps
 pub mod Holding
 pub mod InDegrees
@@ -10,6 +11,7 @@ pub mod JoinedGraph
 pub mod Lowest
 pub mod Members
 pub mod Numbers
+pub mod OutDegrees
 pub mod OutEdges
 pub mod PartOrder
 pub mod PartsFound
