@@ -19,4 +19,5 @@ pub mod PieceKinds
 pub mod Places
 pub mod Reached
 pub mod ReachedPieces
+pub mod Shaped
 pub mod Strong

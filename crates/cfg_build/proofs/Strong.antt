@@ -39,7 +39,7 @@ module _ (told : IsTold) (met : IsMet) (names : List NameInfo) (execs : List Exe
   end_below : finish execs < length (rows (parts execs))
   end_below = finish_below told names execs loops well
 
-  held_edges : (x : ℕ) → Member (held execs) x → IsHoldEdge (row_graph (parts execs) (finish execs)) x (edge_for told names execs loops well x)
+  pub held_edges : (x : ℕ) → Member (held execs) x → IsHoldEdge (row_graph (parts execs) (finish execs)) x (edge_for told names execs loops well x)
   held_edges x m =
       let r = Member-filtered (is_held g end) (range_with_len 0 g.nodes) x m in
       let within = Member-in_range 0 g.nodes x r.0 in

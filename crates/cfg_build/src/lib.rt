@@ -12,5 +12,5 @@ mod reached;
 mod rows;
 
 pub use flow::{Flow, flow_of};
-pub use laws::flow_graph_is_strong;
+pub use laws::{flow_graph_has_shape, flow_graph_is_strong};
 pub use pieces::{Piece, PieceKind};
