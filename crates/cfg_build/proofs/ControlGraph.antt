@@ -1,8 +1,7 @@
 -- The graph of control: its edges are the successors of executables.
-use Rattle.std.proofs.Common.{◌≡◌, ◌≢◌, ℕ, zero, suc, ◌+◌, ◌<◌, ◌≤◌, ◌⊎◌, Bool, true, List, [], ◌∷◌, length, get_or, map, All, Contains, slice_get, Option, Some, None, refl, sym, ap, ◌∙◌, subst, inl, inr, ⊎_elim, zero-add, arith}
-use Rattle.std.proofs.lemmas.Bool.{cases_lt}
+use Rattle.std.proofs.Common.{◌≡◌, ℕ, zero, suc, ◌+◌, ◌<◌, true, List, [], ◌∷◌, length, get_or, map, All, slice_get, Some, refl, sym, ap, ◌∙◌, subst, zero-add, arith}
 use Rattle.std.proofs.lemmas.List.{get_or_default}
-use Rattle.closed_walks.specs.Graph.{Graph, IsGraph, edge_count, from, to}
+use Rattle.closed_walks.specs.Graph.{IsGraph, edge_count, from, to}
 use Rattle.f77_tree.specs.declared.programs.Exec.{Exec}
 use Rattle.f77_tree.specs.Control.{successors, successors_in, LeadsTo, SuccessorsExist}
 use Rattle.cfg_build.specs.Control.{fan, control, is_reached}
@@ -37,7 +36,7 @@ control_edge execs e edge =
     let r : IsInFan lists e = cases_fan 0 lists e edge in
     let same : length lists ≡ length execs = length_heads execs in
     let is : get_or (fan 0 lists) e (0, 0) ≡ (r.list, get_or (get_or lists r.list []) r.nth 0) =
-        ap (λ n. get_or (fan 0 lists) n (0, 0)) r.at ∙ get_or-fan 0 lists r.list r.nth r.exists r.edge ∙ ap (λ n. (n, get_or (get_or lists r.list []) r.nth 0)) (zero-add r.list) in
+    ap (λ n. get_or (fan 0 lists) n (0, 0)) r.at ∙ get_or-fan 0 lists r.list r.nth r.exists r.edge ∙ ap (λ n. (n, get_or (get_or lists r.list []) r.nth 0)) (zero-add r.list) in
     record {
       exec = r.list;
       nth = r.nth;

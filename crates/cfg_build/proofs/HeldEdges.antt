@@ -1,9 +1,9 @@
 -- The edge that gets the hold of a piece: the piece reaches it, and it isn't edge 0.
-use Rattle.std.proofs.Common.{◌≡◌, ◌≢◌, ℕ, zero, suc, ◌+◌, ◌<◌, ◌≤◌, ◌⊎◌, Bool, true, false, cond, ◌==◌, List, [], ◌∷◌, length, get_or, refl, sym, ap, ◌∙◌, subst, inl, inr, ⊎_elim, arith}
+use Rattle.std.proofs.Common.{◌≡◌, ◌≢◌, ℕ, ◌<◌, ◌≤◌, Bool, true, false, List, length, get_or, sym, ap, ◌∙◌, subst, ⊎_elim, arith}
 use Rattle.std.proofs.lemmas.Bool.{cases_Bool, cases_lt, cond-true, cond-false, eqb-true, eq-eqb, false≢true}
 use Rattle.std.proofs.lemmas.List.Sums.{fails_before_first, passes_at_first}
 use Rattle.std.specs.List.{position_or_len}
-use Rattle.closed_walks.specs.Graph.{Graph, IsGraph, edge_count, from, to}
+use Rattle.closed_walks.specs.Graph.{Graph, edge_count, from, to}
 use Rattle.f77_tree.specs.declared.programs.Exec.{Exec}
 use Rattle.f77_tree.specs.declared.programs.NameInfo.{NameInfo}
 use Rattle.f77_tree.specs.WellFormed.{AreExecs}
@@ -19,7 +19,7 @@ use Rattle.cfg_build.proofs.PieceKinds.{pieces_of}
 use Rattle.cfg_build.proofs.Reached.{IsTold, Reaches, IsEdge, stay}
 use Rattle.cfg_build.proofs.ReachedPieces.{joined_sound, leaves_piece}
 use Rattle.cfg_build.proofs.JoinedDegrees.{one_comes}
-use Rattle.cfg_build.proofs.Lowest.{IsOnCycle, IsHeldBy, held_says}
+use Rattle.cfg_build.proofs.Lowest.{IsHeldBy, held_says}
 
 pub position_found : {X : Type 0} (p : X → Bool) (xs : List X) (k : ℕ) (d : X) → k < length xs → p (get_or xs k d) ≡ true → position_or_len p xs < length xs
 position_found p xs k d some passes = ⊎_elim

@@ -1,9 +1,9 @@
 -- What a hold does to a graph: what was reached stays reached.
-use Rattle.std.proofs.Common.{◌≡◌, ◌≢◌, ℕ, zero, suc, ◌+◌, ◌-◌, ◌<◌, ◌≤◌, ◌⊎◌, Bool, true, false, List, [], ◌∷◌, ◌++◌, length, get_or, set, refl, sym, ap, ◌∙◌, subst, inl, inr, ⊎_elim, arith}
-use Rattle.std.proofs.lemmas.Bool.{cases_eq, cases_order}
+use Rattle.std.proofs.Common.{◌≡◌, ◌≢◌, ℕ, zero, suc, ◌+◌, ◌<◌, ◌⊎◌, List, [], ◌∷◌, ◌++◌, length, get_or, set, refl, sym, ap, ◌∙◌, subst, ⊎_elim, arith}
+use Rattle.std.proofs.lemmas.Bool.{cases_eq}
 use Rattle.std.proofs.lemmas.List.{length-append, length-set, get_or_append_left, get_or-append-add, get_or-set_same, get_or-set_other}
 use Rattle.closed_walks.specs.Graph.{Graph, IsGraph, edge_count, from, to}
-use Rattle.cfg_build.proofs.Reached.{Reaches, IsEdge, stay, join, along, by_walk, kept}
+use Rattle.cfg_build.proofs.Reached.{Reaches, IsEdge, stay, join, along, kept}
 
 -- the graph with a hold on an edge
 abbrev pub hold_graph : (finish : ℕ) → Graph → (edge : ℕ) → Graph

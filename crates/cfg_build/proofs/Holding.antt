@@ -1,12 +1,12 @@
 -- What stays so while pieces get their holds, one after another.
-use Rattle.std.proofs.Common.{◌≡◌, ◌≢◌, ℕ, zero, suc, ◌+◌, ◌<◌, ◌≤◌, ◌⊎◌, List, [], ◌∷◌, fold, refl, sym, ap, ◌∙◌, subst, inl, inr, ⊎_elim, arith}
+use Rattle.std.proofs.Common.{◌≡◌, ◌≢◌, ℕ, ◌+◌, ◌<◌, ◌≤◌, List, [], ◌∷◌, fold, refl, sym, ◌∙◌, subst, inl, inr, ⊎_elim, arith}
 use Rattle.std.proofs.lemmas.Bool.{cases_lt}
 use Rattle.closed_walks.specs.Graph.{Graph, IsGraph, edge_count, from, to}
 use Rattle.cfg_build.specs.declared.pieces.Piece.{Piece}
 use Rattle.cfg_build.specs.Joined.{FlowGraph}
 use Rattle.cfg_build.specs.Holds.{with_hold}
 use Rattle.cfg_build.proofs.Members.{Member}
-use Rattle.cfg_build.proofs.Reached.{Reaches, IsEdge, stay, join, along}
+use Rattle.cfg_build.proofs.Reached.{Reaches, join, along}
 use Rattle.cfg_build.proofs.HeldEdges.{IsHoldEdge}
 use Rattle.cfg_build.proofs.HoldSteps.{hold_graph, more_edges, from_old, to_other, to_hold, leaves, reach_kept, hold_sound}
 

@@ -1,19 +1,19 @@
 -- How many edges come to a part's own piece in the graph of rows.
-use Rattle.std.proofs.Common.{◌≡◌, ◌≢◌, ℕ, zero, suc, ◌+◌, ◌-◌, ◌<◌, ◌≤◌, ◌⊎◌, Bool, true, false, cond, ◌==◌, List, [], ◌∷◌, ◌++◌, length, get_or, map, flat_map, sum_by, count_by, refl, sym, ap, ◌∙◌, subst, inl, inr, ⊎_elim, add-zero, arith}
-use Rattle.std.proofs.lemmas.Bool.{cases_Bool, cases_order, cases_eq, cond-true, cond-false, eqb-true, eq-eqb, ne_eqb}
+use Rattle.std.proofs.Common.{◌≡◌, ℕ, ◌+◌, ◌<◌, ◌≤◌, Bool, true, false, cond, ◌==◌, List, [], ◌∷◌, ◌++◌, length, map, flat_map, sum_by, count_by, refl, sym, ap, ◌∙◌, ⊎_elim, arith}
+use Rattle.std.proofs.lemmas.Bool.{cases_Bool, cases_order, cases_eq, cond-true, cond-false, eq-eqb, ne_eqb}
 use Rattle.std.proofs.lemmas.List.{map-append}
 use Rattle.std.proofs.lemmas.List.Sums.{sum_by-cons, sum_by-append}
 use Rattle.cfg_build.specs.declared.parts.Part.{Part}
 use Rattle.cfg_build.specs.declared.parts.Target.{Target}
 use Rattle.cfg_build.specs.Parts.{start_part}
-use Rattle.cfg_build.specs.Joined.{Row, is_same, is_joined, width, number, ways_to, join_row, part_row, rows_of, rows}
+use Rattle.cfg_build.specs.Joined.{Row, is_same, is_joined, width, number, ways_to, join_row, part_row, rows_of}
 use Rattle.cfg_build.specs.Degrees.{in_degree}
 use Rattle.cfg_build.specs.Control.{fan}
 use Rattle.cfg_build.proofs.Members.{Member, IsAt, at_of, Member-at}
 use Rattle.cfg_build.proofs.Places.{begins_before}
-use Rattle.cfg_build.proofs.PartOrder.{AreApart, is_same_itself, same_of, not_same}
+use Rattle.cfg_build.proofs.PartOrder.{AreApart, is_same_itself, not_same}
 use Rattle.cfg_build.proofs.PartsFound.{HasPart}
-use Rattle.cfg_build.proofs.Numbers.{part_at, first_piece, own_piece, joins, number_is, width_is, some_width}
+use Rattle.cfg_build.proofs.Numbers.{part_at, first_piece, number_is, some_width}
 use Rattle.cfg_build.proofs.JoinedGraph.{heads_in, row_graph, IsPartAt, place_of_part, number_of}
 use Rattle.cfg_build.proofs.Counts.{bit, bit_true, bit_false, count-cons, count_same, count_zero, count-map, count-flat_map, sum_same, sum_at, comes_to, heads_to, heads_of_fan}
 
@@ -47,7 +47,7 @@ module _ (ps : List Part) (y : ℕ) where
   from_rows_on (q ∷ qs) =
       let e : map (λ (row : Row). row.heads) (rows_of ps q ++ flat_map (rows_of ps) qs) ≡ map (λ (row : Row). row.heads) (rows_of ps q) ++ map (λ (row : Row). row.heads) (flat_map (rows_of ps) qs) = map-append (λ (row : Row). row.heads) (rows_of ps q) (flat_map (rows_of ps) qs) in
       let s : sum_by (heads_to y) (map (λ (row : Row). row.heads) (rows_of ps q) ++ map (λ (row : Row). row.heads) (flat_map (rows_of ps) qs)) ≡ sum_by (heads_to y) (map (λ (row : Row). row.heads) (rows_of ps q)) + sum_by (heads_to y) (map (λ (row : Row). row.heads) (flat_map (rows_of ps) qs)) =
-          sum_by-append (heads_to y) (map (λ (row : Row). row.heads) (rows_of ps q)) (map (λ (row : Row). row.heads) (flat_map (rows_of ps) qs)) in
+      sum_by-append (heads_to y) (map (λ (row : Row). row.heads) (rows_of ps q)) (map (λ (row : Row). row.heads) (flat_map (rows_of ps) qs)) in
       let c : sum_by edges_from (q ∷ qs) ≡ edges_from q + sum_by edges_from qs = sum_by-cons edges_from q qs in
       let here : sum_by (heads_to y) (map (λ (row : Row). row.heads) (rows_of ps q)) ≡ edges_from q = from_rows_of q in
       let r : sum_by (heads_to y) (map (λ (row : Row). row.heads) (flat_map (rows_of ps) qs)) ≡ sum_by edges_from qs = from_rows_on qs in
@@ -117,10 +117,10 @@ module _ (ps : List Part) (finish : ℕ) (apart : AreApart ps) (leads : (p : Par
       let own : Target = (part_at ps j).own in
       let e : in_degree (row_graph ps finish) y ≡ bit (0 == y) + sum_by (edges_from ps y) ps = in_degree_is ps y finish in
       let s : sum_by (edges_from ps y) ps ≡ sum_by (λ p. count_by (is_same own) p.outs) ps = sum_same (edges_from ps y) (λ (p : Part). count_by (is_same own) p.outs) ps
-          (λ p m.
-          let none : cond (is_joined ps p) (bit (number ps p.own + 1 == y)) 0 ≡ 0 = none_first y j some is p m in
-          let same : count_by (λ t. number ps t == y) p.outs ≡ count_by (is_same own) p.outs = count_same (λ t. number ps t == y) (is_same own) p.outs (λ t out. same_number y j some is t (leads p t m out)) in
-          omega (arith, none, same)) in
+      (λ p m.
+      let none : cond (is_joined ps p) (bit (number ps p.own + 1 == y)) 0 ≡ 0 = none_first y j some is p m in
+      let same : count_by (λ t. number ps t == y) p.outs ≡ count_by (is_same own) p.outs = count_same (λ t. number ps t == y) (is_same own) p.outs (λ t out. same_number y j some is t (leads p t m out)) in
+      omega (arith, none, same)) in
       let w : ways_to ps own ≡ sum_by (λ p. count_by (is_same own) p.outs) ps = count-flat_map (is_same own) (λ (p : Part). p.outs) ps in
       omega (arith, e, s, w)
 
@@ -130,18 +130,18 @@ module _ (ps : List Part) (finish : ℕ) (apart : AreApart ps) (leads : (p : Par
       let e : in_degree (row_graph ps finish) y ≡ bit (0 == y) + sum_by (edges_from ps y) ps = in_degree_is ps y finish in
       let b : bit (0 == y) ≡ 0 = bit_false (0 == y) (ne_eqb 0 y (λ (h : 0 ≡ y). omega (arith, h, is))) in
       let no_out : (p : Part) → Member ps p → count_by (λ t. number ps t == y) p.outs ≡ 0 = λ p m.
-          count_zero (λ t. number ps t == y) p.outs (λ t out.
-          let r : IsPartAt ps t = place_of_part ps t (leads p t m out) in
-          let n : number ps t ≡ first_piece ps r.place = number_of ps finish apart r.place t r.exists r.own in
-          ne_eqb (number ps t) y (λ (h : number ps t ≡ y). none_between ps r.place j r.exists some joined (sym n ∙ h ∙ is))) in
+      count_zero (λ t. number ps t == y) p.outs (λ t out.
+      let r : IsPartAt ps t = place_of_part ps t (leads p t m out) in
+      let n : number ps t ≡ first_piece ps r.place = number_of ps finish apart r.place t r.exists r.own in
+      ne_eqb (number ps t) y (λ (h : number ps t ≡ y). none_between ps r.place j r.exists some joined (sym n ∙ h ∙ is))) in
       let s : sum_by (edges_from ps y) ps ≡ edges_from ps y (part_at ps j) = sum_at (edges_from ps y) ps j start_part some
-          (λ i other apart_ij.
-          let p : Part = part_at ps i in
-          let none : count_by (λ t. number ps t == y) p.outs ≡ 0 = no_out p (Member-at ps i start_part other) in
-          let n : number ps p.own ≡ first_piece ps i = number_is ps i apart other in
-          let off : (number ps p.own + 1 == y) ≡ false = ne_eqb (number ps p.own + 1) y (λ (h : number ps p.own + 1 ≡ y). apart_ij (same_first ps i j other some (omega (arith, h, n, is)))) in
-          let c : cond (is_joined ps p) (bit (number ps p.own + 1 == y)) 0 ≡ 0 = zero_either (is_joined ps p) (bit (number ps p.own + 1 == y)) (bit_false (number ps p.own + 1 == y) off) in
-          omega (arith, none, c)) in
+      (λ i other apart_ij.
+      let p : Part = part_at ps i in
+      let none : count_by (λ t. number ps t == y) p.outs ≡ 0 = no_out p (Member-at ps i start_part other) in
+      let n : number ps p.own ≡ first_piece ps i = number_is ps i apart other in
+      let off : (number ps p.own + 1 == y) ≡ false = ne_eqb (number ps p.own + 1) y (λ (h : number ps p.own + 1 ≡ y). apart_ij (same_first ps i j other some (omega (arith, h, n, is)))) in
+      let c : cond (is_joined ps p) (bit (number ps p.own + 1 == y)) 0 ≡ 0 = zero_either (is_joined ps p) (bit (number ps p.own + 1 == y)) (bit_false (number ps p.own + 1 == y) off) in
+      omega (arith, none, c)) in
       let n : number ps (part_at ps j).own ≡ first_piece ps j = number_is ps j apart some in
       let on : (number ps (part_at ps j).own + 1 == y) ≡ true = eq-eqb (number ps (part_at ps j).own + 1) y (omega (arith, n, is)) in
       let c : cond (is_joined ps (part_at ps j)) (bit (number ps (part_at ps j).own + 1 == y)) 0 ≡ 1 = cond-true (is_joined ps (part_at ps j)) (bit (number ps (part_at ps j).own + 1 == y)) 0 joined ∙ bit_true (number ps (part_at ps j).own + 1 == y) on in

@@ -1,28 +1,28 @@
 -- One edge comes to each piece of the joined graph that is no join and not the end.
-use Rattle.std.proofs.Common.{◌≡◌, ◌≢◌, ℕ, zero, suc, ◌+◌, ◌<◌, ◌≤◌, ◌⊎◌, Bool, true, false, cond, ◌==◌, nat_lt, List, [], ◌∷◌, length, get_or, flat_map, count_by, refl, sym, ap, ◌∙◌, subst, inl, inr, ⊎_elim, arith}
+use Rattle.std.proofs.Common.{◌≡◌, ◌≢◌, ℕ, ◌+◌, ◌<◌, ◌≤◌, ◌⊎◌, true, false, cond, ◌==◌, nat_lt, List, [], ◌∷◌, length, flat_map, refl, sym, ap, ◌∙◌, subst, inl, inr, ⊎_elim, arith}
 use Rattle.std.proofs.lemmas.Bool.{cases_Bool, cases_eq, cond-true, cond-false, and_cases, ltb-false, eq-eqb, ne_eqb, false≢true}
-use Rattle.closed_walks.specs.Graph.{Graph, edge_count, from, to}
+use Rattle.closed_walks.specs.Graph.{Graph, edge_count, to}
 use Rattle.f77_tree.specs.declared.programs.Exec.{Exec}
 use Rattle.f77_tree.specs.declared.programs.ExecKind.{ExecKind}
 use Rattle.f77_tree.specs.declared.programs.NameInfo.{NameInfo}
 use Rattle.f77_tree.specs.WellFormed.{AreExecs}
 use Rattle.cfg_build.specs.declared.parts.Part.{Part}
 use Rattle.cfg_build.specs.declared.parts.Target.{Target}
-use Rattle.cfg_build.specs.declared.parts.Target.TheVariants.{Start, First, Test}
+use Rattle.cfg_build.specs.declared.parts.Target.TheVariants.{Start, First}
 use Rattle.cfg_build.specs.declared.pieces.PieceKind.{PieceKind}
 use Rattle.cfg_build.specs.declared.pieces.PieceKind.TheVariants as piece
 use Rattle.cfg_build.specs.Parts.{parts, start_part, end_part}
-use Rattle.cfg_build.specs.Joined.{is_same, is_end, is_joined, ways_to, number, rows, finish}
+use Rattle.cfg_build.specs.Joined.{is_same, is_end, is_joined, ways_to, rows, finish}
 use Rattle.cfg_build.specs.Holds.{is_join}
 use Rattle.cfg_build.specs.Flow.{piece_at}
 use Rattle.cfg_build.specs.Degrees.{in_degree}
 use Rattle.cfg_build.proofs.Members.{Member, IsFromOne, Member-flat_mapped, Member-at}
 use Rattle.cfg_build.proofs.Numbers.{part_at, first_piece, own_piece, joins, IsPieceOf, piece_of}
 use Rattle.cfg_build.proofs.PartsFound.{IsWay, To, Begins, Increments, ways_in, IsExecPart, cases_part}
-use Rattle.cfg_build.proofs.JoinedGraph.{row_graph, number_of_one}
+use Rattle.cfg_build.proofs.JoinedGraph.{row_graph}
 use Rattle.cfg_build.proofs.Counts.{bit, bit_true, bit_false, count_zero, count_some, comes_to}
 use Rattle.cfg_build.proofs.InDegrees.{same_first, in_degree_first, in_degree_joined}
-use Rattle.cfg_build.proofs.PieceKinds.{IsExecKind, cases_kind, pieces_of, join_kind, part_kind}
+use Rattle.cfg_build.proofs.PieceKinds.{IsExecKind, cases_kind, pieces_of, join_kind}
 use Rattle.cfg_build.proofs.ReachedPieces.{apart, leads, end_piece, reached_piece}
 use Rattle.cfg_build.proofs.Reached.{IsTold, Reaches, kept}
 

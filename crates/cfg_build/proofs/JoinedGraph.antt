@@ -1,7 +1,6 @@
 -- The graph of rows: its edges are the heads of each row, and edge 0.
-use Rattle.std.proofs.Common.{◌≡◌, ◌≢◌, ℕ, zero, suc, ◌+◌, ◌-◌, ◌<◌, ◌≤◌, ◌⊎◌, Bool, true, false, cond, List, [], ◌∷◌, ◌++◌, length, get_or, map, refl, sym, ap, ◌∙◌, subst, inl, inr, ⊎_elim, zero-add, arith}
+use Rattle.std.proofs.Common.{◌≡◌, ℕ, zero, suc, ◌+◌, ◌<◌, true, false, List, [], ◌∷◌, length, get_or, map, refl, sym, ap, ◌∙◌, subst, inl, ⊎_elim, zero-add, arith}
 use Rattle.std.proofs.lemmas.Bool.{cases_Bool, cond-true, cond-false}
-use Rattle.std.proofs.lemmas.List.{get_or-map, length-map}
 use Rattle.closed_walks.specs.Graph.{Graph, IsGraph, edge_count, from, to}
 use Rattle.cfg_build.specs.declared.parts.Part.{Part}
 use Rattle.cfg_build.specs.declared.parts.Target.{Target}
@@ -62,7 +61,7 @@ module _ (ps : List Part) (finish : ℕ) where
       let r : IsInFan lists e = cases_fan 0 lists e (omega (arith, edge)) in
       let same : length lists ≡ length (rows ps) = length_heads ps in
       let is : get_or (fan 0 lists) e (0, 0) ≡ (r.list, get_or (get_or lists r.list []) r.nth 0) =
-          ap (λ n. get_or (fan 0 lists) n (0, 0)) r.at ∙ get_or-fan 0 lists r.list r.nth r.exists r.edge ∙ ap (λ n. (n, get_or (get_or lists r.list []) r.nth 0)) (zero-add r.list) in
+      ap (λ n. get_or (fan 0 lists) n (0, 0)) r.at ∙ get_or-fan 0 lists r.list r.nth r.exists r.edge ∙ ap (λ n. (n, get_or (get_or lists r.list []) r.nth 0)) (zero-add r.list) in
       record {
         piece = r.list;
         nth = r.nth;

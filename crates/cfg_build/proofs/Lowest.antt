@@ -1,13 +1,13 @@
 -- What doesn't come to the end comes to a piece that gets a hold.
-use Rattle.std.proofs.Common.{◌≡◌, ◌≢◌, ℕ, zero, suc, ◌+◌, ◌<◌, ◌≤◌, ◌⊎◌, Bool, true, false, not, ◌&&◌, ◌==◌, List, length, get_or, refl, sym, ap, ◌∙◌, subst, inl, inr, ⊎_elim, arith}
+use Rattle.std.proofs.Common.{◌≡◌, ℕ, zero, suc, ◌+◌, ◌<◌, ◌≤◌, ◌⊎◌, Bool, true, false, not, ◌&&◌, ◌==◌, get_or, refl, sym, ap, ◌∙◌, subst, inl, inr, ⊎_elim, arith}
 use Rattle.std.proofs.lemmas.Bool.{cases_Bool, cases_order, and_parts, and_from, not-true, not_from_false, eqb-true, eq-eqb, false≢true}
-use Rattle.std.specs.List.{list_any, range_with_len}
+use Rattle.std.specs.List.{range_with_len}
 use Rattle.closed_walks.specs.Graph.{Graph, IsGraph, edge_count, from, to}
 use Rattle.closed_walks.specs.Endless.{GoesOn, MeetsCycle}
 use Rattle.closed_walks.specs.Reaching.{reaches}
 use Rattle.cfg_build.specs.Holds.{is_on_cycle, reaches_lower_cycle, is_held}
-use Rattle.cfg_build.proofs.Members.{Member, IsAt, at_of, Member-at, Member-range, Member-in_range, list_any_member, IsPassed, member_of_list_any}
-use Rattle.cfg_build.proofs.Reached.{IsTold, Reaches, stay, join, kept}
+use Rattle.cfg_build.proofs.Members.{IsAt, at_of, Member-at, Member-in_range, list_any_member, IsPassed, member_of_list_any}
+use Rattle.cfg_build.proofs.Reached.{IsTold, Reaches, join, kept}
 
 -- what the law on ways that go on says
 abbrev pub IsMet : Type 0
@@ -102,19 +102,19 @@ module _ (told : IsTold) (g : Graph) (sound : IsGraph g) where
         let reached : Reaches g u x = (told g u x sound node).0 parts.1 in
         let x_node : x < g.nodes = reached_below u x node reached in
         let not_end : reaches g x finish ≡ false = ⊎_elim
-            (λ (h : reaches g x finish ≡ true). absurd (stuck (join g u x finish reached ((told g x finish sound x_node).0 h))))
-            (λ h. h)
-            (cases_Bool (reaches g x finish)) in
+        (λ (h : reaches g x finish ≡ true). absurd (stuck (join g u x finish reached ((told g x finish sound x_node).0 h))))
+        (λ h. h)
+        (cases_Bool (reaches g x finish)) in
         let not_lower : reaches_lower_cycle g x ≡ false = ⊎_elim
-            (λ (h : reaches_lower_cycle g x ≡ true).
-            let r : IsPassed (λ lower. is_on_cycle g lower && reaches g x lower) (range_with_len 0 x) = member_of_list_any (λ lower. is_on_cycle g lower && reaches g x lower) (range_with_len 0 x) h in
-            let low : (0 ≤ r.one) × (r.one < 0 + x) = Member-in_range 0 x r.one r.among in
-            let both = and_parts (is_on_cycle g r.one) (reaches g x r.one) r.passes in
-            let on : Reaches g u r.one = join g u x r.one reached ((told g x r.one sound x_node).0 both.1) in
-            let passes : is_cycle_of u r.one ≡ true = and_from (is_on_cycle g r.one) (reaches g u r.one) both.0 ((told g u r.one sound node).1 on) in
-            absurd (false≢true (sym (l.below r.one (omega (arith, low.1))) ∙ passes)))
-            (λ h. h)
-            (cases_Bool (reaches_lower_cycle g x)) in
+        (λ (h : reaches_lower_cycle g x ≡ true).
+        let r : IsPassed (λ lower. is_on_cycle g lower && reaches g x lower) (range_with_len 0 x) = member_of_list_any (λ lower. is_on_cycle g lower && reaches g x lower) (range_with_len 0 x) h in
+        let low : (0 ≤ r.one) × (r.one < 0 + x) = Member-in_range 0 x r.one r.among in
+        let both = and_parts (is_on_cycle g r.one) (reaches g x r.one) r.passes in
+        let on : Reaches g u r.one = join g u x r.one reached ((told g x r.one sound x_node).0 both.1) in
+        let passes : is_cycle_of u r.one ≡ true = and_from (is_on_cycle g r.one) (reaches g u r.one) both.0 ((told g u r.one sound node).1 on) in
+        absurd (false≢true (sym (l.below r.one (omega (arith, low.1))) ∙ passes)))
+        (λ h. h)
+        (cases_Bool (reaches_lower_cycle g x)) in
         record {
           piece = x;
           node = x_node;

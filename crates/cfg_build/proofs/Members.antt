@@ -64,8 +64,8 @@ module _ {X : Type 0} where
       (λ (h : test y ≡ true).
       let at : Member (y ∷ filter test ys) x = subst (λ b. Member (cond b (y ∷ filter test ys) (filter test ys)) x) h m in
       let goal : Member (y ∷ filter test ys) x → Member (y ∷ ys) x × (test x ≡ true) = ⊎_elim
-          (λ (same : y ≡ x). (inl same, sym (ap test same) ∙ h))
-          (λ (rest : Member (filter test ys) x). let r = Member-filtered test ys x rest in (inr r.0, r.1)) in
+      (λ (same : y ≡ x). (inl same, sym (ap test same) ∙ h))
+      (λ (rest : Member (filter test ys) x). let r = Member-filtered test ys x rest in (inr r.0, r.1)) in
       goal at)
       (λ (h : test y ≡ false).
       let at : Member (filter test ys) x = subst (λ b. Member (cond b (y ∷ filter test ys) (filter test ys)) x) h m in

@@ -1,14 +1,13 @@
 -- The number of each part, and the row of each piece.
-use Rattle.std.proofs.Common.{◌≡◌, ℕ, zero, suc, ◌+◌, ◌-◌, ◌<◌, ◌≤◌, ◌⊎◌, Bool, true, false, cond, List, [], ◌∷◌, ◌++◌, length, get_or, take, map, flat_map, sum_by, nat_lt, ◌&&◌, refl, sym, ap, ◌∙◌, subst, inl, inr, ⊎_elim, arith, add-zero}
+use Rattle.std.proofs.Common.{◌≡◌, ℕ, zero, suc, ◌+◌, ◌<◌, ◌≤◌, ◌⊎◌, true, false, cond, List, [], ◌∷◌, ◌++◌, length, get_or, take, flat_map, sum_by, refl, sym, ap, ◌∙◌, inl, inr, ⊎_elim, arith}
 use Rattle.std.proofs.lemmas.Bool.{cases_Bool, cond_both, cond-true, cond-false}
-use Rattle.std.proofs.lemmas.List.{length-append, length-map, get_or_append_left, get_or-append-add, get_or-map}
+use Rattle.std.proofs.lemmas.List.{length-append, get_or_append_left, get_or-append-add}
 use Rattle.std.proofs.lemmas.List.Sums.{position_or_len_is, sum_by-cons}
 use Rattle.std.specs.List.{position_or_len}
 use Rattle.cfg_build.specs.declared.parts.Part.{Part}
-use Rattle.cfg_build.specs.declared.parts.Target.{Target}
 use Rattle.cfg_build.specs.Parts.{start_part}
 use Rattle.cfg_build.specs.Joined.{Row, is_same, is_joined, width, number, join_row, part_row, rows_of, rows}
-use Rattle.cfg_build.proofs.Places.{begins_at, begins_at_suc, begins_before, ends_within, IsPlace, place_of}
+use Rattle.cfg_build.proofs.Places.{begins_at, begins_at_suc, ends_within, IsPlace, place_of}
 use Rattle.cfg_build.proofs.PartOrder.{AreApart, is_same_itself}
 
 -- the part with this number in the list
@@ -100,11 +99,11 @@ row_of_part ps j d some =
     let wide : width ps p ≡ 1 + joins ps p = width_is ps p in
     rows_on ps ps j (joins ps p) d some (omega (arith, wide))
     ∙ ⊎_elim
-      (λ (h : is_joined ps p ≡ true).
-      ap (λ b. get_or (cond b (join_row ps p ∷ part_row ps p ∷ []) (part_row ps p ∷ [])) (cond b 1 0) d) h)
-      (λ (h : is_joined ps p ≡ false).
-      ap (λ b. get_or (cond b (join_row ps p ∷ part_row ps p ∷ []) (part_row ps p ∷ [])) (cond b 1 0) d) h)
-      (cases_Bool (is_joined ps p))
+    (λ (h : is_joined ps p ≡ true).
+    ap (λ b. get_or (cond b (join_row ps p ∷ part_row ps p ∷ []) (part_row ps p ∷ [])) (cond b 1 0) d) h)
+    (λ (h : is_joined ps p ≡ false).
+    ap (λ b. get_or (cond b (join_row ps p ∷ part_row ps p ∷ []) (part_row ps p ∷ [])) (cond b 1 0) d) h)
+    (cases_Bool (is_joined ps p))
 
 -- ---- each piece is a part or its join
 

@@ -1,15 +1,13 @@
 -- How many edges leave each piece of the joined graph, by what stands at it.
-use Rattle.std.proofs.Common.{◌≡◌, ◌≢◌, ℕ, zero, suc, ◌+◌, ◌<◌, ◌≤◌, ◌⊎◌, Bool, true, false, cond, ◌==◌, nat_lt, List, [], ◌∷◌, length, get_or, map, count_by, refl, sym, ap, ◌∙◌, subst, inl, inr, ⊎_elim, zero-add, arith}
-use Rattle.std.proofs.lemmas.Bool.{cases_Bool, cond-true, cond-false, and_left, eqb-true, eq-eqb, ne_eqb, false≢true}
+use Rattle.std.proofs.Common.{◌≡◌, ◌≢◌, ℕ, ◌+◌, ◌<◌, Bool, true, false, ◌==◌, nat_lt, List, length, count_by, refl, sym, ap, ◌∙◌, ⊎_elim, zero-add, arith}
+use Rattle.std.proofs.lemmas.Bool.{cases_Bool, cond-true, cond-false, and_left, eq-eqb, ne_eqb, false≢true}
 use Rattle.std.proofs.lemmas.List.{length-map}
-use Rattle.closed_walks.specs.Graph.{Graph, edge_count, from, to}
+use Rattle.closed_walks.specs.Graph.{Graph}
 use Rattle.f77_tree.specs.declared.programs.Exec.{Exec}
 use Rattle.f77_tree.specs.declared.programs.NameInfo.{NameInfo}
 use Rattle.f77_tree.specs.WellFormed.{AreExecs}
 use Rattle.cfg_build.specs.declared.parts.Part.{Part}
-use Rattle.cfg_build.specs.declared.parts.Target.{Target}
-use Rattle.cfg_build.specs.declared.parts.Target.TheVariants.{Start, First, Test}
-use Rattle.cfg_build.specs.declared.pieces.Piece.{Piece}
+use Rattle.cfg_build.specs.declared.parts.Target.TheVariants.{Start}
 use Rattle.cfg_build.specs.declared.pieces.PieceKind.{PieceKind}
 use Rattle.cfg_build.specs.declared.pieces.PieceKind.TheVariants as piece
 use Rattle.cfg_build.specs.Control.{fan}
@@ -18,7 +16,7 @@ use Rattle.cfg_build.specs.Joined.{is_end, is_joined, ways_to, number, rows, fin
 use Rattle.cfg_build.specs.Flow.{piece_at}
 use Rattle.cfg_build.specs.Degrees.{out_degree}
 use Rattle.cfg_build.specs.Shape.{leaves_one}
-use Rattle.cfg_build.proofs.Members.{Member, Member-at, IsAt, at_of}
+use Rattle.cfg_build.proofs.Members.{Member-at, IsAt, at_of}
 use Rattle.cfg_build.proofs.Numbers.{part_at, first_piece, own_piece, joins, IsPieceOf, piece_of}
 use Rattle.cfg_build.proofs.PartsFound.{member_end}
 use Rattle.cfg_build.proofs.JoinedGraph.{heads_in, heads_at, heads_of_join, heads_of_part, row_graph, number_of_one}

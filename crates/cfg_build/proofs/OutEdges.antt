@@ -1,18 +1,18 @@
 -- The edges that leave a piece, in order.
-use Rattle.std.proofs.Common.{◌≡◌, ◌≢◌, ℕ, zero, suc, ◌+◌, ◌-◌, ◌<◌, ◌≤◌, ◌⊎◌, Bool, true, false, cond, ◌==◌, List, [], ◌∷◌, ◌++◌, length, get_or, take, map, filter, sum_by, refl, sym, ap, ◌∙◌, subst, inl, inr, ⊎_elim, zero-add, append_assoc, append-nil, arith}
-use Rattle.std.proofs.lemmas.Bool.{cases_Bool, cases_lt, cond-true, cond-false, eqb-true, eq-eqb, ne_eqb, false≢true}
+use Rattle.std.proofs.Common.{◌≡◌, ◌≢◌, ℕ, zero, suc, ◌+◌, ◌-◌, ◌<◌, ◌≤◌, Bool, true, false, cond, ◌==◌, List, [], ◌∷◌, ◌++◌, length, get_or, take, filter, sum_by, refl, sym, ap, ◌∙◌, subst, inl, inr, ⊎_elim, zero-add, append-nil, arith}
+use Rattle.std.proofs.lemmas.Bool.{cases_Bool, cond-true, cond-false, eqb-true, eq-eqb}
 use Rattle.std.proofs.lemmas.List.Elements.{filter-append}
-use Rattle.std.proofs.lemmas.List.FromFn.{length-range_with_len, get_or-range_with_len}
+use Rattle.std.proofs.lemmas.List.FromFn.{get_or-range_with_len}
 use Rattle.std.proofs.lemmas.List.Sums.{sum_by-take-le}
 use Rattle.std.specs.List.{range_with_len}
-use Rattle.closed_walks.specs.Graph.{Graph, edge_count, from, to}
+use Rattle.closed_walks.specs.Graph.{edge_count, from, to}
 use Rattle.cfg_build.specs.declared.parts.Part.{Part}
 use Rattle.cfg_build.specs.Control.{fan}
 use Rattle.cfg_build.specs.Joined.{rows}
 use Rattle.cfg_build.specs.Passes.{outs, out}
 use Rattle.cfg_build.proofs.Fans.{places_before, get_or-fan, fan_below, length-fan}
 use Rattle.cfg_build.proofs.JoinedGraph.{heads_in, heads_at, length_heads, row_graph, IsRowEdge, row_edge, edge_zero}
-use Rattle.cfg_build.proofs.Members.{Member, Member-in_range, Member-range}
+use Rattle.cfg_build.proofs.Members.{Member, Member-in_range}
 
 -- ---- filters of numbers in a row
 
@@ -46,8 +46,8 @@ filter_row test m a n within only all =
     let k : ℕ = m - (a + n) in
     let e1 : m ≡ (a + n) + k = omega (arith, within) in
     let split : range_with_len 0 m ≡ (range_with_len 0 a ++ range_with_len a n) ++ range_with_len (a + n) k =
-        ap (λ x. range_with_len 0 x) e1 ∙ range_split 0 (a + n) k ∙ ap (λ x. range_with_len 0 (a + n) ++ range_with_len x k) (zero-add (a + n))
-        ∙ ap (λ xs. xs ++ range_with_len (a + n) k) (range_split 0 a n ∙ ap (λ x. range_with_len 0 a ++ range_with_len x n) (zero-add a)) in
+    ap (λ x. range_with_len 0 x) e1 ∙ range_split 0 (a + n) k ∙ ap (λ x. range_with_len 0 (a + n) ++ range_with_len x k) (zero-add (a + n))
+    ∙ ap (λ xs. xs ++ range_with_len (a + n) k) (range_split 0 a n ∙ ap (λ x. range_with_len 0 a ++ range_with_len x n) (zero-add a)) in
     ap (λ xs. filter test xs) split
     ∙ filter-append test (range_with_len 0 a ++ range_with_len a n) (range_with_len (a + n) k)
     ∙ ap (λ xs. xs ++ filter test (range_with_len (a + n) k)) (filter-append test (range_with_len 0 a) (range_with_len a n))
@@ -58,10 +58,13 @@ filter_row test m a n within only all =
   where
     out_of : (e : ℕ) → e < m → (((a ≤ e) × (e < a + n)) → ⊥) → test e ≡ false
     out_of e below not_in = ⊎_elim (λ (h : test e ≡ true). absurd (not_in (only e below h))) (λ h. h) (cases_Bool (test e))
+
     low : (e : ℕ) → Member (range_with_len 0 a) e → test e ≡ false
     low e mem = let r : (0 ≤ e) × (e < 0 + a) = Member-in_range 0 a e mem in out_of e (omega (arith, r.1, within)) (λ (h : (a ≤ e) × (e < a + n)). omega (arith, h.0, r.1))
+
     middle : (e : ℕ) → Member (range_with_len a n) e → test e ≡ true
     middle e mem = let r : (a ≤ e) × (e < a + n) = Member-in_range a n e mem in all e r.0 r.1
+
     high : (e : ℕ) → Member (range_with_len (a + n) (m - (a + n))) e → test e ≡ false
     high e mem = let r : (a + n ≤ e) × (e < a + n + (m - (a + n))) = Member-in_range (a + n) (m - (a + n)) e mem in out_of e (omega (arith, r.0, r.1, within)) (λ (h : (a ≤ e) × (e < a + n)). omega (arith, h.1, r.0))
 
@@ -134,7 +137,7 @@ module _ (ps : List Part) (finish : ℕ) where
   pub out_is : (piece i : ℕ) → piece < length (rows ps) → piece ≢ finish → i < length (heads_at ps piece) → IsOut piece i
   out_is piece i some other within =
       let is : out (row_graph ps finish) piece i ≡ first_out piece + i =
-          ap (λ xs. get_or xs i 0) (outs_are piece some other) ∙ get_or-range_with_len (first_out piece) (length (heads_at ps piece)) i 0 within in
+      ap (λ xs. get_or xs i 0) (outs_are piece some other) ∙ get_or-range_with_len (first_out piece) (length (heads_at ps piece)) i 0 within in
       let at : first_out piece + i ≡ suc (places_before (heads_in ps) piece + i) = omega arith in
       record {
         is = is;

@@ -1,7 +1,6 @@
 -- Which parts a program has, and that each way from one leads to another.
-use Rattle.std.proofs.Common.{◌≡◌, ◌≢◌, ℕ, zero, suc, ◌+◌, ◌-◌, ◌<◌, ◌≤◌, ◌⊎◌, Bool, true, false, cond, List, [], ◌∷◌, ◌++◌, length, get_or, map, flat_map, Contains, slice_get, Option, Some, None, refl, sym, ap, ◌∙◌, subst, inl, inr, ⊎_elim, arith}
-use Rattle.std.proofs.lemmas.Bool.{cases_Bool, cases_eq, cases_lt, cond-true, cond-false, false≢true}
-use Rattle.std.proofs.lemmas.Option.{same_Some}
+use Rattle.std.proofs.Common.{◌≡◌, ℕ, suc, ◌<◌, ◌≤◌, ◌⊎◌, true, false, List, [], ◌∷◌, ◌++◌, length, map, flat_map, Contains, slice_get, Option, Some, None, refl, sym, ap, ◌∙◌, subst, inl, inr, ⊎_elim, arith}
+use Rattle.std.proofs.lemmas.Bool.{cases_Bool, cases_lt, cond-true, cond-false}
 use Rattle.std.specs.List.{range_with_len}
 use Rattle.f77_tree.specs.declared.programs.Exec.{Exec}
 use Rattle.f77_tree.specs.declared.programs.ExecKind.{ExecKind}
@@ -10,17 +9,17 @@ use Rattle.f77_tree.specs.declared.programs.NameInfo.{NameInfo}
 use Rattle.f77_tree.specs.Control.{successors, successors_in, LeadsTo}
 use Rattle.f77_tree.specs.Loops.{Loop, begun, begun_in, begun_at, incremented, incremented_in, incremented_at, do_start, do_next, InRange, IsLoop}
 use Rattle.f77_tree.specs.WellFormed.{AreExecs}
-use Rattle.closed_walks.specs.Graph.{Graph, IsGraph, edge_count, from, to}
+use Rattle.closed_walks.specs.Graph.{Graph, from, to}
 use Rattle.cfg_build.specs.declared.parts.Part.{Part}
 use Rattle.cfg_build.specs.declared.parts.Target.{Target}
-use Rattle.cfg_build.specs.declared.parts.Target.TheVariants.{Start, First, Test}
+use Rattle.cfg_build.specs.declared.parts.Target.TheVariants.{First, Test}
 use Rattle.cfg_build.specs.declared.pieces.PieceKind.TheVariants as piece
 use Rattle.cfg_build.specs.Control.{control, is_reached}
-use Rattle.cfg_build.specs.Parts.{part, parts, parts_of, parts_in, reached_parts, ways_on, start_part, end_part, last_of}
-use Rattle.cfg_build.proofs.Members.{Member, Member-left, Member-right, Member-cases, Member-map, IsImage, Member-mapped, Member-flat_map, IsFromOne, Member-flat_mapped, Member-range, Member-from_Contains, Contains-from_Member}
+use Rattle.cfg_build.specs.Parts.{part, parts, parts_of, parts_in, reached_parts, start_part, end_part, last_of}
+use Rattle.cfg_build.proofs.Members.{Member, Member-left, Member-right, Member-cases, IsImage, Member-mapped, Member-flat_map, IsFromOne, Member-flat_mapped, Member-range, Contains-from_Member}
 use Rattle.cfg_build.proofs.PartOrder.{length_is}
-use Rattle.cfg_build.proofs.Reached.{IsTold, Reaches, stay, along, along_last, kept, join, IsEdge}
-use Rattle.cfg_build.proofs.ControlGraph.{control_leads, edge_of_lead, exec_at, exec_below, lead_below, control_sound, reached_of, is_reached_of, reached_first, reached_next, reached_below}
+use Rattle.cfg_build.proofs.Reached.{IsTold, Reaches, stay, along_last, kept}
+use Rattle.cfg_build.proofs.ControlGraph.{control_leads, exec_at, exec_below, lead_below, reached_of, is_reached_of, reached_first, reached_next}
 
 -- ---- an executable by itself
 
@@ -184,15 +183,16 @@ module _ (told : IsTold) (names : List NameInfo) (execs : List Exec) (loops : �
       let here : k ≡ do_next execs n = is.one_next k loop increments refl in
       let walk : Reaches g 0 k = reached_of execs well.successors told some_exec k reached in
       let at_k : Reaches g 0 k × (InRange execs n k → Reaches g 0 d) =
-          kept g (λ x. Reaches g 0 x × (InRange execs n x → Reaches g 0 d))
-          (λ e edge (h : Reaches g 0 (from g e) × (InRange execs n (from g e) → Reaches g 0 d)).
-          (along_last g 0 (from g e) (to g e) h.0 (record { number = e; exists = edge; begins = refl; ends = refl }),
-           λ (inside : InRange execs n (to g e)). ⊎_elim
-           (λ (before : InRange execs n (from g e)). h.1 before)
-           (λ (outside : InRange execs n (from g e) → ⊥). subst (λ x. Reaches g 0 x) (well.loops_nest.entered n few (from g e) (to g e) outside (control_leads execs e edge) inside).0 h.0)
-           (cases_range execs n (from g e))))
-          0 k walk
-          (stay g 0 0 refl, λ (r : InRange execs n 0). absurd (omega (arith, r.after_start))) in
+      kept g (λ x. Reaches g 0 x × (InRange execs n x → Reaches g 0 d))
+      (λ e edge (h : Reaches g 0 (from g e) × (InRange execs n (from g e) → Reaches g 0 d)). (
+        along_last g 0 (from g e) (to g e) h.0 (record { number = e; exists = edge; begins = refl; ends = refl }),
+        λ (inside : InRange execs n (to g e)). ⊎_elim
+            (λ (before : InRange execs n (from g e)). h.1 before)
+            (λ (outside : InRange execs n (from g e) → ⊥). subst (λ x. Reaches g 0 x) (well.loops_nest.entered n few (from g e) (to g e) outside (control_leads execs e edge) inside).0 h.0)
+            (cases_range execs n (from g e)),
+      ))
+      0 k walk
+      (stay g 0 0 refl, λ (r : InRange execs n 0). absurd (omega (arith, r.after_start))) in
       let inside : InRange execs n k = record { after_start = omega (arith, is.later, here); up_to_next = omega (arith, here) } in
       is_reached_of execs well.successors told some_exec d (at_k.1 inside)
 

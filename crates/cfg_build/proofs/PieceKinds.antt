@@ -1,18 +1,16 @@
 -- What stands at each piece of the joined graph, and how many ways lead on from it.
-use Rattle.std.proofs.Common.{◌≡◌, ◌≢◌, ℕ, zero, suc, ◌+◌, ◌<◌, ◌≤◌, ◌⊎◌, Bool, true, false, List, [], ◌∷◌, ◌++◌, length, get_or, map, slice_get, Option, Some, None, refl, sym, ap, ◌∙◌, subst, inl, inr, ⊎_elim, arith}
+use Rattle.std.proofs.Common.{◌≡◌, ℕ, zero, suc, ◌<◌, ◌⊎◌, true, List, [], ◌∷◌, ◌++◌, length, get_or, map, refl, ap, subst, inl, inr, ⊎_elim, arith}
 use Rattle.f77_tree.specs.declared.programs.Exec.{Exec}
 use Rattle.f77_tree.specs.declared.programs.ExecKind.{ExecKind}
 use Rattle.f77_tree.specs.declared.programs.ExecKind.TheVariants.{Assign, Print, Pass, Test as Testing, Sign, Pick, DoStart, DoNext, End}
 use Rattle.f77_tree.specs.Loops.{do_start}
 use Rattle.cfg_build.specs.declared.parts.Part.{Part}
-use Rattle.cfg_build.specs.declared.parts.Target.{Target}
-use Rattle.cfg_build.specs.declared.parts.Target.TheVariants.{Start, First, Test}
+use Rattle.cfg_build.specs.declared.parts.Target.TheVariants.{First, Test}
 use Rattle.cfg_build.specs.declared.pieces.Piece.{Piece}
-use Rattle.cfg_build.specs.declared.pieces.PieceKind.{PieceKind}
 use Rattle.cfg_build.specs.declared.pieces.PieceKind.TheVariants as piece
 use Rattle.cfg_build.specs.Parts.{part, parts, parts_of, start_part, end_part}
 use Rattle.cfg_build.specs.Joined.{Row, is_joined, join_row, part_row, rows}
-use Rattle.cfg_build.specs.Flow.{piece_in, piece_at}
+use Rattle.cfg_build.specs.Flow.{piece_at}
 use Rattle.cfg_build.proofs.Members.{Member}
 use Rattle.cfg_build.proofs.Numbers.{part_at, first_piece, own_piece, row_of_join, row_of_part, own_below, first_below}
 use Rattle.cfg_build.proofs.PartsFound.{IsExecPart, cases_part}

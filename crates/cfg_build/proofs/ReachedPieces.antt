@@ -1,29 +1,28 @@
 -- The start reaches each piece but perhaps the end, and an edge leaves each piece but the end.
-use Rattle.std.proofs.Common.{◌≡◌, ◌≢◌, ℕ, zero, suc, ◌+◌, ◌-◌, ◌<◌, ◌≤◌, ◌⊎◌, Bool, true, false, cond, ◌&&◌, nat_lt, List, [], ◌∷◌, ◌++◌, length, get_or, map, Contains, slice_get, Option, Some, None, refl, sym, ap, ◌∙◌, subst, inl, inr, ⊎_elim, arith}
-use Rattle.std.proofs.lemmas.Bool.{cases_Bool, cond-true, cond-false, and_right, and_parts, false≢true}
-use Rattle.closed_walks.specs.Graph.{Graph, IsGraph, edge_count, from, to}
+use Rattle.std.proofs.Common.{◌≡◌, ℕ, ◌<◌, ◌⊎◌, true, false, cond, nat_lt, List, [], ◌∷◌, ◌++◌, length, map, slice_get, Some, refl, sym, ap, ◌∙◌, subst, inl, inr, ⊎_elim, arith}
+use Rattle.std.proofs.lemmas.Bool.{cond-false, and_right, false≢true}
+use Rattle.closed_walks.specs.Graph.{Graph, IsGraph, from, to}
 use Rattle.f77_tree.specs.declared.programs.Exec.{Exec}
 use Rattle.f77_tree.specs.declared.programs.ExecKind.{ExecKind}
 use Rattle.f77_tree.specs.declared.programs.ExecKind.TheVariants.{Assign, Print, Pass, Test as Testing, Sign, Pick, DoStart, DoNext, End}
 use Rattle.f77_tree.specs.declared.programs.NameInfo.{NameInfo}
 use Rattle.f77_tree.specs.Control.{successors, successors_in, LeadsTo}
-use Rattle.f77_tree.specs.Loops.{Loop, incremented, incremented_in, incremented_at, do_start}
+use Rattle.f77_tree.specs.Loops.{Loop, incremented, incremented_in, do_start}
 use Rattle.f77_tree.specs.WellFormed.{AreExecs}
 use Rattle.cfg_build.specs.declared.parts.Part.{Part}
 use Rattle.cfg_build.specs.declared.parts.Target.{Target}
 use Rattle.cfg_build.specs.declared.parts.Target.TheVariants.{Start, First, Test}
-use Rattle.cfg_build.specs.declared.pieces.PieceKind.{PieceKind}
 use Rattle.cfg_build.specs.declared.pieces.PieceKind.TheVariants as piece
 use Rattle.cfg_build.specs.Control.{control, is_reached}
 use Rattle.cfg_build.specs.Parts.{part, parts, parts_of, start_part, end_part, last_of}
-use Rattle.cfg_build.specs.Joined.{is_end, is_joined, ways_to, number, rows, finish, joined}
-use Rattle.cfg_build.proofs.Members.{Member, Member-left, Member-right, Member-map, Member-from_Contains, Member-at, IsAt, at_of}
+use Rattle.cfg_build.specs.Joined.{is_end, is_joined, ways_to, number, rows, finish}
+use Rattle.cfg_build.proofs.Members.{Member, Member-right, Member-map, Member-from_Contains, Member-at}
 use Rattle.cfg_build.proofs.PartOrder.{AreApart, parts_apart}
 use Rattle.cfg_build.proofs.PartsFound.{HasPart, IsExecPart, member_part, member_start, member_end, cases_part, test_part, way_leads, increment_has}
-use Rattle.cfg_build.proofs.Numbers.{part_at, first_piece, own_piece, joins, own_below, first_below, IsPieceOf, piece_of}
+use Rattle.cfg_build.proofs.Numbers.{part_at, first_piece, own_piece, joins, IsPieceOf, piece_of}
 use Rattle.cfg_build.proofs.JoinedGraph.{row_graph, step, to_own, way_edge, join_edge, number_of_one, number_below, row_graph_sound}
 use Rattle.cfg_build.proofs.Reached.{IsTold, Reaches, IsEdge, stay, join, along_last, kept}
-use Rattle.cfg_build.proofs.ControlGraph.{control_leads, lead_below, exec_at, exec_below, reached_of, is_reached_of, control_edge}
+use Rattle.cfg_build.proofs.ControlGraph.{control_leads, exec_at, reached_of, is_reached_of, control_edge}
 
 -- ---- an executable by itself: what reaches its first part reaches its tests and its successors
 
@@ -170,9 +169,10 @@ module _ (told : IsTold) (names : List NameInfo) (execs : List Exec) (loops : �
       (λ e edge (h : Reaches c 0 (from c e) × At (First (from c e))).
       let k : ℕ = from c e in
       let below : k < length execs = subst (λ x. x < length execs) (sym (control_edge execs e edge).begins) (control_edge execs e edge).exists in
-      let x = exec_at execs k below in
-      (along_last c 0 k (to c e) h.0 (record { number = e; exists = edge; begins = refl; ends = refl }),
-       exec_to k x.0 x.1 (is_reached_of execs well.successors told well.end.some k h.0) (to c e) (control_leads execs e edge) h.1))
+      let x = exec_at execs k below in (
+        along_last c 0 k (to c e) h.0 (record { number = e; exists = edge; begins = refl; ends = refl }),
+        exec_to k x.0 x.1 (is_reached_of execs well.successors told well.end.some k h.0) (to c e) (control_leads execs e edge) h.1,
+      ))
       0 k (reached_of execs well.successors told well.end.some k reached)
       (stay c 0 0 refl, at_first)).1
 

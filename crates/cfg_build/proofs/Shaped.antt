@@ -1,7 +1,7 @@
 -- The flow graph has its shape.
-use Rattle.std.proofs.Common.{◌≡◌, ◌≢◌, ◌↔◌, ℕ, zero, suc, ◌+◌, ◌<◌, ◌≤◌, ◌⊎◌, Bool, true, false, ◌==◌, List, [], ◌∷◌, length, get_or, take, fold, sum_by, refl, sym, ap, ◌∙◌, subst, inl, inr, ⊎_elim, zero-add, arith}
+use Rattle.std.proofs.Common.{◌≡◌, ◌≢◌, ℕ, suc, ◌+◌, ◌<◌, ◌≤◌, true, false, ◌==◌, List, [], length, get_or, refl, sym, ap, ◌∙◌, ⊎_elim, arith}
 use Rattle.std.proofs.lemmas.Bool.{cases_lt, eq-eqb, ne_eqb, false≢true}
-use Rattle.closed_walks.specs.Graph.{Graph, IsGraph, edge_count, from, to}
+use Rattle.closed_walks.specs.Graph.{Graph, edge_count, from, to}
 use Rattle.f77_tree.specs.declared.programs.Exec.{Exec}
 use Rattle.f77_tree.specs.declared.programs.NameInfo.{NameInfo}
 use Rattle.f77_tree.specs.WellFormed.{AreExecs}
@@ -162,6 +162,7 @@ module _ (told : IsTold) (met : IsMet) (names : List NameInfo) (execs : List Exe
     where
       zero_of : (n : ℕ) → n ≤ 0 → n ≡ 0
       zero_of n h = omega (arith, h)
+
       two_in_g : 1 < edge_count g
       two_in_g = ⊎_elim
           (λ (is : 0 ≡ end). absurd (start_not_end is))
@@ -208,26 +209,32 @@ module _ (told : IsTold) (met : IsMet) (names : List NameInfo) (execs : List Exe
   pub shaped : IsShaped (flow execs) (finish execs) (joined execs).graph.nodes
   shaped = record {
     count = has_holds.count;
-    start = λ x node.
-        (λ (is : kind_at (flow execs) x ≡ Start). old_or_hold (x ≡ 0) x node (λ old. start_then x (class x old) (sym (kind_old x old) ∙ is)) (λ new hold. absurd cc),
-         λ (is : x ≡ 0). old_or_hold (kind_at (flow execs) x ≡ Start) x node (λ old. kind_old x old ∙ start_at x (class x old) is) (λ new hold. absurd (start_old (omega (arith, new, is)))));
-    end = λ x node.
-        (λ (is : kind_at (flow execs) x ≡ End). old_or_hold (x ≡ finish execs) x node (λ old. end_then x (class x old) (sym (kind_old x old) ∙ is)) (λ new hold. absurd cc),
-         λ (is : x ≡ finish execs). old_or_hold (kind_at (flow execs) x ≡ End) x node (λ old. kind_old x old ∙ end_at x (class x old) is) (λ new hold. absurd (omega (arith, new, is, end_below))));
-    holds = λ x node.
-        (λ (is : kind_at (flow execs) x ≡ Hold). old_or_hold ((joined execs).graph.nodes ≤ x) x node (λ old. absurd (no_hold x (class x old) (sym (kind_old x old) ∙ is))) (λ new hold. new),
-         λ (new : (joined execs).graph.nodes ≤ x). has_holds.new_piece x new node);
+    start = λ x node. (
+      λ (is : kind_at (flow execs) x ≡ Start). old_or_hold (x ≡ 0) x node (λ old. start_then x (class x old) (sym (kind_old x old) ∙ is)) (λ new hold. absurd cc),
+      λ (is : x ≡ 0). old_or_hold (kind_at (flow execs) x ≡ Start) x node (λ old. kind_old x old ∙ start_at x (class x old) is) (λ new hold. absurd (start_old (omega (arith, new, is)))),
+    );
+    end = λ x node. (
+      λ (is : kind_at (flow execs) x ≡ End). old_or_hold (x ≡ finish execs) x node (λ old. end_then x (class x old) (sym (kind_old x old) ∙ is)) (λ new hold. absurd cc),
+      λ (is : x ≡ finish execs). old_or_hold (kind_at (flow execs) x ≡ End) x node (λ old. kind_old x old ∙ end_at x (class x old) is) (λ new hold. absurd (omega (arith, new, is, end_below))),
+    );
+    holds = λ x node. (
+      λ (is : kind_at (flow execs) x ≡ Hold). old_or_hold ((joined execs).graph.nodes ≤ x) x node (λ old. absurd (no_hold x (class x old) (sym (kind_old x old) ∙ is))) (λ new hold. new),
+      λ (new : (joined execs).graph.nodes ≤ x). has_holds.new_piece x new node,
+    );
     end_exists = let more : g.nodes ≤ (flow execs).graph.nodes = has_holds.nodes in omega (arith, more, end_below);
     two_edges = two_flow;
-    leaves_end = λ e edge.
-        (λ is. one_from (flow execs).graph end e 0 (has_holds.old_out end end_below ∙ out_of_end) edge some_flow is from_zero,
-         λ (is : e ≡ 0). ap (λ n. from (flow execs).graph n) is ∙ from_zero);
-    comes_to_start = λ e edge.
-        (λ is. one_to (flow execs).graph 0 e 0 flow_in_start edge some_flow is holds_on.zero_to,
-         λ (is : e ≡ 0). ap (λ n. to (flow execs).graph n) is ∙ holds_on.zero_to);
-    leaves_start = λ e edge.
-        (λ is. one_from (flow execs).graph 0 e 1 (has_holds.old_out 0 (some_rows told names execs loops well) ∙ out_of_start) edge two_flow is from_one,
-         λ (is : e ≡ 1). ap (λ n. from (flow execs).graph n) is ∙ from_one);
+    leaves_end = λ e edge. (
+      λ is. one_from (flow execs).graph end e 0 (has_holds.old_out end end_below ∙ out_of_end) edge some_flow is from_zero,
+      λ (is : e ≡ 0). ap (λ n. from (flow execs).graph n) is ∙ from_zero,
+    );
+    comes_to_start = λ e edge. (
+      λ is. one_to (flow execs).graph 0 e 0 flow_in_start edge some_flow is holds_on.zero_to,
+      λ (is : e ≡ 0). ap (λ n. to (flow execs).graph n) is ∙ holds_on.zero_to,
+    );
+    leaves_start = λ e edge. (
+      λ is. one_from (flow execs).graph 0 e 1 (has_holds.old_out 0 (some_rows told names execs loops well) ∙ out_of_start) edge two_flow is from_one,
+      λ (is : e ≡ 1). ap (λ n. from (flow execs).graph n) is ∙ from_one,
+    );
     one_comes = λ x node one. old_or_hold (in_degree (flow execs).graph x ≡ 1) x node
         (λ old.
         let one_old : takes_one (piece_at (pieces_of (parts execs)) x).kind ≡ true = sym (ap takes_one (kind_old x old)) ∙ one in

@@ -1,27 +1,26 @@
 -- The flow graph is strongly connected.
-use Rattle.std.proofs.Common.{◌≡◌, ◌≢◌, ℕ, zero, suc, ◌+◌, ◌<◌, ◌≤◌, ◌⊎◌, Bool, true, List, [], ◌∷◌, length, fold, filter, refl, sym, ap, ◌∙◌, subst, inl, inr, ⊎_elim, arith}
+use Rattle.std.proofs.Common.{◌≡◌, ℕ, ◌<◌, ◌≤◌, List, length, sym, ◌∙◌, subst, ⊎_elim, arith}
 use Rattle.std.proofs.lemmas.Bool.{cases_lt}
 use Rattle.std.specs.List.{range_with_len}
-use Rattle.closed_walks.specs.Graph.{Graph, IsGraph, edge_count, from, to}
+use Rattle.closed_walks.specs.Graph.{Graph, IsGraph, edge_count, from}
 use Rattle.closed_walks.specs.Walk.{IsStrong}
 use Rattle.closed_walks.specs.Region.{IsFlowGraph}
 use Rattle.closed_walks.specs.Endless.{GoesOn}
 use Rattle.f77_tree.specs.declared.programs.Exec.{Exec}
 use Rattle.f77_tree.specs.declared.programs.NameInfo.{NameInfo}
 use Rattle.f77_tree.specs.WellFormed.{AreExecs}
-use Rattle.cfg_build.specs.declared.pieces.Piece.{Piece}
 use Rattle.cfg_build.specs.Parts.{parts}
-use Rattle.cfg_build.specs.Joined.{FlowGraph, rows, finish, joined}
+use Rattle.cfg_build.specs.Joined.{rows, finish, joined}
 use Rattle.cfg_build.specs.Holds.{is_held}
 use Rattle.cfg_build.specs.Flow.{flow, held, piece_at}
 use Rattle.cfg_build.proofs.Members.{Member, Member-filter, Member-filtered, Member-range, Member-in_range}
-use Rattle.cfg_build.proofs.Reached.{IsTold, Reaches, IsEdge, stay, join, along, cases_Reaches, kept}
+use Rattle.cfg_build.proofs.Reached.{IsTold, Reaches, IsEdge, join, along, cases_Reaches}
 use Rattle.cfg_build.proofs.JoinedGraph.{row_graph, edge_zero}
 use Rattle.cfg_build.proofs.PieceKinds.{pieces_of}
 use Rattle.cfg_build.proofs.ReachedPieces.{joined_sound, finish_below, some_rows, reached_piece, leaves_piece}
 use Rattle.cfg_build.proofs.Lowest.{IsMet, ReachesHeld, reaches_held, reached_below}
 use Rattle.cfg_build.proofs.HeldEdges.{IsHoldEdge, edge_for, hold_edge}
-use Rattle.cfg_build.proofs.Holding.{step, IsHold, IsHolding, begun, AreHeld, all_held}
+use Rattle.cfg_build.proofs.Holding.{IsHold, IsHolding, begun, AreHeld, all_held}
 
 module _ (told : IsTold) (met : IsMet) (names : List NameInfo) (execs : List Exec) (loops : ℕ) (well : AreExecs names execs loops) where
   abbrev pub g : Graph
