@@ -1,1 +1,2 @@
 pub mod BuildingControl
+pub mod BuildingParts
