@@ -1,0 +1,2 @@
+-- Tables of targets.
+use Rattle.std.proofs.Common.{◌≡◌, ℕ, ◌<◌}
