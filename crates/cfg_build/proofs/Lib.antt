@@ -4,8 +4,8 @@ pub mod BuildingTables
 pub mod ControlGraph
 pub mod Fans
 pub mod Members
-pub mod Numbers
+pub mod PieceNumbers
 pub mod PartOrder
 pub mod PartsFound
 pub mod Places
-pub mod Reached
+pub mod ReachedNodes

@@ -19,7 +19,7 @@ use Rattle.cfg_build.specs.Control.{control, is_reached}
 use Rattle.cfg_build.specs.Parts.{part, parts, parts_of, parts_in, reached_parts, ways_on, start_part, end_part, last_of}
 use Rattle.cfg_build.proofs.Members.{Member, Member-left, Member-right, Member-cases, Member-map, IsImage, Member-mapped, Member-flat_map, IsFromOne, Member-flat_mapped, Member-range, Member-from_Contains, Contains-from_Member}
 use Rattle.cfg_build.proofs.PartOrder.{length_is}
-use Rattle.cfg_build.proofs.Reached.{IsTold, Reaches, stay, along, along_last, kept, join, IsEdge}
+use Rattle.cfg_build.proofs.ReachedNodes.{IsTold, Reaches, stay, along, along_last, kept, join, IsEdge}
 use Rattle.cfg_build.proofs.ControlGraph.{control_leads, edge_of_lead, exec_at, exec_below, lead_below, control_sound, reached_of, is_reached_of, reached_first, reached_next, reached_below}
 
 -- ---- an executable by itself

@@ -1,5 +1,5 @@
 -- What is kept of each target while a program is drawn.
-use Rattle.std.specs.Prelude.{◌≡◌, ℕ, ◌+◌, ◌<◌, ◌≤◌, Bool, false, ◌&&◌, nat_lt, if◌then◌else◌, List, [], ◌∷◌, length, sum_by, slice_index, slice_index_or}
+use Rattle.std.specs.Prelude.{◌≡◌, ℕ, ◌+◌, ◌<◌, ◌≤◌, Bool, true, false, ◌&&◌, nat_lt, if◌then◌else◌, List, [], ◌∷◌, length, sum_by, slice_index, slice_index_or}
 use Rattle.cfg_build.specs.declared.numbers.ByTarget.{ByTarget}
 use Rattle.cfg_build.specs.declared.parts.Part.{Part}
 use Rattle.cfg_build.specs.declared.parts.Target.{Target}
@@ -55,5 +55,6 @@ is_joined_by ways part = nat_lt 1 ways && (if is_end part.piece.kind then false 
 -- the rows of a part, of which the first has this number
 abbrev pub rows_from : (first : ℕ) → (joined : Bool) → Part → (heads : List ℕ) → List Row
 rows_from first joined part heads =
-    let own = record { piece = part.piece; heads = heads } in
-    if joined then record { piece = record { kind = Join; line = part.piece.line; exec = part.piece.exec }; heads = (first + 1) ∷ [] } ∷ own ∷ [] else own ∷ []
+    let own : Row = record { piece = part.piece; heads = heads } in
+    let join : Row = record { piece = record { kind = Join; line = part.piece.line; exec = part.piece.exec }; heads = (first + 1) ∷ [] } in
+    if joined then join ∷ own ∷ [] else own ∷ []

@@ -4,6 +4,7 @@
 
 mod flow;
 mod holds;
+mod laws;
 mod numbers;
 mod parts;
 mod pieces;

@@ -4,7 +4,7 @@ ghost use Rattle.std.specs.Prelude.{◌≡◌, ◌+◌, ◌<◌, ◌^◌, ℕ, f
 ghost use Rattle.cfg_build.specs.declared.parts.Target.{Target};
 ghost use Rattle.cfg_build.specs.declared.parts.Target.TheVariants.{Start};
 ghost use Rattle.cfg_build.specs.Parts.{start_part};
-ghost use Rattle.cfg_build.specs.Joined.{is_same, ways_to, number, width};
+ghost use Rattle.cfg_build.specs.Joined.{is_same, is_end, ways_to, number, width};
 ghost use Rattle.cfg_build.specs.Tables.{number_in, IsIn, HasRoom, IsLedTo, AreParts, is_joined_by};
 
 use crate::parts::{Part, Target};
@@ -47,6 +47,7 @@ impl ByTarget {
     fn set(&mut self, target: Target, number: u32)
         requires { IsIn self.old target }
         ensures room { (execs : ℕ) → HasRoom execs self.old → HasRoom execs self.new }
+        ensures within { (other : Target) → IsIn self.old other → IsIn self.new other }
         ensures here { is_same Start target ≡ false → number_in self.new target ≡ number }
         ensures others { (other : Target) → is_same target other ≡ false → number_in self.new other ≡ number_in self.old other }
     {
@@ -90,7 +91,13 @@ pub(crate) fn is_joined(ways: &ByTarget, part: &Part) -> bool
     requires { IsIn ways.now part.now.own }
     ensures { result ≡ is_joined_by (number_in ways.now part.now.own) part.now }
 {
-    part.piece.kind != PieceKind::End && ways.get(part.own) > 1
+    !is_end(part.piece.kind) && ways.get(part.own) > 1
+}
+
+fn is_end(kind: PieceKind) -> bool
+    ensures { result ≡ is_end kind }
+{
+    matches!(kind, PieceKind::End)
 }
 
 /// The number of the piece at which an edge to each target ends: the join before a part, or the part itself.

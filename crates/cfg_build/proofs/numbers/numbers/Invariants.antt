@@ -1,7 +1,7 @@
 use Rattle.std.proofs.Common.{◌≡◌, ℕ, ◌<◌, take, sum_by, get_or}
 use Rattle.cfg_build.specs.Joined.{width}
 use Rattle.cfg_build.specs.Tables.{number_in, HasRoom}
-use Rattle.cfg_build.proofs.Numbers.{part_at, first_piece}
+use Rattle.cfg_build.proofs.PieceNumbers.{part_at, first_piece}
 use Rattle.cfg_build.proofs.numbers.numbers.Given as goal
 
 abbrev pub invariant-loop-part : goal.invariant-loop-part
