@@ -1,5 +1,6 @@
 pub mod BuildingControl
 pub mod BuildingParts
+pub mod BuildingRows
 pub mod BuildingTables
 pub mod ControlGraph
 pub mod Fans

@@ -20,6 +20,10 @@ IsIn table Start = Unit {0}
 IsIn table (First k) = k < length table.firsts.items
 IsIn table (Test k) = k < length table.tests.items
 
+-- for how many executables the table has numbers
+abbrev pub room : ByTarget → ℕ
+room table = length table.firsts.items
+
 -- the table has numbers for the targets of so many executables
 pub record HasRoom (execs : ℕ) (table : ByTarget) : Type 0 where
   pub firsts : length table.firsts.items ≡ execs

@@ -6,7 +6,7 @@ ghost use Rattle.cfg_build.specs.declared.parts.Target.{Target};
 ghost use Rattle.cfg_build.specs.Control.{fan};
 ghost use Rattle.cfg_build.specs.Parts.{start_part};
 ghost use Rattle.cfg_build.specs.Joined.{Row, ways_to, number, rows};
-ghost use Rattle.cfg_build.specs.Tables.{number_in, IsIn, HasRoom, AreParts, is_joined_by, rows_from};
+ghost use Rattle.cfg_build.specs.Tables.{number_in, IsIn, HasRoom, room, AreParts, is_joined_by, rows_from};
 
 use crate::numbers::{ByTarget, is_joined};
 use crate::parts::{Part, Target};
@@ -30,11 +30,10 @@ pub(crate) fn drawn(
     numbers: &ByTarget,
     finish: u32,
 ) -> Result<Drawing, NoMemory>
-    ghost execs: { ℕ }
-    requires parts { AreParts execs parts.now }
-    requires ways_room { HasRoom execs ways.now }
+    requires parts { AreParts (room ways.now) parts.now }
+    requires ways_room { HasRoom (room ways.now) ways.now }
     requires ways { (target : Target) → number_in ways.now target ≡ ways_to parts.now target }
-    requires numbers_room { HasRoom execs numbers.now }
+    requires numbers_room { HasRoom (room ways.now) numbers.now }
     requires numbers { (j : ℕ) → j < length parts.now → number_in numbers.now (slice_index_or parts.now j start_part).own ≡ number parts.now (slice_index_or parts.now j start_part).own }
     ensures pieces { IfOk result (λ d. d.pieces.items ≡ map (λ (row : Row). row.piece) (rows parts.now)) }
     ensures edges { IfOk result (λ d. d.edges.items ≡ (finish, 0) ∷ fan 0 (map (λ (row : Row). row.heads) (rows parts.now))) }
