@@ -3,10 +3,16 @@ pub mod BuildingParts
 pub mod BuildingRows
 pub mod BuildingTables
 pub mod ControlGraph
+pub mod Counts
 pub mod Fans
+pub mod HoldSteps
+pub mod JoinedGraph
+pub mod Lowest
 pub mod Members
-pub mod PieceNumbers
+pub mod OutEdges
 pub mod PartOrder
 pub mod PartsFound
+pub mod PieceNumbers
 pub mod Places
 pub mod ReachedNodes
+pub mod ReachedPieces

@@ -7,3 +7,4 @@ pub mod Tables
 pub mod Built
 pub mod Passes
 pub mod Chains
+pub mod Degrees

@@ -4,6 +4,7 @@ ghost use Rattle.std.specs.Prelude.{◌≡◌, ◌≢◌, ◌<◌, ◌↔◌, �
 ghost use Rattle.closed_walks.specs.Graph.{Graph, IsGraph, edge_count};
 ghost use Rattle.closed_walks.specs.Walk.{IsClosed, Holds, IsOnlyOnWalksWith, Reach, no_edge, IsStrong, IsCycleEquivalent, IsCut};
 ghost use Rattle.closed_walks.specs.Cycle.{AreOnSameCycles};
+ghost use Rattle.closed_walks.specs.Endless.{GoesOn, MeetsCycle};
 ghost use Rattle.closed_walks.specs.Reaching.{reaches};
 
 /// Every closed walk that holds the one edge holds the other exactly where the one lies on no closed walk of the graph
@@ -27,4 +28,9 @@ pub fn cycles_are_classes()
 /// The test `reaches` tells whether a node is reached from another.
 pub fn reaching_is_told()
     ensures { (g : Graph) (u v : ℕ) → IsGraph g → u < g.nodes → (reaches g u v ≡ true) ↔ Reach g no_edge u v }
+{}
+
+/// Where an edge leaves each node that is reached from a node, some node on a cycle is reached from it.
+pub fn endless_ways_meet_cycles()
+    ensures { (g : Graph) (u : ℕ) → IsGraph g → u < g.nodes → GoesOn g u → MeetsCycle g u }
 {}

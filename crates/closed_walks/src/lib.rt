@@ -10,7 +10,9 @@ mod search_back;
 mod strong;
 
 pub use digraph::{Digraph, EdgeEnd};
-pub use laws::{cuts_are_classes, cycles_are_classes, reaching_is_told, walks_without};
+pub use laws::{
+    cuts_are_classes, cycles_are_classes, endless_ways_meet_cycles, reaching_is_told, walks_without,
+};
 pub use region_laws::{
     class_order, edge_ranks, passed_nodes, region_edges, regions_are_passed, regions_nest,
     sides_of_classes,
