@@ -6,7 +6,7 @@ use Rattle.f77_tree.specs.declared.programs.Exec.{Exec}
 use Rattle.f77_tree.specs.Control.{successors, successors_in, LeadsTo, SuccessorsExist}
 use Rattle.cfg_build.specs.Control.{fan, control, is_reached}
 use Rattle.cfg_build.proofs.Fans.{places_before, get_or-fan, fan_below, IsInFan, cases_fan}
-use Rattle.cfg_build.proofs.Reached.{IsTold, Reaches, IsEdge, stay, along_last, kept}
+use Rattle.cfg_build.proofs.ReachedNodes.{IsTold, Reaches, IsEdge, stay, along_last, kept}
 
 abbrev pub heads_of : List Exec → List (List ℕ)
 heads_of execs = map (λ exec. successors exec.kind) execs

@@ -16,7 +16,7 @@ use Rattle.cfg_build.specs.Degrees.{in_degree}
 use Rattle.cfg_build.proofs.JoinedGraph.{row_graph, edge_zero}
 use Rattle.cfg_build.proofs.Counts.{count_unique, comes_to, leaves_from}
 use Rattle.cfg_build.proofs.PieceKinds.{pieces_of}
-use Rattle.cfg_build.proofs.Reached.{IsTold, Reaches, IsEdge, stay}
+use Rattle.cfg_build.proofs.ReachedNodes.{IsTold, Reaches, IsEdge, stay}
 use Rattle.cfg_build.proofs.ReachedPieces.{joined_sound, leaves_piece}
 use Rattle.cfg_build.proofs.JoinedDegrees.{one_comes}
 use Rattle.cfg_build.proofs.Lowest.{IsHeldBy, held_says}

@@ -3,7 +3,7 @@ use Rattle.std.proofs.Common.{◌≡◌, ◌≢◌, ℕ, zero, suc, ◌+◌, ◌
 use Rattle.std.proofs.lemmas.Bool.{cases_eq}
 use Rattle.std.proofs.lemmas.List.{length-append, length-set, get_or_append_left, get_or-append-add, get_or-set_same, get_or-set_other}
 use Rattle.closed_walks.specs.Graph.{Graph, IsGraph, edge_count, from, to}
-use Rattle.cfg_build.proofs.Reached.{Reaches, IsEdge, stay, join, along, kept}
+use Rattle.cfg_build.proofs.ReachedNodes.{Reaches, IsEdge, stay, join, along, kept}
 
 -- the graph with a hold on an edge
 abbrev pub hold_graph : (finish : ℕ) → Graph → (edge : ℕ) → Graph

@@ -6,7 +6,7 @@ use Rattle.cfg_build.specs.declared.pieces.Piece.{Piece}
 use Rattle.cfg_build.specs.Joined.{FlowGraph}
 use Rattle.cfg_build.specs.Holds.{with_hold}
 use Rattle.cfg_build.proofs.Members.{Member}
-use Rattle.cfg_build.proofs.Reached.{Reaches, join, along}
+use Rattle.cfg_build.proofs.ReachedNodes.{Reaches, join, along}
 use Rattle.cfg_build.proofs.HeldEdges.{IsHoldEdge}
 use Rattle.cfg_build.proofs.HoldSteps.{hold_graph, more_edges, from_old, to_other, to_hold, leaves, reach_kept, hold_sound}
 

@@ -9,10 +9,10 @@ use Rattle.cfg_build.specs.Parts.{start_part}
 use Rattle.cfg_build.specs.Joined.{Row, is_joined, number, join_row, part_row, rows}
 use Rattle.cfg_build.proofs.Fans.{places_before, get_or-fan, fan_below, IsInFan, cases_fan}
 use Rattle.cfg_build.proofs.Members.{Member, IsAt, at_of, Member-at, Member-map, IsImage, Member-mapped}
-use Rattle.cfg_build.proofs.Numbers.{part_at, first_piece, own_piece, joins, number_is, row_of_join, row_of_part, own_below, first_below, IsPieceOf, piece_of}
+use Rattle.cfg_build.proofs.PieceNumbers.{part_at, first_piece, own_piece, joins, number_is, row_of_join, row_of_part, own_below, first_below, IsPieceOf, piece_of}
 use Rattle.cfg_build.proofs.PartOrder.{AreApart}
 use Rattle.cfg_build.proofs.PartsFound.{HasPart}
-use Rattle.cfg_build.proofs.Reached.{IsEdge, Reaches, stay, along, along_last, join}
+use Rattle.cfg_build.proofs.ReachedNodes.{IsEdge, Reaches, stay, along, along_last, join}
 
 abbrev pub heads_in : List Part → List (List ℕ)
 heads_in ps = map (λ row. row.heads) (rows ps)

@@ -1,3 +1,7 @@
+pub mod BuildingControl
+pub mod BuildingParts
+pub mod BuildingRows
+pub mod BuildingTables
 pub mod ControlGraph
 pub mod Counts
 pub mod Fans
@@ -10,14 +14,14 @@ pub mod JoinedDegrees
 pub mod JoinedGraph
 pub mod Lowest
 pub mod Members
-pub mod Numbers
 pub mod OutDegrees
 pub mod OutEdges
 pub mod PartOrder
 pub mod PartsFound
 pub mod PieceKinds
+pub mod PieceNumbers
 pub mod Places
-pub mod Reached
+pub mod ReachedNodes
 pub mod ReachedPieces
 pub mod Shaped
 pub mod Strong

@@ -17,7 +17,7 @@ use Rattle.cfg_build.specs.Flow.{piece_at}
 use Rattle.cfg_build.specs.Degrees.{out_degree}
 use Rattle.cfg_build.specs.Shape.{leaves_one}
 use Rattle.cfg_build.proofs.Members.{Member-at, IsAt, at_of}
-use Rattle.cfg_build.proofs.Numbers.{part_at, first_piece, own_piece, joins, IsPieceOf, piece_of}
+use Rattle.cfg_build.proofs.PieceNumbers.{part_at, first_piece, own_piece, joins, IsPieceOf, piece_of}
 use Rattle.cfg_build.proofs.PartsFound.{member_end}
 use Rattle.cfg_build.proofs.JoinedGraph.{heads_in, heads_at, heads_of_join, heads_of_part, row_graph, number_of_one}
 use Rattle.cfg_build.proofs.Counts.{bit, bit_true, bit_false, count-cons, leaves_from, tails_of_fan}
@@ -25,7 +25,7 @@ use Rattle.cfg_build.proofs.InDegrees.{same_first, none_between}
 use Rattle.cfg_build.proofs.PieceKinds.{IsExecKind, cases_kind, pieces_of, join_kind, part_kind}
 use Rattle.cfg_build.proofs.ReachedPieces.{apart, end_piece, end_not_joined}
 use Rattle.cfg_build.proofs.JoinedDegrees.{no_way_to_start, first_is_zero}
-use Rattle.cfg_build.proofs.Reached.{IsTold}
+use Rattle.cfg_build.proofs.ReachedNodes.{IsTold}
 
 pub out_degree_is : (ps : List Part) (finish y : ℕ) → out_degree (row_graph ps finish) y ≡ bit (finish == y) + length (heads_at ps y)
 out_degree_is ps finish y =

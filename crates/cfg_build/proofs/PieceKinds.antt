@@ -12,7 +12,7 @@ use Rattle.cfg_build.specs.Parts.{part, parts, parts_of, start_part, end_part}
 use Rattle.cfg_build.specs.Joined.{Row, is_joined, join_row, part_row, rows}
 use Rattle.cfg_build.specs.Flow.{piece_at}
 use Rattle.cfg_build.proofs.Members.{Member}
-use Rattle.cfg_build.proofs.Numbers.{part_at, first_piece, own_piece, row_of_join, row_of_part, own_below, first_below}
+use Rattle.cfg_build.proofs.PieceNumbers.{part_at, first_piece, own_piece, row_of_join, row_of_part, own_below, first_below}
 use Rattle.cfg_build.proofs.PartsFound.{IsExecPart, cases_part}
 
 -- a part of an executable acts or passes, and has one way on; or it branches

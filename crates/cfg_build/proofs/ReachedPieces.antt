@@ -19,9 +19,9 @@ use Rattle.cfg_build.specs.Joined.{is_end, is_joined, ways_to, number, rows, fin
 use Rattle.cfg_build.proofs.Members.{Member, Member-right, Member-map, Member-from_Contains, Member-at}
 use Rattle.cfg_build.proofs.PartOrder.{AreApart, parts_apart}
 use Rattle.cfg_build.proofs.PartsFound.{HasPart, IsExecPart, member_part, member_start, member_end, cases_part, test_part, way_leads, increment_has}
-use Rattle.cfg_build.proofs.Numbers.{part_at, first_piece, own_piece, joins, IsPieceOf, piece_of}
+use Rattle.cfg_build.proofs.PieceNumbers.{part_at, first_piece, own_piece, joins, IsPieceOf, piece_of}
 use Rattle.cfg_build.proofs.JoinedGraph.{row_graph, step, to_own, way_edge, join_edge, number_of_one, number_below, row_graph_sound}
-use Rattle.cfg_build.proofs.Reached.{IsTold, Reaches, IsEdge, stay, join, along_last, kept}
+use Rattle.cfg_build.proofs.ReachedNodes.{IsTold, Reaches, IsEdge, stay, join, along_last, kept}
 use Rattle.cfg_build.proofs.ControlGraph.{control_leads, exec_at, reached_of, is_reached_of, control_edge}
 
 -- ---- an executable by itself: what reaches its first part reaches its tests and its successors

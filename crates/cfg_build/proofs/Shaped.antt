@@ -16,7 +16,7 @@ use Rattle.cfg_build.specs.Degrees.{in_degree, out_degree}
 use Rattle.cfg_build.specs.Shape.{kind_at, takes_one, leaves_one, IsShaped}
 use Rattle.cfg_build.proofs.Fans.{places_before}
 use Rattle.cfg_build.proofs.Places.{begins_before}
-use Rattle.cfg_build.proofs.Reached.{IsTold, IsEdge}
+use Rattle.cfg_build.proofs.ReachedNodes.{IsTold, IsEdge}
 use Rattle.cfg_build.proofs.JoinedGraph.{row_graph, edge_zero, heads_in, heads_at, length_heads, IsRowEdge, row_edge}
 use Rattle.cfg_build.proofs.PieceKinds.{pieces_of, length_pieces}
 use Rattle.cfg_build.proofs.Counts.{bit, bit_false, count_unique, comes_to, leaves_from}

@@ -3,6 +3,7 @@ pub mod Parts
 pub mod Joined
 pub mod Holds
 pub mod Flow
+pub mod Tables
 pub mod Built
 pub mod Passes
 pub mod Chains

@@ -23,6 +23,18 @@ part own kind line k outs = record { own = own; piece = record { kind = kind; li
 abbrev pub ways_on : ExecKind → List Target
 ways_on kind = map First (successors kind)
 
+-- what the first part of an executable is
+abbrev pub first_kind : ExecKind → PieceKind
+first_kind (exec.Assign target value next) = piece.Act
+first_kind (exec.Print items next) = piece.Act
+first_kind (exec.Pass next) = piece.Pass
+first_kind (exec.Test cond if_true if_false) = piece.Branch
+first_kind (exec.Sign value neg zero pos) = piece.Branch
+first_kind (exec.Pick value targets other) = piece.Branch
+first_kind (exec.DoStart loop_no var first last step body exit) = piece.Act
+first_kind (exec.DoNext loop_no var body exit) = piece.Act
+first_kind exec.End = piece.End
+
 -- The beginning of a DO goes on to the test, and so does its increment; the test goes to the body or the exit. Any other
 -- executable is one part. END is a part of its own, behind all others.
 abbrev pub parts_of : List Exec → (k line : ℕ) → ExecKind → List Part

@@ -1,5 +1,13 @@
 //! The parts that the executables of a program have in its flow graph, each with where it leads.
 
+ghost use Rattle.std.specs.Prelude.{◌≡◌, ◌+◌, ◌<◌, ◌++◌, ◌∷◌, [], ℕ, false, length, map, IfOk, OnOk, slice_index, slice_index_or, slice_get, Option};
+ghost use Rattle.std.specs.Option.{option_map};
+ghost use Rattle.f77_tree.specs.Control.{successors};
+ghost use Rattle.f77_tree.specs.Loops.{begun, do_start, Loop};
+ghost use Rattle.f77_tree.specs.WellFormed.{IsWellFormed};
+ghost use Rattle.cfg_build.specs.Control.{is_reached};
+ghost use Rattle.cfg_build.specs.Parts.{part, parts, parts_in, ways_on, start_part, end_part, first_kind};
+
 use crate::pieces::{Piece, PieceKind};
 use crate::reached::successors;
 use df_sequence::{NoMemory, Sequence};
@@ -33,13 +41,18 @@ pub(crate) fn parts_of(
     alloc: Global,
     p: &Program,
     reached: &[bool],
-) -> Result<Vec<Part>, NoMemory> {
+) -> Result<Vec<Part>, NoMemory>
+    requires well_formed { IsWellFormed p.now }
+    requires count { length reached.now ≡ length p.now.execs }
+    requires reached { (k : ℕ) → k < length p.now.execs → slice_index_or reached.now k false ≡ is_reached p.now.execs k }
+    ensures { IfOk result (λ v. v.items ≡ parts p.now.execs) }
+{
     let starts = loop_starts(alloc, p)?;
     let mut parts = Vec::new(alloc);
     parts.push(start_part(alloc)?)?;
     for k in 0..p.execs.len() {
         if reached[k as usize] {
-            push_parts(alloc, &mut parts, k, p.execs.at(k), &starts)?;
+            push_parts(alloc, &mut parts, p, k, &starts)?;
         }
     }
     parts.push(end_part(alloc, p))?;
@@ -47,17 +60,33 @@ pub(crate) fn parts_of(
 }
 
 // For each DO the executable that begins it.
-fn loop_starts(alloc: Global, p: &Program) -> Result<Vec<u32>, NoMemory> {
+fn loop_starts(alloc: Global, p: &Program) -> Result<Vec<u32>, NoMemory>
+    requires { IsWellFormed p.now }
+    ensures count { IfOk result (λ starts. length starts.items ≡ p.now.loops) }
+    ensures starts { IfOk result (λ starts. (n : ℕ) → n < p.now.loops → slice_index starts.items n ≡ do_start p.now.execs n) }
+{
     let mut starts = vec![in alloc; 0; p.loops as usize]?;
     for k in 0..p.execs.len() {
-        if let ExecKind::DoStart { loop_no, .. } = &p.execs.at(k).kind {
-            starts[*loop_no as usize] = k;
+        if let Some(n) = loop_begun(&p.execs.at(k).kind) {
+            starts[n as usize] = k;
         }
     }
     Ok(starts)
 }
 
-fn start_part(alloc: Global) -> Result<Part, NoMemory> {
+// The number of the DO that an executable begins.
+fn loop_begun(kind: &ExecKind) -> Option<u32>
+    ensures { result ≡ option_map (λ (loop : Loop). loop.number) (begun kind.now) }
+{
+    match kind {
+        ExecKind::DoStart { loop_no, .. } => Some(*loop_no),
+        _ => None,
+    }
+}
+
+fn start_part(alloc: Global) -> Result<Part, NoMemory>
+    ensures { IfOk result (λ x. x ≡ start_part) }
+{
     let mut outs = Sequence::new(alloc);
     outs.push(Target::First(0))?;
     Ok(Part {
@@ -71,7 +100,10 @@ fn start_part(alloc: Global) -> Result<Part, NoMemory> {
     })
 }
 
-fn end_part(alloc: Global, p: &Program) -> Part {
+fn end_part(alloc: Global, p: &Program) -> Part
+    requires { 0 < length p.now.execs }
+    ensures { result ≡ end_part p.now.execs }
+{
     let last = p.execs.len() - 1;
     Part {
         own: Target::First(last),
@@ -88,21 +120,22 @@ fn end_part(alloc: Global, p: &Program) -> Part {
 fn push_parts(
     alloc: Global,
     parts: &mut Vec<Part>,
+    p: &Program,
     k: u32,
-    exec: &Exec,
     starts: &[u32],
-) -> Result<(), NoMemory> {
+) -> Result<(), NoMemory>
+    requires well_formed { IsWellFormed p.now }
+    requires exec { k < length p.now.execs }
+    requires count { length starts.now ≡ p.now.loops }
+    requires starts { (n : ℕ) → n < p.now.loops → slice_index starts.now n ≡ do_start p.now.execs n }
+    ensures { OnOk result (parts.new.items ≡ parts.old.items ++ parts_in p.now.execs k (slice_get p.now.execs k)) }
+{
+    let exec = p.execs.at(k);
     match &exec.kind {
         ExecKind::End => Ok(()),
         ExecKind::DoStart { .. } => {
-            push_part(
-                parts,
-                Target::First(k),
-                exec,
-                PieceKind::Act,
-                k,
-                to_test(alloc, k)?,
-            )?;
+            let outs = to_test(alloc, k)?;
+            push_part(parts, Target::First(k), exec, PieceKind::Act, k, outs)?;
             let outs = to_successors(alloc, &exec.kind)?;
             push_part(parts, Target::Test(k), exec, PieceKind::Branch, k, outs)
         }
@@ -112,7 +145,7 @@ fn push_parts(
         }
         kind => {
             let outs = to_successors(alloc, kind)?;
-            push_part(parts, Target::First(k), exec, kind_of(kind), k, outs)
+            push_part(parts, Target::First(k), exec, first_kind(kind), k, outs)
         }
     }
 }
@@ -124,7 +157,9 @@ fn push_part(
     kind: PieceKind,
     k: u32,
     outs: Sequence<Target>,
-) -> Result<(), NoMemory> {
+) -> Result<(), NoMemory>
+    ensures { OnOk result (parts.new.items ≡ parts.old.items ++ part own kind exec.now.line k outs ∷ []) }
+{
     let piece = Piece {
         kind,
         line: exec.line,
@@ -135,7 +170,9 @@ fn push_part(
 }
 
 // What the first part of an executable is.
-fn kind_of(kind: &ExecKind) -> PieceKind {
+fn first_kind(kind: &ExecKind) -> PieceKind
+    ensures { result ≡ first_kind kind.now }
+{
     match kind {
         ExecKind::Assign { .. } | ExecKind::Print { .. } => PieceKind::Act,
         ExecKind::Pass { .. } => PieceKind::Pass,
@@ -146,14 +183,19 @@ fn kind_of(kind: &ExecKind) -> PieceKind {
 }
 
 // The way to the test of a DO.
-fn to_test(alloc: Global, start: u32) -> Result<Sequence<Target>, NoMemory> {
+fn to_test(alloc: Global, start: u32) -> Result<Sequence<Target>, NoMemory>
+    ensures { IfOk result (λ outs. outs ≡ Target.Test start ∷ []) }
+{
     let mut outs = Sequence::new(alloc);
     outs.push(Target::Test(start))?;
     Ok(outs)
 }
 
 // The ways to the first parts of the successors.
-fn to_successors(alloc: Global, kind: &ExecKind) -> Result<Sequence<Target>, NoMemory> {
+fn to_successors(alloc: Global, kind: &ExecKind) -> Result<Sequence<Target>, NoMemory>
+    requires { length (successors kind.now) < 4294967295 }
+    ensures { IfOk result (λ outs. outs ≡ ways_on kind.now) }
+{
     let mut outs = Sequence::new(alloc);
     let heads = successors(alloc, kind)?;
     for head in heads.as_slice() {

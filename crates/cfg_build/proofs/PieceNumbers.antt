@@ -55,7 +55,7 @@ length_rows_of ps p = ⊎_elim
     (λ (h : is_joined ps p ≡ false). ap (λ (rs : List Row). length rs) (cond-false (is_joined ps p) (join_row ps p ∷ part_row ps p ∷ []) (part_row ps p ∷ []) h) ∙ sym (cond-false (is_joined ps p) 2 1 h))
     (cases_Bool (is_joined ps p))
 
-length_rows_on : (ps qs : List Part) → length (flat_map (rows_of ps) qs) ≡ sum_by (width ps) qs
+pub length_rows_on : (ps qs : List Part) → length (flat_map (rows_of ps) qs) ≡ sum_by (width ps) qs
 length_rows_on ps [] = refl
 length_rows_on ps (q ∷ qs) =
     let e1 : length (flat_map (rows_of ps) (q ∷ qs)) ≡ length (rows_of ps q) + length (flat_map (rows_of ps) qs) = length-append (rows_of ps q) (flat_map (rows_of ps) qs) in
