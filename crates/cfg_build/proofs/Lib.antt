@@ -4,6 +4,7 @@ pub mod BuildingRows
 pub mod BuildingTables
 pub mod ControlGraph
 pub mod Counts
+pub mod EndNumber
 pub mod Fans
 pub mod HeldEdges
 pub mod HoldDegrees

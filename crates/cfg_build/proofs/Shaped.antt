@@ -14,6 +14,7 @@ use Rattle.cfg_build.specs.Holds.{is_join}
 use Rattle.cfg_build.specs.Flow.{flow, held, piece_at}
 use Rattle.cfg_build.specs.Degrees.{in_degree, out_degree}
 use Rattle.cfg_build.specs.Shape.{kind_at, takes_one, leaves_one, IsShaped}
+use Rattle.cfg_build.proofs.EndNumber.{end_is_last}
 use Rattle.cfg_build.proofs.Fans.{places_before}
 use Rattle.cfg_build.proofs.Places.{begins_before}
 use Rattle.cfg_build.proofs.ReachedNodes.{IsTold, IsEdge}
@@ -64,6 +65,9 @@ module _ (told : IsTold) (met : IsMet) (names : List NameInfo) (execs : List Exe
 
   end_below : finish execs < length (rows (parts execs))
   end_below = finish_below told names execs loops well
+
+  behind : length (rows (parts execs)) ≡ finish execs + 1
+  behind = end_is_last execs well.end
 
   has_holds : HasHolds (joined execs) (finish execs) (flow execs)
   has_holds =
@@ -206,7 +210,7 @@ module _ (told : IsTold) (met : IsMet) (names : List NameInfo) (execs : List Exe
       (λ (l : g.nodes ≤ x). new l (has_holds.new_piece x l node))
       (cases_lt x g.nodes)
 
-  pub shaped : IsShaped (flow execs) (finish execs) (joined execs).graph.nodes
+  pub shaped : IsShaped (flow execs) (finish execs)
   shaped = record {
     count = has_holds.count;
     start = λ x node. (
@@ -217,10 +221,11 @@ module _ (told : IsTold) (met : IsMet) (names : List NameInfo) (execs : List Exe
       λ (is : kind_at (flow execs) x ≡ End). old_or_hold (x ≡ finish execs) x node (λ old. end_then x (class x old) (sym (kind_old x old) ∙ is)) (λ new hold. absurd cc),
       λ (is : x ≡ finish execs). old_or_hold (kind_at (flow execs) x ≡ End) x node (λ old. kind_old x old ∙ end_at x (class x old) is) (λ new hold. absurd (omega (arith, new, is, end_below))),
     );
-    holds = λ x node. (
-      λ (is : kind_at (flow execs) x ≡ Hold). old_or_hold ((joined execs).graph.nodes ≤ x) x node (λ old. absurd (no_hold x (class x old) (sym (kind_old x old) ∙ is))) (λ new hold. new),
-      λ (new : (joined execs).graph.nodes ≤ x). has_holds.new_piece x new node,
-    );
+    holds = λ x node.
+        (λ (is : kind_at (flow execs) x ≡ Hold). old_or_hold (finish execs < x) x node
+        (λ old. absurd (no_hold x (class x old) (sym (kind_old x old) ∙ is)))
+        (λ new hold. omega (arith, new, behind)),
+         λ (new : finish execs < x). has_holds.new_piece x (omega (arith, new, behind)) node);
     end_exists = let more : g.nodes ≤ (flow execs).graph.nodes = has_holds.nodes in omega (arith, more, end_below);
     two_edges = two_flow;
     leaves_end = λ e edge. (

@@ -1,5 +1,5 @@
 -- The shape of a flow graph: which edges stand where, and how many come to each piece and leave it.
-use Rattle.std.specs.Prelude.{◌≡◌, ℕ, ◌<◌, ◌≤◌, ◌↔◌, Bool, true, false, length}
+use Rattle.std.specs.Prelude.{◌≡◌, ℕ, ◌<◌, ◌↔◌, Bool, true, false, length}
 use Rattle.closed_walks.specs.Graph.{edge_count, from, to}
 use Rattle.cfg_build.specs.declared.pieces.PieceKind.{PieceKind}
 use Rattle.cfg_build.specs.declared.pieces.PieceKind.TheVariants.{Start, Branch, Join, Hold, End}
@@ -23,12 +23,12 @@ leaves_one Branch = false
 leaves_one Hold = false
 leaves_one _ = true
 
--- A piece stands at each node: the start at node 0, the end at `finish`, and holds from `first_hold` on.
-pub record IsShaped (f : FlowGraph) (finish first_hold : ℕ) : Type 0 where
+-- A piece stands at each node: the start at node 0, the end at `finish`, and holds behind the end.
+pub record IsShaped (f : FlowGraph) (finish : ℕ) : Type 0 where
   pub count : length f.pieces ≡ f.graph.nodes
   pub start : (node : ℕ) → node < f.graph.nodes → (kind_at f node ≡ Start) ↔ (node ≡ 0)
   pub end : (node : ℕ) → node < f.graph.nodes → (kind_at f node ≡ End) ↔ (node ≡ finish)
-  pub holds : (node : ℕ) → node < f.graph.nodes → (kind_at f node ≡ Hold) ↔ (first_hold ≤ node)
+  pub holds : (node : ℕ) → node < f.graph.nodes → (kind_at f node ≡ Hold) ↔ (finish < node)
   pub end_exists : finish < f.graph.nodes
   -- edge 0 alone leaves the end, and edge 0 alone comes to the start; edge 1 alone leaves the start
   pub two_edges : 1 < edge_count f.graph

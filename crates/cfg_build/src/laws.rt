@@ -5,7 +5,7 @@ ghost use Rattle.closed_walks.specs.Region.{IsFlowGraph};
 ghost use Rattle.f77_tree.specs.declared.programs.Exec.{Exec};
 ghost use Rattle.f77_tree.specs.declared.programs.NameInfo.{NameInfo};
 ghost use Rattle.f77_tree.specs.WellFormed.{AreExecs};
-ghost use Rattle.cfg_build.specs.Joined.{joined, finish};
+ghost use Rattle.cfg_build.specs.Joined.{finish};
 ghost use Rattle.cfg_build.specs.Flow.{flow};
 ghost use Rattle.cfg_build.specs.Shape.{IsShaped};
 
@@ -21,7 +21,7 @@ pub fn flow_graph_is_strong()
 
 /// What stands where in the flow graph of a well-formed program, and how many edges come to each piece and leave it.
 pub fn flow_graph_has_shape()
-    ensures { (names : List NameInfo) (execs : List Exec) (loops : ℕ) → AreExecs names execs loops → IsShaped (flow execs) (finish execs) (joined execs).graph.nodes }
+    ensures { (names : List NameInfo) (execs : List Exec) (loops : ℕ) → AreExecs names execs loops → IsShaped (flow execs) (finish execs) }
 {
     reaching_is_told();
     endless_ways_meet_cycles();
