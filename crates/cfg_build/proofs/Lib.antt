@@ -1,3 +1,4 @@
+pub mod AfterHolds
 pub mod BuildingControl
 pub mod BuildingParts
 pub mod BuildingRows

@@ -6,7 +6,7 @@ use Rattle.closed_walks.specs.Graph.{Graph, IsGraph, edge_count, from, to}
 use Rattle.closed_walks.specs.Endless.{GoesOn, MeetsCycle}
 use Rattle.closed_walks.specs.Reaching.{reaches}
 use Rattle.cfg_build.specs.Holds.{is_on_cycle, reaches_lower_cycle, is_held}
-use Rattle.cfg_build.proofs.Members.{IsAt, at_of, Member-at, Member-in_range, list_any_member, IsPassed, member_of_list_any}
+use Rattle.cfg_build.proofs.Members.{IsAt, at_of, Member-at, Member-range, Member-in_range, list_any_member, IsPassed, member_of_list_any}
 use Rattle.cfg_build.proofs.ReachedNodes.{IsTold, Reaches, join, kept}
 
 -- what the law on ways that go on says
@@ -73,15 +73,22 @@ module _ (told : IsTold) (g : Graph) (sound : IsGraph g) where
   module _ (finish : ℕ) where
     -- what it says of a piece that it gets a hold
     pub record IsHeldBy (x : ℕ) : Type 0 where
+      pub on_cycle : is_on_cycle g x ≡ true
       pub cycle : IsOnCycle x
       pub stuck : Reaches g x finish → ⊥
+      pub lowest : (low : ℕ) → low < x → is_on_cycle g low ≡ true → Reaches g x low → ⊥
 
     pub held_says : (x : ℕ) → x < g.nodes → is_held g finish x ≡ true → IsHeldBy x
     held_says x node h =
         let outer = and_parts (is_on_cycle g x && not (reaches g x finish)) (not (reaches_lower_cycle g x)) h in
         let inner = and_parts (is_on_cycle g x) (not (reaches g x finish)) outer.0 in
         record {
+          on_cycle = inner.0;
           cycle = cycle_of x node inner.0;
+          lowest = λ low less cycle r. false≢true
+              (sym (not-true (reaches_lower_cycle g x) outer.1)
+              ∙ list_any_member (λ lower. is_on_cycle g lower && reaches g x lower) (range_with_len 0 x) low (Member-range 0 x low (omega arith) (omega (arith, less)))
+              (and_from (is_on_cycle g low) (reaches g x low) cycle ((told g x low sound node).1 r)));
           stuck = λ r. false≢true (sym (not-true (reaches g x finish) inner.1) ∙ (told g x finish sound node).1 r);
         }
 
