@@ -7,6 +7,7 @@ pub mod ControlGraph
 pub mod Counts
 pub mod EndNumber
 pub mod Fans
+pub mod FlowEdges
 pub mod HeldEdges
 pub mod HoldDegrees
 pub mod HoldSteps

@@ -16,7 +16,7 @@ use Rattle.cfg_build.proofs.Members.{Member, Member-in_range}
 
 -- ---- filters of numbers in a row
 
-range_split : (a n k : ℕ) → range_with_len a (n + k) ≡ range_with_len a n ++ range_with_len (a + n) k
+pub range_split : (a n k : ℕ) → range_with_len a (n + k) ≡ range_with_len a n ++ range_with_len (a + n) k
 range_split a zero k =
     let left : 0 + k ≡ k = omega arith in
     let right : a ≡ a + 0 = omega arith in

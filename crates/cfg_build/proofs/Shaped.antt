@@ -221,11 +221,12 @@ module _ (told : IsTold) (met : IsMet) (names : List NameInfo) (execs : List Exe
       λ (is : kind_at (flow execs) x ≡ End). old_or_hold (x ≡ finish execs) x node (λ old. end_then x (class x old) (sym (kind_old x old) ∙ is)) (λ new hold. absurd cc),
       λ (is : x ≡ finish execs). old_or_hold (kind_at (flow execs) x ≡ End) x node (λ old. kind_old x old ∙ end_at x (class x old) is) (λ new hold. absurd (omega (arith, new, is, end_below))),
     );
-    holds = λ x node.
-        (λ (is : kind_at (flow execs) x ≡ Hold). old_or_hold (finish execs < x) x node
-        (λ old. absurd (no_hold x (class x old) (sym (kind_old x old) ∙ is)))
-        (λ new hold. omega (arith, new, behind)),
-         λ (new : finish execs < x). has_holds.new_piece x (omega (arith, new, behind)) node);
+    holds = λ x node. (
+      λ (is : kind_at (flow execs) x ≡ Hold). old_or_hold (finish execs < x) x node
+          (λ old. absurd (no_hold x (class x old) (sym (kind_old x old) ∙ is)))
+          (λ new hold. omega (arith, new, behind)),
+      λ (new : finish execs < x). has_holds.new_piece x (omega (arith, new, behind)) node,
+    );
     end_exists = let more : g.nodes ≤ (flow execs).graph.nodes = has_holds.nodes in omega (arith, more, end_below);
     two_edges = two_flow;
     leaves_end = λ e edge. (
