@@ -5,6 +5,7 @@ pub mod Cycles
 pub mod Decided
 pub mod Degrees
 pub mod Digraphs
+pub mod Endless
 pub mod Nesting
 pub mod Orders
 pub mod Ranks

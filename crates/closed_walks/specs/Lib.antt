@@ -1,6 +1,7 @@
 pub mod Cycle
 pub mod Digraph
 pub mod EdgeEnd
+pub mod Endless
 pub mod Graph
 pub mod Numbering
 pub mod Reaching

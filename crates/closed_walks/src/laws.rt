@@ -4,6 +4,7 @@ ghost use Rattle.std.specs.Prelude.{◌≡◌, ◌≢◌, ◌<◌, ◌↔◌, �
 ghost use Rattle.closed_walks.specs.Graph.{Graph, IsGraph, edge_count, touches, edges_at};
 ghost use Rattle.closed_walks.specs.Walk.{IsClosed, Holds, IsOnlyOnWalksWith, Reach, no_edge, IsStrong, IsCycleEquivalent, IsCut};
 ghost use Rattle.closed_walks.specs.Cycle.{AreOnSameCycles};
+ghost use Rattle.closed_walks.specs.Endless.{GoesOn, MeetsCycle};
 ghost use Rattle.closed_walks.specs.Reaching.{reaches};
 
 /// Every closed walk that holds the one edge holds the other exactly where the one lies on no closed walk of the graph
@@ -33,4 +34,9 @@ pub fn reaching_is_told()
 pub fn edges_of_nodes()
     ensures touch { (g : Graph) (node e : ℕ) → Holds (edges_at g node) e ↔ ((e < edge_count g) × (touches g node e ≡ true)) }
     ensures rise { (g : Graph) (node i j : ℕ) → i < j → j < length (edges_at g node) → slice_index (edges_at g node) i < slice_index (edges_at g node) j }
+{}
+
+/// Where an edge leaves each node that is reached from a node, some node on a cycle is reached from it.
+pub fn endless_ways_meet_cycles()
+    ensures { (g : Graph) (u : ℕ) → IsGraph g → u < g.nodes → GoesOn g u → MeetsCycle g u }
 {}

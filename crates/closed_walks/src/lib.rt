@@ -11,7 +11,8 @@ mod strong;
 
 pub use digraph::{Digraph, EdgeEnd};
 pub use laws::{
-    cuts_are_classes, cycles_are_classes, edges_of_nodes, reaching_is_told, walks_without,
+    cuts_are_classes, cycles_are_classes, edges_of_nodes, endless_ways_meet_cycles,
+    reaching_is_told, walks_without,
 };
 pub use region_laws::{
     class_order, edge_ranks, passed_nodes, region_edges, regions_are_passed, regions_nest,

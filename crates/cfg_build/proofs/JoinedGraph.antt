@@ -1,0 +1,200 @@
+-- The graph of rows: its edges are the heads of each row, and edge 0.
+use Rattle.std.proofs.Common.{◌≡◌, ℕ, zero, suc, ◌+◌, ◌<◌, true, false, List, [], ◌∷◌, length, get_or, map, refl, sym, ap, ◌∙◌, subst, inl, ⊎_elim, zero-add, arith}
+use Rattle.std.proofs.lemmas.Bool.{cases_Bool, cond-true, cond-false}
+use Rattle.closed_walks.specs.Graph.{Graph, IsGraph, edge_count, from, to}
+use Rattle.cfg_build.specs.declared.parts.Part.{Part}
+use Rattle.cfg_build.specs.declared.parts.Target.{Target}
+use Rattle.cfg_build.specs.Control.{fan}
+use Rattle.cfg_build.specs.Parts.{start_part}
+use Rattle.cfg_build.specs.Joined.{Row, is_joined, number, join_row, part_row, rows}
+use Rattle.cfg_build.proofs.Fans.{places_before, get_or-fan, fan_below, IsInFan, cases_fan}
+use Rattle.cfg_build.proofs.Members.{Member, IsAt, at_of, Member-at, Member-map, IsImage, Member-mapped}
+use Rattle.cfg_build.proofs.PieceNumbers.{part_at, first_piece, own_piece, joins, number_is, row_of_join, row_of_part, own_below, first_below, IsPieceOf, piece_of}
+use Rattle.cfg_build.proofs.PartOrder.{AreApart}
+use Rattle.cfg_build.proofs.PartsFound.{HasPart}
+use Rattle.cfg_build.proofs.ReachedNodes.{IsEdge, Reaches, stay, along, along_last, join}
+
+abbrev pub heads_in : List Part → List (List ℕ)
+heads_in ps = map (λ row. row.heads) (rows ps)
+
+-- the graph of the rows of these parts
+abbrev pub row_graph : List Part → (finish : ℕ) → Graph
+row_graph ps finish = record { nodes = length (rows ps); edges = (finish, 0) ∷ fan 0 (heads_in ps) }
+
+-- where the edges of a piece lead
+abbrev pub heads_at : List Part → ℕ → List ℕ
+heads_at ps piece = get_or (heads_in ps) piece []
+
+length_heads_of : (rs : List Row) → length (map (λ (row : Row). row.heads) rs) ≡ length rs
+length_heads_of [] = refl
+length_heads_of (r ∷ rs) = ap suc (length_heads_of rs)
+
+pub length_heads : (ps : List Part) → length (heads_in ps) ≡ length (rows ps)
+length_heads ps = length_heads_of (rows ps)
+
+heads_of_row : (rs : List Row) (k : ℕ) (r : Row) → k < length rs → ((d : Row) → get_or rs k d ≡ r) → get_or (map (λ (row : Row). row.heads) rs) k [] ≡ r.heads
+heads_of_row [] k r some is = absurd (omega (arith, some))
+heads_of_row (q ∷ rs) zero r some is = ap (λ (x : Row). x.heads) (is r)
+heads_of_row (q ∷ rs) (suc k) r some is = heads_of_row rs k r (omega (arith, some)) is
+
+pub heads_of_join : (ps : List Part) (j : ℕ) → j < length ps → is_joined ps (part_at ps j) ≡ true → heads_at ps (first_piece ps j) ≡ (number ps (part_at ps j).own + 1) ∷ []
+heads_of_join ps j some joined = heads_of_row (rows ps) (first_piece ps j) (join_row ps (part_at ps j)) (first_below ps j some) (λ d. row_of_join ps j d some joined)
+
+pub heads_of_part : (ps : List Part) (j : ℕ) → j < length ps → heads_at ps (own_piece ps j) ≡ map (number ps) (part_at ps j).outs
+heads_of_part ps j some = heads_of_row (rows ps) (own_piece ps j) (part_row ps (part_at ps j)) (own_below ps j some) (λ d. row_of_part ps j d some)
+
+-- an edge but edge 0 leads from a piece to one of its heads
+pub record IsRowEdge (ps : List Part) (finish e : ℕ) : Type 0 where
+  pub piece : ℕ
+  pub nth : ℕ
+  pub exists : piece < length (rows ps)
+  pub within : nth < length (heads_at ps piece)
+  pub at : e ≡ suc (places_before (heads_in ps) piece + nth)
+  pub begins : from (row_graph ps finish) e ≡ piece
+  pub ends : to (row_graph ps finish) e ≡ get_or (heads_at ps piece) nth 0
+
+module _ (ps : List Part) (finish : ℕ) where
+  pub row_edge : (e : ℕ) → suc e < edge_count (row_graph ps finish) → IsRowEdge ps finish (suc e)
+  unfolding from to
+  row_edge e edge =
+      let lists : List (List ℕ) = heads_in ps in
+      let r : IsInFan lists e = cases_fan 0 lists e (omega (arith, edge)) in
+      let same : length lists ≡ length (rows ps) = length_heads ps in
+      let is : get_or (fan 0 lists) e (0, 0) ≡ (r.list, get_or (get_or lists r.list []) r.nth 0) =
+      ap (λ n. get_or (fan 0 lists) n (0, 0)) r.at ∙ get_or-fan 0 lists r.list r.nth r.exists r.edge ∙ ap (λ n. (n, get_or (get_or lists r.list []) r.nth 0)) (zero-add r.list) in
+      record {
+        piece = r.list;
+        nth = r.nth;
+        exists = omega (arith, r.exists, same);
+        within = r.edge;
+        at = ap suc r.at;
+        begins = ap (λ (p : ℕ × ℕ). p.0) is;
+        ends = ap (λ (p : ℕ × ℕ). p.1) is;
+      }
+
+  -- the edge number `nth` of a piece
+  pub edge_to : (piece nth : ℕ) → piece < length (rows ps) → nth < length (heads_at ps piece) → IsEdge (row_graph ps finish) piece (get_or (heads_at ps piece) nth 0)
+  unfolding from to
+  edge_to piece nth some within =
+      let lists : List (List ℕ) = heads_in ps in
+      let same : length lists ≡ length (rows ps) = length_heads ps in
+      let exists : piece < length lists = omega (arith, some, same) in
+      let is : get_or (fan 0 lists) (places_before lists piece + nth) (0, 0) ≡ (0 + piece, get_or (get_or lists piece []) nth 0) = get_or-fan 0 lists piece nth exists within in
+      let below : places_before lists piece + nth < length (fan 0 lists) = fan_below 0 lists piece nth exists within in
+      record {
+        number = suc (places_before lists piece + nth);
+        exists = omega (arith, below);
+        begins = ap (λ (p : ℕ × ℕ). p.0) is ∙ zero-add piece;
+        ends = ap (λ (p : ℕ × ℕ). p.1) is;
+      }
+
+  pub edge_zero : (from (row_graph ps finish) 0 ≡ finish) × (to (row_graph ps finish) 0 ≡ 0)
+  unfolding from to
+  edge_zero = (refl, refl)
+
+  pub edge_to_head : (piece head : ℕ) (heads : List ℕ) → piece < length (rows ps) → heads_at ps piece ≡ heads → Member heads head → IsEdge (row_graph ps finish) piece head
+  edge_to_head piece head heads some same m =
+      let r : IsAt heads head = at_of heads head m in
+      let within : r.place < length (heads_at ps piece) = subst (λ (xs : List ℕ). r.place < length xs) (sym same) r.exists in
+      let is : get_or (heads_at ps piece) r.place 0 ≡ head = ap (λ xs. get_or xs r.place 0) same ∙ r.is 0 in
+      subst (λ x. IsEdge (row_graph ps finish) piece x) is (edge_to piece r.place some within)
+
+-- ---- parts and their ways
+
+-- a part of these stands at this place
+pub record IsPartAt (ps : List Part) (t : Target) : Type 0 where
+  pub place : ℕ
+  pub exists : place < length ps
+  pub own : (part_at ps place).own ≡ t
+
+pub place_of_part : (ps : List Part) (t : Target) → HasPart ps t → IsPartAt ps t
+place_of_part ps t h =
+    let r : IsAt ps h.one = at_of ps h.one h.among in
+    record { place = r.place; exists = r.exists; own = ap (λ (p : Part). p.own) (r.is start_part) ∙ h.own }
+
+module _ (ps : List Part) (finish : ℕ) (apart : AreApart ps) where
+  pub number_of : (j : ℕ) (t : Target) → j < length ps → (part_at ps j).own ≡ t → number ps t ≡ first_piece ps j
+  number_of j t some own = ap (number ps) (sym own) ∙ number_is ps j apart some
+
+  -- a target that has a part has a number
+  pub number_below : (t : Target) → HasPart ps t → number ps t < length (rows ps)
+  number_below t h =
+      let r : IsPartAt ps t = place_of_part ps t h in
+      let below : first_piece ps r.place < length (rows ps) = first_below ps r.place r.exists in
+      let is : number ps t ≡ first_piece ps r.place = number_of r.place t r.exists r.own in
+      omega (arith, below, is)
+
+  pub number_of_one : (j : ℕ) (p : Part) → j < length ps → part_at ps j ≡ p → number ps p.own ≡ first_piece ps j
+  number_of_one j p some is = number_of j p.own some (ap (λ (q : Part). q.own) is)
+
+  -- a way leads from the part's own piece to the number of its target
+  pub way_edge : (j : ℕ) (p : Part) (t : Target) → j < length ps → part_at ps j ≡ p → Member p.outs t → IsEdge (row_graph ps finish) (own_piece ps j) (number ps t)
+  way_edge j p t some is m =
+      edge_to_head ps finish (own_piece ps j) (number ps t) (map (number ps) p.outs) (own_below ps j some)
+      (heads_of_part ps j some ∙ ap (λ (q : Part). map (number ps) q.outs) is)
+      (Member-map (number ps) p.outs t m)
+
+  -- the join's edge leads to the part
+  pub join_edge : (j : ℕ) → j < length ps → is_joined ps (part_at ps j) ≡ true → IsEdge (row_graph ps finish) (first_piece ps j) (own_piece ps j)
+  join_edge j some joined =
+      let next : number ps (part_at ps j).own ≡ first_piece ps j = number_is ps j apart some in
+      let one : joins ps (part_at ps j) ≡ 1 = cond-true (is_joined ps (part_at ps j)) 1 0 joined in
+      edge_to_head ps finish (first_piece ps j) (own_piece ps j) ((number ps (part_at ps j).own + 1) ∷ []) (first_below ps j some)
+      (heads_of_join ps j some joined)
+      (inl (omega (arith, next, one)))
+
+  pub to_own : (j : ℕ) → j < length ps → Reaches (row_graph ps finish) (first_piece ps j) (own_piece ps j)
+  to_own j some = ⊎_elim
+      (λ (h : is_joined ps (part_at ps j) ≡ true). along (row_graph ps finish) (first_piece ps j) (own_piece ps j) (join_edge j some h))
+      (λ (h : is_joined ps (part_at ps j) ≡ false).
+      let none : joins ps (part_at ps j) ≡ 0 = cond-false (is_joined ps (part_at ps j)) 1 0 h in
+      stay (row_graph ps finish) (first_piece ps j) (own_piece ps j) (omega (arith, none)))
+      (cases_Bool (is_joined ps (part_at ps j)))
+
+  -- what is reached goes on along a way
+  pub step : (u : ℕ) (p : Part) (t : Target) → Member ps p → Member p.outs t → Reaches (row_graph ps finish) u (number ps p.own) → Reaches (row_graph ps finish) u (number ps t)
+  step u p t among m r =
+      let g : Graph = row_graph ps finish in
+      let at : IsAt ps p = at_of ps p among in
+      let is : number ps p.own ≡ first_piece ps at.place = number_of_one at.place p at.exists (at.is start_part) in
+      let first : Reaches g u (first_piece ps at.place) = subst (λ n. Reaches g u n) is r in
+      along_last g u (own_piece ps at.place) (number ps t)
+      (join g u (first_piece ps at.place) (own_piece ps at.place) first (to_own at.place at.exists))
+      (way_edge at.place p t at.exists (at.is start_part) m)
+
+  module _ (leads : (p : Part) (t : Target) → Member ps p → Member p.outs t → HasPart ps t) (end_below : finish < length (rows ps)) (some : 0 < length (rows ps)) where
+    head_below : (piece nth : ℕ) → piece < length (rows ps) → nth < length (heads_at ps piece) → get_or (heads_at ps piece) nth 0 < length (rows ps)
+    head_below piece nth exists within =
+        let r : IsPieceOf ps piece = piece_of ps piece exists in
+        let p : Part = part_at ps r.part in
+        let among : Member (heads_at ps piece) (get_or (heads_at ps piece) nth 0) = Member-at (heads_at ps piece) nth 0 within in
+        ⊎_elim
+        (λ (own : piece ≡ own_piece ps r.part).
+        let same : heads_at ps piece ≡ map (number ps) p.outs = ap (λ n. heads_at ps n) own ∙ heads_of_part ps r.part r.exists in
+        let i : IsImage (number ps) p.outs (get_or (heads_at ps piece) nth 0) = Member-mapped (number ps) p.outs (get_or (heads_at ps piece) nth 0) (subst (λ xs. Member xs (get_or (heads_at ps piece) nth 0)) same among) in
+        subst (λ n. n < length (rows ps)) i.is (number_below i.origin (leads p i.origin (Member-at ps r.part start_part r.exists) i.among)))
+        (λ (j : (is_joined ps p ≡ true) × (piece ≡ first_piece ps r.part)).
+        let same : heads_at ps piece ≡ (number ps p.own + 1) ∷ [] = ap (λ n. heads_at ps n) j.1 ∙ heads_of_join ps r.part r.exists j.0 in
+        let one : joins ps p ≡ 1 = cond-true (is_joined ps p) 1 0 j.0 in
+        let next : number ps p.own ≡ first_piece ps r.part = number_is ps r.part apart r.exists in
+        let below : own_piece ps r.part < length (rows ps) = own_below ps r.part r.exists in
+        ⊎_elim
+        (λ (is : number ps p.own + 1 ≡ get_or (heads_at ps piece) nth 0). omega (arith, is, one, next, below))
+        (λ none. absurd none)
+        (subst (λ xs. Member xs (get_or (heads_at ps piece) nth 0)) same among))
+        r.which
+
+    begins_below : (e : ℕ) → e < edge_count (row_graph ps finish) → from (row_graph ps finish) e < length (rows ps)
+    begins_below zero edge = subst (λ n. n < length (rows ps)) (sym (edge_zero ps finish).0) end_below
+    begins_below (suc e) edge =
+        let r : IsRowEdge ps finish (suc e) = row_edge ps finish e edge in
+        subst (λ n. n < length (rows ps)) (sym r.begins) r.exists
+
+    ends_below : (e : ℕ) → e < edge_count (row_graph ps finish) → to (row_graph ps finish) e < length (rows ps)
+    ends_below zero edge = subst (λ n. n < length (rows ps)) (sym (edge_zero ps finish).1) some
+    ends_below (suc e) edge =
+        let r : IsRowEdge ps finish (suc e) = row_edge ps finish e edge in
+        subst (λ n. n < length (rows ps)) (sym r.ends) (head_below r.piece r.nth r.exists r.within)
+
+    pub row_graph_sound : IsGraph (row_graph ps finish)
+    row_graph_sound = record { begins = begins_below; ends = ends_below }

@@ -1,0 +1,11 @@
+pub mod Control
+pub mod Parts
+pub mod Joined
+pub mod Holds
+pub mod Flow
+pub mod Tables
+pub mod Built
+pub mod Passes
+pub mod Chains
+pub mod Degrees
+pub mod Shape

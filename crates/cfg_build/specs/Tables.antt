@@ -1,0 +1,64 @@
+-- What is kept of each target while a program is drawn.
+use Rattle.std.specs.Prelude.{◌≡◌, ℕ, ◌+◌, ◌<◌, ◌≤◌, Bool, true, false, ◌&&◌, nat_lt, if◌then◌else◌, List, [], ◌∷◌, length, sum_by, slice_index, slice_index_or}
+use Rattle.cfg_build.specs.declared.numbers.ByTarget.{ByTarget}
+use Rattle.cfg_build.specs.declared.parts.Part.{Part}
+use Rattle.cfg_build.specs.declared.parts.Target.{Target}
+use Rattle.cfg_build.specs.declared.parts.Target.TheVariants.{Start, First, Test}
+use Rattle.cfg_build.specs.declared.pieces.PieceKind.TheVariants.{Join}
+use Rattle.cfg_build.specs.Parts.{start_part}
+use Rattle.cfg_build.specs.Joined.{Row, is_same, is_end}
+
+-- the number of a target; the start has 0
+abbrev pub number_in : ByTarget → Target → ℕ
+number_in table Start = 0
+number_in table (First k) = slice_index table.firsts.items k
+number_in table (Test k) = slice_index table.tests.items k
+
+-- the table has a number for the target
+abbrev pub IsIn : ByTarget → Target → Type 0
+IsIn table Start = Unit {0}
+IsIn table (First k) = k < length table.firsts.items
+IsIn table (Test k) = k < length table.tests.items
+
+-- for how many executables the table has numbers
+abbrev pub room : ByTarget → ℕ
+room table = length table.firsts.items
+
+-- the table has numbers for the targets of so many executables
+pub record HasRoom (execs : ℕ) (table : ByTarget) : Type 0 where
+  pub firsts : length table.firsts.items ≡ execs
+  pub tests : length table.tests.items ≡ execs
+
+-- a target of one of so many executables, or the start
+abbrev pub IsOf : (execs : ℕ) → Target → Type 0
+IsOf execs Start = Unit {0}
+IsOf execs (First k) = k < execs
+IsOf execs (Test k) = k < execs
+
+-- a part has the target, which isn't the start
+pub record IsLedTo (parts : List Part) (target : Target) : Type 0 where
+  pub place : ℕ
+  pub exists : place < length parts
+  pub own : (slice_index_or parts place start_part).own ≡ target
+  pub other : is_same Start target ≡ false
+
+-- A list of parts that can be drawn: the start comes first, no two have the same target, and each leads to parts of the list.
+pub record AreParts (execs : ℕ) (parts : List Part) : Type 0 where
+  pub some : 0 < length parts
+  pub start : (slice_index_or parts 0 start_part).own ≡ Start
+  pub apart : (i j : ℕ) → i < j → j < length parts → is_same (slice_index_or parts j start_part).own (slice_index_or parts i start_part).own ≡ false
+  pub owns : (j : ℕ) → j < length parts → IsOf execs (slice_index_or parts j start_part).own
+  pub leads : (j i : ℕ) → j < length parts → i < length (slice_index_or parts j start_part).outs → IsLedTo parts (slice_index_or (slice_index_or parts j start_part).outs i Start)
+  pub few_parts : length parts ≤ 40002
+  pub few_ways : sum_by (λ part. length part.outs) parts ≤ 64001
+
+-- a join stands before the part, to which so many ways lead
+abbrev pub is_joined_by : (ways : ℕ) → Part → Bool
+is_joined_by ways part = nat_lt 1 ways && (if is_end part.piece.kind then false else true)
+
+-- the rows of a part, of which the first has this number
+abbrev pub rows_from : (first : ℕ) → (joined : Bool) → Part → (heads : List ℕ) → List Row
+rows_from first joined part heads =
+    let own : Row = record { piece = part.piece; heads = heads } in
+    let join : Row = record { piece = record { kind = Join; line = part.piece.line; exec = part.piece.exec }; heads = (first + 1) ∷ [] } in
+    if joined then join ∷ own ∷ [] else own ∷ []

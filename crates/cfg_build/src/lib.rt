@@ -1,0 +1,16 @@
+//! The flow graph of a program: what its executables do, in pieces, with joins where control comes together, and holds where
+//! it can't come to the end.
+#![tactic(auto)]
+
+mod flow;
+mod holds;
+mod laws;
+mod numbers;
+mod parts;
+mod pieces;
+mod reached;
+mod rows;
+
+pub use flow::{Flow, flow_of};
+pub use laws::{flow_graph_has_shape, flow_graph_is_strong};
+pub use pieces::{Piece, PieceKind};
