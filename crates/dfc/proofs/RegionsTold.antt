@@ -1,7 +1,8 @@
 -- The text of regions, part after part, and what it means.
 use Rattle.std.proofs.Common.{◌≡◌, ℕ, ◌<◌, List, [], ◌++◌, Option, refl, sym, ap, subst, ◌∙◌, length}
-use Rattle.closed_walks.specs.Graph.{edge_count}
+use Rattle.closed_walks.specs.Graph.{Graph, edge_count}
 use Rattle.closed_walks.specs.Numbering.{fresh, IsNumbering}
+use Rattle.closed_walks.specs.Region.{IsFlowGraph}
 use Rattle.cfg_build.specs.Joined.{FlowGraph}
 use Rattle.cfg_build.specs.Flow.{flow}
 use Rattle.df_io.specs.TextBuffer.{IsWrittenBut}
@@ -9,12 +10,12 @@ use Rattle.df_io.specs.Write.{AppendsFront}
 use Rattle.df_io.proofs.Fronts.{AppendsFront-longer}
 use Rattle.df_io.proofs.LongTexts.{fault_at_piece}
 use Rattle.f77_tree.specs.declared.programs.Program.{Program}
-use Rattle.region_tree.specs.Tree.{IsRegionTree, region_count}
+use Rattle.region_tree.specs.Tree.{Tree, IsRegionTree, region_count}
 use Rattle.dfc.specs.declared.regions.Found.{Found}
 use Rattle.dfc.specs.declared.words.Task.TheVariants.{Regions}
-use Rattle.dfc.specs.Due.{Due, IsDueOn}
+use Rattle.dfc.specs.Due.{Due, IsDueOn, done}
 use Rattle.dfc.specs.Found.{IsFoundOf, text_of}
-use Rattle.dfc.specs.Headline.{MeansOn}
+use Rattle.dfc.specs.Headline.{Means, MeansOn}
 use Rattle.dfc.specs.Regions.{counts_line, piece_lines, edge_lines, region_lines, regions_text, TellsRegions}
 
 -- the first part, behind an empty buffer
@@ -52,9 +53,24 @@ found_tells p found is = record {
   is = ap (λ (f : FlowGraph). regions_text f found.classes.items found.tree) is.flow;
 }
 
+-- there is one numbering of the classes of a graph, and one tree of its regions
+abbrev pub OneNumbering : Type 0
+OneNumbering = (g : Graph) (classes others : List ℕ) → IsNumbering g classes → IsNumbering g others → classes ≡ others
+
+abbrev pub OneTree : Type 0
+OneTree = (g : Graph) (t u : Tree) → IsFlowGraph g → IsRegionTree g t → IsRegionTree g u → t ≡ u
+
+-- two texts that tell the regions of a program are the same
+one_text : (p : Program) (a b : List ℕ) → OneNumbering → OneTree → IsFlowGraph (flow p.execs).graph → TellsRegions p a → TellsRegions p b → a ≡ b
+one_text p a b one_numbering one_tree strong first second =
+    let f = flow p.execs in
+    let classes = one_numbering f.graph first.classes second.classes first.numbering second.numbering in
+    let tree = one_tree f.graph first.tree second.tree strong first.regions second.regions in
+    first.is ∙ ap (λ (xs : List ℕ). regions_text f xs first.tree) classes ∙ ap (regions_text f second.classes) tree ∙ sym second.is
+
 -- what is due tells each edge once, with its class
-pub regions_mean : (p : Program) → MeansOn Regions p
-regions_mean p due is =
+regions_told : (p : Program) (due : Due) → IsDueOn Regions p due → Means Regions p due
+regions_told p due is =
     let f = flow p.execs in
     record {
       done = ap (λ (d : Due). d.status) is.done;
@@ -63,4 +79,12 @@ regions_mean p due is =
       after = region_lines is.text.tree (region_count is.text.tree);
       lines = is.text.is;
       same = is.text.numbering.same;
+    }
+
+pub regions_mean : (p : Program) (found : Found) → OneNumbering → OneTree → IsFoundOf p found → MeansOn Regions p
+regions_mean p found one_numbering one_tree is =
+    let strong : IsFlowGraph (flow p.execs).graph = subst (λ (f : FlowGraph). IsFlowGraph f.graph) is.flow is.strong in
+    record {
+      one = λ a b first second. first.done ∙ ap done (one_text p a.text b.text one_numbering one_tree strong first.text second.text) ∙ sym second.done;
+      means = regions_told p;
     }

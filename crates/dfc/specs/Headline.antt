@@ -46,9 +46,10 @@ abbrev pub Means : Task → Program → Due → Type 0
 Means Regions p due = MeansRegions (flow p.execs).graph due
 Means Play p due = MeansPlayed (is_playable p) p due
 
--- what is due on the program means this
-abbrev pub MeansOn : Task → Program → Type 0
-MeansOn task p = (due : Due) → IsDueOn task p due → Means task p due
+-- No two things are due on the program, and what is due means this.
+pub record MeansOn (task : Task) (p : Program) : Type 0 where
+  pub one : (a b : Due) → IsDueOn task p a → IsDueOn task p b → a ≡ b
+  pub means : (due : Due) → IsDueOn task p due → Means task p due
 
 abbrev pub MeansRead : Task → Reading → Type 0
 MeansRead task (Refused line code) = Unit {0}

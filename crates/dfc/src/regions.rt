@@ -13,6 +13,7 @@ ghost use Rattle.region_tree.specs.Tree.{region_count};
 ghost use Rattle.dfc.specs.Answers.{AnswersAs};
 ghost use Rattle.dfc.specs.Due.{IsDueOn};
 ghost use Rattle.dfc.specs.Found.{IsFoundOf, text_of};
+ghost use Rattle.dfc.specs.Headline.{MeansOn};
 ghost use Rattle.dfc.specs.Regions.{piece_lines, edge_lines, region_lines};
 
 use crate::region_line::{counts_line, edge_line, piece_line, region_line};
@@ -20,10 +21,10 @@ use crate::status::Status;
 use crate::words::Task;
 use cfg_build::{Flow, flow_of};
 use closed_walks::Digraph;
-use cycle_equiv::edge_classes;
+use cycle_equiv::{edge_classes, one_numbering};
 use df_io::{NoMemory, Sink, TextBuffer, WriteFault};
 use f77_tree::Program;
-use region_tree::{RegionTree, region_tree};
+use region_tree::{RegionTree, one_tree, region_tree};
 use std::alloc::Global;
 use std::marker::Brand;
 use std::sync::ledger::{Blank, Ledger};
@@ -42,11 +43,14 @@ struct Found {
 pub fn tell_regions<K: Sink>(alloc: Global, program: &Program, sink: &mut K) -> Status
     requires { IsWellFormed program.now }
     ensures due { AnswersAs (IsDueOn Task.Regions program.now) (K.got sink.old) (K.got sink.new) result }
+    ensures means { result ≢ Status.NoMemory → MeansOn Task.Regions program.now }
     ensures words { result ≢ Status.Usage }
     ensures reads { result ≢ Status.ReadFault }
     ensures later { K.faults sink.old ≤ K.faults sink.new }
     ensures fault { result ≡ Status.WriteFault → Rose (K.faults sink.old) (K.faults sink.new) }
 {
+    one_numbering();
+    one_tree();
     match find(alloc, program) {
         Ok(mut found) => match tell(&mut found, sink) {
             Ok(()) => Status::Done,

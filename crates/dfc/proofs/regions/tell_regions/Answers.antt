@@ -3,7 +3,7 @@ use Rattle.std.specs.Io.KnownBytes.{Appends}
 use Rattle.df_io.specs.Write.{AppendsFront}
 use Rattle.dfc.specs.Due.{done}
 use Rattle.dfc.specs.Found.{text_of}
-use Rattle.dfc.proofs.RegionsTold.{found_tells}
+use Rattle.dfc.proofs.RegionsTold.{found_tells, regions_mean}
 use Rattle.dfc.proofs.regions.tell_regions.Goals as goal
 
 pub returns-in-Ok-tell-clause-due : goal.returns-in-Ok-tell-clause-due
@@ -24,3 +24,9 @@ returns-in-Ok-clause-due g c =
       is = record { text = found_tells c.args.program.now c.in-Ok.found c.in-Ok.ensures; done = refl };
       front = subst (λ (bytes : List ℕ). AppendsFront (g.K.Sink.got c.args.sink.now) (g.K.Sink.got c.tell.new.sink) bytes) (sym (append-nil text)) c.in-Err-tell.ensures.front;
     }
+
+pub returns-in-Ok-tell-clause-means : goal.returns-in-Ok-tell-clause-means
+returns-in-Ok-tell-clause-means g c = λ _. regions_mean c.args.program.now c.in-Ok.found c.one_numbering.ensures c.one_tree.ensures c.in-Ok.ensures
+
+pub returns-in-Ok-clause-means : goal.returns-in-Ok-clause-means
+returns-in-Ok-clause-means g c = λ _. regions_mean c.args.program.now c.in-Ok.found c.one_numbering.ensures c.one_tree.ensures c.in-Ok.ensures
