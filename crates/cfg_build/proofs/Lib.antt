@@ -5,8 +5,10 @@ pub mod BuildingRows
 pub mod BuildingTables
 pub mod ControlGraph
 pub mod Counts
+pub mod DrawableParts
 pub mod EndNumber
 pub mod Fans
+pub mod FlowDrawn
 pub mod FlowEdges
 pub mod HeldEdges
 pub mod HoldDegrees

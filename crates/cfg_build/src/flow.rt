@@ -1,5 +1,9 @@
-ghost use Rattle.std.specs.Prelude.{◌≡◌, ◌<◌, length, slice_get, Some, IfOk};
+ghost use Rattle.std.specs.Prelude.{◌≡◌, ◌<◌, ◌^◌, length, slice_get, Some, IfOk};
+ghost use Rattle.closed_walks.specs.Region.{IsFlowGraph};
+ghost use Rattle.closed_walks.specs.Graph.{IsGraph};
 ghost use Rattle.cfg_build.specs.Flow.{flow};
+ghost use Rattle.cfg_build.specs.Joined.{joined};
+ghost use Rattle.cfg_build.specs.Tables.{drawn_as};
 ghost use Rattle.f77_tree.specs.WellFormed.{IsWellFormed};
 
 use crate::holds::{held_pieces, put_holds};
@@ -7,8 +11,8 @@ use crate::numbers::{numbers, ways};
 use crate::parts::{Target, parts_of};
 use crate::pieces::Piece;
 use crate::reached::reached_execs;
-use crate::rows::{digraph, drawn};
-use closed_walks::Digraph;
+use crate::rows::{Drawing, digraph, drawn};
+use closed_walks::{Digraph, endless_ways_meet_cycles, reaching_is_told};
 use df_sequence::NoMemory;
 use f77_tree::Program;
 use std::alloc::Global;
@@ -46,7 +50,7 @@ impl Flow {
         ensures count { result ≡ length self.now.pieces }
         ensures nodes { result ≡ self.now.graph.nodes }
     {
-        self.pieces.len() as u32
+        self.graph.nodes()
     }
 
     /// A piece.
@@ -58,24 +62,47 @@ impl Flow {
     }
 }
 
-/// The flow graph of a program.
+/// The flow graph of a program. Its time and memory are a few steps and words for each executable and each edge, but for searches
+/// from pieces that an edge from above comes to and that can't come to the end.
 pub fn flow_of(alloc: Global, p: &Program) -> Result<Flow, NoMemory>
     requires { IsWellFormed p.now }
-    ensures { IfOk result (λ f. f ≡ flow p.now.execs) }
+    ensures flow { IfOk result (λ f. f ≡ flow p.now.execs) }
+    ensures flow_graph { IfOk result (λ f. IsFlowGraph f.graph) }
 {
+    reaching_is_told();
+    endless_ways_meet_cycles();
+    let mut drawing = joined(alloc, p)?;
+    let graph = graph_of(alloc, &drawing)?;
+    let finish = graph.nodes() - 1;
+    let held = held_pieces(alloc, &graph, finish)?;
+    put_holds(&mut drawing, &graph, &held, finish)?;
+    Ok(Flow {
+        graph: graph_of(alloc, &drawing)?,
+        pieces: drawing.pieces,
+    })
+}
+
+// The pieces and edges of a program before holds are put on them.
+fn joined(alloc: Global, p: &Program) -> Result<Drawing, NoMemory>
+    requires { IsWellFormed p.now }
+    ensures { IfOk result (λ drawing. drawn_as drawing ≡ joined p.now.execs) }
+{
+    reaching_is_told();
     let reached = reached_execs(alloc, p)?;
     let parts = parts_of(alloc, p, &reached)?;
     let execs = p.execs.len();
     let ways = ways(alloc, &parts, execs)?;
     let numbers = numbers(alloc, &parts, &ways, execs)?;
     let finish = numbers.get(Target::First(execs - 1));
-    let mut drawing = drawn(alloc, &parts, &ways, &numbers, finish)?;
-    let joined = digraph(alloc, finish + 1, &drawing.edges)?;
-    let held = held_pieces(alloc, &joined, finish)?;
-    put_holds(&mut drawing, &joined, &held, finish)?;
-    let graph = digraph(alloc, drawing.pieces.len() as u32, &drawing.edges)?;
-    Ok(Flow {
-        graph,
-        pieces: drawing.pieces,
-    })
+    drawn(alloc, &parts, &ways, &numbers, finish)
+}
+
+// The graph that is drawn.
+fn graph_of(alloc: Global, drawing: &Drawing) -> Result<Digraph, NoMemory>
+    requires sound { IsGraph (drawn_as drawing.now).graph }
+    requires pieces { length drawing.now.pieces.items < 2 ^ 32 }
+    requires edges { length drawing.now.edges.items < 2 ^ 31 }
+    ensures { IfOk result (λ g. g ≡ (drawn_as drawing.now).graph) }
+{
+    digraph(alloc, drawing.pieces.len() as u32, &drawing.edges)
 }

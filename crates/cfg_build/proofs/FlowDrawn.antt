@@ -1,0 +1,158 @@
+-- The flow graph of a program as it is drawn: first the parts, with joins, and then the holds.
+use Rattle.std.proofs.Common.{◌≡◌, ℕ, zero, suc, ◌+◌, ◌*◌, ◌<◌, ◌≤◌, ◌-◌, ◌^◌, Bool, true, false, cond, List, [], ◌∷◌, ◌++◌, length, get_or, map, filter, fold, Result, Ok, Err, IfOk, refl, sym, ap, ◌∙◌, subst, ⊎_elim, arith, length-append}
+use Rattle.std.proofs.lemmas.Bool.{cases_Bool, cond-true, cond-false}
+use Rattle.std.proofs.lemmas.List.{length-map}
+use Rattle.std.proofs.lemmas.List.Sums.{sum_by-append, sum_by-cons}
+use Rattle.std.proofs.lemmas.List.FromFn.{length-range_with_len}
+use Rattle.std.specs.List.{sum_by, range_with_len, flat_map}
+use Rattle.closed_walks.specs.Graph.{Graph, IsGraph, edge_count}
+use Rattle.closed_walks.specs.Region.{IsFlowGraph}
+use Rattle.f77_tree.specs.declared.programs.Exec.{Exec}
+use Rattle.f77_tree.specs.declared.programs.NameInfo.{NameInfo}
+use Rattle.f77_tree.specs.WellFormed.{AreExecs}
+use Rattle.df_sequence.specs.declared.NoMemory.{NoMemory}
+use Rattle.cfg_build.specs.declared.numbers.ByTarget.{ByTarget}
+use Rattle.cfg_build.specs.declared.parts.Part.{Part}
+use Rattle.cfg_build.specs.declared.parts.Target.TheVariants.{First}
+use Rattle.cfg_build.specs.declared.pieces.Piece.{Piece}
+use Rattle.cfg_build.specs.declared.rows.Drawing.{Drawing}
+use Rattle.cfg_build.specs.Control.{fan}
+use Rattle.cfg_build.specs.Parts.{parts, start_part, end_part, last_of}
+use Rattle.cfg_build.specs.Joined.{FlowGraph, Row, rows, rows_of, join_row, part_row, number, is_joined, joined, finish}
+use Rattle.cfg_build.specs.Holds.{is_held, held_edge, with_hold}
+use Rattle.cfg_build.specs.Flow.{flow, held, piece_at}
+use Rattle.cfg_build.specs.Tables.{AreParts, number_in, drawn_as}
+use Rattle.cfg_build.proofs.AfterHolds.{AfterHolds}
+use Rattle.cfg_build.proofs.BuildingControl.{length-fan}
+use Rattle.cfg_build.proofs.BuildingTables.{few_numbers}
+use Rattle.cfg_build.proofs.DrawableParts.{are_parts, way_count}
+use Rattle.cfg_build.proofs.EndNumber.{end_is_last}
+use Rattle.cfg_build.proofs.FlowEdges.{after}
+use Rattle.cfg_build.proofs.HeldEdges.{IsHoldEdge, edge_for}
+use Rattle.cfg_build.proofs.JoinedGraph.{IsPartAt, place_of_part}
+use Rattle.cfg_build.proofs.Lowest.{IsMet}
+use Rattle.cfg_build.proofs.Members.{Member, Member-at, Member-filtered, Member-in_range}
+use Rattle.cfg_build.proofs.PartsFound.{member_end}
+use Rattle.cfg_build.proofs.PieceNumbers.{length_rows}
+use Rattle.cfg_build.proofs.ReachedNodes.{IsTold}
+use Rattle.cfg_build.proofs.ReachedPieces.{joined_sound}
+use Rattle.cfg_build.proofs.Strong.{held_edges, flow_graph}
+
+-- ---- counts
+
+-- a part has one edge more than ways, where a join stands before it
+few_heads_of : (ps : List Part) (p : Part) → sum_by (λ (row : Row). length row.heads) (rows_of ps p) ≤ 1 + length p.outs
+few_heads_of ps p =
+    let total : List Row → ℕ = λ (xs : List Row). sum_by (λ (row : Row). length row.heads) xs in
+    ⊎_elim
+    (λ (h : is_joined ps p ≡ true). let e = ap total (cond-true (is_joined ps p) (join_row ps p ∷ part_row ps p ∷ []) (part_row ps p ∷ []) h) in omega (arith, e, length-map p.outs (number ps)))
+    (λ (h : is_joined ps p ≡ false). let e = ap total (cond-false (is_joined ps p) (join_row ps p ∷ part_row ps p ∷ []) (part_row ps p ∷ []) h) in omega (arith, e, length-map p.outs (number ps)))
+    (cases_Bool (is_joined ps p))
+
+few_heads : (ps qs : List Part) → sum_by (λ (row : Row). length row.heads) (flat_map (rows_of ps) qs) ≤ length qs + way_count qs
+few_heads ps [] = omega arith
+few_heads ps (p ∷ qs) =
+    omega (arith, few_heads_of ps p, few_heads ps qs, sum_by-append (λ (row : Row). length row.heads) (rows_of ps p) (flat_map (rows_of ps) qs), sum_by-cons (λ (part : Part). length part.outs) p qs)
+
+length-filter_le : (test : ℕ → Bool) (xs : List ℕ) → length (filter test xs) ≤ length xs
+length-filter_le test [] = omega arith
+length-filter_le test (x ∷ xs) =
+    ⊎_elim
+    (λ (h : test x ≡ true). subst (λ b. length (cond b (x ∷ filter test xs) (filter test xs)) ≤ suc (length xs)) (sym h) (omega (arith, length-filter_le test xs)))
+    (λ (h : test x ≡ false). subst (λ b. length (cond b (x ∷ filter test xs) (filter test xs)) ≤ suc (length xs)) (sym h) (omega (arith, length-filter_le test xs)))
+    (cases_Bool (test x))
+
+-- ---- holds that can be put on a graph, and what is drawn then
+
+abbrev pub put : FlowGraph → Graph → (fin : ℕ) → List ℕ → FlowGraph
+put j g fin hs = fold (λ f x. with_hold fin f (held_edge g x (piece_at j.pieces x).kind) (piece_at j.pieces x)) j hs
+
+pub record HoldsFit (j : FlowGraph) (g : Graph) (fin : ℕ) (hs : List ℕ) (f : FlowGraph) : Type 0 where
+  pub nodes : (k d : ℕ) → k < length hs → get_or hs k d < g.nodes
+  pub edges : (k d : ℕ) → k < length hs → held_edge g (get_or hs k d) (piece_at j.pieces (get_or hs k d)).kind < edge_count g
+  pub few : j.graph.nodes + length hs ≤ 160008
+  pub is : put j g fin hs ≡ f
+
+module _ (told : IsTold) (met : IsMet) (names : List NameInfo) (execs : List Exec) (loops : ℕ) (well : AreExecs names execs loops) where
+  are : AreParts (length execs) (parts execs)
+  are = are_parts told names execs loops well
+
+  pub few_nodes : (joined execs).graph.nodes ≤ 80004
+  few_nodes = omega (arith, length_rows (parts execs), few_numbers (length execs) (parts execs) are)
+
+  pub few_edges : edge_count (joined execs).graph ≤ 104004
+  few_edges =
+      omega (arith, length-fan (λ (row : Row). row.heads) 0 (rows (parts execs)), few_heads (parts execs) (parts execs), are.few_parts, are.few_ways)
+
+  pub sound : IsGraph (joined execs).graph
+  sound = joined_sound told names execs loops well
+
+  few_held : length (held execs) ≤ 80004
+  few_held =
+      let n = (joined execs).graph.nodes in
+      omega (arith, few_nodes, length-filter_le (is_held (joined execs).graph (finish execs)) (range_with_len 0 n), length-range_with_len 0 n)
+
+  base : HoldsFit (joined execs) (joined execs).graph (finish execs) (held execs) (flow execs)
+  base = record {
+    nodes = λ k d l.
+      let r = Member-filtered (is_held (joined execs).graph (finish execs)) (range_with_len 0 (joined execs).graph.nodes) (get_or (held execs) k d) (Member-at (held execs) k d l) in
+      let within = Member-in_range 0 (joined execs).graph.nodes (get_or (held execs) k d) r.0 in
+      omega (arith, within.1);
+    edges = λ k d l. (held_edges told met names execs loops well (get_or (held execs) k d) (Member-at (held execs) k d l)).exists;
+    few = omega (arith, few_nodes, few_held);
+    is = refl;
+  }
+
+  pub holds_fit : (j : FlowGraph) (g : Graph) (fin : ℕ) (hs : List ℕ) → j ≡ joined execs → g ≡ j.graph → fin ≡ g.nodes - 1 → hs ≡ filter (is_held g fin) (range_with_len 0 g.nodes) → HoldsFit j g fin hs (flow execs)
+  holds_fit j g fin hs is graph last held_is =
+      let graph_is : g ≡ (joined execs).graph = graph ∙ ap (λ (f : FlowGraph). f.graph) is in
+      let nodes_is : g.nodes ≡ length (rows (parts execs)) = ap (λ (h : Graph). h.nodes) graph_is in
+      let fin_is : fin ≡ finish execs = omega (arith, last, nodes_is, end_is_last execs well.end) in
+      let hs_is : hs ≡ held execs = held_is ∙ ap (λ (h : Graph). filter (is_held h fin) (range_with_len 0 h.nodes)) graph_is ∙ ap (λ n. filter (is_held (joined execs).graph n) (range_with_len 0 (joined execs).graph.nodes)) fin_is in
+      let at_j : HoldsFit j (joined execs).graph (finish execs) (held execs) (flow execs) = subst (λ (f : FlowGraph). HoldsFit f (joined execs).graph (finish execs) (held execs) (flow execs)) (sym is) base in
+      let at_g : HoldsFit j g (finish execs) (held execs) (flow execs) = subst (λ (h : Graph). HoldsFit j h (finish execs) (held execs) (flow execs)) (sym graph_is) at_j in
+      let at_fin : HoldsFit j g fin (held execs) (flow execs) = subst (λ n. HoldsFit j g n (held execs) (flow execs)) (sym fin_is) at_g in
+      subst (λ (xs : List ℕ). HoldsFit j g fin xs (flow execs)) (sym hs_is) at_fin
+
+  flow_after : AfterHolds (joined execs).graph (finish execs) (edge_for told names execs loops well) (held execs) (length (held execs)) (flow execs).graph
+  flow_after = after told names execs loops well
+
+  pub few_flow_nodes : (flow execs).graph.nodes ≤ 160008
+  few_flow_nodes = omega (arith, flow_after.nodes, few_nodes, few_held)
+
+  pub few_flow_edges : edge_count (flow execs).graph ≤ 264012
+  few_flow_edges = omega (arith, flow_after.edges, few_edges, few_held)
+
+  pub flow_strong : IsFlowGraph (flow execs).graph
+  flow_strong = flow_graph told met names execs loops well
+
+-- ---- the parts as they are drawn
+
+-- the number of the end is that of the last part
+pub finish_told : (execs : List Exec) (table : ByTarget) (ps : List Part) → ps ≡ parts execs → ((j : ℕ) → j < length ps → number_in table (get_or ps j start_part).own ≡ number ps (get_or ps j start_part).own) → number_in table (First (last_of execs)) ≡ finish execs
+finish_told execs table ps is numbered =
+    let all : List Part = parts execs in
+    let told : (j : ℕ) → j < length all → number_in table (get_or all j start_part).own ≡ number all (get_or all j start_part).own =
+        subst (λ (xs : List Part). (j : ℕ) → j < length xs → number_in table (get_or xs j start_part).own ≡ number xs (get_or xs j start_part).own) is numbered in
+    let at : IsPartAt all (First (last_of execs)) = place_of_part all (First (last_of execs)) (record { one = end_part execs; among = member_end execs; own = refl }) in
+    ap (number_in table) (sym at.own) ∙ told at.place at.exists ∙ ap (number all) at.own
+
+abbrev shape : ℕ → List (ℕ × ℕ) → List Piece → FlowGraph
+shape n edges pieces = record { graph = record { nodes = n; edges = edges }; pieces = pieces }
+
+drawing_is : (execs : List Exec) (pieces : List Piece) (edges : List (ℕ × ℕ)) → pieces ≡ map (λ (row : Row). row.piece) (rows (parts execs)) → edges ≡ (finish execs , 0) ∷ fan 0 (map (λ (row : Row). row.heads) (rows (parts execs)))
+  → shape (length pieces) edges pieces ≡ joined execs
+drawing_is execs pieces edges one two =
+    let all = rows (parts execs) in
+    ap (λ (xs : List Piece). shape (length xs) edges xs) one
+    ∙ ap (λ n. shape n edges (map (λ (row : Row). row.piece) all)) (length-map all (λ (row : Row). row.piece))
+    ∙ ap (λ (es : List (ℕ × ℕ)). shape (length all) es (map (λ (row : Row). row.piece) all)) two
+
+pub drawn_is : (execs : List Exec) (result : Result Drawing NoMemory) (ps : List Part) (fin : ℕ) → ps ≡ parts execs → fin ≡ finish execs
+  → IfOk result (λ d. d.pieces.items ≡ map (λ (row : Row). row.piece) (rows ps)) → IfOk result (λ d. d.edges.items ≡ (fin , 0) ∷ fan 0 (map (λ (row : Row). row.heads) (rows ps)))
+  → IfOk result (λ d. drawn_as d ≡ joined execs)
+drawn_is execs (Err error) ps fin parts_are end one two = tt
+drawn_is execs (Ok d) ps fin parts_are end one two =
+    drawing_is execs d.pieces.items d.edges.items
+      (one ∙ ap (λ (xs : List Part). map (λ (row : Row). row.piece) (rows xs)) parts_are)
+      (two ∙ ap (λ n. (n , 0) ∷ fan 0 (map (λ (row : Row). row.heads) (rows ps))) end ∙ ap (λ (xs : List Part). (finish execs , 0) ∷ fan 0 (map (λ (row : Row). row.heads) (rows xs))) parts_are)
