@@ -1,4 +1,6 @@
 pub mod AfterHolds
+pub mod BuildingEdges
+pub mod BuildingHolds
 pub mod BuildingControl
 pub mod BuildingParts
 pub mod BuildingRows
@@ -6,6 +8,7 @@ pub mod BuildingTables
 pub mod ControlGraph
 pub mod Counts
 pub mod DrawableParts
+pub mod EdgeLoops
 pub mod EndNumber
 pub mod Fans
 pub mod FlowDrawn
@@ -26,6 +29,7 @@ pub mod PartsFound
 pub mod PieceKinds
 pub mod PieceNumbers
 pub mod Places
+pub mod PutHolds
 pub mod ReachedNodes
 pub mod ReachedPieces
 pub mod Shaped

@@ -1,12 +1,17 @@
 -- What is kept of each target while a program is drawn.
-use Rattle.std.specs.Prelude.{◌≡◌, ℕ, ◌+◌, ◌<◌, ◌≤◌, Bool, true, false, ◌&&◌, nat_lt, if◌then◌else◌, List, [], ◌∷◌, length, sum_by, slice_index, slice_index_or}
+use Rattle.std.specs.Prelude.{◌≡◌, ℕ, ◌+◌, ◌<◌, ◌≤◌, ◌⊎◌, ◌↔◌, filter, ◌==◌, Bool, true, false, ◌&&◌, nat_lt, nat_le, if◌then◌else◌, List, [], ◌∷◌, length, sum_by, slice_index, slice_index_or}
+use Rattle.std.specs.List.{list_any, range_with_len}
+use Rattle.closed_walks.specs.Graph.{Graph, edge_count, from, to}
+use Rattle.closed_walks.specs.Walk.{Reach, no_edge}
 use Rattle.cfg_build.specs.declared.numbers.ByTarget.{ByTarget}
 use Rattle.cfg_build.specs.declared.parts.Part.{Part}
 use Rattle.cfg_build.specs.declared.parts.Target.{Target}
 use Rattle.cfg_build.specs.declared.parts.Target.TheVariants.{Start, First, Test}
+use Rattle.cfg_build.specs.declared.rows.Drawing.{Drawing}
 use Rattle.cfg_build.specs.declared.pieces.PieceKind.TheVariants.{Join}
 use Rattle.cfg_build.specs.Parts.{start_part}
-use Rattle.cfg_build.specs.Joined.{Row, is_same, is_end}
+use Rattle.cfg_build.specs.Holds.{is_held}
+use Rattle.cfg_build.specs.Joined.{FlowGraph, Row, is_same, is_end}
 
 -- the number of a target; the start has 0
 abbrev pub number_in : ByTarget → Target → ℕ
@@ -62,3 +67,30 @@ rows_from first joined part heads =
     let own : Row = record { piece = part.piece; heads = heads } in
     let join : Row = record { piece = record { kind = Join; line = part.piece.line; exec = part.piece.exec }; heads = (first + 1) ∷ [] } in
     if joined then join ∷ own ∷ [] else own ∷ []
+
+-- the graph that is drawn, with its pieces
+abbrev pub drawn_as : Drawing → FlowGraph
+drawn_as drawing = record { graph = record { nodes = length drawing.pieces.items; edges = drawing.edges.items }; pieces = drawing.pieces.items }
+
+-- an edge leads to the node from one that isn't lower
+abbrev pub is_entered_from_above : Graph → ℕ → Bool
+is_entered_from_above g node = list_any (λ e. (e.1 == node) && nat_le node e.0) g.edges
+
+-- the node reaches one of these
+pub record ReachesOne (g : Graph) (nodes : List ℕ) (node : ℕ) : Type 0 where
+  pub place : ℕ
+  pub exists : place < length nodes
+  pub reach : Reach g no_edge node (slice_index nodes place)
+
+-- from the node control leaves for the end, or for the hold of one of these
+abbrev pub Leaves : Graph → (finish : ℕ) → (held : List ℕ) → ℕ → Type 0
+Leaves g finish held node = Reach g no_edge node finish ⊎ ReachesOne g held node
+
+-- These of the pieces below x are held, and marked are those from which control leaves for the end or for the hold of one of these.
+pub record AreHeldBelow (g : Graph) (finish x : ℕ) (held : List ℕ) (marks : List Bool) : Type 0 where
+  pub pieces : held ≡ filter (is_held g finish) (range_with_len 0 x)
+  pub leaving : (node : ℕ) → (slice_index_or marks node false ≡ true) ↔ Leaves g finish held node
+
+-- where an edge leads to a marked node, it begins at one
+abbrev pub AreClosedBack : Graph → List Bool → Type 0
+AreClosedBack g marks = (e : ℕ) → e < edge_count g → slice_index_or marks (to g e) false ≡ true → slice_index_or marks (from g e) false ≡ true

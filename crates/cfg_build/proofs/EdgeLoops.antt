@@ -1,0 +1,89 @@
+-- What loops over the edges of a node find.
+use Rattle.std.proofs.Common.{◌≡◌, ◌↔◌, ℕ, ◌<◌, ◌≤◌, Bool, true, false, ◌&&◌, ◌==◌, nat_le, List, length, get_or, refl, sym, ap, ◌∙◌, subst, arith}
+use Rattle.std.proofs.lemmas.Bool.{and_parts, eqb-true, false≢true}
+use Rattle.std.specs.List.{list_any, position_or_len}
+use Rattle.closed_walks.specs.Graph.{Graph, IsGraph, edge_count, edges_at, from, to}
+use Rattle.closed_walks.specs.Reaching.{reaches}
+use Rattle.cfg_build.specs.Holds.{is_on_cycle}
+use Rattle.cfg_build.specs.Tables.{is_entered_from_above}
+use Rattle.cfg_build.proofs.BuildingEdges.{StandsIn, at_edge, stands_from, stands_to, any_found, any_none, first_found, first_missing}
+use Rattle.cfg_build.proofs.BuildingHolds.{same_Bool}
+use Rattle.cfg_build.proofs.ReachedNodes.{IsTold, Reaches}
+
+module _ (g : Graph) (x : ℕ) (items : List ℕ) (are : items ≡ edges_at g x) where
+  pub exists : (i : ℕ) → i < length items → get_or items i 0 < edge_count g
+  exists i l = subst (λ (xs : List ℕ). get_or xs i 0 < edge_count g) (sym are) (at_edge g x i (subst (λ (xs : List ℕ). i < length xs) are l))
+
+  within : (i : ℕ) → i < length items → i < length (edges_at g x)
+  within i l = subst (λ (xs : List ℕ). i < length xs) are l
+
+  -- ---- the first edge that leaves the node
+
+  abbrev leaves : ℕ × ℕ → Bool
+  leaves e = e.0 == x
+
+  out_stands : (e : ℕ) → e < edge_count g → leaves (get_or g.edges e (0, 0)) ≡ true → StandsIn g x (edges_at g x) e
+  unfolding from
+  out_stands e l passes = stands_from g x e l (eqb-true (from g e) x passes)
+
+  pub out_found : (i : ℕ) → i < length items → (from g (get_or items i 0) == x) ≡ true → ((k : ℕ) → k < i → (from g (get_or items k 0) == x) ≡ false) → get_or items i 0 ≡ position_or_len (λ e. e.0 == x) g.edges
+  unfolding from
+  out_found i l passes before =
+      ap (λ (xs : List ℕ). get_or xs i 0) are
+      ∙ first_found g x leaves out_stands i (within i l)
+        (subst (λ (xs : List ℕ). (from g (get_or xs i 0) == x) ≡ true) are passes)
+        (λ k less. subst (λ (xs : List ℕ). (from g (get_or xs k 0) == x) ≡ false) are (before k less))
+
+  pub out_missing : position_or_len (λ e. e.0 == x) g.edges < edge_count g → ((k : ℕ) → k < length items → (from g (get_or items k 0) == x) ≡ false) → ⊥
+  unfolding from
+  out_missing some none =
+      first_missing g x leaves out_stands some
+        (λ k less. subst (λ (xs : List ℕ). (from g (get_or xs k 0) == x) ≡ false) are (none k (subst (λ (xs : List ℕ). k < length xs) (sym are) less)))
+
+  -- ---- the first edge that comes to the node
+
+  abbrev comes : ℕ × ℕ → Bool
+  comes e = e.1 == x
+
+  in_stands : (e : ℕ) → e < edge_count g → comes (get_or g.edges e (0, 0)) ≡ true → StandsIn g x (edges_at g x) e
+  unfolding to
+  in_stands e l passes = stands_to g x e l (eqb-true (to g e) x passes)
+
+  pub in_found : (i : ℕ) → i < length items → (to g (get_or items i 0) == x) ≡ true → ((k : ℕ) → k < i → (to g (get_or items k 0) == x) ≡ false) → get_or items i 0 ≡ position_or_len (λ e. e.1 == x) g.edges
+  unfolding to
+  in_found i l passes before =
+      ap (λ (xs : List ℕ). get_or xs i 0) are
+      ∙ first_found g x comes in_stands i (within i l)
+        (subst (λ (xs : List ℕ). (to g (get_or xs i 0) == x) ≡ true) are passes)
+        (λ k less. subst (λ (xs : List ℕ). (to g (get_or xs k 0) == x) ≡ false) are (before k less))
+
+  pub in_missing : position_or_len (λ e. e.1 == x) g.edges < edge_count g → ((k : ℕ) → k < length items → (to g (get_or items k 0) == x) ≡ false) → ⊥
+  unfolding to
+  in_missing some none =
+      first_missing g x comes in_stands some
+        (λ k less. subst (λ (xs : List ℕ). (to g (get_or xs k 0) == x) ≡ false) are (none k (subst (λ (xs : List ℕ). k < length xs) (sym are) less)))
+
+  -- ---- an edge that comes to the node from one that passes a test
+
+  module _ (passes : ℕ → Bool) where
+    abbrev comes_from : ℕ × ℕ → Bool
+    comes_from e = (e.1 == x) && passes e.0
+
+    test_stands : (e : ℕ) → e < edge_count g → comes_from (get_or g.edges e (0, 0)) ≡ true → StandsIn g x (edges_at g x) e
+    unfolding from to
+    test_stands e l is = stands_to g x e l (eqb-true (to g e) x (and_parts (to g e == x) (passes (from g e)) is).0)
+
+    pub test_found : (i : ℕ) → i < length items → ((to g (get_or items i 0) == x) && passes (from g (get_or items i 0))) ≡ true → list_any (λ e. (e.1 == x) && passes e.0) g.edges ≡ true
+    unfolding from to
+    test_found i l is = any_found g x comes_from i (within i l) (subst (λ (xs : List ℕ). ((to g (get_or xs i 0) == x) && passes (from g (get_or xs i 0))) ≡ true) are is)
+
+    pub test_missing : ((k : ℕ) → k < length items → ((to g (get_or items k 0) == x) && passes (from g (get_or items k 0))) ≡ false) → list_any (λ e. (e.1 == x) && passes e.0) g.edges ≡ false
+    unfolding from to
+    test_missing none =
+        any_none g x comes_from test_stands
+          (λ k less. subst (λ (xs : List ℕ). ((to g (get_or xs k 0) == x) && passes (from g (get_or xs k 0))) ≡ false) are (none k (subst (λ (xs : List ℕ). k < length xs) (sym are) less)))
+
+-- the mark of a node tells whether it is reached
+pub mark_told : IsTold → (g : Graph) (x : ℕ) (marks : List Bool) → IsGraph g → x < g.nodes → ((v : ℕ) → (get_or marks v false ≡ true) ↔ Reaches g x v) → (v : ℕ) → get_or marks v false ≡ reaches g x v
+mark_told told g x marks sound node marked v =
+    same_Bool (get_or marks v false) (reaches g x v) (λ h. (told g x v sound node).1 ((marked v).0 h)) (λ h. (marked v).1 ((told g x v sound node).0 h))
