@@ -28,3 +28,4 @@ pub mod ReachedNodes
 pub mod ReachedPieces
 pub mod Shaped
 pub mod Strong
+pub mod PassSteps
