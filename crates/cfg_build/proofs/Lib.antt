@@ -29,3 +29,4 @@ pub mod ReachedPieces
 pub mod Shaped
 pub mod Strong
 pub mod PassSteps
+pub mod PassOutcomes

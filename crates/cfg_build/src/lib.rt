@@ -7,6 +7,7 @@ mod holds;
 mod laws;
 mod numbers;
 mod parts;
+mod pass_laws;
 mod pieces;
 mod reached;
 mod rows;

@@ -1,0 +1,6 @@
+use Rattle.cfg_build.proofs.PassOutcomes.{Fits}
+use Rattle.cfg_build.proofs.PassSteps.{go}
+use Rattle.cfg_build.proofs.pass_laws.trial.Goals as goal
+
+pub returns : goal.returns
+returns c = 0
