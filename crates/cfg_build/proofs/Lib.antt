@@ -30,3 +30,4 @@ pub mod Shaped
 pub mod Strong
 pub mod PassSteps
 pub mod PassOutcomes
+pub mod ChainSteps

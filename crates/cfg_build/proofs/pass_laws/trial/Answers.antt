@@ -1,3 +1,4 @@
+use Rattle.cfg_build.proofs.ChainSteps.{Agrees}
 use Rattle.cfg_build.proofs.PassOutcomes.{Fits}
 use Rattle.cfg_build.proofs.PassSteps.{go}
 use Rattle.cfg_build.proofs.pass_laws.trial.Goals as goal
