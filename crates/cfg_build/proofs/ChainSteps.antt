@@ -21,7 +21,7 @@ use Rattle.cfg_build.specs.Routes.{IsRoute, IsMade, IsLast, last_kind, owner, Is
 use Rattle.cfg_build.proofs.PassSteps.{pass_at, passed_in, go, go_more, go_first, go_ended, go_trapped, IsAt, passed_is, along_edge, along_route}
 use Rattle.cfg_build.proofs.PassOutcomes.{Fits, last_fits, Tested}
 
-trapped_runs : (trap : Trap) (line : ℕ) → Trapped trap line ≡ Running → ⊥
+pub trapped_runs : (trap : Trap) (line : ℕ) → Trapped trap line ≡ Running → ⊥
 trapped_runs trap line h = absurd cc
 
 ended_runs : Ended ≡ Running → ⊥
@@ -40,7 +40,7 @@ own_last execs k (DoNext loop_no var body exit) h = absurd (false≢true (sym h)
 own_last execs k End h = refl
 
 -- the last piece of two parts branches, and its executable's successors are two
-two_last : (kind : ExecKind) → has_test kind ≡ true → last_kind kind ≡ piece.Branch
+pub two_last : (kind : ExecKind) → has_test kind ≡ true → last_kind kind ≡ piece.Branch
 two_last (Assign target value next) h = absurd (false≢true h)
 two_last (Print items next) h = absurd (false≢true h)
 two_last (Pass next) h = absurd (false≢true h)
@@ -60,20 +60,20 @@ module _ (f : FlowGraph) (entry : ℕ → ℕ) (p : Program) (input : List ℤ) 
     pub enters : x.mark ≡ Running → to f.graph y.edge ≡ entry x.position
 
   -- what the executable at the position does
-  step_is : (x : State) (exec : Exec) → slice_get p.execs x.position ≡ Some exec → x.mark ≡ Running → step p input x ≡ after x exec.line (outcome p.names input x.memory exec.kind)
+  pub step_is : (x : State) (exec : Exec) → slice_get p.execs x.position ≡ Some exec → x.mark ≡ Running → step p input x ≡ after x exec.line (outcome p.names input x.memory exec.kind)
   step_is x exec found runs = ap (λ mark. step_from p input x mark) runs ∙ ap (λ e. executed_at p input x e) found
 
-  made_pass : (node : ℕ) (kind : PieceKind) (k : ℕ) (exec : Exec) (m : Memory) → IsMade f p.execs node kind k → slice_get p.execs k ≡ Some exec → pass_at f p input node m ≡ pass_of p input m (out f.graph node) kind exec.kind
+  pub made_pass : (node : ℕ) (kind : PieceKind) (k : ℕ) (exec : Exec) (m : Memory) → IsMade f p.execs node kind k → slice_get p.execs k ≡ Some exec → pass_at f p input node m ≡ pass_of p input m (out f.graph node) kind exec.kind
   made_pass node kind k exec m made found =
       ap (λ kind. pass_of p input m (out f.graph node) kind (kind_in (slice_get p.execs (piece_at f.pieces node).exec))) made.kind_is
       ∙ ap (λ n. pass_of p input m (out f.graph node) kind (kind_in (slice_get p.execs n))) made.exec_is
       ∙ ap (λ e. pass_of p input m (out f.graph node) kind (kind_in e)) found
 
-  made_line : (node : ℕ) (kind : PieceKind) (k : ℕ) (exec : Exec) → IsMade f p.execs node kind k → slice_get p.execs k ≡ Some exec → (piece_at f.pieces node).line ≡ exec.line
+  pub made_line : (node : ℕ) (kind : PieceKind) (k : ℕ) (exec : Exec) → IsMade f p.execs node kind k → slice_get p.execs k ≡ Some exec → (piece_at f.pieces node).line ≡ exec.line
   made_line node kind k exec made found = made.line_is ∙ ap line_in found
 
   -- after a pass that fits
-  fits_agree : (y : PassState) (x : State) (passed_line line : ℕ) (passed : Passed) (o : Outcome) → y.memory ≡ x.memory → y.out ≡ x.out → y.mark ≡ Running → x.mark ≡ Running → passed_line ≡ line → Fits f entry passed o → Agrees (after_pass y passed_line passed) (after x line o)
+  pub fits_agree : (y : PassState) (x : State) (passed_line line : ℕ) (passed : Passed) (o : Outcome) → y.memory ≡ x.memory → y.out ≡ x.out → y.mark ≡ Running → x.mark ≡ Running → passed_line ≡ line → Fits f entry passed o → Agrees (after_pass y passed_line passed) (after x line o)
   fits_agree y x passed_line line (Along edge memory text) (Goes next new written) same written_same runs x_runs lines fits =
       record { memory_is = fits.1; out_is = ap (λ o. o ++ text) written_same ∙ ap (λ t. x.out ++ t) fits.2; mark_is = runs ∙ sym x_runs; enters = λ h. fits.0 }
   fits_agree y x passed_line line (Traps trap) (Stops other) same written_same runs x_runs lines fits =
@@ -88,7 +88,7 @@ module _ (f : FlowGraph) (entry : ℕ → ℕ) (p : Program) (input : List ℤ) 
   fits_agree y x passed_line line Done (Stops other) same written_same runs x_runs lines fits = absurd fits
 
   module _ (x : State) (exec : Exec) (found : slice_get p.execs x.position ≡ Some exec) (x_runs : x.mark ≡ Running) (y : PassState) (agrees : Agrees y x) (pieces : List ℕ) where
-    begins : IsAt f p input y x.memory x.out (entry x.position)
+    pub begins : IsAt f p input y x.memory x.out (entry x.position)
     begins = record { runs = agrees.mark_is ∙ x_runs; memory_is = agrees.memory_is; out_is = agrees.out_is; ends = agrees.enters x_runs }
 
     pub one_part : has_test exec.kind ≡ false → IsOnePart f entry p.execs x.position exec.kind pieces → Agrees (go f p input (length pieces) y) (step p input x)

@@ -31,3 +31,4 @@ pub mod Strong
 pub mod PassSteps
 pub mod PassOutcomes
 pub mod ChainSteps
+pub mod TestSteps

@@ -63,7 +63,7 @@ pub record IsTwoParts (f : FlowGraph) (entry : ℕ → ℕ) (execs : List Exec) 
   pub act : ℕ
   pub middle : List ℕ
   pub test : ℕ
-  pub are : pieces ≡ front ++ act ∷ middle ++ test ∷ []
+  pub are : pieces ≡ front ++ act ∷ (middle ++ test ∷ [])
   pub route : IsRoute f (entry k) front act
   pub acts : IsMade f execs act piece.Act k
   pub on : IsRoute f (to f.graph (out f.graph act 0)) middle test

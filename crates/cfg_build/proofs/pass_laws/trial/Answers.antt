@@ -1,3 +1,4 @@
+use Rattle.cfg_build.proofs.TestSteps.{IsTest}
 use Rattle.cfg_build.proofs.ChainSteps.{Agrees}
 use Rattle.cfg_build.proofs.PassOutcomes.{Fits}
 use Rattle.cfg_build.proofs.PassSteps.{go}
