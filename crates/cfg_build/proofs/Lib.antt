@@ -32,3 +32,5 @@ pub mod PassSteps
 pub mod PassOutcomes
 pub mod ChainSteps
 pub mod TestSteps
+pub mod DoTests
+pub mod CountsKept

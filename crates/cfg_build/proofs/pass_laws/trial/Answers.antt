@@ -1,3 +1,5 @@
+use Rattle.cfg_build.proofs.DoTests.{IsDoStep}
+use Rattle.cfg_build.proofs.CountsKept.{counts_kept}
 use Rattle.cfg_build.proofs.TestSteps.{IsTest}
 use Rattle.cfg_build.proofs.ChainSteps.{Agrees}
 use Rattle.cfg_build.proofs.PassOutcomes.{Fits}
