@@ -34,3 +34,4 @@ pub mod ChainSteps
 pub mod TestSteps
 pub mod DoTests
 pub mod CountsKept
+pub mod RunPasses
