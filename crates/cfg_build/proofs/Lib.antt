@@ -35,3 +35,4 @@ pub mod TestSteps
 pub mod DoTests
 pub mod CountsKept
 pub mod RunPasses
+pub mod EnteredParts
