@@ -72,17 +72,17 @@ module _ (told : IsTold) (names : List NameInfo) (execs : List Exec) (loops : �
       (λ (j : joins z ≡ false). inr (j, ap (λ n. to g n) (sym e.is) ∙ hold_comes_to_other told names execs loops well z h.below h.is j))
       (cases_Bool (joins z))
 
-  behind_then : (y : ℕ) → is_behind_hold execs y ≡ true → Member (held execs) y × (joins y ≡ false)
+  pub behind_then : (y : ℕ) → is_behind_hold execs y ≡ true → Member (held execs) y × (joins y ≡ false)
   behind_then y h =
       let both = and_parts (list_any (λ x. x == y) (held execs)) (not (joins y)) h in
       let r : IsPassed (λ x. x == y) (held execs) = member_of_list_any (λ x. x == y) (held execs) both.0 in
       (subst (λ x. Member (held execs) x) (eqb-true r.one y r.passes) r.among, not-true (joins y) both.1)
 
-  behind_from : (y : ℕ) → Member (held execs) y → joins y ≡ false → is_behind_hold execs y ≡ true
+  pub behind_from : (y : ℕ) → Member (held execs) y → joins y ≡ false → is_behind_hold execs y ≡ true
   behind_from y m j = and_from (list_any (λ x. x == y) (held execs)) (not (joins y)) (list_any_member (λ x. x == y) (held execs) y m (eq-eqb y y refl)) (not_from_false (joins y) j)
 
   -- the only edge to a held piece that is no join is that on which its hold stands
-  own_edge : (y k : ℕ) → Member (held execs) y → joins y ≡ false → k < edge_count (row_graph (parts execs) (finish execs)) → to (row_graph (parts execs) (finish execs)) k ≡ y → edge_for told names execs loops well y ≡ k
+  pub own_edge : (y k : ℕ) → Member (held execs) y → joins y ≡ false → k < edge_count (row_graph (parts execs) (finish execs)) → to (row_graph (parts execs) (finish execs)) k ≡ y → edge_for told names execs loops well y ≡ k
   own_edge y k m j edge ends =
       let h : IsHeldPiece told names execs loops well y = held_is told names execs loops well y m in
       let says : IsHeldBy told g (joined_sound told names execs loops well) (finish execs) y = held_says told g (joined_sound told names execs loops well) (finish execs) y h.below h.is in

@@ -36,3 +36,4 @@ pub mod DoTests
 pub mod CountsKept
 pub mod RunPasses
 pub mod EnteredParts
+pub mod WaysEnter
