@@ -37,3 +37,4 @@ pub mod CountsKept
 pub mod RunPasses
 pub mod EnteredParts
 pub mod WaysEnter
+pub mod PartRoutes
