@@ -15,7 +15,8 @@ use Rattle.cfg_build.specs.Holds.{is_held, is_join}
 use Rattle.cfg_build.specs.Flow.{flow, held, piece_at}
 use Rattle.cfg_build.specs.Passes.{out}
 use Rattle.cfg_build.specs.Chains.{hold_of, is_behind_hold}
-use Rattle.cfg_build.specs.Routes.{leads_on, IsRoute}
+use Rattle.cfg_build.specs.Routes.{leads_on, is_hold, holds_in, IsRoute}
+use Rattle.cfg_build.proofs.Counts.{bit, bit_true, bit_false, count-cons}
 use Rattle.cfg_build.proofs.EndNumber.{end_is_last}
 use Rattle.cfg_build.proofs.Members.{Member, Member-at}
 use Rattle.cfg_build.proofs.ReachedNodes.{IsTold}
@@ -77,7 +78,13 @@ module _ (told : IsTold) (met : IsMet) (names : List NameInfo) (execs : List Exe
   pub record IsFront (j : ℕ) : Type 0 where
     pub front : List ℕ
     pub route : IsRoute (flow execs) (entering execs (first_piece (parts execs) j)) front (own_piece (parts execs) j)
-    pub few : (length front ≤ 1) ⊎ ((length front ≡ 2) × IsHeldOf j)
+    pub few : ((length front ≤ 1) × (holds_in (flow execs) front ≡ 0)) ⊎ ((length front ≤ 2) × (holds_in (flow execs) front ≡ 1) × IsHeldOf j)
+
+  hold_alone : (q : ℕ) → q < length (held execs) → holds_in (flow execs) ((length (rows (parts execs)) + q) ∷ []) ≡ 1
+  hold_alone q some =
+      let e : count_by (λ x. is_hold (piece_at (flow execs).pieces x).kind) ((n + q) ∷ []) ≡ bit (is_hold (piece_at (flow execs).pieces (n + q)).kind) + 0 = count-cons (λ x. is_hold (piece_at (flow execs).pieces x).kind) (n + q) [] in
+      let b : bit (is_hold (piece_at (flow execs).pieces (n + q)).kind) ≡ 1 = bit_true (is_hold (piece_at (flow execs).pieces (n + q)).kind) (ap is_hold (hold_kind q some)) in
+      omega (arith, e, b)
 
   -- ---- a part with a join
 
@@ -120,6 +127,18 @@ module _ (told : IsTold) (met : IsMet) (names : List NameInfo) (execs : List Exe
     x_leads : leads_on (piece_at (flow execs).pieces (first_piece (parts execs) j)).kind ≡ true
     x_leads = ap (λ (p : Piece). leads_on p.kind) (old_kind x x_below) ∙ ap leads_on (join_kind ps j some joined_here)
 
+    holds_with : (rest : List ℕ) → holds_in (flow execs) (first_piece (parts execs) j ∷ rest) ≡ holds_in (flow execs) rest
+    holds_with rest =
+        let e : count_by (λ x. is_hold (piece_at (flow execs).pieces x).kind) (x ∷ rest) ≡ bit (is_hold (piece_at (flow execs).pieces x).kind) + count_by (λ x. is_hold (piece_at (flow execs).pieces x).kind) rest = count-cons (λ x. is_hold (piece_at (flow execs).pieces x).kind) x rest in
+        let b : bit (is_hold (piece_at (flow execs).pieces x).kind) ≡ 0 = bit_false (is_hold (piece_at (flow execs).pieces x).kind) (ap (λ (p : Piece). is_hold p.kind) (old_kind x x_below) ∙ ap is_hold (join_kind ps j some joined_here)) in
+        omega (arith, e, b)
+
+    x_alone : holds_in (flow execs) (first_piece (parts execs) j ∷ []) ≡ 0
+    x_alone = holds_with []
+
+    x_and_hold : (q : ℕ) → q < length (held execs) → holds_in (flow execs) (first_piece (parts execs) j ∷ (length (rows (parts execs)) + q) ∷ []) ≡ 1
+    x_and_hold q more = holds_with ((n + q) ∷ []) ∙ hold_alone q more
+
     first_head : get_or (heads_at (parts execs) (first_piece (parts execs) j)) 0 0 ≡ own_piece (parts execs) j
     first_head = ap (λ (xs : List ℕ). get_or xs 0 0) heads
 
@@ -135,7 +154,7 @@ module _ (told : IsTold) (met : IsMet) (names : List NameInfo) (execs : List Exe
         record {
           front = x ∷ (n + q) ∷ [];
           route = (entered, x_leads, (to_hold, ap leads_on (hold_kind q e.some), on));
-          few = inr (refl, record {
+          few = inr (omega arith, x_and_hold q e.some, record {
             one = z; below = h.below; is = h.is;
             of = ⊎_elim
                 (λ (a : (is_join (piece_at (pieces_of ps) z).kind ≡ true) × (from (row_graph (parts execs) (finish execs)) k ≡ z)). inl (sym a.1 ∙ edge_begins told names execs loops well x 0 x_below not_end within))
@@ -150,7 +169,7 @@ module _ (told : IsTold) (met : IsMet) (names : List NameInfo) (execs : List Exe
         (λ none. record {
           front = x ∷ [];
           route = (entered, x_leads, free_leads told names execs loops well x 0 x_below not_end within none ∙ first_head);
-          few = inl (omega arith);
+          few = inl (omega arith, x_alone);
         })
         (cases_held told names execs loops well (first_out ps (finish execs) x + 0))
 
@@ -172,9 +191,9 @@ module _ (told : IsTold) (met : IsMet) (names : List NameInfo) (execs : List Exe
           out_of_hold told names execs loops well a.place a.some
           ∙ ap (λ m. to (row_graph (parts execs) (finish execs)) (edge_for told names execs loops well m)) a.is
           ∙ hold_comes_to_other told names execs loops well x p.below p.is h.1 ∙ same in
-      record { front = (n + a.place) ∷ []; route = (enters, ap leads_on (hold_kind a.place a.some), on); few = inl (omega arith) })
+      record { front = (n + a.place) ∷ []; route = (enters, ap leads_on (hold_kind a.place a.some), on); few = inr (omega arith, hold_alone a.place a.some, record { one = x; below = p.below; is = p.is; of = inl refl }) })
       (λ (behind : is_behind_hold execs x ≡ false).
-      record { front = []; route = cond-false (is_behind_hold execs x) (hold_of execs x) x behind ∙ same; few = inl (omega arith) })
+      record { front = []; route = cond-false (is_behind_hold execs x) (hold_of execs x) x behind ∙ same; few = inl (omega arith, refl) })
       (cases_Bool (is_behind_hold execs x))
 
   pub front_of : (j : ℕ) → j < length (parts execs) → IsFront j

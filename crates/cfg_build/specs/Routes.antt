@@ -1,5 +1,5 @@
 -- What the chain of an executable is made of.
-use Rattle.std.specs.Prelude.{◌≡◌, ℕ, ◌<◌, Bool, true, false, List, [], ◌∷◌, ◌++◌, length, slice_get, slice_index}
+use Rattle.std.specs.Prelude.{◌≡◌, ℕ, ◌<◌, Bool, true, false, List, [], ◌∷◌, ◌++◌, length, count_by, slice_get, slice_index}
 use Rattle.closed_walks.specs.Graph.{from, to}
 use Rattle.f77_tree.specs.declared.programs.Exec.{Exec}
 use Rattle.f77_tree.specs.declared.programs.ExecKind.{ExecKind}
@@ -19,6 +19,14 @@ abbrev pub leads_on : PieceKind → Bool
 leads_on piece.Join = true
 leads_on piece.Hold = true
 leads_on _ = false
+
+abbrev pub is_hold : PieceKind → Bool
+is_hold piece.Hold = true
+is_hold _ = false
+
+-- how many of these pieces are holds
+abbrev pub holds_in : FlowGraph → List ℕ → ℕ
+holds_in f pieces = count_by (λ node. is_hold (piece_at f.pieces node).kind) pieces
 
 -- from this piece on joins and holds, each of which leads to the next by its first edge, up to the last piece
 abbrev pub IsRoute : FlowGraph → (node : ℕ) → List ℕ → (last : ℕ) → Type 0
