@@ -38,3 +38,4 @@ pub mod RunPasses
 pub mod EnteredParts
 pub mod WaysEnter
 pub mod PartRoutes
+pub mod TwoHolds
