@@ -39,3 +39,4 @@ pub mod EnteredParts
 pub mod WaysEnter
 pub mod PartRoutes
 pub mod TwoHolds
+pub mod OneHold

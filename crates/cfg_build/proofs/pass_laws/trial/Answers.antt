@@ -1,3 +1,4 @@
+use Rattle.cfg_build.proofs.OneHold.{not_both}
 use Rattle.cfg_build.proofs.TwoHolds.{forced}
 use Rattle.cfg_build.proofs.PartRoutes.{front_of}
 use Rattle.cfg_build.proofs.WaysEnter.{way_enters}
