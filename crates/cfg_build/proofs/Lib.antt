@@ -40,3 +40,5 @@ pub mod WaysEnter
 pub mod PartRoutes
 pub mod TwoHolds
 pub mod OneHold
+pub mod LastPieces
+pub mod Following

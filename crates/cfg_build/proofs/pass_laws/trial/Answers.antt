@@ -1,3 +1,5 @@
+use Rattle.cfg_build.proofs.Following.{along_front}
+use Rattle.cfg_build.proofs.LastPieces.{own_last}
 use Rattle.cfg_build.proofs.OneHold.{not_both}
 use Rattle.cfg_build.proofs.TwoHolds.{forced}
 use Rattle.cfg_build.proofs.PartRoutes.{front_of}
