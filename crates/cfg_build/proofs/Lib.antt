@@ -42,3 +42,4 @@ pub mod TwoHolds
 pub mod OneHold
 pub mod LastPieces
 pub mod Following
+pub mod PartChains
