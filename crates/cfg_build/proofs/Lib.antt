@@ -43,3 +43,4 @@ pub mod OneHold
 pub mod LastPieces
 pub mod Following
 pub mod PartChains
+pub mod TestChains

@@ -31,7 +31,7 @@ use Rattle.cfg_build.proofs.PartRoutes.{IsHeldOf, IsFront, front_of}
 use Rattle.cfg_build.proofs.LastPieces.{IsPlaced, placed, first_is, own_made, own_leads, own_last, own_front}
 use Rattle.cfg_build.proofs.Following.{goes_further, goes_no_further, along_front}
 
-last_not_hold : (kind : ExecKind) → is_hold (last_kind kind) ≡ false
+pub last_not_hold : (kind : ExecKind) → is_hold (last_kind kind) ≡ false
 last_not_hold (Assign target value next) = refl
 last_not_hold (Print items next) = refl
 last_not_hold (Pass next) = refl
@@ -57,7 +57,7 @@ module _ (told : IsTold) (met : IsMet) (names : List NameInfo) (execs : List Exe
   abbrev ps : List Part
   ps = parts execs
 
-  made_goes : (node : ℕ) (kind : PieceKind) (k : ℕ) → IsMade (flow execs) execs node kind k → goes_on execs (piece_at (flow execs).pieces node) ≡ goes_on_from kind (has_test (kind_in (slice_get execs k)))
+  pub made_goes : (node : ℕ) (kind : PieceKind) (k : ℕ) → IsMade (flow execs) execs node kind k → goes_on execs (piece_at (flow execs).pieces node) ≡ goes_on_from kind (has_test (kind_in (slice_get execs k)))
   made_goes node kind k made =
       ap (λ kind. goes_on_from kind (has_test (kind_in (slice_get execs (piece_at (flow execs).pieces node).exec)))) made.kind_is
       ∙ ap (λ n. goes_on_from kind (has_test (kind_in (slice_get execs n)))) made.exec_is
@@ -66,13 +66,13 @@ module _ (told : IsTold) (met : IsMet) (names : List NameInfo) (execs : List Exe
   holds xs = holds_in (flow execs) xs
 
   -- a piece that is no hold adds none
-  no_more : (node : ℕ) (kind : PieceKind) (k : ℕ) (rest : List ℕ) → IsMade (flow execs) execs node kind k → is_hold kind ≡ false → holds_in (flow execs) (node ∷ rest) ≡ holds_in (flow execs) rest
+  pub no_more : (node : ℕ) (kind : PieceKind) (k : ℕ) (rest : List ℕ) → IsMade (flow execs) execs node kind k → is_hold kind ≡ false → holds_in (flow execs) (node ∷ rest) ≡ holds_in (flow execs) rest
   no_more node kind k rest made not =
       let e : holds (node ∷ rest) ≡ bit (is_hold (piece_at (flow execs).pieces node).kind) + holds rest = count-cons (λ x. is_hold (piece_at (flow execs).pieces x).kind) node rest in
       let b : bit (is_hold (piece_at (flow execs).pieces node).kind) ≡ 0 = bit_false (is_hold (piece_at (flow execs).pieces node).kind) (ap is_hold made.kind_is ∙ not) in
       omega (arith, e, b)
 
-  front_few : (j : ℕ) (r : IsFront told met names execs loops well j) → (length r.front ≤ 2) × (holds_in (flow execs) r.front ≤ 1)
+  pub front_few : (j : ℕ) (r : IsFront told met names execs loops well j) → (length r.front ≤ 2) × (holds_in (flow execs) r.front ≤ 1)
   front_few j r = ⊎_elim
       (λ (h : (length r.front ≤ 1) × (holds r.front ≡ 0)). (omega (arith, h.0), omega (arith, h.1)))
       (λ (h : (length r.front ≤ 2) × (holds r.front ≡ 1) × IsHeldOf told met names execs loops well j). (h.0, omega (arith, h.1)))

@@ -1,3 +1,4 @@
+use Rattle.cfg_build.proofs.TestChains.{two_chain}
 use Rattle.cfg_build.proofs.PartChains.{one_chain}
 use Rattle.cfg_build.proofs.Following.{along_front}
 use Rattle.cfg_build.proofs.LastPieces.{own_last}
