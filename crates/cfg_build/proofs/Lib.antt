@@ -44,3 +44,4 @@ pub mod LastPieces
 pub mod Following
 pub mod PartChains
 pub mod TestChains
+pub mod ChainsFound

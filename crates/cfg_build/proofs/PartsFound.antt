@@ -23,7 +23,7 @@ use Rattle.cfg_build.proofs.ControlGraph.{control_leads, exec_at, exec_below, le
 
 -- ---- an executable by itself
 
-cases_End : (kind : ExecKind) → (kind ≡ End) ⊎ (kind ≡ End → ⊥)
+pub cases_End : (kind : ExecKind) → (kind ≡ End) ⊎ (kind ≡ End → ⊥)
 cases_End (Assign target value next) = inr (λ h. cc)
 cases_End (Print items next) = inr (λ h. cc)
 cases_End (Pass next) = inr (λ h. cc)
