@@ -26,6 +26,8 @@ use Rattle.cfg_build.proofs.OutDegrees.{own_is_end}
 use Rattle.cfg_build.proofs.PieceKinds.{pieces_of, piece_of_part}
 use Rattle.cfg_build.proofs.PieceNumbers.{part_at, first_piece, own_piece, own_below}
 use Rattle.cfg_build.proofs.ReachedPieces.{apart}
+use Rattle.cfg_build.proofs.OutEdges.{first_out}
+use Rattle.cfg_build.proofs.FlowEdges.{out_old}
 use Rattle.cfg_build.proofs.EnteredParts.{entering}
 use Rattle.cfg_build.proofs.WaysEnter.{way_enters}
 use Rattle.cfg_build.proofs.PartRoutes.{own_plain, old_kind, IsFront, front_of}
@@ -58,7 +60,7 @@ module _ (told : IsTold) (met : IsMet) (names : List NameInfo) (execs : List Exe
     }
 
     -- the own piece of a part with ways isn't the end
-    own_not_end : (t : Target) → Member p.outs t → own_piece (parts execs) a.place ≢ finish execs
+    pub own_not_end : (t : Target) → Member p.outs t → own_piece (parts execs) a.place ≢ finish execs
     own_not_end t m is =
         let same : end_part execs ≡ p = own_is_end told names execs loops well a.place a.exists is ∙ a.is in
         subst (λ (q : Part). Member q.outs t) (sym same) m
@@ -80,6 +82,14 @@ module _ (told : IsTold) (met : IsMet) (names : List NameInfo) (execs : List Exe
         get_or_mapped f [] i some = absurd (omega (arith, some))
         get_or_mapped f (t ∷ ts) zero some = refl
         get_or_mapped f (t ∷ ts) (suc i) some = get_or_mapped f ts i (omega (arith, some))
+
+    -- the numbers of its edges
+    pub own_out : (i : ℕ) → i < length p.outs → out (flow execs).graph (own_piece (parts execs) a.place) i ≡ first_out (parts execs) (finish execs) (own_piece (parts execs) a.place) + i
+    own_out i some =
+        let x : ℕ = own_piece ps a.place in
+        let heads : heads_at ps x ≡ map (number ps) p.outs = heads_of_part ps a.place a.exists ∙ ap (λ (q : Part). map (number ps) q.outs) a.is in
+        let count : length (heads_at ps x) ≡ length p.outs = ap (λ (xs : List ℕ). length xs) heads ∙ length-map p.outs (number ps) in
+        out_old told names execs loops well x i (own_below ps a.place a.exists) (own_not_end (get_or p.outs i (First 0)) (member_of_nth p.outs i some)) (omega (arith, some, count))
 
     nth_first : (succs : List ℕ) (i : ℕ) → i < length succs → get_or (map First succs) i (First 0) ≡ First (slice_index succs i)
     nth_first [] i some = absurd (omega (arith, some))

@@ -45,3 +45,4 @@ pub mod Following
 pub mod PartChains
 pub mod TestChains
 pub mod ChainsFound
+pub mod PassesFollow

@@ -1,3 +1,4 @@
+use Rattle.cfg_build.proofs.PassesFollow.{passes_follow}
 use Rattle.cfg_build.proofs.ChainsFound.{chain_found}
 use Rattle.cfg_build.proofs.TestChains.{two_chain}
 use Rattle.cfg_build.proofs.PartChains.{one_chain}
