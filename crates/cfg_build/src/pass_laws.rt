@@ -1,13 +1,41 @@
 //! Laws on runs through flow graphs, as contracts of functions that do nothing.
 
-ghost use Rattle.std.specs.Prelude.{◌≡◌, ℕ, ℤ, List, Some, false, slice_get};
+ghost use Rattle.std.specs.Prelude.{◌≡◌, ◌≤◌, ℕ, ℤ, List, Some, true, length, slice_get};
+ghost use Rattle.closed_walks.specs.Graph.{to};
 ghost use Rattle.f77_tree.specs.declared.programs.Exec.{Exec};
-ghost use Rattle.f77_tree.specs.declared.programs.ExecKind.{ExecKind};
+ghost use Rattle.f77_tree.specs.declared.programs.NameInfo.{NameInfo};
 ghost use Rattle.f77_tree.specs.declared.programs.Program.{Program};
-ghost use Rattle.f77_tree.specs.Execution.{Memory, outcome};
-ghost use Rattle.cfg_build.specs.Passes.{pass_of};
-ghost use Rattle.cfg_build.specs.Joined.{FlowGraph};
+ghost use Rattle.f77_tree.specs.Run.{source};
+ghost use Rattle.f77_tree.specs.WellFormed.{AreExecs};
+ghost use Rattle.cfg_build.specs.Chains.{entry, has_test, chain, passes_of, StandsAt};
+ghost use Rattle.cfg_build.specs.Control.{is_reached};
+ghost use Rattle.cfg_build.specs.Flow.{flow};
+ghost use Rattle.cfg_build.specs.Passes.{passes};
+ghost use Rattle.cfg_build.specs.Routes.{AreChain, holds_in};
 
-pub fn trial()
-    ensures { ℕ }
-{}
+use closed_walks::{endless_ways_meet_cycles, reaching_is_told};
+use f77_tree::executables_lead_to_successors;
+
+/// The pieces of each executable that control can come to: joins and holds that lead on, and its own pieces, the edges of
+/// whose last one lead to the successors. There are five at most, and one hold among them at most.
+pub fn chains_lead_to_successors()
+    ensures chain { (names : List NameInfo) (execs : List Exec) (loops k : ℕ) (exec : Exec) → AreExecs names execs loops → is_reached execs k ≡ true → slice_get execs k ≡ Some exec → AreChain (flow execs) (entry execs) execs k (has_test exec.kind) exec.kind (chain execs k) }
+    ensures few { (names : List NameInfo) (execs : List Exec) (loops k : ℕ) (exec : Exec) → AreExecs names execs loops → is_reached execs k ≡ true → slice_get execs k ≡ Some exec → length (chain execs k) ≤ 5 }
+    ensures one_hold { (names : List NameInfo) (execs : List Exec) (loops k : ℕ) (exec : Exec) → AreExecs names execs loops → is_reached execs k ≡ true → slice_get execs k ≡ Some exec → holds_in (flow execs) (chain execs k) ≤ 1 }
+
+    // Edge 1 leads to the first executable.
+    ensures first { (names : List NameInfo) (execs : List Exec) (loops : ℕ) → AreExecs names execs loops → to (flow execs).graph 1 ≡ entry execs 0 }
+{
+    reaching_is_told();
+    endless_ways_meet_cycles();
+}
+
+/// The passes of a run follow its steps: after the passes of so many steps the memory, the text and the mark are those after
+/// the steps, and while the run goes on, its edge leads to the executable that comes next.
+pub fn passes_follow_steps()
+    ensures { (p : Program) (input : List ℤ) (n : ℕ) → AreExecs p.names p.execs p.loops → StandsAt p (source p input n) (passes p input (passes_of p input n)) }
+{
+    reaching_is_told();
+    endless_ways_meet_cycles();
+    executables_lead_to_successors();
+}
