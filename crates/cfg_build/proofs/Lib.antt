@@ -46,3 +46,5 @@ pub mod PartChains
 pub mod TestChains
 pub mod ChainsFound
 pub mod PassesFollow
+pub mod BranchChoices
+pub mod EdgesTaken

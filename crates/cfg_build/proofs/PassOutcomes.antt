@@ -25,7 +25,7 @@ use Rattle.cfg_build.specs.Routes.{last_kind}
 
 -- ---- which edge a selector takes
 
-sign_below : (z : ℤ) → at_least_zero (which_of_three z) < 3
+pub sign_below : (z : ℤ) → at_least_zero (which_of_three z) < 3
 sign_below (negsuc n) = omega arith
 sign_below (pos zero) = omega arith
 sign_below (pos (suc n)) = omega arith
@@ -34,7 +34,7 @@ at_least_zero-le : (z : ℤ) (n : ℕ) → z ≤ℤ pos n → at_least_zero z �
 at_least_zero-le (pos k) n le = omega (arith, ints, le)
 at_least_zero-le (negsuc k) n le = omega arith
 
-picked-le : (v : ℤ) (n : ℕ) → at_least_zero (picked v (pos n)) ≤ n
+pub picked-le : (v : ℤ) (n : ℕ) → at_least_zero (picked v (pos n)) ≤ n
 picked-le v n = by (int_le (pos 1) v) (int_le v (pos n)) refl refl
   where
     by : (low high : Bool) → int_le (pos 1) v ≡ low → int_le v (pos n) ≡ high → at_least_zero (if low && high then v -ℤ pos 1 else pos n) ≤ n

@@ -1,11 +1,11 @@
 //! Laws on runs through flow graphs, as contracts of functions that do nothing.
 
-ghost use Rattle.std.specs.Prelude.{◌≡◌, ◌≤◌, ℕ, ℤ, List, Some, true, length, slice_get};
-ghost use Rattle.closed_walks.specs.Graph.{to};
+ghost use Rattle.std.specs.Prelude.{◌≡◌, ◌≤◌, ◌<◌, ℕ, suc, ℤ, List, Some, true, length, slice_get};
+ghost use Rattle.closed_walks.specs.Graph.{edge_count, from, to};
 ghost use Rattle.f77_tree.specs.declared.programs.Exec.{Exec};
 ghost use Rattle.f77_tree.specs.declared.programs.NameInfo.{NameInfo};
 ghost use Rattle.f77_tree.specs.declared.programs.Program.{Program};
-ghost use Rattle.f77_tree.specs.Run.{source};
+ghost use Rattle.f77_tree.specs.Run.{Running, source};
 ghost use Rattle.f77_tree.specs.WellFormed.{AreExecs};
 ghost use Rattle.cfg_build.specs.Chains.{entry, has_test, chain, passes_of, StandsAt};
 ghost use Rattle.cfg_build.specs.Control.{is_reached};
@@ -38,4 +38,14 @@ pub fn passes_follow_steps()
     reaching_is_told();
     endless_ways_meet_cycles();
     executables_lead_to_successors();
+}
+
+/// The passes of a run are a walk through the flow graph: each edge is one of the graph, and the next one begins where the last
+/// one ends.
+pub fn passes_are_a_walk()
+    ensures edges { (p : Program) (input : List ℤ) (n : ℕ) → AreExecs p.names p.execs p.loops → (passes p input n).edge < edge_count (flow p.execs).graph }
+    ensures leads_on { (p : Program) (input : List ℤ) (n : ℕ) → AreExecs p.names p.execs p.loops → (passes p input (suc n)).mark ≡ Running → from (flow p.execs).graph (passes p input (suc n)).edge ≡ to (flow p.execs).graph (passes p input n).edge }
+{
+    reaching_is_told();
+    endless_ways_meet_cycles();
 }
