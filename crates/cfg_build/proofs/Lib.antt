@@ -48,3 +48,4 @@ pub mod ChainsFound
 pub mod PassesFollow
 pub mod BranchChoices
 pub mod EdgesTaken
+pub mod PassWalks

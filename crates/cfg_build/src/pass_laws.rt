@@ -40,9 +40,10 @@ pub fn passes_follow_steps()
     executables_lead_to_successors();
 }
 
-/// The passes of a run are a walk through the flow graph: each edge is one of the graph, and the next one begins where the last
-/// one ends.
+/// The passes of a run are a walk through the flow graph from its start: each edge is one of the graph, the first one leaves the
+/// start, and the next one begins where the last one ends.
 pub fn passes_are_a_walk()
+    ensures start { (p : Program) (input : List ℤ) → AreExecs p.names p.execs p.loops → from (flow p.execs).graph (passes p input 0).edge ≡ 0 }
     ensures edges { (p : Program) (input : List ℤ) (n : ℕ) → AreExecs p.names p.execs p.loops → (passes p input n).edge < edge_count (flow p.execs).graph }
     ensures leads_on { (p : Program) (input : List ℤ) (n : ℕ) → AreExecs p.names p.execs p.loops → (passes p input (suc n)).mark ≡ Running → from (flow p.execs).graph (passes p input (suc n)).edge ≡ to (flow p.execs).graph (passes p input n).edge }
 {
