@@ -113,7 +113,7 @@ module _ (told : IsTold) (names : List NameInfo) (execs : List Exec) (loops : �
     hold_comes_to_other h = ends_at_other x (edge_for x) (hold_edge x below held).exists (cond-false (is_join (piece_at (pieces_of (parts execs)) x).kind) (position_or_len (leaves_from x) g.edges) (position_or_len (comes_to x) g.edges) h)
 
   -- the lower of two held pieces isn't reached from the higher
-  not_to_lower : (x y : ℕ) → x < length (rows (parts execs)) → y < length (rows (parts execs)) → is_held g (finish execs) x ≡ true → is_held g (finish execs) y ≡ true → x < y → Reaches g y x → ⊥
+  pub not_to_lower : (x y : ℕ) → x < length (rows (parts execs)) → y < length (rows (parts execs)) → is_held g (finish execs) x ≡ true → is_held g (finish execs) y ≡ true → x < y → Reaches g y x → ⊥
   not_to_lower x y x_below y_below x_held y_held less r =
       let x_says : IsHeldBy told g (joined_sound told names execs loops well) (finish execs) x = held_says told g (joined_sound told names execs loops well) (finish execs) x x_below x_held in
       let y_says : IsHeldBy told g (joined_sound told names execs loops well) (finish execs) y = held_says told g (joined_sound told names execs loops well) (finish execs) y y_below y_held in

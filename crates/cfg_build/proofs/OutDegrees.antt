@@ -76,7 +76,7 @@ module _ (told : IsTold) (names : List NameInfo) (execs : List Exec) (loops : �
       let same : j ≡ last = same_first ps j last some end_at.exists (is ∙ sym end_at.first) in
       sym (ap (λ n. part_at ps n) same ∙ end_at.is)
 
-  own_is_end : (j : ℕ) → j < length (parts execs) → own_piece (parts execs) j ≡ finish execs → end_part execs ≡ part_at (parts execs) j
+  pub own_is_end : (j : ℕ) → j < length (parts execs) → own_piece (parts execs) j ≡ finish execs → end_part execs ≡ part_at (parts execs) j
   own_is_end j some is = ⊎_elim
       (λ (h : is_joined ps (part_at ps j) ≡ true).
       let one : joins ps (part_at ps j) ≡ 1 = cond-true (is_joined ps (part_at ps j)) 1 0 h in

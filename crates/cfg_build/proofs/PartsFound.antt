@@ -23,7 +23,7 @@ use Rattle.cfg_build.proofs.ControlGraph.{control_leads, exec_at, exec_below, le
 
 -- ---- an executable by itself
 
-cases_End : (kind : ExecKind) → (kind ≡ End) ⊎ (kind ≡ End → ⊥)
+pub cases_End : (kind : ExecKind) → (kind ≡ End) ⊎ (kind ≡ End → ⊥)
 cases_End (Assign target value next) = inr (λ h. cc)
 cases_End (Print items next) = inr (λ h. cc)
 cases_End (Pass next) = inr (λ h. cc)
@@ -58,7 +58,7 @@ test_part k line loop = part (Test k) piece.Branch line k (First loop.body ∷ F
 some_loop : (a b : Loop) → Some a ≡ Some b → a ≡ b
 some_loop a b h = cc
 
-test_in : (execs : List Exec) (k line : ℕ) (kind : ExecKind) (loop : Loop) → begun kind ≡ Some loop → Member (parts_of execs k line kind) (test_part k line loop)
+pub test_in : (execs : List Exec) (k line : ℕ) (kind : ExecKind) (loop : Loop) → begun kind ≡ Some loop → Member (parts_of execs k line kind) (test_part k line loop)
 test_in execs k line (Assign target value next) loop begins = absurd cc
 test_in execs k line (Print items next) loop begins = absurd cc
 test_in execs k line (Pass next) loop begins = absurd cc
@@ -173,7 +173,7 @@ module _ (told : IsTold) (names : List NameInfo) (execs : List Exec) (loops : �
   some_exec = well.end.some
 
   -- a DO that control increments it began
-  start_reached : (k : ℕ) (loop : Loop) → is_reached execs k ≡ true → incremented_at execs k ≡ Some loop → is_reached execs (do_start execs loop.number) ≡ true
+  pub start_reached : (k : ℕ) (loop : Loop) → is_reached execs k ≡ true → incremented_at execs k ≡ Some loop → is_reached execs (do_start execs loop.number) ≡ true
   start_reached k loop reached increments =
       let n : ℕ = loop.number in
       let d : ℕ = do_start execs n in

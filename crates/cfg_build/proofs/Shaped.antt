@@ -32,7 +32,7 @@ use Rattle.cfg_build.proofs.Strong.{holding, held_edges, zero_from}
 
 -- ---- one edge
 
-one_to : (g : Graph) (node a b : ℕ) → in_degree g node ≡ 1 → a < edge_count g → b < edge_count g → to g a ≡ node → to g b ≡ node → a ≡ b
+pub one_to : (g : Graph) (node a b : ℕ) → in_degree g node ≡ 1 → a < edge_count g → b < edge_count g → to g a ≡ node → to g b ≡ node → a ≡ b
 unfolding to
 one_to g node a b one first second a_to b_to =
     count_unique (comes_to node) g.edges a b (0, 0) (omega (arith, one)) first second (eq-eqb (to g a) node a_to) (eq-eqb (to g b) node b_to)
@@ -69,7 +69,7 @@ module _ (told : IsTold) (met : IsMet) (names : List NameInfo) (execs : List Exe
   behind : length (rows (parts execs)) ≡ finish execs + 1
   behind = end_is_last execs well.end
 
-  has_holds : HasHolds (joined execs) (finish execs) (flow execs)
+  pub has_holds : HasHolds (joined execs) (finish execs) (flow execs)
   has_holds =
       all_more (joined execs) end (edge_for told names execs loops well) (λ x. piece_at (pieces_of (parts execs)) x) end_below (held execs) (joined execs)
       (none_yet (joined execs) end (joined_sound told names execs loops well) (length_pieces (parts execs)))

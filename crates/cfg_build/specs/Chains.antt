@@ -6,7 +6,7 @@ use Rattle.f77_tree.specs.declared.programs.Exec.{Exec}
 use Rattle.f77_tree.specs.declared.programs.ExecKind.{ExecKind}
 use Rattle.f77_tree.specs.declared.programs.ExecKind.TheVariants.{DoStart, DoNext}
 use Rattle.f77_tree.specs.declared.programs.Program.{Program}
-use Rattle.f77_tree.specs.Run.{Running, source}
+use Rattle.f77_tree.specs.Run.{State, Running, source}
 use Rattle.cfg_build.specs.declared.pieces.Piece.{Piece}
 use Rattle.cfg_build.specs.declared.pieces.PieceKind.{PieceKind}
 use Rattle.cfg_build.specs.declared.pieces.PieceKind.TheVariants.{Act, Join, Hold}
@@ -15,7 +15,7 @@ use Rattle.cfg_build.specs.Parts.{parts}
 use Rattle.cfg_build.specs.Joined.{joined, number, finish}
 use Rattle.cfg_build.specs.Holds.{is_held, is_join}
 use Rattle.cfg_build.specs.Flow.{flow, held, piece_at}
-use Rattle.cfg_build.specs.Passes.{out, passes, kind_in}
+use Rattle.cfg_build.specs.Passes.{PassState, out, passes, kind_in}
 
 -- the number of the hold of a piece
 abbrev pub hold_of : List Exec → ℕ → ℕ
@@ -60,3 +60,11 @@ chain execs k = following 5 execs (entry execs k)
 abbrev pub passes_of : Program → List ℤ → (steps : ℕ) → ℕ
 passes_of p input zero = 0
 passes_of p input (suc n) = passes_of p input n + length (chain p.execs (source p input n).position)
+
+-- a run of passes stands where a run of steps does: with the same memory, text and mark, and, while it goes on, on an edge to
+-- the executable that comes next
+pub record StandsAt (p : Program) (x : State) (y : PassState) : Type 0 where
+  pub memory_is : y.memory ≡ x.memory
+  pub out_is : y.out ≡ x.out
+  pub mark_is : y.mark ≡ x.mark
+  pub enters : x.mark ≡ Running → to (flow p.execs).graph y.edge ≡ entry p.execs x.position

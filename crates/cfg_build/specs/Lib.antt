@@ -9,3 +9,4 @@ pub mod Passes
 pub mod Chains
 pub mod Degrees
 pub mod Shape
+pub mod Routes

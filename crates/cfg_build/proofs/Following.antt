@@ -1,0 +1,40 @@
+-- The chain that is followed is the one that is led along.
+use Rattle.std.proofs.Common.{◌≡◌, ℕ, zero, suc, ◌+◌, ◌<◌, ◌≤◌, Bool, true, false, cond, List, [], ◌∷◌, ◌++◌, length, slice_get, refl, sym, ap, ◌∙◌, subst, arith}
+use Rattle.std.proofs.lemmas.Bool.{false≢true, cond-true, cond-false}
+use Rattle.closed_walks.specs.Graph.{to}
+use Rattle.f77_tree.specs.declared.programs.Exec.{Exec}
+use Rattle.cfg_build.specs.declared.pieces.PieceKind.{PieceKind}
+use Rattle.cfg_build.specs.declared.pieces.PieceKind.TheVariants as piece
+use Rattle.cfg_build.specs.Flow.{flow, piece_at}
+use Rattle.cfg_build.specs.Passes.{out, kind_in}
+use Rattle.cfg_build.specs.Chains.{has_test, goes_on, goes_on_from, following}
+use Rattle.cfg_build.specs.Routes.{leads_on, IsRoute}
+
+leads_goes : (kind : PieceKind) (b : Bool) → leads_on kind ≡ true → goes_on_from kind b ≡ true
+leads_goes piece.Join b h = refl
+leads_goes piece.Hold b h = refl
+leads_goes piece.Start b h = absurd (false≢true h)
+leads_goes piece.Act b h = absurd (false≢true h)
+leads_goes piece.Pass b h = absurd (false≢true h)
+leads_goes piece.Branch b h = absurd (false≢true h)
+leads_goes piece.End b h = absurd (false≢true h)
+
+module _ (execs : List Exec) where
+  abbrev next : ℕ → ℕ
+  next node = to (flow execs).graph (out (flow execs).graph node 0)
+
+  pub goes_further : (most node : ℕ) → goes_on execs (piece_at (flow execs).pieces node) ≡ true → following (suc most) execs node ≡ node ∷ following most execs (to (flow execs).graph (out (flow execs).graph node 0))
+  goes_further most node h = ap (λ b. node ∷ cond b (following most execs (next node)) []) h
+
+  pub goes_no_further : (most node : ℕ) → goes_on execs (piece_at (flow execs).pieces node) ≡ false → following (suc most) execs node ≡ node ∷ []
+  goes_no_further most node h = ap (λ b. node ∷ cond b (following most execs (next node)) []) h
+
+  pub along_front : (front : List ℕ) (node last most : ℕ) → IsRoute (flow execs) node front last → following (length front + most) execs node ≡ front ++ following most execs last
+  along_front [] node last most route = let e : 0 + most ≡ most = omega arith in ap (λ n. following n execs node) e ∙ ap (λ n. following most execs n) route
+  along_front (first ∷ rest) node last most route =
+      let e : suc (length rest) + most ≡ suc (length rest + most) = omega arith in
+      let piece = piece_at (flow execs).pieces first in
+      ap (λ n. following n execs node) e
+      ∙ ap (λ n. following (suc (length rest + most)) execs n) route.0
+      ∙ goes_further (length rest + most) first (leads_goes piece.kind (has_test (kind_in (slice_get execs piece.exec))) route.1)
+      ∙ ap (λ xs. first ∷ xs) (along_front rest (next first) last most route.2)

@@ -1,0 +1,111 @@
+-- The chains of executables of one part and of two.
+use Rattle.std.proofs.Common.{◌≡◌, ◌≢◌, ℕ, zero, suc, ◌+◌, ◌-◌, ◌<◌, ◌≤◌, ◌⊎◌, Bool, true, false, List, [], ◌∷◌, ◌++◌, length, get_or, map, count_by, Some, slice_get, refl, sym, ap, ◌∙◌, subst, inl, inr, ⊎_elim, arith}
+use Rattle.std.proofs.lemmas.Bool.{false≢true}
+use Rattle.std.proofs.lemmas.List.{length-append}
+use Rattle.closed_walks.specs.Graph.{to}
+use Rattle.f77_tree.specs.declared.programs.Exec.{Exec}
+use Rattle.f77_tree.specs.declared.programs.ExecKind.{ExecKind}
+use Rattle.f77_tree.specs.declared.programs.ExecKind.TheVariants.{Assign, Print, Pass, Test as Testing, Sign, Pick, DoStart, DoNext, End}
+use Rattle.f77_tree.specs.declared.programs.NameInfo.{NameInfo}
+use Rattle.f77_tree.specs.Control.{successors}
+use Rattle.f77_tree.specs.WellFormed.{AreExecs}
+use Rattle.cfg_build.specs.declared.parts.Part.{Part}
+use Rattle.cfg_build.specs.declared.parts.Target.{Target}
+use Rattle.cfg_build.specs.declared.parts.Target.TheVariants.{First, Test}
+use Rattle.cfg_build.specs.declared.pieces.PieceKind.{PieceKind}
+use Rattle.cfg_build.specs.declared.pieces.PieceKind.TheVariants as piece
+use Rattle.cfg_build.specs.Parts.{parts, line_in}
+use Rattle.cfg_build.specs.Joined.{number}
+use Rattle.cfg_build.specs.Flow.{flow, piece_at}
+use Rattle.cfg_build.specs.Passes.{out, kind_in}
+use Rattle.cfg_build.specs.Chains.{entry, has_test, goes_on, goes_on_from, following, chain}
+use Rattle.cfg_build.specs.Routes.{is_hold, holds_in, IsRoute, IsMade, IsLast, last_kind, owner, IsOnePart, IsTwoParts}
+use Rattle.cfg_build.proofs.Counts.{bit, bit_false, count-cons, count-append}
+use Rattle.cfg_build.proofs.Members.{Member}
+use Rattle.cfg_build.proofs.ReachedNodes.{IsTold}
+use Rattle.cfg_build.proofs.Lowest.{IsMet}
+use Rattle.cfg_build.proofs.PieceNumbers.{part_at, first_piece, own_piece}
+use Rattle.cfg_build.proofs.OneHold.{not_both}
+use Rattle.cfg_build.proofs.EnteredParts.{entering}
+use Rattle.cfg_build.proofs.PartRoutes.{IsHeldOf, IsFront, front_of}
+use Rattle.cfg_build.proofs.LastPieces.{IsPlaced, placed, first_is, own_made, own_leads, own_last, own_front}
+use Rattle.cfg_build.proofs.Following.{goes_further, goes_no_further, along_front}
+
+pub last_not_hold : (kind : ExecKind) → is_hold (last_kind kind) ≡ false
+last_not_hold (Assign target value next) = refl
+last_not_hold (Print items next) = refl
+last_not_hold (Pass next) = refl
+last_not_hold (Testing c a b) = refl
+last_not_hold (Sign e a b c) = refl
+last_not_hold (Pick e targets other) = refl
+last_not_hold (DoStart loop_no var first last step body exit) = refl
+last_not_hold (DoNext loop_no var body exit) = refl
+last_not_hold End = refl
+
+ends_here : (kind : ExecKind) → has_test kind ≡ false → goes_on_from (last_kind kind) (has_test kind) ≡ false
+ends_here (Assign target value next) h = refl
+ends_here (Print items next) h = refl
+ends_here (Pass next) h = refl
+ends_here (Testing c a b) h = refl
+ends_here (Sign e a b c) h = refl
+ends_here (Pick e targets other) h = refl
+ends_here (DoStart loop_no var first last step body exit) h = absurd (false≢true (sym h))
+ends_here (DoNext loop_no var body exit) h = absurd (false≢true (sym h))
+ends_here End h = refl
+
+module _ (told : IsTold) (met : IsMet) (names : List NameInfo) (execs : List Exec) (loops : ℕ) (well : AreExecs names execs loops) where
+  abbrev ps : List Part
+  ps = parts execs
+
+  pub made_goes : (node : ℕ) (kind : PieceKind) (k : ℕ) → IsMade (flow execs) execs node kind k → goes_on execs (piece_at (flow execs).pieces node) ≡ goes_on_from kind (has_test (kind_in (slice_get execs k)))
+  made_goes node kind k made =
+      ap (λ kind. goes_on_from kind (has_test (kind_in (slice_get execs (piece_at (flow execs).pieces node).exec)))) made.kind_is
+      ∙ ap (λ n. goes_on_from kind (has_test (kind_in (slice_get execs n)))) made.exec_is
+
+  abbrev holds : List ℕ → ℕ
+  holds xs = holds_in (flow execs) xs
+
+  -- a piece that is no hold adds none
+  pub no_more : (node : ℕ) (kind : PieceKind) (k : ℕ) (rest : List ℕ) → IsMade (flow execs) execs node kind k → is_hold kind ≡ false → holds_in (flow execs) (node ∷ rest) ≡ holds_in (flow execs) rest
+  no_more node kind k rest made not =
+      let e : holds (node ∷ rest) ≡ bit (is_hold (piece_at (flow execs).pieces node).kind) + holds rest = count-cons (λ x. is_hold (piece_at (flow execs).pieces x).kind) node rest in
+      let b : bit (is_hold (piece_at (flow execs).pieces node).kind) ≡ 0 = bit_false (is_hold (piece_at (flow execs).pieces node).kind) (ap is_hold made.kind_is ∙ not) in
+      omega (arith, e, b)
+
+  pub front_few : (j : ℕ) (r : IsFront told met names execs loops well j) → (length r.front ≤ 2) × (holds_in (flow execs) r.front ≤ 1)
+  front_few j r = ⊎_elim
+      (λ (h : (length r.front ≤ 1) × (holds r.front ≡ 0)). (omega (arith, h.0), omega (arith, h.1)))
+      (λ (h : (length r.front ≤ 2) × (holds r.front ≡ 1) × IsHeldOf told met names execs loops well j). (h.0, omega (arith, h.1)))
+      r.few
+
+  -- an executable of one part
+  pub record IsOneChain (k : ℕ) (kind : ExecKind) : Type 0 where
+    pub is : IsOnePart (flow execs) (entry execs) execs k kind (chain execs k)
+    pub few : length (chain execs k) ≤ 5
+    pub one : holds_in (flow execs) (chain execs k) ≤ 1
+
+  pub one_chain : (k : ℕ) (exec : Exec) → slice_get execs k ≡ Some exec → has_test exec.kind ≡ false → owner execs k exec.kind ≡ k → (p : Part) → Member (parts execs) p → p.own ≡ First k → p.piece.kind ≡ last_kind exec.kind → p.piece.exec ≡ k → p.piece.line ≡ line_in (slice_get execs k) → p.outs ≡ map First (successors exec.kind) → IsOneChain k exec.kind
+  one_chain k exec found single owns p m own kind_is exec_is line_is outs =
+      let a : IsPlaced told met names execs loops well p = placed told met names execs loops well p m in
+      let r : IsFront told met names execs loops well a.place = front_of told met names execs loops well a.place a.exists in
+      let node : ℕ = own_piece ps a.place in
+      let route : IsRoute (flow execs) (entry execs k) r.front node = own_front told met names execs loops well p a k own r in
+      let made : IsMade (flow execs) execs node (last_kind exec.kind) k = own_made told met names execs loops well p a (last_kind exec.kind) k kind_is exec_is line_is in
+      let small = front_few a.place r in
+      let more : ℕ = 4 - length r.front in
+      let five : 5 ≡ length r.front + suc more = omega (arith, small.0) in
+      let stops : goes_on execs (piece_at (flow execs).pieces node) ≡ false = made_goes node (last_kind exec.kind) k made ∙ ap (λ e. goes_on_from (last_kind exec.kind) (has_test (kind_in e))) found ∙ ends_here exec.kind single in
+      let is : chain execs k ≡ r.front ++ node ∷ [] =
+          ap (λ n. following n execs (entry execs k)) five ∙ along_front execs r.front (entry execs k) node (suc more) route
+          ∙ ap (λ xs. r.front ++ xs) (goes_no_further execs more node stops) in
+      let count : length (chain execs k) ≡ length r.front + 1 = ap (λ (xs : List ℕ). length xs) is ∙ length-append r.front (node ∷ []) in
+      let held : holds (chain execs k) ≡ holds r.front + holds (node ∷ []) = ap (λ xs. holds xs) is ∙ count-append (λ x. is_hold (piece_at (flow execs).pieces x).kind) r.front (node ∷ []) in
+      let none : holds (node ∷ []) ≡ 0 = no_more node (last_kind exec.kind) k [] made (last_not_hold exec.kind) in
+      record {
+        is = record {
+          front = r.front; last = node; are = is; route = route;
+          ends = own_last told met names execs loops well p a k exec.kind kind_is (exec_is ∙ sym owns) (line_is ∙ ap (λ n. line_in (slice_get execs n)) (sym owns)) outs;
+        };
+        few = omega (arith, count, small.0);
+        one = omega (arith, held, none, small.1);
+      }

@@ -1,0 +1,75 @@
+-- No two pieces of which one leads only to the other are both held.
+use Rattle.std.proofs.Common.{◌≡◌, ◌≢◌, ℕ, zero, suc, ◌+◌, ◌<◌, ◌≤◌, ◌⊎◌, Bool, true, false, cond, List, [], ◌∷◌, length, get_or, map, refl, sym, ap, ◌∙◌, subst, inl, inr, ⊎_elim, arith}
+use Rattle.std.proofs.lemmas.Bool.{cases_Bool, cases_order, cond-true, cond-false}
+use Rattle.closed_walks.specs.Graph.{Graph, IsGraph, edge_count, from, to}
+use Rattle.closed_walks.specs.Walk.{Walk}
+use Rattle.f77_tree.specs.declared.programs.Exec.{Exec}
+use Rattle.f77_tree.specs.declared.programs.NameInfo.{NameInfo}
+use Rattle.f77_tree.specs.WellFormed.{AreExecs}
+use Rattle.cfg_build.specs.declared.parts.Part.{Part}
+use Rattle.cfg_build.specs.declared.parts.Target.{Target}
+use Rattle.cfg_build.specs.Parts.{parts, start_part}
+use Rattle.cfg_build.specs.Joined.{rows, finish, is_joined, number, width}
+use Rattle.cfg_build.specs.Holds.{is_held}
+use Rattle.cfg_build.proofs.Members.{Member}
+use Rattle.cfg_build.proofs.Places.{begins_before}
+use Rattle.cfg_build.proofs.ReachedNodes.{IsTold, Reaches, IsEdge, stay, join, along, along_last, by_walk}
+use Rattle.cfg_build.proofs.JoinedGraph.{row_graph, heads_at, heads_of_join, heads_of_part, edge_zero, IsRowEdge, row_edge, edge_to_head, number_of, to_own}
+use Rattle.cfg_build.proofs.Lowest.{IsOnCycle, IsHeldBy, held_says}
+use Rattle.cfg_build.proofs.PieceNumbers.{part_at, first_piece, own_piece, joins, number_is, width_is, own_below, first_below}
+use Rattle.cfg_build.proofs.ReachedPieces.{apart, joined_sound}
+use Rattle.cfg_build.proofs.HeldEdges.{not_to_lower}
+
+-- all edges from u lead to v
+abbrev pub LeadsOnlyTo : Graph → ℕ → ℕ → Type 0
+LeadsOnlyTo g u v = (e : ℕ) → e < edge_count g → from g e ≡ u → to g e ≡ v
+
+module _ (told : IsTold) (g : Graph) (sound : IsGraph g) (x : ℕ) (cycle : IsOnCycle told g sound x) where
+  round : (u v : ℕ) (w : List ℕ) → LeadsOnlyTo g u v → u ≡ x → Walk g x w (from g cycle.edge) → Reaches g v x
+  round u v [] only is leads = stay g v x (sym (only cycle.edge cycle.exists (sym leads ∙ sym is)) ∙ cycle.ends)
+  round u v (e ∷ w) only is leads =
+      let on : to g e ≡ v = only e leads.0 (leads.1 ∙ sym is) in
+      along_last g v (from g cycle.edge) x (by_walk g v (from g cycle.edge) w (subst (λ n. Walk g n w (from g cycle.edge)) on leads.2)) (record { number = cycle.edge; exists = cycle.exists; begins = refl; ends = cycle.ends })
+
+  forced_walk : (u v : ℕ) (w : List ℕ) → LeadsOnlyTo g u v → Walk g u w x → Reaches g v x
+  forced_walk u v [] only leads = round u v cycle.returns.walk only leads cycle.returns.leads
+  forced_walk u v (e ∷ w) only leads = by_walk g v x w (subst (λ n. Walk g n w x) (only e leads.0 leads.1) leads.2)
+
+  -- what leads only to v comes to x by v, even from x
+  pub forced : (u v : ℕ) → LeadsOnlyTo g u v → Reaches g u x → Reaches g v x
+  forced u v only r = forced_walk u v r.walk only r.leads
+
+module _ (ps : List Part) (end : ℕ) where
+  pub only_head : (u v : ℕ) → u ≢ end → heads_at ps u ≡ v ∷ [] → LeadsOnlyTo (row_graph ps end) u v
+  only_head u v other heads zero edge begins = absurd (other (sym begins ∙ (edge_zero ps end).0))
+  only_head u v other heads (suc e) edge begins =
+      let r : IsRowEdge ps end (suc e) = row_edge ps end e edge in
+      let is : r.piece ≡ u = sym r.begins ∙ begins in
+      let same : heads_at ps r.piece ≡ v ∷ [] = ap (λ n. heads_at ps n) is ∙ heads in
+      let one : length (heads_at ps r.piece) ≡ 1 = ap (λ (xs : List ℕ). length xs) same in
+      let first : r.nth ≡ 0 = omega (arith, r.within, one) in
+      r.ends ∙ ap (λ n. get_or (heads_at ps r.piece) n 0) first ∙ ap (λ (xs : List ℕ). get_or xs 0 0) same
+
+-- ---- pieces of parts
+
+abbrev pub IsOf : List Part → ℕ → ℕ → Type 0
+IsOf ps j x = (x ≡ first_piece ps j) ⊎ (x ≡ own_piece ps j)
+
+of_within : (ps : List Part) (j x : ℕ) → IsOf ps j x → (first_piece ps j ≤ x) × (x < first_piece ps j + width ps (part_at ps j))
+of_within ps j x of =
+    let wide : width ps (part_at ps j) ≡ 1 + joins ps (part_at ps j) = width_is ps (part_at ps j) in
+    ⊎_elim
+    (λ (h : x ≡ first_piece ps j). (omega (arith, h), omega (arith, h, wide)))
+    (λ (h : x ≡ own_piece ps j). (omega (arith, h), omega (arith, h, wide)))
+    of
+
+pub parts_share_none : (ps : List Part) (i j x : ℕ) → i < length ps → j < length ps → i ≢ j → IsOf ps i x → IsOf ps j x → ⊥
+parts_share_none ps i j x some other differ of_i of_j =
+    let a = of_within ps i x of_i in
+    let b = of_within ps j x of_j in
+    ⊎_elim
+    (λ (h : i ≡ j). differ h)
+    (⊎_elim
+    (λ (h : i < j). let l : first_piece ps i + width ps (part_at ps i) ≤ first_piece ps j = begins_before (width ps) ps i j start_part h (omega (arith, other)) in omega (arith, a.1, b.0, l))
+    (λ (h : j < i). let l : first_piece ps j + width ps (part_at ps j) ≤ first_piece ps i = begins_before (width ps) ps j i start_part h (omega (arith, some)) in omega (arith, a.0, b.1, l)))
+    (cases_order i j)

@@ -1,0 +1,78 @@
+-- An edge that leaves a piece other than a join leads to what each edge enters first.
+use Rattle.std.proofs.Common.{◌≡◌, ◌≢◌, ℕ, zero, suc, ◌+◌, ◌<◌, ◌≤◌, ◌⊎◌, Bool, true, false, cond, List, [], ◌∷◌, length, get_or, refl, sym, ap, ◌∙◌, subst, inl, inr, ⊎_elim, arith}
+use Rattle.std.proofs.lemmas.Bool.{cases_Bool, cond-true, cond-false, false≢true}
+use Rattle.closed_walks.specs.Graph.{Graph, edge_count, from, to}
+use Rattle.f77_tree.specs.declared.programs.Exec.{Exec}
+use Rattle.f77_tree.specs.declared.programs.NameInfo.{NameInfo}
+use Rattle.f77_tree.specs.WellFormed.{AreExecs}
+use Rattle.cfg_build.specs.Parts.{parts}
+use Rattle.cfg_build.specs.Joined.{FlowGraph, rows, finish, joined}
+use Rattle.cfg_build.specs.Holds.{is_join}
+use Rattle.cfg_build.specs.Flow.{flow, held, piece_at}
+use Rattle.cfg_build.specs.Passes.{out}
+use Rattle.cfg_build.specs.Chains.{hold_of, is_behind_hold}
+use Rattle.cfg_build.proofs.Members.{Member, Member-at}
+use Rattle.cfg_build.proofs.ReachedNodes.{IsTold}
+use Rattle.cfg_build.proofs.JoinedGraph.{row_graph, heads_at}
+use Rattle.cfg_build.proofs.PieceKinds.{pieces_of}
+use Rattle.cfg_build.proofs.OutEdges.{first_out, IsOut, out_is}
+use Rattle.cfg_build.proofs.HeldEdges.{edge_for}
+use Rattle.cfg_build.proofs.FlowEdges.{held_piece, held_edge_at, free_leads, held_leads}
+use Rattle.cfg_build.proofs.EnteredParts.{entering, IsHeldAt, held_at, IsHeldEdge, cases_held, holder, behind_then, behind_from, own_edge}
+
+module _ (told : IsTold) (names : List NameInfo) (execs : List Exec) (loops : ℕ) (well : AreExecs names execs loops) where
+  abbrev g : Graph
+  g = row_graph (parts execs) (finish execs)
+
+  abbrev joins : ℕ → Bool
+  joins x = is_join (piece_at (pieces_of (parts execs)) x).kind
+
+  module _ (x i : ℕ) (old : x < length (rows (parts execs))) (other : x ≢ finish execs) (within : i < length (heads_at (parts execs) x)) where
+    abbrev k : ℕ
+    k = first_out (parts execs) (finish execs) x + i
+
+    abbrev y : ℕ
+    y = get_or (heads_at (parts execs) x) i 0
+
+    r : IsOut (parts execs) (finish execs) x i
+    r = out_is (parts execs) (finish execs) x i old other within
+
+    pub edge_exists : first_out (parts execs) (finish execs) x + i < edge_count (row_graph (parts execs) (finish execs))
+    edge_exists = subst (λ n. n < edge_count g) r.is r.exists
+
+    pub edge_begins : from (row_graph (parts execs) (finish execs)) (first_out (parts execs) (finish execs) x + i) ≡ x
+    edge_begins = ap (λ n. from g n) (sym r.is) ∙ r.begins
+
+    pub edge_ends : to (row_graph (parts execs) (finish execs)) (first_out (parts execs) (finish execs) x + i) ≡ get_or (heads_at (parts execs) x) i 0
+    edge_ends = ap (λ n. to g n) (sym r.is) ∙ r.ends
+
+    way_held : is_join (piece_at (pieces_of (parts execs)) x).kind ≡ false → IsHeldEdge told names execs loops well k → to (flow execs).graph (out (flow execs).graph x i) ≡ entering execs y
+    way_held plain e =
+        let z : ℕ = held_piece told names execs loops well e.place in
+        let leads : to (flow execs).graph (out (flow execs).graph x i) ≡ hold_of execs z = held_leads told names execs loops well x i e.place old other within e.some e.is in
+        ⊎_elim
+        (λ (h : (joins z ≡ true) × (from g k ≡ z)). absurd (false≢true (sym plain ∙ ap joins (sym edge_begins ∙ h.1) ∙ h.0)))
+        (λ (h : (joins z ≡ false) × (to g k ≡ z)).
+        let same : y ≡ z = sym edge_ends ∙ h.1 in
+        let m : Member (held execs) z = Member-at (held execs) e.place 0 e.some in
+        let behind : is_behind_hold execs y ≡ true = ap (λ n. is_behind_hold execs n) same ∙ behind_from told names execs loops well z m h.0 in
+        leads ∙ ap (λ n. hold_of execs n) (sym same) ∙ sym (cond-true (is_behind_hold execs y) (hold_of execs y) y behind))
+        (holder told names execs loops well k e)
+
+    way_free : is_join (piece_at (pieces_of (parts execs)) x).kind ≡ false → ((q : ℕ) → q < length (held execs) → held_edge_at told names execs loops well q ≢ k) → to (flow execs).graph (out (flow execs).graph x i) ≡ entering execs y
+    way_free plain none =
+        let leads : to (flow execs).graph (out (flow execs).graph x i) ≡ y = free_leads told names execs loops well x i old other within none in
+        ⊎_elim
+        (λ (behind : is_behind_hold execs y ≡ true).
+        let h = behind_then told names execs loops well y behind in
+        let a : IsHeldAt told names execs loops well y = held_at told names execs loops well y h.0 in
+        let apart : held_edge_at told names execs loops well a.place ≢ k = none a.place a.some in
+        absurd (apart (ap (λ n. edge_for told names execs loops well n) a.is ∙ own_edge told names execs loops well y k h.0 h.1 edge_exists edge_ends)))
+        (λ (behind : is_behind_hold execs y ≡ false). leads ∙ sym (cond-false (is_behind_hold execs y) (hold_of execs y) y behind))
+        (cases_Bool (is_behind_hold execs y))
+
+    pub way_enters : is_join (piece_at (pieces_of (parts execs)) x).kind ≡ false → to (flow execs).graph (out (flow execs).graph x i) ≡ entering execs (get_or (heads_at (parts execs) x) i 0)
+    way_enters plain = ⊎_elim
+        (λ (e : IsHeldEdge told names execs loops well k). way_held plain e)
+        (λ (none : (q : ℕ) → q < length (held execs) → held_edge_at told names execs loops well q ≢ k). way_free plain none)
+        (cases_held told names execs loops well k)

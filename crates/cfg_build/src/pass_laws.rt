@@ -1,0 +1,52 @@
+//! Laws on runs through flow graphs, as contracts of functions that do nothing.
+
+ghost use Rattle.std.specs.Prelude.{◌≡◌, ◌≤◌, ◌<◌, ℕ, suc, ℤ, List, Some, true, length, slice_get};
+ghost use Rattle.closed_walks.specs.Graph.{edge_count, from, to};
+ghost use Rattle.f77_tree.specs.declared.programs.Exec.{Exec};
+ghost use Rattle.f77_tree.specs.declared.programs.NameInfo.{NameInfo};
+ghost use Rattle.f77_tree.specs.declared.programs.Program.{Program};
+ghost use Rattle.f77_tree.specs.Run.{Running, source};
+ghost use Rattle.f77_tree.specs.WellFormed.{AreExecs};
+ghost use Rattle.cfg_build.specs.Chains.{entry, has_test, chain, passes_of, StandsAt};
+ghost use Rattle.cfg_build.specs.Control.{is_reached};
+ghost use Rattle.cfg_build.specs.Flow.{flow};
+ghost use Rattle.cfg_build.specs.Passes.{passes};
+ghost use Rattle.cfg_build.specs.Routes.{AreChain, holds_in};
+
+use closed_walks::{endless_ways_meet_cycles, reaching_is_told};
+use f77_tree::executables_lead_to_successors;
+
+/// The pieces of each executable that control can come to: joins and holds that lead on, and its own pieces, the edges of
+/// whose last one lead to the successors. There are five at most, and one hold among them at most.
+pub fn chains_lead_to_successors()
+    ensures chain { (names : List NameInfo) (execs : List Exec) (loops k : ℕ) (exec : Exec) → AreExecs names execs loops → is_reached execs k ≡ true → slice_get execs k ≡ Some exec → AreChain (flow execs) (entry execs) execs k (has_test exec.kind) exec.kind (chain execs k) }
+    ensures few { (names : List NameInfo) (execs : List Exec) (loops k : ℕ) (exec : Exec) → AreExecs names execs loops → is_reached execs k ≡ true → slice_get execs k ≡ Some exec → length (chain execs k) ≤ 5 }
+    ensures one_hold { (names : List NameInfo) (execs : List Exec) (loops k : ℕ) (exec : Exec) → AreExecs names execs loops → is_reached execs k ≡ true → slice_get execs k ≡ Some exec → holds_in (flow execs) (chain execs k) ≤ 1 }
+
+    // Edge 1 leads to the first executable.
+    ensures first { (names : List NameInfo) (execs : List Exec) (loops : ℕ) → AreExecs names execs loops → to (flow execs).graph 1 ≡ entry execs 0 }
+{
+    reaching_is_told();
+    endless_ways_meet_cycles();
+}
+
+/// The passes of a run follow its steps: after the passes of so many steps the memory, the text and the mark are those after
+/// the steps, and while the run goes on, its edge leads to the executable that comes next.
+pub fn passes_follow_steps()
+    ensures { (p : Program) (input : List ℤ) (n : ℕ) → AreExecs p.names p.execs p.loops → StandsAt p (source p input n) (passes p input (passes_of p input n)) }
+{
+    reaching_is_told();
+    endless_ways_meet_cycles();
+    executables_lead_to_successors();
+}
+
+/// The passes of a run are a walk through the flow graph from its start: each edge is one of the graph, the first one leaves the
+/// start, and the next one begins where the last one ends.
+pub fn passes_are_a_walk()
+    ensures start { (p : Program) (input : List ℤ) → AreExecs p.names p.execs p.loops → from (flow p.execs).graph (passes p input 0).edge ≡ 0 }
+    ensures edges { (p : Program) (input : List ℤ) (n : ℕ) → AreExecs p.names p.execs p.loops → (passes p input n).edge < edge_count (flow p.execs).graph }
+    ensures leads_on { (p : Program) (input : List ℤ) (n : ℕ) → AreExecs p.names p.execs p.loops → (passes p input (suc n)).mark ≡ Running → from (flow p.execs).graph (passes p input (suc n)).edge ≡ to (flow p.execs).graph (passes p input n).edge }
+{
+    reaching_is_told();
+    endless_ways_meet_cycles();
+}
