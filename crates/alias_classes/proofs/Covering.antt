@@ -1,5 +1,5 @@
 -- What may be read or changed has its class among those that are needed.
-use Rattle.std.proofs.Common.{◌≡◌, ℕ, suc, ◌<◌, ℤ, List, [], ◌∷◌, length, map, All, Any, Option, Some, None, Result, inl, inr, refl, ap, sym, subst, ◌∙◌, arith}
+use Rattle.std.proofs.Common.{◌≡◌, ℕ, suc, ◌<◌, ℤ, List, length, map, All, Any, Option, Some, None, inl, inr, refl, ap, sym, subst, ◌∙◌}
 use Rattle.std.proofs.lemmas.List.{length-map}
 use Rattle.f77_tree.specs.declared.expressions.Access.{Access}
 use Rattle.f77_tree.specs.declared.expressions.Expr.{Expr, Row_of-Expr, end_of-Expr, more_of-Expr}
@@ -17,7 +17,7 @@ use Rattle.f77_tree.specs.Places.{IsWordOf}
 use Rattle.f77_tree.specs.Touched.{MayName, MayRead, SomeMayRead, ItemMayRead, ExecMayRead, ExecMayChange, SetsCount, SetsStep, ReadsCount}
 use Rattle.f77_tree.specs.Value.{dims_of, row_length, place_of, IsExpression, AllExpressions, IsAccess, ArePlaced}
 use Rattle.alias_classes.specs.Classes.{ClassTable, class_of_word, class_of_loop}
-use Rattle.alias_classes.specs.Needs.{IsClassOfName, HitsAt, HitsName, Hits, ExprNeeds, SomeNeeds, Needs, ItemNeeds, IsOfLoop, ExecNeeds}
+use Rattle.alias_classes.specs.Needs.{HitsAt, HitsName, Hits, ExprNeeds, SomeNeeds, ItemNeeds, IsOfLoop, ExecNeeds}
 
 -- a word that an access may name is one of its name
 abbrev pub StayInNames : Type 0

@@ -1,5 +1,5 @@
 -- The classes that an executable needs are a frame of it.
-use Rattle.std.proofs.Common.{◌≡◌, ℕ, ℤ, List, refl}
+use Rattle.std.proofs.Common.{ℕ, ℤ, List}
 use Rattle.f77_tree.specs.declared.programs.ExecKind.{ExecKind}
 use Rattle.f77_tree.specs.declared.programs.NameInfo.{NameInfo}
 use Rattle.f77_tree.specs.Execution.{Memory, Outcome, Goes, Stops, Ends}

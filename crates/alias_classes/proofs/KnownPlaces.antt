@@ -1,5 +1,5 @@
 -- What is known of constants, and of accesses whose subscripts are constants.
-use Rattle.std.proofs.Common.{◌≡◌, ℕ, zero, suc, ◌<◌, ◌≤◌, Bool, true, false, ◌&&◌, ℤ, pos, nat_abs, ◌+ℤ◌, ◌*ℤ◌, ◌<ℤ◌, List, [], ◌∷◌, length, get_or, map, All, Option, Some, None, Result, Ok, Err, ⊎_elim, refl, sym, ap, subst, ◌∙◌, arith}
+use Rattle.std.proofs.Common.{◌≡◌, ℕ, ◌<◌, ◌≤◌, Bool, true, false, ◌&&◌, ℤ, pos, nat_abs, ◌+ℤ◌, ◌*ℤ◌, ◌<ℤ◌, List, [], ◌∷◌, length, get_or, map, Option, Some, None, Result, Ok, Err, ⊎_elim, refl, sym, ap, subst, ◌∙◌, arith}
 use Rattle.std.specs.Prelude.{IfSome, slice_get}
 use Rattle.std.proofs.lemmas.Option.{slice_get_cases}
 use Rattle.std.specs.List.{list_all}
@@ -18,7 +18,7 @@ use Rattle.f77_tree.specs.declared.expressions.Expr.TheVariants.{Const, Truth, I
 use Rattle.f77_tree.specs.declared.programs.NameInfo.{NameInfo}
 use Rattle.f77_tree.specs.Known.{known, row_known}
 use Rattle.f77_tree.specs.KnownWith.{known_word}
-use Rattle.f77_tree.specs.Places.{IsWordOf, end_of}
+use Rattle.f77_tree.specs.Places.{IsWordOf}
 use Rattle.f77_tree.specs.Touched.{AreAsKnown, MayName}
 use Rattle.f77_tree.specs.Value.{value, row_values, value_before, all_values, and_then, moved, extent, subscripted, word_of, place, place_in, dims_in, place_of, dims_of, size_of, IsAccess, IsPlaced, ArePlaced}
 use Rattle.alias_classes.specs.Constant.{is_constant, is_constant_row}

@@ -1,18 +1,17 @@
 -- From spans to the words of names.
-use Rattle.std.proofs.Common.{◌≡◌, ◌≢◌, ℕ, suc, ◌+◌, ◌*◌, ◌<◌, ◌≤◌, ◌⊎◌, ℤ, pos, ◌+ℤ◌, ◌<ℤ◌, ◌≤ℤ◌, true, List, length, get_or, All, Option, Some, inl, inr, ⊎_elim, refl, ap, sym, ◌∙◌, subst, arith}
-use Rattle.std.specs.Prelude.{◌↔◌, slice_get}
+use Rattle.std.proofs.Common.{◌≡◌, ℕ, suc, ◌<◌, ◌≤◌, pos, ◌+ℤ◌, ◌<ℤ◌, ◌≤ℤ◌, true, List, length, get_or, Option, Some, inl, inr, ⊎_elim, refl, ap, sym, ◌∙◌, subst, arith}
+use Rattle.std.specs.Prelude.{slice_get}
 use Rattle.std.proofs.lemmas.Int.{ints}
 use Rattle.std.proofs.lemmas.Option.{slice_get-get_or, slice_get_cases}
 use Rattle.class_set.specs.declared.ClassSet.{ClassSet}
 use Rattle.class_set.specs.ClassSet.{holds}
-use Rattle.f77_tree.specs.declared.declarations.Dim.{Dim}
 use Rattle.f77_tree.specs.declared.programs.NameInfo.{NameInfo}
 use Rattle.f77_tree.specs.declared.programs.Program.{Program}
 use Rattle.f77_tree.specs.Declarations.{IsNameInfo}
 use Rattle.f77_tree.specs.Places.{IsWordOf, end_of}
-use Rattle.f77_tree.specs.Value.{place_in, dims_in, place_of, size_of, IsPlaced, ArePlaced}
+use Rattle.f77_tree.specs.Value.{place_in, dims_in, place_of, size_of, ArePlaced}
 use Rattle.f77_tree.specs.WellFormed.{IsWellFormed}
-use Rattle.alias_classes.specs.Classes.{ClassTable, IsMet, IsNextNumber, IsNumbering, IsClasses}
+use Rattle.alias_classes.specs.Classes.{IsMet, IsNextNumber, IsNumbering, IsClasses}
 use Rattle.alias_classes.specs.Kept.{table_of, IsSetOfName}
 use Rattle.alias_classes.specs.Runs.{IsSetOf}
 use Rattle.alias_classes.specs.Spans.{AreSpansOf, AreSpans, Holds}

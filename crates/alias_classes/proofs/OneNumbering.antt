@@ -1,11 +1,11 @@
 -- A table of names has one numbering of classes.
-use Rattle.std.proofs.Common.{◌≡◌, ◌≢◌, ℕ, zero, suc, ◌+◌, ◌<◌, ◌≤◌, ◌⊎◌, List, length, get_or, inl, inr, ⊎_elim, refl, ap, sym, ◌∙◌, subst, arith}
+use Rattle.std.proofs.Common.{◌≡◌, ◌≢◌, ℕ, zero, suc, ◌<◌, ◌≤◌, ◌⊎◌, List, get_or, inl, inr, ⊎_elim, sym, ◌∙◌, subst, arith}
 use Rattle.std.proofs.lemmas.Bool.{cases_order, cases_eq, cases_lt}
 use Rattle.std.proofs.lemmas.List.{get_or_past}
 use Rattle.std.proofs.lemmas.Grind.{same_number_lists}
 use Rattle.f77_tree.specs.declared.programs.Program.{Program}
 use Rattle.f77_tree.specs.Places.{IsWordOf}
-use Rattle.alias_classes.specs.Classes.{ClassTable, IsMet, IsNextNumber, SameNames, IsNumbering, IsClasses}
+use Rattle.alias_classes.specs.Classes.{ClassTable, IsMet, IsNextNumber, IsNumbering, IsClasses}
 
 -- a word of a name has a number, so it is one of the words
 pub word-below : (covers : ℕ → ℕ → Type 0) (words count : ℕ) (numbers : List ℕ) → IsNumbering covers words numbers count → (k w : ℕ) → covers k w → w < words

@@ -1,5 +1,5 @@
 -- Operands and subscripts, as rows and as lists.
-use Rattle.std.proofs.Common.{◌≡◌, ℕ, zero, suc, ◌<◌, ◌≤◌, List, [], ◌∷◌, ◌++◌, length, get_or, map, take, drop, Any, All, Bool, true, false, ◌&&◌, ◌||◌, ◌+◌, length-append, Option, ℤ, inl, inr, ⊎_elim, refl, sym, ap, subst, ◌∙◌, arith}
+use Rattle.std.proofs.Common.{◌≡◌, ℕ, zero, suc, ◌<◌, ◌≤◌, List, [], ◌∷◌, ◌++◌, length, get_or, map, take, Any, All, Bool, true, false, ◌&&◌, ◌||◌, ◌+◌, length-append, Option, ℤ, inl, inr, ⊎_elim, refl, sym, ap, subst, ◌∙◌, arith}
 use Rattle.std.specs.Prelude.{◌⊎◌, ◌↔◌}
 use Rattle.std.proofs.lemmas.Bool.{cases_lt}
 use Rattle.std.proofs.lemmas.List.{get_or_append_left, get_or_push, take_more, take_all}
@@ -15,7 +15,7 @@ use Rattle.f77_tree.specs.Known.{known, row_known}
 use Rattle.f77_tree.specs.Value.{row_length, IsExpression, AllExpressions, IsAccess}
 use Rattle.alias_classes.specs.Classes.{ClassTable}
 use Rattle.alias_classes.specs.Constant.{is_constant, is_constant_row}
-use Rattle.alias_classes.specs.Needs.{ExprNeeds, SomeNeeds, HitsName, Hits, Needs}
+use Rattle.alias_classes.specs.Needs.{ExprNeeds, SomeNeeds, HitsName, Needs}
 
 -- the row behind a list of operands or subscripts
 abbrev pub row_of : Expr → (n : Count) × Row_of-Expr n

@@ -1,10 +1,7 @@
 -- Runs as far as they have come.
-use Rattle.std.proofs.Common.{◌≡◌, ◌≢◌, ℕ, zero, suc, Bool, true, false, ◌||◌, ◌==◌, ◌+◌, ◌-◌, ◌<◌, ◌≤◌, ◌⊎◌, List, [], ◌∷◌, ◌++◌, length, get_or, ⊎_elim, refl, ap, sym, ◌∙◌, subst, arith, length-append}
-use Rattle.std.proofs.lemmas.Bool.{cases_order, cases_eq, cases_lt, eq-eqb, eqb-true}
-use Rattle.std.proofs.lemmas.List.{get_or_append_left, get_or_push, get_or_read}
+use Rattle.std.proofs.Common.{◌≡◌, ℕ, true, ◌<◌, ◌≤◌, List, length, get_or}
 use Rattle.class_set.specs.declared.ClassSet.{ClassSet}
 use Rattle.class_set.specs.ClassSet.{holds}
-use Rattle.alias_classes.specs.Runs.{AreStarts, IsSetOf}
 
 -- the starts of the words below n
 pub record StartsSoFar (numbers : List ℕ) (n : ℕ) (starts : List ℕ) : Type 0 where

@@ -1,5 +1,5 @@
 -- How many words a name has, as a number.
-use Rattle.std.proofs.Common.{◌≡◌, ℕ, suc, zero, ◌+◌, ◌*◌, ◌<◌, ◌≤◌, ℤ, pos, ◌*ℤ◌, ◌+ℤ◌, ◌≤ℤ◌, nat_abs, List, [], ◌∷◌, length, get_or, drop, add-one, drop-cons, All, refl, ap, sym, ◌∙◌, subst, arith}
+use Rattle.std.proofs.Common.{◌≡◌, ℕ, suc, zero, ◌+◌, ◌*◌, ◌<◌, ◌≤◌, pos, ◌*ℤ◌, nat_abs, List, [], ◌∷◌, length, get_or, drop, add-one, drop-cons, refl, ap, sym, ◌∙◌, subst, arith}
 use Rattle.std.proofs.Math.Nat.{mul_comm, mul_assoc, one-mul, mul-one, mul-le-mul_right, one-le-mul}
 use Rattle.std.proofs.lemmas.List.{drop_all}
 use Rattle.std.proofs.lemmas.Int.{ints}

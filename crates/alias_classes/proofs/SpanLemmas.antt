@@ -1,13 +1,13 @@
 -- Spans as far as they have come.
-use Rattle.std.proofs.Common.{◌≡◌, ◌≢◌, ℕ, zero, suc, ◌+◌, ◌-◌, length-append, ◌<◌, ◌≤◌, ◌⊎◌, pos, max, List, [], ◌∷◌, ◌++◌, length, get_or, set, inl, inr, ⊎_elim, refl, ap, sym, ◌∙◌, subst, arith}
-use Rattle.std.proofs.lemmas.Bool.{cases_order, cases_eq, cases_lt}
+use Rattle.std.proofs.Common.{◌≡◌, ◌≢◌, ℕ, ◌+◌, ◌-◌, length-append, ◌<◌, ◌≤◌, pos, List, [], ◌∷◌, ◌++◌, length, get_or, ⊎_elim, ap, sym, ◌∙◌, subst, arith}
+use Rattle.std.proofs.lemmas.Bool.{cases_eq, cases_lt}
 use Rattle.std.proofs.lemmas.List.{get_or_append_left, get_or_push, get_or_read}
 use Rattle.std.proofs.lemmas.Int.{ints}
 use Rattle.std.specs.Prelude.{Option, Some, slice_get, ◌+ℤ◌}
 use Rattle.f77_tree.specs.declared.programs.NameInfo.{NameInfo}
 use Rattle.f77_tree.specs.Places.{end_of}
 use Rattle.f77_tree.specs.Value.{place_of, place_in, dims_in, size_of}
-use Rattle.alias_classes.specs.Spans.{AreSpansOf, AreSpans, Holds, AreReaches, IsLastBegin, AreLastBegins, AreFromEnd}
+use Rattle.alias_classes.specs.Spans.{Holds, AreReaches, IsLastBegin, AreLastBegins}
 
 -- the spans of the names below n
 pub record SpansSoFar (names : List NameInfo) (n : ℕ) (begins ends : List ℕ) : Type 0 where

@@ -1,5 +1,5 @@
 -- The classes that accesses need: those of the words that they may name, and what their subscripts need.
-use Rattle.std.specs.Prelude.{◌≡◌, ℕ, List, map, Option, Some, None, ◌⊎◌, Any, slice_index, ℤ}
+use Rattle.std.specs.Prelude.{◌≡◌, ℕ, List, map, Option, Some, None, ◌⊎◌, Any, ℤ}
 use Rattle.f77_tree.specs.declared.expressions.Access.{Access}
 use Rattle.f77_tree.specs.declared.expressions.Expr.{Expr, Row_of-Expr, end_of-Expr, more_of-Expr}
 use Rattle.f77_tree.specs.declared.expressions.Expr.TheVariants.{Const, Truth, Input, Read', Apply'}

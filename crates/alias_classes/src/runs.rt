@@ -51,7 +51,10 @@ pub(crate) fn classes_between<const W: usize>(
     let mut word = end;
     while begin < word {
         let last = word as usize - 1;
-        set = set.with(numbers[last] as u32);
+        let class = numbers[last] as u32;
+        if !set.holds(class) {
+            set = set.with(class);
+        }
         word = starts[last];
     }
     set

@@ -1,5 +1,4 @@
-use Rattle.std.proofs.Common.{◌≡◌, ℕ, ◌<◌, ◌≤◌, ◌+◌, ◌*◌, length, get_or, rules, sym, subst, ◌∙◌, arith}
-use Rattle.class_set.specs.declared.ClassSet.{ClassSet}
+use Rattle.std.proofs.Common.{◌≡◌, ◌≤◌, length, get_or, rules, sym, subst, ◌∙◌, arith}
 use Rattle.alias_classes.specs.Spans.{AreSpans}
 use Rattle.alias_classes.proofs.MakingLemmas.{well-placed, are-spans, are-classes, set-of-name}
 use Rattle.alias_classes.proofs.classes.classes_of.Goals as goal

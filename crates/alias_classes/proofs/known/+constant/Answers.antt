@@ -1,4 +1,4 @@
-use Rattle.std.proofs.Common.{◌≡◌, sym, ap, ◌∙◌}
+use Rattle.std.proofs.Common.{sym, ap, ◌∙◌}
 use Rattle.alias_classes.specs.Constant.{is_constant}
 use Rattle.alias_classes.proofs.Rows.{is_constant-Apply}
 use Rattle.alias_classes.proofs.known.+constant.Goals as goal

@@ -1,4 +1,4 @@
-use Rattle.std.proofs.Common.{◌≡◌, sym, ap, subst, ◌∙◌, ◌<◌, length, Option, Some, None, ℕ}
+use Rattle.std.proofs.Common.{sym, ap, subst, ◌∙◌, ◌<◌, length, Option, None, ℕ}
 use Rattle.std.specs.Prelude.{IfSome}
 use Rattle.std.specs.Result.{result_ok}
 use Rattle.alias_classes.proofs.KnownPlaces.{constant-word, other-word, place-inside}

@@ -1,6 +1,6 @@
 use Rattle.std.proofs.Common.{◌≡◌, ℕ, ◌<◌, length, get_or}
 use Rattle.class_set.specs.declared.ClassSet.{ClassSet}
-use Rattle.alias_classes.specs.Runs.{AreStarts, IsSetOf}
+use Rattle.alias_classes.specs.Runs.{IsSetOf}
 use Rattle.alias_classes.proofs.making.name_sets.Given as goal
 
 abbrev pub invariant-loop-k : goal.invariant-loop-k

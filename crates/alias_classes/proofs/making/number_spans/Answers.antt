@@ -1,4 +1,4 @@
-use Rattle.std.proofs.Common.{◌≡◌, length, sym, subst, ◌∙◌}
+use Rattle.std.proofs.Common.{length, sym, subst, ◌∙◌}
 use Rattle.alias_classes.specs.Classes.{IsNumbering}
 use Rattle.alias_classes.specs.Spans.{Holds}
 use Rattle.alias_classes.specs.Walk.{key_of, IsWalked}

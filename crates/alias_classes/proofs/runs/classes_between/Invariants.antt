@@ -1,5 +1,3 @@
-use Rattle.std.proofs.Common.{◌≤◌}
-use Rattle.alias_classes.specs.Runs.{IsSetOf}
 use Rattle.alias_classes.proofs.RunLemmas.{SetSoFar}
 use Rattle.alias_classes.proofs.runs.classes_between.Given as goal
 

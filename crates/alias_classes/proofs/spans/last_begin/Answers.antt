@@ -1,4 +1,4 @@
-use Rattle.std.proofs.Common.{◌<◌, ◌≤◌, ◌+◌, arith}
+use Rattle.std.proofs.Common.{arith}
 use Rattle.alias_classes.proofs.SpanLemmas.{read-next-place}
 use Rattle.alias_classes.proofs.spans.last_begin.Goals as goal
 

@@ -1,9 +1,9 @@
-use Rattle.std.proofs.Common.{◌≡◌, pos, ◌*◌, ◌≤◌, ap, sym, subst, ◌∙◌, arith, get_or, length, drop, List}
+use Rattle.std.proofs.Common.{pos, ◌*◌, ap, sym, subst, ◌∙◌, arith, get_or, List}
 use Rattle.std.proofs.lemmas.Int.{ints}
 use Rattle.f77_tree.specs.declared.declarations.Dim.{Dim}
 use Rattle.f77_tree.specs.Declarations.{AreDims}
 use Rattle.f77_tree.specs.Value.{size_of}
-use Rattle.alias_classes.proofs.SizeLemmas.{NextSize, next-size, whole-size, width-nat, width-is}
+use Rattle.alias_classes.proofs.SizeLemmas.{next-size, whole-size, width-nat, width-is}
 use Rattle.alias_classes.proofs.spans.size.Goals as goal
 
 abbrev no_dim : Dim

@@ -1,7 +1,7 @@
-use Rattle.std.proofs.Common.{◌≡◌, ◌<◌, ◌≤◌, length, get_or, rules, arith, ◌∙◌, subst}
+use Rattle.std.proofs.Common.{◌<◌, length, arith, ◌∙◌, subst}
 use Rattle.std.proofs.lemmas.List.{get_or_read}
 use Rattle.alias_classes.specs.Spans.{Holds}
-use Rattle.alias_classes.specs.Walk.{key_of, IsMarked, IsWalked}
+use Rattle.alias_classes.specs.Walk.{key_of, IsMarked}
 use Rattle.alias_classes.proofs.Walked.{walked-step, walked-past, marked-length}
 use Rattle.alias_classes.proofs.walk.walk_name.Goals as goal
 
