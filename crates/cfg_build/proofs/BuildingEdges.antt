@@ -116,8 +116,8 @@ module _ (g : Graph) (x : ℕ) where
       any_none none = list_any_none test g.edges (λ k d l. ap test (get_or_default g.edges k d (0, 0) l) ∙ fails_at k l none)
 
       pub first_found : (i : ℕ) → i < length (edges_at g x) → test (get_or g.edges (get_or (edges_at g x) i 0) (0, 0)) ≡ true
-        → ((k : ℕ) → k < i → test (get_or g.edges (get_or (edges_at g x) k 0) (0, 0)) ≡ false)
-        → get_or (edges_at g x) i 0 ≡ position_or_len test g.edges
+          → ((k : ℕ) → k < i → test (get_or g.edges (get_or (edges_at g x) k 0) (0, 0)) ≡ false)
+          → get_or (edges_at g x) i 0 ≡ position_or_len test g.edges
       first_found i l passes before =
           let e = get_or (edges_at g x) i 0 in
           sym (position_or_len_is test g.edges e (0, 0) (let below = at_edge i l in omega (arith, below))

@@ -36,8 +36,8 @@ module _ (told : IsTold) (g : Graph) (sound : IsGraph g) (finish : ℕ) (finish_
   last_edge : (x v : ℕ) → Reaches g x v → (v ≡ x) ⊎ IsLast x v
   last_edge x v r =
       (kept g (λ n. Reaches g x n × ((n ≡ x) ⊎ IsLast x n))
-        (λ e l here. (along_last g x (from g e) (to g e) here.0 (record { number = e; exists = l; begins = refl; ends = refl }), inr (record { edge = e; exists = l; ends = refl; reached = here.0 })))
-        x v r (stay g x x refl, inl refl)).1
+      (λ e l here. (along_last g x (from g e) (to g e) here.0 (record { number = e; exists = l; begins = refl; ends = refl }), inr (record { edge = e; exists = l; ends = refl; reached = here.0 })))
+      x v r (stay g x x refl, inl refl)).1
 
   -- ---- pieces on cycles
 
@@ -72,8 +72,8 @@ module _ (told : IsTold) (g : Graph) (sound : IsGraph g) (finish : ℕ) (finish_
   held_from : (x : ℕ) → is_on_cycle g x ≡ true → reaches g x finish ≡ false → reaches_lower_cycle g x ≡ false → is_held g finish x ≡ true
   held_from x cycle end lower =
       and_from (is_on_cycle g x && not (reaches g x finish)) (not (reaches_lower_cycle g x))
-        (and_from (is_on_cycle g x) (not (reaches g x finish)) cycle (not_from_false (reaches g x finish) end))
-        (not_from_false (reaches_lower_cycle g x) lower)
+      (and_from (is_on_cycle g x) (not (reaches g x finish)) cycle (not_from_false (reaches g x finish) end))
+      (not_from_false (reaches_lower_cycle g x) lower)
 
   -- a piece on a cycle reaches the end, or one that is held and isn't higher
   cycle_leaves : (most y x : ℕ) → y < most → y < x → x < g.nodes → is_on_cycle g y ≡ true → Leaves g finish (below x) y
@@ -83,24 +83,24 @@ module _ (told : IsTold) (g : Graph) (sound : IsGraph g) (finish : ℕ) (finish_
       ⊎_elim
       (λ (end : reaches g y finish ≡ true). inl ((told g y finish sound y_node).0 end))
       (λ (end : reaches g y finish ≡ false). ⊎_elim
-        (λ (lower : reaches_lower_cycle g y ≡ true).
-          let low : IsLowerCycle y = lower_of y y_node lower in
-          leaves_before x y low.low low.reached (cycle_leaves most low.low x (omega (arith, low.less, l)) (omega (arith, low.less, less)) node low.cycle))
-        (λ (lower : reaches_lower_cycle g y ≡ false). inr (one_of x y y less (held_from y cycle end lower) (stay g y y refl)))
-        (cases_Bool (reaches_lower_cycle g y)))
+      (λ (lower : reaches_lower_cycle g y ≡ true).
+      let low : IsLowerCycle y = lower_of y y_node lower in
+      leaves_before x y low.low low.reached (cycle_leaves most low.low x (omega (arith, low.less, l)) (omega (arith, low.less, less)) node low.cycle))
+      (λ (lower : reaches_lower_cycle g y ≡ false). inr (one_of x y y less (held_from y cycle end lower) (stay g y y refl)))
+      (cases_Bool (reaches_lower_cycle g y)))
       (cases_Bool (reaches g y finish))
 
   -- a piece that doesn't leave, and is on a cycle, is held
   stays_held : (x : ℕ) → x < g.nodes → (Leaves g finish (below x) x → ⊥) → is_on_cycle g x ≡ true → is_held g finish x ≡ true
   stays_held x node stays cycle =
       held_from x cycle
-        (⊎_elim (λ (h : reaches g x finish ≡ true). absurd (stays (inl ((told g x finish sound node).0 h)))) (λ h. h) (cases_Bool (reaches g x finish)))
-        (⊎_elim
-          (λ (h : reaches_lower_cycle g x ≡ true).
-            let low : IsLowerCycle x = lower_of x node h in
-            absurd (stays (leaves_before x x low.low low.reached (cycle_leaves (suc low.low) low.low x (omega arith) low.less node low.cycle))))
-          (λ h. h)
-          (cases_Bool (reaches_lower_cycle g x)))
+      (⊎_elim (λ (h : reaches g x finish ≡ true). absurd (stays (inl ((told g x finish sound node).0 h)))) (λ h. h) (cases_Bool (reaches g x finish)))
+      (⊎_elim
+      (λ (h : reaches_lower_cycle g x ≡ true).
+      let low : IsLowerCycle x = lower_of x node h in
+      absurd (stays (leaves_before x x low.low low.reached (cycle_leaves (suc low.low) low.low x (omega arith) low.less node low.cycle))))
+      (λ h. h)
+      (cases_Bool (reaches_lower_cycle g x)))
 
   -- a held piece doesn't leave
   held_stays : (x : ℕ) → x < g.nodes → is_held g finish x ≡ true → Leaves g finish (below x) x → ⊥
@@ -121,29 +121,29 @@ module _ (told : IsTold) (g : Graph) (sound : IsGraph g) (finish : ℕ) (finish_
       let e : ℕ = says.cycle.edge in
       let l : e < edge_count g = says.cycle.exists in
       let high : x ≤ from g e = ⊎_elim
-          (λ (less : from g e < x). absurd (⊎_elim
-            (λ (same : from g e ≡ x). omega (arith, same, less))
-            (λ (last : IsLast x (from g e)).
-              let back : Reaches g (from g e) (from g last.edge) = join g (from g e) x (from g last.edge) (along g (from g e) x (record { number = e; exists = l; begins = refl; ends = says.cycle.ends })) last.reached in
-              says.lowest (from g e) less (is_on_cycle_from told g sound (from g e) last.edge last.exists last.ends back) says.cycle.returns)
-            (last_edge x (from g e) says.cycle.returns)))
-          (λ (h : x ≤ from g e). h)
-          (cases_lt (from g e) x) in
+      (λ (less : from g e < x). absurd (⊎_elim
+      (λ (same : from g e ≡ x). omega (arith, same, less))
+      (λ (last : IsLast x (from g e)).
+      let back : Reaches g (from g e) (from g last.edge) = join g (from g e) x (from g last.edge) (along g (from g e) x (record { number = e; exists = l; begins = refl; ends = says.cycle.ends })) last.reached in
+      says.lowest (from g e) less (is_on_cycle_from told g sound (from g e) last.edge last.exists last.ends back) says.cycle.returns)
+      (last_edge x (from g e) says.cycle.returns)))
+      (λ (h : x ≤ from g e). h)
+      (cases_lt (from g e) x) in
       list_any_member (λ (f : ℕ × ℕ). (f.1 == x) && nat_le x f.0) g.edges (get_or g.edges e (0, 0)) (Member-at g.edges e (0, 0) l)
-        (and_from (to g e == x) (nat_le x (from g e)) (eq-eqb (to g e) x says.cycle.ends) (le-leb x (from g e) high))
+      (and_from (to g e == x) (nat_le x (from g e)) (eq-eqb (to g e) x says.cycle.ends) (le-leb x (from g e) high))
 
   -- what the code tests tells whether a piece is held
   pub stays_is_held : (x : ℕ) (mark : Bool) → x < g.nodes → (mark ≡ true) ↔ Leaves g finish (below x) x → (not mark && (is_entered_from_above g x && is_on_cycle g x)) ≡ is_held g finish x
   stays_is_held x mark node marked =
       same_Bool (not mark && (is_entered_from_above g x && is_on_cycle g x)) (is_held g finish x)
       (λ h.
-        let parts = and_parts (not mark) (is_entered_from_above g x && is_on_cycle g x) h in
-        let more = and_parts (is_entered_from_above g x) (is_on_cycle g x) parts.1 in
-        stays_held x node (λ leaves. false≢true (sym (not-true mark parts.0) ∙ marked.1 leaves)) more.1)
+      let parts = and_parts (not mark) (is_entered_from_above g x && is_on_cycle g x) h in
+      let more = and_parts (is_entered_from_above g x) (is_on_cycle g x) parts.1 in
+      stays_held x node (λ leaves. false≢true (sym (not-true mark parts.0) ∙ marked.1 leaves)) more.1)
       (λ held.
-        and_from (not mark) (is_entered_from_above g x && is_on_cycle g x)
-          (not_from_false mark (⊎_elim (λ (h : mark ≡ true). absurd (held_stays x node held (marked.0 h))) (λ h. h) (cases_Bool mark)))
-          (and_from (is_entered_from_above g x) (is_on_cycle g x) (held_entered x node held) (held_says told g sound finish x node held).on_cycle))
+      and_from (not mark) (is_entered_from_above g x && is_on_cycle g x)
+      (not_from_false mark (⊎_elim (λ (h : mark ≡ true). absurd (held_stays x node held (marked.0 h))) (λ h. h) (cases_Bool mark)))
+      (and_from (is_entered_from_above g x) (is_on_cycle g x) (held_entered x node held) (held_says told g sound finish x node held).on_cycle))
 
   -- ---- one piece more
 
@@ -172,18 +172,19 @@ module _ (told : IsTold) (g : Graph) (sound : IsGraph g) (finish : ℕ) (finish_
       (cases_lt one.place (length held))
 
   pub one_more : (x : ℕ) (held : List ℕ) (marks new : List Bool) → is_held g finish x ≡ true → AreHeldBelow g finish x held marks
-    → ((v : ℕ) → (get_or new v false ≡ true) ↔ ((get_or marks v false ≡ true) ⊎ Reaches g v x)) → AreHeldBelow g finish (x + 1) (held ++ x ∷ []) new
+      → ((v : ℕ) → (get_or new v false ≡ true) ↔ ((get_or marks v false ≡ true) ⊎ Reaches g v x)) → AreHeldBelow g finish (x + 1) (held ++ x ∷ []) new
   one_more x held marks new is_one before marked = record {
     pieces = ap (λ (xs : List ℕ). xs ++ x ∷ []) before.pieces ∙ sym (ap (λ b. below x ++ cond b (x ∷ []) []) is_one) ∙ sym (filter_more x);
-    leaving = λ y.
-      (λ h. ⊎_elim
-        (λ old. ⊎_elim (λ end. inl end) (λ (one : ReachesOne g held y). inr (one_without held x y one)) ((before.leaving y).0 old))
-        (λ (r : Reaches g y x). inr (one_with held x y r))
-        ((marked y).0 h),
+    leaving = λ y. (
+      λ h. ⊎_elim
+          (λ old. ⊎_elim (λ end. inl end) (λ (one : ReachesOne g held y). inr (one_without held x y one)) ((before.leaving y).0 old))
+          (λ (r : Reaches g y x). inr (one_with held x y r))
+          ((marked y).0 h),
       λ leaves. (marked y).1 (⊎_elim
-        (λ end. inl ((before.leaving y).1 (inl end)))
-        (λ (one : ReachesOne g (held ++ x ∷ []) y). ⊎_elim (λ (old : ReachesOne g held y). inl ((before.leaving y).1 (inr old))) (λ r. inr r) (one_back held x y one))
-        leaves));
+          (λ end. inl ((before.leaving y).1 (inl end)))
+          (λ (one : ReachesOne g (held ++ x ∷ []) y). ⊎_elim (λ (old : ReachesOne g held y). inl ((before.leaving y).1 (inr old))) (λ r. inr r) (one_back held x y one))
+          leaves),
+    );
   }
 
   -- what the code tests, with the pieces held so far

@@ -81,8 +81,8 @@ module _ (execs : List Exec) (loops : ℕ) (are : AreLoops execs loops) where
       ap (λ i. get_or (set starts n k) i 0) same ∙ get_or-set_same starts n k 0 (omega (arith, here, same)) ∙ l.one_start k x.loop is (x.number ∙ sym same))
       (λ (other : m ≡ n → ⊥).
       let apart : do_start execs m ≡ k → ⊥ = λ same.
-          let e : Some l.loop ≡ Some x.loop = sym l.begins ∙ ap (begun_at execs) same ∙ is in
-          other (sym l.number ∙ ap (λ (loop : Loop). loop.number) (same_Some l.loop x.loop e) ∙ x.number) in
+      let e : Some l.loop ≡ Some x.loop = sym l.begins ∙ ap (begun_at execs) same ∙ is in
+      other (sym l.number ∙ ap (λ (loop : Loop). loop.number) (same_Some l.loop x.loop e) ∙ x.number) in
       get_or-set_other starts n m k 0 other ∙ known m below (omega (arith, start, apart)))
       (cases_eq m n)
 
@@ -92,8 +92,8 @@ module _ (execs : List Exec) (loops : ℕ) (are : AreLoops execs loops) where
       let l : IsLoop execs m = are.each m below in
       let is : begun_at execs k ≡ None = ap begun_in at ∙ none_numbered (begun exec.kind) none in
       let apart : do_start execs m ≡ k → ⊥ = λ same.
-          let e : Some l.loop ≡ None = sym l.begins ∙ ap (begun_at execs) same ∙ is in
-          absurd cc in
+      let e : Some l.loop ≡ None = sym l.begins ∙ ap (begun_at execs) same ∙ is in
+      absurd cc in
       known m below (omega (arith, start, apart))
 
   -- the DO that an executable increments

@@ -24,8 +24,8 @@ pieces_in rs = map (λ (row : Row). row.piece) rs
 -- ---- the edges of one part
 
 pub joined_edges : (before middle after : List (ℕ × ℕ)) (first join node : ℕ) (joined : Bool) (part : Part) (heads : List ℕ) → joined ≡ true → join ≡ first → node ≡ first + 1
-  → middle ≡ before ++ (join, join + 1) ∷ [] → after ≡ middle ++ map (λ head. (node, head)) heads
-  → after ≡ before ++ fan first (map (λ (row : Row). row.heads) (rows_from first joined part heads))
+    → middle ≡ before ++ (join, join + 1) ∷ [] → after ≡ middle ++ map (λ head. (node, head)) heads
+    → after ≡ before ++ fan first (map (λ (row : Row). row.heads) (rows_from first joined part heads))
 joined_edges before middle after first join node joined part heads is join_is node_is middle_is after_is =
     let next : node ≡ suc first = omega arith in
     after_is
@@ -37,8 +37,8 @@ joined_edges before middle after first join node joined part heads is join_is no
     ∙ ap (λ j. before ++ fan first (map (λ (row : Row). row.heads) (rows_from first j part heads))) (sym is)
 
 pub single_edges : (before middle after : List (ℕ × ℕ)) (first node : ℕ) (joined : Bool) (part : Part) (heads : List ℕ) → joined ≡ false → node ≡ first
-  → middle ≡ before → after ≡ middle ++ map (λ head. (node, head)) heads
-  → after ≡ before ++ fan first (map (λ (row : Row). row.heads) (rows_from first joined part heads))
+    → middle ≡ before → after ≡ middle ++ map (λ head. (node, head)) heads
+    → after ≡ before ++ fan first (map (λ (row : Row). row.heads) (rows_from first joined part heads))
 single_edges before middle after first node joined part heads is node_is middle_is after_is =
     after_is
     ∙ ap (λ es. es ++ map (λ head. (node, head)) heads) middle_is
@@ -77,8 +77,8 @@ module _ (execs : ℕ) (ps : List Part) (are : AreParts execs ps) (ways numbers 
       ∙ ap (λ hs. rows_from (number ps p.own) (is_joined_by (ways_to ps p.own) p) p hs) heads
 
   pub pieces_step : (i first : ℕ) (part : Part) (before after : List Piece) → i < length ps → part ≡ part_at ps i → first ≡ length before → before ≡ map (λ (row : Row). row.piece) (flat_map (rows_of ps) (take i ps))
-    → after ≡ before ++ map (λ (row : Row). row.piece) (rows_from first (is_joined_by (number_in ways part.own) part) part (map (number_in numbers) part.outs))
-    → after ≡ map (λ (row : Row). row.piece) (flat_map (rows_of ps) (take (i + 1) ps))
+      → after ≡ before ++ map (λ (row : Row). row.piece) (rows_from first (is_joined_by (number_in ways part.own) part) part (map (number_in numbers) part.outs))
+      → after ≡ map (λ (row : Row). row.piece) (flat_map (rows_of ps) (take (i + 1) ps))
   pieces_step i first part before after l is first_is before_is after_is =
       let rs = flat_map (rows_of ps) (take i ps) in
       let place : first ≡ first_piece ps i = first_is ∙ ap length before_is ∙ length-map rs (λ (row : Row). row.piece) ∙ length_so_far i in
@@ -89,9 +89,9 @@ module _ (execs : ℕ) (ps : List Part) (are : AreParts execs ps) (ways numbers 
       ∙ ap (map (λ (row : Row). row.piece)) (sym (rows_more ps i l))
 
   pub edges_step : (i first : ℕ) (part : Part) (pieces : List Piece) (zeroth : ℕ × ℕ) (before after : List (ℕ × ℕ)) → i < length ps → part ≡ part_at ps i → first ≡ length pieces → pieces ≡ map (λ (row : Row). row.piece) (flat_map (rows_of ps) (take i ps))
-    → before ≡ zeroth ∷ fan 0 (map (λ (row : Row). row.heads) (flat_map (rows_of ps) (take i ps)))
-    → after ≡ before ++ fan first (map (λ (row : Row). row.heads) (rows_from first (is_joined_by (number_in ways part.own) part) part (map (number_in numbers) part.outs)))
-    → after ≡ zeroth ∷ fan 0 (map (λ (row : Row). row.heads) (flat_map (rows_of ps) (take (i + 1) ps)))
+      → before ≡ zeroth ∷ fan 0 (map (λ (row : Row). row.heads) (flat_map (rows_of ps) (take i ps)))
+      → after ≡ before ++ fan first (map (λ (row : Row). row.heads) (rows_from first (is_joined_by (number_in ways part.own) part) part (map (number_in numbers) part.outs)))
+      → after ≡ zeroth ∷ fan 0 (map (λ (row : Row). row.heads) (flat_map (rows_of ps) (take (i + 1) ps)))
   edges_step i first part pieces zeroth before after l is first_is pieces_is before_is after_is =
       let rs = flat_map (rows_of ps) (take i ps) in
       let more = rows_of ps (part_at ps i) in

@@ -34,10 +34,10 @@ module _ (execs : ℕ) (ps : List Part) (are : AreParts execs ps) where
 
 -- one way more
 pub count-step : (outs : List Target) (i : ℕ) (d t : Target) (before now : ByTarget) (n : ℕ) → i < length outs → is_same Start (get_or outs i d) ≡ false
-  → number_in before t ≡ n + count_by (is_same t) (take i outs)
-  → (is_same Start (get_or outs i d) ≡ false → number_in now (get_or outs i d) ≡ number_in before (get_or outs i d) + 1)
-  → ((other : Target) → is_same (get_or outs i d) other ≡ false → number_in now other ≡ number_in before other)
-  → number_in now t ≡ n + count_by (is_same t) (take (i + 1) outs)
+    → number_in before t ≡ n + count_by (is_same t) (take i outs)
+    → (is_same Start (get_or outs i d) ≡ false → number_in now (get_or outs i d) ≡ number_in before (get_or outs i d) + 1)
+    → ((other : Target) → is_same (get_or outs i d) other ≡ false → number_in now other ≡ number_in before other)
+    → number_in now t ≡ n + count_by (is_same t) (take (i + 1) outs)
 count-step outs i d t before now n l other so_far here others =
     let x = get_or outs i d in
     ⊎_elim
@@ -70,7 +70,7 @@ few_ways_to execs ps i t are l =
 
 -- the numbers so far
 pub next-step : (ps : List Part) (i ways next : ℕ) → i < length ps → ways ≡ ways_to ps (get_or ps i start_part).own → next ≡ sum_by (width ps) (take i ps)
-  → next + cond (is_joined_by ways (get_or ps i start_part)) 2 1 ≡ sum_by (width ps) (take (i + 1) ps)
+    → next + cond (is_joined_by ways (get_or ps i start_part)) 2 1 ≡ sum_by (width ps) (take (i + 1) ps)
 next-step ps i ways next l tells so_far =
     let p = get_or ps i start_part in
     let wide : cond (is_joined_by ways p) 2 1 ≡ width ps p = ap (λ n. cond (is_joined_by n p) 2 1) tells in
@@ -88,10 +88,10 @@ few_so_far execs ps i are = omega (arith, few_numbers execs ps are, sum_by-take-
 
 -- one part is numbered
 pub numbers-step : (execs : ℕ) (ps : List Part) (i : ℕ) (before now : ByTarget) → AreParts execs ps → i < length ps
-  → (is_same Start (part_at ps i).own ≡ false → number_in now (part_at ps i).own ≡ first_piece ps i)
-  → ((other : Target) → is_same (part_at ps i).own other ≡ false → number_in now other ≡ number_in before other)
-  → ((j : ℕ) → j < i → number_in before (part_at ps j).own ≡ first_piece ps j)
-  → (j : ℕ) → j < i + 1 → number_in now (part_at ps j).own ≡ first_piece ps j
+    → (is_same Start (part_at ps i).own ≡ false → number_in now (part_at ps i).own ≡ first_piece ps i)
+    → ((other : Target) → is_same (part_at ps i).own other ≡ false → number_in now other ≡ number_in before other)
+    → ((j : ℕ) → j < i → number_in before (part_at ps j).own ≡ first_piece ps j)
+    → (j : ℕ) → j < i + 1 → number_in now (part_at ps j).own ≡ first_piece ps j
 numbers-step execs ps i before now are l here others so_far j below =
     ⊎_elim
     (λ (same : j ≡ i). subst (λ n. number_in now (part_at ps n).own ≡ first_piece ps n) (sym same) at_i)
@@ -102,6 +102,7 @@ numbers-step execs ps i before now are l here others so_far j below =
   where
     first : (n : ℕ) → n ≡ 0 → number_in now (part_at ps n).own ≡ first_piece ps n
     first n zero' = subst (λ m. number_in now (part_at ps m).own ≡ first_piece ps m) (sym zero') (ap (number_in now) are.start)
+
     at_i : number_in now (part_at ps i).own ≡ first_piece ps i
     at_i =
         ⊎_elim

@@ -40,9 +40,9 @@ out_is_other execs p t among m =
     ⊎_elim
     (λ (same : start_part ≡ p). ⊎_elim (λ (h : First 0 ≡ t). ap (is_same Start) (sym h)) (λ h. absurd h) (subst (λ (q : Part). Member q.outs t) (sym same) m))
     (λ (r : IsExecPart execs p ⊎ (end_part execs ≡ p)). ⊎_elim
-      (λ (ep : IsExecPart execs p). way_is_other execs ep.at ep.exec.kind t (ways_in execs ep.at ep.exec.line ep.exec.kind p t ep.among m))
-      (λ (same : end_part execs ≡ p). absurd (subst (λ (q : Part). Member q.outs t) (sym same) m))
-      r)
+    (λ (ep : IsExecPart execs p). way_is_other execs ep.at ep.exec.kind t (ways_in execs ep.at ep.exec.line ep.exec.kind p t ep.among m))
+    (λ (same : end_part execs ≡ p). absurd (subst (λ (q : Part). Member q.outs t) (sym same) m))
+    r)
     (cases_part execs p among)
 
 -- the target of a part of an executable is that executable's
@@ -71,9 +71,9 @@ own_of execs p end among =
     ⊎_elim
     (λ (same : start_part ≡ p). subst (λ (q : Part). IsOf (length execs) q.own) same tt)
     (λ (r : IsExecPart execs p ⊎ (end_part execs ≡ p)). ⊎_elim
-      (λ (ep : IsExecPart execs p). own_in execs ep.at ep.exec.line (length execs) ep.exec.kind p (slice_get_within execs ep.at ep.exec ep.found) ep.among)
-      (λ (same : end_part execs ≡ p). subst (λ (q : Part). IsOf (length execs) q.own) same (let l = length_is execs end in omega (arith, l)))
-      r)
+    (λ (ep : IsExecPart execs p). own_in execs ep.at ep.exec.line (length execs) ep.exec.kind p (slice_get_within execs ep.at ep.exec ep.found) ep.among)
+    (λ (same : end_part execs ≡ p). subst (λ (q : Part). IsOf (length execs) q.own) same (let l = length_is execs end in omega (arith, l)))
+    r)
     (cases_part execs p among)
 
 -- ---- how many parts there are, and how many ways
@@ -112,17 +112,17 @@ few_reached : (execs : List Exec) (k : ℕ) (exec : Exec) → slice_get execs k 
 few_reached execs k exec found =
     ⊎_elim
     (λ (h : is_reached execs k ≡ true).
-      let is : reached_parts execs k ≡ parts_of execs k exec.line exec.kind = reached_parts-yes execs k h ∙ ap (parts_in execs k) found in
-      record {
-        parts = let l = ap length is in omega (arith, l, few_parts_of execs k exec.line exec.kind);
-        ways = let l = ap way_count is in omega (arith, l, few_ways_of execs k exec.line exec.kind);
-      })
+    let is : reached_parts execs k ≡ parts_of execs k exec.line exec.kind = reached_parts-yes execs k h ∙ ap (parts_in execs k) found in
+    record {
+      parts = let l = ap length is in omega (arith, l, few_parts_of execs k exec.line exec.kind);
+      ways = let l = ap way_count is in omega (arith, l, few_ways_of execs k exec.line exec.kind);
+    })
     (λ (h : is_reached execs k ≡ false).
-      let is : reached_parts execs k ≡ [] = reached_parts-no execs k h in
-      record {
-        parts = let l = ap length is in omega (arith, l);
-        ways = let l = ap way_count is in omega (arith, l);
-      })
+    let is : reached_parts execs k ≡ [] = reached_parts-no execs k h in
+    record {
+      parts = let l = ap length is in omega (arith, l);
+      ways = let l = ap way_count is in omega (arith, l);
+    })
     (cases_Bool (is_reached execs k))
 
 -- the parts of the executables from one on
@@ -158,12 +158,12 @@ are_parts told names execs loops well =
       apart = parts_apart execs well.end;
       owns = λ j l. own_of execs (part_at ps j) well.end (Member-at ps j start_part l);
       leads = λ j i l m.
-        let p : Part = part_at ps j in
-        let t : Target = get_or p.outs i Start in
-        let among : Member ps p = Member-at ps j start_part l in
-        let out : Member p.outs t = Member-at p.outs i Start m in
-        let at : IsPartAt ps t = place_of_part ps t (way_leads told names execs loops well p t among out) in
-        record { place = at.place; exists = at.exists; own = at.own; other = out_is_other execs p t among out };
+          let p : Part = part_at ps j in
+          let t : Target = get_or p.outs i Start in
+          let among : Member ps p = Member-at ps j start_part l in
+          let out : Member p.outs t = Member-at p.outs i Start m in
+          let at : IsPartAt ps t = place_of_part ps t (way_leads told names execs loops well p t among out) in
+          record { place = at.place; exists = at.exists; own = at.own; other = out_is_other execs p t among out };
       few_parts = omega (arith, few.parts, well.count, length-append middle (end_part execs ∷ []));
       few_ways = omega (arith, few.ways, well.count, well.target_count, sum_by-cons (λ (part : Part). length part.outs) start_part (middle ++ end_part execs ∷ []), sum_by-append (λ (part : Part). length part.outs) middle (end_part execs ∷ []));
     }

@@ -31,14 +31,14 @@ module _ (g : Graph) (x : ℕ) (items : List ℕ) (are : items ≡ edges_at g x)
   out_found i l passes before =
       ap (λ (xs : List ℕ). get_or xs i 0) are
       ∙ first_found g x leaves out_stands i (within i l)
-        (subst (λ (xs : List ℕ). (from g (get_or xs i 0) == x) ≡ true) are passes)
-        (λ k less. subst (λ (xs : List ℕ). (from g (get_or xs k 0) == x) ≡ false) are (before k less))
+      (subst (λ (xs : List ℕ). (from g (get_or xs i 0) == x) ≡ true) are passes)
+      (λ k less. subst (λ (xs : List ℕ). (from g (get_or xs k 0) == x) ≡ false) are (before k less))
 
   pub out_missing : position_or_len (λ e. e.0 == x) g.edges < edge_count g → ((k : ℕ) → k < length items → (from g (get_or items k 0) == x) ≡ false) → ⊥
   unfolding from
   out_missing some none =
       first_missing g x leaves out_stands some
-        (λ k less. subst (λ (xs : List ℕ). (from g (get_or xs k 0) == x) ≡ false) are (none k (subst (λ (xs : List ℕ). k < length xs) (sym are) less)))
+      (λ k less. subst (λ (xs : List ℕ). (from g (get_or xs k 0) == x) ≡ false) are (none k (subst (λ (xs : List ℕ). k < length xs) (sym are) less)))
 
   -- ---- the first edge that comes to the node
 
@@ -54,14 +54,14 @@ module _ (g : Graph) (x : ℕ) (items : List ℕ) (are : items ≡ edges_at g x)
   in_found i l passes before =
       ap (λ (xs : List ℕ). get_or xs i 0) are
       ∙ first_found g x comes in_stands i (within i l)
-        (subst (λ (xs : List ℕ). (to g (get_or xs i 0) == x) ≡ true) are passes)
-        (λ k less. subst (λ (xs : List ℕ). (to g (get_or xs k 0) == x) ≡ false) are (before k less))
+      (subst (λ (xs : List ℕ). (to g (get_or xs i 0) == x) ≡ true) are passes)
+      (λ k less. subst (λ (xs : List ℕ). (to g (get_or xs k 0) == x) ≡ false) are (before k less))
 
   pub in_missing : position_or_len (λ e. e.1 == x) g.edges < edge_count g → ((k : ℕ) → k < length items → (to g (get_or items k 0) == x) ≡ false) → ⊥
   unfolding to
   in_missing some none =
       first_missing g x comes in_stands some
-        (λ k less. subst (λ (xs : List ℕ). (to g (get_or xs k 0) == x) ≡ false) are (none k (subst (λ (xs : List ℕ). k < length xs) (sym are) less)))
+      (λ k less. subst (λ (xs : List ℕ). (to g (get_or xs k 0) == x) ≡ false) are (none k (subst (λ (xs : List ℕ). k < length xs) (sym are) less)))
 
   -- ---- an edge that comes to the node from one that passes a test
 
@@ -81,7 +81,7 @@ module _ (g : Graph) (x : ℕ) (items : List ℕ) (are : items ≡ edges_at g x)
     unfolding from to
     test_missing none =
         any_none g x comes_from test_stands
-          (λ k less. subst (λ (xs : List ℕ). ((to g (get_or xs k 0) == x) && passes (from g (get_or xs k 0))) ≡ false) are (none k (subst (λ (xs : List ℕ). k < length xs) (sym are) less)))
+        (λ k less. subst (λ (xs : List ℕ). ((to g (get_or xs k 0) == x) && passes (from g (get_or xs k 0))) ≡ false) are (none k (subst (λ (xs : List ℕ). k < length xs) (sym are) less)))
 
 -- the mark of a node tells whether it is reached
 pub mark_told : IsTold → (g : Graph) (x : ℕ) (marks : List Bool) → IsGraph g → x < g.nodes → ((v : ℕ) → (get_or marks v false ≡ true) ↔ Reaches g x v) → (v : ℕ) → get_or marks v false ≡ reaches g x v

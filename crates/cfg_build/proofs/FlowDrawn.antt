@@ -95,9 +95,9 @@ module _ (told : IsTold) (met : IsMet) (names : List NameInfo) (execs : List Exe
   base : HoldsFit (joined execs) (joined execs).graph (finish execs) (held execs) (flow execs)
   base = record {
     nodes = λ k d l.
-      let r = Member-filtered (is_held (joined execs).graph (finish execs)) (range_with_len 0 (joined execs).graph.nodes) (get_or (held execs) k d) (Member-at (held execs) k d l) in
-      let within = Member-in_range 0 (joined execs).graph.nodes (get_or (held execs) k d) r.0 in
-      omega (arith, within.1);
+        let r = Member-filtered (is_held (joined execs).graph (finish execs)) (range_with_len 0 (joined execs).graph.nodes) (get_or (held execs) k d) (Member-at (held execs) k d l) in
+        let within = Member-in_range 0 (joined execs).graph.nodes (get_or (held execs) k d) r.0 in
+        omega (arith, within.1);
     edges = λ k d l. (held_edges told met names execs loops well (get_or (held execs) k d) (Member-at (held execs) k d l)).exists;
     few = omega (arith, few_nodes, few_held);
     is = refl;
@@ -133,15 +133,15 @@ pub finish_told : (execs : List Exec) (table : ByTarget) (ps : List Part) → ps
 finish_told execs table ps is numbered =
     let all : List Part = parts execs in
     let told : (j : ℕ) → j < length all → number_in table (get_or all j start_part).own ≡ number all (get_or all j start_part).own =
-        subst (λ (xs : List Part). (j : ℕ) → j < length xs → number_in table (get_or xs j start_part).own ≡ number xs (get_or xs j start_part).own) is numbered in
+    subst (λ (xs : List Part). (j : ℕ) → j < length xs → number_in table (get_or xs j start_part).own ≡ number xs (get_or xs j start_part).own) is numbered in
     let at : IsPartAt all (First (last_of execs)) = place_of_part all (First (last_of execs)) (record { one = end_part execs; among = member_end execs; own = refl }) in
     ap (number_in table) (sym at.own) ∙ told at.place at.exists ∙ ap (number all) at.own
 
 abbrev shape : ℕ → List (ℕ × ℕ) → List Piece → FlowGraph
 shape n edges pieces = record { graph = record { nodes = n; edges = edges }; pieces = pieces }
 
-drawing_is : (execs : List Exec) (pieces : List Piece) (edges : List (ℕ × ℕ)) → pieces ≡ map (λ (row : Row). row.piece) (rows (parts execs)) → edges ≡ (finish execs , 0) ∷ fan 0 (map (λ (row : Row). row.heads) (rows (parts execs)))
-  → shape (length pieces) edges pieces ≡ joined execs
+drawing_is : (execs : List Exec) (pieces : List Piece) (edges : List (ℕ × ℕ)) → pieces ≡ map (λ (row : Row). row.piece) (rows (parts execs)) → edges ≡ (finish execs, 0) ∷ fan 0 (map (λ (row : Row). row.heads) (rows (parts execs)))
+    → shape (length pieces) edges pieces ≡ joined execs
 drawing_is execs pieces edges one two =
     let all = rows (parts execs) in
     ap (λ (xs : List Piece). shape (length xs) edges xs) one
@@ -149,10 +149,10 @@ drawing_is execs pieces edges one two =
     ∙ ap (λ (es : List (ℕ × ℕ)). shape (length all) es (map (λ (row : Row). row.piece) all)) two
 
 pub drawn_is : (execs : List Exec) (result : Result Drawing NoMemory) (ps : List Part) (fin : ℕ) → ps ≡ parts execs → fin ≡ finish execs
-  → IfOk result (λ d. d.pieces.items ≡ map (λ (row : Row). row.piece) (rows ps)) → IfOk result (λ d. d.edges.items ≡ (fin , 0) ∷ fan 0 (map (λ (row : Row). row.heads) (rows ps)))
-  → IfOk result (λ d. drawn_as d ≡ joined execs)
+    → IfOk result (λ d. d.pieces.items ≡ map (λ (row : Row). row.piece) (rows ps)) → IfOk result (λ d. d.edges.items ≡ (fin, 0) ∷ fan 0 (map (λ (row : Row). row.heads) (rows ps)))
+    → IfOk result (λ d. drawn_as d ≡ joined execs)
 drawn_is execs (Err error) ps fin parts_are end one two = tt
 drawn_is execs (Ok d) ps fin parts_are end one two =
     drawing_is execs d.pieces.items d.edges.items
-      (one ∙ ap (λ (xs : List Part). map (λ (row : Row). row.piece) (rows xs)) parts_are)
-      (two ∙ ap (λ n. (n , 0) ∷ fan 0 (map (λ (row : Row). row.heads) (rows ps))) end ∙ ap (λ (xs : List Part). (finish execs , 0) ∷ fan 0 (map (λ (row : Row). row.heads) (rows xs))) parts_are)
+    (one ∙ ap (λ (xs : List Part). map (λ (row : Row). row.piece) (rows xs)) parts_are)
+    (two ∙ ap (λ n. (n, 0) ∷ fan 0 (map (λ (row : Row). row.heads) (rows ps))) end ∙ ap (λ (xs : List Part). (finish execs, 0) ∷ fan 0 (map (λ (row : Row). row.heads) (rows xs))) parts_are)

@@ -21,19 +21,19 @@ pub piece_is : (pieces : List Piece) (x : ℕ) (piece : Piece) → x < length pi
 piece_is pieces x piece within is = ap piece_in (slice_get-get_or pieces x piece within) ∙ sym is
 
 pub put_one : (pieces new : List Piece) (edges second third : List (ℕ × ℕ)) (x edge finish hold : ℕ) (e : ℕ × ℕ) (piece : Piece) → x < length pieces → edge < length edges
-  → hold ≡ length pieces → e ≡ get_or edges edge e → piece ≡ get_or pieces x piece
-  → new ≡ pieces ++ hold_for piece ∷ [] → second ≡ set edges edge (e.0 , hold) ++ (hold , e.1) ∷ [] → third ≡ second ++ (hold , finish) ∷ []
-  → drawing new third ≡ with_hold finish (drawing pieces edges) edge (piece_at pieces x)
+    → hold ≡ length pieces → e ≡ get_or edges edge e → piece ≡ get_or pieces x piece
+    → new ≡ pieces ++ hold_for piece ∷ [] → second ≡ set edges edge (e.0, hold) ++ (hold, e.1) ∷ [] → third ≡ second ++ (hold, finish) ∷ []
+    → drawing new third ≡ with_hold finish (drawing pieces edges) edge (piece_at pieces x)
 unfolding from to
 put_one pieces new edges second third x edge finish hold e piece x_within edge_within hold_is e_is piece_is_at new_is second_is third_is =
     let at : get_or edges edge (0, 0) ≡ e = get_or_default edges edge (0, 0) e edge_within ∙ sym e_is in
     let all = set edges edge (e.0, hold) in
-    let drawn : third ≡ all ++ (hold , e.1) ∷ (hold , finish) ∷ [] = third_is ∙ ap (λ (xs : List (ℕ × ℕ)). xs ++ (hold , finish) ∷ []) second_is ∙ append_assoc all ((hold , e.1) ∷ []) ((hold , finish) ∷ []) in
+    let drawn : third ≡ all ++ (hold, e.1) ∷ (hold, finish) ∷ [] = third_is ∙ ap (λ (xs : List (ℕ × ℕ)). xs ++ (hold, finish) ∷ []) second_is ∙ append_assoc all ((hold, e.1) ∷ []) ((hold, finish) ∷ []) in
     ap (λ (xs : List (ℕ × ℕ)). record { graph = record { nodes = length new; edges = xs }; pieces = new }) drawn
-    ∙ ap (λ (ps : List Piece). record { graph = record { nodes = length ps; edges = all ++ (hold , e.1) ∷ (hold , finish) ∷ [] }; pieces = ps }) new_is
-    ∙ ap (λ n. record { graph = record { nodes = n; edges = all ++ (hold , e.1) ∷ (hold , finish) ∷ [] }; pieces = pieces ++ hold_for piece ∷ [] }) (length_push pieces (hold_for piece))
-    ∙ ap (λ n. record { graph = record { nodes = length pieces + 1; edges = set edges edge (e.0, n) ++ (n , e.1) ∷ (n , finish) ∷ [] }; pieces = pieces ++ hold_for piece ∷ [] }) hold_is
-    ∙ ap (λ (f : ℕ × ℕ). record { graph = record { nodes = length pieces + 1; edges = set edges edge (f.0, length pieces) ++ (length pieces , f.1) ∷ (length pieces , finish) ∷ [] }; pieces = pieces ++ hold_for piece ∷ [] }) (sym at)
+    ∙ ap (λ (ps : List Piece). record { graph = record { nodes = length ps; edges = all ++ (hold, e.1) ∷ (hold, finish) ∷ [] }; pieces = ps }) new_is
+    ∙ ap (λ n. record { graph = record { nodes = n; edges = all ++ (hold, e.1) ∷ (hold, finish) ∷ [] }; pieces = pieces ++ hold_for piece ∷ [] }) (length_push pieces (hold_for piece))
+    ∙ ap (λ n. record { graph = record { nodes = length pieces + 1; edges = set edges edge (e.0, n) ++ (n, e.1) ∷ (n, finish) ∷ [] }; pieces = pieces ++ hold_for piece ∷ [] }) hold_is
+    ∙ ap (λ (f : ℕ × ℕ). record { graph = record { nodes = length pieces + 1; edges = set edges edge (f.0, length pieces) ++ (length pieces, f.1) ∷ (length pieces, finish) ∷ [] }; pieces = pieces ++ hold_for piece ∷ [] }) (sym at)
     ∙ ap (λ (p : Piece). with_hold finish (drawing pieces edges) edge p) (sym (piece_is pieces x piece x_within piece_is_at))
 
 -- what stands in front stays
@@ -49,4 +49,4 @@ length_pieces finish f edge piece = length_push f.pieces (hold_for piece)
 pub length_edges : (finish : ℕ) (f : FlowGraph) (edge : ℕ) (piece : Piece) → length (with_hold finish f edge piece).graph.edges ≡ length f.graph.edges + 2
 length_edges finish f edge piece =
     let g = f.graph in
-    length-append (set g.edges edge (from g edge , g.nodes)) ((g.nodes , to g edge) ∷ (g.nodes , finish) ∷ []) ∙ ap (λ n. n + 2) (length-set g.edges edge (from g edge , g.nodes))
+    length-append (set g.edges edge (from g edge, g.nodes)) ((g.nodes, to g edge) ∷ (g.nodes, finish) ∷ []) ∙ ap (λ n. n + 2) (length-set g.edges edge (from g edge, g.nodes))

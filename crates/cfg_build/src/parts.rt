@@ -37,11 +37,7 @@ pub struct Part {
 }
 
 /// The start, the parts of the executables that control can come to, and the end.
-pub(crate) fn parts_of(
-    alloc: Global,
-    p: &Program,
-    reached: &[bool],
-) -> Result<Vec<Part>, NoMemory>
+pub(crate) fn parts_of(alloc: Global, p: &Program, reached: &[bool]) -> Result<Vec<Part>, NoMemory>
     requires well_formed { IsWellFormed p.now }
     requires count { length reached.now ≡ length p.now.execs }
     requires reached { (k : ℕ) → k < length p.now.execs → slice_index_or reached.now k false ≡ is_reached p.now.execs k }

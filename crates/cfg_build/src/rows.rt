@@ -94,11 +94,7 @@ fn draw_outs(
 }
 
 /// The graph of so many nodes with these edges.
-pub(crate) fn digraph(
-    alloc: Global,
-    nodes: u32,
-    edges: &[(u32, u32)],
-) -> Result<Digraph, NoMemory>
+pub(crate) fn digraph(alloc: Global, nodes: u32, edges: &[(u32, u32)]) -> Result<Digraph, NoMemory>
     requires sound { IsGraph (record { nodes = nodes; edges = edges.now }) }
     requires few { length edges.now < 2 ^ 31 }
     ensures { IfOk result (λ g. g ≡ record { nodes = nodes; edges = edges.now }) }

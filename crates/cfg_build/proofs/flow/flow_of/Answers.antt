@@ -24,42 +24,42 @@ graph_of-requires-clause-edges c =
 pub put_holds-requires-clause-nodes : goal.put_holds-requires-clause-nodes
 put_holds-requires-clause-nodes c =
     let fit : HoldsFit (drawn_as c.in_ok-drawing.drawing) c.in_ok-graph.graph (c.nodes-finish.result - 1) c.deref.result.now (flow c.args.p.now.execs) =
-        holds_fit c.reaching_is_told.ensures c.endless_ways_meet_cycles.ensures c.args.p.now.names c.args.p.now.execs c.args.p.now.loops c.requires.execs
-          (drawn_as c.in_ok-drawing.drawing) c.in_ok-graph.graph (c.nodes-finish.result - 1) c.deref.result.now
-          c.in_ok-drawing.ensures c.in_ok-graph.ensures (ap (λ n. n - 1) c.nodes-finish.ensures.count) (c.deref.ensures.value ∙ c.in_ok-held.ensures) in
+    holds_fit c.reaching_is_told.ensures c.endless_ways_meet_cycles.ensures c.args.p.now.names c.args.p.now.execs c.args.p.now.loops c.requires.execs
+    (drawn_as c.in_ok-drawing.drawing) c.in_ok-graph.graph (c.nodes-finish.result - 1) c.deref.result.now
+    c.in_ok-drawing.ensures c.in_ok-graph.ensures (ap (λ n. n - 1) c.nodes-finish.ensures.count) (c.deref.ensures.value ∙ c.in_ok-held.ensures) in
     fit.nodes
 
 pub put_holds-requires-clause-held : goal.put_holds-requires-clause-held
 put_holds-requires-clause-held c =
     let fit : HoldsFit (drawn_as c.in_ok-drawing.drawing) c.in_ok-graph.graph (c.nodes-finish.result - 1) c.deref.result.now (flow c.args.p.now.execs) =
-        holds_fit c.reaching_is_told.ensures c.endless_ways_meet_cycles.ensures c.args.p.now.names c.args.p.now.execs c.args.p.now.loops c.requires.execs
-          (drawn_as c.in_ok-drawing.drawing) c.in_ok-graph.graph (c.nodes-finish.result - 1) c.deref.result.now
-          c.in_ok-drawing.ensures c.in_ok-graph.ensures (ap (λ n. n - 1) c.nodes-finish.ensures.count) (c.deref.ensures.value ∙ c.in_ok-held.ensures) in
+    holds_fit c.reaching_is_told.ensures c.endless_ways_meet_cycles.ensures c.args.p.now.names c.args.p.now.execs c.args.p.now.loops c.requires.execs
+    (drawn_as c.in_ok-drawing.drawing) c.in_ok-graph.graph (c.nodes-finish.result - 1) c.deref.result.now
+    c.in_ok-drawing.ensures c.in_ok-graph.ensures (ap (λ n. n - 1) c.nodes-finish.ensures.count) (c.deref.ensures.value ∙ c.in_ok-held.ensures) in
     fit.edges
 
 pub put_holds-requires-clause-few : goal.put_holds-requires-clause-few
 put_holds-requires-clause-few c =
     let fit : HoldsFit (drawn_as c.in_ok-drawing.drawing) c.in_ok-graph.graph (c.nodes-finish.result - 1) c.deref.result.now (flow c.args.p.now.execs) =
-        holds_fit c.reaching_is_told.ensures c.endless_ways_meet_cycles.ensures c.args.p.now.names c.args.p.now.execs c.args.p.now.loops c.requires.execs
-          (drawn_as c.in_ok-drawing.drawing) c.in_ok-graph.graph (c.nodes-finish.result - 1) c.deref.result.now
-          c.in_ok-drawing.ensures c.in_ok-graph.ensures (ap (λ n. n - 1) c.nodes-finish.ensures.count) (c.deref.ensures.value ∙ c.in_ok-held.ensures) in
+    holds_fit c.reaching_is_told.ensures c.endless_ways_meet_cycles.ensures c.args.p.now.names c.args.p.now.execs c.args.p.now.loops c.requires.execs
+    (drawn_as c.in_ok-drawing.drawing) c.in_ok-graph.graph (c.nodes-finish.result - 1) c.deref.result.now
+    c.in_ok-drawing.ensures c.in_ok-graph.ensures (ap (λ n. n - 1) c.nodes-finish.ensures.count) (c.deref.ensures.value ∙ c.in_ok-held.ensures) in
     omega (arith, fit.few)
 
 pub graph_of-requires-2-clause-sound : goal.graph_of-requires-2-clause-sound
 graph_of-requires-2-clause-sound c =
     let fit : HoldsFit (drawn_as c.in_ok-drawing.drawing) c.in_ok-graph.graph (c.nodes-finish.result - 1) c.deref.result.now (flow c.args.p.now.execs) =
-        holds_fit c.reaching_is_told.ensures c.endless_ways_meet_cycles.ensures c.args.p.now.names c.args.p.now.execs c.args.p.now.loops c.requires.execs
-          (drawn_as c.in_ok-drawing.drawing) c.in_ok-graph.graph (c.nodes-finish.result - 1) c.deref.result.now
-          c.in_ok-drawing.ensures c.in_ok-graph.ensures (ap (λ n. n - 1) c.nodes-finish.ensures.count) (c.deref.ensures.value ∙ c.in_ok-held.ensures) in
+    holds_fit c.reaching_is_told.ensures c.endless_ways_meet_cycles.ensures c.args.p.now.names c.args.p.now.execs c.args.p.now.loops c.requires.execs
+    (drawn_as c.in_ok-drawing.drawing) c.in_ok-graph.graph (c.nodes-finish.result - 1) c.deref.result.now
+    c.in_ok-drawing.ensures c.in_ok-graph.ensures (ap (λ n. n - 1) c.nodes-finish.ensures.count) (c.deref.ensures.value ∙ c.in_ok-held.ensures) in
     let drawn : drawn_as c.put_holds.new.drawing ≡ flow c.args.p.now.execs = c.in_ok-put_holds.ensures ∙ fit.is in
     subst (λ (f : FlowGraph). IsGraph f.graph) (sym drawn) (flow_strong c.reaching_is_told.ensures c.endless_ways_meet_cycles.ensures c.args.p.now.names c.args.p.now.execs c.args.p.now.loops c.requires.execs).sound
 
 pub graph_of-requires-2-clause-pieces : goal.graph_of-requires-2-clause-pieces
 graph_of-requires-2-clause-pieces c =
     let fit : HoldsFit (drawn_as c.in_ok-drawing.drawing) c.in_ok-graph.graph (c.nodes-finish.result - 1) c.deref.result.now (flow c.args.p.now.execs) =
-        holds_fit c.reaching_is_told.ensures c.endless_ways_meet_cycles.ensures c.args.p.now.names c.args.p.now.execs c.args.p.now.loops c.requires.execs
-          (drawn_as c.in_ok-drawing.drawing) c.in_ok-graph.graph (c.nodes-finish.result - 1) c.deref.result.now
-          c.in_ok-drawing.ensures c.in_ok-graph.ensures (ap (λ n. n - 1) c.nodes-finish.ensures.count) (c.deref.ensures.value ∙ c.in_ok-held.ensures) in
+    holds_fit c.reaching_is_told.ensures c.endless_ways_meet_cycles.ensures c.args.p.now.names c.args.p.now.execs c.args.p.now.loops c.requires.execs
+    (drawn_as c.in_ok-drawing.drawing) c.in_ok-graph.graph (c.nodes-finish.result - 1) c.deref.result.now
+    c.in_ok-drawing.ensures c.in_ok-graph.ensures (ap (λ n. n - 1) c.nodes-finish.ensures.count) (c.deref.ensures.value ∙ c.in_ok-held.ensures) in
     let drawn : drawn_as c.put_holds.new.drawing ≡ flow c.args.p.now.execs = c.in_ok-put_holds.ensures ∙ fit.is in
     let same = ap (λ (f : FlowGraph). f.graph.nodes) drawn in
     omega (arith, same, few_flow_nodes c.reaching_is_told.ensures c.endless_ways_meet_cycles.ensures c.args.p.now.names c.args.p.now.execs c.args.p.now.loops c.requires.execs)
@@ -67,9 +67,9 @@ graph_of-requires-2-clause-pieces c =
 pub graph_of-requires-2-clause-edges : goal.graph_of-requires-2-clause-edges
 graph_of-requires-2-clause-edges c =
     let fit : HoldsFit (drawn_as c.in_ok-drawing.drawing) c.in_ok-graph.graph (c.nodes-finish.result - 1) c.deref.result.now (flow c.args.p.now.execs) =
-        holds_fit c.reaching_is_told.ensures c.endless_ways_meet_cycles.ensures c.args.p.now.names c.args.p.now.execs c.args.p.now.loops c.requires.execs
-          (drawn_as c.in_ok-drawing.drawing) c.in_ok-graph.graph (c.nodes-finish.result - 1) c.deref.result.now
-          c.in_ok-drawing.ensures c.in_ok-graph.ensures (ap (λ n. n - 1) c.nodes-finish.ensures.count) (c.deref.ensures.value ∙ c.in_ok-held.ensures) in
+    holds_fit c.reaching_is_told.ensures c.endless_ways_meet_cycles.ensures c.args.p.now.names c.args.p.now.execs c.args.p.now.loops c.requires.execs
+    (drawn_as c.in_ok-drawing.drawing) c.in_ok-graph.graph (c.nodes-finish.result - 1) c.deref.result.now
+    c.in_ok-drawing.ensures c.in_ok-graph.ensures (ap (λ n. n - 1) c.nodes-finish.ensures.count) (c.deref.ensures.value ∙ c.in_ok-held.ensures) in
     let drawn : drawn_as c.put_holds.new.drawing ≡ flow c.args.p.now.execs = c.in_ok-put_holds.ensures ∙ fit.is in
     let same = ap (λ (f : FlowGraph). edge_count f.graph) drawn in
     omega (arith, same, few_flow_edges c.reaching_is_told.ensures c.endless_ways_meet_cycles.ensures c.args.p.now.names c.args.p.now.execs c.args.p.now.loops c.requires.execs)
@@ -77,17 +77,17 @@ graph_of-requires-2-clause-edges c =
 pub returns-clause-flow : goal.returns-clause-flow
 returns-clause-flow c =
     let fit : HoldsFit (drawn_as c.in_ok-drawing.drawing) c.in_ok-graph.graph (c.nodes-finish.result - 1) c.deref.result.now (flow c.args.p.now.execs) =
-        holds_fit c.reaching_is_told.ensures c.endless_ways_meet_cycles.ensures c.args.p.now.names c.args.p.now.execs c.args.p.now.loops c.requires.execs
-          (drawn_as c.in_ok-drawing.drawing) c.in_ok-graph.graph (c.nodes-finish.result - 1) c.deref.result.now
-          c.in_ok-drawing.ensures c.in_ok-graph.ensures (ap (λ n. n - 1) c.nodes-finish.ensures.count) (c.deref.ensures.value ∙ c.in_ok-held.ensures) in
+    holds_fit c.reaching_is_told.ensures c.endless_ways_meet_cycles.ensures c.args.p.now.names c.args.p.now.execs c.args.p.now.loops c.requires.execs
+    (drawn_as c.in_ok-drawing.drawing) c.in_ok-graph.graph (c.nodes-finish.result - 1) c.deref.result.now
+    c.in_ok-drawing.ensures c.in_ok-graph.ensures (ap (λ n. n - 1) c.nodes-finish.ensures.count) (c.deref.ensures.value ∙ c.in_ok-held.ensures) in
     let drawn : drawn_as c.put_holds.new.drawing ≡ flow c.args.p.now.execs = c.in_ok-put_holds.ensures ∙ fit.is in
     ap (λ (h : Graph). record { graph = h; pieces = c.put_holds.new.drawing.pieces.items }) c.in_ok-graph_of.ensures ∙ drawn
 
 pub returns-clause-flow_graph : goal.returns-clause-flow_graph
 returns-clause-flow_graph c =
     let fit : HoldsFit (drawn_as c.in_ok-drawing.drawing) c.in_ok-graph.graph (c.nodes-finish.result - 1) c.deref.result.now (flow c.args.p.now.execs) =
-        holds_fit c.reaching_is_told.ensures c.endless_ways_meet_cycles.ensures c.args.p.now.names c.args.p.now.execs c.args.p.now.loops c.requires.execs
-          (drawn_as c.in_ok-drawing.drawing) c.in_ok-graph.graph (c.nodes-finish.result - 1) c.deref.result.now
-          c.in_ok-drawing.ensures c.in_ok-graph.ensures (ap (λ n. n - 1) c.nodes-finish.ensures.count) (c.deref.ensures.value ∙ c.in_ok-held.ensures) in
+    holds_fit c.reaching_is_told.ensures c.endless_ways_meet_cycles.ensures c.args.p.now.names c.args.p.now.execs c.args.p.now.loops c.requires.execs
+    (drawn_as c.in_ok-drawing.drawing) c.in_ok-graph.graph (c.nodes-finish.result - 1) c.deref.result.now
+    c.in_ok-drawing.ensures c.in_ok-graph.ensures (ap (λ n. n - 1) c.nodes-finish.ensures.count) (c.deref.ensures.value ∙ c.in_ok-held.ensures) in
     let drawn : drawn_as c.put_holds.new.drawing ≡ flow c.args.p.now.execs = c.in_ok-put_holds.ensures ∙ fit.is in
     subst (λ (h : Graph). IsFlowGraph h) (sym (c.in_ok-graph_of.ensures ∙ ap (λ (f : FlowGraph). f.graph) drawn)) (flow_strong c.reaching_is_told.ensures c.endless_ways_meet_cycles.ensures c.args.p.now.names c.args.p.now.execs c.args.p.now.loops c.requires.execs)

@@ -10,8 +10,8 @@ returns-then-not-branch-clause-held c = λ finish below before.
     let x = c.args.x in
     let test : List Bool → Bool = λ (marks : List Bool). not (get_or marks x false) && (is_entered_from_above g x && is_on_cycle g x) in
     let is : is_held g finish x ≡ false =
-        sym (test_is_held c.reaching_is_told.ensures g c.requires.sound finish below x c.args.held.now.items c.args.leaving.now.items c.requires.node before)
-        ∙ sym (ap test c.deref.ensures.value) ∙ sym c.in_ok-stays.ensures ∙ c.if-not-branch.true in
+    sym (test_is_held c.reaching_is_told.ensures g c.requires.sound finish below x c.args.held.now.items c.args.leaving.now.items c.requires.node before)
+    ∙ sym (ap test c.deref.ensures.value) ∙ sym c.in_ok-stays.ensures ∙ c.if-not-branch.true in
     none_more c.reaching_is_told.ensures g c.requires.sound finish below x c.args.held.now.items c.args.leaving.now.items is before
 
 pub returns-clause-held : goal.returns-clause-held
@@ -20,10 +20,10 @@ returns-clause-held c =
     let x = c.args.x in
     let test : List Bool → Bool = λ (marks : List Bool). not (get_or marks x false) && (is_entered_from_above g x && is_on_cycle g x) in
     then_on_ok c.mark_back.result
-      (λ marked finish below before.
-        let is : is_held g finish x ≡ true =
-            sym (test_is_held c.reaching_is_told.ensures g c.requires.sound finish below x c.args.held.now.items c.args.leaving.now.items c.requires.node before)
-            ∙ sym (ap test c.deref.ensures.value) ∙ sym c.in_ok-stays.ensures ∙ c.if-not-branch.false in
-        subst (λ (hs : List ℕ). AreHeldBelow g finish (x + 1) hs c.mark_back.new.marks.items) (sym c.in_ok-push.ensures.items)
-          (one_more c.reaching_is_told.ensures g c.requires.sound finish below x c.args.held.now.items c.args.leaving.now.items c.mark_back.new.marks.items is before marked))
-      c.mark_back.ensures.marked
+    (λ marked finish below before.
+    let is : is_held g finish x ≡ true =
+    sym (test_is_held c.reaching_is_told.ensures g c.requires.sound finish below x c.args.held.now.items c.args.leaving.now.items c.requires.node before)
+    ∙ sym (ap test c.deref.ensures.value) ∙ sym c.in_ok-stays.ensures ∙ c.if-not-branch.false in
+    subst (λ (hs : List ℕ). AreHeldBelow g finish (x + 1) hs c.mark_back.new.marks.items) (sym c.in_ok-push.ensures.items)
+    (one_more c.reaching_is_told.ensures g c.requires.sound finish below x c.args.held.now.items c.args.leaving.now.items c.mark_back.new.marks.items is before marked))
+    c.mark_back.ensures.marked

@@ -16,8 +16,8 @@ returns-then-x-from c =
     let items = c.edges_at-e-items.result.now in
     let e = get_or items c.loop-e.e-index 0 in
     sym (test_found g c.args.x items c.edges_at-e-items.ensures (nat_le c.args.x) c.loop-e.e-index c.loop-e-test.true
-      (and_from (to g e == c.args.x) (nat_le c.args.x (from g e)) (eq-eqb (to g e) c.args.x (sym c.to.ensures.node ∙ c.if-to-x.true))
-        (subst (λ n. nat_le c.args.x n ≡ true) c.from.ensures.node (le-leb c.args.x c.from.result c.if-x-from.true))))
+    (and_from (to g e == c.args.x) (nat_le c.args.x (from g e)) (eq-eqb (to g e) c.args.x (sym c.to.ensures.node ∙ c.if-to-x.true))
+    (subst (λ n. nat_le c.args.x n ≡ true) c.from.ensures.node (le-leb c.args.x c.from.result c.if-x-from.true))))
 
 pub returns : goal.returns
 returns c = sym (test_missing c.args.g.now c.args.x c.edges_at-e-items.result.now c.edges_at-e-items.ensures (nat_le c.args.x) (λ k less. c.loop-e.invariant.none k (omega (arith, less, c.loop-e-test.false))))

@@ -17,7 +17,7 @@ held_edge-edge-requires-clause-some c =
     let x = get_or c.args.held.now c.loop-x.x-index 0 in
     let within : x < length old = omega (arith, c.requires.nodes c.loop-x.x-index 0 c.loop-x-test.true, c.requires.pieces) in
     let same : piece_at old x ≡ c.index.result.now =
-        ap piece_in (sym (c.loop-x.invariant.same x within)) ∙ piece_is now x c.index.result.now (omega (arith, within, c.loop-x.invariant.pieces)) c.index.ensures in
+    ap piece_in (sym (c.loop-x.invariant.same x within)) ∙ piece_is now x c.index.result.now (omega (arith, within, c.loop-x.invariant.pieces)) c.index.ensures in
     subst (λ (p : Piece). held_edge c.args.g.now x p.kind < edge_count c.args.g.now) same (c.requires.held c.loop-x.x-index 0 c.loop-x-test.true)
 
 pub put_hold-requires-clause-edge : goal.put_hold-requires-clause-edge
@@ -27,7 +27,7 @@ put_hold-requires-clause-edge c =
     let x = get_or c.args.held.now c.loop-x.x-index 0 in
     let within : x < length old = omega (arith, c.requires.nodes c.loop-x.x-index 0 c.loop-x-test.true, c.requires.pieces) in
     let same : piece_at old x ≡ c.index.result.now =
-        ap piece_in (sym (c.loop-x.invariant.same x within)) ∙ piece_is now x c.index.result.now (omega (arith, within, c.loop-x.invariant.pieces)) c.index.ensures in
+    ap piece_in (sym (c.loop-x.invariant.same x within)) ∙ piece_is now x c.index.result.now (omega (arith, within, c.loop-x.invariant.pieces)) c.index.ensures in
     let some = subst (λ (p : Piece). held_edge c.args.g.now x p.kind < edge_count c.args.g.now) same (c.requires.held c.loop-x.x-index 0 c.loop-x-test.true) in
     omega (arith, c.held_edge-edge.ensures, some, c.requires.edges, c.loop-x.invariant.edges)
 
@@ -52,10 +52,10 @@ loop-x-preserved c =
     let before = drawn_as c.loop-x.drawing in
     record {
       is = drawn
-        ∙ ap (λ (f : FlowGraph). with_hold fin f e p) inv.is
-        ∙ ap (λ n. with_hold fin (fold step (drawn_as c.args.drawing.now) (take i held)) n p) edge
-        ∙ ap (λ (q : Piece). with_hold fin (fold step (drawn_as c.args.drawing.now) (take i held)) (held_edge g x (piece_at old x).kind) q) kept
-        ∙ sym (fold_more step (drawn_as c.args.drawing.now) held i 0 c.loop-x-test.true);
+          ∙ ap (λ (f : FlowGraph). with_hold fin f e p) inv.is
+          ∙ ap (λ n. with_hold fin (fold step (drawn_as c.args.drawing.now) (take i held)) n p) edge
+          ∙ ap (λ (q : Piece). with_hold fin (fold step (drawn_as c.args.drawing.now) (take i held)) (held_edge g x (piece_at old x).kind) q) kept
+          ∙ sym (fold_more step (drawn_as c.args.drawing.now) held i 0 c.loop-x-test.true);
       pieces = omega (arith, ap (λ (f : FlowGraph). length f.pieces) drawn, length_pieces fin before e p, inv.pieces);
       edges = omega (arith, ap (λ (f : FlowGraph). length f.graph.edges) drawn, length_edges fin before e p, inv.edges);
       same = λ k l. ap (λ (f : FlowGraph). slice_get f.pieces k) drawn ∙ front_stays now (hold_for p ∷ []) k (omega (arith, l, inv.pieces)) ∙ inv.same k l;

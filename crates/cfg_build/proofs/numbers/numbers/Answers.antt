@@ -17,7 +17,7 @@ next_is c =
     let i = c.loop-part.part-index in
     let is : c.part-item.result ≡ get_or ps i start_part = get_or_read ps i c.part-item.result c.loop-part-test.true c.part-item.is start_part in
     let wide : c.width-next.result ≡ cond (is_joined_by (number_in c.args.ways.now (get_or ps i start_part).own) (get_or ps i start_part)) 2 1 =
-        c.width-next.ensures ∙ ap (λ (p : Part). cond (is_joined_by (number_in c.args.ways.now p.own) p) 2 1) is in
+    c.width-next.ensures ∙ ap (λ (p : Part). cond (is_joined_by (number_in c.args.ways.now p.own) p) 2 1) is in
     ap (λ n. c.loop-part.next + n) wide
     ∙ next-step ps i (number_in c.args.ways.now (get_or ps i start_part).own) c.loop-part.next c.loop-part-test.true (c.requires.ways (get_or ps i start_part).own) c.loop-part.invariant.next
 

@@ -24,6 +24,6 @@ loop-part-preserved c =
       room = c.count_ways.ensures.room c.args.execs c.loop-part.invariant.room;
       ways = λ target.
           let same : count_by (is_same target) c.as_slice.result.now ≡ count_by (is_same target) (get_or ps i start_part).outs =
-              ap (λ (outs : List Target). count_by (is_same target) outs) (c.as_slice.ensures.items ∙ ap (λ (p : Part). p.outs) is) in
+          ap (λ (outs : List Target). count_by (is_same target) outs) (c.as_slice.ensures.items ∙ ap (λ (p : Part). p.outs) is) in
           omega (arith, c.count_ways.ensures.counts target, same, c.loop-part.invariant.ways target, ways_more ps i target c.loop-part-test.true);
     }

@@ -16,15 +16,15 @@ loop-k-preserved c =
     let more = ap (λ (ps : List Part). start_part ∷ ps) (sym (flat_map-range_more (reached_parts execs) k)) in
     elim c.if-reached-k.branch [
       | then-reached-k+in_ok-push_parts w ↦
-        ap (λ v. v.items) w.parts-is
-        ∙ (w.in_ok-push_parts.ensures
-        ∙ ap (λ (ps : List Part). ps ++ parts_in execs k (slice_get execs k)) c.loop-k.invariant
-        ∙ ap (λ (ps : List Part). start_part ∷ before ++ ps) (sym (reached_parts-yes execs k (sym (c.requires.reached k below) ∙ w.if-reached-k.true)))
-        ∙ more)
+          ap (λ v. v.items) w.parts-is
+          ∙ (w.in_ok-push_parts.ensures
+          ∙ ap (λ (ps : List Part). ps ++ parts_in execs k (slice_get execs k)) c.loop-k.invariant
+          ∙ ap (λ (ps : List Part). start_part ∷ before ++ ps) (sym (reached_parts-yes execs k (sym (c.requires.reached k below) ∙ w.if-reached-k.true)))
+          ∙ more)
       | else-reached-k w ↦
-        ap (λ v. v.items) w.parts-is
-        ∙ (c.loop-k.invariant
-        ∙ ap (λ (ps : List Part). start_part ∷ ps) (sym (append-nil before))
-        ∙ ap (λ (ps : List Part). start_part ∷ before ++ ps) (sym (reached_parts-no execs k (sym (c.requires.reached k below) ∙ w.if-reached-k.false)))
-        ∙ more)
+          ap (λ v. v.items) w.parts-is
+          ∙ (c.loop-k.invariant
+          ∙ ap (λ (ps : List Part). start_part ∷ ps) (sym (append-nil before))
+          ∙ ap (λ (ps : List Part). start_part ∷ before ++ ps) (sym (reached_parts-no execs k (sym (c.requires.reached k below) ∙ w.if-reached-k.false)))
+          ∙ more)
     ]
