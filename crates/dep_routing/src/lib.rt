@@ -1,0 +1,14 @@
+//! Past which regions of a flow graph the tokens of a line are led.
+//!
+//! A line is a number from 0. A region of which no node touches a line is quiet for it, and the line is led past it, from its entry
+//! to its exit.
+//!
+//! Source: Beck, Johnson and Pingali, "From control flow to dataflow", JPDC 1991.
+#![tactic(auto)]
+
+mod facts;
+mod laws;
+
+pub use laws::{
+    free_passed_nodes, largest_quiet_regions, next_edges, places, places_over_a_pass, quiet_regions,
+};
