@@ -1,3 +1,6 @@
+pub mod Held
 pub mod Hopping
+pub mod Numbering
+pub mod Ordering
 pub mod Placing
 pub mod Quietness

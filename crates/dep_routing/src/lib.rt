@@ -6,9 +6,14 @@
 //! Source: Beck, Johnson and Pingali, "From control flow to dataflow", JPDC 1991.
 #![tactic(auto)]
 
+mod borders;
 mod facts;
 mod laws;
+mod lines;
+mod order;
 
 pub use laws::{
-    free_passed_nodes, largest_quiet_regions, next_edges, places, places_over_a_pass, quiet_regions,
+    free_passed_nodes, largest_quiet_regions, next_edges, places, places_over_a_pass,
+    quiet_regions,
 };
+pub use lines::Lines;
