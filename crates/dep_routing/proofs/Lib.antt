@@ -1,5 +1,6 @@
 pub mod Held
 pub mod Hopping
+pub mod Noises
 pub mod Numbering
 pub mod Ordering
 pub mod Placing

@@ -10,6 +10,7 @@ mod borders;
 mod facts;
 mod laws;
 mod lines;
+mod noise;
 mod order;
 
 pub use laws::{
@@ -17,3 +18,9 @@ pub use laws::{
     quiet_regions,
 };
 pub use lines::Lines;
+
+use class_set::ClassSet;
+use df_sequence::Sequence;
+
+/// For each node the set of the lines that it touches.
+pub type TouchList<const W: usize> = Sequence<ClassSet<W>>;
