@@ -5,3 +5,4 @@ pub mod Numbering
 pub mod Ordering
 pub mod Placing
 pub mod Quietness
+pub mod RowSteps

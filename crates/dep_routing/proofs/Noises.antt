@@ -51,9 +51,9 @@ module _ (t : Tree) where
         let marked_r : is_marked (set marks r true) r ≡ true = get_or-set_same marks r true false inside in
         let more : (q : ℕ) → is_marked marks q ≡ true → is_marked (set marks r true) q ≡ true =
         λ q h. ⊎_elim
-            (λ (same : q ≡ r). subst (λ n. is_marked (set marks r true) n ≡ true) (sym same) marked_r)
-            (λ (apart : q ≢ r). get_or-set_other marks r q true false apart ∙ h)
-            (cases_eq q r) in
+        (λ (same : q ≡ r). subst (λ n. is_marked (set marks r true) n ≡ true) (sym same) marked_r)
+        (λ (apart : q ≢ r). get_or-set_other marks r q true false apart ∙ h)
+        (cases_eq q r) in
         let none_or : (q : ℕ) → IsNoneOrMarked marks q → IsNoneOrMarked (set marks r true) q = λ q h. ⊎_elim (λ none. inl none) (λ old. inr (more q old)) h in
         record {
           size = length-set marks r true ∙ m.size;

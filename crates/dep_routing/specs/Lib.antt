@@ -7,4 +7,5 @@ pub mod Order
 pub mod Place
 pub mod Quiet
 pub mod Routing
+pub mod Rows
 pub mod Touch

@@ -12,15 +12,16 @@ mod laws;
 mod lines;
 mod noise;
 mod order;
-
-pub use laws::{
-    free_passed_nodes, largest_quiet_regions, next_edges, places, places_over_a_pass,
-    quiet_regions,
-};
-pub use lines::Lines;
+mod routing;
+mod rows;
 
 use class_set::ClassSet;
 use df_sequence::Sequence;
+pub use laws::{
+    free_passed_nodes, largest_quiet_regions, next_edges, places, places_over_a_pass, quiet_regions,
+};
+pub use lines::Lines;
+pub use routing::route;
 
 /// For each node the set of the lines that it touches.
 pub type TouchList<const W: usize> = Sequence<ClassSet<W>>;

@@ -62,9 +62,11 @@ step c =
           (λ q other same. one_at t c.args.edges (entry_of t) c.args.borders.now.entered.items c.requires.entered q here other number same)
           (subst (λ (r : ℕ). Places r marks order w.place.new.marks.items w.place.new.order.items) before w.in_ok-place.ensures))
       | else-before-ne0 w ↦
-          rw (w.marks-is, w.order-is)
-          (IsOrdering-none_before t (length t.entries) done marks order c.loop-done.invariant more
-          (λ q other same. none_at t c.args.edges (exit_of t) left c.requires.left e q (sym before ∙ w.if-before-ne0.false) other same), refl)
+          rw (w.marks-is, w.order-is) (
+            IsOrdering-none_before t (length t.entries) done marks order c.loop-done.invariant more
+                (λ q other same. none_at t c.args.edges (exit_of t) left c.requires.left e q (sym before ∙ w.if-before-ne0.false) other same),
+            refl,
+          )
     ]
 
 pub loop-done-smaller : goal.loop-done-smaller
