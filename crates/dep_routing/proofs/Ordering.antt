@@ -5,7 +5,7 @@ use Rattle.std.proofs.lemmas.List.{append-nil, get_or_append_left, get_or_push, 
 use Rattle.closed_walks.specs.Walk.{Holds}
 use Rattle.region_tree.specs.Tree.{Tree, entry_of, exit_of, IsNumber}
 use Rattle.dep_routing.specs.Numbers.{AreNumbersBelow}
-use Rattle.dep_routing.specs.Order.{Ranks, IsOrder, IsOrdering, Places, is_marked, unmarked}
+use Rattle.dep_routing.specs.Order.{Ranks, IsOrder, IsOrdering, IsPutBehind, is_marked, unmarked}
 use Rattle.dep_routing.proofs.Held.{Holds-left, Holds-right, Holds-append, Holds-at, IsAt, at_Holds}
 
 pub unmarked-set : (marks : List Bool) (r : ℕ) → r < length marks → is_marked marks r ≡ false → unmarked (set marks r true) + 1 ≡ unmarked marks
@@ -81,7 +81,7 @@ module _ (t : Tree) where
           front = refl;
         })
 
-    pub placed : (marks' : List Bool) (order' : List ℕ) → Places r marks order marks' order' → IsPlaced t r k done marks order marks' order'
+    pub placed : (marks' : List Bool) (order' : List ℕ) → IsPutBehind r marks order marks' order' → IsPlaced t r k done marks order marks' order'
     placed marks' order' p = ⊎_elim (λ old. placed_old marks' order' old.0 old.1 old.2) (λ new. placed_new marks' order' new.0 new.1 new.2) p
 
   -- ---- the regions whose exits enter none
@@ -101,7 +101,7 @@ module _ (t : Tree) where
       steps = o.steps;
     }
 
-    pub IsOrdering-last : (marks' : List Bool) (order' : List ℕ) → IsNumber t k → ((q : ℕ) → IsNumber t q → entry_of t q ≡ exit_of t k → ⊥) → Places k marks order marks' order' → IsOrdering t (k + 1) 0 marks' order'
+    pub IsOrdering-last : (marks' : List Bool) (order' : List ℕ) → IsNumber t k → ((q : ℕ) → IsNumber t q → entry_of t q ≡ exit_of t k → ⊥) → IsPutBehind k marks order marks' order' → IsOrdering t (k + 1) 0 marks' order'
     IsOrdering-last marks' order' number none p =
         let d : IsPlaced t k k 0 marks order marks' order' = placed k k 0 marks order o number (λ q other same. absurd (none q other same)) marks' order' p in
         let n : IsOrdering t k 0 marks' order' = d.ordering in
@@ -139,7 +139,7 @@ module _ (t : Tree) where
     }
 
     pub IsOrdering-before : (before : ℕ) (marks' : List Bool) (order' : List ℕ) → IsNumber t before → exit_of t before ≡ entry_of t (get_or order done 0) → ((q : ℕ) → IsNumber t q → exit_of t q ≡ exit_of t before → q ≡ before)
-        → ((q : ℕ) → IsNumber t q → entry_of t q ≡ entry_of t (get_or order done 0) → q ≡ get_or order done 0) → Places before marks order marks' order'
+        → ((q : ℕ) → IsNumber t q → entry_of t q ≡ entry_of t (get_or order done 0) → q ≡ get_or order done 0) → IsPutBehind before marks order marks' order'
         → IsOrdering t k (done + 1) marks' order' × (unmarked marks' + length order' ≡ unmarked marks + length order)
     IsOrdering-before before marks' order' number is_exit one_exit one_entry p =
         let d : IsPlaced t before k done marks order marks' order' = placed before k done marks order o number

@@ -86,9 +86,9 @@ module _ (g : Graph) (t : Tree) (f : TreeFacts g t) (touches : ℕ → ℕ → B
       over is_entry = Next-hop g t f touches l e (exit_of t q) x (record { region = q; quiet = largest.quiet; entry = is_entry; exit = refl }) n
 
   -- a quiet region is passed over without a step
-  pub place_passes : (e d x : ℕ) → e < edge_count g → d < edge_count g → from g d ≡ to g e → IsInQuiet g t touches l (to g e) → Place g t touches l d x ↔ Place g t touches l e x
-  place_passes e d x edge other meets i = ⊎_elim
-      (λ (free : IsFree g t touches l (to g e)). absurd (free i))
+  pub place_passes : (e d x : ℕ) → e < edge_count g → d < edge_count g → from g d ≡ to g e → (IsFree g t touches l (to g e) → ⊥) → Place g t touches l d x ↔ Place g t touches l e x
+  place_passes e d x edge other meets held = ⊎_elim
+      (λ (free : IsFree g t touches l (to g e)). absurd (held free))
       (λ (some : (q : ℕ) × IsLargest g t touches l (to g e) q).
       let n = next_of g t f touches l (exit_of t some.0) in
       let there : IsLargest g t touches l (from g d) some.0 = subst (λ v. IsLargest g t touches l v some.0) (sym meets) some.1 in

@@ -13,6 +13,7 @@ pub record TreeFacts (g : Graph) (t : Tree) : Type 0 where
   pub one_exit : (q r : ℕ) → IsNumber t q → IsNumber t r → exit_of t q ≡ exit_of t r → q ≡ r
   pub nest : (q r : ℕ) → IsNumber t q → IsNumber t r → q ≢ r → AreSeparate g t q r ⊎ (IsPart g t q r ⊎ IsPart g t r q)
   pub one_way : (q r : ℕ) → IsNumber t q → IsNumber t r → IsPart g t q r → IsPart g t r q → q ≡ r
+  pub start : (r : ℕ) → IsNumber t r → IsIn g t r 0 → ⊥
   pub own : (node a b : ℕ) → IsPassed g node a b → 0 ≢ node → IsOwnRegion g t node a b
   pub rank : (rank : ℕ → ℕ) × (bound : ℕ) × IsTreeRank g t rank bound
   pub chain : (r node : ℕ) → IsNumber t r → node < g.nodes → IsIn g t r node → (k : ℕ) × (above t k (innermost_of t node) ≡ r)

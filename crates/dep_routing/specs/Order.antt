@@ -26,8 +26,8 @@ unmarked (true ∷ marks) = unmarked marks
 unmarked (false ∷ marks) = unmarked marks + 1
 
 -- The region was put behind the order, if it wasn't in it.
-abbrev pub Places : (r : ℕ) → (marks : List Bool) → (order : List ℕ) → (marks' : List Bool) → (order' : List ℕ) → Type 0
-Places r marks order marks' order' =
+abbrev pub IsPutBehind : (r : ℕ) → (marks : List Bool) → (order : List ℕ) → (marks' : List Bool) → (order' : List ℕ) → Type 0
+IsPutBehind r marks order marks' order' =
     ((is_marked marks r ≡ true) × (marks' ≡ marks) × (order' ≡ order)) ⊎ ((is_marked marks r ≡ false) × (marks' ≡ set marks r true) × (order' ≡ order ++ r ∷ []))
 
 -- Of an order in the making: the exits of the regions below k enter others or these regions stand in it, and of its first `done`

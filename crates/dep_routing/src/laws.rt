@@ -20,6 +20,14 @@ pub fn quiet_regions()
     tree_facts();
 }
 
+/// A node that touches a line is free for it, and so is the start for each line.
+pub fn free_nodes()
+    ensures touching { (g : Graph) (t : Tree) (touches : ℕ → ℕ → Bool) (line node : ℕ) → touches node line ≡ true → IsFree g t touches line node }
+    ensures start { (g : Graph) (t : Tree) (touches : ℕ → ℕ → Bool) (line : ℕ) → IsFlowGraph g → IsRegionTree g t → IsFree g t touches line 0 }
+{
+    tree_facts();
+}
+
 /// A node is free for a line, or one quiet region that holds it is the largest.
 pub fn largest_quiet_regions()
     ensures some { (g : Graph) (t : Tree) (touches : ℕ → ℕ → Bool) (line node : ℕ) → IsFlowGraph g → IsRegionTree g t → node < g.nodes → IsFree g t touches line node ⊎ ((q : ℕ) × IsLargest g t touches line node q) }
@@ -55,7 +63,7 @@ pub fn places()
 pub fn places_over_a_pass()
     ensures arrives { (g : Graph) (t : Tree) (touches : ℕ → ℕ → Bool) (line e : ℕ) → IsFlowGraph g → IsRegionTree g t → e < edge_count g → IsFree g t touches line (to g e) → Place g t touches line e e }
     ensures departs { (g : Graph) (t : Tree) (touches : ℕ → ℕ → Bool) (line d f : ℕ) → IsFlowGraph g → IsRegionTree g t → IsFree g t touches line (from g d) → Place g t touches line d f ↔ Next g t touches line d f }
-    ensures stays { (g : Graph) (t : Tree) (touches : ℕ → ℕ → Bool) (line e d f : ℕ) → IsFlowGraph g → IsRegionTree g t → e < edge_count g → d < edge_count g → from g d ≡ to g e → IsInQuiet g t touches line (to g e) → Place g t touches line d f ↔ Place g t touches line e f }
+    ensures stays { (g : Graph) (t : Tree) (touches : ℕ → ℕ → Bool) (line e d f : ℕ) → IsFlowGraph g → IsRegionTree g t → e < edge_count g → d < edge_count g → from g d ≡ to g e → (IsFree g t touches line (to g e) → ⊥) → Place g t touches line d f ↔ Place g t touches line e f }
 {
     tree_facts();
 }

@@ -18,7 +18,7 @@ mod rows;
 use class_set::ClassSet;
 use df_sequence::Sequence;
 pub use laws::{
-    free_passed_nodes, largest_quiet_regions, next_edges, places, places_over_a_pass, quiet_regions,
+    free_nodes, free_passed_nodes, largest_quiet_regions, next_edges, places, places_over_a_pass, quiet_regions,
 };
 pub use lines::Lines;
 pub use routing::route;

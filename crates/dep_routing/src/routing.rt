@@ -38,7 +38,7 @@ pub fn route<const W: usize>(
 {
     tree_facts();
     let borders = borders_of(alloc, g, t)?;
-    let order = regions_in_order(alloc, t, &borders, g.edges())?;
+    let order = regions_in_order(alloc, t, &borders)?;
     let mut next = Vec::new(alloc);
     let mut wires = Vec::new(alloc);
     for line in 0..lines {

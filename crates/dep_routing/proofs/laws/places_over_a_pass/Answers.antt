@@ -10,4 +10,4 @@ returns-clause-departs c = λ g t touches line d f flow s free.
     (λ p. free_next g t (c.tree_facts.ensures g t flow s) touches line d f free p, λ n. inl (free, n))
 
 pub returns-clause-stays : goal.returns-clause-stays
-returns-clause-stays c = λ g t touches line e d f flow s edge other meets i. place_passes g t (c.tree_facts.ensures g t flow s) touches line e d f edge other meets i
+returns-clause-stays c = λ g t touches line e d f flow s edge other meets held. place_passes g t (c.tree_facts.ensures g t flow s) touches line e d f edge other meets held

@@ -18,10 +18,10 @@ loop-r-preserved c =
       | then-index-eq0+in_ok-place w ↦
           rw (w.marks-is, w.regions-is)
           (IsOrdering-last t k c.loop-r.marks.items c.loop-r.regions.items c.loop-r.invariant w.place.new.marks.items w.place.new.order.items number
-          (λ q other same. none_at t c.args.edges (entry_of t) numbers c.requires.entered e q (sym read ∙ w.if-index-eq0.true) other same) w.in_ok-place.ensures)
+          (λ q other same. none_at t (length c.args.borders.now.entered.items) (entry_of t) numbers c.requires.entered e q (sym read ∙ w.if-index-eq0.true) other same) w.in_ok-place.ensures)
       | else-index-eq0 w ↦
           let some : get_or numbers e 0 ≡ 0 → ⊥ = λ none. w.if-index-eq0.false (read ∙ none) in
           rw (w.marks-is, w.regions-is)
           (IsOrdering-skip t k c.loop-r.marks.items c.loop-r.regions.items c.loop-r.invariant (get_or numbers e 0)
-          (number_at t c.args.edges (entry_of t) numbers c.requires.entered e some) (c.requires.entered.right e some))
+          (number_at t (length c.args.borders.now.entered.items) (entry_of t) numbers c.requires.entered e some) (c.requires.entered.right e some))
     ]

@@ -1,7 +1,7 @@
 use Rattle.std.proofs.Common.{◌≡◌, ◌≢◌, ◌<◌, ◌+◌, ◌-◌, ◌⊎◌, ℕ, List, get_or, length, sym, ap, ◌∙◌, refl, subst, inl, inr, ⊎_elim, arith}
 use Rattle.std.proofs.lemmas.List.{get_or_read}
 use Rattle.region_tree.specs.Tree.{IsNumber, entry_of, exit_of}
-use Rattle.dep_routing.specs.Order.{IsOrdering, Places, unmarked}
+use Rattle.dep_routing.specs.Order.{IsOrdering, IsPutBehind, unmarked}
 use Rattle.dep_routing.proofs.Held.{Holds-at}
 use Rattle.dep_routing.proofs.Ordering.{IsOrdering-none_before, IsOrdering-before, IsOrder-end, number_at, none_at, one_at, find_at}
 use Rattle.dep_routing.proofs.order.regions_in_order.Goals as goal
@@ -55,16 +55,16 @@ step c =
     elim c.if-before-ne0.branch [
       | then-before-ne0+in_ok-place w ↦
           let some : get_or left e 0 ≢ 0 = λ none. w.if-before-ne0.true (before ∙ none) in
-          let there : IsNumber t (get_or left e 0) = number_at t c.args.edges (exit_of t) left c.requires.left e some in
+          let there : IsNumber t (get_or left e 0) = number_at t (length c.args.borders.now.left.items) (exit_of t) left c.requires.left e some in
           rw (w.marks-is, w.order-is)
           (IsOrdering-before t (length t.entries) done marks order c.loop-done.invariant more (get_or left e 0) w.place.new.marks.items w.place.new.order.items there (c.requires.left.right e some)
-          (λ q other same. one_at t c.args.edges (exit_of t) left c.requires.left q (get_or left e 0) other there same)
-          (λ q other same. one_at t c.args.edges (entry_of t) c.args.borders.now.entered.items c.requires.entered q here other number same)
-          (subst (λ (r : ℕ). Places r marks order w.place.new.marks.items w.place.new.order.items) before w.in_ok-place.ensures))
+          (λ q other same. one_at t (length c.args.borders.now.left.items) (exit_of t) left c.requires.left q (get_or left e 0) other there same)
+          (λ q other same. one_at t (length c.args.borders.now.entered.items) (entry_of t) c.args.borders.now.entered.items c.requires.entered q here other number same)
+          (subst (λ (r : ℕ). IsPutBehind r marks order w.place.new.marks.items w.place.new.order.items) before w.in_ok-place.ensures))
       | else-before-ne0 w ↦
           rw (w.marks-is, w.order-is) (
             IsOrdering-none_before t (length t.entries) done marks order c.loop-done.invariant more
-                (λ q other same. none_at t c.args.edges (exit_of t) left c.requires.left e q (sym before ∙ w.if-before-ne0.false) other same),
+                (λ q other same. none_at t (length c.args.borders.now.left.items) (exit_of t) left c.requires.left e q (sym before ∙ w.if-before-ne0.false) other same),
             refl,
           )
     ]
@@ -81,5 +81,5 @@ loop-done-preserved c = (step c).0
 pub returns : goal.returns
 returns c =
     let t = c.args.t.now in
-    IsOrder-end t c.requires.ranks (λ e. find_at t c.args.edges (entry_of t) c.args.borders.now.entered.items c.requires.entered e)
+    IsOrder-end t c.requires.ranks (λ e. find_at t (length c.args.borders.now.entered.items) (entry_of t) c.args.borders.now.entered.items c.requires.entered e)
     c.loop-done.done c.loop-done.marks.items c.loop-done.order.items c.loop-done.invariant (omega (arith, c.loop-done-test.false, c.len.ensures))
