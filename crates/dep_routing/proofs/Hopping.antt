@@ -5,9 +5,9 @@ use Rattle.std.proofs.lemmas.Bool.{cases_eq, cases_lt}
 use Rattle.closed_walks.specs.Graph.{Graph, edge_count, from, to}
 use Rattle.region_tree.specs.Tree.{Tree, entry_of, exit_of, IsNumber, IsIn, IsPart}
 use Rattle.dep_routing.specs.Facts.{TreeFacts}
-use Rattle.dep_routing.specs.Quiet.{IsQuiet, IsTouched, IsInQuiet, IsFree, IsWire, IsLargest}
+use Rattle.dep_routing.specs.Quiet.{IsQuiet, IsTouched, IsFree, IsWire, IsLargest}
 use Rattle.dep_routing.specs.Next.{IsHop, IsLast, Hops, Next}
-use Rattle.dep_routing.proofs.Quietness.{edges, not_behind, at_exit, not_before, at_entry, comes_in, meet, quiet_or_touched, not_both}
+use Rattle.dep_routing.proofs.Quietness.{edges, not_behind, at_exit, at_entry, comes_in, meet, quiet_or_touched, not_both}
 
 module _ (g : Graph) (t : Tree) (f : TreeFacts g t) where
   -- a region has the edge as its entry, or none has

@@ -1,5 +1,5 @@
 -- The steps that mark regions, and what the marks tell.
-use Rattle.std.proofs.Common.{◌≡◌, ◌≢◌, ℕ, zero, suc, ◌+◌, ◌<◌, ◌≤◌, ◌⊎◌, Bool, true, false, List, [], ◌∷◌, Option, Some, length, get_or, set, refl, sym, ap, ◌∙◌, subst, inl, inr, ⊎_elim, arith, get_or-set_same, get_or-set_other, length-set}
+use Rattle.std.proofs.Common.{◌≡◌, ◌≢◌, ℕ, zero, suc, ◌+◌, ◌<◌, ◌⊎◌, Bool, true, false, List, [], ◌∷◌, Some, length, set, refl, sym, ap, ◌∙◌, subst, inl, inr, ⊎_elim, arith, get_or-set_same, get_or-set_other, length-set}
 use Rattle.std.specs.Prelude.{slice_get}
 use Rattle.std.proofs.lemmas.Bool.{cases_eq, cases_Bool, false≢true}
 use Rattle.class_set.specs.ClassSet.{holds}
@@ -8,7 +8,7 @@ use Rattle.closed_walks.specs.Graph.{Graph}
 use Rattle.region_tree.specs.Tree.{Tree, parent_of, innermost_of, IsNumber, IsIn, IsAround, IsLeast}
 use Rattle.region_tree.specs.Laws.{above}
 use Rattle.dep_routing.specs.Facts.{TreeFacts}
-use Rattle.dep_routing.specs.Quiet.{IsQuiet, IsTouched}
+use Rattle.dep_routing.specs.Quiet.{IsTouched}
 use Rattle.dep_routing.specs.Order.{is_marked}
 use Rattle.dep_routing.specs.Noise.{IsNoneOrMarked, HaveParents, IsMarkedUp, IsMarkedFrom, AreNoisy}
 use Rattle.dep_routing.specs.Touch.{touches_in}

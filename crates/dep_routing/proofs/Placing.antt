@@ -1,13 +1,13 @@
 -- The place of a line.
-use Rattle.std.proofs.Common.{◌≡◌, ◌≢◌, ℕ, ◌<◌, ◌⊎◌, ◌↔◌, Bool, refl, sym, ◌∙◌, subst, inl, inr, ⊎_elim}
+use Rattle.std.proofs.Common.{◌≡◌, ℕ, ◌<◌, ◌↔◌, Bool, refl, sym, subst, inl, inr, ⊎_elim}
 use Rattle.closed_walks.specs.Graph.{Graph, edge_count, from, to}
-use Rattle.region_tree.specs.Tree.{Tree, entry_of, exit_of, IsNumber, IsIn, IsPart}
+use Rattle.region_tree.specs.Tree.{Tree, entry_of, exit_of, IsIn, IsPart}
 use Rattle.dep_routing.specs.Facts.{TreeFacts}
-use Rattle.dep_routing.specs.Quiet.{IsQuiet, IsInQuiet, IsFree, IsWire, IsLargest}
-use Rattle.dep_routing.specs.Next.{IsHop, IsLast, Next}
+use Rattle.dep_routing.specs.Quiet.{IsInQuiet, IsFree, IsWire, IsLargest}
+use Rattle.dep_routing.specs.Next.{IsLast, Next}
 use Rattle.dep_routing.specs.Place.{IsBehind, Place}
-use Rattle.dep_routing.proofs.Quietness.{edges, not_behind, not_before, at_exit, at_entry, comes_in, goes_on, free_or_largest, largest_one}
-use Rattle.dep_routing.proofs.Hopping.{next_of, next_one, next_edge, next_wire, Next-hop, Next-last, hop_one, loose_free, loose_exit}
+use Rattle.dep_routing.proofs.Quietness.{edges, not_behind, at_entry, comes_in, goes_on, free_or_largest, largest_one}
+use Rattle.dep_routing.proofs.Hopping.{next_of, next_one, next_edge, next_wire, Next-hop, Next-last, loose_free, loose_exit}
 
 module _ (g : Graph) (t : Tree) (f : TreeFacts g t) (touches : ℕ → ℕ → Bool) (l : ℕ) where
   largest_in : (node q : ℕ) → IsLargest g t touches l node q → IsInQuiet g t touches l node

@@ -1,11 +1,11 @@
 -- Which nodes quiet regions hold.
-use Rattle.std.proofs.Common.{◌≡◌, ◌≢◌, ℕ, zero, suc, ◌+◌, ◌<◌, ◌≤◌, ◌⊎◌, Bool, true, false, List, [], ◌∷◌, refl, sym, ◌∙◌, subst, inl, inr, ⊎_elim, arith}
-use Rattle.std.proofs.lemmas.Bool.{cases_eq, cases_lt, cases_Bool, false≢true}
+use Rattle.std.proofs.Common.{◌≡◌, ◌≢◌, ℕ, zero, suc, ◌<◌, ◌⊎◌, Bool, true, false, List, [], ◌∷◌, refl, sym, ◌∙◌, subst, inl, inr, ⊎_elim, arith}
+use Rattle.std.proofs.lemmas.Bool.{cases_eq, cases_Bool, false≢true}
 use Rattle.closed_walks.specs.Graph.{Graph, edge_count, from, to}
 use Rattle.closed_walks.specs.Walk.{Walk}
 use Rattle.closed_walks.specs.Region.{IsPassed}
 use Rattle.region_tree.specs.Tree.{Tree, entry_of, exit_of, parent_of, innermost_of, IsNumber, IsIn, IsPart, IsLeast, IsAround}
-use Rattle.region_tree.specs.Laws.{AreSeparate, IsOwnRegion, HasBorders}
+use Rattle.region_tree.specs.Laws.{AreSeparate, IsOwnRegion}
 use Rattle.dep_routing.specs.Facts.{TreeFacts}
 use Rattle.dep_routing.specs.Quiet.{IsQuiet, IsTouched, IsInQuiet, IsFree, IsLargest}
 

@@ -1,17 +1,17 @@
 -- The steps that make the rows of a line.
-use Rattle.std.proofs.Common.{◌≡◌, ◌≢◌, ℕ, zero, suc, ◌+◌, ◌-◌, ◌*◌, ◌<◌, ◌≤◌, ◌⊎◌, ◌↔◌, ◌==◌, Bool, true, false, List, [], ◌∷◌, ◌++◌, length, take, get_or, set, refl, sym, ap, ◌∙◌, subst, inl, inr, ⊎_elim, arith, get_or-set_same, get_or-set_other, length-set, length-append, add-one}
-use Rattle.std.proofs.lemmas.Bool.{cases_eq, cases_lt, cases_Bool, false≢true, eqb-true, eq-eqb, ne_eqb}
+use Rattle.std.proofs.Common.{◌≡◌, ◌≢◌, ℕ, suc, ◌+◌, ◌*◌, ◌<◌, ◌≤◌, ◌⊎◌, ◌↔◌, ◌==◌, Bool, true, false, List, [], ◌∷◌, ◌++◌, length, take, get_or, set, refl, sym, ap, ◌∙◌, subst, inl, inr, ⊎_elim, arith, get_or-set_same, get_or-set_other, length-append, add-one}
+use Rattle.std.proofs.lemmas.Bool.{cases_eq, cases_Bool, ne_eqb}
 use Rattle.std.proofs.lemmas.List.{take_more, get_or_append_left, get_or-append-add}
 use Rattle.std.proofs.Math.Nat.{suc-mul, zero-mul, mul-le-mul_right}
 use Rattle.closed_walks.specs.Graph.{Graph, edge_count}
 use Rattle.closed_walks.specs.Walk.{Holds}
 use Rattle.region_tree.specs.Tree.{Tree, entry_of, exit_of, innermost_of, IsNumber}
 use Rattle.dep_routing.specs.Facts.{TreeFacts}
-use Rattle.dep_routing.specs.Quiet.{IsQuiet, IsTouched, IsInQuiet, IsFree, IsWire}
+use Rattle.dep_routing.specs.Quiet.{IsQuiet, IsTouched, IsFree, IsWire}
 use Rattle.dep_routing.specs.Next.{IsHop, IsLast, Next}
 use Rattle.dep_routing.specs.Noise.{AreNoisy}
 use Rattle.dep_routing.specs.Order.{IsOrder, is_marked}
-use Rattle.dep_routing.specs.Rows.{is_noisy, IsNextRow, IsWireRow, AreAdded, AreRows}
+use Rattle.dep_routing.specs.Rows.{is_noisy, IsNextRow, IsWireRow, AreRows}
 use Rattle.dep_routing.proofs.Held.{Holds-append, Holds-at}
 use Rattle.dep_routing.proofs.Hopping.{hop_or_last, Next-hop, Next-last}
 use Rattle.dep_routing.proofs.Noises.{innermost_within}
@@ -141,24 +141,25 @@ module _ (g : Graph) (t : Tree) (touches : ℕ → ℕ → Bool) where
     wire_rows = λ line e less edge. absurd (omega (arith, less));
   }
 
-  pub AreRows-more : (k : ℕ) (before : List ℕ) (wires_before : List Bool) (next : List ℕ) (wires : List Bool) → AreRows g t touches k before wires_before → AreAdded g t touches k before wires_before next wires → AreRows g t touches (k + 1) next wires
-  AreRows-more k before wires_before next wires old a =
+  pub AreRows-more : (k : ℕ) (next : List ℕ) (wires : List Bool) (row : List ℕ) (wire_row : List Bool) → AreRows g t touches k next wires → IsNextRow g t touches k (edge_count g) row → IsWireRow g t touches k (edge_count g) wire_row
+      → AreRows g t touches (k + 1) (next ++ row) (wires ++ wire_row)
+  AreRows-more k next wires row wire_row old n w =
       let m = edge_count g in
-      rw (a.next_is, a.wires_is) (record {
-        next_size = row_size before a.row 0 k m old.next_size a.row_is.size;
-        wires_size = row_size wires_before a.wire_row false k m old.wires_size a.wire_row_is.size;
+      record {
+        next_size = row_size next row 0 k m old.next_size n.size;
+        wires_size = row_size wires wire_row false k m old.wires_size w.size;
         next_rows = λ line e less edge. ⊎_elim
-            (λ (same : line ≡ k). subst (λ n. Next g t touches n e (get_or (before ++ a.row) (n * m + e) 0)) (sym same)
-            (subst (λ x. Next g t touches k e x) (sym (row_at before a.row 0 k m old.next_size e)) (a.row_is.next e edge)))
+            (λ (same : line ≡ k). subst (λ q. Next g t touches q e (get_or (next ++ row) (q * m + e) 0)) (sym same)
+            (subst (λ x. Next g t touches k e x) (sym (row_at next row 0 k m old.next_size e)) (n.next e edge)))
             (λ (apart : line ≢ k).
             let lower : line < k = omega (arith, less, apart) in
-            subst (λ x. Next g t touches line e x) (sym (row_before before a.row 0 k m old.next_size line e lower edge)) (old.next_rows line e lower edge))
+            subst (λ x. Next g t touches line e x) (sym (row_before next row 0 k m old.next_size line e lower edge)) (old.next_rows line e lower edge))
             (cases_eq line k);
         wire_rows = λ line e less edge. ⊎_elim
-            (λ (same : line ≡ k). subst (λ n. (get_or (wires_before ++ a.wire_row) (n * m + e) false ≡ true) ↔ IsWire g t touches n e) (sym same)
-            (subst (λ x. (x ≡ true) ↔ IsWire g t touches k e) (sym (row_at wires_before a.wire_row false k m old.wires_size e)) (a.wire_row_is.wire e edge)))
+            (λ (same : line ≡ k). subst (λ q. (get_or (wires ++ wire_row) (q * m + e) false ≡ true) ↔ IsWire g t touches q e) (sym same)
+            (subst (λ x. (x ≡ true) ↔ IsWire g t touches k e) (sym (row_at wires wire_row false k m old.wires_size e)) (w.wire e edge)))
             (λ (apart : line ≢ k).
             let lower : line < k = omega (arith, less, apart) in
-            subst (λ x. (x ≡ true) ↔ IsWire g t touches line e) (sym (row_before wires_before a.wire_row false k m old.wires_size line e lower edge)) (old.wire_rows line e lower edge))
+            subst (λ x. (x ≡ true) ↔ IsWire g t touches line e) (sym (row_before wires wire_row false k m old.wires_size line e lower edge)) (old.wire_rows line e lower edge))
             (cases_eq line k);
-      })
+      }

@@ -1,4 +1,5 @@
--- Past which regions a line is led from an edge. These are relations, as `IsQuiet` is one; laws say that each edge has one next.
+-- Past which regions a line is led from an edge. As no test tells quiet regions, these are relations, and laws say that each edge
+-- has one next edge. So what is said of one next edge of an edge, as of that in a table, is said of all.
 use Rattle.std.proofs.Common.{zero, suc}
 use Rattle.std.specs.Prelude.{◌≡◌, ℕ, Bool}
 use Rattle.closed_walks.specs.Graph.{Graph}

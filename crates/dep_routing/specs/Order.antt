@@ -1,5 +1,5 @@
 -- An order of regions in which each stands behind the one that its exit enters. No public clause cites this module.
-use Rattle.std.specs.Prelude.{◌≡◌, ◌≢◌, ℕ, ◌+◌, ◌<◌, ◌≤◌, ◌↔◌, ◌⊎◌, Bool, true, false, List, [], ◌∷◌, ◌++◌, length, take, set, slice_index, slice_index_or}
+use Rattle.std.specs.Prelude.{◌≡◌, ℕ, ◌+◌, ◌<◌, ◌≤◌, ◌↔◌, ◌⊎◌, Bool, true, false, List, [], ◌∷◌, ◌++◌, length, take, set, slice_index, slice_index_or}
 use Rattle.closed_walks.specs.Walk.{Holds}
 use Rattle.region_tree.specs.Tree.{Tree, entry_of, exit_of, IsNumber}
 

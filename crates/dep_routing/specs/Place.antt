@@ -1,5 +1,5 @@
 -- Where a line of tokens stands when control has taken an edge.
-use Rattle.std.specs.Prelude.{◌≡◌, ℕ, Bool, ◌⊎◌}
+use Rattle.std.specs.Prelude.{ℕ, Bool, ◌⊎◌}
 use Rattle.closed_walks.specs.Graph.{Graph, from}
 use Rattle.region_tree.specs.Tree.{Tree, exit_of}
 use Rattle.dep_routing.specs.Quiet.{IsFree, IsLargest}

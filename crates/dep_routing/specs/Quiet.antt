@@ -1,6 +1,6 @@
 -- Which regions of a flow graph a line of tokens needn't enter. Lines are numbers from 0, and `touches node line` tells whether a
--- node touches a line. No computation tells here whether a region is quiet; a node that touches the line, or none, is found for
--- each region by a law.
+-- node touches a line. Whether a region is quiet is a fact here, and no test: the nodes in a region are told by walks, not by a
+-- computation. A law says that each region is quiet or has a node that touches the line, so nothing is lost by it.
 use Rattle.std.specs.Prelude.{◌≡◌, ℕ, Bool, true, false}
 use Rattle.closed_walks.specs.Graph.{Graph, to}
 use Rattle.region_tree.specs.Tree.{Tree, IsNumber, IsIn, IsPart}

@@ -1,5 +1,5 @@
 -- The rows of one line. No public clause cites this module.
-use Rattle.std.specs.Prelude.{◌≡◌, ℕ, ◌+◌, ◌*◌, ◌<◌, ◌==◌, ◌||◌, ◌↔◌, Bool, true, false, List, ◌++◌, length, slice_index, slice_index_or}
+use Rattle.std.specs.Prelude.{◌≡◌, ℕ, ◌+◌, ◌*◌, ◌<◌, ◌==◌, ◌||◌, ◌↔◌, Bool, true, false, List, length, slice_index, slice_index_or}
 use Rattle.closed_walks.specs.Graph.{Graph, edge_count}
 use Rattle.region_tree.specs.Tree.{Tree}
 use Rattle.dep_routing.specs.Facts.{TreeFacts}
@@ -22,18 +22,9 @@ pub record IsWireRow (g : Graph) (t : Tree) (touches : ℕ → ℕ → Bool) (li
   pub size : length row ≡ edges
   pub wire : (e : ℕ) → e < edges → (slice_index_or row e false ≡ true) ↔ IsWire g t touches line e
 
--- so many edges have the row wherever the marks tell the quiet regions of a line
+-- a row of so many edges for each line whose quiet regions the marks tell
 abbrev pub IsNextRowOf : Tree → List Bool → (edges : ℕ) → List ℕ → Type 0
 IsNextRowOf t marks edges row = (g : Graph) (touches : ℕ → ℕ → Bool) (line : ℕ) → TreeFacts g t → AreNoisy g t touches line marks → IsNextRow g t touches line edges row
-
--- The rows of the line were put behind those of others.
-pub record AreAdded (g : Graph) (t : Tree) (touches : ℕ → ℕ → Bool) (line : ℕ) (before : List ℕ) (wires_before : List Bool) (next : List ℕ) (wires : List Bool) : Type 0 where
-  pub row : List ℕ
-  pub wire_row : List Bool
-  pub next_is : next ≡ before ++ row
-  pub wires_is : wires ≡ wires_before ++ wire_row
-  pub row_is : IsNextRow g t touches line (edge_count g) row
-  pub wire_row_is : IsWireRow g t touches line (edge_count g) wire_row
 
 -- There are the rows of the lines below k.
 pub record AreRows (g : Graph) (t : Tree) (touches : ℕ → ℕ → Bool) (k : ℕ) (next : List ℕ) (wires : List Bool) : Type 0 where

@@ -6,8 +6,8 @@ ghost use Rattle.region_tree.specs.Tree.{Tree, IsRegionTree};
 ghost use Rattle.dep_routing.specs.Facts.{TreeFacts};
 
 use region_tree::{
-    holders_are_a_chain, passed_nodes_are_regions, region_borders, region_numbers, start_is_outside,
-    tree_nests, tree_ranks,
+    holders_are_a_chain, passed_nodes_are_regions, region_borders, region_numbers,
+    start_is_outside, tree_nests, tree_ranks,
 };
 
 /// What the laws on region trees say.

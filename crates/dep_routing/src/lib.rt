@@ -3,7 +3,7 @@
 //! A line is a number from 0. A region of which no node touches a line is quiet for it, and the line is led past it, from its entry
 //! to its exit.
 //!
-//! Source: Beck, Johnson and Pingali, "From control flow to dataflow", JPDC 1991.
+//! Source: Johnson and Pingali, "Dependence-based program analysis", PLDI 1993.
 #![tactic(auto)]
 
 mod borders;
@@ -18,7 +18,8 @@ mod rows;
 use class_set::ClassSet;
 use df_sequence::Sequence;
 pub use laws::{
-    free_nodes, free_passed_nodes, largest_quiet_regions, next_edges, places, places_over_a_pass, quiet_regions,
+    free_nodes, free_passed_nodes, largest_quiet_regions, next_edges, places, places_over_a_pass,
+    quiet_regions,
 };
 pub use lines::Lines;
 pub use routing::route;

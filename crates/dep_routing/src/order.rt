@@ -47,11 +47,7 @@ pub(crate) fn regions_in_order(
 }
 
 /// The regions whose exits enter no region.
-fn last_regions(
-    alloc: Global,
-    t: &RegionTree,
-    borders: &Borders,
-) -> Result<Ordering, NoMemory>
+fn last_regions(alloc: Global, t: &RegionTree, borders: &Borders) -> Result<Ordering, NoMemory>
     requires some { 0 < length t.now.entries }
     requires exist { (r : ℕ) → IsNumber t.now r → (entry_of t.now r < length borders.now.left.items) × (exit_of t.now r < length borders.now.entered.items) }
     requires entered { AreNumbersBelow (length borders.now.entered.items) (length t.now.entries) (entry_of t.now) borders.now.entered.items }

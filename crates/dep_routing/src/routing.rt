@@ -1,13 +1,13 @@
 //! The making of a table of wires.
 
-ghost use Rattle.std.specs.Prelude.{◌≡◌, ◌<◌, ℕ, length, IfOk, OnOk};
+ghost use Rattle.std.specs.Prelude.{◌≡◌, ◌<◌, ℕ, length, IfOk};
 ghost use Rattle.class_set.specs.Members.{IsWidth};
 ghost use Rattle.closed_walks.specs.Graph.{edge_count};
 ghost use Rattle.closed_walks.specs.Region.{IsFlowGraph};
 ghost use Rattle.region_tree.specs.Tree.{IsRegionTree};
 ghost use Rattle.dep_routing.specs.Order.{IsOrder};
 ghost use Rattle.dep_routing.specs.Routing.{IsRouting};
-ghost use Rattle.dep_routing.specs.Rows.{AreAdded};
+ghost use Rattle.dep_routing.specs.Rows.{IsNextRow, IsWireRow};
 ghost use Rattle.dep_routing.specs.Touch.{touches_in};
 
 use crate::borders::borders_of;
@@ -42,16 +42,9 @@ pub fn route<const W: usize>(
     let mut next = Vec::new(alloc);
     let mut wires = Vec::new(alloc);
     for line in 0..lines {
-        add_line(
-            alloc,
-            g,
-            t,
-            touch,
-            line,
-            order.as_slice(),
-            &mut next,
-            &mut wires,
-        )?;
+        let rows = line_rows(alloc, g, t, touch, line, order.as_slice())?;
+        next.extend_from_slice(rows.next.as_slice())?;
+        wires.extend_from_slice(rows.wires.as_slice())?;
     }
     Ok(Lines {
         lines,
@@ -61,29 +54,33 @@ pub fn route<const W: usize>(
     })
 }
 
-/// Puts the rows of the line behind the others.
-fn add_line<const W: usize>(
+/// The rows of one line.
+#[derive(Drop)]
+struct LineRows {
+    next: Vec<u32>,
+    wires: Vec<bool>,
+}
+
+/// To which edges the line is led, and its wires.
+fn line_rows<const W: usize>(
     alloc: Global,
     g: &Digraph,
     t: &RegionTree,
     touch: &TouchList<W>,
     line: u32,
     order: &[u32],
-    next: &mut Vec<u32>,
-    wires: &mut Vec<bool>,
-) -> Result<(), NoMemory>
+) -> Result<LineRows, NoMemory>
     requires width { IsWidth W }
     requires flow { IsFlowGraph g.now }
     requires tree { IsRegionTree g.now t.now }
     requires nodes { length touch.now ≡ g.now.nodes }
     requires order { IsOrder t.now order.now }
-    ensures { OnOk result (AreAdded g.now t.now (touches_in touch.now) line next.old.items wires.old.items next.new.items wires.new.items) }
+    ensures next { IfOk result (λ rows. IsNextRow g.now t.now (touches_in touch.now) line (edge_count g.now) rows.next.items) }
+    ensures wires { IfOk result (λ rows. IsWireRow g.now t.now (touches_in touch.now) line (edge_count g.now) rows.wires.items) }
 {
     tree_facts();
     let noisy = noisy_regions(alloc, g, t, touch, line)?;
-    let row = next_row(alloc, g.edges(), t, order, noisy.as_slice())?;
-    next.extend_from_slice(row.as_slice())?;
-    let wired = wire_row(alloc, g, t, noisy.as_slice())?;
-    wires.extend_from_slice(wired.as_slice())?;
-    Ok(())
+    let next = next_row(alloc, g.edges(), t, order, noisy.as_slice())?;
+    let wires = wire_row(alloc, g, t, noisy.as_slice())?;
+    Ok(LineRows { next, wires })
 }

@@ -1,4 +1,4 @@
-use Rattle.std.proofs.Common.{◌≡◌, ◌≢◌, ◌<◌, ◌+◌, ◌-◌, ℕ, length, sym, arith}
+use Rattle.std.proofs.Common.{◌<◌, ℕ, arith}
 use Rattle.closed_walks.specs.Graph.{edge_count}
 use Rattle.region_tree.specs.Tree.{IsNumber, entry_of, exit_of}
 use Rattle.dep_routing.specs.Facts.{TreeFacts}

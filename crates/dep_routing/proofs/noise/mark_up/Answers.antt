@@ -1,6 +1,5 @@
-use Rattle.std.proofs.Common.{◌≡◌, ◌<◌, ℕ, Bool, false, get_or, length, subst, sym, arith}
-use Rattle.std.proofs.lemmas.List.{get_or_read}
-use Rattle.dep_routing.proofs.Noises.{IsMarking, IsMarking-step}
+use Rattle.std.proofs.Common.{◌≡◌, ◌<◌, Bool, false, get_or, length, subst, sym, arith}
+use Rattle.dep_routing.proofs.Noises.{IsMarking-step}
 use Rattle.dep_routing.proofs.Ordering.{unmarked-set}
 use Rattle.dep_routing.specs.Order.{is_marked}
 use Rattle.dep_routing.proofs.noise.mark_up.Goals as goal

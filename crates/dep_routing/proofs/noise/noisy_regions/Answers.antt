@@ -1,8 +1,8 @@
-use Rattle.std.proofs.Common.{◌≡◌, ◌<◌, ◌+◌, ℕ, Bool, true, false, get_or, length, replicate, subst, sym, ap, ◌∙◌, arith}
+use Rattle.std.proofs.Common.{◌≡◌, ◌<◌, ℕ, subst, sym, ◌∙◌, arith}
 use Rattle.dep_routing.specs.Facts.{TreeFacts}
 use Rattle.dep_routing.specs.Noise.{IsMarkedFrom}
 use Rattle.dep_routing.specs.Touch.{touches_in}
-use Rattle.dep_routing.proofs.Noises.{IsHeard, IsHeard-none, IsHeard-skip, IsHeard-take, AreNoisy-end, touches-at}
+use Rattle.dep_routing.proofs.Noises.{IsHeard, IsHeard-skip, IsHeard-take, AreNoisy-end, touches-at}
 use Rattle.dep_routing.proofs.noise.noisy_regions.Goals as goal
 use Rattle.dep_routing.proofs.noise.noisy_regions.Goals.{then-holds, else-holds}
 

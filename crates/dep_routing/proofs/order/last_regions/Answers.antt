@@ -1,4 +1,4 @@
-use Rattle.std.proofs.Common.{◌≡◌, ◌<◌, ◌+◌, ◌-◌, ℕ, get_or, length, sym, ap, ◌∙◌, arith}
+use Rattle.std.proofs.Common.{◌≡◌, get_or, length, sym, ap, ◌∙◌, arith}
 use Rattle.std.proofs.lemmas.List.{get_or_read}
 use Rattle.region_tree.specs.Tree.{IsNumber, entry_of, exit_of}
 use Rattle.dep_routing.proofs.Ordering.{IsOrdering-skip, IsOrdering-last, number_at, none_at}

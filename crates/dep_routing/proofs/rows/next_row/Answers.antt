@@ -1,4 +1,4 @@
-use Rattle.std.proofs.Common.{◌≡◌, ◌<◌, ◌+◌, ℕ, List, set, get_or, length, sym, ap, ◌∙◌, arith, length-set}
+use Rattle.std.proofs.Common.{◌≡◌, ◌<◌, get_or, length, ap, ◌∙◌, arith, length-set}
 use Rattle.std.proofs.lemmas.List.{get_or_read, take_all}
 use Rattle.region_tree.specs.Tree.{IsNumber, entry_of, exit_of}
 use Rattle.dep_routing.proofs.Held.{Holds-at}
