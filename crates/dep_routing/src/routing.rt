@@ -39,8 +39,9 @@ pub fn route<const W: usize>(
     tree_facts();
     let borders = borders_of(alloc, g, t)?;
     let order = regions_in_order(alloc, t, &borders)?;
-    let mut next = Vec::new(alloc);
-    let mut wires = Vec::new(alloc);
+    let cells = lines as usize * g.edges() as usize;
+    let mut next = Vec::with_capacity(alloc, cells)?;
+    let mut wires = Vec::with_capacity(alloc, cells)?;
     for line in 0..lines {
         let rows = line_rows(alloc, g, t, touch, line, order.as_slice())?;
         next.extend_from_slice(rows.next.as_slice())?;

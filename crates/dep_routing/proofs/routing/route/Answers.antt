@@ -23,7 +23,7 @@ returns g c =
     let all : c.loop-line.line ≡ c.args.lines = omega (arith, c.loop-line-test.false, c.loop-line.auto.line-end) in
     let rows : AreRows graph c.args.t.now (touches_in c.args.touch.now) c.args.lines c.loop-line.next.items c.loop-line.wires.items =
     subst (λ (k : ℕ). AreRows graph c.args.t.now (touches_in c.args.touch.now) k c.loop-line.next.items c.loop-line.wires.items) all c.loop-line.invariant in
-    rw c.edges.ensures.count record {
+    rw c.edges-2.ensures.count record {
       count = refl;
       edges = refl;
       wire = rows.wire_rows;
