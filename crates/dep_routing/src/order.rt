@@ -1,9 +1,9 @@
 //! An order of regions in which each stands behind the one that its exit enters.
 
-ghost use Rattle.std.specs.Prelude.{◌≡◌, ◌+◌, ◌<◌, ◌≤◌, ℕ, length, IfOk, OnOk};
+ghost use Rattle.std.specs.Prelude.{◌<◌, ℕ, length, IfOk, OnOk};
 ghost use Rattle.region_tree.specs.Tree.{IsNumber, entry_of, exit_of};
 ghost use Rattle.dep_routing.specs.Numbers.{AreNumbersBelow};
-ghost use Rattle.dep_routing.specs.Order.{Ranks, IsOrder, IsOrdering, IsPutBehind, unmarked};
+ghost use Rattle.dep_routing.specs.Order.{Ranks, IsOrder, IsOrdering, IsPutBehind};
 
 use crate::borders::Borders;
 use df_sequence::NoMemory;

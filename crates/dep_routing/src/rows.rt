@@ -1,7 +1,7 @@
 //! The rows of a line: its wires, and to which edges it is led.
 
 ghost use Rattle.std.specs.Prelude.{◌≡◌, ◌<◌, ℕ, Bool, length, slice_index, IfOk};
-ghost use Rattle.closed_walks.specs.Graph.{Graph, edge_count};
+ghost use Rattle.closed_walks.specs.Graph.{edge_count};
 ghost use Rattle.closed_walks.specs.Region.{IsFlowGraph};
 ghost use Rattle.region_tree.specs.Tree.{IsRegionTree, IsNumber, entry_of, exit_of};
 ghost use Rattle.dep_routing.specs.Noise.{AreNoisy};
