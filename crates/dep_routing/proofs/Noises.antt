@@ -1,0 +1,210 @@
+-- The steps that mark regions, and what the marks tell.
+use Rattle.std.proofs.Common.{◌≡◌, ◌≢◌, ℕ, zero, suc, ◌+◌, ◌<◌, ◌⊎◌, Bool, true, false, List, [], ◌∷◌, Some, length, set, refl, sym, ap, ◌∙◌, subst, inl, inr, ⊎_elim, arith, get_or-set_same, get_or-set_other, length-set}
+use Rattle.std.specs.Prelude.{slice_get}
+use Rattle.std.proofs.lemmas.Bool.{cases_eq, cases_Bool, false≢true}
+use Rattle.class_set.specs.ClassSet.{holds}
+use Rattle.class_set.specs.declared.ClassSet.{ClassSet}
+use Rattle.closed_walks.specs.Graph.{Graph}
+use Rattle.region_tree.specs.Tree.{Tree, parent_of, innermost_of, IsNumber, IsIn, IsAround, IsLeast}
+use Rattle.region_tree.specs.Laws.{above}
+use Rattle.dep_routing.specs.Facts.{TreeFacts}
+use Rattle.dep_routing.specs.Quiet.{IsTouched}
+use Rattle.dep_routing.specs.Order.{is_marked}
+use Rattle.dep_routing.specs.Noise.{IsNoneOrMarked, HaveParents, IsMarkedUp, IsMarkedFrom, AreNoisy}
+use Rattle.dep_routing.specs.Touch.{touches_in}
+use Rattle.dep_routing.proofs.Quietness.{inside_exists}
+
+pub touches-at : {W : ℕ} (sets : List (ClassSet W)) (node line : ℕ) (s : ClassSet W) → slice_get sets node ≡ Some s → touches_in sets node line ≡ holds s line
+touches-at [] node line s is = absurd cc
+touches-at (x ∷ sets) zero line s is = let same : x ≡ s = cc in ap (λ y. holds y line) same
+touches-at (x ∷ sets) (suc node) line s is = touches-at sets node line s is
+
+module _ (t : Tree) where
+  above-suc : (k r : ℕ) → above t (suc k) r ≡ parent_of t (above t k r)
+  above-suc zero r = refl
+  above-suc (suc k) r = above-suc k (parent_of t r)
+
+  -- Of the marks on the way up from the region: all is right but for the region r, to which the way has come.
+  pub record IsMarking (region r : ℕ) (before marks : List Bool) : Type 0 where
+    pub size : length marks ≡ length before
+    pub within : r < length t.entries
+    pub here : IsNoneOrMarked marks region ⊎ (region ≡ r)
+    pub come : (k : ℕ) × (above t k region ≡ r)
+    pub kept : (q : ℕ) → is_marked before q ≡ true → is_marked marks q ≡ true
+    pub new : (q : ℕ) → is_marked marks q ≡ true → (is_marked before q ≡ true) ⊎ ((k : ℕ) × (above t k region ≡ q))
+    pub up : (q : ℕ) → IsNumber t q → is_marked marks q ≡ true → IsNoneOrMarked marks (parent_of t q) ⊎ (parent_of t q ≡ r)
+
+  pub IsMarking-begin : (region : ℕ) (marks : List Bool) → region < length t.entries → IsMarkedUp t marks → IsMarking region region marks marks
+  IsMarking-begin region marks within up = record {
+    size = refl;
+    within = within;
+    here = inr refl;
+    come = (zero, refl);
+    kept = λ q h. h;
+    new = λ q h. inl h;
+    up = λ q number h. inl (up q number h);
+  }
+
+  module _ (region r : ℕ) (before marks : List Bool) (m : IsMarking region r before marks) where
+    pub IsMarking-step : HaveParents t → 0 < r → r < length marks → IsMarking region (parent_of t r) before (set marks r true)
+    IsMarking-step p away inside =
+        let marked_r : is_marked (set marks r true) r ≡ true = get_or-set_same marks r true false inside in
+        let more : (q : ℕ) → is_marked marks q ≡ true → is_marked (set marks r true) q ≡ true =
+        λ q h. ⊎_elim
+        (λ (same : q ≡ r). subst (λ n. is_marked (set marks r true) n ≡ true) (sym same) marked_r)
+        (λ (apart : q ≢ r). get_or-set_other marks r q true false apart ∙ h)
+        (cases_eq q r) in
+        let none_or : (q : ℕ) → IsNoneOrMarked marks q → IsNoneOrMarked (set marks r true) q = λ q h. ⊎_elim (λ none. inl none) (λ old. inr (more q old)) h in
+        record {
+          size = length-set marks r true ∙ m.size;
+          within = ⊎_elim
+              (λ (none : parent_of t r ≡ 0). let some = p.some in omega (arith, none, some))
+              (λ (other : parent_of t r ≢ 0). (p.numbers r (away, m.within) other).1)
+              (cases_eq (parent_of t r) 0);
+          here = inl (⊎_elim (λ old. none_or region old) (λ (same : region ≡ r). inr (subst (λ n. is_marked (set marks r true) n ≡ true) (sym same) marked_r)) m.here);
+          come = (suc m.come.0, above-suc m.come.0 region ∙ ap (parent_of t) m.come.1);
+          kept = λ q h. more q (m.kept q h);
+          new = λ q h. ⊎_elim
+              (λ (same : q ≡ r). inr (m.come.0, m.come.1 ∙ sym same))
+              (λ (apart : q ≢ r). m.new q (sym (get_or-set_other marks r q true false apart) ∙ h))
+              (cases_eq q r);
+          up = λ q number h. ⊎_elim
+              (λ (same : q ≡ r). inr (ap (parent_of t) same))
+              (λ (apart : q ≢ r). inl (⊎_elim
+              (λ old. none_or (parent_of t q) old)
+              (λ (is : parent_of t q ≡ r). inr (subst (λ n. is_marked (set marks r true) n ≡ true) (sym is) marked_r))
+              (m.up q number (sym (get_or-set_other marks r q true false apart) ∙ h))))
+              (cases_eq q r);
+        }
+
+    pub IsMarking-end : IsNoneOrMarked marks r → IsMarkedFrom t region before marks
+    IsMarking-end h =
+        let at : (q : ℕ) → q ≡ r → IsNoneOrMarked marks q = λ q same. subst (λ n. IsNoneOrMarked marks n) (sym same) h in
+        record {
+          size = m.size;
+          here = ⊎_elim (λ old. old) (λ same. at region same) m.here;
+          kept = m.kept;
+          new = m.new;
+          up = λ q number marked. ⊎_elim (λ old. old) (λ same. at (parent_of t q) same) (m.up q number marked);
+        }
+
+-- The marks go up from the nodes below k that touch the line, and from no others.
+pub record IsHeard (g : Graph) (t : Tree) (touches : ℕ → ℕ → Bool) (line k : ℕ) (marks : List Bool) : Type 0 where
+  pub size : length marks ≡ length t.entries
+  pub up : IsMarkedUp t marks
+  pub noisy : (r : ℕ) → IsNumber t r → is_marked marks r ≡ true → IsTouched g t touches line r
+  pub done : (node : ℕ) → node < k → touches node line ≡ true → IsNoneOrMarked marks (innermost_of t node)
+
+module _ (g : Graph) (t : Tree) (f : TreeFacts g t) where
+  pub parent_number : (r : ℕ) → IsNumber t r → parent_of t r ≢ 0 → IsNumber t (parent_of t r) × IsAround g t r (parent_of t r)
+  parent_number r number some = ⊎_elim
+      (λ none. absurd (some none.0))
+      (λ (l : IsLeast g t (λ q. IsAround g t r q) (parent_of t r)). (l.number, l.has))
+      (f.tree.parents r number)
+
+  pub HaveParents-tree : HaveParents t
+  HaveParents-tree = record { some = f.tree.regions.some; numbers = λ r number some. (parent_number r number some).0 }
+
+  pub innermost_within : (node : ℕ) → node < g.nodes → innermost_of t node < length t.entries
+  innermost_within node exists = ⊎_elim
+      (λ none. let is : innermost_of t node ≡ 0 = none.0 in let some = f.tree.regions.some in omega (arith, is, some))
+      (λ (l : IsLeast g t (λ q. IsIn g t q node) (innermost_of t node)). l.number.1)
+      (f.tree.innermost node exists)
+
+  above_none : (k : ℕ) → above t k 0 ≡ 0
+  above_none zero = refl
+  above_none (suc k) = subst (λ n. above t k n ≡ 0) (sym f.tree.no_parent) (above_none k)
+
+  -- what holds the node holds it above, too
+  holds_above : (k q r node : ℕ) → IsNumber t q → IsIn g t q node → IsNumber t r → above t k q ≡ r → IsIn g t r node
+  holds_above zero q r node number inside other is = subst (λ n. IsIn g t n node) is inside
+  holds_above (suc k) q r node number inside other is = ⊎_elim
+      (λ (none : parent_of t q ≡ 0).
+      let start : r ≡ 0 = sym is ∙ (ap (above t k) none ∙ above_none k) in
+      let some = other.0 in
+      absurd (omega (arith, start, some)))
+      (λ (away : parent_of t q ≢ 0). let p = parent_number q number away in holds_above k (parent_of t q) r node p.0 (p.1.1 node inside) other is)
+      (cases_eq (parent_of t q) 0)
+
+  -- marks go up
+  marked_above : (marks : List Bool) → IsMarkedUp t marks → (k q r : ℕ) → q < length t.entries → IsNoneOrMarked marks q → IsNumber t r → above t k q ≡ r → is_marked marks r ≡ true
+  marked_above marks up k q r within (inl none) other is =
+      let start : r ≡ 0 = sym is ∙ (ap (above t k) none ∙ above_none k) in
+      let some = other.0 in
+      absurd (omega (arith, start, some))
+  marked_above marks up zero q r within (inr marked) other is = subst (λ n. is_marked marks n ≡ true) is marked
+  marked_above marks up (suc k) q r within (inr marked) other is = ⊎_elim
+      (λ (start : q ≡ 0).
+      let there : r ≡ 0 = sym is ∙ (ap (above t (suc k)) start ∙ above_none (suc k)) in
+      let some = other.0 in
+      absurd (omega (arith, there, some)))
+      (λ (away : q ≢ 0).
+      let number : IsNumber t q = (omega (arith, away), within) in
+      marked_above marks up k (parent_of t q) r
+      (⊎_elim
+      (λ (none : parent_of t q ≡ 0). let some = f.tree.regions.some in omega (arith, none, some))
+      (λ (there : parent_of t q ≢ 0). (parent_number q number there).0.1)
+      (cases_eq (parent_of t q) 0))
+      (up q number marked) other is)
+      (cases_eq q 0)
+
+  module _ (touches : ℕ → ℕ → Bool) (line : ℕ) where
+    pub IsHeard-none : (marks : List Bool) → length marks ≡ length t.entries → ((r : ℕ) → is_marked marks r ≡ false) → IsHeard g t touches line 0 marks
+    IsHeard-none marks size blank = record {
+      size = size;
+      up = λ r number h. absurd (false≢true (sym (blank r) ∙ h));
+      noisy = λ r number h. absurd (false≢true (sym (blank r) ∙ h));
+      done = λ node less h. absurd (omega (arith, less));
+    }
+
+    module _ (k : ℕ) (marks : List Bool) (h : IsHeard g t touches line k marks) where
+      pub IsHeard-skip : touches k line ≡ false → IsHeard g t touches line (k + 1) marks
+      IsHeard-skip untouched = record {
+        size = h.size;
+        up = h.up;
+        noisy = h.noisy;
+        done = λ node less touched. ⊎_elim
+            (λ (same : node ≡ k). absurd (false≢true (sym untouched ∙ subst (λ n. touches n line ≡ true) same touched)))
+            (λ (apart : node ≢ k). h.done node (omega (arith, less, apart)) touched)
+            (cases_eq node k);
+      }
+
+      pub IsHeard-take : (marks' : List Bool) → k < g.nodes → touches k line ≡ true → IsMarkedFrom t (innermost_of t k) marks marks' → IsHeard g t touches line (k + 1) marks'
+      IsHeard-take marks' exists touched m = record {
+        size = m.size ∙ h.size;
+        up = m.up;
+        noisy = λ r number marked. ⊎_elim
+            (λ (old : is_marked marks r ≡ true). h.noisy r number old)
+            (λ (new : (n : ℕ) × (above t n (innermost_of t k) ≡ r)). record { node = k; inside = climbs new.0 r number new.1; touched = touched })
+            (m.new r marked);
+        done = λ node less touched'. ⊎_elim
+            (λ (same : node ≡ k). subst (λ n. IsNoneOrMarked marks' (innermost_of t n)) (sym same) m.here)
+            (λ (apart : node ≢ k). ⊎_elim (λ none. inl none) (λ old. inr (m.kept (innermost_of t node) old)) (h.done node (omega (arith, less, apart)) touched'))
+            (cases_eq node k);
+      }
+        where
+          climbs : (n r : ℕ) → IsNumber t r → above t n (innermost_of t k) ≡ r → IsIn g t r k
+          climbs n r number is = ⊎_elim
+              (λ none.
+              let start : r ≡ 0 = sym is ∙ (ap (above t n) none.0 ∙ above_none n) in
+              let some = number.0 in
+              absurd (omega (arith, start, some)))
+              (λ (l : IsLeast g t (λ q. IsIn g t q k) (innermost_of t k)). holds_above n (innermost_of t k) r k l.number l.has number is)
+              (f.tree.innermost k exists)
+
+    pub AreNoisy-end : (marks : List Bool) → IsHeard g t touches line g.nodes marks → AreNoisy g t touches line marks
+    AreNoisy-end marks h = record {
+      size = h.size;
+      noisy = h.noisy;
+      quiet = λ r number blank. record {
+        number = number;
+        untouched = λ node inside. ⊎_elim
+            (λ (touched : touches node line ≡ true).
+            let exists : node < g.nodes = inside_exists g t f r node number inside in
+            let way = f.chain r node number exists inside in
+            let marked : is_marked marks r ≡ true = marked_above marks h.up way.0 (innermost_of t node) r (innermost_within node exists) (h.done node exists touched) number way.1 in
+            absurd (false≢true (sym blank ∙ marked)))
+            (λ (untouched : touches node line ≡ false). untouched)
+            (cases_Bool (touches node line));
+      };
+    }

@@ -1,0 +1,11 @@
+pub mod Facts
+pub mod LineTable
+pub mod Next
+pub mod Noise
+pub mod Numbers
+pub mod Order
+pub mod Place
+pub mod Quiet
+pub mod Routing
+pub mod Rows
+pub mod Touch

@@ -1,0 +1,28 @@
+//! Past which regions of a flow graph the tokens of a line are led.
+//!
+//! A line is a number from 0. A region of which no node touches a line is quiet for it, and the line is led past it, from its entry
+//! to its exit.
+//!
+//! Source: Johnson and Pingali, "Dependence-based program analysis", PLDI 1993.
+#![tactic(auto)]
+
+mod borders;
+mod facts;
+mod laws;
+mod lines;
+mod noise;
+mod order;
+mod routing;
+mod rows;
+
+use class_set::ClassSet;
+use df_sequence::Sequence;
+pub use laws::{
+    free_nodes, free_passed_nodes, largest_quiet_regions, next_edges, places, places_over_a_pass,
+    quiet_regions,
+};
+pub use lines::Lines;
+pub use routing::route;
+
+/// For each node the set of the lines that it touches.
+pub type TouchList<const W: usize> = Sequence<ClassSet<W>>;
