@@ -1,7 +1,6 @@
 -- The passes of a run are a walk.
-use Rattle.std.proofs.Common.{◌≡◌, ◌≢◌, ℕ, zero, suc, ◌+◌, ◌<◌, ◌≤◌, ◌⊎◌, ℤ, Bool, true, false, List, [], ◌∷◌, ◌++◌, length, Result, Ok, Err, slice_get, refl, sym, ap, ◌∙◌, subst, inl, inr, ⊎_elim, arith}
-use Rattle.std.proofs.lemmas.Bool.{cases_eq}
-use Rattle.closed_walks.specs.Graph.{IsGraph, edge_count, from, to}
+use Rattle.std.proofs.Common.{◌≡◌, ◌≢◌, ℕ, zero, suc, ◌<◌, ℤ, List, length, Result, Ok, Err, slice_get, refl, sym, ◌∙◌}
+use Rattle.closed_walks.specs.Graph.{edge_count, from, to}
 use Rattle.op_table.specs.declared.Trap.{Trap}
 use Rattle.f77_tree.specs.declared.programs.ExecKind.{ExecKind}
 use Rattle.f77_tree.specs.declared.programs.Program.{Program}
@@ -16,7 +15,6 @@ use Rattle.cfg_build.specs.Passes.{outs, out, Passed, Along, Traps, Done, acted,
 use Rattle.cfg_build.specs.Shape.{IsShaped}
 use Rattle.cfg_build.proofs.ReachedNodes.{IsTold}
 use Rattle.cfg_build.proofs.Lowest.{IsMet}
-use Rattle.cfg_build.proofs.Holding.{IsHolding}
 use Rattle.cfg_build.proofs.Strong.{holding}
 use Rattle.cfg_build.proofs.Shaped.{shaped}
 use Rattle.cfg_build.proofs.BranchChoices.{IsBelow}
