@@ -100,9 +100,9 @@ module _ (f : FlowGraph) (entry : ℕ → ℕ) (p : Program) (input : List ℤ) 
         let count : length pieces ≡ suc (length c.front) = omega (arith, cut, appended) in
         let made : IsMade f p.execs c.last (last_kind exec.kind) x.position = subst (λ n. IsMade f p.execs c.last (last_kind exec.kind) n) (own_last p.execs x.position exec.kind single) c.ends.made in
         let passed : go f p input (length pieces) y ≡ after_pass z (piece_at f.pieces c.last).line (pass_of p input x.memory (out f.graph c.last) (last_kind exec.kind) exec.kind) =
-            ap (λ n. go f p input n y) count
-            ∙ passed_is f p input z x.memory x.out c.last at
-            ∙ ap (λ (q : Passed). after_pass z (piece_at f.pieces c.last).line q) (made_pass c.last (last_kind exec.kind) x.position exec x.memory made found) in
+        ap (λ n. go f p input n y) count
+        ∙ passed_is f p input z x.memory x.out c.last at
+        ∙ ap (λ (q : Passed). after_pass z (piece_at f.pieces c.last).line q) (made_pass c.last (last_kind exec.kind) x.position exec x.memory made found) in
         subst (λ (a : PassState). Agrees a (step p input x)) (sym passed)
         (subst (λ (s : State). Agrees (after_pass z (piece_at f.pieces c.last).line (pass_of p input x.memory (out f.graph c.last) (last_kind exec.kind) exec.kind)) s) (sym (step_is x exec found x_runs))
         (fits_agree z x (piece_at f.pieces c.last).line exec.line (pass_of p input x.memory (out f.graph c.last) (last_kind exec.kind) exec.kind) (outcome p.names input x.memory exec.kind)

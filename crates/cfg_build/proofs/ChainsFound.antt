@@ -128,12 +128,19 @@ module _ (told : IsTold) (met : IsMet) (names : List NameInfo) (execs : List Exe
         let d : ℕ = owner execs k exec.kind in
         let test : Part = test_part d (line_in (slice_get execs d)) t.loop in
         let c : IsTwoChain told met names execs loops well k exec.kind =
-            two_chain told met names execs loops well k exec found two act.one test (record {
-              act_in = member_part execs act.one (record { at = k; exec = exec; found = found; reached = reached; among = act.among });
-              test_in = test_at d t.loop (slice_get execs d) refl t.begins t.reached;
-              first = act.own; acts = act.kind_is; act_exec = act.exec_is; act_line = act.line_is ∙ line_found; leads = act.outs;
-              tests = refl; test_exec = refl; test_line = refl; outs = t.outs;
-            }) in
+        two_chain told met names execs loops well k exec found two act.one test (record {
+          act_in = member_part execs act.one (record { at = k; exec = exec; found = found; reached = reached; among = act.among });
+          test_in = test_at d t.loop (slice_get execs d) refl t.begins t.reached;
+          first = act.own;
+          acts = act.kind_is;
+          act_exec = act.exec_is;
+          act_line = act.line_is ∙ line_found;
+          leads = act.outs;
+          tests = refl;
+          test_exec = refl;
+          test_line = refl;
+          outs = t.outs;
+        }) in
         record { are = subst (λ b. AreChain (flow execs) (entry execs) execs k b exec.kind (chain execs k)) (sym two) c.is; few = c.few; one = c.one }
 
     as_one : has_test exec.kind ≡ false → IsOneChain told met names execs loops well k exec.kind → IsFound k exec.kind

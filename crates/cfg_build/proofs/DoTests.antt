@@ -56,7 +56,9 @@ module _ (p : Program) (input : List ℤ) (loops : AreLoops p.execs p.loops) whe
   do_step k (DoStart loop_no var first last step body exit) begins increments h =
       let loop : Loop = record { number = loop_no; variable = var; body = body; exit = exit } in
       record {
-        loop_no = loop_no; body = body; exit = exit;
+        loop_no = loop_no;
+        body = body;
+        exit = exit;
         few = loops.starts k loop (begins loop refl);
         leads = refl;
         tells = λ m few. start_tested m loop_no (place_of p.names var) body exit (value_in p.names m first) (value_in p.names m last) (value_in p.names m step) few;
@@ -67,7 +69,9 @@ module _ (p : Program) (input : List ℤ) (loops : AreLoops p.execs p.loops) whe
       let few : loop_no < p.loops = loops.nexts k loop (increments loop refl) in
       let is : IsLoop p.execs loop_no = loops.each loop_no few in
       record {
-        loop_no = loop_no; body = body; exit = exit;
+        loop_no = loop_no;
+        body = body;
+        exit = exit;
         few = few;
         leads = refl;
         tells = λ m some. next_tested m loop_no (place_of p.names var) body exit some;

@@ -105,8 +105,8 @@ module _ (told : IsTold) (met : IsMet) (names : List NameInfo) (execs : List Exe
       let is : piece_at (flow execs).pieces x ≡ p.piece = same ∙ ap (λ y. piece_at (pieces_of ps) y) own ∙ piece_of_part ps r.part r.exists in
       let heads : length (heads_at ps x) ≡ length p.outs = ap (λ y. length (heads_at ps y)) own ∙ ap (λ (xs : List ℕ). length xs) (heads_of_part ps r.part r.exists) ∙ length-map p.outs (number ps) in
       let count : length (outs (flow execs).graph x) ≡ length p.outs =
-          ap (λ (xs : List ℕ). length xs) (outs_old told names execs loops well x old ∙ outs_are ps (finish execs) x old other)
-          ∙ length-range_with_len (first_out ps (finish execs) x) (length (heads_at ps x)) ∙ heads in
+      ap (λ (xs : List ℕ). length xs) (outs_old told names execs loops well x old ∙ outs_are ps (finish execs) x old other)
+      ∙ length-range_with_len (first_out ps (finish execs) x) (length (heads_at ps x)) ∙ heads in
       subst (λ (q : Piece). IsBelow (length (outs (flow execs).graph x)) (choice names m (kind_in (slice_get execs q.exec)))) (sym is)
       (chosen x p (Member-at ps r.part start_part r.exists) (ap (λ (q : Piece). q.kind) (sym is) ∙ branches) count m))
       (λ (j : (is_joined ps p ≡ true) × (x ≡ first_piece ps r.part)).

@@ -91,14 +91,17 @@ module _ (told : IsTold) (met : IsMet) (names : List NameInfo) (execs : List Exe
       let five : 5 ≡ length r.front + suc more = omega (arith, small.0) in
       let stops : goes_on execs (piece_at (flow execs).pieces node) ≡ false = made_goes node (last_kind exec.kind) k made ∙ ap (λ e. goes_on_from (last_kind exec.kind) (has_test (kind_in e))) found ∙ ends_here exec.kind single in
       let is : chain execs k ≡ r.front ++ node ∷ [] =
-          ap (λ n. following n execs (entry execs k)) five ∙ along_front execs r.front (entry execs k) node (suc more) route
-          ∙ ap (λ xs. r.front ++ xs) (goes_no_further execs more node stops) in
+      ap (λ n. following n execs (entry execs k)) five ∙ along_front execs r.front (entry execs k) node (suc more) route
+      ∙ ap (λ xs. r.front ++ xs) (goes_no_further execs more node stops) in
       let count : length (chain execs k) ≡ length r.front + 1 = ap (λ (xs : List ℕ). length xs) is ∙ length-append r.front (node ∷ []) in
       let held : holds (chain execs k) ≡ holds r.front + holds (node ∷ []) = ap (λ xs. holds xs) is ∙ count-append (λ x. is_hold (piece_at (flow execs).pieces x).kind) r.front (node ∷ []) in
       let none : holds (node ∷ []) ≡ 0 = no_more node (last_kind exec.kind) k [] made (last_not_hold exec.kind) in
       record {
         is = record {
-          front = r.front; last = node; are = is; route = route;
+          front = r.front;
+          last = node;
+          are = is;
+          route = route;
           ends = own_last told met names execs loops well p a k exec.kind kind_is (exec_is ∙ sym owns) (line_is ∙ ap (λ n. line_in (slice_get execs n)) (sym owns)) outs;
         };
         few = omega (arith, count, small.0);

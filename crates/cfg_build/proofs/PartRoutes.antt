@@ -149,17 +149,23 @@ module _ (told : IsTold) (met : IsMet) (names : List NameInfo) (execs : List Exe
         let h : IsHeldPiece told names execs loops well z = held_piece_is told names execs loops well q e.some in
         let to_hold : to (flow execs).graph (out (flow execs).graph x 0) ≡ n + q = held_leads told names execs loops well x 0 q x_below not_end within e.some e.is ∙ hold_of_is told names execs loops well q e.some in
         let on : to (flow execs).graph (out (flow execs).graph (n + q) 0) ≡ y =
-            out_of_hold told names execs loops well q e.some ∙ ap (λ m. to (row_graph (parts execs) (finish execs)) m) e.is ∙ edge_ends told names execs loops well x 0 x_below not_end within ∙ first_head in
+        out_of_hold told names execs loops well q e.some ∙ ap (λ m. to (row_graph (parts execs) (finish execs)) m) e.is ∙ edge_ends told names execs loops well x 0 x_below not_end within ∙ first_head in
         record {
           front = x ∷ (n + q) ∷ [];
           route = (entered, x_leads, (to_hold, ap leads_on (hold_kind q e.some), on));
-          few = inr (omega arith, x_and_hold q e.some, record {
-            one = z; below = h.below; is = h.is;
-            of = ⊎_elim
-                (λ (a : (is_join (piece_at (pieces_of ps) z).kind ≡ true) × (from (row_graph (parts execs) (finish execs)) k ≡ z)). inl (sym a.1 ∙ edge_begins told names execs loops well x 0 x_below not_end within))
-                (λ (a : (is_join (piece_at (pieces_of ps) z).kind ≡ false) × (to (row_graph (parts execs) (finish execs)) k ≡ z)). inr (sym a.1 ∙ edge_ends told names execs loops well x 0 x_below not_end within ∙ first_head))
-                (holder told names execs loops well k e);
-          });
+          few = inr (
+            omega arith,
+            x_and_hold q e.some,
+            record {
+              one = z;
+              below = h.below;
+              is = h.is;
+              of = ⊎_elim
+                  (λ (a : (is_join (piece_at (pieces_of ps) z).kind ≡ true) × (from (row_graph (parts execs) (finish execs)) k ≡ z)). inl (sym a.1 ∙ edge_begins told names execs loops well x 0 x_below not_end within))
+                  (λ (a : (is_join (piece_at (pieces_of ps) z).kind ≡ false) × (to (row_graph (parts execs) (finish execs)) k ≡ z)). inr (sym a.1 ∙ edge_ends told names execs loops well x 0 x_below not_end within ∙ first_head))
+                  (holder told names execs loops well k e);
+            },
+          );
         }
 
     pub joined_front : IsFront j
@@ -185,11 +191,11 @@ module _ (told : IsTold) (met : IsMet) (names : List NameInfo) (execs : List Exe
       let a : IsHeldAt told names execs loops well x = held_at told names execs loops well x h.0 in
       let p : IsHeldPiece told names execs loops well x = subst (λ m. IsHeldPiece told names execs loops well m) a.is (held_piece_is told names execs loops well a.place a.some) in
       let enters : entering execs x ≡ n + a.place =
-          cond-true (is_behind_hold execs x) (hold_of execs x) x behind ∙ ap (λ m. hold_of execs m) (sym a.is) ∙ hold_of_is told names execs loops well a.place a.some in
+      cond-true (is_behind_hold execs x) (hold_of execs x) x behind ∙ ap (λ m. hold_of execs m) (sym a.is) ∙ hold_of_is told names execs loops well a.place a.some in
       let on : to (flow execs).graph (out (flow execs).graph (n + a.place) 0) ≡ own_piece ps j =
-          out_of_hold told names execs loops well a.place a.some
-          ∙ ap (λ m. to (row_graph (parts execs) (finish execs)) (edge_for told names execs loops well m)) a.is
-          ∙ hold_comes_to_other told names execs loops well x p.below p.is h.1 ∙ same in
+      out_of_hold told names execs loops well a.place a.some
+      ∙ ap (λ m. to (row_graph (parts execs) (finish execs)) (edge_for told names execs loops well m)) a.is
+      ∙ hold_comes_to_other told names execs loops well x p.below p.is h.1 ∙ same in
       record { front = (n + a.place) ∷ []; route = (enters, ap leads_on (hold_kind a.place a.some), on); few = inr (omega arith, hold_alone a.place a.some, record { one = x; below = p.below; is = p.is; of = inl refl }) })
       (λ (behind : is_behind_hold execs x ≡ false).
       record { front = []; route = cond-false (is_behind_hold execs x) (hold_of execs x) x behind ∙ same; few = inl (omega arith, refl) })

@@ -78,8 +78,8 @@ module _ (f : FlowGraph) (p : Program) (input : List ℤ) where
   led_once x memory written node h leads =
       let piece = piece_at f.pieces node in
       let is : passed_in x x.mark ≡ after_pass x piece.line (Along (out f.graph node 0) memory []) =
-          passed_is x memory written node h
-          ∙ ap (λ (passed : Passed). after_pass x piece.line passed) (led_on memory (out f.graph node) piece.kind (kind_in (slice_get p.execs piece.exec)) leads) in
+      passed_is x memory written node h
+      ∙ ap (λ (passed : Passed). after_pass x piece.line passed) (led_on memory (out f.graph node) piece.kind (kind_in (slice_get p.execs piece.exec)) leads) in
       subst (λ (y : PassState). IsAt y memory written (to f.graph (out f.graph node 0))) (sym is)
       (subst (λ o. IsAt (after_pass x piece.line (Along (out f.graph node 0) memory [])) memory o (to f.graph (out f.graph node 0))) (append-nil written)
       (along_edge x memory written node piece.line (out f.graph node 0) (to f.graph (out f.graph node 0)) memory [] h refl))

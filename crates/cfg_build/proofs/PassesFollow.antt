@@ -54,8 +54,8 @@ module _ (told : IsTold) (met : IsMet) (names : List NameInfo) (execs : List Exe
       let a : IsPlaced told met names execs loops well start_part = record { place = 0; exists = omega arith; is = refl } in
       let first : suc (places_before (heads_in (parts execs)) 0) + 0 ≡ 1 = omega arith in
       let at : out (flow execs).graph (own_piece (parts execs) 0) 0 ≡ 1 =
-          own_out told met names execs loops well start_part a 0 (omega arith)
-          ∙ ap (λ x. suc (places_before (heads_in (parts execs)) x) + 0) start_at_zero ∙ first in
+      own_out told met names execs loops well start_part a 0 (omega arith)
+      ∙ ap (λ x. suc (places_before (heads_in (parts execs)) x) + 0) start_at_zero ∙ first in
       ap (λ e. to (flow execs).graph e) (sym at) ∙ own_leads told met names execs loops well start_part a 0 (omega arith)
 
 module _ (told : IsTold) (met : IsMet) (lead_on : LeadOn) (p : Program) (input : List ℤ) (well : AreExecs p.names p.execs p.loops) where
@@ -70,9 +70,9 @@ module _ (told : IsTold) (met : IsMet) (lead_on : LeadOn) (p : Program) (input :
   passes_follow n =
       let f : FlowGraph = flow p.execs in
       let first : Agrees f (entry p.execs) p input (passes p input 0) (source p input 0) =
-          record { memory_is = refl; out_is = refl; mark_is = refl; enters = λ h. first_entered told met p.names p.execs p.loops well } in
+      record { memory_is = refl; out_is = refl; mark_is = refl; enters = λ h. first_entered told met p.names p.execs p.loops well } in
       let r : Agrees f (entry p.execs) p input (go f p input (passes_in told lead_on p input well.successors well.end.some well.loops_nest f (entry p.execs) (chain p.execs) chains n) (passes p input 0)) (source p input n) =
-          all_agree told lead_on p input well.successors well.end.some well.loops_nest f (entry p.execs) (chain p.execs) chains (passes p input 0) first n in
+      all_agree told lead_on p input well.successors well.end.some well.loops_nest f (entry p.execs) (chain p.execs) chains (passes p input 0) first n in
       let s : Agrees f (entry p.execs) p input (passes p input (passes_of p input n)) (source p input n) =
-          subst (λ (y : PassState). Agrees f (entry p.execs) p input y (source p input n)) (ap (λ m. go f p input m (passes p input 0)) (same_count n) ∙ same_run p input (passes_of p input n)) r in
+      subst (λ (y : PassState). Agrees f (entry p.execs) p input y (source p input n)) (ap (λ m. go f p input m (passes p input 0)) (same_count n) ∙ same_run p input (passes_of p input n)) r in
       record { memory_is = s.memory_is; out_is = s.out_is; mark_is = s.mark_is; enters = s.enters }

@@ -65,7 +65,7 @@ module _ (told : IsTold) (lead_on : LeadOn) (p : Program) (input : List ℤ) (ex
         (λ (two : has_test exec.kind ≡ true).
         let parts : IsTwoParts f entry p.execs x.position exec.kind pieces = subst (λ b. AreChain f entry p.execs x.position b exec.kind pieces) two c in
         let d : IsDoStep p input x.position exec.kind =
-            do_step p input loops x.position exec.kind (λ loop begins. ap (λ o. begun_in o) e.1 ∙ begins) (λ loop increments. ap (λ o. incremented_in o) e.1 ∙ increments) two in
+        do_step p input loops x.position exec.kind (λ loop begins. ap (λ o. begun_in o) e.1 ∙ begins) (λ loop increments. ap (λ o. incremented_in o) e.1 ∙ increments) two in
         two_parts f entry p input d.loop_no d.body d.exit x exec e.1 runs y agrees pieces parts (λ m. refl)
         (d.tells x.memory (omega (arith, h.counts, d.few)))
         (test_of p input loops f entry x.position exec.kind parts.test two d parts.ends))

@@ -103,9 +103,9 @@ module _ (told : IsTold) (met : IsMet) (names : List NameInfo) (execs : List Exe
     on =
         let count : length act.outs ≡ 1 = ap (λ (ts : List Target). length ts) are.leads in
         let is : to (flow execs).graph (out (flow execs).graph x 0) ≡ entering execs (first_piece ps b.place) =
-            own_leads told met names execs loops well act a 0 (omega (arith, count))
-            ∙ ap (λ (ts : List Target). entering execs (number ps (get_or ts 0 (First 0)))) are.leads
-            ∙ ap (λ n. entering execs n) (first_is told met names execs loops well test b) in
+        own_leads told met names execs loops well act a 0 (omega (arith, count))
+        ∙ ap (λ (ts : List Target). entering execs (number ps (get_or ts 0 (First 0)))) are.leads
+        ∙ ap (λ n. entering execs n) (first_is told met names execs loops well test b) in
         subst (λ n. IsRoute (flow execs) n s.front y) (sym is) s.route
 
     chain_is : chain execs k ≡ r.front ++ x ∷ (s.front ++ y ∷ [])
@@ -130,9 +130,14 @@ module _ (told : IsTold) (met : IsMet) (names : List NameInfo) (execs : List Exe
         let none : holds (y ∷ []) ≡ 0 = no_more told met names execs loops well y piece.Branch (owner execs k exec.kind) [] y_made refl in
         record {
           is = record {
-            front = r.front; act = x; middle = s.front; test = y; are = chain_is;
+            front = r.front;
+            act = x;
+            middle = s.front;
+            test = y;
+            are = chain_is;
             route = own_front told met names execs loops well act a k are.first r;
-            acts = x_made; on = on;
+            acts = x_made;
+            on = on;
             ends = own_last told met names execs loops well test b k exec.kind (are.tests ∙ sym (two_last exec.kind two)) are.test_exec are.test_line are.outs;
           };
           few = omega (arith, count, more, small.0);

@@ -39,7 +39,7 @@ module _ (f : FlowGraph) (entry : ℕ → ℕ) (p : Program) (input : List ℤ) 
         let b : Bool = nat_lt 0 (slice_index m.counts loop_no) in
         let line : ℕ = (piece_at f.pieces test).line in
         let passed : go f p input 1 z ≡ after_pass z line (Along (out f.graph test (cond b 0 1)) m []) =
-            passed_is f p input z m written test at ∙ ap (λ (q : Passed). after_pass z line q) (test_pass m) in
+        passed_is f p input z m written test at ∙ ap (λ (q : Passed). after_pass z line q) (test_pass m) in
         subst (λ (a : PassState). Agrees f entry p input a x) (sym passed) (record {
           memory_is = sym memory_is;
           out_is = append-nil z.out ∙ at.out_is ∙ sym out_is;
@@ -78,12 +78,12 @@ module _ (f : FlowGraph) (entry : ℕ → ℕ) (p : Program) (input : List ℤ) 
       let line : ℕ = (piece_at f.pieces c.act).line in
       let o : Outcome = outcome p.names input x.memory exec.kind in
       let acted_is : go f p input (suc (length c.front)) y ≡ after_pass z line (acted (out f.graph c.act 0) o) =
-          passed_is f p input z x.memory x.out c.act at
-          ∙ ap (λ (q : Passed). after_pass z line q) (made_pass f entry p input c.act piece.Act x.position exec x.memory c.acts found ∙ acts x.memory) in
+      passed_is f p input z x.memory x.out c.act at
+      ∙ ap (λ (q : Passed). after_pass z line q) (made_pass f entry p input c.act piece.Act x.position exec x.memory c.acts found ∙ acts x.memory) in
       let passed : go f p input (length pieces) y ≡ go f p input (length c.middle + 1) (after_pass z line (acted (out f.graph c.act 0) o)) =
-          ap (λ n. go f p input n y) count
-          ∙ go_more f p input (suc (length c.front)) (length c.middle + 1) y
-          ∙ ap (λ (a : PassState). go f p input (length c.middle + 1) a) acted_is in
+      ap (λ n. go f p input n y) count
+      ∙ go_more f p input (suc (length c.front)) (length c.middle + 1) y
+      ∙ ap (λ (a : PassState). go f p input (length c.middle + 1) a) acted_is in
       subst (λ (a : PassState). Agrees f entry p input a (step p input x)) (sym passed)
       (subst (λ (s : State). Agrees f entry p input (go f p input (length c.middle + 1) (after_pass z line (acted (out f.graph c.act 0) o))) s) (sym (step_is f entry p input x exec found x_runs))
       (after_act c.test tests c.act c.middle c.on x z exec.line line o tells x_runs at (made_line f entry p input c.act piece.Act x.position exec c.acts found)))
