@@ -1,5 +1,5 @@
 -- A step of a run is a chain of passes, as far as chains are as they are said to be.
-use Rattle.std.proofs.Common.{◌≡◌, ℕ, zero, suc, ◌+◌, ◌<◌, ℤ, Bool, true, false, cond, if◌then◌else◌, nat_lt, List, [], ◌∷◌, ◌++◌, length, Option, Some, None, Result, Ok, Err, slice_get, slice_index, refl, sym, ap, ◌∙◌, subst, append-nil, arith}
+use Rattle.std.proofs.Common.{◌≡◌, ℕ, suc, ◌+◌, ℤ, true, false, List, [], ◌∷◌, ◌++◌, length, Some, slice_get, refl, sym, ap, ◌∙◌, subst, arith}
 use Rattle.std.proofs.lemmas.Bool.{false≢true}
 use Rattle.std.proofs.lemmas.List.{length-append}
 use Rattle.closed_walks.specs.Graph.{to}
@@ -9,17 +9,17 @@ use Rattle.f77_tree.specs.declared.programs.ExecKind.{ExecKind}
 use Rattle.f77_tree.specs.declared.programs.ExecKind.TheVariants.{Assign, Print, Pass, Test, Sign, Pick, DoStart, DoNext, End}
 use Rattle.f77_tree.specs.declared.programs.Program.{Program}
 use Rattle.f77_tree.specs.Execution.{Memory, Outcome, Goes, Stops, Ends, outcome}
-use Rattle.f77_tree.specs.Run.{State, Mark, Running, Ended, Trapped, after, step_from, executed_at, step}
+use Rattle.f77_tree.specs.Run.{State, Running, Ended, Trapped, after, step_from, executed_at, step}
 use Rattle.cfg_build.specs.declared.pieces.PieceKind.{PieceKind}
 use Rattle.cfg_build.specs.declared.pieces.PieceKind.TheVariants as piece
 use Rattle.cfg_build.specs.Parts.{line_in}
 use Rattle.cfg_build.specs.Joined.{FlowGraph}
 use Rattle.cfg_build.specs.Flow.{piece_at}
-use Rattle.cfg_build.specs.Passes.{out, Passed, Along, Traps, Done, acted, choice, branched, pass_of, kind_in, PassState, after_pass}
+use Rattle.cfg_build.specs.Passes.{out, Passed, Along, Traps, Done, pass_of, kind_in, PassState, after_pass}
 use Rattle.cfg_build.specs.Chains.{has_test}
-use Rattle.cfg_build.specs.Routes.{IsRoute, IsMade, IsLast, last_kind, owner, IsOnePart, IsTwoParts}
-use Rattle.cfg_build.proofs.PassSteps.{pass_at, passed_in, go, go_more, go_first, go_ended, go_trapped, IsAt, passed_is, along_edge, along_route}
-use Rattle.cfg_build.proofs.PassOutcomes.{Fits, last_fits, Tested}
+use Rattle.cfg_build.specs.Routes.{IsMade, last_kind, owner, IsOnePart}
+use Rattle.cfg_build.proofs.PassSteps.{pass_at, go, IsAt, passed_is, along_route}
+use Rattle.cfg_build.proofs.PassOutcomes.{Fits, last_fits}
 
 pub trapped_runs : (trap : Trap) (line : ℕ) → Trapped trap line ≡ Running → ⊥
 trapped_runs trap line h = absurd cc

@@ -1,5 +1,5 @@
 -- The chain of each executable that control can come to.
-use Rattle.std.proofs.Common.{◌≡◌, ◌≢◌, ℕ, zero, suc, ◌+◌, ◌<◌, ◌≤◌, ◌⊎◌, Bool, true, false, List, [], ◌∷◌, ◌++◌, length, map, Option, Some, None, slice_get, unwrap_or, refl, sym, ap, ◌∙◌, subst, inl, inr, ⊎_elim, arith}
+use Rattle.std.proofs.Common.{◌≡◌, ℕ, suc, ◌≤◌, true, false, List, [], ◌∷◌, ◌++◌, length, map, Option, Some, None, slice_get, unwrap_or, refl, sym, ap, ◌∙◌, subst, inl, ⊎_elim, arith}
 use Rattle.std.proofs.lemmas.Bool.{cases_Bool, false≢true}
 use Rattle.f77_tree.specs.declared.programs.Exec.{Exec}
 use Rattle.f77_tree.specs.declared.programs.ExecKind.{ExecKind}
@@ -10,7 +10,6 @@ use Rattle.f77_tree.specs.Loops.{Loop, begun, begun_in, begun_at, incremented, i
 use Rattle.f77_tree.specs.WellFormed.{AreExecs}
 use Rattle.cfg_build.specs.Control.{is_reached}
 use Rattle.cfg_build.specs.declared.parts.Part.{Part}
-use Rattle.cfg_build.specs.declared.parts.Target.{Target}
 use Rattle.cfg_build.specs.declared.parts.Target.TheVariants.{First, Test}
 use Rattle.cfg_build.specs.declared.pieces.PieceKind.TheVariants as piece
 use Rattle.cfg_build.specs.Parts.{part, parts, parts_of, end_part, last_of, line_in}
@@ -21,9 +20,9 @@ use Rattle.cfg_build.proofs.Members.{Member}
 use Rattle.cfg_build.proofs.ReachedNodes.{IsTold}
 use Rattle.cfg_build.proofs.Lowest.{IsMet}
 use Rattle.cfg_build.proofs.PartOrder.{length_is}
-use Rattle.cfg_build.proofs.PartsFound.{IsExecPart, member_part, member_end, test_part, test_in, start_reached, cases_End}
+use Rattle.cfg_build.proofs.PartsFound.{member_part, member_end, test_part, test_in, start_reached, cases_End}
 use Rattle.cfg_build.proofs.PartChains.{IsOneChain, one_chain}
-use Rattle.cfg_build.proofs.TestChains.{AreTwo, IsTwoChain, two_chain}
+use Rattle.cfg_build.proofs.TestChains.{IsTwoChain, two_chain}
 
 own_owner : (execs : List Exec) (k : ℕ) (kind : ExecKind) → has_test kind ≡ false → owner execs k kind ≡ k
 own_owner execs k (Assign target value next) h = refl

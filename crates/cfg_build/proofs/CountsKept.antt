@@ -1,5 +1,5 @@
 -- An executable keeps the number of the counts.
-use Rattle.std.proofs.Common.{◌≡◌, ℕ, ◌-◌, ◌+◌, ℤ, Bool, true, false, cond, if◌then◌else◌, nat_lt, List, [], ◌∷◌, length, Result, Ok, Err, slice_index, refl}
+use Rattle.std.proofs.Common.{◌≡◌, ℕ, ◌-◌, ◌+◌, ℤ, Bool, true, false, cond, if◌then◌else◌, List, length, Result, Ok, Err, slice_index, refl}
 use Rattle.std.specs.Prelude.{pos}
 use Rattle.std.specs.Ordering.{int_eq}
 use Rattle.std.proofs.lemmas.List.{length-set}
@@ -10,7 +10,7 @@ use Rattle.op_table.specs.Trips.{trip_count}
 use Rattle.f77_tree.specs.declared.programs.ExecKind.{ExecKind}
 use Rattle.f77_tree.specs.declared.programs.ExecKind.TheVariants.{Assign, Print, Pass, Test, Sign, Pick, DoStart, DoNext, End}
 use Rattle.f77_tree.specs.declared.programs.NameInfo.{NameInfo}
-use Rattle.f77_tree.specs.Execution.{Memory, Outcome, Goes, Stops, Ends, outcome, assigned, printed, branched, do_begun, started, words_taken, next_word, value_in, by_sign, by_number}
+use Rattle.f77_tree.specs.Execution.{Memory, Outcome, Stops, outcome, assigned, printed, branched, do_begun, started, words_taken, next_word, value_in, by_sign, by_number}
 use Rattle.f77_tree.specs.Line.{line_of}
 use Rattle.f77_tree.specs.Steps.{IfGoes}
 use Rattle.f77_tree.specs.Value.{value, place, place_of}

@@ -1,25 +1,18 @@
 -- The test of a DO that begins or is incremented.
-use Rattle.std.proofs.Common.{◌≡◌, ℕ, zero, suc, ◌<◌, ℤ, Bool, true, false, cond, if◌then◌else◌, nat_lt, List, [], ◌∷◌, length, Option, Some, None, Result, Ok, Err, slice_get, slice_index, slice_set, refl, sym, ap, ◌∙◌, subst, unwrap_or, arith}
+use Rattle.std.proofs.Common.{◌≡◌, ℕ, ◌<◌, ℤ, true, if◌then◌else◌, nat_lt, List, [], ◌∷◌, length, Option, Some, None, Result, Ok, slice_get, slice_index, refl, ap, ◌∙◌, unwrap_or, arith}
 use Rattle.std.proofs.lemmas.Bool.{false≢true}
-use Rattle.std.specs.Ordering.{int_eq}
-use Rattle.std.specs.Prelude.{pos}
-use Rattle.std.proofs.lemmas.List.{length-set}
-use Rattle.closed_walks.specs.Graph.{to}
 use Rattle.op_table.specs.declared.Trap.{Trap}
-use Rattle.op_table.specs.declared.Trap.TheVariants.{Step as NoStep}
-use Rattle.op_table.specs.Trips.{trip_count}
 use Rattle.f77_tree.specs.declared.programs.Exec.{Exec}
 use Rattle.f77_tree.specs.declared.programs.ExecKind.{ExecKind}
 use Rattle.f77_tree.specs.declared.programs.ExecKind.TheVariants.{Assign, Print, Pass, Test, Sign, Pick, DoStart, DoNext, End}
 use Rattle.f77_tree.specs.declared.programs.NameInfo.{NameInfo}
 use Rattle.f77_tree.specs.declared.programs.Program.{Program}
 use Rattle.f77_tree.specs.Control.{successors}
-use Rattle.f77_tree.specs.Execution.{Memory, Outcome, Goes, Stops, Ends, outcome, value_in}
+use Rattle.f77_tree.specs.Execution.{Memory, outcome, value_in}
 use Rattle.f77_tree.specs.Loops.{Loop, begun, begun_in, begun_at, incremented, incremented_at, do_start, IsLoop, AreLoops}
 use Rattle.f77_tree.specs.Value.{place_of}
 use Rattle.cfg_build.specs.Joined.{FlowGraph}
-use Rattle.cfg_build.specs.Flow.{piece_at}
-use Rattle.cfg_build.specs.Passes.{out, choice, kind_in}
+use Rattle.cfg_build.specs.Passes.{choice, kind_in}
 use Rattle.cfg_build.specs.Chains.{has_test}
 use Rattle.cfg_build.specs.Routes.{IsLast, owner}
 use Rattle.cfg_build.proofs.PassOutcomes.{Tested, start_tested, next_tested}

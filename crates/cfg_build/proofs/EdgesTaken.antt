@@ -1,10 +1,10 @@
 -- Each pass takes an edge that leaves its piece.
-use Rattle.std.proofs.Common.{◌≡◌, ◌≢◌, ℕ, zero, suc, ◌+◌, ◌-◌, ◌<◌, ◌≤◌, ◌⊎◌, ◌==◌, ℤ, Bool, true, false, List, [], ◌∷◌, length, get_or, map, Option, Some, Result, Ok, Err, slice_get, refl, sym, ap, ◌∙◌, subst, inl, inr, ⊎_elim, arith}
+use Rattle.std.proofs.Common.{◌≡◌, ◌≢◌, ℕ, ◌+◌, ◌-◌, ◌<◌, ◌≤◌, ◌⊎◌, ◌==◌, true, List, [], ◌∷◌, length, slice_get, sym, ap, ◌∙◌, subst, inl, inr, ⊎_elim, arith}
 use Rattle.std.proofs.lemmas.Bool.{cases_lt, eqb-true, eq-eqb, false≢true}
 use Rattle.std.proofs.lemmas.List.{length-map}
 use Rattle.std.proofs.lemmas.List.FromFn.{length-range_with_len}
 use Rattle.std.specs.List.{range_with_len}
-use Rattle.closed_walks.specs.Graph.{Graph, IsGraph, edge_count, from, to}
+use Rattle.closed_walks.specs.Graph.{Graph, edge_count, from}
 use Rattle.f77_tree.specs.declared.programs.Exec.{Exec}
 use Rattle.f77_tree.specs.declared.programs.NameInfo.{NameInfo}
 use Rattle.f77_tree.specs.Execution.{Memory}
@@ -16,8 +16,7 @@ use Rattle.cfg_build.specs.Parts.{parts, start_part, end_part}
 use Rattle.cfg_build.specs.Joined.{rows, finish, is_joined, number}
 use Rattle.cfg_build.specs.Flow.{flow, held, piece_at}
 use Rattle.cfg_build.specs.Passes.{outs, out, choice, kind_in}
-use Rattle.cfg_build.specs.Shape.{IsShaped}
-use Rattle.cfg_build.proofs.Members.{Member, IsAt, at_of, Member-at, Member-filter, Member-filtered, Member-range, Member-in_range}
+use Rattle.cfg_build.proofs.Members.{Member, Member-at, Member-filter, Member-filtered, Member-range, Member-in_range}
 use Rattle.cfg_build.proofs.ReachedNodes.{IsTold, IsEdge}
 use Rattle.cfg_build.proofs.Lowest.{IsMet}
 use Rattle.cfg_build.proofs.JoinedGraph.{row_graph, heads_at, heads_of_part}
@@ -27,9 +26,8 @@ use Rattle.cfg_build.proofs.PieceNumbers.{part_at, own_piece, first_piece, IsPie
 use Rattle.cfg_build.proofs.ReachedPieces.{leaves_piece}
 use Rattle.cfg_build.proofs.OutEdges.{first_out, outs_are}
 use Rattle.cfg_build.proofs.HeldEdges.{edge_for}
-use Rattle.cfg_build.proofs.AfterHolds.{AfterHolds, stay_of}
+use Rattle.cfg_build.proofs.AfterHolds.{AfterHolds}
 use Rattle.cfg_build.proofs.FlowEdges.{after, outs_old, outs_hold}
-use Rattle.cfg_build.proofs.Shaped.{shaped}
 use Rattle.cfg_build.proofs.PartRoutes.{old_kind, hold_kind}
 use Rattle.cfg_build.proofs.BranchChoices.{IsBelow, IsBranch, is_branch, branch_of}
 

@@ -1,28 +1,25 @@
 -- Where ways to a part end after holds: at a hold in front of its first piece, else at that.
-use Rattle.std.proofs.Common.{◌≡◌, ◌≢◌, ℕ, zero, suc, ◌+◌, ◌<◌, ◌≤◌, ◌⊎◌, Bool, true, false, cond, ◌==◌, ◌&&◌, not, List, [], ◌∷◌, length, get_or, refl, sym, ap, ◌∙◌, subst, inl, inr, ⊎_elim, arith}
-use Rattle.std.proofs.lemmas.Bool.{cases_Bool, cond-true, cond-false, eqb-true, eq-eqb, false≢true, and_parts, and_from, not-true, not_from_false}
+use Rattle.std.proofs.Common.{◌≡◌, ◌≢◌, ℕ, ◌<◌, ◌⊎◌, Bool, true, false, cond, ◌==◌, not, List, length, get_or, refl, sym, ap, ◌∙◌, subst, inl, inr, ⊎_elim}
+use Rattle.std.proofs.lemmas.Bool.{cases_Bool, eqb-true, eq-eqb, false≢true, and_parts, and_from, not-true, not_from_false}
 use Rattle.std.specs.List.{list_any}
 use Rattle.closed_walks.specs.Graph.{Graph, edge_count, from, to}
 use Rattle.f77_tree.specs.declared.programs.Exec.{Exec}
 use Rattle.f77_tree.specs.declared.programs.NameInfo.{NameInfo}
 use Rattle.f77_tree.specs.WellFormed.{AreExecs}
-use Rattle.cfg_build.specs.declared.pieces.PieceKind.{PieceKind}
 use Rattle.cfg_build.specs.Parts.{parts}
-use Rattle.cfg_build.specs.Joined.{FlowGraph, rows, finish, joined}
-use Rattle.cfg_build.specs.Holds.{is_held, is_join}
-use Rattle.cfg_build.specs.Flow.{flow, held, piece_at}
-use Rattle.cfg_build.specs.Passes.{out}
+use Rattle.cfg_build.specs.Joined.{finish}
+use Rattle.cfg_build.specs.Holds.{is_join}
+use Rattle.cfg_build.specs.Flow.{held, piece_at}
 use Rattle.cfg_build.specs.Chains.{hold_of, is_behind_hold}
 use Rattle.cfg_build.proofs.Members.{Member, IsAt, at_of, list_any_member, IsPassed, member_of_list_any, Member-at}
 use Rattle.cfg_build.proofs.ReachedNodes.{IsTold, stay}
-use Rattle.cfg_build.proofs.JoinedGraph.{row_graph, heads_at}
+use Rattle.cfg_build.proofs.JoinedGraph.{row_graph}
 use Rattle.cfg_build.proofs.JoinedDegrees.{one_comes}
 use Rattle.cfg_build.proofs.PieceKinds.{pieces_of}
 use Rattle.cfg_build.proofs.Lowest.{IsHeldBy, held_says}
 use Rattle.cfg_build.proofs.ReachedPieces.{joined_sound}
-use Rattle.cfg_build.proofs.OutEdges.{first_out, IsOut, out_is}
 use Rattle.cfg_build.proofs.HeldEdges.{edge_for, hold_edge, hold_leaves_join, hold_comes_to_other}
-use Rattle.cfg_build.proofs.FlowEdges.{held_piece, held_edge_at, IsHeldPiece, held_is, held_piece_is, free_leads, held_leads}
+use Rattle.cfg_build.proofs.FlowEdges.{held_piece, held_edge_at, IsHeldPiece, held_is, held_piece_is}
 use Rattle.cfg_build.proofs.Shaped.{one_to}
 
 -- the hold in front of a piece, where there is one, else the piece

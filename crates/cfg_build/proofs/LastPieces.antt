@@ -1,6 +1,6 @@
 -- The own pieces of parts after holds: what stands there, and where their edges lead.
-use Rattle.std.proofs.Common.{◌≡◌, ◌≢◌, ℕ, zero, suc, ◌+◌, ◌<◌, ◌≤◌, ◌⊎◌, Bool, true, false, List, [], ◌∷◌, length, get_or, map, slice_get, slice_index, refl, sym, ap, ◌∙◌, subst, arith}
-use Rattle.std.proofs.lemmas.List.{get_or-map, length-map}
+use Rattle.std.proofs.Common.{◌≡◌, ◌≢◌, ℕ, zero, suc, ◌+◌, ◌<◌, List, [], ◌∷◌, length, get_or, map, slice_get, slice_index, refl, sym, ap, ◌∙◌, subst, arith}
+use Rattle.std.proofs.lemmas.List.{length-map}
 use Rattle.closed_walks.specs.Graph.{to}
 use Rattle.f77_tree.specs.declared.programs.Exec.{Exec}
 use Rattle.f77_tree.specs.declared.programs.ExecKind.{ExecKind}
@@ -9,11 +9,11 @@ use Rattle.f77_tree.specs.Control.{successors}
 use Rattle.f77_tree.specs.WellFormed.{AreExecs}
 use Rattle.cfg_build.specs.declared.parts.Part.{Part}
 use Rattle.cfg_build.specs.declared.parts.Target.{Target}
-use Rattle.cfg_build.specs.declared.parts.Target.TheVariants.{First, Test}
+use Rattle.cfg_build.specs.declared.parts.Target.TheVariants.{First}
 use Rattle.cfg_build.specs.declared.pieces.Piece.{Piece}
 use Rattle.cfg_build.specs.declared.pieces.PieceKind.{PieceKind}
 use Rattle.cfg_build.specs.Parts.{parts, start_part, end_part, line_in}
-use Rattle.cfg_build.specs.Joined.{rows, finish, number}
+use Rattle.cfg_build.specs.Joined.{finish, number}
 use Rattle.cfg_build.specs.Flow.{flow, piece_at}
 use Rattle.cfg_build.specs.Passes.{out}
 use Rattle.cfg_build.specs.Chains.{entry}
@@ -23,14 +23,14 @@ use Rattle.cfg_build.proofs.ReachedNodes.{IsTold}
 use Rattle.cfg_build.proofs.JoinedGraph.{heads_at, heads_of_part, number_of}
 use Rattle.cfg_build.proofs.Lowest.{IsMet}
 use Rattle.cfg_build.proofs.OutDegrees.{own_is_end}
-use Rattle.cfg_build.proofs.PieceKinds.{pieces_of, piece_of_part}
+use Rattle.cfg_build.proofs.PieceKinds.{piece_of_part}
 use Rattle.cfg_build.proofs.PieceNumbers.{part_at, first_piece, own_piece, own_below}
 use Rattle.cfg_build.proofs.ReachedPieces.{apart}
 use Rattle.cfg_build.proofs.OutEdges.{first_out}
 use Rattle.cfg_build.proofs.FlowEdges.{out_old}
 use Rattle.cfg_build.proofs.EnteredParts.{entering}
 use Rattle.cfg_build.proofs.WaysEnter.{way_enters}
-use Rattle.cfg_build.proofs.PartRoutes.{own_plain, old_kind, IsFront, front_of}
+use Rattle.cfg_build.proofs.PartRoutes.{own_plain, old_kind, IsFront}
 
 module _ (told : IsTold) (met : IsMet) (names : List NameInfo) (execs : List Exec) (loops : ℕ) (well : AreExecs names execs loops) where
   abbrev ps : List Part

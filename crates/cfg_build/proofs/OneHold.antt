@@ -1,5 +1,5 @@
 -- Of a part that leads only to another part, and that other, no more than one piece is held.
-use Rattle.std.proofs.Common.{◌≡◌, ◌≢◌, ℕ, zero, suc, ◌+◌, ◌<◌, ◌≤◌, ◌⊎◌, Bool, true, false, cond, List, [], ◌∷◌, length, map, refl, sym, ap, ◌∙◌, subst, inl, inr, ⊎_elim, arith}
+use Rattle.std.proofs.Common.{◌≡◌, ◌≢◌, ℕ, ◌+◌, ◌<◌, true, false, List, [], ◌∷◌, length, map, refl, sym, ap, ◌∙◌, subst, inl, inr, ⊎_elim, arith}
 use Rattle.std.proofs.lemmas.Bool.{cases_Bool, cases_order, cond-true, cond-false}
 use Rattle.closed_walks.specs.Graph.{Graph, IsGraph}
 use Rattle.f77_tree.specs.declared.programs.Exec.{Exec}
@@ -13,10 +13,10 @@ use Rattle.cfg_build.specs.Holds.{is_held}
 use Rattle.cfg_build.proofs.ReachedNodes.{IsTold, Reaches, stay, join, along}
 use Rattle.cfg_build.proofs.JoinedGraph.{row_graph, heads_at, heads_of_join, heads_of_part, edge_to_head, number_of, to_own}
 use Rattle.cfg_build.proofs.Lowest.{IsHeldBy, held_says}
-use Rattle.cfg_build.proofs.PieceNumbers.{part_at, first_piece, own_piece, joins, number_is, own_below, first_below}
+use Rattle.cfg_build.proofs.PieceNumbers.{part_at, first_piece, own_piece, joins, number_is, own_below}
 use Rattle.cfg_build.proofs.ReachedPieces.{apart, joined_sound}
 use Rattle.cfg_build.proofs.HeldEdges.{not_to_lower}
-use Rattle.cfg_build.proofs.TwoHolds.{LeadsOnlyTo, forced, only_head, IsOf, parts_share_none}
+use Rattle.cfg_build.proofs.TwoHolds.{forced, only_head, IsOf, parts_share_none}
 
 module _ (told : IsTold) (names : List NameInfo) (execs : List Exec) (loops : ℕ) (well : AreExecs names execs loops) where
   abbrev ps : List Part

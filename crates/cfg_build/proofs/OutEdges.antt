@@ -93,7 +93,7 @@ module _ (ps : List Part) (finish : ℕ) where
       let below : places_before (heads_in ps) piece + nth < length (fan 0 (heads_in ps)) = fan_below 0 (heads_in ps) piece nth (omega (arith, some, same)) within in
       omega (arith, below)
 
-  pub leaves_within : (piece : ℕ) → piece ≢ finish → (e : ℕ) → e < edge_count (row_graph ps finish) → (from (row_graph ps finish) e == piece) ≡ true → (first_out piece ≤ e) × (e < first_out piece + length (heads_at ps piece))
+  leaves_within : (piece : ℕ) → piece ≢ finish → (e : ℕ) → e < edge_count (row_graph ps finish) → (from (row_graph ps finish) e == piece) ≡ true → (first_out piece ≤ e) × (e < first_out piece + length (heads_at ps piece))
   leaves_within piece other zero edge test = absurd (other (sym (sym (edge_zero ps finish).0 ∙ eqb-true (from (row_graph ps finish) 0) piece test)))
   leaves_within piece other (suc e) edge test =
       let r : IsRowEdge ps finish (suc e) = row_edge ps finish e edge in

@@ -1,8 +1,7 @@
 -- The chains of executables of one part and of two.
-use Rattle.std.proofs.Common.{◌≡◌, ◌≢◌, ℕ, zero, suc, ◌+◌, ◌-◌, ◌<◌, ◌≤◌, ◌⊎◌, Bool, true, false, List, [], ◌∷◌, ◌++◌, length, get_or, map, count_by, Some, slice_get, refl, sym, ap, ◌∙◌, subst, inl, inr, ⊎_elim, arith}
+use Rattle.std.proofs.Common.{◌≡◌, ℕ, suc, ◌+◌, ◌-◌, ◌≤◌, false, List, [], ◌∷◌, ◌++◌, length, map, Some, slice_get, refl, sym, ap, ◌∙◌, ⊎_elim, arith}
 use Rattle.std.proofs.lemmas.Bool.{false≢true}
 use Rattle.std.proofs.lemmas.List.{length-append}
-use Rattle.closed_walks.specs.Graph.{to}
 use Rattle.f77_tree.specs.declared.programs.Exec.{Exec}
 use Rattle.f77_tree.specs.declared.programs.ExecKind.{ExecKind}
 use Rattle.f77_tree.specs.declared.programs.ExecKind.TheVariants.{Assign, Print, Pass, Test as Testing, Sign, Pick, DoStart, DoNext, End}
@@ -10,26 +9,22 @@ use Rattle.f77_tree.specs.declared.programs.NameInfo.{NameInfo}
 use Rattle.f77_tree.specs.Control.{successors}
 use Rattle.f77_tree.specs.WellFormed.{AreExecs}
 use Rattle.cfg_build.specs.declared.parts.Part.{Part}
-use Rattle.cfg_build.specs.declared.parts.Target.{Target}
-use Rattle.cfg_build.specs.declared.parts.Target.TheVariants.{First, Test}
+use Rattle.cfg_build.specs.declared.parts.Target.TheVariants.{First}
 use Rattle.cfg_build.specs.declared.pieces.PieceKind.{PieceKind}
 use Rattle.cfg_build.specs.declared.pieces.PieceKind.TheVariants as piece
 use Rattle.cfg_build.specs.Parts.{parts, line_in}
-use Rattle.cfg_build.specs.Joined.{number}
 use Rattle.cfg_build.specs.Flow.{flow, piece_at}
-use Rattle.cfg_build.specs.Passes.{out, kind_in}
+use Rattle.cfg_build.specs.Passes.{kind_in}
 use Rattle.cfg_build.specs.Chains.{entry, has_test, goes_on, goes_on_from, following, chain}
-use Rattle.cfg_build.specs.Routes.{is_hold, holds_in, IsRoute, IsMade, IsLast, last_kind, owner, IsOnePart, IsTwoParts}
+use Rattle.cfg_build.specs.Routes.{is_hold, holds_in, IsRoute, IsMade, last_kind, owner, IsOnePart}
 use Rattle.cfg_build.proofs.Counts.{bit, bit_false, count-cons, count-append}
 use Rattle.cfg_build.proofs.Members.{Member}
 use Rattle.cfg_build.proofs.ReachedNodes.{IsTold}
 use Rattle.cfg_build.proofs.Lowest.{IsMet}
-use Rattle.cfg_build.proofs.PieceNumbers.{part_at, first_piece, own_piece}
-use Rattle.cfg_build.proofs.OneHold.{not_both}
-use Rattle.cfg_build.proofs.EnteredParts.{entering}
+use Rattle.cfg_build.proofs.PieceNumbers.{own_piece}
 use Rattle.cfg_build.proofs.PartRoutes.{IsHeldOf, IsFront, front_of}
-use Rattle.cfg_build.proofs.LastPieces.{IsPlaced, placed, first_is, own_made, own_leads, own_last, own_front}
-use Rattle.cfg_build.proofs.Following.{goes_further, goes_no_further, along_front}
+use Rattle.cfg_build.proofs.LastPieces.{IsPlaced, placed, own_made, own_last, own_front}
+use Rattle.cfg_build.proofs.Following.{goes_no_further, along_front}
 
 pub last_not_hold : (kind : ExecKind) → is_hold (last_kind kind) ≡ false
 last_not_hold (Assign target value next) = refl

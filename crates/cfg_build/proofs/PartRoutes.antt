@@ -1,7 +1,7 @@
 -- From what an edge to a part enters to the part's own piece: its join, or a hold, or both in either order.
-use Rattle.std.proofs.Common.{◌≡◌, ◌≢◌, ℕ, zero, suc, ◌+◌, ◌<◌, ◌≤◌, ◌⊎◌, Bool, true, false, cond, ◌==◌, List, [], ◌∷◌, length, get_or, count_by, refl, sym, ap, ◌∙◌, subst, inl, inr, ⊎_elim, arith}
+use Rattle.std.proofs.Common.{◌≡◌, ◌≢◌, ℕ, ◌+◌, ◌<◌, ◌≤◌, ◌⊎◌, true, false, List, [], ◌∷◌, length, get_or, count_by, refl, sym, ap, ◌∙◌, subst, inl, inr, ⊎_elim, arith}
 use Rattle.std.proofs.lemmas.Bool.{cases_Bool, cond-true, cond-false, false≢true}
-use Rattle.closed_walks.specs.Graph.{Graph, edge_count, from, to}
+use Rattle.closed_walks.specs.Graph.{from, to}
 use Rattle.f77_tree.specs.declared.programs.Exec.{Exec}
 use Rattle.f77_tree.specs.declared.programs.NameInfo.{NameInfo}
 use Rattle.f77_tree.specs.WellFormed.{AreExecs}
@@ -10,7 +10,7 @@ use Rattle.cfg_build.specs.declared.pieces.Piece.{Piece}
 use Rattle.cfg_build.specs.declared.pieces.PieceKind.{PieceKind}
 use Rattle.cfg_build.specs.declared.pieces.PieceKind.TheVariants as piece
 use Rattle.cfg_build.specs.Parts.{parts, start_part, end_part}
-use Rattle.cfg_build.specs.Joined.{FlowGraph, rows, finish, joined, is_joined, number}
+use Rattle.cfg_build.specs.Joined.{rows, finish, is_joined, number}
 use Rattle.cfg_build.specs.Holds.{is_held, is_join}
 use Rattle.cfg_build.specs.Flow.{flow, held, piece_at}
 use Rattle.cfg_build.specs.Passes.{out}
@@ -26,7 +26,6 @@ use Rattle.cfg_build.proofs.PieceKinds.{IsExecKind, cases_kind, pieces_of, join_
 use Rattle.cfg_build.proofs.PieceNumbers.{part_at, first_piece, own_piece, joins, number_is, own_below, first_below}
 use Rattle.cfg_build.proofs.ReachedPieces.{apart}
 use Rattle.cfg_build.proofs.OutEdges.{first_out}
-use Rattle.cfg_build.proofs.HoldDegrees.{HasHolds}
 use Rattle.cfg_build.proofs.HeldEdges.{edge_for, hold_comes_to_other}
 use Rattle.cfg_build.proofs.FlowEdges.{held_piece, IsHeldPiece, held_piece_is, hold_of_is, out_of_hold, free_leads, held_leads, after}
 use Rattle.cfg_build.proofs.AfterHolds.{AfterHolds}

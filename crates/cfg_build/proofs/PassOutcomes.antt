@@ -1,5 +1,5 @@
 -- What the last pass of a chain does is what the executable does.
-use Rattle.std.proofs.Common.{◌≡◌, ℕ, zero, suc, ◌+◌, ◌-◌, ◌<◌, ◌≤◌, ℤ, pos, negsuc, ◌-ℤ◌, ◌≤ℤ◌, Bool, true, false, cond, ◌&&◌, if◌then◌else◌, nat_lt, List, [], ◌∷◌, ◌++◌, length, Result, Ok, Err, slice_index, slice_set, refl, sym, ap, ◌∙◌, subst, arith}
+use Rattle.std.proofs.Common.{◌≡◌, ℕ, zero, suc, ◌+◌, ◌-◌, ◌<◌, ◌≤◌, ℤ, pos, negsuc, ◌-ℤ◌, ◌≤ℤ◌, Bool, true, false, cond, ◌&&◌, if◌then◌else◌, nat_lt, List, [], ◌∷◌, ◌++◌, length, Result, Ok, Err, slice_index, slice_set, refl, sym, ap, arith}
 use Rattle.std.specs.Prelude.{int_le}
 use Rattle.std.specs.Ordering.{int_eq}
 use Rattle.std.proofs.lemmas.Bool.{false≢true}
@@ -17,7 +17,7 @@ use Rattle.f77_tree.specs.declared.programs.Program.{Program}
 use Rattle.f77_tree.specs.Control.{successors}
 use Rattle.f77_tree.specs.Execution.{Memory, Outcome, Goes, Stops, Ends, outcome, assigned, printed, branched, do_begun, started, do_incremented, by_sign, by_number, words_taken, next_word, value_in}
 use Rattle.f77_tree.specs.Line.{line_of}
-use Rattle.f77_tree.specs.Value.{value, place, place_of, and_then}
+use Rattle.f77_tree.specs.Value.{value, place, and_then}
 use Rattle.cfg_build.specs.Joined.{FlowGraph}
 use Rattle.cfg_build.specs.Passes.{Passed, Along, Traps, Done, acted, branched as taken, pass_of}
 use Rattle.cfg_build.specs.Chains.{has_test}

@@ -1,7 +1,6 @@
 -- The passes of a run are a walk.
-use Rattle.std.proofs.Common.{◌≡◌, ◌≢◌, ℕ, zero, suc, ◌+◌, ◌<◌, ◌≤◌, ◌⊎◌, ℤ, Bool, true, false, List, [], ◌∷◌, ◌++◌, length, Result, Ok, Err, slice_get, refl, sym, ap, ◌∙◌, subst, inl, inr, ⊎_elim, arith}
-use Rattle.std.proofs.lemmas.Bool.{cases_eq}
-use Rattle.closed_walks.specs.Graph.{IsGraph, edge_count, from, to}
+use Rattle.std.proofs.Common.{◌≡◌, ◌≢◌, ℕ, zero, suc, ◌<◌, ℤ, List, length, Result, Ok, Err, slice_get, refl, sym, ◌∙◌}
+use Rattle.closed_walks.specs.Graph.{edge_count, from, to}
 use Rattle.op_table.specs.declared.Trap.{Trap}
 use Rattle.f77_tree.specs.declared.programs.ExecKind.{ExecKind}
 use Rattle.f77_tree.specs.declared.programs.Program.{Program}
@@ -12,11 +11,10 @@ use Rattle.cfg_build.specs.declared.pieces.PieceKind.{PieceKind}
 use Rattle.cfg_build.specs.declared.pieces.PieceKind.TheVariants as piece
 use Rattle.cfg_build.specs.Joined.{finish}
 use Rattle.cfg_build.specs.Flow.{flow, piece_at}
-use Rattle.cfg_build.specs.Passes.{outs, out, Passed, Along, Traps, Done, acted, branched, choice, pass_of, pass, kind_in, PassState, after_pass, line_at, passed_from, passes}
+use Rattle.cfg_build.specs.Passes.{outs, out, Passed, Along, Traps, Done, IfAlong, acted, branched, choice, pass_of, pass, kind_in, PassState, after_pass, line_at, passed_from, passes}
 use Rattle.cfg_build.specs.Shape.{IsShaped}
 use Rattle.cfg_build.proofs.ReachedNodes.{IsTold}
 use Rattle.cfg_build.proofs.Lowest.{IsMet}
-use Rattle.cfg_build.proofs.Holding.{IsHolding}
 use Rattle.cfg_build.proofs.Strong.{holding}
 use Rattle.cfg_build.proofs.Shaped.{shaped}
 use Rattle.cfg_build.proofs.BranchChoices.{IsBelow}
@@ -31,8 +29,7 @@ ended_runs h = absurd cc
 module _ (told : IsTold) (met : IsMet) (p : Program) (input : List ℤ) (well : AreExecs p.names p.execs p.loops) where
   -- the edge that a pass takes leaves the piece
   abbrev Leaves : ℕ → Passed → Type 0
-  Leaves x (Along edge memory text) = (edge < edge_count (flow p.execs).graph) × (from (flow p.execs).graph edge ≡ x)
-  Leaves x _ = Unit {0}
+  Leaves x passed = IfAlong passed (λ next new text. (next < edge_count (flow p.execs).graph) × (from (flow p.execs).graph next ≡ x))
 
   acted_leaves : (x edge : ℕ) (o : Outcome) → (edge < edge_count (flow p.execs).graph) × (from (flow p.execs).graph edge ≡ x) → Leaves x (acted edge o)
   acted_leaves x edge (Goes next memory text) leaves = leaves
@@ -55,7 +52,7 @@ module _ (told : IsTold) (met : IsMet) (p : Program) (input : List ℤ) (well : 
   shape : IsShaped (flow p.execs) (finish p.execs)
   shape = shaped told met p.names p.execs p.loops well
 
-  pass_leaves : (edge : ℕ) (m : Memory) → edge < edge_count (flow p.execs).graph → Leaves (to (flow p.execs).graph edge) (pass p input edge m)
+  pub pass_leaves : (edge : ℕ) (m : Memory) → edge < edge_count (flow p.execs).graph → IfAlong (pass p input edge m) (λ next new text. (next < edge_count (flow p.execs).graph) × (from (flow p.execs).graph next ≡ to (flow p.execs).graph edge))
   pass_leaves edge m exists =
       let x : ℕ = to (flow p.execs).graph edge in
       let kind : PieceKind = (piece_at (flow p.execs).pieces x).kind in

@@ -1,26 +1,21 @@
 -- A run of passes through the flow graph follows the run of the program.
-use Rattle.std.proofs.Common.{◌≡◌, ℕ, zero, suc, ◌+◌, ◌<◌, ℤ, Bool, true, false, cond, nat_lt, ◌&&◌, List, [], ◌∷◌, length, get_or, Some, slice_get, refl, sym, ap, ◌∙◌, subst, arith}
+use Rattle.std.proofs.Common.{◌≡◌, ℕ, zero, suc, ◌+◌, ℤ, true, false, cond, nat_lt, ◌&&◌, List, length, Some, slice_get, refl, sym, ap, ◌∙◌, subst, arith}
 use Rattle.std.proofs.lemmas.Bool.{cond-false}
-use Rattle.closed_walks.specs.Graph.{from, to, edge_count}
-use Rattle.op_table.specs.declared.Trap.{Trap}
+use Rattle.closed_walks.specs.Graph.{to}
 use Rattle.f77_tree.specs.declared.programs.Exec.{Exec}
 use Rattle.f77_tree.specs.declared.programs.NameInfo.{NameInfo}
 use Rattle.f77_tree.specs.declared.programs.Program.{Program}
-use Rattle.f77_tree.specs.Run.{State, Mark, Running, Ended, Trapped, source}
+use Rattle.f77_tree.specs.Run.{Mark, Running, Ended, Trapped, source}
 use Rattle.f77_tree.specs.WellFormed.{AreExecs}
-use Rattle.cfg_build.specs.declared.parts.Part.{Part}
-use Rattle.cfg_build.specs.declared.parts.Target.TheVariants.{First}
 use Rattle.cfg_build.specs.Control.{is_reached}
 use Rattle.cfg_build.specs.Routes.{AreChain}
 use Rattle.cfg_build.specs.Parts.{parts, start_part}
-use Rattle.cfg_build.specs.Joined.{FlowGraph, number, is_joined, is_end}
+use Rattle.cfg_build.specs.Joined.{FlowGraph, is_joined, is_end}
 use Rattle.cfg_build.specs.Flow.{flow}
 use Rattle.cfg_build.specs.Passes.{out, PassState, passed_from, passes}
 use Rattle.cfg_build.specs.Chains.{has_test, entry, chain, passes_of, StandsAt}
-use Rattle.cfg_build.proofs.Members.{Member}
 use Rattle.cfg_build.proofs.ReachedNodes.{IsTold}
 use Rattle.cfg_build.proofs.Lowest.{IsMet}
-use Rattle.cfg_build.proofs.PartsFound.{member_start}
 use Rattle.cfg_build.proofs.PieceNumbers.{first_piece, own_piece, joins}
 use Rattle.cfg_build.proofs.JoinedDegrees.{no_way_to_start}
 use Rattle.cfg_build.proofs.Fans.{places_before}
@@ -29,7 +24,7 @@ use Rattle.cfg_build.proofs.PassSteps.{passed_in, go}
 use Rattle.cfg_build.proofs.ChainSteps.{Agrees}
 use Rattle.cfg_build.proofs.RunPasses.{LeadOn, passes_in, all_agree}
 use Rattle.cfg_build.proofs.LastPieces.{IsPlaced, own_leads, own_out}
-use Rattle.cfg_build.proofs.ChainsFound.{IsFound, chain_found}
+use Rattle.cfg_build.proofs.ChainsFound.{chain_found}
 
 module _ (p : Program) (input : List ℤ) where
   same_pass : (x : PassState) (mark : Mark) → passed_in (flow p.execs) p input x mark ≡ passed_from p input x mark

@@ -1,29 +1,26 @@
 -- A run of steps is a run of passes, chain by chain, as far as chains are as they are said to be.
-use Rattle.std.proofs.Common.{◌≡◌, ℕ, zero, suc, ◌+◌, ◌<◌, ℤ, Bool, true, false, List, [], ◌∷◌, length, Contains, replicate, Option, Some, None, slice_get, refl, sym, ap, ◌∙◌, subst, inl, inr, ⊎_elim, arith}
+use Rattle.std.proofs.Common.{◌≡◌, ℕ, zero, suc, ◌+◌, ◌<◌, ℤ, true, false, List, length, Contains, Option, Some, slice_get, refl, sym, ap, ◌∙◌, subst, ⊎_elim, arith}
 use Rattle.std.proofs.lemmas.Bool.{cases_Bool}
 use Rattle.std.proofs.lemmas.List.{length-replicate}
-use Rattle.closed_walks.specs.Graph.{to}
-use Rattle.op_table.specs.declared.Trap.{Trap}
 use Rattle.f77_tree.specs.declared.programs.Exec.{Exec}
 use Rattle.f77_tree.specs.declared.programs.ExecKind.{ExecKind}
 use Rattle.f77_tree.specs.declared.programs.NameInfo.{NameInfo}
 use Rattle.f77_tree.specs.declared.programs.Program.{Program}
 use Rattle.f77_tree.specs.Control.{successors, successors_in, LeadsTo, SuccessorsExist}
 use Rattle.f77_tree.specs.Execution.{Memory, Outcome, Goes, Stops, Ends, outcome}
-use Rattle.f77_tree.specs.Loops.{Loop, begun, begun_in, begun_at, incremented, incremented_in, incremented_at, AreLoops}
-use Rattle.f77_tree.specs.Run.{State, Mark, Running, Ended, Trapped, after, step_from, executed_at, step, source, first_memory}
+use Rattle.f77_tree.specs.Loops.{begun_in, incremented_in, AreLoops}
+use Rattle.f77_tree.specs.Run.{State, Mark, Running, Ended, Trapped, after, step_from, executed_at, step, source}
 use Rattle.f77_tree.specs.Steps.{IfGoes}
 use Rattle.cfg_build.specs.Control.{is_reached}
 use Rattle.cfg_build.specs.Joined.{FlowGraph}
 use Rattle.cfg_build.specs.Passes.{PassState}
 use Rattle.cfg_build.specs.Chains.{has_test}
-use Rattle.cfg_build.specs.Routes.{AreChain, IsOnePart, IsTwoParts}
+use Rattle.cfg_build.specs.Routes.{AreChain, IsTwoParts}
 use Rattle.cfg_build.proofs.ControlGraph.{exec_at, lead_below, reached_first, reached_next}
 use Rattle.cfg_build.proofs.CountsKept.{counts_kept}
 use Rattle.cfg_build.proofs.ReachedNodes.{IsTold}
 use Rattle.cfg_build.proofs.PassSteps.{go, go_more, go_ended, go_trapped}
-use Rattle.cfg_build.proofs.PassOutcomes.{Tested}
-use Rattle.cfg_build.proofs.ChainSteps.{Agrees, step_is, one_part}
+use Rattle.cfg_build.proofs.ChainSteps.{Agrees, one_part}
 use Rattle.cfg_build.proofs.TestSteps.{two_parts}
 use Rattle.cfg_build.proofs.DoTests.{IsDoStep, do_step, test_of}
 

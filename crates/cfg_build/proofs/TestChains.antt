@@ -1,5 +1,5 @@
 -- The chain of a DO that begins or is incremented: an act, and the test.
-use Rattle.std.proofs.Common.{◌≡◌, ◌≢◌, ℕ, zero, suc, ◌+◌, ◌-◌, ◌<◌, ◌≤◌, ◌⊎◌, Bool, true, false, List, [], ◌∷◌, ◌++◌, length, get_or, map, count_by, Some, slice_get, refl, sym, ap, ◌∙◌, subst, inl, inr, ⊎_elim, arith}
+use Rattle.std.proofs.Common.{◌≡◌, ◌≢◌, ℕ, suc, ◌+◌, ◌-◌, ◌≤◌, true, false, List, [], ◌∷◌, ◌++◌, length, get_or, map, Some, slice_get, refl, sym, ap, ◌∙◌, subst, ⊎_elim, arith}
 use Rattle.std.proofs.lemmas.Bool.{false≢true}
 use Rattle.std.proofs.lemmas.List.{length-append}
 use Rattle.closed_walks.specs.Graph.{to}
@@ -17,7 +17,7 @@ use Rattle.cfg_build.specs.Joined.{number}
 use Rattle.cfg_build.specs.Flow.{flow, piece_at}
 use Rattle.cfg_build.specs.Passes.{out, kind_in}
 use Rattle.cfg_build.specs.Chains.{entry, has_test, goes_on, goes_on_from, following, chain}
-use Rattle.cfg_build.specs.Routes.{is_hold, holds_in, IsRoute, IsMade, last_kind, owner, IsTwoParts}
+use Rattle.cfg_build.specs.Routes.{is_hold, holds_in, IsRoute, IsMade, owner, IsTwoParts}
 use Rattle.cfg_build.proofs.Counts.{count-append}
 use Rattle.cfg_build.proofs.Members.{Member}
 use Rattle.cfg_build.proofs.ReachedNodes.{IsTold}

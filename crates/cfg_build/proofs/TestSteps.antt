@@ -1,21 +1,17 @@
 -- The step of a DO that begins or is incremented is its chain: an act, and the test.
-use Rattle.std.proofs.Common.{◌≡◌, ℕ, zero, suc, ◌+◌, ◌<◌, ℤ, Bool, true, false, cond, if◌then◌else◌, nat_lt, List, [], ◌∷◌, ◌++◌, length, Some, Result, Ok, Err, slice_get, slice_index, refl, sym, ap, ◌∙◌, subst, append-nil, arith}
-use Rattle.std.proofs.lemmas.Bool.{cases_Bool}
+use Rattle.std.proofs.Common.{◌≡◌, ℕ, suc, ◌+◌, ℤ, Bool, true, false, cond, if◌then◌else◌, nat_lt, List, [], ◌∷◌, ◌++◌, length, Some, Result, Ok, slice_get, slice_index, refl, sym, ap, ◌∙◌, subst, append-nil, arith}
 use Rattle.std.proofs.lemmas.List.{length-append}
 use Rattle.closed_walks.specs.Graph.{to}
 use Rattle.op_table.specs.declared.Trap.{Trap}
 use Rattle.f77_tree.specs.declared.programs.Exec.{Exec}
-use Rattle.f77_tree.specs.declared.programs.ExecKind.{ExecKind}
 use Rattle.f77_tree.specs.declared.programs.Program.{Program}
-use Rattle.f77_tree.specs.Control.{successors}
 use Rattle.f77_tree.specs.Execution.{Memory, Outcome, Goes, Stops, Ends, outcome}
-use Rattle.f77_tree.specs.Run.{State, Mark, Running, Ended, Trapped, after, step}
+use Rattle.f77_tree.specs.Run.{State, Running, Trapped, after, step}
 use Rattle.cfg_build.specs.declared.pieces.PieceKind.TheVariants as piece
 use Rattle.cfg_build.specs.Joined.{FlowGraph}
 use Rattle.cfg_build.specs.Flow.{piece_at}
 use Rattle.cfg_build.specs.Passes.{out, Passed, Along, acted, choice, branched, pass_of, kind_in, PassState, after_pass}
-use Rattle.cfg_build.specs.Chains.{has_test}
-use Rattle.cfg_build.specs.Routes.{IsRoute, IsMade, IsLast, owner, IsTwoParts}
+use Rattle.cfg_build.specs.Routes.{IsRoute, IsTwoParts}
 use Rattle.cfg_build.proofs.PassSteps.{pass_at, go, go_more, go_trapped, IsAt, passed_is, along_edge, along_route}
 use Rattle.cfg_build.proofs.PassOutcomes.{Tested}
 use Rattle.cfg_build.proofs.ChainSteps.{trapped_runs, Agrees, step_is, begins, made_pass, made_line}

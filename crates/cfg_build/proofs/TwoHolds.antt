@@ -1,24 +1,16 @@
 -- No two pieces of which one leads only to the other are both held.
-use Rattle.std.proofs.Common.{◌≡◌, ◌≢◌, ℕ, zero, suc, ◌+◌, ◌<◌, ◌≤◌, ◌⊎◌, Bool, true, false, cond, List, [], ◌∷◌, length, get_or, map, refl, sym, ap, ◌∙◌, subst, inl, inr, ⊎_elim, arith}
-use Rattle.std.proofs.lemmas.Bool.{cases_Bool, cases_order, cond-true, cond-false}
+use Rattle.std.proofs.Common.{◌≡◌, ◌≢◌, ℕ, zero, suc, ◌+◌, ◌<◌, ◌≤◌, ◌⊎◌, List, [], ◌∷◌, length, get_or, refl, sym, ap, ◌∙◌, subst, ⊎_elim, arith}
+use Rattle.std.proofs.lemmas.Bool.{cases_order}
 use Rattle.closed_walks.specs.Graph.{Graph, IsGraph, edge_count, from, to}
 use Rattle.closed_walks.specs.Walk.{Walk}
-use Rattle.f77_tree.specs.declared.programs.Exec.{Exec}
-use Rattle.f77_tree.specs.declared.programs.NameInfo.{NameInfo}
-use Rattle.f77_tree.specs.WellFormed.{AreExecs}
 use Rattle.cfg_build.specs.declared.parts.Part.{Part}
-use Rattle.cfg_build.specs.declared.parts.Target.{Target}
-use Rattle.cfg_build.specs.Parts.{parts, start_part}
-use Rattle.cfg_build.specs.Joined.{rows, finish, is_joined, number, width}
-use Rattle.cfg_build.specs.Holds.{is_held}
-use Rattle.cfg_build.proofs.Members.{Member}
+use Rattle.cfg_build.specs.Parts.{start_part}
+use Rattle.cfg_build.specs.Joined.{number, width}
 use Rattle.cfg_build.proofs.Places.{begins_before}
-use Rattle.cfg_build.proofs.ReachedNodes.{IsTold, Reaches, IsEdge, stay, join, along, along_last, by_walk}
-use Rattle.cfg_build.proofs.JoinedGraph.{row_graph, heads_at, heads_of_join, heads_of_part, edge_zero, IsRowEdge, row_edge, edge_to_head, number_of, to_own}
-use Rattle.cfg_build.proofs.Lowest.{IsOnCycle, IsHeldBy, held_says}
-use Rattle.cfg_build.proofs.PieceNumbers.{part_at, first_piece, own_piece, joins, number_is, width_is, own_below, first_below}
-use Rattle.cfg_build.proofs.ReachedPieces.{apart, joined_sound}
-use Rattle.cfg_build.proofs.HeldEdges.{not_to_lower}
+use Rattle.cfg_build.proofs.ReachedNodes.{IsTold, Reaches, stay, along_last, by_walk}
+use Rattle.cfg_build.proofs.JoinedGraph.{row_graph, heads_at, edge_zero, IsRowEdge, row_edge}
+use Rattle.cfg_build.proofs.Lowest.{IsOnCycle}
+use Rattle.cfg_build.proofs.PieceNumbers.{part_at, first_piece, own_piece, joins, width_is}
 
 -- all edges from u lead to v
 abbrev pub LeadsOnlyTo : Graph → ℕ → ℕ → Type 0

@@ -1,7 +1,7 @@
 -- Chains: the pieces that control takes in one step of a program.
-use Rattle.std.specs.Prelude.{◌≡◌, ℕ, zero, suc, ◌+◌, ◌<◌, ◌==◌, Bool, true, false, ◌&&◌, not, ℤ, if◌then◌else◌, List, [], ◌∷◌, length, slice_get, slice_index}
+use Rattle.std.specs.Prelude.{◌≡◌, ℕ, zero, suc, ◌+◌, ◌==◌, Bool, true, false, ◌&&◌, not, ℤ, if◌then◌else◌, List, [], ◌∷◌, length, slice_get}
 use Rattle.std.specs.List.{list_any, position_or_len}
-use Rattle.closed_walks.specs.Graph.{from, to}
+use Rattle.closed_walks.specs.Graph.{to}
 use Rattle.f77_tree.specs.declared.programs.Exec.{Exec}
 use Rattle.f77_tree.specs.declared.programs.ExecKind.{ExecKind}
 use Rattle.f77_tree.specs.declared.programs.ExecKind.TheVariants.{DoStart, DoNext}
@@ -12,10 +12,10 @@ use Rattle.cfg_build.specs.declared.pieces.PieceKind.{PieceKind}
 use Rattle.cfg_build.specs.declared.pieces.PieceKind.TheVariants.{Act, Join, Hold}
 use Rattle.cfg_build.specs.declared.parts.Target.TheVariants.{First}
 use Rattle.cfg_build.specs.Parts.{parts}
-use Rattle.cfg_build.specs.Joined.{joined, number, finish}
-use Rattle.cfg_build.specs.Holds.{is_held, is_join}
+use Rattle.cfg_build.specs.Joined.{joined, number}
+use Rattle.cfg_build.specs.Holds.{is_join}
 use Rattle.cfg_build.specs.Flow.{flow, held, piece_at}
-use Rattle.cfg_build.specs.Passes.{PassState, out, passes, kind_in}
+use Rattle.cfg_build.specs.Passes.{PassState, out, kind_in}
 
 -- the number of the hold of a piece
 abbrev pub hold_of : List Exec → ℕ → ℕ

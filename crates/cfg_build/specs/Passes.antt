@@ -34,6 +34,12 @@ pub data Passed : Type 0 where
   Traps : (trap : Trap) → Passed
   Done : Passed
 
+-- what is said of a pass holds where it goes along an edge
+abbrev pub IfAlong : Passed → (ℕ → Memory → List ℕ → Type 0) → Type 0
+IfAlong (Along edge memory text) P = P edge memory text
+IfAlong (Traps trap) P = Unit {0}
+IfAlong Done P = Unit {0}
+
 -- ---- an act runs its executable, and goes on: a DO that begins, or is incremented, leaves its test to the next piece
 
 abbrev pub acted : (next : ℕ) → Outcome → Passed

@@ -5,12 +5,13 @@ ghost use Rattle.closed_walks.specs.Graph.{edge_count, from, to};
 ghost use Rattle.f77_tree.specs.declared.programs.Exec.{Exec};
 ghost use Rattle.f77_tree.specs.declared.programs.NameInfo.{NameInfo};
 ghost use Rattle.f77_tree.specs.declared.programs.Program.{Program};
+ghost use Rattle.f77_tree.specs.Execution.{Memory};
 ghost use Rattle.f77_tree.specs.Run.{Running, source};
 ghost use Rattle.f77_tree.specs.WellFormed.{AreExecs};
 ghost use Rattle.cfg_build.specs.Chains.{entry, has_test, chain, passes_of, StandsAt};
 ghost use Rattle.cfg_build.specs.Control.{is_reached};
 ghost use Rattle.cfg_build.specs.Flow.{flow};
-ghost use Rattle.cfg_build.specs.Passes.{passes};
+ghost use Rattle.cfg_build.specs.Passes.{IfAlong, pass, passes};
 ghost use Rattle.cfg_build.specs.Routes.{AreChain, holds_in};
 
 use closed_walks::{endless_ways_meet_cycles, reaching_is_told};
@@ -40,9 +41,11 @@ pub fn passes_follow_steps()
     executables_lead_to_successors();
 }
 
-/// The passes of a run are a walk through the flow graph from its start: each edge is one of the graph, the first one leaves the
-/// start, and the next one begins where the last one ends.
+/// From each edge of the flow graph, in each memory, the pass of the piece at which the edge ends goes along an edge that leaves
+/// this piece, or along none. So the passes of a run are a walk through the flow graph from its start: each edge is one of the
+/// graph, the first one leaves the start, and the next one begins where the last one ends.
 pub fn passes_are_a_walk()
+    ensures each { (p : Program) (input : List ℤ) (edge : ℕ) (m : Memory) → AreExecs p.names p.execs p.loops → edge < edge_count (flow p.execs).graph → IfAlong (pass p input edge m) (λ next new text. (next < edge_count (flow p.execs).graph) × (from (flow p.execs).graph next ≡ to (flow p.execs).graph edge)) }
     ensures start { (p : Program) (input : List ℤ) → AreExecs p.names p.execs p.loops → from (flow p.execs).graph (passes p input 0).edge ≡ 0 }
     ensures edges { (p : Program) (input : List ℤ) (n : ℕ) → AreExecs p.names p.execs p.loops → (passes p input n).edge < edge_count (flow p.execs).graph }
     ensures leads_on { (p : Program) (input : List ℤ) (n : ℕ) → AreExecs p.names p.execs p.loops → (passes p input (suc n)).mark ≡ Running → from (flow p.execs).graph (passes p input (suc n)).edge ≡ to (flow p.execs).graph (passes p input n).edge }
