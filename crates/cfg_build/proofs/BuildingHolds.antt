@@ -1,6 +1,6 @@
 -- Which pieces get a hold, piece after piece.
-use Rattle.std.proofs.Common.{◌≡◌, ◌↔◌, ℕ, zero, suc, ◌+◌, ◌<◌, ◌≤◌, ◌⊎◌, Bool, true, false, cond, not, ◌&&◌, ◌==◌, nat_le, List, [], ◌∷◌, ◌++◌, length, get_or, filter, Result, Ok, Err, OnOk, refl, sym, ap, ◌∙◌, subst, inl, inr, ⊎_elim, arith, length-append}
-use Rattle.std.proofs.lemmas.Bool.{cases_Bool, cases_lt, and_parts, and_from, not-true, not_from_false, eqb-true, eq-eqb, le-leb, cond-true, cond-false, false≢true}
+use Rattle.std.proofs.Common.{◌≡◌, ◌↔◌, ℕ, zero, suc, ◌+◌, ◌<◌, ◌≤◌, ◌⊎◌, Bool, true, false, cond, not, ◌&&◌, ◌==◌, nat_le, List, [], ◌∷◌, ◌++◌, length, get_or, filter, Result, Ok, Err, OnOk, refl, sym, ap, ◌∙◌, subst, inl, inr, ⊎_elim, arith}
+use Rattle.std.proofs.lemmas.Bool.{cases_Bool, cases_lt, and_parts, and_from, not-true, not_from_false, eq-eqb, le-leb, false≢true}
 use Rattle.std.proofs.lemmas.List.{append-nil, get_or_append_left, get_or_push, length_push}
 use Rattle.std.proofs.lemmas.List.Elements.{filter-append}
 use Rattle.std.specs.List.{range_with_len}
@@ -10,8 +10,8 @@ use Rattle.cfg_build.specs.Holds.{is_on_cycle, reaches_lower_cycle, is_held}
 use Rattle.cfg_build.specs.Tables.{is_entered_from_above, ReachesOne, Leaves, AreHeldBelow}
 use Rattle.cfg_build.proofs.Members.{Member, IsAt, at_of, Member-at, Member-filter, Member-filtered, Member-range, Member-in_range, list_any_member, IsPassed, member_of_list_any}
 use Rattle.cfg_build.proofs.PartOrder.{range_more}
-use Rattle.cfg_build.proofs.Lowest.{IsOnCycle, cycle_of, is_on_cycle_from, IsHeldBy, held_says}
-use Rattle.cfg_build.proofs.ReachedNodes.{IsTold, IsEdge, Reaches, stay, join, along, along_last, kept, cases_Reaches}
+use Rattle.cfg_build.proofs.Lowest.{is_on_cycle_from, IsHeldBy, held_says}
+use Rattle.cfg_build.proofs.ReachedNodes.{IsTold, Reaches, stay, join, along, along_last, kept}
 
 -- two tests that pass alike are the same
 pub same_Bool : (a b : Bool) → (a ≡ true → b ≡ true) → (b ≡ true → a ≡ true) → a ≡ b

@@ -1,16 +1,15 @@
 -- The parts of a program, executable by executable.
-use Rattle.std.proofs.Common.{◌≡◌, ℕ, zero, suc, ◌+◌, ◌<◌, ◌≤◌, Bool, true, false, List, [], ◌∷◌, ◌++◌, length, map, get_or, set, slice_index, Option, Some, None, ap, sym, ◌∙◌, refl, arith, subst, ⊎_elim, cond}
-use Rattle.std.proofs.lemmas.List.{append-nil, append_assoc, map-id, get_or-set_same, get_or-set_other}
+use Rattle.std.proofs.Common.{◌≡◌, ℕ, ◌+◌, ◌<◌, ◌≤◌, true, false, List, [], ◌∷◌, ◌++◌, length, get_or, set, slice_index, Option, Some, None, ap, sym, ◌∙◌, refl, arith, ⊎_elim, cond}
+use Rattle.std.proofs.lemmas.List.{append-nil, map-id, get_or-set_same, get_or-set_other}
 use Rattle.std.proofs.lemmas.List.Concat.{flat_map-append}
 use Rattle.std.proofs.lemmas.List.FromFn.{map-range_with_len_more}
-use Rattle.std.proofs.lemmas.Bool.{cases_eq, cases_lt, cases_order}
+use Rattle.std.proofs.lemmas.Bool.{cases_eq, cases_lt}
 use Rattle.std.proofs.lemmas.Option.{slice_get_past, same_Some}
 use Rattle.std.specs.List.{flat_map, range_with_len, slice_get}
 use Rattle.std.specs.Option.{option_map}
 use Rattle.f77_tree.specs.declared.programs.Exec.{Exec}
-use Rattle.f77_tree.specs.declared.programs.ExecKind.{ExecKind}
 use Rattle.f77_tree.specs.declared.programs.ExecKind.TheVariants.{DoNext}
-use Rattle.f77_tree.specs.Loops.{Loop, AreLoops, IsLoop, begun, begun_in, begun_at, incremented, incremented_in, incremented_at, do_start}
+use Rattle.f77_tree.specs.Loops.{Loop, AreLoops, IsLoop, begun, begun_in, begun_at, incremented, incremented_in, do_start}
 use Rattle.cfg_build.specs.Control.{is_reached}
 use Rattle.cfg_build.specs.Parts.{parts_in, reached_parts}
 

@@ -1,5 +1,5 @@
 -- The rows of a program, part by part.
-use Rattle.std.proofs.Common.{◌≡◌, ℕ, zero, suc, ◌+◌, ◌<◌, ◌≤◌, Bool, true, false, cond, List, [], ◌∷◌, ◌++◌, length, take, get_or, map, flat_map, sum_by, ap, sym, ◌∙◌, refl, arith, subst}
+use Rattle.std.proofs.Common.{◌≡◌, ℕ, suc, ◌+◌, ◌<◌, Bool, true, false, List, [], ◌∷◌, ◌++◌, length, take, get_or, map, flat_map, sum_by, ap, sym, ◌∙◌, refl, arith, subst}
 use Rattle.std.proofs.lemmas.List.{append-nil, append_assoc, take_more, map-append, length-map}
 use Rattle.std.proofs.lemmas.List.Concat.{flat_map-append}
 use Rattle.cfg_build.specs.declared.numbers.ByTarget.{ByTarget}
@@ -9,10 +9,9 @@ use Rattle.cfg_build.specs.declared.parts.Target.TheVariants.{Start}
 use Rattle.cfg_build.specs.declared.pieces.Piece.{Piece}
 use Rattle.cfg_build.specs.Control.{fan}
 use Rattle.cfg_build.specs.Parts.{start_part}
-use Rattle.cfg_build.specs.Joined.{Row, ways_to, is_joined, number, width, rows, rows_of}
+use Rattle.cfg_build.specs.Joined.{Row, ways_to, number, width, rows_of}
 use Rattle.cfg_build.specs.Tables.{number_in, IsLedTo, AreParts, is_joined_by, rows_from}
 use Rattle.cfg_build.proofs.BuildingControl.{fan-append}
-use Rattle.cfg_build.proofs.BuildingTables.{few_so_far}
 use Rattle.cfg_build.proofs.PieceNumbers.{part_at, first_piece, number_is, length_rows_on}
 
 abbrev heads_in : List Row → List (List ℕ)

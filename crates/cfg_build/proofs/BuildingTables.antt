@@ -1,10 +1,10 @@
 -- Tables of targets.
-use Rattle.std.proofs.Common.{◌≡◌, ℕ, zero, suc, ◌+◌, ◌*◌, ◌^◌, ◌<◌, ◌≤◌, ◌⊎◌, Bool, true, false, cond, List, [], ◌∷◌, ◌++◌, length, take, get_or, flat_map, sum_by, count_by, ap, sym, ◌∙◌, refl, arith, subst, ⊎_elim}
+use Rattle.std.proofs.Common.{◌≡◌, ℕ, ◌+◌, ◌^◌, ◌<◌, ◌≤◌, true, false, cond, List, [], ◌∷◌, ◌++◌, length, take, get_or, flat_map, sum_by, count_by, ap, sym, ◌∙◌, arith, subst, ⊎_elim}
 use Rattle.std.proofs.lemmas.Bool.{cases_Bool, cases_order, cases_eq, false≢true, cond_both}
 use Rattle.std.proofs.lemmas.List.{append-nil, take_more}
 use Rattle.std.proofs.lemmas.List.Concat.{flat_map-append, length-flat_map}
 use Rattle.std.proofs.lemmas.List.Folds.{length-flat_map-take}
-use Rattle.std.proofs.lemmas.List.Sums.{count_by_more_yes, count_by_more_no, count_by-le-length, length-filter, sum_by-append, sum_by-cons, sum_by_more, sum_by-take-le, sum_by-le}
+use Rattle.std.proofs.lemmas.List.Sums.{count_by_more_yes, count_by_more_no, count_by-le-length, sum_by-append, sum_by_more, sum_by-take-le, sum_by-le}
 use Rattle.cfg_build.specs.declared.numbers.ByTarget.{ByTarget}
 use Rattle.cfg_build.specs.declared.parts.Part.{Part}
 use Rattle.cfg_build.specs.declared.parts.Target.{Target}
@@ -12,8 +12,8 @@ use Rattle.cfg_build.specs.declared.parts.Target.TheVariants.{Start, First, Test
 use Rattle.cfg_build.specs.Parts.{start_part}
 use Rattle.cfg_build.specs.Joined.{is_same, is_joined, ways_to, width, number}
 use Rattle.cfg_build.specs.Tables.{number_in, IsIn, HasRoom, IsOf, IsLedTo, AreParts, is_joined_by}
-use Rattle.cfg_build.proofs.PartOrder.{is_same_itself, same_of, not_same, AreApart}
-use Rattle.cfg_build.proofs.PieceNumbers.{part_at, first_piece, number_is, some_width, width_is, joins}
+use Rattle.cfg_build.proofs.PartOrder.{is_same_itself, same_of, not_same}
+use Rattle.cfg_build.proofs.PieceNumbers.{part_at, first_piece, number_is}
 
 pub IsIn-room : (execs : ℕ) (table : ByTarget) (t : Target) → HasRoom execs table → IsOf execs t → IsIn table t
 IsIn-room execs table Start room of = tt

@@ -1,5 +1,5 @@
 -- The parts of a program can be drawn: what `AreParts` asks of them.
-use Rattle.std.proofs.Common.{◌≡◌, ℕ, zero, suc, ◌+◌, ◌*◌, ◌<◌, ◌≤◌, ◌⊎◌, Bool, true, false, List, [], ◌∷◌, ◌++◌, length, get_or, map, flat_map, drop, Option, Some, None, refl, sym, ap, ◌∙◌, subst, inl, inr, ⊎_elim, arith, length-append}
+use Rattle.std.proofs.Common.{◌≡◌, ℕ, suc, ◌+◌, ◌*◌, ◌<◌, ◌≤◌, ◌⊎◌, true, false, List, [], ◌∷◌, ◌++◌, length, get_or, flat_map, Some, refl, sym, ap, ◌∙◌, subst, inl, inr, ⊎_elim, arith, length-append}
 use Rattle.std.proofs.lemmas.Bool.{cases_Bool}
 use Rattle.std.proofs.lemmas.List.{length-map, length_push}
 use Rattle.std.proofs.lemmas.List.Sums.{sum_by-append, sum_by-cons}
@@ -14,16 +14,16 @@ use Rattle.f77_tree.specs.Control.{targets_of, EndsWithEnd}
 use Rattle.f77_tree.specs.WellFormed.{AreExecs}
 use Rattle.cfg_build.specs.declared.parts.Part.{Part}
 use Rattle.cfg_build.specs.declared.parts.Target.{Target}
-use Rattle.cfg_build.specs.declared.parts.Target.TheVariants.{Start, First, Test}
+use Rattle.cfg_build.specs.declared.parts.Target.TheVariants.{Start, First}
 use Rattle.cfg_build.specs.Control.{is_reached}
-use Rattle.cfg_build.specs.Parts.{parts, parts_of, parts_in, reached_parts, start_part, end_part, last_of}
+use Rattle.cfg_build.specs.Parts.{parts, parts_of, parts_in, reached_parts, start_part, end_part}
 use Rattle.cfg_build.specs.Joined.{is_same}
-use Rattle.cfg_build.specs.Tables.{IsOf, IsLedTo, AreParts}
+use Rattle.cfg_build.specs.Tables.{IsOf, AreParts}
 use Rattle.cfg_build.proofs.BuildingParts.{reached_parts-yes, reached_parts-no}
 use Rattle.cfg_build.proofs.JoinedGraph.{IsPartAt, place_of_part}
 use Rattle.cfg_build.proofs.Members.{Member, Member-at}
 use Rattle.cfg_build.proofs.PartOrder.{parts_apart, length_is}
-use Rattle.cfg_build.proofs.PartsFound.{HasPart, IsWay, To, Begins, Increments, ways_in, IsExecPart, cases_part, way_leads}
+use Rattle.cfg_build.proofs.PartsFound.{IsWay, To, Begins, Increments, ways_in, IsExecPart, cases_part, way_leads}
 use Rattle.cfg_build.proofs.PieceNumbers.{part_at}
 use Rattle.cfg_build.proofs.ReachedNodes.{IsTold}
 

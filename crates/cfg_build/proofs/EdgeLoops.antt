@@ -1,11 +1,9 @@
 -- What loops over the edges of a node find.
-use Rattle.std.proofs.Common.{◌≡◌, ◌↔◌, ℕ, ◌<◌, ◌≤◌, Bool, true, false, ◌&&◌, ◌==◌, nat_le, List, length, get_or, refl, sym, ap, ◌∙◌, subst, arith}
-use Rattle.std.proofs.lemmas.Bool.{and_parts, eqb-true, false≢true}
+use Rattle.std.proofs.Common.{◌≡◌, ◌↔◌, ℕ, ◌<◌, Bool, true, false, ◌&&◌, ◌==◌, List, length, get_or, sym, ap, ◌∙◌, subst}
+use Rattle.std.proofs.lemmas.Bool.{and_parts, eqb-true}
 use Rattle.std.specs.List.{list_any, position_or_len}
 use Rattle.closed_walks.specs.Graph.{Graph, IsGraph, edge_count, edges_at, from, to}
 use Rattle.closed_walks.specs.Reaching.{reaches}
-use Rattle.cfg_build.specs.Holds.{is_on_cycle}
-use Rattle.cfg_build.specs.Tables.{is_entered_from_above}
 use Rattle.cfg_build.proofs.BuildingEdges.{StandsIn, at_edge, stands_from, stands_to, any_found, any_none, first_found, first_missing}
 use Rattle.cfg_build.proofs.BuildingHolds.{same_Bool}
 use Rattle.cfg_build.proofs.ReachedNodes.{IsTold, Reaches}

@@ -1,5 +1,5 @@
 -- The flow graph of a program as it is drawn: first the parts, with joins, and then the holds.
-use Rattle.std.proofs.Common.{◌≡◌, ℕ, zero, suc, ◌+◌, ◌*◌, ◌<◌, ◌≤◌, ◌-◌, ◌^◌, Bool, true, false, cond, List, [], ◌∷◌, ◌++◌, length, get_or, map, filter, fold, Result, Ok, Err, IfOk, refl, sym, ap, ◌∙◌, subst, ⊎_elim, arith, length-append}
+use Rattle.std.proofs.Common.{◌≡◌, ℕ, suc, ◌+◌, ◌<◌, ◌≤◌, ◌-◌, Bool, true, false, cond, List, [], ◌∷◌, length, get_or, map, filter, fold, Result, Ok, Err, IfOk, refl, sym, ap, ◌∙◌, subst, ⊎_elim, arith}
 use Rattle.std.proofs.lemmas.Bool.{cases_Bool, cond-true, cond-false}
 use Rattle.std.proofs.lemmas.List.{length-map}
 use Rattle.std.proofs.lemmas.List.Sums.{sum_by-append, sum_by-cons}
@@ -28,10 +28,10 @@ use Rattle.cfg_build.proofs.BuildingTables.{few_numbers}
 use Rattle.cfg_build.proofs.DrawableParts.{are_parts, way_count}
 use Rattle.cfg_build.proofs.EndNumber.{end_is_last}
 use Rattle.cfg_build.proofs.FlowEdges.{after}
-use Rattle.cfg_build.proofs.HeldEdges.{IsHoldEdge, edge_for}
+use Rattle.cfg_build.proofs.HeldEdges.{edge_for}
 use Rattle.cfg_build.proofs.JoinedGraph.{IsPartAt, place_of_part}
 use Rattle.cfg_build.proofs.Lowest.{IsMet}
-use Rattle.cfg_build.proofs.Members.{Member, Member-at, Member-filtered, Member-in_range}
+use Rattle.cfg_build.proofs.Members.{Member-at, Member-filtered, Member-in_range}
 use Rattle.cfg_build.proofs.PartsFound.{member_end}
 use Rattle.cfg_build.proofs.PieceNumbers.{length_rows}
 use Rattle.cfg_build.proofs.ReachedNodes.{IsTold}

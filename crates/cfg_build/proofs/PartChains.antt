@@ -11,7 +11,6 @@ use Rattle.f77_tree.specs.WellFormed.{AreExecs}
 use Rattle.cfg_build.specs.declared.parts.Part.{Part}
 use Rattle.cfg_build.specs.declared.parts.Target.TheVariants.{First}
 use Rattle.cfg_build.specs.declared.pieces.PieceKind.{PieceKind}
-use Rattle.cfg_build.specs.declared.pieces.PieceKind.TheVariants as piece
 use Rattle.cfg_build.specs.Parts.{parts, line_in}
 use Rattle.cfg_build.specs.Flow.{flow, piece_at}
 use Rattle.cfg_build.specs.Passes.{kind_in}

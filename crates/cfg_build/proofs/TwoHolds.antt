@@ -5,7 +5,7 @@ use Rattle.closed_walks.specs.Graph.{Graph, IsGraph, edge_count, from, to}
 use Rattle.closed_walks.specs.Walk.{Walk}
 use Rattle.cfg_build.specs.declared.parts.Part.{Part}
 use Rattle.cfg_build.specs.Parts.{start_part}
-use Rattle.cfg_build.specs.Joined.{number, width}
+use Rattle.cfg_build.specs.Joined.{width}
 use Rattle.cfg_build.proofs.Places.{begins_before}
 use Rattle.cfg_build.proofs.ReachedNodes.{IsTold, Reaches, stay, along_last, by_walk}
 use Rattle.cfg_build.proofs.JoinedGraph.{row_graph, heads_at, edge_zero, IsRowEdge, row_edge}

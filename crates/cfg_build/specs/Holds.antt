@@ -1,7 +1,7 @@
 -- Holds: where control goes round and can't come to the end, a hold goes on or leaves for the end. It always goes on.
-use Rattle.std.specs.Prelude.{ℕ, ◌+◌, Bool, true, false, ◌==◌, ◌&&◌, not, if◌then◌else◌, List, [], ◌∷◌, ◌++◌, slice_set}
+use Rattle.std.specs.Prelude.{ℕ, ◌+◌, Bool, true, false, ◌==◌, ◌&&◌, not, if◌then◌else◌, [], ◌∷◌, ◌++◌, slice_set}
 use Rattle.std.specs.List.{list_any, range_with_len, position_or_len}
-use Rattle.closed_walks.specs.Graph.{Graph, edge_count, from, to}
+use Rattle.closed_walks.specs.Graph.{Graph, from, to}
 use Rattle.closed_walks.specs.Reaching.{reaches}
 use Rattle.cfg_build.specs.declared.pieces.Piece.{Piece}
 use Rattle.cfg_build.specs.declared.pieces.PieceKind.{PieceKind}

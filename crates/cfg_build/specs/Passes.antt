@@ -1,5 +1,5 @@
 -- Passes: control takes one piece of a flow graph.
-use Rattle.std.specs.Prelude.{◌≡◌, ℕ, zero, suc, ◌==◌, ℤ, pos, nat_lt, if◌then◌else◌, List, [], ◌∷◌, ◌++◌, length, filter, slice_index, Option, Some, None, Result, Ok, Err, slice_get}
+use Rattle.std.specs.Prelude.{ℕ, zero, suc, ◌==◌, ℤ, pos, nat_lt, if◌then◌else◌, List, [], ◌++◌, length, filter, slice_index, Option, Some, None, Result, Ok, Err, slice_get}
 use Rattle.std.specs.List.{range_with_len}
 use Rattle.op_table.specs.declared.Trap.{Trap}
 use Rattle.op_table.specs.Words.{is_true}
@@ -8,16 +8,14 @@ use Rattle.op_table.specs.Trips.{at_least_zero}
 use Rattle.closed_walks.specs.Graph.{Graph, edge_count, from, to}
 use Rattle.f77_tree.specs.declared.programs.Exec.{Exec}
 use Rattle.f77_tree.specs.declared.programs.ExecKind.{ExecKind}
-use Rattle.f77_tree.specs.declared.programs.ExecKind.TheVariants.{Assign, Print, Pass as Passing, Test, Sign, Pick, DoStart, DoNext, End as Ending}
+use Rattle.f77_tree.specs.declared.programs.ExecKind.TheVariants.{Test, Sign, Pick, DoStart, End as Ending}
 use Rattle.f77_tree.specs.declared.programs.NameInfo.{NameInfo}
 use Rattle.f77_tree.specs.declared.programs.Program.{Program}
 use Rattle.f77_tree.specs.Execution.{Memory, Outcome, Goes, Stops, Ends, outcome, value_in}
 use Rattle.f77_tree.specs.Run.{Mark, Running, Ended, Trapped, first_memory}
 use Rattle.f77_tree.specs.Value.{and_then}
-use Rattle.cfg_build.specs.declared.pieces.Piece.{Piece}
 use Rattle.cfg_build.specs.declared.pieces.PieceKind.{PieceKind}
 use Rattle.cfg_build.specs.declared.pieces.PieceKind.TheVariants.{Start, Act, Pass, Branch, Join, Hold, End}
-use Rattle.cfg_build.specs.Joined.{FlowGraph}
 use Rattle.cfg_build.specs.Flow.{flow, piece_at}
 
 -- the edges that leave a piece, in order, and the one of them with this number

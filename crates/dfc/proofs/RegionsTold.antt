@@ -1,5 +1,5 @@
 -- The text of regions, part after part, and what it means.
-use Rattle.std.proofs.Common.{◌≡◌, ℕ, ◌<◌, List, [], ◌++◌, Option, refl, sym, ap, subst, ◌∙◌, length}
+use Rattle.std.proofs.Common.{◌≡◌, ℕ, List, [], ◌++◌, Option, sym, ap, subst, ◌∙◌, length}
 use Rattle.closed_walks.specs.Graph.{Graph, edge_count}
 use Rattle.closed_walks.specs.Numbering.{fresh, IsNumbering}
 use Rattle.closed_walks.specs.Region.{IsFlowGraph}
@@ -16,7 +16,7 @@ use Rattle.dfc.specs.declared.words.Task.TheVariants.{Regions}
 use Rattle.dfc.specs.Due.{Due, IsDueOn, done}
 use Rattle.dfc.specs.Found.{IsFoundOf, text_of}
 use Rattle.dfc.specs.Headline.{Means, MeansOn}
-use Rattle.dfc.specs.Regions.{counts_line, piece_lines, edge_lines, region_lines, regions_text, TellsRegions}
+use Rattle.dfc.specs.Regions.{counts_line, piece_lines, region_lines, regions_text, TellsRegions}
 
 -- the first part, behind an empty buffer
 pub told_first : (a b : Option (List ℕ)) (empty held bytes part : List ℕ) → empty ≡ [] → bytes ≡ part → IsWrittenBut held a b (empty ++ bytes) → IsWrittenBut held a b part

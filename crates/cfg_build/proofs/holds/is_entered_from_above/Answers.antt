@@ -1,4 +1,4 @@
-use Rattle.std.proofs.Common.{◌≡◌, ◌∙◌, ◌&&◌, ◌==◌, nat_le, true, sym, subst, arith, get_or}
+use Rattle.std.proofs.Common.{◌≡◌, ◌∙◌, ◌==◌, nat_le, true, sym, subst, arith, get_or}
 use Rattle.std.proofs.lemmas.Bool.{eq-eqb, le-leb, and_from}
 use Rattle.closed_walks.specs.Graph.{from, to}
 use Rattle.cfg_build.proofs.EdgeLoops.{exists, test_found, test_missing}

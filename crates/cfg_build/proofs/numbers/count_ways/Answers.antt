@@ -1,4 +1,4 @@
-use Rattle.std.proofs.Common.{ℕ, ◌+◌, ◌∙◌, ap, get_or, arith}
+use Rattle.std.proofs.Common.{◌+◌, ◌∙◌, ap, get_or}
 use Rattle.cfg_build.specs.declared.parts.Target.TheVariants.{Start}
 use Rattle.cfg_build.proofs.BuildingTables.{count-step}
 use Rattle.cfg_build.proofs.numbers.count_ways.Goals as goal

@@ -1,13 +1,11 @@
 use Rattle.std.proofs.Common.{◌≡◌, ℕ, ◌+◌, ◌<◌, ◌∙◌, ap, sym, subst, length, cond, false, get_or, arith}
 use Rattle.std.proofs.lemmas.List.{get_or_read}
 use Rattle.cfg_build.specs.declared.parts.Part.{Part}
-use Rattle.cfg_build.specs.declared.parts.Target.{Target}
 use Rattle.cfg_build.specs.declared.parts.Target.TheVariants.{Start}
 use Rattle.cfg_build.specs.Parts.{start_part}
 use Rattle.cfg_build.specs.Joined.{is_same, width}
 use Rattle.cfg_build.specs.Tables.{number_in, is_joined_by}
 use Rattle.cfg_build.proofs.BuildingTables.{next-step, few_so_far, numbers-step, numbers_are}
-use Rattle.cfg_build.proofs.PieceNumbers.{part_at, first_piece}
 use Rattle.cfg_build.proofs.numbers.numbers.Goals as goal
 
 -- the number of the next piece

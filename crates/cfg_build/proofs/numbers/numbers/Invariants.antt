@@ -1,4 +1,4 @@
-use Rattle.std.proofs.Common.{◌≡◌, ℕ, ◌<◌, take, sum_by, get_or}
+use Rattle.std.proofs.Common.{◌≡◌, ℕ, ◌<◌, take, sum_by}
 use Rattle.cfg_build.specs.Joined.{width}
 use Rattle.cfg_build.specs.Tables.{number_in, HasRoom}
 use Rattle.cfg_build.proofs.PieceNumbers.{part_at, first_piece}

@@ -1,4 +1,4 @@
-use Rattle.std.proofs.Common.{◌≡◌, ℕ, ◌+◌, ◌<◌, ◌∙◌, ◌^◌, List, ap, sym, length, count_by, take, get_or, arith}
+use Rattle.std.proofs.Common.{◌≡◌, ◌∙◌, List, ap, length, count_by, get_or, arith}
 use Rattle.cfg_build.specs.declared.parts.Part.{Part}
 use Rattle.cfg_build.specs.declared.parts.Target.{Target}
 use Rattle.cfg_build.specs.Parts.{start_part}

@@ -1,4 +1,4 @@
-use Rattle.std.proofs.Common.{◌≡◌, ℕ, take}
+use Rattle.std.proofs.Common.{◌≡◌, take}
 use Rattle.cfg_build.specs.declared.parts.Target.{Target}
 use Rattle.cfg_build.specs.Joined.{ways_to}
 use Rattle.cfg_build.specs.Tables.{number_in, HasRoom}

@@ -1,4 +1,4 @@
-use Rattle.std.proofs.Common.{◌≡◌, ◌∙◌, ap, sym, arith, length-set}
+use Rattle.std.proofs.Common.{◌∙◌, sym, arith, length-set}
 use Rattle.cfg_build.proofs.BuildingParts.{begun_number, start_exists, Known-begun, Known-other}
 use Rattle.cfg_build.proofs.parts.loop_starts.Goals as goal
 use Rattle.cfg_build.proofs.parts.loop_starts.Goals.{in-Some, in_default}

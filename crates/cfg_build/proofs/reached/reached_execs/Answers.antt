@@ -1,7 +1,7 @@
-use Rattle.std.proofs.Common.{◌≡◌, ℕ, ◌<◌, ◌↔◌, Bool, true, false, ap, sym, ◌∙◌, subst, length, arith, slice_index_or}
+use Rattle.std.proofs.Common.{◌≡◌, ℕ, ◌<◌, ◌↔◌, true, false, ap, sym, ◌∙◌, subst, length, slice_index_or}
 use Rattle.std.proofs.lemmas.Result.{IfOk-weaker}
 use Rattle.std.proofs.lemmas.Bool.Decides.{same_from_decides}
-use Rattle.closed_walks.specs.Graph.{Graph, IsGraph}
+use Rattle.closed_walks.specs.Graph.{Graph}
 use Rattle.closed_walks.specs.Walk.{Reach, no_edge}
 use Rattle.closed_walks.specs.Reaching.{reaches}
 use Rattle.cfg_build.specs.Control.{control, is_reached}

@@ -1,4 +1,4 @@
-use Rattle.std.proofs.Common.{◌≡◌, ℕ, ◌<◌, ap, get_or, length, arith}
+use Rattle.std.proofs.Common.{◌≡◌, ℕ, ◌<◌, ap, get_or, arith}
 use Rattle.closed_walks.specs.Graph.{Graph, from, to}
 use Rattle.cfg_build.proofs.rows.digraph.Goals as goal
 

@@ -1,4 +1,4 @@
-use Rattle.std.proofs.Common.{◌≡◌, ℕ, ◌+◌, ◌∙◌, ◌++◌, List, ap, sym, length, map, arith}
+use Rattle.std.proofs.Common.{◌∙◌, ◌++◌, List, ap, sym, length, map, arith}
 use Rattle.std.proofs.lemmas.Result.{on_ok_weaker}
 use Rattle.cfg_build.specs.declared.parts.Target.{Target}
 use Rattle.cfg_build.specs.declared.rows.Drawing.{Drawing}

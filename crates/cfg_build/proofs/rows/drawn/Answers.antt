@@ -1,6 +1,5 @@
-use Rattle.std.proofs.Common.{◌≡◌, ℕ, ◌+◌, ◌<◌, ◌∙◌, ap, sym, length, map, take, flat_map, get_or, refl, arith}
+use Rattle.std.proofs.Common.{◌≡◌, ◌∙◌, ap, length, take, flat_map, get_or, refl, arith}
 use Rattle.std.proofs.lemmas.List.{get_or_read, length-map}
-use Rattle.cfg_build.specs.declared.parts.Part.{Part}
 use Rattle.cfg_build.specs.Parts.{start_part}
 use Rattle.cfg_build.specs.Joined.{Row, rows_of}
 use Rattle.cfg_build.specs.Tables.{room}

@@ -1,6 +1,4 @@
-use Rattle.std.proofs.Common.{◌≡◌, ◌+◌, ℕ, max, arith, take}
-use Rattle.std.specs.Prelude.{slice_index}
-use Rattle.closed_walks.specs.Numbering.{fresh}
+use Rattle.std.proofs.Common.{arith}
 use Rattle.dfc.proofs.Texts.{fresh_next}
 use Rattle.dfc.proofs.regions.class_count.Goals.{then-count-next, else-count-next}
 use Rattle.dfc.proofs.regions.class_count.Goals as goal

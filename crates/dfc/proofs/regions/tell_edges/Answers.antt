@@ -1,4 +1,4 @@
-use Rattle.std.proofs.Common.{◌≡◌, ◌+◌, ℕ, sym, ap, ◌∙◌, arith, List}
+use Rattle.std.proofs.Common.{◌≡◌, ◌+◌, ℕ, ap, ◌∙◌, arith, List}
 use Rattle.std.specs.Prelude.{slice_index}
 use Rattle.closed_walks.specs.Graph.{edge_count, from, to}
 use Rattle.dfc.specs.Regions.{edge_line}

@@ -1,4 +1,4 @@
-use Rattle.std.proofs.Common.{◌≡◌, ◌+◌, ℕ, sym, ap, ◌∙◌, arith, length}
+use Rattle.std.proofs.Common.{◌≡◌, ◌+◌, sym, ap, ◌∙◌, arith, length}
 use Rattle.cfg_build.specs.Flow.{piece_in, piece_at}
 use Rattle.dfc.specs.Regions.{piece_line}
 use Rattle.dfc.proofs.Texts.{line_told, fault_at_line, on_error}

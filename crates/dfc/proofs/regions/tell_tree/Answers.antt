@@ -1,4 +1,4 @@
-use Rattle.std.proofs.Common.{◌≡◌, ◌+◌, ◌-◌, ℕ, sym, ap, ◌∙◌, arith, subst, List, ◌++◌}
+use Rattle.std.proofs.Common.{◌≡◌, ◌+◌, ◌-◌, ℕ, ap, ◌∙◌, arith, subst, List, ◌++◌}
 use Rattle.df_io.specs.TextBuffer.{IsWrittenBut}
 use Rattle.region_tree.specs.Tree.{region_count, entry_of, exit_of, parent_of}
 use Rattle.dfc.specs.Regions.{region_line, region_lines}
