@@ -82,22 +82,21 @@ fn last_piece(program: &Program, f: &Flow, edge: u32) -> Result<(u32, Piece), Fa
 }
 
 /// Goes along the flow graph beside a run of the program, until that stops or has gone far.
-fn walk(alloc: Global, program: &Program) -> Result<(), Fail>
+fn walk(alloc: Global, program: &Program, f: &Flow) -> Result<(), Fail>
     requires { IsWellFormed program.now }
 {
-    let f = flow_of(alloc, program)?;
     let mut stepper = Stepper::new(alloc, program, &Vec::new(alloc))?;
-    let mut edge = out(&f, 0, None)?;
+    let mut edge = out(f, 0, None)?;
     for _ in 0..STEPS {
-        if head(&f, edge)?.1.exec != stepper.position() {
+        if head(f, edge)?.1.exec != stepper.position() {
             return Err(Fail::from("another executable"));
         }
-        let (node, piece) = last_piece(program, &f, edge)?;
+        let (node, piece) = last_piece(program, f, edge)?;
         match stepper.step() {
             Stepped::Ended if piece.kind == PieceKind::End => return Ok(()),
             Stepped::Ended => return Err(Fail::from("no end")),
             Stepped::Trapped(_, _) => return Ok(()),
-            Stepped::Moved | Stepped::Line => edge = out(&f, node, Some(stepper.position()))?,
+            Stepped::Moved | Stepped::Line => edge = out(f, node, Some(stepper.position()))?,
         }
     }
     Ok(())
@@ -107,7 +106,7 @@ fn walk(alloc: Global, program: &Program) -> Result<(), Fail>
 fn runs_go_along_flow_graphs(rt: HostRuntime) -> Result<(), Fail> {
     for statements in WALKS.lines() {
         let program = program_of(rt.alloc(), statements)?;
-        walk(rt.alloc(), &program)?;
+        walk(rt.alloc(), &program, &flow_of(rt.alloc(), &program)?)?;
     }
     Ok(())
 }
