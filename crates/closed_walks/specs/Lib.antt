@@ -1,4 +1,5 @@
 pub mod Cycle
+pub mod Cycling
 pub mod Digraph
 pub mod EdgeEnd
 pub mod Endless

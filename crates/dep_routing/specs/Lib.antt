@@ -9,3 +9,5 @@ pub mod Quiet
 pub mod Routing
 pub mod Rows
 pub mod Touch
+pub mod Sound
+pub mod Touches
