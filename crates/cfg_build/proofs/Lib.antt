@@ -55,3 +55,5 @@ pub mod PassesFollow
 pub mod BranchChoices
 pub mod EdgesTaken
 pub mod PassWalks
+pub mod PlainEdges
+pub mod RangeEntries

@@ -10,3 +10,4 @@ pub mod Chains
 pub mod Degrees
 pub mod Shape
 pub mod Routes
+pub mod Zones
