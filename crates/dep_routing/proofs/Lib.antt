@@ -1,4 +1,11 @@
 pub mod Held
+pub mod Rounds
+pub mod Repeats
+pub mod Circles
+pub mod Counting
+pub mod Cycles
+pub mod Staying
+pub mod Moving
 pub mod Hopping
 pub mod Noises
 pub mod Numbering

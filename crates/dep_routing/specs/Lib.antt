@@ -1,5 +1,6 @@
 pub mod Facts
 pub mod LineTable
+pub mod Leaving
 pub mod Next
 pub mod Noise
 pub mod Numbers

@@ -9,6 +9,7 @@
 mod borders;
 mod facts;
 mod laws;
+mod leaving;
 mod lines;
 mod noise;
 mod order;
@@ -21,6 +22,7 @@ pub use laws::{
     free_nodes, free_passed_nodes, largest_quiet_regions, next_edges, places, places_over_a_pass,
     quiet_regions,
 };
+pub use leaving::{output_keeps_moving, quiet_regions_are_left};
 pub use lines::Lines;
 pub use routing::route;
 
