@@ -1,6 +1,6 @@
 -- The range of a DO is entered from its test alone, and its increment leads back to that.
 use Rattle.std.proofs.Common.{◌≡◌, ◌≢◌, ℕ, zero, suc, ◌+◌, ◌<◌, ◌≤◌, ◌⊎◌, Bool, true, false, cond, nat_lt, ◌&&◌, List, [], ◌∷◌, ◌++◌, length, get_or, map, Contains, Option, Some, None, slice_get, refl, sym, ap, ◌∙◌, subst, inl, inr, ⊎_elim, arith}
-use Rattle.std.proofs.lemmas.Bool.{cases_Bool, cond-true, cond-false, false≢true}
+use Rattle.std.proofs.lemmas.Bool.{cases_Bool, cases_lt, cond-true, cond-false, false≢true}
 use Rattle.closed_walks.specs.Graph.{Graph, edge_count, from, to}
 use Rattle.f77_tree.specs.declared.programs.Exec.{Exec}
 use Rattle.f77_tree.specs.declared.programs.ExecKind.{ExecKind}
@@ -16,20 +16,21 @@ use Rattle.cfg_build.specs.declared.pieces.Piece.{Piece}
 use Rattle.cfg_build.specs.declared.pieces.PieceKind.{PieceKind}
 use Rattle.cfg_build.specs.declared.pieces.PieceKind.TheVariants as piece
 use Rattle.cfg_build.specs.Parts.{part, parts, parts_of, start_part, end_part, last_of}
-use Rattle.cfg_build.specs.Joined.{finish, is_joined, is_end, ways_to, number, join_row}
+use Rattle.cfg_build.specs.Joined.{rows, finish, is_joined, is_end, ways_to, number, join_row}
 use Rattle.cfg_build.specs.Holds.{is_join}
 use Rattle.cfg_build.specs.Flow.{flow, piece_at}
-use Rattle.cfg_build.specs.Passes.{out}
+use Rattle.cfg_build.specs.Passes.{out, kind_in}
 use Rattle.cfg_build.specs.Shape.{kind_at, IsShaped}
 use Rattle.cfg_build.specs.Zones.{exec_at, IsInBody, test_of, IsTest, IsPlain, IsWayIn, IsJoinOfTest, IsAtTest}
 use Rattle.cfg_build.proofs.Members.{Member, Member-at, Contains-from_Member}
 use Rattle.cfg_build.proofs.ReachedNodes.{IsTold}
 use Rattle.cfg_build.proofs.Lowest.{IsMet}
 use Rattle.cfg_build.proofs.JoinedGraph.{row_graph, IsPartAt, place_of_part, number_of}
+use Rattle.cfg_build.proofs.EndNumber.{end_is_last}
 use Rattle.cfg_build.proofs.InDegrees.{same_first}
 use Rattle.cfg_build.proofs.OutEdges.{first_out}
 use Rattle.cfg_build.proofs.PieceKinds.{pieces_of, piece_of_join, piece_of_part}
-use Rattle.cfg_build.proofs.PieceNumbers.{part_at, first_piece, own_piece, joins, own_below, first_below}
+use Rattle.cfg_build.proofs.PieceNumbers.{part_at, first_piece, own_piece, joins, own_below, first_below, IsPieceOf, piece_of}
 use Rattle.cfg_build.proofs.PartsFound.{IsWay, To, Begins, Increments, ways_in, IsExecPart, cases_part, test_part, HasPart}
 use Rattle.cfg_build.proofs.ReachedPieces.{apart, leads}
 use Rattle.cfg_build.proofs.PartRoutes.{own_plain, old_kind}
@@ -382,3 +383,36 @@ module _ (told : IsTold) (met : IsMet) (names : List NameInfo) (execs : List Exe
 
   pub returns : (e : ℕ) (loop : Loop) → IsPlain (flow execs) e → kind_at (flow execs) (from (flow execs).graph e) ≡ piece.Act → incremented_at execs (exec_at (flow execs) (from (flow execs).graph e)) ≡ Some loop → IsAtTest execs loop.number (to (flow execs).graph e)
   returns e loop plain acts increments = back_way e loop acts increments (plain_way e plain)
+
+  -- ---- acts
+
+  not_for_end : (execs : List Exec) (k line : ℕ) (kind : ExecKind) (p : Part) → Member (parts_of execs k line kind) p → kind ≡ End → ⊥
+  not_for_end execs k line kind p m is = subst (λ x. Member (parts_of execs k line x) p) is m
+
+  act_part : (j : ℕ) → j < length ps → (part_at ps j).piece.kind ≡ piece.Act → kind_in (slice_get execs (exec_of (part_at ps j).own)) ≡ End → ⊥
+  act_part j some acts ends = ⊎_elim
+      (λ (h : start_part ≡ part_at ps j). false≢true (ap (λ (x : Part). is_act x.piece.kind) h ∙ ap is_act acts))
+      (⊎_elim
+      (λ (r : IsExecPart execs (part_at ps j)).
+      let own : exec_of (part_at ps j).own ≡ r.at = (proper_in execs r.at r.exec.line r.exec.kind (part_at ps j) r.among).1 in
+      let kind : kind_in (slice_get execs (exec_of (part_at ps j).own)) ≡ r.exec.kind = ap (λ k. kind_in (slice_get execs k)) own ∙ ap kind_in r.found in
+      not_for_end execs r.at r.exec.line r.exec.kind (part_at ps j) r.among (sym kind ∙ ends))
+      (λ (h : end_part execs ≡ part_at ps j). false≢true (ap (λ (x : Part). is_act x.piece.kind) h ∙ ap is_act acts)))
+      (cases_part execs (part_at ps j) (among j some))
+
+  pub act_goes_on : (node : ℕ) → node < (flow execs).graph.nodes → kind_at (flow execs) node ≡ piece.Act → kind_in (slice_get execs (exec_at (flow execs) node)) ≢ End
+  act_goes_on node below acts ends = ⊎_elim
+      (λ (old : node < length (rows ps)).
+      let r : IsPieceOf ps node = piece_of ps node old in
+      ⊎_elim
+      (λ (own : node ≡ own_piece ps r.part).
+      act_part r.part r.exists (sym (kind_own r.part r.exists) ∙ ap (λ x. kind_at (flow execs) x) (sym own) ∙ acts)
+      (ap (λ k. kind_in (slice_get execs k)) (sym (ap (λ x. exec_at (flow execs) x) own ∙ exec_own r.part r.exists)) ∙ ends))
+      (λ (join : (is_joined ps (part_at ps r.part) ≡ true) × (node ≡ first_piece ps r.part)).
+      false≢true (ap is_act (sym (join_own r.part r.exists join.0) ∙ ap (λ x. kind_at (flow execs) x) (sym join.1) ∙ acts)))
+      r.which)
+      (λ (h : length (rows ps) ≤ node).
+      let last : length (rows ps) ≡ finish execs + 1 = end_is_last execs well.end in
+      let hold : kind_at (flow execs) node ≡ piece.Hold = (shape.holds node below).1 (omega (arith, h, last)) in
+      false≢true (ap is_act (sym hold ∙ acts)))
+      (cases_lt node (length (rows ps)))
