@@ -4,7 +4,9 @@ pub mod Repeats
 pub mod Circles
 pub mod Counting
 pub mod Cycles
+pub mod Ending
 pub mod Staying
+pub mod LeavingRuns
 pub mod Moving
 pub mod Hopping
 pub mod Noises

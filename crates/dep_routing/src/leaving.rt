@@ -16,7 +16,8 @@ ghost use Rattle.dep_routing.specs.Touches.{AreTouches};
 
 use crate::facts::tree_facts;
 use cfg_build::{
-    flow_graph_has_shape, flow_graph_is_strong, passes_are_a_walk, ranges_are_entered_by_tests,
+    acts_go_on, flow_graph_has_shape, flow_graph_is_strong, passes_are_a_walk,
+    ranges_are_entered_by_tests,
 };
 use f77_tree::executables_keep_the_rest;
 
@@ -31,6 +32,7 @@ pub fn quiet_regions_are_left()
     flow_graph_has_shape();
     passes_are_a_walk();
     ranges_are_entered_by_tests();
+    acts_go_on();
     executables_keep_the_rest();
 }
 
