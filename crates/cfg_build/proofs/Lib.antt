@@ -55,5 +55,6 @@ pub mod PassesFollow
 pub mod BranchChoices
 pub mod EdgesTaken
 pub mod PassWalks
+pub mod NoReturn
 pub mod PlainEdges
 pub mod RangeEntries

@@ -1,6 +1,6 @@
 //! Laws on runs through flow graphs, as contracts of functions that do nothing.
 
-ghost use Rattle.std.specs.Prelude.{◌≡◌, ◌≤◌, ◌<◌, ℕ, suc, ℤ, List, Some, true, length, slice_get};
+ghost use Rattle.std.specs.Prelude.{◌≡◌, ◌≢◌, ◌≤◌, ◌<◌, ℕ, suc, ℤ, List, Some, true, length, slice_get};
 ghost use Rattle.closed_walks.specs.Graph.{edge_count, from, to};
 ghost use Rattle.f77_tree.specs.declared.programs.Exec.{Exec};
 ghost use Rattle.f77_tree.specs.declared.programs.NameInfo.{NameInfo};
@@ -49,6 +49,14 @@ pub fn passes_are_a_walk()
     ensures start { (p : Program) (input : List ℤ) → AreExecs p.names p.execs p.loops → from (flow p.execs).graph (passes p input 0).edge ≡ 0 }
     ensures edges { (p : Program) (input : List ℤ) (n : ℕ) → AreExecs p.names p.execs p.loops → (passes p input n).edge < edge_count (flow p.execs).graph }
     ensures leads_on { (p : Program) (input : List ℤ) (n : ℕ) → AreExecs p.names p.execs p.loops → (passes p input (suc n)).mark ≡ Running → from (flow p.execs).graph (passes p input (suc n)).edge ≡ to (flow p.execs).graph (passes p input n).edge }
+{
+    reaching_is_told();
+    endless_ways_meet_cycles();
+}
+
+/// A run never comes back to the start.
+pub fn runs_leave_the_start()
+    ensures { (p : Program) (input : List ℤ) (n : ℕ) → AreExecs p.names p.execs p.loops → (passes p input n).mark ≡ Running → to (flow p.execs).graph (passes p input n).edge ≢ 0 }
 {
     reaching_is_told();
     endless_ways_meet_cycles();

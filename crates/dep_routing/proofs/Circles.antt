@@ -244,8 +244,8 @@ module _ (p : Program) (inside : ℕ → Bool) (place : IsPlace p inside) where
         rest = r.reach.walk;
         closed = (leads.0, leads.1, subst (λ x. Walk g (to g d) r.reach.walk x) (sym same) r.reach.leads);
         avoids = (
-            or_from (d == 0) (is_increment p (from g d)) (not_back d ends) (ap (λ x. is_increment p x) leads.1 ∙ ap (λ kind. is_increment_kind kind (exec_kind p v)) test.kind),
-            Avoids-fewer ends_stay (ends_rounds p) r.reach.walk (λ e h. (or_parts (ends_rounds p e) (not (inside (to g e))) h).0) r.reach.avoids,
+          or_from (d == 0) (is_increment p (from g d)) (not_back d ends) (ap (λ x. is_increment p x) leads.1 ∙ ap (λ kind. is_increment_kind kind (exec_kind p v)) test.kind),
+          Avoids-fewer ends_stay (ends_rounds p) r.reach.walk (λ e h. (or_parts (ends_rounds p e) (not (inside (to g e))) h).0) r.reach.avoids,
         );
       }))
       (λ (join : (piece_kind p v ≡ piece.Join) × ((e : ℕ) → IsPlain (flow p.execs) e → from g e ≡ v → to g e ≡ r.y)). branch_join (sym test.kind ∙ join.0))

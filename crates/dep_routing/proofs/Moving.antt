@@ -17,7 +17,7 @@ use Rattle.dep_routing.proofs.Quietness.{edges, not_behind, at_exit, comes_in, m
 abbrev pub Leaves : Program → Tree → (ℕ → ℕ → Bool) → Type 0
 Leaves p t touches = (input : List ℤ) (n r : ℕ) → All IsWord input → (passes p input n).mark ≡ Running → IsQuiet (flow p.execs).graph t touches 0 r → IsIn (flow p.execs).graph t r (comes_to p input n) → IsLeftBy p input n (exit_of t r)
 
-module _ (p : Program) (t : Tree) (touches : ℕ → ℕ → Bool) (f : TreeFacts (flow p.execs).graph t) (leaves : Leaves p t touches) (input : List ℤ) (words : All IsWord input) (exist : (n : ℕ) → (passes p input n).edge < edge_count (flow p.execs).graph) where
+module _ (p : Program) (t : Tree) (touches : ℕ → ℕ → Bool) (f : TreeFacts (flow p.execs).graph t) (leaves : Leaves p t touches) (input : List ℤ) (words : All IsWord input) (exist : (n : ℕ) → (passes p input n).edge < edge_count (flow p.execs).graph) (no_return : (n : ℕ) → (passes p input n).mark ≡ Running → comes_to p input n ≢ 0) where
   abbrev g : Graph
   g = (flow p.execs).graph
 
@@ -47,8 +47,14 @@ module _ (p : Program) (t : Tree) (touches : ℕ → ℕ → Bool) (f : TreeFact
       let e : n + (more + k.later) ≡ n + more + k.later = omega arith in
       record {
         later = more + k.later;
-        moves = subst (λ i. ((passes p input i).mark ≢ Running) ⊎ IsFree g t touches 0 (comes_to p input i)) (sym e) k.moves;
+        moves = subst (λ i. ((passes p input i).mark ≢ Running) ⊎ ((comes_to p input i ≢ 0) × IsFree g t touches 0 (comes_to p input i))) (sym e) k.moves;
       }
+
+  now : (n : ℕ) → (passes p input n).mark ≡ Running → IsFree (flow p.execs).graph t touches 0 (comes_to p input n) → KeepsMoving p t touches input n
+  now n running free = record {
+    later = 0;
+    moves = inr (subst (λ i. (comes_to p input i ≢ 0) × IsFree g t touches 0 (comes_to p input i)) (let e : n ≡ n + 0 = omega arith in e) (no_return n running, free));
+  }
 
   -- through one region after the other, as ranks rise
   through : (fuel n q : ℕ) → f.rank.1 ≤ f.rank.0 (exit_of t q) + fuel → (passes p input n).mark ≡ Running → IsLargest (flow p.execs).graph t touches 0 (comes_to p input n) q → KeepsMoving p t touches input n
@@ -62,7 +68,7 @@ module _ (p : Program) (t : Tree) (touches : ℕ → ℕ → Bool) (f : TreeFact
       (λ (on : ((passes p input m).mark ≡ Running) × ((passes p input m).edge ≡ exit_of t q)).
       let at : comes_to p input m ≡ to g (exit_of t q) = ap (λ e. to g e) on.1 in
       from_later n left.later (⊎_elim
-      (λ (free : IsFree g t touches 0 (comes_to p input m)). let k : KeepsMoving p t touches input m = record { later = 0; moves = inr (subst (λ i. IsFree g t touches 0 (comes_to p input i)) (let e : m ≡ m + 0 = omega arith in e) free) } in k)
+      (λ (free : IsFree g t touches 0 (comes_to p input m)). now m on.0 free)
       (λ (some : (r : ℕ) × IsLargest g t touches 0 (comes_to p input m) r).
       let is_entry : entry_of t some.0 ≡ exit_of t q = entered (comes_to p input n) q some.0 largest (subst (λ y. IsLargest g t touches 0 y some.0) at some.1) in
       let rises : rank (entry_of t some.0) < rank (exit_of t some.0) = f.rank.2.through some.0 some.1.quiet.number in
@@ -74,6 +80,6 @@ module _ (p : Program) (t : Tree) (touches : ℕ → ℕ → Bool) (f : TreeFact
 
   pub keeps_moving : (n : ℕ) → (passes p input n).mark ≡ Running → KeepsMoving p t touches input n
   keeps_moving n running = ⊎_elim
-      (λ (free : IsFree g t touches 0 (comes_to p input n)). let k : KeepsMoving p t touches input n = record { later = 0; moves = inr (subst (λ i. IsFree g t touches 0 (comes_to p input i)) (let e : n ≡ n + 0 = omega arith in e) free) } in k)
+      (λ (free : IsFree g t touches 0 (comes_to p input n)). now n running free)
       (λ (some : (q : ℕ) × IsLargest g t touches 0 (comes_to p input n) q). through f.rank.1 n some.0 (omega arith) running some.1)
       (free_or_largest g t f touches 0 (comes_to p input n) (f.flow.sound.ends (passes p input n).edge (exist n)))

@@ -23,7 +23,7 @@ pub record MarksStays (p : Program) (touches : ℕ → ℕ → Bool) : Type 0 wh
   pub branches : (node : ℕ) → node < (flow p.execs).graph.nodes → piece_kind p node ≡ Branch → IsOnCycle (flow p.execs).graph (ends_rounds p) node → touches node 0 ≡ true
   pub traps : MarksTraps p touches
 
--- some passes after n the run has ended or trapped, or it comes to a node that is free for the line of output
+-- some passes after n the run has ended or trapped, or it comes to a node other than the start that is free for the line of output
 pub record KeepsMoving (p : Program) (t : Tree) (touches : ℕ → ℕ → Bool) (input : List ℤ) (n : ℕ) : Type 0 where
   pub later : ℕ
-  pub moves : ((passes p input (n + later)).mark ≢ Running) ⊎ IsFree (flow p.execs).graph t touches 0 (comes_to p input (n + later))
+  pub moves : ((passes p input (n + later)).mark ≢ Running) ⊎ ((comes_to p input (n + later) ≢ 0) × IsFree (flow p.execs).graph t touches 0 (comes_to p input (n + later)))

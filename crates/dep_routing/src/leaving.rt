@@ -17,7 +17,7 @@ ghost use Rattle.dep_routing.specs.Touches.{AreTouches};
 use crate::facts::tree_facts;
 use cfg_build::{
     acts_go_on, flow_graph_has_shape, flow_graph_is_strong, passes_are_a_walk,
-    ranges_are_entered_by_tests,
+    ranges_are_entered_by_tests, runs_leave_the_start,
 };
 use f77_tree::executables_keep_the_rest;
 
@@ -43,4 +43,5 @@ pub fn output_keeps_moving()
     tree_facts();
     flow_graph_is_strong();
     passes_are_a_walk();
+    runs_leave_the_start();
 }
