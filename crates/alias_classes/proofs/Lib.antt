@@ -1,4 +1,6 @@
+pub mod CountingLemmas
 pub mod Covering
+pub mod FirstWords
 pub mod Framing
 pub mod KeyLemmas
 pub mod KeyPlaces
@@ -9,4 +11,5 @@ pub mod Rows
 pub mod RunLemmas
 pub mod SizeLemmas
 pub mod SpanLemmas
+pub mod TakenNumbers
 pub mod Walked

@@ -13,12 +13,18 @@ ghost use Rattle.f77_tree.specs.Value.{IsAccess, ArePlaced};
 ghost use Rattle.alias_classes.specs.Classes.{ClassTable, IsClasses, class_of_word, class_of_loop, class_count};
 ghost use Rattle.alias_classes.specs.Frame.{AgreeOnClasses, KeepsOtherClasses};
 ghost use Rattle.alias_classes.specs.Needs.{Hits, ExecNeeds};
+ghost use Rattle.alias_classes.specs.Number.{number_of_classes};
 
 use f77_tree::{accesses_stay_in_their_names, executables_keep_the_rest, reads_decide};
 
 /// A program has one table of classes.
 pub fn one_numbering()
     ensures { (p : Program) (t other : ClassTable) → IsClasses p t → IsClasses p other → t ≡ other }
+{}
+
+/// A program has as many classes as words that are the first of their class, and DOs.
+pub fn classes_are_counted()
+    ensures { (p : Program) (t : ClassTable) → IsClasses p t → class_count t ≡ number_of_classes p }
 {}
 
 /// Each word of a name has a class from 1 to the number of classes of words. Different DOs have different classes, which
