@@ -1,20 +1,20 @@
 -- While a run stays in a region that is quiet for the line of output, each round lowers a count.
-use Rattle.std.proofs.Common.{◌≡◌, ◌≢◌, ℕ, zero, suc, ◌+◌, ◌-◌, ◌<◌, ◌≤◌, ◌⊎◌, ℤ, Bool, true, false, cond, nat_lt, ◌&&◌, ◌||◌, not, List, [], ◌∷◌, Option, Some, None, slice_get, slice_index, refl, sym, ap, ◌∙◌, subst, inl, inr, ⊎_elim, arith}
-use Rattle.std.proofs.lemmas.Bool.{cases_Bool, cases_eq, cases_lt, and_parts, or_from, eqb-true, eq-eqb, ltb-true, false≢true}
-use Rattle.closed_walks.specs.Graph.{Graph, edge_count, from, to}
+use Rattle.std.proofs.Common.{◌≡◌, ◌≢◌, ℕ, zero, suc, ◌+◌, ◌-◌, ◌<◌, ◌≤◌, ◌⊎◌, ℤ, Bool, true, false, cond, nat_lt, ◌&&◌, not, List, [], ◌∷◌, Option, Some, None, slice_get, slice_index, refl, sym, ap, ◌∙◌, subst, inl, inr, ⊎_elim, arith}
+use Rattle.std.proofs.lemmas.Bool.{cases_Bool, cases_lt, and_parts, or_from, eqb-true, eq-eqb, ltb-true, false≢true}
+use Rattle.closed_walks.specs.Graph.{Graph, edge_count, from}
 use Rattle.closed_walks.specs.Walk.{Walk, Avoids}
 use Rattle.f77_tree.specs.declared.programs.ExecKind.{ExecKind}
 use Rattle.f77_tree.specs.declared.programs.Program.{Program}
-use Rattle.f77_tree.specs.Loops.{Loop, begun, begun_in, incremented_at, is_number, do_start, do_next, InRange, IsLoop}
+use Rattle.f77_tree.specs.Loops.{Loop, begun, begun_in, incremented_at, is_number, do_start, do_next, IsLoop}
 use Rattle.f77_tree.specs.Run.{Mark, Running, Ended, Trapped}
 use Rattle.cfg_build.specs.declared.pieces.PieceKind.{PieceKind}
 use Rattle.cfg_build.specs.declared.pieces.PieceKind.TheVariants as piece
 use Rattle.cfg_build.specs.Flow.{flow}
 use Rattle.cfg_build.specs.Passes.{out, pass, PassState, after_pass, line_at, passed_from, passes}
-use Rattle.cfg_build.specs.Zones.{exec_at, IsInBody, test_of, IsTest, IsPlain, IsWayIn, IsJoinOfTest, IsAtTest}
+use Rattle.cfg_build.specs.Zones.{exec_at, IsInBody, IsTest, IsPlain, IsWayIn, IsJoinOfTest, IsAtTest}
 use Rattle.dep_routing.specs.Sound.{comes_to}
-use Rattle.dep_routing.specs.Touches.{piece_kind, exec_kind, is_increment, ends_rounds}
-use Rattle.dep_routing.proofs.Circles.{increments, IsIncrement, increment_is, IsPlace, increment_inside, plain, stays, bars, no_circle}
+use Rattle.dep_routing.specs.Touches.{piece_kind, exec_kind}
+use Rattle.dep_routing.proofs.Circles.{increments, IsIncrement, increment_is, IsPlace, increment_inside, plain, bars, no_circle}
 use Rattle.dep_routing.proofs.Counting.{begun_of, Keep, count_kept, count_lowered, tested_edge, memory_is, edge_is, begun_kind}
 use Rattle.dep_routing.proofs.Rounds.{any_one, IsRound}
 
