@@ -4,6 +4,7 @@ use Rattle.std.proofs.lemmas.Bool.{cases_Bool, and_from, and_cases, not-true, or
 use Rattle.op_table.specs.Words.{IsWord}
 use Rattle.op_table.specs.declared.Trap.{Trap}
 use Rattle.closed_walks.specs.Graph.{Graph, from, to}
+use Rattle.closed_walks.specs.Reaching.{any_below}
 use Rattle.closed_walks.specs.Walk.{Walk, Avoids}
 use Rattle.f77_tree.specs.declared.programs.ExecKind.TheVariants as exec
 use Rattle.f77_tree.specs.declared.programs.Program.{Program}
@@ -28,7 +29,7 @@ use Rattle.dep_routing.proofs.Cycles.{no_cycle}
 use Rattle.dep_routing.proofs.Ending.{done_at}
 use Rattle.dep_routing.proofs.Quietness.{goes_on}
 use Rattle.dep_routing.proofs.Repeats.{Repeats, repeats}
-use Rattle.dep_routing.proofs.Rounds.{IsFirst, first_of_one, some_or_none, any_one, none_passes, stops, goes_away}
+use Rattle.dep_routing.proofs.Rounds.{IsFirst, first_of_one, some_or_none, none_passes, stops, goes_away}
 use Rattle.dep_routing.proofs.Staying.{is_running, IsWalk, on, count, incs, runs, is_inside, passed, way, way_leads, way_avoids, falls}
 
 -- ---- what the list of touches marks
@@ -101,13 +102,13 @@ module _ (p : Program) (t : Tree) (touches : ℕ → ℕ → Bool) (known : IsKn
   -- without increments a run doesn't stay
   module _ (n : ℕ) (none : (i : ℕ) → n ≤ i → i < n + suc (flow p.execs).graph.nodes → stop p.loops i ≡ false) where
     stays_on : (i : ℕ) → n ≤ i → i < n + suc (flow p.execs).graph.nodes → stays_at i ≡ true
-    stays_on i low high = not-false (stays_at i) (or_parts (not (stays_at i)) (any_one (λ j. inc_at j i) p.loops) (none i low high)).0
+    stays_on i low high = not-false (stays_at i) (or_parts (not (stays_at i)) (any_below p.loops (λ j. inc_at j i)) (none i low high)).0
 
     no_increment : (i : ℕ) → n ≤ i → i < n + suc (flow p.execs).graph.nodes → is_increment p (comes_to p input i) ≡ false
     no_increment i low high = ⊎_elim
         (λ (h : is_increment p (comes_to p input i) ≡ true).
         let k = some_increment p known.well.loops_nest (comes_to p input i) h in
-        absurd (false≢true (sym (none_passes (λ j. inc_at j i) p.loops k.0 (or_parts (not (stays_at i)) (any_one (λ j. inc_at j i) p.loops) (none i low high)).1 k.1) ∙ k.2)))
+        absurd (false≢true (sym (none_passes (λ j. inc_at j i) p.loops k.0 (or_parts (not (stays_at i)) (any_below p.loops (λ j. inc_at j i)) (none i low high)).1 k.1) ∙ k.2)))
         (λ h. h)
         (cases_Bool (is_increment p (comes_to p input i)))
 
