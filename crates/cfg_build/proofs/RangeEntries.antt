@@ -1,7 +1,7 @@
 -- The range of a DO is entered from its test alone, and its increment leads back to that.
-use Rattle.std.proofs.Common.{◌≡◌, ◌≢◌, ℕ, zero, suc, ◌+◌, ◌<◌, ◌≤◌, ◌⊎◌, Bool, true, false, cond, nat_lt, ◌&&◌, List, [], ◌∷◌, ◌++◌, length, get_or, map, Contains, Option, Some, None, slice_get, refl, sym, ap, ◌∙◌, subst, inl, inr, ⊎_elim, arith}
-use Rattle.std.proofs.lemmas.Bool.{cases_Bool, cases_lt, cond-true, cond-false, false≢true}
-use Rattle.closed_walks.specs.Graph.{Graph, edge_count, from, to}
+use Rattle.std.proofs.Common.{◌≡◌, ◌≢◌, ℕ, zero, suc, ◌+◌, ◌<◌, ◌≤◌, Bool, true, false, cond, nat_lt, ◌&&◌, List, [], ◌∷◌, ◌++◌, length, get_or, map, Contains, Option, Some, None, slice_get, refl, sym, ap, ◌∙◌, subst, inl, inr, ⊎_elim, arith}
+use Rattle.std.proofs.lemmas.Bool.{cases_Bool, cases_lt, cond-false, false≢true}
+use Rattle.closed_walks.specs.Graph.{edge_count, from, to}
 use Rattle.f77_tree.specs.declared.programs.Exec.{Exec}
 use Rattle.f77_tree.specs.declared.programs.ExecKind.{ExecKind}
 use Rattle.f77_tree.specs.declared.programs.ExecKind.TheVariants.{Assign, Print, Pass, Test as Testing, Sign, Pick, DoStart, DoNext, End}
@@ -15,29 +15,29 @@ use Rattle.cfg_build.specs.declared.parts.Target.TheVariants.{Start, First, Test
 use Rattle.cfg_build.specs.declared.pieces.Piece.{Piece}
 use Rattle.cfg_build.specs.declared.pieces.PieceKind.{PieceKind}
 use Rattle.cfg_build.specs.declared.pieces.PieceKind.TheVariants as piece
-use Rattle.cfg_build.specs.Parts.{part, parts, parts_of, start_part, end_part, last_of}
-use Rattle.cfg_build.specs.Joined.{rows, finish, is_joined, is_end, ways_to, number, join_row}
+use Rattle.cfg_build.specs.Parts.{part, parts, parts_of, start_part, end_part}
+use Rattle.cfg_build.specs.Joined.{rows, finish, is_joined, is_end, ways_to, number}
 use Rattle.cfg_build.specs.Holds.{is_join}
-use Rattle.cfg_build.specs.Flow.{flow, piece_at}
+use Rattle.cfg_build.specs.Flow.{flow}
 use Rattle.cfg_build.specs.Passes.{out, kind_in}
 use Rattle.cfg_build.specs.Shape.{kind_at, IsShaped}
-use Rattle.cfg_build.specs.Zones.{exec_at, IsInBody, test_of, IsTest, IsPlain, IsWayIn, IsJoinOfTest, IsAtTest}
+use Rattle.cfg_build.specs.Zones.{exec_at, IsInBody, IsTest, IsPlain, IsWayIn, IsAtTest}
 use Rattle.cfg_build.proofs.Members.{Member, Member-at, Contains-from_Member}
 use Rattle.cfg_build.proofs.ReachedNodes.{IsTold}
 use Rattle.cfg_build.proofs.Lowest.{IsMet}
-use Rattle.cfg_build.proofs.JoinedGraph.{row_graph, IsPartAt, place_of_part, number_of}
+use Rattle.cfg_build.proofs.JoinedGraph.{IsPartAt, place_of_part, number_of}
 use Rattle.cfg_build.proofs.EndNumber.{end_is_last}
 use Rattle.cfg_build.proofs.InDegrees.{same_first}
 use Rattle.cfg_build.proofs.OutEdges.{first_out}
-use Rattle.cfg_build.proofs.PieceKinds.{pieces_of, piece_of_join, piece_of_part}
+use Rattle.cfg_build.proofs.PieceKinds.{piece_of_join, piece_of_part}
 use Rattle.cfg_build.proofs.PieceNumbers.{part_at, first_piece, own_piece, joins, own_below, first_below, IsPieceOf, piece_of}
 use Rattle.cfg_build.proofs.PartsFound.{IsWay, To, Begins, Increments, ways_in, IsExecPart, cases_part, test_part, HasPart}
 use Rattle.cfg_build.proofs.ReachedPieces.{apart, leads}
 use Rattle.cfg_build.proofs.PartRoutes.{own_plain, old_kind}
-use Rattle.cfg_build.proofs.LastPieces.{IsPlaced, own_out}
+use Rattle.cfg_build.proofs.LastPieces.{own_out}
 use Rattle.cfg_build.proofs.Shaped.{shaped}
 use Rattle.cfg_build.proofs.Strong.{flow_graph}
-use Rattle.cfg_build.proofs.PlainEdges.{IsOld, plain_old, IsOldWay, Back, Joins, Way, old_way}
+use Rattle.cfg_build.proofs.PlainEdges.{plain_old, IsOldWay, Back, Joins, Way, old_way}
 
 -- ---- parts of an executable
 

@@ -1,15 +1,16 @@
 -- In a region that is quiet for the line of output no way leads from the test of a DO back to it but by an increment of that DO, or of
 -- one that begins before it.
-use Rattle.std.proofs.Common.{◌≡◌, ◌≢◌, ℕ, zero, suc, ◌<◌, ◌≤◌, ◌⊎◌, Bool, true, false, ◌||◌, not, ◌==◌, List, [], ◌∷◌, ◌++◌, Option, Some, None, slice_get, refl, sym, ap, ◌∙◌, subst, inl, inr, ⊎_elim, arith}
-use Rattle.std.proofs.lemmas.Bool.{cases_Bool, cases_lt, or_parts, or_from, not-false, not-true, eqb-true, eq-eqb, false≢true, ne_eqb}
+use Rattle.std.proofs.Common.{◌≡◌, ◌≢◌, ℕ, suc, ◌<◌, ◌≤◌, ◌⊎◌, Bool, true, false, ◌||◌, not, ◌==◌, List, [], ◌∷◌, ◌++◌, Option, Some, None, slice_get, refl, sym, ap, ◌∙◌, subst, inl, inr, ⊎_elim, arith}
+use Rattle.std.proofs.lemmas.Bool.{cases_Bool, cases_lt, or_parts, or_from, not-false, eqb-true, eq-eqb, false≢true, ne_eqb}
 use Rattle.closed_walks.specs.Cycling.{IsOnCycle}
 use Rattle.closed_walks.specs.Graph.{Graph, IsGraph, edge_count, from, to}
+use Rattle.closed_walks.specs.Reaching.{any_below}
 use Rattle.closed_walks.specs.Walk.{Walk, Avoids, Reach}
 use Rattle.f77_tree.specs.declared.programs.Exec.{Exec}
 use Rattle.f77_tree.specs.declared.programs.ExecKind.{ExecKind}
 use Rattle.f77_tree.specs.declared.programs.ExecKind.TheVariants as exec
 use Rattle.f77_tree.specs.declared.programs.Program.{Program}
-use Rattle.f77_tree.specs.Loops.{Loop, incremented, incremented_in, incremented_at, is_number, do_start, do_next, InRange, IsLoop, AreLoops}
+use Rattle.f77_tree.specs.Loops.{Loop, incremented, incremented_in, incremented_at, is_number, do_start, do_next, IsLoop, AreLoops}
 use Rattle.cfg_build.specs.declared.pieces.PieceKind.{PieceKind}
 use Rattle.cfg_build.specs.declared.pieces.PieceKind.TheVariants as piece
 use Rattle.cfg_build.specs.Flow.{flow}
@@ -17,7 +18,7 @@ use Rattle.cfg_build.specs.Passes.{kind_in}
 use Rattle.cfg_build.specs.Shape.{kind_at}
 use Rattle.cfg_build.specs.Zones.{exec_at, IsInBody, test_of, IsTest, IsPlain, IsWayIn, IsJoinOfTest, IsAtTest}
 use Rattle.dep_routing.specs.Touches.{piece_kind, exec_kind, is_increment_kind, is_increment, ends_rounds}
-use Rattle.dep_routing.proofs.Rounds.{any_one, none_passes}
+use Rattle.dep_routing.proofs.Rounds.{none_passes}
 
 -- ---- walks
 
@@ -173,7 +174,7 @@ module _ (p : Program) (inside : ℕ → Bool) (place : IsPlace p inside) where
 
   -- edges that leave the place, or increments of the DOs up to k
   abbrev pub bars : (k : ℕ) → ℕ → Bool
-  bars k e = not (inside (to (flow p.execs).graph e)) || any_one (λ j. increments p j (from (flow p.execs).graph e)) (suc k)
+  bars k e = not (inside (to (flow p.execs).graph e)) || any_below (suc k) (λ j. increments p j (from (flow p.execs).graph e))
 
   module _ (k v : ℕ) (fresh : (n : ℕ) → k < n → n < p.loops → IsInBody p.execs n v → ⊥) (here : inside v ≡ true) where
     -- the node, or a join that leads to y alone
@@ -223,7 +224,7 @@ module _ (p : Program) (inside : ℕ → Bool) (place : IsPlace p inside) where
     come : (w : List ℕ) (z u : ℕ) → Walk (flow p.execs).graph z w u → Avoids (bars k) w → inside z ≡ true → IsCome z → IsCome u
     come [] z u leads avoids at c = subst (λ x. IsCome x) leads c
     come (d ∷ w) z u leads avoids at c =
-        let both = or_parts (not (inside (to g d))) (any_one (λ j. increments p j (from g d)) (suc k)) avoids.0 in
+        let both = or_parts (not (inside (to g d))) (any_below (suc k) (λ j. increments p j (from g d))) avoids.0 in
         let ends : inside (to g d) ≡ true = not-false (inside (to g d)) both.0 in
         let high : (j : ℕ) → j < suc k → increments p j (from g d) ≡ false = λ j less. none_passes (λ x. increments p x (from g d)) (suc k) j both.1 less in
         come w (to g d) u leads.2 avoids.1 ends
@@ -232,7 +233,7 @@ module _ (p : Program) (inside : ℕ → Bool) (place : IsPlace p inside) where
   -- there is no way back to the test
   pub no_circle : (k v : ℕ) → k < p.loops → IsTest p.execs k v → inside v ≡ true → (d : ℕ) (w : List ℕ) → Walk (flow p.execs).graph v (d ∷ w) v → Avoids (bars k) (d ∷ w) → ⊥
   no_circle k v few test here d w leads avoids =
-      let both = or_parts (not (inside (to g d))) (any_one (λ j. increments p j (from g d)) (suc k)) avoids.0 in
+      let both = or_parts (not (inside (to g d))) (any_below (suc k) (λ j. increments p j (from g d))) avoids.0 in
       let ends : inside (to g d) ≡ true = not-false (inside (to g d)) both.0 in
       let begins : inside (from g d) ≡ true = ap inside leads.1 ∙ here in
       let r : IsCome k (to g d) (fresh ends begins) ends v = come k (to g d) (fresh ends begins) ends w (to g d) v leads.2 avoids.1 ends (record { y = to g d; reach = record { walk = []; leads = refl; avoids = tt }; lands = inl refl }) in

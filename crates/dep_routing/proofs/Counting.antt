@@ -1,5 +1,5 @@
 -- What a pass does to the counts of DOs, and where the test of a DO leads.
-use Rattle.std.proofs.Common.{◌≡◌, ◌≢◌, ℕ, zero, suc, ◌-◌, ◌<◌, ◌≤◌, ℤ, Bool, true, false, cond, ◌==◌, nat_lt, List, length, Option, Some, None, Result, Ok, Err, slice_get, slice_index, slice_set, unwrap_or, refl, sym, ap, ◌∙◌, ⊎_elim, get_or-set_same, arith}
+use Rattle.std.proofs.Common.{◌≡◌, ℕ, ◌-◌, ◌<◌, ◌≤◌, ℤ, true, false, cond, nat_lt, List, length, Option, Some, None, Result, Ok, Err, slice_get, slice_index, slice_set, unwrap_or, refl, sym, ap, ◌∙◌, ⊎_elim, get_or-set_same, arith}
 use Rattle.std.proofs.lemmas.Bool.{cases_lt, eqb-true, eq-eqb, false≢true}
 use Rattle.std.proofs.lemmas.List.{get_or_past, set_past}
 use Rattle.std.proofs.lemmas.Option.{unwrap_or-slice_get}

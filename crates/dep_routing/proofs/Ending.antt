@@ -1,5 +1,5 @@
 -- A pass that ends the run is that of the end.
-use Rattle.std.proofs.Common.{◌≡◌, ◌≢◌, ℕ, ◌+◌, ◌⊎◌, ℤ, pos, Bool, true, false, cond, if◌then◌else◌, List, length, Result, Ok, Err, refl, sym, ap, ◌∙◌, inl, inr}
+use Rattle.std.proofs.Common.{◌≡◌, ◌≢◌, ℕ, ◌+◌, ℤ, pos, Bool, true, false, cond, if◌then◌else◌, List, length, Result, Ok, Err, refl, sym, ◌∙◌}
 use Rattle.std.proofs.lemmas.Bool.{false≢true}
 use Rattle.std.specs.Ordering.{int_eq}
 use Rattle.op_table.specs.declared.Trap.{Trap}
@@ -14,7 +14,7 @@ use Rattle.f77_tree.specs.Line.{line_of}
 use Rattle.f77_tree.specs.Value.{value, place, place_of}
 use Rattle.cfg_build.specs.declared.pieces.PieceKind.{PieceKind}
 use Rattle.cfg_build.specs.declared.pieces.PieceKind.TheVariants as piece
-use Rattle.cfg_build.specs.Passes.{Passed, Along, Traps, Done, acted, branched, choice, pass_of}
+use Rattle.cfg_build.specs.Passes.{Done, acted, branched, choice, pass_of}
 
 abbrev ends : Outcome → Bool
 ends (Goes next memory text) = false

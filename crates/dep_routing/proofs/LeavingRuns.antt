@@ -1,14 +1,15 @@
 -- A run leaves each region that is quiet for the line of output.
-use Rattle.std.proofs.Common.{◌≡◌, ◌≢◌, ℕ, zero, suc, ◌+◌, ◌-◌, ◌<◌, ◌≤◌, ◌⊎◌, ◌↔◌, ℤ, Bool, true, false, ◌&&◌, ◌||◌, not, List, [], ◌∷◌, All, refl, sym, ap, ◌∙◌, subst, inl, inr, ⊎_elim, arith}
+use Rattle.std.proofs.Common.{◌≡◌, ◌≢◌, ℕ, zero, suc, ◌+◌, ◌-◌, ◌<◌, ◌≤◌, ◌⊎◌, ◌↔◌, ℤ, Bool, true, false, not, List, All, refl, sym, ap, ◌∙◌, subst, inl, inr, ⊎_elim, arith}
 use Rattle.std.proofs.lemmas.Bool.{cases_Bool, and_from, and_cases, not-true, or_parts, not-false, false≢true}
 use Rattle.op_table.specs.Words.{IsWord}
 use Rattle.op_table.specs.declared.Trap.{Trap}
-use Rattle.closed_walks.specs.Graph.{Graph, edge_count, from, to}
+use Rattle.closed_walks.specs.Graph.{Graph, from, to}
+use Rattle.closed_walks.specs.Reaching.{any_below}
 use Rattle.closed_walks.specs.Walk.{Walk, Avoids}
 use Rattle.f77_tree.specs.declared.programs.ExecKind.TheVariants as exec
 use Rattle.f77_tree.specs.declared.programs.Program.{Program}
 use Rattle.f77_tree.specs.Execution.{Memory}
-use Rattle.f77_tree.specs.Run.{Mark, Running, Ended, Trapped}
+use Rattle.f77_tree.specs.Run.{Running, Ended}
 use Rattle.f77_tree.specs.WellFormed.{AreExecs}
 use Rattle.alias_classes.specs.Classes.{ClassTable}
 use Rattle.cfg_build.specs.declared.pieces.PieceKind.TheVariants as piece
@@ -21,15 +22,15 @@ use Rattle.dep_routing.specs.Facts.{TreeFacts}
 use Rattle.dep_routing.specs.Leaving.{MarksTraps, MarksStays}
 use Rattle.dep_routing.specs.Quiet.{IsQuiet}
 use Rattle.dep_routing.specs.Sound.{comes_to, DoesTrap, IsLeftBy}
-use Rattle.dep_routing.specs.Touches.{piece_kind, exec_kind, is_increment, ends_rounds, KindNeedsOut, AreTouches}
-use Rattle.dep_routing.proofs.Circles.{increments, some_increment, Enters, Returns, IsPlace, ends_stay, stays}
+use Rattle.dep_routing.specs.Touches.{piece_kind, exec_kind, is_increment, KindNeedsOut, AreTouches}
+use Rattle.dep_routing.proofs.Circles.{some_increment, Enters, Returns, IsPlace, ends_stay, stays}
 use Rattle.dep_routing.proofs.Counting.{Keep}
 use Rattle.dep_routing.proofs.Cycles.{no_cycle}
 use Rattle.dep_routing.proofs.Ending.{done_at}
 use Rattle.dep_routing.proofs.Quietness.{goes_on}
 use Rattle.dep_routing.proofs.Repeats.{Repeats, repeats}
-use Rattle.dep_routing.proofs.Rounds.{IsFirst, first_of_one, some_or_none, any_one, none_passes, stops, goes_away}
-use Rattle.dep_routing.proofs.Staying.{is_running, IsWalk, x, edge, on, count, incs, runs, is_inside, passed, way, way_leads, way_avoids, falls}
+use Rattle.dep_routing.proofs.Rounds.{IsFirst, first_of_one, some_or_none, none_passes, stops, goes_away}
+use Rattle.dep_routing.proofs.Staying.{is_running, IsWalk, on, count, incs, runs, is_inside, passed, way, way_leads, way_avoids, falls}
 
 -- ---- what the list of touches marks
 
@@ -101,13 +102,13 @@ module _ (p : Program) (t : Tree) (touches : ℕ → ℕ → Bool) (known : IsKn
   -- without increments a run doesn't stay
   module _ (n : ℕ) (none : (i : ℕ) → n ≤ i → i < n + suc (flow p.execs).graph.nodes → stop p.loops i ≡ false) where
     stays_on : (i : ℕ) → n ≤ i → i < n + suc (flow p.execs).graph.nodes → stays_at i ≡ true
-    stays_on i low high = not-false (stays_at i) (or_parts (not (stays_at i)) (any_one (λ j. inc_at j i) p.loops) (none i low high)).0
+    stays_on i low high = not-false (stays_at i) (or_parts (not (stays_at i)) (any_below p.loops (λ j. inc_at j i)) (none i low high)).0
 
     no_increment : (i : ℕ) → n ≤ i → i < n + suc (flow p.execs).graph.nodes → is_increment p (comes_to p input i) ≡ false
     no_increment i low high = ⊎_elim
         (λ (h : is_increment p (comes_to p input i) ≡ true).
         let k = some_increment p known.well.loops_nest (comes_to p input i) h in
-        absurd (false≢true (sym (none_passes (λ j. inc_at j i) p.loops k.0 (or_parts (not (stays_at i)) (any_one (λ j. inc_at j i) p.loops) (none i low high)).1 k.1) ∙ k.2)))
+        absurd (false≢true (sym (none_passes (λ j. inc_at j i) p.loops k.0 (or_parts (not (stays_at i)) (any_below p.loops (λ j. inc_at j i)) (none i low high)).1 k.1) ∙ k.2)))
         (λ h. h)
         (cases_Bool (is_increment p (comes_to p input i)))
 

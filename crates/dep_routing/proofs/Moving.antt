@@ -1,5 +1,5 @@
 -- A run that leaves the regions that are quiet for the line of output comes to nodes that are free for it.
-use Rattle.std.proofs.Common.{◌≡◌, ◌≢◌, ℕ, zero, suc, ◌+◌, ◌<◌, ◌≤◌, ◌⊎◌, ℤ, Bool, List, All, refl, sym, ap, ◌∙◌, subst, inl, inr, ⊎_elim, arith}
+use Rattle.std.proofs.Common.{◌≡◌, ◌≢◌, ℕ, zero, suc, ◌+◌, ◌<◌, ◌≤◌, ◌⊎◌, ℤ, Bool, List, All, sym, ap, ◌∙◌, subst, inl, inr, ⊎_elim, arith}
 use Rattle.op_table.specs.Words.{IsWord}
 use Rattle.closed_walks.specs.Graph.{Graph, edge_count, from, to}
 use Rattle.f77_tree.specs.declared.programs.Program.{Program}

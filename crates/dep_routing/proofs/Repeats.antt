@@ -1,6 +1,6 @@
 -- Of more times than there are places, two are at the same place.
 use Rattle.std.proofs.Common.{◌≡◌, ◌≢◌, ℕ, zero, suc, ◌<◌, ◌≤◌, ◌⊎◌, Bool, true, false, cond, ◌==◌, sym, ap, ◌∙◌, inl, inr, ⊎_elim, arith}
-use Rattle.std.proofs.lemmas.Bool.{cases_Bool, cases_eq, cond-true, cond-false, eqb-true, eqb-false, eq-eqb}
+use Rattle.std.proofs.lemmas.Bool.{cases_Bool, cases_eq, cond-true, cond-false, eqb-true, eqb-false}
 
 pub record Repeats (f : ℕ → ℕ) (times : ℕ) : Type 0 where
   pub one : ℕ
@@ -9,6 +9,10 @@ pub record Repeats (f : ℕ → ℕ) (times : ℕ) : Type 0 where
   pub within : other ≤ times
   pub same : f one ≡ f other
 
+lower : (a n : ℕ) → a < suc n → (a ≡ n → ⊥) → a < n
+lower a n less apart = grind (arith, less, apart)
+
+-- a test holds of one of the numbers below n, or of none
 search : (n : ℕ) (test : ℕ → Bool) → ((m : ℕ) × (m < n) × (test m ≡ true)) ⊎ ((i : ℕ) → i < n → test i ≡ false)
 search zero test = inr (λ i less. absurd (omega (arith, less)))
 search (suc n) test = ⊎_elim
@@ -21,9 +25,6 @@ search (suc n) test = ⊎_elim
     (cases_eq i n)))
     (cases_Bool (test n)))
     (search n test)
-  where
-    lower : (i n : ℕ) → i < suc n → (i ≡ n → ⊥) → i < n
-    lower i n less apart = grind (arith, less, apart)
 
 apart : (f : ℕ → ℕ) (i j : ℕ) → (f i == f j) ≡ false → f i ≢ f j
 apart f i j h = eqb-false (f i) (f j) h
@@ -31,9 +32,6 @@ apart f i j h = eqb-false (f i) (f j) h
 -- the highest place stands for that of the last time
 abbrev moved : ℕ → (ℕ → ℕ) → ℕ → ℕ
 moved n f i = cond (f i == n) (f (suc n)) (f i)
-
-lower : (a n : ℕ) → a < suc n → (a ≡ n → ⊥) → a < n
-lower a n less apart = grind (arith, less, apart)
 
 moved_below : (n : ℕ) (f : ℕ → ℕ) (i : ℕ) → f i < suc n → f (suc n) < suc n → f i ≢ f (suc n) → moved n f i < n
 moved_below n f i here last apart = ⊎_elim

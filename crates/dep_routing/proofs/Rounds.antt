@@ -1,6 +1,7 @@
 -- A run whose stay somewhere consists of rounds, each of which lowers a count, goes away from there.
-use Rattle.std.proofs.Common.{◌≡◌, ℕ, zero, suc, ◌+◌, ◌-◌, ◌<◌, ◌≤◌, ◌⊎◌, Bool, true, false, ◌||◌, not, refl, sym, ap, ◌∙◌, subst, inl, inr, ⊎_elim, arith}
+use Rattle.std.proofs.Common.{◌≡◌, ℕ, zero, suc, ◌+◌, ◌-◌, ◌<◌, ◌≤◌, ◌⊎◌, Bool, true, false, ◌||◌, not, sym, ap, ◌∙◌, subst, inl, inr, ⊎_elim, arith}
 use Rattle.std.proofs.lemmas.Bool.{cases_Bool, cases_eq, or_cases, or_parts, or_left, or_right, not-false, false≢true}
+use Rattle.closed_walks.specs.Reaching.{any_below}
 
 -- the first time from n on at which a test holds
 pub record IsFirst (test : ℕ → Bool) (n : ℕ) : Type 0 where
@@ -49,40 +50,28 @@ some_or_none test n (suc d) = ⊎_elim
     below : (i m : ℕ) → i < suc m → (i ≡ m → ⊥) → i < m
     below i m high apart = grind (arith, high, apart)
 
--- one of the numbers below k passes
-abbrev pub any_one : (ℕ → Bool) → ℕ → Bool
-any_one test zero = false
-any_one test (suc k) = any_one test k || test k
-
-pub any_passes : (test : ℕ → Bool) (k j : ℕ) → j < k → test j ≡ true → any_one test k ≡ true
+pub any_passes : (test : ℕ → Bool) (k j : ℕ) → j < k → test j ≡ true → any_below k test ≡ true
 any_passes test zero j less is = absurd (omega (arith, less))
 any_passes test (suc k) j less is = ⊎_elim
-    (λ (same : j ≡ k). or_right (any_one test k) (test k) (ap test (sym same) ∙ is))
-    (λ (apart : j ≡ k → ⊥). or_left (any_one test k) (test k) (any_passes test k j (below j k less apart) is))
+    (λ (same : j ≡ k). or_right (any_below k test) (test k) (ap test (sym same) ∙ is))
+    (λ (apart : j ≡ k → ⊥). or_left (any_below k test) (test k) (any_passes test k j (below j k less apart) is))
     (cases_eq j k)
   where
     below : (i m : ℕ) → i < suc m → (i ≡ m → ⊥) → i < m
     below i m high apart = grind (arith, high, apart)
 
-pub none_passes : (test : ℕ → Bool) (k j : ℕ) → any_one test k ≡ false → j < k → test j ≡ false
+pub none_passes : (test : ℕ → Bool) (k j : ℕ) → any_below k test ≡ false → j < k → test j ≡ false
 none_passes test k j none less = ⊎_elim
     (λ (is : test j ≡ true). absurd (false≢true (sym none ∙ any_passes test k j less is)))
     (λ is_not. is_not)
     (cases_Bool (test j))
-
-pub which_passes : (test : ℕ → Bool) (k : ℕ) → any_one test k ≡ true → (j : ℕ) × (j < k) × (test j ≡ true)
-which_passes test zero h = absurd (false≢true h)
-which_passes test (suc k) h = ⊎_elim
-    (λ (some : any_one test k ≡ true). let r = which_passes test k some in (r.0, omega (arith, r.1), r.2))
-    (λ (here : test k ≡ true). (k, omega arith, here))
-    (or_cases (any_one test k) (test k) h)
 
 -- ---- rounds
 
 module _ (loops : ℕ) (on : ℕ → Bool) (increments : (k i : ℕ) → Bool) (count : (k i : ℕ) → ℕ) where
   -- the run is away at this time, or increments one of the loops below k
   abbrev pub stops : (k i : ℕ) → Bool
-  stops k i = not (on i) || any_one (λ j. increments j i) k
+  stops k i = not (on i) || any_below k (λ j. increments j i)
 
   -- The loop k is incremented twice, at first and at last, and the run stays meanwhile, and increments neither k nor a loop below.
   pub record IsRound (k n m : ℕ) : Type 0 where
@@ -95,20 +84,20 @@ module _ (loops : ℕ) (on : ℕ → Bool) (increments : (k i : ℕ) → Bool) (
   module _ (falls : (k n m : ℕ) → k < loops → IsRound k n m → count k m < count k n) where
     not_stopped : (k i : ℕ) → stops k i ≡ false → (on i ≡ true) × ((j : ℕ) → j < k → increments j i ≡ false)
     not_stopped k i h =
-        let both = or_parts (not (on i)) (any_one (λ j. increments j i) k) h in
+        let both = or_parts (not (on i)) (any_below k (λ j. increments j i)) h in
         (not-false (on i) both.0, λ j less. none_passes (λ x. increments x i) k j both.1 less)
 
     -- stopped by k and no other
     stopped_by : (k i : ℕ) → stops (suc k) i ≡ true → stops k i ≡ false → increments k i ≡ true
     stopped_by k i more less =
-        let h = or_parts (not (on i)) (any_one (λ j. increments j i) k) less in
+        let h = or_parts (not (on i)) (any_below k (λ j. increments j i)) less in
         ⊎_elim
         (λ (away : not (on i) ≡ true). absurd (false≢true (sym h.0 ∙ away)))
-        (λ (one : (any_one (λ j. increments j i) k || increments k i) ≡ true). ⊎_elim
-        (λ (low : any_one (λ j. increments j i) k ≡ true). absurd (false≢true (sym h.1 ∙ low)))
+        (λ (one : (any_below k (λ j. increments j i) || increments k i) ≡ true). ⊎_elim
+        (λ (low : any_below k (λ j. increments j i) ≡ true). absurd (false≢true (sym h.1 ∙ low)))
         (λ here. here)
-        (or_cases (any_one (λ j. increments j i) k) (increments k i) one))
-        (or_cases (not (on i)) (any_one (λ j. increments j i) k || increments k i) more)
+        (or_cases (any_below k (λ j. increments j i)) (increments k i) one))
+        (or_cases (not (on i)) (any_below k (λ j. increments j i) || increments k i) more)
 
     module _ (k : ℕ) (few : k < loops) (inner : (n : ℕ) → IsFirst (stops (suc k)) n) where
       -- by the count at an increment of k

@@ -1,22 +1,23 @@
 -- While a run stays in a region that is quiet for the line of output, each round lowers a count.
-use Rattle.std.proofs.Common.{◌≡◌, ◌≢◌, ℕ, zero, suc, ◌+◌, ◌-◌, ◌<◌, ◌≤◌, ◌⊎◌, ℤ, Bool, true, false, cond, nat_lt, ◌&&◌, ◌||◌, not, List, [], ◌∷◌, Option, Some, None, slice_get, slice_index, refl, sym, ap, ◌∙◌, subst, inl, inr, ⊎_elim, arith}
-use Rattle.std.proofs.lemmas.Bool.{cases_Bool, cases_eq, cases_lt, and_parts, or_from, eqb-true, eq-eqb, ltb-true, false≢true}
-use Rattle.closed_walks.specs.Graph.{Graph, edge_count, from, to}
+use Rattle.std.proofs.Common.{◌≡◌, ◌≢◌, ℕ, zero, suc, ◌+◌, ◌-◌, ◌<◌, ◌≤◌, ◌⊎◌, ℤ, Bool, true, false, cond, nat_lt, ◌&&◌, not, List, [], ◌∷◌, Option, Some, None, slice_get, slice_index, refl, sym, ap, ◌∙◌, subst, inl, inr, ⊎_elim, arith}
+use Rattle.std.proofs.lemmas.Bool.{cases_Bool, cases_lt, and_parts, or_from, eqb-true, eq-eqb, ltb-true, false≢true}
+use Rattle.closed_walks.specs.Graph.{Graph, edge_count, from}
+use Rattle.closed_walks.specs.Reaching.{any_below}
 use Rattle.closed_walks.specs.Walk.{Walk, Avoids}
 use Rattle.f77_tree.specs.declared.programs.ExecKind.{ExecKind}
 use Rattle.f77_tree.specs.declared.programs.Program.{Program}
-use Rattle.f77_tree.specs.Loops.{Loop, begun, begun_in, incremented_at, is_number, do_start, do_next, InRange, IsLoop}
+use Rattle.f77_tree.specs.Loops.{Loop, begun, begun_in, incremented_at, is_number, do_start, do_next, IsLoop}
 use Rattle.f77_tree.specs.Run.{Mark, Running, Ended, Trapped}
 use Rattle.cfg_build.specs.declared.pieces.PieceKind.{PieceKind}
 use Rattle.cfg_build.specs.declared.pieces.PieceKind.TheVariants as piece
 use Rattle.cfg_build.specs.Flow.{flow}
 use Rattle.cfg_build.specs.Passes.{out, pass, PassState, after_pass, line_at, passed_from, passes}
-use Rattle.cfg_build.specs.Zones.{exec_at, IsInBody, test_of, IsTest, IsPlain, IsWayIn, IsJoinOfTest, IsAtTest}
+use Rattle.cfg_build.specs.Zones.{exec_at, IsInBody, IsTest, IsPlain, IsWayIn, IsJoinOfTest, IsAtTest}
 use Rattle.dep_routing.specs.Sound.{comes_to}
-use Rattle.dep_routing.specs.Touches.{piece_kind, exec_kind, is_increment, ends_rounds}
-use Rattle.dep_routing.proofs.Circles.{increments, IsIncrement, increment_is, IsPlace, increment_inside, plain, stays, bars, no_circle}
+use Rattle.dep_routing.specs.Touches.{piece_kind, exec_kind}
+use Rattle.dep_routing.proofs.Circles.{increments, IsIncrement, increment_is, IsPlace, increment_inside, plain, bars, no_circle}
 use Rattle.dep_routing.proofs.Counting.{begun_of, Keep, count_kept, count_lowered, tested_edge, memory_is, edge_is, begun_kind}
-use Rattle.dep_routing.proofs.Rounds.{any_one, IsRound}
+use Rattle.dep_routing.proofs.Rounds.{IsRound}
 
 abbrev pub is_running : Mark → Bool
 is_running Running = true
@@ -51,9 +52,9 @@ start_parts k piece.Join e h = absurd (false≢true h)
 start_parts k piece.Hold e h = absurd (false≢true h)
 start_parts k piece.End e h = absurd (false≢true h)
 
-any_none : (test : ℕ → Bool) (k : ℕ) → ((j : ℕ) → j < k → test j ≡ false) → any_one test k ≡ false
+any_none : (test : ℕ → Bool) (k : ℕ) → ((j : ℕ) → j < k → test j ≡ false) → any_below k test ≡ false
 any_none test zero none = refl
-any_none test (suc k) none = or_from (any_one test k) (test k) (any_none test k (λ j less. none j (omega (arith, less)))) (none k (omega arith))
+any_none test (suc k) none = or_from (any_below k test) (test k) (any_none test k (λ j less. none j (omega (arith, less)))) (none k (omega arith))
 
 pub next_up : {a b : ℕ} → a ≤ b → (b ≡ a → ⊥) → suc a ≤ b
 next_up less apart = grind (arith, less, apart)
@@ -257,7 +258,7 @@ module _ (p : Program) (input : List ℤ) (inside : ℕ → Bool) (place : IsPla
     barred : (i : ℕ) → n < i → i < m → bars p inside place k (edge (suc i)) ≡ false
     barred i low high =
         let there : on (suc i) ≡ true = on_at (suc i) (omega (arith, low)) (omega (arith, high)) in
-        or_from (not (inside (x (suc i)))) (any_one (λ j. increments p j (from g (edge (suc i)))) (suc k)) (ap not (is_inside (suc i) there))
+        or_from (not (inside (x (suc i)))) (any_below (suc k) (λ j. increments p j (from g (edge (suc i))))) (ap not (is_inside (suc i) there))
         (any_none (λ j. increments p j (from g (edge (suc i)))) (suc k) (λ j le. ap (λ y. increments p j y) (begins i there) ∙ r.between i j low high (omega (arith, le))))
 
     one_test : (s t : ℕ) → n < s → s < t → t < m → IsTest p.execs k (x s) → IsTest p.execs k (x t) → ⊥
