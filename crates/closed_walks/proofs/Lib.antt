@@ -8,6 +8,7 @@ pub mod Digraphs
 pub mod Endless
 pub mod Nesting
 pub mod Orders
+pub mod Parts
 pub mod Ranks
 pub mod Reaching
 pub mod Regions
