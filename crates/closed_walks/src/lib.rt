@@ -1,6 +1,7 @@
 //! Directed graphs, closed walks, and the cycle equivalence of edges.
 #![tactic(auto)]
 
+mod component_walk;
 mod digraph;
 mod edge_list;
 mod laws;

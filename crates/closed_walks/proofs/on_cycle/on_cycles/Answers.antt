@@ -1,14 +1,19 @@
-use Rattle.std.proofs.Common.{Result, IfOk, Ok, Err, false, get_or}
-use Rattle.closed_walks.proofs.Parts.{marks_tell}
+use Rattle.std.proofs.Common.{arith}
+use Rattle.closed_walks.specs.Component.{marked}
+use Rattle.closed_walks.proofs.Components.{found_done}
 use Rattle.closed_walks.proofs.on_cycle.on_cycles.Goals as goal
 
--- what follows of the value, if there is one
-on_value : {T E : Type 0} (r : Result T E) (P Q : T → Type 0) → ((x : T) → P x → Q x) → IfOk r P → IfOk r Q
-on_value (Ok x) P Q follows h = follows x h
-on_value (Err e) P Q follows h = tt
+pub loop-root-init : goal.loop-root-init
+loop-root-init c = record {
+  walk = c.in_ok-walk.ensures.walk (marked c.args.avoided.now);
+  none = c.in_ok-walk.ensures.none;
+  found = λ v below. absurd (omega (arith, below));
+}
 
 pub returns-clause-cycle : goal.returns-clause-cycle
 returns-clause-cycle c =
-    on_value c.returning.result _ _
-    (λ marks told. marks_tell c.args.g.now (λ e. get_or c.args.avoided.now e false) c.in_ok-part.part marks.items c.in_ok-part.ensures told)
-    c.returning.ensures
+    let w = c.loop-root.walk in
+    let s = c.loop-root.invariant.walk in
+    λ node exists.
+    let end = c.loop-root-test.false in
+    s.told node (found_done c.args.g.now (marked c.args.avoided.now) w.stages.items w.marks.items w.members.items w.bounds.items w.pending.items s c.loop-root.invariant.none node (c.loop-root.invariant.found node (omega (arith, exists, end, c.nodes-root-end.ensures.count))))
