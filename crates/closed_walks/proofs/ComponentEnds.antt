@@ -6,7 +6,7 @@ use Rattle.closed_walks.specs.Graph.{Graph, from, to}
 use Rattle.closed_walks.specs.Walk.{Walk, Avoids, Holds, Reach}
 use Rattle.closed_walks.specs.Search.{is_visited, Nothing}
 use Rattle.closed_walks.specs.Cycling.{IsOnCycle}
-use Rattle.closed_walks.specs.Component.{IsOrdered, IsLast, IsSettled, IsFound, IsFree, HasEdge, IsState, stage_of, place, stands_from, AreDone}
+use Rattle.closed_walks.specs.Component.{IsOrdered, IsLast, IsSettled, IsFree, HasEdge, IsState, stage_of, place, stands_from, AreDone}
 use Rattle.closed_walks.specs.declared.component_walk.Stage.{Stage}
 use Rattle.closed_walks.specs.declared.component_walk.Stage.TheVariants.{Member, Done}
 use Rattle.closed_walks.proofs.Walks.{Holds-left, cases_Holds, Walk-append, Avoids-append}
@@ -221,10 +221,3 @@ module _ (g : Graph) (avoided : ℕ → Bool) (stages : List Stage) (marks : Lis
         done = done_end;
         told = told_end;
       }
-
-      -- what was found is found still
-      pub found_end : (v : ℕ) → IsFound (stage_of stages v) → IsFound (stage_of new_stages v)
-      found_end v found = ⊎_elim
-          (λ holds. subst IsFound (sym (d.done v holds)) tt)
-          (λ none. subst IsFound (sym (d.other_stage v none)) found)
-          (cases_Holds (drop first members) v)

@@ -16,26 +16,6 @@ module _ (g : Graph) (avoided : ℕ → Bool) where
   pub Reach-ends : (a b c d : ℕ) → a ≡ c → b ≡ d → Reach g avoided c d → Reach g avoided a b
   Reach-ends a b c d from_c to_d r = subst (λ x. Reach g avoided x b) (sym from_c) (subst (λ y. Reach g avoided c y) (sym to_d) r)
 
-  -- ---- no node is found
-
-  module _ (stages : List Stage) (marks : List Bool) (blank : (v : ℕ) → stage_of stages v ≡ New) where
-    pub IsState-begin : length stages ≡ g.nodes → length marks ≡ g.nodes → IsState g avoided Nothing stages marks [] [] []
-    IsState-begin stages_size marks_size = record {
-      stages_size = stages_size;
-      marks_size = marks_size;
-      placed = λ v p is. absurd (Member-new (stage_of stages v) p (blank v) is);
-      stage_at = λ p within. absurd (omega (arith, within));
-      within = λ b holds. absurd holds;
-      order = tt;
-      first = λ some. absurd (omega (arith, some));
-      reaches = λ p q in_p in_q before. absurd (omega (arith, in_p));
-      waiting = record { edges = λ e holds. absurd holds; begin = λ e holds. absurd holds; order = tt };
-      free = λ e holds. absurd holds;
-      settled = λ e p free is. absurd (Member-new (stage_of stages (from g e)) p (blank (from g e)) is);
-      done = λ e free is. absurd (New-done (stage_of stages (from g e)) (blank (from g e)) is);
-      told = λ v is. absurd (New-done (stage_of stages v) (blank v) is);
-    }
-
   module _ (rest : ℕ → Type 0) (stages : List Stage) (marks : List Bool) (members bounds pending : List ℕ) (s : IsState g avoided rest stages marks members bounds pending) where
     -- edges that needn't be settled are settled after all
     pub IsState-settled : ((e p : ℕ) → IsFree g avoided e → stage_of stages (from g e) ≡ Member p → rest e → IsSettled bounds p (stage_of stages (to g e))) → IsState g avoided Nothing stages marks members bounds pending

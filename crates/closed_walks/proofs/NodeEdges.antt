@@ -3,7 +3,7 @@ use Rattle.std.proofs.Common.{◌≡◌, ℕ, zero, suc, ◌+◌, ◌<◌, ◌�
 use Rattle.std.proofs.lemmas.List.{append-nil}
 use Rattle.closed_walks.specs.Graph.{Graph, edge_count, from, to, touches, touching_below, edges_at}
 use Rattle.closed_walks.specs.Walk.{Holds}
-use Rattle.closed_walks.specs.Component.{IsFree, HasEdge, Adds}
+use Rattle.closed_walks.specs.Component.{IsFree, Adds}
 use Rattle.closed_walks.proofs.Walks.{Holds-append, Holds-left, Holds-right}
 use Rattle.closed_walks.proofs.Touching.{Holds-edges_at-from, Holds-drop, Holds-drop_end}
 
@@ -92,14 +92,3 @@ module _ (g : Graph) (avoided : ℕ → Bool) (node : ℕ) where
 
   pub HasNoLoop-begin : HasNoLoop (edges_at g node) 0
   HasNoLoop-begin = record { later = λ e free begins ends. Holds-edges_at-from g node e free.exists begins }
-
-  pub HasNoLoop-more : (edges : List ℕ) (k : ℕ) → k < length edges → (IsFree g avoided (get_or edges k 0) → from g (get_or edges k 0) ≡ node → to g (get_or edges k 0) ≡ node → ⊥) → HasNoLoop edges k → HasNoLoop edges (k + 1)
-  HasNoLoop-more edges k within none h = record {
-    later = λ e free begins ends. ⊎_elim
-        (λ (same : get_or edges k 0 ≡ e). absurd (none (subst (IsFree g avoided) (sym same) free) (ap (from g) same ∙ begins) (ap (to g) same ∙ ends)))
-        (λ later. later)
-        (Holds-drop edges k e within (h.later e free begins ends));
-  }
-
-  pub HasNoLoop-end : (edges : List ℕ) (k : ℕ) → length edges ≤ k → HasNoLoop edges k → HasEdge g avoided node node → ⊥
-  HasNoLoop-end edges k end h e = Holds-drop_end edges k e.edge end (h.later e.edge e.free e.begins e.ends)

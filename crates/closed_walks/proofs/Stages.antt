@@ -1,7 +1,7 @@
 -- Lists in order, and the stages of nodes in a walk for components.
 use Rattle.std.proofs.Common.{◌≡◌, ◌≢◌, ℕ, zero, suc, ◌+◌, ◌-◌, ◌<◌, ◌≤◌, nat_le, ◌⊎◌, Bool, true, false, Some, None, List, [], ◌∷◌, ◌++◌, length, get_or, slice_get, set, take, drop, refl, sym, ap, ◌∙◌, subst, inl, inr, ⊎_elim, arith, get_or-set_same, get_or-set_other, length-set, length-append, append_assoc, add-one, ◌↔◌}
 use Rattle.std.proofs.lemmas.Bool.{cases_Bool, cases_eq, cases_lt, leb-true, le-leb, false≢true}
-use Rattle.std.proofs.lemmas.List.{append_cancel_right, get_or_push, get_or-drop, get_or_default, get_or_past, length-drop, append-nil, take_all}
+use Rattle.std.proofs.lemmas.List.{get_or-drop, get_or_default, get_or_past, length-drop, take_all}
 use Rattle.std.proofs.Math.Seq.{take-append_seam}
 use Rattle.closed_walks.specs.Walk.{Holds}
 use Rattle.closed_walks.specs.Search.{is_visited}
@@ -34,19 +34,6 @@ popped xs new x n l len rest =
     let size : length xs ≡ length (l.front ++ x ∷ []) = ap length l.parts in
     let k : n - 1 ≡ length l.front = omega (arith, len, size, length-append l.front (x ∷ [])) in
     rest ∙ (ap (λ m. take m xs) k ∙ (ap (take (length l.front)) l.parts ∙ take-append_seam l.front (x ∷ [])))
-
--- a list has one last item
-pub last_same : (xs ys : List ℕ) (x y : ℕ) → xs ++ x ∷ [] ≡ ys ++ y ∷ [] → x ≡ y
-last_same xs ys x y same =
-    let lens : length (xs ++ x ∷ []) ≡ length (ys ++ y ∷ []) = ap length same in
-    sym (get_or_push xs x 0 (length xs) refl) ∙ (ap (λ zs. get_or zs (length xs) 0) same ∙ get_or_push ys y 0 (length xs) (omega (arith, lens, length-push xs x, length-push ys y)))
-  where
-    length-push : (zs : List ℕ) (z : ℕ) → length (zs ++ z ∷ []) ≡ suc (length zs)
-    length-push [] z = refl
-    length-push (a ∷ zs) z = ap suc (length-push zs z)
-
-pub front_same : (xs ys : List ℕ) (x y : ℕ) → xs ++ x ∷ [] ≡ ys ++ y ∷ [] → xs ≡ ys
-front_same xs ys x y same = append_cancel_right xs ys (x ∷ []) (same ∙ ap (λ z. ys ++ z ∷ []) (sym (last_same xs ys x y same)))
 
 pub Holds-last : (xs : List ℕ) (x y : ℕ) → Holds (xs ++ x ∷ []) y → Holds xs y ⊎ (y ≡ x)
 Holds-last xs x y holds = ⊎_elim (λ (h : Holds xs y). inl h) (⊎_elim (λ (same : x ≡ y). inr (sym same)) (λ none. absurd none)) (Holds-append xs (x ∷ []) y holds)
@@ -158,15 +145,6 @@ Member-done s p done is = let e : Done ≡ Member p = sym done ∙ is in absurd 
 pub New-done : (s : Stage) → s ≡ New → s ≡ Done → ⊥
 New-done s new done = let e : New ≡ Done = sym new ∙ done in absurd cc
 
-pub Found-new : (s : Stage) → s ≡ New → IsFound s → ⊥
-Found-new s new found = subst IsFound new found
-
-pub Found-member : (s : Stage) (p : ℕ) → s ≡ Member p → IsFound s
-Found-member s p is = subst IsFound (sym is) tt
-
-pub Found-done : (s : Stage) → s ≡ Done → IsFound s
-Found-done s is = subst IsFound (sym is) tt
-
 pub stands-place : (s : Stage) (first : ℕ) → stands_from s first ≡ true → (s ≡ Member (place s)) × (first ≤ place s)
 stands-place New first is = absurd (false≢true is)
 stands-place (Member p) first is = (refl, leb-true first p is)
@@ -224,16 +202,6 @@ pub stage_other : (stages : List Stage) (v u : ℕ) (s : Stage) → u ≢ v → 
 stage_other stages v u s apart = get_or-set_other stages v u s New apart
 
 -- ---- nodes that are done
-
-pub AreDone-none : (on_cycle : Bool) (stages : List Stage) (marks : List Bool) → AreDone [] on_cycle stages marks stages marks
-AreDone-none on_cycle stages marks = record {
-  stages_size = refl;
-  marks_size = refl;
-  done = λ v holds. absurd holds;
-  told = λ v holds. absurd holds;
-  other_stage = λ v none. refl;
-  other_mark = λ v none. refl;
-}
 
 pub AreDone-more : (nodes more : List ℕ) (on_cycle : Bool) (stages new_stages : List Stage) (marks new_marks : List Bool) (v : ℕ) → more ≡ nodes ++ v ∷ [] → v < length new_stages → v < length new_marks → AreDone nodes on_cycle stages marks new_stages new_marks → AreDone more on_cycle stages marks (set new_stages v Done) (set new_marks v on_cycle)
 AreDone-more nodes more on_cycle stages new_stages marks new_marks v parts in_stages in_marks d = record {
@@ -297,9 +265,6 @@ pub record IsCut (old : List ℕ) (place : ℕ) (new : List ℕ) : Type 0 where
   pub parts : old ≡ new ++ cut
   pub high : (b : ℕ) → Holds cut b → place < b
 
-pub IsCut-none : (old : List ℕ) (place : ℕ) → IsCut old place old
-IsCut-none old place = record { cut = []; parts = sym (append-nil old); high = λ b holds. absurd holds }
-
 pub IsCut-more : (old : List ℕ) (place : ℕ) (new front : List ℕ) (b : ℕ) → new ≡ front ++ b ∷ [] → place < b → IsCut old place new → IsCut old place front
 IsCut-more old place new front b parts above c = record {
   cut = b ∷ c.cut;
@@ -310,9 +275,6 @@ IsCut-more old place new front b parts above c = record {
 module _ (old : List ℕ) (place : ℕ) (new : List ℕ) (o : IsOrdered (λ a b. a < b) old) (c : IsCut old place new) where
   pub IsCut-order : IsOrdered (λ a b. a < b) new
   IsCut-order = IsOrdered-front (λ a b. a < b) new c.cut (subst (λ xs. IsOrdered (λ a b. a < b) xs) c.parts o)
-
-  pub IsCut-few : length new ≤ length old
-  IsCut-few = let e : length old ≡ length (new ++ c.cut) = ap length c.parts in omega (arith, e, length-append new c.cut)
 
   -- where the last bound that is left isn't above the place, all that are left are the bounds up to it
   pub IsCut-end : ((b : ℕ) → Holds new b → b ≤ place) → (b : ℕ) → Holds new b ↔ IsBound old place b

@@ -2,7 +2,7 @@
 //!
 //! Gabow, "Path-based depth-first search for strong and biconnected components", Information Processing Letters 74, 2000.
 
-ghost use Rattle.std.specs.Prelude.{◌≡◌, ◌+◌, ◌<◌, ◌≤◌, ◌↔◌, ℕ, Bool, [], true, false, length, slice_index, slice_index_or, drop, IfOk, IfNone, IfSome, OnOk};
+ghost use Rattle.std.specs.Prelude.{◌≡◌, ◌<◌, ◌≤◌, ◌↔◌, ℕ, Bool, [], true, false, length, IfOk, IfNone, IfSome, OnOk};
 ghost use Rattle.closed_walks.specs.Graph.{edge_count, from, to};
 ghost use Rattle.closed_walks.specs.Walk.{Holds};
 ghost use Rattle.closed_walks.specs.Component.{HasEdge, marked, stage_of, stands_from, Adds, AreDone, ArePending, AreReaching, IsBound, IsFound, IsLast, IsOrdered, IsWalk, IsWalkBut, KeepsFound, left, work};
