@@ -10,11 +10,11 @@ use Rattle.closed_walks.specs.declared.component_walk.ComponentWalk.{ComponentWa
 
 -- ---- lists
 
--- the test that is marked for a number
+-- whether the number is marked
 abbrev pub marked : List Bool → ℕ → Bool
 marked marks k = slice_index_or marks k false
 
--- each item is less than the ones after it
+-- each item is less, in a sense that is given, than the ones after it
 abbrev pub IsOrdered : (ℕ → ℕ → Type 0) → List ℕ → Type 0
 IsOrdered less [] = Unit {0}
 IsOrdered less (x ∷ xs) = ((y : ℕ) → Holds xs y → less x y) × IsOrdered less xs
