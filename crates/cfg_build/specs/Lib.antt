@@ -11,3 +11,4 @@ pub mod Chains
 pub mod Degrees
 pub mod Shape
 pub mod Routes
+pub mod Runs

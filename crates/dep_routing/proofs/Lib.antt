@@ -12,6 +12,9 @@ pub mod Hopping
 pub mod Noises
 pub mod Numbering
 pub mod Ordering
+pub mod PieceNeeds
+pub mod PieceTouches
 pub mod Placing
 pub mod Quietness
 pub mod RowSteps
+pub mod TrapTouches

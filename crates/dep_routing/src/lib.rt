@@ -11,10 +11,13 @@ mod facts;
 mod laws;
 mod leaving;
 mod lines;
+mod needs;
 mod noise;
 mod order;
 mod routing;
 mod rows;
+mod touch_laws;
+mod touching;
 
 use class_set::ClassSet;
 use df_sequence::Sequence;
@@ -25,6 +28,8 @@ pub use laws::{
 pub use leaving::{output_keeps_moving, quiet_regions_are_left};
 pub use lines::Lines;
 pub use routing::route;
+pub use touch_laws::{touches_are_sound, touches_follow_needs, traps_touch_output};
+pub use touching::touches;
 
 /// For each node the set of the lines that it touches.
 pub type TouchList<const W: usize> = Sequence<ClassSet<W>>;
