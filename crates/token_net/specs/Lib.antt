@@ -10,3 +10,4 @@ pub mod Tokens
 pub mod NetOrder
 pub mod Belonging
 pub mod NetPace
+pub mod NetView

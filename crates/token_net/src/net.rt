@@ -2,7 +2,7 @@
 
 use crate::Control;
 use crate::pieces_run::{Ran, run};
-use crate::tables::{Tables, tables};
+use crate::tables::{Tables, make_tables};
 use cfg_build::{Flow, PieceKind};
 use dep_routing::{Lines, TouchList};
 use df_sequence::NoMemory;
@@ -47,7 +47,7 @@ impl<'a, const W: usize> Net<'a, W> {
         l: &'a Lines,
         input: &Vec<i32>,
     ) -> Result<Net<'a, W>, NoMemory> {
-        let tables = tables(alloc, f, touch, l)?;
+        let tables = make_tables(alloc, f, touch, l)?;
         let room = longest_line(p.execs.as_slice())?;
         let nodes = tables.names.len();
         Ok(Net {

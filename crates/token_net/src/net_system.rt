@@ -5,6 +5,40 @@ use firing::{Fired, NodeName, SourceOrder, StepSystem};
 use op_table::Trap;
 
 impl<const W: usize> StepSystem for Net<'_, W> {
+    ghost use Rattle.token_net.specs.declared.control.Control.{Control as Place_of};
+    ghost use Rattle.token_net.specs.Belonging.{CanCome};
+    ghost use Rattle.token_net.specs.NetOrder.{net_course};
+    ghost use Rattle.token_net.specs.NetPace.{IsInPace};
+    ghost use Rattle.token_net.specs.NetView.{net_of, tokens_of, woken_of};
+    ghost use Rattle.token_net.specs.Nodes.{NetOf};
+    ghost use Rattle.token_net.specs.Tokens.{Tokens, net_moves};
+
+    ghost Net = { NetOf };
+
+    ghost Marking = { Tokens };
+
+    ghost Place = { Place_of };
+
+    ghost net = { net_of };
+
+    ghost marking = { tokens_of };
+
+    ghost place = { λ s. s.control };
+
+    ghost last = { λ s. s.text.items };
+
+    ghost woken = { woken_of };
+
+    ghost marks = { λ s. s.set };
+
+    ghost sound = { CanCome };
+
+    ghost moves = { net_moves };
+
+    ghost course = { net_course };
+
+    ghost in_step = { IsInPace };
+
     fn nodes(&self) -> u32 {
         self.tables.names.len() as u32
     }
@@ -56,6 +90,10 @@ impl<const W: usize> StepSystem for Net<'_, W> {
     fn name(&self, k: u32) -> NodeName {
         self.tables.names[k as usize]
     }
+
+    ghost lawful = { ? };
+
+    ghost steady = { ? };
 }
 
 impl<const W: usize> SourceOrder for Net<'_, W> {
@@ -69,4 +107,6 @@ impl<const W: usize> SourceOrder for Net<'_, W> {
             None => None,
         }
     }
+
+    ghost ordered = { ? };
 }

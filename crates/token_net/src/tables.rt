@@ -24,7 +24,7 @@ pub(crate) struct Tables {
 }
 
 /// The tables of a net.
-pub(crate) fn tables<const W: usize>(
+pub(crate) fn make_tables<const W: usize>(
     alloc: Global,
     f: &Flow,
     touch: &TouchList<W>,
