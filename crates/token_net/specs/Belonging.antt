@@ -15,7 +15,7 @@ use Rattle.token_net.specs.Tokens.{Tokens, edge_of, left_for}
 -- line of output.
 pub record IsNet (net : NetOf) : Type 0 where
   pub program : IsWellFormed net.program
-  pub data : All IsWord net.input
+  pub input_words : All IsWord net.input
   pub classes : ClassTable
   pub own_classes : IsClasses net.program classes
   pub tree : Tree

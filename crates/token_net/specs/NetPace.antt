@@ -31,7 +31,7 @@ pub record IsInPace (net : NetOf) (m : Tokens) (c : Control) : Type 0 where
   pub running : (passes net.program net.input passes_made).mark ≡ Running
   pub piece : to (graph_in net) (passes net.program net.input passes_made).edge ≡ c.piece
   pub start : Tokens
-  pub between : IsBetween net (is_net .tree) start (passes net.program net.input passes_made).edge (passes net.program net.input passes_made).memory
+  pub between : IsBetween net is_net.tree start (passes net.program net.input passes_made).edge (passes net.program net.input passes_made).memory
   pub few : c.fired ≤ node_count net c.piece
   pub since : m ≡ after (net_moves net) start (range_with_len (first_node net c.piece) c.fired)
   pub leaves : 0 < c.fired → c.leaves ≡ edge_or (out (graph_in net) c.piece 0) (pass net.program net.input (passes net.program net.input passes_made).edge (passes net.program net.input passes_made).memory)

@@ -4,7 +4,7 @@ use Rattle.std.specs.List.{list_any, range_with_len}
 use Rattle.closed_walks.specs.Graph.{Graph, edges_at, to}
 use Rattle.f77_tree.specs.declared.programs.Program.{Program}
 use Rattle.cfg_build.specs.declared.pieces.PieceKind.{PieceKind}
-use Rattle.cfg_build.specs.declared.pieces.PieceKind.TheVariants as piece
+use Rattle.cfg_build.specs.declared.pieces.PieceKind.TheVariants as kind
 use Rattle.cfg_build.specs.Flow.{flow}
 use Rattle.cfg_build.specs.Shape.{kind_at}
 use Rattle.dep_routing.specs.Routing.{Routing, wire_at}
@@ -56,11 +56,11 @@ passing net piece = filter (λ line. is_free net piece line && not (net.touches 
 -- other line has a switch; where they come together, each line has a merge. An end to which one edge leads has none, since it
 -- is a region in which nothing is touched.
 abbrev pub nodes_by : NetOf → ℕ → PieceKind → List NodeName
-nodes_by net piece piece.Act = Act piece ∷ []
-nodes_by net piece piece.Branch = Act piece ∷ map (Switch piece) (passing net piece)
-nodes_by net piece piece.Hold = Act piece ∷ map (Switch piece) (passing net piece)
-nodes_by net piece piece.Join = map (Merge piece) (led_to net piece)
-nodes_by net piece piece.End = map (Merge piece) (led_to net piece)
+nodes_by net piece kind.Act = Act piece ∷ []
+nodes_by net piece kind.Branch = Act piece ∷ map (Switch piece) (passing net piece)
+nodes_by net piece kind.Hold = Act piece ∷ map (Switch piece) (passing net piece)
+nodes_by net piece kind.Join = map (Merge piece) (led_to net piece)
+nodes_by net piece kind.End = map (Merge piece) (led_to net piece)
 nodes_by net piece _ = []
 
 abbrev pub nodes_at : NetOf → ℕ → List NodeName
@@ -91,8 +91,8 @@ node_at net k = name_in (slice_get (nodes_of net) k)
 -- ---- switches
 
 abbrev pub switch_lines : NetOf → ℕ → PieceKind → List ℕ
-switch_lines net piece piece.Branch = passing net piece
-switch_lines net piece piece.Hold = passing net piece
+switch_lines net piece kind.Branch = passing net piece
+switch_lines net piece kind.Hold = passing net piece
 switch_lines net piece _ = []
 
 -- the numbers of the switches of a piece, which come behind its first node
