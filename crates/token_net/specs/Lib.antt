@@ -10,4 +10,11 @@ pub mod Tokens
 pub mod NetOrder
 pub mod Belonging
 pub mod NetPace
+pub mod MemberLaws
+pub mod PlaceLaws
+pub mod Ground
+pub mod PassLaws
+pub mod NodeLaws
+pub mod Feet
+pub mod NetLaws
 pub mod NetView

@@ -237,25 +237,27 @@ module _ (ground : Ground) (p : Program) (input : List ℤ) (c : ClassTable) (ow
   pass_framed kind.Hold e can is m sizes = kept m sizes
   pass_framed kind.End e can is m sizes = tt
 
+-- ---- edges
+
+module _ (out : ℕ → ℕ) (p : Program) (input : List ℤ) where
   -- the edge is one that leaves the piece
-  pub record IsOut (edge : ℕ) : Type 0 where
-    pub number : ℕ
-    pub is : edge ≡ out number
+  abbrev pub IsOut : ℕ → Type 0
+  IsOut edge = (number : ℕ) × (edge ≡ out number)
 
   pub pass_out : (piece : PieceKind) (e : ExecKind) (m : Memory) → IfAlong (pass_of p input m out piece e) (λ edge new text. IsOut edge)
   pass_out kind.Act e m = by (outcome p.names input m e)
     where
       by : (o : Outcome) → IfAlong (acted (out 0) o) (λ edge new text. IsOut edge)
-      by (Goes next new text) = record { number = 0; is = refl }
+      by (Goes next new text) = (0, refl)
       by (Stops trap) = tt
       by Ends = tt
   pass_out kind.Branch e m = by (choice p.names m e)
     where
       by : (a : Result ℕ Trap) → IfAlong (branched m out a) (λ edge new text. IsOut edge)
-      by (Ok i) = record { number = i; is = refl }
+      by (Ok i) = (i, refl)
       by (Err trap) = tt
-  pass_out kind.Start e m = record { number = 0; is = refl }
-  pass_out kind.Pass e m = record { number = 0; is = refl }
-  pass_out kind.Join e m = record { number = 0; is = refl }
-  pass_out kind.Hold e m = record { number = 0; is = refl }
+  pass_out kind.Start e m = (0, refl)
+  pass_out kind.Pass e m = (0, refl)
+  pass_out kind.Join e m = (0, refl)
+  pass_out kind.Hold e m = (0, refl)
   pass_out kind.End e m = tt

@@ -59,7 +59,7 @@ with_all_other values (place ∷ places) value k none =
     with_all_other (slice_set values place (value place)) places value k (λ m. none (inr m))
     ∙ get_set_other values place k (value place) (λ same. none (inl same))
 
-same_or_not : (j k : ℕ) → (j ≡ k) ⊎ (j ≡ k → ⊥)
+pub same_or_not : (j k : ℕ) → (j ≡ k) ⊎ (j ≡ k → ⊥)
 same_or_not zero zero = inl refl
 same_or_not zero (suc k) = inr (λ e. cc)
 same_or_not (suc j) zero = inr (λ e. cc)
@@ -69,7 +69,7 @@ same_or_not (suc j) (suc k) = by (same_or_not j k)
     by (inl e) = inl (ap suc e)
     by (inr n) = inr (λ (e : suc j ≡ suc k). n (omega (arith, e)))
 
-member_or_not : (xs : List ℕ) (k : ℕ) → Member xs k ⊎ (Member xs k → ⊥)
+pub member_or_not : (xs : List ℕ) (k : ℕ) → Member xs k ⊎ (Member xs k → ⊥)
 member_or_not [] k = inr (λ m. m)
 member_or_not (x ∷ xs) k = by (same_or_not x k) (member_or_not xs k)
   where
