@@ -4,6 +4,7 @@ pub mod KeyLemmas
 pub mod KeyPlaces
 pub mod KnownPlaces
 pub mod MakingLemmas
+pub mod Numbered
 pub mod OneNumbering
 pub mod Rows
 pub mod RunLemmas
