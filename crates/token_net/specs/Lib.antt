@@ -17,4 +17,4 @@ pub mod PassLaws
 pub mod NodeLaws
 pub mod Feet
 pub mod NetLaws
-pub mod NetView
+pub mod BaseView

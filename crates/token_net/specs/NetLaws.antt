@@ -1,6 +1,10 @@
 -- Nets keep the laws of firing, by their footprints.
-use Rattle.std.proofs.Common.{◌≡◌, ◌≢◌, ◌<◌, ◌≤◌, ◌⊎◌, inl, inr, ⊎_elim, ℕ, zero, suc, ◌+◌, ◌==◌, ◌&&◌, Bool, true, false, not, if◌then◌else◌, List, [], ◌∷◌, length, filter, Option, Some, None, is_some, slice_get, slice_index, slice_set, refl, sym, ap, ◌∙◌, subst, arith}
+use Rattle.std.proofs.Common.{◌≡◌, ◌≢◌, ◌<◌, ◌≤◌, ◌⊎◌, inl, inr, ⊎_elim, ℕ, zero, suc, ◌+◌, ◌==◌, ◌&&◌, Bool, true, false, not, if◌then◌else◌, pos, List, [], ◌∷◌, length, replicate, filter, Option, Some, None, is_some, slice_get, slice_index, slice_set, refl, sym, ap, ◌∙◌, subst, arith}
 use Rattle.std.specs.List.{list_all, range_with_len}
+use Rattle.std.specs.Option.{option_map}
+use Rattle.std.proofs.lemmas.List.{length-map, length-replicate}
+use Rattle.std.proofs.lemmas.List.FromFn.{length-range_with_len}
+use Rattle.std.proofs.lemmas.Option.{slice_get-map}
 use Rattle.std.proofs.lemmas.Bool.{cases_Bool, eqb-true, eq-eqb}
 use Rattle.op_table.specs.declared.Trap.{Trap as Kind_of_trap}
 use Rattle.closed_walks.specs.Graph.{Graph, edge_count, from, to}
@@ -27,10 +31,10 @@ use Rattle.token_net.specs.Feet.{Part, Line, Left, Word, Count, StepOf, Taken, T
 use Rattle.token_net.specs.Ground.{Ground}
 use Rattle.token_net.specs.MemberLaws.{Member, Member-filtered, Member-in_range, list_any_member, IsPassed, member_of_list_any}
 use Rattle.token_net.specs.NodeLaws.{is_acting, piece_of, Fits, touched_is, is_touched, one_number, IsNamed, named, IsSwitch, switch_is}
-use Rattle.token_net.specs.Nodes.{NetOf, graph_in, kind_in, touched, nodes_of, node_at, switches}
+use Rattle.token_net.specs.Nodes.{NetOf, graph_in, kind_in, all_lines, touched, nodes_of, node_at, switches}
 use Rattle.token_net.specs.PassLaws.{IsTouching, AgreeOn, KeepsOthers, PassAlike, IsFramed, pass_alike, pass_framed, pass_out}
 use Rattle.token_net.specs.PlaceLaws.{same_list, put, get_set_same, get_set_other, length_slice_set, length_with_all, with_all_other, with_all_same, same_or_not, member_or_not, all_pass, same_tests, left_of, right_of}
-use Rattle.token_net.specs.Tokens.{Tokens, joined, edge_of, left_for, leads_to, is_before, ready_as, pass_at, source_line, with_all, led_from, gone, stopped, acted, switched, merged, fired_as, written, text_of, line_as, serial_as, net_moves}
+use Rattle.token_net.specs.Tokens.{Tokens, joined, edge_of, left_for, leads_to, is_before, ready_as, pass_at, source_line, with_all, led_from, gone, stopped, acted, switched, merged, fired_as, written, text_of, line_as, serial_as, net_moves, first_tokens}
 
 -- ---- equal parts
 
@@ -109,18 +113,18 @@ module _ (ground : Ground) (net : NetOf) (is : IsNet net) where
   can piece = exec_can (piece_at (flow net.program.execs).pieces piece).exec (slice_get net.program.execs (piece_at (flow net.program.execs).pieces piece).exec) refl
 
   kind_classes : (k : PieceKind) (e : ExecKind) → CanExecute net.program e → (n : ℕ) → KindNeeds is.classes k e n → (1 ≤ n) × (n ≤ class_count is.classes)
-  kind_classes kind.Act e can n need = ground.are_classes net.program is.classes e n is.own_classes is.can_run can need
+  kind_classes kind.Act e can n need = ground.are_classes net.program is.classes e n is.program is.own_classes can need
   kind_classes kind.Branch (exec.DoStart loop_no var first last step body exit) can n need =
       let loops = is.own_classes.loops in
       let below = can.0.loop in
       subst (λ (n : ℕ). (1 ≤ n) × (n ≤ class_count is.classes)) need (needs_some is.classes loop_no (omega (arith, loops, below)))
-  kind_classes kind.Branch (exec.Assign target e next) can n need = ground.are_classes net.program is.classes (exec.Assign target e next) n is.own_classes is.can_run can need
-  kind_classes kind.Branch (exec.Print items next) can n need = ground.are_classes net.program is.classes (exec.Print items next) n is.own_classes is.can_run can need
-  kind_classes kind.Branch (exec.Pass next) can n need = ground.are_classes net.program is.classes (exec.Pass next) n is.own_classes is.can_run can need
-  kind_classes kind.Branch (exec.Test cond yes' no') can n need = ground.are_classes net.program is.classes (exec.Test cond yes' no') n is.own_classes is.can_run can need
-  kind_classes kind.Branch (exec.Sign e neg zero' pos') can n need = ground.are_classes net.program is.classes (exec.Sign e neg zero' pos') n is.own_classes is.can_run can need
-  kind_classes kind.Branch (exec.Pick e targets other) can n need = ground.are_classes net.program is.classes (exec.Pick e targets other) n is.own_classes is.can_run can need
-  kind_classes kind.Branch (exec.DoNext loop_no var body exit) can n need = ground.are_classes net.program is.classes (exec.DoNext loop_no var body exit) n is.own_classes is.can_run can need
+  kind_classes kind.Branch (exec.Assign target e next) can n need = ground.are_classes net.program is.classes (exec.Assign target e next) n is.program is.own_classes can need
+  kind_classes kind.Branch (exec.Print items next) can n need = ground.are_classes net.program is.classes (exec.Print items next) n is.program is.own_classes can need
+  kind_classes kind.Branch (exec.Pass next) can n need = ground.are_classes net.program is.classes (exec.Pass next) n is.program is.own_classes can need
+  kind_classes kind.Branch (exec.Test cond yes' no') can n need = ground.are_classes net.program is.classes (exec.Test cond yes' no') n is.program is.own_classes can need
+  kind_classes kind.Branch (exec.Sign e neg zero' pos') can n need = ground.are_classes net.program is.classes (exec.Sign e neg zero' pos') n is.program is.own_classes can need
+  kind_classes kind.Branch (exec.Pick e targets other) can n need = ground.are_classes net.program is.classes (exec.Pick e targets other) n is.program is.own_classes can need
+  kind_classes kind.Branch (exec.DoNext loop_no var body exit) can n need = ground.are_classes net.program is.classes (exec.DoNext loop_no var body exit) n is.program is.own_classes can need
   kind_classes kind.Branch exec.End can n need = absurd need
   kind_classes kind.Start e can n need = absurd need
   kind_classes kind.Pass e can n need = absurd need
@@ -464,7 +468,7 @@ module _ (ground : Ground) (net : NetOf) (is : IsNet net) where
   fired_marking : (m : Tokens) (k : ℕ) (name : NodeName) → IsNamed net name → IsMarking net m → IsMarking net (fired_as net m k name)
   fired_marking m k (Act piece) named mark =
       acted_marking m piece (pass_at net piece m.memory) (framed piece m.memory named.exists mark.memory)
-        (edge_exists piece (pass_at net piece m.memory) (pass_out (out (graph_in net) piece) net.program net.input (piece_kind net.program piece) (exec_kind net.program piece) m.memory)) mark
+      (edge_exists piece (pass_at net piece m.memory) (pass_out (out (graph_in net) piece) net.program net.input (piece_kind net.program piece) (exec_kind net.program piece) m.memory)) mark
   fired_marking m k (Switch piece line) named mark = switched_marking m k line (left_for m k) refl (named.fits.2) mark
   fired_marking m k (Merge piece line) named mark = merged_marking m piece line (named.fits.2) mark
   fired_marking m k (Op piece i) named mark = mark
@@ -474,8 +478,8 @@ module _ (ground : Ground) (net : NetOf) (is : IsNet net) where
   before : (m : Tokens) (k : ℕ) (name : NodeName) (line : ℕ) → IsNamed net name → ready_as net m k name ≡ true → foot_as net is.classes k name (Line line) ≡ true → is_before net m (piece_of name) line ≡ true
   before m k (Act piece) line named ready mine =
       all_pass (is_before net m piece) (touched net piece) line
-        (left_of (list_all (is_before net m piece) (touched net piece)) (list_all (λ switch. not (is_some (left_for m switch))) (switches net piece)) ready)
-        (is_touched net piece line (touched_line piece line named.exists mine) mine)
+      (left_of (list_all (is_before net m piece) (touched net piece)) (list_all (λ switch. not (is_some (left_for m switch))) (switches net piece)) ready)
+      (is_touched net piece line (touched_line piece line named.exists mine) mine)
   before m k (Switch piece own) line named ready mine =
       subst (λ l. is_before net m piece l ≡ true) (eqb-true own line mine) (left_of (is_before net m piece own) (is_some (left_for m k)) ready)
   before m k (Merge piece own) line named ready mine = subst (λ l. is_before net m piece l ≡ true) (eqb-true own line mine) ready
@@ -634,3 +638,45 @@ net_laws net = record {
   where
     laws : {m : Tokens} → CanCome net m → IsLawful (CanCome net) (net_moves net)
     laws comes = by_feet (CanCome net) (net_moves net) at (foot net comes.is_net.classes) (footed comes.ground net comes.is_net)
+
+-- ---- the marking before any firing
+
+-- the marking before any firing can come
+pub first_comes : (ground : Ground) (net : NetOf) → IsNet net → CanCome net (first_tokens net)
+first_comes ground net is = record {
+  ground = ground;
+  is_net = is;
+  is_marking = record {
+    lines = length-map (all_lines net) (led_from net 1) ∙ length-range_with_len 0 net.routing.lines;
+    nodes = length-replicate (length (nodes_of net)) None;
+    stand = λ line edge at. stand line edge (sym (ap joined (slice_get-map (led_from net 1) (all_lines net) line)) ∙ at);
+    lie = λ k edge at. none (length (nodes_of net)) k edge at;
+    memory = record { words = is.can_run.initial; counts = length-replicate net.program.loops 0; steps = length-replicate net.program.loops (pos 0) };
+  };
+}
+  where
+    none : (n k edge : ℕ) → joined (slice_get (replicate n None) k) ≡ Some edge → edge < edge_count (graph_in net)
+    none zero k edge at = absurd cc
+    none (suc n) zero edge at = absurd cc
+    none (suc n) (suc k) edge at = none n k edge at
+
+    within : (xs : List ℕ) (k x : ℕ) → slice_get xs k ≡ Some x → Member xs x
+    within [] k x at = absurd cc
+    within (y ∷ ys) zero x at = inl (same y x at)
+      where
+        same : (a b : ℕ) → Some a ≡ Some b → a ≡ b
+        same a b e = cc
+    within (y ∷ ys) (suc k) x at = inr (within ys k x at)
+
+    two_edges : 1 < edge_count (graph_in net)
+    two_edges = (ground.shaped net.program.names net.program.execs net.program.loops is.program.execs).two_edges
+
+    found : (o : Option ℕ) (edge : ℕ) → ((line : ℕ) → o ≡ Some line → line < net.routing.lines) → joined (option_map (led_from net 1) o) ≡ Some edge → edge < edge_count (graph_in net)
+    found None edge below at = absurd cc
+    found (Some line) edge below at = subst (λ d. d < edge_count (graph_in net)) (same (next_at net.routing line 1) edge at) (led_below ground net is 1 line two_edges (below line refl))
+      where
+        same : (a b : ℕ) → Some a ≡ Some b → a ≡ b
+        same a b e = cc
+
+    stand : (k edge : ℕ) → joined (option_map (led_from net 1) (slice_get (all_lines net) k)) ≡ Some edge → edge < edge_count (graph_in net)
+    stand k edge at = found (slice_get (all_lines net) k) edge (λ line is_at. let r = Member-in_range 0 net.routing.lines line (within (all_lines net) k line is_at) in let high = r.1 in omega (arith, high)) at

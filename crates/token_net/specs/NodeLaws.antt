@@ -72,10 +72,10 @@ module _ {X Y : Type 0} where
   distinct_flat_map f key keyed each [] apart = tt
   distinct_flat_map f key keyed each (x ∷ xs) apart =
       distinct_append (f x) (flat_map f xs) (each x) (distinct_flat_map f key keyed each xs apart.1)
-        (λ y l r.
-        let o : IsFromOne f xs y = Member-flat_mapped f xs y r in
-        let same : o.origin ≡ x = sym (keyed o.origin y o.has) ∙ keyed x y l in
-        apart.0 (subst (λ z. Member xs z) same o.among))
+      (λ y l r.
+      let o : IsFromOne f xs y = Member-flat_mapped f xs y r in
+      let same : o.origin ≡ x = sym (keyed o.origin y o.has) ∙ keyed x y l in
+      apart.0 (subst (λ z. Member xs z) same o.among))
 
 -- what stands at a place of lists in a row
 get_flat_map : {Y : Type 0} (f : ℕ → List Y) (a n i j : ℕ) → i < n → j < length (f (a + i)) → slice_get (flat_map f (range_with_len a n)) (length (flat_map f (range_with_len a i)) + j) ≡ slice_get (f (a + i)) j
@@ -172,9 +172,10 @@ module _ (net : NetOf) where
   -- ---- numbers
 
   distinct_switches : (piece : ℕ) → Distinct (Act piece ∷ map (Switch piece) (passing net piece))
-  distinct_switches piece =
-      ((λ m. let r : IsImage (Switch piece) (passing net piece) (Act piece) = Member-mapped (Switch piece) (passing net piece) (Act piece) m in let e : Switch piece r.origin ≡ Act piece = r.is in absurd cc),
-      distinct_map (Switch piece) (λ a b e. cc) (passing net piece) (distinct_filter (λ line. is_free net piece line && not (net.touches piece line)) (all_lines net) (distinct_range 0 net.routing.lines)))
+  distinct_switches piece = (
+    (λ m. let r : IsImage (Switch piece) (passing net piece) (Act piece) = Member-mapped (Switch piece) (passing net piece) (Act piece) m in let e : Switch piece r.origin ≡ Act piece = r.is in absurd cc),
+    distinct_map (Switch piece) (λ a b e. cc) (passing net piece) (distinct_filter (λ line. is_free net piece line && not (net.touches piece line)) (all_lines net) (distinct_range 0 net.routing.lines)),
+  )
 
   distinct_merges : (piece : ℕ) → Distinct (map (Merge piece) (led_to net piece))
   distinct_merges piece = distinct_map (Merge piece) (λ a b e. cc) (led_to net piece) (distinct_filter (is_free net piece) (all_lines net) (distinct_range 0 net.routing.lines))

@@ -2,21 +2,20 @@
 #![tactic(auto)]
 
 mod acting;
+mod base;
 mod control;
 mod following;
+mod laws;
 mod lines;
 mod needing;
-mod net;
-mod net_system;
-mod pieces_run;
+mod numbers;
 mod playable;
 mod straight;
-mod tables;
 mod upcoming;
 
 pub use control::Control;
 pub use following::{PlayEnd, follow};
-pub use net::Net;
+pub use laws::{nets_begin_soundly, nets_keep_the_laws};
 pub use playable::is_playable;
 pub use straight::StraightNet;
 
