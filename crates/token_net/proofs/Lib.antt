@@ -9,3 +9,4 @@ mod MoveLemmas
 mod FireLemmas
 mod FollowLemmas
 mod SimplePrograms
+pub mod BaseLemmas

@@ -5,3 +5,16 @@ pub mod InStep
 pub mod StraightNet
 pub mod Firing
 pub mod Following
+pub mod Nodes
+pub mod Tokens
+pub mod NetOrder
+pub mod Belonging
+pub mod NetPace
+pub mod MemberLaws
+pub mod PlaceLaws
+pub mod Ground
+pub mod PassLaws
+pub mod NodeLaws
+pub mod Feet
+pub mod NetLaws
+pub mod BaseView

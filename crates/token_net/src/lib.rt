@@ -2,14 +2,20 @@
 #![tactic(auto)]
 
 mod acting;
+mod base;
+mod control;
 mod following;
+mod laws;
 mod lines;
 mod needing;
+mod numbers;
 mod playable;
 mod straight;
 mod upcoming;
 
+pub use control::Control;
 pub use following::{PlayEnd, follow};
+pub use laws::{nets_begin_soundly, nets_keep_the_laws};
 pub use playable::is_playable;
 pub use straight::StraightNet;
 

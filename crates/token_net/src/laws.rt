@@ -1,0 +1,37 @@
+//! Laws of nets, as contracts of functions that do nothing.
+
+ghost use Rattle.firing.specs.Laws.{IsLawful};
+ghost use Rattle.token_net.specs.Belonging.{IsNet, CanCome};
+ghost use Rattle.token_net.specs.Ground.{Ground};
+ghost use Rattle.token_net.specs.Nodes.{NetOf};
+ghost use Rattle.token_net.specs.Tokens.{first_tokens, net_moves};
+
+use alias_classes::{needs_are_a_frame, needs_are_numbered, needs_cover_accesses};
+use cfg_build::{flow_graph_has_shape, flow_graph_is_strong};
+use dep_routing::next_edges;
+use f77_tree::reads_decide;
+
+/// Nets keep the laws of firing: of two nodes that may both fire, neither minds if the other fires first.
+pub fn nets_keep_the_laws()
+    ensures { (net : NetOf) → IsLawful (CanCome net) (net_moves net) }
+{}
+
+/// The marking of a net before any firing is one that can come.
+pub fn nets_begin_soundly()
+    ensures { (net : NetOf) → IsNet net → CanCome net (first_tokens net) }
+{
+    ground();
+}
+
+// What lower layers tell.
+pub(crate) fn ground()
+    ensures { Ground }
+{
+    flow_graph_is_strong();
+    flow_graph_has_shape();
+    next_edges();
+    needs_are_numbered();
+    reads_decide();
+    needs_cover_accesses();
+    needs_are_a_frame();
+}
