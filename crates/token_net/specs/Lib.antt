@@ -11,3 +11,6 @@ pub mod NetOrder
 pub mod Belonging
 pub mod NetPace
 pub mod NetView
+pub mod MemberLaws
+pub mod PlaceLaws
+pub mod PaceLists

@@ -7,6 +7,7 @@ mod following;
 mod lines;
 mod needing;
 mod net;
+mod net_laws;
 mod net_system;
 mod pieces_run;
 mod playable;
@@ -17,6 +18,7 @@ mod upcoming;
 pub use control::Control;
 pub use following::{PlayEnd, follow};
 pub use net::Net;
+pub use net_laws::pace_trial;
 pub use playable::is_playable;
 pub use straight::StraightNet;
 

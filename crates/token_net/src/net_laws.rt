@@ -1,0 +1,11 @@
+//! Laws on nets beside the runs of their programs, as contracts of functions that do nothing.
+
+ghost use Rattle.std.specs.Prelude.{◌≡◌};
+ghost use Rattle.token_net.specs.Nodes.{NetOf};
+ghost use Rattle.token_net.specs.PaceLists.{not_before};
+
+/// Trial.
+pub fn pace_trial()
+    ensures { (net : NetOf) → net ≡ net }
+{
+}
