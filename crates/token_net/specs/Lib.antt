@@ -14,3 +14,6 @@ pub mod NetView
 pub mod MemberLaws
 pub mod PlaceLaws
 pub mod PaceLists
+pub mod Amid
+pub mod AmidLaws
+pub mod AmidSteps

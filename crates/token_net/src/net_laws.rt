@@ -2,7 +2,7 @@
 
 ghost use Rattle.std.specs.Prelude.{◌≡◌};
 ghost use Rattle.token_net.specs.Nodes.{NetOf};
-ghost use Rattle.token_net.specs.PaceLists.{not_before};
+ghost use Rattle.token_net.specs.AmidSteps.{merge_amid};
 
 /// Trial.
 pub fn pace_trial()
