@@ -17,3 +17,5 @@ pub mod PaceLists
 pub mod Amid
 pub mod AmidLaws
 pub mod AmidSteps
+pub mod FlowGround
+pub mod FreeLines
