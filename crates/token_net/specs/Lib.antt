@@ -19,3 +19,4 @@ pub mod AmidLaws
 pub mod AmidSteps
 pub mod FlowGround
 pub mod FreeLines
+pub mod PieceSteps

@@ -3,7 +3,7 @@
 ghost use Rattle.std.specs.Prelude.{◌≡◌};
 ghost use Rattle.token_net.specs.Nodes.{NetOf};
 ghost use Rattle.token_net.specs.AmidSteps.{merge_amid};
-ghost use Rattle.token_net.specs.FreeLines.{stands_before};
+ghost use Rattle.token_net.specs.PieceSteps.{ready_next};
 
 /// Trial.
 pub fn pace_trial()
