@@ -58,7 +58,7 @@ among_all g node e low ends = among g node (edge_count g) e low ends
 -- ---- free lines
 
 module _ (net : NetOf) (is_net : IsNet net) where
-  line_below : (line : ℕ) → line < net.routing.lines → line < suc (Rattle.alias_classes.specs.Classes.class_count is_net.classes)
+  pub line_below : (line : ℕ) → line < net.routing.lines → line < suc (Rattle.alias_classes.specs.Classes.class_count is_net.classes)
   line_below line low = subst (λ (n : ℕ). line < n) is_net.own_routing.count low
 
   pub free_of_test : (node line : ℕ) → line < net.routing.lines → is_free net node line ≡ true → IsFree (graph_in net) is_net.tree net.touches line node

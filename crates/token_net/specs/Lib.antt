@@ -20,3 +20,4 @@ pub mod AmidSteps
 pub mod FlowGround
 pub mod FreeLines
 pub mod PieceSteps
+pub mod PieceEnds

@@ -89,18 +89,18 @@ module _ (net : NetOf) (is_net : IsNet net) (ground : FlowGround net is_net.tree
       let h = (Member-in_range 0 net.routing.lines line (Member-filtered test (range_with_len 0 net.routing.lines) line m).0).1 in
       omega (arith, h)
 
-  led_touched : (line : ℕ) → Member (touched net piece) line → IsLed line
+  pub led_touched : (line : ℕ) → Member (touched net piece) line → IsLed line
   led_touched line m =
       let low = low_of (net.touches piece) line m in
       let touches = (Member-filtered (net.touches piece) (range_with_len 0 net.routing.lines) line m).1 in
       record { below = low; free = test_of_free net is_net e piece line inside comes low (ground.touching piece line touches) }
 
-  led_passing : (line : ℕ) → Member (passing net piece) line → IsLed line
+  pub led_passing : (line : ℕ) → Member (passing net piece) line → IsLed line
   led_passing line m =
       let test : ℕ → Bool = λ l. is_free net piece l && not (net.touches piece l) in
       record { below = low_of test line m; free = left_of (is_free net piece line) (not (net.touches piece line)) (Member-filtered test (range_with_len 0 net.routing.lines) line m).1 }
 
-  led_led : (line : ℕ) → Member (led_to net piece) line → IsLed line
+  pub led_led : (line : ℕ) → Member (led_to net piece) line → IsLed line
   led_led line m = record { below = low_of (is_free net piece) line m; free = (Member-filtered (is_free net piece) (range_with_len 0 net.routing.lines) line m).1 }
 
   -- the lines that a node of the piece moves are led to it
