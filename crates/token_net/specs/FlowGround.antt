@@ -1,6 +1,6 @@
 -- What lower layers tell of the flow graph of a net, as its pace beside the passes needs it.
-use Rattle.std.specs.Prelude.{◌≡◌, ◌≢◌, ◌<◌, ℕ, Bool, true, false}
-use Rattle.closed_walks.specs.Graph.{edge_count, from, to}
+use Rattle.std.specs.Prelude.{◌≡◌, ◌≢◌, ◌<◌, ◌≤◌, ℕ, Bool, true, false}
+use Rattle.closed_walks.specs.Graph.{Graph, edge_count, from, to}
 use Rattle.closed_walks.specs.Reaching.{reaches_within}
 use Rattle.region_tree.specs.Tree.{Tree}
 use Rattle.f77_tree.specs.Execution.{Memory}
@@ -8,7 +8,7 @@ use Rattle.cfg_build.specs.declared.pieces.PieceKind.{PieceKind}
 use Rattle.cfg_build.specs.declared.pieces.PieceKind.TheVariants as kind
 use Rattle.cfg_build.specs.Flow.{flow}
 use Rattle.cfg_build.specs.Joined.{finish}
-use Rattle.cfg_build.specs.Passes.{Done, IfAlong, pass}
+use Rattle.cfg_build.specs.Passes.{Done, IfAlong, out, pass}
 use Rattle.cfg_build.specs.Shape.{IsShaped, takes_one, leaves_one}
 use Rattle.dep_routing.specs.Next.{Next}
 use Rattle.dep_routing.specs.Place.{Place}
@@ -21,6 +21,12 @@ has_act kind.Act = true
 has_act kind.Branch = true
 has_act kind.Hold = true
 has_act _ = false
+
+-- a walk of few edges leads from the one node to the other
+pub record IsNearEnd (g : Graph) (node end : ℕ) : Type 0 where
+  pub most : ℕ
+  pub few : most ≤ 65536
+  pub reached : reaches_within most g node end ≡ true
 
 pub record FlowGround (net : NetOf) (t : Tree) : Type 0 where
   -- places
@@ -40,5 +46,7 @@ pub record FlowGround (net : NetOf) (t : Tree) : Type 0 where
   pub heads : (e : ℕ) → e < edge_count (graph_in net) → to (graph_in net) e < (graph_in net).nodes
   pub passes_on : (edge : ℕ) (m : Memory) → edge < edge_count (graph_in net) → IfAlong (pass net.program net.input edge m) (λ next new text. (next < edge_count (graph_in net)) × (from (graph_in net) next ≡ to (graph_in net) edge))
   pub ends : (edge : ℕ) (m : Memory) → edge < edge_count (graph_in net) → pass net.program net.input edge m ≡ Done → kind_in net (to (graph_in net) edge) ≡ kind.End
-  -- from each piece the end is reached, in fewer steps than the doublings of a walk over idle pieces take
-  pub near_end : (node : ℕ) → node < (graph_in net).nodes → reaches_within 65536 (graph_in net) node (finish net.program.execs) ≡ true
+  -- where one edge leaves a piece, this is it
+  pub one_out : (e : ℕ) → e < edge_count (graph_in net) → leaves_one (kind_in net (from (graph_in net) e)) ≡ true → e ≡ out (graph_in net) (from (graph_in net) e) 0
+  -- from each piece few edges lead to the end
+  pub near_end : (node : ℕ) → node < (graph_in net).nodes → IsNearEnd (graph_in net) node (finish net.program.execs)

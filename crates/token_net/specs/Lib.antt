@@ -21,3 +21,4 @@ pub mod FlowGround
 pub mod FreeLines
 pub mod PieceSteps
 pub mod PieceEnds
+pub mod WayLaws
