@@ -22,3 +22,4 @@ pub mod FreeLines
 pub mod PieceSteps
 pub mod PieceEnds
 pub mod WayLaws
+pub mod ArrivalLaws

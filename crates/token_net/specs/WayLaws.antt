@@ -36,7 +36,7 @@ idle_pass net piece memory x kind.Branch idle =
     absurd (omega (arith, none))
 
 -- an idle piece has one way on
-idle_leaves_one : (net : NetOf) (piece : ℕ) (k : PieceKind) → ((length (nodes_by net piece k) == 0) && not (is_end k)) ≡ true → leaves_one k ≡ true
+pub idle_leaves_one : (net : NetOf) (piece : ℕ) (k : PieceKind) → ((length (nodes_by net piece k) == 0) && not (is_end k)) ≡ true → leaves_one k ≡ true
 idle_leaves_one net piece kind.Join idle = refl
 idle_leaves_one net piece kind.Start idle = refl
 idle_leaves_one net piece kind.Pass idle = refl
