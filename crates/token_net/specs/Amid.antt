@@ -2,6 +2,7 @@
 use Rattle.std.specs.Prelude.{◌≡◌, ◌<◌, ◌≤◌, ℕ, zero, suc, ◌+◌, List, [], ◌∷◌, length, take, flat_map, Some, None}
 use Rattle.f77_tree.specs.Execution.{Memory}
 use Rattle.cfg_build.specs.Passes.{Passed, Along, Traps, Done, out}
+use Rattle.dep_routing.specs.Sound.{DoesTrap}
 use Rattle.firing.specs.declared.system.NodeName.{NodeName}
 use Rattle.firing.specs.declared.system.NodeName.TheVariants.{Act, Merge, Switch, Op}
 use Rattle.token_net.specs.NetOrder.{edge_or}
@@ -47,3 +48,4 @@ pub record IsAmid (net : NetOf) (start m : Tokens) (piece fired : ℕ) (memory :
   pub behind : (k : ℕ) → first_node net piece + switch_count net piece < k → left_for m k ≡ None
   pub memory_is : m.memory ≡ memory_amid memory made fired
   pub trap_is : m.trap ≡ None
+  pub no_trap : 0 < fired → DoesTrap made → ⊥

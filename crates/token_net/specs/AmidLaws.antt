@@ -10,6 +10,7 @@ use Rattle.cfg_build.specs.declared.pieces.PieceKind.{PieceKind}
 use Rattle.cfg_build.specs.declared.pieces.PieceKind.TheVariants as kind
 use Rattle.cfg_build.specs.Joined.{is_end}
 use Rattle.cfg_build.specs.Passes.{Passed, Along, Traps, Done, out, pass_of}
+use Rattle.dep_routing.specs.Sound.{DoesTrap}
 use Rattle.firing.specs.declared.system.NodeName.{NodeName}
 use Rattle.firing.specs.declared.system.NodeName.TheVariants.{Act, Merge, Switch, Op}
 use Rattle.token_net.specs.Amid.{moved_by, moved_first, leaving, memory_or, memory_amid, switch_count, IsAmid}
@@ -47,6 +48,7 @@ module _ (net : NetOf) (piece j : ℕ) (k : PieceKind) where
     pub moved : moved_first net (nodes_by net piece k) j ≡ take j (led_to net piece)
     pub edge : (m : Memory) (e : ExecKind) → leaving net piece (pass_of net.program net.input m (out (graph_in net) piece) k e) ≡ out (graph_in net) piece 0
     pub memory : (m : Memory) (e : ExecKind) → memory_or m (pass_of net.program net.input m (out (graph_in net) piece) k e) ≡ m
+    pub goes : (m : Memory) (e : ExecKind) → DoesTrap (pass_of net.program net.input m (out (graph_in net) piece) k e) → ⊥
 
   abbrev pub NodeCase : Type 0
   NodeCase = IsAct ⊎ IsSwitch ⊎ IsMerge
@@ -88,7 +90,7 @@ module _ (net : NetOf) (piece : ℕ) where
         moved = ap (λ xs. moved_first net xs (suc i)) nodes ∙ ap (λ rest. touched net piece ++ rest) (moved_switches (passing net piece) i);
       }
 
-  merge_case : (j : ℕ) (k : PieceKind) → nodes_by net piece k ≡ map (Merge piece) (led_to net piece) → switch_lines net piece k ≡ [] → j < length (nodes_by net piece k) → ((m : Memory) (e : ExecKind) → (leaving net piece (pass_of net.program net.input m (out (graph_in net) piece) k e) ≡ out (graph_in net) piece 0) × (memory_or m (pass_of net.program net.input m (out (graph_in net) piece) k e) ≡ m)) → IsMerge net piece j k
+  merge_case : (j : ℕ) (k : PieceKind) → nodes_by net piece k ≡ map (Merge piece) (led_to net piece) → switch_lines net piece k ≡ [] → j < length (nodes_by net piece k) → ((m : Memory) (e : ExecKind) → (leaving net piece (pass_of net.program net.input m (out (graph_in net) piece) k e) ≡ out (graph_in net) piece 0) × (memory_or m (pass_of net.program net.input m (out (graph_in net) piece) k e) ≡ m) × (DoesTrap (pass_of net.program net.input m (out (graph_in net) piece) k e) → ⊥)) → IsMerge net piece j k
   merge_case j k nodes lines below plain =
       let long : length (nodes_by net piece k) ≡ length (led_to net piece) = ap length nodes ∙ length_map (Merge piece) (led_to net piece) in
       let r : HasItem (led_to net piece) j = item_at (led_to net piece) j (omega (arith, below, long)) in
@@ -100,6 +102,7 @@ module _ (net : NetOf) (piece : ℕ) where
         moved = ap (λ xs. moved_first net xs j) nodes ∙ moved_merges (led_to net piece) j;
         edge = λ m e. (plain m e).0;
         memory = λ m e. (plain m e).1;
+        goes = λ m e. (plain m e).2;
       }
 
   pub node_case : (j : ℕ) (k : PieceKind) → j < length (nodes_by net piece k) → NodeCase net piece j k
@@ -109,8 +112,8 @@ module _ (net : NetOf) (piece : ℕ) where
   node_case (suc j) kind.Act below = absurd (omega (arith, below))
   node_case (suc j) kind.Branch below = inr (inl (switch_case j kind.Branch refl refl below))
   node_case (suc j) kind.Hold below = inr (inl (switch_case j kind.Hold refl refl below))
-  node_case j kind.Join below = inr (inr (merge_case j kind.Join refl refl below (λ m e. (refl, refl))))
-  node_case j kind.End below = inr (inr (merge_case j kind.End refl refl below (λ m e. (refl, refl))))
+  node_case j kind.Join below = inr (inr (merge_case j kind.Join refl refl below (λ m e. (refl, refl, λ (t : ⊥). t))))
+  node_case j kind.End below = inr (inr (merge_case j kind.End refl refl below (λ m e. (refl, refl, λ (t : ⊥). t))))
   node_case j kind.Start below = absurd (omega (arith, below))
   node_case j kind.Pass below = absurd (omega (arith, below))
 

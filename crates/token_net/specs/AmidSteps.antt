@@ -76,6 +76,7 @@ module _ (net : NetOf) (start m : Tokens) (piece : ℕ) (memory : Memory) where
         behind = λ k high. ap joined (with_all_other m.edges (switches net piece) value k (λ s. let inside = (Member-in_range (suc (first_node net piece)) (switch_count net piece) k s).1 in omega (arith, high, inside))) ∙ amid.at_first refl k;
         memory_is = refl;
         trap_is = amid.trap_is;
+        no_trap = λ some (t : ⊥). t;
       }
 
   pub act_amid : (made : Passed) → IsAmid net start m piece 0 memory made → slice_get (nodes_at net piece) 0 ≡ Some (Act piece) → first_node net piece + switch_count net piece < length m.edges → (made ≡ Done → ⊥) → (DoesTrap made → net.touches piece 0 ≡ true) → (acted net m piece made).trap ≡ None → IsAmid net start (acted net m piece made) piece 1 memory made
@@ -99,6 +100,7 @@ module _ (net : NetOf) (start m : Tokens) (piece : ℕ) (memory : Memory) where
         behind = λ k high. ap joined (get_set_other m.edges own k None (λ same. omega (arith, same, high, few))) ∙ amid.behind k high;
         memory_is = amid.memory_is;
         trap_is = amid.trap_is;
+        no_trap = λ some. amid.no_trap (omega arith);
       }
     where
       lower : (k : ℕ) → k < first_node net piece + suc (suc fired) → (first_node net piece + suc fired ≡ k → ⊥) → k < first_node net piece + suc fired
@@ -107,8 +109,8 @@ module _ (net : NetOf) (start m : Tokens) (piece : ℕ) (memory : Memory) where
           at_most : (a k : ℕ) → k ≤ a → (a ≡ k → ⊥) → k < a
           at_most a k low other = grind (arith, low, other)
 
-  pub merge_amid : (made : Passed) (fired line : ℕ) → IsAmid net start m piece fired memory made → slice_get (nodes_at net piece) fired ≡ Some (Merge piece line) → switch_count net piece ≡ 0 → leaving net piece made ≡ out (graph_in net) piece 0 → memory_or memory made ≡ memory → IsAmid net start (merged net m piece line) piece (suc fired) memory made
-  merge_amid made fired line amid name none edge same = record {
+  pub merge_amid : (made : Passed) (fired line : ℕ) → IsAmid net start m piece fired memory made → slice_get (nodes_at net piece) fired ≡ Some (Merge piece line) → switch_count net piece ≡ 0 → leaving net piece made ≡ out (graph_in net) piece 0 → memory_or memory made ≡ memory → (DoesTrap made → ⊥) → IsAmid net start (merged net m piece line) piece (suc fired) memory made
+  merge_amid made fired line amid name none edge same goes = record {
         lines = ap (λ (d : ℕ). slice_set m.lines line (led_from net d line)) (sym edge) ∙ lines_more net (nodes_at net piece) fired (Merge piece line) start.lines m.lines (led_from net (leaving net piece made)) name amid.lines;
         at_first = λ one. let e : suc fired ≡ 0 = one in cc;
         before = λ k low. nothing fired refl k;
@@ -116,6 +118,7 @@ module _ (net : NetOf) (start m : Tokens) (piece : ℕ) (memory : Memory) where
         behind = λ k high. nothing fired refl k;
         memory_is = amid.memory_is ∙ still fired ∙ sym same;
         trap_is = amid.trap_is;
+        no_trap = λ some. goes;
       }
     where
       still : (i : ℕ) → memory_amid memory made i ≡ memory

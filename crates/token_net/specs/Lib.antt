@@ -23,3 +23,4 @@ pub mod PieceSteps
 pub mod PieceEnds
 pub mod WayLaws
 pub mod ArrivalLaws
+pub mod PaceLaws

@@ -133,6 +133,7 @@ module _ (net : NetOf) (is_net : IsNet net) (ground : FlowGround net is_net.tree
       behind = λ k high. between.edges k;
       memory_is = between.memory_is;
       trap_is = between.trap_is;
+      no_trap = λ some. absurd (omega (arith, some));
     }
 
     module _ (m : Tokens) (amid : IsAmid net s m piece (node_count net piece) memory (pass_at net piece memory)) (d : ℕ) (leaves : leaving net piece (pass_at net piece memory) ≡ d) (exit : d < edge_count (graph_in net)) (begins : from (graph_in net) d ≡ piece) where

@@ -191,5 +191,5 @@ module _ (net : NetOf) (is_net : IsNet net) (ground : FlowGround net is_net.tree
         by (inr (inr merge)) =
             let made = pass_at net piece memory in
             let same : Merge piece merge.line ≡ name = same_name (Merge piece merge.line) name (sym merge.name ∙ at) in
-            let after : IsAmid net s (merged net m piece merge.line) piece (suc j) memory made = merge_amid net s m piece memory made j merge.line amid merge.name merge.none (merge.edge memory (exec_kind net.program piece)) (merge.memory memory (exec_kind net.program piece)) in
+            let after : IsAmid net s (merged net m piece merge.line) piece (suc j) memory made = merge_amid net s m piece memory made j merge.line amid merge.name merge.none (merge.edge memory (exec_kind net.program piece)) (merge.memory memory (exec_kind net.program piece)) (merge.goes memory (exec_kind net.program piece)) in
             subst (λ (n : NodeName). IsAmid net s (fired_as net m (first_node net piece + j) n) piece (suc j) memory made) same after

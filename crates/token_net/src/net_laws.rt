@@ -3,7 +3,7 @@
 ghost use Rattle.std.specs.Prelude.{◌≡◌};
 ghost use Rattle.token_net.specs.Nodes.{NetOf};
 ghost use Rattle.token_net.specs.AmidSteps.{merge_amid};
-ghost use Rattle.token_net.specs.ArrivalLaws.{arrival_busy};
+ghost use Rattle.token_net.specs.PaceLaws.{keeps_step};
 
 /// Trial.
 pub fn pace_trial()
