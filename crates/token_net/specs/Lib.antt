@@ -24,3 +24,4 @@ pub mod PieceEnds
 pub mod WayLaws
 pub mod ArrivalLaws
 pub mod PaceLaws
+pub mod RestLaws

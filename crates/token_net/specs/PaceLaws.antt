@@ -37,7 +37,7 @@ pub record IsDue (net : NetOf) (c : Control) (k : ℕ) : Type 0 where
   pub low : c.fired < node_count net c.piece
   pub is : first_node net c.piece + c.fired ≡ k
 
-due_is : (net : NetOf) (c : Control) (k : ℕ) → due_node net c ≡ Some k → IsDue net c k
+pub due_is : (net : NetOf) (c : Control) (k : ℕ) → due_node net c ≡ Some k → IsDue net c k
 due_is net c k due = by (nat_lt c.fired (node_count net c.piece)) refl due
   where
     by : (b : Bool) → nat_lt c.fired (node_count net c.piece) ≡ b → (if b then Some (first_node net c.piece + c.fired) else None) ≡ Some k → IsDue net c k
@@ -47,7 +47,7 @@ due_is net c k due = by (nat_lt c.fired (node_count net c.piece)) refl due
         same_number a b e = cc
     by false low same = let clash : None ≡ Some k = same in absurd cc
 
-none_due : (net : NetOf) (c : Control) → due_node net c ≡ None → node_count net c.piece ≤ c.fired
+pub none_due : (net : NetOf) (c : Control) → due_node net c ≡ None → node_count net c.piece ≤ c.fired
 none_due net c due = by (nat_lt c.fired (node_count net c.piece)) refl due
   where
     by : (b : Bool) → nat_lt c.fired (node_count net c.piece) ≡ b → (if b then Some (first_node net c.piece + c.fired) else None) ≡ None → node_count net c.piece ≤ c.fired
@@ -95,10 +95,10 @@ traps_touch net is_net n edge piece memory way comes trap =
     subst (λ (x : ℕ). net.touches x 0 ≡ true) there (is_net.sound_touches.traps net.input n is_net.input_words way.running at_run)
 
 module _ (net : NetOf) (m : Tokens) (c : Control) (pace : IsInPace net m c) where
-  piece_exists : c.piece < (graph_in net).nodes
+  pub piece_exists : c.piece < (graph_in net).nodes
   piece_exists = let way = pace.way in subst (λ (x : ℕ). x < (graph_in net).nodes) pace.comes (pace.ground.heads pace.edge way.exists)
 
-  later : 0 ≢ c.piece
+  pub later : 0 ≢ c.piece
   later is = not_start net pace.is_net pace.ground pace.passes_made pace.edge pace.memory pace.way (is ∙ sym pace.comes)
 
   taken_is : taken net m c ≡ leaving net c.piece (pass_at net c.piece pace.memory)

@@ -3,7 +3,7 @@
 ghost use Rattle.std.specs.Prelude.{◌≡◌};
 ghost use Rattle.token_net.specs.Nodes.{NetOf};
 ghost use Rattle.token_net.specs.AmidSteps.{merge_amid};
-ghost use Rattle.token_net.specs.PaceLaws.{keeps_step};
+ghost use Rattle.token_net.specs.RestLaws.{source_order};
 
 /// Trial.
 pub fn pace_trial()
