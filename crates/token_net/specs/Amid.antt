@@ -35,6 +35,17 @@ abbrev pub memory_amid : Memory → Passed → (fired : ℕ) → Memory
 memory_amid memory made zero = memory
 memory_amid memory made (suc fired) = memory_or memory made
 
+-- the text that a pass writes
+abbrev pub text_in : Passed → List ℕ
+text_in (Along edge memory text) = text
+text_in (Traps trap) = []
+text_in Done = []
+
+-- the first node of a piece writes it
+abbrev pub text_amid : Passed → (fired : ℕ) → List ℕ
+text_amid made zero = []
+text_amid made (suc fired) = text_in made
+
 abbrev pub switch_count : NetOf → ℕ → ℕ
 switch_count net piece = length (switch_lines net piece (kind_in net piece))
 

@@ -13,7 +13,7 @@ use Rattle.cfg_build.specs.Passes.{Passed, Along, Traps, Done, out, pass_of}
 use Rattle.dep_routing.specs.Sound.{DoesTrap}
 use Rattle.firing.specs.declared.system.NodeName.{NodeName}
 use Rattle.firing.specs.declared.system.NodeName.TheVariants.{Act, Merge, Switch, Op}
-use Rattle.token_net.specs.Amid.{moved_by, moved_first, leaving, memory_or, memory_amid, switch_count, IsAmid}
+use Rattle.token_net.specs.Amid.{moved_by, moved_first, leaving, memory_or, memory_amid, text_in, switch_count, IsAmid}
 use Rattle.token_net.specs.MemberLaws.{Member, Member-range, Member-in_range, Member-filtered, Member-right, Member-left, Member-cases}
 use Rattle.token_net.specs.NetOrder.{edge_or}
 use Rattle.token_net.specs.Nodes.{NetOf, graph_in, kind_in, is_free, touched, led_to, passing, nodes_by, nodes_at, nodes_of, first_node, switch_lines, switches}
@@ -49,6 +49,7 @@ module _ (net : NetOf) (piece j : ℕ) (k : PieceKind) where
     pub edge : (m : Memory) (e : ExecKind) → leaving net piece (pass_of net.program net.input m (out (graph_in net) piece) k e) ≡ out (graph_in net) piece 0
     pub memory : (m : Memory) (e : ExecKind) → memory_or m (pass_of net.program net.input m (out (graph_in net) piece) k e) ≡ m
     pub goes : (m : Memory) (e : ExecKind) → DoesTrap (pass_of net.program net.input m (out (graph_in net) piece) k e) → ⊥
+    pub quiet : (m : Memory) (e : ExecKind) → text_in (pass_of net.program net.input m (out (graph_in net) piece) k e) ≡ []
 
   abbrev pub NodeCase : Type 0
   NodeCase = IsAct ⊎ IsSwitch ⊎ IsMerge
@@ -90,7 +91,7 @@ module _ (net : NetOf) (piece : ℕ) where
         moved = ap (λ xs. moved_first net xs (suc i)) nodes ∙ ap (λ rest. touched net piece ++ rest) (moved_switches (passing net piece) i);
       }
 
-  merge_case : (j : ℕ) (k : PieceKind) → nodes_by net piece k ≡ map (Merge piece) (led_to net piece) → switch_lines net piece k ≡ [] → j < length (nodes_by net piece k) → ((m : Memory) (e : ExecKind) → (leaving net piece (pass_of net.program net.input m (out (graph_in net) piece) k e) ≡ out (graph_in net) piece 0) × (memory_or m (pass_of net.program net.input m (out (graph_in net) piece) k e) ≡ m) × (DoesTrap (pass_of net.program net.input m (out (graph_in net) piece) k e) → ⊥)) → IsMerge net piece j k
+  merge_case : (j : ℕ) (k : PieceKind) → nodes_by net piece k ≡ map (Merge piece) (led_to net piece) → switch_lines net piece k ≡ [] → j < length (nodes_by net piece k) → ((m : Memory) (e : ExecKind) → (leaving net piece (pass_of net.program net.input m (out (graph_in net) piece) k e) ≡ out (graph_in net) piece 0) × (memory_or m (pass_of net.program net.input m (out (graph_in net) piece) k e) ≡ m) × (DoesTrap (pass_of net.program net.input m (out (graph_in net) piece) k e) → ⊥) × (text_in (pass_of net.program net.input m (out (graph_in net) piece) k e) ≡ [])) → IsMerge net piece j k
   merge_case j k nodes lines below plain =
       let long : length (nodes_by net piece k) ≡ length (led_to net piece) = ap length nodes ∙ length_map (Merge piece) (led_to net piece) in
       let r : HasItem (led_to net piece) j = item_at (led_to net piece) j (omega (arith, below, long)) in
@@ -103,6 +104,7 @@ module _ (net : NetOf) (piece : ℕ) where
         edge = λ m e. (plain m e).0;
         memory = λ m e. (plain m e).1;
         goes = λ m e. (plain m e).2;
+        quiet = λ m e. (plain m e).3;
       }
 
   pub node_case : (j : ℕ) (k : PieceKind) → j < length (nodes_by net piece k) → NodeCase net piece j k
@@ -112,8 +114,8 @@ module _ (net : NetOf) (piece : ℕ) where
   node_case (suc j) kind.Act below = absurd (omega (arith, below))
   node_case (suc j) kind.Branch below = inr (inl (switch_case j kind.Branch refl refl below))
   node_case (suc j) kind.Hold below = inr (inl (switch_case j kind.Hold refl refl below))
-  node_case j kind.Join below = inr (inr (merge_case j kind.Join refl refl below (λ m e. (refl, refl, λ (t : ⊥). t))))
-  node_case j kind.End below = inr (inr (merge_case j kind.End refl refl below (λ m e. (refl, refl, λ (t : ⊥). t))))
+  node_case j kind.Join below = inr (inr (merge_case j kind.Join refl refl below (λ m e. (refl, refl, λ (t : ⊥). t, refl))))
+  node_case j kind.End below = inr (inr (merge_case j kind.End refl refl below (λ m e. (refl, refl, λ (t : ⊥). t, refl))))
   node_case j kind.Start below = absurd (omega (arith, below))
   node_case j kind.Pass below = absurd (omega (arith, below))
 

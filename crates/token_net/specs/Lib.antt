@@ -25,3 +25,6 @@ pub mod WayLaws
 pub mod ArrivalLaws
 pub mod PaceLaws
 pub mod RestLaws
+pub mod OwnOrder
+pub mod OrderLists
+pub mod PassFirings

@@ -42,11 +42,11 @@ node_below net piece j exists low =
     let r : HasItem (nodes_at net piece) j = item_at (nodes_at net piece) j low in
     below_length (nodes_of net) (first_node net piece + j) r.item (node_number net piece j r.item exists r.at)
 
-all_members : (test : ℕ → Bool) (xs : List ℕ) → ((x : ℕ) → Member xs x → test x ≡ true) → list_all test xs ≡ true
+pub all_members : (test : ℕ → Bool) (xs : List ℕ) → ((x : ℕ) → Member xs x → test x ≡ true) → list_all test xs ≡ true
 all_members test [] each = refl
 all_members test (x ∷ xs) each = and_from (test x) (list_all test xs) (each x (inl refl)) (all_members test xs (λ y m. each y (inr m)))
 
-same_name : (a b : NodeName) → Some a ≡ Some b → a ≡ b
+pub same_name : (a b : NodeName) → Some a ≡ Some b → a ≡ b
 same_name a b e = cc
 
 -- the piece has as many nodes as switches, and one more
@@ -121,7 +121,7 @@ module _ (net : NetOf) (is_net : IsNet net) (ground : FlowGround net is_net.tree
     some_low : j < node_count net piece
     some_low = below_length (nodes_at net piece) j name at
 
-    own_case : NodeCase net piece j (kind_in net piece)
+    pub own_case : NodeCase net piece j (kind_in net piece)
     own_case = node_case net piece j (kind_in net piece) some_low
 
     before_it : (line : ℕ) → Member (moved_by net name) line → is_before net m piece line ≡ true
