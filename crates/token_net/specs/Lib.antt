@@ -28,3 +28,4 @@ pub mod RestLaws
 pub mod OwnOrder
 pub mod OrderLists
 pub mod PassFirings
+pub mod PassPace

@@ -32,7 +32,7 @@ use Rattle.token_net.specs.PlaceLaws.{left_of, right_of, all_pass}
 use Rattle.token_net.specs.Tokens.{Tokens, edge_of, left_for, net_moves, pass_at, is_before, leads_to, ready_as}
 
 module _ (net : NetOf) (is_net : IsNet net) (ground : FlowGround net is_net.tree) where
-  some_edge : 0 < edge_count (graph_in net)
+  pub some_edge : 0 < edge_count (graph_in net)
   some_edge = let two = ground.shape.two_edges in omega (arith, two)
 
   back : to (graph_in net) 0 ≡ 0

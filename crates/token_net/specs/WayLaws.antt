@@ -80,7 +80,7 @@ module _ (net : NetOf) (is_net : IsNet net) (ground : FlowGround net is_net.tree
       let clash : Done ≡ Along d new text = sym made ∙ along in
       cc
 
-  not_back : (edge d : ℕ) (memory new : Memory) (text : List ℕ) → edge < edge_count (graph_in net) → pass net.program net.input edge memory ≡ Along d new text → 0 < d
+  pub not_back : (edge d : ℕ) (memory new : Memory) (text : List ℕ) → edge < edge_count (graph_in net) → pass net.program net.input edge memory ≡ Along d new text → 0 < d
   not_back edge d memory new text inside along = by d along
     where
       by : (d : ℕ) → pass net.program net.input edge memory ≡ Along d new text → 0 < d
