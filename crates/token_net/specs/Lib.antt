@@ -29,3 +29,5 @@ pub mod OwnOrder
 pub mod OrderLists
 pub mod PassFirings
 pub mod PassPace
+pub mod StepPace
+pub mod StepPaceLaws

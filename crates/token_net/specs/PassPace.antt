@@ -50,7 +50,7 @@ text_by net piece memory x kind.Start zero is = refl
 text_by net piece memory x kind.Pass zero is = refl
 
 -- only an act or a branch traps
-trap_acts : (net : NetOf) (piece : ℕ) (memory : Memory) (x : ExecKind) (k : PieceKind) → DoesTrap (pass_of net.program net.input memory (out (graph_in net) piece) k x) → slice_get (nodes_by net piece k) 0 ≡ Some (Act piece)
+pub trap_acts : (net : NetOf) (piece : ℕ) (memory : Memory) (x : ExecKind) (k : PieceKind) → DoesTrap (pass_of net.program net.input memory (out (graph_in net) piece) k x) → slice_get (nodes_by net piece k) 0 ≡ Some (Act piece)
 trap_acts net piece memory x kind.Act trap = refl
 trap_acts net piece memory x kind.Branch trap = refl
 trap_acts net piece memory x kind.Hold trap = refl

@@ -38,7 +38,7 @@ moved_merges net piece [] = refl
 moved_merges net piece (line ∷ lines) = ap (λ rest. line ∷ rest) (moved_merges net piece lines)
 
 -- the lines that the nodes of a piece of this kind move
-abbrev moved_by_all : NetOf → (piece : ℕ) → PieceKind → List ℕ
+abbrev pub moved_by_all : NetOf → (piece : ℕ) → PieceKind → List ℕ
 moved_by_all net piece k = flat_map (moved_by net) (nodes_by net piece k)
 
 -- a piece without nodes changes nothing
@@ -94,7 +94,7 @@ module _ (net : NetOf) (is_net : IsNet net) (ground : FlowGround net is_net.tree
       (cases_Bool (net.touches piece line))
 
   -- each line that is led to the piece is moved
-  moves_each : (k : PieceKind) (line : ℕ) → kind_in net piece ≡ k → line < net.routing.lines → is_free net piece line ≡ true → Member (moved_by_all net piece k) line
+  pub moves_each : (k : PieceKind) (line : ℕ) → kind_in net piece ≡ k → line < net.routing.lines → is_free net piece line ≡ true → Member (moved_by_all net piece k) line
   moves_each kind.Act line is low free = Member-left (touched net piece) [] line (touch_member line low (own_touch kind.Act line is refl refl low free))
   moves_each kind.Branch line is low free = split_member (flat_map (moved_by net) (map (Switch piece) (passing net piece))) (λ l low free none. subst (λ (xs : List ℕ). Member xs l) (sym (moved_switches net piece (passing net piece))) (pass_member l low free none)) line low free
   moves_each kind.Hold line is low free = split_member (flat_map (moved_by net) (map (Switch piece) (passing net piece))) (λ l low free none. subst (λ (xs : List ℕ). Member xs l) (sym (moved_switches net piece (passing net piece))) (pass_member l low free none)) line low free

@@ -4,7 +4,7 @@ ghost use Rattle.std.specs.Prelude.{◌≡◌};
 ghost use Rattle.token_net.specs.Nodes.{NetOf};
 ghost use Rattle.token_net.specs.AmidSteps.{merge_amid};
 ghost use Rattle.token_net.specs.RestLaws.{source_order};
-ghost use Rattle.token_net.specs.PassPace.{pass_pace};
+ghost use Rattle.token_net.specs.StepPaceLaws.{own_paced};
 
 /// Trial.
 pub fn pace_trial()
