@@ -113,3 +113,21 @@ module _ (net : NetOf) (is_net : IsNet net) (ground : FlowGround net is_net.tree
 
   pub arrival_busy : (edge : ℕ) → edge < edge_count (graph_in net) → is_idle net (arrival net edge) ≡ false
   arrival_busy edge inside = busy_by 16 edge (omega arith) inside
+
+  -- control that comes to a piece with nodes, or to the end, comes no farther
+  pub arrived_busy : (k edge : ℕ) → is_idle net (to (graph_in net) edge) ≡ false → passed_by k net edge ≡ edge
+  arrived_busy k edge busy = by_times net k edge ∙ stays_busy (doubled k) edge busy
+
+  past_by : (k edge : ℕ) → 65536 ≤ doubled k → edge < edge_count (graph_in net) → passed_by k net (passed net edge) ≡ passed_by k net edge
+  past_by k edge enough inside =
+      let one_more : suc (doubled k) ≡ doubled k + 1 = omega arith in
+      let busy : IsBusyAt (passed_times net (doubled k) edge) = subst IsBusyAt (by_times net k edge) (busy_by k edge enough inside) in
+      by_times net k (passed net edge)
+      ∙ ap (λ (n : ℕ). passed_times net n edge) one_more
+      ∙ times_add net (doubled k) 1 edge
+      ∙ passed_busy (passed_times net (doubled k) edge) busy
+      ∙ sym (by_times net k edge)
+
+  -- past an idle piece control comes to the same place
+  pub arrival_past : (edge : ℕ) → edge < edge_count (graph_in net) → passed_by 16 net (passed net edge) ≡ passed_by 16 net edge
+  arrival_past edge inside = past_by 16 edge (omega arith) inside

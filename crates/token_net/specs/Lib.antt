@@ -31,3 +31,4 @@ pub mod PassFirings
 pub mod PassPace
 pub mod StepPace
 pub mod StepPaceLaws
+pub mod DuePace

@@ -23,7 +23,7 @@ use Rattle.token_net.specs.PlaceLaws.{left_of, right_of}
 use Rattle.token_net.specs.Tokens.{Tokens, pass_at}
 
 -- the pass of an idle piece
-idle_pass : (net : NetOf) (piece : ℕ) (memory : Memory) (x : ExecKind) (k : PieceKind) → ((length (nodes_by net piece k) == 0) && not (is_end k)) ≡ true → pass_of net.program net.input memory (out (graph_in net) piece) k x ≡ Along (out (graph_in net) piece 0) memory []
+pub idle_pass : (net : NetOf) (piece : ℕ) (memory : Memory) (x : ExecKind) (k : PieceKind) → ((length (nodes_by net piece k) == 0) && not (is_end k)) ≡ true → pass_of net.program net.input memory (out (graph_in net) piece) k x ≡ Along (out (graph_in net) piece 0) memory []
 idle_pass net piece memory x kind.Join idle = refl
 idle_pass net piece memory x kind.Start idle = refl
 idle_pass net piece memory x kind.Pass idle = refl
