@@ -32,3 +32,4 @@ pub mod PassPace
 pub mod StepPace
 pub mod StepPaceLaws
 pub mod DuePace
+pub mod OrderBounds

@@ -5,6 +5,7 @@ ghost use Rattle.token_net.specs.Nodes.{NetOf};
 ghost use Rattle.token_net.specs.AmidSteps.{merge_amid};
 ghost use Rattle.token_net.specs.RestLaws.{source_order};
 ghost use Rattle.token_net.specs.StepPaceLaws.{own_paced};
+ghost use Rattle.token_net.specs.OrderBounds.{order_few, begins_in_pace};
 ghost use Rattle.token_net.specs.DuePace.{due_pace};
 
 /// Trial.
