@@ -9,3 +9,5 @@ mod MoveLemmas
 mod FireLemmas
 mod FollowLemmas
 mod SimplePrograms
+mod OneWays
+mod TouchKinds

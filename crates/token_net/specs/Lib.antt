@@ -33,3 +33,4 @@ pub mod StepPace
 pub mod StepPaceLaws
 pub mod DuePace
 pub mod OrderBounds
+pub mod PieceFacts
