@@ -4,10 +4,12 @@ use Rattle.std.proofs.lemmas.Bool.{cases_Bool, cond-true}
 use Rattle.std.proofs.lemmas.List.Sums.{sum_by-cons}
 use Rattle.std.specs.List.{range_with_len}
 use Rattle.closed_walks.specs.Graph.{Graph, edge_count, from, to}
+use Rattle.closed_walks.specs.Reaching.{reaches}
 use Rattle.closed_walks.specs.Region.{IsFlowGraph, IsPassed}
 use Rattle.closed_walks.specs.Walk.{Walk, Reach}
 use Rattle.cfg_build.specs.Degrees.{in_degree, out_degree}
 use Rattle.cfg_build.specs.Passes.{outs, out}
+use Rattle.token_net.specs.FlowGround.{IsNearEnd}
 use Rattle.token_net.specs.MemberLaws.{Member, Member-filter, Member-filtered, Member-range, Member-in_range}
 
 -- what a truth adds to a count
@@ -130,3 +132,10 @@ on_one_way g node flow exists later one_in one_leaves =
         one_out = λ e inside begins. one_from g node e b.edge one_leaves inside b.exists begins b.begins;
       };
     }
+
+-- ---- the end
+
+-- a walk that takes no node twice is short where the nodes are few
+pub near_end : (g : Graph) (node end : ℕ) → g.nodes ≤ 65536 → reaches g node end ≡ true → IsNearEnd g node end
+unfolding reaches
+near_end g node end few reached = record { most = g.nodes; few = few; reached = reached }

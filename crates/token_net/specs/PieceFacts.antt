@@ -1,11 +1,10 @@
 -- What is asked of the pieces of a net besides its shape.
-use Rattle.std.specs.Prelude.{◌≡◌, ◌<◌, ℕ, true}
+use Rattle.std.specs.Prelude.{◌≡◌, ◌<◌, ◌≤◌, ℕ, true}
 use Rattle.closed_walks.specs.Graph.{edge_count, to}
 use Rattle.f77_tree.specs.Execution.{Memory}
 use Rattle.cfg_build.specs.declared.pieces.PieceKind.TheVariants as kind
-use Rattle.cfg_build.specs.Joined.{finish}
 use Rattle.cfg_build.specs.Passes.{Done, pass}
-use Rattle.token_net.specs.FlowGround.{IsNearEnd, has_act}
+use Rattle.token_net.specs.FlowGround.{has_act}
 use Rattle.token_net.specs.Nodes.{NetOf, graph_in, kind_in}
 
 pub record PieceFacts (net : NetOf) : Type 0 where
@@ -13,5 +12,5 @@ pub record PieceFacts (net : NetOf) : Type 0 where
   pub touch_some : (node : ℕ) → node < (graph_in net).nodes → has_act (kind_in net node) ≡ true → (line : ℕ) × (line < net.routing.lines) × (net.touches node line ≡ true)
   -- a run ends only at the end
   pub ends : (edge : ℕ) (m : Memory) → edge < edge_count (graph_in net) → pass net.program net.input edge m ≡ Done → kind_in net (to (graph_in net) edge) ≡ kind.End
-  -- few edges lead from each piece to the end
-  pub near_end : (node : ℕ) → node < (graph_in net).nodes → IsNearEnd (graph_in net) node (finish net.program.execs)
+  -- the doublings of a walk past idle pieces are enough
+  pub few_pieces : (graph_in net).nodes ≤ 65536

@@ -18,7 +18,7 @@ mod upcoming;
 pub use control::Control;
 pub use following::{PlayEnd, follow};
 pub use net::Net;
-pub use net_laws::{flow_graphs_ground_nets, nets_are_paced, nets_keep_pace};
+pub use net_laws::{flow_graphs_ground_nets, nets_are_paced, nets_keep_pace, runs_ground_nets};
 pub use playable::is_playable;
 pub use straight::StraightNet;
 

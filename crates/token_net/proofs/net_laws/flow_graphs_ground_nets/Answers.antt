@@ -4,7 +4,7 @@ use Rattle.cfg_build.specs.Flow.{flow}
 use Rattle.cfg_build.specs.Joined.{finish}
 use Rattle.cfg_build.specs.Shape.{IsShaped}
 use Rattle.token_net.specs.Nodes.{graph_in}
-use Rattle.token_net.proofs.OneWays.{IsOnOneWay, one_out, on_one_way}
+use Rattle.token_net.proofs.OneWays.{IsOnOneWay, near_end, one_out, on_one_way}
 use Rattle.token_net.proofs.TouchKinds.{touch_none}
 use Rattle.token_net.proofs.net_laws.flow_graphs_ground_nets.Goals as goal
 
@@ -34,5 +34,7 @@ returns c = λ net n facts.
       passes_on = λ edge m inside. c.passes_are_a_walk.ensures.each p net.input edge m well inside;
       ends = facts.ends;
       one_out = λ e inside one. one_out g e inside (shape.one_leaves (Rattle.closed_walks.specs.Graph.from g e) (graph.begins e inside) one);
-      near_end = facts.near_end;
+      near_end = λ node exists.
+      let way = strong.strong node (finish p.execs) exists shape.end_exists in
+      near_end g node (finish p.execs) facts.few_pieces ((c.reaching_is_told.ensures g node (finish p.execs) graph exists).1 way);
     }
