@@ -61,6 +61,15 @@ def equivalent(count, part, shared):
     return unlabelled("EQUIVALENCE" + ",".join(groups[at: at + each]) for at in range(0, len(groups), each))
 
 
+def covering(arrays, parts):
+    """Arrays at one place, and scalars in every second word of it."""
+    size = 2 * parts + 1
+    declared = ["%s(%d)" % (name(number), size) for number in range(arrays)]
+    placed = ["(%s(1),%s(1))" % (name(0), name(number)) for number in range(1, arrays)]
+    placed += ["(%s(%d),J%d)" % (name(0), 2 * part + 2, part) for part in range(parts)]
+    return unlabelled([word + ",".join(items[at: at + 50]) for word, items in [("INTEGER ", declared), ("EQUIVALENCE", placed)] for at in range(0, len(items), 50)])
+
+
 def one_by_one():
     """DATA with a value for each word of 403 arrays."""
     arrays = ["M%03d" % number for number in range(403)]
@@ -72,9 +81,10 @@ TEXTS = [
     ("3,999 statements I=1", unlabelled(["I=1"] * 3999)),
     ("3,000 labels, 3,000 GO TOs", jumps(3000)),
     ("1,999 nested IF blocks", ifs(1999)),
-    ("1,999 nested DO loops", loops(1999)),
+    ("1,020 nested DO loops", loops(1020)),
     ("100,000 names in EQUIVALENCE, one storage", equivalent(100000, 100, True)),
     ("100,000 names in EQUIVALENCE, in pairs", equivalent(100000, 2, False)),
+    ("20,000 arrays, 1,000 scalars in each", covering(20000, 1000)),
     ("DATA of 262,144 words, one run", unlabelled(["INTEGER A(262144)", "DATA A/262144*1/"])),
     ("DATA of 261,950 words, one by one", one_by_one()),
     ("DATA of 3,998 elements", unlabelled(["INTEGER A(262144)"] + ["DATA A(%d)/1/" % (262144 - k) for k in range(3998)])),

@@ -8,7 +8,7 @@ where --limit is given. A text is a program written at random, often with one fa
 or more), a file of FOLDER whose name has no dot, changed in a few places. The two agree where
 
 - both answer status 2 with the same bytes, a line `REFUSED line CODE`;
-- OTHER reads the text (or refuses it by MANYOPS or MANYCLASSES), and DFC reads it too or refuses it by NOTYET;
+- OTHER reads the text, and DFC reads it too or refuses it by NOTYET;
 - DFC refuses a statement of a subroutine by NOFORM: it has none yet;
 - both refuse by BADORDER, and OTHER a statement directly behind an END, which a compiler with subroutines tells first.
 
@@ -257,6 +257,8 @@ FAULTS = {
     "MANYWORDS above": ["INTEGER A(200000),N6(%d)" % size for size in (62100, 62120, 62144, 62145, 99999)] + ["COMMON/W/N5(262144)"],
     "MANYOPS": ["N5=" + "+".join([term] * count) for term, middle in [("1", 500), ("N6", 250)] for count in range(middle - 2, middle + 3)]
     + ["200 CONTINUE" + ("|GO TO(200" + ",200" * 299 + "),N5") * 13 + "|GO TO(200" + ",200" * count + "),N5" for count in (98, 99, 100)],
+    "MANYCLASSES above": ["|".join("INTEGER " + ",".join("W%d" % k for k in range(first, min(first + 200, count))) for first in range(0, count, 200))
+                          for count in (1000, 1005, 1008, 1010, 1012, 1014, 1016, 1018, 1020, 1023, 1024)],
 }
 
 
@@ -357,7 +359,7 @@ def agree(text, ours, theirs):
         return re.search("CALL|RETURN|SUBROUTINE", "".join(words[our_line - 1: our_line + 20])) is not None
     if our_code == their_code == "BADORDER" and our_line < their_line:
         return "".join(words[: their_line - 1]).endswith("END")
-    return their_code in ("read", "MANYOPS", "MANYCLASSES") and our_code in ("read", "NOTYET")
+    return their_code == "read" and our_code in ("read", "NOTYET")
 
 
 def compare(options, texts, number):

@@ -1,12 +1,16 @@
+pub mod CountingLemmas
 pub mod Covering
+pub mod FirstWords
 pub mod Framing
 pub mod KeyLemmas
 pub mod KeyPlaces
 pub mod KnownPlaces
 pub mod MakingLemmas
+pub mod Numbered
 pub mod OneNumbering
 pub mod Rows
 pub mod RunLemmas
 pub mod SizeLemmas
 pub mod SpanLemmas
+pub mod TakenNumbers
 pub mod Walked

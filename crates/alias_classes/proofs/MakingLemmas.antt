@@ -39,7 +39,7 @@ pub ends-below : (p : Program) → IsWellFormed p → (k : ℕ) → k < length p
 ends-below p is k lt = let inside = is.places.within k lt in let few = is.word_count in omega (arith, ints, inside, few)
 
 -- a name has a word
-some-word : (p : Program) → IsWellFormed p → (k : ℕ) → k < length p.names → pos (place_of p.names k) <ℤ end_of p.names k
+pub some-word : (p : Program) → IsWellFormed p → (k : ℕ) → k < length p.names → pos (place_of p.names k) <ℤ end_of p.names k
 some-word p is k lt = ⊎_elim
     (λ (found : (info : NameInfo) × (k < length p.names) × (slice_get p.names k ≡ Some info) × (get_or p.names k info ≡ info)).
     let info = found.0 in

@@ -14,6 +14,9 @@ word-below covers words count numbers n k w has = ⊎_elim
     (λ (h : words ≤ w). let none = get_or_past numbers w 0 (omega (arith, n.each, h)) in absurd (omega (arith, n.some k w has, none)))
     (cases_lt w words)
 
+pub below_suc : (v w : ℕ) → v < suc w → (v < w) ⊎ (v ≡ w)
+below_suc v w h = ⊎_elim (λ same. inr same) (⊎_elim (λ l. inl l) (λ m. absurd (omega arith))) (cases_order v w)
+
 module _ (covers : ℕ → ℕ → Type 0) (words c d : ℕ) (one two : List ℕ) (a : IsNumbering covers words one c) (b : IsNumbering covers words two d) where
   -- the numbers of the words that are met before are equal
   abbrev pub AgreeBefore : ℕ → ℕ → Type 0
@@ -50,9 +53,6 @@ module _ (covers : ℕ → ℕ → Type 0) (words c d : ℕ) (one two : List ℕ
       let new_two : (v : ℕ) → IsMet covers k w v → get_or two v 0 ≢ get_or two w 0 = λ v met same. differ (sym ((a.same v w (below v met) here).1 ((b.same v w (below v met) here).0 same)) ∙ agree v met ∙ same) in
       next-numbers k w agree (a.first k w has new_one) (b.first k w has new_two))
       (cases_eq (get_or one w 0) (get_or two w 0))
-
-  below_suc : (v w : ℕ) → v < suc w → (v < w) ⊎ (v ≡ w)
-  below_suc v w h = ⊎_elim (λ same. inr same) (⊎_elim (λ l. inl l) (λ m. absurd (omega arith))) (cases_order v w)
 
   next-word : (k w : ℕ) → AgreeBefore k w → AgreeBefore k (suc w)
   next-word k w agree v met = ⊎_elim

@@ -62,9 +62,3 @@ pub record IsClasses (p : Program) (t : ClassTable) : Type 0 where
   pub names : t.names ≡ p.names
   pub numbering : IsNumbering (IsWordOf p.names) p.words t.numbers t.word_classes
   pub loops : t.loops ≡ p.loops
-
--- the program has at least so many classes
-pub record HasClasses (p : Program) (n : ℕ) : Type 0 where
-  pub classes : ClassTable
-  pub own : IsClasses p classes
-  pub many : n ≤ class_count classes

@@ -3,6 +3,7 @@ pub mod Constant
 pub mod Frame
 pub mod Kept
 pub mod Needs
+pub mod Number
 pub mod Runs
 pub mod Spans
 pub mod Walk

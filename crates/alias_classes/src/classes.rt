@@ -3,8 +3,9 @@ ghost use Rattle.class_set.specs.ClassSet.{holds};
 ghost use Rattle.class_set.specs.Members.{IsWidth};
 ghost use Rattle.f77_tree.specs.Value.{IsAccess, IsExpression};
 ghost use Rattle.f77_tree.specs.WellFormed.{IsWellFormed};
-ghost use Rattle.alias_classes.specs.Classes.{IsClasses, HasClasses, class_of_word, class_of_loop, class_count};
+ghost use Rattle.alias_classes.specs.Classes.{IsClasses, class_of_word, class_of_loop, class_count};
 ghost use Rattle.alias_classes.specs.Needs.{Hits, Needs, ExprNeeds};
+ghost use Rattle.alias_classes.specs.Number.{number_of_classes};
 
 use crate::class_end::ClassEnd;
 use crate::making::{Numbered, name_sets, number_spans};
@@ -95,7 +96,7 @@ pub fn classes_of<'a, const W: usize>(
     requires program { IsWellFormed p.now }
     ensures classes { IfOk result (λ classes. IsClasses p.now classes) }
     ensures few { IfOk result (λ classes. class_count classes < 64 * W) }
-    ensures many { IfErr result (λ end. end ≡ ClassEnd.TooManyClasses → HasClasses p.now (64 * W)) }
+    ensures many { IfErr result (λ end. end ≡ ClassEnd.TooManyClasses → 64 * W ≤ number_of_classes p.now) }
 {
     let spans = name_spans(alloc, &p.names)?;
     let Numbered { numbers, count } = number_spans(alloc, &spans, p.words)?;

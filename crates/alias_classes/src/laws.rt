@@ -10,15 +10,22 @@ ghost use Rattle.f77_tree.specs.Places.{IsWordOf};
 ghost use Rattle.f77_tree.specs.Steps.{IfGoes, HasRoomFor, AreAlike, Changes};
 ghost use Rattle.f77_tree.specs.Touched.{AccessMayName, ExecMayRead, ExecMayChange, SetsCount, SetsStep, ReadsCount};
 ghost use Rattle.f77_tree.specs.Value.{IsAccess, ArePlaced};
+ghost use Rattle.f77_tree.specs.WellFormed.{IsWellFormed};
 ghost use Rattle.alias_classes.specs.Classes.{ClassTable, IsClasses, class_of_word, class_of_loop, class_count};
 ghost use Rattle.alias_classes.specs.Frame.{AgreeOnClasses, KeepsOtherClasses};
 ghost use Rattle.alias_classes.specs.Needs.{Hits, ExecNeeds};
+ghost use Rattle.alias_classes.specs.Number.{number_of_classes};
 
 use f77_tree::{accesses_stay_in_their_names, executables_keep_the_rest, reads_decide};
 
 /// A program has one table of classes.
 pub fn one_numbering()
     ensures { (p : Program) (t other : ClassTable) → IsClasses p t → IsClasses p other → t ≡ other }
+{}
+
+/// A program has as many classes as words that are the first of their class, and DOs.
+pub fn classes_are_counted()
+    ensures { (p : Program) (t : ClassTable) → IsClasses p t → class_count t ≡ number_of_classes p }
 {}
 
 /// Each word of a name has a class from 1 to the number of classes of words. Different DOs have different classes, which
@@ -29,6 +36,13 @@ pub fn classes_are_numbered()
     ensures differ { (t : ClassTable) (m n : ℕ) → class_of_loop t m ≡ class_of_loop t n → m ≡ n }
     ensures apart { (p : Program) (t : ClassTable) (word n : ℕ) → IsClasses p t → class_of_word t word ≢ class_of_loop t n }
 {}
+
+/// The classes that an executable of a program needs are numbered from 1 to the number of classes.
+pub fn needs_are_numbered()
+    ensures { (p : Program) (t : ClassTable) (kind : ExecKind) (n : ℕ) → IsWellFormed p → IsClasses p t → CanExecute p kind → ExecNeeds t kind n → (1 ≤ n) × (n ≤ class_count t) }
+{
+    accesses_stay_in_their_names();
+}
 
 /// The class of a word that an access may name is one that the access hits, the class of a word that an executable may read
 /// or change is one that it needs, and so is the class of a DO whose count or step it reads or sets.

@@ -5,7 +5,7 @@ ghost use Rattle.class_set.specs.declared.ClassSet.{ClassSet};
 ghost use Rattle.class_set.specs.Members.{IsWidth};
 ghost use Rattle.f77_tree.specs.Places.{IsWordOf};
 ghost use Rattle.f77_tree.specs.WellFormed.{IsWellFormed};
-ghost use Rattle.alias_classes.specs.Classes.{IsNumbering, IsClasses, HasClasses, class_count};
+ghost use Rattle.alias_classes.specs.Classes.{IsNumbering, IsClasses, class_count};
 ghost use Rattle.alias_classes.specs.Kept.{AreKept};
 ghost use Rattle.alias_classes.specs.Runs.{AreStarts, IsSetOf};
 ghost use Rattle.alias_classes.specs.Spans.{AreSpansOf, AreSpans, AreLastBegins, AreFromEnd, Holds};

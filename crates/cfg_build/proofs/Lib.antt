@@ -41,6 +41,7 @@ pub mod TestSteps
 pub mod DoTests
 pub mod CountsKept
 pub mod RunPasses
+pub mod RunPieces
 pub mod EnteredParts
 pub mod WaysEnter
 pub mod PartRoutes
@@ -55,3 +56,7 @@ pub mod PassesFollow
 pub mod BranchChoices
 pub mod EdgesTaken
 pub mod PassWalks
+pub mod PassWords
+pub mod NoReturn
+pub mod PlainEdges
+pub mod RangeEntries

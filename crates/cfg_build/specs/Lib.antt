@@ -4,9 +4,11 @@ pub mod Joined
 pub mod Holds
 pub mod Flow
 pub mod Tables
+pub mod Zones
 pub mod Built
 pub mod Passes
 pub mod Chains
 pub mod Degrees
 pub mod Shape
 pub mod Routes
+pub mod Runs

@@ -1,14 +1,16 @@
 //! Laws on flow graphs, as contracts of functions that do nothing.
 
-ghost use Rattle.std.specs.Prelude.{List, ℕ};
+ghost use Rattle.std.specs.Prelude.{◌≡◌, ◌<◌, List, ℕ};
 ghost use Rattle.closed_walks.specs.Region.{IsFlowGraph};
 ghost use Rattle.f77_tree.specs.declared.programs.Exec.{Exec};
 ghost use Rattle.f77_tree.specs.declared.programs.NameInfo.{NameInfo};
 ghost use Rattle.f77_tree.specs.WellFormed.{AreExecs};
 ghost use Rattle.cfg_build.specs.Joined.{finish};
 ghost use Rattle.cfg_build.specs.Flow.{flow};
-ghost use Rattle.cfg_build.specs.Shape.{IsShaped};
+ghost use Rattle.cfg_build.specs.Runs.{is_act, is_branch, IsPartOf};
+ghost use Rattle.cfg_build.specs.Shape.{IsShaped, kind_at};
 
+use crate::pieces::PieceKind;
 use closed_walks::{endless_ways_meet_cycles, reaching_is_told};
 
 /// The flow graph of a well-formed program is strongly connected, and its edge 0 ends at the start.
@@ -22,6 +24,15 @@ pub fn flow_graph_is_strong()
 /// What stands where in the flow graph of a well-formed program, and how many edges come to each piece and leave it.
 pub fn flow_graph_has_shape()
     ensures { (names : List NameInfo) (execs : List Exec) (loops : ℕ) → AreExecs names execs loops → IsShaped (flow execs) (finish execs) }
+{
+    reaching_is_told();
+    endless_ways_meet_cycles();
+}
+
+/// Each act and each branch is a part of an executable, and of one of those that such a piece runs.
+pub fn pieces_run_executables()
+    ensures acts { (names : List NameInfo) (execs : List Exec) (loops node : ℕ) → AreExecs names execs loops → node < (flow execs).graph.nodes → kind_at (flow execs) node ≡ PieceKind.Act → IsPartOf (flow execs) execs node is_act }
+    ensures branches { (names : List NameInfo) (execs : List Exec) (loops node : ℕ) → AreExecs names execs loops → node < (flow execs).graph.nodes → kind_at (flow execs) node ≡ PieceKind.Branch → IsPartOf (flow execs) execs node is_branch }
 {
     reaching_is_told();
     endless_ways_meet_cycles();

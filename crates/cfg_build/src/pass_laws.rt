@@ -1,13 +1,15 @@
 //! Laws on runs through flow graphs, as contracts of functions that do nothing.
 
-ghost use Rattle.std.specs.Prelude.{◌≡◌, ◌≤◌, ◌<◌, ℕ, suc, ℤ, List, Some, true, length, slice_get};
+ghost use Rattle.std.specs.Prelude.{◌≡◌, ◌≢◌, ◌≤◌, ◌<◌, ℕ, suc, ℤ, List, Some, true, length, slice_get, All};
+ghost use Rattle.op_table.specs.Words.{IsWord};
 ghost use Rattle.closed_walks.specs.Graph.{edge_count, from, to};
 ghost use Rattle.f77_tree.specs.declared.programs.Exec.{Exec};
 ghost use Rattle.f77_tree.specs.declared.programs.NameInfo.{NameInfo};
 ghost use Rattle.f77_tree.specs.declared.programs.Program.{Program};
 ghost use Rattle.f77_tree.specs.Execution.{Memory};
 ghost use Rattle.f77_tree.specs.Run.{Running, source};
-ghost use Rattle.f77_tree.specs.WellFormed.{AreExecs};
+ghost use Rattle.f77_tree.specs.Steps.{HoldsWords};
+ghost use Rattle.f77_tree.specs.WellFormed.{AreExecs, IsWellFormed};
 ghost use Rattle.cfg_build.specs.Chains.{entry, has_test, chain, passes_of, StandsAt};
 ghost use Rattle.cfg_build.specs.Control.{is_reached};
 ghost use Rattle.cfg_build.specs.Flow.{flow};
@@ -15,7 +17,7 @@ ghost use Rattle.cfg_build.specs.Passes.{IfAlong, pass, passes};
 ghost use Rattle.cfg_build.specs.Routes.{AreChain, holds_in};
 
 use closed_walks::{endless_ways_meet_cycles, reaching_is_told};
-use f77_tree::executables_lead_to_successors;
+use f77_tree::{executables_lead_to_successors, runs_hold_words};
 
 /// The pieces of each executable that control can come to: joins and holds that lead on, and its own pieces, the edges of
 /// whose last one lead to the successors. There are five at most, and one hold among them at most.
@@ -49,6 +51,21 @@ pub fn passes_are_a_walk()
     ensures start { (p : Program) (input : List ℤ) → AreExecs p.names p.execs p.loops → from (flow p.execs).graph (passes p input 0).edge ≡ 0 }
     ensures edges { (p : Program) (input : List ℤ) (n : ℕ) → AreExecs p.names p.execs p.loops → (passes p input n).edge < edge_count (flow p.execs).graph }
     ensures leads_on { (p : Program) (input : List ℤ) (n : ℕ) → AreExecs p.names p.execs p.loops → (passes p input (suc n)).mark ≡ Running → from (flow p.execs).graph (passes p input (suc n)).edge ≡ to (flow p.execs).graph (passes p input n).edge }
+{
+    reaching_is_told();
+    endless_ways_meet_cycles();
+}
+
+/// Over data of words, the store and the steps hold words at each pass of a run of a well-formed program.
+pub fn passes_hold_words()
+    ensures { (p : Program) (input : List ℤ) (n : ℕ) → IsWellFormed p → All IsWord input → HoldsWords (passes p input n).memory }
+{
+    runs_hold_words();
+}
+
+/// A run never comes back to the start.
+pub fn runs_leave_the_start()
+    ensures { (p : Program) (input : List ℤ) (n : ℕ) → AreExecs p.names p.execs p.loops → (passes p input n).mark ≡ Running → to (flow p.execs).graph (passes p input n).edge ≢ 0 }
 {
     reaching_is_told();
     endless_ways_meet_cycles();

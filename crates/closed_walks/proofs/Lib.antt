@@ -1,5 +1,7 @@
 pub mod Backwards
 pub mod Classes
+pub mod ComponentEnds
+pub mod Components
 pub mod Cuts
 pub mod Cycles
 pub mod Decided
@@ -7,6 +9,7 @@ pub mod Degrees
 pub mod Digraphs
 pub mod Endless
 pub mod Nesting
+pub mod NodeEdges
 pub mod Orders
 pub mod Ranks
 pub mod Reaching
@@ -15,6 +18,7 @@ pub mod Reversals
 pub mod Searches
 pub mod Simple
 pub mod Single
+pub mod Stages
 pub mod Telling
 pub mod Touching
 pub mod Turning

@@ -1,3 +1,4 @@
+pub mod Component
 pub mod Cycle
 pub mod Cycling
 pub mod Digraph

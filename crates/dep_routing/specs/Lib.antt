@@ -1,13 +1,15 @@
 pub mod Facts
 pub mod LineTable
+pub mod Leaving
 pub mod Next
 pub mod Noise
 pub mod Numbers
 pub mod Order
+pub mod PieceLines
 pub mod Place
 pub mod Quiet
 pub mod Routing
 pub mod Rows
-pub mod Touch
 pub mod Sound
+pub mod Touch
 pub mod Touches

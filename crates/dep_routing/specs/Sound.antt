@@ -1,22 +1,21 @@
 -- What firings ask of the lines that pieces touch, whatever table tells them.
-use Rattle.std.proofs.Common.{zero, suc}
+use Rattle.std.proofs.Common.{suc}
 use Rattle.std.specs.Prelude.{◌≡◌, ◌<◌, ◌+◌, ◌↔◌, ◌⊎◌, ℕ, ℤ, Bool, true, List, All}
 use Rattle.op_table.specs.Words.{IsWord}
-use Rattle.op_table.specs.declared.Trap.{Trap}
 use Rattle.closed_walks.specs.Graph.{to}
 use Rattle.f77_tree.specs.declared.programs.ExecKind.{ExecKind}
 use Rattle.f77_tree.specs.declared.programs.Program.{Program}
 use Rattle.f77_tree.specs.Known.{ExecMayTrap}
-use Rattle.f77_tree.specs.Run.{Running, Ended, Trapped}
+use Rattle.f77_tree.specs.Run.{Running, Ended}
 use Rattle.f77_tree.specs.Touched.{ExecReadsData}
 use Rattle.alias_classes.specs.Classes.{ClassTable}
 use Rattle.cfg_build.specs.declared.pieces.PieceKind.{PieceKind}
 use Rattle.cfg_build.specs.declared.pieces.PieceKind.TheVariants.{Act, Branch, Hold}
 use Rattle.cfg_build.specs.Flow.{flow}
-use Rattle.cfg_build.specs.Passes.{PassState, Passed, Traps, pass, passes}
+use Rattle.cfg_build.specs.Passes.{Passed, Traps, pass, passes}
 use Rattle.region_tree.specs.Tree.{Tree, IsIn, exit_of}
-use Rattle.dep_routing.specs.Quiet.{IsQuiet, IsFree}
-use Rattle.dep_routing.specs.Touches.{piece_kind, exec_kind, BranchNeeds, PieceNeeds, BranchMayTrap, Prints}
+use Rattle.dep_routing.specs.Quiet.{IsQuiet}
+use Rattle.dep_routing.specs.Touches.{piece_kind, exec_kind, BranchNeeds, PieceNeeds, Prints}
 
 -- ---- the line of output
 

@@ -1,7 +1,7 @@
-//! Past which regions of a flow graph the tokens of a line are led.
+//! Which lines of tokens the pieces of a flow graph touch, and past which regions the tokens of a line are led.
 //!
-//! A line is a number from 0. A region of which no node touches a line is quiet for it, and the line is led past it, from its entry
-//! to its exit.
+//! A line is a number from 0. Line 0 of a program is that of output, and the others are its alias classes. A region of which no
+//! node touches a line is quiet for it, and the line is led past it, from its entry to its exit.
 //!
 //! Source: Johnson and Pingali, "Dependence-based program analysis", PLDI 1993.
 #![tactic(auto)]
@@ -9,11 +9,15 @@
 mod borders;
 mod facts;
 mod laws;
+mod leaving;
 mod lines;
+mod needs;
 mod noise;
 mod order;
 mod routing;
 mod rows;
+mod touch_laws;
+mod touching;
 
 use class_set::ClassSet;
 use df_sequence::Sequence;
@@ -21,8 +25,11 @@ pub use laws::{
     free_nodes, free_passed_nodes, largest_quiet_regions, next_edges, places, places_over_a_pass,
     quiet_regions,
 };
+pub use leaving::{output_keeps_moving, quiet_regions_are_left};
 pub use lines::Lines;
 pub use routing::route;
+pub use touch_laws::{touches_are_sound, touches_follow_needs, traps_touch_output};
+pub use touching::touches;
 
 /// For each node the set of the lines that it touches.
 pub type TouchList<const W: usize> = Sequence<ClassSet<W>>;

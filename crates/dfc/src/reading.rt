@@ -63,6 +63,7 @@ fn text_name(code: f77_source::Code) -> &'static str
         f77_source::Code::JumpInto => "JUMPINTO",
         f77_source::Code::TooManyWords => "MANYWORDS",
         f77_source::Code::TooManyOps => "MANYOPS",
+        f77_source::Code::TooManyClasses => "MANYCLASSES",
     }
 }
 

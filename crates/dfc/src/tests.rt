@@ -1,6 +1,7 @@
 use crate::top::dfc_main;
 use df_io::{MemSink, MemSource};
-use std::alloc::Global;
+use std::alloc::{AllocError, Global};
+use std::fmt::Write;
 use std::process::Abort;
 use std::test::Fail;
 
@@ -280,4 +281,40 @@ fn counts_the_operations_of_a_statement(rt: HostRuntime) -> Result<(), Fail> {
         2,
         "REFUSED 1 MANYOPS\n",
     )
+}
+
+/// INTEGER statements of eight scalars each, I0, I1 and so on, and END.
+fn scalars(alloc: Global, count: u32) -> Result<String, AllocError> {
+    let mut text = String::new(alloc);
+    for k in 0..count {
+        let before = if k % 8 == 0 { "      INTEGER I" } else { ",I" };
+        let behind = if k % 8 == 7 || k + 1 == count {
+            "\n"
+        } else {
+            ""
+        };
+        write!(text, "{before}{k}{behind}")?;
+    }
+    text.push_str("      END\n")?;
+    Ok(text)
+}
+
+#[test]
+fn counts_alias_classes(rt: HostRuntime) -> Result<(), Fail> {
+    let most = scalars(rt.alloc(), 1023)?;
+    let many = scalars(rt.alloc(), 1024)?;
+    for (words, dialect) in [("fire", "checked"), ("regions", "checked")] {
+        for words in [[words].as_slice(), [words, dialect].as_slice()] {
+            check(
+                &rt,
+                rt.alloc(),
+                words,
+                many.as_bytes(),
+                &NONE,
+                2,
+                "REFUSED 129 MANYCLASSES\n",
+            )?;
+        }
+    }
+    check(&rt, rt.alloc(), &["fire"], most.as_bytes(), &NONE, 0, "")
 }

@@ -1,5 +1,5 @@
 -- What a source text is: a program, or its first refusal. Want of memory has no place in it.
-use Rattle.std.specs.Prelude.{◌≡◌, ℕ, Bool, List, [], ◌∷◌, Result, Ok, Err}
+use Rattle.std.specs.Prelude.{◌≡◌, ℕ, Bool, nat_lt, if◌then◌else◌, List, [], ◌∷◌, Result, Ok, Err}
 use Rattle.fixed_form.specs.declared.raw_stmt.RawStmt.{RawStmt}
 use Rattle.fixed_form.specs.declared.form_end.FormEnd.{FormEnd}
 use Rattle.fixed_form.specs.declared.form_end.FormEnd.TheVariants as form
@@ -12,6 +12,7 @@ use Rattle.f77_parse.specs.Parsing.{reading_of}
 use Rattle.f77_layout.specs.declared.layout_end.LayoutEnd.{LayoutEnd}
 use Rattle.f77_layout.specs.declared.layout_end.LayoutEnd.TheVariants as layout
 use Rattle.f77_layout.specs.Layout as laid
+use Rattle.alias_classes.specs.Number.{number_of_classes}
 use Rattle.f77_source.specs.declared.source_end.Code.{Code}
 use Rattle.f77_source.specs.declared.source_end.Code.TheVariants as code
 use Rattle.f77_source.specs.declared.source_end.Refusal.{Refusal}
@@ -64,12 +65,20 @@ layout_refusal (layout.TooManyWords line) = told code.TooManyWords line
 layout_refusal (layout.TooManyOps line) = told code.TooManyOps line
 layout_refusal layout.NoMemory = told code.OutOfOrder 0
 
-abbrev pub program_laid : Result Program LayoutEnd → Result Program Refusal
-program_laid (Ok p) = Ok p
-program_laid (Err end) = Err (layout_refusal end)
+-- a program may have so many alias classes
+abbrev pub most_classes : ℕ
+most_classes = 1023
+
+-- a program with more is refused, at the line of END
+abbrev pub unless_many_classes : (end_line : ℕ) → Program → Result Program Refusal
+unless_many_classes end_line p = if nat_lt most_classes (number_of_classes p) then Err (told code.TooManyClasses end_line) else Ok p
+
+abbrev pub program_laid : (end_line : ℕ) → Result Program LayoutEnd → Result Program Refusal
+program_laid end_line (Ok p) = unless_many_classes end_line p
+program_laid end_line (Err end) = Err (layout_refusal end)
 
 abbrev pub program_of : (checked : Bool) → Result (List Labelled) Refusal → Result Program Refusal
-program_of checked (Ok stmts) = program_laid (laid.layout stmts checked)
+program_of checked (Ok stmts) = program_laid (laid.last_line stmts) (laid.layout stmts checked)
 program_of checked (Err refusal) = Err refusal
 
 abbrev pub program_in : (checked : Bool) → Result (List RawStmt) FormEnd → Result Program Refusal
@@ -80,7 +89,7 @@ program_in checked (Err end) = Err (form_refusal end)
 abbrev pub reading : (bytes : List ℕ) → (checked : Bool) → Result Program Refusal
 reading bytes checked = program_in checked (lines.reading bytes)
 
--- The text is read as this program, whatever each of its statements asks.
+-- The text is read as this program, whatever each of its statements asks and however many classes it has.
 pub record Reads (bytes : List ℕ) (checked : Bool) (p : Program) : Type 0 where
   pub raws : List RawStmt
   pub stmts : List Labelled

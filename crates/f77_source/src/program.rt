@@ -1,20 +1,25 @@
-ghost use Rattle.std.specs.Prelude.{◌≡◌, ◌≢◌, ◌<◌, ◌≤◌, ◌+◌, ◌^◌, length, IfOk, IfErr, IsTrue, Ok, Err};
+ghost use Rattle.std.specs.Prelude.{◌≡◌, ◌≢◌, ◌<◌, ◌≤◌, ◌+◌, ◌*◌, ◌^◌, nat_lt, length, IfOk, IfErr, IsTrue, Ok, Err};
 ghost use Rattle.fixed_form.specs.Limits.{AreWithinForm};
 ghost use Rattle.f77_tree.specs.Operations.{HasFewOperations};
 ghost use Rattle.f77_tree.specs.WellFormed.{IsWellFormed};
-ghost use Rattle.f77_layout.specs.Layout.{layout};
+ghost use Rattle.alias_classes.specs.Number.{number_of_classes};
+ghost use Rattle.f77_layout.specs.Layout.{layout, last_line};
 ghost use Rattle.f77_layout.specs.Source.{IsSource};
 ghost use Rattle.f77_source.specs.Accepted.{IsAccepted};
 ghost use Rattle.f77_source.specs.Answers.{IsReadAs, told_form, told_stmt, told_layout};
-ghost use Rattle.f77_source.specs.Reading.{reading, statements_of, program_of as program_of_statements};
+ghost use Rattle.f77_source.specs.Reading.{reading, statements_of, most_classes, program_of as program_of_statements};
 
 use crate::{Code, Refusal, SourceEnd};
-use df_sequence::Sequence;
+use alias_classes::{ClassEnd, classes_are_counted, classes_of};
+use df_sequence::{NoMemory, Sequence};
 use f77_layout::{LayoutEnd, assemble};
 use f77_parse::{StmtEnd, one_statement, parse_stmt};
 use f77_tree::{LabelledList, Program};
 use fixed_form::{FormEnd, RawStmtList, statements};
 use std::alloc::Global;
+
+// A set of alias classes has so many words of 64 bits, of which one bit is no class.
+const CLASS_WORDS: usize = 16;
 
 /// The program that a source text is. In the checked dialect arithmetic traps where a result is no word.
 ///
@@ -28,6 +33,7 @@ pub fn read_program(alloc: Global, bytes: &[u8], checked: bool) -> Result<Progra
     ensures read { IsReadAs (reading bytes.now checked) result }
     ensures well_formed { IfOk result (λ program. IsWellFormed program) }
     ensures modest { IfOk result (λ program. HasFewOperations program) }
+    ensures few { IfOk result (λ program. number_of_classes program < 64 * 16) }
 {
     match statements(alloc, bytes) {
         Err(end) => Err(form_refused(end)),
@@ -42,12 +48,40 @@ fn program_of(alloc: Global, raws: &RawStmtList, checked: bool) -> Result<Progra
     ensures read { IsReadAs (program_of_statements checked (statements_of raws.now)) result }
     ensures well_formed { IfOk result (λ program. IsWellFormed program) }
     ensures modest { IfOk result (λ program. HasFewOperations program) }
+    ensures few { IfOk result (λ program. number_of_classes program < 64 * 16) }
 {
     let stmts = parsed(alloc, raws)?;
     match assemble(alloc, &stmts, checked) {
         Err(end) => Err(layout_refused(end)),
-        Ok(program) => Ok(program),
+        Ok(program) => {
+            if has_many_classes(alloc, &program)? {
+                Err(refused(Code::TooManyClasses, end_line(&stmts)))
+            } else {
+                Ok(program)
+            }
+        }
     }
+}
+
+// Whether a program has more alias classes than a set of them holds.
+fn has_many_classes(alloc: Global, program: &Program) -> Result<bool, NoMemory>
+    requires { IsWellFormed program.now }
+    ensures { IfOk result (λ many. many ≡ nat_lt most_classes (number_of_classes program.now)) }
+{
+    classes_are_counted();
+    match classes_of::<CLASS_WORDS>(alloc, program) {
+        Ok(_) => Ok(false),
+        Err(ClassEnd::TooManyClasses) => Ok(true),
+        Err(ClassEnd::NoMemory) => Err(NoMemory),
+    }
+}
+
+// The line of END.
+fn end_line(stmts: &LabelledList) -> u32
+    requires { IsSource stmts.now }
+    ensures { result ≡ last_line stmts.now }
+{
+    stmts.at(stmts.len() - 1).line
 }
 
 // The statements of texts, or the refusal of the first text that is none.

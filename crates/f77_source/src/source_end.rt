@@ -43,6 +43,8 @@ pub enum Code {
     TooManyWords,
     /// A statement takes too many operations, or there are too many labels in computed GO TO or items of READ.
     TooManyOps,
+    /// There are more than 1,023 alias classes.
+    TooManyClasses,
 }
 
 /// A refusal and the line that it is told at, counted from 1.

@@ -4,6 +4,7 @@ pub mod AllLemmas
 pub mod Coverage
 pub mod Equations
 pub mod ExpressionLemmas
+pub mod ForesightLemmas
 pub mod Keeping
 pub mod KindLemmas
 pub mod KnownValues

@@ -22,9 +22,14 @@ ghost use Rattle.f77_tree.specs.Operations.{statements_of, is_increment, exec_op
 ghost use Rattle.f77_tree.specs.Places.{IsWordOf};
 ghost use Rattle.f77_tree.specs.Run.{Mark, Running, source};
 ghost use Rattle.f77_tree.specs.Steps.{IfGoes, DoesNotTrap, IsMemoryOf, HoldsWords, KeepsRest, HasRoomFor, AgreeFor, AreAlike, Changes, StopsWithin};
-ghost use Rattle.f77_tree.specs.Touched.{ExecMayChange, ExecMayRead, MayName, MayRead, ItemMayRead, ReadsData};
+ghost use Rattle.f77_tree.specs.Touched.{ExecMayChange, ExecMayRead, ExecReadsData, MayName, MayRead, ItemMayRead, ReadsData};
 ghost use Rattle.f77_tree.specs.Value.{value, place, word_at, dims_of, IsExpression, IsAccess, ArePlaced};
 ghost use Rattle.f77_tree.specs.WellFormed.{IsWellFormed};
+
+/// A well-formed program can run.
+pub fn well_formed_programs_can_run()
+    ensures { (p : Program) → IsWellFormed p → CanRun p }
+{}
 
 /// In each state of a run of a program that can run, the position is that of an executable, and there are as many words,
 /// counts and steps as the program has.
@@ -94,10 +99,11 @@ pub fn known_values_are_right()
     ensures more { (names : List NameInfo) (words : ℕ → Option ℤ) (e : Expr) (z : ℤ) → known e ≡ Some z → known_with names words e ≡ Some z }
 {}
 
-/// The store and the steps of a run of a well-formed program over data of words hold words, and the value of an expression
-/// of a program over a store of words is a word.
+/// The store and the steps of a run of a well-formed program over data of words hold words, since each executable leaves words
+/// where it finds words; and the value of an expression of a program over a store of words is a word.
 pub fn runs_hold_words()
     ensures states { (p : Program) (input : List ℤ) (n : ℕ) → IsWellFormed p → All IsWord input → HoldsWords (source p input n).memory }
+    ensures steps { (p : Program) (input : List ℤ) (m : Memory) (k : ℕ) (exec : Exec) → IsWellFormed p → All IsWord input → slice_get p.execs k ≡ Some exec → HoldsWords m → IfGoes (outcome p.names input m exec.kind) (λ next new text. HoldsWords new) }
     ensures values { (names : List NameInfo) (store : List ℤ) (next : Option ℤ) (e : Expr) (z : ℤ) → All IsWord store → IsProper names e → value names store next e ≡ Ok z → IsWord z }
 {}
 
@@ -106,8 +112,16 @@ pub fn runs_hold_words()
 pub fn what_cannot_trap_does_not()
     ensures executables { (excepted : Expr → Dim → Bool) (names : List NameInfo) (input : List ℤ) (m : Memory) (kind : ExecKind) → All IsWord m.store → ((next : Option ℤ) (sub : Expr) (dim : Dim) → excepted sub dim ≡ true → IsInBounds dim (value names m.store next sub)) → (ExecMayTrapBut (λ sub dim. excepted sub dim ≡ true) names kind → ⊥) → DoesNotTrap (outcome names input m kind) }
 
+    // One that can't trap doesn't.
+    ensures words { (names : List NameInfo) (input : List ℤ) (m : Memory) (kind : ExecKind) → All IsWord m.store → (ExecMayTrap names kind → ⊥) → DoesNotTrap (outcome names input m kind) }
+
     // So it is at each step of a well-formed program over data of words.
     ensures runs { (p : Program) (input : List ℤ) (n : ℕ) (exec : Exec) → IsWellFormed p → All IsWord input → slice_get p.execs (source p input n).position ≡ Some exec → (ExecMayTrap p.names exec.kind → ⊥) → DoesNotTrap (outcome p.names input (source p input n).memory exec.kind) }
+{}
+
+/// What takes data can trap, at the end of the data.
+pub fn what_takes_data_can_trap()
+    ensures { (names : List NameInfo) (kind : ExecKind) → ExecReadsData kind → ExecMayTrap names kind }
 {}
 
 /// Statements are the executables of a program, in order. An executable that is no increment takes at most the operations

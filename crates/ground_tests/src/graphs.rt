@@ -1,11 +1,11 @@
 //! Small graphs, with what was found for them by hand. Three of them are the flow graphs of programs.
 
-ghost use Rattle.std.specs.Prelude.{◌≡◌, ◌<◌};
+ghost use Rattle.std.specs.Prelude.{◌≡◌, ◌<◌, length, IfOk};
 ghost use Rattle.closed_walks.specs.Graph.{edge_count};
 ghost use Rattle.closed_walks.specs.Walk.{IsStrong};
 
 use brackets::BracketLists;
-use closed_walks::{Digraph, is_strong, same_class_plain};
+use closed_walks::{Digraph, is_strong, on_cycles, same_class_plain};
 use cycle_equiv::edge_classes;
 use df_sequence::NoMemory;
 use std::alloc::Global;
@@ -177,6 +177,61 @@ fn classes_are_those_known(rt: HostRuntime) -> Result<(), Fail> {
         let classes = classes_of::<Brand>(rt.alloc(), &g, Blank::new(1))?;
         assert_eq!(rt; classes.as_slice(), want, "of {edges:?}");
         assert!(rt; are_classes(rt.alloc(), &g, want)?, "of {edges:?}");
+    }
+    Ok(())
+}
+
+// A cycle within a cycle, an edge to a loop, and a cycle beyond it, of which the last edge may be avoided.
+const NESTED: [(u32, u32); 11] = [
+    (0, 1),
+    (1, 2),
+    (2, 3),
+    (3, 0),
+    (2, 1),
+    (3, 4),
+    (4, 4),
+    (4, 5),
+    (5, 6),
+    (7, 6),
+    (6, 5),
+];
+
+// Edges that are avoided, and the nodes that are on cycles without them.
+const CYCLES: [(&[u32], &[u32]); 4] = [
+    (&[], &[0, 1, 2, 3, 4, 5, 6]),
+    (&[10], &[0, 1, 2, 3, 4]),
+    (&[3, 10], &[1, 2, 4]),
+    (&[1, 6, 9], &[5, 6]),
+];
+
+// So many marks, of which these are set.
+fn marks_at(
+    rt: &impl Abort,
+    alloc: Global,
+    count: u32,
+    places: &[u32],
+) -> Result<Vec<bool>, NoMemory>
+    ensures { IfOk result (λ marks. length marks.items ≡ count) }
+{
+    let mut marks = vec![in alloc; false; count as usize]?;
+    for place in places {
+        assert!(rt; *place < count);
+        marks[*place as usize] = true;
+    }
+    Ok(marks)
+}
+
+#[test]
+fn nodes_are_on_cycles(rt: HostRuntime) -> Result<(), Fail> {
+    let g = graph_of(&rt, rt.alloc(), 8, &NESTED)?;
+    for (without, nodes) in CYCLES {
+        let avoided = marks_at(&rt, rt.alloc(), g.edges(), without)?;
+        let want = marks_at(&rt, rt.alloc(), g.nodes(), nodes)?;
+        assert_eq!(rt;
+            on_cycles(rt.alloc(), &g, &avoided)?,
+            want,
+            "without {without:?}"
+        );
     }
     Ok(())
 }

@@ -168,7 +168,7 @@ fn run(alloc: Global, program: &Program) -> Result<String, Fail>
 }
 
 /// What comes of a program.
-fn answer(alloc: Global, statements: &str, checked: bool) -> Result<String, Fail> {
+pub(crate) fn answer(alloc: Global, statements: &str, checked: bool) -> Result<String, Fail> {
     let text = text_of(alloc, statements)?;
     if text.len() > 1_000_000 {
         return Ok(text);

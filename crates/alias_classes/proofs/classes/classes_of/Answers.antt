@@ -1,5 +1,7 @@
 use Rattle.std.proofs.Common.{◌≡◌, ◌≤◌, length, get_or, rules, sym, subst, ◌∙◌, arith}
 use Rattle.alias_classes.specs.Spans.{AreSpans}
+use Rattle.alias_classes.specs.Kept.{table_of}
+use Rattle.alias_classes.proofs.FirstWords.{as-many}
 use Rattle.alias_classes.proofs.MakingLemmas.{well-placed, are-spans, are-classes, set-of-name}
 use Rattle.alias_classes.proofs.classes.classes_of.Goals as goal
 
@@ -10,11 +12,9 @@ pub returns-then-count-p-clause-many : goal.returns-then-count-p-clause-many
 returns-then-count-p-clause-many g c = λ same.
     let numbers = c.in_ok-numbers.field-0.numbers.items in
     let count = c.in_ok-numbers.field-0.count in
-    record {
-      classes = record { names = c.args.p.now.names; numbers = numbers; word_classes = count; loops = c.args.p.now.loops };
-      own = are-classes c.args.p.now c.requires.program c.in_ok-spans.spans.begins.items c.in_ok-spans.spans.ends.items numbers count c.in_ok-spans.ensures c.in_ok-numbers.ensures.numbering;
-      many = c.if-count-p.true;
-    }
+    let many = c.if-count-p.true in
+    let own = are-classes c.args.p.now c.requires.program c.in_ok-spans.spans.begins.items c.in_ok-spans.spans.ends.items numbers count c.in_ok-spans.ensures c.in_ok-numbers.ensures.numbering in
+    omega (arith, many, as-many c.args.p.now (table_of c.args.p.now numbers count) own)
 
 pub name_sets-requires : goal.name_sets-requires
 name_sets-requires g c =

@@ -10,3 +10,6 @@ returns-clause-executables c = λ excepted names input m kind words fine can. ou
 
 pub returns-clause-runs : goal.returns-clause-runs
 returns-clause-runs c = λ p input n exec is words at can. outcome-untrapped none p.names input (source p input n).memory (source-words p input n is words).store (λ next sub dim x. absurd x) exec.kind can
+
+pub returns-clause-words : goal.returns-clause-words
+returns-clause-words c = λ names input m kind words can. outcome-untrapped none names input m words (λ next sub dim x. absurd x) kind can

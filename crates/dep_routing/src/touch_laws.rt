@@ -1,0 +1,44 @@
+//! That touches are sound, as contracts of functions that do nothing.
+
+ghost use Rattle.std.specs.Prelude.{◌≡◌, ◌<◌, ◌↔◌, ℕ, suc, ℤ, List, Bool, true, All};
+ghost use Rattle.op_table.specs.Words.{IsWord};
+ghost use Rattle.f77_tree.specs.declared.programs.Program.{Program};
+ghost use Rattle.f77_tree.specs.Run.{Running};
+ghost use Rattle.f77_tree.specs.WellFormed.{IsWellFormed};
+ghost use Rattle.alias_classes.specs.Classes.{ClassTable};
+ghost use Rattle.cfg_build.specs.Flow.{flow};
+ghost use Rattle.cfg_build.specs.Passes.{pass, passes};
+ghost use Rattle.region_tree.specs.Tree.{Tree, IsRegionTree};
+ghost use Rattle.dep_routing.specs.Touches.{AreTouches, PieceNeeds};
+ghost use Rattle.dep_routing.specs.Sound.{MustTouchOut, MayTouchOut, DoesTrap, IsSound, comes_to};
+
+use crate::leaving::quiet_regions_are_left;
+use cfg_build::{flow_graph_is_strong, passes_are_a_walk, passes_hold_words};
+use f77_tree::what_cannot_trap_does_not;
+
+/// Of the classes a piece touches exactly those that it needs. It touches the line of output where it has to, and only where it
+/// may.
+pub fn touches_follow_needs()
+    ensures classes { (p : Program) (c : ClassTable) (touches : ℕ → ℕ → Bool) (node n : ℕ) → AreTouches p c touches → node < (flow p.execs).graph.nodes → (touches node (suc n) ≡ true) ↔ PieceNeeds p c node (suc n) }
+    ensures must { (p : Program) (c : ClassTable) (touches : ℕ → ℕ → Bool) (node : ℕ) → AreTouches p c touches → node < (flow p.execs).graph.nodes → MustTouchOut p c node → touches node 0 ≡ true }
+    ensures may { (p : Program) (c : ClassTable) (touches : ℕ → ℕ → Bool) (node : ℕ) → AreTouches p c touches → node < (flow p.execs).graph.nodes → touches node 0 ≡ true → MayTouchOut p node }
+{}
+
+/// Where a run over data of words traps, the piece touches the line of output.
+pub fn traps_touch_output()
+    ensures { (p : Program) (c : ClassTable) (touches : ℕ → ℕ → Bool) (input : List ℤ) (n : ℕ) → IsWellFormed p → AreTouches p c touches → All IsWord input → (passes p input n).mark ≡ Running → DoesTrap (pass p input (passes p input n).edge (passes p input n).memory) → touches (comes_to p input n) 0 ≡ true }
+{
+    flow_graph_is_strong();
+    passes_are_a_walk();
+    passes_hold_words();
+    what_cannot_trap_does_not();
+}
+
+/// What firings ask of the lines that pieces touch holds of the touches of a program, with any tree of its regions.
+pub fn touches_are_sound()
+    ensures { (p : Program) (c : ClassTable) (t : Tree) (touches : ℕ → ℕ → Bool) → IsWellFormed p → IsRegionTree (flow p.execs).graph t → AreTouches p c touches → IsSound p c t touches }
+{
+    touches_follow_needs();
+    traps_touch_output();
+    quiet_regions_are_left();
+}
