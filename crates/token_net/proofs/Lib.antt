@@ -11,3 +11,4 @@ mod FollowLemmas
 mod SimplePrograms
 mod OneWays
 mod TouchKinds
+mod EndsOnly

@@ -19,6 +19,7 @@ ghost use Rattle.token_net.specs.Tokens.{first_tokens, net_moves};
 
 use cfg_build::{
     flow_graph_has_shape, flow_graph_is_strong, passes_are_a_walk, passes_follow_steps,
+    pieces_run_executables,
 };
 use closed_walks::reaching_is_told;
 use dep_routing::{free_nodes, free_passed_nodes, places, places_over_a_pass};
@@ -40,7 +41,7 @@ pub fn nets_are_paced()
     ensures memory { (net : NetOf) (n : IsNet net) → FlowGround net n.tree → RunGround net n.tree → (steps : ℕ) → (after (net_moves net) (first_tokens net) (own_order net steps)).memory ≡ (source net.program net.input steps).memory }
 {}
 
-/// What a net stands on, but for three facts of its pieces.
+/// What a net stands on, but for two facts of its pieces.
 pub fn flow_graphs_ground_nets()
     ensures { (net : NetOf) (n : IsNet net) → PieceFacts net → FlowGround net n.tree }
 {
@@ -52,6 +53,7 @@ pub fn flow_graphs_ground_nets()
     free_nodes();
     free_passed_nodes();
     reaching_is_told();
+    pieces_run_executables();
 }
 
 /// What the runs of a program tell its net, where output keeps moving.

@@ -4,6 +4,7 @@ use Rattle.cfg_build.specs.Flow.{flow}
 use Rattle.cfg_build.specs.Joined.{finish}
 use Rattle.cfg_build.specs.Shape.{IsShaped}
 use Rattle.token_net.specs.Nodes.{graph_in}
+use Rattle.token_net.proofs.EndsOnly.{ends_only}
 use Rattle.token_net.proofs.OneWays.{IsOnOneWay, near_end, one_out, on_one_way}
 use Rattle.token_net.proofs.TouchKinds.{touch_none}
 use Rattle.token_net.proofs.net_laws.flow_graphs_ground_nets.Goals as goal
@@ -32,7 +33,7 @@ returns c = λ net n facts.
       shape = shape;
       heads = λ e inside. graph.ends e inside;
       passes_on = λ edge m inside. c.passes_are_a_walk.ensures.each p net.input edge m well inside;
-      ends = facts.ends;
+      ends = λ edge m inside is. ends_only net (λ node exists acts. c.pieces_run_executables.ensures.acts p.names p.execs p.loops node well exists acts) edge m (graph.ends edge inside) is;
       one_out = λ e inside one. one_out g e inside (shape.one_leaves (Rattle.closed_walks.specs.Graph.from g e) (graph.begins e inside) one);
       near_end = λ node exists.
       let way = strong.strong node (finish p.execs) exists shape.end_exists in
