@@ -10,3 +10,6 @@ mod FireLemmas
 mod FollowLemmas
 mod SimplePrograms
 pub mod BaseLemmas
+mod OneWays
+mod TouchKinds
+mod EndsOnly

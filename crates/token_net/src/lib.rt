@@ -9,6 +9,7 @@ mod laws;
 mod lines;
 mod needing;
 mod numbers;
+mod net_laws;
 mod playable;
 mod straight;
 mod upcoming;
@@ -16,6 +17,7 @@ mod upcoming;
 pub use control::Control;
 pub use following::{PlayEnd, follow};
 pub use laws::{nets_begin_soundly, nets_keep_the_laws};
+pub use net_laws::{flow_graphs_ground_nets, nets_are_paced, nets_keep_pace, runs_ground_nets};
 pub use playable::is_playable;
 pub use straight::StraightNet;
 

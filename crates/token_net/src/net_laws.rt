@@ -1,0 +1,64 @@
+//! Laws on nets beside the runs of their programs, as contracts of functions that do nothing.
+
+ghost use Rattle.std.specs.Prelude.{◌≡◌, ◌*◌, ◌≤◌, ℕ, length};
+ghost use Rattle.f77_tree.specs.Run.{Running, source};
+ghost use Rattle.cfg_build.specs.Passes.{passes};
+ghost use Rattle.firing.specs.Control.{KeepsStep};
+ghost use Rattle.firing.specs.Orders.{after};
+ghost use Rattle.firing.specs.Pacing.{IsPaced};
+ghost use Rattle.firing.specs.SourceOrder.{IsSourceOrder, IsDueOrder};
+ghost use Rattle.token_net.specs.Belonging.{IsNet, CanCome};
+ghost use Rattle.token_net.specs.FlowGround.{FlowGround};
+ghost use Rattle.token_net.specs.NetOrder.{first_control, net_course};
+ghost use Rattle.token_net.specs.NetPace.{IsInPace};
+ghost use Rattle.token_net.specs.Nodes.{NetOf};
+ghost use Rattle.token_net.specs.OwnOrder.{own_order};
+ghost use Rattle.token_net.specs.PieceFacts.{PieceFacts};
+ghost use Rattle.token_net.specs.StepPace.{OutputMoves, RunGround, program_stage, program_text};
+ghost use Rattle.token_net.specs.Tokens.{first_tokens, net_moves};
+
+use cfg_build::{
+    flow_graph_has_shape, flow_graph_is_strong, passes_are_a_walk, passes_follow_steps,
+    pieces_run_executables,
+};
+use closed_walks::reaching_is_told;
+use dep_routing::{free_nodes, free_passed_nodes, places, places_over_a_pass};
+
+/// A control that keeps step with the passes of a program stays in step where the node that is due fires, and such a node can
+/// fire; where none is due, none can.
+pub fn nets_keep_pace()
+    ensures steady { (net : NetOf) → KeepsStep (CanCome net) (net_moves net) (net_course net) (IsInPace net) }
+    ensures ordered { (net : NetOf) → IsSourceOrder (CanCome net) (net_moves net) (net_course net) (IsInPace net) }
+{}
+
+/// The source's own order of a net keeps pace with the steps of its program. Its firings are due one after another, five for each
+/// line and step at most, and after the firings of so many steps the memory is that after the steps.
+pub fn nets_are_paced()
+    ensures begins { (net : NetOf) (n : IsNet net) → FlowGround net n.tree → IsInPace net (first_tokens net) (first_control net) }
+    ensures paced { (net : NetOf) (n : IsNet net) → FlowGround net n.tree → RunGround net n.tree → IsPaced (net_moves net) (first_tokens net) (program_text net) (program_stage net) (own_order net) }
+    ensures due { (net : NetOf) (n : IsNet net) → FlowGround net n.tree → (steps : ℕ) → IsDueOrder (net_moves net) (net_course net) (first_tokens net) (first_control net) (own_order net steps) }
+    ensures few { (net : NetOf) (n : IsNet net) → FlowGround net n.tree → (steps : ℕ) → length (own_order net steps) ≤ 5 * net.routing.lines * steps }
+    ensures memory { (net : NetOf) (n : IsNet net) → FlowGround net n.tree → RunGround net n.tree → (steps : ℕ) → (after (net_moves net) (first_tokens net) (own_order net steps)).memory ≡ (source net.program net.input steps).memory }
+{}
+
+/// What a net stands on, but for two facts of its pieces.
+pub fn flow_graphs_ground_nets()
+    ensures { (net : NetOf) (n : IsNet net) → PieceFacts net → FlowGround net n.tree }
+{
+    flow_graph_is_strong();
+    flow_graph_has_shape();
+    passes_are_a_walk();
+    places();
+    places_over_a_pass();
+    free_nodes();
+    free_passed_nodes();
+    reaching_is_told();
+    pieces_run_executables();
+}
+
+/// What the runs of a program tell its net, where output keeps moving.
+pub fn runs_ground_nets()
+    ensures { (net : NetOf) (n : IsNet net) → ((k : ℕ) → (passes net.program net.input k).mark ≡ Running → OutputMoves net n.tree k) → RunGround net n.tree }
+{
+    passes_follow_steps();
+}
