@@ -21,9 +21,7 @@ use cfg_build::{
     pieces_run_executables,
 };
 use closed_walks::reaching_is_told;
-use dep_routing::{
-    free_nodes, free_passed_nodes, output_keeps_moving, places, places_over_a_pass,
-};
+use dep_routing::{free_nodes, free_passed_nodes, output_keeps_moving, places, places_over_a_pass};
 
 /// A control that keeps step with the passes of a program stays in step where the node that is due fires, and such a node can
 /// fire; where none is due, none can.

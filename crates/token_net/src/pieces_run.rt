@@ -73,12 +73,18 @@ fn choice(names: &NameInfoList, s: &Storage, kind: &ExecKind) -> Result<u32, Tra
             Ok(which_sign(z))
         }
         ExecKind::Pick {
-            value: e, targets, ..
+            value: e,
+            targets,
+            ..
         } => {
             let v = value(names, s, e)?;
             Ok(which_target(v, targets.len()))
         }
-        ExecKind::DoStart { loop_no, .. } => Ok(if s.counts[*loop_no as usize] == 0 { 1 } else { 0 }),
+        ExecKind::DoStart { loop_no, .. } => Ok(if s.counts[*loop_no as usize] == 0 {
+            1
+        } else {
+            0
+        }),
         _ => Ok(0),
     }
 }

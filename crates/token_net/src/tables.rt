@@ -3,8 +3,8 @@
 use crate::Control;
 use cfg_build::{Flow, PieceKind};
 use closed_walks::Digraph;
-use df_sequence::{LabelList, NoMemory};
 use dep_routing::{Lines, TouchList};
+use df_sequence::{LabelList, NoMemory};
 use firing::NodeName;
 use std::alloc::Global;
 
