@@ -93,9 +93,9 @@ module _ (net : NetOf) (start m : Tokens) (piece : ℕ) (memory : Memory) where
         lines = lines_more net (nodes_at net piece) (suc fired) (Switch piece line) start.lines m.lines (led_from net (leaving net piece made)) name amid.lines;
         at_first = λ one. let e : suc (suc fired) ≡ 0 = one in cc;
         before = λ k low. ⊎_elim
-        (λ (same : own ≡ k). subst (λ (i : ℕ). joined (slice_get (slice_set m.edges own None) i) ≡ None) same (left_taken m.edges own))
-        (λ (other : own ≡ k → ⊥). ap joined (get_set_other m.edges own k None other) ∙ amid.before k (lower k low other))
-        (same_or_not own k);
+            (λ (same : own ≡ k). subst (λ (i : ℕ). joined (slice_get (slice_set m.edges own None) i) ≡ None) same (left_taken m.edges own))
+            (λ (other : own ≡ k → ⊥). ap joined (get_set_other m.edges own k None other) ∙ amid.before k (lower k low other))
+            (same_or_not own k);
         left = λ k some low high. ap joined (get_set_other m.edges own k None (λ same. omega (arith, same, low))) ∙ amid.left k (omega arith) (omega (arith, low)) high;
         behind = λ k high. ap joined (get_set_other m.edges own k None (λ same. omega (arith, same, high, few))) ∙ amid.behind k high;
         memory_is = amid.memory_is;
@@ -111,15 +111,15 @@ module _ (net : NetOf) (start m : Tokens) (piece : ℕ) (memory : Memory) where
 
   pub merge_amid : (made : Passed) (fired line : ℕ) → IsAmid net start m piece fired memory made → slice_get (nodes_at net piece) fired ≡ Some (Merge piece line) → switch_count net piece ≡ 0 → leaving net piece made ≡ out (graph_in net) piece 0 → memory_or memory made ≡ memory → (DoesTrap made → ⊥) → IsAmid net start (merged net m piece line) piece (suc fired) memory made
   merge_amid made fired line amid name none edge same goes = record {
-        lines = ap (λ (d : ℕ). slice_set m.lines line (led_from net d line)) (sym edge) ∙ lines_more net (nodes_at net piece) fired (Merge piece line) start.lines m.lines (led_from net (leaving net piece made)) name amid.lines;
-        at_first = λ one. let e : suc fired ≡ 0 = one in cc;
-        before = λ k low. nothing fired refl k;
-        left = λ k some low high. absurd (omega (arith, low, high, none));
-        behind = λ k high. nothing fired refl k;
-        memory_is = amid.memory_is ∙ still fired ∙ sym same;
-        trap_is = amid.trap_is;
-        no_trap = λ some. goes;
-      }
+    lines = ap (λ (d : ℕ). slice_set m.lines line (led_from net d line)) (sym edge) ∙ lines_more net (nodes_at net piece) fired (Merge piece line) start.lines m.lines (led_from net (leaving net piece made)) name amid.lines;
+    at_first = λ one. let e : suc fired ≡ 0 = one in cc;
+    before = λ k low. nothing fired refl k;
+    left = λ k some low high. absurd (omega (arith, low, high, none));
+    behind = λ k high. nothing fired refl k;
+    memory_is = amid.memory_is ∙ still fired ∙ sym same;
+    trap_is = amid.trap_is;
+    no_trap = λ some. goes;
+  }
     where
       still : (i : ℕ) → memory_amid memory made i ≡ memory
       still zero = refl

@@ -1,5 +1,5 @@
 -- What belongs together in a net, and which markings can come.
-use Rattle.std.specs.Prelude.{◌≡◌, ◌<◌, ℕ, suc, true, Some, length, All}
+use Rattle.std.specs.Prelude.{◌≡◌, ◌<◌, ℕ, suc, Some, length, All}
 use Rattle.op_table.specs.Words.{IsWord}
 use Rattle.closed_walks.specs.Graph.{edge_count}
 use Rattle.region_tree.specs.Tree.{Tree, IsRegionTree}
@@ -25,7 +25,6 @@ pub record IsNet (net : NetOf) : Type 0 where
   pub tree : Tree
   pub own_tree : IsRegionTree (graph_in net) tree
   pub sound_touches : IsSound net.program classes tree net.touches
-  pub few_lines : (piece line : ℕ) → net.touches piece line ≡ true → line < suc (class_count classes)
   pub own_routing : IsRouting (graph_in net) tree net.touches (suc (class_count classes)) net.routing
 
 -- as many words, counts and steps as the program has

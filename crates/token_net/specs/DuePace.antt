@@ -102,7 +102,7 @@ module _ (net : NetOf) (is_net : IsNet net) (ground : FlowGround net is_net.tree
         on part = record {
           due = due_more j (omega (arith, low)) part;
           place = place_more j (omega (arith, low)) part
-          ∙ ap (λ (b : Bool). if b then at_piece piece (leaving net piece (pass_at net piece memory)) (suc j) else arrived net (leaving net piece (pass_at net piece memory))) (or_left (nat_lt (suc j) (node_count net piece)) (is_end (kind_in net piece)) (lt-ltb (suc j) (node_count net piece) low));
+              ∙ ap (λ (b : Bool). if b then at_piece piece (leaving net piece (pass_at net piece memory)) (suc j) else arrived net (leaving net piece (pass_at net piece memory))) (or_left (nat_lt (suc j) (node_count net piece)) (is_end (kind_in net piece)) (lt-ltb (suc j) (node_count net piece) low));
         }
 
     all_due : (count : ℕ) → count ≡ node_count net piece → IsDueOrder (net_moves net) (net_course net) s (at_piece piece (leaving net piece (pass_at net piece memory)) 0) (range_with_len (first_node net piece) count)

@@ -176,9 +176,9 @@ module _ (net : NetOf) (m : Tokens) (c : Control) (pace : IsInPace net m c) wher
           between = pace.between;
           few = omega (arith, low);
           due = λ not_end. ⊎_elim
-          (λ (h : nat_lt (suc c.fired) (node_count net c.piece) ≡ true). ltb-true (suc c.fired) (node_count net c.piece) h)
-          (λ (h : is_end (kind_in net c.piece) ≡ true). let clash : true ≡ false = sym h ∙ not_end in absurd cc)
-          (or_cases (nat_lt (suc c.fired) (node_count net c.piece)) (is_end (kind_in net c.piece)) more);
+              (λ (h : nat_lt (suc c.fired) (node_count net c.piece) ≡ true). ltb-true (suc c.fired) (node_count net c.piece) h)
+              (λ (h : is_end (kind_in net c.piece) ≡ true). let clash : true ≡ false = sym h ∙ not_end in absurd cc)
+              (or_cases (nat_lt (suc c.fired) (node_count net c.piece)) (is_end (kind_in net c.piece)) more);
           amid = amid;
           leaves = λ some. taken_is;
         }
@@ -190,8 +190,8 @@ module _ (net : NetOf) (m : Tokens) (c : Control) (pace : IsInPace net m c) wher
 pub keeps_step : (net : NetOf) → KeepsStep (CanCome net) (net_moves net) (net_course net) (IsInPace net)
 keeps_step net = record {
   kept = λ m c k sound pace can due going.
-  let d : IsDue net c k = due_is net c k due in
-  let go : (fired_as net m (first_node net c.piece + c.fired) (node_at net (first_node net c.piece + c.fired))).trap ≡ None = subst (λ (i : ℕ). (fired_as net m i (node_at net i)).trap ≡ None) (sym d.is) going in
-  subst (λ (i : ℕ). IsInPace net (fired_as net m i (node_at net i)) (moved_on net m c)) d.is
-  (moved_in_pace net m c pace d.low (fired_as net m (first_node net c.piece + c.fired) (node_at net (first_node net c.piece + c.fired))) (due_amid net m c pace d.low sound go));
+      let d : IsDue net c k = due_is net c k due in
+      let go : (fired_as net m (first_node net c.piece + c.fired) (node_at net (first_node net c.piece + c.fired))).trap ≡ None = subst (λ (i : ℕ). (fired_as net m i (node_at net i)).trap ≡ None) (sym d.is) going in
+      subst (λ (i : ℕ). IsInPace net (fired_as net m i (node_at net i)) (moved_on net m c)) d.is
+      (moved_in_pace net m c pace d.low (fired_as net m (first_node net c.piece + c.fired) (node_at net (first_node net c.piece + c.fired))) (due_amid net m c pace d.low sound go));
 }

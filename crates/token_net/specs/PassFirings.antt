@@ -142,11 +142,11 @@ module _ (net : NetOf) (is_net : IsNet net) (ground : FlowGround net is_net.tree
         amid = subst (λ (x : Tokens). IsAmid net s x piece (suc j) memory (pass_at net piece memory)) (sym next) (further net is_net ground e piece inside comes s memory between (after (net_moves net) s (range_with_len (first_node net piece) j)) j part.amid own.item own.at part.room_is (λ trap. absurd (goes trap)) (fired_goes (after (net_moves net) s (range_with_len (first_node net piece) j)) j part.amid own.item own.at goes));
         room_is = ap (λ (x : Tokens). length x.edges) next ∙ fired_room net (after (net_moves net) s (range_with_len (first_node net piece) j)) (first_node net piece + j) own.item ∙ part.room_is;
         lines = ap (written (net_moves net) s) more
-        ∙ written_join (net_moves net) s (range_with_len (first_node net piece) j) ((first_node net piece + j) ∷ [])
-        ∙ ap (λ (xs : List ℕ). xs ++ (line_bytes (line_as net (after (net_moves net) s (range_with_len (first_node net piece) j)) (node_at net (first_node net piece + j))) ++ [])) part.lines
-        ∙ ap (λ (xs : List ℕ). text_amid (pass_at net piece memory) j ++ xs) (append-nil (line_bytes (line_as net (after (net_moves net) s (range_with_len (first_node net piece) j)) (node_at net (first_node net piece + j)))))
-        ∙ ap (λ n. text_amid (pass_at net piece memory) j ++ line_bytes (line_as net (after (net_moves net) s (range_with_len (first_node net piece) j)) n)) named
-        ∙ text_more (after (net_moves net) s (range_with_len (first_node net piece) j)) j part.amid own.item own.at;
+            ∙ written_join (net_moves net) s (range_with_len (first_node net piece) j) ((first_node net piece + j) ∷ [])
+            ∙ ap (λ (xs : List ℕ). xs ++ (line_bytes (line_as net (after (net_moves net) s (range_with_len (first_node net piece) j)) (node_at net (first_node net piece + j))) ++ [])) part.lines
+            ∙ ap (λ (xs : List ℕ). text_amid (pass_at net piece memory) j ++ xs) (append-nil (line_bytes (line_as net (after (net_moves net) s (range_with_len (first_node net piece) j)) (node_at net (first_node net piece + j)))))
+            ∙ ap (λ n. text_amid (pass_at net piece memory) j ++ line_bytes (line_as net (after (net_moves net) s (range_with_len (first_node net piece) j)) n)) named
+            ∙ text_more (after (net_moves net) s (range_with_len (first_node net piece) j)) j part.amid own.item own.at;
       }
 
   pub part_fired : (j : ℕ) → (DoesTrap (pass_at net piece memory) → ⊥) → j ≤ node_count net piece → IsPartFired j

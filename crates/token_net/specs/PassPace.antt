@@ -102,7 +102,7 @@ module _ (net : NetOf) (is_net : IsNet net) (ground : FlowGround net is_net.tree
       let at : (line : ℕ) → line < net.routing.lines → edge_of (first_tokens net) line ≡ Some (next_at net.routing line 1) = λ line low. ap joined (get_led (led_from net 1) 0 net.routing.lines line low ∙ ap (λ (x : ℕ). Some (led_from net 1 x)) (zero_plus line)) in
       record {
         lines = λ line place low is. subst (λ (x : ℕ). Rattle.dep_routing.specs.Place.Place (graph_in net) is_net.tree net.touches line 1 x) (same_some (next_at net.routing line 1) place (sym (at line low) ∙ is))
-        (ground.departs line 1 (next_at net.routing line 1) (subst (λ (x : ℕ). IsFree (graph_in net) is_net.tree net.touches line x) (sym start) (ground.start_free line)) (is_net.own_routing.next line 1 (line_below net is_net line low) two));
+            (ground.departs line 1 (next_at net.routing line 1) (subst (λ (x : ℕ). IsFree (graph_in net) is_net.tree net.touches line x) (sym start) (ground.start_free line)) (is_net.own_routing.next line 1 (line_below net is_net line low) two));
         stand = λ line low. (next_at net.routing line 1, at line low);
         edges = λ k. nothing_left (length (nodes_of net)) k;
         memory_is = refl;

@@ -165,8 +165,8 @@ module _ (net : NetOf) (is_net : IsNet net) (ground : FlowGround net is_net.tree
               record {
                 place = next_at net.routing line d;
                 stands = ap (λ (lines : List (Option ℕ)). joined (slice_get lines line)) lines_are
-                ∙ ap joined (with_all_same s.lines (moved_first net (nodes_at net piece) (node_count net piece)) (led_from net d) line one)
-                ∙ put_on (slice_get s.lines line) at.0 (next_at net.routing line d) at.1;
+                    ∙ ap joined (with_all_same s.lines (moved_first net (nodes_at net piece) (node_count net piece)) (led_from net d) line one)
+                    ∙ put_on (slice_get s.lines line) at.0 (next_at net.routing line d) at.1;
                 is = ground.departs line d (next_at net.routing line d) (subst (λ (x : ℕ). IsFree (graph_in net) is_net.tree net.touches line x) (sym begins) (free_of_test net is_net piece line low free)) (is_net.own_routing.next line d (line_below net is_net line low) exit);
               }
           by (inr held) =
@@ -174,14 +174,14 @@ module _ (net : NetOf) (is_net : IsNet net) (ground : FlowGround net is_net.tree
               record {
                 place = at.0;
                 stands = ap (λ (lines : List (Option ℕ)). joined (slice_get lines line)) lines_are
-                ∙ ap joined (with_all_other s.lines (moved_first net (nodes_at net piece) (node_count net piece)) (led_from net d) line (λ one.
-                let led : IsLed net is_net ground e piece inside comes line = moves_led (kind_in net piece) line (subst (λ (xs : List ℕ). Member xs line) moved_is one) in
-                let clash : true ≡ false = sym led.free ∙ held in
-                absurd cc))
-                ∙ at.1;
+                    ∙ ap joined (with_all_other s.lines (moved_first net (nodes_at net piece) (node_count net piece)) (led_from net d) line (λ one.
+                    let led : IsLed net is_net ground e piece inside comes line = moves_led (kind_in net piece) line (subst (λ (xs : List ℕ). Member xs line) moved_is one) in
+                    let clash : true ≡ false = sym led.free ∙ held in
+                    absurd cc))
+                    ∙ at.1;
                 is = ground.stays line e d at.0 inside exit (begins ∙ sym comes) (λ free.
-                let clash : true ≡ false = sym (test_of_free net is_net e piece line inside comes low (subst (λ (x : ℕ). IsFree (graph_in net) is_net.tree net.touches line x) comes free)) ∙ held in
-                absurd cc) (between.lines line at.0 low at.1);
+                    let clash : true ≡ false = sym (test_of_free net is_net e piece line inside comes low (subst (λ (x : ℕ). IsFree (graph_in net) is_net.tree net.touches line x) comes free)) ∙ held in
+                    absurd cc) (between.lines line at.0 low at.1);
               }
 
       same_some : (a b : ℕ) → Some a ≡ Some b → a ≡ b
@@ -200,8 +200,8 @@ module _ (net : NetOf) (is_net : IsNet net) (ground : FlowGround net is_net.tree
       pub all_fired : IsBetween net is_net.tree m d (memory_or memory (pass_at net piece memory))
       all_fired = record {
         lines = λ line place low at.
-        let r : IsPlaced line = placed line low in
-        subst (λ (x : ℕ). Place (graph_in net) is_net.tree net.touches line d x) (same_some r.place place (sym r.stands ∙ at)) r.is;
+            let r : IsPlaced line = placed line low in
+            subst (λ (x : ℕ). Place (graph_in net) is_net.tree net.touches line d x) (same_some r.place place (sym r.stands ∙ at)) r.is;
         stand = λ line low. let r : IsPlaced line = placed line low in (r.place, r.stands);
         edges = nothing_left;
         memory_is = amid.memory_is ∙ memory_by net piece memory (exec_kind net.program piece) (kind_in net piece) (node_count net piece) refl;

@@ -148,13 +148,13 @@ module _ (net : NetOf) (m : Tokens) (c : Control) (pace : IsInPace net m c) wher
 pub source_order : (net : NetOf) → IsSourceOrder (CanCome net) (net_moves net) (net_course net) (IsInPace net)
 source_order net = record {
   fires = λ m c k sound pace going due.
-  let d : IsDue net c k = due_is net c k due in
-  let exists = piece_exists net m c pace in
-  subst (λ (i : ℕ). CanFire (net_moves net) m i) d.is (record { going = going; node = node_below net c.piece c.fired exists d.low; ready = due_ready net m c pace d.low });
+      let d : IsDue net c k = due_is net c k due in
+      let exists = piece_exists net m c pace in
+      subst (λ (i : ℕ). CanFire (net_moves net) m i) d.is (record { going = going; node = node_below net c.piece c.fired exists d.low; ready = due_ready net m c pace d.low });
   over = λ m c sound pace going due.
-  let high = none_due net c due in
-  ⊎_elim
-  (λ (h : is_end (kind_in net c.piece) ≡ true). over_at_end net m c pace h high)
-  (λ (h : is_end (kind_in net c.piece) ≡ false). let low = pace.due h in absurd (omega (arith, low, high)))
-  (cases_Bool (is_end (kind_in net c.piece)));
+      let high = none_due net c due in
+      ⊎_elim
+      (λ (h : is_end (kind_in net c.piece) ≡ true). over_at_end net m c pace h high)
+      (λ (h : is_end (kind_in net c.piece) ≡ false). let low = pace.due h in absurd (omega (arith, low, high)))
+      (cases_Bool (is_end (kind_in net c.piece)));
 }

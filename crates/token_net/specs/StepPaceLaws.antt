@@ -213,13 +213,13 @@ module _ (net : NetOf) (is_net : IsNet net) (ground : FlowGround net is_net.tree
         record {
           at = n;
           enough = ⊎_elim
-          (λ (stopped : (passes net.program net.input n).mark ≢ Running). inl (λ going.
-          let runs : (passes net.program net.input k).mark ≡ Running = stand.mark_is ∙ going_runs (source net.program net.input n).mark going in
-          stays_stopped n sum.rest stopped (subst (λ (i : ℕ). (passes net.program net.input i).mark ≡ Running) (sym sum.is) runs)))
-          (λ (enough : count ≤ serial_count (net_moves net) (own_passes net n)). inr (
-          let more = subst (λ (i : ℕ). serial_count (net_moves net) (own_passes net n) ≤ serial_count (net_moves net) (own_passes net i)) sum.is (serial_later n sum.rest) in
-          omega (arith, enough, more)))
-          busy.enough;
+              (λ (stopped : (passes net.program net.input n).mark ≢ Running). inl (λ going.
+              let runs : (passes net.program net.input k).mark ≡ Running = stand.mark_is ∙ going_runs (source net.program net.input n).mark going in
+              stays_stopped n sum.rest stopped (subst (λ (i : ℕ). (passes net.program net.input i).mark ≡ Running) (sym sum.is) runs)))
+              (λ (enough : count ≤ serial_count (net_moves net) (own_passes net n)). inr (
+              let more = subst (λ (i : ℕ). serial_count (net_moves net) (own_passes net n) ≤ serial_count (net_moves net) (own_passes net i)) sum.is (serial_later n sum.rest) in
+              omega (arith, enough, more)))
+              busy.enough;
         }
 
     stands_so : (m : Tokens) (x : PassState) (mark : Mark) → StandsBeside net is_net ground m x mark → pacing.StandsAt (net_moves net) m (stage_of mark)
@@ -231,14 +231,14 @@ module _ (net : NetOf) (is_net : IsNet net) (ground : FlowGround net is_net.tree
     own_paced = record {
       order = λ n. let pace : IsPassPace net is_net ground (passes_of net.program net.input n) = pass_pace net is_net ground (passes_of net.program net.input n) in pace.order;
       stands = λ n.
-      let k = passes_of net.program net.input n in
-      let pace : IsPassPace net is_net ground k = pass_pace net is_net ground k in
-      let stand : StandsAt net.program (source net.program net.input n) (passes net.program net.input k) = run.steps n in
-      subst (λ (mark : Mark). pacing.StandsAt (net_moves net) (after (net_moves net) (first_tokens net) (own_passes net k)) (stage_of mark)) stand.mark_is (stands_so (after (net_moves net) (first_tokens net) (own_passes net k)) (passes net.program net.input k) (passes net.program net.input k).mark pace.stands);
+          let k = passes_of net.program net.input n in
+          let pace : IsPassPace net is_net ground k = pass_pace net is_net ground k in
+          let stand : StandsAt net.program (source net.program net.input n) (passes net.program net.input k) = run.steps n in
+          subst (λ (mark : Mark). pacing.StandsAt (net_moves net) (after (net_moves net) (first_tokens net) (own_passes net k)) (stage_of mark)) stand.mark_is (stands_so (after (net_moves net) (first_tokens net) (own_passes net k)) (passes net.program net.input k) (passes net.program net.input k).mark pace.stands);
       lines = λ n.
-      let k = passes_of net.program net.input n in
-      let pace : IsPassPace net is_net ground k = pass_pace net is_net ground k in
-      let stand : StandsAt net.program (source net.program net.input n) (passes net.program net.input k) = run.steps n in
-      pace.lines ∙ stand.out_is;
+          let k = passes_of net.program net.input n in
+          let pace : IsPassPace net is_net ground k = pass_pace net is_net ground k in
+          let stand : StandsAt net.program (source net.program net.input n) (passes net.program net.input k) = run.steps n in
+          pace.lines ∙ stand.out_is;
       busy = busy_steps;
     }

@@ -1,8 +1,7 @@
 //! Laws on nets beside the runs of their programs, as contracts of functions that do nothing.
 
 ghost use Rattle.std.specs.Prelude.{◌≡◌, ◌*◌, ◌≤◌, ℕ, length};
-ghost use Rattle.f77_tree.specs.Run.{Running, source};
-ghost use Rattle.cfg_build.specs.Passes.{passes};
+ghost use Rattle.f77_tree.specs.Run.{source};
 ghost use Rattle.firing.specs.Control.{KeepsStep};
 ghost use Rattle.firing.specs.Orders.{after};
 ghost use Rattle.firing.specs.Pacing.{IsPaced};
@@ -14,7 +13,7 @@ ghost use Rattle.token_net.specs.NetPace.{IsInPace};
 ghost use Rattle.token_net.specs.Nodes.{NetOf};
 ghost use Rattle.token_net.specs.OwnOrder.{own_order};
 ghost use Rattle.token_net.specs.PieceFacts.{PieceFacts};
-ghost use Rattle.token_net.specs.StepPace.{OutputMoves, RunGround, program_stage, program_text};
+ghost use Rattle.token_net.specs.StepPace.{RunGround, program_stage, program_text};
 ghost use Rattle.token_net.specs.Tokens.{first_tokens, net_moves};
 
 use cfg_build::{
@@ -22,7 +21,7 @@ use cfg_build::{
     pieces_run_executables,
 };
 use closed_walks::reaching_is_told;
-use dep_routing::{free_nodes, free_passed_nodes, places, places_over_a_pass};
+use dep_routing::{free_nodes, free_passed_nodes, output_keeps_moving, places, places_over_a_pass};
 
 /// A control that keeps step with the passes of a program stays in step where the node that is due fires, and such a node can
 /// fire; where none is due, none can.
@@ -56,9 +55,10 @@ pub fn flow_graphs_ground_nets()
     pieces_run_executables();
 }
 
-/// What the runs of a program tell its net, where output keeps moving.
+/// What the runs of a program tell its net: its passes follow its steps, and output keeps moving.
 pub fn runs_ground_nets()
-    ensures { (net : NetOf) (n : IsNet net) → ((k : ℕ) → (passes net.program net.input k).mark ≡ Running → OutputMoves net n.tree k) → RunGround net n.tree }
+    ensures { (net : NetOf) (n : IsNet net) → RunGround net n.tree }
 {
     passes_follow_steps();
+    output_keeps_moving();
 }

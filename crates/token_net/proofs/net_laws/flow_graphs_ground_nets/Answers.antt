@@ -26,8 +26,8 @@ returns c = λ net n facts.
       start_free = λ line. c.free_nodes.ensures.start g t net.touches line strong n.own_tree;
       touching = λ node line touches. c.free_nodes.ensures.touching g t net.touches line node touches;
       alone = λ node line exists later one_in one_leaves free.
-      let own : IsOnOneWay g node = on_one_way g node strong exists later (shape.one_comes node exists one_in) (shape.one_leaves node exists one_leaves) in
-      c.free_passed_nodes.ensures g t net.touches line node own.a own.b strong n.own_tree own.passed later free;
+          let own : IsOnOneWay g node = on_one_way g node strong exists later (shape.one_comes node exists one_in) (shape.one_leaves node exists one_leaves) in
+          c.free_passed_nodes.ensures g t net.touches line node own.a own.b strong n.own_tree own.passed later free;
       touch_none = touch_none net n;
       touch_some = facts.touch_some;
       shape = shape;
@@ -36,6 +36,6 @@ returns c = λ net n facts.
       ends = λ edge m inside is. ends_only net (λ node exists acts. c.pieces_run_executables.ensures.acts p.names p.execs p.loops node well exists acts) edge m (graph.ends edge inside) is;
       one_out = λ e inside one. one_out g e inside (shape.one_leaves (Rattle.closed_walks.specs.Graph.from g e) (graph.begins e inside) one);
       near_end = λ node exists.
-      let way = strong.strong node (finish p.execs) exists shape.end_exists in
-      near_end g node (finish p.execs) facts.few_pieces ((c.reaching_is_told.ensures g node (finish p.execs) graph exists).1 way);
+          let way = strong.strong node (finish p.execs) exists shape.end_exists in
+          near_end g node (finish p.execs) facts.few_pieces ((c.reaching_is_told.ensures g node (finish p.execs) graph exists).1 way);
     }
