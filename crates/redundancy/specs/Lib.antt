@@ -1,0 +1,4 @@
+pub mod Available
+pub mod Candidates
+pub mod Computed
+pub mod Runs

@@ -1,0 +1,2 @@
+//! Available expressions.
+#![tactic(auto)]
