@@ -1,0 +1,4 @@
+pub mod Bits
+pub mod OnWalks
+pub mod Rounds
+pub mod Solves
