@@ -34,7 +34,7 @@ fn collect_exec(
 ) -> Result<(), NoMemory> {
     match kind {
         ExecKind::Assign { target, value, .. } => {
-            collect_all(alloc, names, target.subs.as_slice(), found)?;
+            collect_all(alloc, names, &target.subs, found)?;
             collect(alloc, names, value, found)?;
         }
         ExecKind::Print { items, .. } => collect_items(alloc, names, items, found)?,
