@@ -1,5 +1,5 @@
 -- Candidates, collected from one list of expressions after another.
-use Rattle.std.proofs.Common.{◌≡◌, ℕ, ◌+◌, ◌<◌, ◌≤◌, ◌⊎◌, List, [], ◌∷◌, ◌++◌, length, get_or, map, take, All, Option, ℤ, refl, sym, ap, ◌∙◌, subst, inl, inr, ⊎_elim, arith, append_assoc}
+use Rattle.std.proofs.Common.{◌≡◌, ℕ, zero, suc, ◌+◌, ◌<◌, ◌≤◌, ◌⊎◌, List, [], ◌∷◌, ◌++◌, length, get_or, map, take, All, Option, ℤ, refl, sym, ap, ◌∙◌, subst, inl, inr, ⊎_elim, arith, append_assoc}
 use Rattle.std.proofs.lemmas.List.{take_more}
 use Rattle.std.proofs.lemmas.List.Concat.{flat_map-append}
 use Rattle.f77_tree.specs.declared.expressions.Expr.{Expr, Read, Apply}
@@ -10,6 +10,11 @@ use Rattle.op_table.specs.declared.Op.{Op}
 use Rattle.f77_tree.specs.Known.{known}
 use Rattle.redundancy.specs.Candidates.{IsCandidate, subexpressions}
 use Rattle.redundancy.specs.Collected.{AreCandidatesIn, none, take as take_one, skip, IsGrown, all_subexpressions}
+use Rattle.std.specs.Prelude.{flat_map}
+use Rattle.f77_tree.specs.declared.programs.Item.{Item}
+use Rattle.f77_tree.specs.Value.{IsExpression}
+use Rattle.redundancy.specs.Computed.{in_item}
+use Rattle.redundancy.proofs.Executables.{all-left, all-right}
 use Rattle.redundancy.proofs.Operands.{subexpressions-Apply, subexpressions-Read}
 
 append_none : (xs : List Expr) → xs ++ [] ≡ xs
@@ -69,3 +74,25 @@ pub map_more : (es : List Expr) (i : ℕ) (e : Expr) (value : Option ℤ) → i 
 map_more es i e value lt at is =
     let front : take (i + 1) es ≡ take i es ++ e ∷ [] = take_more es i e lt ∙ ap (λ (x : Expr). take i es ++ x ∷ []) (sym at) in
     ap (λ v. map known (take i es) ++ v ∷ []) is ∙ sym (map-append known (take i es) (e ∷ [])) ∙ ap (map known) (sym front)
+
+module _ (names : List NameInfo) where
+  pub grown-first : (e : Expr) (es a b c : List Expr) → IsGrown names (subexpressions e) a b → IsGrown names (all_subexpressions es) b c → IsGrown names (all_subexpressions (e ∷ es)) a c
+  grown-first e es a b c p q = grown-both names (subexpressions e) (all_subexpressions es) a b c p q
+
+  pub grown-one : (e : Expr) (a b : List Expr) → IsGrown names (subexpressions e) a b → IsGrown names (all_subexpressions (e ∷ [])) a b
+  grown-one e a b p = grown-first e [] a b b p (grown-none names b)
+
+  pub grown-front : (xs ys a b c : List Expr) → IsGrown names (all_subexpressions xs) a b → IsGrown names (all_subexpressions ys) b c → IsGrown names (all_subexpressions (xs ++ ys)) a c
+  grown-front xs ys a b c p q = subst (λ z. IsGrown names z a c) (sym (flat_map-append subexpressions xs ys)) (grown-both names (all_subexpressions xs) (all_subexpressions ys) a b c p q)
+
+  -- one item of output more
+  pub grown-item : (items : List Item) (i : ℕ) (item : Item) (a b c : List Expr) → i < length items → item ≡ get_or items i item → IsGrown names (all_subexpressions (flat_map in_item (take i items))) a b → IsGrown names (all_subexpressions (in_item item)) b c → IsGrown names (all_subexpressions (flat_map in_item (take (i + 1) items))) a c
+  grown-item items i item a b c lt at p q =
+      let front : take (i + 1) items ≡ take i items ++ item ∷ [] = take_more items i item lt ∙ ap (λ (x : Item). take i items ++ x ∷ []) (sym at) in
+      let parts : flat_map in_item (take (i + 1) items) ≡ flat_map in_item (take i items) ++ in_item item = ap (flat_map in_item) front ∙ flat_map-append in_item (take i items) (item ∷ []) ∙ ap (λ z. flat_map in_item (take i items) ++ z) (append_none (in_item item)) in
+      subst (λ z. IsGrown names (all_subexpressions z) a c) (sym parts) (grown-front (flat_map in_item (take i items)) (in_item item) a b c p q)
+
+  pub all_items-at : (items : List Item) (i : ℕ) (item : Item) → i < length items → item ≡ get_or items i item → All (IsExpression names) (flat_map in_item items) → All (IsExpression names) (in_item item)
+  all_items-at [] i item lt at all = absurd (omega (arith, lt))
+  all_items-at (x ∷ items) zero item lt at all = subst (λ y. All (IsExpression names) (in_item y)) (sym at) (all-left (IsExpression names) (in_item x) (flat_map in_item items) all)
+  all_items-at (x ∷ items) (suc i) item lt at all = all_items-at items i item (omega arith) at (all-right (IsExpression names) (in_item x) (flat_map in_item items) all)

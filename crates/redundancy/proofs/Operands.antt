@@ -234,3 +234,24 @@ told_no op args test fails why names = (
   λ yes. absurd (false≢true (sym fails ∙ yes)),
   λ is. let parts = Apply-candidate names op args is in absurd (⊎_elim (λ no. false≢true (sym no ∙ parts.0)) (λ no. false≢true (sym no ∙ parts.1)) why),
 )
+
+-- what is read is an access of the table
+pub Read-access : (names : List NameInfo) (access : Access) → IsExpression names (Read access) → IsAccess names access
+Read-access names access is =
+    let row = row_of (Read access) in
+    record {
+      known = is.0;
+      as_many = sym (row_length-items row.0 row.1 ∙ ap length (items_hidden-the_row-Expr-0 access.subs)) ∙ is.1;
+      subscripts = IsExpression-subscripts names access is;
+    }
+
+items-AllExpressions : (names : List NameInfo) (n : _) (row : Row_of-Expr n) → All (IsExpression names) (items-the_row-Expr n row) → AllExpressions names row
+items-AllExpressions names n end_of-Expr all = tt
+items-AllExpressions names n (more_of-Expr e rest) all = (all 0 e (omega arith), items-AllExpressions names _ rest (λ k d lt. all (suc k) d (omega (arith, lt))))
+
+-- an operator of as many operands as it takes
+pub fits-Apply : (names : List NameInfo) (op : Op) (args : List Expr) → length args ≡ arity_of op → All (IsExpression names) args → IsExpression names (Apply op args)
+fits-Apply names op args many all =
+    let row = row_of (Apply op args) in
+    let items = items_hidden-the_row-Expr-0 args in
+    (row_length-items row.0 row.1 ∙ ap length items ∙ many, items-AllExpressions names row.0 row.1 (subst (λ (es : List Expr). All (IsExpression names) es) (sym items) all))

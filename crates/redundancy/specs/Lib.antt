@@ -3,6 +3,7 @@ pub mod Candidates
 pub mod Collected
 pub mod Computed
 pub mod Digests
+pub mod Fitting
 pub mod Numbers
 pub mod Runs
 pub mod Solving

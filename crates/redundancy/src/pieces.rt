@@ -1,12 +1,38 @@
 //! What the pieces of a flow graph compute, and the classes that they write.
 
+ghost use Rattle.std.specs.Prelude.{◌≡◌, ◌↔◌, ◌<◌, ℕ, true, Some, All, length, slice_get, slice_index_or, flat_map, IfOk, OnOk, MatchOption, None};
+ghost use Rattle.class_set.specs.declared.ClassSet.{ClassSet};
+ghost use Rattle.class_set.specs.ClassSet.{holds};
+ghost use Rattle.class_set.specs.Members.{IsWidth};
+ghost use Rattle.f77_tree.specs.Value.{place_of, IsExpression};
+ghost use Rattle.alias_classes.specs.Classes.{class_of_word};
+ghost use Rattle.f77_tree.specs.WellFormed.{IsWellFormed};
+ghost use Rattle.cfg_build.specs.Flow.{piece_at};
+ghost use Rattle.redundancy.specs.Candidates.{subexpressions};
+ghost use Rattle.redundancy.specs.Collected.{IsGrown, all_subexpressions};
+ghost use Rattle.redundancy.specs.Computed.{expressions, selectors, in_item, computed_by, kind_of_piece, ExecWrites, PieceWrites};
+ghost use Rattle.redundancy.specs.Fitting.{ExecFits, TargetFits, IsScalarName, WritesAt};
+
 use crate::collect::{collect, collect_all};
 use alias_classes::Classes;
 use cfg_build::{Flow, Piece, PieceKind};
 use class_set::ClassSet;
 use df_sequence::{NoMemory, Sequence};
-use f77_tree::{Access, ExecKind, Expr, Item, ItemList, NameInfoList, Program};
+use f77_tree::{Access, Exec, ExecKind, Expr, Item, ItemList, NameInfoList, Program};
 use std::alloc::Global;
+
+// The executable that a piece is a part of.
+fn exec_of<'a>(p: &'a Program, piece: Piece) -> Option<&'a Exec>
+    requires { IsWellFormed p.now }
+    ensures exec { MatchOption result (slice_get p.now.execs piece.exec ≡ None) (λ exec. slice_get p.now.execs piece.exec ≡ Some exec.now) }
+    ensures fits { MatchOption result (Unit {0}) (λ exec. ExecFits p.now.names exec.now.kind) }
+{
+    if piece.exec < p.execs.len() {
+        Some(p.execs.at(piece.exec))
+    } else {
+        None
+    }
+}
 
 /// Puts copies of the candidates that a piece computes behind those found, in the order of evaluation.
 pub(crate) fn collect_piece(
@@ -14,8 +40,11 @@ pub(crate) fn collect_piece(
     p: &Program,
     piece: Piece,
     found: &mut Vec<Expr>,
-) -> Result<(), NoMemory> {
-    let Some(exec) = p.execs.as_slice().get(piece.exec as usize) else {
+) -> Result<(), NoMemory>
+    requires { IsWellFormed p.now }
+    ensures { OnOk result (IsGrown p.now.names (computed_by p.now.execs piece) found.old.items found.new.items) }
+{
+    let Some(exec) = exec_of(p, piece) else {
         return Ok(());
     };
     match piece.kind {
@@ -31,7 +60,10 @@ fn collect_exec(
     names: &NameInfoList,
     kind: &ExecKind,
     found: &mut Vec<Expr>,
-) -> Result<(), NoMemory> {
+) -> Result<(), NoMemory>
+    requires { All (IsExpression names.now) (expressions kind.now) }
+    ensures { OnOk result (IsGrown names.now (all_subexpressions (expressions kind.now)) found.old.items found.new.items) }
+{
     match kind {
         ExecKind::Assign { target, value, .. } => {
             collect_all(alloc, names, &target.subs, found)?;
@@ -51,7 +83,9 @@ fn collect_exec(
             collect(alloc, names, last, found)?;
             collect(alloc, names, step, found)?;
         }
-        ExecKind::Pass { .. } | ExecKind::DoNext { .. } | ExecKind::End => (),
+        ExecKind::Pass { .. } => (),
+        ExecKind::DoNext { .. } => (),
+        ExecKind::End => (),
     }
     Ok(())
 }
@@ -62,7 +96,10 @@ fn collect_branch(
     names: &NameInfoList,
     kind: &ExecKind,
     found: &mut Vec<Expr>,
-) -> Result<(), NoMemory> {
+) -> Result<(), NoMemory>
+    requires { All (IsExpression names.now) (expressions kind.now) }
+    ensures { OnOk result (IsGrown names.now (all_subexpressions (selectors kind.now)) found.old.items found.new.items) }
+{
     match kind {
         ExecKind::DoStart { .. } => Ok(()),
         kind => collect_exec(alloc, names, kind, found),
@@ -75,14 +112,30 @@ fn collect_items(
     names: &NameInfoList,
     items: &ItemList,
     found: &mut Vec<Expr>,
-) -> Result<(), NoMemory> {
+) -> Result<(), NoMemory>
+    requires { All (IsExpression names.now) (flat_map in_item items.now) }
+    ensures { OnOk result (IsGrown names.now (all_subexpressions (flat_map in_item items.now)) found.old.items found.new.items) }
+{
     for item in items.as_slice() {
-        match item {
-            Item::Value(e) => {
-                collect(alloc, names, e, found)?;
-            }
-            Item::Chars(_) => (),
+        collect_item(alloc, names, item, found)?;
+    }
+    Ok(())
+}
+
+fn collect_item(
+    alloc: Global,
+    names: &NameInfoList,
+    item: &Item,
+    found: &mut Vec<Expr>,
+) -> Result<(), NoMemory>
+    requires { All (IsExpression names.now) (in_item item.now) }
+    ensures { OnOk result (IsGrown names.now (all_subexpressions (in_item item.now)) found.old.items found.new.items) }
+{
+    match item {
+        Item::Value(e) => {
+            collect(alloc, names, e, found)?;
         }
+        Item::Chars(_) => (),
     }
     Ok(())
 }
@@ -93,7 +146,13 @@ pub(crate) fn writes_of<const W: usize>(
     p: &Program,
     f: &Flow,
     c: &Classes<W>,
-) -> Result<Vec<ClassSet<W>>, NoMemory> {
+) -> Result<Vec<ClassSet<W>>, NoMemory>
+    requires width { IsWidth W }
+    requires program { IsWellFormed p.now }
+    requires classes { c.now.names ≡ p.now.names }
+    ensures pieces { IfOk result (λ all. length all.items ≡ length f.now.pieces) }
+    ensures writes { IfOk result (λ all. (node n : ℕ) (d : ClassSet W) → node < length f.now.pieces → (holds (slice_index_or all.items node d) n ≡ true) ↔ WritesAt c.now p.now.execs f.now.pieces node n) }
+{
     let mut all = Vec::new(alloc);
     for node in 0..f.pieces() {
         all.push(piece_writes(alloc, p, c, f.piece(node)))?;
@@ -107,21 +166,42 @@ fn piece_writes<const W: usize>(
     p: &Program,
     c: &Classes<W>,
     piece: Piece,
-) -> ClassSet<W> {
-    match p.execs.as_slice().get(piece.exec as usize) {
-        Some(exec) if piece.kind == PieceKind::Act => exec_writes(alloc, c, &exec.kind),
+) -> ClassSet<W>
+    requires width { IsWidth W }
+    requires program { IsWellFormed p.now }
+    requires classes { c.now.names ≡ p.now.names }
+    ensures { (n : ℕ) → (holds result n ≡ true) ↔ PieceWrites c.now piece.kind (kind_of_piece p.now.execs piece) n }
+{
+    let Some(exec) = exec_of(p, piece) else {
+        return ClassSet::empty();
+    };
+    match piece.kind {
+        PieceKind::Act => exec_writes(alloc, c, &exec.kind),
         _ => ClassSet::empty(),
     }
 }
 
 // The classes that an executable writes.
-fn exec_writes<const W: usize>(alloc: Global, c: &Classes<W>, kind: &ExecKind) -> ClassSet<W> {
+fn exec_writes<const W: usize>(alloc: Global, c: &Classes<W>, kind: &ExecKind) -> ClassSet<W>
+    requires width { IsWidth W }
+    requires target { TargetFits c.now.names kind.now }
+    ensures { (n : ℕ) → (holds result n ≡ true) ↔ ExecWrites c.now kind.now n }
+{
     match kind {
         ExecKind::Assign { target, .. } => c.hits(target),
-        ExecKind::DoStart { var, .. } | ExecKind::DoNext { var, .. } => c.hits(&Access {
-            name: *var,
-            subs: Sequence::new(alloc),
-        }),
+        ExecKind::DoStart { var, .. } => scalar_writes(alloc, c, *var),
+        ExecKind::DoNext { var, .. } => scalar_writes(alloc, c, *var),
         _ => ClassSet::empty(),
     }
+}
+
+// The class of the word of a name without dimensions.
+fn scalar_writes<const W: usize>(alloc: Global, c: &Classes<W>, name: u32) -> ClassSet<W>
+    requires { IsScalarName c.now.names name }
+    ensures { (n : ℕ) → (holds result n ≡ true) ↔ (class_of_word c.now (place_of c.now.names name) ≡ n) }
+{
+    c.hits(&Access {
+        name,
+        subs: Sequence::new(alloc),
+    })
 }

@@ -9,7 +9,7 @@ use Rattle.f77_tree.specs.Value.{IsExpression}
 use Rattle.redundancy.specs.Candidates.{subexpressions, IsCandidate}
 use Rattle.redundancy.specs.Collected.{IsGrown, all_subexpressions}
 use Rattle.redundancy.proofs.Operands.{known-Apply}
-use Rattle.redundancy.proofs.Growing.{grown-none, grown-next, grown-all, grown-Apply-take, grown-Apply-skip, grown-leaf, grown-access, map_more}
+use Rattle.redundancy.proofs.Growing.{grown-none, grown-next, grown-Apply-take, grown-Apply-skip, grown-leaf, grown-access, map_more}
 use Rattle.redundancy.proofs.collect.+collect.Goals as goal
 use Rattle.redundancy.proofs.collect.+collect.Goals.{collect-then-is_candidate+in_ok-copy-in-Apply+in_ok-push-in-Apply, collect-else-is_candidate}
 
