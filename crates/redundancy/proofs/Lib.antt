@@ -3,6 +3,8 @@ pub mod OnWalks
 pub mod PieceKinds
 pub mod Rounds
 pub mod Solves
+pub mod Tables
+pub mod Comparing
 pub mod Executables
 pub mod Growing
 pub mod Operands

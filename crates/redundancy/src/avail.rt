@@ -74,13 +74,13 @@ struct Computed {
 
 // The candidates, and which pieces compute them.
 fn candidates_of(alloc: Global, p: &Program, f: &Flow) -> Result<Computed, NoMemory> {
-    let mut table = Table::new(alloc);
+    let mut table = Table::new(alloc, f.pieces())?;
     let mut rows = Vec::new(alloc);
     for node in 0..f.pieces() {
         let mut found = Vec::new(alloc);
         collect_piece(alloc, p, f.piece(node), &mut found)?;
         for e in found {
-            let k = table.number(alloc, e)?;
+            let k = table.number(e)?;
             mark(alloc, &mut rows, f.pieces(), k, node)?;
         }
     }

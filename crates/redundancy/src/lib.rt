@@ -5,6 +5,7 @@
 
 mod avail;
 mod collect;
+mod listed;
 mod pieces;
 mod rows;
 mod solve;

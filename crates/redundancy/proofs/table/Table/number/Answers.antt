@@ -1,0 +1,33 @@
+use Rattle.std.proofs.Common.{◌≡◌, ℕ, ◌+◌, ◌<◌, ◌%◌, List, [], ◌∷◌, ◌++◌, All, length, get_or, set, sym, ap, subst, ◌∙◌, arith, rules}
+use Rattle.std.specs.Prelude.{Some, slice_get, Contains}
+use Rattle.std.proofs.lemmas.List.{get_or_default}
+use Rattle.redundancy.specs.Digests.{digest}
+use Rattle.redundancy.specs.Numbers.{IsNumbered, IsTable}
+use Rattle.redundancy.proofs.Tables.{table_pushed, not_in_table, numbered-new, bucket_read}
+use Rattle.redundancy.proofs.table.Table.number.Goals as goal
+
+pub find-requires : goal.find-requires
+find-requires c =
+    let exprs = c.args.self.now.exprs.items in
+    let buckets = c.args.self.now.buckets.items in
+    let count : c.len.result ≡ length buckets = search rules in
+    let bucket = bucket_read buckets c.digest.result (digest c.args.e) c.len.result c.index.result.now c.digest.ensures count c.requires.some c.index.ensures in
+    subst (λ (z : List ℕ). All (λ k. k < length exprs) z) (sym (c.as_slice.ensures ∙ bucket)) (c.requires.inside (digest c.args.e % length buckets))
+
+pub returns-clause-table : goal.returns-clause-table
+returns-clause-table c =
+    let exprs = c.args.self.now.exprs.items in
+    let buckets = c.args.self.now.buckets.items in
+    let count : c.len.result ≡ length buckets = search rules in
+    let k_is : c.in-Ok.k ≡ length exprs = search rules in
+    table_pushed exprs c.push-2.new.self.items buckets c.args.e c.digest.result c.len.result c.in-Ok.k c.index_mut.result.now c.push.new.self c.requires c.digest.ensures count c.index_mut.ensures.value c.in_ok-push.ensures k_is c.in_ok-push-2.ensures.items
+
+pub returns-clause-number : goal.returns-clause-number
+returns-clause-number c =
+    let exprs = c.args.self.now.exprs.items in
+    let buckets = c.args.self.now.buckets.items in
+    let count : c.len.result ≡ length buckets = search rules in
+    let k_is : c.in-Ok.k ≡ length exprs = search rules in
+    let bucket = bucket_read buckets c.digest.result (digest c.args.e) c.len.result c.index.result.now c.digest.ensures count c.requires.some c.index.ensures in
+    let none : Contains exprs c.args.e → ⊥ = not_in_table exprs buckets c.args.e c.requires (λ k holds. c.in_default.ensures k (subst (λ (z : List ℕ). Contains z k) (sym (c.as_slice.ensures ∙ bucket)) holds)) in
+    rw c.in_ok-push-2.ensures.items (numbered-new exprs c.args.e c.in-Ok.k k_is none)
