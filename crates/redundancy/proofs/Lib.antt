@@ -1,4 +1,5 @@
 pub mod Bits
+pub mod Marking
 pub mod OnWalks
 pub mod PieceKinds
 pub mod Rounds

@@ -39,12 +39,13 @@ pub record Availability : Type 0 where
 abbrev pub has_bit : (word k : ℕ) → Bool
 has_bit word k = bit_at word k == 1
 
-abbrev pub is_missing : List (List ℕ) → (k node : ℕ) → Bool
-is_missing rows k node = has_bit (slice_index (slice_index_or rows (k / 64) []) node) (k % 64)
+-- whether the bit of a candidate is set at a piece
+abbrev pub has_mark : List (List ℕ) → (k node : ℕ) → Bool
+has_mark rows k node = has_bit (slice_index (slice_index_or rows (k / 64) []) node) (k % 64)
 
 -- whether the candidate with this number is available at the piece
 abbrev pub available_at : Availability → (k node : ℕ) → Bool
-available_at a k node = not (is_missing a.missing k node)
+available_at a k node = not (has_mark a.missing k node)
 
 -- the table has exactly the candidates of the program, and tells for each piece exactly which ones are available there
 pub record IsAvailability (p : Program) (f : FlowGraph) (c : ClassTable) (a : Availability) : Type 0 where

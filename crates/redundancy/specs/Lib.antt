@@ -4,6 +4,9 @@ pub mod Collected
 pub mod Computed
 pub mod Digests
 pub mod Fitting
+pub mod Kept
+pub mod Killing
+pub mod Noted
 pub mod Numbers
 pub mod Runs
 pub mod Solving

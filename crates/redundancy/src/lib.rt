@@ -6,6 +6,7 @@
 mod avail;
 mod collect;
 mod listed;
+mod noting;
 mod pieces;
 mod rows;
 mod solve;

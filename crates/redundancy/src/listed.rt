@@ -1,6 +1,8 @@
 //! Vectors that contracts see as lists.
 
-ghost use Rattle.std.specs.Prelude.{◌≡◌, [], ◌∷◌, ◌++◌, OnOk};
+ghost use Rattle.std.specs.Prelude.{◌≡◌, ◌<◌, [], ◌∷◌, ◌++◌, length, slice_index, slice_set, OnOk};
+ghost use Rattle.redundancy.specs.Available.{has_bit};
+ghost use Rattle.redundancy.specs.Numbers.{with_bit};
 
 use df_sequence::NoMemory;
 use std::alloc::Global;
@@ -55,5 +57,25 @@ impl<T: Drop> Listed<T> {
     {
         self.items.push(item)?;
         Ok(())
+    }
+}
+
+impl Listed<u64> {
+    /// Whether a bit of the word at a place is set.
+    pub(crate) fn has_bit(&self, at: usize, bit: u32) -> bool
+        requires at { at < length self.now }
+        requires bit { bit < 64 }
+        ensures { result ≡ has_bit (slice_index self.now at) bit }
+    {
+        self.items[at] >> bit & 1 == 1
+    }
+
+    /// Sets a bit of the word at a place.
+    pub(crate) fn set_bit(&mut self, at: usize, bit: u32)
+        requires at { at < length self.old }
+        requires bit { bit < 64 }
+        ensures { self.new ≡ slice_set self.old at (with_bit (slice_index self.old at) bit) }
+    {
+        self.items[at] |= 1 << bit;
     }
 }

@@ -6,7 +6,7 @@ ghost use Rattle.redundancy.specs.Numbers.{IsNumbered, IsTable};
 
 use crate::listed::Listed;
 use crate::trees::{are_same, digest};
-use df_sequence::NoMemory;
+use df_sequence::{Copied, NoMemory};
 use f77_tree::Expr;
 use std::alloc::Global;
 
@@ -30,22 +30,23 @@ impl Table {
         })
     }
 
-    /// The number of the expression, which gets the next one where it is new. Numbers have 32 bits: there is no memory for more
+    /// The number of the expression. A copy of it gets the next one where it is new. Numbers have 32 bits: there is no memory for more
     /// expressions.
-    pub(crate) fn number(&mut self, e: Expr) -> Result<u32, NoMemory>
+    pub(crate) fn number(&mut self, alloc: Global, e: &Expr) -> Result<u32, NoMemory>
         requires { IsTable self.old.exprs.items self.old.buckets.items }
         ensures table { OnOk result (IsTable self.new.exprs.items self.new.buckets.items) }
-        ensures number { IfOk result (λ k. IsNumbered e self.old.exprs.items self.new.exprs.items k) }
+        ensures number { IfOk result (λ k. IsNumbered e.now self.old.exprs.items self.new.exprs.items k) }
     {
-        let at = (digest(&e) % self.buckets.len() as u64) as usize;
-        if let Some(k) = find(&self.exprs, self.buckets[at].as_slice(), &e) {
+        let at = (digest(e) % self.buckets.len() as u64) as usize;
+        if let Some(k) = find(&self.exprs, self.buckets[at].as_slice(), e) {
             return Ok(k);
         }
-        let Ok(k) = u32::try_from(self.exprs.len()) else {
+        if self.exprs.len() >= u32::MAX as usize {
             return Err(NoMemory);
-        };
+        }
+        let k = self.exprs.len() as u32;
         self.buckets[at].push(k)?;
-        self.exprs.push(e)?;
+        self.exprs.push(e.copy(alloc)?)?;
         Ok(k)
     }
 }

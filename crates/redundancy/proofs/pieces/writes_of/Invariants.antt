@@ -8,5 +8,5 @@ use Rattle.redundancy.proofs.pieces.writes_of.Given as goal
 abbrev pub invariant-loop-node : goal.invariant-loop-node
 invariant-loop-node g l = record {
   count : length l.all.items ≡ l.node;
-  writes : (k n : ℕ) (d : ClassSet g.W) → k < l.node → (holds (get_or l.all.items k d) n ≡ true) ↔ WritesAt l.c l.p.execs l.f.pieces k n;
+  writes : (k n : ℕ) (d : ClassSet g.row.W) → k < l.node → (holds (get_or l.all.items k d) n ≡ true) ↔ WritesAt l.c l.p.execs l.f.pieces k n;
 }

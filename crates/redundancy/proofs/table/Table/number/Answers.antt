@@ -11,23 +11,24 @@ find-requires c =
     let exprs = c.args.self.now.exprs.items in
     let buckets = c.args.self.now.buckets.items in
     let count : c.len.result ≡ length buckets = search rules in
-    let bucket = bucket_read buckets c.digest.result (digest c.args.e) c.len.result c.index.result.now c.digest.ensures count c.requires.some c.index.ensures in
-    subst (λ (z : List ℕ). All (λ k. k < length exprs) z) (sym (c.as_slice.ensures ∙ bucket)) (c.requires.inside (digest c.args.e % length buckets))
+    let bucket = bucket_read buckets c.digest.result (digest c.args.e.now) c.len.result c.index.result.now c.digest.ensures count c.requires.some c.index.ensures in
+    subst (λ (z : List ℕ). All (λ k. k < length exprs) z) (sym (c.as_slice.ensures ∙ bucket)) (c.requires.inside (digest c.args.e.now % length buckets))
 
 pub returns-clause-table : goal.returns-clause-table
 returns-clause-table c =
     let exprs = c.args.self.now.exprs.items in
     let buckets = c.args.self.now.buckets.items in
     let count : c.len.result ≡ length buckets = search rules in
-    let k_is : c.in-Ok.k ≡ length exprs = search rules in
-    table_pushed exprs c.push-2.new.self.items buckets c.args.e c.digest.result c.len.result c.in-Ok.k c.index_mut.result.now c.push.new.self c.requires c.digest.ensures count c.index_mut.ensures.value c.in_ok-push.ensures k_is c.in_ok-push-2.ensures.items
+    let counted : c.len-k.result ≡ length exprs = search rules in
+    let counted2 : c.len-2.result ≡ length exprs = search rules in
+    table_pushed exprs c.push-2.new.self.items buckets c.args.e.now c.digest.result c.len.result c.len-k.result c.index_mut.result.now c.push.new.self (omega (arith, counted2, c.if-len.false)) c.requires c.digest.ensures count c.index_mut.ensures.value c.in_ok-push.ensures counted (c.in_ok-push-2.ensures.items ∙ ap (λ x. exprs ++ x ∷ []) c.in_ok-copy.ensures)
 
 pub returns-clause-number : goal.returns-clause-number
 returns-clause-number c =
     let exprs = c.args.self.now.exprs.items in
     let buckets = c.args.self.now.buckets.items in
     let count : c.len.result ≡ length buckets = search rules in
-    let k_is : c.in-Ok.k ≡ length exprs = search rules in
-    let bucket = bucket_read buckets c.digest.result (digest c.args.e) c.len.result c.index.result.now c.digest.ensures count c.requires.some c.index.ensures in
-    let none : Contains exprs c.args.e → ⊥ = not_in_table exprs buckets c.args.e c.requires (λ k holds. c.in_default.ensures k (subst (λ (z : List ℕ). Contains z k) (sym (c.as_slice.ensures ∙ bucket)) holds)) in
-    rw c.in_ok-push-2.ensures.items (numbered-new exprs c.args.e c.in-Ok.k k_is none)
+    let counted : c.len-k.result ≡ length exprs = search rules in
+    let bucket = bucket_read buckets c.digest.result (digest c.args.e.now) c.len.result c.index.result.now c.digest.ensures count c.requires.some c.index.ensures in
+    let none : Contains exprs c.args.e.now → ⊥ = not_in_table exprs buckets c.args.e.now c.requires (λ k holds. c.in_default.ensures k (subst (λ (z : List ℕ). Contains z k) (sym (c.as_slice.ensures ∙ bucket)) holds)) in
+    rw (c.in_ok-push-2.ensures.items, c.in_ok-copy.ensures) (numbered-new exprs c.args.e.now c.len-k.result counted none)
