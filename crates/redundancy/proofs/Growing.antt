@@ -17,12 +17,12 @@ use Rattle.redundancy.specs.Computed.{in_item}
 use Rattle.redundancy.proofs.Executables.{all-left, all-right}
 use Rattle.redundancy.proofs.Operands.{subexpressions-Apply, subexpressions-Read}
 
-append_none : (xs : List Expr) → xs ++ [] ≡ xs
+pub append_none : (xs : List Expr) → xs ++ [] ≡ xs
 append_none [] = refl
 append_none (x ∷ xs) = ap (λ ys. x ∷ ys) (append_none xs)
 
 module _ (names : List NameInfo) where
-  both : (es found more_es more : List Expr) → AreCandidatesIn names es found → AreCandidatesIn names more_es more → AreCandidatesIn names (es ++ more_es) (found ++ more)
+  pub both : (es found more_es more : List Expr) → AreCandidatesIn names es found → AreCandidatesIn names more_es more → AreCandidatesIn names (es ++ more_es) (found ++ more)
   both es found more_es more none b = b
   both es found more_es more (take_one e xs ys is a) b = take_one e (xs ++ more_es) (ys ++ more) is (both xs ys more_es more a b)
   both es found more_es more (skip e xs ys isnt a) b = skip e (xs ++ more_es) (ys ++ more) isnt (both xs ys more_es more a b)

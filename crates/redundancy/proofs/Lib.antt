@@ -1,5 +1,7 @@
 pub mod Bits
 pub mod Marking
+pub mod Meetings
+pub mod Notes
 pub mod OnWalks
 pub mod PieceKinds
 pub mod Rounds
@@ -7,5 +9,6 @@ pub mod Solves
 pub mod Tables
 pub mod Comparing
 pub mod Executables
+pub mod Firsts
 pub mod Growing
 pub mod Operands

@@ -10,7 +10,7 @@ use Rattle.redundancy.specs.Noted.{IsMarked}
 use Rattle.redundancy.specs.Numbers.{with_bit}
 use Rattle.redundancy.proofs.Bits.{zero_bit}
 
-with_bit_tells : (word n k : ℕ) → n < 64 → has_bit (with_bit word n) k ≡ (has_bit word k || (k == n))
+pub with_bit_tells : (word n k : ℕ) → n < 64 → has_bit (with_bit word n) k ≡ (has_bit word k || (k == n))
 with_bit_tells word n k within = ⊎_elim
     (λ (h : k ≡ n). let e : bit_at (with_bit word n) k ≡ 1 = rw h (bit_at_set_same w64 word n within) in grind (arith, nat_tests))
     (λ (h : k ≢ n). let e : bit_at (with_bit word n) k ≡ bit_at word k = bit_at_set_other w64 word n within k h in grind (arith, nat_tests))

@@ -20,6 +20,9 @@ pub record AreFirst (all firsts : List Expr) : Type 0 where
   pub whole : (e : Expr) → Contains all e → Contains firsts e
   pub ordered : (i j : ℕ) (e d : Expr) → i < j → slice_get firsts i ≡ Some e → slice_get firsts j ≡ Some d → StandsBefore all e d
 
+abbrev pub at_node : ℕ → Expr → ℕ × Expr
+at_node node e = (node, e)
+
 -- where pieces compute which candidates, in order; the candidates; and the marks where they are computed
 pub record IsNoted (nodes : ℕ) (computed : List (ℕ × Expr)) (candidates : List Expr) (rows : List (List ℕ)) : Type 0 where
   pub firsts : AreFirst (map (λ at. at.1) computed) candidates

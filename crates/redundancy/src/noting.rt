@@ -6,7 +6,7 @@ ghost use Rattle.f77_tree.specs.Value.{IsExpression};
 ghost use Rattle.f77_tree.specs.WellFormed.{IsWellFormed};
 ghost use Rattle.redundancy.specs.Available.{has_mark};
 ghost use Rattle.redundancy.specs.Computed.{AreCandidates, Computes};
-ghost use Rattle.redundancy.specs.Noted.{AreRows, IsNoted};
+ghost use Rattle.redundancy.specs.Noted.{AreRows, IsNoted, at_node};
 ghost use Rattle.redundancy.specs.Numbers.{IsTable};
 
 use crate::listed::Listed;
@@ -54,7 +54,7 @@ fn note(
     alloc: Global,
     table: &mut Table,
     rows: &mut Vec<Listed<u64>>,
-    found: &Vec<Expr>,
+    found: &[Expr],
     nodes: u32,
     node: u32,
 ) -> Result<(), NoMemory>
@@ -63,7 +63,7 @@ fn note(
     requires rows { AreRows nodes (length table.old.exprs.items) rows.old.items }
     ensures table { OnOk result (IsTable table.new.exprs.items table.new.buckets.items) }
     ensures rows { OnOk result (AreRows nodes (length table.new.exprs.items) rows.new.items) }
-    ensures noted { OnOk result ((computed : List (ℕ × Expr)) → IsNoted nodes computed table.old.exprs.items rows.old.items → IsNoted nodes (computed ++ map (λ e. (node, e)) found.now.items) table.new.exprs.items rows.new.items) }
+    ensures noted { OnOk result ((computed : List (ℕ × Expr)) → IsNoted nodes computed table.old.exprs.items rows.old.items → IsNoted nodes (computed ++ map (at_node node) found.now) table.new.exprs.items rows.new.items) }
 {
     for e in found {
         let k = table.number(alloc, e)?;

@@ -41,13 +41,13 @@ pub(crate) fn mark(
 /// For each piece a word that has the bits of those that need a class that the piece writes.
 pub(crate) fn kill_row<const W: usize>(
     alloc: Global,
-    writes: &Vec<ClassSet<W>>,
+    writes: &[ClassSet<W>],
     needs: &[ClassSet<W>],
 ) -> Result<Vec<u64>, NoMemory>
     requires width { IsWidth W }
     requires few { length needs.now ≤ 64 }
-    ensures count { IfOk result (λ row. length row.items ≡ length writes.now.items) }
-    ensures bits { IfOk result (λ row. (node k : ℕ) (d : ClassSet W) → node < length writes.now.items → k < length needs.now → HasBit row.items k node ↔ Meet (slice_index_or needs.now k d) (slice_index_or writes.now.items node d)) }
+    ensures count { IfOk result (λ row. length row.items ≡ length writes.now) }
+    ensures bits { IfOk result (λ row. (node k : ℕ) (d : ClassSet W) → node < length writes.now → k < length needs.now → HasBit row.items k node ↔ Meet (slice_index_or needs.now k d) (slice_index_or writes.now node d)) }
 {
     let all = union_of(needs);
     let mut row = Vec::new(alloc);
