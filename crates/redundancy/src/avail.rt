@@ -1,6 +1,6 @@
 //! The table of available expressions.
 
-ghost use Rattle.std.specs.Prelude.{◌≡◌, ◌<◌, ◌≤◌, ◌*◌, ◌↔◌, ℕ, [], true, All, Some, length, slice_get, slice_index_or, IfOk, OnOk, take, drop};
+ghost use Rattle.std.specs.Prelude.{◌≡◌, ◌<◌, ◌≤◌, ◌+◌, ◌*◌, ◌↔◌, ℕ, [], true, All, Some, length, slice_get, slice_index_or, IfOk, OnOk, take, drop};
 ghost use Rattle.class_set.specs.declared.ClassSet.{ClassSet};
 ghost use Rattle.class_set.specs.ClassSet.{holds};
 ghost use Rattle.class_set.specs.Members.{IsWidth};
@@ -38,7 +38,12 @@ impl Model for Avail {
     ghost use Rattle.redundancy.specs.Available.{Availability};
     ghost use Rattle.redundancy.specs.Kept.{availability_of, IsKept};
 
+    ghost use Rattle.std.specs.Coded.{codes};
+    ghost use Rattle.f77_tree.specs.contracts.expressions.Expr as e;
+
     ghost Value = { Availability };
+
+    ghost coded = { Prim.hlevel (codes, e.the_row.coded) };
 
     ghost view = { availability_of };
 
@@ -110,10 +115,12 @@ pub fn available<const W: usize>(
 // The 64 sets with this number, or fewer at the end.
 fn part<const W: usize>(sets: &Vec<ClassSet<W>>, k: usize) -> &[ClassSet<W>]
     requires { 64 * k < length sets.now.items }
-    ensures { result.now ≡ take 64 (drop (64 * k) sets.now.items) }
+    ensures few { length result.now ≤ 64 }
+    ensures all { (j : ℕ) → j < 64 → 64 * k + j < length sets.now.items → j < length result.now }
+    ensures items { (j : ℕ) (d : ClassSet W) → j < length result.now → slice_index_or result.now j d ≡ slice_index_or sets.now.items (64 * k + j) d }
 {
-    let end = sets.len().min(64 * k + 64);
-    &sets[64 * k..end]
+    let rest = &sets[64 * k..];
+    &rest[..rest.len().min(64)]
 }
 
 // The classes that each expression needs.
