@@ -37,7 +37,7 @@ AreNodes-end nodes done waiting end s v = (λ holds. s.are v holds, λ within. s
 
 -- ---- the search
 
-first_node : (g : Graph) → IsFlowGraph g → 0 < g.nodes
+pub first_node : (g : Graph) → IsFlowGraph g → 0 < g.nodes
 first_node g flow = subst (λ x. x < g.nodes) flow.start (flow.sound.ends 0 flow.some)
 
 zero_word : (n v : ℕ) → get_or (replicate n zero) v 0 ≡ 0

@@ -137,3 +137,47 @@ kills_told p f c e v needs writes need write = (
   λ m. record { class = m.0; writes = (write m.0).0 m.2; reads = (need m.0).0 m.1 },
   λ k. (k.class, (need k.class).1 k.reads, (write k.class).1 k.writes),
 )
+
+first_of : {X : Type 0} (xs : List X) → 0 < length xs → X
+first_of [] some = absurd (omega (arith, some))
+first_of (x ∷ xs) some = x
+
+-- what is told of a row
+module _ {W : ℕ} (p : Program) (f : FlowGraph) (c : ClassTable) (candidates : List Expr) (rows : List (List ℕ)) (needs part writes : List (ClassSet W)) (k : ℕ) (computes kills row : List ℕ) (sound : IsGraph f.graph) (pieces : length f.pieces ≡ f.graph.nodes)
+    (computed : (j x : ℕ) (e : Expr) → slice_get candidates j ≡ Some e → x < length f.pieces → (has_mark rows j x ≡ true) ↔ Computes p f e x)
+    (computes_is : computes ≡ get_or rows k [])
+    (killed : (x b : ℕ) (d : ClassSet W) → x < length writes → b < length part → HasBit kills b x ↔ Meet (get_or part b d) (get_or writes x d))
+    (part_all : (j : ℕ) → j < 64 → 64 * k + j < length needs → j < length part)
+    (part_items : (j : ℕ) (d : ClassSet W) → j < length part → get_or part j d ≡ get_or needs (64 * k + j) d)
+    (needs_count : length needs ≡ length candidates)
+    (need : (j n : ℕ) (e : Expr) (d : ClassSet W) → slice_get candidates j ≡ Some e → (holds (get_or needs j d) n ≡ true) ↔ ExprNeeds c e n)
+    (writes_count : length writes ≡ length f.pieces)
+    (write : (x n : ℕ) (d : ClassSet W) → x < length f.pieces → (holds (get_or writes x d) n ≡ true) ↔ WritesAt c p.execs f.pieces x n)
+    (solved : (node b : ℕ) → node < f.graph.nodes → b < 64 → (bit row b node ≡ false) ↔ IsOnAllWalks f.graph (HasBit computes b) (HasBit kills b) node) where
+
+  computes_told : (b x : ℕ) (e : Expr) → b < 64 → slice_get candidates (64 * k + b) ≡ Some e → x < f.graph.nodes → HasBit computes b x ↔ Computes p f e x
+  computes_told b x e few is less =
+      let t = computed (64 * k + b) x e is (omega (arith, less, pieces)) in
+      let same : has_mark rows (64 * k + b) x ≡ bit computes b x = mark_of_bit rows k b x few ∙ ap (λ (z : List ℕ). bit z b x) (sym computes_is) in
+      (λ has. t.0 (same ∙ has), λ does. sym same ∙ t.1 does)
+
+  kill_told : (b x : ℕ) (e : Expr) → b < 64 → slice_get candidates (64 * k + b) ≡ Some e → x < f.graph.nodes → HasBit kills b x ↔ Kills p f c e x
+  kill_told b x e few is less =
+      let inside : x < length f.pieces = omega (arith, less, pieces) in
+      let x_less : x < length writes = omega (arith, inside, writes_count) in
+      let there = get_within candidates (64 * k + b) e is in
+      let b_less : b < length part = part_all b few (omega (arith, there, needs_count)) in
+      let d = first_of writes (omega (arith, x_less)) in
+      let own : (n : ℕ) → (holds (get_or part b d) n ≡ true) ↔ ExprNeeds c e n = λ n. (
+        λ h. (need (64 * k + b) n e d is).0 (sym (ap (λ (s : ClassSet W). holds s n) (part_items b d b_less)) ∙ h),
+        λ h. ap (λ (s : ClassSet W). holds s n) (part_items b d b_less) ∙ (need (64 * k + b) n e d is).1 h,
+      ) in
+      let meets = kills_told p f c e x (get_or part b d) (get_or writes x d) own (λ n. write x n d inside) in
+      let bits = killed x b d x_less b_less in
+      (λ has. meets.0 (bits.0 has), λ kill. bits.1 (meets.1 kill))
+
+  pub row_told : (b node : ℕ) (e : Expr) → b < 64 → slice_get candidates (64 * k + b) ≡ Some e → node < f.graph.nodes → (bit row b node ≡ false) ↔ IsAvailable p f c e node
+  row_told b node e few is within =
+      let s = solved node b within few in
+      let w = walks_alike f.graph (HasBit computes b) (HasBit kills b) (Computes p f e) (Kills p f c e) node sound (λ x less. computes_told b x e few is less) (λ x less. kill_told b x e few is less) in
+      (λ lacks. w.0 (s.0 lacks), λ av. s.1 (w.1 av))

@@ -1,16 +1,18 @@
 //! The table of available expressions.
 
-ghost use Rattle.std.specs.Prelude.{◌≡◌, ◌<◌, ◌≤◌, ◌+◌, ◌*◌, ◌↔◌, ℕ, [], true, All, Some, length, slice_get, slice_index_or, IfOk, OnOk, take, drop};
+ghost use Rattle.std.specs.Prelude.{◌≡◌, ◌<◌, ◌≤◌, ◌+◌, ◌*◌, ◌↔◌, ℕ, List, [], true, All, Some, length, slice_get, slice_index_or, IfOk, OnOk, take, drop};
 ghost use Rattle.class_set.specs.declared.ClassSet.{ClassSet};
 ghost use Rattle.class_set.specs.ClassSet.{holds};
 ghost use Rattle.class_set.specs.Members.{IsWidth};
 ghost use Rattle.f77_tree.specs.declared.expressions.Expr.{Expr};
+ghost use Rattle.f77_tree.specs.declared.programs.NameInfo.{NameInfo};
 ghost use Rattle.f77_tree.specs.Value.{IsExpression};
 ghost use Rattle.f77_tree.specs.WellFormed.{IsWellFormed};
 ghost use Rattle.alias_classes.specs.Classes.{IsClasses};
 ghost use Rattle.alias_classes.specs.Needs.{ExprNeeds};
 ghost use Rattle.cfg_build.specs.Flow.{flow};
 ghost use Rattle.redundancy.specs.Available.{IsAvailability};
+ghost use Rattle.redundancy.specs.Computed.{AreCandidates};
 
 use crate::listed::Listed;
 use crate::noting::{Noted, candidates_of};
@@ -96,21 +98,30 @@ pub fn available<const W: usize>(
     ensures { IfOk result (λ a. IsAvailability p.now f.now c.now a) }
 {
     flow_graph_is_strong();
+    let pieces = f.pieces();
     let Noted { candidates, rows } = candidates_of(alloc, p, f)?;
+    candidates_fit(p, f, &candidates);
     let needs = needs_of(alloc, c, &candidates)?;
     let writes = writes_of(alloc, p, f, c)?;
     let mut missing = Vec::new(alloc);
     for (k, computes) in rows.iter().enumerate() {
-        let kills = kill_row(alloc, &writes, part(&needs, k))?;
-        let row = missing_row(alloc, f.graph(), computes.as_slice(), &kills)?;
+        let kills = kill_row(alloc, writes.as_slice(), part(&needs, k))?;
+        let row = missing_row(alloc, f.graph(), computes.as_slice(), kills.as_slice())?;
         missing.push(Listed::of(row))?;
     }
     Ok(Avail {
         candidates,
-        pieces: f.pieces(),
+        pieces,
         missing,
     })
 }
+
+// Candidates fit the table of names.
+fn candidates_fit(p: &Program, f: &Flow, candidates: &Vec<Expr>)
+    requires program { IsWellFormed p.now }
+    requires candidates { AreCandidates p.now f.now candidates.now.items }
+    ensures { (names : List NameInfo) → names ≡ p.now.names → All (IsExpression names) candidates.now.items }
+{}
 
 // The 64 sets with this number, or fewer at the end.
 fn part<const W: usize>(sets: &Vec<ClassSet<W>>, k: usize) -> &[ClassSet<W>]
