@@ -1,11 +1,11 @@
 -- The executables of well-formed programs fit the table of names.
-use Rattle.std.proofs.Common.{◌≡◌, ℕ, zero, suc, ◌+◌, ◌<◌, ◌≤◌, ◌⊎◌, List, [], ◌∷◌, ◌++◌, length, get_or, All, refl, sym, ap, ◌∙◌, subst, inl, inr, ⊎_elim, arith}
+use Rattle.std.proofs.Common.{◌≡◌, ℕ, zero, suc, ◌<◌, ◌≤◌, List, [], ◌∷◌, ◌++◌, length, get_or, All, refl, sym, subst, ⊎_elim, arith}
 use Rattle.std.specs.Prelude.{flat_map, Some, None, slice_get}
 use Rattle.op_table.specs.declared.Op.TheVariants.{Truth as ToTruth}
 use Rattle.f77_tree.specs.declared.declarations.Kind.{Kind}
 use Rattle.f77_tree.specs.declared.declarations.Kind.TheVariants.{Integer, Logical}
 use Rattle.f77_tree.specs.declared.expressions.Access.{Access}
-use Rattle.f77_tree.specs.declared.expressions.Expr.{Expr, Read, Read', Apply', Row_of-Expr, end_of-Expr, more_of-Expr, items-the_row-Expr, items_hidden-the_row-Expr-0}
+use Rattle.f77_tree.specs.declared.expressions.Expr.{Expr, Read, Read', Apply', Row_of-Expr, end_of-Expr, more_of-Expr}
 use Rattle.f77_tree.specs.declared.expressions.Expr.TheVariants.{Const, Truth, Input}
 use Rattle.f77_tree.specs.declared.programs.Exec.{Exec}
 use Rattle.f77_tree.specs.declared.programs.ExecKind.{ExecKind}
@@ -15,9 +15,9 @@ use Rattle.f77_tree.specs.declared.programs.Item.TheVariants.{Value, Chars}
 use Rattle.f77_tree.specs.declared.programs.NameInfo.{NameInfo}
 use Rattle.f77_tree.specs.declared.programs.Program.{Program}
 use Rattle.f77_tree.specs.Kinds.{IsProper, AllOfKind, IsOfKind, IsAssignment, taken_as}
-use Rattle.f77_tree.specs.Value.{IsExpression, AllExpressions, IsAccess}
+use Rattle.f77_tree.specs.Value.{IsExpression, AllExpressions}
 use Rattle.f77_tree.specs.WellFormed.{IsExecutable, IsProperItem, IsWellFormed}
-use Rattle.redundancy.specs.Computed.{expressions, in_item}
+use Rattle.redundancy.specs.Computed.{in_item}
 use Rattle.redundancy.specs.Fitting.{ExecFits}
 use Rattle.redundancy.proofs.Operands.{IsExpression-subscripts, Read-access, fits-Apply}
 

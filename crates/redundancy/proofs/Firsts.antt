@@ -1,16 +1,14 @@
 -- Expressions in the order in which they first stand in a list.
-use Rattle.std.proofs.Common.{◌≡◌, ◌≢◌, ℕ, zero, suc, ◌+◌, ◌*◌, ◌<◌, ◌≤◌, ◌⊎◌, Bool, true, false, ◌==◌, ◌&&◌, ◌||◌, List, [], ◌∷◌, ◌++◌, length, get_or, map, refl, sym, ap, ◌∙◌, subst, inl, inr, ⊎_elim, arith, length-append}
-use Rattle.std.specs.Prelude.{Some, slice_get, Contains, ◌↔◌}
-use Rattle.std.proofs.lemmas.Bool.{cases_eq, cases_lt, eq-eqb, ne_eqb, eqb-true, false≢true}
+use Rattle.std.proofs.Common.{◌≡◌, ℕ, zero, suc, ◌≤◌, ◌⊎◌, List, [], ◌∷◌, ◌++◌, length, sym, ap, ◌∙◌, subst, inl, inr, ⊎_elim, arith}
+use Rattle.std.specs.Prelude.{Some, slice_get, Contains}
 use Rattle.f77_tree.specs.declared.expressions.Expr.{Expr}
 use Rattle.f77_tree.specs.declared.programs.NameInfo.{NameInfo}
-use Rattle.redundancy.specs.Available.{has_mark}
 use Rattle.redundancy.specs.Candidates.{IsCandidate}
 use Rattle.redundancy.specs.Collected.{AreCandidatesIn, none, take as take_one, skip}
 use Rattle.redundancy.specs.Computed.{StandsBefore}
-use Rattle.redundancy.specs.Noted.{AreFirst, AreRows, IsMarked, IsNoted}
+use Rattle.redundancy.specs.Noted.{AreFirst}
 use Rattle.redundancy.specs.Numbers.{IsNumbered}
-use Rattle.redundancy.proofs.Tables.{get_left, get_last, get_within, get_more, get_at, get_of_contains, contains_of_get, contains-here, contains-later, contains-left, contains-right, some_same}
+use Rattle.redundancy.proofs.Tables.{get_left, get_within, get_more, get_of_contains, contains_of_get, contains-here, contains-later, contains-left, contains-right, some_same}
 
 -- what stands in a list with one item more
 pub contains_more : {X : Type 0} (xs : List X) (x y : X) → Contains (xs ++ x ∷ []) y → Contains xs y ⊎ (x ≡ y)

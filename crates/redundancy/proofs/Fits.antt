@@ -1,5 +1,5 @@
 -- The expressions that pieces compute fit the table of names.
-use Rattle.std.proofs.Common.{◌≡◌, ℕ, zero, suc, ◌<◌, List, [], ◌∷◌, ◌++◌, length, get_or, All, Option, refl, sym, ap, ◌∙◌, subst, arith}
+use Rattle.std.proofs.Common.{◌≡◌, List, [], ◌∷◌, get_or, All, Option, refl, sym, subst, arith}
 use Rattle.std.specs.Prelude.{Some, None, slice_get, Contains, flat_map}
 use Rattle.f77_tree.specs.declared.expressions.Expr.{Expr, Row_of-Expr, end_of-Expr, more_of-Expr, Read', Apply'}
 use Rattle.f77_tree.specs.declared.expressions.Expr.TheVariants.{Const, Truth, Input}
@@ -15,8 +15,7 @@ use Rattle.cfg_build.specs.declared.pieces.PieceKind.{PieceKind}
 use Rattle.cfg_build.specs.declared.pieces.PieceKind.TheVariants.{Start, Act, Pass, Branch, Join, Hold, End}
 use Rattle.cfg_build.specs.Joined.{FlowGraph}
 use Rattle.redundancy.specs.Candidates.{subexpressions, row_subexpressions}
-use Rattle.redundancy.specs.Computed.{expressions, selectors, evaluated, kind_of_piece, computed_by, all_computed, AreCandidates}
-use Rattle.redundancy.specs.Fitting.{ExecFits}
+use Rattle.redundancy.specs.Computed.{expressions, selectors, evaluated, computed_by, all_computed, AreCandidates}
 use Rattle.redundancy.proofs.Executables.{all-none, all-one, all-append, all-tail, program_fits}
 use Rattle.redundancy.proofs.PieceKinds.{nothing_of_none, computed_of}
 use Rattle.std.proofs.lemmas.Option.{slice_get-get_or}

@@ -1,7 +1,7 @@
 -- Words that tell which sets meet another.
-use Rattle.std.proofs.Common.{◌≡◌, ◌≢◌, ℕ, ◌+◌, ◌<◌, ◌≤◌, ◌⊎◌, Bool, true, false, ◌==◌, ◌||◌, List, [], ◌∷◌, ◌++◌, length, get_or, refl, sym, ap, ◌∙◌, subst, inl, inr, ⊎_elim, arith, length-append}
+use Rattle.std.proofs.Common.{◌≡◌, ◌≢◌, ℕ, ◌+◌, ◌<◌, ◌≤◌, Bool, true, false, ◌==◌, ◌||◌, List, [], ◌∷◌, ◌++◌, length, get_or, refl, sym, ap, ◌∙◌, subst, ⊎_elim, arith}
 use Rattle.std.specs.Prelude.{◌↔◌}
-use Rattle.std.proofs.lemmas.Bool.{cases_eq, cases_lt, eq-eqb, ne_eqb, false≢true}
+use Rattle.std.proofs.lemmas.Bool.{cases_eq, eq-eqb, ne_eqb, false≢true}
 use Rattle.std.proofs.lemmas.List.{get_or_default, get_or_append_left, get_or_push}
 use Rattle.class_set.specs.declared.ClassSet.{ClassSet}
 use Rattle.redundancy.specs.Available.{has_bit}
@@ -75,8 +75,7 @@ module _ {W : ℕ} where
   kills_more needs writes item row i word count within at old new node k d less few = ⊎_elim
       (λ (same : node ≡ i).
       let here : get_or (row ++ word ∷ []) node 0 ≡ word = get_or_push row word 0 node (count ∙ sym same) in
-      let item_is : get_or writes node d ≡ item = ap (λ x. get_or writes x d) same ∙ get_or_default writes i d item within ∙ sym at in
-      (
+      let item_is : get_or writes node d ≡ item = ap (λ x. get_or writes x d) same ∙ get_or_default writes i d item within ∙ sym at in (
         λ has. subst (λ y. Meet (get_or needs k d) y) (sym item_is) ((new k d few).0 (sym (ap (λ w. has_bit w k) here) ∙ has)),
         λ m. ap (λ w. has_bit w k) here ∙ (new k d few).1 (subst (λ y. Meet (get_or needs k d) y) item_is m),
       ))

@@ -1,5 +1,5 @@
 -- What is noted of candidates, one after another.
-use Rattle.std.proofs.Common.{◌≡◌, ◌≢◌, ℕ, zero, suc, ◌+◌, ◌*◌, ◌%◌, ◌<◌, ◌≤◌, ◌⊎◌, Bool, true, false, ◌==◌, ◌&&◌, ◌||◌, List, [], ◌∷◌, ◌++◌, length, get_or, map, take, refl, sym, ap, ◌∙◌, subst, inl, inr, ⊎_elim, arith, length-append, append_assoc}
+use Rattle.std.proofs.Common.{◌≡◌, ◌≢◌, ℕ, ◌+◌, ◌*◌, ◌%◌, ◌<◌, ◌≤◌, ◌⊎◌, Bool, true, false, ◌==◌, ◌&&◌, ◌||◌, List, [], ◌∷◌, ◌++◌, length, get_or, map, take, refl, sym, ap, ◌∙◌, subst, inl, inr, ⊎_elim, arith, length-append, append_assoc}
 use Rattle.std.specs.Prelude.{Some, slice_get, Contains, ◌↔◌, flat_map}
 use Rattle.std.proofs.lemmas.Bool.{cases_eq, cases_lt, cases_order, eq-eqb, ne_eqb, eqb-true, false≢true}
 use Rattle.std.proofs.lemmas.List.{take_more, take_all}
@@ -28,10 +28,13 @@ use Rattle.redundancy.proofs.Firsts.{firsts_more, contains_more, contains-last, 
 pub numbered_place : (e : Expr) (old new : List Expr) (k : ℕ) → IsNumbered e old new k → ((new ≡ old) × (k < length old)) ⊎ ((new ≡ old ++ e ∷ []) × (k ≡ length old))
 numbered_place e old new k n = ⊎_elim
     (λ same. inl (same, get_within old k e (ap (λ (z : List Expr). slice_get z k) (sym same) ∙ n.at)))
-    (λ grown. inr (grown.0, ⊎_elim
-    (λ before. absurd (grown.1 (contains_of_get old k e before)))
-    (λ last. last.0)
-    (get_more old e e k (ap (λ (z : List Expr). slice_get z k) (sym grown.0) ∙ n.at))))
+    (λ grown. inr (
+      grown.0,
+      ⊎_elim
+          (λ before. absurd (grown.1 (contains_of_get old k e before)))
+          (λ last. last.0)
+          (get_more old e e k (ap (λ (z : List Expr). slice_get z k) (sym grown.0) ∙ n.at)),
+    ))
     n.grows
 
 pub numbered_below : (e : Expr) (old new : List Expr) (nodes k : ℕ) (rows : List (List ℕ)) → IsNumbered e old new k → AreRows nodes (length old) rows → k ≤ 64 * length rows

@@ -1,5 +1,5 @@
 -- Operands and subscripts, as rows and as lists.
-use Rattle.std.proofs.Common.{◌≡◌, ℕ, zero, suc, ◌+◌, ◌<◌, ◌≤◌, ◌⊎◌, Bool, true, false, not, ◌==◌, ◌&&◌, ◌||◌, List, [], ◌∷◌, ◌++◌, length, get_or, map, All, Option, Some, None, Result, Ok, Err, ℤ, refl, sym, ap, ◌∙◌, subst, inl, inr, ⊎_elim, arith}
+use Rattle.std.proofs.Common.{◌≡◌, ℕ, zero, suc, ◌<◌, ◌⊎◌, Bool, true, false, not, ◌==◌, ◌&&◌, ◌||◌, List, [], ◌∷◌, ◌++◌, length, get_or, map, All, Option, Some, None, Result, Ok, Err, ℤ, refl, sym, ap, ◌∙◌, subst, inl, inr, ⊎_elim, arith}
 use Rattle.std.specs.Prelude.{◌↔◌, IsErr, IsTrue, flat_map}
 use Rattle.std.specs.Option.{is_some, option_map, option_and_then}
 use Rattle.std.specs.Result.{result_ok}
@@ -211,8 +211,7 @@ candidate-Apply names op args plain scalar safe =
 pub Apply-candidate : (names : List NameInfo) (op : Op) (args : List Expr) → IsCandidate names (Apply op args) → (all_plain args ≡ true) × (list_any is_scalar args ≡ true) × (CanTrap op (map known args) → ⊥)
 Apply-candidate names op args is =
     let row = row_of (Apply op args) in
-    let items = items_hidden-the_row-Expr-0 args in
-    (
+    let items = items_hidden-the_row-Expr-0 args in (
       sym (are_plain-items row.0 row.1 ∙ ap (list_all is_plain) items) ∙ is.0,
       sym (has_scalar-items row.0 row.1 ∙ ap (list_any is_scalar) items) ∙ is.1,
       λ can. is.2 (inr (subst (CanTrap op) (sym (row_known-items row.0 row.1 ∙ ap (map known) items)) can)),

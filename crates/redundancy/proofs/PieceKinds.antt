@@ -1,7 +1,6 @@
 -- What the kinds of pieces compute and write.
-use Rattle.std.proofs.Common.{◌≡◌, ℕ, ◌++◌, List, [], Option, refl, sym, ap, ◌∙◌, subst, Bool, true, false}
-use Rattle.std.specs.Prelude.{◌↔◌, Some, None, slice_get, flat_map}
-use Rattle.f77_tree.specs.declared.expressions.Expr.{Expr}
+use Rattle.std.proofs.Common.{◌≡◌, ℕ, List, [], Option, refl, ap, ◌∙◌, subst}
+use Rattle.std.specs.Prelude.{Some, None, slice_get, flat_map}
 use Rattle.f77_tree.specs.declared.programs.Exec.{Exec}
 use Rattle.f77_tree.specs.declared.programs.ExecKind.{ExecKind}
 use Rattle.f77_tree.specs.declared.programs.ExecKind.TheVariants as exec

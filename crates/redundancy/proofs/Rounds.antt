@@ -1,12 +1,12 @@
 -- The whole search for what is missing where.
-use Rattle.std.proofs.Common.{◌≡◌, ◌≢◌, ℕ, zero, suc, ◌+◌, ◌-◌, ◌*◌, ◌^◌, ◌<◌, ◌≤◌, ◌⊎◌, Bool, true, false, ◌↔◌, List, [], ◌∷◌, ◌++◌, length, get_or, set, replicate, refl, sym, ap, ◌∙◌, subst, inl, inr, ⊎_elim, arith, get_or-set_same, get_or-set_other, length-set, length-append}
+use Rattle.std.proofs.Common.{◌≡◌, ◌≢◌, ℕ, zero, ◌+◌, ◌-◌, ◌<◌, ◌≤◌, true, false, ◌↔◌, List, [], ◌∷◌, ◌++◌, length, get_or, set, replicate, refl, sym, ap, ◌∙◌, subst, inl, inr, ⊎_elim, arith, get_or-set_same, get_or-set_other, length-set}
 use Rattle.std.proofs.lemmas.Bool.{cases_Bool, cases_eq, cases_lt, false≢true}
 use Rattle.std.proofs.lemmas.List.{get_or_past, get_or-replicate, length-replicate}
-use Rattle.closed_walks.specs.Graph.{Graph, edge_count, from, to}
-use Rattle.closed_walks.specs.Walk.{Walk, Holds}
+use Rattle.closed_walks.specs.Graph.{Graph, from}
+use Rattle.closed_walks.specs.Walk.{Holds}
 use Rattle.closed_walks.specs.Region.{IsFlowGraph}
 use Rattle.redundancy.specs.Available.{has_bit, IsOnAllWalks}
-use Rattle.redundancy.specs.Solving.{bit, HasBit, IsLost, missing_behind, IsSolving, Nothing, work}
+use Rattle.redundancy.specs.Solving.{bit, HasBit, IsLost, IsSolving, Nothing}
 use Rattle.redundancy.proofs.Bits.{zero_bit, full_bit}
 use Rattle.redundancy.proofs.OnWalks.{Holds-left, Holds-right, Holds-append, lost-start, not-missing}
 
@@ -88,8 +88,7 @@ module _ (g : Graph) (computes kills missing : List ℕ) where
 
   pub solved : (waiting : List ℕ) → length waiting ≡ 0 → IsSolving g computes kills missing waiting Nothing → (node k : ℕ) → node < g.nodes → k < 64 → (bit missing k node ≡ false) ↔ IsOnAllWalks g (HasBit computes k) (HasBit kills k) node
   solved waiting none s node k within few =
-      let empty : waiting ≡ [] = nothing_left waiting none in
-      (
+      let empty : waiting ≡ [] = nothing_left waiting none in (
         λ lacks. not-missing g (bit computes k) (bit kills k) (bit missing k)
             (λ e edge behind. ⊎_elim
             (λ has. has)
@@ -99,5 +98,5 @@ module _ (g : Graph) (computes kills missing : List ℕ) where
         λ always. ⊎_elim
             (λ (has : bit missing k node ≡ true). let l = s.lost node k few has in absurd (l.lost (always l.walk l.leads)))
             (λ lacks. lacks)
-            (cases_Bool (bit missing k node))
+            (cases_Bool (bit missing k node)),
       )

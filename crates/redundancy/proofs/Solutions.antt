@@ -1,7 +1,7 @@
 -- From rows of words to available expressions.
-use Rattle.std.proofs.Common.{◌≡◌, ◌≢◌, ℕ, zero, suc, ◌+◌, ◌*◌, ◌/◌, ◌%◌, ◌<◌, ◌≤◌, ◌⊎◌, Bool, true, false, not, List, [], ◌∷◌, ◌++◌, length, get_or, All, refl, sym, ap, ◌∙◌, subst, inl, inr, ⊎_elim, arith, length-append}
-use Rattle.std.specs.Prelude.{Some, slice_get, Contains, ◌↔◌, flat_map}
-use Rattle.std.proofs.lemmas.Bool.{cases_Bool, cases_eq, cases_lt, false≢true}
+use Rattle.std.proofs.Common.{◌≡◌, ◌≢◌, ℕ, ◌+◌, ◌*◌, ◌/◌, ◌%◌, ◌<◌, ◌≤◌, Bool, true, false, not, List, [], ◌∷◌, ◌++◌, length, get_or, refl, sym, ap, ◌∙◌, subst, inl, inr, ⊎_elim, arith, length-append}
+use Rattle.std.specs.Prelude.{Some, slice_get, ◌↔◌}
+use Rattle.std.proofs.lemmas.Bool.{cases_eq, false≢true}
 use Rattle.std.proofs.lemmas.List.{get_or_append_left, get_or_push}
 use Rattle.closed_walks.specs.Graph.{Graph, IsGraph, edge_count, from, to}
 use Rattle.closed_walks.specs.Walk.{Walk, Holds}
@@ -12,7 +12,7 @@ use Rattle.f77_tree.specs.declared.programs.Program.{Program}
 use Rattle.alias_classes.specs.Classes.{ClassTable}
 use Rattle.alias_classes.specs.Needs.{ExprNeeds}
 use Rattle.cfg_build.specs.Joined.{FlowGraph}
-use Rattle.redundancy.specs.Available.{has_bit, has_mark, IsComputedOn, IsOnAllWalks, IsAvailable, Availability, available_at, IsAvailability}
+use Rattle.redundancy.specs.Available.{has_bit, has_mark, IsComputedOn, IsOnAllWalks, IsAvailable, Availability, IsAvailability}
 use Rattle.redundancy.specs.Computed.{Computes, Kills, AreCandidates}
 use Rattle.redundancy.specs.Fitting.{WritesAt}
 use Rattle.redundancy.specs.Killing.{Meet}
@@ -154,7 +154,6 @@ module _ {W : ℕ} (p : Program) (f : FlowGraph) (c : ClassTable) (candidates : 
     (writes_count : length writes ≡ length f.pieces)
     (write : (x n : ℕ) (d : ClassSet W) → x < length f.pieces → (holds (get_or writes x d) n ≡ true) ↔ WritesAt c p.execs f.pieces x n)
     (solved : (node b : ℕ) → node < f.graph.nodes → b < 64 → (bit row b node ≡ false) ↔ IsOnAllWalks f.graph (HasBit computes b) (HasBit kills b) node) where
-
   computes_told : (b x : ℕ) (e : Expr) → b < 64 → slice_get candidates (64 * k + b) ≡ Some e → x < f.graph.nodes → HasBit computes b x ↔ Computes p f e x
   computes_told b x e few is less =
       let t = computed (64 * k + b) x e is (omega (arith, less, pieces)) in

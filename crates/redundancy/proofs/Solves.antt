@@ -1,10 +1,10 @@
 -- The steps of finding what is missing where.
-use Rattle.std.proofs.Common.{◌≡◌, ◌≢◌, ℕ, zero, suc, ◌+◌, ◌-◌, ◌*◌, ◌^◌, ◌<◌, ◌≤◌, ◌⊎◌, Bool, true, false, not, ◌==◌, ◌&&◌, ◌||◌, ◌↔◌, List, [], ◌∷◌, ◌++◌, length, get_or, set, drop, refl, sym, ap, ◌∙◌, subst, inl, inr, ⊎_elim, arith, add-one, drop-cons, bit_or, get_or-set_same, get_or-set_other, length-set, length-append}
-use Rattle.std.proofs.lemmas.Bool.{cases_Bool, cases_eq, cases_lt, or_left, eq-eqb, false≢true}
+use Rattle.std.proofs.Common.{◌≡◌, ◌≢◌, ℕ, zero, suc, ◌+◌, ◌^◌, ◌<◌, ◌≤◌, ◌⊎◌, Bool, true, false, not, ◌==◌, ◌&&◌, ◌||◌, ◌↔◌, List, [], ◌∷◌, ◌++◌, length, get_or, set, drop, refl, sym, ap, ◌∙◌, subst, inl, inr, ⊎_elim, arith, add-one, drop-cons, bit_or, get_or-set_same, get_or-set_other, length-set, length-append}
+use Rattle.std.proofs.lemmas.Bool.{cases_eq, or_left, eq-eqb}
 use Rattle.std.proofs.lemmas.List.{drop_all, get_or_default}
-use Rattle.std.proofs.lemmas.Nat.{le_or_l, or_lt}
+use Rattle.std.proofs.lemmas.Nat.{le_or_l}
 use Rattle.closed_walks.specs.Graph.{Graph, edge_count, from, to, touches, edges_at}
-use Rattle.closed_walks.specs.Walk.{Walk, Holds, Reach, no_edge}
+use Rattle.closed_walks.specs.Walk.{Walk, Holds}
 use Rattle.closed_walks.specs.Region.{IsFlowGraph}
 use Rattle.redundancy.specs.Available.{has_bit}
 use Rattle.redundancy.specs.Solving.{bit, HasBit, IsLost, missing_behind, IsSolving, Nothing, room, work}

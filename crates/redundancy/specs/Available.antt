@@ -1,6 +1,6 @@
 -- Available expressions: a candidate is available at a piece where on every walk from the start to it some piece before it computes
 -- the candidate, and neither that piece nor a later one before it writes what the candidate reads.
-use Rattle.std.specs.Prelude.{◌≡◌, ℕ, ◌+◌, ◌*◌, ◌/◌, ◌%◌, ◌<◌, ◌↔◌, Bool, true, false, not, ◌==◌, List, [], ◌∷◌, ◌++◌, Some, slice_get, slice_index, slice_index_or}
+use Rattle.std.specs.Prelude.{◌≡◌, ℕ, ◌/◌, ◌%◌, ◌<◌, ◌↔◌, Bool, true, not, ◌==◌, List, [], ◌∷◌, ◌++◌, Some, slice_get, slice_index, slice_index_or}
 use Rattle.std.specs.Int.{bit_at}
 use Rattle.closed_walks.specs.Graph.{Graph, from}
 use Rattle.closed_walks.specs.Walk.{Walk, Holds}

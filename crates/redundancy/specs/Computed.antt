@@ -6,7 +6,6 @@ use Rattle.f77_tree.specs.declared.programs.ExecKind.{ExecKind}
 use Rattle.f77_tree.specs.declared.programs.ExecKind.TheVariants.{Assign, Print, Pass, Test, Sign, Pick, DoStart, DoNext, End}
 use Rattle.f77_tree.specs.declared.programs.Item.{Item}
 use Rattle.f77_tree.specs.declared.programs.Item.TheVariants.{Value, Chars}
-use Rattle.f77_tree.specs.declared.programs.NameInfo.{NameInfo}
 use Rattle.f77_tree.specs.declared.programs.Program.{Program}
 use Rattle.f77_tree.specs.Value.{place_of}
 use Rattle.alias_classes.specs.Classes.{ClassTable, class_of_word}

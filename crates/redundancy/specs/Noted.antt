@@ -1,5 +1,5 @@
 -- What is noted of the candidates that pieces compute. No public clause cites this module.
-use Rattle.std.specs.Prelude.{◌≡◌, ℕ, ◌+◌, ◌*◌, ◌<◌, ◌≤◌, ◌↔◌, Bool, true, false, ◌==◌, ◌&&◌, ◌||◌, List, [], ◌∷◌, ◌++◌, map, length, Contains, Some, slice_get, slice_index_or}
+use Rattle.std.specs.Prelude.{◌≡◌, ℕ, ◌+◌, ◌*◌, ◌<◌, ◌≤◌, ◌↔◌, true, false, ◌==◌, ◌&&◌, ◌||◌, List, [], map, length, Contains, Some, slice_get, slice_index_or}
 use Rattle.f77_tree.specs.declared.expressions.Expr.{Expr}
 use Rattle.redundancy.specs.Available.{has_mark}
 use Rattle.redundancy.specs.Computed.{StandsBefore}

@@ -39,7 +39,6 @@ pub struct Avail {
 impl Model for Avail {
     ghost use Rattle.redundancy.specs.Available.{Availability};
     ghost use Rattle.redundancy.specs.Kept.{availability_of, IsKept};
-
     ghost use Rattle.std.specs.Coded.{codes};
     ghost use Rattle.f77_tree.specs.contracts.expressions.Expr as e;
 

@@ -77,7 +77,10 @@ fn collect_exec(
             collect(alloc, names, value, found)?;
         }
         ExecKind::DoStart {
-            first, last, step, ..
+            first,
+            last,
+            step,
+            ..
         } => {
             collect(alloc, names, first, found)?;
             collect(alloc, names, last, found)?;

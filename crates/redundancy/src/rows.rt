@@ -58,17 +58,17 @@ pub(crate) fn kill_row<const W: usize>(
 }
 
 // Which of these sets meet the set. `all` has all their members, so that most questions need one look.
-fn killed<const W: usize>(
-    sets: &[ClassSet<W>],
-    all: &ClassSet<W>,
-    set: &ClassSet<W>,
-) -> u64
+fn killed<const W: usize>(sets: &[ClassSet<W>], all: &ClassSet<W>, set: &ClassSet<W>) -> u64
     requires width { IsWidth W }
     requires few { length sets.now ≤ 64 }
     requires all { (k n : ℕ) (d : ClassSet W) → k < length sets.now → holds (slice_index_or sets.now k d) n ≡ true → holds all.now n ≡ true }
     ensures { (k : ℕ) (d : ClassSet W) → k < length sets.now → (has_bit result k ≡ true) ↔ Meet (slice_index_or sets.now k d) set.now }
 {
-    if all.meets(set) { meeting(sets, set) } else { 0 }
+    if all.meets(set) {
+        meeting(sets, set)
+    } else {
+        0
+    }
 }
 
 // All members of some sets.

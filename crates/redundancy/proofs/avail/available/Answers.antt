@@ -1,4 +1,4 @@
-use Rattle.std.proofs.Common.{◌≡◌, ℕ, ◌<◌, ◌≤◌, [], List, length, get_or, sym, subst, ap, ◌∙◌, arith, rules}
+use Rattle.std.proofs.Common.{◌≡◌, ℕ, ◌<◌, ◌≤◌, [], List, length, get_or, sym, subst, ap, ◌∙◌, arith}
 use Rattle.std.specs.Prelude.{◌↔◌, true, false}
 use Rattle.class_set.specs.declared.ClassSet.{ClassSet}
 use Rattle.class_set.specs.ClassSet.{holds}
@@ -11,10 +11,8 @@ use Rattle.closed_walks.specs.Region.{IsFlowGraph}
 use Rattle.std.proofs.lemmas.List.{get_or_default}
 use Rattle.redundancy.specs.Noted.{AreRows}
 use Rattle.redundancy.proofs.Rounds.{first_node}
-use Rattle.redundancy.proofs.Solutions.{AreSolved, solved_none, solved_more, all_solved, kept_rows, row_told}
-use Rattle.redundancy.proofs.avail.available.Given as given
+use Rattle.redundancy.proofs.Solutions.{AreSolved, solved_more, all_solved, kept_rows, row_told}
 use Rattle.redundancy.proofs.avail.available.Goals as goal
-
 
 -- what was read of a list of rows
 row_read : (rows : List (List ℕ)) (items : List (List ℕ)) (k : ℕ) (row slice : List ℕ) → items ≡ rows → k < length items → row ≡ get_or items k row → slice ≡ row → slice ≡ get_or rows k []
@@ -73,9 +71,9 @@ loop-k-preserved g c =
       λ w. subst (λ (z : List (ClassSet g.row.W)). holds (get_or z x d) n ≡ true) (sym written) ((c.in_ok-writes.ensures.writes x n d less).1 w),
     ) in
     let solved : (node b : ℕ) → node < graph.nodes → b < 64 → (bit row b node ≡ false) ↔ IsOnAllWalks graph (HasBit c.as_slice-in-loop-k.result.now b) (HasBit kills b) node =
-        subst (λ (x : Graph). (node b : ℕ) → node < x.nodes → b < 64 → (bit row b node ≡ false) ↔ IsOnAllWalks x (HasBit c.as_slice-in-loop-k.result.now b) (HasBit kills b) node) c.graph.ensures c.in_ok-row.ensures.missing in
+    subst (λ (x : Graph). (node b : ℕ) → node < x.nodes → b < 64 → (bit row b node ≡ false) ↔ IsOnAllWalks x (HasBit c.as_slice-in-loop-k.result.now b) (HasBit kills b) node) c.graph.ensures c.in_ok-row.ensures.missing in
     let told = row_told p f c.args.c.now candidates rows needs c.part.result.now writes c.loop-k.k c.as_slice-in-loop-k.result.now c.as_slice-in-loop-k-2.result.now c.in_ok-row.row.items strong.sound pieces
-        c.in_ok-candidates.ensures.computed computes killed c.part.ensures.all c.part.ensures.items c.in_ok-needs.ensures.count c.in_ok-needs.ensures.needs count write solved in
+    c.in_ok-candidates.ensures.computed computes killed c.part.ensures.all c.part.ensures.items c.in_ok-needs.ensures.count c.in_ok-needs.ensures.needs count write solved in
     rw (c.in_ok-push.ensures.items, c.of.ensures)
     (solved_more p f c.args.c.now candidates graph.nodes c.loop-k.k c.loop-k.missing.items c.in_ok-row.row.items c.loop-k.invariant (c.in_ok-row.ensures.nodes ∙ ap (λ (x : Graph). x.nodes) c.graph.ensures) told)
 

@@ -1,13 +1,10 @@
-use Rattle.std.proofs.Common.{◌≡◌, ℕ, ◌+◌, ◌<◌, ◌∷◌, [], ◌++◌, length, get_or, map, take, All, refl, sym, ap, subst, ◌∙◌, arith, rules}
+use Rattle.std.proofs.Common.{◌≡◌, ◌∷◌, [], ◌++◌, All, refl, sym, ap, subst, ◌∙◌}
 use Rattle.std.proofs.lemmas.Bool.{false≢true}
-use Rattle.std.proofs.lemmas.List.{take_more}
-use Rattle.f77_tree.specs.declared.expressions.Expr.{Expr, Read, Apply}
+use Rattle.f77_tree.specs.declared.expressions.Expr.{Apply}
 use Rattle.f77_tree.specs.declared.expressions.Expr.TheVariants.{Const, Truth, Input}
 use Rattle.op_table.specs.Known.{folded}
 use Rattle.f77_tree.specs.Known.{known}
 use Rattle.f77_tree.specs.Value.{IsExpression}
-use Rattle.redundancy.specs.Candidates.{subexpressions, IsCandidate}
-use Rattle.redundancy.specs.Collected.{IsGrown, all_subexpressions}
 use Rattle.redundancy.proofs.Operands.{known-Apply}
 use Rattle.redundancy.proofs.Growing.{grown-none, grown-next, grown-Apply-take, grown-Apply-skip, grown-leaf, grown-access, map_more}
 use Rattle.redundancy.proofs.collect.+collect.Goals as goal
@@ -38,13 +35,13 @@ collect-returns-after-is_candidate-clause-found t c =
     let is = c.in-Apply.is in
     let grown = c.in_ok-values-in-Apply.ensures.found in
     elim c.if-is_candidate.branch [
-        | collect-then-is_candidate+in_ok-copy-in-Apply+in_ok-push-in-Apply w ↦
-            let copied : w.in_ok-copy-in-Apply.field-0 ≡ Apply c.in-Apply.op c.in-Apply.args = w.in_ok-copy-in-Apply.ensures ∙ is in
-            rw (w.found-is, w.in_ok-push-in-Apply.ensures.items, copied, is)
-            (grown-Apply-take names c.in-Apply.op c.in-Apply.args old between ((c.is_candidate.ensures names).0 w.if-is_candidate.true) grown)
-        | collect-else-is_candidate w ↦
-            rw (w.found-is, is)
-            (grown-Apply-skip names c.in-Apply.op c.in-Apply.args old between (λ yes'. false≢true (sym w.if-is_candidate.false ∙ (c.is_candidate.ensures names).1 yes')) grown)
+      | collect-then-is_candidate+in_ok-copy-in-Apply+in_ok-push-in-Apply w ↦
+          let copied : w.in_ok-copy-in-Apply.field-0 ≡ Apply c.in-Apply.op c.in-Apply.args = w.in_ok-copy-in-Apply.ensures ∙ is in
+          rw (w.found-is, w.in_ok-push-in-Apply.ensures.items, copied, is)
+          (grown-Apply-take names c.in-Apply.op c.in-Apply.args old between ((c.is_candidate.ensures names).0 w.if-is_candidate.true) grown)
+      | collect-else-is_candidate w ↦
+          rw (w.found-is, is)
+          (grown-Apply-skip names c.in-Apply.op c.in-Apply.args old between (λ yes'. false≢true (sym w.if-is_candidate.false ∙ (c.is_candidate.ensures names).1 yes')) grown)
     ]
 
 pub collect_all-loop-e-init : goal.collect_all-loop-e-init

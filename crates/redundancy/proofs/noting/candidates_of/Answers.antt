@@ -1,4 +1,4 @@
-use Rattle.std.proofs.Common.{◌≡◌, ℕ, ◌+◌, ◌++◌, ◌∷◌, [], List, length, map, subst, sym, ap, ◌∙◌, arith}
+use Rattle.std.proofs.Common.{◌≡◌, ◌++◌, [], List, length, map, subst, sym, arith}
 use Rattle.f77_tree.specs.declared.expressions.Expr.{Expr}
 use Rattle.redundancy.specs.Collected.{IsGrown}
 use Rattle.redundancy.specs.Computed.{computed_by}

@@ -1,4 +1,4 @@
-use Rattle.std.proofs.Common.{◌≡◌, ℕ, List, length}
+use Rattle.std.proofs.Common.{ℕ, List, length}
 use Rattle.f77_tree.specs.declared.expressions.Expr.{Expr}
 use Rattle.redundancy.specs.Noted.{AreRows, IsNoted}
 use Rattle.redundancy.specs.Numbers.{IsTable}

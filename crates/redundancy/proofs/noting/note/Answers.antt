@@ -1,7 +1,7 @@
-use Rattle.std.proofs.Common.{◌≡◌, ℕ, ◌+◌, ◌++◌, ◌∷◌, [], List, map, take, subst, sym, ◌∙◌, arith}
+use Rattle.std.proofs.Common.{ℕ, ◌++◌, List, map, take, subst}
 use Rattle.std.proofs.lemmas.List.{take_all}
 use Rattle.f77_tree.specs.declared.expressions.Expr.{Expr}
-use Rattle.redundancy.specs.Noted.{AreRows, IsNoted, at_node}
+use Rattle.redundancy.specs.Noted.{IsNoted, at_node}
 use Rattle.redundancy.proofs.Notes.{rows_next, noted_next, numbered_below, pairs_more}
 use Rattle.redundancy.proofs.noting.note.Goals as goal
 

@@ -1,4 +1,4 @@
-use Rattle.std.proofs.Common.{◌≡◌, take, All}
+use Rattle.std.proofs.Common.{take, All}
 use Rattle.std.specs.Prelude.{flat_map}
 use Rattle.f77_tree.specs.Value.{IsExpression}
 use Rattle.redundancy.specs.Collected.{IsGrown, all_subexpressions}

@@ -1,4 +1,4 @@
-use Rattle.std.proofs.Common.{◌<◌, arith}
+use Rattle.std.proofs.Common.{arith}
 use Rattle.redundancy.proofs.Meetings.{kills_more}
 use Rattle.redundancy.proofs.rows.kill_row.Goals as goal
 

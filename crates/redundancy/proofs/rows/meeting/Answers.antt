@@ -1,7 +1,7 @@
-use Rattle.std.proofs.Common.{◌<◌, ◌≡◌, length, sym, ◌∙◌, arith, refl, zero}
+use Rattle.std.proofs.Common.{◌<◌, sym, ◌∙◌, arith}
 use Rattle.std.proofs.lemmas.Bool.{false≢true}
 use Rattle.redundancy.proofs.Bits.{zero_bit}
-use Rattle.redundancy.proofs.Meetings.{IsTold, told_meet, told_skip, told-end}
+use Rattle.redundancy.proofs.Meetings.{told_meet, told_skip, told-end}
 use Rattle.redundancy.proofs.rows.meeting.Goals as goal
 use Rattle.redundancy.proofs.rows.meeting.Goals.{then-meets, else-meets}
 
@@ -12,8 +12,8 @@ pub loop-k-preserved : goal.loop-k-preserved
 loop-k-preserved g c =
     let few : c.loop-k.k < 64 = omega (arith, c.loop-k-test.true, c.requires.few) in
     elim c.if-meets.branch [
-        | then-meets w ↦ told_meet c.args.sets.now c.args.set.now c.index-sets-k.result c.loop-k.k c.loop-k.word few c.loop-k-test.true c.index-sets-k.is c.loop-k.invariant c.if-meets.word w.word-is (c.meets.ensures.0 w.if-meets.true)
-        | else-meets w ↦ told_skip c.args.sets.now c.args.set.now c.index-sets-k.result c.loop-k.k c.loop-k.word few c.loop-k-test.true c.index-sets-k.is c.loop-k.invariant c.if-meets.word w.word-is (λ m. false≢true (sym w.if-meets.false ∙ c.meets.ensures.1 m))
+      | then-meets w ↦ told_meet c.args.sets.now c.args.set.now c.index-sets-k.result c.loop-k.k c.loop-k.word few c.loop-k-test.true c.index-sets-k.is c.loop-k.invariant c.if-meets.word w.word-is (c.meets.ensures.0 w.if-meets.true)
+      | else-meets w ↦ told_skip c.args.sets.now c.args.set.now c.index-sets-k.result c.loop-k.k c.loop-k.word few c.loop-k-test.true c.index-sets-k.is c.loop-k.invariant c.if-meets.word w.word-is (λ m. false≢true (sym w.if-meets.false ∙ c.meets.ensures.1 m))
     ]
 
 pub returns : goal.returns

@@ -1,5 +1,5 @@
 use Rattle.std.proofs.Common.{◌-◌, arith}
-use Rattle.redundancy.proofs.Rounds.{AreNodes, AreNodes-push}
+use Rattle.redundancy.proofs.Rounds.{AreNodes-push}
 use Rattle.redundancy.proofs.solve.all_nodes.Goals as goal
 
 pub loop-node-preserved : goal.loop-node-preserved

@@ -1,4 +1,4 @@
-use Rattle.std.proofs.Common.{rules, ◌≡◌, zero, replicate, ◌∷◌, [], ◌++◌, subst, sym, arith}
+use Rattle.std.proofs.Common.{rules, ◌≡◌, zero, replicate, arith}
 use Rattle.redundancy.proofs.Rounds.{solving-begin, solving-pop, popped_exists, solved}
 use Rattle.redundancy.proofs.solve.missing_row.Goals as goal
 

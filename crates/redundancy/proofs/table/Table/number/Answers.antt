@@ -1,8 +1,6 @@
-use Rattle.std.proofs.Common.{◌≡◌, ℕ, ◌+◌, ◌<◌, ◌%◌, List, [], ◌∷◌, ◌++◌, All, length, get_or, set, sym, ap, subst, ◌∙◌, arith, rules}
-use Rattle.std.specs.Prelude.{Some, slice_get, Contains}
-use Rattle.std.proofs.lemmas.List.{get_or_default}
+use Rattle.std.proofs.Common.{◌≡◌, ℕ, ◌<◌, ◌%◌, List, [], ◌∷◌, ◌++◌, All, length, sym, ap, subst, ◌∙◌, arith, rules}
+use Rattle.std.specs.Prelude.{Contains}
 use Rattle.redundancy.specs.Digests.{digest}
-use Rattle.redundancy.specs.Numbers.{IsNumbered, IsTable}
 use Rattle.redundancy.proofs.Tables.{table_pushed, not_in_table, numbered-new, bucket_read}
 use Rattle.redundancy.proofs.table.Table.number.Goals as goal
 
