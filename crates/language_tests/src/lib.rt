@@ -1,8 +1,9 @@
-//! Tests of the crates of the language: lines, statements, expressions, printing, runs, whole programs and their flow graphs. They go over public calls
+//! Tests of the crates of the language: lines, statements, expressions, printing, runs, whole programs, their flow graphs and available expressions. They go over public calls
 //! alone, and stand apart because a crate that has tests is proved a second time with them.
 #![tactic(auto)]
 
 #[cfg(test)]
+mod availability;
 mod classes;
 #[cfg(test)]
 mod expressions;

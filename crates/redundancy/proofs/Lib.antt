@@ -1,0 +1,16 @@
+pub mod Bits
+pub mod Marking
+pub mod Meetings
+pub mod Notes
+pub mod OnWalks
+pub mod PieceKinds
+pub mod Rounds
+pub mod Solutions
+pub mod Solves
+pub mod Tables
+pub mod Comparing
+pub mod Executables
+pub mod Firsts
+pub mod Fits
+pub mod Growing
+pub mod Operands

@@ -1,0 +1,12 @@
+pub mod Available
+pub mod Candidates
+pub mod Collected
+pub mod Computed
+pub mod Digests
+pub mod Fitting
+pub mod Kept
+pub mod Killing
+pub mod Noted
+pub mod Numbers
+pub mod Runs
+pub mod Solving

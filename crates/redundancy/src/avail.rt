@@ -1,0 +1,151 @@
+//! The table of available expressions.
+
+ghost use Rattle.std.specs.Prelude.{◌≡◌, ◌<◌, ◌≤◌, ◌+◌, ◌*◌, ◌↔◌, ℕ, List, [], true, All, Some, length, slice_get, slice_index_or, IfOk, OnOk, take, drop};
+ghost use Rattle.class_set.specs.declared.ClassSet.{ClassSet};
+ghost use Rattle.class_set.specs.ClassSet.{holds};
+ghost use Rattle.class_set.specs.Members.{IsWidth};
+ghost use Rattle.f77_tree.specs.declared.expressions.Expr.{Expr};
+ghost use Rattle.f77_tree.specs.declared.programs.NameInfo.{NameInfo};
+ghost use Rattle.f77_tree.specs.Value.{IsExpression};
+ghost use Rattle.f77_tree.specs.WellFormed.{IsWellFormed};
+ghost use Rattle.alias_classes.specs.Classes.{IsClasses};
+ghost use Rattle.alias_classes.specs.Needs.{ExprNeeds};
+ghost use Rattle.cfg_build.specs.Flow.{flow};
+ghost use Rattle.redundancy.specs.Available.{IsAvailability};
+ghost use Rattle.redundancy.specs.Computed.{AreCandidates};
+
+use crate::listed::Listed;
+use crate::noting::{Noted, candidates_of};
+use crate::pieces::writes_of;
+use crate::rows::kill_row;
+use crate::solve::missing_row;
+use alias_classes::Classes;
+use cfg_build::{Flow, flow_graph_is_strong};
+use class_set::ClassSet;
+use df_sequence::NoMemory;
+use f77_tree::{Expr, Program};
+use std::alloc::Global;
+use std::marker::Model;
+
+/// Which candidates are available at which pieces. A candidate is an operator that can't trap, each operand of which is a name
+/// without subscripts or has a known value, and at least one is such a name.
+#[derive(Drop)]
+pub struct Avail {
+    candidates: Vec<Expr>,
+    pieces: u32,
+    missing: Vec<Listed<u64>>,
+}
+
+impl Model for Avail {
+    ghost use Rattle.redundancy.specs.Available.{Availability};
+    ghost use Rattle.redundancy.specs.Kept.{availability_of, IsKept};
+    ghost use Rattle.std.specs.Coded.{codes};
+    ghost use Rattle.f77_tree.specs.contracts.expressions.Expr as e;
+
+    ghost Value = { Availability };
+
+    ghost coded = { Prim.hlevel (codes, e.the_row.coded) };
+
+    ghost view = { availability_of };
+
+    ghost invariant = { IsKept };
+}
+
+impl Avail {
+    ghost use Rattle.redundancy.specs.Available.{available_at};
+
+    /// How many candidates there are.
+    pub fn count(&self) -> u32
+        ensures { result ≡ length self.now.candidates }
+    {
+        self.candidates.len() as u32
+    }
+
+    /// The candidate with this number. They are numbered from 0 in the order in which they are first computed, piece by piece and
+    /// from left to right.
+    pub fn candidate(&self, k: u32) -> &Expr
+        requires { k < length self.now.candidates }
+        ensures { slice_get self.now.candidates k ≡ Some result.now }
+    {
+        &self.candidates[k as usize]
+    }
+
+    /// Whether the candidate with this number is available where the piece begins.
+    pub fn at(&self, k: u32, piece: u32) -> bool
+        requires candidate { k < length self.now.candidates }
+        requires piece { piece < self.now.pieces }
+        ensures { result ≡ available_at self.now k piece }
+    {
+        !self.missing[(k / 64) as usize].has_bit(piece as usize, k % 64)
+    }
+}
+
+/// The candidates that the pieces of the flow graph of a program compute, and where they are available: a candidate is available at a
+/// piece where on every walk from the start to it some earlier piece computes the candidate, and neither that piece nor a later
+/// one before it writes what the candidate reads. It takes a bit for each candidate and piece, and for each 64 candidates a few
+/// steps for each edge whenever something turns out not to be available at the piece where it begins.
+pub fn available<const W: usize>(
+    alloc: Global,
+    p: &Program,
+    f: &Flow,
+    c: &Classes<W>,
+) -> Result<Avail, NoMemory>
+    requires width { IsWidth W }
+    requires program { IsWellFormed p.now }
+    requires flow { f.now ≡ flow p.now.execs }
+    requires classes { IsClasses p.now c.now }
+    ensures { IfOk result (λ a. IsAvailability p.now f.now c.now a) }
+{
+    flow_graph_is_strong();
+    let pieces = f.pieces();
+    let Noted { candidates, rows } = candidates_of(alloc, p, f)?;
+    candidates_fit(p, f, &candidates);
+    let needs = needs_of(alloc, c, &candidates)?;
+    let writes = writes_of(alloc, p, f, c)?;
+    let mut missing = Vec::new(alloc);
+    for (k, computes) in rows.iter().enumerate() {
+        let kills = kill_row(alloc, writes.as_slice(), part(&needs, k))?;
+        let row = missing_row(alloc, f.graph(), computes.as_slice(), kills.as_slice())?;
+        missing.push(Listed::of(row))?;
+    }
+    Ok(Avail {
+        candidates,
+        pieces,
+        missing,
+    })
+}
+
+// Candidates fit the table of names.
+fn candidates_fit(p: &Program, f: &Flow, candidates: &Vec<Expr>)
+    requires program { IsWellFormed p.now }
+    requires candidates { AreCandidates p.now f.now candidates.now.items }
+    ensures { (names : List NameInfo) → names ≡ p.now.names → All (IsExpression names) candidates.now.items }
+{}
+
+// The 64 sets with this number, or fewer at the end.
+fn part<const W: usize>(sets: &Vec<ClassSet<W>>, k: usize) -> &[ClassSet<W>]
+    requires { 64 * k < length sets.now.items }
+    ensures few { length result.now ≤ 64 }
+    ensures all { (j : ℕ) → j < 64 → 64 * k + j < length sets.now.items → j < length result.now }
+    ensures items { (j : ℕ) (d : ClassSet W) → j < length result.now → slice_index_or result.now j d ≡ slice_index_or sets.now.items (64 * k + j) d }
+{
+    let rest = &sets[64 * k..];
+    &rest[..rest.len().min(64)]
+}
+
+// The classes that each expression needs.
+fn needs_of<const W: usize>(
+    alloc: Global,
+    c: &Classes<W>,
+    exprs: &Vec<Expr>,
+) -> Result<Vec<ClassSet<W>>, NoMemory>
+    requires { All (IsExpression c.now.names) exprs.now.items }
+    ensures count { IfOk result (λ needs. length needs.items ≡ length exprs.now.items) }
+    ensures needs { IfOk result (λ needs. (k n : ℕ) (e : Expr) (d : ClassSet W) → slice_get exprs.now.items k ≡ Some e → (holds (slice_index_or needs.items k d) n ≡ true) ↔ ExprNeeds c.now e n) }
+{
+    let mut needs = Vec::new(alloc);
+    for e in exprs {
+        needs.push(c.expr_need(e))?;
+    }
+    Ok(needs)
+}

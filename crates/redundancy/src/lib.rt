@@ -1,0 +1,16 @@
+//! Available expressions: operations whose values a piece of a flow graph can take from earlier pieces.
+//!
+//! Source: Kildall, "A unified approach to global program optimization", POPL 1973.
+#![tactic(auto)]
+
+mod avail;
+mod collect;
+mod listed;
+mod noting;
+mod pieces;
+mod rows;
+mod solve;
+mod table;
+mod trees;
+
+pub use avail::{Avail, available};

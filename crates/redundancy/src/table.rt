@@ -1,0 +1,77 @@
+//! Numbers for expressions.
+
+ghost use Rattle.std.specs.Prelude.{◌≡◌, ◌<◌, ◌^◌, ◌%◌, ℕ, [], All, Contains, Some, length, slice_get, slice_index_or, OnOk, IfOk, MatchOption};
+ghost use Rattle.redundancy.specs.Digests.{digest as digest_lem};
+ghost use Rattle.redundancy.specs.Numbers.{IsNumbered, IsTable};
+
+use crate::listed::Listed;
+use crate::trees::{are_same, digest};
+use df_sequence::{Copied, NoMemory};
+use f77_tree::Expr;
+use std::alloc::Global;
+
+/// Different expressions, numbered in the order in which they came. The bucket of an expression, by its digest, has its number.
+#[derive(Drop)]
+pub(crate) struct Table {
+    pub(crate) exprs: Vec<Expr>,
+    pub(crate) buckets: Vec<Listed<u32>>,
+}
+
+impl Table {
+    /// An empty table with so many buckets.
+    pub(crate) fn new(alloc: Global, buckets: u32) -> Result<Self, NoMemory>
+        requires { 0 < buckets }
+        ensures table { IfOk result (λ t. IsTable t.exprs.items t.buckets.items) }
+        ensures empty { IfOk result (λ t. t.exprs.items ≡ []) }
+    {
+        Ok(Table {
+            exprs: Vec::new(alloc),
+            buckets: no_numbers(alloc, buckets)?,
+        })
+    }
+
+    /// The number of the expression. A copy of it gets the next one where it is new. Numbers have 32 bits: there is no memory for more
+    /// expressions.
+    pub(crate) fn number(&mut self, alloc: Global, e: &Expr) -> Result<u32, NoMemory>
+        requires { IsTable self.old.exprs.items self.old.buckets.items }
+        ensures table { OnOk result (IsTable self.new.exprs.items self.new.buckets.items) }
+        ensures number { IfOk result (λ k. IsNumbered e.now self.old.exprs.items self.new.exprs.items k) }
+    {
+        let at = (digest(e) % self.buckets.len() as u64) as usize;
+        if let Some(k) = find(&self.exprs, self.buckets[at].as_slice(), e) {
+            return Ok(k);
+        }
+        if self.exprs.len() >= u32::MAX as usize {
+            return Err(NoMemory);
+        }
+        let k = self.exprs.len() as u32;
+        self.buckets[at].push(k)?;
+        self.exprs.push(e.copy(alloc)?)?;
+        Ok(k)
+    }
+}
+
+// So many empty buckets.
+fn no_numbers(alloc: Global, buckets: u32) -> Result<Vec<Listed<u32>>, NoMemory>
+    ensures count { IfOk result (λ lists. length lists.items ≡ buckets) }
+    ensures empty { IfOk result (λ lists. (b : ℕ) → slice_index_or lists.items b [] ≡ []) }
+{
+    let mut lists = Vec::new(alloc);
+    for _ in 0..buckets {
+        lists.push(Listed::new(alloc))?;
+    }
+    Ok(lists)
+}
+
+// Which of these numbers the expression has.
+fn find(exprs: &Vec<Expr>, numbers: &[u32], e: &Expr) -> Option<u32>
+    requires { All (λ k. k < length exprs.now.items) numbers.now }
+    ensures { MatchOption result ((k : ℕ) → Contains numbers.now k → slice_get exprs.now.items k ≡ Some e.now → ⊥) (λ k. slice_get exprs.now.items k ≡ Some e.now) }
+{
+    for k in numbers {
+        if are_same(&exprs[*k as usize], e) {
+            return Some(*k);
+        }
+    }
+    None
+}
