@@ -4,6 +4,7 @@
 
 #[cfg(test)]
 mod availability;
+#[cfg(test)]
 mod classes;
 #[cfg(test)]
 mod expressions;
