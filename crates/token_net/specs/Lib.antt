@@ -5,3 +5,9 @@ pub mod InStep
 pub mod StraightNet
 pub mod Firing
 pub mod Following
+pub mod Nodes
+pub mod Tokens
+pub mod NetOrder
+pub mod Belonging
+pub mod NetPace
+pub mod NetView

@@ -2,14 +2,21 @@
 #![tactic(auto)]
 
 mod acting;
+mod control;
 mod following;
 mod lines;
 mod needing;
+mod net;
+mod net_system;
+mod pieces_run;
 mod playable;
 mod straight;
+mod tables;
 mod upcoming;
 
+pub use control::Control;
 pub use following::{PlayEnd, follow};
+pub use net::Net;
 pub use playable::is_playable;
 pub use straight::StraightNet;
 
