@@ -9,3 +9,5 @@ mod MoveLemmas
 mod FireLemmas
 mod FollowLemmas
 mod SimplePrograms
+pub mod TableLemmas
+pub mod RunLemmas

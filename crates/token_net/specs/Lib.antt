@@ -10,4 +10,11 @@ pub mod Tokens
 pub mod NetOrder
 pub mod Belonging
 pub mod NetPace
-pub mod NetView
+pub mod PlanView
+pub mod NetTables
+pub mod PieceRuns
+pub mod Ground
+pub mod MemberLaws
+pub mod PlaceLaws
+pub mod NodeLaws
+pub mod PassLaws

@@ -6,9 +6,8 @@ mod control;
 mod following;
 mod lines;
 mod needing;
-mod net;
-mod net_system;
 mod pieces_run;
+mod plan;
 mod playable;
 mod straight;
 mod tables;
@@ -16,7 +15,6 @@ mod upcoming;
 
 pub use control::Control;
 pub use following::{PlayEnd, follow};
-pub use net::Net;
 pub use playable::is_playable;
 pub use straight::StraightNet;
 
