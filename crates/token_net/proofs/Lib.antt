@@ -13,3 +13,5 @@ pub mod BaseLemmas
 mod OneWays
 mod TouchKinds
 mod EndsOnly
+pub mod TableLemmas
+pub mod RunLemmas

@@ -39,3 +39,6 @@ pub mod StepPaceLaws
 pub mod DuePace
 pub mod OrderBounds
 pub mod PieceFacts
+pub mod PlanView
+pub mod NetTables
+pub mod PieceRuns

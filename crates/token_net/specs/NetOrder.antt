@@ -20,7 +20,7 @@ abbrev pub passed : NetOf → (edge : ℕ) → ℕ
 passed net edge = let piece = to (graph_in net) edge in if is_idle net piece then out (graph_in net) piece 0 else edge
 
 -- past so many idle pieces at most: 1, 2, 4, and so on
-abbrev pub passed_by : (doublings : ℕ) → NetOf → (edge : ℕ) → ℕ
+unfoldable pub passed_by : (doublings : ℕ) → NetOf → (edge : ℕ) → ℕ
 passed_by zero net edge = passed net edge
 passed_by (suc n) net edge = passed_by n net (passed_by n net edge)
 

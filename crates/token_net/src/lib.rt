@@ -10,6 +10,8 @@ mod lines;
 mod needing;
 mod numbers;
 mod net_laws;
+mod pieces_run;
+mod plan;
 mod playable;
 mod straight;
 mod upcoming;

@@ -1,0 +1,7 @@
+use Rattle.token_net.specs.Nodes.{touched}
+use Rattle.token_net.specs.PlanView.{net_in}
+use Rattle.token_net.proofs.TableLemmas.{mapped_more}
+use Rattle.token_net.proofs.tables.all_touched.Goals as goal
+
+pub loop-piece-preserved : goal.loop-piece-preserved
+loop-piece-preserved g c = mapped_more (touched (net_in c.args.plan.now)) c.loop-piece.all.items c.push.new.self.items c.loop-piece.piece c.in_ok-touched.field-0 c.loop-piece.invariant c.in_ok-touched.ensures c.in_ok-push.ensures.items

@@ -1,0 +1,12 @@
+use Rattle.std.proofs.Common.{◌≡◌, false, take}
+use Rattle.std.specs.List.{list_any}
+use Rattle.closed_walks.specs.Graph.{edges_at}
+use Rattle.token_net.specs.Nodes.{graph_in, comes_along}
+use Rattle.token_net.specs.PlanView.{net_in}
+use Rattle.token_net.proofs.tables.is_free.Given as goal
+
+abbrev pub invariant-loop-e : goal.invariant-loop-e
+invariant-loop-e g l = record {
+  edges : l.e-items ≡ edges_at l.plan.flow.now.graph l.piece;
+  none : list_any (comes_along l.plan.flow.now.graph l.plan.routes.now l.piece l.line) (take l.e-index l.e-items) ≡ false;
+}

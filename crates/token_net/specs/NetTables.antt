@@ -1,0 +1,24 @@
+-- What a net looks up while it fires.
+use Rattle.std.specs.Prelude.{◌≡◌, ◌<◌, ◌^◌, ℕ, suc, List, length, map}
+use Rattle.std.specs.List.{range_with_len}
+use Rattle.closed_walks.specs.Graph.{edge_count}
+use Rattle.cfg_build.specs.Passes.{outs}
+use Rattle.token_net.specs.declared.tables.Tables.{Tables}
+use Rattle.token_net.specs.Nodes.{NetOf, graph_in, touched, nodes_of, first_node}
+use Rattle.token_net.specs.NetOrder.{arrival}
+
+abbrev pub all_pieces : NetOf → List ℕ
+all_pieces net = range_with_len 0 (graph_in net).nodes
+
+abbrev pub all_edges : NetOf → List ℕ
+all_edges net = range_with_len 0 (edge_count (graph_in net))
+
+-- the tables tell the nodes of the net, and of its pieces and edges what firings look up
+pub record AreTables (net : NetOf) (t : Tables) : Type 0 where
+  pub names : t.names.items ≡ nodes_of net
+  pub few : length (nodes_of net) < 2 ^ 32
+  -- the last one is the number of all nodes
+  pub firsts : t.firsts.items ≡ map (first_node net) (range_with_len 0 (suc (graph_in net).nodes))
+  pub touched : t.touched.items ≡ map (touched net) (all_pieces net)
+  pub outs : t.outs.items ≡ map (outs (graph_in net)) (all_pieces net)
+  pub arrivals : t.arrivals.items ≡ map (arrival net) (all_edges net)
