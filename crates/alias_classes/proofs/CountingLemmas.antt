@@ -1,8 +1,8 @@
 -- How many numbers of a range pass a test.
-use Rattle.std.proofs.Common.{◌≡◌, ◌≢◌, ℕ, zero, suc, ◌+◌, ◌<◌, ◌≤◌, Bool, true, false, not, ◌&&◌, ◌==◌, cond, List, [], ◌∷◌, length, ⊎_elim, refl, sym, ap, ◌∙◌, arith}
+use Rattle.std.proofs.Common.{◌≡◌, ◌≢◌, ℕ, zero, suc, ◌+◌, ◌<◌, ◌≤◌, Bool, true, false, not, ◌&&◌, ◌==◌, cond, List, ◌∷◌, length, ⊎_elim, refl, sym, ap, ◌∙◌, arith}
 use Rattle.std.specs.Prelude.{filter}
 use Rattle.std.specs.List.{range_with_len}
-use Rattle.std.proofs.lemmas.Bool.{cases_eq, cases_Bool, cond-true, cond-false, and_left, and_right, and_from, and_parts, not_from_true, not_from_false, eq-eqb, ne_eqb, eqb-true, not-true, false_from_ne_true}
+use Rattle.std.proofs.lemmas.Bool.{cases_eq, cases_Bool, cond-true, cond-false, and_left, and_right, and_from, and_parts, not_from_true, not_from_false, eq-eqb, ne_eqb, not-true, false_from_ne_true}
 
 module _ (p : ℕ → Bool) (a : ℕ) (xs : List ℕ) where
   pub filter_yes : p a ≡ true → filter p (a ∷ xs) ≡ a ∷ filter p xs

@@ -1,5 +1,5 @@
 -- The first words of classes, and how many classes a program has.
-use Rattle.std.proofs.Common.{◌≡◌, ◌≢◌, ℕ, zero, suc, ◌+◌, ◌<◌, ◌≤◌, pos, ◌<ℤ◌, Bool, true, false, not, ◌&&◌, ◌==◌, List, [], ◌∷◌, length, get_or, ⊎_elim, refl, sym, ap, ◌∙◌, arith}
+use Rattle.std.proofs.Common.{◌≡◌, ◌≢◌, ℕ, zero, suc, ◌+◌, ◌<◌, ◌≤◌, pos, Bool, true, false, not, ◌==◌, List, [], ◌∷◌, length, get_or, ⊎_elim, sym, ap, ◌∙◌, arith}
 use Rattle.std.specs.Prelude.{filter, bytes_eq, nat_le, nat_lt, int_lt}
 use Rattle.std.specs.List.{list_any, range_with_len}
 use Rattle.std.proofs.lemmas.Bool.{cases_Bool, cases_eq, cases_lt, eq-eqb, eqb-true, cases_order, and_from, and_parts, or_cases, or_left, or_right, not-true, not_from_false, leb-true, le-leb, ltb-true, lt-ltb, false_from_ne_true}
@@ -12,7 +12,7 @@ use Rattle.f77_tree.specs.Value.{place_of}
 use Rattle.alias_classes.specs.Classes.{ClassTable, SameNames, IsClasses, class_count}
 use Rattle.alias_classes.specs.Number.{covers, names_at, is_first, number_of_classes}
 use Rattle.alias_classes.proofs.CountingLemmas.{filter_yes, filter_no, same_pass, AreNumbered, numbered_count}
-use Rattle.alias_classes.proofs.TakenNumbers.{IsLowest, taken}
+use Rattle.alias_classes.proofs.TakenNumbers.{taken}
 
 -- ---- tests over a range
 

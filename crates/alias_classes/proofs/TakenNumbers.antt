@@ -1,8 +1,8 @@
 -- Each number from 1 to the number of classes is the number of a word, and of a lowest one.
-use Rattle.std.proofs.Common.{◌≡◌, ◌≢◌, ℕ, zero, suc, ◌+◌, ◌<◌, ◌≤◌, ◌⊎◌, Bool, true, false, List, length, get_or, inl, inr, ⊎_elim, sym, subst, ◌∙◌, arith}
-use Rattle.std.proofs.lemmas.Bool.{cases_eq, cases_lt, cases_order}
+use Rattle.std.proofs.Common.{◌≡◌, ◌≢◌, ℕ, zero, suc, ◌<◌, ◌≤◌, ◌⊎◌, List, get_or, inl, inr, ⊎_elim, sym, subst, arith}
+use Rattle.std.proofs.lemmas.Bool.{cases_eq, cases_lt}
 use Rattle.std.proofs.lemmas.List.{get_or_past}
-use Rattle.alias_classes.specs.Classes.{IsMet, IsNextNumber, IsNumbering}
+use Rattle.alias_classes.specs.Classes.{IsMet, IsNumbering}
 use Rattle.alias_classes.proofs.OneNumbering.{word-below, below_suc}
 
 -- the lowest word below n of which this holds, where it can be told
