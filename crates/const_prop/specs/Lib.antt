@@ -1,0 +1,5 @@
+pub mod Known
+pub mod Table
+pub mod Closed
+pub mod Live
+pub mod Right

@@ -1,0 +1,39 @@
+-- Tables of what is known, for each line on each edge, and for each piece that decides where control goes.
+use Rattle.std.specs.Prelude.{◌≡◌, ℕ, ◌+◌, ◌*◌, ◌<◌, List, length, slice_index_or}
+use Rattle.const_prop.specs.declared.known.Known.{Known}
+use Rattle.const_prop.specs.declared.known.Known.TheVariants.{Nothing}
+use Rattle.const_prop.specs.declared.table.Table.TheInside.{Inside}
+use Rattle.const_prop.specs.Known.{AtMost}
+
+pub record Knowns : Type 0 where
+  -- what is known of the word of a line where the line stands on an edge
+  pub value : (line edge : ℕ) → Known
+  -- what is known of the out-edge, counted from 0, that control takes at a piece
+  pub decision : (piece : ℕ) → Known
+
+-- on each edge, and at each piece, the one table knows no less than the other
+pub record IsBelow (lines edges pieces : ℕ) (s t : Knowns) : Type 0 where
+  pub value : (line e : ℕ) → line < lines → e < edges → AtMost (s.value line e) (t.value line e)
+  pub decision : (piece : ℕ) → piece < pieces → AtMost (s.decision piece) (t.decision piece)
+
+-- ---- what a contract sees of a `Table`
+
+pub record Held : Type 0 where
+  pub lines : ℕ
+  pub edges : ℕ
+  pub pieces : ℕ
+  pub knowns : Knowns
+
+-- the values of the lines stand row by row
+abbrev pub knowns_of : (edges : ℕ) → (values decisions : List Known) → Knowns
+knowns_of edges values decisions = record {
+  value = λ line e. slice_index_or values (line * edges + e) Nothing;
+  decision = λ piece. slice_index_or decisions piece Nothing;
+}
+
+abbrev pub held_of : Inside → Held
+held_of d = record { lines = d.lines; edges = d.edges; pieces = length d.decisions.items; knowns = knowns_of d.edges d.values.items d.decisions.items }
+
+-- there is a row for each line
+abbrev pub IsKept : Inside → Type 0
+IsKept d = length d.values.items ≡ d.lines * d.edges
