@@ -3,3 +3,4 @@ pub mod Table
 pub mod Closed
 pub mod Live
 pub mod Right
+pub mod Setting

@@ -16,23 +16,22 @@ pub record IsBelow (lines edges pieces : ℕ) (s t : Knowns) : Type 0 where
   pub value : (line e : ℕ) → line < lines → e < edges → AtMost (s.value line e) (t.value line e)
   pub decision : (piece : ℕ) → piece < pieces → AtMost (s.decision piece) (t.decision piece)
 
--- ---- what a contract sees of a `Table`
+-- ---- what a contract sees of a `Table`: one row of all edges for each line
 
 pub record Held : Type 0 where
   pub lines : ℕ
   pub edges : ℕ
-  pub pieces : ℕ
-  pub knowns : Knowns
+  pub values : List Known
+  pub decisions : List Known
 
--- the values of the lines stand row by row
-abbrev pub knowns_of : (edges : ℕ) → (values decisions : List Known) → Knowns
-knowns_of edges values decisions = record {
-  value = λ line e. slice_index_or values (line * edges + e) Nothing;
-  decision = λ piece. slice_index_or decisions piece Nothing;
+abbrev pub knowns_of : Held → Knowns
+knowns_of h = record {
+  value = λ line e. slice_index_or h.values (line * h.edges + e) Nothing;
+  decision = λ piece. slice_index_or h.decisions piece Nothing;
 }
 
 abbrev pub held_of : Inside → Held
-held_of d = record { lines = d.lines; edges = d.edges; pieces = length d.decisions.items; knowns = knowns_of d.edges d.values.items d.decisions.items }
+held_of d = record { lines = d.lines; edges = d.edges; values = d.values.items; decisions = d.decisions.items }
 
 -- there is a row for each line
 abbrev pub IsKept : Inside → Type 0

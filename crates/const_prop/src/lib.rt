@@ -5,6 +5,8 @@
 #![tactic(auto)]
 
 mod known;
+mod row;
+mod setting;
 mod table;
 
 pub use known::Known;
