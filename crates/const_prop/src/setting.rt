@@ -13,7 +13,7 @@ ghost use Rattle.const_prop.specs.Setting.{IsProgram, AreLines, TellOneWord, Are
 use crate::row::Row;
 use alias_classes::Classes;
 use cfg_build::{Flow, PieceKind};
-use closed_walks::Digraph;
+use closed_walks::{Digraph, edges_of_nodes};
 use dep_routing::{Lines, TouchList};
 use df_sequence::NoMemory;
 use f77_tree::{ExecKind, Program};
@@ -76,6 +76,7 @@ impl<'a, const W: usize> Setting<'a, W> {
 
     /// What stands at a node.
     pub(crate) fn kind(&self, node: u32) -> PieceKind
+        requires setting { IsSetting self.now.program.now self.now.flow.now self.now.classes.now self.now.touch.now self.now.lines.now self.now.one_word.items self.now.outs.items self.now.touched.items }
         requires node { node < self.now.flow.now.graph.nodes }
         ensures { result ≡ kind_at self.now.flow.now node }
     {
@@ -84,6 +85,7 @@ impl<'a, const W: usize> Setting<'a, W> {
 
     /// The executable of an act or a branch.
     pub(crate) fn exec(&self, node: u32) -> &ExecKind
+        requires setting { IsSetting self.now.program.now self.now.flow.now self.now.classes.now self.now.touch.now self.now.lines.now self.now.one_word.items self.now.outs.items self.now.touched.items }
         requires node { node < self.now.flow.now.graph.nodes }
         requires exists { (piece_at self.now.flow.now.pieces node).exec < length self.now.program.now.execs }
         ensures { result.now ≡ kind_in (slice_get self.now.program.now.execs (piece_at self.now.flow.now.pieces node).exec) }
@@ -162,6 +164,7 @@ fn out_row(alloc: Global, g: &Digraph, node: u32) -> Result<Row, NoMemory>
     requires { node < g.now.nodes }
     ensures { IfOk result (λ row. row ≡ outs g.now node) }
 {
+    edges_of_nodes();
     let mut row = Row::new(alloc);
     for e in g.edges_at(node) {
         if g.from(*e) == node {

@@ -1,0 +1,95 @@
+-- Rows of numbers, and what they hold.
+use Rattle.std.proofs.Common.{◌≡◌, ◌≢◌, ℕ, zero, suc, ◌+◌, ◌<◌, ◌≤◌, ◌⊎◌, ◌↔◌, Bool, true, false, ◌==◌, ◌||◌, not, ◌&&◌, List, [], ◌∷◌, ◌++◌, length, take, get_or, filter, count_by, Option, Some, None, slice_get, refl, sym, ap, ◌∙◌, inl, inr, ⊎_elim, subst, arith, add-one, append-nil}
+use Rattle.std.proofs.lemmas.Bool.{cases_lt, cases_Bool, or_left, or_right, false_from_ne_true}
+use Rattle.std.proofs.lemmas.List.Elements.{filter-append}
+use Rattle.std.specs.List.{range_with_len}
+use Rattle.class_set.specs.ClassSet.{holds}
+use Rattle.class_set.specs.declared.ClassSet.{ClassSet}
+use Rattle.closed_walks.specs.Graph.{Graph, edge_count, from, to, touches, touching_below, edges_at}
+use Rattle.closed_walks.specs.Walk.{Holds}
+use Rattle.cfg_build.specs.Passes.{outs}
+use Rattle.dep_routing.specs.Touch.{touches_in}
+use Rattle.const_prop.specs.Setting.{IsTouchedRow}
+
+pub touches-at : {W : ℕ} (sets : List (ClassSet W)) (node line : ℕ) (s : ClassSet W) → slice_get sets node ≡ Some s → touches_in sets node line ≡ holds s line
+touches-at [] node line s is = absurd cc
+touches-at (x ∷ sets) zero line s is = let same : x ≡ s = cc in ap (λ y. holds y line) same
+touches-at (x ∷ sets) (suc node) line s is = touches-at sets node line s is
+
+pub Holds-left : (xs ys : List ℕ) (e : ℕ) → Holds xs e → Holds (xs ++ ys) e
+Holds-left [] ys e h = absurd h
+Holds-left (x ∷ xs) ys e (inl same) = inl same
+Holds-left (x ∷ xs) ys e (inr h) = inr (Holds-left xs ys e h)
+
+pub Holds-right : (xs ys : List ℕ) (e : ℕ) → Holds ys e → Holds (xs ++ ys) e
+Holds-right [] ys e h = h
+Holds-right (x ∷ xs) ys e h = inr (Holds-right xs ys e h)
+
+pub Holds-append : (xs ys : List ℕ) (e : ℕ) → Holds (xs ++ ys) e → Holds xs e ⊎ Holds ys e
+Holds-append [] ys e h = inr h
+Holds-append (x ∷ xs) ys e (inl same) = inl (inl same)
+Holds-append (x ∷ xs) ys e (inr h) = ⊎_elim (λ l. inl (inr l)) (λ r. inr r) (Holds-append xs ys e h)
+
+pub Holds-at : (xs : List ℕ) (k : ℕ) → k < length xs → Holds xs (get_or xs k 0)
+Holds-at [] k within = absurd (omega (arith, within))
+Holds-at (x ∷ xs) zero within = inl refl
+Holds-at (x ∷ xs) (suc k) within = inr (Holds-at xs k (omega arith))
+
+-- numbers from a on, the last one apart
+range-last : (a n : ℕ) → range_with_len a (suc n) ≡ range_with_len a n ++ (a + n) ∷ []
+range-last a zero = ap (λ k. k ∷ []) (omega arith)
+range-last a (suc n) =
+    let h = range-last (a + 1) n in
+    ap (λ xs. a ∷ xs) (h ∙ ap (λ k. range_with_len (a + 1) n ++ k ∷ []) (omega arith))
+
+or_false : (a b : Bool) → (a || b) ≡ false → a ≡ false
+or_false true b e = absurd cc
+or_false false b e = refl
+
+module _ (g : Graph) (node : ℕ) where
+  abbrev leaves : ℕ → Bool
+  leaves e = from g e == node
+
+  -- of the edges that touch a node those that leave it
+  touching-outs : (k : ℕ) → filter leaves (touching_below g node k) ≡ filter leaves (range_with_len 0 k)
+  touching-outs zero = refl
+  touching-outs (suc k) =
+      let h = touching-outs k in
+      let last : filter leaves (range_with_len 0 (suc k)) ≡ filter leaves (range_with_len 0 k) ++ filter leaves (k ∷ []) =
+      ap (filter leaves) (range-last 0 k) ∙ filter-append leaves (range_with_len 0 k) ((0 + k) ∷ []) ∙ ap (λ n. filter leaves (range_with_len 0 k) ++ filter leaves (n ∷ [])) (omega arith)
+      in
+      ⊎_elim
+      (λ (yes' : touches g node k ≡ true). rw yes' (filter-append leaves (touching_below g node k) (k ∷ []) ∙ ap (λ xs. xs ++ filter leaves (k ∷ [])) h ∙ sym last))
+      (λ (no' : touches g node k ≡ false).
+      let out : leaves k ≡ false = or_false (leaves k) (to g k == node) no' in
+      let here : filter leaves (k ∷ []) ≡ [] = rw out refl in
+      rw no' (ap (filter leaves) (append-nil (touching_below g node k)) ∙ h ∙ sym (append-nil (filter leaves (range_with_len 0 k))) ∙ ap (λ xs. filter leaves (range_with_len 0 k) ++ xs) (sym here) ∙ sym last))
+      (cases_Bool (touches g node k))
+
+  pub edges-outs : filter leaves (edges_at g node) ≡ outs g node
+  unfolding edges_at
+  edges-outs = touching-outs (edge_count g)
+
+module _ (touches : ℕ → ℕ → Bool) (node : ℕ) where
+  -- one line more, which is touched
+  pub touched-more : (k : ℕ) (row : List ℕ) → touches node k ≡ true → IsTouchedRow touches k node row → IsTouchedRow touches (k + 1) node (row ++ k ∷ [])
+  touched-more k row is before line = (
+    λ h. ⊎_elim
+      (λ (h : Holds row line). let old = (before line).0 h in let l : line < k = old.0 in (omega arith, old.1))
+      (λ (h : Holds (k ∷ []) line). ⊎_elim (λ (same : k ≡ line). (omega arith, subst (λ n. touches node n ≡ true) same is)) (λ no. absurd no) h)
+      (Holds-append row (k ∷ []) line h),
+    λ h. let l : line < k + 1 = h.0 in ⊎_elim
+      (λ (l : line < k). Holds-left row (k ∷ []) line ((before line).1 (l, h.1)))
+      (λ (past : k ≤ line). Holds-right row (k ∷ []) line (inl (omega arith)))
+      (cases_lt line k)
+  )
+
+  -- one line more, which isn't
+  pub touched-skip : (k : ℕ) (row : List ℕ) → touches node k ≡ false → IsTouchedRow touches k node row → IsTouchedRow touches (k + 1) node row
+  touched-skip k row is_not before line = (
+    λ h. let old = (before line).0 h in let l : line < k = old.0 in (omega arith, old.1),
+    λ h. let l : line < k + 1 = h.0 in ⊎_elim
+      (λ (l : line < k). (before line).1 (l, h.1))
+      (λ (past : k ≤ line). let same : line ≡ k = omega arith in let no : true ≡ false = sym h.1 ∙ ap (touches node) same ∙ is_not in absurd cc)
+      (cases_lt line k)
+  )
