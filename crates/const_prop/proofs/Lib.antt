@@ -1,2 +1,5 @@
+pub mod Cells
 pub mod Counting
+pub mod Expressions
+pub mod Order
 pub mod Rows

@@ -3,7 +3,7 @@ use Rattle.std.specs.Prelude.{◌≡◌, ◌<◌, ℕ, ℤ, pos, Bool, true, fal
 use Rattle.op_table.specs.Operators.{which_of_three, picked}
 use Rattle.op_table.specs.Trips.{at_least_zero}
 use Rattle.op_table.specs.Words.{is_true}
-use Rattle.closed_walks.specs.Graph.{Graph, edge_count, from, to}
+use Rattle.closed_walks.specs.Graph.{edge_count, to}
 use Rattle.f77_tree.specs.declared.expressions.Access.{Access}
 use Rattle.f77_tree.specs.declared.programs.ExecKind.{ExecKind}
 use Rattle.f77_tree.specs.declared.programs.ExecKind.TheVariants.{Assign, Test, Sign, Pick, DoStart, DoNext}
@@ -16,10 +16,11 @@ use Rattle.alias_classes.specs.Classes.{ClassTable, class_of_word}
 use Rattle.alias_classes.specs.Needs.{Hits, IsOfLoop}
 use Rattle.cfg_build.specs.declared.pieces.PieceKind.{PieceKind}
 use Rattle.cfg_build.specs.declared.pieces.PieceKind.TheVariants.{Act, Branch, Join, Hold, End}
-use Rattle.cfg_build.specs.Flow.{flow}
-use Rattle.cfg_build.specs.Passes.{outs, out}
+use Rattle.cfg_build.specs.Flow.{piece_at}
+use Rattle.cfg_build.specs.Joined.{FlowGraph}
+use Rattle.cfg_build.specs.Passes.{outs, out, kind_in}
+use Rattle.cfg_build.specs.Shape.{kind_at}
 use Rattle.dep_routing.specs.Routing.{Routing, next_at, wire_at}
-use Rattle.dep_routing.specs.Touches.{piece_kind, exec_kind}
 use Rattle.const_prop.specs.declared.known.Known.{Known}
 use Rattle.const_prop.specs.declared.known.Known.TheVariants.{Nothing, One, Any}
 use Rattle.const_prop.specs.Known.{AtMost, IsSomething, IsNotOne, one_of, as_known, as_index}
@@ -106,50 +107,61 @@ decided names words _ kind = selected names words kind
 
 -- ---- the rules
 
-module _ (p : Program) (c : ClassTable) (touches : ℕ → ℕ → Bool) (r : Routing) where
-  abbrev pub graph : Graph
-  graph = (flow p.execs).graph
+-- the piece at which an edge of the flow graph ends
+abbrev pub kind_behind : FlowGraph → (e : ℕ) → PieceKind
+kind_behind f e = kind_at f (to f.graph e)
 
-  -- the piece at which an edge ends
-  abbrev pub kind_behind : (e : ℕ) → PieceKind
-  kind_behind e = piece_kind p (to graph e)
+abbrev pub exec_behind : Program → FlowGraph → (e : ℕ) → ExecKind
+exec_behind p f e = kind_in (slice_get p.execs (piece_at f.pieces (to f.graph e)).exec)
 
-  abbrev pub exec_behind : (e : ℕ) → ExecKind
-  exec_behind e = exec_kind p (to graph e)
+-- where the line stands that leaves this piece by its out-edge i
+abbrev pub led_to : FlowGraph → Routing → (e line i : ℕ) → ℕ
+led_to f r e line i = next_at r line (out f.graph (to f.graph e) i)
 
-  -- where the line stands that leaves this piece by its out-edge i
-  abbrev pub led_to : (e line i : ℕ) → ℕ
-  led_to e line i = next_at r line (out graph (to graph e) i)
+-- an edge to a piece, and an out-edge of the piece that control may take
+pub record IsWay (f : FlowGraph) (t : Knowns) (e i : ℕ) : Type 0 where
+  pub edge : e < edge_count f.graph
+  pub exists : i < length (outs f.graph (to f.graph e))
+  pub allowed : KindAllows (kind_behind f e) (t.decision (to f.graph e)) i
 
-  -- an edge to a piece, on which each line that the piece touches brings something
-  pub record IsReady (t : Knowns) (e : ℕ) : Type 0 where
-    pub edge : e < edge_count graph
-    pub action : is_action (kind_behind e) ≡ true
-    pub lines : (line : ℕ) → line < r.lines → touches (to graph e) line ≡ true → IsSomething (t.value line e)
+-- an edge to a piece, on which each line that the piece touches brings something
+pub record IsReady (f : FlowGraph) (touches : ℕ → ℕ → Bool) (lines : ℕ) (t : Knowns) (e : ℕ) : Type 0 where
+  pub edge : e < edge_count f.graph
+  pub action : is_action (kind_behind f e) ≡ true
+  pub each : (line : ℕ) → line < lines → touches (to f.graph e) line ≡ true → IsSomething (t.value line e)
 
-  -- an edge to a piece, and an out-edge of the piece that control may take
-  pub record IsWay (t : Knowns) (e i : ℕ) : Type 0 where
-    pub edge : e < edge_count graph
-    pub exists : i < length (outs graph (to graph e))
-    pub allowed : KindAllows (kind_behind e) (t.decision (to graph e)) i
+-- the piece writes to a word of the line, or may do so
+abbrev pub WritesBehind : Program → FlowGraph → ClassTable → (e line : ℕ) → Type 0
+WritesBehind p f c e line = KindWrites c (kind_behind f e) (exec_behind p f e) line
+
+-- what it leaves there
+abbrev pub written_behind : Program → FlowGraph → ClassTable → Knowns → (e line : ℕ) → Known
+written_behind p f c t e line = written p.names c (words_on c t e) (exec_behind p f e) line
+
+-- what it decides
+abbrev pub decided_behind : Program → FlowGraph → ClassTable → Knowns → (e : ℕ) → Known
+decided_behind p f c t e = decided p.names (words_on c t e) (kind_behind f e) (exec_behind p f e)
+
+-- A table over the flow graph, the classes and the wires of a program.
+module _ (p : Program) (f : FlowGraph) (c : ClassTable) (touches : ℕ → ℕ → Bool) (r : Routing) where
 
   pub record IsClosed (t : Knowns) : Type 0 where
     -- one value may be known of lines of one-word classes alone
-    pub words : (line e : ℕ) → line < r.lines → e < edge_count graph → is_one_word c line ≡ false → IsNotOne (t.value line e)
+    pub words : (line e : ℕ) → line < r.lines → e < edge_count f.graph → is_one_word c line ≡ false → IsNotOne (t.value line e)
     -- opening: a one-word class has its initial word, and every other line any
     pub initial : (word : ℕ) → word < p.words → is_one_word c (class_of_word c word) ≡ true → AtMost (One (word_at p.initial word)) (t.value (class_of_word c word) (next_at r (class_of_word c word) 1))
     pub others : (line : ℕ) → line < r.lines → is_one_word c line ≡ false → AtMost Any (t.value line (next_at r line 1))
     -- decisions, of pieces on whose touched lines something comes
-    pub decisions : (e : ℕ) → IsReady t e → is_switch (kind_behind e) ≡ true → AtMost (decided p.names (words_on c t e) (kind_behind e) (exec_behind e)) (t.decision (to graph e))
+    pub decisions : (e : ℕ) → IsReady f touches r.lines t e → is_switch (kind_behind f e) ≡ true → AtMost (decided_behind p f c t e) (t.decision (to f.graph e))
     -- such a piece leaves on the lines that it writes what it writes, and passes on what it only reads
-    pub writes : (e line i : ℕ) → IsReady t e → IsWay t e i → line < r.lines → touches (to graph e) line ≡ true → KindWrites c (kind_behind e) (exec_behind e) line → AtMost (written p.names c (words_on c t e) (exec_behind e) line) (t.value line (led_to e line i))
-    pub reads : (e line i : ℕ) → IsReady t e → IsWay t e i → line < r.lines → touches (to graph e) line ≡ true → (KindWrites c (kind_behind e) (exec_behind e) line → ⊥) → AtMost (t.value line e) (t.value line (led_to e line i))
+    pub writes : (e line i : ℕ) → IsReady f touches r.lines t e → IsWay f t e i → line < r.lines → touches (to f.graph e) line ≡ true → WritesBehind p f c e line → AtMost (written_behind p f c t e line) (t.value line (led_to f r e line i))
+    pub reads : (e line i : ℕ) → IsReady f touches r.lines t e → IsWay f t e i → line < r.lines → touches (to f.graph e) line ≡ true → (WritesBehind p f c e line → ⊥) → AtMost (t.value line e) (t.value line (led_to f r e line i))
     -- switches: a line that stands where control decides goes where control may go
-    pub switches : (e line i : ℕ) → IsWay t e i → is_switch (kind_behind e) ≡ true → line < r.lines → touches (to graph e) line ≡ false → wire_at r line e ≡ true → AtMost (t.value line e) (t.value line (led_to e line i))
+    pub switches : (e line i : ℕ) → IsWay f t e i → is_switch (kind_behind f e) ≡ true → line < r.lines → touches (to f.graph e) line ≡ false → wire_at r line e ≡ true → AtMost (t.value line e) (t.value line (led_to f r e line i))
     -- merges: a line that stands where control comes together goes on
-    pub merges : (e line i : ℕ) → IsWay t e i → is_merge (kind_behind e) ≡ true → line < r.lines → wire_at r line e ≡ true → AtMost (t.value line e) (t.value line (led_to e line i))
+    pub merges : (e line i : ℕ) → IsWay f t e i → is_merge (kind_behind f e) ≡ true → line < r.lines → wire_at r line e ≡ true → AtMost (t.value line e) (t.value line (led_to f r e line i))
 
   -- The constants of a program: the least closed table.
   pub record IsConstants (t : Knowns) : Type 0 where
     pub closed : IsClosed t
-    pub least : (s : Knowns) → IsClosed s → IsBelow r.lines (edge_count graph) (flow p.execs).graph.nodes t s
+    pub least : (s : Knowns) → IsClosed s → IsBelow r.lines (edge_count f.graph) f.graph.nodes t s

@@ -4,3 +4,4 @@ pub mod Closed
 pub mod Live
 pub mod Right
 pub mod Setting
+pub mod Work

@@ -24,11 +24,14 @@ pub record Held : Type 0 where
   pub values : List Known
   pub decisions : List Known
 
-abbrev pub knowns_of : Held → Knowns
-knowns_of h = record {
-  value = λ line e. slice_index_or h.values (line * h.edges + e) Nothing;
-  decision = λ piece. slice_index_or h.decisions piece Nothing;
+abbrev pub knowns : (edges : ℕ) → (values decisions : List Known) → Knowns
+knowns edges values decisions = record {
+  value = λ line e. slice_index_or values (line * edges + e) Nothing;
+  decision = λ piece. slice_index_or decisions piece Nothing;
 }
+
+abbrev pub knowns_of : Held → Knowns
+knowns_of h = knowns h.edges h.values h.decisions
 
 abbrev pub held_of : Inside → Held
 held_of d = record { lines = d.lines; edges = d.edges; values = d.values.items; decisions = d.decisions.items }

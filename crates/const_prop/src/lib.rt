@@ -5,9 +5,11 @@
 #![tactic(auto)]
 
 mod known;
+mod known_values;
 mod row;
 mod setting;
 mod table;
+mod work;
 
 pub use known::Known;
 pub use table::Table;
