@@ -5,13 +5,13 @@ use Rattle.std.proofs.lemmas.Bool.{cases_lt, cases_eq}
 pub cell_inside : (lines edges line e : ℕ) → line < lines → e < edges → line * edges + e < lines * edges
 cell_inside lines edges line e l k =
     let more : (line + 1) * edges ≤ lines * edges = mul-le-mul_right edges (omega arith) in
-    let row : (line + 1) * edges ≡ line * edges + edges = ap (λ n. n * edges) (add-one {n = line}) ∙ suc-mul line edges in
+    let row : (line + 1) * edges ≡ line * edges + edges = rw add-one (suc-mul line edges) in
     omega (arith, more, row)
 
 row_before : (edges line e line' e' : ℕ) → e < edges → line < line' → line * edges + e ≡ line' * edges + e' → ⊥
 row_before edges line e line' e' k l same =
     let more : (line + 1) * edges ≤ line' * edges = mul-le-mul_right edges (omega arith) in
-    let row : (line + 1) * edges ≡ line * edges + edges = ap (λ n. n * edges) (add-one {n = line}) ∙ suc-mul line edges in
+    let row : (line + 1) * edges ≡ line * edges + edges = rw add-one (suc-mul line edges) in
     omega (arith, more, row, same)
 
 -- two cells are one where line and edge are

@@ -2,4 +2,5 @@ pub mod Cells
 pub mod Counting
 pub mod Expressions
 pub mod Order
+pub mod Rising
 pub mod Rows

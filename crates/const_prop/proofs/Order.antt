@@ -1,12 +1,11 @@
 -- The order of what is known.
 use Rattle.std.proofs.Common.{◌≡◌, ◌≢◌, ◌⊎◌, ◌<◌, ◌≤◌, ◌+◌, ℕ, ℤ, pos, Bool, true, false, Option, Some, None, cond, refl, sym, ap, subst, ◌∙◌, inl, inr, ⊎_elim, arith}
 use Rattle.std.proofs.lemmas.Bool.{cases_Bool}
-use Rattle.std.specs.Ordering.{int_eq}
 use Rattle.const_prop.specs.declared.known.Known.{Known}
 use Rattle.const_prop.specs.declared.known.Known.TheVariants.{Nothing, One, Any}
 use Rattle.const_prop.specs.Closed.{Allows, KindAllows}
 use Rattle.const_prop.specs.Known.{AtMost, IsSomething, IsNotOne, one_of, as_known, as_index}
-use Rattle.const_prop.specs.Work.{joined, room}
+use Rattle.const_prop.specs.Work.{IsRise, room}
 use Rattle.cfg_build.specs.declared.pieces.PieceKind.{PieceKind}
 use Rattle.cfg_build.specs.declared.pieces.PieceKind.TheVariants.{Start, Act, Pass, Branch, Join, Hold, End}
 
@@ -73,18 +72,21 @@ kind_allows-more Pass j k i a s = tt
 kind_allows-more Join j k i a s = tt
 kind_allows-more End j k i a s = tt
 
--- ---- joins
+-- ---- rises
 
-if_either : (P : Known → Type 0) (b : Bool) (j k : Known) → P j → P k → P (cond b j k)
-if_either P true j k p q = p
-if_either P false j k p q = q
+pub rise-first-one : (v : ℤ) → IsRise Nothing (One v) (One v)
+rise-first-one v = record { grows = tt; reaches = refl; least = λ b a c. c; one = λ a c. c; rises = omega arith }
 
-pub joined-left : (j k : Known) → AtMost j (joined j k)
-joined-left Nothing k = tt
-joined-left (One v) Nothing = refl
-joined-left (One v) (One w) = if_either (AtMost (One v)) (int_eq v w) (One v) Any refl tt
-joined-left (One v) Any = tt
-joined-left Any k = tt
+pub rise-first-any : IsRise Nothing Any Any
+rise-first-any = record { grows = tt; reaches = tt; least = λ b a c. c; one = λ a c. tt; rises = omega arith }
 
-pub one_not_one : Known → Type 0
-one_not_one k = IsNotOne k
+pub rise-one-any : (v : ℤ) → IsRise (One v) Any Any
+rise-one-any v = record { grows = tt; reaches = tt; least = λ b a c. c; one = λ a c. tt; rises = omega arith }
+
+least-two : (v w : ℤ) → v ≢ w → (b : Known) → AtMost (One v) b → AtMost (One w) b → AtMost Any b
+least-two v w differ Nothing a c = absurd a
+least-two v w differ (One x) a c = absurd (differ (a ∙ sym c))
+least-two v w differ Any a c = tt
+
+pub rise-two : (v w : ℤ) → v ≢ w → IsRise (One v) (One w) Any
+rise-two v w differ = record { grows = tt; reaches = tt; least = least-two v w differ; one = λ a c. tt; rises = omega arith }

@@ -1,6 +1,5 @@
 -- A table in the making, and what waits to be passed on. No public clause cites this module.
-use Rattle.std.specs.Prelude.{◌≡◌, ◌<◌, ◌≤◌, ◌+◌, ◌*◌, ◌⊎◌, ◌||◌, if◌then◌else◌, ℕ, Bool, true, false, List, [], ◌∷◌, length, sum_by, slice_index_or}
-use Rattle.std.specs.Ordering.{int_eq}
+use Rattle.std.specs.Prelude.{◌≡◌, ◌<◌, ◌≤◌, ◌+◌, ◌*◌, ◌⊎◌, ◌||◌, ℕ, Bool, true, false, List, [], ◌∷◌, length, sum_by, slice_index_or}
 use Rattle.closed_walks.specs.Graph.{edge_count, to}
 use Rattle.closed_walks.specs.Walk.{Holds}
 use Rattle.f77_tree.specs.declared.programs.Program.{Program}
@@ -15,19 +14,19 @@ use Rattle.const_prop.specs.Closed.{IsClosed, IsReady, IsWay, WritesBehind, writ
 use Rattle.const_prop.specs.Known.{AtMost, IsNotOne}
 use Rattle.const_prop.specs.Table.{Knowns, IsBelow, knowns}
 
--- the least that is no less than either
-abbrev pub joined : Known → Known → Known
-joined Nothing k = k
-joined (One v) Nothing = One v
-joined (One v) (One w) = if int_eq v w then One v else Any
-joined (One v) Any = Any
-joined Any k = Any
-
 -- how often it can rise
 abbrev pub room : Known → ℕ
 room Nothing = 2
 room (One v) = 1
 room Any = 0
+
+-- what is known rises to the least that is no less than what comes
+pub record IsRise (old comes new : Known) : Type 0 where
+  pub grows : AtMost old new
+  pub reaches : AtMost comes new
+  pub least : (b : Known) → AtMost old b → AtMost comes b → AtMost new b
+  pub one : IsNotOne old → IsNotOne comes → IsNotOne new
+  pub rises : room new < room old
 
 -- the pair is in the list
 abbrev pub HoldsPair : List (ℕ × ℕ) → (line e : ℕ) → Type 0

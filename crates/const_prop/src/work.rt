@@ -1,5 +1,14 @@
 //! A table in the making, and what waits to be passed on.
 
+ghost use Rattle.std.specs.Prelude.{◌≡◌, ◌<◌, ◌⊎◌, ℕ, false, true, MatchOption, IfOk, OnOk};
+ghost use Rattle.closed_walks.specs.Graph.{edge_count, to};
+ghost use Rattle.dep_routing.specs.Touch.{touches_in};
+ghost use Rattle.const_prop.specs.Closed.{IsClosed, IsWay, is_one_word, led_to, KindAllows};
+ghost use Rattle.const_prop.specs.Known.{AtMost, IsNotOne};
+ghost use Rattle.const_prop.specs.Setting.{IsSetting};
+ghost use Rattle.const_prop.specs.Table.{Knowns};
+ghost use Rattle.const_prop.specs.Work.{IsRise, IsSized, Rises, IsFound, IsPassedOn, HoldsPair, so_far};
+
 use crate::known::Known;
 use crate::setting::Setting;
 use cfg_build::PieceKind;
@@ -19,27 +28,25 @@ pub(crate) struct Work {
     pub(crate) waits: Vec<bool>,
 }
 
-/// The least that is no less than either.
-pub(crate) fn join(a: Known, b: Known) -> Known {
-    match (a, b) {
-        (Known::Nothing, k) | (k, Known::Nothing) => k,
-        (Known::One(v), Known::One(w)) if v == w => a,
-        _ => Known::Any,
+/// What is known where something comes besides, if that is more.
+pub(crate) fn risen(old: Known, comes: Known) -> Option<Known>
+    ensures { MatchOption result (AtMost comes old) (λ new. IsRise old comes new) }
+{
+    match (old, comes) {
+        (Known::Any, _) | (_, Known::Nothing) => None,
+        (Known::Nothing, new) => Some(new),
+        (Known::One(_), Known::Any) => Some(Known::Any),
+        (Known::One(v), Known::One(w)) => {
+            if v == w {
+                None
+            } else {
+                Some(Known::Any)
+            }
+        }
     }
 }
 
 impl Work {
-    pub(crate) fn new<const W: usize>(alloc: Global, s: &Setting<W>) -> Result<Self, NoMemory> {
-        let edges = s.flow.graph().edges() as usize;
-        Ok(Work {
-            values: vec![in alloc; Known::Nothing; s.lines.lines() as usize * edges]?,
-            decisions: vec![in alloc; Known::Nothing; s.flow.pieces() as usize]?,
-            risen: Vec::new(alloc),
-            entered: Vec::new(alloc),
-            waits: vec![in alloc; false; edges]?,
-        })
-    }
-
     /// Joins what comes to what is known of the line on the edge. Where that rises, it waits to be passed on.
     pub(crate) fn raise<const W: usize>(
         &mut self,
@@ -47,12 +54,22 @@ impl Work {
         line: u32,
         edge: u32,
         comes: Known,
-    ) -> Result<(), NoMemory> {
+    ) -> Result<(), NoMemory>
+        requires setting { IsSetting s.now.program.now s.now.flow.now s.now.classes.now s.now.touch.now s.now.lines.now s.now.one_word.items s.now.outs.items s.now.touched.items }
+        requires sized { IsSized s.now.flow.now s.now.lines.now.lines self.old }
+        requires line { line < s.now.lines.now.lines }
+        requires edge { edge < edge_count s.now.flow.now.graph }
+        requires found { IsFound s.now.program.now s.now.flow.now s.now.classes.now (touches_in s.now.touch.now) s.now.lines.now (so_far (edge_count s.now.flow.now.graph) self.old) }
+        requires due { (b : Knowns) → IsClosed s.now.program.now s.now.flow.now s.now.classes.now (touches_in s.now.touch.now) s.now.lines.now b → AtMost comes (b.value line edge) }
+        requires one { is_one_word s.now.classes.now line ≡ false → IsNotOne comes }
+        ensures rises { OnOk result (Rises s.now.flow.now (touches_in s.now.touch.now) s.now.lines.now.lines self.old self.new) }
+        ensures found { OnOk result (IsFound s.now.program.now s.now.flow.now s.now.classes.now (touches_in s.now.touch.now) s.now.lines.now (so_far (edge_count s.now.flow.now.graph) self.new)) }
+        ensures reached { OnOk result (AtMost comes ((so_far (edge_count s.now.flow.now.graph) self.new).value line edge)) }
+    {
         let place = s.place(line, edge);
-        let known = join(self.values[place], comes);
-        if known == self.values[place] {
+        let Some(known) = risen(self.values[place], comes) else {
             return Ok(());
-        }
+        };
         self.values[place] = known;
         if !s.touches(line, edge) {
             self.risen.push((line, edge))?;
@@ -61,53 +78,5 @@ impl Work {
             self.entered.push(edge)?;
         }
         Ok(())
-    }
-
-    /// Sends what is known of a line along the out-edges that control may take at the end of the edge.
-    pub(crate) fn send<const W: usize>(
-        &mut self,
-        s: &Setting<W>,
-        line: u32,
-        edge: u32,
-        known: Known,
-    ) -> Result<(), NoMemory> {
-        let node = s.head(edge);
-        let kind = s.kind(node);
-        let decision = self.decisions[node as usize];
-        for (i, out) in s.outs[node as usize].as_slice().iter().enumerate() {
-            if allows(kind, decision, i) {
-                self.raise(s, line, s.lines.next_wire(line, *out), known)?;
-            }
-        }
-        Ok(())
-    }
-
-    /// A line goes past a piece that doesn't touch it.
-    pub(crate) fn pass<const W: usize>(
-        &mut self,
-        s: &Setting<W>,
-        line: u32,
-        edge: u32,
-    ) -> Result<(), NoMemory> {
-        match s.kind(s.head(edge)) {
-            PieceKind::Branch | PieceKind::Hold | PieceKind::Join | PieceKind::End
-                if s.lines.is_wire(line, edge) =>
-            {
-                self.send(s, line, edge, self.values[s.place(line, edge)])
-            }
-            _ => Ok(()),
-        }
-    }
-}
-
-/// Whether control may take the out-edge with this place at a piece.
-fn allows(kind: PieceKind, decision: Known, i: usize) -> bool {
-    match kind {
-        PieceKind::Branch | PieceKind::Hold => match decision {
-            Known::Nothing => false,
-            Known::One(v) => 0 <= v && v as usize == i,
-            Known::Any => true,
-        },
-        _ => true,
     }
 }
