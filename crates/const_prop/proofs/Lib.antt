@@ -4,3 +4,5 @@ pub mod Expressions
 pub mod Order
 pub mod Rising
 pub mod Rows
+pub mod Sending
+pub mod Foreseen

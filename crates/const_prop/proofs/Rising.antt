@@ -157,7 +157,7 @@ module _ (f : FlowGraph) (touches : ℕ → ℕ → Bool) (lines : ℕ) where
           waiting = λ e h. same e ∙ h;
           entered = λ e h. subst (λ (xs : List ℕ). Holds xs e) (sym entered) h;
           listed = λ e h. inl (sym (same e) ∙ h);
-          risen_before = λ l e h. ⊎_elim (λ h. inl h) (λ (is : (line ≡ l) × (edge ≡ e)). inr (subst (λ (n : ℕ). n < lines) is.0 r.line_in, subst (λ (n : ℕ). n < edges) is.1 r.edge_in)) (pair-either old.risen.items (line, edge) l e (subst (λ (xs : List (ℕ × ℕ)). HoldsPair xs l e) risen h));
+          risen_before = λ l e h. ⊎_elim (λ h. inl h) (λ (is : (line ≡ l) × (edge ≡ e)). inr (record { line_in = subst (λ (n : ℕ). n < lines) is.0 r.line_in; edge_in = subst (λ (n : ℕ). n < edges) is.1 r.edge_in; untouched = clash l e false past (sym is.0, sym is.1) })) (pair-either old.risen.items (line, edge) l e (subst (λ (xs : List (ℕ × ℕ)). HoldsPair xs l e) risen h));
           entered_before = λ e h. inl (subst (λ (xs : List ℕ). Holds xs e) entered h);
           bounded = let d = ap (sum_by room) decisions in let m = ap (λ (n : ℕ). lines * n) d in let a = ap length entered in let b = ap length risen ∙ length-append old.risen.items ((line, edge) ∷ []) in omega (arith, raised-room, m, a, b);
         }

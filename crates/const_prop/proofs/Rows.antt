@@ -1,6 +1,6 @@
 -- Rows of numbers, and what they hold.
 use Rattle.std.proofs.Common.{◌≡◌, ◌≢◌, ℕ, zero, suc, ◌+◌, ◌<◌, ◌≤◌, ◌⊎◌, ◌↔◌, Bool, true, false, ◌==◌, ◌||◌, not, ◌&&◌, List, [], ◌∷◌, ◌++◌, length, take, get_or, filter, count_by, Option, Some, None, slice_get, refl, sym, ap, ◌∙◌, inl, inr, ⊎_elim, subst, arith, add-one, append-nil}
-use Rattle.std.proofs.lemmas.Bool.{cases_lt, cases_Bool, or_left, or_right, false_from_ne_true}
+use Rattle.std.proofs.lemmas.Bool.{cases_lt, cases_Bool, eqb-true, or_left, or_right, false_from_ne_true}
 use Rattle.std.proofs.lemmas.List.Elements.{filter-append}
 use Rattle.std.specs.List.{range_with_len}
 use Rattle.class_set.specs.ClassSet.{holds}
@@ -93,3 +93,28 @@ module _ (touches : ℕ → ℕ → Bool) (node : ℕ) where
       (λ (past : k ≤ line). let same : line ≡ k = omega arith in let no : true ≡ false = sym h.1 ∙ ap (touches node) same ∙ is_not in absurd cc)
       (cases_lt line k)
   )
+
+first-or-rest : (test : ℕ → Bool) (x : ℕ) (xs : List ℕ) → test x ≡ true → ((i : ℕ) → i < length (filter test xs) → (test (get_or (filter test xs) i 0) ≡ true) × Holds xs (get_or (filter test xs) i 0)) → (i : ℕ) → i < length (x ∷ filter test xs) → (test (get_or (x ∷ filter test xs) i 0) ≡ true) × Holds (x ∷ xs) (get_or (x ∷ filter test xs) i 0)
+first-or-rest test x xs is rest zero l = (is, inl refl)
+first-or-rest test x xs is rest (suc i) l = let h = rest i (omega arith) in (h.0, inr h.1)
+
+-- what a filter lets through passes its test, and stands in the list
+pub filter-at : (test : ℕ → Bool) (xs : List ℕ) (i : ℕ) → i < length (filter test xs) → (test (get_or (filter test xs) i 0) ≡ true) × Holds xs (get_or (filter test xs) i 0)
+filter-at test [] i l = absurd (omega (arith, l))
+filter-at test (x ∷ xs) i l = ⊎_elim
+    (λ (is : test x ≡ true). rw is (first-or-rest test x xs is (filter-at test xs) i (rw is at l)))
+    (λ (is_not : test x ≡ false). let rest = filter-at test xs i (rw is_not at l) in rw is_not (rest.0, inr rest.1))
+    (cases_Bool (test x))
+
+range-holds : (a n e : ℕ) → Holds (range_with_len a n) e → (a ≤ e) × (e < a + n)
+range-holds a zero e h = absurd h
+range-holds a (suc n) e (inl same) = (omega arith, omega arith)
+range-holds a (suc n) e (inr h) = let l = range-holds (a + 1) n e h in let l0 = l.0 in let l1 = l.1 in (omega arith, omega arith)
+
+-- each out-edge is an edge that leaves the piece
+pub outs-edge : (g : Graph) (node i : ℕ) → i < length (outs g node) → (get_or (outs g node) i 0 < edge_count g) × (from g (get_or (outs g node) i 0) ≡ node)
+outs-edge g node i l =
+    let h = filter-at (λ e. from g e == node) (range_with_len 0 (edge_count g)) i l in
+    let r = range-holds 0 (edge_count g) (get_or (outs g node) i 0) h.1 in
+    let r1 = r.1 in
+    (omega arith, eqb-true (from g (get_or (outs g node) i 0)) node h.0)

@@ -50,6 +50,12 @@ pub record IsSized (f : FlowGraph) (lines : ℕ) (w : Work) : Type 0 where
   pub decisions : length w.decisions.items ≡ f.graph.nodes
   pub waits : length w.waits.items ≡ edge_count f.graph
 
+-- a line on an edge to a piece that doesn't touch it
+pub record IsPast (f : FlowGraph) (touches : ℕ → ℕ → Bool) (lines line e : ℕ) : Type 0 where
+  pub line_in : line < lines
+  pub edge_in : e < edge_count f.graph
+  pub untouched : touches (to f.graph e) line ≡ false
+
 -- More is known: where it isn't passed on, what has risen waits.
 pub record Rises (f : FlowGraph) (touches : ℕ → ℕ → Bool) (lines : ℕ) (old new : Work) : Type 0 where
   pub sized : IsSized f lines new
@@ -62,7 +68,7 @@ pub record Rises (f : FlowGraph) (touches : ℕ → ℕ → Bool) (lines : ℕ) 
   pub entered : (e : ℕ) → Holds old.entered.items e → Holds new.entered.items e
   pub listed : (e : ℕ) → is_waiting new e ≡ true → (is_waiting old e ≡ true) ⊎ Holds new.entered.items e
   -- what waits now stood there or is in range
-  pub risen_before : (line e : ℕ) → HoldsPair new.risen.items line e → HoldsPair old.risen.items line e ⊎ ((line < lines) × (e < edge_count f.graph))
+  pub risen_before : (line e : ℕ) → HoldsPair new.risen.items line e → HoldsPair old.risen.items line e ⊎ IsPast f touches lines line e
   pub entered_before : (e : ℕ) → Holds new.entered.items e → Holds old.entered.items e ⊎ (e < edge_count f.graph)
   pub bounded : work_left lines new ≤ work_left lines old
 
@@ -99,7 +105,7 @@ module _ (p : Program) (f : FlowGraph) (c : ClassTable) (touches : ℕ → ℕ �
     pub lines : (line e : ℕ) → line < r.lines → e < edge_count f.graph → touches (to f.graph e) line ≡ false → open_lines line e ⊎ (HoldsPair w.risen.items line e ⊎ IsPassedOn (so_far (edge_count f.graph) w) line e)
     pub pieces : (e : ℕ) → e < edge_count f.graph → open_edges e ⊎ ((is_waiting w e ≡ true) ⊎ IsSeen (so_far (edge_count f.graph) w) e)
     pub listed : (e : ℕ) → is_waiting w e ≡ true → Holds w.entered.items e
-    pub risen : (line e : ℕ) → HoldsPair w.risen.items line e → (line < r.lines) × (e < edge_count f.graph)
+    pub risen : (line e : ℕ) → HoldsPair w.risen.items line e → IsPast f touches r.lines line e
     pub entered : (e : ℕ) → Holds w.entered.items e → e < edge_count f.graph
 
 -- nothing is open

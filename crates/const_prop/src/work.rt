@@ -1,13 +1,13 @@
 //! A table in the making, and what waits to be passed on.
 
-ghost use Rattle.std.specs.Prelude.{◌≡◌, ◌<◌, ◌⊎◌, ℕ, false, true, MatchOption, IfOk, OnOk};
+ghost use Rattle.std.specs.Prelude.{◌≡◌, ◌<◌, ◌⊎◌, ℕ, false, true, IsTrue, ◌↔◌, MatchOption, OnOk};
 ghost use Rattle.closed_walks.specs.Graph.{edge_count, to};
 ghost use Rattle.dep_routing.specs.Touch.{touches_in};
 ghost use Rattle.const_prop.specs.Closed.{IsClosed, IsWay, is_one_word, led_to, KindAllows};
 ghost use Rattle.const_prop.specs.Known.{AtMost, IsNotOne};
 ghost use Rattle.const_prop.specs.Setting.{IsSetting};
 ghost use Rattle.const_prop.specs.Table.{Knowns};
-ghost use Rattle.const_prop.specs.Work.{IsRise, IsSized, Rises, IsFound, IsPassedOn, HoldsPair, so_far};
+ghost use Rattle.const_prop.specs.Work.{IsRise, IsSized, Rises, IsFound, so_far};
 
 use crate::known::Known;
 use crate::setting::Setting;
@@ -78,5 +78,49 @@ impl Work {
             self.entered.push(edge)?;
         }
         Ok(())
+    }
+
+    /// Sends what is known of a line along the out-edges that control may take at the end of the edge.
+    pub(crate) fn send<const W: usize>(
+        &mut self,
+        s: &Setting<W>,
+        line: u32,
+        edge: u32,
+        known: Known,
+    ) -> Result<(), NoMemory>
+        requires setting { IsSetting s.now.program.now s.now.flow.now s.now.classes.now s.now.touch.now s.now.lines.now s.now.one_word.items s.now.outs.items s.now.touched.items }
+        requires sized { IsSized s.now.flow.now s.now.lines.now.lines self.old }
+        requires line { line < s.now.lines.now.lines }
+        requires edge { edge < edge_count s.now.flow.now.graph }
+        requires found { IsFound s.now.program.now s.now.flow.now s.now.classes.now (touches_in s.now.touch.now) s.now.lines.now (so_far (edge_count s.now.flow.now.graph) self.old) }
+        requires due { (b : Knowns) (i : ℕ) → IsClosed s.now.program.now s.now.flow.now s.now.classes.now (touches_in s.now.touch.now) s.now.lines.now b → IsWay s.now.flow.now (so_far (edge_count s.now.flow.now.graph) self.old) edge i → AtMost known (b.value line (led_to s.now.flow.now s.now.lines.now edge line i)) }
+        requires one { is_one_word s.now.classes.now line ≡ false → IsNotOne known }
+        ensures rises { OnOk result (Rises s.now.flow.now (touches_in s.now.touch.now) s.now.lines.now.lines self.old self.new) }
+        ensures found { OnOk result (IsFound s.now.program.now s.now.flow.now s.now.classes.now (touches_in s.now.touch.now) s.now.lines.now (so_far (edge_count s.now.flow.now.graph) self.new)) }
+        ensures sent { OnOk result ((i : ℕ) → IsWay s.now.flow.now (so_far (edge_count s.now.flow.now.graph) self.old) edge i → AtMost known ((so_far (edge_count s.now.flow.now.graph) self.new).value line (led_to s.now.flow.now s.now.lines.now edge line i))) }
+    {
+        let node = s.head(edge);
+        let kind = s.kind(node);
+        let decision = self.decisions[node as usize];
+        'ways: for (i, out) in s.outs[node as usize].as_slice().iter().enumerate() {
+            if allows(kind, decision, i) {
+                self.raise(s, line, s.lines.next_wire(line, *out), known)?;
+            }
+        }
+        Ok(())
+    }
+}
+
+/// Whether control may take the out-edge with this place at a piece.
+fn allows(kind: PieceKind, decision: Known, i: usize) -> bool
+    ensures { IsTrue result ↔ KindAllows kind decision i }
+{
+    match kind {
+        PieceKind::Branch | PieceKind::Hold => match decision {
+            Known::Nothing => false,
+            Known::One(v) => 0 <= v && v as usize == i,
+            Known::Any => true,
+        },
+        _ => true,
     }
 }
