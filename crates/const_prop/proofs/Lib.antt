@@ -6,3 +6,5 @@ pub mod Rising
 pub mod Rows
 pub mod Sending
 pub mod Foreseen
+pub mod Under
+pub mod Settling

@@ -1,0 +1,107 @@
+-- Rules hold on as more is known, but for what waits.
+use Rattle.std.proofs.Common.{◌≡◌, ◌≢◌, ◌⊎◌, ◌<◌, ◌≤◌, ◌+◌, ◌*◌, ◌||◌, ℕ, zero, suc, Bool, true, false, List, [], ◌∷◌, ◌++◌, length, get_or, refl, sym, ap, subst, ◌∙◌, inl, inr, ⊎_elim, arith}
+use Rattle.std.proofs.lemmas.Bool.{cases_Bool}
+use Rattle.closed_walks.specs.Graph.{edge_count, to}
+use Rattle.closed_walks.specs.Walk.{Holds}
+use Rattle.f77_tree.specs.declared.programs.Program.{Program}
+use Rattle.f77_tree.specs.Value.{word_at}
+use Rattle.alias_classes.specs.Classes.{ClassTable, class_of_word}
+use Rattle.cfg_build.specs.Joined.{FlowGraph}
+use Rattle.cfg_build.specs.Passes.{outs}
+use Rattle.dep_routing.specs.Routing.{Routing, next_at, wire_at}
+use Rattle.const_prop.specs.declared.known.Known.{Known}
+use Rattle.const_prop.specs.declared.known.Known.TheVariants.{Nothing, One, Any}
+use Rattle.const_prop.specs.declared.work.Work.{Work}
+use Rattle.const_prop.specs.Closed.{IsClosed, IsReady, IsWay, KindAllows, is_one_word, is_switch, is_merge, kind_behind, led_to, WritesBehind, written_behind, decided_behind}
+use Rattle.const_prop.specs.Known.{AtMost, IsSomething, IsNotOne}
+use Rattle.const_prop.specs.Table.{Knowns}
+use Rattle.const_prop.specs.Work.{so_far, is_waiting, HoldsPair, IsSized, IsPast, Rises, IsFound, IsOpened, IsPassedOn, IsLeft, IsSeen, IsSettling}
+use Rattle.const_prop.proofs.Order.{at_most-refl, at_most-is, at_most-trans}
+use Rattle.const_prop.proofs.Rows.{outs-edge}
+use Rattle.const_prop.proofs.Under.{IsUnder, AreCovered, class_below, decided-less, written-less}
+
+module _ (p : Program) (f : FlowGraph) (c : ClassTable) (touches : ℕ → ℕ → Bool) (r : Routing) (a : AreCovered p f c touches r.lines) (two : 1 < edge_count f.graph) (next : (line e : ℕ) → line < r.lines → e < edge_count f.graph → next_at r line e < edge_count f.graph) where
+  abbrev at : Work → Knowns
+  at w = so_far (edge_count f.graph) w
+
+  led_inside : (t : Knowns) (e line i : ℕ) → IsWay f t e i → line < r.lines → led_to f r e line i < edge_count f.graph
+  led_inside t e line i way l = next line (get_or (outs f.graph (to f.graph e)) i 0) l (outs-edge f.graph (to f.graph e) i way.exists).0
+
+  module _ (old new : Work) (rises : Rises f touches r.lines old new) (found : IsFound p f c touches r (at new)) where
+    grows : (line e : ℕ) → line < r.lines → e < edge_count f.graph → AtMost ((at old).value line e) ((at new).value line e)
+    grows = rises.grows
+
+    same_way : (e i : ℕ) → IsWay f (at new) e i → IsWay f (at old) e i
+    same_way e i way = record { edge = way.edge; exists = way.exists; allowed = subst (λ (ds : List Known). KindAllows (kind_behind f e) (get_or ds (to f.graph e) Nothing) i) rises.decisions way.allowed }
+
+    opened-on : IsOpened p f c touches r (at old) → IsOpened p f c touches r (at new)
+    opened-on o = record {
+      initial = λ word l one.
+        let line = class_of_word c word in
+        let in_l : line < r.lines = class_below p f c touches r.lines a word in
+        at_most-trans (One (word_at p.initial word)) ((at old).value line (next_at r line 1)) ((at new).value line (next_at r line 1)) (o.initial word l one) (grows line (next_at r line 1) in_l (next line 1 in_l two));
+      others = λ line l one. at_most-trans Any ((at old).value line (next_at r line 1)) ((at new).value line (next_at r line 1)) (o.others line l one) (grows line (next_at r line 1) l (next line 1 l two));
+    }
+
+    passed-on : (line e : ℕ) → line < r.lines → e < edge_count f.graph → (at new).value line e ≡ (at old).value line e → IsPassedOn p f c touches r (at old) line e → IsPassedOn p f c touches r (at new) line e
+    passed-on line e l k same passed i way kind wire =
+        subst (λ (x : Known). AtMost x ((at new).value line (led_to f r e line i))) (sym same)
+        (at_most-trans ((at old).value line e) ((at old).value line (led_to f r e line i)) ((at new).value line (led_to f r e line i)) (passed i (same_way e i way) kind wire) (grows line (led_to f r e line i) l (led_inside (at new) e line i way l)))
+
+    module _ (e : ℕ) (k : e < edge_count f.graph) (same : (line : ℕ) → line < r.lines → touches (to f.graph e) line ≡ true → (at new).value line e ≡ (at old).value line e) (old_found : IsFound p f c touches r (at old)) where
+      ready-back : IsReady f touches r.lines (at new) e → IsReady f touches r.lines (at old) e
+      ready-back ready = record { edge = ready.edge; action = ready.action; each = λ line l t. subst IsSomething (same line l t) (ready.each line l t) }
+
+      under : IsReady f touches r.lines (at new) e → IsUnder c f touches r.lines (at new) (at old) e
+      under ready = record {
+        under = λ line l t. at_most-is ((at new).value line e) ((at old).value line e) (same line l t);
+        some = ready.each;
+        one = λ line l several. old_found.words line e l k several;
+      }
+
+      seen-on : IsSeen p f c touches r (at old) e → IsSeen p f c touches r (at new) e
+      seen-on seen = record {
+        decision = λ ready s.
+          at_most-trans (decided_behind p f c (at new) e) (decided_behind p f c (at old) e) ((at new).decision (to f.graph e)) (decided-less p f c touches r.lines a (at new) (at old) e k (under ready) s)
+            (subst (λ (ds : List Known). AtMost (decided_behind p f c (at old) e) (get_or ds (to f.graph e) Nothing)) (sym rises.decisions) (seen.decision (ready-back ready) s));
+        left = λ line i ready way l t.
+          let was = seen.left line i (ready-back ready) (same_way e i way) l t in
+          let led = led_to f r e line i in
+          let inside = led_inside (at new) e line i way l in
+          record {
+            writes = λ is. at_most-trans (written_behind p f c (at new) e line) (written_behind p f c (at old) e line) ((at new).value line led) (written-less p f c touches r.lines a (at new) (at old) e k (under ready) line is)
+              (at_most-trans (written_behind p f c (at old) e line) ((at old).value line led) ((at new).value line led) (was.writes is) (grows line led l inside));
+            reads = λ is_not. subst (λ (x : Known). AtMost x ((at new).value line led)) (sym (same line l t)) (at_most-trans ((at old).value line e) ((at old).value line led) ((at new).value line led) (was.reads is_not) (grows line led l inside));
+          };
+      }
+
+    -- the touched lines on an edge stay, or it waits
+    pub stays_or_waits : (e : ℕ) → e < edge_count f.graph → (is_waiting new e ≡ true) ⊎ ((line : ℕ) → line < r.lines → touches (to f.graph e) line ≡ true → (at new).value line e ≡ (at old).value line e)
+    stays_or_waits e k = ⊎_elim
+        (λ (waits : is_waiting new e ≡ true). inl waits)
+        (λ (free : is_waiting new e ≡ false). inr (λ line l t. ⊎_elim (λ (waits : is_waiting new e ≡ true). let no' : true ≡ false = sym waits ∙ free in absurd cc) (λ (same : (at new).value line e ≡ (at old).value line e). same) (rises.seen line e l k t)))
+        (cases_Bool (is_waiting new e))
+
+    pub settling-rises : (open_lines : ℕ → ℕ → Type 0) (open_edges : ℕ → Type 0) → IsSettling p f c touches r open_lines open_edges old → IsSettling p f c touches r open_lines open_edges new
+    settling-rises open_lines open_edges s = record {
+      sized = rises.sized;
+      found = found;
+      opened = opened-on s.opened;
+      lines = λ line e l k t. ⊎_elim
+        (λ open'. inl open')
+        (λ h. ⊎_elim
+          (λ (waits : HoldsPair old.risen.items line e). inr (inl (rises.kept line e waits)))
+          (λ (passed : IsPassedOn p f c touches r (at old) line e). inr (⊎_elim (λ (waits : HoldsPair new.risen.items line e). inl waits) (λ (same : (at new).value line e ≡ (at old).value line e). inr (passed-on line e l k same passed)) (rises.passed line e l k t)))
+          h)
+        (s.lines line e l k t);
+      pieces = λ e k. ⊎_elim
+        (λ open'. inl open')
+        (λ h. ⊎_elim
+          (λ (waits : is_waiting old e ≡ true). inr (inl (rises.waiting e waits)))
+          (λ (seen : IsSeen p f c touches r (at old) e). inr (⊎_elim (λ (waits : is_waiting new e ≡ true). inl waits) (λ (same : (line : ℕ) → line < r.lines → touches (to f.graph e) line ≡ true → (at new).value line e ≡ (at old).value line e). inr (seen-on e k same s.found seen)) (stays_or_waits e k)))
+          h)
+        (s.pieces e k);
+      listed = λ e waits. ⊎_elim (λ (was : is_waiting old e ≡ true). rises.entered e (s.listed e was)) (λ (h : Holds new.entered.items e). h) (rises.listed e waits);
+      risen = λ line e h. ⊎_elim (λ (was : HoldsPair old.risen.items line e). s.risen line e was) (λ (is : IsPast f touches r.lines line e). is) (rises.risen_before line e h);
+      entered = λ e h. ⊎_elim (λ (was : Holds old.entered.items e). s.entered e was) (λ (is : e < edge_count f.graph). is) (rises.entered_before e h);
+    }
