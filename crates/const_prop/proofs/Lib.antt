@@ -8,3 +8,4 @@ pub mod Sending
 pub mod Foreseen
 pub mod Under
 pub mod Settling
+pub mod Uses

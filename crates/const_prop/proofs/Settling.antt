@@ -1,6 +1,6 @@
 -- Rules hold on as more is known, but for what waits.
 use Rattle.std.proofs.Common.{◌≡◌, ◌≢◌, ◌⊎◌, ◌<◌, ◌≤◌, ◌+◌, ◌*◌, ◌||◌, ℕ, zero, suc, Bool, true, false, List, [], ◌∷◌, ◌++◌, length, get_or, refl, sym, ap, subst, ◌∙◌, inl, inr, ⊎_elim, arith}
-use Rattle.std.proofs.lemmas.Bool.{cases_Bool}
+use Rattle.std.proofs.lemmas.Bool.{cases_Bool, or_cases}
 use Rattle.closed_walks.specs.Graph.{edge_count, to}
 use Rattle.closed_walks.specs.Walk.{Holds}
 use Rattle.f77_tree.specs.declared.programs.Program.{Program}
@@ -15,8 +15,8 @@ use Rattle.const_prop.specs.declared.work.Work.{Work}
 use Rattle.const_prop.specs.Closed.{IsClosed, IsReady, IsWay, KindAllows, is_one_word, is_switch, is_merge, kind_behind, led_to, WritesBehind, written_behind, decided_behind}
 use Rattle.const_prop.specs.Known.{AtMost, IsSomething, IsNotOne}
 use Rattle.const_prop.specs.Table.{Knowns}
-use Rattle.const_prop.specs.Work.{so_far, is_waiting, HoldsPair, IsSized, IsPast, Rises, IsFound, IsOpened, IsPassedOn, IsLeft, IsSeen, IsSettling}
-use Rattle.const_prop.proofs.Order.{at_most-refl, at_most-is, at_most-trans}
+use Rattle.const_prop.specs.Work.{so_far, is_waiting, HoldsPair, IsSized, IsPast, Rises, IsFound, IsOpened, IsPassedOn, IsLeft, IsSeenFor, IsSeen, IsSettling, no_line, no_piece, this_line, this_piece}
+use Rattle.const_prop.proofs.Order.{at_most-refl, at_most-is, at_most-trans, kind_allows-more}
 use Rattle.const_prop.proofs.Rows.{outs-edge}
 use Rattle.const_prop.proofs.Under.{IsUnder, AreCovered, class_below, decided-less, written-less}
 
@@ -24,14 +24,14 @@ module _ (p : Program) (f : FlowGraph) (c : ClassTable) (touches : ℕ → ℕ �
   abbrev at : Work → Knowns
   at w = so_far (edge_count f.graph) w
 
-  led_inside : (t : Knowns) (e line i : ℕ) → IsWay f t e i → line < r.lines → led_to f r e line i < edge_count f.graph
+  pub led_inside : (t : Knowns) (e line i : ℕ) → IsWay f t e i → line < r.lines → led_to f r e line i < edge_count f.graph
   led_inside t e line i way l = next line (get_or (outs f.graph (to f.graph e)) i 0) l (outs-edge f.graph (to f.graph e) i way.exists).0
 
   module _ (old new : Work) (rises : Rises f touches r.lines old new) (found : IsFound p f c touches r (at new)) where
     grows : (line e : ℕ) → line < r.lines → e < edge_count f.graph → AtMost ((at old).value line e) ((at new).value line e)
     grows = rises.grows
 
-    same_way : (e i : ℕ) → IsWay f (at new) e i → IsWay f (at old) e i
+    pub same_way : (e i : ℕ) → IsWay f (at new) e i → IsWay f (at old) e i
     same_way e i way = record { edge = way.edge; exists = way.exists; allowed = subst (λ (ds : List Known). KindAllows (kind_behind f e) (get_or ds (to f.graph e) Nothing) i) rises.decisions way.allowed }
 
     opened-on : IsOpened p f c touches r (at old) → IsOpened p f c touches r (at new)
@@ -49,7 +49,7 @@ module _ (p : Program) (f : FlowGraph) (c : ClassTable) (touches : ℕ → ℕ �
         (at_most-trans ((at old).value line e) ((at old).value line (led_to f r e line i)) ((at new).value line (led_to f r e line i)) (passed i (same_way e i way) kind wire) (grows line (led_to f r e line i) l (led_inside (at new) e line i way l)))
 
     module _ (e : ℕ) (k : e < edge_count f.graph) (same : (line : ℕ) → line < r.lines → touches (to f.graph e) line ≡ true → (at new).value line e ≡ (at old).value line e) (old_found : IsFound p f c touches r (at old)) where
-      ready-back : IsReady f touches r.lines (at new) e → IsReady f touches r.lines (at old) e
+      pub ready-back : IsReady f touches r.lines (at new) e → IsReady f touches r.lines (at old) e
       ready-back ready = record { edge = ready.edge; action = ready.action; each = λ line l t. subst IsSomething (same line l t) (ready.each line l t) }
 
       under : IsReady f touches r.lines (at new) e → IsUnder c f touches r.lines (at new) (at old) e
@@ -59,13 +59,13 @@ module _ (p : Program) (f : FlowGraph) (c : ClassTable) (touches : ℕ → ℕ �
         one = λ line l several. old_found.words line e l k several;
       }
 
-      seen-on : IsSeen p f c touches r (at old) e → IsSeen p f c touches r (at new) e
-      seen-on seen = record {
+      pub seen-on : (among : ℕ → Type 0) → IsSeenFor p f c touches r among (at old) e → IsSeenFor p f c touches r among (at new) e
+      seen-on among seen = record {
         decision = λ ready s.
           at_most-trans (decided_behind p f c (at new) e) (decided_behind p f c (at old) e) ((at new).decision (to f.graph e)) (decided-less p f c touches r.lines a (at new) (at old) e k (under ready) s)
             (subst (λ (ds : List Known). AtMost (decided_behind p f c (at old) e) (get_or ds (to f.graph e) Nothing)) (sym rises.decisions) (seen.decision (ready-back ready) s));
-        left = λ line i ready way l t.
-          let was = seen.left line i (ready-back ready) (same_way e i way) l t in
+        left = λ line i ready way l t m.
+          let was = seen.left line i (ready-back ready) (same_way e i way) l t m in
           let led = led_to f r e line i in
           let inside = led_inside (at new) e line i way l in
           record {
@@ -98,10 +98,67 @@ module _ (p : Program) (f : FlowGraph) (c : ClassTable) (touches : ℕ → ℕ �
         (λ open'. inl open')
         (λ h. ⊎_elim
           (λ (waits : is_waiting old e ≡ true). inr (inl (rises.waiting e waits)))
-          (λ (seen : IsSeen p f c touches r (at old) e). inr (⊎_elim (λ (waits : is_waiting new e ≡ true). inl waits) (λ (same : (line : ℕ) → line < r.lines → touches (to f.graph e) line ≡ true → (at new).value line e ≡ (at old).value line e). inr (seen-on e k same s.found seen)) (stays_or_waits e k)))
+          (λ (seen : IsSeen p f c touches r (at old) e). inr (⊎_elim (λ (waits : is_waiting new e ≡ true). inl waits) (λ (same : (line : ℕ) → line < r.lines → touches (to f.graph e) line ≡ true → (at new).value line e ≡ (at old).value line e). inr (seen-on e k same s.found (λ line. Unit {0}) seen)) (stays_or_waits e k)))
           h)
         (s.pieces e k);
       listed = λ e waits. ⊎_elim (λ (was : is_waiting old e ≡ true). rises.entered e (s.listed e was)) (λ (h : Holds new.entered.items e). h) (rises.listed e waits);
       risen = λ line e h. ⊎_elim (λ (was : HoldsPair old.risen.items line e). s.risen line e was) (λ (is : IsPast f touches r.lines line e). is) (rises.risen_before line e h);
       entered = λ e h. ⊎_elim (λ (was : Holds old.entered.items e). s.entered e was) (λ (is : e < edge_count f.graph). is) (rises.entered_before e h);
     }
+
+  -- the open line is passed on
+  pub line-closed : (w : Work) (line e : ℕ) (open_edges : ℕ → Type 0) → IsSettling p f c touches r (this_line line e) open_edges w → HoldsPair w.risen.items line e ⊎ IsPassedOn p f c touches r (at w) line e → IsSettling p f c touches r no_line open_edges w
+  line-closed w line e open_edges s done = record {
+    sized = s.sized;
+    found = s.found;
+    opened = s.opened;
+    lines = λ l k in_l in_k t. ⊎_elim
+      (λ (is : (l ≡ line) × (k ≡ e)). inr (subst (λ (n : ℕ). HoldsPair w.risen.items n k ⊎ IsPassedOn p f c touches r (at w) n k) (sym is.0) (subst (λ (n : ℕ). HoldsPair w.risen.items line n ⊎ IsPassedOn p f c touches r (at w) line n) (sym is.1) done)))
+      (λ h. inr h)
+      (s.lines l k in_l in_k t);
+    pieces = s.pieces;
+    listed = s.listed;
+    risen = s.risen;
+    entered = s.entered;
+  }
+
+  -- the open piece has seen its lines, or waits again
+  pub piece-closed : (w : Work) (e : ℕ) (open_lines : ℕ → ℕ → Type 0) → IsSettling p f c touches r open_lines (this_piece e) w → (is_waiting w e ≡ true) ⊎ IsSeen p f c touches r (at w) e → IsSettling p f c touches r open_lines no_piece w
+  piece-closed w e open_lines s done = record {
+    sized = s.sized;
+    found = s.found;
+    opened = s.opened;
+    lines = s.lines;
+    pieces = λ k in_k. ⊎_elim
+      (λ (is : k ≡ e). inr (subst (λ (n : ℕ). (is_waiting w n ≡ true) ⊎ IsSeen p f c touches r (at w) n) (sym is) done))
+      (λ h. inr h)
+      (s.pieces k in_k);
+    listed = s.listed;
+    risen = s.risen;
+    entered = s.entered;
+  }
+
+  -- a line that was sent on is passed on, or waits again
+  pub sent-past : (old new : Work) (line e : ℕ) → Rises f touches r.lines old new → IsPast f touches r.lines line e → ((i : ℕ) → IsWay f (at old) e i → AtMost ((at old).value line e) ((at new).value line (led_to f r e line i))) → HoldsPair new.risen.items line e ⊎ IsPassedOn p f c touches r (at new) line e
+  sent-past old new line e rises past sent = ⊎_elim
+      (λ (waits : HoldsPair new.risen.items line e). inl waits)
+      (λ (same : (at new).value line e ≡ (at old).value line e). inr (λ i way kind wire.
+        let before : IsWay f (at old) e i = record { edge = way.edge; exists = way.exists; allowed = subst (λ (ds : List Known). KindAllows (kind_behind f e) (get_or ds (to f.graph e) Nothing) i) rises.decisions way.allowed } in
+        subst (λ (x : Known). AtMost x ((at new).value line (led_to f r e line i))) (sym same) (sent i before)))
+      (rises.passed line e past.line_in past.edge_in past.untouched)
+
+-- what is due to a line that goes past a piece, in each closed table
+module _ (p : Program) (f : FlowGraph) (c : ClassTable) (touches : ℕ → ℕ → Bool) (r : Routing) where
+  way-more : (t b : Knowns) (e i : ℕ) → AtMost (t.decision (to f.graph e)) (b.decision (to f.graph e)) → IsWay f t e i → IsWay f b e i
+  way-more t b e i more way = record { edge = way.edge; exists = way.exists; allowed = kind_allows-more (kind_behind f e) (t.decision (to f.graph e)) (b.decision (to f.graph e)) i more way.allowed }
+
+  pub due-past : (t b : Knowns) (line e i : ℕ) → to f.graph e < f.graph.nodes → IsFound p f c touches r t → IsClosed p f c touches r b → IsPast f touches r.lines line e → (is_switch (kind_behind f e) || is_merge (kind_behind f e)) ≡ true → wire_at r line e ≡ true → IsWay f t e i → AtMost (t.value line e) (b.value line (led_to f r e line i))
+  due-past t b line e i node found closed past kind wire way =
+      let below = found.below b closed in
+      let there = way-more t b e i (below.decision (to f.graph e) node) way in
+      let on : AtMost (b.value line e) (b.value line (led_to f r e line i)) =
+      ⊎_elim
+        (λ (s : is_switch (kind_behind f e) ≡ true). closed.switches e line i there s past.line_in past.untouched wire)
+        (λ (m : is_merge (kind_behind f e) ≡ true). closed.merges e line i there m past.line_in wire)
+        (or_cases (is_switch (kind_behind f e)) (is_merge (kind_behind f e)) kind)
+      in at_most-trans (t.value line e) (b.value line e) (b.value line (led_to f r e line i)) (below.value line e past.line_in past.edge_in) on

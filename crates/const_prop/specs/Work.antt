@@ -92,10 +92,13 @@ module _ (p : Program) (f : FlowGraph) (c : ClassTable) (touches : ℕ → ℕ �
     pub writes : WritesBehind p f c e line → AtMost (written_behind p f c t e line) (t.value line (led_to f r e line i))
     pub reads : (WritesBehind p f c e line → ⊥) → AtMost (t.value line e) (t.value line (led_to f r e line i))
 
-  -- the rules of the piece to which the edge comes hold
-  pub record IsSeen (t : Knowns) (e : ℕ) : Type 0 where
+  -- the rules of the piece to which the edge comes hold, for the lines among these
+  pub record IsSeenFor (among : ℕ → Type 0) (t : Knowns) (e : ℕ) : Type 0 where
     pub decision : IsReady f touches r.lines t e → is_switch (kind_behind f e) ≡ true → AtMost (decided_behind p f c t e) (t.decision (to f.graph e))
-    pub left : (line i : ℕ) → IsReady f touches r.lines t e → IsWay f t e i → line < r.lines → touches (to f.graph e) line ≡ true → IsLeft t e line i
+    pub left : (line i : ℕ) → IsReady f touches r.lines t e → IsWay f t e i → line < r.lines → touches (to f.graph e) line ≡ true → among line → IsLeft t e line i
+
+  abbrev pub IsSeen : Knowns → (e : ℕ) → Type 0
+  IsSeen t e = IsSeenFor (λ line. Unit {0}) t e
 
   -- All rules hold, but for what waits: lines on edges, edges to pieces, and what is open besides.
   pub record IsSettling (open_lines : ℕ → ℕ → Type 0) (open_edges : ℕ → Type 0) (w : Work) : Type 0 where

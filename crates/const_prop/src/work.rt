@@ -1,13 +1,13 @@
 //! A table in the making, and what waits to be passed on.
 
-ghost use Rattle.std.specs.Prelude.{◌≡◌, ◌<◌, ◌⊎◌, ℕ, false, true, IsTrue, ◌↔◌, MatchOption, OnOk};
+ghost use Rattle.std.specs.Prelude.{◌≡◌, ◌<◌, ◌≤◌, ◌⊎◌, ◌||◌, ℕ, false, true, IsTrue, ◌↔◌, MatchOption, OnOk};
 ghost use Rattle.closed_walks.specs.Graph.{edge_count, to};
 ghost use Rattle.dep_routing.specs.Touch.{touches_in};
-ghost use Rattle.const_prop.specs.Closed.{IsClosed, IsWay, is_one_word, led_to, KindAllows};
+ghost use Rattle.const_prop.specs.Closed.{IsClosed, IsWay, is_one_word, is_switch, is_merge, led_to, KindAllows};
 ghost use Rattle.const_prop.specs.Known.{AtMost, IsNotOne};
 ghost use Rattle.const_prop.specs.Setting.{IsSetting};
 ghost use Rattle.const_prop.specs.Table.{Knowns};
-ghost use Rattle.const_prop.specs.Work.{IsRise, IsSized, Rises, IsFound, so_far};
+ghost use Rattle.const_prop.specs.Work.{IsRise, IsSized, IsPast, Rises, IsFound, IsSettling, so_far, work_left, this_line, no_line, no_piece};
 
 use crate::known::Known;
 use crate::setting::Setting;
@@ -109,6 +109,27 @@ impl Work {
         }
         Ok(())
     }
+
+    /// A line goes past a piece that doesn't touch it.
+    pub(crate) fn pass<const W: usize>(
+        &mut self,
+        s: &Setting<W>,
+        line: u32,
+        edge: u32,
+    ) -> Result<(), NoMemory>
+        requires setting { IsSetting s.now.program.now s.now.flow.now s.now.classes.now s.now.touch.now s.now.lines.now s.now.one_word.items s.now.outs.items s.now.touched.items }
+        requires past { IsPast s.now.flow.now (touches_in s.now.touch.now) s.now.lines.now.lines line edge }
+        requires settling { IsSettling s.now.program.now s.now.flow.now s.now.classes.now (touches_in s.now.touch.now) s.now.lines.now (this_line line edge) no_piece self.old }
+        ensures settling { OnOk result (IsSettling s.now.program.now s.now.flow.now s.now.classes.now (touches_in s.now.touch.now) s.now.lines.now no_line no_piece self.new) }
+        ensures bounded { OnOk result (work_left s.now.lines.now.lines self.new ≤ work_left s.now.lines.now.lines self.old) }
+    {
+        if !passes_on(s.kind(s.head(edge))) || !s.lines.is_wire(line, edge) {
+            return Ok(());
+        }
+        let known = self.values[s.place(line, edge)];
+        self.send(s, line, edge, known)?;
+        Ok(())
+    }
 }
 
 /// Whether control may take the out-edge with this place at a piece.
@@ -123,4 +144,14 @@ fn allows(kind: PieceKind, decision: Known, i: usize) -> bool
         },
         _ => true,
     }
+}
+
+/// Whether lines that the piece doesn't touch go on from it.
+fn passes_on(kind: PieceKind) -> bool
+    ensures { result ≡ (is_switch kind || is_merge kind) }
+{
+    matches!(
+        kind,
+        PieceKind::Branch | PieceKind::Hold | PieceKind::Join | PieceKind::End
+    )
 }
