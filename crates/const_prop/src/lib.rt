@@ -6,6 +6,7 @@
 
 mod known;
 mod known_values;
+mod pieces;
 mod row;
 mod setting;
 mod table;
