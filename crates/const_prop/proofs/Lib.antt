@@ -9,3 +9,5 @@ pub mod Foreseen
 pub mod Under
 pub mod Settling
 pub mod Uses
+pub mod Degrees
+pub mod Deciding

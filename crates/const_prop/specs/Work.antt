@@ -124,3 +124,7 @@ this_line line e l k = (l ≡ line) × (k ≡ e)
 
 abbrev pub this_piece : (e : ℕ) → ℕ → Type 0
 this_piece e k = k ≡ e
+
+-- on this edge the lines from one on
+abbrev pub edge_lines : (e line : ℕ) → ℕ → ℕ → Type 0
+edge_lines e line l k = (k ≡ e) × (line ≤ l)
