@@ -11,3 +11,5 @@ pub mod Settling
 pub mod Uses
 pub mod Degrees
 pub mod Deciding
+pub mod Readiness
+pub mod Leaving

@@ -10,6 +10,21 @@ use Rattle.cfg_build.specs.Joined.{FlowGraph}
 use Rattle.cfg_build.specs.Flow.{flow}
 use Rattle.dep_routing.specs.Routing.{Routing}
 use Rattle.dep_routing.specs.Touch.{touches_in}
+use Rattle.std.proofs.Common.{Option, ℤ, slice_get}
+use Rattle.std.proofs.lemmas.Option.{slice_get_within, get_or_from_slice_get}
+use Rattle.std.proofs.lemmas.List.Sums.{get_or-le-sum_by}
+use Rattle.f77_tree.specs.CanRun.{CanExecute}
+use Rattle.f77_tree.specs.Control.{targets_of}
+use Rattle.f77_tree.specs.declared.programs.Exec.{Exec}
+use Rattle.f77_tree.specs.declared.programs.ExecKind.{ExecKind}
+use Rattle.f77_tree.specs.declared.programs.NameInfo.{NameInfo}
+use Rattle.cfg_build.specs.declared.pieces.PieceKind.{PieceKind}
+use Rattle.cfg_build.specs.declared.pieces.PieceKind.TheVariants.{Start, Act, Pass, Branch, Join, Hold, End}
+use Rattle.cfg_build.specs.Flow.{piece_at}
+use Rattle.cfg_build.specs.Passes.{kind_in}
+use Rattle.cfg_build.specs.Runs.{is_act, is_branch, IsPartOf}
+use Rattle.cfg_build.specs.Shape.{kind_at}
+use Rattle.const_prop.specs.Closed.{is_switch, decided, selected, KindWrites}
 use Rattle.const_prop.specs.Setting.{IsSetting, IsProgram, AreLines}
 use Rattle.const_prop.proofs.Under.{AreCovered}
 
@@ -21,3 +36,51 @@ setting-covered p f c touch r program lines = record {
   sound = program.sound;
   needs = λ node n inside needs. (lines.touches node (suc n) inside).1 needs;
 }
+
+module _ (p : Program) (f : FlowGraph) (program : IsProgram p f) where
+  part-kind : (node : ℕ) (fits : ExecKind → Bool) (part : IsPartOf f p.execs node fits) → kind_in (slice_get p.execs (piece_at f.pieces node).exec) ≡ part.exec.kind
+  part-kind node fits part = ap kind_in part.found
+
+  part-can : (node : ℕ) (fits : ExecKind → Bool) → IsPartOf f p.execs node fits → CanExecute p (kind_in (slice_get p.execs (piece_at f.pieces node).exec))
+  part-can node fits part = subst (CanExecute p) (sym (part-kind node fits part)) (program.can_run.executes (piece_at f.pieces node).exec part.exec part.found)
+
+  part-few : (node : ℕ) (fits : ExecKind → Bool) → IsPartOf f p.execs node fits → length (targets_of (kind_in (slice_get p.execs (piece_at f.pieces node).exec))) < 2147483648
+  part-few node fits part =
+      let k = (piece_at f.pieces node).exec in
+      let count = λ (x : Exec). length (targets_of x.kind) in
+      let inside : k < length p.execs = slice_get_within p.execs k part.exec part.found in
+      let least = get_or-le-sum_by count p.execs k part.exec inside in
+      let is : get_or p.execs k part.exec ≡ part.exec = get_or_from_slice_get p.execs k part.exec part.exec part.found in
+      let same : length (targets_of (kind_in (slice_get p.execs k))) ≡ count (get_or p.execs k part.exec) = ap (λ (x : ExecKind). length (targets_of x)) (part-kind node fits part) ∙ sym (ap count is) in
+      omega (arith, least, same, program.well_formed.execs.target_count)
+
+  -- the executable of an act or a branch can run, and has few targets
+  pub act-can : (node : ℕ) → node < f.graph.nodes → kind_at f node ≡ Act → CanExecute p (kind_in (slice_get p.execs (piece_at f.pieces node).exec))
+  act-can node inside act = part-can node is_act (program.acts node inside act)
+
+  pub branch-can : (node : ℕ) → node < f.graph.nodes → kind_at f node ≡ Branch → CanExecute p (kind_in (slice_get p.execs (piece_at f.pieces node).exec))
+  branch-can node inside branch = part-can node is_branch (program.branches node inside branch)
+
+  pub branch-few : (node : ℕ) → node < f.graph.nodes → kind_at f node ≡ Branch → length (targets_of (kind_in (slice_get p.execs (piece_at f.pieces node).exec))) < 2147483648
+  branch-few node inside branch = part-few node is_branch (program.branches node inside branch)
+
+pub switch-branch : (kind : PieceKind) → is_switch kind ≡ true → (kind ≡ Hold → ⊥) → kind ≡ Branch
+switch-branch Branch s n = refl
+switch-branch Hold s n = absurd (n refl)
+switch-branch Start s n = absurd cc
+switch-branch Act s n = absurd cc
+switch-branch Pass s n = absurd cc
+switch-branch Join s n = absurd cc
+switch-branch End s n = absurd cc
+
+pub decided-branch : (names : List NameInfo) (words : ℕ → Option ℤ) (kind : PieceKind) (x : ExecKind) → kind ≡ Branch → decided names words kind x ≡ selected names words x
+decided-branch names words kind x is = ap (λ (k : PieceKind). decided names words k x) is
+
+pub not_act-writes : (c : ClassTable) (kind : PieceKind) (x : ExecKind) (line : ℕ) → (kind ≡ Act → ⊥) → KindWrites c kind x line → ⊥
+not_act-writes c Act x line n is = n refl
+not_act-writes c Start x line n is = is
+not_act-writes c Pass x line n is = is
+not_act-writes c Branch x line n is = is
+not_act-writes c Hold x line n is = is
+not_act-writes c Join x line n is = is
+not_act-writes c End x line n is = is

@@ -10,6 +10,7 @@ mod pieces;
 mod row;
 mod setting;
 mod table;
+mod visit;
 mod work;
 
 pub use known::Known;
