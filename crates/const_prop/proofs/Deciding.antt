@@ -18,7 +18,7 @@ use Rattle.const_prop.specs.declared.work.Work.{Work}
 use Rattle.const_prop.specs.Closed.{IsClosed, IsReady, IsWay, KindAllows, is_switch, is_merge, kind_behind, led_to, decided_behind}
 use Rattle.const_prop.specs.Known.{AtMost, IsSomething, IsNotOne}
 use Rattle.const_prop.specs.Table.{Knowns}
-use Rattle.const_prop.specs.Work.{room, IsRise, so_far, is_waiting, work_left, HoldsPair, IsSized, IsPast, IsFound, IsOpened, IsPassedOn, IsLeft, IsSeenFor, IsSeen, IsSettling, edge_lines, this_piece, no_line}
+use Rattle.const_prop.specs.Work.{room, IsRise, so_far, is_waiting, work_left, HoldsPair, IsSized, IsPast, IsFound, IsOpenedFor, IsPassedOn, IsLeft, IsSeenFor, IsSeen, IsSettling, edge_lines, this_piece, no_line}
 use Rattle.const_prop.proofs.Order.{at_most-trans, something-more}
 use Rattle.const_prop.proofs.Rising.{pair-left, pair-last, pair-either}
 use Rattle.const_prop.proofs.Under.{IsUnder, AreCovered, decided-less}

@@ -13,3 +13,4 @@ pub mod Degrees
 pub mod Deciding
 pub mod Readiness
 pub mod Leaving
+pub mod Settled

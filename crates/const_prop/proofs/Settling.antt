@@ -15,7 +15,7 @@ use Rattle.const_prop.specs.declared.work.Work.{Work}
 use Rattle.const_prop.specs.Closed.{IsClosed, IsReady, IsWay, KindAllows, is_one_word, is_switch, is_merge, kind_behind, led_to, WritesBehind, written_behind, decided_behind}
 use Rattle.const_prop.specs.Known.{AtMost, IsSomething, IsNotOne}
 use Rattle.const_prop.specs.Table.{Knowns}
-use Rattle.const_prop.specs.Work.{so_far, is_waiting, HoldsPair, IsSized, IsPast, Rises, IsFound, IsOpened, IsPassedOn, IsLeft, IsSeenFor, IsSeen, IsSettling, no_line, no_piece, this_line, this_piece}
+use Rattle.const_prop.specs.Work.{so_far, is_waiting, HoldsPair, IsSized, IsPast, Rises, IsFound, IsOpenedFor, IsPassedOn, IsLeft, IsSeenFor, IsSeen, IsSettlingFrom, IsSettling, no_line, no_piece, this_line, this_piece}
 use Rattle.const_prop.proofs.Order.{at_most-refl, at_most-is, at_most-trans, kind_allows-more}
 use Rattle.const_prop.proofs.Rows.{outs-edge}
 use Rattle.const_prop.proofs.Under.{IsUnder, AreCovered, class_below, decided-less, written-less}
@@ -34,13 +34,13 @@ module _ (p : Program) (f : FlowGraph) (c : ClassTable) (touches : ℕ → ℕ �
     pub same_way : (e i : ℕ) → IsWay f (at new) e i → IsWay f (at old) e i
     same_way e i way = record { edge = way.edge; exists = way.exists; allowed = subst (λ (ds : List Known). KindAllows (kind_behind f e) (get_or ds (to f.graph e) Nothing) i) rises.decisions way.allowed }
 
-    opened-on : IsOpened p f c touches r (at old) → IsOpened p f c touches r (at new)
-    opened-on o = record {
-      initial = λ word l one.
+    opened-on : (words lines : ℕ) → IsOpenedFor p f c touches r words lines (at old) → IsOpenedFor p f c touches r words lines (at new)
+    opened-on words lines o = record {
+      initial = λ word l m one.
         let line = class_of_word c word in
         let in_l : line < r.lines = class_below p f c touches r.lines a word in
-        at_most-trans (One (word_at p.initial word)) ((at old).value line (next_at r line 1)) ((at new).value line (next_at r line 1)) (o.initial word l one) (grows line (next_at r line 1) in_l (next line 1 in_l two));
-      others = λ line l one. at_most-trans Any ((at old).value line (next_at r line 1)) ((at new).value line (next_at r line 1)) (o.others line l one) (grows line (next_at r line 1) l (next line 1 l two));
+        at_most-trans (One (word_at p.initial word)) ((at old).value line (next_at r line 1)) ((at new).value line (next_at r line 1)) (o.initial word l m one) (grows line (next_at r line 1) in_l (next line 1 in_l two));
+      others = λ line l m one. at_most-trans Any ((at old).value line (next_at r line 1)) ((at new).value line (next_at r line 1)) (o.others line l m one) (grows line (next_at r line 1) l (next line 1 l two));
     }
 
     passed-on : (line e : ℕ) → line < r.lines → e < edge_count f.graph → (at new).value line e ≡ (at old).value line e → IsPassedOn p f c touches r (at old) line e → IsPassedOn p f c touches r (at new) line e
@@ -82,11 +82,11 @@ module _ (p : Program) (f : FlowGraph) (c : ClassTable) (touches : ℕ → ℕ �
         (λ (free : is_waiting new e ≡ false). inr (λ line l t. ⊎_elim (λ (waits : is_waiting new e ≡ true). let no' : true ≡ false = sym waits ∙ free in absurd cc) (λ (same : (at new).value line e ≡ (at old).value line e). same) (rises.seen line e l k t)))
         (cases_Bool (is_waiting new e))
 
-    pub settling-rises : (open_lines : ℕ → ℕ → Type 0) (open_edges : ℕ → Type 0) → IsSettling p f c touches r open_lines open_edges old → IsSettling p f c touches r open_lines open_edges new
-    settling-rises open_lines open_edges s = record {
+    pub settling-rises-from : (words lines : ℕ) (open_lines : ℕ → ℕ → Type 0) (open_edges : ℕ → Type 0) → IsSettlingFrom p f c touches r words lines open_lines open_edges old → IsSettlingFrom p f c touches r words lines open_lines open_edges new
+    settling-rises-from words lines open_lines open_edges s = record {
       sized = rises.sized;
       found = found;
-      opened = opened-on s.opened;
+      opened = opened-on words lines s.opened;
       lines = λ line e l k t. ⊎_elim
         (λ open'. inl open')
         (λ h. ⊎_elim
@@ -105,6 +105,9 @@ module _ (p : Program) (f : FlowGraph) (c : ClassTable) (touches : ℕ → ℕ �
       risen = λ line e h. ⊎_elim (λ (was : HoldsPair old.risen.items line e). s.risen line e was) (λ (is : IsPast f touches r.lines line e). is) (rises.risen_before line e h);
       entered = λ e h. ⊎_elim (λ (was : Holds old.entered.items e). s.entered e was) (λ (is : e < edge_count f.graph). is) (rises.entered_before e h);
     }
+
+    pub settling-rises : (open_lines : ℕ → ℕ → Type 0) (open_edges : ℕ → Type 0) → IsSettling p f c touches r open_lines open_edges old → IsSettling p f c touches r open_lines open_edges new
+    settling-rises open_lines open_edges s = settling-rises-from p.words r.lines open_lines open_edges s
 
   -- the open line is passed on
   pub line-closed : (w : Work) (line e : ℕ) (open_edges : ℕ → Type 0) → IsSettling p f c touches r (this_line line e) open_edges w → HoldsPair w.risen.items line e ⊎ IsPassedOn p f c touches r (at w) line e → IsSettling p f c touches r no_line open_edges w

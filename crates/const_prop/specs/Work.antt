@@ -78,10 +78,10 @@ module _ (p : Program) (f : FlowGraph) (c : ClassTable) (touches : ℕ → ℕ �
     pub words : (line e : ℕ) → line < r.lines → e < edge_count f.graph → is_one_word c line ≡ false → IsNotOne (t.value line e)
     pub below : (b : Knowns) → IsClosed p f c touches r b → IsBelow r.lines (edge_count f.graph) f.graph.nodes t b
 
-  -- the rules of the opening hold
-  pub record IsOpened (t : Knowns) : Type 0 where
-    pub initial : (word : ℕ) → word < p.words → is_one_word c (class_of_word c word) ≡ true → AtMost (One (word_at p.initial word)) (t.value (class_of_word c word) (next_at r (class_of_word c word) 1))
-    pub others : (line : ℕ) → line < r.lines → is_one_word c line ≡ false → AtMost Any (t.value line (next_at r line 1))
+  -- the rules of the opening hold for the first words and lines
+  pub record IsOpenedFor (words lines : ℕ) (t : Knowns) : Type 0 where
+    pub initial : (word : ℕ) → word < p.words → word < words → is_one_word c (class_of_word c word) ≡ true → AtMost (One (word_at p.initial word)) (t.value (class_of_word c word) (next_at r (class_of_word c word) 1))
+    pub others : (line : ℕ) → line < r.lines → line < lines → is_one_word c line ≡ false → AtMost Any (t.value line (next_at r line 1))
 
   -- the line was passed on at a switch or a merge that doesn't touch it
   abbrev pub IsPassedOn : Knowns → (line e : ℕ) → Type 0
@@ -100,16 +100,20 @@ module _ (p : Program) (f : FlowGraph) (c : ClassTable) (touches : ℕ → ℕ �
   abbrev pub IsSeen : Knowns → (e : ℕ) → Type 0
   IsSeen t e = IsSeenFor (λ line. Unit {0}) t e
 
-  -- All rules hold, but for what waits: lines on edges, edges to pieces, and what is open besides.
-  pub record IsSettling (open_lines : ℕ → ℕ → Type 0) (open_edges : ℕ → Type 0) (w : Work) : Type 0 where
+  -- All rules hold, but for what waits: lines on edges, edges to pieces, and what is open besides; those of the opening hold for
+  -- the first words and lines.
+  pub record IsSettlingFrom (words first_lines : ℕ) (open_lines : ℕ → ℕ → Type 0) (open_edges : ℕ → Type 0) (w : Work) : Type 0 where
     pub sized : IsSized f r.lines w
     pub found : IsFound (so_far (edge_count f.graph) w)
-    pub opened : IsOpened (so_far (edge_count f.graph) w)
+    pub opened : IsOpenedFor words first_lines (so_far (edge_count f.graph) w)
     pub lines : (line e : ℕ) → line < r.lines → e < edge_count f.graph → touches (to f.graph e) line ≡ false → open_lines line e ⊎ (HoldsPair w.risen.items line e ⊎ IsPassedOn (so_far (edge_count f.graph) w) line e)
     pub pieces : (e : ℕ) → e < edge_count f.graph → open_edges e ⊎ ((is_waiting w e ≡ true) ⊎ IsSeen (so_far (edge_count f.graph) w) e)
     pub listed : (e : ℕ) → is_waiting w e ≡ true → Holds w.entered.items e
     pub risen : (line e : ℕ) → HoldsPair w.risen.items line e → IsPast f touches r.lines line e
     pub entered : (e : ℕ) → Holds w.entered.items e → e < edge_count f.graph
+
+  abbrev pub IsSettling : (ℕ → ℕ → Type 0) → (ℕ → Type 0) → Work → Type 0
+  IsSettling open_lines open_edges w = IsSettlingFrom p.words r.lines open_lines open_edges w
 
 -- nothing is open
 abbrev pub no_line : ℕ → ℕ → Type 0

@@ -8,8 +8,8 @@ use Rattle.const_prop.proofs.Settling.{settling-rises, piece-closed}
 use Rattle.const_prop.proofs.Uses.{setting-covered}
 use Rattle.const_prop.proofs.work.Work.leave.Goals as goal
 
-pub left-requires : goal.left-requires
-left-requires g c =
+pub left-known-requires : goal.left-known-requires
+left-known-requires g c =
     let row = touched_items c.args.s.now.flow.now.graph.nodes c.args.s.now.lines.now.lines (touches_in c.args.s.now.touch.now) c.args.s.now.touched.items c.head-node.result (to c.args.s.now.flow.now.graph c.args.edge) c.index.result.now c.as_slice-line-items.result.now c.requires.setting.touched c.head-node.ensures.exists c.head-node.ensures.node c.index.ensures c.as_slice-line-items.ensures in
     let line = get_or c.as_slice-line-items.result.now c.loop-line.line-index 0 in
     let at = touched_at (touches_in c.args.s.now.touch.now) c.args.s.now.lines.now.lines (to c.args.s.now.flow.now.graph c.args.edge) c.as_slice-line-items.result.now c.loop-line.line-index row c.loop-line-test.true in
