@@ -14,3 +14,4 @@ pub mod Deciding
 pub mod Readiness
 pub mod Leaving
 pub mod Settled
+pub mod Opening

@@ -76,6 +76,25 @@ module _ (p : Program) (f : FlowGraph) (c : ClassTable) (touches : ℕ → ℕ �
         entered = λ k h. s.entered k (subst (λ (xs : List ℕ). Holds xs k) (sym are) (Holds-left v.items (e ∷ []) k h));
       }
 
+  -- the same waits in other memory
+  pub kept-same : (w : Work) (v : Vec (ℕ × ℕ) Global) (u : Vec ℕ Global) → w.risen.items ≡ v.items → w.entered.items ≡ u.items → IsSettling p f c touches r no_line no_piece w → IsSettling p f c touches r no_line no_piece (record { values = w.values; decisions = w.decisions; risen = v; entered = u; waits = w.waits })
+  kept-same w v u same_risen same_entered s = record {
+    sized = record { values = s.sized.values; decisions = s.sized.decisions; waits = s.sized.waits };
+    found = s.found;
+    opened = s.opened;
+    lines = λ l k in_l in_k t. ⊎_elim
+      (λ (no' : ⊥). absurd no')
+      (λ h. inr (⊎_elim (λ (waits : HoldsPair w.risen.items l k). inl (subst (λ (xs : List (ℕ × ℕ)). HoldsPair xs l k) same_risen waits)) (λ (passed : IsPassedOn p f c touches r (at w) l k). inr passed) h))
+      (s.lines l k in_l in_k t);
+    pieces = s.pieces;
+    listed = λ e waits. subst (λ (xs : List ℕ). Holds xs e) same_entered (s.listed e waits);
+    risen = λ l k h. s.risen l k (subst (λ (xs : List (ℕ × ℕ)). HoldsPair xs l k) (sym same_risen) h);
+    entered = λ e h. s.entered e (subst (λ (xs : List ℕ). Holds xs e) (sym same_entered) h);
+  }
+
+  pub popped-edge : (w : Work) (v : List ℕ) (e : ℕ) → w.entered.items ≡ v ++ e ∷ [] → IsSettling p f c touches r no_line no_piece w → e < edge_count f.graph
+  popped-edge w v e are s = s.entered e (subst (λ (xs : List ℕ). Holds xs e) (sym are) (Holds-right v (e ∷ []) e (inl refl)))
+
   -- where nothing waits the table is closed
   pub settled-constants : (w : Work) → ((e line : ℕ) → e < edge_count f.graph → is_merge (kind_behind f e) ≡ true → touches (to f.graph e) line ≡ false) → IsSettling p f c touches r no_line no_piece w → w.risen.items ≡ [] → w.entered.items ≡ [] → IsConstants p f c touches r (at w)
   settled-constants w merges s none_risen none_entered =

@@ -9,6 +9,7 @@ mod known_values;
 mod pieces;
 mod row;
 mod setting;
+mod steps;
 mod table;
 mod visit;
 mod work;
