@@ -15,7 +15,7 @@ use Rattle.const_prop.specs.declared.work.Work.{Work}
 use Rattle.const_prop.specs.Closed.{is_one_word}
 use Rattle.const_prop.specs.Known.{AtMost, IsNotOne}
 use Rattle.const_prop.specs.Table.{Knowns}
-use Rattle.const_prop.specs.Work.{so_far, is_waiting, IsSized, IsFound, IsSettlingFrom, no_line, no_piece}
+use Rattle.const_prop.specs.Work.{so_far, is_waiting, IsSized, IsFound, IsBlank, IsSettlingFrom, no_line, no_piece}
 
 nothing : (n k : ℕ) → get_or (replicate n Nothing) k Nothing ≡ Nothing
 nothing n k = ⊎_elim
@@ -27,16 +27,7 @@ module _ (p : Program) (f : FlowGraph) (c : ClassTable) (touches : ℕ → ℕ �
   abbrev at : Work → Knowns
   at w = so_far (edge_count f.graph) w
 
-  -- all is Nothing, and each edge waits
-  pub record IsBlank (w : Work) : Type 0 where
-    pub values : w.values.items ≡ replicate (r.lines * edge_count f.graph) Nothing
-    pub decisions : w.decisions.items ≡ replicate f.graph.nodes Nothing
-    pub risen : w.risen.items ≡ []
-    pub waits : w.waits.items ≡ replicate (edge_count f.graph) true
-    pub entered : (e : ℕ) → e < edge_count f.graph → Holds w.entered.items e
-    pub edges : (e : ℕ) → Holds w.entered.items e → e < edge_count f.graph
-
-  pub blank-settling : (w : Work) → IsBlank w → IsSettlingFrom p f c touches r 0 0 no_line no_piece w
+  pub blank-settling : (w : Work) → IsBlank f r w → IsSettlingFrom p f c touches r 0 0 no_line no_piece w
   blank-settling w b =
       let value : (line e : ℕ) → (at w).value line e ≡ Nothing = λ line e. ap (λ (xs : List Known). get_or xs (line * edge_count f.graph + e) Nothing) b.values ∙ nothing (r.lines * edge_count f.graph) (line * edge_count f.graph + e) in
       let decision : (k : ℕ) → (at w).decision k ≡ Nothing = λ k. ap (λ (xs : List Known). get_or xs k Nothing) b.decisions ∙ nothing f.graph.nodes k in

@@ -1,5 +1,5 @@
 -- A table in the making, and what waits to be passed on. No public clause cites this module.
-use Rattle.std.specs.Prelude.{◌≡◌, ◌<◌, ◌≤◌, ◌+◌, ◌*◌, ◌⊎◌, ◌||◌, ℕ, Bool, true, false, List, [], ◌∷◌, length, sum_by, slice_index_or}
+use Rattle.std.specs.Prelude.{◌≡◌, ◌<◌, ◌≤◌, ◌+◌, ◌*◌, ◌⊎◌, ◌||◌, ℕ, Bool, true, false, List, [], ◌∷◌, length, sum_by, replicate, slice_index_or}
 use Rattle.closed_walks.specs.Graph.{edge_count, to}
 use Rattle.closed_walks.specs.Walk.{Holds}
 use Rattle.f77_tree.specs.declared.programs.Program.{Program}
@@ -132,3 +132,17 @@ this_piece e k = k ≡ e
 -- on this edge the lines from one on
 abbrev pub edge_lines : (e line : ℕ) → ℕ → ℕ → Type 0
 edge_lines e line l k = (k ≡ e) × (line ≤ l)
+
+-- all is Nothing, and each edge waits
+pub record IsBlank (f : FlowGraph) (r : Routing) (w : Work) : Type 0 where
+  pub values : w.values.items ≡ replicate (r.lines * edge_count f.graph) Nothing
+  pub decisions : w.decisions.items ≡ replicate f.graph.nodes Nothing
+  pub risen : w.risen.items ≡ []
+  pub waits : w.waits.items ≡ replicate (edge_count f.graph) true
+  pub entered : (e : ℕ) → e < edge_count f.graph → Holds w.entered.items e
+  pub edges : (e : ℕ) → Holds w.entered.items e → e < edge_count f.graph
+
+-- the numbers below a bound
+pub record AreBelow (n : ℕ) (xs : List ℕ) : Type 0 where
+  pub all : (e : ℕ) → e < n → Holds xs e
+  pub below : (e : ℕ) → Holds xs e → e < n

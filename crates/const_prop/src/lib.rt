@@ -6,9 +6,11 @@
 
 mod known;
 mod known_values;
+
 mod pieces;
 mod row;
 mod setting;
+mod starts;
 mod steps;
 mod table;
 mod visit;
