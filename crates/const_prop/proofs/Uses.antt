@@ -1,15 +1,16 @@
 -- What lemmas take of a setting.
 use Rattle.std.proofs.Common.{◌≡◌, ◌⊎◌, ◌<◌, ◌≤◌, ◌+◌, ℕ, zero, suc, Bool, true, false, cond, List, [], ◌∷◌, length, get_or, count_by, refl, sym, ap, subst, ◌∙◌, inl, inr, ⊎_elim, arith}
-use Rattle.std.proofs.lemmas.Bool.{cases_Bool, eq-eqb, cond-true, cond-false}
+use Rattle.std.proofs.lemmas.Bool.{cases_Bool, eq-eqb, cond-true, cond-false, false_from_ne_true}
 use Rattle.std.proofs.lemmas.List.Sums.{sum_by-cons}
 use Rattle.class_set.specs.declared.ClassSet.{ClassSet}
-use Rattle.closed_walks.specs.Graph.{edge_count, to}
+use Rattle.closed_walks.specs.Graph.{IsGraph, edge_count, to}
 use Rattle.f77_tree.specs.declared.programs.Program.{Program}
 use Rattle.alias_classes.specs.Classes.{ClassTable}
 use Rattle.cfg_build.specs.Joined.{FlowGraph}
 use Rattle.cfg_build.specs.Flow.{flow}
 use Rattle.dep_routing.specs.Routing.{Routing}
 use Rattle.dep_routing.specs.Touch.{touches_in}
+use Rattle.dep_routing.specs.Touches.{AreTouches, Touches, KindNeeds, KindNeedsOut, exec_kind}
 use Rattle.std.proofs.Common.{Option, ℤ, slice_get}
 use Rattle.std.proofs.lemmas.Option.{slice_get_within, get_or_from_slice_get}
 use Rattle.std.proofs.lemmas.List.Sums.{get_or-le-sum_by}
@@ -24,7 +25,7 @@ use Rattle.cfg_build.specs.Flow.{piece_at}
 use Rattle.cfg_build.specs.Passes.{kind_in}
 use Rattle.cfg_build.specs.Runs.{is_act, is_branch, IsPartOf}
 use Rattle.cfg_build.specs.Shape.{kind_at}
-use Rattle.const_prop.specs.Closed.{is_switch, decided, selected, KindWrites}
+use Rattle.const_prop.specs.Closed.{is_switch, is_merge, kind_behind, decided, selected, KindWrites}
 use Rattle.const_prop.specs.Setting.{IsSetting, IsProgram, AreLines}
 use Rattle.const_prop.proofs.Under.{AreCovered}
 
@@ -84,3 +85,31 @@ not_act-writes c Branch x line n is = is
 not_act-writes c Hold x line n is = is
 not_act-writes c Join x line n is = is
 not_act-writes c End x line n is = is
+
+no_out : (p : Program) (c : ClassTable) (node : ℕ) (kind : PieceKind) (x : ExecKind) → is_merge kind ≡ true → KindNeedsOut p c node kind x → ⊥
+no_out p c node Join x m is = is
+no_out p c node End x m is = is
+no_out p c node Start x m is = is
+no_out p c node Pass x m is = is
+no_out p c node Act x m is = absurd cc
+no_out p c node Branch x m is = absurd cc
+no_out p c node Hold x m is = absurd cc
+
+no_needs : (c : ClassTable) (kind : PieceKind) (x : ExecKind) (n : ℕ) → is_merge kind ≡ true → KindNeeds c kind x n → ⊥
+no_needs c Join x n m is = is
+no_needs c End x n m is = is
+no_needs c Start x n m is = is
+no_needs c Pass x n m is = is
+no_needs c Hold x n m is = is
+no_needs c Act x n m is = absurd cc
+no_needs c Branch x n m is = absurd cc
+
+untouched-kind : (p : Program) (c : ClassTable) (touches : ℕ → ℕ → Bool) (node : ℕ) → is_merge (kind_at (flow p.execs) node) ≡ true → (line : ℕ) → Touches p c node line → ⊥
+untouched-kind p c touches node merge zero is = no_out p c node (kind_at (flow p.execs) node) (exec_kind p node) merge is
+untouched-kind p c touches node merge (suc n) is = no_needs c (kind_at (flow p.execs) node) (exec_kind p node) (suc n) merge is
+
+pub merges-untouched : (p : Program) (f : FlowGraph) (c : ClassTable) (touches : ℕ → ℕ → Bool) → IsProgram p f → AreTouches p c touches → (e line : ℕ) → e < edge_count f.graph → is_merge (kind_behind f e) ≡ true → touches (to f.graph e) line ≡ false
+merges-untouched p f c touches program are =
+    let P : FlowGraph → Type 0 = λ g. IsGraph g.graph → (e line : ℕ) → e < edge_count g.graph → is_merge (kind_behind g e) ≡ true → touches (to g.graph e) line ≡ false in
+    let at : P (flow p.execs) = λ sound e line l merge. false_from_ne_true (touches (to (flow p.execs).graph e) line) (λ is. untouched-kind p c touches (to (flow p.execs).graph e) merge line ((are (to (flow p.execs).graph e) line (sound.ends e l)).0 is)) in
+    subst P (sym program.flow) at program.sound

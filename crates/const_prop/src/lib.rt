@@ -6,7 +6,7 @@
 
 mod known;
 mod known_values;
-
+mod making;
 mod pieces;
 mod row;
 mod setting;
@@ -17,4 +17,5 @@ mod visit;
 mod work;
 
 pub use known::Known;
+pub use making::constants;
 pub use table::Table;

@@ -46,7 +46,7 @@ impl<'a, const W: usize> Setting<'a, W> {
     ) -> Result<Self, NoMemory>
         requires program { IsProgram program.now flow.now }
         requires lines { AreLines program.now flow.now classes.now touch.now lines.now }
-        ensures setting { IfOk result (λ s. IsSetting program.now flow.now classes.now touch.now lines.now s.one_word.items s.outs.items s.touched.items) }
+        ensures setting { IfOk result (λ s. IsSetting s.program.now s.flow.now s.classes.now s.touch.now s.lines.now s.one_word.items s.outs.items s.touched.items) }
         ensures program { IfOk result (λ s. s.program.now ≡ program.now) }
         ensures flow { IfOk result (λ s. s.flow.now ≡ flow.now) }
         ensures classes { IfOk result (λ s. s.classes.now ≡ classes.now) }

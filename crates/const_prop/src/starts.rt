@@ -1,7 +1,8 @@
 //! The opening of a table: what is known where a run begins.
 
-ghost use Rattle.std.specs.Prelude.{IfOk, OnOk};
+ghost use Rattle.std.specs.Prelude.{◌≡◌, ◌<◌, length, IfOk, OnOk};
 ghost use Rattle.dep_routing.specs.Touch.{touches_in};
+ghost use Rattle.f77_tree.specs.Value.{word_at};
 ghost use Rattle.const_prop.specs.Setting.{IsSetting};
 ghost use Rattle.const_prop.specs.Work.{AreBelow, IsBlank, IsSettling, IsSettlingFrom, no_line, no_piece};
 
@@ -9,6 +10,7 @@ use crate::known::Known;
 use crate::setting::Setting;
 use crate::work::Work;
 use df_sequence::NoMemory;
+use f77_tree::Program;
 use std::alloc::Global;
 
 impl Work {
@@ -62,12 +64,20 @@ impl Work {
         for word in 0..s.program.words {
             let line = s.classes.of_word(word);
             if s.one_word[line as usize] {
-                let first = *s.program.initial.at(word);
-                self.raise(s, line, s.lines.next_wire(line, 1), Known::One(first))?;
+                let first = first_word(s.program, word);
+                self.raise(s, line, s.lines.next_wire(line, 1), first)?;
             }
         }
         Ok(())
     }
+}
+
+/// The initial word.
+fn first_word(p: &Program, word: u32) -> Known
+    requires { word < length p.now.initial }
+    ensures { result ≡ Known.One (word_at p.now.initial word) }
+{
+    Known::One(*p.initial.at(word))
 }
 
 /// The numbers below a bound.
