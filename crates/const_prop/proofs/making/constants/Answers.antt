@@ -9,6 +9,7 @@ use Rattle.dep_routing.specs.Routing.{Routing, next_at}
 use Rattle.dep_routing.specs.Touch.{touches_in}
 use Rattle.const_prop.specs.Closed.{IsConstants}
 use Rattle.const_prop.specs.Setting.{IsProgram, AreLines}
+use Rattle.const_prop.specs.Table.{Knowns}
 use Rattle.const_prop.specs.Work.{so_far}
 use Rattle.const_prop.proofs.Opening.{blank-settling}
 use Rattle.const_prop.proofs.Settled.{settled-constants}
@@ -37,12 +38,30 @@ new-requires g c =
         let led = c.next_edges.ensures.exists (flow p.execs).graph routing.tree touches line e (next_at r line e) (c.program_facts.ensures.strong p c.requires.program) routing.is_tree k' (routing.routing.next line e (omega (arith, l, l')) k') in
         omega (arith, led, edges);
     } in
-    (search rules, (program, lines))
+    (search rules, (search rules, (search rules, (program, lines))))
 
 pub open-requires : goal.open-requires
 open-requires g c =
     let s = c.in_ok-s.s in
     (search rules, (c.in_ok-s.ensures.setting, blank-settling s.program.now s.flow.now s.classes.now (touches_in s.touch.now) s.lines.now c.in_ok-work.work c.in_ok-work.ensures))
 
+transport : {W : ℕ} (p p' : Program) (f f' : FlowGraph) (c c' : ClassTable) (touch touch' : List (ClassSet W)) (r r' : Routing) (t : Knowns) → p ≡ p' → f ≡ f' → c ≡ c' → touch ≡ touch' → r ≡ r' → IsConstants p f c (touches_in touch) r t → IsConstants p' f' c' (touches_in touch') r' t
+transport p p' f f' c c' touch touch' r r' t ep ef ec et er h =
+    subst (λ (x : Routing). IsConstants p' f' c' (touches_in touch') x t) er
+    (subst (λ (tt' : ℕ → ℕ → Bool). IsConstants p' f' c' tt' r t) (ap touches_in et)
+    (subst (λ (x : ClassTable). IsConstants p' f' x (touches_in touch) r t) ec
+    (subst (λ (x : FlowGraph). IsConstants p' x c (touches_in touch) r t) ef
+    (subst (λ (x : Program). IsConstants x f c (touches_in touch) r t) ep h))))
+
 pub returns-clause-constants : goal.returns-clause-constants
-returns-clause-constants g c = ?
+returns-clause-constants g c =
+    let s = c.in_ok-s.s in
+    let w = c.settle.new.self in
+    let e = c.in_ok-s.ensures in
+    let found : IsConstants s.program.now s.flow.now s.classes.now (touches_in s.touch.now) s.lines.now (so_far (edge_count s.flow.now.graph) w) =
+    settled-constants s.program.now s.flow.now s.classes.now (touches_in s.touch.now) s.lines.now w
+      (λ k line l merge. merges-untouched s.program.now s.flow.now s.classes.now (touches_in s.touch.now) e.setting.program e.setting.lines.touches k line l merge)
+      c.in_ok-settle.ensures.settling c.in_ok-settle.ensures.risen c.in_ok-settle.ensures.entered in
+    let edges : edge_count s.flow.now.graph ≡ c.edges.result = ap (λ (g : FlowGraph). edge_count g.graph) e.flow ∙ ap (λ g. edge_count g) (sym c.graph.ensures) ∙ sym c.edges.ensures.count in
+    subst (λ (n : ℕ). IsConstants c.args.p.now c.args.f.now c.args.c.now (touches_in c.args.touch.now) c.args.l.now (so_far n w)) edges
+    (transport s.program.now c.args.p.now s.flow.now c.args.f.now s.classes.now c.args.c.now s.touch.now c.args.touch.now s.lines.now c.args.l.now (so_far (edge_count s.flow.now.graph) w) e.program e.flow e.classes e.touch e.lines found)

@@ -19,3 +19,6 @@ returns-clause-program c = λ p f wf is.
       can_run = can;
     } in
     subst (λ (g : FlowGraph). IsProgram p g) (sym is) at
+
+pub returns-clause-strong : goal.returns-clause-strong
+returns-clause-strong c = λ p wf. c.flow_graph_is_strong.ensures p.names p.execs p.loops wf.execs
