@@ -1,6 +1,6 @@
 -- Cells of a table of rows.
-use Rattle.std.proofs.Common.{◌≡◌, ◌≢◌, ℕ, zero, suc, ◌+◌, ◌<◌, ◌≤◌, ◌*◌, ◌⊎◌, inl, inr, ⊎_elim, refl, sym, ap, ◌∙◌, arith, mul-le-mul_right, add-one, suc-mul}
-use Rattle.std.proofs.lemmas.Bool.{cases_lt, cases_eq}
+use Rattle.std.proofs.Common.{◌≡◌, ℕ, ◌+◌, ◌<◌, ◌≤◌, ◌*◌, ⊎_elim, sym, ap, arith, mul-le-mul_right, add-one, suc-mul}
+use Rattle.std.proofs.lemmas.Bool.{cases_lt}
 
 pub cell_inside : (lines edges line e : ℕ) → line < lines → e < edges → line * edges + e < lines * edges
 cell_inside lines edges line e l k =
@@ -19,7 +19,7 @@ pub one_cell : (edges line e line' e' : ℕ) → e < edges → e' < edges → li
 one_cell edges line e line' e' k k' same = ⊎_elim
     (λ (l : line < line'). absurd (row_before edges line e line' e' k l same))
     (λ (m : line' ≤ line). ⊎_elim
-      (λ (l : line' < line). absurd (row_before edges line' e' line e k' l (sym same)))
-      (λ (m' : line ≤ line'). let is : line ≡ line' = omega arith in (is, (let at : line * edges ≡ line' * edges = ap (λ n. n * edges) is in omega (arith, at, same))))
-      (cases_lt line' line))
+    (λ (l : line' < line). absurd (row_before edges line' e' line e k' l (sym same)))
+    (λ (m' : line ≤ line'). let is : line ≡ line' = omega arith in (is, (let at : line * edges ≡ line' * edges = ap (λ n. n * edges) is in omega (arith, at, same))))
+    (cases_lt line' line))
     (cases_lt line line')

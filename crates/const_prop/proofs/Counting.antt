@@ -1,5 +1,5 @@
 -- Counts of the words of classes.
-use Rattle.std.proofs.Common.{◌≡◌, ◌≢◌, ℕ, zero, suc, ◌+◌, ◌<◌, ◌≤◌, ◌^◌, Bool, true, false, ◌==◌, not, ◌&&◌, List, [], ◌∷◌, ◌++◌, length, take, get_or, set, count_by, refl, sym, ap, ◌∙◌, ⊎_elim, subst, arith, length-set}
+use Rattle.std.proofs.Common.{◌≡◌, ◌≢◌, ℕ, ◌+◌, ◌<◌, ◌≤◌, ◌^◌, Bool, true, false, ◌==◌, List, [], ◌∷◌, ◌++◌, length, take, get_or, set, count_by, refl, sym, ap, ◌∙◌, ⊎_elim, arith, length-set}
 use Rattle.std.proofs.lemmas.Bool.{cases_eq, eq-eqb, eqb-true, false_from_ne_true, cases_lt}
 use Rattle.std.proofs.lemmas.Grind.{get_or-set_at}
 use Rattle.std.proofs.lemmas.List.{get_or_read, get_or-set_other, get_or_append_left}
@@ -17,19 +17,19 @@ pub counts-more : (numbers counts : List ℕ) (lines k class old : ℕ) → AreC
 counts-more numbers counts lines k class old before l is below read = record {
   size = length-set counts class (old + 1) ∙ before.size;
   each = λ line within.
-    let was : old ≡ get_or counts class 0 = get_or_read counts class old (omega (arith, before.size)) read 0 in
-    ⊎_elim
-    (λ (same : line ≡ class).
+      let was : old ≡ get_or counts class 0 = get_or_read counts class old (omega (arith, before.size)) read 0 in
+      ⊎_elim
+      (λ (same : line ≡ class).
       let yes' : (get_or numbers k 0 == line) ≡ true = eq-eqb (get_or numbers k 0) line (sym is ∙ sym same) in
       get_or-set_at counts class line (old + 1) 0 same (omega (arith, before.size))
       ∙ ap (λ n. n + 1) (was ∙ ap (λ n. get_or counts n 0) (sym same) ∙ before.each line within)
       ∙ sym (count_by_more_yes (λ n. n == line) numbers k 0 l yes'))
-    (λ (differ : line ≢ class).
+      (λ (differ : line ≢ class).
       let no' : (get_or numbers k 0 == line) ≡ false = false_from_ne_true (get_or numbers k 0 == line) (λ e. differ (sym (eqb-true (get_or numbers k 0) line e) ∙ sym is)) in
       get_or-set_other counts class line (old + 1) 0 differ
       ∙ before.each line within
       ∙ sym (count_by_more_no (λ n. n == line) numbers k 0 l no'))
-    (cases_eq line class);
+      (cases_eq line class);
 }
 
 pub count_fits : (numbers counts : List ℕ) (lines k class old : ℕ) → AreCounts numbers counts lines k → k < 2 ^ 32 → class < lines → old ≡ get_or counts class old → old ≤ length (take k numbers)

@@ -1,24 +1,22 @@
 -- A piece decides anew.
-use Rattle.std.proofs.Common.{◌≡◌, ◌≢◌, ◌⊎◌, ◌<◌, ◌≤◌, ◌+◌, ◌*◌, ◌||◌, ℕ, zero, suc, Bool, true, false, List, [], ◌∷◌, ◌++◌, length, get_or, set, sum_by, Vec, Global, refl, sym, ap, subst, ◌∙◌, inl, inr, ⊎_elim, arith, length-set, length-append, mul-le-mul_left, mul-suc, add-one}
+use Rattle.std.proofs.Common.{◌≡◌, ◌≢◌, ◌<◌, ◌≤◌, ◌+◌, ◌*◌, ℕ, Bool, true, false, List, [], ◌∷◌, ◌++◌, length, set, sum_by, Vec, Global, refl, sym, ap, subst, ◌∙◌, inl, inr, ⊎_elim, arith, length-set, mul-le-mul_left, mul-suc, add-one}
 use Rattle.std.specs.Vec.{with_item}
-use Rattle.std.proofs.lemmas.Bool.{cases_Bool, cases_eq, cases_lt}
+use Rattle.std.proofs.lemmas.Bool.{cases_eq, cases_lt}
 use Rattle.std.proofs.lemmas.Grind.{get_or-set_at}
 use Rattle.std.proofs.lemmas.List.{get_or-set_other}
 use Rattle.std.proofs.lemmas.List.Sums.{sum_by-set}
 use Rattle.closed_walks.specs.Graph.{edge_count, to}
-use Rattle.closed_walks.specs.Walk.{Holds}
 use Rattle.f77_tree.specs.declared.programs.Program.{Program}
 use Rattle.alias_classes.specs.Classes.{ClassTable}
 use Rattle.cfg_build.specs.Joined.{FlowGraph}
-use Rattle.cfg_build.specs.Shape.{kind_at}
-use Rattle.dep_routing.specs.Routing.{Routing, next_at, wire_at}
+use Rattle.dep_routing.specs.Routing.{Routing}
 use Rattle.const_prop.specs.declared.known.Known.{Known}
-use Rattle.const_prop.specs.declared.known.Known.TheVariants.{Nothing, One, Any}
+use Rattle.const_prop.specs.declared.known.Known.TheVariants.{Nothing}
 use Rattle.const_prop.specs.declared.work.Work.{Work}
-use Rattle.const_prop.specs.Closed.{IsClosed, IsReady, IsWay, KindAllows, is_switch, is_merge, kind_behind, led_to, decided_behind}
-use Rattle.const_prop.specs.Known.{AtMost, IsSomething, IsNotOne}
+use Rattle.const_prop.specs.Closed.{IsClosed, IsReady, IsWay, KindAllows, is_switch, kind_behind, decided_behind}
+use Rattle.const_prop.specs.Known.{AtMost}
 use Rattle.const_prop.specs.Table.{Knowns}
-use Rattle.const_prop.specs.Work.{room, IsRise, so_far, is_waiting, work_left, HoldsPair, IsSized, IsPast, IsFound, IsOpenedFor, IsPassedOn, IsLeft, IsSeenFor, IsSeen, IsSettling, edge_lines, this_piece, no_line}
+use Rattle.const_prop.specs.Work.{room, IsRise, so_far, is_waiting, work_left, HoldsPair, IsSized, IsPast, IsFound, IsPassedOn, IsSeen, IsSettling, edge_lines, this_piece, no_line}
 use Rattle.const_prop.proofs.Order.{at_most-trans, something-more}
 use Rattle.const_prop.proofs.Rising.{pair-left, pair-last, pair-either}
 use Rattle.const_prop.proofs.Under.{IsUnder, AreCovered, decided-less}
@@ -63,9 +61,9 @@ module _ (p : Program) (f : FlowGraph) (c : ClassTable) (touches : ℕ → ℕ �
       below = λ b closed. let was = found.below b closed in record {
         value = was.value;
         decision = λ k l. ⊎_elim
-          (λ (same : k ≡ node). subst (λ (n : ℕ). AtMost ((at decided_work).decision n) (b.decision n)) (sym same) (subst (λ (d : Known). AtMost d (b.decision node)) (sym decision-here) (rise.least (b.decision node) (was.decision node inside) (due b closed))))
-          (λ (differ : k ≢ node). subst (λ (d : Known). AtMost d (b.decision k)) (sym (decision-other k differ)) (was.decision k l))
-          (cases_eq k node);
+            (λ (same : k ≡ node). subst (λ (n : ℕ). AtMost ((at decided_work).decision n) (b.decision n)) (sym same) (subst (λ (d : Known). AtMost d (b.decision node)) (sym decision-here) (rise.least (b.decision node) (was.decision node inside) (due b closed))))
+            (λ (differ : k ≢ node). subst (λ (d : Known). AtMost d (b.decision k)) (sym (decision-other k differ)) (was.decision k l))
+            (cases_eq k node);
       };
     }
 
@@ -75,28 +73,28 @@ module _ (p : Program) (f : FlowGraph) (c : ClassTable) (touches : ℕ → ℕ �
       found = found;
       opened = record { initial = s.opened.initial; others = s.opened.others };
       lines = λ l k in_l in_k t. ⊎_elim
-        (λ (same : k ≡ e). inl (same, omega arith))
-        (λ (differ : k ≢ e). ⊎_elim
+          (λ (same : k ≡ e). inl (same, omega arith))
+          (λ (differ : k ≢ e). ⊎_elim
           (λ (no' : ⊥). absurd no')
           (λ h. inr (⊎_elim
-            (λ (waits : HoldsPair old.risen.items l k). inl waits)
-            (λ (passed : IsPassedOn p f c touches r (at old) l k). inr (λ i way kind wire. passed i (way-elsewhere k i differ way) kind wire))
-            h))
+          (λ (waits : HoldsPair old.risen.items l k). inl waits)
+          (λ (passed : IsPassedOn p f c touches r (at old) l k). inr (λ i way kind wire. passed i (way-elsewhere k i differ way) kind wire))
+          h))
           (s.lines l k in_l in_k t))
-        (cases_eq k e);
+          (cases_eq k e);
       pieces = λ k in_k. ⊎_elim
-        (λ (same : k ≡ e). inl same)
-        (λ (differ : k ≢ e). ⊎_elim
+          (λ (same : k ≡ e). inl same)
+          (λ (differ : k ≢ e). ⊎_elim
           (λ (open' : k ≡ e). inl open')
           (λ h. inr (⊎_elim
-            (λ (waits : is_waiting old k ≡ true). inl waits)
-            (λ (seen : IsSeen p f c touches r (at old) k). inr (record {
-              decision = λ ready x. subst (λ (d : Known). AtMost (decided_behind p f c (at old) k) d) (sym (elsewhere k in_k differ)) (seen.decision (record { edge = ready.edge; action = ready.action; each = ready.each }) x);
-              left = λ line i ready way l x m. let was = seen.left line i (record { edge = ready.edge; action = ready.action; each = ready.each }) (way-elsewhere k i differ way) l x m in record { writes = was.writes; reads = was.reads };
-            }))
-            h))
+          (λ (waits : is_waiting old k ≡ true). inl waits)
+          (λ (seen : IsSeen p f c touches r (at old) k). inr (record {
+            decision = λ ready x. subst (λ (d : Known). AtMost (decided_behind p f c (at old) k) d) (sym (elsewhere k in_k differ)) (seen.decision (record { edge = ready.edge; action = ready.action; each = ready.each }) x);
+            left = λ line i ready way l x m. let was = seen.left line i (record { edge = ready.edge; action = ready.action; each = ready.each }) (way-elsewhere k i differ way) l x m in record { writes = was.writes; reads = was.reads };
+          }))
+          h))
           (s.pieces k in_k))
-        (cases_eq k e);
+          (cases_eq k e);
       listed = s.listed;
       risen = s.risen;
       entered = s.entered;
@@ -117,21 +115,21 @@ module _ (p : Program) (f : FlowGraph) (c : ClassTable) (touches : ℕ → ℕ �
     found = s.found;
     opened = record { initial = s.opened.initial; others = s.opened.others };
     lines = λ l k in_l in_k t. ⊎_elim
-      (λ (open' : (k ≡ e) × (line ≤ l)). ⊎_elim
+        (λ (open' : (k ≡ e) × (line ≤ l)). ⊎_elim
         (λ (more : line < l). inl (open'.0, omega arith))
         (λ (no_more : l ≤ line). let low = open'.1 in let same : line ≡ l = omega arith in inr (inl (subst (λ (xs : List (ℕ × ℕ)). HoldsPair xs l k) (sym are) (subst (λ (n : ℕ). HoldsPair (w.risen.items ++ (line, e) ∷ []) l n) (sym open'.0) (subst (λ (n : ℕ). HoldsPair (w.risen.items ++ (line, e) ∷ []) n e) same (pair-last w.risen.items line e))))))
         (cases_lt line l))
-      (λ h. inr (⊎_elim
+        (λ h. inr (⊎_elim
         (λ (waits : HoldsPair w.risen.items l k). inl (subst (λ (xs : List (ℕ × ℕ)). HoldsPair xs l k) (sym are) (pair-left w.risen.items ((line, e) ∷ []) l k waits)))
         (λ (passed : IsPassedOn p f c touches r (at w) l k). inr passed)
         h))
-      (s.lines l k in_l in_k t);
+        (s.lines l k in_l in_k t);
     pieces = s.pieces;
     listed = s.listed;
     risen = λ l k h. ⊎_elim
-      (λ (was : HoldsPair w.risen.items l k). s.risen l k was)
-      (λ (is : (line ≡ l) × (e ≡ k)). subst (λ (n : ℕ). IsPast f touches r.lines n k) is.0 (subst (λ (n : ℕ). IsPast f touches r.lines line n) is.1 past))
-      (pair-either w.risen.items (line, e) l k (subst (λ (xs : List (ℕ × ℕ)). HoldsPair xs l k) are h));
+        (λ (was : HoldsPair w.risen.items l k). s.risen l k was)
+        (λ (is : (line ≡ l) × (e ≡ k)). subst (λ (n : ℕ). IsPast f touches r.lines n k) is.0 (subst (λ (n : ℕ). IsPast f touches r.lines line n) is.1 past))
+        (pair-either w.risen.items (line, e) l k (subst (λ (xs : List (ℕ × ℕ)). HoldsPair xs l k) are h));
     entered = s.entered;
   }
 
@@ -141,16 +139,16 @@ module _ (p : Program) (f : FlowGraph) (c : ClassTable) (touches : ℕ → ℕ �
     found = s.found;
     opened = s.opened;
     lines = λ l k in_l in_k t. ⊎_elim
-      (λ (open' : (k ≡ e) × (line ≤ l)). ⊎_elim
+        (λ (open' : (k ≡ e) × (line ≤ l)). ⊎_elim
         (λ (more : line < l). inl (open'.0, omega arith))
         (λ (no_more : l ≤ line).
-          let low = open'.1 in
-          let same : l ≡ line = omega arith in
-          let clash : false ≡ true = sym t ∙ ap (λ (n : ℕ). touches (to f.graph n) l) open'.0 ∙ ap (touches (to f.graph e)) same ∙ touched in
-          absurd cc)
+        let low = open'.1 in
+        let same : l ≡ line = omega arith in
+        let clash : false ≡ true = sym t ∙ ap (λ (n : ℕ). touches (to f.graph n) l) open'.0 ∙ ap (touches (to f.graph e)) same ∙ touched in
+        absurd cc)
         (cases_lt line l))
-      (λ h. inr h)
-      (s.lines l k in_l in_k t);
+        (λ h. inr h)
+        (s.lines l k in_l in_k t);
     pieces = s.pieces;
     listed = s.listed;
     risen = s.risen;
@@ -163,9 +161,9 @@ module _ (p : Program) (f : FlowGraph) (c : ClassTable) (touches : ℕ → ℕ �
     found = s.found;
     opened = s.opened;
     lines = λ l k in_l in_k t. ⊎_elim
-      (λ (open' : (k ≡ e) × (line ≤ l)). let low = open'.1 in absurd (omega arith))
-      (λ h. inr h)
-      (s.lines l k in_l in_k t);
+        (λ (open' : (k ≡ e) × (line ≤ l)). let low = open'.1 in absurd (omega arith))
+        (λ h. inr h)
+        (s.lines l k in_l in_k t);
     pieces = s.pieces;
     listed = s.listed;
     risen = s.risen;

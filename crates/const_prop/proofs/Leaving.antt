@@ -1,5 +1,5 @@
 -- The lines that a piece touches go on.
-use Rattle.std.proofs.Common.{◌≡◌, ◌≢◌, ◌⊎◌, ◌<◌, ◌≤◌, ◌+◌, ℕ, Bool, true, false, ◌&&◌, cond, List, [], length, get_or, Option, ℤ, refl, sym, ap, subst, ◌∙◌, inl, inr, ⊎_elim, arith}
+use Rattle.std.proofs.Common.{◌≡◌, ◌⊎◌, ◌<◌, ◌≤◌, ◌+◌, ℕ, Bool, true, false, ◌&&◌, List, length, get_or, Option, ℤ, refl, sym, ap, subst, ◌∙◌, inl, inr, ⊎_elim, arith}
 use Rattle.std.proofs.lemmas.Bool.{cases_lt}
 use Rattle.closed_walks.specs.Graph.{edge_count, to}
 use Rattle.f77_tree.specs.declared.programs.ExecKind.{ExecKind}
@@ -10,16 +10,15 @@ use Rattle.alias_classes.specs.Classes.{ClassTable}
 use Rattle.cfg_build.specs.Joined.{FlowGraph}
 use Rattle.dep_routing.specs.Routing.{Routing, next_at}
 use Rattle.const_prop.specs.declared.known.Known.{Known}
-use Rattle.const_prop.specs.declared.known.Known.TheVariants.{Nothing, One, Any}
 use Rattle.const_prop.specs.declared.work.Work.{Work}
-use Rattle.const_prop.specs.Closed.{IsClosed, IsReady, IsWay, WritesBehind, is_switch, is_sure, is_one_word, led_to, kind_behind, exec_behind, written, written_behind, words_on, decided_behind}
-use Rattle.const_prop.specs.Known.{AtMost, IsSomething, IsNotOne, as_known}
+use Rattle.const_prop.specs.Closed.{IsClosed, IsReady, IsWay, WritesBehind, is_switch, is_one_word, led_to, kind_behind, exec_behind, written, written_behind, words_on, decided_behind}
+use Rattle.const_prop.specs.Known.{AtMost, IsNotOne}
 use Rattle.const_prop.specs.Setting.{IsTouchedRow}
 use Rattle.const_prop.specs.Table.{Knowns}
-use Rattle.const_prop.specs.Work.{so_far, is_waiting, work_left, Rises, IsFound, IsLeft, IsSeenFor, IsSeen, IsSettling, no_line, this_piece}
+use Rattle.const_prop.specs.Work.{so_far, is_waiting, Rises, IsFound, IsLeft, IsSeenFor, IsSeen}
 use Rattle.const_prop.proofs.Order.{at_most-trans, at_most-is, something-more, kind_allows-more}
 use Rattle.const_prop.proofs.Readiness.{line_at}
-use Rattle.const_prop.proofs.Settling.{seen-on, stays_or_waits, led_inside, same_way}
+use Rattle.const_prop.proofs.Settling.{seen-on, stays_or_waits, same_way}
 use Rattle.const_prop.proofs.Under.{IsUnder, AreCovered, written-less}
 
 and_false : (b : Bool) → (b && false) ≡ false
@@ -60,11 +59,11 @@ module _ (p : Program) (f : FlowGraph) (c : ClassTable) (touches : ℕ → ℕ �
       let led = led_to f r e line i in
       ⊎_elim
       (λ (is : WritesBehind p f c e line × (known ≡ written_behind p f c t e line)).
-        subst (λ (k : Known). AtMost k (b.value line led)) (sym is.1)
-        (at_most-trans (written_behind p f c t e line) (written_behind p f c b e line) (b.value line led) (written-less p f c touches r.lines a t b e edge under line is.0) (closed.writes e line i there way_b l x is.0)))
+      subst (λ (k : Known). AtMost k (b.value line led)) (sym is.1)
+      (at_most-trans (written_behind p f c t e line) (written_behind p f c b e line) (b.value line led) (written-less p f c touches r.lines a t b e edge under line is.0) (closed.writes e line i there way_b l x is.0)))
       (λ (is_not : (WritesBehind p f c e line → ⊥) × (known ≡ t.value line e)).
-        subst (λ (k : Known). AtMost k (b.value line led)) (sym is_not.1)
-        (at_most-trans (t.value line e) (b.value line e) (b.value line led) (below.value line e l edge) (closed.reads e line i there way_b l x is_not.0)))
+      subst (λ (k : Known). AtMost k (b.value line led)) (sym is_not.1)
+      (at_most-trans (t.value line e) (b.value line e) (b.value line led) (below.value line e l edge) (closed.reads e line i there way_b l x is_not.0)))
       leaves
 
   pub left-one : (t : Knowns) (e line : ℕ) (known : Known) → e < edge_count f.graph → IsFound p f c touches r t → line < r.lines → LeavesOn t e line known → is_one_word c line ≡ false → IsNotOne known
@@ -85,17 +84,17 @@ module _ (p : Program) (f : FlowGraph) (c : ClassTable) (touches : ℕ → ℕ �
     seen-more items i known ready leaves sent before = ⊎_elim
         (λ (waits : is_waiting old e ≡ true). inl (rises.waiting e waits))
         (λ (seen : IsSeenFor p f c touches r (Among items i) (at old) e). ⊎_elim
-          (λ (waits : is_waiting new e ≡ true). inl waits)
-          (λ (same : (line : ℕ) → line < r.lines → touches (to f.graph e) line ≡ true → (at new).value line e ≡ (at old).value line e).
-            let was = seen-on p f c touches r a two next old new rises found e edge same old_found (Among items i) seen in
-            inr (record {
-              decision = was.decision;
-              left = λ line k ready way l t m. ⊎_elim
-                (λ (low : m.0 < i). was.left line k ready way l t (m.0, low, m.2))
-                (λ (high : i ≤ m.0). last same line k ready way l t (high_is m.0 high m.1 m.2))
-                (cases_lt m.0 i);
-            }))
-          (stays_or_waits p f c touches r a two next old new rises found e edge))
+        (λ (waits : is_waiting new e ≡ true). inl waits)
+        (λ (same : (line : ℕ) → line < r.lines → touches (to f.graph e) line ≡ true → (at new).value line e ≡ (at old).value line e).
+        let was = seen-on p f c touches r a two next old new rises found e edge same old_found (Among items i) seen in
+        inr (record {
+          decision = was.decision;
+          left = λ line k ready way l t m. ⊎_elim
+              (λ (low : m.0 < i). was.left line k ready way l t (m.0, low, m.2))
+              (λ (high : i ≤ m.0). last same line k ready way l t (high_is m.0 high m.1 m.2))
+              (cases_lt m.0 i);
+        }))
+        (stays_or_waits p f c touches r a two next old new rises found e edge))
         before
       where
         high_is : {line : ℕ} (n : ℕ) → i ≤ n → n < i + 1 → get_or items n 0 ≡ line → get_or items i 0 ≡ line
@@ -110,14 +109,14 @@ module _ (p : Program) (f : FlowGraph) (c : ClassTable) (touches : ℕ → ℕ �
             let led = led_to f r e line k in
             record {
               writes = λ w. ⊎_elim
-                (λ (x : WritesBehind p f c e line × (known ≡ written_behind p f c (at old) e line)).
+                  (λ (x : WritesBehind p f c e line × (known ≡ written_behind p f c (at old) e line)).
                   at_most-trans (written_behind p f c (at new) e line) (written_behind p f c (at old) e line) ((at new).value line led) (written-less p f c touches r.lines a (at new) (at old) e edge under line w) (subst (λ (q : Known). AtMost q ((at new).value line led)) x.1 here))
-                (λ (x : (WritesBehind p f c e line → ⊥) × (known ≡ (at old).value line e)). absurd (x.0 w))
-                on;
+                  (λ (x : (WritesBehind p f c e line → ⊥) × (known ≡ (at old).value line e)). absurd (x.0 w))
+                  on;
               reads = λ n. ⊎_elim
-                (λ (x : WritesBehind p f c e line × (known ≡ written_behind p f c (at old) e line)). absurd (n x.0))
-                (λ (x : (WritesBehind p f c e line → ⊥) × (known ≡ (at old).value line e)). subst (λ (q : Known). AtMost q ((at new).value line led)) (x.1 ∙ sym (same line l t)) here)
-                on;
+                  (λ (x : WritesBehind p f c e line × (known ≡ written_behind p f c (at old) e line)). absurd (n x.0))
+                  (λ (x : (WritesBehind p f c e line → ⊥) × (known ≡ (at old).value line e)). subst (λ (q : Known). AtMost q ((at new).value line led)) (x.1 ∙ sym (same line l t)) here)
+                  on;
             }
 
   -- all lines of the row are all that the piece touches

@@ -1,9 +1,8 @@
 -- The opening of a table.
-use Rattle.std.proofs.Common.{◌≡◌, ◌≢◌, ◌⊎◌, ◌<◌, ◌≤◌, ◌+◌, ◌*◌, ◌||◌, ℕ, zero, suc, Bool, true, false, List, [], ◌∷◌, ◌++◌, length, get_or, replicate, refl, sym, ap, subst, ◌∙◌, inl, inr, ⊎_elim, arith}
-use Rattle.std.proofs.lemmas.Bool.{cases_Bool, cases_lt}
+use Rattle.std.proofs.Common.{◌≡◌, ◌⊎◌, ◌<◌, ◌≤◌, ◌+◌, ◌*◌, ℕ, Bool, true, false, List, length, get_or, replicate, sym, ap, subst, ◌∙◌, inl, inr, ⊎_elim, arith}
+use Rattle.std.proofs.lemmas.Bool.{cases_lt}
 use Rattle.std.proofs.lemmas.List.{get_or-replicate, get_or_past, length-replicate}
-use Rattle.closed_walks.specs.Graph.{edge_count, to}
-use Rattle.closed_walks.specs.Walk.{Holds}
+use Rattle.closed_walks.specs.Graph.{edge_count}
 use Rattle.f77_tree.specs.declared.programs.Program.{Program}
 use Rattle.f77_tree.specs.Value.{word_at}
 use Rattle.alias_classes.specs.Classes.{ClassTable, class_of_word}
@@ -41,11 +40,11 @@ module _ (p : Program) (f : FlowGraph) (c : ClassTable) (touches : ℕ → ℕ �
         lines = λ line e l k t. inr (inr (λ i way kind wire. subst (λ (x : Known). AtMost x ((at w).value line (Rattle.const_prop.specs.Closed.led_to f r e line i))) (sym (value line e)) tt));
         pieces = λ e k. inr (inl (ap (λ (xs : List Bool). get_or xs e false) b.waits ∙ get_or-replicate (edge_count f.graph) e true false k));
         listed = λ e waits. ⊎_elim
-          (λ (l : e < edge_count f.graph). b.entered e l)
-          (λ (past : edge_count f.graph ≤ e).
+            (λ (l : e < edge_count f.graph). b.entered e l)
+            (λ (past : edge_count f.graph ≤ e).
             let off : get_or (replicate (edge_count f.graph) true) e false ≡ false = get_or_past (replicate (edge_count f.graph) true) e false (let size = length-replicate {A = Bool} (edge_count f.graph) true in omega (arith, size, past)) in
             let clash : true ≡ false = sym waits ∙ ap (λ (xs : List Bool). get_or xs e false) b.waits ∙ off in absurd cc)
-          (cases_lt e (edge_count f.graph));
+            (cases_lt e (edge_count f.graph));
         risen = λ line e h. absurd (subst (λ (xs : List (ℕ × ℕ)). Rattle.const_prop.specs.Work.HoldsPair xs line e) b.risen h);
         entered = b.edges;
       }
@@ -58,14 +57,14 @@ module _ (p : Program) (f : FlowGraph) (c : ClassTable) (touches : ℕ → ℕ �
     opened = record {
       initial = s.opened.initial;
       others = λ k l m several. ⊎_elim
-        (λ (low : k < line). s.opened.others k l low several)
-        (λ (high : line ≤ k).
+          (λ (low : k < line). s.opened.others k l low several)
+          (λ (high : line ≤ k).
           let is : k ≡ line = omega arith in
           ⊎_elim
           (λ (one : is_one_word c line ≡ true). let clash : true ≡ false = sym one ∙ ap (is_one_word c) (sym is) ∙ several in absurd cc)
           (λ (done : AtMost Any ((at w).value line (next_at r line 1))). subst (λ (n : ℕ). AtMost Any ((at w).value n (next_at r n 1))) (sym is) done)
           here)
-        (cases_lt k line);
+          (cases_lt k line);
     };
     lines = s.lines;
     pieces = s.pieces;
@@ -80,14 +79,14 @@ module _ (p : Program) (f : FlowGraph) (c : ClassTable) (touches : ℕ → ℕ �
     found = s.found;
     opened = record {
       initial = λ k l m one. ⊎_elim
-        (λ (low : k < word). s.opened.initial k l low one)
-        (λ (high : word ≤ k).
+          (λ (low : k < word). s.opened.initial k l low one)
+          (λ (high : word ≤ k).
           let is : k ≡ word = omega arith in
           ⊎_elim
           (λ (several : is_one_word c (class_of_word c word) ≡ false). let clash : true ≡ false = sym one ∙ ap (λ (n : ℕ). is_one_word c (class_of_word c n)) is ∙ several in absurd cc)
           (λ (done : AtMost (One (word_at p.initial word)) ((at w).value (class_of_word c word) (next_at r (class_of_word c word) 1))). subst (λ (n : ℕ). AtMost (One (word_at p.initial n)) ((at w).value (class_of_word c n) (next_at r (class_of_word c n) 1))) (sym is) done)
           here)
-        (cases_lt k word);
+          (cases_lt k word);
       others = s.opened.others;
     };
     lines = s.lines;

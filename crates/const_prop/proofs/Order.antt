@@ -1,11 +1,10 @@
 -- The order of what is known.
-use Rattle.std.proofs.Common.{◌≡◌, ◌≢◌, ◌⊎◌, ◌<◌, ◌≤◌, ◌+◌, ℕ, ℤ, pos, Bool, true, false, Option, Some, None, cond, refl, sym, ap, subst, ◌∙◌, inl, inr, ⊎_elim, arith}
-use Rattle.std.proofs.lemmas.Bool.{cases_Bool}
+use Rattle.std.proofs.Common.{◌≡◌, ◌≢◌, ℕ, ℤ, Some, None, refl, sym, ap, subst, ◌∙◌, arith}
 use Rattle.const_prop.specs.declared.known.Known.{Known}
 use Rattle.const_prop.specs.declared.known.Known.TheVariants.{Nothing, One, Any}
 use Rattle.const_prop.specs.Closed.{Allows, KindAllows}
-use Rattle.const_prop.specs.Known.{AtMost, IsSomething, IsNotOne, one_of, as_known, as_index}
-use Rattle.const_prop.specs.Work.{IsRise, room}
+use Rattle.const_prop.specs.Known.{AtMost, IsSomething, one_of}
+use Rattle.const_prop.specs.Work.{IsRise}
 use Rattle.cfg_build.specs.declared.pieces.PieceKind.{PieceKind}
 use Rattle.cfg_build.specs.declared.pieces.PieceKind.TheVariants.{Start, Act, Pass, Branch, Join, Hold, End}
 

@@ -1,8 +1,8 @@
 -- How a table in the making rises.
-use Rattle.std.proofs.Common.{◌≡◌, ◌≢◌, ◌⊎◌, ◌<◌, ◌≤◌, ◌+◌, ◌*◌, ℕ, zero, suc, Bool, true, false, List, [], ◌∷◌, ◌++◌, length, get_or, set, sum_by, refl, sym, ap, subst, ◌∙◌, inl, inr, ⊎_elim, arith, length-set, length-append}
-use Rattle.std.proofs.lemmas.Bool.{cases_eq, cases_Bool}
+use Rattle.std.proofs.Common.{◌≡◌, ◌≢◌, ◌⊎◌, ◌<◌, ◌≤◌, ◌+◌, ◌*◌, ℕ, Bool, true, false, List, [], ◌∷◌, ◌++◌, length, get_or, set, sum_by, refl, sym, ap, subst, ◌∙◌, inl, inr, ⊎_elim, arith, length-set, length-append}
+use Rattle.std.proofs.lemmas.Bool.{cases_eq}
 use Rattle.std.proofs.lemmas.Grind.{get_or-set_at}
-use Rattle.std.proofs.lemmas.List.{get_or_read, get_or-set_other}
+use Rattle.std.proofs.lemmas.List.{get_or-set_other}
 use Rattle.std.proofs.lemmas.List.Sums.{sum_by-set}
 use Rattle.closed_walks.specs.Graph.{edge_count, to}
 use Rattle.closed_walks.specs.Walk.{Holds}
@@ -11,12 +11,12 @@ use Rattle.alias_classes.specs.Classes.{ClassTable}
 use Rattle.cfg_build.specs.Joined.{FlowGraph}
 use Rattle.dep_routing.specs.Routing.{Routing}
 use Rattle.const_prop.specs.declared.known.Known.{Known}
-use Rattle.const_prop.specs.declared.known.Known.TheVariants.{Nothing, One, Any}
+use Rattle.const_prop.specs.declared.known.Known.TheVariants.{Nothing}
 use Rattle.const_prop.specs.declared.work.Work.{Work}
 use Rattle.const_prop.specs.Closed.{IsClosed, is_one_word}
 use Rattle.const_prop.specs.Known.{AtMost, IsNotOne}
-use Rattle.const_prop.specs.Table.{Knowns, IsBelow, knowns}
-use Rattle.const_prop.specs.Work.{room, IsRise, HoldsPair, so_far, is_waiting, work_left, IsSized, Rises, IsFound}
+use Rattle.const_prop.specs.Table.{Knowns}
+use Rattle.const_prop.specs.Work.{room, IsRise, HoldsPair, so_far, is_waiting, IsSized, Rises, IsFound}
 use Rattle.const_prop.proofs.Cells.{cell_inside, one_cell}
 use Rattle.const_prop.proofs.Order.{at_most-refl, at_most-is, at_most-trans}
 use Rattle.const_prop.proofs.Rows.{Holds-left, Holds-right, Holds-append}
@@ -113,7 +113,7 @@ module _ (f : FlowGraph) (touches : ℕ → ℕ → Bool) (lines : ℕ) where
     pub raised-grows : (l e : ℕ) → l < lines → e < edges → AtMost (at old l e) (at new l e)
     raised-grows l e in_l in_e = ⊎_elim
         (λ (here : (l ≡ line) × (e ≡ edge)).
-          subst (λ (k : Known). AtMost k (at new l e)) (sym (raised-old l e here.0 here.1)) (subst (λ (k : Known). AtMost (at old line edge) k) (sym (raised-new l e here.0 here.1)) r.rise.grows))
+        subst (λ (k : Known). AtMost k (at new l e)) (sym (raised-old l e here.0 here.1)) (subst (λ (k : Known). AtMost (at old line edge) k) (sym (raised-new l e here.0 here.1)) r.rise.grows))
         (λ (other : (l ≡ line) × (e ≡ edge) → ⊥). at_most-is (at old l e) (at new l e) (sym (raised-other l e in_e other)))
         (here_or_not l e)
 
@@ -213,20 +213,20 @@ module _ (p : Program) (f : FlowGraph) (c : ClassTable) (touches : ℕ → ℕ �
       → IsFound p f c touches r (so_far (edge_count f.graph) new)
   found-raised old new line edge comes known raised same found due one = record {
     words = λ l e in_l in_e not_one. ⊎_elim
-      (λ (here : (l ≡ line) × (e ≡ edge)).
+        (λ (here : (l ≡ line) × (e ≡ edge)).
         let not_here : is_one_word c line ≡ false = subst (λ (n : ℕ). is_one_word c n ≡ false) here.0 not_one in
         subst IsNotOne (sym (raised-new f touches r.lines old new line edge comes known raised l e here.0 here.1)) (raised.rise.one (found.words line edge raised.line_in raised.edge_in not_here) (one not_here)))
-      (λ (other : (l ≡ line) × (e ≡ edge) → ⊥). subst IsNotOne (sym (raised-other f touches r.lines old new line edge comes known raised l e in_e other)) (found.words l e in_l in_e not_one))
-      (here_or_not f touches r.lines old new line edge comes known raised l e);
+        (λ (other : (l ≡ line) × (e ≡ edge) → ⊥). subst IsNotOne (sym (raised-other f touches r.lines old new line edge comes known raised l e in_e other)) (found.words l e in_l in_e not_one))
+        (here_or_not f touches r.lines old new line edge comes known raised l e);
     below = λ b closed. let was = found.below b closed in record {
       value = λ l e in_l in_e. ⊎_elim
-        (λ (here : (l ≡ line) × (e ≡ edge)).
+          (λ (here : (l ≡ line) × (e ≡ edge)).
           subst (λ (k : Known). AtMost k (b.value l e)) (sym (raised-new f touches r.lines old new line edge comes known raised l e here.0 here.1))
-            (raised.rise.least (b.value l e)
-              (subst (λ (k : Known). AtMost k (b.value l e)) (raised-old f touches r.lines old new line edge comes known raised l e here.0 here.1) (was.value l e in_l in_e))
-              (subst (λ (n : ℕ). AtMost comes (b.value n e)) (sym here.0) (subst (λ (n : ℕ). AtMost comes (b.value line n)) (sym here.1) (due b closed)))))
-        (λ (other : (l ≡ line) × (e ≡ edge) → ⊥). subst (λ (k : Known). AtMost k (b.value l e)) (sym (raised-other f touches r.lines old new line edge comes known raised l e in_e other)) (was.value l e in_l in_e))
-        (here_or_not f touches r.lines old new line edge comes known raised l e);
+          (raised.rise.least (b.value l e)
+          (subst (λ (k : Known). AtMost k (b.value l e)) (raised-old f touches r.lines old new line edge comes known raised l e here.0 here.1) (was.value l e in_l in_e))
+          (subst (λ (n : ℕ). AtMost comes (b.value n e)) (sym here.0) (subst (λ (n : ℕ). AtMost comes (b.value line n)) (sym here.1) (due b closed)))))
+          (λ (other : (l ≡ line) × (e ≡ edge) → ⊥). subst (λ (k : Known). AtMost k (b.value l e)) (sym (raised-other f touches r.lines old new line edge comes known raised l e in_e other)) (was.value l e in_l in_e))
+          (here_or_not f touches r.lines old new line edge comes known raised l e);
       decision = λ piece inside. subst (λ (xs : List Known). AtMost (get_or xs piece Nothing) (b.decision piece)) (sym same) (was.decision piece inside);
     };
   }

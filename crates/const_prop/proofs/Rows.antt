@@ -1,6 +1,6 @@
 -- Rows of numbers, and what they hold.
-use Rattle.std.proofs.Common.{◌≡◌, ◌≢◌, ℕ, zero, suc, ◌+◌, ◌<◌, ◌≤◌, ◌⊎◌, ◌↔◌, Bool, true, false, ◌==◌, ◌||◌, not, ◌&&◌, List, [], ◌∷◌, ◌++◌, length, take, get_or, filter, count_by, Option, Some, None, slice_get, refl, sym, ap, ◌∙◌, inl, inr, ⊎_elim, subst, arith, add-one, append-nil}
-use Rattle.std.proofs.lemmas.Bool.{cases_lt, cases_Bool, eqb-true, or_left, or_right, false_from_ne_true}
+use Rattle.std.proofs.Common.{◌≡◌, ℕ, zero, suc, ◌+◌, ◌<◌, ◌≤◌, ◌⊎◌, Bool, true, false, ◌==◌, ◌||◌, List, [], ◌∷◌, ◌++◌, length, get_or, filter, Some, slice_get, refl, sym, ap, ◌∙◌, inl, inr, ⊎_elim, subst, arith, append-nil}
+use Rattle.std.proofs.lemmas.Bool.{cases_lt, cases_Bool, eqb-true}
 use Rattle.std.proofs.lemmas.List.Elements.{filter-append}
 use Rattle.std.specs.List.{range_with_len}
 use Rattle.class_set.specs.ClassSet.{holds}
@@ -76,13 +76,13 @@ module _ (touches : ℕ → ℕ → Bool) (node : ℕ) where
   pub touched-more : (k : ℕ) (row : List ℕ) → touches node k ≡ true → IsTouchedRow touches k node row → IsTouchedRow touches (k + 1) node (row ++ k ∷ [])
   touched-more k row is before line = (
     λ h. ⊎_elim
-      (λ (h : Holds row line). let old = (before line).0 h in let l : line < k = old.0 in (omega arith, old.1))
-      (λ (h : Holds (k ∷ []) line). ⊎_elim (λ (same : k ≡ line). (omega arith, subst (λ n. touches node n ≡ true) same is)) (λ no. absurd no) h)
-      (Holds-append row (k ∷ []) line h),
+        (λ (h : Holds row line). let old = (before line).0 h in let l : line < k = old.0 in (omega arith, old.1))
+        (λ (h : Holds (k ∷ []) line). ⊎_elim (λ (same : k ≡ line). (omega arith, subst (λ n. touches node n ≡ true) same is)) (λ no. absurd no) h)
+        (Holds-append row (k ∷ []) line h),
     λ h. let l : line < k + 1 = h.0 in ⊎_elim
-      (λ (l : line < k). Holds-left row (k ∷ []) line ((before line).1 (l, h.1)))
-      (λ (past : k ≤ line). Holds-right row (k ∷ []) line (inl (omega arith)))
-      (cases_lt line k)
+        (λ (l : line < k). Holds-left row (k ∷ []) line ((before line).1 (l, h.1)))
+        (λ (past : k ≤ line). Holds-right row (k ∷ []) line (inl (omega arith)))
+        (cases_lt line k),
   )
 
   -- one line more, which isn't
@@ -90,9 +90,9 @@ module _ (touches : ℕ → ℕ → Bool) (node : ℕ) where
   touched-skip k row is_not before line = (
     λ h. let old = (before line).0 h in let l : line < k = old.0 in (omega arith, old.1),
     λ h. let l : line < k + 1 = h.0 in ⊎_elim
-      (λ (l : line < k). (before line).1 (l, h.1))
-      (λ (past : k ≤ line). let same : line ≡ k = omega arith in let no : true ≡ false = sym h.1 ∙ ap (touches node) same ∙ is_not in absurd cc)
-      (cases_lt line k)
+        (λ (l : line < k). (before line).1 (l, h.1))
+        (λ (past : k ≤ line). let same : line ≡ k = omega arith in let no : true ≡ false = sym h.1 ∙ ap (touches node) same ∙ is_not in absurd cc)
+        (cases_lt line k),
   )
 
 first-or-rest : (test : ℕ → Bool) (x : ℕ) (xs : List ℕ) → test x ≡ true → ((i : ℕ) → i < length (filter test xs) → (test (get_or (filter test xs) i 0) ≡ true) × Holds xs (get_or (filter test xs) i 0)) → (i : ℕ) → i < length (x ∷ filter test xs) → (test (get_or (x ∷ filter test xs) i 0) ≡ true) × Holds (x ∷ xs) (get_or (x ∷ filter test xs) i 0)
@@ -124,11 +124,11 @@ outs-edge g node i l =
 pub numbers-more : (n : ℕ) (xs : List ℕ) → AreBelow n xs → AreBelow (n + 1) (xs ++ n ∷ [])
 numbers-more n xs are = record {
   all = λ e l. ⊎_elim
-    (λ (low : e < n). Holds-left xs (n ∷ []) e (are.all e low))
-    (λ (high : n ≤ e). Holds-right xs (n ∷ []) e (inl (omega arith)))
-    (cases_lt e n);
+      (λ (low : e < n). Holds-left xs (n ∷ []) e (are.all e low))
+      (λ (high : n ≤ e). Holds-right xs (n ∷ []) e (inl (omega arith)))
+      (cases_lt e n);
   below = λ e h. ⊎_elim
-    (λ (old : Holds xs e). let l = are.below e old in omega (arith, l))
-    (λ (new : Holds (n ∷ []) e). ⊎_elim (λ (is : n ≡ e). omega (arith, is)) (λ (no' : ⊥). absurd no') new)
-    (Holds-append xs (n ∷ []) e h);
+      (λ (old : Holds xs e). let l = are.below e old in omega (arith, l))
+      (λ (new : Holds (n ∷ []) e). ⊎_elim (λ (is : n ≡ e). omega (arith, is)) (λ (no' : ⊥). absurd no') new)
+      (Holds-append xs (n ∷ []) e h);
 }

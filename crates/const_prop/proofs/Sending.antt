@@ -1,23 +1,20 @@
 -- A line is sent along out-edges.
-use Rattle.std.proofs.Common.{◌≡◌, ◌≢◌, ◌⊎◌, ◌<◌, ◌≤◌, ◌+◌, ℕ, Bool, true, false, List, [], length, get_or, refl, sym, ap, subst, ◌∙◌, inl, inr, ⊎_elim, arith}
-use Rattle.std.specs.Prelude.{IsTrue, ◌↔◌}
+use Rattle.std.proofs.Common.{◌≡◌, ◌<◌, ◌≤◌, ◌+◌, ℕ, Bool, true, false, List, [], length, get_or, sym, ap, subst, ◌∙◌, ⊎_elim, arith}
+use Rattle.std.specs.Prelude.{IsTrue}
 use Rattle.std.proofs.lemmas.Bool.{cases_lt}
 use Rattle.std.proofs.lemmas.List.{get_or_read}
-use Rattle.class_set.specs.declared.ClassSet.{ClassSet}
 use Rattle.closed_walks.specs.Graph.{edge_count, to}
-use Rattle.f77_tree.specs.declared.programs.Program.{Program}
-use Rattle.alias_classes.specs.Classes.{ClassTable}
 use Rattle.cfg_build.specs.declared.pieces.PieceKind.{PieceKind}
 use Rattle.cfg_build.specs.Joined.{FlowGraph}
 use Rattle.cfg_build.specs.Passes.{outs}
 use Rattle.cfg_build.specs.Shape.{kind_at}
-use Rattle.dep_routing.specs.Routing.{Routing, next_at}
+use Rattle.dep_routing.specs.Routing.{Routing}
 use Rattle.const_prop.specs.declared.known.Known.{Known}
 use Rattle.const_prop.specs.declared.known.Known.TheVariants.{Nothing}
 use Rattle.const_prop.specs.declared.work.Work.{Work}
-use Rattle.const_prop.specs.Closed.{KindAllows, kind_behind, led_to, IsWay}
+use Rattle.const_prop.specs.Closed.{KindAllows, led_to, IsWay}
 use Rattle.const_prop.specs.Known.{AtMost}
-use Rattle.const_prop.specs.Setting.{AreLines, AreOuts}
+use Rattle.const_prop.specs.Setting.{AreOuts}
 use Rattle.const_prop.specs.Work.{Rises, so_far}
 use Rattle.const_prop.proofs.Order.{at_most-trans}
 use Rattle.const_prop.proofs.Rows.{outs-edge}

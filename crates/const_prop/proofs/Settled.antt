@@ -1,7 +1,7 @@
 -- What waits is taken, and where nothing waits the table is closed.
-use Rattle.std.proofs.Common.{◌≡◌, ◌≢◌, ◌⊎◌, ◌<◌, ◌≤◌, ◌+◌, ◌*◌, ◌||◌, ℕ, zero, suc, Bool, true, false, List, [], ◌∷◌, ◌++◌, length, get_or, set, replicate, Vec, Global, refl, sym, ap, subst, ◌∙◌, inl, inr, ⊎_elim, arith, length-set, length-append}
+use Rattle.std.proofs.Common.{◌≡◌, ◌≢◌, ◌<◌, ℕ, Bool, true, false, List, [], ◌∷◌, ◌++◌, get_or, set, Vec, Global, refl, sym, ap, subst, ◌∙◌, inl, inr, ⊎_elim, arith, length-set}
 use Rattle.std.specs.Vec.{with_item}
-use Rattle.std.proofs.lemmas.Bool.{cases_Bool, cases_eq, or_left, or_right}
+use Rattle.std.proofs.lemmas.Bool.{cases_eq, or_left, or_right}
 use Rattle.std.proofs.lemmas.Grind.{get_or-set_at}
 use Rattle.std.proofs.lemmas.List.{get_or-set_other}
 use Rattle.closed_walks.specs.Graph.{edge_count, to}
@@ -9,12 +9,11 @@ use Rattle.closed_walks.specs.Walk.{Holds}
 use Rattle.f77_tree.specs.declared.programs.Program.{Program}
 use Rattle.alias_classes.specs.Classes.{ClassTable}
 use Rattle.cfg_build.specs.Joined.{FlowGraph}
-use Rattle.dep_routing.specs.Routing.{Routing, next_at}
-use Rattle.const_prop.specs.declared.known.Known.{Known}
+use Rattle.dep_routing.specs.Routing.{Routing}
 use Rattle.const_prop.specs.declared.work.Work.{Work}
-use Rattle.const_prop.specs.Closed.{IsClosed, IsConstants, IsReady, IsWay, is_switch, is_merge, kind_behind}
+use Rattle.const_prop.specs.Closed.{IsConstants, is_switch, is_merge, kind_behind}
 use Rattle.const_prop.specs.Table.{Knowns}
-use Rattle.const_prop.specs.Work.{so_far, is_waiting, HoldsPair, IsSized, IsPast, IsFound, IsPassedOn, IsLeft, IsSeen, IsSettling, no_line, no_piece, this_line, this_piece}
+use Rattle.const_prop.specs.Work.{so_far, is_waiting, HoldsPair, IsPast, IsPassedOn, IsSeen, IsSettling, no_line, no_piece, this_line, this_piece}
 use Rattle.const_prop.proofs.Rising.{pair-left, pair-last, pair-either}
 use Rattle.const_prop.proofs.Rows.{Holds-left, Holds-right, Holds-append}
 
@@ -32,15 +31,15 @@ module _ (p : Program) (f : FlowGraph) (c : ClassTable) (touches : ℕ → ℕ �
     found = s.found;
     opened = s.opened;
     lines = λ l k in_l in_k t. ⊎_elim
-      (λ (no' : ⊥). absurd no')
-      (λ h. ⊎_elim
+        (λ (no' : ⊥). absurd no')
+        (λ h. ⊎_elim
         (λ (waits : HoldsPair w.risen.items l k). ⊎_elim
-          (λ (still : HoldsPair v.items l k). inr (inl still))
-          (λ (is : (line ≡ l) × (e ≡ k)). inl (sym is.0, sym is.1))
-          (pair-either v.items (line, e) l k (subst (λ (xs : List (ℕ × ℕ)). HoldsPair xs l k) are waits)))
+        (λ (still : HoldsPair v.items l k). inr (inl still))
+        (λ (is : (line ≡ l) × (e ≡ k)). inl (sym is.0, sym is.1))
+        (pair-either v.items (line, e) l k (subst (λ (xs : List (ℕ × ℕ)). HoldsPair xs l k) are waits)))
         (λ (passed : IsPassedOn p f c touches r (at w) l k). inr (inr passed))
         h)
-      (s.lines l k in_l in_k t);
+        (s.lines l k in_l in_k t);
     pieces = s.pieces;
     listed = s.listed;
     risen = λ l k h. s.risen l k (subst (λ (xs : List (ℕ × ℕ)). HoldsPair xs l k) (sym are) (pair-left v.items ((line, e) ∷ []) l k h));
@@ -59,19 +58,19 @@ module _ (p : Program) (f : FlowGraph) (c : ClassTable) (touches : ℕ → ℕ �
         opened = s.opened;
         lines = s.lines;
         pieces = λ k in_k. ⊎_elim
-          (λ (is : k ≡ e). inl is)
-          (λ (differ : k ≢ e). ⊎_elim
+            (λ (is : k ≡ e). inl is)
+            (λ (differ : k ≢ e). ⊎_elim
             (λ (no' : ⊥). absurd no')
             (λ h. inr (⊎_elim (λ (waits : is_waiting w k ≡ true). inl (other k differ ∙ waits)) (λ (seen : IsSeen p f c touches r (at w) k). inr seen) h))
             (s.pieces k in_k))
-          (cases_eq k e);
+            (cases_eq k e);
         listed = λ k waits. ⊎_elim
-          (λ (is : k ≡ e). let clash : true ≡ false = sym waits ∙ ap (λ (n : ℕ). get_or (set w.waits.items e false) n false) is ∙ off in absurd cc)
-          (λ (differ : k ≢ e). ⊎_elim
+            (λ (is : k ≡ e). let clash : true ≡ false = sym waits ∙ ap (λ (n : ℕ). get_or (set w.waits.items e false) n false) is ∙ off in absurd cc)
+            (λ (differ : k ≢ e). ⊎_elim
             (λ (h : Holds v.items k). h)
             (λ (h : Holds (e ∷ []) k). ⊎_elim (λ (same : e ≡ k). absurd (differ (sym same))) (λ (no' : ⊥). absurd no') h)
             (Holds-append v.items (e ∷ []) k (subst (λ (xs : List ℕ). Holds xs k) are (s.listed k (sym (other k differ) ∙ waits)))))
-          (cases_eq k e);
+            (cases_eq k e);
         risen = s.risen;
         entered = λ k h. s.entered k (subst (λ (xs : List ℕ). Holds xs k) (sym are) (Holds-left v.items (e ∷ []) k h));
       }
@@ -83,9 +82,9 @@ module _ (p : Program) (f : FlowGraph) (c : ClassTable) (touches : ℕ → ℕ �
     found = s.found;
     opened = s.opened;
     lines = λ l k in_l in_k t. ⊎_elim
-      (λ (no' : ⊥). absurd no')
-      (λ h. inr (⊎_elim (λ (waits : HoldsPair w.risen.items l k). inl (subst (λ (xs : List (ℕ × ℕ)). HoldsPair xs l k) same_risen waits)) (λ (passed : IsPassedOn p f c touches r (at w) l k). inr passed) h))
-      (s.lines l k in_l in_k t);
+        (λ (no' : ⊥). absurd no')
+        (λ h. inr (⊎_elim (λ (waits : HoldsPair w.risen.items l k). inl (subst (λ (xs : List (ℕ × ℕ)). HoldsPair xs l k) same_risen waits)) (λ (passed : IsPassedOn p f c touches r (at w) l k). inr passed) h))
+        (s.lines l k in_l in_k t);
     pieces = s.pieces;
     listed = λ e waits. subst (λ (xs : List ℕ). Holds xs e) same_entered (s.listed e waits);
     risen = λ l k h. s.risen l k (subst (λ (xs : List (ℕ × ℕ)). HoldsPair xs l k) (sym same_risen) h);
@@ -99,13 +98,13 @@ module _ (p : Program) (f : FlowGraph) (c : ClassTable) (touches : ℕ → ℕ �
   pub settled-constants : (w : Work) → ((e line : ℕ) → e < edge_count f.graph → is_merge (kind_behind f e) ≡ true → touches (to f.graph e) line ≡ false) → IsSettling p f c touches r no_line no_piece w → w.risen.items ≡ [] → w.entered.items ≡ [] → IsConstants p f c touches r (at w)
   settled-constants w merges s none_risen none_entered =
       let seen : (e : ℕ) → e < edge_count f.graph → IsSeen p f c touches r (at w) e = λ e k. ⊎_elim
-        (λ (no' : ⊥). absurd no')
-        (λ h. ⊎_elim (λ (waits : is_waiting w e ≡ true). absurd (subst (λ (xs : List ℕ). Holds xs e) none_entered (s.listed e waits))) (λ (seen : IsSeen p f c touches r (at w) e). seen) h)
-        (s.pieces e k) in
+      (λ (no' : ⊥). absurd no')
+      (λ h. ⊎_elim (λ (waits : is_waiting w e ≡ true). absurd (subst (λ (xs : List ℕ). Holds xs e) none_entered (s.listed e waits))) (λ (seen : IsSeen p f c touches r (at w) e). seen) h)
+      (s.pieces e k) in
       let passed : (line e : ℕ) → line < r.lines → e < edge_count f.graph → touches (to f.graph e) line ≡ false → IsPassedOn p f c touches r (at w) line e = λ line e l k t. ⊎_elim
-        (λ (no' : ⊥). absurd no')
-        (λ h. ⊎_elim (λ (waits : HoldsPair w.risen.items line e). absurd (subst (λ (xs : List (ℕ × ℕ)). HoldsPair xs line e) none_risen waits)) (λ (passed : IsPassedOn p f c touches r (at w) line e). passed) h)
-        (s.lines line e l k t) in
+      (λ (no' : ⊥). absurd no')
+      (λ h. ⊎_elim (λ (waits : HoldsPair w.risen.items line e). absurd (subst (λ (xs : List (ℕ × ℕ)). HoldsPair xs line e) none_risen waits)) (λ (passed : IsPassedOn p f c touches r (at w) line e). passed) h)
+      (s.lines line e l k t) in
       record {
         closed = record {
           words = s.found.words;

@@ -1,5 +1,5 @@
 -- Rules hold on as more is known, but for what waits.
-use Rattle.std.proofs.Common.{◌≡◌, ◌≢◌, ◌⊎◌, ◌<◌, ◌≤◌, ◌+◌, ◌*◌, ◌||◌, ℕ, zero, suc, Bool, true, false, List, [], ◌∷◌, ◌++◌, length, get_or, refl, sym, ap, subst, ◌∙◌, inl, inr, ⊎_elim, arith}
+use Rattle.std.proofs.Common.{◌≡◌, ◌⊎◌, ◌<◌, ◌||◌, ℕ, Bool, true, false, List, get_or, sym, subst, ◌∙◌, inl, inr, ⊎_elim}
 use Rattle.std.proofs.lemmas.Bool.{cases_Bool, or_cases}
 use Rattle.closed_walks.specs.Graph.{edge_count, to}
 use Rattle.closed_walks.specs.Walk.{Holds}
@@ -12,11 +12,11 @@ use Rattle.dep_routing.specs.Routing.{Routing, next_at, wire_at}
 use Rattle.const_prop.specs.declared.known.Known.{Known}
 use Rattle.const_prop.specs.declared.known.Known.TheVariants.{Nothing, One, Any}
 use Rattle.const_prop.specs.declared.work.Work.{Work}
-use Rattle.const_prop.specs.Closed.{IsClosed, IsReady, IsWay, KindAllows, is_one_word, is_switch, is_merge, kind_behind, led_to, WritesBehind, written_behind, decided_behind}
-use Rattle.const_prop.specs.Known.{AtMost, IsSomething, IsNotOne}
+use Rattle.const_prop.specs.Closed.{IsClosed, IsReady, IsWay, KindAllows, is_switch, is_merge, kind_behind, led_to, written_behind, decided_behind}
+use Rattle.const_prop.specs.Known.{AtMost, IsSomething}
 use Rattle.const_prop.specs.Table.{Knowns}
-use Rattle.const_prop.specs.Work.{so_far, is_waiting, HoldsPair, IsSized, IsPast, Rises, IsFound, IsOpenedFor, IsPassedOn, IsLeft, IsSeenFor, IsSeen, IsSettlingFrom, IsSettling, no_line, no_piece, this_line, this_piece}
-use Rattle.const_prop.proofs.Order.{at_most-refl, at_most-is, at_most-trans, kind_allows-more}
+use Rattle.const_prop.specs.Work.{so_far, is_waiting, HoldsPair, IsPast, Rises, IsFound, IsOpenedFor, IsPassedOn, IsSeenFor, IsSeen, IsSettlingFrom, IsSettling, no_line, no_piece, this_line, this_piece}
+use Rattle.const_prop.proofs.Order.{at_most-is, at_most-trans, kind_allows-more}
 use Rattle.const_prop.proofs.Rows.{outs-edge}
 use Rattle.const_prop.proofs.Under.{IsUnder, AreCovered, class_below, decided-less, written-less}
 
@@ -37,9 +37,9 @@ module _ (p : Program) (f : FlowGraph) (c : ClassTable) (touches : ℕ → ℕ �
     opened-on : (words lines : ℕ) → IsOpenedFor p f c touches r words lines (at old) → IsOpenedFor p f c touches r words lines (at new)
     opened-on words lines o = record {
       initial = λ word l m one.
-        let line = class_of_word c word in
-        let in_l : line < r.lines = class_below p f c touches r.lines a word in
-        at_most-trans (One (word_at p.initial word)) ((at old).value line (next_at r line 1)) ((at new).value line (next_at r line 1)) (o.initial word l m one) (grows line (next_at r line 1) in_l (next line 1 in_l two));
+          let line = class_of_word c word in
+          let in_l : line < r.lines = class_below p f c touches r.lines a word in
+          at_most-trans (One (word_at p.initial word)) ((at old).value line (next_at r line 1)) ((at new).value line (next_at r line 1)) (o.initial word l m one) (grows line (next_at r line 1) in_l (next line 1 in_l two));
       others = λ line l m one. at_most-trans Any ((at old).value line (next_at r line 1)) ((at new).value line (next_at r line 1)) (o.others line l m one) (grows line (next_at r line 1) l (next line 1 l two));
     }
 
@@ -62,17 +62,17 @@ module _ (p : Program) (f : FlowGraph) (c : ClassTable) (touches : ℕ → ℕ �
       pub seen-on : (among : ℕ → Type 0) → IsSeenFor p f c touches r among (at old) e → IsSeenFor p f c touches r among (at new) e
       seen-on among seen = record {
         decision = λ ready s.
-          at_most-trans (decided_behind p f c (at new) e) (decided_behind p f c (at old) e) ((at new).decision (to f.graph e)) (decided-less p f c touches r.lines a (at new) (at old) e k (under ready) s)
+            at_most-trans (decided_behind p f c (at new) e) (decided_behind p f c (at old) e) ((at new).decision (to f.graph e)) (decided-less p f c touches r.lines a (at new) (at old) e k (under ready) s)
             (subst (λ (ds : List Known). AtMost (decided_behind p f c (at old) e) (get_or ds (to f.graph e) Nothing)) (sym rises.decisions) (seen.decision (ready-back ready) s));
         left = λ line i ready way l t m.
-          let was = seen.left line i (ready-back ready) (same_way e i way) l t m in
-          let led = led_to f r e line i in
-          let inside = led_inside (at new) e line i way l in
-          record {
-            writes = λ is. at_most-trans (written_behind p f c (at new) e line) (written_behind p f c (at old) e line) ((at new).value line led) (written-less p f c touches r.lines a (at new) (at old) e k (under ready) line is)
-              (at_most-trans (written_behind p f c (at old) e line) ((at old).value line led) ((at new).value line led) (was.writes is) (grows line led l inside));
-            reads = λ is_not. subst (λ (x : Known). AtMost x ((at new).value line led)) (sym (same line l t)) (at_most-trans ((at old).value line e) ((at old).value line led) ((at new).value line led) (was.reads is_not) (grows line led l inside));
-          };
+            let was = seen.left line i (ready-back ready) (same_way e i way) l t m in
+            let led = led_to f r e line i in
+            let inside = led_inside (at new) e line i way l in
+            record {
+              writes = λ is. at_most-trans (written_behind p f c (at new) e line) (written_behind p f c (at old) e line) ((at new).value line led) (written-less p f c touches r.lines a (at new) (at old) e k (under ready) line is)
+                  (at_most-trans (written_behind p f c (at old) e line) ((at old).value line led) ((at new).value line led) (was.writes is) (grows line led l inside));
+              reads = λ is_not. subst (λ (x : Known). AtMost x ((at new).value line led)) (sym (same line l t)) (at_most-trans ((at old).value line e) ((at old).value line led) ((at new).value line led) (was.reads is_not) (grows line led l inside));
+            };
       }
 
     -- the touched lines on an edge stay, or it waits
@@ -88,19 +88,19 @@ module _ (p : Program) (f : FlowGraph) (c : ClassTable) (touches : ℕ → ℕ �
       found = found;
       opened = opened-on words lines s.opened;
       lines = λ line e l k t. ⊎_elim
-        (λ open'. inl open')
-        (λ h. ⊎_elim
+          (λ open'. inl open')
+          (λ h. ⊎_elim
           (λ (waits : HoldsPair old.risen.items line e). inr (inl (rises.kept line e waits)))
           (λ (passed : IsPassedOn p f c touches r (at old) line e). inr (⊎_elim (λ (waits : HoldsPair new.risen.items line e). inl waits) (λ (same : (at new).value line e ≡ (at old).value line e). inr (passed-on line e l k same passed)) (rises.passed line e l k t)))
           h)
-        (s.lines line e l k t);
+          (s.lines line e l k t);
       pieces = λ e k. ⊎_elim
-        (λ open'. inl open')
-        (λ h. ⊎_elim
+          (λ open'. inl open')
+          (λ h. ⊎_elim
           (λ (waits : is_waiting old e ≡ true). inr (inl (rises.waiting e waits)))
           (λ (seen : IsSeen p f c touches r (at old) e). inr (⊎_elim (λ (waits : is_waiting new e ≡ true). inl waits) (λ (same : (line : ℕ) → line < r.lines → touches (to f.graph e) line ≡ true → (at new).value line e ≡ (at old).value line e). inr (seen-on e k same s.found (λ line. Unit {0}) seen)) (stays_or_waits e k)))
           h)
-        (s.pieces e k);
+          (s.pieces e k);
       listed = λ e waits. ⊎_elim (λ (was : is_waiting old e ≡ true). rises.entered e (s.listed e was)) (λ (h : Holds new.entered.items e). h) (rises.listed e waits);
       risen = λ line e h. ⊎_elim (λ (was : HoldsPair old.risen.items line e). s.risen line e was) (λ (is : IsPast f touches r.lines line e). is) (rises.risen_before line e h);
       entered = λ e h. ⊎_elim (λ (was : Holds old.entered.items e). s.entered e was) (λ (is : e < edge_count f.graph). is) (rises.entered_before e h);
@@ -116,9 +116,9 @@ module _ (p : Program) (f : FlowGraph) (c : ClassTable) (touches : ℕ → ℕ �
     found = s.found;
     opened = s.opened;
     lines = λ l k in_l in_k t. ⊎_elim
-      (λ (is : (l ≡ line) × (k ≡ e)). inr (subst (λ (n : ℕ). HoldsPair w.risen.items n k ⊎ IsPassedOn p f c touches r (at w) n k) (sym is.0) (subst (λ (n : ℕ). HoldsPair w.risen.items line n ⊎ IsPassedOn p f c touches r (at w) line n) (sym is.1) done)))
-      (λ h. inr h)
-      (s.lines l k in_l in_k t);
+        (λ (is : (l ≡ line) × (k ≡ e)). inr (subst (λ (n : ℕ). HoldsPair w.risen.items n k ⊎ IsPassedOn p f c touches r (at w) n k) (sym is.0) (subst (λ (n : ℕ). HoldsPair w.risen.items line n ⊎ IsPassedOn p f c touches r (at w) line n) (sym is.1) done)))
+        (λ h. inr h)
+        (s.lines l k in_l in_k t);
     pieces = s.pieces;
     listed = s.listed;
     risen = s.risen;
@@ -133,9 +133,9 @@ module _ (p : Program) (f : FlowGraph) (c : ClassTable) (touches : ℕ → ℕ �
     opened = s.opened;
     lines = s.lines;
     pieces = λ k in_k. ⊎_elim
-      (λ (is : k ≡ e). inr (subst (λ (n : ℕ). (is_waiting w n ≡ true) ⊎ IsSeen p f c touches r (at w) n) (sym is) done))
-      (λ h. inr h)
-      (s.pieces k in_k);
+        (λ (is : k ≡ e). inr (subst (λ (n : ℕ). (is_waiting w n ≡ true) ⊎ IsSeen p f c touches r (at w) n) (sym is) done))
+        (λ h. inr h)
+        (s.pieces k in_k);
     listed = s.listed;
     risen = s.risen;
     entered = s.entered;
@@ -146,8 +146,8 @@ module _ (p : Program) (f : FlowGraph) (c : ClassTable) (touches : ℕ → ℕ �
   sent-past old new line e rises past sent = ⊎_elim
       (λ (waits : HoldsPair new.risen.items line e). inl waits)
       (λ (same : (at new).value line e ≡ (at old).value line e). inr (λ i way kind wire.
-        let before : IsWay f (at old) e i = record { edge = way.edge; exists = way.exists; allowed = subst (λ (ds : List Known). KindAllows (kind_behind f e) (get_or ds (to f.graph e) Nothing) i) rises.decisions way.allowed } in
-        subst (λ (x : Known). AtMost x ((at new).value line (led_to f r e line i))) (sym same) (sent i before)))
+      let before : IsWay f (at old) e i = record { edge = way.edge; exists = way.exists; allowed = subst (λ (ds : List Known). KindAllows (kind_behind f e) (get_or ds (to f.graph e) Nothing) i) rises.decisions way.allowed } in
+      subst (λ (x : Known). AtMost x ((at new).value line (led_to f r e line i))) (sym same) (sent i before)))
       (rises.passed line e past.line_in past.edge_in past.untouched)
 
 -- what is due to a line that goes past a piece, in each closed table
@@ -161,7 +161,7 @@ module _ (p : Program) (f : FlowGraph) (c : ClassTable) (touches : ℕ → ℕ �
       let there = way-more t b e i (below.decision (to f.graph e) node) way in
       let on : AtMost (b.value line e) (b.value line (led_to f r e line i)) =
       ⊎_elim
-        (λ (s : is_switch (kind_behind f e) ≡ true). closed.switches e line i there s past.line_in past.untouched wire)
-        (λ (m : is_merge (kind_behind f e) ≡ true). closed.merges e line i there m past.line_in wire)
-        (or_cases (is_switch (kind_behind f e)) (is_merge (kind_behind f e)) kind)
+      (λ (s : is_switch (kind_behind f e) ≡ true). closed.switches e line i there s past.line_in past.untouched wire)
+      (λ (m : is_merge (kind_behind f e) ≡ true). closed.merges e line i there m past.line_in wire)
+      (or_cases (is_switch (kind_behind f e)) (is_merge (kind_behind f e)) kind)
       in at_most-trans (t.value line e) (b.value line e) (b.value line (led_to f r e line i)) (below.value line e past.line_in past.edge_in) on

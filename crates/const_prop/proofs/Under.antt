@@ -1,5 +1,5 @@
 -- What pieces write and decide grows as what comes to them grows.
-use Rattle.std.proofs.Common.{◌≡◌, ◌≢◌, ◌⊎◌, ◌<◌, ◌≤◌, ◌+◌, ℕ, zero, suc, ℤ, pos, Bool, true, false, ◌&&◌, cond, List, length, get_or, Option, Some, None, refl, sym, ap, subst, ◌∙◌, inl, inr, ⊎_elim, arith}
+use Rattle.std.proofs.Common.{◌≡◌, ◌<◌, ◌+◌, ℕ, zero, suc, ℤ, pos, Bool, true, false, ◌&&◌, cond, List, length, Option, Some, None, refl, sym, subst, ◌∙◌, inl, inr, ⊎_elim, arith}
 use Rattle.std.proofs.lemmas.Bool.{cases_Bool}
 use Rattle.op_table.specs.Operators.{which_of_three, picked}
 use Rattle.op_table.specs.Trips.{at_least_zero}
@@ -14,15 +14,14 @@ use Rattle.cfg_build.specs.declared.pieces.PieceKind.{PieceKind}
 use Rattle.cfg_build.specs.declared.pieces.PieceKind.TheVariants.{Start, Act, Pass, Branch, Join, Hold, End}
 use Rattle.cfg_build.specs.Flow.{flow}
 use Rattle.cfg_build.specs.Joined.{FlowGraph}
-use Rattle.dep_routing.specs.Routing.{Routing}
-use Rattle.dep_routing.specs.Touches.{KindNeeds, PieceNeeds}
+use Rattle.dep_routing.specs.Touches.{KindNeeds}
 use Rattle.const_prop.specs.declared.known.Known.{Known}
 use Rattle.const_prop.specs.declared.known.Known.TheVariants.{Nothing, One, Any}
 use Rattle.const_prop.specs.Closed.{is_switch, is_one_word, is_sure, words_on, KindWrites, WritesBehind, written, written_behind, decided, decided_behind, kind_behind, exec_behind}
-use Rattle.const_prop.specs.Known.{AtMost, IsSomething, IsNotOne, one_of, as_known}
+use Rattle.const_prop.specs.Known.{AtMost, IsSomething, IsNotOne, one_of}
 use Rattle.const_prop.specs.Right.{CoverNeeds}
 use Rattle.const_prop.specs.Table.{Knowns}
-use Rattle.const_prop.proofs.Order.{at_most-refl, one-below}
+use Rattle.const_prop.proofs.Order.{one-below}
 use Rattle.const_prop.proofs.Counting.{one_word-zero}
 use Rattle.const_prop.proofs.Foreseen.{Covers, as_known-less, as_index-less}
 

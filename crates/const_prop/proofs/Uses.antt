@@ -1,7 +1,6 @@
 -- What lemmas take of a setting.
-use Rattle.std.proofs.Common.{◌≡◌, ◌⊎◌, ◌<◌, ◌≤◌, ◌+◌, ℕ, zero, suc, Bool, true, false, cond, List, [], ◌∷◌, length, get_or, count_by, refl, sym, ap, subst, ◌∙◌, inl, inr, ⊎_elim, arith}
-use Rattle.std.proofs.lemmas.Bool.{cases_Bool, eq-eqb, cond-true, cond-false, false_from_ne_true}
-use Rattle.std.proofs.lemmas.List.Sums.{sum_by-cons}
+use Rattle.std.proofs.Common.{◌≡◌, ◌<◌, ℕ, zero, suc, Bool, true, false, List, length, get_or, refl, sym, ap, subst, ◌∙◌, arith}
+use Rattle.std.proofs.lemmas.Bool.{false_from_ne_true}
 use Rattle.class_set.specs.declared.ClassSet.{ClassSet}
 use Rattle.closed_walks.specs.Graph.{IsGraph, edge_count, to}
 use Rattle.f77_tree.specs.declared.programs.Program.{Program}
@@ -26,7 +25,7 @@ use Rattle.cfg_build.specs.Passes.{kind_in}
 use Rattle.cfg_build.specs.Runs.{is_act, is_branch, IsPartOf}
 use Rattle.cfg_build.specs.Shape.{kind_at}
 use Rattle.const_prop.specs.Closed.{is_switch, is_merge, kind_behind, decided, selected, KindWrites}
-use Rattle.const_prop.specs.Setting.{IsSetting, IsProgram, AreLines}
+use Rattle.const_prop.specs.Setting.{IsProgram, AreLines}
 use Rattle.const_prop.proofs.Under.{AreCovered}
 
 pub setting-covered : {W : ℕ} (p : Program) (f : FlowGraph) (c : ClassTable) (touch : List (ClassSet W)) (r : Routing) → IsProgram p f → AreLines p f c touch r → AreCovered p f c (touches_in touch) r.lines

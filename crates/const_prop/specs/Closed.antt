@@ -144,7 +144,6 @@ decided_behind p f c t e = decided p.names (words_on c t e) (kind_behind f e) (e
 
 -- A table over the flow graph, the classes and the wires of a program.
 module _ (p : Program) (f : FlowGraph) (c : ClassTable) (touches : ℕ → ℕ → Bool) (r : Routing) where
-
   pub record IsClosed (t : Knowns) : Type 0 where
     -- one value may be known of lines of one-word classes alone
     pub words : (line e : ℕ) → line < r.lines → e < edge_count f.graph → is_one_word c line ≡ false → IsNotOne (t.value line e)

@@ -1,5 +1,5 @@
 -- Which edges control may come to, by the decisions of a table.
-use Rattle.std.specs.Prelude.{◌≡◌, ◌<◌, ℕ, Bool, true, false, ◌==◌, ◌&&◌, not, Option, Some, None, ℤ}
+use Rattle.std.specs.Prelude.{◌≡◌, ◌<◌, ℕ, Bool, false, ◌==◌, ◌&&◌, not, Option, Some, None, ℤ}
 use Rattle.op_table.specs.Trips.{at_least_zero}
 use Rattle.closed_walks.specs.Graph.{edge_count, from}
 use Rattle.closed_walks.specs.Walk.{Reach}

@@ -1,15 +1,14 @@
 -- What a closed table says of a run.
-use Rattle.std.specs.Prelude.{◌≡◌, ◌<◌, ℕ, ℤ, pos, Bool, true, suc}
-use Rattle.closed_walks.specs.Graph.{to}
+use Rattle.std.specs.Prelude.{◌≡◌, ◌<◌, ℕ, ℤ, Bool, true, suc}
 use Rattle.f77_tree.specs.declared.programs.Program.{Program}
 use Rattle.f77_tree.specs.Value.{word_at}
 use Rattle.alias_classes.specs.Classes.{ClassTable, class_of_word}
 use Rattle.cfg_build.specs.Flow.{flow}
-use Rattle.cfg_build.specs.Passes.{PassState, out}
+use Rattle.cfg_build.specs.Passes.{PassState}
 use Rattle.region_tree.specs.Tree.{Tree, IsRegionTree}
 use Rattle.dep_routing.specs.Place.{Place}
 use Rattle.dep_routing.specs.Routing.{Routing, IsRouting}
-use Rattle.dep_routing.specs.Touches.{PieceNeeds, piece_kind}
+use Rattle.dep_routing.specs.Touches.{PieceNeeds}
 use Rattle.const_prop.specs.declared.known.Known.TheVariants.{One}
 use Rattle.const_prop.specs.Known.{IsSomething}
 use Rattle.const_prop.specs.Table.{Knowns}

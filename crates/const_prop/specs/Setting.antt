@@ -1,8 +1,8 @@
 -- What is known of a program with its flow graph, its classes and its wires. No public clause cites this module.
-use Rattle.std.specs.Prelude.{◌≡◌, ◌≢◌, ◌<◌, ◌+◌, ◌↔◌, ℕ, Bool, true, false, List, [], length, slice_index_or}
+use Rattle.std.specs.Prelude.{◌≡◌, ◌<◌, ◌+◌, ◌↔◌, ℕ, Bool, true, false, List, [], length, slice_index_or}
 use Rattle.class_set.specs.declared.ClassSet.{ClassSet}
 use Rattle.class_set.specs.Members.{IsWidth}
-use Rattle.closed_walks.specs.Graph.{IsGraph, edge_count, to}
+use Rattle.closed_walks.specs.Graph.{IsGraph, edge_count}
 use Rattle.closed_walks.specs.Walk.{Holds}
 use Rattle.f77_tree.specs.CanRun.{CanRun}
 use Rattle.f77_tree.specs.declared.programs.Program.{Program}

@@ -36,13 +36,7 @@ pub(crate) fn risen(old: Known, comes: Known) -> Option<Known>
         (Known::Any, _) | (_, Known::Nothing) => None,
         (Known::Nothing, new) => Some(new),
         (Known::One(_), Known::Any) => Some(Known::Any),
-        (Known::One(v), Known::One(w)) => {
-            if v == w {
-                None
-            } else {
-                Some(Known::Any)
-            }
-        }
+        (Known::One(v), Known::One(w)) => { if v == w { None } else { Some(Known::Any) } }
     }
 }
 

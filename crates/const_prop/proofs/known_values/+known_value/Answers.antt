@@ -1,4 +1,4 @@
-use Rattle.std.proofs.Common.{◌≡◌, ◌<◌, ℕ, ℤ, List, [], ◌∷◌, ◌++◌, length, take, map, Option, rules, refl, sym, ap, ◌∙◌, arith}
+use Rattle.std.proofs.Common.{◌<◌, ℤ, [], ◌∷◌, ◌++◌, length, take, Option, rules, sym, ap, ◌∙◌, arith}
 use Rattle.std.proofs.lemmas.List.{take_more_set}
 use Rattle.closed_walks.specs.Graph.{edge_count}
 use Rattle.f77_tree.specs.KnownWith.{known_with}

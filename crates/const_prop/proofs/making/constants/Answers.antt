@@ -1,4 +1,4 @@
-use Rattle.std.proofs.Common.{◌≡◌, ◌<◌, ◌+◌, ℕ, Bool, List, rules, refl, sym, ap, subst, ◌∙◌, arith}
+use Rattle.std.proofs.Common.{◌≡◌, ◌<◌, ℕ, Bool, List, rules, sym, ap, subst, ◌∙◌, arith}
 use Rattle.closed_walks.specs.Graph.{edge_count}
 use Rattle.class_set.specs.declared.ClassSet.{ClassSet}
 use Rattle.f77_tree.specs.declared.programs.Program.{Program}
@@ -33,10 +33,10 @@ new-requires g c =
       lines = routing.routing.count;
       edges = routing.routing.edges ∙ sym edges;
       next = λ line e l k.
-        let k' : e < edge_count (flow p.execs).graph = omega (arith, k, edges) in
-        let l' = routing.routing.count in
-        let led = c.next_edges.ensures.exists (flow p.execs).graph routing.tree touches line e (next_at r line e) (c.program_facts.ensures.strong p c.requires.program) routing.is_tree k' (routing.routing.next line e (omega (arith, l, l')) k') in
-        omega (arith, led, edges);
+          let k' : e < edge_count (flow p.execs).graph = omega (arith, k, edges) in
+          let l' = routing.routing.count in
+          let led = c.next_edges.ensures.exists (flow p.execs).graph routing.tree touches line e (next_at r line e) (c.program_facts.ensures.strong p c.requires.program) routing.is_tree k' (routing.routing.next line e (omega (arith, l, l')) k') in
+          omega (arith, led, edges);
     } in
     (search rules, (search rules, (search rules, (program, lines))))
 
@@ -60,8 +60,8 @@ returns-clause-constants g c =
     let e = c.in_ok-s.ensures in
     let found : IsConstants s.program.now s.flow.now s.classes.now (touches_in s.touch.now) s.lines.now (so_far (edge_count s.flow.now.graph) w) =
     settled-constants s.program.now s.flow.now s.classes.now (touches_in s.touch.now) s.lines.now w
-      (λ k line l merge. merges-untouched s.program.now s.flow.now s.classes.now (touches_in s.touch.now) e.setting.program e.setting.lines.touches k line l merge)
-      c.in_ok-settle.ensures.settling c.in_ok-settle.ensures.risen c.in_ok-settle.ensures.entered in
+    (λ k line l merge. merges-untouched s.program.now s.flow.now s.classes.now (touches_in s.touch.now) e.setting.program e.setting.lines.touches k line l merge)
+    c.in_ok-settle.ensures.settling c.in_ok-settle.ensures.risen c.in_ok-settle.ensures.entered in
     let edges : edge_count s.flow.now.graph ≡ c.edges.result = ap (λ (g : FlowGraph). edge_count g.graph) e.flow ∙ ap (λ g. edge_count g) (sym c.graph.ensures) ∙ sym c.edges.ensures.count in
     subst (λ (n : ℕ). IsConstants c.args.p.now c.args.f.now c.args.c.now (touches_in c.args.touch.now) c.args.l.now (so_far n w)) edges
     (transport s.program.now c.args.p.now s.flow.now c.args.f.now s.classes.now c.args.c.now s.touch.now c.args.touch.now s.lines.now c.args.l.now (so_far (edge_count s.flow.now.graph) w) e.program e.flow e.classes e.touch e.lines found)

@@ -1,5 +1,4 @@
-use Rattle.std.proofs.Common.{◌≡◌, ℕ, sym, subst, refl}
-use Rattle.f77_tree.specs.declared.programs.Program.{Program}
+use Rattle.std.proofs.Common.{sym, subst, refl}
 use Rattle.cfg_build.specs.Flow.{flow}
 use Rattle.cfg_build.specs.Joined.{FlowGraph}
 use Rattle.const_prop.specs.Setting.{IsProgram}

@@ -1,4 +1,4 @@
-use Rattle.std.proofs.Common.{◌≡◌, ◌==◌, ℕ, filter, take, length, get_or, subst, sym, ap, ◌∙◌, arith, take_all}
+use Rattle.std.proofs.Common.{◌==◌, ℕ, filter, get_or, subst, ap, ◌∙◌, take_all}
 use Rattle.closed_walks.specs.Graph.{from, edges_at}
 use Rattle.closed_walks.specs.Walk.{Holds}
 use Rattle.const_prop.proofs.Rows.{edges-outs, Holds-at}

@@ -1,6 +1,5 @@
-use Rattle.std.proofs.Common.{◌≡◌, ℕ, Bool, subst, sym, ap, ◌∙◌, arith}
+use Rattle.std.proofs.Common.{◌≡◌, sym, ◌∙◌}
 use Rattle.dep_routing.specs.Touch.{touches_in}
-use Rattle.const_prop.specs.Setting.{IsTouchedRow}
 use Rattle.const_prop.proofs.Rows.{touched-more, touched-skip, touches-at}
 use Rattle.const_prop.proofs.setting.touched_row.Goals as goal
 use Rattle.const_prop.proofs.setting.touched_row.Goals.{then-holds+in_ok-push, else-holds}

@@ -1,6 +1,6 @@
-use Rattle.std.proofs.Common.{◌≡◌, ◌<◌, ◌≤◌, ◌^◌, ℕ, get_or, length, take, sym, subst, ap, ◌∙◌, arith, length-take}
+use Rattle.std.proofs.Common.{◌<◌, ℕ, get_or, length, arith, length-take}
 use Rattle.std.proofs.lemmas.List.Elements.{All-get_or}
-use Rattle.const_prop.proofs.Counting.{AreCounts, counts-more, count_fits}
+use Rattle.const_prop.proofs.Counting.{counts-more, count_fits}
 use Rattle.const_prop.proofs.setting.words_of_classes.Goals as goal
 
 pub overflow_add-index_mut : goal.overflow_add-index_mut

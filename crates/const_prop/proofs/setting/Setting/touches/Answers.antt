@@ -1,4 +1,4 @@
-use Rattle.std.proofs.Common.{◌≡◌, ℕ, sym, ap, ◌∙◌}
+use Rattle.std.proofs.Common.{ℕ, sym, ap, ◌∙◌}
 use Rattle.dep_routing.specs.Touch.{touches_in}
 use Rattle.const_prop.proofs.Rows.{touches-at}
 use Rattle.const_prop.proofs.setting.Setting.touches.Goals as goal

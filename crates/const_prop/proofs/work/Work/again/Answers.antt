@@ -1,4 +1,4 @@
-use Rattle.std.proofs.Common.{◌≡◌, ◌≤◌, ◌<◌, ◌+◌, ◌*◌, ℕ, List, [], ◌∷◌, length, sum_by, refl, sym, ap, subst, ◌∙◌, arith, length-append}
+use Rattle.std.proofs.Common.{◌≡◌, ◌+◌, [], ◌∷◌, length, sym, ap, ◌∙◌, arith, length-append}
 use Rattle.dep_routing.specs.Touch.{touches_in}
 use Rattle.const_prop.proofs.Deciding.{again-push, again-skip, again-end}
 use Rattle.const_prop.proofs.work.Work.again.Goals as goal

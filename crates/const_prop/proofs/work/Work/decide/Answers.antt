@@ -1,4 +1,4 @@
-use Rattle.std.proofs.Common.{◌≡◌, ◌≤◌, ◌<◌, ◌+◌, ℕ, Bool, true, List, [], length, get_or, rules, refl, sym, ap, subst, ◌∙◌, arith}
+use Rattle.std.proofs.Common.{◌≡◌, ◌<◌, ℕ, true, List, [], get_or, rules, sym, ap, subst, ◌∙◌, arith}
 use Rattle.std.proofs.lemmas.List.{get_or_read}
 use Rattle.closed_walks.specs.Graph.{edge_count, to}
 use Rattle.cfg_build.specs.Joined.{finish}
@@ -27,8 +27,8 @@ again-requires g c =
     let alone = λ (k : ℕ) (l : k < edge_count f.graph) (same : to f.graph k ≡ node). one_edge_to_switch f (finish p.execs) node k c.args.edge c.requires.setting.program.shape c.head-node.ensures.exists switch l c.requires.edge same (sym c.head-node.ensures.node) in
     let covered = setting-covered p f c.args.s.now.classes.now c.args.s.now.touch.now c.args.s.now.lines.now c.requires.setting.program c.requires.setting.lines in
     let found = decided-found c.args.s.now.program.now c.args.s.now.flow.now c.args.s.now.classes.now (touches_in c.args.s.now.touch.now) c.args.s.now.lines.now old c.args.edge node c.decided-decided.result c.in-Some.decision c.requires.edge c.head-node.ensures.node c.head-node.ensures.exists alone c.requires.settling.sized rise c.requires.settling.found
-      (λ b closed. subst (λ (n : ℕ). AtMost c.decided-decided.result (b.decision n)) (sym c.head-node.ensures.node) (subst (λ (k : Known). AtMost k (b.decision (to f.graph c.args.edge))) (sym c.decided-decided.ensures)
-        (decided-due c.args.s.now.program.now c.args.s.now.flow.now c.args.s.now.classes.now (touches_in c.args.s.now.touch.now) c.args.s.now.lines.now covered (so_far (edge_count f.graph) old) b c.args.edge c.requires.settling.found closed c.requires.ready c.requires.switch))) in
+    (λ b closed. subst (λ (n : ℕ). AtMost c.decided-decided.result (b.decision n)) (sym c.head-node.ensures.node) (subst (λ (k : Known). AtMost k (b.decision (to f.graph c.args.edge))) (sym c.decided-decided.ensures)
+    (decided-due c.args.s.now.program.now c.args.s.now.flow.now c.args.s.now.classes.now (touches_in c.args.s.now.touch.now) c.args.s.now.lines.now covered (so_far (edge_count f.graph) old) b c.args.edge c.requires.settling.found closed c.requires.ready c.requires.switch))) in
     (search rules, (c.requires.setting, (c.requires.edge, decided-settling c.args.s.now.program.now c.args.s.now.flow.now c.args.s.now.classes.now (touches_in c.args.s.now.touch.now) c.args.s.now.lines.now old c.args.edge node c.decided-decided.result c.in-Some.decision c.requires.edge c.head-node.ensures.node c.head-node.ensures.exists alone c.requires.settling.sized rise found c.requires.settling)))
 
 pub returns-clause-decided : goal.returns-clause-decided

@@ -1,9 +1,8 @@
-use Rattle.std.proofs.Common.{◌≡◌, ◌<◌, ℕ, List, [], length, slice_get, rules, refl, sym, ap, subst, ◌∙◌, arith}
-use Rattle.closed_walks.specs.Graph.{edge_count, to}
+use Rattle.std.proofs.Common.{◌≡◌, ◌<◌, ℕ, List, [], length, slice_get, rules, sym, ap, subst, ◌∙◌}
+use Rattle.closed_walks.specs.Graph.{edge_count}
 use Rattle.f77_tree.specs.CanRun.{CanExecute}
 use Rattle.f77_tree.specs.Control.{targets_of}
 use Rattle.f77_tree.specs.declared.programs.ExecKind.{ExecKind}
-use Rattle.cfg_build.specs.declared.pieces.PieceKind.{PieceKind}
 use Rattle.cfg_build.specs.declared.pieces.PieceKind.TheVariants.{Branch}
 use Rattle.cfg_build.specs.Flow.{piece_at}
 use Rattle.cfg_build.specs.Passes.{kind_in}

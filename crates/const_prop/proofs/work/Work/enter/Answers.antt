@@ -1,5 +1,5 @@
-use Rattle.std.proofs.Common.{◌≡◌, ℕ, true, inr}
-use Rattle.closed_walks.specs.Graph.{edge_count, to}
+use Rattle.std.proofs.Common.{inr}
+use Rattle.closed_walks.specs.Graph.{edge_count}
 use Rattle.dep_routing.specs.Touch.{touches_in}
 use Rattle.const_prop.specs.Closed.{IsReady}
 use Rattle.const_prop.specs.Work.{so_far, no_line}

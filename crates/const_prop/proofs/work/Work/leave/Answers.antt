@@ -1,4 +1,4 @@
-use Rattle.std.proofs.Common.{◌≡◌, ◌≤◌, ◌<◌, ℕ, true, length, get_or, rules, refl, sym, ap, subst, ◌∙◌, inl, inr, ⊎_elim, arith}
+use Rattle.std.proofs.Common.{◌≡◌, true, get_or, rules, inl, inr, ⊎_elim, arith}
 use Rattle.closed_walks.specs.Graph.{edge_count, to}
 use Rattle.dep_routing.specs.Touch.{touches_in}
 use Rattle.const_prop.specs.Work.{so_far, is_waiting, IsSeenFor, no_line, this_piece}
@@ -21,10 +21,28 @@ send-requires g c =
     let line = get_or c.as_slice-line-items.result.now c.loop-line.line-index 0 in
     let at = touched_at (touches_in c.args.s.now.touch.now) c.args.s.now.lines.now.lines (to c.args.s.now.flow.now.graph c.args.edge) c.as_slice-line-items.result.now c.loop-line.line-index row c.loop-line-test.true in
     let t = so_far (edge_count c.args.s.now.flow.now.graph) c.loop-line.self in
-    let s = c.loop-line.invariant.settling in
-    (search rules, (c.requires.setting, (s.sized, (at.0, (c.requires.edge, (s.found, (
-      λ b i closed way. left-due c.args.s.now.program.now c.args.s.now.flow.now c.args.s.now.classes.now (touches_in c.args.s.now.touch.now) c.args.s.now.lines.now (setting-covered c.args.s.now.program.now c.args.s.now.flow.now c.args.s.now.classes.now c.args.s.now.touch.now c.args.s.now.lines.now c.requires.setting.program c.requires.setting.lines) c.requires.setting.program.shape.two_edges c.requires.setting.lines.next t b c.args.edge line i c.left-known.result (c.requires.setting.program.sound.ends c.args.edge c.requires.edge) s.found closed c.loop-line.invariant.ready at.0 at.1 c.left-known.ensures way,
-      left-one c.args.s.now.program.now c.args.s.now.flow.now c.args.s.now.classes.now (touches_in c.args.s.now.touch.now) c.args.s.now.lines.now (setting-covered c.args.s.now.program.now c.args.s.now.flow.now c.args.s.now.classes.now c.args.s.now.touch.now c.args.s.now.lines.now c.requires.setting.program c.requires.setting.lines) c.requires.setting.program.shape.two_edges c.requires.setting.lines.next t c.args.edge line c.left-known.result c.requires.edge s.found at.0 c.left-known.ensures)))))))
+    let s = c.loop-line.invariant.settling in (
+      search rules,
+      (
+        c.requires.setting,
+        (
+          s.sized,
+          (
+            at.0,
+            (
+              c.requires.edge,
+              (
+                s.found,
+                (
+                  λ b i closed way. left-due c.args.s.now.program.now c.args.s.now.flow.now c.args.s.now.classes.now (touches_in c.args.s.now.touch.now) c.args.s.now.lines.now (setting-covered c.args.s.now.program.now c.args.s.now.flow.now c.args.s.now.classes.now c.args.s.now.touch.now c.args.s.now.lines.now c.requires.setting.program c.requires.setting.lines) c.requires.setting.program.shape.two_edges c.requires.setting.lines.next t b c.args.edge line i c.left-known.result (c.requires.setting.program.sound.ends c.args.edge c.requires.edge) s.found closed c.loop-line.invariant.ready at.0 at.1 c.left-known.ensures way,
+                  left-one c.args.s.now.program.now c.args.s.now.flow.now c.args.s.now.classes.now (touches_in c.args.s.now.touch.now) c.args.s.now.lines.now (setting-covered c.args.s.now.program.now c.args.s.now.flow.now c.args.s.now.classes.now c.args.s.now.touch.now c.args.s.now.lines.now c.requires.setting.program c.requires.setting.lines) c.requires.setting.program.shape.two_edges c.requires.setting.lines.next t c.args.edge line c.left-known.result c.requires.edge s.found at.0 c.left-known.ensures,
+                ),
+              ),
+            ),
+          ),
+        ),
+      ),
+    )
 
 pub loop-line-init : goal.loop-line-init
 loop-line-init g c = record {
@@ -57,6 +75,6 @@ returns-clause-settling g c =
     let w = c.loop-line.self in
     piece-closed c.args.s.now.program.now c.args.s.now.flow.now c.args.s.now.classes.now (touches_in c.args.s.now.touch.now) c.args.s.now.lines.now (setting-covered c.args.s.now.program.now c.args.s.now.flow.now c.args.s.now.classes.now c.args.s.now.touch.now c.args.s.now.lines.now c.requires.setting.program c.requires.setting.lines) c.requires.setting.program.shape.two_edges c.requires.setting.lines.next w c.args.edge no_line c.loop-line.invariant.settling
     (⊎_elim
-      (λ (waits : is_waiting w c.args.edge ≡ true). inl waits)
-      (λ (seen : IsSeenFor c.args.s.now.program.now c.args.s.now.flow.now c.args.s.now.classes.now (touches_in c.args.s.now.touch.now) c.args.s.now.lines.now (Among c.as_slice-line-items.result.now c.loop-line.line-index) (so_far (edge_count c.args.s.now.flow.now.graph) w) c.args.edge). inr (seen-all c.args.s.now.program.now c.args.s.now.flow.now c.args.s.now.classes.now (touches_in c.args.s.now.touch.now) c.args.s.now.lines.now (setting-covered c.args.s.now.program.now c.args.s.now.flow.now c.args.s.now.classes.now c.args.s.now.touch.now c.args.s.now.lines.now c.requires.setting.program c.requires.setting.lines) c.requires.setting.program.shape.two_edges c.requires.setting.lines.next (so_far (edge_count c.args.s.now.flow.now.graph) w) c.args.edge c.as_slice-line-items.result.now c.loop-line.line-index row c.loop-line-test.false seen))
-      c.loop-line.invariant.seen)
+    (λ (waits : is_waiting w c.args.edge ≡ true). inl waits)
+    (λ (seen : IsSeenFor c.args.s.now.program.now c.args.s.now.flow.now c.args.s.now.classes.now (touches_in c.args.s.now.touch.now) c.args.s.now.lines.now (Among c.as_slice-line-items.result.now c.loop-line.line-index) (so_far (edge_count c.args.s.now.flow.now.graph) w) c.args.edge). inr (seen-all c.args.s.now.program.now c.args.s.now.flow.now c.args.s.now.classes.now (touches_in c.args.s.now.touch.now) c.args.s.now.lines.now (setting-covered c.args.s.now.program.now c.args.s.now.flow.now c.args.s.now.classes.now c.args.s.now.touch.now c.args.s.now.lines.now c.requires.setting.program c.requires.setting.lines) c.requires.setting.program.shape.two_edges c.requires.setting.lines.next (so_far (edge_count c.args.s.now.flow.now.graph) w) c.args.edge c.as_slice-line-items.result.now c.loop-line.line-index row c.loop-line-test.false seen))
+    c.loop-line.invariant.seen)

@@ -1,9 +1,8 @@
-use Rattle.std.proofs.Common.{◌≡◌, ◌<◌, ◌+◌, ◌*◌, ◌||◌, ℕ, Bool, true, false, List, length, get_or, rules, refl, sym, ap, subst, ◌∙◌, inl, inr, arith}
+use Rattle.std.proofs.Common.{◌≡◌, ◌||◌, ℕ, true, false, get_or, rules, sym, ap, subst, ◌∙◌, inr}
 use Rattle.std.proofs.lemmas.List.{get_or_read}
-use Rattle.closed_walks.specs.Graph.{edge_count, to}
+use Rattle.closed_walks.specs.Graph.{edge_count}
 use Rattle.cfg_build.specs.declared.pieces.PieceKind.{PieceKind}
 use Rattle.cfg_build.specs.Shape.{kind_at}
-use Rattle.dep_routing.specs.Routing.{wire_at}
 use Rattle.dep_routing.specs.Touch.{touches_in}
 use Rattle.const_prop.specs.declared.known.Known.{Known}
 use Rattle.const_prop.specs.declared.known.Known.TheVariants.{Nothing}
@@ -39,11 +38,29 @@ send-requires g c =
     let settling = c.requires.settling in
     let past = c.requires.past in
     let read : t.value c.args.line c.args.edge ≡ c.index-known.result.now =
-    sym (get_or_read c.args.self.now.values.items c.place.result c.index-known.result.now (place_below f (touches_in c.args.s.now.touch.now) r.lines c.args.self.now c.args.line c.args.edge c.place.result settling.sized past.line_in past.edge_in c.place.ensures) c.index-known.ensures Nothing ∙ ap (λ (n : ℕ). get_or c.args.self.now.values.items n Nothing) c.place.ensures) in
-    (search rules, (c.requires.setting, (settling.sized, (past.line_in, (past.edge_in, (settling.found, (
-      λ b i closed way. subst (λ (k : Known). AtMost k (b.value c.args.line (led_to f r c.args.edge c.args.line i))) read
-        (due-past c.args.s.now.program.now c.args.s.now.flow.now c.args.s.now.classes.now (touches_in c.args.s.now.touch.now) c.args.s.now.lines.now t b c.args.line c.args.edge i (c.requires.setting.program.sound.ends c.args.edge past.edge_in) settling.found closed past (sym kinds ∙ c.if-not-passes_on.false) (sym c.is_wire.ensures ∙ c.if-not-is_wire.false) way),
-      λ several. subst IsNotOne read (settling.found.words c.args.line c.args.edge past.line_in past.edge_in several))))))))
+    sym (get_or_read c.args.self.now.values.items c.place.result c.index-known.result.now (place_below f (touches_in c.args.s.now.touch.now) r.lines c.args.self.now c.args.line c.args.edge c.place.result settling.sized past.line_in past.edge_in c.place.ensures) c.index-known.ensures Nothing ∙ ap (λ (n : ℕ). get_or c.args.self.now.values.items n Nothing) c.place.ensures) in (
+      search rules,
+      (
+        c.requires.setting,
+        (
+          settling.sized,
+          (
+            past.line_in,
+            (
+              past.edge_in,
+              (
+                settling.found,
+                (
+                  λ b i closed way. subst (λ (k : Known). AtMost k (b.value c.args.line (led_to f r c.args.edge c.args.line i))) read
+                      (due-past c.args.s.now.program.now c.args.s.now.flow.now c.args.s.now.classes.now (touches_in c.args.s.now.touch.now) c.args.s.now.lines.now t b c.args.line c.args.edge i (c.requires.setting.program.sound.ends c.args.edge past.edge_in) settling.found closed past (sym kinds ∙ c.if-not-passes_on.false) (sym c.is_wire.ensures ∙ c.if-not-is_wire.false) way),
+                  λ several. subst IsNotOne read (settling.found.words c.args.line c.args.edge past.line_in past.edge_in several),
+                ),
+              ),
+            ),
+          ),
+        ),
+      ),
+    )
 
 pub returns-clause-settling : goal.returns-clause-settling
 returns-clause-settling g c =
@@ -59,5 +76,5 @@ returns-clause-settling g c =
     sym (get_or_read old.values.items c.place.result c.index-known.result.now (place_below f (touches_in c.args.s.now.touch.now) r.lines old c.args.line c.args.edge c.place.result c.requires.settling.sized past.line_in past.edge_in c.place.ensures) c.index-known.ensures Nothing ∙ ap (λ (n : ℕ). get_or old.values.items n Nothing) c.place.ensures) in
     let on = settling-rises c.args.s.now.program.now c.args.s.now.flow.now c.args.s.now.classes.now (touches_in c.args.s.now.touch.now) c.args.s.now.lines.now covered two next old new c.in_ok-send.ensures.rises c.in_ok-send.ensures.found (this_line c.args.line c.args.edge) no_piece c.requires.settling in
     let done = sent-past c.args.s.now.program.now c.args.s.now.flow.now c.args.s.now.classes.now (touches_in c.args.s.now.touch.now) c.args.s.now.lines.now covered two next old new c.args.line c.args.edge c.in_ok-send.ensures.rises past
-      (λ i way. subst (λ (k : Known). AtMost k ((so_far (edge_count f.graph) new).value c.args.line (led_to f r c.args.edge c.args.line i))) (sym read) (c.in_ok-send.ensures.sent i way)) in
+    (λ i way. subst (λ (k : Known). AtMost k ((so_far (edge_count f.graph) new).value c.args.line (led_to f r c.args.edge c.args.line i))) (sym read) (c.in_ok-send.ensures.sent i way)) in
     line-closed c.args.s.now.program.now c.args.s.now.flow.now c.args.s.now.classes.now (touches_in c.args.s.now.touch.now) c.args.s.now.lines.now covered two next new c.args.line c.args.edge no_piece on done

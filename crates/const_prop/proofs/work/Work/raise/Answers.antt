@@ -1,11 +1,11 @@
-use Rattle.std.proofs.Common.{◌≡◌, ◌<◌, ◌+◌, ◌*◌, ℕ, true, false, length, get_or, set, refl, sym, ap, subst, ◌∙◌, arith}
+use Rattle.std.proofs.Common.{◌≡◌, ℕ, true, false, get_or, set, refl, sym, ap, subst, ◌∙◌, arith}
 use Rattle.std.specs.Vec.{with_item}
 use Rattle.std.proofs.lemmas.List.{get_or_read}
 use Rattle.dep_routing.specs.Touch.{touches_in}
 use Rattle.const_prop.specs.declared.known.Known.{Known}
 use Rattle.const_prop.specs.declared.known.Known.TheVariants.{Nothing}
 use Rattle.const_prop.specs.declared.work.Work.{Work}
-use Rattle.const_prop.specs.Work.{IsRise, is_waiting}
+use Rattle.const_prop.specs.Work.{IsRise}
 use Rattle.const_prop.proofs.Rising.{at, IsRaised, place_below, found-raised, raised-reaches, rises-past, rises-into, rises-there}
 use Rattle.const_prop.proofs.work.Work.raise.Goals as goal
 

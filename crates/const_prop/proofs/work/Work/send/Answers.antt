@@ -1,16 +1,15 @@
-use Rattle.std.proofs.Common.{◌≡◌, ◌<◌, ◌+◌, ℕ, List, length, get_or, refl, sym, ap, subst, ◌∙◌, arith, rules}
+use Rattle.std.proofs.Common.{◌≡◌, ◌<◌, ◌+◌, ℕ, List, get_or, sym, ap, subst, ◌∙◌, arith, rules}
 use Rattle.std.proofs.lemmas.List.{get_or_read}
 use Rattle.closed_walks.specs.Graph.{edge_count, to}
 use Rattle.cfg_build.specs.Passes.{outs}
 use Rattle.dep_routing.specs.Routing.{next_at}
 use Rattle.dep_routing.specs.Touch.{touches_in}
-use Rattle.const_prop.specs.declared.known.Known.{Known}
 use Rattle.const_prop.specs.declared.known.Known.TheVariants.{Nothing}
-use Rattle.const_prop.specs.Closed.{led_to, IsWay, KindAllows}
+use Rattle.const_prop.specs.Closed.{led_to}
 use Rattle.const_prop.specs.Known.{AtMost}
-use Rattle.const_prop.specs.Work.{so_far, Rises, IsFound}
+use Rattle.const_prop.specs.Work.{so_far}
 use Rattle.const_prop.proofs.Rising.{rises-trans}
-use Rattle.const_prop.proofs.Sending.{outs_row, out_exists, allows_way, way_allows, AreSent, sent-more, sent-skip, false_true, LedInside}
+use Rattle.const_prop.proofs.Sending.{outs_row, out_exists, allows_way, sent-more, sent-skip, false_true, LedInside}
 use Rattle.const_prop.proofs.work.Work.send.Goals as goal
 use Rattle.const_prop.proofs.work.Work.send.Goals.{then-allows+in_ok-raise, else-allows}
 
@@ -38,7 +37,7 @@ ways-preserved g c =
     let items = outs_row c.args.s.now.flow.now c.args.s.now.outs.items c.head-node.result c.args.edge c.index.result.now c.as_slice-out-items.result.now c.requires.setting.outs c.head-node.ensures.exists c.head-node.ensures.node c.index.ensures c.as_slice-out-items.ensures in
     let led : LedInside f touches r c.args.edge c.args.line c.kind-kind.result c.index-decision.result.now c.args.known (c.ways.i + 1) =
     λ k l. c.requires.setting.lines.next c.args.line (get_or (outs f.graph (to f.graph c.args.edge)) k 0) c.requires.line
-      (subst (λ (xs : List ℕ). get_or xs k 0 < edge_count f.graph) items (out_exists f c.args.edge k c.as_slice-out-items.result.now items (omega (arith, l, c.ways-test.true)))) in
+    (subst (λ (xs : List ℕ). get_or xs k 0 < edge_count f.graph) items (out_exists f c.args.edge k c.as_slice-out-items.result.now items (omega (arith, l, c.ways-test.true)))) in
     let is : led_to f r c.args.edge c.args.line c.ways.i ≡ next_at r c.args.line (get_or c.as_slice-out-items.result.now c.ways.i 0) =
     ap (λ (xs : List ℕ). next_at r c.args.line (get_or xs c.ways.i 0)) (sym items) in
     elim c.if-allows.branch [
@@ -47,7 +46,7 @@ ways-preserved g c =
             rises = rises-trans f touches r.lines c.args.self.now c.ways.self w.raise.new.self c.ways.invariant.rises w.in_ok-raise.ensures.rises;
             found = w.in_ok-raise.ensures.found;
             sent = sent-more f touches r c.args.edge c.args.line c.kind-kind.result c.index-decision.result.now c.args.known c.ways.self w.raise.new.self c.ways.i w.in_ok-raise.ensures.rises c.requires.line (λ k l. led k (omega arith)) c.ways.invariant.sent
-              (subst (λ (n : ℕ). AtMost c.args.known ((so_far (edge_count f.graph) w.raise.new.self).value c.args.line n)) (w.next_wire.ensures ∙ sym is) w.in_ok-raise.ensures.reached);
+                (subst (λ (n : ℕ). AtMost c.args.known ((so_far (edge_count f.graph) w.raise.new.self).value c.args.line n)) (w.next_wire.ensures ∙ sym is) w.in_ok-raise.ensures.reached);
           })
       | else-allows w ↦
           rw w.self-is (record {

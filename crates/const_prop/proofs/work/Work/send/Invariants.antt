@@ -1,4 +1,4 @@
-use Rattle.std.proofs.Common.{◌≡◌, ◌<◌, ℕ}
+use Rattle.std.proofs.Common.{◌<◌, ℕ}
 use Rattle.closed_walks.specs.Graph.{edge_count}
 use Rattle.dep_routing.specs.Touch.{touches_in}
 use Rattle.const_prop.specs.Closed.{KindAllows, led_to}
