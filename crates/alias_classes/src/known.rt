@@ -11,7 +11,7 @@ use f77_tree::{Access, Expr, ExprList, NameInfoList, accesses_stay_in_their_name
 
 /// The word of an access, where all its subscripts have known values within their bounds. Any store of the program serves,
 /// since none of its words is read.
-pub(crate) fn known_word(names: &NameInfoList, store: &[i32], access: &Access) -> Option<u32>
+pub fn known_word(names: &NameInfoList, store: &[i32], access: &Access) -> Option<u32>
     requires access { IsAccess names.now access.now }
     requires places { ArePlaced names.now (length store.now) }
     ensures word { result ≡ spec_known_word names.now access.now.name (map known access.now.subs) }

@@ -13,6 +13,7 @@ mod walk;
 
 pub use class_end::ClassEnd;
 pub use classes::{Classes, classes_of};
+pub use known::known_word;
 pub use laws::{
     classes_are_counted, classes_are_numbered, needs_are_a_frame, needs_are_numbered,
     needs_cover_accesses, one_numbering,

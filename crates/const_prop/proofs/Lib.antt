@@ -1,0 +1,17 @@
+pub mod Cells
+pub mod Counting
+pub mod Expressions
+pub mod Order
+pub mod Rising
+pub mod Rows
+pub mod Sending
+pub mod Foreseen
+pub mod Under
+pub mod Settling
+pub mod Uses
+pub mod Degrees
+pub mod Deciding
+pub mod Readiness
+pub mod Leaving
+pub mod Settled
+pub mod Opening

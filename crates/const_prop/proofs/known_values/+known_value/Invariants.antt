@@ -1,0 +1,18 @@
+use Rattle.std.proofs.Common.{◌≡◌, ◌≤◌, [], length, take, map, All}
+use Rattle.closed_walks.specs.Graph.{edge_count}
+use Rattle.op_table.specs.Operators.{arity_of}
+use Rattle.f77_tree.specs.KnownWith.{known_with}
+use Rattle.f77_tree.specs.Value.{IsExpression}
+use Rattle.const_prop.specs.Closed.{words_on}
+use Rattle.const_prop.specs.Table.{knowns}
+use Rattle.const_prop.proofs.known_values.+known_value.Given as goal
+
+abbrev pub invariant-loop-arg : goal.invariant-loop-arg
+invariant-loop-arg g l = record {
+  counted : l.count ≡ l.arg-index;
+  as_many : length l.arg-items ≡ arity_of l.op;
+  few : length l.arg-items ≤ 3;
+  room : length l.operands ≡ 3;
+  expressions : All (IsExpression l.s.program.now.names) l.arg-items;
+  values : take l.count l.operands ≡ map (known_with l.s.program.now.names (words_on l.s.classes.now (knowns (edge_count l.s.flow.now.graph) l.values []) l.edge)) (take l.arg-index l.arg-items);
+}

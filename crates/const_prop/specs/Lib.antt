@@ -1,0 +1,7 @@
+pub mod Known
+pub mod Table
+pub mod Closed
+pub mod Live
+pub mod Right
+pub mod Setting
+pub mod Work

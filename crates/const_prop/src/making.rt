@@ -1,0 +1,81 @@
+//! The making of the table of constants.
+
+ghost use Rattle.std.specs.Prelude.{◌≡◌, ◌+◌, length, IfOk};
+ghost use Rattle.class_set.specs.Members.{IsWidth};
+ghost use Rattle.closed_walks.specs.Graph.{edge_count};
+ghost use Rattle.closed_walks.specs.Region.{IsFlowGraph};
+ghost use Rattle.f77_tree.specs.declared.programs.Program.{Program};
+ghost use Rattle.f77_tree.specs.WellFormed.{IsWellFormed};
+ghost use Rattle.alias_classes.specs.Classes.{IsClasses, class_count};
+ghost use Rattle.cfg_build.specs.Flow.{flow};
+ghost use Rattle.cfg_build.specs.Joined.{FlowGraph};
+ghost use Rattle.dep_routing.specs.Touch.{touches_in};
+ghost use Rattle.dep_routing.specs.Touches.{AreTouches};
+ghost use Rattle.const_prop.specs.Closed.{IsConstants};
+ghost use Rattle.const_prop.specs.Right.{IsProgramRouting};
+ghost use Rattle.const_prop.specs.Setting.{IsProgram};
+ghost use Rattle.const_prop.specs.Table.{knowns_of};
+
+use crate::setting::Setting;
+use crate::table::Table;
+use crate::work::Work;
+use alias_classes::Classes;
+use cfg_build::{Flow, flow_graph_has_shape, flow_graph_is_strong, pieces_run_executables};
+use dep_routing::{Lines, TouchList, next_edges};
+use df_sequence::NoMemory;
+use f77_tree::{Program, well_formed_programs_can_run};
+use std::alloc::Global;
+
+/// The constants of a program: the least closed table over its wires. It takes a few steps for each wire and each time that more is
+/// known there, which is twice at most.
+pub fn constants<const W: usize>(
+    alloc: Global,
+    p: &Program,
+    f: &Flow,
+    c: &Classes<W>,
+    touch: &TouchList<W>,
+    l: &Lines,
+) -> Result<Table, NoMemory>
+    requires width { IsWidth W }
+    requires program { IsWellFormed p.now }
+    requires flow { f.now ≡ flow p.now.execs }
+    requires classes { IsClasses p.now c.now }
+    requires pieces { length touch.now ≡ f.now.graph.nodes }
+    requires touches { AreTouches p.now c.now (touches_in touch.now) }
+    requires routing { IsProgramRouting p.now (touches_in touch.now) (class_count c.now + 1) l.now }
+    ensures lines { IfOk result (λ t. t.lines ≡ l.now.lines) }
+    ensures edges { IfOk result (λ t. t.edges ≡ edge_count f.now.graph) }
+    ensures pieces { IfOk result (λ t. length t.decisions ≡ f.now.graph.nodes) }
+    ensures constants { IfOk result (λ t. IsConstants p.now f.now c.now (touches_in touch.now) l.now (knowns_of t)) }
+{
+    program_facts();
+    next_edges();
+    let s = Setting::new(alloc, p, f, c, touch, l)?;
+    let mut work = Work::blank(alloc, &s)?;
+    work.open(&s)?;
+    work.settle(&s)?;
+    let Work {
+        values,
+        decisions,
+        risen: _,
+        entered: _,
+        waits: _,
+    } = work;
+    Ok(Table {
+        lines: l.lines(),
+        edges: f.graph().edges(),
+        values,
+        decisions,
+    })
+}
+
+/// What the laws on flow graphs say of that of a program.
+fn program_facts()
+    ensures program { (p : Program) (f : FlowGraph) → IsWellFormed p → f ≡ flow p.execs → IsProgram p f }
+    ensures strong { (p : Program) → IsWellFormed p → IsFlowGraph (flow p.execs).graph }
+{
+    flow_graph_is_strong();
+    flow_graph_has_shape();
+    pieces_run_executables();
+    well_formed_programs_can_run();
+}
