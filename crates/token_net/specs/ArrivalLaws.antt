@@ -36,6 +36,7 @@ doubled zero = 1
 doubled (suc k) = doubled k + doubled k
 
 by_times : (net : NetOf) (k edge : ℕ) → passed_by k net edge ≡ passed_times net (doubled k) edge
+unfolding passed_by
 by_times net zero edge = refl
 by_times net (suc k) edge =
     by_times net k (passed_by k net edge)

@@ -142,5 +142,6 @@ module _ (net : NetOf) (is_net : IsNet net) (ground : FlowGround net is_net.tree
       by (inr busy) = subst (λ (b : Bool). IsThere m (if b then out (graph_in net) (to (graph_in net) edge) 0 else edge)) (sym busy) there
 
   pub there_passed_by : (k : ℕ) (m : Tokens) (edge : ℕ) → IsThere m edge → IsThere m (passed_by k net edge)
+  unfolding passed_by
   there_passed_by zero m edge there = there_passed m edge there
   there_passed_by (suc k) m edge there = there_passed_by k m (passed_by k net edge) (there_passed_by k m edge there)

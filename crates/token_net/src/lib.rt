@@ -14,6 +14,7 @@ mod pieces_run;
 mod plan;
 mod playable;
 mod straight;
+mod tables;
 mod upcoming;
 
 pub use control::Control;
