@@ -12,7 +12,8 @@ use std::test::Fail;
 // its line. They show that a candidate isn't available at the first piece that computes it, and is behind it; that a write to an
 // equivalenced name ends it; that an operator that can trap is no candidate; that one way on which it isn't computed is enough; and
 // that a piece that writes what it computes doesn't make it available.
-const CASES: &str = "INTEGER X,Y,B;EQUIVALENCE (J,B);DO 10 I=1,2;J=I*3;X=I+J;Y=I+J;10~PRINT *,X,Y;END=>Mul: Act5 Act6 Act7 Act7 Add: Act6 Act7 Act7 
+const CASES: &str =
+    "INTEGER X,Y,B;EQUIVALENCE (J,B);DO 10 I=1,2;J=I*3;X=I+J;Y=I+J;10~PRINT *,X,Y;END=>Mul: Act5 Act6 Act7 Act7 Add: Act6 Act7 Act7 
 INTEGER X,Y,B;EQUIVALENCE (J,B);X=I+J;B=I;Y=I+J;END=>Add: Act4 End6 
 J=K/L;I=K/L;END=>
 IF(K.GT.1)J=I+1;L=I+1;END=>Gt: Act1 Join2 Act2 End3 Add: End3 

@@ -61,7 +61,14 @@ pub(crate) fn run<const W: usize>(
         return Ran::Along(out_at(outs, 0));
     };
     match piece.kind {
-        PieceKind::Act => act(program, out_at(outs, 0), &plan.input, &exec.kind, storage, draft),
+        PieceKind::Act => act(
+            program,
+            out_at(outs, 0),
+            &plan.input,
+            &exec.kind,
+            storage,
+            draft,
+        ),
         PieceKind::Branch => match choice(&program.names, storage, &exec.kind) {
             Ok(i) => Ran::Along(out_at(outs, i)),
             Err(trap) => Ran::Trapped(trap),

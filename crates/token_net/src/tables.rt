@@ -34,10 +34,7 @@ pub(crate) struct Tables {
 }
 
 /// The tables of a net. More nodes than can be numbered are want of memory.
-pub(crate) fn make_tables<const W: usize>(
-    alloc: Global,
-    plan: &Plan<W>,
-) -> Result<Tables, NoMemory>
+pub(crate) fn make_tables<const W: usize>(alloc: Global, plan: &Plan<W>) -> Result<Tables, NoMemory>
     ensures { IfOk result (λ t. AreTables (net_in plan.now) t) }
 {
     let nodes = numbered_nodes(alloc, plan)?;
@@ -60,10 +57,7 @@ struct NumberedNodes {
     firsts: Vec<u32>,
 }
 
-fn numbered_nodes<const W: usize>(
-    alloc: Global,
-    plan: &Plan<W>,
-) -> Result<NumberedNodes, NoMemory>
+fn numbered_nodes<const W: usize>(alloc: Global, plan: &Plan<W>) -> Result<NumberedNodes, NoMemory>
     ensures names { IfOk result (λ n. n.names.items ≡ nodes_of (net_in plan.now)) }
     ensures few { IfOk result (λ n. length n.names.items < 2 ^ 32) }
     ensures firsts { IfOk result (λ n. n.firsts.items ≡ map (first_node (net_in plan.now)) (range_with_len 0 (suc (graph_in (net_in plan.now)).nodes))) }
@@ -181,10 +175,7 @@ pub(crate) fn touches<const W: usize>(plan: &Plan<W>, piece: u32, line: u32) -> 
 }
 
 /// For each piece the lines that it touches.
-fn all_touched<const W: usize>(
-    alloc: Global,
-    plan: &Plan<W>,
-) -> Result<Vec<LabelList>, NoMemory>
+fn all_touched<const W: usize>(alloc: Global, plan: &Plan<W>) -> Result<Vec<LabelList>, NoMemory>
     ensures { IfOk result (λ all. all.items ≡ map (touched (net_in plan.now)) (all_pieces (net_in plan.now))) }
 {
     let mut all = Vec::with_capacity(alloc, plan.flow.pieces() as usize)?;
@@ -194,11 +185,7 @@ fn all_touched<const W: usize>(
     Ok(all)
 }
 
-fn touched<const W: usize>(
-    alloc: Global,
-    plan: &Plan<W>,
-    piece: u32,
-) -> Result<LabelList, NoMemory>
+fn touched<const W: usize>(alloc: Global, plan: &Plan<W>, piece: u32) -> Result<LabelList, NoMemory>
     requires { piece < (graph_in (net_in plan.now)).nodes }
     ensures { IfOk result (λ lines. lines ≡ touched (net_in plan.now) piece) }
 {

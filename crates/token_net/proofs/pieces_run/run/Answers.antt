@@ -25,7 +25,7 @@ returns-in-Act-clause-pass g c =
     let runs : slice_get net.program.execs c.piece-piece.result.exec ≡ Some c.in-Some.exec.now = ap (λ (xs : List Exec). slice_get xs c.piece-piece.result.exec) (sym c.as_slice.ensures.items) ∙ slice_get_read c.as_slice.result.now (length c.as_slice.result.now) c.piece-piece.result.exec c.in-Some.exec.now refl c.in-Some.ensures.lookup.3.0 c.in-Some.ensures.lookup.1 in
     let stands = piece_told c.args.plan.now.flow.now (flow net.program.execs) c.args.piece c.piece-piece.result c.args.plan.now.own_flow c.piece-piece.ensures in
     act_told net c.args.piece c.piece-piece.result c.in-Some.exec.now (memory_of c.args.storage.now) stands runs c.out_at-in-Act.result (told c.act.result (memory_of c.act.new.storage) c.act.new.draft.items) c.in-Act.is
-        (c.out_at-in-Act.ensures ∙ ap (λ (es : List ℕ). slice_index es 0) c.requires.outs) c.act.ensures.pass
+    (c.out_at-in-Act.ensures ∙ ap (λ (es : List ℕ). slice_index es 0) c.requires.outs) c.act.ensures.pass
 
 pub returns-in-Ok-clause-pass : goal.returns-in-Ok-clause-pass
 returns-in-Ok-clause-pass g c =
@@ -33,7 +33,7 @@ returns-in-Ok-clause-pass g c =
     let runs : slice_get net.program.execs c.piece-piece.result.exec ≡ Some c.in-Some.exec.now = ap (λ (xs : List Exec). slice_get xs c.piece-piece.result.exec) (sym c.as_slice.ensures.items) ∙ slice_get_read c.as_slice.result.now (length c.as_slice.result.now) c.piece-piece.result.exec c.in-Some.exec.now refl c.in-Some.ensures.lookup.3.0 c.in-Some.ensures.lookup.1 in
     let stands = piece_told c.args.plan.now.flow.now (flow net.program.execs) c.args.piece c.piece-piece.result c.args.plan.now.own_flow c.piece-piece.ensures in
     chosen_told net c.args.piece c.piece-piece.result c.in-Some.exec.now (memory_of c.args.storage.now) stands runs c.in-Ok.i c.out_at-in-Ok.result c.in-Branch.is (sym c.in-Ok.ensures)
-        (c.out_at-in-Ok.ensures ∙ ap (λ (es : List ℕ). slice_index es c.in-Ok.i) c.requires.outs)
+    (c.out_at-in-Ok.ensures ∙ ap (λ (es : List ℕ). slice_index es c.in-Ok.i) c.requires.outs)
 
 pub returns-in-Err-clause-pass : goal.returns-in-Err-clause-pass
 returns-in-Err-clause-pass g c =

@@ -28,7 +28,7 @@ heads-requires g c =
     let net = net_in c.args.plan.now in
     let same : c.graph.result.now ≡ graph_in net = c.graph.ensures ∙ ap (λ (f : FlowGraph). f.graph) c.args.plan.now.own_flow in
     subst (λ (h : Graph). All (λ (e : ℕ). e < edge_count h) c.loop-round.edges.items) (sym same)
-        (all_inside (passed_by c.loop-round.round net) (edge_count (graph_in net)) (passed_by_exists net c.loop-round.round) c.loop-round.edges.items c.loop-round.invariant)
+    (all_inside (passed_by c.loop-round.round net) (edge_count (graph_in net)) (passed_by_exists net c.loop-round.round) c.loop-round.edges.items c.loop-round.invariant)
 
 pub returns : goal.returns
 returns g c =

@@ -24,9 +24,9 @@ returns-then-is_idle g c =
     let at : c.to-piece.result ≡ to (graph_in net) c.args.edge = c.to-piece.ensures.node ∙ ap (λ (h : Graph). to h c.args.edge) same in
     let idle : is_idle net (to (graph_in net) c.args.edge) ≡ true = ap (is_idle net) (sym at) ∙ sym c.is_idle.ensures ∙ c.if-is_idle.true in
     passed_if net c.args.edge c.out_at.result idle
-        (c.out_at.ensures
-        ∙ ap (λ (es : List ℕ). slice_index es 0) (c.index.ensures ∙ mapped_at (outs (graph_in net)) c.args.outs.now.items (graph_in net).nodes c.to-piece.result c.index.result.now c.requires.outs below)
-        ∙ ap (λ (p : ℕ). out (graph_in net) p 0) at)
+    (c.out_at.ensures
+    ∙ ap (λ (es : List ℕ). slice_index es 0) (c.index.ensures ∙ mapped_at (outs (graph_in net)) c.args.outs.now.items (graph_in net).nodes c.to-piece.result c.index.result.now c.requires.outs below)
+    ∙ ap (λ (p : ℕ). out (graph_in net) p 0) at)
 
 pub returns-else-is_idle : goal.returns-else-is_idle
 returns-else-is_idle g c =
