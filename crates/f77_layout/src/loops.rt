@@ -24,7 +24,7 @@ fn empty_lists(alloc: Global) -> Result<Vec<LabelList>, NoMemory>
     ensures len { IfOk result (λ lists. length lists.items ≡ 100000) }
     ensures empty { IfOk result (λ lists. (label : ℕ) → label < 100000 → slice_get lists.items label ≡ Some []) }
 {
-    let mut lists = Vec::new(alloc);
+    let mut lists = Vec::with_capacity(alloc, LABELS)?;
     for _ in 0..LABELS {
         lists.push(Sequence::new(alloc))?;
     }
