@@ -1,11 +1,11 @@
 -- The values of available expressions on runs.
-use Rattle.std.proofs.Common.{◌≡◌, ◌≢◌, ℕ, zero, suc, ◌+◌, ◌<◌, ◌≤◌, ◌⊎◌, ℤ, pos, ◌+ℤ◌, ◌≤ℤ◌, Bool, true, false, List, [], ◌∷◌, ◌++◌, length, get_or, All, Option, Some, None, Result, Ok, Err, refl, sym, ap, ◌∙◌, subst, inl, inr, ⊎_elim, arith, length-append}
+use Rattle.std.proofs.Common.{◌≡◌, ◌≢◌, ℕ, zero, suc, ◌<◌, ◌≤◌, ◌⊎◌, ℤ, pos, ◌+ℤ◌, ◌≤ℤ◌, true, false, List, [], ◌∷◌, ◌++◌, length, get_or, All, Option, Some, None, Result, Ok, Err, refl, sym, ap, ◌∙◌, subst, inl, inr, ⊎_elim, arith, length-append}
 use Rattle.std.specs.Prelude.{slice_get, Contains}
-use Rattle.std.proofs.lemmas.Bool.{cases_lt, cases_eq, false≢true}
+use Rattle.std.proofs.lemmas.Bool.{cases_eq}
 use Rattle.std.proofs.lemmas.List.{get_or_append_left, get_or_push}
 use Rattle.op_table.specs.declared.Trap.{Trap}
 use Rattle.op_table.specs.Words.{IsWord}
-use Rattle.closed_walks.specs.Graph.{Graph, edge_count, from, to}
+use Rattle.closed_walks.specs.Graph.{edge_count, from, to}
 use Rattle.closed_walks.specs.Walk.{Walk, Holds}
 use Rattle.f77_tree.specs.declared.declarations.Dim.{Dim}
 use Rattle.f77_tree.specs.declared.expressions.Expr.{Expr, Row_of-Expr, end_of-Expr, more_of-Expr, Read', Apply'}
@@ -25,7 +25,7 @@ use Rattle.cfg_build.specs.declared.pieces.PieceKind.{PieceKind}
 use Rattle.cfg_build.specs.declared.pieces.PieceKind.TheVariants as piece
 use Rattle.cfg_build.specs.Flow.{flow, piece_at}
 use Rattle.cfg_build.specs.Passes.{PassState, Passed, Along, Traps, Done, acted, branched, choice, pass_of, pass, kind_in, after_pass, passed_from, passes, out}
-use Rattle.redundancy.specs.Available.{IsComputedOn, IsAvailable}
+use Rattle.redundancy.specs.Available.{IsAvailable}
 use Rattle.redundancy.specs.Computed.{Computes, Kills, kind_of_piece, PieceWrites}
 use Rattle.redundancy.specs.Runs.{comes_to, KeepsValue}
 use Rattle.std.specs.Prelude.{flat_map, unwrap_or}
@@ -204,7 +204,6 @@ module _ (p : Program) (c : ClassTable) (input : List ℤ) (well : IsWellFormed 
     (changes : (m : Memory) (kind : ExecKind) (word : ℕ) → Changes p.names input m kind word → ExecMayChange p.names kind word)
     (rest : (m : Memory) (kind : ExecKind) → IfGoes (outcome p.names input m kind) (λ next new text. KeepsRest p.names input kind m new))
     (values : (a b : List ℤ) (e : Expr) → ((word : ℕ) → MayRead p.names e word → word_at a word ≡ word_at b word) → value p.names a None e ≡ value p.names b None e) where
-
   class_written : (kind : ExecKind) (word : ℕ) → TargetFits p.names kind → ExecMayChange p.names kind word → ExecWrites c kind (class_of_word c word)
   class_written (Assign target value next) word fits may = hits target word fits may
   class_written (DoStart loop_no var first last step body exit) word fits may = ap (λ (names : List NameInfo). class_of_word c (place_of names var)) classes.names ∙ ap (class_of_word c) may
@@ -269,7 +268,6 @@ module _ (p : Program) (c : ClassTable) (input : List ℤ) (well : IsWellFormed 
         (start : from (flow p.execs).graph (passes p input 0).edge ≡ 0) (edges : (n : ℕ) → (passes p input n).edge < edge_count (flow p.execs).graph)
         (leads_on : (n : ℕ) → (passes p input (suc n)).mark ≡ Running → from (flow p.execs).graph (passes p input (suc n)).edge ≡ to (flow p.execs).graph (passes p input n).edge)
         (starts : (piece_at (flow p.execs).pieces 0).kind ≡ piece.Start) where
-
       has_value : (m : Memory) (e : Expr) → All IsWord m.store → IsCandidate p.names e → (z : ℤ) × (value_in p.names m e ≡ Ok z)
       has_value m e words is = no_trap m _ (value_in p.names m e) (safe m (Sign e 0 0 0) words (λ may. candidate_quiet p.names e is (but_traps (λ sub dim. false ≡ true) p.names e may)))
 

@@ -1,6 +1,6 @@
 -- The words of a run hold words at each pass.
-use Rattle.std.proofs.Common.{◌≡◌, ℕ, zero, suc, ◌+◌, ◌<◌, if◌then◌else◌, ℤ, pos, ◌+ℤ◌, Bool, true, false, List, [], ◌∷◌, ◌++◌, length, get_or, map, All, Option, Some, None, Result, Ok, Err, refl, sym, ap, ◌∙◌, subst, inl, inr, ⊎_elim, arith, w32}
-use Rattle.std.specs.Prelude.{slice_get, slice_set, ok_or, ◌⊎◌}
+use Rattle.std.proofs.Common.{◌≡◌, ℕ, ◌+◌, if◌then◌else◌, ℤ, pos, ◌+ℤ◌, Bool, true, false, List, [], ◌∷◌, map, All, Option, Some, None, Result, Ok, Err, refl, sym, ap, ◌∙◌, subst, ⊎_elim, arith, w32}
+use Rattle.std.specs.Prelude.{ok_or}
 use Rattle.std.specs.Ordering.{int_eq}
 use Rattle.std.proofs.lemmas.Int.{SFits-int_wrap}
 use Rattle.std.proofs.lemmas.List.Elements.{All-set}
@@ -10,14 +10,13 @@ use Rattle.op_table.specs.Operators.{applied, unary}
 use Rattle.op_table.specs.Words.{IsWord, wrapped, truth, is_true}
 use Rattle.f77_tree.specs.declared.declarations.Kind.{Kind}
 use Rattle.f77_tree.specs.declared.declarations.Kind.TheVariants.{Integer, Logical}
-use Rattle.f77_tree.specs.declared.expressions.Access.{Access}
 use Rattle.f77_tree.specs.declared.expressions.Expr.{Expr, Apply, Row_of-Expr, end_of-Expr, more_of-Expr, items-the_row-Expr, items_hidden-the_row-Expr-0}
 use Rattle.f77_tree.specs.declared.expressions.Expr.TheVariants.{Input}
 use Rattle.f77_tree.specs.declared.programs.ExecKind.{ExecKind}
 use Rattle.f77_tree.specs.declared.programs.ExecKind.TheVariants.{Assign, Print, Pass, Test, Sign, Pick, DoStart, DoNext, End}
 use Rattle.f77_tree.specs.declared.programs.NameInfo.{NameInfo}
-use Rattle.f77_tree.specs.Execution.{Memory, Outcome, Goes, Stops, Ends, outcome, assigned, printed, branched, do_begun, started, words_taken, next_word}
-use Rattle.f77_tree.specs.Kinds.{IsProper, IsOfKind, IsAssignment, taken_as}
+use Rattle.f77_tree.specs.Execution.{Memory, Outcome, Stops, outcome, assigned, printed, branched, do_begun, started, words_taken, next_word}
+use Rattle.f77_tree.specs.Kinds.{IsProper, IsOfKind, taken_as}
 use Rattle.f77_tree.specs.Line.{line_of}
 use Rattle.f77_tree.specs.Steps.{IfGoes}
 use Rattle.f77_tree.specs.Value.{value, row_values, all_values, and_then, place, place_of, word_at}

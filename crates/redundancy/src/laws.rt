@@ -14,7 +14,9 @@ ghost use Rattle.redundancy.specs.Runs.{comes_to, KeepsValue};
 
 use alias_classes::needs_cover_accesses;
 use cfg_build::{flow_graph_has_shape, passes_are_a_walk};
-use f77_tree::{executables_keep_the_rest, reads_decide, runs_hold_words, what_cannot_trap_does_not};
+use f77_tree::{
+    executables_keep_the_rest, reads_decide, runs_hold_words, what_cannot_trap_does_not,
+};
 
 /// Where a run over data of words comes to a piece at which an expression is available, an earlier pass computed the expression, and
 /// since then it has had one value.
