@@ -3,6 +3,8 @@ pub mod Marking
 pub mod Meetings
 pub mod Notes
 pub mod OnWalks
+pub mod PassValues
+pub mod PassWords
 pub mod PieceKinds
 pub mod Rounds
 pub mod Solutions

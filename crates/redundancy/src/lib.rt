@@ -5,6 +5,7 @@
 
 mod avail;
 mod collect;
+mod laws;
 mod listed;
 mod noting;
 mod pieces;
@@ -14,3 +15,4 @@ mod table;
 mod trees;
 
 pub use avail::{Avail, available};
+pub use laws::available_expressions_keep_their_values;
