@@ -21,4 +21,6 @@ mod showing;
 #[cfg(test)]
 mod statements;
 #[cfg(test)]
+mod touched;
+#[cfg(test)]
 mod walks;
