@@ -1,6 +1,6 @@
 //! What is found of a program.
 
-ghost use Rattle.std.specs.Prelude.{◌≡◌, ◌<◌, ◌*◌, length, IfOk};
+ghost use Rattle.std.specs.Prelude.{◌≡◌, ◌<◌, IfOk};
 ghost use Rattle.closed_walks.specs.Graph.{edge_count};
 ghost use Rattle.closed_walks.specs.Numbering.{IsNumbering};
 ghost use Rattle.closed_walks.specs.Region.{IsFlowGraph};
@@ -9,9 +9,7 @@ ghost use Rattle.f77_tree.specs.WellFormed.{IsWellFormed};
 ghost use Rattle.region_tree.specs.Tree.{IsRegionTree};
 ghost use Rattle.line_listing.specs.Found.{IsFoundOf};
 
-use crate::clock::Clock;
-use crate::errors::{no_classes, no_memory};
-use alias_classes::{Classes, classes_of};
+use alias_classes::{ClassEnd, Classes, classes_of};
 use cfg_build::{Flow, flow_of};
 use closed_walks::Digraph;
 use cycle_equiv::edge_classes;
@@ -20,40 +18,33 @@ use df_sequence::NoMemory;
 use f77_tree::Program;
 use region_tree::{RegionTree, region_tree};
 use std::alloc::Global;
-use std::io;
 use std::marker::Brand;
 use std::sync::ledger::{Blank, Ledger};
 use step_count::Steps;
 
-/// The flow graph of a program, its alias classes, which lines its pieces touch, and the wires of the lines.
+/// The flow graph of a program with its regions, its alias classes, which lines its pieces touch, and the wires of the lines.
 #[derive(Drop)]
 pub(crate) struct Found<'a> {
     pub(crate) flow: Flow,
+    pub(crate) tree: RegionTree,
     pub(crate) classes: Classes<'a, 16>,
     pub(crate) touch: TouchList<16>,
     pub(crate) lines: Lines,
 }
 
-/// Finds all of it, and tells how long each part takes.
-pub(crate) fn find<'a>(rt: &HostRuntime, p: &'a Program) -> io::Result<Found<'a>>
+/// Finds all of it.
+pub(crate) fn find<'a>(alloc: Global, p: &'a Program) -> Result<Found<'a>, ClassEnd>
     requires { IsWellFormed p.now }
     ensures { IfOk result (λ found. IsFoundOf p.now found) }
 {
-    let alloc = rt.alloc();
-    let mut clock = Clock::new(rt)?;
-    let flow = flow_of(alloc, p).map_err(no_memory)?;
-    clock.end(rt, "flow graph")?;
-    let tree = tree_of(alloc, flow.graph()).map_err(no_memory)?;
-    clock.end(rt, "regions")?;
-    let classes = classes_of::<16>(alloc, p).map_err(no_classes)?;
-    clock.end(rt, "classes")?;
-    let touch = touches::<16>(alloc, p, &flow, &classes).map_err(no_memory)?;
-    clock.end(rt, "touched lines")?;
-    let lines = route::<16>(alloc, flow.graph(), &tree, &touch, classes.count() + 1)
-        .map_err(no_memory)?;
-    clock.end(rt, "wires")?;
+    let flow = flow_of(alloc, p)?;
+    let tree = tree_of(alloc, flow.graph())?;
+    let classes = classes_of::<16>(alloc, p)?;
+    let touch = touches::<16>(alloc, p, &flow, &classes)?;
+    let lines = route::<16>(alloc, flow.graph(), &tree, &touch, classes.count() + 1)?;
     Ok(Found {
         flow,
+        tree,
         classes,
         touch,
         lines,
@@ -70,7 +61,11 @@ fn tree_of(alloc: Global, g: &Digraph) -> Result<RegionTree, NoMemory>
 }
 
 // The classes of the graph's edges, counted on a ledger of their own.
-fn edge_classes_of<L: Ledger>(alloc: Global, g: &Digraph, blank: Blank) -> Result<Vec<u32>, NoMemory>
+fn edge_classes_of<L: Ledger>(
+    alloc: Global,
+    g: &Digraph,
+    blank: Blank,
+) -> Result<Vec<u32>, NoMemory>
     requires strong { IsStrong g.now }
     requires edge { 0 < edge_count g.now }
     requires name { blank.name ≡ L.name }

@@ -37,7 +37,9 @@ fn tell_classes(rt: &HostRuntime, p: &Program, c: &Classes<16>) -> io::Result<()
     requires classes { IsClasses p.now c.now }
     requires few { class_count c.now < 64 * 16 }
 {
-    let sets = name_sets(rt.alloc(), p, c).map_err(no_memory)?;
+    let Ok(sets) = name_sets(rt.alloc(), p, c) else {
+        return Err(no_memory());
+    };
     for class in 1..c.count() - p.loops + 1 {
         let names = names_in(rt.alloc(), &p.names, &sets, class)?;
         println!(rt; "L {class}{names}")?;
