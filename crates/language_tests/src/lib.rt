@@ -21,6 +21,4 @@ mod showing;
 #[cfg(test)]
 mod statements;
 #[cfg(test)]
-mod touched;
-#[cfg(test)]
 mod walks;
