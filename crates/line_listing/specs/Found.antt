@@ -7,9 +7,9 @@ use Rattle.f77_tree.specs.declared.programs.Program.{Program}
 use Rattle.alias_classes.specs.Classes.{IsClasses, class_count}
 use Rattle.cfg_build.specs.Flow.{flow}
 use Rattle.region_tree.specs.Tree.{IsRegionTree}
-use Rattle.dep_routing.specs.Routing.{IsRouting}
 use Rattle.dep_routing.specs.Touch.{touches_in}
 use Rattle.dep_routing.specs.Touches.{AreTouches}
+use Rattle.const_prop.specs.Right.{IsProgramRouting}
 use Rattle.line_listing.specs.declared.found.Found.{Found}
 
 pub record IsFoundOf (p : Program) (found : Found) : Type 0 where
@@ -21,5 +21,4 @@ pub record IsFoundOf (p : Program) (found : Found) : Type 0 where
   pub touched : length found.touch ≡ found.flow.graph.nodes
   pub touches : AreTouches p found.classes (touches_in found.touch)
   pub edges : found.lines.edges ≡ edge_count found.flow.graph
-  pub lines : found.lines.lines ≡ class_count found.classes + 1
-  pub routing : IsRouting found.flow.graph found.tree (touches_in found.touch) (class_count found.classes + 1) found.lines
+  pub routing : IsProgramRouting p (touches_in found.touch) (class_count found.classes + 1) found.lines

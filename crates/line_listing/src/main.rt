@@ -38,7 +38,7 @@ enum Task {
 fn main(rt: HostRuntime) -> io::Result<()> {
     let task = match env::args(&rt)?.nth(1) {
         None => Task::Lines,
-        Some(word) if word.as_bytes() == b"values" => Task::Values,
+        Some(word) if word.as_bytes() == b"values".as_slice() => Task::Values,
         Some(_) => Task::Times,
     };
     let mut source = StdSource::new(rt.stdin());
