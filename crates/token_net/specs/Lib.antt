@@ -42,3 +42,7 @@ pub mod PieceFacts
 pub mod PlanView
 pub mod NetTables
 pub mod PieceRuns
+pub mod Waking
+pub mod NetView
+pub mod Steering
+pub mod Standing

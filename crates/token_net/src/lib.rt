@@ -9,13 +9,18 @@ mod laws;
 mod lines;
 mod needing;
 mod net_laws;
+mod net;
 mod numbers;
 mod pieces_run;
+mod places;
 mod plan;
 mod playable;
+mod standing;
+mod steering;
 mod straight;
 mod tables;
 mod upcoming;
+mod waking;
 
 pub use control::Control;
 pub use following::{PlayEnd, follow};
