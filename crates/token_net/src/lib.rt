@@ -2,15 +2,15 @@
 #![tactic(auto)]
 
 mod acting;
-mod base;
+mod board;
 mod control;
 mod following;
 mod laws;
 mod lines;
 mod needing;
-mod net_laws;
 mod net;
-mod numbers;
+mod net_firing;
+mod net_laws;
 mod pieces_run;
 mod places;
 mod plan;
@@ -23,6 +23,7 @@ mod upcoming;
 mod waking;
 
 pub use control::Control;
+pub use net::Net;
 pub use following::{PlayEnd, follow};
 pub use laws::{nets_begin_soundly, nets_keep_the_laws};
 pub use net_laws::{flow_graphs_ground_nets, nets_are_paced, nets_keep_pace, runs_ground_nets};

@@ -72,6 +72,7 @@ pub(crate) fn lead<const W: usize>(
     requires edge { edge < edge_count (graph_in (net_in plan.now)) }
     ensures lines { lines.new.items ≡ with_all lines.old.items touched.now (led_from (net_in plan.now) edge) }
     ensures all { length lines.new.items ≡ length lines.old.items }
+    ensures stand { AreEdges (net_in plan.now) lines.old.items → AreEdges (net_in plan.now) lines.new.items }
 {
     for line in touched {
         lines[*line as usize] = Some(plan.routes.next_wire(*line, edge));

@@ -6,7 +6,7 @@ ghost use Rattle.closed_walks.specs.Graph.{edge_count, to};
 ghost use Rattle.cfg_build.specs.Joined.{is_end};
 ghost use Rattle.cfg_build.specs.Passes.{outs as outs_in};
 ghost use Rattle.firing.specs.declared.system.NodeName.TheVariants.{Merge, Switch};
-ghost use Rattle.token_net.specs.Nodes.{graph_in, is_free, led_to, passing, touched, nodes_at, nodes_of, node_count, first_node};
+ghost use Rattle.token_net.specs.Nodes.{graph_in, is_free, led_to, passing, touched, nodes_at, nodes_of, first_node};
 ghost use Rattle.token_net.specs.NetOrder.{arrival, is_idle, passed};
 ghost use Rattle.token_net.specs.NetTables.{AreTables, all_edges, all_pieces};
 ghost use Rattle.token_net.specs.PlanView.{net_in};
@@ -307,15 +307,6 @@ fn is_idle<const W: usize>(plan: &Plan<W>, firsts: &Vec<u32>, piece: u32) -> boo
     ensures { result ≡ is_idle (net_in plan.now) piece }
 {
     firsts[piece as usize] == firsts[piece as usize + 1] && !is_end(plan.flow.piece(piece).kind)
-}
-
-/// How many nodes a piece has.
-pub(crate) fn node_count<const W: usize>(plan: &Plan<W>, tables: &Tables, piece: u32) -> u32
-    requires tables { AreTables (net_in plan.now) tables.now }
-    requires piece { piece < (graph_in (net_in plan.now)).nodes }
-    ensures { result ≡ node_count (net_in plan.now) piece }
-{
-    tables.firsts[piece as usize + 1] - tables.firsts[piece as usize]
 }
 
 /// Whether a piece of this kind is the end.

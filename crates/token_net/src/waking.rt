@@ -2,14 +2,12 @@
 
 ghost use Rattle.std.specs.Prelude.{◌≡◌, ◌<◌, ◌≤◌, ◌+◌, ◌-◌, ℕ, All, suc, length, vec_len, vec_capacity};
 ghost use Rattle.std.specs.List.{Contains, range_with_len};
+ghost use Rattle.token_net.specs.BoardView.{net_on};
 ghost use Rattle.token_net.specs.MemberLaws.{Member};
-ghost use Rattle.token_net.specs.NetTables.{AreTables};
-ghost use Rattle.token_net.specs.PlanView.{net_in};
 ghost use Rattle.token_net.specs.Standing.{AreEdges, edge_at};
 ghost use Rattle.token_net.specs.Waking.{HasNext, Keeps, no_node};
 
-use crate::plan::Plan;
-use crate::tables::Tables;
+use crate::board::Board;
 
 /// Names a node, for which there is room. A node that was just named isn't named again.
 pub(crate) fn wake(woken: &mut Vec<u32>, k: u32)
@@ -30,28 +28,26 @@ pub(crate) fn wake(woken: &mut Vec<u32>, k: u32)
 
 /// Names the node before which a line stands.
 pub(crate) fn wake_before<const W: usize>(
-    plan: &Plan<W>,
-    tables: &Tables,
+    board: &Board<W>,
     lines: &Vec<Option<u32>>,
     line: u32,
     woken: &mut Vec<u32>,
 )
-    requires tables { AreTables (net_in plan.now) tables.now }
-    requires line { line < plan.now.routes.now.lines }
-    requires all { length lines.now.items ≡ plan.now.routes.now.lines }
-    requires edges { AreEdges (net_in plan.now) lines.now.items }
-    requires nodes { All (λ j. j < no_node (net_in plan.now)) woken.old.items }
+    requires line { line < board.now.plan.routes.now.lines }
+    requires all { length lines.now.items ≡ board.now.plan.routes.now.lines }
+    requires edges { AreEdges (net_on board.now) lines.now.items }
+    requires nodes { All (λ j. j < no_node (net_on board.now)) woken.old.items }
     requires room { vec_len woken.old + 1 ≤ vec_capacity woken.old }
-    ensures has { HasNext (net_in plan.now) woken.new.items line (edge_at lines.now.items line) }
+    ensures has { HasNext (net_on board.now) woken.new.items line (edge_at lines.now.items line) }
     ensures kept { Keeps woken.old.items woken.new.items }
-    ensures nodes { All (λ j. j < no_node (net_in plan.now)) woken.new.items }
+    ensures nodes { All (λ j. j < no_node (net_on board.now)) woken.new.items }
     ensures few { vec_len woken.new ≤ vec_len woken.old + 1 }
     ensures capacity { vec_capacity woken.old ≤ vec_capacity woken.new }
 {
     if let Some(edge) = lines[line as usize] {
-        let piece = plan.flow.graph().to(edge);
-        let k = tables.places[piece as usize].as_slice()[line as usize];
-        if (k as usize) < tables.names.len() {
+        let piece = board.plan.flow.graph().to(edge);
+        let k = board.place(piece, line);
+        if k < board.nodes() {
             wake(woken, k);
         }
     }
@@ -59,26 +55,24 @@ pub(crate) fn wake_before<const W: usize>(
 
 /// Names the nodes before which these lines stand.
 pub(crate) fn wake_lines<const W: usize>(
-    plan: &Plan<W>,
-    tables: &Tables,
+    board: &Board<W>,
     lines: &Vec<Option<u32>>,
     moved: &[u32],
     woken: &mut Vec<u32>,
 )
-    requires tables { AreTables (net_in plan.now) tables.now }
-    requires moved { All (λ line. line < plan.now.routes.now.lines) moved.now }
-    requires all { length lines.now.items ≡ plan.now.routes.now.lines }
-    requires edges { AreEdges (net_in plan.now) lines.now.items }
-    requires nodes { All (λ j. j < no_node (net_in plan.now)) woken.old.items }
+    requires moved { All (λ line. line < board.now.plan.routes.now.lines) moved.now }
+    requires all { length lines.now.items ≡ board.now.plan.routes.now.lines }
+    requires edges { AreEdges (net_on board.now) lines.now.items }
+    requires nodes { All (λ j. j < no_node (net_on board.now)) woken.old.items }
     requires room { vec_len woken.old + length moved.now ≤ vec_capacity woken.old }
-    ensures has { (line : ℕ) → Member moved.now line → HasNext (net_in plan.now) woken.new.items line (edge_at lines.now.items line) }
+    ensures has { (line : ℕ) → Member moved.now line → HasNext (net_on board.now) woken.new.items line (edge_at lines.now.items line) }
     ensures kept { Keeps woken.old.items woken.new.items }
-    ensures nodes { All (λ j. j < no_node (net_in plan.now)) woken.new.items }
+    ensures nodes { All (λ j. j < no_node (net_on board.now)) woken.new.items }
     ensures few { vec_len woken.new ≤ vec_len woken.old + length moved.now }
     ensures capacity { vec_capacity woken.old ≤ vec_capacity woken.new }
 {
     for line in moved {
-        wake_before(plan, tables, lines, *line, woken);
+        wake_before(board, lines, *line, woken);
     }
 }
 
