@@ -14,3 +14,9 @@ mod TouchKinds
 mod EndsOnly
 pub mod TableLemmas
 pub mod RunLemmas
+pub mod StandingLemmas
+pub mod SteeringLemmas
+pub mod FiringLemmas
+pub mod PlacesLemmas
+pub mod BoardLemmas
+pub mod WakeLoops

@@ -1,7 +1,7 @@
 //! What firings never change, and what they look up of it.
 
 ghost use Rattle.std.specs.Prelude.{◌≡◌, ◌+◌, ◌<◌, ◌≤◌, All, length};
-ghost use Rattle.closed_walks.specs.Graph.{edge_count};
+ghost use Rattle.closed_walks.specs.Graph.{IsGraph, edge_count};
 ghost use Rattle.cfg_build.specs.Passes.{out, outs as outs_in};
 ghost use Rattle.token_net.specs.NetOrder.{arrival as arrival_in};
 ghost use Rattle.token_net.specs.NetTables.{AreTables};
@@ -11,6 +11,7 @@ ghost use Rattle.token_net.specs.Waking.{place_of};
 
 use crate::plan::Plan;
 use crate::tables::{Tables, out_at};
+use closed_walks::Digraph;
 use df_sequence::LabelList;
 use firing::NodeName;
 
@@ -98,6 +99,7 @@ impl<'a, const W: usize> Board<'a, W> {
         ensures piece { result ≡ arrival_in (net_on self.now) edge }
         ensures exists { result < (graph_in (net_on self.now)).nodes }
     {
+        ends_exist(self.plan.flow.graph());
         self.tables.arrivals[edge as usize]
     }
 
@@ -109,4 +111,11 @@ impl<'a, const W: usize> Board<'a, W> {
     {
         self.tables.places[piece as usize].as_slice()[line as usize]
     }
+}
+
+/// Edges end at nodes.
+fn ends_exist(g: &Digraph)
+    ensures { IsGraph g.now }
+{
+    let _edges = g.edges();
 }
