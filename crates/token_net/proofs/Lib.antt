@@ -9,7 +9,6 @@ mod MoveLemmas
 mod FireLemmas
 mod FollowLemmas
 mod SimplePrograms
-pub mod BaseLemmas
 mod OneWays
 mod TouchKinds
 mod EndsOnly
