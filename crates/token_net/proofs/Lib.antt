@@ -14,3 +14,5 @@ mod TouchKinds
 mod EndsOnly
 pub mod TableLemmas
 pub mod RunLemmas
+pub mod NodePlaces
+pub mod WakingLemmas
