@@ -20,3 +20,6 @@ pub mod FiringLemmas
 pub mod PlacesLemmas
 pub mod BoardLemmas
 pub mod WakeLoops
+pub mod NodePlaces
+pub mod WakingLemmas
+pub mod ActLemmas

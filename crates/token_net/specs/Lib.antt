@@ -41,6 +41,7 @@ pub mod PieceFacts
 pub mod PlanView
 pub mod NetTables
 pub mod PieceRuns
+pub mod Parts
 pub mod Waking
 pub mod NetView
 pub mod Steering
