@@ -23,3 +23,5 @@ pub mod WakeLoops
 pub mod NodePlaces
 pub mod WakingLemmas
 pub mod ActLemmas
+pub mod FireShapes
+pub mod FiredLemmas
