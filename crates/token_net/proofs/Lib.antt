@@ -16,3 +16,4 @@ pub mod TableLemmas
 pub mod RunLemmas
 pub mod NodePlaces
 pub mod WakingLemmas
+pub mod PartsLemmas

@@ -7,6 +7,7 @@ mod control;
 mod following;
 mod laws;
 mod lines;
+mod making;
 mod needing;
 mod net;
 mod net_firing;

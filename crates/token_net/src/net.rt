@@ -1,6 +1,7 @@
 //! The net of a program.
 
-ghost use Rattle.std.specs.Prelude.{◌≡◌, ◌≤◌, ◌+◌, ◌*◌, IfSome, length, vec_capacity};
+ghost use Rattle.std.specs.Option.{ForSome};
+ghost use Rattle.std.specs.Prelude.{◌≡◌, ◌≤◌, ◌+◌, ◌*◌, length, vec_capacity};
 ghost use Rattle.f77_meaning.specs.Room.{most_room};
 ghost use Rattle.token_net.specs.BoardView.{net_on};
 ghost use Rattle.token_net.specs.Nodes.{nodes_of};
@@ -36,7 +37,7 @@ pub struct Net<'a, const W: usize> {
     ghost text_room: { most_room board.plan.program.now.execs ≤ vec_capacity text },
     ghost draft_room: { most_room board.plan.program.now.execs ≤ vec_capacity draft },
     ghost woken_room: { 2 * board.plan.routes.now.lines + 2 ≤ vec_capacity woken },
-    ghost placed: { IfSome control (IsPlaced (net_on board)) },
+    ghost placed: { ForSome control (IsPlaced (net_on board)) },
     ghost marks: { length set ≡ length (nodes_of (net_on board)) },
 }
 
