@@ -1,17 +1,26 @@
 //! What firings never change, and what they look up of it.
 
-ghost use Rattle.std.specs.Prelude.{◌≡◌, ◌+◌, ◌<◌, ◌≤◌, All, length};
-ghost use Rattle.closed_walks.specs.Graph.{edge_count};
+ghost use Rattle.std.specs.Prelude.{◌≡◌, ◌+◌, ◌<◌, ◌≤◌, All, length, vec_capacity};
+ghost use Rattle.closed_walks.specs.Graph.{IsGraph, edge_count};
+ghost use Rattle.f77_tree.specs.CanRun.{CanRun};
+ghost use Rattle.f77_meaning.specs.Room.{most_room};
+ghost use Rattle.f77_meaning.specs.Storage.{memory_of};
 ghost use Rattle.cfg_build.specs.Passes.{out, outs as outs_in};
+ghost use Rattle.token_net.specs.Belonging.{HasSizesOf};
 ghost use Rattle.token_net.specs.NetOrder.{arrival as arrival_in};
 ghost use Rattle.token_net.specs.NetTables.{AreTables};
 ghost use Rattle.token_net.specs.Nodes.{graph_in, first_node, node_at, node_count, nodes_of, touched as touched_in};
+ghost use Rattle.token_net.specs.PieceRuns.{HasLine, KeepsStorage, going_on, told};
 ghost use Rattle.token_net.specs.PlanView.{net_in};
+ghost use Rattle.token_net.specs.Tokens.{pass_at};
 ghost use Rattle.token_net.specs.Waking.{place_of};
 
+use crate::pieces_run::{Ran, run};
 use crate::plan::Plan;
 use crate::tables::{Tables, out_at};
+use closed_walks::Digraph;
 use df_sequence::LabelList;
+use f77_meaning::Storage;
 use firing::NodeName;
 
 /// A plan with its tables.
@@ -98,6 +107,7 @@ impl<'a, const W: usize> Board<'a, W> {
         ensures piece { result ≡ arrival_in (net_on self.now) edge }
         ensures exists { result < (graph_in (net_on self.now)).nodes }
     {
+        ends_exist(self.plan.flow.graph());
         self.tables.arrivals[edge as usize]
     }
 
@@ -109,4 +119,32 @@ impl<'a, const W: usize> Board<'a, W> {
     {
         self.tables.places[piece as usize].as_slice()[line as usize]
     }
+}
+
+/// Runs a piece: what it acts on the storage, the line that it makes, and the edge that it takes. It takes no memory.
+pub(crate) fn run_on<const W: usize>(
+    board: &Board<W>,
+    piece: u32,
+    storage: &mut Storage,
+    draft: &mut Vec<u8>,
+) -> Ran
+    requires piece { piece < (graph_in (net_in board.now.plan)).nodes }
+    requires can_run { CanRun board.now.plan.program.now }
+    requires sizes { HasSizesOf board.now.plan.program.now (memory_of storage.old) }
+    requires data { storage.old.taken ≤ length board.now.plan.input.items }
+    requires room { most_room board.now.plan.program.now.execs ≤ vec_capacity draft.old }
+    ensures pass { going_on (out (graph_in (net_in board.now.plan)) piece 0) (memory_of storage.old) (pass_at (net_in board.now.plan) piece (memory_of storage.old)) ≡ told result (memory_of storage.new) draft.new.items }
+    ensures kept { KeepsStorage result storage.old storage.new }
+    ensures line { HasLine result draft.new.items }
+    ensures data { storage.new.taken ≤ length board.now.plan.input.items }
+    ensures capacity { vec_capacity draft.old ≤ vec_capacity draft.new }
+{
+    run(&board.plan, board.outs(piece), piece, storage, draft)
+}
+
+/// Edges end at nodes.
+fn ends_exist(g: &Digraph)
+    ensures { IsGraph g.now }
+{
+    let _edges = g.edges();
 }

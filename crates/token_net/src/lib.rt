@@ -6,6 +6,7 @@ mod board;
 mod control;
 mod following;
 mod laws;
+mod leading;
 mod lines;
 mod making;
 mod needing;
@@ -24,8 +25,9 @@ mod upcoming;
 mod waking;
 
 pub use control::Control;
-pub use net::Net;
 pub use following::{PlayEnd, follow};
+pub use laws::{nets_begin_soundly, nets_keep_the_laws};
+pub use net::Net;
 pub use laws::{nets_begin_soundly, nets_keep_the_laws, parts_make_nets};
 pub use net_laws::{flow_graphs_ground_nets, nets_are_paced, nets_keep_pace, runs_ground_nets};
 pub use playable::is_playable;

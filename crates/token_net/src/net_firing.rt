@@ -16,11 +16,13 @@ ghost use Rattle.token_net.specs.Tokens.{Tokens, acted, gone, left_for, line_as,
 ghost use Rattle.token_net.specs.Waking.{IsWoken};
 
 use crate::Net;
-use crate::pieces_run::{Ran, run};
-use crate::standing::{drop_lines, lead, leave};
+use crate::board::run_on;
+use crate::pieces_run::Ran;
+use crate::leading::lead_away;
+use crate::standing::drop_lines;
 use crate::steering::steered;
 use crate::tables::touches;
-use crate::waking::{wake, wake_before, wake_behind, wake_lines};
+use crate::waking::{wake, wake_before};
 use firing::Fired;
 use op_table::Trap;
 use std::mem::swap;
@@ -42,14 +44,7 @@ impl<const W: usize> Net<'_, W> {
         ensures fired { FiredIs (net_moves (net_of self.old)) (tokens_of self.old) k result }
         ensures last { self.new.text.items ≡ newest (line_as (net_of self.old) (tokens_of self.old) (Act piece)) self.old.text.items }
     {
-        let outs = self.board.outs(piece);
-        let ran = run(
-            &self.board.plan,
-            outs,
-            piece,
-            &mut self.storage,
-            &mut self.draft,
-        );
+        let ran = run_on(&self.board, piece, &mut self.storage, &mut self.draft);
         match ran {
             Ran::Along(edge) => {
                 self.go(k, piece, edge);
@@ -119,13 +114,14 @@ impl<const W: usize> Net<'_, W> {
         ensures marks { self.new.set ≡ self.old.set }
         ensures text { self.new.text.items ≡ self.old.text.items }
     {
-        let first = self.board.first(piece);
-        let end = self.board.end(piece);
-        let touched = self.board.touched(piece);
-        lead(&self.board.plan, touched, edge, &mut self.lines);
-        leave(&mut self.edges, first, end, edge);
-        wake_lines(&self.board, &self.lines, touched, &mut self.woken);
-        wake_behind(&mut self.woken, first, end);
+        lead_away(
+            &self.board,
+            piece,
+            edge,
+            &mut self.lines,
+            &mut self.edges,
+            &mut self.woken,
+        );
         self.control = steered(&self.board, self.control, k, edge);
     }
 

@@ -1,6 +1,6 @@
 //! Which node of a piece each line goes through.
 
-ghost use Rattle.std.specs.Prelude.{◌≡◌, ◌<◌, ◌^◌, suc, map, if◌then◌else◌, IfOk};
+ghost use Rattle.std.specs.Prelude.{◌≡◌, ◌<◌, ◌^◌, ◌&&◌, not, suc, map, if◌then◌else◌, IfOk};
 ghost use Rattle.std.specs.List.{range_with_len};
 ghost use Rattle.token_net.specs.Nodes.{graph_in, all_lines, first_node};
 ghost use Rattle.token_net.specs.NetTables.{all_pieces};
@@ -92,9 +92,11 @@ fn places_at_switches<const W: usize>(
     for line in 0..plan.routes.lines() {
         let free = is_free(plan, piece, line);
         let touched = touches(plan, piece, line);
-        let place = one_of(touched, first, one_of(free, next, none));
+        let behind = one_of(free, next, none);
+        let place = one_of(touched, first, behind);
         list.push(place)?;
-        next += one_of(free && !touched, 1, 0);
+        let passes = passes_by(free, touched);
+        next += one_of(passes, 1, 0);
     }
     Ok(list)
 }
@@ -145,4 +147,11 @@ fn one_of(takes: bool, first: u32, other: u32) -> u32
     ensures { result ≡ (if takes then first else other) }
 {
     if takes { first } else { other }
+}
+
+/// Whether a line that may be led to a piece passes it untouched.
+fn passes_by(free: bool, touched: bool) -> bool
+    ensures { result ≡ (free && not touched) }
+{
+    free && !touched
 }
