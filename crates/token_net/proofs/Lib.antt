@@ -24,3 +24,4 @@ pub mod NodePlaces
 pub mod WakingLemmas
 pub mod PartsLemmas
 pub mod ActLemmas
+pub mod MakingLemmas

@@ -158,10 +158,7 @@ fn first_control<const W: usize>(board: &Board<W>) -> Control
 }
 
 /// Each line stands where it is led from the edge that leaves the start.
-fn first_places<const W: usize>(
-    alloc: Global,
-    plan: &Plan<W>,
-) -> Result<Vec<Option<u32>>, NoMemory>
+fn first_places<const W: usize>(alloc: Global, plan: &Plan<W>) -> Result<Vec<Option<u32>>, NoMemory>
     ensures { IfOk result (λ places. places.items ≡ map (led_from (net_in plan.now) 1) (all_lines (net_in plan.now))) }
 {
     let mut places = Vec::with_capacity(alloc, plan.routes.lines() as usize)?;
