@@ -35,4 +35,4 @@ module _ {W : ℕ} (plan : Plan W) where
   arrival_exists g edge is sound exists =
       let same : g ≡ graph_in (net_in plan) = is ∙ ap (λ (f : FlowGraph). f.graph) plan.own_flow in
       let graph : IsGraph (graph_in (net_in plan)) = subst (λ (h : Graph). IsGraph h) same sound in
-      graph.ends (passed_by 16 (net_in plan) edge) (passed_by_exists (net_in plan) 16 edge exists)
+      graph.ends (passed_by 18 (net_in plan) edge) (passed_by_exists (net_in plan) 18 edge exists)

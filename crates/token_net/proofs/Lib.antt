@@ -22,6 +22,8 @@ pub mod BoardLemmas
 pub mod WakeLoops
 pub mod NodePlaces
 pub mod WakingLemmas
+pub mod PartsLemmas
 pub mod ActLemmas
 pub mod FireShapes
 pub mod FiredLemmas
+pub mod MakingLemmas

@@ -8,6 +8,7 @@ mod following;
 mod laws;
 mod leading;
 mod lines;
+mod making;
 mod needing;
 mod net;
 mod net_firing;
