@@ -1,12 +1,10 @@
 -- Which node each line goes through, line by line.
-use Rattle.std.proofs.Common.{◌≡◌, ◌<◌, ◌≤◌, ◌+◌, ◌-◌, ◌&&◌, ℕ, zero, suc, Bool, true, false, not, if◌then◌else◌, List, [], ◌∷◌, length, filter, length-append, refl, sym, ap, ◌∙◌, subst, arith}
+use Rattle.std.proofs.Common.{◌≡◌, ◌<◌, ◌≤◌, ◌+◌, ◌-◌, ◌&&◌, ℕ, zero, suc, Bool, true, false, not, if◌then◌else◌, [], ◌∷◌, length, filter, length-append, refl, sym, ap, ◌∙◌, subst, arith}
 use Rattle.std.specs.List.{range_with_len}
-use Rattle.std.proofs.lemmas.List.{length-map}
 use Rattle.cfg_build.specs.declared.pieces.PieceKind.{PieceKind}
 use Rattle.cfg_build.specs.declared.pieces.PieceKind.TheVariants as kind
-use Rattle.firing.specs.declared.system.NodeName.TheVariants.{Merge, Switch}
-use Rattle.token_net.specs.Nodes.{NetOf, graph_in, kind_in, is_free, led_to, passing, nodes_by, nodes_of, node_count, first_node}
-use Rattle.token_net.specs.Waking.{merge_number, no_node, passing_below, place_by, place_of, switch_number}
+use Rattle.token_net.specs.Nodes.{NetOf, graph_in, kind_in, is_free, led_to, passing, nodes_by, node_count, first_node}
+use Rattle.token_net.specs.Waking.{merge_number, no_node, passing_below, place_by, switch_number}
 use Rattle.token_net.proofs.SteeringLemmas.{nodes_within}
 use Rattle.token_net.proofs.TableLemmas.{filter_next}
 
