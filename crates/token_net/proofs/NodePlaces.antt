@@ -1,16 +1,15 @@
 -- The numbers of the nodes of a piece, by the lines that go through them.
-use Rattle.std.proofs.Common.{◌≡◌, ◌<◌, ◌⊎◌, inl, inr, ⊎_elim, ℕ, zero, suc, ◌+◌, ◌&&◌, ◌==◌, Bool, true, false, not, if◌then◌else◌, cond, List, [], ◌∷◌, length, map, filter, Option, Some, None, slice_get, refl, sym, ap, ◌∙◌, subst, arith}
+use Rattle.std.proofs.Common.{◌≡◌, ◌<◌, ◌⊎◌, inl, inr, ℕ, zero, suc, ◌+◌, ◌&&◌, Bool, true, false, not, if◌then◌else◌, cond, List, [], ◌∷◌, length, map, filter, Some, slice_get, refl, sym, ap, ◌∙◌, subst, arith}
 use Rattle.std.specs.List.{range_with_len}
 use Rattle.std.specs.Option.{option_map}
 use Rattle.std.proofs.lemmas.Option.{slice_get-map}
-use Rattle.std.proofs.lemmas.Bool.{cases_Bool, eqb-true}
 use Rattle.cfg_build.specs.declared.pieces.PieceKind.{PieceKind}
 use Rattle.cfg_build.specs.declared.pieces.PieceKind.TheVariants as kind
 use Rattle.firing.specs.declared.system.NodeName.{NodeName}
 use Rattle.firing.specs.declared.system.NodeName.TheVariants.{Act, Merge, Switch, Op}
 use Rattle.token_net.specs.MemberLaws.{Member, Member-filtered, Member-in_range, Member-mapped, IsImage, Member-flat_mapped, IsFromOne}
-use Rattle.token_net.specs.NodeLaws.{is_acting, piece_of, Fits, one_number, IsNamed, named, node_of, node_is}
-use Rattle.token_net.specs.Nodes.{NetOf, graph_in, kind_in, all_lines, is_free, led_to, passing, nodes_by, nodes_of, nodes_at, node_at, name_in, node_count, first_node}
+use Rattle.token_net.specs.NodeLaws.{is_acting, one_number, IsNamed, named, node_of, node_is}
+use Rattle.token_net.specs.Nodes.{NetOf, graph_in, kind_in, all_lines, is_free, led_to, passing, nodes_by, nodes_of, nodes_at, node_at, name_in, first_node}
 use Rattle.token_net.specs.PlaceLaws.{left_of, right_of}
 use Rattle.token_net.specs.Waking.{passing_below, switch_number, merge_number, no_node, place_by, place_of}
 

@@ -1,5 +1,5 @@
 -- The parts of a program make its net.
-use Rattle.std.proofs.Common.{◌≡◌, ◌<◌, ℕ, suc, ℤ, Bool, List, All, arith}
+use Rattle.std.proofs.Common.{◌<◌, ℕ, suc, ℤ, Bool, List, All, arith}
 use Rattle.op_table.specs.Words.{IsWord}
 use Rattle.closed_walks.specs.Graph.{edge_count}
 use Rattle.region_tree.specs.Tree.{Tree, IsRegionTree}

@@ -1,23 +1,21 @@
 -- A firing makes no other nodes ready than those before which the lines that it moved stand now, and those that it freed.
-use Rattle.std.proofs.Common.{◌≡◌, ◌≢◌, ◌<◌, ◌⊎◌, inl, inr, ⊎_elim, ℕ, zero, suc, ◌+◌, ◌&&◌, ◌==◌, Bool, true, false, not, List, [], ◌∷◌, length, All, Contains, Option, Some, None, is_some, slice_get, refl, sym, ap, ◌∙◌, subst, arith}
+use Rattle.std.proofs.Common.{◌≡◌, ◌≢◌, ◌<◌, ◌⊎◌, inl, inr, ⊎_elim, ℕ, ◌&&◌, ◌==◌, Bool, true, false, not, List, [], ◌∷◌, length, Contains, Option, Some, None, is_some, refl, sym, ap, ◌∙◌, subst, arith}
 use Rattle.std.specs.List.{list_all}
 use Rattle.std.proofs.lemmas.Bool.{cases_Bool, eqb-true, eq-eqb}
 use Rattle.closed_walks.specs.Graph.{to}
 use Rattle.alias_classes.specs.Classes.{ClassTable}
-use Rattle.cfg_build.specs.declared.pieces.PieceKind.{PieceKind}
-use Rattle.cfg_build.specs.declared.pieces.PieceKind.TheVariants as kind
 use Rattle.firing.specs.declared.system.NodeName.{NodeName}
 use Rattle.firing.specs.declared.system.NodeName.TheVariants.{Act, Merge, Switch, Op}
 use Rattle.firing.specs.Footprints.{IsReadyAt, HasFootprints}
 use Rattle.firing.specs.Marks.{Wakes}
 use Rattle.firing.specs.Moves.{CanFire}
 use Rattle.token_net.specs.Belonging.{IsNet, CanCome}
-use Rattle.token_net.specs.Feet.{Part, Line, Left, at, is_switch, foot_as, foot}
+use Rattle.token_net.specs.Feet.{Line, Left, at, foot_as, foot}
 use Rattle.token_net.specs.Ground.{Ground}
 use Rattle.token_net.specs.MemberLaws.{Member, Member-filtered, Member-in_range, IsPassed, member_of_list_any}
 use Rattle.token_net.specs.NetLaws.{footed}
-use Rattle.token_net.specs.NodeLaws.{is_acting, piece_of, Fits, touched_is, is_touched, one_number, IsNamed, named, node_of, IsSwitch, switch_is}
-use Rattle.token_net.specs.Nodes.{NetOf, graph_in, kind_in, all_lines, touched, nodes_by, nodes_of, nodes_at, node_at, name_in, node_count, first_node, switches}
+use Rattle.token_net.specs.NodeLaws.{piece_of, is_touched, one_number, IsNamed, named, IsSwitch, switch_is}
+use Rattle.token_net.specs.Nodes.{NetOf, graph_in, all_lines, touched, nodes_of, node_at, first_node, switches}
 use Rattle.token_net.specs.PlaceLaws.{all_pass, same_tests, left_of, right_of}
 use Rattle.token_net.specs.Tokens.{Tokens, joined, edge_of, left_for, leads_to, is_before, ready_as, fired_as, net_moves}
 use Rattle.token_net.specs.Waking.{place_of, moved_by, HasNext, waiting_for, IsWoken}

@@ -1,4 +1,4 @@
-use Rattle.std.proofs.Common.{rules, ◌<◌, ℤ, pos, All, length, take, get_or, subst, sym, arith}
+use Rattle.std.proofs.Common.{rules, ◌<◌, pos, All, length, subst}
 use Rattle.std.proofs.lemmas.List.{take_all}
 use Rattle.std.proofs.lemmas.List.Elements.{All-more}
 use Rattle.op_table.specs.Words.{IsWord}

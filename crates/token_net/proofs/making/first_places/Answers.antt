@@ -1,4 +1,4 @@
-use Rattle.std.proofs.Common.{◌≡◌, Some, ap, ◌∙◌}
+use Rattle.std.proofs.Common.{Some, ap}
 use Rattle.token_net.specs.PlanView.{net_in}
 use Rattle.token_net.specs.Tokens.{led_from}
 use Rattle.token_net.proofs.TableLemmas.{mapped_more}

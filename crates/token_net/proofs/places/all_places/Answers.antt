@@ -1,4 +1,4 @@
-use Rattle.std.proofs.Common.{rules, ◌≡◌, ◌<◌, ◌≤◌, suc, length, ◌∙◌, arith}
+use Rattle.std.proofs.Common.{rules, ◌≡◌, ◌<◌, suc, ◌∙◌, arith}
 use Rattle.token_net.specs.Nodes.{graph_in, first_node}
 use Rattle.token_net.specs.PlanView.{net_in}
 use Rattle.token_net.specs.Waking.{places}

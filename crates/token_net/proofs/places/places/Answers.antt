@@ -1,12 +1,10 @@
-use Rattle.std.proofs.Common.{rules, ◌≡◌, ◌<◌, ◌^◌, ◌⊎◌, ⊎_elim, ℕ, suc, length, map, sym, ap, ◌∙◌, arith}
+use Rattle.std.proofs.Common.{◌≡◌, ⊎_elim, suc, sym, ap, ◌∙◌, arith}
 use Rattle.std.proofs.lemmas.List.{length-map}
-use Rattle.cfg_build.specs.declared.pieces.PieceKind.{PieceKind}
 use Rattle.cfg_build.specs.declared.pieces.PieceKind.TheVariants as kind
 use Rattle.cfg_build.specs.Flow.{flow}
 use Rattle.firing.specs.declared.system.NodeName.TheVariants.{Merge, Switch}
-use Rattle.token_net.specs.Nodes.{graph_in, kind_in, led_to, passing}
+use Rattle.token_net.specs.Nodes.{led_to, passing}
 use Rattle.token_net.specs.PlanView.{net_in}
-use Rattle.token_net.specs.Waking.{merge_number, switch_number}
 use Rattle.token_net.proofs.PlacesLemmas.{switch_room, merge_room}
 use Rattle.token_net.proofs.TableLemmas.{kind_told}
 use Rattle.token_net.proofs.places.places.Goals as goal

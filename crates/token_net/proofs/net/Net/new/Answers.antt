@@ -9,7 +9,6 @@ use Rattle.token_net.specs.BoardView.{net_on}
 use Rattle.token_net.specs.Nodes.{NetOf, nodes_of}
 use Rattle.token_net.specs.Parts.{net_with}
 use Rattle.token_net.specs.Steering.{IsPlaced}
-use Rattle.token_net.specs.Tokens.{first_tokens}
 use Rattle.token_net.proofs.MakingLemmas.{every_line, every_node, first_made, can_come, in_step}
 use Rattle.token_net.proofs.net.Net.new.Goals as goal
 
