@@ -16,6 +16,7 @@ use Rattle.token_net.specs.NodeLaws.{is_acting, piece_of, IsNamed, named}
 use Rattle.token_net.specs.Nodes.{NetOf, graph_in, kind_in, all_lines, is_free, touched, passing, nodes_by, nodes_of, node_at, node_count, first_node, switch_lines, switches}
 use Rattle.token_net.specs.Standing.{IsReadable}
 use Rattle.token_net.specs.Tokens.{Tokens, is_before, left_for, ready_as}
+use Rattle.token_net.proofs.SteeringLemmas.{nodes_within}
 use Rattle.token_net.proofs.TableLemmas.{short_filter}
 
 module _ (net : NetOf) (piece : ℕ) where
@@ -58,6 +59,12 @@ module _ (net : NetOf) (piece : ℕ) where
       let f = few_by (kind_in net piece) in
       omega (arith, n, f, begins, ends)
 
+  pub first_below : (first : ℕ) → piece < (graph_in net).nodes → is_acting (kind_in net piece) ≡ true → first ≡ first_node net piece → first < length (nodes_of net)
+  first_below first exists acts begins =
+      let n = acting_some acts in
+      let within = nodes_within net piece exists in
+      omega (arith, n, within, begins)
+
   -- ---- names
 
   pub record IsActing (k : ℕ) : Type 0 where
@@ -77,7 +84,7 @@ module _ (net : NetOf) (piece : ℕ) where
   pub switch_named : (k line : ℕ) → k < length (nodes_of net) → node_at net k ≡ Switch piece line → IsSwitching line k
   switch_named k line below name =
       let n : IsNamed net (Switch piece line) = subst (λ a. IsNamed net a) name (named net k below) in
-      record { exists = n.exists; acts = n.fits.1.0; inside = n.fits.1.1.0 }
+      record { exists = n.exists; acts = n.fits.1; inside = n.fits.2 }
 
   pub record IsMerging (line k : ℕ) : Type 0 where
     pub exists : piece < (graph_in net).nodes
@@ -86,7 +93,7 @@ module _ (net : NetOf) (piece : ℕ) where
   pub merge_named : (k line : ℕ) → k < length (nodes_of net) → node_at net k ≡ Merge piece line → IsMerging line k
   merge_named k line below name =
       let n : IsNamed net (Merge piece line) = subst (λ a. IsNamed net a) name (named net k below) in
-      record { exists = n.exists; inside = n.fits.1.1 }
+      record { exists = n.exists; inside = n.fits.2 }
 
 -- ---- what is ready
 

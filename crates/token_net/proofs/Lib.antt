@@ -25,3 +25,5 @@ pub mod WakingLemmas
 pub mod PartsLemmas
 pub mod ActLemmas
 pub mod MakingLemmas
+pub mod FireShapes
+pub mod FiredLemmas

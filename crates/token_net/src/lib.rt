@@ -13,6 +13,7 @@ mod needing;
 mod net;
 mod net_firing;
 mod net_laws;
+mod net_system;
 mod pieces_run;
 mod places;
 mod plan;

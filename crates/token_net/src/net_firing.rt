@@ -17,8 +17,8 @@ ghost use Rattle.token_net.specs.Waking.{IsWoken};
 
 use crate::Net;
 use crate::board::run_on;
-use crate::pieces_run::Ran;
 use crate::leading::lead_away;
+use crate::pieces_run::Ran;
 use crate::standing::drop_lines;
 use crate::steering::steered;
 use crate::tables::touches;

@@ -1,4 +1,4 @@
-use Rattle.std.proofs.Common.{◌≡◌, ◌<◌, ℕ, Some, sym, ap, ◌∙◌, subst, arith}
+use Rattle.std.proofs.Common.{◌≡◌, ◌<◌, ℕ, None, Some, sym, ap, ◌∙◌, subst, arith, rules}
 use Rattle.closed_walks.specs.Graph.{Graph, edge_count, to}
 use Rattle.cfg_build.specs.Joined.{FlowGraph}
 use Rattle.token_net.specs.BoardView.{net_on}
@@ -27,3 +27,8 @@ returns-else-k-nodes-clause-has g c =
     let same : c.graph.result.now ≡ graph_in net = c.graph.ensures ∙ ap (λ (f : FlowGraph). f.graph) c.args.board.now.plan.own_flow in
     let at : edge_at c.args.lines.now.items c.args.line ≡ Some c.in-Some.edge = read_edge c.args.lines.now.items c.args.line c.index.result.now (omega (arith, c.requires.line, c.requires.all)) c.index.ensures ∙ c.in-Some.is in
     next_past net c.args.woken.now.items c.args.line c.in-Some.edge c.to-piece.result c.place-k.result (edge_at c.args.lines.now.items c.args.line) at (c.to-piece.ensures.node ∙ ap (λ (h : Graph). to h c.in-Some.edge) same) c.place-k.ensures (omega (arith, c.if-k-nodes.false, c.nodes.ensures))
+
+pub returns-in_default-clause-has : goal.returns-in_default-clause-has
+returns-in_default-clause-has g c =
+    let none : c.index.result.now ≡ None = search rules in
+    next_lost (net_on c.args.board.now) c.args.woken.now.items c.args.line (edge_at c.args.lines.now.items c.args.line) (read_edge c.args.lines.now.items c.args.line c.index.result.now (omega (arith, c.requires.line, c.requires.all)) c.index.ensures ∙ none)

@@ -7,21 +7,20 @@ use Rattle.token_net.proofs.ActLemmas.{IsActing, IsSwitching, IsMerging, act_nam
 use Rattle.token_net.proofs.StandingLemmas.{read_edge}
 use Rattle.token_net.proofs.net.Net.is_ready.Goals as goal
 
-pub can_act-requires-clause-piece : goal.can_act-requires-clause-piece
-can_act-requires-clause-piece g c = let n : IsActing (net_of c.args.self.now) c.in-Act.piece c.args.k = act_named (net_of c.args.self.now) c.in-Act.piece c.args.k c.requires.node (sym c.name.ensures ∙ c.in-Act.is) in n.exists
+pub can_act-requires : goal.can_act-requires
+can_act-requires g c =
+    let n : IsActing (net_of c.args.self.now) c.in-Act.piece c.args.k = act_named (net_of c.args.self.now) c.in-Act.piece c.args.k c.requires.node (sym c.name.ensures ∙ c.in-Act.is) in
+    (omega arith, (n.exists, (n.acts, c.requires.readable)))
 
-pub can_act-requires-clause-acts : goal.can_act-requires-clause-acts
-can_act-requires-clause-acts g c = let n : IsActing (net_of c.args.self.now) c.in-Act.piece c.args.k = act_named (net_of c.args.self.now) c.in-Act.piece c.args.k c.requires.node (sym c.name.ensures ∙ c.in-Act.is) in n.acts
-
-pub is_before-requires-clause-line : goal.is_before-requires-clause-line
-is_before-requires-clause-line g c =
+pub is_before-requires : goal.is_before-requires
+is_before-requires g c =
     let n : IsSwitching (net_of c.args.self.now) c.in-Switch.piece c.in-Switch.line c.args.k = switch_named (net_of c.args.self.now) c.in-Switch.piece c.args.k c.in-Switch.line c.requires.node (sym c.name.ensures ∙ c.in-Switch.is) in
-    omega (arith, n.inside, c.args.self.now.every_line)
+    (omega arith, (omega (arith, n.inside, c.args.self.now.every_line), c.requires.readable.stand))
 
-pub is_before-requires-in-Merge-clause-line : goal.is_before-requires-in-Merge-clause-line
-is_before-requires-in-Merge-clause-line g c =
+pub is_before-requires-in-Merge : goal.is_before-requires-in-Merge
+is_before-requires-in-Merge g c =
     let n : IsMerging (net_of c.args.self.now) c.in-Merge.piece c.in-Merge.line c.args.k = merge_named (net_of c.args.self.now) c.in-Merge.piece c.args.k c.in-Merge.line c.requires.node (sym c.name.ensures ∙ c.in-Merge.is) in
-    omega (arith, n.inside, c.args.self.now.every_line)
+    (omega arith, (omega (arith, n.inside, c.args.self.now.every_line), c.requires.readable.stand))
 
 pub returns-in-Act : goal.returns-in-Act
 returns-in-Act g c = c.can_act.ensures c.args.k ∙ ap (ready_as (net_of c.args.self.now) (tokens_of c.args.self.now) c.args.k) (sym (sym c.name.ensures ∙ c.in-Act.is))
