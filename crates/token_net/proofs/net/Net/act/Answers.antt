@@ -73,7 +73,7 @@ returns-in-Wrote-clause-marking g c =
     let mem = memory_of c.run_on-ran.new.storage in
     let text = c.run_on-ran.new.draft.items in
     let pass : going_on (out (graph_in net) c.args.piece 0) m.memory (pass_at net c.args.piece m.memory) ≡ Along c.in-Wrote.edge mem text = c.run_on-ran.ensures.pass ∙ ap (λ (r : Ran). told r mem text) c.in-Wrote.is in
-    c.go.ensures.marking ∙ sym (acted_told net c.args.piece m c.in-Wrote.edge mem text (pass_at net c.args.piece m.memory) pass)
+    c.go-in-Wrote.ensures.marking ∙ sym (acted_told net c.args.piece m c.in-Wrote.edge mem text (pass_at net c.args.piece m.memory) pass)
 
 pub returns-in-Wrote-clause-place : goal.returns-in-Wrote-clause-place
 returns-in-Wrote-clause-place g c =
@@ -82,7 +82,7 @@ returns-in-Wrote-clause-place g c =
     let mem = memory_of c.run_on-ran.new.storage in
     let text = c.run_on-ran.new.draft.items in
     let pass : going_on (out (graph_in net) c.args.piece 0) m.memory (pass_at net c.args.piece m.memory) ≡ Along c.in-Wrote.edge mem text = c.run_on-ran.ensures.pass ∙ ap (λ (r : Ran). told r mem text) c.in-Wrote.is in
-    c.go.ensures.place m (act_leads net m c.args.k c.requires.node c.args.piece c.in-Wrote.edge c.requires.name (edge_told net c.args.piece m c.in-Wrote.edge mem text (pass_at net c.args.piece m.memory) pass))
+    c.go-in-Wrote.ensures.place m (act_leads net m c.args.k c.requires.node c.args.piece c.in-Wrote.edge c.requires.name (edge_told net c.args.piece m c.in-Wrote.edge mem text (pass_at net c.args.piece m.memory) pass))
 
 pub returns-in-Trapped-clause-marking : goal.returns-in-Trapped-clause-marking
 returns-in-Trapped-clause-marking g c =
