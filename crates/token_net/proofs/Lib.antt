@@ -24,6 +24,6 @@ pub mod NodePlaces
 pub mod WakingLemmas
 pub mod PartsLemmas
 pub mod ActLemmas
+pub mod MakingLemmas
 pub mod FireShapes
 pub mod FiredLemmas
-pub mod MakingLemmas

@@ -1,13 +1,12 @@
 //! The making of a net.
 
-ghost use Rattle.std.specs.Prelude.{◌≡◌, ◌<◌, ℕ, ℤ, Bool, List, [], None, Some, All, length, map, replicate, IfOk};
+ghost use Rattle.std.specs.Prelude.{◌≡◌, ℕ, ℤ, Bool, List, [], None, Some, All, length, map, replicate, IfOk};
 ghost use Rattle.op_table.specs.Words.{IsWord};
 ghost use Rattle.class_set.specs.Members.{IsWidth};
-ghost use Rattle.closed_walks.specs.Graph.{edge_count};
 ghost use Rattle.f77_tree.specs.declared.programs.Program.{Program};
 ghost use Rattle.cfg_build.specs.Flow.{flow as flow_graph};
 ghost use Rattle.cfg_build.specs.Joined.{FlowGraph};
-ghost use Rattle.dep_routing.specs.Routing.{Routing, next_at};
+ghost use Rattle.dep_routing.specs.Routing.{Routing};
 ghost use Rattle.dep_routing.specs.Touch.{touches_in};
 ghost use Rattle.firing.specs.Control.{IsInStep};
 ghost use Rattle.token_net.specs.Belonging.{CanCome};
@@ -15,7 +14,7 @@ ghost use Rattle.token_net.specs.BoardView.{net_on};
 ghost use Rattle.token_net.specs.NetOrder.{first_control as first_control_of};
 ghost use Rattle.token_net.specs.NetPace.{IsInPace};
 ghost use Rattle.token_net.specs.NetView.{net_of, tokens_of};
-ghost use Rattle.token_net.specs.Nodes.{NetOf, all_lines, graph_in, nodes_of};
+ghost use Rattle.token_net.specs.Nodes.{all_lines};
 ghost use Rattle.token_net.specs.Parts.{AreParts, net_with};
 ghost use Rattle.token_net.specs.PlanView.{net_in};
 ghost use Rattle.token_net.specs.Steering.{IsPlaced};
