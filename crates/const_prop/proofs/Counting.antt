@@ -1,12 +1,13 @@
 -- Counts of the words of classes.
-use Rattle.std.proofs.Common.{◌≡◌, ◌≢◌, ℕ, ◌+◌, ◌<◌, ◌≤◌, ◌^◌, Bool, true, false, ◌==◌, List, [], ◌∷◌, ◌++◌, length, take, get_or, set, count_by, refl, sym, ap, ◌∙◌, ⊎_elim, arith, length-set}
-use Rattle.std.proofs.lemmas.Bool.{cases_eq, eq-eqb, eqb-true, false_from_ne_true, cases_lt}
+use Rattle.std.proofs.Common.{◌≡◌, ◌≢◌, ℕ, ◌+◌, ◌<◌, ◌≤◌, ◌^◌, Bool, true, false, ◌==◌, List, [], ◌∷◌, ◌++◌, length, take, get_or, set, cond, not, count_by, add-one, refl, sym, ap, ◌∙◌, ⊎_elim, arith, length-set}
+use Rattle.std.proofs.lemmas.Bool.{cases_eq, cases_Bool, cond-false, and_parts, eq-eqb, eqb-true, false_from_ne_true, cases_lt}
 use Rattle.std.proofs.lemmas.Grind.{get_or-set_at}
-use Rattle.std.proofs.lemmas.List.{get_or_read, get_or-set_other, get_or_append_left}
+use Rattle.std.proofs.lemmas.List.{get_or_read, get_or-set_other, get_or_append_left, get_or_past}
 use Rattle.std.proofs.Math.Seq.{get_or-append_seam}
 use Rattle.alias_classes.specs.Classes.{ClassTable}
+use Rattle.cfg_build.proofs.Counts.{count_unique}
 use Rattle.const_prop.specs.Closed.{is_one_word}
-use Rattle.std.proofs.lemmas.List.Sums.{count_by_more_yes, count_by_more_no, count_by-le-length}
+use Rattle.std.proofs.lemmas.List.Sums.{count_by_more_yes, count_by_more_no, count_by-le-length, sum_by-cons}
 
 -- how many of the first words have each class
 pub record AreCounts (numbers counts : List ℕ) (lines k : ℕ) : Type 0 where
@@ -53,3 +54,49 @@ pub one_word-some : (c : ClassTable) (line n : ℕ) → line ≢ 0 → n ≡ cou
 one_word-some c line n some is =
     let no' : (line == 0) ≡ false = false_from_ne_true (line == 0) (λ e. some (eqb-true line 0 e)) in
     rw (no', is) refl
+
+-- ---- the word of a class of one
+
+pub record IsWordOfClass (c : ClassTable) (line : ℕ) : Type 0 where
+  pub word : ℕ
+  pub exists : word < length c.numbers
+  pub is : get_or c.numbers word 0 ≡ line
+
+abbrev bit : Bool → ℕ
+bit b = cond b 1 0
+
+counted : (line : ℕ) (numbers : List ℕ) → count_by (λ n. n == line) numbers ≡ 1 → (word : ℕ) × (word < length numbers) × (get_or numbers word 0 ≡ line)
+counted line [] one = absurd (omega (arith, one))
+counted line (x ∷ xs) one = ⊎_elim
+    (λ (here : (x == line) ≡ true). (0, omega arith, eqb-true x line here))
+    (λ (other : (x == line) ≡ false).
+    let all : count_by (λ n. n == line) (x ∷ xs) ≡ bit (x == line) + count_by (λ n. n == line) xs = sum_by-cons (λ (n : ℕ). bit (n == line)) x xs in
+    let none : bit (x == line) ≡ 0 = cond-false (x == line) 1 0 other in
+    let rest = counted line xs (omega (arith, one, all, none)) in
+    let low = rest.1 in
+    (rest.0 + 1, omega (arith, low), ap (λ n. get_or (x ∷ xs) n 0) (add-one rest.0) ∙ rest.2))
+    (cases_Bool (x == line))
+
+one_word-parts : (c : ClassTable) (line : ℕ) → is_one_word c line ≡ true → count_by (λ n. n == line) c.numbers ≡ 1
+one_word-parts c line one = eqb-true (count_by (λ n. n == line) c.numbers) 1 ((and_parts (not (line == 0)) (count_by (λ n. n == line) c.numbers == 1) one).1)
+
+pub one_word-words : (c : ClassTable) (line : ℕ) → is_one_word c line ≡ true → IsWordOfClass c line
+one_word-words c line one = let w = counted line c.numbers (one_word-parts c line one) in record { word = w.0; exists = w.1; is = w.2 }
+
+class-inside : (c : ClassTable) (line : ℕ) → is_one_word c line ≡ true → (k : ℕ) → get_or c.numbers k 0 ≡ line → k < length c.numbers
+class-inside c line one k is = ⊎_elim
+    (λ (l : k < length c.numbers). l)
+    (λ (past : length c.numbers ≤ k).
+    let clash : true ≡ false = sym one ∙ one_word-zero c line (sym is ∙ get_or_past c.numbers k 0 past) in absurd cc)
+    (cases_lt k (length c.numbers))
+
+-- a class of one word has no other
+pub one_word-same : (c : ClassTable) (word other : ℕ) → is_one_word c (get_or c.numbers word 0) ≡ true → get_or c.numbers other 0 ≡ get_or c.numbers word 0 → word ≡ other
+one_word-same c word other one same =
+    let line = get_or c.numbers word 0 in
+    let count = one_word-parts c line one in
+    count_unique (λ (n : ℕ). n == line) c.numbers word other 0 (omega (arith, count)) (class-inside c line one word refl) (class-inside c line one other same) (eq-eqb line line refl) (eq-eqb (get_or c.numbers other 0) line same)
+
+-- a word whose class has no other is one of the table
+pub one_word-inside : (c : ClassTable) (word words : ℕ) → length c.numbers ≡ words → is_one_word c (get_or c.numbers word 0) ≡ true → word < words
+one_word-inside c word words size one = let l = class-inside c (get_or c.numbers word 0) one word refl in omega (arith, l, size)

@@ -5,3 +5,4 @@ pub mod Live
 pub mod Right
 pub mod Setting
 pub mod Work
+pub mod Facts

@@ -4,8 +4,10 @@
 //! Source: Wegman and Zadeck, "Constant propagation with conditional branches", TOPLAS 13 (1991).
 #![tactic(auto)]
 
+mod facts;
 mod known;
 mod known_values;
+mod laws;
 mod making;
 mod pieces;
 mod row;
@@ -17,5 +19,6 @@ mod visit;
 mod work;
 
 pub use known::Known;
+pub use laws::{constants_are_right, live_edges_have_values, own_touches_route};
 pub use making::constants;
 pub use table::Table;

@@ -3,27 +3,24 @@
 ghost use Rattle.std.specs.Prelude.{◌≡◌, ◌+◌, length, IfOk};
 ghost use Rattle.class_set.specs.Members.{IsWidth};
 ghost use Rattle.closed_walks.specs.Graph.{edge_count};
-ghost use Rattle.closed_walks.specs.Region.{IsFlowGraph};
-ghost use Rattle.f77_tree.specs.declared.programs.Program.{Program};
 ghost use Rattle.f77_tree.specs.WellFormed.{IsWellFormed};
 ghost use Rattle.alias_classes.specs.Classes.{IsClasses, class_count};
 ghost use Rattle.cfg_build.specs.Flow.{flow};
-ghost use Rattle.cfg_build.specs.Joined.{FlowGraph};
 ghost use Rattle.dep_routing.specs.Touch.{touches_in};
 ghost use Rattle.dep_routing.specs.Touches.{AreTouches};
 ghost use Rattle.const_prop.specs.Closed.{IsConstants};
 ghost use Rattle.const_prop.specs.Right.{IsProgramRouting};
-ghost use Rattle.const_prop.specs.Setting.{IsProgram};
 ghost use Rattle.const_prop.specs.Table.{knowns_of};
 
+use crate::facts::program_facts;
 use crate::setting::Setting;
 use crate::table::Table;
 use crate::work::Work;
 use alias_classes::Classes;
-use cfg_build::{Flow, flow_graph_has_shape, flow_graph_is_strong, pieces_run_executables};
+use cfg_build::Flow;
 use dep_routing::{Lines, TouchList, next_edges};
 use df_sequence::NoMemory;
-use f77_tree::{Program, well_formed_programs_can_run};
+use f77_tree::Program;
 use std::alloc::Global;
 
 /// The constants of a program: the least closed table over its wires. It takes a few steps for each wire and each time that more is
@@ -67,15 +64,4 @@ pub fn constants<const W: usize>(
         values,
         decisions,
     })
-}
-
-/// What the laws on flow graphs say of that of a program.
-fn program_facts()
-    ensures program { (p : Program) (f : FlowGraph) → IsWellFormed p → f ≡ flow p.execs → IsProgram p f }
-    ensures strong { (p : Program) → IsWellFormed p → IsFlowGraph (flow p.execs).graph }
-{
-    flow_graph_is_strong();
-    flow_graph_has_shape();
-    pieces_run_executables();
-    well_formed_programs_can_run();
 }

@@ -2,7 +2,7 @@ use Rattle.std.proofs.Common.{sym, subst, refl}
 use Rattle.cfg_build.specs.Flow.{flow}
 use Rattle.cfg_build.specs.Joined.{FlowGraph}
 use Rattle.const_prop.specs.Setting.{IsProgram}
-use Rattle.const_prop.proofs.making.program_facts.Goals as goal
+use Rattle.const_prop.proofs.facts.program_facts.Goals as goal
 
 pub returns-clause-program : goal.returns-clause-program
 returns-clause-program c = λ p f wf is.
