@@ -1,18 +1,16 @@
 -- The table of the places of labels, and what stands there.
-use Rattle.std.proofs.Common.{◌≡◌, ℕ, zero, suc, ◌+◌, ◌<◌, ◌≤◌, Bool, true, false, not, ◌&&◌, ◌||◌, if◌then◌else◌, ◌==◌, List, [], ◌∷◌, ◌⊎◌, inl, inr, length, take, slice_get, get_or, set, replicate, Some, None, refl, sym, ap, subst, ◌∙◌, arith}
+use Rattle.std.proofs.Common.{◌≡◌, ℕ, zero, suc, ◌+◌, ◌<◌, ◌≤◌, Bool, true, false, not, ◌&&◌, ◌||◌, if◌then◌else◌, ◌==◌, List, [], ◌∷◌, ◌⊎◌, inl, inr, length, take, slice_get, get_or, set, Some, None, refl, sym, ap, subst, ◌∙◌, arith}
 use Rattle.std.specs.List.{list_any, position_or_len}
-use Rattle.std.proofs.lemmas.Bool.{cases_eq, cases_lt, or_parts, or_cases, or_left, or_right, or_from, and_parts, and_from, eqb-true, eq-eqb, ne_eqb, false_from_ne_true}
-use Rattle.std.proofs.lemmas.List.{get_or-set_same, get_or-set_other, length-set, length-replicate, get_or-replicate, get_or_past, take_all}
+use Rattle.std.proofs.lemmas.Bool.{cases_eq, or_parts, or_cases, or_left, or_right, or_from, and_parts, and_from, eqb-true, eq-eqb, ne_eqb, false_from_ne_true}
+use Rattle.std.proofs.lemmas.List.{get_or-set_same, get_or-set_other, take_all}
 use Rattle.std.proofs.lemmas.Option.{slice_get_within}
 use Rattle.f77_tree.specs.declared.statements.Labelled.{Labelled}
 use Rattle.f77_tree.specs.declared.statements.Stmt.{Stmt}
 use Rattle.f77_tree.specs.declared.statements.Stmt.TheVariants.{Else}
 use Rattle.f77_layout.specs.Roles.{role_of, is_target_role}
 use Rattle.f77_layout.specs.Faults.{first_line}
-use Rattle.f77_layout.specs.Source.{IsSource}
 use Rattle.f77_layout.specs.Labels.{statement_of, is_labelled_twice, bears, is_executable, is_arm}
 use Rattle.f77_layout.proofs.LabelLemmas.{position-at, statement_of-own}
-use Rattle.f77_layout.proofs.SourceLabels.{label_is_small}
 
 -- ---- lists
 
@@ -79,16 +77,15 @@ abbrev pub Told : List Labelled → (i label place : ℕ) → Type 0
 Told stmts i label place = ((place ≡ length stmts) × (list_any (has_label label) (take i stmts) ≡ false)) ⊎ ((place < i) × (place ≡ statement_of stmts label))
 
 pub record IsTable (stmts : List Labelled) (i count : ℕ) (places : List ℕ) : Type 0 where
-  pub labels : length places ≡ 100000
   pub counts : count ≡ length stmts
-  pub told : (label : ℕ) → label < 100000 → Told stmts i label (get_or places label count)
+  pub told : (label : ℕ) → Told stmts i label (get_or places label count)
 
-pub IsTable-begin : (stmts : List Labelled) (count : ℕ) → count ≡ length stmts → IsTable stmts 0 count (replicate 100000 count)
-IsTable-begin stmts count is = record {
-  labels = length-replicate {A = ℕ} 100000 count;
-  counts = is;
-  told = λ label lt. inl (get_or-replicate {A = ℕ} 100000 label count count lt ∙ is, refl);
-}
+pub IsTable-begin : (stmts : List Labelled) (count : ℕ) → count ≡ length stmts → IsTable stmts 0 count []
+IsTable-begin stmts count is = record { counts = is; told = λ label. inl (is, refl) }
+
+-- a table that is read alike
+pub IsTable-alike : (stmts : List Labelled) (i count : ℕ) (places new : List ℕ) → ((label : ℕ) → get_or new label count ≡ get_or places label count) → IsTable stmts i count places → IsTable stmts i count new
+IsTable-alike stmts i count places new alike table = record { counts = table.counts; told = λ label. subst (λ (place : ℕ). Told stmts i label place) (sym (alike label)) (table.told label) }
 
 Told-other : (stmts : List Labelled) (i : ℕ) (s : Labelled) (label place : ℕ) → slice_get stmts i ≡ Some s → (s.label ≡ label → ⊥) → Told stmts i label place → Told stmts (i + 1) label place
 Told-other stmts i s label place here other told = elim told as (λ _. Told stmts (i + 1) label place) [
@@ -97,52 +94,39 @@ Told-other stmts i s label place here other told = elim told as (λ _. Told stmt
 ]
 
 -- a label that was met before
-pub IsTable-keep : (stmts : List Labelled) (i count : ℕ) (places : List ℕ) (s : Labelled) → slice_get stmts i ≡ Some s → s.label < 100000 → (get_or places s.label count ≡ count → ⊥) → IsTable stmts i count places → IsTable stmts (i + 1) count places
-IsTable-keep stmts i count places s here small met table = record {
-  labels = table.labels;
+pub IsTable-keep : (stmts : List Labelled) (i count : ℕ) (places : List ℕ) (s : Labelled) → slice_get stmts i ≡ Some s → (get_or places s.label count ≡ count → ⊥) → IsTable stmts i count places → IsTable stmts (i + 1) count places
+IsTable-keep stmts i count places s here met table = record {
   counts = table.counts;
-  told = λ label lt. elim (cases_eq label s.label) as (λ _. Told stmts (i + 1) label (get_or places label count)) [
-    | inl same ↦ subst (λ (l : ℕ). Told stmts (i + 1) l (get_or places l count)) (sym same) (elim (table.told s.label small) as (λ _. Told stmts (i + 1) s.label (get_or places s.label count)) [
+  told = λ label. elim (cases_eq label s.label) as (λ _. Told stmts (i + 1) label (get_or places label count)) [
+    | inl same ↦ subst (λ (l : ℕ). Told stmts (i + 1) l (get_or places l count)) (sym same) (elim (table.told s.label) as (λ _. Told stmts (i + 1) s.label (get_or places s.label count)) [
       | inl none ↦ absurd (met (none.0 ∙ sym table.counts))
       | inr known ↦ inr (omega (arith, known.0), known.1)
     ])
-    | inr other ↦ Told-other stmts i s label (get_or places label count) here (λ e. other (sym e)) (table.told label lt)
+    | inr other ↦ Told-other stmts i s label (get_or places label count) here (λ e. other (sym e)) (table.told label)
   ];
 }
 
 -- a label that is met first
-pub IsTable-set : (stmts : List Labelled) (i count : ℕ) (places : List ℕ) (s : Labelled) → slice_get stmts i ≡ Some s → s.label < 100000 → get_or places s.label count ≡ count → IsTable stmts i count places → IsTable stmts (i + 1) count (set places s.label i)
-IsTable-set stmts i count places s here small first table =
-    let in_table : s.label < length places = omega (arith, small, table.labels) in
+pub IsTable-set : (stmts : List Labelled) (i count : ℕ) (places : List ℕ) (s : Labelled) → slice_get stmts i ≡ Some s → s.label < length places → get_or places s.label count ≡ count → IsTable stmts i count places → IsTable stmts (i + 1) count (set places s.label i)
+IsTable-set stmts i count places s here in_table first table =
     let fits = slice_get_within stmts i s here in
     record {
-      labels = length-set places s.label i ∙ table.labels;
       counts = table.counts;
-      told = λ label lt. elim (cases_eq label s.label) as (λ _. Told stmts (i + 1) label (get_or (set places s.label i) label count)) [
-        | inl same ↦ subst (λ (l : ℕ). Told stmts (i + 1) l (get_or (set places s.label i) l count)) (sym same) (elim (table.told s.label small) as (λ _. Told stmts (i + 1) s.label (get_or (set places s.label i) s.label count)) [
+      told = λ label. elim (cases_eq label s.label) as (λ _. Told stmts (i + 1) label (get_or (set places s.label i) label count)) [
+        | inl same ↦ subst (λ (l : ℕ). Told stmts (i + 1) l (get_or (set places s.label i) l count)) (sym same) (elim (table.told s.label) as (λ _. Told stmts (i + 1) s.label (get_or (set places s.label i) s.label count)) [
           | inl none ↦
               let value : get_or (set places s.label i) s.label count ≡ i = get_or-set_same places s.label i count in_table in
               inr (omega (arith, value), value ∙ sym (position-at (has_label s.label) stmts i s none.1 here (eq-eqb s.label s.label refl)))
           | inr known ↦ absurd (omega (arith, known.0, first, table.counts, fits))
         ])
-        | inr other ↦ subst (λ (n : ℕ). Told stmts (i + 1) label n) (sym (get_or-set_other places s.label label i count other)) (Told-other stmts i s label (get_or places label count) here (λ e. other (sym e)) (table.told label lt))
+        | inr other ↦ subst (λ (n : ℕ). Told stmts (i + 1) label n) (sym (get_or-set_other places s.label label i count other)) (Told-other stmts i s label (get_or places label count) here (λ e. other (sym e)) (table.told label))
       ];
     }
 
-none_so_great : (stmts : List Labelled) → IsSource stmts → (label : ℕ) → 100000 ≤ label → list_any (has_label label) stmts ≡ false
-none_so_great stmts source label le = false_from_ne_true (list_any (has_label label) stmts) (λ h.
-    let found = any-exists (has_label label) stmts h in
-    let small = label_is_small stmts source found.place found.item found.stands in
-    let same = eqb-true found.item.label label found.is in
-    absurd (omega (arith, small, same, le)))
-
-pub IsTable-end : (stmts : List Labelled) → IsSource stmts → (i count : ℕ) (places : List ℕ) → length stmts ≤ i → IsTable stmts i count places → (label : ℕ) → get_or places label count ≡ statement_of stmts label
-IsTable-end stmts source i count places le table label = elim (cases_lt label 100000) as (λ _. get_or places label count ≡ statement_of stmts label) [
-  | inl small ↦ elim (table.told label small) as (λ _. get_or places label count ≡ statement_of stmts label) [
-    | inl none ↦ none.0 ∙ sym (position-none (has_label label) stmts (sym (ap (list_any (has_label label)) (take_all i stmts le)) ∙ none.1))
-    | inr known ↦ known.1
-  ]
-  | inr great ↦ get_or_past places label count (omega (arith, table.labels, great)) ∙ (table.counts ∙ sym (position-none (has_label label) stmts (none_so_great stmts source label great)))
+pub IsTable-end : (stmts : List Labelled) (i count : ℕ) (places : List ℕ) → length stmts ≤ i → IsTable stmts i count places → (label : ℕ) → get_or places label count ≡ statement_of stmts label
+IsTable-end stmts i count places le table label = elim (table.told label) as (λ _. get_or places label count ≡ statement_of stmts label) [
+  | inl none ↦ none.0 ∙ sym (position-none (has_label label) stmts (sym (ap (list_any (has_label label)) (take_all i stmts le)) ∙ none.1))
+  | inr known ↦ known.1
 ]
 
 -- ---- labels that stand twice

@@ -1,8 +1,7 @@
 -- The DOs above a place, one statement on.
-use Rattle.std.proofs.Common.{◌≡◌, ◌≢◌, ℕ, ◌+◌, ◌<◌, ◌≤◌, Bool, false, cond, List, [], ◌∷◌, ◌++◌, length, refl, sym, ap, subst, ◌∙◌, arith, Option, Some, ⊎_elim, set, length-set, append-nil}
+use Rattle.std.proofs.Common.{◌≡◌, ℕ, ◌+◌, ◌≤◌, Bool, false, cond, List, [], ◌∷◌, ◌++◌, length, refl, sym, ap, ◌∙◌, arith, Option, Some, append-nil}
 use Rattle.std.specs.Prelude.{◌==◌, slice_get, filter}
 use Rattle.std.specs.List.{range_with_len}
-use Rattle.std.proofs.lemmas.Bool.{cases_eq, eq-eqb, ne_eqb}
 use Rattle.std.proofs.lemmas.List.{map-id}
 use Rattle.std.proofs.lemmas.List.FromFn.{map-range_with_len_more, length-range_with_len}
 use Rattle.std.proofs.lemmas.List.Elements.{filter-append}
@@ -13,7 +12,6 @@ use Rattle.f77_tree.specs.declared.statements.Stmt.TheVariants.{Do}
 use Rattle.f77_tree.specs.declared.statements.RawExpr.{RawExpr}
 use Rattle.f77_layout.specs.Executables.{is_do_to, is_do_in, loops_above}
 use Rattle.f77_layout.specs.Tables.{AreLoops, rank_of, rank_at, rank}
-use Rattle.f77_layout.proofs.Tables.{got_set_same, got_set_other}
 
 pub range-more : (n : ℕ) → range_with_len 0 (n + 1) ≡ range_with_len 0 n ++ n ∷ []
 range-more n =
@@ -43,15 +41,12 @@ rank_of-none stmts place _ other = refl
 
 module _ (stmts : List Labelled) (place : ℕ) (s : Labelled) (at : slice_get stmts place ≡ Some s) where
   -- no list grows
-  pub AreLoops-pass : (table : List (List ℕ)) → IsNoDo s.stmt → AreLoops stmts place table → AreLoops stmts (place + 1) table
-  AreLoops-pass table other are = record {
-    size = are.size;
-    entry = λ label below.
-        are.entry label below
-        ∙ ap Some (sym (append-nil (loops_above stmts label place)))
-        ∙ ap (λ (b : Bool). Some (loops_above stmts label place ++ cond b (place ∷ []) [])) (sym (is_do_to-none s.stmt other label))
-        ∙ ap Some (sym (loops_above-more stmts label place s at));
-  }
+  pub AreLoops-pass : (lists : ℕ → List ℕ) → IsNoDo s.stmt → AreLoops stmts place lists → AreLoops stmts (place + 1) lists
+  AreLoops-pass lists other are label =
+      are label
+      ∙ sym (append-nil (loops_above stmts label place))
+      ∙ ap (λ (b : Bool). loops_above stmts label place ++ cond b (place ∷ []) []) (sym (is_do_to-none s.stmt other label))
+      ∙ sym (loops_above-more stmts label place s at)
 
   pub rank-pass : IsNoDo s.stmt → rank stmts place ≡ 0
   rank-pass other = ap (rank_at stmts place) at ∙ rank_of-none stmts place s.stmt other
@@ -61,22 +56,12 @@ module _ (stmts : List Labelled) (place : ℕ) (s : Labelled) (at : slice_get st
     rank-enter = ap (rank_at stmts place) at ∙ ap (rank_of stmts place) is
 
     -- the list of its label grows
-    pub AreLoops-enter : (table : List (List ℕ)) (list : List ℕ) → terminal < 100000 → slice_get table terminal ≡ Some list → AreLoops stmts place table → AreLoops stmts (place + 1) (set table terminal (list ++ place ∷ []))
-    AreLoops-enter table list in_table stands are =
-        let longer : (label : ℕ) → loops_above stmts label (place + 1) ≡ loops_above stmts label place ++ cond (terminal == label) (place ∷ []) [] =
-        λ label. loops_above-more stmts label place s at ∙ ap (λ stmt. loops_above stmts label place ++ cond (is_do_to label stmt) (place ∷ []) []) is
-        in
-        let same : list ≡ loops_above stmts terminal place = let e : Some list ≡ Some (loops_above stmts terminal place) = sym stands ∙ are.entry terminal in_table in cc in
-        record {
-          size = length-set table terminal (list ++ place ∷ []) ∙ are.size;
-          entry = λ label below. ⊎_elim
-              (λ (e : label ≡ terminal).
-              let P : ℕ → Type 0 = λ k. slice_get (set table terminal (list ++ place ∷ [])) k ≡ Some (loops_above stmts k (place + 1)) in
-              subst P (sym e) (got_set_same table terminal (list ++ place ∷ []) (omega (arith, are.size)) ∙ ap (λ (xs : List ℕ). Some (xs ++ place ∷ [])) same ∙ ap (λ (b : Bool). Some (loops_above stmts terminal place ++ cond b (place ∷ []) [])) (sym (eq-eqb terminal terminal refl)) ∙ ap Some (sym (longer terminal))))
-              (λ (ne : label ≢ terminal).
-              got_set_other table terminal label (list ++ place ∷ []) ne ∙ are.entry label below ∙ ap Some (sym (append-nil (loops_above stmts label place))) ∙ ap (λ (b : Bool). Some (loops_above stmts label place ++ cond b (place ∷ []) [])) (sym (ne_eqb terminal label (λ e. ne (sym e)))) ∙ ap Some (sym (longer label)))
-              (cases_eq label terminal);
-        }
+    pub AreLoops-enter : (old new : ℕ → List ℕ) → ((label : ℕ) → new label ≡ old label ++ cond (terminal == label) (place ∷ []) []) → AreLoops stmts place old → AreLoops stmts (place + 1) new
+    AreLoops-enter old new entered are label =
+        entered label
+        ∙ ap (λ (xs : List ℕ). xs ++ cond (terminal == label) (place ∷ []) []) (are label)
+        ∙ sym (ap (λ stmt. loops_above stmts label place ++ cond (is_do_to label stmt) (place ∷ []) []) is)
+        ∙ sym (loops_above-more stmts label place s at)
 
 -- there are no more DOs than statements above
 pub loops_above-few : (stmts : List Labelled) (label place : ℕ) → length (loops_above stmts label place) ≤ place

@@ -1,13 +1,11 @@
 -- The counts of the open loops by their labels.
-use Rattle.std.proofs.Common.{◌≡◌, ℕ, ◌+◌, ◌-◌, ◌<◌, ◌≤◌, Bool, true, false, ◌||◌, nat_lt, if◌then◌else◌, ◌==◌, List, [], ◌∷◌, ◌++◌, reverse, length, replicate, refl, sym, ap, inl, inr, subst, ◌∙◌, arith, get_or, set}
+use Rattle.std.proofs.Common.{◌≡◌, ℕ, ◌+◌, ◌-◌, ◌<◌, ◌≤◌, Bool, true, false, ◌||◌, nat_lt, if◌then◌else◌, ◌==◌, List, [], ◌∷◌, ◌++◌, reverse, length, refl, sym, ap, inl, inr, subst, ◌∙◌, arith, get_or, set}
 use Rattle.std.specs.List.{list_any}
-use Rattle.std.proofs.lemmas.List.{get_or-set_same, get_or-set_other, get_or_read, length-set, reverse-append, length-replicate, get_or-replicate}
-use Rattle.std.proofs.lemmas.Bool.{cases_eq}
-use Rattle.std.proofs.lemmas.List.Elements.{All-nil, All-cons, All-head, All-tail}
+use Rattle.std.proofs.lemmas.List.{get_or-set_same, get_or-set_other, get_or_past, get_or_read, reverse-append}
+use Rattle.std.proofs.lemmas.Bool.{cases_eq, cases_lt}
 use Rattle.f77_layout.specs.declared.open_stack.Entry.{Entry}
-use Rattle.f77_layout.specs.declared.open_stack.Opened.{Opened}
 use Rattle.f77_layout.specs.declared.open_stack.Opened.TheVariants.{Loop, Block}
-use Rattle.f77_layout.specs.OpenStack.{is_opened_to, ends_at, loops_at, IsSmallIn, TellsSmallLabels, AreCounted}
+use Rattle.f77_layout.specs.OpenStack.{is_opened_to, ends_at, loops_at, AreCounted}
 
 -- 1 for a loop that ends at the label
 abbrev one_if : Bool → ℕ
@@ -29,12 +27,12 @@ pub loops_at-any : (label : ℕ) (stack : List Entry) → nat_lt 0 (loops_at lab
 loops_at-any label [] = refl
 loops_at-any label (e ∷ rest) = any-more (ends_at label e) (list_any (ends_at label) rest) (loops_at label rest) (loops_at-any label rest)
 
-pub AreCounted-none : AreCounted [] (replicate 100000 0)
-AreCounted-none = record {
-  labels = length-replicate {A = ℕ} 100000 0;
-  small = All-nil TellsSmallLabels;
-  counted = λ label h. get_or-replicate {A = ℕ} 100000 label 0 0 h;
-}
+pub AreCounted-none : AreCounted [] []
+AreCounted-none label = refl
+
+-- a table that is read alike counts alike
+pub AreCounted-alike : (stack : List Entry) (loops new : List ℕ) → ((label : ℕ) → get_or new label 0 ≡ get_or loops label 0) → AreCounted stack loops → AreCounted stack new
+AreCounted-alike stack loops new alike are label = alike label ∙ are label
 
 -- ---- an entry more, and an entry less
 
@@ -50,69 +48,47 @@ same_one terminal = grind arith
 other_none : (terminal label : ℕ) → (label ≡ terminal → ⊥) → one_if (terminal == label) ≡ 0
 other_none terminal label h = grind arith
 
-small_loop : (e : Entry) (terminal : ℕ) → e.opened ≡ Loop terminal → TellsSmallLabels e → terminal < 100000
-small_loop e terminal h small = subst IsSmallIn h small
-
-pub AreCounted-loop : (e : Entry) (stack : List Entry) (loops : List ℕ) (terminal v : ℕ) → v ≡ get_or loops terminal v → e.opened ≡ Loop terminal → TellsSmallLabels e → AreCounted stack loops → AreCounted (e ∷ stack) (set loops terminal (v + 1))
-AreCounted-loop e stack loops terminal v read h small are =
-    let in_table : terminal < length loops = let lt = small_loop e terminal h small in omega (arith, are.labels, lt) in
-    record {
-      labels = length-set loops terminal (v + 1) ∙ are.labels;
-      small = All-cons TellsSmallLabels e stack small are.small;
-      counted = λ label lt. elim (cases_eq label terminal) as (λ _. get_or (set loops terminal (v + 1)) label 0 ≡ loops_at label (e ∷ stack)) [
-        | inl same ↦ subst (λ l. get_or (set loops terminal (v + 1)) l 0 ≡ loops_at l (e ∷ stack)) (sym same) (get_or-set_same loops terminal (v + 1) 0 in_table
-            ∙ (omega (arith, get_or_read loops terminal v in_table read 0, are.counted terminal (small_loop e terminal h small), ap one_if (at_loop e terminal h terminal) ∙ same_one terminal)))
-        | inr other ↦ get_or-set_other loops terminal label (v + 1) 0 other
-            ∙ (omega (arith, are.counted label lt, ap one_if (at_loop e terminal h label) ∙ other_none terminal label other))
-      ];
-    }
+pub AreCounted-loop : (e : Entry) (stack : List Entry) (loops : List ℕ) (terminal v : ℕ) → terminal < length loops → v ≡ get_or loops terminal v → e.opened ≡ Loop terminal → AreCounted stack loops → AreCounted (e ∷ stack) (set loops terminal (v + 1))
+AreCounted-loop e stack loops terminal v in_table read h are label = elim (cases_eq label terminal) as (λ _. get_or (set loops terminal (v + 1)) label 0 ≡ loops_at label (e ∷ stack)) [
+  | inl same ↦ subst (λ l. get_or (set loops terminal (v + 1)) l 0 ≡ loops_at l (e ∷ stack)) (sym same) (get_or-set_same loops terminal (v + 1) 0 in_table
+      ∙ (omega (arith, get_or_read loops terminal v in_table read 0, are terminal, ap one_if (at_loop e terminal h terminal) ∙ same_one terminal)))
+  | inr other ↦ get_or-set_other loops terminal label (v + 1) 0 other
+      ∙ (omega (arith, are label, ap one_if (at_loop e terminal h label) ∙ other_none terminal label other))
+]
 
 pub AreCounted-block : (e : Entry) (stack : List Entry) (loops : List ℕ) (is_last : Bool) → e.opened ≡ Block is_last → AreCounted stack loops → AreCounted (e ∷ stack) loops
-AreCounted-block e stack loops is_last h are = record {
-  labels = are.labels;
-  small = All-cons TellsSmallLabels e stack (let P : Opened → Type 0 = IsSmallIn in subst P (sym h) tt) are.small;
-  counted = λ label lt. omega (arith, are.counted label lt, ap one_if (at_block e is_last h label));
-}
+AreCounted-block e stack loops is_last h are label = omega (arith, are label, ap one_if (at_block e is_last h label))
 
 -- the loop on top is counted
+pub top_within : (e : Entry) (stack : List Entry) (loops : List ℕ) (terminal : ℕ) → e.opened ≡ Loop terminal → AreCounted (e ∷ stack) loops → terminal < length loops
+top_within e stack loops terminal h are = elim (cases_lt terminal (length loops)) as (λ _. terminal < length loops) [
+  | inl less ↦ less
+  | inr past ↦ absurd (omega (arith, get_or_past loops terminal 0 past, are terminal, ap one_if (at_loop e terminal h terminal) ∙ same_one terminal))
+]
+
 pub counted_top : (e : Entry) (stack : List Entry) (loops : List ℕ) (terminal v : ℕ) → v ≡ get_or loops terminal v → e.opened ≡ Loop terminal → AreCounted (e ∷ stack) loops → 1 ≤ v
 counted_top e stack loops terminal v read h are =
-    let lt : terminal < 100000 = small_loop e terminal h (All-head TellsSmallLabels e stack are.small) in
-    let in_table : terminal < length loops = omega (arith, are.labels) in
-    omega (arith, get_or_read loops terminal v in_table read 0, are.counted terminal (small_loop e terminal h (All-head TellsSmallLabels e stack are.small)), ap one_if (at_loop e terminal h terminal) ∙ same_one terminal)
+    omega (arith, get_or_read loops terminal v (top_within e stack loops terminal h are) read 0, are terminal, ap one_if (at_loop e terminal h terminal) ∙ same_one terminal)
 
 pub AreCounted-unloop : (e : Entry) (stack : List Entry) (loops : List ℕ) (terminal v : ℕ) → v ≡ get_or loops terminal v → e.opened ≡ Loop terminal → AreCounted (e ∷ stack) loops → AreCounted stack (set loops terminal (v - 1))
-AreCounted-unloop e stack loops terminal v read h are =
-    let lt : terminal < 100000 = small_loop e terminal h (All-head TellsSmallLabels e stack are.small) in
-    let in_table : terminal < length loops = omega (arith, are.labels) in
-    record {
-      labels = length-set loops terminal (v - 1) ∙ are.labels;
-      small = All-tail TellsSmallLabels e stack are.small;
-      counted = λ label less. elim (cases_eq label terminal) as (λ _. get_or (set loops terminal (v - 1)) label 0 ≡ loops_at label stack) [
-        | inl same ↦ subst (λ l. get_or (set loops terminal (v - 1)) l 0 ≡ loops_at l stack) (sym same) (get_or-set_same loops terminal (v - 1) 0 in_table
-            ∙ (omega (arith, get_or_read loops terminal v in_table read 0, are.counted terminal lt, ap one_if (at_loop e terminal h terminal) ∙ same_one terminal)))
-        | inr other ↦ get_or-set_other loops terminal label (v - 1) 0 other
-            ∙ (omega (arith, are.counted label less, ap one_if (at_loop e terminal h label) ∙ other_none terminal label other))
-      ];
-    }
+AreCounted-unloop e stack loops terminal v read h are label =
+    let in_table : terminal < length loops = top_within e stack loops terminal h are in
+    elim (cases_eq label terminal) as (λ _. get_or (set loops terminal (v - 1)) label 0 ≡ loops_at label stack) [
+      | inl same ↦ subst (λ l. get_or (set loops terminal (v - 1)) l 0 ≡ loops_at l stack) (sym same) (get_or-set_same loops terminal (v - 1) 0 in_table
+          ∙ (omega (arith, get_or_read loops terminal v in_table read 0, are terminal, ap one_if (at_loop e terminal h terminal) ∙ same_one terminal)))
+      | inr other ↦ get_or-set_other loops terminal label (v - 1) 0 other
+          ∙ (omega (arith, are label, ap one_if (at_loop e terminal h label) ∙ other_none terminal label other))
+    ]
 
 pub AreCounted-unblock : (e : Entry) (stack : List Entry) (loops : List ℕ) (is_last : Bool) → e.opened ≡ Block is_last → AreCounted (e ∷ stack) loops → AreCounted stack loops
-AreCounted-unblock e stack loops is_last h are = record {
-  labels = are.labels;
-  small = All-tail TellsSmallLabels e stack are.small;
-  counted = λ label lt. omega (arith, are.counted label lt, ap one_if (at_block e is_last h label));
-}
+AreCounted-unblock e stack loops is_last h are label = omega (arith, are label, ap one_if (at_block e is_last h label))
 
 -- a count is no larger than the stack
-pub count-le : (stack : List Entry) (loops : List ℕ) (terminal v : ℕ) → terminal < 100000 → v ≡ get_or loops terminal v → AreCounted stack loops → v ≤ length stack
-count-le stack loops terminal v lt read are =
-    let in_table : terminal < length loops = omega (arith, are.labels) in
-    omega (arith, get_or_read loops terminal v in_table read 0, are.counted terminal lt, loops_at-le terminal stack)
+pub count-le : (stack : List Entry) (loops : List ℕ) (terminal v : ℕ) → terminal < length loops → v ≡ get_or loops terminal v → AreCounted stack loops → v ≤ length stack
+count-le stack loops terminal v in_table read are = omega (arith, get_or_read loops terminal v in_table read 0, are terminal, loops_at-le terminal stack)
 
-pub count-any : (stack : List Entry) (loops : List ℕ) (terminal v : ℕ) → terminal < 100000 → v ≡ get_or loops terminal v → AreCounted stack loops → nat_lt 0 v ≡ list_any (ends_at terminal) stack
-count-any stack loops terminal v lt read are =
-    let in_table : terminal < length loops = omega (arith, are.labels) in
-    ap (nat_lt 0) (get_or_read loops terminal v in_table read 0 ∙ are.counted terminal lt) ∙ loops_at-any terminal stack
+pub count-any : (stack : List Entry) (loops : List ℕ) (terminal v : ℕ) → v ≡ get_or loops terminal 0 → AreCounted stack loops → nat_lt 0 v ≡ list_any (ends_at terminal) stack
+count-any stack loops terminal v read are = ap (nat_lt 0) (read ∙ are terminal) ∙ loops_at-any terminal stack
 
 pub AreCounted-popped : (entries rest : List Entry) (e : Entry) (loops : List ℕ) → entries ≡ rest ++ e ∷ [] → AreCounted (reverse entries) loops → AreCounted (e ∷ reverse rest) loops
 AreCounted-popped entries rest e loops h are = subst (λ (stack : List Entry). AreCounted stack loops) (ap reverse h ∙ reverse-append rest (e ∷ [])) are

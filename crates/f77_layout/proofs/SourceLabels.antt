@@ -11,7 +11,6 @@ use Rattle.f77_layout.specs.Source.{IsSource}
 use Rattle.f77_layout.specs.LabelTable.{IsLabel}
 use Rattle.f77_layout.specs.Labels.{is_labelled_twice}
 use Rattle.f77_layout.specs.Roles.{role_of}
-use Rattle.f77_layout.specs.OpenStack.{HasSmallLabel}
 use Rattle.f77_layout.proofs.LabelLemmas.{TellsLabel, role_label, statement_of-own}
 use Rattle.f77_layout.proofs.RoleLemmas.{opened_by}
 use Rattle.f77_layout.proofs.OpenSpans.{AreLabelled}
@@ -29,13 +28,6 @@ AreLabelled-source stmts source once = record {
   places = statement_of-own stmts once;
   loops = λ h terminal at. (opens_loop (role_of at.s.stmt) terminal at.opens (role_label at.s.stmt (given_at stmts source h at.s at.stands))).0;
 }
-
-small_by : (role : Role) → TellsLabel role → HasSmallLabel role
-small_by (BeginLoop terminal) is = is.1
-small_by _ is = tt
-
-pub role_is_small : (stmts : List Labelled) → IsSource stmts → (i : ℕ) (s : Labelled) → slice_get stmts i ≡ Some s → HasSmallLabel (role_of s.stmt)
-role_is_small stmts source i s here = small_by (role_of s.stmt) (role_label s.stmt (given_at stmts source i s here))
 
 pub label_is_small : (stmts : List Labelled) → IsSource stmts → (i : ℕ) (s : Labelled) → slice_get stmts i ≡ Some s → s.label < 100000
 label_is_small stmts source i s here =

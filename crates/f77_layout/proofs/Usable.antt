@@ -7,7 +7,6 @@ use Rattle.std.proofs.lemmas.List.Elements.{All-nil, All-cons}
 use Rattle.std.proofs.lemmas.Option.{slice_get_within, slice_get-get_or, get_or_from_slice_get}
 use Rattle.f77_tree.specs.declared.statements.Labelled.{Labelled}
 use Rattle.f77_tree.specs.declared.statements.Stmt.{Stmt}
-use Rattle.f77_tree.specs.declared.statements.Stmt.TheVariants.{Do}
 use Rattle.f77_tree.specs.Grammar.{reading}
 use Rattle.f77_tree.specs.StatementGrammar.{WrittenStatement, IsStatement, IsGiven, is_of_subroutines, statement_of as stmt_of, is_simple as is_simple_text}
 use Rattle.f77_tree.proofs.Subroutines.{guarded_subroutines}
@@ -15,7 +14,7 @@ use Rattle.f77_layout.specs.Faults.{first_line}
 use Rattle.f77_layout.specs.Source.{IsSource}
 use Rattle.f77_layout.specs.Labels.{bears, used, lacks_label, statement_of, is_executable, is_arm}
 use Rattle.f77_layout.specs.LabelTable.{IsLabel}
-use Rattle.f77_layout.specs.Tables.{is_simple, has_simple_inner, terminal_of, IsStanding, IsUsable}
+use Rattle.f77_layout.specs.Tables.{is_simple, has_simple_inner, IsStanding, IsUsable}
 use Rattle.f77_layout.proofs.LabelLemmas.{faultless}
 use Rattle.f77_layout.proofs.SourceLabels.{label_is_small}
 use Rattle.f77_layout.proofs.UsedLabels.{used_given}
@@ -97,17 +96,6 @@ module _ (stmts : List Labelled) (source : IsSource stmts) where
 
   pub usable : first_line (lacks_label stmts) stmts ≡ None → All (IsUsable stmts) stmts
   usable none k d below = usable_at none k (get_or stmts k d) (slice_get-get_or stmts k d below)
-
-  -- ---- labels of DOs
-  terminal_at : (i : ℕ) (s : Labelled) → slice_get stmts i ≡ Some s → terminal_of s.stmt < 100000
-  terminal_at i s here = by s.stmt (used_given stmts source i s here)
-    where
-      by : (stmt : Stmt) → All IsLabel (used stmt) → terminal_of stmt < 100000
-      by (Do label variable first last step) are = (are 0 0 (omega arith)).1
-      by _ are = omega arith
-
-  pub terminals : All (λ s. terminal_of s.stmt < 100000) stmts
-  terminals k d below = terminal_at k (get_or stmts k d) (slice_get-get_or stmts k d below)
 
   pub small_labels : All (λ s. s.label < 100000) stmts
   small_labels k d below = label_is_small stmts source k (get_or stmts k d) (slice_get-get_or stmts k d below)

@@ -16,6 +16,7 @@ pub mod LabelTable
 pub mod Labels
 pub mod Layout
 pub mod Leading
+pub mod Listed
 pub mod NameTable
 pub mod Nested
 pub mod Nesting

@@ -1,5 +1,5 @@
 -- The DO loops and blocks that are open at a place, the innermost first.
-use Rattle.std.specs.Prelude.{◌≡◌, ℕ, ◌+◌, ◌<◌, Bool, true, false, if◌then◌else◌, ◌&&◌, ◌==◌, List, [], ◌∷◌, length, All, slice_index, Option, Some, None}
+use Rattle.std.specs.Prelude.{◌≡◌, ℕ, ◌+◌, Bool, true, false, if◌then◌else◌, ◌&&◌, ◌==◌, List, [], ◌∷◌, slice_index, Option, Some, None}
 use Rattle.std.specs.List.{list_any}
 use Rattle.f77_layout.specs.declared.open_stack.Entry.{Entry}
 use Rattle.f77_layout.specs.declared.open_stack.Opened.{Opened}
@@ -35,19 +35,9 @@ abbrev pub loops_at : ℕ → List Entry → ℕ
 loops_at label [] = 0
 loops_at label (e ∷ rest) = (if ends_at label e then 1 else 0) + loops_at label rest
 
-abbrev pub IsSmallIn : Opened → Type 0
-IsSmallIn (Loop terminal) = terminal < 100000
-IsSmallIn (Block is_last) = Unit {0}
-
--- the label of a loop is below 100,000
-abbrev pub TellsSmallLabels : Entry → Type 0
-TellsSmallLabels e = IsSmallIn e.opened
-
--- the loops that are open are counted by their labels
-pub record AreCounted (stack : List Entry) (loops : List ℕ) : Type 0 where
-  pub labels : length loops ≡ 100000
-  pub small : All TellsSmallLabels stack
-  pub counted : (label : ℕ) → label < 100000 → slice_index loops label ≡ loops_at label stack
+-- the loops that are open are counted by their labels; of a label behind the end of the table there are none
+abbrev pub AreCounted : (stack : List Entry) → (loops : List ℕ) → Type 0
+AreCounted stack loops = (label : ℕ) → slice_index loops label ≡ loops_at label stack
 
 -- ---- what is open behind a statement; none where the statement isn't nested right
 
@@ -98,8 +88,3 @@ is_no_end _ = true
 
 abbrev pub entries_behind : Role → (place label : ℕ) → List Entry → Option (List Entry)
 entries_behind role place label stack = if list_any (ends_at label) stack && is_no_end role then None else after_role role place label stack
-
--- what the label of a DO has to be
-abbrev pub HasSmallLabel : Role → Type 0
-HasSmallLabel (BeginLoop terminal) = terminal < 100000
-HasSmallLabel _ = Unit {0}

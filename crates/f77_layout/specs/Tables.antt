@@ -6,6 +6,7 @@ use Rattle.f77_tree.specs.declared.statements.Stmt.TheVariants.{Assign, Print, T
 use Rattle.f77_tree.specs.StatementGrammar.{is_of_subroutines}
 use Rattle.f77_layout.specs.Labels.{statement_of, used}
 use Rattle.f77_layout.specs.LabelTable.{ArePlacesOf}
+use Rattle.f77_layout.specs.Listed.{listed}
 use Rattle.f77_layout.specs.BlockEnds.{AreBlocksOf}
 use Rattle.f77_layout.specs.Executables.{loops_above, loop_number, executables_with_ends, first_of, met}
 use Rattle.f77_layout.specs.declared.flow.Flow.{Flow}
@@ -15,15 +16,9 @@ pub record IsTable (f : ℕ → ℕ) (n : ℕ) (table : List ℕ) : Type 0 where
   pub size : length table ≡ n
   pub entry : (k : ℕ) → k < n → slice_index table k ≡ f k
 
--- the label at which the range of a DO ends
-abbrev pub terminal_of : Stmt → ℕ
-terminal_of (Do label variable first last step) = label
-terminal_of _ = 0
-
--- for each label of up to five digits, the DOs above a place whose ranges end at it
-pub record AreLoops (stmts : List Labelled) (place : ℕ) (table : List (List ℕ)) : Type 0 where
-  pub size : length table ≡ 100000
-  pub entry : (label : ℕ) → label < 100000 → slice_get table label ≡ Some (loops_above stmts label place)
+-- for each label the DOs above a place whose ranges end at it
+abbrev pub AreLoops : List Labelled → (place : ℕ) → (lists : ℕ → List ℕ) → Type 0
+AreLoops stmts place lists = (label : ℕ) → lists label ≡ loops_above stmts label place
 
 abbrev pub rank_of : List Labelled → (place : ℕ) → Stmt → ℕ
 rank_of stmts place (Do label variable first last step) = length (loops_above stmts label place)
@@ -39,7 +34,7 @@ rank stmts place = rank_at stmts place (slice_get stmts place)
 
 -- what is looked up of the statements
 pub record IsFlow (stmts : List Labelled) (flow : Flow) : Type 0 where
-  pub loops : AreLoops stmts (length stmts) flow.loops.by_label.items
+  pub loops : AreLoops stmts (length stmts) (listed flow.loops.by_label)
   pub ranks : IsTable (rank stmts) (length stmts) flow.loops.ranks.items
   pub numbers : IsTable (loop_number stmts) (length stmts) flow.numbers.items
   pub first : IsTable (first_of stmts) (length stmts + 1) flow.first.items

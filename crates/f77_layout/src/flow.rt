@@ -7,7 +7,8 @@ ghost use Rattle.std.specs.Prelude.{true};
 ghost use Rattle.std.specs.List.{HoldsAt};
 ghost use Rattle.f77_layout.specs.BlockEnds.{AreBlocksOf};
 ghost use Rattle.f77_layout.specs.LabelTable.{ArePlacesOf};
-ghost use Rattle.f77_layout.specs.Tables.{IsTable, AreLoops, IsFlow, terminal_of};
+ghost use Rattle.f77_layout.specs.Listed.{listed};
+ghost use Rattle.f77_layout.specs.Tables.{IsTable, AreLoops, IsFlow};
 ghost use Rattle.f77_layout.specs.Labels.{is_executable as is_executable_of, is_arm as is_arm_of};
 
 use crate::blocks::Blocks;
@@ -145,7 +146,6 @@ pub(crate) fn flow_of(
     requires some { 0 < length stmts.now }
     requires short { length stmts.now ≤ 4000 }
     requires labels { All (λ s. s.label < 100000) stmts.now }
-    requires terminals { All (λ s. terminal_of s.stmt < 100000) stmts.now }
     requires few { sum_by (executables_with_ends stmts.now) stmts.now < 2 ^ 32 }
     requires places { ArePlacesOf stmts.now labels }
     requires blocks { AreBlocksOf stmts.now blocks }
@@ -215,7 +215,7 @@ pub(crate) fn own_executables(stmt: &Stmt) -> u32
 
 /// For each place, the index of the first executable of its statement. Behind them stands how many executables there are.
 fn first_executables(alloc: Global, stmts: &[Labelled], loops: &Loops) -> Result<Vec<u32>, NoMemory>
-    requires loops { AreLoops stmts.now (length stmts.now) loops.now.by_label.items }
+    requires loops { AreLoops stmts.now (length stmts.now) (listed loops.now.by_label) }
     requires labels { All (λ s. s.label < 100000) stmts.now }
     requires few { sum_by (executables_with_ends stmts.now) stmts.now < 2 ^ 32 }
     ensures { IfOk result (λ first. IsTable (first_of stmts.now) (length stmts.now + 1) first.items) }
@@ -232,7 +232,7 @@ fn first_executables(alloc: Global, stmts: &[Labelled], loops: &Loops) -> Result
 
 /// How many executables a statement has, with the increments of the DOs that end at it.
 fn executables_of(stmts: &[Labelled], s: &Labelled, loops: &Loops) -> u32
-    requires loops { AreLoops stmts.now (length stmts.now) loops.now.by_label.items }
+    requires loops { AreLoops stmts.now (length stmts.now) (listed loops.now.by_label) }
     requires label { s.now.label < 100000 }
     requires few { executables_with_ends stmts.now s.now < 2 ^ 32 }
     ensures { result ≡ executables_with_ends stmts.now s.now }

@@ -8,17 +8,16 @@ ghost use Rattle.f77_layout.specs.Labels.{bears, is_labelled_twice, jumps, lacks
 ghost use Rattle.f77_layout.specs.Source.{IsSource};
 
 use crate::roles::{may_be_target, role_in};
+use crate::room::make_room;
 use df_sequence::NoMemory;
 use f77_tree::{Labelled, Stmt};
 use std::alloc::Global;
 
-/// Labels are below this number.
-pub(crate) const LABELS: usize = 100_000;
-
 /// The places of labels.
 #[derive(Drop)]
 pub(crate) struct Labels {
-    /// For each label the place of the first statement that has it, and `count` where none has it.
+    /// For each label the place of the first statement that has it, and `count` where none has it. It reaches as far as the labels
+    /// of the statements.
     places: Vec<u32>,
     /// The number of statements.
     count: u32,
@@ -31,8 +30,9 @@ impl Labels {
         ensures { IfOk result (ArePlacesOf stmts.now) }
     {
         let count = stmts.len() as u32;
-        let mut places = vec![in alloc; count; LABELS]?;
+        let mut places = Vec::new(alloc);
         for (i, s) in stmts.iter().enumerate() {
+            make_room(&mut places, s.label, count)?;
             let label = s.label as usize;
             if places[label] == count {
                 places[label] = i as u32;

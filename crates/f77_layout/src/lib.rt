@@ -38,6 +38,7 @@ mod operations;
 mod order;
 mod resolve;
 mod roles;
+mod room;
 mod sizes;
 mod statement_kinds;
 mod storage_faults;

@@ -1,43 +1,92 @@
 //! The DOs of a program, by the labels at which their ranges end.
-ghost use Rattle.std.specs.Prelude.{◌≡◌, ℕ, ◌+◌, ◌<◌, ◌≤◌, ◌^◌, [], List, Some, length, slice_get, slice_index, All, IfOk};
+ghost use Rattle.std.specs.Prelude.{◌≡◌, ℕ, ◌+◌, ◌<◌, ◌≤◌, ◌^◌, ◌++◌, ◌==◌, [], ◌∷◌, length, if◌then◌else◌, slice_index, IfOk, OnOk};
 ghost use Rattle.f77_layout.specs.Executables.{is_do as is_do_of, loop_number};
-ghost use Rattle.f77_layout.specs.Tables.{IsTable, AreLoops, rank, terminal_of};
+ghost use Rattle.f77_layout.specs.Listed.{listed};
+ghost use Rattle.f77_layout.specs.Tables.{IsTable, AreLoops, rank};
 
 use df_sequence::{LabelList, NoMemory, Sequence};
 use f77_tree::{Labelled, Stmt};
+use indexmap::IndexMap;
 use std::alloc::Global;
+use std::marker::Model;
 
-/// How many labels there may be: they are numbers of up to five digits.
-const LABELS: usize = 100_000;
+/// Lists of places by labels. Most programs use few of all labels, so there is a list for those alone at which DOs end.
+/// Contracts see the labels that have lists, with these.
+#[derive(Drop)]
+pub(crate) struct LoopLists {
+    lists: IndexMap<u32, LabelList>,
+    /// The list of every other label, which is empty.
+    none: LabelList,
+}
+
+impl Model for LoopLists {
+    ghost use Rattle.std.specs.Prelude.{◌≡◌, ℕ, [], List};
+
+    ghost Value = { List (ℕ × List ℕ) };
+
+    ghost view = { λ l. l.lists.entries };
+
+    ghost invariant = { λ l. l.none ≡ [] };
+}
+
+impl LoopLists {
+    /// Each list is empty. It takes no memory.
+    fn new(alloc: Global) -> LoopLists
+        ensures { (label : ℕ) → listed result label ≡ [] }
+    {
+        LoopLists {
+            lists: IndexMap::new(alloc),
+            none: Sequence::new(alloc),
+        }
+    }
+
+    /// The list of a label.
+    pub(crate) fn to(&self, label: u32) -> &LabelList
+        ensures { result.now ≡ listed self.now label }
+    {
+        match self.lists.get(&label) {
+            Some(list) => list,
+            None => &self.none,
+        }
+    }
+
+    /// Puts a place behind the others of its label, and tells how many these are.
+    fn enter(&mut self, alloc: Global, label: u32, place: u32) -> Result<u32, NoMemory>
+        requires { length (listed self.old label) + 1 < 2 ^ 32 }
+        ensures rank { IfOk result (λ rank. rank ≡ length (listed self.old label)) }
+        ensures lists { OnOk result ((other : ℕ) → listed self.new other ≡ listed self.old other ++ (if label == other then place ∷ [] else [])) }
+    {
+        match self.lists.get_mut(&label) {
+            Some(list) => {
+                let rank = list.len();
+                list.push(place)?;
+                Ok(rank)
+            }
+            None => {
+                let mut list = Sequence::new(alloc);
+                list.push(place)?;
+                self.lists.insert(label, list)?;
+                Ok(0)
+            }
+        }
+    }
+}
 
 /// The DOs of a program.
 #[derive(Drop)]
 pub(crate) struct Loops {
     /// The places of the DOs that end at each label, in the order of the text.
-    by_label: Vec<LabelList>,
+    by_label: LoopLists,
     /// For the place of each DO, how many DOs above it end at the same label.
     ranks: Vec<u32>,
-}
-
-/// An empty list for each label.
-fn empty_lists(alloc: Global) -> Result<Vec<LabelList>, NoMemory>
-    ensures len { IfOk result (λ lists. length lists.items ≡ 100000) }
-    ensures empty { IfOk result (λ lists. (label : ℕ) → label < 100000 → slice_get lists.items label ≡ Some []) }
-{
-    let mut lists = Vec::with_capacity(alloc, LABELS)?;
-    for _ in 0..LABELS {
-        lists.push(Sequence::new(alloc))?;
-    }
-    Ok(lists)
 }
 
 impl Loops {
     /// The places of the DOs that end at a label, in the order of the text.
     pub(crate) fn to(&self, label: u32) -> &LabelList
-        requires { label < length self.now.by_label.items }
-        ensures { slice_get self.now.by_label.items label ≡ Some result.now }
+        ensures { result.now ≡ listed self.now.by_label label }
     {
-        &self.by_label[label as usize]
+        self.by_label.to(label)
     }
 
     /// For the place of a DO, how many DOs above it end at the same label.
@@ -51,19 +100,16 @@ impl Loops {
 
 /// The DOs of these statements.
 pub(crate) fn loops_of(alloc: Global, stmts: &[Labelled]) -> Result<Loops, NoMemory>
-    requires few { length stmts.now ≤ 4000 }
-    requires labels { All (λ s. terminal_of s.stmt < 100000) stmts.now }
-    ensures by_label { IfOk result (λ loops. AreLoops stmts.now (length stmts.now) loops.by_label.items) }
+    requires { length stmts.now ≤ 4000 }
+    ensures by_label { IfOk result (λ loops. AreLoops stmts.now (length stmts.now) (listed loops.by_label)) }
     ensures ranks { IfOk result (λ loops. IsTable (rank stmts.now) (length stmts.now) loops.ranks.items) }
 {
-    let mut by_label = empty_lists(alloc)?;
+    let mut by_label = LoopLists::new(alloc);
     let mut ranks = Vec::new(alloc);
     for (place, s) in stmts.iter().enumerate() {
         let mut rank = 0;
         if let Stmt::Do(label, _, _, _, _) = &s.stmt {
-            let list = &mut by_label[*label as usize];
-            rank = list.len();
-            list.push(place as u32)?;
+            rank = by_label.enter(alloc, *label, place as u32)?;
         }
         ranks.push(rank)?;
     }

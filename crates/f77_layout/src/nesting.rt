@@ -1,11 +1,11 @@
 //! The nesting of DO loops and blocks of IF.
 
-ghost use Rattle.std.specs.Prelude.{◌≡◌, ◌<◌, None, Some, IfOk, if◌then◌else◌};
+ghost use Rattle.std.specs.Prelude.{◌≡◌, None, Some, IfOk, if◌then◌else◌};
 ghost use Rattle.f77_layout.specs.Source.{IsSource};
 ghost use Rattle.f77_layout.specs.Faults.{first_line};
 ghost use Rattle.f77_layout.specs.Labels.{is_labelled_twice};
 ghost use Rattle.f77_layout.specs.Innermost.{IsNestingOf};
-ghost use Rattle.f77_layout.specs.OpenStack.{HasSmallLabel, ended_block, entries_behind, is_opened_to, next_arm, without_ended};
+ghost use Rattle.f77_layout.specs.OpenStack.{ended_block, entries_behind, is_opened_to, next_arm, without_ended};
 
 use crate::open_stack::{Entry, OpenStack, Opened};
 use crate::roles::{Role, role_in};
@@ -75,8 +75,6 @@ fn end_block(stack: &mut OpenStack) -> bool
 
 /// Takes one statement more; false where it isn't nested right.
 fn step(stack: &mut OpenStack, place: u32, role: Role, label: u32) -> Result<bool, NoMemory>
-    requires label { label < 100000 }
-    requires role { HasSmallLabel role }
     ensures { IfOk result (λ right. entries_behind role place label stack.old ≡ (if right then Some stack.new else None)) }
 {
     if stack.has_loop_to(label) && !matches!(role, Role::Declaration | Role::Plain) {
@@ -115,7 +113,7 @@ pub(crate) fn nesting_of(alloc: Global, stmts: &[Labelled]) -> Result<Nesting, N
     requires labels { first_line is_labelled_twice stmts.now ≡ None }
     ensures { IfOk result (IsNestingOf stmts.now) }
 {
-    let mut stack = OpenStack::new(alloc)?;
+    let mut stack = OpenStack::new(alloc);
     let mut heads = Vec::new(alloc);
     for (i, s) in stmts.iter().enumerate() {
         let role = role_in(&s.stmt);

@@ -1,10 +1,10 @@
 //! The DO loops and blocks that are open at a place of the text.
 
-ghost use Rattle.std.specs.Prelude.{◌≡◌, ◌<◌, [], ◌∷◌, ◌++◌, slice_get, option_to_list, IfOk, IfNone, OnOk};
+ghost use Rattle.std.specs.Prelude.{◌≡◌, [], ◌∷◌, ◌++◌, slice_get, option_to_list, IfNone, OnOk};
 ghost use Rattle.std.specs.List.{list_any};
-ghost use Rattle.f77_layout.specs.OpenStack.{ends_at, head_of, opened_of, TellsSmallLabels};
+ghost use Rattle.f77_layout.specs.OpenStack.{ends_at, head_of, opened_of};
 
-use crate::labels::LABELS;
+use crate::room::make_room;
 use df_sequence::NoMemory;
 use std::alloc::Global;
 use std::marker::Model;
@@ -29,7 +29,7 @@ pub(crate) struct Entry {
 #[derive(Drop)]
 pub(crate) struct OpenStack {
     entries: Vec<Entry>,
-    /// For each label how many loops that end there are open.
+    /// For each label how many loops that end there are open. It reaches as far as the labels of loops that were opened.
     loops: Vec<usize>,
 }
 
@@ -46,24 +46,27 @@ impl Model for OpenStack {
 }
 
 impl OpenStack {
-    /// Nothing is open.
-    pub(crate) fn new(alloc: Global) -> Result<OpenStack, NoMemory>
-        ensures { IfOk result (λ stack. stack ≡ []) }
+    /// Nothing is open. It takes no memory.
+    pub(crate) fn new(alloc: Global) -> OpenStack
+        ensures { result ≡ [] }
     {
-        Ok(OpenStack {
+        OpenStack {
             entries: Vec::new(alloc),
-            loops: vec![in alloc; 0; LABELS]?,
-        })
+            loops: Vec::new(alloc),
+        }
     }
 
     /// Puts an entry on top.
     pub(crate) fn push(&mut self, entry: Entry) -> Result<(), NoMemory>
-        requires { TellsSmallLabels entry }
         ensures { OnOk result (self.new ≡ entry ∷ self.old) }
     {
-        self.entries.push(entry)?;
-        if let Opened::Loop(label) = entry.opened {
-            self.loops[label as usize] += 1;
+        match entry.opened {
+            Opened::Loop(label) => {
+                make_room(&mut self.loops, label, 0)?;
+                self.entries.push(entry)?;
+                self.loops[label as usize] += 1;
+            }
+            Opened::Block(_) => self.entries.push(entry)?,
         }
         Ok(())
     }
@@ -109,9 +112,11 @@ impl OpenStack {
 
     /// Whether a loop is open that ends at the label.
     pub(crate) fn has_loop_to(&self, label: u32) -> bool
-        requires { label < 100000 }
         ensures { result ≡ list_any (ends_at label) self.now }
     {
-        self.loops[label as usize] > 0
+        match self.loops.get(label as usize) {
+            Some(count) => *count > 0,
+            None => false,
+        }
     }
 }

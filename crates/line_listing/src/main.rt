@@ -1,6 +1,7 @@
 //! Writes the lines of tokens of a program, whose text comes on standard input: the classes with their names, which lines each
-//! piece touches, the wires of each line, and to which edges it is led past quiet regions. With an argument it tells on standard
-//! error how long it takes to find them instead.
+//! piece touches, the wires of each line, and to which edges it is led past quiet regions. With the word `values` it writes what is
+//! known of the values of words and expressions besides. With the word `time` it tells on standard error how long it takes to find all
+//! this instead.
 #![tactic(auto)]
 
 ghost use Rattle.f77_tree.specs.WellFormed.{IsWellFormed};
@@ -10,6 +11,7 @@ mod found;
 mod names;
 mod telling;
 mod timing;
+mod values;
 
 use df_io::{StdSource, read_all};
 use errors::no_memory;
@@ -20,18 +22,31 @@ use std::io::ErrorKind;
 use std::{env, io};
 use telling::tell;
 use timing::time;
+use values::tell_values;
 
 // No longer text is read.
 const MOST_BYTES: u32 = 4_194_304;
 
+/// What is told of a program.
+#[derive(Clone, Copy, Debug, PartialEq, Eq)]
+enum Task {
+    Lines,
+    Values,
+    Times,
+}
+
 fn main(rt: HostRuntime) -> io::Result<()> {
-    let is_timed = env::args(&rt)?.nth(1).is_some();
+    let task = match env::args(&rt)?.nth(1) {
+        None => Task::Lines,
+        Some(word) if word.as_bytes() == b"values" => Task::Values,
+        Some(_) => Task::Times,
+    };
     let mut source = StdSource::new(rt.stdin());
     let Ok(bytes) = read_all(rt.alloc(), &mut source, MOST_BYTES) else {
         return Err(io::Error::from(ErrorKind::InvalidData));
     };
     match read_program(rt.alloc(), &bytes, false) {
-        Ok(program) => answer(&rt, &program, is_timed),
+        Ok(program) => answer(&rt, &program, task),
         Err(SourceEnd::Refused(refusal)) => {
             println!(rt; "REFUSED {} {:?}", refusal.line, refusal.code)
         }
@@ -39,12 +54,18 @@ fn main(rt: HostRuntime) -> io::Result<()> {
     }
 }
 
-fn answer(rt: &HostRuntime, program: &Program, is_timed: bool) -> io::Result<()>
+fn answer(rt: &HostRuntime, program: &Program, task: Task) -> io::Result<()>
     requires { IsWellFormed program.now }
 {
-    match find(rt.alloc(), program) {
-        Ok(found) if is_timed => time(rt, program, &found),
-        Ok(found) => tell(rt, program, &found),
-        Err(_) => Err(no_memory()),
+    let Ok(found) = find(rt.alloc(), program) else {
+        return Err(no_memory());
+    };
+    match task {
+        Task::Times => time(rt, program, &found),
+        Task::Lines => tell(rt, program, &found),
+        Task::Values => {
+            tell(rt, program, &found)?;
+            tell_values(rt, program, &found)
+        }
     }
 }

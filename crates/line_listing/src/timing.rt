@@ -6,8 +6,10 @@ ghost use Rattle.line_listing.specs.Found.{IsFoundOf};
 
 use crate::found::Found;
 use alias_classes::classes_of;
+use const_prop::constants;
 use dep_routing::{route, touches};
 use f77_tree::Program;
+use redundancy::available;
 use std::io;
 use std::time::Instant;
 
@@ -20,7 +22,9 @@ pub(crate) fn time(rt: &HostRuntime, p: &Program, found: &Found) -> io::Result<(
     println!(rt; "{lines} lines, {} edges", found.flow.graph().edges())?;
     time_classes(rt, p)?;
     time_touches(rt, p, found)?;
-    time_wires(rt, p, found)
+    time_wires(rt, p, found)?;
+    time_constants(rt, p, found)?;
+    time_available(rt, p, found)
 }
 
 fn time_classes(rt: &HostRuntime, p: &Program) -> io::Result<()>
@@ -47,6 +51,25 @@ fn time_wires(rt: &HostRuntime, p: &Program, found: &Found) -> io::Result<()>
     let start = Instant::now(rt)?;
     let made = route::<16>(rt.alloc(), g, &found.tree, &found.touch, lines).is_ok();
     report(rt, "wires", made, start)
+}
+
+fn time_constants(rt: &HostRuntime, p: &Program, found: &Found) -> io::Result<()>
+    requires program { IsWellFormed p.now }
+    requires found { IsFoundOf p.now found.now }
+{
+    let start = Instant::now(rt)?;
+    let (flow, classes) = (&found.flow, &found.classes);
+    let made = constants(rt.alloc(), p, flow, classes, &found.touch, &found.lines).is_ok();
+    report(rt, "constants", made, start)
+}
+
+fn time_available(rt: &HostRuntime, p: &Program, found: &Found) -> io::Result<()>
+    requires program { IsWellFormed p.now }
+    requires found { IsFoundOf p.now found.now }
+{
+    let start = Instant::now(rt)?;
+    let made = available(rt.alloc(), p, &found.flow, &found.classes).is_ok();
+    report(rt, "available expressions", made, start)
 }
 
 // Tells how long a part took, and whether there was memory for it.

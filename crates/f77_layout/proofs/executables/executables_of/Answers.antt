@@ -1,9 +1,6 @@
 use Rattle.f77_layout.proofs.FewExecutables.{executables_few}
-use Rattle.f77_layout.proofs.Usable.{terminals, usable}
+use Rattle.f77_layout.proofs.Usable.{usable}
 use Rattle.f77_layout.proofs.executables.executables_of.Goals as goal
-
-pub flow_of-requires-clause-terminals : goal.flow_of-requires-clause-terminals
-flow_of-requires-clause-terminals c = terminals c.args.stmts.now c.requires.source
 
 pub flow_of-requires-clause-few : goal.flow_of-requires-clause-few
 flow_of-requires-clause-few c =

@@ -1,21 +1,15 @@
-use Rattle.std.proofs.Common.{◌≡◌, Bool, false, if◌then◌else◌, length, Some, None, refl, sym, ap, subst, ◌∙◌}
+use Rattle.std.proofs.Common.{◌≡◌, Bool, false, if◌then◌else◌, length, Some, None, refl, sym, ap, ◌∙◌}
 use Rattle.std.proofs.lemmas.Option.{slice_get_read}
 use Rattle.f77_layout.specs.declared.roles.Role.{Role}
 use Rattle.f77_layout.specs.Roles.{role_of}
-use Rattle.f77_layout.specs.OpenStack.{HasSmallLabel, entries_behind, head_of}
+use Rattle.f77_layout.specs.OpenStack.{entries_behind, head_of}
 use Rattle.f77_layout.proofs.OpenSteps.{held}
 use Rattle.f77_layout.proofs.Laminar.{AreNested-walk}
-use Rattle.f77_layout.proofs.SourceLabels.{AreLabelled-source, role_is_small}
+use Rattle.f77_layout.proofs.SourceLabels.{AreLabelled-source}
 use Rattle.f77_layout.proofs.NestingWalk.{IsWalk-fault, IsWalk-step, IsWalk-end, head-ended, head-inside}
 use Rattle.f77_layout.specs.BlockEnds.{turns_arm}
 use Rattle.f77_layout.proofs.nesting.nesting_of.Goals as goal
 use Rattle.f77_layout.proofs.nesting.nesting_of.Goals.{in-EndBlock, in_default}
-
-pub step-requires-clause-role : goal.step-requires-clause-role
-step-requires-clause-role c =
-    let s = c.index-stmts-i.result in
-    let here = slice_get_read c.args.stmts.now (length c.args.stmts.now) c.loop-i.i s refl c.loop-i-test.true c.index-stmts-i.is in
-    subst HasSmallLabel (sym c.role_in-role.ensures) (role_is_small c.args.stmts.now c.requires.source c.loop-i.i s here)
 
 pub returns-then-not-branch : goal.returns-then-not-branch
 returns-then-not-branch c =

@@ -1,4 +1,4 @@
-use Rattle.std.proofs.Common.{rules, ◌≡◌, ℕ, ◌+◌, ◌<◌, true, arith, sym, ap, subst, ◌∙◌, Some, length, refl, List, get_or}
+use Rattle.std.proofs.Common.{rules, ◌≡◌, ℕ, ◌+◌, ◌<◌, true, arith, ap, subst, ◌∙◌, Some, length, refl, List, get_or}
 use Rattle.std.specs.Prelude.{slice_get, slice_index}
 use Rattle.std.proofs.lemmas.List.{get_or_read}
 use Rattle.std.proofs.lemmas.Option.{slice_get_read}
@@ -58,8 +58,7 @@ overflow_sub-result c =
     let stands : slice_get stmts terminal ≡ Some s = slice_get_read stmts (length stmts) terminal s refl c.requires.stands (subst (λ (t : ℕ). s ≡ get_or stmts t s) at c.index-stmts-terminal.is) in
     let first : c.index-2.result.now ≡ first_of stmts terminal = get_or_read c.args.self.now.first.items c.place-terminal.result c.index-2.result.now (omega (arith, at, flow.first.size)) c.index-2.ensures 0 ∙ flow.first.entry c.place-terminal.result (omega (arith, at)) ∙ ap (λ t. first_of stmts t) at in
     let own : c.own_executables.result ≡ own_executables s.stmt = search rules in
-    let to : Some c.to.result.now ≡ Some (loops_above stmts label (length stmts)) = sym c.to.ensures ∙ flow.loops.entry label c.requires.label in
-    let list : c.to.result.now ≡ loops_above stmts label (length stmts) = cc in
+    let list : c.to.result.now ≡ loops_above stmts label (length stmts) = c.to.ensures ∙ flow.loops label in
     let len : c.len.result ≡ length (loops_above stmts label (length stmts)) = c.len.ensures ∙ ap (λ (ds : List ℕ). length ds) list in
     let is : IsExit stmts label place c.index-2.result.now c.own_executables.result c.len.result c.rank-outer.result = exit-numbers stmts label place c.index-2.result.now c.own_executables.result c.len.result c.rank-outer.result s c.requires.place c.requires.begins stands first own len outer in
     omega (arith, is.inner)
@@ -77,8 +76,7 @@ overflow_add-result c =
     let stands : slice_get stmts terminal ≡ Some s = slice_get_read stmts (length stmts) terminal s refl c.requires.stands (subst (λ (t : ℕ). s ≡ get_or stmts t s) at c.index-stmts-terminal.is) in
     let first : c.index-2.result.now ≡ first_of stmts terminal = get_or_read c.args.self.now.first.items c.place-terminal.result c.index-2.result.now (omega (arith, at, flow.first.size)) c.index-2.ensures 0 ∙ flow.first.entry c.place-terminal.result (omega (arith, at)) ∙ ap (λ t. first_of stmts t) at in
     let own : c.own_executables.result ≡ own_executables s.stmt = search rules in
-    let to : Some c.to.result.now ≡ Some (loops_above stmts label (length stmts)) = sym c.to.ensures ∙ flow.loops.entry label c.requires.label in
-    let list : c.to.result.now ≡ loops_above stmts label (length stmts) = cc in
+    let list : c.to.result.now ≡ loops_above stmts label (length stmts) = c.to.ensures ∙ flow.loops label in
     let len : c.len.result ≡ length (loops_above stmts label (length stmts)) = c.len.ensures ∙ ap (λ (ds : List ℕ). length ds) list in
     let is : IsExit stmts label place c.index-2.result.now c.own_executables.result c.len.result c.rank-outer.result = exit-numbers stmts label place c.index-2.result.now c.own_executables.result c.len.result c.rank-outer.result s c.requires.place c.requires.begins stands first own len outer in
     search (rules, is.fits, is.inner, flow.few)
@@ -96,8 +94,7 @@ returns c =
     let stands : slice_get stmts terminal ≡ Some s = slice_get_read stmts (length stmts) terminal s refl c.requires.stands (subst (λ (t : ℕ). s ≡ get_or stmts t s) at c.index-stmts-terminal.is) in
     let first : c.index-2.result.now ≡ first_of stmts terminal = get_or_read c.args.self.now.first.items c.place-terminal.result c.index-2.result.now (omega (arith, at, flow.first.size)) c.index-2.ensures 0 ∙ flow.first.entry c.place-terminal.result (omega (arith, at)) ∙ ap (λ t. first_of stmts t) at in
     let own : c.own_executables.result ≡ own_executables s.stmt = search rules in
-    let to : Some c.to.result.now ≡ Some (loops_above stmts label (length stmts)) = sym c.to.ensures ∙ flow.loops.entry label c.requires.label in
-    let list : c.to.result.now ≡ loops_above stmts label (length stmts) = cc in
+    let list : c.to.result.now ≡ loops_above stmts label (length stmts) = c.to.ensures ∙ flow.loops label in
     let len : c.len.result ≡ length (loops_above stmts label (length stmts)) = c.len.ensures ∙ ap (λ (ds : List ℕ). length ds) list in
     let is : IsExit stmts label place c.index-2.result.now c.own_executables.result c.len.result c.rank-outer.result = exit-numbers stmts label place c.index-2.result.now c.own_executables.result c.len.result c.rank-outer.result s c.requires.place c.requires.begins stands first own len outer in
     is.exit (omega arith)

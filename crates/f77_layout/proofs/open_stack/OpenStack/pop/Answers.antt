@@ -1,5 +1,11 @@
-use Rattle.f77_layout.proofs.OpenCounts.{AreCounted-popped, counted_top, AreCounted-unloop, AreCounted-unblock}
+use Rattle.std.proofs.Common.{arith}
+use Rattle.f77_layout.proofs.OpenCounts.{AreCounted-popped, counted_top, top_within, AreCounted-unloop, AreCounted-unblock}
 use Rattle.f77_layout.proofs.open_stack.OpenStack.pop.Goals as goal
+
+pub index_mut-requires : goal.index_mut-requires
+index_mut-requires c =
+    let less = top_within c.in_ok-entry.entry _ c.self.inside.loops.items c.in-Loop.label c.in-Loop.is (AreCounted-popped _ _ _ _ c.in_ok-entry.ensures.items c.self.invariant) in
+    omega (arith, less, c.self.inside.loops.ok.0)
 
 pub overflow_sub-index_mut : goal.overflow_sub-index_mut
 overflow_sub-index_mut c = counted_top c.in_ok-entry.entry _ c.self.inside.loops.items c.in-Loop.label c.index_mut.result.now c.index_mut.ensures.value c.in-Loop.is (AreCounted-popped _ _ _ _ c.in_ok-entry.ensures.items c.self.invariant)
