@@ -28,14 +28,16 @@ use step_count::Steps;
 
 // Programs; the class of each word; what the target of each assignment hits and needs; and the class of each DO. An array that
 // another name overlaps, a COMMON block under an array, subscripts in and out of bounds, and DOs.
-const CLASSES: &str = "INTEGER A(5),B;EQUIVALENCE (A(3),B);B=9;I=3;A(I)=A(I)+1;PRINT *,B;END=>1 1 2 1 1 3 : 2/2 3/3 1,2/1,2,3 : 
+const CLASSES: &str =
+    "INTEGER A(5),B;EQUIVALENCE (A(3),B);B=9;I=3;A(I)=A(I)+1;PRINT *,B;END=>1 1 2 1 1 3 : 2/2 3/3 1,2/1,2,3 : 
 END=>: : 
 INTEGER A(3);COMMON /C/ I,J,K;EQUIVALENCE (A(1),I);A(2)=7;PRINT *,J;END=>1 2 3 : 2/2 : 
 INTEGER A(3),B;EQUIVALENCE (A(2),B);A(2)=1;A(5-2)=1;A(4)=1;A(B)=1;A(A(3))=I;END=>1 2 1 3 : 2/2 1/1 1,2/1,2 1,2/1,2 1,2/1,2 : 
 DO 10 I=1,3;DO 10 K=I,3;10~J=J+I;PRINT *,J;END=>1 2 3 : 3/3 : 4 5 ";
 
 // Programs; the lines that each piece touches; the wires of each line; and where lines are led from some edges, as `line edge to`.
-const LINES: &str = "I=2;IF(I.GT.1)J=5;PRINT *,J;END=>/1/1/2//0,2//=>0,6/0,1,2,4,5/0,2,3,4,5,6/=>0 1 6;0 7 0;1 3 5;1 6 0;2 1 2;2 7 0
+const LINES: &str =
+    "I=2;IF(I.GT.1)J=5;PRINT *,J;END=>/1/1/2//0,2//=>0,6/0,1,2,4,5/0,2,3,4,5,6/=>0 1 6;0 7 0;1 3 5;1 6 0;2 1 2;2 7 0
 DO 10 I=1,3;10~J=J+I;PRINT *,7;PRINT *,J;END=>/1,3//3/1,2/1,3/0/0,2//=>0,5,8/0,1,2,3,4,6,7/0,2,3,4,7,8/0,1,2,3,6,7/=>0 1 5;0 9 0;1 5 0;2 1 2;2 5 8;2 6 7
 INTEGER A(5),B;EQUIVALENCE (A(3),B);B=9;I=3;A(I)=A(I)+1;PRINT *,B;END=>/2/3/0,1,2,3/0,2//=>0,3,4/0,3/0,1,3,4/0,2,3/=>0 1 3;0 5 0;1 1 3;1 4 0;2 2 3;2 5 0;3 1 2;3 4 0
 END=>//=>0/=>0 1 0";
@@ -132,7 +134,11 @@ fn tree_of(alloc: Global, g: &Digraph) -> Result<RegionTree, NoMemory>
 }
 
 /// The classes of the graph's edges, counted on a ledger of their own.
-fn edge_classes_of<L: Ledger>(alloc: Global, g: &Digraph, blank: Blank) -> Result<Vec<u32>, NoMemory>
+fn edge_classes_of<L: Ledger>(
+    alloc: Global,
+    g: &Digraph,
+    blank: Blank,
+) -> Result<Vec<u32>, NoMemory>
     requires strong { IsStrong g.now }
     requires edge { 0 < edge_count g.now }
     requires name { blank.name ≡ L.name }
