@@ -11,6 +11,7 @@ use Rattle.firing.specs.Control.{Course, due_node, steered}
 use Rattle.firing.specs.Moves.{Moves, CanFire}
 use Rattle.firing.specs.Orders.{IsOver, after}
 use Rattle.firing.specs.Play.{Moment, Way, moment, next, node_of, by_order, by_picks, played, node_at, shown_of, shown_at, shown, BreaksOff, EndsBy, Writes, Plays}
+use Rattle.firing.specs.Runs.{IsRun}
 use Rattle.firing.specs.SourceOrder.{IsDueOrder}
 use Rattle.firing.proofs.ControlLemmas.{moves_on}
 
@@ -42,6 +43,18 @@ module _ {M P : Type 0} (s : Moves M) (course : Course M P) where
       (cases_eq n plays.firings) in
       let there : (played own start n).marking ≡ after s m ks = ap (λ x. (played own (moment m x) n).marking) at ∙ reached m p ks order in
       over (node_at own start n) (subst (λ x. CanFire s x (node_at own start n)) there can)
+
+  pub not_stopped : (m : M) (p : P) (ks : List ℕ) → IsDueOrder s course m p ks → IsOver s (after s m ks) → (limit n : ℕ) (end : PlayEnd) → length ks ≤ limit → IsRun own (moment m (Some p)) limit n end → end ≡ Limit → ⊥
+  not_stopped m p ks order over limit n end le run is =
+      let start = moment m (Some p) in
+      let count = length ks in
+      let ends : EndsBy own start limit n Limit = subst (EndsBy own start limit n) is run.ends in
+      let all = ends.0 in
+      let can : CanFire s (played own start count).marking (node_at own start count) = ⊎_elim
+      (λ (same : count ≡ n). subst (λ i. CanFire s (played own start i).marking (node_at own start i)) (sym same) ends.1)
+      (λ differ. run.going count (omega (arith, le, differ, all)))
+      (cases_eq count n) in
+      over (node_at own start count) (subst (λ x. CanFire s x (node_at own start count)) (reached m p ks order) can)
 
   -- ---- without control
 

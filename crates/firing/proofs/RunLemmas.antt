@@ -12,6 +12,7 @@ use Rattle.firing.specs.Laws.{IsLawful}
 use Rattle.firing.specs.Moves.{Moves, CanFire, line_bytes}
 use Rattle.firing.specs.Orders.{IsOrder, IsOver, IsWhole, Settles, Traps, after, written as written_by}
 use Rattle.firing.specs.Play.{Moment, Way, played, node_at, shown_at, shown, BreaksOff, EndsBy, Writes, WritesOutput, Counts, MakesOrder, Plays}
+use Rattle.firing.specs.Runs.{HasOrder}
 use Rattle.firing.proofs.Resting.{settles}
 use Rattle.firing.proofs.Trapping.{traps}
 
@@ -51,6 +52,11 @@ module _ {M P : Type 0} (w : Way M P) (start : Moment M P) where
             ∙ ap (λ bytes. bytes ++ line_bytes (w.moves.line (after w.moves start.marking before.nodes) k)) before.lines
             ∙ ap (λ m. shown w Output start n ++ line_bytes (w.moves.line m k)) before.leads;
       }
+
+  pub order_of : (n : ℕ) → ((j : ℕ) → j < n → CanFire w.moves (played w start j).marking (node_at w start j)) → HasOrder w start n
+  order_of n going =
+      let all = ordered n going in
+      record { nodes = all.nodes; are = record { order = all.order; count = all.count; leads = all.leads; lines = all.lines } }
 
 -- ---- what is written of a run as output
 

@@ -12,4 +12,5 @@ pub mod Pacing
 pub mod Play
 pub mod ReadySet
 pub mod Resuming
+pub mod Runs
 pub mod SourceOrder

@@ -1,13 +1,18 @@
 // What every order of firing has in common, as contracts of a function that does nothing.
 
-ghost use Rattle.std.specs.Prelude.{◌≡◌, ◌<◌, ◌≤◌, ℕ, List, Some, None, length};
+ghost use Rattle.std.specs.Prelude.{◌≡◌, ◌≢◌, ◌<◌, ◌≤◌, ℕ, List, Some, None, length};
 ghost use Rattle.op_table.specs.declared.Trap.{Trap};
-ghost use Rattle.firing.specs.Orders.{IsBehind, IsOrder, IsWhole, Settles, Traps, after, serial_count};
+ghost use Rattle.firing.specs.Control.{IsInStep};
+ghost use Rattle.firing.specs.declared.playing.PlayEnd.{PlayEnd};
+ghost use Rattle.firing.specs.Moves.{CanFire};
+ghost use Rattle.firing.specs.Orders.{IsBehind, IsOrder, IsOver, IsWhole, Settles, Traps, after, serial_count};
 ghost use Rattle.firing.specs.Pacing.{FollowsSource, IsPaced, Stage};
-ghost use Rattle.firing.specs.Play.{Moment, by_order, by_picks};
+ghost use Rattle.firing.specs.Play.{Moment, Way, by_order, by_picks, moment, node_at, played};
 ghost use Rattle.firing.specs.Resuming.{GoesOn, turned};
+ghost use Rattle.firing.specs.Runs.{HasEnd, HasOrder, IsRun};
+ghost use Rattle.firing.specs.SourceOrder.{IsDueOrder};
 
-use crate::StepSystem;
+use crate::{SourceOrder, StepSystem};
 
 /// Where one order of firing comes to rest without a trap, each does, after as many firings, at the same marking. Where
 /// one traps, none ends without that trap, and each that ends has the same output. Of two orders the one with
@@ -32,4 +37,20 @@ pub fn every_order_follows<S: StepSystem>()
 pub fn runs_go_on<S: StepSystem>()
     ensures picks { (net : S.Net) (picks : List ℕ) (start : Moment S.Marking S.Place) (a : ℕ) → 0 < length picks → GoesOn (by_picks (S.moves net) (S.course net) picks) start a (by_picks (S.moves net) (S.course net) (turned a picks)) }
     ensures order { (net : S.Net) (start : Moment S.Marking S.Place) (a : ℕ) → GoesOn (by_order (S.moves net) (S.course net)) start a (by_order (S.moves net) (S.course net)) }
+{}
+
+/// Each run by picks comes to an end, of its own or at the limit, and so does each in the source's own order, where control has a
+/// place that can stand beside the marking. A run has one end and one number of firings, of which there are never more, and its
+/// firings are an order with the same output.
+pub fn runs_end<S: SourceOrder>()
+    ensures picks { (net : S.Net) (picks : List ℕ) (start : Moment S.Marking S.Place) (limit : ℕ) → HasEnd (by_picks (S.moves net) (S.course net) picks) start limit }
+    ensures order { (net : S.Net) (start : Moment S.Marking S.Place) (limit : ℕ) → S.sound net start.marking → IsInStep (S.moves net) (S.in_step net) start.marking start.control → start.control ≢ None → HasEnd (by_order (S.moves net) (S.course net)) start limit }
+    ensures one { (w : Way S.Marking S.Place) (start : Moment S.Marking S.Place) (limit n m : ℕ) (end other : PlayEnd) → IsRun w start limit n end → IsRun w start limit m other → (n ≡ m) × (end ≡ other) }
+    ensures longest { (w : Way S.Marking S.Place) (start : Moment S.Marking S.Place) (limit n m : ℕ) (end : PlayEnd) → IsRun w start limit m end → n ≤ limit → ((j : ℕ) → j < n → CanFire w.moves (played w start j).marking (node_at w start j)) → n ≤ m }
+    ensures nodes { (w : Way S.Marking S.Place) (start : Moment S.Marking S.Place) (limit n : ℕ) (end : PlayEnd) → IsRun w start limit n end → HasOrder w start n }
+{}
+
+/// Where the nodes that are due come to an end within the limit, a run in the source's own order doesn't stop at the limit.
+pub fn due_orders_end<S: SourceOrder>()
+    ensures { (net : S.Net) (m : S.Marking) (p : S.Place) (ks : List ℕ) (limit n : ℕ) (end : PlayEnd) → IsDueOrder (S.moves net) (S.course net) m p ks → IsOver (S.moves net) (after (S.moves net) m ks) → length ks ≤ limit → IsRun (by_order (S.moves net) (S.course net)) (moment m (Some p)) limit n end → end ≢ PlayEnd.Limit }
 {}

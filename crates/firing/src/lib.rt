@@ -12,7 +12,7 @@ mod step;
 mod system;
 
 pub use footprints::{InParts, footprints_commute};
-pub use laws::{every_order, every_order_follows, runs_go_on};
+pub use laws::{due_orders_end, every_order, every_order_follows, runs_end, runs_go_on};
 pub use playing::{PlayEnd, Show, play};
 pub use ready_set::ReadySet;
 pub use source_order::{SourceOrder, follow};
