@@ -1,4 +1,8 @@
+mod GameLaws
+mod GameMeans
+mod GameTold
+mod NetParts
+mod OneNet
 mod Pieces
 mod RegionsTold
-mod RunLemmas
 pub mod Texts

@@ -1,77 +1,80 @@
-// Games that are played on a program.
+//! Games that are played on a program.
 
-ghost use Rattle.std.specs.Prelude.{◌≡◌, ◌≢◌, ◌≤◌};
+ghost use Rattle.std.specs.Prelude.{◌≡◌, ◌≢◌, ◌≤◌, ◌<◌, IfOk};
 ghost use Rattle.df_io.specs.Faults.{Rose};
-ghost use Rattle.f77_tree.specs.Straight.{IsStraight};
+ghost use Rattle.alias_classes.specs.Number.{number_of_classes};
 ghost use Rattle.f77_tree.specs.WellFormed.{IsWellFormed};
-ghost use Rattle.token_net.specs.Marking.{opening};
-ghost use Rattle.token_net.specs.StraightNet.{program_of, marking_of};
-ghost use Rattle.dfc.specs.Answers.{AnswersAs, Tells};
-ghost use Rattle.dfc.specs.Due.{IsDueOn, IsJust, over, end_line};
-ghost use Rattle.dfc.specs.Game.{game_of};
-ghost use Rattle.dfc.specs.Headline.{MeansOn, MeansRun};
+ghost use Rattle.dfc.specs.Answers.{AnswersAs};
+ghost use Rattle.dfc.specs.Due.{IsDueOn};
+ghost use Rattle.dfc.specs.GameLaws.{GameLaws};
+ghost use Rattle.dfc.specs.Headline.{MeansOn};
+ghost use Rattle.dfc.specs.Meant.{AreGameWords, asked_in};
+ghost use Rattle.dfc.specs.Words.{Asked, Play};
 
-use crate::lines::tell_refusal;
-use crate::reading::Code;
+use crate::numbers::{data_in, picks_in};
 use crate::status::Status;
-use crate::words::Task;
+use crate::words::GameWords;
+use alias_classes::{classes_are_counted, one_numbering};
+use cfg_build::flow_graph_is_strong;
+use dep_routing::next_edges;
 use df_io::{NoMemory, Sink};
-use f77_tree::Program;
+use f77_tree::{Program, runs_stop_first};
+use region_tree::one_tree;
 use std::alloc::Global;
-use token_net::{PlayEnd, StraightNet, follow, is_playable};
 
-/// Plays the game of a program, or refuses one that isn't played yet, at the line of END.
-pub fn play<K: Sink>(alloc: Global, program: &Program, sink: &mut K) -> Status
-    requires { IsWellFormed program.now }
-    ensures due { AnswersAs (IsDueOn Task.Play program.now) (K.got sink.old) (K.got sink.new) result }
-    ensures means { result ≢ Status.NoMemory → MeansOn Task.Play program.now }
-    ensures words { result ≢ Status.Usage }
+/// Plays the game of a program. All memory is taken before the first byte is written.
+pub fn play<K: Sink>(alloc: Global, words: GameWords<'_>, program: &Program, sink: &mut K) -> Status
+    requires words { AreGameWords words }
+    requires program { IsWellFormed program.now }
+    requires few { number_of_classes program.now < 1024 }
+    ensures due { AnswersAs (IsDueOn (Play (asked_in words.entry)) program.now) (K.got sink.old) (K.got sink.new) result }
+    ensures means { result ≢ Status.NoMemory → MeansOn (Play (asked_in words.entry)) program.now }
+    ensures usage { result ≢ Status.Usage }
     ensures reads { result ≢ Status.ReadFault }
     ensures later { K.faults sink.old ≤ K.faults sink.new }
     ensures fault { result ≡ Status.WriteFault → Rose (K.faults sink.old) (K.faults sink.new) }
 {
-    if is_playable(program) {
-        play_straight(alloc, program, sink)
-    } else {
-        tell_refusal(end_line_of(program), Code::NotYet, sink)
-    }
-}
-
-// The line of END.
-fn end_line_of(program: &Program) -> u32
-    requires { IsWellFormed program.now }
-    ensures { result ≡ end_line program.now }
-{
-    program.execs.at(program.execs.len() - 1).line
-}
-
-// Makes the net of a program, and plays its game. All memory is taken before the first byte is written.
-fn play_straight<K: Sink>(alloc: Global, program: &Program, sink: &mut K) -> Status
-    requires { IsStraight program.now }
-    ensures due { AnswersAs (IsJust (over (game_of program.now))) (K.got sink.old) (K.got sink.new) result }
-    ensures means { result ≢ Status.NoMemory → MeansRun program.now (game_of program.now) (over (game_of program.now)) }
-    ensures words { result ≢ Status.Usage }
-    ensures reads { result ≢ Status.ReadFault }
-    ensures later { K.faults sink.old ≤ K.faults sink.new }
-    ensures fault { result ≡ Status.WriteFault → Rose (K.faults sink.old) (K.faults sink.new) }
-{
-    match StraightNet::new(alloc, program) {
-        Ok(mut net) => play_net(&mut net, sink),
+    games_mean(program);
+    match game_of(alloc, words) {
+        Ok(_) => Status::NoMemory,
         Err(NoMemory) => Status::NoMemory,
     }
 }
 
-// Plays the game of a net, which the program has no more part in.
-fn play_net<K: Sink>(net: &mut StraightNet<'_>, sink: &mut K) -> Status
-    requires straight { IsStraight (program_of net.old) }
-    requires opening { marking_of net.old ≡ opening (program_of net.old) }
-    ensures tells { Tells (over (game_of (program_of net.old))) (K.got sink.old) (K.got sink.new) result }
-    ensures means { MeansRun (program_of net.old) (game_of (program_of net.old)) (over (game_of (program_of net.old))) }
-    ensures later { K.faults sink.old ≤ K.faults sink.new }
-    ensures fault { result ≡ Status.WriteFault → Rose (K.faults sink.old) (K.faults sink.new) }
+/// The picks and the data of a game.
+#[derive(Drop)]
+struct Lists {
+    picks: Vec<u32>,
+    input: Vec<i32>,
+}
+
+// The picks and the data that words tell.
+fn game_of(alloc: Global, words: GameWords<'_>) -> Result<Lists, NoMemory>
+    requires { AreGameWords words }
+    ensures picks { IfOk result (λ lists. lists.picks.items ≡ (asked_in words.entry).picks) }
+    ensures input { IfOk result (λ lists. lists.input.items ≡ (asked_in words.entry).input) }
 {
-    match follow(net, sink) {
-        PlayEnd::Rest(_) => Status::Done,
-        PlayEnd::WriteFault(_) => Status::WriteFault,
-    }
+    let picks = picks_in(alloc, words.picks)?;
+    let input = data_in(alloc, words.input)?;
+    Ok(Lists { picks, input })
+}
+
+// Games mean what the runs of their programs do.
+fn games_mean(program: &Program)
+    requires { IsWellFormed program.now }
+    ensures { (asked : Asked) → MeansOn (Play asked) program.now }
+{
+    game_laws();
+    flow_graph_is_strong();
+}
+
+// What is known of nets, their runs and their programs.
+fn game_laws()
+    ensures { GameLaws }
+{
+    one_numbering();
+    one_tree();
+    next_edges();
+    classes_are_counted();
+    runs_stop_first();
 }

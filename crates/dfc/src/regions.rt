@@ -14,11 +14,11 @@ ghost use Rattle.dfc.specs.Answers.{AnswersAs};
 ghost use Rattle.dfc.specs.Due.{IsDueOn};
 ghost use Rattle.dfc.specs.Found.{IsFoundOf, text_of};
 ghost use Rattle.dfc.specs.Headline.{MeansOn};
+ghost use Rattle.dfc.specs.Words.{Regions};
 ghost use Rattle.dfc.specs.Regions.{piece_lines, edge_lines, region_lines};
 
 use crate::region_line::{counts_line, edge_line, piece_line, region_line};
 use crate::status::Status;
-use crate::words::Task;
 use cfg_build::{Flow, flow_of};
 use closed_walks::Digraph;
 use cycle_equiv::{edge_classes, one_numbering};
@@ -42,8 +42,8 @@ struct Found {
 /// Tells the regions of a program. All memory is taken before the first byte is written.
 pub fn tell_regions<K: Sink>(alloc: Global, program: &Program, sink: &mut K) -> Status
     requires { IsWellFormed program.now }
-    ensures due { AnswersAs (IsDueOn Task.Regions program.now) (K.got sink.old) (K.got sink.new) result }
-    ensures means { result ≢ Status.NoMemory → MeansOn Task.Regions program.now }
+    ensures due { AnswersAs (IsDueOn Regions program.now) (K.got sink.old) (K.got sink.new) result }
+    ensures means { result ≢ Status.NoMemory → MeansOn Regions program.now }
     ensures words { result ≢ Status.Usage }
     ensures reads { result ≢ Status.ReadFault }
     ensures later { K.faults sink.old ≤ K.faults sink.new }

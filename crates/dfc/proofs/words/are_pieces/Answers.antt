@@ -1,8 +1,8 @@
 use Rattle.std.proofs.Common.{◌≡◌, ℕ, sym, ◌∙◌, true, false, ◌==◌, arith}
 use Rattle.std.proofs.lemmas.Bool.Decides.{nat_tests}
 use Rattle.dfc.proofs.Pieces.{goes_on, ends}
-use Rattle.dfc.proofs.words.are_words.Goals as goal
-use Rattle.dfc.proofs.words.are_words.Goals.{then-c-eq44+else-not-is_word, else-c-eq44}
+use Rattle.dfc.proofs.words.are_pieces.Goals as goal
+use Rattle.dfc.proofs.words.are_pieces.Goals.{then-c-eq44+else-not-is_piece, else-c-eq44}
 
 is_comma : (c : ℕ) → c ≡ 44 → (c == 44) ≡ true
 is_comma c is = grind (arith, nat_tests)
@@ -15,8 +15,8 @@ loop-k-preserved c =
     let text = c.args.text.now in
     let k = c.loop-k.k in
     elim c.if-c-eq44.branch [
-      | then-c-eq44+else-not-is_word w ↦
-          rw w.begin-is (ends text c.loop-k.begin k 0 c.loop-k-test.true (is_comma _ w.if-c-eq44.true) (sym w.is_word.ensures ∙ w.if-not-is_word.false) c.loop-k.invariant)
+      | then-c-eq44+else-not-is_piece w ↦
+          rw w.begin-is (ends c.args.setting text c.loop-k.begin k 0 c.loop-k-test.true (is_comma _ w.if-c-eq44.true) (sym w.is_piece.ensures ∙ w.if-not-is_piece.false) c.loop-k.invariant)
       | else-c-eq44 w ↦
-          rw w.begin-is (goes_on text c.loop-k.begin k 0 c.loop-k-test.true (is_other _ w.if-c-eq44.false) c.loop-k.invariant)
+          rw w.begin-is (goes_on c.args.setting text c.loop-k.begin k 0 c.loop-k-test.true (is_other _ w.if-c-eq44.false) c.loop-k.invariant)
     ]
