@@ -1,9 +1,10 @@
 -- What is told of a game.
-use Rattle.std.proofs.Common.{◌≡◌, ℕ, zero, suc, ◌+◌, ◌-◌, ◌<◌, ◌≤◌, List, [], ◌∷◌, ◌++◌, length, take, Option, refl, sym, ap, subst, ◌∙◌, ⊎_elim, append_assoc, append-nil, length-append, arith}
+use Rattle.std.proofs.Common.{◌≡◌, ℕ, zero, suc, ◌+◌, ◌-◌, ◌<◌, ◌≤◌, List, [], ◌∷◌, ◌++◌, length, take, Option, Some, refl, sym, ap, subst, ◌∙◌, ⊎_elim, append_assoc, append-nil, length-append, arith}
 use Rattle.std.proofs.KnownBytes.{Appends-trans}
 use Rattle.std.proofs.Math.Seq.{take-append-add}
 use Rattle.std.specs.Io.KnownBytes.{Appends}
 use Rattle.op_table.specs.declared.Trap.{Trap}
+use Rattle.f77_tree.specs.declared.programs.Program.{Program}
 use Rattle.df_io.specs.Write.{AppendsFront}
 use Rattle.df_io.proofs.Fronts.{AppendsFront-longer}
 use Rattle.firing.specs.declared.playing.PlayEnd.{PlayEnd}
@@ -11,13 +12,18 @@ use Rattle.firing.specs.declared.playing.PlayEnd.TheVariants as end
 use Rattle.firing.specs.declared.playing.Show.TheVariants.{Output}
 use Rattle.firing.specs.Control.{Course}
 use Rattle.firing.specs.Moves.{Moves, CanFire}
-use Rattle.firing.specs.Play.{Moment, Way, BreaksOff, Plays, by_order, by_picks, node_at, played, shown, shown_at}
+use Rattle.firing.specs.Play.{Moment, Way, BreaksOff, Plays, by_order, by_picks, moment, node_at, played, shown, shown_at}
 use Rattle.firing.specs.Runs.{HasEnd, IsOwnEnd, IsRun}
+use Rattle.token_net.specs.declared.control.Control.{Control}
+use Rattle.token_net.specs.NetOrder.{first_control, net_course}
+use Rattle.token_net.specs.Nodes.{NetOf}
+use Rattle.token_net.specs.Tokens.{Tokens, first_tokens, net_moves}
 use Rattle.dfc.specs.declared.status.Status.{Status}
-use Rattle.dfc.specs.declared.status.Status.TheVariants.{Done, Trapped, Limit, WriteFault}
+use Rattle.dfc.specs.declared.status.Status.TheVariants.{Done, Usage, Refused, Trapped, Limit, ReadFault, WriteFault, NoMemory}
 use Rattle.dfc.specs.Answers.{AnswersAs, IsBegun, IsTold, Tells}
-use Rattle.dfc.specs.Due.{Due, IsDueBy, IsGameOf, IsJust, all_due, done, stopped, trapped}
-use Rattle.dfc.specs.Game.{way_by}
+use Rattle.dfc.specs.Due.{Due, IsDueBy, IsDuePlay, IsGameOf, IsJust, all_due, done, stopped, trapped}
+use Rattle.dfc.specs.Game.{IsNetOn, opening, way_by, way_of}
+use Rattle.dfc.specs.Words.{Asked}
 
 -- ---- a line behind a text
 
@@ -131,3 +137,31 @@ module _ {M P : Type 0} (w : Way M P) (start : Moment M P) (limit : ℕ) where
 pub has_end : {M P : Type 0} (moves : Moves M) (course : Course M P) (start : Moment M P) (limit : ℕ) → HasEnd (by_order moves course) start limit → ((picks : List ℕ) → HasEnd (by_picks moves course picks) start limit) → (picks : List ℕ) → HasEnd (way_by moves course picks) start limit
 has_end moves course start limit order by [] = order
 has_end moves course start limit order by (pick ∷ picks) = by (pick ∷ picks)
+
+-- ---- a game of a program
+
+-- what answers one claim answers a weaker one
+pub answers_more : (is also : Due → Type 0) (old new : Option (List ℕ)) (s : Status) → ((due : Due) → is due → also due) → AnswersAs is old new s → AnswersAs also old new s
+answers_more is also old new s more answers = on s answers
+  where
+    told : (x : Status) → IsTold is old new x → IsTold also old new x
+    told x t = record { due = t.due; is = more t.due t.is; same = t.same; written = t.written }
+
+    on : (x : Status) → AnswersAs is old new x → AnswersAs also old new x
+    on Done t = told Done t
+    on Usage t = told Usage t
+    on Refused t = told Refused t
+    on Trapped t = told Trapped t
+    on Limit t = told Limit t
+    on ReadFault t = t
+    on WriteFault t = record { due = t.due; is = more t.due t.is; front = t.front }
+    on NoMemory t = t
+
+-- the game of a net of the program and its data is one of the program
+pub played_on : (asked : Asked) (p : Program) (net : NetOf) (m : Tokens) (place : Option Control) (picks : List ℕ) → IsNetOn p asked.input net → m ≡ first_tokens net → place ≡ Some (first_control net) → picks ≡ asked.picks → (due : Due) → IsGameOf (way_by (net_moves net) (net_course net) picks) (moment m place) asked.limit due → IsDuePlay asked p due
+played_on asked p net m place picks own begun control same due game =
+    let there : IsGameOf (way_of net asked.picks) (opening net) asked.limit due =
+    subst (λ xs. IsGameOf (way_of net xs) (opening net) asked.limit due) same
+    (subst (λ c. IsGameOf (way_of net picks) (moment (first_tokens net) c) asked.limit due) control
+    (subst (λ (x : Tokens). IsGameOf (way_of net picks) (moment x place) asked.limit due) begun game)) in
+    record { firings = there.firings; played = record { net = net; own = own; played = there.played } }

@@ -1,5 +1,7 @@
+mod DataWords
 mod GameLaws
 mod GameMeans
+mod GamePace
 mod GameTold
 mod NetParts
 mod OneNet

@@ -16,6 +16,7 @@ use Rattle.dep_routing.specs.Quiet.{IsWire}
 use Rattle.dep_routing.specs.Routing.{Routing, IsRouting, next_at, wire_at}
 use Rattle.dep_routing.specs.Touches.{AreTouches}
 use Rattle.token_net.specs.Nodes.{NetOf}
+use Rattle.token_net.specs.Parts.{AreParts, net_with}
 use Rattle.dfc.specs.Game.{IsNetOn}
 use Rattle.dfc.specs.GameLaws.{OneOfEach}
 
@@ -104,46 +105,33 @@ module _ (g : Graph) (t : Tree) (touches : ℕ → ℕ → Bool) (one : (line e 
 
 -- what a net has beside a program and its data
 record HasParts (p : Program) (touches : ℕ → ℕ → Bool) (routing : Routing) : Type 0 where
-  c : ClassTable
-  classes : IsClasses p c
-  t : Tree
-  tree : IsRegionTree (flow p.execs).graph t
-  are : AreTouches p c touches
-  outside : (piece line : ℕ) → (flow p.execs).graph.nodes ≤ piece → touches piece line ≡ false
-  routes : IsRouting (flow p.execs).graph t touches (suc (class_count c)) routing
+  parts : AreParts p (flow p.execs) touches routing
   rows : HaveRows routing
-
-parts_of : (p : Program) (words : List ℤ) (net : NetOf) → IsNetOn p words net → HasParts p net.touches net.routing
-parts_of p words net own = subst (λ (q : Program). HasParts q net.touches net.routing) own.program (record {
-  c = own.is_net.classes;
-  classes = own.is_net.own_classes;
-  t = own.is_net.tree;
-  tree = own.is_net.own_tree;
-  are = own.touches;
-  outside = own.outside;
-  routes = own.is_net.own_routing;
-  rows = own.rows;
-})
 
 module _ (each : OneOfEach) (p : Program) (strong : IsFlowGraph (flow p.execs).graph) where
   touches_same : (a b : ℕ → ℕ → Bool) (r s : Routing) → HasParts p a r → HasParts p b s → a ≡ b
-  touches_same a b r s one two = same_touches p two.c a b (subst (λ c. AreTouches p c a) (each.classes p one.c two.c one.classes two.classes) one.are) two.are one.outside two.outside
+  touches_same a b r s one two =
+      let left = one.parts in
+      let right = two.parts in
+      same_touches p right.classes a b (subst (λ c. AreTouches p c a) (each.classes p left.classes right.classes left.own_classes right.own_classes) left.own_touches) right.own_touches left.outside right.outside
 
   routing_same : (a : ℕ → ℕ → Bool) (r s : Routing) → HasParts p a r → HasParts p a s → r ≡ s
   routing_same a r s one two =
       let g = (flow p.execs).graph in
-      let tree = each.trees g one.t two.t strong one.tree two.tree in
-      let classes = each.classes p one.c two.c one.classes two.classes in
-      same_routing g two.t a (λ line e f h. each.next g two.t a line e f h strong two.tree) (suc (class_count two.c)) r s
-      (subst (λ c. IsRouting g two.t a (suc (class_count c)) r) classes (subst (λ t. IsRouting g t a (suc (class_count one.c)) r) tree one.routes)) two.routes one.rows two.rows
+      let left = one.parts in
+      let right = two.parts in
+      let tree = each.trees g left.tree right.tree strong left.own_tree right.own_tree in
+      let classes = each.classes p left.classes right.classes left.own_classes right.own_classes in
+      same_routing g right.tree a (λ line e f h. each.next g right.tree a line e f h strong right.own_tree) (suc (class_count right.classes)) r s
+      (subst (λ c. IsRouting g right.tree a (suc (class_count c)) r) classes (subst (λ t. IsRouting g t a (suc (class_count left.classes)) r) tree left.own_routing)) right.own_routing one.rows two.rows
 
   pub one_net : (words : List ℤ) (net other : NetOf) → IsNetOn p words net → IsNetOn p words other → net ≡ other
   one_net words net other own too =
-      let one = parts_of p words net own in
-      let two = parts_of p words other too in
+      let one : HasParts p net.touches net.routing = record { parts = own.parts; rows = own.rows } in
+      let two : HasParts p other.touches other.routing = record { parts = too.parts; rows = too.rows } in
       let touches = touches_same net.touches other.touches net.routing other.routing one two in
       let routing = routing_same other.touches net.routing other.routing (subst (λ a. HasParts p a net.routing) touches one) two in
-      ap (λ q. record net { program = q }) (own.program ∙ sym too.program)
-      ∙ ap (λ i. record net { program = other.program; input = i }) (own.input ∙ sym too.input)
-      ∙ ap (λ a. record { program = other.program; input = other.input; touches = a; routing = net.routing }) touches
-      ∙ ap (λ r. record { program = other.program; input = other.input; touches = other.touches; routing = r }) routing
+      own.is
+      ∙ ap (λ a. net_with p words a net.routing) touches
+      ∙ ap (λ r. net_with p words other.touches r) routing
+      ∙ sym too.is

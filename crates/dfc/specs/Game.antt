@@ -1,25 +1,24 @@
 -- The game that is played on a program. This is the one place that names a net.
-use Rattle.std.specs.Prelude.{◌≡◌, ◌≤◌, ℕ, Bool, false, ℤ, List, [], ◌∷◌, Some}
+use Rattle.std.specs.Prelude.{◌≡◌, ℕ, ℤ, List, [], ◌∷◌, Some, All}
+use Rattle.op_table.specs.Words.{IsWord}
 use Rattle.f77_tree.specs.declared.programs.Program.{Program}
+use Rattle.cfg_build.specs.Flow.{flow}
 use Rattle.dep_routing.specs.LineTable.{HaveRows}
-use Rattle.dep_routing.specs.Touches.{AreTouches}
 use Rattle.firing.specs.Control.{Course}
 use Rattle.firing.specs.Moves.{Moves}
 use Rattle.firing.specs.Play.{Moment, Way, by_order, by_picks, moment}
 use Rattle.token_net.specs.declared.control.Control.{Control}
-use Rattle.token_net.specs.Belonging.{IsNet}
 use Rattle.token_net.specs.NetOrder.{first_control, net_course}
-use Rattle.token_net.specs.Nodes.{NetOf, graph_in}
+use Rattle.token_net.specs.Nodes.{NetOf}
+use Rattle.token_net.specs.Parts.{AreParts, net_with}
 use Rattle.token_net.specs.Tokens.{Tokens, first_tokens, net_moves}
 
--- The net of a program and its data. Of each piece it has the lines that the piece touches, and of nothing else any.
+-- The net of a program over data that are words, made of the program's own parts.
 pub record IsNetOn (p : Program) (words : List ℤ) (net : NetOf) : Type 0 where
-  pub program : net.program ≡ p
-  pub input : net.input ≡ words
-  pub is_net : IsNet net
-  pub touches : AreTouches net.program is_net.classes net.touches
-  pub outside : (piece line : ℕ) → (graph_in net).nodes ≤ piece → net.touches piece line ≡ false
+  pub are_words : All IsWord words
+  pub parts : AreParts p (flow p.execs) net.touches net.routing
   pub rows : HaveRows net.routing
+  pub is : net ≡ net_with p words net.touches net.routing
 
 -- Which node fires: the picks choose it, or without picks the source's own order does.
 abbrev pub choice_by : {M P : Type 0} → Moves M → Course M P → (picks : List ℕ) → ℕ → Moment M P → ℕ

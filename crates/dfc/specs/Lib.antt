@@ -1,3 +1,4 @@
+pub mod Stub
 pub mod Words
 pub mod Meant
 pub mod Codes

@@ -10,6 +10,7 @@ mod reading;
 mod region_line;
 mod regions;
 mod status;
+mod stub;
 mod top;
 mod words;
 

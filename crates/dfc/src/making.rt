@@ -9,7 +9,7 @@ ghost use Rattle.alias_classes.specs.Classes.{IsClasses, class_count};
 ghost use Rattle.alias_classes.specs.Number.{number_of_classes};
 ghost use Rattle.dfc.specs.Parts.{ArePartsOf};
 
-use alias_classes::{ClassEnd, Classes, classes_are_counted, classes_of};
+use alias_classes::{ClassEnd, Classes, classes_of};
 use cfg_build::{Flow, flow_of};
 use closed_walks::Digraph;
 use cycle_equiv::edge_classes;
@@ -59,8 +59,8 @@ fn alias_classes_of(alloc: Global, program: &Program) -> Result<Classes<'_, 16>,
     }
 }
 
-// The classes of cycle equivalent edges, counted on a ledger of their own.
-fn edge_numbers<L: Ledger>(alloc: Global, g: &Digraph, blank: Blank) -> Result<Vec<u32>, NoMemory>
+/// The classes of cycle equivalent edges, counted on a ledger of their own.
+pub fn edge_numbers<L: Ledger>(alloc: Global, g: &Digraph, blank: Blank) -> Result<Vec<u32>, NoMemory>
     requires strong { IsStrong g.now }
     requires edge { 0 < edge_count g.now }
     requires name { blank.name ≡ L.name }
