@@ -42,3 +42,4 @@ pub mod PieceFacts
 pub mod PlanView
 pub mod NetTables
 pub mod PieceRuns
+pub mod Parts

@@ -1,15 +1,21 @@
 //! Laws of nets, as contracts of functions that do nothing.
 
+ghost use Rattle.std.specs.Prelude.{ℕ, ℤ, List, Bool, All};
+ghost use Rattle.op_table.specs.Words.{IsWord};
+ghost use Rattle.f77_tree.specs.declared.programs.Program.{Program};
+ghost use Rattle.cfg_build.specs.Joined.{FlowGraph};
+ghost use Rattle.dep_routing.specs.Routing.{Routing};
 ghost use Rattle.firing.specs.Laws.{IsLawful};
 ghost use Rattle.token_net.specs.Belonging.{IsNet, CanCome};
 ghost use Rattle.token_net.specs.Ground.{Ground};
 ghost use Rattle.token_net.specs.Nodes.{NetOf};
+ghost use Rattle.token_net.specs.Parts.{AreParts, net_with};
 ghost use Rattle.token_net.specs.Tokens.{first_tokens, net_moves};
 
 use alias_classes::{needs_are_a_frame, needs_are_numbered, needs_cover_accesses};
 use cfg_build::{flow_graph_has_shape, flow_graph_is_strong};
-use dep_routing::next_edges;
-use f77_tree::reads_decide;
+use dep_routing::{next_edges, touches_are_sound};
+use f77_tree::{reads_decide, well_formed_programs_can_run};
 
 /// Nets keep the laws of firing: of two nodes that may both fire, neither minds if the other fires first.
 pub fn nets_keep_the_laws()
@@ -21,6 +27,14 @@ pub fn nets_begin_soundly()
     ensures { (net : NetOf) → IsNet net → CanCome net (first_tokens net) }
 {
     ground();
+}
+
+/// The parts that are a program's own make its net over data of words.
+pub fn parts_make_nets()
+    ensures { (p : Program) (f : FlowGraph) (touches : (piece line : ℕ) → Bool) (routing : Routing) (input : List ℤ) → AreParts p f touches routing → All IsWord input → IsNet (net_with p input touches routing) }
+{
+    touches_are_sound();
+    well_formed_programs_can_run();
 }
 
 // What lower layers tell.

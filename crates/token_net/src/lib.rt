@@ -19,7 +19,7 @@ mod upcoming;
 
 pub use control::Control;
 pub use following::{PlayEnd, follow};
-pub use laws::{nets_begin_soundly, nets_keep_the_laws};
+pub use laws::{nets_begin_soundly, nets_keep_the_laws, parts_make_nets};
 pub use net_laws::{flow_graphs_ground_nets, nets_are_paced, nets_keep_pace, runs_ground_nets};
 pub use playable::is_playable;
 pub use straight::StraightNet;
