@@ -1,6 +1,6 @@
 //! Laws on flow graphs, as contracts of functions that do nothing.
 
-ghost use Rattle.std.specs.Prelude.{◌≡◌, ◌<◌, List, ℕ};
+ghost use Rattle.std.specs.Prelude.{◌≡◌, ◌<◌, ◌≤◌, List, ℕ};
 ghost use Rattle.closed_walks.specs.Region.{IsFlowGraph};
 ghost use Rattle.f77_tree.specs.declared.programs.Exec.{Exec};
 ghost use Rattle.f77_tree.specs.declared.programs.NameInfo.{NameInfo};
@@ -24,6 +24,15 @@ pub fn flow_graph_is_strong()
 /// What stands where in the flow graph of a well-formed program, and how many edges come to each piece and leave it.
 pub fn flow_graph_has_shape()
     ensures { (names : List NameInfo) (execs : List Exec) (loops : ℕ) → AreExecs names execs loops → IsShaped (flow execs) (finish execs) }
+{
+    reaching_is_told();
+    endless_ways_meet_cycles();
+}
+
+/// The flow graph of a well-formed program has few pieces: two parts at most for each executable, with the start and the end, a
+/// join at most for each part, and a hold at most for each of these.
+pub fn pieces_are_few()
+    ensures { (names : List NameInfo) (execs : List Exec) (loops : ℕ) → AreExecs names execs loops → (flow execs).graph.nodes ≤ 160008 }
 {
     reaching_is_told();
     endless_ways_meet_cycles();

@@ -14,7 +14,9 @@ mod rows;
 mod zone_laws;
 
 pub use flow::{Flow, flow_of};
-pub use laws::{flow_graph_has_shape, flow_graph_is_strong, pieces_run_executables};
+pub use laws::{
+    flow_graph_has_shape, flow_graph_is_strong, pieces_are_few, pieces_run_executables,
+};
 pub use pass_laws::{
     chains_lead_to_successors, passes_are_a_walk, passes_follow_steps, passes_hold_words,
     runs_leave_the_start,

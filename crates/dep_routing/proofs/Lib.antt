@@ -18,3 +18,4 @@ pub mod Placing
 pub mod Quietness
 pub mod RowSteps
 pub mod TrapTouches
+pub mod SomeTouches

@@ -28,7 +28,9 @@ pub use laws::{
 pub use leaving::{output_keeps_moving, quiet_regions_are_left};
 pub use lines::Lines;
 pub use routing::route;
-pub use touch_laws::{touches_are_sound, touches_follow_needs, traps_touch_output};
+pub use touch_laws::{
+    pieces_touch_lines, touches_are_sound, touches_follow_needs, traps_touch_output,
+};
 pub use touching::touches;
 
 /// For each node the set of the lines that it touches.

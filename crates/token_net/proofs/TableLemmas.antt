@@ -259,7 +259,7 @@ module _ (net : NetOf) where
   unfolding passed_by
   passed_twice n xs are = are ∙ ap (λ k. map (passed_by k net) (all_edges net)) (sym (add-one n))
 
-  pub heads_are : (n : ℕ) (xs ys : List ℕ) → n ≡ 16 → xs ≡ map (passed_by n net) (all_edges net) → ys ≡ map (to (graph_in net)) xs → ys ≡ map (arrival net) (all_edges net)
+  pub heads_are : (n : ℕ) (xs ys : List ℕ) → n ≡ 18 → xs ≡ map (passed_by n net) (all_edges net) → ys ≡ map (to (graph_in net)) xs → ys ≡ map (arrival net) (all_edges net)
   heads_are n xs ys all are so =
       so ∙ ap (map (to (graph_in net))) are ∙ map_map (to (graph_in net)) (passed_by n net) (all_edges net)
       ∙ ap (λ k. map (λ e. to (graph_in net) (passed_by k net e)) (all_edges net)) all

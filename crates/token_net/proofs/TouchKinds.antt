@@ -1,9 +1,9 @@
--- Pieces of some kinds touch nothing.
-use Rattle.std.proofs.Common.{◌≡◌, ℕ, zero, suc, ◌<◌, Bool, true, false, refl, sym, ap, ◌∙◌, subst, ⊎_elim}
+-- Pieces of some kinds touch nothing, and those of the others something.
+use Rattle.std.proofs.Common.{◌≡◌, ℕ, zero, suc, ◌<◌, true, false, refl, sym, subst, ⊎_elim}
 use Rattle.std.proofs.lemmas.Bool.{cases_Bool}
 use Rattle.f77_tree.specs.declared.programs.ExecKind.{ExecKind}
 use Rattle.f77_tree.specs.declared.programs.Program.{Program}
-use Rattle.alias_classes.specs.Classes.{ClassTable}
+use Rattle.alias_classes.specs.Classes.{ClassTable, class_count}
 use Rattle.cfg_build.specs.declared.pieces.PieceKind.{PieceKind}
 use Rattle.cfg_build.specs.declared.pieces.PieceKind.TheVariants as kind
 use Rattle.dep_routing.specs.Sound.{KindMayTouchOut}
@@ -36,3 +36,20 @@ touch_none net is_net node line exists none = ⊎_elim (λ (h : net.touches node
     by : (line : ℕ) → net.touches node line ≡ true → ⊥
     by zero touches = no_out net.program (kind_in net node) (exec_kind net.program node) none (is_net.sound_touches.may node exists touches)
     by (suc n) touches = no_class is_net.classes (kind_in net node) (exec_kind net.program node) (suc n) none ((is_net.sound_touches.classes node n exists).0 touches)
+
+-- a piece touches one of the lines of a net
+abbrev OneLine : NetOf → (node lines : ℕ) → Type 0
+OneLine net node lines = (line : ℕ) × (line < lines) × (net.touches node line ≡ true)
+
+pub touch_some : (net : NetOf) (is_net : IsNet net) (node : ℕ) → (kind_in net node ≡ kind.Act → OneLine net node (suc (class_count is_net.classes))) → (kind_in net node ≡ kind.Branch → OneLine net node (suc (class_count is_net.classes))) → (kind_in net node ≡ kind.Hold → OneLine net node (suc (class_count is_net.classes)))
+    → has_act (kind_in net node) ≡ true → OneLine net node net.routing.lines
+touch_some net is_net node act branch hold acts = subst (OneLine net node) (sym is_net.own_routing.count) (by (kind_in net node) refl acts)
+  where
+    by : (k : PieceKind) → kind_in net node ≡ k → has_act k ≡ true → OneLine net node (suc (class_count is_net.classes))
+    by kind.Act is some = act is
+    by kind.Branch is some = branch is
+    by kind.Hold is some = hold is
+    by kind.Start is some = absurd cc
+    by kind.Pass is some = absurd cc
+    by kind.Join is some = absurd cc
+    by kind.End is some = absurd cc

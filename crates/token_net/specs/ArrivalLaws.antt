@@ -106,20 +106,20 @@ module _ (net : NetOf) (is_net : IsNet net) (ground : FlowGround net is_net.tree
           on (passed net edge) (later (passed net edge)) found idle step)
           (or_cases (to (graph_in net) edge == finish net.program.execs) (any_below (edge_count (graph_in net)) (λ e. (from (graph_in net) e == to (graph_in net) edge) && reaches_within most (graph_in net) (to (graph_in net) e) (finish net.program.execs))) reached)
 
-  busy_by : (k edge : ℕ) → 65536 ≤ doubled k → edge < edge_count (graph_in net) → IsBusyAt (passed_by k net edge)
+  busy_by : (k edge : ℕ) → 262144 ≤ doubled k → edge < edge_count (graph_in net) → IsBusyAt (passed_by k net edge)
   busy_by k edge enough inside =
       let near : IsNearEnd (graph_in net) (to (graph_in net) edge) (finish net.program.execs) = ground.near_end (to (graph_in net) edge) (ground.heads edge inside) in
       let few = near.few in
       subst IsBusyAt (sym (by_times net k edge)) (busy_after near.most (doubled k) edge (omega (arith, few, enough)) inside near.reached)
 
   pub arrival_busy : (edge : ℕ) → edge < edge_count (graph_in net) → is_idle net (arrival net edge) ≡ false
-  arrival_busy edge inside = busy_by 16 edge (omega arith) inside
+  arrival_busy edge inside = busy_by 18 edge (omega arith) inside
 
   -- control that comes to a piece with nodes, or to the end, comes no farther
   pub arrived_busy : (k edge : ℕ) → is_idle net (to (graph_in net) edge) ≡ false → passed_by k net edge ≡ edge
   arrived_busy k edge busy = by_times net k edge ∙ stays_busy (doubled k) edge busy
 
-  past_by : (k edge : ℕ) → 65536 ≤ doubled k → edge < edge_count (graph_in net) → passed_by k net (passed net edge) ≡ passed_by k net edge
+  past_by : (k edge : ℕ) → 262144 ≤ doubled k → edge < edge_count (graph_in net) → passed_by k net (passed net edge) ≡ passed_by k net edge
   past_by k edge enough inside =
       let one_more : suc (doubled k) ≡ doubled k + 1 = omega arith in
       let busy : IsBusyAt (passed_times net (doubled k) edge) = subst IsBusyAt (by_times net k edge) (busy_by k edge enough inside) in
@@ -130,5 +130,5 @@ module _ (net : NetOf) (is_net : IsNet net) (ground : FlowGround net is_net.tree
       ∙ sym (by_times net k edge)
 
   -- past an idle piece control comes to the same place
-  pub arrival_past : (edge : ℕ) → edge < edge_count (graph_in net) → passed_by 16 net (passed net edge) ≡ passed_by 16 net edge
-  arrival_past edge inside = past_by 16 edge (omega arith) inside
+  pub arrival_past : (edge : ℕ) → edge < edge_count (graph_in net) → passed_by 18 net (passed net edge) ≡ passed_by 18 net edge
+  arrival_past edge inside = past_by 18 edge (omega arith) inside

@@ -25,7 +25,7 @@ has_act _ = false
 -- a walk of few edges leads from the one node to the other
 pub record IsNearEnd (g : Graph) (node end : ℕ) : Type 0 where
   pub most : ℕ
-  pub few : most ≤ 65536
+  pub few : most ≤ 262144
   pub reached : reaches_within most g node end ≡ true
 
 pub record FlowGround (net : NetOf) (t : Tree) : Type 0 where

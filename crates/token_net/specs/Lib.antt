@@ -38,7 +38,6 @@ pub mod StepPace
 pub mod StepPaceLaws
 pub mod DuePace
 pub mod OrderBounds
-pub mod PieceFacts
 pub mod PlanView
 pub mod NetTables
 pub mod PieceRuns

@@ -24,10 +24,10 @@ unfoldable pub passed_by : (doublings : ℕ) → NetOf → (edge : ℕ) → ℕ
 passed_by zero net edge = passed net edge
 passed_by (suc n) net edge = passed_by n net (passed_by n net edge)
 
--- The next piece with nodes that control comes to along the edge, or the end. That a program has at most 65,536 pieces is asked
--- of it elsewhere.
+-- The next piece with nodes that control comes to along the edge, or the end. 18 doublings go past 262,144 pieces, and a program
+-- has fewer.
 abbrev pub arrival : NetOf → (edge : ℕ) → ℕ
-arrival net edge = to (graph_in net) (passed_by 16 net edge)
+arrival net edge = to (graph_in net) (passed_by 18 net edge)
 
 -- ---- places
 

@@ -82,7 +82,7 @@ in_pace_there net is_net ground m edge there busy =
     some_nodes (suc n) b busy not_end = omega arith
 
 pub in_pace_arrived : (net : NetOf) (is_net : IsNet net) (ground : FlowGround net is_net.tree) (m : Tokens) (edge : ℕ) → edge < edge_count (graph_in net) → IsThere net is_net ground m edge → IsInPace net m (arrived net edge)
-in_pace_arrived net is_net ground m edge inside there = in_pace_there net is_net ground m (passed_by 16 net edge) (there_passed_by net is_net ground 16 m edge there) (arrival_busy net is_net ground edge inside)
+in_pace_arrived net is_net ground m edge inside there = in_pace_there net is_net ground m (passed_by 18 net edge) (there_passed_by net is_net ground 18 m edge there) (arrival_busy net is_net ground edge inside)
 
 -- ---- the node that is due
 

@@ -2,6 +2,7 @@
 
 ghost use Rattle.std.specs.Prelude.{◌≡◌, ◌*◌, ◌≤◌, ℕ, length};
 ghost use Rattle.f77_tree.specs.Run.{source};
+ghost use Rattle.dep_routing.specs.Touches.{AreTouches};
 ghost use Rattle.firing.specs.Control.{KeepsStep};
 ghost use Rattle.firing.specs.Orders.{after};
 ghost use Rattle.firing.specs.Pacing.{IsPaced};
@@ -12,16 +13,18 @@ ghost use Rattle.token_net.specs.NetOrder.{first_control, net_course};
 ghost use Rattle.token_net.specs.NetPace.{IsInPace};
 ghost use Rattle.token_net.specs.Nodes.{NetOf};
 ghost use Rattle.token_net.specs.OwnOrder.{own_order};
-ghost use Rattle.token_net.specs.PieceFacts.{PieceFacts};
 ghost use Rattle.token_net.specs.StepPace.{RunGround, program_stage, program_text};
 ghost use Rattle.token_net.specs.Tokens.{first_tokens, net_moves};
 
 use cfg_build::{
     flow_graph_has_shape, flow_graph_is_strong, passes_are_a_walk, passes_follow_steps,
-    pieces_run_executables,
+    pieces_are_few, pieces_run_executables,
 };
 use closed_walks::reaching_is_told;
-use dep_routing::{free_nodes, free_passed_nodes, output_keeps_moving, places, places_over_a_pass};
+use dep_routing::{
+    free_nodes, free_passed_nodes, output_keeps_moving, pieces_touch_lines, places,
+    places_over_a_pass,
+};
 
 /// A control that keeps step with the passes of a program stays in step where the node that is due fires, and such a node can
 /// fire; where none is due, none can.
@@ -40,9 +43,9 @@ pub fn nets_are_paced()
     ensures memory { (net : NetOf) (n : IsNet net) → FlowGround net n.tree → RunGround net n.tree → (steps : ℕ) → (after (net_moves net) (first_tokens net) (own_order net steps)).memory ≡ (source net.program net.input steps).memory }
 {}
 
-/// What a net stands on, but for two facts of its pieces.
+/// What a net stands on, where the lines that its pieces touch are those of its program.
 pub fn flow_graphs_ground_nets()
-    ensures { (net : NetOf) (n : IsNet net) → PieceFacts net → FlowGround net n.tree }
+    ensures { (net : NetOf) (n : IsNet net) → AreTouches net.program n.classes net.touches → FlowGround net n.tree }
 {
     flow_graph_is_strong();
     flow_graph_has_shape();
@@ -53,6 +56,8 @@ pub fn flow_graphs_ground_nets()
     free_passed_nodes();
     reaching_is_told();
     pieces_run_executables();
+    pieces_are_few();
+    pieces_touch_lines();
 }
 
 /// What the runs of a program tell its net: its passes follow its steps, and output keeps moving.

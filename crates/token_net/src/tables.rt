@@ -250,7 +250,7 @@ fn arrivals<const W: usize>(
     ensures { IfOk result (λ arrivals. arrivals.items ≡ map (arrival (net_in plan.now)) (all_edges (net_in plan.now))) }
 {
     let mut edges = edges_passed(alloc, plan, firsts, outs)?;
-    for round in 0..16u32 {
+    for round in 0..18u32 {
         edges = doubled(alloc, &edges)?;
     }
     heads(alloc, plan.flow.graph(), &edges)

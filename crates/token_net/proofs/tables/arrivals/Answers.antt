@@ -35,7 +35,7 @@ returns g c =
     let net = net_in c.args.plan.now in
     let xs = c.loop-round.edges.items in
     let same : c.graph.result.now ≡ graph_in net = c.graph.ensures ∙ ap (λ (f : FlowGraph). f.graph) c.args.plan.now.own_flow in
-    let all : c.loop-round.round ≡ 16 = omega arith in
+    let all : c.loop-round.round ≡ 18 = omega arith in
     IfOk-weaker c.heads.result
     (λ (v : Vec ℕ Global). v.items ≡ map (to c.graph.result.now) xs)
     (λ (v : Vec ℕ Global). v.items ≡ map (arrival net) (all_edges net))
