@@ -1,8 +1,7 @@
 -- What a board looks up is there.
-use Rattle.std.proofs.Common.{◌≡◌, ◌<◌, ◌≤◌, ℕ, suc, List, length, filter, get_or, All, subst, ap, sym, ◌∙◌, arith}
-use Rattle.std.specs.List.{range_with_len}
+use Rattle.std.proofs.Common.{◌≡◌, ◌<◌, ◌≤◌, ℕ, length, get_or, All, subst, ap, ◌∙◌, arith}
 use Rattle.std.proofs.lemmas.List.FromFn.{length-range_with_len}
-use Rattle.closed_walks.specs.Graph.{Graph, IsGraph, edge_count, to}
+use Rattle.closed_walks.specs.Graph.{Graph, IsGraph, edge_count}
 use Rattle.cfg_build.specs.Joined.{FlowGraph}
 use Rattle.token_net.specs.declared.plan.Plan.{Plan}
 use Rattle.token_net.specs.MemberLaws.{Member-at, Member-filtered, Member-in_range}

@@ -3,7 +3,7 @@ use Rattle.std.proofs.Common.{◌≡◌, ◌<◌, ℕ, true, false, List, [], �
 use Rattle.dep_routing.specs.Routing.{next_at}
 use Rattle.op_table.specs.declared.Trap.{Trap}
 use Rattle.cfg_build.specs.Passes.{Traps, out}
-use Rattle.firing.specs.declared.system.NodeName.TheVariants.{Act, Merge, Switch}
+use Rattle.firing.specs.declared.system.NodeName.TheVariants.{Merge, Switch}
 use Rattle.token_net.specs.MemberLaws.{Member}
 use Rattle.token_net.specs.Nodes.{NetOf, graph_in, nodes_of, first_node}
 use Rattle.token_net.specs.Tokens.{Tokens, acted, edge_of, gone, left_for, stopped, switched}

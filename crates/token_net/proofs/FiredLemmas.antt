@@ -1,8 +1,8 @@
 -- What firings answer, and whom they wake.
-use Rattle.std.proofs.Common.{◌≡◌, ◌≢◌, ◌<◌, ℕ, Bool, true, false, if◌then◌else◌, List, [], ◌∷◌, length, All, Contains, Option, Some, None, is_some, refl, sym, ap, ◌∙◌, subst}
+use Rattle.std.proofs.Common.{◌≡◌, ◌≢◌, ◌<◌, ℕ, Bool, true, false, if◌then◌else◌, List, [], length, All, Option, Some, None, refl, sym, ap, ◌∙◌, subst}
 use Rattle.op_table.specs.declared.Trap.{Trap}
 use Rattle.f77_tree.specs.Execution.{Memory}
-use Rattle.cfg_build.specs.Passes.{Passed, Along, Traps, Done, out}
+use Rattle.cfg_build.specs.Passes.{Passed, Along, Traps, out}
 use Rattle.firing.specs.declared.system.Fired.{Fired}
 use Rattle.firing.specs.declared.system.Fired.TheVariants.{Moved, Line, Trapped}
 use Rattle.firing.specs.declared.system.NodeName.{NodeName}
@@ -13,7 +13,7 @@ use Rattle.token_net.specs.Belonging.{CanCome}
 use Rattle.token_net.specs.Nodes.{NetOf, graph_in, nodes_of, node_at}
 use Rattle.token_net.specs.PieceRuns.{going_on}
 use Rattle.token_net.specs.Steering.{AnswersTrap}
-use Rattle.token_net.specs.Tokens.{Tokens, acted, stopped, gone, switched, fired_as, left_for, line_as, net_moves, pass_at, ready_as, text_of, written}
+use Rattle.token_net.specs.Tokens.{Tokens, acted, stopped, gone, switched, fired_as, left_for, line_as, net_moves, pass_at, ready_as, text_of}
 use Rattle.token_net.specs.Waking.{IsWoken}
 use Rattle.token_net.proofs.FiringLemmas.{acted_told, text_told, some_written}
 use Rattle.token_net.proofs.WakingLemmas.{wakes}

@@ -1,5 +1,5 @@
 -- What firings of pieces do to markings.
-use Rattle.std.proofs.Common.{◌≡◌, ◌≢◌, ◌<◌, ◌≤◌, ◌+◌, ◌⊎◌, inl, inr, ⊎_elim, ℕ, zero, suc, Bool, true, false, if◌then◌else◌, List, [], ◌∷◌, length, Option, Some, None, refl, sym, ap, ◌∙◌, subst, arith}
+use Rattle.std.proofs.Common.{◌≡◌, ◌<◌, ℕ, List, [], ◌∷◌, Some, refl, sym, ap, ◌∙◌, subst}
 use Rattle.op_table.specs.declared.Trap.{Trap}
 use Rattle.closed_walks.specs.Graph.{edge_count}
 use Rattle.f77_tree.specs.Execution.{Memory}

@@ -1,12 +1,10 @@
 -- Which node each line goes through, line by line.
-use Rattle.std.proofs.Common.{◌≡◌, ◌<◌, ◌≤◌, ◌+◌, ◌-◌, ◌&&◌, ℕ, zero, suc, Bool, true, false, not, if◌then◌else◌, List, [], ◌∷◌, length, filter, length-append, refl, sym, ap, ◌∙◌, subst, arith}
+use Rattle.std.proofs.Common.{◌≡◌, ◌<◌, ◌≤◌, ◌+◌, ◌-◌, ◌&&◌, ℕ, zero, suc, Bool, true, false, not, if◌then◌else◌, [], ◌∷◌, length, filter, length-append, refl, sym, ap, ◌∙◌, subst, arith}
 use Rattle.std.specs.List.{range_with_len}
-use Rattle.std.proofs.lemmas.List.{length-map}
 use Rattle.cfg_build.specs.declared.pieces.PieceKind.{PieceKind}
 use Rattle.cfg_build.specs.declared.pieces.PieceKind.TheVariants as kind
-use Rattle.firing.specs.declared.system.NodeName.TheVariants.{Merge, Switch}
-use Rattle.token_net.specs.Nodes.{NetOf, graph_in, kind_in, is_free, led_to, passing, nodes_by, nodes_of, node_count, first_node}
-use Rattle.token_net.specs.Waking.{merge_number, no_node, passing_below, place_by, place_of, switch_number}
+use Rattle.token_net.specs.Nodes.{NetOf, graph_in, kind_in, is_free, led_to, passing, nodes_by, node_count, first_node}
+use Rattle.token_net.specs.Waking.{merge_number, no_node, passing_below, place_by, switch_number}
 use Rattle.token_net.proofs.SteeringLemmas.{nodes_within}
 use Rattle.token_net.proofs.TableLemmas.{filter_next}
 
@@ -78,26 +76,14 @@ module _ (net : NetOf) (piece : ℕ) where
 
   -- ---- room
 
-  switch_room : (k : PieceKind) → piece < (graph_in net).nodes → kind_in net piece ≡ k → length (nodes_by net piece k) ≡ suc (length (passing net piece)) → switch_number net piece net.routing.lines ≤ no_node net
+  pub switch_room : (k : PieceKind) → piece < (graph_in net).nodes → kind_in net piece ≡ k → length (nodes_by net piece k) ≡ suc (length (passing net piece)) → switch_number net piece net.routing.lines ≤ no_node net
   switch_room k exists is count =
       let w = nodes_within net piece exists in
       let n : node_count net piece ≡ suc (length (passing net piece)) = ap (λ x. length (nodes_by net piece x)) is ∙ count in
       omega (arith, w, n)
 
-  merge_room : (k : PieceKind) → piece < (graph_in net).nodes → kind_in net piece ≡ k → length (nodes_by net piece k) ≡ length (led_to net piece) → merge_number net piece net.routing.lines ≤ no_node net
+  pub merge_room : (k : PieceKind) → piece < (graph_in net).nodes → kind_in net piece ≡ k → length (nodes_by net piece k) ≡ length (led_to net piece) → merge_number net piece net.routing.lines ≤ no_node net
   merge_room k exists is count =
       let w = nodes_within net piece exists in
       let n : node_count net piece ≡ length (led_to net piece) = ap (λ x. length (nodes_by net piece x)) is ∙ count in
       omega (arith, w, n)
-
-  pub branch_room : piece < (graph_in net).nodes → kind_in net piece ≡ kind.Branch → switch_number net piece net.routing.lines ≤ no_node net
-  branch_room exists is = switch_room kind.Branch exists is (ap suc (length-map (passing net piece) (Switch piece)))
-
-  pub hold_room : piece < (graph_in net).nodes → kind_in net piece ≡ kind.Hold → switch_number net piece net.routing.lines ≤ no_node net
-  hold_room exists is = switch_room kind.Hold exists is (ap suc (length-map (passing net piece) (Switch piece)))
-
-  pub join_room : piece < (graph_in net).nodes → kind_in net piece ≡ kind.Join → merge_number net piece net.routing.lines ≤ no_node net
-  join_room exists is = merge_room kind.Join exists is (length-map (led_to net piece) (Merge piece))
-
-  pub end_room : piece < (graph_in net).nodes → kind_in net piece ≡ kind.End → merge_number net piece net.routing.lines ≤ no_node net
-  end_room exists is = merge_room kind.End exists is (length-map (led_to net piece) (Merge piece))

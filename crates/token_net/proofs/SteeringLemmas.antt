@@ -1,5 +1,5 @@
 -- Which node is due at a place of control, and where its firing leads.
-use Rattle.std.proofs.Common.{◌≡◌, ◌<◌, ◌≤◌, ◌+◌, ◌-◌, ◌==◌, ◌||◌, ◌⊎◌, inl, inr, ⊎_elim, ℕ, zero, suc, nat_lt, Bool, true, false, if◌then◌else◌, List, [], ◌∷◌, length, map, Option, Some, None, slice_get, refl, sym, ap, ◌∙◌, subst, arith}
+use Rattle.std.proofs.Common.{◌≡◌, ◌<◌, ◌≤◌, ◌+◌, ◌-◌, ◌==◌, ◌||◌, ◌⊎◌, inl, inr, ℕ, zero, suc, nat_lt, Bool, true, false, if◌then◌else◌, List, [], ◌∷◌, length, map, Some, None, slice_get, refl, sym, ap, ◌∙◌, subst, arith}
 use Rattle.std.proofs.lemmas.Bool.{cases_Bool, eqb-true, eq-eqb, lt-ltb, le-ltb}
 use Rattle.f77_tree.specs.declared.programs.ExecKind.{ExecKind}
 use Rattle.f77_tree.specs.Execution.{Memory}
@@ -9,11 +9,11 @@ use Rattle.cfg_build.specs.Joined.{is_end}
 use Rattle.cfg_build.specs.Passes.{out, pass_of}
 use Rattle.dep_routing.specs.Touches.{exec_kind}
 use Rattle.firing.specs.declared.system.NodeName.{NodeName}
-use Rattle.firing.specs.declared.system.NodeName.TheVariants.{Act, Merge, Switch, Op}
+use Rattle.firing.specs.declared.system.NodeName.TheVariants.{Act, Merge, Switch}
 use Rattle.token_net.specs.declared.control.Control.{Control}
 use Rattle.token_net.specs.NetOrder.{arrived, due_node, edge_or, moved_on, taken}
 use Rattle.token_net.specs.NodeLaws.{is_acting, node_is, node_of}
-use Rattle.token_net.specs.Nodes.{NetOf, graph_in, kind_in, nodes_by, nodes_at, nodes_of, node_at, node_count, first_node, led_to}
+use Rattle.token_net.specs.Nodes.{NetOf, graph_in, kind_in, nodes_by, nodes_of, node_at, node_count, first_node, led_to}
 use Rattle.token_net.specs.PaceLaws.{IsDue, due_is}
 use Rattle.token_net.specs.Steering.{IsPlaced, Leads}
 use Rattle.token_net.specs.Tokens.{Tokens, pass_at}

@@ -1,4 +1,4 @@
-use Rattle.std.proofs.Common.{◌≡◌, ◌≤◌, ℕ, List, Option, Some, length, vec_len, subst, sym, ap, ◌∙◌, arith, rules}
+use Rattle.std.proofs.Common.{◌≡◌, ℕ, List, Some, length, vec_len, subst, sym, ap, ◌∙◌, arith, rules}
 use Rattle.token_net.specs.BoardView.{net_on}
 use Rattle.token_net.specs.MemberLaws.{Member}
 use Rattle.token_net.specs.Standing.{edge_at}

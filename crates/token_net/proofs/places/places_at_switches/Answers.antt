@@ -1,4 +1,4 @@
-use Rattle.std.proofs.Common.{◌≡◌, ◌<◌, ◌+◌, ◌^◌, ◌&&◌, Bool, not, if◌then◌else◌, ℕ, subst, sym, ap, ◌∙◌, arith}
+use Rattle.std.proofs.Common.{◌≡◌, ◌<◌, ◌+◌, ◌^◌, ◌&&◌, Bool, not, if◌then◌else◌, ℕ, ap, ◌∙◌, arith}
 use Rattle.cfg_build.specs.declared.pieces.PieceKind.TheVariants as kind
 use Rattle.token_net.specs.Nodes.{is_free}
 use Rattle.token_net.specs.PlanView.{net_in}

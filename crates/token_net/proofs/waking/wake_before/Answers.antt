@@ -1,4 +1,4 @@
-use Rattle.std.proofs.Common.{◌≡◌, ◌<◌, ℕ, None, Some, sym, ap, ◌∙◌, subst, arith, rules}
+use Rattle.std.proofs.Common.{◌≡◌, ◌<◌, None, Some, sym, ap, ◌∙◌, subst, arith, rules}
 use Rattle.closed_walks.specs.Graph.{Graph, edge_count, to}
 use Rattle.cfg_build.specs.Joined.{FlowGraph}
 use Rattle.token_net.specs.BoardView.{net_on}

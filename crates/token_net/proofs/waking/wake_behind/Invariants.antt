@@ -1,4 +1,4 @@
-use Rattle.std.proofs.Common.{◌≡◌, ◌<◌, ◌≤◌, ◌+◌, ◌-◌, ℕ, suc, All, Contains, vec_len, vec_capacity}
+use Rattle.std.proofs.Common.{◌<◌, ◌≤◌, ◌+◌, ◌-◌, ℕ, suc, All, Contains, vec_len, vec_capacity}
 use Rattle.token_net.specs.Waking.{Keeps}
 use Rattle.token_net.proofs.waking.wake_behind.Given as goal
 

@@ -1,4 +1,4 @@
-use Rattle.std.proofs.Common.{◌≡◌, ◌<◌, ◌≤◌, ◌+◌, ℕ, All, get_or, vec_len, vec_capacity}
+use Rattle.std.proofs.Common.{◌<◌, ◌≤◌, ◌+◌, ℕ, All, get_or, vec_len, vec_capacity}
 use Rattle.token_net.specs.BoardView.{net_on}
 use Rattle.token_net.specs.Standing.{edge_at}
 use Rattle.token_net.specs.Waking.{HasNext, Keeps, no_node}

@@ -1,5 +1,5 @@
-use Rattle.std.proofs.Common.{◌≡◌, ◌<◌, ℕ, subst, sym, ◌∙◌, arith}
-use Rattle.closed_walks.specs.Graph.{edge_count, to}
+use Rattle.std.proofs.Common.{◌≡◌, ◌<◌, subst, sym, ◌∙◌, arith}
+use Rattle.closed_walks.specs.Graph.{edge_count}
 use Rattle.token_net.specs.BoardView.{net_on}
 use Rattle.token_net.specs.NetOrder.{arrival}
 use Rattle.token_net.specs.Nodes.{graph_in}

@@ -1,4 +1,4 @@
-use Rattle.std.proofs.Common.{◌≡◌, ◌<◌, ℕ, List, length, slice_index_or, subst, ap, sym, ◌∙◌, arith}
+use Rattle.std.proofs.Common.{◌≡◌, ◌∙◌, arith}
 use Rattle.token_net.specs.BoardView.{net_on}
 use Rattle.token_net.specs.Nodes.{graph_in}
 use Rattle.token_net.specs.Waking.{place_of, places}

@@ -1,6 +1,4 @@
-use Rattle.std.proofs.Common.{◌≡◌, ◌<◌, ℕ, List, [], refl, subst, sym, ap, ◌∙◌, arith, rules}
-use Rattle.op_table.specs.declared.Trap.{Trap}
-use Rattle.closed_walks.specs.Graph.{edge_count}
+use Rattle.std.proofs.Common.{◌≡◌, [], subst, sym, ap, ◌∙◌, arith}
 use Rattle.f77_meaning.specs.Storage.{memory_of}
 use Rattle.f77_meaning.specs.declared.storage.Storage.{Storage}
 use Rattle.cfg_build.specs.Passes.{Along, Traps, out}
@@ -10,10 +8,10 @@ use Rattle.token_net.specs.NetOrder.{edge_or}
 use Rattle.token_net.specs.NetView.{net_of, tokens_of}
 use Rattle.token_net.specs.Nodes.{graph_in}
 use Rattle.token_net.specs.PieceRuns.{KeepsStorage, going_on, told}
-use Rattle.token_net.specs.Tokens.{Tokens, acted, pass_at}
+use Rattle.token_net.specs.Tokens.{acted, pass_at}
 use Rattle.token_net.proofs.ActLemmas.{IsActing, act_named}
 use Rattle.token_net.proofs.BoardLemmas.{some_edge}
-use Rattle.token_net.proofs.FiredLemmas.{moved_silent, moved_last, wrote_line, wrote_last, trapped_last, trap_answered}
+use Rattle.token_net.proofs.FiredLemmas.{trap_answered}
 use Rattle.token_net.proofs.FiringLemmas.{acted_told, edge_told, edge_exists, trap_told}
 use Rattle.token_net.proofs.SteeringLemmas.{act_leads}
 use Rattle.token_net.proofs.net.Net.act.Goals as goal

@@ -1,4 +1,4 @@
-use Rattle.std.proofs.Common.{◌∙◌, ℕ, suc, ◌-◌}
+use Rattle.std.proofs.Common.{suc, ◌-◌}
 use Rattle.std.specs.List.{range_with_len}
 use Rattle.token_net.specs.NetView.{net_of, tokens_of}
 use Rattle.token_net.proofs.ActLemmas.{ready_if, ready_unless, switches_are}

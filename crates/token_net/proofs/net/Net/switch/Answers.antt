@@ -1,10 +1,9 @@
-use Rattle.std.proofs.Common.{◌≡◌, ◌<◌, ◌≤◌, ◌+◌, ◌*◌, ℕ, None, Some, length, vec_len, vec_capacity, subst, sym, ap, ◌∙◌, arith, rules}
+use Rattle.std.proofs.Common.{◌≡◌, ◌<◌, ℕ, None, Some, length, vec_len, ap, ◌∙◌, arith, rules}
 use Rattle.closed_walks.specs.Graph.{edge_count}
 use Rattle.cfg_build.specs.Joined.{FlowGraph}
 use Rattle.token_net.specs.NetView.{net_of, tokens_of}
 use Rattle.token_net.specs.Nodes.{graph_in}
 use Rattle.token_net.specs.PlaceLaws.{length_slice_set}
-use Rattle.token_net.specs.Steering.{Leads}
 use Rattle.token_net.specs.Tokens.{left_for}
 use Rattle.token_net.specs.Waking.{no_node}
 use Rattle.token_net.proofs.ActLemmas.{IsSwitching, switch_named, first_below}
