@@ -93,7 +93,7 @@ impl<'a, const W: usize> Board<'a, W> {
     }
 
     /// The first of the edges that leave a piece.
-    pub(crate) fn out(&self, piece: u32) -> u32
+    pub(crate) fn first_out(&self, piece: u32) -> u32
         requires { piece < (graph_in (net_on self.now)).nodes }
         ensures edge { result ≡ out (graph_in (net_on self.now)) piece 0 }
         ensures exists { result < edge_count (graph_in (net_on self.now)) }

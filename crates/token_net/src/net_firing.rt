@@ -74,7 +74,7 @@ impl<const W: usize> Net<'_, W> {
         ensures text { self.new.text.items ≡ self.old.text.items }
         ensures fired { AnswersTrap (net_of self.old) piece result }
     {
-        let edge = self.board.out(piece);
+        let edge = self.board.first_out(piece);
         if !touches(&self.board.plan, piece, 0) {
             self.go(k, piece, edge);
             return Fired::Moved;
@@ -162,7 +162,7 @@ impl<const W: usize> Net<'_, W> {
         ensures marks { self.new.set ≡ self.old.set }
         ensures text { self.new.text.items ≡ self.old.text.items }
     {
-        let edge = self.board.out(piece);
+        let edge = self.board.first_out(piece);
         self.lines[line as usize] = Some(self.board.plan.routes.next_wire(line, edge));
         wake_before(&self.board, &self.lines, line, &mut self.woken);
         self.control = steered(&self.board, self.control, k, edge);

@@ -9,8 +9,8 @@ use Rattle.token_net.proofs.StandingLemmas.{led_stands, none_all}
 use Rattle.token_net.proofs.SteeringLemmas.{merge_leads}
 use Rattle.token_net.proofs.net.Net.merge.Goals as goal
 
-pub out-edge-requires : goal.out-edge-requires
-out-edge-requires g c =
+pub first_out-edge-requires : goal.first_out-edge-requires
+first_out-edge-requires g c =
     let n : IsMerging (net_of c.args.self.now) c.args.piece c.args.line c.args.k = merge_named (net_of c.args.self.now) c.args.piece c.args.k c.args.line c.requires.node c.requires.name in
     (omega arith, n.exists)
 
@@ -36,7 +36,7 @@ wake_before-requires g c =
         (
           length_slice_set c.args.self.now.lines.items c.args.line (Some c.next_wire.result) ∙ c.args.self.now.every_line,
           (
-            led_stands c.args.self.now.board.plan c.out-edge.result c.args.line c.next_wire.result c.args.self.now.lines.items n.inside c.out-edge.ensures.exists c.next_wire.ensures c.requires.readable.stand,
+            led_stands c.args.self.now.board.plan c.first_out-edge.result c.args.line c.next_wire.result c.args.self.now.lines.items n.inside c.first_out-edge.ensures.exists c.next_wire.ensures c.requires.readable.stand,
             (none_all (λ (j : ℕ). j < no_node (net_of c.args.self.now)) c.args.self.now.woken.items c.requires.none, omega (arith, room, empty, c.args.self.now.woken_room)),
           ),
         ),
@@ -47,7 +47,7 @@ pub returns-clause-place : goal.returns-clause-place
 returns-clause-place g c =
     let net = net_of c.args.self.now in
     let m = tokens_of c.args.self.now in
-    c.steered-self.ensures.steered m (subst (Leads net m c.args.k) (sym c.out-edge.ensures.edge) (merge_leads net m c.args.k c.requires.node c.args.piece c.args.line c.requires.name))
+    c.steered-self.ensures.steered m (subst (Leads net m c.args.k) (sym c.first_out-edge.ensures.edge) (merge_leads net m c.args.k c.requires.node c.args.piece c.args.line c.requires.name))
 
 pub returns-clause-woken : goal.returns-clause-woken
 returns-clause-woken g c = merge_woken (net_of c.args.self.now) _ c.args.piece c.args.line c.wake_before.new.woken.items c.wake_before.ensures.nodes c.wake_before.ensures.has

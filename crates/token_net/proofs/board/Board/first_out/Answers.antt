@@ -5,7 +5,7 @@ use Rattle.token_net.specs.BoardView.{net_on}
 use Rattle.token_net.specs.Nodes.{graph_in}
 use Rattle.token_net.proofs.BoardLemmas.{some_edge}
 use Rattle.token_net.proofs.TableLemmas.{out_exists}
-use Rattle.token_net.proofs.board.Board.out.Goals as goal
+use Rattle.token_net.proofs.board.Board.first_out.Goals as goal
 
 pub returns-clause-exists : goal.returns-clause-exists
 returns-clause-exists g c =
