@@ -1,4 +1,3 @@
-pub mod Stub
 pub mod Words
 pub mod Meant
 pub mod Codes

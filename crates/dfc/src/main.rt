@@ -10,7 +10,6 @@ mod reading;
 mod region_line;
 mod regions;
 mod status;
-mod stub;
 mod top;
 mod words;
 

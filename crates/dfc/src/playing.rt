@@ -16,7 +16,6 @@ use crate::game::play_game;
 use crate::making::{Parts, parts_of};
 use crate::numbers::{data_in, picks_in};
 use crate::status::Status;
-use crate::stub::Net;
 use crate::words::GameWords;
 use alias_classes::{classes_are_counted, one_numbering};
 use cfg_build::flow_graph_is_strong;
@@ -27,7 +26,8 @@ use firing::{due_orders_end, every_order_follows, runs_end};
 use region_tree::one_tree;
 use std::alloc::Global;
 use token_net::{
-    flow_graphs_ground_nets, nets_are_paced, nets_begin_soundly, parts_make_nets, runs_ground_nets,
+    Net, flow_graphs_ground_nets, nets_are_paced, nets_begin_soundly, parts_make_nets,
+    runs_ground_nets,
 };
 
 /// Plays the game of a program. All memory is taken before the first byte is written.
