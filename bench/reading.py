@@ -1,10 +1,10 @@
 #!/usr/bin/env python3
-"""Times how long a built dfc takes to read the largest texts of several kinds.
+"""Times how long a built dfc takes to read and fire the largest texts of several kinds.
 
     python3 bench/reading.py DFC
 
 DFC is a command in quotes; each text is given to `DFC fire`, three times. Prints for each text its size, the best time,
-and what is answered: a refusal (NOTYET where the text is read, and its program isn't played yet) or `run`.
+and what is answered: a refusal, `run`, or another status.
 """
 import shlex
 import subprocess

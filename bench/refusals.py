@@ -3,12 +3,11 @@
 
     python3 bench/refusals.py DFC OTHER [--count N] [--seed S] [--texts FOLDER].. [--limit L]
 
-DFC and OTHER are commands in quotes, run as `COMMAND fire [data=1,2,..] [checked] < text`, OTHER with the word limit=L too
-where --limit is given. A text is a program written at random, often with one fault or two; or, where --texts is given (once
+DFC and OTHER are commands in quotes, run as `COMMAND fire [limit=L] [data=1,2,..] [checked] < text`. A text is a program written at random, often with one fault or two; or, where --texts is given (once
 or more), a file of FOLDER whose name has no dot, changed in a few places. The two agree where
 
 - both answer status 2 with the same bytes, a line `REFUSED line CODE`;
-- OTHER reads the text, and DFC reads it too or refuses it by NOTYET;
+- both read the text, whatever they write of its run;
 - DFC refuses a statement of a subroutine by NOFORM: it has none yet;
 - both refuse by BADORDER, and OTHER a statement directly behind an END, which a compiler with subroutines tells first.
 
@@ -359,7 +358,7 @@ def agree(text, ours, theirs):
         return re.search("CALL|RETURN|SUBROUTINE", "".join(words[our_line - 1: our_line + 20])) is not None
     if our_code == their_code == "BADORDER" and our_line < their_line:
         return "".join(words[: their_line - 1]).endswith("END")
-    return their_code == "read" and our_code in ("read", "NOTYET")
+    return their_code == our_code == "read"
 
 
 def compare(options, texts, number):
@@ -369,7 +368,7 @@ def compare(options, texts, number):
     words = ["data=" + ",".join(str(chance.randint(-5, 5)) for _ in range(chance.randint(1, 6)))] if chance.random() < 0.6 else []
     words += ["checked"] if chance.random() < 0.4 else []
     limit = [f"limit={options.limit}"] if options.limit else []
-    ours = answer(shlex.split(options.dfc) + ["fire"] + words, text)
+    ours = answer(shlex.split(options.dfc) + ["fire"] + limit + words, text)
     return text, words, ours, answer(shlex.split(options.other) + ["fire"] + limit + words, text)
 
 
