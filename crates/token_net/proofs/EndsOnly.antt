@@ -1,19 +1,19 @@
 -- A run ends only at the end.
-use Rattle.std.proofs.Common.{◌≡◌, ℕ, ◌<◌, ℤ, pos, Bool, true, false, if◌then◌else◌, List, Some, Result, Ok, Err, slice_get, refl, sym, ap, ◌∙◌, subst}
+use Rattle.std.proofs.Common.{◌≡◌, ℕ, ◌<◌, ℤ, pos, Bool, true, false, if◌then◌else◌, List, Result, Ok, Err, refl, ap, ◌∙◌}
 use Rattle.std.specs.Ordering.{int_eq}
 use Rattle.op_table.specs.declared.Trap.{Trap}
 use Rattle.op_table.specs.declared.Trap.TheVariants as trap
-use Rattle.closed_walks.specs.Graph.{edge_count, to}
+use Rattle.closed_walks.specs.Graph.{to}
 use Rattle.f77_tree.specs.declared.programs.ExecKind.{ExecKind}
 use Rattle.f77_tree.specs.declared.programs.ExecKind.TheVariants as exec
 use Rattle.f77_tree.specs.declared.programs.NameInfo.{NameInfo}
-use Rattle.f77_tree.specs.Execution.{Memory, Outcome, Goes, Stops, Ends, outcome, value_in, next_word, assigned, printed, do_begun, started, words_taken}
+use Rattle.f77_tree.specs.Execution.{Memory, Outcome, Goes, Stops, Ends, outcome, value_in, next_word, assigned, printed, do_begun, started}
 use Rattle.f77_tree.specs.Line.{line_of}
 use Rattle.f77_tree.specs.Value.{value, place, place_of}
 use Rattle.cfg_build.specs.declared.pieces.PieceKind.{PieceKind}
 use Rattle.cfg_build.specs.declared.pieces.PieceKind.TheVariants as kind
-use Rattle.cfg_build.specs.Flow.{flow, piece_at}
-use Rattle.cfg_build.specs.Passes.{Passed, Along, Traps, Done, acted, branched, choice, kind_in, out, pass, pass_of}
+use Rattle.cfg_build.specs.Flow.{flow}
+use Rattle.cfg_build.specs.Passes.{Along, Done, acted, branched, choice, kind_in, out, pass, pass_of}
 use Rattle.cfg_build.specs.Runs.{IsPartOf, is_act}
 use Rattle.dep_routing.specs.Touches.{exec_kind}
 use Rattle.token_net.specs.Nodes.{NetOf, graph_in}

@@ -6,7 +6,7 @@ use Rattle.std.specs.List.{range_with_len}
 use Rattle.closed_walks.specs.Graph.{Graph, edge_count, from, to}
 use Rattle.closed_walks.specs.Reaching.{reaches}
 use Rattle.closed_walks.specs.Region.{IsFlowGraph, IsPassed}
-use Rattle.closed_walks.specs.Walk.{Walk, Reach}
+use Rattle.closed_walks.specs.Walk.{Walk}
 use Rattle.cfg_build.specs.Degrees.{in_degree, out_degree}
 use Rattle.cfg_build.specs.Passes.{outs, out}
 use Rattle.token_net.specs.FlowGround.{IsNearEnd}

@@ -1,5 +1,5 @@
 -- What the running of a piece tells of its pass.
-use Rattle.std.proofs.Common.{◌≡◌, ◌<◌, ◌≤◌, ℕ, zero, suc, List, [], ◌∷◌, Option, Some, Ok, Err, max, length, slice_get, refl, sym, ap, ◌∙◌, subst, arith}
+use Rattle.std.proofs.Common.{◌≡◌, ◌≤◌, ℕ, zero, suc, List, [], ◌∷◌, ◌++◌, Option, Some, Result, Ok, Err, max, slice_get, sym, ap, ◌∙◌, subst, arith}
 use Rattle.op_table.specs.declared.Trap.{Trap}
 use Rattle.f77_tree.specs.declared.programs.Exec.{Exec}
 use Rattle.f77_tree.specs.declared.programs.ExecKind.{ExecKind}
@@ -7,6 +7,7 @@ use Rattle.f77_tree.specs.declared.programs.ExecKind.TheVariants.{Assign, Print,
 use Rattle.f77_tree.specs.declared.programs.Program.{Program}
 use Rattle.f77_tree.specs.CanRun.{CanExecute}
 use Rattle.f77_tree.specs.Execution.{Memory, outcome}
+use Rattle.f77_tree.specs.Line.{item_before, line_of_texts}
 use Rattle.f77_meaning.specs.Room.{kind_room, most_room}
 use Rattle.cfg_build.specs.declared.pieces.Piece.{Piece}
 use Rattle.cfg_build.specs.declared.pieces.PieceKind.{PieceKind}
@@ -59,3 +60,19 @@ module _ (net : NetOf) (piece : ℕ) (x : Piece) (exec : Exec) (m : Memory) (sta
 
   pub trap_told : (trap : Trap) → x.kind ≡ kind.Branch → choice net.program.names m exec.kind ≡ Err trap → going_on (out (graph_in net) piece 0) m (pass_at net piece m) ≡ Traps trap
   trap_told trap is fails = ap (going_on (out (graph_in net) piece 0) m) (pass_is kind.Branch is ∙ ap (branched m (out (graph_in net) piece)) fails)
+
+-- the line that PRINT writes has its end
+pub line_some : (texts : List (Result (List ℕ) Trap)) (line : List ℕ) → line_of_texts texts ≡ Ok line → line ≡ [] → ⊥
+line_some [] line is none =
+    let same : (10 ∷ []) ≡ line = cc in
+    let clash : (10 ∷ []) ≡ [] = same ∙ none in
+    cc
+line_some (text ∷ texts) line is none = by text (line_of_texts texts) is
+  where
+    by : (a b : Result (List ℕ) Trap) → item_before a b ≡ Ok line → ⊥
+    by (Err trap) b e = cc
+    by (Ok x) (Err trap) e = cc
+    by (Ok x) (Ok more) e =
+        let same : (32 ∷ (x ++ more)) ≡ line = cc in
+        let clash : (32 ∷ (x ++ more)) ≡ [] = same ∙ none in
+        cc

@@ -1,25 +1,19 @@
 -- How the nodes of a piece fire one after another.
-use Rattle.std.proofs.Common.{◌≡◌, ℕ, zero, suc, ◌+◌, ◌<◌, ◌≤◌, ◌⊎◌, ◌&&◌, Bool, true, false, not, cond, if◌then◌else◌, List, [], ◌∷◌, ◌++◌, length, map, take, fold, flat_map, filter, Option, Some, None, slice_get, slice_set, refl, sym, ap, ◌∙◌, subst, inl, inr, ⊎_elim, arith}
-use Rattle.std.proofs.lemmas.Grind.{flat_map-append}
-use Rattle.std.proofs.lemmas.Bool.{cases_Bool}
+use Rattle.std.proofs.Common.{◌≡◌, ℕ, zero, suc, ◌<◌, ◌⊎◌, ◌&&◌, Bool, true, false, not, List, [], ◌∷◌, ◌++◌, length, map, take, flat_map, Some, None, slice_get, refl, sym, ap, ◌∙◌, subst, inl, inr, ⊎_elim, arith}
 use Rattle.std.specs.List.{range_with_len}
-use Rattle.op_table.specs.declared.Trap.{Trap}
 use Rattle.f77_tree.specs.declared.programs.ExecKind.{ExecKind}
 use Rattle.f77_tree.specs.Execution.{Memory}
 use Rattle.cfg_build.specs.declared.pieces.PieceKind.{PieceKind}
 use Rattle.cfg_build.specs.declared.pieces.PieceKind.TheVariants as kind
 use Rattle.cfg_build.specs.Joined.{is_end}
-use Rattle.cfg_build.specs.Passes.{Passed, Along, Traps, Done, out, pass_of}
+use Rattle.cfg_build.specs.Passes.{out, pass_of}
 use Rattle.dep_routing.specs.Sound.{DoesTrap}
 use Rattle.firing.specs.declared.system.NodeName.{NodeName}
-use Rattle.firing.specs.declared.system.NodeName.TheVariants.{Act, Merge, Switch, Op}
-use Rattle.token_net.specs.Amid.{moved_by, moved_first, leaving, memory_or, memory_amid, text_in, switch_count, IsAmid}
-use Rattle.token_net.specs.MemberLaws.{Member, Member-range, Member-in_range, Member-filtered, Member-right, Member-left, Member-cases}
-use Rattle.token_net.specs.NetOrder.{edge_or}
-use Rattle.token_net.specs.Nodes.{NetOf, graph_in, kind_in, is_free, touched, led_to, passing, nodes_by, nodes_at, nodes_of, first_node, switch_lines, switches}
-use Rattle.token_net.specs.PaceLists.{take_more, take_whole, member_at, below_length, not_before, HasItem, item_at}
-use Rattle.token_net.specs.PlaceLaws.{put, get_set_same, get_set_other, with_all_other, with_all_same}
-use Rattle.token_net.specs.Tokens.{Tokens, joined, edge_of, left_for, with_all, led_from, gone, stopped, acted, switched, merged}
+use Rattle.firing.specs.declared.system.NodeName.TheVariants.{Act, Merge, Switch}
+use Rattle.token_net.specs.Amid.{moved_by, moved_first, leaving, memory_or, text_in}
+use Rattle.token_net.specs.MemberLaws.{Member, Member-filtered, Member-cases}
+use Rattle.token_net.specs.Nodes.{NetOf, graph_in, is_free, touched, led_to, passing, nodes_by, switch_lines}
+use Rattle.token_net.specs.PaceLists.{member_at, not_before, HasItem, item_at}
 
 -- ---- which node comes next
 

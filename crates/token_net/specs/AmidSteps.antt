@@ -1,24 +1,17 @@
 -- The next node of a piece is ready, and what its firing leads to.
-use Rattle.std.proofs.Common.{◌≡◌, ℕ, zero, suc, ◌+◌, ◌<◌, ◌≤◌, ◌⊎◌, ◌&&◌, Bool, true, false, not, cond, if◌then◌else◌, List, [], ◌∷◌, ◌++◌, length, map, take, fold, flat_map, filter, Option, Some, None, is_some, slice_get, slice_set, refl, sym, ap, ◌∙◌, subst, inl, inr, ⊎_elim, append-nil, arith, nat_eq, eq-eqb}
+use Rattle.std.proofs.Common.{◌≡◌, ℕ, zero, suc, ◌+◌, ◌<◌, ◌≤◌, ◌⊎◌, Bool, true, if◌then◌else◌, List, [], ◌∷◌, ◌++◌, length, take, flat_map, Option, Some, None, slice_get, slice_set, refl, sym, ap, ◌∙◌, subst, inl, inr, ⊎_elim, append-nil, arith}
 use Rattle.std.proofs.lemmas.Grind.{flat_map-append}
-use Rattle.std.proofs.lemmas.Bool.{and_from, false≢true}
-use Rattle.std.specs.List.{list_all, range_with_len}
-use Rattle.op_table.specs.declared.Trap.{Trap}
-use Rattle.closed_walks.specs.Graph.{to}
 use Rattle.f77_tree.specs.Execution.{Memory}
-use Rattle.cfg_build.specs.declared.pieces.PieceKind.{PieceKind}
-use Rattle.cfg_build.specs.Joined.{is_end}
 use Rattle.cfg_build.specs.Passes.{Passed, Along, Traps, Done, out}
 use Rattle.dep_routing.specs.Sound.{DoesTrap}
 use Rattle.firing.specs.declared.system.NodeName.{NodeName}
-use Rattle.firing.specs.declared.system.NodeName.TheVariants.{Act, Merge, Switch, Op}
+use Rattle.firing.specs.declared.system.NodeName.TheVariants.{Act, Merge, Switch}
 use Rattle.token_net.specs.Amid.{moved_by, moved_first, leaving, memory_or, memory_amid, switch_count, IsAmid}
-use Rattle.token_net.specs.AmidLaws.{IsAct, IsSwitch, IsMerge, NodeCase, node_case, not_moved}
-use Rattle.token_net.specs.MemberLaws.{Member, Member-range, Member-in_range, Member-filtered}
-use Rattle.token_net.specs.Nodes.{NetOf, graph_in, kind_in, is_free, touched, led_to, passing, nodes_by, nodes_at, node_count, first_node, switch_lines, switches}
-use Rattle.token_net.specs.PaceLists.{take_more, member_at, below_length, HasItem, item_at}
+use Rattle.token_net.specs.MemberLaws.{Member, Member-range, Member-in_range}
+use Rattle.token_net.specs.Nodes.{NetOf, graph_in, nodes_at, first_node, switches}
+use Rattle.token_net.specs.PaceLists.{take_more, HasItem, item_at}
 use Rattle.token_net.specs.PlaceLaws.{put, get_set_same, get_set_other, with_all_other, with_all_same}
-use Rattle.token_net.specs.Tokens.{Tokens, joined, edge_of, left_for, with_all, led_from, is_before, leads_to, ready_as, pass_at, gone, stopped, acted, switched, merged, fired_as}
+use Rattle.token_net.specs.Tokens.{Tokens, joined, left_for, with_all, led_from, gone, stopped, acted, switched, merged}
 
 -- ---- lines
 

@@ -1,9 +1,8 @@
 -- Control comes to a piece with nodes, or to the end.
-use Rattle.std.proofs.Common.{◌≡◌, ◌≢◌, ℕ, zero, suc, ◌+◌, ◌<◌, ◌≤◌, ◌⊎◌, ◌&&◌, ◌||◌, ◌==◌, Bool, true, false, not, cond, if◌then◌else◌, List, [], ◌∷◌, length, refl, sym, ap, ◌∙◌, subst, inl, inr, ⊎_elim, arith, nat_eq, eqb-true}
+use Rattle.std.proofs.Common.{◌≡◌, ℕ, zero, suc, ◌+◌, ◌<◌, ◌≤◌, ◌⊎◌, ◌&&◌, ◌==◌, Bool, true, false, not, if◌then◌else◌, length, refl, sym, ap, ◌∙◌, subst, inl, inr, ⊎_elim, arith, eqb-true}
 use Rattle.std.proofs.lemmas.Bool.{cases_Bool, or_cases, false≢true}
-use Rattle.closed_walks.specs.Graph.{Graph, edge_count, from, to}
+use Rattle.closed_walks.specs.Graph.{edge_count, from, to}
 use Rattle.closed_walks.specs.Reaching.{any_below, reaches_within}
-use Rattle.cfg_build.specs.declared.pieces.PieceKind.{PieceKind}
 use Rattle.cfg_build.specs.declared.pieces.PieceKind.TheVariants as kind
 use Rattle.cfg_build.specs.Joined.{is_end, finish}
 use Rattle.cfg_build.specs.Passes.{out}
@@ -11,7 +10,7 @@ use Rattle.cfg_build.specs.Shape.{leaves_one}
 use Rattle.token_net.specs.Belonging.{IsNet}
 use Rattle.token_net.specs.FlowGround.{FlowGround, IsNearEnd}
 use Rattle.token_net.specs.NetOrder.{is_idle, passed, passed_by, arrival}
-use Rattle.token_net.specs.Nodes.{NetOf, graph_in, kind_in, nodes_by, node_count}
+use Rattle.token_net.specs.Nodes.{NetOf, graph_in, kind_in, nodes_by}
 use Rattle.token_net.specs.PlaceLaws.{left_of, right_of}
 use Rattle.token_net.specs.WayLaws.{idle_leaves_one}
 

@@ -1,9 +1,8 @@
 -- Each firing of the source's own order is due in its turn.
-use Rattle.std.proofs.Common.{◌≡◌, ◌≢◌, ℕ, zero, suc, ◌+◌, ◌<◌, ◌≤◌, ◌⊎◌, ◌&&◌, ◌||◌, ◌==◌, Bool, true, false, not, if◌then◌else◌, List, [], ◌∷◌, ◌++◌, length, Option, Some, None, slice_get, refl, sym, ap, ◌∙◌, subst, inl, inr, ⊎_elim, nat_lt, eqb-true, lt-ltb, arith}
+use Rattle.std.proofs.Common.{◌≡◌, ◌≢◌, ℕ, zero, suc, ◌+◌, ◌<◌, ◌⊎◌, ◌&&◌, ◌||◌, ◌==◌, Bool, true, false, not, if◌then◌else◌, List, [], ◌∷◌, ◌++◌, length, Some, None, slice_get, refl, sym, ap, ◌∙◌, subst, inl, inr, ⊎_elim, nat_lt, eqb-true, lt-ltb, arith}
 use Rattle.std.proofs.lemmas.Bool.{cases_Bool, or_left}
 use Rattle.std.specs.List.{range_with_len}
-use Rattle.op_table.specs.declared.Trap.{Trap}
-use Rattle.closed_walks.specs.Graph.{edge_count, from, to}
+use Rattle.closed_walks.specs.Graph.{edge_count, to}
 use Rattle.f77_tree.specs.Execution.{Memory}
 use Rattle.f77_tree.specs.Run.{Mark, Running, Ended, Trapped}
 use Rattle.cfg_build.specs.declared.pieces.PieceKind.{PieceKind}
@@ -18,14 +17,14 @@ use Rattle.firing.specs.Orders.{after}
 use Rattle.firing.specs.SourceOrder.{IsDueOrder}
 use Rattle.firing.specs.declared.system.NodeName.TheVariants.{Act}
 use Rattle.token_net.specs.declared.control.Control.{Control}
-use Rattle.token_net.specs.Amid.{leaving, memory_amid, IsAmid}
+use Rattle.token_net.specs.Amid.{leaving, IsAmid}
 use Rattle.token_net.specs.ArrivalLaws.{arrived_busy, arrival_past}
 use Rattle.token_net.specs.Belonging.{IsNet}
 use Rattle.token_net.specs.FlowGround.{FlowGround}
 use Rattle.token_net.specs.NetOrder.{is_idle, passed, passed_by, arrived, edge_or, taken, due_node, moved_on, net_course, first_control}
 use Rattle.token_net.specs.NetPace.{IsBetween, IsOnWay}
 use Rattle.token_net.specs.Nodes.{NetOf, graph_in, kind_in, nodes_at, nodes_of, node_count, first_node}
-use Rattle.token_net.specs.OrderLists.{after_join, range_more}
+use Rattle.token_net.specs.OrderLists.{range_more}
 use Rattle.token_net.specs.OwnOrder.{firings_of, firings_from, own_passes}
 use Rattle.token_net.specs.PassFirings.{IsPartFired, part_fired}
 use Rattle.token_net.specs.PassPace.{StandsBeside, IsPassPace, pass_pace, trap_acts}

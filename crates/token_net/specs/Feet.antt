@@ -4,7 +4,7 @@ use Rattle.std.specs.List.{list_any}
 use Rattle.op_table.specs.declared.Trap.{Trap as Kind_of_trap}
 use Rattle.alias_classes.specs.Classes.{ClassTable, class_of_word, class_of_loop}
 use Rattle.firing.specs.declared.system.NodeName.{NodeName}
-use Rattle.firing.specs.declared.system.NodeName.TheVariants.{Act, Merge, Switch, Op}
+use Rattle.firing.specs.declared.system.NodeName.TheVariants.{Act, Merge, Switch}
 use Rattle.token_net.specs.Nodes.{NetOf, node_at, switches}
 use Rattle.token_net.specs.Tokens.{Tokens}
 

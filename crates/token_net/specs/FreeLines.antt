@@ -1,11 +1,8 @@
 -- Which lines are led to a piece, and where they stand before it.
-use Rattle.std.proofs.Common.{◌≡◌, ◌≢◌, ℕ, zero, suc, ◌+◌, ◌<◌, ◌≤◌, ◌⊎◌, ◌&&◌, ◌||◌, ◌==◌, Bool, true, false, not, cond, if◌then◌else◌, List, [], ◌∷◌, ◌++◌, length, map, take, flat_map, filter, Option, Some, None, slice_get, refl, sym, ap, ◌∙◌, subst, inl, inr, ⊎_elim, arith, nat_eq, eq-eqb, eqb-true}
-use Rattle.std.proofs.lemmas.Bool.{and_from, or_right, cases_Bool}
-use Rattle.std.specs.List.{list_any, range_with_len}
+use Rattle.std.proofs.Common.{◌≡◌, ℕ, zero, suc, ◌<◌, ◌≤◌, ◌⊎◌, ◌==◌, Bool, true, false, if◌then◌else◌, [], ◌∷◌, Some, sym, ap, ◌∙◌, subst, inl, inr, ⊎_elim, arith, eq-eqb, eqb-true}
+use Rattle.std.proofs.lemmas.Bool.{and_from, or_right}
 use Rattle.closed_walks.specs.Graph.{Graph, edge_count, from, to, touches, touching_below, edges_at}
-use Rattle.region_tree.specs.Tree.{Tree}
 use Rattle.f77_tree.specs.Execution.{Memory}
-use Rattle.dep_routing.specs.Place.{Place}
 use Rattle.dep_routing.specs.Quiet.{IsFree}
 use Rattle.dep_routing.specs.Routing.{wire_at}
 use Rattle.token_net.specs.Belonging.{IsNet}

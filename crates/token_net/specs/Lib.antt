@@ -17,7 +17,6 @@ pub mod PassLaws
 pub mod NodeLaws
 pub mod Feet
 pub mod NetLaws
-pub mod BaseView
 pub mod PaceLists
 pub mod Amid
 pub mod AmidLaws
@@ -42,3 +41,8 @@ pub mod PlanView
 pub mod NetTables
 pub mod PieceRuns
 pub mod Parts
+pub mod Waking
+pub mod NetView
+pub mod Steering
+pub mod Standing
+pub mod BoardView

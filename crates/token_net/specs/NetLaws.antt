@@ -1,5 +1,5 @@
 -- Nets keep the laws of firing, by their footprints.
-use Rattle.std.proofs.Common.{◌≡◌, ◌≢◌, ◌<◌, ◌≤◌, ◌⊎◌, inl, inr, ⊎_elim, ℕ, zero, suc, ◌+◌, ◌==◌, ◌&&◌, Bool, true, false, not, if◌then◌else◌, pos, List, [], ◌∷◌, length, replicate, filter, Option, Some, None, is_some, slice_get, slice_index, slice_set, refl, sym, ap, ◌∙◌, subst, arith}
+use Rattle.std.proofs.Common.{◌≡◌, ◌<◌, ◌≤◌, ◌⊎◌, inl, inr, ⊎_elim, ℕ, zero, suc, ◌==◌, ◌&&◌, Bool, true, false, not, if◌then◌else◌, pos, List, [], ◌∷◌, length, replicate, Option, Some, None, is_some, slice_get, slice_index, slice_set, refl, sym, ap, ◌∙◌, subst, arith}
 use Rattle.std.specs.List.{list_all, range_with_len}
 use Rattle.std.specs.Option.{option_map}
 use Rattle.std.proofs.lemmas.List.{length-map, length-replicate}
@@ -18,23 +18,22 @@ use Rattle.cfg_build.specs.declared.pieces.PieceKind.{PieceKind}
 use Rattle.cfg_build.specs.declared.pieces.PieceKind.TheVariants as kind
 use Rattle.cfg_build.specs.Flow.{flow, piece_at}
 use Rattle.cfg_build.specs.Passes.{Passed, Along, Traps, Done, IfAlong, out, outs, kind_in as exec_in}
-use Rattle.dep_routing.specs.Touches.{piece_kind, exec_kind, KindNeeds, BranchNeeds}
+use Rattle.dep_routing.specs.Touches.{piece_kind, exec_kind, KindNeeds}
 use Rattle.dep_routing.specs.Routing.{next_at}
 use Rattle.firing.specs.declared.system.NodeName.{NodeName}
 use Rattle.firing.specs.declared.system.NodeName.TheVariants.{Act, Merge, Switch, Op}
-use Rattle.firing.specs.Footprints.{IsReadyAt, LooksSame, HasFootprints}
+use Rattle.firing.specs.Footprints.{HasFootprints}
 use Rattle.firing.specs.Laws.{IsLawful, AreReady}
-use Rattle.firing.specs.Moves.{CanFire, IsSilent}
 use Rattle.firing.proofs.FootprintLemmas.{lawful as by_feet}
 use Rattle.token_net.specs.Belonging.{IsNet, IsMarking, HasSizesOf, CanCome}
-use Rattle.token_net.specs.Feet.{Part, Line, Left, Word, Count, StepOf, Taken, Trap, Value, at, is_switch, foot_as, foot}
+use Rattle.token_net.specs.Feet.{Part, Line, Left, Word, Count, StepOf, Taken, Trap, at, is_switch, foot_as, foot}
 use Rattle.token_net.specs.Ground.{Ground}
 use Rattle.token_net.specs.MemberLaws.{Member, Member-filtered, Member-in_range, list_any_member, IsPassed, member_of_list_any}
-use Rattle.token_net.specs.NodeLaws.{is_acting, piece_of, Fits, touched_is, is_touched, one_number, IsNamed, named, IsSwitch, switch_is}
+use Rattle.token_net.specs.NodeLaws.{is_acting, piece_of, Fits, touched_is, is_touched, one_number, IsNamed, named, switch_is}
 use Rattle.token_net.specs.Nodes.{NetOf, graph_in, kind_in, all_lines, touched, nodes_of, node_at, switches}
 use Rattle.token_net.specs.PassLaws.{IsTouching, AgreeOn, KeepsOthers, PassAlike, IsFramed, pass_alike, pass_framed, pass_out}
 use Rattle.token_net.specs.PlaceLaws.{same_list, put, get_set_same, get_set_other, length_slice_set, length_with_all, with_all_other, with_all_same, same_or_not, member_or_not, all_pass, same_tests, left_of, right_of}
-use Rattle.token_net.specs.Tokens.{Tokens, joined, edge_of, left_for, leads_to, is_before, ready_as, pass_at, source_line, with_all, led_from, gone, stopped, acted, switched, merged, fired_as, written, text_of, line_as, serial_as, net_moves, first_tokens}
+use Rattle.token_net.specs.Tokens.{Tokens, joined, edge_of, left_for, leads_to, is_before, ready_as, pass_at, with_all, led_from, gone, stopped, acted, switched, merged, fired_as, written, text_of, line_as, serial_as, net_moves, first_tokens}
 
 -- ---- equal parts
 

@@ -1,15 +1,13 @@
 -- The nodes of a net: which piece each belongs to, and that each has one number.
 use Rattle.std.proofs.Common.{◌≡◌, ◌≢◌, ◌<◌, ◌≤◌, ◌⊎◌, inl, inr, ⊎_elim, ℕ, zero, suc, ◌+◌, ◌-◌, ◌&&◌, Bool, true, false, not, List, [], ◌∷◌, ◌++◌, length, map, flat_map, filter, Option, Some, None, slice_get, refl, sym, ap, ◌∙◌, subst, length-append, arith}
 use Rattle.std.specs.List.{range_with_len}
-use Rattle.std.proofs.lemmas.Bool.{cases_Bool}
-use Rattle.std.proofs.lemmas.List.FromFn.{length-range_with_len}
 use Rattle.cfg_build.specs.declared.pieces.PieceKind.{PieceKind}
 use Rattle.cfg_build.specs.declared.pieces.PieceKind.TheVariants as kind
 use Rattle.firing.specs.declared.system.NodeName.{NodeName}
 use Rattle.firing.specs.declared.system.NodeName.TheVariants.{Act, Merge, Switch, Op}
-use Rattle.token_net.specs.MemberLaws.{Member, Member-left, Member-right, Member-cases, Member-filtered, Member-filter, Member-map, Member-mapped, IsImage, Member-flat_mapped, IsFromOne, Member-in_range, Member-range}
-use Rattle.token_net.specs.Nodes.{NetOf, graph_in, kind_in, all_lines, is_free, led_to, passing, touched, nodes_by, nodes_at, nodes_below, nodes_of, node_count, first_node, node_at, name_in, switch_lines, switches}
-use Rattle.token_net.specs.PlaceLaws.{left_of, right_of}
+use Rattle.token_net.specs.MemberLaws.{Member, Member-cases, Member-filtered, Member-filter, Member-mapped, IsImage, Member-flat_mapped, IsFromOne, Member-in_range, Member-range}
+use Rattle.token_net.specs.Nodes.{NetOf, graph_in, kind_in, all_lines, is_free, led_to, passing, touched, nodes_by, nodes_at, nodes_of, node_count, first_node, node_at, name_in, switch_lines, switches}
+use Rattle.token_net.specs.PlaceLaws.{right_of}
 
 -- ---- lists without repetition
 

@@ -1,5 +1,5 @@
 -- The net of a program: what firings never change, and its nodes.
-use Rattle.std.specs.Prelude.{ℕ, suc, ◌&&◌, ◌==◌, Bool, true, false, not, ℤ, List, [], ◌∷◌, length, map, filter, flat_map, Option, Some, None, slice_get}
+use Rattle.std.specs.Prelude.{ℕ, suc, ◌&&◌, ◌==◌, Bool, not, ℤ, List, [], ◌∷◌, length, map, filter, flat_map, Option, Some, None, slice_get}
 use Rattle.std.specs.List.{list_any, range_with_len}
 use Rattle.closed_walks.specs.Graph.{Graph, edges_at, to}
 use Rattle.f77_tree.specs.declared.programs.Program.{Program}

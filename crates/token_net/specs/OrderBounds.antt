@@ -1,10 +1,8 @@
 -- How long the source's own order is, and what words it leaves.
 use Rattle.std.proofs.Common.{◌≡◌, ◌≢◌, ℕ, zero, suc, ◌+◌, ◌*◌, ◌<◌, ◌≤◌, ◌⊎◌, ◌&&◌, Bool, true, false, not, cond, if◌then◌else◌, List, [], ◌∷◌, ◌++◌, length, map, filter, refl, sym, ap, ◌∙◌, subst, inl, inr, ⊎_elim, length-append, mul-le-mul_right, mul_right_comm, add-mul, suc-mul, arith}
-use Rattle.std.proofs.lemmas.Bool.{cases_Bool, false≢true}
 use Rattle.std.specs.List.{range_with_len}
-use Rattle.closed_walks.specs.Graph.{edge_count, to}
+use Rattle.closed_walks.specs.Graph.{to}
 use Rattle.f77_tree.specs.declared.programs.Exec.{Exec}
-use Rattle.f77_tree.specs.Execution.{Memory}
 use Rattle.f77_tree.specs.Run.{Mark, Running, Ended, Trapped, source}
 use Rattle.cfg_build.specs.declared.pieces.PieceKind.{PieceKind}
 use Rattle.cfg_build.specs.declared.pieces.PieceKind.TheVariants as kind
@@ -13,13 +11,13 @@ use Rattle.cfg_build.specs.Flow.{flow, piece_at}
 use Rattle.cfg_build.specs.Passes.{Passed, Along, Traps, Done, PassState, out, pass, passes}
 use Rattle.firing.specs.Orders.{after}
 use Rattle.firing.specs.declared.system.NodeName.{NodeName}
-use Rattle.firing.specs.declared.system.NodeName.TheVariants.{Act, Merge, Switch, Op}
+use Rattle.firing.specs.declared.system.NodeName.TheVariants.{Merge, Switch}
 use Rattle.token_net.specs.Belonging.{IsNet}
 use Rattle.token_net.specs.FlowGround.{FlowGround, has_act}
 use Rattle.token_net.specs.MemberLaws.{Member, Member-range}
-use Rattle.token_net.specs.NetPace.{IsBetween, IsInPace}
+use Rattle.token_net.specs.NetPace.{IsInPace}
 use Rattle.token_net.specs.NetOrder.{first_control}
-use Rattle.token_net.specs.Nodes.{NetOf, graph_in, kind_in, is_free, all_lines, led_to, passing, nodes_by, nodes_at, node_count, first_node}
+use Rattle.token_net.specs.Nodes.{NetOf, graph_in, kind_in, is_free, all_lines, led_to, passing, nodes_by, node_count, first_node}
 use Rattle.token_net.specs.OwnOrder.{firings_of, firings_from, own_passes, own_order}
 use Rattle.token_net.specs.PaceLaws.{in_pace_arrived}
 use Rattle.token_net.specs.PassPace.{StandsBeside, IsPassPace, pass_pace, begins_between}

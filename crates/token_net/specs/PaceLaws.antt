@@ -1,33 +1,25 @@
 -- The source's own order of a net keeps pace with the passes of its program.
-use Rattle.std.proofs.Common.{◌≡◌, ◌≢◌, ℕ, zero, suc, ◌+◌, ◌<◌, ◌≤◌, ◌⊎◌, ◌&&◌, ◌||◌, ◌==◌, Bool, true, false, not, cond, if◌then◌else◌, List, [], ◌∷◌, ◌++◌, length, map, Option, Some, None, is_some, slice_get, refl, sym, ap, ◌∙◌, subst, inl, inr, ⊎_elim, arith, nat_eq, nat_lt, eqb-true, ltb-true, ltb-false}
-use Rattle.std.proofs.lemmas.Bool.{cases_Bool, or_cases, or_parts, and_cases}
-use Rattle.std.specs.List.{range_with_len, list_all}
-use Rattle.closed_walks.specs.Graph.{edge_count, from, to}
+use Rattle.std.proofs.Common.{◌≡◌, ◌≢◌, ℕ, zero, suc, ◌+◌, ◌<◌, ◌≤◌, ◌&&◌, ◌||◌, ◌==◌, Bool, true, false, not, if◌then◌else◌, Some, None, refl, sym, ap, ◌∙◌, subst, ⊎_elim, arith, nat_eq, nat_lt, eqb-true, ltb-true, ltb-false}
+use Rattle.std.proofs.lemmas.Bool.{or_cases, or_parts}
+use Rattle.closed_walks.specs.Graph.{edge_count, to}
 use Rattle.f77_tree.specs.Execution.{Memory}
-use Rattle.f77_tree.specs.Run.{Running}
-use Rattle.cfg_build.specs.declared.pieces.PieceKind.{PieceKind}
 use Rattle.cfg_build.specs.declared.pieces.PieceKind.TheVariants as kind
-use Rattle.cfg_build.specs.Joined.{is_end, finish}
-use Rattle.cfg_build.specs.Passes.{Passed, Along, Traps, Done, PassState, out, pass, pass_of, passes}
-use Rattle.dep_routing.specs.Sound.{DoesTrap, comes_to}
-use Rattle.dep_routing.specs.Touches.{exec_kind}
+use Rattle.cfg_build.specs.Joined.{is_end}
+use Rattle.cfg_build.specs.Passes.{Passed, Along, Traps, Done, out, pass, passes}
+use Rattle.dep_routing.specs.Sound.{DoesTrap}
 use Rattle.firing.specs.Control.{KeepsStep}
-use Rattle.firing.specs.Moves.{CanFire}
-use Rattle.firing.specs.Orders.{IsOver}
-use Rattle.firing.specs.SourceOrder.{IsSourceOrder}
 use Rattle.firing.specs.declared.system.NodeName.{NodeName}
-use Rattle.firing.specs.declared.system.NodeName.TheVariants.{Act, Merge, Switch, Op}
 use Rattle.token_net.specs.declared.control.Control.{Control}
 use Rattle.token_net.specs.Amid.{leaving, memory_or, memory_amid, IsAmid}
 use Rattle.token_net.specs.ArrivalLaws.{arrival_busy}
 use Rattle.token_net.specs.Belonging.{IsNet, CanCome}
-use Rattle.token_net.specs.FlowGround.{FlowGround, has_act}
-use Rattle.token_net.specs.NetOrder.{is_idle, passed_by, arrival, arrived, edge_or, taken, due_node, moved_on, net_course}
+use Rattle.token_net.specs.FlowGround.{FlowGround}
+use Rattle.token_net.specs.NetOrder.{is_idle, passed_by, arrived, edge_or, taken, due_node, moved_on, net_course}
 use Rattle.token_net.specs.NetPace.{IsBetween, IsOnWay, IsInPace}
-use Rattle.token_net.specs.Nodes.{NetOf, graph_in, kind_in, nodes_by, nodes_at, nodes_of, node_count, node_at, first_node}
+use Rattle.token_net.specs.Nodes.{NetOf, graph_in, kind_in, nodes_at, node_count, node_at, first_node}
 use Rattle.token_net.specs.PaceLists.{HasItem, item_at}
 use Rattle.token_net.specs.PieceEnds.{none_fired, all_fired}
-use Rattle.token_net.specs.PieceSteps.{node_named, node_below, ready_next, further}
+use Rattle.token_net.specs.PieceSteps.{node_named, ready_next, further}
 use Rattle.token_net.specs.Tokens.{Tokens, net_moves, pass_at, fired_as, ready_as}
 use Rattle.token_net.specs.WayLaws.{IsThere, along_exists, way_on, not_start, there_passed_by}
 

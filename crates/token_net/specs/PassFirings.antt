@@ -1,8 +1,7 @@
 -- The firings of a pass, one after another.
-use Rattle.std.proofs.Common.{◌≡◌, ◌≢◌, ℕ, zero, suc, ◌+◌, ◌<◌, ◌≤◌, ◌⊎◌, Bool, true, false, if◌then◌else◌, List, [], ◌∷◌, ◌++◌, length, Option, Some, None, slice_get, refl, sym, ap, ◌∙◌, subst, inl, inr, ⊎_elim, append-nil, arith}
+use Rattle.std.proofs.Common.{◌≡◌, ◌≢◌, ℕ, zero, suc, ◌+◌, ◌<◌, ◌≤◌, Bool, true, false, if◌then◌else◌, List, [], ◌∷◌, ◌++◌, length, Option, Some, None, slice_get, refl, sym, ap, ◌∙◌, subst, inl, inr, append-nil, arith}
 use Rattle.std.specs.List.{range_with_len}
-use Rattle.op_table.specs.declared.Trap.{Trap}
-use Rattle.closed_walks.specs.Graph.{edge_count, from, to}
+use Rattle.closed_walks.specs.Graph.{edge_count, to}
 use Rattle.f77_tree.specs.Execution.{Memory}
 use Rattle.cfg_build.specs.Passes.{Passed, Along, Traps, Done, out}
 use Rattle.dep_routing.specs.Sound.{DoesTrap}
@@ -12,13 +11,13 @@ use Rattle.firing.specs.Orders.{IsOrder, after, written}
 use Rattle.firing.specs.declared.system.NodeName.{NodeName}
 use Rattle.firing.specs.declared.system.NodeName.TheVariants.{Act, Merge, Switch, Op}
 use Rattle.token_net.specs.Amid.{memory_amid, text_in, text_amid, IsAmid}
-use Rattle.token_net.specs.AmidLaws.{IsAct, IsSwitch, IsMerge, NodeCase}
+use Rattle.token_net.specs.AmidLaws.{NodeCase}
 use Rattle.token_net.specs.Belonging.{IsNet}
 use Rattle.token_net.specs.FlowGround.{FlowGround}
 use Rattle.token_net.specs.NetPace.{IsBetween}
-use Rattle.token_net.specs.Nodes.{NetOf, graph_in, kind_in, touched, switches, nodes_at, nodes_of, node_count, node_at, first_node}
+use Rattle.token_net.specs.Nodes.{NetOf, graph_in, kind_in, switches, nodes_at, nodes_of, node_count, node_at, first_node}
 use Rattle.token_net.specs.OrderLists.{after_join, order_join, written_join, range_more}
-use Rattle.token_net.specs.PaceLists.{HasItem, item_at, below_length}
+use Rattle.token_net.specs.PaceLists.{HasItem, item_at}
 use Rattle.token_net.specs.PieceEnds.{none_fired}
 use Rattle.token_net.specs.PieceSteps.{exists, node_named, node_below, ready_next, further, own_case, same_name}
 use Rattle.token_net.specs.PlaceLaws.{length_with_all, length_slice_set}

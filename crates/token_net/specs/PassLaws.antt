@@ -1,7 +1,6 @@
 -- What the pass of a piece depends on, and what it changes: no more than the piece touches.
-use Rattle.std.proofs.Common.{◌≡◌, ◌≤◌, ◌⊎◌, inl, inr, ⊎_elim, ℕ, zero, suc, ◌-◌, ◌+ℤ◌, ℤ, pos, Bool, true, false, if◌then◌else◌, List, [], ◌∷◌, length, Option, None, Result, Ok, Err, slice_get, slice_index, slice_set, nat_lt, refl, sym, ap, ◌∙◌, subst, arith}
+use Rattle.std.proofs.Common.{◌≡◌, inl, inr, ℕ, ◌-◌, ℤ, pos, Bool, true, false, if◌then◌else◌, List, [], length, None, Result, Ok, Err, slice_get, slice_index, nat_lt, refl, sym, ap, ◌∙◌, subst, arith}
 use Rattle.std.specs.Ordering.{int_eq}
-use Rattle.std.proofs.lemmas.Bool.{cases_Bool}
 use Rattle.op_table.specs.declared.Trap.{Trap}
 use Rattle.op_table.specs.Words.{is_true}
 use Rattle.op_table.specs.Operators.{which_of_three, picked}
@@ -12,11 +11,11 @@ use Rattle.f77_tree.specs.declared.programs.ExecKind.TheVariants as exec
 use Rattle.f77_tree.specs.declared.programs.NameInfo.{NameInfo}
 use Rattle.f77_tree.specs.declared.programs.Program.{Program}
 use Rattle.f77_tree.specs.CanRun.{CanRun, CanExecute}
-use Rattle.f77_tree.specs.Execution.{Memory, Outcome, Goes, Stops, Ends, outcome, value_in, next_word, assigned, printed, branched as went, do_begun, started, by_sign, by_number, words_taken}
+use Rattle.f77_tree.specs.Execution.{Memory, Outcome, Goes, Stops, Ends, outcome, value_in, next_word, assigned, printed, branched as went, do_begun, started}
 use Rattle.f77_tree.specs.Line.{line_of}
 use Rattle.f77_tree.specs.Steps.{IfGoes, HasRoomFor, AreAlike, ChangeAlike}
-use Rattle.f77_tree.specs.Touched.{ExecReadsData, MayRead}
-use Rattle.f77_tree.specs.Value.{value, place, place_of, word_at, and_then}
+use Rattle.f77_tree.specs.Touched.{MayRead}
+use Rattle.f77_tree.specs.Value.{value, place, place_of, and_then}
 use Rattle.alias_classes.specs.Classes.{ClassTable, IsClasses, class_of_word, class_of_loop}
 use Rattle.alias_classes.specs.Frame.{AgreeOnClasses, KeepsOtherClasses}
 use Rattle.alias_classes.specs.Needs.{ExecNeeds}

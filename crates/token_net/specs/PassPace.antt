@@ -1,5 +1,5 @@
 -- The source's own order of a net beside the passes of its program, pass by pass.
-use Rattle.std.proofs.Common.{◌≡◌, ◌≢◌, ℕ, zero, suc, ◌+◌, ◌<◌, ◌≤◌, ◌⊎◌, Bool, true, false, if◌then◌else◌, List, [], ◌∷◌, ◌++◌, length, map, replicate, Option, Some, None, slice_get, refl, sym, ap, ◌∙◌, subst, inl, inr, ⊎_elim, append-nil, append_assoc, arith}
+use Rattle.std.proofs.Common.{◌≡◌, ◌≢◌, ℕ, zero, suc, ◌+◌, ◌<◌, ◌≤◌, Bool, true, if◌then◌else◌, List, [], ◌++◌, length, map, replicate, Option, Some, None, slice_get, refl, sym, ap, ◌∙◌, subst, append-nil, arith}
 use Rattle.std.specs.List.{range_with_len}
 use Rattle.op_table.specs.declared.Trap.{Trap}
 use Rattle.closed_walks.specs.Graph.{edge_count, from, to}
@@ -15,16 +15,16 @@ use Rattle.dep_routing.specs.Quiet.{IsFree}
 use Rattle.dep_routing.specs.Routing.{next_at}
 use Rattle.dep_routing.specs.Sound.{DoesTrap}
 use Rattle.dep_routing.specs.Touches.{exec_kind}
-use Rattle.firing.specs.Moves.{CanFire, line_bytes}
+use Rattle.firing.specs.Moves.{line_bytes}
 use Rattle.firing.specs.Orders.{IsOrder, after, written}
 use Rattle.firing.specs.declared.system.NodeName.{NodeName}
-use Rattle.firing.specs.declared.system.NodeName.TheVariants.{Act, Merge, Switch, Op}
-use Rattle.token_net.specs.Amid.{leaving, memory_or, text_in, text_amid, IsAmid}
+use Rattle.firing.specs.declared.system.NodeName.TheVariants.{Act}
+use Rattle.token_net.specs.Amid.{leaving, memory_or, text_in, text_amid}
 use Rattle.token_net.specs.Belonging.{IsNet}
 use Rattle.token_net.specs.FlowGround.{FlowGround}
 use Rattle.token_net.specs.FreeLines.{line_below}
 use Rattle.token_net.specs.NetPace.{IsBetween, IsOnWay}
-use Rattle.token_net.specs.Nodes.{NetOf, graph_in, kind_in, all_lines, nodes_by, nodes_at, nodes_of, node_count, node_at, first_node}
+use Rattle.token_net.specs.Nodes.{NetOf, graph_in, kind_in, nodes_by, nodes_at, nodes_of, node_count, node_at, first_node}
 use Rattle.token_net.specs.OrderLists.{after_join, order_join, written_join}
 use Rattle.token_net.specs.OwnOrder.{firings_of, firings_from, own_passes}
 use Rattle.token_net.specs.PaceLaws.{traps_touch}
@@ -33,7 +33,7 @@ use Rattle.token_net.specs.PieceEnds.{none_fired, all_fired}
 use Rattle.token_net.specs.PieceSteps.{exists, node_named, node_below, ready_next}
 use Rattle.token_net.specs.PaceLists.{below_length}
 use Rattle.token_net.specs.RestLaws.{some_edge}
-use Rattle.token_net.specs.Tokens.{Tokens, joined, edge_of, left_for, led_from, net_moves, first_tokens, pass_at, gone, stopped, acted, fired_as, line_as, ready_as, source_line, text_of}
+use Rattle.token_net.specs.Tokens.{Tokens, joined, edge_of, led_from, net_moves, first_tokens, pass_at, gone, stopped, acted, fired_as, line_as, ready_as, text_of}
 use Rattle.token_net.specs.WayLaws.{along_exists, not_back, not_start}
 
 -- ---- what a pass is, by the kind of its piece

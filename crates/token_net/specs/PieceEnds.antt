@@ -1,32 +1,29 @@
 -- Once all nodes of a piece have fired, the marking is that between two passes again.
-use Rattle.std.proofs.Common.{◌≡◌, ◌≢◌, ℕ, zero, suc, ◌+◌, ◌<◌, ◌≤◌, ◌⊎◌, ◌&&◌, ◌||◌, ◌==◌, Bool, true, false, not, cond, if◌then◌else◌, List, [], ◌∷◌, ◌++◌, length, map, take, flat_map, filter, Option, Some, None, is_some, slice_get, refl, sym, ap, ◌∙◌, subst, inl, inr, ⊎_elim, arith, nat_eq, eqb-true}
+use Rattle.std.proofs.Common.{◌≡◌, ◌≢◌, ℕ, zero, suc, ◌+◌, ◌<◌, ◌≤◌, ◌⊎◌, ◌&&◌, true, false, not, List, [], ◌∷◌, ◌++◌, length, map, flat_map, Option, Some, None, slice_get, refl, sym, ap, ◌∙◌, subst, inl, inr, ⊎_elim, arith}
 use Rattle.std.proofs.lemmas.Bool.{and_from, cases_Bool}
-use Rattle.std.specs.List.{range_with_len}
 use Rattle.closed_walks.specs.Graph.{edge_count, from, to}
 use Rattle.f77_tree.specs.declared.programs.ExecKind.{ExecKind}
 use Rattle.f77_tree.specs.Execution.{Memory}
 use Rattle.cfg_build.specs.declared.pieces.PieceKind.{PieceKind}
 use Rattle.cfg_build.specs.declared.pieces.PieceKind.TheVariants as kind
-use Rattle.cfg_build.specs.Joined.{is_end}
-use Rattle.cfg_build.specs.Passes.{Passed, Along, Traps, Done, out, pass, pass_of}
+use Rattle.cfg_build.specs.Passes.{out, pass_of}
 use Rattle.cfg_build.specs.Shape.{takes_one, leaves_one}
 use Rattle.dep_routing.specs.Place.{Place}
 use Rattle.dep_routing.specs.Quiet.{IsFree}
 use Rattle.dep_routing.specs.Routing.{next_at}
 use Rattle.dep_routing.specs.Touches.{exec_kind}
 use Rattle.firing.specs.declared.system.NodeName.{NodeName}
-use Rattle.firing.specs.declared.system.NodeName.TheVariants.{Act, Merge, Switch, Op}
+use Rattle.firing.specs.declared.system.NodeName.TheVariants.{Merge, Switch}
 use Rattle.token_net.specs.Amid.{moved_by, moved_first, leaving, memory_or, memory_amid, switch_count, IsAmid}
 use Rattle.token_net.specs.Belonging.{IsNet}
 use Rattle.token_net.specs.FlowGround.{FlowGround, has_act}
 use Rattle.token_net.specs.FreeLines.{free_of_test, test_of_free, line_below}
 use Rattle.token_net.specs.MemberLaws.{Member, Member-filter, Member-range, Member-left, Member-right, Member-cases}
-use Rattle.token_net.specs.NetOrder.{is_idle}
 use Rattle.token_net.specs.NetPace.{IsBetween}
 use Rattle.token_net.specs.Nodes.{NetOf, graph_in, kind_in, is_free, touched, led_to, passing, nodes_by, nodes_at, node_count, first_node, switch_lines, all_lines}
 use Rattle.token_net.specs.PaceLists.{take_whole}
 use Rattle.token_net.specs.PieceSteps.{IsLed, exists, led_touched, led_passing, led_led}
-use Rattle.token_net.specs.PlaceLaws.{put, left_of, right_of, with_all_other, with_all_same}
+use Rattle.token_net.specs.PlaceLaws.{put, with_all_other, with_all_same}
 use Rattle.token_net.specs.Tokens.{Tokens, joined, edge_of, left_for, with_all, led_from, pass_at}
 
 moved_switches : (net : NetOf) (piece : ℕ) (lines : List ℕ) → flat_map (moved_by net) (map (Switch piece) lines) ≡ lines

@@ -1,5 +1,5 @@
 -- What the running of a piece answers.
-use Rattle.std.specs.Prelude.{◌≡◌, ◌<◌, ℕ, List, []}
+use Rattle.std.specs.Prelude.{◌≡◌, ◌≢◌, ◌<◌, ℕ, List, []}
 use Rattle.f77_tree.specs.declared.programs.ExecKind.{ExecKind}
 use Rattle.f77_tree.specs.declared.programs.ExecKind.TheVariants.{Test, Sign, Pick, DoStart}
 use Rattle.f77_tree.specs.declared.programs.NameInfo.{NameInfo}
@@ -35,3 +35,9 @@ MayChoose names counts (Sign value neg zero' pos') = IsExpression names value
 MayChoose names counts (Pick value targets other) = IsExpression names value
 MayChoose names counts (DoStart loop_no var first last step body exit) = loop_no < counts
 MayChoose names counts _ = Unit {0}
+
+-- a line that was made isn't empty
+abbrev pub HasLine : Ran → (line : List ℕ) → Type 0
+HasLine (ran.Along edge) line = Unit {0}
+HasLine (ran.Wrote edge) line = line ≢ []
+HasLine (ran.Trapped trap) line = Unit {0}

@@ -1,31 +1,29 @@
 -- The nodes of a piece fire one after another, and do what the pass does.
-use Rattle.std.proofs.Common.{◌≡◌, ◌≢◌, ℕ, zero, suc, ◌+◌, ◌<◌, ◌≤◌, ◌⊎◌, ◌&&◌, ◌||◌, ◌==◌, Bool, true, false, not, cond, if◌then◌else◌, List, [], ◌∷◌, ◌++◌, length, map, take, flat_map, filter, Option, Some, None, is_some, slice_get, refl, sym, ap, ◌∙◌, subst, inl, inr, ⊎_elim, arith, nat_eq, eq-eqb, eqb-true}
-use Rattle.std.proofs.lemmas.Bool.{and_from, or_right, cases_Bool}
-use Rattle.std.specs.List.{list_any, list_all, range_with_len}
-use Rattle.closed_walks.specs.Graph.{Graph, edge_count, from, to}
-use Rattle.region_tree.specs.Tree.{Tree}
+use Rattle.std.proofs.Common.{◌≡◌, ℕ, suc, ◌+◌, ◌<◌, ◌&&◌, Bool, true, false, not, List, [], ◌∷◌, length, map, filter, Option, Some, None, is_some, slice_get, refl, sym, ap, ◌∙◌, subst, inl, inr, arith, eq-eqb}
+use Rattle.std.proofs.lemmas.Bool.{and_from}
+use Rattle.std.specs.List.{list_all, range_with_len}
+use Rattle.closed_walks.specs.Graph.{edge_count, to}
 use Rattle.f77_tree.specs.Execution.{Memory}
 use Rattle.cfg_build.specs.declared.pieces.PieceKind.{PieceKind}
 use Rattle.cfg_build.specs.declared.pieces.PieceKind.TheVariants as kind
 use Rattle.cfg_build.specs.Joined.{is_end}
-use Rattle.cfg_build.specs.Passes.{Passed, Along, Traps, Done, out, pass}
-use Rattle.dep_routing.specs.Quiet.{IsFree}
+use Rattle.cfg_build.specs.Passes.{Done, pass}
 use Rattle.dep_routing.specs.Sound.{DoesTrap}
 use Rattle.dep_routing.specs.Touches.{exec_kind}
 use Rattle.firing.specs.declared.system.NodeName.{NodeName}
-use Rattle.firing.specs.declared.system.NodeName.TheVariants.{Act, Merge, Switch, Op}
-use Rattle.token_net.specs.Amid.{moved_by, moved_first, leaving, memory_or, memory_amid, switch_count, IsAmid}
-use Rattle.token_net.specs.AmidLaws.{IsAct, IsSwitch, IsMerge, NodeCase, node_case, not_moved}
+use Rattle.firing.specs.declared.system.NodeName.TheVariants.{Act, Merge, Switch}
+use Rattle.token_net.specs.Amid.{moved_by, moved_first, leaving, memory_amid, switch_count, IsAmid}
+use Rattle.token_net.specs.AmidLaws.{NodeCase, node_case, not_moved}
 use Rattle.token_net.specs.AmidSteps.{act_amid, switch_amid, merge_amid}
 use Rattle.token_net.specs.Belonging.{IsNet}
 use Rattle.token_net.specs.FlowGround.{FlowGround}
-use Rattle.token_net.specs.FreeLines.{free_of_test, test_of_free, stands_before}
-use Rattle.token_net.specs.MemberLaws.{Member, Member-filtered, Member-in_range, Member-range, Member-filter}
+use Rattle.token_net.specs.FreeLines.{test_of_free, stands_before}
+use Rattle.token_net.specs.MemberLaws.{Member, Member-filtered, Member-in_range}
 use Rattle.token_net.specs.NetPace.{IsBetween}
 use Rattle.token_net.specs.Nodes.{NetOf, graph_in, kind_in, is_free, touched, led_to, passing, nodes_by, nodes_at, nodes_of, node_count, node_at, name_in, first_node, switch_lines, switches}
-use Rattle.token_net.specs.PaceLists.{take_more, take_whole, member_at, below_length, HasItem, item_at, get_flat}
-use Rattle.token_net.specs.PlaceLaws.{left_of, right_of, with_all_other, with_all_same}
-use Rattle.token_net.specs.Tokens.{Tokens, joined, edge_of, left_for, with_all, led_from, is_before, leads_to, ready_as, pass_at, acted, switched, merged, fired_as}
+use Rattle.token_net.specs.PaceLists.{member_at, below_length, HasItem, item_at, get_flat}
+use Rattle.token_net.specs.PlaceLaws.{left_of, with_all_other}
+use Rattle.token_net.specs.Tokens.{Tokens, joined, edge_of, left_for, led_from, is_before, leads_to, ready_as, pass_at, acted, switched, merged, fired_as}
 
 -- ---- numbers of nodes
 

@@ -1,5 +1,5 @@
 -- Where a run ends, nothing is ready any more; and the source's own order of a net always fires nodes that are ready.
-use Rattle.std.proofs.Common.{◌≡◌, ◌≢◌, ℕ, zero, suc, ◌+◌, ◌<◌, ◌≤◌, ◌⊎◌, ◌&&◌, ◌||◌, ◌==◌, Bool, true, false, not, cond, if◌then◌else◌, List, [], ◌∷◌, ◌++◌, length, map, Option, Some, None, is_some, slice_get, filter, refl, sym, ap, ◌∙◌, subst, inl, inr, ⊎_elim, arith, eqb-true}
+use Rattle.std.proofs.Common.{◌≡◌, ℕ, ◌<◌, ◌≤◌, ◌==◌, Bool, true, false, not, map, Option, Some, is_some, filter, refl, sym, ap, ◌∙◌, subst, inl, inr, ⊎_elim, arith, eqb-true}
 use Rattle.std.proofs.lemmas.Bool.{cases_Bool}
 use Rattle.std.specs.List.{range_with_len, list_all}
 use Rattle.closed_walks.specs.Graph.{edge_count, from, to}
@@ -7,7 +7,7 @@ use Rattle.f77_tree.specs.Execution.{Memory}
 use Rattle.cfg_build.specs.declared.pieces.PieceKind.{PieceKind}
 use Rattle.cfg_build.specs.declared.pieces.PieceKind.TheVariants as kind
 use Rattle.cfg_build.specs.Joined.{is_end, finish}
-use Rattle.cfg_build.specs.Passes.{Passed, Along, Traps, Done, out, pass_of}
+use Rattle.cfg_build.specs.Passes.{Done, out, pass_of}
 use Rattle.cfg_build.specs.Shape.{leaves_one}
 use Rattle.dep_routing.specs.Quiet.{IsFree}
 use Rattle.dep_routing.specs.Touches.{exec_kind}
@@ -15,7 +15,7 @@ use Rattle.firing.specs.Moves.{CanFire}
 use Rattle.firing.specs.Orders.{IsOver}
 use Rattle.firing.specs.SourceOrder.{IsSourceOrder}
 use Rattle.firing.specs.declared.system.NodeName.{NodeName}
-use Rattle.firing.specs.declared.system.NodeName.TheVariants.{Act, Merge, Switch, Op}
+use Rattle.firing.specs.declared.system.NodeName.TheVariants.{Act, Merge, Switch}
 use Rattle.token_net.specs.declared.control.Control.{Control}
 use Rattle.token_net.specs.Amid.{leaving, memory_or, IsAmid}
 use Rattle.token_net.specs.Belonging.{IsNet, CanCome}
@@ -23,7 +23,7 @@ use Rattle.token_net.specs.FlowGround.{FlowGround, has_act}
 use Rattle.token_net.specs.MemberLaws.{Member, IsImage, IsFromOne, Member-filter, Member-filtered, Member-range, Member-in_range, Member-mapped, Member-flat_mapped}
 use Rattle.token_net.specs.NetOrder.{net_course}
 use Rattle.token_net.specs.NetPace.{IsBetween, IsInPace}
-use Rattle.token_net.specs.Nodes.{NetOf, graph_in, kind_in, is_free, touched, led_to, passing, all_lines, nodes_by, nodes_at, nodes_of, node_count, node_at, name_in, first_node, switches}
+use Rattle.token_net.specs.Nodes.{NetOf, graph_in, kind_in, is_free, touched, led_to, passing, all_lines, nodes_by, nodes_at, nodes_of, node_count, node_at, name_in, switches}
 use Rattle.token_net.specs.PaceLaws.{IsDue, due_is, none_due, due_ready, piece_exists, later}
 use Rattle.token_net.specs.PaceLists.{HasItem, item_at, member_at}
 use Rattle.token_net.specs.PieceEnds.{all_fired}

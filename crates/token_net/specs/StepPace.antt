@@ -1,6 +1,5 @@
 -- The source's own order of a net beside the steps of its program.
-use Rattle.std.specs.Prelude.{◌≡◌, ◌≢◌, ℕ, List, Some, ◌⊎◌, ◌+◌}
-use Rattle.op_table.specs.declared.Trap.{Trap}
+use Rattle.std.specs.Prelude.{◌≡◌, ◌≢◌, ℕ, List, ◌⊎◌, ◌+◌}
 use Rattle.region_tree.specs.Tree.{Tree}
 use Rattle.f77_tree.specs.Run.{Mark, Running, Ended, Trapped, source}
 use Rattle.cfg_build.specs.Chains.{passes_of, StandsAt}

@@ -1,15 +1,12 @@
 -- The source's own order of a net keeps pace with the steps of its program.
-use Rattle.std.proofs.Common.{◌≡◌, ◌≢◌, ℕ, zero, suc, ◌+◌, ◌<◌, ◌≤◌, ◌⊎◌, ◌==◌, Bool, true, false, List, [], ◌∷◌, ◌++◌, length, flat_map, Option, Some, None, slice_get, refl, sym, ap, ◌∙◌, subst, inl, inr, ⊎_elim, eq-eqb, arith}
+use Rattle.std.proofs.Common.{◌≡◌, ◌≢◌, ℕ, zero, suc, ◌+◌, ◌<◌, ◌≤◌, ◌⊎◌, true, List, [], ◌∷◌, length, Some, slice_get, refl, sym, ap, ◌∙◌, subst, inl, inr, ⊎_elim, eq-eqb, arith}
 use Rattle.std.specs.List.{range_with_len}
-use Rattle.op_table.specs.declared.Trap.{Trap}
-use Rattle.closed_walks.specs.Graph.{edge_count, from, to}
-use Rattle.f77_tree.specs.Execution.{Memory}
 use Rattle.f77_tree.specs.Run.{Mark, Running, Ended, Trapped, source}
 use Rattle.cfg_build.specs.Chains.{StandsAt, passes_of, chain}
 use Rattle.cfg_build.specs.Passes.{Passed, Along, Traps, Done, PassState, pass, passes, passed_from}
 use Rattle.dep_routing.specs.Quiet.{IsFree}
 use Rattle.dep_routing.specs.Sound.{DoesTrap, comes_to}
-use Rattle.firing.specs.Orders.{IsOrder, after, written, counted, serial_count}
+use Rattle.firing.specs.Orders.{after, counted, serial_count}
 use Rattle.firing.specs.Pacing.{Stage, Going, IsBusy, IsPaced}
 use Rattle.firing.specs.Pacing as pacing
 use Rattle.firing.specs.declared.system.NodeName.{NodeName}
@@ -19,8 +16,8 @@ use Rattle.token_net.specs.Belonging.{IsNet}
 use Rattle.token_net.specs.FlowGround.{FlowGround}
 use Rattle.token_net.specs.FreeLines.{test_of_free}
 use Rattle.token_net.specs.MemberLaws.{Member, IsFromOne, Member-filtered, Member-range, Member-flat_mapped}
-use Rattle.token_net.specs.NetPace.{IsBetween, IsOnWay}
-use Rattle.token_net.specs.Nodes.{NetOf, graph_in, kind_in, is_free, touched, nodes_by, nodes_at, node_count, node_at, first_node}
+use Rattle.token_net.specs.NetPace.{IsOnWay}
+use Rattle.token_net.specs.Nodes.{NetOf, graph_in, kind_in, is_free, nodes_at, node_count, node_at, first_node}
 use Rattle.token_net.specs.OrderLists.{serial_join}
 use Rattle.token_net.specs.OwnOrder.{firings_of, firings_from, own_passes, own_order}
 use Rattle.token_net.specs.PaceLaws.{traps_touch}

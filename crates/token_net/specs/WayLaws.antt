@@ -1,21 +1,20 @@
 -- How a run goes on from piece to piece, past idle ones.
-use Rattle.std.proofs.Common.{◌≡◌, ◌≢◌, ℕ, zero, suc, ◌+◌, ◌<◌, ◌≤◌, ◌⊎◌, ◌&&◌, ◌||◌, ◌==◌, Bool, true, false, not, cond, if◌then◌else◌, List, [], ◌∷◌, ◌++◌, length, refl, sym, ap, ◌∙◌, subst, inl, inr, ⊎_elim, arith, nat_eq, eqb-true, eq-eqb}
-use Rattle.std.proofs.lemmas.Bool.{cases_Bool, or_cases}
-use Rattle.closed_walks.specs.Graph.{Graph, edge_count, from, to}
-use Rattle.closed_walks.specs.Reaching.{any_below, reaches_within}
+use Rattle.std.proofs.Common.{◌≡◌, ◌≢◌, ℕ, zero, suc, ◌<◌, ◌⊎◌, ◌&&◌, ◌==◌, Bool, true, false, not, if◌then◌else◌, List, [], ◌++◌, length, refl, sym, ap, ◌∙◌, subst, inl, inr, arith, eqb-true}
+use Rattle.std.proofs.lemmas.Bool.{cases_Bool}
+use Rattle.closed_walks.specs.Graph.{edge_count, from, to}
 use Rattle.f77_tree.specs.declared.programs.ExecKind.{ExecKind}
 use Rattle.f77_tree.specs.Execution.{Memory}
-use Rattle.f77_tree.specs.Run.{Mark, Running, Ended, Trapped}
+use Rattle.f77_tree.specs.Run.{Mark, Running}
 use Rattle.cfg_build.specs.declared.pieces.PieceKind.{PieceKind}
 use Rattle.cfg_build.specs.declared.pieces.PieceKind.TheVariants as kind
 use Rattle.cfg_build.specs.Joined.{is_end, finish}
-use Rattle.cfg_build.specs.Passes.{Passed, Along, Traps, Done, IfAlong, PassState, out, pass, pass_of, passes, passed_from, after_pass, line_at}
+use Rattle.cfg_build.specs.Passes.{Passed, Along, Done, IfAlong, PassState, out, pass, pass_of, passes, passed_from, after_pass, line_at}
 use Rattle.cfg_build.specs.Shape.{leaves_one}
 use Rattle.dep_routing.specs.Touches.{exec_kind}
 use Rattle.token_net.specs.Amid.{leaving, memory_or, IsAmid}
 use Rattle.token_net.specs.Belonging.{IsNet}
-use Rattle.token_net.specs.FlowGround.{FlowGround, IsNearEnd}
-use Rattle.token_net.specs.NetOrder.{is_idle, passed, passed_by, arrival}
+use Rattle.token_net.specs.FlowGround.{FlowGround}
+use Rattle.token_net.specs.NetOrder.{is_idle, passed, passed_by}
 use Rattle.token_net.specs.NetPace.{IsBetween, IsOnWay}
 use Rattle.token_net.specs.Nodes.{NetOf, graph_in, kind_in, nodes_by, node_count}
 use Rattle.token_net.specs.PieceEnds.{none_fired, all_fired}

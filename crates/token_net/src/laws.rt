@@ -6,11 +6,14 @@ ghost use Rattle.f77_tree.specs.declared.programs.Program.{Program};
 ghost use Rattle.cfg_build.specs.Joined.{FlowGraph};
 ghost use Rattle.dep_routing.specs.Routing.{Routing};
 ghost use Rattle.firing.specs.Laws.{IsLawful};
+ghost use Rattle.firing.specs.Marks.{Wakes};
+ghost use Rattle.firing.specs.Moves.{CanFire};
 ghost use Rattle.token_net.specs.Belonging.{IsNet, CanCome};
 ghost use Rattle.token_net.specs.Ground.{Ground};
-ghost use Rattle.token_net.specs.Nodes.{NetOf};
+ghost use Rattle.token_net.specs.Nodes.{NetOf, node_at};
 ghost use Rattle.token_net.specs.Parts.{AreParts, net_with};
-ghost use Rattle.token_net.specs.Tokens.{first_tokens, net_moves};
+ghost use Rattle.token_net.specs.Tokens.{Tokens, first_tokens, net_moves};
+ghost use Rattle.token_net.specs.Waking.{IsWoken};
 
 use alias_classes::{needs_are_a_frame, needs_are_numbered, needs_cover_accesses};
 use cfg_build::{flow_graph_has_shape, flow_graph_is_strong};
@@ -36,6 +39,11 @@ pub fn parts_make_nets()
     touches_are_sound();
     well_formed_programs_can_run();
 }
+
+// A list that has the nodes before which the moved lines stand then, and those that wait, has each that a firing can have made ready.
+pub(crate) fn woken_nodes_are_all()
+    ensures { (net : NetOf) (m : Tokens) (k : ℕ) (woken : List ℕ) → CanCome net m → CanFire (net_moves net) m k → IsWoken net ((net_moves net).fired m k) (node_at net k) woken → Wakes (net_moves net) m k woken }
+{}
 
 // What lower layers tell.
 pub(crate) fn ground()

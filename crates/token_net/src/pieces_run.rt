@@ -11,7 +11,7 @@ ghost use Rattle.f77_meaning.specs.Storage.{memory_of, HasSizes};
 ghost use Rattle.cfg_build.specs.Passes.{acted, choice, out, outs as outs_in};
 ghost use Rattle.token_net.specs.Belonging.{HasSizesOf};
 ghost use Rattle.token_net.specs.Nodes.{graph_in};
-ghost use Rattle.token_net.specs.PieceRuns.{KeepsStorage, MayChoose, going_on, told};
+ghost use Rattle.token_net.specs.PieceRuns.{HasLine, KeepsStorage, MayChoose, going_on, told};
 ghost use Rattle.token_net.specs.PlanView.{net_in};
 ghost use Rattle.token_net.specs.Tokens.{pass_at};
 
@@ -51,6 +51,7 @@ pub(crate) fn run<const W: usize>(
     requires room { most_room plan.now.program.now.execs ≤ vec_capacity draft.old }
     ensures pass { going_on (out (graph_in (net_in plan.now)) piece 0) (memory_of storage.old) (pass_at (net_in plan.now) piece (memory_of storage.old)) ≡ told result (memory_of storage.new) draft.new.items }
     ensures kept { KeepsStorage result storage.old storage.new }
+    ensures line { HasLine result draft.new.items }
     ensures sizes { HasSizes storage.old storage.new }
     ensures data { storage.new.taken ≤ length plan.now.input.items }
     ensures capacity { vec_capacity draft.old ≤ vec_capacity draft.new }
@@ -93,6 +94,7 @@ fn act(
     requires room { kind_room kind.now ≤ vec_capacity draft.old }
     ensures pass { going_on edge (memory_of storage.old) (acted edge (outcome p.now.names input.now.items (memory_of storage.old) kind.now)) ≡ told result (memory_of storage.new) draft.new.items }
     ensures kept { KeepsStorage result storage.old storage.new }
+    ensures line { HasLine result draft.new.items }
     ensures sizes { HasSizes storage.old storage.new }
     ensures data { storage.new.taken ≤ length input.now.items }
     ensures capacity { vec_capacity draft.old ≤ vec_capacity draft.new }

@@ -11,6 +11,7 @@ ghost use Rattle.token_net.specs.NetOrder.{arrival, is_idle, passed};
 ghost use Rattle.token_net.specs.NetTables.{AreTables, all_edges, all_pieces};
 ghost use Rattle.token_net.specs.PlanView.{net_in};
 
+use crate::places::all_places;
 use crate::plan::Plan;
 use cfg_build::PieceKind;
 use closed_walks::Digraph;
@@ -31,6 +32,8 @@ pub(crate) struct Tables {
     pub(crate) outs: Vec<LabelList>,
     /// For each edge the next piece with nodes that control comes to along it, or the end.
     pub(crate) arrivals: Vec<u32>,
+    /// For each piece and line the node of the piece that the line goes through, or the number of all nodes.
+    pub(crate) places: Vec<LabelList>,
 }
 
 /// The tables of a net. More nodes than can be numbered are want of memory.
@@ -41,12 +44,14 @@ pub(crate) fn make_tables<const W: usize>(alloc: Global, plan: &Plan<W>) -> Resu
     let touched = all_touched(alloc, plan)?;
     let outs = all_outs(alloc, plan.flow.graph())?;
     let arrivals = arrivals(alloc, plan, &nodes.firsts, &outs)?;
+    let places = all_places(alloc, plan, &nodes.firsts, nodes.names.len() as u32)?;
     Ok(Tables {
         names: nodes.names,
         firsts: nodes.firsts,
         touched,
         outs,
         arrivals,
+        places,
     })
 }
 
@@ -152,7 +157,7 @@ fn push_merges<const W: usize>(
 }
 
 /// Whether an edge to the piece is a wire of the line.
-fn is_free<const W: usize>(plan: &Plan<W>, piece: u32, line: u32) -> bool
+pub(crate) fn is_free<const W: usize>(plan: &Plan<W>, piece: u32, line: u32) -> bool
     requires piece { piece < (graph_in (net_in plan.now)).nodes }
     requires line { line < (net_in plan.now).routing.lines }
     ensures { result ≡ is_free (net_in plan.now) piece line }

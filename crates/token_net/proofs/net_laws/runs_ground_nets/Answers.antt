@@ -1,4 +1,4 @@
-use Rattle.std.proofs.Common.{◌≡◌, ◌≢◌, ◌⊎◌, ◌+◌, ℕ, inl, inr}
+use Rattle.std.proofs.Common.{◌≢◌, ◌⊎◌, ◌+◌, ℕ, inl, inr}
 use Rattle.f77_tree.specs.Run.{Running}
 use Rattle.cfg_build.specs.Passes.{passes}
 use Rattle.dep_routing.specs.Leaving.{KeepsMoving}

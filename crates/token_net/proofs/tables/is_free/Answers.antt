@@ -1,4 +1,4 @@
-use Rattle.std.proofs.Common.{◌≡◌, ◌<◌, get_or, sym, subst, arith}
+use Rattle.std.proofs.Common.{◌<◌, get_or, sym, subst, arith}
 use Rattle.closed_walks.specs.Graph.{Graph, edge_count}
 use Rattle.token_net.proofs.TableLemmas.{edge_exists}
 use Rattle.token_net.proofs.tables.is_free.Goals as goal

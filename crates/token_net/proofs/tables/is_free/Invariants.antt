@@ -1,8 +1,7 @@
 use Rattle.std.proofs.Common.{◌≡◌, false, take}
 use Rattle.std.specs.List.{list_any}
 use Rattle.closed_walks.specs.Graph.{edges_at}
-use Rattle.token_net.specs.Nodes.{graph_in, comes_along}
-use Rattle.token_net.specs.PlanView.{net_in}
+use Rattle.token_net.specs.Nodes.{comes_along}
 use Rattle.token_net.proofs.tables.is_free.Given as goal
 
 abbrev pub invariant-loop-e : goal.invariant-loop-e

@@ -1,4 +1,4 @@
-use Rattle.std.proofs.Common.{◌≡◌, ◌<◌, ◌≤◌, ◌==◌, ◌^◌, List, ℕ, length, filter, take, ap, ◌∙◌, arith}
+use Rattle.std.proofs.Common.{◌<◌, ◌==◌, ◌^◌, length, filter, ap, ◌∙◌, arith}
 use Rattle.std.proofs.lemmas.List.{take_all}
 use Rattle.closed_walks.specs.Graph.{from}
 use Rattle.token_net.proofs.TableLemmas.{edge_exists, few_at, short_taken, leaving}

@@ -1,4 +1,4 @@
-use Rattle.std.proofs.Common.{◌≡◌, ◌<◌, List, ℕ, ◌++◌, ◌∷◌, [], ap, sym, ◌∙◌, arith}
+use Rattle.std.proofs.Common.{List, ℕ, ◌++◌, ◌∷◌, [], ap, sym, ◌∙◌, arith}
 use Rattle.token_net.specs.PlanView.{net_in}
 use Rattle.token_net.proofs.TableLemmas.{short_below, filter_taken, filter_skipped}
 use Rattle.token_net.proofs.tables.touched.Goals as goal

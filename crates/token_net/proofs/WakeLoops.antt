@@ -1,0 +1,57 @@
+-- The nodes that are named while lines are gone through.
+use Rattle.std.proofs.Common.{◌≡◌, ◌<◌, ◌≤◌, ◌+◌, ◌-◌, ◌⊎◌, inl, inr, ℕ, suc, List, get_or, Contains, Option, Some, None, sym, ap, ◌∙◌, subst, arith}
+use Rattle.std.specs.List.{range_with_len}
+use Rattle.closed_walks.specs.Graph.{to}
+use Rattle.token_net.specs.MemberLaws.{Member, Member-in_range, IsAt, at_of}
+use Rattle.token_net.specs.Nodes.{NetOf, graph_in}
+use Rattle.token_net.specs.PlaceLaws.{same_or_not}
+use Rattle.token_net.specs.Standing.{edge_at}
+use Rattle.token_net.specs.Waking.{HasNext, Keeps, no_node, place_of}
+
+module _ (net : NetOf) where
+  pub next_has : (woken : List ℕ) (line edge piece k : ℕ) (o : Option ℕ) → o ≡ Some edge → piece ≡ to (graph_in net) edge → k ≡ place_of net piece line → Contains woken k → HasNext net woken line o
+  next_has woken line edge piece k o stands comes is has =
+      let at : k ≡ place_of net (to (graph_in net) edge) line = is ∙ ap (λ p. place_of net p line) comes in
+      subst (HasNext net woken line) (sym stands) (λ node. subst (Contains woken) at has)
+
+  pub next_past : (woken : List ℕ) (line edge piece k : ℕ) (o : Option ℕ) → o ≡ Some edge → piece ≡ to (graph_in net) edge → k ≡ place_of net piece line → no_node net ≤ k → HasNext net woken line o
+  next_past woken line edge piece k o stands comes is past =
+      let at : k ≡ place_of net (to (graph_in net) edge) line = is ∙ ap (λ p. place_of net p line) comes in
+      subst (HasNext net woken line) (sym stands) (λ node. absurd (omega (arith, node, past, at)))
+
+  pub next_lost : (woken : List ℕ) (line : ℕ) (o : Option ℕ) → o ≡ None → HasNext net woken line o
+  next_lost woken line o lost = subst (HasNext net woken line) (sym lost) tt
+
+  pub next_kept : (old new : List ℕ) (line : ℕ) (o : Option ℕ) → Keeps old new → HasNext net old line o → HasNext net new line o
+  next_kept old new line None keeps has = tt
+  next_kept old new line (Some edge) keeps has = λ node. keeps (place_of net (to (graph_in net) edge) line) (has node)
+
+  module _ (lines : List (Option ℕ)) (moved : List ℕ) where
+    abbrev HasAt : List ℕ → ℕ → Type 0
+    HasAt woken j = HasNext net woken (get_or moved j 0) (edge_at lines (get_or moved j 0))
+
+    pub lines_more : (old new : List ℕ) (i : ℕ) → Keeps old new → ((j : ℕ) → j < i → HasNext net old (get_or moved j 0) (edge_at lines (get_or moved j 0))) → HasNext net new (get_or moved i 0) (edge_at lines (get_or moved i 0)) → (j : ℕ) → j < i + 1 → HasNext net new (get_or moved j 0) (edge_at lines (get_or moved j 0))
+    lines_more old new i keeps has here j low = by (same_or_not j i)
+      where
+        by : (j ≡ i) ⊎ (j ≡ i → ⊥) → HasAt new j
+        by (inl e) = subst (HasAt new) (sym e) here
+        by (inr n) = next_kept old new (get_or moved j 0) (edge_at lines (get_or moved j 0)) keeps (has j (omega (arith, low, n)))
+
+    pub lines_all : (woken : List ℕ) → ((j : ℕ) → j < Rattle.std.proofs.Common.length moved → HasNext net woken (get_or moved j 0) (edge_at lines (get_or moved j 0))) → (line : ℕ) → Member moved line → HasNext net woken line (edge_at lines line)
+    lines_all woken has line m =
+        let r : IsAt moved line = at_of moved line m in
+        subst (λ l. HasNext net woken l (edge_at lines l)) (r.is 0) (has r.place r.exists)
+
+pub row_more : (old new : List ℕ) (first k : ℕ) → Keeps old new → ((j : ℕ) → first < j → j < k → Contains old j) → Contains new k → (j : ℕ) → first < j → j < k + 1 → Contains new j
+row_more old new first k keeps has here j low high = by (same_or_not j k)
+  where
+    by : (j ≡ k) ⊎ (j ≡ k → ⊥) → Contains new j
+    by (inl e) = subst (Contains new) (sym e) here
+    by (inr n) = keeps j (has j low (omega (arith, high, n)))
+
+pub row_all : (woken : List ℕ) (first end k : ℕ) → first < end → end ≤ k → ((j : ℕ) → first < j → j < k → Contains woken j) → (j : ℕ) → Member (range_with_len (suc first) (end - suc first)) j → Contains woken j
+row_all woken first end k some past has j m =
+    let r = Member-in_range (suc first) (end - suc first) j m in
+    let low = r.0 in
+    let high = r.1 in
+    has j (omega (arith, low)) (omega (arith, high, some, past))

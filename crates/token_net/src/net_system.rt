@@ -1,0 +1,117 @@
+//! The net of a program as a step system, with the program's own order.
+
+use crate::Net;
+use crate::steering::due_at;
+use firing::{Fired, NodeName, SourceOrder, StepSystem};
+use op_table::Trap;
+
+impl<const W: usize> StepSystem for Net<'_, W> {
+    ghost use Rattle.token_net.specs.declared.control.Control.{Control as Place_of};
+    ghost use Rattle.token_net.specs.Belonging.{CanCome};
+    ghost use Rattle.token_net.specs.NetLaws.{net_laws};
+    ghost use Rattle.token_net.specs.NetOrder.{net_course};
+    ghost use Rattle.token_net.specs.NetPace.{IsInPace};
+    ghost use Rattle.token_net.specs.NetView.{net_of, tokens_of, woken_of};
+    ghost use Rattle.token_net.specs.Nodes.{NetOf};
+    ghost use Rattle.token_net.specs.PaceLaws.{keeps_step};
+    ghost use Rattle.token_net.specs.Tokens.{Tokens, net_moves};
+
+    ghost Net = { NetOf };
+
+    ghost Marking = { Tokens };
+
+    ghost Place = { Place_of };
+
+    ghost net = { net_of };
+
+    ghost marking = { tokens_of };
+
+    ghost place = { λ s. s.control };
+
+    ghost last = { λ s. s.text.items };
+
+    ghost woken = { woken_of };
+
+    ghost marks = { λ s. s.set };
+
+    ghost sound = { CanCome };
+
+    ghost moves = { net_moves };
+
+    ghost course = { net_course };
+
+    ghost in_step = { IsInPace };
+
+    fn nodes(&self) -> u32 {
+        self.board.nodes()
+    }
+
+    fn ready(&self, k: u32) -> bool {
+        self.is_ready(k)
+    }
+
+    fn fire(&mut self, k: u32) -> Fired {
+        self.woken.clear();
+        match self.board.name(k) {
+            NodeName::Act(piece) => self.act(k, piece),
+            NodeName::Switch(piece, line) => {
+                self.switch(k, piece, line);
+                Fired::Moved
+            }
+            NodeName::Merge(piece, line) => {
+                self.merge(k, piece, line);
+                Fired::Moved
+            }
+            NodeName::Op(_, _) => Fired::Moved,
+        }
+    }
+
+    fn line(&self) -> &[u8] {
+        self.text.as_slice()
+    }
+
+    fn woken(&self) -> &[u32] {
+        self.woken.as_slice()
+    }
+
+    fn mark(&mut self, k: u32, ready: bool) {
+        self.set.put(k, ready);
+    }
+
+    fn marked(&self) -> u32 {
+        self.set.len()
+    }
+
+    fn marked_at(&self, place: u32) -> u32 {
+        self.set.at(place)
+    }
+
+    fn trap(&self) -> Option<(Trap, u32)> {
+        self.trapped
+    }
+
+    fn name(&self, k: u32) -> NodeName {
+        self.board.name(k)
+    }
+
+    ghost lawful = { net_laws };
+
+    ghost steady = { keeps_step };
+}
+
+impl<const W: usize> SourceOrder for Net<'_, W> {
+    ghost use Rattle.token_net.specs.RestLaws.{source_order};
+
+    fn has_control(&self) -> bool {
+        self.control.is_some()
+    }
+
+    fn due(&self) -> Option<u32> {
+        match self.control {
+            Some(c) => due_at(&self.board, c),
+            None => None,
+        }
+    }
+
+    ghost ordered = { source_order };
+}
