@@ -1,5 +1,5 @@
 #!/usr/bin/env python3
-"""Times how lines of tokens are found in programs that are hard on it.
+"""Times how lines of tokens, constants and available expressions are found in programs that are hard on it.
 
     python3 bench/routing.py LISTING [FILE ..]
 
@@ -8,7 +8,8 @@ microseconds, with how many lines and edges there are. The programs are those of
 
 - jumps: 4,000 statements, each with as many edges as it may have, and as many classes as a program may have; the jumps lead anywhere,
   or to places near them;
-- places: 262,144 words with 50 names over all of them, or over pieces of them.
+- places: 262,144 words with 50 names over all of them, or over pieces of them;
+- sums: 3,500 statements that compute 2,000 different sums, on some 10,500 pieces.
 """
 import random
 import subprocess
@@ -57,6 +58,19 @@ def places(length):
     return fields(lines).replace("A(262144)", "A(262143)")
 
 
+def sums(count, kept):
+    """So many different sums. Half of the statements assign to one of 70 names, of which so many are never assigned to."""
+    chance = random.Random(1)
+    names = [f"K{k}" for k in range(70)]
+    pairs = [(a, b) for a in names for b in names][:count]
+    lines = [(0, "INTEGER " + part) for part in listed(names)]
+    lines += [(0, "READ *," + part) for part in listed(names)]
+    for k in range(3500):
+        a, b = pairs[k] if k < count else chance.choice(pairs)
+        lines.append((0, f"IF({a}+{b}.LT.3){chance.choice(names[kept:])}={chance.choice(names)}"))
+    return fields(lines + [(0, "END")])
+
+
 def best(listing, text):
     """The best times of the parts, and what the program writes."""
     times = {}
@@ -74,6 +88,7 @@ def main():
         sys.exit(__doc__)
     texts = [("jumps anywhere", jumps(4000)), ("jumps to places near them", jumps(5))]
     texts += [("50 names over all words", places(262000)), ("50 names over pieces", places(20000))]
+    texts += [("2,000 sums", sums(2000, 0)), ("2,000 sums of names that are kept", sums(2000, 69))]
     for name in sys.argv[2:]:
         with open(name) as file:
             texts.append((name, file.read()))

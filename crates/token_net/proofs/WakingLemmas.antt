@@ -18,7 +18,8 @@ use Rattle.token_net.specs.NodeLaws.{piece_of, is_touched, one_number, IsNamed, 
 use Rattle.token_net.specs.Nodes.{NetOf, graph_in, all_lines, touched, nodes_of, node_at, first_node, switches}
 use Rattle.token_net.specs.PlaceLaws.{all_pass, same_tests, left_of, right_of}
 use Rattle.token_net.specs.Tokens.{Tokens, joined, edge_of, left_for, leads_to, is_before, ready_as, fired_as, net_moves}
-use Rattle.token_net.specs.Waking.{place_of, moved_by, HasNext, waiting_for, IsWoken}
+use Rattle.token_net.specs.Amid.{moved_by}
+use Rattle.token_net.specs.Waking.{place_of, HasNext, waiting_for, IsWoken}
 use Rattle.token_net.proofs.NodePlaces.{act_is_first, act_place, switch_is_at, merge_is_at}
 
 both_ways : {P : Type 0} (b : Bool) → b ≡ true → b ≡ false → P

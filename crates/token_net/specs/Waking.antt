@@ -6,6 +6,7 @@ use Rattle.cfg_build.specs.declared.pieces.PieceKind.{PieceKind}
 use Rattle.cfg_build.specs.declared.pieces.PieceKind.TheVariants as kind
 use Rattle.firing.specs.declared.system.NodeName.{NodeName}
 use Rattle.firing.specs.declared.system.NodeName.TheVariants.{Act, Merge, Switch, Op}
+use Rattle.token_net.specs.Amid.{moved_by}
 use Rattle.token_net.specs.MemberLaws.{Member}
 use Rattle.token_net.specs.Nodes.{NetOf, graph_in, kind_in, all_lines, is_free, touched, nodes_of, first_node, switches}
 use Rattle.token_net.specs.Tokens.{Tokens, edge_of}
@@ -45,13 +46,6 @@ abbrev pub places : NetOf → ℕ → List ℕ
 places net piece = map (place_of net piece) (all_lines net)
 
 -- ---- what a firing wakes
-
--- the lines that the firing of a node moves
-abbrev pub moved_by : NetOf → NodeName → List ℕ
-moved_by net (Act piece) = touched net piece
-moved_by net (Switch piece line) = line ∷ []
-moved_by net (Merge piece line) = line ∷ []
-moved_by net (Op piece i) = []
 
 -- the nodes that wait for what the firing of a node leaves or takes
 abbrev pub waiting_for : NetOf → NodeName → List ℕ
