@@ -23,4 +23,6 @@ mod showing;
 #[cfg(test)]
 mod statements;
 #[cfg(test)]
+mod touched;
+#[cfg(test)]
 mod walks;
