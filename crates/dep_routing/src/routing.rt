@@ -5,6 +5,7 @@ ghost use Rattle.class_set.specs.Members.{IsWidth};
 ghost use Rattle.closed_walks.specs.Graph.{edge_count};
 ghost use Rattle.closed_walks.specs.Region.{IsFlowGraph};
 ghost use Rattle.region_tree.specs.Tree.{IsRegionTree};
+ghost use Rattle.dep_routing.specs.LineTable.{HaveRows};
 ghost use Rattle.dep_routing.specs.Order.{IsOrder};
 ghost use Rattle.dep_routing.specs.Routing.{IsRouting};
 ghost use Rattle.dep_routing.specs.Rows.{IsNextRow, IsWireRow};
@@ -21,7 +22,7 @@ use df_sequence::NoMemory;
 use region_tree::RegionTree;
 use std::alloc::Global;
 
-/// The wires of the lines from 0 on, so many, and to which edges the lines are led. `touch` has the set of lines of each node. For
+/// The wires of the lines from 0 on, so many, and to which edges the lines are led, and nothing more. `touch` has the set of lines of each node. For
 /// each line it takes a few steps for each node, edge and region, and five bytes for each edge.
 pub fn route<const W: usize>(
     alloc: Global,
@@ -34,7 +35,8 @@ pub fn route<const W: usize>(
     requires flow { IsFlowGraph g.now }
     requires tree { IsRegionTree g.now t.now }
     requires nodes { length touch.now ≡ g.now.nodes }
-    ensures { IfOk result (λ r. IsRouting g.now t.now (touches_in touch.now) lines r) }
+    ensures routing { IfOk result (λ r. IsRouting g.now t.now (touches_in touch.now) lines r) }
+    ensures rows { IfOk result HaveRows }
 {
     tree_facts();
     let borders = borders_of(alloc, g, t)?;

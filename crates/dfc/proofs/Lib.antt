@@ -1,4 +1,10 @@
+mod DataWords
+mod GameLaws
+mod GameMeans
+mod GamePace
+mod GameTold
+mod NetParts
+mod OneNet
 mod Pieces
 mod RegionsTold
-mod RunLemmas
 pub mod Texts

@@ -5,10 +5,9 @@ use Rattle.df_io.specs.Faults.{Rose}
 use Rattle.df_io.specs.Write.{AppendsFront}
 use Rattle.dfc.specs.declared.status.Status.{Status}
 use Rattle.dfc.specs.declared.status.Status.TheVariants.{Done, Usage, Refused, Trapped, Limit, ReadFault, WriteFault, NoMemory}
-use Rattle.dfc.specs.declared.words.Job.{Job}
-use Rattle.dfc.specs.declared.words.Job.TheVariants.{On}
 use Rattle.dfc.specs.Due.{Due, IsJust, all_due, usage}
 use Rattle.dfc.specs.Reading.{IsReadWhole, IsReadWithin}
+use Rattle.dfc.specs.Words.{Job, On}
 
 -- the exit status
 abbrev pub code_of : Status → ℕ

@@ -2,11 +2,10 @@
 use Rattle.std.specs.Prelude.{ℕ, List, codes}
 use Rattle.f77_source.specs.declared.source_end.Code.TheVariants as text
 use Rattle.dfc.specs.declared.reading.Code.{Code}
-use Rattle.dfc.specs.declared.reading.Code.TheVariants.{TooLong, NotYet, Text}
+use Rattle.dfc.specs.declared.reading.Code.TheVariants.{TooLong, Text}
 
 abbrev pub name_of : Code → List ℕ
 name_of TooLong = codes "TOOLONG"
-name_of NotYet = codes "NOTYET"
 name_of (Text text.BadByte) = codes "BADBYTE"
 name_of (Text text.BadLabelField) = codes "BADLABEL"
 name_of (Text text.StrayContinuation) = codes "STRAYCONT"

@@ -1,9 +1,13 @@
 pub mod Words
+pub mod Meant
 pub mod Codes
 pub mod Reading
 pub mod Game
 pub mod Regions
 pub mod Found
 pub mod Due
+pub mod Pace
+pub mod Parts
+pub mod GameLaws
 pub mod Answers
 pub mod Headline

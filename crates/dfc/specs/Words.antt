@@ -1,5 +1,5 @@
 -- What the words ask for.
-use Rattle.std.specs.Prelude.{ℕ, ◌+◌, Bool, false, ◌&&◌, nat_le, ◌==◌, List, [], ◌∷◌, ◌++◌, length, take, drop, Option, Some, None, codes, if◌then◌else◌}
+use Rattle.std.specs.Prelude.{ℕ, ◌+◌, ℤ, pos, neg_ℤ, Bool, false, ◌&&◌, nat_le, ◌==◌, List, [], ◌∷◌, ◌++◌, length, map, take, drop, Option, Some, None, codes, if◌then◌else◌}
 use Rattle.std.specs.List.{list_all}
 use Rattle.std.specs.Str.{bytes_eq}
 use Rattle.f77_tree.specs.Name.{is_figure}
@@ -7,34 +7,89 @@ use Rattle.fixed_form.specs.Columns.{number}
 use Rattle.f77_tree.specs.Grammar.{greatest_constant}
 use Rattle.dfc.specs.declared.words.Dialect.{Dialect}
 use Rattle.dfc.specs.declared.words.Dialect.TheVariants.{Plain, Checked}
-use Rattle.dfc.specs.declared.words.Job.{Job}
-use Rattle.dfc.specs.declared.words.Job.TheVariants.{On}
-use Rattle.dfc.specs.declared.words.Task.{Task}
-use Rattle.dfc.specs.declared.words.Task.TheVariants.{Regions, Play}
+use Rattle.dfc.specs.declared.words.Setting.{Setting}
+use Rattle.dfc.specs.declared.words.Setting.TheVariants.{Limit, Picks, Data}
 
--- ---- data
+-- what a game is asked to do: the most firings, the picks that choose the nodes, of which there are none where the source's own
+-- order does, and the words that READ takes
+pub record Asked : Type 0 where
+  pub limit : ℕ
+  pub picks : List ℕ
+  pub input : List ℤ
+
+-- what is done with a program
+pub data Task : Type 0 where
+  Regions : Task
+  Play : (asked : Asked) → Task
+
+-- a task on the program of a text
+pub data Job : Type 0 where
+  On : (task : Task) (dialect : Dialect) → Job
+
+-- ---- numbers and lists of them
 
 -- the pieces of a text between its commas, of which the first begins with these characters
 abbrev pub pieces_behind : (begun text : List ℕ) → List (List ℕ)
 pieces_behind begun [] = begun ∷ []
 pieces_behind begun (c ∷ text) = if c == 44 then begun ∷ pieces_behind [] text else pieces_behind (begun ++ c ∷ []) text
 
+-- one to so many digits
+abbrev pub are_digits_to : (most : ℕ) → List ℕ → Bool
+are_digits_to most digits = nat_le 1 (length digits) && nat_le (length digits) most && list_all is_figure digits
+
 -- one to ten digits, of a number up to this one
 abbrev pub is_number_to : (greatest : ℕ) → (digits : List ℕ) → Bool
-is_number_to greatest digits = nat_le 1 (length digits) && nat_le (length digits) 10 && list_all is_figure digits && nat_le (number digits) greatest
+is_number_to greatest digits = are_digits_to 10 digits && nat_le (number digits) greatest
 
 -- a word of the machine in decimal, a negative one behind a minus sign
 abbrev pub is_word : List ℕ → Bool
 is_word [] = false
 is_word (c ∷ digits) = if c == 45 then is_number_to (greatest_constant + 1) digits else is_number_to greatest_constant (c ∷ digits)
 
--- `data=` and the words that READ takes, with commas between them
-abbrev pub is_data : List ℕ → Bool
-is_data word = bytes_eq (take 5 word) (codes "data=") && list_all is_word (pieces_behind [] (drop 5 word))
+abbrev pub word_value : List ℕ → ℤ
+word_value [] = pos 0
+word_value (c ∷ digits) = if c == 45 then neg_ℤ (pos (number digits)) else pos (number (c ∷ digits))
 
-abbrev pub behind_data : List (List ℕ) → List (List ℕ)
-behind_data [] = []
-behind_data (word ∷ words) = if is_data word then words else word ∷ words
+-- ---- settings of a game: `limit=` and a number of firings, `picks=` and numbers, `data=` and words, with commas between them
+
+abbrev pub name_of : Setting → List ℕ
+name_of Limit = codes "limit="
+name_of Picks = codes "picks="
+name_of Data = codes "data="
+
+-- a piece between commas
+abbrev pub is_piece : Setting → List ℕ → Bool
+is_piece Limit piece = are_digits_to 18 piece
+is_piece Picks piece = are_digits_to 9 piece
+is_piece Data piece = is_word piece
+
+-- what may stand behind the name; a limit is a single number
+abbrev pub is_text : Setting → List ℕ → Bool
+is_text Limit text = is_piece Limit text
+is_text Picks text = list_all (is_piece Picks) (pieces_behind [] text)
+is_text Data text = list_all (is_piece Data) (pieces_behind [] text)
+
+abbrev pub is_setting : Setting → List ℕ → Bool
+is_setting s word = bytes_eq (take (length (name_of s)) word) (name_of s) && is_text s (drop (length (name_of s)) word)
+
+-- what the first word says, where it is this setting
+abbrev pub text_of : Setting → List (List ℕ) → List ℕ
+text_of s [] = []
+text_of s (word ∷ words) = if is_setting s word then drop (length (name_of s)) word else []
+
+-- the words behind this setting, which may stand in front of them
+abbrev pub behind : Setting → List (List ℕ) → List (List ℕ)
+behind s [] = []
+behind s (word ∷ words) = if is_setting s word then words else word ∷ words
+
+abbrev pub limit_in : (text : List ℕ) → ℕ
+limit_in [] = 1000000
+limit_in (c ∷ text) = number (c ∷ text)
+
+-- the values of the pieces of a text, if there is one
+abbrev pub values_in : {A : Type 0} → (List ℕ → A) → (text : List ℕ) → List A
+values_in value [] = []
+values_in value (c ∷ text) = map value (pieces_behind [] (c ∷ text))
 
 -- ---- the dialect: `checked`, or the plain one
 
@@ -49,8 +104,15 @@ abbrev pub on : Task → Option Dialect → Option Job
 on task None = None
 on task (Some dialect) = Some (On task dialect)
 
--- The job that these words ask for: `regions` and the dialect, or `fire`, the data if there are any, and the dialect, as yet.
--- Other words have no meaning.
+-- the limit, the picks, the data and the dialect, in this order, each of them once or not at all
+abbrev pub play_of : List (List ℕ) → Option Job
+play_of words =
+    let behind_limit = behind Limit words in
+    let behind_picks = behind Picks behind_limit in
+    let behind_data = behind Data behind_picks in
+    on (Play (record { limit = limit_in (text_of Limit words); picks = values_in number (text_of Picks behind_limit); input = values_in word_value (text_of Data behind_picks) })) (dialect_of behind_data)
+
+-- The job that these words ask for: `regions` and the dialect, or `fire` and its settings, as yet. Other words have no meaning.
 abbrev pub job_of : List (List ℕ) → Option Job
 job_of [] = None
-job_of (word ∷ words) = if bytes_eq word (codes "regions") then on Regions (dialect_of words) else if bytes_eq word (codes "fire") then on Play (dialect_of (behind_data words)) else None
+job_of (word ∷ words) = if bytes_eq word (codes "regions") then on Regions (dialect_of words) else if bytes_eq word (codes "fire") then play_of words else None

@@ -1,7 +1,10 @@
 //! `dfc`, a dependence flow graph compiler for integer Fortran 77.
 #![tactic(auto)]
 
+mod game;
 mod lines;
+mod making;
+mod numbers;
 mod playing;
 mod reading;
 mod region_line;

@@ -1,6 +1,7 @@
-ghost use Rattle.std.specs.Prelude.{◌≡◌, ◌≢◌, ◌≤◌, length, IfOk, IfSome, IsErrOf};
+ghost use Rattle.std.specs.Prelude.{◌≡◌, ◌≢◌, ◌≤◌, ◌<◌, length, IfOk, IfSome, IsErrOf};
 ghost use Rattle.df_io.specs.Faults.{Rose};
 ghost use Rattle.f77_tree.specs.WellFormed.{IsWellFormed};
+ghost use Rattle.alias_classes.specs.Number.{number_of_classes};
 ghost use Rattle.dfc.specs.Codes.{name_of};
 ghost use Rattle.dfc.specs.Reading.{reading, most_bytes, IsReadAs, IsReadFor, IsReadWithin};
 
@@ -18,8 +19,6 @@ const MOST_BYTES: u32 = 4_194_304;
 pub enum Code {
     /// It has too many bytes.
     TooLong,
-    /// The program isn't played yet.
-    NotYet,
     /// It is no program.
     Text(f77_source::Code),
 }
@@ -32,7 +31,6 @@ impl Code {
     {
         match self {
             Code::TooLong => "TOOLONG",
-            Code::NotYet => "NOTYET",
             Code::Text(code) => text_name(code),
         }
     }
@@ -86,6 +84,7 @@ pub fn read_program<S: Source>(
 ) -> Result<Program, NoProgram>
     ensures reads { IfSome (S.left source.old) (λ bytes. IsReadAs (reading dialect bytes) result) }
     ensures well_formed { IfOk result (λ program. IsWellFormed program) }
+    ensures few { IfOk result (λ program. number_of_classes program < 1024) }
     ensures taken { IsReadFor (S.left source.old) (S.left source.new) result }
     ensures within { IsReadWithin (S.left source.old) (S.left source.new) }
 
@@ -109,6 +108,7 @@ fn read_text(alloc: Global, bytes: &[u8], dialect: Dialect) -> Result<Program, N
     requires { length bytes.now ≤ most_bytes }
     ensures reads { IsReadAs (reading dialect bytes.now) result }
     ensures well_formed { IfOk result (λ program. IsWellFormed program) }
+    ensures few { IfOk result (λ program. number_of_classes program < 1024) }
     ensures read { IsErrOf result NoProgram.ReadFault → ⊥ }
 {
     match f77_source::read_program(alloc, bytes, dialect == Dialect::Checked) {

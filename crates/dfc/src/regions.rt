@@ -3,8 +3,7 @@
 ghost use Rattle.std.specs.Prelude.{◌≡◌, ◌≢◌, ◌≤◌, ◌<◌, [], ◌++◌, length, IfOk, OnOk, OnErr};
 ghost use Rattle.std.specs.Io.KnownBytes.{Appends};
 ghost use Rattle.closed_walks.specs.Graph.{edge_count};
-ghost use Rattle.closed_walks.specs.Numbering.{fresh, IsNumbering};
-ghost use Rattle.closed_walks.specs.Walk.{IsStrong};
+ghost use Rattle.closed_walks.specs.Numbering.{fresh};
 ghost use Rattle.df_io.specs.Faults.{Rose};
 ghost use Rattle.df_io.specs.TextBuffer.{IsWrittenBut};
 ghost use Rattle.df_io.specs.Write.{AppendsFront};
@@ -14,21 +13,21 @@ ghost use Rattle.dfc.specs.Answers.{AnswersAs};
 ghost use Rattle.dfc.specs.Due.{IsDueOn};
 ghost use Rattle.dfc.specs.Found.{IsFoundOf, text_of};
 ghost use Rattle.dfc.specs.Headline.{MeansOn};
+ghost use Rattle.dfc.specs.Words.{Regions};
 ghost use Rattle.dfc.specs.Regions.{piece_lines, edge_lines, region_lines};
 
+use crate::making::edge_numbers;
 use crate::region_line::{counts_line, edge_line, piece_line, region_line};
 use crate::status::Status;
-use crate::words::Task;
 use cfg_build::{Flow, flow_of};
 use closed_walks::Digraph;
-use cycle_equiv::{edge_classes, one_numbering};
+use cycle_equiv::one_numbering;
 use df_io::{NoMemory, Sink, TextBuffer, WriteFault};
 use f77_tree::Program;
 use region_tree::{RegionTree, one_tree, region_tree};
 use std::alloc::Global;
 use std::marker::Brand;
-use std::sync::ledger::{Blank, Ledger};
-use step_count::Steps;
+use std::sync::ledger::Blank;
 
 /// What is found of a flow graph, and the buffer through which it is told.
 #[derive(Drop)]
@@ -42,8 +41,8 @@ struct Found {
 /// Tells the regions of a program. All memory is taken before the first byte is written.
 pub fn tell_regions<K: Sink>(alloc: Global, program: &Program, sink: &mut K) -> Status
     requires { IsWellFormed program.now }
-    ensures due { AnswersAs (IsDueOn Task.Regions program.now) (K.got sink.old) (K.got sink.new) result }
-    ensures means { result ≢ Status.NoMemory → MeansOn Task.Regions program.now }
+    ensures due { AnswersAs (IsDueOn Regions program.now) (K.got sink.old) (K.got sink.new) result }
+    ensures means { result ≢ Status.NoMemory → MeansOn Regions program.now }
     ensures words { result ≢ Status.Usage }
     ensures reads { result ≢ Status.ReadFault }
     ensures later { K.faults sink.old ≤ K.faults sink.new }
@@ -66,7 +65,7 @@ fn find(alloc: Global, program: &Program) -> Result<Found, NoMemory>
     ensures { IfOk result (λ found. IsFoundOf program.now found) }
 {
     let flow = flow_of(alloc, program)?;
-    let classes = classes_of::<Brand>(alloc, flow.graph(), Blank::new(1))?;
+    let classes = edge_numbers::<Brand>(alloc, flow.graph(), Blank::new(1))?;
     let tree = region_tree(alloc, flow.graph(), &classes)?;
     Ok(Found {
         flow,
@@ -74,19 +73,6 @@ fn find(alloc: Global, program: &Program) -> Result<Found, NoMemory>
         tree,
         buffer: TextBuffer::new(alloc)?,
     })
-}
-
-// The classes of the graph's edges, counted on a ledger of their own.
-fn classes_of<L: Ledger>(alloc: Global, g: &Digraph, blank: Blank) -> Result<Vec<u32>, NoMemory>
-    requires strong { IsStrong g.now }
-    requires edge { 0 < edge_count g.now }
-    requires name { blank.name ≡ L.name }
-    requires parts { blank.parts ≡ L.parts }
-    requires some { 0 < blank.parts }
-    ensures { IfOk result (λ classes. IsNumbering g.now classes.items) }
-{
-    let mut steps: Steps<L> = Steps::new(blank);
-    edge_classes(alloc, g, &mut steps)
 }
 
 // Writes the text of what was found.

@@ -8,6 +8,23 @@ use std::test::Fail;
 const PROGRAM: &str =
     "      I=2\n      J=I+I+1\n      PRINT *,J,I\n      K=I-J\n      PRINT *,K\n      END\n";
 
+const TWO_WAYS: &str = "      I=2\n      IF(I.GT.1)J=5\n      PRINT *,J\n      END\n";
+
+const TWO_IFS: &str =
+    "      IF(I.EQ.0)J=3\n      IF(K.NE.0)M=4\n      PRINT *,J,M\n      END\n";
+
+const DIVIDES: &str =
+    "      PRINT *,1\n      I=0\n      J=5/I\n      K=4\n      PRINT *,2\n      END\n";
+
+const LOOP: &str = "      PRINT *,1\n   10 CONTINUE\n      GO TO 10\n      END\n";
+
+const TEXT_FAULT: &str = "      I=2\n      X=I\n      END\n";
+
+const READS: &str =
+    "      READ *,N,M\n      IF(N.LT.M)READ *,N\n      PRINT *,N+M\n      END\n";
+
+const GREATEST: &str = "      I=2147483647\n      PRINT *,I+1\n      END\n";
+
 /// Which calls fail.
 #[derive(Clone, Copy)]
 struct Faults {
@@ -42,38 +59,25 @@ fn check(
 }
 
 #[test]
-fn fires_straight_programs(rt: HostRuntime) -> Result<(), Fail> {
-    for (text, status, written) in [
-        (PROGRAM, 0, " 5 2\n -3\n"),
-        ("      END\n", 0, ""),
-        ("      PRINT *\n      END", 0, "\n"),
+fn fires_programs(rt: HostRuntime) -> Result<(), Fail> {
+    for (text, words, status, written) in [
+        (PROGRAM, ["fire"].as_slice(), 0, " 5 2\n -3\n"),
+        (TWO_WAYS, ["fire", "limit=7"].as_slice(), 0, " 5\n"),
+        (TWO_WAYS, ["fire", "limit=6"].as_slice(), 4, "LIMIT 6\n"),
+        (DIVIDES, ["fire"].as_slice(), 3, " 1\nTRAP DIVIDE LINE 3\n"),
         (
-            "      I=2\n      J=I*I+1\n      PRINT *,J,'A'\n      END\n",
-            0,
-            " 5 A\n",
+            LOOP,
+            ["fire", "limit=50"].as_slice(),
+            4,
+            " 1\nLIMIT 50\n",
         ),
-        (
-            "      I=2\n      GO TO 5\n    5 END\n",
-            2,
-            "REFUSED 3 NOTYET\n",
-        ),
-        (
-            "      I=2\n      X=I\n      END\n",
-            2,
-            "REFUSED 2 REALNAME\n",
-        ),
-        ("", 2, "REFUSED 1 NOEND\n"),
-        ("      I=1\n", 2, "REFUSED 2 NOEND\n"),
-        (
-            "      N=999999999+N\n      PRINT *,N-1\n      END\n",
-            0,
-            " 999999998\n",
-        ),
+        (TEXT_FAULT, ["fire"].as_slice(), 2, "REFUSED 2 REALNAME\n"),
+        ("", ["fire"].as_slice(), 2, "REFUSED 1 NOEND\n"),
     ] {
         check(
             &rt,
             rt.alloc(),
-            &["fire"],
+            words,
             text.as_bytes(),
             &NONE,
             status,
@@ -84,18 +88,18 @@ fn fires_straight_programs(rt: HostRuntime) -> Result<(), Fail> {
 }
 
 #[test]
-fn takes_the_dialect_and_data(rt: HostRuntime) -> Result<(), Fail> {
-    let text = "      I=2\n      PRINT *,I+1\n      END\n";
-    for (words, status, written) in [
-        (["fire", "data=1,-2"], 0, " 3\n"),
-        (["fire", "checked"], 2, "REFUSED 3 NOTYET\n"),
-        (["fire", "data="], 1, "USAGE\n"),
-        (["fire", "checked="], 1, "USAGE\n"),
+fn fires_by_picks(rt: HostRuntime) -> Result<(), Fail> {
+    for (text, words, status, written) in [
+        (TWO_IFS, ["fire", "limit=10", "picks=7,3,5"].as_slice(), 0, " 3 0\n"),
+        (TWO_IFS, ["fire", "limit=9", "picks=1"].as_slice(), 4, "LIMIT 9\n"),
+        (DIVIDES, ["fire", "limit=2", "picks=1"].as_slice(), 4, "LIMIT 2\n"),
+        (DIVIDES, ["fire", "limit=1"].as_slice(), 4, " 1\nLIMIT 1\n"),
+        (DIVIDES, ["fire", "picks=1"].as_slice(), 3, " 1\nTRAP DIVIDE LINE 3\n"),
     ] {
         check(
             &rt,
             rt.alloc(),
-            &words,
+            words,
             text.as_bytes(),
             &NONE,
             status,
@@ -105,7 +109,33 @@ fn takes_the_dialect_and_data(rt: HostRuntime) -> Result<(), Fail> {
     Ok(())
 }
 
-const TWO_WAYS: &str = "      I=2\n      IF(I.GT.1)J=5\n      PRINT *,J\n      END\n";
+#[test]
+fn takes_data_and_the_dialect(rt: HostRuntime) -> Result<(), Fail> {
+    for (text, words, status, written) in [
+        (READS, ["fire", "data=3,5,-4"].as_slice(), 0, " 1\n"),
+        (READS, ["fire", "picks=1", "data=9,5"].as_slice(), 0, " 14\n"),
+        (READS, ["fire", "data=3"].as_slice(), 3, "TRAP INPUT LINE 1\n"),
+        (READS, ["fire", "data="].as_slice(), 1, "USAGE\n"),
+        (GREATEST, ["fire"].as_slice(), 0, " -2147483648\n"),
+        (
+            GREATEST,
+            ["fire", "checked"].as_slice(),
+            3,
+            "TRAP OVERFLOW LINE 2\n",
+        ),
+    ] {
+        check(
+            &rt,
+            rt.alloc(),
+            words,
+            text.as_bytes(),
+            &NONE,
+            status,
+            written,
+        )?;
+    }
+    Ok(())
+}
 
 const REGIONS: &str = "PIECES 7 EDGES 8 CLASSES 3 REGIONS 5
 P 0 START 0

@@ -1,10 +1,12 @@
-ghost use Rattle.std.specs.Prelude.{◌≡◌, ◌≢◌, ◌≤◌, map, IfSome};
+ghost use Rattle.std.specs.Prelude.{◌≡◌, ◌≢◌, ◌≤◌, ◌<◌, map, IfSome};
 ghost use Rattle.std.specs.String.{string_bytes};
 ghost use Rattle.df_io.specs.Faults.{Rose};
 ghost use Rattle.f77_tree.specs.WellFormed.{IsWellFormed};
+ghost use Rattle.alias_classes.specs.Number.{number_of_classes};
 ghost use Rattle.dfc.specs.Answers.{Answers, AnswersAs, Blames, HasAll, IsUnwritten, ReadsFor, ReadsText, TellsWords, code_of};
 ghost use Rattle.dfc.specs.Due.{IsDue, IsDueFor, IsDueOn, IsDueRead};
 ghost use Rattle.dfc.specs.Headline.{MeansFor, MeansOn, MeansRead};
+ghost use Rattle.dfc.specs.Meant.{IsJob, IsTask, job_meant, task_meant};
 ghost use Rattle.dfc.specs.Reading.{reading};
 ghost use Rattle.dfc.specs.Words.{job_of};
 
@@ -54,12 +56,13 @@ pub fn dfc_main<S: Source, K: Sink>(
 }
 
 // Does what some words ask for.
-fn do_job<S: Source, K: Sink>(alloc: Global, job: Job, source: &mut S, sink: &mut K) -> Status
-    ensures due { IfSome (S.left source.old) (λ bytes. AnswersAs (IsDueFor (Some job) bytes) (K.got sink.old) (K.got sink.new) result) }
+fn do_job<S: Source, K: Sink>(alloc: Global, job: Job<'_>, source: &mut S, sink: &mut K) -> Status
+    requires { IsJob job }
+    ensures due { IfSome (S.left source.old) (λ bytes. AnswersAs (IsDueFor (Some (job_meant job.entry)) bytes) (K.got sink.old) (K.got sink.new) result) }
     ensures words { result ≢ Status.Usage }
     ensures unwritten { IsUnwritten (K.got sink.old) (K.got sink.new) (code_of result) }
-    ensures means { HasAll (code_of result) → IfSome (S.left source.old) (MeansFor (Some job)) }
-    ensures takes { ReadsFor S.left (Some job) source.old source.new (code_of result) }
+    ensures means { HasAll (code_of result) → IfSome (S.left source.old) (MeansFor (Some (job_meant job.entry))) }
+    ensures takes { ReadsFor S.left (Some (job_meant job.entry)) source.old source.new (code_of result) }
     ensures blames { Blames (S.faults source.old) (S.faults source.new) (K.faults sink.old) (K.faults sink.new) (code_of result) }
 {
     match job {
@@ -70,15 +73,16 @@ fn do_job<S: Source, K: Sink>(alloc: Global, job: Job, source: &mut S, sink: &mu
 // Does a task on the program of the text that the source has.
 fn on_text<S: Source, K: Sink>(
     alloc: Global,
-    task: Task,
+    task: Task<'_>,
     dialect: Dialect,
     source: &mut S,
     sink: &mut K,
 ) -> Status
-    ensures due { IfSome (S.left source.old) (λ bytes. AnswersAs (IsDueRead task (reading dialect bytes)) (K.got sink.old) (K.got sink.new) result) }
+    requires { IsTask task }
+    ensures due { IfSome (S.left source.old) (λ bytes. AnswersAs (IsDueRead (task_meant task.entry) (reading dialect bytes)) (K.got sink.old) (K.got sink.new) result) }
     ensures words { result ≢ Status.Usage }
     ensures unwritten { IsUnwritten (K.got sink.old) (K.got sink.new) (code_of result) }
-    ensures means { HasAll (code_of result) → IfSome (S.left source.old) (λ bytes. MeansRead task (reading dialect bytes)) }
+    ensures means { HasAll (code_of result) → IfSome (S.left source.old) (λ bytes. MeansRead (task_meant task.entry) (reading dialect bytes)) }
     ensures takes { ReadsText (S.left source.old) (S.left source.new) (code_of result) }
     ensures blames { Blames (S.faults source.old) (S.faults source.new) (K.faults sink.old) (K.faults sink.new) (code_of result) }
 {
@@ -91,17 +95,19 @@ fn on_text<S: Source, K: Sink>(
 }
 
 // Does a task on a program.
-fn on_program<K: Sink>(alloc: Global, task: Task, program: &Program, sink: &mut K) -> Status
-    requires { IsWellFormed program.now }
-    ensures due { AnswersAs (IsDueOn task program.now) (K.got sink.old) (K.got sink.new) result }
+fn on_program<K: Sink>(alloc: Global, task: Task<'_>, program: &Program, sink: &mut K) -> Status
+    requires task { IsTask task }
+    requires program { IsWellFormed program.now }
+    requires few { number_of_classes program.now < 1024 }
+    ensures due { AnswersAs (IsDueOn (task_meant task.entry) program.now) (K.got sink.old) (K.got sink.new) result }
     ensures words { result ≢ Status.Usage }
     ensures reads { result ≢ Status.ReadFault }
-    ensures means { result ≢ Status.NoMemory → MeansOn task program.now }
+    ensures means { result ≢ Status.NoMemory → MeansOn (task_meant task.entry) program.now }
     ensures later { K.faults sink.old ≤ K.faults sink.new }
     ensures fault { result ≡ Status.WriteFault → Rose (K.faults sink.old) (K.faults sink.new) }
 {
     match task {
         Task::Regions => tell_regions(alloc, program, sink),
-        Task::Play => play(alloc, program, sink),
+        Task::Play(words) => play(alloc, words, program, sink),
     }
 }

@@ -1,14 +1,3 @@
-mod Distances
-mod Searches
-mod StepLemmas
-mod InStepLemmas
-mod ReadLemmas
-mod RouteLemmas
-mod NeedLemmas
-mod MoveLemmas
-mod FireLemmas
-mod FollowLemmas
-mod SimplePrograms
 mod OneWays
 mod TouchKinds
 mod EndsOnly

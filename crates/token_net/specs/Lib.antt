@@ -1,10 +1,3 @@
-pub mod Needs
-pub mod Playable
-pub mod Marking
-pub mod InStep
-pub mod StraightNet
-pub mod Firing
-pub mod Following
 pub mod Nodes
 pub mod Tokens
 pub mod NetOrder

@@ -16,8 +16,8 @@ loop-line-preserved g c =
     (AreRows-more c.args.g.now c.args.t.now (touches_in c.args.touch.now) c.loop-line.line c.loop-line.next.items c.loop-line.wires.items rows.next.items rows.wires.items
     c.loop-line.invariant c.in_ok-rows.ensures.next c.in_ok-rows.ensures.wires)
 
-pub returns : goal.returns
-returns g c =
+pub returns-clause-routing : goal.returns-clause-routing
+returns-clause-routing g c =
     let graph = c.args.g.now in
     let m = edge_count graph in
     let all : c.loop-line.line ≡ c.args.lines = omega (arith, c.loop-line-test.false, c.loop-line.auto.line-end) in

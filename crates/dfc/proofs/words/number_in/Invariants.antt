@@ -8,6 +8,6 @@ abbrev pub invariant-loop-b : goal.invariant-loop-b
 invariant-loop-b l = record {
   value : l.number ≡ number (take l.b-index l.digits);
   small : l.number < 10 ^ l.b-index;
-  few : length l.digits ≤ 10;
+  few : length l.digits ≤ 18;
   figures : list_all is_figure l.digits ≡ true;
 }

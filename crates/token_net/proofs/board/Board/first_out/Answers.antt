@@ -1,6 +1,5 @@
-use Rattle.std.proofs.Common.{◌≡◌, ◌<◌, ℕ, List, slice_index, subst, ap, sym, ◌∙◌, arith}
-use Rattle.closed_walks.specs.Graph.{Graph, edge_count}
-use Rattle.cfg_build.specs.Joined.{FlowGraph}
+use Rattle.std.proofs.Common.{◌≡◌, ◌<◌, ℕ, List, slice_index, subst, ap, sym, ◌∙◌}
+use Rattle.closed_walks.specs.Graph.{edge_count}
 use Rattle.cfg_build.specs.Passes.{out}
 use Rattle.token_net.specs.BoardView.{net_on}
 use Rattle.token_net.specs.Nodes.{graph_in}
