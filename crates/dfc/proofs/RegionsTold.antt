@@ -12,7 +12,7 @@ use Rattle.df_io.proofs.LongTexts.{fault_at_piece}
 use Rattle.f77_tree.specs.declared.programs.Program.{Program}
 use Rattle.region_tree.specs.Tree.{Tree, IsRegionTree, region_count}
 use Rattle.dfc.specs.declared.regions.Found.{Found}
-use Rattle.dfc.specs.declared.words.Task.TheVariants.{Regions}
+use Rattle.dfc.specs.Words.{Regions}
 use Rattle.dfc.specs.Due.{Due, IsDueOn, done}
 use Rattle.dfc.specs.Found.{IsFoundOf, text_of}
 use Rattle.dfc.specs.Headline.{Means, MeansOn}

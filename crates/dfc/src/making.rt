@@ -60,7 +60,11 @@ fn alias_classes_of(alloc: Global, program: &Program) -> Result<Classes<'_, 16>,
 }
 
 /// The classes of cycle equivalent edges, counted on a ledger of their own.
-pub fn edge_numbers<L: Ledger>(alloc: Global, g: &Digraph, blank: Blank) -> Result<Vec<u32>, NoMemory>
+pub fn edge_numbers<L: Ledger>(
+    alloc: Global,
+    g: &Digraph,
+    blank: Blank,
+) -> Result<Vec<u32>, NoMemory>
     requires strong { IsStrong g.now }
     requires edge { 0 < edge_count g.now }
     requires name { blank.name ≡ L.name }

@@ -10,8 +10,7 @@ const PROGRAM: &str =
 
 const TWO_WAYS: &str = "      I=2\n      IF(I.GT.1)J=5\n      PRINT *,J\n      END\n";
 
-const TWO_IFS: &str =
-    "      IF(I.EQ.0)J=3\n      IF(K.NE.0)M=4\n      PRINT *,J,M\n      END\n";
+const TWO_IFS: &str = "      IF(I.EQ.0)J=3\n      IF(K.NE.0)M=4\n      PRINT *,J,M\n      END\n";
 
 const DIVIDES: &str =
     "      PRINT *,1\n      I=0\n      J=5/I\n      K=4\n      PRINT *,2\n      END\n";
@@ -20,8 +19,7 @@ const LOOP: &str = "      PRINT *,1\n   10 CONTINUE\n      GO TO 10\n      END\n
 
 const TEXT_FAULT: &str = "      I=2\n      X=I\n      END\n";
 
-const READS: &str =
-    "      READ *,N,M\n      IF(N.LT.M)READ *,N\n      PRINT *,N+M\n      END\n";
+const READS: &str = "      READ *,N,M\n      IF(N.LT.M)READ *,N\n      PRINT *,N+M\n      END\n";
 
 const GREATEST: &str = "      I=2147483647\n      PRINT *,I+1\n      END\n";
 
@@ -65,12 +63,7 @@ fn fires_programs(rt: HostRuntime) -> Result<(), Fail> {
         (TWO_WAYS, ["fire", "limit=7"].as_slice(), 0, " 5\n"),
         (TWO_WAYS, ["fire", "limit=6"].as_slice(), 4, "LIMIT 6\n"),
         (DIVIDES, ["fire"].as_slice(), 3, " 1\nTRAP DIVIDE LINE 3\n"),
-        (
-            LOOP,
-            ["fire", "limit=50"].as_slice(),
-            4,
-            " 1\nLIMIT 50\n",
-        ),
+        (LOOP, ["fire", "limit=50"].as_slice(), 4, " 1\nLIMIT 50\n"),
         (TEXT_FAULT, ["fire"].as_slice(), 2, "REFUSED 2 REALNAME\n"),
         ("", ["fire"].as_slice(), 2, "REFUSED 1 NOEND\n"),
     ] {
@@ -90,11 +83,31 @@ fn fires_programs(rt: HostRuntime) -> Result<(), Fail> {
 #[test]
 fn fires_by_picks(rt: HostRuntime) -> Result<(), Fail> {
     for (text, words, status, written) in [
-        (TWO_IFS, ["fire", "limit=10", "picks=7,3,5"].as_slice(), 0, " 3 0\n"),
-        (TWO_IFS, ["fire", "limit=9", "picks=1"].as_slice(), 4, "LIMIT 9\n"),
-        (DIVIDES, ["fire", "limit=2", "picks=1"].as_slice(), 4, "LIMIT 2\n"),
+        (
+            TWO_IFS,
+            ["fire", "limit=10", "picks=7,3,5"].as_slice(),
+            0,
+            " 3 0\n",
+        ),
+        (
+            TWO_IFS,
+            ["fire", "limit=9", "picks=1"].as_slice(),
+            4,
+            "LIMIT 9\n",
+        ),
+        (
+            DIVIDES,
+            ["fire", "limit=2", "picks=1"].as_slice(),
+            4,
+            "LIMIT 2\n",
+        ),
         (DIVIDES, ["fire", "limit=1"].as_slice(), 4, " 1\nLIMIT 1\n"),
-        (DIVIDES, ["fire", "picks=1"].as_slice(), 3, " 1\nTRAP DIVIDE LINE 3\n"),
+        (
+            DIVIDES,
+            ["fire", "picks=1"].as_slice(),
+            3,
+            " 1\nTRAP DIVIDE LINE 3\n",
+        ),
     ] {
         check(
             &rt,
@@ -113,8 +126,18 @@ fn fires_by_picks(rt: HostRuntime) -> Result<(), Fail> {
 fn takes_data_and_the_dialect(rt: HostRuntime) -> Result<(), Fail> {
     for (text, words, status, written) in [
         (READS, ["fire", "data=3,5,-4"].as_slice(), 0, " 1\n"),
-        (READS, ["fire", "picks=1", "data=9,5"].as_slice(), 0, " 14\n"),
-        (READS, ["fire", "data=3"].as_slice(), 3, "TRAP INPUT LINE 1\n"),
+        (
+            READS,
+            ["fire", "picks=1", "data=9,5"].as_slice(),
+            0,
+            " 14\n",
+        ),
+        (
+            READS,
+            ["fire", "data=3"].as_slice(),
+            3,
+            "TRAP INPUT LINE 1\n",
+        ),
         (READS, ["fire", "data="].as_slice(), 1, "USAGE\n"),
         (GREATEST, ["fire"].as_slice(), 0, " -2147483648\n"),
         (
