@@ -1,7 +1,8 @@
 //! Writes the lines of tokens of a program, whose text comes on standard input: the classes with their names, which lines each
 //! piece touches, the wires of each line, and to which edges it is led past quiet regions. With the word `values` it writes what is
-//! known of the values of words and expressions besides. With the word `nodes`, then at will how many at most, picks, and data, it writes the nodes of its net as they fire. With the word `time` it tells on standard error how long it takes to find all
-//! this instead.
+//! known of the values of words and expressions besides. With the word `nodes` it writes the nodes of the program's net instead, as
+//! they fire; behind it may stand how many at most, picks, and data. With the word `time` it tells on standard error how long it
+//! takes to find all this.
 #![tactic(auto)]
 
 ghost use Rattle.f77_tree.specs.WellFormed.{IsWellFormed};
