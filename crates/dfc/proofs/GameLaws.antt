@@ -1,27 +1,21 @@
 -- What games mean, from what is known of nets and runs.
-use Rattle.std.proofs.Common.{◌≡◌, ◌≢◌, ℕ, suc, ◌<◌, ◌≤◌, ℤ, List, [], length, Some, refl, sym, ap, subst, ◌∙◌}
+use Rattle.std.proofs.Common.{◌≡◌, ◌≢◌, ℕ, suc, ◌≤◌, List, [], length, sym, ap, subst, ◌∙◌}
 use Rattle.closed_walks.specs.Region.{IsFlowGraph}
 use Rattle.f77_tree.specs.declared.programs.Program.{Program}
-use Rattle.alias_classes.specs.Classes.{ClassTable, IsClasses, class_count}
-use Rattle.alias_classes.specs.Number.{number_of_classes}
 use Rattle.cfg_build.specs.Flow.{flow}
 use Rattle.firing.specs.declared.playing.PlayEnd.{PlayEnd}
 use Rattle.firing.specs.declared.playing.PlayEnd.TheVariants.{Rest, Trapped, Limit, WriteFault}
 use Rattle.firing.specs.declared.playing.Show.TheVariants.{Output}
 use Rattle.firing.specs.Orders.{IsOver, after}
-use Rattle.firing.specs.Play.{Moment, Way, by_order, moment, shown}
-use Rattle.firing.specs.Runs.{HasOrder, IsRun}
-use Rattle.firing.specs.SourceOrder.{IsDueOrder}
-use Rattle.token_net.specs.declared.control.Control.{Control}
-use Rattle.token_net.specs.Belonging.{IsNet}
-use Rattle.token_net.specs.NetOrder.{first_control, net_course}
+use Rattle.firing.specs.Play.{shown}
+use Rattle.firing.specs.Runs.{IsRun}
+use Rattle.token_net.specs.NetOrder.{first_control}
 use Rattle.token_net.specs.Nodes.{NetOf}
 use Rattle.token_net.specs.OwnOrder.{own_order}
-use Rattle.token_net.specs.Tokens.{Tokens, first_tokens, net_moves}
-use Rattle.dfc.specs.Due.{Due, IsDueBy, IsDuePlay, IsPlayed, IsPlayedBy}
-use Rattle.dfc.specs.Game.{IsNetOn, opening, way_of}
+use Rattle.token_net.specs.Tokens.{first_tokens, net_moves}
+use Rattle.dfc.specs.Due.{Due, IsDueBy, IsDuePlay, IsPlayedBy}
+use Rattle.dfc.specs.Game.{opening, way_of}
 use Rattle.dfc.specs.Headline.{MeansOn, MeansPlay, line_count}
-use Rattle.dfc.specs.Pace.{KeepsPace}
 use Rattle.dfc.specs.Words.{Asked, Play}
 use Rattle.dfc.specs.GameLaws.{GameLaws}
 use Rattle.dfc.proofs.GameMeans.{done_by, fails_by, front_of_run, rests, traps}

@@ -1,6 +1,5 @@
 -- What a game means for the run of its program.
-use Rattle.std.proofs.Common.{◌≡◌, ◌≢◌, ℕ, zero, suc, ◌+◌, ◌-◌, ◌*◌, ◌<◌, ◌≤◌, ℤ, List, [], ◌∷◌, length, Option, Some, None, refl, sym, ap, subst, ◌∙◌, ⊎_elim, arith}
-use Rattle.std.proofs.lemmas.Bool.{cases_eq}
+use Rattle.std.proofs.Common.{◌≡◌, ◌≢◌, ℕ, zero, suc, ◌+◌, ◌-◌, ◌*◌, ◌≤◌, ℤ, List, [], length, Option, Some, None, refl, sym, ap, subst, ◌∙◌, arith}
 use Rattle.std.proofs.Math.Nat.{mul-le-mul_left, mul-le-mul_right}
 use Rattle.op_table.specs.declared.Trap.{Trap}
 use Rattle.f77_tree.specs.declared.programs.Program.{Program}
@@ -12,9 +11,9 @@ use Rattle.firing.specs.declared.playing.PlayEnd.{PlayEnd}
 use Rattle.firing.specs.declared.playing.PlayEnd.TheVariants.{Rest, Trapped, Limit, WriteFault}
 use Rattle.firing.specs.declared.playing.Show.TheVariants.{Output}
 use Rattle.firing.specs.Moves.{CanFire}
-use Rattle.firing.specs.Orders.{IsOver, IsPrefix, IsWhole, after, written}
+use Rattle.firing.specs.Orders.{IsOver, IsPrefix, after, written}
 use Rattle.firing.specs.Pacing.{EndsWith, Going, Done, Failed, Stage, StandsAt, TrapsWith, WritesFront}
-use Rattle.firing.specs.Play.{EndsBy, Way, moment, node_at, played, shown}
+use Rattle.firing.specs.Play.{Way, node_at, played, shown}
 use Rattle.firing.specs.Runs.{HasOrder, IsRun}
 use Rattle.token_net.specs.declared.control.Control.{Control}
 use Rattle.token_net.specs.Nodes.{NetOf}
@@ -23,10 +22,10 @@ use Rattle.token_net.specs.StepPace.{program_stage, program_text, stage_of}
 use Rattle.token_net.specs.Tokens.{Tokens, first_tokens, net_moves}
 use Rattle.dfc.specs.declared.status.Status.{Status}
 use Rattle.dfc.specs.declared.status.Status.TheVariants as status
-use Rattle.dfc.specs.Due.{Due, IsDueBy, IsPlayed, IsPlayedBy, trapped}
-use Rattle.dfc.specs.Game.{IsNetOn, opening, way_by, way_of}
+use Rattle.dfc.specs.Due.{Due, IsDueBy, IsPlayed, trapped}
+use Rattle.dfc.specs.Game.{opening, way_of}
 use Rattle.dfc.specs.GameLaws.{StopFirst}
-use Rattle.dfc.specs.Headline.{IsFrontOfRun, MeansPlay, MeansRest, MeansTrap, bound_of, line_count}
+use Rattle.dfc.specs.Headline.{IsFrontOfRun, MeansRest, MeansTrap, bound_of, line_count}
 use Rattle.dfc.specs.Pace.{KeepsPace}
 use Rattle.dfc.specs.Words.{Asked}
 

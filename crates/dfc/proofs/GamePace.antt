@@ -1,5 +1,5 @@
 -- Nets keep pace with their programs, by what lower layers tell.
-use Rattle.std.proofs.Common.{◌≡◌, ◌*◌, ◌≤◌, ℕ, ℤ, Bool, List, All, length, sym, subst}
+use Rattle.std.proofs.Common.{◌*◌, ◌≤◌, ℕ, ℤ, Bool, List, All, length, sym, subst}
 use Rattle.op_table.specs.Words.{IsWord}
 use Rattle.f77_tree.specs.declared.programs.Program.{Program}
 use Rattle.cfg_build.specs.Flow.{flow}

@@ -1,6 +1,6 @@
 -- What lower layers tell of nets, their runs and their programs, as what games mean needs it. No public clause cites this module by
 -- itself.
-use Rattle.std.specs.Prelude.{◌≡◌, ◌≢◌, ◌<◌, ◌≤◌, ℕ, ℤ, Bool, List, length, Some}
+use Rattle.std.specs.Prelude.{◌≡◌, ◌≢◌, ◌≤◌, ℕ, ℤ, Bool, List, length, Some}
 use Rattle.closed_walks.specs.Graph.{Graph}
 use Rattle.closed_walks.specs.Region.{IsFlowGraph}
 use Rattle.region_tree.specs.Tree.{Tree, IsRegionTree}

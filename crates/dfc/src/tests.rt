@@ -295,6 +295,75 @@ fn blames_what_failed(rt: HostRuntime) -> Result<(), Fail> {
     )
 }
 
+// What is written where a call of the source or of the sink fails, with the status.
+fn failing(
+    alloc: Global,
+    words: &[&str],
+    text: &str,
+    faults: &Faults,
+) -> Result<(u8, MemSink), Fail> {
+    let mut given = Vec::new(alloc);
+    for word in words {
+        given.push(String::from_str(alloc, word)?)?;
+    }
+    let mut source = MemSource::new(alloc, text.as_bytes(), &faults.source, 16)?;
+    let mut sink = MemSink::new(alloc, 1000, &faults.sink, 2)?;
+    let status = dfc_main(alloc, &given, &mut source, &mut sink);
+    Ok((status, sink))
+}
+
+// Programs with the words for them, and what is due.
+const ROWS: [(&str, &[&str], u8, &str); 4] = [
+    (TWO_IFS, &["fire", "picks=7,3,5"], 0, " 3 0\n"),
+    (DIVIDES, &["fire", "picks=1"], 3, " 1\nTRAP DIVIDE LINE 3\n"),
+    (LOOP, &["fire", "limit=50"], 4, " 1\nLIMIT 50\n"),
+    (TEXT_FAULT, &["fire"], 2, "REFUSED 2 REALNAME\n"),
+];
+
+#[test]
+fn blames_each_read(rt: HostRuntime) -> Result<(), Fail> {
+    for (text, words, status, due) in ROWS {
+        for call in 0..8 {
+            let faults = Faults {
+                source: [call],
+                sink: [u32::MAX],
+            };
+            let (answer, sink) = failing(rt.alloc(), words, text, &faults)?;
+            // The text comes in pieces of 16 bytes, and one call more tells its end.
+            let fails = call as usize <= text.len().div_ceil(16);
+            assert_eq!(&rt; answer, if fails { 5 } else { status });
+            assert_eq!(&rt;
+                sink.written(),
+                if fails {
+                    b"".as_slice()
+                } else {
+                    due.as_bytes()
+                }
+            );
+        }
+    }
+    Ok(())
+}
+
+#[test]
+fn blames_each_write(rt: HostRuntime) -> Result<(), Fail> {
+    for (text, words, status, due) in ROWS {
+        for call in 0..20 {
+            let faults = Faults {
+                source: [u32::MAX],
+                sink: [call],
+            };
+            let (answer, sink) = failing(rt.alloc(), words, text, &faults)?;
+            let fails = sink.written() != due.as_bytes();
+            assert_eq!(&rt; answer, if fails { 6 } else { status });
+            assert_eq!(&rt; due.as_bytes().starts_with(sink.written()), true);
+            // Each call takes two bytes at most.
+            assert_eq!(&rt; fails || call as usize >= due.len() / 2, true);
+        }
+    }
+    Ok(())
+}
+
 #[test]
 fn refuses_long_texts(rt: HostRuntime) -> Result<(), Fail> {
     let text = vec![in rt.alloc(); b'\n'; 4_194_305]?;

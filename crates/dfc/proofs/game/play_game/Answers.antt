@@ -1,5 +1,4 @@
-use Rattle.std.proofs.Common.{ℕ}
-use Rattle.firing.specs.Play.{Way, moment}
+use Rattle.firing.specs.Play.{moment}
 use Rattle.dfc.specs.Game.{way_by}
 use Rattle.dfc.proofs.GameTold.{fault_told, has_end, limit_told, rest_told, trap_told}
 use Rattle.dfc.proofs.game.play_game.Goals as goal

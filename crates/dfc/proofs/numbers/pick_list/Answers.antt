@@ -1,9 +1,9 @@
-use Rattle.std.proofs.Common.{◌≡◌, ℕ, ℤ, ◌+◌, List, [], ◌∷◌, ◌++◌, length, sym, ap, subst, ◌∙◌, true, false, ◌==◌, arith}
+use Rattle.std.proofs.Common.{◌≡◌, ℕ, ◌+◌, List, [], ◌∷◌, ◌++◌, sym, ap, subst, ◌∙◌, true, false, ◌==◌, arith}
 use Rattle.std.proofs.lemmas.Bool.Decides.{nat_tests}
 use Rattle.fixed_form.specs.Columns.{number}
 use Rattle.dfc.specs.Words.{is_piece}
 use Rattle.dfc.specs.declared.words.Setting.TheVariants.{Picks}
-use Rattle.dfc.proofs.Pieces.{AreTaken, all_taken, last_good, taken_last, taken_more, taken_on}
+use Rattle.dfc.proofs.Pieces.{AreTaken, taken_more, taken_on}
 use Rattle.dfc.proofs.numbers.pick_list.Goals as goal
 use Rattle.dfc.proofs.numbers.pick_list.Goals.{then-c-eq44+in_ok-push, else-c-eq44}
 
