@@ -26,7 +26,7 @@ mul-one_more n m = rw add-one (mul-suc n m)
 
 module _ (p : Program) (f : FlowGraph) (c : ClassTable) (touches : ℕ → ℕ → Bool) (r : Routing) where
   abbrev at : Work → Knowns
-  at w = so_far (edge_count f.graph) w
+  at w = so_far r.lines w
 
   -- what a ready piece decides is due
   pub decided-due : AreCovered p f c touches r.lines → (t b : Knowns) (e : ℕ) → IsFound p f c touches r t → IsClosed p f c touches r b → IsReady f touches r.lines t e → is_switch (kind_behind f e) ≡ true → AtMost (decided_behind p f c t e) (b.decision (to f.graph e))

@@ -43,7 +43,7 @@ Among items i line = (k : ℕ) × (k < i) × (get_or items k 0 ≡ line)
 
 module _ (p : Program) (f : FlowGraph) (c : ClassTable) (touches : ℕ → ℕ → Bool) (r : Routing) (a : AreCovered p f c touches r.lines) (two : 1 < edge_count f.graph) (next : (line e : ℕ) → line < r.lines → e < edge_count f.graph → next_at r line e < edge_count f.graph) where
   abbrev at : Work → Knowns
-  at w = so_far (edge_count f.graph) w
+  at w = so_far r.lines w
 
   -- what a piece leaves on a line
   abbrev pub LeavesOn : Knowns → (e line : ℕ) → Known → Type 0

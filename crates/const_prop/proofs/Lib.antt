@@ -1,4 +1,5 @@
 pub mod Cells
+pub mod Filling
 pub mod Counting
 pub mod Expressions
 pub mod Order

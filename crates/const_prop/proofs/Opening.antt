@@ -24,11 +24,11 @@ nothing n k = ⊎_elim
 
 module _ (p : Program) (f : FlowGraph) (c : ClassTable) (touches : ℕ → ℕ → Bool) (r : Routing) where
   abbrev at : Work → Knowns
-  at w = so_far (edge_count f.graph) w
+  at w = so_far r.lines w
 
   pub blank-settling : (w : Work) → IsBlank f r w → IsSettlingFrom p f c touches r 0 0 no_line no_piece w
   blank-settling w b =
-      let value : (line e : ℕ) → (at w).value line e ≡ Nothing = λ line e. ap (λ (xs : List Known). get_or xs (line * edge_count f.graph + e) Nothing) b.values ∙ nothing (r.lines * edge_count f.graph) (line * edge_count f.graph + e) in
+      let value : (line e : ℕ) → (at w).value line e ≡ Nothing = λ line e. ap (λ (xs : List Known). get_or xs (e * r.lines + line) Nothing) b.values ∙ nothing (r.lines * edge_count f.graph) (e * r.lines + line) in
       let decision : (k : ℕ) → (at w).decision k ≡ Nothing = λ k. ap (λ (xs : List Known). get_or xs k Nothing) b.decisions ∙ nothing f.graph.nodes k in
       record {
         sized = record { values = ap length b.values ∙ length-replicate (r.lines * edge_count f.graph) Nothing; decisions = ap length b.decisions ∙ length-replicate f.graph.nodes Nothing; waits = ap length b.waits ∙ length-replicate (edge_count f.graph) true };

@@ -41,7 +41,7 @@ module _ (f : FlowGraph) (touches : ℕ → ℕ → Bool) (lines : ℕ) where
   edges = edge_count f.graph
 
   abbrev pub at : Work → ℕ → ℕ → Known
-  at w line e = (so_far edges w).value line e
+  at w line e = (so_far lines w).value line e
 
   pub rises-refl : (w : Work) → IsSized f lines w → Rises f touches lines w w
   rises-refl w sized = record {
@@ -75,7 +75,7 @@ module _ (f : FlowGraph) (touches : ℕ → ℕ → Bool) (lines : ℕ) where
     bounded = omega (arith, a.bounded, b.bounded);
   }
 
-  pub place_below : (w : Work) (line e place : ℕ) → IsSized f lines w → line < lines → e < edges → place ≡ line * edges + e → place < length w.values.items
+  pub place_below : (w : Work) (line e place : ℕ) → IsSized f lines w → line < lines → e < edges → place ≡ e * lines + line → place < length w.values.items
   place_below w line e place sized l k is = let inside = cell_inside lines edges line e l k in omega (arith, inside, sized.values, is)
 
   -- one cell rises
@@ -83,20 +83,20 @@ module _ (f : FlowGraph) (touches : ℕ → ℕ → Bool) (lines : ℕ) where
     pub line_in : line < lines
     pub edge_in : edge < edges
     pub sized : IsSized f lines old
-    pub values : new.values.items ≡ set old.values.items (line * edges + edge) known
+    pub values : new.values.items ≡ set old.values.items (edge * lines + line) known
     pub rise : IsRise (at old line edge) comes known
 
   module _ (old new : Work) (line edge : ℕ) (comes known : Known) (r : IsRaised old new line edge comes known) where
-    place_in : line * edges + edge < length old.values.items
+    place_in : edge * lines + line < length old.values.items
     place_in = let inside = cell_inside lines edges line edge r.line_in r.edge_in in omega (arith, inside, r.sized.values)
 
     pub raised-here : at new line edge ≡ known
-    raised-here = ap (λ (xs : List Known). get_or xs (line * edges + edge) Nothing) r.values ∙ get_or-set_at old.values.items (line * edges + edge) (line * edges + edge) known Nothing refl place_in
+    raised-here = ap (λ (xs : List Known). get_or xs (edge * lines + line) Nothing) r.values ∙ get_or-set_at old.values.items (edge * lines + line) (edge * lines + line) known Nothing refl place_in
 
-    pub raised-other : (l e : ℕ) → e < edges → ((l ≡ line) × (e ≡ edge) → ⊥) → at new l e ≡ at old l e
-    raised-other l e k other =
-        ap (λ (xs : List Known). get_or xs (l * edges + e) Nothing) r.values
-        ∙ get_or-set_other old.values.items (line * edges + edge) (l * edges + e) known Nothing (λ same. other (one_cell edges l e line edge k r.edge_in same))
+    pub raised-other : (l e : ℕ) → l < lines → ((l ≡ line) × (e ≡ edge) → ⊥) → at new l e ≡ at old l e
+    raised-other l e m other =
+        ap (λ (xs : List Known). get_or xs (e * lines + l) Nothing) r.values
+        ∙ get_or-set_other old.values.items (edge * lines + line) (e * lines + l) known Nothing (λ same. other (one_cell lines l e line edge m r.line_in same))
 
     pub here_or_not : (l e : ℕ) → ((l ≡ line) × (e ≡ edge)) ⊎ ((l ≡ line) × (e ≡ edge) → ⊥)
     here_or_not l e = ⊎_elim
@@ -114,29 +114,26 @@ module _ (f : FlowGraph) (touches : ℕ → ℕ → Bool) (lines : ℕ) where
     raised-grows l e in_l in_e = ⊎_elim
         (λ (here : (l ≡ line) × (e ≡ edge)).
         subst (λ (k : Known). AtMost k (at new l e)) (sym (raised-old l e here.0 here.1)) (subst (λ (k : Known). AtMost (at old line edge) k) (sym (raised-new l e here.0 here.1)) r.rise.grows))
-        (λ (other : (l ≡ line) × (e ≡ edge) → ⊥). at_most-is (at old l e) (at new l e) (sym (raised-other l e in_e other)))
+        (λ (other : (l ≡ line) × (e ≡ edge) → ⊥). at_most-is (at old l e) (at new l e) (sym (raised-other l e in_l other)))
         (here_or_not l e)
 
     pub raised-room : sum_by room new.values.items + 1 ≤ sum_by room old.values.items
     raised-room =
-        let e = sum_by-set room old.values.items (line * edges + edge) known Nothing place_in in
+        let e = sum_by-set room old.values.items (edge * lines + line) known Nothing place_in in
         let s = ap (sum_by room) r.values in
         omega (arith, e, s, r.rise.rises)
 
     pub raised-size : length new.values.items ≡ lines * edges
-    raised-size = ap length r.values ∙ length-set old.values.items (line * edges + edge) known ∙ r.sized.values
+    raised-size = ap length r.values ∙ length-set old.values.items (edge * lines + line) known ∙ r.sized.values
 
     pub raised-reaches : AtMost comes (at new line edge)
     raised-reaches = subst (AtMost comes) (sym raised-here) r.rise.reaches
 
-    raised-same : (l e : ℕ) → e < edges → ((l ≡ line) × (e ≡ edge) → ⊥) → at new l e ≡ at old l e
-    raised-same = raised-other
-
     -- the touched lines on other edges, and other lines, are as they were
-    pub raised-but : (P : Type 0) (l e : ℕ) → e < edges → ((l ≡ line) × (e ≡ edge) → P) → P ⊎ (at new l e ≡ at old l e)
-    raised-but P l e in_e here = ⊎_elim
+    pub raised-but : (P : Type 0) (l e : ℕ) → l < lines → ((l ≡ line) × (e ≡ edge) → P) → P ⊎ (at new l e ≡ at old l e)
+    raised-but P l e in_l here = ⊎_elim
         (λ (is : (l ≡ line) × (e ≡ edge)). inl (here is))
-        (λ (other : (l ≡ line) × (e ≡ edge) → ⊥). inr (raised-other l e in_e other))
+        (λ (other : (l ≡ line) × (e ≡ edge) → ⊥). inr (raised-other l e in_l other))
         (here_or_not l e)
 
     clash : (l e : ℕ) (b : Bool) → touches (to f.graph edge) line ≡ b → (l ≡ line) × (e ≡ edge) → touches (to f.graph e) l ≡ b
@@ -151,8 +148,8 @@ module _ (f : FlowGraph) (touches : ℕ → ℕ → Bool) (lines : ℕ) where
           sized = record { values = raised-size; decisions = ap length decisions ∙ r.sized.decisions; waits = ap length waits ∙ r.sized.waits };
           decisions = decisions;
           grows = raised-grows;
-          passed = λ l e in_l in_e t. raised-but (HoldsPair new.risen.items l e) l e in_e (λ is. subst (λ (n : ℕ). HoldsPair new.risen.items n e) (sym is.0) (subst (λ (n : ℕ). HoldsPair new.risen.items line n) (sym is.1) here));
-          seen = λ l e in_l in_e t. raised-but (is_waiting new e ≡ true) l e in_e (λ is. let no' : true ≡ false = sym t ∙ clash l e false past is in absurd cc);
+          passed = λ l e in_l in_e t. raised-but (HoldsPair new.risen.items l e) l e in_l (λ is. subst (λ (n : ℕ). HoldsPair new.risen.items n e) (sym is.0) (subst (λ (n : ℕ). HoldsPair new.risen.items line n) (sym is.1) here));
+          seen = λ l e in_l in_e t. raised-but (is_waiting new e ≡ true) l e in_l (λ is. let no' : true ≡ false = sym t ∙ clash l e false past is in absurd cc);
           kept = λ l e h. subst (λ (xs : List (ℕ × ℕ)). HoldsPair xs l e) (sym risen) (pair-left old.risen.items ((line, edge) ∷ []) l e h);
           waiting = λ e h. same e ∙ h;
           entered = λ e h. subst (λ (xs : List ℕ). Holds xs e) (sym entered) h;
@@ -174,8 +171,8 @@ module _ (f : FlowGraph) (touches : ℕ → ℕ → Bool) (lines : ℕ) where
           sized = record { values = raised-size; decisions = ap length decisions ∙ r.sized.decisions; waits = ap length waits ∙ length-set old.waits.items edge true ∙ r.sized.waits };
           decisions = decisions;
           grows = raised-grows;
-          passed = λ l e in_l in_e t. raised-but (HoldsPair new.risen.items l e) l e in_e (λ is. let no' : false ≡ true = sym t ∙ clash l e true touched is in absurd cc);
-          seen = λ l e in_l in_e t. raised-but (is_waiting new e ≡ true) l e in_e (λ is. waiting_at e is.1);
+          passed = λ l e in_l in_e t. raised-but (HoldsPair new.risen.items l e) l e in_l (λ is. let no' : false ≡ true = sym t ∙ clash l e true touched is in absurd cc);
+          seen = λ l e in_l in_e t. raised-but (is_waiting new e ≡ true) l e in_l (λ is. waiting_at e is.1);
           kept = λ l e h. subst (λ (xs : List (ℕ × ℕ)). HoldsPair xs l e) (sym risen) h;
           waiting = λ e h. ⊎_elim (λ (is : e ≡ edge). waiting_at e is) (λ (differ : e ≢ edge). other e differ ∙ h) (cases_eq e edge);
           entered = λ e h. subst (λ (xs : List ℕ). Holds xs e) (sym entered) (Holds-left old.entered.items (edge ∷ []) e h);
@@ -193,8 +190,8 @@ module _ (f : FlowGraph) (touches : ℕ → ℕ → Bool) (lines : ℕ) where
           sized = record { values = raised-size; decisions = ap length decisions ∙ r.sized.decisions; waits = ap length waits ∙ r.sized.waits };
           decisions = decisions;
           grows = raised-grows;
-          passed = λ l e in_l in_e t. raised-but (HoldsPair new.risen.items l e) l e in_e (λ is. let no' : false ≡ true = sym t ∙ clash l e true touched is in absurd cc);
-          seen = λ l e in_l in_e t. raised-but (is_waiting new e ≡ true) l e in_e (λ is. same e ∙ ap (is_waiting old) is.1 ∙ waits_here);
+          passed = λ l e in_l in_e t. raised-but (HoldsPair new.risen.items l e) l e in_l (λ is. let no' : false ≡ true = sym t ∙ clash l e true touched is in absurd cc);
+          seen = λ l e in_l in_e t. raised-but (is_waiting new e ≡ true) l e in_l (λ is. same e ∙ ap (is_waiting old) is.1 ∙ waits_here);
           kept = λ l e h. subst (λ (xs : List (ℕ × ℕ)). HoldsPair xs l e) (sym risen) h;
           waiting = λ e h. same e ∙ h;
           entered = λ e h. subst (λ (xs : List ℕ). Holds xs e) (sym entered) h;
@@ -207,16 +204,16 @@ module _ (f : FlowGraph) (touches : ℕ → ℕ → Bool) (lines : ℕ) where
 module _ (p : Program) (f : FlowGraph) (c : ClassTable) (touches : ℕ → ℕ → Bool) (r : Routing) where
   -- what was found stays so where a cell rises to no more than is due
   pub found-raised : (old new : Work) (line edge : ℕ) (comes known : Known) → IsRaised f touches r.lines old new line edge comes known → new.decisions.items ≡ old.decisions.items
-      → IsFound p f c touches r (so_far (edge_count f.graph) old)
+      → IsFound p f c touches r (so_far r.lines old)
       → ((b : Knowns) → IsClosed p f c touches r b → AtMost comes (b.value line edge))
       → (is_one_word c line ≡ false → IsNotOne comes)
-      → IsFound p f c touches r (so_far (edge_count f.graph) new)
+      → IsFound p f c touches r (so_far r.lines new)
   found-raised old new line edge comes known raised same found due one = record {
     words = λ l e in_l in_e not_one. ⊎_elim
         (λ (here : (l ≡ line) × (e ≡ edge)).
         let not_here : is_one_word c line ≡ false = subst (λ (n : ℕ). is_one_word c n ≡ false) here.0 not_one in
         subst IsNotOne (sym (raised-new f touches r.lines old new line edge comes known raised l e here.0 here.1)) (raised.rise.one (found.words line edge raised.line_in raised.edge_in not_here) (one not_here)))
-        (λ (other : (l ≡ line) × (e ≡ edge) → ⊥). subst IsNotOne (sym (raised-other f touches r.lines old new line edge comes known raised l e in_e other)) (found.words l e in_l in_e not_one))
+        (λ (other : (l ≡ line) × (e ≡ edge) → ⊥). subst IsNotOne (sym (raised-other f touches r.lines old new line edge comes known raised l e in_l other)) (found.words l e in_l in_e not_one))
         (here_or_not f touches r.lines old new line edge comes known raised l e);
     below = λ b closed. let was = found.below b closed in record {
       value = λ l e in_l in_e. ⊎_elim
@@ -225,7 +222,7 @@ module _ (p : Program) (f : FlowGraph) (c : ClassTable) (touches : ℕ → ℕ �
           (raised.rise.least (b.value l e)
           (subst (λ (k : Known). AtMost k (b.value l e)) (raised-old f touches r.lines old new line edge comes known raised l e here.0 here.1) (was.value l e in_l in_e))
           (subst (λ (n : ℕ). AtMost comes (b.value n e)) (sym here.0) (subst (λ (n : ℕ). AtMost comes (b.value line n)) (sym here.1) (due b closed)))))
-          (λ (other : (l ≡ line) × (e ≡ edge) → ⊥). subst (λ (k : Known). AtMost k (b.value l e)) (sym (raised-other f touches r.lines old new line edge comes known raised l e in_e other)) (was.value l e in_l in_e))
+          (λ (other : (l ≡ line) × (e ≡ edge) → ⊥). subst (λ (k : Known). AtMost k (b.value l e)) (sym (raised-other f touches r.lines old new line edge comes known raised l e in_l other)) (was.value l e in_l in_e))
           (here_or_not f touches r.lines old new line edge comes known raised l e);
       decision = λ piece inside. subst (λ (xs : List Known). AtMost (get_or xs piece Nothing) (b.decision piece)) (sym same) (was.decision piece inside);
     };

@@ -19,7 +19,7 @@ use Rattle.const_prop.proofs.Rows.{Holds-left, Holds-right, Holds-append}
 
 module _ (p : Program) (f : FlowGraph) (c : ClassTable) (touches : ℕ → ℕ → Bool) (r : Routing) where
   abbrev at : Work → Knowns
-  at w = so_far (edge_count f.graph) w
+  at w = so_far r.lines w
 
   pub popped-past : (w : Work) (v : List (ℕ × ℕ)) (line e : ℕ) → w.risen.items ≡ v ++ (line, e) ∷ [] → IsSettling p f c touches r no_line no_piece w → IsPast f touches r.lines line e
   popped-past w v line e are s = s.risen line e (subst (λ (xs : List (ℕ × ℕ)). HoldsPair xs line e) (sym are) (pair-last v line e))

@@ -22,7 +22,7 @@ use Rattle.const_prop.proofs.Under.{IsUnder, AreCovered, class_below, decided-le
 
 module _ (p : Program) (f : FlowGraph) (c : ClassTable) (touches : ℕ → ℕ → Bool) (r : Routing) (a : AreCovered p f c touches r.lines) (two : 1 < edge_count f.graph) (next : (line e : ℕ) → line < r.lines → e < edge_count f.graph → next_at r line e < edge_count f.graph) where
   abbrev at : Work → Knowns
-  at w = so_far (edge_count f.graph) w
+  at w = so_far r.lines w
 
   pub led_inside : (t : Knowns) (e line i : ℕ) → IsWay f t e i → line < r.lines → led_to f r e line i < edge_count f.graph
   led_inside t e line i way l = next line (get_or (outs f.graph (to f.graph e)) i 0) l (outs-edge f.graph (to f.graph e) i way.exists).0

@@ -16,7 +16,7 @@ pub record IsBelow (lines edges pieces : ℕ) (s t : Knowns) : Type 0 where
   pub value : (line e : ℕ) → line < lines → e < edges → AtMost (s.value line e) (t.value line e)
   pub decision : (piece : ℕ) → piece < pieces → AtMost (s.decision piece) (t.decision piece)
 
--- ---- what a contract sees of a `Table`: one row of all edges for each line
+-- ---- what a contract sees of a `Table`: one row of all lines for each edge
 
 pub record Held : Type 0 where
   pub lines : ℕ
@@ -24,18 +24,18 @@ pub record Held : Type 0 where
   pub values : List Known
   pub decisions : List Known
 
-abbrev pub knowns : (edges : ℕ) → (values decisions : List Known) → Knowns
-knowns edges values decisions = record {
-  value = λ line e. slice_index_or values (line * edges + e) Nothing;
+abbrev pub knowns : (lines : ℕ) → (values decisions : List Known) → Knowns
+knowns lines values decisions = record {
+  value = λ line e. slice_index_or values (e * lines + line) Nothing;
   decision = λ piece. slice_index_or decisions piece Nothing;
 }
 
 abbrev pub knowns_of : Held → Knowns
-knowns_of h = knowns h.edges h.values h.decisions
+knowns_of h = knowns h.lines h.values h.decisions
 
 abbrev pub held_of : Inside → Held
 held_of d = record { lines = d.lines; edges = d.edges; values = d.values.items; decisions = d.decisions.items }
 
--- there is a row for each line
+-- there is a row for each edge
 abbrev pub IsKept : Inside → Type 0
 IsKept d = length d.values.items ≡ d.lines * d.edges

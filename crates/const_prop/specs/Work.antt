@@ -34,8 +34,8 @@ HoldsPair [] line e = ⊥
 HoldsPair (x ∷ xs) line e = ((x.0 ≡ line) × (x.1 ≡ e)) ⊎ HoldsPair xs line e
 
 -- what is known so far
-abbrev pub so_far : (edges : ℕ) → Work → Knowns
-so_far edges w = knowns edges w.values.items w.decisions.items
+abbrev pub so_far : (lines : ℕ) → Work → Knowns
+so_far lines w = knowns lines w.values.items w.decisions.items
 
 abbrev pub is_waiting : Work → (e : ℕ) → Bool
 is_waiting w e = slice_index_or w.waits.items e false
@@ -60,9 +60,9 @@ pub record IsPast (f : FlowGraph) (touches : ℕ → ℕ → Bool) (lines line e
 pub record Rises (f : FlowGraph) (touches : ℕ → ℕ → Bool) (lines : ℕ) (old new : Work) : Type 0 where
   pub sized : IsSized f lines new
   pub decisions : new.decisions.items ≡ old.decisions.items
-  pub grows : (line e : ℕ) → line < lines → e < edge_count f.graph → AtMost ((so_far (edge_count f.graph) old).value line e) ((so_far (edge_count f.graph) new).value line e)
-  pub passed : (line e : ℕ) → line < lines → e < edge_count f.graph → touches (to f.graph e) line ≡ false → HoldsPair new.risen.items line e ⊎ ((so_far (edge_count f.graph) new).value line e ≡ (so_far (edge_count f.graph) old).value line e)
-  pub seen : (line e : ℕ) → line < lines → e < edge_count f.graph → touches (to f.graph e) line ≡ true → (is_waiting new e ≡ true) ⊎ ((so_far (edge_count f.graph) new).value line e ≡ (so_far (edge_count f.graph) old).value line e)
+  pub grows : (line e : ℕ) → line < lines → e < edge_count f.graph → AtMost ((so_far lines old).value line e) ((so_far lines new).value line e)
+  pub passed : (line e : ℕ) → line < lines → e < edge_count f.graph → touches (to f.graph e) line ≡ false → HoldsPair new.risen.items line e ⊎ ((so_far lines new).value line e ≡ (so_far lines old).value line e)
+  pub seen : (line e : ℕ) → line < lines → e < edge_count f.graph → touches (to f.graph e) line ≡ true → (is_waiting new e ≡ true) ⊎ ((so_far lines new).value line e ≡ (so_far lines old).value line e)
   pub kept : (line e : ℕ) → HoldsPair old.risen.items line e → HoldsPair new.risen.items line e
   pub waiting : (e : ℕ) → is_waiting old e ≡ true → is_waiting new e ≡ true
   pub entered : (e : ℕ) → Holds old.entered.items e → Holds new.entered.items e
@@ -104,10 +104,10 @@ module _ (p : Program) (f : FlowGraph) (c : ClassTable) (touches : ℕ → ℕ �
   -- the first words and lines.
   pub record IsSettlingFrom (words first_lines : ℕ) (open_lines : ℕ → ℕ → Type 0) (open_edges : ℕ → Type 0) (w : Work) : Type 0 where
     pub sized : IsSized f r.lines w
-    pub found : IsFound (so_far (edge_count f.graph) w)
-    pub opened : IsOpenedFor words first_lines (so_far (edge_count f.graph) w)
-    pub lines : (line e : ℕ) → line < r.lines → e < edge_count f.graph → touches (to f.graph e) line ≡ false → open_lines line e ⊎ (HoldsPair w.risen.items line e ⊎ IsPassedOn (so_far (edge_count f.graph) w) line e)
-    pub pieces : (e : ℕ) → e < edge_count f.graph → open_edges e ⊎ ((is_waiting w e ≡ true) ⊎ IsSeen (so_far (edge_count f.graph) w) e)
+    pub found : IsFound (so_far r.lines w)
+    pub opened : IsOpenedFor words first_lines (so_far r.lines w)
+    pub lines : (line e : ℕ) → line < r.lines → e < edge_count f.graph → touches (to f.graph e) line ≡ false → open_lines line e ⊎ (HoldsPair w.risen.items line e ⊎ IsPassedOn (so_far r.lines w) line e)
+    pub pieces : (e : ℕ) → e < edge_count f.graph → open_edges e ⊎ ((is_waiting w e ≡ true) ⊎ IsSeen (so_far r.lines w) e)
     pub listed : (e : ℕ) → is_waiting w e ≡ true → Holds w.entered.items e
     pub risen : (line e : ℕ) → HoldsPair w.risen.items line e → IsPast f touches r.lines line e
     pub entered : (e : ℕ) → Holds w.entered.items e → e < edge_count f.graph

@@ -33,7 +33,7 @@ pub(crate) fn known_value<const W: usize>(
     requires size { length values.now ≡ s.now.lines.now.lines * edge_count s.now.flow.now.graph }
     requires edge { edge < edge_count s.now.flow.now.graph }
     requires expression { IsExpression s.now.program.now.names e.now }
-    ensures { result ≡ known_with s.now.program.now.names (words_on s.now.classes.now (knowns (edge_count s.now.flow.now.graph) values.now []) edge) e.now }
+    ensures { result ≡ known_with s.now.program.now.names (words_on s.now.classes.now (knowns s.now.lines.now.lines values.now []) edge) e.now }
 {
     match e {
         Expr::Const(z) => Some(*z),
@@ -67,7 +67,7 @@ fn known_read<const W: usize>(
     requires size { length values.now ≡ s.now.lines.now.lines * edge_count s.now.flow.now.graph }
     requires edge { edge < edge_count s.now.flow.now.graph }
     requires access { IsAccess s.now.program.now.names access.now }
-    ensures { result ≡ option_map (spec_read_as (kind_of s.now.program.now.names access.now.name)) (option_and_then (words_on s.now.classes.now (knowns (edge_count s.now.flow.now.graph) values.now []) edge) (spec_known_word s.now.program.now.names access.now.name (map known access.now.subs))) }
+    ensures { result ≡ option_map (spec_read_as (kind_of s.now.program.now.names access.now.name)) (option_and_then (words_on s.now.classes.now (knowns s.now.lines.now.lines values.now []) edge) (spec_known_word s.now.program.now.names access.now.name (map known access.now.subs))) }
 {
     let names = &s.program.names;
     let word = known_word(names, s.program.initial.as_slice(), access)?;

@@ -4,6 +4,7 @@
 //! Source: Wegman and Zadeck, "Constant propagation with conditional branches", TOPLAS 13 (1991).
 #![tactic(auto)]
 
+mod edge_rows;
 mod facts;
 mod known;
 mod known_values;

@@ -12,6 +12,7 @@ ghost use Rattle.const_prop.specs.Closed.{IsConstants};
 ghost use Rattle.const_prop.specs.Right.{IsProgramRouting};
 ghost use Rattle.const_prop.specs.Table.{knowns_of};
 
+use crate::edge_rows::EdgeRows;
 use crate::facts::program_facts;
 use crate::setting::Setting;
 use crate::table::Table;
@@ -47,7 +48,8 @@ pub fn constants<const W: usize>(
 {
     program_facts();
     next_edges();
-    let s = Setting::new(alloc, p, f, c, touch, l)?;
+    let rows = EdgeRows::new(alloc, l, f.graph().edges())?;
+    let s = Setting::new(alloc, p, f, c, touch, &rows)?;
     let mut work = Work::blank(alloc, &s)?;
     work.open(&s)?;
     work.settle(&s)?;

@@ -41,7 +41,7 @@ pub(crate) fn written<const W: usize>(
     requires edge { edge < edge_count s.now.flow.now.graph }
     requires line { line < s.now.lines.now.lines }
     requires exec { CanExecute s.now.program.now kind.now }
-    ensures { result ≡ spec_written s.now.program.now.names s.now.classes.now (words_on s.now.classes.now (knowns (edge_count s.now.flow.now.graph) values.now []) edge) kind.now line }
+    ensures { result ≡ spec_written s.now.program.now.names s.now.classes.now (words_on s.now.classes.now (knowns s.now.lines.now.lines values.now []) edge) kind.now line }
 {
     let one_word = s.one_word[line as usize];
     match kind {
@@ -92,7 +92,7 @@ pub(crate) fn selected<const W: usize>(
     requires edge { edge < edge_count s.now.flow.now.graph }
     requires exec { CanExecute s.now.program.now kind.now }
     requires few { length (targets_of kind.now) < 2 ^ 31 }
-    ensures { result ≡ spec_selected s.now.program.now.names (words_on s.now.classes.now (knowns (edge_count s.now.flow.now.graph) values.now []) edge) kind.now }
+    ensures { result ≡ spec_selected s.now.program.now.names (words_on s.now.classes.now (knowns s.now.lines.now.lines values.now []) edge) kind.now }
 {
     match kind {
         ExecKind::Test { cond, .. } => match known_value(s, values, edge, cond) {

@@ -10,11 +10,12 @@ ghost use Rattle.dep_routing.specs.Touch.{touches_in};
 ghost use Rattle.dep_routing.specs.Touches.{piece_kind, exec_kind};
 ghost use Rattle.const_prop.specs.Setting.{IsProgram, AreLines, TellOneWord, AreOuts, IsTouchedRow, AreTouched, IsSetting};
 
+use crate::edge_rows::EdgeRows;
 use crate::row::Row;
 use alias_classes::Classes;
 use cfg_build::{Flow, PieceKind};
 use closed_walks::{Digraph, edges_of_nodes};
-use dep_routing::{Lines, TouchList};
+use dep_routing::TouchList;
 use df_sequence::NoMemory;
 use f77_tree::{ExecKind, Program};
 use std::alloc::Global;
@@ -26,7 +27,7 @@ pub(crate) struct Setting<'a, const W: usize> {
     pub(crate) flow: &'a Flow,
     pub(crate) classes: &'a Classes<'a, W>,
     pub(crate) touch: &'a TouchList<W>,
-    pub(crate) lines: &'a Lines,
+    pub(crate) lines: &'a EdgeRows<'a>,
     /// For each line whether it is a class of words with one word.
     pub(crate) one_word: Vec<bool>,
     /// For each piece its out-edges, in order.
@@ -42,7 +43,7 @@ impl<'a, const W: usize> Setting<'a, W> {
         flow: &'a Flow,
         classes: &'a Classes<'a, W>,
         touch: &'a TouchList<W>,
-        lines: &'a Lines,
+        lines: &'a EdgeRows<'a>,
     ) -> Result<Self, NoMemory>
         requires program { IsProgram program.now flow.now }
         requires lines { AreLines program.now flow.now classes.now touch.now lines.now }
@@ -102,11 +103,11 @@ impl<'a, const W: usize> Setting<'a, W> {
         self.touch.at(self.head(edge)).holds(line)
     }
 
-    /// The place of the line and the edge in a table of rows.
+    /// The place of the line and the edge in a table of rows, one for each edge.
     pub(crate) fn place(&self, line: u32, edge: u32) -> usize
-        ensures { result ≡ line * edge_count self.now.flow.now.graph + edge }
+        ensures { result ≡ edge * self.now.lines.now.lines + line }
     {
-        line as usize * self.flow.graph().edges() as usize + edge as usize
+        edge as usize * self.lines.lines() as usize + line as usize
     }
 }
 

@@ -33,7 +33,7 @@ impl Table {
         requires edge { edge < self.now.edges }
         ensures { result ≡ (knowns_of self.now).value line edge }
     {
-        self.values[line as usize * self.edges as usize + edge as usize]
+        self.values[edge as usize * self.lines as usize + line as usize]
     }
 
     /// What is known of the out-edge that control takes at this branch or hold: its place among those of the piece, from 0.

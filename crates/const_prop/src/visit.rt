@@ -45,11 +45,11 @@ impl Work {
     ) -> Result<(), NoMemory>
         requires setting { IsSetting s.now.program.now s.now.flow.now s.now.classes.now s.now.touch.now s.now.lines.now s.now.one_word.items s.now.outs.items s.now.touched.items }
         requires edge { edge < edge_count s.now.flow.now.graph }
-        requires ready { IsReady s.now.flow.now (touches_in s.now.touch.now) s.now.lines.now.lines (so_far (edge_count s.now.flow.now.graph) self.old) edge }
+        requires ready { IsReady s.now.flow.now (touches_in s.now.touch.now) s.now.lines.now.lines (so_far s.now.lines.now.lines self.old) edge }
         requires settling { IsSettling s.now.program.now s.now.flow.now s.now.classes.now (touches_in s.now.touch.now) s.now.lines.now no_line (this_piece edge) self.old }
         ensures settling { OnOk result (IsSettling s.now.program.now s.now.flow.now s.now.classes.now (touches_in s.now.touch.now) s.now.lines.now no_line (this_piece edge) self.new) }
-        ensures ready { OnOk result (IsReady s.now.flow.now (touches_in s.now.touch.now) s.now.lines.now.lines (so_far (edge_count s.now.flow.now.graph) self.new) edge) }
-        ensures decided { OnOk result (spec_is_switch (kind_behind s.now.flow.now edge) ≡ true → AtMost (decided_behind s.now.program.now s.now.flow.now s.now.classes.now (so_far (edge_count s.now.flow.now.graph) self.new) edge) ((so_far (edge_count s.now.flow.now.graph) self.new).decision (to s.now.flow.now.graph edge))) }
+        ensures ready { OnOk result (IsReady s.now.flow.now (touches_in s.now.touch.now) s.now.lines.now.lines (so_far s.now.lines.now.lines self.new) edge) }
+        ensures decided { OnOk result (spec_is_switch (kind_behind s.now.flow.now edge) ≡ true → AtMost (decided_behind s.now.program.now s.now.flow.now s.now.classes.now (so_far s.now.lines.now.lines self.new) edge) ((so_far s.now.lines.now.lines self.new).decision (to s.now.flow.now.graph edge))) }
         ensures bounded { OnOk result (work_left s.now.lines.now.lines self.new ≤ work_left s.now.lines.now.lines self.old) }
     {
         if !is_switch(s.kind(s.head(edge))) {
@@ -63,9 +63,9 @@ impl Work {
     fn leave<const W: usize>(&mut self, s: &Setting<W>, edge: u32) -> Result<(), NoMemory>
         requires setting { IsSetting s.now.program.now s.now.flow.now s.now.classes.now s.now.touch.now s.now.lines.now s.now.one_word.items s.now.outs.items s.now.touched.items }
         requires edge { edge < edge_count s.now.flow.now.graph }
-        requires ready { IsReady s.now.flow.now (touches_in s.now.touch.now) s.now.lines.now.lines (so_far (edge_count s.now.flow.now.graph) self.old) edge }
+        requires ready { IsReady s.now.flow.now (touches_in s.now.touch.now) s.now.lines.now.lines (so_far s.now.lines.now.lines self.old) edge }
         requires settling { IsSettling s.now.program.now s.now.flow.now s.now.classes.now (touches_in s.now.touch.now) s.now.lines.now no_line (this_piece edge) self.old }
-        requires decided { spec_is_switch (kind_behind s.now.flow.now edge) ≡ true → AtMost (decided_behind s.now.program.now s.now.flow.now s.now.classes.now (so_far (edge_count s.now.flow.now.graph) self.old) edge) ((so_far (edge_count s.now.flow.now.graph) self.old).decision (to s.now.flow.now.graph edge)) }
+        requires decided { spec_is_switch (kind_behind s.now.flow.now edge) ≡ true → AtMost (decided_behind s.now.program.now s.now.flow.now s.now.classes.now (so_far s.now.lines.now.lines self.old) edge) ((so_far s.now.lines.now.lines self.old).decision (to s.now.flow.now.graph edge)) }
         ensures settling { OnOk result (IsSettling s.now.program.now s.now.flow.now s.now.classes.now (touches_in s.now.touch.now) s.now.lines.now no_line no_piece self.new) }
         ensures bounded { OnOk result (work_left s.now.lines.now.lines self.new ≤ work_left s.now.lines.now.lines self.old) }
     {
@@ -82,7 +82,7 @@ impl Work {
         requires setting { IsSetting s.now.program.now s.now.flow.now s.now.classes.now s.now.touch.now s.now.lines.now s.now.one_word.items s.now.outs.items s.now.touched.items }
         requires edge { edge < edge_count s.now.flow.now.graph }
         requires sized { IsSized s.now.flow.now s.now.lines.now.lines self.now }
-        ensures { IsTrue result ↔ IsReady s.now.flow.now (touches_in s.now.touch.now) s.now.lines.now.lines (so_far (edge_count s.now.flow.now.graph) self.now) edge }
+        ensures { IsTrue result ↔ IsReady s.now.flow.now (touches_in s.now.touch.now) s.now.lines.now.lines (so_far s.now.lines.now.lines self.now) edge }
     {
         let node = s.head(edge);
         if !is_action(s.kind(node)) {
@@ -102,7 +102,7 @@ impl Work {
         requires edge { edge < edge_count s.now.flow.now.graph }
         requires sized { IsSized s.now.flow.now s.now.lines.now.lines self.now }
         requires switch { spec_is_switch (kind_behind s.now.flow.now edge) ≡ true }
-        ensures { result ≡ decided_behind s.now.program.now s.now.flow.now s.now.classes.now (so_far (edge_count s.now.flow.now.graph) self.now) edge }
+        ensures { result ≡ decided_behind s.now.program.now s.now.flow.now s.now.classes.now (so_far s.now.lines.now.lines self.now) edge }
     {
         let node = s.head(edge);
         match s.kind(node) {
@@ -117,7 +117,7 @@ impl Work {
         requires edge { edge < edge_count s.now.flow.now.graph }
         requires line { line < s.now.lines.now.lines }
         requires sized { IsSized s.now.flow.now s.now.lines.now.lines self.now }
-        ensures { (WritesBehind s.now.program.now s.now.flow.now s.now.classes.now edge line × (result ≡ written_behind s.now.program.now s.now.flow.now s.now.classes.now (so_far (edge_count s.now.flow.now.graph) self.now) edge line)) ⊎ ((WritesBehind s.now.program.now s.now.flow.now s.now.classes.now edge line → ⊥) × (result ≡ (so_far (edge_count s.now.flow.now.graph) self.now).value line edge)) }
+        ensures { (WritesBehind s.now.program.now s.now.flow.now s.now.classes.now edge line × (result ≡ written_behind s.now.program.now s.now.flow.now s.now.classes.now (so_far s.now.lines.now.lines self.now) edge line)) ⊎ ((WritesBehind s.now.program.now s.now.flow.now s.now.classes.now edge line → ⊥) × (result ≡ (so_far s.now.lines.now.lines self.now).value line edge)) }
     {
         match s.kind(s.head(edge)) {
             PieceKind::Act => self.left_by_act(s, line, edge),
@@ -132,7 +132,7 @@ impl Work {
         requires line { line < s.now.lines.now.lines }
         requires sized { IsSized s.now.flow.now s.now.lines.now.lines self.now }
         requires act { kind_behind s.now.flow.now edge ≡ PieceKind.Act }
-        ensures { (WritesBehind s.now.program.now s.now.flow.now s.now.classes.now edge line × (result ≡ written_behind s.now.program.now s.now.flow.now s.now.classes.now (so_far (edge_count s.now.flow.now.graph) self.now) edge line)) ⊎ ((WritesBehind s.now.program.now s.now.flow.now s.now.classes.now edge line → ⊥) × (result ≡ (so_far (edge_count s.now.flow.now.graph) self.now).value line edge)) }
+        ensures { (WritesBehind s.now.program.now s.now.flow.now s.now.classes.now edge line × (result ≡ written_behind s.now.program.now s.now.flow.now s.now.classes.now (so_far s.now.lines.now.lines self.now) edge line)) ⊎ ((WritesBehind s.now.program.now s.now.flow.now s.now.classes.now edge line → ⊥) × (result ≡ (so_far s.now.lines.now.lines self.now).value line edge)) }
     {
         let exec = s.exec(s.head(edge));
         if writes(s, exec, line) {
@@ -146,12 +146,12 @@ impl Work {
     fn decide<const W: usize>(&mut self, s: &Setting<W>, edge: u32) -> Result<(), NoMemory>
         requires setting { IsSetting s.now.program.now s.now.flow.now s.now.classes.now s.now.touch.now s.now.lines.now s.now.one_word.items s.now.outs.items s.now.touched.items }
         requires edge { edge < edge_count s.now.flow.now.graph }
-        requires ready { IsReady s.now.flow.now (touches_in s.now.touch.now) s.now.lines.now.lines (so_far (edge_count s.now.flow.now.graph) self.old) edge }
+        requires ready { IsReady s.now.flow.now (touches_in s.now.touch.now) s.now.lines.now.lines (so_far s.now.lines.now.lines self.old) edge }
         requires switch { spec_is_switch (kind_behind s.now.flow.now edge) ≡ true }
         requires settling { IsSettling s.now.program.now s.now.flow.now s.now.classes.now (touches_in s.now.touch.now) s.now.lines.now no_line (this_piece edge) self.old }
         ensures settling { OnOk result (IsSettling s.now.program.now s.now.flow.now s.now.classes.now (touches_in s.now.touch.now) s.now.lines.now no_line (this_piece edge) self.new) }
         ensures values { OnOk result (self.new.values.items ≡ self.old.values.items) }
-        ensures decided { OnOk result (AtMost (decided_behind s.now.program.now s.now.flow.now s.now.classes.now (so_far (edge_count s.now.flow.now.graph) self.new) edge) ((so_far (edge_count s.now.flow.now.graph) self.new).decision (to s.now.flow.now.graph edge))) }
+        ensures decided { OnOk result (AtMost (decided_behind s.now.program.now s.now.flow.now s.now.classes.now (so_far s.now.lines.now.lines self.new) edge) ((so_far s.now.lines.now.lines self.new).decision (to s.now.flow.now.graph edge))) }
         ensures bounded { OnOk result (work_left s.now.lines.now.lines self.new ≤ work_left s.now.lines.now.lines self.old) }
     {
         let node = s.head(edge);

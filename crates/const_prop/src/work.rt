@@ -53,12 +53,12 @@ impl Work {
         requires sized { IsSized s.now.flow.now s.now.lines.now.lines self.old }
         requires line { line < s.now.lines.now.lines }
         requires edge { edge < edge_count s.now.flow.now.graph }
-        requires found { IsFound s.now.program.now s.now.flow.now s.now.classes.now (touches_in s.now.touch.now) s.now.lines.now (so_far (edge_count s.now.flow.now.graph) self.old) }
+        requires found { IsFound s.now.program.now s.now.flow.now s.now.classes.now (touches_in s.now.touch.now) s.now.lines.now (so_far s.now.lines.now.lines self.old) }
         requires due { (b : Knowns) → IsClosed s.now.program.now s.now.flow.now s.now.classes.now (touches_in s.now.touch.now) s.now.lines.now b → AtMost comes (b.value line edge) }
         requires one { is_one_word s.now.classes.now line ≡ false → IsNotOne comes }
         ensures rises { OnOk result (Rises s.now.flow.now (touches_in s.now.touch.now) s.now.lines.now.lines self.old self.new) }
-        ensures found { OnOk result (IsFound s.now.program.now s.now.flow.now s.now.classes.now (touches_in s.now.touch.now) s.now.lines.now (so_far (edge_count s.now.flow.now.graph) self.new)) }
-        ensures reached { OnOk result (AtMost comes ((so_far (edge_count s.now.flow.now.graph) self.new).value line edge)) }
+        ensures found { OnOk result (IsFound s.now.program.now s.now.flow.now s.now.classes.now (touches_in s.now.touch.now) s.now.lines.now (so_far s.now.lines.now.lines self.new)) }
+        ensures reached { OnOk result (AtMost comes ((so_far s.now.lines.now.lines self.new).value line edge)) }
     {
         let place = s.place(line, edge);
         let Some(known) = risen(self.values[place], comes) else {
@@ -86,12 +86,12 @@ impl Work {
         requires sized { IsSized s.now.flow.now s.now.lines.now.lines self.old }
         requires line { line < s.now.lines.now.lines }
         requires edge { edge < edge_count s.now.flow.now.graph }
-        requires found { IsFound s.now.program.now s.now.flow.now s.now.classes.now (touches_in s.now.touch.now) s.now.lines.now (so_far (edge_count s.now.flow.now.graph) self.old) }
-        requires due { (b : Knowns) (i : ℕ) → IsClosed s.now.program.now s.now.flow.now s.now.classes.now (touches_in s.now.touch.now) s.now.lines.now b → IsWay s.now.flow.now (so_far (edge_count s.now.flow.now.graph) self.old) edge i → AtMost known (b.value line (led_to s.now.flow.now s.now.lines.now edge line i)) }
+        requires found { IsFound s.now.program.now s.now.flow.now s.now.classes.now (touches_in s.now.touch.now) s.now.lines.now (so_far s.now.lines.now.lines self.old) }
+        requires due { (b : Knowns) (i : ℕ) → IsClosed s.now.program.now s.now.flow.now s.now.classes.now (touches_in s.now.touch.now) s.now.lines.now b → IsWay s.now.flow.now (so_far s.now.lines.now.lines self.old) edge i → AtMost known (b.value line (led_to s.now.flow.now s.now.lines.now edge line i)) }
         requires one { is_one_word s.now.classes.now line ≡ false → IsNotOne known }
         ensures rises { OnOk result (Rises s.now.flow.now (touches_in s.now.touch.now) s.now.lines.now.lines self.old self.new) }
-        ensures found { OnOk result (IsFound s.now.program.now s.now.flow.now s.now.classes.now (touches_in s.now.touch.now) s.now.lines.now (so_far (edge_count s.now.flow.now.graph) self.new)) }
-        ensures sent { OnOk result ((i : ℕ) → IsWay s.now.flow.now (so_far (edge_count s.now.flow.now.graph) self.old) edge i → AtMost known ((so_far (edge_count s.now.flow.now.graph) self.new).value line (led_to s.now.flow.now s.now.lines.now edge line i))) }
+        ensures found { OnOk result (IsFound s.now.program.now s.now.flow.now s.now.classes.now (touches_in s.now.touch.now) s.now.lines.now (so_far s.now.lines.now.lines self.new)) }
+        ensures sent { OnOk result ((i : ℕ) → IsWay s.now.flow.now (so_far s.now.lines.now.lines self.old) edge i → AtMost known ((so_far s.now.lines.now.lines self.new).value line (led_to s.now.flow.now s.now.lines.now edge line i))) }
     {
         let node = s.head(edge);
         let kind = s.kind(node);

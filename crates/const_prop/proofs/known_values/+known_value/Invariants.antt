@@ -1,5 +1,4 @@
 use Rattle.std.proofs.Common.{◌≡◌, ◌≤◌, [], length, take, map, All}
-use Rattle.closed_walks.specs.Graph.{edge_count}
 use Rattle.op_table.specs.Operators.{arity_of}
 use Rattle.f77_tree.specs.KnownWith.{known_with}
 use Rattle.f77_tree.specs.Value.{IsExpression}
@@ -14,5 +13,5 @@ invariant-loop-arg g l = record {
   few : length l.arg-items ≤ 3;
   room : length l.operands ≡ 3;
   expressions : All (IsExpression l.s.program.now.names) l.arg-items;
-  values : take l.count l.operands ≡ map (known_with l.s.program.now.names (words_on l.s.classes.now (knowns (edge_count l.s.flow.now.graph) l.values []) l.edge)) (take l.arg-index l.arg-items);
+  values : take l.count l.operands ≡ map (known_with l.s.program.now.names (words_on l.s.classes.now (knowns l.s.lines.now.lines l.values []) l.edge)) (take l.arg-index l.arg-items);
 }

@@ -18,6 +18,11 @@ use Rattle.const_prop.proofs.making.constants.Goals as goal
 
 pub new-requires : goal.new-requires
 new-requires g c =
+    let flow_edges : edge_count c.args.f.now.graph ≡ edge_count (flow c.args.p.now.execs).graph = ap (λ (g : FlowGraph). edge_count g.graph) c.requires.flow in
+    c.edges.ensures.count ∙ ap (λ g. edge_count g) c.graph.ensures ∙ flow_edges ∙ sym c.requires.routing.routing.edges
+
+pub new-requires-2 : goal.new-requires-2
+new-requires-2 g c =
     let p = c.args.p.now in
     let f = c.args.f.now in
     let r = c.args.l.now in
@@ -38,7 +43,7 @@ new-requires g c =
           let led = c.next_edges.ensures.exists (flow p.execs).graph routing.tree touches line e (next_at r line e) (c.program_facts.ensures.strong p c.requires.program) routing.is_tree k' (routing.routing.next line e (omega (arith, l, l')) k') in
           omega (arith, led, edges);
     } in
-    (search rules, (search rules, (search rules, (program, lines))))
+    (search rules, (search rules, (search rules, (program, subst (λ (x : Routing). AreLines p f c.args.c.now c.args.touch.now x) (sym c.in_ok-rows.ensures) lines))))
 
 pub open-requires : goal.open-requires
 open-requires g c =
@@ -58,10 +63,11 @@ returns-clause-constants g c =
     let s = c.in_ok-s.s in
     let w = c.settle.new.self in
     let e = c.in_ok-s.ensures in
-    let found : IsConstants s.program.now s.flow.now s.classes.now (touches_in s.touch.now) s.lines.now (so_far (edge_count s.flow.now.graph) w) =
+    let found : IsConstants s.program.now s.flow.now s.classes.now (touches_in s.touch.now) s.lines.now (so_far s.lines.now.lines w) =
     settled-constants s.program.now s.flow.now s.classes.now (touches_in s.touch.now) s.lines.now w
     (λ k line l merge. merges-untouched s.program.now s.flow.now s.classes.now (touches_in s.touch.now) e.setting.program e.setting.lines.touches k line l merge)
     c.in_ok-settle.ensures.settling c.in_ok-settle.ensures.risen c.in_ok-settle.ensures.entered in
-    let edges : edge_count s.flow.now.graph ≡ c.edges.result = ap (λ (g : FlowGraph). edge_count g.graph) e.flow ∙ ap (λ g. edge_count g) (sym c.graph.ensures) ∙ sym c.edges.ensures.count in
-    subst (λ (n : ℕ). IsConstants c.args.p.now c.args.f.now c.args.c.now (touches_in c.args.touch.now) c.args.l.now (so_far n w)) edges
-    (transport s.program.now c.args.p.now s.flow.now c.args.f.now s.classes.now c.args.c.now s.touch.now c.args.touch.now s.lines.now c.args.l.now (so_far (edge_count s.flow.now.graph) w) e.program e.flow e.classes e.touch e.lines found)
+    let routing : s.lines.now ≡ c.args.l.now = e.lines ∙ c.in_ok-rows.ensures in
+    let lines : s.lines.now.lines ≡ c.lines.result = ap (λ (r : Routing). r.lines) routing ∙ sym c.lines.ensures in
+    subst (λ (n : ℕ). IsConstants c.args.p.now c.args.f.now c.args.c.now (touches_in c.args.touch.now) c.args.l.now (so_far n w)) lines
+    (transport s.program.now c.args.p.now s.flow.now c.args.f.now s.classes.now c.args.c.now s.touch.now c.args.touch.now s.lines.now c.args.l.now (so_far s.lines.now.lines w) e.program e.flow e.classes e.touch routing found)

@@ -1,5 +1,4 @@
 use Rattle.std.proofs.Common.{◌≡◌, ◌<◌, ℕ, List, [], length, slice_get, rules, sym, ap, subst, ◌∙◌}
-use Rattle.closed_walks.specs.Graph.{edge_count}
 use Rattle.f77_tree.specs.CanRun.{CanExecute}
 use Rattle.f77_tree.specs.Control.{targets_of}
 use Rattle.f77_tree.specs.declared.programs.ExecKind.{ExecKind}
@@ -28,8 +27,8 @@ returns-in_default g c =
     let p = c.args.s.now.program.now in
     let here : kind_at f c.head-node.result ≡ kind_behind f c.args.edge = ap (kind_at f) c.head-node.ensures.node in
     let branch : kind_behind f c.args.edge ≡ Branch = switch-branch (kind_behind f c.args.edge) c.requires.switch (λ is. c.in_default.not-Hold (c.kind.ensures ∙ here ∙ is)) in
-    let words = words_on c.args.s.now.classes.now (knowns (edge_count f.graph) c.args.self.now.values.items c.args.self.now.decisions.items) c.args.edge in
+    let words = words_on c.args.s.now.classes.now (knowns c.args.s.now.lines.now.lines c.args.self.now.values.items c.args.self.now.decisions.items) c.args.edge in
     c.selected.ensures
-    ∙ ap (λ (vs : List Known). selected p.names (words_on c.args.s.now.classes.now (knowns (edge_count f.graph) vs []) c.args.edge) c.exec.result.now) c.deref.ensures.value
+    ∙ ap (λ (vs : List Known). selected p.names (words_on c.args.s.now.classes.now (knowns c.args.s.now.lines.now.lines vs []) c.args.edge) c.exec.result.now) c.deref.ensures.value
     ∙ ap (selected p.names words) (c.exec.ensures ∙ ap (λ (n : ℕ). kind_in (slice_get p.execs (piece_at f.pieces n).exec)) c.head-node.ensures.node)
     ∙ sym (decided-branch p.names words (kind_behind f c.args.edge) (exec_behind p f c.args.edge) branch)

@@ -1,5 +1,5 @@
 use Rattle.std.proofs.Common.{◌≡◌, true, get_or, rules, inl, inr, ⊎_elim, arith}
-use Rattle.closed_walks.specs.Graph.{edge_count, to}
+use Rattle.closed_walks.specs.Graph.{to}
 use Rattle.dep_routing.specs.Touch.{touches_in}
 use Rattle.const_prop.specs.Work.{so_far, is_waiting, IsSeenFor, no_line, this_piece}
 use Rattle.const_prop.proofs.Leaving.{Among, left-due, left-one, ready-on, seen-more, seen-all, seen-none}
@@ -20,7 +20,7 @@ send-requires g c =
     let row = touched_items c.args.s.now.flow.now.graph.nodes c.args.s.now.lines.now.lines (touches_in c.args.s.now.touch.now) c.args.s.now.touched.items c.head-node.result (to c.args.s.now.flow.now.graph c.args.edge) c.index.result.now c.as_slice-line-items.result.now c.requires.setting.touched c.head-node.ensures.exists c.head-node.ensures.node c.index.ensures c.as_slice-line-items.ensures in
     let line = get_or c.as_slice-line-items.result.now c.loop-line.line-index 0 in
     let at = touched_at (touches_in c.args.s.now.touch.now) c.args.s.now.lines.now.lines (to c.args.s.now.flow.now.graph c.args.edge) c.as_slice-line-items.result.now c.loop-line.line-index row c.loop-line-test.true in
-    let t = so_far (edge_count c.args.s.now.flow.now.graph) c.loop-line.self in
+    let t = so_far c.args.s.now.lines.now.lines c.loop-line.self in
     let s = c.loop-line.invariant.settling in (
       search rules,
       (
@@ -49,7 +49,7 @@ loop-line-init g c = record {
   settling = c.requires.settling;
   ready = c.requires.ready;
   bounded = omega arith;
-  seen = inr (seen-none c.args.s.now.program.now c.args.s.now.flow.now c.args.s.now.classes.now (touches_in c.args.s.now.touch.now) c.args.s.now.lines.now (setting-covered c.args.s.now.program.now c.args.s.now.flow.now c.args.s.now.classes.now c.args.s.now.touch.now c.args.s.now.lines.now c.requires.setting.program c.requires.setting.lines) c.requires.setting.program.shape.two_edges c.requires.setting.lines.next (so_far (edge_count c.args.s.now.flow.now.graph) c.args.self.now) c.args.edge c.as_slice-line-items.result.now c.requires.decided);
+  seen = inr (seen-none c.args.s.now.program.now c.args.s.now.flow.now c.args.s.now.classes.now (touches_in c.args.s.now.touch.now) c.args.s.now.lines.now (setting-covered c.args.s.now.program.now c.args.s.now.flow.now c.args.s.now.classes.now c.args.s.now.touch.now c.args.s.now.lines.now c.requires.setting.program c.requires.setting.lines) c.requires.setting.program.shape.two_edges c.requires.setting.lines.next (so_far c.args.s.now.lines.now.lines c.args.self.now) c.args.edge c.as_slice-line-items.result.now c.requires.decided);
 }
 
 pub loop-line-preserved : goal.loop-line-preserved
@@ -76,5 +76,5 @@ returns-clause-settling g c =
     piece-closed c.args.s.now.program.now c.args.s.now.flow.now c.args.s.now.classes.now (touches_in c.args.s.now.touch.now) c.args.s.now.lines.now (setting-covered c.args.s.now.program.now c.args.s.now.flow.now c.args.s.now.classes.now c.args.s.now.touch.now c.args.s.now.lines.now c.requires.setting.program c.requires.setting.lines) c.requires.setting.program.shape.two_edges c.requires.setting.lines.next w c.args.edge no_line c.loop-line.invariant.settling
     (⊎_elim
     (λ (waits : is_waiting w c.args.edge ≡ true). inl waits)
-    (λ (seen : IsSeenFor c.args.s.now.program.now c.args.s.now.flow.now c.args.s.now.classes.now (touches_in c.args.s.now.touch.now) c.args.s.now.lines.now (Among c.as_slice-line-items.result.now c.loop-line.line-index) (so_far (edge_count c.args.s.now.flow.now.graph) w) c.args.edge). inr (seen-all c.args.s.now.program.now c.args.s.now.flow.now c.args.s.now.classes.now (touches_in c.args.s.now.touch.now) c.args.s.now.lines.now (setting-covered c.args.s.now.program.now c.args.s.now.flow.now c.args.s.now.classes.now c.args.s.now.touch.now c.args.s.now.lines.now c.requires.setting.program c.requires.setting.lines) c.requires.setting.program.shape.two_edges c.requires.setting.lines.next (so_far (edge_count c.args.s.now.flow.now.graph) w) c.args.edge c.as_slice-line-items.result.now c.loop-line.line-index row c.loop-line-test.false seen))
+    (λ (seen : IsSeenFor c.args.s.now.program.now c.args.s.now.flow.now c.args.s.now.classes.now (touches_in c.args.s.now.touch.now) c.args.s.now.lines.now (Among c.as_slice-line-items.result.now c.loop-line.line-index) (so_far c.args.s.now.lines.now.lines w) c.args.edge). inr (seen-all c.args.s.now.program.now c.args.s.now.flow.now c.args.s.now.classes.now (touches_in c.args.s.now.touch.now) c.args.s.now.lines.now (setting-covered c.args.s.now.program.now c.args.s.now.flow.now c.args.s.now.classes.now c.args.s.now.touch.now c.args.s.now.lines.now c.requires.setting.program c.requires.setting.lines) c.requires.setting.program.shape.two_edges c.requires.setting.lines.next (so_far c.args.s.now.lines.now.lines w) c.args.edge c.as_slice-line-items.result.now c.loop-line.line-index row c.loop-line-test.false seen))
     c.loop-line.invariant.seen)

@@ -1,6 +1,5 @@
 use Rattle.std.proofs.Common.{◌≡◌, ℕ, List, [], slice_get, get_or, inl, inr, sym, ap, subst, ◌∙◌}
 use Rattle.std.proofs.lemmas.List.{get_or_read}
-use Rattle.closed_walks.specs.Graph.{edge_count}
 use Rattle.f77_tree.specs.declared.programs.ExecKind.{ExecKind}
 use Rattle.cfg_build.specs.declared.pieces.PieceKind.{PieceKind}
 use Rattle.cfg_build.specs.Flow.{piece_at}
@@ -24,8 +23,8 @@ returns-then-writes g c =
     inl (
       is,
       c.written.ensures
-          ∙ ap (λ (vs : List Known). written p.names c.args.s.now.classes.now (words_on c.args.s.now.classes.now (knowns (edge_count f.graph) vs []) c.args.edge) c.exec-exec.result.now c.args.line) c.deref.ensures.value
-          ∙ ap (λ (x : ExecKind). written p.names c.args.s.now.classes.now (words_on c.args.s.now.classes.now (knowns (edge_count f.graph) c.args.self.now.values.items []) c.args.edge) x c.args.line) exec,
+          ∙ ap (λ (vs : List Known). written p.names c.args.s.now.classes.now (words_on c.args.s.now.classes.now (knowns c.args.s.now.lines.now.lines vs []) c.args.edge) c.exec-exec.result.now c.args.line) c.deref.ensures.value
+          ∙ ap (λ (x : ExecKind). written p.names c.args.s.now.classes.now (words_on c.args.s.now.classes.now (knowns c.args.s.now.lines.now.lines c.args.self.now.values.items []) c.args.edge) x c.args.line) exec,
     )
 
 pub returns-else-writes : goal.returns-else-writes

@@ -1,6 +1,5 @@
 use Rattle.std.proofs.Common.{◌≡◌, ◌<◌, ℕ, false, rules, sym, subst, ◌∙◌, inl, inr, arith}
 use Rattle.std.proofs.lemmas.List.{get_or_read}
-use Rattle.closed_walks.specs.Graph.{edge_count}
 use Rattle.dep_routing.specs.Touch.{touches_in}
 use Rattle.const_prop.specs.declared.known.Known.TheVariants.{Any}
 use Rattle.const_prop.specs.Closed.{is_one_word}
@@ -52,7 +51,7 @@ loop-line-preserved g c =
     elim c.if-not-index.branch [
       | then-not-index+in_ok-raise w ↦
           rw w.self-is (others-more c.args.s.now.program.now c.args.s.now.flow.now c.args.s.now.classes.now (touches_in c.args.s.now.touch.now) c.args.s.now.lines.now 0 line w.raise.new.self
-          (inr (subst (λ (n : ℕ). AtMost Any ((so_far (edge_count c.args.s.now.flow.now.graph) w.raise.new.self).value line n)) w.next_wire.ensures w.in_ok-raise.ensures.reached))
+          (inr (subst (λ (n : ℕ). AtMost Any ((so_far c.args.s.now.lines.now.lines w.raise.new.self).value line n)) w.next_wire.ensures w.in_ok-raise.ensures.reached))
           (settling-rises-from c.args.s.now.program.now c.args.s.now.flow.now c.args.s.now.classes.now (touches_in c.args.s.now.touch.now) c.args.s.now.lines.now (setting-covered c.args.s.now.program.now c.args.s.now.flow.now c.args.s.now.classes.now c.args.s.now.touch.now c.args.s.now.lines.now c.requires.setting.program c.requires.setting.lines) c.requires.setting.program.shape.two_edges c.requires.setting.lines.next c.loop-line.self w.raise.new.self w.in_ok-raise.ensures.rises w.in_ok-raise.ensures.found 0 line no_line no_piece c.loop-line.invariant))
       | else-not-index w ↦
           rw w.self-is (others-more c.args.s.now.program.now c.args.s.now.flow.now c.args.s.now.classes.now (touches_in c.args.s.now.touch.now) c.args.s.now.lines.now 0 line c.loop-line.self (inl (sym tell ∙ w.if-not-index.false)) c.loop-line.invariant)

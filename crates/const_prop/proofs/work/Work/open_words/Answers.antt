@@ -1,6 +1,5 @@
 use Rattle.std.proofs.Common.{◌≡◌, ◌<◌, ℕ, true, false, rules, sym, subst, ◌∙◌, inl, inr, arith}
 use Rattle.std.proofs.lemmas.List.{get_or_read}
-use Rattle.closed_walks.specs.Graph.{edge_count}
 use Rattle.f77_tree.specs.Value.{word_at}
 use Rattle.alias_classes.specs.Classes.{class_of_word}
 use Rattle.dep_routing.specs.Routing.{next_at}
@@ -67,9 +66,9 @@ loop-word-preserved g c =
     elim c.if-index.branch [
       | then-index+in_ok-raise w ↦
           rw w.self-is (words-more c.args.s.now.program.now c.args.s.now.flow.now c.args.s.now.classes.now (touches_in c.args.s.now.touch.now) c.args.s.now.lines.now word r.lines w.raise.new.self
-          (inr (subst (λ (n : ℕ). AtMost (One (word_at p.initial word)) ((so_far (edge_count c.args.s.now.flow.now.graph) w.raise.new.self).value n (next_at r n 1))) c.of_word-line.ensures
-          (subst (λ (n : ℕ). AtMost (One (word_at p.initial word)) ((so_far (edge_count c.args.s.now.flow.now.graph) w.raise.new.self).value line n)) w.next_wire.ensures
-          (subst (λ (k : Known). AtMost k ((so_far (edge_count c.args.s.now.flow.now.graph) w.raise.new.self).value line w.next_wire.result)) w.first_word-first.ensures w.in_ok-raise.ensures.reached))))
+          (inr (subst (λ (n : ℕ). AtMost (One (word_at p.initial word)) ((so_far c.args.s.now.lines.now.lines w.raise.new.self).value n (next_at r n 1))) c.of_word-line.ensures
+          (subst (λ (n : ℕ). AtMost (One (word_at p.initial word)) ((so_far c.args.s.now.lines.now.lines w.raise.new.self).value line n)) w.next_wire.ensures
+          (subst (λ (k : Known). AtMost k ((so_far c.args.s.now.lines.now.lines w.raise.new.self).value line w.next_wire.result)) w.first_word-first.ensures w.in_ok-raise.ensures.reached))))
           (settling-rises-from c.args.s.now.program.now c.args.s.now.flow.now c.args.s.now.classes.now (touches_in c.args.s.now.touch.now) c.args.s.now.lines.now (setting-covered c.args.s.now.program.now c.args.s.now.flow.now c.args.s.now.classes.now c.args.s.now.touch.now c.args.s.now.lines.now c.requires.setting.program c.requires.setting.lines) c.requires.setting.program.shape.two_edges c.requires.setting.lines.next c.loop-word.self w.raise.new.self w.in_ok-raise.ensures.rises w.in_ok-raise.ensures.found word r.lines no_line no_piece c.loop-word.invariant))
       | else-index w ↦
           rw w.self-is (words-more c.args.s.now.program.now c.args.s.now.flow.now c.args.s.now.classes.now (touches_in c.args.s.now.touch.now) c.args.s.now.lines.now word r.lines c.loop-word.self (inl (subst (λ (n : ℕ). is_one_word c.args.s.now.classes.now n ≡ false) c.of_word-line.ensures (sym tell ∙ w.if-index.false))) c.loop-word.invariant)

@@ -24,7 +24,7 @@ raise-requires g c =
     let items = outs_row c.args.s.now.flow.now c.args.s.now.outs.items c.head-node.result c.args.edge c.index.result.now c.as_slice-out-items.result.now c.requires.setting.outs c.head-node.ensures.exists c.head-node.ensures.node c.index.ensures c.as_slice-out-items.ensures in
     let inside = out_exists c.args.s.now.flow.now c.args.edge c.ways.i c.as_slice-out-items.result.now items c.ways-test.true in
     let led = c.requires.setting.lines.next c.args.line (get_or c.as_slice-out-items.result.now c.ways.i 0) c.requires.line inside in
-    let way = allows_way c.args.s.now.flow.now c.args.self.now c.args.edge c.ways.i c.head-node.result c.kind-kind.result c.index-decision.result.now c.as_slice-out-items.result.now c.requires.edge c.head-node.ensures.node c.kind-kind.ensures (get_or_read c.args.self.now.decisions.items c.head-node.result c.index-decision.result.now (omega (arith, c.head-node.ensures.exists, c.requires.sized.decisions)) c.index-decision.ensures Nothing) items c.ways-test.true (c.allows.ensures.0 c.if-allows.true) in
+    let way = allows_way c.args.s.now.flow.now c.args.s.now.lines.now.lines c.args.self.now c.args.edge c.ways.i c.head-node.result c.kind-kind.result c.index-decision.result.now c.as_slice-out-items.result.now c.requires.edge c.head-node.ensures.node c.kind-kind.ensures (get_or_read c.args.self.now.decisions.items c.head-node.result c.index-decision.result.now (omega (arith, c.head-node.ensures.exists, c.requires.sized.decisions)) c.index-decision.ensures Nothing) items c.ways-test.true (c.allows.ensures.0 c.if-allows.true) in
     let is : led_to c.args.s.now.flow.now c.args.s.now.lines.now c.args.edge c.args.line c.ways.i ≡ c.next_wire.result =
     ap (λ (xs : List ℕ). next_at c.args.s.now.lines.now c.args.line (get_or xs c.ways.i 0)) (sym items) ∙ sym c.next_wire.ensures in
     (search rules, (c.requires.setting, (c.ways.invariant.rises.sized, (c.requires.line, (omega (arith, led, c.next_wire.ensures), (c.ways.invariant.found, (λ b closed. subst (λ (n : ℕ). AtMost c.args.known (b.value c.args.line n)) is (c.requires.due b c.ways.i closed way), c.requires.one)))))))
@@ -46,7 +46,7 @@ ways-preserved g c =
             rises = rises-trans f touches r.lines c.args.self.now c.ways.self w.raise.new.self c.ways.invariant.rises w.in_ok-raise.ensures.rises;
             found = w.in_ok-raise.ensures.found;
             sent = sent-more f touches r c.args.edge c.args.line c.kind-kind.result c.index-decision.result.now c.args.known c.ways.self w.raise.new.self c.ways.i w.in_ok-raise.ensures.rises c.requires.line (λ k l. led k (omega arith)) c.ways.invariant.sent
-                (subst (λ (n : ℕ). AtMost c.args.known ((so_far (edge_count f.graph) w.raise.new.self).value c.args.line n)) (w.next_wire.ensures ∙ sym is) w.in_ok-raise.ensures.reached);
+                (subst (λ (n : ℕ). AtMost c.args.known ((so_far c.args.s.now.lines.now.lines w.raise.new.self).value c.args.line n)) (w.next_wire.ensures ∙ sym is) w.in_ok-raise.ensures.reached);
           })
       | else-allows w ↦
           rw w.self-is (record {

@@ -1,5 +1,4 @@
 use Rattle.std.proofs.Common.{◌<◌, ℕ}
-use Rattle.closed_walks.specs.Graph.{edge_count}
 use Rattle.dep_routing.specs.Touch.{touches_in}
 use Rattle.const_prop.specs.Closed.{KindAllows, led_to}
 use Rattle.const_prop.specs.Known.{AtMost}
@@ -9,6 +8,6 @@ use Rattle.const_prop.proofs.work.Work.send.Given as goal
 abbrev pub invariant-ways : goal.invariant-ways
 invariant-ways g l = record {
   rises : Rises l.s.flow.now (touches_in l.s.touch.now) l.s.lines.now.lines l.fn.self l.self;
-  found : IsFound l.s.program.now l.s.flow.now l.s.classes.now (touches_in l.s.touch.now) l.s.lines.now (so_far (edge_count l.s.flow.now.graph) l.self);
-  sent : (k : ℕ) → k < l.i → KindAllows l.kind l.decision k → AtMost l.known ((so_far (edge_count l.s.flow.now.graph) l.self).value l.line (led_to l.s.flow.now l.s.lines.now l.edge l.line k));
+  found : IsFound l.s.program.now l.s.flow.now l.s.classes.now (touches_in l.s.touch.now) l.s.lines.now (so_far l.s.lines.now.lines l.self);
+  sent : (k : ℕ) → k < l.i → KindAllows l.kind l.decision k → AtMost l.known ((so_far l.s.lines.now.lines l.self).value l.line (led_to l.s.flow.now l.s.lines.now l.edge l.line k));
 }
