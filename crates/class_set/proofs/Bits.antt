@@ -1,11 +1,12 @@
 -- Words of 64 bits as sets of numbers.
-use Rattle.std.proofs.Common.{◌≡◌, ◌≢◌, ℕ, zero, ◌+◌, ◌-◌, ◌*◌, ◌/◌, ◌%◌, ◌^◌, ◌<◌, ◌≤◌, min, Bool, true, false, ◌||◌, ◌==◌, List, length, get_or, set, replicate, refl, ap, ◌∙◌, sym, ⊎_elim, arith, bit_and, bit_or, get_or-set_same, get_or-set_other, div-le_self, Option, Some, None, MatchOption}
-use Rattle.std.proofs.lemmas.Nat.Bits.{bit_at-zero, bit_at_and, bit_at_or, bit_at_set_same, bit_at_set_other, bit_at-trailing_zeros, bit_at-lt, bit_at_above}
+use Rattle.std.proofs.Common.{◌≡◌, ◌≢◌, ℕ, zero, ◌+◌, ◌-◌, ◌*◌, ◌/◌, ◌%◌, ◌^◌, ◌<◌, ◌≤◌, min, Bool, true, false, ◌||◌, ◌&&◌, ◌==◌, List, length, not, get_or, set, replicate, refl, ap, ◌∙◌, sym, ⊎_elim, arith, bit_and, bit_or, get_or-set_same, get_or-set_other, div-le_self, Option, Some, None, MatchOption}
+use Rattle.std.proofs.lemmas.Nat.Bits.{bit_at-zero, bit_at_and, bit_at_or, bit_at_set_same, bit_at_set_other, bit_at-trailing_zeros, bit_at-lt, bit_at_above, bit_at_not}
 use Rattle.std.proofs.lemmas.List.{get_or_past, get_or-replicate, length-replicate}
 use Rattle.std.proofs.lemmas.Bool.{cases_eq, cases_lt}
 use Rattle.std.proofs.lemmas.Bool.Decides.{nat_tests}
 use Rattle.std.proofs.lemmas.Nat.{shr-shr}
 use Rattle.std.specs.Int.Bits.{and_lt}
+use Rattle.std.specs.Int.{bit_not}
 use Rattle.std.specs.Int.{bit_at, trailing_zeros, w64}
 use Rattle.class_set.specs.Members.{bit_of, IsNext, IsLast, IsLeast, IsPast, IsLowest, IsClear, first_above}
 
@@ -185,3 +186,33 @@ no_common_past words k past first =
 -- past both there is nothing to unite
 pub or_past : (words others : List ℕ) (at : ℕ) → length words ≤ at → length others ≤ at → get_or words at 0 ≡ bit_or (get_or words at 0) (get_or others at 0)
 or_past words others at past others_past = rw (get_or_past words at 0 past, get_or_past others at 0 others_past) refl
+
+-- the bits of both words
+and_bit : (a b k : ℕ) → (bit_at (bit_and a b) k == 1) ≡ ((bit_at a k == 1) && (bit_at b k == 1))
+and_bit a b k =
+    let e = bit_at_and a b k in
+    let a_low = bit_at-lt a k in
+    let b_low = bit_at-lt b k in
+    grind (arith, nat_tests)
+
+-- the bits of a word that the other lacks
+not_bit : (b k : ℕ) → b < 2 ^ 64 → k < 64 → (bit_at (bit_not w64 b) k == 1) ≡ not (bit_at b k == 1)
+not_bit b k fits within =
+    let e = bit_at_not w64 b k fits within in
+    let b_low = bit_at-lt b k in
+    grind (arith, nat_tests)
+
+pub bit_of-and : (words others shared : List ℕ) (k : ℕ) → get_or shared (k / 64) 0 ≡ bit_and (get_or words (k / 64) 0) (get_or others (k / 64) 0) → bit_of shared k ≡ (bit_of words k && bit_of others k)
+unfolding bit_of
+bit_of-and words others shared k e = rw e (and_bit (get_or words (k / 64) 0) (get_or others (k / 64) 0) (k % 64))
+
+pub bit_of-minus : (words others left : List ℕ) (k : ℕ) → get_or others (k / 64) 0 < 2 ^ 64 → get_or left (k / 64) 0 ≡ bit_and (get_or words (k / 64) 0) (bit_not w64 (get_or others (k / 64) 0)) → bit_of left k ≡ (bit_of words k && not (bit_of others k))
+unfolding bit_of
+bit_of-minus words others left k fits e =
+    rw e (and_bit (get_or words (k / 64) 0) (bit_not w64 (get_or others (k / 64) 0)) (k % 64)
+    ∙ ap (λ b. (bit_at (get_or words (k / 64) 0) (k % 64) == 1) && b) (not_bit (get_or others (k / 64) 0) (k % 64) fits (omega arith)))
+
+-- past the words there is nothing to keep
+pub bit_of-kept : (words left : List ℕ) (k : ℕ) (kept : Bool) → length words ≤ k / 64 → get_or left (k / 64) 0 ≡ get_or words (k / 64) 0 → bit_of left k ≡ (bit_of words k && kept)
+unfolding bit_of
+bit_of-kept words left k kept past e = rw (e, get_or_past words (k / 64) 0 past, blank (k % 64)) refl

@@ -1,12 +1,12 @@
 //! Small sets of numbers, as of the alias classes that a statement touches.
 #![tactic(auto)]
 
-ghost use Rattle.std.specs.Prelude.{◌≡◌, ◌*◌, ◌<◌, ◌≤◌, ◌↔◌, ◌==◌, ◌||◌, ℕ, false, true, IsTrue, MatchOption, IfSome, All};
+ghost use Rattle.std.specs.Prelude.{◌≡◌, ◌*◌, ◌<◌, ◌≤◌, ◌↔◌, ◌==◌, ◌||◌, ◌&&◌, ℕ, false, true, not, IsTrue, MatchOption, IfSome, All};
 ghost use Rattle.class_set.specs.Members.{first_above, IsNext, IsLast, IsWidth};
 
 mod words;
 
-use crate::words::{least_from, meet, unite};
+use crate::words::{intersect, least_from, meet, subtract, unite};
 use df_sequence::{Copied, NoMemory};
 use std::alloc::Global;
 
@@ -33,9 +33,18 @@ impl<const W: usize> ClassSet<W> {
         requires below { n < 64 * W }
         ensures { (k : ℕ) → holds result k ≡ (k == n || holds self.now k) }
     {
-        let mut words = self.words;
-        words[(n / 64) as usize] |= 1 << (n % 64);
-        ClassSet { words }
+        let mut set = *self;
+        set.insert(n);
+        set
+    }
+
+    /// Makes the number a member.
+    pub fn insert(&mut self, n: u32)
+        requires width { IsWidth W }
+        requires below { n < 64 * W }
+        ensures { (k : ℕ) → holds self.new k ≡ (k == n || holds self.old k) }
+    {
+        self.words[(n / 64) as usize] |= 1 << (n % 64);
     }
 
     /// Whether the number is a member. No number from `64 * W` on is one.
@@ -55,6 +64,26 @@ impl<const W: usize> ClassSet<W> {
     {
         let mut words = self.words;
         unite(&mut words, &o.words);
+        ClassSet { words }
+    }
+
+    /// The set of the numbers that are members of both.
+    pub fn intersection(&self, o: &Self) -> Self
+        requires { IsWidth W }
+        ensures { (k : ℕ) → holds result k ≡ (holds self.now k && holds o.now k) }
+    {
+        let mut words = self.words;
+        intersect(&mut words, &o.words);
+        ClassSet { words }
+    }
+
+    /// The set of the members that are no members of the other.
+    pub fn difference(&self, o: &Self) -> Self
+        requires { IsWidth W }
+        ensures { (k : ℕ) → holds result k ≡ (holds self.now k && not (holds o.now k)) }
+    {
+        let mut words = self.words;
+        subtract(&mut words, &o.words);
         ClassSet { words }
     }
 

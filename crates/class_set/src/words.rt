@@ -1,6 +1,6 @@
 //! Sets of numbers as words of 64 bits, a word at a time.
 
-ghost use Rattle.std.specs.Prelude.{◌≡◌, ◌*◌, ◌<◌, ◌≤◌, ◌↔◌, ◌||◌, ℕ, false, true, IsTrue, MatchOption, IfSome, length};
+ghost use Rattle.std.specs.Prelude.{◌≡◌, ◌*◌, ◌<◌, ◌≤◌, ◌↔◌, ◌||◌, ◌&&◌, ℕ, false, true, not, IsTrue, MatchOption, IfSome, length};
 ghost use Rattle.class_set.specs.Members.{bit_of, IsLowest, IsClear, IsLeast, IsPast};
 
 /// Adds the members of the others, which have as many words.
@@ -10,6 +10,26 @@ pub(crate) fn unite(words: &mut [u64], others: &[u64])
 {
     for (i, other) in others.iter().enumerate() {
         words[i] |= *other;
+    }
+}
+
+/// Keeps the members that are members of the others, which have as many words.
+pub(crate) fn intersect(words: &mut [u64], others: &[u64])
+    requires { length words.old ≡ length others.now }
+    ensures { (k : ℕ) → bit_of words.new k ≡ (bit_of words.old k && bit_of others.now k) }
+{
+    for (i, other) in others.iter().enumerate() {
+        words[i] &= *other;
+    }
+}
+
+/// Takes away the members of the others, which have as many words.
+pub(crate) fn subtract(words: &mut [u64], others: &[u64])
+    requires { length words.old ≡ length others.now }
+    ensures { (k : ℕ) → bit_of words.new k ≡ (bit_of words.old k && not (bit_of others.now k)) }
+{
+    for (i, other) in others.iter().enumerate() {
+        words[i] &= !*other;
     }
 }
 

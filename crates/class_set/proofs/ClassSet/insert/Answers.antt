@@ -1,7 +1,7 @@
 use Rattle.std.proofs.Common.{arith}
 use Rattle.class_set.specs.ClassSet.{holds}
 use Rattle.class_set.proofs.Bits.{bit_of-set}
-use Rattle.class_set.proofs.ClassSet.with.Goals as goal
+use Rattle.class_set.proofs.ClassSet.insert.Goals as goal
 
 pub returns : goal.returns
 unfolding holds
