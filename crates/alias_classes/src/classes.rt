@@ -37,9 +37,10 @@ impl<'a, const W: usize> Model for Classes<'a, W> {
 }
 
 impl<'a, const W: usize> Classes<'a, W> {
-    /// How many classes there are, which is the greatest number of one.
+    /// How many classes there are, which is the greatest number of one. A set of W words holds each class, and the line 0 besides.
     pub fn count(&self) -> u32
-        ensures { result ≡ class_count self.now }
+        ensures count { result ≡ class_count self.now }
+        ensures few { result < 64 * W }
     {
         (self.words.count + self.program.loops as usize) as u32
     }

@@ -143,6 +143,18 @@ module _ (g : Graph) (t : Tree) (f : TreeFacts g t) where
     pub next_wire : (e x : ℕ) → e < edge_count g → IsLoose e → Next g t touches l e x → IsWire g t touches l x
     next_wire e x edge loose n = hops_wire n.count e x edge loose n.hops n.last
 
+    hops_stay : (k e x : ℕ) → IsWire g t touches l e → Hops g t touches l k e x → x ≡ e
+    hops_stay zero e x wire same = sym same
+    hops_stay (suc k) e x wire h = absurd (wire (record {
+      region = h.1.region;
+      quiet = h.1.quiet;
+      holds = subst (λ d. IsIn g t h.1.region (to g d)) h.1.entry (at_entry g t f h.1.region h.1.quiet.number);
+    }))
+
+    -- from a wire the line is led to no other edge
+    pub next_stays : (e x : ℕ) → IsWire g t touches l e → Next g t touches l e x → x ≡ e
+    next_stays e x wire n = hops_stay n.count e x wire n.hops
+
     -- ---- back along the hops
 
     -- the last hop

@@ -36,13 +36,14 @@ pub fn largest_quiet_regions()
     tree_facts();
 }
 
-/// From each edge a line is led to one edge. From an edge that begins at a free node it is led to a wire, and to each wire from one
-/// such edge at most.
+/// From each edge a line is led to one edge, and from a wire to no other. From an edge that begins at a free node it is led to a wire,
+/// and to each wire from one such edge at most.
 pub fn next_edges()
     ensures some { (g : Graph) (t : Tree) (touches : ℕ → ℕ → Bool) (line e : ℕ) → IsFlowGraph g → IsRegionTree g t → (f : ℕ) × Next g t touches line e f }
     ensures one { (g : Graph) (t : Tree) (touches : ℕ → ℕ → Bool) (line e f h : ℕ) → IsFlowGraph g → IsRegionTree g t → Next g t touches line e f → Next g t touches line e h → f ≡ h }
     ensures exists { (g : Graph) (t : Tree) (touches : ℕ → ℕ → Bool) (line e f : ℕ) → IsFlowGraph g → IsRegionTree g t → e < edge_count g → Next g t touches line e f → f < edge_count g }
     ensures wire { (g : Graph) (t : Tree) (touches : ℕ → ℕ → Bool) (line e f : ℕ) → IsFlowGraph g → IsRegionTree g t → e < edge_count g → IsFree g t touches line (from g e) → Next g t touches line e f → IsWire g t touches line f }
+    ensures stays { (g : Graph) (t : Tree) (touches : ℕ → ℕ → Bool) (line e f : ℕ) → IsFlowGraph g → IsRegionTree g t → IsWire g t touches line e → Next g t touches line e f → f ≡ e }
     ensures back { (g : Graph) (t : Tree) (touches : ℕ → ℕ → Bool) (line e d f : ℕ) → IsFlowGraph g → IsRegionTree g t → IsFree g t touches line (from g e) → IsFree g t touches line (from g d) → Next g t touches line e f → Next g t touches line d f → e ≡ d }
 {
     tree_facts();

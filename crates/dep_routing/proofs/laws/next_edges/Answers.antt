@@ -1,4 +1,4 @@
-use Rattle.dep_routing.proofs.Hopping.{next_of, next_one, next_edge, next_wire, next_back, loose_free}
+use Rattle.dep_routing.proofs.Hopping.{next_of, next_one, next_edge, next_wire, next_stays, next_back, loose_free}
 use Rattle.dep_routing.proofs.laws.next_edges.Goals as goal
 
 pub returns-clause-some : goal.returns-clause-some
@@ -14,6 +14,9 @@ pub returns-clause-wire : goal.returns-clause-wire
 returns-clause-wire c = λ g t touches line e f flow s edge free n.
     let facts = c.tree_facts.ensures g t flow s in
     next_wire g t facts touches line e f edge (loose_free g t facts touches line e free) n
+
+pub returns-clause-stays : goal.returns-clause-stays
+returns-clause-stays c = λ g t touches line e f flow s wire n. next_stays g t (c.tree_facts.ensures g t flow s) touches line e f wire n
 
 pub returns-clause-back : goal.returns-clause-back
 returns-clause-back c = λ g t touches line e d f flow s free_e free_d a b. next_back g t (c.tree_facts.ensures g t flow s) touches line e d f free_e free_d a b

@@ -16,7 +16,7 @@ returns c =
     let of_tree : c.graph-2.result.now ≡ g = c.graph-2.ensures ∙ own in
     let of_lines : c.graph-3.result.now ≡ g = c.graph-3.ensures ∙ own in
     let sets = c.in_ok-touch.ensures.pieces in
-    let count : c.count.result + 1 ≡ suc (class_count c.in_ok-classes.classes) = let all = c.count.ensures in omega (arith, all) in
+    let count : c.count.result + 1 ≡ suc (class_count c.in_ok-classes.classes) = let all = c.count.ensures.count in omega (arith, all) in
     let tree = c.in_ok-tree.tree in
     let touches = touches_in c.in_ok-touch.touch in
     record {
