@@ -1,14 +1,6 @@
 -- Cells of a table with a row of all lines for each edge.
 use Rattle.std.proofs.Common.{◌≡◌, ℕ, ◌+◌, ◌<◌, ◌≤◌, ◌*◌, ⊎_elim, sym, ap, arith, mul-le-mul_right, add-one, suc-mul}
 use Rattle.std.proofs.lemmas.Bool.{cases_lt}
-use Rattle.std.proofs.Math.Nat.{mul_comm}
-
-pub cell_inside : (lines edges line e : ℕ) → line < lines → e < edges → e * lines + line < lines * edges
-cell_inside lines edges line e l k =
-    let more : (e + 1) * lines ≤ edges * lines = mul-le-mul_right lines (omega arith) in
-    let row : (e + 1) * lines ≡ e * lines + lines = rw add-one (suc-mul e lines) in
-    let all : edges * lines ≡ lines * edges = mul_comm edges lines in
-    omega (arith, more, row, all, l)
 
 row_before : (lines line e line' e' : ℕ) → line < lines → e < e' → e * lines + line ≡ e' * lines + line' → ⊥
 row_before lines line e line' e' l k same =

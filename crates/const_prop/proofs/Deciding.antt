@@ -1,33 +1,32 @@
 -- A piece decides anew.
-use Rattle.std.proofs.Common.{◌≡◌, ◌≢◌, ◌<◌, ◌≤◌, ◌+◌, ◌*◌, ℕ, Bool, true, false, List, [], ◌∷◌, ◌++◌, length, set, sum_by, Vec, Global, refl, sym, ap, subst, ◌∙◌, inl, inr, ⊎_elim, arith, length-set, mul-le-mul_left, mul-suc, add-one}
+use Rattle.std.proofs.Common.{◌≡◌, ◌≢◌, ◌<◌, ◌≤◌, ◌+◌, ℕ, Bool, true, false, ◌==◌, ◌&&◌, ◌||◌, List, length, refl, sym, ap, subst, ◌∙◌, inl, inr, ⊎_elim, arith, length-set}
 use Rattle.std.specs.Vec.{with_item}
-use Rattle.std.proofs.lemmas.Bool.{cases_eq, cases_lt}
+use Rattle.std.proofs.lemmas.Bool.{cases_eq, cases_Bool, and_parts, eq-eqb, eqb-true, or_cases, or_left, or_right}
 use Rattle.std.proofs.lemmas.Grind.{get_or-set_at}
 use Rattle.std.proofs.lemmas.List.{get_or-set_other}
 use Rattle.std.proofs.lemmas.List.Sums.{sum_by-set}
+use Rattle.class_set.specs.ClassSet.{holds}
+use Rattle.class_set.specs.declared.ClassSet.{ClassSet}
 use Rattle.closed_walks.specs.Graph.{edge_count, to}
 use Rattle.f77_tree.specs.declared.programs.Program.{Program}
 use Rattle.alias_classes.specs.Classes.{ClassTable}
 use Rattle.cfg_build.specs.Joined.{FlowGraph}
-use Rattle.dep_routing.specs.Routing.{Routing}
+use Rattle.dep_routing.specs.Routing.{Routing, wire_at}
 use Rattle.const_prop.specs.declared.known.Known.{Known}
 use Rattle.const_prop.specs.declared.known.Known.TheVariants.{Nothing}
 use Rattle.const_prop.specs.declared.work.Work.{Work}
 use Rattle.const_prop.specs.Closed.{IsClosed, IsReady, IsWay, KindAllows, is_switch, kind_behind, decided_behind}
 use Rattle.const_prop.specs.Known.{AtMost}
 use Rattle.const_prop.specs.Table.{Knowns}
-use Rattle.const_prop.specs.Work.{room, IsRise, so_far, is_waiting, work_left, HoldsPair, IsSized, IsPast, IsFound, IsPassedOn, IsSeen, IsSettling, edge_lines, this_piece, no_line}
+use Rattle.const_prop.specs.EdgeSet.{edge_holds}
+use Rattle.const_prop.specs.LineSets.{set_holds}
+use Rattle.const_prop.specs.Rise.{room, IsRise}
+use Rattle.const_prop.specs.Work.{so_far, is_pending, is_waiting, work_left, IsSized, IsFound, IsPassedOn, IsSeen, IsSettling, all_lines, this_piece, no_line}
 use Rattle.const_prop.proofs.Order.{at_most-trans, something-more}
-use Rattle.const_prop.proofs.Rising.{pair-left, pair-last, pair-either}
+use Rattle.const_prop.proofs.Rising.{waits-more}
 use Rattle.const_prop.proofs.Under.{IsUnder, AreCovered, decided-less}
 
-mul-one_more : (n m : ℕ) → n * (m + 1) ≡ n * m + n
-mul-one_more n m = rw add-one (mul-suc n m)
-
 module _ (p : Program) (f : FlowGraph) (c : ClassTable) (touches : ℕ → ℕ → Bool) (r : Routing) where
-  abbrev at : Work → Knowns
-  at w = so_far r.lines w
-
   -- what a ready piece decides is due
   pub decided-due : AreCovered p f c touches r.lines → (t b : Knowns) (e : ℕ) → IsFound p f c touches r t → IsClosed p f c touches r b → IsReady f touches r.lines t e → is_switch (kind_behind f e) ≡ true → AtMost (decided_behind p f c t e) (b.decision (to f.graph e))
   decided-due a t b e found closed ready s =
@@ -36,9 +35,13 @@ module _ (p : Program) (f : FlowGraph) (c : ClassTable) (touches : ℕ → ℕ �
       let under : IsUnder c f touches r.lines t b e = record { under = λ line l x. below.value line e l ready.edge; some = ready.each; one = λ line l several. closed.words line e l ready.edge several } in
       at_most-trans (decided_behind p f c t e) (decided_behind p f c b e) (b.decision (to f.graph e)) (decided-less p f c touches r.lines a t b e ready.edge under s) (closed.decisions e there s)
 
-  module _ (old : Work) (e node : ℕ) (comes known : Known) (edge : e < edge_count f.graph) (is : node ≡ to f.graph e) (inside : node < f.graph.nodes) (alone : (k : ℕ) → k < edge_count f.graph → to f.graph k ≡ node → k ≡ e) (sized : IsSized f r.lines old) (rise : IsRise ((at old).decision node) comes known) where
-    abbrev pub decided_work : Work
-    decided_work = record { values = old.values; decisions = with_item old.decisions node known; risen = old.risen; entered = old.entered; waits = old.waits }
+module _ {W : ℕ} (p : Program) (f : FlowGraph) (c : ClassTable) (touches : ℕ → ℕ → Bool) (r : Routing) where
+  abbrev at : Work W → Knowns
+  at w = so_far w
+
+  module _ (old : Work W) (e node : ℕ) (comes known : Known) (edge : e < edge_count f.graph) (is : node ≡ to f.graph e) (inside : node < f.graph.nodes) (alone : (k : ℕ) → k < edge_count f.graph → to f.graph k ≡ node → k ≡ e) (sized : IsSized f r.lines old) (rise : IsRise ((at old).decision node) comes known) where
+    abbrev pub decided_work : Work W
+    decided_work = record { known = old.known; decisions = with_item old.decisions node known; pending = old.pending; waits = old.waits }
 
     node_in : node < length old.decisions.items
     node_in = omega (arith, inside, sized.decisions)
@@ -67,17 +70,17 @@ module _ (p : Program) (f : FlowGraph) (c : ClassTable) (touches : ℕ → ℕ �
       };
     }
 
-    pub decided-settling : IsFound p f c touches r (at decided_work) → IsSettling p f c touches r no_line (this_piece e) old → IsSettling p f c touches r (edge_lines e 0) (this_piece e) decided_work
+    pub decided-settling : IsFound p f c touches r (at decided_work) → IsSettling p f c touches r no_line (this_piece e) old → IsSettling p f c touches r (all_lines e) (this_piece e) decided_work
     decided-settling found s = record {
-      sized = record { values = s.sized.values; decisions = length-set old.decisions.items node known ∙ s.sized.decisions; waits = s.sized.waits };
+      sized = record { lines_are = s.sized.lines_are; edges_are = s.sized.edges_are; decisions = length-set old.decisions.items node known ∙ s.sized.decisions; pending = s.sized.pending; waits = s.sized.waits };
       found = found;
       opened = record { initial = s.opened.initial; others = s.opened.others };
       lines = λ l k in_l in_k t. ⊎_elim
-          (λ (same : k ≡ e). inl (same, omega arith))
+          (λ (same : k ≡ e). inl same)
           (λ (differ : k ≢ e). ⊎_elim
           (λ (no' : ⊥). absurd no')
           (λ h. inr (⊎_elim
-          (λ (waits : HoldsPair old.risen.items l k). inl waits)
+          (λ (pending : is_pending old l k ≡ true). inl pending)
           (λ (passed : IsPassedOn p f c touches r (at old) l k). inr (λ i way kind wire. passed i (way-elsewhere k i differ way) kind wire))
           h))
           (s.lines l k in_l in_k t))
@@ -95,77 +98,52 @@ module _ (p : Program) (f : FlowGraph) (c : ClassTable) (touches : ℕ → ℕ �
           h))
           (s.pieces k in_k))
           (cases_eq k e);
-      listed = s.listed;
-      risen = s.risen;
-      entered = s.entered;
+      waits = s.waits;
     }
 
-    pub decided-left : work_left r.lines decided_work + r.lines ≤ work_left r.lines old
+    pub decided-left : work_left f r.lines decided_work + 1 ≤ work_left f r.lines old
     decided-left =
         let e' = sum_by-set room old.decisions.items node known Nothing node_in in
-        let less : sum_by room (set old.decisions.items node known) + 1 ≤ sum_by room old.decisions.items = omega (arith, e', rise.rises) in
-        let times : r.lines * (sum_by room (set old.decisions.items node known) + 1) ≤ r.lines * sum_by room old.decisions.items = mul-le-mul_left r.lines less in
-        let apart : r.lines * (sum_by room (set old.decisions.items node known) + 1) ≡ r.lines * sum_by room (set old.decisions.items node known) + r.lines = mul-one_more r.lines (sum_by room (set old.decisions.items node known)) in
-        omega (arith, times, apart)
+        omega (arith, e', rise.rises)
 
-  -- one line more is passed on again
-  pub again-push : (w : Work) (e line : ℕ) (v : Vec (ℕ × ℕ) Global) → v.items ≡ w.risen.items ++ (line, e) ∷ [] → IsPast f touches r.lines line e → IsSettling p f c touches r (edge_lines e line) (this_piece e) w → IsSettling p f c touches r (edge_lines e (line + 1)) (this_piece e) (record { values = w.values; decisions = w.decisions; risen = v; entered = w.entered; waits = w.waits })
-  again-push w e line v are past s = record {
-    sized = record { values = s.sized.values; decisions = s.sized.decisions; waits = s.sized.waits };
-    found = s.found;
-    opened = record { initial = s.opened.initial; others = s.opened.others };
-    lines = λ l k in_l in_k t. ⊎_elim
-        (λ (open' : (k ≡ e) × (line ≤ l)). ⊎_elim
-        (λ (more : line < l). inl (open'.0, omega arith))
-        (λ (no_more : l ≤ line). let low = open'.1 in let same : line ≡ l = omega arith in inr (inl (subst (λ (xs : List (ℕ × ℕ)). HoldsPair xs l k) (sym are) (subst (λ (n : ℕ). HoldsPair (w.risen.items ++ (line, e) ∷ []) l n) (sym open'.0) (subst (λ (n : ℕ). HoldsPair (w.risen.items ++ (line, e) ∷ []) n e) same (pair-last w.risen.items line e))))))
-        (cases_lt line l))
-        (λ h. inr (⊎_elim
-        (λ (waits : HoldsPair w.risen.items l k). inl (subst (λ (xs : List (ℕ × ℕ)). HoldsPair xs l k) (sym are) (pair-left w.risen.items ((line, e) ∷ []) l k waits)))
-        (λ (passed : IsPassedOn p f c touches r (at w) l k). inr passed)
-        h))
-        (s.lines l k in_l in_k t);
-    pieces = s.pieces;
-    listed = s.listed;
-    risen = λ l k h. ⊎_elim
-        (λ (was : HoldsPair w.risen.items l k). s.risen l k was)
-        (λ (is : (line ≡ l) × (e ≡ k)). subst (λ (n : ℕ). IsPast f touches r.lines n k) is.0 (subst (λ (n : ℕ). IsPast f touches r.lines line n) is.1 past))
-        (pair-either w.risen.items (line, e) l k (subst (λ (xs : List (ℕ × ℕ)). HoldsPair xs l k) are h));
-    entered = s.entered;
-  }
+  -- the lines that stand on the edge are to be passed on again, and it waits
+  abbrev pub woken : Work W → (pending : List (ClassSet W)) → (waits : List (ClassSet 1)) → Work W
+  woken w pending waits = record { known = w.known; decisions = w.decisions; pending = pending; waits = waits }
 
-  pub again-skip : (w : Work) (e line : ℕ) → touches (to f.graph e) line ≡ true → IsSettling p f c touches r (edge_lines e line) (this_piece e) w → IsSettling p f c touches r (edge_lines e (line + 1)) (this_piece e) w
-  again-skip w e line touched s = record {
-    sized = s.sized;
-    found = s.found;
-    opened = s.opened;
-    lines = λ l k in_l in_k t. ⊎_elim
-        (λ (open' : (k ≡ e) × (line ≤ l)). ⊎_elim
-        (λ (more : line < l). inl (open'.0, omega arith))
-        (λ (no_more : l ≤ line).
-        let low = open'.1 in
-        let same : l ≡ line = omega arith in
-        let clash : false ≡ true = sym t ∙ ap (λ (n : ℕ). touches (to f.graph n) l) open'.0 ∙ ap (touches (to f.graph e)) same ∙ touched in
-        absurd cc)
-        (cases_lt line l))
-        (λ h. inr h)
-        (s.lines l k in_l in_k t);
-    pieces = s.pieces;
-    listed = s.listed;
-    risen = s.risen;
-    entered = s.entered;
-  }
+  module _ (w : Work W) (e : ℕ) (pending : List (ClassSet W)) (waits : List (ClassSet 1)) (standing : ClassSet W) (size : length pending ≡ length w.pending) (room : length waits ≡ length w.waits) (waited : (k : ℕ) → edge_holds waits k ≡ ((k == e) || is_waiting w k)) (stand : (line : ℕ) → line < r.lines → holds standing line ≡ wire_at r line e) (more : (d k : ℕ) → set_holds pending d k ≡ (((d == e) && holds standing k) || is_pending w k d)) where
+    woken-here : (k : ℕ) → k ≡ e → is_waiting (woken w pending waits) k ≡ true
+    woken-here k is = waited k ∙ or_left (k == e) (is_waiting w k) (eq-eqb k e is)
 
-  pub again-end : (w : Work) (e line : ℕ) → r.lines ≤ line → IsSettling p f c touches r (edge_lines e line) (this_piece e) w → IsSettling p f c touches r no_line (this_piece e) w
-  again-end w e line all s = record {
-    sized = s.sized;
-    found = s.found;
-    opened = s.opened;
-    lines = λ l k in_l in_k t. ⊎_elim
-        (λ (open' : (k ≡ e) × (line ≤ l)). let low = open'.1 in absurd (omega arith))
-        (λ h. inr h)
-        (s.lines l k in_l in_k t);
-    pieces = s.pieces;
-    listed = s.listed;
-    risen = s.risen;
-    entered = s.entered;
-  }
+    woken-on : (k : ℕ) → is_waiting w k ≡ true → is_waiting (woken w pending waits) k ≡ true
+    woken-on k was = waited k ∙ or_right (k == e) (is_waiting w k) was
+
+    pub woken-settling : IsSettling p f c touches r (all_lines e) (this_piece e) w → IsSettling p f c touches r no_line (this_piece e) (woken w pending waits)
+    woken-settling s = record {
+      sized = record { lines_are = s.sized.lines_are; edges_are = s.sized.edges_are; decisions = s.sized.decisions; pending = size ∙ s.sized.pending; waits = (let most = s.sized.waits in omega (arith, most, room)) };
+      found = s.found;
+      opened = record { initial = s.opened.initial; others = s.opened.others };
+      lines = λ l k in_l in_k t. inr (⊎_elim
+          (λ (is : k ≡ e). ⊎_elim
+          (λ (on : holds standing l ≡ true).
+          let here : (k == e) ≡ true = eq-eqb k e is in
+          inl (more k l ∙ or_left ((k == e) && holds standing l) (is_pending w l k) (rw (here, on) refl)))
+          (λ (off : holds standing l ≡ false). inr (λ i way kind wire.
+          let clash : true ≡ false = sym (ap (wire_at r l) (sym is) ∙ wire) ∙ sym (stand l in_l) ∙ off in absurd cc))
+          (cases_Bool (holds standing l)))
+          (λ h. ⊎_elim
+          (λ (was : is_pending w l k ≡ true). inl (more k l ∙ or_right ((k == e) && holds standing l) (is_pending w l k) was))
+          (λ (passed : IsPassedOn p f c touches r (at w) l k). inr passed)
+          h)
+          (s.lines l k in_l in_k t));
+      pieces = λ k in_k. ⊎_elim
+          (λ (open' : k ≡ e). inl open')
+          (λ h. inr (⊎_elim (λ (waits : is_waiting w k ≡ true). inl (woken-on k waits)) (λ (seen : IsSeen p f c touches r (at w) k). inr seen) h))
+          (s.pieces k in_k);
+      waits = λ l k h. ⊎_elim
+          (λ (here : ((k == e) && holds standing l) ≡ true). woken-here k (eqb-true k e (and_parts (k == e) (holds standing l) here).0))
+          (λ (was : is_pending w l k ≡ true). woken-on k (s.waits l k was))
+          (or_cases ((k == e) && holds standing l) (is_pending w l k) (sym (more k l) ∙ h));
+    }
+
+    pub woken-left : work_left f r.lines (woken w pending waits) ≤ work_left f r.lines w + 1
+    woken-left = let most = waits-more (is_waiting w) (is_waiting (woken w pending waits)) (edge_count f.graph) e waited in omega (arith, most)

@@ -1,9 +1,15 @@
 pub mod Cells
-pub mod Filling
+pub mod KnownRowsLemmas
+pub mod LineSetLemmas
+pub mod EdgeSetLemmas
 pub mod Counting
 pub mod Expressions
 pub mod Order
+pub mod Rooms
 pub mod Rising
+pub mod Raising
+pub mod Going
+pub mod Standing
 pub mod Rows
 pub mod Sending
 pub mod Foreseen

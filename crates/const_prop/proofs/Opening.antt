@@ -1,5 +1,5 @@
 -- The opening of a table.
-use Rattle.std.proofs.Common.{◌≡◌, ◌⊎◌, ◌<◌, ◌≤◌, ◌+◌, ◌*◌, ℕ, Bool, true, false, List, length, get_or, replicate, sym, ap, subst, ◌∙◌, inl, inr, ⊎_elim, arith}
+use Rattle.std.proofs.Common.{◌≡◌, ◌⊎◌, ◌<◌, ◌≤◌, ◌+◌, ℕ, Bool, true, false, List, get_or, replicate, sym, ap, subst, ◌∙◌, inl, inr, ⊎_elim, arith}
 use Rattle.std.proofs.lemmas.Bool.{cases_lt}
 use Rattle.std.proofs.lemmas.List.{get_or-replicate, get_or_past, length-replicate}
 use Rattle.closed_walks.specs.Graph.{edge_count}
@@ -11,10 +11,10 @@ use Rattle.dep_routing.specs.Routing.{Routing, next_at}
 use Rattle.const_prop.specs.declared.known.Known.{Known}
 use Rattle.const_prop.specs.declared.known.Known.TheVariants.{Nothing, One, Any}
 use Rattle.const_prop.specs.declared.work.Work.{Work}
-use Rattle.const_prop.specs.Closed.{is_one_word}
 use Rattle.const_prop.specs.Known.{AtMost, IsNotOne}
 use Rattle.const_prop.specs.Table.{Knowns}
-use Rattle.const_prop.specs.Work.{so_far, is_waiting, IsSized, IsFound, IsBlank, IsSettlingFrom, no_line, no_piece}
+use Rattle.const_prop.specs.Closed.{is_one_word, led_to}
+use Rattle.const_prop.specs.Work.{so_far, IsBlank, IsSettlingFrom, no_line, no_piece}
 
 nothing : (n k : ℕ) → get_or (replicate n Nothing) k Nothing ≡ Nothing
 nothing n k = ⊎_elim
@@ -22,35 +22,27 @@ nothing n k = ⊎_elim
     (λ (past : n ≤ k). get_or_past (replicate n Nothing) k Nothing (let size = length-replicate {A = Known} n Nothing in omega (arith, size, past)))
     (cases_lt k n)
 
-module _ (p : Program) (f : FlowGraph) (c : ClassTable) (touches : ℕ → ℕ → Bool) (r : Routing) where
-  abbrev at : Work → Knowns
-  at w = so_far r.lines w
+module _ {W : ℕ} (p : Program) (f : FlowGraph) (c : ClassTable) (touches : ℕ → ℕ → Bool) (r : Routing) where
+  abbrev at : Work W → Knowns
+  at w = so_far w
 
-  pub blank-settling : (w : Work) → IsBlank f r w → IsSettlingFrom p f c touches r 0 0 no_line no_piece w
+  pub blank-settling : (w : Work W) → IsBlank f r w → IsSettlingFrom p f c touches r 0 0 no_line no_piece w
   blank-settling w b =
-      let value : (line e : ℕ) → (at w).value line e ≡ Nothing = λ line e. ap (λ (xs : List Known). get_or xs (e * r.lines + line) Nothing) b.values ∙ nothing (r.lines * edge_count f.graph) (e * r.lines + line) in
       let decision : (k : ℕ) → (at w).decision k ≡ Nothing = λ k. ap (λ (xs : List Known). get_or xs k Nothing) b.decisions ∙ nothing f.graph.nodes k in
       record {
-        sized = record { values = ap length b.values ∙ length-replicate (r.lines * edge_count f.graph) Nothing; decisions = ap length b.decisions ∙ length-replicate f.graph.nodes Nothing; waits = ap length b.waits ∙ length-replicate (edge_count f.graph) true };
+        sized = b.sized;
         found = record {
-          words = λ line e l k several. subst IsNotOne (sym (value line e)) tt;
-          below = λ s closed. record { value = λ line e l k. subst (λ (x : Known). AtMost x (s.value line e)) (sym (value line e)) tt; decision = λ k l. subst (λ (x : Known). AtMost x (s.decision k)) (sym (decision k)) tt };
+          words = λ line e l k several. subst IsNotOne (sym (b.values line e)) tt;
+          below = λ s closed. record { value = λ line e l k. subst (λ (x : Known). AtMost x (s.value line e)) (sym (b.values line e)) tt; decision = λ k l. subst (λ (x : Known). AtMost x (s.decision k)) (sym (decision k)) tt };
         };
         opened = record { initial = λ word l m one. absurd (omega (arith, m)); others = λ line l m one. absurd (omega (arith, m)) };
-        lines = λ line e l k t. inr (inr (λ i way kind wire. subst (λ (x : Known). AtMost x ((at w).value line (Rattle.const_prop.specs.Closed.led_to f r e line i))) (sym (value line e)) tt));
-        pieces = λ e k. inr (inl (ap (λ (xs : List Bool). get_or xs e false) b.waits ∙ get_or-replicate (edge_count f.graph) e true false k));
-        listed = λ e waits. ⊎_elim
-            (λ (l : e < edge_count f.graph). b.entered e l)
-            (λ (past : edge_count f.graph ≤ e).
-            let off : get_or (replicate (edge_count f.graph) true) e false ≡ false = get_or_past (replicate (edge_count f.graph) true) e false (let size = length-replicate {A = Bool} (edge_count f.graph) true in omega (arith, size, past)) in
-            let clash : true ≡ false = sym waits ∙ ap (λ (xs : List Bool). get_or xs e false) b.waits ∙ off in absurd cc)
-            (cases_lt e (edge_count f.graph));
-        risen = λ line e h. absurd (subst (λ (xs : List (ℕ × ℕ)). Rattle.const_prop.specs.Work.HoldsPair xs line e) b.risen h);
-        entered = b.edges;
+        lines = λ line e l k t. inr (inr (λ i way kind wire. subst (λ (x : Known). AtMost x ((at w).value line (led_to f r e line i))) (sym (b.values line e)) tt));
+        pieces = λ e k. inr (inl (b.waits e k));
+        waits = λ line e h. let clash : true ≡ false = sym h ∙ b.pending line e in absurd cc;
       }
 
   -- one line more is opened, or needs no opening
-  pub others-more : (words line : ℕ) (w : Work) → (is_one_word c line ≡ true) ⊎ AtMost Any ((at w).value line (next_at r line 1)) → IsSettlingFrom p f c touches r words line no_line no_piece w → IsSettlingFrom p f c touches r words (line + 1) no_line no_piece w
+  pub others-more : (words line : ℕ) (w : Work W) → (is_one_word c line ≡ true) ⊎ AtMost Any ((at w).value line (next_at r line 1)) → IsSettlingFrom p f c touches r words line no_line no_piece w → IsSettlingFrom p f c touches r words (line + 1) no_line no_piece w
   others-more words line w here s = record {
     sized = s.sized;
     found = s.found;
@@ -68,12 +60,10 @@ module _ (p : Program) (f : FlowGraph) (c : ClassTable) (touches : ℕ → ℕ �
     };
     lines = s.lines;
     pieces = s.pieces;
-    listed = s.listed;
-    risen = s.risen;
-    entered = s.entered;
+    waits = s.waits;
   }
 
-  pub words-more : (word lines : ℕ) (w : Work) → (is_one_word c (class_of_word c word) ≡ false) ⊎ AtMost (One (word_at p.initial word)) ((at w).value (class_of_word c word) (next_at r (class_of_word c word) 1)) → IsSettlingFrom p f c touches r word lines no_line no_piece w → IsSettlingFrom p f c touches r (word + 1) lines no_line no_piece w
+  pub words-more : (word lines : ℕ) (w : Work W) → (is_one_word c (class_of_word c word) ≡ false) ⊎ AtMost (One (word_at p.initial word)) ((at w).value (class_of_word c word) (next_at r (class_of_word c word) 1)) → IsSettlingFrom p f c touches r word lines no_line no_piece w → IsSettlingFrom p f c touches r (word + 1) lines no_line no_piece w
   words-more word lines w here s = record {
     sized = s.sized;
     found = s.found;
@@ -91,7 +81,5 @@ module _ (p : Program) (f : FlowGraph) (c : ClassTable) (touches : ℕ → ℕ �
     };
     lines = s.lines;
     pieces = s.pieces;
-    listed = s.listed;
-    risen = s.risen;
-    entered = s.entered;
+    waits = s.waits;
   }

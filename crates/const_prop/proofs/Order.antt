@@ -4,7 +4,7 @@ use Rattle.const_prop.specs.declared.known.Known.{Known}
 use Rattle.const_prop.specs.declared.known.Known.TheVariants.{Nothing, One, Any}
 use Rattle.const_prop.specs.Closed.{Allows, KindAllows}
 use Rattle.const_prop.specs.Known.{AtMost, IsSomething, one_of}
-use Rattle.const_prop.specs.Work.{IsRise}
+use Rattle.const_prop.specs.Rise.{IsRise}
 use Rattle.cfg_build.specs.declared.pieces.PieceKind.{PieceKind}
 use Rattle.cfg_build.specs.declared.pieces.PieceKind.TheVariants.{Start, Act, Pass, Branch, Join, Hold, End}
 

@@ -10,7 +10,6 @@ use Rattle.closed_walks.specs.Walk.{Holds}
 use Rattle.cfg_build.specs.Passes.{outs}
 use Rattle.dep_routing.specs.Touch.{touches_in}
 use Rattle.const_prop.specs.Setting.{IsTouchedRow}
-use Rattle.const_prop.specs.Work.{AreBelow}
 
 pub touches-at : {W : ℕ} (sets : List (ClassSet W)) (node line : ℕ) (s : ClassSet W) → slice_get sets node ≡ Some s → touches_in sets node line ≡ holds s line
 touches-at [] node line s is = absurd cc
@@ -119,16 +118,3 @@ outs-edge g node i l =
     let r = range-holds 0 (edge_count g) (get_or (outs g node) i 0) h.1 in
     let r1 = r.1 in
     (omega arith, eqb-true (from g (get_or (outs g node) i 0)) node h.0)
-
--- one number more
-pub numbers-more : (n : ℕ) (xs : List ℕ) → AreBelow n xs → AreBelow (n + 1) (xs ++ n ∷ [])
-numbers-more n xs are = record {
-  all = λ e l. ⊎_elim
-      (λ (low : e < n). Holds-left xs (n ∷ []) e (are.all e low))
-      (λ (high : n ≤ e). Holds-right xs (n ∷ []) e (inl (omega arith)))
-      (cases_lt e n);
-  below = λ e h. ⊎_elim
-      (λ (old : Holds xs e). let l = are.below e old in omega (arith, l))
-      (λ (new : Holds (n ∷ []) e). ⊎_elim (λ (is : n ≡ e). omega (arith, is)) (λ (no' : ⊥). absurd no') new)
-      (Holds-append xs (n ∷ []) e h);
-}

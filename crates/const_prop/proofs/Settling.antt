@@ -2,7 +2,8 @@
 use Rattle.std.proofs.Common.{◌≡◌, ◌⊎◌, ◌<◌, ◌||◌, ℕ, Bool, true, false, List, get_or, sym, subst, ◌∙◌, inl, inr, ⊎_elim}
 use Rattle.std.proofs.lemmas.Bool.{cases_Bool, or_cases}
 use Rattle.closed_walks.specs.Graph.{edge_count, to}
-use Rattle.closed_walks.specs.Walk.{Holds}
+use Rattle.class_set.specs.ClassSet.{holds}
+use Rattle.class_set.specs.declared.ClassSet.{ClassSet}
 use Rattle.f77_tree.specs.declared.programs.Program.{Program}
 use Rattle.f77_tree.specs.Value.{word_at}
 use Rattle.alias_classes.specs.Classes.{ClassTable, class_of_word}
@@ -15,19 +16,20 @@ use Rattle.const_prop.specs.declared.work.Work.{Work}
 use Rattle.const_prop.specs.Closed.{IsClosed, IsReady, IsWay, KindAllows, is_switch, is_merge, kind_behind, led_to, written_behind, decided_behind}
 use Rattle.const_prop.specs.Known.{AtMost, IsSomething}
 use Rattle.const_prop.specs.Table.{Knowns}
-use Rattle.const_prop.specs.Work.{so_far, is_waiting, HoldsPair, IsPast, Rises, IsFound, IsOpenedFor, IsPassedOn, IsSeenFor, IsSeen, IsSettlingFrom, IsSettling, no_line, no_piece, this_line, this_piece}
+use Rattle.const_prop.specs.Work.{so_far, is_pending, is_waiting, Rises, IsFound, IsOpenedFor, IsPassedOn, IsSeenFor, IsSeen, IsSettlingFrom, IsSettling, no_line, no_piece, these_lines, this_piece}
 use Rattle.const_prop.proofs.Order.{at_most-is, at_most-trans, kind_allows-more}
 use Rattle.const_prop.proofs.Rows.{outs-edge}
 use Rattle.const_prop.proofs.Under.{IsUnder, AreCovered, class_below, decided-less, written-less}
 
-module _ (p : Program) (f : FlowGraph) (c : ClassTable) (touches : ℕ → ℕ → Bool) (r : Routing) (a : AreCovered p f c touches r.lines) (two : 1 < edge_count f.graph) (next : (line e : ℕ) → line < r.lines → e < edge_count f.graph → next_at r line e < edge_count f.graph) where
-  abbrev at : Work → Knowns
-  at w = so_far r.lines w
-
+module _ (f : FlowGraph) (r : Routing) (next : (line e : ℕ) → line < r.lines → e < edge_count f.graph → next_at r line e < edge_count f.graph) where
   pub led_inside : (t : Knowns) (e line i : ℕ) → IsWay f t e i → line < r.lines → led_to f r e line i < edge_count f.graph
   led_inside t e line i way l = next line (get_or (outs f.graph (to f.graph e)) i 0) l (outs-edge f.graph (to f.graph e) i way.exists).0
 
-  module _ (old new : Work) (rises : Rises f touches r.lines old new) (found : IsFound p f c touches r (at new)) where
+module _ {W : ℕ} (p : Program) (f : FlowGraph) (c : ClassTable) (touches : ℕ → ℕ → Bool) (r : Routing) (a : AreCovered p f c touches r.lines) (two : 1 < edge_count f.graph) (next : (line e : ℕ) → line < r.lines → e < edge_count f.graph → next_at r line e < edge_count f.graph) where
+  abbrev at : Work W → Knowns
+  at w = so_far w
+
+  module _ (old new : Work W) (rises : Rises f r.lines old new) (found : IsFound p f c touches r (at new)) where
     grows : (line e : ℕ) → line < r.lines → e < edge_count f.graph → AtMost ((at old).value line e) ((at new).value line e)
     grows = rises.grows
 
@@ -46,7 +48,7 @@ module _ (p : Program) (f : FlowGraph) (c : ClassTable) (touches : ℕ → ℕ �
     passed-on : (line e : ℕ) → line < r.lines → e < edge_count f.graph → (at new).value line e ≡ (at old).value line e → IsPassedOn p f c touches r (at old) line e → IsPassedOn p f c touches r (at new) line e
     passed-on line e l k same passed i way kind wire =
         subst (λ (x : Known). AtMost x ((at new).value line (led_to f r e line i))) (sym same)
-        (at_most-trans ((at old).value line e) ((at old).value line (led_to f r e line i)) ((at new).value line (led_to f r e line i)) (passed i (same_way e i way) kind wire) (grows line (led_to f r e line i) l (led_inside (at new) e line i way l)))
+        (at_most-trans ((at old).value line e) ((at old).value line (led_to f r e line i)) ((at new).value line (led_to f r e line i)) (passed i (same_way e i way) kind wire) (grows line (led_to f r e line i) l (led_inside f r next (at new) e line i way l)))
 
     module _ (e : ℕ) (k : e < edge_count f.graph) (same : (line : ℕ) → line < r.lines → touches (to f.graph e) line ≡ true → (at new).value line e ≡ (at old).value line e) (old_found : IsFound p f c touches r (at old)) where
       pub ready-back : IsReady f touches r.lines (at new) e → IsReady f touches r.lines (at old) e
@@ -67,7 +69,7 @@ module _ (p : Program) (f : FlowGraph) (c : ClassTable) (touches : ℕ → ℕ �
         left = λ line i ready way l t m.
             let was = seen.left line i (ready-back ready) (same_way e i way) l t m in
             let led = led_to f r e line i in
-            let inside = led_inside (at new) e line i way l in
+            let inside = led_inside f r next (at new) e line i way l in
             record {
               writes = λ is. at_most-trans (written_behind p f c (at new) e line) (written_behind p f c (at old) e line) ((at new).value line led) (written-less p f c touches r.lines a (at new) (at old) e k (under ready) line is)
                   (at_most-trans (written_behind p f c (at old) e line) ((at old).value line led) ((at new).value line led) (was.writes is) (grows line led l inside));
@@ -75,11 +77,21 @@ module _ (p : Program) (f : FlowGraph) (c : ClassTable) (touches : ℕ → ℕ �
             };
       }
 
+    -- edges with pending lines wait on
+    waits-on : ((line e : ℕ) → is_pending old line e ≡ true → is_waiting old e ≡ true) → (line e : ℕ) → is_pending new line e ≡ true → is_waiting new e ≡ true
+    waits-on waited line e pending = ⊎_elim
+        (λ (was : is_pending old line e ≡ true). rises.waiting e (waited line e was))
+        (λ (waits : is_waiting new e ≡ true). waits)
+        (rises.woken line e pending)
+
     -- the touched lines on an edge stay, or it waits
-    pub stays_or_waits : (e : ℕ) → e < edge_count f.graph → (is_waiting new e ≡ true) ⊎ ((line : ℕ) → line < r.lines → touches (to f.graph e) line ≡ true → (at new).value line e ≡ (at old).value line e)
-    stays_or_waits e k = ⊎_elim
+    pub stays_or_waits : ((line e : ℕ) → is_pending old line e ≡ true → is_waiting old e ≡ true) → (e : ℕ) → e < edge_count f.graph → (is_waiting new e ≡ true) ⊎ ((line : ℕ) → line < r.lines → touches (to f.graph e) line ≡ true → (at new).value line e ≡ (at old).value line e)
+    stays_or_waits waited e k = ⊎_elim
         (λ (waits : is_waiting new e ≡ true). inl waits)
-        (λ (free : is_waiting new e ≡ false). inr (λ line l t. ⊎_elim (λ (waits : is_waiting new e ≡ true). let no' : true ≡ false = sym waits ∙ free in absurd cc) (λ (same : (at new).value line e ≡ (at old).value line e). same) (rises.seen line e l k t)))
+        (λ (free : is_waiting new e ≡ false). inr (λ line l t. ⊎_elim
+        (λ (pending : is_pending new line e ≡ true). let clash : true ≡ false = sym (waits-on waited line e pending) ∙ free in absurd cc)
+        (λ (same : (at new).value line e ≡ (at old).value line e). same)
+        (rises.moved line e l k)))
         (cases_Bool (is_waiting new e))
 
     pub settling-rises-from : (words lines : ℕ) (open_lines : ℕ → ℕ → Type 0) (open_edges : ℕ → Type 0) → IsSettlingFrom p f c touches r words lines open_lines open_edges old → IsSettlingFrom p f c touches r words lines open_lines open_edges new
@@ -90,43 +102,39 @@ module _ (p : Program) (f : FlowGraph) (c : ClassTable) (touches : ℕ → ℕ �
       lines = λ line e l k t. ⊎_elim
           (λ open'. inl open')
           (λ h. ⊎_elim
-          (λ (waits : HoldsPair old.risen.items line e). inr (inl (rises.kept line e waits)))
-          (λ (passed : IsPassedOn p f c touches r (at old) line e). inr (⊎_elim (λ (waits : HoldsPair new.risen.items line e). inl waits) (λ (same : (at new).value line e ≡ (at old).value line e). inr (passed-on line e l k same passed)) (rises.passed line e l k t)))
+          (λ (pending : is_pending old line e ≡ true). inr (inl (rises.kept line e pending)))
+          (λ (passed : IsPassedOn p f c touches r (at old) line e). inr (⊎_elim (λ (pending : is_pending new line e ≡ true). inl pending) (λ (same : (at new).value line e ≡ (at old).value line e). inr (passed-on line e l k same passed)) (rises.moved line e l k)))
           h)
           (s.lines line e l k t);
       pieces = λ e k. ⊎_elim
           (λ open'. inl open')
           (λ h. ⊎_elim
           (λ (waits : is_waiting old e ≡ true). inr (inl (rises.waiting e waits)))
-          (λ (seen : IsSeen p f c touches r (at old) e). inr (⊎_elim (λ (waits : is_waiting new e ≡ true). inl waits) (λ (same : (line : ℕ) → line < r.lines → touches (to f.graph e) line ≡ true → (at new).value line e ≡ (at old).value line e). inr (seen-on e k same s.found (λ line. Unit {0}) seen)) (stays_or_waits e k)))
+          (λ (seen : IsSeen p f c touches r (at old) e). inr (⊎_elim (λ (waits : is_waiting new e ≡ true). inl waits) (λ (same : (line : ℕ) → line < r.lines → touches (to f.graph e) line ≡ true → (at new).value line e ≡ (at old).value line e). inr (seen-on e k same s.found (λ line. Unit {0}) seen)) (stays_or_waits s.waits e k)))
           h)
           (s.pieces e k);
-      listed = λ e waits. ⊎_elim (λ (was : is_waiting old e ≡ true). rises.entered e (s.listed e was)) (λ (h : Holds new.entered.items e). h) (rises.listed e waits);
-      risen = λ line e h. ⊎_elim (λ (was : HoldsPair old.risen.items line e). s.risen line e was) (λ (is : IsPast f touches r.lines line e). is) (rises.risen_before line e h);
-      entered = λ e h. ⊎_elim (λ (was : Holds old.entered.items e). s.entered e was) (λ (is : e < edge_count f.graph). is) (rises.entered_before e h);
+      waits = waits-on s.waits;
     }
 
     pub settling-rises : (open_lines : ℕ → ℕ → Type 0) (open_edges : ℕ → Type 0) → IsSettling p f c touches r open_lines open_edges old → IsSettling p f c touches r open_lines open_edges new
     settling-rises open_lines open_edges s = settling-rises-from p.words r.lines open_lines open_edges s
 
-  -- the open line is passed on
-  pub line-closed : (w : Work) (line e : ℕ) (open_edges : ℕ → Type 0) → IsSettling p f c touches r (this_line line e) open_edges w → HoldsPair w.risen.items line e ⊎ IsPassedOn p f c touches r (at w) line e → IsSettling p f c touches r no_line open_edges w
-  line-closed w line e open_edges s done = record {
+  -- the open lines are passed on
+  pub lines-closed : (w : Work W) (set : ClassSet W) (e : ℕ) (open_edges : ℕ → Type 0) → IsSettling p f c touches r (these_lines set e) open_edges w → ((line : ℕ) → line < r.lines → e < edge_count f.graph → touches (to f.graph e) line ≡ false → holds set line ≡ true → (is_pending w line e ≡ true) ⊎ IsPassedOn p f c touches r (at w) line e) → IsSettling p f c touches r no_line open_edges w
+  lines-closed w set e open_edges s done = record {
     sized = s.sized;
     found = s.found;
     opened = s.opened;
     lines = λ l k in_l in_k t. ⊎_elim
-        (λ (is : (l ≡ line) × (k ≡ e)). inr (subst (λ (n : ℕ). HoldsPair w.risen.items n k ⊎ IsPassedOn p f c touches r (at w) n k) (sym is.0) (subst (λ (n : ℕ). HoldsPair w.risen.items line n ⊎ IsPassedOn p f c touches r (at w) line n) (sym is.1) done)))
+        (λ (is : (k ≡ e) × (holds set l ≡ true)). inr (subst (λ (n : ℕ). (is_pending w l n ≡ true) ⊎ IsPassedOn p f c touches r (at w) l n) (sym is.0) (done l in_l (subst (λ (n : ℕ). n < edge_count f.graph) is.0 in_k) (subst (λ (n : ℕ). touches (to f.graph n) l ≡ false) is.0 t) is.1)))
         (λ h. inr h)
         (s.lines l k in_l in_k t);
     pieces = s.pieces;
-    listed = s.listed;
-    risen = s.risen;
-    entered = s.entered;
+    waits = s.waits;
   }
 
   -- the open piece has seen its lines, or waits again
-  pub piece-closed : (w : Work) (e : ℕ) (open_lines : ℕ → ℕ → Type 0) → IsSettling p f c touches r open_lines (this_piece e) w → (is_waiting w e ≡ true) ⊎ IsSeen p f c touches r (at w) e → IsSettling p f c touches r open_lines no_piece w
+  pub piece-closed : (w : Work W) (e : ℕ) (open_lines : ℕ → ℕ → Type 0) → IsSettling p f c touches r open_lines (this_piece e) w → (is_waiting w e ≡ true) ⊎ IsSeen p f c touches r (at w) e → IsSettling p f c touches r open_lines no_piece w
   piece-closed w e open_lines s done = record {
     sized = s.sized;
     found = s.found;
@@ -136,32 +144,30 @@ module _ (p : Program) (f : FlowGraph) (c : ClassTable) (touches : ℕ → ℕ �
         (λ (is : k ≡ e). inr (subst (λ (n : ℕ). (is_waiting w n ≡ true) ⊎ IsSeen p f c touches r (at w) n) (sym is) done))
         (λ h. inr h)
         (s.pieces k in_k);
-    listed = s.listed;
-    risen = s.risen;
-    entered = s.entered;
+    waits = s.waits;
   }
 
   -- a line that was sent on is passed on, or waits again
-  pub sent-past : (old new : Work) (line e : ℕ) → Rises f touches r.lines old new → IsPast f touches r.lines line e → ((i : ℕ) → IsWay f (at old) e i → AtMost ((at old).value line e) ((at new).value line (led_to f r e line i))) → HoldsPair new.risen.items line e ⊎ IsPassedOn p f c touches r (at new) line e
-  sent-past old new line e rises past sent = ⊎_elim
-      (λ (waits : HoldsPair new.risen.items line e). inl waits)
+  pub sent-past : (old new : Work W) (line e : ℕ) → Rises f r.lines old new → line < r.lines → e < edge_count f.graph
+      → ((i : ℕ) → IsWay f (at old) e i → (is_switch (kind_behind f e) || is_merge (kind_behind f e)) ≡ true → wire_at r line e ≡ true → AtMost ((at old).value line e) ((at new).value line (led_to f r e line i)))
+      → (is_pending new line e ≡ true) ⊎ IsPassedOn p f c touches r (at new) line e
+  sent-past old new line e rises l k sent = ⊎_elim
+      (λ (pending : is_pending new line e ≡ true). inl pending)
       (λ (same : (at new).value line e ≡ (at old).value line e). inr (λ i way kind wire.
       let before : IsWay f (at old) e i = record { edge = way.edge; exists = way.exists; allowed = subst (λ (ds : List Known). KindAllows (kind_behind f e) (get_or ds (to f.graph e) Nothing) i) rises.decisions way.allowed } in
-      subst (λ (x : Known). AtMost x ((at new).value line (led_to f r e line i))) (sym same) (sent i before)))
-      (rises.passed line e past.line_in past.edge_in past.untouched)
+      subst (λ (x : Known). AtMost x ((at new).value line (led_to f r e line i))) (sym same) (sent i before kind wire)))
+      (rises.moved line e l k)
 
 -- what is due to a line that goes past a piece, in each closed table
 module _ (p : Program) (f : FlowGraph) (c : ClassTable) (touches : ℕ → ℕ → Bool) (r : Routing) where
   way-more : (t b : Knowns) (e i : ℕ) → AtMost (t.decision (to f.graph e)) (b.decision (to f.graph e)) → IsWay f t e i → IsWay f b e i
   way-more t b e i more way = record { edge = way.edge; exists = way.exists; allowed = kind_allows-more (kind_behind f e) (t.decision (to f.graph e)) (b.decision (to f.graph e)) i more way.allowed }
 
-  pub due-past : (t b : Knowns) (line e i : ℕ) → to f.graph e < f.graph.nodes → IsFound p f c touches r t → IsClosed p f c touches r b → IsPast f touches r.lines line e → (is_switch (kind_behind f e) || is_merge (kind_behind f e)) ≡ true → wire_at r line e ≡ true → IsWay f t e i → AtMost (t.value line e) (b.value line (led_to f r e line i))
-  due-past t b line e i node found closed past kind wire way =
+  pub due-past : (t b : Knowns) (line e i : ℕ) → to f.graph e < f.graph.nodes → IsFound p f c touches r t → IsClosed p f c touches r b → line < r.lines → touches (to f.graph e) line ≡ false → (is_switch (kind_behind f e) || is_merge (kind_behind f e)) ≡ true → wire_at r line e ≡ true → IsWay f t e i → AtMost (b.value line e) (b.value line (led_to f r e line i))
+  due-past t b line e i node found closed l untouched kind wire way =
       let below = found.below b closed in
       let there = way-more t b e i (below.decision (to f.graph e) node) way in
-      let on : AtMost (b.value line e) (b.value line (led_to f r e line i)) =
       ⊎_elim
-      (λ (s : is_switch (kind_behind f e) ≡ true). closed.switches e line i there s past.line_in past.untouched wire)
-      (λ (m : is_merge (kind_behind f e) ≡ true). closed.merges e line i there m past.line_in wire)
+      (λ (s : is_switch (kind_behind f e) ≡ true). closed.switches e line i there s l untouched wire)
+      (λ (m : is_merge (kind_behind f e) ≡ true). closed.merges e line i there m l wire)
       (or_cases (is_switch (kind_behind f e)) (is_merge (kind_behind f e)) kind)
-      in at_most-trans (t.value line e) (b.value line e) (b.value line (led_to f r e line i)) (below.value line e past.line_in past.edge_in) on

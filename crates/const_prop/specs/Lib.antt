@@ -1,4 +1,8 @@
 pub mod Known
+pub mod LineSets
+pub mod EdgeSet
+pub mod Rise
+pub mod KnownRows
 pub mod Table
 pub mod Closed
 pub mod Live

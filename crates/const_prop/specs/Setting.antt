@@ -1,5 +1,5 @@
 -- What is known of a program with its flow graph, its classes and its wires. No public clause cites this module.
-use Rattle.std.specs.Prelude.{◌≡◌, ◌<◌, ◌+◌, ◌↔◌, ℕ, Bool, true, false, List, [], length, slice_index_or}
+use Rattle.std.specs.Prelude.{◌≡◌, ◌<◌, ◌≤◌, ◌+◌, ◌*◌, ◌↔◌, ℕ, Bool, true, false, List, [], length, slice_index_or}
 use Rattle.class_set.specs.declared.ClassSet.{ClassSet}
 use Rattle.class_set.specs.Members.{IsWidth}
 use Rattle.closed_walks.specs.Graph.{IsGraph, edge_count}
@@ -16,6 +16,7 @@ use Rattle.cfg_build.specs.Passes.{outs}
 use Rattle.cfg_build.specs.Runs.{is_act, is_branch, IsPartOf}
 use Rattle.cfg_build.specs.Shape.{IsShaped, kind_at}
 use Rattle.dep_routing.specs.Routing.{Routing, next_at}
+use Rattle.const_prop.specs.EdgeRows.{Stay}
 use Rattle.dep_routing.specs.Touch.{touches_in}
 use Rattle.dep_routing.specs.Touches.{AreTouches}
 use Rattle.const_prop.specs.Closed.{is_one_word}
@@ -34,11 +35,13 @@ pub record IsProgram (p : Program) (f : FlowGraph) : Type 0 where
 -- the lines and their routes
 pub record AreLines {W : ℕ} (p : Program) (f : FlowGraph) (c : ClassTable) (touch : List (ClassSet W)) (r : Routing) : Type 0 where
   pub width : IsWidth W
+  pub few : r.lines ≤ 64 * W
   pub classes : IsClasses p c
   pub pieces : length touch ≡ f.graph.nodes
   pub touches : AreTouches p c (touches_in touch)
   pub lines : r.lines ≡ class_count c + 1
   pub edges : r.edges ≡ edge_count f.graph
+  pub stay : Stay r
   pub next : (line e : ℕ) → line < r.lines → e < edge_count f.graph → next_at r line e < edge_count f.graph
 
 -- for each line whether its class has one word

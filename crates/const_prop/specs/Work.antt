@@ -1,7 +1,9 @@
 -- A table in the making, and what waits to be passed on. No public clause cites this module.
-use Rattle.std.specs.Prelude.{◌≡◌, ◌<◌, ◌≤◌, ◌+◌, ◌*◌, ◌⊎◌, ◌||◌, ℕ, Bool, true, false, List, [], ◌∷◌, length, sum_by, replicate, slice_index_or}
+use Rattle.std.proofs.Common.{zero, suc}
+use Rattle.std.specs.Prelude.{◌≡◌, ◌<◌, ◌≤◌, ◌+◌, ◌*◌, ◌⊎◌, ◌||◌, ℕ, Bool, true, false, if◌then◌else◌, length, sum_by, replicate, slice_index_or}
+use Rattle.class_set.specs.ClassSet.{holds}
+use Rattle.class_set.specs.declared.ClassSet.{ClassSet}
 use Rattle.closed_walks.specs.Graph.{edge_count, to}
-use Rattle.closed_walks.specs.Walk.{Holds}
 use Rattle.f77_tree.specs.declared.programs.Program.{Program}
 use Rattle.f77_tree.specs.Value.{word_at}
 use Rattle.alias_classes.specs.Classes.{ClassTable, class_of_word}
@@ -12,65 +14,70 @@ use Rattle.const_prop.specs.declared.known.Known.TheVariants.{Nothing, One, Any}
 use Rattle.const_prop.specs.declared.work.Work.{Work}
 use Rattle.const_prop.specs.Closed.{IsClosed, IsReady, IsWay, WritesBehind, written_behind, decided_behind, kind_behind, led_to, is_switch, is_merge, is_one_word}
 use Rattle.const_prop.specs.Known.{AtMost, IsNotOne}
+use Rattle.const_prop.specs.EdgeSet.{edge_holds}
+use Rattle.const_prop.specs.KnownRows.{edges_of, value_in}
+use Rattle.const_prop.specs.LineSets.{set_holds}
+use Rattle.const_prop.specs.Rise.{room}
 use Rattle.const_prop.specs.Table.{Knowns, IsBelow, knowns}
 
--- how often it can rise
-abbrev pub room : Known → ℕ
-room Nothing = 2
-room (One v) = 1
-room Any = 0
+-- the sum of the first terms
+abbrev pub sum_below : (term : ℕ → ℕ) → (n : ℕ) → ℕ
+sum_below term zero = 0
+sum_below term (suc n) = sum_below term n + term n
 
--- what is known rises to the least that is no less than what comes
-pub record IsRise (old comes new : Known) : Type 0 where
-  pub grows : AtMost old new
-  pub reaches : AtMost comes new
-  pub least : (b : Known) → AtMost old b → AtMost comes b → AtMost new b
-  pub one : IsNotOne old → IsNotOne comes → IsNotOne new
-  pub rises : room new < room old
+-- how often all that is known can rise
+abbrev pub rooms : (value : ℕ → ℕ → Known) → (lines edges : ℕ) → ℕ
+rooms value lines edges = sum_below (λ e. sum_below (λ line. room (value line e)) lines) edges
 
--- the pair is in the list
-abbrev pub HoldsPair : List (ℕ × ℕ) → (line e : ℕ) → Type 0
-HoldsPair [] line e = ⊥
-HoldsPair (x ∷ xs) line e = ((x.0 ≡ line) × (x.1 ≡ e)) ⊎ HoldsPair xs line e
+-- one for each that waits
+abbrev pub one_if : Bool → ℕ
+one_if waits = if waits then 1 else 0
 
--- what is known so far
-abbrev pub so_far : (lines : ℕ) → Work → Knowns
-so_far lines w = knowns lines w.values.items w.decisions.items
+module _ {W : ℕ} where
+  -- what is known so far
+  abbrev pub so_far : Work W → Knowns
+  so_far w = knowns w.known w.decisions.items
 
-abbrev pub is_waiting : Work → (e : ℕ) → Bool
-is_waiting w e = slice_index_or w.waits.items e false
+  -- more is known of the line on the edge than was passed on
+  abbrev pub is_pending : Work W → (line e : ℕ) → Bool
+  is_pending w line e = set_holds w.pending e line
 
--- a bound for what is still to be done
-abbrev pub work_left : (lines : ℕ) → Work → ℕ
-work_left lines w = sum_by room w.values.items + lines * sum_by room w.decisions.items + length w.risen.items + length w.entered.items
+  abbrev pub is_waiting : Work W → (e : ℕ) → Bool
+  is_waiting w e = edge_holds w.waits e
 
--- a work on so many lines, of the edges and pieces of the graph
-pub record IsSized (f : FlowGraph) (lines : ℕ) (w : Work) : Type 0 where
-  pub values : length w.values.items ≡ lines * edge_count f.graph
-  pub decisions : length w.decisions.items ≡ f.graph.nodes
-  pub waits : length w.waits.items ≡ edge_count f.graph
+  -- a bound for the visits that are still to be made
+  abbrev pub work_left : FlowGraph → (lines : ℕ) → Work W → ℕ
+  work_left f lines w = rooms (value_in w.known) lines (edge_count f.graph) + sum_by room w.decisions.items + sum_below (λ e. one_if (is_waiting w e)) (edge_count f.graph)
 
--- a line on an edge to a piece that doesn't touch it
-pub record IsPast (f : FlowGraph) (touches : ℕ → ℕ → Bool) (lines line e : ℕ) : Type 0 where
-  pub line_in : line < lines
-  pub edge_in : e < edge_count f.graph
-  pub untouched : touches (to f.graph e) line ≡ false
+  -- a work on so many lines, of the edges and pieces of the graph
+  pub record IsSized (f : FlowGraph) (lines : ℕ) (w : Work W) : Type 0 where
+    pub lines_are : w.known.lines ≡ lines
+    pub edges_are : edges_of w.known ≡ edge_count f.graph
+    pub decisions : length w.decisions.items ≡ f.graph.nodes
+    pub pending : length w.pending ≡ edge_count f.graph
+    pub waits : edge_count f.graph ≤ 64 * length w.waits
 
--- More is known: where it isn't passed on, what has risen waits.
-pub record Rises (f : FlowGraph) (touches : ℕ → ℕ → Bool) (lines : ℕ) (old new : Work) : Type 0 where
-  pub sized : IsSized f lines new
-  pub decisions : new.decisions.items ≡ old.decisions.items
-  pub grows : (line e : ℕ) → line < lines → e < edge_count f.graph → AtMost ((so_far lines old).value line e) ((so_far lines new).value line e)
-  pub passed : (line e : ℕ) → line < lines → e < edge_count f.graph → touches (to f.graph e) line ≡ false → HoldsPair new.risen.items line e ⊎ ((so_far lines new).value line e ≡ (so_far lines old).value line e)
-  pub seen : (line e : ℕ) → line < lines → e < edge_count f.graph → touches (to f.graph e) line ≡ true → (is_waiting new e ≡ true) ⊎ ((so_far lines new).value line e ≡ (so_far lines old).value line e)
-  pub kept : (line e : ℕ) → HoldsPair old.risen.items line e → HoldsPair new.risen.items line e
-  pub waiting : (e : ℕ) → is_waiting old e ≡ true → is_waiting new e ≡ true
-  pub entered : (e : ℕ) → Holds old.entered.items e → Holds new.entered.items e
-  pub listed : (e : ℕ) → is_waiting new e ≡ true → (is_waiting old e ≡ true) ⊎ Holds new.entered.items e
-  -- what waits now stood there or is in range
-  pub risen_before : (line e : ℕ) → HoldsPair new.risen.items line e → HoldsPair old.risen.items line e ⊎ IsPast f touches lines line e
-  pub entered_before : (e : ℕ) → Holds new.entered.items e → Holds old.entered.items e ⊎ (e < edge_count f.graph)
-  pub bounded : work_left lines new ≤ work_left lines old
+  -- no edge waits from an edge on
+  abbrev pub NoneWaits : FlowGraph → Work W → (from : ℕ) → Type 0
+  NoneWaits f w from = (e : ℕ) → from ≤ e → e < edge_count f.graph → is_waiting w e ≡ false
+
+  -- the least edge that waits, from an edge on
+  pub record IsNextWaiting (f : FlowGraph) (w : Work W) (from next : ℕ) : Type 0 where
+    pub edge : next < edge_count f.graph
+    pub behind : from ≤ next
+    pub waits : is_waiting w next ≡ true
+    pub least : (e : ℕ) → from ≤ e → e < next → is_waiting w e ≡ false
+
+  -- More is known: where it is, the line is to be passed on, and the edge waits.
+  pub record Rises (f : FlowGraph) (lines : ℕ) (old new : Work W) : Type 0 where
+    pub sized : IsSized f lines new
+    pub decisions : new.decisions.items ≡ old.decisions.items
+    pub grows : (line e : ℕ) → line < lines → e < edge_count f.graph → AtMost ((so_far old).value line e) ((so_far new).value line e)
+    pub moved : (line e : ℕ) → line < lines → e < edge_count f.graph → (is_pending new line e ≡ true) ⊎ ((so_far new).value line e ≡ (so_far old).value line e)
+    pub kept : (line e : ℕ) → is_pending old line e ≡ true → is_pending new line e ≡ true
+    pub waiting : (e : ℕ) → is_waiting old e ≡ true → is_waiting new e ≡ true
+    pub woken : (line e : ℕ) → is_pending new line e ≡ true → (is_pending old line e ≡ true) ⊎ (is_waiting new e ≡ true)
+    pub bounded : work_left f lines new ≤ work_left f lines old
 
 module _ (p : Program) (f : FlowGraph) (c : ClassTable) (touches : ℕ → ℕ → Bool) (r : Routing) where
   -- what is known is below every closed table
@@ -102,17 +109,15 @@ module _ (p : Program) (f : FlowGraph) (c : ClassTable) (touches : ℕ → ℕ �
 
   -- All rules hold, but for what waits: lines on edges, edges to pieces, and what is open besides; those of the opening hold for
   -- the first words and lines.
-  pub record IsSettlingFrom (words first_lines : ℕ) (open_lines : ℕ → ℕ → Type 0) (open_edges : ℕ → Type 0) (w : Work) : Type 0 where
+  pub record IsSettlingFrom {W : ℕ} (words first_lines : ℕ) (open_lines : ℕ → ℕ → Type 0) (open_edges : ℕ → Type 0) (w : Work W) : Type 0 where
     pub sized : IsSized f r.lines w
-    pub found : IsFound (so_far r.lines w)
-    pub opened : IsOpenedFor words first_lines (so_far r.lines w)
-    pub lines : (line e : ℕ) → line < r.lines → e < edge_count f.graph → touches (to f.graph e) line ≡ false → open_lines line e ⊎ (HoldsPair w.risen.items line e ⊎ IsPassedOn (so_far r.lines w) line e)
-    pub pieces : (e : ℕ) → e < edge_count f.graph → open_edges e ⊎ ((is_waiting w e ≡ true) ⊎ IsSeen (so_far r.lines w) e)
-    pub listed : (e : ℕ) → is_waiting w e ≡ true → Holds w.entered.items e
-    pub risen : (line e : ℕ) → HoldsPair w.risen.items line e → IsPast f touches r.lines line e
-    pub entered : (e : ℕ) → Holds w.entered.items e → e < edge_count f.graph
+    pub found : IsFound (so_far w)
+    pub opened : IsOpenedFor words first_lines (so_far w)
+    pub lines : (line e : ℕ) → line < r.lines → e < edge_count f.graph → touches (to f.graph e) line ≡ false → open_lines line e ⊎ ((is_pending w line e ≡ true) ⊎ IsPassedOn (so_far w) line e)
+    pub pieces : (e : ℕ) → e < edge_count f.graph → open_edges e ⊎ ((is_waiting w e ≡ true) ⊎ IsSeen (so_far w) e)
+    pub waits : (line e : ℕ) → is_pending w line e ≡ true → is_waiting w e ≡ true
 
-  abbrev pub IsSettling : (ℕ → ℕ → Type 0) → (ℕ → Type 0) → Work → Type 0
+  abbrev pub IsSettling : {W : ℕ} → (ℕ → ℕ → Type 0) → (ℕ → Type 0) → Work W → Type 0
   IsSettling open_lines open_edges w = IsSettlingFrom p.words r.lines open_lines open_edges w
 
 -- nothing is open
@@ -122,27 +127,21 @@ no_line line e = ⊥
 abbrev pub no_piece : ℕ → Type 0
 no_piece e = ⊥
 
--- this line on this edge, this edge
-abbrev pub this_line : (line e : ℕ) → ℕ → ℕ → Type 0
-this_line line e l k = (l ≡ line) × (k ≡ e)
+-- these lines on this edge, this edge
+abbrev pub these_lines : {W : ℕ} → ClassSet W → (e : ℕ) → ℕ → ℕ → Type 0
+these_lines set e l k = (k ≡ e) × (holds set l ≡ true)
 
 abbrev pub this_piece : (e : ℕ) → ℕ → Type 0
 this_piece e k = k ≡ e
 
--- on this edge the lines from one on
-abbrev pub edge_lines : (e line : ℕ) → ℕ → ℕ → Type 0
-edge_lines e line l k = (k ≡ e) × (line ≤ l)
+-- all lines on this edge
+abbrev pub all_lines : (e : ℕ) → ℕ → ℕ → Type 0
+all_lines e l k = k ≡ e
 
--- all is Nothing, and each edge waits
-pub record IsBlank (f : FlowGraph) (r : Routing) (w : Work) : Type 0 where
-  pub values : w.values.items ≡ replicate (r.lines * edge_count f.graph) Nothing
+-- nothing comes anywhere, and each edge waits
+pub record IsBlank {W : ℕ} (f : FlowGraph) (r : Routing) (w : Work W) : Type 0 where
+  pub sized : IsSized f r.lines w
+  pub values : (line e : ℕ) → value_in w.known line e ≡ Nothing
   pub decisions : w.decisions.items ≡ replicate f.graph.nodes Nothing
-  pub risen : w.risen.items ≡ []
-  pub waits : w.waits.items ≡ replicate (edge_count f.graph) true
-  pub entered : (e : ℕ) → e < edge_count f.graph → Holds w.entered.items e
-  pub edges : (e : ℕ) → Holds w.entered.items e → e < edge_count f.graph
-
--- the numbers below a bound
-pub record AreBelow (n : ℕ) (xs : List ℕ) : Type 0 where
-  pub all : (e : ℕ) → e < n → Holds xs e
-  pub below : (e : ℕ) → Holds xs e → e < n
+  pub pending : (line e : ℕ) → is_pending w line e ≡ false
+  pub waits : (e : ℕ) → e < edge_count f.graph → is_waiting w e ≡ true

@@ -1,6 +1,6 @@
 //! What is known of expressions on an edge.
 
-ghost use Rattle.std.specs.Prelude.{◌≡◌, ◌<◌, ◌*◌, ℕ, [], map, length, All};
+ghost use Rattle.std.specs.Prelude.{◌≡◌, ◌<◌, ℕ, [], map, length, All};
 ghost use Rattle.std.specs.Option.{option_map, option_and_then};
 ghost use Rattle.closed_walks.specs.Graph.{edge_count};
 ghost use Rattle.op_table.specs.Operators.{arity_of};
@@ -10,10 +10,12 @@ ghost use Rattle.f77_tree.specs.KnownWith.{known_word as spec_known_word};
 ghost use Rattle.f77_tree.specs.Value.{IsAccess, IsExpression, kind_of};
 ghost use Rattle.f77_tree.specs.Value.{read_as as spec_read_as};
 ghost use Rattle.const_prop.specs.Closed.{words_on};
+ghost use Rattle.const_prop.specs.KnownRows.{edges_of};
 ghost use Rattle.const_prop.specs.Setting.{IsSetting};
 ghost use Rattle.const_prop.specs.Table.{knowns};
 
 use crate::known::Known;
+use crate::known_rows::KnownRows;
 use crate::setting::Setting;
 use alias_classes::known_word;
 use f77_tree::{Access, Expr, ExprList, Kind, NameInfoList};
@@ -25,15 +27,16 @@ const MOST_OPERANDS: usize = 3;
 /// The known value of an expression, where the lines of these values come by the edge.
 pub(crate) fn known_value<const W: usize>(
     s: &Setting<W>,
-    values: &[Known],
+    rows: &KnownRows<W>,
     edge: u32,
     e: &Expr,
 ) -> Option<i32>
     requires setting { IsSetting s.now.program.now s.now.flow.now s.now.classes.now s.now.touch.now s.now.lines.now s.now.one_word.items s.now.outs.items s.now.touched.items }
-    requires size { length values.now ≡ s.now.lines.now.lines * edge_count s.now.flow.now.graph }
+    requires lines { rows.now.lines ≡ s.now.lines.now.lines }
+    requires edges { edges_of rows.now ≡ edge_count s.now.flow.now.graph }
     requires edge { edge < edge_count s.now.flow.now.graph }
     requires expression { IsExpression s.now.program.now.names e.now }
-    ensures { result ≡ known_with s.now.program.now.names (words_on s.now.classes.now (knowns s.now.lines.now.lines values.now []) edge) e.now }
+    ensures { result ≡ known_with s.now.program.now.names (words_on s.now.classes.now (knowns rows.now []) edge) e.now }
 {
     match e {
         Expr::Const(z) => Some(*z),
@@ -41,14 +44,14 @@ pub(crate) fn known_value<const W: usize>(
         Expr::Input => None,
         Expr::Read(access) => {
             access_fits(&s.program.names, e, access);
-            known_read(s, values, edge, access)
+            known_read(s, rows, edge, access)
         }
         Expr::Apply(op, args) => {
             operands_fit(&s.program.names, e, *op, args);
             let mut operands = [None; MOST_OPERANDS];
             let mut count = 0;
             for arg in args.as_slice() {
-                operands[count] = known_value(s, values, edge, arg);
+                operands[count] = known_value(s, rows, edge, arg);
                 count += 1;
             }
             fold(*op, &operands[..count])
@@ -59,19 +62,20 @@ pub(crate) fn known_value<const W: usize>(
 /// What is known of what an access reads: the one value of the word that it surely hits.
 fn known_read<const W: usize>(
     s: &Setting<W>,
-    values: &[Known],
+    rows: &KnownRows<W>,
     edge: u32,
     access: &Access,
 ) -> Option<i32>
     requires setting { IsSetting s.now.program.now s.now.flow.now s.now.classes.now s.now.touch.now s.now.lines.now s.now.one_word.items s.now.outs.items s.now.touched.items }
-    requires size { length values.now ≡ s.now.lines.now.lines * edge_count s.now.flow.now.graph }
+    requires lines { rows.now.lines ≡ s.now.lines.now.lines }
+    requires edges { edges_of rows.now ≡ edge_count s.now.flow.now.graph }
     requires edge { edge < edge_count s.now.flow.now.graph }
     requires access { IsAccess s.now.program.now.names access.now }
-    ensures { result ≡ option_map (spec_read_as (kind_of s.now.program.now.names access.now.name)) (option_and_then (words_on s.now.classes.now (knowns s.now.lines.now.lines values.now []) edge) (spec_known_word s.now.program.now.names access.now.name (map known access.now.subs))) }
+    ensures { result ≡ option_map (spec_read_as (kind_of s.now.program.now.names access.now.name)) (option_and_then (words_on s.now.classes.now (knowns rows.now []) edge) (spec_known_word s.now.program.now.names access.now.name (map known access.now.subs))) }
 {
     let names = &s.program.names;
     let word = known_word(names, s.program.initial.as_slice(), access)?;
-    match values[s.place(s.classes.of_word(word), edge)] {
+    match rows.get(s.classes.of_word(word), edge) {
         Known::One(v) => Some(read_as(names.at(access.name).kind, v)),
         _ => None,
     }

@@ -5,16 +5,19 @@
 #![tactic(auto)]
 
 mod edge_rows;
+mod edge_set;
 mod facts;
 mod known;
+mod known_rows;
 mod known_values;
 mod laws;
+mod line_sets;
 mod making;
 mod pieces;
 mod row;
 mod setting;
 mod starts;
-mod steps;
+mod sweeps;
 mod table;
 mod visit;
 mod work;

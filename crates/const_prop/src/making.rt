@@ -9,6 +9,7 @@ ghost use Rattle.cfg_build.specs.Flow.{flow};
 ghost use Rattle.dep_routing.specs.Touch.{touches_in};
 ghost use Rattle.dep_routing.specs.Touches.{AreTouches};
 ghost use Rattle.const_prop.specs.Closed.{IsConstants};
+ghost use Rattle.const_prop.specs.KnownRows.{edges_of};
 ghost use Rattle.const_prop.specs.Right.{IsProgramRouting};
 ghost use Rattle.const_prop.specs.Table.{knowns_of};
 
@@ -33,7 +34,7 @@ pub fn constants<const W: usize>(
     c: &Classes<W>,
     touch: &TouchList<W>,
     l: &Lines,
-) -> Result<Table, NoMemory>
+) -> Result<Table<W>, NoMemory>
     requires width { IsWidth W }
     requires program { IsWellFormed p.now }
     requires flow { f.now ≡ flow p.now.execs }
@@ -41,29 +42,25 @@ pub fn constants<const W: usize>(
     requires pieces { length touch.now ≡ f.now.graph.nodes }
     requires touches { AreTouches p.now c.now (touches_in touch.now) }
     requires routing { IsProgramRouting p.now (touches_in touch.now) (class_count c.now + 1) l.now }
-    ensures lines { IfOk result (λ t. t.lines ≡ l.now.lines) }
-    ensures edges { IfOk result (λ t. t.edges ≡ edge_count f.now.graph) }
+    ensures lines { IfOk result (λ t. t.known.lines ≡ l.now.lines) }
+    ensures edges { IfOk result (λ t. edges_of t.known ≡ edge_count f.now.graph) }
     ensures pieces { IfOk result (λ t. length t.decisions ≡ f.now.graph.nodes) }
     ensures constants { IfOk result (λ t. IsConstants p.now f.now c.now (touches_in touch.now) l.now (knowns_of t)) }
 {
     program_facts();
     next_edges();
-    let rows = EdgeRows::new(alloc, l, f.graph().edges())?;
+    let lines = c.count() + 1;
+    prove!(lines == l.lines());
+    let rows = EdgeRows::new(alloc, l, f.graph())?;
     let s = Setting::new(alloc, p, f, c, touch, &rows)?;
     let mut work = Work::blank(alloc, &s)?;
-    work.open(&s)?;
-    work.settle(&s)?;
+    work.open(&s);
+    work.settle(&s);
     let Work {
-        values,
+        known,
         decisions,
-        risen: _,
-        entered: _,
+        pending: _,
         waits: _,
     } = work;
-    Ok(Table {
-        lines: l.lines(),
-        edges: f.graph().edges(),
-        values,
-        decisions,
-    })
+    Ok(Table { known, decisions })
 }

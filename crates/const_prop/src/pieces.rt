@@ -9,10 +9,12 @@ ghost use Rattle.f77_tree.specs.Control.{targets_of};
 ghost use Rattle.const_prop.specs.Closed.{ExecWrites, words_on, selected as spec_selected};
 ghost use Rattle.const_prop.specs.Closed.{written as spec_written};
 ghost use Rattle.const_prop.specs.Known.{as_known as spec_as_known};
+ghost use Rattle.const_prop.specs.KnownRows.{edges_of};
 ghost use Rattle.const_prop.specs.Setting.{IsSetting};
 ghost use Rattle.const_prop.specs.Table.{knowns};
 
 use crate::known::Known;
+use crate::known_rows::KnownRows;
 use crate::known_values::known_value;
 use crate::setting::Setting;
 use alias_classes::known_word;
@@ -31,31 +33,32 @@ fn as_known(value: Option<i32>) -> Known
 /// What an executable leaves on a line that it writes.
 pub(crate) fn written<const W: usize>(
     s: &Setting<W>,
-    values: &[Known],
+    rows: &KnownRows<W>,
     edge: u32,
     kind: &ExecKind,
     line: u32,
 ) -> Known
     requires setting { IsSetting s.now.program.now s.now.flow.now s.now.classes.now s.now.touch.now s.now.lines.now s.now.one_word.items s.now.outs.items s.now.touched.items }
-    requires size { length values.now ≡ s.now.lines.now.lines * edge_count s.now.flow.now.graph }
+    requires lines { rows.now.lines ≡ s.now.lines.now.lines }
+    requires edges { edges_of rows.now ≡ edge_count s.now.flow.now.graph }
     requires edge { edge < edge_count s.now.flow.now.graph }
     requires line { line < s.now.lines.now.lines }
     requires exec { CanExecute s.now.program.now kind.now }
-    ensures { result ≡ spec_written s.now.program.now.names s.now.classes.now (words_on s.now.classes.now (knowns s.now.lines.now.lines values.now []) edge) kind.now line }
+    ensures { result ≡ spec_written s.now.program.now.names s.now.classes.now (words_on s.now.classes.now (knowns rows.now []) edge) kind.now line }
 {
     let one_word = s.one_word[line as usize];
     match kind {
         ExecKind::Assign { target, value, .. } => {
             let word = known_word(&s.program.names, s.program.initial.as_slice(), target);
             if word.is_some() && one_word {
-                as_known(known_value(s, values, edge, value))
+                as_known(known_value(s, rows, edge, value))
             } else {
                 Known::Any
             }
         }
         ExecKind::DoStart { first, .. } => {
             if one_word {
-                as_known(known_value(s, values, edge, first))
+                as_known(known_value(s, rows, edge, first))
             } else {
                 Known::Any
             }
@@ -83,27 +86,28 @@ pub(crate) fn writes<const W: usize>(s: &Setting<W>, kind: &ExecKind, line: u32)
 /// The place of the out-edge that the known selector of a branch takes, among those of the branch.
 pub(crate) fn selected<const W: usize>(
     s: &Setting<W>,
-    values: &[Known],
+    rows: &KnownRows<W>,
     edge: u32,
     kind: &ExecKind,
 ) -> Known
     requires setting { IsSetting s.now.program.now s.now.flow.now s.now.classes.now s.now.touch.now s.now.lines.now s.now.one_word.items s.now.outs.items s.now.touched.items }
-    requires size { length values.now ≡ s.now.lines.now.lines * edge_count s.now.flow.now.graph }
+    requires lines { rows.now.lines ≡ s.now.lines.now.lines }
+    requires edges { edges_of rows.now ≡ edge_count s.now.flow.now.graph }
     requires edge { edge < edge_count s.now.flow.now.graph }
     requires exec { CanExecute s.now.program.now kind.now }
     requires few { length (targets_of kind.now) < 2 ^ 31 }
-    ensures { result ≡ spec_selected s.now.program.now.names (words_on s.now.classes.now (knowns s.now.lines.now.lines values.now []) edge) kind.now }
+    ensures { result ≡ spec_selected s.now.program.now.names (words_on s.now.classes.now (knowns rows.now []) edge) kind.now }
 {
     match kind {
-        ExecKind::Test { cond, .. } => match known_value(s, values, edge, cond) {
+        ExecKind::Test { cond, .. } => match known_value(s, rows, edge, cond) {
             Some(z) => Known::One(if z != 0 { 0 } else { 1 }),
             None => Known::Any,
         },
-        ExecKind::Sign { value, .. } => match known_value(s, values, edge, value) {
+        ExecKind::Sign { value, .. } => match known_value(s, rows, edge, value) {
             Some(z) => Known::One(place_by_sign(z)),
             None => Known::Any,
         },
-        ExecKind::Pick { value, targets, .. } => match known_value(s, values, edge, value) {
+        ExecKind::Pick { value, targets, .. } => match known_value(s, rows, edge, value) {
             Some(z) => Known::One(place_by_number(z, targets.len())),
             None => Known::Any,
         },

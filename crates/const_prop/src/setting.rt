@@ -27,7 +27,7 @@ pub(crate) struct Setting<'a, const W: usize> {
     pub(crate) flow: &'a Flow,
     pub(crate) classes: &'a Classes<'a, W>,
     pub(crate) touch: &'a TouchList<W>,
-    pub(crate) lines: &'a EdgeRows<'a>,
+    pub(crate) lines: &'a EdgeRows<'a, W>,
     /// For each line whether it is a class of words with one word.
     pub(crate) one_word: Vec<bool>,
     /// For each piece its out-edges, in order.
@@ -43,7 +43,7 @@ impl<'a, const W: usize> Setting<'a, W> {
         flow: &'a Flow,
         classes: &'a Classes<'a, W>,
         touch: &'a TouchList<W>,
-        lines: &'a EdgeRows<'a>,
+        lines: &'a EdgeRows<'a, W>,
     ) -> Result<Self, NoMemory>
         requires program { IsProgram program.now flow.now }
         requires lines { AreLines program.now flow.now classes.now touch.now lines.now }
@@ -101,13 +101,6 @@ impl<'a, const W: usize> Setting<'a, W> {
         ensures { result ≡ touches_in self.now.touch.now (to self.now.flow.now.graph edge) line }
     {
         self.touch.at(self.head(edge)).holds(line)
-    }
-
-    /// The place of the line and the edge in a table of rows, one for each edge.
-    pub(crate) fn place(&self, line: u32, edge: u32) -> usize
-        ensures { result ≡ edge * self.now.lines.now.lines + line }
-    {
-        edge as usize * self.lines.lines() as usize + line as usize
     }
 }
 

@@ -1,95 +1,83 @@
 //! What pieces make of the lines that they touch.
 
-ghost use Rattle.std.specs.Prelude.{◌≡◌, ◌<◌, ◌≤◌, ◌+◌, ◌⊎◌, ◌↔◌, true, IsTrue, OnOk};
+ghost use Rattle.std.specs.Prelude.{◌≡◌, ◌<◌, ◌≤◌, ◌+◌, ◌⊎◌, ◌↔◌, true, IsTrue};
 ghost use Rattle.closed_walks.specs.Graph.{edge_count, to};
 ghost use Rattle.dep_routing.specs.Touch.{touches_in};
 ghost use Rattle.const_prop.specs.Closed.{IsReady, WritesBehind, written_behind, decided_behind, kind_behind};
 ghost use Rattle.const_prop.specs.Closed.{is_action as spec_is_action, is_switch as spec_is_switch};
 ghost use Rattle.const_prop.specs.Known.{AtMost, IsSomething};
 ghost use Rattle.const_prop.specs.Setting.{IsSetting};
-ghost use Rattle.const_prop.specs.Work.{IsSized, IsSettling, so_far, work_left, edge_lines, this_piece, no_line, no_piece};
+ghost use Rattle.const_prop.specs.Work.{IsSized, IsSettling, so_far, work_left, all_lines, this_piece, no_line, no_piece};
 
-use crate::known::Known;
+use crate::known::{Known, risen};
 use crate::pieces::{selected, writes, written};
 use crate::setting::Setting;
-use crate::work::{Work, risen};
+use crate::work::Work;
 use cfg_build::PieceKind;
-use df_sequence::NoMemory;
 
-impl Work {
+impl<const W: usize> Work<W> {
     /// A piece is entered by the edge. Where something comes on each line that it touches, it decides, and its lines go on.
-    pub(crate) fn enter<const W: usize>(
-        &mut self,
-        s: &Setting<W>,
-        edge: u32,
-    ) -> Result<(), NoMemory>
+    pub(crate) fn enter(&mut self, s: &Setting<W>, edge: u32)
         requires setting { IsSetting s.now.program.now s.now.flow.now s.now.classes.now s.now.touch.now s.now.lines.now s.now.one_word.items s.now.outs.items s.now.touched.items }
         requires edge { edge < edge_count s.now.flow.now.graph }
         requires settling { IsSettling s.now.program.now s.now.flow.now s.now.classes.now (touches_in s.now.touch.now) s.now.lines.now no_line (this_piece edge) self.old }
-        ensures settling { OnOk result (IsSettling s.now.program.now s.now.flow.now s.now.classes.now (touches_in s.now.touch.now) s.now.lines.now no_line no_piece self.new) }
-        ensures bounded { OnOk result (work_left s.now.lines.now.lines self.new ≤ work_left s.now.lines.now.lines self.old) }
+        ensures settling { IsSettling s.now.program.now s.now.flow.now s.now.classes.now (touches_in s.now.touch.now) s.now.lines.now no_line no_piece self.new }
+        ensures bounded { work_left s.now.flow.now s.now.lines.now.lines self.new ≤ work_left s.now.flow.now s.now.lines.now.lines self.old }
     {
         if !self.is_ready(s, edge) {
-            return Ok(());
+            return;
         }
-        self.decide_at_switch(s, edge)?;
-        self.leave(s, edge)?;
-        Ok(())
+        self.decide_at_switch(s, edge);
+        self.leave(s, edge);
     }
 
     /// The piece decides anew, if control decides at it.
-    fn decide_at_switch<const W: usize>(
-        &mut self,
-        s: &Setting<W>,
-        edge: u32,
-    ) -> Result<(), NoMemory>
+    fn decide_at_switch(&mut self, s: &Setting<W>, edge: u32)
         requires setting { IsSetting s.now.program.now s.now.flow.now s.now.classes.now s.now.touch.now s.now.lines.now s.now.one_word.items s.now.outs.items s.now.touched.items }
         requires edge { edge < edge_count s.now.flow.now.graph }
-        requires ready { IsReady s.now.flow.now (touches_in s.now.touch.now) s.now.lines.now.lines (so_far s.now.lines.now.lines self.old) edge }
+        requires ready { IsReady s.now.flow.now (touches_in s.now.touch.now) s.now.lines.now.lines (so_far self.old) edge }
         requires settling { IsSettling s.now.program.now s.now.flow.now s.now.classes.now (touches_in s.now.touch.now) s.now.lines.now no_line (this_piece edge) self.old }
-        ensures settling { OnOk result (IsSettling s.now.program.now s.now.flow.now s.now.classes.now (touches_in s.now.touch.now) s.now.lines.now no_line (this_piece edge) self.new) }
-        ensures ready { OnOk result (IsReady s.now.flow.now (touches_in s.now.touch.now) s.now.lines.now.lines (so_far s.now.lines.now.lines self.new) edge) }
-        ensures decided { OnOk result (spec_is_switch (kind_behind s.now.flow.now edge) ≡ true → AtMost (decided_behind s.now.program.now s.now.flow.now s.now.classes.now (so_far s.now.lines.now.lines self.new) edge) ((so_far s.now.lines.now.lines self.new).decision (to s.now.flow.now.graph edge))) }
-        ensures bounded { OnOk result (work_left s.now.lines.now.lines self.new ≤ work_left s.now.lines.now.lines self.old) }
+        ensures settling { IsSettling s.now.program.now s.now.flow.now s.now.classes.now (touches_in s.now.touch.now) s.now.lines.now no_line (this_piece edge) self.new }
+        ensures ready { IsReady s.now.flow.now (touches_in s.now.touch.now) s.now.lines.now.lines (so_far self.new) edge }
+        ensures decided { spec_is_switch (kind_behind s.now.flow.now edge) ≡ true → AtMost (decided_behind s.now.program.now s.now.flow.now s.now.classes.now (so_far self.new) edge) ((so_far self.new).decision (to s.now.flow.now.graph edge)) }
+        ensures bounded { work_left s.now.flow.now s.now.lines.now.lines self.new ≤ work_left s.now.flow.now s.now.lines.now.lines self.old }
     {
         if !is_switch(s.kind(s.head(edge))) {
-            return Ok(());
+            return;
         }
-        self.decide(s, edge)?;
-        Ok(())
+        self.decide(s, edge);
     }
 
     /// The lines that the piece touches go on.
-    fn leave<const W: usize>(&mut self, s: &Setting<W>, edge: u32) -> Result<(), NoMemory>
+    fn leave(&mut self, s: &Setting<W>, edge: u32)
         requires setting { IsSetting s.now.program.now s.now.flow.now s.now.classes.now s.now.touch.now s.now.lines.now s.now.one_word.items s.now.outs.items s.now.touched.items }
         requires edge { edge < edge_count s.now.flow.now.graph }
-        requires ready { IsReady s.now.flow.now (touches_in s.now.touch.now) s.now.lines.now.lines (so_far s.now.lines.now.lines self.old) edge }
+        requires ready { IsReady s.now.flow.now (touches_in s.now.touch.now) s.now.lines.now.lines (so_far self.old) edge }
         requires settling { IsSettling s.now.program.now s.now.flow.now s.now.classes.now (touches_in s.now.touch.now) s.now.lines.now no_line (this_piece edge) self.old }
-        requires decided { spec_is_switch (kind_behind s.now.flow.now edge) ≡ true → AtMost (decided_behind s.now.program.now s.now.flow.now s.now.classes.now (so_far s.now.lines.now.lines self.old) edge) ((so_far s.now.lines.now.lines self.old).decision (to s.now.flow.now.graph edge)) }
-        ensures settling { OnOk result (IsSettling s.now.program.now s.now.flow.now s.now.classes.now (touches_in s.now.touch.now) s.now.lines.now no_line no_piece self.new) }
-        ensures bounded { OnOk result (work_left s.now.lines.now.lines self.new ≤ work_left s.now.lines.now.lines self.old) }
+        requires decided { spec_is_switch (kind_behind s.now.flow.now edge) ≡ true → AtMost (decided_behind s.now.program.now s.now.flow.now s.now.classes.now (so_far self.old) edge) ((so_far self.old).decision (to s.now.flow.now.graph edge)) }
+        ensures settling { IsSettling s.now.program.now s.now.flow.now s.now.classes.now (touches_in s.now.touch.now) s.now.lines.now no_line no_piece self.new }
+        ensures bounded { work_left s.now.flow.now s.now.lines.now.lines self.new ≤ work_left s.now.flow.now s.now.lines.now.lines self.old }
     {
         let node = s.head(edge);
         for line in s.touched[node as usize].as_slice() {
             let known = self.left(s, *line, edge);
-            self.send(s, *line, edge, known)?;
+            self.send(s, *line, edge, known);
         }
-        Ok(())
     }
 
     /// Whether the edge comes to a piece that reads and changes what its lines bring, and something comes on each of them.
-    fn is_ready<const W: usize>(&self, s: &Setting<W>, edge: u32) -> bool
+    fn is_ready(&self, s: &Setting<W>, edge: u32) -> bool
         requires setting { IsSetting s.now.program.now s.now.flow.now s.now.classes.now s.now.touch.now s.now.lines.now s.now.one_word.items s.now.outs.items s.now.touched.items }
         requires edge { edge < edge_count s.now.flow.now.graph }
         requires sized { IsSized s.now.flow.now s.now.lines.now.lines self.now }
-        ensures { IsTrue result ↔ IsReady s.now.flow.now (touches_in s.now.touch.now) s.now.lines.now.lines (so_far s.now.lines.now.lines self.now) edge }
+        ensures { IsTrue result ↔ IsReady s.now.flow.now (touches_in s.now.touch.now) s.now.lines.now.lines (so_far self.now) edge }
     {
         let node = s.head(edge);
         if !is_action(s.kind(node)) {
             return false;
         }
         for line in s.touched[node as usize].as_slice() {
-            if !is_something(self.values[s.place(*line, edge)]) {
+            if !is_something(self.known.get(*line, edge)) {
                 return false;
             }
         }
@@ -97,89 +85,84 @@ impl Work {
     }
 
     /// What the piece decides.
-    fn decided<const W: usize>(&self, s: &Setting<W>, edge: u32) -> Known
+    fn decided(&self, s: &Setting<W>, edge: u32) -> Known
         requires setting { IsSetting s.now.program.now s.now.flow.now s.now.classes.now s.now.touch.now s.now.lines.now s.now.one_word.items s.now.outs.items s.now.touched.items }
         requires edge { edge < edge_count s.now.flow.now.graph }
         requires sized { IsSized s.now.flow.now s.now.lines.now.lines self.now }
         requires switch { spec_is_switch (kind_behind s.now.flow.now edge) ≡ true }
-        ensures { result ≡ decided_behind s.now.program.now s.now.flow.now s.now.classes.now (so_far s.now.lines.now.lines self.now) edge }
+        ensures { result ≡ decided_behind s.now.program.now s.now.flow.now s.now.classes.now (so_far self.now) edge }
     {
         let node = s.head(edge);
         match s.kind(node) {
             PieceKind::Hold => Known::One(0),
-            _ => selected(s, &self.values, edge, s.exec(node)),
+            _ => selected(s, &self.known, edge, s.exec(node)),
         }
     }
 
     /// What the piece leaves on a line that it touches.
-    fn left<const W: usize>(&self, s: &Setting<W>, line: u32, edge: u32) -> Known
+    fn left(&self, s: &Setting<W>, line: u32, edge: u32) -> Known
         requires setting { IsSetting s.now.program.now s.now.flow.now s.now.classes.now s.now.touch.now s.now.lines.now s.now.one_word.items s.now.outs.items s.now.touched.items }
         requires edge { edge < edge_count s.now.flow.now.graph }
         requires line { line < s.now.lines.now.lines }
         requires sized { IsSized s.now.flow.now s.now.lines.now.lines self.now }
-        ensures { (WritesBehind s.now.program.now s.now.flow.now s.now.classes.now edge line × (result ≡ written_behind s.now.program.now s.now.flow.now s.now.classes.now (so_far s.now.lines.now.lines self.now) edge line)) ⊎ ((WritesBehind s.now.program.now s.now.flow.now s.now.classes.now edge line → ⊥) × (result ≡ (so_far s.now.lines.now.lines self.now).value line edge)) }
+        ensures { (WritesBehind s.now.program.now s.now.flow.now s.now.classes.now edge line × (result ≡ written_behind s.now.program.now s.now.flow.now s.now.classes.now (so_far self.now) edge line)) ⊎ ((WritesBehind s.now.program.now s.now.flow.now s.now.classes.now edge line → ⊥) × (result ≡ (so_far self.now).value line edge)) }
     {
         match s.kind(s.head(edge)) {
             PieceKind::Act => self.left_by_act(s, line, edge),
-            _ => self.values[s.place(line, edge)],
+            _ => self.known.get(line, edge),
         }
     }
 
     /// What an act leaves on a line that it touches.
-    fn left_by_act<const W: usize>(&self, s: &Setting<W>, line: u32, edge: u32) -> Known
+    fn left_by_act(&self, s: &Setting<W>, line: u32, edge: u32) -> Known
         requires setting { IsSetting s.now.program.now s.now.flow.now s.now.classes.now s.now.touch.now s.now.lines.now s.now.one_word.items s.now.outs.items s.now.touched.items }
         requires edge { edge < edge_count s.now.flow.now.graph }
         requires line { line < s.now.lines.now.lines }
         requires sized { IsSized s.now.flow.now s.now.lines.now.lines self.now }
         requires act { kind_behind s.now.flow.now edge ≡ PieceKind.Act }
-        ensures { (WritesBehind s.now.program.now s.now.flow.now s.now.classes.now edge line × (result ≡ written_behind s.now.program.now s.now.flow.now s.now.classes.now (so_far s.now.lines.now.lines self.now) edge line)) ⊎ ((WritesBehind s.now.program.now s.now.flow.now s.now.classes.now edge line → ⊥) × (result ≡ (so_far s.now.lines.now.lines self.now).value line edge)) }
+        ensures { (WritesBehind s.now.program.now s.now.flow.now s.now.classes.now edge line × (result ≡ written_behind s.now.program.now s.now.flow.now s.now.classes.now (so_far self.now) edge line)) ⊎ ((WritesBehind s.now.program.now s.now.flow.now s.now.classes.now edge line → ⊥) × (result ≡ (so_far self.now).value line edge)) }
     {
         let exec = s.exec(s.head(edge));
         if writes(s, exec, line) {
-            written(s, &self.values, edge, exec, line)
+            written(s, &self.known, edge, exec, line)
         } else {
-            self.values[s.place(line, edge)]
+            self.known.get(line, edge)
         }
     }
 
     /// The piece decides anew. Where its decision rises, the lines that go past it are to be passed on again.
-    fn decide<const W: usize>(&mut self, s: &Setting<W>, edge: u32) -> Result<(), NoMemory>
+    fn decide(&mut self, s: &Setting<W>, edge: u32)
         requires setting { IsSetting s.now.program.now s.now.flow.now s.now.classes.now s.now.touch.now s.now.lines.now s.now.one_word.items s.now.outs.items s.now.touched.items }
         requires edge { edge < edge_count s.now.flow.now.graph }
-        requires ready { IsReady s.now.flow.now (touches_in s.now.touch.now) s.now.lines.now.lines (so_far s.now.lines.now.lines self.old) edge }
+        requires ready { IsReady s.now.flow.now (touches_in s.now.touch.now) s.now.lines.now.lines (so_far self.old) edge }
         requires switch { spec_is_switch (kind_behind s.now.flow.now edge) ≡ true }
         requires settling { IsSettling s.now.program.now s.now.flow.now s.now.classes.now (touches_in s.now.touch.now) s.now.lines.now no_line (this_piece edge) self.old }
-        ensures settling { OnOk result (IsSettling s.now.program.now s.now.flow.now s.now.classes.now (touches_in s.now.touch.now) s.now.lines.now no_line (this_piece edge) self.new) }
-        ensures values { OnOk result (self.new.values.items ≡ self.old.values.items) }
-        ensures decided { OnOk result (AtMost (decided_behind s.now.program.now s.now.flow.now s.now.classes.now (so_far s.now.lines.now.lines self.new) edge) ((so_far s.now.lines.now.lines self.new).decision (to s.now.flow.now.graph edge))) }
-        ensures bounded { OnOk result (work_left s.now.lines.now.lines self.new ≤ work_left s.now.lines.now.lines self.old) }
+        ensures settling { IsSettling s.now.program.now s.now.flow.now s.now.classes.now (touches_in s.now.touch.now) s.now.lines.now no_line (this_piece edge) self.new }
+        ensures values { self.new.known ≡ self.old.known }
+        ensures decided { AtMost (decided_behind s.now.program.now s.now.flow.now s.now.classes.now (so_far self.new) edge) ((so_far self.new).decision (to s.now.flow.now.graph edge)) }
+        ensures bounded { work_left s.now.flow.now s.now.lines.now.lines self.new ≤ work_left s.now.flow.now s.now.lines.now.lines self.old }
     {
         let node = s.head(edge);
         let decided = self.decided(s, edge);
         let Some(decision) = risen(self.decisions[node as usize], decided) else {
-            return Ok(());
+            return;
         };
         self.decisions[node as usize] = decision;
-        self.again(s, edge)?;
-        Ok(())
+        self.again(s, edge);
     }
 
     /// The lines that go past the piece are to be passed on again.
-    fn again<const W: usize>(&mut self, s: &Setting<W>, edge: u32) -> Result<(), NoMemory>
+    fn again(&mut self, s: &Setting<W>, edge: u32)
         requires setting { IsSetting s.now.program.now s.now.flow.now s.now.classes.now s.now.touch.now s.now.lines.now s.now.one_word.items s.now.outs.items s.now.touched.items }
         requires edge { edge < edge_count s.now.flow.now.graph }
-        requires settling { IsSettling s.now.program.now s.now.flow.now s.now.classes.now (touches_in s.now.touch.now) s.now.lines.now (edge_lines edge 0) (this_piece edge) self.old }
-        ensures settling { OnOk result (IsSettling s.now.program.now s.now.flow.now s.now.classes.now (touches_in s.now.touch.now) s.now.lines.now no_line (this_piece edge) self.new) }
-        ensures values { OnOk result (self.new.values.items ≡ self.old.values.items) }
-        ensures decisions { OnOk result (self.new.decisions.items ≡ self.old.decisions.items) }
-        ensures bounded { OnOk result (work_left s.now.lines.now.lines self.new ≤ work_left s.now.lines.now.lines self.old + s.now.lines.now.lines) }
+        requires settling { IsSettling s.now.program.now s.now.flow.now s.now.classes.now (touches_in s.now.touch.now) s.now.lines.now (all_lines edge) (this_piece edge) self.old }
+        ensures settling { IsSettling s.now.program.now s.now.flow.now s.now.classes.now (touches_in s.now.touch.now) s.now.lines.now no_line (this_piece edge) self.new }
+        ensures values { self.new.known ≡ self.old.known }
+        ensures decisions { self.new.decisions.items ≡ self.old.decisions.items }
+        ensures bounded { work_left s.now.flow.now s.now.lines.now.lines self.new ≤ work_left s.now.flow.now s.now.lines.now.lines self.old + 1 }
     {
-        for line in 0..s.lines.lines() {
-            if !s.touches(line, edge) {
-                self.risen.push((line, edge))?;
-            }
-        }
-        Ok(())
+        self.pending.add(edge, s.lines.wires(edge));
+        self.waits.insert(edge);
     }
 }
 

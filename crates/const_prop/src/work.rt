@@ -1,128 +1,161 @@
 //! A table in the making, and what waits to be passed on.
 
-ghost use Rattle.std.specs.Prelude.{◌≡◌, ◌<◌, ◌≤◌, ◌⊎◌, ◌||◌, ℕ, false, true, IsTrue, ◌↔◌, MatchOption, OnOk};
+ghost use Rattle.std.specs.Prelude.{◌≡◌, ◌<◌, ◌≤◌, ◌||◌, ℕ, false, true, IsTrue, ◌↔◌};
+ghost use Rattle.class_set.specs.ClassSet.{holds};
 ghost use Rattle.closed_walks.specs.Graph.{edge_count, to};
+ghost use Rattle.dep_routing.specs.Routing.{next_at};
 ghost use Rattle.dep_routing.specs.Touch.{touches_in};
+ghost use Rattle.const_prop.specs.declared.known.Known.TheVariants.{Any};
 ghost use Rattle.const_prop.specs.Closed.{IsClosed, IsWay, is_one_word, is_switch, is_merge, led_to, KindAllows};
 ghost use Rattle.const_prop.specs.Known.{AtMost, IsNotOne};
 ghost use Rattle.const_prop.specs.Setting.{IsSetting};
 ghost use Rattle.const_prop.specs.Table.{Knowns};
-ghost use Rattle.const_prop.specs.Work.{IsRise, IsSized, IsPast, Rises, IsFound, IsSettling, so_far, work_left, this_line, no_line, no_piece};
+ghost use Rattle.const_prop.specs.Work.{IsSized, Rises, IsFound, IsSettling, so_far, work_left, these_lines, no_line, this_piece};
 
+use crate::edge_set::EdgeSet;
 use crate::known::Known;
+use crate::known_rows::KnownRows;
+use crate::line_sets::LineSets;
 use crate::setting::Setting;
 use cfg_build::PieceKind;
-use df_sequence::NoMemory;
-use std::alloc::Global;
+use class_set::ClassSet;
 
 /// A table in the making.
 #[derive(Drop)]
-pub(crate) struct Work {
-    pub(crate) values: Vec<Known>,
+pub(crate) struct Work<const W: usize> {
+    pub(crate) known: KnownRows<W>,
     pub(crate) decisions: Vec<Known>,
-    /// Lines and edges to pieces that don't touch them, where more is known than was passed on.
-    pub(crate) risen: Vec<(u32, u32)>,
-    /// Edges to pieces on whose touched lines more is known than they have seen.
-    pub(crate) entered: Vec<u32>,
-    /// For each edge whether it is one of these.
-    pub(crate) waits: Vec<bool>,
+    /// For each edge the lines of which more is known there than was passed on.
+    pub(crate) pending: LineSets<W>,
+    /// The edges that are to be visited: those that have such lines, or by which the piece at their end is still to be entered.
+    pub(crate) waits: EdgeSet,
 }
 
-/// What is known where something comes besides, if that is more.
-pub(crate) fn risen(old: Known, comes: Known) -> Option<Known>
-    ensures { MatchOption result (AtMost comes old) (λ new. IsRise old comes new) }
-{
-    match (old, comes) {
-        (Known::Any, _) | (_, Known::Nothing) => None,
-        (Known::Nothing, new) => Some(new),
-        (Known::One(_), Known::Any) => Some(Known::Any),
-        (Known::One(v), Known::One(w)) => { if v == w { None } else { Some(Known::Any) } }
-    }
-}
-
-impl Work {
-    /// Joins what comes to what is known of the line on the edge. Where that rises, it waits to be passed on.
-    pub(crate) fn raise<const W: usize>(
-        &mut self,
-        s: &Setting<W>,
-        line: u32,
-        edge: u32,
-        comes: Known,
-    ) -> Result<(), NoMemory>
+impl<const W: usize> Work<W> {
+    /// Joins what comes to what is known of the line on the edge. Where that rises, the edge waits with the line.
+    pub(crate) fn raise(&mut self, s: &Setting<W>, line: u32, edge: u32, comes: Known)
         requires setting { IsSetting s.now.program.now s.now.flow.now s.now.classes.now s.now.touch.now s.now.lines.now s.now.one_word.items s.now.outs.items s.now.touched.items }
         requires sized { IsSized s.now.flow.now s.now.lines.now.lines self.old }
         requires line { line < s.now.lines.now.lines }
         requires edge { edge < edge_count s.now.flow.now.graph }
-        requires found { IsFound s.now.program.now s.now.flow.now s.now.classes.now (touches_in s.now.touch.now) s.now.lines.now (so_far s.now.lines.now.lines self.old) }
+        requires found { IsFound s.now.program.now s.now.flow.now s.now.classes.now (touches_in s.now.touch.now) s.now.lines.now (so_far self.old) }
         requires due { (b : Knowns) → IsClosed s.now.program.now s.now.flow.now s.now.classes.now (touches_in s.now.touch.now) s.now.lines.now b → AtMost comes (b.value line edge) }
         requires one { is_one_word s.now.classes.now line ≡ false → IsNotOne comes }
-        ensures rises { OnOk result (Rises s.now.flow.now (touches_in s.now.touch.now) s.now.lines.now.lines self.old self.new) }
-        ensures found { OnOk result (IsFound s.now.program.now s.now.flow.now s.now.classes.now (touches_in s.now.touch.now) s.now.lines.now (so_far s.now.lines.now.lines self.new)) }
-        ensures reached { OnOk result (AtMost comes ((so_far s.now.lines.now.lines self.new).value line edge)) }
+        ensures rises { Rises s.now.flow.now s.now.lines.now.lines self.old self.new }
+        ensures found { IsFound s.now.program.now s.now.flow.now s.now.classes.now (touches_in s.now.touch.now) s.now.lines.now (so_far self.new) }
+        ensures reached { AtMost comes ((so_far self.new).value line edge) }
     {
-        let place = s.place(line, edge);
-        let Some(known) = risen(self.values[place], comes) else {
-            return Ok(());
-        };
-        self.values[place] = known;
-        if !s.touches(line, edge) {
-            self.risen.push((line, edge))?;
-        } else if !self.waits[edge as usize] {
-            self.waits[edge as usize] = true;
-            self.entered.push(edge)?;
+        if self.known.raise(line, edge, comes) {
+            self.pending.insert(edge, line);
+            self.waits.insert(edge);
         }
-        Ok(())
+    }
+
+    /// Any value may come on these lines by the edge. Where that is new, the edge waits with the line.
+    fn raise_to_any(&mut self, s: &Setting<W>, edge: u32, lines: &ClassSet<W>)
+        requires setting { IsSetting s.now.program.now s.now.flow.now s.now.classes.now s.now.touch.now s.now.lines.now s.now.one_word.items s.now.outs.items s.now.touched.items }
+        requires sized { IsSized s.now.flow.now s.now.lines.now.lines self.old }
+        requires within { (line : ℕ) → holds lines.now line ≡ true → line < s.now.lines.now.lines }
+        requires edge { edge < edge_count s.now.flow.now.graph }
+        requires found { IsFound s.now.program.now s.now.flow.now s.now.classes.now (touches_in s.now.touch.now) s.now.lines.now (so_far self.old) }
+        requires due { (b : Knowns) (line : ℕ) → IsClosed s.now.program.now s.now.flow.now s.now.classes.now (touches_in s.now.touch.now) s.now.lines.now b → holds lines.now line ≡ true → AtMost Any (b.value line edge) }
+        ensures rises { Rises s.now.flow.now s.now.lines.now.lines self.old self.new }
+        ensures found { IsFound s.now.program.now s.now.flow.now s.now.classes.now (touches_in s.now.touch.now) s.now.lines.now (so_far self.new) }
+        ensures reached { (line : ℕ) → holds lines.now line ≡ true → AtMost Any ((so_far self.new).value line edge) }
+    {
+        let risen = lines.difference(self.known.any_at(edge));
+        if risen.next_after(None).is_none() {
+            return;
+        }
+        self.known.set_any(edge, &risen);
+        self.pending.add(edge, &risen);
+        self.waits.insert(edge);
     }
 
     /// Sends what is known of a line along the out-edges that control may take at the end of the edge.
-    pub(crate) fn send<const W: usize>(
-        &mut self,
-        s: &Setting<W>,
-        line: u32,
-        edge: u32,
-        known: Known,
-    ) -> Result<(), NoMemory>
+    pub(crate) fn send(&mut self, s: &Setting<W>, line: u32, edge: u32, known: Known)
         requires setting { IsSetting s.now.program.now s.now.flow.now s.now.classes.now s.now.touch.now s.now.lines.now s.now.one_word.items s.now.outs.items s.now.touched.items }
         requires sized { IsSized s.now.flow.now s.now.lines.now.lines self.old }
         requires line { line < s.now.lines.now.lines }
         requires edge { edge < edge_count s.now.flow.now.graph }
-        requires found { IsFound s.now.program.now s.now.flow.now s.now.classes.now (touches_in s.now.touch.now) s.now.lines.now (so_far s.now.lines.now.lines self.old) }
-        requires due { (b : Knowns) (i : ℕ) → IsClosed s.now.program.now s.now.flow.now s.now.classes.now (touches_in s.now.touch.now) s.now.lines.now b → IsWay s.now.flow.now (so_far s.now.lines.now.lines self.old) edge i → AtMost known (b.value line (led_to s.now.flow.now s.now.lines.now edge line i)) }
+        requires found { IsFound s.now.program.now s.now.flow.now s.now.classes.now (touches_in s.now.touch.now) s.now.lines.now (so_far self.old) }
+        requires due { (b : Knowns) (i : ℕ) → IsClosed s.now.program.now s.now.flow.now s.now.classes.now (touches_in s.now.touch.now) s.now.lines.now b → IsWay s.now.flow.now (so_far self.old) edge i → AtMost known (b.value line (led_to s.now.flow.now s.now.lines.now edge line i)) }
         requires one { is_one_word s.now.classes.now line ≡ false → IsNotOne known }
-        ensures rises { OnOk result (Rises s.now.flow.now (touches_in s.now.touch.now) s.now.lines.now.lines self.old self.new) }
-        ensures found { OnOk result (IsFound s.now.program.now s.now.flow.now s.now.classes.now (touches_in s.now.touch.now) s.now.lines.now (so_far s.now.lines.now.lines self.new)) }
-        ensures sent { OnOk result ((i : ℕ) → IsWay s.now.flow.now (so_far s.now.lines.now.lines self.old) edge i → AtMost known ((so_far s.now.lines.now.lines self.new).value line (led_to s.now.flow.now s.now.lines.now edge line i))) }
+        ensures rises { Rises s.now.flow.now s.now.lines.now.lines self.old self.new }
+        ensures found { IsFound s.now.program.now s.now.flow.now s.now.classes.now (touches_in s.now.touch.now) s.now.lines.now (so_far self.new) }
+        ensures sent { (i : ℕ) → IsWay s.now.flow.now (so_far self.old) edge i → AtMost known ((so_far self.new).value line (led_to s.now.flow.now s.now.lines.now edge line i)) }
     {
         let node = s.head(edge);
         let kind = s.kind(node);
         let decision = self.decisions[node as usize];
         'ways: for (i, out) in s.outs[node as usize].as_slice().iter().enumerate() {
             if allows(kind, decision, i) {
-                self.raise(s, line, s.lines.next_wire(line, *out), known)?;
+                self.raise(s, line, s.lines.next_wire(line, *out), known);
             }
         }
-        Ok(())
     }
 
-    /// A line goes past a piece that doesn't touch it.
-    pub(crate) fn pass<const W: usize>(
-        &mut self,
-        s: &Setting<W>,
-        line: u32,
-        edge: u32,
-    ) -> Result<(), NoMemory>
+    /// These lines go past the piece at the end of the edge where it doesn't touch them.
+    pub(crate) fn pass(&mut self, s: &Setting<W>, edge: u32, fresh: &ClassSet<W>)
         requires setting { IsSetting s.now.program.now s.now.flow.now s.now.classes.now s.now.touch.now s.now.lines.now s.now.one_word.items s.now.outs.items s.now.touched.items }
-        requires past { IsPast s.now.flow.now (touches_in s.now.touch.now) s.now.lines.now.lines line edge }
-        requires settling { IsSettling s.now.program.now s.now.flow.now s.now.classes.now (touches_in s.now.touch.now) s.now.lines.now (this_line line edge) no_piece self.old }
-        ensures settling { OnOk result (IsSettling s.now.program.now s.now.flow.now s.now.classes.now (touches_in s.now.touch.now) s.now.lines.now no_line no_piece self.new) }
-        ensures bounded { OnOk result (work_left s.now.lines.now.lines self.new ≤ work_left s.now.lines.now.lines self.old) }
+        requires edge { edge < edge_count s.now.flow.now.graph }
+        requires settling { IsSettling s.now.program.now s.now.flow.now s.now.classes.now (touches_in s.now.touch.now) s.now.lines.now (these_lines fresh.now edge) (this_piece edge) self.old }
+        ensures settling { IsSettling s.now.program.now s.now.flow.now s.now.classes.now (touches_in s.now.touch.now) s.now.lines.now no_line (this_piece edge) self.new }
+        ensures bounded { work_left s.now.flow.now s.now.lines.now.lines self.new ≤ work_left s.now.flow.now s.now.lines.now.lines self.old }
     {
-        if !passes_on(s.kind(s.head(edge))) || !s.lines.is_wire(line, edge) {
-            return Ok(());
+        let node = s.head(edge);
+        let kind = s.kind(node);
+        if !passes_on(kind) {
+            return;
         }
-        let known = self.values[s.place(line, edge)];
-        self.send(s, line, edge, known)?;
-        Ok(())
+        let decision = self.decisions[node as usize];
+        let standing = fresh.intersection(s.lines.wires(edge));
+        let lines = standing.difference(s.touch.at(node));
+        'ways: for (i, out) in s.outs[node as usize].as_slice().iter().enumerate() {
+            if allows(kind, decision, i) {
+                self.pass_along(s, edge, *out, &lines);
+            }
+        }
+    }
+
+    /// These lines go on from the edge by the out-edge. Those on which any value may come and that are led past nothing go at once.
+    fn pass_along(&mut self, s: &Setting<W>, edge: u32, out: u32, lines: &ClassSet<W>)
+        requires setting { IsSetting s.now.program.now s.now.flow.now s.now.classes.now s.now.touch.now s.now.lines.now s.now.one_word.items s.now.outs.items s.now.touched.items }
+        requires sized { IsSized s.now.flow.now s.now.lines.now.lines self.old }
+        requires within { (line : ℕ) → holds lines.now line ≡ true → line < s.now.lines.now.lines }
+        requires edge { edge < edge_count s.now.flow.now.graph }
+        requires out { out < edge_count s.now.flow.now.graph }
+        requires found { IsFound s.now.program.now s.now.flow.now s.now.classes.now (touches_in s.now.touch.now) s.now.lines.now (so_far self.old) }
+        requires due { (b : Knowns) (line : ℕ) → IsClosed s.now.program.now s.now.flow.now s.now.classes.now (touches_in s.now.touch.now) s.now.lines.now b → holds lines.now line ≡ true → AtMost (b.value line edge) (b.value line (next_at s.now.lines.now line out)) }
+        ensures rises { Rises s.now.flow.now s.now.lines.now.lines self.old self.new }
+        ensures found { IsFound s.now.program.now s.now.flow.now s.now.classes.now (touches_in s.now.touch.now) s.now.lines.now (so_far self.new) }
+        ensures passed { (line : ℕ) → holds lines.now line ≡ true → AtMost ((so_far self.old).value line edge) ((so_far self.new).value line (next_at s.now.lines.now line out)) }
+    {
+        let any = lines.intersection(self.known.any_at(edge));
+        let at_once = any.intersection(s.lines.wires(out));
+        self.raise_to_any(s, out, &at_once);
+        self.pass_each(s, edge, out, &lines.difference(&at_once));
+    }
+
+    /// These lines go on from the edge by the out-edge, one after the other.
+    fn pass_each(&mut self, s: &Setting<W>, edge: u32, out: u32, lines: &ClassSet<W>)
+        requires setting { IsSetting s.now.program.now s.now.flow.now s.now.classes.now s.now.touch.now s.now.lines.now s.now.one_word.items s.now.outs.items s.now.touched.items }
+        requires sized { IsSized s.now.flow.now s.now.lines.now.lines self.old }
+        requires within { (line : ℕ) → holds lines.now line ≡ true → line < s.now.lines.now.lines }
+        requires edge { edge < edge_count s.now.flow.now.graph }
+        requires out { out < edge_count s.now.flow.now.graph }
+        requires found { IsFound s.now.program.now s.now.flow.now s.now.classes.now (touches_in s.now.touch.now) s.now.lines.now (so_far self.old) }
+        requires due { (b : Knowns) (line : ℕ) → IsClosed s.now.program.now s.now.flow.now s.now.classes.now (touches_in s.now.touch.now) s.now.lines.now b → holds lines.now line ≡ true → AtMost (b.value line edge) (b.value line (next_at s.now.lines.now line out)) }
+        ensures rises { Rises s.now.flow.now s.now.lines.now.lines self.old self.new }
+        ensures found { IsFound s.now.program.now s.now.flow.now s.now.classes.now (touches_in s.now.touch.now) s.now.lines.now (so_far self.new) }
+        ensures passed { (line : ℕ) → holds lines.now line ≡ true → AtMost ((so_far self.old).value line edge) ((so_far self.new).value line (next_at s.now.lines.now line out)) }
+    {
+        let mut next = lines.next_after(None);
+        'each: while let Some(line) = next {
+            let known = self.known.get(line, edge);
+            self.raise(s, line, s.lines.next_wire(line, out), known);
+            next = lines.next_after(Some(line));
+        }
     }
 }
 

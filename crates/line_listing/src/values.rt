@@ -4,6 +4,7 @@ ghost use Rattle.std.specs.Prelude.{◌≡◌, ◌<◌, length};
 ghost use Rattle.closed_walks.specs.Graph.{edge_count};
 ghost use Rattle.f77_tree.specs.WellFormed.{IsWellFormed};
 ghost use Rattle.f77_tree.specs.Value.{IsExpression};
+ghost use Rattle.const_prop.specs.KnownRows.{edges_of};
 ghost use Rattle.line_listing.specs.Found.{IsFoundOf};
 
 use crate::errors::no_memory;
@@ -56,9 +57,9 @@ fn tell_edges(rt: &HostRuntime, f: &Flow) -> io::Result<()> {
 }
 
 // Tells for each line on which of its wires one value is known, or none comes.
-fn tell_table(rt: &HostRuntime, t: &Table, l: &Lines, edges: u32) -> io::Result<()>
-    requires lines { t.now.lines ≡ l.now.lines }
-    requires edges { t.now.edges ≡ edges }
+fn tell_table(rt: &HostRuntime, t: &Table<16>, l: &Lines, edges: u32) -> io::Result<()>
+    requires lines { t.now.known.lines ≡ l.now.lines }
+    requires edges { edges_of t.now.known ≡ edges }
     requires wires { l.now.edges ≡ edges }
 {
     for line in 0..l.lines() {
@@ -70,14 +71,14 @@ fn tell_table(rt: &HostRuntime, t: &Table, l: &Lines, edges: u32) -> io::Result<
 
 fn known_row(
     alloc: Global,
-    t: &Table,
+    t: &Table<16>,
     l: &Lines,
     edges: u32,
     line: u32,
 ) -> Result<String, AllocError>
     requires line { line < l.now.lines }
-    requires lines { t.now.lines ≡ l.now.lines }
-    requires edges { t.now.edges ≡ edges }
+    requires lines { t.now.known.lines ≡ l.now.lines }
+    requires edges { edges_of t.now.known ≡ edges }
     requires wires { l.now.edges ≡ edges }
 {
     let mut text = String::new(alloc);
@@ -94,7 +95,7 @@ fn known_row(
 }
 
 // Tells what is decided at branches and holds.
-fn tell_decisions(rt: &HostRuntime, f: &Flow, t: &Table) -> io::Result<()>
+fn tell_decisions(rt: &HostRuntime, f: &Flow, t: &Table<16>) -> io::Result<()>
     requires { length t.now.decisions ≡ f.now.graph.nodes }
 {
     for node in 0..f.pieces() {

@@ -13,5 +13,5 @@ invariant-loop-arg g l = record {
   few : length l.arg-items ≤ 3;
   room : length l.operands ≡ 3;
   expressions : All (IsExpression l.s.program.now.names) l.arg-items;
-  values : take l.count l.operands ≡ map (known_with l.s.program.now.names (words_on l.s.classes.now (knowns l.s.lines.now.lines l.values []) l.edge)) (take l.arg-index l.arg-items);
+  values : take l.count l.operands ≡ map (known_with l.s.program.now.names (words_on l.s.classes.now (knowns l.rows []) l.edge)) (take l.arg-index l.arg-items);
 }

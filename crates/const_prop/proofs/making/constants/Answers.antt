@@ -1,8 +1,8 @@
-use Rattle.std.proofs.Common.{◌≡◌, ◌<◌, ℕ, Bool, List, rules, sym, ap, subst, ◌∙◌, arith}
+use Rattle.std.proofs.Common.{◌≡◌, ◌<◌, ◌+◌, ℕ, Bool, List, rules, sym, ap, subst, ◌∙◌, arith}
 use Rattle.closed_walks.specs.Graph.{edge_count}
 use Rattle.class_set.specs.declared.ClassSet.{ClassSet}
 use Rattle.f77_tree.specs.declared.programs.Program.{Program}
-use Rattle.alias_classes.specs.Classes.{ClassTable}
+use Rattle.alias_classes.specs.Classes.{ClassTable, class_count}
 use Rattle.cfg_build.specs.Flow.{flow}
 use Rattle.cfg_build.specs.Joined.{FlowGraph}
 use Rattle.dep_routing.specs.Routing.{Routing, next_at}
@@ -16,11 +16,6 @@ use Rattle.const_prop.proofs.Settled.{settled-constants}
 use Rattle.const_prop.proofs.Uses.{merges-untouched}
 use Rattle.const_prop.proofs.making.constants.Goals as goal
 
-pub new-requires : goal.new-requires
-new-requires g c =
-    let flow_edges : edge_count c.args.f.now.graph ≡ edge_count (flow c.args.p.now.execs).graph = ap (λ (g : FlowGraph). edge_count g.graph) c.requires.flow in
-    c.edges.ensures.count ∙ ap (λ g. edge_count g) c.graph.ensures ∙ flow_edges ∙ sym c.requires.routing.routing.edges
-
 pub new-requires-2 : goal.new-requires-2
 new-requires-2 g c =
     let p = c.args.p.now in
@@ -32,23 +27,31 @@ new-requires-2 g c =
     let program : IsProgram p f = c.program_facts.ensures.program p f c.requires.program c.requires.flow in
     let lines : AreLines p f c.args.c.now c.args.touch.now r = record {
       width = c.requires.width;
+      few = omega (arith, routing.routing.count, c.count-lines.ensures.count, c.count-lines.ensures.few);
       classes = c.requires.classes;
       pieces = c.requires.pieces;
       touches = c.requires.touches;
       lines = routing.routing.count;
       edges = routing.routing.edges ∙ sym edges;
+      stay = λ line e l k wire.
+          let l' = routing.routing.count in
+          let k' : e < edge_count (flow p.execs).graph = omega (arith, k, routing.routing.edges) in
+          let inside : line < class_count c.args.c.now + 1 = omega (arith, l, l') in
+          c.next_edges.ensures.stays (flow p.execs).graph routing.tree touches line e (next_at r line e) (c.program_facts.ensures.strong p c.requires.program) routing.is_tree ((routing.routing.wire line e inside k').0 wire) (routing.routing.next line e inside k');
       next = λ line e l k.
           let k' : e < edge_count (flow p.execs).graph = omega (arith, k, edges) in
           let l' = routing.routing.count in
           let led = c.next_edges.ensures.exists (flow p.execs).graph routing.tree touches line e (next_at r line e) (c.program_facts.ensures.strong p c.requires.program) routing.is_tree k' (routing.routing.next line e (omega (arith, l, l')) k') in
           omega (arith, led, edges);
     } in
-    (search rules, (search rules, (search rules, (program, subst (λ (x : Routing). AreLines p f c.args.c.now c.args.touch.now x) (sym c.in_ok-rows.ensures) lines))))
+    let here = subst (λ (x : Routing). AreLines p f c.args.c.now c.args.touch.now x) (sym c.in_ok-rows.ensures) lines in
+    search (rules, program, here)
 
 pub open-requires : goal.open-requires
 open-requires g c =
     let s = c.in_ok-s.s in
-    (search rules, (c.in_ok-s.ensures.setting, blank-settling s.program.now s.flow.now s.classes.now (touches_in s.touch.now) s.lines.now c.in_ok-work.work c.in_ok-work.ensures))
+    let settling = blank-settling s.program.now s.flow.now s.classes.now (touches_in s.touch.now) s.lines.now c.in_ok-work.work c.in_ok-work.ensures in
+    search (rules, c.in_ok-s.ensures.setting, settling)
 
 transport : {W : ℕ} (p p' : Program) (f f' : FlowGraph) (c c' : ClassTable) (touch touch' : List (ClassSet W)) (r r' : Routing) (t : Knowns) → p ≡ p' → f ≡ f' → c ≡ c' → touch ≡ touch' → r ≡ r' → IsConstants p f c (touches_in touch) r t → IsConstants p' f' c' (touches_in touch') r' t
 transport p p' f f' c c' touch touch' r r' t ep ef ec et er h =
@@ -63,11 +66,9 @@ returns-clause-constants g c =
     let s = c.in_ok-s.s in
     let w = c.settle.new.self in
     let e = c.in_ok-s.ensures in
-    let found : IsConstants s.program.now s.flow.now s.classes.now (touches_in s.touch.now) s.lines.now (so_far s.lines.now.lines w) =
+    let found : IsConstants s.program.now s.flow.now s.classes.now (touches_in s.touch.now) s.lines.now (so_far w) =
     settled-constants s.program.now s.flow.now s.classes.now (touches_in s.touch.now) s.lines.now w
     (λ k line l merge. merges-untouched s.program.now s.flow.now s.classes.now (touches_in s.touch.now) e.setting.program e.setting.lines.touches k line l merge)
-    c.in_ok-settle.ensures.settling c.in_ok-settle.ensures.risen c.in_ok-settle.ensures.entered in
+    c.settle.ensures.settling c.settle.ensures.rests in
     let routing : s.lines.now ≡ c.args.l.now = e.lines ∙ c.in_ok-rows.ensures in
-    let lines : s.lines.now.lines ≡ c.lines.result = ap (λ (r : Routing). r.lines) routing ∙ sym c.lines.ensures in
-    subst (λ (n : ℕ). IsConstants c.args.p.now c.args.f.now c.args.c.now (touches_in c.args.touch.now) c.args.l.now (so_far n w)) lines
-    (transport s.program.now c.args.p.now s.flow.now c.args.f.now s.classes.now c.args.c.now s.touch.now c.args.touch.now s.lines.now c.args.l.now (so_far s.lines.now.lines w) e.program e.flow e.classes e.touch routing found)
+    transport s.program.now c.args.p.now s.flow.now c.args.f.now s.classes.now c.args.c.now s.touch.now c.args.touch.now s.lines.now c.args.l.now (so_far w) e.program e.flow e.classes e.touch routing found

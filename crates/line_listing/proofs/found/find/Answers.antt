@@ -29,5 +29,5 @@ returns c = record {
   touched = search rules;
   touches = search rules;
   edges = search rules;
-  routing = routed c.args.p.now c.in_ok-flow.flow (touches_in c.in_ok-touch.touch) c.in_ok-tree.tree c.graph.result.now c.graph-2.result.now c.count.result (class_count c.in_ok-classes.classes) c.in_ok-lines.lines c.in_ok-flow.ensures.flow c.graph.ensures c.graph-2.ensures c.count.ensures c.in_ok-tree.ensures c.in_ok-lines.ensures.routing;
+  routing = routed c.args.p.now c.in_ok-flow.flow (touches_in c.in_ok-touch.touch) c.in_ok-tree.tree c.graph.result.now c.graph-2.result.now c.count.result (class_count c.in_ok-classes.classes) c.in_ok-lines.lines c.in_ok-flow.ensures.flow c.graph.ensures c.graph-2.ensures c.count.ensures.count c.in_ok-tree.ensures c.in_ok-lines.ensures.routing;
 }

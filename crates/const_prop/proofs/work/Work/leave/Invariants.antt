@@ -8,7 +8,7 @@ use Rattle.const_prop.proofs.work.Work.leave.Given as goal
 abbrev pub invariant-loop-line : goal.invariant-loop-line
 invariant-loop-line g l = record {
   settling : IsSettling l.s.program.now l.s.flow.now l.s.classes.now (touches_in l.s.touch.now) l.s.lines.now no_line (this_piece l.edge) l.self;
-  ready : IsReady l.s.flow.now (touches_in l.s.touch.now) l.s.lines.now.lines (so_far l.s.lines.now.lines l.self) l.edge;
-  bounded : work_left l.s.lines.now.lines l.self ≤ work_left l.s.lines.now.lines l.fn.self;
-  seen : (is_waiting l.self l.edge ≡ true) ⊎ IsSeenFor l.s.program.now l.s.flow.now l.s.classes.now (touches_in l.s.touch.now) l.s.lines.now (Among l.line-items l.line-index) (so_far l.s.lines.now.lines l.self) l.edge;
+  ready : IsReady l.s.flow.now (touches_in l.s.touch.now) l.s.lines.now.lines (so_far l.self) l.edge;
+  bounded : work_left l.s.flow.now l.s.lines.now.lines l.self ≤ work_left l.s.flow.now l.s.lines.now.lines l.fn.self;
+  seen : (is_waiting l.self l.edge ≡ true) ⊎ IsSeenFor l.s.program.now l.s.flow.now l.s.classes.now (touches_in l.s.touch.now) l.s.lines.now (Among l.line-items l.line-index) (so_far l.self) l.edge;
 }

@@ -1,15 +1,10 @@
-use Rattle.std.proofs.Common.{◌≡◌, ℕ, List, [], slice_get, get_or, inl, inr, sym, ap, subst, ◌∙◌}
-use Rattle.std.proofs.lemmas.List.{get_or_read}
+use Rattle.std.proofs.Common.{◌≡◌, ℕ, [], slice_get, inl, inr, sym, ap, subst, ◌∙◌}
 use Rattle.f77_tree.specs.declared.programs.ExecKind.{ExecKind}
 use Rattle.cfg_build.specs.declared.pieces.PieceKind.{PieceKind}
 use Rattle.cfg_build.specs.Flow.{piece_at}
 use Rattle.cfg_build.specs.Passes.{kind_in}
-use Rattle.dep_routing.specs.Touch.{touches_in}
-use Rattle.const_prop.specs.declared.known.Known.{Known}
-use Rattle.const_prop.specs.declared.known.Known.TheVariants.{Nothing}
 use Rattle.const_prop.specs.Closed.{ExecWrites, KindWrites, WritesBehind, words_on, written, exec_behind}
 use Rattle.const_prop.specs.Table.{knowns}
-use Rattle.const_prop.proofs.Rising.{place_below}
 use Rattle.const_prop.proofs.Sending.{false_true}
 use Rattle.const_prop.proofs.work.Work.left_by_act.Goals as goal
 
@@ -23,8 +18,7 @@ returns-then-writes g c =
     inl (
       is,
       c.written.ensures
-          ∙ ap (λ (vs : List Known). written p.names c.args.s.now.classes.now (words_on c.args.s.now.classes.now (knowns c.args.s.now.lines.now.lines vs []) c.args.edge) c.exec-exec.result.now c.args.line) c.deref.ensures.value
-          ∙ ap (λ (x : ExecKind). written p.names c.args.s.now.classes.now (words_on c.args.s.now.classes.now (knowns c.args.s.now.lines.now.lines c.args.self.now.values.items []) c.args.edge) x c.args.line) exec,
+          ∙ ap (λ (x : ExecKind). written p.names c.args.s.now.classes.now (words_on c.args.s.now.classes.now (knowns c.args.self.now.known []) c.args.edge) x c.args.line) exec,
     )
 
 pub returns-else-writes : goal.returns-else-writes
@@ -34,5 +28,4 @@ returns-else-writes g c =
     let exec : c.exec-exec.result.now ≡ exec_behind p f c.args.edge = c.exec-exec.ensures ∙ ap (λ (n : ℕ). kind_in (slice_get p.execs (piece_at f.pieces n).exec)) c.head.ensures.node in
     let is_not : WritesBehind p f c.args.s.now.classes.now c.args.edge c.args.line → ⊥ =
     λ is. false_true c.writes.result (c.writes.ensures.1 (subst (λ (x : ExecKind). ExecWrites c.args.s.now.classes.now x c.args.line) (sym exec) (subst (λ (k : PieceKind). KindWrites c.args.s.now.classes.now k (exec_behind p f c.args.edge) c.args.line) c.requires.act is))) c.if-writes.false in
-    let read = get_or_read c.args.self.now.values.items c.place.result c.index.result.now (place_below f (touches_in c.args.s.now.touch.now) c.args.s.now.lines.now.lines c.args.self.now c.args.line c.args.edge c.place.result c.requires.sized c.requires.line c.requires.edge c.place.ensures) c.index.ensures Nothing in
-    inr (is_not, read ∙ ap (λ (n : ℕ). get_or c.args.self.now.values.items n Nothing) c.place.ensures)
+    inr (is_not, c.get.ensures)

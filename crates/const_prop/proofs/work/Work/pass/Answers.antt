@@ -1,58 +1,63 @@
-use Rattle.std.proofs.Common.{◌≡◌, ◌||◌, ℕ, true, false, get_or, rules, sym, ap, subst, ◌∙◌, inr}
+use Rattle.std.proofs.Common.{◌≡◌, ◌<◌, ◌+◌, ℕ, ◌||◌, List, length, get_or, rules, sym, ap, subst, ◌∙◌, ⊎_elim, arith}
+use Rattle.std.proofs.lemmas.Bool.{cases_lt}
 use Rattle.std.proofs.lemmas.List.{get_or_read}
+use Rattle.closed_walks.specs.Graph.{edge_count}
 use Rattle.cfg_build.specs.declared.pieces.PieceKind.{PieceKind}
 use Rattle.cfg_build.specs.Shape.{kind_at}
+use Rattle.dep_routing.specs.Routing.{next_at}
 use Rattle.dep_routing.specs.Touch.{touches_in}
-use Rattle.const_prop.specs.declared.known.Known.{Known}
 use Rattle.const_prop.specs.declared.known.Known.TheVariants.{Nothing}
-use Rattle.const_prop.specs.Closed.{is_switch, is_merge, kind_behind, led_to}
-use Rattle.const_prop.specs.Known.{AtMost, IsNotOne}
-use Rattle.const_prop.specs.Work.{IsPassedOn, so_far, this_line, no_piece}
-use Rattle.const_prop.proofs.Rising.{place_below}
-use Rattle.const_prop.proofs.Settling.{line-closed, sent-past, due-past, settling-rises}
+use Rattle.const_prop.specs.Closed.{KindAllows, is_switch, is_merge, kind_behind, led_to}
+use Rattle.const_prop.specs.Known.{AtMost}
+use Rattle.const_prop.specs.Work.{so_far, these_lines, this_piece}
+use Rattle.const_prop.proofs.Order.{at_most-trans}
+use Rattle.const_prop.proofs.Rising.{rises-trans}
+use Rattle.const_prop.proofs.Sending.{outs_row, out_exists, allows_way, way_allows, false_true}
+use Rattle.const_prop.proofs.Settling.{due-past, lines-closed, sent-past, settling-rises}
+use Rattle.const_prop.proofs.Standing.{ArePast, past-parts, past-all}
 use Rattle.const_prop.proofs.Uses.{setting-covered}
 use Rattle.const_prop.proofs.work.Work.pass.Goals as goal
-use Rattle.const_prop.proofs.work.Work.pass.Goals.{then-not-passes_on-via-then-not-passes_on, then-not-passes_on-via-else-not-passes_on+then-not-is_wire}
+use Rattle.const_prop.proofs.work.Work.pass.Goals.{then-allows, else-allows}
 
-pub returns-then-not-passes_on-clause-settling : goal.returns-then-not-passes_on-clause-settling
-returns-then-not-passes_on-clause-settling g c =
-    let f = c.args.s.now.flow.now in
-    let r = c.args.s.now.lines.now in
-    let kinds : c.passes_on.result ≡ (is_switch (kind_behind f c.args.edge) || is_merge (kind_behind f c.args.edge)) =
-    c.passes_on.ensures ∙ ap (λ (k : PieceKind). is_switch k || is_merge k) (c.kind.ensures ∙ ap (kind_at f) c.head.ensures.node) in
-    let passed : IsPassedOn c.args.s.now.program.now c.args.s.now.flow.now c.args.s.now.classes.now (touches_in c.args.s.now.touch.now) c.args.s.now.lines.now (so_far c.args.s.now.lines.now.lines c.args.self.now) c.args.line c.args.edge = λ i way kind wire.
-    elim c.then-not-passes_on.branch [
-      | then-not-passes_on-via-then-not-passes_on w ↦ let clash : true ≡ false = sym kind ∙ sym kinds ∙ w.if-not-passes_on.true in absurd cc
-      | then-not-passes_on-via-else-not-passes_on+then-not-is_wire w ↦ let clash : true ≡ false = sym wire ∙ sym w.is_wire.ensures ∙ w.if-not-is_wire.true in absurd cc
-    ] in
-    line-closed c.args.s.now.program.now c.args.s.now.flow.now c.args.s.now.classes.now (touches_in c.args.s.now.touch.now) c.args.s.now.lines.now (setting-covered c.args.s.now.program.now f c.args.s.now.classes.now c.args.s.now.touch.now r c.requires.setting.program c.requires.setting.lines) c.requires.setting.program.shape.two_edges c.requires.setting.lines.next c.args.self.now c.args.line c.args.edge no_piece c.requires.settling (inr passed)
-
-pub send-requires : goal.send-requires
-send-requires g c =
-    let f = c.args.s.now.flow.now in
-    let r = c.args.s.now.lines.now in
-    let t = so_far c.args.s.now.lines.now.lines c.args.self.now in
-    let kinds : c.passes_on.result ≡ (is_switch (kind_behind f c.args.edge) || is_merge (kind_behind f c.args.edge)) =
-    c.passes_on.ensures ∙ ap (λ (k : PieceKind). is_switch k || is_merge k) (c.kind.ensures ∙ ap (kind_at f) c.head.ensures.node) in
+pub pass_along-requires : goal.pass_along-requires
+pass_along-requires g c =
+    let s = c.args.s.now in
+    let f = s.flow.now in
+    let r = s.lines.now in
+    let e = c.args.edge in
+    let old = c.args.self.now in
+    let node = c.head-node.result in
     let settling = c.requires.settling in
-    let past = c.requires.past in
-    let read : t.value c.args.line c.args.edge ≡ c.index-known.result.now =
-    sym (get_or_read c.args.self.now.values.items c.place.result c.index-known.result.now (place_below f (touches_in c.args.s.now.touch.now) r.lines c.args.self.now c.args.line c.args.edge c.place.result settling.sized past.line_in past.edge_in c.place.ensures) c.index-known.ensures Nothing ∙ ap (λ (n : ℕ). get_or c.args.self.now.values.items n Nothing) c.place.ensures) in (
+    let items = outs_row f s.outs.items node e c.index.result.now c.as_slice-out-items.result.now c.requires.setting.outs c.head-node.ensures.exists c.head-node.ensures.node c.index.ensures c.as_slice-out-items.ensures in
+    let inside = out_exists f e c.ways.i c.as_slice-out-items.result.now items c.ways-test.true in
+    let kinds : c.passes_on.result ≡ (is_switch (kind_behind f e) || is_merge (kind_behind f e)) = c.passes_on.ensures ∙ ap (λ (k : PieceKind). is_switch k || is_merge k) (c.kind-kind.ensures ∙ ap (kind_at f) c.head-node.ensures.node) in
+    let way = allows_way f old e c.ways.i node c.kind-kind.result c.index-decision.result.now c.as_slice-out-items.result.now c.requires.edge c.head-node.ensures.node c.kind-kind.ensures (get_or_read old.decisions.items node c.index-decision.result.now (omega (arith, c.head-node.ensures.exists, settling.sized.decisions)) c.index-decision.ensures Nothing) items c.ways-test.true (c.allows.ensures.0 c.if-allows.true) in
+    let past : ArePast r s.touch.now e node c.args.fresh.now c.difference-lines.result = record { wires = c.wires.result.now; standing = c.intersection-standing.result; touched = c.at.result.now; are_wires = c.wires.ensures.wires; within = c.wires.ensures.within; stand = c.intersection-standing.ensures; pass = c.difference-lines.ensures; item = c.at.ensures.item } in
+    let parts = past-parts r s.touch.now e node c.args.fresh.now c.difference-lines.result past in
+    let is : (line : ℕ) → led_to f r e line c.ways.i ≡ next_at r line (get_or c.as_slice-out-items.result.now c.ways.i 0) = λ line. ap (λ (xs : List ℕ). next_at r line (get_or xs c.ways.i 0)) (sym items) in (
       search rules,
       (
-        c.requires.setting,
+        search rules,
         (
-          settling.sized,
+          search rules,
           (
-            past.line_in,
+            c.requires.setting,
             (
-              past.edge_in,
+              c.ways.invariant.rises.sized,
               (
-                settling.found,
+                λ line h. (parts line h).inside,
                 (
-                  λ b i closed way. subst (λ (k : Known). AtMost k (b.value c.args.line (led_to f r c.args.edge c.args.line i))) read
-                      (due-past c.args.s.now.program.now c.args.s.now.flow.now c.args.s.now.classes.now (touches_in c.args.s.now.touch.now) c.args.s.now.lines.now t b c.args.line c.args.edge i (c.requires.setting.program.sound.ends c.args.edge past.edge_in) settling.found closed past (sym kinds ∙ c.if-not-passes_on.false) (sym c.is_wire.ensures ∙ c.if-not-is_wire.false) way),
-                  λ several. subst IsNotOne read (settling.found.words c.args.line c.args.edge past.line_in past.edge_in several),
+                  c.requires.edge,
+                  (
+                    inside,
+                    (
+                      c.ways.invariant.found,
+                      λ b line closed h.
+                          let p = parts line h in
+                          subst (λ (n : ℕ). AtMost (b.value line e) (b.value line n)) (is line)
+                          (due-past s.program.now f s.classes.now (touches_in s.touch.now) r (so_far old) b line e c.ways.i (c.requires.setting.program.sound.ends e c.requires.edge) settling.found closed p.inside (ap (λ (n : ℕ). touches_in s.touch.now n line) (sym c.head-node.ensures.node) ∙ p.untouched) (sym kinds ∙ c.if-not-passes_on.false) p.wire way),
+                    ),
+                  ),
                 ),
               ),
             ),
@@ -61,19 +66,68 @@ send-requires g c =
       ),
     )
 
+pub ways-preserved : goal.ways-preserved
+ways-preserved g c =
+    let s = c.args.s.now in
+    let f = s.flow.now in
+    let r = s.lines.now in
+    let e = c.args.edge in
+    let old = c.args.self.now in
+    let before = c.ways.self in
+    let node = c.head-node.result in
+    let items = outs_row f s.outs.items node e c.index.result.now c.as_slice-out-items.result.now c.requires.setting.outs c.head-node.ensures.exists c.head-node.ensures.node c.index.ensures c.as_slice-out-items.ensures in
+    let past : ArePast r s.touch.now e node c.args.fresh.now c.difference-lines.result = record { wires = c.wires.result.now; standing = c.intersection-standing.result; touched = c.at.result.now; are_wires = c.wires.ensures.wires; within = c.wires.ensures.within; stand = c.intersection-standing.ensures; pass = c.difference-lines.ensures; item = c.at.ensures.item } in
+    let parts = past-parts r s.touch.now e node c.args.fresh.now c.difference-lines.result past in
+    let is : (line : ℕ) → led_to f r e line c.ways.i ≡ next_at r line (get_or c.as_slice-out-items.result.now c.ways.i 0) = λ line. ap (λ (xs : List ℕ). next_at r line (get_or xs c.ways.i 0)) (sym items) in
+    let led : (line k : ℕ) → line < r.lines → k < c.ways.i + 1 → led_to f r e line k < edge_count f.graph = λ line k l m. subst (λ (xs : List ℕ). next_at r line (get_or xs k 0) < edge_count f.graph) items (c.requires.setting.lines.next line (get_or c.as_slice-out-items.result.now k 0) l (out_exists f e k c.as_slice-out-items.result.now items (omega (arith, m, c.ways-test.true)))) in
+    elim c.if-allows.branch [
+      | then-allows w ↦
+          rw w.self-is (record {
+            rises = rises-trans f r.lines old before w.pass_along.new.self c.ways.invariant.rises w.pass_along.ensures.rises;
+            found = w.pass_along.ensures.found;
+            passed = λ k m allows line h.
+                let inside = (parts line h).inside in
+                ⊎_elim
+                (λ (l : k < c.ways.i). at_most-trans ((so_far old).value line e) ((so_far before).value line (led_to f r e line k)) ((so_far w.pass_along.new.self).value line (led_to f r e line k)) (c.ways.invariant.passed k l allows line h) (w.pass_along.ensures.rises.grows line (led_to f r e line k) inside (led line k inside m)))
+                (λ last. subst (λ (n : ℕ). AtMost ((so_far old).value line e) ((so_far w.pass_along.new.self).value line (led_to f r e line n))) (omega (arith, m, last))
+                (subst (λ (n : ℕ). AtMost ((so_far old).value line e) ((so_far w.pass_along.new.self).value line n)) (sym (is line))
+                (at_most-trans ((so_far old).value line e) ((so_far before).value line e) ((so_far w.pass_along.new.self).value line (next_at r line (get_or c.as_slice-out-items.result.now c.ways.i 0))) (c.ways.invariant.rises.grows line e inside c.requires.edge) (w.pass_along.ensures.passed line h))))
+                (cases_lt k c.ways.i);
+          })
+      | else-allows w ↦
+          rw w.self-is (record {
+            rises = c.ways.invariant.rises;
+            found = c.ways.invariant.found;
+            passed = λ k m allows line h. ⊎_elim
+                (λ (l : k < c.ways.i). c.ways.invariant.passed k l allows line h)
+                (λ last. absurd (false_true c.allows.result (c.allows.ensures.1 (subst (λ (n : ℕ). KindAllows c.kind-kind.result c.index-decision.result.now n) (omega (arith, m, last)) allows)) w.if-allows.false))
+                (cases_lt k c.ways.i);
+          })
+    ]
+
 pub returns-clause-settling : goal.returns-clause-settling
 returns-clause-settling g c =
-    let f = c.args.s.now.flow.now in
-    let r = c.args.s.now.lines.now in
-    let past = c.requires.past in
+    let s = c.args.s.now in
+    let p = s.program.now in
+    let f = s.flow.now in
+    let r = s.lines.now in
+    let touches = touches_in s.touch.now in
+    let e = c.args.edge in
     let old = c.args.self.now in
-    let new = c.send.new.self in
-    let covered = setting-covered c.args.s.now.program.now f c.args.s.now.classes.now c.args.s.now.touch.now r c.requires.setting.program c.requires.setting.lines in
+    let new = c.ways.self in
+    let node = c.head-node.result in
+    let settling = c.requires.settling in
+    let covered = setting-covered p f s.classes.now s.touch.now r c.requires.setting.program c.requires.setting.lines in
     let two = c.requires.setting.program.shape.two_edges in
     let next = c.requires.setting.lines.next in
-    let read : (so_far c.args.s.now.lines.now.lines old).value c.args.line c.args.edge ≡ c.index-known.result.now =
-    sym (get_or_read old.values.items c.place.result c.index-known.result.now (place_below f (touches_in c.args.s.now.touch.now) r.lines old c.args.line c.args.edge c.place.result c.requires.settling.sized past.line_in past.edge_in c.place.ensures) c.index-known.ensures Nothing ∙ ap (λ (n : ℕ). get_or old.values.items n Nothing) c.place.ensures) in
-    let on = settling-rises c.args.s.now.program.now c.args.s.now.flow.now c.args.s.now.classes.now (touches_in c.args.s.now.touch.now) c.args.s.now.lines.now covered two next old new c.in_ok-send.ensures.rises c.in_ok-send.ensures.found (this_line c.args.line c.args.edge) no_piece c.requires.settling in
-    let done = sent-past c.args.s.now.program.now c.args.s.now.flow.now c.args.s.now.classes.now (touches_in c.args.s.now.touch.now) c.args.s.now.lines.now covered two next old new c.args.line c.args.edge c.in_ok-send.ensures.rises past
-    (λ i way. subst (λ (k : Known). AtMost k ((so_far c.args.s.now.lines.now.lines new).value c.args.line (led_to f r c.args.edge c.args.line i))) (sym read) (c.in_ok-send.ensures.sent i way)) in
-    line-closed c.args.s.now.program.now c.args.s.now.flow.now c.args.s.now.classes.now (touches_in c.args.s.now.touch.now) c.args.s.now.lines.now covered two next new c.args.line c.args.edge no_piece on done
+    let items = outs_row f s.outs.items node e c.index.result.now c.as_slice-out-items.result.now c.requires.setting.outs c.head-node.ensures.exists c.head-node.ensures.node c.index.ensures c.as_slice-out-items.ensures in
+    let past : ArePast r s.touch.now e node c.args.fresh.now c.difference-lines.result = record { wires = c.wires.result.now; standing = c.intersection-standing.result; touched = c.at.result.now; are_wires = c.wires.ensures.wires; within = c.wires.ensures.within; stand = c.intersection-standing.ensures; pass = c.difference-lines.ensures; item = c.at.ensures.item } in
+    let on = settling-rises p f s.classes.now touches r covered two next old new c.ways.invariant.rises c.ways.invariant.found (these_lines c.args.fresh.now e) (this_piece e) settling in
+    let decided = get_or_read old.decisions.items node c.index-decision.result.now (omega (arith, c.head-node.ensures.exists, settling.sized.decisions)) c.index-decision.ensures Nothing in
+    lines-closed p f s.classes.now touches r covered two next new c.args.fresh.now e (this_piece e) on
+    (λ line l k untouched fresh. sent-past p f s.classes.now touches r covered two next old new line e c.ways.invariant.rises l k
+    (λ i way kind wire.
+    let size = ap length items in
+    let exists = way.exists in
+    c.ways.invariant.passed i (omega (arith, size, exists, c.ways-test.false)) (way_allows f old e i node c.kind-kind.result c.index-decision.result.now c.head-node.ensures.node c.kind-kind.ensures decided way) line
+    (past-all r s.touch.now e node c.args.fresh.now c.difference-lines.result past line fresh (record { inside = l; wire = wire; untouched = ap (λ (n : ℕ). touches n line) c.head-node.ensures.node ∙ untouched }))))

@@ -7,7 +7,7 @@ use Rattle.const_prop.proofs.work.Work.send.Given as goal
 
 abbrev pub invariant-ways : goal.invariant-ways
 invariant-ways g l = record {
-  rises : Rises l.s.flow.now (touches_in l.s.touch.now) l.s.lines.now.lines l.fn.self l.self;
-  found : IsFound l.s.program.now l.s.flow.now l.s.classes.now (touches_in l.s.touch.now) l.s.lines.now (so_far l.s.lines.now.lines l.self);
-  sent : (k : ℕ) → k < l.i → KindAllows l.kind l.decision k → AtMost l.known ((so_far l.s.lines.now.lines l.self).value l.line (led_to l.s.flow.now l.s.lines.now l.edge l.line k));
+  rises : Rises l.s.flow.now l.s.lines.now.lines l.fn.self l.self;
+  found : IsFound l.s.program.now l.s.flow.now l.s.classes.now (touches_in l.s.touch.now) l.s.lines.now (so_far l.self);
+  sent : (k : ℕ) → k < l.i → KindAllows l.kind l.decision k → AtMost l.known ((so_far l.self).value l.line (led_to l.s.flow.now l.s.lines.now l.edge l.line k));
 }

@@ -1,0 +1,129 @@
+//! What is known of each line on each edge.
+
+ghost use Rattle.std.specs.Prelude.{◌≡◌, ◌≤◌, ◌<◌, ◌+◌, ◌*◌, ◌==◌, ◌&&◌, ℕ, not, true, false, if◌then◌else◌, IfOk};
+ghost use Rattle.class_set.specs.ClassSet.{holds};
+ghost use Rattle.class_set.specs.Members.{IsWidth};
+ghost use Rattle.const_prop.specs.KnownRows.{is_any, edges_of, value_in};
+ghost use Rattle.const_prop.specs.Known.{AtMost};
+ghost use Rattle.const_prop.specs.Rise.{IsRise, room};
+
+use crate::known::{Known, risen};
+use crate::line_sets::LineSets;
+use class_set::ClassSet;
+use df_sequence::NoMemory;
+use std::alloc::Global;
+use std::marker::Model;
+
+/// What is known of each line on each edge. Of most lines on most edges any value may come, which one step tells of many lines at once, since
+/// these lines are sets.
+#[derive(Drop)]
+pub(crate) struct KnownRows<const W: usize> {
+    lines: u32,
+    /// For each edge the lines on which something came that was one value at first.
+    one: LineSets<W>,
+    /// For each edge the lines on which any value may come.
+    any: LineSets<W>,
+    /// For each edge a row of all lines, with the one value of each line where it is known.
+    values: Vec<i32>,
+}
+
+impl<const W: usize> Model for KnownRows<W> {
+    ghost use Rattle.const_prop.specs.KnownRows.{Rows, rows_of, IsKept};
+
+    ghost Value = { Rows W };
+
+    ghost view = { rows_of };
+
+    ghost invariant = { IsKept };
+}
+
+impl<const W: usize> KnownRows<W> {
+    /// Nothing comes anywhere.
+    pub(crate) fn new(alloc: Global, lines: u32, edges: u32) -> Result<Self, NoMemory>
+        requires width { IsWidth W }
+        requires lines { lines ≤ 64 * W }
+        ensures lines { IfOk result (λ r. r.lines ≡ lines) }
+        ensures edges { IfOk result (λ r. edges_of r ≡ edges) }
+        ensures nothing { IfOk result (λ r. (line e : ℕ) → value_in r line e ≡ Known.Nothing) }
+    {
+        Ok(KnownRows {
+            lines,
+            one: LineSets::new(alloc, edges)?,
+            any: LineSets::new(alloc, edges)?,
+            values: vec![in alloc; 0; lines as usize * edges as usize]?,
+        })
+    }
+
+    /// What is known of the line on the edge.
+    pub(crate) fn get(&self, line: u32, edge: u32) -> Known
+        requires line { line < self.now.lines }
+        requires edge { edge < edges_of self.now }
+        ensures { result ≡ value_in self.now line edge }
+    {
+        if self.any.at(edge).holds(line) {
+            Known::Any
+        } else if self.one.at(edge).holds(line) {
+            Known::One(self.values[edge as usize * self.lines as usize + line as usize])
+        } else {
+            Known::Nothing
+        }
+    }
+
+    /// The lines on which any value may come by the edge.
+    pub(crate) fn any_at(&self, edge: u32) -> &ClassSet<W>
+        requires { edge < edges_of self.now }
+        ensures { (k : ℕ) → holds result.now k ≡ is_any (value_in self.now k edge) }
+    {
+        self.any.at(edge)
+    }
+
+    /// Joins what comes to what is known of the line on the edge. The answer is whether that rises.
+    pub(crate) fn raise(&mut self, line: u32, edge: u32, comes: Known) -> bool
+        requires line { line < self.old.lines }
+        requires edge { edge < edges_of self.old }
+        ensures lines { self.new.lines ≡ self.old.lines }
+        ensures edges { edges_of self.new ≡ edges_of self.old }
+        ensures rises { result ≡ true → IsRise (value_in self.old line edge) comes (value_in self.new line edge) }
+        ensures others { (l e : ℕ) → l < self.old.lines → ((l ≡ line) × (e ≡ edge) → ⊥) → value_in self.new l e ≡ value_in self.old l e }
+        ensures reached { result ≡ false → AtMost comes (value_in self.old line edge) }
+        ensures same { result ≡ false → self.new ≡ self.old }
+    {
+        match risen(self.get(line, edge), comes) {
+            None => false,
+            Some(known) => {
+                self.put(line, edge, known);
+                true
+            }
+        }
+    }
+
+    /// Puts down what is known now of the line on the edge, where something came and that is more than before.
+    fn put(&mut self, line: u32, edge: u32, known: Known)
+        requires line { line < self.old.lines }
+        requires edge { edge < edges_of self.old }
+        requires more { room known < room (value_in self.old line edge) }
+        ensures lines { self.new.lines ≡ self.old.lines }
+        ensures edges { edges_of self.new ≡ edges_of self.old }
+        ensures here { value_in self.new line edge ≡ known }
+        ensures others { (l e : ℕ) → l < self.old.lines → ((l ≡ line) × (e ≡ edge) → ⊥) → value_in self.new l e ≡ value_in self.old l e }
+    {
+        match known {
+            Known::Nothing => {}
+            Known::One(v) => {
+                self.one.insert(edge, line);
+                self.values[edge as usize * self.lines as usize + line as usize] = v;
+            }
+            Known::Any => self.any.insert(edge, line),
+        }
+    }
+
+    /// Any value may come on these lines by the edge.
+    pub(crate) fn set_any(&mut self, edge: u32, lines: &ClassSet<W>)
+        requires edge { edge < edges_of self.old }
+        ensures lines { self.new.lines ≡ self.old.lines }
+        ensures edges { edges_of self.new ≡ edges_of self.old }
+        ensures values { (l e : ℕ) → value_in self.new l e ≡ (if (e == edge && holds lines.now l) then Known.Any else value_in self.old l e) }
+    {
+        self.any.add(edge, lines);
+    }
+}
