@@ -1,4 +1,5 @@
 pub mod Held
+pub mod Cells
 pub mod Rounds
 pub mod Repeats
 pub mod Circles
@@ -17,5 +18,6 @@ pub mod PieceTouches
 pub mod Placing
 pub mod Quietness
 pub mod RowSteps
+pub mod SetTables
 pub mod TrapTouches
 pub mod SomeTouches

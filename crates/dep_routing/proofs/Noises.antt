@@ -1,7 +1,12 @@
--- The steps that mark regions, and what the marks tell.
-use Rattle.std.proofs.Common.{◌≡◌, ◌≢◌, ℕ, zero, suc, ◌+◌, ◌<◌, ◌⊎◌, Bool, true, false, List, [], ◌∷◌, Some, length, set, refl, sym, ap, ◌∙◌, subst, inl, inr, ⊎_elim, arith, get_or-set_same, get_or-set_other, length-set}
-use Rattle.std.specs.Prelude.{slice_get}
+-- The steps that add lines to regions, and what the sets tell.
+use Rattle.std.proofs.Common.{◌≡◌, ◌≢◌, zero-add, ℕ, zero, suc, ◌+◌, ◌*◌, ◌<◌, ◌≤◌, ◌⊎◌, Bool, true, false, ◌||◌, List, [], ◌∷◌, length, set, replicate, get_or, refl, sym, ap, ◌∙◌, subst, inl, inr, ⊎_elim, arith, get_or-set_same, get_or-set_other, length-set}
+use Rattle.std.specs.List.{sum_by, range_with_len}
 use Rattle.std.proofs.lemmas.Bool.{cases_eq, cases_Bool, false≢true}
+use Rattle.std.proofs.lemmas.List.{get_or-map, length-map, length-replicate, map-set}
+use Rattle.std.proofs.lemmas.List.FromFn.{get_or-range_with_len, length-range_with_len}
+use Rattle.std.proofs.lemmas.List.Sums.{sum_by-cons}
+use Rattle.std.proofs.Math.Bool.{or-true, or-false}
+use Rattle.std.proofs.Math.Seq.{map-set_same}
 use Rattle.class_set.specs.ClassSet.{holds}
 use Rattle.class_set.specs.declared.ClassSet.{ClassSet}
 use Rattle.closed_walks.specs.Graph.{Graph}
@@ -9,15 +14,12 @@ use Rattle.region_tree.specs.Tree.{Tree, parent_of, innermost_of, IsNumber, IsIn
 use Rattle.region_tree.specs.Laws.{above}
 use Rattle.dep_routing.specs.Facts.{TreeFacts}
 use Rattle.dep_routing.specs.Quiet.{IsTouched}
-use Rattle.dep_routing.specs.Order.{is_marked}
-use Rattle.dep_routing.specs.Noise.{IsNoneOrMarked, HaveParents, IsMarkedUp, IsMarkedFrom, AreNoisy}
-use Rattle.dep_routing.specs.Touch.{touches_in}
+use Rattle.dep_routing.specs.Order.{is_marked, unmarked}
+use Rattle.dep_routing.specs.Noise.{IsNoneOrMarked, HaveParents, IsMarkedUp, IsMarkedFrom, AreNoisy, marks_of}
+use Rattle.closed_walks.specs.Walk.{Holds}
+use Rattle.dep_routing.proofs.Held.{Holds-at}
+use Rattle.dep_routing.proofs.Ordering.{unmarked-set}
 use Rattle.dep_routing.proofs.Quietness.{inside_exists}
-
-pub touches-at : {W : ℕ} (sets : List (ClassSet W)) (node line : ℕ) (s : ClassSet W) → slice_get sets node ≡ Some s → touches_in sets node line ≡ holds s line
-touches-at [] node line s is = absurd cc
-touches-at (x ∷ sets) zero line s is = let same : x ≡ s = cc in ap (λ y. holds y line) same
-touches-at (x ∷ sets) (suc node) line s is = touches-at sets node line s is
 
 module _ (t : Tree) where
   above-suc : (k r : ℕ) → above t (suc k) r ≡ parent_of t (above t k r)
@@ -208,3 +210,127 @@ module _ (g : Graph) (t : Tree) (f : TreeFacts g t) where
             (cases_Bool (touches node line));
       };
     }
+
+-- ---- sets of lines
+
+unmarked-set_le : (marks : List Bool) (r : ℕ) → unmarked (set marks r true) ≤ unmarked marks
+unmarked-set_le [] r = omega arith
+unmarked-set_le (true ∷ marks) zero = omega arith
+unmarked-set_le (false ∷ marks) zero = omega arith
+unmarked-set_le (true ∷ marks) (suc r) = unmarked-set_le marks r
+unmarked-set_le (false ∷ marks) (suc r) = let rest = unmarked-set_le marks r in omega (arith, rest)
+
+module _ (f g : ℕ → ℕ) (no_more : (x : ℕ) → f x ≤ g x) where
+  sum_le : (xs : List ℕ) → sum_by f xs ≤ sum_by g xs
+  sum_le [] = omega arith
+  sum_le (x ∷ xs) = let here = no_more x in let rest = sum_le xs in omega (arith, here, rest, sum_by-cons f x xs, sum_by-cons g x xs)
+
+  sum_less : (xs : List ℕ) (x : ℕ) → Holds xs x → f x < g x → sum_by f xs < sum_by g xs
+  sum_less [] x h less = absurd h
+  sum_less (y ∷ xs) x (inl same) less =
+      let here : f y < g y = subst (λ z. f z < g z) (sym same) less in
+      let rest = sum_le xs in
+      omega (arith, here, rest, sum_by-cons f y xs, sum_by-cons g y xs)
+  sum_less (y ∷ xs) x (inr h) less = let here = no_more y in let rest = sum_less xs x h less in omega (arith, here, rest, sum_by-cons f y xs, sum_by-cons g y xs)
+
+Holds-range : (n k : ℕ) → k < n → Holds (range_with_len 0 n) k
+Holds-range n k less = subst (λ x. Holds (range_with_len 0 n) x) (get_or-range_with_len 0 n k 0 less ∙ zero-add k) (Holds-at (range_with_len 0 n) k (let size = length-range_with_len 0 n in omega (arith, size, less)))
+
+module _ {W : ℕ} where
+  pub length-marks : (sets : List (ClassSet W)) (line : ℕ) → length (marks_of sets line) ≡ length sets
+  length-marks sets line = length-map sets (λ s. holds s line)
+
+  -- whether a set that was read has the line
+  pub marked-read : (sets : List (ClassSet W)) (line r : ℕ) (s : ClassSet W) → r < length sets → s ≡ get_or sets r s → is_marked (marks_of sets line) r ≡ holds s line
+  marked-read sets line r s within read = get_or-map (λ x. holds x line) sets r s false within ∙ ap (λ x. holds x line) (sym read)
+
+  blank_sets : (n line r : ℕ) (s : ClassSet W) → holds s line ≡ false → is_marked (marks_of (replicate n s) line) r ≡ false
+  blank_sets zero line r s none = refl
+  blank_sets (suc n) line zero s none = none
+  blank_sets (suc n) line (suc r) s none = blank_sets n line r s none
+
+  -- how many lines the regions lack
+  abbrev pub lacking : List (ClassSet W) → ℕ
+  lacking sets = sum_by (λ line. unmarked (marks_of sets line)) (range_with_len 0 (64 * W))
+
+  -- Lines were added to the set of one region.
+  module _ (sets : List (ClassSet W)) (r : ℕ) (lines old new : ClassSet W) (within : r < length sets) (read : old ≡ get_or sets r old) (is : (line : ℕ) → holds new line ≡ (holds old line || holds lines line)) where
+    marks-added : (line : ℕ) → holds lines line ≡ true → marks_of (set sets r new) line ≡ set (marks_of sets line) r true
+    marks-added line member = map-set (λ s. holds s line) sets r new ∙ ap (λ b. set (marks_of sets line) r b) (is line ∙ rw member (or-true (holds old line)))
+
+    marks-other : (line : ℕ) → holds lines line ≡ false → marks_of (set sets r new) line ≡ marks_of sets line
+    marks-other line none = map-set_same (λ s. holds s line) sets r new old (is line ∙ rw none (or-false (holds old line)) ∙ ap (λ s. holds s line) read)
+
+    pub lacking-less : (line : ℕ) → line < 64 * W → holds lines line ≡ true → holds old line ≡ false → lacking (set sets r new) < lacking sets
+    lacking-less line low member blank = sum_less
+        (λ k. unmarked (marks_of (set sets r new) k))
+        (λ k. unmarked (marks_of sets k))
+        (λ k. ⊎_elim
+        (λ (here : holds lines k ≡ true). subst (λ xs. unmarked xs ≤ unmarked (marks_of sets k)) (sym (marks-added k here)) (unmarked-set_le (marks_of sets k) r))
+        (λ (away : holds lines k ≡ false). subst (λ xs. unmarked xs ≤ unmarked (marks_of sets k)) (sym (marks-other k away)) (omega arith))
+        (cases_Bool (holds lines k)))
+        (range_with_len 0 (64 * W)) line (Holds-range (64 * W) line low)
+        (subst (λ xs. unmarked xs < unmarked (marks_of sets line)) (sym (marks-added line member))
+        (let one = unmarked-set (marks_of sets line) r (let size = length-marks sets line in omega (arith, size, within)) (marked-read sets line r old within read ∙ blank) in omega (arith, one)))
+
+-- The lines have come up from the region to r, and those of the sets that are no such lines are as before.
+pub record IsAdding {W : ℕ} (t : Tree) (region r : ℕ) (lines : ClassSet W) (before sets : List (ClassSet W)) : Type 0 where
+  pub size : length sets ≡ length before
+  pub within : r < length t.entries
+  pub added : (line : ℕ) → holds lines line ≡ true → IsMarking t region r (marks_of before line) (marks_of sets line)
+  pub others : (line : ℕ) → holds lines line ≡ false → marks_of sets line ≡ marks_of before line
+
+module _ {W : ℕ} (t : Tree) (region : ℕ) (lines : ClassSet W) where
+  pub IsAdding-begin : (sets : List (ClassSet W)) → region < length t.entries → ((line : ℕ) → IsMarkedUp t (marks_of sets line)) → IsAdding t region region lines sets sets
+  IsAdding-begin sets within up = record {
+    size = refl;
+    within = within;
+    added = λ line member. IsMarking-begin t region (marks_of sets line) within (up line);
+    others = λ line none. refl;
+  }
+
+  module _ (r : ℕ) (before sets : List (ClassSet W)) (a : IsAdding t region r lines before sets) where
+    pub IsAdding-step : HaveParents t → 0 < r → r < length sets → (old new : ClassSet W) → old ≡ get_or sets r old → ((line : ℕ) → holds new line ≡ (holds old line || holds lines line)) → IsAdding t region (parent_of t r) lines before (set sets r new)
+    IsAdding-step p away inside old new read is = record {
+      size = length-set sets r new ∙ a.size;
+      within = parent_within p (away, a.within);
+      added = λ line member. subst (λ xs. IsMarking t region (parent_of t r) (marks_of before line) xs) (sym (marks-added sets r lines old new inside read is line member))
+          (IsMarking-step t region r (marks_of before line) (marks_of sets line) (a.added line member) p away (let size = length-marks sets line in omega (arith, size, inside)));
+      others = λ line none. marks-other sets r lines old new inside read is line none ∙ a.others line none;
+    }
+      where
+        parent_within : HaveParents t → IsNumber t r → parent_of t r < length t.entries
+        parent_within p number = ⊎_elim
+            (λ (none : parent_of t r ≡ 0). let some = p.some in omega (arith, none, some))
+            (λ (other : parent_of t r ≢ 0). (p.numbers r number other).1)
+            (cases_eq (parent_of t r) 0)
+
+    pub IsAdding-end : ((line : ℕ) → holds lines line ≡ true → IsNoneOrMarked (marks_of sets line) r) → (line : ℕ) → holds lines line ≡ true → IsMarkedFrom t region (marks_of before line) (marks_of sets line)
+    IsAdding-end there line member = IsMarking-end t region r (marks_of before line) (marks_of sets line) (a.added line member) (there line member)
+
+-- From the nodes below k the lines that they touch went up.
+pub record AreHeard {W : ℕ} (g : Graph) (t : Tree) (touches : ℕ → ℕ → Bool) (k : ℕ) (sets : List (ClassSet W)) : Type 0 where
+  pub size : length sets ≡ length t.entries
+  pub each : (line : ℕ) → IsHeard g t touches line k (marks_of sets line)
+
+module _ {W : ℕ} (g : Graph) (t : Tree) (f : TreeFacts g t) (touches : ℕ → ℕ → Bool) where
+  pub AreHeard-none : (n : ℕ) (s : ClassSet W) → n ≡ length t.entries → ((line : ℕ) → holds s line ≡ false) → AreHeard g t touches 0 (replicate n s)
+  AreHeard-none n s count none = record {
+    size = length-replicate n s ∙ count;
+    each = λ line. IsHeard-none g t f touches line (marks_of (replicate n s) line) (length-marks (replicate n s) line ∙ length-replicate n s ∙ count) (λ r. blank_sets n line r s (none line));
+  }
+
+  pub AreHeard-more : (k : ℕ) (sets sets' : List (ClassSet W)) (lines : ClassSet W) → AreHeard g t touches k sets → k < g.nodes → ((line : ℕ) → touches k line ≡ holds lines line) → length sets' ≡ length sets
+      → ((line : ℕ) → holds lines line ≡ true → IsMarkedFrom t (innermost_of t k) (marks_of sets line) (marks_of sets' line))
+      → ((line : ℕ) → holds lines line ≡ false → marks_of sets' line ≡ marks_of sets line)
+      → AreHeard g t touches (k + 1) sets'
+  AreHeard-more k sets sets' lines h exists is size added others = record {
+    size = size ∙ h.size;
+    each = λ line. ⊎_elim
+        (λ (member : holds lines line ≡ true). IsHeard-take g t f touches line k (marks_of sets line) (h.each line) (marks_of sets' line) exists (is line ∙ member) (added line member))
+        (λ (none : holds lines line ≡ false). subst (λ xs. IsHeard g t touches line (k + 1) xs) (sym (others line none)) (IsHeard-skip g t f touches line k (marks_of sets line) (h.each line) (is line ∙ none)))
+        (cases_Bool (holds lines line));
+  }
+
+  pub AreHeard-end : (sets : List (ClassSet W)) → AreHeard g t touches g.nodes sets → (line : ℕ) → AreNoisy g t touches line (marks_of sets line)
+  AreHeard-end sets h line = AreNoisy-end g t f touches line (marks_of sets line) (h.each line)

@@ -24,6 +24,7 @@ use Rattle.cfg_build.specs.Runs.{is_act, is_branch, IsPartOf}
 use Rattle.cfg_build.specs.Shape.{kind_at, IsShaped}
 use Rattle.dep_routing.specs.PieceLines.{AreLines, BranchNeedsOut, KindNeedsOutIf, HasExecutable, RunsExecutable, TellBelow}
 use Rattle.dep_routing.specs.Touch.{touches_in}
+use Rattle.dep_routing.proofs.SetTables.{touches-before, touches-last}
 use Rattle.dep_routing.specs.Touches.{BranchNeeds, BranchMayTrap, KindNeeds, KindNeedsOut, Touches, ends_rounds, is_increment}
 
 -- ---- an item, whatever is read past the end
@@ -111,17 +112,6 @@ on-round p g ends rounds node round is told marks count lt at =
     )
 
 -- ---- tables
-
-touches-before : {W : ℕ} (sets : List (ClassSet W)) (set : ClassSet W) (node line : ℕ) → node < length sets → touches_in (sets ++ set ∷ []) node line ≡ touches_in sets node line
-touches-before [] set node line lt = absurd (omega (arith, lt))
-touches-before (first ∷ sets) set zero line lt = refl
-touches-before (first ∷ sets) set (suc node) line lt = touches-before sets set node line (omega (arith, lt))
-
-touches-last : {W : ℕ} (sets : List (ClassSet W)) (set : ClassSet W) (node line : ℕ) → node ≡ length sets → touches_in (sets ++ set ∷ []) node line ≡ holds set line
-touches-last [] set zero line is = refl
-touches-last [] set (suc node) line is = absurd (omega (arith, is))
-touches-last (first ∷ sets) set zero line is = absurd (omega (arith, is))
-touches-last (first ∷ sets) set (suc node) line is = touches-last sets set node line (omega (arith, is))
 
 -- the set of one piece more
 pub one-more : {W : ℕ} (p : Program) (c : ClassTable) (sets new : List (ClassSet W)) (set : ClassSet W) (k : ℕ) → length sets ≡ k → new ≡ sets ++ set ∷ [] → TellBelow p c sets k → ((line : ℕ) → (holds set line ≡ true) ↔ Touches p c k line) → TellBelow p c new (k + 1)

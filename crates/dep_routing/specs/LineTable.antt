@@ -1,15 +1,37 @@
 -- What `Lines` keeps.
-use Rattle.std.specs.Prelude.{◌≡◌, ◌*◌, length}
+use Rattle.std.specs.Prelude.{◌≡◌, ◌<◌, ℕ, true, List, [], length, map, slice_index_or}
+use Rattle.std.specs.List.{range_with_len}
+use Rattle.class_set.specs.Members.{IsWidth}
 use Rattle.dep_routing.specs.Routing.{Routing}
+use Rattle.dep_routing.specs.Touch.{touches_in}
 use Rattle.dep_routing.specs.declared.lines.Lines.TheInside.{Inside}
 
-abbrev pub routing_of : Inside → Routing
-routing_of d = record { lines = d.lines; edges = d.edges; next = d.next.items; wires = d.wires.items }
+-- a row for each edge, with a cell for each line
+abbrev pub table : {A : Type 0} → (edges lines : ℕ) → (cell : (line e : ℕ) → A) → List (List A)
+table edges lines cell = map (λ e. map (λ line. cell line e) (range_with_len 0 lines)) (range_with_len 0 edges)
 
--- there is a row for each line
+-- the edge to which the line is led from an edge: what the row of the edge tells, or else the edge itself
+abbrev pub led : List (List ℕ) → (line e : ℕ) → ℕ
+led rows line e = slice_index_or (slice_index_or rows e []) line e
+
+module _ {W : ℕ} where
+  abbrev pub routing_of : Inside W → Routing
+  routing_of d = record {
+    lines = d.lines;
+    edges = length d.wires.items;
+    next = table (length d.wires.items) d.lines (led d.next.items);
+    wires = table (length d.wires.items) d.lines (λ line e. touches_in d.wires.items e line);
+  }
+
+  -- the sets of the edges have no other lines, and each edge has its row
+  pub record IsKept (d : Inside W) : Type 0 where
+    pub width : IsWidth W
+    pub within : (line e : ℕ) → touches_in d.wires.items e line ≡ true → line < d.lines
+    pub rows : length d.next.items ≡ length d.wires.items
+
+-- there is a row for each edge, and in it a cell for each line
 pub record HaveRows (r : Routing) : Type 0 where
-  pub next : length r.next ≡ r.lines * r.edges
-  pub wires : length r.wires ≡ r.lines * r.edges
-
-abbrev pub IsKept : Inside → Type 0
-IsKept d = HaveRows (routing_of d)
+  pub next : length r.next ≡ r.edges
+  pub next_cells : (e : ℕ) → e < r.edges → length (slice_index_or r.next e []) ≡ r.lines
+  pub wires : length r.wires ≡ r.edges
+  pub wire_cells : (e : ℕ) → e < r.edges → length (slice_index_or r.wires e []) ≡ r.lines

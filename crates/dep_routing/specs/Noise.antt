@@ -1,10 +1,17 @@
 -- Marks of the regions in which a node touches the line. No public clause cites this module.
-use Rattle.std.specs.Prelude.{◌≡◌, ◌≢◌, ℕ, ◌<◌, ◌⊎◌, Bool, true, false, List, length}
+use Rattle.std.specs.Prelude.{◌≡◌, ◌≢◌, ℕ, ◌<◌, ◌⊎◌, Bool, true, false, List, length, map}
+use Rattle.class_set.specs.ClassSet.{holds}
+use Rattle.class_set.specs.declared.ClassSet.{ClassSet}
 use Rattle.closed_walks.specs.Graph.{Graph}
 use Rattle.region_tree.specs.Tree.{Tree, parent_of, IsNumber}
 use Rattle.region_tree.specs.Laws.{above}
 use Rattle.dep_routing.specs.Quiet.{IsQuiet, IsTouched}
 use Rattle.dep_routing.specs.Order.{is_marked}
+
+module _ {W : ℕ} where
+  -- which regions have the line in their sets
+  abbrev pub marks_of : List (ClassSet W) → (line : ℕ) → List Bool
+  marks_of sets line = map (λ set. holds set line) sets
 
 -- the number is 0 or has a mark
 abbrev pub IsNoneOrMarked : List Bool → ℕ → Type 0

@@ -1,5 +1,5 @@
--- What a contract sees of `Lines`: one row of all edges for each line.
-use Rattle.std.specs.Prelude.{◌≡◌, ℕ, ◌+◌, ◌*◌, ◌<◌, ◌↔◌, Bool, true, false, List, slice_index, slice_index_or}
+-- What a contract sees of `Lines`: for each edge one cell for each line.
+use Rattle.std.specs.Prelude.{◌≡◌, ℕ, ◌<◌, ◌↔◌, Bool, true, false, List, [], slice_index, slice_index_or}
 use Rattle.closed_walks.specs.Graph.{Graph, edge_count}
 use Rattle.region_tree.specs.Tree.{Tree}
 use Rattle.dep_routing.specs.Quiet.{IsWire}
@@ -8,16 +8,16 @@ use Rattle.dep_routing.specs.Next.{Next}
 pub record Routing : Type 0 where
   pub lines : ℕ
   pub edges : ℕ
-  -- row by row, the edge to which the line is led from each edge
-  pub next : List ℕ
-  -- row by row, whether each edge is a wire of the line
-  pub wires : List Bool
+  -- edge by edge, the edge to which each line is led from it
+  pub next : List (List ℕ)
+  -- edge by edge, whether it is a wire of each line
+  pub wires : List (List Bool)
 
 abbrev pub next_at : Routing → (line e : ℕ) → ℕ
-next_at r line e = slice_index r.next (line * r.edges + e)
+next_at r line e = slice_index (slice_index_or r.next e []) line
 
 abbrev pub wire_at : Routing → (line e : ℕ) → Bool
-wire_at r line e = slice_index_or r.wires (line * r.edges + e) false
+wire_at r line e = slice_index_or (slice_index_or r.wires e []) line false
 
 -- The table tells for so many lines all wires of the graph, and to which edge a line is led from each edge.
 pub record IsRouting (g : Graph) (t : Tree) (touches : ℕ → ℕ → Bool) (lines : ℕ) (r : Routing) : Type 0 where

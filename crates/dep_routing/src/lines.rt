@@ -1,20 +1,26 @@
 //! The table of wires.
 
-ghost use Rattle.std.specs.Prelude.{◌≡◌, ◌<◌};
+ghost use Rattle.std.specs.Prelude.{◌≡◌, ◌<◌, ℕ, true, length};
+ghost use Rattle.class_set.specs.ClassSet.{holds};
+ghost use Rattle.dep_routing.specs.LineTable.{led as led_in};
 
+use class_set::ClassSet;
+use df_sequence::LabelList;
 use std::marker::Model;
 
 /// For each line and edge, whether the edge is a wire of the line, and to which edge the line is led from it. Contracts see a
 /// `Routing`.
 #[derive(Drop)]
-pub struct Lines {
+pub struct Lines<const W: usize> {
     pub(crate) lines: u32,
-    pub(crate) edges: u32,
-    pub(crate) next: Vec<u32>,
-    pub(crate) wires: Vec<bool>,
+    /// For each edge the lines of which it is a wire.
+    pub(crate) wires: Vec<ClassSet<W>>,
+    /// For each edge, where it is the entry of a region, the edge to which each line is led from it. From any other edge no line
+    /// is led on.
+    pub(crate) next: Vec<LabelList>,
 }
 
-impl Model for Lines {
+impl<const W: usize> Model for Lines<W> {
     ghost use Rattle.dep_routing.specs.Routing.{Routing};
 
     ghost Value = { Routing };
@@ -26,7 +32,7 @@ impl Model for Lines {
     ghost invariant = { IsKept };
 }
 
-impl Lines {
+impl<const W: usize> Lines<W> {
     ghost use Rattle.dep_routing.specs.Routing.{next_at, wire_at};
 
     /// How many lines there are.
@@ -36,13 +42,22 @@ impl Lines {
         self.lines
     }
 
-    /// Whether the edge is a wire of the line: no region that is quiet for the line holds the node at which the edge ends.
+    /// The lines of which the edge is a wire: those for which no region that is quiet holds the node at which the edge ends.
+    pub fn wires(&self, edge: u32) -> &ClassSet<W>
+        requires { edge < self.now.edges }
+        ensures wires { (line : ℕ) → line < self.now.lines → holds result.now line ≡ wire_at self.now line edge }
+        ensures within { (line : ℕ) → holds result.now line ≡ true → line < self.now.lines }
+    {
+        &self.wires[edge as usize]
+    }
+
+    /// Whether the edge is a wire of the line.
     pub fn is_wire(&self, line: u32, edge: u32) -> bool
         requires line { line < self.now.lines }
         requires edge { edge < self.now.edges }
         ensures { result ≡ wire_at self.now line edge }
     {
-        self.wires[line as usize * self.edges as usize + edge as usize]
+        self.wires[edge as usize].holds(line)
     }
 
     /// The edge to which the line is led from the edge, past regions that are quiet for it. It is a wire where the edge begins at a
@@ -52,6 +67,19 @@ impl Lines {
         requires edge { edge < self.now.edges }
         ensures { result ≡ next_at self.now line edge }
     {
-        self.next[line as usize * self.edges as usize + edge as usize]
+        led(&self.next, line, edge)
+    }
+}
+
+/// The edge to which the line is led from the edge: what the row of the edge tells, or else the edge itself.
+pub(crate) fn led(rows: &Vec<LabelList>, line: u32, edge: u32) -> u32
+    requires { edge < length rows.now.items }
+    ensures { result ≡ led_in rows.now.items line edge }
+{
+    let row = rows[edge as usize].as_slice();
+    if (line as usize) < row.len() {
+        row[line as usize]
+    } else {
+        edge
     }
 }

@@ -1,10 +1,26 @@
-use Rattle.std.proofs.Common.{◌≡◌, ◌<◌, ℕ, subst, sym, ◌∙◌, arith}
+use Rattle.std.proofs.Common.{◌≡◌, ◌+◌, ◌<◌, ℕ, subst, arith}
 use Rattle.dep_routing.specs.Facts.{TreeFacts}
-use Rattle.dep_routing.specs.Noise.{IsMarkedFrom}
+use Rattle.dep_routing.specs.Noise.{IsMarkedFrom, marks_of}
 use Rattle.dep_routing.specs.Touch.{touches_in}
-use Rattle.dep_routing.proofs.Noises.{IsHeard, IsHeard-skip, IsHeard-take, AreNoisy-end, touches-at}
+use Rattle.dep_routing.proofs.Noises.{AreHeard, AreHeard-none, AreHeard-more, AreHeard-end, HaveParents-tree, innermost_within}
+use Rattle.dep_routing.proofs.SetTables.{touches-at}
 use Rattle.dep_routing.proofs.noise.noisy_regions.Goals as goal
-use Rattle.dep_routing.proofs.noise.noisy_regions.Goals.{then-holds, else-holds}
+
+pub loop-node-init : goal.loop-node-init
+loop-node-init g c =
+    let graph = c.args.g.now in
+    let t = c.args.t.now in
+    let f : TreeFacts graph t = c.tree_facts.ensures graph t c.requires.flow c.requires.tree in
+    rw (c.in_ok-sets.ensures.items_if_clones_equal (λ y is. is))
+    (AreHeard-none graph t f (touches_in c.args.touch.now) (c.count.result + 1) c.empty.result (omega (arith, c.count.ensures.count, f.tree.regions.some)) c.empty.ensures)
+
+pub add_up-requires : goal.add_up-requires
+add_up-requires g c =
+    let graph = c.args.g.now in
+    let t = c.args.t.now in
+    let f : TreeFacts graph t = c.tree_facts.ensures graph t c.requires.flow c.requires.tree in
+    let exists : c.loop-node.node < graph.nodes = omega (arith, c.loop-node-test.true, c.nodes-node-end.ensures.count) in
+    (search, (c.requires.width, (HaveParents-tree graph t f, (c.loop-node.invariant.size, (rw c.innermost.ensures (innermost_within graph t f c.loop-node.node exists), λ line. (c.loop-node.invariant.each line).up)))))
 
 pub loop-node-preserved : goal.loop-node-preserved
 loop-node-preserved g c =
@@ -13,24 +29,16 @@ loop-node-preserved g c =
     let f : TreeFacts graph t = c.tree_facts.ensures graph t c.requires.flow c.requires.tree in
     let node = c.loop-node.node in
     let exists : node < graph.nodes = omega (arith, c.loop-node-test.true, c.nodes-node-end.ensures.count) in
-    let touches = touches_in c.args.touch.now in
-    let marks = c.loop-node.marks.items in
-    let is : touches node c.args.line ≡ c.holds.result = touches-at c.args.touch.now node c.args.line c.at.result.now c.at.ensures.item ∙ sym c.holds.ensures.member in
-    elim c.if-holds.branch [
-      | then-holds w ↦
-          rw w.marks-is
-          (IsHeard-take graph t f touches c.args.line node marks c.loop-node.invariant w.mark_up.new.marks.items exists (is ∙ w.if-holds.true)
-          (subst (λ (r : ℕ). IsMarkedFrom t r marks w.mark_up.new.marks.items) w.innermost.ensures w.mark_up.ensures))
-      | else-holds w ↦
-          rw w.marks-is
-          (IsHeard-skip graph t f touches c.args.line node marks c.loop-node.invariant (is ∙ w.if-holds.false))
-    ]
+    AreHeard-more graph t f (touches_in c.args.touch.now) node c.loop-node.sets.items c.add_up.new.sets.items c.at.result.now c.loop-node.invariant exists
+    (λ line. touches-at c.args.touch.now node line c.at.result.now c.at.ensures.item) c.add_up.ensures.size
+    (λ line member. subst (λ (r : ℕ). IsMarkedFrom t r (marks_of c.loop-node.sets.items line) (marks_of c.add_up.new.sets.items line)) c.innermost.ensures (c.add_up.ensures.added line member))
+    c.add_up.ensures.others
 
-pub returns : goal.returns
-returns g c =
+pub returns-clause-noisy : goal.returns-clause-noisy
+returns-clause-noisy g c =
     let graph = c.args.g.now in
     let t = c.args.t.now in
     let f : TreeFacts graph t = c.tree_facts.ensures graph t c.requires.flow c.requires.tree in
     let touches = touches_in c.args.touch.now in
     let all : c.loop-node.node ≡ graph.nodes = omega (arith, c.loop-node-test.false, c.loop-node.auto.node-end, c.nodes-node-end.ensures.count) in
-    AreNoisy-end graph t f touches c.args.line c.loop-node.marks.items (subst (λ (k : ℕ). IsHeard graph t touches c.args.line k c.loop-node.marks.items) all c.loop-node.invariant)
+    AreHeard-end graph t f touches c.loop-node.sets.items (subst (λ (k : ℕ). AreHeard graph t touches k c.loop-node.sets.items) all c.loop-node.invariant)

@@ -1,31 +1,44 @@
-use Rattle.std.proofs.Common.{◌≡◌, ◌++◌, ◌∙◌, ℕ, Bool, List, ap, refl, subst, arith}
+use Rattle.std.proofs.Common.{◌≡◌, ◌↔◌, ℕ, Bool, true, false, length, refl, sym, subst, arith}
 use Rattle.closed_walks.specs.Graph.{edge_count}
+use Rattle.dep_routing.specs.LineTable.{led}
+use Rattle.dep_routing.specs.Next.{Next}
+use Rattle.dep_routing.specs.Noise.{AreNoisy, marks_of}
+use Rattle.dep_routing.specs.Facts.{TreeFacts}
+use Rattle.dep_routing.specs.Quiet.{IsWire}
 use Rattle.dep_routing.specs.Touch.{touches_in}
-use Rattle.dep_routing.specs.Rows.{AreRows}
-use Rattle.dep_routing.proofs.RowSteps.{AreRows-more}
+use Rattle.dep_routing.proofs.Cells.{cell_at, rows_length, cells_length}
 use Rattle.dep_routing.proofs.routing.route.Goals as goal
-
-pub loop-line-preserved : goal.loop-line-preserved
-loop-line-preserved g c =
-    let rows = c.in_ok-rows.rows in
-    let next : c.extend_from_slice.new.self.items ≡ c.loop-line.next.items ++ rows.next.items =
-    c.in_ok-extend_from_slice.ensures.items ∙ ap (λ (xs : List ℕ). c.loop-line.next.items ++ xs) c.as_slice-in-loop-line.ensures.value in
-    let wires : c.extend_from_slice-in-loop-line.new.self.items ≡ c.loop-line.wires.items ++ rows.wires.items =
-    c.in_ok-extend_from_slice-2.ensures.items ∙ ap (λ (xs : List Bool). c.loop-line.wires.items ++ xs) c.as_slice-in-loop-line-2.ensures.value in
-    rw (next, wires)
-    (AreRows-more c.args.g.now c.args.t.now (touches_in c.args.touch.now) c.loop-line.line c.loop-line.next.items c.loop-line.wires.items rows.next.items rows.wires.items
-    c.loop-line.invariant c.in_ok-rows.ensures.next c.in_ok-rows.ensures.wires)
 
 pub returns-clause-routing : goal.returns-clause-routing
 returns-clause-routing g c =
     let graph = c.args.g.now in
-    let m = edge_count graph in
-    let all : c.loop-line.line ≡ c.args.lines = omega (arith, c.loop-line-test.false, c.loop-line.auto.line-end) in
-    let rows : AreRows graph c.args.t.now (touches_in c.args.touch.now) c.args.lines c.loop-line.next.items c.loop-line.wires.items =
-    subst (λ (k : ℕ). AreRows graph c.args.t.now (touches_in c.args.touch.now) k c.loop-line.next.items c.loop-line.wires.items) all c.loop-line.invariant in
-    rw c.edges-2.ensures.count record {
+    let t = c.args.t.now in
+    let touches = touches_in c.args.touch.now in
+    let wires = c.in_ok-wires.wires.items in
+    let rows = c.in_ok-next.next.items in
+    let edges = length wires in
+    let noisy = c.in_ok-noisy.noisy.items in
+    let f : TreeFacts graph t = c.tree_facts.ensures graph t c.requires.flow c.requires.tree in
+    let n : (line : ℕ) → AreNoisy graph t touches line (marks_of noisy line) = c.in_ok-noisy.ensures.noisy in
+    let count : edges ≡ edge_count graph = c.in_ok-wires.ensures.count in
+    record {
       count = refl;
-      edges = refl;
-      wire = rows.wire_rows;
-      next = rows.next_rows;
+      edges = count;
+      wire = λ line e low edge. subst (λ (b : Bool). (b ≡ true) ↔ IsWire graph t touches line e)
+          (sym (cell_at edges c.args.lines (λ k d. touches_in wires d k) line e false low (omega (arith, edge, count))))
+          (c.in_ok-wires.ensures.wires touches line e (n line) low edge);
+      next = λ line e low edge. subst (λ (d : ℕ). Next graph t touches line e d)
+          (sym (cell_at edges c.args.lines (led rows) line e 0 low (omega (arith, edge, count))))
+          (c.in_ok-next.ensures.next graph touches line e f (n line) low (omega (arith, edge, c.edges.ensures.count)));
+    }
+
+pub returns-clause-rows : goal.returns-clause-rows
+returns-clause-rows g c =
+    let wires = c.in_ok-wires.wires.items in
+    let edges = length wires in
+    record {
+      next = rows_length edges c.args.lines (led c.in_ok-next.next.items);
+      next_cells = λ e edge. cells_length edges c.args.lines (led c.in_ok-next.next.items) e edge;
+      wires = rows_length edges c.args.lines (λ line e. touches_in wires e line);
+      wire_cells = λ e edge. cells_length edges c.args.lines (λ line k. touches_in wires k line) e edge;
     }

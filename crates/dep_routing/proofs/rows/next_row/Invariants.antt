@@ -1,12 +1,10 @@
-use Rattle.std.proofs.Common.{◌≡◌, ℕ, Bool, length}
-use Rattle.closed_walks.specs.Graph.{Graph}
-use Rattle.dep_routing.specs.Facts.{TreeFacts}
-use Rattle.dep_routing.specs.Noise.{AreNoisy}
-use Rattle.dep_routing.proofs.RowSteps.{IsLed}
+use Rattle.std.proofs.Common.{◌≡◌, ◌<◌, ℕ, if◌then◌else◌, length, get_or}
+use Rattle.class_set.specs.ClassSet.{holds}
+use Rattle.dep_routing.specs.LineTable.{led}
 use Rattle.dep_routing.proofs.rows.next_row.Given as goal
 
-abbrev pub invariant-loop-r : goal.invariant-loop-r
-invariant-loop-r l = record {
-  size : length l.row.items ≡ l.edges;
-  led : (g : Graph) (touches : ℕ → ℕ → Bool) (line : ℕ) → TreeFacts g l.t → AreNoisy g l.t touches line l.noisy → IsLed g l.t touches line l.edges l.order l.r-index l.row.items;
+abbrev pub invariant-loop-line : goal.invariant-loop-line
+invariant-loop-line g l = record {
+  size : length l.row ≡ l.line;
+  cells : (k : ℕ) → k < l.line → get_or l.row k 0 ≡ (if holds l.noisy k then l.entry else led l.rows.items k l.exit);
 }
