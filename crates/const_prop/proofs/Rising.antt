@@ -1,9 +1,6 @@
 -- How a table in the making rises.
-use Rattle.std.proofs.Common.{◌≡◌, ◌≢◌, ◌⊎◌, ◌<◌, ◌≤◌, ◌+◌, ℕ, Bool, true, false, ◌==◌, ◌&&◌, ◌||◌, not, List, length, get_or, set, sum_by, refl, sym, ap, subst, ◌∙◌, inl, inr, ⊎_elim, arith, length-set}
+use Rattle.std.proofs.Common.{◌≡◌, ◌≢◌, ◌⊎◌, ◌<◌, ◌≤◌, ◌+◌, ℕ, Bool, true, false, ◌==◌, ◌&&◌, ◌||◌, not, List, length, get_or, sum_by, refl, sym, ap, subst, ◌∙◌, inl, inr, ⊎_elim, arith}
 use Rattle.std.proofs.lemmas.Bool.{cases_eq, cases_Bool, and_parts, eqb-true, eq-eqb, false_from_ne_true, or_cases, or_left, or_right}
-use Rattle.std.proofs.lemmas.Grind.{get_or-set_at}
-use Rattle.std.proofs.lemmas.List.{get_or-set_other}
-use Rattle.std.proofs.lemmas.List.Sums.{sum_by-set}
 use Rattle.closed_walks.specs.Graph.{edge_count}
 use Rattle.f77_tree.specs.declared.programs.Program.{Program}
 use Rattle.alias_classes.specs.Classes.{ClassTable}

@@ -10,4 +10,3 @@ pub mod Right
 pub mod Setting
 pub mod Work
 pub mod Facts
-pub mod EdgeRows

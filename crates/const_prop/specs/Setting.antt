@@ -15,8 +15,7 @@ use Rattle.cfg_build.specs.Joined.{FlowGraph, finish}
 use Rattle.cfg_build.specs.Passes.{outs}
 use Rattle.cfg_build.specs.Runs.{is_act, is_branch, IsPartOf}
 use Rattle.cfg_build.specs.Shape.{IsShaped, kind_at}
-use Rattle.dep_routing.specs.Routing.{Routing, next_at}
-use Rattle.const_prop.specs.EdgeRows.{Stay}
+use Rattle.dep_routing.specs.Routing.{Routing, next_at, wire_at}
 use Rattle.dep_routing.specs.Touch.{touches_in}
 use Rattle.dep_routing.specs.Touches.{AreTouches}
 use Rattle.const_prop.specs.Closed.{is_one_word}
@@ -31,6 +30,10 @@ pub record IsProgram (p : Program) (f : FlowGraph) : Type 0 where
   pub branches : (node : ℕ) → node < f.graph.nodes → kind_at f node ≡ Branch → IsPartOf f p.execs node is_branch
   pub placed : ArePlaced p.names p.words
   pub can_run : CanRun p
+
+-- from a wire a line is led to no other edge
+abbrev pub Stay : Routing → Type 0
+Stay r = (line e : ℕ) → line < r.lines → e < r.edges → wire_at r line e ≡ true → next_at r line e ≡ e
 
 -- the lines and their routes
 pub record AreLines {W : ℕ} (p : Program) (f : FlowGraph) (c : ClassTable) (touch : List (ClassSet W)) (r : Routing) : Type 0 where

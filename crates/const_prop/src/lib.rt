@@ -4,7 +4,6 @@
 //! Source: Wegman and Zadeck, "Constant propagation with conditional branches", TOPLAS 13 (1991).
 #![tactic(auto)]
 
-mod edge_rows;
 mod edge_set;
 mod facts;
 mod known;

@@ -1,6 +1,6 @@
 //! The making of the table of constants.
 
-ghost use Rattle.std.specs.Prelude.{◌≡◌, ◌+◌, length, IfOk};
+ghost use Rattle.std.specs.Prelude.{◌≡◌, ◌≤◌, ◌+◌, ◌*◌, length, IfOk};
 ghost use Rattle.class_set.specs.Members.{IsWidth};
 ghost use Rattle.closed_walks.specs.Graph.{edge_count};
 ghost use Rattle.f77_tree.specs.WellFormed.{IsWellFormed};
@@ -13,7 +13,6 @@ ghost use Rattle.const_prop.specs.KnownRows.{edges_of};
 ghost use Rattle.const_prop.specs.Right.{IsProgramRouting};
 ghost use Rattle.const_prop.specs.Table.{knowns_of};
 
-use crate::edge_rows::EdgeRows;
 use crate::facts::program_facts;
 use crate::setting::Setting;
 use crate::table::Table;
@@ -33,7 +32,7 @@ pub fn constants<const W: usize>(
     f: &Flow,
     c: &Classes<W>,
     touch: &TouchList<W>,
-    l: &Lines,
+    l: &Lines<W>,
 ) -> Result<Table<W>, NoMemory>
     requires width { IsWidth W }
     requires program { IsWellFormed p.now }
@@ -49,10 +48,8 @@ pub fn constants<const W: usize>(
 {
     program_facts();
     next_edges();
-    let lines = c.count() + 1;
-    prove!(lines == l.lines());
-    let rows = EdgeRows::new(alloc, l, f.graph())?;
-    let s = Setting::new(alloc, p, f, c, touch, &rows)?;
+    lines_are_few(c);
+    let s = Setting::new(alloc, p, f, c, touch, l)?;
     let mut work = Work::blank(alloc, &s)?;
     work.open(&s);
     work.settle(&s);
@@ -63,4 +60,12 @@ pub fn constants<const W: usize>(
         waits: _,
     } = work;
     Ok(Table { known, decisions })
+}
+
+/// The lines of a program, output and its classes, are no more than a set can have.
+fn lines_are_few<const W: usize>(c: &Classes<W>)
+    requires { IsWidth W }
+    ensures { class_count c.now + 1 ≤ 64 * W }
+{
+    let _count = c.count();
 }

@@ -10,12 +10,11 @@ ghost use Rattle.dep_routing.specs.Touch.{touches_in};
 ghost use Rattle.dep_routing.specs.Touches.{piece_kind, exec_kind};
 ghost use Rattle.const_prop.specs.Setting.{IsProgram, AreLines, TellOneWord, AreOuts, IsTouchedRow, AreTouched, IsSetting};
 
-use crate::edge_rows::EdgeRows;
 use crate::row::Row;
 use alias_classes::Classes;
 use cfg_build::{Flow, PieceKind};
 use closed_walks::{Digraph, edges_of_nodes};
-use dep_routing::TouchList;
+use dep_routing::{Lines, TouchList};
 use df_sequence::NoMemory;
 use f77_tree::{ExecKind, Program};
 use std::alloc::Global;
@@ -27,7 +26,7 @@ pub(crate) struct Setting<'a, const W: usize> {
     pub(crate) flow: &'a Flow,
     pub(crate) classes: &'a Classes<'a, W>,
     pub(crate) touch: &'a TouchList<W>,
-    pub(crate) lines: &'a EdgeRows<'a, W>,
+    pub(crate) lines: &'a Lines<W>,
     /// For each line whether it is a class of words with one word.
     pub(crate) one_word: Vec<bool>,
     /// For each piece its out-edges, in order.
@@ -43,7 +42,7 @@ impl<'a, const W: usize> Setting<'a, W> {
         flow: &'a Flow,
         classes: &'a Classes<'a, W>,
         touch: &'a TouchList<W>,
-        lines: &'a EdgeRows<'a, W>,
+        lines: &'a Lines<W>,
     ) -> Result<Self, NoMemory>
         requires program { IsProgram program.now flow.now }
         requires lines { AreLines program.now flow.now classes.now touch.now lines.now }

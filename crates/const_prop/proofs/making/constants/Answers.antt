@@ -16,8 +16,8 @@ use Rattle.const_prop.proofs.Settled.{settled-constants}
 use Rattle.const_prop.proofs.Uses.{merges-untouched}
 use Rattle.const_prop.proofs.making.constants.Goals as goal
 
-pub new-requires-2 : goal.new-requires-2
-new-requires-2 g c =
+pub new-requires : goal.new-requires
+new-requires g c =
     let p = c.args.p.now in
     let f = c.args.f.now in
     let r = c.args.l.now in
@@ -27,7 +27,7 @@ new-requires-2 g c =
     let program : IsProgram p f = c.program_facts.ensures.program p f c.requires.program c.requires.flow in
     let lines : AreLines p f c.args.c.now c.args.touch.now r = record {
       width = c.requires.width;
-      few = omega (arith, routing.routing.count, c.count-lines.ensures.count, c.count-lines.ensures.few);
+      few = omega (arith, routing.routing.count, c.lines_are_few.ensures);
       classes = c.requires.classes;
       pieces = c.requires.pieces;
       touches = c.requires.touches;
@@ -44,8 +44,7 @@ new-requires-2 g c =
           let led = c.next_edges.ensures.exists (flow p.execs).graph routing.tree touches line e (next_at r line e) (c.program_facts.ensures.strong p c.requires.program) routing.is_tree k' (routing.routing.next line e (omega (arith, l, l')) k') in
           omega (arith, led, edges);
     } in
-    let here = subst (λ (x : Routing). AreLines p f c.args.c.now c.args.touch.now x) (sym c.in_ok-rows.ensures) lines in
-    search (rules, program, here)
+    search (rules, program, lines)
 
 pub open-requires : goal.open-requires
 open-requires g c =
@@ -70,5 +69,4 @@ returns-clause-constants g c =
     settled-constants s.program.now s.flow.now s.classes.now (touches_in s.touch.now) s.lines.now w
     (λ k line l merge. merges-untouched s.program.now s.flow.now s.classes.now (touches_in s.touch.now) e.setting.program e.setting.lines.touches k line l merge)
     c.settle.ensures.settling c.settle.ensures.rests in
-    let routing : s.lines.now ≡ c.args.l.now = e.lines ∙ c.in_ok-rows.ensures in
-    transport s.program.now c.args.p.now s.flow.now c.args.f.now s.classes.now c.args.c.now s.touch.now c.args.touch.now s.lines.now c.args.l.now (so_far w) e.program e.flow e.classes e.touch routing found
+    transport s.program.now c.args.p.now s.flow.now c.args.f.now s.classes.now c.args.c.now s.touch.now c.args.touch.now s.lines.now c.args.l.now (so_far w) e.program e.flow e.classes e.touch e.lines found

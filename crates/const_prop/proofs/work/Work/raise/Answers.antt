@@ -1,4 +1,4 @@
-use Rattle.std.proofs.Common.{true, ◌==◌, refl}
+use Rattle.std.proofs.Common.{◌==◌, refl}
 use Rattle.dep_routing.specs.Touch.{touches_in}
 use Rattle.const_prop.specs.declared.work.Work.{Work}
 use Rattle.const_prop.proofs.Raising.{IsWoken, raised-one, found-one}
