@@ -41,7 +41,7 @@ impl<'a, const W: usize> Net<'a, W> {
         p: &'a Program,
         f: &'a Flow,
         touch: &'a TouchList<W>,
-        l: &'a Lines,
+        l: &'a Lines<W>,
         input: &Vec<i32>,
     ) -> Result<Net<'a, W>, NoMemory>
         requires width { IsWidth W }
@@ -106,7 +106,7 @@ fn make_plan<'a, const W: usize>(
     p: &'a Program,
     f: &'a Flow,
     touch: &'a TouchList<W>,
-    l: &'a Lines,
+    l: &'a Lines<W>,
     input: &Vec<i32>,
 ) -> Result<Plan<'a, W>, NoMemory>
     requires width { IsWidth W }
@@ -131,7 +131,7 @@ fn make_board<'a, const W: usize>(
     p: &'a Program,
     f: &'a Flow,
     touch: &'a TouchList<W>,
-    l: &'a Lines,
+    l: &'a Lines<W>,
     input: &Vec<i32>,
 ) -> Result<Board<'a, W>, NoMemory>
     requires width { IsWidth W }

@@ -16,7 +16,7 @@ pub(crate) struct Plan<'a, const W: usize> {
     pub(crate) program: &'a Program,
     pub(crate) flow: &'a Flow,
     pub(crate) touch: &'a TouchList<W>,
-    pub(crate) routes: &'a Lines,
+    pub(crate) routes: &'a Lines<W>,
     pub(crate) input: Vec<i32>,
     ghost width: { IsWidth W },
     ghost own_flow: { flow.now ≡ flow_graph program.now.execs },

@@ -8,7 +8,7 @@ to-requires g c =
     let edge : get_or c.edges_at-e-items.result.now c.loop-e.e-index 0 < edge_count c.args.plan.now.flow.now.graph = edge_exists c.args.plan.now.flow.now.graph c.args.piece c.edges_at-e-items.result.now c.loop-e.e-index c.loop-e.invariant.edges c.loop-e-test.true in
     subst (λ (h : Graph). get_or c.edges_at-e-items.result.now c.loop-e.e-index 0 < edge_count h) (sym c.graph-graph.ensures) edge
 
-pub is_wire-requires-clause-edge : goal.is_wire-requires-clause-edge
-is_wire-requires-clause-edge g c =
+pub is_wire-requires : goal.is_wire-requires
+is_wire-requires g c =
     let edge : get_or c.edges_at-e-items.result.now c.loop-e.e-index 0 < edge_count c.args.plan.now.flow.now.graph = edge_exists c.args.plan.now.flow.now.graph c.args.piece c.edges_at-e-items.result.now c.loop-e.e-index c.loop-e.invariant.edges c.loop-e-test.true in
-    omega (arith, edge, c.args.plan.now.wires)
+    (omega arith, (c.requires.line, omega (arith, edge, c.args.plan.now.wires)))

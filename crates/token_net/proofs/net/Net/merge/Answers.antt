@@ -1,4 +1,6 @@
 use Rattle.std.proofs.Common.{◌≡◌, ◌<◌, ℕ, Some, length, vec_len, subst, sym, ap, ◌∙◌, arith, rules}
+use Rattle.closed_walks.specs.Graph.{edge_count}
+use Rattle.cfg_build.specs.Joined.{FlowGraph}
 use Rattle.token_net.specs.NetView.{net_of, tokens_of}
 use Rattle.token_net.specs.PlaceLaws.{length_slice_set}
 use Rattle.token_net.specs.Steering.{Leads}
@@ -14,10 +16,11 @@ first_out-edge-requires g c =
     let n : IsMerging (net_of c.args.self.now) c.args.piece c.args.line c.args.k = merge_named (net_of c.args.self.now) c.args.piece c.args.k c.args.line c.requires.node c.requires.name in
     (omega arith, n.exists)
 
-pub next_wire-requires-clause-line : goal.next_wire-requires-clause-line
-next_wire-requires-clause-line g c =
+pub next_wire-requires : goal.next_wire-requires
+next_wire-requires g c =
     let n : IsMerging (net_of c.args.self.now) c.args.piece c.args.line c.args.k = merge_named (net_of c.args.self.now) c.args.piece c.args.k c.args.line c.requires.node c.requires.name in
-    n.inside
+    let same = ap (λ (f : FlowGraph). edge_count f.graph) c.args.self.now.board.plan.own_flow in
+    (omega arith, (n.inside, omega (arith, c.first_out-edge.ensures.exists, same, c.args.self.now.board.plan.wires)))
 
 pub index_mut-requires : goal.index_mut-requires
 index_mut-requires g c =

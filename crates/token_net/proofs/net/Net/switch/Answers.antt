@@ -17,17 +17,13 @@ first-first-requires g c =
     let n : IsSwitching (net_of c.args.self.now) c.args.piece c.args.line c.args.k = switch_named (net_of c.args.self.now) c.args.piece c.args.k c.args.line c.requires.node c.requires.name in
     (omega arith, n.exists)
 
-pub next_wire-requires-clause-line : goal.next_wire-requires-clause-line
-next_wire-requires-clause-line g c =
+pub next_wire-requires : goal.next_wire-requires
+next_wire-requires g c =
     let n : IsSwitching (net_of c.args.self.now) c.args.piece c.args.line c.args.k = switch_named (net_of c.args.self.now) c.args.piece c.args.k c.args.line c.requires.node c.requires.name in
-    n.inside
-
-pub next_wire-requires-clause-edge : goal.next_wire-requires-clause-edge
-next_wire-requires-clause-edge g c =
     let at : left_for (tokens_of c.args.self.now) c.args.k ≡ Some c.in-Some.edge = read_edge c.args.self.now.edges.items c.args.k c.index.result.now (omega (arith, c.requires.node, c.args.self.now.every_node)) c.index.ensures ∙ c.in-Some.is in
     let exists : c.in-Some.edge < edge_count (graph_in (net_of c.args.self.now)) = c.requires.readable.lie c.args.k c.in-Some.edge at in
     let same = ap (λ (f : FlowGraph). edge_count f.graph) c.args.self.now.board.plan.own_flow in
-    omega (arith, exists, same, c.args.self.now.board.plan.wires)
+    (omega arith, (n.inside, omega (arith, exists, same, c.args.self.now.board.plan.wires)))
 
 pub index_mut-requires-in-Some : goal.index_mut-requires-in-Some
 index_mut-requires-in-Some g c =
