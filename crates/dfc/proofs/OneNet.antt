@@ -1,6 +1,5 @@
 -- A program and its data have one net.
-use Rattle.std.proofs.Common.{◌≡◌, ℕ, zero, suc, ◌+◌, ◌*◌, ◌/◌, ◌%◌, ◌<◌, ◌≤◌, ◌↔◌, ℤ, Bool, true, false, List, length, get_or, refl, sym, ap, subst, ◌∙◌, ⊎_elim, arith}
-use Rattle.std.proofs.Math.Nat.{div-add-mod, mod-lt, mul_comm}
+use Rattle.std.proofs.Common.{◌≡◌, ℕ, suc, ◌<◌, ◌≤◌, ◌↔◌, ℤ, Bool, true, false, List, [], length, get_or, refl, sym, ap, subst, ◌∙◌, ⊎_elim}
 use Rattle.std.proofs.lemmas.Bool.{cases_lt}
 use Rattle.std.proofs.lemmas.List.{ext_get_or}
 use mathlib.Core.Path.{fun_ext}
@@ -32,35 +31,12 @@ same_touches p c touches others are too outside beyond = fun_ext (λ piece. fun_
     (λ out. outside piece line out ∙ sym (beyond piece line out))
     (cases_lt piece (flow p.execs).graph.nodes)))
 
--- a place in a table with rows
-record IsPlace (i lines edges : ℕ) : Type 0 where
-  line : ℕ
-  edge : ℕ
-  low : line < lines
-  inside : edge < edges
-  is : line * edges + edge ≡ i
-
-place_of : (i lines edges : ℕ) → i < lines * edges → IsPlace i lines edges
-place_of i lines edges lt = on edges lt refl
-  where
-    low_row : (q r : ℕ) → q * edges + r ≡ i → i < lines * edges → q < lines
-    low_row q r is lt = ⊎_elim
-        (λ (low : q < lines). low)
-        (λ (le : lines ≤ q). let more : lines * edges ≤ q * edges = Rattle.std.proofs.Math.Nat.mul-le-mul_right edges le in absurd (omega (arith, more, is, lt)))
-        (cases_lt q lines)
-
-    on : (n : ℕ) → i < lines * n → n ≡ edges → IsPlace i lines edges
-    on zero lt is = let none : lines * 0 ≡ 0 = omega arith in absurd (omega (arith, lt, none))
-    on (suc n) lt is =
-        let some : 0 < edges = omega (arith, is) in
-        let whole : i / edges * edges + i % edges ≡ i = ap (λ x. x + i % edges) (mul_comm (i / edges) edges) ∙ div-add-mod i edges in
-        record {
-          line = i / edges;
-          edge = i % edges;
-          low = low_row (i / edges) (i % edges) whole (subst (λ x. i < lines * x) is lt);
-          inside = mod-lt i some;
-          is = whole;
-        }
+-- two tables with the same cells
+same_rows : {A : Type 0} (d : A) (xs ys : List (List A)) (edges lines : ℕ) → length xs ≡ edges → length ys ≡ edges → ((e : ℕ) → e < edges → length (get_or xs e []) ≡ lines) → ((e : ℕ) → e < edges → length (get_or ys e []) ≡ lines)
+    → ((e line : ℕ) → e < edges → line < lines → get_or (get_or xs e []) line d ≡ get_or (get_or ys e []) line d) → xs ≡ ys
+same_rows d xs ys edges lines rows others wide too cells = ext_get_or [] xs ys (rows ∙ sym others) (λ e lt.
+    let inside : e < edges = subst (λ n. e < n) rows lt in
+    ext_get_or d (get_or xs e []) (get_or ys e []) (wide e inside ∙ sym (too e inside)) (λ line low. cells e line inside (subst (λ n. line < n) (wide e inside) low)))
 
 module _ (g : Graph) (t : Tree) (touches : ℕ → ℕ → Bool) (one : (line e f h : ℕ) → Next g t touches line e f → Next g t touches line e h → f ≡ h) (lines : ℕ) (r s : Routing) (is : IsRouting g t touches lines r) (other : IsRouting g t touches lines s) (rows : HaveRows r) (too : HaveRows s) where
   same_lines : r.lines ≡ s.lines
@@ -69,30 +45,19 @@ module _ (g : Graph) (t : Tree) (touches : ℕ → ℕ → Bool) (one : (line e 
   same_edges : r.edges ≡ s.edges
   same_edges = is.edges ∙ sym other.edges
 
-  cells : r.lines * r.edges ≡ s.lines * s.edges
-  cells = ap (λ n. n * r.edges) same_lines ∙ ap (λ n. s.lines * n) same_edges
-
-  next_cell : (i : ℕ) → i < length r.next → get_or r.next i 0 ≡ get_or s.next i 0
-  next_cell i lt =
-      let at = place_of i r.lines r.edges (subst (λ n. i < n) rows.next lt) in
-      let low : at.line < lines = subst (λ n. at.line < n) is.count at.low in
-      let inside : at.edge < edge_count g = subst (λ n. at.edge < n) is.edges at.inside in
-      let same : next_at r at.line at.edge ≡ next_at s at.line at.edge = one at.line at.edge (next_at r at.line at.edge) (next_at s at.line at.edge) (is.next at.line at.edge low inside) (other.next at.line at.edge low inside) in
-      ap (λ k. get_or r.next k 0) (sym at.is) ∙ same ∙ ap (λ n. get_or s.next (at.line * n + at.edge) 0) (sym same_edges) ∙ ap (λ k. get_or s.next k 0) at.is
-
-  wire_cell : (i : ℕ) → i < length r.wires → get_or r.wires i false ≡ get_or s.wires i false
-  wire_cell i lt =
-      let at = place_of i r.lines r.edges (subst (λ n. i < n) rows.wires lt) in
-      let low : at.line < lines = subst (λ n. at.line < n) is.count at.low in
-      let inside : at.edge < edge_count g = subst (λ n. at.edge < n) is.edges at.inside in
-      let same : wire_at r at.line at.edge ≡ wire_at s at.line at.edge = same_test (IsWire g t touches at.line at.edge) (wire_at r at.line at.edge) (wire_at s at.line at.edge) (is.wire at.line at.edge low inside) (other.wire at.line at.edge low inside) in
-      ap (λ k. get_or r.wires k false) (sym at.is) ∙ same ∙ ap (λ n. get_or s.wires (at.line * n + at.edge) false) (sym same_edges) ∙ ap (λ k. get_or s.wires k false) at.is
-
   same_next : r.next ≡ s.next
-  same_next = ext_get_or 0 r.next s.next (rows.next ∙ cells ∙ sym too.next) next_cell
+  same_next = same_rows 0 r.next s.next r.edges r.lines rows.next (too.next ∙ sym same_edges) rows.next_cells (λ e edge. too.next_cells e (subst (λ n. e < n) same_edges edge) ∙ sym same_lines)
+      (λ e line edge low.
+      let inside : e < edge_count g = subst (λ n. e < n) is.edges edge in
+      let below : line < lines = subst (λ n. line < n) is.count low in
+      one line e (next_at r line e) (next_at s line e) (is.next line e below inside) (other.next line e below inside))
 
   same_wires : r.wires ≡ s.wires
-  same_wires = ext_get_or false r.wires s.wires (rows.wires ∙ cells ∙ sym too.wires) wire_cell
+  same_wires = same_rows false r.wires s.wires r.edges r.lines rows.wires (too.wires ∙ sym same_edges) rows.wire_cells (λ e edge. too.wire_cells e (subst (λ n. e < n) same_edges edge) ∙ sym same_lines)
+      (λ e line edge low.
+      let inside : e < edge_count g = subst (λ n. e < n) is.edges edge in
+      let below : line < lines = subst (λ n. line < n) is.count low in
+      same_test (IsWire g t touches line e) (wire_at r line e) (wire_at s line e) (is.wire line e below inside) (other.wire line e below inside))
 
   pub same_routing : r ≡ s
   same_routing =

@@ -27,7 +27,7 @@ use step_count::Steps;
 pub struct Parts {
     pub flow: Flow,
     pub touch: TouchList<16>,
-    pub lines: Lines,
+    pub lines: Lines<16>,
 }
 
 /// What the net of a program is made of.

@@ -160,7 +160,7 @@ fn touched(alloc: Global, touch: &TouchList<1>) -> Result<String, AllocError> {
 }
 
 /// The wires of each line.
-fn wires(alloc: Global, l: &Lines, edges: u32) -> Result<String, AllocError>
+fn wires(alloc: Global, l: &Lines<1>, edges: u32) -> Result<String, AllocError>
     requires { edges ≡ l.now.edges }
 {
     let mut text = String::new(alloc);
@@ -171,7 +171,7 @@ fn wires(alloc: Global, l: &Lines, edges: u32) -> Result<String, AllocError>
 }
 
 /// The wires of a line, of which the programs have less than 64.
-fn wires_of(l: &Lines, edges: u32, line: u32) -> ClassSet<1>
+fn wires_of(l: &Lines<1>, edges: u32, line: u32) -> ClassSet<1>
     requires line { line < l.now.lines }
     requires edges { edges ≡ l.now.edges }
 {
@@ -185,7 +185,7 @@ fn wires_of(l: &Lines, edges: u32, line: u32) -> ClassSet<1>
 }
 
 /// The edges to which lines are led from the edges that are wanted.
-fn led(alloc: Global, l: &Lines, edges: u32, wanted: &str) -> Result<String, Fail>
+fn led(alloc: Global, l: &Lines<1>, edges: u32, wanted: &str) -> Result<String, Fail>
     requires { edges ≡ l.now.edges }
 {
     let mut text = String::new(alloc);

@@ -29,7 +29,7 @@ pub(crate) struct Found<'a> {
     pub(crate) tree: RegionTree,
     pub(crate) classes: Classes<'a, 16>,
     pub(crate) touch: TouchList<16>,
-    pub(crate) lines: Lines,
+    pub(crate) lines: Lines<16>,
 }
 
 /// Finds all of it.

@@ -103,7 +103,7 @@ fn members(alloc: Global, set: &ClassSet<16>, bound: u32) -> Result<String, Allo
 }
 
 // Tells the wires of each line.
-fn tell_wires(rt: &HostRuntime, l: &Lines, edges: u32) -> io::Result<()>
+fn tell_wires(rt: &HostRuntime, l: &Lines<16>, edges: u32) -> io::Result<()>
     requires { edges ≡ l.now.edges }
 {
     for line in 0..l.lines() {
@@ -114,7 +114,7 @@ fn tell_wires(rt: &HostRuntime, l: &Lines, edges: u32) -> io::Result<()>
 }
 
 // The wires of the line, each behind a blank.
-fn wires_of(alloc: Global, l: &Lines, edges: u32, line: u32) -> Result<String, AllocError>
+fn wires_of(alloc: Global, l: &Lines<16>, edges: u32, line: u32) -> Result<String, AllocError>
     requires line { line < l.now.lines }
     requires edges { edges ≡ l.now.edges }
 {
@@ -128,7 +128,7 @@ fn wires_of(alloc: Global, l: &Lines, edges: u32, line: u32) -> Result<String, A
 }
 
 // Tells to which edges the lines are led past quiet regions.
-fn tell_hops(rt: &HostRuntime, g: &Digraph, l: &Lines) -> io::Result<()>
+fn tell_hops(rt: &HostRuntime, g: &Digraph, l: &Lines<16>) -> io::Result<()>
     requires { l.now.edges ≡ edge_count g.now }
 {
     let entries = entries(rt.alloc(), g)?;
@@ -155,7 +155,7 @@ fn entries(alloc: Global, g: &Digraph) -> Result<Vec<u32>, AllocError>
 fn hops_of(
     alloc: Global,
     g: &Digraph,
-    l: &Lines,
+    l: &Lines<16>,
     entries: &[u32],
     line: u32,
 ) -> Result<String, AllocError>

@@ -57,7 +57,7 @@ fn tell_edges(rt: &HostRuntime, f: &Flow) -> io::Result<()> {
 }
 
 // Tells for each line on which of its wires one value is known, or none comes.
-fn tell_table(rt: &HostRuntime, t: &Table<16>, l: &Lines, edges: u32) -> io::Result<()>
+fn tell_table(rt: &HostRuntime, t: &Table<16>, l: &Lines<16>, edges: u32) -> io::Result<()>
     requires lines { t.now.known.lines ≡ l.now.lines }
     requires edges { edges_of t.now.known ≡ edges }
     requires wires { l.now.edges ≡ edges }
@@ -72,7 +72,7 @@ fn tell_table(rt: &HostRuntime, t: &Table<16>, l: &Lines, edges: u32) -> io::Res
 fn known_row(
     alloc: Global,
     t: &Table<16>,
-    l: &Lines,
+    l: &Lines<16>,
     edges: u32,
     line: u32,
 ) -> Result<String, AllocError>
