@@ -1,10 +1,10 @@
 -- Which node each line goes through, line by line.
-use Rattle.std.proofs.Common.{◌≡◌, ◌<◌, ◌≤◌, ◌+◌, ◌-◌, ◌&&◌, ℕ, zero, suc, Bool, true, false, not, if◌then◌else◌, [], ◌∷◌, length, filter, length-append, refl, sym, ap, ◌∙◌, subst, arith}
+use Rattle.std.proofs.Common.{◌≡◌, ◌<◌, ◌≤◌, ◌+◌, ◌-◌, ◌&&◌, ◌⊎◌, inl, inr, ℕ, zero, suc, Bool, true, false, not, if◌then◌else◌, [], ◌∷◌, length, filter, map, length-append, refl, sym, ap, ◌∙◌, subst, arith}
 use Rattle.std.specs.List.{range_with_len}
 use Rattle.cfg_build.specs.declared.pieces.PieceKind.{PieceKind}
 use Rattle.cfg_build.specs.declared.pieces.PieceKind.TheVariants as kind
-use Rattle.token_net.specs.Nodes.{NetOf, graph_in, kind_in, is_free, led_to, passing, nodes_by, node_count, first_node}
-use Rattle.token_net.specs.Waking.{merge_number, no_node, passing_below, place_by, switch_number}
+use Rattle.token_net.specs.Nodes.{NetOf, graph_in, kind_in, all_lines, is_free, led_to, passing, nodes_by, node_count, first_node}
+use Rattle.token_net.specs.Waking.{kept_by, kept_places, merge_number, no_node, passing_below, place_by, places, switch_number}
 use Rattle.token_net.proofs.SteeringLemmas.{nodes_within}
 use Rattle.token_net.proofs.TableLemmas.{filter_next}
 
@@ -54,25 +54,40 @@ module _ (net : NetOf) (piece : ℕ) where
 
   -- ---- places
 
-  pub place_act : (line first none : ℕ) (touched : Bool) → touched ≡ net.touches piece line → first ≡ first_node net piece → none ≡ no_node net → (if touched then first else none) ≡ place_by net piece line kind.Act
-  place_act line first none touched t f n =
-      ap (λ (b : Bool). if b then first else none) t
-      ∙ ap (λ x. if net.touches piece line then x else none) f
-      ∙ ap (λ x. if net.touches piece line then first_node net piece else x) n
-
-  pub place_switch : (line first next none : ℕ) (touched free : Bool) → touched ≡ net.touches piece line → free ≡ is_free net piece line → first ≡ first_node net piece → next ≡ switch_number net piece line → none ≡ no_node net → (if touched then first else (if free then next else none)) ≡ place_by net piece line kind.Branch
-  place_switch line first next none touched free t r f s n =
-      ap (λ (b : Bool). if b then first else (if free then next else none)) t
-      ∙ ap (λ (b : Bool). if net.touches piece line then first else (if b then next else none)) r
+  pub place_switch : (line first next none : ℕ) (touched passes : Bool) → touched ≡ net.touches piece line → passes ≡ (is_free net piece line && not (net.touches piece line)) → first ≡ first_node net piece → next ≡ switch_number net piece line → none ≡ no_node net → (if touched then first else (if passes then next else none)) ≡ place_by net piece line kind.Branch
+  place_switch line first next none touched passes t p f s n =
+      ap (λ (b : Bool). if b then first else (if passes then next else none)) t
+      ∙ ap (λ (b : Bool). if net.touches piece line then first else (if b then next else none)) p
+      ∙ untouched (is_free net piece line) (net.touches piece line)
       ∙ ap (λ x. if net.touches piece line then x else (if is_free net piece line then next else none)) f
       ∙ ap (λ x. if net.touches piece line then first_node net piece else (if is_free net piece line then x else none)) s
       ∙ ap (λ x. if net.touches piece line then first_node net piece else (if is_free net piece line then switch_number net piece line else x)) n
+    where
+      untouched : (free touches : Bool) → (if touches then first else (if free && not touches then next else none)) ≡ (if touches then first else (if free then next else none))
+      untouched free true = refl
+      untouched true false = refl
+      untouched false false = refl
 
   pub place_merge : (line next none : ℕ) (free : Bool) → free ≡ is_free net piece line → next ≡ merge_number net piece line → none ≡ no_node net → (if free then next else none) ≡ place_by net piece line kind.Join
   place_merge line next none free r s n =
       ap (λ (b : Bool). if b then next else none) r
       ∙ ap (λ x. if is_free net piece line then x else none) s
       ∙ ap (λ x. if is_free net piece line then merge_number net piece line else x) n
+
+  -- ---- rows
+
+  pub row_kept : (k : PieceKind) → kind_in net piece ≡ k → kept_by net piece k ≡ places net piece → kept_places net piece ≡ places net piece
+  row_kept k is kept = ap (kept_by net piece) is ∙ kept
+
+  -- a piece that can have switches or merges has its row
+  pub keeps_row : (k : PieceKind) → (k ≡ kind.Branch) ⊎ ((k ≡ kind.Hold) ⊎ ((k ≡ kind.Join) ⊎ (k ≡ kind.End))) → kept_by net piece k ≡ places net piece
+  keeps_row k (inl e) = ap (kept_by net piece) e
+  keeps_row k (inr (inl e)) = ap (kept_by net piece) e
+  keeps_row k (inr (inr (inl e))) = ap (kept_by net piece) e
+  keeps_row k (inr (inr (inr e))) = ap (kept_by net piece) e
+
+  pub kept_as : (k : PieceKind) → kind_in net piece ≡ k → kept_by net piece k ≡ places net piece → map (λ (line : ℕ). place_by net piece line k) (all_lines net) ≡ kept_places net piece
+  kept_as k is kept = sym (row_kept k is kept ∙ ap (λ (x : PieceKind). map (λ (line : ℕ). place_by net piece line x) (all_lines net)) is)
 
   -- ---- room
 

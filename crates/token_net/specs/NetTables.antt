@@ -6,7 +6,7 @@ use Rattle.cfg_build.specs.Passes.{outs}
 use Rattle.token_net.specs.declared.tables.Tables.{Tables}
 use Rattle.token_net.specs.Nodes.{NetOf, graph_in, touched, nodes_of, first_node}
 use Rattle.token_net.specs.NetOrder.{arrival}
-use Rattle.token_net.specs.Waking.{places}
+use Rattle.token_net.specs.Waking.{kept_places}
 
 abbrev pub all_pieces : NetOf → List ℕ
 all_pieces net = range_with_len 0 (graph_in net).nodes
@@ -23,4 +23,4 @@ pub record AreTables (net : NetOf) (t : Tables) : Type 0 where
   pub touched : t.touched.items ≡ map (touched net) (all_pieces net)
   pub outs : t.outs.items ≡ map (outs (graph_in net)) (all_pieces net)
   pub arrivals : t.arrivals.items ≡ map (arrival net) (all_edges net)
-  pub places : t.places.items ≡ map (places net) (all_pieces net)
+  pub places : t.places.items ≡ map (kept_places net) (all_pieces net)

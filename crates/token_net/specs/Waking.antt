@@ -5,10 +5,10 @@ use Rattle.closed_walks.specs.Graph.{to}
 use Rattle.cfg_build.specs.declared.pieces.PieceKind.{PieceKind}
 use Rattle.cfg_build.specs.declared.pieces.PieceKind.TheVariants as kind
 use Rattle.firing.specs.declared.system.NodeName.{NodeName}
-use Rattle.firing.specs.declared.system.NodeName.TheVariants.{Act, Merge, Switch, Op}
+use Rattle.firing.specs.declared.system.NodeName.TheVariants.{Act, Switch}
 use Rattle.token_net.specs.Amid.{moved_by}
 use Rattle.token_net.specs.MemberLaws.{Member}
-use Rattle.token_net.specs.Nodes.{NetOf, graph_in, kind_in, all_lines, is_free, touched, nodes_of, first_node, switches}
+use Rattle.token_net.specs.Nodes.{NetOf, graph_in, kind_in, all_lines, is_free, nodes_of, first_node, switches}
 use Rattle.token_net.specs.Tokens.{Tokens, edge_of}
 
 -- ---- which node a line goes through
@@ -44,6 +44,17 @@ place_of net piece line = place_by net piece line (kind_in net piece)
 -- the nodes of the piece that the lines go through
 abbrev pub places : NetOf → ℕ → List ℕ
 places net piece = map (place_of net piece) (all_lines net)
+
+-- They are kept for the pieces that can have switches or merges.
+abbrev pub kept_by : NetOf → ℕ → PieceKind → List ℕ
+kept_by net piece kind.Branch = places net piece
+kept_by net piece kind.Hold = places net piece
+kept_by net piece kind.Join = places net piece
+kept_by net piece kind.End = places net piece
+kept_by net piece _ = []
+
+abbrev pub kept_places : NetOf → ℕ → List ℕ
+kept_places net piece = kept_by net piece (kind_in net piece)
 
 -- ---- what a firing wakes
 

@@ -1,7 +1,8 @@
 //! What a net looks up while it fires.
 
-ghost use Rattle.std.specs.Prelude.{◌≡◌, ◌<◌, ◌^◌, ◌++◌, ◌&&◌, suc, not, All, length, map, slice_index, IfOk, OnOk};
+ghost use Rattle.std.specs.Prelude.{◌≡◌, ◌<◌, ◌^◌, ◌++◌, ◌&&◌, ℕ, suc, not, All, length, map, slice_index, IfOk, OnOk};
 ghost use Rattle.std.specs.List.{range_with_len};
+ghost use Rattle.class_set.specs.ClassSet.{holds};
 ghost use Rattle.closed_walks.specs.Graph.{edge_count, to};
 ghost use Rattle.cfg_build.specs.Joined.{is_end};
 ghost use Rattle.cfg_build.specs.Passes.{outs as outs_in};
@@ -14,6 +15,7 @@ ghost use Rattle.token_net.specs.PlanView.{net_in};
 use crate::places::all_places;
 use crate::plan::Plan;
 use cfg_build::PieceKind;
+use class_set::ClassSet;
 use closed_walks::Digraph;
 use df_sequence::{LabelList, NoMemory};
 use firing::NodeName;
@@ -32,7 +34,8 @@ pub(crate) struct Tables {
     pub(crate) outs: Vec<LabelList>,
     /// For each edge the next piece with nodes that control comes to along it, or the end.
     pub(crate) arrivals: Vec<u32>,
-    /// For each piece and line the node of the piece that the line goes through, or the number of all nodes.
+    /// For each piece that can have switches or merges, for each line the node of the piece that the line goes through, or the
+    /// number of all nodes. The list of any other piece is empty.
     pub(crate) places: Vec<LabelList>,
 }
 
@@ -122,21 +125,13 @@ fn push_switches<const W: usize>(
     requires { piece < (graph_in (net_in plan.now)).nodes }
     ensures { OnOk result (names.new.items ≡ names.old.items ++ map (Switch piece) (passing (net_in plan.now) piece)) }
 {
+    let passing = passing_lines(plan, piece);
     for line in 0..plan.routes.lines() {
-        if is_passing(plan, piece, line) {
+        if passing.holds(line) {
             names.push(NodeName::Switch(piece, line))?;
         }
     }
     Ok(())
-}
-
-/// Whether the line is led to the piece, which doesn't touch it.
-fn is_passing<const W: usize>(plan: &Plan<W>, piece: u32, line: u32) -> bool
-    requires piece { piece < (graph_in (net_in plan.now)).nodes }
-    requires line { line < (net_in plan.now).routing.lines }
-    ensures { result ≡ (is_free (net_in plan.now) piece line && not ((net_in plan.now).touches piece line)) }
-{
-    is_free(plan, piece, line) && !touches(plan, piece, line)
 }
 
 /// Appends a merge for each line that is led to the piece.
@@ -148,27 +143,36 @@ fn push_merges<const W: usize>(
     requires { piece < (graph_in (net_in plan.now)).nodes }
     ensures { OnOk result (names.new.items ≡ names.old.items ++ map (Merge piece) (led_to (net_in plan.now) piece)) }
 {
+    let free = free_lines(plan, piece);
     for line in 0..plan.routes.lines() {
-        if is_free(plan, piece, line) {
+        if free.holds(line) {
             names.push(NodeName::Merge(piece, line))?;
         }
     }
     Ok(())
 }
 
-/// Whether an edge to the piece is a wire of the line.
-pub(crate) fn is_free<const W: usize>(plan: &Plan<W>, piece: u32, line: u32) -> bool
-    requires piece { piece < (graph_in (net_in plan.now)).nodes }
-    requires line { line < (net_in plan.now).routing.lines }
-    ensures { result ≡ is_free (net_in plan.now) piece line }
+/// The lines that are led to the piece: those of which an edge to it is a wire.
+pub(crate) fn free_lines<const W: usize>(plan: &Plan<W>, piece: u32) -> ClassSet<W>
+    requires { piece < (graph_in (net_in plan.now)).nodes }
+    ensures { (line : ℕ) → line < (net_in plan.now).routing.lines → holds result line ≡ is_free (net_in plan.now) piece line }
 {
     let graph = plan.flow.graph();
+    let mut free = ClassSet::empty();
     for e in graph.edges_at(piece) {
-        if graph.to(*e) == piece && plan.routes.is_wire(line, *e) {
-            return true;
+        if graph.to(*e) == piece {
+            free = free.union(plan.routes.wires(*e));
         }
     }
-    false
+    free
+}
+
+/// The lines that are led to the piece, and that it doesn't touch.
+pub(crate) fn passing_lines<const W: usize>(plan: &Plan<W>, piece: u32) -> ClassSet<W>
+    requires { piece < (graph_in (net_in plan.now)).nodes }
+    ensures { (line : ℕ) → line < (net_in plan.now).routing.lines → holds result line ≡ (is_free (net_in plan.now) piece line && not ((net_in plan.now).touches piece line)) }
+{
+    free_lines(plan, piece).difference(plan.touch.at(piece))
 }
 
 /// Whether the piece touches the line.

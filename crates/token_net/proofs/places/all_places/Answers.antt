@@ -1,7 +1,7 @@
 use Rattle.std.proofs.Common.{rules, ◌≡◌, ◌<◌, suc, ◌∙◌, arith}
 use Rattle.token_net.specs.Nodes.{graph_in, first_node}
 use Rattle.token_net.specs.PlanView.{net_in}
-use Rattle.token_net.specs.Waking.{places}
+use Rattle.token_net.specs.Waking.{kept_places}
 use Rattle.token_net.proofs.TableLemmas.{mapped_more, mapped_length, mapped_at}
 use Rattle.token_net.proofs.places.all_places.Goals as goal
 
@@ -20,4 +20,4 @@ places-requires g c =
     (omega arith, (below, (first, c.requires.none)))
 
 pub loop-piece-preserved : goal.loop-piece-preserved
-loop-piece-preserved g c = mapped_more (places (net_in c.args.plan.now)) c.loop-piece.all.items c.push.new.self.items c.loop-piece.piece c.in_ok-places.field-0 c.loop-piece.invariant c.in_ok-places.ensures c.in_ok-push.ensures.items
+loop-piece-preserved g c = mapped_more (kept_places (net_in c.args.plan.now)) c.loop-piece.all.items c.push.new.self.items c.loop-piece.piece c.in_ok-places.field-0 c.loop-piece.invariant c.in_ok-places.ensures c.in_ok-push.ensures.items

@@ -1,17 +1,19 @@
-use Rattle.std.proofs.Common.{◌&&◌, not, ◌∙◌, sym}
+use Rattle.std.proofs.Common.{◌≡◌, ◌<◌, ◌&&◌, not, ◌∙◌, sym, arith}
 use Rattle.firing.specs.declared.system.NodeName.TheVariants.{Switch}
 use Rattle.token_net.specs.Nodes.{is_free}
 use Rattle.token_net.specs.PlanView.{net_in}
 use Rattle.token_net.proofs.TableLemmas.{named_taken, named_skipped}
 use Rattle.token_net.proofs.tables.push_switches.Goals as goal
-use Rattle.token_net.proofs.tables.push_switches.Goals.{then-is_passing+in_ok-push, else-is_passing}
+use Rattle.token_net.proofs.tables.push_switches.Goals.{then-holds+in_ok-push, else-holds}
 
 pub loop-line-preserved : goal.loop-line-preserved
 loop-line-preserved g c =
     let net = net_in c.args.plan.now in
-    elim c.if-is_passing.branch [
-      | then-is_passing+in_ok-push w ↦
-          rw w.names-is (w.in_ok-push.ensures.items ∙ named_taken (Switch c.args.piece) (λ line. is_free net c.args.piece line && not (net.touches c.args.piece line)) c.args.names.now.items c.loop-line.names.items c.loop-line.line c.loop-line.invariant (sym c.is_passing.ensures ∙ w.if-is_passing.true))
-      | else-is_passing w ↦
-          rw w.names-is (named_skipped (Switch c.args.piece) (λ line. is_free net c.args.piece line && not (net.touches c.args.piece line)) c.args.names.now.items c.loop-line.names.items c.loop-line.line c.loop-line.invariant (sym c.is_passing.ensures ∙ w.if-is_passing.false))
+    let below : c.loop-line.line < net.routing.lines = omega (arith, c.loop-line-test.true, c.lines-line-end.ensures) in
+    let passes : c.holds.result ≡ (is_free net c.args.piece c.loop-line.line && not (net.touches c.args.piece c.loop-line.line)) = c.holds.ensures.member ∙ c.passing_lines-passing.ensures c.loop-line.line below in
+    elim c.if-holds.branch [
+      | then-holds+in_ok-push w ↦
+          rw w.names-is (w.in_ok-push.ensures.items ∙ named_taken (Switch c.args.piece) (λ line. is_free net c.args.piece line && not (net.touches c.args.piece line)) c.args.names.now.items c.loop-line.names.items c.loop-line.line c.loop-line.invariant (sym passes ∙ w.if-holds.true))
+      | else-holds w ↦
+          rw w.names-is (named_skipped (Switch c.args.piece) (λ line. is_free net c.args.piece line && not (net.touches c.args.piece line)) c.args.names.now.items c.loop-line.names.items c.loop-line.line c.loop-line.invariant (sym passes ∙ w.if-holds.false))
     ]
