@@ -30,11 +30,6 @@ next-member member n (Some m) h = h.member
 none-twice : (member : ℕ → Bool) (k : ℕ) → member k ≡ true → member k ≡ false → ⊥
 none-twice member k is is_not = let clash : true ≡ false = sym is ∙ is_not in absurd cc
 
--- no member stands before the first
-pub before-first : (member : ℕ → Bool) (next : Option ℕ) → MatchOption next (IsLast member None) (IsNext member None) → (P : ℕ → Type 0) (k : ℕ) → member k ≡ true → IsBefore next k → P k
-before-first member None last P k is before = absurd (none-twice member k is (last k tt))
-before-first member (Some m) first P k is before = absurd (none-twice member k is (first.least k tt before))
-
 -- the members before the next are those before this one, and this one
 pub before-more : (member : ℕ → Bool) (m : ℕ) (next : Option ℕ) → MatchOption next (IsLast member (Some m)) (IsNext member (Some m)) → (P : ℕ → Type 0) → ((k : ℕ) → member k ≡ true → k < m → P k) → P m → (k : ℕ) → member k ≡ true → IsBefore next k → P k
 before-more member m next is_next P old here k is before = ⊎_elim
@@ -48,7 +43,3 @@ before-more member m next is_next P old here k is before = ⊎_elim
     past : (next : Option ℕ) → MatchOption next (IsLast member (Some m)) (IsNext member (Some m)) → IsBefore next k → m < k → ⊥
     past None last before above = none-twice member k is (last k above)
     past (Some n) next before above = none-twice member k is (next.least k above before)
-
-pub left-less : (member : ℕ → Bool) (bound m : ℕ) (next : Option ℕ) → m < bound → MatchOption next (IsLast member (Some m)) (IsNext member (Some m)) → numbers_left bound next < bound - m
-left-less member bound m None within h = omega arith
-left-less member bound m (Some n) within h = let above : m < n = h.above in omega arith

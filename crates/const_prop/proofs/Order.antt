@@ -1,10 +1,9 @@
 -- The order of what is known.
-use Rattle.std.proofs.Common.{◌≡◌, ◌≢◌, ℕ, ℤ, Some, None, refl, sym, ap, subst, ◌∙◌, arith}
+use Rattle.std.proofs.Common.{◌≡◌, ℕ, ℤ, Some, None, refl, sym, ap, subst, ◌∙◌}
 use Rattle.const_prop.specs.declared.known.Known.{Known}
 use Rattle.const_prop.specs.declared.known.Known.TheVariants.{Nothing, One, Any}
 use Rattle.const_prop.specs.Closed.{Allows, KindAllows}
 use Rattle.const_prop.specs.Known.{AtMost, IsSomething, one_of}
-use Rattle.const_prop.specs.Rise.{IsRise}
 use Rattle.cfg_build.specs.declared.pieces.PieceKind.{PieceKind}
 use Rattle.cfg_build.specs.declared.pieces.PieceKind.TheVariants.{Start, Act, Pass, Branch, Join, Hold, End}
 
@@ -72,20 +71,3 @@ kind_allows-more Join j k i a s = tt
 kind_allows-more End j k i a s = tt
 
 -- ---- rises
-
-pub rise-first-one : (v : ℤ) → IsRise Nothing (One v) (One v)
-rise-first-one v = record { grows = tt; reaches = refl; least = λ b a c. c; one = λ a c. c; rises = omega arith }
-
-pub rise-first-any : IsRise Nothing Any Any
-rise-first-any = record { grows = tt; reaches = tt; least = λ b a c. c; one = λ a c. tt; rises = omega arith }
-
-pub rise-one-any : (v : ℤ) → IsRise (One v) Any Any
-rise-one-any v = record { grows = tt; reaches = tt; least = λ b a c. c; one = λ a c. tt; rises = omega arith }
-
-least-two : (v w : ℤ) → v ≢ w → (b : Known) → AtMost (One v) b → AtMost (One w) b → AtMost Any b
-least-two v w differ Nothing a c = absurd a
-least-two v w differ (One x) a c = absurd (differ (a ∙ sym c))
-least-two v w differ Any a c = tt
-
-pub rise-two : (v w : ℤ) → v ≢ w → IsRise (One v) (One w) Any
-rise-two v w differ = record { grows = tt; reaches = tt; least = least-two v w differ; one = λ a c. tt; rises = omega arith }

@@ -114,8 +114,3 @@ module _ {W : ℕ} (p : Program) (f : FlowGraph) (c : ClassTable) (touches : ℕ
 pub true_of_not : (b : Bool) → not b ≡ true → b ≡ false
 true_of_not false is = refl
 true_of_not true is = let clash : false ≡ true = is in absurd cc
-
-pub is_any-is : (k : Known) → is_any k ≡ true → k ≡ Any
-is_any-is Nothing is = let clash : false ≡ true = is in absurd cc
-is_any-is (One v) is = let clash : false ≡ true = is in absurd cc
-is_any-is Any is = refl

@@ -15,7 +15,7 @@ use Rattle.const_prop.specs.KnownRows.{edges_of}
 use Rattle.const_prop.specs.Rise.{room}
 use Rattle.const_prop.specs.Table.{Knowns}
 use Rattle.const_prop.specs.Work.{sum_below, so_far, is_pending, is_waiting, one_if, IsSized, Rises, IsFound}
-use Rattle.const_prop.proofs.Order.{at_most-refl, at_most-is, at_most-trans}
+use Rattle.const_prop.proofs.Order.{at_most-is, at_most-trans}
 use Rattle.const_prop.proofs.Rooms.{rooms-less, sum-less, sum-one_more}
 
 or_other : (a b : Bool) → a ≡ false → (a || b) ≡ b
@@ -64,18 +64,6 @@ waits-less old new edges edge is inside waits =
 module _ {W : ℕ} (f : FlowGraph) (lines : ℕ) where
   abbrev pub at : Work W → ℕ → ℕ → Known
   at w line e = (so_far w).value line e
-
-  pub rises-refl : (w : Work W) → IsSized f lines w → Rises f lines w w
-  rises-refl w sized = record {
-    sized = sized;
-    decisions = refl;
-    grows = λ line e l k. at_most-refl (at w line e);
-    moved = λ line e l k. inr refl;
-    kept = λ line e h. h;
-    waiting = λ e h. h;
-    woken = λ line e h. inl h;
-    bounded = omega arith;
-  }
 
   pub rises-trans : (u v w : Work W) → Rises f lines u v → Rises f lines v w → Rises f lines u w
   rises-trans u v w a b = record {

@@ -4,14 +4,6 @@ use Rattle.std.proofs.lemmas.Bool.{cases_eq}
 use Rattle.dep_routing.specs.Numbers.{AreNumbersBelow}
 
 module _ (count : ℕ) (edge_of : ℕ → ℕ) where
-  pub AreNumbersBelow-none : (numbers : List ℕ) → length numbers ≡ count → ((k : ℕ) → get_or numbers k 0 ≡ 0) → AreNumbersBelow count 1 edge_of numbers
-  AreNumbersBelow-none numbers size blank = record {
-    size = size;
-    found = λ r some less. absurd (omega (arith, some, less));
-    some = λ e away. absurd (away (blank e));
-    right = λ e away. absurd (away (blank e));
-  }
-
   pub AreNumbersBelow-step : (k : ℕ) (numbers : List ℕ) → 0 < k → edge_of k < count → ((r : ℕ) → 0 < r → r < k → edge_of r ≢ edge_of k) → AreNumbersBelow count k edge_of numbers → AreNumbersBelow count (k + 1) edge_of (set numbers (edge_of k) k)
   AreNumbersBelow-step k numbers some edge apart n =
       let inside : edge_of k < length numbers = omega (arith, edge, n.size) in

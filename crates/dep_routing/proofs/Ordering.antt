@@ -24,17 +24,6 @@ pub record IsPlaced (t : Tree) (r k done : ℕ) (marks : List Bool) (order : Lis
   pub front : order' ≡ order ++ more
 
 module _ (t : Tree) where
-  pub IsOrdering-none : (marks : List Bool) → length marks ≡ length t.entries → ((k : ℕ) → is_marked marks k ≡ false) → IsOrdering t 1 0 marks []
-  IsOrdering-none marks size blank = record {
-    size = size;
-    marked = λ r. (λ h. absurd (false≢true (sym (blank r) ∙ h)), λ h. absurd h);
-    numbers = λ r h. absurd h;
-    behind = λ i q less number same. absurd (omega (arith, less));
-    within = omega arith;
-    lasts = λ r number less none. let some = number.0 in absurd (omega (arith, some, less));
-    steps = λ i q less number same. absurd (omega (arith, less));
-  }
-
   -- a region is put behind the order
   module _ (r k done : ℕ) (marks : List Bool) (order : List ℕ) (o : IsOrdering t k done marks order) (number : IsNumber t r) (behind : (q : ℕ) → IsNumber t q → entry_of t q ≡ exit_of t r → Holds order q) where
     placed_old : (marks' : List Bool) (order' : List ℕ) → is_marked marks r ≡ true → marks' ≡ marks → order' ≡ order → IsPlaced t r k done marks order marks' order'

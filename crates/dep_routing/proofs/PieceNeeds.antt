@@ -19,9 +19,6 @@ or_of_true true b is = refl
 or_of_true false b is = is
 
 module _ {X : Type 0} (P : X → Type 0) where
-  any-none : Any P [] → ⊥
-  any-none some = let lt = some.2 in omega (arith, lt)
-
   any-front : (xs : List X) (y : X) → Any P xs → Any P (xs ++ y ∷ [])
   any-front xs y some = (some.0, some.1, (let lt = some.2 in omega (arith, lt, length-append xs (y ∷ []))), get_or_append_left xs (y ∷ []) some.1 some.0 some.2 ∙ some.3, some.4)
 
@@ -41,9 +38,6 @@ module _ {X : Type 0} (P : X → Type 0) where
 abbrev pub NeedsSoFar : {W : ℕ} {X : Type 0} → (X → ℕ → Type 0) → List X → (i : ℕ) → ClassSet W → Type 0
 NeedsSoFar needs xs i set = (n : ℕ) → (holds set n ≡ true) ↔ Any (λ x. needs x n) (take i xs)
 
-pub needs-none : {W : ℕ} {X : Type 0} (needs : X → ℕ → Type 0) (xs : List X) (set : ClassSet W) → ((n : ℕ) → holds set n ≡ false) → NeedsSoFar needs xs 0 set
-needs-none needs xs set empty n = (λ (is : holds set n ≡ true). let e : false ≡ true = sym (empty n) ∙ is in absurd cc, λ some. absurd (any-none (λ x. needs x n) some))
-
 -- one item more, which needs what `more` holds
 pub needs-next : {W : ℕ} {X : Type 0} (needs : X → ℕ → Type 0) (xs : List X) (i : ℕ) (x : X) (set more new : ClassSet W) → i < length xs → x ≡ get_or xs i x → NeedsSoFar needs xs i set → ((n : ℕ) → (holds more n ≡ true) ↔ needs x n) → ((n : ℕ) → holds new n ≡ (holds set n || holds more n)) → NeedsSoFar needs xs (i + 1) new
 needs-next {W} {X} needs xs i x set more new lt at so_far one united n =
@@ -58,15 +52,6 @@ needs-next {W} {X} needs xs i x set more new lt at so_far one united n =
           (λ here. true_or (holds set n) (holds more n) ((so_far n).1 here))
           (λ here. or_of_true (holds set n) (holds more n) ((one n).1 here))
           (any-split P (take i xs) x (subst (λ (ys : List X). Any P ys) front some)),
-    )
-
--- one item more, which needs nothing
-pub needs-same : {W : ℕ} {X : Type 0} (needs : X → ℕ → Type 0) (xs : List X) (i : ℕ) (x : X) (set : ClassSet W) → i < length xs → x ≡ get_or xs i x → NeedsSoFar needs xs i set → ((n : ℕ) → needs x n → ⊥) → NeedsSoFar needs xs (i + 1) set
-needs-same {W} {X} needs xs i x set lt at so_far none n =
-    let P = λ (y : X). needs y n in
-    let front : take (i + 1) xs ≡ take i xs ++ x ∷ [] = take_more xs i x lt ∙ ap (λ (y : X). take i xs ++ y ∷ []) (sym at) in (
-      λ is. subst (λ (ys : List X). Any P ys) (sym front) (any-front P (take i xs) x ((so_far n).0 is)),
-      λ some. ⊎_elim (λ here. (so_far n).1 here) (λ here. absurd (none n here)) (any-split P (take i xs) x (subst (λ (ys : List X). Any P ys) front some)),
     )
 
 -- all items

@@ -28,9 +28,6 @@ Holds-taken (suc k) (x ∷ xs) e (inl same) = inl same
 Holds-taken (suc k) (x ∷ xs) e (inr h) = inr (Holds-taken k xs e h)
 
 module _ (g : Graph) (t : Tree) (f : TreeFacts g t) (touches : ℕ → ℕ → Bool) (line : ℕ) (order : List ℕ) where
-  pub IsLed-none : (next : ℕ → ℕ) → ((e : ℕ) → next e ≡ e) → IsLed g t touches line order 0 next
-  IsLed-none next same = record { rest = λ e none. same e; done = λ r h. absurd h }
-
   module _ (o : IsOrder t order) where
     -- an edge has its answer once the region that it enters has one
     answered : (k : ℕ) (next : ℕ → ℕ) → IsLed g t touches line order k next → (e : ℕ) → ((r : ℕ) → IsNumber t r → entry_of t r ≡ e → Holds (take k order) r) → Next g t touches line e (next e)

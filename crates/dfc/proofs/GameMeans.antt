@@ -36,11 +36,6 @@ ended_at Running is = absurd cc
 ended_at Ended is = refl
 ended_at (runs.Trapped trap line) is = absurd cc
 
-trap_in : (other : Trap × ℕ) → Stage → Trap × ℕ
-trap_in other Going = other
-trap_in other Done = other
-trap_in other (Failed trap) = trap
-
 trapped_at : (mark : Mark) (trap : Trap) (line : ℕ) → stage_of mark ≡ Failed (trap, line) → mark ≡ runs.Trapped trap line
 trapped_at Running trap line is = absurd cc
 trapped_at Ended trap line is = absurd cc

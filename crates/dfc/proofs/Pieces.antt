@@ -113,9 +113,6 @@ module _ {A : Type 0} (test : List ℕ → Bool) (value : List ℕ → A) (text 
         ∙ at_comma (part text begin k) (get_or text k d) (drop (k + 1) text) comma
         ∙ ap (λ begun. part text begin k ∷ pieces_behind begun (drop (k + 1) text)) (sym (none_yet text (k + 1)))
 
-    pub piece_good : k < length text → (get_or text k d == 44) ≡ true → test (part text begin k) ≡ true
-    piece_good lt comma = left_of (test (part text begin k)) (list_all test (pieces_behind (part text (k + 1) (k + 1)) (drop (k + 1) text))) (ap (list_all test) (sym (rest_after lt comma)) ∙ before.good)
-
     pub taken_more : k < length text → (get_or text k d == 44) ≡ true → AreTaken test value text (k + 1) (k + 1) (taken ++ value (part text begin k) ∷ [])
     taken_more lt comma = record {
       order = omega arith;

@@ -1,5 +1,5 @@
 -- No lines are touched by pieces that aren't there.
-use Rattle.std.proofs.Common.{◌≡◌, ℕ, zero, suc, ◌≤◌, Bool, false, List, [], ◌∷◌, length, refl, arith}
+use Rattle.std.proofs.Common.{◌≡◌, ℕ, zero, suc, ◌≤◌, false, List, [], ◌∷◌, length, refl, arith}
 use Rattle.class_set.specs.declared.ClassSet.{ClassSet}
 use Rattle.dep_routing.specs.Touch.{touches_in}
 

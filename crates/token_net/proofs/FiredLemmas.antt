@@ -1,21 +1,21 @@
 -- What firings answer, and whom they wake.
-use Rattle.std.proofs.Common.{◌≡◌, ◌≢◌, ◌<◌, ℕ, Bool, true, false, if◌then◌else◌, List, [], length, All, Option, Some, None, refl, sym, ap, ◌∙◌, subst}
+use Rattle.std.proofs.Common.{◌≡◌, ◌<◌, ℕ, Bool, true, false, if◌then◌else◌, List, length, All, None, sym, ap, ◌∙◌, subst}
 use Rattle.op_table.specs.declared.Trap.{Trap}
 use Rattle.f77_tree.specs.Execution.{Memory}
 use Rattle.cfg_build.specs.Passes.{Passed, Along, Traps, out}
 use Rattle.firing.specs.declared.system.Fired.{Fired}
 use Rattle.firing.specs.declared.system.Fired.TheVariants.{Moved, Line, Trapped}
 use Rattle.firing.specs.declared.system.NodeName.{NodeName}
-use Rattle.firing.specs.declared.system.NodeName.TheVariants.{Act, Merge, Switch, Op}
+use Rattle.firing.specs.declared.system.NodeName.TheVariants.{Act}
 use Rattle.firing.specs.Marks.{Wakes}
-use Rattle.firing.specs.Moves.{CanFire, FiredIs, IsSilent, newest}
+use Rattle.firing.specs.Moves.{CanFire, FiredIs, IsSilent}
 use Rattle.token_net.specs.Belonging.{CanCome}
 use Rattle.token_net.specs.Nodes.{NetOf, graph_in, nodes_of, node_at}
 use Rattle.token_net.specs.PieceRuns.{going_on}
 use Rattle.token_net.specs.Steering.{AnswersTrap}
-use Rattle.token_net.specs.Tokens.{Tokens, acted, stopped, gone, switched, fired_as, left_for, line_as, net_moves, pass_at, ready_as, text_of}
+use Rattle.token_net.specs.Tokens.{Tokens, acted, stopped, gone, fired_as, line_as, net_moves, pass_at, text_of}
 use Rattle.token_net.specs.Waking.{IsWoken}
-use Rattle.token_net.proofs.FiringLemmas.{acted_told, text_told, some_written}
+use Rattle.token_net.proofs.FiringLemmas.{acted_told}
 use Rattle.token_net.proofs.WakingLemmas.{wakes}
 
 -- ---- whom they wake
@@ -37,36 +37,9 @@ module _ (net : NetOf) (m : Tokens) (k : ℕ) (going : m.trap ≡ None) where
   silent_as : (name : NodeName) → node_at net k ≡ name → line_as net m name ≡ None → (fired_as net m k name).trap ≡ None → IsSilent (net_moves net) m k
   silent_as name is line trap = record { line = ap (line_as net m) is ∙ line; trap = ap (λ (n : NodeName). (fired_as net m k n).trap) is ∙ trap }
 
-  switch_goes : (line : ℕ) (left : Option ℕ) → (switched net m k line left).trap ≡ None
-  switch_goes line None = going
-  switch_goes line (Some edge) = going
-
-  pub switch_silent : (piece line : ℕ) → node_at net k ≡ Switch piece line → IsSilent (net_moves net) m k
-  switch_silent piece line is = silent_as (Switch piece line) is refl (switch_goes line (left_for m k))
-
-  pub merge_silent : (piece line : ℕ) → node_at net k ≡ Merge piece line → IsSilent (net_moves net) m k
-  merge_silent piece line is = silent_as (Merge piece line) is refl going
-
   module _ (piece : ℕ) (name : node_at net k ≡ Act piece) where
     goes : (edge : ℕ) (new : Memory) (text : List ℕ) → going_on (out (graph_in net) piece 0) m.memory (pass_at net piece m.memory) ≡ Along edge new text → (fired_as net m k (Act piece)).trap ≡ None
     goes edge new text is = ap (λ (t : Tokens). t.trap) (acted_told net piece m edge new text (pass_at net piece m.memory) is) ∙ going
-
-    pub moved_silent : (edge : ℕ) (new : Memory) → going_on (out (graph_in net) piece 0) m.memory (pass_at net piece m.memory) ≡ Along edge new [] → IsSilent (net_moves net) m k
-    moved_silent edge new is = silent_as (Act piece) name (text_told net piece m edge new [] (pass_at net piece m.memory) is) (goes edge new [] is)
-
-    pub moved_last : (edge : ℕ) (new : Memory) (old : List ℕ) → going_on (out (graph_in net) piece 0) m.memory (pass_at net piece m.memory) ≡ Along edge new [] → old ≡ newest (line_as net m (Act piece)) old
-    moved_last edge new old is = sym (ap (λ o. newest o old) (text_told net piece m edge new [] (pass_at net piece m.memory) is))
-
-    pub wrote_line : (edge : ℕ) (new : Memory) (text : List ℕ) → going_on (out (graph_in net) piece 0) m.memory (pass_at net piece m.memory) ≡ Along edge new text → text ≢ [] → FiredIs (net_moves net) m k Line
-    wrote_line edge new text is some =
-        let line : line_as net m (node_at net k) ≡ Some text = ap (line_as net m) name ∙ text_told net piece m edge new text (pass_at net piece m.memory) is ∙ some_written text some in
-        ((λ none. let clash : Some text ≡ None = sym line ∙ none in cc), ap (λ (n : NodeName). (fired_as net m k n).trap) name ∙ goes edge new text is)
-
-    pub wrote_last : (edge : ℕ) (new : Memory) (text old : List ℕ) → going_on (out (graph_in net) piece 0) m.memory (pass_at net piece m.memory) ≡ Along edge new text → text ≢ [] → text ≡ newest (line_as net m (Act piece)) old
-    wrote_last edge new text old is some = sym (ap (λ o. newest o old) (text_told net piece m edge new text (pass_at net piece m.memory) is ∙ some_written text some))
-
-    pub trapped_last : (trap : Trap) (old : List ℕ) → pass_at net piece m.memory ≡ Traps trap → old ≡ newest (line_as net m (Act piece)) old
-    trapped_last trap old is = sym (ap (λ p. newest (text_of p) old) is)
 
     trap_by : (trap : Trap) (b : Bool) → net.touches piece 0 ≡ b → acted net m piece (Traps trap) ≡ (if b then stopped net m piece trap else gone net m piece (out (graph_in net) piece 0) m.memory)
     trap_by trap b is = ap (λ (x : Bool). if x then stopped net m piece trap else gone net m piece (out (graph_in net) piece 0) m.memory) is
@@ -79,7 +52,3 @@ module _ (net : NetOf) (m : Tokens) (k : ℕ) (going : m.trap ≡ None) where
     trap_answered trap Trapped is stops =
         let there : (fired_as net m k (node_at net k)).trap ≡ (stopped net m piece trap).trap = ap (λ (n : NodeName). (fired_as net m k n).trap) name ∙ ap (λ (p : Passed). (acted net m piece p).trap) is ∙ ap (λ (t : Tokens). t.trap) (trap_by trap true stops) in
         (ap (line_as net m) name ∙ ap text_of is, λ none. let clash : (stopped net m piece trap).trap ≡ None = sym there ∙ none in cc)
-
--- what nothing names isn't ready
-pub op_unready : (net : NetOf) (m : Tokens) (k piece i : ℕ) → node_at net k ≡ Op piece i → ready_as net m k (node_at net k) ≡ true → ⊥
-op_unready net m k piece i name ready = let clash : false ≡ true = sym (ap (ready_as net m k) name) ∙ ready in cc

@@ -1,5 +1,5 @@
 -- Lists of edges, and what is read of them and written to them.
-use Rattle.std.proofs.Common.{◌≡◌, ◌<◌, ◌≤◌, ◌+◌, ◌-◌, ◌&&◌, ℕ, zero, suc, Bool, true, false, List, [], ◌∷◌, length, get_or, drop, Option, Some, None, slice_get, slice_set, All, drop-cons, refl, sym, ap, ◌∙◌, subst, inl, inr, ◌⊎◌, arith}
+use Rattle.std.proofs.Common.{◌≡◌, ◌<◌, ◌≤◌, ◌+◌, ◌-◌, ◌&&◌, ℕ, zero, suc, Bool, true, false, List, [], ◌∷◌, length, get_or, drop, Option, Some, None, slice_get, slice_set, All, refl, sym, ap, ◌∙◌, subst, inl, inr, ◌⊎◌, arith}
 use Rattle.std.specs.List.{list_all, range_with_len}
 use Rattle.closed_walks.specs.Graph.{Graph, edge_count}
 use Rattle.cfg_build.specs.Joined.{FlowGraph}
@@ -40,15 +40,6 @@ not_each_in_row test first end j low high fails = false_or (list_all test (range
 
 -- ---- writes
 
--- one place more of a list of places
-pub placed_next : (places : List ℕ) (xs ys goal : List (Option ℕ)) (value : ℕ → Option ℕ) (i : ℕ) → i < length places → ys ≡ slice_set xs (get_or places i 0) (value (get_or places i 0)) → with_all xs (drop i places) value ≡ goal → with_all ys (drop (i + 1) places) value ≡ goal
-placed_next places xs ys goal value i within is so =
-    let one : i + 1 ≡ suc i = omega arith in
-    ap (λ zs. with_all zs (drop (i + 1) places) value) is
-    ∙ ap (λ n. with_all (slice_set xs (get_or places i 0) (value (get_or places i 0))) (drop n places) value) one
-    ∙ ap (λ rest. with_all xs rest value) (sym (drop-cons places i 0 within))
-    ∙ so
-
 -- one number more of a row
 pub row_next : (xs ys goal : List (Option ℕ)) (value : ℕ → Option ℕ) (k end : ℕ) → k < end → ys ≡ slice_set xs k (value k) → with_all xs (range_with_len k (end - k)) value ≡ goal → with_all ys (range_with_len (k + 1) (end - (k + 1))) value ≡ goal
 row_next xs ys goal value k end within is so =
@@ -56,9 +47,6 @@ row_next xs ys goal value k end within is so =
     ap (λ zs. with_all zs (range_with_len (k + 1) (end - (k + 1))) value) is
     ∙ ap (λ n. with_all xs (range_with_len k n) value) (sym more)
     ∙ so
-
-pub row_ends : (xs : List (Option ℕ)) (value : ℕ → Option ℕ) (k end : ℕ) → end ≤ k → with_all xs (range_with_len k (end - k)) value ≡ xs
-row_ends xs value k end past = let none : end - k ≡ 0 = omega (arith, past) in ap (λ n. with_all xs (range_with_len k n) value) none
 
 drop_past : (places : List ℕ) (i : ℕ) → length places ≤ i → drop i places ≡ []
 drop_past [] zero past = refl

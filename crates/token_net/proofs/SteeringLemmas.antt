@@ -1,6 +1,6 @@
 -- Which node is due at a place of control, and where its firing leads.
-use Rattle.std.proofs.Common.{◌≡◌, ◌<◌, ◌≤◌, ◌+◌, ◌-◌, ◌==◌, ◌||◌, ◌⊎◌, inl, inr, ℕ, zero, suc, nat_lt, Bool, true, false, if◌then◌else◌, List, [], ◌∷◌, length, map, Some, None, slice_get, refl, sym, ap, ◌∙◌, subst, arith}
-use Rattle.std.proofs.lemmas.Bool.{cases_Bool, eqb-true, eq-eqb, lt-ltb, le-ltb}
+use Rattle.std.proofs.Common.{◌≡◌, ◌<◌, ◌≤◌, ◌+◌, ◌-◌, ◌==◌, ◌||◌, ◌⊎◌, inl, inr, ℕ, zero, suc, nat_lt, Bool, true, false, if◌then◌else◌, List, [], ◌∷◌, length, map, Some, slice_get, refl, sym, ap, ◌∙◌, subst, arith}
+use Rattle.std.proofs.lemmas.Bool.{cases_Bool, eqb-true, eq-eqb}
 use Rattle.f77_tree.specs.declared.programs.ExecKind.{ExecKind}
 use Rattle.f77_tree.specs.Execution.{Memory}
 use Rattle.cfg_build.specs.declared.pieces.PieceKind.{PieceKind}
@@ -40,16 +40,6 @@ nodes_within net piece below =
 
 -- ---- the node that is due
 
-pub due_some : (net : NetOf) (c : Control) (first count : ℕ) → count ≡ node_count net c.piece → c.fired < count → first ≡ first_node net c.piece → Some (first + c.fired) ≡ due_node net c
-due_some net c first count are below is =
-    let low : c.fired < node_count net c.piece = omega (arith, are, below) in
-    ap (λ n. Some (n + c.fired)) is ∙ ap (λ b. if b then Some (first_node net c.piece + c.fired) else None) (sym (lt-ltb c.fired (node_count net c.piece) low))
-
-pub due_none : (net : NetOf) (c : Control) (count : ℕ) → count ≡ node_count net c.piece → count ≤ c.fired → None ≡ due_node net c
-due_none net c count are past =
-    let high : node_count net c.piece ≤ c.fired = omega (arith, are, past) in
-    ap (λ b. if b then Some (first_node net c.piece + c.fired) else None) (sym (le-ltb c.fired (node_count net c.piece) high))
-
 -- ---- where it leads
 
 pub leaves_are : (net : NetOf) (m : Tokens) (c : Control) (edge leaves : ℕ) → leaves ≡ (if c.fired == 0 then edge else c.leaves) → (c.fired ≡ 0 → taken net m c ≡ edge) → leaves ≡ taken net m c
@@ -58,19 +48,6 @@ leaves_are net m c edge leaves is takes = by (cases_Bool (c.fired == 0))
     by : ((c.fired == 0) ≡ true) ⊎ ((c.fired == 0) ≡ false) → leaves ≡ taken net m c
     by (inl first) = is ∙ ap (λ b. if b then edge else c.leaves) first ∙ sym (takes (eqb-true c.fired 0 first))
     by (inr later) = is ∙ ap (λ b. if b then edge else c.leaves) later ∙ ap (λ b. if b then edge_or (out (graph_in net) c.piece 0) (pass_at net c.piece m.memory) else c.leaves) (sym later)
-
-pub leaves_exist : (bound fired edge other leaves : ℕ) → leaves ≡ (if fired == 0 then edge else other) → edge < bound → other < bound → leaves < bound
-leaves_exist bound fired edge other leaves is first second = by (fired == 0) is
-  where
-    by : (b : Bool) → leaves ≡ (if b then edge else other) → leaves < bound
-    by true so = omega (arith, so, first)
-    by false so = omega (arith, so, second)
-
-pub moved_if : (net : NetOf) (m : Tokens) (c : Control) (leaves fired : ℕ) → fired ≡ suc c.fired → leaves ≡ taken net m c → (nat_lt (suc c.fired) (node_count net c.piece) || is_end (kind_in net c.piece)) ≡ true → (record { piece = c.piece; fired = fired; leaves = leaves }) ≡ moved_on net m c
-moved_if net m c leaves fired one are stays =
-    ap (λ n. record { piece = c.piece; fired = n; leaves = leaves }) one
-    ∙ ap (λ e. record { piece = c.piece; fired = suc c.fired; leaves = e }) are
-    ∙ ap (λ (b : Bool). if b then record { piece = c.piece; fired = suc c.fired; leaves = taken net m c } else arrived net (taken net m c)) (sym stays)
 
 pub moved_unless : (net : NetOf) (m : Tokens) (c : Control) (leaves piece : ℕ) → leaves ≡ taken net m c → piece ≡ Rattle.token_net.specs.NetOrder.arrival net leaves → (nat_lt (suc c.fired) (node_count net c.piece) || is_end (kind_in net c.piece)) ≡ false → (record { piece = piece; fired = 0; leaves = 0 }) ≡ moved_on net m c
 moved_unless net m c leaves piece are comes goes =

@@ -181,7 +181,3 @@ module _ (ground : Ground) (net : NetOf) (is : IsNet net) (m : Tokens) (k : ℕ)
 -- such a list wakes the nodes that the firing can have made ready
 pub wakes : (net : NetOf) (m : Tokens) (k : ℕ) (woken : List ℕ) → CanCome net m → CanFire (net_moves net) m k → IsWoken net (fired_as net m k (node_at net k)) (node_at net k) woken → Wakes (net_moves net) m k woken
 wakes net m k woken comes can are = wakes_by comes.ground net comes.is_net m k (record { is_sound = comes; node = can.node; ready = can.ready }) woken are
-
--- after a trap none has to be
-pub wakes_none : (net : NetOf) (m : Tokens) (k : ℕ) → ((fired_as net m k (node_at net k)).trap ≡ None → ⊥) → Wakes (net_moves net) m k []
-wakes_none net m k trapped = record { are_nodes = λ i d within. absurd (omega (arith, within)); all = λ none j below differ not_ready is_ready. absurd (trapped none) }

@@ -135,9 +135,6 @@ module _ (net : NetOf) where
   pub is_touched : (piece line : ℕ) → line < net.routing.lines → net.touches piece line ≡ true → Member (touched net piece) line
   is_touched piece line below is = Member-filter (net.touches piece) (all_lines net) line (Member-range 0 net.routing.lines line (omega arith) (omega (arith, below))) is
 
-  passing_test : (piece line : ℕ) → Bool
-  passing_test piece line = is_free net piece line && not (net.touches piece line)
-
   switch_fits : (piece : ℕ) (k : PieceKind) (name : NodeName) → is_acting k ≡ true → Member (Act piece ∷ map (Switch piece) (passing net piece)) name → Fits net piece k name
   switch_fits piece k name acts (inl e) = subst (λ n. Fits net piece k n) e (refl, acts)
   switch_fits piece k name acts (inr m) =

@@ -18,7 +18,6 @@ use Rattle.f77_tree.specs.Touched.{MayRead}
 use Rattle.f77_tree.specs.Value.{value, place, place_of, and_then}
 use Rattle.alias_classes.specs.Classes.{ClassTable, IsClasses, class_of_word, class_of_loop}
 use Rattle.alias_classes.specs.Frame.{AgreeOnClasses, KeepsOtherClasses}
-use Rattle.alias_classes.specs.Needs.{ExecNeeds}
 use Rattle.cfg_build.specs.declared.pieces.PieceKind.{PieceKind}
 use Rattle.cfg_build.specs.declared.pieces.PieceKind.TheVariants as kind
 use Rattle.cfg_build.specs.Passes.{Passed, Along, Traps, Done, IfAlong, acted, branched, choice, pass_of}
@@ -129,9 +128,6 @@ module _ (ground : Ground) (p : Program) (input : List ℤ) (c : ClassTable) (ow
   -- ---- acts
 
   module _ (e : ExecKind) (can : CanExecute p e) (is : IsTouching c touches kind.Act e) where
-    need_word : (word : ℕ) → ExecNeeds c e (class_of_word c word) → touches (class_of_word c word) ≡ true
-    need_word word need = is.needs (class_of_word c word) need
-
     agree_classes : (m n : Memory) → AgreeOn c touches m n → AgreeOnClasses c e m n
     agree_classes m n agree = record {
       store = λ word need. ap (λ o. Rattle.std.specs.Prelude.unwrap_or o (pos 0)) (agree.store word (is.needs (class_of_word c word) need));
