@@ -71,29 +71,6 @@ module _ (g : Graph) (node : ℕ) where
   edges-outs = touching-outs (edge_count g)
 
 module _ (touches : ℕ → ℕ → Bool) (node : ℕ) where
-  -- one line more, which is touched
-  pub touched-more : (k : ℕ) (row : List ℕ) → touches node k ≡ true → IsTouchedRow touches k node row → IsTouchedRow touches (k + 1) node (row ++ k ∷ [])
-  touched-more k row is before line = (
-    λ h. ⊎_elim
-        (λ (h : Holds row line). let old = (before line).0 h in let l : line < k = old.0 in (omega arith, old.1))
-        (λ (h : Holds (k ∷ []) line). ⊎_elim (λ (same : k ≡ line). (omega arith, subst (λ n. touches node n ≡ true) same is)) (λ no. absurd no) h)
-        (Holds-append row (k ∷ []) line h),
-    λ h. let l : line < k + 1 = h.0 in ⊎_elim
-        (λ (l : line < k). Holds-left row (k ∷ []) line ((before line).1 (l, h.1)))
-        (λ (past : k ≤ line). Holds-right row (k ∷ []) line (inl (omega arith)))
-        (cases_lt line k),
-  )
-
-  -- one line more, which isn't
-  pub touched-skip : (k : ℕ) (row : List ℕ) → touches node k ≡ false → IsTouchedRow touches k node row → IsTouchedRow touches (k + 1) node row
-  touched-skip k row is_not before line = (
-    λ h. let old = (before line).0 h in let l : line < k = old.0 in (omega arith, old.1),
-    λ h. let l : line < k + 1 = h.0 in ⊎_elim
-        (λ (l : line < k). (before line).1 (l, h.1))
-        (λ (past : k ≤ line). let same : line ≡ k = omega arith in let no : true ≡ false = sym h.1 ∙ ap (touches node) same ∙ is_not in absurd cc)
-        (cases_lt line k),
-  )
-
 first-or-rest : (test : ℕ → Bool) (x : ℕ) (xs : List ℕ) → test x ≡ true → ((i : ℕ) → i < length (filter test xs) → (test (get_or (filter test xs) i 0) ≡ true) × Holds xs (get_or (filter test xs) i 0)) → (i : ℕ) → i < length (x ∷ filter test xs) → (test (get_or (x ∷ filter test xs) i 0) ≡ true) × Holds (x ∷ xs) (get_or (x ∷ filter test xs) i 0)
 first-or-rest test x xs is rest zero l = (is, inl refl)
 first-or-rest test x xs is rest (suc i) l = let h = rest i (omega arith) in (h.0, inr h.1)

@@ -177,10 +177,6 @@ module _ (p : Program) (inside : ℕ → Bool) (place : IsPlace p inside) where
   bars k e = not (inside (to (flow p.execs).graph e)) || any_below (suc k) (λ j. increments p j (from (flow p.execs).graph e))
 
   module _ (k v : ℕ) (fresh : (n : ℕ) → k < n → n < p.loops → IsInBody p.execs n v → ⊥) (here : inside v ≡ true) where
-    -- the node, or a join that leads to y alone
-    abbrev Lands : (node y : ℕ) → Type 0
-    Lands node y = (node ≡ y) ⊎ ((piece_kind p node ≡ piece.Join) × ((e : ℕ) → IsPlain (flow p.execs) e → from (flow p.execs).graph e ≡ node → to (flow p.execs).graph e ≡ y))
-
     -- without increments one comes where one came with them
     pub record IsCome (node : ℕ) : Type 0 where
       pub y : ℕ

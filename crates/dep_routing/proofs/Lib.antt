@@ -11,6 +11,7 @@ pub mod LeavingRuns
 pub mod Moving
 pub mod Hopping
 pub mod Noises
+pub mod Listing
 pub mod Numbering
 pub mod Ordering
 pub mod PieceNeeds

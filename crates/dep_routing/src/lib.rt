@@ -17,6 +17,7 @@ mod order;
 mod routing;
 mod rows;
 mod touch_laws;
+mod touched;
 mod touching;
 
 use class_set::ClassSet;
@@ -31,6 +32,7 @@ pub use routing::route;
 pub use touch_laws::{
     pieces_touch_lines, touches_are_sound, touches_follow_needs, traps_touch_output,
 };
+pub use touched::touched_lines;
 pub use touching::touches;
 
 /// For each node the set of the lines that it touches.

@@ -1,5 +1,5 @@
 -- What firings of pieces do to markings.
-use Rattle.std.proofs.Common.{◌≡◌, ◌<◌, ℕ, List, [], ◌∷◌, Some, refl, sym, ap, ◌∙◌, subst}
+use Rattle.std.proofs.Common.{◌≡◌, ◌<◌, ℕ, List, sym, ap, ◌∙◌, subst}
 use Rattle.op_table.specs.declared.Trap.{Trap}
 use Rattle.closed_walks.specs.Graph.{edge_count}
 use Rattle.f77_tree.specs.Execution.{Memory}
@@ -9,7 +9,7 @@ use Rattle.token_net.specs.NetOrder.{edge_or}
 use Rattle.token_net.specs.Nodes.{NetOf, graph_in}
 use Rattle.token_net.specs.PassLaws.{IsOut, pass_out}
 use Rattle.token_net.specs.PieceRuns.{going_on}
-use Rattle.token_net.specs.Tokens.{Tokens, acted, gone, pass_at, text_of, written}
+use Rattle.token_net.specs.Tokens.{Tokens, acted, gone, pass_at}
 use Rattle.token_net.proofs.TableLemmas.{out_exists}
 
 module _ (net : NetOf) (piece : ℕ) (m : Tokens) where
@@ -29,11 +29,6 @@ module _ (net : NetOf) (piece : ℕ) (m : Tokens) where
         let same : out (graph_in net) piece 0 ≡ edge = cc in
         let now : m.memory ≡ new = cc in
         ap (λ x. gone net m piece x m.memory) same ∙ ap (gone net m piece edge) now
-
-    pub text_told : (pass : Passed) → going_on (out (graph_in net) piece 0) m.memory pass ≡ Along edge new text → text_of pass ≡ written text
-    text_told (Along e n t) is = let same : t ≡ text = cc in ap written same
-    text_told (Traps trap) is = absurd cc
-    text_told Done is = let same : [] ≡ text = cc in ap written same
 
     pub edge_told : (pass : Passed) → going_on (out (graph_in net) piece 0) m.memory pass ≡ Along edge new text → edge_or (out (graph_in net) piece 0) pass ≡ edge
     edge_told (Along e n t) is = let same : e ≡ edge = cc in same
@@ -58,8 +53,3 @@ module _ (net : NetOf) (piece : ℕ) (m : Tokens) where
   trap_told trap (Along e n t) is = absurd cc
   trap_told trap (Traps other) is = is
   trap_told trap Done is = absurd cc
-
--- a line with a byte is a line
-pub some_written : (text : List ℕ) → (text ≡ [] → ⊥) → written text ≡ Some text
-some_written [] some = absurd (some refl)
-some_written (byte ∷ more) some = refl

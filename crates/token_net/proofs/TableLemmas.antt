@@ -4,7 +4,7 @@ use Rattle.std.specs.List.{range_with_len}
 use Rattle.std.proofs.lemmas.Bool.{cases_lt, eq-eqb, ne_eqb}
 use Rattle.std.proofs.lemmas.List.{get_or_past}
 use Rattle.std.proofs.lemmas.List.Elements.{filter-append}
-use Rattle.std.proofs.lemmas.List.FromFn.{length-range_with_len, map-range_with_len_more, length-map-range_with_len, get_or-map-range_with_len}
+use Rattle.std.proofs.lemmas.List.FromFn.{map-range_with_len_more, length-map-range_with_len, get_or-map-range_with_len}
 use Rattle.class_set.specs.ClassSet.{holds}
 use Rattle.class_set.specs.declared.ClassSet.{ClassSet}
 use Rattle.closed_walks.specs.Graph.{Graph, edge_count, from, to, touches, touching_below, edges_at}
@@ -153,13 +153,6 @@ short_filter test (x ∷ xs) = by (test x) (short_filter test xs)
     by : (b : Bool) → length (filter test xs) ≤ length xs → length (cond b (x ∷ filter test xs) (filter test xs)) ≤ suc (length xs)
     by true r = omega (arith, r)
     by false r = omega (arith, r)
-
-pub short_below : (test : ℕ → Bool) (n m : ℕ) (list : List ℕ) → list ≡ filter test (range_with_len 0 n) → n < m → length list < m
-short_below test n m list are less =
-    let s = short_filter test (range_with_len 0 n) in
-    let r = length-range_with_len 0 n in
-    let e = ap length are in
-    omega (arith, s, r, e, less)
 
 pub short_taken : (test : ℕ → Bool) (items list : List ℕ) (i : ℕ) → list ≡ filter test (take i items) → i < length items → length items < 2 ^ 31 → length list < 4294967295
 short_taken test items list i are within few =

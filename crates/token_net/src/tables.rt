@@ -17,6 +17,7 @@ use crate::plan::Plan;
 use cfg_build::PieceKind;
 use class_set::ClassSet;
 use closed_walks::Digraph;
+use dep_routing::touched_lines;
 use df_sequence::{LabelList, NoMemory};
 use firing::NodeName;
 use std::alloc::Global;
@@ -189,22 +190,9 @@ fn all_touched<const W: usize>(alloc: Global, plan: &Plan<W>) -> Result<Vec<Labe
 {
     let mut all = Vec::with_capacity(alloc, plan.flow.pieces() as usize)?;
     for piece in 0..plan.flow.pieces() {
-        all.push(touched(alloc, plan, piece)?)?;
+        all.push(touched_lines(alloc, plan.touch, piece, plan.routes.lines())?)?;
     }
     Ok(all)
-}
-
-fn touched<const W: usize>(alloc: Global, plan: &Plan<W>, piece: u32) -> Result<LabelList, NoMemory>
-    requires { piece < (graph_in (net_in plan.now)).nodes }
-    ensures { IfOk result (λ lines. lines ≡ touched (net_in plan.now) piece) }
-{
-    let mut list = LabelList::new(alloc);
-    for line in 0..plan.routes.lines() {
-        if touches(plan, piece, line) {
-            list.push(line)?;
-        }
-    }
-    Ok(list)
 }
 
 /// For each piece the edges that leave it.
