@@ -1,6 +1,6 @@
 -- Rows of numbers, and what they hold.
-use Rattle.std.proofs.Common.{◌≡◌, ℕ, zero, suc, ◌+◌, ◌<◌, ◌≤◌, ◌⊎◌, Bool, true, false, ◌==◌, ◌||◌, List, [], ◌∷◌, ◌++◌, length, get_or, filter, Some, slice_get, refl, sym, ap, ◌∙◌, inl, inr, ⊎_elim, subst, arith, append-nil}
-use Rattle.std.proofs.lemmas.Bool.{cases_lt, cases_Bool, eqb-true}
+use Rattle.std.proofs.Common.{◌≡◌, ℕ, zero, suc, ◌+◌, ◌<◌, ◌≤◌, ◌⊎◌, Bool, true, false, ◌==◌, ◌||◌, List, [], ◌∷◌, ◌++◌, length, get_or, filter, Some, slice_get, refl, sym, ap, ◌∙◌, inl, inr, ⊎_elim, arith, append-nil}
+use Rattle.std.proofs.lemmas.Bool.{cases_Bool, eqb-true}
 use Rattle.std.proofs.lemmas.List.Elements.{filter-append}
 use Rattle.std.specs.List.{range_with_len}
 use Rattle.class_set.specs.ClassSet.{holds}
@@ -9,7 +9,6 @@ use Rattle.closed_walks.specs.Graph.{Graph, edge_count, from, to, touches, touch
 use Rattle.closed_walks.specs.Walk.{Holds}
 use Rattle.cfg_build.specs.Passes.{outs}
 use Rattle.dep_routing.specs.Touch.{touches_in}
-use Rattle.const_prop.specs.Setting.{IsTouchedRow}
 
 pub touches-at : {W : ℕ} (sets : List (ClassSet W)) (node line : ℕ) (s : ClassSet W) → slice_get sets node ≡ Some s → touches_in sets node line ≡ holds s line
 touches-at [] node line s is = absurd cc
@@ -70,7 +69,6 @@ module _ (g : Graph) (node : ℕ) where
   unfolding edges_at
   edges-outs = touching-outs (edge_count g)
 
-module _ (touches : ℕ → ℕ → Bool) (node : ℕ) where
 first-or-rest : (test : ℕ → Bool) (x : ℕ) (xs : List ℕ) → test x ≡ true → ((i : ℕ) → i < length (filter test xs) → (test (get_or (filter test xs) i 0) ≡ true) × Holds xs (get_or (filter test xs) i 0)) → (i : ℕ) → i < length (x ∷ filter test xs) → (test (get_or (x ∷ filter test xs) i 0) ≡ true) × Holds (x ∷ xs) (get_or (x ∷ filter test xs) i 0)
 first-or-rest test x xs is rest zero l = (is, inl refl)
 first-or-rest test x xs is rest (suc i) l = let h = rest i (omega arith) in (h.0, inr h.1)
