@@ -1,12 +1,12 @@
 -- Which node each line goes through, line by line.
-use Rattle.std.proofs.Common.{◌≡◌, ◌<◌, ◌≤◌, ◌+◌, ◌-◌, ◌&&◌, ◌⊎◌, inl, inr, ℕ, zero, suc, Bool, true, false, not, if◌then◌else◌, [], ◌∷◌, length, filter, map, length-append, refl, sym, ap, ◌∙◌, subst, arith}
+use Rattle.std.proofs.Common.{◌≡◌, ◌<◌, ◌≤◌, ◌+◌, ◌-◌, ◌&&◌, ℕ, zero, suc, Bool, true, false, not, if◌then◌else◌, List, [], ◌∷◌, get_or, length, filter, map, length-append, refl, sym, ap, ◌∙◌, subst, arith}
 use Rattle.std.specs.List.{range_with_len}
 use Rattle.cfg_build.specs.declared.pieces.PieceKind.{PieceKind}
 use Rattle.cfg_build.specs.declared.pieces.PieceKind.TheVariants as kind
 use Rattle.token_net.specs.Nodes.{NetOf, graph_in, kind_in, all_lines, is_free, led_to, passing, nodes_by, node_count, first_node}
-use Rattle.token_net.specs.Waking.{kept_by, kept_places, merge_number, no_node, passing_below, place_by, places, switch_number}
+use Rattle.token_net.specs.Waking.{kept_by, kept_places, merge_number, no_node, passing_below, place_by, place_of, places, switch_number}
 use Rattle.token_net.proofs.SteeringLemmas.{nodes_within}
-use Rattle.token_net.proofs.TableLemmas.{filter_next}
+use Rattle.token_net.proofs.TableLemmas.{filter_next, mapped_at, mapped_length}
 
 -- ---- counts
 
@@ -79,15 +79,50 @@ module _ (net : NetOf) (piece : ℕ) where
   pub row_kept : (k : PieceKind) → kind_in net piece ≡ k → kept_by net piece k ≡ places net piece → kept_places net piece ≡ places net piece
   row_kept k is kept = ap (kept_by net piece) is ∙ kept
 
-  -- a piece that can have switches or merges has its row
-  pub keeps_row : (k : PieceKind) → (k ≡ kind.Branch) ⊎ ((k ≡ kind.Hold) ⊎ ((k ≡ kind.Join) ⊎ (k ≡ kind.End))) → kept_by net piece k ≡ places net piece
-  keeps_row k (inl e) = ap (kept_by net piece) e
-  keeps_row k (inr (inl e)) = ap (kept_by net piece) e
-  keeps_row k (inr (inr (inl e))) = ap (kept_by net piece) e
-  keeps_row k (inr (inr (inr e))) = ap (kept_by net piece) e
-
   pub kept_as : (k : PieceKind) → kind_in net piece ≡ k → kept_by net piece k ≡ places net piece → map (λ (line : ℕ). place_by net piece line k) (all_lines net) ≡ kept_places net piece
   kept_as k is kept = sym (row_kept k is kept ∙ ap (λ (x : PieceKind). map (λ (line : ℕ). place_by net piece line x) (all_lines net)) is)
+
+  -- a cell of the row that is kept is the place of the line
+  pub kept_cell : (row : List ℕ) (line : ℕ) → row ≡ kept_places net piece → line < length row → get_or row line 0 ≡ place_of net piece line
+  kept_cell row line is low = by (kind_in net piece) refl
+    where
+      whole : kept_places net piece ≡ places net piece → get_or row line 0 ≡ place_of net piece line
+      whole same = let long = mapped_length (place_of net piece) row net.routing.lines (is ∙ same) in mapped_at (place_of net piece) row net.routing.lines line 0 (is ∙ same) (omega (arith, long, low))
+
+      none : kept_places net piece ≡ [] → get_or row line 0 ≡ place_of net piece line
+      none empty = let short = ap length (is ∙ empty) in absurd (omega (arith, short, low))
+
+      by : (k : PieceKind) → kind_in net piece ≡ k → get_or row line 0 ≡ place_of net piece line
+      by kind.Start e = none (ap (kept_by net piece) e)
+      by kind.Act e = none (ap (kept_by net piece) e)
+      by kind.Pass e = none (ap (kept_by net piece) e)
+      by kind.Branch e = whole (ap (kept_by net piece) e)
+      by kind.Join e = whole (ap (kept_by net piece) e)
+      by kind.Hold e = whole (ap (kept_by net piece) e)
+      by kind.End e = whole (ap (kept_by net piece) e)
+
+  -- where no cell is kept, a line goes through the first node, or through none
+  pub kept_first : (row : List ℕ) (line : ℕ) → row ≡ kept_places net piece → length row ≤ line → line < net.routing.lines → place_of net piece line < no_node net → first_node net piece ≡ place_of net piece line
+  kept_first row line is past low node = by (kind_in net piece) refl
+    where
+      whole : kept_places net piece ≡ places net piece → first_node net piece ≡ place_of net piece line
+      whole same = let long = mapped_length (place_of net piece) row net.routing.lines (is ∙ same) in absurd (omega (arith, long, past, low))
+
+      none : place_of net piece line ≡ no_node net → first_node net piece ≡ place_of net piece line
+      none lost = absurd (omega (arith, node, lost))
+
+      act : (touched : Bool) → place_of net piece line ≡ (if touched then first_node net piece else no_node net) → first_node net piece ≡ place_of net piece line
+      act true e = sym e
+      act false e = none e
+
+      by : (k : PieceKind) → kind_in net piece ≡ k → first_node net piece ≡ place_of net piece line
+      by kind.Start e = none (ap (place_by net piece line) e)
+      by kind.Act e = act (net.touches piece line) (ap (place_by net piece line) e)
+      by kind.Pass e = none (ap (place_by net piece line) e)
+      by kind.Branch e = whole (ap (kept_by net piece) e)
+      by kind.Join e = whole (ap (kept_by net piece) e)
+      by kind.Hold e = whole (ap (kept_by net piece) e)
+      by kind.End e = whole (ap (kept_by net piece) e)
 
   -- ---- room
 

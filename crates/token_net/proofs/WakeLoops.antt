@@ -9,15 +9,15 @@ use Rattle.token_net.specs.Standing.{edge_at}
 use Rattle.token_net.specs.Waking.{HasNext, Keeps, no_node, place_of}
 
 module _ (net : NetOf) where
-  pub next_has : (woken : List ℕ) (line edge piece k : ℕ) (o : Option ℕ) → o ≡ Some edge → piece ≡ to (graph_in net) edge → k ≡ place_of net piece line → Contains woken k → HasNext net woken line o
-  next_has woken line edge piece k o stands comes is has =
-      let at : k ≡ place_of net (to (graph_in net) edge) line = is ∙ ap (λ p. place_of net p line) comes in
-      subst (HasNext net woken line) (sym stands) (λ node. subst (Contains woken) at has)
+  module _ (woken : List ℕ) (line edge piece k : ℕ) (o : Option ℕ) (stands : o ≡ Some edge) (comes : piece ≡ to (graph_in net) edge) (is : place_of net piece line < no_node net → k ≡ place_of net piece line) where
+    at : place_of net (to (graph_in net) edge) line < no_node net → k ≡ place_of net (to (graph_in net) edge) line
+    at = subst (λ p. place_of net p line < no_node net → k ≡ place_of net p line) comes is
 
-  pub next_past : (woken : List ℕ) (line edge piece k : ℕ) (o : Option ℕ) → o ≡ Some edge → piece ≡ to (graph_in net) edge → k ≡ place_of net piece line → no_node net ≤ k → HasNext net woken line o
-  next_past woken line edge piece k o stands comes is past =
-      let at : k ≡ place_of net (to (graph_in net) edge) line = is ∙ ap (λ p. place_of net p line) comes in
-      subst (HasNext net woken line) (sym stands) (λ node. absurd (omega (arith, node, past, at)))
+    pub next_has : Contains woken k → HasNext net woken line o
+    next_has has = subst (HasNext net woken line) (sym stands) (λ node. subst (Contains woken) (at node) has)
+
+    pub next_past : no_node net ≤ k → HasNext net woken line o
+    next_past past = subst (HasNext net woken line) (sym stands) (λ node. let same = at node in absurd (omega (arith, node, past, same)))
 
   pub next_lost : (woken : List ℕ) (line : ℕ) (o : Option ℕ) → o ≡ None → HasNext net woken line o
   next_lost woken line o lost = subst (HasNext net woken line) (sym lost) tt

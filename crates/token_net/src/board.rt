@@ -13,12 +13,11 @@ ghost use Rattle.token_net.specs.Nodes.{graph_in, first_node, node_at, node_coun
 ghost use Rattle.token_net.specs.PieceRuns.{HasLine, KeepsStorage, going_on, told};
 ghost use Rattle.token_net.specs.PlanView.{net_in};
 ghost use Rattle.token_net.specs.Tokens.{pass_at};
-ghost use Rattle.token_net.specs.Waking.{place_by, place_of};
+ghost use Rattle.token_net.specs.Waking.{no_node, place_of};
 
 use crate::pieces_run::{Ran, run};
 use crate::plan::Plan;
-use crate::tables::{Tables, out_at, touches};
-use cfg_build::PieceKind;
+use crate::tables::{Tables, out_at};
 use closed_walks::Digraph;
 use df_sequence::LabelList;
 use f77_meaning::Storage;
@@ -112,30 +111,17 @@ impl<'a, const W: usize> Board<'a, W> {
         self.tables.arrivals[edge as usize]
     }
 
-    /// The node of a piece that a line goes through, or the number of all nodes.
+    /// The node of a piece that a line goes through, if there is one. Else it is some number.
     pub(crate) fn place(&self, piece: u32, line: u32) -> u32
         requires piece { piece < (graph_in (net_on self.now)).nodes }
         requires line { line < self.now.plan.routes.now.lines }
-        ensures { result ≡ place_of (net_on self.now) piece line }
+        ensures { place_of (net_on self.now) piece line < no_node (net_on self.now) → result ≡ place_of (net_on self.now) piece line }
     {
-        match self.plan.flow.piece(piece).kind {
-            PieceKind::Act => self.place_at_act(piece, line),
-            PieceKind::Branch | PieceKind::Hold | PieceKind::Join | PieceKind::End => {
-                self.tables.places[piece as usize].as_slice()[line as usize]
-            }
-            PieceKind::Start | PieceKind::Pass => self.nodes(),
-        }
-    }
-
-    /// The first node of a piece where the piece touches the line, or the number of all nodes.
-    fn place_at_act(&self, piece: u32, line: u32) -> u32
-        requires { piece < (graph_in (net_on self.now)).nodes }
-        ensures { result ≡ place_by (net_on self.now) piece line PieceKind.Act }
-    {
-        if touches(&self.plan, piece, line) {
-            self.first(piece)
+        let row = self.tables.places[piece as usize].as_slice();
+        if (line as usize) < row.len() {
+            row[line as usize]
         } else {
-            self.nodes()
+            self.first(piece)
         }
     }
 }
