@@ -3,7 +3,7 @@
 
     python3 bench/lines.py LISTING OTHER [--count N] [--seed S]
 
-LISTING is the program of crates/line_listing, run as `LISTING < text`; OTHER is another compiler of the language, run as
+LISTING is the program of crates/dump_lines, run as `LISTING < text`; OTHER is another compiler of the language, run as
 `OTHER graph < text`. A text is a program written at random: declarations with EQUIVALENCE and COMMON over arrays, subscripts that
 are known, out of bounds, or read, and jumps, loops and blocks as in `regions.py`. Compared are
 

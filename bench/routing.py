@@ -3,7 +3,7 @@
 
     python3 bench/routing.py LISTING [FILE ..]
 
-LISTING is the program of crates/line_listing. It is run three times on each program, and of each part the best time is printed, in
+LISTING is the program of crates/dump_lines. It is run three times on each program, and of each part the best time is printed, in
 microseconds, with how many lines and edges there are. The programs are those of the files, and
 
 - jumps: 4,000 statements, each with as many edges as it may have, and as many classes as a program may have; the jumps lead anywhere,

@@ -3,7 +3,7 @@
 
     python3 bench/traces.py LISTING FOLDER
 
-LISTING is the program of crates/line_listing, run as `LISTING nodes limit picks data < text`, where `-` stands for no picks.
+LISTING is the program of crates/dump_lines, run as `LISTING nodes limit picks data < text`, where `-` stands for no picks.
 FOLDER has cases: a text NAME, and beside it NAME.args, a word a line (`limit=N`, `picks=a,b`, `data=a,b`), and NAME.stdout, the
 trace: a line for each node that fires, of its number and its name, and how it ended. Prints each case that differs, and last
 `N passed, M failed`. The exit status is 1 where any fails.

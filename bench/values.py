@@ -3,7 +3,7 @@
 
     python3 bench/values.py LISTING OTHER [--count N] [--seed S]
 
-LISTING is the program of crates/line_listing, run as `LISTING values < text`; OTHER is another compiler of the language, run as
+LISTING is the program of crates/dump_lines, run as `LISTING values < text`; OTHER is another compiler of the language, run as
 `OTHER regen < text`, which writes the program anew: without the statements that control never comes to by the decisions that are known,
 with each known value in its place, and with a temporary in place of each expression that is available at a piece that computes it. A text
 is a program written at random, with jumps, loops and blocks as in `regions.py`, and one of two kinds:

@@ -17,7 +17,7 @@ use Rattle.alias_classes.specs.Classes.{ClassTable}
 use Rattle.alias_classes.specs.Constant.{is_constant, is_constant_row}
 use Rattle.alias_classes.specs.Needs.{ExprNeeds, SomeNeeds, HitsName, Needs}
 
--- the row behind a list of operands or subscripts
+-- the row after a list of operands or subscripts
 abbrev pub row_of : Expr → (n : Count) × Row_of-Expr n
 row_of (Read' _ _ row) = (_, row)
 row_of (Apply' _ _ row) = (_, row)
@@ -143,8 +143,8 @@ or_of_true : (a b : Bool) → b ≡ true → (a || b) ≡ true
 or_of_true true b is = refl
 or_of_true false b is = is
 
-any-front : {X : Type 0} (P : X → Type 0) (xs : List X) (y : X) → Any P xs → Any P (xs ++ y ∷ [])
-any-front P xs y some = (some.0, some.1, (let lt = some.2 in omega (arith, lt, length-append xs (y ∷ []))), get_or_append_left xs (y ∷ []) some.1 some.0 some.2 ∙ some.3, some.4)
+any-prefix : {X : Type 0} (P : X → Type 0) (xs : List X) (y : X) → Any P xs → Any P (xs ++ y ∷ [])
+any-prefix P xs y some = (some.0, some.1, (let lt = some.2 in omega (arith, lt, length-append xs (y ∷ []))), get_or_append_left xs (y ∷ []) some.1 some.0 some.2 ∙ some.3, some.4)
 
 any-last : {X : Type 0} (P : X → Type 0) (xs : List X) (y : X) → P y → Any P (xs ++ y ∷ [])
 any-last P xs y p = (length xs, y, omega (arith, length-append xs (y ∷ [])), get_or_push xs y y (length xs) refl, p)
@@ -161,22 +161,22 @@ any-split P xs y some = ⊎_elim
 -- one expression more
 pub needs-next : {W : ℕ} (t : ClassTable) (es : List Expr) (i : ℕ) (e : Expr) (set more new : ClassSet W) → i < length es → e ≡ get_or es i e → NeedsSoFar t es i set → ((n : ℕ) → (holds more n ≡ true) ↔ ExprNeeds t e n) → ((n : ℕ) → holds new n ≡ (holds set n || holds more n)) → NeedsSoFar t es (i + 1) new
 needs-next t es i e set more new lt at so_far needs united =
-    let front : take (i + 1) es ≡ take i es ++ e ∷ [] = take_more es i e lt ∙ ap (λ (x : Expr). take i es ++ x ∷ []) (sym at) in
+    let prefix : take (i + 1) es ≡ take i es ++ e ∷ [] = take_more es i e lt ∙ ap (λ (x : Expr). take i es ++ x ∷ []) (sym at) in
     record {
       sound = λ n is.
           let P = λ (x : Expr). ExprNeeds t x n in
           let whole : Any P (take i es ++ e ∷ []) = ⊎_elim
-          (λ here. any-front P (take i es) e (so_far.sound n here))
+          (λ here. any-prefix P (take i es) e (so_far.sound n here))
           (λ here. any-last P (take i es) e ((needs n).0 here))
           (or_true (holds set n) (holds more n) (sym (united n) ∙ is))
           in
-          subst (λ (xs : List Expr). Any P xs) (sym front) whole;
+          subst (λ (xs : List Expr). Any P xs) (sym prefix) whole;
       whole = λ n some.
           let P = λ (x : Expr). ExprNeeds t x n in
           united n ∙ ⊎_elim
           (λ here. true_or (holds set n) (holds more n) (so_far.whole n here))
           (λ here. or_of_true (holds set n) (holds more n) ((needs n).1 here))
-          (any-split P (take i es) e (subst (λ (xs : List Expr). Any P xs) front some));
+          (any-split P (take i es) e (subst (λ (xs : List Expr). Any P xs) prefix some));
     }
 
 -- ---- what an expression is, by its form

@@ -151,7 +151,7 @@ module _ (covers : ℕ → ℕ → Type 0) (key : ℕ → ℕ × ℕ) where
       let n_some : 1 ≤ n = omega arith in
       let count : length more ≡ n = omega (arith, length-append keys (key w ∷ [])) in
       let at_end : get_or more (length keys) no_key ≡ key w = get_or_push keys (key w) no_key (length keys) refl in
-      let at_front : (i : ℕ) → i < length keys → get_or more i no_key ≡ get_or keys i no_key = λ i h. get_or_append_left keys (key w ∷ []) no_key i h in
+      let at_prefix : (i : ℕ) → i < length keys → get_or more i no_key ≡ get_or keys i no_key = λ i h. get_or_append_left keys (key w ∷ []) no_key i h in
       walked-set k w n numbers keys more walked has inside blank n_some
       (record {
         within = numbers-up-to k w n numbers keys more walked has inside blank n_some (length more) (λ v. let few = walked.table.within v in omega (arith, few, count)) (omega (arith, count));
@@ -163,14 +163,14 @@ module _ (covers : ℕ → ℕ → Type 0) (key : ℕ → ℕ × ℕ) where
             let kept = get_or-set_other numbers w v n 0 differ in
             let is : 1 ≤ get_or numbers v 0 = rw kept at some in
             let few = walked.table.within v in
-            rw kept (at_front (get_or numbers v 0 - 1) (omega (arith, is, few)) ∙ walked.table.keyed v is))
+            rw kept (at_prefix (get_or numbers v 0 - 1) (omega (arith, is, few)) ∙ walked.table.keyed v is))
             (cases_eq v w);
         apart = λ i j less below same. ⊎_elim
-            (λ (l : j < length keys). walked.table.apart i j less l (sym (at_front i (omega (arith, less, l))) ∙ same ∙ at_front j l))
+            (λ (l : j < length keys). walked.table.apart i j less l (sym (at_prefix i (omega (arith, less, l))) ∙ same ∙ at_prefix j l))
             (λ (m : length keys ≤ j).
             let last : j ≡ length keys = omega (arith, m, below, count) in
-            let front : i < length keys = omega (arith, less, last) in
-            none i front (sym (at_front i front) ∙ same ∙ ap (λ x. get_or more x no_key) last ∙ at_end))
+            let prefix : i < length keys = omega (arith, less, last) in
+            none i prefix (sym (at_prefix i prefix) ∙ same ∙ ap (λ x. get_or more x no_key) last ∙ at_end))
             (cases_lt j (length keys));
         reached = λ m from to. ⊎_elim
             (λ (old : m < n). old-reached k w n numbers keys more walked has inside blank n_some m from (omega (arith, old)))

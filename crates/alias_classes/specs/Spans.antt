@@ -4,7 +4,7 @@ use Rattle.f77_tree.specs.declared.programs.NameInfo.{NameInfo}
 use Rattle.f77_tree.specs.Places.{end_of}
 use Rattle.f77_tree.specs.Value.{place_of}
 
--- the span of each name: from its first word up to the word behind its last one
+-- the span of each name: from its first word up to the word after its last one
 pub record AreSpansOf (names : List NameInfo) (begins ends : List ℕ) : Type 0 where
   pub begin_count : length begins ≡ length names
   pub end_count : length ends ≡ length names
@@ -34,7 +34,7 @@ pub record IsLastBegin (begins ends : List ℕ) (word q : ℕ) : Type 0 where
   pub most : (k : ℕ) → Holds begins ends k word → slice_index begins k < q
   pub own : 0 < q → (k : ℕ) × Holds begins ends k word × (suc (slice_index begins k) ≡ q)
 
--- the last begins of the words below `words`, behind a 0
+-- the last begins of the words below `words`, after a 0
 pub record AreLastBegins (words : ℕ) (begins ends last : List ℕ) : Type 0 where
   pub each : length last ≡ words + 1
   pub none : slice_index last 0 ≡ 0

@@ -20,7 +20,7 @@ pub record IsMarked (word : ℕ) (key : ℕ × ℕ) (numbers : List ℕ) (keys :
   pub blank : slice_index numbers word ≡ 0 → (new ≡ slice_set numbers word (position_or_len (same_keys key) keys + 1)) × (more ≡ insert_key same_keys keys key)
   pub kept : slice_index numbers word ≢ 0 → (new ≡ numbers) × (more ≡ keys)
 
--- behind each word all up to the one that it leads to have numbers
+-- after each word all up to the one that it leads to have numbers
 pub record AreSkips (numbers skips : List ℕ) : Type 0 where
   pub each : length skips ≡ length numbers
   pub later : (v : ℕ) → v < length numbers → v < slice_index skips v

@@ -10,7 +10,7 @@ use Rattle.brackets.specs.declared.lists.Ends.{Ends}
 use Rattle.brackets.proofs.ApartLemmas.{apart_put, once_append, stands_append}
 use Rattle.brackets.proofs.ChainLemmas.{chain_lower, chain_same, chain_upper, last_append}
 use Rattle.brackets.proofs.ConcatLemmas.{has_last, range_of}
-use Rattle.brackets.proofs.JoinLemmas.{first_in, join_chain, join_has, join_same, joined, last_in, split_last, stands_front}
+use Rattle.brackets.proofs.JoinLemmas.{first_in, join_chain, join_has, join_same, joined, last_in, split_last, stands_prefix}
 use Rattle.brackets.proofs.KeptLemmas.{Link, are_kept, links, lists_are}
 use Rattle.brackets.proofs.PushLemmas.{has_first, kept_here}
 
@@ -56,7 +56,7 @@ once_parts [] qs once = record { first = tt; second = once; apart = λ y none th
 once_parts (p ∷ ps) qs (not, once) =
     let parts = once_parts ps qs once in
     record {
-      first = (λ stands. not (stands_front ps qs p stands), parts.first);
+      first = (λ stands. not (stands_prefix ps qs p stands), parts.first);
       second = parts.second;
       apart = λ y stands there. ⊎_elim (λ is. not (stands_back ps qs p (subst (Stands qs) (sym is) there))) (λ more. parts.apart y more there) stands;
     }
@@ -110,7 +110,7 @@ module _ (cells : List (Option Cell)) (lists : List Ends) (are : AreKept cells l
   range y there = range_of cells lists are l y (subst (λ xs. Stands xs y) (sym parts.is) there)
 
   pub has_upper : HasCell cells cell.above
-  has_upper = subst (HasCell cells) (sym upper_is) (has_last cells lists are parts.over (λ y there. range y (stands_front parts.over (x ∷ parts.under) y there)))
+  has_upper = subst (HasCell cells) (sym upper_is) (has_last cells lists are parts.over (λ y there. range y (stands_prefix parts.over (x ∷ parts.under) y there)))
 
   pub has_lower : HasCell cells cell.below
   has_lower = subst (HasCell cells) (sym lower_is) (has_first cells lists are l here ends read parts.under (λ y there. range y (stands_back parts.over (x ∷ parts.under) y (inr there))))
@@ -140,7 +140,7 @@ module _ (cells : List (Option Cell)) (lists : List Ends) (are : AreKept cells l
   }
 
   upper_stands : (y : ℕ) → cell.above ≡ Some y → Stands (list_at (lists_of cells lists) l) y
-  upper_stands y is = subst (λ xs. Stands xs y) (sym parts.is) (stands_front parts.over (x ∷ parts.under) y (last_in parts.over y (sym upper_is ∙ is)))
+  upper_stands y is = subst (λ xs. Stands xs y) (sym parts.is) (stands_prefix parts.over (x ∷ parts.under) y (last_in parts.over y (sym upper_is ∙ is)))
 
   lower_stands : (y : ℕ) → cell.below ≡ Some y → Stands (list_at (lists_of cells lists) l) y
   lower_stands y is = subst (λ xs. Stands xs y) (sym parts.is) (stands_back parts.over (x ∷ parts.under) y (inr (first_in parts.under y (sym lower_is ∙ is))))
@@ -187,7 +187,7 @@ module _ (cells : List (Option Cell)) (lists : List Ends) (are : AreKept cells l
   }
 
   left_stands : (y : ℕ) → Stands left y → Stands (list_at (lists_of cells lists) l) y
-  left_stands y there = subst (λ xs. Stands xs y) (sym parts.is) (⊎_elim (λ first. stands_front parts.over (x ∷ parts.under) y first) (λ second. stands_back parts.over (x ∷ parts.under) y (inr second)) (stands_append parts.over parts.under y there))
+  left_stands y there = subst (λ xs. Stands xs y) (sym parts.is) (⊎_elim (λ first. stands_prefix parts.over (x ∷ parts.under) y first) (λ second. stands_back parts.over (x ∷ parts.under) y (inr second)) (stands_append parts.over parts.under y there))
 
   delete_apart : AreApart (set (lists_of cells lists) l left)
   delete_apart = apart_put (lists_of cells lists) are.apart l left seen_in (once_append parts.over parts.under once.first once_under disjoint)

@@ -75,16 +75,16 @@ module _ (cells : List (Option Cell)) (upper lower : Option ℕ) (has_upper : Ha
 -- ---- sequences by their last one
 
 pub record SplitLast (y : ℕ) (ys : List ℕ) : Type 0 where
-  pub front : List ℕ
+  pub prefix : List ℕ
   pub last : ℕ
-  pub is : y ∷ ys ≡ front ++ (last ∷ [])
+  pub is : y ∷ ys ≡ prefix ++ (last ∷ [])
   pub ends : (before : Option ℕ) → last_of (y ∷ ys) before ≡ Some last
 
 pub split_last : (y : ℕ) (ys : List ℕ) → SplitLast y ys
-split_last y [] = record { front = []; last = y; is = refl; ends = λ before. refl }
+split_last y [] = record { prefix = []; last = y; is = refl; ends = λ before. refl }
 split_last y (z ∷ zs) =
     let later = split_last z zs in
-    record { front = y ∷ later.front; last = later.last; is = ap (λ xs. y ∷ xs) later.is; ends = λ before. later.ends (Some y) }
+    record { prefix = y ∷ later.prefix; last = later.last; is = ap (λ xs. y ∷ xs) later.is; ends = λ before. later.ends (Some y) }
 
 stands_end : (xs : List ℕ) (x : ℕ) → Stands (xs ++ (x ∷ [])) x
 stands_end [] x = inl refl
@@ -100,14 +100,14 @@ last_in (x ∷ xs) y is =
     let split = split_last x xs in
     let e : Some split.last ≡ Some y = sym (split.ends None) ∙ is in
     let same : split.last ≡ y = cc in
-    subst (λ zs. Stands zs y) (sym split.is) (subst (λ n. Stands (split.front ++ (split.last ∷ [])) n) same (stands_end split.front split.last))
+    subst (λ zs. Stands zs y) (sym split.is) (subst (λ n. Stands (split.prefix ++ (split.last ∷ [])) n) same (stands_end split.prefix split.last))
 
-pub stands_front : (xs ys : List ℕ) (x : ℕ) → Stands xs x → Stands (xs ++ ys) x
-stands_front [] ys x stands = absurd stands
-stands_front (z ∷ zs) ys x (inl is) = inl is
-stands_front (z ∷ zs) ys x (inr later) = inr (stands_front zs ys x later)
+pub stands_prefix : (xs ys : List ℕ) (x : ℕ) → Stands xs x → Stands (xs ++ ys) x
+stands_prefix [] ys x stands = absurd stands
+stands_prefix (z ∷ zs) ys x (inl is) = inl is
+stands_prefix (z ∷ zs) ys x (inr later) = inr (stands_prefix zs ys x later)
 
-once_last : (front : List ℕ) (last : ℕ) → IsOnce (front ++ (last ∷ [])) → Stands front last → ⊥
+once_last : (prefix : List ℕ) (last : ℕ) → IsOnce (prefix ++ (last ∷ [])) → Stands prefix last → ⊥
 once_last [] last once stands = stands
 once_last (z ∷ zs) last (not, once) (inl is) = not (subst (λ n. Stands (zs ++ (last ∷ [])) n) (sym is) (stands_end zs last))
 once_last (z ∷ zs) last (not, once) (inr later) = once_last zs last once later
@@ -116,11 +116,11 @@ once_last (z ∷ zs) last (not, once) (inr later) = once_last zs last once later
 
 module _ (cells : List (Option Cell)) (upper lower : Option ℕ) (has_upper : HasCell cells upper) (has_lower : HasCell cells lower) where
   -- the upper sequence ends above the lower one
-  upper_split : (front : List ℕ) (last : ℕ) (after : Option ℕ) → upper ≡ Some last → IsOnce (front ++ (last ∷ [])) → ((y : ℕ) → Stands (front ++ (last ∷ [])) y → lower ≢ Some y) → IsChain (above cells) (below cells) None (front ++ (last ∷ [])) after → IsChain (above (joined cells upper lower)) (below (joined cells upper lower)) None (front ++ (last ∷ [])) lower
-  upper_split front last after is once apart chain =
-      chain_above (above cells) (below cells) (above (joined cells upper lower)) (below (joined cells upper lower)) None front last after lower
-      (join_same cells upper lower has_upper has_lower front (λ y stands. (λ same. let e : last ≡ y = cc in once_last front last once (subst (Stands front) (sym e) stands), apart y (stands_front front (last ∷ []) y stands))))
-      (join_above cells upper lower has_upper has_lower last (apart last (stands_end front last)))
+  upper_split : (prefix : List ℕ) (last : ℕ) (after : Option ℕ) → upper ≡ Some last → IsOnce (prefix ++ (last ∷ [])) → ((y : ℕ) → Stands (prefix ++ (last ∷ [])) y → lower ≢ Some y) → IsChain (above cells) (below cells) None (prefix ++ (last ∷ [])) after → IsChain (above (joined cells upper lower)) (below (joined cells upper lower)) None (prefix ++ (last ∷ [])) lower
+  upper_split prefix last after is once apart chain =
+      chain_above (above cells) (below cells) (above (joined cells upper lower)) (below (joined cells upper lower)) None prefix last after lower
+      (join_same cells upper lower has_upper has_lower prefix (λ y stands. (λ same. let e : last ≡ y = cc in once_last prefix last once (subst (Stands prefix) (sym e) stands), apart y (stands_prefix prefix (last ∷ []) y stands))))
+      (join_above cells upper lower has_upper has_lower last (apart last (stands_end prefix last)))
       (join_upper cells upper lower has_upper has_lower last is)
       chain
 
@@ -129,7 +129,7 @@ module _ (cells : List (Option Cell)) (upper lower : Option ℕ) (has_upper : Ha
   upper_chain (y ∷ ys) after is once apart chain =
       let split = split_last y ys in
       subst (λ xs. IsChain (above (joined cells upper lower)) (below (joined cells upper lower)) None xs lower) (sym split.is)
-      (upper_split split.front split.last after (is ∙ split.ends None) (subst IsOnce split.is once)
+      (upper_split split.prefix split.last after (is ∙ split.ends None) (subst IsOnce split.is once)
       (λ z stands. apart z (subst (λ xs. Stands xs z) (sym split.is) stands))
       (subst (λ xs. IsChain (above cells) (below cells) None xs after) split.is chain))
 

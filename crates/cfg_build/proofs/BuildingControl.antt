@@ -13,9 +13,9 @@ pub fan-append : (first : ℕ) (xs ys : List (List ℕ)) → fan first (xs ++ ys
 fan-append first [] ys = let e : first ≡ first + 0 = omega arith in ap (λ n. fan n ys) e
 fan-append first (heads ∷ rest) ys =
     let e : suc first + length rest ≡ first + suc (length rest) = omega arith in
-    let front = map (λ head. (first, head)) heads in
-    ap (λ zs. front ++ zs) (fan-append (suc first) rest ys ∙ ap (λ n. fan (suc first) rest ++ fan n ys) e)
-    ∙ sym (append_assoc front (fan (suc first) rest) (fan (first + suc (length rest)) ys))
+    let prefix = map (λ head. (first, head)) heads in
+    ap (λ zs. prefix ++ zs) (fan-append (suc first) rest ys ∙ ap (λ n. fan (suc first) rest ++ fan n ys) e)
+    ∙ sym (append_assoc prefix (fan (suc first) rest) (fan (first + suc (length rest)) ys))
 
 -- one list of heads more
 pub fan_push : (xs : List (List ℕ)) (k : ℕ) (heads : List ℕ) → length xs ≡ k → fan 0 (xs ++ heads ∷ []) ≡ fan 0 xs ++ map (λ head. (k, head)) heads

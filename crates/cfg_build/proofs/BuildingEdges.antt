@@ -25,7 +25,7 @@ module _ (g : Graph) (x : ℕ) where
       let count : length (touching_below g x (suc n)) ≡ length xs + 1 = ap length e ∙ length_push xs n in
       subst (λ (ys : List ℕ). get_or ys i 0 < suc n) (sym e)
       (⊎_elim
-      (λ (front : i < length xs). let below = touching_exists n i front in let same = get_or_append_left xs (n ∷ []) 0 i front in omega (arith, below, same))
+      (λ (prefix : i < length xs). let below = touching_exists n i prefix in let same = get_or_append_left xs (n ∷ []) 0 i prefix in omega (arith, below, same))
       (λ (last : length xs ≤ i). let same : get_or (xs ++ n ∷ []) i 0 ≡ n = get_or_push xs n 0 i (omega (arith, last, l, count)) in omega (arith, same))
       (cases_lt i (length xs))))
       (λ (no' : touches g x n ≡ false).
@@ -45,9 +45,9 @@ module _ (g : Graph) (x : ℕ) where
       let count : length (touching_below g x (suc n)) ≡ length xs + 1 = ap length e ∙ length_push xs n in
       subst (λ (ys : List ℕ). get_or ys i 0 < get_or ys j 0) (sym e)
       (⊎_elim
-      (λ (front : j < length xs).
-      let below = touching_rises n i j less front in
-      omega (arith, below, get_or_append_left xs (n ∷ []) 0 i (omega (arith, less, front)), get_or_append_left xs (n ∷ []) 0 j front))
+      (λ (prefix : j < length xs).
+      let below = touching_rises n i j less prefix in
+      omega (arith, below, get_or_append_left xs (n ∷ []) 0 i (omega (arith, less, prefix)), get_or_append_left xs (n ∷ []) 0 j prefix))
       (λ (last : length xs ≤ j).
       let here : i < length xs = omega (arith, less, last, l, count) in
       let same : get_or (xs ++ n ∷ []) j 0 ≡ n = get_or_push xs n 0 j (omega (arith, last, l, count)) in

@@ -167,7 +167,7 @@ module _ (told : IsTold) (g : Graph) (sound : IsGraph g) (finish : ℕ) (finish_
 
   one_back : (held : List ℕ) (x y : ℕ) → ReachesOne g (held ++ x ∷ []) y → ReachesOne g held y ⊎ Reaches g y x
   one_back held x y one = ⊎_elim
-      (λ (front : one.place < length held). inl (record { place = one.place; exists = front; reach = subst (λ n. Reaches g y n) (get_or_append_left held (x ∷ []) 0 one.place front) one.reach }))
+      (λ (prefix : one.place < length held). inl (record { place = one.place; exists = prefix; reach = subst (λ n. Reaches g y n) (get_or_append_left held (x ∷ []) 0 one.place prefix) one.reach }))
       (λ (last : length held ≤ one.place). inr (subst (λ n. Reaches g y n) (get_or_push held x 0 one.place (omega (arith, last, one.exists, length_push held x))) one.reach))
       (cases_lt one.place (length held))
 

@@ -93,11 +93,11 @@ module _ (f : FlowGraph) (entry : ℕ → ℕ) (p : Program) (input : List ℤ) 
 
     pub one_part : has_test exec.kind ≡ false → IsOnePart f entry p.execs x.position exec.kind pieces → Agrees (go f p input (length pieces) y) (step p input x)
     one_part single c =
-        let z : PassState = go f p input (length c.front) y in
-        let at : IsAt f p input z x.memory x.out c.last = along_route f p input c.front y x.memory x.out (entry x.position) c.last begins c.route in
-        let appended : length (c.front ++ c.last ∷ []) ≡ length c.front + length (c.last ∷ []) = length-append c.front (c.last ∷ []) in
-        let cut : length pieces ≡ length (c.front ++ c.last ∷ []) = ap (λ (xs : List ℕ). length xs) c.are in
-        let count : length pieces ≡ suc (length c.front) = omega (arith, cut, appended) in
+        let z : PassState = go f p input (length c.prefix) y in
+        let at : IsAt f p input z x.memory x.out c.last = along_route f p input c.prefix y x.memory x.out (entry x.position) c.last begins c.route in
+        let appended : length (c.prefix ++ c.last ∷ []) ≡ length c.prefix + length (c.last ∷ []) = length-append c.prefix (c.last ∷ []) in
+        let cut : length pieces ≡ length (c.prefix ++ c.last ∷ []) = ap (λ (xs : List ℕ). length xs) c.are in
+        let count : length pieces ≡ suc (length c.prefix) = omega (arith, cut, appended) in
         let made : IsMade f p.execs c.last (last_kind exec.kind) x.position = subst (λ n. IsMade f p.execs c.last (last_kind exec.kind) n) (own_last p.execs x.position exec.kind single) c.ends.made in
         let passed : go f p input (length pieces) y ≡ after_pass z (piece_at f.pieces c.last).line (pass_of p input x.memory (out f.graph c.last) (last_kind exec.kind) exec.kind) =
         ap (λ n. go f p input n y) count

@@ -33,7 +33,7 @@ module _ (execs : List Exec) (end : EndsWithEnd execs) where
       ap (λ n. sum_by (width (parts execs)) (take n (parts execs))) end_position
       ∙ ap (λ ps. sum_by (width (parts execs)) ps) (take_at before (end_part execs ∷ []) (length before) refl)
 
-  -- there is no piece behind the end
+  -- there is no piece after the end
   pub end_is_last : length (rows (parts execs)) ≡ finish execs + 1
   end_is_last =
       let all : length (rows (parts execs)) ≡ sum_by (width (parts execs)) (parts execs) = length_rows (parts execs) in

@@ -1,4 +1,4 @@
--- Where ways to a part end after holds: at a hold in front of its first piece, else at that.
+-- Where ways to a part end after holds: at a hold before its first piece, else at that.
 use Rattle.std.proofs.Common.{◌≡◌, ◌≢◌, ℕ, ◌<◌, ◌⊎◌, Bool, true, false, cond, ◌==◌, not, List, length, get_or, refl, sym, ap, ◌∙◌, subst, inl, inr, ⊎_elim}
 use Rattle.std.proofs.lemmas.Bool.{cases_Bool, eqb-true, eq-eqb, false≢true, and_parts, and_from, not-true, not_from_false}
 use Rattle.std.specs.List.{list_any}
@@ -10,7 +10,7 @@ use Rattle.cfg_build.specs.Parts.{parts}
 use Rattle.cfg_build.specs.Joined.{finish}
 use Rattle.cfg_build.specs.Holds.{is_join}
 use Rattle.cfg_build.specs.Flow.{held, piece_at}
-use Rattle.cfg_build.specs.Chains.{hold_of, is_behind_hold}
+use Rattle.cfg_build.specs.Chains.{hold_of, is_after_hold}
 use Rattle.cfg_build.proofs.Members.{Member, IsAt, at_of, list_any_member, IsPassed, member_of_list_any, Member-at}
 use Rattle.cfg_build.proofs.ReachedNodes.{IsTold, stay}
 use Rattle.cfg_build.proofs.JoinedGraph.{row_graph}
@@ -22,9 +22,9 @@ use Rattle.cfg_build.proofs.HeldEdges.{edge_for, hold_edge, hold_leaves_join, ho
 use Rattle.cfg_build.proofs.FlowEdges.{held_piece, held_edge_at, IsHeldPiece, held_is, held_piece_is}
 use Rattle.cfg_build.proofs.Shaped.{one_to}
 
--- the hold in front of a piece, where there is one, else the piece
+-- the hold before a piece, where there is one, else the piece
 abbrev pub entering : List Exec → ℕ → ℕ
-entering execs node = cond (is_behind_hold execs node) (hold_of execs node) node
+entering execs node = cond (is_after_hold execs node) (hold_of execs node) node
 
 module _ (told : IsTold) (names : List NameInfo) (execs : List Exec) (loops : ℕ) (well : AreExecs names execs loops) where
   abbrev g : Graph
@@ -69,14 +69,14 @@ module _ (told : IsTold) (names : List NameInfo) (execs : List Exec) (loops : �
       (λ (j : joins z ≡ false). inr (j, ap (λ n. to g n) (sym e.is) ∙ hold_comes_to_other told names execs loops well z h.below h.is j))
       (cases_Bool (joins z))
 
-  pub behind_then : (y : ℕ) → is_behind_hold execs y ≡ true → Member (held execs) y × (joins y ≡ false)
-  behind_then y h =
+  pub after_then : (y : ℕ) → is_after_hold execs y ≡ true → Member (held execs) y × (joins y ≡ false)
+  after_then y h =
       let both = and_parts (list_any (λ x. x == y) (held execs)) (not (joins y)) h in
       let r : IsPassed (λ x. x == y) (held execs) = member_of_list_any (λ x. x == y) (held execs) both.0 in
       (subst (λ x. Member (held execs) x) (eqb-true r.one y r.passes) r.among, not-true (joins y) both.1)
 
-  pub behind_from : (y : ℕ) → Member (held execs) y → joins y ≡ false → is_behind_hold execs y ≡ true
-  behind_from y m j = and_from (list_any (λ x. x == y) (held execs)) (not (joins y)) (list_any_member (λ x. x == y) (held execs) y m (eq-eqb y y refl)) (not_from_false (joins y) j)
+  pub after_from : (y : ℕ) → Member (held execs) y → joins y ≡ false → is_after_hold execs y ≡ true
+  after_from y m j = and_from (list_any (λ x. x == y) (held execs)) (not (joins y)) (list_any_member (λ x. x == y) (held execs) y m (eq-eqb y y refl)) (not_from_false (joins y) j)
 
   -- the only edge to a held piece that is no join is that on which its hold stands
   pub own_edge : (y k : ℕ) → Member (held execs) y → joins y ≡ false → k < edge_count (row_graph (parts execs) (finish execs)) → to (row_graph (parts execs) (finish execs)) k ≡ y → edge_for told names execs loops well y ≡ k

@@ -29,12 +29,12 @@ module _ (execs : List Exec) where
   pub goes_no_further : (most node : ℕ) → goes_on execs (piece_at (flow execs).pieces node) ≡ false → following (suc most) execs node ≡ node ∷ []
   goes_no_further most node h = ap (λ b. node ∷ cond b (following most execs (next node)) []) h
 
-  pub along_front : (front : List ℕ) (node last most : ℕ) → IsRoute (flow execs) node front last → following (length front + most) execs node ≡ front ++ following most execs last
-  along_front [] node last most route = let e : 0 + most ≡ most = omega arith in ap (λ n. following n execs node) e ∙ ap (λ n. following most execs n) route
-  along_front (first ∷ rest) node last most route =
+  pub along_prefix : (prefix : List ℕ) (node last most : ℕ) → IsRoute (flow execs) node prefix last → following (length prefix + most) execs node ≡ prefix ++ following most execs last
+  along_prefix [] node last most route = let e : 0 + most ≡ most = omega arith in ap (λ n. following n execs node) e ∙ ap (λ n. following most execs n) route
+  along_prefix (first ∷ rest) node last most route =
       let e : suc (length rest) + most ≡ suc (length rest + most) = omega arith in
       let piece = piece_at (flow execs).pieces first in
       ap (λ n. following n execs node) e
       ∙ ap (λ n. following (suc (length rest + most)) execs n) route.0
       ∙ goes_further (length rest + most) first (leads_goes piece.kind (has_test (kind_in (slice_get execs piece.exec))) route.1)
-      ∙ ap (λ xs. first ∷ xs) (along_front rest (next first) last most route.2)
+      ∙ ap (λ xs. first ∷ xs) (along_prefix rest (next first) last most route.2)

@@ -34,8 +34,8 @@ none_leave g sound y past =
     ne_eqb p.0 y (λ (h : p.0 ≡ y). omega (arith, h, is, less, past)))
 
 module _ (finish : ℕ) (g : Graph) (e : ℕ) (edge : e < edge_count g) (y : ℕ) where
-  abbrev front : List (ℕ × ℕ)
-  front = set g.edges e (from g e, g.nodes)
+  abbrev prefix : List (ℕ × ℕ)
+  prefix = set g.edges e (from g e, g.nodes)
 
   abbrev back : List (ℕ × ℕ)
   back = (g.nodes, to g e) ∷ (g.nodes, finish) ∷ []
@@ -43,8 +43,8 @@ module _ (finish : ℕ) (g : Graph) (e : ℕ) (edge : e < edge_count g) (y : ℕ
   in_more : in_degree (hold_graph finish g e) y ≡ in_degree g y + bit (g.nodes == y) + bit (finish == y)
   unfolding to
   in_more =
-      let a : in_degree (hold_graph finish g e) y ≡ count_by (comes_to y) front + count_by (comes_to y) back = count-append (comes_to y) front back in
-      let s : count_by (comes_to y) front + bit (to g e == y) ≡ in_degree g y + bit (g.nodes == y) = count-set (comes_to y) g.edges e (from g e, g.nodes) (0, 0) edge in
+      let a : in_degree (hold_graph finish g e) y ≡ count_by (comes_to y) prefix + count_by (comes_to y) back = count-append (comes_to y) prefix back in
+      let s : count_by (comes_to y) prefix + bit (to g e == y) ≡ in_degree g y + bit (g.nodes == y) = count-set (comes_to y) g.edges e (from g e, g.nodes) (0, 0) edge in
       let b : count_by (comes_to y) back ≡ bit (to g e == y) + count_by (comes_to y) ((g.nodes, finish) ∷ []) = count-cons (comes_to y) (g.nodes, to g e) ((g.nodes, finish) ∷ []) in
       let c : count_by (comes_to y) ((g.nodes, finish) ∷ []) ≡ bit (finish == y) + count_by (comes_to y) [] = count-cons (comes_to y) (g.nodes, finish) [] in
       omega (arith, a, s, b, c)
@@ -52,8 +52,8 @@ module _ (finish : ℕ) (g : Graph) (e : ℕ) (edge : e < edge_count g) (y : ℕ
   out_more : out_degree (hold_graph finish g e) y ≡ out_degree g y + bit (g.nodes == y) + bit (g.nodes == y)
   unfolding from
   out_more =
-      let a : out_degree (hold_graph finish g e) y ≡ count_by (leaves_from y) front + count_by (leaves_from y) back = count-append (leaves_from y) front back in
-      let s : count_by (leaves_from y) front + bit (from g e == y) ≡ out_degree g y + bit (from g e == y) = count-set (leaves_from y) g.edges e (from g e, g.nodes) (0, 0) edge in
+      let a : out_degree (hold_graph finish g e) y ≡ count_by (leaves_from y) prefix + count_by (leaves_from y) back = count-append (leaves_from y) prefix back in
+      let s : count_by (leaves_from y) prefix + bit (from g e == y) ≡ out_degree g y + bit (from g e == y) = count-set (leaves_from y) g.edges e (from g e, g.nodes) (0, 0) edge in
       let b : count_by (leaves_from y) back ≡ bit (g.nodes == y) + count_by (leaves_from y) ((g.nodes, finish) ∷ []) = count-cons (leaves_from y) (g.nodes, to g e) ((g.nodes, finish) ∷ []) in
       let c : count_by (leaves_from y) ((g.nodes, finish) ∷ []) ≡ bit (g.nodes == y) + count_by (leaves_from y) [] = count-cons (leaves_from y) (g.nodes, finish) [] in
       omega (arith, a, s, b, c)

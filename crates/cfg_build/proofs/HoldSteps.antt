@@ -13,31 +13,31 @@ module _ (finish : ℕ) (g : Graph) (e : ℕ) (edge : e < edge_count g) where
   abbrev g' : Graph
   g' = hold_graph finish g e
 
-  abbrev front : List (ℕ × ℕ)
-  front = set g.edges e (from g e, g.nodes)
+  abbrev prefix : List (ℕ × ℕ)
+  prefix = set g.edges e (from g e, g.nodes)
 
   abbrev back : List (ℕ × ℕ)
   back = (g.nodes, to g e) ∷ (g.nodes, finish) ∷ []
 
-  front_length : length (set g.edges e (from g e, g.nodes)) ≡ edge_count g
-  front_length = length-set g.edges e (from g e, g.nodes)
+  prefix_length : length (set g.edges e (from g e, g.nodes)) ≡ edge_count g
+  prefix_length = length-set g.edges e (from g e, g.nodes)
 
   pub more_edges : edge_count (hold_graph finish g e) ≡ edge_count g + 2
   more_edges =
-      let a : edge_count (hold_graph finish g e) ≡ length front + length back = length-append front back in
-      omega (arith, a, front_length)
+      let a : edge_count (hold_graph finish g e) ≡ length prefix + length back = length-append prefix back in
+      omega (arith, a, prefix_length)
 
-  at_old : (k : ℕ) → k < edge_count g → get_or (front ++ back) k (0, 0) ≡ get_or front k (0, 0)
-  at_old k old = get_or_append_left front back (0, 0) k (omega (arith, old, front_length))
+  at_old : (k : ℕ) → k < edge_count g → get_or (prefix ++ back) k (0, 0) ≡ get_or prefix k (0, 0)
+  at_old k old = get_or_append_left prefix back (0, 0) k (omega (arith, old, prefix_length))
 
-  at_other : (k : ℕ) → k < edge_count g → k ≢ e → get_or (front ++ back) k (0, 0) ≡ get_or g.edges k (0, 0)
+  at_other : (k : ℕ) → k < edge_count g → k ≢ e → get_or (prefix ++ back) k (0, 0) ≡ get_or g.edges k (0, 0)
   at_other k old other = at_old k old ∙ get_or-set_other g.edges e k (from g e, g.nodes) (0, 0) other
 
-  at_held : get_or (front ++ back) e (0, 0) ≡ (from g e, g.nodes)
+  at_held : get_or (prefix ++ back) e (0, 0) ≡ (from g e, g.nodes)
   at_held = at_old e edge ∙ get_or-set_same g.edges e (from g e, g.nodes) (0, 0) edge
 
-  at_new : (i : ℕ) → get_or (front ++ back) (edge_count g + i) (0, 0) ≡ get_or back i (0, 0)
-  at_new i = ap (λ n. get_or (front ++ back) (n + i) (0, 0)) (sym front_length) ∙ get_or-append-add front back i (0, 0)
+  at_new : (i : ℕ) → get_or (prefix ++ back) (edge_count g + i) (0, 0) ≡ get_or back i (0, 0)
+  at_new i = ap (λ n. get_or (prefix ++ back) (n + i) (0, 0)) (sym prefix_length) ∙ get_or-append-add prefix back i (0, 0)
 
   -- ---- ends of edges
 

@@ -124,7 +124,7 @@ module _ (ps : List Part) (finish : ℕ) (apart : AreApart ps) (leads : (p : Par
       let w : ways_to ps own ≡ sum_by (λ p. count_by (is_same own) p.outs) ps = count-flat_map (is_same own) (λ (p : Part). p.outs) ps in
       omega (arith, e, s, w)
 
-  -- one edge comes to a part behind a join
+  -- one edge comes to a part after a join
   pub in_degree_joined : (y j : ℕ) → j < length ps → is_joined ps (part_at ps j) ≡ true → y ≡ first_piece ps j + 1 → in_degree (row_graph ps finish) y ≡ 1
   in_degree_joined y j some joined is =
       let e : in_degree (row_graph ps finish) y ≡ bit (0 == y) + sum_by (edges_from ps y) ps = in_degree_is ps y finish in

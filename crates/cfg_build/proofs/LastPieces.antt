@@ -30,7 +30,7 @@ use Rattle.cfg_build.proofs.OutEdges.{first_out}
 use Rattle.cfg_build.proofs.FlowEdges.{out_old}
 use Rattle.cfg_build.proofs.EnteredParts.{entering}
 use Rattle.cfg_build.proofs.WaysEnter.{way_enters}
-use Rattle.cfg_build.proofs.PartRoutes.{own_plain, old_kind, IsFront}
+use Rattle.cfg_build.proofs.PartRoutes.{own_plain, old_kind, IsPrefix}
 
 module _ (told : IsTold) (met : IsMet) (names : List NameInfo) (execs : List Exec) (loops : ℕ) (well : AreExecs names execs loops) where
   abbrev ps : List Part
@@ -106,7 +106,7 @@ module _ (told : IsTold) (met : IsMet) (names : List NameInfo) (execs : List Exe
         }
 
     -- the way to it
-    pub own_front : (k : ℕ) → p.own ≡ First k → (r : IsFront told met names execs loops well a.place) → IsRoute (flow execs) (entry execs k) r.front (own_piece (parts execs) a.place)
-    own_front k own r =
+    pub own_prefix : (k : ℕ) → p.own ≡ First k → (r : IsPrefix told met names execs loops well a.place) → IsRoute (flow execs) (entry execs k) r.prefix (own_piece (parts execs) a.place)
+    own_prefix k own r =
         let is : first_piece ps a.place ≡ number ps (First k) = sym first_is ∙ ap (number ps) own in
-        subst (λ n. IsRoute (flow execs) (entering execs n) r.front (own_piece ps a.place)) is r.route
+        subst (λ n. IsRoute (flow execs) (entering execs n) r.prefix (own_piece ps a.place)) is r.route

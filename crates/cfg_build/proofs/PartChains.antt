@@ -21,9 +21,9 @@ use Rattle.cfg_build.proofs.Members.{Member}
 use Rattle.cfg_build.proofs.ReachedNodes.{IsTold}
 use Rattle.cfg_build.proofs.Lowest.{IsMet}
 use Rattle.cfg_build.proofs.PieceNumbers.{own_piece}
-use Rattle.cfg_build.proofs.PartRoutes.{IsHeldOf, IsFront, front_of}
-use Rattle.cfg_build.proofs.LastPieces.{IsPlaced, placed, own_made, own_last, own_front}
-use Rattle.cfg_build.proofs.Following.{goes_no_further, along_front}
+use Rattle.cfg_build.proofs.PartRoutes.{IsHeldOf, IsPrefix, prefix_of}
+use Rattle.cfg_build.proofs.LastPieces.{IsPlaced, placed, own_made, own_last, own_prefix}
+use Rattle.cfg_build.proofs.Following.{goes_no_further, along_prefix}
 
 pub last_not_hold : (kind : ExecKind) → is_hold (last_kind kind) ≡ false
 last_not_hold (Assign target value next) = refl
@@ -66,10 +66,10 @@ module _ (told : IsTold) (met : IsMet) (names : List NameInfo) (execs : List Exe
       let b : bit (is_hold (piece_at (flow execs).pieces node).kind) ≡ 0 = bit_false (is_hold (piece_at (flow execs).pieces node).kind) (ap is_hold made.kind_is ∙ not) in
       omega (arith, e, b)
 
-  pub front_few : (j : ℕ) (r : IsFront told met names execs loops well j) → (length r.front ≤ 2) × (holds_in (flow execs) r.front ≤ 1)
-  front_few j r = ⊎_elim
-      (λ (h : (length r.front ≤ 1) × (holds r.front ≡ 0)). (omega (arith, h.0), omega (arith, h.1)))
-      (λ (h : (length r.front ≤ 2) × (holds r.front ≡ 1) × IsHeldOf told met names execs loops well j). (h.0, omega (arith, h.1)))
+  pub prefix_few : (j : ℕ) (r : IsPrefix told met names execs loops well j) → (length r.prefix ≤ 2) × (holds_in (flow execs) r.prefix ≤ 1)
+  prefix_few j r = ⊎_elim
+      (λ (h : (length r.prefix ≤ 1) × (holds r.prefix ≡ 0)). (omega (arith, h.0), omega (arith, h.1)))
+      (λ (h : (length r.prefix ≤ 2) × (holds r.prefix ≡ 1) × IsHeldOf told met names execs loops well j). (h.0, omega (arith, h.1)))
       r.few
 
   -- an executable of one part
@@ -81,23 +81,23 @@ module _ (told : IsTold) (met : IsMet) (names : List NameInfo) (execs : List Exe
   pub one_chain : (k : ℕ) (exec : Exec) → slice_get execs k ≡ Some exec → has_test exec.kind ≡ false → owner execs k exec.kind ≡ k → (p : Part) → Member (parts execs) p → p.own ≡ First k → p.piece.kind ≡ last_kind exec.kind → p.piece.exec ≡ k → p.piece.line ≡ line_in (slice_get execs k) → p.outs ≡ map First (successors exec.kind) → IsOneChain k exec.kind
   one_chain k exec found single owns p m own kind_is exec_is line_is outs =
       let a : IsPlaced told met names execs loops well p = placed told met names execs loops well p m in
-      let r : IsFront told met names execs loops well a.place = front_of told met names execs loops well a.place a.exists in
+      let r : IsPrefix told met names execs loops well a.place = prefix_of told met names execs loops well a.place a.exists in
       let node : ℕ = own_piece ps a.place in
-      let route : IsRoute (flow execs) (entry execs k) r.front node = own_front told met names execs loops well p a k own r in
+      let route : IsRoute (flow execs) (entry execs k) r.prefix node = own_prefix told met names execs loops well p a k own r in
       let made : IsMade (flow execs) execs node (last_kind exec.kind) k = own_made told met names execs loops well p a (last_kind exec.kind) k kind_is exec_is line_is in
-      let small = front_few a.place r in
-      let more : ℕ = 4 - length r.front in
-      let five : 5 ≡ length r.front + suc more = omega (arith, small.0) in
+      let small = prefix_few a.place r in
+      let more : ℕ = 4 - length r.prefix in
+      let five : 5 ≡ length r.prefix + suc more = omega (arith, small.0) in
       let stops : goes_on execs (piece_at (flow execs).pieces node) ≡ false = made_goes node (last_kind exec.kind) k made ∙ ap (λ e. goes_on_from (last_kind exec.kind) (has_test (kind_in e))) found ∙ ends_here exec.kind single in
-      let is : chain execs k ≡ r.front ++ node ∷ [] =
-      ap (λ n. following n execs (entry execs k)) five ∙ along_front execs r.front (entry execs k) node (suc more) route
-      ∙ ap (λ xs. r.front ++ xs) (goes_no_further execs more node stops) in
-      let count : length (chain execs k) ≡ length r.front + 1 = ap (λ (xs : List ℕ). length xs) is ∙ length-append r.front (node ∷ []) in
-      let held : holds (chain execs k) ≡ holds r.front + holds (node ∷ []) = ap (λ xs. holds xs) is ∙ count-append (λ x. is_hold (piece_at (flow execs).pieces x).kind) r.front (node ∷ []) in
+      let is : chain execs k ≡ r.prefix ++ node ∷ [] =
+      ap (λ n. following n execs (entry execs k)) five ∙ along_prefix execs r.prefix (entry execs k) node (suc more) route
+      ∙ ap (λ xs. r.prefix ++ xs) (goes_no_further execs more node stops) in
+      let count : length (chain execs k) ≡ length r.prefix + 1 = ap (λ (xs : List ℕ). length xs) is ∙ length-append r.prefix (node ∷ []) in
+      let held : holds (chain execs k) ≡ holds r.prefix + holds (node ∷ []) = ap (λ xs. holds xs) is ∙ count-append (λ x. is_hold (piece_at (flow execs).pieces x).kind) r.prefix (node ∷ []) in
       let none : holds (node ∷ []) ≡ 0 = no_more node (last_kind exec.kind) k [] made (last_not_hold exec.kind) in
       record {
         is = record {
-          front = r.front;
+          prefix = r.prefix;
           last = node;
           are = is;
           route = route;

@@ -14,7 +14,7 @@ use Rattle.cfg_build.specs.Joined.{rows, finish, is_joined, number}
 use Rattle.cfg_build.specs.Holds.{is_held, is_join}
 use Rattle.cfg_build.specs.Flow.{flow, held, piece_at}
 use Rattle.cfg_build.specs.Passes.{out}
-use Rattle.cfg_build.specs.Chains.{hold_of, is_behind_hold}
+use Rattle.cfg_build.specs.Chains.{hold_of, is_after_hold}
 use Rattle.cfg_build.specs.Routes.{leads_on, is_hold, holds_in, IsRoute}
 use Rattle.cfg_build.proofs.Counts.{bit, bit_true, bit_false, count-cons}
 use Rattle.cfg_build.proofs.EndNumber.{end_is_last}
@@ -30,7 +30,7 @@ use Rattle.cfg_build.proofs.HeldEdges.{edge_for, hold_comes_to_other}
 use Rattle.cfg_build.proofs.FlowEdges.{held_piece, IsHeldPiece, held_piece_is, hold_of_is, out_of_hold, free_leads, held_leads, after}
 use Rattle.cfg_build.proofs.AfterHolds.{AfterHolds}
 use Rattle.cfg_build.proofs.Shaped.{has_holds}
-use Rattle.cfg_build.proofs.EnteredParts.{entering, IsHeldAt, held_at, IsHeldEdge, cases_held, holder, behind_then}
+use Rattle.cfg_build.proofs.EnteredParts.{entering, IsHeldAt, held_at, IsHeldEdge, cases_held, holder, after_then}
 use Rattle.cfg_build.proofs.WaysEnter.{edge_begins, edge_ends}
 
 not_join : (p : Part) (kind : PieceKind) → p.piece.kind ≡ kind → is_join kind ≡ false → is_join p.piece.kind ≡ false
@@ -74,10 +74,10 @@ module _ (told : IsTold) (met : IsMet) (names : List NameInfo) (execs : List Exe
     pub is : is_held (row_graph (parts execs) (finish execs)) (finish execs) one ≡ true
     pub of : (one ≡ first_piece (parts execs) j) ⊎ (one ≡ own_piece (parts execs) j)
 
-  pub record IsFront (j : ℕ) : Type 0 where
-    pub front : List ℕ
-    pub route : IsRoute (flow execs) (entering execs (first_piece (parts execs) j)) front (own_piece (parts execs) j)
-    pub few : ((length front ≤ 1) × (holds_in (flow execs) front ≡ 0)) ⊎ ((length front ≤ 2) × (holds_in (flow execs) front ≡ 1) × IsHeldOf j)
+  pub record IsPrefix (j : ℕ) : Type 0 where
+    pub prefix : List ℕ
+    pub route : IsRoute (flow execs) (entering execs (first_piece (parts execs) j)) prefix (own_piece (parts execs) j)
+    pub few : ((length prefix ≤ 1) × (holds_in (flow execs) prefix ≡ 0)) ⊎ ((length prefix ≤ 2) × (holds_in (flow execs) prefix ≡ 1) × IsHeldOf j)
 
   hold_alone : (q : ℕ) → q < length (held execs) → holds_in (flow execs) ((length (rows (parts execs)) + q) ∷ []) ≡ 1
   hold_alone q some =
@@ -119,9 +119,9 @@ module _ (told : IsTold) (met : IsMet) (names : List NameInfo) (execs : List Exe
 
     entered : entering execs (first_piece (parts execs) j) ≡ first_piece (parts execs) j
     entered = ⊎_elim
-        (λ (h : is_behind_hold execs x ≡ true). absurd (false≢true (sym (behind_then told names execs loops well x h).1 ∙ x_joins)))
-        (λ (h : is_behind_hold execs x ≡ false). cond-false (is_behind_hold execs x) (hold_of execs x) x h)
-        (cases_Bool (is_behind_hold execs x))
+        (λ (h : is_after_hold execs x ≡ true). absurd (false≢true (sym (after_then told names execs loops well x h).1 ∙ x_joins)))
+        (λ (h : is_after_hold execs x ≡ false). cond-false (is_after_hold execs x) (hold_of execs x) x h)
+        (cases_Bool (is_after_hold execs x))
 
     x_leads : leads_on (piece_at (flow execs).pieces (first_piece (parts execs) j)).kind ≡ true
     x_leads = ap (λ (p : Piece). leads_on p.kind) (old_kind x x_below) ∙ ap leads_on (join_kind ps j some joined_here)
@@ -141,8 +141,8 @@ module _ (told : IsTold) (met : IsMet) (names : List NameInfo) (execs : List Exe
     first_head : get_or (heads_at (parts execs) (first_piece (parts execs) j)) 0 0 ≡ own_piece (parts execs) j
     first_head = ap (λ (xs : List ℕ). get_or xs 0 0) heads
 
-    held_front : IsHeldEdge told names execs loops well (first_out (parts execs) (finish execs) (first_piece (parts execs) j) + 0) → IsFront j
-    held_front e =
+    held_prefix : IsHeldEdge told names execs loops well (first_out (parts execs) (finish execs) (first_piece (parts execs) j) + 0) → IsPrefix j
+    held_prefix e =
         let k : ℕ = first_out ps (finish execs) x + 0 in
         let q : ℕ = e.place in
         let z : ℕ = held_piece told names execs loops well q in
@@ -151,7 +151,7 @@ module _ (told : IsTold) (met : IsMet) (names : List NameInfo) (execs : List Exe
         let on : to (flow execs).graph (out (flow execs).graph (n + q) 0) ≡ y =
         out_of_hold told names execs loops well q e.some ∙ ap (λ m. to (row_graph (parts execs) (finish execs)) m) e.is ∙ edge_ends told names execs loops well x 0 x_below not_end within ∙ first_head in
         record {
-          front = x ∷ (n + q) ∷ [];
+          prefix = x ∷ (n + q) ∷ [];
           route = (entered, x_leads, (to_hold, ap leads_on (hold_kind q e.some), on));
           few = inr (
             omega arith,
@@ -168,11 +168,11 @@ module _ (told : IsTold) (met : IsMet) (names : List NameInfo) (execs : List Exe
           );
         }
 
-    pub joined_front : IsFront j
-    joined_front = ⊎_elim
-        (λ (e : IsHeldEdge told names execs loops well (first_out ps (finish execs) x + 0)). held_front e)
+    pub joined_prefix : IsPrefix j
+    joined_prefix = ⊎_elim
+        (λ (e : IsHeldEdge told names execs loops well (first_out ps (finish execs) x + 0)). held_prefix e)
         (λ none. record {
-          front = x ∷ [];
+          prefix = x ∷ [];
           route = (entered, x_leads, free_leads told names execs loops well x 0 x_below not_end within none ∙ first_head);
           few = inl (omega arith, x_alone);
         })
@@ -180,29 +180,29 @@ module _ (told : IsTold) (met : IsMet) (names : List NameInfo) (execs : List Exe
 
   -- ---- a part without a join
 
-  single_front : (j : ℕ) → j < length (parts execs) → is_joined (parts execs) (part_at (parts execs) j) ≡ false → IsFront j
-  single_front j some single =
+  single_prefix : (j : ℕ) → j < length (parts execs) → is_joined (parts execs) (part_at (parts execs) j) ≡ false → IsPrefix j
+  single_prefix j some single =
       let x : ℕ = first_piece ps j in
       let none : joins ps (part_at ps j) ≡ 0 = cond-false (is_joined ps (part_at ps j)) 1 0 single in
       let same : x ≡ own_piece ps j = omega (arith, none) in
       ⊎_elim
-      (λ (behind : is_behind_hold execs x ≡ true).
-      let h = behind_then told names execs loops well x behind in
+      (λ (after : is_after_hold execs x ≡ true).
+      let h = after_then told names execs loops well x after in
       let a : IsHeldAt told names execs loops well x = held_at told names execs loops well x h.0 in
       let p : IsHeldPiece told names execs loops well x = subst (λ m. IsHeldPiece told names execs loops well m) a.is (held_piece_is told names execs loops well a.place a.some) in
       let enters : entering execs x ≡ n + a.place =
-      cond-true (is_behind_hold execs x) (hold_of execs x) x behind ∙ ap (λ m. hold_of execs m) (sym a.is) ∙ hold_of_is told names execs loops well a.place a.some in
+      cond-true (is_after_hold execs x) (hold_of execs x) x after ∙ ap (λ m. hold_of execs m) (sym a.is) ∙ hold_of_is told names execs loops well a.place a.some in
       let on : to (flow execs).graph (out (flow execs).graph (n + a.place) 0) ≡ own_piece ps j =
       out_of_hold told names execs loops well a.place a.some
       ∙ ap (λ m. to (row_graph (parts execs) (finish execs)) (edge_for told names execs loops well m)) a.is
       ∙ hold_comes_to_other told names execs loops well x p.below p.is h.1 ∙ same in
-      record { front = (n + a.place) ∷ []; route = (enters, ap leads_on (hold_kind a.place a.some), on); few = inr (omega arith, hold_alone a.place a.some, record { one = x; below = p.below; is = p.is; of = inl refl }) })
-      (λ (behind : is_behind_hold execs x ≡ false).
-      record { front = []; route = cond-false (is_behind_hold execs x) (hold_of execs x) x behind ∙ same; few = inl (omega arith, refl) })
-      (cases_Bool (is_behind_hold execs x))
+      record { prefix = (n + a.place) ∷ []; route = (enters, ap leads_on (hold_kind a.place a.some), on); few = inr (omega arith, hold_alone a.place a.some, record { one = x; below = p.below; is = p.is; of = inl refl }) })
+      (λ (after : is_after_hold execs x ≡ false).
+      record { prefix = []; route = cond-false (is_after_hold execs x) (hold_of execs x) x after ∙ same; few = inl (omega arith, refl) })
+      (cases_Bool (is_after_hold execs x))
 
-  pub front_of : (j : ℕ) → j < length (parts execs) → IsFront j
-  front_of j some = ⊎_elim
-      (λ (h : is_joined ps (part_at ps j) ≡ true). joined_front j some h)
-      (λ (h : is_joined ps (part_at ps j) ≡ false). single_front j some h)
+  pub prefix_of : (j : ℕ) → j < length (parts execs) → IsPrefix j
+  prefix_of j some = ⊎_elim
+      (λ (h : is_joined ps (part_at ps j) ≡ true). joined_prefix j some h)
+      (λ (h : is_joined ps (part_at ps j) ≡ false). single_prefix j some h)
       (cases_Bool (is_joined ps (part_at ps j)))

@@ -85,7 +85,7 @@ module _ (f : FlowGraph) (p : Program) (input : List ℤ) where
       (along_edge x memory written node piece.line (out f.graph node 0) (to f.graph (out f.graph node 0)) memory [] h refl))
 
   -- along joins and holds
-  pub along_route : (front : List ℕ) (x : PassState) (memory : Memory) (written : List ℕ) (node last : ℕ) → IsAt x memory written node → IsRoute f node front last → IsAt (go (length front) x) memory written last
+  pub along_route : (prefix : List ℕ) (x : PassState) (memory : Memory) (written : List ℕ) (node last : ℕ) → IsAt x memory written node → IsRoute f node prefix last → IsAt (go (length prefix) x) memory written last
   along_route [] x memory written node last h route = record { runs = h.runs; memory_is = h.memory_is; out_is = h.out_is; ends = h.ends ∙ route }
   along_route (first ∷ rest) x memory written node last h route =
       let here : IsAt x memory written first = record { runs = h.runs; memory_is = h.memory_is; out_is = h.out_is; ends = h.ends ∙ route.0 } in

@@ -36,9 +36,9 @@ put_one pieces new edges second third x edge finish hold e piece x_within edge_w
     ∙ ap (λ (f : ℕ × ℕ). record { graph = record { nodes = length pieces + 1; edges = set edges edge (f.0, length pieces) ++ (length pieces, f.1) ∷ (length pieces, finish) ∷ [] }; pieces = pieces ++ hold_for piece ∷ [] }) (sym at)
     ∙ ap (λ (p : Piece). with_hold finish (drawing pieces edges) edge p) (sym (piece_is pieces x piece x_within piece_is_at))
 
--- what stands in front stays
-pub front_stays : (pieces : List Piece) (more : List Piece) (k : ℕ) → k < length pieces → slice_get (pieces ++ more) k ≡ slice_get pieces k
-front_stays pieces more k within =
+-- what comes first stays
+pub prefix_stays : (pieces : List Piece) (more : List Piece) (k : ℕ) → k < length pieces → slice_get (pieces ++ more) k ≡ slice_get pieces k
+prefix_stays pieces more k within =
     let d : Piece = hold_for start_part.piece in
     slice_get-get_or (pieces ++ more) k d (omega (arith, within, length-append pieces more)) ∙ ap Some (get_or_append_left pieces more d k within) ∙ sym (slice_get-get_or pieces k d within)
 

@@ -66,8 +66,8 @@ module _ (told : IsTold) (met : IsMet) (names : List NameInfo) (execs : List Exe
   end_below : finish execs < length (rows (parts execs))
   end_below = finish_below told names execs loops well
 
-  behind : length (rows (parts execs)) ≡ finish execs + 1
-  behind = end_is_last execs well.end
+  after : length (rows (parts execs)) ≡ finish execs + 1
+  after = end_is_last execs well.end
 
   pub has_holds : HasHolds (joined execs) (finish execs) (flow execs)
   has_holds =
@@ -224,8 +224,8 @@ module _ (told : IsTold) (met : IsMet) (names : List NameInfo) (execs : List Exe
     holds = λ x node. (
       λ (is : kind_at (flow execs) x ≡ Hold). old_or_hold (finish execs < x) x node
           (λ old. absurd (no_hold x (class x old) (sym (kind_old x old) ∙ is)))
-          (λ new hold. omega (arith, new, behind)),
-      λ (new : finish execs < x). has_holds.new_piece x (omega (arith, new, behind)) node,
+          (λ new hold. omega (arith, new, after)),
+      λ (new : finish execs < x). has_holds.new_piece x (omega (arith, new, after)) node,
     );
     end_exists = let more : g.nodes ≤ (flow execs).graph.nodes = has_holds.nodes in omega (arith, more, end_below);
     two_edges = two_flow;

@@ -25,11 +25,11 @@ use Rattle.cfg_build.proofs.Lowest.{IsMet}
 use Rattle.cfg_build.proofs.PieceNumbers.{part_at, first_piece, own_piece}
 use Rattle.cfg_build.proofs.OneHold.{not_both}
 use Rattle.cfg_build.proofs.EnteredParts.{entering}
-use Rattle.cfg_build.proofs.PartRoutes.{IsHeldOf, IsFront, front_of}
-use Rattle.cfg_build.proofs.LastPieces.{IsPlaced, placed, first_is, own_made, own_leads, own_last, own_front}
-use Rattle.cfg_build.proofs.Following.{goes_further, goes_no_further, along_front}
+use Rattle.cfg_build.proofs.PartRoutes.{IsHeldOf, IsPrefix, prefix_of}
+use Rattle.cfg_build.proofs.LastPieces.{IsPlaced, placed, first_is, own_made, own_leads, own_last, own_prefix}
+use Rattle.cfg_build.proofs.Following.{goes_further, goes_no_further, along_prefix}
 use Rattle.cfg_build.proofs.ChainSteps.{two_last}
-use Rattle.cfg_build.proofs.PartChains.{made_goes, no_more, front_few}
+use Rattle.cfg_build.proofs.PartChains.{made_goes, no_more, prefix_few}
 
 -- an act and the test of its DO, as parts
 pub record AreTwo (execs : List Exec) (k : ℕ) (kind : ExecKind) (act test : Part) : Type 0 where
@@ -69,19 +69,19 @@ module _ (told : IsTold) (met : IsMet) (names : List NameInfo) (execs : List Exe
         let parts_same : act ≡ test = sym a.is ∙ ap (λ n. part_at ps n) same ∙ b.is in
         false≢true (sym (ap (λ kind. goes_on_from kind true) (ap (λ (p : Part). p.piece.kind) parts_same ∙ are.tests)) ∙ ap (λ kind. goes_on_from kind true) are.acts)
 
-    r : IsFront told met names execs loops well a.place
-    r = front_of told met names execs loops well a.place a.exists
+    r : IsPrefix told met names execs loops well a.place
+    r = prefix_of told met names execs loops well a.place a.exists
 
-    s : IsFront told met names execs loops well b.place
-    s = front_of told met names execs loops well b.place b.exists
+    s : IsPrefix told met names execs loops well b.place
+    s = prefix_of told met names execs loops well b.place b.exists
 
     -- not both ways in have two pieces, nor both a hold
-    small : (length r.front + length s.front ≤ 3) × (holds_in (flow execs) r.front + holds_in (flow execs) s.front ≤ 1)
+    small : (length r.prefix + length s.prefix ≤ 3) × (holds_in (flow execs) r.prefix + holds_in (flow execs) s.prefix ≤ 1)
     small = ⊎_elim
-        (λ (h : (length r.front ≤ 1) × (holds r.front ≡ 0)). let t = front_few told met names execs loops well b.place s in (omega (arith, h.0, t.0), omega (arith, h.1, t.1)))
-        (λ (h : (length r.front ≤ 2) × (holds r.front ≡ 1) × IsHeldOf told met names execs loops well a.place). ⊎_elim
-        (λ (i : (length s.front ≤ 1) × (holds s.front ≡ 0)). (omega (arith, h.0, i.0), omega (arith, h.1, i.1)))
-        (λ (i : (length s.front ≤ 2) × (holds s.front ≡ 1) × IsHeldOf told met names execs loops well b.place).
+        (λ (h : (length r.prefix ≤ 1) × (holds r.prefix ≡ 0)). let t = prefix_few told met names execs loops well b.place s in (omega (arith, h.0, t.0), omega (arith, h.1, t.1)))
+        (λ (h : (length r.prefix ≤ 2) × (holds r.prefix ≡ 1) × IsHeldOf told met names execs loops well a.place). ⊎_elim
+        (λ (i : (length s.prefix ≤ 1) × (holds s.prefix ≡ 0)). (omega (arith, h.0, i.0), omega (arith, h.1, i.1)))
+        (λ (i : (length s.prefix ≤ 2) × (holds s.prefix ≡ 1) × IsHeldOf told met names execs loops well b.place).
         absurd (not_both told names execs loops well a.place b.place a.exists b.exists differ test.own (ap (λ (p : Part). p.outs) a.is ∙ are.leads) (ap (λ (p : Part). p.own) b.is) h.2.one i.2.one h.2.below i.2.below h.2.is i.2.is h.2.of i.2.of))
         s.few)
         r.few
@@ -99,43 +99,43 @@ module _ (told : IsTold) (met : IsMet) (names : List NameInfo) (execs : List Exe
     y_made = own_made told met names execs loops well test b piece.Branch (owner execs k exec.kind) are.tests are.test_exec are.test_line
 
     -- the act leads to the way in of the test
-    on : IsRoute (flow execs) (to (flow execs).graph (out (flow execs).graph x 0)) s.front y
+    on : IsRoute (flow execs) (to (flow execs).graph (out (flow execs).graph x 0)) s.prefix y
     on =
         let count : length act.outs ≡ 1 = ap (λ (ts : List Target). length ts) are.leads in
         let is : to (flow execs).graph (out (flow execs).graph x 0) ≡ entering execs (first_piece ps b.place) =
         own_leads told met names execs loops well act a 0 (omega (arith, count))
         ∙ ap (λ (ts : List Target). entering execs (number ps (get_or ts 0 (First 0)))) are.leads
         ∙ ap (λ n. entering execs n) (first_is told met names execs loops well test b) in
-        subst (λ n. IsRoute (flow execs) n s.front y) (sym is) s.route
+        subst (λ n. IsRoute (flow execs) n s.prefix y) (sym is) s.route
 
-    chain_is : chain execs k ≡ r.front ++ x ∷ (s.front ++ y ∷ [])
+    chain_is : chain execs k ≡ r.prefix ++ x ∷ (s.prefix ++ y ∷ [])
     chain_is =
-        let more : ℕ = 3 - (length r.front + length s.front) in
-        let five : 5 ≡ length r.front + suc (length s.front + suc more) = omega (arith, small.0) in
+        let more : ℕ = 3 - (length r.prefix + length s.prefix) in
+        let five : 5 ≡ length r.prefix + suc (length s.prefix + suc more) = omega (arith, small.0) in
         let goes : goes_on execs (piece_at (flow execs).pieces x) ≡ true = made_goes told met names execs loops well x piece.Act k x_made ∙ ap (λ e. has_test (kind_in e)) found ∙ two in
         let stops : goes_on execs (piece_at (flow execs).pieces y) ≡ false = made_goes told met names execs loops well y piece.Branch (owner execs k exec.kind) y_made in
         ap (λ n. following n execs (entry execs k)) five
-        ∙ along_front execs r.front (entry execs k) x (suc (length s.front + suc more)) (own_front told met names execs loops well act a k are.first r)
-        ∙ ap (λ xs. r.front ++ xs) (goes_further execs (length s.front + suc more) x goes
-        ∙ ap (λ xs. x ∷ xs) (along_front execs s.front (to (flow execs).graph (out (flow execs).graph x 0)) y (suc more) on ∙ ap (λ xs. s.front ++ xs) (goes_no_further execs more y stops)))
+        ∙ along_prefix execs r.prefix (entry execs k) x (suc (length s.prefix + suc more)) (own_prefix told met names execs loops well act a k are.first r)
+        ∙ ap (λ xs. r.prefix ++ xs) (goes_further execs (length s.prefix + suc more) x goes
+        ∙ ap (λ xs. x ∷ xs) (along_prefix execs s.prefix (to (flow execs).graph (out (flow execs).graph x 0)) y (suc more) on ∙ ap (λ xs. s.prefix ++ xs) (goes_no_further execs more y stops)))
 
     pub two_chain : IsTwoChain k exec.kind
     two_chain =
-        let rest : List ℕ = s.front ++ y ∷ [] in
-        let count : length (chain execs k) ≡ length r.front + length (x ∷ rest) = ap (λ (xs : List ℕ). length xs) chain_is ∙ length-append r.front (x ∷ rest) in
-        let more : length rest ≡ length s.front + length (y ∷ []) = length-append s.front (y ∷ []) in
-        let held : holds (chain execs k) ≡ holds r.front + holds (x ∷ rest) = ap (λ xs. holds xs) chain_is ∙ count-append (λ z. is_hold (piece_at (flow execs).pieces z).kind) r.front (x ∷ rest) in
+        let rest : List ℕ = s.prefix ++ y ∷ [] in
+        let count : length (chain execs k) ≡ length r.prefix + length (x ∷ rest) = ap (λ (xs : List ℕ). length xs) chain_is ∙ length-append r.prefix (x ∷ rest) in
+        let more : length rest ≡ length s.prefix + length (y ∷ []) = length-append s.prefix (y ∷ []) in
+        let held : holds (chain execs k) ≡ holds r.prefix + holds (x ∷ rest) = ap (λ xs. holds xs) chain_is ∙ count-append (λ z. is_hold (piece_at (flow execs).pieces z).kind) r.prefix (x ∷ rest) in
         let past : holds (x ∷ rest) ≡ holds rest = no_more told met names execs loops well x piece.Act k rest x_made refl in
-        let more_held : holds rest ≡ holds s.front + holds (y ∷ []) = count-append (λ z. is_hold (piece_at (flow execs).pieces z).kind) s.front (y ∷ []) in
+        let more_held : holds rest ≡ holds s.prefix + holds (y ∷ []) = count-append (λ z. is_hold (piece_at (flow execs).pieces z).kind) s.prefix (y ∷ []) in
         let none : holds (y ∷ []) ≡ 0 = no_more told met names execs loops well y piece.Branch (owner execs k exec.kind) [] y_made refl in
         record {
           is = record {
-            front = r.front;
+            prefix = r.prefix;
             act = x;
-            middle = s.front;
+            middle = s.prefix;
             test = y;
             are = chain_is;
-            route = own_front told met names execs loops well act a k are.first r;
+            route = own_prefix told met names execs loops well act a k are.first r;
             acts = x_made;
             on = on;
             ends = own_last told met names execs loops well test b k exec.kind (are.tests ∙ sym (two_last exec.kind two)) are.test_exec are.test_line are.outs;

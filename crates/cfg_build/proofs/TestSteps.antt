@@ -68,21 +68,21 @@ module _ (f : FlowGraph) (entry : ℕ → ℕ) (p : Program) (input : List ℤ) 
   -- the step of such a DO
   pub two_parts : (x : State) (exec : Exec) (found : slice_get p.execs x.position ≡ Some exec) (x_runs : x.mark ≡ Running) (y : PassState) (agrees : Agrees f entry p input y x) (pieces : List ℕ) (c : IsTwoParts f entry p.execs x.position exec.kind pieces) → ((m : Memory) → pass_of p input m (out f.graph c.act) piece.Act exec.kind ≡ acted (out f.graph c.act 0) (outcome p.names input m exec.kind)) → Tested loop_no body exit (outcome p.names input x.memory exec.kind) → IsTest f entry p c.test loop_no body exit → Agrees f entry p input (go f p input (length pieces) y) (step p input x)
   two_parts x exec found x_runs y agrees pieces c acts tells tests =
-      let z : PassState = go f p input (length c.front) y in
-      let at : IsAt f p input z x.memory x.out c.act = along_route f p input c.front y x.memory x.out (entry x.position) c.act (begins f entry p input x exec found x_runs y agrees pieces) c.route in
+      let z : PassState = go f p input (length c.prefix) y in
+      let at : IsAt f p input z x.memory x.out c.act = along_route f p input c.prefix y x.memory x.out (entry x.position) c.act (begins f entry p input x exec found x_runs y agrees pieces) c.route in
       let rest : List ℕ = c.middle ++ c.test ∷ [] in
-      let cut : length pieces ≡ length (c.front ++ c.act ∷ rest) = ap (λ (xs : List ℕ). length xs) c.are in
-      let first : length (c.front ++ c.act ∷ rest) ≡ length c.front + length (c.act ∷ rest) = length-append c.front (c.act ∷ rest) in
+      let cut : length pieces ≡ length (c.prefix ++ c.act ∷ rest) = ap (λ (xs : List ℕ). length xs) c.are in
+      let first : length (c.prefix ++ c.act ∷ rest) ≡ length c.prefix + length (c.act ∷ rest) = length-append c.prefix (c.act ∷ rest) in
       let second : length rest ≡ length c.middle + length (c.test ∷ []) = length-append c.middle (c.test ∷ []) in
-      let count : length pieces ≡ suc (length c.front) + (length c.middle + 1) = omega (arith, cut, first, second) in
+      let count : length pieces ≡ suc (length c.prefix) + (length c.middle + 1) = omega (arith, cut, first, second) in
       let line : ℕ = (piece_at f.pieces c.act).line in
       let o : Outcome = outcome p.names input x.memory exec.kind in
-      let acted_is : go f p input (suc (length c.front)) y ≡ after_pass z line (acted (out f.graph c.act 0) o) =
+      let acted_is : go f p input (suc (length c.prefix)) y ≡ after_pass z line (acted (out f.graph c.act 0) o) =
       passed_is f p input z x.memory x.out c.act at
       ∙ ap (λ (q : Passed). after_pass z line q) (made_pass f entry p input c.act piece.Act x.position exec x.memory c.acts found ∙ acts x.memory) in
       let passed : go f p input (length pieces) y ≡ go f p input (length c.middle + 1) (after_pass z line (acted (out f.graph c.act 0) o)) =
       ap (λ n. go f p input n y) count
-      ∙ go_more f p input (suc (length c.front)) (length c.middle + 1) y
+      ∙ go_more f p input (suc (length c.prefix)) (length c.middle + 1) y
       ∙ ap (λ (a : PassState). go f p input (length c.middle + 1) a) acted_is in
       subst (λ (a : PassState). Agrees f entry p input a (step p input x)) (sym passed)
       (subst (λ (s : State). Agrees f entry p input (go f p input (length c.middle + 1) (after_pass z line (acted (out f.graph c.act 0) o))) s) (sym (step_is f entry p input x exec found x_runs))

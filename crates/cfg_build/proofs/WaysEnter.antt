@@ -10,7 +10,7 @@ use Rattle.cfg_build.specs.Joined.{rows, finish}
 use Rattle.cfg_build.specs.Holds.{is_join}
 use Rattle.cfg_build.specs.Flow.{flow, held, piece_at}
 use Rattle.cfg_build.specs.Passes.{out}
-use Rattle.cfg_build.specs.Chains.{hold_of, is_behind_hold}
+use Rattle.cfg_build.specs.Chains.{hold_of, is_after_hold}
 use Rattle.cfg_build.proofs.Members.{Member, Member-at}
 use Rattle.cfg_build.proofs.ReachedNodes.{IsTold}
 use Rattle.cfg_build.proofs.JoinedGraph.{row_graph, heads_at}
@@ -18,7 +18,7 @@ use Rattle.cfg_build.proofs.PieceKinds.{pieces_of}
 use Rattle.cfg_build.proofs.OutEdges.{first_out, IsOut, out_is}
 use Rattle.cfg_build.proofs.HeldEdges.{edge_for}
 use Rattle.cfg_build.proofs.FlowEdges.{held_piece, held_edge_at, free_leads, held_leads}
-use Rattle.cfg_build.proofs.EnteredParts.{entering, IsHeldAt, held_at, IsHeldEdge, cases_held, holder, behind_then, behind_from, own_edge}
+use Rattle.cfg_build.proofs.EnteredParts.{entering, IsHeldAt, held_at, IsHeldEdge, cases_held, holder, after_then, after_from, own_edge}
 
 module _ (told : IsTold) (names : List NameInfo) (execs : List Exec) (loops : ℕ) (well : AreExecs names execs loops) where
   abbrev g : Graph
@@ -55,21 +55,21 @@ module _ (told : IsTold) (names : List NameInfo) (execs : List Exec) (loops : �
         (λ (h : (joins z ≡ false) × (to g k ≡ z)).
         let same : y ≡ z = sym edge_ends ∙ h.1 in
         let m : Member (held execs) z = Member-at (held execs) e.place 0 e.some in
-        let behind : is_behind_hold execs y ≡ true = ap (λ n. is_behind_hold execs n) same ∙ behind_from told names execs loops well z m h.0 in
-        leads ∙ ap (λ n. hold_of execs n) (sym same) ∙ sym (cond-true (is_behind_hold execs y) (hold_of execs y) y behind))
+        let after : is_after_hold execs y ≡ true = ap (λ n. is_after_hold execs n) same ∙ after_from told names execs loops well z m h.0 in
+        leads ∙ ap (λ n. hold_of execs n) (sym same) ∙ sym (cond-true (is_after_hold execs y) (hold_of execs y) y after))
         (holder told names execs loops well k e)
 
     way_free : is_join (piece_at (pieces_of (parts execs)) x).kind ≡ false → ((q : ℕ) → q < length (held execs) → held_edge_at told names execs loops well q ≢ k) → to (flow execs).graph (out (flow execs).graph x i) ≡ entering execs y
     way_free plain none =
         let leads : to (flow execs).graph (out (flow execs).graph x i) ≡ y = free_leads told names execs loops well x i old other within none in
         ⊎_elim
-        (λ (behind : is_behind_hold execs y ≡ true).
-        let h = behind_then told names execs loops well y behind in
+        (λ (after : is_after_hold execs y ≡ true).
+        let h = after_then told names execs loops well y after in
         let a : IsHeldAt told names execs loops well y = held_at told names execs loops well y h.0 in
         let apart : held_edge_at told names execs loops well a.place ≢ k = none a.place a.some in
         absurd (apart (ap (λ n. edge_for told names execs loops well n) a.is ∙ own_edge told names execs loops well y k h.0 h.1 edge_exists edge_ends)))
-        (λ (behind : is_behind_hold execs y ≡ false). leads ∙ sym (cond-false (is_behind_hold execs y) (hold_of execs y) y behind))
-        (cases_Bool (is_behind_hold execs y))
+        (λ (after : is_after_hold execs y ≡ false). leads ∙ sym (cond-false (is_after_hold execs y) (hold_of execs y) y after))
+        (cases_Bool (is_after_hold execs y))
 
     pub way_enters : is_join (piece_at (pieces_of (parts execs)) x).kind ≡ false → to (flow execs).graph (out (flow execs).graph x i) ≡ entering execs (get_or (heads_at (parts execs) x) i 0)
     way_enters plain = ⊎_elim

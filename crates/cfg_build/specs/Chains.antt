@@ -21,13 +21,13 @@ use Rattle.cfg_build.specs.Passes.{PassState, out, kind_in}
 abbrev pub hold_of : List Exec → ℕ → ℕ
 hold_of execs node = (joined execs).graph.nodes + position_or_len (λ x. x == node) (held execs)
 
--- a hold stands in front of the piece, which is no join
-abbrev pub is_behind_hold : List Exec → ℕ → Bool
-is_behind_hold execs node = list_any (λ x. x == node) (held execs) && not (is_join (piece_at (joined execs).pieces node).kind)
+-- a hold stands before the piece, which is no join
+abbrev pub is_after_hold : List Exec → ℕ → Bool
+is_after_hold execs node = list_any (λ x. x == node) (held execs) && not (is_join (piece_at (joined execs).pieces node).kind)
 
--- the piece to which each edge to an executable leads: its join, else the hold in front of it, else its first part
+-- the piece to which each edge to an executable leads: its join, else the hold before it, else its first part
 abbrev pub entry : List Exec → ℕ → ℕ
-entry execs k = let node = number (parts execs) (First k) in if is_behind_hold execs node then hold_of execs node else node
+entry execs k = let node = number (parts execs) (First k) in if is_after_hold execs node then hold_of execs node else node
 
 -- a DO that begins or is incremented goes on to its test
 abbrev pub has_test : ExecKind → Bool

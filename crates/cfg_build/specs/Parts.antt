@@ -34,7 +34,7 @@ first_kind (exec.DoNext loop_no var body exit) = piece.Act
 first_kind exec.End = piece.End
 
 -- The beginning of a DO goes on to the test, and so does its increment; the test goes to the body or the exit. Any other
--- executable is one part. END is a part of its own, behind all others.
+-- executable is one part. END is a part of its own, after all others.
 abbrev pub parts_of : List Exec → (k line : ℕ) → ExecKind → List Part
 parts_of execs k line (exec.Assign target value next) = part (First k) piece.Act line k (First next ∷ []) ∷ []
 parts_of execs k line (exec.Print items next) = part (First k) piece.Act line k (First next ∷ []) ∷ []

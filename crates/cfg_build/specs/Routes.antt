@@ -58,20 +58,20 @@ pub record IsLast (f : FlowGraph) (entry : ℕ → ℕ) (execs : List Exec) (k :
 
 -- the pieces of an executable that is one part
 pub record IsOnePart (f : FlowGraph) (entry : ℕ → ℕ) (execs : List Exec) (k : ℕ) (kind : ExecKind) (pieces : List ℕ) : Type 0 where
-  pub front : List ℕ
+  pub prefix : List ℕ
   pub last : ℕ
-  pub are : pieces ≡ front ++ last ∷ []
-  pub route : IsRoute f (entry k) front last
+  pub are : pieces ≡ prefix ++ last ∷ []
+  pub route : IsRoute f (entry k) prefix last
   pub ends : IsLast f entry execs k kind last
 
 -- the pieces of a DO that begins or is incremented: an act, and the test
 pub record IsTwoParts (f : FlowGraph) (entry : ℕ → ℕ) (execs : List Exec) (k : ℕ) (kind : ExecKind) (pieces : List ℕ) : Type 0 where
-  pub front : List ℕ
+  pub prefix : List ℕ
   pub act : ℕ
   pub middle : List ℕ
   pub test : ℕ
-  pub are : pieces ≡ front ++ act ∷ (middle ++ test ∷ [])
-  pub route : IsRoute f (entry k) front act
+  pub are : pieces ≡ prefix ++ act ∷ (middle ++ test ∷ [])
+  pub route : IsRoute f (entry k) prefix act
   pub acts : IsMade f execs act piece.Act k
   pub on : IsRoute f (to f.graph (out f.graph act 0)) middle test
   pub ends : IsLast f entry execs k kind test

@@ -23,7 +23,7 @@ leaves_one Branch = false
 leaves_one Hold = false
 leaves_one _ = true
 
--- A piece stands at each node: the start at node 0, the end at `finish`, and holds behind the end.
+-- A piece stands at each node: the start at node 0, the end at `finish`, and holds after the end.
 pub record IsShaped (f : FlowGraph) (finish : ℕ) : Type 0 where
   pub count : length f.pieces ≡ f.graph.nodes
   pub start : (node : ℕ) → node < f.graph.nodes → (kind_at f node ≡ Start) ↔ (node ≡ 0)

@@ -20,7 +20,7 @@ exec_at f node = (piece_at f.pieces node).exec
 abbrev pub IsInBody : List Exec → (n node : ℕ) → Type 0
 IsInBody execs n node = InRange execs n (exec_at (flow execs) node)
 
--- the piece that tests the count of the DO n: behind its join, where more than one way leads to it
+-- the piece that tests the count of the DO n: after its join, where more than one way leads to it
 abbrev pub test_of : List Exec → ℕ → ℕ
 test_of execs n =
     let target = Test (do_start execs n) in
@@ -48,6 +48,6 @@ pub record IsJoinOfTest (execs : List Exec) (n node : ℕ) : Type 0 where
   pub kind : kind_at (flow execs) node ≡ Join
   pub leads : (e : ℕ) → IsPlain (flow execs) e → from (flow execs).graph e ≡ node → IsTest execs n (to (flow execs).graph e)
 
--- the test of the DO n, or the join in front of it
+-- the test of the DO n, or the join before it
 abbrev pub IsAtTest : List Exec → (n node : ℕ) → Type 0
 IsAtTest execs n node = IsTest execs n node ⊎ IsJoinOfTest execs n node

@@ -49,7 +49,7 @@ pub(crate) fn drawn(
     Ok(drawing)
 }
 
-// Draws a part behind those that were drawn.
+// Draws a part after those that were drawn.
 fn draw(
     drawing: &mut Drawing,
     part: &Part,

@@ -16,7 +16,7 @@ ghost use Rattle.cfg_build.specs.Zones.{exec_at, IsInBody, IsPlain, IsWayIn, IsA
 use closed_walks::{endless_ways_meet_cycles, reaching_is_told};
 
 /// Where no hold stands on an edge, it leads into the range of a DO from the test of that DO alone, and not by the test's edge to the
-/// exit. The increment of a DO leads to its test, or to the join in front of that.
+/// exit. The increment of a DO leads to its test, or to the join before that.
 pub fn ranges_are_entered_by_tests()
     ensures enters { (names : List NameInfo) (execs : List Exec) (loops n e : ℕ) → AreExecs names execs loops → n < loops → IsPlain (flow execs) e → (IsInBody execs n (from (flow execs).graph e) → ⊥) → IsInBody execs n (to (flow execs).graph e) → IsWayIn execs n e }
     ensures returns { (names : List NameInfo) (execs : List Exec) (loops e : ℕ) (loop : Loop) → AreExecs names execs loops → IsPlain (flow execs) e → kind_at (flow execs) (from (flow execs).graph e) ≡ Act → incremented_at execs (exec_at (flow execs) (from (flow execs).graph e)) ≡ Some loop → IsAtTest execs loop.number (to (flow execs).graph e) }

@@ -11,7 +11,7 @@ use Rattle.closed_walks.specs.declared.component_walk.Stage.{Stage}
 use Rattle.closed_walks.specs.declared.component_walk.Stage.TheVariants.{Member, Done}
 use Rattle.closed_walks.proofs.Walks.{Holds-left, cases_Holds, Walk-append, Avoids-append}
 use Rattle.closed_walks.proofs.Reaching.{kept}
-use Rattle.closed_walks.proofs.Stages.{Holds-last, Holds-new, Holds-from, StandsFrom, from-Holds, IsOrdered-front, IsOrdered-across, IsOrdered-along, bounds_below, Member-same, Member-done, stands-below, settled_cases, settled_member, settled_done}
+use Rattle.closed_walks.proofs.Stages.{Holds-last, Holds-new, Holds-from, StandsFrom, from-Holds, IsOrdered-prefix, IsOrdered-across, IsOrdered-along, bounds_below, Member-same, Member-done, stands-below, settled_cases, settled_member, settled_done}
 use Rattle.closed_walks.proofs.Components.{Reach-ends}
 
 -- the members from the place on are two or more, or the one has a loop
@@ -35,7 +35,7 @@ module _ (g : Graph) (avoided : ℕ → Bool) (stages : List Stage) (marks : Lis
 
   module _ (first : ℕ) (l : IsLast bounds first) (scanned : (e : ℕ) → Holds pending e → stands_from (stage_of stages (from g e)) first ≡ false) where
     holds_first : Holds bounds first
-    holds_first = subst (λ xs. Holds xs first) (sym l.parts) (Holds-new l.front first)
+    holds_first = subst (λ xs. Holds xs first) (sym l.parts) (Holds-new l.prefix first)
 
     pub in_first : first < length members
     in_first = s.within first holds_first
@@ -49,7 +49,7 @@ module _ (g : Graph) (avoided : ℕ → Bool) (stages : List Stage) (marks : Lis
 
     in_last : (p q : ℕ) → first ≤ p → first ≤ q → p < length members → q < length members → Reach g avoided (get_or members p 0) (get_or members q 0)
     in_last p q after_p after_q in_p in_q = s.reaches p q in_p in_q
-        (λ b holds below. let low = bounds_below bounds l.front first b l.parts s.order holds in omega (arith, low, after_q))
+        (λ b holds below. let low = bounds_below bounds l.prefix first b l.parts s.order holds in omega (arith, low, after_q))
 
     -- two nodes of the segment reach one another
     cycle_of_two : (p q : ℕ) → p ≢ q → first ≤ p → first ≤ q → p < length members → q < length members → IsOnCycle g avoided (get_or members p 0)
@@ -134,19 +134,19 @@ module _ (g : Graph) (avoided : ℕ → Bool) (stages : List Stage) (marks : Lis
           let is = s.waiting.begin e holds in
           stays (from g e) (place (stage_of stages (from g e))) is (stands-below (stage_of stages (from g e)) (place (stage_of stages (from g e))) first is (scanned e holds)) ∙ sym is
 
-      settled_end : (e p : ℕ) → IsFree g avoided e → stage_of new_stages (from g e) ≡ Member p → Holds pending e ⊎ (IsSettled l.front p (stage_of new_stages (to g e)) ⊎ Nothing e)
+      settled_end : (e p : ℕ) → IsFree g avoided e → stage_of new_stages (from g e) ≡ Member p → Holds pending e ⊎ (IsSettled l.prefix p (stage_of new_stages (to g e)) ⊎ Nothing e)
       settled_end e p free is =
           let old = was_member (from g e) p is in
           ⊎_elim
           (λ holds. inl holds)
           (⊎_elim
           (λ h. inr (inl (⊎_elim
-          (λ ends. settled_done l.front p (stage_of new_stages (to g e)) (done_stays (to g e) ends))
+          (λ ends. settled_done l.prefix p (stage_of new_stages (to g e)) (done_stays (to g e) ends))
           (λ ends. ⊎_elim
           (λ (low : place (stage_of stages (to g e)) < first).
-          settled_member l.front p (place (stage_of stages (to g e))) (stage_of new_stages (to g e)) (stays (to g e) (place (stage_of stages (to g e))) ends.0 low)
-          (λ b holds below. ends.1 b (subst (λ xs. Holds xs b) (sym l.parts) (Holds-left l.front (first ∷ []) b holds)) below))
-          (λ (after : first ≤ place (stage_of stages (to g e))). settled_done l.front p (stage_of new_stages (to g e)) (d.done (to g e) (gone (to g e) (place (stage_of stages (to g e))) ends.0 after)))
+          settled_member l.prefix p (place (stage_of stages (to g e))) (stage_of new_stages (to g e)) (stays (to g e) (place (stage_of stages (to g e))) ends.0 low)
+          (λ b holds below. ends.1 b (subst (λ xs. Holds xs b) (sym l.parts) (Holds-left l.prefix (first ∷ []) b holds)) below))
+          (λ (after : first ≤ place (stage_of stages (to g e))). settled_done l.prefix p (stage_of new_stages (to g e)) (d.done (to g e) (gone (to g e) (place (stage_of stages (to g e))) ends.0 after)))
           (cases_lt (place (stage_of stages (to g e))) first))
           (settled_cases bounds p (stage_of stages (to g e)) h))))
           (λ none. absurd none))
@@ -176,7 +176,7 @@ module _ (g : Graph) (avoided : ℕ → Bool) (stages : List Stage) (marks : Lis
           (λ now. old.0 (sym (d.other_mark v none) ∙ now), λ c. d.other_mark v none ∙ old.1 c))
           (cases_Holds (drop first members) v)
 
-      pub IsState-end : IsState g avoided Nothing new_stages new_marks (take first members) l.front pending
+      pub IsState-end : IsState g avoided Nothing new_stages new_marks (take first members) l.prefix pending
       IsState-end = record {
         stages_size = d.stages_size ∙ s.stages_size;
         marks_size = d.marks_size ∙ s.marks_size;
@@ -187,13 +187,13 @@ module _ (g : Graph) (avoided : ℕ → Bool) (stages : List Stage) (marks : Lis
             let low : p < first = omega (arith, within, size) in
             ap (stage_of new_stages) (at_old p low) ∙ stays (get_or members p 0) p (s.stage_at p (omega (arith, low, in_first))) low;
         within = λ b holds.
-            let low : b < first = IsOrdered-across (λ x y. x < y) l.front (first ∷ []) (subst (λ xs. IsOrdered (λ x y. x < y) xs) l.parts s.order) b first holds (inl refl) in
+            let low : b < first = IsOrdered-across (λ x y. x < y) l.prefix (first ∷ []) (subst (λ xs. IsOrdered (λ x y. x < y) xs) l.parts s.order) b first holds (inl refl) in
             omega (arith, low, size);
-        order = IsOrdered-front (λ x y. x < y) l.front (first ∷ []) (subst (λ xs. IsOrdered (λ x y. x < y) xs) l.parts s.order);
+        order = IsOrdered-prefix (λ x y. x < y) l.prefix (first ∷ []) (subst (λ xs. IsOrdered (λ x y. x < y) xs) l.parts s.order);
         first = λ some. ⊎_elim
             (λ h. h)
             (λ (same : 0 ≡ first). absurd (omega (arith, same, some, size)))
-            (Holds-last l.front first 0 (subst (λ xs. Holds xs 0) l.parts (s.first (omega (arith, in_first)))));
+            (Holds-last l.prefix first 0 (subst (λ xs. Holds xs 0) l.parts (s.first (omega (arith, in_first)))));
         reaches = λ p q in_p in_q before.
             let low_p : p < first = omega (arith, in_p, size) in
             let low_q : q < first = omega (arith, in_q, size) in
@@ -202,7 +202,7 @@ module _ (g : Graph) (avoided : ℕ → Bool) (stages : List Stage) (marks : Lis
             (λ b holds below. ⊎_elim
             (λ h. before b h below)
             (λ (same : b ≡ first). absurd (omega (arith, same, below, low_p)))
-            (Holds-last l.front first b (subst (λ xs. Holds xs b) l.parts holds))));
+            (Holds-last l.prefix first b (subst (λ xs. Holds xs b) l.parts holds))));
         waiting = record {
           edges = s.waiting.edges;
           begin = λ e holds. begins_old e holds ∙ (s.waiting.begin e holds ∙ ap (λ stage. Member (place stage)) (sym (begins_old e holds)));

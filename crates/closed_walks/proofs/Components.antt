@@ -10,7 +10,7 @@ use Rattle.closed_walks.specs.declared.component_walk.Stage.{Stage}
 use Rattle.closed_walks.specs.declared.component_walk.Stage.TheVariants.{New, Member, Done}
 use Rattle.closed_walks.proofs.Walks.{Holds-left, Holds-right, Holds-append}
 use Rattle.closed_walks.proofs.Reaching.{stay, join, along_last}
-use Rattle.closed_walks.proofs.Stages.{Holds-last, Holds-new, IsOrdered-append, IsOrdered-front, IsOrdered-across, IsOrdered-each, IsOrdered-along, bounds_below, IsBetween, cases_before, Member-same, Member-new, Member-done, New-done, stands-place, stands-below, stands-not, found_cases, member_inside, left_found, StandsFrom, from-Holds, Holds-of_last, settled_member, settled_done, settled_along, stage_same, stage_other}
+use Rattle.closed_walks.proofs.Stages.{Holds-last, Holds-new, IsOrdered-append, IsOrdered-prefix, IsOrdered-across, IsOrdered-each, IsOrdered-along, bounds_below, IsBetween, cases_before, Member-same, Member-new, Member-done, New-done, stands-place, stands-below, stands-not, found_cases, member_inside, left_found, StandsFrom, from-Holds, Holds-of_last, settled_member, settled_done, settled_along, stage_same, stage_other}
 
 module _ (g : Graph) (avoided : ℕ → Bool) where
   pub Reach-ends : (a b c d : ℕ) → a ≡ c → b ≡ d → Reach g avoided c d → Reach g avoided a b
@@ -46,14 +46,14 @@ module _ (g : Graph) (avoided : ℕ → Bool) where
         let here = s.placed u (place (stage_of stages u)) at.0 in
         λ q in_q.
         let before : IsBefore bounds q (place (stage_of stages u)) =
-        λ b holds below. let low = bounds_below bounds last.front first b last.parts s.order holds in omega (arith, low, at.1)
+        λ b holds below. let low = bounds_below bounds last.prefix first b last.parts s.order holds in omega (arith, low, at.1)
         in
         along_last g avoided e (get_or members q 0) (s.waiting.edges e held) (s.free e held)
         (subst (λ x. Reach g avoided (get_or members q 0) x) here.1 (s.reaches q (place (stage_of stages u)) in_q here.0 before))
 
-    pub IsState-pop : (e : ℕ) (l : IsLast pending e) → IsState g avoided (λ f. to g f ≡ to g e) stages marks members bounds l.front
+    pub IsState-pop : (e : ℕ) (l : IsLast pending e) → IsState g avoided (λ f. to g f ≡ to g e) stages marks members bounds l.prefix
     IsState-pop e l =
-        let old : (f : ℕ) → Holds l.front f → Holds pending f = λ f holds. subst (λ xs. Holds xs f) (sym l.parts) (Holds-left l.front (e ∷ []) f holds) in
+        let old : (f : ℕ) → Holds l.prefix f → Holds pending f = λ f holds. subst (λ xs. Holds xs f) (sym l.parts) (Holds-left l.prefix (e ∷ []) f holds) in
         record {
           stages_size = s.stages_size;
           marks_size = s.marks_size;
@@ -68,14 +68,14 @@ module _ (g : Graph) (avoided : ℕ → Bool) where
             begin = λ f holds. s.waiting.begin f (old f holds);
             order =
                 let less : ℕ → ℕ → Type 0 = λ a b. place (stage_of stages (from g a)) ≤ place (stage_of stages (from g b)) in
-                IsOrdered-front less l.front (e ∷ []) (subst (λ xs. IsOrdered less xs) l.parts s.waiting.order);
+                IsOrdered-prefix less l.prefix (e ∷ []) (subst (λ xs. IsOrdered less xs) l.parts s.waiting.order);
           };
           free = λ f holds. s.free f (old f holds);
           settled = λ f p free is. ⊎_elim
               (λ holds. ⊎_elim
               (λ h. inl h)
               (λ (same : f ≡ e). inr (inr (ap (to g) same)))
-              (Holds-last l.front e f (subst (λ xs. Holds xs f) l.parts holds)))
+              (Holds-last l.prefix e f (subst (λ xs. Holds xs f) l.parts holds)))
               (⊎_elim (λ h. inr (inl h)) (λ none. absurd none))
               (s.settled f p free is);
           done = s.done;
@@ -88,7 +88,7 @@ module _ (g : Graph) (avoided : ℕ → Bool) where
     pub IsState-done : stage_of stages v ≡ Done → IsState g avoided Nothing stages marks members bounds pending
     IsState-done is = IsState-settled (λ f. to g f ≡ v) stages marks members bounds pending s (λ e p free begins ends. settled_done bounds p (stage_of stages (to g e)) (ap (stage_of stages) ends ∙ is))
 
-    -- which is a member: the segments behind it become one with its own
+    -- which is a member: the segments after it become one with its own
     pub IsState-merge : (q : ℕ) (fewer : List ℕ) → stage_of stages v ≡ Member q → AreReaching g avoided members v → IsOrdered (λ a b. a < b) fewer → ((b : ℕ) → Holds fewer b ↔ IsBound bounds q b) → IsState g avoided Nothing stages marks members fewer pending
     IsState-merge q fewer is reaching order kept_bounds =
         let here = s.placed v q is in
@@ -130,8 +130,8 @@ module _ (g : Graph) (avoided : ℕ → Bool) where
       abbrev found : List Stage
       found = set stages v (Member (length members))
 
-      abbrev behind : List ℕ
-      behind = members ++ v ∷ []
+      abbrev after : List ℕ
+      after = members ++ v ∷ []
 
       abbrev bounds_on : List ℕ
       bounds_on = bounds ++ length members ∷ []
@@ -155,19 +155,19 @@ module _ (g : Graph) (avoided : ℕ → Bool) where
       was_done : (u : ℕ) → stage_of found u ≡ Done → stage_of stages u ≡ Done
       was_done u is = sym (there_is u (λ same. Member-done (stage_of found u) (length members) is (at_v u same))) ∙ is
 
-      size : length behind ≡ suc (length members)
+      size : length after ≡ suc (length members)
       size = omega (arith, length-append members (v ∷ []))
 
-      at_old : (p : ℕ) → p < length members → get_or behind p 0 ≡ get_or members p 0
+      at_old : (p : ℕ) → p < length members → get_or after p 0 ≡ get_or members p 0
       at_old p within = get_or_append_left members (v ∷ []) 0 p within
 
-      at_new : (p : ℕ) → length members ≡ p → get_or behind p 0 ≡ v
+      at_new : (p : ℕ) → length members ≡ p → get_or after p 0 ≡ v
       at_new p same = get_or_push members v 0 p same
 
-      reaches_on : (p q : ℕ) → p < length behind → q < length behind → IsBefore bounds_on p q → Reach g avoided (get_or behind p 0) (get_or behind q 0)
+      reaches_on : (p q : ℕ) → p < length after → q < length after → IsBefore bounds_on p q → Reach g avoided (get_or after p 0) (get_or after q 0)
       reaches_on p q in_p in_q before = ⊎_elim
           (λ (old_q : q < length members). ⊎_elim
-          (λ (old_p : p < length members). Reach-ends (get_or behind p 0) (get_or behind q 0) (get_or members p 0) (get_or members q 0) (at_old p old_p) (at_old q old_q)
+          (λ (old_p : p < length members). Reach-ends (get_or after p 0) (get_or after q 0) (get_or members p 0) (get_or members q 0) (at_old p old_p) (at_old q old_q)
           (s.reaches p q old_p old_q (λ b holds below. before b (Holds-left bounds (length members ∷ []) b holds) below)))
           (λ (new_p : length members ≤ p).
           let high : length members ≤ q = before (length members) (Holds-new bounds (length members)) new_p in
@@ -176,10 +176,10 @@ module _ (g : Graph) (avoided : ℕ → Bool) where
           (λ (new_q : length members ≤ q).
           let last_q : length members ≡ q = omega (arith, new_q, in_q, size) in
           ⊎_elim
-          (λ (old_p : p < length members). Reach-ends (get_or behind p 0) (get_or behind q 0) (get_or members p 0) v (at_old p old_p) (at_new q last_q) (reaching p old_p))
+          (λ (old_p : p < length members). Reach-ends (get_or after p 0) (get_or after q 0) (get_or members p 0) v (at_old p old_p) (at_new q last_q) (reaching p old_p))
           (λ (new_p : length members ≤ p).
           let last_p : length members ≡ p = omega (arith, new_p, in_p, size) in
-          stay g avoided (get_or behind p 0) (get_or behind q 0) (at_new p last_p ∙ sym (at_new q last_q)))
+          stay g avoided (get_or after p 0) (get_or after q 0) (at_new p last_p ∙ sym (at_new q last_q)))
           (cases_lt p (length members)))
           (cases_lt q (length members))
 
@@ -257,7 +257,7 @@ module _ (g : Graph) (avoided : ℕ → Bool) where
           (cases_eq (to g e) v))
           (cases_eq (from g e) v)
 
-      pub IsState-find : IsState g avoided Nothing found marks behind bounds_on new
+      pub IsState-find : IsState g avoided Nothing found marks after bounds_on new
       IsState-find = record {
         stages_size = length-set stages v (Member (length members)) ∙ s.stages_size;
         marks_size = s.marks_size;
@@ -273,7 +273,7 @@ module _ (g : Graph) (avoided : ℕ → Bool) where
             (λ (old : p < length members). ap (stage_of found) (at_old p old) ∙ old_member (get_or members p 0) p (s.stage_at p old))
             (λ (new_p : length members ≤ p).
             let last : length members ≡ p = omega (arith, new_p, within, size) in
-            at_v (get_or behind p 0) (at_new p last) ∙ ap Member last)
+            at_v (get_or after p 0) (at_new p last) ∙ ap Member last)
             (cases_lt p (length members));
         within = λ b holds. ⊎_elim
             (λ h. let l = s.within b h in omega (arith, l, size))
@@ -301,11 +301,11 @@ pending_below g stages pending first last w l none e holds =
     let less : ℕ → ℕ → Type 0 = λ a b. place (stage_of stages (from g a)) ≤ place (stage_of stages (from g b)) in
     let low : place (stage_of stages (from g last)) < first = stands-below (stage_of stages (from g last)) (place (stage_of stages (from g last))) first (w.begin last (Holds-of_last pending last l)) none in
     ⊎_elim
-    (λ (h : Holds l.front e).
-    let before : place (stage_of stages (from g e)) ≤ place (stage_of stages (from g last)) = IsOrdered-across less l.front (last ∷ []) (subst (λ xs. IsOrdered less xs) l.parts w.order) e last h (inl refl) in
+    (λ (h : Holds l.prefix e).
+    let before : place (stage_of stages (from g e)) ≤ place (stage_of stages (from g last)) = IsOrdered-across less l.prefix (last ∷ []) (subst (λ xs. IsOrdered less xs) l.parts w.order) e last h (inl refl) in
     stands-not (stage_of stages (from g e)) (place (stage_of stages (from g e))) first (w.begin e holds) (omega (arith, before, low)))
     (λ (same : e ≡ last). ap (λ x. stands_from (stage_of stages (from g x)) first) same ∙ none)
-    (Holds-last l.front last e (subst (λ xs. Holds xs e) l.parts holds))
+    (Holds-last l.prefix last e (subst (λ xs. Holds xs e) l.parts holds))
 
 pub found_less : (g : Graph) (avoided : ℕ → Bool) (stages : List Stage) (v p : ℕ) (pending new bounds : List ℕ) → v < length stages → stage_of stages v ≡ New → Adds g avoided v pending new → left (edge_count g + 2) (set stages v (Member p)) + length new + length (bounds ++ p ∷ []) < left (edge_count g + 2) stages + length pending + length bounds
 found_less g avoided stages v p pending new bounds within fresh a =

@@ -20,22 +20,22 @@ free_of : (b e : ℕ) → e ≢ b → only b e ≡ false
 free_of b e apart = ne_eqb e b apart
 
 module _ (g : Graph) where
-  -- a way from u to v meets neither of two edges, or meets one of them: `front` is avoided before it, and `back` after it
-  pub data MeetsOf (a b : ℕ) (front back : ℕ → Bool) (u v : ℕ) : Type 0 where
-    meets_none : Reach g (either a b) u v → MeetsOf a b front back u v
-    meets_a : Reach g front u (from g a) → Reach g back (to g a) v → MeetsOf a b front back u v
-    meets_b : Reach g front u (from g b) → Reach g back (to g b) v → MeetsOf a b front back u v
+  -- a way from u to v meets neither of two edges, or meets one of them: `prefix` is avoided before it, and `back` after it
+  pub data MeetsOf (a b : ℕ) (prefix back : ℕ → Bool) (u v : ℕ) : Type 0 where
+    meets_none : Reach g (either a b) u v → MeetsOf a b prefix back u v
+    meets_a : Reach g prefix u (from g a) → Reach g back (to g a) v → MeetsOf a b prefix back u v
+    meets_b : Reach g prefix u (from g b) → Reach g back (to g b) v → MeetsOf a b prefix back u v
 
-  met : (a b : ℕ) (front back : ℕ → Bool) (u v : ℕ) → Reach g (either a b) u v ⊎ IsMet g (either a b) front back u v → MeetsOf a b front back u v
-  met a b front back u v found = ⊎_elim
+  met : (a b : ℕ) (prefix back : ℕ → Bool) (u v : ℕ) → Reach g (either a b) u v ⊎ IsMet g (either a b) prefix back u v → MeetsOf a b prefix back u v
+  met a b prefix back u v found = ⊎_elim
       (λ r. meets_none r)
-      (λ (m : IsMet g (either a b) front back u v). ⊎_elim
+      (λ (m : IsMet g (either a b) prefix back u v). ⊎_elim
       (λ (h : (m.edge == a) ≡ true).
       let same : m.edge ≡ a = eqb-true m.edge a h in
-      meets_a (subst (λ x. Reach g front u (from g x)) same m.before) (subst (λ x. Reach g back (to g x) v) same m.after))
+      meets_a (subst (λ x. Reach g prefix u (from g x)) same m.before) (subst (λ x. Reach g back (to g x) v) same m.after))
       (λ (h : (m.edge == b) ≡ true).
       let same : m.edge ≡ b = eqb-true m.edge b h in
-      meets_b (subst (λ x. Reach g front u (from g x)) same m.before) (subst (λ x. Reach g back (to g x) v) same m.after))
+      meets_b (subst (λ x. Reach g prefix u (from g x)) same m.before) (subst (λ x. Reach g back (to g x) v) same m.after))
       (or_cases (m.edge == a) (m.edge == b) m.among))
       found
 
@@ -82,24 +82,24 @@ module _ (g : Graph) where
     not_past : Reach g (only b) (to g a) (to g b) → ⊥
     not_past past = elim (first_of_two a b (to g b) (from g b) (strong (to g b) (from g b) (sound.ends b b_edge) (sound.begins b b_edge))) [
       | meets_none r ↦ no_back (without_first a b (to g b) (from g b) r)
-      | meets_a front back ↦ no_way (join g (only b) (to g a) (to g b) (from g a) past (without_second a b (to g b) (from g a) front))
-      | meets_b front back ↦ no_back (without_first a b (to g b) (from g b) front)
+      | meets_a prefix back ↦ no_way (join g (only b) (to g a) (to g b) (from g a) past (without_second a b (to g b) (from g a) prefix))
+      | meets_b prefix back ↦ no_back (without_first a b (to g b) (from g b) prefix)
     ]
 
     -- a way from b's head to an edge that goes into the set, and on from there to b
     not_round : (e : ℕ) → e < edge_count g → Reach g (either a b) (to g b) (to g e) → Reach g (only b) (to g a) (to g e) → ⊥
     not_round e edge round inside = elim (first_of_two a b (to g e) (from g b) (strong (to g e) (from g b) (sound.ends e edge) (sound.begins b b_edge))) [
       | meets_none r ↦ no_back (without_first a b (to g b) (from g b) (join g (either a b) (to g b) (to g e) (from g b) round r))
-      | meets_a front back ↦ no_way (join g (only b) (to g a) (to g e) (from g a) inside (without_second a b (to g e) (from g a) front))
-      | meets_b front back ↦ no_back (without_first a b (to g b) (from g b) (join g (either a b) (to g b) (to g e) (from g b) round front))
+      | meets_a prefix back ↦ no_way (join g (only b) (to g a) (to g e) (from g a) inside (without_second a b (to g e) (from g a) prefix))
+      | meets_b prefix back ↦ no_back (without_first a b (to g b) (from g b) (join g (either a b) (to g b) (to g e) (from g b) round prefix))
     ]
 
     -- no other edge enters the set
     not_entered : (e : ℕ) → e < edge_count g → e ≢ a → e ≢ b → Reach g (only b) (to g a) (to g e) → (Reach g (only b) (to g a) (from g e) → ⊥) → ⊥
     not_entered e edge not_a not_b inside outside = elim (last_of_two a b (to g a) (from g e) (strong (to g a) (from g e) (sound.ends a a_edge) (sound.begins e edge))) [
       | meets_none r ↦ outside (without_second a b (to g a) (from g e) r)
-      | meets_a front back ↦ outside (without_second a b (to g a) (from g e) back)
-      | meets_b front back ↦ not_round e edge (along_last g (either a b) e (to g b) edge (or_from (e == a) (e == b) (free_of a e not_a) (free_of b e not_b)) back) inside
+      | meets_a prefix back ↦ outside (without_second a b (to g a) (from g e) back)
+      | meets_b prefix back ↦ not_round e edge (along_last g (either a b) e (to g b) edge (or_from (e == a) (e == b) (free_of a e not_a) (free_of b e not_b)) back) inside
     ]
 
     other_edge : (e : ℕ) → e < edge_count g → e ≢ a → e ≢ b → side a b (from g e) ≡ side a b (to g e)

@@ -73,11 +73,11 @@ Keeps-with g u v lists new kept begins ends few len more = record {
 }
 
 -- an edge that was put into the one list, and not into the other, is taken out again
-pub set-undone : (lists : List (List ℕ)) (u v e : ℕ) (pushed same front : List ℕ) → u ≢ v → u < length lists → pushed ≡ get_or lists u [] ++ e ∷ [] → same ≡ get_or (set lists u pushed) v [] → ((xs : List ℕ) → get_or (set (set lists u pushed) v same) u [] ≡ xs ++ e ∷ [] → front ≡ xs) → set (set (set lists u pushed) v same) u front ≡ lists
-set-undone lists u v e pushed same front apart within push unchanged undo =
+pub set-undone : (lists : List (List ℕ)) (u v e : ℕ) (pushed same prefix : List ℕ) → u ≢ v → u < length lists → pushed ≡ get_or lists u [] ++ e ∷ [] → same ≡ get_or (set lists u pushed) v [] → ((xs : List ℕ) → get_or (set (set lists u pushed) v same) u [] ≡ xs ++ e ∷ [] → prefix ≡ xs) → set (set (set lists u pushed) v same) u prefix ≡ lists
+set-undone lists u v e pushed same prefix apart within push unchanged undo =
     let once : set (set lists u pushed) v same ≡ set lists u pushed = ap (set (set lists u pushed) v) unchanged ∙ set-get_or (set lists u pushed) v [] in
-    let old : front ≡ get_or lists u [] = undo (get_or lists u []) (ap (λ xs. get_or xs u []) once ∙ (get_or-set_same lists u pushed [] within ∙ push)) in
-    ap (λ xs. set xs u front) once ∙ (set-set lists u pushed front ∙ (ap (set lists u) old ∙ set-get_or lists u []))
+    let old : prefix ≡ get_or lists u [] = undo (get_or lists u []) (ap (λ xs. get_or xs u []) once ∙ (get_or-set_same lists u pushed [] within ∙ push)) in
+    ap (λ xs. set xs u prefix) once ∙ (set-set lists u pushed prefix ∙ (ap (set lists u) old ∙ set-get_or lists u []))
 
 -- the ends that were read at an edge's place are its own
 pub from-read : (g : Graph) (e : ℕ) (p : ℕ × ℕ) → e < edge_count g → p ≡ get_or g.edges e p → p.0 ≡ from g e

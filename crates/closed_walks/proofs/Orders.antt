@@ -39,15 +39,15 @@ module _ (g : Graph) (flow : IsFlowGraph g) where
   pub not_both : (a b : ℕ) → IsPair g a b → IsBefore g a b → IsBefore g b a → ⊥
   not_both a b p before after = elim (last_of_two g a b (to g a) 0 (flow.strong (to g a) 0 (flow.sound.ends a p.first) start_node)) [
     | meets_none r ↦ not_start a b p before (without_second g a b (to g a) 0 r)
-    | meets_a front back ↦ not_start a b p before (without_second g a b (to g a) 0 back)
-    | meets_b front back ↦ not_start b a (IsPair-back g a b p) after (without_first g a b (to g b) 0 back)
+    | meets_a prefix back ↦ not_start a b p before (without_second g a b (to g a) 0 back)
+    | meets_b prefix back ↦ not_start b a (IsPair-back g a b p) after (without_first g a b (to g b) 0 back)
   ]
 
   pub either_before : (a b : ℕ) → IsPair g a b → IsBefore g a b ⊎ IsBefore g b a
   either_before a b p = elim (first_of_two g a b 0 (from g a) (flow.strong 0 (from g a) start_node (flow.sound.begins a p.first))) [
     | meets_none r ↦ inl (without_second g a b 0 (from g a) r)
-    | meets_a front back ↦ inl (without_second g a b 0 (from g a) front)
-    | meets_b front back ↦ inr (without_first g a b 0 (from g b) front)
+    | meets_a prefix back ↦ inl (without_second g a b 0 (from g a) prefix)
+    | meets_b prefix back ↦ inr (without_first g a b 0 (from g b) prefix)
   ]
 
   -- of its class edge 0 is met last

@@ -24,18 +24,18 @@ module _ (g : Graph) where
   along_first avoided e v edge free rest = join avoided (from g e) (to g e) v (along avoided e edge free) rest
 
   pub along_last : (avoided : ℕ → Bool) (e u : ℕ) → e < edge_count g → avoided e ≡ false → Reach g avoided u (from g e) → Reach g avoided u (to g e)
-  along_last avoided e u edge free front = join avoided u (from g e) (to g e) front (along avoided e edge free)
+  along_last avoided e u edge free prefix = join avoided u (from g e) (to g e) prefix (along avoided e edge free)
 
   -- what is reached without more edges is reached without fewer
   pub Reach-within : (more less : ℕ → Bool) → ((e : ℕ) → more e ≡ false → less e ≡ false) → (u v : ℕ) → Reach g more u v → Reach g less u v
   Reach-within more less within u v r = record { walk = r.walk; leads = r.leads; avoids = Avoids-within more less within r.walk r.avoids }
 
-  -- A way from u to v leads over an edge of a set: to it without the edges of `front`, on from it without those of `back`.
-  pub record IsMet (set front back : ℕ → Bool) (u v : ℕ) : Type 0 where
+  -- A way from u to v leads over an edge of a set: to it without the edges of `prefix`, on from it without those of `back`.
+  pub record IsMet (set prefix back : ℕ → Bool) (u v : ℕ) : Type 0 where
     pub edge : ℕ
     pub exists : edge < edge_count g
     pub among : set edge ≡ true
-    pub before : Reach g front u (from g edge)
+    pub before : Reach g prefix u (from g edge)
     pub after : Reach g back (to g edge) v
 
   module _ (set avoided both : ℕ → Bool) (joins : (e : ℕ) → set e ≡ false → avoided e ≡ false → both e ≡ false) where

@@ -15,11 +15,11 @@ use Rattle.closed_walks.proofs.Touching.{Holds-at}
 
 pub last_of : (xs : List ℕ) (x n : ℕ) → length xs ≡ suc n → slice_get xs n ≡ Some x → IsLast xs x
 last_of [] x n len is = absurd (omega (arith, len))
-last_of (y ∷ []) x zero len is = let same : Some y ≡ Some x = is in let e : y ≡ x = cc in record { front = []; parts = ap (λ z. z ∷ []) e }
+last_of (y ∷ []) x zero len is = let same : Some y ≡ Some x = is in let e : y ≡ x = cc in record { prefix = []; parts = ap (λ z. z ∷ []) e }
 last_of (y ∷ z ∷ zs) x zero len is = absurd (omega (arith, len))
 last_of (y ∷ ys) x (suc n) len is =
     let r : IsLast ys x = last_of ys x n (omega (arith, len)) is in
-    record { front = y ∷ r.front; parts = ap (λ zs. y ∷ zs) r.parts }
+    record { prefix = y ∷ r.prefix; parts = ap (λ zs. y ∷ zs) r.parts }
 
 -- the last item that was read
 pub last_read : (xs ys : List ℕ) (x : ℕ) → ys ≡ xs → Some x ≡ slice_get ys (length ys - 1) → IsLast xs x
@@ -29,11 +29,11 @@ last_read xs (y ∷ ys) x same read =
     subst (λ zs. IsLast zs x) same (last_of (y ∷ ys) x (length ys) refl (ap (slice_get (y ∷ ys)) (sym n) ∙ sym read))
 
 -- what is left where the last item was taken off
-pub popped : (xs new : List ℕ) (x n : ℕ) (l : IsLast xs x) → n ≡ length xs → new ≡ take (n - 1) xs → new ≡ l.front
+pub popped : (xs new : List ℕ) (x n : ℕ) (l : IsLast xs x) → n ≡ length xs → new ≡ take (n - 1) xs → new ≡ l.prefix
 popped xs new x n l len rest =
-    let size : length xs ≡ length (l.front ++ x ∷ []) = ap length l.parts in
-    let k : n - 1 ≡ length l.front = omega (arith, len, size, length-append l.front (x ∷ [])) in
-    rest ∙ (ap (λ m. take m xs) k ∙ (ap (take (length l.front)) l.parts ∙ take-append_seam l.front (x ∷ [])))
+    let size : length xs ≡ length (l.prefix ++ x ∷ []) = ap length l.parts in
+    let k : n - 1 ≡ length l.prefix = omega (arith, len, size, length-append l.prefix (x ∷ [])) in
+    rest ∙ (ap (λ m. take m xs) k ∙ (ap (take (length l.prefix)) l.parts ∙ take-append_seam l.prefix (x ∷ [])))
 
 pub Holds-last : (xs : List ℕ) (x y : ℕ) → Holds (xs ++ x ∷ []) y → Holds xs y ⊎ (y ≡ x)
 Holds-last xs x y holds = ⊎_elim (λ (h : Holds xs y). inl h) (⊎_elim (λ (same : x ≡ y). inr (sym same)) (λ none. absurd none)) (Holds-append xs (x ∷ []) y holds)
@@ -75,7 +75,7 @@ pub part_from : (xs ys : List ℕ) (k : ℕ) → ys ≡ xs → take (length ys -
 part_from xs ys k same = take_all (length ys - k) (drop k ys) (omega (arith, length-drop k ys)) ∙ ap (drop k) same
 
 pub Holds-of_last : (xs : List ℕ) (x : ℕ) → IsLast xs x → Holds xs x
-Holds-of_last xs x l = subst (λ ys. Holds ys x) (sym l.parts) (Holds-new l.front x)
+Holds-of_last xs x l = subst (λ ys. Holds ys x) (sym l.parts) (Holds-new l.prefix x)
 
 -- ---- order
 
@@ -87,9 +87,9 @@ module _ (less : ℕ → ℕ → Type 0) where
     IsOrdered-append xs ys ox.1 oy (λ a b ha hb. across a b (inr ha) hb),
   )
 
-  pub IsOrdered-front : (xs ys : List ℕ) → IsOrdered less (xs ++ ys) → IsOrdered less xs
-  IsOrdered-front [] ys o = tt
-  IsOrdered-front (x ∷ xs) ys o = (λ y h. o.0 y (Holds-left xs ys y h), IsOrdered-front xs ys o.1)
+  pub IsOrdered-prefix : (xs ys : List ℕ) → IsOrdered less (xs ++ ys) → IsOrdered less xs
+  IsOrdered-prefix [] ys o = tt
+  IsOrdered-prefix (x ∷ xs) ys o = (λ y h. o.0 y (Holds-left xs ys y h), IsOrdered-prefix xs ys o.1)
 
   pub IsOrdered-across : (xs ys : List ℕ) → IsOrdered less (xs ++ ys) → (x y : ℕ) → Holds xs x → Holds ys y → less x y
   IsOrdered-across [] ys o x y hx hy = absurd hx
@@ -105,11 +105,11 @@ IsOrdered-along less other [] along o = tt
 IsOrdered-along less other (x ∷ xs) along o = (λ y h. along x y (inl refl) (inr h) (o.0 y h), IsOrdered-along less other xs (λ a b ha hb. along a b (inr ha) (inr hb)) o.1)
 
 -- all bounds are at most the last
-pub bounds_below : (bounds front : List ℕ) (last b : ℕ) → bounds ≡ front ++ last ∷ [] → IsOrdered (λ a b. a < b) bounds → Holds bounds b → b ≤ last
-bounds_below bounds front last b parts o holds = ⊎_elim
-    (λ (h : Holds front b). let l : b < last = IsOrdered-across (λ a b. a < b) front (last ∷ []) (subst (λ xs. IsOrdered (λ a b. a < b) xs) parts o) b last h (inl refl) in omega (arith, l))
+pub bounds_below : (bounds prefix : List ℕ) (last b : ℕ) → bounds ≡ prefix ++ last ∷ [] → IsOrdered (λ a b. a < b) bounds → Holds bounds b → b ≤ last
+bounds_below bounds prefix last b parts o holds = ⊎_elim
+    (λ (h : Holds prefix b). let l : b < last = IsOrdered-across (λ a b. a < b) prefix (last ∷ []) (subst (λ xs. IsOrdered (λ a b. a < b) xs) parts o) b last h (inl refl) in omega (arith, l))
     (λ (same : b ≡ last). omega (arith, same))
-    (Holds-last front last b (subst (λ xs. Holds xs b) parts holds))
+    (Holds-last prefix last b (subst (λ xs. Holds xs b) parts holds))
 
 -- one segment is not after another, or a bound stands between
 pub record IsBetween (bounds : List ℕ) (p q : ℕ) : Type 0 where
@@ -265,16 +265,16 @@ pub record IsCut (old : List ℕ) (place : ℕ) (new : List ℕ) : Type 0 where
   pub parts : old ≡ new ++ cut
   pub high : (b : ℕ) → Holds cut b → place < b
 
-pub IsCut-more : (old : List ℕ) (place : ℕ) (new front : List ℕ) (b : ℕ) → new ≡ front ++ b ∷ [] → place < b → IsCut old place new → IsCut old place front
-IsCut-more old place new front b parts above c = record {
+pub IsCut-more : (old : List ℕ) (place : ℕ) (new prefix : List ℕ) (b : ℕ) → new ≡ prefix ++ b ∷ [] → place < b → IsCut old place new → IsCut old place prefix
+IsCut-more old place new prefix b parts above c = record {
   cut = b ∷ c.cut;
-  parts = c.parts ∙ (ap (λ xs. xs ++ c.cut) parts ∙ append_assoc front (b ∷ []) c.cut);
+  parts = c.parts ∙ (ap (λ xs. xs ++ c.cut) parts ∙ append_assoc prefix (b ∷ []) c.cut);
   high = λ x holds. ⊎_elim (λ (same : b ≡ x). subst (λ y. place < y) same above) (λ h. c.high x h) holds;
 }
 
 module _ (old : List ℕ) (place : ℕ) (new : List ℕ) (o : IsOrdered (λ a b. a < b) old) (c : IsCut old place new) where
   pub IsCut-order : IsOrdered (λ a b. a < b) new
-  IsCut-order = IsOrdered-front (λ a b. a < b) new c.cut (subst (λ xs. IsOrdered (λ a b. a < b) xs) c.parts o)
+  IsCut-order = IsOrdered-prefix (λ a b. a < b) new c.cut (subst (λ xs. IsOrdered (λ a b. a < b) xs) c.parts o)
 
   -- where the last bound that is left isn't above the place, all that are left are the bounds up to it
   pub IsCut-end : ((b : ℕ) → Holds new b → b ≤ place) → (b : ℕ) → Holds new b ↔ IsBound old place b
@@ -287,4 +287,4 @@ module _ (old : List ℕ) (place : ℕ) (new : List ℕ) (o : IsOrdered (λ a b.
   )
 
   pub last_low : (last : ℕ) → IsLast new last → last ≤ place → (b : ℕ) → Holds new b → b ≤ place
-  last_low last l low b holds = let h : b ≤ last = bounds_below new l.front last b l.parts IsCut-order holds in omega (arith, h, low)
+  last_low last l low b holds = let h : b ≤ last = bounds_below new l.prefix last b l.parts IsCut-order holds in omega (arith, h, low)

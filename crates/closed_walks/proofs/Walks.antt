@@ -40,19 +40,19 @@ module _ (g : Graph) where
 
   -- a walk from u to v is a walk to the edge, the edge, and a walk from it
   pub record IsSplit (u v : ℕ) (w : List ℕ) (e : ℕ) : Type 0 where
-    pub front : List ℕ
+    pub prefix : List ℕ
     pub back : List ℕ
-    pub parts : w ≡ front ++ e ∷ back
+    pub parts : w ≡ prefix ++ e ∷ back
     pub edge : e < edge_count g
-    pub before : Walk g u front (from g e)
+    pub before : Walk g u prefix (from g e)
     pub after : Walk g (to g e) back v
 
   pub split : (u v : ℕ) (w : List ℕ) (e : ℕ) → Walk g u w v → Holds w e → IsSplit u v w e
   split u v [] e h holds = absurd holds
-  split u v (f ∷ w) e h (inl same) = subst (λ x. IsSplit u v (f ∷ w) x) same (record { front = []; back = w; parts = refl; edge = h.0; before = sym h.1; after = h.2 })
+  split u v (f ∷ w) e h (inl same) = subst (λ x. IsSplit u v (f ∷ w) x) same (record { prefix = []; back = w; parts = refl; edge = h.0; before = sym h.1; after = h.2 })
   split u v (f ∷ w) e h (inr holds) =
       let s = split (to g f) v w e h.2 holds in
-      record { front = f ∷ s.front; back = s.back; parts = ap (λ x. f ∷ x) s.parts; edge = s.edge; before = (h.0, h.1, s.before); after = s.after }
+      record { prefix = f ∷ s.prefix; back = s.back; parts = ap (λ x. f ∷ x) s.parts; edge = s.edge; before = (h.0, h.1, s.before); after = s.after }
 
   -- an edge and a walk back to where it begins are a closed walk
   pub IsClosed-around : (e : ℕ) (w : List ℕ) → e < edge_count g → Walk g (to g e) w (from g e) → IsClosed g (e ∷ w)
@@ -66,26 +66,26 @@ module _ (g : Graph) where
     pub within : (f : ℕ) → Holds rest f → Holds w f
     pub covers : (f : ℕ) → Holds w f → (e ≡ f) ⊎ Holds rest f
 
-  around_parts : (base e : ℕ) (front back : List ℕ) → e < edge_count g → Walk g base front (from g e) → Walk g (to g e) back base → IsAround (front ++ e ∷ back) e
-  around_parts base e front back edge before after = record {
-    rest = back ++ front;
+  around_parts : (base e : ℕ) (prefix back : List ℕ) → e < edge_count g → Walk g base prefix (from g e) → Walk g (to g e) back base → IsAround (prefix ++ e ∷ back) e
+  around_parts base e prefix back edge before after = record {
+    rest = back ++ prefix;
     edge = edge;
-    leads = Walk-append (to g e) base (from g e) back front after before;
+    leads = Walk-append (to g e) base (from g e) back prefix after before;
     within = λ f holds. ⊎_elim
-        (λ (h : Holds back f). Holds-right front (e ∷ back) f (inr h))
-        (λ (h : Holds front f). Holds-left front (e ∷ back) f h)
-        (Holds-append back front f holds);
+        (λ (h : Holds back f). Holds-right prefix (e ∷ back) f (inr h))
+        (λ (h : Holds prefix f). Holds-left prefix (e ∷ back) f h)
+        (Holds-append back prefix f holds);
     covers = λ f holds. ⊎_elim
-        (λ (h : Holds front f). inr (Holds-right back front f h))
-        (⊎_elim (λ same. inl same) (λ h. inr (Holds-left back front f h)))
-        (Holds-append front (e ∷ back) f holds);
+        (λ (h : Holds prefix f). inr (Holds-right back prefix f h))
+        (⊎_elim (λ same. inl same) (λ h. inr (Holds-left back prefix f h)))
+        (Holds-append prefix (e ∷ back) f holds);
   }
 
   pub rotate : (w : List ℕ) (e : ℕ) → IsClosed g w → Holds w e → IsAround w e
   rotate [] e closed holds = absurd holds
   rotate (f ∷ w) e closed holds =
       let s = split (from g f) (from g f) (f ∷ w) e closed holds in
-      subst (λ x. IsAround x e) (sym s.parts) (around_parts (from g f) e s.front s.back s.edge s.before s.after)
+      subst (λ x. IsAround x e) (sym s.parts) (around_parts (from g f) e s.prefix s.back s.edge s.before s.after)
 
 -- ---- edges that are avoided
 

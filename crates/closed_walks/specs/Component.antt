@@ -20,8 +20,8 @@ IsOrdered less [] = Unit {0}
 IsOrdered less (x ∷ xs) = ((y : ℕ) → Holds xs y → less x y) × IsOrdered less xs
 
 pub record IsLast (xs : List ℕ) (x : ℕ) : Type 0 where
-  pub front : List ℕ
-  pub parts : xs ≡ front ++ x ∷ []
+  pub prefix : List ℕ
+  pub parts : xs ≡ prefix ++ x ∷ []
 
 -- the number is a bound, and isn't above the place
 pub record IsBound (bounds : List ℕ) (place b : ℕ) : Type 0 where
@@ -41,7 +41,7 @@ pub record HasEdge (g : Graph) (avoided : ℕ → Bool) (u v : ℕ) : Type 0 whe
   pub begins : from g edge ≡ u
   pub ends : to g edge ≡ v
 
--- the edges from the node that aren't avoided are put behind the old ones
+-- the edges from the node that aren't avoided are put after the old ones
 pub record Adds (g : Graph) (avoided : ℕ → Bool) (node : ℕ) (old new : List ℕ) : Type 0 where
   pub added : List ℕ
   pub parts : new ≡ old ++ added

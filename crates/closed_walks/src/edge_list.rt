@@ -41,7 +41,7 @@ impl EdgeList {
 
     /// Takes the last edge off again.
     pub(crate) fn drop_last(&mut self, e: u32)
-        ensures { (front : List ℕ) → self.old ≡ front ++ e ∷ [] → self.new ≡ front }
+        ensures { (prefix : List ℕ) → self.old ≡ prefix ++ e ∷ [] → self.new ≡ prefix }
     {
         self.numbers.pop();
     }

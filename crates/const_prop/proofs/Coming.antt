@@ -20,7 +20,7 @@ use Rattle.dep_routing.specs.Quiet.{IsFree}
 use Rattle.dep_routing.specs.Routing.{Routing, next_at}
 use Rattle.const_prop.specs.declared.known.Known.{Known}
 use Rattle.const_prop.specs.declared.known.Known.TheVariants.{Nothing, One, Any}
-use Rattle.const_prop.specs.Closed.{IsClosed, IsReady, IsWay, written, written_behind, decided, decided_behind, selected, is_action, is_switch, is_merge, is_one_word, kind_behind, exec_behind, words_on, led_to}
+use Rattle.const_prop.specs.Closed.{IsClosed, IsReady, IsWay, written, written_after, decided, decided_after, selected, is_action, is_switch, is_merge, is_one_word, kind_after, exec_after, words_on, led_to}
 use Rattle.const_prop.specs.Facts.{PlaceFacts}
 use Rattle.const_prop.specs.Known.{AtMost, IsSomething, as_known, as_index}
 use Rattle.const_prop.specs.Setting.{IsProgram}
@@ -85,8 +85,8 @@ if_nothing Any not_it = tt
 module _ (p : Program) (f : FlowGraph) (c : ClassTable) (touches : ℕ → ℕ → Bool) (r : Routing) (tree : Tree) (program : IsProgram p f) (classes : IsClasses p c) (facts : PlaceFacts f.graph tree touches r)
     (actions : (node line : ℕ) → node < f.graph.nodes → touches node line ≡ true → is_action (kind_at f node) ≡ true) where
   -- a free piece that doesn't touch the line sends it on
-  pub free_kind : (line e d : ℕ) → e < edge_count f.graph → d < edge_count f.graph → 0 ≢ to f.graph e → from f.graph d ≡ to f.graph e → IsFree f.graph tree touches line (to f.graph e) → touches (to f.graph e) line ≡ false → (is_switch (kind_behind f e) ≡ true) ⊎ (is_merge (kind_behind f e) ≡ true)
-  free_kind line e d le ld later begins free untouched = by (kind_behind f e) refl
+  pub free_kind : (line e d : ℕ) → e < edge_count f.graph → d < edge_count f.graph → 0 ≢ to f.graph e → from f.graph d ≡ to f.graph e → IsFree f.graph tree touches line (to f.graph e) → touches (to f.graph e) line ≡ false → (is_switch (kind_after f e) ≡ true) ⊎ (is_merge (kind_after f e) ≡ true)
+  free_kind line e d le ld later begins free untouched = by (kind_after f e) refl
     where
       node_in : to f.graph e < f.graph.nodes
       node_in = program.sound.ends e le
@@ -94,7 +94,7 @@ module _ (p : Program) (f : FlowGraph) (c : ClassTable) (touches : ℕ → ℕ �
       one_way : IsPassed f.graph (to f.graph e) e d → ⊥
       one_way passed = let clash : true ≡ false = sym (facts.passed line (to f.graph e) e d passed later free) ∙ untouched in absurd cc
 
-      by : (kind : PieceKind) → kind_behind f e ≡ kind → (is_switch kind ≡ true) ⊎ (is_merge kind ≡ true)
+      by : (kind : PieceKind) → kind_after f e ≡ kind → (is_switch kind ≡ true) ⊎ (is_merge kind ≡ true)
       by Branch is = inl refl
       by Hold is = inl refl
       by Join is = inr refl
@@ -110,7 +110,7 @@ module _ (p : Program) (f : FlowGraph) (c : ClassTable) (touches : ℕ → ℕ �
     abbrev pub IsMet : ℕ → Type 0
     IsMet e = (line h : ℕ) → line < r.lines → Place f.graph tree touches line e h → IsSomething (t.value line h)
 
-    pub met-ready : (e : ℕ) → IsMet e → e < edge_count f.graph → is_action (kind_behind f e) ≡ true → IsReady f touches r.lines t e
+    pub met-ready : (e : ℕ) → IsMet e → e < edge_count f.graph → is_action (kind_after f e) ≡ true → IsReady f touches r.lines t e
     met-ready e met edge action = record { edge = edge; action = action; each = λ line l x. met line e l (facts.arrives line e edge (facts.touching line (to f.graph e) x)) }
 
     -- the opening wire
@@ -137,7 +137,7 @@ module _ (p : Program) (f : FlowGraph) (c : ClassTable) (touches : ℕ → ℕ �
         if_nothing led (λ (nothing : led ≡ Nothing).
         let silent : (k : Known) → IsSomething k → AtMost k led → ⊥ = λ k some below. something-more k Nothing (subst (AtMost k) nothing below) some in
         silent (t.value line e) (ready.each line l x) (closed.reads e line i ready way l x (λ w.
-        silent (written_behind p f c t e line) (written-something p.names c (words_on c t e) (exec_behind p f e) line) (closed.writes e line i ready way l x w))))
+        silent (written_after p f c t e line) (written-something p.names c (words_on c t e) (exec_after p f e) line) (closed.writes e line i ready way l x w))))
 
     free-on : (e line i d : ℕ) → IsMet e → IsWay f t e i → 0 ≢ to f.graph e → d < edge_count f.graph → d ≡ out f.graph (to f.graph e) i → from f.graph d ≡ to f.graph e → line < r.lines → IsFree f.graph tree touches line (to f.graph e) → IsSomething (t.value line (led_to f r e line i))
     free-on e line i d met way later ld is begins l free = ⊎_elim
@@ -147,8 +147,8 @@ module _ (p : Program) (f : FlowGraph) (c : ClassTable) (touches : ℕ → ℕ �
         let wire = facts.wire line e l way.edge free in
         let led = t.value line (led_to f r e line i) in
         ⊎_elim
-        (λ (s : is_switch (kind_behind f e) ≡ true). something-more (t.value line e) led (closed.switches e line i way s l x wire) here)
-        (λ (s : is_merge (kind_behind f e) ≡ true). something-more (t.value line e) led (closed.merges e line i way s l wire) here)
+        (λ (s : is_switch (kind_after f e) ≡ true). something-more (t.value line e) led (closed.switches e line i way s l x wire) here)
+        (λ (s : is_merge (kind_after f e) ≡ true). something-more (t.value line e) led (closed.merges e line i way s l wire) here)
         (free_kind line e d way.edge ld later begins free x))
         (cases_Bool (touches (to f.graph e) line))
 
@@ -161,5 +161,5 @@ module _ (p : Program) (f : FlowGraph) (c : ClassTable) (touches : ℕ → ℕ �
         (λ (held : IsFree f.graph tree touches line (to f.graph e) → ⊥). met line h l (facts.stays line e d h way.edge ld begins held at))
         (facts.cases line (to f.graph e) (program.sound.ends e way.edge))
 
-    pub met-decided : (e : ℕ) → IsReady f touches r.lines t e → is_switch (kind_behind f e) ≡ true → IsSomething (t.decision (to f.graph e))
-    met-decided e ready s = something-more (decided_behind p f c t e) (t.decision (to f.graph e)) (closed.decisions e ready s) (decided-something p.names (words_on c t e) (kind_behind f e) (exec_behind p f e))
+    pub met-decided : (e : ℕ) → IsReady f touches r.lines t e → is_switch (kind_after f e) ≡ true → IsSomething (t.decision (to f.graph e))
+    met-decided e ready s = something-more (decided_after p f c t e) (t.decision (to f.graph e)) (closed.decisions e ready s) (decided-something p.names (words_on c t e) (kind_after f e) (exec_after p f e))

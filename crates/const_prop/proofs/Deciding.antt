@@ -15,7 +15,7 @@ use Rattle.dep_routing.specs.Routing.{Routing, wire_at}
 use Rattle.const_prop.specs.declared.known.Known.{Known}
 use Rattle.const_prop.specs.declared.known.Known.TheVariants.{Nothing}
 use Rattle.const_prop.specs.declared.work.Work.{Work}
-use Rattle.const_prop.specs.Closed.{IsClosed, IsReady, IsWay, KindAllows, is_switch, kind_behind, decided_behind}
+use Rattle.const_prop.specs.Closed.{IsClosed, IsReady, IsWay, KindAllows, is_switch, kind_after, decided_after}
 use Rattle.const_prop.specs.Known.{AtMost}
 use Rattle.const_prop.specs.Table.{Knowns}
 use Rattle.const_prop.specs.EdgeSet.{edge_holds}
@@ -28,12 +28,12 @@ use Rattle.const_prop.proofs.Under.{IsUnder, AreCovered, decided-less}
 
 module _ (p : Program) (f : FlowGraph) (c : ClassTable) (touches : ℕ → ℕ → Bool) (r : Routing) where
   -- what a ready piece decides is due
-  pub decided-due : AreCovered p f c touches r.lines → (t b : Knowns) (e : ℕ) → IsFound p f c touches r t → IsClosed p f c touches r b → IsReady f touches r.lines t e → is_switch (kind_behind f e) ≡ true → AtMost (decided_behind p f c t e) (b.decision (to f.graph e))
+  pub decided-due : AreCovered p f c touches r.lines → (t b : Knowns) (e : ℕ) → IsFound p f c touches r t → IsClosed p f c touches r b → IsReady f touches r.lines t e → is_switch (kind_after f e) ≡ true → AtMost (decided_after p f c t e) (b.decision (to f.graph e))
   decided-due a t b e found closed ready s =
       let below = found.below b closed in
       let there : IsReady f touches r.lines b e = record { edge = ready.edge; action = ready.action; each = λ line l x. something-more (t.value line e) (b.value line e) (below.value line e l ready.edge) (ready.each line l x) } in
       let under : IsUnder c f touches r.lines t b e = record { under = λ line l x. below.value line e l ready.edge; some = ready.each; one = λ line l several. closed.words line e l ready.edge several } in
-      at_most-trans (decided_behind p f c t e) (decided_behind p f c b e) (b.decision (to f.graph e)) (decided-less p f c touches r.lines a t b e ready.edge under s) (closed.decisions e there s)
+      at_most-trans (decided_after p f c t e) (decided_after p f c b e) (b.decision (to f.graph e)) (decided-less p f c touches r.lines a t b e ready.edge under s) (closed.decisions e there s)
 
 module _ {W : ℕ} (p : Program) (f : FlowGraph) (c : ClassTable) (touches : ℕ → ℕ → Bool) (r : Routing) where
   abbrev at : Work W → Knowns
@@ -56,7 +56,7 @@ module _ {W : ℕ} (p : Program) (f : FlowGraph) (c : ClassTable) (touches : ℕ
     elsewhere k l differ = decision-other (to f.graph k) (λ same. differ (alone k l same))
 
     way-elsewhere : (k i : ℕ) → k ≢ e → IsWay f (at decided_work) k i → IsWay f (at old) k i
-    way-elsewhere k i differ way = record { edge = way.edge; exists = way.exists; allowed = subst (λ (d : Known). KindAllows (kind_behind f k) d i) (elsewhere k way.edge differ) way.allowed }
+    way-elsewhere k i differ way = record { edge = way.edge; exists = way.exists; allowed = subst (λ (d : Known). KindAllows (kind_after f k) d i) (elsewhere k way.edge differ) way.allowed }
 
     pub decided-found : IsFound p f c touches r (at old) → ((b : Knowns) → IsClosed p f c touches r b → AtMost comes (b.decision node)) → IsFound p f c touches r (at decided_work)
     decided-found found due = record {
@@ -92,7 +92,7 @@ module _ {W : ℕ} (p : Program) (f : FlowGraph) (c : ClassTable) (touches : ℕ
           (λ h. inr (⊎_elim
           (λ (waits : is_waiting old k ≡ true). inl waits)
           (λ (seen : IsSeen p f c touches r (at old) k). inr (record {
-            decision = λ ready x. subst (λ (d : Known). AtMost (decided_behind p f c (at old) k) d) (sym (elsewhere k in_k differ)) (seen.decision (record { edge = ready.edge; action = ready.action; each = ready.each }) x);
+            decision = λ ready x. subst (λ (d : Known). AtMost (decided_after p f c (at old) k) d) (sym (elsewhere k in_k differ)) (seen.decision (record { edge = ready.edge; action = ready.action; each = ready.each }) x);
             left = λ line i ready way l x m. let was = seen.left line i (record { edge = ready.edge; action = ready.action; each = ready.each }) (way-elsewhere k i differ way) l x m in record { writes = was.writes; reads = was.reads };
           }))
           h))

@@ -13,7 +13,7 @@ use Rattle.f77_tree.specs.Known.{known, row_known}
 use Rattle.f77_tree.specs.KnownWith.{known_with, row_known_with, known_word}
 use Rattle.f77_tree.specs.Value.{row_length, kind_of, read_as, IsExpression, AllExpressions, IsAccess}
 
--- the row behind a list of operands or subscripts
+-- the row after a list of operands or subscripts
 abbrev row_of : Expr → (n : Count) × Row_of-Expr n
 row_of (Read' _ _ row) = (_, row)
 row_of (Apply' _ _ row) = (_, row)

@@ -15,20 +15,20 @@ use Rattle.const_prop.specs.declared.known.Known.{Known}
 use Rattle.const_prop.specs.declared.known.Known.TheVariants.{Nothing, One, Any}
 use Rattle.const_prop.specs.Known.{AtMost, as_known, as_index}
 
-record AreBehind (k : Option ℤ) (known : List (Option ℤ)) (xs : List ℤ) : Type 0 where
+record AreAfter (k : Option ℤ) (known : List (Option ℤ)) (xs : List ℤ) : Type 0 where
   first : ℤ
   rest : List ℤ
   here : k ≡ Some first
-  behind : all_known known ≡ Some rest
+  after : all_known known ≡ Some rest
   are : first ∷ rest ≡ xs
 
-known-parts : (k : Option ℤ) (known : List (Option ℤ)) (xs : List ℤ) → all_known (k ∷ known) ≡ Some xs → AreBehind k known xs
+known-parts : (k : Option ℤ) (known : List (Option ℤ)) (xs : List ℤ) → all_known (k ∷ known) ≡ Some xs → AreAfter k known xs
 known-parts None known xs e = let no' : None ≡ Some xs = e in absurd cc
 known-parts (Some k) known xs e = by (all_known known) refl e
   where
-    by : (o : Option (List ℤ)) → all_known known ≡ o → option_map (λ more. k ∷ more) o ≡ Some xs → AreBehind (Some k) known xs
+    by : (o : Option (List ℤ)) → all_known known ≡ o → option_map (λ more. k ∷ more) o ≡ Some xs → AreAfter (Some k) known xs
     by None f h = let no' : None ≡ Some xs = h in absurd cc
-    by (Some more) f h = let is : k ∷ more ≡ xs = cc in record { first = k; rest = more; here = refl; behind = f; are = is }
+    by (Some more) f h = let is : k ∷ more ≡ xs = cc in record { first = k; rest = more; here = refl; after = f; are = is }
 
 -- operands of which all that is known in the one list is known in the other
 parts-known : (k : Option ℤ) (known : List (Option ℤ)) (first : ℤ) (rest xs : List ℤ) → k ≡ Some first → all_known known ≡ Some rest → first ∷ rest ≡ xs → all_known (k ∷ known) ≡ Some xs
@@ -72,7 +72,7 @@ module _ (names : List NameInfo) (c : ClassTable) (same : c.names ≡ names) (fe
     row-more end_of-Expr covers xs e = e
     row-more (more_of-Expr e rest) covers xs h =
         let parts = known-parts (known_with names few e) (row_known_with names few rest) xs h in
-        parts-known (known_with names many e) (row_known_with names many rest) parts.first parts.rest xs (known_with-more e (λ word z needs. covers word z (inl needs)) parts.first parts.here) (row-more rest (λ word z needs. covers word z (inr needs)) parts.rest parts.behind) parts.are
+        parts-known (known_with names many e) (row_known_with names many rest) parts.first parts.rest xs (known_with-more e (λ word z needs. covers word z (inl needs)) parts.first parts.here) (row-more rest (λ word z needs. covers word z (inr needs)) parts.rest parts.after) parts.are
 
   pub as_known-less : (e : Expr) → Covers (ExprNeeds c e) → AtMost (as_known (known_with names many e)) (as_known (known_with names few e))
   as_known-less e covers = by (known_with names few e) refl

@@ -11,7 +11,7 @@ use Rattle.cfg_build.specs.Joined.{FlowGraph}
 use Rattle.dep_routing.specs.Routing.{Routing, next_at}
 use Rattle.const_prop.specs.declared.known.Known.{Known}
 use Rattle.const_prop.specs.declared.work.Work.{Work}
-use Rattle.const_prop.specs.Closed.{IsClosed, IsReady, IsWay, WritesBehind, is_switch, is_one_word, led_to, kind_behind, exec_behind, written, written_behind, words_on, decided_behind}
+use Rattle.const_prop.specs.Closed.{IsClosed, IsReady, IsWay, WritesAfter, is_switch, is_one_word, led_to, kind_after, exec_after, written, written_after, words_on, decided_after}
 use Rattle.const_prop.specs.Known.{AtMost, IsNotOne}
 use Rattle.const_prop.specs.Setting.{IsTouchedRow}
 use Rattle.const_prop.specs.Table.{Knowns}
@@ -44,7 +44,7 @@ Among items i line = (k : ℕ) × (k < i) × (get_or items k 0 ≡ line)
 module _ (p : Program) (f : FlowGraph) (c : ClassTable) where
   -- what a piece leaves on a line
   abbrev pub LeavesOn : Knowns → (e line : ℕ) → Known → Type 0
-  LeavesOn t e line known = (WritesBehind p f c e line × (known ≡ written_behind p f c t e line)) ⊎ ((WritesBehind p f c e line → ⊥) × (known ≡ t.value line e))
+  LeavesOn t e line known = (WritesAfter p f c e line × (known ≡ written_after p f c t e line)) ⊎ ((WritesAfter p f c e line → ⊥) × (known ≡ t.value line e))
 
 module _ (p : Program) (f : FlowGraph) (c : ClassTable) (touches : ℕ → ℕ → Bool) (r : Routing) (a : AreCovered p f c touches r.lines) (two : 1 < edge_count f.graph) (next : (line e : ℕ) → line < r.lines → e < edge_count f.graph → next_at r line e < edge_count f.graph) where
   pub left-due : (t b : Knowns) (e line i : ℕ) (known : Known) → to f.graph e < f.graph.nodes → IsFound p f c touches r t → IsClosed p f c touches r b → IsReady f touches r.lines t e → line < r.lines → touches (to f.graph e) line ≡ true → LeavesOn p f c t e line known → IsWay f t e i → AtMost known (b.value line (led_to f r e line i))
@@ -52,22 +52,22 @@ module _ (p : Program) (f : FlowGraph) (c : ClassTable) (touches : ℕ → ℕ �
       let below = found.below b closed in
       let edge = ready.edge in
       let there : IsReady f touches r.lines b e = record { edge = edge; action = ready.action; each = λ line l x. something-more (t.value line e) (b.value line e) (below.value line e l edge) (ready.each line l x) } in
-      let way_b : IsWay f b e i = record { edge = edge; exists = way.exists; allowed = kind_allows-more (kind_behind f e) (t.decision (to f.graph e)) (b.decision (to f.graph e)) i (below.decision (to f.graph e) node) way.allowed } in
+      let way_b : IsWay f b e i = record { edge = edge; exists = way.exists; allowed = kind_allows-more (kind_after f e) (t.decision (to f.graph e)) (b.decision (to f.graph e)) i (below.decision (to f.graph e) node) way.allowed } in
       let under : IsUnder c f touches r.lines t b e = record { under = λ line l x. below.value line e l edge; some = ready.each; one = λ line l several. closed.words line e l edge several } in
       let led = led_to f r e line i in
       ⊎_elim
-      (λ (is : WritesBehind p f c e line × (known ≡ written_behind p f c t e line)).
+      (λ (is : WritesAfter p f c e line × (known ≡ written_after p f c t e line)).
       subst (λ (k : Known). AtMost k (b.value line led)) (sym is.1)
-      (at_most-trans (written_behind p f c t e line) (written_behind p f c b e line) (b.value line led) (written-less p f c touches r.lines a t b e edge under line is.0) (closed.writes e line i there way_b l x is.0)))
-      (λ (is_not : (WritesBehind p f c e line → ⊥) × (known ≡ t.value line e)).
+      (at_most-trans (written_after p f c t e line) (written_after p f c b e line) (b.value line led) (written-less p f c touches r.lines a t b e edge under line is.0) (closed.writes e line i there way_b l x is.0)))
+      (λ (is_not : (WritesAfter p f c e line → ⊥) × (known ≡ t.value line e)).
       subst (λ (k : Known). AtMost k (b.value line led)) (sym is_not.1)
       (at_most-trans (t.value line e) (b.value line e) (b.value line led) (below.value line e l edge) (closed.reads e line i there way_b l x is_not.0)))
       leaves
 
   pub left-one : (t : Knowns) (e line : ℕ) (known : Known) → e < edge_count f.graph → IsFound p f c touches r t → line < r.lines → LeavesOn p f c t e line known → is_one_word c line ≡ false → IsNotOne known
   left-one t e line known edge found l leaves several = ⊎_elim
-      (λ (is : WritesBehind p f c e line × (known ≡ written_behind p f c t e line)). subst IsNotOne (sym is.1) (written-several p.names c (words_on c t e) (exec_behind p f e) line several))
-      (λ (is_not : (WritesBehind p f c e line → ⊥) × (known ≡ t.value line e)). subst IsNotOne (sym is_not.1) (found.words line e l edge several))
+      (λ (is : WritesAfter p f c e line × (known ≡ written_after p f c t e line)). subst IsNotOne (sym is.1) (written-several p.names c (words_on c t e) (exec_after p f e) line several))
+      (λ (is_not : (WritesAfter p f c e line → ⊥) × (known ≡ t.value line e)). subst IsNotOne (sym is_not.1) (found.words line e l edge several))
       leaves
 
   -- all lines of the row are all that the piece touches
@@ -78,7 +78,7 @@ module _ (p : Program) (f : FlowGraph) (c : ClassTable) (touches : ℕ → ℕ �
   }
 
   -- before the first line is sent on
-  pub seen-none : (t : Knowns) (e : ℕ) (items : List ℕ) → (is_switch (kind_behind f e) ≡ true → AtMost (decided_behind p f c t e) (t.decision (to f.graph e))) → IsSeenFor p f c touches r (Among items 0) t e
+  pub seen-none : (t : Knowns) (e : ℕ) (items : List ℕ) → (is_switch (kind_after f e) ≡ true → AtMost (decided_after p f c t e) (t.decision (to f.graph e))) → IsSeenFor p f c touches r (Among items 0) t e
   seen-none t e items decided = record { decision = λ ready s. decided s; left = λ line k ready way l x m. let low = m.1 in absurd (omega (arith, low)) }
 
 module _ {W : ℕ} (p : Program) (f : FlowGraph) (c : ClassTable) (touches : ℕ → ℕ → Bool) (r : Routing) (a : AreCovered p f c touches r.lines) (two : 1 < edge_count f.graph) (next : (line e : ℕ) → line < r.lines → e < edge_count f.graph → next_at r line e < edge_count f.graph) where
@@ -122,12 +122,12 @@ module _ {W : ℕ} (p : Program) (f : FlowGraph) (c : ClassTable) (touches : ℕ
             let led = led_to f r e line k in
             record {
               writes = λ w. ⊎_elim
-                  (λ (x : WritesBehind p f c e line × (known ≡ written_behind p f c (at old) e line)).
-                  at_most-trans (written_behind p f c (at new) e line) (written_behind p f c (at old) e line) ((at new).value line led) (written-less p f c touches r.lines a (at new) (at old) e edge under line w) (subst (λ (q : Known). AtMost q ((at new).value line led)) x.1 here))
-                  (λ (x : (WritesBehind p f c e line → ⊥) × (known ≡ (at old).value line e)). absurd (x.0 w))
+                  (λ (x : WritesAfter p f c e line × (known ≡ written_after p f c (at old) e line)).
+                  at_most-trans (written_after p f c (at new) e line) (written_after p f c (at old) e line) ((at new).value line led) (written-less p f c touches r.lines a (at new) (at old) e edge under line w) (subst (λ (q : Known). AtMost q ((at new).value line led)) x.1 here))
+                  (λ (x : (WritesAfter p f c e line → ⊥) × (known ≡ (at old).value line e)). absurd (x.0 w))
                   on;
               reads = λ n. ⊎_elim
-                  (λ (x : WritesBehind p f c e line × (known ≡ written_behind p f c (at old) e line)). absurd (n x.0))
-                  (λ (x : (WritesBehind p f c e line → ⊥) × (known ≡ (at old).value line e)). subst (λ (q : Known). AtMost q ((at new).value line led)) (x.1 ∙ sym (same line l t)) here)
+                  (λ (x : WritesAfter p f c e line × (known ≡ written_after p f c (at old) e line)). absurd (n x.0))
+                  (λ (x : (WritesAfter p f c e line → ⊥) × (known ≡ (at old).value line e)). subst (λ (q : Known). AtMost q ((at new).value line led)) (x.1 ∙ sym (same line l t)) here)
                   on;
             }

@@ -21,7 +21,7 @@ use Rattle.dep_routing.specs.Sound.{comes_to}
 use Rattle.dep_routing.specs.Touches.{piece_kind, exec_kind}
 use Rattle.const_prop.specs.declared.known.Known.{Known}
 use Rattle.const_prop.specs.declared.known.Known.TheVariants.{Nothing, One, Any}
-use Rattle.const_prop.specs.Closed.{IsClosed, IsWay, KindAllows, Allows, decided, decided_behind, selected, is_action, is_switch, words_on}
+use Rattle.const_prop.specs.Closed.{IsClosed, IsWay, KindAllows, Allows, decided, decided_after, selected, is_action, is_switch, words_on}
 use Rattle.const_prop.specs.Facts.{PlaceFacts, RunFacts}
 use Rattle.const_prop.specs.Known.{AtMost, IsSomething, one_of, as_index}
 use Rattle.const_prop.specs.Live.{IsLive, is_excluded, is_other}
@@ -146,7 +146,7 @@ module _ (p : Program) (c : ClassTable) (touches : ℕ → ℕ → Bool) (tree :
           by Nothing is = absurd (subst IsSomething is (met-decided p (flow p.execs) c touches r tree program routed.classes facts routed.actions t closed e ready s))
           by Any is = any_place (λ i. subst (λ (k : Known). KindAllows (piece_kind p node) k i) (sym is) (any-allows (piece_kind p node) i))
           by (One v) is =
-              let told : decided_behind p (flow p.execs) c t e ≡ One v = at_most-one (decided_behind p (flow p.execs) c t e) v (subst (λ (k : Known). AtMost (decided_behind p (flow p.execs) c t e) k) is (closed.decisions e ready s)) (decided-something p.names (words_on c t e) (piece_kind p node) (exec_kind p node)) in
+              let told : decided_after p (flow p.execs) c t e ≡ One v = at_most-one (decided_after p (flow p.execs) c t e) v (subst (λ (k : Known). AtMost (decided_after p (flow p.execs) c t e) k) is (closed.decisions e ready s)) (decided-something p.names (words_on c t e) (piece_kind p node) (exec_kind p node)) in
               let index : v ≡ pos (at_least_zero v) = decided-place p.names (words_on c t e) (piece_kind p node) (exec_kind p node) v told in
               let chosen : (is_switch (piece_kind p node) && is_other p t node d (one_of (t.decision node))) ≡ false = ap (λ n. is_switch (piece_kind p n) && is_other p t n d (one_of (t.decision n))) (sym begins) ∙ kept in
               let one : (true && not (out (flow p.execs).graph node (at_least_zero v) == d)) ≡ false = ap (λ b. b && not (out (flow p.execs).graph node (at_least_zero v) == d)) (sym s) ∙ ap (λ (k : Known). is_switch (piece_kind p node) && is_other p t node d (one_of k)) (sym is) ∙ chosen in

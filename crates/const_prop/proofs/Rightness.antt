@@ -25,7 +25,7 @@ use Rattle.dep_routing.specs.Routing.{Routing, next_at, wire_at}
 use Rattle.dep_routing.specs.Touches.{KindNeeds}
 use Rattle.const_prop.specs.declared.known.Known.{Known}
 use Rattle.const_prop.specs.declared.known.Known.TheVariants.{Nothing, One, Any}
-use Rattle.const_prop.specs.Closed.{IsClosed, IsWay, KindAllows, KindWrites, WritesBehind, written_behind, decided, is_action, is_switch, is_merge, is_one_word, kind_behind, exec_behind, words_on, led_to}
+use Rattle.const_prop.specs.Closed.{IsClosed, IsWay, KindAllows, KindWrites, WritesAfter, written_after, decided, is_action, is_switch, is_merge, is_one_word, kind_after, exec_after, words_on, led_to}
 use Rattle.const_prop.specs.Facts.{PlaceFacts, WordFacts}
 use Rattle.const_prop.specs.Known.{AtMost, IsSomething, IsNotOne, one_of}
 use Rattle.const_prop.specs.Setting.{IsProgram}
@@ -73,7 +73,7 @@ module _ (p : Program) (f : FlowGraph) (c : ClassTable) (touches : ℕ → ℕ �
       (cases_Bool (is_one_word c line))
 
   -- a class that a piece needs, and of whose word something is known, is touched
-  needed-known : (e word : ℕ) (z : ℤ) → e < edge_count f.graph → KindNeeds c (kind_behind f e) (exec_behind p f e) (class_of_word c word) → words_on c t e word ≡ Some z → touches (to f.graph e) (class_of_word c word) ≡ true
+  needed-known : (e word : ℕ) (z : ℤ) → e < edge_count f.graph → KindNeeds c (kind_after f e) (exec_after p f e) (class_of_word c word) → words_on c t e word ≡ Some z → touches (to f.graph e) (class_of_word c word) ≡ true
   needed-known e word z edge needs is = by (class_of_word c word) refl
     where
       one : is_one_word c (class_of_word c word) ≡ true
@@ -81,7 +81,7 @@ module _ (p : Program) (f : FlowGraph) (c : ClassTable) (touches : ℕ → ℕ �
 
       by : (n : ℕ) → class_of_word c word ≡ n → touches (to f.graph e) (class_of_word c word) ≡ true
       by zero same = let clash : true ≡ false = sym one ∙ one_word-zero c (class_of_word c word) same in absurd cc
-      by (suc n) same = subst (λ k. touches (to f.graph e) k ≡ true) (sym same) (needed-touched p f c touches r.lines covered e n edge (subst (λ k. KindNeeds c (kind_behind f e) (exec_behind p f e) k) same needs))
+      by (suc n) same = subst (λ k. touches (to f.graph e) k ≡ true) (sym same) (needed-touched p f c touches r.lines covered e n edge (subst (λ k. KindNeeds c (kind_after f e) (exec_after p f e) k) same needs))
 
   -- What is told of the words of a memory is so where control has come along an edge.
   pub record IsHeld (e : ℕ) (m : Memory) : Type 0 where
@@ -94,8 +94,8 @@ module _ (p : Program) (f : FlowGraph) (c : ClassTable) (touches : ℕ → ℕ �
       one_word-inside c word p.words covered.classes.numbering.each one
 
   -- what is known of what the piece evaluates is its value
-  pub behind-value : (e : ℕ) (m : Memory) → IsHeld e m → e < edge_count f.graph → (next : Option ℤ) (x : Expr) → ((n : ℕ) → ExprNeeds c x n → KindNeeds c (kind_behind f e) (exec_behind p f e) n) → (z : ℤ) → known_with p.names (words_on c t e) x ≡ Some z → value p.names m.store next x ≡ Ok z
-  behind-value e m held edge next x needs z is =
+  pub after-value : (e : ℕ) (m : Memory) → IsHeld e m → e < edge_count f.graph → (next : Option ℤ) (x : Expr) → ((n : ℕ) → ExprNeeds c x n → KindNeeds c (kind_after f e) (exec_after p f e) n) → (z : ℤ) → known_with p.names (words_on c t e) x ≡ Some z → value p.names m.store next x ≡ Ok z
+  after-value e m held edge next x needs z is =
       needed_value p.names c covered.classes.names (words_on c t e) m.store (touches (to f.graph e)) laws.values
       (λ word z touched told.
       let one : t.value (class_of_word c word) e ≡ One z = told-one (t.value (class_of_word c word) e) z told in
@@ -115,18 +115,18 @@ module _ (p : Program) (f : FlowGraph) (c : ClassTable) (touches : ℕ → ℕ �
     node_in = program.sound.ends e edge
 
     -- the rules of a piece that decides
-    decision-least : (k : PieceKind) → kind_behind f e ≡ k → is_switch k ≡ true → is_action k ≡ true → AtMost (decided p.names (words_on c t e) k (exec_behind p f e)) (t.decision (to f.graph e))
+    decision-least : (k : PieceKind) → kind_after f e ≡ k → is_switch k ≡ true → is_action k ≡ true → AtMost (decided p.names (words_on c t e) k (exec_after p f e)) (t.decision (to f.graph e))
     decision-least k is s a =
-        subst (λ (k : PieceKind). AtMost (decided p.names (words_on c t e) k (exec_behind p f e)) (t.decision (to f.graph e))) is
+        subst (λ (k : PieceKind). AtMost (decided p.names (words_on c t e) k (exec_after p f e)) (t.decision (to f.graph e))) is
         (closed.decisions e (met-ready p f c touches r tree program covered.classes facts actions t closed e held.met edge (ap is_action is ∙ a)) (ap is_switch is ∙ s))
 
-    pub taken : PassedBy p.names input m (out f.graph (to f.graph e)) (kind_behind f e) (exec_behind p f e) d new → IsTaken e d
-    taken passed = by (kind_behind f e) refl passed
+    pub taken : PassedBy p.names input m (out f.graph (to f.graph e)) (kind_after f e) (exec_after p f e) d new → IsTaken e d
+    taken passed = by (kind_after f e) refl passed
       where
-        made : (i : ℕ) → (kind_behind f e ≡ End → ⊥) → KindAllows (kind_behind f e) (t.decision (to f.graph e)) i → d ≡ out f.graph (to f.graph e) i → IsTaken e d
+        made : (i : ℕ) → (kind_after f e ≡ End → ⊥) → KindAllows (kind_after f e) (t.decision (to f.graph e)) i → d ≡ out f.graph (to f.graph e) i → IsTaken e d
         made i other allowed is = record { place = i; way = record { edge = edge; exists = out_exists p f program (to f.graph e) i node_in other (ap (λ x. from f.graph x) (sym is) ∙ begins); allowed = allowed }; is = is }
 
-        by : (k : PieceKind) → kind_behind f e ≡ k → PassedBy p.names input m (out f.graph (to f.graph e)) k (exec_behind p f e) d new → IsTaken e d
+        by : (k : PieceKind) → kind_after f e ≡ k → PassedBy p.names input m (out f.graph (to f.graph e)) k (exec_after p f e) d new → IsTaken e d
         by Act is x = made 0 (λ ends. let clash : Act ≡ End = sym is ∙ ends in absurd cc) (subst (λ (k : PieceKind). KindAllows k (t.decision (to f.graph e)) 0) (sym is) tt) x.0
         by Start is x = made 0 (λ ends. let clash : Start ≡ End = sym is ∙ ends in absurd cc) (subst (λ (k : PieceKind). KindAllows k (t.decision (to f.graph e)) 0) (sym is) tt) x.0
         by Pass is x = made 0 (λ ends. let clash : Pass ≡ End = sym is ∙ ends in absurd cc) (subst (λ (k : PieceKind). KindAllows k (t.decision (to f.graph e)) 0) (sym is) tt) x.0
@@ -137,37 +137,37 @@ module _ (p : Program) (f : FlowGraph) (c : ClassTable) (touches : ℕ → ℕ �
         by Branch is x =
             made x.place (λ ends. let clash : Branch ≡ End = sym is ∙ ends in absurd cc)
             (subst (λ (k : PieceKind). KindAllows k (t.decision (to f.graph e)) x.place) (sym is)
-            (allows-more (decided p.names (words_on c t e) Branch (exec_behind p f e)) (t.decision (to f.graph e)) x.place (decision-least Branch is refl refl)
-            (selected_allows p.names c (words_on c t e) m (exec_behind p f e) x.place
-            (λ y needs. behind-value e m held edge None y (λ n need. subst (λ (k : PieceKind). KindNeeds c k (exec_behind p f e) n) (sym is) (needs n need)))
+            (allows-more (decided p.names (words_on c t e) Branch (exec_after p f e)) (t.decision (to f.graph e)) x.place (decision-least Branch is refl refl)
+            (selected_allows p.names c (words_on c t e) m (exec_after p f e) x.place
+            (λ y needs. after-value e m held edge None y (λ n need. subst (λ (k : PieceKind). KindNeeds c k (exec_after p f e) n) (sym is) (needs n need)))
             x.chosen))) x.is
         by End is x = absurd x
 
     -- ---- words
 
     -- an act of the program
-    can_act : kind_behind f e ≡ Act → CanExecute p (exec_behind p f e)
+    can_act : kind_after f e ≡ Act → CanExecute p (exec_after p f e)
     can_act is = act-can p f program (to f.graph e) node_in is
 
     -- what isn't touched is kept
-    kept-aside : (word : ℕ) → is_one_word c (class_of_word c word) ≡ true → touches (to f.graph e) (class_of_word c word) ≡ false → PassedBy p.names input m (out f.graph (to f.graph e)) (kind_behind f e) (exec_behind p f e) d new → word_at new.store word ≡ word_at m.store word
-    kept-aside word one untouched passed = by (kind_behind f e) refl passed
+    kept-aside : (word : ℕ) → is_one_word c (class_of_word c word) ≡ true → touches (to f.graph e) (class_of_word c word) ≡ false → PassedBy p.names input m (out f.graph (to f.graph e)) (kind_after f e) (exec_after p f e) d new → word_at new.store word ≡ word_at m.store word
+    kept-aside word one untouched passed = by (kind_after f e) refl passed
       where
         kept : new ≡ m → word_at new.store word ≡ word_at m.store word
         kept same = ap (λ (n : Memory). word_at n.store word) same
 
-        needs_not : kind_behind f e ≡ Act → ExecNeeds c (exec_behind p f e) (class_of_word c word) → ⊥
+        needs_not : kind_after f e ≡ Act → ExecNeeds c (exec_after p f e) (class_of_word c word) → ⊥
         needs_not is needs = from_class (class_of_word c word) refl
           where
             from_class : (n : ℕ) → class_of_word c word ≡ n → ⊥
             from_class zero same = let clash : true ≡ false = sym one ∙ one_word-zero c (class_of_word c word) same in absurd cc
             from_class (suc n) same =
-                let need : KindNeeds c (kind_behind f e) (exec_behind p f e) (suc n) = subst (λ (k : PieceKind). KindNeeds c k (exec_behind p f e) (suc n)) (sym is) (subst (λ k. ExecNeeds c (exec_behind p f e) k) same needs) in
+                let need : KindNeeds c (kind_after f e) (exec_after p f e) (suc n) = subst (λ (k : PieceKind). KindNeeds c k (exec_after p f e) (suc n)) (sym is) (subst (λ k. ExecNeeds c (exec_after p f e) k) same needs) in
                 let clash : true ≡ false = sym (needed-touched p f c touches r.lines covered e n edge need) ∙ ap (touches (to f.graph e)) (sym same) ∙ untouched in
                 absurd cc
 
-        by : (k : PieceKind) → kind_behind f e ≡ k → PassedBy p.names input m (out f.graph (to f.graph e)) k (exec_behind p f e) d new → word_at new.store word ≡ word_at m.store word
-        by Act is x = unchanged p c input covered.classes laws.rest laws.changes laws.hits m new (exec_behind p f e) word x.1 (λ changed. needs_not is (laws.changed m (exec_behind p f e) word (can_act is) changed))
+        by : (k : PieceKind) → kind_after f e ≡ k → PassedBy p.names input m (out f.graph (to f.graph e)) k (exec_after p f e) d new → word_at new.store word ≡ word_at m.store word
+        by Act is x = unchanged p c input covered.classes laws.rest laws.changes laws.hits m new (exec_after p f e) word x.1 (λ changed. needs_not is (laws.changed m (exec_after p f e) word (can_act is) changed))
         by Start is x = kept x.1
         by Pass is x = kept x.1
         by Join is x = kept x.1
@@ -176,14 +176,14 @@ module _ (p : Program) (f : FlowGraph) (c : ClassTable) (touches : ℕ → ℕ �
         by End is x = absurd x
 
     -- what isn't written is kept
-    kept-unwritten : (word : ℕ) → (WritesBehind p f c e (class_of_word c word) → ⊥) → PassedBy p.names input m (out f.graph (to f.graph e)) (kind_behind f e) (exec_behind p f e) d new → word_at new.store word ≡ word_at m.store word
-    kept-unwritten word unwritten' passed = by (kind_behind f e) refl passed
+    kept-unwritten : (word : ℕ) → (WritesAfter p f c e (class_of_word c word) → ⊥) → PassedBy p.names input m (out f.graph (to f.graph e)) (kind_after f e) (exec_after p f e) d new → word_at new.store word ≡ word_at m.store word
+    kept-unwritten word unwritten' passed = by (kind_after f e) refl passed
       where
         kept : new ≡ m → word_at new.store word ≡ word_at m.store word
         kept same = ap (λ (n : Memory). word_at n.store word) same
 
-        by : (k : PieceKind) → kind_behind f e ≡ k → PassedBy p.names input m (out f.graph (to f.graph e)) k (exec_behind p f e) d new → word_at new.store word ≡ word_at m.store word
-        by Act is x = unwritten p c input covered.classes laws.rest laws.changes laws.hits m new (exec_behind p f e) word (can_act is) x.1 (λ w. unwritten' (subst (λ (k : PieceKind). KindWrites c k (exec_behind p f e) (class_of_word c word)) (sym is) w))
+        by : (k : PieceKind) → kind_after f e ≡ k → PassedBy p.names input m (out f.graph (to f.graph e)) k (exec_after p f e) d new → word_at new.store word ≡ word_at m.store word
+        by Act is x = unwritten p c input covered.classes laws.rest laws.changes laws.hits m new (exec_after p f e) word (can_act is) x.1 (λ w. unwritten' (subst (λ (k : PieceKind). KindWrites c k (exec_after p f e) (class_of_word c word)) (sym is) w))
         by Start is x = kept x.1
         by Pass is x = kept x.1
         by Join is x = kept x.1
@@ -191,15 +191,15 @@ module _ (p : Program) (f : FlowGraph) (c : ClassTable) (touches : ℕ → ℕ �
         by Branch is x = kept x.same
         by End is x = absurd x
 
-    module _ (size : IsMemoryOf p input m) (passed : PassedBy p.names input m (out f.graph (to f.graph e)) (kind_behind f e) (exec_behind p f e) d new) where
+    module _ (size : IsMemoryOf p input m) (passed : PassedBy p.names input m (out f.graph (to f.graph e)) (kind_after f e) (exec_after p f e) d new) where
       -- the one value that is written is the word
-      written-word : (word : ℕ) (v : ℤ) → word < p.words → is_one_word c (class_of_word c word) ≡ true → WritesBehind p f c e (class_of_word c word) → AtMost (written_behind p f c t e (class_of_word c word)) (One v) → word_at new.store word ≡ v
-      written-word word v inside one writes below = by (kind_behind f e) refl passed writes
+      written-word : (word : ℕ) (v : ℤ) → word < p.words → is_one_word c (class_of_word c word) ≡ true → WritesAfter p f c e (class_of_word c word) → AtMost (written_after p f c t e (class_of_word c word)) (One v) → word_at new.store word ≡ v
+      written-word word v inside one writes below = by (kind_after f e) refl passed writes
         where
-          by : (k : PieceKind) → kind_behind f e ≡ k → PassedBy p.names input m (out f.graph (to f.graph e)) k (exec_behind p f e) d new → KindWrites c k (exec_behind p f e) (class_of_word c word) → word_at new.store word ≡ v
+          by : (k : PieceKind) → kind_after f e ≡ k → PassedBy p.names input m (out f.graph (to f.graph e)) k (exec_after p f e) d new → KindWrites c k (exec_after p f e) (class_of_word c word) → word_at new.store word ≡ v
           by Act is x w =
-              written-right p c input covered.classes laws.rest laws.changes laws.hits m new size (words_on c t e) word v inside one (exec_behind p f e) (can_act is) x.1
-              (λ next y needs. behind-value e m held edge next y (λ n need. subst (λ (k : PieceKind). KindNeeds c k (exec_behind p f e) n) (sym is) (needs n need)))
+              written-right p c input covered.classes laws.rest laws.changes laws.hits m new size (words_on c t e) word v inside one (exec_after p f e) (can_act is) x.1
+              (λ next y needs. after-value e m held edge next y (λ n need. subst (λ (k : PieceKind). KindNeeds c k (exec_after p f e) n) (sym is) (needs n need)))
               w below
           by Start is x w = absurd w
           by Pass is x w = absurd w
@@ -213,8 +213,8 @@ module _ (p : Program) (f : FlowGraph) (c : ClassTable) (touches : ℕ → ℕ �
       led-word word i v later inside way free one is = ⊎_elim
           (λ (x : touches (to f.graph e) line ≡ true). touched x)
           (λ (x : touches (to f.graph e) line ≡ false). ⊎_elim
-          (λ (s : is_switch (kind_behind f e) ≡ true). kept-aside word one x passed ∙ was (closed.switches e line i way s (class_in word) x wire))
-          (λ (s : is_merge (kind_behind f e) ≡ true). kept-aside word one x passed ∙ was (closed.merges e line i way s (class_in word) wire))
+          (λ (s : is_switch (kind_after f e) ≡ true). kept-aside word one x passed ∙ was (closed.switches e line i way s (class_in word) x wire))
+          (λ (s : is_merge (kind_after f e) ≡ true). kept-aside word one x passed ∙ was (closed.merges e line i way s (class_in word) wire))
           (free_kind p f c touches r tree program covered.classes facts actions line e d edge next_edge later begins free x))
           (cases_Bool (touches (to f.graph e) line))
         where
@@ -235,10 +235,10 @@ module _ (p : Program) (f : FlowGraph) (c : ClassTable) (touches : ℕ → ℕ �
           touched x =
               let ready = met-ready p f c touches r tree program covered.classes facts actions t closed e held.met edge (actions (to f.graph e) line node_in x) in
               stable (word_at new.store word) v (λ not_it.
-              let unwritten' : WritesBehind p f c e line → ⊥ = λ w. not_it (written-word word v inside one w (subst (λ (k : Known). AtMost (written_behind p f c t e line) k) is (closed.writes e line i ready way (class_in word) x w))) in
+              let unwritten' : WritesAfter p f c e line → ⊥ = λ w. not_it (written-word word v inside one w (subst (λ (k : Known). AtMost (written_after p f c t e line) k) is (closed.writes e line i ready way (class_in word) x w))) in
               not_it (kept-unwritten word unwritten' passed ∙ was (closed.reads e line i ready way (class_in word) x unwritten')))
 
-      -- what is told of the words is so behind the piece
+      -- what is told of the words is so after the piece
       pub held-on : 0 ≢ to f.graph e → IsHeld d new
       held-on later = record {
         met = met-on p f c touches r tree program covered.classes facts actions t closed e (taken passed).place d held.met (taken passed).way later next_edge (taken passed).is begins;

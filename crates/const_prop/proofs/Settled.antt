@@ -9,7 +9,7 @@ use Rattle.alias_classes.specs.Classes.{ClassTable}
 use Rattle.cfg_build.specs.Joined.{FlowGraph}
 use Rattle.dep_routing.specs.Routing.{Routing}
 use Rattle.const_prop.specs.declared.work.Work.{Work}
-use Rattle.const_prop.specs.Closed.{IsConstants, is_switch, is_merge, kind_behind}
+use Rattle.const_prop.specs.Closed.{IsConstants, is_switch, is_merge, kind_after}
 use Rattle.const_prop.specs.EdgeSet.{edge_holds}
 use Rattle.const_prop.specs.LineSets.{set_holds}
 use Rattle.const_prop.specs.Table.{Knowns}
@@ -70,7 +70,7 @@ module _ {W : ℕ} (p : Program) (f : FlowGraph) (c : ClassTable) (touches : ℕ
     visited-less is = let less = waits-less (is_waiting w) (is_waiting (visited w pending waits)) (edge_count f.graph) e waited edge is in omega (arith, less)
 
   -- where no edge waits the table is closed
-  pub settled-constants : (w : Work W) → ((e line : ℕ) → e < edge_count f.graph → is_merge (kind_behind f e) ≡ true → touches (to f.graph e) line ≡ false) → IsSettling p f c touches r no_line no_piece w → ((e : ℕ) → e < edge_count f.graph → is_waiting w e ≡ false) → IsConstants p f c touches r (at w)
+  pub settled-constants : (w : Work W) → ((e line : ℕ) → e < edge_count f.graph → is_merge (kind_after f e) ≡ true → touches (to f.graph e) line ≡ false) → IsSettling p f c touches r no_line no_piece w → ((e : ℕ) → e < edge_count f.graph → is_waiting w e ≡ false) → IsConstants p f c touches r (at w)
   settled-constants w merges s rests =
       let none : (e : ℕ) → e < edge_count f.graph → is_waiting w e ≡ true → ⊥ = λ e k waits. let clash : true ≡ false = sym waits ∙ rests e k in absurd cc in
       let seen : (e : ℕ) → e < edge_count f.graph → IsSeen p f c touches r (at w) e = λ e k. ⊎_elim
@@ -89,8 +89,8 @@ module _ {W : ℕ} (p : Program) (f : FlowGraph) (c : ClassTable) (touches : ℕ
           decisions = λ e ready x. (seen e ready.edge).decision ready x;
           writes = λ e line i ready way l t is. ((seen e ready.edge).left line i ready way l t tt).writes is;
           reads = λ e line i ready way l t is_not. ((seen e ready.edge).left line i ready way l t tt).reads is_not;
-          switches = λ e line i way x l t wire. passed line e l way.edge t i way (or_left (is_switch (kind_behind f e)) (is_merge (kind_behind f e)) x) wire;
-          merges = λ e line i way x l wire. passed line e l way.edge (merges e line way.edge x) i way (or_right (is_switch (kind_behind f e)) (is_merge (kind_behind f e)) x) wire;
+          switches = λ e line i way x l t wire. passed line e l way.edge t i way (or_left (is_switch (kind_after f e)) (is_merge (kind_after f e)) x) wire;
+          merges = λ e line i way x l wire. passed line e l way.edge (merges e line way.edge x) i way (or_right (is_switch (kind_after f e)) (is_merge (kind_after f e)) x) wire;
         };
         least = s.found.below;
       }

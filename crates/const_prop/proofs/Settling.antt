@@ -13,7 +13,7 @@ use Rattle.dep_routing.specs.Routing.{Routing, next_at, wire_at}
 use Rattle.const_prop.specs.declared.known.Known.{Known}
 use Rattle.const_prop.specs.declared.known.Known.TheVariants.{Nothing, One, Any}
 use Rattle.const_prop.specs.declared.work.Work.{Work}
-use Rattle.const_prop.specs.Closed.{IsClosed, IsReady, IsWay, KindAllows, is_switch, is_merge, kind_behind, led_to, written_behind, decided_behind}
+use Rattle.const_prop.specs.Closed.{IsClosed, IsReady, IsWay, KindAllows, is_switch, is_merge, kind_after, led_to, written_after, decided_after}
 use Rattle.const_prop.specs.Known.{AtMost, IsSomething}
 use Rattle.const_prop.specs.Table.{Knowns}
 use Rattle.const_prop.specs.Work.{so_far, is_pending, is_waiting, Rises, IsFound, IsOpenedFor, IsPassedOn, IsSeenFor, IsSeen, IsSettlingFrom, IsSettling, no_line, no_piece, these_lines, this_piece}
@@ -34,7 +34,7 @@ module _ {W : ℕ} (p : Program) (f : FlowGraph) (c : ClassTable) (touches : ℕ
     grows = rises.grows
 
     pub same_way : (e i : ℕ) → IsWay f (at new) e i → IsWay f (at old) e i
-    same_way e i way = record { edge = way.edge; exists = way.exists; allowed = subst (λ (ds : List Known). KindAllows (kind_behind f e) (get_or ds (to f.graph e) Nothing) i) rises.decisions way.allowed }
+    same_way e i way = record { edge = way.edge; exists = way.exists; allowed = subst (λ (ds : List Known). KindAllows (kind_after f e) (get_or ds (to f.graph e) Nothing) i) rises.decisions way.allowed }
 
     opened-on : (words lines : ℕ) → IsOpenedFor p f c touches r words lines (at old) → IsOpenedFor p f c touches r words lines (at new)
     opened-on words lines o = record {
@@ -64,15 +64,15 @@ module _ {W : ℕ} (p : Program) (f : FlowGraph) (c : ClassTable) (touches : ℕ
       pub seen-on : (among : ℕ → Type 0) → IsSeenFor p f c touches r among (at old) e → IsSeenFor p f c touches r among (at new) e
       seen-on among seen = record {
         decision = λ ready s.
-            at_most-trans (decided_behind p f c (at new) e) (decided_behind p f c (at old) e) ((at new).decision (to f.graph e)) (decided-less p f c touches r.lines a (at new) (at old) e k (under ready) s)
-            (subst (λ (ds : List Known). AtMost (decided_behind p f c (at old) e) (get_or ds (to f.graph e) Nothing)) (sym rises.decisions) (seen.decision (ready-back ready) s));
+            at_most-trans (decided_after p f c (at new) e) (decided_after p f c (at old) e) ((at new).decision (to f.graph e)) (decided-less p f c touches r.lines a (at new) (at old) e k (under ready) s)
+            (subst (λ (ds : List Known). AtMost (decided_after p f c (at old) e) (get_or ds (to f.graph e) Nothing)) (sym rises.decisions) (seen.decision (ready-back ready) s));
         left = λ line i ready way l t m.
             let was = seen.left line i (ready-back ready) (same_way e i way) l t m in
             let led = led_to f r e line i in
             let inside = led_inside f r next (at new) e line i way l in
             record {
-              writes = λ is. at_most-trans (written_behind p f c (at new) e line) (written_behind p f c (at old) e line) ((at new).value line led) (written-less p f c touches r.lines a (at new) (at old) e k (under ready) line is)
-                  (at_most-trans (written_behind p f c (at old) e line) ((at old).value line led) ((at new).value line led) (was.writes is) (grows line led l inside));
+              writes = λ is. at_most-trans (written_after p f c (at new) e line) (written_after p f c (at old) e line) ((at new).value line led) (written-less p f c touches r.lines a (at new) (at old) e k (under ready) line is)
+                  (at_most-trans (written_after p f c (at old) e line) ((at old).value line led) ((at new).value line led) (was.writes is) (grows line led l inside));
               reads = λ is_not. subst (λ (x : Known). AtMost x ((at new).value line led)) (sym (same line l t)) (at_most-trans ((at old).value line e) ((at old).value line led) ((at new).value line led) (was.reads is_not) (grows line led l inside));
             };
       }
@@ -149,25 +149,25 @@ module _ {W : ℕ} (p : Program) (f : FlowGraph) (c : ClassTable) (touches : ℕ
 
   -- a line that was sent on is passed on, or waits again
   pub sent-past : (old new : Work W) (line e : ℕ) → Rises f r.lines old new → line < r.lines → e < edge_count f.graph
-      → ((i : ℕ) → IsWay f (at old) e i → (is_switch (kind_behind f e) || is_merge (kind_behind f e)) ≡ true → wire_at r line e ≡ true → AtMost ((at old).value line e) ((at new).value line (led_to f r e line i)))
+      → ((i : ℕ) → IsWay f (at old) e i → (is_switch (kind_after f e) || is_merge (kind_after f e)) ≡ true → wire_at r line e ≡ true → AtMost ((at old).value line e) ((at new).value line (led_to f r e line i)))
       → (is_pending new line e ≡ true) ⊎ IsPassedOn p f c touches r (at new) line e
   sent-past old new line e rises l k sent = ⊎_elim
       (λ (pending : is_pending new line e ≡ true). inl pending)
       (λ (same : (at new).value line e ≡ (at old).value line e). inr (λ i way kind wire.
-      let before : IsWay f (at old) e i = record { edge = way.edge; exists = way.exists; allowed = subst (λ (ds : List Known). KindAllows (kind_behind f e) (get_or ds (to f.graph e) Nothing) i) rises.decisions way.allowed } in
+      let before : IsWay f (at old) e i = record { edge = way.edge; exists = way.exists; allowed = subst (λ (ds : List Known). KindAllows (kind_after f e) (get_or ds (to f.graph e) Nothing) i) rises.decisions way.allowed } in
       subst (λ (x : Known). AtMost x ((at new).value line (led_to f r e line i))) (sym same) (sent i before kind wire)))
       (rises.moved line e l k)
 
 -- what is due to a line that goes past a piece, in each closed table
 module _ (p : Program) (f : FlowGraph) (c : ClassTable) (touches : ℕ → ℕ → Bool) (r : Routing) where
   way-more : (t b : Knowns) (e i : ℕ) → AtMost (t.decision (to f.graph e)) (b.decision (to f.graph e)) → IsWay f t e i → IsWay f b e i
-  way-more t b e i more way = record { edge = way.edge; exists = way.exists; allowed = kind_allows-more (kind_behind f e) (t.decision (to f.graph e)) (b.decision (to f.graph e)) i more way.allowed }
+  way-more t b e i more way = record { edge = way.edge; exists = way.exists; allowed = kind_allows-more (kind_after f e) (t.decision (to f.graph e)) (b.decision (to f.graph e)) i more way.allowed }
 
-  pub due-past : (t b : Knowns) (line e i : ℕ) → to f.graph e < f.graph.nodes → IsFound p f c touches r t → IsClosed p f c touches r b → line < r.lines → touches (to f.graph e) line ≡ false → (is_switch (kind_behind f e) || is_merge (kind_behind f e)) ≡ true → wire_at r line e ≡ true → IsWay f t e i → AtMost (b.value line e) (b.value line (led_to f r e line i))
+  pub due-past : (t b : Knowns) (line e i : ℕ) → to f.graph e < f.graph.nodes → IsFound p f c touches r t → IsClosed p f c touches r b → line < r.lines → touches (to f.graph e) line ≡ false → (is_switch (kind_after f e) || is_merge (kind_after f e)) ≡ true → wire_at r line e ≡ true → IsWay f t e i → AtMost (b.value line e) (b.value line (led_to f r e line i))
   due-past t b line e i node found closed l untouched kind wire way =
       let below = found.below b closed in
       let there = way-more t b e i (below.decision (to f.graph e) node) way in
       ⊎_elim
-      (λ (s : is_switch (kind_behind f e) ≡ true). closed.switches e line i there s l untouched wire)
-      (λ (m : is_merge (kind_behind f e) ≡ true). closed.merges e line i there m l wire)
-      (or_cases (is_switch (kind_behind f e)) (is_merge (kind_behind f e)) kind)
+      (λ (s : is_switch (kind_after f e) ≡ true). closed.switches e line i there s l untouched wire)
+      (λ (m : is_merge (kind_after f e) ≡ true). closed.merges e line i there m l wire)
+      (or_cases (is_switch (kind_after f e)) (is_merge (kind_after f e)) kind)

@@ -17,7 +17,7 @@ use Rattle.cfg_build.specs.Joined.{FlowGraph}
 use Rattle.dep_routing.specs.Touches.{KindNeeds}
 use Rattle.const_prop.specs.declared.known.Known.{Known}
 use Rattle.const_prop.specs.declared.known.Known.TheVariants.{Nothing, One, Any}
-use Rattle.const_prop.specs.Closed.{is_switch, is_one_word, is_sure, words_on, KindWrites, WritesBehind, written, written_behind, decided, decided_behind, kind_behind, exec_behind}
+use Rattle.const_prop.specs.Closed.{is_switch, is_one_word, is_sure, words_on, KindWrites, WritesAfter, written, written_after, decided, decided_after, kind_after, exec_after}
 use Rattle.const_prop.specs.Known.{AtMost, IsSomething, IsNotOne, one_of}
 use Rattle.const_prop.specs.Right.{CoverNeeds}
 use Rattle.const_prop.specs.Table.{Knowns}
@@ -80,9 +80,9 @@ pub record AreCovered (p : Program) (f : FlowGraph) (c : ClassTable) (touches : 
 
 module _ (p : Program) (f : FlowGraph) (c : ClassTable) (touches : ℕ → ℕ → Bool) (lines : ℕ) (a : AreCovered p f c touches lines) where
   -- what a piece needs it touches
-  pub needed-touched : (e n : ℕ) → e < edge_count f.graph → KindNeeds c (kind_behind f e) (exec_behind p f e) (suc n) → touches (to f.graph e) (suc n) ≡ true
+  pub needed-touched : (e n : ℕ) → e < edge_count f.graph → KindNeeds c (kind_after f e) (exec_after p f e) (suc n) → touches (to f.graph e) (suc n) ≡ true
   needed-touched =
-      let P : FlowGraph → Type 0 = λ g. IsGraph g.graph → (e n : ℕ) → e < edge_count g.graph → KindNeeds c (kind_behind g e) (exec_behind p g e) (suc n) → touches (to g.graph e) (suc n) ≡ true in
+      let P : FlowGraph → Type 0 = λ g. IsGraph g.graph → (e n : ℕ) → e < edge_count g.graph → KindNeeds c (kind_after g e) (exec_after p g e) (suc n) → touches (to g.graph e) (suc n) ≡ true in
       let at : P (flow p.execs) = λ sound e n l needs. a.needs (to (flow p.execs).graph e) n (sound.ends e l) needs in
       subst P (sym a.is) at a.sound
 
@@ -95,7 +95,7 @@ module _ (p : Program) (f : FlowGraph) (c : ClassTable) (touches : ℕ → ℕ �
   not_one Any z e n = let no' : None ≡ Some z = e in absurd cc
 
   module _ (t u : Knowns) (e : ℕ) (edge : e < edge_count f.graph) (h : IsUnder c f touches lines t u e) where
-    covers : Covers p.names c a.classes.names (words_on c u e) (words_on c t e) (KindNeeds c (kind_behind f e) (exec_behind p f e))
+    covers : Covers p.names c a.classes.names (words_on c u e) (words_on c t e) (KindNeeds c (kind_after f e) (exec_after p f e))
     covers word z needs is = ⊎_elim
         (λ (one : is_one_word c (class_of_word c word) ≡ true). by (class_of_word c word) refl one)
         (λ (several : is_one_word c (class_of_word c word) ≡ false). absurd (not_one (u.value (class_of_word c word) e) z is (h.one (class_of_word c word) (class_below word) several)))
@@ -105,11 +105,11 @@ module _ (p : Program) (f : FlowGraph) (c : ClassTable) (touches : ℕ → ℕ �
         by zero class one = let no' : true ≡ false = sym one ∙ one_word-zero c (class_of_word c word) class in absurd cc
         by (suc n) class one =
             let touched : touches (to f.graph e) (class_of_word c word) ≡ true =
-            subst (λ (m : ℕ). touches (to f.graph e) m ≡ true) (sym class) (needed-touched e n edge (subst (λ (m : ℕ). KindNeeds c (kind_behind f e) (exec_behind p f e) m) class needs)) in
+            subst (λ (m : ℕ). touches (to f.graph e) m ≡ true) (sym class) (needed-touched e n edge (subst (λ (m : ℕ). KindNeeds c (kind_after f e) (exec_after p f e) m) class needs)) in
             one-below (t.value (class_of_word c word) e) (u.value (class_of_word c word) e) z (h.under (class_of_word c word) (class_below word) touched) (h.some (class_of_word c word) (class_below word) touched) is
 
-    pub decided-less : is_switch (kind_behind f e) ≡ true → AtMost (decided_behind p f c t e) (decided_behind p f c u e)
-    decided-less s = decided-under p.names c a.classes.names (words_on c u e) (words_on c t e) (kind_behind f e) (exec_behind p f e) s covers
+    pub decided-less : is_switch (kind_after f e) ≡ true → AtMost (decided_after p f c t e) (decided_after p f c u e)
+    decided-less s = decided-under p.names c a.classes.names (words_on c u e) (words_on c t e) (kind_after f e) (exec_after p f e) s covers
 
-    pub written-less : (line : ℕ) → WritesBehind p f c e line → AtMost (written_behind p f c t e line) (written_behind p f c u e line)
-    written-less line is = written-under p.names c a.classes.names (words_on c u e) (words_on c t e) (kind_behind f e) (exec_behind p f e) line is covers
+    pub written-less : (line : ℕ) → WritesAfter p f c e line → AtMost (written_after p f c t e line) (written_after p f c u e line)
+    written-less line is = written-under p.names c a.classes.names (words_on c u e) (words_on c t e) (kind_after f e) (exec_after p f e) line is covers

@@ -24,7 +24,7 @@ use Rattle.cfg_build.specs.Flow.{piece_at}
 use Rattle.cfg_build.specs.Passes.{kind_in}
 use Rattle.cfg_build.specs.Runs.{is_act, is_branch, IsPartOf}
 use Rattle.cfg_build.specs.Shape.{kind_at}
-use Rattle.const_prop.specs.Closed.{is_switch, is_merge, kind_behind, decided, selected, KindWrites}
+use Rattle.const_prop.specs.Closed.{is_switch, is_merge, kind_after, decided, selected, KindWrites}
 use Rattle.const_prop.specs.Setting.{IsProgram, AreLines}
 use Rattle.const_prop.proofs.Under.{AreCovered}
 
@@ -107,8 +107,8 @@ untouched-kind : (p : Program) (c : ClassTable) (touches : ℕ → ℕ → Bool)
 untouched-kind p c touches node merge zero is = no_out p c node (kind_at (flow p.execs) node) (exec_kind p node) merge is
 untouched-kind p c touches node merge (suc n) is = no_needs c (kind_at (flow p.execs) node) (exec_kind p node) (suc n) merge is
 
-pub merges-untouched : (p : Program) (f : FlowGraph) (c : ClassTable) (touches : ℕ → ℕ → Bool) → IsProgram p f → AreTouches p c touches → (e line : ℕ) → e < edge_count f.graph → is_merge (kind_behind f e) ≡ true → touches (to f.graph e) line ≡ false
+pub merges-untouched : (p : Program) (f : FlowGraph) (c : ClassTable) (touches : ℕ → ℕ → Bool) → IsProgram p f → AreTouches p c touches → (e line : ℕ) → e < edge_count f.graph → is_merge (kind_after f e) ≡ true → touches (to f.graph e) line ≡ false
 merges-untouched p f c touches program are =
-    let P : FlowGraph → Type 0 = λ g. IsGraph g.graph → (e line : ℕ) → e < edge_count g.graph → is_merge (kind_behind g e) ≡ true → touches (to g.graph e) line ≡ false in
+    let P : FlowGraph → Type 0 = λ g. IsGraph g.graph → (e line : ℕ) → e < edge_count g.graph → is_merge (kind_after g e) ≡ true → touches (to g.graph e) line ≡ false in
     let at : P (flow p.execs) = λ sound e line l merge. false_from_ne_true (touches (to (flow p.execs).graph e) line) (λ is. untouched-kind p c touches (to (flow p.execs).graph e) merge line ((are (to (flow p.execs).graph e) line (sound.ends e l)).0 is)) in
     subst P (sym program.flow) at program.sound

@@ -108,11 +108,11 @@ decided names words _ kind = selected names words kind
 -- ---- the rules
 
 -- the piece at which an edge of the flow graph ends
-abbrev pub kind_behind : FlowGraph → (e : ℕ) → PieceKind
-kind_behind f e = kind_at f (to f.graph e)
+abbrev pub kind_after : FlowGraph → (e : ℕ) → PieceKind
+kind_after f e = kind_at f (to f.graph e)
 
-abbrev pub exec_behind : Program → FlowGraph → (e : ℕ) → ExecKind
-exec_behind p f e = kind_in (slice_get p.execs (piece_at f.pieces (to f.graph e)).exec)
+abbrev pub exec_after : Program → FlowGraph → (e : ℕ) → ExecKind
+exec_after p f e = kind_in (slice_get p.execs (piece_at f.pieces (to f.graph e)).exec)
 
 -- where the line stands that leaves this piece by its out-edge i
 abbrev pub led_to : FlowGraph → Routing → (e line i : ℕ) → ℕ
@@ -122,25 +122,25 @@ led_to f r e line i = next_at r line (out f.graph (to f.graph e) i)
 pub record IsWay (f : FlowGraph) (t : Knowns) (e i : ℕ) : Type 0 where
   pub edge : e < edge_count f.graph
   pub exists : i < length (outs f.graph (to f.graph e))
-  pub allowed : KindAllows (kind_behind f e) (t.decision (to f.graph e)) i
+  pub allowed : KindAllows (kind_after f e) (t.decision (to f.graph e)) i
 
 -- an edge to a piece, on which each line that the piece touches brings something
 pub record IsReady (f : FlowGraph) (touches : ℕ → ℕ → Bool) (lines : ℕ) (t : Knowns) (e : ℕ) : Type 0 where
   pub edge : e < edge_count f.graph
-  pub action : is_action (kind_behind f e) ≡ true
+  pub action : is_action (kind_after f e) ≡ true
   pub each : (line : ℕ) → line < lines → touches (to f.graph e) line ≡ true → IsSomething (t.value line e)
 
 -- the piece writes to a word of the line, or may do so
-abbrev pub WritesBehind : Program → FlowGraph → ClassTable → (e line : ℕ) → Type 0
-WritesBehind p f c e line = KindWrites c (kind_behind f e) (exec_behind p f e) line
+abbrev pub WritesAfter : Program → FlowGraph → ClassTable → (e line : ℕ) → Type 0
+WritesAfter p f c e line = KindWrites c (kind_after f e) (exec_after p f e) line
 
 -- what it leaves there
-abbrev pub written_behind : Program → FlowGraph → ClassTable → Knowns → (e line : ℕ) → Known
-written_behind p f c t e line = written p.names c (words_on c t e) (exec_behind p f e) line
+abbrev pub written_after : Program → FlowGraph → ClassTable → Knowns → (e line : ℕ) → Known
+written_after p f c t e line = written p.names c (words_on c t e) (exec_after p f e) line
 
 -- what it decides
-abbrev pub decided_behind : Program → FlowGraph → ClassTable → Knowns → (e : ℕ) → Known
-decided_behind p f c t e = decided p.names (words_on c t e) (kind_behind f e) (exec_behind p f e)
+abbrev pub decided_after : Program → FlowGraph → ClassTable → Knowns → (e : ℕ) → Known
+decided_after p f c t e = decided p.names (words_on c t e) (kind_after f e) (exec_after p f e)
 
 -- A table over the flow graph, the classes and the wires of a program.
 module _ (p : Program) (f : FlowGraph) (c : ClassTable) (touches : ℕ → ℕ → Bool) (r : Routing) where
@@ -151,14 +151,14 @@ module _ (p : Program) (f : FlowGraph) (c : ClassTable) (touches : ℕ → ℕ �
     pub initial : (word : ℕ) → word < p.words → is_one_word c (class_of_word c word) ≡ true → AtMost (One (word_at p.initial word)) (t.value (class_of_word c word) (next_at r (class_of_word c word) 1))
     pub others : (line : ℕ) → line < r.lines → is_one_word c line ≡ false → AtMost Any (t.value line (next_at r line 1))
     -- decisions, of pieces on whose touched lines something comes
-    pub decisions : (e : ℕ) → IsReady f touches r.lines t e → is_switch (kind_behind f e) ≡ true → AtMost (decided_behind p f c t e) (t.decision (to f.graph e))
+    pub decisions : (e : ℕ) → IsReady f touches r.lines t e → is_switch (kind_after f e) ≡ true → AtMost (decided_after p f c t e) (t.decision (to f.graph e))
     -- such a piece leaves on the lines that it writes what it writes, and passes on what it only reads
-    pub writes : (e line i : ℕ) → IsReady f touches r.lines t e → IsWay f t e i → line < r.lines → touches (to f.graph e) line ≡ true → WritesBehind p f c e line → AtMost (written_behind p f c t e line) (t.value line (led_to f r e line i))
-    pub reads : (e line i : ℕ) → IsReady f touches r.lines t e → IsWay f t e i → line < r.lines → touches (to f.graph e) line ≡ true → (WritesBehind p f c e line → ⊥) → AtMost (t.value line e) (t.value line (led_to f r e line i))
+    pub writes : (e line i : ℕ) → IsReady f touches r.lines t e → IsWay f t e i → line < r.lines → touches (to f.graph e) line ≡ true → WritesAfter p f c e line → AtMost (written_after p f c t e line) (t.value line (led_to f r e line i))
+    pub reads : (e line i : ℕ) → IsReady f touches r.lines t e → IsWay f t e i → line < r.lines → touches (to f.graph e) line ≡ true → (WritesAfter p f c e line → ⊥) → AtMost (t.value line e) (t.value line (led_to f r e line i))
     -- switches: a line that stands where control decides goes where control may go
-    pub switches : (e line i : ℕ) → IsWay f t e i → is_switch (kind_behind f e) ≡ true → line < r.lines → touches (to f.graph e) line ≡ false → wire_at r line e ≡ true → AtMost (t.value line e) (t.value line (led_to f r e line i))
+    pub switches : (e line i : ℕ) → IsWay f t e i → is_switch (kind_after f e) ≡ true → line < r.lines → touches (to f.graph e) line ≡ false → wire_at r line e ≡ true → AtMost (t.value line e) (t.value line (led_to f r e line i))
     -- merges: a line that stands where control comes together goes on
-    pub merges : (e line i : ℕ) → IsWay f t e i → is_merge (kind_behind f e) ≡ true → line < r.lines → wire_at r line e ≡ true → AtMost (t.value line e) (t.value line (led_to f r e line i))
+    pub merges : (e line i : ℕ) → IsWay f t e i → is_merge (kind_after f e) ≡ true → line < r.lines → wire_at r line e ≡ true → AtMost (t.value line e) (t.value line (led_to f r e line i))
 
   -- The constants of a program: the least closed table.
   pub record IsConstants (t : Knowns) : Type 0 where

@@ -12,7 +12,7 @@ use Rattle.dep_routing.specs.Routing.{Routing, next_at, wire_at}
 use Rattle.const_prop.specs.declared.known.Known.{Known}
 use Rattle.const_prop.specs.declared.known.Known.TheVariants.{Nothing, One, Any}
 use Rattle.const_prop.specs.declared.work.Work.{Work}
-use Rattle.const_prop.specs.Closed.{IsClosed, IsReady, IsWay, WritesBehind, written_behind, decided_behind, kind_behind, led_to, is_switch, is_merge, is_one_word}
+use Rattle.const_prop.specs.Closed.{IsClosed, IsReady, IsWay, WritesAfter, written_after, decided_after, kind_after, led_to, is_switch, is_merge, is_one_word}
 use Rattle.const_prop.specs.Known.{AtMost, IsNotOne}
 use Rattle.const_prop.specs.EdgeSet.{edge_holds}
 use Rattle.const_prop.specs.KnownRows.{edges_of, value_in}
@@ -64,7 +64,7 @@ module _ {W : ℕ} where
   -- the least edge that waits, from an edge on
   pub record IsNextWaiting (f : FlowGraph) (w : Work W) (from next : ℕ) : Type 0 where
     pub edge : next < edge_count f.graph
-    pub behind : from ≤ next
+    pub after : from ≤ next
     pub waits : is_waiting w next ≡ true
     pub least : (e : ℕ) → from ≤ e → e < next → is_waiting w e ≡ false
 
@@ -92,16 +92,16 @@ module _ (p : Program) (f : FlowGraph) (c : ClassTable) (touches : ℕ → ℕ �
 
   -- the line was passed on at a switch or a merge that doesn't touch it
   abbrev pub IsPassedOn : Knowns → (line e : ℕ) → Type 0
-  IsPassedOn t line e = (i : ℕ) → IsWay f t e i → (is_switch (kind_behind f e) || is_merge (kind_behind f e)) ≡ true → wire_at r line e ≡ true → AtMost (t.value line e) (t.value line (led_to f r e line i))
+  IsPassedOn t line e = (i : ℕ) → IsWay f t e i → (is_switch (kind_after f e) || is_merge (kind_after f e)) ≡ true → wire_at r line e ≡ true → AtMost (t.value line e) (t.value line (led_to f r e line i))
 
   -- what the piece leaves on a line that it touches was passed on
   pub record IsLeft (t : Knowns) (e line i : ℕ) : Type 0 where
-    pub writes : WritesBehind p f c e line → AtMost (written_behind p f c t e line) (t.value line (led_to f r e line i))
-    pub reads : (WritesBehind p f c e line → ⊥) → AtMost (t.value line e) (t.value line (led_to f r e line i))
+    pub writes : WritesAfter p f c e line → AtMost (written_after p f c t e line) (t.value line (led_to f r e line i))
+    pub reads : (WritesAfter p f c e line → ⊥) → AtMost (t.value line e) (t.value line (led_to f r e line i))
 
   -- the rules of the piece to which the edge comes hold, for the lines among these
   pub record IsSeenFor (among : ℕ → Type 0) (t : Knowns) (e : ℕ) : Type 0 where
-    pub decision : IsReady f touches r.lines t e → is_switch (kind_behind f e) ≡ true → AtMost (decided_behind p f c t e) (t.decision (to f.graph e))
+    pub decision : IsReady f touches r.lines t e → is_switch (kind_after f e) ≡ true → AtMost (decided_after p f c t e) (t.decision (to f.graph e))
     pub left : (line i : ℕ) → IsReady f touches r.lines t e → IsWay f t e i → line < r.lines → touches (to f.graph e) line ≡ true → among line → IsLeft t e line i
 
   abbrev pub IsSeen : Knowns → (e : ℕ) → Type 0

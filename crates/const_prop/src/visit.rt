@@ -3,7 +3,7 @@
 ghost use Rattle.std.specs.Prelude.{◌≡◌, ◌<◌, ◌≤◌, ◌+◌, ◌⊎◌, ◌↔◌, true, IsTrue};
 ghost use Rattle.closed_walks.specs.Graph.{edge_count, to};
 ghost use Rattle.dep_routing.specs.Touch.{touches_in};
-ghost use Rattle.const_prop.specs.Closed.{IsReady, WritesBehind, written_behind, decided_behind, kind_behind};
+ghost use Rattle.const_prop.specs.Closed.{IsReady, WritesAfter, written_after, decided_after, kind_after};
 ghost use Rattle.const_prop.specs.Closed.{is_action as spec_is_action, is_switch as spec_is_switch};
 ghost use Rattle.const_prop.specs.Known.{AtMost, IsSomething};
 ghost use Rattle.const_prop.specs.Setting.{IsSetting};
@@ -39,7 +39,7 @@ impl<const W: usize> Work<W> {
         requires settling { IsSettling s.now.program.now s.now.flow.now s.now.classes.now (touches_in s.now.touch.now) s.now.lines.now no_line (this_piece edge) self.old }
         ensures settling { IsSettling s.now.program.now s.now.flow.now s.now.classes.now (touches_in s.now.touch.now) s.now.lines.now no_line (this_piece edge) self.new }
         ensures ready { IsReady s.now.flow.now (touches_in s.now.touch.now) s.now.lines.now.lines (so_far self.new) edge }
-        ensures decided { spec_is_switch (kind_behind s.now.flow.now edge) ≡ true → AtMost (decided_behind s.now.program.now s.now.flow.now s.now.classes.now (so_far self.new) edge) ((so_far self.new).decision (to s.now.flow.now.graph edge)) }
+        ensures decided { spec_is_switch (kind_after s.now.flow.now edge) ≡ true → AtMost (decided_after s.now.program.now s.now.flow.now s.now.classes.now (so_far self.new) edge) ((so_far self.new).decision (to s.now.flow.now.graph edge)) }
         ensures bounded { work_left s.now.flow.now s.now.lines.now.lines self.new ≤ work_left s.now.flow.now s.now.lines.now.lines self.old }
     {
         if !is_switch(s.kind(s.head(edge))) {
@@ -54,7 +54,7 @@ impl<const W: usize> Work<W> {
         requires edge { edge < edge_count s.now.flow.now.graph }
         requires ready { IsReady s.now.flow.now (touches_in s.now.touch.now) s.now.lines.now.lines (so_far self.old) edge }
         requires settling { IsSettling s.now.program.now s.now.flow.now s.now.classes.now (touches_in s.now.touch.now) s.now.lines.now no_line (this_piece edge) self.old }
-        requires decided { spec_is_switch (kind_behind s.now.flow.now edge) ≡ true → AtMost (decided_behind s.now.program.now s.now.flow.now s.now.classes.now (so_far self.old) edge) ((so_far self.old).decision (to s.now.flow.now.graph edge)) }
+        requires decided { spec_is_switch (kind_after s.now.flow.now edge) ≡ true → AtMost (decided_after s.now.program.now s.now.flow.now s.now.classes.now (so_far self.old) edge) ((so_far self.old).decision (to s.now.flow.now.graph edge)) }
         ensures settling { IsSettling s.now.program.now s.now.flow.now s.now.classes.now (touches_in s.now.touch.now) s.now.lines.now no_line no_piece self.new }
         ensures bounded { work_left s.now.flow.now s.now.lines.now.lines self.new ≤ work_left s.now.flow.now s.now.lines.now.lines self.old }
     {
@@ -89,8 +89,8 @@ impl<const W: usize> Work<W> {
         requires setting { IsSetting s.now.program.now s.now.flow.now s.now.classes.now s.now.touch.now s.now.lines.now s.now.one_word.items s.now.outs.items s.now.touched.items }
         requires edge { edge < edge_count s.now.flow.now.graph }
         requires sized { IsSized s.now.flow.now s.now.lines.now.lines self.now }
-        requires switch { spec_is_switch (kind_behind s.now.flow.now edge) ≡ true }
-        ensures { result ≡ decided_behind s.now.program.now s.now.flow.now s.now.classes.now (so_far self.now) edge }
+        requires switch { spec_is_switch (kind_after s.now.flow.now edge) ≡ true }
+        ensures { result ≡ decided_after s.now.program.now s.now.flow.now s.now.classes.now (so_far self.now) edge }
     {
         let node = s.head(edge);
         match s.kind(node) {
@@ -105,7 +105,7 @@ impl<const W: usize> Work<W> {
         requires edge { edge < edge_count s.now.flow.now.graph }
         requires line { line < s.now.lines.now.lines }
         requires sized { IsSized s.now.flow.now s.now.lines.now.lines self.now }
-        ensures { (WritesBehind s.now.program.now s.now.flow.now s.now.classes.now edge line × (result ≡ written_behind s.now.program.now s.now.flow.now s.now.classes.now (so_far self.now) edge line)) ⊎ ((WritesBehind s.now.program.now s.now.flow.now s.now.classes.now edge line → ⊥) × (result ≡ (so_far self.now).value line edge)) }
+        ensures { (WritesAfter s.now.program.now s.now.flow.now s.now.classes.now edge line × (result ≡ written_after s.now.program.now s.now.flow.now s.now.classes.now (so_far self.now) edge line)) ⊎ ((WritesAfter s.now.program.now s.now.flow.now s.now.classes.now edge line → ⊥) × (result ≡ (so_far self.now).value line edge)) }
     {
         match s.kind(s.head(edge)) {
             PieceKind::Act => self.left_by_act(s, line, edge),
@@ -119,8 +119,8 @@ impl<const W: usize> Work<W> {
         requires edge { edge < edge_count s.now.flow.now.graph }
         requires line { line < s.now.lines.now.lines }
         requires sized { IsSized s.now.flow.now s.now.lines.now.lines self.now }
-        requires act { kind_behind s.now.flow.now edge ≡ PieceKind.Act }
-        ensures { (WritesBehind s.now.program.now s.now.flow.now s.now.classes.now edge line × (result ≡ written_behind s.now.program.now s.now.flow.now s.now.classes.now (so_far self.now) edge line)) ⊎ ((WritesBehind s.now.program.now s.now.flow.now s.now.classes.now edge line → ⊥) × (result ≡ (so_far self.now).value line edge)) }
+        requires act { kind_after s.now.flow.now edge ≡ PieceKind.Act }
+        ensures { (WritesAfter s.now.program.now s.now.flow.now s.now.classes.now edge line × (result ≡ written_after s.now.program.now s.now.flow.now s.now.classes.now (so_far self.now) edge line)) ⊎ ((WritesAfter s.now.program.now s.now.flow.now s.now.classes.now edge line → ⊥) × (result ≡ (so_far self.now).value line edge)) }
     {
         let exec = s.exec(s.head(edge));
         if writes(s, exec, line) {
@@ -135,11 +135,11 @@ impl<const W: usize> Work<W> {
         requires setting { IsSetting s.now.program.now s.now.flow.now s.now.classes.now s.now.touch.now s.now.lines.now s.now.one_word.items s.now.outs.items s.now.touched.items }
         requires edge { edge < edge_count s.now.flow.now.graph }
         requires ready { IsReady s.now.flow.now (touches_in s.now.touch.now) s.now.lines.now.lines (so_far self.old) edge }
-        requires switch { spec_is_switch (kind_behind s.now.flow.now edge) ≡ true }
+        requires switch { spec_is_switch (kind_after s.now.flow.now edge) ≡ true }
         requires settling { IsSettling s.now.program.now s.now.flow.now s.now.classes.now (touches_in s.now.touch.now) s.now.lines.now no_line (this_piece edge) self.old }
         ensures settling { IsSettling s.now.program.now s.now.flow.now s.now.classes.now (touches_in s.now.touch.now) s.now.lines.now no_line (this_piece edge) self.new }
         ensures values { self.new.known ≡ self.old.known }
-        ensures decided { AtMost (decided_behind s.now.program.now s.now.flow.now s.now.classes.now (so_far self.new) edge) ((so_far self.new).decision (to s.now.flow.now.graph edge)) }
+        ensures decided { AtMost (decided_after s.now.program.now s.now.flow.now s.now.classes.now (so_far self.new) edge) ((so_far self.new).decision (to s.now.flow.now.graph edge)) }
         ensures bounded { work_left s.now.flow.now s.now.lines.now.lines self.new ≤ work_left s.now.flow.now s.now.lines.now.lines self.old }
     {
         let node = s.head(edge);

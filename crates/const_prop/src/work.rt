@@ -118,7 +118,7 @@ impl<const W: usize> Work<W> {
         }
     }
 
-    /// These lines go on from the edge by the out-edge. Those on which any value may come and that are led past nothing go at once.
+    /// These lines go on from the edge by the out-edge. Those on which any value may come and that bypass nothing go at once.
     fn pass_along(&mut self, s: &Setting<W>, edge: u32, out: u32, lines: &ClassSet<W>)
         requires setting { IsSetting s.now.program.now s.now.flow.now s.now.classes.now s.now.touch.now s.now.lines.now s.now.one_word.items s.now.outs.items s.now.touched.items }
         requires sized { IsSized s.now.flow.now s.now.lines.now.lines self.old }

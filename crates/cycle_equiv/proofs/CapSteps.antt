@@ -19,9 +19,9 @@ pub stands_last : (xs : List ℕ) (x : ℕ) → Stands (xs ++ x ∷ []) x
 stands_last [] x = inl refl
 stands_last (z ∷ zs) x = inr (stands_last zs x)
 
-once_front : (xs : List ℕ) (x : ℕ) → IsOnce (xs ++ x ∷ []) → IsOnce xs
-once_front [] x once = tt
-once_front (z ∷ zs) x once = (λ stands. once.0 (stands_push zs x z stands), once_front zs x once.1)
+once_prefix : (xs : List ℕ) (x : ℕ) → IsOnce (xs ++ x ∷ []) → IsOnce xs
+once_prefix [] x once = tt
+once_prefix (z ∷ zs) x once = (λ stands. once.0 (stands_push zs x z stands), once_prefix zs x once.1)
 
 once_last : (xs : List ℕ) (x : ℕ) → IsOnce (xs ++ x ∷ []) → Stands xs x → ⊥
 once_last [] x once stands = absurd stands
@@ -44,7 +44,7 @@ ended_push edges f xs (d ∷ fs) = ap (λ ys. without ys (edges + d)) (ended_pus
 module _ (edges f : ℕ) (fs : List ℕ) where
   pub caps_fewer : (xs : List ℕ) → HaveCaps edges xs (fs ++ f ∷ []) → HaveCaps edges (without xs (edges + f)) fs
   caps_fewer xs h = record {
-    once = once_front fs f h.once;
+    once = once_prefix fs f h.once;
     stand = λ d stands. stands_still xs (edges + f) (edges + d) (h.stand d (stands_push fs f d stands))
         (λ same. once_last fs f h.once (let equal : d ≡ f = omega (arith, same) in subst (Stands fs) equal stands));
     few = λ d stands. h.few d (stands_push fs f d stands);

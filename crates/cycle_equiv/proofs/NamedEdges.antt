@@ -56,17 +56,17 @@ module _ (tops sizes : List ℕ) where
     new_number : (k : ℕ) → get_or (classes ++ k ∷ []) e 0 ≡ k
     new_number k = get_or_push classes k 0 e n.edges
 
-    old_front : (k d : ℕ) → d ≤ e → take d (classes ++ k ∷ []) ≡ take d classes
-    old_front k d h = take-append-le d classes (k ∷ []) (omega (arith, n.edges))
+    old_prefix : (k d : ℕ) → d ≤ e → take d (classes ++ k ∷ []) ≡ take d classes
+    old_prefix k d h = take-append-le d classes (k ∷ []) (omega (arith, n.edges))
 
-    whole_front : take e classes ≡ classes
-    whole_front = take_all e classes (omega (arith, n.edges))
+    whole_prefix : take e classes ≡ classes
+    whole_prefix = take_all e classes (omega (arith, n.edges))
 
     old_first : (k d : ℕ) → d < e → IsFirst (classes ++ k ∷ []) d → IsFirst classes d
     old_first k d h first b l same = first b l (old_number k b (omega arith) ∙ same ∙ sym (old_number k d h))
 
     old_lowest : (k d : ℕ) → d < e → IsFirst (classes ++ k ∷ []) d → get_or (classes ++ k ∷ []) d 0 ≡ fresh (take d (classes ++ k ∷ []))
-    old_lowest k d h first = old_number k d h ∙ n.lowest d h (old_first k d h first) ∙ ap fresh (sym (old_front k d (omega arith)))
+    old_lowest k d h first = old_number k d h ∙ n.lowest d h (old_first k d h first) ∙ ap fresh (sym (old_prefix k d (omega arith)))
 
     old_edge : (k j : ℕ) → j < length names → HasEdge (classes ++ k ∷ []) (e + 1) j
     old_edge k j h =
@@ -131,7 +131,7 @@ module _ (tops sizes : List ℕ) where
       count = omega (arith, fresh-push classes (length names), n.count, more_names);
       lowest = λ d h first. ⊎_elim
           (λ (l : d < e). old_lowest (length names) d l first)
-          (λ (same : d ≡ e). rw same (new_number (length names) ∙ sym n.count ∙ ap fresh (sym (old_front (length names) e (omega arith) ∙ whole_front))))
+          (λ (same : d ≡ e). rw same (new_number (length names) ∙ sym n.count ∙ ap fresh (sym (old_prefix (length names) e (omega arith) ∙ whole_prefix))))
           (cases_below d e h);
     }
 

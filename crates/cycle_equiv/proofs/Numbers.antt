@@ -52,17 +52,17 @@ module _ (g : Graph) where
     new_number : (k : ℕ) → get_or (classes ++ k ∷ []) e 0 ≡ k
     new_number k = get_or_push classes k 0 e n.edges
 
-    old_front : (k d : ℕ) → d ≤ e → take d (classes ++ k ∷ []) ≡ take d classes
-    old_front k d h = take-append-le d classes (k ∷ []) (omega (arith, n.edges))
+    old_prefix : (k d : ℕ) → d ≤ e → take d (classes ++ k ∷ []) ≡ take d classes
+    old_prefix k d h = take-append-le d classes (k ∷ []) (omega (arith, n.edges))
 
-    whole_front : take e classes ≡ classes
-    whole_front = take_all e classes (omega (arith, n.edges))
+    whole_prefix : take e classes ≡ classes
+    whole_prefix = take_all e classes (omega (arith, n.edges))
 
     old_first : (k d : ℕ) → d < e → IsFirst (classes ++ k ∷ []) d → IsFirst classes d
     old_first k d h first b l same = first b l (old_number k b (omega arith) ∙ same ∙ sym (old_number k d h))
 
     old_lowest : (k d : ℕ) → d < e → IsFirst (classes ++ k ∷ []) d → get_or (classes ++ k ∷ []) d 0 ≡ fresh (take d (classes ++ k ∷ []))
-    old_lowest k d h first = old_number k d h ∙ n.lowest d h (old_first k d h first) ∙ ap fresh (sym (old_front k d (omega arith)))
+    old_lowest k d h first = old_number k d h ∙ n.lowest d h (old_first k d h first) ∙ ap fresh (sym (old_prefix k d (omega arith)))
 
     -- an edge of a class that is there
     pub IsNumbered-old : (k : ℕ) → k < length low → IsCycleEquivalent g e (get_or low k 0) → IsNumbered (e + 1) low (classes ++ k ∷ [])
@@ -126,7 +126,7 @@ module _ (g : Graph) where
       count = omega (arith, fresh-push classes (length low), n.count, more_low);
       lowest = λ d h first. ⊎_elim
           (λ (l : d < e). old_lowest (length low) d l first)
-          (λ (same : d ≡ e). rw same (new_number (length low) ∙ sym n.count ∙ ap fresh (sym (old_front (length low) e (omega arith) ∙ whole_front))))
+          (λ (same : d ≡ e). rw same (new_number (length low) ∙ sym n.count ∙ ap fresh (sym (old_prefix (length low) e (omega arith) ∙ whole_prefix))))
           (cases_below d e h);
     }
 
@@ -192,8 +192,8 @@ module _ (g : Graph) (classes others : List ℕ) (one : IsNumbering g classes) (
   same_back : (a b : ℕ) → a < edge_count g → b < edge_count g → get_or others a 0 ≡ get_or others b 0 → get_or classes a 0 ≡ get_or classes b 0
   same_back a b a_edge b_edge same = (one.same a b a_edge b_edge).1 ((two.same a b a_edge b_edge).0 same)
 
-  same_fronts : (e : ℕ) → e ≤ edge_count g → ((d : ℕ) → d < e → get_or classes d 0 ≡ get_or others d 0) → take e classes ≡ take e others
-  same_fronts e few same =
+  same_prefixes : (e : ℕ) → e ≤ edge_count g → ((d : ℕ) → d < e → get_or classes d 0 ≡ get_or others d 0) → take e classes ≡ take e others
+  same_prefixes e few same =
       let c_len : length (take e classes) ≡ e = omega (arith, length-take e classes, one.edges) in
       let o_len : length (take e others) ≡ e = omega (arith, length-take e others, two.edges) in
       same_number_lists (take e classes) (take e others) (c_len ∙ sym o_len)
@@ -206,7 +206,7 @@ module _ (g : Graph) (classes others : List ℕ) (one : IsNumbering g classes) (
       sym l.same ∙ same l.edge l.lower ∙ same_both l.edge e (omega arith) edge l.same)
       (λ (first : IsFirst classes e).
       let other_first : IsFirst others e = λ d h equal. first d h (same_back d e (omega arith) edge equal) in
-      one.lowest e edge first ∙ ap fresh (same_fronts e (omega arith) same) ∙ sym (two.lowest e edge other_first))
+      one.lowest e edge first ∙ ap fresh (same_prefixes e (omega arith) same) ∙ sym (two.lowest e edge other_first))
       (cases_lower classes e)
 
   all_same : (e : ℕ) → e ≤ edge_count g → (d : ℕ) → d < e → get_or classes d 0 ≡ get_or others d 0

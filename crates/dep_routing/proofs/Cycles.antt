@@ -73,9 +73,9 @@ Avoids-append avoided (e ∷ w) z first second = (first.0, Avoids-append avoided
 record IsSplit (g : Graph) (avoided : ℕ → Bool) (u e v : ℕ) : Type 0 where
   edge : e < edge_count g
   free : avoided e ≡ false
-  front : List ℕ
-  first : Walk g u front (from g e)
-  front_avoids : Avoids avoided front
+  prefix : List ℕ
+  first : Walk g u prefix (from g e)
+  prefix_avoids : Avoids avoided prefix
   back : List ℕ
   second : Walk g (to g e) back v
   back_avoids : Avoids avoided back
@@ -83,10 +83,10 @@ record IsSplit (g : Graph) (avoided : ℕ → Bool) (u e v : ℕ) : Type 0 where
 split : (g : Graph) (avoided : ℕ → Bool) (u v e : ℕ) (w : List ℕ) → Walk g u w v → Avoids avoided w → Holds w e → IsSplit g avoided u e v
 split g avoided u v e [] leads avoids h = absurd h
 split g avoided u v e (d ∷ w) leads avoids (inl same) =
-    subst (λ x. IsSplit g avoided u x v) same (record { edge = leads.0; free = avoids.0; front = []; first = sym leads.1; front_avoids = tt; back = w; second = leads.2; back_avoids = avoids.1 })
+    subst (λ x. IsSplit g avoided u x v) same (record { edge = leads.0; free = avoids.0; prefix = []; first = sym leads.1; prefix_avoids = tt; back = w; second = leads.2; back_avoids = avoids.1 })
 split g avoided u v e (d ∷ w) leads avoids (inr h) =
     let r : IsSplit g avoided (to g d) e v = split g avoided (to g d) v e w leads.2 avoids.1 h in
-    record { edge = r.edge; free = r.free; front = d ∷ r.front; first = (leads.0, leads.1, r.first); front_avoids = (avoids.0, r.front_avoids); back = r.back; second = r.second; back_avoids = r.back_avoids }
+    record { edge = r.edge; free = r.free; prefix = d ∷ r.prefix; first = (leads.0, leads.1, r.first); prefix_avoids = (avoids.0, r.prefix_avoids); back = r.back; second = r.second; back_avoids = r.back_avoids }
 
 -- an edge of the walk is followed by another, or ends where the walk does
 followed : (g : Graph) (u v e : ℕ) (w : List ℕ) → Walk g u w v → Holds w e → (to g e ≡ v) ⊎ ((d : ℕ) × Holds w d × (from g d ≡ to g e))
@@ -123,9 +123,9 @@ module _ (p : Program) (inside : ℕ → Bool) (place : IsPlace p inside) (shape
     on_cycle : (node : ℕ) → IsOn node → IsOnCycle (flow p.execs).graph (ends_rounds p) node
     on_cycle node o =
         let s : IsSplit g (ends_stay p inside place) v o.edge v = piece_of o.edge o.among in
-        let all : List ℕ = s.back ++ s.front in
-        let walk : Walk g (to g o.edge) all (from g o.edge) = Walk-append g (to g o.edge) v (from g o.edge) s.back s.front s.second s.first in
-        let none : Avoids (ends_stay p inside place) (o.edge ∷ all) = (s.free, Avoids-append (ends_stay p inside place) s.back s.front s.back_avoids s.front_avoids) in
+        let all : List ℕ = s.back ++ s.prefix in
+        let walk : Walk g (to g o.edge) all (from g o.edge) = Walk-append g (to g o.edge) v (from g o.edge) s.back s.prefix s.second s.first in
+        let none : Avoids (ends_stay p inside place) (o.edge ∷ all) = (s.free, Avoids-append (ends_stay p inside place) s.back s.prefix s.back_avoids s.prefix_avoids) in
         record {
           first = o.edge;
           rest = all;

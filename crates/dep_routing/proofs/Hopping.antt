@@ -7,7 +7,7 @@ use Rattle.region_tree.specs.Tree.{Tree, entry_of, exit_of, IsNumber, IsIn, IsPa
 use Rattle.dep_routing.specs.Facts.{TreeFacts}
 use Rattle.dep_routing.specs.Quiet.{IsQuiet, IsTouched, IsFree, IsWire, IsLargest}
 use Rattle.dep_routing.specs.Next.{IsHop, IsLast, Hops, Next}
-use Rattle.dep_routing.proofs.Quietness.{edges, not_behind, at_exit, at_entry, comes_in, meet, quiet_or_touched, not_both}
+use Rattle.dep_routing.proofs.Quietness.{edges, not_after, at_exit, at_entry, comes_in, meet, quiet_or_touched, not_both}
 
 module _ (g : Graph) (t : Tree) (f : TreeFacts g t) where
   -- a region has the edge as its entry, or none has
@@ -110,15 +110,15 @@ module _ (g : Graph) (t : Tree) (f : TreeFacts g t) where
 
     pub loose_exit : (node q : ℕ) → IsLargest g t touches l node q → IsLoose (exit_of t q)
     loose_exit node q largest r quiet begins ends = ⊎_elim
-        (λ (part : IsPart g t q r). not_behind g t f q largest.quiet.number (largest.largest r quiet (part node largest.holds) (to g (exit_of t q)) ends))
-        (λ (part : IsPart g t r q). not_behind g t f q largest.quiet.number (part (to g (exit_of t q)) ends))
+        (λ (part : IsPart g t q r). not_after g t f q largest.quiet.number (largest.largest r quiet (part node largest.holds) (to g (exit_of t q)) ends))
+        (λ (part : IsPart g t r q). not_after g t f q largest.quiet.number (part (to g (exit_of t q)) ends))
         (meet g t f q r (from g (exit_of t q)) largest.quiet.number quiet.number (at_exit g t f q largest.quiet.number) begins)
 
     loose_hop : (e x : ℕ) → e < edge_count g → IsLoose e → IsHop g t touches l e x → IsLoose x
     loose_hop e x edge loose hop q quiet begins ends =
         let r = hop.region in
         let in_r : IsIn g t r (from g x) = subst (λ d. IsIn g t r (from g d)) hop.exit (at_exit g t f r hop.quiet.number) in
-        let out_r : IsIn g t r (to g x) → ⊥ = λ h. not_behind g t f r hop.quiet.number (subst (λ d. IsIn g t r (to g d)) (sym hop.exit) h) in
+        let out_r : IsIn g t r (to g x) → ⊥ = λ h. not_after g t f r hop.quiet.number (subst (λ d. IsIn g t r (to g d)) (sym hop.exit) h) in
         let first : IsIn g t r (to g e) = subst (λ d. IsIn g t r (to g d)) hop.entry (at_entry g t f r hop.quiet.number) in
         ⊎_elim
         (λ (part : IsPart g t q r). out_r (part (to g x) ends))
@@ -163,12 +163,12 @@ module _ (g : Graph) (t : Tree) (f : TreeFacts g t) where
     to_end (suc k) e x h = let rest = to_end k h.0 x h.2 in (rest.0, (h.0, h.1, rest.1), rest.2)
 
     -- of two rows of hops to one edge the end of the longer one is the shorter one
-    front_of : (k j e d x : ℕ) → Hops g t touches l k e x → Hops g t touches l (k + j) d x → Hops g t touches l j d e
-    front_of zero j e d x same h = subst (λ y. Hops g t touches l j d y) (sym same) (subst (λ n. Hops g t touches l n d x) (zero-add j) h)
-    front_of (suc k) j e d x h long =
+    prefix_of : (k j e d x : ℕ) → Hops g t touches l k e x → Hops g t touches l (k + j) d x → Hops g t touches l j d e
+    prefix_of zero j e d x same h = subst (λ y. Hops g t touches l j d y) (sym same) (subst (λ n. Hops g t touches l n d x) (zero-add j) h)
+    prefix_of (suc k) j e d x h long =
         let a = to_end k e x h in
         let b = to_end (k + j) d x (subst (λ n. Hops g t touches l n d x) (suc-add k j) long) in
-        front_of k j e d a.0 a.1 (subst (λ y. Hops g t touches l (k + j) d y) (hop_back b.0 a.0 x b.2 a.2) b.1)
+        prefix_of k j e d a.0 a.1 (subst (λ y. Hops g t touches l (k + j) d y) (hop_back b.0 a.0 x b.2 a.2) b.1)
 
     -- no hop ends at an edge that begins at a free node
     hops_free : (j d e : ℕ) → IsFree g t touches l (from g e) → Hops g t touches l j d e → d ≡ e
@@ -181,8 +181,8 @@ module _ (g : Graph) (t : Tree) (f : TreeFacts g t) where
     next_back e d x free_e free_d a b = ⊎_elim
         (λ (less : a.count < b.count).
         let long : Hops g t touches l (a.count + (b.count - a.count)) d x = subst (λ n. Hops g t touches l n d x) (omega (arith, less)) b.hops in
-        sym (hops_free (b.count - a.count) d e free_e (front_of a.count (b.count - a.count) e d x a.hops long)))
+        sym (hops_free (b.count - a.count) d e free_e (prefix_of a.count (b.count - a.count) e d x a.hops long)))
         (λ (most : b.count ≤ a.count).
         let long : Hops g t touches l (b.count + (a.count - b.count)) e x = subst (λ n. Hops g t touches l n e x) (omega (arith, most)) a.hops in
-        hops_free (a.count - b.count) e d free_d (front_of b.count (a.count - b.count) d e x b.hops long))
+        hops_free (a.count - b.count) e d free_d (prefix_of b.count (a.count - b.count) d e x b.hops long))
         (cases_lt a.count b.count)

@@ -8,7 +8,7 @@ use Rattle.std.proofs.lemmas.List.FromFn.{length-range_with_len}
 use Rattle.closed_walks.specs.Walk.{Holds}
 use Rattle.dep_routing.proofs.Held.{Holds-left, Holds-right, Holds-append}
 
--- Of a list in the making: it has the lines below a bound that the test tells, and of those behind it the next one is the first, or
+-- Of a list in the making: it has the lines below a bound that the test tells, and of those after it the next one is the first, or
 -- all are listed.
 pub record IsListing (test : ℕ → Bool) (lines next : ℕ) (list : List ℕ) : Type 0 where
   pub bound : ℕ

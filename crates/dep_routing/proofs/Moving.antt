@@ -11,7 +11,7 @@ use Rattle.dep_routing.specs.Facts.{TreeFacts}
 use Rattle.dep_routing.specs.Leaving.{KeepsMoving}
 use Rattle.dep_routing.specs.Quiet.{IsQuiet, IsFree, IsLargest}
 use Rattle.dep_routing.specs.Sound.{comes_to, IsLeftBy}
-use Rattle.dep_routing.proofs.Quietness.{edges, not_behind, at_exit, comes_in, meet, free_or_largest}
+use Rattle.dep_routing.proofs.Quietness.{edges, not_after, at_exit, comes_in, meet, free_or_largest}
 
 -- the field of sound touches on runs that leave
 abbrev pub Leaves : Program → Tree → (ℕ → ℕ → Bool) → Type 0
@@ -31,8 +31,8 @@ module _ (p : Program) (t : Tree) (touches : ℕ → ℕ → Bool) (f : TreeFact
       (λ (inside : IsIn g t r (from g (exit_of t q))). ⊎_elim
       (λ (part : IsPart g t q r).
       let back : IsPart g t r q = largest.largest r next.quiet (part node largest.holds) in
-      absurd (not_behind g t f q largest.quiet.number (back (to g (exit_of t q)) next.holds)))
-      (λ (part : IsPart g t r q). absurd (not_behind g t f q largest.quiet.number (part (to g (exit_of t q)) next.holds)))
+      absurd (not_after g t f q largest.quiet.number (back (to g (exit_of t q)) next.holds)))
+      (λ (part : IsPart g t r q). absurd (not_after g t f q largest.quiet.number (part (to g (exit_of t q)) next.holds)))
       (meet g t f q r (from g (exit_of t q)) largest.quiet.number next.quiet.number (at_exit g t f q largest.quiet.number) inside))
       (comes_in g t f r (exit_of t q) next.quiet.number (edges g t f q largest.quiet.number).1 next.holds)
 

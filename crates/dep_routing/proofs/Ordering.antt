@@ -5,7 +5,7 @@ use Rattle.std.proofs.lemmas.List.{append-nil, get_or_append_left, get_or_push, 
 use Rattle.closed_walks.specs.Walk.{Holds}
 use Rattle.region_tree.specs.Tree.{Tree, entry_of, exit_of, IsNumber}
 use Rattle.dep_routing.specs.Numbers.{AreNumbersBelow}
-use Rattle.dep_routing.specs.Order.{Ranks, IsOrder, IsOrdering, IsPutBehind, is_marked, unmarked}
+use Rattle.dep_routing.specs.Order.{Ranks, IsOrder, IsOrdering, IsPutAfter, is_marked, unmarked}
 use Rattle.dep_routing.proofs.Held.{Holds-left, Holds-right, Holds-append, Holds-at, IsAt, at_Holds}
 
 pub unmarked-set : (marks : List Bool) (r : ℕ) → r < length marks → is_marked marks r ≡ false → unmarked (set marks r true) + 1 ≡ unmarked marks
@@ -15,24 +15,24 @@ unmarked-set (false ∷ marks) zero within blank = refl
 unmarked-set (true ∷ marks) (suc r) within blank = unmarked-set marks r (omega arith) blank
 unmarked-set (false ∷ marks) (suc r) within blank = let rest = unmarked-set marks r (omega arith) blank in omega (arith, rest)
 
--- What became of the order where a region was put behind it, if it wasn't in it.
+-- What became of the order where a region was put after it, if it wasn't in it.
 pub record IsPlaced (t : Tree) (r k done : ℕ) (marks : List Bool) (order : List ℕ) (marks' : List Bool) (order' : List ℕ) : Type 0 where
   pub ordering : IsOrdering t k done marks' order'
   pub there : Holds order' r
   pub work : unmarked marks' + length order' ≡ unmarked marks + length order
   pub more : List ℕ
-  pub front : order' ≡ order ++ more
+  pub prefix : order' ≡ order ++ more
 
 module _ (t : Tree) where
-  -- a region is put behind the order
-  module _ (r k done : ℕ) (marks : List Bool) (order : List ℕ) (o : IsOrdering t k done marks order) (number : IsNumber t r) (behind : (q : ℕ) → IsNumber t q → entry_of t q ≡ exit_of t r → Holds order q) where
+  -- a region is put after the order
+  module _ (r k done : ℕ) (marks : List Bool) (order : List ℕ) (o : IsOrdering t k done marks order) (number : IsNumber t r) (after : (q : ℕ) → IsNumber t q → entry_of t q ≡ exit_of t r → Holds order q) where
     placed_old : (marks' : List Bool) (order' : List ℕ) → is_marked marks r ≡ true → marks' ≡ marks → order' ≡ order → IsPlaced t r k done marks order marks' order'
     placed_old marks' order' old same_marks same_order = rw (same_marks, same_order) (record {
       ordering = o;
       there = (o.marked r).0 old;
       work = refl;
       more = [];
-      front = sym (append-nil order);
+      prefix = sym (append-nil order);
     })
 
     placed_new : (marks' : List Bool) (order' : List ℕ) → is_marked marks r ≡ false → marks' ≡ set marks r true → order' ≡ order ++ r ∷ [] → IsPlaced t r k done marks order marks' order'
@@ -50,14 +50,14 @@ module _ (t : Tree) where
                 ))
                 (cases_eq q r);
             numbers = λ q h. ⊎_elim (λ l. o.numbers q l) (⊎_elim (λ (same : r ≡ q). subst (λ n. IsNumber t n) same number) (λ none. absurd none)) (Holds-append order (r ∷ []) q h);
-            behind = λ i q less other same. ⊎_elim
+            after = λ i q less other same. ⊎_elim
                 (λ (old : i < length order).
                 let is : get_or (order ++ r ∷ []) i 0 ≡ get_or order i 0 = get_or_append_left order (r ∷ []) 0 i old in
-                subst (λ xs. Holds xs q) (sym (take-append-le i order (r ∷ []) (omega (arith, old)))) (o.behind i q old other (subst (λ x. entry_of t q ≡ exit_of t x) is same)))
+                subst (λ xs. Holds xs q) (sym (take-append-le i order (r ∷ []) (omega (arith, old)))) (o.after i q old other (subst (λ x. entry_of t q ≡ exit_of t x) is same)))
                 (λ (new : length order ≤ i).
                 let last : i ≡ length order = omega (arith, less, new, longer) in
                 let is : get_or (order ++ r ∷ []) i 0 ≡ r = get_or_push order r 0 i (sym last) in
-                subst (λ xs. Holds xs q) (sym (take-append-le i order (r ∷ []) (omega (arith, last)) ∙ take_all i order new)) (behind q other (subst (λ x. entry_of t q ≡ exit_of t x) is same)))
+                subst (λ xs. Holds xs q) (sym (take-append-le i order (r ∷ []) (omega (arith, last)) ∙ take_all i order new)) (after q other (subst (λ x. entry_of t q ≡ exit_of t x) is same)))
                 (cases_lt i (length order));
             within = let old = o.within in omega (arith, old, longer);
             lasts = λ q other less none. Holds-left order (r ∷ []) q (o.lasts q other less none);
@@ -67,10 +67,10 @@ module _ (t : Tree) where
           there = Holds-right order (r ∷ []) r (inl refl);
           work = omega (arith, unmarked-set marks r inside blank, longer);
           more = r ∷ [];
-          front = refl;
+          prefix = refl;
         })
 
-    pub placed : (marks' : List Bool) (order' : List ℕ) → IsPutBehind r marks order marks' order' → IsPlaced t r k done marks order marks' order'
+    pub placed : (marks' : List Bool) (order' : List ℕ) → IsPutAfter r marks order marks' order' → IsPlaced t r k done marks order marks' order'
     placed marks' order' p = ⊎_elim (λ old. placed_old marks' order' old.0 old.1 old.2) (λ new. placed_new marks' order' new.0 new.1 new.2) p
 
   -- ---- the regions whose exits enter none
@@ -81,7 +81,7 @@ module _ (t : Tree) where
       size = o.size;
       marked = o.marked;
       numbers = o.numbers;
-      behind = o.behind;
+      after = o.after;
       within = o.within;
       lasts = λ r other less none. ⊎_elim
           (λ (is : r ≡ k). absurd (none q number (subst (λ n. entry_of t q ≡ exit_of t n) (sym is) same)))
@@ -90,7 +90,7 @@ module _ (t : Tree) where
       steps = o.steps;
     }
 
-    pub IsOrdering-last : (marks' : List Bool) (order' : List ℕ) → IsNumber t k → ((q : ℕ) → IsNumber t q → entry_of t q ≡ exit_of t k → ⊥) → IsPutBehind k marks order marks' order' → IsOrdering t (k + 1) 0 marks' order'
+    pub IsOrdering-last : (marks' : List Bool) (order' : List ℕ) → IsNumber t k → ((q : ℕ) → IsNumber t q → entry_of t q ≡ exit_of t k → ⊥) → IsPutAfter k marks order marks' order' → IsOrdering t (k + 1) 0 marks' order'
     IsOrdering-last marks' order' number none p =
         let d : IsPlaced t k k 0 marks order marks' order' = placed k k 0 marks order o number (λ q other same. absurd (none q other same)) marks' order' p in
         let n : IsOrdering t k 0 marks' order' = d.ordering in
@@ -98,7 +98,7 @@ module _ (t : Tree) where
           size = n.size;
           marked = n.marked;
           numbers = n.numbers;
-          behind = n.behind;
+          after = n.after;
           within = n.within;
           lasts = λ r other less no_q. ⊎_elim
               (λ (is : r ≡ k). subst (λ x. Holds order' x) (sym is) d.there)
@@ -118,7 +118,7 @@ module _ (t : Tree) where
       size = o.size;
       marked = o.marked;
       numbers = o.numbers;
-      behind = o.behind;
+      after = o.after;
       within = omega (arith, more);
       lasts = o.lasts;
       steps = λ i q less number same. ⊎_elim
@@ -128,24 +128,24 @@ module _ (t : Tree) where
     }
 
     pub IsOrdering-before : (before : ℕ) (marks' : List Bool) (order' : List ℕ) → IsNumber t before → exit_of t before ≡ entry_of t (get_or order done 0) → ((q : ℕ) → IsNumber t q → exit_of t q ≡ exit_of t before → q ≡ before)
-        → ((q : ℕ) → IsNumber t q → entry_of t q ≡ entry_of t (get_or order done 0) → q ≡ get_or order done 0) → IsPutBehind before marks order marks' order'
+        → ((q : ℕ) → IsNumber t q → entry_of t q ≡ entry_of t (get_or order done 0) → q ≡ get_or order done 0) → IsPutAfter before marks order marks' order'
         → IsOrdering t k (done + 1) marks' order' × (unmarked marks' + length order' ≡ unmarked marks + length order)
     IsOrdering-before before marks' order' number is_exit one_exit one_entry p =
         let d : IsPlaced t before k done marks order marks' order' = placed before k done marks order o number
         (λ q other same. subst (λ x. Holds order x) (sym (one_entry q other (same ∙ is_exit))) (Holds-at order done more)) marks' order' p in
         let n : IsOrdering t k done marks' order' = d.ordering in
         let longer = length-append order d.more in
-        let size = ap length d.front in (
+        let size = ap length d.prefix in (
           record {
             size = n.size;
             marked = n.marked;
             numbers = n.numbers;
-            behind = n.behind;
+            after = n.after;
             within = omega (arith, more, longer, size);
             lasts = n.lasts;
             steps = λ i q less other same. ⊎_elim
                 (λ (is : i ≡ done).
-                let stays : get_or order' done 0 ≡ get_or order done 0 = subst (λ xs. get_or xs done 0 ≡ get_or order done 0) (sym d.front) (get_or_append_left order d.more 0 done more) in
+                let stays : get_or order' done 0 ≡ get_or order done 0 = subst (λ xs. get_or xs done 0 ≡ get_or order done 0) (sym d.prefix) (get_or_append_left order d.more 0 done more) in
                 let at : exit_of t q ≡ entry_of t (get_or order done 0) = subst (λ x. exit_of t q ≡ entry_of t x) stays (subst (λ x. exit_of t q ≡ entry_of t (get_or order' x 0)) is same) in
                 subst (λ x. Holds order' x) (sym (one_exit q other (at ∙ sym is_exit))) d.there)
                 (λ (apart : i ≢ done). n.steps i q (at_done i less apart) other same)
@@ -174,7 +174,7 @@ module _ (t : Tree) where
     IsOrder-end = record {
       all = λ r number. reached ranks.bound r (omega arith) number;
       numbers = o.numbers;
-      behind = o.behind;
+      after = o.after;
     }
 
 -- ---- what stands at the edges

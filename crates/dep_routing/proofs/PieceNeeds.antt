@@ -19,8 +19,8 @@ or_of_true true b is = refl
 or_of_true false b is = is
 
 module _ {X : Type 0} (P : X → Type 0) where
-  any-front : (xs : List X) (y : X) → Any P xs → Any P (xs ++ y ∷ [])
-  any-front xs y some = (some.0, some.1, (let lt = some.2 in omega (arith, lt, length-append xs (y ∷ []))), get_or_append_left xs (y ∷ []) some.1 some.0 some.2 ∙ some.3, some.4)
+  any-prefix : (xs : List X) (y : X) → Any P xs → Any P (xs ++ y ∷ [])
+  any-prefix xs y some = (some.0, some.1, (let lt = some.2 in omega (arith, lt, length-append xs (y ∷ []))), get_or_append_left xs (y ∷ []) some.1 some.0 some.2 ∙ some.3, some.4)
 
   any-last : (xs : List X) (y : X) → P y → Any P (xs ++ y ∷ [])
   any-last xs y p = (length xs, y, omega (arith, length-append xs (y ∷ [])), get_or_push xs y y (length xs) refl, p)
@@ -42,16 +42,16 @@ NeedsSoFar needs xs i set = (n : ℕ) → (holds set n ≡ true) ↔ Any (λ x. 
 pub needs-next : {W : ℕ} {X : Type 0} (needs : X → ℕ → Type 0) (xs : List X) (i : ℕ) (x : X) (set more new : ClassSet W) → i < length xs → x ≡ get_or xs i x → NeedsSoFar needs xs i set → ((n : ℕ) → (holds more n ≡ true) ↔ needs x n) → ((n : ℕ) → holds new n ≡ (holds set n || holds more n)) → NeedsSoFar needs xs (i + 1) new
 needs-next {W} {X} needs xs i x set more new lt at so_far one united n =
     let P = λ (y : X). needs y n in
-    let front : take (i + 1) xs ≡ take i xs ++ x ∷ [] = take_more xs i x lt ∙ ap (λ (y : X). take i xs ++ y ∷ []) (sym at) in (
-      λ is. subst (λ (ys : List X). Any P ys) (sym front)
+    let prefix : take (i + 1) xs ≡ take i xs ++ x ∷ [] = take_more xs i x lt ∙ ap (λ (y : X). take i xs ++ y ∷ []) (sym at) in (
+      λ is. subst (λ (ys : List X). Any P ys) (sym prefix)
           (⊎_elim
-          (λ here. any-front P (take i xs) x ((so_far n).0 here))
+          (λ here. any-prefix P (take i xs) x ((so_far n).0 here))
           (λ here. any-last P (take i xs) x ((one n).0 here))
           (or_true (holds set n) (holds more n) (sym (united n) ∙ is))),
       λ some. united n ∙ ⊎_elim
           (λ here. true_or (holds set n) (holds more n) ((so_far n).1 here))
           (λ here. or_of_true (holds set n) (holds more n) ((one n).1 here))
-          (any-split P (take i xs) x (subst (λ (ys : List X). Any P ys) front some)),
+          (any-split P (take i xs) x (subst (λ (ys : List X). Any P ys) prefix some)),
     )
 
 -- all items

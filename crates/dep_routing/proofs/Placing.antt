@@ -5,16 +5,16 @@ use Rattle.region_tree.specs.Tree.{Tree, entry_of, exit_of, IsIn, IsPart}
 use Rattle.dep_routing.specs.Facts.{TreeFacts}
 use Rattle.dep_routing.specs.Quiet.{IsInQuiet, IsFree, IsWire, IsLargest}
 use Rattle.dep_routing.specs.Next.{IsLast, Next}
-use Rattle.dep_routing.specs.Place.{IsBehind, Place}
-use Rattle.dep_routing.proofs.Quietness.{edges, not_behind, at_entry, comes_in, goes_on, free_or_largest, largest_one}
+use Rattle.dep_routing.specs.Place.{IsAfter, Place}
+use Rattle.dep_routing.proofs.Quietness.{edges, not_after, at_entry, comes_in, goes_on, free_or_largest, largest_one}
 use Rattle.dep_routing.proofs.Hopping.{next_of, next_one, next_edge, next_wire, Next-hop, Next-last, loose_free, loose_exit}
 
 module _ (g : Graph) (t : Tree) (f : TreeFacts g t) (touches : ℕ → ℕ → Bool) (l : ℕ) where
   largest_in : (node q : ℕ) → IsLargest g t touches l node q → IsInQuiet g t touches l node
   largest_in node q largest = record { region = q; quiet = largest.quiet; holds = largest.holds }
 
-  pub behind_next : (node q x : ℕ) → IsLargest g t touches l node q → IsBehind g t touches l node x → Next g t touches l (exit_of t q) x
-  behind_next node q x largest b = subst (λ n. Next g t touches l (exit_of t n) x) (largest_one g t f touches l node b.region q b.largest largest) b.next
+  pub after_next : (node q x : ℕ) → IsLargest g t touches l node q → IsAfter g t touches l node x → Next g t touches l (exit_of t q) x
+  after_next node q x largest b = subst (λ n. Next g t touches l (exit_of t n) x) (largest_one g t f touches l node b.region q b.largest largest) b.next
 
   pub free_next : (e x : ℕ) → IsFree g t touches l (from g e) → Place g t touches l e x → Next g t touches l e x
   free_next e x free (inl p) = p.1
@@ -23,7 +23,7 @@ module _ (g : Graph) (t : Tree) (f : TreeFacts g t) (touches : ℕ → ℕ → B
   pub place_one : (e x y : ℕ) → Place g t touches l e x → Place g t touches l e y → x ≡ y
   place_one e x y (inl a) b = next_one g t f touches l e x y a.1 (free_next e y a.0 b)
   place_one e x y (inr a) (inl b) = absurd (b.0 (largest_in (from g e) a.region a.largest))
-  place_one e x y (inr a) (inr b) = next_one g t f touches l (exit_of t a.region) x y a.next (behind_next (from g e) a.region y a.largest b)
+  place_one e x y (inr a) (inr b) = next_one g t f touches l (exit_of t a.region) x y a.next (after_next (from g e) a.region y a.largest b)
 
   pub place_of : (e : ℕ) → e < edge_count g → (x : ℕ) × Place g t touches l e x
   place_of e edge = ⊎_elim
@@ -55,7 +55,7 @@ module _ (g : Graph) (t : Tree) (f : TreeFacts g t) (touches : ℕ → ℕ → B
       last : IsLast g t touches l e
       last x hop = free (record { region = hop.region; quiet = hop.quiet; holds = subst (λ d. IsIn g t hop.region (to g d)) hop.entry (at_entry g t f hop.region hop.quiet.number) })
 
-  -- where a quiet region holds the end of an edge, the place is behind the largest one
+  -- where a quiet region holds the end of an edge, the place is after the largest one
   pub place_quiet : (e q x : ℕ) → e < edge_count g → IsLargest g t touches l (to g e) q → Next g t touches l (exit_of t q) x → Place g t touches l e x
   place_quiet e q x edge largest n = ⊎_elim
       (λ (begins : IsFree g t touches l (from g e)). inl (
@@ -71,7 +71,7 @@ module _ (g : Graph) (t : Tree) (f : TreeFacts g t) (touches : ℕ → ℕ → B
         next = ⊎_elim
             (λ (is_exit : exit_of t some.0 ≡ e). subst (λ d. Next g t touches l d x) (sym is_exit) (⊎_elim
             (λ (is_entry : entry_of t q ≡ e). over is_entry)
-            (λ (inside : IsIn g t q (from g e)). absurd (not_behind g t f some.0 some.1.quiet.number
+            (λ (inside : IsIn g t q (from g e)). absurd (not_after g t f some.0 some.1.quiet.number
             (subst (λ d. IsIn g t some.0 (to g d)) (sym is_exit) (some.1.largest q largest.quiet inside (to g e) largest.holds))))
             (comes_in g t f q e largest.quiet.number edge largest.holds)))
             (λ (inside : IsIn g t some.0 (to g e)).

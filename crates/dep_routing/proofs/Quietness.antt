@@ -22,8 +22,8 @@ module _ (g : Graph) (t : Tree) (f : TreeFacts g t) where
 
   -- ---- one edge and one region
 
-  pub not_behind : (r : ℕ) → IsNumber t r → IsIn g t r (to g (exit_of t r)) → ⊥
-  not_behind r number inside = let b = f.borders r number in false≢true (sym b.2.exit_head ∙ (b.1 (to g (exit_of t r))).1 inside)
+  pub not_after : (r : ℕ) → IsNumber t r → IsIn g t r (to g (exit_of t r)) → ⊥
+  not_after r number inside = let b = f.borders r number in false≢true (sym b.2.exit_head ∙ (b.1 (to g (exit_of t r))).1 inside)
 
   pub at_exit : (r : ℕ) → IsNumber t r → IsIn g t r (from g (exit_of t r))
   at_exit r number = let b = f.borders r number in (b.1 (from g (exit_of t r))).0 b.2.exit_tail
@@ -39,7 +39,7 @@ module _ (g : Graph) (t : Tree) (f : TreeFacts g t) where
   comes_in r e number edge inside = let b = f.borders r number in ⊎_elim
       (λ (is_entry : e ≡ entry_of t r). inl (sym is_entry))
       (λ (not_entry : e ≢ entry_of t r). ⊎_elim
-      (λ (is_exit : e ≡ exit_of t r). absurd (not_behind r number (subst (λ x. IsIn g t r (to g x)) is_exit inside)))
+      (λ (is_exit : e ≡ exit_of t r). absurd (not_after r number (subst (λ x. IsIn g t r (to g x)) is_exit inside)))
       (λ (not_exit : e ≢ exit_of t r). inr ((b.1 (from g e)).0 (b.2.others e edge not_entry not_exit ∙ (b.1 (to g e)).1 inside)))
       (cases_eq e (exit_of t r)))
       (cases_eq e (entry_of t r))

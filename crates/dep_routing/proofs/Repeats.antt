@@ -67,7 +67,7 @@ same_before n f i j same apart_i apart_j = ⊎_elim
     (cases_Bool (f j == n)))
     (cases_Bool (f i == n))
 
--- there are as many places as times behind the first
+-- there are as many places as times after the first
 pub repeats : (places : ℕ) (f : ℕ → ℕ) → ((i : ℕ) → i ≤ places → f i < places) → Repeats f places
 repeats zero f below = absurd (omega (arith, below 0 (omega arith)))
 repeats (suc n) f below = ⊎_elim

@@ -74,8 +74,8 @@ module _ (g : Graph) (t : Tree) (f : TreeFacts g t) (touches : ℕ → ℕ → B
           (λ (blank : is_marked marks region ≡ false).
           let is : next' entry ≡ next (exit_of t region) = here ∙ rw blank refl in
           let hop : IsHop g t touches line entry (exit_of t region) = record { region = region; quiet = n.quiet region number blank; entry = refl; exit = refl } in
-          let behind : Next g t touches line (exit_of t region) (next (exit_of t region)) = answered k next l (exit_of t region) (λ q other same. o.behind k q within other same) in
-          subst (λ y. Next g t touches line entry y) (sym is) (Next-hop g t f touches line entry (exit_of t region) (next (exit_of t region)) hop behind))
+          let after : Next g t touches line (exit_of t region) (next (exit_of t region)) = answered k next l (exit_of t region) (λ q other same. o.after k q within other same) in
+          subst (λ y. Next g t touches line entry y) (sym is) (Next-hop g t f touches line entry (exit_of t region) (next (exit_of t region)) hop after))
           (cases_Bool (is_marked marks region))
 
       pub IsLed-more : next' entry ≡ (if is_marked marks region then entry else next (exit_of t region)) → ((e : ℕ) → e ≢ entry → next' e ≡ next e) → IsLed g t touches line order (k + 1) next'

@@ -176,7 +176,7 @@ module _ (p : Program) (input : List ℤ) (inside : ℕ → Bool) (place : IsPla
     not_last : (kind : PieceKind) (i : ℕ) → piece_kind p (x i) ≡ kind → (piece.Act ≡ kind → ⊥) → i ≡ m → ⊥
     not_last kind i is other same = other (sym last_is.kind ∙ ap (λ j. piece_kind p (x j)) (sym same) ∙ is)
 
-    -- ---- the test behind the first increment
+    -- ---- the test after the first increment
 
     record IsTested : Type 0 where
       at : ℕ
@@ -287,8 +287,8 @@ module _ (p : Program) (input : List ℤ) (inside : ℕ → Bool) (place : IsPla
             let later : suc s ≤ e.at = next_up e.low apart in
             ⊎_elim
             (λ (before : s < t.at). act_is_no_join (sym parts.0 ∙ t.joins s low before))
-            (λ (behind : t.at ≤ s).
-            one_test t.at e.at t.after (omega (arith, behind, later)) e.high t.test e.test)
+            (λ (after : t.at ≤ s).
+            one_test t.at e.at t.after (omega (arith, after, later)) e.high t.test e.test)
             (cases_lt s t.at)
 
     constant : (d i : ℕ) → n < i → i + d ≤ m → count k (i + d) ≡ count k i

@@ -7,11 +7,11 @@ use Rattle.dep_routing.specs.Next.{Next}
 
 module _ (g : Graph) (t : Tree) (touches : ℕ → ℕ → Bool) (line : ℕ) where
   -- the next edge from the exit of the largest quiet region that holds the node
-  pub record IsBehind (node f : ℕ) : Type 0 where
+  pub record IsAfter (node f : ℕ) : Type 0 where
     pub region : ℕ
     pub largest : IsLargest g t touches line node region
     pub next : Next g t touches line (exit_of t region) f
 
-  -- The next edge from e, where e begins at a free node; else the one behind the largest quiet region that holds this node.
+  -- The next edge from e, where e begins at a free node; else the one after the largest quiet region that holds this node.
   abbrev pub Place : (e f : ℕ) → Type 0
-  Place e f = (IsFree g t touches line (from g e) × Next g t touches line e f) ⊎ IsBehind (from g e) f
+  Place e f = (IsFree g t touches line (from g e) × Next g t touches line e f) ⊎ IsAfter (from g e) f

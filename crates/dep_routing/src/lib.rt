@@ -1,7 +1,7 @@
 //! Which lines of tokens the pieces of a flow graph touch, and past which regions the tokens of a line are led.
 //!
 //! A line is a number from 0. Line 0 of a program is that of output, and the others are its alias classes. A region of which no
-//! node touches a line is quiet for it, and the line is led past it, from its entry to its exit.
+//! node touches a line is quiet for it, and the line bypasses it, from its entry to its exit.
 //!
 //! Source: Johnson and Pingali, "Dependence-based program analysis", PLDI 1993.
 #![tactic(auto)]

@@ -1,9 +1,9 @@
-//! An order of regions in which each stands behind the one that its exit enters.
+//! An order of regions in which each stands after the one that its exit enters.
 
 ghost use Rattle.std.specs.Prelude.{◌<◌, ℕ, length, IfOk, OnOk};
 ghost use Rattle.region_tree.specs.Tree.{IsNumber, entry_of, exit_of};
 ghost use Rattle.dep_routing.specs.Numbers.{AreNumbersBelow};
-ghost use Rattle.dep_routing.specs.Order.{Ranks, IsOrder, IsOrdering, IsPutBehind};
+ghost use Rattle.dep_routing.specs.Order.{Ranks, IsOrder, IsOrdering, IsPutAfter};
 
 use crate::borders::Borders;
 use df_sequence::NoMemory;
@@ -17,7 +17,7 @@ struct Ordering {
     regions: Vec<u32>,
 }
 
-/// All regions, each behind the one that its exit enters. From those whose exit enters none it goes back, region by region, to
+/// All regions, each after the one that its exit enters. From those whose exit enters none it goes back, region by region, to
 /// those whose exit enters them.
 pub(crate) fn regions_in_order(
     alloc: Global,
@@ -63,10 +63,10 @@ fn last_regions(alloc: Global, t: &RegionTree, borders: &Borders) -> Result<Orde
     Ok(Ordering { marks, regions })
 }
 
-/// Puts the region behind the order, where it isn't in it.
+/// Puts the region after the order, where it isn't in it.
 fn place(r: u32, marks: &mut Vec<bool>, order: &mut Vec<u32>) -> Result<(), NoMemory>
     requires { r < length marks.old.items }
-    ensures { OnOk result (IsPutBehind r marks.old.items order.old.items marks.new.items order.new.items) }
+    ensures { OnOk result (IsPutAfter r marks.old.items order.old.items marks.new.items order.new.items) }
 {
     if !marks[r as usize] {
         marks[r as usize] = true;

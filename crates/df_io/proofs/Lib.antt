@@ -1,4 +1,4 @@
-pub mod Fronts
+pub mod Prefixes
 pub mod LongTexts
 mod MemLemmas
 mod Transfers

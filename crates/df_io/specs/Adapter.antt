@@ -1,4 +1,4 @@
--- What a reader or a writer of std is seen as, behind a source or a sink.
+-- What a reader or a writer of std is seen as, after a source or a sink.
 use Rattle.std.specs.Prelude.{ℕ, Result, Ok, Err}
 use Rattle.df_io.specs.declared.faults.Failed.{Failed}
 use Rattle.df_io.specs.Faults.{one_more}

@@ -6,20 +6,20 @@ use Rattle.df_io.specs.declared.read.ReadEnd.{ReadEnd}
 use Rattle.df_io.specs.declared.read.ReadEnd.TheVariants.{ReadFault, TooLong, NoMemory}
 
 -- All the bytes come to their list where there are at most `limit`, and to `TooLong` where there are more. A fault or
--- want of memory may come before either.
+-- allocation failure may come before either.
 abbrev pub ReadsAll : List ℕ → ℕ → Result (Vec ℕ Global) ReadEnd → Type 0
 ReadsAll bytes limit (Ok v) = (v.items ≡ bytes) × (length bytes ≤ limit)
 ReadsAll bytes limit (Err TooLong) = limit < length bytes
 ReadsAll bytes limit (Err ReadFault) = ⊤
 ReadsAll bytes limit (Err NoMemory) = ⊤
 
--- n bytes were taken from the front, as far as they are told
+-- n bytes were taken from the beginning, as far as they are told
 pub record Takes (old new : Option (List ℕ)) (n : ℕ) : Type 0 where
   pub bytes : List ℕ
   pub taken : Consumes old new bytes
   pub count : length bytes ≡ n
 
--- at most n bytes were taken from the front
+-- at most n bytes were taken from the beginning
 pub record TakesAtMost (old new : Option (List ℕ)) (n : ℕ) : Type 0 where
   pub bytes : List ℕ
   pub taken : Consumes old new bytes

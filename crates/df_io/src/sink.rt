@@ -12,7 +12,7 @@ pub trait Sink {
     /// How often the sink has failed. The count stands still at the last value of 64 bits.
     ghost faults: { Self → ℕ };
 
-    /// Takes some bytes from the front of `from`, at least one where there is one. A failure takes none.
+    /// Takes some bytes from the beginning of `from`, at least one where there is one. A failure takes none.
     fn write(&mut self, from: &[u8]) -> Result<usize, Failed>
         ensures bound { IfOk result (λ n. n ≤ length from.now) }
         ensures some { IfOk result (λ n. 0 < length from.now → 0 < n) }

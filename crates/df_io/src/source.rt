@@ -12,7 +12,7 @@ pub trait Source {
     /// How often the source has failed. The count stands still at the last value of 64 bits.
     ghost faults: { Self → ℕ };
 
-    /// Takes the next bytes, and puts them to the front of `into`: at most as many as it has room for. With room it
+    /// Takes the next bytes, and puts them to the beginning of `into`: at most as many as it has room for. With room it
     /// takes none only at the end. A failure takes none.
     fn read(&mut self, into: &mut [u8]) -> Result<usize, Failed>
         ensures bound { IfOk result (λ n. n ≤ length into.new) }

@@ -1,6 +1,6 @@
 ghost use Rattle.std.specs.Prelude.{◌≤◌, IfOk, OnErr, length, take};
 ghost use Rattle.std.specs.Io.KnownBytes.{Appends};
-ghost use Rattle.df_io.specs.Write.{AppendsFront};
+ghost use Rattle.df_io.specs.Write.{AppendsPrefix};
 
 use crate::{Failed, Sink};
 use std::io;
@@ -39,7 +39,7 @@ impl<W: Write> Sink for StdSink<W> {
     ghost use Rattle.std.specs.Io.KnownBytes.{Appends, WriteAppends};
     ghost use Rattle.df_io.specs.Faults.{Rose};
     ghost use Rattle.df_io.specs.Adapter.{faults_after};
-    ghost use Rattle.df_io.specs.Write.{AppendsFront};
+    ghost use Rattle.df_io.specs.Write.{AppendsPrefix};
 
     ghost got = { λ _. None };
 
@@ -48,7 +48,7 @@ impl<W: Write> Sink for StdSink<W> {
     fn write(&mut self, from: &[u8]) -> Result<usize, Failed>
         // The writer took these bytes, and after a failure some of them; each failure is counted.
         ensures inner { IfOk result (λ n. Appends (W.contents self.old.inner) (W.contents self.new.inner) (take n from.now)) }
-        ensures front { OnErr result (AppendsFront (W.contents self.old.inner) (W.contents self.new.inner) from.now) }
+        ensures prefix { OnErr result (AppendsPrefix (W.contents self.old.inner) (W.contents self.new.inner) from.now) }
         ensures count { self.new.faults ≡ faults_after self.old.faults result }
 
         // What every sink ensures.
@@ -72,7 +72,7 @@ impl<W: Write> Sink for StdSink<W> {
 fn write_through<W: Write>(writer: &mut W, from: &[u8]) -> io::Result<usize>
     ensures bound { IfOk result (λ n. n ≤ length from.now) }
     ensures written { IfOk result (λ n. Appends (W.contents writer.old) (W.contents writer.new) (take n from.now)) }
-    ensures front { OnErr result (AppendsFront (W.contents writer.old) (W.contents writer.new) from.now) }
+    ensures prefix { OnErr result (AppendsPrefix (W.contents writer.old) (W.contents writer.new) from.now) }
 {
     let n = writer.write(from)?;
     writer.flush()?;

@@ -30,7 +30,7 @@ impl TextBuffer {
     ghost use Rattle.std.specs.Prelude.{◌≡◌, ◌+◌, ◌≤◌, ◌++◌, [], length, IfOk, OnOk, OnErr};
     ghost use Rattle.df_io.specs.Faults.{Rose};
     ghost use Rattle.df_io.specs.TextBuffer.{IsWrittenBut};
-    ghost use Rattle.df_io.specs.Write.{AppendsFront};
+    ghost use Rattle.df_io.specs.Write.{AppendsPrefix};
 
     /// An empty buffer.
     pub fn new(alloc: Global) -> Result<TextBuffer, NoMemory>
@@ -41,11 +41,11 @@ impl TextBuffer {
         })
     }
 
-    /// Appends bytes to the text. What the buffer holds is written out first where they don't fit behind it. After a
-    /// fault a front of the text was written, and the buffer is empty.
+    /// Appends bytes to the text. What the buffer holds is written out first where they don't fit after it. After a
+    /// fault a prefix of the text was written, and the buffer is empty.
     pub fn append<K: Sink>(&mut self, bytes: &[u8], sink: &mut K) -> Result<(), WriteFault>
         ensures text { OnOk result (IsWrittenBut self.new (K.got sink.old) (K.got sink.new) (self.old ++ bytes.now)) }
-        ensures front { OnErr result (AppendsFront (K.got sink.old) (K.got sink.new) (self.old ++ bytes.now)) }
+        ensures prefix { OnErr result (AppendsPrefix (K.got sink.old) (K.got sink.new) (self.old ++ bytes.now)) }
         ensures empty { OnErr result (self.new ≡ []) }
         ensures later { K.faults sink.old ≤ K.faults sink.new }
         ensures fault { OnErr result (Rose (K.faults sink.old) (K.faults sink.new)) }
@@ -65,7 +65,7 @@ impl TextBuffer {
     /// Appends a number in decimal.
     pub fn append_number<K: Sink>(&mut self, n: u32, sink: &mut K) -> Result<(), WriteFault>
         ensures text { OnOk result (IsWrittenBut self.new (K.got sink.old) (K.got sink.new) (self.old ++ decimal n)) }
-        ensures front { OnErr result (AppendsFront (K.got sink.old) (K.got sink.new) (self.old ++ decimal n)) }
+        ensures prefix { OnErr result (AppendsPrefix (K.got sink.old) (K.got sink.new) (self.old ++ decimal n)) }
         ensures empty { OnErr result (self.new ≡ []) }
         ensures later { K.faults sink.old ≤ K.faults sink.new }
         ensures fault { OnErr result (Rose (K.faults sink.old) (K.faults sink.new)) }
@@ -77,7 +77,7 @@ impl TextBuffer {
     /// Appends a number with its sign, in decimal.
     pub fn append_signed<K: Sink>(&mut self, z: i32, sink: &mut K) -> Result<(), WriteFault>
         ensures text { OnOk result (IsWrittenBut self.new (K.got sink.old) (K.got sink.new) (self.old ++ signed_decimal z)) }
-        ensures front { OnErr result (AppendsFront (K.got sink.old) (K.got sink.new) (self.old ++ signed_decimal z)) }
+        ensures prefix { OnErr result (AppendsPrefix (K.got sink.old) (K.got sink.new) (self.old ++ signed_decimal z)) }
         ensures empty { OnErr result (self.new ≡ []) }
         ensures later { K.faults sink.old ≤ K.faults sink.new }
         ensures fault { OnErr result (Rose (K.faults sink.old) (K.faults sink.new)) }
@@ -89,7 +89,7 @@ impl TextBuffer {
     /// Writes out what the buffer holds, as at the end of a text. It is empty then, after a fault too.
     pub fn write_out<K: Sink>(&mut self, sink: &mut K) -> Result<(), WriteFault>
         ensures all { OnOk result (Appends (K.got sink.old) (K.got sink.new) self.old) }
-        ensures front { OnErr result (AppendsFront (K.got sink.old) (K.got sink.new) self.old) }
+        ensures prefix { OnErr result (AppendsPrefix (K.got sink.old) (K.got sink.new) self.old) }
         ensures empty { self.new ≡ [] }
         ensures later { K.faults sink.old ≤ K.faults sink.new }
         ensures fault { OnErr result (Rose (K.faults sink.old) (K.faults sink.new)) }
@@ -99,7 +99,7 @@ impl TextBuffer {
         written
     }
 
-    // Puts bytes behind what the buffer holds, where they fit.
+    // Puts bytes after what the buffer holds, where they fit.
     fn hold(&mut self, bytes: &[u8])
         requires { length self.old + length bytes.now ≤ 65536 }
         ensures { self.new ≡ self.old ++ bytes.now }

@@ -1,4 +1,4 @@
-//! The list type that all crates of the compiler share, and their error for want of memory.
+//! The list type that all crates of the compiler share, and their error for allocation failure.
 #![tactic(auto)]
 
 mod boxed;

@@ -8,7 +8,7 @@ use Rattle.fixed_form.specs.Columns.{number}
 use Rattle.f77_tree.specs.Grammar.{greatest_constant}
 use Rattle.dfc.specs.declared.words.Setting.TheVariants.{Data}
 use Rattle.dfc.specs.Meant.{MayStand}
-use Rattle.dfc.specs.Words.{is_number_to, is_word, pieces_behind, values_in, word_value}
+use Rattle.dfc.specs.Words.{is_number_to, is_word, pieces_after, values_in, word_value}
 use Rattle.dfc.proofs.Pieces.{left_of, right_of}
 
 up_to : (greatest : ℕ) (digits : List ℕ) → is_number_to greatest digits ≡ true → number digits ≤ greatest
@@ -37,4 +37,4 @@ all_words (piece ∷ pieces) is =
 
 pub data_words : (text : List ℕ) → MayStand Data text → All IsWord (values_in word_value text)
 data_words [] may = All-nil IsWord
-data_words (c ∷ text) may = all_words (pieces_behind [] (c ∷ text)) may
+data_words (c ∷ text) may = all_words (pieces_after [] (c ∷ text)) may

@@ -18,7 +18,7 @@ use Rattle.dfc.specs.Game.{opening, way_of}
 use Rattle.dfc.specs.Headline.{MeansOn, MeansPlay, line_count}
 use Rattle.dfc.specs.Words.{Asked, Play}
 use Rattle.dfc.specs.GameLaws.{GameLaws}
-use Rattle.dfc.proofs.GameMeans.{done_by, fails_by, front_of_run, rests, traps}
+use Rattle.dfc.proofs.GameMeans.{done_by, fails_by, prefix_of_run, rests, traps}
 use Rattle.dfc.proofs.OneNet.{one_net}
 
 same_due : (e f : PlayEnd) (limit : ℕ) (text : List ℕ) (a b : Due) → e ≡ f → IsDueBy e limit text a → IsDueBy f limit text b → a ≡ b
@@ -50,19 +50,19 @@ module _ (laws : GameLaws) (asked : Asked) (p : Program) (strong : IsFlowGraph (
       let run = is.played.played.run in
       let end = is.played.played.end in
       let told = is.played.played.is in
-      let pace = laws.pace net p asked.input own in
+      let lockstep = laws.lockstep net p asked.input own in
       let all = laws.runs.nodes (way_of net asked.picks) (opening net) asked.limit is.firings end run in
       let lines : net.routing.lines ≡ line_count p = own.parts.own_routing.count ∙ ap suc (laws.count p own.parts.classes own.parts.own_classes) in
       let program : net.program ≡ p = ap (λ (n : NetOf). n.program) own.is in
       let input : net.input ≡ asked.input = ap (λ (n : NetOf). n.input) own.is in
       let due_runs : (steps : ℕ) (e : PlayEnd) → asked.picks ≡ [] → IsRun (way_of net asked.picks) (opening net) asked.limit is.firings e → IsOver (net_moves net) (after (net_moves net) (first_tokens net) (own_order net steps)) → length (own_order net steps) ≤ asked.limit → e ≢ Limit =
-      λ steps e none made over few. laws.runs.due net (first_tokens net) (first_control net) (own_order net steps) asked.limit is.firings e (pace.due steps) over few (subst (λ picks. IsRun (way_of net picks) (opening net) asked.limit is.firings e) none made) in
+      λ steps e none made over few. laws.runs.due net (first_tokens net) (first_control net) (own_order net steps) asked.limit is.firings e (lockstep.due steps) over few (subst (λ picks. IsRun (way_of net picks) (opening net) asked.limit is.firings e) none made) in
       record {
-        front = front_of_run laws.stop_first asked p due net program input lines pace is.firings is.played all end told;
-        rests = rests laws.stop_first asked p due net program input lines pace is.firings is.played all end run told;
-        traps = traps laws.stop_first asked p due net program input lines pace is.firings is.played all end run told;
-        ends = λ steps ends enough. done_by laws.stop_first asked p due net program input lines pace is.firings is.played all steps ends enough end run told;
-        fails = λ steps trap line fails none enough. fails_by laws.stop_first asked p due net program input lines pace is.firings is.played all due_runs steps trap line fails none enough end run told;
+        prefix = prefix_of_run laws.stop_first asked p due net program input lines lockstep is.firings is.played all end told;
+        rests = rests laws.stop_first asked p due net program input lines lockstep is.firings is.played all end run told;
+        traps = traps laws.stop_first asked p due net program input lines lockstep is.firings is.played all end run told;
+        ends = λ steps ends enough. done_by laws.stop_first asked p due net program input lines lockstep is.firings is.played all steps ends enough end run told;
+        fails = λ steps trap line fails none enough. fails_by laws.stop_first asked p due net program input lines lockstep is.firings is.played all due_runs steps trap line fails none enough end run told;
       }
 
   pub game_means : MeansOn (Play asked) p

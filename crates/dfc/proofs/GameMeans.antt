@@ -12,21 +12,21 @@ use Rattle.firing.specs.declared.playing.PlayEnd.TheVariants.{Rest, Trapped, Lim
 use Rattle.firing.specs.declared.playing.Show.TheVariants.{Output}
 use Rattle.firing.specs.Moves.{CanFire}
 use Rattle.firing.specs.Orders.{IsOver, IsPrefix, after, written}
-use Rattle.firing.specs.Pacing.{EndsWith, Going, Done, Failed, Stage, StandsAt, TrapsWith, WritesFront}
+use Rattle.firing.specs.Pacing.{EndsWith, Going, Done, Failed, Stage, StandsAt, TrapsWith, WritesPrefix}
 use Rattle.firing.specs.Play.{Way, node_at, played, shown}
 use Rattle.firing.specs.Runs.{HasOrder, IsRun}
 use Rattle.token_net.specs.declared.control.Control.{Control}
 use Rattle.token_net.specs.Nodes.{NetOf}
 use Rattle.token_net.specs.OwnOrder.{own_order}
-use Rattle.token_net.specs.StepPace.{program_stage, program_text, stage_of}
+use Rattle.token_net.specs.StepLockstep.{program_stage, program_text, stage_of}
 use Rattle.token_net.specs.Tokens.{Tokens, first_tokens, net_moves}
 use Rattle.dfc.specs.declared.status.Status.{Status}
 use Rattle.dfc.specs.declared.status.Status.TheVariants as status
 use Rattle.dfc.specs.Due.{Due, IsDueBy, IsPlayed, trapped}
 use Rattle.dfc.specs.Game.{opening, way_of}
 use Rattle.dfc.specs.GameLaws.{StopFirst}
-use Rattle.dfc.specs.Headline.{IsFrontOfRun, MeansRest, MeansTrap, bound_of, line_count}
-use Rattle.dfc.specs.Pace.{KeepsPace}
+use Rattle.dfc.specs.Headline.{IsPrefixOfRun, MeansRest, MeansTrap, bound_of, line_count}
+use Rattle.dfc.specs.Lockstep.{StaysInLockstep}
 use Rattle.dfc.specs.Words.{Asked}
 
 -- ---- where the program is
@@ -81,7 +81,7 @@ enough l m n =
     let second : (5 * (l + 1) + m) * n ≤ (5 * (l + 1) + m) * (n + 1) = mul-le-mul_left (5 * (l + 1) + m) (omega arith) in
     omega (arith, first, second)
 
-module _ (stop_first : StopFirst) (asked : Asked) (p : Program) (due : Due) (net : NetOf) (program : net.program ≡ p) (input : net.input ≡ asked.input) (lines : net.routing.lines ≡ line_count p) (pace : KeepsPace net) where
+module _ (stop_first : StopFirst) (asked : Asked) (p : Program) (due : Due) (net : NetOf) (program : net.program ≡ p) (input : net.input ≡ asked.input) (lines : net.routing.lines ≡ line_count p) (lockstep : StaysInLockstep net) where
   abbrev w : Way Tokens Control
   w = way_of net asked.picks
 
@@ -100,7 +100,7 @@ module _ (stop_first : StopFirst) (asked : Asked) (p : Program) (due : Due) (net
   -- few firings are enough
   within : (n : ℕ) → length (own_order net n) ≤ bound_of p n
   within n =
-      let few = pace.few n in
+      let few = lockstep.few n in
       let same : 5 * net.routing.lines * n ≡ 5 * line_count p * n = ap (λ l. 5 * l * n) lines in
       let all = enough (line_count p) (most_operations p) n in
       omega (arith, few, same, all)
@@ -126,10 +126,10 @@ module _ (stop_first : StopFirst) (asked : Asked) (p : Program) (due : Due) (net
     other_status : (a b : Status) (text : Due) → (a ≡ b → ⊥) → due ≡ text → text.status ≡ a → due.status ≡ b → ⊥
     other_status a b text differ is has told = differ (sym has ∙ ap (λ (d : Due). d.status) (sym is) ∙ told)
 
-    pub front_of_run : (end : PlayEnd) → IsDueBy end asked.limit (shown w Output (opening net) firings) due → IsFrontOfRun asked p due
-    front_of_run end is =
-        let f : WritesFront (program_text net) (written (net_moves net) (first_tokens net) ks) = pace.follows.front ks all.are.order in
-        record { steps = f.steps; front = subst (IsPrefix due.text) (same_text f.steps) (subst (λ bytes. IsPrefix bytes (program_text net f.steps)) (sym (text_is end is)) f.prefix) }
+    pub prefix_of_run : (end : PlayEnd) → IsDueBy end asked.limit (shown w Output (opening net) firings) due → IsPrefixOfRun asked p due
+    prefix_of_run end is =
+        let f : WritesPrefix (program_text net) (written (net_moves net) (first_tokens net) ks) = lockstep.follows.prefix ks all.are.order in
+        record { steps = f.steps; prefix = subst (IsPrefix due.text) (same_text f.steps) (subst (λ bytes. IsPrefix bytes (program_text net f.steps)) (sym (text_is end is)) f.prefix) }
 
     -- the marking that the firings lead to
     abbrev there : Tokens
@@ -146,9 +146,9 @@ module _ (stop_first : StopFirst) (asked : Asked) (p : Program) (due : Due) (net
         let s = net_moves net in
         let over : IsOver s there = over_there run.ends.2 in
         let none : s.trap there ≡ None = ap s.trap all.are.leads ∙ run.ends.1 in
-        let e : EndsWith s (first_tokens net) (program_text net) (program_stage net) (own_order net) ks = pace.follows.rests ks all.are.order over none in
+        let e : EndsWith s (first_tokens net) (program_text net) (program_stage net) (own_order net) ks = lockstep.follows.rests ks all.are.order over none in
         let first = stop_first net.program net.input e.steps Ended (λ c. cc) (ended_at (source net.program net.input e.steps).mark e.done) in
-        let settles = pace.follows.ends first.count (ap stage_of first.stops.reached) in
+        let settles = lockstep.follows.ends first.count (ap stage_of first.stops.reached) in
         let count : length ks ≡ length (own_order net first.count) = settles.whole ks (record { order = all.are.order; over = over }) in
         let made = all.are.count in
         let few = within first.count in
@@ -168,7 +168,7 @@ module _ (stop_first : StopFirst) (asked : Asked) (p : Program) (due : Due) (net
     traps (Trapped trap line) run is told =
         let s = net_moves net in
         let trapped_there : s.trap there ≡ Some (trap, line) = ap s.trap all.are.leads ∙ run.ends in
-        let e : TrapsWith (program_text net) (program_stage net) (trap, line) (written s (first_tokens net) ks) = pace.follows.traps ks (trap, line) all.are.order trapped_there in
+        let e : TrapsWith (program_text net) (program_stage net) (trap, line) (written s (first_tokens net) ks) = lockstep.follows.traps ks (trap, line) all.are.order trapped_there in
         let first = stop_first net.program net.input e.steps (runs.Trapped trap line) (λ c. cc) (trapped_at (source net.program net.input e.steps).mark trap line e.failed) in
         record {
           steps = first.count;
@@ -184,7 +184,7 @@ module _ (stop_first : StopFirst) (asked : Asked) (p : Program) (due : Due) (net
     done_by steps ends enough (WriteFault n) run is = absurd is
     done_by steps ends enough (Trapped trap line) run is =
         let s = net_moves net in
-        let settles = pace.follows.ends steps (ap stage_of (stops_there steps Ended ends)) in
+        let settles = lockstep.follows.ends steps (ap stage_of (stops_there steps Ended ends)) in
         let clash : s.trap there ≡ None = settles.no_trap ks all.are.order in
         let trapped_there : s.trap there ≡ Some (trap, line) = ap s.trap all.are.leads ∙ run.ends in
         absurd (no_trap (s.trap there) (trap, line) clash trapped_there)
@@ -195,14 +195,14 @@ module _ (stop_first : StopFirst) (asked : Asked) (p : Program) (due : Due) (net
         let s = net_moves net in
         let m = first_tokens net in
         let stage : program_stage net steps ≡ Done = ap stage_of (stops_there steps Ended ends) in
-        let settles = pace.follows.ends steps stage in
+        let settles = lockstep.follows.ends steps stage in
         let most = settles.at_most ks all.are.order in
         let made = all.are.count in
         let few = within steps in
         let limit : firings ≡ asked.limit = run.ends.0 in
         let count : length ks ≡ length (own_order net steps) = omega (arith, most, made, few, limit, enough) in
-        let end_is : there ≡ after s m (own_order net steps) = settles.same_end ks all.are.order count ∙ sym (settles.same_end (own_order net steps) (pace.paced.order steps) refl) in
-        let over : IsOver s (after s m (own_order net steps)) = (subst (StandsAt s (after s m (own_order net steps))) stage (pace.paced.stands steps)).1 in
+        let end_is : there ≡ after s m (own_order net steps) = settles.same_end ks all.are.order count ∙ sym (settles.same_end (own_order net steps) (lockstep.simulated.order steps) refl) in
+        let over : IsOver s (after s m (own_order net steps)) = (subst (StandsAt s (after s m (own_order net steps))) stage (lockstep.simulated.stands steps)).1 in
         let can : CanFire s there (node_at w (opening net) firings) = subst (λ (x : Tokens). CanFire s x (node_at w (opening net) firings)) (sym all.are.leads) run.ends.1 in
         absurd (subst (IsOver s) (sym end_is) over (node_at w (opening net) firings) can)
 
@@ -213,7 +213,7 @@ module _ (stop_first : StopFirst) (asked : Asked) (p : Program) (due : Due) (net
     fails_by no_limit steps trap line fails none enough (Rest n) run is =
         let s = net_moves net in
         let stage : program_stage net steps ≡ Failed (trap, line) = ap stage_of (stops_there steps (runs.Trapped trap line) fails) in
-        let told = pace.follows.fails steps (trap, line) stage in
+        let told = lockstep.follows.fails steps (trap, line) stage in
         let same : s.trap there ≡ Some (trap, line) = told.same_trap ks (record { order = all.are.order; over = over_there run.ends.2 }) in
         absurd (no_trap (s.trap there) (trap, line) (ap s.trap all.are.leads ∙ run.ends.1) same)
       where
@@ -223,7 +223,7 @@ module _ (stop_first : StopFirst) (asked : Asked) (p : Program) (due : Due) (net
         let s = net_moves net in
         let m = first_tokens net in
         let stage : program_stage net steps ≡ Failed (trap, line) = ap stage_of (stops_there steps (runs.Trapped trap line) fails) in
-        let there : s.trap (after s m (own_order net steps)) ≡ Some (trap, line) = subst (StandsAt s (after s m (own_order net steps))) stage (pace.paced.stands steps) in
+        let there : s.trap (after s m (own_order net steps)) ≡ Some (trap, line) = subst (StandsAt s (after s m (own_order net steps))) stage (lockstep.simulated.stands steps) in
         let few = within steps in
         absurd (no_limit steps Limit none run (λ k can. no_trap (s.trap (after s m (own_order net steps))) (trap, line) can.going there) (omega (arith, few, enough)) refl)
       where

@@ -5,8 +5,8 @@ use Rattle.std.proofs.Math.Seq.{take-append-add}
 use Rattle.std.specs.Io.KnownBytes.{Appends}
 use Rattle.op_table.specs.declared.Trap.{Trap}
 use Rattle.f77_tree.specs.declared.programs.Program.{Program}
-use Rattle.df_io.specs.Write.{AppendsFront}
-use Rattle.df_io.proofs.Fronts.{AppendsFront-longer}
+use Rattle.df_io.specs.Write.{AppendsPrefix}
+use Rattle.df_io.proofs.Prefixes.{AppendsPrefix-longer}
 use Rattle.firing.specs.declared.playing.PlayEnd.{PlayEnd}
 use Rattle.firing.specs.declared.playing.PlayEnd.TheVariants as end
 use Rattle.firing.specs.declared.playing.Show.TheVariants.{Output}
@@ -25,14 +25,14 @@ use Rattle.dfc.specs.Due.{Due, IsDueBy, IsDuePlay, IsGameOf, IsJust, all_due, do
 use Rattle.dfc.specs.Game.{IsNetOn, opening, way_by, way_of}
 use Rattle.dfc.specs.Words.{Asked}
 
--- ---- a line behind a text
+-- ---- a line after a text
 
--- some bytes behind others
-front_behind : (old mid new : Option (List ℕ)) (text last : List ℕ) → Appends old mid text → AppendsFront mid new last → AppendsFront old new (text ++ last)
-front_behind old mid new text last before front = record {
-  count = length text + front.count;
-  within = let all = length-append text last in let low = front.within in omega (arith, all, low);
-  added = subst (Appends old new) (sym (take-append-add text last front.count)) (Appends-trans old mid new text (take front.count last) before front.added);
+-- some bytes after others
+prefix_after : (old mid new : Option (List ℕ)) (text last : List ℕ) → Appends old mid text → AppendsPrefix mid new last → AppendsPrefix old new (text ++ last)
+prefix_after old mid new text last before prefix = record {
+  count = length text + prefix.count;
+  within = let all = length-append text last in let low = prefix.within in omega (arith, all, low);
+  added = subst (Appends old new) (sym (take-append-add text last prefix.count)) (Appends-trans old mid new text (take prefix.count last) before prefix.added);
 }
 
 module _ (is_due : Due → Type 0) (due line : Due) (is : is_due due) (same : all_due line ≡ due.last) (old mid new : Option (List ℕ)) (before : Appends old mid due.text) where
@@ -48,7 +48,7 @@ module _ (is_due : Due → Type 0) (due line : Due) (is : is_due due) (same : al
   begun_on begun = record {
     due = due;
     is = is;
-    front = front_behind old mid new due.text due.last before (subst (AppendsFront mid new) (ap all_due begun.is ∙ same) begun.front);
+    prefix = prefix_after old mid new due.text due.last before (subst (AppendsPrefix mid new) (ap all_due begun.is ∙ same) begun.prefix);
   }
 
 module _ {M P : Type 0} (w : Way M P) (start : Moment M P) (limit : ℕ) where
@@ -88,25 +88,25 @@ module _ {M P : Type 0} (w : Way M P) (start : Moment M P) (limit : ℕ) where
 
   -- ---- a fault of the sink
 
-  -- what fewer firings write is at the front of what more write
-  text_front : (n more : ℕ) → (rest : List ℕ) × (text (more + n) ≡ text n ++ rest)
-  text_front n zero =
+  -- what fewer firings write is at the beginning of what more write
+  text_prefix : (n more : ℕ) → (rest : List ℕ) × (text (more + n) ≡ text n ++ rest)
+  text_prefix n zero =
       let same : zero + n ≡ n = omega arith in
       ([], ap text same ∙ sym (append-nil (text n)))
-  text_front n (suc more) =
-      let before = text_front n more in
+  text_prefix n (suc more) =
+      let before = text_prefix n more in
       let next = shown_at w Output start (more + n) in
       let same : suc more + n ≡ suc (more + n) = omega arith in
       (before.0 ++ next, ap text same ∙ ap (λ (bytes : List ℕ). bytes ++ next) before.1 ∙ append_assoc (text n) before.0 next)
 
-  broken : (n : ℕ) (old mid : Option (List ℕ)) → BreaksOff w Output start n old mid → AppendsFront old mid (text n)
+  broken : (n : ℕ) (old mid : Option (List ℕ)) → BreaksOff w Output start n old mid → AppendsPrefix old mid (text n)
   broken n old mid b =
-      let front : AppendsFront old mid (text b.last ++ shown_at w Output start b.last) = record {
+      let prefix : AppendsPrefix old mid (text b.last ++ shown_at w Output start b.last) = record {
         count = length (text b.last) + b.count;
         within = let all = length-append (text b.last) (shown_at w Output start b.last) in let low = b.within in omega (arith, all, low);
         added = subst (Appends old mid) (sym (take-append-add (text b.last) (shown_at w Output start b.last) b.count)) b.written;
       } in
-      subst (λ i. AppendsFront old mid (text i)) (sym b.is) front
+      subst (λ i. AppendsPrefix old mid (text i)) (sym b.is) prefix
 
   record IsDueWith (e : PlayEnd) (bytes : List ℕ) : Type 0 where
     due : Due
@@ -124,13 +124,13 @@ module _ {M P : Type 0} (w : Way M P) (start : Moment M P) (limit : ℕ) where
       let le : plays.firings ≤ has.firings = longest plays.firings has.firings has.end has.run plays.bounded plays.going in
       let more = has.firings - plays.firings in
       let sum : more + plays.firings ≡ has.firings = omega (arith, le) in
-      let rest = text_front plays.firings more in
+      let rest = text_prefix plays.firings more in
       let with = due_with has.end (text has.firings) has.run.own in
-      let front : AppendsFront old mid (text has.firings) = subst (λ i. AppendsFront old mid (text i)) sum (subst (AppendsFront old mid) (sym rest.1) (AppendsFront-longer old mid (text plays.firings) rest.0 (broken plays.firings old mid plays.writes))) in
+      let prefix : AppendsPrefix old mid (text has.firings) = subst (λ i. AppendsPrefix old mid (text i)) sum (subst (AppendsPrefix old mid) (sym rest.1) (AppendsPrefix-longer old mid (text plays.firings) rest.0 (broken plays.firings old mid plays.writes))) in
       record {
         due = with.due;
         is = record { firings = has.firings; played = record { end = has.end; run = has.run; is = with.is } };
-        front = subst (λ bytes. AppendsFront old mid (bytes ++ with.due.last)) (sym with.same) (AppendsFront-longer old mid (text has.firings) with.due.last front);
+        prefix = subst (λ bytes. AppendsPrefix old mid (bytes ++ with.due.last)) (sym with.same) (AppendsPrefix-longer old mid (text has.firings) with.due.last prefix);
       }
 
 -- a game has an end where its run has, by picks or in the source's own order
@@ -154,7 +154,7 @@ answers_more is also old new s more answers = on s answers
     on Trapped t = told Trapped t
     on Limit t = told Limit t
     on ReadFault t = t
-    on WriteFault t = record { due = t.due; is = more t.due t.is; front = t.front }
+    on WriteFault t = record { due = t.due; is = more t.due t.is; prefix = t.prefix }
     on NoMemory t = t
 
 -- the game of a net of the program and its data is one of the program

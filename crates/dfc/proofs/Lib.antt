@@ -1,7 +1,7 @@
 mod DataWords
 mod GameLaws
 mod GameMeans
-mod GamePace
+mod GameLockstep
 mod GameTold
 mod NetParts
 mod OneNet

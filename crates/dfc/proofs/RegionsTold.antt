@@ -6,8 +6,8 @@ use Rattle.closed_walks.specs.Region.{IsFlowGraph}
 use Rattle.cfg_build.specs.Joined.{FlowGraph}
 use Rattle.cfg_build.specs.Flow.{flow}
 use Rattle.df_io.specs.TextBuffer.{IsWrittenBut}
-use Rattle.df_io.specs.Write.{AppendsFront}
-use Rattle.df_io.proofs.Fronts.{AppendsFront-longer}
+use Rattle.df_io.specs.Write.{AppendsPrefix}
+use Rattle.df_io.proofs.Prefixes.{AppendsPrefix-longer}
 use Rattle.df_io.proofs.LongTexts.{fault_at_piece}
 use Rattle.f77_tree.specs.declared.programs.Program.{Program}
 use Rattle.region_tree.specs.Tree.{Tree, IsRegionTree, region_count}
@@ -18,25 +18,25 @@ use Rattle.dfc.specs.Found.{IsFoundOf, text_of}
 use Rattle.dfc.specs.Headline.{Means, MeansOn}
 use Rattle.dfc.specs.Regions.{counts_line, piece_lines, region_lines, regions_text, TellsRegions}
 
--- the first part, behind an empty buffer
+-- the first part, after an empty buffer
 pub told_first : (a b : Option (List ℕ)) (empty held bytes part : List ℕ) → empty ≡ [] → bytes ≡ part → IsWrittenBut held a b (empty ++ bytes) → IsWrittenBut held a b part
-told_first a b empty held bytes part none is now = subst (IsWrittenBut held a b) (ap (λ front. front ++ bytes) none ∙ is) now
+told_first a b empty held bytes part none is now = subst (IsWrittenBut held a b) (ap (λ prefix. prefix ++ bytes) none ∙ is) now
 
 -- a fault at the first part, before three others
-pub fault_first : (a b : Option (List ℕ)) (empty bytes part second third last : List ℕ) → empty ≡ [] → bytes ≡ part → AppendsFront a b (empty ++ bytes) → AppendsFront a b (part ++ second ++ third ++ last)
-fault_first a b empty bytes part second third last none is front =
-    AppendsFront-longer a b (part ++ second ++ third) last (AppendsFront-longer a b (part ++ second) third (AppendsFront-longer a b part second
-    (subst (AppendsFront a b) (ap (λ front. front ++ bytes) none ∙ is) front)))
+pub fault_first : (a b : Option (List ℕ)) (empty bytes part second third last : List ℕ) → empty ≡ [] → bytes ≡ part → AppendsPrefix a b (empty ++ bytes) → AppendsPrefix a b (part ++ second ++ third ++ last)
+fault_first a b empty bytes part second third last none is prefix =
+    AppendsPrefix-longer a b (part ++ second ++ third) last (AppendsPrefix-longer a b (part ++ second) third (AppendsPrefix-longer a b part second
+    (subst (AppendsPrefix a b) (ap (λ prefix. prefix ++ bytes) none ∙ is) prefix)))
 
 -- a fault at a part, before two others
-pub fault_before_two : (a b c : Option (List ℕ)) (held text part next last : List ℕ) → IsWrittenBut held a b text → AppendsFront b c (held ++ part) → AppendsFront a c (text ++ part ++ next ++ last)
-fault_before_two a b c held text part next last before front =
-    AppendsFront-longer a c (text ++ part ++ next) last (AppendsFront-longer a c (text ++ part) next (fault_at_piece a b c held text part before front))
+pub fault_before_two : (a b c : Option (List ℕ)) (held text part next last : List ℕ) → IsWrittenBut held a b text → AppendsPrefix b c (held ++ part) → AppendsPrefix a c (text ++ part ++ next ++ last)
+fault_before_two a b c held text part next last before prefix =
+    AppendsPrefix-longer a c (text ++ part ++ next) last (AppendsPrefix-longer a c (text ++ part) next (fault_at_piece a b c held text part before prefix))
 
 -- a fault at a part, before another one
-pub fault_before_one : (a b c : Option (List ℕ)) (held text part last : List ℕ) → IsWrittenBut held a b text → AppendsFront b c (held ++ part) → AppendsFront a c (text ++ part ++ last)
-fault_before_one a b c held text part last before front =
-    AppendsFront-longer a c (text ++ part) last (fault_at_piece a b c held text part before front)
+pub fault_before_one : (a b c : Option (List ℕ)) (held text part last : List ℕ) → IsWrittenBut held a b text → AppendsPrefix b c (held ++ part) → AppendsPrefix a c (text ++ part ++ last)
+fault_before_one a b c held text part last before prefix =
+    AppendsPrefix-longer a c (text ++ part) last (fault_at_piece a b c held text part before prefix)
 
 -- the line of counts depends on the counts alone
 pub counts_same : (p p' e e' k k' r r' : ℕ) → p ≡ p' → e ≡ e' → k ≡ k' → r ≡ r' → counts_line p e k r ≡ counts_line p' e' k' r'

@@ -6,15 +6,15 @@ use Rattle.std.specs.Prelude.{flat_map, slice_index}
 use Rattle.closed_walks.specs.Numbering.{fresh}
 use Rattle.std.specs.List.{range_with_len}
 use Rattle.df_io.specs.TextBuffer.{IsWrittenBut}
-use Rattle.df_io.specs.Write.{AppendsFront}
-use Rattle.df_io.proofs.Fronts.{AppendsFront-longer}
+use Rattle.df_io.specs.Write.{AppendsPrefix}
+use Rattle.df_io.proofs.Prefixes.{AppendsPrefix-longer}
 use Rattle.df_io.proofs.LongTexts.{one_more_piece, fault_at_piece}
 
 -- so many lines, from a number on
 abbrev pub lines : (ℕ → List ℕ) → (first count : ℕ) → List ℕ
 lines line first count = flat_map line (range_with_len first count)
 
--- one line more stands behind the others
+-- one line more stands after the others
 lines_more : (line : ℕ → List ℕ) (first n : ℕ) → lines line first (suc n) ≡ lines line first n ++ line (first + n)
 lines_more line first zero =
     let here : first ≡ first + 0 = omega arith in
@@ -24,18 +24,18 @@ lines_more line first (suc n) =
     ap (λ rest. line first ++ rest) (lines_more line (first + 1) n ∙ ap (λ k. lines line (first + 1) n ++ line k) there)
     ∙ sym (append_assoc (line first) (lines line (first + 1) n) (line (first + suc n)))
 
--- what stands behind the first lines
-lines_behind : (line : ℕ → List ℕ) (first n more : ℕ) → (rest : List ℕ) × (lines line first (n + more) ≡ lines line first n ++ rest)
-lines_behind line first n zero =
+-- what stands after the first lines
+lines_after : (line : ℕ → List ℕ) (first n more : ℕ) → (rest : List ℕ) × (lines line first (n + more) ≡ lines line first n ++ rest)
+lines_after line first n zero =
     let same : n + 0 ≡ n = omega arith in
     ([], ap (lines line first) same ∙ sym (append-nil (lines line first n)))
-lines_behind line first n (suc more) =
-    let before = lines_behind line first n more in
+lines_after line first n (suc more) =
+    let before = lines_after line first n more in
     let next = line (first + (n + more)) in
     let same : n + suc more ≡ suc (n + more) = omega arith in
-    (before.0 ++ next, ap (lines line first) same ∙ lines_more line first (n + more) ∙ ap (λ front. front ++ next) before.1 ∙ append_assoc (lines line first n) before.0 next)
+    (before.0 ++ next, ap (lines line first) same ∙ lines_more line first (n + more) ∙ ap (λ prefix. prefix ++ next) before.1 ∙ append_assoc (lines line first n) before.0 next)
 
--- Behind what a buffer held at first some lines were appended, and no count of faults fell.
+-- After what a buffer held at first some lines were appended, and no count of faults fell.
 pub record IsTelling (first held : List ℕ) (old new : Option (List ℕ)) (faults_old faults_new : ℕ) (text : List ℕ) : Type 0 where
   pub written : IsWrittenBut held old new (first ++ text)
   pub later : faults_old ≤ faults_new
@@ -52,10 +52,10 @@ line_told line from k first held left bytes a b c is before now =
     subst (IsWrittenBut left a c) all (one_more_piece a b c held (first ++ lines line from k) bytes left before now)
 
 -- a fault at a line, which others were to follow
-pub fault_at_line : (line : ℕ → List ℕ) (from k count : ℕ) (first held bytes : List ℕ) (a b c : Option (List ℕ)) → k < count → bytes ≡ line (from + k) → IsWrittenBut held a b (first ++ lines line from k) → AppendsFront b c (held ++ bytes) → AppendsFront a c (first ++ lines line from count)
-fault_at_line line from k count first held bytes a b c within is before front =
+pub fault_at_line : (line : ℕ → List ℕ) (from k count : ℕ) (first held bytes : List ℕ) (a b c : Option (List ℕ)) → k < count → bytes ≡ line (from + k) → IsWrittenBut held a b (first ++ lines line from k) → AppendsPrefix b c (held ++ bytes) → AppendsPrefix a c (first ++ lines line from count)
+fault_at_line line from k count first held bytes a b c within is before prefix =
     let more = count - suc k in
-    let rest = lines_behind line from (suc k) more in
+    let rest = lines_after line from (suc k) more in
     let whole : suc k + more ≡ count = omega (arith, within) in
     let text = first ++ lines line from k in
     let all : (text ++ bytes) ++ rest.0 ≡ first ++ lines line from count =
@@ -63,10 +63,10 @@ fault_at_line line from k count first held bytes a b c within is before front =
     ∙ append_assoc first (lines line from k) (bytes ++ rest.0)
     ∙ ap (λ end. first ++ end) (sym (append_assoc (lines line from k) bytes rest.0)
     ∙ ap (λ end. (lines line from k ++ end) ++ rest.0) is
-    ∙ ap (λ front. front ++ rest.0) (sym (lines_more line from k))
+    ∙ ap (λ prefix. prefix ++ rest.0) (sym (lines_more line from k))
     ∙ sym rest.1
     ∙ ap (lines line from) whole) in
-    subst (AppendsFront a c) all (AppendsFront-longer a c (text ++ bytes) rest.0 (fault_at_piece a b c held text bytes before front))
+    subst (AppendsPrefix a c) all (AppendsPrefix-longer a c (text ++ bytes) rest.0 (fault_at_piece a b c held text bytes before prefix))
 
 -- what holds where an error is told
 pub on_error : {A E P : Type 0} (result : Result A E) → P → OnErr result P
@@ -82,7 +82,7 @@ pub then_on_ok : {A E P Q : Type 0} (result : Result A E) → (P → Q) → OnOk
 then_on_ok (Ok x) next holds = next holds
 then_on_ok (Err error) next holds = tt
 
--- the least number above those of a list, one more behind it
+-- the least number above those of a list, one more after it
 fresh_more : (xs : List ℕ) (x : ℕ) → fresh (xs ++ x ∷ []) ≡ max (fresh xs) (x + 1)
 fresh_more [] x = omega arith
 fresh_more (y ∷ xs) x = let rest = fresh_more xs x in omega (arith, rest)

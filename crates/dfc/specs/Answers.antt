@@ -2,7 +2,7 @@
 use Rattle.std.specs.Prelude.{◌≡◌, ◌≢◌, ◌⊎◌, ◌≤◌, ℕ, List, Option, Some, None}
 use Rattle.std.specs.Io.KnownBytes.{Appends, Keeps}
 use Rattle.df_io.specs.Faults.{Rose}
-use Rattle.df_io.specs.Write.{AppendsFront}
+use Rattle.df_io.specs.Write.{AppendsPrefix}
 use Rattle.dfc.specs.declared.status.Status.{Status}
 use Rattle.dfc.specs.declared.status.Status.TheVariants.{Done, Usage, Refused, Trapped, Limit, ReadFault, WriteFault, NoMemory}
 use Rattle.dfc.specs.Due.{Due, IsJust, all_due, usage}
@@ -27,14 +27,14 @@ pub record IsTold (is_due : Due → Type 0) (old new : Option (List ℕ)) (statu
   pub same : status ≡ due.status
   pub written : Appends old new (all_due due)
 
--- A front of what is due was written.
+-- A prefix of what is due was written.
 pub record IsBegun (is_due : Due → Type 0) (old new : Option (List ℕ)) : Type 0 where
   pub due : Due
   pub is : is_due due
-  pub front : AppendsFront old new (all_due due)
+  pub prefix : AppendsPrefix old new (all_due due)
 
 -- What is due was told. Or the source failed or there was no memory, and nothing was written; or the sink failed, and a
--- front of what is due was written.
+-- prefix of what is due was written.
 abbrev pub AnswersAs : (is_due : Due → Type 0) → Option (List ℕ) → Option (List ℕ) → Status → Type 0
 AnswersAs is_due old new ReadFault = Keeps old new
 AnswersAs is_due old new NoMemory = Keeps old new
@@ -56,7 +56,7 @@ pub record Answers (is_due : Due → Type 0) (old new : Option (List ℕ)) (code
   pub code_is : code ≡ code_of status
   pub answers : AnswersAs is_due old new status
 
--- Words without meaning are told so, unless the sink fails. No other words are.
+-- Invalid arguments are told so, unless the sink fails. No other words are.
 abbrev pub TellsWords : Option Job → Option (List ℕ) → Option (List ℕ) → ℕ → Type 0
 TellsWords None old new code = Answers (IsJust usage) old new code × ((code ≡ 1) ⊎ (code ≡ 6))
 TellsWords (Some job) old new code = code ≢ 1

@@ -48,15 +48,15 @@ trap_name Step = codes "STEP"
 trap_name Input = codes "INPUT"
 trap_name Overflow = codes "OVERFLOW"
 
--- a trap came behind this text, at this line of the source
+-- a trap came after this text, at this line of the source
 abbrev pub trapped : (text : List ℕ) → Trap → (line : ℕ) → Due
 trapped text trap line = record { status = status.Trapped; text = text; last = codes "TRAP " ++ trap_name trap ++ codes " LINE " ++ decimal line ++ 10 ∷ [] }
 
--- behind this text so many firings were made, and more are possible
+-- after this text so many firings were made, and more are possible
 abbrev pub stopped : (text : List ℕ) → (limit : ℕ) → Due
 stopped text limit = record { status = status.Limit; text = text; last = codes "LIMIT " ++ decimal limit ++ 10 ∷ [] }
 
--- what is due behind a text where a game ends like this; nothing is after a fault of the sink
+-- what is due after a text where a game ends like this; nothing is after a fault of the sink
 abbrev pub IsDueBy : PlayEnd → (limit : ℕ) → (text : List ℕ) → Due → Type 0
 IsDueBy (end.Rest n) limit text due = due ≡ done text
 IsDueBy (end.Trapped trap line) limit text due = due ≡ trapped text trap line

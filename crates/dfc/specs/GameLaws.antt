@@ -21,7 +21,7 @@ use Rattle.token_net.specs.NetOrder.{net_course}
 use Rattle.token_net.specs.Nodes.{NetOf}
 use Rattle.token_net.specs.Tokens.{Tokens, net_moves}
 use Rattle.dfc.specs.Game.{IsNetOn}
-use Rattle.dfc.specs.Pace.{KeepsPace}
+use Rattle.dfc.specs.Lockstep.{StaysInLockstep}
 
 -- a program has one table of classes and one tree of regions, and a line is led to one edge
 pub record OneOfEach : Type 0 where
@@ -41,7 +41,7 @@ pub record RunLaws : Type 0 where
 
 pub record GameLaws : Type 0 where
   pub runs : RunLaws
-  pub pace : (net : NetOf) (p : Program) (words : List ℤ) → IsNetOn p words net → KeepsPace net
+  pub lockstep : (net : NetOf) (p : Program) (words : List ℤ) → IsNetOn p words net → StaysInLockstep net
   pub each : OneOfEach
   pub count : (p : Program) (t : ClassTable) → IsClasses p t → class_count t ≡ number_of_classes p
   pub stop_first : StopFirst

@@ -17,10 +17,10 @@ use Rattle.dfc.specs.Words.{Asked, Job, On, Task, Regions, Play}
 
 -- ---- games
 
--- the text is a front of what the run of the program writes
-pub record IsFrontOfRun (asked : Asked) (p : Program) (due : Due) : Type 0 where
+-- the text is a prefix of what the run of the program writes
+pub record IsPrefixOfRun (asked : Asked) (p : Program) (due : Due) : Type 0 where
   pub steps : ℕ
-  pub front : IsPrefix due.text (out p asked.input steps)
+  pub prefix : IsPrefix due.text (out p asked.input steps)
 
 -- how many lines a net has: that of output, and one for each class
 abbrev pub line_count : Program → ℕ
@@ -47,11 +47,11 @@ pub record MeansTrap (asked : Asked) (p : Program) (due : Due) : Type 0 where
   pub traps : TrapsAt p asked.input steps trap line
   pub told : due ≡ trapped (out p asked.input steps) trap line
 
--- What is written is a front of what the run of the program writes, whatever the picks and the limit. The game is done only where the
+-- What is written is a prefix of what the run of the program writes, whatever the picks and the limit. The game is done only where the
 -- run ends, and traps only where it traps. Where the run ends and the limit is large enough, the game is done; where it traps
 -- and the limit is large enough, the game traps in the source's own order.
 pub record MeansPlay (asked : Asked) (p : Program) (due : Due) : Type 0 where
-  pub front : IsFrontOfRun asked p due
+  pub prefix : IsPrefixOfRun asked p due
   pub rests : due.status ≡ Done → MeansRest asked p due
   pub traps : due.status ≡ Trapped → MeansTrap asked p due
   pub ends : (steps : ℕ) → EndsIn p asked.input steps → bound_of p steps ≤ asked.limit → due.status ≡ Done

@@ -6,7 +6,7 @@ pub mod Game
 pub mod Regions
 pub mod Found
 pub mod Due
-pub mod Pace
+pub mod Lockstep
 pub mod Parts
 pub mod GameLaws
 pub mod Answers

@@ -24,7 +24,7 @@ abbrev pub meant : Option read.Job → Option Job
 meant None = None
 meant (Some job) = Some (job_meant job)
 
--- such a text stands behind the name of the setting, or there is none
+-- such a text stands after the name of the setting, or there is none
 abbrev pub MayStand : Setting → List ℕ → Type 0
 MayStand s [] = Unit {0}
 MayStand s (c ∷ text) = is_text s (c ∷ text) ≡ true

@@ -1,4 +1,4 @@
--- What a text is: a program, or refused. Want of memory has no place in it.
+-- What a text is: a program, or refused. Allocation failure has no place in it.
 use Rattle.std.specs.Prelude.{◌≡◌, ℕ, ◌+◌, Bool, true, false, List, length, Option, Some, None, Result, Ok, Err, nat_lt, MatchBool, if◌then◌else◌}
 use Rattle.std.specs.Io.KnownBytes.{IsAtEnd}
 use Rattle.df_io.specs.Read.{Takes, TakesAtMost}

@@ -39,7 +39,7 @@ edge_line e from to class = codes "E " ++ decimal e ++ 32 ∷ [] ++ decimal from
 abbrev pub region_line : (r entry exit parent : ℕ) → List ℕ
 region_line r entry exit parent = codes "R " ++ decimal r ++ 32 ∷ [] ++ decimal entry ++ 32 ∷ [] ++ decimal exit ++ 32 ∷ [] ++ decimal parent ++ 10 ∷ []
 
--- ---- the text: each part stands behind the ones before it
+-- ---- the text: each part stands after the ones before it
 
 abbrev pub piece_lines : List Piece → (count : ℕ) → List ℕ
 piece_lines pieces count = flat_map (λ k. piece_line k (piece_at pieces k)) (range_with_len 0 count)

@@ -29,9 +29,9 @@ pub data Job : Type 0 where
 -- ---- numbers and lists of them
 
 -- the pieces of a text between its commas, of which the first begins with these characters
-abbrev pub pieces_behind : (begun text : List ℕ) → List (List ℕ)
-pieces_behind begun [] = begun ∷ []
-pieces_behind begun (c ∷ text) = if c == 44 then begun ∷ pieces_behind [] text else pieces_behind (begun ++ c ∷ []) text
+abbrev pub pieces_after : (begun text : List ℕ) → List (List ℕ)
+pieces_after begun [] = begun ∷ []
+pieces_after begun (c ∷ text) = if c == 44 then begun ∷ pieces_after [] text else pieces_after (begun ++ c ∷ []) text
 
 -- one to so many digits
 abbrev pub are_digits_to : (most : ℕ) → List ℕ → Bool
@@ -41,7 +41,7 @@ are_digits_to most digits = nat_le 1 (length digits) && nat_le (length digits) m
 abbrev pub is_number_to : (greatest : ℕ) → (digits : List ℕ) → Bool
 is_number_to greatest digits = are_digits_to 10 digits && nat_le (number digits) greatest
 
--- a word of the machine in decimal, a negative one behind a minus sign
+-- a word of the machine in decimal, a negative one after a minus sign
 abbrev pub is_word : List ℕ → Bool
 is_word [] = false
 is_word (c ∷ digits) = if c == 45 then is_number_to (greatest_constant + 1) digits else is_number_to greatest_constant (c ∷ digits)
@@ -63,11 +63,11 @@ is_piece Limit piece = are_digits_to 18 piece
 is_piece Picks piece = are_digits_to 9 piece
 is_piece Data piece = is_word piece
 
--- what may stand behind the name; a limit is a single number
+-- what may stand after the name; a limit is a single number
 abbrev pub is_text : Setting → List ℕ → Bool
 is_text Limit text = is_piece Limit text
-is_text Picks text = list_all (is_piece Picks) (pieces_behind [] text)
-is_text Data text = list_all (is_piece Data) (pieces_behind [] text)
+is_text Picks text = list_all (is_piece Picks) (pieces_after [] text)
+is_text Data text = list_all (is_piece Data) (pieces_after [] text)
 
 abbrev pub is_setting : Setting → List ℕ → Bool
 is_setting s word = bytes_eq (take (length (name_of s)) word) (name_of s) && is_text s (drop (length (name_of s)) word)
@@ -77,10 +77,10 @@ abbrev pub text_of : Setting → List (List ℕ) → List ℕ
 text_of s [] = []
 text_of s (word ∷ words) = if is_setting s word then drop (length (name_of s)) word else []
 
--- the words behind this setting, which may stand in front of them
-abbrev pub behind : Setting → List (List ℕ) → List (List ℕ)
-behind s [] = []
-behind s (word ∷ words) = if is_setting s word then words else word ∷ words
+-- the words after this setting, which may stand before them
+abbrev pub after : Setting → List (List ℕ) → List (List ℕ)
+after s [] = []
+after s (word ∷ words) = if is_setting s word then words else word ∷ words
 
 abbrev pub limit_in : (text : List ℕ) → ℕ
 limit_in [] = 1000000
@@ -89,7 +89,7 @@ limit_in (c ∷ text) = number (c ∷ text)
 -- the values of the pieces of a text, if there is one
 abbrev pub values_in : {A : Type 0} → (List ℕ → A) → (text : List ℕ) → List A
 values_in value [] = []
-values_in value (c ∷ text) = map value (pieces_behind [] (c ∷ text))
+values_in value (c ∷ text) = map value (pieces_after [] (c ∷ text))
 
 -- ---- the dialect: `checked`, or the plain one
 
@@ -107,10 +107,10 @@ on task (Some dialect) = Some (On task dialect)
 -- the limit, the picks, the data and the dialect, in this order, each of them once or not at all
 abbrev pub play_of : List (List ℕ) → Option Job
 play_of words =
-    let behind_limit = behind Limit words in
-    let behind_picks = behind Picks behind_limit in
-    let behind_data = behind Data behind_picks in
-    on (Play (record { limit = limit_in (text_of Limit words); picks = values_in number (text_of Picks behind_limit); input = values_in word_value (text_of Data behind_picks) })) (dialect_of behind_data)
+    let after_limit = after Limit words in
+    let after_picks = after Picks after_limit in
+    let after_data = after Data after_picks in
+    on (Play (record { limit = limit_in (text_of Limit words); picks = values_in number (text_of Picks after_limit); input = values_in word_value (text_of Data after_picks) })) (dialect_of after_data)
 
 -- The job that these words ask for: `regions` and the dialect, or `fire` and its settings, as yet. Other words have no meaning.
 abbrev pub job_of : List (List ℕ) → Option Job

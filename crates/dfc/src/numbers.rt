@@ -4,7 +4,7 @@ ghost use Rattle.std.specs.Prelude.{◌≡◌, [], true, map, IfOk, FitsSigned};
 ghost use Rattle.std.specs.Int.{w32};
 ghost use Rattle.fixed_form.specs.Columns.{number};
 ghost use Rattle.dfc.specs.Meant.{MayStand};
-ghost use Rattle.dfc.specs.Words.{are_digits_to, is_word, is_text, pieces_behind, values_in, word_value};
+ghost use Rattle.dfc.specs.Words.{are_digits_to, is_word, is_text, pieces_after, values_in, word_value};
 
 use crate::words::{Setting, number_in};
 use df_io::NoMemory;
@@ -37,7 +37,7 @@ pub fn data_in(alloc: Global, text: &[u8]) -> Result<Vec<i32>, NoMemory>
 // The picks between commas.
 fn pick_list(alloc: Global, text: &[u8]) -> Result<Vec<u32>, NoMemory>
     requires { is_text Setting.Picks text.now ≡ true }
-    ensures { IfOk result (λ list. list.items ≡ map number (pieces_behind [] text.now)) }
+    ensures { IfOk result (λ list. list.items ≡ map number (pieces_after [] text.now)) }
 {
     let mut list = Vec::new(alloc);
     let mut begin = 0;
@@ -54,7 +54,7 @@ fn pick_list(alloc: Global, text: &[u8]) -> Result<Vec<u32>, NoMemory>
 // The words between commas.
 fn word_list(alloc: Global, text: &[u8]) -> Result<Vec<i32>, NoMemory>
     requires { is_text Setting.Data text.now ≡ true }
-    ensures { IfOk result (λ list. list.items ≡ map word_value (pieces_behind [] text.now)) }
+    ensures { IfOk result (λ list. list.items ≡ map word_value (pieces_after [] text.now)) }
 {
     let mut list = Vec::new(alloc);
     let mut begin = 0;

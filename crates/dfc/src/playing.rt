@@ -26,7 +26,7 @@ use firing::{due_orders_end, every_order_follows, runs_end};
 use region_tree::one_tree;
 use std::alloc::Global;
 use token_net::{
-    Net, flow_graphs_ground_nets, nets_are_paced, nets_begin_soundly, parts_make_nets,
+    Net, flow_graphs_ground_nets, nets_begin_soundly, nets_simulate_programs, parts_make_nets,
     runs_ground_nets,
 };
 
@@ -128,7 +128,7 @@ fn game_laws()
     nets_begin_soundly();
     flow_graphs_ground_nets();
     runs_ground_nets();
-    nets_are_paced();
+    nets_simulate_programs();
     one_numbering();
     one_tree();
     next_edges();

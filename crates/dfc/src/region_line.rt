@@ -72,7 +72,7 @@ pub fn region_line(r: u32, entry: u32, exit: u32, parent: u32) -> ArrayString<48
     four_numbers("R ", r, entry, exit, parent)
 }
 
-// Four numbers behind a word of two characters, with blanks between them.
+// Four numbers after a word of two characters, with blanks between them.
 fn four_numbers(word: &str, a: u32, b: u32, c: u32, d: u32) -> ArrayString<48>
     requires { length word.now ≤ 2 }
     ensures { result.bytes ≡ word.now ++ decimal a ++ 32 ∷ [] ++ decimal b ++ 32 ∷ [] ++ decimal c ++ 32 ∷ [] ++ decimal d ++ 10 ∷ [] }

@@ -6,7 +6,7 @@ ghost use Rattle.closed_walks.specs.Graph.{edge_count};
 ghost use Rattle.closed_walks.specs.Numbering.{fresh};
 ghost use Rattle.df_io.specs.Faults.{Rose};
 ghost use Rattle.df_io.specs.TextBuffer.{IsWrittenBut};
-ghost use Rattle.df_io.specs.Write.{AppendsFront};
+ghost use Rattle.df_io.specs.Write.{AppendsPrefix};
 ghost use Rattle.f77_tree.specs.WellFormed.{IsWellFormed};
 ghost use Rattle.region_tree.specs.Tree.{region_count};
 ghost use Rattle.dfc.specs.Answers.{AnswersAs};
@@ -80,7 +80,7 @@ fn tell<K: Sink>(found: &mut Found, sink: &mut K) -> Result<(), WriteFault>
     requires classes { length found.old.classes.items ≡ edge_count found.old.flow.graph }
     requires buffer { found.old.buffer ≡ [] }
     ensures all { OnOk result (Appends (K.got sink.old) (K.got sink.new) (text_of found.old)) }
-    ensures front { OnErr result (AppendsFront (K.got sink.old) (K.got sink.new) (text_of found.old)) }
+    ensures prefix { OnErr result (AppendsPrefix (K.got sink.old) (K.got sink.new) (text_of found.old)) }
     ensures later { K.faults sink.old ≤ K.faults sink.new }
     ensures fault { OnErr result (Rose (K.faults sink.old) (K.faults sink.new)) }
 {
@@ -120,7 +120,7 @@ fn tell_pieces<K: Sink>(
     sink: &mut K,
 ) -> Result<(), WriteFault>
     ensures text { OnOk result (IsWrittenBut buffer.new (K.got sink.old) (K.got sink.new) (buffer.old ++ piece_lines flow.now.pieces (length flow.now.pieces))) }
-    ensures front { OnErr result (AppendsFront (K.got sink.old) (K.got sink.new) (buffer.old ++ piece_lines flow.now.pieces (length flow.now.pieces))) }
+    ensures prefix { OnErr result (AppendsPrefix (K.got sink.old) (K.got sink.new) (buffer.old ++ piece_lines flow.now.pieces (length flow.now.pieces))) }
     ensures later { K.faults sink.old ≤ K.faults sink.new }
     ensures fault { OnErr result (Rose (K.faults sink.old) (K.faults sink.new)) }
 {
@@ -140,7 +140,7 @@ fn tell_edges<K: Sink>(
 ) -> Result<(), WriteFault>
     requires { length classes.now ≡ edge_count g.now }
     ensures text { OnOk result (IsWrittenBut buffer.new (K.got sink.old) (K.got sink.new) (buffer.old ++ edge_lines g.now classes.now (edge_count g.now))) }
-    ensures front { OnErr result (AppendsFront (K.got sink.old) (K.got sink.new) (buffer.old ++ edge_lines g.now classes.now (edge_count g.now))) }
+    ensures prefix { OnErr result (AppendsPrefix (K.got sink.old) (K.got sink.new) (buffer.old ++ edge_lines g.now classes.now (edge_count g.now))) }
     ensures later { K.faults sink.old ≤ K.faults sink.new }
     ensures fault { OnErr result (Rose (K.faults sink.old) (K.faults sink.new)) }
 {
@@ -158,7 +158,7 @@ fn tell_tree<K: Sink>(
     sink: &mut K,
 ) -> Result<(), WriteFault>
     ensures text { OnOk result (IsWrittenBut buffer.new (K.got sink.old) (K.got sink.new) (buffer.old ++ region_lines tree.now (region_count tree.now))) }
-    ensures front { OnErr result (AppendsFront (K.got sink.old) (K.got sink.new) (buffer.old ++ region_lines tree.now (region_count tree.now))) }
+    ensures prefix { OnErr result (AppendsPrefix (K.got sink.old) (K.got sink.new) (buffer.old ++ region_lines tree.now (region_count tree.now))) }
     ensures later { K.faults sink.old ≤ K.faults sink.new }
     ensures fault { OnErr result (Rose (K.faults sink.old) (K.faults sink.new)) }
 {

@@ -13,7 +13,7 @@ pub enum Status {
     Limit,
     /// The source of bytes failed; nothing was written.
     ReadFault,
-    /// The sink failed; some of what is due was written, from the front.
+    /// The sink failed; some of what is due was written, from the beginning.
     WriteFault,
     /// There was no memory; nothing was written.
     NoMemory,

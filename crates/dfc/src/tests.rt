@@ -410,12 +410,12 @@ fn scalars(alloc: Global, count: u32) -> Result<String, AllocError> {
     let mut text = String::new(alloc);
     for k in 0..count {
         let before = if k % 8 == 0 { "      INTEGER I" } else { ",I" };
-        let behind = if k % 8 == 7 || k + 1 == count {
+        let after = if k % 8 == 7 || k + 1 == count {
             "\n"
         } else {
             ""
         };
-        write!(text, "{before}{k}{behind}")?;
+        write!(text, "{before}{k}{after}")?;
     }
     text.push_str("      END\n")?;
     Ok(text)

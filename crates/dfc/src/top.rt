@@ -21,7 +21,7 @@ use f77_tree::Program;
 use std::alloc::Global;
 
 /// Does what the words ask for, on the bytes of the source, and writes to the sink. It answers the exit status: 0 done,
-/// 1 words without meaning, 2 a text that is refused, 3 a trap, 4 a limit, 5 a failing source, 6 a failing sink, 7 no
+/// 1 invalid arguments, 2 a text that is refused, 3 a trap, 4 a limit, 5 a failing source, 6 a failing sink, 7 no
 /// memory.
 pub fn dfc_main<S: Source, K: Sink>(
     alloc: Global,

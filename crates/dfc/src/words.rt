@@ -4,7 +4,7 @@ ghost use Rattle.std.specs.String.{string_bytes};
 ghost use Rattle.f77_tree.specs.Name.{is_figure};
 ghost use Rattle.fixed_form.specs.Columns.{number};
 ghost use Rattle.dfc.specs.Meant.{IsJob, MayStand, meant};
-ghost use Rattle.dfc.specs.Words.{job_of, play_of, behind, text_of, limit_in as spec_limit_in, dialect_of, are_digits_to as spec_are_digits_to, is_piece as spec_is_piece, is_setting, is_text as spec_is_text, is_word as spec_is_word, is_number_to as spec_is_number_to, name_of, pieces_behind};
+ghost use Rattle.dfc.specs.Words.{job_of, play_of, after, text_of, limit_in as spec_limit_in, dialect_of, are_digits_to as spec_are_digits_to, is_piece as spec_is_piece, is_setting, is_text as spec_is_text, is_word as spec_is_word, is_number_to as spec_is_number_to, name_of, pieces_after};
 
 /// What the words after the program's name ask for.
 #[derive(Clone, Copy, Debug, PartialEq, Eq)]
@@ -68,7 +68,7 @@ pub fn read_words(words: &[String]) -> Option<Job<'_>>
     }
 }
 
-// The game that the words behind `fire` ask for.
+// The game that the words after `fire` ask for.
 fn read_game(words: &[String]) -> Option<Job<'_>>
     ensures job { meant result ≡ play_of (map string_bytes words.now) }
     ensures texts { IfSome result IsJob }
@@ -88,11 +88,11 @@ fn read_game(words: &[String]) -> Option<Job<'_>>
     ))
 }
 
-// What a setting says that stands in front of the words, if it does, and the words behind it.
+// What a setting says that stands before the words, if it does, and the words after it.
 fn split_setting(setting: Setting, words: &[String]) -> (&[u8], &[String])
     ensures text { result.0.now ≡ text_of setting (map string_bytes words.now) }
     ensures may { MayStand setting result.0.now }
-    ensures rest { map string_bytes result.1.now ≡ behind setting (map string_bytes words.now) }
+    ensures rest { map string_bytes result.1.now ≡ after setting (map string_bytes words.now) }
 {
     match words {
         [word, rest @ ..] => match setting_text(setting, word.as_str().as_bytes()) {
@@ -143,7 +143,7 @@ fn read_dialect(words: &[String]) -> Option<Dialect>
     }
 }
 
-// Whether such a text may stand behind the name of the setting.
+// Whether such a text may stand after the name of the setting.
 fn is_text(setting: Setting, text: &[u8]) -> bool
     ensures { result ≡ spec_is_text setting text.now }
 {
@@ -155,7 +155,7 @@ fn is_text(setting: Setting, text: &[u8]) -> bool
 
 // Whether each piece between commas may stand there.
 fn are_pieces(setting: Setting, text: &[u8]) -> bool
-    ensures { result ≡ list_all (spec_is_piece setting) (pieces_behind [] text.now) }
+    ensures { result ≡ list_all (spec_is_piece setting) (pieces_after [] text.now) }
 {
     let mut begin = 0;
     for (k, c) in text.iter().enumerate() {

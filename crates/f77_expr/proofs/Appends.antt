@@ -11,7 +11,7 @@ begins_further old mid new first then = record { rest = first.rest ++ then.rest;
 pub begins_appended : (old text new : List ℕ) → new ≡ old ++ text → BeginsWith new old
 begins_appended old text new is = record { rest = text; is = is }
 
--- a text behind one that was appended
+-- a text after one that was appended
 pub appended_then : {T E : Type 0} (old first mid second new : List ℕ) (r : Result T E) → mid ≡ old ++ first → Appended mid second new r → Appended old (first ++ second) new r
 appended_then old first mid second new (Ok done) is then = then ∙ ap (λ text. text ++ second) is ∙ append_assoc old first second
 appended_then old first mid second new (Err none) is then = begins_further old mid new (record { rest = first; is = is }) then

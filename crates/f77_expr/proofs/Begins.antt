@@ -9,10 +9,10 @@ use Rattle.f77_tree.specs.declared.statements.RawExpr.TheVariants.{Named, Call}
 use Rattle.f77_tree.specs.Grammar.{Written, level, has_great_number}
 use Rattle.f77_expr.specs.declared.operators.Prefix.{Prefix}
 use Rattle.f77_expr.specs.declared.operators.Prefix.TheVariants.{Plus, Minus, Negation}
-use Rattle.f77_expr.specs.Reader.{Reads, read_as, and_then_read, prefix_at, operand_level, prefixed, truth_at, this_or, after_front, is_symbolic, closed, Readers, begun, named, primary_by, the_readers, expression_at, chain_at, primary_at, arguments_at}
+use Rattle.f77_expr.specs.Reader.{Reads, read_as, and_then_read, prefix_at, operand_level, prefixed, truth_at, this_or, after_prefix, is_symbolic, closed, Readers, begun, named, primary_by, the_readers, expression_at, chain_at, primary_at, arguments_at}
 use Rattle.f77_expr.specs.Answers.{passed, starts_name, constant_of, kept_number, too_great, meant, prefix_level, kept, kept_prefixed, IsRead, AreRead, IsBegun}
 use Rattle.f77_expr.proofs.EachRead.{Each, each_at, each_if, each_then, each_as, each_this_or}
-use Rattle.f77_expr.proofs.Fronts.{IsPrefixIn, prefix_front, run_of_kind}
+use Rattle.f77_expr.proofs.Prefixes.{IsPrefixIn, prefix_at_start, run_of_kind}
 use Rattle.f77_expr.proofs.Depth.{expression-step, primary-step, primary_shorter}
 use Rattle.f77_expr.proofs.Lists.{passed-shorter, or-false}
 
@@ -44,8 +44,8 @@ primary-nothing [] none = primary-step []
 primary-nothing (c ∷ text) none = absurd cc
 
 -- what a part reads is read of the whole
-pub primary-from : (text behind : List ℕ) (great great_then : Bool) (found : Reads Written) (e : RawExpr) (rest : List ℕ) (great_now : Bool) → primary_at text ≡ found → great_then ≡ great → IsRead behind great_then found e rest great_now → IsRead text great (primary_at text) e rest great_now
-primary-from text behind great great_then found e rest great_now is same i = record {
+pub primary-from : (text beyond : List ℕ) (great great_then : Bool) (found : Reads Written) (e : RawExpr) (rest : List ℕ) (great_now : Bool) → primary_at text ≡ found → great_then ≡ great → IsRead beyond great_then found e rest great_now → IsRead text great (primary_at text) e rest great_now
+primary-from text beyond great great_then found e rest great_now is same i = record {
   written = i.written;
   is_read = is ∙ i.is_read;
   is_kept = i.is_kept;
@@ -94,13 +94,13 @@ run-short c text capital =
 abbrev pub run_of : List ℕ → List ℕ
 run_of text = take_while is_symbolic text
 
-abbrev pub behind_run : List ℕ → List ℕ
-behind_run text = drop (length (run_of text)) text
+abbrev pub after_run : List ℕ → List ℕ
+after_run text = drop (length (run_of text)) text
 
-primary-run : (text : List ℕ) (b : Bool) → starts_name text ≡ true → is_name (run_of text) ≡ b → primary_at text ≡ (if b then named the_readers (run_of text) (behind_run text) else None)
+primary-run : (text : List ℕ) (b : Bool) → starts_name text ≡ true → is_name (run_of text) ≡ b → primary_at text ≡ (if b then named the_readers (run_of text) (after_run text) else None)
 primary-run [] b letter is = absurd cc
 primary-run (c ∷ text) b letter is =
-    primary-step (c ∷ text) ∙ by_name the_readers c text letter ∙ ap (λ t. if t then named the_readers (run_of (c ∷ text)) (behind_run (c ∷ text)) else None) (sym (run-short c text letter) ∙ is)
+    primary-step (c ∷ text) ∙ by_name the_readers c text letter ∙ ap (λ t. if t then named the_readers (run_of (c ∷ text)) (after_run (c ∷ text)) else None) (sym (run-short c text letter) ∙ is)
 
 -- a name that is none
 pub primary-no_name : (text : List ℕ) → starts_name text ≡ true → is_name (run_of text) ≡ false → primary_at text ≡ None
@@ -127,13 +127,13 @@ module _ (r : Readers) (n : List ℕ) where
       by false e = refl
 
 module _ (text : List ℕ) (letter : starts_name text ≡ true) (is_one : is_name (run_of text) ≡ true) where
-  call-is : (rest : List ℕ) → passed 40 (behind_run text) ≡ Some rest → primary_at text ≡ read_as (λ arguments. Written.call (run_of text) arguments) (arguments_at rest)
-  call-is rest bracket = primary-run text true letter is_one ∙ named-call the_readers (run_of text) (behind_run text) rest bracket
+  call-is : (rest : List ℕ) → passed 40 (after_run text) ≡ Some rest → primary_at text ≡ read_as (λ arguments. Written.call (run_of text) arguments) (arguments_at rest)
+  call-is rest bracket = primary-run text true letter is_one ∙ named-call the_readers (run_of text) (after_run text) rest bracket
 
   -- a name with arguments
-  pub primary-call : (great : Bool) (name : List ℕ) (es : List RawExpr) (behind rest : List ℕ) (great_now : Bool) → name ≡ run_of text → passed 40 (behind_run text) ≡ Some behind → AreRead behind great (arguments_at behind) es rest great_now → IsRead text great (primary_at text) (Call name es) rest great_now
-  primary-call great name es behind rest great_now name_is bracket i =
-      let read = call-is behind bracket ∙ ap (λ found. read_as (λ arguments. Written.call (run_of text) arguments) found) i.are_read in
+  pub primary-call : (great : Bool) (name : List ℕ) (es : List RawExpr) (beyond rest : List ℕ) (great_now : Bool) → name ≡ run_of text → passed 40 (after_run text) ≡ Some beyond → AreRead beyond great (arguments_at beyond) es rest great_now → IsRead text great (primary_at text) (Call name es) rest great_now
+  primary-call great name es beyond rest great_now name_is bracket i =
+      let read = call-is beyond bracket ∙ ap (λ found. read_as (λ arguments. Written.call (run_of text) arguments) found) i.are_read in
       record {
         written = Written.call (run_of text) i.written;
         is_read = read;
@@ -142,13 +142,13 @@ module _ (text : List ℕ) (letter : starts_name text ≡ true) (is_one : is_nam
         shorter = primary_shorter text (Written.call (run_of text) i.written) rest read;
       }
 
-  pub primary-no_call : (behind : List ℕ) → passed 40 (behind_run text) ≡ Some behind → arguments_at behind ≡ None → primary_at text ≡ None
-  primary-no_call behind bracket none = call-is behind bracket ∙ ap (λ found. read_as (λ arguments. Written.call (run_of text) arguments) found) none
+  pub primary-no_call : (beyond : List ℕ) → passed 40 (after_run text) ≡ Some beyond → arguments_at beyond ≡ None → primary_at text ≡ None
+  primary-no_call beyond bracket none = call-is beyond bracket ∙ ap (λ found. read_as (λ arguments. Written.call (run_of text) arguments) found) none
 
   -- a name alone
-  pub primary-name : (great : Bool) (name rest : List ℕ) (great_now : Bool) → name ≡ run_of text → passed 40 (behind_run text) ≡ None → rest ≡ behind_run text → great_now ≡ great → IsRead text great (primary_at text) (Named name) rest great_now
+  pub primary-name : (great : Bool) (name rest : List ℕ) (great_now : Bool) → name ≡ run_of text → passed 40 (after_run text) ≡ None → rest ≡ after_run text → great_now ≡ great → IsRead text great (primary_at text) (Named name) rest great_now
   primary-name great name rest great_now name_is no_bracket rest_is great_is =
-      let read : primary_at text ≡ Some (Written.name (run_of text), rest) = primary-run text true letter is_one ∙ named-alone the_readers (run_of text) (behind_run text) no_bracket ∙ ap (λ tail. Some (Written.name (run_of text), tail)) (sym rest_is) in
+      let read : primary_at text ≡ Some (Written.name (run_of text), rest) = primary-run text true letter is_one ∙ named-alone the_readers (run_of text) (after_run text) no_bracket ∙ ap (λ tail. Some (Written.name (run_of text), tail)) (sym rest_is) in
       record {
         written = Written.name (run_of text);
         is_read = read;
@@ -157,10 +157,10 @@ module _ (text : List ℕ) (letter : starts_name text ≡ true) (is_one : is_nam
         shorter = primary_shorter text (Written.name (run_of text)) rest read;
       }
 
--- the text behind a name and its bracket is shorter
-pub call-shorter : (text rest : List ℕ) → passed 40 (behind_run text) ≡ Some rest → length rest < length text
+-- the text after a name and its bracket is shorter
+pub call-shorter : (text rest : List ℕ) → passed 40 (after_run text) ≡ Some rest → length rest < length text
 call-shorter text rest bracket =
-    let less = passed-shorter 40 (behind_run text) rest bracket in
+    let less = passed-shorter 40 (after_run text) rest bracket in
     let cut = length-drop (length (run_of text)) text in
     omega arith
 
@@ -216,21 +216,21 @@ primary-level text w rest e = each_at (λ v tail. level v ≡ 8) (primary_by the
         (λ none. refl)
 
     of_truth : (tail : List ℕ) → Each (λ u after. level u ≡ 8) (truth_at tail)
-    of_truth tail = each_this_or (λ u after. level u ≡ 8) (Written.truth true) (after_front (codes ".TRUE.") tail) (this_or (Written.truth false) (after_front (codes ".FALSE.") tail) None) (λ after is. refl)
-        (each_this_or (λ u after. level u ≡ 8) (Written.truth false) (after_front (codes ".FALSE.") tail) None (λ after is. refl) tt)
+    of_truth tail = each_this_or (λ u after. level u ≡ 8) (Written.truth true) (after_prefix (codes ".TRUE.") tail) (this_or (Written.truth false) (after_prefix (codes ".FALSE.") tail) None) (λ after is. refl)
+        (each_this_or (λ u after. level u ≡ 8) (Written.truth false) (after_prefix (codes ".FALSE.") tail) None (λ after is. refl) tt)
 
     by : (whole : List ℕ) → Each (λ u after. level u ≡ 8) (primary_by the_readers whole)
     by [] = tt
     by (c ∷ more) =
         each_if (λ u after. level u ≡ 8) (is_figure c) (Some (Written.number (take_while is_figure (c ∷ more)), drop (length (take_while is_figure (c ∷ more))) (c ∷ more))) (no_number c more) (λ figure. refl)
         (λ none. each_if (λ u after. level u ≡ 8) (is_capital c) (name_or_none c more) (no_letter c more)
-        (λ capital. each_if (λ u after. level u ≡ 8) (nat_le (length (run_of (c ∷ more))) 6) (named the_readers (run_of (c ∷ more)) (behind_run (c ∷ more))) None (λ short. of_name (run_of (c ∷ more)) (behind_run (c ∷ more))) (λ long. tt))
+        (λ capital. each_if (λ u after. level u ≡ 8) (nat_le (length (run_of (c ∷ more))) 6) (named the_readers (run_of (c ∷ more)) (after_run (c ∷ more))) None (λ short. of_name (run_of (c ∷ more)) (after_run (c ∷ more))) (λ long. tt))
         (λ no_capital. each_if (λ u after. level u ≡ 8) (c == 40) (and_then_read (λ v tail. closed (Written.bracketed v) tail) (expression_at 0 more)) (truth_at (c ∷ more))
         (λ bracket. each_then (λ v tail. Unit {0}) (λ u after. level u ≡ 8) (λ v tail. closed (Written.bracketed v) tail) (expression_at 0 more) (each_any (expression_at 0 more)) (λ v tail any. in_brackets v tail))
         (λ no_bracket. of_truth (c ∷ more))))
       where
         name_or_none : ℕ → List ℕ → Reads Written
-        name_or_none d tail = if nat_le (length (run_of (d ∷ tail))) 6 then named the_readers (run_of (d ∷ tail)) (behind_run (d ∷ tail)) else None
+        name_or_none d tail = if nat_le (length (run_of (d ∷ tail))) 6 then named the_readers (run_of (d ∷ tail)) (after_run (d ∷ tail)) else None
 
         no_letter : ℕ → List ℕ → Reads Written
         no_letter d tail = if d == 40 then and_then_read (λ v after. closed (Written.bracketed v) after) (expression_at 0 tail) else truth_at (d ∷ tail)
@@ -271,19 +271,19 @@ prefixed-great Plus w = refl
 prefixed-great Minus w = refl
 prefixed-great Negation w = refl
 
--- the text behind a prefix is shorter
+-- the text after a prefix is shorter
 pub prefix_shorter : (least : ℕ) (text : List ℕ) (prefix : Prefix) (rest : List ℕ) → prefix_at least text ≡ Some (meant prefix, rest) → length rest < length text
-prefix_shorter least text prefix rest some = (each_at (λ p tail. IsPrefixIn least text p tail) (prefix_at least text) (prefix_front least text) (meant prefix) rest some).1
+prefix_shorter least text prefix rest some = (each_at (λ p tail. IsPrefixIn least text p tail) (prefix_at least text) (prefix_at_start least text) (meant prefix) rest some).1
 
-module _ (least : ℕ) (text : List ℕ) (prefix : Prefix) (behind : List ℕ) (some : prefix_at least text ≡ Some (meant prefix, behind)) (operand_least : ℕ) (least_is : operand_least ≡ operand_level (meant prefix)) where
-  prefix_goes_on : expression_at least text ≡ and_then_read (λ w rest. chain_at least (prefixed (meant prefix) w) rest) (expression_at operand_least behind)
+module _ (least : ℕ) (text : List ℕ) (prefix : Prefix) (beyond : List ℕ) (some : prefix_at least text ≡ Some (meant prefix, beyond)) (operand_least : ℕ) (least_is : operand_least ≡ operand_level (meant prefix)) where
+  prefix_goes_on : expression_at least text ≡ and_then_read (λ w rest. chain_at least (prefixed (meant prefix) w) rest) (expression_at operand_least beyond)
   prefix_goes_on =
-      expression-step least text ∙ ap (λ found. begun the_readers least text found) some ∙ ap (λ n. and_then_read (λ w rest. chain_at least (prefixed (meant prefix) w) rest) (expression_at n behind)) (sym least_is)
+      expression-step least text ∙ ap (λ found. begun the_readers least text found) some ∙ ap (λ n. and_then_read (λ w rest. chain_at least (prefixed (meant prefix) w) rest) (expression_at n beyond)) (sym least_is)
 
   -- a prefix and its operand
-  pub begun_prefixed : (great : Bool) (made e : RawExpr) (made_level : ℕ) (rest : List ℕ) (great_now : Bool) → IsRead behind great (expression_at operand_least behind) e rest great_now → made ≡ kept_prefixed prefix e → made_level ≡ prefix_level prefix → IsBegun least text great made made_level rest great_now
+  pub begun_prefixed : (great : Bool) (made e : RawExpr) (made_level : ℕ) (rest : List ℕ) (great_now : Bool) → IsRead beyond great (expression_at operand_least beyond) e rest great_now → made ≡ kept_prefixed prefix e → made_level ≡ prefix_level prefix → IsBegun least text great made made_level rest great_now
   begun_prefixed great made e made_level rest great_now i made_is level_is =
-      let less = prefix_shorter least text prefix behind some in
+      let less = prefix_shorter least text prefix beyond some in
       let shorter = i.shorter in
       record {
         written = prefixed (meant prefix) i.written;
@@ -294,5 +294,5 @@ module _ (least : ℕ) (text : List ℕ) (prefix : Prefix) (behind : List ℕ) (
         shorter = omega arith;
       }
 
-  pub no_operand : expression_at operand_least behind ≡ None → expression_at least text ≡ None
+  pub no_operand : expression_at operand_least beyond ≡ None → expression_at least text ≡ None
   no_operand e = prefix_goes_on ∙ ap (λ found. and_then_read (λ w tail. chain_at least (prefixed (meant prefix) w) tail) found) e

@@ -1,4 +1,4 @@
--- Each expression of the grammar is read as it is written, and what goes on behind it is read on.
+-- Each expression of the grammar is read as it is written, and what goes on after it is read on.
 use Rattle.std.proofs.Common.{◌≡◌, ℕ, ◌≤◌, true, List, ◌∷◌, ◌++◌, Some, None, ◌&&◌, nat_le, refl, ap, ◌∙◌, arith}
 use Rattle.std.proofs.lemmas.Bool.{le-leb, and_from}
 use Rattle.op_table.specs.declared.Op.{Op}
@@ -7,18 +7,18 @@ use Rattle.f77_tree.specs.Grammar.{Written, Arguments, symbol, level, operator_l
 use Rattle.f77_expr.specs.Reader.{read_as, and_then_read, Prefix, prefix_at, operand_level, prefixed, begun, continued, more_arguments, the_readers, expression_at, chain_at, primary_at, arguments_at}
 use Rattle.f77_expr.specs.Reader.Prefix.{Plus, Minus, Negation}
 use Rattle.f77_expr.proofs.EachRead.{if_true}
-use Rattle.f77_expr.proofs.Fronts.{prefix_text, prefix_level}
+use Rattle.f77_expr.proofs.Prefixes.{prefix_text, prefix_level}
 use Rattle.f77_expr.proofs.Spellings.{binary_spelling, call_spelling, bracketed_spelling, before_spelling, prefixed_spelling}
 use Rattle.f77_expr.proofs.Levels.{levels_of, level_most, edge, level_edge, takes_whole}
 use Rattle.f77_expr.proofs.Followers.{is_follower, prefix_none, Stops, stops_more, follower_stops, chain_stops, operator_reads, operator_stops, prefix_reads, truth_no_prefix}
 use Rattle.f77_expr.proofs.Primaries.{number_reads, name_reads, call_reads, bracketed_reads, truth_reads, number_no_prefix, name_no_prefix, first_no_asterisk}
 use Rattle.f77_expr.proofs.Depth.{expression-step, chain-step, arguments-step}
 
--- what is written in front of what stops there is read, and then what goes on behind it
+-- what is written before what stops there is read, and then what goes on after it
 abbrev pub IsReadWhole : Written → Type 0
 IsReadWhole w = (least : ℕ) (text : List ℕ) → least ≤ level w → Stops (edge w) text → expression_at least (spelling w ++ text) ≡ chain_at least w text
 
--- where nothing goes on behind it, it is what is read
+-- where nothing goes on after it, it is what is read
 alone : (w : Written) → IsReadWhole w → (least : ℕ) (text : List ℕ) → least ≤ level w → Stops least text → expression_at least (spelling w ++ text) ≡ Some (w, text)
 alone w whole least text allowed stops =
     let reaches : level w ≤ edge w = level_edge w in
@@ -39,7 +39,7 @@ module _ (least : ℕ) (text : List ℕ) where
 
   from_binary : (op : Op) (a b : Written) → IsReadWhole a → IsReadWhole b → IsGrammatical (Written.binary op a b) → least ≤ operator_level op → Stops (right_level op) text → expression_at least (spelling (Written.binary op a b) ++ text) ≡ chain_at least (Written.binary op a b) text
   from_binary op a b whole_a whole_b h allowed stops =
-      let behind : List ℕ = spelling b ++ text in
+      let beyond : List ℕ = spelling b ++ text in
       let most : level a ≤ 8 = level_most a h.0 in
       let left : left_level op ≤ level a = h.2 in
       let own : operator_level op ≤ left_level op = (levels_of op).from_left in
@@ -47,10 +47,10 @@ module _ (least : ℕ) (text : List ℕ) where
       let starless = first_no_asterisk b h.1 text in
       let goes_on : (nat_le least (operator_level op) && nat_le (left_level op) (level a)) ≡ true = and_from (nat_le least (operator_level op)) (nat_le (left_level op) (level a)) (le-leb least (operator_level op) allowed) (le-leb (left_level op) (level a) left) in
       ap (expression_at least) (binary_spelling op a b text)
-      ∙ whole_a least (symbol op ++ behind) (omega arith) (operator_stops (edge a) op behind real starless (takes_whole op a h.0 left))
-      ∙ chain-step least a (symbol op ++ behind)
-      ∙ ap (continued the_readers least a (symbol op ++ behind)) (operator_reads op behind real starless)
-      ∙ if_true (nat_le least (operator_level op) && nat_le (left_level op) (level a)) (and_then_read (λ right rest. chain_at least (Written.binary op a right) rest) (expression_at (right_level op) behind)) (Some (a, symbol op ++ behind)) goes_on
+      ∙ whole_a least (symbol op ++ beyond) (omega arith) (operator_stops (edge a) op beyond real starless (takes_whole op a h.0 left))
+      ∙ chain-step least a (symbol op ++ beyond)
+      ∙ ap (continued the_readers least a (symbol op ++ beyond)) (operator_reads op beyond real starless)
+      ∙ if_true (nat_le least (operator_level op) && nat_le (left_level op) (level a)) (and_then_read (λ right rest. chain_at least (Written.binary op a right) rest) (expression_at (right_level op) beyond)) (Some (a, symbol op ++ beyond)) goes_on
       ∙ ap (and_then_read (λ right rest. chain_at least (Written.binary op a right) rest)) (alone b whole_b (right_level op) text h.3 stops)
 
 -- the arguments of a call
@@ -64,10 +64,10 @@ from_last w whole text =
 
 from_before : (w : Written) (more : Arguments) → IsReadWhole w → AreReadWhole more → AreReadWhole (Arguments.before w more)
 from_before w more whole others text =
-    let behind : List ℕ = spellings more ++ (41 ∷ text) in
+    let beyond : List ℕ = spellings more ++ (41 ∷ text) in
     ap arguments_at (before_spelling w more (41 ∷ text))
-    ∙ arguments-step (spelling w ++ (44 ∷ behind))
-    ∙ ap (and_then_read (λ v rest. more_arguments the_readers v rest)) (alone w whole 0 (44 ∷ behind) (omega arith) (follower_stops 0 (44 ∷ behind) refl))
+    ∙ arguments-step (spelling w ++ (44 ∷ beyond))
+    ∙ ap (and_then_read (λ v rest. more_arguments the_readers v rest)) (alone w whole 0 (44 ∷ beyond) (omega arith) (follower_stops 0 (44 ∷ beyond) refl))
     ∙ ap (read_as (λ arguments. Arguments.before w arguments)) (others text)
 
 from_bracketed : (w : Written) → IsReadWhole w → IsReadWhole (Written.bracketed w)
@@ -99,6 +99,6 @@ mutual
   are_read_whole (Arguments.last w) h = from_last w (read_whole w h)
   are_read_whole (Arguments.before w more) h = from_before w more (read_whole w h.0) (are_read_whole more h.1)
 
--- in front of what ends an expression, each is read as it is written
-pub read_in_front : (w : Written) (text : List ℕ) → IsGrammatical w → is_follower text ≡ true → expression_at 0 (spelling w ++ text) ≡ Some (w, text)
-read_in_front w text h follows = alone w (read_whole w h) 0 text (omega arith) (follower_stops 0 text follows)
+-- before what ends an expression, each is read as it is written
+pub read_at_start : (w : Written) (text : List ℕ) → IsGrammatical w → is_follower text ≡ true → expression_at 0 (spelling w ++ text) ≡ Some (w, text)
+read_at_start w text h follows = alone w (read_whole w h) 0 text (omega arith) (follower_stops 0 text follows)

@@ -6,7 +6,7 @@ use Rattle.f77_tree.specs.Name.{is_capital, is_figure}
 use Rattle.f77_tree.specs.Grammar.{Written, Arguments, level, operator_level, left_level, right_level}
 use Rattle.f77_expr.specs.Reader.{Reads, read_as, and_then_read, operator_at, Prefix, prefix_at, operand_level, prefixed, truth_at, is_symbolic, closed, Readers, begun, continued, named, primary_by, more_arguments, deeper, readers, enough, expression_at, chain_at, primary_at, arguments_at, the_readers}
 use Rattle.f77_expr.proofs.EachRead.{Each, each_at, if_same, then_same}
-use Rattle.f77_expr.proofs.Fronts.{IsOperatorIn, operator_front, IsPrefixIn, prefix_front, run_shorter}
+use Rattle.f77_expr.proofs.Prefixes.{IsOperatorIn, operator_prefix, IsPrefixIn, prefix_at_start, run_shorter}
 use Rattle.f77_expr.proofs.Descent.{Shorter, readers_shorter}
 
 -- two readers that read alike what this depth suffices for
@@ -57,8 +57,8 @@ module _ (r q : Readers) (depth : ℕ) (s : Shorter r) (agree : Agree r q depth)
       if_same (is_figure c) number number (not_number r) (not_number q) (λ figure. refl)
       (λ no_figure. if_same (is_capital c) (name_or r) (name_or q) (not_name r) (not_name q)
       (λ capital.
-      let less : length behind < length (c ∷ text) = run_shorter is_symbolic c text (or_left (is_capital c) (is_figure c) capital) in
-      if_same (nat_le (length run) 6) (named r run behind) (named q run behind) None None (λ short. same_named run behind (omega arith)) (λ long. refl))
+      let less : length beyond < length (c ∷ text) = run_shorter is_symbolic c text (or_left (is_capital c) (is_figure c) capital) in
+      if_same (nat_le (length run) 6) (named r run beyond) (named q run beyond) None None (λ short. same_named run beyond (omega arith)) (λ long. refl))
       (λ no_capital. if_same (c == 40) (bracket_or r) (bracket_or q) (truth_at (c ∷ text)) (truth_at (c ∷ text))
       (λ bracket. ap (and_then_read (λ w rest. closed (Written.bracketed w) rest)) (agree.expression 0 text (omega arith)))
       (λ none. refl)))
@@ -66,8 +66,8 @@ module _ (r q : Readers) (depth : ℕ) (s : Shorter r) (agree : Agree r q depth)
       run : List ℕ
       run = take_while is_symbolic (c ∷ text)
 
-      behind : List ℕ
-      behind = drop (length (take_while is_symbolic (c ∷ text))) (c ∷ text)
+      beyond : List ℕ
+      beyond = drop (length (take_while is_symbolic (c ∷ text))) (c ∷ text)
 
       number : Reads Written
       number = Some (Written.number (take_while is_figure (c ∷ text)), drop (length (take_while is_figure (c ∷ text))) (c ∷ text))
@@ -76,7 +76,7 @@ module _ (r q : Readers) (depth : ℕ) (s : Shorter r) (agree : Agree r q depth)
       bracket_or one = and_then_read (λ w rest. closed (Written.bracketed w) rest) (one.expression 0 text)
 
       name_or : Readers → Reads Written
-      name_or one = if nat_le (length run) 6 then named one run behind else None
+      name_or one = if nat_le (length run) 6 then named one run beyond else None
 
       not_name : Readers → Reads Written
       not_name one = if c == 40 then bracket_or one else truth_at (c ∷ text)
@@ -86,8 +86,8 @@ module _ (r q : Readers) (depth : ℕ) (s : Shorter r) (agree : Agree r q depth)
 
   deeper_agree : Agree (deeper r) (deeper q) (suc depth)
   deeper_agree = record {
-    expression = λ least text deep. same_begun least text (prefix_at least text) (prefix_front least text) deep;
-    chain = λ least w text deep. same_continued least w text (operator_at text) (operator_front text) deep;
+    expression = λ least text deep. same_begun least text (prefix_at least text) (prefix_at_start least text) deep;
+    chain = λ least w text deep. same_continued least w text (operator_at text) (operator_prefix text) deep;
     primary = λ text deep. same_primary text deep;
     arguments = λ text deep.
         then_same (λ w rest. length rest < length text) (λ w rest. more_arguments r w rest) (λ w rest. more_arguments q w rest) (r.expression 0 text) (q.expression 0 text)

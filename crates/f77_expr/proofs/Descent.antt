@@ -7,7 +7,7 @@ use Rattle.f77_tree.specs.Name.{is_capital, is_figure}
 use Rattle.f77_tree.specs.Grammar.{Written, Arguments, level, operator_level, left_level, right_level}
 use Rattle.f77_expr.specs.Reader.{Reads, read_as, and_then_read, operator_at, Prefix, prefix_at, operand_level, prefixed, truth_at, is_symbolic, closed, Readers, begun, continued, named, primary_by, more_arguments, deeper, readers}
 use Rattle.f77_expr.proofs.EachRead.{Each, each_if, each_then, each_as, each_weaker}
-use Rattle.f77_expr.proofs.Fronts.{IsOperatorIn, operator_front, IsPrefixIn, prefix_front, IsTruthIn, truth_front, run_shorter}
+use Rattle.f77_expr.proofs.Prefixes.{IsOperatorIn, operator_prefix, IsPrefixIn, prefix_at_start, IsTruthIn, truth_prefix, run_shorter}
 
 -- what each rest is shorter than
 abbrev pub Below : {A : Type 0} → ℕ → Reads A → Type 0
@@ -69,13 +69,13 @@ module _ (r : Readers) (s : Shorter r) where
   primary_below [] = tt
   primary_below (c ∷ text) =
       each_if P (is_figure c) (Some (Written.number digits, drop (length digits) whole)) not_number (λ figure. run_shorter is_figure c text figure)
-      (λ no_figure. each_if P (is_capital c) (if nat_le (length run) 6 then named r run behind else None) not_name
-      (λ capital. each_if P (nat_le (length run) 6) (named r run behind) None
-      (λ short. below_less (suc (length behind)) (length whole) (named r run behind) (run_shorter is_symbolic c text (or_left (is_capital c) (is_figure c) capital)) (named_below run behind))
+      (λ no_figure. each_if P (is_capital c) (if nat_le (length run) 6 then named r run beyond else None) not_name
+      (λ capital. each_if P (nat_le (length run) 6) (named r run beyond) None
+      (λ short. below_less (suc (length beyond)) (length whole) (named r run beyond) (run_shorter is_symbolic c text (or_left (is_capital c) (is_figure c) capital)) (named_below run beyond))
       (λ long. tt))
       (λ no_capital. each_if P (c == 40) (and_then_read (λ w rest. closed (Written.bracketed w) rest) (r.expression 0 text)) (truth_at whole)
       (λ bracket. each_then (λ w rest. length rest < length text) P (λ w rest. closed (Written.bracketed w) rest) (r.expression 0 text) (s.expression 0 text) (λ w rest lt. closed_below (length whole) (Written.bracketed w) rest (omega arith)))
-      (λ none. each_weaker (λ w rest. IsTruthIn whole w rest) P (truth_at whole) (λ w rest is. is.3) (truth_front whole))))
+      (λ none. each_weaker (λ w rest. IsTruthIn whole w rest) P (truth_at whole) (λ w rest is. is.3) (truth_prefix whole))))
     where
       P : Written → List ℕ → Type 0
       P w rest = length rest < suc (length text)
@@ -89,19 +89,19 @@ module _ (r : Readers) (s : Shorter r) where
       run : List ℕ
       run = take_while is_symbolic (c ∷ text)
 
-      behind : List ℕ
-      behind = drop (length (take_while is_symbolic (c ∷ text))) (c ∷ text)
+      beyond : List ℕ
+      beyond = drop (length (take_while is_symbolic (c ∷ text))) (c ∷ text)
 
       not_name : Reads Written
       not_name = if c == 40 then and_then_read (λ w rest. closed (Written.bracketed w) rest) (r.expression 0 text) else truth_at (c ∷ text)
 
       not_number : Reads Written
-      not_number = if is_capital c then (if nat_le (length run) 6 then named r run behind else None) else not_name
+      not_number = if is_capital c then (if nat_le (length run) 6 then named r run beyond else None) else not_name
 
   deeper_shorter : Shorter (deeper r)
   deeper_shorter = record {
-    expression = λ least text. begun_below least text (prefix_at least text) (prefix_front least text);
-    chain = λ least w text. continued_below least w text (operator_at text) (operator_front text);
+    expression = λ least text. begun_below least text (prefix_at least text) (prefix_at_start least text);
+    chain = λ least w text. continued_below least w text (operator_at text) (operator_prefix text);
     primary = λ text. primary_below text;
     arguments = λ text. each_then (λ w rest. length rest < length text) (λ arguments rest. length rest < length text) (λ w rest. more_arguments r w rest) (r.expression 0 text) (s.expression 0 text)
         (λ w rest lt. below_less (suc (length rest)) (length text) (more_arguments r w rest) (omega arith) (more_below w rest));

@@ -1,8 +1,8 @@
--- What holds of each answer of a reader, and readers one behind another.
+-- What holds of each answer of a reader, and readers one after another.
 use Rattle.std.proofs.Common.{◌≡◌, ℕ, Bool, true, false, List, Option, Some, None, if◌then◌else◌, refl, ap, subst, ◌∙◌}
 use Rattle.f77_expr.specs.Reader.{Reads, read_as, and_then_read, this_or}
 
--- nothing is read, or what is read and the rest behind it are related so
+-- nothing is read, or what is read and the rest after it are related so
 abbrev pub Each : {A : Type 0} → (A → List ℕ → Type 0) → Reads A → Type 0
 Each P None = Unit {0}
 Each P (Some (a, rest)) = P a rest
@@ -34,7 +34,7 @@ module _ {A B : Type 0} (P : A → List ℕ → Type 0) (Q : B → List ℕ → 
   each_as f (Some (a, rest)) h k = k a rest h
 
 module _ {A B : Type 0} where
-  -- the same is read, and what goes on behind it agrees there
+  -- the same is read, and what goes on after it agrees there
   pub then_same : (P : A → List ℕ → Type 0) (go other : A → List ℕ → Reads B) (x y : Reads A) → x ≡ y → Each P x → ((a : A) (rest : List ℕ) → P a rest → go a rest ≡ other a rest) → and_then_read go x ≡ and_then_read other y
   then_same P go other x y e h k = same x h ∙ ap (and_then_read other) e
     where

@@ -1,26 +1,26 @@
--- What may stand behind an expression, and behind a name or a number.
+-- What may stand after an expression, and after a name or a number.
 use Rattle.std.proofs.Common.{◌≡◌, ◌==◌, ℕ, ◌<◌, ◌≤◌, Bool, true, false, List, [], ◌∷◌, ◌++◌, Option, Some, None, if◌then◌else◌, ◌&&◌, ◌||◌, not, nat_le, codes, refl, sym, ap, subst, ◌∙◌, ⊎_elim, arith}
 use Rattle.std.proofs.lemmas.Bool.{not-true, eqb-true, and_parts, and_left, lt-leb, le-leb, or_cases}
 use Rattle.op_table.specs.declared.Op.{Op}
 use Rattle.op_table.specs.declared.Op.TheVariants.{Add, Sub, Mul, Div, Pow, Lt, Le, Eq, Ne, Ge, Gt, And, Or, Eqv, Neqv}
 use Rattle.f77_tree.specs.Grammar.{Written, symbol, level, operator_level, left_level, right_level, truth_text}
-use Rattle.f77_expr.specs.Reader.{Reads, after_front, this_or, operator_at, Prefix, prefix_at, is_symbolic, continued, and_then_read, the_readers, expression_at, chain_at}
+use Rattle.f77_expr.specs.Reader.{Reads, after_prefix, this_or, operator_at, Prefix, prefix_at, is_symbolic, continued, and_then_read, the_readers, expression_at, chain_at}
 use Rattle.f77_expr.specs.Reader.Prefix.{Plus, Minus, Negation}
 use Rattle.f77_expr.proofs.EachRead.{Each, each_weaker}
-use Rattle.f77_expr.proofs.Fronts.{prefix_text, prefix_level}
+use Rattle.f77_expr.proofs.Prefixes.{prefix_text, prefix_level}
 use Rattle.f77_expr.proofs.Depth.{chain-step}
 
--- nothing, or a comma, a closing bracket, an equals sign or a colon in front
+-- nothing, or a comma, a closing bracket, an equals sign or a colon first
 abbrev pub is_follower : List ℕ → Bool
 is_follower [] = true
 is_follower (c ∷ more) = c == 44 || c == 41 || c == 61 || c == 58
 
--- no character in front that goes on with a name or a number, or opens a bracket behind a name
+-- no character first that goes on with a name or a number, or opens a bracket after a name
 abbrev pub breaks_off : List ℕ → Bool
 breaks_off [] = true
 breaks_off (c ∷ more) = not (is_symbolic c || c == 40)
 
--- what may stand behind an operand: nothing goes on with it, and an operator in front is of a level below this one
+-- what may stand after an operand: nothing goes on with it, and an operator first is of a level below this one
 pub record Stops (edge_level : ℕ) (text : List ℕ) : Type 0 where
   pub breaks : breaks_off text ≡ true
   pub operator : Each (λ op rest. operator_level op < edge_level) (operator_at text)
@@ -60,7 +60,7 @@ chain_stops least w text stops = chain-step least w text ∙ here (operator_at t
 
 -- ---- operators and prefixes are read as they are written
 
--- no asterisk in front
+-- no asterisk first
 abbrev pub no_asterisk : List ℕ → Bool
 no_asterisk [] = true
 no_asterisk (c ∷ more) = not (42 == c)
@@ -123,7 +123,7 @@ prefix_reads least Minus text allowed =
     either_same (nat_le least 3) (if nat_le least 5 then Some (Minus, text) else None) (Some (Minus, text)) (ap (λ b. if b then Some (Minus, text) else None) (le-leb least 5 allowed))
 prefix_reads least Negation text allowed = ap (λ b. if b then Some (Negation, text) else (if nat_le least 5 then None else None)) (le-leb least 3 allowed)
 
--- no character in front that begins a prefix or a logical constant
+-- no first character that begins a prefix or a logical constant
 abbrev pub no_prefix : List ℕ → Bool
 no_prefix [] = true
 no_prefix (c ∷ more) = not (43 == c) && not (45 == c) && not (46 == c)
@@ -132,11 +132,11 @@ pub prefix_none : (least c : ℕ) (more : List ℕ) → no_prefix (c ∷ more) �
 prefix_none least c more h =
     let last_two = and_parts (not (43 == c) && not (45 == c)) (not (46 == c)) h in
     let first_two = and_parts (not (43 == c)) (not (45 == c)) last_two.0 in
-    let plus_none : after_front (codes "+") (c ∷ more) ≡ None = ap (λ b. if b then Some more else None) (not-true (43 == c) first_two.0) in
-    let minus_none : after_front (codes "-") (c ∷ more) ≡ None = ap (λ b. if b then Some more else None) (not-true (45 == c) first_two.1) in
-    let word_none : after_front (codes ".NOT.") (c ∷ more) ≡ None = ap (λ b. if b then after_front (codes "NOT.") more else None) (not-true (46 == c) last_two.1) in
-    ap (λ word. prefix_of word (after_front (codes "+") (c ∷ more)) (after_front (codes "-") (c ∷ more))) word_none
-    ∙ ap (λ sign. prefix_of None sign (after_front (codes "-") (c ∷ more))) plus_none
+    let plus_none : after_prefix (codes "+") (c ∷ more) ≡ None = ap (λ b. if b then Some more else None) (not-true (43 == c) first_two.0) in
+    let minus_none : after_prefix (codes "-") (c ∷ more) ≡ None = ap (λ b. if b then Some more else None) (not-true (45 == c) first_two.1) in
+    let word_none : after_prefix (codes ".NOT.") (c ∷ more) ≡ None = ap (λ b. if b then after_prefix (codes "NOT.") more else None) (not-true (46 == c) last_two.1) in
+    ap (λ word. prefix_of word (after_prefix (codes "+") (c ∷ more)) (after_prefix (codes "-") (c ∷ more))) word_none
+    ∙ ap (λ sign. prefix_of None sign (after_prefix (codes "-") (c ∷ more))) plus_none
     ∙ ap (λ sign. prefix_of None None sign) minus_none
     ∙ either_same (nat_le least 3) (if nat_le least 5 then None else None) None (either_same (nat_le least 5) None None refl)
   where

@@ -57,7 +57,7 @@ level_most (Written.minus w) h = omega arith
 level_most (Written.negation w) h = omega arith
 level_most (Written.binary op a b) h = let below = level_most a h.0 in omega (arith, below, h.2, (levels_of op).from_left)
 
--- the level below which an operator behind the expression must be, so that it takes the whole of it
+-- the level below which an operator after the expression must be, so that it takes the whole of it
 abbrev pub edge : Written → ℕ
 edge (Written.plus w) = 6
 edge (Written.minus w) = 6
@@ -76,13 +76,13 @@ level_edge (Written.minus w) = omega arith
 level_edge (Written.negation w) = omega arith
 level_edge (Written.binary op a b) = (levels_of op).from_right
 
--- an operator behind another
-behind_operator : (own left right own_before right_before : ℕ) → (left ≤ 6) ⊎ (8 ≤ left) → (right_before ≡ suc own_before) ⊎ (7 ≤ own_before) → own ≤ left → own ≤ 7 → own_before ≤ right_before → left ≤ own_before → own < right_before
-behind_operator own left right own_before right_before no_power grouped from_left own_few from_right fits =
+-- an operator after another
+after_operator : (own left right own_before right_before : ℕ) → (left ≤ 6) ⊎ (8 ≤ left) → (right_before ≡ suc own_before) ⊎ (7 ≤ own_before) → own ≤ left → own ≤ 7 → own_before ≤ right_before → left ≤ own_before → own < right_before
+after_operator own left right own_before right_before no_power grouped from_left own_few from_right fits =
     ⊎_elim (λ (next : right_before ≡ suc own_before). omega arith)
     (λ (high : 7 ≤ own_before). ⊎_elim (λ (few : left ≤ 6). omega arith) (λ (many : 8 ≤ left). omega arith) no_power) grouped
 
--- an operator that may have an expression on its left takes the whole of it: no operand in it reaches behind
+-- an operator that may have an expression on its left takes the whole of it: no operand in it reaches after
 pub takes_whole : (op : Op) (a : Written) → IsGrammatical a → left_level op ≤ level a → operator_level op < edge a
 takes_whole op (Written.number digits) h fits = omega (arith, ((levels_of op).allowed fits).1)
 takes_whole op (Written.truth b) h fits = omega (arith, ((levels_of op).allowed fits).1)
@@ -95,5 +95,5 @@ takes_whole op (Written.negation w) h fits = omega (arith, (levels_of op).from_l
 takes_whole op (Written.binary before a b) h fits =
     let most : operator_level before ≤ 8 = level_most (Written.binary before a b) h in
     let few : left_level op ≤ 8 = omega (arith, fits, most) in
-    behind_operator (operator_level op) (left_level op) (right_level op) (operator_level before) (right_level before)
+    after_operator (operator_level op) (left_level op) (right_level op) (operator_level before) (right_level before)
     (levels_of op).no_power (levels_of before).grouped (levels_of op).from_left ((levels_of op).allowed few).1 (levels_of before).from_right fits

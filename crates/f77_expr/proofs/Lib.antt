@@ -1,5 +1,5 @@
 pub mod EachRead
-pub mod Fronts
+pub mod Prefixes
 pub mod Descent
 pub mod Completeness
 pub mod Depth

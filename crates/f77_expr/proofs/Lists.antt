@@ -8,9 +8,9 @@ use Rattle.f77_expr.specs.Answers.{passed, kept, kept_arguments, IsRead, AreRead
 use Rattle.f77_expr.proofs.Depth.{arguments-step}
 
 -- arguments with others before them
-abbrev pub behind : List Written → Arguments → Arguments
-behind [] arguments = arguments
-behind (w ∷ before) arguments = Arguments.before w (behind before arguments)
+abbrev pub beyond : List Written → Arguments → Arguments
+beyond [] arguments = arguments
+beyond (w ∷ before) arguments = Arguments.before w (beyond before arguments)
 
 abbrev pub some_great : List Written → Bool
 some_great [] = false
@@ -20,7 +20,7 @@ some_great (w ∷ before) = has_great_number w || some_great before
 pub record AreBegun (text : List ℕ) (great : Bool) (es : List RawExpr) (rest : List ℕ) (great_now : Bool) : Type 0 where
   pub before : List Written
   pub written : Written
-  pub go_on : arguments_at text ≡ read_as (λ arguments. behind before arguments) (more_arguments the_readers written rest)
+  pub go_on : arguments_at text ≡ read_as (λ arguments. beyond before arguments) (more_arguments the_readers written rest)
   pub are_kept : es ≡ map kept before ++ kept written ∷ []
   pub is_great : great_now ≡ ((great || some_great before) || has_great_number written)
   pub few : length es + length rest ≤ length text
@@ -28,25 +28,25 @@ pub record AreBegun (text : List ℕ) (great : Bool) (es : List RawExpr) (rest :
 
 -- ---- lists of arguments
 
-behind-more : (before : List Written) (w : Written) (arguments : Arguments) → behind (before ++ w ∷ []) arguments ≡ behind before (Arguments.before w arguments)
-behind-more [] w arguments = refl
-behind-more (v ∷ before) w arguments = ap (λ more. Arguments.before v more) (behind-more before w arguments)
+after-more : (before : List Written) (w : Written) (arguments : Arguments) → beyond (before ++ w ∷ []) arguments ≡ beyond before (Arguments.before w arguments)
+after-more [] w arguments = refl
+after-more (v ∷ before) w arguments = ap (λ more. Arguments.before v more) (after-more before w arguments)
 
-read-behind : (before : List Written) (w : Written) (found : Reads Arguments) → read_as (λ arguments. behind before arguments) (read_as (λ more. Arguments.before w more) found) ≡ read_as (λ arguments. behind (before ++ w ∷ []) arguments) found
-read-behind before w None = refl
-read-behind before w (Some (arguments, rest)) = ap (λ a. Some (a, rest)) (sym (behind-more before w arguments))
+read-after : (before : List Written) (w : Written) (found : Reads Arguments) → read_as (λ arguments. beyond before arguments) (read_as (λ more. Arguments.before w more) found) ≡ read_as (λ arguments. beyond (before ++ w ∷ []) arguments) found
+read-after before w None = refl
+read-after before w (Some (arguments, rest)) = ap (λ a. Some (a, rest)) (sym (after-more before w arguments))
 
-read-as_it_is : (found : Reads Arguments) → read_as (λ arguments. behind [] arguments) found ≡ found
+read-as_it_is : (found : Reads Arguments) → read_as (λ arguments. beyond [] arguments) found ≡ found
 read-as_it_is None = refl
 read-as_it_is (Some (arguments, rest)) = refl
 
-kept-behind : (before : List Written) (w : Written) → kept_arguments (behind before (Arguments.last w)) ≡ map kept before ++ kept w ∷ []
-kept-behind [] w = refl
-kept-behind (v ∷ before) w = ap (λ es. kept v ∷ es) (kept-behind before w)
+kept-after : (before : List Written) (w : Written) → kept_arguments (beyond before (Arguments.last w)) ≡ map kept before ++ kept w ∷ []
+kept-after [] w = refl
+kept-after (v ∷ before) w = ap (λ es. kept v ∷ es) (kept-after before w)
 
-great-behind : (before : List Written) (w : Written) → have_great_number (behind before (Arguments.last w)) ≡ (some_great before || has_great_number w)
-great-behind [] w = refl
-great-behind (v ∷ before) w = ap (λ g. has_great_number v || g) (great-behind before w) ∙ sym (or_assoc (has_great_number v) (some_great before) (has_great_number w))
+great-after : (before : List Written) (w : Written) → have_great_number (beyond before (Arguments.last w)) ≡ (some_great before || has_great_number w)
+great-after [] w = refl
+great-after (v ∷ before) w = ap (λ g. has_great_number v || g) (great-after before w) ∙ sym (or_assoc (has_great_number v) (some_great before) (has_great_number w))
 
 pub or-false : (b : Bool) → (b || false) ≡ b
 or-false true = refl
@@ -60,7 +60,7 @@ kept-more : (before : List Written) (w : Written) (es : List RawExpr) → map ke
 kept-more [] w es = refl
 kept-more (v ∷ before) w es = ap (λ fs. kept v ∷ fs) (kept-more before w es)
 
--- ---- what stands behind an argument
+-- ---- what stands after an argument
 
 -- a character that was passed
 pub passed-shorter : (c : ℕ) (text rest : List ℕ) → passed c text ≡ Some rest → length text ≡ suc (length rest)
@@ -122,15 +122,15 @@ module _ (text : List ℕ) (great : Bool) where
   no_first e = arguments-step text ∙ ap (λ found. and_then_read (λ w tail. more_arguments the_readers w tail) found) e
 
   module _ (es : List RawExpr) (rest : List ℕ) (great_now : Bool) (b : AreBegun text great es rest great_now) where
-    comma-go_on : (behind_comma : List ℕ) → passed 44 rest ≡ Some behind_comma → arguments_at text ≡ read_as (λ arguments. behind (b.before ++ b.written ∷ []) arguments) (arguments_at behind_comma)
-    comma-go_on behind_comma comma =
-        b.go_on ∙ ap (λ found. read_as (λ arguments. behind b.before arguments) found) (passed-comma the_readers b.written rest behind_comma comma) ∙ read-behind b.before b.written (arguments_at behind_comma)
+    comma-go_on : (after_comma : List ℕ) → passed 44 rest ≡ Some after_comma → arguments_at text ≡ read_as (λ arguments. beyond (b.before ++ b.written ∷ []) arguments) (arguments_at after_comma)
+    comma-go_on after_comma comma =
+        b.go_on ∙ ap (λ found. read_as (λ arguments. beyond b.before arguments) found) (passed-comma the_readers b.written rest after_comma comma) ∙ read-after b.before b.written (arguments_at after_comma)
 
-    -- one more behind a comma
-    pub next_argument : (behind_comma : List ℕ) (e : RawExpr) (rest_now : List ℕ) (great_later : Bool) → passed 44 rest ≡ Some behind_comma → IsRead behind_comma great_now (expression_at 0 behind_comma) e rest_now great_later → AreBegun text great (es ++ e ∷ []) rest_now great_later
-    next_argument behind_comma e rest_now great_later comma i =
-        let next = arguments-step behind_comma ∙ ap (λ found. and_then_read (λ w tail. more_arguments the_readers w tail) found) i.is_read in
-        let passed_shorter = passed-shorter 44 rest behind_comma comma in
+    -- one more after a comma
+    pub next_argument : (after_comma : List ℕ) (e : RawExpr) (rest_now : List ℕ) (great_later : Bool) → passed 44 rest ≡ Some after_comma → IsRead after_comma great_now (expression_at 0 after_comma) e rest_now great_later → AreBegun text great (es ++ e ∷ []) rest_now great_later
+    next_argument after_comma e rest_now great_later comma i =
+        let next = arguments-step after_comma ∙ ap (λ found. and_then_read (λ w tail. more_arguments the_readers w tail) found) i.is_read in
+        let passed_shorter = passed-shorter 44 rest after_comma comma in
         let few = b.few in
         let shorter = b.shorter in
         let less = i.shorter in
@@ -138,29 +138,29 @@ module _ (text : List ℕ) (great : Bool) where
         record {
           before = b.before ++ b.written ∷ [];
           written = i.written;
-          go_on = comma-go_on behind_comma comma ∙ ap (λ found. read_as (λ arguments. behind (b.before ++ b.written ∷ []) arguments) found) next;
+          go_on = comma-go_on after_comma comma ∙ ap (λ found. read_as (λ arguments. beyond (b.before ++ b.written ∷ []) arguments) found) next;
           are_kept = ap (λ fs. fs ++ e ∷ []) b.are_kept ∙ ap (λ f. (map kept b.before ++ kept b.written ∷ []) ++ f ∷ []) i.is_kept ∙ sym (kept-more b.before b.written (kept i.written ∷ []));
           is_great = i.is_great ∙ ap (λ g. g || has_great_number i.written) (b.is_great ∙ or_assoc great (some_great b.before) (has_great_number b.written) ∙ ap (λ g. great || g) (sym (great-more b.before b.written)));
           few = omega arith;
           shorter = omega arith;
         }
 
-    pub no_next : (behind_comma : List ℕ) → passed 44 rest ≡ Some behind_comma → expression_at 0 behind_comma ≡ None → arguments_at text ≡ None
-    no_next behind_comma comma e =
-        comma-go_on behind_comma comma ∙ ap (λ found. read_as (λ arguments. behind (b.before ++ b.written ∷ []) arguments) found) (arguments-step behind_comma ∙ ap (λ found. and_then_read (λ w tail. more_arguments the_readers w tail) found) e)
+    pub no_next : (after_comma : List ℕ) → passed 44 rest ≡ Some after_comma → expression_at 0 after_comma ≡ None → arguments_at text ≡ None
+    no_next after_comma comma e =
+        comma-go_on after_comma comma ∙ ap (λ found. read_as (λ arguments. beyond (b.before ++ b.written ∷ []) arguments) found) (arguments-step after_comma ∙ ap (λ found. and_then_read (λ w tail. more_arguments the_readers w tail) found) e)
 
     -- the bracket that closes them
-    pub last_argument : (behind_bracket : List ℕ) → passed 44 rest ≡ None → passed 41 rest ≡ Some behind_bracket → AreRead text great (arguments_at text) es behind_bracket great_now
-    last_argument behind_bracket no_comma bracket =
-        let passed_shorter = passed-shorter 41 rest behind_bracket bracket in
+    pub last_argument : (after_bracket : List ℕ) → passed 44 rest ≡ None → passed 41 rest ≡ Some after_bracket → AreRead text great (arguments_at text) es after_bracket great_now
+    last_argument after_bracket no_comma bracket =
+        let passed_shorter = passed-shorter 41 rest after_bracket bracket in
         let shorter = b.shorter in
         record {
-          written = behind b.before (Arguments.last b.written);
-          are_read = b.go_on ∙ ap (λ found. read_as (λ arguments. behind b.before arguments) found) (passed-end the_readers b.written rest behind_bracket no_comma bracket);
-          are_kept = b.are_kept ∙ sym (kept-behind b.before b.written);
-          is_great = b.is_great ∙ or_assoc great (some_great b.before) (has_great_number b.written) ∙ ap (λ g. great || g) (sym (great-behind b.before b.written));
+          written = beyond b.before (Arguments.last b.written);
+          are_read = b.go_on ∙ ap (λ found. read_as (λ arguments. beyond b.before arguments) found) (passed-end the_readers b.written rest after_bracket no_comma bracket);
+          are_kept = b.are_kept ∙ sym (kept-after b.before b.written);
+          is_great = b.is_great ∙ or_assoc great (some_great b.before) (has_great_number b.written) ∙ ap (λ g. great || g) (sym (great-after b.before b.written));
           shorter = omega arith;
         }
 
     pub no_bracket : passed 44 rest ≡ None → passed 41 rest ≡ None → arguments_at text ≡ None
-    no_bracket no_comma none = b.go_on ∙ ap (λ found. read_as (λ arguments. behind b.before arguments) found) (passed-neither the_readers b.written rest no_comma none)
+    no_bracket no_comma none = b.go_on ∙ ap (λ found. read_as (λ arguments. beyond b.before arguments) found) (passed-neither the_readers b.written rest no_comma none)

@@ -7,7 +7,7 @@ use Rattle.std.proofs.lemmas.List.{at_drop_more}
 use lib.Pointwise.{pointwise}
 use Rattle.op_table.specs.declared.Op.{Op}
 use Rattle.f77_tree.specs.Grammar.{symbol}
-use Rattle.f77_expr.specs.Reader.{after_front, this_or, operator_among, operator_at}
+use Rattle.f77_expr.specs.Reader.{after_prefix, this_or, operator_among, operator_at}
 use Rattle.f77_expr.specs.Answers.{begins_operator}
 
 eqb-swapped : (a b : ℕ) → eqb a b ≡ eqb b a
@@ -17,23 +17,23 @@ eqb-swapped a b = by (eqb a b) refl
     by true e = sym (eq-eqb b a (sym (eqb-true a b e)))
     by false e = sym (ne_eqb b a (λ same. eqb-false a b e (sym same)))
 
--- a front is what a text begins with, character by character
-front_tested : (front text : List ℕ) → after_front front text ≡ (if pointwise eqb (take (length front) text) front then Some (drop (length front) text) else None)
-front_tested [] text = refl
-front_tested (c ∷ front) [] = refl
-front_tested (c ∷ front) (d ∷ text) = by (eqb c d) (eqb-swapped d c) (front_tested front text)
+-- a prefix is what a text begins with, character by character
+prefix_tested : (prefix text : List ℕ) → after_prefix prefix text ≡ (if pointwise eqb (take (length prefix) text) prefix then Some (drop (length prefix) text) else None)
+prefix_tested [] text = refl
+prefix_tested (c ∷ prefix) [] = refl
+prefix_tested (c ∷ prefix) (d ∷ text) = by (eqb c d) (eqb-swapped d c) (prefix_tested prefix text)
   where
-    by : (b : Bool) → eqb d c ≡ b → after_front front text ≡ (if pointwise eqb (take (length front) text) front then Some (drop (length front) text) else None) → (if b then after_front front text else None) ≡ (if eqb d c && pointwise eqb (take (length front) text) front then Some (drop (length front) text) else None)
+    by : (b : Bool) → eqb d c ≡ b → after_prefix prefix text ≡ (if pointwise eqb (take (length prefix) text) prefix then Some (drop (length prefix) text) else None) → (if b then after_prefix prefix text else None) ≡ (if eqb d c && pointwise eqb (take (length prefix) text) prefix then Some (drop (length prefix) text) else None)
     by true e ih = rw e ih
     by false e ih = rw e refl
 
--- what taking a front off a text gives
-pub front_stripped : (front text : List ℕ) (r : Option (Bor (List ℕ))) → MatchOption r (pointwise eqb (take (length front) text) front ≡ false) (λ x. (pointwise eqb (take (length front) text) front ≡ true) × (x.now ≡ drop (length front) text) × (length x.now + length front ≡ length text)) → option_copied r ≡ after_front front text
-front_stripped front text None h = sym (front_tested front text ∙ ap (λ b. if b then Some (drop (length front) text) else None) h)
-front_stripped front text (Some x) h = ap (λ (rest : List ℕ). Some rest) h.1 ∙ sym (front_tested front text ∙ ap (λ b. if b then Some (drop (length front) text) else None) h.0)
+-- what taking a prefix off a text gives
+pub prefix_stripped : (prefix text : List ℕ) (r : Option (Bor (List ℕ))) → MatchOption r (pointwise eqb (take (length prefix) text) prefix ≡ false) (λ x. (pointwise eqb (take (length prefix) text) prefix ≡ true) × (x.now ≡ drop (length prefix) text) × (length x.now + length prefix ≡ length text)) → option_copied r ≡ after_prefix prefix text
+prefix_stripped prefix text None h = sym (prefix_tested prefix text ∙ ap (λ b. if b then Some (drop (length prefix) text) else None) h)
+prefix_stripped prefix text (Some x) h = ap (λ (rest : List ℕ). Some rest) h.1 ∙ sym (prefix_tested prefix text ∙ ap (λ b. if b then Some (drop (length prefix) text) else None) h.0)
 
--- the first of some operators doesn't stand in front: one of the others may
-pub among_missed : (ops : List Op) (i : ℕ) (d : Op) (text : List ℕ) → i < length ops → after_front (symbol (get_or ops i d)) text ≡ None → operator_among (drop i ops) text ≡ operator_among (drop (i + 1) ops) text
+-- the first of some operators doesn't come first: one of the others may
+pub among_missed : (ops : List Op) (i : ℕ) (d : Op) (text : List ℕ) → i < length ops → after_prefix (symbol (get_or ops i d)) text ≡ None → operator_among (drop i ops) text ≡ operator_among (drop (i + 1) ops) text
 among_missed ops i d text lt e =
     at_drop_more (λ rest. operator_among rest text) ops i d lt ∙ ap (λ tail. this_or (get_or ops i d) tail (operator_among (drop (i + 1) ops) text)) e
 

@@ -6,14 +6,14 @@ use Rattle.f77_tree.specs.Grammar.{Written, IsGrammatical, IsWritten, spelling}
 use Rattle.f77_expr.specs.Piece.{Open, nothing_open, open_after, ends_piece, piece_from, piece, deepest_from}
 use Rattle.f77_expr.specs.Reader.{expression_at}
 use Rattle.f77_expr.proofs.EachRead.{if_true}
-use Rattle.f77_expr.proofs.Fronts.{drop_front}
+use Rattle.f77_expr.proofs.Prefixes.{drop_prefix}
 use Rattle.f77_expr.proofs.Followers.{is_follower}
 use Rattle.f77_expr.proofs.Spelled.{expression_spells}
 use Rattle.f77_expr.proofs.Soundness.{expression_sound}
-use Rattle.f77_expr.proofs.Completeness.{read_in_front}
+use Rattle.f77_expr.proofs.Completeness.{read_at_start}
 use Rattle.f77_expr.proofs.Quiet.{brackets_open, quiet_written}
 
--- the piece and what stands behind it are the text
+-- the piece and what stands after it are the text
 pub piece_and_rest : (open_now : Open) (text : List ℕ) → piece_from open_now text ++ drop (length (piece_from open_now text)) text ≡ text
 piece_and_rest open_now [] = refl
 piece_and_rest open_now (c ∷ more) = here (ends_piece open_now c) (piece_and_rest (open_after open_now c) more)
@@ -26,10 +26,10 @@ piece_and_rest open_now (c ∷ more) = here (ends_piece open_now c) (piece_and_r
 follower_from : (open_now : Open) (c : ℕ) → ends_piece open_now c ≡ true → (c == 44 || c == 41 || c == 61 || c == 58) ≡ true
 follower_from open_now c e = (and_parts (not open_now.quoted && (open_now.brackets == 0)) (c == 44 || c == 41 || c == 61 || c == 58) e).1
 
--- nothing stands behind the piece, or what may follow an expression
-pub behind_piece : (open_now : Open) (text : List ℕ) → is_follower (drop (length (piece_from open_now text)) text) ≡ true
-behind_piece open_now [] = refl
-behind_piece open_now (c ∷ more) = here (ends_piece open_now c) refl (behind_piece (open_after open_now c) more)
+-- nothing stands after the piece, or what may follow an expression
+pub after_piece : (open_now : Open) (text : List ℕ) → is_follower (drop (length (piece_from open_now text)) text) ≡ true
+after_piece open_now [] = refl
+after_piece open_now (c ∷ more) = here (ends_piece open_now c) refl (after_piece (open_after open_now c) more)
   where
     here : (b : Bool) → ends_piece open_now c ≡ b → is_follower (drop (length (piece_from (open_after open_now c) more)) more) ≡ true → is_follower (drop (length (if b then [] else (c ∷ piece_from (open_after open_now c) more))) (c ∷ more)) ≡ true
     here true e ih = follower_from open_now c e
@@ -49,17 +49,17 @@ piece_spelled w text h ends =
 pub read_piece : (text : List ℕ) (w : Written) → IsWritten (piece text) w → expression_at 0 text ≡ Some (w, drop (length (piece text)) text)
 read_piece text w is =
     let rest : List ℕ = drop (length (piece text)) text in
-    let whole : spelling w ++ rest ≡ text = ap (λ front. front ++ rest) is.is ∙ piece_and_rest nothing_open text in
-    ap (expression_at 0) (sym whole) ∙ read_in_front w rest is.grammatical (behind_piece nothing_open text)
+    let whole : spelling w ++ rest ≡ text = ap (λ prefix. prefix ++ rest) is.is ∙ piece_and_rest nothing_open text in
+    ap (expression_at 0) (sym whole) ∙ read_at_start w rest is.grammatical (after_piece nothing_open text)
 
 -- and what is read from the text up to the end of the piece is what the piece is
 pub piece_read : (text : List ℕ) (w : Written) (rest : List ℕ) → expression_at 0 text ≡ Some (w, rest) → piece rest ≡ [] → IsWritten (piece text) w × (rest ≡ drop (length (piece text)) text)
 piece_read text w rest e ends =
     let grammatical : IsGrammatical w = (expression_sound 0 text w rest (omega arith) e).0 in
     let whole : spelling w ++ rest ≡ text = expression_spells 0 text w rest e in
-    let front : piece text ≡ spelling w = ap piece (sym whole) ∙ piece_spelled w rest grammatical ends in (
-      record { grammatical = grammatical; is = sym front },
-      sym (drop_front (spelling w) rest) ∙ ap (λ t. drop (length (spelling w)) t) whole ∙ ap (λ (xs : List ℕ). drop (length xs) text) (sym front),
+    let prefix : piece text ≡ spelling w = ap piece (sym whole) ∙ piece_spelled w rest grammatical ends in (
+      record { grammatical = grammatical; is = sym prefix },
+      sym (drop_prefix (spelling w) rest) ∙ ap (λ t. drop (length (spelling w)) t) whole ∙ ap (λ (xs : List ℕ). drop (length xs) text) (sym prefix),
     )
 
 not_quote : (c : ℕ) → not (c == 39) ≡ true → c ≢ 39
@@ -70,13 +70,13 @@ pub no_apostrophe : (w : Written) → IsGrammatical w → All (λ c. c ≢ 39) (
 no_apostrophe w h k d inside =
     not_quote (slice_index_or (spelling w) k d) (AllPass-from_list_all (λ c. not (c == 39)) (spelling w) (quiet_written w h).no_apostrophe k d inside)
 
--- behind an expression the same is open as before it
+-- after an expression the same is open as before it
 pub brackets_close : (w : Written) (open_now : Open) → IsGrammatical w → open_now.quoted ≡ false → fold open_after open_now (spelling w) ≡ open_now
 brackets_close w open_now h unquoted =
     let same : open_now ≡ brackets_open open_now.brackets = ap (λ (q : Bool). record { quoted = q; brackets = open_now.brackets }) unquoted in
     ap (λ before. fold open_after before (spelling w)) same ∙ (quiet_written w h).comes_back open_now.brackets (omega arith) ∙ sym same
 
--- the greatest number of open brackets over one text and another behind it
+-- the greatest number of open brackets over one text and another after it
 open_least : (open_now : Open) (text : List ℕ) → open_now.brackets ≤ deepest_from open_now text
 open_least open_now [] = omega arith
 open_least open_now (c ∷ more) = omega arith

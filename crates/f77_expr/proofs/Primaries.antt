@@ -6,7 +6,7 @@ use Rattle.f77_tree.specs.Name.{is_capital, is_figure, is_name}
 use Rattle.f77_tree.specs.Grammar.{Written, Arguments, symbol, IsGrammatical, is_number, spelling, spellings, truth_text}
 use Rattle.f77_expr.specs.Reader.{Reads, read_as, and_then_read, is_symbolic, closed, named, the_readers, expression_at, primary_at, arguments_at}
 use Rattle.f77_expr.proofs.EachRead.{if_true, if_false}
-use Rattle.f77_expr.proofs.Fronts.{run_ends, whole_run, drop_front}
+use Rattle.f77_expr.proofs.Prefixes.{run_ends, whole_run, drop_prefix}
 use Rattle.f77_expr.specs.Reader.{prefix_at}
 use Rattle.f77_expr.specs.Reader.Prefix.{Plus, Minus, Negation}
 use Rattle.f77_expr.proofs.Spellings.{binary_spelling, call_spelling, bracketed_spelling, prefixed_spelling}
@@ -64,9 +64,9 @@ number_reads (c ∷ more) text h ends =
     primary-step (c ∷ (more ++ text))
     ∙ if_true (is_figure c) (number_read (take_while is_figure (c ∷ (more ++ text)))) _ figure
     ∙ ap number_read run
-    ∙ ap (λ rest. Some (Written.number (c ∷ more), rest)) (drop_front (c ∷ more) text)
+    ∙ ap (λ rest. Some (Written.number (c ∷ more), rest)) (drop_prefix (c ∷ more) text)
 
--- a whole name, in front of what doesn't go on with it
+-- a whole name, before what doesn't go on with it
 name_run : (name text : List ℕ) → is_name name ≡ true → take_while is_symbolic text ≡ [] → primary_at (name ++ text) ≡ named the_readers name text
 name_run [] text h ends = absurd cc
 name_run (c ∷ more) text h ends =
@@ -79,7 +79,7 @@ name_run (c ∷ more) text h ends =
     ∙ if_true (is_capital c) (name_read (take_while is_symbolic (c ∷ (more ++ text)))) _ parts.capital
     ∙ ap name_read run
     ∙ if_true (nat_le (length (c ∷ more)) 6) (named the_readers (c ∷ more) (drop (length (c ∷ more)) (c ∷ (more ++ text)))) None parts.short
-    ∙ ap (named the_readers (c ∷ more)) (drop_front (c ∷ more) text)
+    ∙ ap (named the_readers (c ∷ more)) (drop_prefix (c ∷ more) text)
 
 pub name_reads : (name text : List ℕ) → is_name name ≡ true → breaks_off text ≡ true → primary_at (name ++ text) ≡ Some (Written.name name, text)
 name_reads name text h ends = name_run name text h (symbols_break text ends) ∙ alone text ends

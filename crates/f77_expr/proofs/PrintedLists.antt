@@ -79,7 +79,7 @@ listed_alone x op args names is_not proper =
     let operation = IsProper-operation names op args proper in
     ap (listed_in x) (printed-Apply names op args) ∙ other_gives x op (map (printed names) args) is_not operation.written (length-map args (printed names) ∙ operation.as_many) ∙ ap (λ p. Arguments.last p.alone) (sym (printed-Apply names op args))
 
--- one argument more stands behind a comma
+-- one argument more stands after a comma
 pub spellings-and_last : (arguments : Arguments) (w : Written) → spellings (and_last arguments w) ≡ spellings arguments ++ codes "," ++ spelling w
 spellings-and_last (Arguments.last a) w = refl
 spellings-and_last (Arguments.before a more) w = rw (spellings-and_last more w) (simp append_assoc)

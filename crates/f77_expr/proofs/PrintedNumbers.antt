@@ -30,12 +30,12 @@ one_digit n lt = record {
 }
 
 digit_more : (n : ℕ) (digits : List ℕ) → 10 ≤ n → WritesNumber (n / 10) digits → WritesNumber n (digits ++ ((48 + n % 10) ∷ []))
-digit_more n digits le front =
+digit_more n digits le prefix =
     let lt : n % 10 < 10 = omega arith in
     record {
-      some = omega (arith, length-append digits ((48 + n % 10) ∷ []), front.some);
-      figures = list_all-append is_figure digits ((48 + n % 10) ∷ []) ∙ both_true front.figures (both_true (figure (n % 10) lt) refl);
-      is = decimal_after-append 0 digits ((48 + n % 10) ∷ []) ∙ ap (λ m. 10 * m + (48 + n % 10 - 48)) front.is ∙ omega arith;
+      some = omega (arith, length-append digits ((48 + n % 10) ∷ []), prefix.some);
+      figures = list_all-append is_figure digits ((48 + n % 10) ∷ []) ∙ both_true prefix.figures (both_true (figure (n % 10) lt) refl);
+      is = decimal_after-append 0 digits ((48 + n % 10) ∷ []) ∙ ap (λ m. 10 * m + (48 + n % 10 - 48)) prefix.is ∙ omega arith;
     }
 
 writes_decimal : (n : ℕ) → n < 2 ^ 64 → WritesNumber n (decimal n)

@@ -31,14 +31,14 @@ arguments_more (p ∷ ps) q some = listed_more p ps q
 -- one argument more
 pub arguments_next : (f : Expr → Printed) (args : List Expr) (k : ℕ) (e : Expr) → 1 ≤ k → k < length args → e ≡ get_or args k e → arguments_text (map f (take (k + 1) args)) ≡ arguments_text (map f (take k args)) ++ codes "," ++ spelling (f e).alone
 arguments_next f args k e some lt is =
-    let front : take (k + 1) args ≡ take k args ++ (e ∷ []) = take_more args k e lt ∙ ap (λ x. take k args ++ (x ∷ [])) (sym is) in
+    let prefix : take (k + 1) args ≡ take k args ++ (e ∷ []) = take_more args k e lt ∙ ap (λ x. take k args ++ (x ∷ [])) (sym is) in
     let len : length (map f (take k args)) ≡ k = length-map (take k args) f ∙ length-take-le k args (omega (arith, lt)) in
-    ap (λ es. arguments_text (map f es)) front ∙ ap arguments_text (map-append f (take k args) (e ∷ [])) ∙ arguments_more (map f (take k args)) (f e) (omega (arith, len, some))
+    ap (λ es. arguments_text (map f es)) prefix ∙ ap arguments_text (map-append f (take k args) (e ∷ [])) ∙ arguments_more (map f (take k args)) (f e) (omega (arith, len, some))
 
 pub all_next : (P : Expr → Type 0) (args : List Expr) (k : ℕ) (e : Expr) → k < length args → e ≡ get_or args k e → All P (take k args) → P e → All P (take (k + 1) args)
 all_next P args k e lt is all here =
-    let front : take k args ++ (e ∷ []) ≡ take (k + 1) args = sym (take_more args k e lt ∙ ap (λ x. take k args ++ (x ∷ [])) (sym is)) in
-    subst (All P) front (All-append P (take k args) (e ∷ []) all (all_one P e here))
+    let prefix : take k args ++ (e ∷ []) ≡ take (k + 1) args = sym (take_more args k e lt ∙ ap (λ x. take k args ++ (x ∷ [])) (sym is)) in
+    subst (All P) prefix (All-append P (take k args) (e ∷ []) all (all_one P e here))
 
 -- ---- lists of MAX and MIN
 

@@ -7,7 +7,7 @@ use Rattle.f77_expr.proofs.EachRead.{same_read}
 use Rattle.f77_expr.proofs.Followers.{is_follower}
 use Rattle.f77_expr.proofs.Spelled.{expression_spells}
 use Rattle.f77_expr.proofs.Soundness.{expression_sound}
-use Rattle.f77_expr.proofs.Completeness.{read_in_front}
+use Rattle.f77_expr.proofs.Completeness.{read_at_start}
 
 pub read-written : (text : List ℕ) (w : Written) → expression_at 0 text ≡ Some (w, []) → IsWritten text w
 read-written text w e = record {
@@ -17,7 +17,7 @@ read-written text w e = record {
 
 pub written-read : (text : List ℕ) (w : Written) → IsWritten text w → expression_at 0 text ≡ Some (w, [])
 written-read text w is =
-    ap (expression_at 0) (sym is.is ∙ sym (append-nil (spelling w))) ∙ read_in_front w [] is.grammatical refl
+    ap (expression_at 0) (sym is.is ∙ sym (append-nil (spelling w))) ∙ read_at_start w [] is.grammatical refl
 
 pub one-written : (text : List ℕ) (v w : Written) → IsWritten text v → IsWritten text w → v ≡ w
 one-written text v w is_v is_w =
@@ -35,4 +35,4 @@ piece_ended (c ∷ more) e = here (c == 44 || c == 41 || c == 61 || c == 58) e
 -- a reading ends at one place
 pub one-end : (v w : Written) (s t : List ℕ) → IsGrammatical v → IsGrammatical w → piece s ≡ [] → piece t ≡ [] → spelling v ++ s ≡ spelling w ++ t → (v ≡ w) × (s ≡ t)
 one-end v w s t is_v is_w ends_s ends_t e =
-    same_read v w s t (sym (read_in_front v s is_v (piece_ended s ends_s)) ∙ ap (expression_at 0) e ∙ read_in_front w t is_w (piece_ended t ends_t))
+    same_read v w s t (sym (read_at_start v s is_v (piece_ended s ends_s)) ∙ ap (expression_at 0) e ∙ read_at_start w t is_w (piece_ended t ends_t))

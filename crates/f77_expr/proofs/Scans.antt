@@ -49,17 +49,17 @@ scan_stops text open_now depth i d s lt ends =
 pub scan_goes_on : (text : List ℕ) (open_now next : Open) (depth i d : ℕ) → IsScanned text open_now depth i → i < length text → ends_piece open_now (get_or text i d) ≡ false → next ≡ open_after open_now (get_or text i d) → IsScanned text next (max next.brackets depth) (i + 1)
 scan_goes_on text open_now next depth i d s lt goes_on is =
     let c = get_or text i d in
-    let behind = piece_from next (drop (i + 1) text) in
-    let here : piece_from open_now (drop i text) ≡ c ∷ behind =
+    let beyond = piece_from next (drop (i + 1) text) in
+    let here : piece_from open_now (drop i text) ≡ c ∷ beyond =
     at_drop_more (λ rest. piece_from open_now rest) text i d lt ∙ ap (λ b. if b then [] else (c ∷ piece_from (open_after open_now c) (drop (i + 1) text))) goes_on ∙ ap (λ o. c ∷ piece_from o (drop (i + 1) text)) (sym is) in
     let more : next.brackets ≤ suc open_now.brackets = subst (λ (o : Open). o.brackets ≤ suc open_now.brackets) (sym is) (open_more open_now c) in
-    let deepest : bracket_depth (piece text) ≡ max depth (max open_now.brackets (deepest_from next behind)) =
-    s.deepest ∙ ap (λ p. max depth (deepest_from open_now p)) here ∙ ap (λ o. max depth (max open_now.brackets (deepest_from o behind))) (sym is) in
+    let deepest : bracket_depth (piece text) ≡ max depth (max open_now.brackets (deepest_from next beyond)) =
+    s.deepest ∙ ap (λ p. max depth (deepest_from open_now p)) here ∙ ap (λ o. max depth (max open_now.brackets (deepest_from o beyond))) (sym is) in
     let room = s.room in
     let least = s.least in
-    let behind_least = deepest_least next behind in
+    let after_least = deepest_least next beyond in
     record {
-      whole = s.whole ∙ ap (λ p. take i text ++ p) here ∙ sym (append_assoc (take i text) (c ∷ []) behind) ∙ ap (λ p. p ++ behind) (sym (take_more text i d lt));
+      whole = s.whole ∙ ap (λ p. take i text ++ p) here ∙ sym (append_assoc (take i text) (c ∷ []) beyond) ∙ ap (λ p. p ++ beyond) (sym (take_more text i d lt));
       deepest = omega arith;
       least = omega arith;
       room = omega arith;

@@ -6,7 +6,7 @@ use Rattle.f77_tree.specs.declared.statements.RawExpr.{RawExpr}
 use Rattle.f77_tree.specs.Grammar.{Written, Arguments, level, IsGrammatical, AreGrammatical, spelling, spellings, reading, readings}
 use Rattle.f77_expr.specs.Printing.{enclosed, and_last}
 
--- neither between brackets nor behind a sign +
+-- neither between brackets nor after a sign +
 abbrev pub IsCore : Written → Type 0
 IsCore (Written.bracketed w) = ⊥
 IsCore (Written.plus w) = ⊥

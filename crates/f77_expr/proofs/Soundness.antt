@@ -8,7 +8,7 @@ use Rattle.f77_tree.specs.Grammar.{Written, Arguments, level, operator_level, le
 use Rattle.f77_expr.specs.Reader.{Reads, read_as, and_then_read, operator_at, Prefix, prefix_at, operand_level, prefixed, truth_at, is_symbolic, closed, Readers, begun, continued, named, primary_by, more_arguments, deeper, readers, enough, expression_at, chain_at, primary_at, arguments_at, the_readers}
 use Rattle.f77_expr.specs.Reader.Prefix.{Plus, Minus, Negation}
 use Rattle.f77_expr.proofs.EachRead.{Each, each_at, each_if, each_then, each_as, each_weaker}
-use Rattle.f77_expr.proofs.Fronts.{IsPrefixIn, prefix_front, prefix_level, IsTruthIn, truth_front, run_of_kind, run_grows}
+use Rattle.f77_expr.proofs.Prefixes.{IsPrefixIn, prefix_at_start, prefix_level, IsTruthIn, truth_prefix, run_of_kind, run_grows}
 use Rattle.f77_expr.proofs.Levels.{levels_of, level_most}
 
 -- an expression of the grammar that is of this level or a higher one
@@ -97,11 +97,11 @@ module _ (r : Readers) (s : Sound r) where
   primary_sound [] = tt
   primary_sound (c ∷ text) =
       each_if P (is_figure c) (Some (Written.number (take_while is_figure whole), drop (length (take_while is_figure whole)) whole)) not_number (λ figure. (run_number c text figure, refl))
-      (λ no_figure. each_if P (is_capital c) (if nat_le (length run) 6 then named r run behind else None) not_name
-      (λ capital. each_if P (nat_le (length run) 6) (named r run behind) None (λ short. named_sound run behind (run_name c text capital short)) (λ long. tt))
+      (λ no_figure. each_if P (is_capital c) (if nat_le (length run) 6 then named r run beyond else None) not_name
+      (λ capital. each_if P (nat_le (length run) 6) (named r run beyond) None (λ short. named_sound run beyond (run_name c text capital short)) (λ long. tt))
       (λ no_capital. each_if P (c == 40) (and_then_read (λ w rest. closed (Written.bracketed w) rest) (r.expression 0 text)) (truth_at whole)
       (λ bracket. each_then (λ w rest. IsAtLeast 0 w) P (λ w rest. closed (Written.bracketed w) rest) (r.expression 0 text) (s.expression 0 text (omega arith)) (λ w rest is. closed_sound (Written.bracketed w) rest (is.0, refl)))
-      (λ none. each_weaker (λ w rest. IsTruthIn whole w rest) P (truth_at whole) (λ w rest is. (is.0, is.1)) (truth_front whole))))
+      (λ none. each_weaker (λ w rest. IsTruthIn whole w rest) P (truth_at whole) (λ w rest is. (is.0, is.1)) (truth_prefix whole))))
     where
       P : Written → List ℕ → Type 0
       P w rest = IsGrammatical w × (level w ≡ 8)
@@ -112,18 +112,18 @@ module _ (r : Readers) (s : Sound r) where
       run : List ℕ
       run = take_while is_symbolic (c ∷ text)
 
-      behind : List ℕ
-      behind = drop (length (take_while is_symbolic (c ∷ text))) (c ∷ text)
+      beyond : List ℕ
+      beyond = drop (length (take_while is_symbolic (c ∷ text))) (c ∷ text)
 
       not_name : Reads Written
       not_name = if c == 40 then and_then_read (λ w rest. closed (Written.bracketed w) rest) (r.expression 0 text) else truth_at (c ∷ text)
 
       not_number : Reads Written
-      not_number = if is_capital c then (if nat_le (length run) 6 then named r run behind else None) else not_name
+      not_number = if is_capital c then (if nat_le (length run) 6 then named r run beyond else None) else not_name
 
   deeper_sound : Sound (deeper r)
   deeper_sound = record {
-    expression = λ least text few. begun_sound least text (prefix_at least text) few (prefix_front least text);
+    expression = λ least text few. begun_sound least text (prefix_at least text) few (prefix_at_start least text);
     chain = λ least w text is. continued_sound least w text (operator_at text) is;
     primary = λ text. primary_sound text;
     arguments = λ text. each_then (λ w rest. IsAtLeast 0 w) (λ args rest. AreGrammatical args) (λ w rest. more_arguments r w rest) (r.expression 0 text) (s.expression 0 text (omega arith)) (λ w rest is. more_sound w rest is.0);

@@ -1,4 +1,4 @@
--- What the readers read is spelled in front of the rest.
+-- What the readers read is spelled before the rest.
 use Rattle.std.proofs.Common.{◌≡◌, ◌==◌, ℕ, zero, suc, ◌+◌, ◌-◌, ◌≤◌, List, [], ◌∷◌, ◌++◌, length, drop, take_while, Some, None, if◌then◌else◌, ◌&&◌, nat_le, refl, sym, ap, ◌∙◌, arith, append_assoc, length-append}
 use Rattle.std.proofs.Math.Seq.{drop-append-add}
 use Rattle.std.proofs.lemmas.Bool.{eqb-true}
@@ -8,10 +8,10 @@ use Rattle.f77_tree.specs.Grammar.{Written, Arguments, symbol, level, operator_l
 use Rattle.f77_expr.specs.Reader.{Reads, read_as, and_then_read, operator_at, Prefix, prefix_at, operand_level, prefixed, truth_at, is_symbolic, closed, Readers, begun, continued, named, primary_by, more_arguments, deeper, readers, enough, expression_at, chain_at, primary_at, arguments_at, the_readers}
 use Rattle.f77_expr.proofs.Depth.{chain_shorter}
 use Rattle.f77_expr.proofs.EachRead.{Each, each_at, each_if, each_then, each_as, each_weaker}
-use Rattle.f77_expr.proofs.Fronts.{IsOperatorIn, operator_front, IsPrefixIn, prefix_front, prefix_text, IsTruthIn, truth_front, run_and_rest, drop_front}
+use Rattle.f77_expr.proofs.Prefixes.{IsOperatorIn, operator_prefix, IsPrefixIn, prefix_at_start, prefix_text, IsTruthIn, truth_prefix, run_and_rest, drop_prefix}
 use Rattle.f77_expr.proofs.Spellings.{binary_spelling, call_spelling, bracketed_spelling, before_spelling, prefixed_spelling}
 
--- what readers read is spelled in front of the rest
+-- what readers read is spelled before the rest
 pub record Spells (r : Readers) : Type 0 where
   pub expression : (least : ℕ) (text : List ℕ) → Each (λ w rest. spelling w ++ rest ≡ text) (r.expression least text)
   pub chain : (least : ℕ) (w : Written) (text : List ℕ) → Each (λ v rest. spelling v ++ rest ≡ spelling w ++ text) (r.chain least w text)
@@ -80,14 +80,14 @@ module _ (r : Readers) (s : Spells r) where
   primary_spells [] = tt
   primary_spells (c ∷ text) =
       each_if P (is_figure c) (Some (Written.number (take_while is_figure whole), drop (length (take_while is_figure whole)) whole)) not_number (λ figure. run_and_rest is_figure whole)
-      (λ no_figure. each_if P (is_capital c) (if nat_le (length run) 6 then named r run behind else None) not_name
-      (λ capital. each_if P (nat_le (length run) 6) (named r run behind) None
-      (λ short. each_weaker (λ w rest. spelling w ++ rest ≡ run ++ behind) P (named r run behind) (λ w rest e. e ∙ run_and_rest is_symbolic whole) (named_spells run behind))
+      (λ no_figure. each_if P (is_capital c) (if nat_le (length run) 6 then named r run beyond else None) not_name
+      (λ capital. each_if P (nat_le (length run) 6) (named r run beyond) None
+      (λ short. each_weaker (λ w rest. spelling w ++ rest ≡ run ++ beyond) P (named r run beyond) (λ w rest e. e ∙ run_and_rest is_symbolic whole) (named_spells run beyond))
       (λ long. tt))
       (λ no_capital. each_if P (c == 40) (and_then_read (λ w rest. closed (Written.bracketed w) rest) (r.expression 0 text)) (truth_at whole)
       (λ bracket. each_then (λ w rest. spelling w ++ rest ≡ text) P (λ w rest. closed (Written.bracketed w) rest) (r.expression 0 text) (s.expression 0 text)
       (λ w rest is. each_weaker (λ v tail. (v ≡ Written.bracketed w) × (41 ∷ tail ≡ rest)) P (closed (Written.bracketed w) rest) (λ v tail e. enclosing w rest v tail is e.0 e.1 (eqb-true c 40 bracket)) (closed_spells (Written.bracketed w) rest)))
-      (λ none. each_weaker (λ w rest. IsTruthIn whole w rest) P (truth_at whole) (λ w rest is. is.2) (truth_front whole))))
+      (λ none. each_weaker (λ w rest. IsTruthIn whole w rest) P (truth_at whole) (λ w rest is. is.2) (truth_prefix whole))))
     where
       P : Written → List ℕ → Type 0
       P w rest = spelling w ++ rest ≡ c ∷ text
@@ -98,14 +98,14 @@ module _ (r : Readers) (s : Spells r) where
       run : List ℕ
       run = take_while is_symbolic (c ∷ text)
 
-      behind : List ℕ
-      behind = drop (length (take_while is_symbolic (c ∷ text))) (c ∷ text)
+      beyond : List ℕ
+      beyond = drop (length (take_while is_symbolic (c ∷ text))) (c ∷ text)
 
       not_name : Reads Written
       not_name = if c == 40 then and_then_read (λ w rest. closed (Written.bracketed w) rest) (r.expression 0 text) else truth_at (c ∷ text)
 
       not_number : Reads Written
-      not_number = if is_capital c then (if nat_le (length run) 6 then named r run behind else None) else not_name
+      not_number = if is_capital c then (if nat_le (length run) 6 then named r run beyond else None) else not_name
 
       enclosing : (w : Written) (rest : List ℕ) (v : Written) (tail : List ℕ) → spelling w ++ rest ≡ text → v ≡ Written.bracketed w → 41 ∷ tail ≡ rest → c ≡ 40 → spelling v ++ tail ≡ c ∷ text
       enclosing w rest v tail is same at bracket =
@@ -113,8 +113,8 @@ module _ (r : Readers) (s : Spells r) where
 
   deeper_spells : Spells (deeper r)
   deeper_spells = record {
-    expression = λ least text. begun_spells least text (prefix_at least text) (prefix_front least text);
-    chain = λ least w text. continued_spells least w text (operator_at text) (operator_front text);
+    expression = λ least text. begun_spells least text (prefix_at least text) (prefix_at_start least text);
+    chain = λ least w text. continued_spells least w text (operator_at text) (operator_prefix text);
     primary = λ text. primary_spells text;
     arguments = λ text. each_then (λ w rest. spelling w ++ rest ≡ text) (λ args rest. spellings args ++ 41 ∷ rest ≡ text) (λ w rest. more_arguments r w rest) (r.expression 0 text) (s.expression 0 text)
         (λ w rest is. each_weaker (λ args tail. spellings args ++ 41 ∷ tail ≡ spelling w ++ rest) (λ args tail. spellings args ++ 41 ∷ tail ≡ text) (more_arguments r w rest) (λ args tail e. e ∙ is) (more_spells w rest));
@@ -146,13 +146,13 @@ primary_spells_text text w rest e = each_at (λ v tail. spelling v ++ tail ≡ t
 pub arguments_spell : (text : List ℕ) (args : Arguments) (rest : List ℕ) → arguments_at text ≡ Some (args, rest) → spellings args ++ 41 ∷ rest ≡ text
 arguments_spell text args rest e = each_at (λ v tail. spellings v ++ 41 ∷ tail ≡ text) (arguments_at text) (the_readers_spell.arguments text) args rest e
 
--- ---- each rest is what is left of the text behind some place
+-- ---- each rest is what is left of the text after some place
 
-rest_is : (front text rest : List ℕ) → front ++ rest ≡ text → rest ≡ drop (length text - length rest) text
-rest_is front text rest e =
-    let whole : length text ≡ length front + length rest = ap length (sym e) ∙ length-append front rest in
-    let place : length front ≡ length text - length rest = omega arith in
-    sym (drop_front front rest) ∙ ap (λ t. drop (length front) t) e ∙ ap (λ n. drop n text) place
+rest_is : (prefix text rest : List ℕ) → prefix ++ rest ≡ text → rest ≡ drop (length text - length rest) text
+rest_is prefix text rest e =
+    let whole : length text ≡ length prefix + length rest = ap length (sym e) ∙ length-append prefix rest in
+    let place : length prefix ≡ length text - length rest = omega arith in
+    sym (drop_prefix prefix rest) ∙ ap (λ t. drop (length prefix) t) e ∙ ap (λ n. drop n text) place
 
 pub expression_rest : (least : ℕ) (text : List ℕ) (w : Written) (rest : List ℕ) → expression_at least text ≡ Some (w, rest) → rest ≡ drop (length text - length rest) text
 expression_rest least text w rest e = rest_is (spelling w) text rest (expression_spells least text w rest e)

@@ -1,10 +1,10 @@
--- What is spelled, in front of more: with one bracketing of the parts.
+-- What is spelled, before more: with one bracketing of the parts.
 use Rattle.std.proofs.Common.{◌≡◌, ℕ, List, ◌∷◌, ◌++◌, refl, ap, ◌∙◌, append_assoc}
 use Rattle.op_table.specs.declared.Op.{Op}
 use Rattle.f77_tree.specs.Grammar.{Written, Arguments, symbol, spelling, spellings}
 use Rattle.f77_expr.specs.Reader.{Prefix, prefixed}
 use Rattle.f77_expr.specs.Reader.Prefix.{Plus, Minus, Negation}
-use Rattle.f77_expr.proofs.Fronts.{prefix_text}
+use Rattle.f77_expr.proofs.Prefixes.{prefix_text}
 
 pub binary_spelling : (op : Op) (a b : Written) (text : List ℕ) → spelling (Written.binary op a b) ++ text ≡ spelling a ++ (symbol op ++ (spelling b ++ text))
 binary_spelling op a b text = append_assoc (spelling a ++ symbol op) (spelling b) text ∙ append_assoc (spelling a) (symbol op) (spelling b ++ text)
@@ -24,4 +24,4 @@ prefixed_alone Minus w = refl
 prefixed_alone Negation w = refl
 
 pub prefixed_spelling : (prefix : Prefix) (w : Written) (text : List ℕ) → spelling (prefixed prefix w) ++ text ≡ prefix_text prefix ++ (spelling w ++ text)
-prefixed_spelling prefix w text = ap (λ front. front ++ text) (prefixed_alone prefix w) ∙ append_assoc (prefix_text prefix) (spelling w) text
+prefixed_spelling prefix w text = ap (λ prefix. prefix ++ text) (prefixed_alone prefix w) ∙ append_assoc (prefix_text prefix) (spelling w) text

@@ -41,14 +41,14 @@ mutual
 pub nothing_written : (piece : List ℕ) → expression_at 0 piece ≡ None → (w : Written) → IsWritten piece w → ⊥
 nothing_written piece none w is = let some = written-read piece w is in absurd cc
 
--- nor is what has more behind an expression
+-- nor is what has more after an expression
 pub more_written : (piece : List ℕ) (great : Bool) (e : RawExpr) (rest : List ℕ) (great_now : Bool) → IsRead piece great (expression_at 0 piece) e rest great_now → (rest ≡ [] → ⊥) → (w : Written) → IsWritten piece w → ⊥
 more_written piece great e rest great_now i some w is =
     let read = i.is_read in
     let whole = written-read piece w is in
     let end : Written × List ℕ = (i.written, rest) in
-    let front : Written × List ℕ = (w, []) in
-    let same : end ≡ front = cc in
+    let prefix : Written × List ℕ = (w, []) in
+    let same : end ≡ prefix = cc in
     some (ap (λ (p : Written × List ℕ). p.1) same)
 
 module _ (piece : List ℕ) (e : RawExpr) (rest : List ℕ) (great_now : Bool) (i : IsRead piece false (expression_at 0 piece) e rest great_now) (whole : rest ≡ []) where

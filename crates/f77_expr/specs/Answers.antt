@@ -15,7 +15,7 @@ use Rattle.f77_expr.specs.declared.parsed.ReadEnd.TheVariants.{NoForm, NoMemory}
 use Rattle.f77_expr.specs.declared.parsed.ReadExpr.{ReadExpr}
 use Rattle.f77_expr.specs.declared.operators.Prefix.{Prefix}
 use Rattle.f77_expr.specs.declared.operators.Prefix.TheVariants.{Plus, Minus, Negation}
-use Rattle.f77_expr.specs.Reader.{Reads, this_or, after_front, Prefix as WrittenPrefix, expression_at, chain_at}
+use Rattle.f77_expr.specs.Reader.{Reads, this_or, after_prefix, Prefix as WrittenPrefix, expression_at, chain_at}
 
 -- ---- parts of a text
 
@@ -38,19 +38,19 @@ prefix_level Negation = 3
 
 -- the sign with which a text begins
 abbrev pub sign_at : List ℕ → Reads WrittenPrefix
-sign_at text = this_or WrittenPrefix.Plus (after_front (codes "+") text) (this_or WrittenPrefix.Minus (after_front (codes "-") text) None)
+sign_at text = this_or WrittenPrefix.Plus (after_prefix (codes "+") text) (this_or WrittenPrefix.Minus (after_prefix (codes "-") text) None)
 
 -- a text that begins with the first character of some operator
 abbrev pub begins_operator : List ℕ → Bool
 begins_operator [] = false
 begins_operator (c ∷ text) = c == 42 || c == 47 || c == 43 || c == 45 || c == 46
 
--- an operator, where it may stand behind an operand of this level
-abbrev pub allowed : (least : ℕ) → (behind : ℕ) → Reads Op → Reads Op
-allowed least behind None = None
-allowed least behind (Some (op, rest)) = if nat_le least (operator_level op) && nat_le (left_level op) behind then Some (op, rest) else None
+-- an operator, where it may stand after an operand of this level
+abbrev pub allowed : (least : ℕ) → (beyond : ℕ) → Reads Op → Reads Op
+allowed least beyond None = None
+allowed least beyond (Some (op, rest)) = if nat_le least (operator_level op) && nat_le (left_level op) beyond then Some (op, rest) else None
 
--- the text behind a character
+-- the text after a character
 abbrev pub passed : ℕ → List ℕ → Option (List ℕ)
 passed c [] = None
 passed c (d ∷ text) = if d == c then Some text else None
@@ -105,7 +105,7 @@ kept_prefixed Negation e = Apply Not (e ∷ [])
 
 -- ---- answers
 
--- what is read from the front of a text, with the text behind it, and whether some number so far is too great
+-- what is read from the beginning of a text, with the text after it, and whether some number so far is too great
 pub record IsRead (text : List ℕ) (great : Bool) (read : Reads Written) (e : RawExpr) (rest : List ℕ) (great_now : Bool) : Type 0 where
   pub written : Written
   pub is_read : read ≡ Some (written, rest)
@@ -121,7 +121,7 @@ pub record AreRead (text : List ℕ) (great : Bool) (read : Reads Arguments) (es
   pub is_great : great_now ≡ (great || have_great_number written)
   pub shorter : length rest < length text
 
--- what an expression of this level or a higher one begins with: reading goes on behind it
+-- what an expression of this level or a higher one begins with: reading goes on after it
 pub record IsBegun (least : ℕ) (text : List ℕ) (great : Bool) (e : RawExpr) (its_level : ℕ) (rest : List ℕ) (great_now : Bool) : Type 0 where
   pub written : Written
   pub goes_on : expression_at least text ≡ chain_at least written rest

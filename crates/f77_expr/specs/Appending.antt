@@ -8,11 +8,11 @@ use Rattle.f77_expr.specs.declared.extremes.Extreme.TheVariants.{Greatest, Least
 use Rattle.f77_expr.specs.Printing.{Printed, listed}
 
 -- a text that begins with another one
-pub record BeginsWith (text front : List ℕ) : Type 0 where
+pub record BeginsWith (text prefix : List ℕ) : Type 0 where
   pub rest : List ℕ
-  pub is : text ≡ front ++ rest
+  pub is : text ≡ prefix ++ rest
 
--- the text stands behind what there was, or, where there was no memory, a part of it may
+-- the text stands after what there was, or, where there was no memory, a part of it may
 abbrev pub Appended : {T E : Type 0} → (old text new : List ℕ) → Result T E → Type 0
 Appended old text new (Ok done) = new ≡ old ++ text
 Appended old text new (Err none) = BeginsWith new old

@@ -32,7 +32,7 @@ pub record IsReadWhole (piece : List ℕ) (e : RawExpr) (great : Bool) : Type 0 
   pub is_kept : e ≡ kept written
   pub is : has_great_number written ≡ false → reading written ≡ e
 
--- what is read of a piece that begins at a place, for a reader that goes on behind it
+-- what is read of a piece that begins at a place, for a reader that goes on after it
 abbrev pub IsPieceRead : (piece : List ℕ) → (from : ℕ) → Result ReadExpr ReadEnd → Type 0
 IsPieceRead piece from (Ok read) = IsReadWhole piece read.expr read.has_great_constant × (read.next ≡ from + length piece)
 IsPieceRead piece from (Err ReadEnd.NoForm) = (w : Written) → IsWritten piece w → ⊥

@@ -35,7 +35,7 @@ plain op = op
 abbrev pub enclosed : (least : ℕ) → Written → Written
 enclosed least w = if nat_le least (level w) then w else Written.bracketed w
 
--- one argument more, behind others
+-- one argument more, after others
 abbrev pub and_last : Arguments → Written → Arguments
 and_last (Arguments.last a) w = Arguments.before a (Arguments.last w)
 and_last (Arguments.before a more) w = Arguments.before a (and_last more w)

@@ -5,7 +5,7 @@ use Rattle.op_table.specs.declared.Op.TheVariants.{Add, Sub, Mul, Div, Pow, Lt, 
 use Rattle.f77_tree.specs.Name.{is_capital, is_figure}
 use Rattle.f77_tree.specs.Grammar.{Written, Arguments, symbol, level, operator_level, left_level, right_level}
 
--- what is read from the front of a text, and the rest of the text
+-- what is read from the beginning of a text, and the rest of the text
 abbrev pub Reads : Type 0 → Type 0
 Reads A = Option (A × List ℕ)
 
@@ -14,7 +14,7 @@ abbrev pub read_as : {A B : Type 0} → (A → B) → Reads A → Reads B
 read_as f None = None
 read_as f (Some (a, rest)) = Some (f a, rest)
 
--- goes on behind what was read
+-- goes on after what was read
 abbrev pub and_then_read : {A B : Type 0} → (A → List ℕ → Reads B) → Reads A → Reads B
 and_then_read go None = None
 and_then_read go (Some (a, rest)) = go a rest
@@ -22,12 +22,12 @@ and_then_read go (Some (a, rest)) = go a rest
 -- ---- parts of a text
 
 -- the rest of a text that begins with these characters
-abbrev pub after_front : List ℕ → List ℕ → Option (List ℕ)
-after_front [] text = Some text
-after_front (c ∷ front) [] = None
-after_front (c ∷ front) (d ∷ text) = if c == d then after_front front text else None
+abbrev pub after_prefix : List ℕ → List ℕ → Option (List ℕ)
+after_prefix [] text = Some text
+after_prefix (c ∷ prefix) [] = None
+after_prefix (c ∷ prefix) (d ∷ text) = if c == d then after_prefix prefix text else None
 
--- this one where its characters stand in front, else what the others read
+-- this one where its characters come first, else what the others read
 abbrev pub this_or : {A : Type 0} → A → Option (List ℕ) → Reads A → Reads A
 this_or a (Some rest) others = Some (a, rest)
 this_or a None others = others
@@ -38,7 +38,7 @@ operators = Pow ∷ Mul ∷ Div ∷ Add ∷ Sub ∷ Lt ∷ Le ∷ Eq ∷ Ne ∷ 
 
 abbrev pub operator_among : List Op → List ℕ → Reads Op
 operator_among [] text = None
-operator_among (op ∷ ops) text = this_or op (after_front (symbol op) text) (operator_among ops text)
+operator_among (op ∷ ops) text = this_or op (after_prefix (symbol op) text) (operator_among ops text)
 
 -- the operator between operands with which a text begins
 abbrev pub operator_at : List ℕ → Reads Op
@@ -53,8 +53,8 @@ pub data Prefix : Type 0 where
 -- the prefix with which a text begins, where an expression of this level or a higher one may begin with it
 abbrev pub prefix_at : (least : ℕ) → List ℕ → Reads Prefix
 prefix_at least text =
-    let sign = if nat_le least 5 then this_or Plus (after_front (codes "+") text) (this_or Minus (after_front (codes "-") text) None) else None in
-    if nat_le least 3 then this_or Negation (after_front (codes ".NOT.") text) sign else sign
+    let sign = if nat_le least 5 then this_or Plus (after_prefix (codes "+") text) (this_or Minus (after_prefix (codes "-") text) None) else None in
+    if nat_le least 3 then this_or Negation (after_prefix (codes ".NOT.") text) sign else sign
 
 -- the least level of a prefix's operand
 abbrev pub operand_level : Prefix → ℕ
@@ -69,20 +69,20 @@ prefixed Negation w = Written.negation w
 
 -- the logical constant with which a text begins
 abbrev pub truth_at : List ℕ → Reads Written
-truth_at text = this_or (Written.truth true) (after_front (codes ".TRUE.") text) (this_or (Written.truth false) (after_front (codes ".FALSE.") text) None)
+truth_at text = this_or (Written.truth true) (after_prefix (codes ".TRUE.") text) (this_or (Written.truth false) (after_prefix (codes ".FALSE.") text) None)
 
 -- a character that may stand in a name
 abbrev pub is_symbolic : ℕ → Bool
 is_symbolic c = is_capital c || is_figure c
 
--- what is read, where a closing bracket stands behind it
+-- what is read, where a closing bracket stands after it
 abbrev pub closed : Written → List ℕ → Reads Written
 closed w [] = None
 closed w (c ∷ text) = if c == 41 then Some (w, text) else None
 
 -- ---- the descent
 
--- readers of an expression of some level, of the operators and operands behind one, of a primary, and of arguments with
+-- readers of an expression of some level, of the operators and operands after one, of a primary, and of arguments with
 -- the bracket that closes them
 pub record Readers : Type 0 where
   pub expression : (least : ℕ) → List ℕ → Reads Written
@@ -94,12 +94,12 @@ pub record Readers : Type 0 where
 abbrev pub no_readers : Readers
 no_readers = record { expression = λ least text. None; chain = λ least w text. None; primary = λ text. None; arguments = λ text. None }
 
--- a prefix and its operand, or a primary; and what goes on behind it
+-- a prefix and its operand, or a primary; and what goes on after it
 abbrev pub begun : Readers → (least : ℕ) → List ℕ → Reads Prefix → Reads Written
 begun r least text None = and_then_read (λ w rest. r.chain least w rest) (r.primary text)
 begun r least text (Some (prefix, operand)) = and_then_read (λ w rest. r.chain least (prefixed prefix w) rest) (r.expression (operand_level prefix) operand)
 
--- an operator that may stand behind what was read, and its operand on the right
+-- an operator that may stand after what was read, and its operand on the right
 abbrev pub continued : Readers → (least : ℕ) → Written → List ℕ → Reads Op → Reads Written
 continued r least w text None = Some (w, text)
 continued r least w text (Some (op, operand)) =
@@ -122,7 +122,7 @@ primary_by r (c ∷ text) =
     else (if c == 40 then and_then_read (λ w rest. closed (Written.bracketed w) rest) (r.expression 0 text)
     else truth_at (c ∷ text)))
 
--- the arguments behind one
+-- the arguments after one
 abbrev pub more_arguments : Readers → Written → List ℕ → Reads Arguments
 more_arguments r w [] = None
 more_arguments r w (c ∷ text) =
@@ -147,11 +147,11 @@ readers (suc depth) = deeper (readers depth)
 abbrev pub enough : List ℕ → ℕ
 enough text = 3 * length text + 4
 
--- an expression of at least this level in front of a text, as long as it can be
+-- an expression of at least this level at the beginning of a text, as long as it can be
 unfoldable pub expression_at : (least : ℕ) → List ℕ → Reads Written
 expression_at least text = (readers (enough text)).expression least text
 
--- what was read, with the operators and operands that go on behind it
+-- what was read, with the operators and operands that go on after it
 unfoldable pub chain_at : (least : ℕ) → Written → List ℕ → Reads Written
 chain_at least w text = (readers (enough text)).chain least w text
 

@@ -1,11 +1,11 @@
-//! Letters and digits in front of a text, and the number that digits write.
+//! Letters and digits at the beginning of a text, and the number that digits write.
 
 ghost use Rattle.std.specs.Prelude.{◌≡◌, ◌≤◌, ◌+◌, ◌-◌, ◌*◌, length, drop, min, take_while, true, IfSome};
 ghost use Rattle.std.specs.List.{list_all};
 ghost use Rattle.std.specs.Option.{option_copied};
 ghost use Rattle.f77_tree.specs.Name.{is_capital, is_figure};
 ghost use Rattle.f77_tree.specs.Grammar.{number_of};
-ghost use Rattle.f77_expr.specs.Reader.{after_front as spec_after_front, is_symbolic as spec_is_symbolic};
+ghost use Rattle.f77_expr.specs.Reader.{after_prefix as spec_after_prefix, is_symbolic as spec_is_symbolic};
 
 /// The greatest integer constant.
 pub const GREATEST_CONSTANT: u32 = 2147483647;
@@ -31,44 +31,44 @@ fn is_symbolic(c: u8) -> bool
     is_letter(c) || is_digit(c)
 }
 
-/// How many digits stand in front of a text.
-fn digits_in_front(text: &[u8]) -> usize
+/// How many digits stand at the beginning of a text.
+fn digits_at_start(text: &[u8]) -> usize
     ensures count { result ≡ length (take_while is_figure text.now) }
     ensures short { result ≤ length text.now }
 {
     text.iter().take_while(|c| is_digit(**c)).count()
 }
 
-/// How many letters and digits stand in front of a text.
-fn symbolic_in_front(text: &[u8]) -> usize
+/// How many letters and digits stand at the beginning of a text.
+fn symbolic_at_start(text: &[u8]) -> usize
     ensures count { result ≡ length (take_while spec_is_symbolic text.now) }
     ensures short { result ≤ length text.now }
 {
     text.iter().take_while(|c| is_symbolic(**c)).count()
 }
 
-/// The digits in front of a text.
+/// The digits at the beginning of a text.
 pub fn digits_of(text: &[u8]) -> &[u8]
     ensures digits { result.now ≡ take_while is_figure text.now }
     ensures short { length result.now ≤ length text.now }
 {
-    &text[..digits_in_front(text)]
+    &text[..digits_at_start(text)]
 }
 
-/// The letters and digits in front of a text.
+/// The letters and digits at the beginning of a text.
 pub fn symbolic_of(text: &[u8]) -> &[u8]
     ensures name { result.now ≡ take_while spec_is_symbolic text.now }
     ensures short { length result.now ≤ length text.now }
 {
-    &text[..symbolic_in_front(text)]
+    &text[..symbolic_at_start(text)]
 }
 
-/// The text behind these characters, where it begins with them.
-pub fn after_front<'a>(text: &'a [u8], front: &[u8]) -> Option<&'a [u8]>
-    ensures rest { option_copied result ≡ spec_after_front front.now text.now }
-    ensures drops { IfSome result (λ rest. (rest.now ≡ drop (length text.now - length rest.now) text.now) × (length rest.now + length front.now ≤ length text.now)) }
+/// The text after these characters, where it begins with them.
+pub fn after_prefix<'a>(text: &'a [u8], prefix: &[u8]) -> Option<&'a [u8]>
+    ensures rest { option_copied result ≡ spec_after_prefix prefix.now text.now }
+    ensures drops { IfSome result (λ rest. (rest.now ≡ drop (length text.now - length rest.now) text.now) × (length rest.now + length prefix.now ≤ length text.now)) }
 {
-    text.strip_prefix(front)
+    text.strip_prefix(prefix)
 }
 
 /// The number after one more digit, or one more than the greatest constant where that is less.

@@ -1,4 +1,4 @@
-//! Digits and names in front of a text, with the text behind them, and the constant that digits write.
+//! Digits and names at the beginning of a text, with the text after them, and the constant that digits write.
 ghost use Rattle.std.specs.Prelude.{◌≡◌, length, drop, take_while, true};
 ghost use Rattle.std.specs.List.{list_all};
 ghost use Rattle.f77_tree.specs.Name.{is_figure};
@@ -7,7 +7,7 @@ ghost use Rattle.f77_expr.specs.Answers.{constant_of, as_word};
 
 use crate::characters::{GREATEST_CONSTANT, bounded_number, digits_of, symbolic_of};
 
-/// The digits in front of a text, and the text behind them.
+/// The digits at the beginning of a text, and the text after them.
 pub(crate) fn split_digits(text: &[u8]) -> (&[u8], &[u8])
     ensures digits { result.0.now ≡ take_while is_figure text.now }
     ensures rest { result.1.now ≡ drop (length (take_while is_figure text.now)) text.now }
@@ -16,7 +16,7 @@ pub(crate) fn split_digits(text: &[u8]) -> (&[u8], &[u8])
     (&text[..n], &text[n..])
 }
 
-/// The letters and digits in front of a text, and the text behind them.
+/// The letters and digits at the beginning of a text, and the text after them.
 pub(crate) fn split_symbolic(text: &[u8]) -> (&[u8], &[u8])
     ensures name { result.0.now ≡ take_while spec_is_symbolic text.now }
     ensures rest { result.1.now ≡ drop (length (take_while spec_is_symbolic text.now)) text.now }

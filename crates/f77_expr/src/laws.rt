@@ -5,16 +5,16 @@ ghost use Rattle.f77_tree.specs.Grammar.{Written, IsGrammatical, IsWritten, spel
 ghost use Rattle.f77_expr.specs.Piece.{Open, open_after, piece};
 
 /// No text is two expressions: its characters alone settle which operands each operator has (ANSI X3.9-1978, 6.5). And an
-/// expression in front of other text ends at one place only, where what follows it is nothing, or begins with a comma, a
+/// expression at the beginning of other text ends at one place only, where what follows it is nothing, or begins with a comma, a
 /// closing bracket, an equals sign or a colon.
 pub fn one_reading()
     ensures whole { (text : List ℕ) (v w : Written) → IsWritten text v → IsWritten text w → v ≡ w }
-    ensures front { (v w : Written) (s t : List ℕ) → IsGrammatical v → IsGrammatical w → piece s ≡ [] → piece t ≡ [] → spelling v ++ s ≡ spelling w ++ t → (v ≡ w) × (s ≡ t) }
+    ensures prefix { (v w : Written) (s t : List ℕ) → IsGrammatical v → IsGrammatical w → piece s ≡ [] → piece t ≡ [] → spelling v ++ s ≡ spelling w ++ t → (v ≡ w) × (s ≡ t) }
 {}
 
-/// An expression in front of other text is the piece of that text, where what follows it is nothing, or begins with a
+/// An expression at the beginning of other text is the piece of that text, where what follows it is nothing, or begins with a
 /// comma, a closing bracket, an equals sign or a colon: no such character stands in it outside brackets. No apostrophe
-/// stands in it, and its brackets close: behind it as many are open as before it.
+/// stands in it, and its brackets close: after it as many are open as before it.
 pub fn piece_of_reading()
     ensures whole { (w : Written) (text : List ℕ) → IsGrammatical w → piece text ≡ [] → piece (spelling w ++ text) ≡ spelling w }
     ensures apostrophes { (w : Written) → IsGrammatical w → All (λ c. c ≢ 39) (spelling w) }

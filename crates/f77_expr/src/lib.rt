@@ -16,7 +16,7 @@ mod scan;
 mod trees;
 
 pub use characters::{
-    GREATEST_CONSTANT, after_front, bounded_number, digits_of, is_letter, symbolic_of,
+    GREATEST_CONSTANT, after_prefix, bounded_number, digits_of, is_letter, symbolic_of,
 };
 pub use laws::{one_reading, piece_of_reading};
 pub use parse::{DEEPEST_ALLOWED, parse_expr, read_expr};

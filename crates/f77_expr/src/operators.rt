@@ -1,11 +1,11 @@
-//! What stands in front of a text: operators, signs, .NOT. and logical constants.
+//! What stands at the beginning of a text: operators, signs, .NOT. and logical constants.
 
 ghost use Rattle.std.specs.Prelude.{◌≡◌};
 ghost use Rattle.f77_tree.specs.Grammar.{Written, symbol as spec_symbol, operator_level, left_level, right_level};
 ghost use Rattle.f77_expr.specs.Reader.{read_as, operator_at as spec_operator_at, prefix_at as spec_prefix_at, operand_level as spec_operand_level, truth_at as spec_truth_at};
 ghost use Rattle.f77_expr.specs.Answers.{seen, meant, allowed, begins_operator as spec_begins_operator, sign_at as spec_sign_at, prefix_level as spec_prefix_level};
 
-use crate::characters::after_front;
+use crate::characters::after_prefix;
 use op_table::Op;
 
 /// What may stand before an operand (ANSI X3.9-1978, sections 6.1.4 and 6.4.2).
@@ -104,19 +104,19 @@ fn begins_operator(text: &[u8]) -> bool
     }
 }
 
-/// The first of the operators with which a text begins, and the text behind it.
+/// The first of the operators with which a text begins, and the text after it.
 fn first_operator(text: &[u8]) -> Option<(Op, &[u8])>
     ensures { seen result ≡ spec_operator_at text.now }
 {
     for op in &OPERATORS {
-        if let Some(rest) = after_front(text, symbol(*op)) {
+        if let Some(rest) = after_prefix(text, symbol(*op)) {
             return Some((*op, rest));
         }
     }
     None
 }
 
-/// The operator between operands with which a text begins, and the text behind it. Behind most operands there is none,
+/// The operator between operands with which a text begins, and the text after it. After most operands there is none,
 /// which the first character tells.
 #[tactic(auto, using(crate::proofs::Parts::no_operator))]
 fn operator_at(text: &[u8]) -> Option<(Op, &[u8])>
@@ -129,9 +129,9 @@ fn operator_at(text: &[u8]) -> Option<(Op, &[u8])>
     }
 }
 
-/// The operator with which a text begins, where it may stand behind an operand of this level in an expression of at least
-/// the level `least`, and the text behind it.
-pub(crate) fn operator_behind(text: &[u8], least: u8, level: u8) -> Option<(Op, &[u8])>
+/// The operator with which a text begins, where it may stand after an operand of this level in an expression of at least
+/// the level `least`, and the text after it.
+pub(crate) fn operator_after(text: &[u8], least: u8, level: u8) -> Option<(Op, &[u8])>
     ensures { seen result ≡ allowed least level (spec_operator_at text.now) }
 {
     let (op, rest) = operator_at(text)?;
@@ -143,24 +143,24 @@ pub(crate) fn operator_behind(text: &[u8], least: u8, level: u8) -> Option<(Op, 
     }
 }
 
-/// The sign with which a text begins, and the text behind it.
+/// The sign with which a text begins, and the text after it.
 fn sign_at(text: &[u8]) -> Option<(Prefix, &[u8])>
     ensures { read_as meant (seen result) ≡ spec_sign_at text.now }
 {
-    if let Some(rest) = after_front(text, b"+") {
+    if let Some(rest) = after_prefix(text, b"+") {
         return Some((Prefix::Plus, rest));
     }
-    let rest = after_front(text, b"-")?;
+    let rest = after_prefix(text, b"-")?;
     Some((Prefix::Minus, rest))
 }
 
 /// The prefix with which a text begins, where an expression of the level `least` or a higher one may begin with it, and
-/// the text behind it.
+/// the text after it.
 pub(crate) fn prefix_at(text: &[u8], least: u8) -> Option<(Prefix, &[u8])>
     ensures { read_as meant (seen result) ≡ spec_prefix_at least text.now }
 {
     if least <= 3 {
-        if let Some(rest) = after_front(text, b".NOT.") {
+        if let Some(rest) = after_prefix(text, b".NOT.") {
             return Some((Prefix::Negation, rest));
         }
     }
@@ -187,13 +187,13 @@ pub(crate) fn prefix_level(prefix: Prefix) -> u8
     }
 }
 
-/// The logical constant with which a text begins, and the text behind it.
+/// The logical constant with which a text begins, and the text after it.
 pub(crate) fn truth_at(text: &[u8]) -> Option<(bool, &[u8])>
     ensures { read_as Written.truth (seen result) ≡ spec_truth_at text.now }
 {
-    if let Some(rest) = after_front(text, b".TRUE.") {
+    if let Some(rest) = after_prefix(text, b".TRUE.") {
         return Some((true, rest));
     }
-    let rest = after_front(text, b".FALSE.")?;
+    let rest = after_prefix(text, b".FALSE.")?;
     Some((false, rest))
 }

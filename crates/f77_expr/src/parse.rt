@@ -28,7 +28,7 @@ fn ends_piece(state: Open, c: u8) -> bool
 }
 
 /// The piece with which a text begins.
-fn piece_in_front(text: &[u8]) -> Piece<'_>
+fn piece_at_start(text: &[u8]) -> Piece<'_>
     ensures text { result.text.now ≡ spec_piece text.now }
     ensures depth { result.depth ≡ bracket_depth (spec_piece text.now) }
     ensures short { length result.text.now ≤ length text.now }
@@ -48,7 +48,7 @@ fn piece_in_front(text: &[u8]) -> Piece<'_>
     Piece { text, depth }
 }
 
-/// The expression in a piece of a text, for a reader that goes on behind it (ANSI X3.9-1978, section 6). The piece runs
+/// The expression in a piece of a text, for a reader that goes on after it (ANSI X3.9-1978, section 6). The piece runs
 /// from the place `from`, counted in characters from 0, to the first `,`, `)`, `=` or `:` outside brackets and character
 /// constants, or to the end. An expression with a constant above 2147483647 is read to its end.
 ///
@@ -62,7 +62,7 @@ pub fn read_expr(alloc: Global, text: &CharList, from: u32) -> Result<ReadExpr, 
     requires { from ≤ length text.now }
     ensures { IsPieceRead (spec_piece (drop from text.now)) from result }
 {
-    let piece = piece_in_front(&text.as_bytes()[from as usize..]);
+    let piece = piece_at_start(&text.as_bytes()[from as usize..]);
     read_piece(alloc, piece.text, from)
 }
 
@@ -91,7 +91,7 @@ pub fn parse_expr(alloc: Global, text: &CharList, from: u32) -> Result<Parsed, E
     requires { from ≤ length text.now }
     ensures { IsParsed (spec_piece (drop from text.now)) from result }
 {
-    let piece = piece_in_front(&text.as_bytes()[from as usize..]);
+    let piece = piece_at_start(&text.as_bytes()[from as usize..]);
     if piece.depth > DEEPEST_ALLOWED {
         return Err(ExprEnd::TooDeep);
     }

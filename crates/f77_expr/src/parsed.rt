@@ -6,7 +6,7 @@ use f77_tree::RawExpr;
 pub struct Parsed {
     /// The expression. Brackets and a sign `+` leave no trace in it.
     pub expr: RawExpr,
-    /// The place behind the piece that was read, counted in characters from 0.
+    /// The place after the piece that was read, counted in characters from 0.
     pub next: u32,
 }
 
@@ -15,13 +15,13 @@ pub struct Parsed {
 pub struct ReadExpr {
     /// The expression. A constant above 2147483647 is kept as 0.
     pub expr: RawExpr,
-    /// The place behind the piece that was read, counted in characters from 0.
+    /// The place after the piece that was read, counted in characters from 0.
     pub next: u32,
     /// Whether an integer constant in the piece is above 2147483647.
     pub has_great_constant: bool,
 }
 
-/// Why nothing was read by a reader that goes on behind the expression.
+/// Why nothing was read by a reader that goes on after the expression.
 #[derive(Clone, Copy, Debug, PartialEq, Eq)]
 pub enum ReadEnd {
     /// The piece is no expression.

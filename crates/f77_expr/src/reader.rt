@@ -11,7 +11,7 @@ ghost use Rattle.f77_expr.specs.Parsing.{IsPieceRead};
 use crate::characters::{is_digit, is_letter};
 use crate::constants::{constant, split_digits, split_symbolic};
 use crate::operators::{
-    levels_of, operand_level, operator_behind, prefix_at, prefix_level, truth_at,
+    levels_of, operand_level, operator_after, prefix_at, prefix_level, truth_at,
 };
 use crate::trees::{prefixed, two};
 use crate::{ReadEnd, ReadExpr};
@@ -69,7 +69,7 @@ impl<'a> Reader<'a> {
         }
     }
 
-    /// All letters and digits that stand in front, as a name.
+    /// All letters and digits that come first, as a name.
     fn name(&mut self) -> Option<Name>
         ensures name { MatchOption result (is_name (take_while is_symbolic self.old.rest.now) ≡ false) (λ name. (is_name (take_while is_symbolic self.old.rest.now) ≡ true) × (name ≡ take_while is_symbolic self.old.rest.now)) }
         ensures rest { self.new.rest.now ≡ drop (length (take_while is_symbolic self.old.rest.now)) self.old.rest.now }
@@ -100,7 +100,7 @@ impl<'a> Reader<'a> {
         ensures { Answers (λ e. IsRead self.old.rest.now self.old.has_great (expression_at least self.old.rest.now) e self.new.rest.now self.new.has_great) (expression_at least self.old.rest.now ≡ None) result }
     {
         let mut left = self.operand(alloc, least)?;
-        while let Some((op, rest)) = operator_behind(self.rest, least, left.level) {
+        while let Some((op, rest)) = operator_after(self.rest, least, left.level) {
             self.rest = rest;
             let levels = levels_of(op);
             let right = self.expression(alloc, levels.right)?;

@@ -68,7 +68,7 @@ module _ (n : ℕ) where
     all = length-nodes ∙ sym (length-alone n);
     parents = λ x lt. rw (parent-leaf x (inside x lt)) lt;
     together = λ x lt. ap (λ y. storage_at (alone n) y) (parent-leaf x (inside x lt));
-    behind = λ x lt.
+    beyond = λ x lt.
         let e : distance_at (alone n) (node_at nodes x).parent ≡ distance_at (alone n) x = ap (λ y. distance_at (alone n) y) (parent-leaf x (inside x lt)) in
         let o : (node_at nodes x).offset ≡ pos 0 = ap (λ (m : Node). m.offset) (node_at-leaf n x (inside x lt)) in
         omega (arith, ints);

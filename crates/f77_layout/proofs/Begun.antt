@@ -49,7 +49,7 @@ module _ (spots : List Spot) (firsts : List ℕ) (all : List Equation) (r name :
         (λ (e : name ≡ x).
         let here : distance_at spots name ≡ distance_at spots x = ap (λ z. distance_at spots z) e in
         let s : storage_at spots r ≡ storage_at spots y = there.together ∙ ap (λ z. storage_at spots z) e ∙ same in
-        omega (arith, ints, there.behind, is_low.least y lt s))
+        omega (arith, ints, there.beyond, is_low.least y lt s))
         (Contains-push_cases firsts name x fx);
   }
 
@@ -59,7 +59,7 @@ module _ (spots : List Spot) (firsts : List ℕ) (all : List Equation) (r name :
   too-late : (low : ℤ) → IsLow spots r low → starts_right (Some d) low ≡ false → AreRight spots more all → ⊥
   too-late low is early right =
       let b = right.begins name is.name (Contains-push firsts name) is.known (sym there.together ∙ is.reached.together) in
-      le-no d low early (omega (arith, ints, there.behind, is.reached.behind))
+      le-no d low early (omega (arith, ints, there.beyond, is.reached.beyond))
 
   tells-starts : AreRight spots firsts all → (start : Option ℤ) (low : ℤ) → IsStart spots firsts r start → IsLow spots r low → Tells (joined_starts start (Some d) low)
   tells-starts right None low none is_low =
@@ -170,7 +170,7 @@ nothing-held count s few forest parts right =
                 omega (arith, ints);
             name = x;
             known = omega (arith, forest.all);
-            reached = record { together = refl; behind = omega (arith, ints) };
+            reached = record { together = refl; beyond = omega (arith, ints) };
           };
           start = λ y fy same. none y fy;
         }));

@@ -10,7 +10,7 @@ use Rattle.f77_tree.specs.declared.programs.NameInfo.{NameInfo}
 use Rattle.f77_tree.specs.Places.{Equation, same_block}
 use Rattle.f77_layout.specs.Storage.{Spot, Standing, with_standing, last_standing, following, standing_equations, is_kept, none_before, blocks_begin, are_right, size_at}
 use Rattle.f77_layout.specs.Storages.{AreRight}
-use Rattle.f77_layout.specs.Standings.{firsts_behind}
+use Rattle.f77_layout.specs.Standings.{firsts_after}
 use Rattle.f77_layout.specs.Trees.{storage_at, distance_at}
 use Rattle.f77_layout.proofs.StandingLemmas.{last-none}
 use Rattle.f77_layout.proofs.Deciding.{same_block-yes, same_block-itself, kept-from, all-from}
@@ -89,11 +89,11 @@ module _ (names : List NameInfo) (spots : List Spot) (whole : List Standing) (fi
     block_is : first.block ≡ a.block
     together : storage_at spots first.name ≡ storage_at spots a.name
 
-  has-first : (seen xs : List Standing) (s : Standing) → ((k : ℕ) → Contains (firsts_behind seen (s ∷ xs)) k → Contains firsts k) → ((e : Equation) → Contains (standing_equations names seen (s ∷ xs)) e → storage_at spots e.from ≡ storage_at spots e.to) → Contains whole s → ((a : Standing) → Contains seen a → HasFirst a) → (last : Option ℕ) → last_standing s.block seen ≡ last → HasFirst s
+  has-first : (seen xs : List Standing) (s : Standing) → ((k : ℕ) → Contains (firsts_after seen (s ∷ xs)) k → Contains firsts k) → ((e : Equation) → Contains (standing_equations names seen (s ∷ xs)) e → storage_at spots e.from ≡ storage_at spots e.to) → Contains whole s → ((a : Standing) → Contains seen a → HasFirst a) → (last : Option ℕ) → last_standing s.block seen ≡ last → HasFirst s
   has-first seen xs s firsts_in equal stands before None e =
       let none = last-none s.block seen e in
       let here : Contains (cond (list_any (λ a. same_block a.block s.block) seen) [] (s.name ∷ [])) s.name = subst (λ (b : Bool). Contains (cond b [] (s.name ∷ [])) s.name) (sym none) (Contains-push [] s.name) in
-      record { first = s; begins = firsts_in s.name (Contains-append_left (cond (list_any (λ a. same_block a.block s.block) seen) [] (s.name ∷ [])) (firsts_behind (seen ++ s ∷ []) xs) s.name here); stands = stands; block_is = refl; together = refl }
+      record { first = s; begins = firsts_in s.name (Contains-append_left (cond (list_any (λ a. same_block a.block s.block) seen) [] (s.name ∷ [])) (firsts_after (seen ++ s ∷ []) xs) s.name here); stands = stands; block_is = refl; together = refl }
   has-first seen xs s firsts_in equal stands before (Some b) e =
       ⊎_elim
       (λ impossible. absurd cc)
@@ -105,13 +105,13 @@ module _ (names : List NameInfo) (spots : List Spot) (whole : List Standing) (fi
       record { first = has.first; begins = has.begins; stands = has.stands; block_is = has.block_is ∙ f.block_is; together = has.together ∙ ap (λ k. storage_at spots k) f.name_is ∙ joined })
       (last-stands s.block None seen b e)
 
-  chain : (seen xs : List Standing) → ((k : ℕ) → Contains (firsts_behind seen xs) k → Contains firsts k) → ((e : Equation) → Contains (standing_equations names seen xs) e → storage_at spots e.from ≡ storage_at spots e.to) → ((a : Standing) → Contains xs a → Contains whole a) → ((a : Standing) → Contains seen a → HasFirst a) → (a : Standing) → Contains (seen ++ xs) a → HasFirst a
+  chain : (seen xs : List Standing) → ((k : ℕ) → Contains (firsts_after seen xs) k → Contains firsts k) → ((e : Equation) → Contains (standing_equations names seen xs) e → storage_at spots e.from ≡ storage_at spots e.to) → ((a : Standing) → Contains xs a → Contains whole a) → ((a : Standing) → Contains seen a → HasFirst a) → (a : Standing) → Contains (seen ++ xs) a → HasFirst a
   chain seen [] firsts_in equal stands before a h = ⊎_elim (λ l. before a l) (λ (r : Contains [] a). absurd (omega (arith, r.1))) (Contains-append_cases seen [] a h)
   chain seen (s ∷ xs) firsts_in equal stands before a h =
       let s_in : Contains (s ∷ xs) s = Contains-append_left (s ∷ []) xs s (Contains-push [] s) in
       let own : HasFirst s = has-first seen xs s firsts_in equal (stands s s_in) before (last_standing s.block seen) refl in
       chain (seen ++ s ∷ []) xs
-      (λ k there. firsts_in k (Contains-append_right (cond (list_any (λ x. same_block x.block s.block) seen) [] (s.name ∷ [])) (firsts_behind (seen ++ s ∷ []) xs) k there))
+      (λ k there. firsts_in k (Contains-append_right (cond (list_any (λ x. same_block x.block s.block) seen) [] (s.name ∷ [])) (firsts_after (seen ++ s ∷ []) xs) k there))
       (λ e there. equal e (Contains-append_right (following names (last_standing s.block seen) s.name) (standing_equations names (seen ++ s ∷ []) xs) e there))
       (λ x there. stands x (Contains-append_right (s ∷ []) xs x there))
       (λ x there. ⊎_elim (λ old. before x old) (λ (new : s ≡ x). subst HasFirst new own) (Contains-push_cases seen s x there))
@@ -119,7 +119,7 @@ module _ (names : List NameInfo) (spots : List Spot) (whole : List Standing) (fi
 
 -- ---- right places pass the test
 
-module _ (names : List NameInfo) (spots : List Spot) (standings : List Standing) (all : List Equation) (right : AreRight spots (firsts_behind [] standings) all) where
+module _ (names : List NameInfo) (spots : List Spot) (standings : List Standing) (all : List Equation) (right : AreRight spots (firsts_after [] standings) all) where
   not-or-from : (a b : Bool) → (a ≡ true → b ≡ true) → (not a || b) ≡ true
   not-or-from true b f = f refl
   not-or-from false b f = refl
@@ -133,26 +133,26 @@ module _ (names : List NameInfo) (spots : List Spot) (standings : List Standing)
 
   one-block : Once standings → ((e : Equation) → Contains (standing_equations names [] standings) e → storage_at spots e.from ≡ storage_at spots e.to) → (a b : Standing) → Contains standings a → Contains standings b → storage_at spots a.name ≡ storage_at spots b.name → a.block ≡ b.block
   one-block once equal a b ia ib share =
-      let has = chain names spots standings (firsts_behind [] standings) [] standings (λ k h. h) equal (λ x h. h) (λ x (h : Contains [] x). absurd (omega (arith, h.1))) in
+      let has = chain names spots standings (firsts_after [] standings) [] standings (λ k h. h) equal (λ x h. h) (λ x (h : Contains [] x). absurd (omega (arith, h.1))) in
       let fa = has a ia in
       let fb = has b ib in
       let same = right.apart fa.first.name fb.first.name fa.begins fb.begins (fa.together ∙ share ∙ sym fb.together) in
       sym fa.block_is ∙ once fa.first fb.first fa.stands fb.stands same ∙ fb.block_is
 
-  none-before-from : (x : ℕ) → Contains (firsts_behind [] standings) x → none_before (length spots) spots x ≡ true
+  none-before-from : (x : ℕ) → Contains (firsts_after [] standings) x → none_before (length spots) spots x ≡ true
   none-before-from x fx = all-from _ (range_with_len 0 (length spots)) (λ y iy.
       let lt : y < length spots = let here : get_or (range_with_len 0 (length spots)) iy.0 y ≡ 0 + iy.0 = get_or-range_with_len 0 (length spots) iy.0 y (omega (arith, iy.1, length-range_with_len 0 (length spots))) in omega (arith, iy.1, iy.2, length-range_with_len 0 (length spots)) in
       not-or-from _ _ (λ share. le-from (distance_at spots x) (distance_at spots y) (right.begins x y fx lt (eqb-true (storage_at spots x) (storage_at spots y) share))))
 
-  begins-from : (seen xs : List Standing) → ((k : ℕ) → Contains (firsts_behind seen xs) k → Contains (firsts_behind [] standings) k) → blocks_begin (length spots) spots seen xs ≡ true
+  begins-from : (seen xs : List Standing) → ((k : ℕ) → Contains (firsts_after seen xs) k → Contains (firsts_after [] standings) k) → blocks_begin (length spots) spots seen xs ≡ true
   begins-from seen [] into = refl
   begins-from seen (s ∷ xs) into =
       let head = cond (list_any (λ a. same_block a.block s.block) seen) [] (s.name ∷ []) in
       and_from _ _
       (or-from-right (list_any (λ a. same_block a.block s.block) seen) (none_before (length spots) spots s.name) (λ e.
       let here : Contains (cond (list_any (λ a. same_block a.block s.block) seen) [] (s.name ∷ [])) s.name = subst (λ (b : Bool). Contains (cond b [] (s.name ∷ [])) s.name) (sym e) (Contains-push [] s.name) in
-      none-before-from s.name (into s.name (Contains-append_left (cond (list_any (λ a. same_block a.block s.block) seen) [] (s.name ∷ [])) (firsts_behind (seen ++ s ∷ []) xs) s.name here))))
-      (begins-from (seen ++ s ∷ []) xs (λ k there. into k (Contains-append_right (cond (list_any (λ a. same_block a.block s.block) seen) [] (s.name ∷ [])) (firsts_behind (seen ++ s ∷ []) xs) k there)))
+      none-before-from s.name (into s.name (Contains-append_left (cond (list_any (λ a. same_block a.block s.block) seen) [] (s.name ∷ [])) (firsts_after (seen ++ s ∷ []) xs) s.name here))))
+      (begins-from (seen ++ s ∷ []) xs (λ k there. into k (Contains-append_right (cond (list_any (λ a. same_block a.block s.block) seen) [] (s.name ∷ [])) (firsts_after (seen ++ s ∷ []) xs) k there)))
 
   pub right-from : Once standings → ((e : Equation) → Contains (standing_equations names [] standings) e → storage_at spots e.from ≡ storage_at spots e.to) → are_right (length spots) spots standings all ≡ true
   right-from once equal =

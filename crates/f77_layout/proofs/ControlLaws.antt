@@ -17,7 +17,7 @@ use Rattle.f77_layout.specs.Source.{IsSource}
 use Rattle.f77_layout.specs.Labels.{is_labelled_twice, lacks_label, statement_of, used}
 use Rattle.f77_layout.specs.LabelTable.{IsLabel}
 use Rattle.f77_layout.specs.Counts.{asks_too_much, items_taken}
-use Rattle.f77_layout.specs.Executables.{own_executables, own_kinds, increments, behind, is_do_to, is_do_in, loops_above, loops_to, executables_with_ends, first_of, executables_at, executables_if_any, executables}
+use Rattle.f77_layout.specs.Executables.{own_executables, own_kinds, increments, beyond, is_do_to, is_do_in, loops_above, loops_to, executables_with_ends, first_of, executables_at, executables_if_any, executables}
 use Rattle.f77_layout.specs.Tables.{IsUsable}
 use Rattle.f77_layout.proofs.LabelLemmas.{statement_of-own}
 use Rattle.f77_layout.proofs.UsedLabels.{used_given}
@@ -31,12 +31,12 @@ use Rattle.f77_layout.proofs.Usable.{usable}
 module _ (names : List NameInfo) (checked : Bool) (stmts : List Labelled) (usable : All (IsUsable stmts) stmts) where
   length-at : (place : ℕ) (s : Labelled) → IsUsable stmts s → length (executables_at names checked stmts place s) ≡ executables_with_ends stmts s
   length-at place s is =
-      let kinds = own_kinds names checked stmts place (first_of stmts place) (behind stmts place s) s.stmt in
+      let kinds = own_kinds names checked stmts place (first_of stmts place) (beyond stmts place s) s.stmt in
       let ends = increments names stmts place (first_of stmts place + own_executables s.stmt) (loops_to stmts s.label) in
       let line : ExecKind → Exec = λ kind. record { line = s.line; kind = kind } in
       length-map (kinds ++ ends) line
       ∙ length-append kinds ends
-      ∙ omega (arith, length-own names checked stmts place (first_of stmts place) (behind stmts place s) s.stmt is.inner is.no_subroutine, length-increments names checked stmts place (first_of stmts place + own_executables s.stmt) (loops_to stmts s.label))
+      ∙ omega (arith, length-own names checked stmts place (first_of stmts place) (beyond stmts place s) s.stmt is.inner is.no_subroutine, length-increments names checked stmts place (first_of stmts place + own_executables s.stmt) (loops_to stmts s.label))
 
   abbrev at : ℕ → List Exec
   at place = executables_if_any names checked stmts place (slice_get stmts place)

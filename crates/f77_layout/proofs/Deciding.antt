@@ -12,7 +12,7 @@ use Rattle.f77_tree.specs.Places.{Equation, same_block}
 use Rattle.f77_layout.specs.Storage.{Spot, Standing, is_kept, none_before, blocks_begin, are_right}
 use Rattle.f77_layout.specs.Storages.{AreRight}
 use Rattle.f77_layout.proofs.Parts.{le-yes}
-use Rattle.f77_layout.specs.Standings.{firsts_behind}
+use Rattle.f77_layout.specs.Standings.{firsts_after}
 use Rattle.f77_layout.specs.Trees.{storage_at, distance_at, IsBelow}
 
 -- two blocks are the same where their names are
@@ -30,10 +30,10 @@ same_block-itself (Some a) = (bytes_decides a a).1 refl
 pub kept-yes : (spots : List Spot) (e : Equation) → is_kept spots e ≡ true → IsBelow spots e.to e.from e.distance
 kept-yes spots e h =
     let both = and_parts _ _ h in
-    record { together = eqb-true (storage_at spots e.from) (storage_at spots e.to) both.0; behind = (Decides-int_eq (distance_at spots e.to) (distance_at spots e.from +ℤ e.distance)).0 both.1 }
+    record { together = eqb-true (storage_at spots e.from) (storage_at spots e.to) both.0; beyond = (Decides-int_eq (distance_at spots e.to) (distance_at spots e.from +ℤ e.distance)).0 both.1 }
 
 pub kept-from : (spots : List Spot) (e : Equation) → IsBelow spots e.to e.from e.distance → is_kept spots e ≡ true
-kept-from spots e below = and_from _ _ (eq-eqb (storage_at spots e.from) (storage_at spots e.to) below.together) ((Decides-int_eq (distance_at spots e.to) (distance_at spots e.from +ℤ e.distance)).1 below.behind)
+kept-from spots e below = and_from _ _ (eq-eqb (storage_at spots e.from) (storage_at spots e.to) below.together) ((Decides-int_eq (distance_at spots e.to) (distance_at spots e.from +ℤ e.distance)).1 below.beyond)
 
 -- ---- tests over lists
 
@@ -82,7 +82,7 @@ any-left block (x ∷ seen) s h =
     or-both true b e f = e
     or-both false b e f = f
 
-is-first : (seen xs : List Standing) (x : ℕ) → Contains (firsts_behind seen xs) x → IsFirst seen xs x
+is-first : (seen xs : List Standing) (x : ℕ) → Contains (firsts_after seen xs) x → IsFirst seen xs x
 is-first seen [] x h = absurd (omega (arith, h.1))
 is-first seen (s ∷ xs) x h =
     ⊎_elim
@@ -90,18 +90,18 @@ is-first seen (s ∷ xs) x h =
     (λ there.
     let f = is-first (seen ++ s ∷ []) xs x there in
     record { standing = f.standing; stands = Contains-append_right (s ∷ []) xs f.standing f.stands; name_is = f.name_is; unseen = (any-left f.standing.block seen s f.unseen).0 })
-    (Contains-append_cases (if list_any (λ a. same_block a.block s.block) seen then [] else s.name ∷ []) (firsts_behind (seen ++ s ∷ []) xs) x h)
+    (Contains-append_cases (if list_any (λ a. same_block a.block s.block) seen then [] else s.name ∷ []) (firsts_after (seen ++ s ∷ []) xs) x h)
 
 -- first names that share a storage are one, where names of COMMON that do are of one block
 module _ (spots : List Spot) where
   abbrev OneBlock : List Standing → Type 0
   OneBlock xs = (a b : Standing) → Contains xs a → Contains xs b → storage_at spots a.name ≡ storage_at spots b.name → a.block ≡ b.block
 
-  firsts-differ : (seen xs : List Standing) → OneBlock xs → (x y : ℕ) → Contains (firsts_behind seen xs) x → Contains (firsts_behind seen xs) y → storage_at spots x ≡ storage_at spots y → x ≡ y
+  firsts-differ : (seen xs : List Standing) → OneBlock xs → (x y : ℕ) → Contains (firsts_after seen xs) x → Contains (firsts_after seen xs) y → storage_at spots x ≡ storage_at spots y → x ≡ y
   firsts-differ seen [] one x y hx hy same = absurd (omega (arith, hx.1))
   firsts-differ seen (s ∷ xs) one x y hx hy same =
       let head = if list_any (λ a. same_block a.block s.block) seen then [] else s.name ∷ [] in
-      let rest = firsts_behind (seen ++ s ∷ []) xs in
+      let rest = firsts_after (seen ++ s ∷ []) xs in
       let s_in : Contains (s ∷ xs) s = Contains-append_left (s ∷ []) xs s (Contains-push [] s) in
       let clash : (z w : ℕ) → s.name ≡ z → Contains rest w → storage_at spots z ≡ storage_at spots w → ⊥ = λ z w e there shared.
       let f = is-first (seen ++ s ∷ []) xs w there in
@@ -121,16 +121,16 @@ module _ (spots : List Spot) where
       (Contains-append_cases head rest y hy))
       (Contains-append_cases head rest x hx)
 
-  firsts-begin : (n : ℕ) (seen xs : List Standing) → blocks_begin n spots seen xs ≡ true → (x : ℕ) → Contains (firsts_behind seen xs) x → none_before n spots x ≡ true
+  firsts-begin : (n : ℕ) (seen xs : List Standing) → blocks_begin n spots seen xs ≡ true → (x : ℕ) → Contains (firsts_after seen xs) x → none_before n spots x ≡ true
   firsts-begin n seen [] h x there = absurd (omega (arith, there.1))
   firsts-begin n seen (s ∷ xs) h x there =
       let both = and_parts _ _ h in
       ⊎_elim
       (λ here. let f = first-here seen s x here in ap (none_before n spots) (sym f.1) ∙ or-right _ _ both.0 f.0)
       (λ later. firsts-begin n (seen ++ s ∷ []) xs both.1 x later)
-      (Contains-append_cases (if list_any (λ a. same_block a.block s.block) seen then [] else s.name ∷ []) (firsts_behind (seen ++ s ∷ []) xs) x there)
+      (Contains-append_cases (if list_any (λ a. same_block a.block s.block) seen then [] else s.name ∷ []) (firsts_after (seen ++ s ∷ []) xs) x there)
 
-  pub right-yes : (standings : List Standing) (all : List Equation) → are_right (length spots) spots standings all ≡ true → AreRight spots (firsts_behind [] standings) all
+  pub right-yes : (standings : List Standing) (all : List Equation) → are_right (length spots) spots standings all ≡ true → AreRight spots (firsts_after [] standings) all
   right-yes standings all h =
       let ends = and_parts _ _ h in
       let starts = and_parts _ _ ends.0 in

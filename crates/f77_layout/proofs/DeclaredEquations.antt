@@ -32,7 +32,7 @@ use Rattle.f77_layout.proofs.DeclaredDims.{right_declaration}
 use Rattle.f77_layout.proofs.DeclaredCommon.{names_in_part, common_names-all, parts_names-map, one_name}
 use Rattle.f77_layout.proofs.DeclaredMembers.{all_groups-right}
 use Rattle.f77_layout.proofs.DeclaredSizes.{size-exact, distance-exact}
-use Rattle.f77_layout.proofs.DeclaredStandings.{same_index, name_of, is_of, names_standing, behind, standings-all, standing_equations-from, standing_equations-to}
+use Rattle.f77_layout.proofs.DeclaredStandings.{same_index, name_of, is_of, names_standing, beyond, standings-all, standing_equations-from, standing_equations-to}
 
 -- the same equations, in some order
 pub record HaveSameEquations (all others : List Equation) : Type 0 where
@@ -92,14 +92,14 @@ record IsToldBy (commons : List CommonPart) (block : Option (List ℕ)) : Type 0
   same : part.block ≡ block
 
 module _ (names placed : List NameInfo) (index : (name : List ℕ) → index_of placed name ≡ index_of names name) (sizes : (k : ℕ) → size_of (dims_of placed k) ≡ pos (size_at names k)) where
-  neighbours-behind : (x : ℕ) (xs : List ℕ) → neighbours placed (x ∷ xs) ≡ behind names (Some x) xs
-  neighbours-behind x [] = refl
-  neighbours-behind x (y ∷ xs) =
-      ap (λ (d : ℤ). equation x y d ∷ neighbours placed (y ∷ xs)) (sizes x) ∙ ap (λ (es : List Equation). equation x y (pos (size_at names x)) ∷ es) (neighbours-behind y xs)
+  neighbours-after : (x : ℕ) (xs : List ℕ) → neighbours placed (x ∷ xs) ≡ beyond names (Some x) xs
+  neighbours-after x [] = refl
+  neighbours-after x (y ∷ xs) =
+      ap (λ (d : ℤ). equation x y d ∷ neighbours placed (y ∷ xs)) (sizes x) ∙ ap (λ (es : List Equation). equation x y (pos (size_at names x)) ∷ es) (neighbours-after y xs)
 
-  neighbours-all : (xs : List ℕ) → neighbours placed xs ≡ behind names None xs
+  neighbours-all : (xs : List ℕ) → neighbours placed xs ≡ beyond names None xs
   neighbours-all [] = refl
-  neighbours-all (x ∷ xs) = neighbours-behind x xs
+  neighbours-all (x ∷ xs) = neighbours-after x xs
 
   names-in_part : (told block : Option (List ℕ)) (b : Bool) → same_block told block ≡ b → (decls : List Decl) → names_standing block (map (λ decl. standing told (index_of names decl.name)) decls) ≡ cond b (map (λ decl. index_of placed decl.name) decls) []
   names-in_part told block true is [] = refl
@@ -142,8 +142,8 @@ module _ (names placed : List NameInfo) (index : (name : List ℕ) → index_of 
     abbrev of_block : CommonPart → List Equation
     of_block part = neighbours placed (block_names placed commons part.block)
 
-    of_block-standing : (part : CommonPart) → of_block part ≡ behind names None (names_standing part.block (flat_map (standings_of names) commons))
-    of_block-standing part = neighbours-all (block_names placed commons part.block) ∙ ap (behind names None) (block_names-standing part.block commons)
+    of_block-standing : (part : CommonPart) → of_block part ≡ beyond names None (names_standing part.block (flat_map (standings_of names) commons))
+    of_block-standing part = neighbours-all (block_names placed commons part.block) ∙ ap (beyond names None) (block_names-standing part.block commons)
 
     all_standings : common_solved names commons ≡ standing_equations names [] (flat_map (standings_of names) commons)
     all_standings = ap (standing_equations names []) (standings-all names commons once)
@@ -158,7 +158,7 @@ module _ (names placed : List NameInfo) (index : (name : List ℕ) → index_of 
     common-to e there =
         let all = flat_map (standings_of names) commons in
         let one = standing_equations-to names (IsToldBy commons) all e (told_by commons) (subst (λ (es : List Equation). Contains es e) all_standings there) in
-        let here : Contains (behind names None (names_standing one.told.part.block all)) e = subst (λ (block : Option (List ℕ)). Contains (behind names None (names_standing block all)) e) (sym one.told.same) one.there in
+        let here : Contains (beyond names None (names_standing one.told.part.block all)) e = subst (λ (block : Option (List ℕ)). Contains (beyond names None (names_standing block all)) e) (sym one.told.same) one.there in
         of_part of_block commons one.told.part e one.told.among (subst (λ (es : List Equation). Contains es e) (sym (of_block-standing one.told.part)) here)
 
   -- ---- EQUIVALENCE

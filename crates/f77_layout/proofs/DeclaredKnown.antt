@@ -21,9 +21,9 @@ use Rattle.f77_layout.proofs.DeclaredForms.{All-flat_map}
 
 -- ---- lists
 
-front : {A : Type 0} (P : A → Type 0) (xs ys : List A) → All P (xs ++ ys) → All P xs
-front P [] ys all = All-nil P
-front P (x ∷ xs) ys all = All-cons P x xs (All-head P x (xs ++ ys) all) (front P xs ys (All-tail P x (xs ++ ys) all))
+prefix : {A : Type 0} (P : A → Type 0) (xs ys : List A) → All P (xs ++ ys) → All P xs
+prefix P [] ys all = All-nil P
+prefix P (x ∷ xs) ys all = All-cons P x xs (All-head P x (xs ++ ys) all) (prefix P xs ys (All-tail P x (xs ++ ys) all))
 
 rear : {A : Type 0} (P : A → Type 0) (xs ys : List A) → All P (xs ++ ys) → All P ys
 rear P [] ys all = all
@@ -38,13 +38,13 @@ of_each_part : {S X A : Type 0} (P : A → Type 0) (items : S → List X) (name 
 of_each_part P items name [] all = All-nil (λ part. All (λ x. P (name x)) (items part))
 of_each_part P items name (part ∷ parts) all =
     let rest = flat_map (λ p. map name (items p)) parts in
-    All-cons (λ p. All (λ x. P (name x)) (items p)) part parts (before_map P name (items part) (front P (map name (items part)) rest all)) (of_each_part P items name parts (rear P (map name (items part)) rest all))
+    All-cons (λ p. All (λ x. P (name x)) (items p)) part parts (before_map P name (items part) (prefix P (map name (items part)) rest all)) (of_each_part P items name parts (rear P (map name (items part)) rest all))
 
 -- what holds of each item of each part
 pub each_part : {S X : Type 0} (P : X → Type 0) (items : S → List X) (parts : List S) → All P (flat_map items parts) → All (λ part. All P (items part)) parts
 each_part P items [] all = All-nil (λ part. All P (items part))
 each_part P items (part ∷ parts) all =
-    All-cons (λ p. All P (items p)) part parts (front P (items part) (flat_map items parts) all) (each_part P items parts (rear P (items part) (flat_map items parts) all))
+    All-cons (λ p. All P (items p)) part parts (prefix P (items part) (flat_map items parts) all) (each_part P items parts (rear P (items part) (flat_map items parts) all))
 
 -- ---- names that appear
 

@@ -14,13 +14,13 @@ use Rattle.f77_tree.specs.declared.statements.Stmt.{Stmt}
 use Rattle.f77_tree.specs.declared.statements.Stmt.TheVariants.{Equivalence, Init}
 use Rattle.f77_tree.specs.Value.{dims_of}
 use Rattle.f77_tree.specs.Declarations.{index_of, member_index, AreWithin, IsMember, IsGroup}
-use Rattle.f77_layout.specs.Faults.{first_line, first_behind}
+use Rattle.f77_layout.specs.Faults.{first_line, first_after}
 use Rattle.f77_layout.specs.Declarations.{groups_of, all_groups, inits_of, all_inits}
 use Rattle.f77_layout.specs.Layout.{names_of, placed_names}
 use Rattle.f77_layout.specs.Source.{IsSource}
 use Rattle.f77_layout.specs.StorageFaults.{are_within, is_member, members_of, has_wrong_member, has_wrong_storage}
 use Rattle.f77_layout.proofs.ProperPlaced.{placed_names-agrees}
-use Rattle.f77_layout.proofs.StorageLines.{behind_clear, behind_next}
+use Rattle.f77_layout.proofs.StorageLines.{after_clear, after_next}
 use Rattle.f77_layout.proofs.DeclaredForms.{IsReadGroup, All-flat_map, all_groups-read}
 use Rattle.f77_layout.proofs.DeclaredNames.{same_index}
 use Rattle.f77_layout.proofs.DeclaredKnown.{GroupKnown, all_groups-known, all_inits-known, each_part}
@@ -63,12 +63,12 @@ module _ (names : List NameInfo) where
   in_items (Init parts) none = each_part (IsRight names) (λ (part : InitPart). part.items) parts (all_right (λ member. not (is_member names member)) (members_of (Init parts)) none)
   in_items _ none = All-nil (λ (part : InitPart). All (IsRight names) part.items)
 
-  no_wrong_members : (placed : List NameInfo) (whole above stmts : List Labelled) → first_behind (has_wrong_storage names placed whole) above stmts ≡ None → All (λ s. has_wrong_member names s ≡ false) stmts
+  no_wrong_members : (placed : List NameInfo) (whole above stmts : List Labelled) → first_after (has_wrong_storage names placed whole) above stmts ≡ None → All (λ s. has_wrong_member names s ≡ false) stmts
   no_wrong_members placed whole above [] none = All-nil (λ s. has_wrong_member names s ≡ false)
   no_wrong_members placed whole above (s ∷ rest) none =
-      let clear = behind_clear (has_wrong_storage names placed whole) above rest s none in
+      let clear = after_clear (has_wrong_storage names placed whole) above rest s none in
       All-cons (λ a. has_wrong_member names a ≡ false) s rest (right_declaration names placed whole above s clear).members
-      (no_wrong_members placed whole (above ++ s ∷ []) rest (sym (behind_next (has_wrong_storage names placed whole) above rest s clear) ∙ none))
+      (no_wrong_members placed whole (above ++ s ∷ []) rest (sym (after_next (has_wrong_storage names placed whole) above rest s clear) ∙ none))
 
 module _ (whole : List Labelled) (source : IsSource whole) (right : first_line (has_wrong_storage (names_of whole) (placed_names whole) whole) whole ≡ None) where
   abbrev names : List NameInfo

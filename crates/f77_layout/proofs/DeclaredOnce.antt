@@ -7,9 +7,9 @@ use Rattle.std.proofs.lemmas.List.{append-nil}
 use Rattle.std.proofs.lemmas.List.Concat.{flat_map-append}
 use Rattle.std.proofs.lemmas.List.Folds.{list_any-append}
 use Rattle.f77_tree.specs.declared.statements.Labelled.{Labelled}
-use Rattle.f77_layout.specs.Faults.{first_behind, has_repeat}
+use Rattle.f77_layout.specs.Faults.{first_after, has_repeat}
 use Rattle.f77_layout.proofs.FirstLine.{has_repeat-append}
-use Rattle.f77_layout.proofs.StorageLines.{behind_clear, behind_next}
+use Rattle.f77_layout.proofs.StorageLines.{after_clear, after_next}
 
 module _ {A : Type 0} (same : A → A → Bool) where
   -- an item isn't among those before the list
@@ -44,11 +44,11 @@ module _ {A : Type 0} (same : A → A → Bool) where
 
   -- where no statement gives an item again, no item is given twice
   pub once_in_all : (fault : List Labelled → Labelled → Bool) (give : Labelled → List A) → ((above : List Labelled) (s : Labelled) → fault above s ≡ false → has_repeat same (flat_map give above) (give s) ≡ false)
-      → (above stmts : List Labelled) → first_behind fault above stmts ≡ None → has_repeat same (flat_map give above) (flat_map give stmts) ≡ false
+      → (above stmts : List Labelled) → first_after fault above stmts ≡ None → has_repeat same (flat_map give above) (flat_map give stmts) ≡ false
   once_in_all fault give clear above [] none = refl
   once_in_all fault give clear above (s ∷ rest) none =
-      let here = behind_clear fault above rest s none in
-      let later = once_in_all fault give clear (above ++ s ∷ []) rest (sym (behind_next fault above rest s here) ∙ none) in
+      let here = after_clear fault above rest s none in
+      let later = once_in_all fault give clear (above ++ s ∷ []) rest (sym (after_next fault above rest s here) ∙ none) in
       let longer : flat_map give (above ++ s ∷ []) ≡ flat_map give above ++ give s = flat_map-append give above (s ∷ []) ∙ ap (λ (xs : List A). flat_map give above ++ xs) (append-nil (give s)) in
       has_repeat-append same (flat_map give above) (give s) (flat_map give rest)
       ∙ or_from (has_repeat same (flat_map give above) (give s)) (has_repeat same (flat_map give above ++ give s) (flat_map give rest)) (clear above s here) (ap (λ (xs : List A). has_repeat same xs (flat_map give rest)) (sym longer) ∙ later)

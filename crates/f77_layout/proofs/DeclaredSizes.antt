@@ -84,8 +84,8 @@ distance-is (dim ∷ dims) (sub ∷ subs) within few =
     let is_before : (sub -ℤ dim.lo) ≡ pos (nat_abs (sub -ℤ dim.lo)) = nonneg (sub -ℤ dim.lo) (omega (arith, ints, low)) in
     let first : nat_abs (sub -ℤ dim.lo) < extent dim = omega (arith, ints, is_before, wide, high) in
     let fewer : elements dims ≤ 262144 = omega (arith, some-wide (extent dim) (elements dims) (omega (arith, first)), few) in
-    let behind : int_lt sub dim.lo ≡ false = grind (arith, ints) in
-    let before : subscripts_before dim sub ≡ nat_abs (sub -ℤ dim.lo) = rw behind refl in
+    let beyond : int_lt sub dim.lo ≡ false = grind (arith, ints) in
+    let before : subscripts_before dim sub ≡ nat_abs (sub -ℤ dim.lo) = rw beyond refl in
     let below = whole.below in
     ap (λ n. min too_many (n + extent dim * distance_of dims subs)) before
     ∙ ap (λ n. min too_many (nat_abs (sub -ℤ dim.lo) + extent dim * n)) (distance-is dims subs within.2 fewer)
@@ -95,7 +95,7 @@ no_distance : (dims : List Dim) → distance_of dims [] ≡ 0
 no_distance [] = refl
 no_distance (dim ∷ dims) = refl
 
--- how far a member of an array without fault lies behind the first element
+-- how far a member of an array without fault lies after the first element
 pub distance-exact : (dims : List Dim) (subs : List ℤ) → are_wrong_dims dims ≡ false → (subs ≡ []) ⊎ AreWithin dims subs → offset_of dims subs ≡ pos (distance_of dims subs)
 distance-exact dims subs right is =
     ⊎_elim

@@ -82,30 +82,30 @@ pub record IsOfBlock (Q : Option (List ℕ) → Type 0) (holds : Option (List �
   pub there : holds block
 
 module _ (names : List NameInfo) where
-  -- names one behind another, behind a name if there is one
-  abbrev pub behind : Option ℕ → List ℕ → List Equation
-  behind last [] = []
-  behind last (x ∷ xs) = following names last x ++ behind (Some x) xs
+  -- names one after another, after a name if there is one
+  abbrev pub beyond : Option ℕ → List ℕ → List Equation
+  beyond last [] = []
+  beyond last (x ∷ xs) = following names last x ++ beyond (Some x) xs
 
   -- the equations of the standings that are of a block
   abbrev in_block : Option (List ℕ) → (seen more : List Standing) → List Equation
   in_block block seen [] = []
   in_block block seen (s ∷ more) = cond (is_of block s) (following names (last_standing s.block seen) s.name) [] ++ in_block block (seen ++ s ∷ []) more
 
-  in_block-behind : (block : Option (List ℕ)) (seen more : List Standing) → in_block block seen more ≡ behind (last_standing block seen) (map name_of (filter (is_of block) more))
-  in_block-behind block seen [] = refl
-  in_block-behind block seen (s ∷ more) = by (is_of block s) refl (in_block-behind block (seen ++ s ∷ []) more)
+  in_block-after : (block : Option (List ℕ)) (seen more : List Standing) → in_block block seen more ≡ beyond (last_standing block seen) (map name_of (filter (is_of block) more))
+  in_block-after block seen [] = refl
+  in_block-after block seen (s ∷ more) = by (is_of block s) refl (in_block-after block (seen ++ s ∷ []) more)
     where
-      by : (b : Bool) → is_of block s ≡ b → in_block block (seen ++ s ∷ []) more ≡ behind (last_standing block (seen ++ s ∷ [])) (map name_of (filter (is_of block) more))
-          → cond b (following names (last_standing s.block seen) s.name) [] ++ in_block block (seen ++ s ∷ []) more ≡ behind (last_standing block seen) (map name_of (cond b (s ∷ filter (is_of block) more) (filter (is_of block) more)))
+      by : (b : Bool) → is_of block s ≡ b → in_block block (seen ++ s ∷ []) more ≡ beyond (last_standing block (seen ++ s ∷ [])) (map name_of (filter (is_of block) more))
+          → cond b (following names (last_standing s.block seen) s.name) [] ++ in_block block (seen ++ s ∷ []) more ≡ beyond (last_standing block seen) (map name_of (cond b (s ∷ filter (is_of block) more) (filter (is_of block) more)))
       by true is later =
           let same : s.block ≡ block = same_block-same s.block block is in
           let last : last_standing block (seen ++ s ∷ []) ≡ Some s.name = last-more block seen s ∙ ap (λ b. cond b (Some s.name) (last_standing block seen)) is in
           ap (λ (l : Option ℕ). following names l s.name ++ in_block block (seen ++ s ∷ []) more) (ap (λ (o : Option (List ℕ)). last_standing o seen) same)
-          ∙ ap (λ (es : List Equation). following names (last_standing block seen) s.name ++ es) (later ∙ ap (λ (l : Option ℕ). behind l (map name_of (filter (is_of block) more))) last)
+          ∙ ap (λ (es : List Equation). following names (last_standing block seen) s.name ++ es) (later ∙ ap (λ (l : Option ℕ). beyond l (map name_of (filter (is_of block) more))) last)
       by false is later =
           let last : last_standing block (seen ++ s ∷ []) ≡ last_standing block seen = last-more block seen s ∙ ap (λ b. cond b (Some s.name) (last_standing block seen)) is in
-          later ∙ ap (λ (l : Option ℕ). behind l (map name_of (filter (is_of block) more))) last
+          later ∙ ap (λ (l : Option ℕ). beyond l (map name_of (filter (is_of block) more))) last
 
   -- ---- all of them
 
@@ -144,10 +144,10 @@ module _ (names : List NameInfo) where
       })
       (Contains-append_cases here (standing_equations names (seen ++ s ∷ []) more) e there)
 
-  pub standing_equations-from : (block : Option (List ℕ)) (all : List Standing) (e : Equation) → Contains (behind None (names_standing block all)) e → Contains (standing_equations names [] all) e
-  standing_equations-from block all e there = from_block block [] all e (subst (λ (es : List Equation). Contains es e) (sym (in_block-behind block [] all)) there)
+  pub standing_equations-from : (block : Option (List ℕ)) (all : List Standing) (e : Equation) → Contains (beyond None (names_standing block all)) e → Contains (standing_equations names [] all) e
+  standing_equations-from block all e there = from_block block [] all e (subst (λ (es : List Equation). Contains es e) (sym (in_block-after block [] all)) there)
 
-  pub standing_equations-to : (Q : Option (List ℕ) → Type 0) (all : List Standing) (e : Equation) → All (λ s. Q s.block) all → Contains (standing_equations names [] all) e → IsOfBlock Q (λ block. Contains (behind None (names_standing block all)) e)
+  pub standing_equations-to : (Q : Option (List ℕ) → Type 0) (all : List Standing) (e : Equation) → All (λ s. Q s.block) all → Contains (standing_equations names [] all) e → IsOfBlock Q (λ block. Contains (beyond None (names_standing block all)) e)
   standing_equations-to Q all e told there =
       let one = to_block Q [] all e told there in
-      record { block = one.block; told = one.told; there = subst (λ (es : List Equation). Contains es e) (in_block-behind one.block [] all) one.there }
+      record { block = one.block; told = one.told; there = subst (λ (es : List Equation). Contains es e) (in_block-after one.block [] all) one.there }

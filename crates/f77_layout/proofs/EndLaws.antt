@@ -17,7 +17,7 @@ use Rattle.f77_tree.specs.Control.{EndsWithEnd}
 use Rattle.f77_layout.specs.Faults.{first_line}
 use Rattle.f77_layout.specs.Source.{IsSource}
 use Rattle.f77_layout.specs.Order.{rank, is_out_of_order}
-use Rattle.f77_layout.specs.Executables.{is_do_to, is_do_in, own_kinds, own_executables, taking, increments, behind, loops_to, first_of, at_line, executables_at, executables_if_any, executables}
+use Rattle.f77_layout.specs.Executables.{is_do_to, is_do_in, own_kinds, own_executables, taking, increments, beyond, loops_to, first_of, at_line, executables_at, executables_if_any, executables}
 use Rattle.f77_layout.specs.Tables.{is_simple, has_simple_inner, IsUsable}
 use Rattle.f77_layout.proofs.LabelLemmas.{faultless}
 use Rattle.f77_layout.proofs.LoopTables.{range-more}
@@ -69,12 +69,12 @@ module _ (names : List NameInfo) (checked : Bool) (whole : List Labelled) (place
 
   no_end-at : (s : Labelled) → has_simple_inner s.stmt ≡ true → (s.stmt ≡ End → ⊥) → list_any (λ exec. is_end exec.kind) (executables_at names checked whole place s) ≡ false
   no_end-at s inner other =
-      any-lines s.line (own_kinds names checked whole place (first_of whole place) (behind whole place s) s.stmt ++ increments names whole place (first_of whole place + own_executables s.stmt) (loops_to whole s.label))
-      (any-append is_end (own_kinds names checked whole place (first_of whole place) (behind whole place s) s.stmt) (increments names whole place (first_of whole place + own_executables s.stmt) (loops_to whole s.label))
-      (no_end-own (first_of whole place) (behind whole place s) s.stmt inner other)
+      any-lines s.line (own_kinds names checked whole place (first_of whole place) (beyond whole place s) s.stmt ++ increments names whole place (first_of whole place + own_executables s.stmt) (loops_to whole s.label))
+      (any-append is_end (own_kinds names checked whole place (first_of whole place) (beyond whole place s) s.stmt) (increments names whole place (first_of whole place + own_executables s.stmt) (loops_to whole s.label))
+      (no_end-own (first_of whole place) (beyond whole place s) s.stmt inner other)
       (no_end-increments (first_of whole place + own_executables s.stmt) (loops_to whole s.label)))
 
--- ---- one END behind others
+-- ---- one END after others
 
 got-none : {X : Type 0} (p : X → Bool) (xs ys : List X) (k : ℕ) (x : X) → list_any p xs ≡ false → k < length xs → slice_get (xs ++ ys) k ≡ Some x → p x ≡ false
 got-none p [] ys k x e below at = absurd (omega arith)
@@ -167,7 +167,7 @@ module _ (names : List NameInfo) (checked : Bool) (stmts : List Labelled) (sourc
       let end : Exec = record { line = last.line; kind = Ended } in
       let one : at m ≡ end ∷ [] =
       ap (executables_if_any names checked stmts m) source.ended.stands
-      ∙ ap (λ stmt. at_line last.line (own_kinds names checked stmts m (first_of stmts m) (behind stmts m last) stmt ++ increments names stmts m (first_of stmts m + own_executables last.stmt) (loops_to stmts last.label))) source.ended.is
+      ∙ ap (λ stmt. at_line last.line (own_kinds names checked stmts m (first_of stmts m) (beyond stmts m last) stmt ++ increments names stmts m (first_of stmts m + own_executables last.stmt) (loops_to stmts last.label))) source.ended.is
       ∙ ap (λ (ds : List ℕ). end ∷ at_line last.line (increments names stmts m (first_of stmts m + own_executables last.stmt) ds)) none
       in
       let more : flat_map at (range_with_len 0 (m + 1)) ≡ flat_map at (range_with_len 0 m) ++ at m = ap (λ (ps : List ℕ). flat_map at ps) (range-more m) ∙ sym (flat_map_more at [] (range_with_len 0 m) m) in

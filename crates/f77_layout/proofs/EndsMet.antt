@@ -7,7 +7,7 @@ use Rattle.f77_layout.specs.declared.roles.Role.{Role}
 use Rattle.f77_layout.specs.declared.roles.Role.TheVariants.{NextArm, LastArm}
 use Rattle.f77_layout.specs.Roles.{role_of}
 use Rattle.f77_layout.specs.BlockEnds.{end_by, AreEnds}
-use Rattle.f77_layout.specs.Jumps.{end_behind}
+use Rattle.f77_layout.specs.Jumps.{end_after}
 use Rattle.f77_layout.proofs.Stops.{end_at, end_at-step, end_at-le}
 use mathlib.Core.Path.{fun_ext}
 
@@ -46,15 +46,15 @@ pub record IsWalkBack (arms : Bool) (stmts : List Labelled) (i : ℕ) (met ends 
 
 pub IsWalkBack-begin : (arms : Bool) (stmts : List Labelled) → IsWalkBack arms stmts (length stmts) [] (replicate (length stmts) 0)
 IsWalkBack-begin arms stmts = record {
-  stack = λ k. sym (ap (λ (xs : List Labelled). end_behind arms k xs (length stmts)) (drop_all (length stmts) stmts (omega arith)));
+  stack = λ k. sym (ap (λ (xs : List Labelled). end_after arms k xs (length stmts)) (drop_all (length stmts) stmts (omega arith)));
   as_many = length-replicate {A = ℕ} (length stmts) 0;
   inside = omega arith;
   told = λ place le lt. absurd (omega (arith, le, lt));
 }
 
-pub IsWalkBack-step : (arms : Bool) (stmts : List Labelled) (i : ℕ) (s : Labelled) (met behind ends : List ℕ) (top : ℕ) → slice_get stmts i ≡ Some s → i < length stmts → IsWalkBack arms stmts (i + 1) met ends → top ≡ get_or (reverse met) 0 (length stmts)
-    → ((none inner : ℕ) → get_or (reverse behind) inner none ≡ end_by arms (role_of s.stmt) i (λ k. get_or (reverse met) k none) inner) → IsWalkBack arms stmts i behind (set ends i top)
-IsWalkBack-step arms stmts i s met behind ends top here lt walk is_top is = record {
+pub IsWalkBack-step : (arms : Bool) (stmts : List Labelled) (i : ℕ) (s : Labelled) (met beyond ends : List ℕ) (top : ℕ) → slice_get stmts i ≡ Some s → i < length stmts → IsWalkBack arms stmts (i + 1) met ends → top ≡ get_or (reverse met) 0 (length stmts)
+    → ((none inner : ℕ) → get_or (reverse beyond) inner none ≡ end_by arms (role_of s.stmt) i (λ k. get_or (reverse met) k none) inner) → IsWalkBack arms stmts i beyond (set ends i top)
+IsWalkBack-step arms stmts i s met beyond ends top here lt walk is_top is = record {
   stack = λ k. is (length stmts) k ∙ ap (λ (next : ℕ → ℕ). end_by arms (role_of s.stmt) i next k) (fun_ext walk.stack) ∙ sym (end_at-step arms stmts i s here k);
   as_many = length-set ends i top ∙ walk.as_many;
   inside = omega (arith, lt);

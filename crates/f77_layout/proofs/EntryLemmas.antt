@@ -11,8 +11,8 @@ use Rattle.f77_layout.specs.declared.open_stack.Opened.{Opened}
 use Rattle.f77_layout.specs.declared.open_stack.Opened.TheVariants.{Loop as OpenedLoop, Block as OpenedBlock}
 use Rattle.f77_layout.specs.Labels.{is_executable}
 use Rattle.f77_layout.specs.Roles.{role_of}
-use Rattle.f77_layout.specs.OpenStack.{is_opened_to, ends_at, without_ended, entries_behind, next_arm, arm_in_place, ended_block, behind_block, if_nothing, if_no_loop, begun}
-use Rattle.f77_layout.specs.Nesting.{Open, Loop, Block, is_loop_to, can_end, without_loops, after_ends, after_statement, open_behind}
+use Rattle.f77_layout.specs.OpenStack.{is_opened_to, ends_at, without_ended, entries_after, next_arm, arm_in_place, ended_block, after_block, if_nothing, if_no_loop, begun}
+use Rattle.f77_layout.specs.Nesting.{Open, Loop, Block, is_loop_to, can_end, without_loops, after_ends, after_statement, open_after}
 
 abbrev pub open_as : Opened → Open
 open_as (OpenedLoop label) = Loop label
@@ -61,8 +61,8 @@ ended label stack = ap (after_ends label) (opens-without label stack) ∙ no_loo
 
 -- ---- by the form of the statement
 
-abbrev behind_stmt : Stmt → ℕ → List Open → Option (List Open)
-behind_stmt stmt label stack = if not (is_executable stmt) then Some stack else if list_any (is_loop_to label) stack && not (can_end stmt) then None else after_statement stmt label stack
+abbrev after_stmt : Stmt → ℕ → List Open → Option (List Open)
+after_stmt stmt label stack = if not (is_executable stmt) then Some stack else if list_any (is_loop_to label) stack && not (can_end stmt) then None else after_statement stmt label stack
 
 new_arm : (stack : List Entry) (place : ℕ) (condition : RawExpr) (label : ℕ) → after_statement (ElseIf condition) label (opens stack) ≡ option_map opens (next_arm false place stack)
 new_arm [] place condition label = refl
@@ -86,7 +86,7 @@ end_if : (stack : List Entry) (label : ℕ) → after_statement EndIf label (ope
 end_if [] label = refl
 end_if (e ∷ rest) label = closed e.opened
   where
-    closed : (o : Opened) → after_statement EndIf label (open_as o ∷ opens rest) ≡ option_map opens (behind_block o rest)
+    closed : (o : Opened) → after_statement EndIf label (open_as o ∷ opens rest) ≡ option_map opens (after_block o rest)
     closed (OpenedBlock is_last) = refl
     closed (OpenedLoop terminal) = refl
 
@@ -94,7 +94,7 @@ end : (stack : List Entry) (label : ℕ) → after_statement End label (opens st
 end [] label = refl
 end (e ∷ rest) label = refl
 
-by_form : (stmt : Stmt) (label place : ℕ) (stack : List Entry) → behind_stmt stmt label (opens stack) ≡ option_map opens (entries_behind (role_of stmt) place label stack)
+by_form : (stmt : Stmt) (label place : ℕ) (stack : List Entry) → after_stmt stmt label (opens stack) ≡ option_map opens (entries_after (role_of stmt) place label stack)
 by_form Program label place stack = unguarded (list_any (ends_at label) stack) stack
 by_form (Implicit ranges) label place stack = unguarded (list_any (ends_at label) stack) stack
 by_form ImplicitNone label place stack = unguarded (list_any (ends_at label) stack) stack
@@ -116,6 +116,6 @@ by_form (SignIf value negative zero positive) label place stack = guard label st
 by_form Back label place stack = guard label stack true _ _ (ended label stack)
 by_form _ label place stack = guard label stack false _ _ (ended label stack)
 
--- what is open behind a statement
-pub opens-behind : (s : Labelled) (place : ℕ) (stack : List Entry) → open_behind s (opens stack) ≡ option_map opens (entries_behind (role_of s.stmt) place s.label stack)
-opens-behind s place stack = by_form s.stmt s.label place stack
+-- what is open after a statement
+pub opens-after : (s : Labelled) (place : ℕ) (stack : List Entry) → open_after s (opens stack) ≡ option_map opens (entries_after (role_of s.stmt) place s.label stack)
+opens-after s place stack = by_form s.stmt s.label place stack

@@ -11,7 +11,7 @@ use Rattle.f77_tree.specs.declared.statements.RawExpr.{RawExpr}
 use Rattle.f77_tree.specs.declared.statements.Stmt.{Stmt, more_of-Stmt}
 use Rattle.f77_tree.specs.declared.statements.Stmt.TheVariants.{Take, ThenIf', CallTo, Back}
 use Rattle.f77_tree.specs.StatementGrammar.{is_of_subroutines}
-use Rattle.f77_layout.specs.Executables.{behind, own_executables, own_kinds, taking, increments, loops_to, executables_with_ends, first_of, at_line, executables_if_any}
+use Rattle.f77_layout.specs.Executables.{beyond, own_executables, own_kinds, taking, increments, loops_to, executables_with_ends, first_of, at_line, executables_if_any}
 use Rattle.f77_layout.specs.Tables.{is_simple, has_simple_inner, IsUsable}
 use Rattle.std.proofs.lemmas.Option.{slice_get_read}
 
@@ -47,13 +47,13 @@ first_of-next stmts place s inside is =
     let here : sum_by f (get_or stmts place s ∷ []) ≡ 0 + f s = ap (λ (a : Labelled). sum_by f (a ∷ [])) (sym is) in
     ap (sum_by f) (take_more stmts place s inside) ∙ sum_by-append f (take place stmts) (get_or stmts place s ∷ []) ∙ omega (arith, here)
 
--- a statement's own executables, and behind them its increments
+-- a statement's own executables, and after them its increments
 pub record AreAll (names : List NameInfo) (checked : Bool) (whole : List Labelled) (place : ℕ) (s : Labelled) (old own : List Exec) : Type 0 where
   pub longer : length own ≡ first_of whole place + own_executables s.stmt
   pub all : own ++ at_line s.line (increments names whole place (length own) (loops_to whole s.label)) ≡ old ++ executables_if_any names checked whole place (slice_get whole place)
   pub index : length (own ++ at_line s.line (increments names whole place (length own) (loops_to whole s.label))) ≡ first_of whole (place + 1)
 
-pub all-executables : (names : List NameInfo) (checked : Bool) (whole : List Labelled) (place : ℕ) (s : Labelled) (old own : List Exec) (next : ℕ) → place < length whole → s ≡ get_or whole place s → IsUsable whole s → length old ≡ first_of whole place → next ≡ behind whole place s → own ≡ old ++ at_line s.line (own_kinds names checked whole place (length old) next s.stmt) → AreAll names checked whole place s old own
+pub all-executables : (names : List NameInfo) (checked : Bool) (whole : List Labelled) (place : ℕ) (s : Labelled) (old own : List Exec) (next : ℕ) → place < length whole → s ≡ get_or whole place s → IsUsable whole s → length old ≡ first_of whole place → next ≡ beyond whole place s → own ≡ old ++ at_line s.line (own_kinds names checked whole place (length old) next s.stmt) → AreAll names checked whole place s old own
 all-executables names checked whole place s old own next inside is usable index next_is own_is =
     let kinds : ℕ → ℕ → List ExecKind = λ i n. own_kinds names checked whole place i n s.stmt in
     let ends : ℕ → List ExecKind = λ i. increments names whole place i (loops_to whole s.label) in
@@ -70,7 +70,7 @@ all-executables names checked whole place s old own next inside is usable index 
           ∙ ap (λ (xs : List Exec). old ++ xs) (sym (map-append line (kinds (length old) next) (ends (length own))))
           ∙ ap (λ i. old ++ at_line s.line (kinds i next ++ ends (length own))) index
           ∙ ap (λ n. old ++ at_line s.line (kinds (first_of whole place) n ++ ends (length own))) next_is
-          ∙ ap (λ i. old ++ at_line s.line (kinds (first_of whole place) (behind whole place s) ++ ends i)) longer
+          ∙ ap (λ i. old ++ at_line s.line (kinds (first_of whole place) (beyond whole place s) ++ ends i)) longer
           ∙ ap (λ (o : Option Labelled). old ++ executables_if_any names checked whole place o) (sym at);
       index = length-append own (at_line s.line (ends (length own))) ∙ omega (arith, longer, many_ends, first_of-next whole place s inside is);
     }

@@ -1,4 +1,4 @@
--- Where control goes behind a DO, by how many DOs above it end at the same label.
+-- Where control goes after a DO, by how many DOs above it end at the same label.
 use Rattle.std.proofs.Common.{◌≡◌, ℕ, suc, zero, ◌+◌, ◌-◌, ◌<◌, Bool, true, false, not, eqb, cond, List, [], ◌∷◌, ◌++◌, length, refl, sym, ap, subst, ◌∙◌, arith, Some, None, append-nil, length-append}
 use Rattle.std.specs.Prelude.{slice_get, reverse}
 use Rattle.std.specs.List.{position_or_len}
@@ -7,7 +7,7 @@ use Rattle.std.proofs.lemmas.Bool.{eq-eqb, ne_eqb, eqb-true}
 use Rattle.std.proofs.lemmas.List.{reverse-append, length-reverse}
 use Rattle.f77_tree.specs.declared.statements.Labelled.{Labelled}
 use Rattle.f77_layout.specs.Labels.{statement_of}
-use Rattle.f77_layout.specs.Executables.{is_do_in, loops_above, loops_to, met, exit_behind, exit_among}
+use Rattle.f77_layout.specs.Executables.{is_do_in, loops_above, loops_to, met, exit_after, exit_among}
 use Rattle.f77_layout.proofs.LoopTables.{loops_above-next}
 
 -- the statement with a label has that label
@@ -35,16 +35,16 @@ module _ (stmts : List Labelled) (label terminal : ℕ) where
   passed : (b : Bool) (n d increment : ℕ) (above : List ℕ) → d < n → exit_among stmts terminal increment (reverse (above ++ cond b (n ∷ []) [])) d ≡ exit_among stmts terminal (increment + cond b 1 0) (reverse above) d
   passed true n d increment above inner =
       ap (λ (ds : List ℕ). exit_among stmts terminal increment ds d) (reverse-append above (n ∷ []))
-      ∙ ap (λ b. cond b (exit_behind stmts terminal increment (reverse above)) (exit_among stmts terminal (increment + 1) (reverse above) d)) (ne_eqb n d (λ e. absurd (omega arith)))
+      ∙ ap (λ b. cond b (exit_after stmts terminal increment (reverse above)) (exit_among stmts terminal (increment + 1) (reverse above) d)) (ne_eqb n d (λ e. absurd (omega arith)))
   passed false n d increment above inner =
       ap (λ (ds : List ℕ). exit_among stmts terminal increment (reverse ds) d) (append-nil above)
       ∙ ap (λ k. exit_among stmts terminal k (reverse above) d) (omega arith)
 
-  -- how many DOs behind it end at its label, and where control goes behind it
+  -- how many DOs after it end at its label, and where control goes after it
   pub record Leaves (d n increment : ℕ) : Type 0 where
     pub inner : ℕ
     pub counted : length (loops_above stmts label n) ≡ length (loops_above stmts label d) + 1 + inner
-    pub leaves : exit_among stmts terminal increment (reverse (loops_above stmts label n)) d ≡ exit_behind stmts terminal (increment + inner) (reverse (loops_above stmts label d))
+    pub leaves : exit_among stmts terminal increment (reverse (loops_above stmts label n)) d ≡ exit_after stmts terminal (increment + inner) (reverse (loops_above stmts label d))
 
   found : (d increment : ℕ) → is_do_in label (slice_get stmts d) ≡ true → Leaves d (d + 1) increment
   found d increment is =
@@ -55,8 +55,8 @@ module _ (stmts : List Labelled) (label terminal : ℕ) where
         leaves =
             ap (λ (ds : List ℕ). exit_among stmts terminal increment (reverse ds) d) more
             ∙ ap (λ (ds : List ℕ). exit_among stmts terminal increment ds d) (reverse-append (loops_above stmts label d) (d ∷ []))
-            ∙ ap (λ b. cond b (exit_behind stmts terminal increment (reverse (loops_above stmts label d))) (exit_among stmts terminal (increment + 1) (reverse (loops_above stmts label d)) d)) (eq-eqb d d refl)
-            ∙ ap (λ k. exit_behind stmts terminal k (reverse (loops_above stmts label d))) (omega arith);
+            ∙ ap (λ b. cond b (exit_after stmts terminal increment (reverse (loops_above stmts label d))) (exit_among stmts terminal (increment + 1) (reverse (loops_above stmts label d)) d)) (eq-eqb d d refl)
+            ∙ ap (λ k. exit_after stmts terminal k (reverse (loops_above stmts label d))) (omega arith);
       }
 
   further : (d n increment : ℕ) (b : Bool) → d < n → is_do_in label (slice_get stmts n) ≡ b → Leaves d n (increment + cond b 1 0) → Leaves d (n + 1) increment
@@ -69,7 +69,7 @@ module _ (stmts : List Labelled) (label terminal : ℕ) where
             ap (λ (ds : List ℕ). exit_among stmts terminal increment (reverse ds) d) more
             ∙ passed b n d increment (loops_above stmts label n) inner
             ∙ l.leaves
-            ∙ ap (λ k. exit_behind stmts terminal k (reverse (loops_above stmts label d))) (omega arith);
+            ∙ ap (λ k. exit_after stmts terminal k (reverse (loops_above stmts label d))) (omega arith);
       }
     where
       count : (c : Bool) → length (loops_above stmts label n) ≡ length (loops_above stmts label d) + 1 + l.inner → length (loops_above stmts label n) + length (cond c (n ∷ []) []) ≡ length (loops_above stmts label d) + 1 + (cond c 1 0 + l.inner)
@@ -82,16 +82,16 @@ module _ (stmts : List Labelled) (label terminal : ℕ) where
       let b = is_do_in label (slice_get stmts (d + 1 + m)) in
       subst (λ (n : ℕ). Leaves d n increment) (omega arith) (further d (d + 1 + m) increment b (omega arith) refl (leaving d (increment + cond b 1 0) m is))
 
-  pub behind-empty : (k : ℕ) (ds : List ℕ) → exit_behind stmts terminal k ds ≡ cond (eqb (length ds) 0) (met stmts (terminal + 1)) (k + 1)
-  behind-empty k [] = refl
-  behind-empty k (d ∷ ds) = ap (λ b. cond b (met stmts (terminal + 1)) (k + 1)) (sym (eqb-suc-zero (length ds)))
+  pub after-empty : (k : ℕ) (ds : List ℕ) → exit_after stmts terminal k ds ≡ cond (eqb (length ds) 0) (met stmts (terminal + 1)) (k + 1)
+  after-empty k [] = refl
+  after-empty k (d ∷ ds) = ap (λ b. cond b (met stmts (terminal + 1)) (k + 1)) (sym (eqb-suc-zero (length ds)))
 
   -- the exit, by numbers
   pub exit-by_rank : (d increment : ℕ) → d < length stmts → is_do_in label (slice_get stmts d) ≡ true → exit_among stmts terminal increment (loops_to stmts label) d ≡ cond (eqb (length (loops_above stmts label d)) 0) (met stmts (terminal + 1)) (increment + (length (loops_to stmts label) - length (loops_above stmts label d)))
   exit-by_rank d increment inside is =
       let l : Leaves d (length stmts) increment = subst (λ (n : ℕ). Leaves d n increment) (omega arith) (leaving d increment (length stmts - (d + 1)) is) in
       l.leaves
-      ∙ behind-empty (increment + l.inner) (reverse (loops_above stmts label d))
+      ∙ after-empty (increment + l.inner) (reverse (loops_above stmts label d))
       ∙ ap (λ n. cond (eqb n 0) (met stmts (terminal + 1)) (increment + l.inner + 1)) (length-reverse (loops_above stmts label d))
       ∙ ap (λ n. cond (eqb (length (loops_above stmts label d)) 0) (met stmts (terminal + 1)) n) (omega (arith, l.counted, length-reverse (loops_above stmts label (length stmts))))
 

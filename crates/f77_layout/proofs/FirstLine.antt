@@ -1,5 +1,5 @@
 -- The search for the first fault of a kind, statement by statement. A loop over the statements keeps
--- `first_line fault stmts ≡ first_behind fault (take i stmts) (drop i stmts)`, and what it knows of `take i stmts` tells
+-- `first_line fault stmts ≡ first_after fault (take i stmts) (drop i stmts)`, and what it knows of `take i stmts` tells
 -- whether the statement at i has the fault.
 use Rattle.std.proofs.Common.{◌≡◌, ℕ, ◌+◌, ◌<◌, ◌≤◌, Bool, true, false, ◌||◌, List, [], ◌∷◌, ◌++◌, length, get_or, take, drop, Option, Some, None, refl, sym, ap, ◌∙◌, add-one, drop-cons, append_assoc, append-nil, suc, zero, arith}
 use Rattle.std.proofs.Math.Seq.{take-suc}
@@ -8,7 +8,7 @@ use Rattle.std.proofs.lemmas.Option.{get_or_from_slice_get, slice_get-get_or}
 use Rattle.std.specs.Prelude.{flat_map}
 use Rattle.std.specs.List.{list_any}
 use Rattle.f77_tree.specs.declared.statements.Labelled.{Labelled}
-use Rattle.f77_layout.specs.Faults.{first_behind, has_repeat, first_answer, answer_or}
+use Rattle.f77_layout.specs.Faults.{first_after, has_repeat, first_answer, answer_or}
 
 drop_all : {A : Type 0} (xs : List A) (i : ℕ) → length xs ≤ i → drop i xs ≡ []
 drop_all [] zero le = refl
@@ -38,21 +38,21 @@ flat_map_one items xs x = flat_map_more items [] xs x
 -- ---- the first fault
 
 -- the statement at i has no fault
-pub first_behind-next : (fault : List Labelled → Labelled → Bool) (stmts : List Labelled) (i : ℕ) (s : Labelled) → i < length stmts → s ≡ get_or stmts i s → fault (take i stmts) s ≡ false
-    → first_behind fault (take i stmts) (drop i stmts) ≡ first_behind fault (take (i + 1) stmts) (drop (i + 1) stmts)
-first_behind-next fault stmts i s lt is none =
+pub first_after-next : (fault : List Labelled → Labelled → Bool) (stmts : List Labelled) (i : ℕ) (s : Labelled) → i < length stmts → s ≡ get_or stmts i s → fault (take i stmts) s ≡ false
+    → first_after fault (take i stmts) (drop i stmts) ≡ first_after fault (take (i + 1) stmts) (drop (i + 1) stmts)
+first_after-next fault stmts i s lt is none =
     rw (add-one, take-suc stmts i s lt, drop-cons stmts i s lt, ← is, none) refl
 
 -- the statement at i has the fault
-pub first_behind-here : (fault : List Labelled → Labelled → Bool) (stmts : List Labelled) (i : ℕ) (s : Labelled) → i < length stmts → s ≡ get_or stmts i s → fault (take i stmts) s ≡ true
-    → first_behind fault (take i stmts) (drop i stmts) ≡ Some s.line
-first_behind-here fault stmts i s lt is some =
+pub first_after-here : (fault : List Labelled → Labelled → Bool) (stmts : List Labelled) (i : ℕ) (s : Labelled) → i < length stmts → s ≡ get_or stmts i s → fault (take i stmts) s ≡ true
+    → first_after fault (take i stmts) (drop i stmts) ≡ Some s.line
+first_after-here fault stmts i s lt is some =
     rw (drop-cons stmts i s lt, ← is, some) refl
 
 -- there is no further statement
-pub first_behind-end : (fault : List Labelled → Labelled → Bool) (stmts : List Labelled) (i : ℕ) → length stmts ≤ i → first_behind fault (take i stmts) (drop i stmts) ≡ None
-first_behind-end fault stmts i le =
-    ap (first_behind fault (take i stmts)) (drop_all stmts i le)
+pub first_after-end : (fault : List Labelled → Labelled → Bool) (stmts : List Labelled) (i : ℕ) → length stmts ≤ i → first_after fault (take i stmts) (drop i stmts) ≡ None
+first_after-end fault stmts i le =
+    ap (first_after fault (take i stmts)) (drop_all stmts i le)
 
 -- ---- what was met before
 

@@ -34,19 +34,19 @@ module _ {S A : Type 0} (f : S → List A) (xs : List S) (i : ℕ) (x : S) (lt :
       ∙ ap (λ (y : S). f y ++ flat_map f (drop (i + 1) xs)) (sym is)
 
   module _ (same : A → A → Bool) (seen : List A) where
-    abbrev front : List A
-    front = seen ++ flat_map f (take i xs)
+    abbrev prefix : List A
+    prefix = seen ++ flat_map f (take i xs)
 
-    split : has_repeat same front (flat_map f (drop i xs)) ≡ (has_repeat same front (f x) || has_repeat same (seen ++ flat_map f (take (i + 1) xs)) (flat_map f (drop (i + 1) xs)))
+    split : has_repeat same prefix (flat_map f (drop i xs)) ≡ (has_repeat same prefix (f x) || has_repeat same (seen ++ flat_map f (take (i + 1) xs)) (flat_map f (drop (i + 1) xs)))
     split =
-        ap (has_repeat same front) flat_map_left
-        ∙ has_repeat-append same front (f x) (flat_map f (drop (i + 1) xs))
-        ∙ ap (λ (ys : List A). has_repeat same front (f x) || has_repeat same ys (flat_map f (drop (i + 1) xs))) (append_assoc seen (flat_map f (take i xs)) (f x) ∙ ap (λ (ys : List A). seen ++ ys) (sym flat_map_taken))
+        ap (has_repeat same prefix) flat_map_left
+        ∙ has_repeat-append same prefix (f x) (flat_map f (drop (i + 1) xs))
+        ∙ ap (λ (ys : List A). has_repeat same prefix (f x) || has_repeat same ys (flat_map f (drop (i + 1) xs))) (append_assoc seen (flat_map f (take i xs)) (f x) ∙ ap (λ (ys : List A). seen ++ ys) (sym flat_map_taken))
 
-    pub repeat_found : has_repeat same front (f x) ≡ true → has_repeat same front (flat_map f (drop i xs)) ≡ true
+    pub repeat_found : has_repeat same prefix (f x) ≡ true → has_repeat same prefix (flat_map f (drop i xs)) ≡ true
     repeat_found found = split ∙ ap (λ b. b || has_repeat same (seen ++ flat_map f (take (i + 1) xs)) (flat_map f (drop (i + 1) xs))) found
 
-    pub repeat_later : has_repeat same front (f x) ≡ false → has_repeat same front (flat_map f (drop i xs)) ≡ has_repeat same (seen ++ flat_map f (take (i + 1) xs)) (flat_map f (drop (i + 1) xs))
+    pub repeat_later : has_repeat same prefix (f x) ≡ false → has_repeat same prefix (flat_map f (drop i xs)) ≡ has_repeat same (seen ++ flat_map f (take (i + 1) xs)) (flat_map f (drop (i + 1) xs))
     repeat_later none = split ∙ ap (λ b. b || has_repeat same (seen ++ flat_map f (take (i + 1) xs)) (flat_map f (drop (i + 1) xs))) none
 
 -- two lists of parts that give the same, with one part more

@@ -14,8 +14,8 @@ pub up : (nodes : List Node) (spots : List Spot) (name at : ℕ) (d : ℤ) (node
 up nodes spots name at d node forest lt is below =
     let here : node ≡ node_at nodes at = get_or_read nodes at node lt is no_node in
     let together : storage_at spots node.parent ≡ storage_at spots at = ap (λ (n : Node). storage_at spots n.parent) here ∙ forest.together at lt in
-    let behind : distance_at spots at ≡ distance_at spots node.parent +ℤ node.offset = forest.behind at lt ∙ ap (λ (n : Node). distance_at spots n.parent +ℤ n.offset) (sym here) in
-    record { together = together ∙ below.together; behind = omega (arith, ints, below.behind) }
+    let beyond : distance_at spots at ≡ distance_at spots node.parent +ℤ node.offset = forest.beyond at lt ∙ ap (λ (n : Node). distance_at spots n.parent +ℤ n.offset) (sym here) in
+    record { together = together ∙ below.together; beyond = omega (arith, ints, below.beyond) }
 
 -- ---- distances within a storage
 
@@ -41,8 +41,8 @@ below-close spots name other d near few n o below =
     let up_to = near other name o n below.together in
     let down_to = near name other n o (sym below.together) in
     record {
-      low = omega (arith, ints, below.behind, count-few spots (storage_at spots name));
-      high = omega (arith, ints, below.behind, count-few spots (storage_at spots other));
+      low = omega (arith, ints, below.beyond, count-few spots (storage_at spots name));
+      high = omega (arith, ints, below.beyond, count-few spots (storage_at spots other));
     }
 
 -- the sum as the code computes it

@@ -84,20 +84,20 @@ module _ (end_of : ℕ → Option ℕ) (seen : List ℕ) (holds : Holds end_of s
       omega arith)
       (cases_lt a b)
 
-  pub free_behind : (found : ℕ × ℕ) → IsLastBefore end_of (first + len) (Some found) → found.1 ≤ first → repeats ≡ false
-  free_behind found last le =
+  pub free_after : (found : ℕ × ℕ) → IsLastBefore end_of (first + len) (Some found) → found.1 ≤ first → repeats ≡ false
+  free_after found last le =
       none_twice seen first len (λ word low high.
       free_at word (λ within.
       let ends : within.end ≤ found.1 = ends_no_later within.first found.0 within.end found.1 within.stands last.1 (no_later found last word high within) in
       omega (arith, within.before)))
 
-  -- the last interval before the words ends behind their first one: that word, or the interval's first one, is held
+  -- the last interval before the words ends after their first one: that word, or the interval's first one, is held
   pub taken_inside : (found : ℕ × ℕ) → 0 < len → IsLastBefore end_of (first + len) (Some found) → first < found.1 → repeats ≡ true
   taken_inside found some last lt =
       let held : (word : ℕ) → found.0 ≤ word → word < found.1 → stands word seen ≡ true = λ word low high. holds.seen_all word (record { first = found.0; end = found.1; stands = last.1; from = low; before = high }) in
       ⊎_elim
       (λ (before : found.0 < first). one_twice seen first len first (omega arith) (omega arith) (held first (omega arith) lt))
-      (λ (behind : first ≤ found.0). one_twice seen first len found.0 behind last.0 (held found.0 (omega arith) (holds.some found.0 found.1 last.1)))
+      (λ (beyond : first ≤ found.0). one_twice seen first len found.0 beyond last.0 (held found.0 (omega arith) (holds.some found.0 found.1 last.1)))
       (cases_lt found.0 first)
 
   -- the interval of the words beside the others
@@ -121,8 +121,8 @@ module _ (end_of : ℕ → Option ℕ) (seen : List ℕ) (holds : Holds end_of s
         (λ (le : end ≤ first). le)
         (cases_lt first end)
 
-    behind_new : (q end : ℕ) → end_of q ≡ Some end → first < q → first + len ≤ q
-    behind_new q end is lt =
+    after_new : (q end : ℕ) → end_of q ≡ Some end → first < q → first + len ≤ q
+    after_new q end is lt =
         ⊎_elim
         (λ (reaches : q < first + len). absurd (outside q (omega arith) reaches (record { first = q; end = end; stands = is; from = omega arith; before = holds.some q end is })))
         (λ (le : first + len ≤ q). le)
@@ -148,7 +148,7 @@ module _ (end_of : ℕ → Option ℕ) (seen : List ℕ) (holds : Holds end_of s
         (λ (w : (q ≡ first) × (end ≡ first + len)).
         ⊎_elim
         (λ (v : (next ≡ first) × (last ≡ first + len)). omega (arith, w.0, v.0))
-        (λ (old : end_of next ≡ Some last). let le : first + len ≤ next = behind_new next last old (omega (arith, w.0)) in omega (arith, w.1))
+        (λ (old : end_of next ≡ Some last). let le : first + len ≤ next = after_new next last old (omega (arith, w.0)) in omega (arith, w.1))
         (old_or_new next last is_next))
         (λ (old : end_of q ≡ Some end).
         ⊎_elim

@@ -140,19 +140,19 @@ module _ (nodes : List Node) (spots : List Spot) (e : Equation) (c r : ℕ) (o :
       (λ ne. ap (λ y. storage_at places y) (hung-parent nodes c r o r_known x ne) ∙ together-after spots e (node_at nodes x).parent x (in_spots (node_at nodes x).parent (forest.parents x lt)) (in_spots x lt) (forest.together x lt))
       (cases_eq x c)
 
-  later-behind : (x : ℕ) → x < length nodes → distance_at places x ≡ distance_at places (node_at later x).parent +ℤ (node_at later x).offset
-  later-behind x lt =
+  later-after : (x : ℕ) → x < length nodes → distance_at places x ≡ distance_at places (node_at later x).parent +ℤ (node_at later x).offset
+  later-after x lt =
       ⊎_elim
       (λ e'. subst (λ (y : ℕ). distance_at places y ≡ distance_at places (node_at later y).parent +ℤ (node_at later y).offset) (sym e')
       (let away : (node_at later c).offset ≡ o = ap (λ (n : Node). n.offset) (hung-child nodes c r o c_known differ) in
       let parent : distance_at places (node_at later c).parent ≡ distance_at places r = ap (λ y. distance_at places y) child-parent in
-      omega (arith, ints, below.behind)))
+      omega (arith, ints, below.beyond)))
       (λ ne.
       let p = (node_at nodes x).parent in
-      let old = below-after spots e x p (node_at nodes x).offset (in_spots x lt) (in_spots p (forest.parents x lt)) (record { together = forest.together x lt; behind = forest.behind x lt }) in
+      let old = below-after spots e x p (node_at nodes x).offset (in_spots x lt) (in_spots p (forest.parents x lt)) (record { together = forest.together x lt; beyond = forest.beyond x lt }) in
       let away = hung-offset nodes c r o r_known x ne in
       let parent : distance_at places (node_at later x).parent ≡ distance_at places p = ap (λ y. distance_at places y) (hung-parent nodes c r o r_known x ne) in
-      omega (arith, ints, old.behind))
+      omega (arith, ints, old.beyond))
       (cases_eq x c)
 
   later-one : (x y : ℕ) → x < length nodes → y < length nodes → IsRoot later x → IsRoot later y → storage_at places x ≡ storage_at places y → x ≡ y
@@ -212,7 +212,7 @@ module _ (nodes : List Node) (spots : List Spot) (e : Equation) (c r : ℕ) (o :
     all = length-hung nodes c r o ∙ forest.all ∙ sym (length-after spots e);
     parents = λ x lt. let p = later-parents x (inside x lt) in omega (arith, length-hung nodes c r o);
     together = λ x lt. later-together x (inside x lt);
-    behind = λ x lt. later-behind x (inside x lt);
+    beyond = λ x lt. later-after x (inside x lt);
     one_root = λ x y i j. later-one x y (inside x i) (inside y j);
     counts = λ x lt. later-counts x (inside x lt);
     rising = λ x lt. later-rising x (inside x lt);

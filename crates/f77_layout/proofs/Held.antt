@@ -78,7 +78,7 @@ module _ (count : ℕ) (firsts : List ℕ) (all : List Equation) (s : Storages) 
       let now = r.kept e (Contains-push all e) in
       let is : after ≡ before = linked-same before e joined.answer.below.together in
       let then : IsBelow before e.to e.from e.distance = rw is at now in
-      ne (omega (arith, ints, then.behind, joined.answer.below.behind)))
+      ne (omega (arith, ints, then.beyond, joined.answer.below.beyond)))
 
   kept-within : (there : ℤ) → IsBelow before e.to e.from there → there ≡ e.distance → AreRight before firsts all → AreRight before firsts more
   kept-within there below same right = record {

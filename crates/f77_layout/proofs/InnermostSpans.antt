@@ -12,10 +12,10 @@ use Rattle.f77_layout.specs.Source.{EndsWithEnd}
 use Rattle.f77_layout.specs.Roles.{role_of}
 use Rattle.f77_layout.specs.Jumps.{Span, span_if_any, lies_in}
 use Rattle.f77_layout.specs.Innermost.{IsSpan, IsInnermost}
-use Rattle.f77_layout.specs.OpenStack.{entries_behind, head_of}
+use Rattle.f77_layout.specs.OpenStack.{entries_after, head_of}
 use Rattle.f77_layout.proofs.RoleLemmas.{opened_by, last_of, span_by, span_of-role}
-use Rattle.f77_layout.proofs.OpenSpans.{OpensAt, behind_of, behind_entry, AreLabelled, AreOpened, AreFalling, AreWithin, Has, Stands, AreFalling-later}
-use Rattle.f77_layout.proofs.OpenSteps.{held, Keeps-behind}
+use Rattle.f77_layout.proofs.OpenSpans.{OpensAt, after_of, after_entry, AreLabelled, AreOpened, AreFalling, AreWithin, Has, Stands, AreFalling-later}
+use Rattle.f77_layout.proofs.OpenSteps.{held, Keeps-after}
 use Rattle.f77_layout.proofs.Walks.{unnested_from, AreWithin-held}
 
 -- ---- spans and what statements open
@@ -45,16 +45,16 @@ span_at stmts h o = record { head = h; last = last_of stmts h o }
 pub IsSpan-opened : (stmts : List Labelled) (h : ℕ) (o : Opened) → OpensAt stmts h o → IsSpan stmts (span_at stmts h o)
 IsSpan-opened stmts h o at = ap (span_if_any stmts h) at.stands ∙ span_of-role stmts h at.s.stmt ∙ ap (span_by stmts h) at.opens
 
--- a place behind the first is in a span where that reaches beyond the place
-pub reaches : (stmts : List Labelled) (h : ℕ) (o : Opened) (place : ℕ) → 0 < place → place ≤ last_of stmts h o → place < behind_of stmts h o
+-- a place after the first is in a span where that reaches beyond the place
+pub reaches : (stmts : List Labelled) (h : ℕ) (o : Opened) (place : ℕ) → 0 < place → place ≤ last_of stmts h o → place < after_of stmts h o
 reaches stmts h (Loop terminal) place some le = omega (arith, le)
 reaches stmts h (Block b) place some le = omega (arith, some, le)
 
-reaches-back : (stmts : List Labelled) (h : ℕ) (o : Opened) (place : ℕ) → place < behind_of stmts h o → place ≤ last_of stmts h o
+reaches-back : (stmts : List Labelled) (h : ℕ) (o : Opened) (place : ℕ) → place < after_of stmts h o → place ≤ last_of stmts h o
 reaches-back stmts h (Loop terminal) place lt = omega (arith, lt)
 reaches-back stmts h (Block b) place lt = omega (arith, lt)
 
-pub last_le : (stmts : List Labelled) (g h : ℕ) (o p : Opened) → behind_of stmts g o ≤ behind_of stmts h p → last_of stmts g o ≤ last_of stmts h p
+pub last_le : (stmts : List Labelled) (g h : ℕ) (o p : Opened) → after_of stmts g o ≤ after_of stmts h p → last_of stmts g o ≤ last_of stmts h p
 last_le stmts g h (Loop t) (Loop u) le = omega (arith, le)
 last_le stmts g h (Loop t) (Block c) le = omega (arith, le)
 last_le stmts g h (Block b) (Loop u) le = omega (arith, le)
@@ -64,19 +64,19 @@ last_le stmts g h (Block b) (Block c) le = omega (arith, le)
 
 pub record HasWithin (stmts : List Labelled) (begin : ℕ) (o : Opened) (h : ℕ) (p : Opened) : Type 0 where
   pub head : h ≤ begin
-  pub behind : behind_of stmts begin o ≤ behind_of stmts h p
+  pub beyond : after_of stmts begin o ≤ after_of stmts h p
 
-has-within : (stmts : List Labelled) (place low h : ℕ) (o : Opened) (stack : List Entry) → AreFalling place stack → AreWithin stmts low stack → Has h o stack → (h < place) × (low ≤ behind_of stmts h o)
+has-within : (stmts : List Labelled) (place low h : ℕ) (o : Opened) (stack : List Entry) → AreFalling place stack → AreWithin stmts low stack → Has h o stack → (h < place) × (low ≤ after_of stmts h o)
 has-within stmts place low h o [] falling within has = absurd has
-has-within stmts place low h o (e ∷ rest) falling within has = elim has as (λ _. (h < place) × (low ≤ behind_of stmts h o)) [
-  | inl same ↦ (omega (arith, same.0, falling.0), let e : behind_of stmts h o ≡ behind_entry stmts e = ap (λ (n : ℕ). behind_of stmts n o) (sym same.0) ∙ ap (behind_of stmts e.begin) (sym same.1) in omega (arith, e, within.0))
-  | inr below ↦ let h = has-within stmts e.begin (behind_entry stmts e) h o rest falling.1 within.1 below in (omega (arith, h.0, falling.0), omega (arith, h.1, within.0))
+has-within stmts place low h o (e ∷ rest) falling within has = elim has as (λ _. (h < place) × (low ≤ after_of stmts h o)) [
+  | inl same ↦ (omega (arith, same.0, falling.0), let e : after_of stmts h o ≡ after_entry stmts e = ap (λ (n : ℕ). after_of stmts n o) (sym same.0) ∙ ap (after_of stmts e.begin) (sym same.1) in omega (arith, e, within.0))
+  | inr below ↦ let h = has-within stmts e.begin (after_entry stmts e) h o rest falling.1 within.1 below in (omega (arith, h.0, falling.0), omega (arith, h.1, within.0))
 ]
 
-pub has-top : (stmts : List Labelled) (h : ℕ) (p : Opened) (e : Entry) (rest : List Entry) → AreFalling e.begin rest → AreWithin stmts (behind_entry stmts e) rest → Has h p (e ∷ rest) → HasWithin stmts e.begin e.opened h p
+pub has-top : (stmts : List Labelled) (h : ℕ) (p : Opened) (e : Entry) (rest : List Entry) → AreFalling e.begin rest → AreWithin stmts (after_entry stmts e) rest → Has h p (e ∷ rest) → HasWithin stmts e.begin e.opened h p
 has-top stmts h p e rest falling within has = elim has as (λ _. HasWithin stmts e.begin e.opened h p) [
-  | inl same ↦ record { head = omega (arith, same.0); behind = let e : behind_of stmts h p ≡ behind_entry stmts e = ap (λ (n : ℕ). behind_of stmts n p) (sym same.0) ∙ ap (behind_of stmts e.begin) (sym same.1) in omega (arith, e) }
-  | inr below ↦ let b = has-within stmts e.begin (behind_entry stmts e) h p rest falling within below in record { head = omega (arith, b.0); behind = b.1 }
+  | inl same ↦ record { head = omega (arith, same.0); beyond = let e : after_of stmts h p ≡ after_entry stmts e = ap (λ (n : ℕ). after_of stmts n p) (sym same.0) ∙ ap (after_of stmts e.begin) (sym same.1) in omega (arith, e) }
+  | inr below ↦ let b = has-within stmts e.begin (after_entry stmts e) h p rest falling within below in record { head = omega (arith, b.0); beyond = b.1 }
 ]
 
 -- the parts of the stack that hold a statement
@@ -108,7 +108,7 @@ pub record Covers (stmts : List Labelled) (place : ℕ) (stack : List Entry) : T
   pub opened : AreOpened stmts stack
   pub falling : AreFalling place stack
   pub within : AreWithin stmts (place + 1) stack
-  pub covered : (h : ℕ) (o : Opened) → h < place → OpensAt stmts h o → place < behind_of stmts h o → Has h o stack
+  pub covered : (h : ℕ) (o : Opened) → h < place → OpensAt stmts h o → place < after_of stmts h o → Has h o stack
 
 covered_span : (stmts : List Labelled) (place : ℕ) (stack : List Entry) (covers : Covers stmts place stack) (span : Span) (opens : SpanOpens stmts span) → lies_in span place ≡ true → Has span.head opens.o stack
 covered_span stmts place stack covers span opens holds =
@@ -129,13 +129,13 @@ Covers-innermost stmts place (e ∷ rest) covers =
       least = λ other is holds.
           let opens = span_opens stmts other is in
           let top = has-top stmts other.head opens.o e rest covers.falling.1 covers.within.1 (covered_span stmts place (e ∷ rest) covers other opens holds) in
-          record { head = top.head; last = subst (λ (n : ℕ). last_of stmts e.begin e.opened ≤ n) (sym opens.last) (last_le stmts e.begin other.head e.opened opens.o top.behind) };
+          record { head = top.head; last = subst (λ (n : ℕ). last_of stmts e.begin e.opened ≤ n) (sym opens.last) (last_le stmts e.begin other.head e.opened opens.o top.beyond) };
     }
 
-pub Covers-held : (stmts : List Labelled) (are : AreLabelled stmts) (ended : EndsWithEnd stmts) (i : ℕ) (s : Labelled) (stack behind : List Entry) → slice_get stmts i ≡ Some s → Stands stmts i stack → entries_behind (role_of s.stmt) i s.label stack ≡ Some behind → unnested_from stmts (i + 1) behind ≡ None → Covers stmts i (held (role_of s.stmt) stack)
-Covers-held stmts are ended i s stack behind here stands is nested = record {
+pub Covers-held : (stmts : List Labelled) (are : AreLabelled stmts) (ended : EndsWithEnd stmts) (i : ℕ) (s : Labelled) (stack beyond : List Entry) → slice_get stmts i ≡ Some s → Stands stmts i stack → entries_after (role_of s.stmt) i s.label stack ≡ Some beyond → unnested_from stmts (i + 1) beyond ≡ None → Covers stmts i (held (role_of s.stmt) stack)
+Covers-held stmts are ended i s stack beyond here stands is nested = record {
   opened = held-opened stmts (role_of s.stmt) stack stands.opened;
   falling = held-falling i (role_of s.stmt) stack stands.falling;
-  within = AreWithin-held stmts are ended i s stack behind here (slice_get_within stmts i s here) stands is nested;
-  covered = λ h o lt opens later. (Keeps-behind stmts are i s here stack behind stands is).holds h o later (stands.covered h o lt opens later);
+  within = AreWithin-held stmts are ended i s stack beyond here (slice_get_within stmts i s here) stands is nested;
+  covered = λ h o lt opens later. (Keeps-after stmts are i s here stack beyond stands is).holds h o later (stands.covered h o lt opens later);
 }

@@ -36,7 +36,7 @@ module _ (nodes : List Node) (spots : List Spot) (e : Equation) (a b : Rooted) (
       let stays : linked spots e ≡ spots = linked-same spots e together in
       record {
         forest = rw stays forest;
-        answer = record { unchanged = refl; below = record { together = together; behind = omega (arith, ints, at_a.below.behind, at_b.below.behind) } };
+        answer = record { unchanged = refl; below = record { together = together; beyond = omega (arith, ints, at_a.below.beyond, at_b.below.beyond) } };
       }
 
   module _ (ne : a.root ≢ b.root) (reach : IsReach e.distance) (from : e.from < length nodes) (to : e.to < length nodes) where
@@ -52,28 +52,28 @@ module _ (nodes : List Node) (spots : List Spot) (e : Equation) (a b : Rooted) (
     meets : storage_at (linked spots e) a.root ≡ storage_at (linked spots e) b.root
     meets = meet-after spots e a.root b.root (within a.root at_a.known) (within b.root at_b.known) at_a.below.together at_b.below.together
 
-    second-behind : IsBelow (linked spots e) b.root a.root offset
-    second-behind =
+    second-after : IsBelow (linked spots e) b.root a.root offset
+    second-after =
         let across = across-after spots e a.root b.root (within a.root at_a.known) (within b.root at_b.known) apart at_a.below.together at_b.below.together in
-        record { together = meets; behind = omega (arith, ints, at_a.below.behind, at_b.below.behind) }
+        record { together = meets; beyond = omega (arith, ints, at_a.below.beyond, at_b.below.beyond) }
 
-    first-behind : IsBelow (linked spots e) a.root b.root (pos 0 -ℤ offset)
-    first-behind = record { together = sym meets; behind = omega (arith, ints, second-behind.behind) }
+    first-after : IsBelow (linked spots e) a.root b.root (pos 0 -ℤ offset)
+    first-after = record { together = sym meets; beyond = omega (arith, ints, second-after.beyond) }
 
     pub join-second : IsJoined nodes (hung nodes b.root a.root offset) spots e (Hung b.root a.root offset)
     join-second =
         let ends : AreThose (storage_at spots b.root) (storage_at spots a.root) (storage_at spots e.from) (storage_at spots e.to) = inr (at_b.below.together, at_a.below.together) in
         record {
-          forest = forest-after nodes spots e b.root a.root offset forest at_b.known at_a.known at_b.root at_a.root ends apart second-behind reach (within e.from from) (within e.to to);
-          answer = is-hung nodes spots e b.root a.root offset forest at_b.known at_a.known at_b.root at_a.root ends apart second-behind;
+          forest = forest-after nodes spots e b.root a.root offset forest at_b.known at_a.known at_b.root at_a.root ends apart second-after reach (within e.from from) (within e.to to);
+          answer = is-hung nodes spots e b.root a.root offset forest at_b.known at_a.known at_b.root at_a.root ends apart second-after;
         }
 
     pub join-first : IsJoined nodes (hung nodes a.root b.root (pos 0 -ℤ offset)) spots e (Hung a.root b.root (pos 0 -ℤ offset))
     join-first =
         let ends : AreThose (storage_at spots a.root) (storage_at spots b.root) (storage_at spots e.from) (storage_at spots e.to) = inl (at_a.below.together, at_b.below.together) in
         record {
-          forest = forest-after nodes spots e a.root b.root (pos 0 -ℤ offset) forest at_a.known at_b.known at_a.root at_b.root ends apart first-behind reach (within e.from from) (within e.to to);
-          answer = is-hung nodes spots e a.root b.root (pos 0 -ℤ offset) forest at_a.known at_b.known at_a.root at_b.root ends apart first-behind;
+          forest = forest-after nodes spots e a.root b.root (pos 0 -ℤ offset) forest at_a.known at_b.known at_a.root at_b.root ends apart first-after reach (within e.from from) (within e.to to);
+          answer = is-hung nodes spots e a.root b.root (pos 0 -ℤ offset) forest at_a.known at_b.known at_a.root at_b.root ends apart first-after;
         }
 
     -- two storages have no more names than there are

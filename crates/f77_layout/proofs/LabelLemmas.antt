@@ -8,7 +8,7 @@ use Rattle.f77_tree.specs.declared.statements.Stmt.{Stmt}
 use Rattle.f77_tree.specs.StatementGrammar.{WrittenStatement, IsGiven, has_bad_constant, is_bad_label, statement_of as stmt_of}
 use Rattle.f77_layout.specs.declared.roles.Role.{Role}
 use Rattle.f77_layout.specs.declared.roles.Role.TheVariants.{BeginLoop}
-use Rattle.f77_layout.specs.Faults.{first_behind, first_line}
+use Rattle.f77_layout.specs.Faults.{first_after, first_line}
 use Rattle.f77_layout.specs.LabelTable.{IsLabel}
 use Rattle.f77_layout.specs.Labels.{statement_of, is_labelled_twice}
 use Rattle.f77_layout.specs.Roles.{role_of}
@@ -17,18 +17,18 @@ use Rattle.f77_tree.specs.Grammar.{number_of}
 -- ---- no fault
 
 -- no statement has the fault where no line is told
-pub faultless : (fault : List Labelled → Labelled → Bool) (above stmts : List Labelled) → first_behind fault above stmts ≡ None → (i : ℕ) (s : Labelled) → slice_get stmts i ≡ Some s → fault (above ++ take i stmts) s ≡ false
+pub faultless : (fault : List Labelled → Labelled → Bool) (above stmts : List Labelled) → first_after fault above stmts ≡ None → (i : ℕ) (s : Labelled) → slice_get stmts i ≡ Some s → fault (above ++ take i stmts) s ≡ false
 faultless fault above [] none i s h = let e : None ≡ Some s = h in absurd cc
 faultless fault above (x ∷ rest) none zero s h =
     let same : x ≡ s = cc in
-    ap (λ (xs : List Labelled). fault xs s) (append-nil above) ∙ (ap (fault above) (sym same) ∙ (first (fault above x) x (first_behind fault (above ++ x ∷ []) rest) none).0)
+    ap (λ (xs : List Labelled). fault xs s) (append-nil above) ∙ (ap (fault above) (sym same) ∙ (first (fault above x) x (first_after fault (above ++ x ∷ []) rest) none).0)
   where
     first : (b : Bool) (y : Labelled) (o : Option ℕ) → (if b then Some y.line else o) ≡ None → (b ≡ false) × (o ≡ None)
     first true y o h = let e : Some y.line ≡ None = h in absurd cc
     first false y o h = (refl, h)
 faultless fault above (x ∷ rest) none (suc i) s h =
     ap (λ (xs : List Labelled). fault xs s) (sym (append_assoc above (x ∷ []) (take i rest)))
-    ∙ faultless fault (above ++ x ∷ []) rest (next (fault above x) x (first_behind fault (above ++ x ∷ []) rest) none) i s h
+    ∙ faultless fault (above ++ x ∷ []) rest (next (fault above x) x (first_after fault (above ++ x ∷ []) rest) none) i s h
   where
     next : (b : Bool) (y : Labelled) (o : Option ℕ) → (if b then Some y.line else o) ≡ None → o ≡ None
     next true y o h = let e : Some y.line ≡ None = h in absurd cc

@@ -189,11 +189,11 @@ module _ (stmts : List Labelled) (once : first_line is_labelled_twice stmts ≡ 
   bears-at s here false is = false_from_ne_true (list_any (bears label) stmts) (λ h.
       let found = any-exists (bears label) stmts h in
       let parts = and_parts ((found.item.label == label) && is_executable found.item.stmt) (not (is_arm found.item.stmt)) found.is in
-      let front = and_parts (found.item.label == label) (is_executable found.item.stmt) parts.0 in
-      let place = place-own found.place found.item found.stands (eqb-true found.item.label label front.0) in
+      let prefix = and_parts (found.item.label == label) (is_executable found.item.stmt) parts.0 in
+      let place = place-own found.place found.item found.stands (eqb-true found.item.label label prefix.0) in
       let there : slice_get stmts (statement_of stmts label) ≡ Some found.item = ap (slice_get stmts) place ∙ found.stands in
       let same : found.item ≡ s = cc in
-      let e : true ≡ false = sym (and_from (is_executable found.item.stmt) (not (is_arm found.item.stmt)) front.1 parts.1) ∙ (ap may_be_target same ∙ is) in
+      let e : true ≡ false = sym (and_from (is_executable found.item.stmt) (not (is_arm found.item.stmt)) prefix.1 parts.1) ∙ (ap may_be_target same ∙ is) in
       absurd cc)
 
   -- a label is borne where the statement that has it may be a target
@@ -204,7 +204,7 @@ module _ (stmts : List Labelled) (once : first_line is_labelled_twice stmts ≡ 
   borne-none none = false_from_ne_true (list_any (bears label) stmts) (λ h.
       let found = any-exists (bears label) stmts h in
       let parts = and_parts ((found.item.label == label) && is_executable found.item.stmt) (not (is_arm found.item.stmt)) found.is in
-      let front = and_parts (found.item.label == label) (is_executable found.item.stmt) parts.0 in
-      let place = place-own found.place found.item found.stands (eqb-true found.item.label label front.0) in
+      let prefix = and_parts (found.item.label == label) (is_executable found.item.stmt) parts.0 in
+      let place = place-own found.place found.item found.stands (eqb-true found.item.label label prefix.0) in
       let e : None ≡ Some found.item = sym none ∙ (ap (slice_get stmts) place ∙ found.stands) in
       absurd cc)

@@ -13,7 +13,7 @@ use Rattle.f77_tree.specs.declared.statements.Stmt.{Stmt, more_of-Stmt}
 use Rattle.f77_tree.specs.declared.statements.Stmt.TheVariants.{Program as Program', Implicit, ImplicitNone, TypeOf, Dimension, Common, Equivalence, Init, Sub, Take, Else, ThenIf'}
 use Rattle.f77_tree.specs.StatementGrammar.{WrittenStatement, IsStatement, IsGiven, statement_of as stmt_of}
 use Rattle.f77_tree.specs.Grammar.{reading}
-use Rattle.f77_layout.specs.Executables.{behind, first_of, increments, labelled, loops_to, own_executables, own_kinds, executables}
+use Rattle.f77_layout.specs.Executables.{beyond, first_of, increments, labelled, loops_to, own_executables, own_kinds, executables}
 use Rattle.f77_layout.specs.Labels.{bears, used, lacks_label, statement_of, is_executable, is_arm}
 use Rattle.f77_layout.specs.Layout.{layout, names_of}
 use Rattle.f77_layout.specs.Leading.{IsLedTo}
@@ -79,7 +79,7 @@ module _ (stmts : List Labelled) (checked : Bool) (p : Program) (source : IsSour
   execs_are : executables (names_of stmts) checked stmts ≡ p.execs
   execs_are = ap (λ (q : Program). q.execs) (laid-is stmts checked source p laid)
 
-  pub own-stand : (i j : ℕ) (s : Labelled) (kind : ExecKind) → slice_get stmts i ≡ Some s → slice_get (own_kinds (names_of stmts) checked stmts i (first_of stmts i) (behind stmts i s) s.stmt) j ≡ Some kind → slice_get p.execs (first_of stmts i + j) ≡ Some (record { line = s.line; kind = kind })
+  pub own-stand : (i j : ℕ) (s : Labelled) (kind : ExecKind) → slice_get stmts i ≡ Some s → slice_get (own_kinds (names_of stmts) checked stmts i (first_of stmts i) (beyond stmts i s) s.stmt) j ≡ Some kind → slice_get p.execs (first_of stmts i + j) ≡ Some (record { line = s.line; kind = kind })
   own-stand i j s kind here is =
       ap (λ execs. slice_get execs (first_of stmts i + j)) (sym execs_are) ∙ own-at (names_of stmts) checked stmts (usable stmts source none.borne) i j s kind here is
 
@@ -114,7 +114,7 @@ module _ (stmts : List Labelled) (checked : Bool) (p : Program) (source : IsSour
       let at : statement_of stmts label ≡ b.place = ap (statement_of stmts) (sym same) ∙ statement_of-own stmts none.once b.place b.statement b.stands some in
       let parts = and_parts ((b.statement.label == label) && is_executable b.statement.stmt) (not (is_arm b.statement.stmt)) b.bears_it in
       let given = given_at stmts source b.place b.statement b.stands in
-      let own = own_kinds (names_of stmts) checked stmts b.place (first_of stmts b.place) (behind stmts b.place b.statement) b.statement.stmt in
+      let own = own_kinds (names_of stmts) checked stmts b.place (first_of stmts b.place) (beyond stmts b.place b.statement) b.statement.stmt in
       let many = length-own_kinds (names_of stmts) checked stmts (usable stmts source none.borne) b.place b.statement b.stands in
       let one = given_some b.statement.stmt given (and_parts (b.statement.label == label) (is_executable b.statement.stmt) parts.0).1 (not-true (is_arm b.statement.stmt) parts.1) in
       let item = first_item own (omega (arith, many, one)) in

@@ -126,7 +126,7 @@ module _ (spots : List Spot) (e : Equation) where
       let moves : shift A B e.distance (storage_at spots x) ≡ shift A B e.distance (storage_at spots y) = ap (shift A B e.distance) (sym below.together) in
       let at_x = distance-linked spots e x i in
       let at_y = distance-linked spots e y j in
-      record { together = together-after y x j i below.together; behind = omega (arith, ints, below.behind) }
+      record { together = together-after y x j i below.together; beyond = omega (arith, ints, below.beyond) }
 
   -- names of one storage were in one, or in the two that the equation joins
   pub apart-after : (x y : ℕ) → x < length spots → y < length spots → storage_at after x ≡ storage_at after y → (storage_at spots x ≡ storage_at spots y) ⊎ (((storage_at spots x ≡ A.storage) × (storage_at spots y ≡ B.storage)) ⊎ ((storage_at spots x ≡ B.storage) × (storage_at spots y ≡ A.storage)))
@@ -169,8 +169,8 @@ module _ (spots : List Spot) (e : Equation) where
       (λ s.
       let old = near x y i' j' s in
       let more = more-after ne x i' in
-      let stay = below-after y x (distance_at spots y -ℤ distance_at spots x) j' i' (record { together = s; behind = omega (arith, ints) }) in
-      omega (arith, ints, stay.behind))
+      let stay = below-after y x (distance_at spots y -ℤ distance_at spots x) j' i' (record { together = s; beyond = omega (arith, ints) }) in
+      omega (arith, ints, stay.beyond))
       (λ h. ⊎_elim
       (λ ab.
       let into = near e.to y to j' (sym ab.1) in

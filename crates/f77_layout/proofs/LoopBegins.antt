@@ -14,7 +14,7 @@ use Rattle.f77_tree.specs.declared.statements.Stmt.TheVariants.{Do}
 use Rattle.f77_tree.specs.Declarations.{index_of}
 use Rattle.f77_tree.specs.Loops.{Loop, begun, incremented, begun_in, incremented_in, begun_at, incremented_at}
 use Rattle.f77_layout.specs.Resolved.{resolved, resolved_step}
-use Rattle.f77_layout.specs.Executables.{behind, own_executables, own_kinds, increments, loops_to, first_of, executables, is_do, loop_number, exit_of}
+use Rattle.f77_layout.specs.Executables.{beyond, own_executables, own_kinds, increments, loops_to, first_of, executables, is_do, loop_number, exit_of}
 use Rattle.f77_layout.specs.Tables.{IsUsable}
 use Rattle.f77_layout.proofs.ExecutableLemmas.{length-increments}
 use Rattle.f77_layout.proofs.LoopPlaces.{Located, located, length-own_kinds, length-executables, usable-at, own-at, end-at}
@@ -29,7 +29,7 @@ pub record OwnAt (names : List NameInfo) (checked : Bool) (whole : List Labelled
   pub stands : slice_get whole place ≡ Some s
   pub at : k ≡ first_of whole place + j
   pub own : j < own_executables s.stmt
-  pub got : slice_get (own_kinds names checked whole place (first_of whole place) (behind whole place s) s.stmt) j ≡ Some kind
+  pub got : slice_get (own_kinds names checked whole place (first_of whole place) (beyond whole place s) s.stmt) j ≡ Some kind
 
 -- an increment
 pub record EndAt (names : List NameInfo) (whole : List Labelled) (k : ℕ) (kind : ExecKind) : Type 0 where
@@ -51,7 +51,7 @@ module _ (names : List NameInfo) (checked : Bool) (whole : List Labelled) (usabl
 
   comes-own : (k : ℕ) (e : Exec) (l : Located whole k) → slice_get execs k ≡ Some e → l.offset < own_executables l.s.stmt → OwnAt names checked whole k e.kind
   comes-own k e l is lt =
-      let own = own_kinds names checked whole l.place (first_of whole l.place) (behind whole l.place l.s) l.s.stmt in
+      let own = own_kinds names checked whole l.place (first_of whole l.place) (beyond whole l.place l.s) l.s.stmt in
       let x = item_at own l.offset (omega (arith, lt, length-own_kinds names checked whole usable l.place l.s l.stands)) in
       let there = own-at names checked whole usable l.place l.offset l.s x.0 l.stands x.1 in
       let same = same_kind k l.s.line e x.0 is (ap (slice_get execs) l.is ∙ there) in
@@ -86,7 +86,7 @@ module _ (names : List NameInfo) (checked : Bool) (whole : List Labelled) (usabl
   pub start-at : (d : ℕ) (s : Labelled) (label : ℕ) (variable : List ℕ) (first last : RawExpr) (step : Option RawExpr) → slice_get whole d ≡ Some s → s.stmt ≡ Do label variable first last step → begun_at execs (first_of whole d) ≡ Some (loop_of names whole d label variable)
   start-at d s label variable first last step here is =
       let kind = DoStart (loop_number whole d) (index_of names variable) (resolved names checked first) (resolved names checked last) (resolved_step names checked step) (first_of whole d + 1) (exit_of whole label d) in
-      let got : slice_get (own_kinds names checked whole d (first_of whole d) (behind whole d s) s.stmt) 0 ≡ Some kind = ap (λ (t : Stmt). slice_get (own_kinds names checked whole d (first_of whole d) (behind whole d s) t) 0) is in
+      let got : slice_get (own_kinds names checked whole d (first_of whole d) (beyond whole d s) s.stmt) 0 ≡ Some kind = ap (λ (t : Stmt). slice_get (own_kinds names checked whole d (first_of whole d) (beyond whole d s) t) 0) is in
       let at : first_of whole d ≡ first_of whole d + 0 = omega arith in
       ap begun_in (ap (slice_get execs) at ∙ own-at names checked whole usable d 0 s kind here got)
 
@@ -103,10 +103,10 @@ module _ (names : List NameInfo) (checked : Bool) (whole : List Labelled) (usabl
   start-from k e loop is from = elim from as (λ _. StartsAt whole k loop) [
     | inl own ↦ elim (cases_Bool (is_do own.s.stmt)) as (λ _. StartsAt whole k loop) [
       | inl yes_do ↦
-          let h = do-own own.place (first_of whole own.place) (behind whole own.place own.s) own.j own.s.stmt e.kind loop yes_do own.got is in
+          let h = do-own own.place (first_of whole own.place) (beyond whole own.place own.s) own.j own.s.stmt e.kind loop yes_do own.got is in
           record { d = own.place; s = own.s; stands = own.stands; is_do = yes_do; at = omega (arith, own.at, h.0); number = h.1 }
       | inr no_do ↦
-          let none = no_loops-got (own_kinds names checked whole own.place (first_of whole own.place) (behind whole own.place own.s) own.s.stmt) own.j e.kind (own-no_loops names checked whole own.place (first_of whole own.place) (behind whole own.place own.s) own.s.stmt (usable-at names checked whole usable own.place own.s own.stands).inner no_do) own.got in
+          let none = no_loops-got (own_kinds names checked whole own.place (first_of whole own.place) (beyond whole own.place own.s) own.s.stmt) own.j e.kind (own-no_loops names checked whole own.place (first_of whole own.place) (beyond whole own.place own.s) own.s.stmt (usable-at names checked whole usable own.place own.s own.stands).inner no_do) own.got in
           let h : None ≡ Some loop = sym none.0 ∙ is in absurd cc
     ]
     | inr end ↦ let h : None ≡ Some loop = sym (ap begun end.is) ∙ is in absurd cc
@@ -136,9 +136,9 @@ module _ (names : List NameInfo) (checked : Bool) (whole : List Labelled) (usabl
   next-from : (k : ℕ) (e : Exec) (loop : Loop) → incremented e.kind ≡ Some loop → OwnAt names checked whole k e.kind ⊎ EndAt names whole k e.kind → NextAt whole k loop
   next-from k e loop is from = elim from as (λ _. NextAt whole k loop) [
     | inl own ↦ elim (cases_Bool (is_do own.s.stmt)) as (λ _. NextAt whole k loop) [
-      | inl yes_do ↦ let h : None ≡ Some loop = sym (do-none own.place (first_of whole own.place) (behind whole own.place own.s) own.j own.s.stmt e.kind yes_do own.got) ∙ is in absurd cc
+      | inl yes_do ↦ let h : None ≡ Some loop = sym (do-none own.place (first_of whole own.place) (beyond whole own.place own.s) own.j own.s.stmt e.kind yes_do own.got) ∙ is in absurd cc
       | inr no_do ↦
-          let none = no_loops-got (own_kinds names checked whole own.place (first_of whole own.place) (behind whole own.place own.s) own.s.stmt) own.j e.kind (own-no_loops names checked whole own.place (first_of whole own.place) (behind whole own.place own.s) own.s.stmt (usable-at names checked whole usable own.place own.s own.stands).inner no_do) own.got in
+          let none = no_loops-got (own_kinds names checked whole own.place (first_of whole own.place) (beyond whole own.place own.s) own.s.stmt) own.j e.kind (own-no_loops names checked whole own.place (first_of whole own.place) (beyond whole own.place own.s) own.s.stmt (usable-at names checked whole usable own.place own.s own.stands).inner no_do) own.got in
           let h : None ≡ Some loop = sym none.1 ∙ is in absurd cc
     ]
     | inr end ↦

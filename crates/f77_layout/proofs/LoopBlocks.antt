@@ -9,7 +9,7 @@ use Rattle.f77_tree.specs.declared.statements.Stmt.TheVariants.{BlockIf, ElseIf,
 use Rattle.f77_layout.specs.declared.open_stack.Opened.TheVariants.{Block}
 use Rattle.f77_layout.specs.Source.{EndsWithEnd}
 use Rattle.f77_layout.specs.Labels.{statement_of, is_executable, is_arm}
-use Rattle.f77_layout.specs.Jumps.{end_behind, end_of_block, end_of_arm, is_block_if, is_end_if}
+use Rattle.f77_layout.specs.Jumps.{end_after, end_of_block, end_of_arm, is_block_if, is_end_if}
 use Rattle.f77_layout.specs.Nesting.{first_unnested}
 use Rattle.f77_layout.specs.Roles.{role_of}
 use Rattle.f77_layout.specs.Executables.{first_of, met}
@@ -18,7 +18,7 @@ use Rattle.f77_layout.proofs.RoleLemmas.{opened_by}
 use Rattle.f77_layout.proofs.OpenSpans.{OpensAt, AreLabelled}
 use Rattle.f77_layout.proofs.LoopPlaces.{first-rises}
 use Rattle.f77_layout.proofs.LoopSpans.{IsDo, ends-within}
-use Rattle.f77_layout.proofs.LoopRanges.{Spot, next_of, next-before, end_behind-later, end_of_block-later}
+use Rattle.f77_layout.proofs.LoopRanges.{Spot, next_of, next-before, end_after-later, end_of_block-later}
 use Rattle.f77_layout.proofs.Walks.{item_at}
 
 -- ---- the arms of a block
@@ -29,14 +29,14 @@ pub record TurnsAt (inner : ℕ) (rest : List Labelled) (place : ℕ) : Type 0 w
   pub s : Labelled
   pub stands : slice_get rest j ≡ Some s
   pub its : is_arm s.stmt ≡ true
-  pub arm : end_behind true inner rest place ≡ place + j
-  pub block : end_behind false inner rest place ≡ end_behind false 0 (drop (suc j) rest) (place + j + 1)
+  pub arm : end_after true inner rest place ≡ place + j
+  pub block : end_after false inner rest place ≡ end_after false 0 (drop (suc j) rest) (place + j + 1)
 
 abbrev ArmEnds : ℕ → List Labelled → ℕ → Type 0
-ArmEnds inner rest place = (end_behind true inner rest place ≡ end_behind false inner rest place) ⊎ TurnsAt inner rest place
+ArmEnds inner rest place = (end_after true inner rest place ≡ end_after false inner rest place) ⊎ TurnsAt inner rest place
 
 -- one statement further up, where both pass over it
-passes : (inner next place : ℕ) (s : Labelled) (rest : List Labelled) → end_behind true inner (s ∷ rest) place ≡ end_behind true next rest (place + 1) → end_behind false inner (s ∷ rest) place ≡ end_behind false next rest (place + 1) → ArmEnds next rest (place + 1) → ArmEnds inner (s ∷ rest) place
+passes : (inner next place : ℕ) (s : Labelled) (rest : List Labelled) → end_after true inner (s ∷ rest) place ≡ end_after true next rest (place + 1) → end_after false inner (s ∷ rest) place ≡ end_after false next rest (place + 1) → ArmEnds next rest (place + 1) → ArmEnds inner (s ∷ rest) place
 passes inner next place s rest arm block ends = elim ends as (λ _. ArmEnds inner (s ∷ rest) place) [
   | inl same ↦ inl (arm ∙ same ∙ sym block)
   | inr turns ↦ inr (record {
@@ -45,7 +45,7 @@ passes inner next place s rest arm block ends = elim ends as (λ _. ArmEnds inne
     stands = turns.stands;
     its = turns.its;
     arm = arm ∙ turns.arm ∙ omega arith;
-    block = block ∙ turns.block ∙ ap (end_behind false 0 (drop (suc turns.j) rest)) (let e : place + 1 + turns.j + 1 ≡ place + suc turns.j + 1 = omega arith in e);
+    block = block ∙ turns.block ∙ ap (end_after false 0 (drop (suc turns.j) rest)) (let e : place + 1 + turns.j + 1 ≡ place + suc turns.j + 1 = omega arith in e);
   })
 ]
 
@@ -54,9 +54,9 @@ arm_ends inner [] place = inl refl
 arm_ends inner (s ∷ rest) place = by (is_block_if s.stmt) (eqb inner 0) (is_end_if s.stmt) (is_arm s.stmt) refl refl refl refl (λ n. arm_ends n rest (place + 1))
   where
     at : Bool → Bool → Bool → Bool → Bool → ℕ
-    at arms b z e a = cond b (end_behind arms (inner + 1) rest (place + 1)) (cond (z && (e || (arms && a))) place (cond e (end_behind arms (inner - 1) rest (place + 1)) (end_behind arms inner rest (place + 1))))
+    at arms b z e a = cond b (end_after arms (inner + 1) rest (place + 1)) (cond (z && (e || (arms && a))) place (cond e (end_after arms (inner - 1) rest (place + 1)) (end_after arms inner rest (place + 1))))
 
-    is : (arms b z e a : Bool) → is_block_if s.stmt ≡ b → eqb inner 0 ≡ z → is_end_if s.stmt ≡ e → is_arm s.stmt ≡ a → end_behind arms inner (s ∷ rest) place ≡ at arms b z e a
+    is : (arms b z e a : Bool) → is_block_if s.stmt ≡ b → eqb inner 0 ≡ z → is_end_if s.stmt ≡ e → is_arm s.stmt ≡ a → end_after arms inner (s ∷ rest) place ≡ at arms b z e a
     is arms b z e a is_b is_z is_e is_a =
         ap (λ x. at arms x (eqb inner 0) (is_end_if s.stmt) (is_arm s.stmt)) is_b ∙ ap (λ x. at arms b x (is_end_if s.stmt) (is_arm s.stmt)) is_z
         ∙ ap (λ x. at arms b z x (is_arm s.stmt)) is_e ∙ ap (λ x. at arms b z e x) is_a
@@ -72,7 +72,7 @@ arm_ends inner (s ∷ rest) place = by (is_block_if s.stmt) (eqb inner 0) (is_en
           stands = refl;
           its = is_a;
           arm = is true false true false true is_b is_z is_e is_a ∙ omega arith;
-          block = is false false true false true is_b is_z is_e is_a ∙ ap (λ n. end_behind false n rest (place + 1)) none ∙ ap (end_behind false 0 rest) (let e : place + 1 ≡ place + 0 + 1 = omega arith in e);
+          block = is false false true false true is_b is_z is_e is_a ∙ ap (λ n. end_after false n rest (place + 1)) none ∙ ap (end_after false 0 rest) (let e : place + 1 ≡ place + 0 + 1 = omega arith in e);
         })
     by false true false false is_b is_z is_e is_a on = passes inner inner place s rest (is true false true false false is_b is_z is_e is_a) (is false false true false false is_b is_z is_e is_a) (on inner)
     by false false true a is_b is_z is_e is_a on = passes inner (inner - 1) place s rest (is true false false true a is_b is_z is_e is_a) (is false false false true a is_b is_z is_e is_a) (on (inner - 1))
@@ -92,7 +92,7 @@ drop_twice xs m zero = ap (λ k. drop k xs) (let e : m ≡ 0 + m = omega arith i
 drop_twice {X = X} [] m (suc n) = drop_none X m ∙ sym (drop_none X (suc n + m))
 drop_twice (x ∷ xs) m (suc n) = drop_twice xs m n ∙ ap (λ k. drop k (x ∷ xs)) (let e : suc (n + m) ≡ suc n + m = omega arith in e)
 
--- the next arm of the block behind an IF, ELSE IF or ELSE
+-- the next arm of the block after an IF, ELSE IF or ELSE
 pub record NextArm (whole : List Labelled) (p : ℕ) : Type 0 where
   pub s : Labelled
   pub stands : slice_get whole (end_of_arm whole p) ≡ Some s
@@ -109,13 +109,13 @@ arm_or_block whole p = elim (arm_ends 0 (drop (p + 1) whole) (p + 1)) as (λ _. 
         s = turns.s;
         stands = ap (slice_get whole) turns.arm ∙ sym (got_drop whole (p + 1) turns.j) ∙ turns.stands;
         its = turns.its;
-        block = turns.block ∙ ap (λ (xs : List Labelled). end_behind false 0 xs (p + 1 + turns.j + 1)) rest ∙ ap (end_behind false 0 (drop (end_of_arm whole p + 1) whole)) place;
+        block = turns.block ∙ ap (λ (xs : List Labelled). end_after false 0 xs (p + 1 + turns.j + 1)) rest ∙ ap (end_after false 0 (drop (end_of_arm whole p + 1) whole)) place;
       })
 ]
 
 -- ---- a DO in a block
 
--- an arm of an IF begins behind the statement
+-- an arm of an IF begins after the statement
 abbrev pub begins_arm : Stmt → Bool
 begins_arm (BlockIf condition) = true
 begins_arm (ElseIf condition) = true
@@ -162,7 +162,7 @@ module _ (whole : List Labelled) (are : AreLabelled whole) (ended : EndsWithEnd 
     | inr next ↦
         let e = end_of_arm whole p in
         let beyond : e < end_of_block whole e = end_of_block-later whole e in
-        let later : p + 1 ≤ e = end_behind-later true 0 (drop (p + 1) whole) (p + 1) in
+        let later : p + 1 ≤ e = end_after-later true 0 (drop (p + 1) whole) (p + 1) in
         elim (cases_lt d e) as (λ _. statement_of whole label < end_of_block whole p) [
           | inl less ↦ omega (arith, next.block, beyond, ends-in_arm p d label begins it lt less)
           | inr ge ↦

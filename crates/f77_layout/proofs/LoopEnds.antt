@@ -4,7 +4,7 @@ use Rattle.std.specs.Prelude.{slice_get, reverse}
 use Rattle.std.proofs.lemmas.Bool.{eq-eqb, ne_eqb}
 use Rattle.std.proofs.lemmas.List.{reverse-append, length-reverse}
 use Rattle.f77_tree.specs.declared.statements.Labelled.{Labelled}
-use Rattle.f77_layout.specs.Executables.{is_do_in, loops_above, loops_to, exit_behind, exit_among}
+use Rattle.f77_layout.specs.Executables.{is_do_in, loops_above, loops_to, exit_after, exit_among}
 use Rattle.f77_layout.proofs.LoopTables.{loops_above-next}
 use Rattle.f77_layout.proofs.Exits.{Leaves, leaving}
 use Rattle.f77_layout.proofs.LoopPlaces.{got_right}
@@ -22,11 +22,11 @@ AllOf-map : (P Q : ℕ → Type 0) → ((x : ℕ) → P x → Q x) → (xs : Lis
 AllOf-map P Q f [] all = tt
 AllOf-map P Q f (x ∷ xs) all = (f x all.0, AllOf-map P Q f xs all.1)
 
-drop_behind : (xs : List ℕ) (y : ℕ) (ys : List ℕ) → drop (suc (length xs)) (xs ++ y ∷ ys) ≡ ys
-drop_behind [] y ys = refl
-drop_behind (x ∷ xs) y ys = drop_behind xs y ys
+drop_after : (xs : List ℕ) (y : ℕ) (ys : List ℕ) → drop (suc (length xs)) (xs ++ y ∷ ys) ≡ ys
+drop_after [] y ys = refl
+drop_after (x ∷ xs) y ys = drop_after xs y ys
 
--- an item that all before it and all behind it differ from stands once
+-- an item that all before it and all after it differ from stands once
 once : (xs : List ℕ) (y : ℕ) (ys : List ℕ) (m : ℕ) → AllOf (λ x. y < x) xs → AllOf (λ x. x < y) ys → slice_get (xs ++ y ∷ ys) m ≡ Some y → m ≡ length xs
 once [] y ys zero above below is = refl
 once [] y ys (suc m) above below is = let lt : y < y = AllOf-got (λ x. x < y) ys m y below is in absurd (omega (arith, lt))
@@ -37,7 +37,7 @@ once (x ∷ xs) y ys (suc m) above below is = let rest = once xs y ys m above.1 
 pub record EndsAmong (whole : List Labelled) (label d : ℕ) (ds : List ℕ) : Type 0 where
   pub inner : List ℕ
   pub is : ds ≡ inner ++ d ∷ reverse (loops_above whole label d)
-  pub behind : AllOf (λ x. d < x) inner
+  pub beyond : AllOf (λ x. d < x) inner
 
 module _ (whole : List Labelled) (label : ℕ) where
   abbrev pub IsEnding : ℕ → ℕ → Type 0
@@ -68,11 +68,11 @@ module _ (whole : List Labelled) (label : ℕ) where
   among-step d n lt a = by (is_do_in label (slice_get whole n)) refl
     where
       by : (b : Bool) → is_do_in label (slice_get whole n) ≡ b → EndsAmong whole label d (reverse (loops_above whole label (n + 1)))
-      by true is = record { inner = n ∷ a.inner; is = more n true is ∙ ap (λ (xs : List ℕ). n ∷ xs) a.is; behind = (lt, a.behind) }
-      by false is = record { inner = a.inner; is = more n false is ∙ a.is; behind = a.behind }
+      by true is = record { inner = n ∷ a.inner; is = more n true is ∙ ap (λ (xs : List ℕ). n ∷ xs) a.is; beyond = (lt, a.beyond) }
+      by false is = record { inner = a.inner; is = more n false is ∙ a.is; beyond = a.beyond }
 
   among-from : (d m : ℕ) → is_do_in label (slice_get whole d) ≡ true → EndsAmong whole label d (reverse (loops_above whole label (d + 1 + m)))
-  among-from d zero is = subst (λ (n : ℕ). EndsAmong whole label d (reverse (loops_above whole label n))) (let e : d + 1 ≡ d + 1 + 0 = omega arith in e) (record { inner = []; is = more d true is; behind = tt })
+  among-from d zero is = subst (λ (n : ℕ). EndsAmong whole label d (reverse (loops_above whole label n))) (let e : d + 1 ≡ d + 1 + 0 = omega arith in e) (record { inner = []; is = more d true is; beyond = tt })
   among-from d (suc m) is = subst (λ (n : ℕ). EndsAmong whole label d (reverse (loops_above whole label n))) (let e : d + 1 + m + 1 ≡ d + 1 + suc m = omega arith in e) (among-step d (d + 1 + m) (omega arith) (among-from d m is))
 
   pub ends_among : (d : ℕ) → d < length whole → is_do_in label (slice_get whole d) ≡ true → EndsAmong whole label d (loops_to whole label)
@@ -84,25 +84,25 @@ module _ (whole : List Labelled) (label : ℕ) where
     among-got = ap (λ (xs : List ℕ). slice_get xs (length a.inner)) a.is ∙ got_right a.inner (d ∷ reverse (loops_above whole label d)) (length a.inner) 0 (omega arith)
 
     pub among-outer : drop (suc (length a.inner)) (loops_to whole label) ≡ reverse (loops_above whole label d)
-    among-outer = ap (drop (suc (length a.inner))) a.is ∙ drop_behind a.inner d (reverse (loops_above whole label d))
+    among-outer = ap (drop (suc (length a.inner))) a.is ∙ drop_after a.inner d (reverse (loops_above whole label d))
 
     pub among-once : (m : ℕ) → slice_get (loops_to whole label) m ≡ Some d → m ≡ length a.inner
-    among-once m got = once a.inner d (reverse (loops_above whole label d)) m a.behind (AllOf-map (IsEnding d) (λ x. x < d) (λ x h. h.1) (reverse (loops_above whole label d)) (ends-dos d)) (ap (λ (xs : List ℕ). slice_get xs m) (sym a.is) ∙ got)
+    among-once m got = once a.inner d (reverse (loops_above whole label d)) m a.beyond (AllOf-map (IsEnding d) (λ x. x < d) (λ x h. h.1) (reverse (loops_above whole label d)) (ends-dos d)) (ap (λ (xs : List ℕ). slice_get xs m) (sym a.is) ∙ got)
 
     pub among-length : length (loops_to whole label) ≡ length a.inner + 1 + length (loops_above whole label d)
     among-length = ap (λ (xs : List ℕ). length xs) a.is ∙ length-append a.inner (d ∷ reverse (loops_above whole label d)) ∙ omega (arith, length-reverse (loops_above whole label d))
 
-    exit-passes : (terminal increment : ℕ) (xs : List ℕ) → AllOf (λ x. d < x) xs → exit_among whole terminal increment (xs ++ d ∷ reverse (loops_above whole label d)) d ≡ exit_behind whole terminal (increment + length xs) (reverse (loops_above whole label d))
+    exit-passes : (terminal increment : ℕ) (xs : List ℕ) → AllOf (λ x. d < x) xs → exit_among whole terminal increment (xs ++ d ∷ reverse (loops_above whole label d)) d ≡ exit_after whole terminal (increment + length xs) (reverse (loops_above whole label d))
     exit-passes terminal increment [] all =
-        ap (λ b. cond b (exit_behind whole terminal increment (reverse (loops_above whole label d))) (exit_among whole terminal (increment + 1) (reverse (loops_above whole label d)) d)) (eq-eqb d d refl)
-        ∙ ap (λ k. exit_behind whole terminal k (reverse (loops_above whole label d))) (let e : increment ≡ increment + 0 = omega arith in e)
+        ap (λ b. cond b (exit_after whole terminal increment (reverse (loops_above whole label d))) (exit_among whole terminal (increment + 1) (reverse (loops_above whole label d)) d)) (eq-eqb d d refl)
+        ∙ ap (λ k. exit_after whole terminal k (reverse (loops_above whole label d))) (let e : increment ≡ increment + 0 = omega arith in e)
     exit-passes terminal increment (x ∷ xs) all =
-        ap (λ b. cond b (exit_behind whole terminal increment (xs ++ d ∷ reverse (loops_above whole label d))) (exit_among whole terminal (increment + 1) (xs ++ d ∷ reverse (loops_above whole label d)) d)) (ne_eqb x d (λ e. absurd (omega (arith, all.0, e))))
+        ap (λ b. cond b (exit_after whole terminal increment (xs ++ d ∷ reverse (loops_above whole label d))) (exit_among whole terminal (increment + 1) (xs ++ d ∷ reverse (loops_above whole label d)) d)) (ne_eqb x d (λ e. absurd (omega (arith, all.0, e))))
         ∙ exit-passes terminal (increment + 1) xs all.1
-        ∙ ap (λ k. exit_behind whole terminal k (reverse (loops_above whole label d))) (let e : increment + 1 + length xs ≡ increment + length (x ∷ xs) = omega arith in e)
+        ∙ ap (λ k. exit_after whole terminal k (reverse (loops_above whole label d))) (let e : increment + 1 + length xs ≡ increment + length (x ∷ xs) = omega arith in e)
 
-    pub among-exit : (terminal increment : ℕ) → exit_among whole terminal increment (loops_to whole label) d ≡ exit_behind whole terminal (increment + length a.inner) (reverse (loops_above whole label d))
-    among-exit terminal increment = ap (λ (xs : List ℕ). exit_among whole terminal increment xs d) a.is ∙ exit-passes terminal increment a.inner a.behind
+    pub among-exit : (terminal increment : ℕ) → exit_among whole terminal increment (loops_to whole label) d ≡ exit_after whole terminal (increment + length a.inner) (reverse (loops_above whole label d))
+    among-exit terminal increment = ap (λ (xs : List ℕ). exit_among whole terminal increment xs d) a.is ∙ exit-passes terminal increment a.inner a.beyond
 
 -- a DO further in has more above it
 pub ends-more : (whole : List Labelled) (label c d : ℕ) → is_do_in label (slice_get whole c) ≡ true → c < d → length (loops_above whole label c) < length (loops_above whole label d)

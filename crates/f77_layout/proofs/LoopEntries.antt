@@ -12,19 +12,19 @@ use Rattle.f77_layout.specs.Labels.{jumps, statement_of, is_arm}
 use Rattle.f77_layout.specs.Jumps.{end_of_arm, jumps_into}
 use Rattle.f77_layout.specs.Nesting.{first_unnested}
 use Rattle.f77_layout.specs.Tables.{IsUsable}
-use Rattle.f77_layout.specs.Executables.{own_executables, loops_above, loops_to, first_of, met, labelled, behind, when_false, is_else_at, executables, is_do, loop_number, exit_behind, exit_of}
+use Rattle.f77_layout.specs.Executables.{own_executables, loops_above, loops_to, first_of, met, labelled, beyond, when_false, is_else_at, executables, is_do, loop_number, exit_after, exit_of}
 use Rattle.f77_layout.proofs.FlowLemmas.{when_false-else, when_false-other}
 use Rattle.f77_layout.proofs.Meeting.{end_of_arm-within, statement_of-within, else-inside}
 use Rattle.f77_layout.proofs.OpenSpans.{AreLabelled}
 use Rattle.f77_layout.proofs.LoopPlaces.{first-next, first-rises}
 use Rattle.f77_layout.proofs.LoopSpans.{IsDo, ends-nested, ends-before}
-use Rattle.f77_layout.proofs.LoopRanges.{Spot, next_of, end_behind-later, met-later, next-before, start-own, start-before, exit-is, next-nested}
+use Rattle.f77_layout.proofs.LoopRanges.{Spot, next_of, end_after-later, met-later, next-before, start-own, start-before, exit-is, next-nested}
 use Rattle.f77_layout.proofs.LoopsHold.{label-once, next-is}
 use Rattle.f77_layout.proofs.LoopBlocks.{begins_arm, BeginsArm, begins-arm, not-arm, ends-in_arm, falls-outside}
 use Rattle.f77_layout.proofs.LoopJumps.{jump-stays}
 use Rattle.f77_layout.proofs.Walks.{item_at}
 
--- from k control comes to s, where that lies behind a and not behind b, only if k is a and s the one behind it
+-- from k control comes to s, where that lies after a and not after b, only if k is a and s the one after it
 abbrev pub Into : (a b k s : ℕ) → Type 0
 Into a b k s = a < s → s ≤ b → (k ≡ a) × (s ≡ a + 1)
 
@@ -112,7 +112,7 @@ module _ (names : List NameInfo) (checked : Bool) (whole : List Labelled) (usabl
         ] in
         away low high
 
-    -- to the increments behind it
+    -- to the increments after it
     ends-away : (d ≡ i → ⊥) → 0 < length (loops_to whole s.label) → its_start < first_of whole i + own_executables s.stmt → first_of whole i + own_executables s.stmt ≤ its_next → ⊥
     ends-away other some after upto =
         let next = first-next whole i s here in
@@ -126,8 +126,8 @@ module _ (names : List NameInfo) (checked : Bool) (whole : List Labelled) (usabl
         ] in
         away low high
 
-    pub behind-into : (k : ℕ) → (d ≡ i → ⊥) → Into its_start its_next k (behind whole i s)
-    behind-into k other = by (nat_lt 0 (length (loops_to whole s.label))) refl
+    pub after-into : (k : ℕ) → (d ≡ i → ⊥) → Into its_start its_next k (beyond whole i s)
+    after-into k other = by (nat_lt 0 (length (loops_to whole s.label))) refl
       where
         by : (c : Bool) → nat_lt 0 (length (loops_to whole s.label)) ≡ c → Into its_start its_next k (cond c (first_of whole i + own_executables s.stmt) (met whole (i + 1)))
         by true is after upto = absurd (ends-away other (ltb-true 0 (length (loops_to whole s.label)) is) after upto)
@@ -150,7 +150,7 @@ module _ (names : List NameInfo) (checked : Bool) (whole : List Labelled) (usabl
     -- past an arm that begins here
     arm-away : (d ≡ i → ⊥) → BeginsArm whole i → d < end_of_arm whole i → end_of_arm whole i ≤ its_last → ⊥
     arm-away other begins low high =
-        let later : i + 1 ≤ end_of_arm whole i = end_behind-later true 0 (drop (i + 1) whole) (i + 1) in
+        let later : i + 1 ≤ end_of_arm whole i = end_after-later true 0 (drop (i + 1) whole) (i + 1) in
         elim (cases_lt i d) as (λ _. ⊥) [
           | inl lt ↦ omega (arith, high, ends-in_arm whole are ended nested i d label begins spot.it lt low)
           | inr ge ↦ away (omega (arith, ge, other)) (omega (arith, later, high))
@@ -204,7 +204,7 @@ module _ (names : List NameInfo) (checked : Bool) (whole : List Labelled) (usabl
     below : d < c → its_start < first_of whole c
     below lt = omega (arith, start-own whole d label spot, first-rises whole (d + 1) c (omega (arith, lt)) (omega (arith, c-inside)))
 
-    -- behind its terminal statement
+    -- after its terminal statement
     exit-met : its_start < met whole (statement_of whole its + 1) → met whole (statement_of whole its + 1) ≤ its_next → (its_start < first_of whole c) × (next_of whole c its one ≤ its_next)
     exit-met after upto =
         let u = statement_of whole its in
@@ -242,7 +242,7 @@ module _ (names : List NameInfo) (checked : Bool) (whole : List Labelled) (usabl
         (below order, omega (arith, upto))
 
     -- where it ends
-    pub exit-in : (outer : List ℕ) → its_start < exit_behind whole (statement_of whole its) (next_of whole c its one) outer → exit_behind whole (statement_of whole its) (next_of whole c its one) outer ≤ its_next → (its_start < first_of whole c) × (next_of whole c its one ≤ its_next)
+    pub exit-in : (outer : List ℕ) → its_start < exit_after whole (statement_of whole its) (next_of whole c its one) outer → exit_after whole (statement_of whole its) (next_of whole c its one) outer ≤ its_next → (its_start < first_of whole c) × (next_of whole c its one ≤ its_next)
     exit-in [] after upto = exit-met after upto
     exit-in (x ∷ outer) after upto = exit-step after upto
 
@@ -252,7 +252,7 @@ module _ (names : List NameInfo) (checked : Bool) (whole : List Labelled) (usabl
         let both = exit-in (reverse (loops_above whole its c)) (omega (arith, after, is)) (omega (arith, upto, is)) in
         absurd (outside (omega (arith, both.0, at)) (omega (arith, both.1, at, start-before whole c its one)))
 
-    pub end-into : (k : ℕ) (outer : List ℕ) → k ≡ next_of whole c its one → (its_start < k → k ≤ its_next → ⊥) → Into its_start its_next k (exit_behind whole (statement_of whole its) (next_of whole c its one) outer)
+    pub end-into : (k : ℕ) (outer : List ℕ) → k ≡ next_of whole c its one → (its_start < k → k ≤ its_next → ⊥) → Into its_start its_next k (exit_after whole (statement_of whole its) (next_of whole c its one) outer)
     end-into k outer at outside after upto =
         let both = exit-in outer after upto in
         absurd (outside (omega (arith, both.0, at, start-before whole c its one)) (omega (arith, both.1, at)))

@@ -11,7 +11,7 @@ use Rattle.f77_tree.specs.declared.statements.Stmt.{Stmt, more_of-Stmt}
 use Rattle.f77_tree.specs.declared.statements.Stmt.TheVariants.{Take, ThenIf', Do}
 use Rattle.f77_tree.specs.Declarations.{index_of}
 use Rattle.f77_tree.specs.Loops.{Loop, begun, incremented}
-use Rattle.f77_layout.specs.Executables.{own_executables, own_kinds, taking, increments, loops_to, first_of, is_do, loop_number, exit_of, exit_behind, variable_of}
+use Rattle.f77_layout.specs.Executables.{own_executables, own_kinds, taking, increments, loops_to, first_of, is_do, loop_number, exit_of, exit_after, variable_of}
 use Rattle.f77_layout.specs.Tables.{is_simple, has_simple_inner}
 use Rattle.f77_layout.proofs.ExecutableLemmas.{length-increments}
 use Rattle.f77_layout.proofs.Walks.{item_at}
@@ -34,11 +34,11 @@ loop_of names whole d label variable = record { number = loop_number whole d; va
 
 -- the executable that increments the DO at the place d, with the DOs further out that end where it does
 abbrev pub next_kind : List NameInfo → List Labelled → (place d index : ℕ) → (outer : List ℕ) → ExecKind
-next_kind names whole place d index outer = DoNext (loop_number whole d) (index_of names (variable_of (slice_get whole d))) (first_of whole d + 1) (exit_behind whole place index outer)
+next_kind names whole place d index outer = DoNext (loop_number whole d) (index_of names (variable_of (slice_get whole d))) (first_of whole d + 1) (exit_after whole place index outer)
 
 -- the DO that it increments
 abbrev pub next_loop : List NameInfo → List Labelled → (place d index : ℕ) → (outer : List ℕ) → Loop
-next_loop names whole place d index outer = record { number = loop_number whole d; variable = index_of names (variable_of (slice_get whole d)); body = first_of whole d + 1; exit = exit_behind whole place index outer }
+next_loop names whole place d index outer = record { number = loop_number whole d; variable = index_of names (variable_of (slice_get whole d)); body = first_of whole d + 1; exit = exit_after whole place index outer }
 
 -- an increment among those of a statement
 pub record IncrementIs (names : List NameInfo) (whole : List Labelled) (place index m : ℕ) (ds : List ℕ) (kind : ExecKind) : Type 0 where

@@ -10,7 +10,7 @@ use Rattle.f77_tree.specs.declared.programs.Exec.{Exec}
 use Rattle.f77_tree.specs.declared.programs.ExecKind.{ExecKind}
 use Rattle.f77_tree.specs.declared.programs.NameInfo.{NameInfo}
 use Rattle.f77_tree.specs.declared.statements.Labelled.{Labelled}
-use Rattle.f77_layout.specs.Executables.{behind, own_executables, own_kinds, increments, loops_to, executables_with_ends, first_of, kinds_at, executables_at, executables_if_any, executables}
+use Rattle.f77_layout.specs.Executables.{beyond, own_executables, own_kinds, increments, loops_to, executables_with_ends, first_of, kinds_at, executables_at, executables_if_any, executables}
 use Rattle.f77_layout.specs.Tables.{IsUsable}
 use Rattle.f77_layout.proofs.ExecutableLemmas.{length-own, length-increments, first_of-next}
 use Rattle.f77_layout.proofs.LoopTables.{range-more}
@@ -81,12 +81,12 @@ module _ (names : List NameInfo) (checked : Bool) (whole : List Labelled) (usabl
   abbrev above : ℕ → List Exec
   above n = flat_map (λ place. executables_if_any names checked whole place (slice_get whole place)) (range_with_len 0 n)
 
-  pub length-own_kinds : (i : ℕ) (s : Labelled) → slice_get whole i ≡ Some s → length (own_kinds names checked whole i (first_of whole i) (behind whole i s) s.stmt) ≡ own_executables s.stmt
-  length-own_kinds i s here = let u = usable-at i s here in length-own names checked whole i (first_of whole i) (behind whole i s) s.stmt u.inner u.no_subroutine
+  pub length-own_kinds : (i : ℕ) (s : Labelled) → slice_get whole i ≡ Some s → length (own_kinds names checked whole i (first_of whole i) (beyond whole i s) s.stmt) ≡ own_executables s.stmt
+  length-own_kinds i s here = let u = usable-at i s here in length-own names checked whole i (first_of whole i) (beyond whole i s) s.stmt u.inner u.no_subroutine
 
   length-at : (i : ℕ) (s : Labelled) → slice_get whole i ≡ Some s → length (executables_at names checked whole i s) ≡ executables_with_ends whole s
   length-at i s here =
-      let own = own_kinds names checked whole i (first_of whole i) (behind whole i s) s.stmt in
+      let own = own_kinds names checked whole i (first_of whole i) (beyond whole i s) s.stmt in
       let ends = increments names whole i (first_of whole i + own_executables s.stmt) (loops_to whole s.label) in
       let line : ExecKind → Exec = λ kind. record { line = s.line; kind = kind } in
       length-map (own ++ ends) line ∙ length-append own ends
@@ -140,17 +140,17 @@ module _ (names : List NameInfo) (checked : Bool) (whole : List Labelled) (usabl
       ∙ ap (option_map line) is
 
   -- an executable of a statement's own
-  pub own-at : (i j : ℕ) (s : Labelled) (kind : ExecKind) → slice_get whole i ≡ Some s → slice_get (own_kinds names checked whole i (first_of whole i) (behind whole i s) s.stmt) j ≡ Some kind → slice_get (executables names checked whole) (first_of whole i + j) ≡ Some (record { line = s.line; kind = kind })
+  pub own-at : (i j : ℕ) (s : Labelled) (kind : ExecKind) → slice_get whole i ≡ Some s → slice_get (own_kinds names checked whole i (first_of whole i) (beyond whole i s) s.stmt) j ≡ Some kind → slice_get (executables names checked whole) (first_of whole i + j) ≡ Some (record { line = s.line; kind = kind })
   own-at i j s kind here is =
-      let own = own_kinds names checked whole i (first_of whole i) (behind whole i s) s.stmt in
+      let own = own_kinds names checked whole i (first_of whole i) (beyond whole i s) s.stmt in
       let ends = increments names whole i (first_of whole i + own_executables s.stmt) (loops_to whole s.label) in
       let below : j < length own = slice_get_within own j kind is in
       at-place i j s kind here (omega (arith, below, length-own_kinds i s here)) (got_left own ends j below ∙ is)
 
-  -- an increment behind them
+  -- an increment after them
   pub end-at : (i m : ℕ) (s : Labelled) (kind : ExecKind) → slice_get whole i ≡ Some s → slice_get (increments names whole i (first_of whole i + own_executables s.stmt) (loops_to whole s.label)) m ≡ Some kind → slice_get (executables names checked whole) (first_of whole i + own_executables s.stmt + m) ≡ Some (record { line = s.line; kind = kind })
   end-at i m s kind here is =
-      let own = own_kinds names checked whole i (first_of whole i) (behind whole i s) s.stmt in
+      let own = own_kinds names checked whole i (first_of whole i) (beyond whole i s) s.stmt in
       let ends = increments names whole i (first_of whole i + own_executables s.stmt) (loops_to whole s.label) in
       let below : m < length ends = slice_get_within ends m kind is in
       let many = length-increments names checked whole i (first_of whole i + own_executables s.stmt) (loops_to whole s.label) in

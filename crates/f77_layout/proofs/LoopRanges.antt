@@ -11,10 +11,10 @@ use Rattle.f77_tree.specs.declared.statements.Labelled.{Labelled}
 use Rattle.f77_tree.specs.Loops.{Loop, begun, incremented, begun_in, incremented_in, is_number}
 use Rattle.f77_layout.specs.Source.{EndsWithEnd}
 use Rattle.f77_layout.specs.Labels.{statement_of, is_executable, is_arm}
-use Rattle.f77_layout.specs.Jumps.{end_behind, end_of_block, is_block_if, is_end_if}
+use Rattle.f77_layout.specs.Jumps.{end_after, end_of_block, is_block_if, is_end_if}
 use Rattle.f77_layout.specs.Nesting.{first_unnested}
 use Rattle.f77_layout.specs.Tables.{IsUsable}
-use Rattle.f77_layout.specs.Executables.{own_executables, loops_above, loops_to, first_of, met, met_behind, exit_behind, exit_among, exit_of, increments_at}
+use Rattle.f77_layout.specs.Executables.{own_executables, loops_above, loops_to, first_of, met, met_after, exit_after, exit_among, exit_of, increments_at}
 use Rattle.f77_layout.proofs.Exits.{label-of_statement}
 use Rattle.f77_layout.proofs.Meeting.{met-step, end_of_block-within}
 use Rattle.f77_layout.proofs.OpenSpans.{AreLabelled}
@@ -25,10 +25,10 @@ use Rattle.f77_layout.proofs.Walks.{item_at}
 
 -- ---- where control comes to
 
-pub end_behind-later : (arms : Bool) (inner : ℕ) (rest : List Labelled) (place : ℕ) → place ≤ end_behind arms inner rest place
-end_behind-later arms inner [] place = omega arith
-end_behind-later arms inner (s ∷ rest) place =
-    let on : (n : ℕ) → place ≤ end_behind arms n rest (place + 1) = λ n. omega (arith, end_behind-later arms n rest (place + 1)) in
+pub end_after-later : (arms : Bool) (inner : ℕ) (rest : List Labelled) (place : ℕ) → place ≤ end_after arms inner rest place
+end_after-later arms inner [] place = omega arith
+end_after-later arms inner (s ∷ rest) place =
+    let on : (n : ℕ) → place ≤ end_after arms n rest (place + 1) = λ n. omega (arith, end_after-later arms n rest (place + 1)) in
     least (is_block_if s.stmt) _ _ (on (inner + 1)) (least _ place _ (omega arith) (least (is_end_if s.stmt) _ _ (on (inner - 1)) (on inner)))
   where
     least : (b : Bool) (m n : ℕ) → place ≤ m → place ≤ n → place ≤ cond b m n
@@ -36,11 +36,11 @@ end_behind-later arms inner (s ∷ rest) place =
     least false m n one other = other
 
 pub end_of_block-later : (whole : List Labelled) (place : ℕ) → place < end_of_block whole place
-end_of_block-later whole place = omega (arith, end_behind-later false 0 (drop (place + 1) whole) (place + 1))
+end_of_block-later whole place = omega (arith, end_after-later false 0 (drop (place + 1) whole) (place + 1))
 
 met-more : (whole : List Labelled) (n place : ℕ) → place + n ≡ length whole → first_of whole place ≤ met whole place
 met-more whole zero place sum =
-    let none : met whole place ≡ first_of whole place = ap (λ (rest : List Labelled). met_behind whole rest place) (drop_all place whole (omega (arith, sum))) in
+    let none : met whole place ≡ first_of whole place = ap (λ (rest : List Labelled). met_after whole rest place) (drop_all place whole (omega (arith, sum))) in
     omega (arith, none)
 met-more whole (suc n) place sum =
     let here = item_at whole place (omega (arith, sum)) in
@@ -143,7 +143,7 @@ module _ (whole : List Labelled) (d label : ℕ) (spot : Spot whole d label) whe
       let up = first-rises whole (d + 1) (statement_of whole label) (omega (arith, spot.later)) (omega (arith, terminal-inside)) in
       omega (arith, start-own, up)
 
-  pub exit-is : exit_of whole label d ≡ exit_behind whole (statement_of whole label) (next_of whole d label spot) (reverse (loops_above whole label d))
+  pub exit-is : exit_of whole label d ≡ exit_after whole (statement_of whole label) (next_of whole d label spot) (reverse (loops_above whole label d))
   exit-is =
       let t = statement_of whole label in
       ap (λ (o : Option Labelled). exit_among whole t (increments_at whole t o) (loops_to whole label) d) spot.stands
@@ -152,7 +152,7 @@ module _ (whole : List Labelled) (d label : ℕ) (spot : Spot whole d label) whe
   pub exit-later : next_of whole d label spot < exit_of whole label d
   exit-later = subst (λ (k : ℕ). next_of whole d label spot < k) (sym exit-is) (by (reverse (loops_above whole label d)))
     where
-      by : (outer : List ℕ) → next_of whole d label spot < exit_behind whole (statement_of whole label) (next_of whole d label spot) outer
+      by : (outer : List ℕ) → next_of whole d label spot < exit_after whole (statement_of whole label) (next_of whole d label spot) outer
       by [] = omega (arith, next-before, met-later whole (statement_of whole label + 1) terminal-inside)
       by (x ∷ outer) = omega arith
 

@@ -19,10 +19,10 @@ use Rattle.f77_layout.specs.Nesting.{first_unnested}
 use Rattle.f77_layout.specs.Roles.{role_of}
 use Rattle.f77_layout.specs.Tables.{IsStanding, IsUsable}
 use Rattle.f77_layout.specs.Executables.{is_do_to, is_do_in, loops_to}
-use Rattle.f77_layout.specs.OpenStack.{ends_at, begun, entries_behind}
+use Rattle.f77_layout.specs.OpenStack.{ends_at, begun, entries_after}
 use Rattle.f77_layout.proofs.RoleLemmas.{opened_by}
-use Rattle.f77_layout.proofs.OpenSpans.{OpensAt, behind_of, behind_entry, AreLabelled, AreFalling, AreWithin, Has, Stands}
-use Rattle.f77_layout.proofs.OpenSteps.{held, Keeps-behind}
+use Rattle.f77_layout.proofs.OpenSpans.{OpensAt, after_of, after_entry, AreLabelled, AreFalling, AreWithin, Has, Stands}
+use Rattle.f77_layout.proofs.OpenSteps.{held, Keeps-after}
 use Rattle.f77_layout.proofs.Walks.{item_at, unnested_from, goes_on, nothing_at_end, AreWithin-nested, AreWithin-held}
 use Rattle.f77_layout.proofs.InnermostSpans.{has-top}
 use Rattle.f77_layout.proofs.LoopPlaces.{usable-at}
@@ -60,50 +60,50 @@ do-from whole d label is = by (slice_get whole d) refl is
     by None here e = let h : false ≡ true = e in absurd cc
     by (Some s) here e = of s s.stmt here refl e
 
--- ---- what is open in front of a place
+-- ---- what is open before a place
 
 pub record IsOpenAt (whole : List Labelled) (i : ℕ) : Type 0 where
   pub stack : List Entry
   pub stands : Stands whole i stack
   pub nested : unnested_from whole i stack ≡ None
 
--- what is open in front of a DO, and behind it with the DO on top
+-- what is open before a DO, and after it with the DO on top
 pub record IsOpenAround (whole : List Labelled) (d label : ℕ) : Type 0 where
   pub before : IsOpenAt whole d
   pub stands : Stands whole (d + 1) (begun d (Loop label) ∷ before.stack)
   pub nested : unnested_from whole (d + 1) (begun d (Loop label) ∷ before.stack) ≡ None
 
 -- of two that are open the later one ends no later
-has-ordered : (whole : List Labelled) (place low g h : ℕ) (o p : Opened) (stack : List Entry) → AreFalling place stack → AreWithin whole low stack → Has g o stack → Has h p stack → g < h → behind_of whole h p ≤ behind_of whole g o
+has-ordered : (whole : List Labelled) (place low g h : ℕ) (o p : Opened) (stack : List Entry) → AreFalling place stack → AreWithin whole low stack → Has g o stack → Has h p stack → g < h → after_of whole h p ≤ after_of whole g o
 has-ordered whole place low g h o p [] falling within one other lt = absurd one
 has-ordered whole place low g h o p (e ∷ rest) falling within one other lt =
     let later = has-top whole h p e rest falling.1 within.1 other in
     let outer = has-top whole g o e rest falling.1 within.1 one in
-    elim other as (λ _. behind_of whole h p ≤ behind_of whole g o) [
+    elim other as (λ _. after_of whole h p ≤ after_of whole g o) [
       | inl top ↦
-          let end : behind_of whole h p ≡ behind_entry whole e = ap (λ (n : ℕ). behind_of whole n p) (sym top.0) ∙ ap (behind_of whole e.begin) (sym top.1) in
-          omega (arith, end, outer.behind)
-      | inr under ↦ elim one as (λ _. behind_of whole h p ≤ behind_of whole g o) [
+          let end : after_of whole h p ≡ after_entry whole e = ap (λ (n : ℕ). after_of whole n p) (sym top.0) ∙ ap (after_of whole e.begin) (sym top.1) in
+          omega (arith, end, outer.beyond)
+      | inr under ↦ elim one as (λ _. after_of whole h p ≤ after_of whole g o) [
         | inl same ↦ absurd (omega (arith, lt, same.0, later.head))
-        | inr below ↦ has-ordered whole e.begin (behind_entry whole e) g h o p rest falling.1 within.1 below under lt
+        | inr below ↦ has-ordered whole e.begin (after_entry whole e) g h o p rest falling.1 within.1 below under lt
       ]
     ]
 
-unless : (b : Bool) (x behind : List Entry) → (if b && true then None else Some x) ≡ Some behind → (b ≡ false) × (x ≡ behind)
-unless true x behind h = let e : None ≡ Some behind = h in absurd cc
-unless false x behind h = let same : x ≡ behind = cc in (refl, same)
+unless : (b : Bool) (x beyond : List Entry) → (if b && true then None else Some x) ≡ Some beyond → (b ≡ false) × (x ≡ beyond)
+unless true x beyond h = let e : None ≡ Some beyond = h in absurd cc
+unless false x beyond h = let same : x ≡ beyond = cc in (refl, same)
 
-refuses : (b d : Bool) (behind : List Entry) → (if b && d then None else None) ≡ Some behind → ⊥
-refuses true true behind h = let e : None ≡ Some behind = h in absurd cc
-refuses true false behind h = let e : None ≡ Some behind = h in absurd cc
-refuses false d behind h = let e : None ≡ Some behind = h in absurd cc
+refuses : (b d : Bool) (beyond : List Entry) → (if b && d then None else None) ≡ Some beyond → ⊥
+refuses true true beyond h = let e : None ≡ Some beyond = h in absurd cc
+refuses true false beyond h = let e : None ≡ Some beyond = h in absurd cc
+refuses false d beyond h = let e : None ≡ Some beyond = h in absurd cc
 
 -- an arm doesn't end while a loop is open in it
-top-held : (role : Role) (i label begin terminal : ℕ) (rest behind : List Entry) → entries_behind role i label (record { begin = begin; opened = Loop terminal } ∷ rest) ≡ Some behind → held role (record { begin = begin; opened = Loop terminal } ∷ rest) ≡ record { begin = begin; opened = Loop terminal } ∷ rest
-top-held NextArm i label begin terminal rest behind h = absurd (refuses (list_any (ends_at label) (record { begin = begin; opened = Loop terminal } ∷ rest)) true behind h)
-top-held LastArm i label begin terminal rest behind h = absurd (refuses (list_any (ends_at label) (record { begin = begin; opened = Loop terminal } ∷ rest)) true behind h)
-top-held EndBlock i label begin terminal rest behind h = absurd (refuses (list_any (ends_at label) (record { begin = begin; opened = Loop terminal } ∷ rest)) true behind h)
-top-held _ i label begin terminal rest behind h = refl
+top-held : (role : Role) (i label begin terminal : ℕ) (rest beyond : List Entry) → entries_after role i label (record { begin = begin; opened = Loop terminal } ∷ rest) ≡ Some beyond → held role (record { begin = begin; opened = Loop terminal } ∷ rest) ≡ record { begin = begin; opened = Loop terminal } ∷ rest
+top-held NextArm i label begin terminal rest beyond h = absurd (refuses (list_any (ends_at label) (record { begin = begin; opened = Loop terminal } ∷ rest)) true beyond h)
+top-held LastArm i label begin terminal rest beyond h = absurd (refuses (list_any (ends_at label) (record { begin = begin; opened = Loop terminal } ∷ rest)) true beyond h)
+top-held EndBlock i label begin terminal rest beyond h = absurd (refuses (list_any (ends_at label) (record { begin = begin; opened = Loop terminal } ∷ rest)) true beyond h)
+top-held _ i label begin terminal rest beyond h = refl
 
 module _ (whole : List Labelled) (are : AreLabelled whole) (ended : EndsWithEnd whole) (nested : first_unnested [] whole ≡ None) where
   pub open-at : (i : ℕ) → i ≤ length whole → IsOpenAt whole i
@@ -112,7 +112,7 @@ module _ (whole : List Labelled) (are : AreLabelled whole) (ended : EndsWithEnd 
       let here = item_at whole i (omega (arith, within)) in
       let before = open-at i (omega (arith, within)) in
       let next = goes_on whole i here.0 before.stack here.1 before.nested in
-      let step : IsOpenAt whole (i + 1) = record { stack = next.behind; stands = (Keeps-behind whole are i here.0 here.1 before.stack next.behind before.stands next.is).stands; nested = next.nested } in
+      let step : IsOpenAt whole (i + 1) = record { stack = next.beyond; stands = (Keeps-after whole are i here.0 here.1 before.stack next.beyond before.stands next.is).stands; nested = next.nested } in
       subst (IsOpenAt whole) (let e : i + 1 ≡ suc i = omega arith in e) step
 
   open-around : (d label : ℕ) → IsDo whole d label → IsOpenAround whole d label
@@ -120,9 +120,9 @@ module _ (whole : List Labelled) (are : AreLabelled whole) (ended : EndsWithEnd 
       let before = open-at d (omega (arith, slice_get_within whole d it.s it.stands)) in
       let next = goes_on whole d it.s before.stack it.stands before.nested in
       let role : role_of it.s.stmt ≡ BeginLoop label = ap role_of it.is in
-      let is : entries_behind (BeginLoop label) d it.s.label before.stack ≡ Some next.behind = sym (ap (λ (r : Role). entries_behind r d it.s.label before.stack) role) ∙ next.is in
-      let same : begun d (Loop label) ∷ before.stack ≡ next.behind = (unless (list_any (ends_at it.s.label) before.stack) (begun d (Loop label) ∷ before.stack) next.behind is).1 in
-      let stands : Stands whole (d + 1) next.behind = (Keeps-behind whole are d it.s it.stands before.stack next.behind before.stands next.is).stands in
+      let is : entries_after (BeginLoop label) d it.s.label before.stack ≡ Some next.beyond = sym (ap (λ (r : Role). entries_after r d it.s.label before.stack) role) ∙ next.is in
+      let same : begun d (Loop label) ∷ before.stack ≡ next.beyond = (unless (list_any (ends_at it.s.label) before.stack) (begun d (Loop label) ∷ before.stack) next.beyond is).1 in
+      let stands : Stands whole (d + 1) next.beyond = (Keeps-after whole are d it.s it.stands before.stack next.beyond before.stands next.is).stands in
       record { before = before; stands = subst (Stands whole (d + 1)) (sym same) stands; nested = ap (λ (xs : List Entry). unnested_from whole (d + 1) xs) same ∙ next.nested }
 
   -- END is no DO
@@ -145,19 +145,19 @@ module _ (whole : List Labelled) (are : AreLabelled whole) (ended : EndsWithEnd 
       let stack = begun d (Loop label) ∷ around.before.stack in
       let here = item_at whole (d + 1) inside in
       let next = goes_on whole (d + 1) here.0 stack here.1 around.nested in
-      let within : AreWithin whole (d + 1 + 1) (held (role_of here.0.stmt) stack) = AreWithin-held whole are ended (d + 1) here.0 stack next.behind here.1 inside around.stands next.is next.nested in
-      let all : held (role_of here.0.stmt) stack ≡ stack = top-held (role_of here.0.stmt) (d + 1) here.0.label d label around.before.stack next.behind next.is in
+      let within : AreWithin whole (d + 1 + 1) (held (role_of here.0.stmt) stack) = AreWithin-held whole are ended (d + 1) here.0 stack next.beyond here.1 inside around.stands next.is next.nested in
+      let all : held (role_of here.0.stmt) stack ≡ stack = top-held (role_of here.0.stmt) (d + 1) here.0.label d label around.before.stack next.beyond next.is in
       let top : AreWithin whole (d + 1 + 1) stack = subst (λ (xs : List Entry). AreWithin whole (d + 1 + 1) xs) all within in
       omega (arith, top.0)
 
   -- a DO in a range or an arm ends there
-  pub ends-within : (g d label : ℕ) (o : Opened) → OpensAt whole g o → IsDo whole d label → g < d → d < behind_of whole g o → statement_of whole label < behind_of whole g o
+  pub ends-within : (g d label : ℕ) (o : Opened) → OpensAt whole g o → IsDo whole d label → g < d → d < after_of whole g o → statement_of whole label < after_of whole g o
   ends-within g d label o opens it lt later =
       let around = open-around d label it in
       let stack = begun d (Loop label) ∷ around.before.stack in
       let within : AreWithin whole (d + 1) stack = AreWithin-nested whole are ended (d + 1) stack (not-last d label it) around.stands around.nested in
       let has : Has g o around.before.stack = around.before.stands.covered g o lt opens later in
-      let le : behind_of whole d (Loop label) ≤ behind_of whole g o = has-ordered whole (d + 1) (d + 1) g d o (Loop label) stack around.stands.falling within (inr has) (inl (refl, refl)) lt in
+      let le : after_of whole d (Loop label) ≤ after_of whole g o = has-ordered whole (d + 1) (d + 1) g d o (Loop label) stack around.stands.falling within (inr has) (inl (refl, refl)) lt in
       omega (arith, le)
 
   -- of two DOs the ranges are nested, or one ends above the other
@@ -175,7 +175,7 @@ module _ (whole : List Labelled) (are : AreLabelled whole) (ended : EndsWithEnd 
         let here = item_at whole t inside in
         let at = open-at t (omega (arith, inside)) in
         let next = goes_on whole t here.0 at.stack here.1 at.nested in
-        let none : at.stack ≡ [] = nothing_at_end whole ended t here.0 at.stack next.behind last here.1 next.is in
+        let none : at.stack ≡ [] = nothing_at_end whole ended t here.0 at.stack next.beyond last here.1 next.is in
         let has : Has d (Loop label) at.stack = at.stands.covered d (Loop label) (ends-later d label it) (opens-do whole d label it) (omega arith) in
         absurd (subst (λ (xs : List Entry). Has d (Loop label) xs) none has)
     | inr other ↦ omega (arith, other, inside)

@@ -13,7 +13,7 @@ use Rattle.f77_layout.specs.Source.{EndsWithEnd}
 use Rattle.f77_layout.specs.Labels.{statement_of}
 use Rattle.f77_layout.specs.Nesting.{first_unnested}
 use Rattle.f77_layout.specs.Tables.{IsUsable}
-use Rattle.f77_layout.specs.Executables.{own_executables, loops_above, loops_to, first_of, executables, do_variable, variable_of, is_do, loop_number, exit_behind, exit_of}
+use Rattle.f77_layout.specs.Executables.{own_executables, loops_above, loops_to, first_of, executables, do_variable, variable_of, is_do, loop_number, exit_after, exit_of}
 use Rattle.f77_layout.proofs.OpenSpans.{AreLabelled}
 use Rattle.f77_layout.proofs.LoopPlaces.{first-rises}
 use Rattle.f77_layout.proofs.LoopKinds.{loop_of, next_loop}
@@ -64,9 +64,9 @@ module _ (names : List NameInfo) (checked : Bool) (whole : List Labelled) (usabl
         let got : slice_get (loops_to whole spot.terminal.label) m ≡ Some d = ap (λ (l : ℕ). slice_get (loops_to whole l) m) spot.its ∙ among-got whole label d spot.among in
         let variable : variable_of (slice_get whole d) ≡ spot.it.variable = ap variable_of spot.it.stands ∙ ap do_variable spot.it.is in
         let outer : drop (suc m) (loops_to whole spot.terminal.label) ≡ reverse (loops_above whole label d) = ap (λ (l : ℕ). drop (suc m) (loops_to whole l)) spot.its ∙ among-outer whole label d spot.among in
-        let exit : exit_behind whole t next (drop (suc m) (loops_to whole spot.terminal.label)) ≡ exit_of whole label d = ap (exit_behind whole t next) outer ∙ sym (exit-is whole d label spot) in
+        let exit : exit_after whole t next (drop (suc m) (loops_to whole spot.terminal.label)) ≡ exit_of whole label d = ap (exit_after whole t next) outer ∙ sym (exit-is whole d label spot) in
         let same : next_loop names whole t d next (drop (suc m) (loops_to whole spot.terminal.label)) ≡ loop_of names whole d label spot.it.variable =
-        ap (λ (v : List ℕ). let l : Loop = record { number = loop_number whole d; variable = index_of names v; body = first_of whole d + 1; exit = exit_behind whole t next (drop (suc m) (loops_to whole spot.terminal.label)) } in l) variable
+        ap (λ (v : List ℕ). let l : Loop = record { number = loop_number whole d; variable = index_of names v; body = first_of whole d + 1; exit = exit_after whole t next (drop (suc m) (loops_to whole spot.terminal.label)) } in l) variable
         ∙ ap (λ (x : ℕ). let l : Loop = record { number = loop_number whole d; variable = index_of names spot.it.variable; body = first_of whole d + 1; exit = x } in l) exit in
         next-at names checked whole usable t m d spot.terminal spot.stands got ∙ ap Some same
 

@@ -17,7 +17,7 @@ use Rattle.f77_layout.specs.Labels.{jumps, statement_of, is_labelled_twice}
 use Rattle.f77_layout.specs.Jumps.{jumps_into}
 use Rattle.f77_layout.specs.Nesting.{first_unnested}
 use Rattle.f77_layout.specs.Tables.{IsUsable}
-use Rattle.f77_layout.specs.Executables.{own_executables, own_kinds, loops_to, first_of, labelled, behind, executables, is_do, loop_number, exit_behind}
+use Rattle.f77_layout.specs.Executables.{own_executables, own_kinds, loops_to, first_of, labelled, beyond, executables, is_do, loop_number, exit_after}
 use Rattle.f77_layout.proofs.SourceLabels.{AreLabelled-source}
 use Rattle.f77_layout.proofs.OpenSpans.{AreLabelled}
 use Rattle.f77_layout.proofs.LoopPlaces.{usable-at}
@@ -29,7 +29,7 @@ use Rattle.f77_layout.proofs.LoopNumbers.{is_do-do, numbered}
 use Rattle.f77_layout.proofs.LoopRanges.{Spot, next_of, spot-of}
 use Rattle.f77_layout.proofs.LoopsHold.{start-is, next-once, next-is, is_loop, starts-below, nexts-below, starts-rise, ranges-nested}
 use Rattle.f77_layout.proofs.LoopSuccessors.{EachLeads, each-got, own-leads, do-leads, AllOf-from}
-use Rattle.f77_layout.proofs.LoopEntries.{Into, into-next, is-do, behind-into, met-into, stop-into, jump-into, false-into, start-into, end-into, body-into}
+use Rattle.f77_layout.proofs.LoopEntries.{Into, into-next, is-do, after-into, met-into, stop-into, jump-into, false-into, start-into, end-into, body-into}
 
 all-contained : (P : ℕ → Type 0) (xs : List ℕ) (s : ℕ) → AllOf P xs → Contains xs s → P s
 all-contained P xs s all in_list = subst P in_list.2 (AllOf-got P xs in_list.0 (get_or xs in_list.0 s) all (slice_get-get_or xs in_list.0 s in_list.1))
@@ -51,7 +51,7 @@ module _ (names : List NameInfo) (checked : Bool) (whole : List Labelled) (usabl
         let single : own_executables at.s.stmt ≡ 1 = ap own_executables stmt in
         let first : k ≡ first_of whole at.place = omega (arith, at.at, at.own, single) in
         let index = first_of whole at.place in
-        let next = behind whole at.place at.s in
+        let next = beyond whole at.place at.s in
         let exit = start-into names checked whole usable are ended nested d label spot at.place one.0 (spot-of names checked whole usable are ended nested at.place one.0 it) k first outside in
         let each = do-leads names checked whole k P at.place index next one.0 it.variable it.first it.last it.step (λ s is. into-next (first_of whole d) (next_of whole d label spot) k s outside is) exit in
         each-got names checked whole k P index at.j (own_kinds names checked whole at.place index next at.s.stmt) kind
@@ -60,11 +60,11 @@ module _ (names : List NameInfo) (checked : Bool) (whole : List Labelled) (usabl
     leads-other : (kind : ExecKind) (at : OwnAt names checked whole k kind) → is_do at.s.stmt ≡ false → AllOf P (successors kind)
     leads-other kind at other =
         let index = first_of whole at.place in
-        let next = behind whole at.place at.s in
+        let next = beyond whole at.place at.s in
         let apart : d ≡ at.place → ⊥ = is-do whole d label at.place at.s spot.it at.stands other in
         let out : first_of whole d < index + at.j → index + at.j ≤ next_of whole d label spot → ⊥ = λ x y. outside (omega (arith, x, at.at)) (omega (arith, y, at.at)) in
         let each = own-leads names checked whole k P at.place index next at.s.stmt (usable-at names checked whole usable at.place at.s at.stands).inner other
-        (behind-into names checked whole usable are ended nested d label spot at.place at.j at.s at.stands at.own out k apart)
+        (after-into names checked whole usable are ended nested d label spot at.place at.j at.s at.stands at.own out k apart)
         (stop-into names checked whole usable are ended nested d label spot at.place at.j at.s at.stands at.own out k)
         (λ s is. into-next (first_of whole d) (next_of whole d label spot) k s outside is)
         (AllOf-from (λ l. P (labelled whole l)) (jumps at.s.stmt) (λ m x got. jump-into names checked whole usable are ended nested d label spot at.place at.j at.s at.stands at.own out k m x none got))
@@ -84,7 +84,7 @@ module _ (names : List NameInfo) (checked : Bool) (whole : List Labelled) (usabl
         let next : k ≡ next_of whole c its one = next-once names checked whole usable are ended nested c its one k (next_loop names whole at.place c k outer) told refl in
         let body = body-into names checked whole usable are ended nested d label spot c its one k next outside in
         let exit = end-into names checked whole usable are ended nested d label spot c its one k outer next outside in
-        let there : P (exit_behind whole at.place k outer) = subst (λ (n : ℕ). P (exit_behind whole at.place n outer)) (sym next) (subst (λ (p : ℕ). P (exit_behind whole p (next_of whole c its one) outer)) place exit) in
+        let there : P (exit_after whole at.place k outer) = subst (λ (n : ℕ). P (exit_after whole at.place n outer)) (sym next) (subst (λ (p : ℕ). P (exit_after whole p (next_of whole c its one) outer)) place exit) in
         subst (λ (x : ExecKind). AllOf P (successors x)) (sym at.is) (body, (there, tt))
 
     leads : (e : Exec) → slice_get execs k ≡ Some e → AllOf P (successors e.kind)

@@ -32,7 +32,7 @@ use Rattle.f77_layout.proofs.RightStorage.{placed_names-places, right_dims_of, r
 
 -- ---- the numbers of words
 
--- no name begins behind the last word
+-- no name begins after the last word
 place-within : (names : List NameInfo) (spots : List Spot) → AreLowest spots → (k : ℕ) → k < length spots → place_of names spots k ≤ words_in_all names spots
 place-within names spots lowest k lt =
     let end = within-all names spots lowest k lt in

@@ -86,7 +86,7 @@ module _ (stmts : List Labelled) where
   has_at (x ∷ names) name (suc k) info at same =
       ap (λ b. bytes_eq name x || b) (has_at names name k info at same) ∙ or_true (bytes_eq name x)
 
-  -- a name doesn't stand behind its first place
+  -- a name doesn't stand after its first place
   alone : (x : List ℕ) (names : List (List ℕ)) (k : ℕ) (a b : NameInfo) → has names x ≡ false → Some (name_info stmts x) ≡ Some a → slice_get (lines names) k ≡ Some b → a.name ≡ b.name → ⊥
   alone x names k a b absent is at same =
       let line : name_info stmts x ≡ a = cc in
@@ -131,10 +131,10 @@ has_part names (y ∷ xs) (suc j) x name at there =
     list_any-append (bytes_eq name) (names y) (flat_map names xs) ∙ ap (λ b. has (names y) name || b) (has_part names xs j x name at there) ∙ or_true (has (names y) name)
 
 module _ (stmts : List Labelled) where
-  line_behind : (x : List ℕ) (names : List (List ℕ)) (name : List ℕ) (same : Bool) → bytes_eq x name ≡ same → (bytes_eq x name ≡ false → slice_get (lines stmts names) (index_of (lines stmts names) name) ≡ Some (name_info stmts name))
+  line_after : (x : List ℕ) (names : List (List ℕ)) (name : List ℕ) (same : Bool) → bytes_eq x name ≡ same → (bytes_eq x name ≡ false → slice_get (lines stmts names) (index_of (lines stmts names) name) ≡ Some (name_info stmts name))
       → slice_get (lines stmts (x ∷ names)) (cond (not same) (1 + index_of (lines stmts names) name) 0) ≡ Some (name_info stmts name)
-  line_behind x names name true is rest = ap (λ n. Some (name_info stmts n)) (bytes_eq-same x name is)
-  line_behind x names name false is rest =
+  line_after x names name true is rest = ap (λ n. Some (name_info stmts n)) (bytes_eq-same x name is)
+  line_after x names name false is rest =
       let k = index_of (lines stmts names) name in
       let next : suc k ≡ 1 + k = omega arith in
       subst (λ (i : ℕ). slice_get (lines stmts (x ∷ names)) i ≡ Some (name_info stmts name)) next (rest is)
@@ -142,7 +142,7 @@ module _ (stmts : List Labelled) where
   -- where a name stands, its line has what the declarations say of it
   line_at : (names : List (List ℕ)) (name : List ℕ) → has names name ≡ true → slice_get (lines stmts names) (index_of (lines stmts names) name) ≡ Some (name_info stmts name)
   line_at [] name there = absurd cc
-  line_at (x ∷ names) name there = line_behind x names name (bytes_eq x name) refl (λ other. line_at names name (right_true (bytes_eq name x) (has names name) (nat_list_eq_equiv.symm name x ∙ other) there))
+  line_at (x ∷ names) name there = line_after x names name (bytes_eq x name) refl (λ other. line_at names name (right_true (bytes_eq name x) (has names name) (nat_list_eq_equiv.symm name x ∙ other) there))
 
   -- a name that isn't there has no line
   no_line : (names : List (List ℕ)) (name : List ℕ) → has names name ≡ false → slice_get (lines stmts names) (index_of (lines stmts names) name) ≡ None

@@ -6,7 +6,7 @@ use Rattle.f77_tree.specs.declared.statements.Stmt.{Stmt}
 use Rattle.f77_tree.specs.declared.statements.Stmt.TheVariants.{ThenIf}
 use Rattle.f77_layout.specs.Appearances.{appearing, names_in}
 
--- a condition and the statement behind it
+-- a condition and the statement after it
 pub appearing-ThenIf : (arrays : List ℕ → Bool) (condition : RawExpr) (stmt : Stmt) → appearing arrays (ThenIf condition stmt) ≡ names_in arrays condition ++ appearing arrays stmt
 unfolding Rattle.f77_tree.specs.declared.statements.Stmt.TheBlock.hidden-the_row-Stmt-0 denote.Hole.Carrier.hidden
 appearing-ThenIf arrays condition stmt = refl

@@ -1,4 +1,4 @@
--- What the walk over the statements knows in front of each.
+-- What the walk over the statements knows before each.
 use Rattle.std.proofs.Common.{◌≡◌, ℕ, ◌+◌, ◌<◌, ◌≤◌, Bool, true, false, ◌&&◌, if◌then◌else◌, List, [], ◌∷◌, ◌++◌, inl, inr, length, drop, get_or, slice_get, Option, Some, None, refl, sym, ap, subst, ◌∙◌, arith}
 use Rattle.std.specs.List.{list_any}
 use Rattle.std.proofs.lemmas.Bool.{cases_eq}
@@ -16,12 +16,12 @@ use Rattle.f77_layout.specs.Labels.{is_arm, is_labelled_twice}
 use Rattle.f77_layout.specs.Roles.{role_of}
 use Rattle.f77_layout.specs.Nesting.{first_unnested}
 use Rattle.f77_layout.specs.Innermost.{IsInnermost, AreInnermost}
-use Rattle.f77_layout.specs.OpenStack.{ends_at, ended_block, behind_block, entries_behind, head_of}
+use Rattle.f77_layout.specs.OpenStack.{ends_at, ended_block, after_block, entries_after, head_of}
 use Rattle.f77_layout.proofs.EntryLemmas.{opens}
 use Rattle.f77_layout.specs.BlockEnds.{turns_arm}
 use Rattle.f77_layout.proofs.RoleLemmas.{is_arm-role}
 use Rattle.f77_layout.proofs.OpenSpans.{Stands}
-use Rattle.f77_layout.proofs.OpenSteps.{held, Keeps-behind}
+use Rattle.f77_layout.proofs.OpenSteps.{held, Keeps-after}
 use Rattle.f77_layout.proofs.SourceLabels.{AreLabelled-source}
 use Rattle.f77_layout.proofs.Walks.{unnested_from, line_or_more, unnested-step}
 use Rattle.f77_layout.proofs.InnermostSpans.{Covers-innermost, Covers-held}
@@ -52,27 +52,27 @@ IsWalk-end stmts i stack heads le walk least =
       },
     )
 
-pub IsWalk-fault : (stmts : List Labelled) (i : ℕ) (s : Labelled) (stack : List Entry) (heads : List (Option ℕ)) → slice_get stmts i ≡ Some s → IsWalk stmts i stack heads → entries_behind (role_of s.stmt) i s.label stack ≡ None → first_unnested [] stmts ≡ Some s.line
+pub IsWalk-fault : (stmts : List Labelled) (i : ℕ) (s : Labelled) (stack : List Entry) (heads : List (Option ℕ)) → slice_get stmts i ≡ Some s → IsWalk stmts i stack heads → entries_after (role_of s.stmt) i s.label stack ≡ None → first_unnested [] stmts ≡ Some s.line
 IsWalk-fault stmts i s stack heads here walk fault = sym walk.nested ∙ unnested-step stmts i s stack here ∙ ap (line_or_more stmts s.line (i + 1)) fault
 
 -- ---- the head of what holds a statement
 
-refused : (b d : Bool) (x : Option (List Entry)) (behind : List Entry) → (if b && d then None else x) ≡ Some behind → x ≡ Some behind
-refused true true x behind h = let e : None ≡ Some behind = h in absurd cc
-refused true false x behind h = h
-refused false d x behind h = h
+refused : (b d : Bool) (x : Option (List Entry)) (beyond : List Entry) → (if b && d then None else x) ≡ Some beyond → x ≡ Some beyond
+refused true true x beyond h = let e : None ≡ Some beyond = h in absurd cc
+refused true false x beyond h = h
+refused false d x beyond h = h
 
-ended_head : (stack behind : List Entry) → ended_block stack ≡ Some behind → head_of behind ≡ head_of (drop 1 stack)
-ended_head [] behind h = let e : None ≡ Some behind = h in absurd cc
-ended_head (e ∷ rest) behind h = by e.opened h
+ended_head : (stack beyond : List Entry) → ended_block stack ≡ Some beyond → head_of beyond ≡ head_of (drop 1 stack)
+ended_head [] beyond h = let e : None ≡ Some beyond = h in absurd cc
+ended_head (e ∷ rest) beyond h = by e.opened h
   where
-    by : (o : Opened) → behind_block o rest ≡ Some behind → head_of behind ≡ head_of rest
-    by (Loop terminal) h = let e : None ≡ Some behind = h in absurd cc
-    by (Block is_last) h = let same : rest ≡ behind = cc in ap head_of (sym same)
+    by : (o : Opened) → after_block o rest ≡ Some beyond → head_of beyond ≡ head_of rest
+    by (Loop terminal) h = let e : None ≡ Some beyond = h in absurd cc
+    by (Block is_last) h = let same : rest ≡ beyond = cc in ap head_of (sym same)
 
-pub head-ended : (role : Role) (i label : ℕ) (stack behind : List Entry) → role ≡ EndBlock → entries_behind role i label stack ≡ Some behind → head_of behind ≡ head_of (held role stack)
-head-ended role i label stack behind is h =
-    ended_head stack behind (refused (list_any (ends_at label) stack) true (ended_block stack) behind (sym (ap (λ (r : Role). entries_behind r i label stack) is) ∙ h))
+pub head-ended : (role : Role) (i label : ℕ) (stack beyond : List Entry) → role ≡ EndBlock → entries_after role i label stack ≡ Some beyond → head_of beyond ≡ head_of (held role stack)
+head-ended role i label stack beyond is h =
+    ended_head stack beyond (refused (list_any (ends_at label) stack) true (ended_block stack) beyond (sym (ap (λ (r : Role). entries_after r i label stack) is) ∙ h))
     ∙ ap (λ (r : Role). head_of (held r stack)) (sym is)
 
 pub head-inside : (role : Role) (stack : List Entry) → (role ≡ EndBlock → ⊥) → turns_arm role ≡ false → head_of stack ≡ head_of (held role stack)
@@ -83,13 +83,13 @@ head-inside _ stack other no_arm = refl
 
 -- ---- one statement more
 
-pub IsWalk-step : (stmts : List Labelled) → IsSource stmts → first_line is_labelled_twice stmts ≡ None → (i : ℕ) (s : Labelled) (stack behind : List Entry) (heads : List (Option ℕ)) (head : Option ℕ) → slice_get stmts i ≡ Some s → IsWalk stmts i stack heads
-    → entries_behind (role_of s.stmt) i s.label stack ≡ Some behind → (turns_arm (role_of s.stmt) ≡ false → head ≡ head_of (held (role_of s.stmt) stack)) → IsWalk stmts (i + 1) behind (heads ++ head ∷ [])
-IsWalk-step stmts source once i s stack behind heads head here walk is head_is =
+pub IsWalk-step : (stmts : List Labelled) → IsSource stmts → first_line is_labelled_twice stmts ≡ None → (i : ℕ) (s : Labelled) (stack beyond : List Entry) (heads : List (Option ℕ)) (head : Option ℕ) → slice_get stmts i ≡ Some s → IsWalk stmts i stack heads
+    → entries_after (role_of s.stmt) i s.label stack ≡ Some beyond → (turns_arm (role_of s.stmt) ≡ false → head ≡ head_of (held (role_of s.stmt) stack)) → IsWalk stmts (i + 1) beyond (heads ++ head ∷ [])
+IsWalk-step stmts source once i s stack beyond heads head here walk is head_is =
     let are = AreLabelled-source stmts source once in
-    let nested : unnested_from stmts (i + 1) behind ≡ first_unnested [] stmts = sym (ap (line_or_more stmts s.line (i + 1)) is) ∙ (sym (unnested-step stmts i s stack here) ∙ walk.nested) in
+    let nested : unnested_from stmts (i + 1) beyond ≡ first_unnested [] stmts = sym (ap (line_or_more stmts s.line (i + 1)) is) ∙ (sym (unnested-step stmts i s stack here) ∙ walk.nested) in
     record {
-      stands = (Keeps-behind stmts are i s here stack behind walk.stands is).stands;
+      stands = (Keeps-after stmts are i s here stack beyond walk.stands is).stands;
       nested = nested;
       places = length_push heads head ∙ ap (λ (n : ℕ). n + 1) walk.places;
       innermost = λ place t lt at arm none. elim (cases_eq place i) as (λ _. IsInnermost stmts place (get_or (heads ++ head ∷ []) place None)) [
@@ -97,7 +97,7 @@ IsWalk-step stmts source once i s stack behind heads head here walk is head_is =
             let there : slice_get stmts i ≡ Some t = ap (slice_get stmts) (sym same) ∙ at in
             let eq : t ≡ s = cc in
             let no_arm : turns_arm (role_of s.stmt) ≡ false = sym (is_arm-role s.stmt) ∙ (ap (λ (u : Labelled). is_arm u.stmt) (sym eq) ∙ arm) in
-            let top : IsInnermost stmts i (head_of (held (role_of s.stmt) stack)) = Covers-innermost stmts i (held (role_of s.stmt) stack) (Covers-held stmts are source.ended i s stack behind here walk.stands is (nested ∙ none)) in
+            let top : IsInnermost stmts i (head_of (held (role_of s.stmt) stack)) = Covers-innermost stmts i (held (role_of s.stmt) stack) (Covers-held stmts are source.ended i s stack beyond here walk.stands is (nested ∙ none)) in
             let value : get_or (heads ++ head ∷ []) i None ≡ head_of (held (role_of s.stmt) stack) = get_or_at heads head [] None i walk.places ∙ head_is no_arm in
             subst (λ (n : ℕ). IsInnermost stmts n (get_or (heads ++ head ∷ []) n None)) (sym same) (subst (λ (o : Option ℕ). IsInnermost stmts i o) (sym value) top)
         | inr other ↦

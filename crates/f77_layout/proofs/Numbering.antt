@@ -168,7 +168,7 @@ module _ (names : List NameInfo) (nodes : List Node) (spots : List Spot) (forest
   size-read n e f g = e ∙ ap (λ z. nat_abs (z -ℤ again span.low)) (to_z-of_z w64 span.high g) ∙ ap (λ z. nat_abs (span.high -ℤ z)) (to_z-of_z w64 span.low f)
 
   low-below : span.low ≤ℤ d
-  low-below = omega (arith, ints, is.least k lt there.together, there.behind)
+  low-below = omega (arith, ints, is.least k lt there.together, there.beyond)
 
   pub distance-order : SFits w64 span.low → SFits w64 d → again span.low ≤ℤ again d
   distance-order f g = rw (to_z-of_z w64 span.low f, to_z-of_z w64 d g) low-below
@@ -177,7 +177,7 @@ module _ (names : List NameInfo) (nodes : List Node) (spots : List Spot) (forest
   distance-within : (d -ℤ span.low) ≤ℤ pos size
   distance-within =
       let whole = abs-is (span.high -ℤ span.low) (omega (arith, ints, is.low, is.high)) in
-      omega (arith, ints, is.greatest k lt there.together, there.behind)
+      omega (arith, ints, is.greatest k lt there.together, there.beyond)
 
   pub distance-fits : AreNear spots → length spots < 2 ^ 32 → SFits w64 span.low → SFits w64 d → FitsSigned w64 (again d -ℤ again span.low)
   distance-fits near few f g =

@@ -7,7 +7,7 @@ use Rattle.f77_tree.specs.declared.statements.Labelled.{Labelled}
 use Rattle.f77_tree.specs.declared.statements.Stmt.{Stmt}
 use Rattle.f77_tree.specs.declared.statements.Stmt.TheVariants.{BlockIf, ElseIf, Else, EndIf, Do, End}
 use Rattle.f77_layout.specs.Labels.{is_executable}
-use Rattle.f77_layout.specs.Nesting.{Open, Loop, Block, is_loop_to, can_end, without_loops, after_ends, after_statement, open_behind, line_or, first_unnested}
+use Rattle.f77_layout.specs.Nesting.{Open, Loop, Block, is_loop_to, can_end, without_loops, after_ends, after_statement, open_after, line_or, first_unnested}
 use Rattle.f77_layout.specs.Executables.{is_do_to}
 
 module _ (terminal : ℕ) where
@@ -26,63 +26,63 @@ module _ (terminal : ℕ) where
       (λ (differ : l ≢ label). ap (λ b. is_open (cond b (without_loops label stack) (Loop l ∷ stack))) (ne_eqb l label differ))
       (cases_eq l label)
 
-  ends-keep : (label : ℕ) (stack behind : List Open) → after_ends label stack ≡ Some behind → is_open behind ≡ false → is_open stack ≡ false
-  ends-keep label stack behind is closed = by (list_any (is_loop_to label) stack) is
+  ends-keep : (label : ℕ) (stack beyond : List Open) → after_ends label stack ≡ Some beyond → is_open beyond ≡ false → is_open stack ≡ false
+  ends-keep label stack beyond is closed = by (list_any (is_loop_to label) stack) is
     where
-      by : (b : Bool) → cond b None (Some stack) ≡ Some behind → is_open stack ≡ false
-      by true e = let h : None ≡ Some behind = e in absurd cc
-      by false e = let h : Some stack ≡ Some behind = e in let same : stack ≡ behind = cc in ap is_open same ∙ closed
+      by : (b : Bool) → cond b None (Some stack) ≡ Some beyond → is_open stack ≡ false
+      by true e = let h : None ≡ Some beyond = e in absurd cc
+      by false e = let h : Some stack ≡ Some beyond = e in let same : stack ≡ beyond = cc in ap is_open same ∙ closed
 
-  statement-keeps : (stmt : Stmt) (label : ℕ) (stack behind : List Open) → label ≢ terminal → after_statement stmt label stack ≡ Some behind → is_open behind ≡ false → is_open stack ≡ false
-  statement-keeps (Do l variable first last step) label stack behind other is closed =
-      let h : Some (Loop l ∷ stack) ≡ Some behind = is in
-      let same : Loop l ∷ stack ≡ behind = cc in
+  statement-keeps : (stmt : Stmt) (label : ℕ) (stack beyond : List Open) → label ≢ terminal → after_statement stmt label stack ≡ Some beyond → is_open beyond ≡ false → is_open stack ≡ false
+  statement-keeps (Do l variable first last step) label stack beyond other is closed =
+      let h : Some (Loop l ∷ stack) ≡ Some beyond = is in
+      let same : Loop l ∷ stack ≡ beyond = cc in
       (or_parts (l == terminal) (is_open stack) (ap is_open same ∙ closed)).1
-  statement-keeps (BlockIf condition) label stack behind other is closed =
-      let h : Some (Block false ∷ stack) ≡ Some behind = is in
-      let same : Block false ∷ stack ≡ behind = cc in
+  statement-keeps (BlockIf condition) label stack beyond other is closed =
+      let h : Some (Block false ∷ stack) ≡ Some beyond = is in
+      let same : Block false ∷ stack ≡ beyond = cc in
       ap is_open same ∙ closed
-  statement-keeps (ElseIf condition) label (Block false ∷ rest) behind other is closed =
-      let h : Some (Block false ∷ rest) ≡ Some behind = is in
-      let same : Block false ∷ rest ≡ behind = cc in
+  statement-keeps (ElseIf condition) label (Block false ∷ rest) beyond other is closed =
+      let h : Some (Block false ∷ rest) ≡ Some beyond = is in
+      let same : Block false ∷ rest ≡ beyond = cc in
       ap is_open same ∙ closed
-  statement-keeps (ElseIf condition) label [] behind other is closed = refl
-  statement-keeps (ElseIf condition) label (Block true ∷ rest) behind other is closed = let h : None ≡ Some behind = is in absurd cc
-  statement-keeps (ElseIf condition) label (Loop l ∷ rest) behind other is closed = let h : None ≡ Some behind = is in absurd cc
-  statement-keeps Else label (Block false ∷ rest) behind other is closed =
-      let h : Some (Block true ∷ rest) ≡ Some behind = is in
-      let same : Block true ∷ rest ≡ behind = cc in
+  statement-keeps (ElseIf condition) label [] beyond other is closed = refl
+  statement-keeps (ElseIf condition) label (Block true ∷ rest) beyond other is closed = let h : None ≡ Some beyond = is in absurd cc
+  statement-keeps (ElseIf condition) label (Loop l ∷ rest) beyond other is closed = let h : None ≡ Some beyond = is in absurd cc
+  statement-keeps Else label (Block false ∷ rest) beyond other is closed =
+      let h : Some (Block true ∷ rest) ≡ Some beyond = is in
+      let same : Block true ∷ rest ≡ beyond = cc in
       ap is_open same ∙ closed
-  statement-keeps Else label [] behind other is closed = refl
-  statement-keeps Else label (Block true ∷ rest) behind other is closed = let h : None ≡ Some behind = is in absurd cc
-  statement-keeps Else label (Loop l ∷ rest) behind other is closed = let h : None ≡ Some behind = is in absurd cc
-  statement-keeps EndIf label (Block has_else ∷ rest) behind other is closed =
-      let h : Some rest ≡ Some behind = is in
-      let same : rest ≡ behind = cc in
+  statement-keeps Else label [] beyond other is closed = refl
+  statement-keeps Else label (Block true ∷ rest) beyond other is closed = let h : None ≡ Some beyond = is in absurd cc
+  statement-keeps Else label (Loop l ∷ rest) beyond other is closed = let h : None ≡ Some beyond = is in absurd cc
+  statement-keeps EndIf label (Block has_else ∷ rest) beyond other is closed =
+      let h : Some rest ≡ Some beyond = is in
+      let same : rest ≡ beyond = cc in
       ap is_open same ∙ closed
-  statement-keeps EndIf label [] behind other is closed = refl
-  statement-keeps EndIf label (Loop l ∷ rest) behind other is closed = let h : None ≡ Some behind = is in absurd cc
-  statement-keeps End label [] behind other is closed = refl
-  statement-keeps End label (top ∷ rest) behind other is closed = let h : None ≡ Some behind = is in absurd cc
-  statement-keeps _ label stack behind other is closed = sym (others-go label other stack) ∙ ends-keep label (without_loops label stack) behind is closed
+  statement-keeps EndIf label [] beyond other is closed = refl
+  statement-keeps EndIf label (Loop l ∷ rest) beyond other is closed = let h : None ≡ Some beyond = is in absurd cc
+  statement-keeps End label [] beyond other is closed = refl
+  statement-keeps End label (top ∷ rest) beyond other is closed = let h : None ≡ Some beyond = is in absurd cc
+  statement-keeps _ label stack beyond other is closed = sym (others-go label other stack) ∙ ends-keep label (without_loops label stack) beyond is closed
 
-  keeps : (s : Labelled) (stack behind : List Open) → s.label ≢ terminal → open_behind s stack ≡ Some behind → is_open behind ≡ false → is_open stack ≡ false
-  keeps s stack behind other is closed = by (is_executable s.stmt) (list_any (is_loop_to s.label) stack && not (can_end s.stmt)) is
+  keeps : (s : Labelled) (stack beyond : List Open) → s.label ≢ terminal → open_after s stack ≡ Some beyond → is_open beyond ≡ false → is_open stack ≡ false
+  keeps s stack beyond other is closed = by (is_executable s.stmt) (list_any (is_loop_to s.label) stack && not (can_end s.stmt)) is
     where
-      by : (x y : Bool) → cond (not x) (Some stack) (cond y None (after_statement s.stmt s.label stack)) ≡ Some behind → is_open stack ≡ false
-      by false y e = let h : Some stack ≡ Some behind = e in let same : stack ≡ behind = cc in ap is_open same ∙ closed
-      by true true e = let h : None ≡ Some behind = e in absurd cc
-      by true false e = statement-keeps s.stmt s.label stack behind other e closed
+      by : (x y : Bool) → cond (not x) (Some stack) (cond y None (after_statement s.stmt s.label stack)) ≡ Some beyond → is_open stack ≡ false
+      by false y e = let h : Some stack ≡ Some beyond = e in let same : stack ≡ beyond = cc in ap is_open same ∙ closed
+      by true true e = let h : None ≡ Some beyond = e in absurd cc
+      by true false e = statement-keeps s.stmt s.label stack beyond other e closed
 
   -- a DO to the label opens its loop
-  opens : (s : Labelled) (stack behind : List Open) → open_behind s stack ≡ Some behind → is_do_to terminal s.stmt ≡ true → is_open behind ≡ true
-  opens s stack behind is begins = by s.stmt (list_any (is_loop_to s.label) stack && not (can_end s.stmt)) begins is
+  opens : (s : Labelled) (stack beyond : List Open) → open_after s stack ≡ Some beyond → is_do_to terminal s.stmt ≡ true → is_open beyond ≡ true
+  opens s stack beyond is begins = by s.stmt (list_any (is_loop_to s.label) stack && not (can_end s.stmt)) begins is
     where
-      by : (stmt : Stmt) (y : Bool) → is_do_to terminal stmt ≡ true → cond (not (is_executable stmt)) (Some stack) (cond y None (after_statement stmt s.label stack)) ≡ Some behind → is_open behind ≡ true
-      by (Do l variable first last step) true e f = let h : None ≡ Some behind = f in absurd cc
+      by : (stmt : Stmt) (y : Bool) → is_do_to terminal stmt ≡ true → cond (not (is_executable stmt)) (Some stack) (cond y None (after_statement stmt s.label stack)) ≡ Some beyond → is_open beyond ≡ true
+      by (Do l variable first last step) true e f = let h : None ≡ Some beyond = f in absurd cc
       by (Do l variable first last step) false e f =
-          let h : Some (Loop l ∷ stack) ≡ Some behind = f in
-          let same : Loop l ∷ stack ≡ behind = cc in
+          let h : Some (Loop l ∷ stack) ≡ Some beyond = f in
+          let same : Loop l ∷ stack ≡ beyond = cc in
           ap is_open (sym same) ∙ ap (λ b. b || is_open stack) e
       by _ y e f = let h : false ≡ true = e in absurd cc
 
@@ -95,11 +95,11 @@ module _ (terminal : ℕ) where
   abbrev pub NoDos : List Labelled → Type 0
   NoDos stmts = (d : ℕ) (s : Labelled) → slice_get stmts d ≡ Some s → is_do_to terminal s.stmt ≡ false
 
-  at_end : (s : Labelled) (stack : List Open) → s.stmt ≡ End → line_or s.line (open_behind s stack) (λ behind. None) ≡ None → is_open stack ≡ false
+  at_end : (s : Labelled) (stack : List Open) → s.stmt ≡ End → line_or s.line (open_after s stack) (λ beyond. None) ≡ None → is_open stack ≡ false
   at_end s [] is none = refl
   at_end s (top ∷ rest) is none = by s.stmt (list_any (is_loop_to s.label) (top ∷ rest) && not (can_end s.stmt)) is none
     where
-      by : (stmt : Stmt) (y : Bool) → stmt ≡ End → line_or s.line (cond (not (is_executable stmt)) (Some (top ∷ rest)) (cond y None (after_statement stmt s.label (top ∷ rest)))) (λ behind. None) ≡ None → is_open (top ∷ rest) ≡ false
+      by : (stmt : Stmt) (y : Bool) → stmt ≡ End → line_or s.line (cond (not (is_executable stmt)) (Some (top ∷ rest)) (cond y None (after_statement stmt s.label (top ∷ rest)))) (λ beyond. None) ≡ None → is_open (top ∷ rest) ≡ false
       by End true e f = let h : Some s.line ≡ None = f in absurd cc
       by End false e f = let h : Some s.line ≡ None = f in absurd cc
       by _ y e f = absurd cc
@@ -111,14 +111,14 @@ module _ (terminal : ℕ) where
       last : NoDos (s ∷ [])
       last zero t at = let h : Some s ≡ Some t = at in let same : s ≡ t = cc in ap (λ (u : Labelled). is_do_to terminal u.stmt) (sym same) ∙ ap (is_do_to terminal) fits
       last (suc d) t at = let h : None ≡ Some t = at in absurd cc
-  none-open (s ∷ next ∷ rest) stack fits none = by (open_behind s stack) refl none (λ behind h. none-open (next ∷ rest) behind fits.1 h)
+  none-open (s ∷ next ∷ rest) stack fits none = by (open_after s stack) refl none (λ beyond h. none-open (next ∷ rest) beyond fits.1 h)
     where
-      by : (o : Option (List Open)) → open_behind s stack ≡ o → line_or s.line o (λ behind. first_unnested behind (next ∷ rest)) ≡ None → ((behind : List Open) → first_unnested behind (next ∷ rest) ≡ None → (is_open behind ≡ false) × NoDos (next ∷ rest)) → (is_open stack ≡ false) × NoDos (s ∷ next ∷ rest)
+      by : (o : Option (List Open)) → open_after s stack ≡ o → line_or s.line o (λ beyond. first_unnested beyond (next ∷ rest)) ≡ None → ((beyond : List Open) → first_unnested beyond (next ∷ rest) ≡ None → (is_open beyond ≡ false) × NoDos (next ∷ rest)) → (is_open stack ≡ false) × NoDos (s ∷ next ∷ rest)
       by None is e later = let h : Some s.line ≡ None = e in absurd cc
-      by (Some behind) is e later =
-          let both = later behind e in
-          let all : NoDos (s ∷ next ∷ rest) = none-first (next ∷ rest) s (false_from_ne_true (is_do_to terminal s.stmt) (λ f. let x : true ≡ false = sym (opens s stack behind is f) ∙ both.0 in absurd cc)) both.1 in
-          (keeps s stack behind fits.0 is both.0, all)
+      by (Some beyond) is e later =
+          let both = later beyond e in
+          let all : NoDos (s ∷ next ∷ rest) = none-first (next ∷ rest) s (false_from_ne_true (is_do_to terminal s.stmt) (λ f. let x : true ≡ false = sym (opens s stack beyond is f) ∙ both.0 in absurd cc)) both.1 in
+          (keeps s stack beyond fits.0 is both.0, all)
         where
           none-first : (ss : List Labelled) (t : Labelled) → is_do_to terminal t.stmt ≡ false → NoDos ss → NoDos (t ∷ ss)
           none-first ss t f more zero u at = let h : Some t ≡ Some u = at in let same : t ≡ u = cc in ap (λ (v : Labelled). is_do_to terminal v.stmt) (sym same) ∙ f

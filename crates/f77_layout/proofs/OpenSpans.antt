@@ -20,13 +20,13 @@ pub record OpensAt (stmts : List Labelled) (h : ℕ) (o : Opened) : Type 0 where
   pub stands : slice_get stmts h ≡ Some s
   pub opens : opened_by (role_of s.stmt) ≡ Some o
 
--- the place behind what is opened here
-abbrev pub behind_of : List Labelled → ℕ → Opened → ℕ
-behind_of stmts h (Loop terminal) = statement_of stmts terminal + 1
-behind_of stmts h (Block is_last) = end_of_arm stmts h
+-- the place after what is opened here
+abbrev pub after_of : List Labelled → ℕ → Opened → ℕ
+after_of stmts h (Loop terminal) = statement_of stmts terminal + 1
+after_of stmts h (Block is_last) = end_of_arm stmts h
 
-abbrev pub behind_entry : List Labelled → Entry → ℕ
-behind_entry stmts e = behind_of stmts e.begin e.opened
+abbrev pub after_entry : List Labelled → Entry → ℕ
+after_entry stmts e = after_of stmts e.begin e.opened
 
 -- Labels lead to their statements, and loops end at labels.
 pub record AreLabelled (stmts : List Labelled) : Type 0 where
@@ -65,14 +65,14 @@ Has h o (e ∷ rest) = ((e.begin ≡ h) × (e.opened ≡ o)) ⊎ Has h o rest
 -- each entry ends no later than the one below it, and the top no earlier than before the place
 abbrev pub AreWithin : List Labelled → ℕ → List Entry → Type 0
 AreWithin stmts low [] = Unit {0}
-AreWithin stmts low (e ∷ rest) = (low ≤ behind_entry stmts e) × AreWithin stmts (behind_entry stmts e) rest
+AreWithin stmts low (e ∷ rest) = (low ≤ after_entry stmts e) × AreWithin stmts (after_entry stmts e) rest
 
--- the stack in front of a place
+-- the stack before a place
 pub record Stands (stmts : List Labelled) (i : ℕ) (stack : List Entry) : Type 0 where
   pub opened : AreOpened stmts stack
   pub falling : AreFalling i stack
   pub stops : AllStop stmts (stop_at stmts i) stack
-  pub covered : (h : ℕ) (o : Opened) → h < i → OpensAt stmts h o → i < behind_of stmts h o → Has h o stack
+  pub covered : (h : ℕ) (o : Opened) → h < i → OpensAt stmts h o → i < after_of stmts h o → Has h o stack
 
 -- ---- the parts in general
 
@@ -100,7 +100,7 @@ AllStop-same stmts f g (e ∷ rest) h all = (Stops-same stmts e.begin e.opened (
 
 module _ (stmts : List Labelled) (are : AreLabelled stmts) (i : ℕ) (s : Labelled) (stands : slice_get stmts i ≡ Some s) where
   -- a loop that ends at the label of this place ends here
-  ended-of : (begin : ℕ) (o : Opened) → OpensAt stmts begin o → is_opened_to s.label o ≡ true → behind_of stmts begin o ≡ i + 1
+  ended-of : (begin : ℕ) (o : Opened) → OpensAt stmts begin o → is_opened_to s.label o ≡ true → after_of stmts begin o ≡ i + 1
   ended-of begin (Loop terminal) opens ends =
       let same : terminal ≡ s.label = eqb-true terminal s.label ends in
       ap (λ (l : ℕ). statement_of stmts l + 1) same ∙ ap (λ (p : ℕ). p + 1) (are.places i s stands (λ none. are.loops begin terminal opens (same ∙ none)))
@@ -126,11 +126,11 @@ module _ (stmts : List Labelled) (are : AreLabelled stmts) (i : ℕ) (s : Labell
       (λ ends. without-stops stops rest (subst (λ (f : ℕ → ℕ). AllStop stmts f rest) (under-ended e.opened stops ends) h.1))
       (λ _. h)
 
-  pub without-has : (h : ℕ) (o : Opened) (stack : List Entry) → AreOpened stmts stack → i + 1 < behind_of stmts h o → Has h o stack → Has h o (without_ended s.label stack)
+  pub without-has : (h : ℕ) (o : Opened) (stack : List Entry) → AreOpened stmts stack → i + 1 < after_of stmts h o → Has h o stack → Has h o (without_ended s.label stack)
   without-has h o [] opened later has = has
   without-has h o (e ∷ rest) opened later has = cond_both (ends_at s.label e) (without_ended s.label rest) (e ∷ rest) (λ (xs : List Entry). Has h o xs)
       (λ ends. elim has as (λ _. Has h o (without_ended s.label rest)) [
-        | inl here ↦ let same : behind_of stmts h o ≡ i + 1 = ap (λ (b : ℕ). behind_of stmts b o) (sym here.0) ∙ ap (behind_of stmts e.begin) (sym here.1) ∙ ended-of e.begin e.opened opened.0 ends in absurd (omega (arith, same, later))
+        | inl here ↦ let same : after_of stmts h o ≡ i + 1 = ap (λ (b : ℕ). after_of stmts b o) (sym here.0) ∙ ap (after_of stmts e.begin) (sym here.1) ∙ ended-of e.begin e.opened opened.0 ends in absurd (omega (arith, same, later))
         | inr below ↦ without-has h o rest opened.1 later below
       ])
       (λ _. has)
@@ -138,6 +138,6 @@ module _ (stmts : List Labelled) (are : AreLabelled stmts) (i : ℕ) (s : Labell
   pub without-within : (stack : List Entry) → AreOpened stmts stack → AreWithin stmts (i + 1) (without_ended s.label stack) → AreWithin stmts (i + 1) stack
   without-within [] opened = λ _. tt
   without-within (e ∷ rest) opened = cond_both (ends_at s.label e) (without_ended s.label rest) (e ∷ rest) (λ (xs : List Entry). AreWithin stmts (i + 1) xs → AreWithin stmts (i + 1) (e ∷ rest))
-      (λ ends h. let here : behind_entry stmts e ≡ i + 1 = ended-of e.begin e.opened opened.0 ends in
+      (λ ends h. let here : after_entry stmts e ≡ i + 1 = ended-of e.begin e.opened opened.0 ends in
       (omega (arith, here), subst (λ (n : ℕ). AreWithin stmts n rest) (sym here) (without-within rest opened.1 h)))
       (λ _ h. h)

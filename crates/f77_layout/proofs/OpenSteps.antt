@@ -1,4 +1,4 @@
--- What the stack says of ranges and arms stays so behind each statement.
+-- What the stack says of ranges and arms stays so after each statement.
 use Rattle.std.proofs.Common.{◌≡◌, ℕ, ◌+◌, ◌<◌, Bool, true, false, ◌&&◌, if◌then◌else◌, inl, inr, List, [], ◌∷◌, drop, slice_get, Option, Some, None, refl, sym, ap, subst, ◌∙◌, arith}
 use Rattle.std.specs.List.{list_any}
 use Rattle.std.proofs.lemmas.Bool.{cases_eq}
@@ -9,11 +9,11 @@ use Rattle.f77_layout.specs.declared.open_stack.Opened.TheVariants.{Loop, Block}
 use Rattle.f77_layout.specs.declared.roles.Role.{Role}
 use Rattle.f77_layout.specs.declared.roles.Role.TheVariants.{Declaration, BeginLoop, BeginBlock, NextArm, LastArm, EndBlock, Finish, Leave, Plain}
 use Rattle.f77_layout.specs.Roles.{role_of}
-use Rattle.f77_layout.specs.OpenStack.{ends_at, without_ended, begun, entries_behind, after_role, arm_in_place, behind_block, if_no_loop, is_no_end}
+use Rattle.f77_layout.specs.OpenStack.{ends_at, without_ended, begun, entries_after, after_role, arm_in_place, after_block, if_no_loop, is_no_end}
 use Rattle.f77_layout.specs.BlockEnds.{turns_arm}
 use Rattle.f77_layout.proofs.RoleLemmas.{opened_by}
 use Rattle.f77_layout.proofs.Stops.{stop_at, stop_by, stop_at-step, is_quiet, stop_by-quiet, stop_by-arm, stop_by-end}
-use Rattle.f77_layout.proofs.OpenSpans.{OpensAt, behind_of, AreLabelled, AreWithin, Has, Stands, AreFalling-later, AreWithin-earlier, AllStop-same, without-opened, without-falling, without-stops, without-has, without-within}
+use Rattle.f77_layout.proofs.OpenSpans.{OpensAt, after_of, AreLabelled, AreWithin, Has, Stands, AreFalling-later, AreWithin-earlier, AllStop-same, without-opened, without-falling, without-stops, without-has, without-within}
 
 -- the part of the stack that holds the statement itself
 abbrev pub held : Role → List Entry → List Entry
@@ -22,13 +22,13 @@ held LastArm stack = drop 1 stack
 held EndBlock stack = drop 1 stack
 held _ stack = stack
 
-pub record Keeps (stmts : List Labelled) (i : ℕ) (role : Role) (stack behind : List Entry) : Type 0 where
-  pub stands : Stands stmts (i + 1) behind
-  -- what is behind the statement tells how far that reaches which holds it, and that tells of what is in front
-  pub within : AreWithin stmts (i + 1) behind → AreWithin stmts (i + 1) (held role stack)
+pub record Keeps (stmts : List Labelled) (i : ℕ) (role : Role) (stack beyond : List Entry) : Type 0 where
+  pub stands : Stands stmts (i + 1) beyond
+  -- what is after the statement tells how far that reaches which holds it, and that tells of what is first
+  pub within : AreWithin stmts (i + 1) beyond → AreWithin stmts (i + 1) (held role stack)
   pub before : AreWithin stmts (i + 1) (held role stack) → AreWithin stmts i stack
-  -- what reaches behind the place in front of the statement holds it
-  pub holds : (h : ℕ) (o : Opened) → i < behind_of stmts h o → Has h o stack → Has h o (held role stack)
+  -- what reaches after the place before the statement holds it
+  pub holds : (h : ℕ) (o : Opened) → i < after_of stmts h o → Has h o stack → Has h o (held role stack)
 
 module _ (stmts : List Labelled) (are : AreLabelled stmts) (i : ℕ) (s : Labelled) (here : slice_get stmts i ≡ Some s) where
   same_statement : (t : Labelled) → slice_get stmts i ≡ Some t → t ≡ s
@@ -46,15 +46,15 @@ module _ (stmts : List Labelled) (are : AreLabelled stmts) (i : ℕ) (s : Labell
   quiet : (role : Role) → role_of s.stmt ≡ role → is_quiet role ≡ true → (k : ℕ) → stop_at stmts i k ≡ stop_at stmts (i + 1) k
   quiet role is h k = stops-here role is k ∙ stop_by-quiet role i (stop_at stmts (i + 1)) k h
 
-  covered-step : (stack behind : List Entry) → Stands stmts i stack → ((h : ℕ) (o : Opened) → i + 1 < behind_of stmts h o → Has h o stack → Has h o behind) → ((o : Opened) → opened_by (role_of s.stmt) ≡ Some o → Has i o behind)
-      → (h : ℕ) (o : Opened) → h < i + 1 → OpensAt stmts h o → i + 1 < behind_of stmts h o → Has h o behind
-  covered-step stack behind stands keep new h o lt opens later = elim (cases_eq h i) as (λ _. Has h o behind) [
-    | inl same ↦ subst (λ (n : ℕ). Has n o behind) (sym same) (new o (opened-here o (subst (λ (n : ℕ). OpensAt stmts n o) same opens)))
+  covered-step : (stack beyond : List Entry) → Stands stmts i stack → ((h : ℕ) (o : Opened) → i + 1 < after_of stmts h o → Has h o stack → Has h o beyond) → ((o : Opened) → opened_by (role_of s.stmt) ≡ Some o → Has i o beyond)
+      → (h : ℕ) (o : Opened) → h < i + 1 → OpensAt stmts h o → i + 1 < after_of stmts h o → Has h o beyond
+  covered-step stack beyond stands keep new h o lt opens later = elim (cases_eq h i) as (λ _. Has h o beyond) [
+    | inl same ↦ subst (λ (n : ℕ). Has n o beyond) (sym same) (new o (opened-here o (subst (λ (n : ℕ). OpensAt stmts n o) same opens)))
     | inr other ↦ keep h o later (stands.covered h o (omega (arith, lt, other)) opens (omega (arith, later)))
   ]
 
-  none_new : (role : Role) (behind : List Entry) → role_of s.stmt ≡ role → opened_by role ≡ None → (o : Opened) → opened_by (role_of s.stmt) ≡ Some o → Has i o behind
-  none_new role behind is none o h = let e : None ≡ Some o = sym none ∙ (ap opened_by (sym is) ∙ h) in absurd cc
+  none_new : (role : Role) (beyond : List Entry) → role_of s.stmt ≡ role → opened_by role ≡ None → (o : Opened) → opened_by (role_of s.stmt) ≡ Some o → Has i o beyond
+  none_new role beyond is none o h = let e : None ≡ Some o = sym none ∙ (ap opened_by (sym is) ∙ h) in absurd cc
 
   -- nothing opens or closes
   Stands-stay : (role : Role) (stack : List Entry) → role_of s.stmt ≡ role → is_quiet role ≡ true → opened_by role ≡ None → Stands stmts i stack → Stands stmts (i + 1) stack
@@ -94,16 +94,16 @@ module _ (stmts : List Labelled) (are : AreLabelled stmts) (i : ℕ) (s : Labell
   }
 
   -- the arm on top stops here
-  stops-top : (role : Role) (begin : ℕ) (b : Bool) (rest : List Entry) → role_of s.stmt ≡ role → stop_by role i (stop_at stmts (i + 1)) 0 ≡ i → Stands stmts i (begun begin (Block b) ∷ rest) → behind_of stmts begin (Block b) ≡ i
+  stops-top : (role : Role) (begin : ℕ) (b : Bool) (rest : List Entry) → role_of s.stmt ≡ role → stop_by role i (stop_at stmts (i + 1)) 0 ≡ i → Stands stmts i (begun begin (Block b) ∷ rest) → after_of stmts begin (Block b) ≡ i
   stops-top role begin b rest is first stands = stands.stops.0 ∙ (stops-here role is 0 ∙ first)
 
-  keeps-below : (begin : ℕ) (b : Bool) (rest : List Entry) → behind_of stmts begin (Block b) ≡ i → (h : ℕ) (o : Opened) → i < behind_of stmts h o → Has h o (begun begin (Block b) ∷ rest) → Has h o rest
+  keeps-below : (begin : ℕ) (b : Bool) (rest : List Entry) → after_of stmts begin (Block b) ≡ i → (h : ℕ) (o : Opened) → i < after_of stmts h o → Has h o (begun begin (Block b) ∷ rest) → Has h o rest
   keeps-below begin b rest stop h o later has = elim has as (λ _. Has h o rest) [
-    | inl same ↦ let e : behind_of stmts h o ≡ i = ap (λ (n : ℕ). behind_of stmts n o) (sym same.0) ∙ ap (behind_of stmts begin) (sym same.1) ∙ stop in absurd (omega (arith, e, later))
+    | inl same ↦ let e : after_of stmts h o ≡ i = ap (λ (n : ℕ). after_of stmts n o) (sym same.0) ∙ ap (after_of stmts begin) (sym same.1) ∙ stop in absurd (omega (arith, e, later))
     | inr below ↦ below
   ]
 
-  below-top : (begin : ℕ) (b : Bool) (rest : List Entry) → behind_of stmts begin (Block b) ≡ i → AreWithin stmts (i + 1) rest → AreWithin stmts i (begun begin (Block b) ∷ rest)
+  below-top : (begin : ℕ) (b : Bool) (rest : List Entry) → after_of stmts begin (Block b) ≡ i → AreWithin stmts (i + 1) rest → AreWithin stmts i (begun begin (Block b) ∷ rest)
   below-top begin b rest stop within = (omega (arith, stop), subst (λ (n : ℕ). AreWithin stmts n rest) (sym stop) (AreWithin-earlier stmts i (i + 1) rest (omega arith) within))
 
   -- a new arm in place of the one on top
@@ -130,77 +130,77 @@ module _ (stmts : List Labelled) (are : AreLabelled stmts) (i : ℕ) (s : Labell
 
   -- ---- all roles
 
-  Keeps-from : (role : Role) (stack x behind : List Entry) → Some x ≡ Some behind → Keeps stmts i role stack x → Keeps stmts i role stack behind
-  Keeps-from role stack x behind e keeps = let same : x ≡ behind = cc in subst (λ (y : List Entry). Keeps stmts i role stack y) same keeps
+  Keeps-from : (role : Role) (stack x beyond : List Entry) → Some x ≡ Some beyond → Keeps stmts i role stack x → Keeps stmts i role stack beyond
+  Keeps-from role stack x beyond e keeps = let same : x ≡ beyond = cc in subst (λ (y : List Entry). Keeps stmts i role stack y) same keeps
 
-  unless : (b : Bool) (x behind : List Entry) → (if b then None else Some x) ≡ Some behind → Some x ≡ Some behind
-  unless true x behind h = let e : None ≡ Some behind = h in absurd cc
-  unless false x behind h = h
+  unless : (b : Bool) (x beyond : List Entry) → (if b then None else Some x) ≡ Some beyond → Some x ≡ Some beyond
+  unless true x beyond h = let e : None ≡ Some beyond = h in absurd cc
+  unless false x beyond h = h
 
-  no_stack : (behind : List Entry) {P : Type 0} → None ≡ Some behind → P
-  no_stack behind h = absurd cc
+  no_stack : (beyond : List Entry) {P : Type 0} → None ≡ Some beyond → P
+  no_stack beyond h = absurd cc
 
-  arms : (role : Role) (is_last : Bool) (begin : ℕ) (o : Opened) (rest behind : List Entry) → role_of s.stmt ≡ role → turns_arm role ≡ true → opened_by role ≡ Some (Block is_last) → stop_by role i (stop_at stmts (i + 1)) 0 ≡ i → held role (begun begin o ∷ rest) ≡ rest
-      → Stands stmts i (begun begin o ∷ rest) → arm_in_place is_last i o rest ≡ Some behind → Keeps stmts i role (begun begin o ∷ rest) behind
-  arms role is_last begin (Block false) rest behind is turns some first below stands h = Keeps-from role (begun begin (Block false) ∷ rest) (begun i (Block is_last) ∷ rest) behind h (record {
+  arms : (role : Role) (is_last : Bool) (begin : ℕ) (o : Opened) (rest beyond : List Entry) → role_of s.stmt ≡ role → turns_arm role ≡ true → opened_by role ≡ Some (Block is_last) → stop_by role i (stop_at stmts (i + 1)) 0 ≡ i → held role (begun begin o ∷ rest) ≡ rest
+      → Stands stmts i (begun begin o ∷ rest) → arm_in_place is_last i o rest ≡ Some beyond → Keeps stmts i role (begun begin o ∷ rest) beyond
+  arms role is_last begin (Block false) rest beyond is turns some first below stands h = Keeps-from role (begun begin (Block false) ∷ rest) (begun i (Block is_last) ∷ rest) beyond h (record {
     stands = Keeps-arm role is_last false begin rest is turns some first stands;
-    within = λ within. subst (λ (xs : List Entry). AreWithin stmts (i + 1) xs) (sym below) (AreWithin-earlier stmts (i + 1) (behind_of stmts i (Block is_last)) rest within.0 within.1);
+    within = λ within. subst (λ (xs : List Entry). AreWithin stmts (i + 1) xs) (sym below) (AreWithin-earlier stmts (i + 1) (after_of stmts i (Block is_last)) rest within.0 within.1);
     before = λ within. below-top begin false rest (stops-top role begin false rest is first stands) (subst (λ (xs : List Entry). AreWithin stmts (i + 1) xs) below within);
     holds = λ h o later has. subst (λ (xs : List Entry). Has h o xs) (sym below) (keeps-below begin false rest (stops-top role begin false rest is first stands) h o later has);
   })
-  arms role is_last begin (Block true) rest behind is turns some first below stands h = no_stack behind h
-  arms role is_last begin (Loop terminal) rest behind is turns some first below stands h = no_stack behind h
+  arms role is_last begin (Block true) rest beyond is turns some first below stands h = no_stack beyond h
+  arms role is_last begin (Loop terminal) rest beyond is turns some first below stands h = no_stack beyond h
 
-  ends : (begin : ℕ) (o : Opened) (rest behind : List Entry) → role_of s.stmt ≡ EndBlock → Stands stmts i (begun begin o ∷ rest) → behind_block o rest ≡ Some behind → Keeps stmts i EndBlock (begun begin o ∷ rest) behind
-  ends begin (Block b) rest behind is stands h = Keeps-from EndBlock (begun begin (Block b) ∷ rest) rest behind h (record {
+  ends : (begin : ℕ) (o : Opened) (rest beyond : List Entry) → role_of s.stmt ≡ EndBlock → Stands stmts i (begun begin o ∷ rest) → after_block o rest ≡ Some beyond → Keeps stmts i EndBlock (begun begin o ∷ rest) beyond
+  ends begin (Block b) rest beyond is stands h = Keeps-from EndBlock (begun begin (Block b) ∷ rest) rest beyond h (record {
     stands = Stands-end b begin rest is stands;
     within = λ within. within;
     before = λ within. below-top begin b rest (stops-top EndBlock begin b rest is refl stands) within;
     holds = keeps-below begin b rest (stops-top EndBlock begin b rest is refl stands);
   })
-  ends begin (Loop terminal) rest behind is stands h = no_stack behind h
+  ends begin (Loop terminal) rest beyond is stands h = no_stack beyond h
 
   stays : (stack : List Entry) → AreWithin stmts (i + 1) stack → AreWithin stmts i stack
   stays stack within = AreWithin-earlier stmts i (i + 1) stack (omega arith) within
 
-  loops_end : (role : Role) (stack behind : List Entry) → role_of s.stmt ≡ role → is_quiet role ≡ true → opened_by role ≡ None → held role stack ≡ stack → Stands stmts i stack → if_no_loop s.label (without_ended s.label stack) ≡ Some behind → Keeps stmts i role stack behind
-  loops_end role stack behind is h none all stands e = Keeps-from role stack (without_ended s.label stack) behind (unless (list_any (ends_at s.label) (without_ended s.label stack)) (without_ended s.label stack) behind e) (record {
+  loops_end : (role : Role) (stack beyond : List Entry) → role_of s.stmt ≡ role → is_quiet role ≡ true → opened_by role ≡ None → held role stack ≡ stack → Stands stmts i stack → if_no_loop s.label (without_ended s.label stack) ≡ Some beyond → Keeps stmts i role stack beyond
+  loops_end role stack beyond is h none all stands e = Keeps-from role stack (without_ended s.label stack) beyond (unless (list_any (ends_at s.label) (without_ended s.label stack)) (without_ended s.label stack) beyond e) (record {
     stands = Stands-ended role stack is h none stands;
     within = λ within. subst (λ (xs : List Entry). AreWithin stmts (i + 1) xs) (sym all) (without-within stmts are i s here stack stands.opened within);
     before = λ within. stays stack (subst (λ (xs : List Entry). AreWithin stmts (i + 1) xs) all within);
     holds = λ h o later has. subst (λ (xs : List Entry). Has h o xs) (sym all) has;
   })
 
-  by_role : (role : Role) (stack behind : List Entry) → role_of s.stmt ≡ role → Stands stmts i stack → after_role role i s.label stack ≡ Some behind → Keeps stmts i role stack behind
-  by_role Declaration stack behind is stands h = Keeps-from Declaration stack stack behind h (record { stands = Stands-stay Declaration stack is refl refl stands; within = λ within. within; before = stays stack; holds = λ h o later has. has })
-  by_role (BeginLoop terminal) stack behind is stands h = Keeps-from (BeginLoop terminal) stack (begun i (Loop terminal) ∷ stack) behind h (record {
+  by_role : (role : Role) (stack beyond : List Entry) → role_of s.stmt ≡ role → Stands stmts i stack → after_role role i s.label stack ≡ Some beyond → Keeps stmts i role stack beyond
+  by_role Declaration stack beyond is stands h = Keeps-from Declaration stack stack beyond h (record { stands = Stands-stay Declaration stack is refl refl stands; within = λ within. within; before = stays stack; holds = λ h o later has. has })
+  by_role (BeginLoop terminal) stack beyond is stands h = Keeps-from (BeginLoop terminal) stack (begun i (Loop terminal) ∷ stack) beyond h (record {
     stands = Stands-loop terminal stack is stands;
-    within = λ within. AreWithin-earlier stmts (i + 1) (behind_of stmts i (Loop terminal)) stack within.0 within.1;
+    within = λ within. AreWithin-earlier stmts (i + 1) (after_of stmts i (Loop terminal)) stack within.0 within.1;
     before = stays stack;
     holds = λ h o later has. has;
   })
-  by_role BeginBlock stack behind is stands h = Keeps-from BeginBlock stack (begun i (Block false) ∷ stack) behind h (record {
+  by_role BeginBlock stack beyond is stands h = Keeps-from BeginBlock stack (begun i (Block false) ∷ stack) beyond h (record {
     stands = Stands-block stack is stands;
-    within = λ within. AreWithin-earlier stmts (i + 1) (behind_of stmts i (Block false)) stack within.0 within.1;
+    within = λ within. AreWithin-earlier stmts (i + 1) (after_of stmts i (Block false)) stack within.0 within.1;
     before = stays stack;
     holds = λ h o later has. has;
   })
-  by_role NextArm [] behind is stands h = no_stack behind h
-  by_role NextArm (e ∷ rest) behind is stands h = arms NextArm false e.begin e.opened rest behind is refl refl refl refl stands h
-  by_role LastArm [] behind is stands h = no_stack behind h
-  by_role LastArm (e ∷ rest) behind is stands h = arms LastArm true e.begin e.opened rest behind is refl refl refl refl stands h
-  by_role EndBlock [] behind is stands h = no_stack behind h
-  by_role EndBlock (e ∷ rest) behind is stands h = ends e.begin e.opened rest behind is stands h
-  by_role Finish [] behind is stands h = Keeps-from Finish [] [] behind h (record { stands = Stands-stay Finish [] is refl refl stands; within = λ within. within; before = stays []; holds = λ h o later has. has })
-  by_role Finish (e ∷ rest) behind is stands h = no_stack behind h
-  by_role Leave stack behind is stands h = loops_end Leave stack behind is refl refl refl stands h
-  by_role Plain stack behind is stands h = loops_end Plain stack behind is refl refl refl stands h
+  by_role NextArm [] beyond is stands h = no_stack beyond h
+  by_role NextArm (e ∷ rest) beyond is stands h = arms NextArm false e.begin e.opened rest beyond is refl refl refl refl stands h
+  by_role LastArm [] beyond is stands h = no_stack beyond h
+  by_role LastArm (e ∷ rest) beyond is stands h = arms LastArm true e.begin e.opened rest beyond is refl refl refl refl stands h
+  by_role EndBlock [] beyond is stands h = no_stack beyond h
+  by_role EndBlock (e ∷ rest) beyond is stands h = ends e.begin e.opened rest beyond is stands h
+  by_role Finish [] beyond is stands h = Keeps-from Finish [] [] beyond h (record { stands = Stands-stay Finish [] is refl refl stands; within = λ within. within; before = stays []; holds = λ h o later has. has })
+  by_role Finish (e ∷ rest) beyond is stands h = no_stack beyond h
+  by_role Leave stack beyond is stands h = loops_end Leave stack beyond is refl refl refl stands h
+  by_role Plain stack beyond is stands h = loops_end Plain stack beyond is refl refl refl stands h
 
-  not_refused : (b d : Bool) (x : Option (List Entry)) (behind : List Entry) → (if b && d then None else x) ≡ Some behind → x ≡ Some behind
-  not_refused true true x behind h = no_stack behind h
-  not_refused true false x behind h = h
-  not_refused false d x behind h = h
+  not_refused : (b d : Bool) (x : Option (List Entry)) (beyond : List Entry) → (if b && d then None else x) ≡ Some beyond → x ≡ Some beyond
+  not_refused true true x beyond h = no_stack beyond h
+  not_refused true false x beyond h = h
+  not_refused false d x beyond h = h
 
   -- a statement that is nested right keeps all of it
-  pub Keeps-behind : (stack behind : List Entry) → Stands stmts i stack → entries_behind (role_of s.stmt) i s.label stack ≡ Some behind → Keeps stmts i (role_of s.stmt) stack behind
-  Keeps-behind stack behind stands h = by_role (role_of s.stmt) stack behind refl stands (not_refused (list_any (ends_at s.label) stack) (is_no_end (role_of s.stmt)) (after_role (role_of s.stmt) i s.label stack) behind h)
+  pub Keeps-after : (stack beyond : List Entry) → Stands stmts i stack → entries_after (role_of s.stmt) i s.label stack ≡ Some beyond → Keeps stmts i (role_of s.stmt) stack beyond
+  Keeps-after stack beyond stands h = by_role (role_of s.stmt) stack beyond refl stands (not_refused (list_any (ends_at s.label) stack) (is_no_end (role_of s.stmt)) (after_role (role_of s.stmt) i s.label stack) beyond h)

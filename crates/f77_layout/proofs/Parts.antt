@@ -69,10 +69,10 @@ module _ (old new : List Node) (spots : List Spot) (e : Equation) (firsts : List
   moves y d lt below =
       let there = below-after spots e y c d lt c_in below in
       let here = hung.below in
-      record { together = here.together ∙ there.together; behind = omega (arith, ints, there.behind, here.behind) }
+      record { together = here.together ∙ there.together; beyond = omega (arith, ints, there.beyond, here.beyond) }
 
   apart-of : (x y : ℕ) (d : ℤ) → d ≡ distance_at spots x -ℤ distance_at spots y → storage_at spots y ≡ storage_at spots x → IsBelow spots x y d
-  apart-of x y d e' same = record { together = same; behind = omega (arith, ints) }
+  apart-of x y d e' same = record { together = same; beyond = omega (arith, ints) }
 
   low-joined : (lr lc : ℤ) → IsLow spots r lr → IsLow spots c lc → IsLow after r (int_min lr (lc +ℤ o))
   low-joined lr lc is_lr is_lc =
@@ -80,8 +80,8 @@ module _ (old new : List Node) (spots : List Spot) (e : Equation) (firsts : List
       let below : (y : ℕ) → y < length after → storage_at after r ≡ storage_at after y → (distance_at after r +ℤ int_min lr (lc +ℤ o)) ≤ℤ distance_at after y = λ y lt same.
       let i : y < length spots = omega (arith, length-after spots e) in
       ⊎_elim
-      (λ s. let m = moves y (distance_at spots y -ℤ distance_at spots c) i (apart-of y c (distance_at spots y -ℤ distance_at spots c) refl s) in omega (arith, ints, m.behind, is_lc.least y i s))
-      (λ s. let m = below-after spots e y r (distance_at spots y -ℤ distance_at spots r) i r_in (apart-of y r (distance_at spots y -ℤ distance_at spots r) refl s) in omega (arith, ints, m.behind, is_lr.least y i s))
+      (λ s. let m = moves y (distance_at spots y -ℤ distance_at spots c) i (apart-of y c (distance_at spots y -ℤ distance_at spots c) refl s) in omega (arith, ints, m.beyond, is_lc.least y i s))
+      (λ s. let m = below-after spots e y r (distance_at spots y -ℤ distance_at spots r) i r_in (apart-of y r (distance_at spots y -ℤ distance_at spots r) refl s) in omega (arith, ints, m.beyond, is_lr.least y i s))
       (either y i same)
       in
       ⊎_elim
@@ -107,7 +107,7 @@ module _ (old new : List Node) (spots : List Spot) (e : Equation) (firsts : List
               let j : y < length spots = omega (arith, length-after spots e) in
               let s = others x y lt j nc nr same in
               let m = below-after spots e y x (distance_at spots y -ℤ distance_at spots x) j lt (apart-of y x (distance_at spots y -ℤ distance_at spots x) refl s) in
-              omega (arith, ints, m.behind, is.low.least y j s);
+              omega (arith, ints, m.beyond, is.low.least y j s);
           name = is.low.name;
           known = omega (arith, length-after spots e, is.low.known);
           reached = below-after spots e is.low.name x part.low is.low.known lt is.low.reached;
@@ -136,7 +136,7 @@ module _ (old new : List Node) (spots : List Spot) (e : Equation) (firsts : List
       ⊎_elim
       (λ h. let l = links e' h in below-after spots e e'.to e'.from e'.distance l.second l.first (right.kept e' h))
       (λ (h : e ≡ e').
-      let own : IsBelow after e.to e.from e.distance = record { together = meet-after spots e e.from e.to from to refl refl; behind = let across = across-after spots e e.from e.to from to hung.apart refl refl in omega (arith, ints) } in
+      let own : IsBelow after e.to e.from e.distance = record { together = meet-after spots e e.from e.to from to refl refl; beyond = let across = across-after spots e e.from e.to from to hung.apart refl refl in omega (arith, ints) } in
       subst (λ (x : Equation). IsBelow after x.to x.from x.distance) h own)
       (Contains-push_cases all e e' there)
 
@@ -158,7 +158,7 @@ module _ (old new : List Node) (spots : List Spot) (e : Equation) (firsts : List
         let e' : at.name ≡ x = firsts-apart at.name x at.first fx (sym at.there.together ∙ sym here) in
         let mine : distance_at after x ≡ distance_at after at.name = ap (λ z. distance_at after z) (sym e') in
         let le = le-yes s low fits in
-        omega (arith, ints, at.there.behind, is_low.least y lt (sym here ∙ same))
+        omega (arith, ints, at.there.beyond, is_low.least y lt (sym here ∙ same))
 
     begins-after : (start : Option ℤ) (low : ℤ) → IsStart after firsts r start → starts_right start low ≡ true → IsLow after r low → (x y : ℕ) → Contains firsts x → y < length after → storage_at after x ≡ storage_at after y → distance_at after x ≤ℤ distance_at after y
     begins-after start low is_start fits is_low x y fx lt same =
@@ -172,7 +172,7 @@ module _ (old new : List Node) (spots : List Spot) (e : Equation) (firsts : List
         (λ nr.
         let s = others x y x_in j nc nr same in
         let m = below-after spots e y x (distance_at spots y -ℤ distance_at spots x) j x_in (apart-of y x (distance_at spots y -ℤ distance_at spots x) refl s) in
-        omega (arith, ints, m.behind, right.begins x y fx j s))
+        omega (arith, ints, m.beyond, right.begins x y fx j s))
         (cases_eq (storage_at spots x) (storage_at spots r)))
         (cases_eq (storage_at spots x) (storage_at spots c))
 
@@ -190,12 +190,12 @@ module _ (old new : List Node) (spots : List Spot) (e : Equation) (firsts : List
         let l = links e' h in
         let now = right.kept e' (Contains-append_left all (e ∷ []) e' h) in
         let m = below-after spots e e'.to e'.from (distance_at spots e'.to -ℤ distance_at spots e'.from) l.second l.first (apart-of e'.to e'.from (distance_at spots e'.to -ℤ distance_at spots e'.from) refl l.together) in
-        record { together = l.together; behind = omega (arith, ints, now.behind, m.behind) };
+        record { together = l.together; beyond = omega (arith, ints, now.beyond, m.beyond) };
     apart = λ x y fx fy same. right.apart x y fx fy (together-after spots e x y (known x fx) (known y fy) same);
     begins = λ x y fx lt same.
         let b = right.begins x y fx (omega (arith, length-after spots e)) (together-after spots e x y (known x fx) lt same) in
         let m = below-after spots e y x (distance_at spots y -ℤ distance_at spots x) lt (known x fx) (apart-of y x (distance_at spots y -ℤ distance_at spots x) refl same) in
-        omega (arith, ints, m.behind);
+        omega (arith, ints, m.beyond);
   }
 
   -- the block's first name begins with the lowest word
@@ -203,7 +203,7 @@ module _ (old new : List Node) (spots : List Spot) (e : Equation) (firsts : List
   fits-after right None low none is_low early = absurd cc
   fits-after right (Some s) low at is_low early =
       let b = right.begins at.name is_low.name at.first (omega (arith, is_low.known)) (sym at.there.together ∙ is_low.reached.together) in
-      le-no s low early (omega (arith, ints, at.there.behind, is_low.reached.behind))
+      le-no s low early (omega (arith, ints, at.there.beyond, is_low.reached.beyond))
 
   -- what an answer tells: the part of the new storage, or that the places are wrong
   abbrev Tells : Option Part → Type 0

@@ -2,7 +2,7 @@
 use Rattle.std.proofs.Common.{ℕ, inl, inr, ⊎_elim, List, Contains}
 use Rattle.f77_tree.specs.declared.declarations.CommonPart.{CommonPart}
 use Rattle.f77_tree.specs.declared.programs.NameInfo.{NameInfo}
-use Rattle.f77_tree.specs.Places.{Equation, Linked, itself, along, against, IsEarlier, BeginsBehind, ArePlaces}
+use Rattle.f77_tree.specs.Places.{Equation, Linked, itself, along, against, IsEarlier, BeginsAfter, ArePlaces}
 
 -- each of the one is among the others
 abbrev pub AreAmong : List Equation → List Equation → Type 0
@@ -21,7 +21,7 @@ module _ (one other : List Equation) (there : AreAmong one other) (back : AreAmo
     before = λ z link. is.before z (linked-by-more other one back z y link);
   }
 
-  begins-alike : (names : List NameInfo) (y : ℕ) → BeginsBehind names one y → BeginsBehind names other y
+  begins-alike : (names : List NameInfo) (y : ℕ) → BeginsAfter names one y → BeginsAfter names other y
   begins-alike names y is = record { name = is.name; known = is.known; earlier = earlier is.name y is.earlier; meets = is.meets }
 
 -- places by the one list of equations are places by the other
@@ -35,7 +35,7 @@ places-alike names commons one other words there back are = record {
   begins = λ y j lowest.
       ⊎_elim
       (λ zeroth. inl zeroth)
-      (λ behind. inr (begins-alike one other there back names y behind))
+      (λ beyond. inr (begins-alike one other there back names y beyond))
       (are.begins y j (λ z i link. lowest z i (linked-by-more one other there z y link)));
   ends = are.ends;
 }

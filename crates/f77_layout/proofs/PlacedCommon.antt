@@ -118,7 +118,7 @@ module _ (count : ℕ) (xs : List Standing) (all : List Equation) (spots : List 
             (Contains-push_cases (firsts_of xs) s.name x (subst (λ (ks : List ℕ). Contains ks x) firsts h));
       }
 
-  -- a name behind another one of its block
+  -- a name after another one of its block
   module _ (b : ℕ) (last : IsLast xs s.block b) (size : ℕ) where
     abbrev link : Equation
     link = record { from = b; to = s.name; distance = pos size }
@@ -159,7 +159,7 @@ module _ (count : ℕ) (xs : List Standing) (all : List Equation) (spots : List 
     own-after : IsBelow after s.name b (pos size)
     own-after =
         let across = across-after spots link b s.name (inside b b_in) (inside s.name lt) differ refl refl in
-        record { together = meet-after spots link b s.name (inside b b_in) (inside s.name lt) refl refl; behind = omega (arith, ints) }
+        record { together = meet-after spots link b s.name (inside b b_in) (inside s.name lt) refl refl; beyond = omega (arith, ints) }
 
     kept-after : (e : Equation) → Contains (all ++ link ∷ []) e → IsBelow after e.to e.from e.distance
     kept-after e h =
@@ -211,8 +211,8 @@ module _ (count : ℕ) (xs : List Standing) (all : List Equation) (spots : List 
         let stands : stands_in xs x ≡ true = firsts-stand [] xs x first in
         ⊎_elim
         (λ z.
-        let below = below-after spots link y x (distance_at spots y -ℤ distance_at spots x) (inside y j) (inside x i) (record { together = z; behind = omega (arith, ints) }) in
-        omega (arith, ints, below.behind, old.begins x y first i j z))
+        let below = below-after spots link y x (distance_at spots y -ℤ distance_at spots x) (inside y j) (inside x i) (record { together = z; beyond = omega (arith, ints) }) in
+        omega (arith, ints, below.beyond, old.begins x y first i j z))
         (λ z. ⊎_elim
         (λ ab.
         let e : y ≡ s.name = old.loose s.name y lt j fresh ab.1 in

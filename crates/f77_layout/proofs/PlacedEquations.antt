@@ -25,15 +25,15 @@ AreDistinct xs = (j k x : ℕ) → slice_get (map name_in xs) j ≡ Some x → s
 distinct-tail : (s : Standing) (xs : List Standing) → AreDistinct (s ∷ xs) → AreDistinct xs
 distinct-tail s xs once j k x at_j at_k = let e : suc j ≡ suc k = once (suc j) (suc k) x at_j at_k in omega arith
 
--- a name behind some others
-behind : (seen rest : List Standing) (s : Standing) → (i : ℕ) × (slice_get (map name_in (seen ++ s ∷ rest)) i ≡ Some s.name)
-behind [] rest s = (0, refl)
-behind (a ∷ seen) rest s = let more = behind seen rest s in (suc more.0, more.1)
+-- a name after some others
+beyond : (seen rest : List Standing) (s : Standing) → (i : ℕ) × (slice_get (map name_in (seen ++ s ∷ rest)) i ≡ Some s.name)
+beyond [] rest s = (0, refl)
+beyond (a ∷ seen) rest s = let more = beyond seen rest s in (suc more.0, more.1)
 
 pub absent : (seen rest : List Standing) (s : Standing) → AreDistinct (seen ++ s ∷ rest) → list_any (λ a. a.name == s.name) seen ≡ false
 absent [] rest s once = refl
 absent (a ∷ seen) rest s once =
-    let more = behind seen rest s in
+    let more = beyond seen rest s in
     let here : (a.name == s.name) ≡ false = ⊎_elim
     (λ (h : (a.name == s.name) ≡ true).
     let e : 0 ≡ suc more.0 = once 0 (suc more.0) s.name (ap Some (eqb-true a.name s.name h)) more.1 in

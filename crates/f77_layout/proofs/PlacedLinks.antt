@@ -103,7 +103,7 @@ kept-each spots all h e here =
     let b = spot_at spots e.to in
     let holds : is_kept spots e ≡ true = all-test (is_kept spots) all h e here in
     let both = and_parts (a.storage == b.storage) (int_eq b.distance (a.distance +ℤ e.distance)) holds in
-    record { together = eqb-true a.storage b.storage both.0; behind = (Decides-int_eq b.distance (a.distance +ℤ e.distance)).0 both.1 }
+    record { together = eqb-true a.storage b.storage both.0; beyond = (Decides-int_eq b.distance (a.distance +ℤ e.distance)).0 both.1 }
 
 -- linked names have one storage
 pub linked-storage : (spots : List Spot) (all : List Equation) → list_all (is_kept spots) all ≡ true → (x y : ℕ) → Linked all x y → storage_at spots x ≡ storage_at spots y

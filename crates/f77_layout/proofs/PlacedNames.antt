@@ -5,7 +5,7 @@ use Rattle.std.proofs.lemmas.Int.{ints}
 use Rattle.f77_tree.specs.declared.programs.NameInfo.{NameInfo}
 use Rattle.f77_tree.specs.Value.{dims_of, size_of, place_of as placed_at}
 use Rattle.f77_tree.specs.Declarations.{index_of}
-use Rattle.f77_tree.specs.Places.{Equation, Linked, itself, along, against, IsEarlier, IsLowest, BeginsBehind, EndsAt, end_of}
+use Rattle.f77_tree.specs.Places.{Equation, Linked, itself, along, against, IsEarlier, IsLowest, BeginsAfter, EndsAt, end_of}
 use Rattle.f77_layout.specs.Storage.{Spot, spots_by, size_at, is_kept, place_of, words_in_all}
 use Rattle.f77_layout.specs.Trees.{storage_at, AreLowest}
 use Rattle.f77_layout.proofs.PlacedLinks.{AreEquations, length-spots, lowest-spots, storage-linked_names, linked-storage, kept-each, link-back}
@@ -94,7 +94,7 @@ module _ (names placed : List NameInfo) (count : ℕ) (all : List Equation) (are
   has-words x lt = is.some x (omega (arith, is.as_many))
 
   -- a storage begins with the word 0, or where an earlier one ends
-  pub begins : (y : ℕ) → y < length placed → IsLowest placed all y → (placed_at placed y ≡ 0) ⊎ BeginsBehind placed all y
+  pub begins : (y : ℕ) → y < length placed → IsLowest placed all y → (placed_at placed y ≡ 0) ⊎ BeginsAfter placed all y
   begins y ly least =
       let j = counted y ly in
       let begin = begins-storage names spots lowest y (inside y j) (λ z lt same.

@@ -75,7 +75,7 @@ module _ (names placed : List NameInfo) (commons : List CommonPart) (groups : Li
         let before = begins-before (length names) spots x none y j same in
         let x_in : x < length spots = omega (arith, length-spots (length names) all are) in
         let y_in : y < length spots = omega (arith, length-spots (length names) all are) in
-        let apart = apart-by names spots (lowest-spots (length names) all are) x y (distance_at spots y -ℤ distance_at spots x) x_in y_in (record { together = same; behind = omega (arith, ints) }) in
+        let apart = apart-by names spots (lowest-spots (length names) all are) x y (distance_at spots y -ℤ distance_at spots x) x_in y_in (record { together = same; beyond = omega (arith, ints) }) in
         omega (arith, ints, is.places x (omega (arith, is.as_many)), is.places y (omega (arith, is.as_many)))
       where
         first-in : (xs : List ℕ) → slice_get xs 0 ≡ Some x → Contains xs x

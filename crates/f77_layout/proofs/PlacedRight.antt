@@ -19,11 +19,11 @@ use Rattle.f77_tree.specs.declared.statements.Stmt.{Stmt}
 use Rattle.f77_tree.specs.declared.statements.Stmt.TheVariants.{Equivalence}
 use Rattle.f77_tree.specs.Declarations.{CommonOnce}
 use Rattle.f77_tree.specs.Places.{Equation, same_block}
-use Rattle.f77_layout.specs.Faults.{first_line, first_behind}
+use Rattle.f77_layout.specs.Faults.{first_line, first_after}
 use Rattle.f77_layout.specs.Declarations.{all_commons, all_groups, groups_of}
 use Rattle.f77_layout.specs.StorageFaults.{is_equivalence, gives_places, has_dims_twice, has_wrong_dims, is_common_twice, has_wrong_member, has_wrong_places, has_wrong_data, has_wrong_storage}
 use Rattle.f77_layout.specs.Storage.{Spot, spot_at, Standing, standings, standings_of, size_at, spots_by, linked, alone, last_standing, following, standing_equations, equations, is_kept, shares_storage, blocks_are_apart, none_before, blocks_begin, are_right}
-use Rattle.f77_layout.specs.Standings.{ArePartsKnown, firsts_behind, firsts_of}
+use Rattle.f77_layout.specs.Standings.{ArePartsKnown, firsts_after, firsts_of}
 use Rattle.f77_layout.specs.Trees.{storage_at, distance_at}
 use Rattle.f77_layout.proofs.StandingLemmas.{equations-push}
 use Rattle.f77_layout.proofs.PlacedEquations.{AreDistinct, absent, standings-once, standings-distinct, standings-in, AreInTable}
@@ -88,7 +88,7 @@ module _ (count : ℕ) (xs : List Standing) (all : List Equation) (spots : List 
   kept-test e h =
       let below = is.kept e h in
       let d = (spot_at spots e.from).distance +ℤ e.distance in
-      and_from (storage_at spots e.from == storage_at spots e.to) (int_eq (distance_at spots e.to) d) (eq-eqb (storage_at spots e.from) (storage_at spots e.to) below.together) ((Decides-int_eq (distance_at spots e.to) d).1 below.behind)
+      and_from (storage_at spots e.from == storage_at spots e.to) (int_eq (distance_at spots e.to) d) (eq-eqb (storage_at spots e.from) (storage_at spots e.to) below.together) ((Decides-int_eq (distance_at spots e.to) d).1 below.beyond)
 
   apart-test : blocks_are_apart spots xs ≡ true
   apart-test =
@@ -106,10 +106,10 @@ module _ (count : ℕ) (xs : List Standing) (all : List Equation) (spots : List 
       unless (shares_storage spots x y) (int_le (distance_at spots x) (distance_at spots y)) (λ same.
       le-from (distance_at spots x) (distance_at spots y) (is.begins x y first i (omega arith) (eqb-true (storage_at spots x) (storage_at spots y) same))))
 
-  begins-test : (seen rest : List Standing) → AreInTable count rest → ((x : ℕ) → Contains (firsts_behind seen rest) x → Contains (firsts_of xs) x) → blocks_begin count spots seen rest ≡ true
+  begins-test : (seen rest : List Standing) → AreInTable count rest → ((x : ℕ) → Contains (firsts_after seen rest) x → Contains (firsts_of xs) x) → blocks_begin count spots seen rest ≡ true
   begins-test seen [] rest_known some = refl
   begins-test seen (s ∷ rest) rest_known some =
-      let tail = firsts_behind (seen ++ s ∷ []) rest in
+      let tail = firsts_after (seen ++ s ∷ []) rest in
       let stood = list_any (λ a. same_block a.block s.block) seen in
       let later = begins-test (seen ++ s ∷ []) rest (λ t h. rest_known t (suc h.0, omega (arith, h.1), h.2)) (λ x h. some x (Contains-append_right (cond stood [] (s.name ∷ [])) tail x h)) in
       let here : (stood || none_before count spots s.name) ≡ true = ⊎_elim
@@ -161,14 +161,14 @@ module _ (names placed : List NameInfo) (whole : List Labelled) where
       turned false e = sym e
   right-next above _ clear right = subst Right (sym (append-nil (all_groups above))) right
 
-  right-behind : (above rest : List Labelled) → first_behind fault above rest ≡ None → Right (all_groups above) → Right (all_groups (above ++ rest))
-  right-behind above [] none right = subst (λ (stmts : List Labelled). Right (all_groups stmts)) (sym (append-nil above)) right
-  right-behind above (s ∷ rest) none right = by (fault above s) refl none (λ later now. right-behind (above ++ s ∷ []) rest later now)
+  right-after : (above rest : List Labelled) → first_after fault above rest ≡ None → Right (all_groups above) → Right (all_groups (above ++ rest))
+  right-after above [] none right = subst (λ (stmts : List Labelled). Right (all_groups stmts)) (sym (append-nil above)) right
+  right-after above (s ∷ rest) none right = by (fault above s) refl none (λ later now. right-after (above ++ s ∷ []) rest later now)
     where
       declared : Bool
       declared = has_dims_twice above s || has_wrong_dims s || is_common_twice above s || has_wrong_member names s
 
-      by : (b : Bool) → fault above s ≡ b → cond b (Some s.line) (first_behind fault (above ++ s ∷ []) rest) ≡ None → (first_behind fault (above ++ s ∷ []) rest ≡ None → Right (all_groups (above ++ s ∷ [])) → Right (all_groups ((above ++ s ∷ []) ++ rest))) → Right (all_groups (above ++ s ∷ rest))
+      by : (b : Bool) → fault above s ≡ b → cond b (Some s.line) (first_after fault (above ++ s ∷ []) rest) ≡ None → (first_after fault (above ++ s ∷ []) rest ≡ None → Right (all_groups (above ++ s ∷ [])) → Right (all_groups ((above ++ s ∷ []) ++ rest))) → Right (all_groups (above ++ s ∷ rest))
       by true is found later = absurd cc
       by false clear found later =
           let places = (or_parts declared (has_wrong_places names whole above s) (or_parts (declared || has_wrong_places names whole above s) (has_wrong_data placed above s) clear).0).1 in
@@ -177,4 +177,4 @@ module _ (names placed : List NameInfo) (whole : List Labelled) where
 
 -- where storage is without fault, all statements give right places
 pub all-right : (names placed : List NameInfo) (whole : List Labelled) → ArePartsKnown names (all_commons whole) → CommonOnce names (all_commons whole) → first_line (has_wrong_storage names placed whole) whole ≡ None → gives_places names whole (all_groups whole) ≡ true
-all-right names placed whole parts once none = right-behind names placed whole [] whole none (common-right names (all_commons whole) parts once)
+all-right names placed whole parts once none = right-after names placed whole [] whole none (common-right names (all_commons whole) parts once)

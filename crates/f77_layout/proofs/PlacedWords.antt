@@ -1,4 +1,4 @@
--- The words of names: each storage lies behind the one before it.
+-- The words of names: each storage lies after the one before it.
 use Rattle.std.proofs.Common.{◌≡◌, ℕ, zero, suc, ◌+◌, ◌<◌, ◌≤◌, ◌⊎◌, inl, inr, ⊎_elim, ℤ, pos, negsuc, ◌+ℤ◌, ◌-ℤ◌, ◌≤ℤ◌, true, false, cond, List, length, refl, sym, ap, ◌∙◌, arith}
 use Rattle.std.specs.Prelude.{nat_abs, ◌-◌}
 use Rattle.std.proofs.lemmas.Int.{ints}
@@ -48,7 +48,7 @@ module _ (names : List NameInfo) (spots : List Spot) where
       place-in x lt same =
           let low : low_of spots (storage_at spots x) ≡ low_of spots s = ap (λ k. low_of spots k) same in
           let before : words_before names spots (storage_at spots x) ≡ words_before names spots s = ap (λ k. words_before names spots k) same in
-          let behind = nat_abs-is (distance_at spots x -ℤ low_of spots (storage_at spots x)) (omega (arith, ints, low-below names spots lowest s known own x lt same)) in
+          let beyond = nat_abs-is (distance_at spots x -ℤ low_of spots (storage_at spots x)) (omega (arith, ints, low-below names spots lowest s known own x lt same)) in
           omega (arith, ints)
 
       pub end-in : (x : ℕ) → x < length spots → storage_at spots x ≡ s → (pos (place_of names spots x) +ℤ pos (size_at names x)) ≤ℤ pos (words_before names spots (suc s))
@@ -83,7 +83,7 @@ module _ (names : List NameInfo) (spots : List Spot) where
     pub apart-by : (x y : ℕ) (d : ℤ) → x < length spots → y < length spots → IsBelow spots y x d → pos (place_of names spots y) ≡ pos (place_of names spots x) +ℤ d
     apart-by x y d i j below =
         let s = storage_at spots x in
-        omega (arith, ints, below.behind, place-in s (own-storage x i) (lowest.itself x i) x i refl, place-in s (own-storage x i) (lowest.itself x i) y j (sym below.together))
+        omega (arith, ints, below.beyond, place-in s (own-storage x i) (lowest.itself x i) x i refl, place-in s (own-storage x i) (lowest.itself x i) y j (sym below.together))
 
     -- the lowest name of a storage begins where the words of earlier storages end
     pub begins-storage : (y : ℕ) → y < length spots → ((z : ℕ) → z < length spots → storage_at spots z ≡ storage_at spots y → place_of names spots y ≤ place_of names spots z) → place_of names spots y ≡ words_before names spots (storage_at spots y)

@@ -85,10 +85,10 @@ nested_pairs names checked op [] is two many all = absurd (omega arith)
 nested_pairs names checked op (a ∷ []) is two many all = absurd (omega arith)
 nested_pairs names checked op (a ∷ b ∷ rest) is two many all =
     let P = IsOfKind names Integer in
-    let behind = All-tail P a (b ∷ rest) all in
+    let beyond = All-tail P a (b ∷ rest) all in
     pairs names checked op (Apply (in_dialect checked op) (a ∷ b ∷ [])) rest is two
-    (integers names checked op (a ∷ b ∷ []) is two (All-cons P a (b ∷ []) (All-head P a (b ∷ rest) all) (All-cons P b [] (All-head P b rest behind) (All-nil P))))
-    (All-tail P b rest behind)
+    (integers names checked op (a ∷ b ∷ []) is two (All-cons P a (b ∷ []) (All-head P a (b ∷ rest) all) (All-cons P b [] (All-head P b rest beyond) (All-nil P))))
+    (All-tail P b rest beyond)
 
 nested_once : (names : List NameInfo) (checked : Bool) (op : Op) (args : List Expr) → IsOfIntegers op → length args ≡ arity_of op → arity_of op ≤ 2 → All (IsOfKind names Integer) args → fitting names checked op args
 nested_once names checked op [] is as_many few all = integers names checked op [] is as_many all

@@ -17,8 +17,8 @@ use Rattle.f77_tree.specs.declared.statements.Stmt.{Stmt, more_of-Stmt}
 use Rattle.f77_tree.specs.declared.statements.Stmt.TheVariants.{Take, PickGoTo, ThenIf'}
 use Rattle.f77_tree.specs.Control.{targets_of}
 use Rattle.f77_tree.specs.Operations.{exec_operations, is_increment, others, statement_operations}
-use Rattle.f77_layout.specs.Faults.{first_behind, first_line}
-use Rattle.f77_layout.specs.Executables.{own_executables, loops_to, first_of, labelled, behind, taking, own_kinds, increments, kinds_at, executables_at, executables_if_any, executables}
+use Rattle.f77_layout.specs.Faults.{first_after, first_line}
+use Rattle.f77_layout.specs.Executables.{own_executables, loops_to, first_of, labelled, beyond, taking, own_kinds, increments, kinds_at, executables_at, executables_if_any, executables}
 use Rattle.f77_layout.specs.Counts.{labels_picked, items_taken, asks_too_much}
 use Rattle.f77_layout.proofs.ProperExecutables.{all_joined}
 use Rattle.f77_layout.proofs.ProperSums.{sum_by-flat_map, sum_by-map, sum_by-places}
@@ -26,11 +26,11 @@ use Rattle.f77_layout.proofs.ProperSums.{sum_by-flat_map, sum_by-map, sum_by-pla
 -- ---- sums that a fault keeps small
 
 module _ (fault : List Labelled → Labelled → Bool) (f : Labelled → ℕ) (gives : (above : List Labelled) (s : Labelled) → fault above s ≡ false → sum_by f above + f s ≤ 4000) where
-  few_behind : (above stmts : List Labelled) → sum_by f above ≤ 4000 → first_behind fault above stmts ≡ None → sum_by f (above ++ stmts) ≤ 4000
-  few_behind above [] few none = subst (λ (xs : List Labelled). sum_by f xs ≤ 4000) (sym (append-nil above)) few
-  few_behind above (s ∷ rest) few none = by (fault above s) refl none (few_behind (above ++ s ∷ []) rest)
+  few_after : (above stmts : List Labelled) → sum_by f above ≤ 4000 → first_after fault above stmts ≡ None → sum_by f (above ++ stmts) ≤ 4000
+  few_after above [] few none = subst (λ (xs : List Labelled). sum_by f xs ≤ 4000) (sym (append-nil above)) few
+  few_after above (s ∷ rest) few none = by (fault above s) refl none (few_after (above ++ s ∷ []) rest)
     where
-      by : (b : Bool) → fault above s ≡ b → (if b then Some s.line else first_behind fault (above ++ s ∷ []) rest) ≡ None → (sum_by f (above ++ s ∷ []) ≤ 4000 → first_behind fault (above ++ s ∷ []) rest ≡ None → sum_by f ((above ++ s ∷ []) ++ rest) ≤ 4000) → sum_by f (above ++ s ∷ rest) ≤ 4000
+      by : (b : Bool) → fault above s ≡ b → (if b then Some s.line else first_after fault (above ++ s ∷ []) rest) ≡ None → (sum_by f (above ++ s ∷ []) ≤ 4000 → first_after fault (above ++ s ∷ []) rest ≡ None → sum_by f ((above ++ s ∷ []) ++ rest) ≤ 4000) → sum_by f (above ++ s ∷ rest) ≤ 4000
       by true is none more = absurd cc
       by false is none more =
           let here = gives above s is in
@@ -39,14 +39,14 @@ module _ (fault : List Labelled → Labelled → Bool) (f : Labelled → ℕ) (g
           subst (λ (xs : List Labelled). sum_by f xs ≤ 4000) (append_assoc above (s ∷ []) rest) (more (omega (arith, here, both, one)) none)
 
   pub few_in_all : (stmts : List Labelled) → first_line fault stmts ≡ None → sum_by f stmts ≤ 4000
-  few_in_all stmts none = few_behind [] stmts (omega arith) none
+  few_in_all stmts none = few_after [] stmts (omega arith) none
 
 -- the statement at a place has no fault
-pub none_at : (fault : List Labelled → Labelled → Bool) (above stmts : List Labelled) (k : ℕ) (s : Labelled) → first_behind fault above stmts ≡ None → slice_get stmts k ≡ Some s → fault (above ++ take k stmts) s ≡ false
+pub none_at : (fault : List Labelled → Labelled → Bool) (above stmts : List Labelled) (k : ℕ) (s : Labelled) → first_after fault above stmts ≡ None → slice_get stmts k ≡ Some s → fault (above ++ take k stmts) s ≡ false
 none_at fault above [] k s none is = absurd cc
 none_at fault above (x ∷ rest) k s none is = by (fault above x) refl none k is (λ j. none_at fault (above ++ x ∷ []) rest j s)
   where
-    by : (b : Bool) → fault above x ≡ b → (if b then Some x.line else first_behind fault (above ++ x ∷ []) rest) ≡ None → (k : ℕ) → slice_get (x ∷ rest) k ≡ Some s → ((j : ℕ) → first_behind fault (above ++ x ∷ []) rest ≡ None → slice_get rest j ≡ Some s → fault ((above ++ x ∷ []) ++ take j rest) s ≡ false) → fault (above ++ take k (x ∷ rest)) s ≡ false
+    by : (b : Bool) → fault above x ≡ b → (if b then Some x.line else first_after fault (above ++ x ∷ []) rest) ≡ None → (k : ℕ) → slice_get (x ∷ rest) k ≡ Some s → ((j : ℕ) → first_after fault (above ++ x ∷ []) rest ≡ None → slice_get rest j ≡ Some s → fault ((above ++ x ∷ []) ++ take j rest) s ≡ false) → fault (above ++ take k (x ∷ rest)) s ≡ false
     by true fails none k is more = absurd cc
     by false passes none zero is more =
         let same : x ≡ s = cc in
@@ -134,11 +134,11 @@ module _ (names : List NameInfo) (checked : Bool) (whole : List Labelled) where
 
   targets_at : (place : ℕ) (s : Labelled) → sum_by exec_targets (executables_at names checked whole place s) ≡ labels_picked s.stmt
   targets_at place s =
-      let own = own_kinds names checked whole place (first_of whole place) (behind whole place s) s.stmt in
+      let own = own_kinds names checked whole place (first_of whole place) (beyond whole place s) s.stmt in
       let ends = increments names whole place (first_of whole place + own_executables s.stmt) (loops_to whole s.label) in
       let mapped = sum_by-map exec_targets (λ (kind : ExecKind). let exec : Exec = record { line = s.line; kind = kind } in exec) (kinds_at names checked whole place s) in
       let both = sum_by-append targets own ends in
-      let first = own_targets place (first_of whole place) (behind whole place s) s.stmt in
+      let first = own_targets place (first_of whole place) (beyond whole place s) s.stmt in
       let second = increment_targets place (first_of whole place + own_executables s.stmt) (loops_to whole s.label) in
       mapped ∙ both ∙ omega (arith, first, second)
 

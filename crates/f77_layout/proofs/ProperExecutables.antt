@@ -26,9 +26,9 @@ use Rattle.f77_tree.proofs.AllLemmas.{All-get}
 use Rattle.f77_layout.specs.Types.{dims_named, kind_named, is_array_in, is_kind, is_of_kind, kind_in, is_variable, is_target, is_item, is_step, is_kind_of_target, is_well_kinded}
 use Rattle.f77_layout.specs.Appearances.{names_in, names_in_item, names_if_any, appearing}
 use Rattle.f77_layout.specs.Resolved.{resolved, resolved_item, resolved_step, access_of}
-use Rattle.f77_layout.specs.Executables.{own_executables, is_do_to, is_do_in, loops_to, first_of, labelled, behind, kind_or_integer, taking, own_kinds, do_variable, variable_of, increments, kinds_at, executables_at, executables_if_any, executables}
+use Rattle.f77_layout.specs.Executables.{own_executables, is_do_to, is_do_in, loops_to, first_of, labelled, beyond, kind_or_integer, taking, own_kinds, do_variable, variable_of, increments, kinds_at, executables_at, executables_if_any, executables}
 use Rattle.f77_layout.proofs.ProperReading.{IsReading}
-use Rattle.f77_layout.proofs.ProperExpressions.{IsKnown, resolved-IsOfKind, resolved-asked, access_of-IsAccessOf, is_kind-some, front, rear}
+use Rattle.f77_layout.proofs.ProperExpressions.{IsKnown, resolved-IsOfKind, resolved-asked, access_of-IsAccessOf, is_kind-some, prefix, rear}
 use Rattle.f77_layout.proofs.ProperStatements.{IsReadItem, IsReadStep, IsReadStatement}
 
 -- a statement that fits the table of names: what a text gives, names of the table, and kinds as their places ask for
@@ -73,7 +73,7 @@ module _ (names : List NameInfo) (checked : Bool) (arrays : List ℕ → Bool) w
   assigned target value reads known kinds =
       let parts = and_parts (is_variable names target) (is_kind_of_target (kind_in names target) (kind_in names value)) kinds in
       let kind = target_kind (kind_in names target) (kind_in names value) parts.1 in
-      let access = access_of-IsAccessOf names checked arrays target kind.0 reads.0 (front (IsKnown names) (names_in arrays target) (names_in arrays value) known) parts.0 kind.1 in
+      let access = access_of-IsAccessOf names checked arrays target kind.0 reads.0 (prefix (IsKnown names) (names_in arrays target) (names_in arrays value) known) parts.0 kind.1 in
       record {
         access = access.proper;
         of_kind = inl (subst (λ (k : Kind). IsOfKind names k (resolved names checked value)) (sym access.of_kind) (resolved-asked names checked arrays value kind.0 reads.1 (rear (IsKnown names) (names_in arrays target) (names_in arrays value) known) kind.2));
@@ -90,12 +90,12 @@ module _ (names : List NameInfo) (checked : Bool) (arrays : List ℕ → Bool) w
   all_taken index next [] reads known kinds = All-nil (IsExecutable names)
   all_taken index next (target ∷ []) reads known kinds =
       let parts = and_parts (is_target names target) true kinds in
-      All-cons (IsExecutable names) _ [] (taken target (All-head IsReading target [] reads) (front (IsKnown names) (names_in arrays target) [] known) parts.0) (All-nil (IsExecutable names))
+      All-cons (IsExecutable names) _ [] (taken target (All-head IsReading target [] reads) (prefix (IsKnown names) (names_in arrays target) [] known) parts.0) (All-nil (IsExecutable names))
   all_taken index next (target ∷ another ∷ rest) reads known kinds =
       let parts = and_parts (is_target names target) (list_all (is_target names) (another ∷ rest)) kinds in
-      let names_behind = flat_map (names_in arrays) (another ∷ rest) in
-      All-cons (IsExecutable names) _ (taking names checked (index + 1) next (another ∷ rest)) (taken target (All-head IsReading target (another ∷ rest) reads) (front (IsKnown names) (names_in arrays target) names_behind known) parts.0)
-      (all_taken (index + 1) next (another ∷ rest) (All-tail IsReading target (another ∷ rest) reads) (rear (IsKnown names) (names_in arrays target) names_behind known) parts.1)
+      let names_after = flat_map (names_in arrays) (another ∷ rest) in
+      All-cons (IsExecutable names) _ (taking names checked (index + 1) next (another ∷ rest)) (taken target (All-head IsReading target (another ∷ rest) reads) (prefix (IsKnown names) (names_in arrays target) names_after known) parts.0)
+      (all_taken (index + 1) next (another ∷ rest) (All-tail IsReading target (another ∷ rest) reads) (rear (IsKnown names) (names_in arrays target) names_after known) parts.1)
 
   -- ---- items of PRINT
 
@@ -109,9 +109,9 @@ module _ (names : List NameInfo) (checked : Bool) (arrays : List ℕ → Bool) w
   all_printed [] reads known kinds = All-nil (IsProperItem names)
   all_printed (item ∷ items) reads known kinds =
       let parts = and_parts (is_item names item) (list_all (is_item names) items) kinds in
-      let names_behind = flat_map (names_in_item arrays) items in
-      All-cons (IsProperItem names) (resolved_item names checked item) (map (resolved_item names checked) items) (printed item (All-head IsReadItem item items reads) (front (IsKnown names) (names_in_item arrays item) names_behind known) parts.0)
-      (all_printed items (All-tail IsReadItem item items reads) (rear (IsKnown names) (names_in_item arrays item) names_behind known) parts.1)
+      let names_after = flat_map (names_in_item arrays) items in
+      All-cons (IsProperItem names) (resolved_item names checked item) (map (resolved_item names checked) items) (printed item (All-head IsReadItem item items reads) (prefix (IsKnown names) (names_in_item arrays item) names_after known) parts.0)
+      (all_printed items (All-tail IsReadItem item items reads) (rear (IsKnown names) (names_in_item arrays item) names_after known) parts.1)
 
   -- ---- DO
 
@@ -144,14 +144,14 @@ module _ (names : List NameInfo) (checked : Bool) (arrays : List ℕ → Bool) w
       let with_step = and_parts (own && is_of_kind names Integer first && is_of_kind names Integer last) (is_step names step) fits.kinds in
       let with_last = and_parts (own && is_of_kind names Integer first) (is_of_kind names Integer last) with_step.0 in
       let with_first = and_parts own (is_of_kind names Integer first) with_last.0 in
-      let behind = All-tail (IsKnown names) variable (names_in arrays first ++ names_in arrays last ++ names_if_any arrays step) fits.known in
-      let both = front (IsKnown names) (names_in arrays first ++ names_in arrays last) (names_if_any arrays step) behind in
+      let beyond = All-tail (IsKnown names) variable (names_in arrays first ++ names_in arrays last ++ names_if_any arrays step) fits.known in
+      let both = prefix (IsKnown names) (names_in arrays first ++ names_in arrays last) (names_if_any arrays step) beyond in
       record {
         variable = scalar variable (All-head (IsKnown names) variable (names_in arrays first ++ names_in arrays last ++ names_if_any arrays step) fits.known) with_first.0;
         integers =
-            All-cons P (resolved names checked first) (resolved names checked last ∷ resolved_step names checked step ∷ []) (asked first Integer fits.reads.0 (front (IsKnown names) (names_in arrays first) (names_in arrays last) both) with_first.1)
+            All-cons P (resolved names checked first) (resolved names checked last ∷ resolved_step names checked step ∷ []) (asked first Integer fits.reads.0 (prefix (IsKnown names) (names_in arrays first) (names_in arrays last) both) with_first.1)
             (All-cons P (resolved names checked last) (resolved_step names checked step ∷ []) (asked last Integer fits.reads.1 (rear (IsKnown names) (names_in arrays first) (names_in arrays last) both) with_last.1)
-            (All-cons P (resolved_step names checked step) [] (stepped step fits.reads.2 (rear (IsKnown names) (names_in arrays first ++ names_in arrays last) (names_if_any arrays step) behind) with_step.1) (All-nil P)));
+            (All-cons P (resolved_step names checked step) [] (stepped step fits.reads.2 (rear (IsKnown names) (names_in arrays first ++ names_in arrays last) (names_if_any arrays step) beyond) with_step.1) (All-nil P)));
       }
 
   own : (whole : List Labelled) (place index next : ℕ) (stmt : Stmt) → Fits names arrays stmt → All (IsExecutable names) (own_kinds names checked whole place index next stmt)
@@ -169,7 +169,7 @@ module _ (names : List NameInfo) (checked : Bool) (arrays : List ℕ → Bool) w
   own whole place index next (SignIf e negative null positive) fits = one _ (asked e Integer fits.reads fits.known fits.kinds)
   own whole place index next (ThenIf' condition shape (more_of-Stmt stmt rest)) fits =
       let parts = and_parts (is_of_kind names Logical condition) (is_well_kinded names stmt) fits.kinds in
-      All-cons (IsExecutable names) _ (own_kinds names checked whole place (index + 1) next stmt) (asked condition Logical fits.reads.0 (front (IsKnown names) (names_in arrays condition) (appearing arrays stmt) fits.known) parts.0)
+      All-cons (IsExecutable names) _ (own_kinds names checked whole place (index + 1) next stmt) (asked condition Logical fits.reads.0 (prefix (IsKnown names) (names_in arrays condition) (appearing arrays stmt) fits.known) parts.0)
       (own whole place (index + 1) next stmt (record { reads = fits.reads.1; known = rear (IsKnown names) (names_in arrays condition) (appearing arrays stmt) fits.known; kinds = parts.1 }))
   own whole place index next (BlockIf condition) fits = one _ (asked condition Logical fits.reads fits.known fits.kinds)
   own whole place index next (ElseIf condition) fits = one _ (asked condition Logical fits.reads fits.known fits.kinds)
@@ -201,8 +201,8 @@ module _ (names : List NameInfo) (checked : Bool) (arrays : List ℕ → Bool) w
   at_statement : (whole : List Labelled) (place : ℕ) (s : Labelled) → All (λ s. Fits names arrays s.stmt) whole → Fits names arrays s.stmt → All (λ exec. IsExecutable names exec.kind) (executables_at names checked whole place s)
   at_statement whole place s all fits =
       All-map (λ (exec : Exec). IsExecutable names exec.kind) (λ (kind : ExecKind). record { line = s.line; kind = kind }) (kinds_at names checked whole place s)
-      (All-append (IsExecutable names) (own_kinds names checked whole place (first_of whole place) (behind whole place s) s.stmt) (increments names whole place (first_of whole place + own_executables s.stmt) (loops_to whole s.label))
-      (own whole place (first_of whole place) (behind whole place s) s.stmt fits)
+      (All-append (IsExecutable names) (own_kinds names checked whole place (first_of whole place) (beyond whole place s) s.stmt) (increments names whole place (first_of whole place + own_executables s.stmt) (loops_to whole s.label))
+      (own whole place (first_of whole place) (beyond whole place s) s.stmt fits)
       (all_increments whole s.label place (first_of whole place + own_executables s.stmt) (loops_to whole s.label) all (loops whole s.label)))
 
   if_any : (whole : List Labelled) (place : ℕ) → All (λ s. Fits names arrays s.stmt) whole → All (λ exec. IsExecutable names exec.kind) (executables_if_any names checked whole place (slice_get whole place))

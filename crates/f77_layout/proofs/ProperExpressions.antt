@@ -55,9 +55,9 @@ known_at (info ∷ names) (suc k) h = let lt = known_at names k h in omega (arit
 no_dims : (names : List NameInfo) (name : List ℕ) → is_array_in names name ≡ false → 0 ≡ length (dims_named names name)
 no_dims names name h = grind (arith, nat_tests)
 
-pub front : {A : Type 0} (P : A → Type 0) (xs ys : List A) → All P (xs ++ ys) → All P xs
-front P [] ys all = All-nil P
-front P (x ∷ xs) ys all = All-cons P x xs (All-head P x (xs ++ ys) all) (front P xs ys (All-tail P x (xs ++ ys) all))
+pub prefix : {A : Type 0} (P : A → Type 0) (xs ys : List A) → All P (xs ++ ys) → All P xs
+prefix P [] ys all = All-nil P
+prefix P (x ∷ xs) ys all = All-cons P x xs (All-head P x (xs ++ ys) all) (prefix P xs ys (All-tail P x (xs ++ ys) all))
 
 pub rear : {A : Type 0} (P : A → Type 0) (xs ys : List A) → All P (xs ++ ys) → All P ys
 rear P [] ys all = all
@@ -143,7 +143,7 @@ mutual
   resolved_row-AllOfKind names checked arrays (more_of-RawExpr e rest) kind is known well =
       let parts = and_parts (is_kind kind (kind_in names e)) (is_row_of names kind rest) well in
       All-cons (IsOfKind names kind) (resolved names checked e) (resolved_row names checked rest)
-      (resolved-IsOfKind names checked arrays e kind is.0 (front (IsKnown names) (names_in arrays e) (names_in_row arrays rest) known) (is_kind-some kind (kind_in names e) parts.0))
+      (resolved-IsOfKind names checked arrays e kind is.0 (prefix (IsKnown names) (names_in arrays e) (names_in_row arrays rest) known) (is_kind-some kind (kind_in names e) parts.0))
       (resolved_row-AllOfKind names checked arrays rest kind is.1 (rear (IsKnown names) (names_in arrays e) (names_in_row arrays rest) known) parts.1)
 
 -- an expression of the kind that its place asks for

@@ -15,9 +15,9 @@ use Rattle.f77_tree.specs.declared.statements.RawExpr.{RawExpr}
 use Rattle.f77_tree.specs.declared.statements.Stmt.{Stmt, more_of-Stmt}
 use Rattle.f77_tree.specs.declared.statements.Stmt.TheVariants.{Take, ThenIf', Do}
 use Rattle.f77_tree.proofs.AllLemmas.{All-get}
-use Rattle.f77_layout.specs.Faults.{first_behind, first_line}
+use Rattle.f77_layout.specs.Faults.{first_after, first_line}
 use Rattle.f77_layout.specs.Labels.{is_labelled_twice}
-use Rattle.f77_layout.specs.Executables.{own_executables, is_do_to, is_do_in, loops_to, first_of, behind, taking, own_kinds, increments, kinds_at, executables_at, executables_if_any, executables}
+use Rattle.f77_layout.specs.Executables.{own_executables, is_do_to, is_do_in, loops_to, first_of, beyond, taking, own_kinds, increments, kinds_at, executables_at, executables_if_any, executables}
 use Rattle.f77_layout.specs.Counts.{items_taken, asks_too_much}
 use Rattle.f77_layout.proofs.ProperStatements.{IsReadStatement, is_guarded}
 use Rattle.f77_layout.proofs.ProperSums.{sum_by-two, sum_by-constant, sum_by-places, sum_by-once, sum_by-nothing, one_if, length-kept}
@@ -56,11 +56,11 @@ stands_once label above s some once few =
         let here : one_if (label == s.label) ≡ 0 = ap one_if is in
         omega (arith, both, one, here)
 
-once_behind : (label : ℕ) (above stmts : List Labelled) → 0 < label → standings label above ≤ 1 → first_behind is_labelled_twice above stmts ≡ None → standings label (above ++ stmts) ≤ 1
-once_behind label above [] some few none = subst (λ (xs : List Labelled). standings label xs ≤ 1) (sym (append-nil above)) few
-once_behind label above (s ∷ rest) some few none = by (is_labelled_twice above s) refl none (once_behind label (above ++ s ∷ []) rest some)
+once_after : (label : ℕ) (above stmts : List Labelled) → 0 < label → standings label above ≤ 1 → first_after is_labelled_twice above stmts ≡ None → standings label (above ++ stmts) ≤ 1
+once_after label above [] some few none = subst (λ (xs : List Labelled). standings label xs ≤ 1) (sym (append-nil above)) few
+once_after label above (s ∷ rest) some few none = by (is_labelled_twice above s) refl none (once_after label (above ++ s ∷ []) rest some)
   where
-    by : (b : Bool) → is_labelled_twice above s ≡ b → (if b then Some s.line else first_behind is_labelled_twice (above ++ s ∷ []) rest) ≡ None → (standings label (above ++ s ∷ []) ≤ 1 → first_behind is_labelled_twice (above ++ s ∷ []) rest ≡ None → standings label ((above ++ s ∷ []) ++ rest) ≤ 1) → standings label (above ++ s ∷ rest) ≤ 1
+    by : (b : Bool) → is_labelled_twice above s ≡ b → (if b then Some s.line else first_after is_labelled_twice (above ++ s ∷ []) rest) ≡ None → (standings label (above ++ s ∷ []) ≤ 1 → first_after is_labelled_twice (above ++ s ∷ []) rest ≡ None → standings label ((above ++ s ∷ []) ++ rest) ≤ 1) → standings label (above ++ s ∷ rest) ≤ 1
     by true is none more = absurd cc
     by false is none more = subst (λ (xs : List Labelled). standings label xs ≤ 1) (append_assoc above (s ∷ []) rest) (more (stands_once label above s some is few) none)
 
@@ -82,7 +82,7 @@ module _ (names : List NameInfo) (checked : Bool) (whole : List Labelled) where
           subst (λ (o : Option Labelled). one_if (is_do_in label o) ≤ one_if (is_do_to label d.stmt)) (sym found) (omega arith)
 
   ends_once : (stmt : Stmt) → IsReadStatement stmt → first_line is_labelled_twice whole ≡ None → sum_by (λ s. one_if (is_do_to s.label stmt)) whole ≤ 1
-  ends_once (Do terminal variable first last step) reads none = once_behind terminal [] whole reads.3 (omega arith) none
+  ends_once (Do terminal variable first last step) reads none = once_after terminal [] whole reads.3 (omega arith) none
   ends_once _ reads none = let is = sum_by-nothing whole in omega (arith, is)
 
   -- each DO ends at one statement
@@ -117,11 +117,11 @@ module _ (names : List NameInfo) (checked : Bool) (whole : List Labelled) where
 
   length-at : (place : ℕ) (s : Labelled) → IsReadStatement s.stmt → length (executables_at names checked whole place s) ≤ 2 + items_taken s.stmt + length (loops_to whole s.label)
   length-at place s reads =
-      let own = own_kinds names checked whole place (first_of whole place) (behind whole place s) s.stmt in
+      let own = own_kinds names checked whole place (first_of whole place) (beyond whole place s) s.stmt in
       let ends = increments names whole place (first_of whole place + own_executables s.stmt) (loops_to whole s.label) in
       let mapped = length-map (kinds_at names checked whole place s) (λ (kind : ExecKind). let exec : Exec = record { line = s.line; kind = kind } in exec) in
       let both = length-append own ends in
-      let first = length-own place (first_of whole place) (behind whole place s) s.stmt reads in
+      let first = length-own place (first_of whole place) (beyond whole place s) s.stmt reads in
       let second = length-increments place (first_of whole place + own_executables s.stmt) (loops_to whole s.label) in
       omega (arith, mapped, both, first, second)
 

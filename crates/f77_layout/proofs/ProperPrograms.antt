@@ -14,7 +14,7 @@ use Rattle.f77_tree.specs.Control.{targets_of}
 use Rattle.f77_tree.specs.Operations.{HasFewOperations}
 use Rattle.f77_tree.specs.WellFormed.{IsExecutable}
 use Rattle.f77_layout.specs.Source.{IsSource}
-use Rattle.f77_layout.specs.Faults.{first_behind, first_line}
+use Rattle.f77_layout.specs.Faults.{first_after, first_line}
 use Rattle.f77_layout.specs.Declarations.{is_array}
 use Rattle.f77_layout.specs.Appearances.{appearing, with_name, all_names}
 use Rattle.f77_layout.specs.Types.{is_well_kinded}
@@ -24,7 +24,7 @@ use Rattle.f77_layout.specs.Counts.{asks_too_much}
 use Rattle.f77_layout.specs.Executables.{executables}
 use Rattle.f77_layout.specs.Layout.{name_info, names_of, placed_names, program}
 use Rattle.f77_layout.proofs.NameEntries.{bytes_eq-sym}
-use Rattle.f77_layout.proofs.ProperExpressions.{IsKnown, front, rear}
+use Rattle.f77_layout.proofs.ProperExpressions.{IsKnown, prefix, rear}
 use Rattle.f77_layout.proofs.ProperStatements.{given-IsReadStatement}
 use Rattle.f77_layout.proofs.ProperCounts.{executables-few_operations, executables-few_targets}
 use Rattle.f77_layout.proofs.ProperLengths.{executables-few}
@@ -34,11 +34,11 @@ use Rattle.f77_layout.proofs.ProperExecutables.{Fits, executables-AllExecutable}
 -- ---- statements without a fault
 
 -- what the absence of a fault gives holds of each statement
-pub all_without : (fault : List Labelled → Labelled → Bool) (P : Labelled → Type 0) → ((above : List Labelled) (s : Labelled) → fault above s ≡ false → P s) → (above stmts : List Labelled) → first_behind fault above stmts ≡ None → All P stmts
+pub all_without : (fault : List Labelled → Labelled → Bool) (P : Labelled → Type 0) → ((above : List Labelled) (s : Labelled) → fault above s ≡ false → P s) → (above stmts : List Labelled) → first_after fault above stmts ≡ None → All P stmts
 all_without fault P gives above [] none = All-nil P
 all_without fault P gives above (s ∷ rest) none = by (fault above s) refl none (all_without fault P gives (above ++ s ∷ []) rest)
   where
-    by : (b : Bool) → fault above s ≡ b → (if b then Some s.line else first_behind fault (above ++ s ∷ []) rest) ≡ None → (first_behind fault (above ++ s ∷ []) rest ≡ None → All P rest) → All P (s ∷ rest)
+    by : (b : Bool) → fault above s ≡ b → (if b then Some s.line else first_after fault (above ++ s ∷ []) rest) ≡ None → (first_after fault (above ++ s ∷ []) rest ≡ None → All P rest) → All P (s ∷ rest)
     by true is none more = absurd cc
     by false is none more = All-cons P s rest (gives above s is) (more none)
 
@@ -89,7 +89,7 @@ names_of-known whole k d lt = index_within whole (all_names whole) _ (all_there 
 
 each_part : {X A : Type 0} (P : A → Type 0) (f : X → List A) (xs : List X) → All P (flat_map f xs) → All (λ x. All P (f x)) xs
 each_part P f [] all = All-nil (λ x. All P (f x))
-each_part P f (x ∷ xs) all = All-cons (λ x. All P (f x)) x xs (front P (f x) (flat_map f xs) all) (each_part P f xs (rear P (f x) (flat_map f xs) all))
+each_part P f (x ∷ xs) all = All-cons (λ x. All P (f x)) x xs (prefix P (f x) (flat_map f xs) all) (each_part P f xs (rear P (f x) (flat_map f xs) all))
 
 -- ---- the whole
 

@@ -14,7 +14,7 @@ use Rattle.f77_tree.specs.declared.statements.Stmt.{Stmt, more_of-Stmt}
 use Rattle.f77_tree.specs.declared.statements.Stmt.TheVariants.{Assign, Print, Take, PickGoTo, SignIf, ThenIf, ThenIf', BlockIf, ElseIf, Do}
 use Rattle.f77_tree.specs.WellFormed.{IsText}
 use Rattle.f77_tree.specs.Grammar.{Written, reading, spelling, has_great_number, number_of}
-use Rattle.f77_tree.specs.StatementGrammar.{WrittenStatement, WrittenItem, Expression, Characters, PrintForm, Print_star, Write_star, Write_six, IsStatement, IsVariable, IsItem, IsStep, IsGiven, statement_of, statement_text, is_simple, has_bad_constant, is_bad_label, is_printable, item_of, item_text, item_is_great, step_of, step_is_great, print_text, behind_commas, with_commas, in_brackets, character_text, characters_text}
+use Rattle.f77_tree.specs.StatementGrammar.{WrittenStatement, WrittenItem, Expression, Characters, PrintForm, Print_star, Write_star, Write_six, IsStatement, IsVariable, IsItem, IsStep, IsGiven, statement_of, statement_text, is_simple, has_bad_constant, is_bad_label, is_printable, item_of, item_text, item_is_great, step_of, step_is_great, print_text, after_commas, with_commas, in_brackets, character_text, characters_text}
 use Rattle.f77_layout.proofs.ProperReading.{IsReading, reading-IsReading}
 
 -- ---- what a text gives
@@ -32,7 +32,7 @@ abbrev pub is_guarded : Stmt → Bool
 is_guarded (ThenIf' condition shape row) = true
 is_guarded _ = false
 
--- the parts of a statement that some text gives: a logical IF has no other behind its condition
+-- the parts of a statement that some text gives: a logical IF has no other after its condition
 abbrev pub IsReadStatement : Stmt → Type 0
 IsReadStatement (Assign target value) = IsReading target × IsReading value
 IsReadStatement (Print items) = All IsReadItem items
@@ -50,8 +50,8 @@ IsReadStatement _ = Unit {0}
 abbrev Shows : List ℕ → Type 0
 Shows text = list_all is_printable text ≡ true
 
-before_behind : (xs ys : List ℕ) → Shows (xs ++ ys) → Shows xs × Shows ys
-before_behind xs ys h = and_parts (list_all is_printable xs) (list_all is_printable ys) (sym (list_all-append is_printable xs ys) ∙ h)
+before_after : (xs ys : List ℕ) → Shows (xs ++ ys) → Shows xs × Shows ys
+before_after xs ys h = and_parts (list_all is_printable xs) (list_all is_printable ys) (sym (list_all-append is_printable xs ys) ∙ h)
 
 character : (c : ℕ) → Shows (character_text c) → (32 ≤ c) × (c ≤ 126)
 character c h = (grind (arith, nat_tests), grind (arith, nat_tests))
@@ -59,29 +59,29 @@ character c h = (grind (arith, nat_tests), grind (arith, nat_tests))
 characters : (cs : List ℕ) → Shows (flat_map character_text cs) → All (λ c. (32 ≤ c) × (c ≤ 126)) cs
 characters [] h = All-nil (λ c. (32 ≤ c) × (c ≤ 126))
 characters (c ∷ cs) h =
-    let parts = before_behind (character_text c) (flat_map character_text cs) h in
+    let parts = before_after (character_text c) (flat_map character_text cs) h in
     All-cons (λ c. (32 ≤ c) × (c ≤ 126)) c cs (character c parts.0) (characters cs parts.1)
 
 character_constant : (cs : List ℕ) → 1 ≤ length cs → Shows (characters_text cs) → IsText cs
 character_constant cs some h =
-    let inner = before_behind (flat_map character_text cs) (codes "'") h in
+    let inner = before_after (flat_map character_text cs) (codes "'") h in
     record { some = some; printable = characters cs inner.0 }
 
 with_commas_each : (texts : List (List ℕ)) → Shows (with_commas texts) → All Shows texts
 with_commas_each [] h = All-nil Shows
 with_commas_each (text ∷ []) h = All-cons Shows text [] h (All-nil Shows)
 with_commas_each (text ∷ next ∷ more) h =
-    let parts = before_behind (text ++ codes ",") (with_commas (next ∷ more)) h in
-    All-cons Shows text (next ∷ more) (before_behind text (codes ",") parts.0).0 (with_commas_each (next ∷ more) parts.1)
+    let parts = before_after (text ++ codes ",") (with_commas (next ∷ more)) h in
+    All-cons Shows text (next ∷ more) (before_after text (codes ",") parts.0).0 (with_commas_each (next ∷ more) parts.1)
 
-behind_commas_each : (texts : List (List ℕ)) → Shows (behind_commas texts) → All Shows texts
-behind_commas_each [] h = All-nil Shows
-behind_commas_each (text ∷ more) h =
-    let parts = before_behind text (behind_commas more) h in
-    All-cons Shows text more parts.0 (behind_commas_each more parts.1)
+after_commas_each : (texts : List (List ℕ)) → Shows (after_commas texts) → All Shows texts
+after_commas_each [] h = All-nil Shows
+after_commas_each (text ∷ more) h =
+    let parts = before_after text (after_commas more) h in
+    All-cons Shows text more parts.0 (after_commas_each more parts.1)
 
 printed_each : (form : PrintForm) (texts : List (List ℕ)) → Shows (print_text form texts) → All Shows texts
-printed_each Print_star texts h = behind_commas_each texts h
+printed_each Print_star texts h = after_commas_each texts h
 printed_each Write_star texts h = with_commas_each texts h
 printed_each Write_six texts h = with_commas_each texts h
 
@@ -120,10 +120,10 @@ simple_unguarded _ h = refl
 
 read_if : (condition : RawExpr) (stmt : Stmt) → IsReading condition → IsReadStatement stmt → is_guarded stmt ≡ false → IsReadStatement (ThenIf condition stmt)
 unfolding Rattle.f77_tree.specs.declared.statements.Stmt.TheBlock.hidden-the_row-Stmt-0 denote.Hole.Carrier.hidden
-read_if condition stmt reads behind unguarded = (reads, behind, unguarded)
+read_if condition stmt reads beyond unguarded = (reads, beyond, unguarded)
 
-behind_condition : (w s : List ℕ) → Shows (codes "IF" ++ in_brackets w ++ s) → Shows s
-behind_condition w s h = (before_behind (in_brackets w) s h).1
+after_condition : (w s : List ℕ) → Shows (codes "IF" ++ in_brackets w ++ s) → Shows s
+after_condition w s h = (before_after (in_brackets w) s h).1
 
 read_statement : (w : WrittenStatement) → IsStatement w → has_bad_constant w ≡ false → Shows (statement_text w) → IsReadStatement (statement_of w)
 read_statement (WrittenStatement.assignment target value) is few shown =
@@ -141,7 +141,7 @@ read_statement (WrittenStatement.arithmetic_if w negative zero positive) is few 
     reading-IsReading w is.0 parts.0
 read_statement (WrittenStatement.logical_if w s) is few shown =
     let parts = or_parts (has_great_number w) (has_bad_constant s) few in
-    read_if (reading w) (statement_of s) (reading-IsReading w is.0 parts.0) (read_statement s is.1 parts.1 (behind_condition (spelling w) (statement_text s) shown)) (simple_unguarded s is.2)
+    read_if (reading w) (statement_of s) (reading-IsReading w is.0 parts.0) (read_statement s is.1 parts.1 (after_condition (spelling w) (statement_text s) shown)) (simple_unguarded s is.2)
 read_statement (WrittenStatement.block_if w) is few shown = reading-IsReading w is few
 read_statement (WrittenStatement.else_if w) is few shown = reading-IsReading w is few
 read_statement (WrittenStatement.do_loop label comma variable first last step) is few shown =

@@ -1,4 +1,4 @@
--- What the ranks of statements say of the order of those behind them.
+-- What the ranks of statements say of the order of those after them.
 use Rattle.std.proofs.Common.{◌≡◌, ℕ, ◌+◌, ◌<◌, ◌≤◌, Bool, false, ◌&&◌, ◌||◌, ◌==◌, List, length, take, get_or, arith}
 use Rattle.std.specs.Prelude.{nat_lt}
 use Rattle.std.specs.List.{list_any}

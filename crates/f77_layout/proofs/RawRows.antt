@@ -11,7 +11,7 @@ use Rattle.f77_tree.specs.Kinds.{operand_kind}
 use Rattle.f77_tree.specs.Line.{kind_of_op}
 use Rattle.f77_layout.specs.Types.{kind_in, is_row_of, is_of_kind, count_of_row, kind_of_call}
 
--- the row behind a list of operands, arguments or subscripts
+-- the row after a list of operands, arguments or subscripts
 abbrev pub row_of : RawExpr → (n : Count) × Row_of-RawExpr n
 row_of (Call' _ _ row) = (_, row)
 row_of (Apply' _ _ row) = (_, row)

@@ -130,14 +130,14 @@ module _ (names : List NameInfo) (spots : List Spot) (lowest : AreLowest spots) 
       (λ e.
       let own = is.least storage_of in_spots (sym (lowest.itself r known)) in
       let zero_there = lowest.begins r known in
-      omega (arith, ints, begin.there.behind))
+      omega (arith, ints, begin.there.beyond))
       (λ w.
       let spot = w.2 (spot_at spots w.0) in
       let at = spot_at-get spots w.0 (spot_at spots w.0) w.1 in
       let same : storage_of ≡ storage_at spots w.0 = sym spot.0 ∙ ap (λ (s : Spot). s.storage) (sym at) in
       let mine : (get_or spots w.0 (spot_at spots w.0)).distance ≡ distance_at spots w.0 = ap (λ (s : Spot). s.distance) (sym at) in
       let own = is.least w.0 w.1 same in
-      omega (arith, ints, begin.there.behind, spot.1))
+      omega (arith, ints, begin.there.beyond, spot.1))
       l.one
 
   pub high-is : high_of names spots storage_of ≡ distance_at spots r +ℤ span.high
@@ -164,7 +164,7 @@ module _ (names : List NameInfo) (spots : List Spot) (lowest : AreLowest spots) 
   pub place-is : (x : ℕ) (d : ℤ) → IsBelow spots x r d → nat_abs ((spot_at spots x).distance -ℤ low_of spots (spot_at spots x).storage) ≡ nat_abs (d -ℤ span.low)
   place-is x d below =
       let low : low_of spots (spot_at spots x).storage ≡ low_of spots storage_of = ap (low_of spots) (sym below.together) in
-      let e : (spot_at spots x).distance -ℤ low_of spots (spot_at spots x).storage ≡ d -ℤ span.low = omega (arith, ints, low-is, below.behind) in
+      let e : (spot_at spots x).distance -ℤ low_of spots (spot_at spots x).storage ≡ d -ℤ span.low = omega (arith, ints, low-is, below.beyond) in
       ap nat_abs e
 
 -- ---- a storage has few words for each of its names

@@ -23,8 +23,8 @@ module _ {A : Type 0} (same : A → A → Bool) (seen items first rest : List A)
   repeats_within there = ap (has_repeat same seen) is ∙ has_repeat-append same seen first rest ∙ ap (λ b. b || has_repeat same (seen ++ first) rest) there
 
   -- none of them does
-  pub repeats_behind : has_repeat same seen first ≡ false → has_repeat same seen items ≡ has_repeat same (seen ++ first) rest
-  repeats_behind absent = ap (has_repeat same seen) is ∙ has_repeat-append same seen first rest ∙ ap (λ b. b || has_repeat same (seen ++ first) rest) absent
+  pub repeats_after : has_repeat same seen first ≡ false → has_repeat same seen items ≡ has_repeat same (seen ++ first) rest
+  repeats_after absent = ap (has_repeat same seen) is ∙ has_repeat-append same seen first rest ∙ ap (λ b. b || has_repeat same (seen ++ first) rest) absent
 
   pub more_of_them : (seen ++ first) ++ rest ≡ seen ++ items
   more_of_them = append_assoc seen first rest ∙ ap (λ xs. seen ++ xs) (sym is)

@@ -12,14 +12,14 @@ use Rattle.f77_tree.specs.declared.statements.Labelled.{Labelled}
 use Rattle.f77_tree.specs.declared.statements.Stmt.{Stmt}
 use Rattle.f77_tree.specs.declared.statements.Stmt.TheVariants.{Init}
 use Rattle.f77_tree.specs.InitialWords.{part_words}
-use Rattle.f77_layout.specs.Faults.{first_line, first_behind}
+use Rattle.f77_layout.specs.Faults.{first_line, first_after}
 use Rattle.f77_layout.specs.Declarations.{all_inits, inits_of}
 use Rattle.f77_layout.specs.Storage.{Spot, place_of}
 use Rattle.f77_layout.specs.StorageFaults.{is_member, members_of, has_wrong_dims, has_wrong_member, is_wrong_part, has_wrong_part, has_dims_twice, is_common_twice, has_wrong_declaration, has_wrong_places, has_wrong_data, has_wrong_storage}
 use Rattle.f77_layout.specs.Layout.{names_of, spots_of, placed_from, placed_names}
 use Rattle.f77_layout.specs.PlacedNames.{with_places, HasRightDims}
 use Rattle.f77_layout.proofs.FlatParts.{list_any-flat_map}
-use Rattle.f77_layout.proofs.StorageLines.{behind_clear, behind_next, dims_clear, right_sizes}
+use Rattle.f77_layout.proofs.StorageLines.{after_clear, after_next, dims_clear, right_sizes}
 
 -- ---- the table of names with the places that storages give
 
@@ -64,42 +64,42 @@ module _ (names placed : List NameInfo) (whole : List Labelled) where
   right_data : (above : List Labelled) (s : Labelled) → fault above s ≡ false → has_wrong_data placed above s ≡ false
   right_data above s clear = (or_parts (has_wrong_declaration names above s || has_wrong_places names whole above s) (has_wrong_data placed above s) clear).1
 
-  dims_behind : (above stmts : List Labelled) → first_behind fault above stmts ≡ None → list_any has_wrong_dims stmts ≡ false
-  dims_behind above [] right = refl
-  dims_behind above (s ∷ rest) right =
-      let clear = behind_clear fault above rest s right in
-      or_from (has_wrong_dims s) (list_any has_wrong_dims rest) (dims_clear names above s (right_declaration above s clear)) (dims_behind (above ++ s ∷ []) rest (sym (behind_next fault above rest s clear) ∙ right))
+  dims_after : (above stmts : List Labelled) → first_after fault above stmts ≡ None → list_any has_wrong_dims stmts ≡ false
+  dims_after above [] right = refl
+  dims_after above (s ∷ rest) right =
+      let clear = after_clear fault above rest s right in
+      or_from (has_wrong_dims s) (list_any has_wrong_dims rest) (dims_clear names above s (right_declaration above s clear)) (dims_after (above ++ s ∷ []) rest (sym (after_next fault above rest s clear) ∙ right))
 
-  items_behind : (above stmts : List Labelled) → first_behind fault above stmts ≡ None → list_any (λ part. list_any (is_wrong_member names) part.items) (all_inits stmts) ≡ false
-  items_behind above [] right = refl
-  items_behind above (s ∷ rest) right =
-      let clear = behind_clear fault above rest s right in
+  items_after : (above stmts : List Labelled) → first_after fault above stmts ≡ None → list_any (λ part. list_any (is_wrong_member names) part.items) (all_inits stmts) ≡ false
+  items_after above [] right = refl
+  items_after above (s ∷ rest) right =
+      let clear = after_clear fault above rest s right in
       let member = (or_parts (has_dims_twice above s || has_wrong_dims s || is_common_twice above s) (has_wrong_member names s) (right_declaration above s clear)).1 in
       list_any-append (λ (part : InitPart). list_any (is_wrong_member names) part.items) (inits_of s.stmt) (all_inits rest)
-      ∙ or_from (list_any (λ part. list_any (is_wrong_member names) part.items) (inits_of s.stmt)) (list_any (λ part. list_any (is_wrong_member names) part.items) (all_inits rest)) (no_wrong_item names s member) (items_behind (above ++ s ∷ []) rest (sym (behind_next fault above rest s clear) ∙ right))
+      ∙ or_from (list_any (λ part. list_any (is_wrong_member names) part.items) (inits_of s.stmt)) (list_any (λ part. list_any (is_wrong_member names) part.items) (all_inits rest)) (no_wrong_item names s member) (items_after (above ++ s ∷ []) rest (sym (after_next fault above rest s clear) ∙ right))
 
   all_inits-push : (above : List Labelled) (s : Labelled) → all_inits (above ++ s ∷ []) ≡ all_inits above ++ inits_of s.stmt
   all_inits-push above s = flat_map-append (λ (t : Labelled). inits_of t.stmt) above (s ∷ []) ∙ ap (λ (parts : List InitPart). all_inits above ++ parts) (append-nil (inits_of s.stmt))
 
-  data_behind : (above stmts : List Labelled) → first_behind fault above stmts ≡ None → has_wrong_part placed (flat_map (part_words placed) (all_inits above)) (all_inits stmts) ≡ false
-  data_behind above [] right = refl
-  data_behind above (s ∷ rest) right =
-      let clear = behind_clear fault above rest s right in
+  data_after : (above stmts : List Labelled) → first_after fault above stmts ≡ None → has_wrong_part placed (flat_map (part_words placed) (all_inits above)) (all_inits stmts) ≡ false
+  data_after above [] right = refl
+  data_after above (s ∷ rest) right =
+      let clear = after_clear fault above rest s right in
       let words = flat_map (part_words placed) (all_inits above) in
       let here : has_wrong_part placed words (inits_of s.stmt) ≡ false = right_data above s clear in
-      let later = data_behind (above ++ s ∷ []) rest (sym (behind_next fault above rest s clear) ∙ right) in
+      let later = data_after (above ++ s ∷ []) rest (sym (after_next fault above rest s clear) ∙ right) in
       let same : flat_map (part_words placed) (all_inits (above ++ s ∷ [])) ≡ words ++ flat_map (part_words placed) (inits_of s.stmt) = ap (λ (parts : List InitPart). flat_map (part_words placed) parts) (all_inits-push above s) ∙ flat_map-append (part_words placed) (all_inits above) (inits_of s.stmt) in
       has_wrong_part-append placed words (inits_of s.stmt) (all_inits rest)
       ∙ or_from (has_wrong_part placed words (inits_of s.stmt)) (has_wrong_part placed (words ++ flat_map (part_words placed) (inits_of s.stmt)) (all_inits rest)) here (ap (λ (ws : List ℕ). has_wrong_part placed ws (all_inits rest)) (sym same) ∙ later)
 
 -- the dimensions of all names are right
 pub right_dims_of : (names placed : List NameInfo) (stmts : List Labelled) → first_line (has_wrong_storage names placed stmts) stmts ≡ None → All HasRightDims (names_of stmts)
-right_dims_of names placed stmts right = right_sizes stmts (dims_behind names placed stmts [] stmts right)
+right_dims_of names placed stmts right = right_sizes stmts (dims_after names placed stmts [] stmts right)
 
 -- each item of DATA is a name or an element
 pub right_items_of : (names placed : List NameInfo) (stmts : List Labelled) → first_line (has_wrong_storage names placed stmts) stmts ≡ None → list_any (λ part. list_any (λ member. not (is_member names member)) part.items) (all_inits stmts) ≡ false
-right_items_of names placed stmts right = items_behind names placed stmts [] stmts right
+right_items_of names placed stmts right = items_after names placed stmts [] stmts right
 
 -- the values of DATA fit its items, and no word has two
 pub right_data_of : (names placed : List NameInfo) (stmts : List Labelled) → first_line (has_wrong_storage names placed stmts) stmts ≡ None → has_wrong_part placed [] (all_inits stmts) ≡ false
-right_data_of names placed stmts right = data_behind names placed stmts [] stmts right
+right_data_of names placed stmts right = data_after names placed stmts [] stmts right

@@ -120,8 +120,8 @@ pub target_of : (stmts : List Labelled) → first_line is_labelled_twice stmts �
 target_of stmts once label borne =
     let found = any-exists (bears label) stmts borne.1 in
     let parts = and_parts ((found.item.label == label) && is_executable found.item.stmt) (not (is_arm found.item.stmt)) found.is in
-    let front = and_parts (found.item.label == label) (is_executable found.item.stmt) parts.0 in
-    let place = place-own stmts once label borne.0.0 found.place found.item found.stands (eqb-true found.item.label label front.0) in
+    let prefix = and_parts (found.item.label == label) (is_executable found.item.stmt) parts.0 in
+    let place = place-own stmts once label borne.0.0 found.place found.item found.stands (eqb-true found.item.label label prefix.0) in
     record { s = found.item; stands = ap (slice_get stmts) place ∙ found.stands; no_arm = not-true (is_arm found.item.stmt) parts.1 }
 
 pub Target-inside : (stmts : List Labelled) (label : ℕ) → Target stmts label → statement_of stmts label < length stmts

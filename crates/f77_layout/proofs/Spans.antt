@@ -54,14 +54,14 @@ module _ (names : List NameInfo) (nodes : List Node) (spots : List Spot) (forest
         low = omega (arith, ints, is.low);
         high = omega (arith, ints, is.high);
         least = λ y i same. ⊎_elim
-            (λ (e : y ≡ k). let here : distance_at spots y ≡ distance_at spots k = ap (λ z. distance_at spots z) e in omega (arith, ints, there.behind))
+            (λ (e : y ≡ k). let here : distance_at spots y ≡ distance_at spots k = ap (λ z. distance_at spots z) e in omega (arith, ints, there.beyond))
             (λ ne. omega (arith, ints, is.least y (omega (arith, ne)) same))
             (cases_eq y k);
         greatest = λ y i same. ⊎_elim
             (λ (e : y ≡ k).
             let here : distance_at spots y ≡ distance_at spots k = ap (λ z. distance_at spots z) e in
             let size : size_at names y ≡ size_at names k = ap (λ z. size_at names z) e in
-            omega (arith, ints, there.behind))
+            omega (arith, ints, there.beyond))
             (λ ne. omega (arith, ints, is.greatest y (omega (arith, ne)) same))
             (cases_eq y k);
         begins = ⊎_elim
@@ -70,7 +70,7 @@ module _ (names : List NameInfo) (nodes : List Node) (spots : List Spot) (forest
             lows.2;
         ends = ⊎_elim
             (λ e. subst (λ (z : ℤ). (z ≡ pos 0) ⊎ IsEnd names spots r z) (sym e) is.ends)
-            (λ e. subst (λ (z : ℤ). (z ≡ pos 0) ⊎ IsEnd names spots r z) (sym e) (inr (record { name = k; known = lt; together = there.together; there = omega (arith, ints, there.behind) })))
+            (λ e. subst (λ (z : ℤ). (z ≡ pos 0) ⊎ IsEnd names spots r z) (sym e) (inr (record { name = k; known = lt; together = there.together; there = omega (arith, ints, there.beyond) })))
             highs.2;
       }
 

@@ -9,7 +9,7 @@ use Rattle.std.proofs.lemmas.List.Elements.{Contains-append_cases}
 use Rattle.f77_tree.specs.declared.programs.NameInfo.{NameInfo}
 use Rattle.f77_tree.specs.Places.{same_block}
 use Rattle.f77_layout.specs.Storage.{Standing, with_standing, last_standing, following, standing_equations}
-use Rattle.f77_layout.specs.Standings.{firsts_behind}
+use Rattle.f77_layout.specs.Standings.{firsts_after}
 
 pub equations-push : (names : List NameInfo) (seen xs : List Standing) (s : Standing) → standing_equations names seen (xs ++ s ∷ []) ≡ standing_equations names seen xs ++ following names (last_standing s.block (seen ++ xs)) s.name
 equations-push names seen [] s = append-nil (following names (last_standing s.block seen) s.name) ∙ ap (λ ys. following names (last_standing s.block ys) s.name) (sym (append-nil seen))
@@ -22,13 +22,13 @@ equations-push names seen (x ∷ xs) s =
 abbrev first_if : List Standing → Standing → List ℕ
 first_if seen s = if list_any (λ a. same_block a.block s.block) seen then [] else s.name ∷ []
 
-pub firsts-push : (seen xs : List Standing) (s : Standing) → firsts_behind seen (xs ++ s ∷ []) ≡ firsts_behind seen xs ++ first_if (seen ++ xs) s
+pub firsts-push : (seen xs : List Standing) (s : Standing) → firsts_after seen (xs ++ s ∷ []) ≡ firsts_after seen xs ++ first_if (seen ++ xs) s
 firsts-push seen [] s = append-nil (first_if seen s) ∙ ap (λ ys. first_if ys s) (sym (append-nil seen))
 firsts-push seen (x ∷ xs) s =
     let here = first_if seen x in
     ap (λ ys. here ++ ys) (firsts-push (seen ++ x ∷ []) xs s)
-    ∙ sym (append_assoc here (firsts_behind (seen ++ x ∷ []) xs) (first_if ((seen ++ x ∷ []) ++ xs) s))
-    ∙ ap (λ ys. (here ++ firsts_behind (seen ++ x ∷ []) xs) ++ first_if ys s) (append_assoc seen (x ∷ []) xs)
+    ∙ sym (append_assoc here (firsts_after (seen ++ x ∷ []) xs) (first_if ((seen ++ x ∷ []) ++ xs) s))
+    ∙ ap (λ ys. (here ++ firsts_after (seen ++ x ∷ []) xs) ++ first_if ys s) (append_assoc seen (x ∷ []) xs)
 
 abbrev later : Option (List ℕ) → Option ℕ → Standing → Option ℕ
 later block last s = if same_block s.block block then Some s.name else last
@@ -71,13 +71,13 @@ any-push k (x ∷ xs) s = ap (λ b. (x.name == k) || b) (any-push k xs s) ∙ or
     or-assoc false b c = refl
 
 -- a first name stands in COMMON
-pub firsts-stand : (seen xs : List Standing) (k : ℕ) → Contains (firsts_behind seen xs) k → list_any (λ a. a.name == k) xs ≡ true
+pub firsts-stand : (seen xs : List Standing) (k : ℕ) → Contains (firsts_after seen xs) k → list_any (λ a. a.name == k) xs ≡ true
 firsts-stand seen [] k h = absurd (omega (arith, h.1))
 firsts-stand seen (x ∷ xs) k h =
     ⊎_elim
     (λ here. or_left (x.name == k) (list_any (λ a. a.name == k) xs) (first-stands (list_any (λ a. same_block a.block x.block) seen) here))
     (λ there. or_right (x.name == k) (list_any (λ a. a.name == k) xs) (firsts-stand (seen ++ x ∷ []) xs k there))
-    (Contains-append_cases (first_if seen x) (firsts_behind (seen ++ x ∷ []) xs) k h)
+    (Contains-append_cases (first_if seen x) (firsts_after (seen ++ x ∷ []) xs) k h)
   where
     first-stands : (b : Bool) → Contains (cond b [] (x.name ∷ [])) k → (x.name == k) ≡ true
     first-stands true c = absurd (omega (arith, c.1))

@@ -1,4 +1,4 @@
--- Kinds of statements behind a condition.
+-- Kinds of statements after a condition.
 use Rattle.std.proofs.Common.{◌≡◌, ◌&&◌, List, refl}
 use Rattle.f77_tree.specs.declared.declarations.Kind.TheVariants.{Logical}
 use Rattle.f77_tree.specs.declared.programs.NameInfo.{NameInfo}

@@ -19,7 +19,7 @@ use Rattle.f77_layout.specs.Counted.{counted}
 use Rattle.f77_layout.specs.Counts.{asks_too_much, labels_picked, items_taken}
 use Rattle.f77_layout.specs.Types.{kind_in}
 use Rattle.f77_layout.specs.Resolved.{resolved, resolved_item, access_of}
-use Rattle.f77_layout.specs.Executables.{kind_or_integer, own_kinds, own_executables, taking, increments, loops_to, first_of, behind, at_line, executables_at}
+use Rattle.f77_layout.specs.Executables.{kind_or_integer, own_kinds, own_executables, taking, increments, loops_to, first_of, beyond, at_line, executables_at}
 use Rattle.f77_layout.specs.OwnOperations.{own_operations, target_operations}
 
 -- the sum over what a function makes
@@ -72,11 +72,11 @@ module _ (names : List NameInfo) (checked : Bool) (whole : List Labelled) (place
 
 pub statement-operations : (names : List NameInfo) (checked : Bool) (whole : List Labelled) (place : ℕ) (s : Labelled) → statement_operations (executables_at names checked whole place s) ≡ own_operations names checked s.stmt
 statement-operations names checked whole place s =
-    let own = own_kinds names checked whole place (first_of whole place) (behind whole place s) s.stmt in
+    let own = own_kinds names checked whole place (first_of whole place) (beyond whole place s) s.stmt in
     let ends = increments names whole place (first_of whole place + own_executables s.stmt) (loops_to whole s.label) in
     let more = asked-append s.line own ends in
     let none = asked-increments names checked whole place s.line (first_of whole place + own_executables s.stmt) (loops_to whole s.label) in
-    let all = asked-own names checked whole place s.line (first_of whole place) (behind whole place s) s.stmt in
+    let all = asked-own names checked whole place s.line (first_of whole place) (beyond whole place s) s.stmt in
     omega (arith, more, none, all)
 
 -- ---- whether a statement asks too much, by counts of 32 bits

@@ -7,7 +7,7 @@ use Rattle.f77_layout.specs.declared.roles.Role.{Role}
 use Rattle.f77_layout.specs.declared.roles.Role.TheVariants.{BeginBlock, NextArm, LastArm, EndBlock}
 use Rattle.f77_layout.specs.Roles.{role_of}
 use Rattle.f77_layout.specs.BlockEnds.{begins_block, ends_block, turns_arm, end_by}
-use Rattle.f77_layout.specs.Jumps.{is_block_if, is_end_if, end_behind}
+use Rattle.f77_layout.specs.Jumps.{is_block_if, is_end_if, end_after}
 use Rattle.f77_layout.specs.Labels.{is_arm}
 use Rattle.f77_layout.proofs.RoleLemmas.{is_block_if-role, is_end_if-role, is_arm-role}
 
@@ -19,14 +19,14 @@ drop_here [] i x h = let e : None ≡ Some x = h in absurd cc
 drop_here (y ∷ ys) zero x h = let e : y ≡ x = cc in ap (λ z. z ∷ ys) e
 drop_here (y ∷ ys) (suc i) x h = drop_here ys i x h ∙ ap (λ n. x ∷ drop n (y ∷ ys)) (sym (suc_more i))
 
--- what ends under `inner` blocks at this place or behind it
+-- what ends under `inner` blocks at this place or after it
 abbrev pub end_at : Bool → List Labelled → (place inner : ℕ) → ℕ
-end_at arms stmts place inner = end_behind arms inner (drop place stmts) place
+end_at arms stmts place inner = end_after arms inner (drop place stmts) place
 
 pub end_at-step : (arms : Bool) (stmts : List Labelled) (i : ℕ) (s : Labelled) → slice_get stmts i ≡ Some s → (k : ℕ) → end_at arms stmts i k ≡ end_by arms (role_of s.stmt) i (end_at arms stmts (i + 1)) k
 end_at-step arms stmts i s h k =
     let next = end_at arms stmts (i + 1) in
-    ap (λ (xs : List Labelled). end_behind arms k xs i) (drop_here stmts i s h)
+    ap (λ (xs : List Labelled). end_after arms k xs i) (drop_here stmts i s h)
     ∙ ap (λ (b : Bool). if b then next (k + 1) else if (k == 0) && (is_end_if s.stmt || (arms && is_arm s.stmt)) then i else if is_end_if s.stmt then next (k - 1) else next k) (is_block_if-role s.stmt)
     ∙ ap (λ (b : Bool). if begins_block (role_of s.stmt) then next (k + 1) else if (k == 0) && (b || (arms && is_arm s.stmt)) then i else if b then next (k - 1) else next k) (is_end_if-role s.stmt)
     ∙ ap (λ (b : Bool). if begins_block (role_of s.stmt) then next (k + 1) else if (k == 0) && (ends_block (role_of s.stmt) || (arms && b)) then i else if ends_block (role_of s.stmt) then next (k - 1) else next k) (is_arm-role s.stmt)
@@ -82,13 +82,13 @@ choice : (b : Bool) (x y n : ℕ) → x ≤ n → y ≤ n → (if b then x else 
 choice true x y n a b = a
 choice false x y n a b = b
 
-end_behind-le : (arms : Bool) (inner : ℕ) (stmts : List Labelled) (place : ℕ) → end_behind arms inner stmts place ≤ place + length stmts
-end_behind-le arms inner [] place = omega arith
-end_behind-le arms inner (s ∷ rest) place =
-    let deeper = end_behind-le arms (inner + 1) rest (place + 1) in
-    let higher = end_behind-le arms (inner - 1) rest (place + 1) in
-    let level = end_behind-le arms inner rest (place + 1) in
+end_after-le : (arms : Bool) (inner : ℕ) (stmts : List Labelled) (place : ℕ) → end_after arms inner stmts place ≤ place + length stmts
+end_after-le arms inner [] place = omega arith
+end_after-le arms inner (s ∷ rest) place =
+    let deeper = end_after-le arms (inner + 1) rest (place + 1) in
+    let higher = end_after-le arms (inner - 1) rest (place + 1) in
+    let level = end_after-le arms inner rest (place + 1) in
     choice (is_block_if s.stmt) _ _ (place + suc (length rest)) (omega (arith, deeper)) (choice ((inner == 0) && (is_end_if s.stmt || (arms && is_arm s.stmt))) _ _ (place + suc (length rest)) (omega arith) (choice (is_end_if s.stmt) _ _ (place + suc (length rest)) (omega (arith, higher)) (omega (arith, level))))
 
 pub end_at-le : (arms : Bool) (stmts : List Labelled) (place inner : ℕ) → place ≤ length stmts → end_at arms stmts place inner ≤ length stmts
-end_at-le arms stmts place inner le = let h = end_behind-le arms inner (drop place stmts) place in omega (arith, h, le, length-drop {A = Labelled} place stmts)
+end_at-le arms stmts place inner le = let h = end_after-le arms inner (drop place stmts) place in omega (arith, h, le, length-drop {A = Labelled} place stmts)

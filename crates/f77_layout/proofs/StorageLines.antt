@@ -11,7 +11,7 @@ use Rattle.f77_tree.specs.InitialWords.{part_words}
 use Rattle.f77_tree.specs.declared.statements.Labelled.{Labelled}
 use Rattle.f77_tree.specs.declared.statements.Stmt.{Stmt}
 use Rattle.f77_tree.specs.declared.statements.Stmt.TheVariants.{TypeOf, Dimension, Common, Equivalence, Init}
-use Rattle.f77_layout.specs.Faults.{first_line, first_behind, first_answer, answer_or}
+use Rattle.f77_layout.specs.Faults.{first_line, first_after, first_answer, answer_or}
 use Rattle.f77_layout.specs.Declarations.{declarators, all_declarators, has_dims, dims_told, dims_or_none, all_groups, groups_of, all_inits, inits_of}
 use Rattle.f77_layout.specs.Order.{rank, is_out_of_order}
 use Rattle.f77_layout.specs.StorageFaults.{is_equivalence, is_data, are_wrong_dims, has_dims_twice, is_common_twice, has_wrong_member, gives_places, has_wrong_dims, has_wrong_declaration, has_wrong_places, has_wrong_part, has_wrong_data, has_wrong_storage}
@@ -25,18 +25,18 @@ Fault = List Labelled → Labelled → Bool
 
 -- ---- a statement without the fault, and one with it
 
-pub behind_clear : (fault : Fault) (above rest : List Labelled) (s : Labelled) → first_behind fault above (s ∷ rest) ≡ None → fault above s ≡ false
-behind_clear fault above rest s none =
+pub after_clear : (fault : Fault) (above rest : List Labelled) (s : Labelled) → first_after fault above (s ∷ rest) ≡ None → fault above s ≡ false
+after_clear fault above rest s none =
     ⊎_elim
-    (λ (is : fault above s ≡ true). let some : first_behind fault above (s ∷ rest) ≡ Some s.line = rw is refl in cc)
+    (λ (is : fault above s ≡ true). let some : first_after fault above (s ∷ rest) ≡ Some s.line = rw is refl in cc)
     (λ (is : fault above s ≡ false). is)
     (cases_Bool (fault above s))
 
-pub behind_next : (fault : Fault) (above rest : List Labelled) (s : Labelled) → fault above s ≡ false → first_behind fault above (s ∷ rest) ≡ first_behind fault (above ++ s ∷ []) rest
-behind_next fault above rest s clear = rw clear refl
+pub after_next : (fault : Fault) (above rest : List Labelled) (s : Labelled) → fault above s ≡ false → first_after fault above (s ∷ rest) ≡ first_after fault (above ++ s ∷ []) rest
+after_next fault above rest s clear = rw clear refl
 
-pub behind_here : (fault : Fault) (above rest : List Labelled) (s : Labelled) → fault above s ≡ true → first_behind fault above (s ∷ rest) ≡ Some s.line
-behind_here fault above rest s is = rw is refl
+pub after_here : (fault : Fault) (above rest : List Labelled) (s : Labelled) → fault above s ≡ true → first_after fault above (s ∷ rest) ≡ Some s.line
+after_here fault above rest s is = rw is refl
 
 -- ---- faults of two kinds
 
@@ -54,21 +54,21 @@ record IsFound (stmts : List Labelled) (line : ℕ) : Type 0 where
   stands : slice_get stmts place ≡ Some stmt
   same : line ≡ stmt.line
 
-found : (fault : Fault) (above stmts : List Labelled) (line : ℕ) → first_behind fault above stmts ≡ Some line → IsFound stmts line
+found : (fault : Fault) (above stmts : List Labelled) (line : ℕ) → first_after fault above stmts ≡ Some line → IsFound stmts line
 found fault above [] line is = absurd cc
 found fault above (s ∷ rest) line is =
     ⊎_elim
     (λ (here : fault above s ≡ true).
-    let one : Some s.line ≡ Some line = sym (behind_here fault above rest s here) ∙ is in
+    let one : Some s.line ≡ Some line = sym (after_here fault above rest s here) ∙ is in
     let same : line ≡ s.line = cc in
     record { place = 0; stmt = s; stands = refl; same = same })
     (λ (clear : fault above s ≡ false).
-    let later = found fault (above ++ s ∷ []) rest line (sym (behind_next fault above rest s clear) ∙ is) in
+    let later = found fault (above ++ s ∷ []) rest line (sym (after_next fault above rest s clear) ∙ is) in
     record { place = suc later.place; stmt = later.stmt; stands = later.stands; same = later.same })
     (cases_Bool (fault above s))
 
 -- a line found below a statement is greater
-found_below : (fault : Fault) (above rest : List Labelled) (s : Labelled) (line : ℕ) → Rising (s ∷ rest) → first_behind fault above rest ≡ Some line → s.line < line
+found_below : (fault : Fault) (above rest : List Labelled) (s : Labelled) (line : ℕ) → Rising (s ∷ rest) → first_after fault above rest ≡ Some line → s.line < line
 found_below fault above rest s line rising is =
     let at = found fault above rest line is in
     let lt : s.line < at.stmt.line = rising 0 (suc at.place) s at.stmt refl at.stands (omega arith) in
@@ -86,32 +86,32 @@ lower-above : (a b : ℕ) → a < b → a ≡ lower (Some a) b
 lower-above a b lt = omega arith
 
 module _ (f g h : Fault) (union : (above : List Labelled) (s : Labelled) → h above s ≡ (f above s || g above s)) where
-  pub first_union : (above stmts : List Labelled) (b : ℕ) → Rising stmts → first_behind g above stmts ≡ Some b → first_behind h above stmts ≡ Some (lower (first_behind f above stmts) b)
+  pub first_union : (above stmts : List Labelled) (b : ℕ) → Rising stmts → first_after g above stmts ≡ Some b → first_after h above stmts ≡ Some (lower (first_after f above stmts) b)
   first_union above [] b rising is = absurd cc
   first_union above (s ∷ rest) b rising is =
       ⊎_elim
       (λ (in_g : g above s ≡ true).
-      let one : Some s.line ≡ Some b = sym (behind_here g above rest s in_g) ∙ is in
+      let one : Some s.line ≡ Some b = sym (after_here g above rest s in_g) ∙ is in
       let same : s.line ≡ b = cc in
-      let least : (a : ℕ) → first_behind f above (s ∷ rest) ≡ Some a → b ≤ a = λ a is_a.
+      let least : (a : ℕ) → first_after f above (s ∷ rest) ≡ Some a → b ≤ a = λ a is_a.
       ⊎_elim
-      (λ (in_f : f above s ≡ true). let two : Some s.line ≡ Some a = sym (behind_here f above rest s in_f) ∙ is_a in let same_a : s.line ≡ a = cc in omega arith)
-      (λ (clear : f above s ≡ false). let lt : s.line < a = found_below f (above ++ s ∷ []) rest s a rising (sym (behind_next f above rest s clear) ∙ is_a) in omega arith)
+      (λ (in_f : f above s ≡ true). let two : Some s.line ≡ Some a = sym (after_here f above rest s in_f) ∙ is_a in let same_a : s.line ≡ a = cc in omega arith)
+      (λ (clear : f above s ≡ false). let lt : s.line < a = found_below f (above ++ s ∷ []) rest s a rising (sym (after_next f above rest s clear) ∙ is_a) in omega arith)
       (cases_Bool (f above s)) in
-      behind_here h above rest s (union above s ∙ or_right (f above s) (g above s) in_g)
-      ∙ ap (λ (n : ℕ). Some n) (same ∙ sym (lower-not_below (first_behind f above (s ∷ rest)) b least)))
+      after_here h above rest s (union above s ∙ or_right (f above s) (g above s) in_g)
+      ∙ ap (λ (n : ℕ). Some n) (same ∙ sym (lower-not_below (first_after f above (s ∷ rest)) b least)))
       (λ (clear_g : g above s ≡ false).
-      let is_later : first_behind g (above ++ s ∷ []) rest ≡ Some b = sym (behind_next g above rest s clear_g) ∙ is in
+      let is_later : first_after g (above ++ s ∷ []) rest ≡ Some b = sym (after_next g above rest s clear_g) ∙ is in
       ⊎_elim
       (λ (in_f : f above s ≡ true).
       let lt : s.line < b = found_below g (above ++ s ∷ []) rest s b rising is_later in
-      behind_here h above rest s (union above s ∙ or_left (f above s) (g above s) in_f)
+      after_here h above rest s (union above s ∙ or_left (f above s) (g above s) in_f)
       ∙ ap (λ (n : ℕ). Some n) (lower-above s.line b lt)
-      ∙ ap (λ (o : Option ℕ). Some (lower o b)) (sym (behind_here f above rest s in_f)))
+      ∙ ap (λ (o : Option ℕ). Some (lower o b)) (sym (after_here f above rest s in_f)))
       (λ (clear_f : f above s ≡ false).
-      behind_next h above rest s (union above s ∙ or_from (f above s) (g above s) clear_f clear_g)
+      after_next h above rest s (union above s ∙ or_from (f above s) (g above s) clear_f clear_g)
       ∙ first_union (above ++ s ∷ []) rest b (rising-rest s rest rising) is_later
-      ∙ ap (λ (o : Option ℕ). Some (lower o b)) (sym (behind_next f above rest s clear_f)))
+      ∙ ap (λ (o : Option ℕ). Some (lower o b)) (sym (after_next f above rest s clear_f)))
       (cases_Bool (f above s)))
       (cases_Bool (g above s))
 
@@ -120,7 +120,7 @@ module _ (f g h : Fault) (union : (above : List Labelled) (s : Labelled) → h a
 abbrev comes_late : Labelled → Bool
 comes_late a = rank a.stmt == 3
 
--- behind DATA there is no statement of a lower rank
+-- after DATA there is no statement of a lower rank
 late_rank : (above : List Labelled) (s : Labelled) → list_any comes_late above ≡ true → is_out_of_order above s ≡ false → nat_lt (rank s.stmt) 3 ≡ false
 late_rank [] s some clear = absurd (true≢false (sym some))
 late_rank (a ∷ above) s some clear =
@@ -153,21 +153,21 @@ late_places s late = no_equivalence s.stmt late
 still_late : (above : List Labelled) (s : Labelled) → list_any comes_late above ≡ true → list_any comes_late (above ++ s ∷ []) ≡ true
 still_late above s some = list_any-append comes_late above (s ∷ []) ∙ or_left (list_any comes_late above) (list_any comes_late (s ∷ [])) some
 
--- no dimensions are wrong behind DATA
-pub no_dims_behind : (above rest : List Labelled) → list_any comes_late above ≡ true → first_behind is_out_of_order above rest ≡ None → list_any has_wrong_dims rest ≡ false
-no_dims_behind above [] some ordered = refl
-no_dims_behind above (s ∷ rest) some ordered =
-    let clear = behind_clear is_out_of_order above rest s ordered in
-    or_from (has_wrong_dims s) (list_any has_wrong_dims rest) (late_dims s (late_rank above s some clear)) (no_dims_behind (above ++ s ∷ []) rest (still_late above s some) (sym (behind_next is_out_of_order above rest s clear) ∙ ordered))
+-- no dimensions are wrong after DATA
+pub no_dims_after : (above rest : List Labelled) → list_any comes_late above ≡ true → first_after is_out_of_order above rest ≡ None → list_any has_wrong_dims rest ≡ false
+no_dims_after above [] some ordered = refl
+no_dims_after above (s ∷ rest) some ordered =
+    let clear = after_clear is_out_of_order above rest s ordered in
+    or_from (has_wrong_dims s) (list_any has_wrong_dims rest) (late_dims s (late_rank above s some clear)) (no_dims_after (above ++ s ∷ []) rest (still_late above s some) (sym (after_next is_out_of_order above rest s clear) ∙ ordered))
 
 -- and no EQUIVALENCE stands there
-pub no_places_behind : (names : List NameInfo) (whole above rest : List Labelled) → list_any comes_late above ≡ true → first_behind is_out_of_order above rest ≡ None → first_behind (has_wrong_places names whole) above rest ≡ None
-no_places_behind names whole above [] some ordered = refl
-no_places_behind names whole above (s ∷ rest) some ordered =
-    let clear = behind_clear is_out_of_order above rest s ordered in
+pub no_places_after : (names : List NameInfo) (whole above rest : List Labelled) → list_any comes_late above ≡ true → first_after is_out_of_order above rest ≡ None → first_after (has_wrong_places names whole) above rest ≡ None
+no_places_after names whole above [] some ordered = refl
+no_places_after names whole above (s ∷ rest) some ordered =
+    let clear = after_clear is_out_of_order above rest s ordered in
     let none : has_wrong_places names whole above s ≡ false = and_left (is_equivalence s.stmt) (not (gives_places names whole (all_groups above ++ groups_of s.stmt))) (late_places s (late_rank above s some clear)) in
-    behind_next (has_wrong_places names whole) above rest s none
-    ∙ no_places_behind names whole (above ++ s ∷ []) rest (still_late above s some) (sym (behind_next is_out_of_order above rest s clear) ∙ ordered)
+    after_next (has_wrong_places names whole) above rest s none
+    ∙ no_places_after names whole (above ++ s ∷ []) rest (still_late above s some) (sym (after_next is_out_of_order above rest s clear) ∙ ordered)
 
 -- ---- the first fault of storage
 
@@ -189,24 +189,24 @@ module _ (names placed : List NameInfo) (whole : List Labelled) where
   abbrev in_places_or_data : Fault
   in_places_or_data above s = has_wrong_places names whole above s || has_wrong_data placed above s
 
-  -- DATA stands behind the EQUIVALENCE that makes places wrong
-  places_first : (above stmts : List Labelled) (line : ℕ) → first_behind is_out_of_order above stmts ≡ None → first_behind in_places above stmts ≡ Some line → first_behind in_places_or_data above stmts ≡ Some line
+  -- DATA stands after the EQUIVALENCE that makes places wrong
+  places_first : (above stmts : List Labelled) (line : ℕ) → first_after is_out_of_order above stmts ≡ None → first_after in_places above stmts ≡ Some line → first_after in_places_or_data above stmts ≡ Some line
   places_first above [] line ordered is = absurd cc
   places_first above (s ∷ rest) line ordered is =
-      let clear = behind_clear is_out_of_order above rest s ordered in
-      let ordered_rest : first_behind is_out_of_order (above ++ s ∷ []) rest ≡ None = sym (behind_next is_out_of_order above rest s clear) ∙ ordered in
+      let clear = after_clear is_out_of_order above rest s ordered in
+      let ordered_rest : first_after is_out_of_order (above ++ s ∷ []) rest ≡ None = sym (after_next is_out_of_order above rest s clear) ∙ ordered in
       ⊎_elim
       (λ (here : in_places above s ≡ true).
-      behind_here in_places_or_data above rest s (or_left (in_places above s) (has_wrong_data placed above s) here) ∙ sym (behind_here in_places above rest s here) ∙ is)
+      after_here in_places_or_data above rest s (or_left (in_places above s) (has_wrong_data placed above s) here) ∙ sym (after_here in_places above rest s here) ∙ is)
       (λ (none : in_places above s ≡ false).
-      let is_rest : first_behind in_places (above ++ s ∷ []) rest ≡ Some line = sym (behind_next in_places above rest s none) ∙ is in
+      let is_rest : first_after in_places (above ++ s ∷ []) rest ≡ Some line = sym (after_next in_places above rest s none) ∙ is in
       ⊎_elim
       (λ (late : comes_late s ≡ true).
       let some : list_any comes_late (above ++ s ∷ []) ≡ true = list_any-append comes_late above (s ∷ []) ∙ or_right (list_any comes_late above) (list_any comes_late (s ∷ [])) (or_left (comes_late s) false late) in
-      let nothing : first_behind in_places (above ++ s ∷ []) rest ≡ None = no_places_behind names whole (above ++ s ∷ []) rest some ordered_rest in
+      let nothing : first_after in_places (above ++ s ∷ []) rest ≡ None = no_places_after names whole (above ++ s ∷ []) rest some ordered_rest in
       cc)
       (λ (early : comes_late s ≡ false).
-      behind_next in_places_or_data above rest s (or_from (in_places above s) (has_wrong_data placed above s) none (no_data placed above s early))
+      after_next in_places_or_data above rest s (or_from (in_places above s) (has_wrong_data placed above s) none (no_data placed above s early))
       ∙ places_first (above ++ s ∷ []) rest line ordered_rest is_rest)
       (cases_Bool (comes_late s)))
       (cases_Bool (in_places above s))
@@ -220,13 +220,13 @@ module _ (names placed : List NameInfo) (whole : List Labelled) where
   in_declaration_or_data above s = has_wrong_declaration names above s || has_wrong_data placed above s
 
   -- where the places are right
-  pub first_without_places : (above stmts : List Labelled) → first_behind in_places above stmts ≡ None → first_behind (has_wrong_storage names placed whole) above stmts ≡ first_behind in_declaration_or_data above stmts
+  pub first_without_places : (above stmts : List Labelled) → first_after in_places above stmts ≡ None → first_after (has_wrong_storage names placed whole) above stmts ≡ first_after in_declaration_or_data above stmts
   first_without_places above [] right = refl
   first_without_places above (s ∷ rest) right =
-      let clear = behind_clear in_places above rest s right in
-      let right_rest : first_behind in_places (above ++ s ∷ []) rest ≡ None = sym (behind_next in_places above rest s clear) ∙ right in
+      let clear = after_clear in_places above rest s right in
+      let right_rest : first_after in_places (above ++ s ∷ []) rest ≡ None = sym (after_next in_places above rest s clear) ∙ right in
       let same : has_wrong_storage names placed whole above s ≡ in_declaration_or_data above s = or_assoc (has_wrong_declaration names above s) (in_places above s) (has_wrong_data placed above s) ∙ ap (λ b. has_wrong_declaration names above s || (b || has_wrong_data placed above s)) clear in
-      ap (λ b. cond b (Some s.line) (first_behind (has_wrong_storage names placed whole) (above ++ s ∷ []) rest)) same
+      ap (λ b. cond b (Some s.line) (first_after (has_wrong_storage names placed whole) (above ++ s ∷ []) rest)) same
       ∙ ap (λ o. cond (in_declaration_or_data above s) (Some s.line) o) (first_without_places (above ++ s ∷ []) rest right_rest)
 
 -- ---- sizes
@@ -259,8 +259,8 @@ module _ (stmts : List Labelled) (i : ℕ) (s : Labelled) (lt : i < length stmts
   left_next : drop i stmts ≡ s ∷ drop (i + 1) stmts
   left_next = drop_more stmts i s lt ∙ ap (λ (t : Labelled). t ∷ drop (i + 1) stmts) (sym is)
 
-  pub clear_at : (fault : Fault) → first_behind fault (take i stmts) (drop i stmts) ≡ None → fault (take i stmts) s ≡ false
-  clear_at fault none = behind_clear fault (take i stmts) (drop (i + 1) stmts) s (ap (first_behind fault (take i stmts)) (sym left_next) ∙ none)
+  pub clear_at : (fault : Fault) → first_after fault (take i stmts) (drop i stmts) ≡ None → fault (take i stmts) s ≡ false
+  clear_at fault none = after_clear fault (take i stmts) (drop (i + 1) stmts) s (ap (first_after fault (take i stmts)) (sym left_next) ∙ none)
 
   pub dims_next : list_any has_wrong_dims (take i stmts) ≡ false → has_wrong_dims s ≡ false → list_any has_wrong_dims (take (i + 1) stmts) ≡ false
   dims_next above here =
@@ -269,14 +269,14 @@ module _ (stmts : List Labelled) (i : ℕ) (s : Labelled) (lt : i < length stmts
       ∙ or_from (list_any has_wrong_dims (take i stmts)) (has_wrong_dims s || false) above (or_from (has_wrong_dims s) false here refl)
 
   -- where DATA is met, all dimensions were
-  pub all_dims : list_any has_wrong_dims (take i stmts) ≡ false → has_wrong_dims s ≡ false → comes_late s ≡ true → first_behind is_out_of_order (take i stmts) (drop i stmts) ≡ None → list_any has_wrong_dims stmts ≡ false
+  pub all_dims : list_any has_wrong_dims (take i stmts) ≡ false → has_wrong_dims s ≡ false → comes_late s ≡ true → first_after is_out_of_order (take i stmts) (drop i stmts) ≡ None → list_any has_wrong_dims stmts ≡ false
   all_dims above here late ordered =
       let clear = clear_at is_out_of_order ordered in
-      let ordered_next : first_behind is_out_of_order (take i stmts ++ s ∷ []) (drop (i + 1) stmts) ≡ None = sym (behind_next is_out_of_order (take i stmts) (drop (i + 1) stmts) s clear) ∙ ap (first_behind is_out_of_order (take i stmts)) (sym left_next) ∙ ordered in
+      let ordered_next : first_after is_out_of_order (take i stmts ++ s ∷ []) (drop (i + 1) stmts) ≡ None = sym (after_next is_out_of_order (take i stmts) (drop (i + 1) stmts) s clear) ∙ ap (first_after is_out_of_order (take i stmts)) (sym left_next) ∙ ordered in
       let some : list_any comes_late (take i stmts ++ s ∷ []) ≡ true = list_any-append comes_late (take i stmts) (s ∷ []) ∙ or_right (list_any comes_late (take i stmts)) (list_any comes_late (s ∷ [])) (or_left (comes_late s) false late) in
       ap (list_any has_wrong_dims) (sym (take-append-drop i stmts) ∙ ap (λ (rest : List Labelled). take i stmts ++ rest) left_next)
       ∙ list_any-append has_wrong_dims (take i stmts) (s ∷ drop (i + 1) stmts)
-      ∙ or_from (list_any has_wrong_dims (take i stmts)) (has_wrong_dims s || list_any has_wrong_dims (drop (i + 1) stmts)) above (or_from (has_wrong_dims s) (list_any has_wrong_dims (drop (i + 1) stmts)) here (no_dims_behind (take i stmts ++ s ∷ []) (drop (i + 1) stmts) some ordered_next))
+      ∙ or_from (list_any has_wrong_dims (take i stmts)) (has_wrong_dims s || list_any has_wrong_dims (drop (i + 1) stmts)) above (or_from (has_wrong_dims s) (list_any has_wrong_dims (drop (i + 1) stmts)) here (no_dims_after (take i stmts ++ s ∷ []) (drop (i + 1) stmts) some ordered_next))
 
 -- a statement that declares nothing wrong has no wrong dimensions
 pub dims_clear : (names : List NameInfo) (above : List Labelled) (s : Labelled) → has_wrong_declaration names above s ≡ false → has_wrong_dims s ≡ false

@@ -18,11 +18,11 @@ use Rattle.f77_layout.specs.Source.{IsSource}
 use Rattle.f77_layout.specs.Labels.{is_labelled_twice, lacks_label, is_arm, jumps, used, statement_of}
 use Rattle.f77_layout.specs.Nesting.{first_unnested}
 use Rattle.f77_layout.specs.Jumps.{is_block_if}
-use Rattle.f77_layout.specs.Executables.{own_executables, own_kinds, taking, increments, behind, is_do_to, is_do_in, loops_to, first_of, met, when_false, exit_of, exit_behind, labelled, kinds_at, executables_if_any, executables}
+use Rattle.f77_layout.specs.Executables.{own_executables, own_kinds, taking, increments, beyond, is_do_to, is_do_in, loops_to, first_of, met, when_false, exit_of, exit_after, labelled, kinds_at, executables_if_any, executables}
 use Rattle.f77_layout.specs.Tables.{is_simple, has_simple_inner, IsStanding, IsUsable}
 use Rattle.f77_layout.proofs.ControlLaws.{length-executables}
 use Rattle.f77_layout.proofs.Usable.{usable as all_usable}
-use Rattle.f77_layout.proofs.SuccessorPlaces.{total, some, is_last, first-exists, up_to-exists, met-exists, behind-exists, when_false-exists}
+use Rattle.f77_layout.proofs.SuccessorPlaces.{total, some, is_last, first-exists, up_to-exists, met-exists, after-exists, when_false-exists}
 use Rattle.f77_layout.proofs.SuccessorLoops.{dos, no_loops-end, body-exists, exit-exists}
 
 -- the successors of an executable are below a bound
@@ -106,7 +106,7 @@ module _ (n : ℕ) where
         All-cons (LeadsBelow n) _ (increments names whole place (index + 1) outer) (two _ _ (All-head P d outer bodies) (leave outer (omega (arith, above))))
         (increments-below (index + 1) outer (omega (arith, above)) on (All-tail P d outer bodies))
       where
-        leave : (ds : List ℕ) → index + 1 < n → exit_behind whole place index ds < n
+        leave : (ds : List ℕ) → index + 1 < n → exit_after whole place index ds < n
         leave [] lt = on
         leave (e ∷ es) lt = lt
 
@@ -132,8 +132,8 @@ module _ (stmts : List Labelled) (source : IsSource stmts) (once : first_line is
       let none : loops_to stmts s.label ≡ [] = no_loops-end stmts source once nested s there in
       let P = LeadsBelow (total stmts) in
       let index = first_of stmts place in
-      All-append P (own_kinds names checked stmts place index (behind stmts place s) s.stmt) (increments names stmts place (index + own_executables s.stmt) (loops_to stmts s.label))
-      (subst (λ (stmt : Stmt). All P (own_kinds names checked stmts place index (behind stmts place s) stmt)) (sym is) (alone (total stmts) _ (All-nil (λ s. s < total stmts))))
+      All-append P (own_kinds names checked stmts place index (beyond stmts place s) s.stmt) (increments names stmts place (index + own_executables s.stmt) (loops_to stmts s.label))
+      (subst (λ (stmt : Stmt). All P (own_kinds names checked stmts place index (beyond stmts place s) stmt)) (sym is) (alone (total stmts) _ (All-nil (λ s. s < total stmts))))
       (subst (λ (ds : List ℕ). All P (increments names stmts place (index + own_executables s.stmt) ds)) (sym none) (All-nil P))
 
   above-below : (place : ℕ) (s : Labelled) → place + 1 < length stmts → slice_get stmts place ≡ Some s → All (LeadsBelow (total stmts)) (kinds_at names checked stmts place s)
@@ -146,11 +146,11 @@ module _ (stmts : List Labelled) (source : IsSource stmts) (once : first_line is
       let on = met-exists stmts source nested (place + 1) above in
       let inside : place < length stmts = omega (arith, above) in
       let standing : All (IsStanding stmts) (jumps s.stmt) = jumps_used (IsStanding stmts) s.stmt is.labels in
-      All-append P (own_kinds names checked stmts place index (behind stmts place s) s.stmt) (increments names stmts place (index + own_executables s.stmt) (loops_to stmts s.label))
-      (own-below n names checked stmts place index (behind stmts place s) s.stmt is.inner
+      All-append P (own_kinds names checked stmts place index (beyond stmts place s) s.stmt) (increments names stmts place (index + own_executables s.stmt) (loops_to stmts s.label))
+      (own-below n names checked stmts place index (beyond stmts place s) s.stmt is.inner
       (record {
         own = omega (arith, up);
-        on = behind-exists stmts source nested place s at above;
+        on = after-exists stmts source nested place s at above;
         labels = λ k d below. first-exists stmts source nested (statement_of stmts (get_or (jumps s.stmt) k d)) (standing k d below).stands;
         stop = let most = some stmts source nested in first-exists stmts source nested (length stmts - 1) (omega (arith, most));
       })

@@ -84,7 +84,7 @@ module _ (stmts : List Labelled) (source : IsSource stmts) (once : first_line is
       by [] are = refl
       by (d ∷ ds) are = absurd (no_do-ends s at d (are 0 d (omega arith)))
 
-  -- the body of a DO begins behind it
+  -- the body of a DO begins after it
   pub body-exists : (label d : ℕ) → IsDoTo label d → first_of stmts d + 1 < total stmts
   body-exists label d = by (slice_get stmts d) refl
     where
@@ -95,7 +95,7 @@ module _ (stmts : List Labelled) (source : IsSource stmts) (once : first_line is
           let up = up_to-exists stmts source nested d s at (not-last stmts source nested d s at is.1) in
           omega (arith, up, is.0)
 
-  -- control goes on behind a DO
+  -- control goes on after a DO
   pub exit-exists : (label place : ℕ) → place < length stmts → IsDoTo label place → statement_of stmts label < length stmts → exit_of stmts label place < total stmts
   exit-exists label place inside is stands =
       ⊎_elim

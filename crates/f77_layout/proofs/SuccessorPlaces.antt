@@ -11,7 +11,7 @@ use Rattle.f77_layout.specs.Source.{IsSource}
 use Rattle.f77_layout.specs.Labels.{is_executable, is_arm}
 use Rattle.f77_layout.specs.Nesting.{first_unnested}
 use Rattle.f77_layout.specs.Jumps.{is_block_if, end_of_block, end_of_arm}
-use Rattle.f77_layout.specs.Executables.{own_executables, loops_to, executables_with_ends, first_of, met, behind, is_else_at, when_false}
+use Rattle.f77_layout.specs.Executables.{own_executables, loops_to, executables_with_ends, first_of, met, beyond, is_else_at, when_false}
 use Rattle.f77_layout.proofs.ExecutableLemmas.{first_of-next}
 use Rattle.f77_layout.proofs.Meeting.{met-arm, met-own, met-passed}
 use Rattle.f77_layout.proofs.SuccessorBlocks.{IsEnded, StopsAt, stops}
@@ -49,7 +49,7 @@ module _ (stmts : List Labelled) (source : IsSource stmts) (nested : first_unnes
   all_taken : first_of stmts (length stmts) ≡ total stmts
   all_taken = ap (sum_by (executables_with_ends stmts)) (take_all (length stmts) stmts (omega arith))
 
-  -- the executables of a statement stand behind those above it
+  -- the executables of a statement stand after those above it
   pub next_of : (place : ℕ) (s : Labelled) → slice_get stmts place ≡ Some s → first_of stmts (place + 1) ≡ first_of stmts place + (own_executables s.stmt + length (loops_to stmts s.label))
   next_of place s at = first_of-next stmts place s (slice_get_within stmts place s at) (sym (get_or_from_slice_get stmts place s s at))
 
@@ -92,7 +92,7 @@ module _ (stmts : List Labelled) (source : IsSource stmts) (nested : first_unnes
       (λ (differ : place ≢ length stmts - 1). let inside = slice_get_within stmts place s at in omega (arith, inside, differ))
       (cases_eq place (length stmts - 1))
 
-  -- what comes behind the executables of a statement above the last
+  -- what comes after the executables of a statement above the last
   pub up_to-exists : (place : ℕ) (s : Labelled) → slice_get stmts place ≡ Some s → place + 1 < length stmts → first_of stmts place + (own_executables s.stmt + length (loops_to stmts s.label)) < total stmts
   up_to-exists place s at above =
       let e = next_of place s at in
@@ -131,9 +131,9 @@ module _ (stmts : List Labelled) (source : IsSource stmts) (nested : first_unnes
   pub met-exists : (place : ℕ) → place < length stmts → met stmts place < total stmts
   met-exists place inside = met-at (length stmts) place inside (omega arith)
 
-  -- behind a statement above the last
-  pub behind-exists : (place : ℕ) (s : Labelled) → slice_get stmts place ≡ Some s → place + 1 < length stmts → behind stmts place s < total stmts
-  behind-exists place s at above = by (nat_lt 0 (length (loops_to stmts s.label)))
+  -- after a statement above the last
+  pub after-exists : (place : ℕ) (s : Labelled) → slice_get stmts place ≡ Some s → place + 1 < length stmts → beyond stmts place s < total stmts
+  after-exists place s at above = by (nat_lt 0 (length (loops_to stmts s.label)))
     where
       by : (b : Bool) → cond b (first_of stmts place + own_executables s.stmt) (met stmts (place + 1)) < total stmts
       by true = let f = up_to-exists place s at above in omega (arith, f)

@@ -140,8 +140,8 @@ statement_symbolic arrays (WrittenStatement.logical_if w s) is =
 statement_symbolic arrays (WrittenStatement.block_if w) is = expression_symbolic arrays w is
 statement_symbolic arrays (WrittenStatement.else_if w) is = expression_symbolic arrays w is
 statement_symbolic arrays (WrittenStatement.do_loop label comma variable first last step) is =
-    let behind = names_in arrays (reading first) ++ names_in arrays (reading last) ++ names_if_any arrays (step_of step) in
-    both (is_name variable) (list_all is_name behind) is.1
+    let beyond = names_in arrays (reading first) ++ names_in arrays (reading last) ++ names_if_any arrays (step_of step) in
+    both (is_name variable) (list_all is_name beyond) is.1
     (joined (names_in arrays (reading first) ++ names_in arrays (reading last)) (names_if_any arrays (step_of step))
     (joined (names_in arrays (reading first)) (names_in arrays (reading last)) (expression_symbolic arrays first is.2) (expression_symbolic arrays last is.3))
     (step_symbolic arrays step is.4))

@@ -40,7 +40,7 @@ got_set_other (x ∷ xs) zero (suc j) y ne = refl
 got_set_other (x ∷ xs) (suc k) zero y ne = refl
 got_set_other (x ∷ xs) (suc k) (suc j) y ne = got_set_other xs k j y (λ e. ne (ap suc e))
 
--- a value behind the end, where that value is read anyway
+-- a value after the end, where that value is read anyway
 pub got_default : {X : Type 0} (xs : List X) (value : X) (k : ℕ) → get_or (xs ++ value ∷ []) k value ≡ get_or xs k value
 got_default [] value zero = refl
 got_default [] value (suc k) = refl

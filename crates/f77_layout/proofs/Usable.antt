@@ -20,7 +20,7 @@ use Rattle.f77_layout.proofs.SourceLabels.{label_is_small}
 use Rattle.f77_layout.proofs.UsedLabels.{used_given}
 use Rattle.f77_layout.proofs.OwnExecutables.{guarded_simple}
 
--- ---- behind a condition
+-- ---- after a condition
 
 simple_is : (w : WrittenStatement) → is_simple_text w ≡ true → is_of_subroutines (stmt_of w) ≡ false → is_simple (stmt_of w) ≡ true
 simple_is (WrittenStatement.assignment target value) e none = refl

@@ -35,7 +35,7 @@ used-ThenIf : (condition : RawExpr) (stmt : Stmt) → used (ThenIf condition stm
 unfolding Rattle.f77_tree.specs.declared.statements.Stmt.TheBlock.hidden-the_row-Stmt-0 denote.Hole.Carrier.hidden
 used-ThenIf condition stmt = refl
 
--- behind how many conditions a statement stands
+-- after how many conditions a statement stands
 abbrev pub guards : Stmt → ℕ
 guards (ThenIf' condition shape (more_of-Stmt stmt rest)) = 1 + guards stmt
 guards _ = 0

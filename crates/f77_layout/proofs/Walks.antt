@@ -9,72 +9,72 @@ use Rattle.f77_layout.specs.declared.roles.Role.{Role}
 use Rattle.f77_layout.specs.declared.roles.Role.TheVariants.{Finish}
 use Rattle.f77_layout.specs.Source.{EndsWithEnd}
 use Rattle.f77_layout.specs.Roles.{role_of}
-use Rattle.f77_layout.specs.OpenStack.{ends_at, entries_behind, if_nothing}
+use Rattle.f77_layout.specs.OpenStack.{ends_at, entries_after, if_nothing}
 use Rattle.f77_layout.specs.Nesting.{Open, line_or, first_unnested}
-use Rattle.f77_layout.proofs.EntryLemmas.{opens, opens-behind}
+use Rattle.f77_layout.proofs.EntryLemmas.{opens, opens-after}
 use Rattle.f77_layout.proofs.Stops.{drop_here}
 use Rattle.f77_layout.proofs.OpenSpans.{AreLabelled, AreWithin, Stands}
-use Rattle.f77_layout.proofs.OpenSteps.{held, Keeps-behind}
+use Rattle.f77_layout.proofs.OpenSteps.{held, Keeps-after}
 
 pub item_at : {X : Type 0} → (xs : List X) (i : ℕ) → i < length xs → (x : X) × (slice_get xs i ≡ Some x)
 item_at [] i lt = absurd (omega (arith, lt))
 item_at (x ∷ xs) zero lt = (x, refl)
 item_at (x ∷ xs) (suc i) lt = item_at xs i (omega (arith, lt))
 
--- where these are open in front of the place, the statements from there on have this line as the first that isn't nested right
+-- where these are open before the place, the statements from there on have this line as the first that isn't nested right
 abbrev pub unnested_from : List Labelled → (place : ℕ) → List Entry → Option ℕ
 unnested_from stmts place stack = first_unnested (opens stack) (drop place stmts)
 
--- the line, or what comes of what is open behind the statement
+-- the line, or what comes of what is open after the statement
 abbrev pub line_or_more : List Labelled → (line next : ℕ) → Option (List Entry) → Option ℕ
 line_or_more stmts line next None = Some line
-line_or_more stmts line next (Some behind) = unnested_from stmts next behind
+line_or_more stmts line next (Some beyond) = unnested_from stmts next beyond
 
-more : (stmts : List Labelled) (line next : ℕ) (behind : Option (List Entry)) → line_or line (option_map opens behind) (λ b. first_unnested b (drop next stmts)) ≡ line_or_more stmts line next behind
+more : (stmts : List Labelled) (line next : ℕ) (beyond : Option (List Entry)) → line_or line (option_map opens beyond) (λ b. first_unnested b (drop next stmts)) ≡ line_or_more stmts line next beyond
 more stmts line next None = refl
-more stmts line next (Some behind) = refl
+more stmts line next (Some beyond) = refl
 
-pub unnested-step : (stmts : List Labelled) (i : ℕ) (s : Labelled) (stack : List Entry) → slice_get stmts i ≡ Some s → unnested_from stmts i stack ≡ line_or_more stmts s.line (i + 1) (entries_behind (role_of s.stmt) i s.label stack)
+pub unnested-step : (stmts : List Labelled) (i : ℕ) (s : Labelled) (stack : List Entry) → slice_get stmts i ≡ Some s → unnested_from stmts i stack ≡ line_or_more stmts s.line (i + 1) (entries_after (role_of s.stmt) i s.label stack)
 unnested-step stmts i s stack h =
     ap (λ (xs : List Labelled). first_unnested (opens stack) xs) (drop_here stmts i s h)
-    ∙ ap (λ (o : Option (List Open)). line_or s.line o (λ b. first_unnested b (drop (i + 1) stmts))) (opens-behind s i stack)
-    ∙ more stmts s.line (i + 1) (entries_behind (role_of s.stmt) i s.label stack)
+    ∙ ap (λ (o : Option (List Open)). line_or s.line o (λ b. first_unnested b (drop (i + 1) stmts))) (opens-after s i stack)
+    ∙ more stmts s.line (i + 1) (entries_after (role_of s.stmt) i s.label stack)
 
--- what is open behind a statement, where all are nested right from there on
+-- what is open after a statement, where all are nested right from there on
 pub record GoesOn (stmts : List Labelled) (i : ℕ) (s : Labelled) (stack : List Entry) : Type 0 where
-  pub behind : List Entry
-  pub is : entries_behind (role_of s.stmt) i s.label stack ≡ Some behind
-  pub nested : unnested_from stmts (i + 1) behind ≡ None
+  pub beyond : List Entry
+  pub is : entries_after (role_of s.stmt) i s.label stack ≡ Some beyond
+  pub nested : unnested_from stmts (i + 1) beyond ≡ None
 
 pub goes_on : (stmts : List Labelled) (i : ℕ) (s : Labelled) (stack : List Entry) → slice_get stmts i ≡ Some s → unnested_from stmts i stack ≡ None → GoesOn stmts i s stack
-goes_on stmts i s stack h none = by (entries_behind (role_of s.stmt) i s.label stack) refl (sym (unnested-step stmts i s stack h) ∙ none)
+goes_on stmts i s stack h none = by (entries_after (role_of s.stmt) i s.label stack) refl (sym (unnested-step stmts i s stack h) ∙ none)
   where
-    by : (o : Option (List Entry)) → entries_behind (role_of s.stmt) i s.label stack ≡ o → line_or_more stmts s.line (i + 1) o ≡ None → GoesOn stmts i s stack
+    by : (o : Option (List Entry)) → entries_after (role_of s.stmt) i s.label stack ≡ o → line_or_more stmts s.line (i + 1) o ≡ None → GoesOn stmts i s stack
     by None is h = let e : Some s.line ≡ None = h in absurd cc
-    by (Some behind) is h = record { behind = behind; is = is; nested = h }
+    by (Some beyond) is h = record { beyond = beyond; is = is; nested = h }
 
 -- ---- at END nothing is open
 
-finished : (b : Bool) (stack behind : List Entry) → (if b && true then None else if_nothing stack) ≡ Some behind → stack ≡ []
-finished true stack behind h = let e : None ≡ Some behind = h in absurd cc
-finished false [] behind h = refl
-finished false (e ∷ rest) behind h = let e : None ≡ Some behind = h in absurd cc
+finished : (b : Bool) (stack beyond : List Entry) → (if b && true then None else if_nothing stack) ≡ Some beyond → stack ≡ []
+finished true stack beyond h = let e : None ≡ Some beyond = h in absurd cc
+finished false [] beyond h = refl
+finished false (e ∷ rest) beyond h = let e : None ≡ Some beyond = h in absurd cc
 
-pub nothing_at_end : (stmts : List Labelled) (ended : EndsWithEnd stmts) (i : ℕ) (s : Labelled) (stack behind : List Entry) → i + 1 ≡ length stmts → slice_get stmts i ≡ Some s → entries_behind (role_of s.stmt) i s.label stack ≡ Some behind → stack ≡ []
-nothing_at_end stmts ended i s stack behind last here h =
+pub nothing_at_end : (stmts : List Labelled) (ended : EndsWithEnd stmts) (i : ℕ) (s : Labelled) (stack beyond : List Entry) → i + 1 ≡ length stmts → slice_get stmts i ≡ Some s → entries_after (role_of s.stmt) i s.label stack ≡ Some beyond → stack ≡ []
+nothing_at_end stmts ended i s stack beyond last here h =
     let place : i ≡ length stmts - 1 = omega (arith, last) in
     let at : slice_get stmts i ≡ Some ended.last = ap (slice_get stmts) place ∙ ended.stands in
     let same : s ≡ ended.last = cc in
     let is : role_of s.stmt ≡ Finish = ap (λ (t : Labelled). role_of t.stmt) same ∙ ap role_of ended.is in
-    finished (list_any (ends_at s.label) stack) stack behind (sym (ap (λ (r : Role). entries_behind r i s.label stack) is) ∙ h)
+    finished (list_any (ends_at s.label) stack) stack beyond (sym (ap (λ (r : Role). entries_after r i s.label stack) is) ∙ h)
 
 -- ---- each entry reaches beyond the place, and no farther than the one below it
 
 module _ (stmts : List Labelled) (are : AreLabelled stmts) (ended : EndsWithEnd stmts) where
-  within-held : (i : ℕ) (s : Labelled) (stack behind : List Entry) → slice_get stmts i ≡ Some s → Stands stmts i stack → (i + 1 < length stmts → AreWithin stmts (i + 1) behind) → i < length stmts → entries_behind (role_of s.stmt) i s.label stack ≡ Some behind → AreWithin stmts (i + 1) (held (role_of s.stmt) stack)
-  within-held i s stack behind here stands later lt is = elim (cases_eq (i + 1) (length stmts)) as (λ _. AreWithin stmts (i + 1) (held (role_of s.stmt) stack)) [
-    | inl last ↦ let none : stack ≡ [] = nothing_at_end stmts ended i s stack behind last here is in subst (λ (xs : List Entry). AreWithin stmts (i + 1) (held (role_of s.stmt) xs)) (sym none) (none_held (role_of s.stmt) (i + 1))
-    | inr other ↦ (Keeps-behind stmts are i s here stack behind stands is).within (later (omega (arith, other, lt)))
+  within-held : (i : ℕ) (s : Labelled) (stack beyond : List Entry) → slice_get stmts i ≡ Some s → Stands stmts i stack → (i + 1 < length stmts → AreWithin stmts (i + 1) beyond) → i < length stmts → entries_after (role_of s.stmt) i s.label stack ≡ Some beyond → AreWithin stmts (i + 1) (held (role_of s.stmt) stack)
+  within-held i s stack beyond here stands later lt is = elim (cases_eq (i + 1) (length stmts)) as (λ _. AreWithin stmts (i + 1) (held (role_of s.stmt) stack)) [
+    | inl last ↦ let none : stack ≡ [] = nothing_at_end stmts ended i s stack beyond last here is in subst (λ (xs : List Entry). AreWithin stmts (i + 1) (held (role_of s.stmt) xs)) (sym none) (none_held (role_of s.stmt) (i + 1))
+    | inr other ↦ (Keeps-after stmts are i s here stack beyond stands is).within (later (omega (arith, other, lt)))
   ]
     where
       none_held : (role : Role) (place : ℕ) → AreWithin stmts place (held role [])
@@ -86,14 +86,14 @@ module _ (stmts : List Labelled) (are : AreLabelled stmts) (ended : EndsWithEnd 
   within (suc n) i stack sum lt stands nested =
       let s = item_at stmts i lt in
       let next = goes_on stmts i s.0 stack s.1 nested in
-      let keeps = Keeps-behind stmts are i s.0 s.1 stack next.behind stands next.is in
-      keeps.before (within-held i s.0 stack next.behind s.1 stands (λ less. within n (i + 1) next.behind (omega (arith, sum)) less keeps.stands next.nested) lt next.is)
+      let keeps = Keeps-after stmts are i s.0 s.1 stack next.beyond stands next.is in
+      keeps.before (within-held i s.0 stack next.beyond s.1 stands (λ less. within n (i + 1) next.beyond (omega (arith, sum)) less keeps.stands next.nested) lt next.is)
 
   pub AreWithin-nested : (i : ℕ) (stack : List Entry) → i < length stmts → Stands stmts i stack → unnested_from stmts i stack ≡ None → AreWithin stmts i stack
   AreWithin-nested i stack lt stands nested = within (length stmts - i) i stack (omega (arith, lt)) lt stands nested
 
   -- what holds a statement reaches beyond it
-  pub AreWithin-held : (i : ℕ) (s : Labelled) (stack behind : List Entry) → slice_get stmts i ≡ Some s → i < length stmts → Stands stmts i stack → entries_behind (role_of s.stmt) i s.label stack ≡ Some behind → unnested_from stmts (i + 1) behind ≡ None → AreWithin stmts (i + 1) (held (role_of s.stmt) stack)
-  AreWithin-held i s stack behind here lt stands is nested =
-      let keeps = Keeps-behind stmts are i s here stack behind stands is in
-      within-held i s stack behind here stands (λ less. AreWithin-nested (i + 1) behind less keeps.stands nested) lt is
+  pub AreWithin-held : (i : ℕ) (s : Labelled) (stack beyond : List Entry) → slice_get stmts i ≡ Some s → i < length stmts → Stands stmts i stack → entries_after (role_of s.stmt) i s.label stack ≡ Some beyond → unnested_from stmts (i + 1) beyond ≡ None → AreWithin stmts (i + 1) (held (role_of s.stmt) stack)
+  AreWithin-held i s stack beyond here lt stands is nested =
+      let keeps = Keeps-after stmts are i s here stack beyond stands is in
+      within-held i s stack beyond here stands (λ less. AreWithin-nested (i + 1) beyond less keeps.stands nested) lt is

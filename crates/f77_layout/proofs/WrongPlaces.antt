@@ -8,13 +8,13 @@ use Rattle.std.proofs.lemmas.Option.{slice_get-get_or, slice_get_within, get_or_
 use Rattle.f77_tree.specs.declared.programs.NameInfo.{NameInfo}
 use Rattle.f77_tree.specs.declared.statements.Labelled.{Labelled}
 use Rattle.f77_tree.specs.Places.{Equation}
-use Rattle.f77_layout.specs.Faults.{first_behind, first_line}
+use Rattle.f77_layout.specs.Faults.{first_after, first_line}
 use Rattle.f77_layout.specs.Declarations.{all_commons, all_groups, groups_of}
 use Rattle.f77_layout.specs.Storage.{Spot, standings, standings_of, spots_by, linked, alone, are_right, common_equations}
 use Rattle.f77_layout.specs.StorageFaults.{is_equivalence, has_wrong_places, gives_places}
 use Rattle.f77_layout.specs.Standings.{equations_to, AreRightTo, StayRight, IsFirstWrong}
 use Rattle.f77_layout.proofs.Beginnings.{length-alone}
-use Rattle.f77_layout.proofs.FirstLine.{item-is, first_behind-next, first_behind-here, first_behind-end}
+use Rattle.f77_layout.proofs.FirstLine.{item-is, first_after-next, first_after-here, first_after-end}
 use Rattle.f77_layout.proofs.Deciding.{right-yes}
 use Rattle.f77_layout.proofs.Chains.{Once, once-all, right-from}
 
@@ -60,7 +60,7 @@ module _ (names : List NameInfo) (stmts : List Labelled) where
       fault-is i s lt is ∙ ap (λ b. b && not (test (i + 1))) equates
       ∙ ⊎_elim (λ (h : test (i + 1) ≡ true). absurd (wrong (test-yes (i + 1) h))) (λ (h : test (i + 1) ≡ false). ap not h) (cases_Bool (test (i + 1)))
 
-  passed : (d : Labelled) (i : ℕ) → i ≤ length stmts → StayRight names stmts i → first_line (has_wrong_places names stmts) stmts ≡ first_behind (has_wrong_places names stmts) (take i stmts) (drop i stmts)
+  passed : (d : Labelled) (i : ℕ) → i ≤ length stmts → StayRight names stmts i → first_line (has_wrong_places names stmts) stmts ≡ first_after (has_wrong_places names stmts) (take i stmts) (drop i stmts)
   passed d zero le right = refl
   passed d (suc i) le right =
       let s = get_or stmts i d in
@@ -68,19 +68,19 @@ module _ (names : List NameInfo) (stmts : List Labelled) where
       let is = item-is stmts i d lt in
       let before = passed d i (omega arith) (λ j t below. right j t (omega arith)) in
       let e : i + 1 ≡ suc i = omega arith in
-      before ∙ first_behind-next (has_wrong_places names stmts) stmts i s lt is (no-fault i s lt is (right i s (omega arith) (slice_get-get_or stmts i d lt))) ∙ ap (λ k. first_behind (has_wrong_places names stmts) (take k stmts) (drop k stmts)) e
+      before ∙ first_after-next (has_wrong_places names stmts) stmts i s lt is (no-fault i s lt is (right i s (omega arith) (slice_get-get_or stmts i d lt))) ∙ ap (λ k. first_after (has_wrong_places names stmts) (take k stmts) (drop k stmts)) e
 
   pub first-wrong : (line : ℕ) → IsFirstWrong names stmts line → first_line (has_wrong_places names stmts) stmts ≡ Some line
   first-wrong line w =
       let lt : w.place < length stmts = slice_get_within stmts w.place w.statement w.stands in
       let is : w.statement ≡ get_or stmts w.place w.statement = sym (get_or_from_slice_get stmts w.place w.statement w.statement w.stands) in
       passed w.statement w.place (omega arith) w.above
-      ∙ first_behind-here (has_wrong_places names stmts) stmts w.place w.statement lt is (fault-here w.place w.statement lt is w.equates w.wrong)
+      ∙ first_after-here (has_wrong_places names stmts) stmts w.place w.statement lt is (fault-here w.place w.statement lt is w.equates w.wrong)
       ∙ ap Some w.line_is
 
   pub none-wrong : StayRight names stmts (length stmts) → first_line (has_wrong_places names stmts) stmts ≡ None
   none-wrong right = go stmts refl
     where
       go : (xs : List Labelled) → stmts ≡ xs → first_line (has_wrong_places names stmts) stmts ≡ None
-      go [] e = ap (first_behind (has_wrong_places names stmts) []) e
-      go (d ∷ xs) e = passed d (length stmts) (omega arith) right ∙ first_behind-end (has_wrong_places names stmts) stmts (length stmts) (omega arith)
+      go [] e = ap (first_after (has_wrong_places names stmts) []) e
+      go (d ∷ xs) e = passed d (length stmts) (omega arith) right ∙ first_after-end (has_wrong_places names stmts) stmts (length stmts) (omega arith)

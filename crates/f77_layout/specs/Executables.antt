@@ -20,7 +20,7 @@ use Rattle.f77_layout.specs.Jumps.{end_of_block, end_of_arm}
 
 -- ---- places of executables
 
--- how many executables a statement has of its own: a logical IF has a test and those of the statement behind it, READ one for
+-- how many executables a statement has of its own: a logical IF has a test and those of the statement after it, READ one for
 -- each item, and ELSE none
 abbrev pub own_executables : Stmt → ℕ
 own_executables (ThenIf' condition shape (more_of-Stmt stmt rest)) = 1 + own_executables stmt
@@ -54,28 +54,28 @@ first_of stmts place = sum_by (executables_with_ends stmts) (take place stmts)
 
 -- ---- where control goes
 
--- the executable that control comes to where it falls to the statements at this place and behind it: declarations, DATA too,
+-- the executable that control comes to where it falls to the statements at this place and after it: declarations, DATA too,
 -- are passed over, and an ELSE IF or ELSE leads to the END IF
-abbrev pub met_behind : (whole stmts : List Labelled) → (place : ℕ) → ℕ
-met_behind whole [] place = first_of whole place
-met_behind whole (s ∷ rest) place = if is_arm s.stmt then first_of whole (end_of_block whole place) else if is_executable s.stmt then first_of whole place else met_behind whole rest (place + 1)
+abbrev pub met_after : (whole stmts : List Labelled) → (place : ℕ) → ℕ
+met_after whole [] place = first_of whole place
+met_after whole (s ∷ rest) place = if is_arm s.stmt then first_of whole (end_of_block whole place) else if is_executable s.stmt then first_of whole place else met_after whole rest (place + 1)
 
 abbrev pub met : List Labelled → ℕ → ℕ
-met stmts place = met_behind stmts (drop place stmts) place
+met stmts place = met_after stmts (drop place stmts) place
 
 -- the executable of the statement with this label
 abbrev pub labelled : List Labelled → ℕ → ℕ
 labelled stmts label = first_of stmts (statement_of stmts label)
 
--- where control goes behind the statement at this place: to the increment of the innermost DO that ends there, else on
-abbrev pub behind : List Labelled → ℕ → Labelled → ℕ
-behind stmts place s = if nat_lt 0 (length (loops_to stmts s.label)) then first_of stmts place + own_executables s.stmt else met stmts (place + 1)
+-- where control goes after the statement at this place: to the increment of the innermost DO that ends there, else on
+abbrev pub beyond : List Labelled → ℕ → Labelled → ℕ
+beyond stmts place s = if nat_lt 0 (length (loops_to stmts s.label)) then first_of stmts place + own_executables s.stmt else met stmts (place + 1)
 
 abbrev pub is_else_at : Option Labelled → Bool
 is_else_at None = false
 is_else_at (Some s) = is_arm s.stmt && (own_executables s.stmt == 0)
 
--- where a false condition of the IF or ELSE IF at this place leads: to the next ELSE IF or END IF, or behind the ELSE
+-- where a false condition of the IF or ELSE IF at this place leads: to the next ELSE IF or END IF, or after the ELSE
 abbrev pub when_false : List Labelled → ℕ → ℕ
 when_false stmts place = if is_else_at (slice_get stmts (end_of_arm stmts place)) then met stmts (end_of_arm stmts place + 1) else first_of stmts (end_of_arm stmts place)
 
@@ -90,21 +90,21 @@ abbrev pub loop_number : List Labelled → ℕ → ℕ
 loop_number stmts place = length (filter (λ s. is_do s.stmt) (take place stmts))
 
 -- where control goes at the end of a DO whose increment is this executable: to the increment of the next DO that ends at the same
--- statement, or behind the statement
-abbrev pub exit_behind : List Labelled → (terminal : ℕ) → (increment : ℕ) → (outer : List ℕ) → ℕ
-exit_behind stmts terminal increment [] = met stmts (terminal + 1)
-exit_behind stmts terminal increment (d ∷ outer) = increment + 1
+-- statement, or after the statement
+abbrev pub exit_after : List Labelled → (terminal : ℕ) → (increment : ℕ) → (outer : List ℕ) → ℕ
+exit_after stmts terminal increment [] = met stmts (terminal + 1)
+exit_after stmts terminal increment (d ∷ outer) = increment + 1
 
 -- the executable that increments the DO d, of those that end at a statement, from the innermost; the first of them has this one
 abbrev pub exit_among : List Labelled → (terminal : ℕ) → (increment : ℕ) → List ℕ → (d : ℕ) → ℕ
 exit_among stmts terminal increment [] d = met stmts (terminal + 1)
-exit_among stmts terminal increment (inner ∷ outer) d = if inner == d then exit_behind stmts terminal increment outer else exit_among stmts terminal (increment + 1) outer d
+exit_among stmts terminal increment (inner ∷ outer) d = if inner == d then exit_after stmts terminal increment outer else exit_among stmts terminal (increment + 1) outer d
 
 abbrev pub increments_at : List Labelled → (terminal : ℕ) → Option Labelled → ℕ
 increments_at stmts terminal None = first_of stmts terminal
 increments_at stmts terminal (Some s) = first_of stmts terminal + own_executables s.stmt
 
--- where control goes behind the DO at the place d
+-- where control goes after the DO at the place d
 abbrev pub exit_of : List Labelled → (label d : ℕ) → ℕ
 exit_of stmts label d = exit_among stmts (statement_of stmts label) (increments_at stmts (statement_of stmts label) (slice_get stmts (statement_of stmts label))) (loops_to stmts label) d
 
@@ -149,10 +149,10 @@ variable_of (Some s) = do_variable s.stmt
 -- the increments of the DOs that end at the statement at this place, of which the first has this index
 abbrev pub increments : List NameInfo → (whole : List Labelled) → (place index : ℕ) → List ℕ → List ExecKind
 increments names whole place index [] = []
-increments names whole place index (d ∷ outer) = DoNext (loop_number whole d) (index_of names (variable_of (slice_get whole d))) (first_of whole d + 1) (exit_behind whole place index outer) ∷ increments names whole place (index + 1) outer
+increments names whole place index (d ∷ outer) = DoNext (loop_number whole d) (index_of names (variable_of (slice_get whole d))) (first_of whole d + 1) (exit_after whole place index outer) ∷ increments names whole place (index + 1) outer
 
 abbrev pub kinds_at : List NameInfo → (checked : Bool) → (whole : List Labelled) → (place : ℕ) → Labelled → List ExecKind
-kinds_at names checked whole place s = own_kinds names checked whole place (first_of whole place) (behind whole place s) s.stmt ++ increments names whole place (first_of whole place + own_executables s.stmt) (loops_to whole s.label)
+kinds_at names checked whole place s = own_kinds names checked whole place (first_of whole place) (beyond whole place s) s.stmt ++ increments names whole place (first_of whole place + own_executables s.stmt) (loops_to whole s.label)
 
 abbrev pub at_line : (line : ℕ) → List ExecKind → List Exec
 at_line line kinds = map (λ kind. record { line = line; kind = kind }) kinds

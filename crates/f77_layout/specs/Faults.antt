@@ -4,13 +4,13 @@ use Rattle.std.specs.List.{list_any}
 use Rattle.f77_tree.specs.declared.statements.Labelled.{Labelled}
 
 -- the line of the first of these statements with the fault, where those stand above them
-abbrev pub first_behind : (fault : List Labelled → Labelled → Bool) → (above stmts : List Labelled) → Option ℕ
-first_behind fault above [] = None
-first_behind fault above (s ∷ rest) = if fault above s then Some s.line else first_behind fault (above ++ s ∷ []) rest
+abbrev pub first_after : (fault : List Labelled → Labelled → Bool) → (above stmts : List Labelled) → Option ℕ
+first_after fault above [] = None
+first_after fault above (s ∷ rest) = if fault above s then Some s.line else first_after fault (above ++ s ∷ []) rest
 
 -- the lowest line with the fault
 abbrev pub first_line : (fault : List Labelled → Labelled → Bool) → List Labelled → Option ℕ
-first_line fault stmts = first_behind fault [] stmts
+first_line fault stmts = first_after fault [] stmts
 
 -- some item stands before it, or among `seen`
 abbrev pub has_repeat : {A : Type 0} → (same : A → A → Bool) → (seen items : List A) → Bool

@@ -19,7 +19,7 @@ pub record LiesWithin (inner outer : Span) : Type 0 where
   pub head : outer.head ≤ inner.head
   pub last : inner.last ≤ outer.last
 
--- The range or arm behind `head` holds the place, and lies within each other one that holds it.
+-- The range or arm after `head` holds the place, and lies within each other one that holds it.
 pub record IsInnermostHead (stmts : List Labelled) (place head : ℕ) : Type 0 where
   pub span : Span
   pub is : IsSpan stmts span
@@ -37,7 +37,7 @@ pub record AreInnermost (stmts : List Labelled) (heads : List (Option ℕ)) : Ty
   pub length_is : length heads ≡ length stmts
   pub innermost : (place : ℕ) (s : Labelled) → slice_get stmts place ≡ Some s → is_arm s.stmt ≡ false → IsInnermost stmts place (slice_index_or heads place None)
 
--- Ranges and arms lie one in the other or apart, each ends before END, and the range of a DO ends behind it.
+-- Ranges and arms lie one in the other or apart, each ends before END, and the range of a DO ends after it.
 pub record AreNested (stmts : List Labelled) : Type 0 where
   pub within_or_apart : (outer inner : Span) → IsSpan stmts outer → IsSpan stmts inner → outer.head < inner.head → (inner.last ≤ outer.last) ⊎ (outer.last ≤ inner.head)
   pub ends : (span : Span) → IsSpan stmts span → (span.head ≤ span.last) × (span.last + 1 < length stmts)

@@ -17,22 +17,22 @@ is_end_if EndIf = true
 is_end_if _ = false
 
 -- The place of the END IF, or where `arms` is told of the ELSE IF, ELSE or END IF, that belongs to the innermost block in which
--- these statements begin; `inner` blocks have begun behind. The statements stand at this place and behind it.
-abbrev pub end_behind : (arms : Bool) → (inner : ℕ) → List Labelled → ℕ → ℕ
-end_behind arms inner [] place = place
-end_behind arms inner (s ∷ rest) place = if is_block_if s.stmt then end_behind arms (inner + 1) rest (place + 1) else if (inner == 0) && (is_end_if s.stmt || (arms && is_arm s.stmt)) then place else if is_end_if s.stmt then end_behind arms (inner - 1) rest (place + 1) else end_behind arms inner rest (place + 1)
+-- these statements begin; `inner` blocks have begun after. The statements stand at this place and after it.
+abbrev pub end_after : (arms : Bool) → (inner : ℕ) → List Labelled → ℕ → ℕ
+end_after arms inner [] place = place
+end_after arms inner (s ∷ rest) place = if is_block_if s.stmt then end_after arms (inner + 1) rest (place + 1) else if (inner == 0) && (is_end_if s.stmt || (arms && is_arm s.stmt)) then place else if is_end_if s.stmt then end_after arms (inner - 1) rest (place + 1) else end_after arms inner rest (place + 1)
 
 -- the END IF of the block whose IF, ELSE IF or ELSE stands at this place
 abbrev pub end_of_block : List Labelled → ℕ → ℕ
-end_of_block stmts place = end_behind false 0 (drop (place + 1) stmts) (place + 1)
+end_of_block stmts place = end_after false 0 (drop (place + 1) stmts) (place + 1)
 
 -- the next ELSE IF, ELSE or END IF of that block
 abbrev pub end_of_arm : List Labelled → ℕ → ℕ
-end_of_arm stmts place = end_behind true 0 (drop (place + 1) stmts) (place + 1)
+end_of_arm stmts place = end_after true 0 (drop (place + 1) stmts) (place + 1)
 
 -- ---- ranges and arms
 
--- The statements behind `head`, up to and with `last`, are the range of a DO or an arm of an IF.
+-- The statements after `head`, up to and with `last`, are the range of a DO or an arm of an IF.
 pub record Span : Type 0 where
   pub head : ℕ
   pub last : ℕ

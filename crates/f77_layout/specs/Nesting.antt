@@ -36,11 +36,11 @@ abbrev pub without_loops : ℕ → List Open → List Open
 without_loops label [] = []
 without_loops label (top ∷ rest) = if is_loop_to label top then without_loops label rest else top ∷ rest
 
--- what is open, the innermost first, behind a statement that may end loops; none where a loop to its label is still open
+-- what is open, the innermost first, after a statement that may end loops; none where a loop to its label is still open
 abbrev pub after_ends : ℕ → List Open → Option (List Open)
 after_ends label stack = if list_any (is_loop_to label) stack then None else Some stack
 
--- what is open behind a statement, or none where the statement isn't nested right
+-- what is open after a statement, or none where the statement isn't nested right
 abbrev pub after_statement : Stmt → (label : ℕ) → List Open → Option (List Open)
 after_statement (Do terminal variable first last step) label stack = Some (Loop terminal ∷ stack)
 after_statement (BlockIf condition) label stack = Some (Block false ∷ stack)
@@ -54,10 +54,10 @@ after_statement End label [] = Some []
 after_statement End label (top ∷ rest) = None
 after_statement _ label stack = after_ends label (without_loops label stack)
 
-abbrev pub open_behind : Labelled → List Open → Option (List Open)
-open_behind s stack = if not (is_executable s.stmt) then Some stack else if list_any (is_loop_to s.label) stack && not (can_end s.stmt) then None else after_statement s.stmt s.label stack
+abbrev pub open_after : Labelled → List Open → Option (List Open)
+open_after s stack = if not (is_executable s.stmt) then Some stack else if list_any (is_loop_to s.label) stack && not (can_end s.stmt) then None else after_statement s.stmt s.label stack
 
--- the line, or what comes of what is open behind the statement
+-- the line, or what comes of what is open after the statement
 abbrev pub line_or : ℕ → Option (List Open) → (List Open → Option ℕ) → Option ℕ
 line_or line None next = Some line
 line_or line (Some stack) next = next stack
@@ -65,4 +65,4 @@ line_or line (Some stack) next = next stack
 -- the line of the first statement that isn't nested right, where these are open
 abbrev pub first_unnested : List Open → List Labelled → Option ℕ
 first_unnested stack [] = None
-first_unnested stack (s ∷ rest) = line_or s.line (open_behind s stack) (λ behind. first_unnested behind rest)
+first_unnested stack (s ∷ rest) = line_or s.line (open_after s stack) (λ beyond. first_unnested beyond rest)

@@ -35,16 +35,16 @@ abbrev pub loops_at : ℕ → List Entry → ℕ
 loops_at label [] = 0
 loops_at label (e ∷ rest) = (if ends_at label e then 1 else 0) + loops_at label rest
 
--- the loops that are open are counted by their labels; of a label behind the end of the table there are none
+-- the loops that are open are counted by their labels; of a label after the end of the table there are none
 abbrev pub AreCounted : (stack : List Entry) → (loops : List ℕ) → Type 0
 AreCounted stack loops = (label : ℕ) → slice_index loops label ≡ loops_at label stack
 
--- ---- what is open behind a statement; none where the statement isn't nested right
+-- ---- what is open after a statement; none where the statement isn't nested right
 
 abbrev pub begun : (place : ℕ) → Opened → Entry
 begun place opened = record { begin = place; opened = opened }
 
--- behind the IF, ELSE IF or ELSE of a new arm, in place of the arm on top, of the entry's kind
+-- after the IF, ELSE IF or ELSE of a new arm, in place of the arm on top, of the entry's kind
 abbrev pub arm_in_place : (is_last : Bool) → (place : ℕ) → Opened → List Entry → Option (List Entry)
 arm_in_place is_last place (Block false) rest = Some (begun place (Block is_last) ∷ rest)
 arm_in_place is_last place (Block true) rest = None
@@ -54,13 +54,13 @@ abbrev pub next_arm : (is_last : Bool) → (place : ℕ) → List Entry → Opti
 next_arm is_last place [] = None
 next_arm is_last place (top ∷ rest) = arm_in_place is_last place top.opened rest
 
-abbrev pub behind_block : Opened → List Entry → Option (List Entry)
-behind_block (Block is_last) rest = Some rest
-behind_block (Loop terminal) rest = None
+abbrev pub after_block : Opened → List Entry → Option (List Entry)
+after_block (Block is_last) rest = Some rest
+after_block (Loop terminal) rest = None
 
 abbrev pub ended_block : List Entry → Option (List Entry)
 ended_block [] = None
-ended_block (top ∷ rest) = behind_block top.opened rest
+ended_block (top ∷ rest) = after_block top.opened rest
 
 abbrev pub if_nothing : List Entry → Option (List Entry)
 if_nothing [] = Some []
@@ -86,5 +86,5 @@ is_no_end Declaration = false
 is_no_end Plain = false
 is_no_end _ = true
 
-abbrev pub entries_behind : Role → (place label : ℕ) → List Entry → Option (List Entry)
-entries_behind role place label stack = if list_any (ends_at label) stack && is_no_end role then None else after_role role place label stack
+abbrev pub entries_after : Role → (place label : ℕ) → List Entry → Option (List Entry)
+entries_after role place label stack = if list_any (ends_at label) stack && is_no_end role then None else after_role role place label stack

@@ -38,12 +38,12 @@ AreKnown names stmts = All (λ s. ArePartsKnown names (parts_of s.stmt) × AreGr
 -- ---- blocks
 
 -- the first names of blocks, where some names stand before
-abbrev pub firsts_behind : (seen standings : List Standing) → List ℕ
-firsts_behind seen [] = []
-firsts_behind seen (s ∷ rest) = (if list_any (λ a. same_block a.block s.block) seen then [] else s.name ∷ []) ++ firsts_behind (seen ++ s ∷ []) rest
+abbrev pub firsts_after : (seen standings : List Standing) → List ℕ
+firsts_after seen [] = []
+firsts_after seen (s ∷ rest) = (if list_any (λ a. same_block a.block s.block) seen then [] else s.name ∷ []) ++ firsts_after (seen ++ s ∷ []) rest
 
 abbrev pub firsts_of : List Standing → List ℕ
-firsts_of standings = firsts_behind [] standings
+firsts_of standings = firsts_after [] standings
 
 -- the name that stands last in a block
 abbrev pub last_in : Blocks → Option (List ℕ) → Option ℕ
@@ -86,7 +86,7 @@ equations_to names stmts i = equations names (all_commons stmts) (all_groups (ta
 abbrev pub AreRightTo : List NameInfo → List Labelled → ℕ → Type 0
 AreRightTo names stmts i = AreRight (spots_by (length names) (equations_to names stmts i)) (firsts_of (standings names (all_commons stmts))) (equations_to names stmts i)
 
--- behind each EQUIVALENCE statement among the first i statements the places are right
+-- after each EQUIVALENCE statement among the first i statements the places are right
 abbrev pub StayRight : List NameInfo → List Labelled → ℕ → Type 0
 StayRight names stmts i = (j : ℕ) (s : Labelled) → j < i → slice_get stmts j ≡ Some s → is_equivalence s.stmt ≡ true → AreRightTo names stmts (j + 1)
 

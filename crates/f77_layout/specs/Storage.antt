@@ -35,7 +35,7 @@ size_of dims = min too_many (elements dims)
 abbrev pub subscripts_before : Dim → ℤ → ℕ
 subscripts_before dim sub = if int_lt sub dim.lo then 0 else nat_abs (sub -ℤ dim.lo)
 
--- How far an element lies behind the first one: the first subscript runs fastest. Of subscripts outside the bounds nothing
+-- How far an element lies after the first one: the first subscript runs fastest. Of subscripts outside the bounds nothing
 -- depends: they are a fault of the statement where they stand.
 abbrev pub distance_of : List Dim → List ℤ → ℕ
 distance_of (dim ∷ dims) (sub ∷ subs) = min too_many (subscripts_before dim sub + extent dim * distance_of dims subs)
@@ -80,7 +80,7 @@ common_equations names commons = standing_equations names [] (standings names co
 
 -- ---- equations of EQUIVALENCE: all members of a group are at one place
 
--- how far the element lies behind the first word of its name; a name alone is its first element
+-- how far the element lies after the first word of its name; a name alone is its first element
 abbrev pub member_distance : List NameInfo → Member → ℤ
 member_distance names member = pos (distance_of (dims_of names (member_index names member)) member.subs)
 

@@ -44,14 +44,14 @@ joined_starts (Some start) (Some other) low = None
 abbrev pub joined_part : Part → Part → Option Part
 joined_part a b = joined_starts a.start b.start (int_min a.low b.low)
 
--- no name of the root's storage begins before the name that lies so far behind the root, and some name does there
+-- no name of the root's storage begins before the name that lies so far after the root, and some name does there
 pub record IsLow (spots : List Spot) (root : ℕ) (low : ℤ) : Type 0 where
   pub least : (y : ℕ) → y < length spots → storage_at spots root ≡ storage_at spots y → (distance_at spots root +ℤ low) ≤ℤ distance_at spots y
   pub name : ℕ
   pub known : name < length spots
   pub reached : IsBelow spots name root low
 
--- a block's first name lies so far behind the root
+-- a block's first name lies so far after the root
 pub record IsFirstAt (spots : List Spot) (firsts : List ℕ) (root : ℕ) (start : ℤ) : Type 0 where
   pub name : ℕ
   pub first : Contains firsts name

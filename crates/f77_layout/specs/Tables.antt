@@ -47,7 +47,7 @@ pub record IsFlow (stmts : List Labelled) (flow : Flow) : Type 0 where
 
 -- ---- statements as those of a source are
 
--- a statement that has one executable and may stand behind a condition
+-- a statement that has one executable and may stand after a condition
 abbrev pub is_plain : Stmt → Bool
 is_plain (Assign target value) = true
 is_plain (Print items) = true
@@ -58,7 +58,7 @@ is_plain (PickGoTo labels index) = true
 is_plain (SignIf value negative zero positive) = true
 is_plain _ = false
 
--- a statement that may stand behind a condition
+-- a statement that may stand after a condition
 abbrev pub is_simple : Stmt → Bool
 is_simple (Take targets) = true
 is_simple stmt = is_plain stmt
@@ -72,7 +72,7 @@ is_structural (Do label variable first last step) = true
 is_structural End = true
 is_structural _ = false
 
--- behind the condition of a logical IF stands a statement that may stand there
+-- after the condition of a logical IF stands a statement that may stand there
 abbrev pub has_simple_inner : Stmt → Bool
 has_simple_inner (ThenIf' condition shape (more_of-Stmt stmt rest)) = is_simple stmt
 has_simple_inner _ = true
@@ -89,7 +89,7 @@ pub record IsUsable (stmts : List Labelled) (s : Labelled) : Type 0 where
   pub labels : All (IsStanding stmts) (used s.stmt)
   pub no_subroutine : is_of_subroutines s.stmt ≡ false
 
--- a statement behind which an arm of a block begins
+-- a statement after which an arm of a block begins
 abbrev pub begins_arm : Stmt → Bool
 begins_arm (BlockIf condition) = true
 begins_arm (ElseIf condition) = true

@@ -43,13 +43,13 @@ leaf name = record { parent = name; offset = pos 0; count = 1 }
 abbrev pub IsRoot : List Node → ℕ → Type 0
 IsRoot nodes x = (node_at nodes x).parent ≡ x
 
--- The trees are those of the storages of these places: a name lies in the storage of its parent, as far behind it as its
+-- The trees are those of the storages of these places: a name lies in the storage of its parent, as far after it as its
 -- node says, and a storage has one root, which knows how many names there are. Counts rise towards the root.
 pub record IsForest (nodes : List Node) (spots : List Spot) : Type 0 where
   pub all : length nodes ≡ length spots
   pub parents : (x : ℕ) → x < length nodes → (node_at nodes x).parent < length nodes
   pub together : (x : ℕ) → x < length nodes → storage_at spots (node_at nodes x).parent ≡ storage_at spots x
-  pub behind : (x : ℕ) → x < length nodes → distance_at spots x ≡ distance_at spots (node_at nodes x).parent +ℤ (node_at nodes x).offset
+  pub beyond : (x : ℕ) → x < length nodes → distance_at spots x ≡ distance_at spots (node_at nodes x).parent +ℤ (node_at nodes x).offset
   pub one_root : (x y : ℕ) → x < length nodes → y < length nodes → IsRoot nodes x → IsRoot nodes y → storage_at spots x ≡ storage_at spots y → x ≡ y
   pub counts : (x : ℕ) → x < length nodes → IsRoot nodes x → (node_at nodes x).count ≡ count_in spots (storage_at spots x)
   pub rising : (x : ℕ) → x < length nodes → (node_at nodes x).parent ≢ x → (node_at nodes x).count < (node_at nodes (node_at nodes x).parent).count
@@ -62,10 +62,10 @@ pub record AreTrees (nodes : List Node) : Type 0 where
   pub spots : List Spot
   pub forest : IsForest nodes spots
 
--- the name lies in the same storage, so far behind the other one
+-- the name lies in the same storage, so far after the other one
 pub record IsBelow (spots : List Spot) (name other : ℕ) (distance : ℤ) : Type 0 where
   pub together : storage_at spots other ≡ storage_at spots name
-  pub behind : distance_at spots name ≡ distance_at spots other +ℤ distance
+  pub beyond : distance_at spots name ≡ distance_at spots other +ℤ distance
 
 -- the nodes hold places whose storages have the indices of their lowest names
 pub record AreLowTrees (nodes : List Node) : Type 0 where
@@ -73,7 +73,7 @@ pub record AreLowTrees (nodes : List Node) : Type 0 where
   pub forest : IsForest nodes spots
   pub lowest : AreLowest spots
 
--- the root of the name's tree, and how far the name lies behind it
+-- the root of the name's tree, and how far the name lies after it
 pub record IsRooted (nodes : List Node) (spots : List Spot) (name : ℕ) (rooted : Rooted) : Type 0 where
   pub known : rooted.root < length nodes
   pub root : IsRoot nodes rooted.root
@@ -86,7 +86,7 @@ pub record IsReach (distance : ℤ) : Type 0 where
   pub low : (pos 0 -ℤ pos too_many) ≤ℤ distance
   pub high : distance ≤ℤ pos too_many
 
--- the nodes after a root was hung under another one, so many words behind it
+-- the nodes after a root was hung under another one, so many words after it
 abbrev pub hung : List Node → (child root : ℕ) → (offset : ℤ) → List Node
 hung nodes child root offset = set (set nodes child (record (node_at nodes child) { parent = root; offset = offset })) root (record (node_at nodes root) { count = (node_at nodes root).count + (node_at nodes child).count })
 
@@ -106,7 +106,7 @@ pub record IsHung (old new : List Node) (spots : List Spot) (e : Equation) (chil
   -- the other roots stay
   pub left : (x : ℕ) → x < length old → IsRoot new x → IsRoot old x × (x ≢ child)
 
--- the names are in one storage, the second so far behind the first, and no tree changes
+-- the names are in one storage, the second so far after the first, and no tree changes
 pub record IsSame (old new : List Node) (spots : List Spot) (e : Equation) (distance : ℤ) : Type 0 where
   pub unchanged : new ≡ old
   pub below : IsBelow spots e.to e.from distance

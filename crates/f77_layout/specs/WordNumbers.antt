@@ -46,7 +46,7 @@ base_by names spots k root = if nat_lt (storage_at spots root) k then Some (word
 abbrev pub base_at : List (Option ℕ) → ℕ → Option ℕ
 base_at bases x = get_or bases x None
 
--- where the words of a storage begin, and the first word behind all so far: a storage that has no words yet begins there
+-- where the words of a storage begin, and the first word after all so far: a storage that has no words yet begins there
 abbrev pub begun : Option ℕ → (words size : ℕ) → ℕ × ℕ
 begun (Some base) words size = (base, words)
 begun None words size = (words, words + size)

@@ -27,7 +27,7 @@ fn top_or(met: &[u32], none: u32) -> u32
     }
 }
 
-/// Goes back over a statement; `met` has the places of the ends that were met behind it, the innermost last.
+/// Goes back over a statement; `met` has the places of the ends that were met after it, the innermost last.
 fn step_back(met: &mut Vec<u32>, place: u32, role: Role, are_arms: bool) -> Result<(), NoMemory>
     ensures { OnOk result ((none inner : ℕ) → slice_index_or (reverse met.new.items) inner none ≡ end_by are_arms role place (λ k. slice_index_or (reverse met.old.items) k none) inner) }
 {
@@ -47,8 +47,8 @@ fn step_back(met: &mut Vec<u32>, place: u32, role: Role, are_arms: bool) -> Resu
     Ok(())
 }
 
-/// For each place the end of the block, or of the arm, in which the statements behind it begin.
-fn ends_behind(alloc: Global, stmts: &[Labelled], are_arms: bool) -> Result<Vec<u32>, NoMemory>
+/// For each place the end of the block, or of the arm, in which the statements after it begin.
+fn ends_after(alloc: Global, stmts: &[Labelled], are_arms: bool) -> Result<Vec<u32>, NoMemory>
     requires { length stmts.now < 4294967296 }
     ensures { IfOk result (λ ends. AreEnds are_arms stmts.now ends.items) }
 {
@@ -71,8 +71,8 @@ impl Blocks {
         ensures { IfOk result (AreBlocksOf stmts.now) }
     {
         Ok(Blocks {
-            arm_ends: ends_behind(alloc, stmts, true)?,
-            block_ends: ends_behind(alloc, stmts, false)?,
+            arm_ends: ends_after(alloc, stmts, true)?,
+            block_ends: ends_after(alloc, stmts, false)?,
         })
     }
 

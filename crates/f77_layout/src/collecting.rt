@@ -14,7 +14,7 @@ use f77_tree::{
 };
 use std::alloc::Global;
 
-/// Copies of items behind those of a list. A list that is full has no memory for more.
+/// Copies of items after those of a list. A list that is full has no memory for more.
 fn append<T: Copied + Drop>(
     alloc: Global,
     list: &mut Sequence<T>,

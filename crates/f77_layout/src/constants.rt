@@ -24,7 +24,7 @@ impl<'a> Model for Constants<'a> {
     ghost view = { λ c. drop c.taken (all_constants c.values.now) };
 }
 
-/// A constant as often as it stands in front.
+/// A constant as often as it comes first.
 #[derive(Clone, Copy)]
 pub(crate) struct Run {
     pub(crate) value: Lit,
@@ -39,7 +39,7 @@ impl<'a> Constants<'a> {
         Constants { values, taken: 0 }
     }
 
-    /// Takes the front constant as often as it stands there, but at most so often.
+    /// Takes the first constant as often as it stands there, but at most so often.
     pub(crate) fn take(&mut self, most: u32) -> Option<Run>
         requires { 0 < most }
         ensures taken { MatchOption result (self.old ≡ []) (λ run. self.old ≡ replicate run.times run.value ++ self.new) }
@@ -47,17 +47,17 @@ impl<'a> Constants<'a> {
         ensures bound { IfSome result (λ run. run.times ≤ most) }
         ensures none { IfNone result (self.new ≡ []) }
     {
-        while let Some((front, rest)) = self.values.split_first() {
-            if self.taken < front.times {
-                let times = most.min(front.times - self.taken);
+        while let Some((run, rest)) = self.values.split_first() {
+            if self.taken < run.times {
+                let times = most.min(run.times - self.taken);
                 self.taken += times;
                 return Some(Run {
-                    value: front.value,
+                    value: run.value,
                     times,
                 });
             }
             self.values = rest;
-            self.taken -= front.times;
+            self.taken -= run.times;
         }
         None
     }

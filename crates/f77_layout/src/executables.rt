@@ -75,7 +75,7 @@ pub(crate) struct Maker<'a> {
 }
 
 impl Maker<'_> {
-    /// The executables of the statement at a place, behind those of the statements above it.
+    /// The executables of the statement at a place, after those of the statements above it.
     fn statement(&self, execs: &mut ExecList, place: usize) -> Result<(), NoMemory>
         requires flow { IsFlow self.now.stmts.now self.now.flow.now }
         requires usable { All (IsUsable self.now.stmts.now) self.now.stmts.now }
@@ -85,12 +85,12 @@ impl Maker<'_> {
         ensures index { OnOk result (length execs.new ≡ first_of self.now.stmts.now (place + 1)) }
     {
         let s = &self.stmts[place];
-        let next = self.flow.behind(self.stmts, place);
+        let next = self.flow.beyond(self.stmts, place);
         self.own(execs, place, s, next)?;
         self.increments(execs, place, s)
     }
 
-    /// The one executable of a statement that may stand behind a condition and is no READ.
+    /// The one executable of a statement that may stand after a condition and is no READ.
     fn plain(&self, stmt: &Stmt, next: u32) -> Result<ExecKind, NoMemory>
         requires flow { IsFlow self.now.stmts.now self.now.flow.now }
         requires plain { is_plain stmt.now ≡ true }
@@ -187,7 +187,7 @@ impl Maker<'_> {
         Ok(list)
     }
 
-    /// The executables of READ, one for each target, behind those that are there.
+    /// The executables of READ, one for each target, after those that are there.
     fn take(
         &self,
         execs: &mut ExecList,
@@ -223,7 +223,7 @@ impl Maker<'_> {
         Ok(Expr::Input)
     }
 
-    /// The executables of a statement that may stand behind a condition.
+    /// The executables of a statement that may stand after a condition.
     fn simple(
         &self,
         execs: &mut ExecList,

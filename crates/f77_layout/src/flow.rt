@@ -1,7 +1,7 @@
 //! Tables over the statements, from which each executable's successors are read at once.
 ghost use Rattle.std.specs.Prelude.{◌≡◌, ℕ, ◌+◌, ◌-◌, ◌<◌, ◌≤◌, ◌^◌, length, slice_index, IfOk};
 ghost use Rattle.std.specs.Prelude.{All, Some, slice_get, sum_by};
-ghost use Rattle.f77_layout.specs.Executables.{own_executables as own_executables_of, executables_with_ends, first_of, loop_number, loops_above, met as met_of, labelled as labelled_in, behind as behind_of, when_false as when_false_in, exit_of, is_do_in, is_else_at as is_else_in};
+ghost use Rattle.f77_layout.specs.Executables.{own_executables as own_executables_of, executables_with_ends, first_of, loop_number, loops_above, met as met_of, labelled as labelled_in, beyond as after_of, when_false as when_false_in, exit_of, is_do_in, is_else_at as is_else_in};
 ghost use Rattle.f77_layout.specs.Labels.{statement_of};
 ghost use Rattle.std.specs.Prelude.{true};
 ghost use Rattle.std.specs.List.{HoldsAt};
@@ -24,7 +24,7 @@ pub(crate) struct Flow {
     loops: Loops,
     /// For the place of each DO, its number.
     numbers: Vec<u32>,
-    /// For each place, the index of the first executable of its statement, and behind them how many executables there are.
+    /// For each place, the index of the first executable of its statement, and after them how many executables there are.
     first: Vec<u32>,
     /// For each place, the executable that control comes to where it falls to its statement.
     met: Vec<u32>,
@@ -50,7 +50,7 @@ impl Flow {
         self.first[stmts.len() - 1]
     }
 
-    /// The executable that control comes to where it falls to what stands behind a place.
+    /// The executable that control comes to where it falls to what stands after a place.
     pub(crate) fn next(&self, stmts: &[Labelled], place: usize) -> u32
         requires flow { IsFlow stmts.now self.now }
         requires place { place < length stmts.now }
@@ -90,12 +90,12 @@ impl Flow {
         self.numbers[place]
     }
 
-    /// Where control goes behind the statement at a place.
-    pub(crate) fn behind(&self, stmts: &[Labelled], place: usize) -> u32
+    /// Where control goes after the statement at a place.
+    pub(crate) fn beyond(&self, stmts: &[Labelled], place: usize) -> u32
         requires flow { IsFlow stmts.now self.now }
         requires place { place < length stmts.now }
         requires label { All (λ s. s.label < 100000) stmts.now }
-        ensures { HoldsAt (λ s. result ≡ behind_of stmts.now place s) stmts.now place }
+        ensures { HoldsAt (λ s. result ≡ after_of stmts.now place s) stmts.now place }
     {
         let s = &stmts[place];
         if self.loops.to(s.label).is_empty() {
@@ -117,7 +117,7 @@ impl Flow {
         self.first[end]
     }
 
-    /// Where control goes behind the DO at a place, whose range ends at the statement with the label.
+    /// Where control goes after the DO at a place, whose range ends at the statement with the label.
     pub(crate) fn exit(&self, stmts: &[Labelled], place: usize, label: u32) -> u32
         requires flow { IsFlow stmts.now self.now }
         requires place { place < length stmts.now }
@@ -213,7 +213,7 @@ pub(crate) fn own_executables(stmt: &Stmt) -> u32
     }
 }
 
-/// For each place, the index of the first executable of its statement. Behind them stands how many executables there are.
+/// For each place, the index of the first executable of its statement. After them stands how many executables there are.
 fn first_executables(alloc: Global, stmts: &[Labelled], loops: &Loops) -> Result<Vec<u32>, NoMemory>
     requires loops { AreLoops stmts.now (length stmts.now) (listed loops.now.by_label) }
     requires labels { All (λ s. s.label < 100000) stmts.now }
@@ -240,7 +240,7 @@ fn executables_of(stmts: &[Labelled], s: &Labelled, loops: &Loops) -> u32
     own_executables(&s.stmt) + loops.to(s.label).len()
 }
 
-/// For each place, the executable that control comes to where it falls to its statement. Behind them stands how many
+/// For each place, the executable that control comes to where it falls to its statement. After them stands how many
 /// executables there are.
 fn met_executables(
     alloc: Global,

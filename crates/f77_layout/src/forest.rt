@@ -5,7 +5,7 @@ ghost use Rattle.f77_layout.specs.Trees.{AreTrees, IsForest, IsJoined, IsReach, 
 use df_sequence::NoMemory;
 use std::alloc::Global;
 
-/// A name in a tree of names: so far behind its parent, and the root of so many names. A root is its own parent; what the
+/// A name in a tree of names: so far after its parent, and the root of so many names. A root is its own parent; what the
 /// count of another name was when it was hung under its parent.
 #[derive(Clone, Copy, Drop)]
 pub(crate) struct Node {
@@ -14,7 +14,7 @@ pub(crate) struct Node {
     count: u32,
 }
 
-/// The root of a name's tree, and how many words the name begins behind it.
+/// The root of a name's tree, and how many words the name begins after it.
 #[derive(Clone, Copy, Drop)]
 pub(crate) struct Rooted {
     pub(crate) root: u32,
@@ -24,9 +24,9 @@ pub(crate) struct Rooted {
 /// What became of an equation between two names.
 #[derive(Clone, Copy, Drop)]
 pub(crate) enum Joined {
-    /// The names were in one tree, the second so many words behind the first.
+    /// The names were in one tree, the second so many words after the first.
     Same { distance: i64 },
-    /// A root was hung under another one, behind which it begins so many words.
+    /// A root was hung under another one, after which it begins so many words.
     Hung { child: u32, root: u32, offset: i64 },
 }
 
@@ -74,7 +74,7 @@ impl Forest {
         }
     }
 
-    /// Links two names, of which the second begins so many words behind the first. Where they are in two trees, the one with
+    /// Links two names, of which the second begins so many words after the first. Where they are in two trees, the one with
     /// fewer names is hung under the other.
     pub(crate) fn join(&mut self, from: u32, to: u32, distance: i64) -> Joined
         requires trees { AreTrees self.old.nodes.items }
@@ -90,7 +90,7 @@ impl Forest {
             let distance = b.distance - a.distance;
             return Joined::Same { distance };
         }
-        // The second root behind the first one.
+        // The second root after the first one.
         let offset = a.distance + distance - b.distance;
         if self.nodes[a.root as usize].count < self.nodes[b.root as usize].count {
             self.hang(a.root, b.root, -offset)
@@ -99,7 +99,7 @@ impl Forest {
         }
     }
 
-    // Hangs a root under another one, so many words behind it.
+    // Hangs a root under another one, so many words after it.
     fn hang(&mut self, child: u32, root: u32, offset: i64) -> Joined
         requires child { child < length self.old.nodes.items }
         requires root { root < length self.old.nodes.items }

@@ -13,7 +13,7 @@ use df_sequence::NoMemory;
 use std::alloc::Global;
 use std::collections::BTreeMap;
 
-/// Words with numbers up to 2^64, in intervals without a common word: the number behind the last word, by the first word.
+/// Words with numbers up to 2^64, in intervals without a common word: the number after the last word, by the first word.
 #[derive(Drop)]
 pub(crate) struct GivenWords {
     ends: BTreeMap<u64, u64>,

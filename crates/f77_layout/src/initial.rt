@@ -89,8 +89,8 @@ fn write_next(cells: &mut [i32], word: u64, constants: &mut Constants<'_>)
     ensures cells { cells.new ≡ written cells.old (zip (word ∷ []) constants.old) }
     ensures constants { constants.new ≡ drop 1 constants.old }
 {
-    if let Some(front) = constants.take(1) {
-        write(cells, word, front.value);
+    if let Some(run) = constants.take(1) {
+        write(cells, word, run.value);
     }
 }
 

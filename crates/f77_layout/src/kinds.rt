@@ -78,7 +78,7 @@ fn kind_of_name(names: &Names, name: &Name) -> Option<Kind>
     }
 }
 
-// The kind of a name with so many integers behind it: the subscripts of an array, or the arguments of an intrinsic function.
+// The kind of a name with so many integers after it: the subscripts of an array, or the arguments of an intrinsic function.
 fn call_kind(names: &Names, name: &Name, count: u32) -> Option<Kind>
     ensures { result ≡ kind_of_call names.now name.now count }
 {

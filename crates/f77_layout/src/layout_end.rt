@@ -5,7 +5,7 @@ use thiserror::Error;
 /// told, NoMemory aside, with the lowest line that has it.
 #[derive(Clone, Copy, Debug, PartialEq, Eq, Error)]
 pub enum LayoutEnd {
-    /// A statement stands behind one that must follow it, or a second PROGRAM, or anything after END (section 3.5).
+    /// A statement stands after one that must follow it, or a second PROGRAM, or anything after END (section 3.5).
     #[error("line {0}: the statement stands in the wrong order")]
     OutOfOrder(u32),
     /// A name is neither integer nor logical (section 4.1.2).

@@ -50,7 +50,7 @@ impl LoopLists {
         }
     }
 
-    /// Puts a place behind the others of its label, and tells how many these are.
+    /// Puts a place after the others of its label, and tells how many these are.
     fn enter(&mut self, alloc: Global, label: u32, place: u32) -> Result<u32, NoMemory>
         requires { length (listed self.old label) + 1 < 2 ^ 32 }
         ensures rank { IfOk result (λ rank. rank ≡ length (listed self.old label)) }

@@ -5,7 +5,7 @@ ghost use Rattle.f77_layout.specs.Source.{IsSource};
 ghost use Rattle.f77_layout.specs.Faults.{first_line};
 ghost use Rattle.f77_layout.specs.Labels.{is_labelled_twice};
 ghost use Rattle.f77_layout.specs.Innermost.{IsNestingOf};
-ghost use Rattle.f77_layout.specs.OpenStack.{ended_block, entries_behind, is_opened_to, next_arm, without_ended};
+ghost use Rattle.f77_layout.specs.OpenStack.{ended_block, entries_after, is_opened_to, next_arm, without_ended};
 
 use crate::open_stack::{Entry, OpenStack, Opened};
 use crate::roles::{Role, role_in};
@@ -75,7 +75,7 @@ fn end_block(stack: &mut OpenStack) -> bool
 
 /// Takes one statement more; false where it isn't nested right.
 fn step(stack: &mut OpenStack, place: u32, role: Role, label: u32) -> Result<bool, NoMemory>
-    ensures { IfOk result (λ right. entries_behind role place label stack.old ≡ (if right then Some stack.new else None)) }
+    ensures { IfOk result (λ right. entries_after role place label stack.old ≡ (if right then Some stack.new else None)) }
 {
     if stack.has_loop_to(label) && !matches!(role, Role::Declaration | Role::Plain) {
         return Ok(false);
@@ -121,7 +121,7 @@ pub(crate) fn nesting_of(alloc: Global, stmts: &[Labelled]) -> Result<Nesting, N
         if !step(&mut stack, i as u32, role, s.label)? {
             return Ok(Nesting::Unnested(s.line));
         }
-        // END IF stands behind the arm that it ends.
+        // END IF stands after the arm that it ends.
         let head = match role {
             Role::EndBlock => stack.head(),
             _ => inside,

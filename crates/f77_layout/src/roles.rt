@@ -18,7 +18,7 @@ pub(crate) enum Role {
     LastArm,
     /// It ends a block.
     EndBlock,
-    /// Nothing stands behind it.
+    /// Nothing stands after it.
     Finish,
     /// Another statement that control leaves by a jump of its own, so that no loop ends there.
     Leave,

@@ -4,7 +4,7 @@ ghost use Rattle.std.specs.Prelude.{◌≡◌, ℕ, ◌<◌, length, slice_index
 
 use df_sequence::NoMemory;
 
-/// Lengthens a table so that the number has an entry in it. The value is what is read behind the end, and the new entries are
+/// Lengthens a table so that the number has an entry in it. The value is what is read after the end, and the new entries are
 /// that value.
 pub(crate) fn make_room<T: Copy + Drop>(
     table: &mut Vec<T>,

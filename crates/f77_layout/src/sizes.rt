@@ -17,7 +17,7 @@ pub(crate) fn size_of(dims: &[Dim]) -> u32
     size as u32
 }
 
-/// How many words an element lies behind the first one of its array, up to 262,145.
+/// How many words an element lies after the first one of its array, up to 262,145.
 pub(crate) fn distance_of(dims: &[Dim], subs: &[i32]) -> u32
     ensures value { result ≡ distance_of dims.now subs.now }
     ensures within { result ≤ too_many }

@@ -10,7 +10,7 @@ use crate::forest::{Forest, Joined, Rooted};
 use df_sequence::NoMemory;
 use std::alloc::Global;
 
-/// What a storage holds: how far behind its root its first word lies, and the first word of its block, if it has one.
+/// What a storage holds: how far after its root its first word lies, and the first word of its block, if it has one.
 #[derive(Clone, Copy, Drop)]
 pub(crate) struct Part {
     low: i64,
@@ -76,7 +76,7 @@ impl Storages {
         }
     }
 
-    /// Links two names, of which the second begins so many words behind the first.
+    /// Links two names, of which the second begins so many words after the first.
     pub(crate) fn join(&mut self, from: u32, to: u32, distance: i64)
         requires some { AreSome self.old }
         requires first { from < length self.old.parts.items }

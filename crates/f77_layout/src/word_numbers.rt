@@ -84,7 +84,7 @@ pub(crate) fn numbers_of(
     word_numbers(alloc, names, storages.forest())
 }
 
-// Where the words of a storage begin that has this size, and the number behind all words so far. A storage that has no words
+// Where the words of a storage begin that has this size, and the number after all words so far. A storage that has no words
 // yet begins there.
 fn begun(base: Option<u64>, words: u64, size: u64) -> (u64, u64)
     requires { words + size < 2 ^ 64 }

@@ -4,7 +4,7 @@ use Rattle.op_table.specs.declared.Trap.{Trap}
 use Rattle.f77_tree.specs.declared.programs.Exec.{Exec}
 use Rattle.f77_tree.specs.declared.programs.Item.{Item}
 use Rattle.f77_tree.specs.declared.programs.NameInfo.{NameInfo}
-use Rattle.f77_tree.specs.Line.{item_before, line_of_texts, text_with, values_behind, line_with, item_room, line_room}
+use Rattle.f77_tree.specs.Line.{item_before, line_of_texts, text_with, values_after, line_with, item_room, line_room}
 use Rattle.f77_meaning.specs.Room.{item_pushed, line_after, kind_room, most_room}
 
 after_item : (text : Result (List ℕ) Trap) (xs ys : List ℕ) (more : Result (List ℕ) Trap) → item_pushed xs text ≡ Ok ys → line_after xs (item_before text more) ≡ line_after ys more
@@ -12,7 +12,7 @@ after_item (Err trap) xs ys more is = absurd cc
 after_item (Ok text) xs ys (Err trap) is = refl
 after_item (Ok text) xs ys (Ok rest) is =
     let e : xs ++ 32 ∷ text ≡ ys = cc in
-    ap Ok (sym (append_assoc xs (32 ∷ text) rest) ∙ ap (λ front. front ++ rest) e)
+    ap Ok (sym (append_assoc xs (32 ∷ text) rest) ∙ ap (λ prefix. prefix ++ rest) e)
 
 after_trap : (text : Result (List ℕ) Trap) (xs : List ℕ) (more : Result (List ℕ) Trap) (trap : Trap) → item_pushed xs text ≡ Err trap → line_after xs (item_before text more) ≡ Err trap
 after_trap (Err other) xs more trap is = is
@@ -37,9 +37,9 @@ line_after_none (Err trap) = refl
 line_after_none (Ok bytes) = refl
 
 -- one item more of the line of values
-pub with_next : (names : List NameInfo) (items : List Item) (i : ℕ) (item : Item) (line : List ℕ) (values : List ℤ) → i < length items → item ≡ get_or items i item → line ++ line_with names (drop i items) values ≡ (line ++ 32 ∷ text_with names item values) ++ line_with names (drop (i + 1) items) (values_behind item values)
+pub with_next : (names : List NameInfo) (items : List Item) (i : ℕ) (item : Item) (line : List ℕ) (values : List ℤ) → i < length items → item ≡ get_or items i item → line ++ line_with names (drop i items) values ≡ (line ++ 32 ∷ text_with names item values) ++ line_with names (drop (i + 1) items) (values_after item values)
 with_next names items i item line values lt is =
-    rw (add-one, drop-cons items i item, ← is) (sym (append_assoc line (32 ∷ text_with names item values) (line_with names (drop (suc i) items) (values_behind item values))))
+    rw (add-one, drop-cons items i item, ← is) (sym (append_assoc line (32 ∷ text_with names item values) (line_with names (drop (suc i) items) (values_after item values))))
 
 -- the most of what is left
 pub most_next : (execs : List Exec) (i : ℕ) (exec : Exec) → i < length execs → exec ≡ get_or execs i exec → most_room (drop i execs) ≡ max (kind_room exec.kind) (most_room (drop (i + 1) execs))

@@ -21,10 +21,10 @@ abbrev pub item_pushed : List ℕ → Result (List ℕ) Trap → Result (List �
 item_pushed line (Err trap) = Err trap
 item_pushed line (Ok text) = Ok (line ++ 32 ∷ text)
 
--- the rest of a line after its front
+-- the rest of a line after its prefix
 abbrev pub line_after : List ℕ → Result (List ℕ) Trap → Result (List ℕ) Trap
-line_after front (Err trap) = Err trap
-line_after front (Ok rest) = Ok (front ++ rest)
+line_after prefix (Err trap) = Err trap
+line_after prefix (Ok rest) = Ok (prefix ++ rest)
 
 -- a line, unless a trap was told
 abbrev pub told : {A : Type 0} → Result A Trap → List ℕ → Result (List ℕ) Trap

@@ -1,5 +1,5 @@
 ghost use Rattle.std.specs.Prelude.{◌≡◌, ◌+◌, ◌≤◌, All, [], ◌∷◌, ◌++◌, length, vec_len, vec_capacity};
-ghost use Rattle.f77_tree.specs.Line.{text_of, kind_of_expression, kind_of_op, item_text, line_of, text_with, values_behind, line_with, item_room, line_room};
+ghost use Rattle.f77_tree.specs.Line.{text_of, kind_of_expression, kind_of_op, item_text, line_of, text_with, values_after, line_with, item_room, line_room};
 ghost use Rattle.f77_tree.specs.Value.{IsExpression, ArePlaced};
 ghost use Rattle.f77_tree.specs.CanRun.{CanPrint};
 ghost use Rattle.f77_meaning.specs.Room.{item_pushed, told};
@@ -44,7 +44,7 @@ pub fn write_values(line: &mut Vec<u8>, items: &ItemList, names: &NameInfoList, 
     let mut rest = values;
     for item in items.as_slice() {
         push_item_with(line, item, names, rest);
-        rest = values_behind(item, rest);
+        rest = values_after(item, rest);
     }
     push_byte(line, b'\n');
 }
@@ -68,9 +68,9 @@ fn push_item_with(line: &mut Vec<u8>, item: &Item, names: &NameInfoList, values:
     }
 }
 
-// The values that are still to come behind an item.
-fn values_behind<'a>(item: &Item, values: &'a [i32]) -> &'a [i32]
-    ensures { result.now ≡ values_behind item.now values.now }
+// The values that are still to come after an item.
+fn values_after<'a>(item: &Item, values: &'a [i32]) -> &'a [i32]
+    ensures { result.now ≡ values_after item.now values.now }
 {
     match item {
         Item::Value(_) => values.get(1..).unwrap_or_default(),

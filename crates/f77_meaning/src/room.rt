@@ -5,7 +5,7 @@ ghost use Rattle.f77_meaning.specs.Room.{kind_room, most_room};
 use df_sequence::NoMemory;
 use f77_tree::{Exec, ExecKind, Item};
 
-/// How many bytes the longest line may have that the executables write. A number that no memory holds is want of memory.
+/// How many bytes the longest line may have that the executables write. A number that no memory holds is allocation failure.
 #[tactic(auto, using(crate::proofs::Lines::most_next))]
 pub fn longest_line(execs: &[Exec]) -> Result<usize, NoMemory>
     ensures { IfOk result (λ room. room ≡ most_room execs.now) }

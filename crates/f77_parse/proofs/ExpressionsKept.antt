@@ -11,9 +11,9 @@ use Rattle.f77_parse.specs.Answers.{Gives}
 use Rattle.f77_expr.specs.Reader.{Reads, and_then_read, expression_at}
 use Rattle.f77_expr.proofs.EachRead.{each_at, if_true}
 use Rattle.f77_expr.proofs.Followers.{is_follower}
-use Rattle.f77_expr.proofs.Pieces.{piece_and_rest, behind_piece, follower_ends, piece_spelled, read_piece}
+use Rattle.f77_expr.proofs.Pieces.{piece_and_rest, after_piece, follower_ends, piece_spelled, read_piece}
 use Rattle.f77_expr.proofs.Descent.{readers_shorter}
-use Rattle.f77_parse.specs.Parts.{expression_in_front, ends_expression}
+use Rattle.f77_parse.specs.Parts.{expression_at_start, ends_expression}
 use Rattle.f77_parse.specs.Keeping.{kept_expression, expression_kept}
 use Rattle.f77_parse.proofs.PartExpressions.{expression_sound}
 
@@ -29,11 +29,11 @@ follows_from (c ∷ more) h = h
 pub piece_short : (text : List ℕ) → length (piece text) ≤ length text
 piece_short text = omega (arith, length-append (piece text) (drop (length (piece text)) text), ap length (piece_and_rest nothing_open text))
 
-in_front : (text : List ℕ) (w : Written) → IsWritten (piece text) w → expression_in_front text ≡ Some (w, drop (length (piece text)) text)
-in_front text w is =
+at_start : (text : List ℕ) (w : Written) → IsWritten (piece text) w → expression_at_start text ≡ Some (w, drop (length (piece text)) text)
+at_start text w is =
     let rest : List ℕ = drop (length (piece text)) text in
     ap (and_then_read (λ w rest. if ends_expression rest then Some (w, rest) else None)) (read_piece text w is)
-    ∙ if_true (ends_expression rest) (Some (w, rest)) None (ends_from rest (behind_piece nothing_open text))
+    ∙ if_true (ends_expression rest) (Some (w, rest)) None (ends_from rest (after_piece nothing_open text))
 
 -- an expression that was read
 pub expression_there : (bad : Bool) (text : List ℕ) (e : RawExpr) (great : Bool) (rest : List ℕ) (bad_now : Bool) → IsReadWhole (piece text) e great → rest ≡ drop (length (piece text)) text → bad_now ≡ (bad || great) → expression_kept bad text ≡ Some (e, bad_now, rest)
@@ -41,7 +41,7 @@ unfolding expression_kept
 expression_there bad text e great rest bad_now is rest_is bad_is =
     let end : List ℕ = drop (length (piece text)) text in
     let w = is.written in
-    ap (kept_expression bad) (in_front text w is.spells)
+    ap (kept_expression bad) (at_start text w is.spells)
     ∙ ap (λ (k : RawExpr). Some (k, bad || has_great_number w, end)) (sym is.is_kept)
     ∙ ap (λ (g : Bool). Some (e, bad || g, end)) (sym is.is_great)
     ∙ ap (λ (b : Bool). Some (e, b, end)) (sym bad_is)
@@ -50,14 +50,14 @@ expression_there bad text e great rest bad_now is rest_is bad_is =
 -- and none
 pub expression_none : (bad : Bool) (text : List ℕ) → ((w : Written) → IsWritten (piece text) w → ⊥) → expression_kept bad text ≡ None
 unfolding expression_kept
-expression_none bad text none = here (expression_in_front text) refl
+expression_none bad text none = here (expression_at_start text) refl
   where
-    here : (x : Reads Written) → expression_in_front text ≡ x → kept_expression bad x ≡ None
+    here : (x : Reads Written) → expression_at_start text ≡ x → kept_expression bad x ≡ None
     here None e = refl
     here (Some (w, rest)) e =
-        let is = each_at (λ w rest. IsGrammatical w × (spelling w ++ rest ≡ text) × (ends_expression rest ≡ true)) (expression_in_front text) (expression_sound text) w rest e in
-        let front : piece text ≡ spelling w = ap piece (sym is.1) ∙ piece_spelled w rest is.0 (follower_ends rest (follows_from rest is.2)) in
-        absurd (none w (record { grammatical = is.0; is = sym front }))
+        let is = each_at (λ w rest. IsGrammatical w × (spelling w ++ rest ≡ text) × (ends_expression rest ≡ true)) (expression_at_start text) (expression_sound text) w rest e in
+        let prefix : piece text ≡ spelling w = ap piece (sym is.1) ∙ piece_spelled w rest is.0 (follower_ends rest (follows_from rest is.2)) in
+        absurd (none w (record { grammatical = is.0; is = sym prefix }))
 
 -- an error
 pub piece_failed : (text again : List ℕ) → text ≡ again → (from : ℕ) (bad bad_now : Bool) (rest : List ℕ) (part : Result ReadExpr ReadEnd) (whole : Result RawExpr ReadEnd) (e : ReadEnd) → part ≡ Err e → whole ≡ Err e → IsPieceRead (piece again) from part → Gives (expression_kept bad text) whole bad_now rest

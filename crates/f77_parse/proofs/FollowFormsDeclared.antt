@@ -7,7 +7,7 @@ use Rattle.f77_tree.specs.declared.statements.Stmt.{Stmt}
 use Rattle.f77_tree.specs.declared.statements.Stmt.TheVariants.{Implicit, TypeOf, Dimension, Common, Equivalence, Init}
 use Rattle.f77_tree.specs.StatementGrammar.{SignedDigits, WrittenStatement, has_bad_constant, has_dims, is_great, are_great, decl_numbers, letters_of, value_is_bad}
 use Rattle.f77_expr.specs.Reader.{Reads, read_as, and_then_read}
-use Rattle.f77_parse.specs.Parts.{where_it, decl_at, letters_at, list_at, parts_to_end, first_part_at, part_at, group_at, data_behind, data_at}
+use Rattle.f77_parse.specs.Parts.{where_it, decl_at, letters_at, list_at, parts_to_end, first_part_at, part_at, group_at, data_after, data_at}
 use Rattle.f77_parse.specs.Forms.{implicit_at, typed_at, dimension_at, common_at, equivalence_at, data_statement_at}
 use Rattle.f77_parse.specs.Keeping.{Keeps, kept_list, kept_parts, kept_ranges, decl_kept, arrays_kept, first_part_kept, part_kept, group_kept, init_part_kept, next_init_part_kept}
 use Rattle.f77_parse.specs.KeptForms.{as_stmt}
@@ -73,6 +73,6 @@ pub data_statement_told : (bad : Bool) (text : List ℕ) → as_stmt (λ parts. 
 data_statement_told bad text =
     made_told (map kept_data) (list_any data_is_bad) (λ parts. WrittenStatement.init parts) (λ parts. Init parts) (λ parts. refl)
     (λ parts. any_same (λ d. are_great (flat_map (λ m. m.subs) d.items) || list_any value_is_bad d.values) data_is_bad (λ d. ap (λ (b : Bool). b || list_any value_is_bad d.values) (great_in (λ m. m.subs) d.items)) parts)
-    bad (and_then_read (λ a rest. read_as (λ others. a ∷ others) (parts_to_end (length rest) data_at rest)) (data_behind false text)) (kept_parts init_part_kept next_init_part_kept bad text)
-    (parts_told kept_data data_is_bad data_at next_init_part_kept next_data_told (data_behind false) init_part_kept data_told bad text)
-    ∙ ap (told_statement bad) (sym (as_whole (λ parts. WrittenStatement.init parts) data_at (data_behind false text)))
+    bad (and_then_read (λ a rest. read_as (λ others. a ∷ others) (parts_to_end (length rest) data_at rest)) (data_after false text)) (kept_parts init_part_kept next_init_part_kept bad text)
+    (parts_told kept_data data_is_bad data_at next_init_part_kept next_data_told (data_after false) init_part_kept data_told bad text)
+    ∙ ap (told_statement bad) (sym (as_whole (λ parts. WrittenStatement.init parts) data_at (data_after false text)))

@@ -1,4 +1,4 @@
--- Forms that may stand behind a condition, and SUBROUTINE: what is kept of them.
+-- Forms that may stand after a condition, and SUBROUTINE: what is kept of them.
 use Rattle.std.proofs.Common.{◌≡◌, ◌==◌, ◌&&◌, ◌||◌, ℕ, Bool, true, false, List, [], ◌∷◌, length, drop, take_while, map, Option, Some, None, if◌then◌else◌, codes, refl, sym, ap, ◌∙◌}
 use Rattle.std.specs.Prelude.{nat_lt, nat_le}
 use Rattle.std.specs.List.{list_any}
@@ -9,13 +9,13 @@ use Rattle.f77_tree.specs.Name.{is_figure}
 use Rattle.f77_tree.specs.Grammar.{has_great_number}
 use Rattle.f77_tree.specs.StatementGrammar.{WrittenStatement, WrittenStop, PrintForm, ReadForm, has_bad_constant, is_bad_label, item_is_great, names_of}
 use Rattle.f77_expr.specs.Answers.{kept}
-use Rattle.f77_expr.specs.Reader.{Reads, read_as, and_then_read, after_front}
-use Rattle.f77_parse.specs.Parts.{behind, then_front, where_it, comma_at, name_at, names_at, number_at, list_at, item_at, variable_at, expression_in_front, characters_at}
-use Rattle.f77_parse.specs.Forms.{form_or, alone, stop_at, computed_at, go_to_at, items_behind, items_at, targets_at, named_at, call_at, simple_at, subroutine_at}
-use Rattle.f77_parse.specs.Keeping.{Keeps, keep_then, where_front, skipped, wanted, name_kept, names_kept, few_digits_kept, label_kept, character_constant_kept, expression_kept, kept_list, item_kept, variable_kept}
-use Rattle.f77_parse.specs.KeptForms.{as_stmt, stop_kept, go_to_kept, items_behind_kept, items_or_none_kept, targets_kept, call_kept, subroutine_kept, transfer_kept, simple_kept}
+use Rattle.f77_expr.specs.Reader.{Reads, read_as, and_then_read, after_prefix}
+use Rattle.f77_parse.specs.Parts.{beyond, then_prefix, where_it, comma_at, name_at, names_at, number_at, list_at, item_at, variable_at, expression_at_start, characters_at}
+use Rattle.f77_parse.specs.Forms.{form_or, alone, stop_at, computed_at, go_to_at, items_after, items_at, targets_at, named_at, call_at, simple_at, subroutine_at}
+use Rattle.f77_parse.specs.Keeping.{Keeps, keep_then, where_prefix, skipped, wanted, name_kept, names_kept, few_digits_kept, label_kept, character_constant_kept, expression_kept, kept_list, item_kept, variable_kept}
+use Rattle.f77_parse.specs.KeptForms.{as_stmt, stop_kept, go_to_kept, items_after_kept, items_or_none_kept, targets_kept, call_kept, subroutine_kept, transfer_kept, simple_kept}
 use Rattle.f77_parse.specs.KeptValues.{kept_label, kept_item, kept_statement}
-use Rattle.f77_parse.proofs.FollowLemmas.{told, never_bad, no_flag, flag_last, then_told, as_told, then_then, front_told, wanted_told, if_told, one_front, wanted_character_told, skipped_comma}
+use Rattle.f77_parse.proofs.FollowLemmas.{told, never_bad, no_flag, flag_last, then_told, as_told, then_then, prefix_told, wanted_told, if_told, one_prefix, wanted_character_told, skipped_comma}
 use Rattle.f77_parse.proofs.FollowLists.{list_told}
 use Rattle.f77_parse.proofs.FollowNumbers.{name_told, label_told, expression_told}
 use Rattle.f77_parse.proofs.FollowItems.{variable_told, names_told, item_told, character_constant_told}
@@ -25,8 +25,8 @@ abbrev pub told_statement : Bool → Reads WrittenStatement → Keeps Stmt
 told_statement bad x = told kept_statement has_bad_constant bad x
 
 -- one form or others
-pub form_told : (bad : Bool) (form : List ℕ → Reads WrittenStatement) (front : Option (List ℕ)) (others : Reads WrittenStatement) (there : List ℕ → Keeps Stmt) (others_kept : Keeps Stmt) → ((rest : List ℕ) → there rest ≡ told_statement bad (form rest)) → others_kept ≡ told_statement bad others → where_front front there others_kept ≡ told_statement bad (form_or form front others)
-form_told bad form front others there others_kept here h = front_told kept_statement has_bad_constant bad (λ o. form_or form o others) there others_kept front here h
+pub form_told : (bad : Bool) (form : List ℕ → Reads WrittenStatement) (prefix : Option (List ℕ)) (others : Reads WrittenStatement) (there : List ℕ → Keeps Stmt) (others_kept : Keeps Stmt) → ((rest : List ℕ) → there rest ≡ told_statement bad (form rest)) → others_kept ≡ told_statement bad others → where_prefix prefix there others_kept ≡ told_statement bad (form_or form prefix others)
+form_told bad form prefix others there others_kept here h = prefix_told kept_statement has_bad_constant bad (λ o. form_or form o others) there others_kept prefix here h
 
 -- ---- STOP
 
@@ -56,26 +56,26 @@ stop_told bad (c ∷ text) =
 
 -- ---- GO TO
 
-computed_told : (bad : Bool) (labels : List (List ℕ)) (text : List ℕ) → as_stmt (λ index. PickGoTo (map kept_label labels) index) (expression_kept (bad || list_any is_bad_label labels) (skipped (after_front (codes ",") text) text)) ≡ told_statement bad (computed_at labels text)
+computed_told : (bad : Bool) (labels : List (List ℕ)) (text : List ℕ) → as_stmt (λ index. PickGoTo (map kept_label labels) index) (expression_kept (bad || list_any is_bad_label labels) (skipped (after_prefix (codes ",") text) text)) ≡ told_statement bad (computed_at labels text)
 computed_told bad labels text =
     let comma = comma_at text in
     let bad_now = bad || list_any is_bad_label labels in
     ap (λ (more : List ℕ). as_stmt (λ index. PickGoTo (map kept_label labels) index) (expression_kept bad_now more)) (skipped_comma text)
-    ∙ as_told kept has_great_number bad_now kept_statement has_bad_constant bad (λ w. WrittenStatement.computed_go_to labels comma.0 w) (λ index. PickGoTo (map kept_label labels) index) (expression_in_front comma.1) (expression_kept bad_now comma.1) (expression_told bad_now comma.1)
+    ∙ as_told kept has_great_number bad_now kept_statement has_bad_constant bad (λ w. WrittenStatement.computed_go_to labels comma.0 w) (λ index. PickGoTo (map kept_label labels) index) (expression_at_start comma.1) (expression_kept bad_now comma.1) (expression_told bad_now comma.1)
     (λ w. refl) (λ w. or_assoc bad (list_any is_bad_label labels) (has_great_number w))
 
 -- labels in brackets
 abbrev inside_kept : Bool → List ℕ → Keeps Stmt
-inside_kept bad inside = keep_then (kept_list label_kept bad inside) (λ labels bad_1 text_1. keep_then (wanted (codes ")") bad_1 text_1) (λ found bad_2 text_2. as_stmt (λ index. PickGoTo labels index) (expression_kept bad_2 (skipped (after_front (codes ",") text_2) text_2))))
+inside_kept bad inside = keep_then (kept_list label_kept bad inside) (λ labels bad_1 text_1. keep_then (wanted (codes ")") bad_1 text_1) (λ found bad_2 text_2. as_stmt (λ index. PickGoTo labels index) (expression_kept bad_2 (skipped (after_prefix (codes ",") text_2) text_2))))
 
-inside_told : (bad : Bool) (inside : List ℕ) → inside_kept bad inside ≡ told_statement bad (and_then_read (λ labels rest. computed_at labels rest) (then_front (codes ")") (list_at (λ next. number_at next) inside)))
+inside_told : (bad : Bool) (inside : List ℕ) → inside_kept bad inside ≡ told_statement bad (and_then_read (λ labels rest. computed_at labels rest) (then_prefix (codes ")") (list_at (λ next. number_at next) inside)))
 inside_told bad inside =
-    then_told (map kept_label) (list_any is_bad_label) bad kept_statement has_bad_constant bad (λ labels rest. and_then_read (λ labels more. computed_at labels more) (behind (λ more. Some (labels, more)) (after_front (codes ")") rest)))
-    (λ labels bad_1 text_1. keep_then (wanted (codes ")") bad_1 text_1) (λ found bad_2 text_2. as_stmt (λ index. PickGoTo labels index) (expression_kept bad_2 (skipped (after_front (codes ",") text_2) text_2))))
+    then_told (map kept_label) (list_any is_bad_label) bad kept_statement has_bad_constant bad (λ labels rest. and_then_read (λ labels more. computed_at labels more) (beyond (λ more. Some (labels, more)) (after_prefix (codes ")") rest)))
+    (λ labels bad_1 text_1. keep_then (wanted (codes ")") bad_1 text_1) (λ found bad_2 text_2. as_stmt (λ index. PickGoTo labels index) (expression_kept bad_2 (skipped (after_prefix (codes ",") text_2) text_2))))
     (list_at (λ next. number_at next) inside) (kept_list label_kept bad inside) (list_told kept_label is_bad_label (λ next. number_at next) label_kept label_told bad inside)
-    (λ labels rest. wanted_told kept_statement has_bad_constant bad (λ o. and_then_read (λ labels more. computed_at labels more) (behind (λ more. Some (labels, more)) o)) (λ found bad_2 text_2. as_stmt (λ index. PickGoTo (map kept_label labels) index) (expression_kept bad_2 (skipped (after_front (codes ",") text_2) text_2))) (codes ")") (bad || list_any is_bad_label labels) rest refl
+    (λ labels rest. wanted_told kept_statement has_bad_constant bad (λ o. and_then_read (λ labels more. computed_at labels more) (beyond (λ more. Some (labels, more)) o)) (λ found bad_2 text_2. as_stmt (λ index. PickGoTo (map kept_label labels) index) (expression_kept bad_2 (skipped (after_prefix (codes ",") text_2) text_2))) (codes ")") (bad || list_any is_bad_label labels) rest refl
     (λ more. computed_told bad labels more))
-    ∙ ap (told_statement bad) (sym (then_then (λ labels rest. computed_at labels rest) (λ labels rest. behind (λ more. Some (labels, more)) (after_front (codes ")") rest)) (list_at (λ next. number_at next) inside)))
+    ∙ ap (told_statement bad) (sym (then_then (λ labels rest. computed_at labels rest) (λ labels rest. beyond (λ more. Some (labels, more)) (after_prefix (codes ")") rest)) (list_at (λ next. number_at next) inside)))
 
 one_label : (bad : Bool) (text : List ℕ) → as_stmt (λ label. GoTo label) (label_kept bad text) ≡ told_statement bad (read_as (λ label. WrittenStatement.go_to label) (number_at text))
 one_label bad text = as_told kept_label is_bad_label bad kept_statement has_bad_constant bad (λ label. WrittenStatement.go_to label) (λ label. GoTo label) (number_at text) (label_kept bad text) (label_told bad text) (λ label. refl) (λ label. refl)
@@ -84,14 +84,14 @@ go_to_told : (bad : Bool) (text : List ℕ) → go_to_kept bad text ≡ told_sta
 unfolding go_to_kept
 go_to_told bad [] = one_label bad []
 go_to_told bad (c ∷ text) =
-    ap (λ (o : Option (List ℕ)). where_front o (λ inside. inside_kept bad inside) (as_stmt (λ label. GoTo label) (label_kept bad (c ∷ text)))) (one_front 40 c text)
+    ap (λ (o : Option (List ℕ)). where_prefix o (λ inside. inside_kept bad inside) (as_stmt (λ label. GoTo label) (label_kept bad (c ∷ text)))) (one_prefix 40 c text)
     ∙ by (c == 40)
-    ∙ ap (λ (o : Option (List ℕ)). told_statement bad (if c == 40 then and_then_read (λ labels rest. computed_at labels rest) (behind go o) else read_as (λ label. WrittenStatement.go_to label) (number_at (c ∷ text)))) (sym (one_front 40 c text))
+    ∙ ap (λ (o : Option (List ℕ)). told_statement bad (if c == 40 then and_then_read (λ labels rest. computed_at labels rest) (beyond go o) else read_as (λ label. WrittenStatement.go_to label) (number_at (c ∷ text)))) (sym (one_prefix 40 c text))
   where
     go : List ℕ → Reads (List (List ℕ))
-    go inside = then_front (codes ")") (list_at (λ next. number_at next) inside)
+    go inside = then_prefix (codes ")") (list_at (λ next. number_at next) inside)
 
-    by : (b : Bool) → where_front (if b then Some text else None) (λ inside. inside_kept bad inside) (as_stmt (λ label. GoTo label) (label_kept bad (c ∷ text))) ≡ told_statement bad (if b then and_then_read (λ labels rest. computed_at labels rest) (behind go (if b then Some text else None)) else read_as (λ label. WrittenStatement.go_to label) (number_at (c ∷ text)))
+    by : (b : Bool) → where_prefix (if b then Some text else None) (λ inside. inside_kept bad inside) (as_stmt (λ label. GoTo label) (label_kept bad (c ∷ text))) ≡ told_statement bad (if b then and_then_read (λ labels rest. computed_at labels rest) (beyond go (if b then Some text else None)) else read_as (λ label. WrittenStatement.go_to label) (number_at (c ∷ text)))
     by true = inside_told bad text
     by false = one_label bad (c ∷ text)
 
@@ -101,10 +101,10 @@ items_told : (form : PrintForm) (bad : Bool) (text : List ℕ) → as_stmt (λ i
 items_told form bad text =
     as_told (map kept_item) (list_any item_is_great) bad kept_statement has_bad_constant bad (λ items. WrittenStatement.print form items) (λ items. Print items) (list_at item_at text) (kept_list item_kept bad text) (list_told kept_item item_is_great item_at item_kept item_told bad text) (λ items. refl) (λ items. refl)
 
-items_behind_told : (bad : Bool) (text : List ℕ) → items_behind_kept bad text ≡ told_statement bad (items_behind text)
-unfolding items_behind_kept
-items_behind_told bad [] = no_flag (Print []) bad []
-items_behind_told bad (c ∷ text) =
+items_after_told : (bad : Bool) (text : List ℕ) → items_after_kept bad text ≡ told_statement bad (items_after text)
+unfolding items_after_kept
+items_after_told bad [] = no_flag (Print []) bad []
+items_after_told bad (c ∷ text) =
     wanted_character_told kept_statement has_bad_constant bad 44 c text (read_as (λ items. WrittenStatement.print PrintForm.Print_star items) (list_at item_at text)) (λ found bad_now rest. as_stmt (λ items. Print items) (kept_list item_kept bad_now rest)) bad
     (items_told PrintForm.Print_star bad text)
 
@@ -139,15 +139,15 @@ subroutine_told bad text = named_told (λ name dummies. WrittenStatement.subrout
 pub simple_told : (bad : Bool) (text : List ℕ) → simple_kept bad text ≡ told_statement bad (simple_at text)
 unfolding simple_kept transfer_kept
 simple_told bad text =
-    form_told bad (alone WrittenStatement.continue) (after_front (codes "CONTINUE") text) _ (λ rest. Some (Continue, bad, rest)) _ (λ rest. no_flag Continue bad rest)
-    (form_told bad stop_at (after_front (codes "STOP") text) _ (λ rest. stop_kept bad rest) _ (λ rest. stop_told bad rest)
-    (form_told bad go_to_at (after_front (codes "GOTO") text) _ (λ rest. go_to_kept bad rest) _ (λ rest. go_to_told bad rest)
-    (form_told bad call_at (after_front (codes "CALL") text) _ (λ rest. call_kept bad rest) _ (λ rest. call_told bad rest)
-    (form_told bad (alone WrittenStatement.go_back) (after_front (codes "RETURN") text) _ (λ rest. Some (Back, bad, rest)) _ (λ rest. no_flag Back bad rest)
-    (form_told bad items_behind (after_front (codes "PRINT*") text) _ (λ rest. items_behind_kept bad rest) _ (λ rest. items_behind_told bad rest)
-    (form_told bad (items_at PrintForm.Write_star) (after_front (codes "WRITE(*,*)") text) _ (λ rest. items_or_none_kept bad rest) _ (λ rest. items_or_none_told PrintForm.Write_star bad rest)
-    (form_told bad (items_at PrintForm.Write_six) (after_front (codes "WRITE(6,*)") text) _ (λ rest. items_or_none_kept bad rest) _ (λ rest. items_or_none_told PrintForm.Write_six bad rest)
-    (form_told bad (targets_at ReadForm.Read_star) (after_front (codes "READ*,") text) _ (λ rest. targets_kept bad rest) _ (λ rest. targets_told ReadForm.Read_star bad rest)
-    (form_told bad (targets_at ReadForm.Read_unit_star) (after_front (codes "READ(*,*)") text) _ (λ rest. targets_kept bad rest) _ (λ rest. targets_told ReadForm.Read_unit_star bad rest)
-    (form_told bad (targets_at ReadForm.Read_five) (after_front (codes "READ(5,*)") text) None (λ rest. targets_kept bad rest) None (λ rest. targets_told ReadForm.Read_five bad rest)
+    form_told bad (alone WrittenStatement.continue) (after_prefix (codes "CONTINUE") text) _ (λ rest. Some (Continue, bad, rest)) _ (λ rest. no_flag Continue bad rest)
+    (form_told bad stop_at (after_prefix (codes "STOP") text) _ (λ rest. stop_kept bad rest) _ (λ rest. stop_told bad rest)
+    (form_told bad go_to_at (after_prefix (codes "GOTO") text) _ (λ rest. go_to_kept bad rest) _ (λ rest. go_to_told bad rest)
+    (form_told bad call_at (after_prefix (codes "CALL") text) _ (λ rest. call_kept bad rest) _ (λ rest. call_told bad rest)
+    (form_told bad (alone WrittenStatement.go_back) (after_prefix (codes "RETURN") text) _ (λ rest. Some (Back, bad, rest)) _ (λ rest. no_flag Back bad rest)
+    (form_told bad items_after (after_prefix (codes "PRINT*") text) _ (λ rest. items_after_kept bad rest) _ (λ rest. items_after_told bad rest)
+    (form_told bad (items_at PrintForm.Write_star) (after_prefix (codes "WRITE(*,*)") text) _ (λ rest. items_or_none_kept bad rest) _ (λ rest. items_or_none_told PrintForm.Write_star bad rest)
+    (form_told bad (items_at PrintForm.Write_six) (after_prefix (codes "WRITE(6,*)") text) _ (λ rest. items_or_none_kept bad rest) _ (λ rest. items_or_none_told PrintForm.Write_six bad rest)
+    (form_told bad (targets_at ReadForm.Read_star) (after_prefix (codes "READ*,") text) _ (λ rest. targets_kept bad rest) _ (λ rest. targets_told ReadForm.Read_star bad rest)
+    (form_told bad (targets_at ReadForm.Read_unit_star) (after_prefix (codes "READ(*,*)") text) _ (λ rest. targets_kept bad rest) _ (λ rest. targets_told ReadForm.Read_unit_star bad rest)
+    (form_told bad (targets_at ReadForm.Read_five) (after_prefix (codes "READ(5,*)") text) None (λ rest. targets_kept bad rest) None (λ rest. targets_told ReadForm.Read_five bad rest)
     refl))))))))))

@@ -9,11 +9,11 @@ use Rattle.f77_tree.specs.declared.declarations.Lit.TheVariants.{Int, Truth}
 use Rattle.f77_tree.specs.declared.declarations.InitValue.{InitValue}
 use Rattle.f77_tree.specs.StatementGrammar.{Sign, signed_value, is_great, is_bad_label, WrittenConstant, constant_is_great, value_is_bad}
 use Rattle.f77_expr.specs.Answers.{kept}
-use Rattle.f77_expr.specs.Reader.{Reads, read_as, after_front, this_or}
-use Rattle.f77_parse.specs.Parts.{number_at, name_at, letter_at, signed_at, truth_at, constant_at, value_behind, value_begun, value_at, unsigned, expression_in_front}
-use Rattle.f77_parse.specs.Keeping.{Keeps, keep_then, where_front, kept_plain, skipped, wanted, name_kept, letter_kept, number_kept, kept_expression, expression_kept, is_great_number, constant_in, is_no_label, label_in, is_no_repeat, repeat_in, label_kept, signed_kept, truth_kept, constant_kept, some_constants, value_kept}
+use Rattle.f77_expr.specs.Reader.{Reads, read_as, after_prefix, this_or}
+use Rattle.f77_parse.specs.Parts.{number_at, name_at, letter_at, signed_at, truth_at, constant_at, value_after, value_begun, value_at, unsigned, expression_at_start}
+use Rattle.f77_parse.specs.Keeping.{Keeps, keep_then, where_prefix, kept_plain, skipped, wanted, name_kept, letter_kept, number_kept, kept_expression, expression_kept, is_great_number, constant_in, is_no_label, label_in, is_no_repeat, repeat_in, label_kept, signed_kept, truth_kept, constant_kept, some_constants, value_kept}
 use Rattle.f77_parse.specs.KeptValues.{or_zero, kept_label, kept_number, kept_signed, kept_constant, is_bad_repeat, kept_value}
-use Rattle.f77_parse.proofs.FollowLemmas.{told, never_bad, no_flag, plain_told, as_told, front_told, wanted_told, if_told, eq_flip}
+use Rattle.f77_parse.proofs.FollowLemmas.{told, never_bad, no_flag, plain_told, as_told, prefix_told, wanted_told, if_told, eq_flip}
 
 -- ---- names, letters and expressions
 
@@ -25,9 +25,9 @@ pub letter_told : (bad : Bool) (text : List ℕ) → letter_kept bad text ≡ to
 unfolding letter_kept
 letter_told bad text = plain_told (λ c. c) bad (letter_at text)
 
-pub expression_told : (bad : Bool) (text : List ℕ) → expression_kept bad text ≡ told kept has_great_number bad (expression_in_front text)
+pub expression_told : (bad : Bool) (text : List ℕ) → expression_kept bad text ≡ told kept has_great_number bad (expression_at_start text)
 unfolding expression_kept
-expression_told bad text = by (expression_in_front text)
+expression_told bad text = by (expression_at_start text)
   where
     by : (x : Reads Written) → kept_expression bad x ≡ told kept has_great_number bad x
     by None = refl
@@ -86,7 +86,7 @@ label_told bad text = by (number_at text)
 
 -- ---- signed numbers
 
--- a sign in front of digits
+-- a sign before digits
 with_sign : (sign : Sign) (g : ℕ → ℤ) → ((n : ℕ) → g n ≡ signed_value sign (constant_in n)) → (bad : Bool) (text : List ℕ) → keep_then (number_kept bad text) (λ n bad_now rest. Some (g n, bad_now || is_great_number n, rest)) ≡ told kept_signed (λ n. is_great n.digits) bad (read_as (λ digits. record { sign = sign; digits = digits }) (number_at text))
 unfolding number_kept
 with_sign sign g same bad text = by (number_at text)
@@ -108,8 +108,8 @@ signed_told bad (c ∷ text) =
     Signed : Bool → Bool → Bool → Bool → Type 0
     Signed plus minus minus_kept plus_kept =
         let sign : Sign × List ℕ = if plus then (Sign.Plus_sign, text) else (if minus then (Sign.Minus_sign, text) else (Sign.No_sign, c ∷ text)) in
-        where_front (if minus_kept then Some text else None)
-        (λ behind. keep_then (number_kept bad behind) (λ n bad_now rest. Some (pos 0 -ℤ pos (constant_in n), bad_now || is_great_number n, rest)))
+        where_prefix (if minus_kept then Some text else None)
+        (λ beyond. keep_then (number_kept bad beyond) (λ n bad_now rest. Some (pos 0 -ℤ pos (constant_in n), bad_now || is_great_number n, rest)))
         (keep_then (number_kept bad (skipped (if plus_kept then Some text else None) (c ∷ text))) (λ n bad_now rest. Some (pos (constant_in n), bad_now || is_great_number n, rest)))
         ≡ told kept_signed (λ n. is_great n.digits) bad (read_as (λ digits. record { sign = sign.0; digits = digits }) (number_at sign.1))
 
@@ -124,9 +124,9 @@ signed_told bad (c ∷ text) =
 truth_told : (bad : Bool) (text : List ℕ) → truth_kept bad text ≡ told (λ (b : Bool). b) never_bad bad (truth_at text)
 unfolding truth_kept
 truth_told bad text =
-    front_told (λ b. b) never_bad bad (λ front. this_or true front (this_or false (after_front (codes ".FALSE.") text) None)) (λ rest. Some (true, bad, rest)) (keep_then (wanted (codes ".FALSE.") bad text) (λ found bad_now rest. Some (false, bad_now, rest))) (after_front (codes ".TRUE.") text)
+    prefix_told (λ b. b) never_bad bad (λ prefix. this_or true prefix (this_or false (after_prefix (codes ".FALSE.") text) None)) (λ rest. Some (true, bad, rest)) (keep_then (wanted (codes ".FALSE.") bad text) (λ found bad_now rest. Some (false, bad_now, rest))) (after_prefix (codes ".TRUE.") text)
     (λ rest. no_flag true bad rest)
-    (wanted_told (λ b. b) never_bad bad (λ front. this_or false front None) (λ found bad_now rest. Some (false, bad_now, rest)) (codes ".FALSE.") bad text refl (λ rest. no_flag false bad rest))
+    (wanted_told (λ b. b) never_bad bad (λ prefix. this_or false prefix None) (λ found bad_now rest. Some (false, bad_now, rest)) (codes ".FALSE.") bad text refl (λ rest. no_flag false bad rest))
 
 number_constant : (bad : Bool) (text : List ℕ) → keep_then (signed_kept bad text) (λ z bad_now rest. Some (Int z, bad_now, rest)) ≡ told kept_constant constant_is_great bad (read_as (λ n. WrittenConstant.Whole n) (signed_at text))
 number_constant bad text = as_told kept_signed (λ n. is_great n.digits) bad kept_constant constant_is_great bad (λ n. WrittenConstant.Whole n) (λ z. Int z) (signed_at text) (signed_kept bad text) (signed_told bad text) (λ n. refl) (λ n. refl)
@@ -150,7 +150,7 @@ constant_alone bad text =
     as_told kept_constant constant_is_great bad kept_value value_is_bad bad (λ constant. record { times = None; constant = constant }) (λ constant. record { times = 1; value = constant }) (constant_at text) (constant_kept bad text) (constant_told bad text)
     (λ constant. refl) (λ constant. refl)
 
--- a constant behind a repeat
+-- a constant after a repeat
 repeated : (digits : List ℕ) (bad : Bool) (text : List ℕ) → some_constants (repeat_in (min (number_of digits) 2147483648)) (bad || is_no_repeat (min (number_of digits) 2147483648)) text ≡ told kept_value value_is_bad bad (read_as (λ constant. record { times = Some digits; constant = constant }) (constant_at text))
 repeated digits bad text =
     ap (λ (times : ℕ). some_constants times (bad || is_no_repeat (min (number_of digits) 2147483648)) text) (repeat_value (number_of digits))
@@ -171,17 +171,17 @@ value_told bad text = by (nat_lt 0 (length digits))
     digits : List ℕ
     digits = take_while is_figure text
 
-    behind_number : ℕ → Bool → List ℕ → Keeps InitValue
-    behind_number n bad_now rest =
-        where_front (after_front (codes "*") rest)
-        (λ behind. some_constants (repeat_in n) (bad_now || is_no_repeat n) behind)
+    after_number : ℕ → Bool → List ℕ → Keeps InitValue
+    after_number n bad_now rest =
+        where_prefix (after_prefix (codes "*") rest)
+        (λ beyond. some_constants (repeat_in n) (bad_now || is_no_repeat n) beyond)
         (Some (record { times = 1; value = Int (pos (constant_in n)) }, bad_now || is_great_number n, rest))
 
-    by : (some : Bool) → let number : Reads (List ℕ) = if some then Some (digits, drop (length digits) text) else None in (if some then keep_then (kept_plain (λ digits. min (number_of digits) 2147483648) bad number) behind_number else some_constants 1 bad text) ≡ told kept_value value_is_bad bad (value_begun text number)
+    by : (some : Bool) → let number : Reads (List ℕ) = if some then Some (digits, drop (length digits) text) else None in (if some then keep_then (kept_plain (λ digits. min (number_of digits) 2147483648) bad number) after_number else some_constants 1 bad text) ≡ told kept_value value_is_bad bad (value_begun text number)
     by true =
         let rest : List ℕ = drop (length digits) text in
         let n = min (number_of digits) 2147483648 in
-        front_told kept_value value_is_bad bad (λ front. value_behind digits rest front) (λ behind. some_constants (repeat_in n) (bad || is_no_repeat n) behind) (Some (record { times = 1; value = Int (pos (constant_in n)) }, bad || is_great_number n, rest)) (after_front (codes "*") rest)
+        prefix_told kept_value value_is_bad bad (λ prefix. value_after digits rest prefix) (λ beyond. some_constants (repeat_in n) (bad || is_no_repeat n) beyond) (Some (record { times = 1; value = Int (pos (constant_in n)) }, bad || is_great_number n, rest)) (after_prefix (codes "*") rest)
         (λ next. repeated digits bad next)
         (digits_alone digits bad rest)
     by false = constant_alone bad text

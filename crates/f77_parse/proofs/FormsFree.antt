@@ -8,7 +8,7 @@ use Rattle.f77_tree.specs.Grammar.{Written, Arguments, IsGrammatical, AreGrammat
 use Rattle.f77_tree.specs.StatementGrammar.{with_commas, in_brackets, comma_if, characters_text, WrittenItem, item_text, IsItem, PrintForm, print_text, ReadForm, read_text, WrittenStop, stop_text, is_stop, IsVariable, names_text, are_names, step_text, WrittenStatement, statement_text, IsStatement, letters_text, decls_text, kind_text, part_text, group_text, data_text}
 use Rattle.f77_parse.specs.Forms.{stands_free}
 use Rattle.f77_parse.proofs.Followers.{Every}
-use Rattle.f77_parse.proofs.PartLists.{all_every, behind_commas_is}
+use Rattle.f77_parse.proofs.PartLists.{all_every, after_commas_is}
 use Rattle.f77_parse.proofs.Free.{PassesOver, pass_both, absent, is_mark, expression_passes, constant_passes, HasNoEquals, unequal_both, unequal_free}
 use Rattle.f77_parse.proofs.FormsUnequal.{unequal_nothing, unequal_number, unequal_name, unequal_brackets, unequal_decls, unequal_kind, unequal_letters_list, unequal_parts, unequal_groups, unequal_data_parts}
 
@@ -92,17 +92,17 @@ items_free items h = absent 61 (with_commas (map item_text items)) (list_passes 
 
 print_free : (form : PrintForm) (items : List WrittenItem) → All IsItem items → stands_free 61 (print_text form (map item_text items)) ≡ false
 print_free PrintForm.Print_star [] h = refl
-print_free PrintForm.Print_star (i ∷ more) h = ap (stands_free 61) (behind_commas_is (item_text i) (map item_text more)) ∙ items_free (i ∷ more) h
+print_free PrintForm.Print_star (i ∷ more) h = ap (stands_free 61) (after_commas_is (item_text i) (map item_text more)) ∙ items_free (i ∷ more) h
 print_free PrintForm.Write_star items h = items_free items h
 print_free PrintForm.Write_six items h = items_free items h
 
 targets_free : (form : ReadForm) (targets : List Written) → All IsVariable targets → stands_free 61 (read_text form ++ with_commas (map spelling targets)) ≡ false
-targets_free form targets h = front form ∙ absent 61 (with_commas (map spelling targets)) (list_passes IsVariable spelling (λ w is. expression_passes 61 refl w is.grammatical) targets (all_every IsVariable targets h))
+targets_free form targets h = prefix form ∙ absent 61 (with_commas (map spelling targets)) (list_passes IsVariable spelling (λ w is. expression_passes 61 refl w is.grammatical) targets (all_every IsVariable targets h))
   where
-    front : (form : ReadForm) → stands_free 61 (read_text form ++ with_commas (map spelling targets)) ≡ stands_free 61 (with_commas (map spelling targets))
-    front ReadForm.Read_star = refl
-    front ReadForm.Read_unit_star = refl
-    front ReadForm.Read_five = refl
+    prefix : (form : ReadForm) → stands_free 61 (read_text form ++ with_commas (map spelling targets)) ≡ stands_free 61 (with_commas (map spelling targets))
+    prefix ReadForm.Read_star = refl
+    prefix ReadForm.Read_unit_star = refl
+    prefix ReadForm.Read_five = refl
 
 -- an equals sign stands free
 abbrev pub has_equals : WrittenStatement → Bool
@@ -157,7 +157,7 @@ assignment_comma target value h value_h =
     ap (stands_free 44) (append_assoc (spelling target) (codes "=") (spelling value)) ∙ (expression_passes 44 refl target h.grammatical).passes (codes "=" ++ spelling value)
     ∙ absent 44 (spelling value) (expression_passes 44 refl value value_h)
 
--- what stands free behind the condition of a logical IF
+-- what stands free after the condition of a logical IF
 pub conditional_free : (c : ℕ) → is_mark c ≡ true → (w : Written) (s : WrittenStatement) → IsGrammatical w → stands_free c (statement_text (WrittenStatement.logical_if w s)) ≡ stands_free c (statement_text s)
 conditional_free c mark w s h = (condition_passes c mark (codes "IF") refl w h).passes (statement_text s)
 
@@ -166,27 +166,27 @@ pub do_spelling : (label : List ℕ) (comma : Bool) (variable : List ℕ) (first
 do_spelling label comma variable first last step = simp append_assoc
 
 module _ (label : List ℕ) (comma : Bool) (variable : List ℕ) (first last : Written) (step : Option Written) (label_is : is_number label ≡ true) (variable_is : is_name variable ≡ true) where
-  behind_last : List ℕ
-  behind_last = spelling last ++ step_text step
+  after_last : List ℕ
+  after_last = spelling last ++ step_text step
 
-  behind_comma : List ℕ
-  behind_comma = variable ++ (61 ∷ (spelling first ++ (44 ∷ behind_last)))
+  after_comma : List ℕ
+  after_comma = variable ++ (61 ∷ (spelling first ++ (44 ∷ after_last)))
 
   pub do_equals : stands_free 61 (statement_text (WrittenStatement.do_loop label comma variable first last step)) ≡ true
-  unfolding behind_last behind_comma
+  unfolding after_last after_comma
   do_equals =
       ap (stands_free 61) (do_spelling label comma variable first last step)
-      ∙ (number_passes 61 refl label label_is).passes (comma_if comma ++ behind_comma)
-      ∙ (comma_passes comma).passes behind_comma
-      ∙ (name_passes 61 refl variable variable_is).passes (61 ∷ (spelling first ++ (44 ∷ behind_last)))
+      ∙ (number_passes 61 refl label label_is).passes (comma_if comma ++ after_comma)
+      ∙ (comma_passes comma).passes after_comma
+      ∙ (name_passes 61 refl variable variable_is).passes (61 ∷ (spelling first ++ (44 ∷ after_last)))
 
   pub do_comma : IsGrammatical first → stands_free 44 (statement_text (WrittenStatement.do_loop label comma variable first last step)) ≡ true
-  unfolding behind_last behind_comma
+  unfolding after_last after_comma
   do_comma first_is =
       ap (stands_free 44) (do_spelling label comma variable first last step)
-      ∙ (number_passes 44 refl label label_is).passes (comma_if comma ++ behind_comma)
+      ∙ (number_passes 44 refl label label_is).passes (comma_if comma ++ after_comma)
       ∙ here comma
     where
-      here : (there : Bool) → stands_free 44 (comma_if there ++ behind_comma) ≡ true
+      here : (there : Bool) → stands_free 44 (comma_if there ++ after_comma) ≡ true
       here true = refl
-      here false = (name_passes 44 refl variable variable_is).passes (61 ∷ (spelling first ++ (44 ∷ behind_last))) ∙ (expression_passes 44 refl first first_is).passes (44 ∷ behind_last)
+      here false = (name_passes 44 refl variable variable_is).passes (61 ∷ (spelling first ++ (44 ∷ after_last))) ∙ (expression_passes 44 refl first first_is).passes (44 ∷ after_last)

@@ -6,12 +6,12 @@ use Rattle.f77_tree.specs.Grammar.{Written, IsGrammatical, is_number, spelling}
 use Rattle.f77_tree.specs.StatementGrammar.{with_commas, in_brackets, comma_if, WrittenItem, item_text, IsItem, PrintForm, print_text, ReadForm, WrittenStop, stop_text, is_stop, IsVariable, characters_text, WrittenStatement, statement_text, IsStatement}
 use Rattle.f77_expr.specs.Reader.{Reads, read_as, and_then_read}
 use Rattle.f77_expr.proofs.EachRead.{if_true, if_false}
-use Rattle.f77_parse.specs.Parts.{where_it, number_at, list_at, bracketed_at, expression_in_front, variable_at, characters_at, item_at}
-use Rattle.f77_parse.specs.Forms.{stop_at, computed_at, go_to_at, items_behind, items_at, targets_at, simple_at}
-use Rattle.f77_parse.proofs.Followers.{no_front, other_no_front}
+use Rattle.f77_parse.specs.Parts.{where_it, number_at, list_at, bracketed_at, expression_at_start, variable_at, characters_at, item_at}
+use Rattle.f77_parse.specs.Forms.{stop_at, computed_at, go_to_at, items_after, items_at, targets_at, simple_at}
+use Rattle.f77_parse.proofs.Followers.{not_at_start, other_not_at_start}
 use Rattle.f77_parse.proofs.PartExpressions.{expression_no_comma, expression_reads, variables_reads}
 use Rattle.f77_parse.proofs.PartItems.{characters_reads, items_reads}
-use Rattle.f77_parse.proofs.PartLists.{behind_commas_is}
+use Rattle.f77_parse.proofs.PartLists.{after_commas_is}
 use Rattle.f77_parse.proofs.PartNames.{named_reads}
 use Rattle.f77_parse.proofs.PartNumbers.{number_from, number_reads, labels_reads}
 use Rattle.f77_parse.proofs.PartReaders.{comma_reads}
@@ -48,8 +48,8 @@ computed_reads : (labels : List (List ℕ)) (comma : Bool) (w : Written) → 1 �
 computed_reads labels comma w some all h =
     ap go_to_at (append_assoc (in_brackets (with_commas labels)) (comma_if comma) (spelling w))
     ∙ ap (and_then_read (λ labels rest. computed_at labels rest)) (labels_reads labels (comma_if comma ++ spelling w) some all)
-    ∙ ap (λ (at : Bool × List ℕ). read_as (λ v. WrittenStatement.computed_go_to labels at.0 v) (expression_in_front at.1)) (comma_reads comma (spelling w) (ap (no_front 44) (sym (append-nil (spelling w))) ∙ other_no_front 44 (spelling w ++ []) (expression_no_comma w [] h)))
-    ∙ ap (read_as (λ v. WrittenStatement.computed_go_to labels comma v)) (to_the_end expression_in_front (spelling w) w (expression_reads w [] h refl))
+    ∙ ap (λ (at : Bool × List ℕ). read_as (λ v. WrittenStatement.computed_go_to labels at.0 v) (expression_at_start at.1)) (comma_reads comma (spelling w) (ap (not_at_start 44) (sym (append-nil (spelling w))) ∙ other_not_at_start 44 (spelling w ++ []) (expression_no_comma w [] h)))
+    ∙ ap (read_as (λ v. WrittenStatement.computed_go_to labels comma v)) (to_the_end expression_at_start (spelling w) w (expression_reads w [] h refl))
 
 -- ---- PRINT, WRITE and READ
 
@@ -68,7 +68,7 @@ write_reads form (i ∷ more) all = listed_items form (with_commas (map item_tex
 print_reads : (form : PrintForm) (items : List WrittenItem) → All IsItem items → simple_at (print_text form (map item_text items)) ≡ Some (WrittenStatement.print form items, [])
 print_reads PrintForm.Print_star [] all = refl
 print_reads PrintForm.Print_star (i ∷ more) all =
-    ap items_behind (behind_commas_is (item_text i) (map item_text more))
+    ap items_after (after_commas_is (item_text i) (map item_text more))
     ∙ ap (read_as (λ items. WrittenStatement.print PrintForm.Print_star items)) (items_read (i ∷ more) (omega arith) all)
 print_reads PrintForm.Write_star items all = write_reads PrintForm.Write_star items all
 print_reads PrintForm.Write_six items all = write_reads PrintForm.Write_six items all

@@ -7,7 +7,7 @@ use Rattle.f77_tree.specs.declared.declarations.Kind.{Kind}
 use Rattle.f77_tree.specs.declared.declarations.Kind.TheVariants.{Integer, Logical}
 use Rattle.f77_tree.specs.Name.{is_name}
 use Rattle.f77_tree.specs.StatementGrammar.{with_commas, in_brackets, decls_text, WrittenDecl, IsDecl, has_dims, kind_text, range_text, WrittenLetters, letters_text, are_letters, WrittenPart, part_text, IsPart, is_said, WrittenMember, group_text, is_group, WrittenData, data_text, is_data, names_text, are_names, WrittenStatement, IsStatement}
-use Rattle.f77_expr.specs.Reader.{read_as, and_then_read, after_front}
+use Rattle.f77_expr.specs.Reader.{read_as, and_then_read, after_prefix}
 use Rattle.f77_expr.proofs.EachRead.{if_true}
 use Rattle.f77_parse.specs.Parts.{where_it, name_at, list_at, letters_at, decl_at, part_at, group_at, data_at, parts_to_end}
 use Rattle.f77_parse.specs.Forms.{form_or, alone, implicit_at, typed_at, keyword_at}
@@ -29,16 +29,16 @@ subroutine_reads name dummies is are = named_reads (λ name dummies. WrittenStat
 -- ---- IMPLICIT
 
 -- no kind begins as NONE does
-no_none : (kind : Kind) (text : List ℕ) → after_front (codes "NONE") (kind_text kind ++ text) ≡ None
+no_none : (kind : Kind) (text : List ℕ) → after_prefix (codes "NONE") (kind_text kind ++ text) ≡ None
 no_none Integer text = refl
 no_none Logical text = refl
 
-letters_no_none : (l : WrittenLetters) (more : List WrittenLetters) → after_front (codes "NONE") (with_commas (map letters_text (l ∷ more))) ≡ None
+letters_no_none : (l : WrittenLetters) (more : List WrittenLetters) → after_prefix (codes "NONE") (with_commas (map letters_text (l ∷ more))) ≡ None
 letters_no_none l [] = no_none l.kind (in_brackets (with_commas (map range_text l.ranges)))
 letters_no_none l (next ∷ more) =
     let ranges : List ℕ = in_brackets (with_commas (map range_text l.ranges)) in
     let others : List ℕ = with_commas (map letters_text (next ∷ more)) in
-    ap (after_front (codes "NONE")) (append_assoc (kind_text l.kind ++ ranges) (codes ",") others ∙ append_assoc (kind_text l.kind) ranges (44 ∷ others)) ∙ no_none l.kind (ranges ++ (44 ∷ others))
+    ap (after_prefix (codes "NONE")) (append_assoc (kind_text l.kind ++ ranges) (codes ",") others ∙ append_assoc (kind_text l.kind) ranges (44 ∷ others)) ∙ no_none l.kind (ranges ++ (44 ∷ others))
 
 pub implicit_reads : (letters : List WrittenLetters) → 1 ≤ length letters → list_all are_letters letters ≡ true → keyword_at (codes "IMPLICIT" ++ with_commas (map letters_text letters)) ≡ Some (WrittenStatement.implicit letters, [])
 implicit_reads [] some all = absurd (omega arith)

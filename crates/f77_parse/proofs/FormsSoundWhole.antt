@@ -6,13 +6,13 @@ use Rattle.f77_expr.specs.Reader.{Reads, read_as}
 use Rattle.f77_expr.proofs.EachRead.{Each, each_at, each_if, each_weaker}
 use Rattle.f77_parse.specs.Parts.{name_at}
 use Rattle.f77_parse.specs.Forms.{stands_free, whole, do_at, equals_at, alone, simple_at, if_at, else_if_at, subroutine_at, implicit_at, typed_at, dimension_at, common_at, equivalence_at, data_statement_at, keyword_at, form_at, statement_at}
-use Rattle.f77_parse.proofs.FormsSound.{IsStatementInFront, IsSimpleInFront, form_or_sound, simple_sound}
+use Rattle.f77_parse.proofs.FormsSound.{IsStatementAtStart, IsSimpleAtStart, form_or_sound, simple_sound}
 use Rattle.f77_parse.proofs.FormsSoundIf.{if_sound, else_if_sound}
 use Rattle.f77_parse.proofs.FormsSoundDeclared.{program_sound, subroutine_sound, implicit_sound, typed_sound, dimension_sound, common_sound, equivalence_sound, data_statement_sound}
 use Rattle.f77_parse.proofs.FormsSoundAssigned.{equals_sound, do_sound}
 
 -- by its keyword
-keyword_sound : (text : List ℕ) → Each (λ s rest. IsStatementInFront text s rest) (keyword_at text)
+keyword_sound : (text : List ℕ) → Each (λ s rest. IsStatementAtStart text s rest) (keyword_at text)
 keyword_sound text =
     form_or_sound P (λ rest. read_as (λ n. WrittenStatement.program n) (name_at rest)) (codes "PROGRAM") text _ (λ rest e. moved (codes "PROGRAM" ++ rest) e (read_as (λ n. WrittenStatement.program n) (name_at rest)) (program_sound rest))
     (form_or_sound P subroutine_at (codes "SUBROUTINE") text _ (λ rest e. moved (codes "SUBROUTINE" ++ rest) e (subroutine_at rest) (subroutine_sound rest))
@@ -29,19 +29,19 @@ keyword_sound text =
     (form_or_sound P else_if_at (codes "ELSEIF(") text _ (λ rest e. moved (codes "ELSEIF(" ++ rest) e (else_if_at rest) (else_if_sound rest))
     (form_or_sound P (alone WrittenStatement.else) (codes "ELSE") text _ (λ rest e. (tt, e))
     (form_or_sound P if_at (codes "IF(") text (simple_at text) (λ rest e. moved (codes "IF(" ++ rest) e (if_at rest) (if_sound rest))
-    (each_weaker (λ s rest. IsSimpleInFront text s rest) P (simple_at text) (λ s rest is. (is.0, is.2)) (simple_sound text))))))))))))))))
+    (each_weaker (λ s rest. IsSimpleAtStart text s rest) P (simple_at text) (λ s rest is. (is.0, is.2)) (simple_sound text))))))))))))))))
   where
     P : WrittenStatement → List ℕ → Type 0
-    P s rest = IsStatementInFront text s rest
+    P s rest = IsStatementAtStart text s rest
 
-    moved : (front : List ℕ) → front ≡ text → (x : Reads WrittenStatement) → Each (λ s rest. IsStatementInFront front s rest) x → Each P x
-    moved front e x h = subst (λ (t : List ℕ). Each (λ s rest. IsStatementInFront t s rest) x) e h
+    moved : (prefix : List ℕ) → prefix ≡ text → (x : Reads WrittenStatement) → Each (λ s rest. IsStatementAtStart prefix s rest) x → Each P x
+    moved prefix e x h = subst (λ (t : List ℕ). Each (λ s rest. IsStatementAtStart t s rest) x) e h
 
 -- by what stands free, and the keyword
-form_sound : (text : List ℕ) → Each (λ s rest. IsStatementInFront text s rest) (form_at text)
+form_sound : (text : List ℕ) → Each (λ s rest. IsStatementAtStart text s rest) (form_at text)
 form_sound text =
-    each_if (λ s rest. IsStatementInFront text s rest) (stands_free 61 text) (if stands_free 44 text then do_at text else equals_at text) (keyword_at text)
-    (λ equals. each_if (λ s rest. IsStatementInFront text s rest) (stands_free 44 text) (do_at text) (equals_at text) (λ comma. do_sound text) (λ none. equals_sound text))
+    each_if (λ s rest. IsStatementAtStart text s rest) (stands_free 61 text) (if stands_free 44 text then do_at text else equals_at text) (keyword_at text)
+    (λ equals. each_if (λ s rest. IsStatementAtStart text s rest) (stands_free 44 text) (do_at text) (equals_at text) (λ comma. do_sound text) (λ none. equals_sound text))
     (λ none. keyword_sound text)
 
 -- what was read up to the end
@@ -53,5 +53,5 @@ whole_is (Some (b, c ∷ rest)) a e = absurd cc
 -- a text that is read as a statement is one that the grammar writes so
 pub statement_sound : (text : List ℕ) (s : WrittenStatement) → statement_at text ≡ Some s → IsWrittenStatement text s
 statement_sound text s e =
-    let is : IsStatementInFront text s [] = each_at (λ v rest. IsStatementInFront text v rest) (form_at text) (form_sound text) s [] (whole_is (form_at text) s e) in
+    let is : IsStatementAtStart text s [] = each_at (λ v rest. IsStatementAtStart text v rest) (form_at text) (form_sound text) s [] (whole_is (form_at text) s e) in
     record { grammatical = is.0; is = sym (append-nil (statement_text s)) ∙ is.1 }

@@ -1,4 +1,4 @@
--- What stands free, outside brackets and character constants, in texts one behind another.
+-- What stands free, outside brackets and character constants, in texts one after another.
 use Rattle.std.proofs.Common.{◌≡◌, ◌==◌, ℕ, Bool, true, false, List, [], ◌∷◌, ◌++◌, fold, flat_map, ◌&&◌, ◌||◌, not, if◌then◌else◌, refl, sym, ap, ◌∙◌, arith, append_assoc, append-nil}
 use Rattle.std.proofs.lemmas.Bool.{and_parts, and_from, and_right, not-true, eqb-true}
 use Rattle.std.proofs.lemmas.List.Folds.{list_all-append}
@@ -75,15 +75,15 @@ characters_pass c other (d ∷ characters) text =
     ap (stands_free_from in_quotes c) (append_assoc (character_text d) (flat_map character_text characters) (39 ∷ text))
     ∙ here (d == 39) refl (characters_pass c other characters text)
   where
-    behind : List ℕ
-    behind = flat_map character_text characters ++ (39 ∷ text)
+    beyond : List ℕ
+    beyond = flat_map character_text characters ++ (39 ∷ text)
 
-    here : (b : Bool) → (d == 39) ≡ b → stands_free_from in_quotes c behind ≡ stands_free c text → stands_free_from in_quotes c ((if b then 39 ∷ 39 ∷ [] else (d ∷ [])) ++ behind) ≡ stands_free c text
+    here : (b : Bool) → (d == 39) ≡ b → stands_free_from in_quotes c beyond ≡ stands_free c text → stands_free_from in_quotes c ((if b then 39 ∷ 39 ∷ [] else (d ∷ [])) ++ beyond) ≡ stands_free c text
     here true e ih =
-        ap (λ b. (b && false && true) || ((b && true && true) || stands_free_from in_quotes c behind)) other ∙ ih
+        ap (λ b. (b && false && true) || ((b && true && true) || stands_free_from in_quotes c beyond)) other ∙ ih
     here false e ih =
-        ap (λ b. (b && true) || stands_free_from (open_after in_quotes d) c behind) (and_right (d == c) false refl)
-        ∙ ap (λ open_now. stands_free_from open_now c behind) (if_false (d == 39) (record { quoted = false; brackets = 0 }) in_quotes e) ∙ ih
+        ap (λ b. (b && true) || stands_free_from (open_after in_quotes d) c beyond) (and_right (d == c) false refl)
+        ∙ ap (λ open_now. stands_free_from open_now c beyond) (if_false (d == 39) (record { quoted = false; brackets = 0 }) in_quotes e) ∙ ih
 
 pub constant_passes : (c : ℕ) → (39 == c) ≡ false → (characters : List ℕ) → PassesOver c (characters_text characters)
 unfolding in_quotes

@@ -1,14 +1,14 @@
 -- Lists that are kept item by item.
 use Rattle.std.proofs.Common.{◌≡◌, ℕ, zero, suc, ◌+◌, ◌<◌, ◌≤◌, Bool, List, [], ◌∷◌, ◌++◌, length, Some, None, refl, sym, ap, ◌∙◌, arith, length-append}
 use Rattle.f77_tree.specs.declared.declarations.LetterRange.{LetterRange}
-use Rattle.f77_parse.specs.Parts.{behind_comma}
-use Rattle.f77_parse.specs.Keeping.{Keeps, keep_then, kept_next, kept_onto, kept_behind, kept_to_end, kept_parts, characters_onto, characters_next, characters_kept, next_character_kept, ranges_onto, kept_ranges, letters_kept}
+use Rattle.f77_parse.specs.Parts.{after_comma}
+use Rattle.f77_parse.specs.Keeping.{Keeps, keep_then, kept_next, kept_onto, kept_after, kept_to_end, kept_parts, characters_onto, characters_next, characters_kept, next_character_kept, ranges_onto, kept_ranges, letters_kept}
 
--- a list of which some items are kept: reading goes on behind them
+-- a list of which some items are kept: reading goes on after them
 pub record IsBegun {V : Type 0} (item : Bool → List ℕ → Keeps V) (before : List V) (text : List ℕ) (total : Keeps (List V)) (list : List V) (bad : Bool) (rest : List ℕ) : Type 0 where
   pub fuel : ℕ
   pub enough : length rest ≤ fuel
-  pub goes_on : total ≡ kept_next (kept_onto fuel item) list bad rest (behind_comma rest)
+  pub goes_on : total ≡ kept_next (kept_onto fuel item) list bad rest (after_comma rest)
   pub room : length list + length rest ≤ length before + length text
   pub shorter : length rest < length text
 
@@ -16,35 +16,35 @@ module _ {V : Type 0} (item : Bool → List ℕ → Keeps V) where
   grown : (list : List V) (v : V) → length (list ++ v ∷ []) ≡ suc (length list)
   grown list v = length-append list (v ∷ []) ∙ (omega arith)
 
-  pub no_first : (before : List V) (bad : Bool) (text : List ℕ) → item bad text ≡ None → kept_behind item before bad text ≡ None
-  unfolding kept_behind
-  no_first before bad text none = ap (λ x. keep_then x (λ v bad_now rest. kept_next (kept_onto (length text) item) (before ++ v ∷ []) bad_now rest (behind_comma rest))) none
+  pub no_first : (before : List V) (bad : Bool) (text : List ℕ) → item bad text ≡ None → kept_after item before bad text ≡ None
+  unfolding kept_after
+  no_first before bad text none = ap (λ x. keep_then x (λ v bad_now rest. kept_next (kept_onto (length text) item) (before ++ v ∷ []) bad_now rest (after_comma rest))) none
 
-  pub first_item : (before : List V) (bad : Bool) (text : List ℕ) (v : V) (bad_now : Bool) (rest : List ℕ) → item bad text ≡ Some (v, bad_now, rest) → length rest < length text → IsBegun item before text (kept_behind item before bad text) (before ++ v ∷ []) bad_now rest
-  unfolding kept_behind
+  pub first_item : (before : List V) (bad : Bool) (text : List ℕ) (v : V) (bad_now : Bool) (rest : List ℕ) → item bad text ≡ Some (v, bad_now, rest) → length rest < length text → IsBegun item before text (kept_after item before bad text) (before ++ v ∷ []) bad_now rest
+  unfolding kept_after
   first_item before bad text v bad_now rest some less =
       let longer = grown before v in
       record {
         fuel = length text;
         enough = omega arith;
-        goes_on = ap (λ x. keep_then x (λ v bad_now rest. kept_next (kept_onto (length text) item) (before ++ v ∷ []) bad_now rest (behind_comma rest))) some;
+        goes_on = ap (λ x. keep_then x (λ v bad_now rest. kept_next (kept_onto (length text) item) (before ++ v ∷ []) bad_now rest (after_comma rest))) some;
         room = omega arith;
         shorter = less;
       }
 
   module _ (before : List V) (text : List ℕ) (total : Keeps (List V)) (list : List V) (bad : Bool) (rest : List ℕ) (begun : IsBegun item before text total list bad rest) where
-    pub last_item : behind_comma rest ≡ None → total ≡ Some (list, bad, rest)
+    pub last_item : after_comma rest ≡ None → total ≡ Some (list, bad, rest)
     last_item none = begun.goes_on ∙ ap (λ x. kept_next (kept_onto begun.fuel item) list bad rest x) none
 
-    behind : (next : List ℕ) → behind_comma rest ≡ Some next → total ≡ kept_onto begun.fuel item list bad next
-    behind next comma = begun.goes_on ∙ ap (λ x. kept_next (kept_onto begun.fuel item) list bad rest x) comma
+    beyond : (next : List ℕ) → after_comma rest ≡ Some next → total ≡ kept_onto begun.fuel item list bad next
+    beyond next comma = begun.goes_on ∙ ap (λ x. kept_next (kept_onto begun.fuel item) list bad rest x) comma
 
     onto_none : (n : ℕ) (next : List ℕ) → item bad next ≡ None → kept_onto n item list bad next ≡ None
     onto_none zero next none = refl
-    onto_none (suc n) next none = ap (λ x. keep_then x (λ v bad_now more. kept_next (kept_onto n item) (list ++ v ∷ []) bad_now more (behind_comma more))) none
+    onto_none (suc n) next none = ap (λ x. keep_then x (λ v bad_now more. kept_next (kept_onto n item) (list ++ v ∷ []) bad_now more (after_comma more))) none
 
-    pub no_next : (next : List ℕ) → behind_comma rest ≡ Some next → item bad next ≡ None → total ≡ None
-    no_next next comma none = behind next comma ∙ onto_none begun.fuel next none
+    pub no_next : (next : List ℕ) → after_comma rest ≡ Some next → item bad next ≡ None → total ≡ None
+    no_next next comma none = beyond next comma ∙ onto_none begun.fuel next none
 
     more : (n : ℕ) (next : List ℕ) (v : V) (bad_now : Bool) (later : List ℕ) → total ≡ kept_onto n item list bad next → length next < length rest → length rest ≤ n → item bad next ≡ Some (v, bad_now, later) → length later < length next → IsBegun item before text total (list ++ v ∷ []) bad_now later
     more zero next v bad_now later is less enough some shorter = absurd (omega arith)
@@ -55,13 +55,13 @@ module _ {V : Type 0} (item : Bool → List ℕ → Keeps V) where
         record {
           fuel = n;
           enough = omega arith;
-          goes_on = is ∙ ap (λ x. keep_then x (λ v bad_now more. kept_next (kept_onto n item) (list ++ v ∷ []) bad_now more (behind_comma more))) some;
+          goes_on = is ∙ ap (λ x. keep_then x (λ v bad_now more. kept_next (kept_onto n item) (list ++ v ∷ []) bad_now more (after_comma more))) some;
           room = omega arith;
           shorter = omega arith;
         }
 
-    pub next_item : (next : List ℕ) (v : V) (bad_now : Bool) (later : List ℕ) → behind_comma rest ≡ Some next → length next < length rest → item bad next ≡ Some (v, bad_now, later) → length later < length next → IsBegun item before text total (list ++ v ∷ []) bad_now later
-    next_item next v bad_now later comma less some shorter = more begun.fuel next v bad_now later (behind next comma) less begun.enough some shorter
+    pub next_item : (next : List ℕ) (v : V) (bad_now : Bool) (later : List ℕ) → after_comma rest ≡ Some next → length next < length rest → item bad next ≡ Some (v, bad_now, later) → length later < length next → IsBegun item before text total (list ++ v ∷ []) bad_now later
+    next_item next v bad_now later comma less some shorter = more begun.fuel next v bad_now later (beyond next comma) less begun.enough some shorter
 
 -- ---- lists up to the end of the text
 
@@ -167,40 +167,40 @@ module _ (text : List ℕ) (total : Keeps (List ℕ)) (list : List ℕ) (bad : B
 pub record AreRanged (text : List ℕ) (total : Keeps (List LetterRange)) (list : List LetterRange) (bad : Bool) (rest : List ℕ) : Type 0 where
   pub fuel : ℕ
   pub enough : length rest ≤ fuel
-  pub goes_on : total ≡ kept_next (ranges_onto fuel) list bad rest (behind_comma rest)
+  pub goes_on : total ≡ kept_next (ranges_onto fuel) list bad rest (after_comma rest)
   pub room : length list + length rest ≤ length text
   pub shorter : length rest < length text
 
 pub no_letters : (bad : Bool) (text : List ℕ) → letters_kept [] bad text ≡ None → kept_ranges bad text ≡ None
 unfolding kept_ranges
-no_letters bad text none = ap (λ x. keep_then x (λ longer bad_now rest. kept_next (ranges_onto (length text)) longer bad_now rest (behind_comma rest))) none
+no_letters bad text none = ap (λ x. keep_then x (λ longer bad_now rest. kept_next (ranges_onto (length text)) longer bad_now rest (after_comma rest))) none
 
 pub first_letters : (bad : Bool) (text : List ℕ) (list : List LetterRange) (bad_now : Bool) (rest : List ℕ) → letters_kept [] bad text ≡ Some (list, bad_now, rest) → length rest < length text → length list + length rest ≤ length text → AreRanged text (kept_ranges bad text) list bad_now rest
 unfolding kept_ranges
 first_letters bad text list bad_now rest some less room = record {
   fuel = length text;
   enough = omega arith;
-  goes_on = ap (λ x. keep_then x (λ longer bad_now rest. kept_next (ranges_onto (length text)) longer bad_now rest (behind_comma rest))) some;
+  goes_on = ap (λ x. keep_then x (λ longer bad_now rest. kept_next (ranges_onto (length text)) longer bad_now rest (after_comma rest))) some;
   room = room;
   shorter = less;
 }
 
 module _ (text : List ℕ) (total : Keeps (List LetterRange)) (list : List LetterRange) (bad : Bool) (rest : List ℕ) (r : AreRanged text total list bad rest) where
-  pub last_letters : behind_comma rest ≡ None → total ≡ Some (list, bad, rest)
+  pub last_letters : after_comma rest ≡ None → total ≡ Some (list, bad, rest)
   last_letters none = r.goes_on ∙ ap (λ x. kept_next (ranges_onto r.fuel) list bad rest x) none
 
-  letters_behind : (next : List ℕ) → behind_comma rest ≡ Some next → total ≡ ranges_onto r.fuel list bad next
-  letters_behind next comma = r.goes_on ∙ ap (λ x. kept_next (ranges_onto r.fuel) list bad rest x) comma
+  letters_after : (next : List ℕ) → after_comma rest ≡ Some next → total ≡ ranges_onto r.fuel list bad next
+  letters_after next comma = r.goes_on ∙ ap (λ x. kept_next (ranges_onto r.fuel) list bad rest x) comma
 
-  pub no_next_letters : (next : List ℕ) → behind_comma rest ≡ Some next → letters_kept list bad next ≡ None → total ≡ None
-  no_next_letters next comma none = letters_behind next comma ∙ by r.fuel
+  pub no_next_letters : (next : List ℕ) → after_comma rest ≡ Some next → letters_kept list bad next ≡ None → total ≡ None
+  no_next_letters next comma none = letters_after next comma ∙ by r.fuel
     where
       by : (n : ℕ) → ranges_onto n list bad next ≡ None
       by zero = refl
-      by (suc n) = ap (λ x. keep_then x (λ longer bad_now more. kept_next (ranges_onto n) longer bad_now more (behind_comma more))) none
+      by (suc n) = ap (λ x. keep_then x (λ longer bad_now more. kept_next (ranges_onto n) longer bad_now more (after_comma more))) none
 
-  pub next_letters : (next : List ℕ) (longer : List LetterRange) (bad_now : Bool) (later : List ℕ) → behind_comma rest ≡ Some next → length next < length rest → letters_kept list bad next ≡ Some (longer, bad_now, later) → length later < length next → length longer + length later ≤ length list + length next → AreRanged text total longer bad_now later
-  next_letters next longer bad_now later comma less some shorter grows = by r.fuel r.enough (letters_behind next comma)
+  pub next_letters : (next : List ℕ) (longer : List LetterRange) (bad_now : Bool) (later : List ℕ) → after_comma rest ≡ Some next → length next < length rest → letters_kept list bad next ≡ Some (longer, bad_now, later) → length later < length next → length longer + length later ≤ length list + length next → AreRanged text total longer bad_now later
+  next_letters next longer bad_now later comma less some shorter grows = by r.fuel r.enough (letters_after next comma)
     where
       by : (n : ℕ) → length rest ≤ n → total ≡ ranges_onto n list bad next → AreRanged text total longer bad_now later
       by zero enough is = absurd (omega arith)
@@ -210,7 +210,7 @@ module _ (text : List ℕ) (total : Keeps (List LetterRange)) (list : List Lette
           record {
             fuel = n;
             enough = omega arith;
-            goes_on = is ∙ ap (λ x. keep_then x (λ longer bad_now more. kept_next (ranges_onto n) longer bad_now more (behind_comma more))) some;
+            goes_on = is ∙ ap (λ x. keep_then x (λ longer bad_now more. kept_next (ranges_onto n) longer bad_now more (after_comma more))) some;
             room = omega arith;
             shorter = omega arith;
           }

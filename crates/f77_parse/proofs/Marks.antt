@@ -56,7 +56,7 @@ marks_go_on text open_now next depth depth_now equals comma equals_now comma_now
     let deepest = m.deepest in
     let least = m.least in
     let room = m.room in
-    let behind = deepest_least next (drop (i + 1) text) in
+    let beyond = deepest_least next (drop (i + 1) text) in
     record {
       deepest = omega arith;
       least = omega arith;

@@ -4,31 +4,31 @@ use Rattle.std.specs.List.{list_all}
 use Rattle.f77_tree.specs.Name.{is_name}
 use Rattle.f77_tree.specs.StatementGrammar.{comma_if, WrittenDecl, decls_text, IsDecl, WrittenBlock, block_text, is_block, is_said, WrittenPart, part_text, IsPart}
 use Rattle.f77_tree.specs.StatementGrammar.WrittenBlock.{Unsaid, Blank, Block}
-use Rattle.f77_expr.specs.Reader.{Reads, read_as, and_then_read, after_front, this_or}
+use Rattle.f77_expr.specs.Reader.{Reads, read_as, and_then_read, after_prefix, this_or}
 use Rattle.f77_expr.proofs.EachRead.{Each, each_if, each_then, each_as, each_this_or, each_weaker, if_false}
-use Rattle.f77_expr.proofs.Fronts.{front_is}
-use Rattle.f77_parse.specs.Parts.{after, then_front, name_at, list_at, decl_at, block_at, comma_at, part_behind, part_at, first_part_at, parts_to_end}
-use Rattle.f77_parse.proofs.Followers.{no_front, ends_decls, IsInFront, Every}
-use Rattle.f77_parse.proofs.PartReaders.{after_sound, then_front_sound, no_front_in, after_none, between, comma_is, comma_reads}
-use Rattle.f77_parse.proofs.PartLists.{every_all, all_every, every_pass, pass_every, list_front}
-use Rattle.f77_parse.proofs.PartNumbers.{name_no_front, name_sound, name_reads}
+use Rattle.f77_expr.proofs.Prefixes.{prefix_is}
+use Rattle.f77_parse.specs.Parts.{after, then_prefix, name_at, list_at, decl_at, block_at, comma_at, part_after, part_at, first_part_at, parts_to_end}
+use Rattle.f77_parse.proofs.Followers.{not_at_start, ends_decls, IsAtStart, Every}
+use Rattle.f77_parse.proofs.PartReaders.{after_sound, then_prefix_sound, not_at_start_in, after_none, between, comma_is, comma_reads}
+use Rattle.f77_parse.proofs.PartLists.{every_all, all_every, every_pass, pass_every, list_prefix}
+use Rattle.f77_parse.proofs.PartNumbers.{name_not_at_start, name_sound, name_reads}
 use Rattle.f77_parse.proofs.PartDeclarations.{decl_listed, decls_sound, decls_reads}
 use Rattle.f77_parse.proofs.PartSequences.{AreAll, parts_sound, parts_follow, parts_reads}
 
 -- ---- blocks
 
-pub block_sound : (text : List ℕ) → Each (λ b rest. IsInFront (λ b. (is_block b ≡ true) × (is_said b ≡ true)) block_text text b rest) (block_at text)
+pub block_sound : (text : List ℕ) → Each (λ b rest. IsAtStart (λ b. (is_block b ≡ true) × (is_said b ≡ true)) block_text text b rest) (block_at text)
 block_sound text =
-    each_this_or P Blank (after_front (codes "//") text) (after (codes "/") (λ rest. then_front (codes "/") (read_as (λ name. Block name) (name_at rest))) text)
-    (λ rest e. ((refl, refl), front_is (codes "//") text rest e))
-    (after_sound P (codes "/") (λ rest. then_front (codes "/") (read_as (λ name. Block name) (name_at rest))) text
-    (λ next e. then_front_sound P Unclosed (codes "/") (read_as (λ name. Block name) (name_at next))
-    (each_as (λ name rest. IsInFront (λ name. is_name name ≡ true) (λ name. name) next name rest) Unclosed (λ name. Block name) (name_at next) (name_sound next)
+    each_this_or P Blank (after_prefix (codes "//") text) (after (codes "/") (λ rest. then_prefix (codes "/") (read_as (λ name. Block name) (name_at rest))) text)
+    (λ rest e. ((refl, refl), prefix_is (codes "//") text rest e))
+    (after_sound P (codes "/") (λ rest. then_prefix (codes "/") (read_as (λ name. Block name) (name_at rest))) text
+    (λ next e. then_prefix_sound P Unclosed (codes "/") (read_as (λ name. Block name) (name_at next))
+    (each_as (λ name rest. IsAtStart (λ name. is_name name ≡ true) (λ name. name) next name rest) Unclosed (λ name. Block name) (name_at next) (name_sound next)
     (λ name rest is. ((is.0, refl), ap (λ (more : List ℕ). 47 ∷ more) is.1 ∙ e)))
     (λ b rest is. (is.0, closing b rest is.0.1 ∙ is.1))))
   where
     P : WrittenBlock → List ℕ → Type 0
-    P b rest = IsInFront (λ b. (is_block b ≡ true) × (is_said b ≡ true)) block_text text b rest
+    P b rest = IsAtStart (λ b. (is_block b ≡ true) × (is_said b ≡ true)) block_text text b rest
 
     open_text : WrittenBlock → List ℕ
     open_text (Block name) = 47 ∷ name
@@ -46,26 +46,26 @@ pub block_reads : (b : WrittenBlock) (rest : List ℕ) → is_block b ≡ true �
 block_reads Unsaid rest fits said = absurd cc
 block_reads Blank rest fits said = refl
 block_reads (Block name) rest fits said =
-    let behind : List ℕ = name ++ (47 ∷ rest) in
-    let named : Reads WrittenBlock = then_front (codes "/") (read_as (λ name. Block name) (name_at behind)) in
+    let beyond : List ℕ = name ++ (47 ∷ rest) in
+    let named : Reads WrittenBlock = then_prefix (codes "/") (read_as (λ name. Block name) (name_at beyond)) in
     ap block_at (append_assoc (47 ∷ name) (codes "/") rest)
-    ∙ ap (λ (o : Option (List ℕ)). this_or Blank o named) (after_none 47 [] behind (name_no_front 47 name (47 ∷ rest) fits (omega arith)))
-    ∙ ap (λ (x : Reads (List ℕ)). then_front (codes "/") (read_as (λ name. Block name) x)) (name_reads name (47 ∷ rest) fits refl)
+    ∙ ap (λ (o : Option (List ℕ)). this_or Blank o named) (after_none 47 [] beyond (name_not_at_start 47 name (47 ∷ rest) fits (omega arith)))
+    ∙ ap (λ (x : Reads (List ℕ)). then_prefix (codes "/") (read_as (λ name. Block name) x)) (name_reads name (47 ∷ rest) fits refl)
 
 -- ---- parts
 
-part_front : (p : WrittenPart) (rest : List ℕ) → part_text p ++ rest ≡ comma_if p.comma ++ (block_text p.block ++ (decls_text p.decls ++ rest))
-part_front p rest = between (comma_if p.comma) (block_text p.block) (decls_text p.decls) rest
+part_prefix : (p : WrittenPart) (rest : List ℕ) → part_text p ++ rest ≡ comma_if p.comma ++ (block_text p.block ++ (decls_text p.decls ++ rest))
+part_prefix p rest = between (comma_if p.comma) (block_text p.block) (decls_text p.decls) rest
 
 abbrev IsPartOf : Bool → WrittenBlock → WrittenPart → Type 0
 IsPartOf comma block p = IsPart p × (p.comma ≡ comma) × (p.block ≡ block)
 
-behind_sound : (comma : Bool) (block : WrittenBlock) (text next : List ℕ) → is_block block ≡ true → comma_if comma ++ (block_text block ++ next) ≡ text → Each (λ p rest. IsInFront (IsPartOf comma block) part_text text p rest) (part_behind comma block next)
-behind_sound comma block text next fits e =
-    each_as (λ ds rest. IsInFront (λ ds. (1 ≤ length ds) × All IsDecl ds) decls_text next ds rest) (λ p rest. IsInFront (IsPartOf comma block) part_text text p rest) made (list_at decl_at next) (decls_sound next)
+beyond_sound : (comma : Bool) (block : WrittenBlock) (text next : List ℕ) → is_block block ≡ true → comma_if comma ++ (block_text block ++ next) ≡ text → Each (λ p rest. IsAtStart (IsPartOf comma block) part_text text p rest) (part_after comma block next)
+beyond_sound comma block text next fits e =
+    each_as (λ ds rest. IsAtStart (λ ds. (1 ≤ length ds) × All IsDecl ds) decls_text next ds rest) (λ p rest. IsAtStart (IsPartOf comma block) part_text text p rest) made (list_at decl_at next) (decls_sound next)
     (λ ds rest is. (
       (record { block = fits; some = is.0.0; decls = is.0.1 }, refl, refl),
-      part_front (made ds) rest ∙ ap (λ more. comma_if comma ++ (block_text block ++ more)) is.1 ∙ e,
+      part_prefix (made ds) rest ∙ ap (λ more. comma_if comma ++ (block_text block ++ more)) is.1 ∙ e,
     ))
   where
     made : List WrittenDecl → WrittenPart
@@ -75,32 +75,32 @@ behind_sound comma block text next fits e =
 abbrev IsSaidPart : WrittenPart → Type 0
 IsSaidPart p = IsPart p × (is_said p.block ≡ true)
 
-pub part_sound : (text : List ℕ) → Each (λ p rest. IsInFront (λ p. IsPart p × (is_said p.block ≡ true)) part_text text p rest) (part_at text)
+pub part_sound : (text : List ℕ) → Each (λ p rest. IsAtStart (λ p. IsPart p × (is_said p.block ≡ true)) part_text text p rest) (part_at text)
 part_sound text =
     let comma : Bool × List ℕ = comma_at text in
-    each_then (λ b rest. IsInFront (λ b. (is_block b ≡ true) × (is_said b ≡ true)) block_text comma.1 b rest) (λ p rest. IsInFront IsSaidPart part_text text p rest) (λ block rest. part_behind comma.0 block rest) (block_at comma.1) (block_sound comma.1)
-    (λ block rest is. each_weaker (λ p tail. IsInFront (IsPartOf comma.0 block) part_text text p tail) (λ p tail. IsInFront IsSaidPart part_text text p tail) (part_behind comma.0 block rest)
+    each_then (λ b rest. IsAtStart (λ b. (is_block b ≡ true) × (is_said b ≡ true)) block_text comma.1 b rest) (λ p rest. IsAtStart IsSaidPart part_text text p rest) (λ block rest. part_after comma.0 block rest) (block_at comma.1) (block_sound comma.1)
+    (λ block rest is. each_weaker (λ p tail. IsAtStart (IsPartOf comma.0 block) part_text text p tail) (λ p tail. IsAtStart IsSaidPart part_text text p tail) (part_after comma.0 block rest)
     (λ p tail h. ((h.0.0, ap is_said h.0.2 ∙ is.0.1), h.1))
-    (behind_sound comma.0 block text rest is.0.0 (ap (λ more. comma_if comma.0 ++ more) is.1 ∙ comma_is text)))
+    (beyond_sound comma.0 block text rest is.0.0 (ap (λ more. comma_if comma.0 ++ more) is.1 ∙ comma_is text)))
 
-pub first_part_sound : (text : List ℕ) → Each (λ p rest. IsInFront (λ p. IsPart p × (p.comma ≡ false)) part_text text p rest) (first_part_at text)
+pub first_part_sound : (text : List ℕ) → Each (λ p rest. IsAtStart (λ p. IsPart p × (p.comma ≡ false)) part_text text p rest) (first_part_at text)
 first_part_sound [] = tt
 first_part_sound (c ∷ text) =
-    each_if P (c == 47) (and_then_read (λ block rest. part_behind false block rest) (block_at (c ∷ text))) (part_behind false Unsaid (c ∷ text))
-    (λ stroke. each_then (λ b rest. IsInFront (λ b. (is_block b ≡ true) × (is_said b ≡ true)) block_text (c ∷ text) b rest) P (λ block rest. part_behind false block rest) (block_at (c ∷ text)) (block_sound (c ∷ text))
-    (λ block rest is. weaker block rest (behind_sound false block (c ∷ text) rest is.0.0 is.1)))
-    (λ none. weaker Unsaid (c ∷ text) (behind_sound false Unsaid (c ∷ text) (c ∷ text) refl refl))
+    each_if P (c == 47) (and_then_read (λ block rest. part_after false block rest) (block_at (c ∷ text))) (part_after false Unsaid (c ∷ text))
+    (λ stroke. each_then (λ b rest. IsAtStart (λ b. (is_block b ≡ true) × (is_said b ≡ true)) block_text (c ∷ text) b rest) P (λ block rest. part_after false block rest) (block_at (c ∷ text)) (block_sound (c ∷ text))
+    (λ block rest is. weaker block rest (beyond_sound false block (c ∷ text) rest is.0.0 is.1)))
+    (λ none. weaker Unsaid (c ∷ text) (beyond_sound false Unsaid (c ∷ text) (c ∷ text) refl refl))
   where
     P : WrittenPart → List ℕ → Type 0
-    P p rest = IsInFront (λ p. IsPart p × (p.comma ≡ false)) part_text (c ∷ text) p rest
+    P p rest = IsAtStart (λ p. IsPart p × (p.comma ≡ false)) part_text (c ∷ text) p rest
 
-    weaker : (block : WrittenBlock) (next : List ℕ) → Each (λ p rest. IsInFront (IsPartOf false block) part_text (c ∷ text) p rest) (part_behind false block next) → Each P (part_behind false block next)
-    weaker block next h = each_weaker (λ p rest. IsInFront (IsPartOf false block) part_text (c ∷ text) p rest) P (part_behind false block next) (λ p rest is. ((is.0.0, is.0.1), is.1)) h
+    weaker : (block : WrittenBlock) (next : List ℕ) → Each (λ p rest. IsAtStart (IsPartOf false block) part_text (c ∷ text) p rest) (part_after false block next) → Each P (part_after false block next)
+    weaker block next h = each_weaker (λ p rest. IsAtStart (IsPartOf false block) part_text (c ∷ text) p rest) P (part_after false block next) (λ p rest is. ((is.0.0, is.0.1), is.1)) h
 
-behind_reads : (comma : Bool) (p : WrittenPart) (rest : List ℕ) → IsPart p → ends_decls rest ≡ true → part_behind comma p.block (decls_text p.decls ++ rest) ≡ Some (record { comma = comma; block = p.block; decls = p.decls }, rest)
-behind_reads comma p rest fits follows = ap (read_as (λ decls. record { comma = comma; block = p.block; decls = decls })) (decls_reads p.decls rest fits.some fits.decls follows)
+after_reads : (comma : Bool) (p : WrittenPart) (rest : List ℕ) → IsPart p → ends_decls rest ≡ true → part_after comma p.block (decls_text p.decls ++ rest) ≡ Some (record { comma = comma; block = p.block; decls = p.decls }, rest)
+after_reads comma p rest fits follows = ap (read_as (λ decls. record { comma = comma; block = p.block; decls = decls })) (decls_reads p.decls rest fits.some fits.decls follows)
 
-block_no_comma : (b : WrittenBlock) (rest : List ℕ) → is_said b ≡ true → no_front 44 (block_text b ++ rest) ≡ true
+block_no_comma : (b : WrittenBlock) (rest : List ℕ) → is_said b ≡ true → not_at_start 44 (block_text b ++ rest) ≡ true
 block_no_comma Unsaid rest said = absurd cc
 block_no_comma Blank rest said = refl
 block_no_comma (Block name) rest said = refl
@@ -108,38 +108,38 @@ block_no_comma (Block name) rest said = refl
 pub part_reads : (p : WrittenPart) (rest : List ℕ) → IsPart p → is_said p.block ≡ true → ends_decls rest ≡ true → part_at (part_text p ++ rest) ≡ Some (p, rest)
 part_reads p rest fits said follows =
     let decls : List ℕ = decls_text p.decls ++ rest in
-    ap part_at (part_front p rest)
-    ∙ ap (λ (comma : Bool × List ℕ). and_then_read (λ block rest. part_behind comma.0 block rest) (block_at comma.1)) (comma_reads p.comma (block_text p.block ++ decls) (block_no_comma p.block decls said))
-    ∙ ap (and_then_read (λ block rest. part_behind p.comma block rest)) (block_reads p.block decls fits.block said)
-    ∙ behind_reads p.comma p rest fits follows
+    ap part_at (part_prefix p rest)
+    ∙ ap (λ (comma : Bool × List ℕ). and_then_read (λ block rest. part_after comma.0 block rest) (block_at comma.1)) (comma_reads p.comma (block_text p.block ++ decls) (block_no_comma p.block decls said))
+    ∙ ap (and_then_read (λ block rest. part_after p.comma block rest)) (block_reads p.block decls fits.block said)
+    ∙ after_reads p.comma p rest fits follows
 
 -- what begins with no stroke has names of blank common
-unsaid_at : (text : List ℕ) → no_front 47 text ≡ true → first_part_at text ≡ part_behind false Unsaid text
+unsaid_at : (text : List ℕ) → not_at_start 47 text ≡ true → first_part_at text ≡ part_after false Unsaid text
 unsaid_at [] h = refl
-unsaid_at (c ∷ text) h = if_false (c == 47) (and_then_read (λ block rest. part_behind false block rest) (block_at (c ∷ text))) (part_behind false Unsaid (c ∷ text)) (no_front_in 47 c text h)
+unsaid_at (c ∷ text) h = if_false (c == 47) (and_then_read (λ block rest. part_after false block rest) (block_at (c ∷ text))) (part_after false Unsaid (c ∷ text)) (not_at_start_in 47 c text h)
 
 pub first_part_reads : (p : WrittenPart) (rest : List ℕ) → IsPart p → p.comma ≡ false → ends_decls rest ≡ true → first_part_at (part_text p ++ rest) ≡ Some (p, rest)
 first_part_reads p rest fits none follows =
-    ap first_part_at (part_front p rest ∙ ap (λ there. comma_if there ++ (block_text p.block ++ decls)) none)
+    ap first_part_at (part_prefix p rest ∙ ap (λ there. comma_if there ++ (block_text p.block ++ decls)) none)
     ∙ here p.block refl
-    ∙ behind_reads false p rest fits follows
+    ∙ after_reads false p rest fits follows
     ∙ ap (λ comma. Some (record { comma = comma; block = p.block; decls = p.decls }, rest)) (sym none)
   where
     decls : List ℕ
     decls = decls_text p.decls ++ rest
 
-    said_reads : (b : WrittenBlock) → p.block ≡ b → is_said b ≡ true → and_then_read (λ block rest. part_behind false block rest) (block_at (block_text b ++ decls)) ≡ part_behind false b decls
-    said_reads b e said = ap (and_then_read (λ block rest. part_behind false block rest)) (block_reads b decls (ap is_block (sym e) ∙ fits.block) said)
+    said_reads : (b : WrittenBlock) → p.block ≡ b → is_said b ≡ true → and_then_read (λ block rest. part_after false block rest) (block_at (block_text b ++ decls)) ≡ part_after false b decls
+    said_reads b e said = ap (and_then_read (λ block rest. part_after false block rest)) (block_reads b decls (ap is_block (sym e) ∙ fits.block) said)
 
-    here : (b : WrittenBlock) → p.block ≡ b → first_part_at (block_text b ++ decls) ≡ part_behind false b decls
-    here Unsaid e = unsaid_at decls (list_front decl_listed (no_front 47) decl_listed.no_stroke p.decls rest fits.some (all_every IsDecl p.decls fits.decls))
+    here : (b : WrittenBlock) → p.block ≡ b → first_part_at (block_text b ++ decls) ≡ part_after false b decls
+    here Unsaid e = unsaid_at decls (list_prefix decl_listed (not_at_start 47) decl_listed.no_stroke p.decls rest fits.some (all_every IsDecl p.decls fits.decls))
     here Blank e = said_reads Blank e refl
     here (Block name) e = said_reads (Block name) e refl
 
 -- ---- parts up to the end
 
 part_follows : (p : WrittenPart) (rest : List ℕ) → is_said p.block ≡ true → ends_decls (part_text p ++ rest) ≡ true
-part_follows p rest said = ap ends_decls (part_front p rest) ∙ here p.comma p.block (decls_text p.decls ++ rest) said
+part_follows p rest said = ap ends_decls (part_prefix p rest) ∙ here p.comma p.block (decls_text p.decls ++ rest) said
   where
     here : (comma : Bool) (b : WrittenBlock) (more : List ℕ) → is_said b ≡ true → ends_decls (comma_if comma ++ (block_text b ++ more)) ≡ true
     here comma Unsaid more h = absurd cc
@@ -150,8 +150,8 @@ part_follows p rest said = ap ends_decls (part_front p rest) ∙ here p.comma p.
 
 part_some : (p : WrittenPart) → is_said p.block ≡ true → 1 ≤ length (part_text p)
 part_some p said =
-    let front : List ℕ = comma_if p.comma in
-    omega (arith, block_some p.block said, length-append (front ++ block_text p.block) (decls_text p.decls), length-append front (block_text p.block))
+    let prefix : List ℕ = comma_if p.comma in
+    omega (arith, block_some p.block said, length-append (prefix ++ block_text p.block) (decls_text p.decls), length-append prefix (block_text p.block))
   where
     block_some : (b : WrittenBlock) → is_said b ≡ true → 1 ≤ length (block_text b)
     block_some Unsaid h = absurd cc
@@ -186,7 +186,7 @@ pub common_parts_reads : (parts : List WrittenPart) → All IsPart parts → lis
 common_parts_reads parts fit said =
     parts_reads part_at part_text IsSaidPart ends_decls refl (λ p rest fits. part_follows p rest fits.1) (λ p rest fits follows. part_reads p rest fits.0 fits.1 follows) (λ p fits. part_some p fits.1) parts (said_every parts fit said)
 
--- and they may stand behind a part
+-- and they may stand after a part
 pub common_parts_follow : (parts : List WrittenPart) → list_all (λ p. is_said p.block) parts ≡ true → ends_decls (flat_map part_text parts) ≡ true
 common_parts_follow parts said =
     parts_follow part_at part_text (λ p. is_said p.block ≡ true) ends_decls refl part_follows parts (pass_every (λ p. is_said p.block) parts said)

@@ -1,4 +1,4 @@
--- Expressions in front of what ends them, and variables.
+-- Expressions before what ends them, and variables.
 use Rattle.std.proofs.Common.{◌≡◌, ◌==◌, ℕ, ◌<◌, ◌≤◌, true, false, not, List, [], ◌∷◌, ◌++◌, length, map, codes, All, Some, None, if◌then◌else◌, refl, sym, ap, subst, ◌∙◌, arith}
 use Rattle.f77_tree.specs.Name.{is_name}
 use Rattle.f77_tree.specs.Grammar.{Written, Arguments, symbol, IsGrammatical, AreGrammatical, spelling, spellings}
@@ -10,16 +10,16 @@ use Rattle.f77_expr.proofs.Followers.{breaks_off, is_follower}
 use Rattle.f77_expr.proofs.Spellings.{binary_spelling, call_spelling, bracketed_spelling, prefixed_spelling}
 use Rattle.f77_expr.proofs.Soundness.{expression_sound as read_grammatical}
 use Rattle.f77_expr.proofs.Spelled.{expression_spells}
-use Rattle.f77_expr.proofs.Completeness.{read_in_front}
-use Rattle.f77_parse.specs.Parts.{list_at, bracketed_or_none, ends_expression, expression_in_front, arguments_of, variable_of, variable_at, name_at}
-use Rattle.f77_parse.proofs.Followers.{other_front, other_no_front, capital_front, no_symbol, ends_list, IsInFront, Every, IsListed}
-use Rattle.f77_parse.proofs.PartReaders.{each_read, brackets_front}
+use Rattle.f77_expr.proofs.Completeness.{read_at_start}
+use Rattle.f77_parse.specs.Parts.{list_at, bracketed_or_none, ends_expression, expression_at_start, arguments_of, variable_of, variable_at, name_at}
+use Rattle.f77_parse.proofs.Followers.{other_prefix, other_not_at_start, capital_prefix, no_symbol, ends_list, IsAtStart, Every, IsListed}
+use Rattle.f77_parse.proofs.PartReaders.{each_read, brackets_prefix}
 use Rattle.f77_parse.proofs.PartLists.{bracketed_reads, bracketed_or_none_sound, bracketed_or_none_reads, list_all_sound, list_all_reads}
-use Rattle.f77_parse.proofs.PartNumbers.{number_other, name_other, name_capital_front, breaks_symbol, breaks_bracket, name_sound, name_reads}
+use Rattle.f77_parse.proofs.PartNumbers.{number_other, name_other, name_capital_prefix, breaks_symbol, breaks_bracket, name_sound, name_reads}
 
 -- ---- expressions
 
-pub expression_sound : (text : List ℕ) → Each (λ w rest. IsGrammatical w × (spelling w ++ rest ≡ text) × (ends_expression rest ≡ true)) (expression_in_front text)
+pub expression_sound : (text : List ℕ) → Each (λ w rest. IsGrammatical w × (spelling w ++ rest ≡ text) × (ends_expression rest ≡ true)) (expression_at_start text)
 expression_sound text =
     each_then (λ w rest. IsGrammatical w × (spelling w ++ rest ≡ text)) P (λ w rest. if ends_expression rest then Some (w, rest) else None) (expression_at 0 text)
     (each_read (λ w rest. IsGrammatical w × (spelling w ++ rest ≡ text)) (expression_at 0 text) (λ w rest e. ((read_grammatical 0 text w rest (omega arith) e).0, expression_spells 0 text w rest e)))
@@ -32,9 +32,9 @@ follower_from : (rest : List ℕ) → ends_expression rest ≡ true → is_follo
 follower_from [] h = refl
 follower_from (c ∷ more) h = h
 
-pub expression_reads : (w : Written) (rest : List ℕ) → IsGrammatical w → ends_expression rest ≡ true → expression_in_front (spelling w ++ rest) ≡ Some (w, rest)
+pub expression_reads : (w : Written) (rest : List ℕ) → IsGrammatical w → ends_expression rest ≡ true → expression_at_start (spelling w ++ rest) ≡ Some (w, rest)
 expression_reads w rest fits follows =
-    ap (and_then_read (λ w rest. if ends_expression rest then Some (w, rest) else None)) (read_in_front w rest fits (follower_from rest follows))
+    ap (and_then_read (λ w rest. if ends_expression rest then Some (w, rest) else None)) (read_at_start w rest fits (follower_from rest follows))
     ∙ if_true (ends_expression rest) (Some (w, rest)) None follows
 
 -- ---- first characters
@@ -47,35 +47,35 @@ record BeginsNone (k : ℕ) : Type 0 where
   no_minus : not (45 == k) ≡ true
   no_point : not (46 == k) ≡ true
 
-expression_other : (k : ℕ) → BeginsNone k → (w : Written) → IsGrammatical w → (rest : List ℕ) → other_front k (spelling w ++ rest) ≡ true
+expression_other : (k : ℕ) → BeginsNone k → (w : Written) → IsGrammatical w → (rest : List ℕ) → other_prefix k (spelling w ++ rest) ≡ true
 expression_other k none (Written.number digits) h rest = number_other k digits rest h none.below
 expression_other k none (Written.truth true) h rest = none.no_point
 expression_other k none (Written.truth false) h rest = none.no_point
 expression_other k none (Written.name name) h rest = name_other k name rest h (omega (arith, none.below))
-expression_other k none (Written.call name args) h rest = ap (other_front k) (call_spelling name args rest) ∙ name_other k name (40 ∷ (spellings args ++ (41 ∷ rest))) h.0 (omega (arith, none.below))
-expression_other k none (Written.bracketed w) h rest = ap (other_front k) (bracketed_spelling w rest) ∙ none.no_bracket
-expression_other k none (Written.plus w) h rest = ap (other_front k) (prefixed_spelling Plus w rest) ∙ none.no_plus
-expression_other k none (Written.minus w) h rest = ap (other_front k) (prefixed_spelling Minus w rest) ∙ none.no_minus
-expression_other k none (Written.negation w) h rest = ap (other_front k) (prefixed_spelling Negation w rest) ∙ none.no_point
-expression_other k none (Written.binary op a b) h rest = ap (other_front k) (binary_spelling op a b rest) ∙ expression_other k none a h.0 (symbol op ++ (spelling b ++ rest))
+expression_other k none (Written.call name args) h rest = ap (other_prefix k) (call_spelling name args rest) ∙ name_other k name (40 ∷ (spellings args ++ (41 ∷ rest))) h.0 (omega (arith, none.below))
+expression_other k none (Written.bracketed w) h rest = ap (other_prefix k) (bracketed_spelling w rest) ∙ none.no_bracket
+expression_other k none (Written.plus w) h rest = ap (other_prefix k) (prefixed_spelling Plus w rest) ∙ none.no_plus
+expression_other k none (Written.minus w) h rest = ap (other_prefix k) (prefixed_spelling Minus w rest) ∙ none.no_minus
+expression_other k none (Written.negation w) h rest = ap (other_prefix k) (prefixed_spelling Negation w rest) ∙ none.no_point
+expression_other k none (Written.binary op a b) h rest = ap (other_prefix k) (binary_spelling op a b rest) ∙ expression_other k none a h.0 (symbol op ++ (spelling b ++ rest))
 
 -- an expression begins with no stroke, no apostrophe and no comma
-pub expression_no_stroke : (w : Written) (rest : List ℕ) → IsGrammatical w → other_front 47 (spelling w ++ rest) ≡ true
+pub expression_no_stroke : (w : Written) (rest : List ℕ) → IsGrammatical w → other_prefix 47 (spelling w ++ rest) ≡ true
 expression_no_stroke w rest h = expression_other 47 (record { below = omega arith; no_bracket = refl; no_plus = refl; no_minus = refl; no_point = refl }) w h rest
 
-pub expression_no_quote : (w : Written) (rest : List ℕ) → IsGrammatical w → other_front 39 (spelling w ++ rest) ≡ true
+pub expression_no_quote : (w : Written) (rest : List ℕ) → IsGrammatical w → other_prefix 39 (spelling w ++ rest) ≡ true
 expression_no_quote w rest h = expression_other 39 (record { below = omega arith; no_bracket = refl; no_plus = refl; no_minus = refl; no_point = refl }) w h rest
 
-pub expression_no_comma : (w : Written) (rest : List ℕ) → IsGrammatical w → other_front 44 (spelling w ++ rest) ≡ true
+pub expression_no_comma : (w : Written) (rest : List ℕ) → IsGrammatical w → other_prefix 44 (spelling w ++ rest) ≡ true
 expression_no_comma w rest h = expression_other 44 (record { below = omega arith; no_bracket = refl; no_plus = refl; no_minus = refl; no_point = refl }) w h rest
 
-pub expression_listed : IsListed expression_in_front spelling IsGrammatical ends_expression
+pub expression_listed : IsListed expression_at_start spelling IsGrammatical ends_expression
 expression_listed = record {
-  sound = λ text. each_weaker (λ w rest. IsGrammatical w × (spelling w ++ rest ≡ text) × (ends_expression rest ≡ true)) (λ w rest. IsInFront IsGrammatical spelling text w rest) (expression_in_front text) (λ w rest is. (is.0, is.1)) (expression_sound text);
+  sound = λ text. each_weaker (λ w rest. IsGrammatical w × (spelling w ++ rest ≡ text) × (ends_expression rest ≡ true)) (λ w rest. IsAtStart IsGrammatical spelling text w rest) (expression_at_start text) (λ w rest is. (is.0, is.1)) (expression_sound text);
   reads = expression_reads;
   comma = λ more. refl;
   bracket = λ more. refl;
-  no_stroke = λ w rest fits. other_no_front 47 (spelling w ++ rest) (expression_no_stroke w rest fits);
+  no_stroke = λ w rest fits. other_not_at_start 47 (spelling w ++ rest) (expression_no_stroke w rest fits);
 }
 
 -- ---- variables
@@ -93,20 +93,20 @@ variable_spelling name [] rest = refl
 variable_spelling name (w ∷ more) rest =
     call_spelling name (arguments_of w more) rest
     ∙ ap (λ inside. name ++ (40 ∷ (inside ++ (41 ∷ rest)))) (arguments_text w more)
-    ∙ ap (λ behind. name ++ behind) (sym (brackets_front (with_commas (map spelling (w ∷ more))) rest))
+    ∙ ap (λ beyond. name ++ beyond) (sym (brackets_prefix (with_commas (map spelling (w ∷ more))) rest))
 
 variable_fits : (name : List ℕ) (subs : List Written) → is_name name ≡ true → Every IsGrammatical subs → IsVariable (variable_of name subs)
 variable_fits name [] is fit = record { grammatical = is; variable = refl }
 variable_fits name (w ∷ more) is fit = record { grammatical = (is, arguments_fit w more fit); variable = refl }
 
-pub variable_sound : (text : List ℕ) → Each (λ w rest. IsInFront IsVariable spelling text w rest) (variable_at text)
+pub variable_sound : (text : List ℕ) → Each (λ w rest. IsAtStart IsVariable spelling text w rest) (variable_at text)
 variable_sound text =
-    each_then (λ name rest. IsInFront (λ name. is_name name ≡ true) (λ name. name) text name rest) P (λ name rest. read_as (λ subs. variable_of name subs) (bracketed_or_none expression_in_front rest)) (name_at text) (name_sound text)
-    (λ name rest is. each_as (λ subs tail. IsInFront (λ subs. Every IsGrammatical subs) (λ subs. bracketed_list (map spelling subs)) rest subs tail) P (λ subs. variable_of name subs) (bracketed_or_none expression_in_front rest) (bracketed_or_none_sound expression_listed rest)
+    each_then (λ name rest. IsAtStart (λ name. is_name name ≡ true) (λ name. name) text name rest) P (λ name rest. read_as (λ subs. variable_of name subs) (bracketed_or_none expression_at_start rest)) (name_at text) (name_sound text)
+    (λ name rest is. each_as (λ subs tail. IsAtStart (λ subs. Every IsGrammatical subs) (λ subs. bracketed_list (map spelling subs)) rest subs tail) P (λ subs. variable_of name subs) (bracketed_or_none expression_at_start rest) (bracketed_or_none_sound expression_listed rest)
     (λ subs tail h. (variable_fits name subs is.0 h.0, variable_spelling name subs tail ∙ ap (λ more. name ++ more) h.1 ∙ is.1)))
   where
     P : Written → List ℕ → Type 0
-    P w rest = IsInFront IsVariable spelling text w rest
+    P w rest = IsAtStart IsVariable spelling text w rest
 
 -- a variable is a name with subscripts or without
 listed_arguments : Arguments → List Written
@@ -128,16 +128,16 @@ unfolding listed_arguments
 listed_fit (Arguments.last w) h = (h, tt)
 listed_fit (Arguments.before w more) h = (h.0, listed_fit more h.1)
 
-parts_read : (name : List ℕ) (subs : List Written) (rest : List ℕ) → is_name name ≡ true → no_symbol (bracketed_list (map spelling subs) ++ rest) ≡ true → bracketed_or_none expression_in_front (bracketed_list (map spelling subs) ++ rest) ≡ Some (subs, rest) → variable_at (spelling (variable_of name subs) ++ rest) ≡ Some (variable_of name subs, rest)
+parts_read : (name : List ℕ) (subs : List Written) (rest : List ℕ) → is_name name ≡ true → no_symbol (bracketed_list (map spelling subs) ++ rest) ≡ true → bracketed_or_none expression_at_start (bracketed_list (map spelling subs) ++ rest) ≡ Some (subs, rest) → variable_at (spelling (variable_of name subs) ++ rest) ≡ Some (variable_of name subs, rest)
 parts_read name subs rest is ends reads =
     ap variable_at (variable_spelling name subs rest)
-    ∙ ap (and_then_read (λ name rest. read_as (λ subs. variable_of name subs) (bracketed_or_none expression_in_front rest))) (name_reads name (bracketed_list (map spelling subs) ++ rest) is ends)
+    ∙ ap (and_then_read (λ name rest. read_as (λ subs. variable_of name subs) (bracketed_or_none expression_at_start rest))) (name_reads name (bracketed_list (map spelling subs) ++ rest) is ends)
     ∙ ap (read_as (λ subs. variable_of name subs)) reads
 
 element_reads : (name : List ℕ) (w : Written) (more : List Written) (rest : List ℕ) → is_name name ≡ true → Every IsGrammatical (w ∷ more) → variable_at (spelling (variable_of name (w ∷ more)) ++ rest) ≡ Some (variable_of name (w ∷ more), rest)
 element_reads name w more rest is fit = parts_read name (w ∷ more) rest is refl (bracketed_reads expression_listed (w ∷ more) rest (omega arith) fit)
 
--- an array element is read in front of anything: its bracket closes it
+-- an array element is read before anything: its bracket closes it
 pub call_reads : (name : List ℕ) (args : Arguments) (rest : List ℕ) → is_name name ≡ true → AreGrammatical args → variable_at (spelling (Written.call name args) ++ rest) ≡ Some (Written.call name args, rest)
 unfolding listed_arguments
 call_reads name (Arguments.last w) rest is fit = element_reads name w [] rest is (fit, tt)
@@ -161,19 +161,19 @@ variable_listed = record {
   reads = variable_reads;
   comma = λ more. refl;
   bracket = λ more. refl;
-  no_stroke = λ w rest fits. other_no_front 47 (spelling w ++ rest) (expression_no_stroke w rest fits.grammatical);
+  no_stroke = λ w rest fits. other_not_at_start 47 (spelling w ++ rest) (expression_no_stroke w rest fits.grammatical);
 }
 
 -- a variable begins with a letter
-pub variable_capital_front : (w : Written) (rest : List ℕ) → IsVariable w → capital_front (spelling w ++ rest) ≡ true
-variable_capital_front w rest fits = here w fits.grammatical fits.variable
+pub variable_capital_prefix : (w : Written) (rest : List ℕ) → IsVariable w → capital_prefix (spelling w ++ rest) ≡ true
+variable_capital_prefix w rest fits = here w fits.grammatical fits.variable
   where
-    here : (w : Written) → IsGrammatical w → is_variable w ≡ true → capital_front (spelling w ++ rest) ≡ true
-    here (Written.name name) h is = name_capital_front name rest h
-    here (Written.call name args) h is = ap capital_front (call_spelling name args rest) ∙ name_capital_front name (40 ∷ (spellings args ++ (41 ∷ rest))) h.0
+    here : (w : Written) → IsGrammatical w → is_variable w ≡ true → capital_prefix (spelling w ++ rest) ≡ true
+    here (Written.name name) h is = name_capital_prefix name rest h
+    here (Written.call name args) h is = ap capital_prefix (call_spelling name args rest) ∙ name_capital_prefix name (40 ∷ (spellings args ++ (41 ∷ rest))) h.0
     here _ h is = absurd cc
 
-pub variables_sound : (text : List ℕ) → Each (λ ws rest. IsInFront (λ ws. (1 ≤ length ws) × All IsVariable ws) (λ ws. with_commas (map spelling ws)) text ws rest) (list_at variable_at text)
+pub variables_sound : (text : List ℕ) → Each (λ ws rest. IsAtStart (λ ws. (1 ≤ length ws) × All IsVariable ws) (λ ws. with_commas (map spelling ws)) text ws rest) (list_at variable_at text)
 variables_sound text = list_all_sound variable_listed text
 
 pub variables_reads : (ws : List Written) (rest : List ℕ) → 1 ≤ length ws → All IsVariable ws → breaks_off rest ≡ true → ends_list rest ≡ true → list_at variable_at (with_commas (map spelling ws) ++ rest) ≡ Some (ws, rest)

@@ -1,23 +1,23 @@
--- Parts one behind another up to the end of a text, for any reader of parts.
+-- Parts one after another up to the end of a text, for any reader of parts.
 use Rattle.std.proofs.Common.{◌≡◌, ℕ, zero, suc, ◌≤◌, Bool, true, List, [], ◌∷◌, ◌++◌, length, flat_map, Some, refl, ap, ◌∙◌, arith, length-append}
 use Rattle.f77_expr.specs.Reader.{Reads, read_as, and_then_read}
 use Rattle.f77_expr.proofs.EachRead.{Each, each_then, each_as}
 use Rattle.f77_parse.specs.Parts.{parts_to_end}
-use Rattle.f77_parse.proofs.Followers.{IsInFront, Every}
+use Rattle.f77_parse.proofs.Followers.{IsAtStart, Every}
 
 module _ {A : Type 0} (part : List ℕ → Reads A) (to_text : A → List ℕ) (Fits : A → Type 0) where
   -- the parts are the whole text
   abbrev pub AreAll : List ℕ → List A → List ℕ → Type 0
   AreAll text parts rest = Every Fits parts × (flat_map to_text parts ≡ text) × (rest ≡ [])
 
-  pub parts_sound : ((text : List ℕ) → Each (λ a rest. IsInFront Fits to_text text a rest) (part text)) → (n : ℕ) (text : List ℕ) → Each (λ parts rest. AreAll text parts rest) (parts_to_end n part text)
+  pub parts_sound : ((text : List ℕ) → Each (λ a rest. IsAtStart Fits to_text text a rest) (part text)) → (n : ℕ) (text : List ℕ) → Each (λ parts rest. AreAll text parts rest) (parts_to_end n part text)
   parts_sound sound n [] = (tt, refl, refl)
   parts_sound sound zero (c ∷ text) = tt
   parts_sound sound (suc n) (c ∷ text) = here (λ rest. parts_sound sound n rest)
     where
       here : ((rest : List ℕ) → Each (λ parts tail. AreAll rest parts tail) (parts_to_end n part rest)) → Each (λ parts rest. AreAll (c ∷ text) parts rest) (parts_to_end (suc n) part (c ∷ text))
       here others =
-          each_then (λ a rest. IsInFront Fits to_text (c ∷ text) a rest) (λ parts rest. AreAll (c ∷ text) parts rest) (λ a rest. read_as (λ parts. a ∷ parts) (parts_to_end n part rest)) (part (c ∷ text)) (sound (c ∷ text))
+          each_then (λ a rest. IsAtStart Fits to_text (c ∷ text) a rest) (λ parts rest. AreAll (c ∷ text) parts rest) (λ a rest. read_as (λ parts. a ∷ parts) (parts_to_end n part rest)) (part (c ∷ text)) (sound (c ∷ text))
           (λ a rest is. each_as (λ parts tail. AreAll rest parts tail) (λ parts rest. AreAll (c ∷ text) parts rest) (λ parts. a ∷ parts) (parts_to_end n part rest) (others rest)
           (λ parts tail h. ((is.0, h.0), ap (λ more. to_text a ++ more) h.1 ∙ is.1, h.2)))
 
@@ -25,7 +25,7 @@ module _ {A : Type 0} (part : List ℕ → Reads A) (to_text : A → List ℕ) (
   part_step n [] some = absurd (omega arith)
   part_step n (c ∷ text) some = refl
 
-  -- where each part is read in front of the others, and has some text
+  -- where each part is read before the others, and has some text
   module _ (follows : List ℕ → Bool) (ends : follows [] ≡ true) (begins : (a : A) (rest : List ℕ) → Fits a → follows (to_text a ++ rest) ≡ true) where
     pub parts_follow : (parts : List A) → Every Fits parts → follows (flat_map to_text parts) ≡ true
     parts_follow [] fit = ends

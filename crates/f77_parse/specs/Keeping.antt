@@ -20,54 +20,54 @@ use Rattle.f77_tree.specs.declared.statements.RawExpr.TheVariants.{Named, Call}
 use Rattle.f77_tree.specs.Name.{is_figure}
 use Rattle.f77_tree.specs.Grammar.{Written, number_of, has_great_number, greatest_constant}
 use Rattle.f77_expr.specs.Answers.{kept}
-use Rattle.f77_expr.specs.Reader.{Reads, after_front}
-use Rattle.f77_parse.specs.Parts.{behind_comma, number_at, name_at, letter_at, expression_in_front}
+use Rattle.f77_expr.specs.Reader.{Reads, after_prefix}
+use Rattle.f77_parse.specs.Parts.{after_comma, number_at, name_at, letter_at, expression_at_start}
 
--- what is kept of the front of a text, whether something was out of range so far, and the rest of the text
+-- what is kept of the beginning of a text, whether something was out of range so far, and the rest of the text
 abbrev pub Keeps : Type 0 → Type 0
 Keeps V = Option (V × Bool × List ℕ)
 
--- goes on behind what was read
+-- goes on after what was read
 abbrev pub keep_then : {V W : Type 0} → Keeps V → (V → Bool → List ℕ → Keeps W) → Keeps W
 keep_then None go = None
 keep_then (Some (v, bad, rest)) go = go v bad rest
 
--- goes on behind a front, if it is there, and else otherwise
-abbrev pub where_front : {V : Type 0} → Option (List ℕ) → (List ℕ → Keeps V) → Keeps V → Keeps V
-where_front None there others = others
-where_front (Some rest) there others = there rest
+-- goes on after a prefix, if it is there, and else otherwise
+abbrev pub where_prefix : {V : Type 0} → Option (List ℕ) → (List ℕ → Keeps V) → Keeps V → Keeps V
+where_prefix None there others = others
+where_prefix (Some rest) there others = there rest
 
 -- what is read, where nothing in it can be out of range
 abbrev pub kept_plain : {A V : Type 0} → (A → V) → Bool → Reads A → Keeps V
 kept_plain f bad None = None
 kept_plain f bad (Some (a, rest)) = Some (f a, bad, rest)
 
--- what is left behind a front, or the whole text where it doesn't begin with it
+-- what is left after a prefix, or the whole text where it doesn't begin with it
 abbrev pub skipped : Option (List ℕ) → List ℕ → List ℕ
 skipped None text = text
 skipped (Some rest) text = rest
 
 -- ---- lists
 
--- what is kept of a list up to here, or of what goes on behind a comma
+-- what is kept of a list up to here, or of what goes on after a comma
 abbrev pub kept_next : {V : Type 0} → (List V → Bool → List ℕ → Keeps (List V)) → List V → Bool → List ℕ → Option (List ℕ) → Keeps (List V)
 kept_next go list bad rest None = Some (list, bad, rest)
 kept_next go list bad rest (Some next) = go list bad next
 
--- at most so many items with commas between them, behind those of a list
+-- at most so many items with commas between them, after those of a list
 abbrev pub kept_onto : {V : Type 0} → ℕ → (Bool → List ℕ → Keeps V) → List V → Bool → List ℕ → Keeps (List V)
 kept_onto zero item list bad text = None
-kept_onto (suc n) item list bad text = keep_then (item bad text) (λ v bad_now rest. kept_next (kept_onto n item) (list ++ v ∷ []) bad_now rest (behind_comma rest))
+kept_onto (suc n) item list bad text = keep_then (item bad text) (λ v bad_now rest. kept_next (kept_onto n item) (list ++ v ∷ []) bad_now rest (after_comma rest))
 
--- one or more items with commas between them, behind those of a list
-unfoldable pub kept_behind : {V : Type 0} → (Bool → List ℕ → Keeps V) → List V → Bool → List ℕ → Keeps (List V)
-kept_behind item list bad text = kept_onto (suc (length text)) item list bad text
+-- one or more items with commas between them, after those of a list
+unfoldable pub kept_after : {V : Type 0} → (Bool → List ℕ → Keeps V) → List V → Bool → List ℕ → Keeps (List V)
+kept_after item list bad text = kept_onto (suc (length text)) item list bad text
 
 -- one or more items with commas between them
 abbrev pub kept_list : {V : Type 0} → (Bool → List ℕ → Keeps V) → Bool → List ℕ → Keeps (List V)
-kept_list item bad text = kept_behind item [] bad text
+kept_list item bad text = kept_after item [] bad text
 
--- items up to the end of the text, at most so many, behind those of a list
+-- items up to the end of the text, at most so many, after those of a list
 abbrev pub kept_to_end : {V : Type 0} → ℕ → (Bool → List ℕ → Keeps V) → List V → Bool → List ℕ → Keeps (List V)
 kept_to_end n item list bad [] = Some (list, bad, [])
 kept_to_end zero item list bad (c ∷ text) = None
@@ -84,7 +84,7 @@ begins c [] = false
 begins c (d ∷ text) = d == c
 
 unfoldable pub wanted : List ℕ → Bool → List ℕ → Keeps Unit
-wanted front bad text = where_front (after_front front text) (λ rest. Some (tt, bad, rest)) None
+wanted prefix bad text = where_prefix (after_prefix prefix text) (λ rest. Some (tt, bad, rest)) None
 
 -- the number that digits write, or one more than the greatest constant where that is less
 unfoldable pub number_kept : Bool → List ℕ → Keeps ℕ
@@ -111,7 +111,7 @@ kept_expression bad None = None
 kept_expression bad (Some (w, rest)) = Some (kept w, bad || has_great_number w, rest)
 
 unfoldable pub expression_kept : Bool → List ℕ → Keeps RawExpr
-expression_kept bad text = kept_expression bad (expression_in_front text)
+expression_kept bad text = kept_expression bad (expression_at_start text)
 
 -- ---- constants, labels and repeats: one that is out of range is kept as 0
 
@@ -138,13 +138,13 @@ label_kept bad text = keep_then (number_kept bad text) (λ n bad_now rest. Some 
 
 unfoldable pub signed_kept : Bool → List ℕ → Keeps ℤ
 signed_kept bad text =
-    where_front (after_front (codes "-") text)
-    (λ behind. keep_then (number_kept bad behind) (λ n bad_now rest. Some (pos 0 -ℤ pos (constant_in n), bad_now || is_great_number n, rest)))
-    (keep_then (number_kept bad (skipped (after_front (codes "+") text) text)) (λ n bad_now rest. Some (pos (constant_in n), bad_now || is_great_number n, rest)))
+    where_prefix (after_prefix (codes "-") text)
+    (λ beyond. keep_then (number_kept bad beyond) (λ n bad_now rest. Some (pos 0 -ℤ pos (constant_in n), bad_now || is_great_number n, rest)))
+    (keep_then (number_kept bad (skipped (after_prefix (codes "+") text) text)) (λ n bad_now rest. Some (pos (constant_in n), bad_now || is_great_number n, rest)))
 
 unfoldable pub truth_kept : Bool → List ℕ → Keeps Bool
 truth_kept bad text =
-    where_front (after_front (codes ".TRUE.") text) (λ rest. Some (true, bad, rest))
+    where_prefix (after_prefix (codes ".TRUE.") text) (λ rest. Some (true, bad, rest))
     (keep_then (wanted (codes ".FALSE.") bad text) (λ found bad_now rest. Some (false, bad_now, rest)))
 
 unfoldable pub constant_kept : Bool → List ℕ → Keeps Lit
@@ -161,8 +161,8 @@ unfoldable pub value_kept : Bool → List ℕ → Keeps InitValue
 value_kept bad text =
     if nat_lt 0 (length (take_while is_figure text))
     then keep_then (number_kept bad text) (λ n bad_now rest.
-    where_front (after_front (codes "*") rest)
-    (λ behind. some_constants (repeat_in n) (bad_now || is_no_repeat n) behind)
+    where_prefix (after_prefix (codes "*") rest)
+    (λ beyond. some_constants (repeat_in n) (bad_now || is_no_repeat n) beyond)
     (Some (record { times = 1; value = Int (pos (constant_in n)) }, bad_now || is_great_number n, rest)))
     else some_constants 1 bad text
 
@@ -170,8 +170,8 @@ value_kept bad text =
 
 unfoldable pub dim_kept : Bool → List ℕ → Keeps Dim
 dim_kept bad text = keep_then (signed_kept bad text) (λ first bad_now rest.
-    where_front (after_front (codes ":") rest)
-    (λ behind. keep_then (signed_kept bad_now behind) (λ last bad_then more. Some (record { lo = first; hi = last }, bad_then, more)))
+    where_prefix (after_prefix (codes ":") rest)
+    (λ beyond. keep_then (signed_kept bad_now beyond) (λ last bad_then more. Some (record { lo = first; hi = last }, bad_then, more)))
     (Some (record { lo = pos 1; hi = first }, bad_now, rest)))
 
 -- a list with the bracket that closes it
@@ -180,8 +180,8 @@ closed_list item bad text = keep_then (kept_list item bad text) (λ list bad_now
 
 unfoldable pub decl_kept : Bool → List ℕ → Keeps Decl
 decl_kept bad text = keep_then (name_kept bad text) (λ name bad_now rest.
-    where_front (after_front (codes "(") rest)
-    (λ behind. keep_then (closed_list dim_kept bad_now behind) (λ dims bad_then more. if nat_lt 7 (length dims) then None else Some (record { name = name; dims = dims }, bad_then, more)))
+    where_prefix (after_prefix (codes "(") rest)
+    (λ beyond. keep_then (closed_list dim_kept bad_now beyond) (λ dims bad_then more. if nat_lt 7 (length dims) then None else Some (record { name = name; dims = dims }, bad_then, more)))
     (Some (record { name = name; dims = [] }, bad_now, rest)))
 
 abbrev pub is_array : Decl → Bool
@@ -192,36 +192,36 @@ arrays_kept bad text = keep_then (kept_list decl_kept bad text) (λ decls bad_no
 
 unfoldable pub range_kept : Kind → Bool → List ℕ → Keeps LetterRange
 range_kept kind bad text = keep_then (letter_kept bad text) (λ first bad_now rest.
-    where_front (after_front (codes "-") rest)
-    (λ behind. keep_then (letter_kept bad_now behind) (λ last bad_then more. Some (record { kind = kind; from = first; to = last }, bad_then, more)))
+    where_prefix (after_prefix (codes "-") rest)
+    (λ beyond. keep_then (letter_kept bad_now beyond) (λ last bad_then more. Some (record { kind = kind; from = first; to = last }, bad_then, more)))
     (Some (record { kind = kind; from = first; to = first }, bad_now, rest)))
 
 unfoldable pub kind_kept : Bool → List ℕ → Keeps Kind
 kind_kept bad text =
-    where_front (after_front (codes "INTEGER") text) (λ rest. Some (Integer, bad, rest))
+    where_prefix (after_prefix (codes "INTEGER") text) (λ rest. Some (Integer, bad, rest))
     (keep_then (wanted (codes "LOGICAL") bad text) (λ found bad_now rest. Some (Logical, bad_now, rest)))
 
--- a type and its letters, behind those of a list
+-- a type and its letters, after those of a list
 unfoldable pub letters_kept : List LetterRange → Bool → List ℕ → Keeps (List LetterRange)
 letters_kept list bad text = keep_then (kind_kept bad text) (λ kind bad_now rest.
     keep_then (wanted (codes "(") bad_now rest) (λ found bad_then inside.
-    keep_then (kept_behind (range_kept kind) list bad_then inside) (λ longer bad_later behind.
-    keep_then (wanted (codes ")") bad_later behind) (λ closed bad_last more. Some (longer, bad_last, more)))))
+    keep_then (kept_after (range_kept kind) list bad_then inside) (λ longer bad_later beyond.
+    keep_then (wanted (codes ")") bad_later beyond) (λ closed bad_last more. Some (longer, bad_last, more)))))
 
--- so many types and their letters at most, with commas between them, behind those of a list
+-- so many types and their letters at most, with commas between them, after those of a list
 abbrev pub ranges_onto : ℕ → List LetterRange → Bool → List ℕ → Keeps (List LetterRange)
 ranges_onto zero list bad text = None
-ranges_onto (suc n) list bad text = keep_then (letters_kept list bad text) (λ longer bad_now rest. kept_next (ranges_onto n) longer bad_now rest (behind_comma rest))
+ranges_onto (suc n) list bad text = keep_then (letters_kept list bad text) (λ longer bad_now rest. kept_next (ranges_onto n) longer bad_now rest (after_comma rest))
 
 unfoldable pub kept_ranges : Bool → List ℕ → Keeps (List LetterRange)
 kept_ranges bad text = ranges_onto (suc (length text)) [] bad text
 
 unfoldable pub block_kept : Bool → List ℕ → Keeps (Option (List ℕ))
 block_kept bad text =
-    where_front (after_front (codes "//") text) (λ rest. Some (None, bad, rest))
+    where_prefix (after_prefix (codes "//") text) (λ rest. Some (None, bad, rest))
     (keep_then (wanted (codes "/") bad text) (λ found bad_now rest.
-    keep_then (name_kept bad_now rest) (λ name bad_then behind.
-    keep_then (wanted (codes "/") bad_then behind) (λ closed bad_last more. Some (Some name, bad_last, more)))))
+    keep_then (name_kept bad_now rest) (λ name bad_then beyond.
+    keep_then (wanted (codes "/") bad_then beyond) (λ closed bad_last more. Some (Some name, bad_last, more)))))
 
 -- the names of a block
 abbrev pub block_and_decls : Keeps (Option (List ℕ)) → Keeps CommonPart
@@ -231,12 +231,12 @@ unfoldable pub first_part_kept : Bool → List ℕ → Keeps CommonPart
 first_part_kept bad text = block_and_decls (if begins 47 text then block_kept bad text else Some (None, bad, text))
 
 unfoldable pub part_kept : Bool → List ℕ → Keeps CommonPart
-part_kept bad text = block_and_decls (block_kept bad (skipped (after_front (codes ",") text) text))
+part_kept bad text = block_and_decls (block_kept bad (skipped (after_prefix (codes ",") text) text))
 
 unfoldable pub member_kept : Bool → List ℕ → Keeps Member
 member_kept bad text = keep_then (name_kept bad text) (λ name bad_now rest.
-    where_front (after_front (codes "(") rest)
-    (λ behind. keep_then (closed_list signed_kept bad_now behind) (λ subs bad_then more. Some (record { name = name; subs = subs }, bad_then, more)))
+    where_prefix (after_prefix (codes "(") rest)
+    (λ beyond. keep_then (closed_list signed_kept bad_now beyond) (λ subs bad_then more. Some (record { name = name; subs = subs }, bad_then, more)))
     (Some (record { name = name; subs = [] }, bad_now, rest)))
 
 unfoldable pub group_kept : Bool → List ℕ → Keeps (List Member)
@@ -245,41 +245,41 @@ group_kept bad text = keep_then (wanted (codes "(") bad text) (λ found bad_now 
 
 unfoldable pub init_part_kept : Bool → List ℕ → Keeps InitPart
 init_part_kept bad text = keep_then (kept_list member_kept bad text) (λ items bad_now rest.
-    keep_then (wanted (codes "/") bad_now rest) (λ found bad_then behind.
-    keep_then (kept_list value_kept bad_then behind) (λ values bad_later last.
+    keep_then (wanted (codes "/") bad_now rest) (λ found bad_then beyond.
+    keep_then (kept_list value_kept bad_then beyond) (λ values bad_later last.
     keep_then (wanted (codes "/") bad_later last) (λ closed bad_last more. Some (record { items = items; values = values }, bad_last, more)))))
 
 unfoldable pub next_init_part_kept : Bool → List ℕ → Keeps InitPart
-next_init_part_kept bad text = init_part_kept bad (skipped (after_front (codes ",") text) text)
+next_init_part_kept bad text = init_part_kept bad (skipped (after_prefix (codes ",") text) text)
 
 -- ---- parts of executable statements
 
 unfoldable pub variable_kept : Bool → List ℕ → Keeps RawExpr
 variable_kept bad text = keep_then (name_kept bad text) (λ name bad_now rest.
-    where_front (after_front (codes "(") rest)
-    (λ behind. keep_then (closed_list expression_kept bad_now behind) (λ subs bad_then more. Some (Call name subs, bad_then, more)))
+    where_prefix (after_prefix (codes "(") rest)
+    (λ beyond. keep_then (closed_list expression_kept bad_now beyond) (λ subs bad_then more. Some (Call name subs, bad_then, more)))
     (Some (Named name, bad_now, rest)))
 
 -- names between brackets, of which there may be none, or nothing
 unfoldable pub names_kept : Bool → List ℕ → Keeps (List (List ℕ))
 names_kept bad text =
-    where_front (after_front (codes "(") text)
-    (λ inside. where_front (after_front (codes ")") inside) (λ rest. Some ([], bad, rest)) (closed_list name_kept bad inside))
+    where_prefix (after_prefix (codes "(") text)
+    (λ inside. where_prefix (after_prefix (codes ")") inside) (λ rest. Some ([], bad, rest)) (closed_list name_kept bad inside))
     (Some ([], bad, text))
 
 -- the next character of a character constant, or none where the apostrophe that closes it stands
 unfoldable pub next_character_kept : Bool → List ℕ → Keeps (Option ℕ)
 next_character_kept bad text =
-    where_front (after_front (codes "''") text) (λ rest. Some (Some 39, bad, rest))
-    (where_front (after_front (codes "'") text) (λ rest. Some (None, bad, rest))
+    where_prefix (after_prefix (codes "''") text) (λ rest. Some (Some 39, bad, rest))
+    (where_prefix (after_prefix (codes "'") text) (λ rest. Some (None, bad, rest))
     (keep_then (character_kept bad text) (λ c bad_now rest. Some (Some c, bad_now, rest))))
 
--- what goes on behind a character
+-- what goes on after a character
 abbrev pub characters_next : (List ℕ → Bool → List ℕ → Keeps (List ℕ)) → List ℕ → Bool → List ℕ → Option ℕ → Keeps (List ℕ)
 characters_next go list bad rest None = Some (list, bad, rest)
 characters_next go list bad rest (Some c) = go (list ++ c ∷ []) bad rest
 
--- the characters up to the apostrophe that closes the constant, at most so many, behind those of a list
+-- the characters up to the apostrophe that closes the constant, at most so many, after those of a list
 abbrev pub characters_onto : ℕ → List ℕ → Bool → List ℕ → Keeps (List ℕ)
 characters_onto zero list bad text = None
 characters_onto (suc n) list bad text = keep_then (next_character_kept bad text) (λ next bad_now rest. characters_next (characters_onto n) list bad_now rest next)

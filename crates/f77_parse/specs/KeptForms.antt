@@ -7,8 +7,8 @@ use Rattle.f77_tree.specs.declared.statements.RawExpr.TheVariants.{Call'}
 use Rattle.f77_tree.specs.declared.statements.Stmt.{Stmt}
 use Rattle.f77_tree.specs.declared.statements.Stmt.TheVariants.{Program, Implicit, ImplicitNone, TypeOf, Dimension, Common, Equivalence, Init, Assign, Print, Take, Continue, Stop, GoTo, PickGoTo, SignIf, ThenIf, BlockIf, ElseIf, Else, EndIf, Do, Sub, CallTo, Back, End}
 use Rattle.f77_tree.specs.Name.{is_figure}
-use Rattle.f77_expr.specs.Reader.{after_front}
-use Rattle.f77_parse.specs.Keeping.{Keeps, keep_then, where_front, skipped, kept_list, kept_parts, kept_ranges, wanted, begins, name_kept, few_digits_kept, expression_kept, label_kept, decl_kept, arrays_kept, first_part_kept, part_kept, group_kept, init_part_kept, next_init_part_kept, variable_kept, names_kept, character_constant_kept, item_kept}
+use Rattle.f77_expr.specs.Reader.{after_prefix}
+use Rattle.f77_parse.specs.Keeping.{Keeps, keep_then, where_prefix, skipped, kept_list, kept_parts, kept_ranges, wanted, begins, name_kept, few_digits_kept, expression_kept, label_kept, decl_kept, arrays_kept, first_part_kept, part_kept, group_kept, init_part_kept, next_init_part_kept, variable_kept, names_kept, character_constant_kept, item_kept}
 
 -- a statement of what was read
 abbrev pub as_stmt : {V : Type 0} → (V → Stmt) → Keeps V → Keeps Stmt
@@ -16,11 +16,11 @@ as_stmt f keeps = keep_then keeps (λ v bad rest. Some (f v, bad, rest))
 
 unfoldable pub step_kept : Bool → List ℕ → Keeps (Option RawExpr)
 step_kept bad text =
-    where_front (after_front (codes ",") text)
-    (λ behind. keep_then (expression_kept bad behind) (λ e bad_now rest. Some (Some e, bad_now, rest)))
+    where_prefix (after_prefix (codes ",") text)
+    (λ beyond. keep_then (expression_kept bad beyond) (λ e bad_now rest. Some (Some e, bad_now, rest)))
     (Some (None, bad, text))
 
--- the bounds of a DO behind its variable
+-- the bounds of a DO after its variable
 unfoldable pub bounds_kept : (label : ℕ) → (variable : List ℕ) → Bool → List ℕ → Keeps Stmt
 bounds_kept label variable bad text =
     keep_then (wanted (codes "=") bad text) (λ found bad_1 text_1.
@@ -33,7 +33,7 @@ unfoldable pub do_kept : Bool → List ℕ → Keeps Stmt
 do_kept bad text =
     keep_then (wanted (codes "DO") bad text) (λ found bad_1 text_1.
     keep_then (label_kept bad_1 text_1) (λ label bad_2 text_2.
-    keep_then (name_kept bad_2 (skipped (after_front (codes ",") text_2) text_2)) (λ variable bad_3 text_3.
+    keep_then (name_kept bad_2 (skipped (after_prefix (codes ",") text_2) text_2)) (λ variable bad_3 text_3.
     bounds_kept label variable bad_3 text_3)))
 
 unfoldable pub assigned_kept : RawExpr → Bool → List ℕ → Keeps Stmt
@@ -54,15 +54,15 @@ abbrev pub condition_in : RawExpr → Option RawExpr
 condition_in (Call' name shape subs) = if bytes_eq name (codes "IF") then the_only (items-the_row-RawExpr _ subs) else None
 condition_in _ = None
 
--- behind the condition of an IF, where it is one
-abbrev pub behind_if_kept : Option RawExpr → Bool → List ℕ → Keeps Stmt
-behind_if_kept None bad text = None
-behind_if_kept (Some condition) bad text = conditional_kept condition bad text
+-- after the condition of an IF, where it is one
+abbrev pub after_if_kept : Option RawExpr → Bool → List ℕ → Keeps Stmt
+after_if_kept None bad text = None
+after_if_kept (Some condition) bad text = conditional_kept condition bad text
 
 unfoldable pub assignment_kept : Bool → List ℕ → Keeps Stmt
 assignment_kept bad text =
     keep_then (variable_kept bad text) (λ target bad_now rest.
-    if begins 61 rest then assigned_kept target bad_now rest else behind_if_kept (condition_in target) bad_now rest)
+    if begins 61 rest then assigned_kept target bad_now rest else after_if_kept (condition_in target) bad_now rest)
 
 unfoldable pub sign_labels_kept : RawExpr → Bool → List ℕ → Keeps Stmt
 sign_labels_kept condition bad text =
@@ -84,14 +84,14 @@ stop_kept bad text =
 
 unfoldable pub go_to_kept : Bool → List ℕ → Keeps Stmt
 go_to_kept bad text =
-    where_front (after_front (codes "(") text)
+    where_prefix (after_prefix (codes "(") text)
     (λ inside. keep_then (kept_list label_kept bad inside) (λ labels bad_1 text_1.
     keep_then (wanted (codes ")") bad_1 text_1) (λ found bad_2 text_2.
-    as_stmt (λ index. PickGoTo labels index) (expression_kept bad_2 (skipped (after_front (codes ",") text_2) text_2)))))
+    as_stmt (λ index. PickGoTo labels index) (expression_kept bad_2 (skipped (after_prefix (codes ",") text_2) text_2)))))
     (as_stmt (λ label. GoTo label) (label_kept bad text))
 
-unfoldable pub items_behind_kept : Bool → List ℕ → Keeps Stmt
-items_behind_kept bad text =
+unfoldable pub items_after_kept : Bool → List ℕ → Keeps Stmt
+items_after_kept bad text =
     at_end text (Some (Print [], bad, []))
     (keep_then (wanted (codes ",") bad text) (λ found bad_now rest. as_stmt (λ items. Print items) (kept_list item_kept bad_now rest)))
 
@@ -110,21 +110,21 @@ subroutine_kept bad text = keep_then (name_kept bad text) (λ name bad_now rest.
 -- output or input
 unfoldable pub transfer_kept : Bool → List ℕ → Keeps Stmt
 transfer_kept bad text =
-    where_front (after_front (codes "PRINT*") text) (λ rest. items_behind_kept bad rest)
-    (where_front (after_front (codes "WRITE(*,*)") text) (λ rest. items_or_none_kept bad rest)
-    (where_front (after_front (codes "WRITE(6,*)") text) (λ rest. items_or_none_kept bad rest)
-    (where_front (after_front (codes "READ*,") text) (λ rest. targets_kept bad rest)
-    (where_front (after_front (codes "READ(*,*)") text) (λ rest. targets_kept bad rest)
-    (where_front (after_front (codes "READ(5,*)") text) (λ rest. targets_kept bad rest)
+    where_prefix (after_prefix (codes "PRINT*") text) (λ rest. items_after_kept bad rest)
+    (where_prefix (after_prefix (codes "WRITE(*,*)") text) (λ rest. items_or_none_kept bad rest)
+    (where_prefix (after_prefix (codes "WRITE(6,*)") text) (λ rest. items_or_none_kept bad rest)
+    (where_prefix (after_prefix (codes "READ*,") text) (λ rest. targets_kept bad rest)
+    (where_prefix (after_prefix (codes "READ(*,*)") text) (λ rest. targets_kept bad rest)
+    (where_prefix (after_prefix (codes "READ(5,*)") text) (λ rest. targets_kept bad rest)
     None)))))
 
 unfoldable pub simple_kept : Bool → List ℕ → Keeps Stmt
 simple_kept bad text =
-    where_front (after_front (codes "CONTINUE") text) (λ rest. Some (Continue, bad, rest))
-    (where_front (after_front (codes "STOP") text) (λ rest. stop_kept bad rest)
-    (where_front (after_front (codes "GOTO") text) (λ rest. go_to_kept bad rest)
-    (where_front (after_front (codes "CALL") text) (λ rest. call_kept bad rest)
-    (where_front (after_front (codes "RETURN") text) (λ rest. Some (Back, bad, rest))
+    where_prefix (after_prefix (codes "CONTINUE") text) (λ rest. Some (Continue, bad, rest))
+    (where_prefix (after_prefix (codes "STOP") text) (λ rest. stop_kept bad rest)
+    (where_prefix (after_prefix (codes "GOTO") text) (λ rest. go_to_kept bad rest)
+    (where_prefix (after_prefix (codes "CALL") text) (λ rest. call_kept bad rest)
+    (where_prefix (after_prefix (codes "RETURN") text) (λ rest. Some (Back, bad, rest))
     (transfer_kept bad text)))))
 
 unfoldable pub condition_kept : Bool → List ℕ → Keeps RawExpr
@@ -133,7 +133,7 @@ condition_kept bad text =
 
 unfoldable pub guarded_kept : Bool → List ℕ → Keeps Stmt
 guarded_kept bad text =
-    where_front (after_front (codes "IF(") text)
+    where_prefix (after_prefix (codes "IF(") text)
     (λ inside. keep_then (condition_kept bad inside) (λ inner bad_now rest. sign_labels_kept inner bad_now rest))
     (simple_kept bad text)
 
@@ -141,7 +141,7 @@ unfoldable pub if_kept : Bool → List ℕ → Keeps Stmt
 if_kept bad text =
     keep_then (condition_kept bad text) (λ condition bad_now rest.
     if nat_lt 0 (length (take_while is_figure rest)) then sign_labels_kept condition bad_now rest
-    else where_front (after_front (codes "THEN") rest) (λ more. Some (BlockIf condition, bad_now, more))
+    else where_prefix (after_prefix (codes "THEN") rest) (λ more. Some (BlockIf condition, bad_now, more))
     (as_stmt (λ stmt. ThenIf condition stmt) (guarded_kept bad_now rest)))
 
 unfoldable pub else_if_kept : Bool → List ℕ → Keeps Stmt
@@ -152,29 +152,29 @@ else_if_kept bad text =
 
 unfoldable pub executable_kept : Bool → List ℕ → Keeps Stmt
 executable_kept bad text =
-    where_front (after_front (codes "ENDIF") text) (λ rest. Some (EndIf, bad, rest))
-    (where_front (after_front (codes "END") text) (λ rest. Some (End, bad, rest))
-    (where_front (after_front (codes "ELSEIF(") text) (λ rest. else_if_kept bad rest)
-    (where_front (after_front (codes "ELSE") text) (λ rest. Some (Else, bad, rest))
-    (where_front (after_front (codes "IF(") text) (λ rest. if_kept bad rest)
+    where_prefix (after_prefix (codes "ENDIF") text) (λ rest. Some (EndIf, bad, rest))
+    (where_prefix (after_prefix (codes "END") text) (λ rest. Some (End, bad, rest))
+    (where_prefix (after_prefix (codes "ELSEIF(") text) (λ rest. else_if_kept bad rest)
+    (where_prefix (after_prefix (codes "ELSE") text) (λ rest. Some (Else, bad, rest))
+    (where_prefix (after_prefix (codes "IF(") text) (λ rest. if_kept bad rest)
     (simple_kept bad text)))))
 
 unfoldable pub storage_kept : Bool → List ℕ → Keeps Stmt
 storage_kept bad text =
-    where_front (after_front (codes "DIMENSION") text) (λ rest. as_stmt (λ decls. Dimension decls) (arrays_kept bad rest))
-    (where_front (after_front (codes "COMMON") text) (λ rest. as_stmt (λ parts. Common parts) (kept_parts first_part_kept part_kept bad rest))
-    (where_front (after_front (codes "EQUIVALENCE") text) (λ rest. as_stmt (λ groups. Equivalence groups) (kept_list group_kept bad rest))
-    (where_front (after_front (codes "DATA") text) (λ rest. as_stmt (λ parts. Init parts) (kept_parts init_part_kept next_init_part_kept bad rest))
+    where_prefix (after_prefix (codes "DIMENSION") text) (λ rest. as_stmt (λ decls. Dimension decls) (arrays_kept bad rest))
+    (where_prefix (after_prefix (codes "COMMON") text) (λ rest. as_stmt (λ parts. Common parts) (kept_parts first_part_kept part_kept bad rest))
+    (where_prefix (after_prefix (codes "EQUIVALENCE") text) (λ rest. as_stmt (λ groups. Equivalence groups) (kept_list group_kept bad rest))
+    (where_prefix (after_prefix (codes "DATA") text) (λ rest. as_stmt (λ parts. Init parts) (kept_parts init_part_kept next_init_part_kept bad rest))
     (executable_kept bad text))))
 
 unfoldable pub keyword_kept : Bool → List ℕ → Keeps Stmt
 keyword_kept bad text =
-    where_front (after_front (codes "PROGRAM") text) (λ rest. as_stmt (λ name. Program) (name_kept bad rest))
-    (where_front (after_front (codes "SUBROUTINE") text) (λ rest. subroutine_kept bad rest)
-    (where_front (after_front (codes "IMPLICITNONE") text) (λ rest. Some (ImplicitNone, bad, rest))
-    (where_front (after_front (codes "IMPLICIT") text) (λ rest. as_stmt (λ ranges. Implicit ranges) (kept_ranges bad rest))
-    (where_front (after_front (codes "INTEGER") text) (λ rest. as_stmt (λ decls. TypeOf Integer decls) (kept_list decl_kept bad rest))
-    (where_front (after_front (codes "LOGICAL") text) (λ rest. as_stmt (λ decls. TypeOf Logical decls) (kept_list decl_kept bad rest))
+    where_prefix (after_prefix (codes "PROGRAM") text) (λ rest. as_stmt (λ name. Program) (name_kept bad rest))
+    (where_prefix (after_prefix (codes "SUBROUTINE") text) (λ rest. subroutine_kept bad rest)
+    (where_prefix (after_prefix (codes "IMPLICITNONE") text) (λ rest. Some (ImplicitNone, bad, rest))
+    (where_prefix (after_prefix (codes "IMPLICIT") text) (λ rest. as_stmt (λ ranges. Implicit ranges) (kept_ranges bad rest))
+    (where_prefix (after_prefix (codes "INTEGER") text) (λ rest. as_stmt (λ decls. TypeOf Integer decls) (kept_list decl_kept bad rest))
+    (where_prefix (after_prefix (codes "LOGICAL") text) (λ rest. as_stmt (λ decls. TypeOf Logical decls) (kept_list decl_kept bad rest))
     (storage_kept bad text))))))
 
 -- ---- whole statements

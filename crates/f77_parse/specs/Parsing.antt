@@ -37,6 +37,6 @@ answer_for raw (Some s) =
     else (if has_bad_constant s then Err (BadConstant raw.line)
     else Ok (record { label = raw.label; line = raw.line; stmt = statement_of s }))
 
--- a statement of the source, read, or why it isn't; want of memory has no place in it
+-- a statement of the source, read, or why it isn't; allocation failure has no place in it
 abbrev pub reading_of : RawStmt → Result Labelled StmtEnd
 reading_of raw = if nat_lt deepest_allowed (bracket_depth raw.text) then Err (TooDeep raw.line) else answer_for raw (statement_at raw.text)

@@ -2,7 +2,7 @@
 
 ghost use Rattle.std.specs.Prelude.{◌≡◌, ◌≤◌, ◌<◌, ◌+◌, length, IfOk};
 ghost use Rattle.std.specs.List.{list_all};
-ghost use Rattle.f77_parse.specs.Keeping.{is_array, kept_behind, dim_kept, decl_kept, arrays_kept, range_kept, kind_kept, letters_kept, kept_ranges, block_kept, block_and_decls, first_part_kept, part_kept, member_kept, group_kept, init_part_kept, next_init_part_kept};
+ghost use Rattle.f77_parse.specs.Keeping.{is_array, kept_after, dim_kept, decl_kept, arrays_kept, range_kept, kind_kept, letters_kept, kept_ranges, block_kept, block_and_decls, first_part_kept, part_kept, member_kept, group_kept, init_part_kept, next_init_part_kept};
 ghost use Rattle.f77_parse.specs.Answers.{Gives, Shortens};
 
 use crate::listing::{DeclPart, DimPart, MemberPart, SignedPart, ValuePart};
@@ -106,11 +106,11 @@ impl<'a> Reader<'a> {
         Ok(Kind::Logical)
     }
 
-    /// Ranges of letters with commas between them, behind those in the list.
+    /// Ranges of letters with commas between them, after those in the list.
     fn ranges(&mut self, kind: Kind, mut list: LetterRangeList) -> Result<LetterRangeList, ReadEnd>
         requires room { length list + length self.old.rest.now < 4294967296 }
         ensures room { IfOk result (λ longer. length longer + length self.new.rest.now ≤ length list + length self.old.rest.now) }
-        ensures gives { Gives (kept_behind (range_kept kind) list self.old.is_bad self.old.rest.now) result self.new.is_bad self.new.rest.now }
+        ensures gives { Gives (kept_after (range_kept kind) list self.old.is_bad self.old.rest.now) result self.new.is_bad self.new.rest.now }
         ensures shorter { Shortens result self.old.rest.now self.new.rest.now }
     {
         list.push(self.range(kind)?)?;
@@ -120,7 +120,7 @@ impl<'a> Reader<'a> {
         Ok(list)
     }
 
-    /// A type and its letters, behind those in the list.
+    /// A type and its letters, after those in the list.
     #[tactic(auto, unfolding(crate::specs::Keeping::letters_kept))]
     fn letters(&mut self, list: LetterRangeList) -> Result<LetterRangeList, ReadEnd>
         requires room { length list + length self.old.rest.now < 4294967296 }
@@ -185,7 +185,7 @@ impl<'a> Reader<'a> {
         Ok(CommonPart { block, decls })
     }
 
-    /// A part of COMMON that tells its block, with a comma in front or without.
+    /// A part of COMMON that tells its block, with a leading comma or without.
     #[tactic(auto, unfolding(crate::specs::Keeping::part_kept))]
     pub(crate) fn part(&mut self, alloc: Global) -> Result<CommonPart, ReadEnd>
         ensures gives { Gives (part_kept self.old.is_bad self.old.rest.now) result self.new.is_bad self.new.rest.now }
@@ -241,7 +241,7 @@ impl<'a> Reader<'a> {
         Ok(InitPart { items, values })
     }
 
-    /// Items of DATA and their values, with a comma in front or without.
+    /// Items of DATA and their values, with a leading comma or without.
     #[tactic(auto, unfolding(crate::specs::Keeping::next_init_part_kept))]
     pub(crate) fn next_init_part(&mut self, alloc: Global) -> Result<InitPart, ReadEnd>
         ensures gives { Gives (next_init_part_kept self.old.is_bad self.old.rest.now) result self.new.is_bad self.new.rest.now }

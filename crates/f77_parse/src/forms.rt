@@ -1,8 +1,8 @@
-//! The forms of statements behind their keywords, and of those that have none (ANSI X3.9-1978, sections 8 to 12).
+//! The forms of statements after their keywords, and of those that have none (ANSI X3.9-1978, sections 8 to 12).
 
 ghost use Rattle.std.specs.Prelude.{◌≡◌, codes};
 ghost use Rattle.std.specs.Str.{bytes_eq};
-ghost use Rattle.f77_parse.specs.KeptForms.{step_kept, bounds_kept, do_kept, assigned_kept, conditional_kept, condition_in, assignment_kept, sign_labels_kept, stop_kept, go_to_kept, items_behind_kept, items_or_none_kept, targets_kept, call_kept, subroutine_kept, transfer_kept, simple_kept, condition_kept, guarded_kept, if_kept, else_if_kept};
+ghost use Rattle.f77_parse.specs.KeptForms.{step_kept, bounds_kept, do_kept, assigned_kept, conditional_kept, condition_in, assignment_kept, sign_labels_kept, stop_kept, go_to_kept, items_after_kept, items_or_none_kept, targets_kept, call_kept, subroutine_kept, transfer_kept, simple_kept, condition_kept, guarded_kept, if_kept, else_if_kept};
 ghost use Rattle.f77_parse.specs.Answers.{Gives};
 
 use crate::listing::{ItemPart, LabelPart, VariablePart};
@@ -25,7 +25,7 @@ impl<'a> Reader<'a> {
         self.bounds(alloc, label, variable)
     }
 
-    /// The bounds of a DO behind its variable.
+    /// The bounds of a DO after its variable.
     #[tactic(auto, unfolding(crate::specs::KeptForms::bounds_kept))]
     fn bounds(&mut self, alloc: Global, label: u32, variable: Name) -> Result<Stmt, ReadEnd>
         ensures { Gives (bounds_kept label variable self.old.is_bad self.old.rest.now) result self.new.is_bad self.new.rest.now }
@@ -50,7 +50,7 @@ impl<'a> Reader<'a> {
         }
     }
 
-    /// The equals sign of an assignment and what stands behind it.
+    /// The equals sign of an assignment and what stands after it.
     #[tactic(auto, unfolding(crate::specs::KeptForms::assigned_kept))]
     fn assigned(&mut self, alloc: Global, target: RawExpr) -> Result<Stmt, ReadEnd>
         ensures { Gives (assigned_kept target self.old.is_bad self.old.rest.now) result self.new.is_bad self.new.rest.now }
@@ -60,7 +60,7 @@ impl<'a> Reader<'a> {
         Ok(Stmt::Assign(target, value))
     }
 
-    /// An assignment behind the condition of a logical IF.
+    /// An assignment after the condition of a logical IF.
     #[tactic(auto, unfolding(crate::specs::KeptForms::conditional_kept))]
     fn conditional(&mut self, alloc: Global, condition: RawExpr) -> Result<Stmt, ReadEnd>
         ensures { Gives (conditional_kept condition self.old.is_bad self.old.rest.now) result self.new.is_bad self.new.rest.now }
@@ -70,7 +70,7 @@ impl<'a> Reader<'a> {
         Ok(Stmt::ThenIf(condition, Boxed::new(alloc, stmt)?))
     }
 
-    /// An assignment, or an assignment behind the condition of a logical IF: what stands behind IF is a subscript where an
+    /// An assignment, or an assignment after the condition of a logical IF: what stands after IF is a subscript where an
     /// equals sign follows it, and a condition where none does.
     #[tactic(auto, unfolding(crate::specs::KeptForms::assignment_kept))]
     pub(crate) fn assignment(&mut self, alloc: Global) -> Result<Stmt, ReadEnd>
@@ -130,10 +130,10 @@ impl<'a> Reader<'a> {
         Ok(Stmt::PickGoTo(labels, index))
     }
 
-    /// What PRINT * shows: items behind a comma, or none.
-    #[tactic(auto, unfolding(crate::specs::KeptForms::items_behind_kept))]
-    fn items_behind(&mut self, alloc: Global) -> Result<Stmt, ReadEnd>
-        ensures { Gives (items_behind_kept self.old.is_bad self.old.rest.now) result self.new.is_bad self.new.rest.now }
+    /// What PRINT * shows: items after a comma, or none.
+    #[tactic(auto, unfolding(crate::specs::KeptForms::items_after_kept))]
+    fn items_after(&mut self, alloc: Global) -> Result<Stmt, ReadEnd>
+        ensures { Gives (items_after_kept self.old.is_bad self.old.rest.now) result self.new.is_bad self.new.rest.now }
     {
         if self.is_at_end() {
             return Ok(Stmt::Print(Sequence::new(alloc)));
@@ -181,7 +181,7 @@ impl<'a> Reader<'a> {
         Ok(Stmt::Sub(name, dummies))
     }
 
-    /// A form that may stand behind a condition.
+    /// A form that may stand after a condition.
     #[tactic(auto, unfolding(crate::specs::KeptForms::simple_kept))]
     pub(crate) fn simple(&mut self, alloc: Global) -> Result<Stmt, ReadEnd>
         ensures { Gives (simple_kept self.old.is_bad self.old.rest.now) result self.new.is_bad self.new.rest.now }
@@ -210,7 +210,7 @@ impl<'a> Reader<'a> {
         ensures { Gives (transfer_kept self.old.is_bad self.old.rest.now) result self.new.is_bad self.new.rest.now }
     {
         if self.passes(b"PRINT*") {
-            return self.items_behind(alloc);
+            return self.items_after(alloc);
         }
         if self.passes(b"WRITE(*,*)") {
             return self.items_or_none(alloc);
@@ -240,7 +240,7 @@ impl<'a> Reader<'a> {
         Ok(condition)
     }
 
-    /// What may stand behind the condition of a logical IF, but for an assignment.
+    /// What may stand after the condition of a logical IF, but for an assignment.
     #[tactic(auto, unfolding(crate::specs::KeptForms::guarded_kept))]
     fn guarded(&mut self, alloc: Global) -> Result<Stmt, ReadEnd>
         ensures { Gives (guarded_kept self.old.is_bad self.old.rest.now) result self.new.is_bad self.new.rest.now }
@@ -252,7 +252,7 @@ impl<'a> Reader<'a> {
         self.simple(alloc)
     }
 
-    /// What stands behind IF and its bracket.
+    /// What stands after IF and its bracket.
     #[tactic(auto, unfolding(crate::specs::KeptForms::if_kept))]
     pub(crate) fn if_form(&mut self, alloc: Global) -> Result<Stmt, ReadEnd>
         ensures { Gives (if_kept self.old.is_bad self.old.rest.now) result self.new.is_bad self.new.rest.now }
@@ -268,7 +268,7 @@ impl<'a> Reader<'a> {
         Ok(Stmt::ThenIf(condition, Boxed::new(alloc, stmt)?))
     }
 
-    /// What stands behind ELSE IF and its bracket.
+    /// What stands after ELSE IF and its bracket.
     #[tactic(auto, unfolding(crate::specs::KeptForms::else_if_kept))]
     pub(crate) fn else_if(&mut self, alloc: Global) -> Result<Stmt, ReadEnd>
         ensures { Gives (else_if_kept self.old.is_bad self.old.rest.now) result self.new.is_bad self.new.rest.now }

@@ -58,7 +58,7 @@ impl<'a> Reader<'a> {
         Ok(Some(self.character()?))
     }
 
-    /// The characters of a constant behind its apostrophe, up to the one that closes it.
+    /// The characters of a constant after its apostrophe, up to the one that closes it.
     fn characters(&mut self, alloc: Global) -> Result<Text, ReadEnd>
         ensures gives { Gives (characters_kept self.old.is_bad self.old.rest.now) result self.new.is_bad self.new.rest.now }
         ensures shorter { Shortens result self.old.rest.now self.new.rest.now }

@@ -29,7 +29,7 @@ impl<'a> Reader<'a> {
         }
     }
 
-    /// A statement in front of the text.
+    /// A statement at the beginning of the text.
     #[tactic(auto, unfolding(crate::specs::KeptForms::form_kept))]
     fn form(&mut self, alloc: Global, has_equals: bool, has_comma: bool) -> Result<Stmt, ReadEnd>
         ensures { Gives (form_kept has_equals has_comma self.old.is_bad self.old.rest.now) result self.new.is_bad self.new.rest.now }

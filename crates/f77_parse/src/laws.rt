@@ -15,7 +15,7 @@ pub fn one_statement()
     ensures { (text : List ℕ) (s other : WrittenStatement) → IsWrittenStatement text s → IsWrittenStatement text other → s ≡ other }
 {}
 
-/// `reading_of` is an answer that is due for a statement of the source, and but for want of memory the only one.
+/// `reading_of` is an answer that is due for a statement of the source, and but for allocation failure the only one.
 pub fn one_answer()
     ensures due { (raw : AnyRawStmt) → IsParsed raw (reading_of raw) }
     ensures only { (raw : AnyRawStmt) (answer : Result AnyLabelled AnyEnd) → IsParsed raw answer → answer ≢ Err NoMemory → answer ≡ reading_of raw }

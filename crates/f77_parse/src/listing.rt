@@ -17,7 +17,7 @@ pub(crate) trait Part {
     /// What is kept of it.
     type Value: Drop;
 
-    /// What is kept of the front of a text.
+    /// What is kept of the beginning of a text.
     ghost kept: { Bool → List ℕ → Keeps Self.Value };
 
     /// Reads one.
@@ -54,12 +54,12 @@ impl<'a> Reader<'a> {
     }
 }
 
-/// The parts of a statement, of which the first is read otherwise than those behind it.
+/// The parts of a statement, of which the first is read otherwise than those after it.
 pub(crate) trait Series {
     /// What is kept of a part.
     type Value: Drop;
 
-    /// What is kept of the first part in front of a text.
+    /// What is kept of the first part at the beginning of a text.
     ghost kept_first: { Bool → List ℕ → Keeps Self.Value };
 
     /// What is kept of another one.

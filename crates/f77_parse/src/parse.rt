@@ -56,7 +56,7 @@ fn parsed(alloc: Global, raw: &RawStmt) -> Result<Labelled, StmtEnd>
     }
 }
 
-/// Whether a statement is one of subroutines, alone or behind a condition.
+/// Whether a statement is one of subroutines, alone or after a condition.
 fn is_of_subroutines(stmt: &Stmt) -> bool
     ensures { result ≡ spec_is_of_subroutines stmt.now }
 {

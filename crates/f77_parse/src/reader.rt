@@ -2,14 +2,14 @@
 
 ghost use Rattle.std.specs.Prelude.{◌≡◌, ◌≤◌, ◌<◌, ◌+◌, ◌-◌, ◌||◌, ◌&&◌, ◌^◌, nat_lt, length, [], drop, take_while, true, false, Some, None, MatchBool, IfOk};
 ghost use Rattle.f77_tree.specs.Name.{is_figure};
-ghost use Rattle.f77_expr.specs.Reader.{after_front as spec_after_front};
-ghost use Rattle.f77_parse.specs.Parts.{behind_comma};
+ghost use Rattle.f77_expr.specs.Reader.{after_prefix as spec_after_prefix};
+ghost use Rattle.f77_parse.specs.Parts.{after_comma};
 ghost use Rattle.f77_parse.specs.Keeping.{wanted, skipped, begins, number_kept, name_kept, letter_kept, character_kept, few_digits_kept, expression_kept};
 ghost use Rattle.f77_parse.specs.Answers.{Gives, Passes, Shortens};
 
 use df_sequence::CharList;
 use f77_expr::{
-    ReadEnd, after_front, bounded_number, digits_of, is_letter, read_expr, symbolic_of,
+    ReadEnd, after_prefix, bounded_number, digits_of, is_letter, read_expr, symbolic_of,
 };
 use f77_tree::{Name, RawExpr};
 use std::alloc::Global;
@@ -93,12 +93,12 @@ impl<'a> Reader<'a> {
     }
 
     /// Passes these characters, if they are the next ones.
-    pub(crate) fn passes(&mut self, front: &[u8]) -> bool
-        ensures rest { Passes (spec_after_front front.now self.old.rest.now) result self.old.rest.now self.new.rest.now }
+    pub(crate) fn passes(&mut self, prefix: &[u8]) -> bool
+        ensures rest { Passes (spec_after_prefix prefix.now self.old.rest.now) result self.old.rest.now self.new.rest.now }
         ensures same { self.new.is_bad ≡ self.old.is_bad }
-        ensures shorter { MatchBool result (length self.new.rest.now + length front.now ≤ length self.old.rest.now) (length self.new.rest.now ≤ length self.old.rest.now) }
+        ensures shorter { MatchBool result (length self.new.rest.now + length prefix.now ≤ length self.old.rest.now) (length self.new.rest.now ≤ length self.old.rest.now) }
     {
-        match after_front(self.rest, front) {
+        match after_prefix(self.rest, prefix) {
             Some(rest) => {
                 self.skip(self.rest.len() - rest.len());
                 true
@@ -108,23 +108,23 @@ impl<'a> Reader<'a> {
     }
 
     /// Passes these characters, if they are the next ones, and tells nothing of it.
-    pub(crate) fn skips(&mut self, front: &[u8])
-        ensures rest { self.new.rest.now ≡ skipped (spec_after_front front.now self.old.rest.now) self.old.rest.now }
+    pub(crate) fn skips(&mut self, prefix: &[u8])
+        ensures rest { self.new.rest.now ≡ skipped (spec_after_prefix prefix.now self.old.rest.now) self.old.rest.now }
         ensures same { self.new.is_bad ≡ self.old.is_bad }
         ensures shorter { length self.new.rest.now ≤ length self.old.rest.now }
     {
-        if self.passes(front) {
+        if self.passes(prefix) {
             return;
         }
     }
 
     /// Passes these characters, which have to be the next ones.
     #[tactic(auto, unfolding(crate::specs::Keeping::wanted))]
-    pub(crate) fn wants(&mut self, front: &[u8]) -> Result<(), ReadEnd>
-        ensures gives { Gives (wanted front.now self.old.is_bad self.old.rest.now) result self.new.is_bad self.new.rest.now }
-        ensures shorter { IfOk result (λ found. length self.new.rest.now + length front.now ≤ length self.old.rest.now) }
+    pub(crate) fn wants(&mut self, prefix: &[u8]) -> Result<(), ReadEnd>
+        ensures gives { Gives (wanted prefix.now self.old.is_bad self.old.rest.now) result self.new.is_bad self.new.rest.now }
+        ensures shorter { IfOk result (λ found. length self.new.rest.now + length prefix.now ≤ length self.old.rest.now) }
     {
-        if self.passes(front) {
+        if self.passes(prefix) {
             Ok(())
         } else {
             Err(ReadEnd::NoForm)
@@ -133,7 +133,7 @@ impl<'a> Reader<'a> {
 
     /// Passes a comma that stands between two items of a list. One before a stroke stands before a block of COMMON.
     pub(crate) fn passes_comma(&mut self) -> bool
-        ensures rest { Passes (behind_comma self.old.rest.now) result self.old.rest.now self.new.rest.now }
+        ensures rest { Passes (after_comma self.old.rest.now) result self.old.rest.now self.new.rest.now }
         ensures same { self.new.is_bad ≡ self.old.is_bad }
         ensures shorter { MatchBool result (length self.new.rest.now < length self.old.rest.now) (length self.new.rest.now ≤ length self.old.rest.now) }
     {
@@ -188,16 +188,16 @@ impl<'a> Reader<'a> {
         Ok(read.expr)
     }
 
-    /// All letters and digits that stand in front, as a name.
+    /// All letters and digits that come first, as a name.
     #[tactic(auto, unfolding(crate::specs::Keeping::name_kept))]
     pub(crate) fn name(&mut self) -> Result<Name, ReadEnd>
         ensures gives { Gives (name_kept self.old.is_bad self.old.rest.now) result self.new.is_bad self.new.rest.now }
         ensures shorter { Shortens result self.old.rest.now self.new.rest.now }
     {
-        let front = symbolic_of(self.rest);
-        match Name::new(front) {
+        let prefix = symbolic_of(self.rest);
+        match Name::new(prefix) {
             Some(name) => {
-                self.skip(front.len());
+                self.skip(prefix.len());
                 Ok(name)
             }
             None => Err(ReadEnd::NoForm),

@@ -26,14 +26,14 @@ use Rattle.f77_source.specs.Reading.{stmt_refusal, statement_before, statements_
 abbrev pub OneStatement : Type 0
 OneStatement = (text : List ℕ) (s other : WrittenStatement) → IsWrittenStatement text s → IsWrittenStatement text other → s ≡ other
 
--- statements in front of others
-abbrev pub in_front : List Labelled → Result (List Labelled) Refusal → Result (List Labelled) Refusal
-in_front stmts (Err refusal) = Err refusal
-in_front stmts (Ok more) = Ok (stmts ++ more)
+-- statements before others
+abbrev pub at_start : List Labelled → Result (List Labelled) Refusal → Result (List Labelled) Refusal
+at_start stmts (Err refusal) = Err refusal
+at_start stmts (Ok more) = Ok (stmts ++ more)
 
 abbrev pub both : Result (List Labelled) Refusal → Result (List Labelled) Refusal → Result (List Labelled) Refusal
 both (Err refusal) more = Err refusal
-both (Ok stmts) more = in_front stmts more
+both (Ok stmts) more = at_start stmts more
 
 before_both : (r : Result Labelled StmtEnd) (a b : Result (List Labelled) Refusal) → statement_before r (both a b) ≡ both (statement_before r a) b
 before_both (Err end) a b = refl

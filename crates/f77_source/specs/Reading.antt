@@ -1,4 +1,4 @@
--- What a source text is: a program, or its first refusal. Want of memory has no place in it.
+-- What a source text is: a program, or its first refusal. Allocation failure has no place in it.
 use Rattle.std.specs.Prelude.{◌≡◌, ℕ, Bool, nat_lt, if◌then◌else◌, List, [], ◌∷◌, Result, Ok, Err}
 use Rattle.fixed_form.specs.declared.raw_stmt.RawStmt.{RawStmt}
 use Rattle.fixed_form.specs.declared.form_end.FormEnd.{FormEnd}

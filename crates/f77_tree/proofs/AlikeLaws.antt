@@ -10,7 +10,7 @@ use Rattle.f77_tree.proofs.RunLaws.{Grows, grows_not, grows_on, out-grows, sourc
 
 pub alike-same : (a : ℕ → State) → PrintAlike a a
 alike-same a = record {
-  front = λ n. record { steps = n; rest = []; is = sym (append-nil (a n).out) };
+  prefix = λ n. record { steps = n; rest = []; is = sym (append-nil (a n).out) };
   back = λ n. record { steps = n; rest = []; is = sym (append-nil (a n).out) };
   ends = (λ is. is, λ is. is);
   traps = λ trap text. (λ is. is, λ is. is);
@@ -18,8 +18,8 @@ alike-same a = record {
 
 pub alike-back : (a b : ℕ → State) → PrintAlike a b → PrintAlike b a
 alike-back a b alike = record {
-  front = alike.back;
-  back = alike.front;
+  prefix = alike.back;
+  back = alike.prefix;
   ends = (alike.ends.1, alike.ends.0);
   traps = λ trap text. ((alike.traps trap text).1, (alike.traps trap text).0);
 }
@@ -31,7 +31,7 @@ reach-on b c text first next =
 
 pub alike-on : (a b c : ℕ → State) → PrintAlike a b → PrintAlike b c → PrintAlike a c
 alike-on a b c first next = record {
-  front = λ n. reach-on b c (a n).out (first.front n) next.front;
+  prefix = λ n. reach-on b c (a n).out (first.prefix n) next.prefix;
   back = λ n. reach-on b a (c n).out (next.back n) first.back;
   ends = (λ is. next.ends.0 (first.ends.0 is), λ is. first.ends.1 (next.ends.1 is));
   traps = λ trap text. (λ is. (next.traps trap text).0 ((first.traps trap text).0 is), λ is. (first.traps trap text).1 ((next.traps trap text).1 is));
@@ -43,9 +43,9 @@ none-left : (xs rest : List ℕ) → length (xs ++ rest) ≤ length xs → xs ++
 none-left xs [] le = append-nil xs
 none-left xs (x ∷ rest) le = let whole = length-append xs (x ∷ rest) in absurd (omega (arith, le, whole))
 
--- of two texts each is a front of the other
-fronts-same : (xs ys : List ℕ) → Grows xs ys → Grows ys xs → xs ≡ ys
-fronts-same xs ys a b =
+-- of two texts each is a prefix of the other
+prefixes-same : (xs ys : List ℕ) → Grows xs ys → Grows ys xs → xs ≡ ys
+prefixes-same xs ys a b =
     let m = length-append xs a.more in
     let n = length-append ys b.more in
     let ys_is : length ys ≡ length (xs ++ a.more) = ap length a.is in
@@ -53,7 +53,7 @@ fronts-same xs ys a b =
     sym (a.is ∙ none-left xs a.more (omega (arith, m, n, ys_is, xs_is)))
 
 module _ (p : Program) (input : List ℤ) where
-  -- what was written at any time is a front of what was written when the run ended
+  -- what was written at any time is a prefix of what was written when the run ended
   pub ended-whole : (k n : ℕ) → (source p input n).mark ≡ Ended → Grows (out p input k) (out p input n)
   ended-whole k n ended = ⊎_elim below above (cases_lt k n)
     where
@@ -69,8 +69,8 @@ module _ (p : Program) (input : List ℤ) where
 -- of two runs that print the same, where both end, the whole outputs are equal
 pub alike-whole : (p q : Program) (input : List ℤ) (m n : ℕ) → PrintAlike (source p input) (source q input) → (source p input m).mark ≡ Ended → (source q input n).mark ≡ Ended → out p input m ≡ out q input n
 alike-whole p q input m n alike p_ended q_ended =
-    let there = alike.front m in
+    let there = alike.prefix m in
     let back = alike.back n in
-    fronts-same (out p input m) (out q input n)
+    prefixes-same (out p input m) (out q input n)
     (grows_on _ _ _ (record { more = there.rest; is = there.is }) (ended-whole q input there.steps n q_ended))
     (grows_on _ _ _ (record { more = back.rest; is = back.is }) (ended-whole p input back.steps m p_ended))

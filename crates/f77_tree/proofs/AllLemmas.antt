@@ -30,7 +30,7 @@ module _ {X : Type 0} (P : X → Type 0) where
   pub Any-rest : (x : X) (xs : List X) → Any P xs → Any P (x ∷ xs)
   Any-rest x xs some = (suc some.0, some.1, let lt = some.2 in omega (arith, lt), some.3, some.4)
 
--- items behind those of a list leave them
+-- items after those of a list leave them
 pub get-longer : {X : Type 0} (xs ys : List X) (k : ℕ) → k < length xs → slice_get (xs ++ ys) k ≡ slice_get xs k
 get-longer [] ys k lt = absurd (omega (arith, lt))
 get-longer (x ∷ xs) ys zero lt = refl

@@ -5,7 +5,7 @@ use Rattle.std.proofs.lemmas.Int.{ints, by_lt_z}
 use Rattle.f77_tree.specs.declared.declarations.CommonPart.{CommonPart}
 use Rattle.f77_tree.specs.declared.programs.NameInfo.{NameInfo}
 use Rattle.f77_tree.specs.Value.{place_of, dims_of, size_of}
-use Rattle.f77_tree.specs.Places.{ArePlaces, BeginsBehind, EndsAt, Equation, Linked, itself, along, against, end_of, IsWordOf}
+use Rattle.f77_tree.specs.Places.{ArePlaces, BeginsAfter, EndsAt, Equation, Linked, itself, along, against, end_of, IsWordOf}
 
 -- an equation between two names of the table whose words overlap or meet
 pub record Touches (names : List NameInfo) (e : Equation) : Type 0 where
@@ -19,7 +19,7 @@ decide a b = by_lt_z a b inl inr
 
 module _ (names : List NameInfo) (commons : List CommonPart) (all : List Equation) (words : ℕ) (are : ArePlaces names commons all words)
     (touch : (e : Equation) → Contains all e → Touches names e) (sizes : (x : ℕ) → x < length names → pos 1 ≤ℤ size_of (dims_of names x)) (word : ℕ) where
-  -- the words of x lie before the word, or behind it
+  -- the words of x lie before the word, or after it
   abbrev Misses : ℕ → Type 0
   Misses x = (end_of names x ≤ℤ pos word) ⊎ (pos word <ℤ pos (place_of names x))
 
@@ -29,7 +29,7 @@ module _ (names : List NameInfo) (commons : List CommonPart) (all : List Equatio
       by : (pos word <ℤ pos (place_of names x)) ⊎ (pos (place_of names x) ≤ℤ pos word) → (pos word <ℤ end_of names x) ⊎ (end_of names x ≤ℤ pos word) → IsWordOf names x word ⊎ Misses x
       by (inl before) _ = inr (inr before)
       by (inr begins) (inl ends) = inl (record { known = known; begins = omega (arith, ints, begins); ends = ends })
-      by (inr begins) (inr behind) = inr (inl behind)
+      by (inr begins) (inr after) = inr (inl after)
 
   -- one of the first n names has the word, or each misses it
   search_names : (n : ℕ) → n ≤ length names → ((x : ℕ) × IsWordOf names x word) ⊎ ((x : ℕ) → x < n → Misses x)
@@ -56,17 +56,17 @@ module _ (names : List NameInfo) (commons : List CommonPart) (all : List Equatio
     high_to e t high = by (miss e.to t.to_known)
       where
         by : Misses e.to → High e.to
-        by (inl behind) = let m = t.to_meets in absurd (omega (arith, ints, behind, m, high))
+        by (inl after) = let m = t.to_meets in absurd (omega (arith, ints, after, m, high))
         by (inr is) = is
 
     high_from : (e : Equation) → Touches names e → High e.to → High e.from
     high_from e t high = by (miss e.from t.from_known)
       where
         by : Misses e.from → High e.from
-        by (inl behind) = let m = t.from_meets in absurd (omega (arith, ints, behind, m, high))
+        by (inl after) = let m = t.from_meets in absurd (omega (arith, ints, after, m, high))
         by (inr is) = is
 
-    -- a storage lies before the word or behind it as a whole
+    -- a storage lies before the word or after it as a whole
     high_linked : (x y : ℕ) → Linked all x y → (High x → High y) × (High y → High x)
     high_linked x y itself = (λ h. h, λ h. h)
     high_linked x y (along e at more) =
@@ -76,7 +76,7 @@ module _ (names : List NameInfo) (commons : List CommonPart) (all : List Equatio
         let rest = high_linked e.from y more in
         (λ h. rest.0 (high_from e (touch e at) h), λ h. high_to e (touch e at) (rest.1 h))
 
-    -- no name lies behind the word: the lowest of them would begin where another one behind the word ends
+    -- no name lies after the word: the lowest of them would begin where another one after the word ends
     no_high : (n x : ℕ) → x < length names → place_of names x < n → High x → ⊥
     no_high zero x known lt high = omega (arith, lt)
     no_high (suc n) x known lt high = by (are.begins x known (λ z z_known linked. lower z (decide (pos (place_of names z)) (pos (place_of names x))) (λ below. no_high n z z_known (omega (arith, ints, lt, below)) ((high_linked z x linked).1 high)))) (λ a a_known a_lt a_high. no_high n a a_known a_lt a_high)
@@ -85,13 +85,13 @@ module _ (names : List NameInfo) (commons : List CommonPart) (all : List Equatio
         lower z (inl below) not = absurd (not below)
         lower z (inr le) not = omega (arith, ints, le)
 
-        by : (place_of names x ≡ 0) ⊎ BeginsBehind names all x → ((a : ℕ) → a < length names → place_of names a < n → High a → ⊥) → ⊥
+        by : (place_of names x ≡ 0) ⊎ BeginsAfter names all x → ((a : ℕ) → a < length names → place_of names a < n → High a → ⊥) → ⊥
         by (inl is) not = omega (arith, ints, high, is)
-        by (inr behind) not = over (miss behind.name behind.known)
+        by (inr after) not = over (miss after.name after.known)
           where
-            over : Misses behind.name → ⊥
-            over (inl before) = let m = behind.meets in omega (arith, ints, before, m, high)
-            over (inr a_high) = let m = behind.meets in let s = sizes behind.name behind.known in not behind.name behind.known (omega (arith, ints, m, s, lt)) a_high
+            over : Misses after.name → ⊥
+            over (inl before) = let m = after.meets in omega (arith, ints, before, m, high)
+            over (inr a_high) = let m = after.meets in let s = sizes after.name after.known in not after.name after.known (omega (arith, ints, m, s, lt)) a_high
 
     none_missed : word < words → ⊥
     none_missed lt = by are.ends

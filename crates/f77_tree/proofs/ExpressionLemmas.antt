@@ -12,7 +12,7 @@ use Rattle.f77_tree.specs.Value.{value, row_values, row_length, value_before, al
 
 -- ---- rows are lists
 
--- the row behind a list of operands or subscripts
+-- the row after a list of operands or subscripts
 abbrev pub row_of : Expr → (n : Count) × Row_of-Expr n
 row_of (Read' _ _ row) = (_, row)
 row_of (Apply' _ _ row) = (_, row)

@@ -45,8 +45,8 @@ module _ {X : Type 0} (P : X → Type 0) where
   Any-split : (x : X) (xs : List X) → Any P (x ∷ xs) → P x ⊎ Any P xs
   Any-split x xs some = Any-at x xs some.0 some.1 some.2 some.3 some.4
 
-  Any-front : (xs : List X) (y : X) → Any P xs → Any P (xs ++ y ∷ [])
-  Any-front xs y some = (some.0, some.1, (let lt = some.2 in omega (arith, lt, length-append xs (y ∷ []))), get_or_append_left xs (y ∷ []) some.1 some.0 some.2 ∙ some.3, some.4)
+  Any-prefix : (xs : List X) (y : X) → Any P xs → Any P (xs ++ y ∷ [])
+  Any-prefix xs y some = (some.0, some.1, (let lt = some.2 in omega (arith, lt, length-append xs (y ∷ []))), get_or_append_left xs (y ∷ []) some.1 some.0 some.2 ∙ some.3, some.4)
 
   Any-last : (xs : List X) (y : X) → P y → Any P (xs ++ y ∷ [])
   Any-last xs y p = (length xs, y, omega (arith, length-append xs (y ∷ [])), get_or_push xs y y (length xs) refl, p)
@@ -86,10 +86,10 @@ none-yet P xs = (λ (is : false ≡ true). absurd cc, λ some. absurd (Any-none 
 -- one item more
 pub one-more : {X : Type 0} (P : X → Type 0) (xs : List X) (i : ℕ) (x : X) (before here : Bool) → i < length xs → x ≡ get_or xs i x → IsTrue before ↔ Any P (take i xs) → IsTrue here ↔ P x → IsTrue (before || here) ↔ Any P (take (i + 1) xs)
 one-more P xs i x before here lt at so_far one =
-    let front : take (i + 1) xs ≡ take i xs ++ x ∷ [] = take_more xs i x lt ∙ ap (λ y. take i xs ++ y ∷ []) (sym at) in
+    let prefix : take (i + 1) xs ≡ take i xs ++ x ∷ [] = take_more xs i x lt ∙ ap (λ y. take i xs ++ y ∷ []) (sym at) in
     let both = or-tells before here so_far one in (
-      λ is. subst (Any P) (sym front) (⊎_elim (λ some. Any-front P (take i xs) x some) (λ p. Any-last P (take i xs) x p) (both.0 is)),
-      λ some. both.1 (Any-either P (take i xs) x (subst (Any P) front some)),
+      λ is. subst (Any P) (sym prefix) (⊎_elim (λ some. Any-prefix P (take i xs) x some) (λ p. Any-last P (take i xs) x p) (both.0 is)),
+      λ some. both.1 (Any-either P (take i xs) x (subst (Any P) prefix some)),
     )
 
 -- all items

@@ -94,20 +94,20 @@ module _ (names : List NameInfo) (words : ℕ → Option ℤ) (store : List ℤ)
 
 -- ---- what is known without words
 
-record AreKnownBehind (k : Option ℤ) (known : List (Option ℤ)) (xs : List ℤ) : Type 0 where
+record AreKnownAfter (k : Option ℤ) (known : List (Option ℤ)) (xs : List ℤ) : Type 0 where
   first : ℤ
   rest : List ℤ
   here : k ≡ Some first
-  behind : all_known known ≡ Some rest
+  after : all_known known ≡ Some rest
   are : first ∷ rest ≡ xs
 
-known-parts : (k : Option ℤ) (known : List (Option ℤ)) (xs : List ℤ) → all_known (k ∷ known) ≡ Some xs → AreKnownBehind k known xs
+known-parts : (k : Option ℤ) (known : List (Option ℤ)) (xs : List ℤ) → all_known (k ∷ known) ≡ Some xs → AreKnownAfter k known xs
 known-parts None known xs e = let no : None ≡ Some xs = e in absurd cc
 known-parts (Some k) known xs e = by (all_known known) refl e
   where
-    by : (o : Option (List ℤ)) → all_known known ≡ o → option_map (λ more. k ∷ more) o ≡ Some xs → AreKnownBehind (Some k) known xs
+    by : (o : Option (List ℤ)) → all_known known ≡ o → option_map (λ more. k ∷ more) o ≡ Some xs → AreKnownAfter (Some k) known xs
     by None f h = let no : None ≡ Some xs = h in absurd cc
-    by (Some more) f h = let is : k ∷ more ≡ xs = cc in record { first = k; rest = more; here = refl; behind = f; are = is }
+    by (Some more) f h = let is : k ∷ more ≡ xs = cc in record { first = k; rest = more; here = refl; after = f; are = is }
 
 module _ (names : List NameInfo) (words : ℕ → Option ℤ) where
   mutual
@@ -125,4 +125,4 @@ module _ (names : List NameInfo) (words : ℕ → Option ℤ) where
     row-known_with end_of-Expr xs e = e
     row-known_with (more_of-Expr e rest) xs h =
         let parts = known-parts (known e) (row_known rest) xs h in
-        next_known (known_with names words e) (row_known_with names words rest) parts.first parts.rest (known-known_with e parts.first parts.here) (row-known_with rest parts.rest parts.behind) ∙ ap Some parts.are
+        next_known (known_with names words e) (row_known_with names words rest) parts.first parts.rest (known-known_with e parts.first parts.here) (row-known_with rest parts.rest parts.after) ∙ ap Some parts.are

@@ -46,10 +46,10 @@ text-first (Ok text) (Err trap) line more is = absurd cc
 text-first (Ok text) (Ok rest) line more is =
     let last = more rest refl in
     let e : 32 ∷ (text ++ rest) ≡ line = cc in
-    record { front = 32 ∷ (text ++ last.front); is = sym e ∙ ap (λ xs. 32 ∷ (text ++ xs)) last.is ∙ ap (λ xs. 32 ∷ xs) (sym (append_assoc text last.front (10 ∷ []))) }
+    record { prefix = 32 ∷ (text ++ last.prefix); is = sym e ∙ ap (λ xs. 32 ∷ (text ++ xs)) last.is ∙ ap (λ xs. 32 ∷ xs) (sym (append_assoc text last.prefix (10 ∷ []))) }
 
 texts-line : (texts : List (Result (List ℕ) Trap)) (line : List ℕ) → line_of_texts texts ≡ Ok line → IsLine line
-texts-line [] line is = let e : 10 ∷ [] ≡ line = cc in record { front = []; is = sym e }
+texts-line [] line is = let e : 10 ∷ [] ≡ line = cc in record { prefix = []; is = sym e }
 texts-line (text ∷ texts) line is = text-first text (line_of_texts texts) line (texts-line texts) is
 
 -- a line that is written ends with its line feed

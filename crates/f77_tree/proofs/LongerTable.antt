@@ -1,4 +1,4 @@
--- Names behind those of a table leave the meaning of what the table fits.
+-- Names after those of a table leave the meaning of what the table fits.
 use Rattle.std.proofs.Common.{◌≡◌, ℕ, ◌+◌, ◌<◌, if◌then◌else◌, ℤ, pos, nat_abs, List, [], ◌∷◌, ◌++◌, length, map, All, Option, None, Result, Ok, slice_get, refl, ap, ◌∙◌}
 use Rattle.op_table.specs.declared.Trap.{Trap}
 use Rattle.op_table.specs.Operators.{applied}

@@ -79,7 +79,7 @@ in_range execs n k = by (cases_lt (do_start execs n) k) (cases_lt (do_next execs
   where
     by : (do_start execs n < k) ⊎ (k ≤ do_start execs n) → (do_next execs n < k) ⊎ (k ≤ do_next execs n) → InRange execs n k ⊎ (InRange execs n k → ⊥)
     by (inr before) other = inr (λ is. let after = is.after_start in omega (arith, before, after))
-    by (inl after) (inl behind) = inr (λ is. let up_to = is.up_to_next in omega (arith, behind, up_to))
+    by (inl after) (inl beyond) = inr (λ is. let up_to = is.up_to_next in omega (arith, beyond, up_to))
     by (inl after) (inr up_to) = inl (record { after_start = after; up_to_next = up_to })
 
 module _ (p : Program) (input : List ℤ) (loops : AreLoops p.execs p.loops) (n : ℕ) (known : n < p.loops) where

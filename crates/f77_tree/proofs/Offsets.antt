@@ -58,7 +58,7 @@ moved-is dim dims first words size p v few all at n is lt low high =
 
 -- ---- all subscripts
 
--- subscripts lead to the word that lies as far behind as declarations say
+-- subscripts lead to the word that lies as far after as declarations say
 record Reached (dims : List Dim) (subs : List ℤ) (size p : ℤ) (here part : ℕ) : Type 0 where
   count : ℕ
   offset_is : offset_of dims subs ≡ pos count

@@ -74,8 +74,8 @@ joined-first x ((next ∷ rest) ∷ statements) = by (x.line == next.line)
     by true = record { place = 0; statement = x ∷ next ∷ rest; stands = refl; index = 0; is = refl }
     by false = record { place = 0; statement = x ∷ []; stands = refl; index = 0; is = refl }
 
-behind : (first : List Exec) (statements : List (List Exec)) (exec : Exec) → IsOfStatement statements exec → IsOfStatement (first ∷ statements) exec
-behind first statements exec found = record { place = suc found.place; statement = found.statement; stands = found.stands; index = found.index; is = found.is }
+after : (first : List Exec) (statements : List (List Exec)) (exec : Exec) → IsOfStatement statements exec → IsOfStatement (first ∷ statements) exec
+after first statements exec found = record { place = suc found.place; statement = found.statement; stands = found.stands; index = found.index; is = found.is }
 
 grown : (x : Exec) (first : List Exec) (statements : List (List Exec)) (exec : Exec) (place : ℕ) (statement : List Exec) (index : ℕ) → slice_get (first ∷ statements) place ≡ Some statement → slice_get statement index ≡ Some exec → IsOfStatement ((x ∷ first) ∷ statements) exec
 grown x first statements exec zero statement index stands is =
@@ -85,12 +85,12 @@ grown x first statements exec (suc place) statement index stands is = record { p
 
 joined-rest : (x : Exec) (statements : List (List Exec)) (exec : Exec) → IsOfStatement statements exec → IsOfStatement (joined x statements) exec
 joined-rest x [] exec found = let no : None ≡ Some found.statement = found.stands in absurd cc
-joined-rest x ([] ∷ statements) exec found = behind (x ∷ []) ([] ∷ statements) exec found
+joined-rest x ([] ∷ statements) exec found = after (x ∷ []) ([] ∷ statements) exec found
 joined-rest x ((next ∷ rest) ∷ statements) exec found = by (x.line == next.line)
   where
     by : (b : Bool) → IsOfStatement (if b then (x ∷ next ∷ rest) ∷ statements else (x ∷ []) ∷ (next ∷ rest) ∷ statements) exec
     by true = grown x (next ∷ rest) statements exec found.place found.statement found.index found.stands found.is
-    by false = behind (x ∷ []) ((next ∷ rest) ∷ statements) exec found
+    by false = after (x ∷ []) ((next ∷ rest) ∷ statements) exec found
 
 of_statement : (execs : List Exec) (k : ℕ) (exec : Exec) → slice_get execs k ≡ Some exec → IsOfStatement (statements_of execs) exec
 of_statement [] k exec at = absurd cc

@@ -1,4 +1,4 @@
--- Statements of subroutines behind a condition.
+-- Statements of subroutines after a condition.
 use Rattle.std.proofs.Common.{◌≡◌, refl}
 use Rattle.f77_tree.specs.declared.statements.RawExpr.{RawExpr}
 use Rattle.f77_tree.specs.declared.statements.Stmt.{Stmt}

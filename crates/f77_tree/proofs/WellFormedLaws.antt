@@ -86,10 +86,10 @@ item-of names (Value e) is = IsProper-expression names e is
 item-of names (Chars text) is = tt
 
 -- what holds of each item of a list with one more at its end
-All-front : {X : Type 0} (P : X → Type 0) (xs : List X) (x : X) → All P (xs ++ x ∷ []) → All P xs
-All-front P [] x all k d lt = absurd (omega (arith, lt))
-All-front P (y ∷ ys) x all zero d lt = all zero d (omega arith)
-All-front P (y ∷ ys) x all (suc k) d lt = All-front P ys x (λ j e below. all (suc j) e (omega (arith, below))) k d (omega (arith, lt))
+All-prefix : {X : Type 0} (P : X → Type 0) (xs : List X) (x : X) → All P (xs ++ x ∷ []) → All P xs
+All-prefix P [] x all k d lt = absurd (omega (arith, lt))
+All-prefix P (y ∷ ys) x all zero d lt = all zero d (omega arith)
+All-prefix P (y ∷ ys) x all (suc k) d lt = All-prefix P ys x (λ j e below. all (suc j) e (omega (arith, below))) k d (omega (arith, lt))
 
 All-back : {X : Type 0} (P : X → Type 0) (xs : List X) (x : X) → All P (xs ++ x ∷ []) → P x
 All-back P [] x all = all zero x (omega arith)
@@ -111,7 +111,7 @@ module _ (p : Program) (within : (x : ℕ) → x < length p.names → end_of p.n
   can_execute (Pass next) is nexts starts steps = nexts 0 next (omega arith)
   can_execute (Test cond if_true if_false) is nexts starts steps = (IsProper-expression p.names cond is.proper, nexts 0 if_true (omega arith), nexts 1 if_true (omega arith))
   can_execute (Sign value neg zero' pos') is nexts starts steps = (IsProper-expression p.names value is.proper, nexts 0 neg (omega arith), nexts 1 neg (omega arith), nexts 2 neg (omega arith))
-  can_execute (Pick value targets other) is nexts starts steps = (IsProper-expression p.names value is.0.proper, All-front (IsNext p) targets other nexts, All-back (IsNext p) targets other nexts)
+  can_execute (Pick value targets other) is nexts starts steps = (IsProper-expression p.names value is.0.proper, All-prefix (IsNext p) targets other nexts, All-back (IsNext p) targets other nexts)
   can_execute (DoStart loop_no var first last step body exit) is nexts starts steps = (
     loop-of loop_no var body exit (starts _ refl) is.variable nexts,
     IsProper-expression p.names first (is.integers 0 first (omega arith)).proper,

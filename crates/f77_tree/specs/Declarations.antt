@@ -68,7 +68,7 @@ pub record IsIntegerScalar (names : List NameInfo) (k : ℕ) : Type 0 where
 abbrev pub member_index : List NameInfo → Member → ℕ
 member_index names member = index_of names member.name
 
--- how far the element lies behind the first word of its name; a name alone is its first element
+-- how far the element lies after the first word of its name; a name alone is its first element
 abbrev pub member_offset : List NameInfo → Member → ℤ
 member_offset names member = offset_of (dims_of names (member_index names member)) member.subs
 

@@ -48,7 +48,7 @@ abbrev pub item_text : List NameInfo → List ℤ → Item → Result (List ℕ)
 item_text names store (Value e) = and_then (λ z. Ok (text_of (kind_of_expression names e) z)) (value names store None e)
 item_text names store (Chars text) = Ok text
 
--- a blank and an item in front of the rest of a line
+-- a blank and an item before the rest of a line
 abbrev pub item_before : Result (List ℕ) Trap → Result (List ℕ) Trap → Result (List ℕ) Trap
 item_before (Err trap) rest = Err trap
 item_before (Ok text) (Err trap) = Err trap
@@ -65,8 +65,8 @@ line_of names store items = line_of_texts (map (item_text names store) items)
 
 -- characters, and a line feed at the end
 pub record IsLine (line : List ℕ) : Type 0 where
-  pub front : List ℕ
-  pub is : line ≡ front ++ 10 ∷ []
+  pub prefix : List ℕ
+  pub is : line ≡ prefix ++ 10 ∷ []
 
 -- ---- the line of values that were taken before
 
@@ -82,16 +82,16 @@ text_with names (Value e) [] = []
 text_with names (Value e) (z ∷ values) = text_of (kind_of_expression names e) z
 text_with names (Chars text) values = text
 
--- the values that are still to come behind an item
-abbrev pub values_behind : Item → List ℤ → List ℤ
-values_behind (Value e) [] = []
-values_behind (Value e) (z ∷ values) = values
-values_behind (Chars text) values = values
+-- the values that are still to come after an item
+abbrev pub values_after : Item → List ℤ → List ℤ
+values_after (Value e) [] = []
+values_after (Value e) (z ∷ values) = values
+values_after (Chars text) values = values
 
 -- the line of these items, where their expressions have these values, one after another
 abbrev pub line_with : List NameInfo → List Item → List ℤ → List ℕ
 line_with names [] values = 10 ∷ []
-line_with names (item ∷ items) values = 32 ∷ (text_with names item values ++ line_with names items (values_behind item values))
+line_with names (item ∷ items) values = 32 ∷ (text_with names item values ++ line_with names items (values_after item values))
 
 -- ---- how long a line may be
 

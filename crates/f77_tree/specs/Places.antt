@@ -9,7 +9,7 @@ use Rattle.f77_tree.specs.Declarations.{part_names, member_index, member_offset}
 
 -- ---- equations
 
--- the first word of the name `to` lies so far behind the first word of the name `from`
+-- the first word of the name `to` lies so far after the first word of the name `from`
 pub record Equation : Type 0 where
   pub from : ℕ
   pub to : ℕ
@@ -63,7 +63,7 @@ pub record IsEarlier (all : List Equation) (x y : ℕ) : Type 0 where
 
 -- ---- places
 
--- where the words of a name end: the number of the word behind its last one
+-- where the words of a name end: the number of the word after its last one
 abbrev pub end_of : List NameInfo → ℕ → ℤ
 end_of names x = pos (place_of names x) +ℤ size_of (dims_of names x)
 
@@ -83,7 +83,7 @@ abbrev pub IsLowest : List NameInfo → List Equation → ℕ → Type 0
 IsLowest names all y = (z : ℕ) → z < length names → Linked all z y → place_of names y ≤ place_of names z
 
 -- the words of some name of an earlier storage end where y begins
-pub record BeginsBehind (names : List NameInfo) (all : List Equation) (y : ℕ) : Type 0 where
+pub record BeginsAfter (names : List NameInfo) (all : List Equation) (y : ℕ) : Type 0 where
   pub name : ℕ
   pub known : name < length names
   pub earlier : IsEarlier all name y
@@ -106,6 +106,6 @@ pub record ArePlaces (names : List NameInfo) (commons : List CommonPart) (all : 
   -- an earlier storage lies before a later one
   pub ordered : (x y : ℕ) → x < length names → y < length names → IsEarlier all x y → end_of names x ≤ℤ pos (place_of names y)
   -- a storage begins with the word 0, or where an earlier one ends
-  pub begins : (y : ℕ) → y < length names → IsLowest names all y → (place_of names y ≡ 0) ⊎ BeginsBehind names all y
+  pub begins : (y : ℕ) → y < length names → IsLowest names all y → (place_of names y ≡ 0) ⊎ BeginsAfter names all y
   -- the last storage ends with the last word
   pub ends : (words ≡ 0) ⊎ EndsAt names words

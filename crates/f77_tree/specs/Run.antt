@@ -87,10 +87,10 @@ pub record HasTrapped (run : ℕ → State) (trap : Trap) (text : List ℕ) : Ty
   pub trapped : (run steps).mark ≡ Trapped trap line
   pub whole : (run steps).out ≡ text
 
--- two runs print the same: what either has written is a front of what the other reaches; one ends exactly where the
+-- two runs print the same: what either has written is a prefix of what the other reaches; one ends exactly where the
 -- other ends, and traps exactly where the other traps, with the same kind and the same whole output
 pub record PrintAlike (a b : ℕ → State) : Type 0 where
-  pub front : (n : ℕ) → Reaches b (a n).out
+  pub prefix : (n : ℕ) → Reaches b (a n).out
   pub back : (n : ℕ) → Reaches a (b n).out
   pub ends : HasEnded a ↔ HasEnded b
   pub traps : (trap : Trap) (text : List ℕ) → HasTrapped a trap text ↔ HasTrapped b trap text

@@ -166,7 +166,7 @@ letters_of letters = map (λ r. record { kind = letters.kind; from = r.first; to
 abbrev pub are_letters : WrittenLetters → Bool
 are_letters letters = nat_lt 0 (length letters.ranges) && list_all is_range letters.ranges
 
--- the block of the names behind it: blank common, unsaid or as two strokes, or a named one
+-- the block of the names after it: blank common, unsaid or as two strokes, or a named one
 pub data WrittenBlock : Type 0 where
   Unsaid : WrittenBlock
   Blank : WrittenBlock
@@ -190,7 +190,7 @@ abbrev pub is_said : WrittenBlock → Bool
 is_said Unsaid = false
 is_said _ = true
 
--- names of a block, with a comma in front or without
+-- names of a block, with a leading comma or without
 pub record WrittenPart : Type 0 where
   pub comma : Bool
   pub block : WrittenBlock
@@ -283,7 +283,7 @@ is_value v = are_times v.times && is_constant v.constant
 abbrev pub value_is_bad : WrittenValue → Bool
 value_is_bad v = nat_lt greatest_constant (times_of v.times) || (times_of v.times == 0) || constant_is_great v.constant
 
--- items of DATA and their values, with a comma in front or without
+-- items of DATA and their values, with a leading comma or without
 pub record WrittenData : Type 0 where
   pub comma : Bool
   pub items : List WrittenMember
@@ -338,12 +338,12 @@ pub data PrintForm : Type 0 where
   Write_star : PrintForm
   Write_six : PrintForm
 
--- a comma in front of each
-abbrev pub behind_commas : List (List ℕ) → List ℕ
-behind_commas texts = flat_map (λ text. codes "," ++ text) texts
+-- a comma before each
+abbrev pub after_commas : List (List ℕ) → List ℕ
+after_commas texts = flat_map (λ text. codes "," ++ text) texts
 
 abbrev pub print_text : PrintForm → List (List ℕ) → List ℕ
-print_text Print_star items = codes "PRINT*" ++ behind_commas items
+print_text Print_star items = codes "PRINT*" ++ after_commas items
 print_text Write_star items = codes "WRITE(*,*)" ++ with_commas items
 print_text Write_six items = codes "WRITE(6,*)" ++ with_commas items
 
@@ -401,7 +401,7 @@ abbrev pub step_is_great : Option Written → Bool
 step_is_great None = false
 step_is_great (Some w) = has_great_number w
 
--- what stands behind the name of a subroutine: nothing, or names between brackets, of which there may be none
+-- what stands after the name of a subroutine: nothing, or names between brackets, of which there may be none
 abbrev pub names_text : Option (List (List ℕ)) → List ℕ
 names_text None = []
 names_text (Some names) = in_brackets (with_commas names)
@@ -620,7 +620,7 @@ pub record IsGiven (stmt : Stmt) : Type 0 where
   pub printable : IsTrue (list_all is_printable text)
   pub is_read : IsReadAs text stmt
 
--- a statement of subroutines, alone or behind a condition
+-- a statement of subroutines, alone or after a condition
 abbrev pub is_of_subroutines : Stmt → Bool
 is_of_subroutines (Sub name dummies) = true
 is_of_subroutines (CallTo name arguments) = true

@@ -1,7 +1,7 @@
 -- The value of an expression over a store, and the word that an access names.
 --
 -- Contracts see the operands of an expression, and the subscripts of an access, as a list: `Apply op args`,
--- `Read access`. A definition that goes into them takes them as a row, which is what lies behind the list: `Apply' op
+-- `Read access`. A definition that goes into them takes them as a row, which is what lies after the list: `Apply' op
 -- shape row`, `Read' name shape row`. A row ends at `end_of-Expr`, and `more_of-Expr e rest` has e before the rest; its
 -- shape says how long it is, and nothing more.
 use Rattle.std.specs.Prelude.{◌≡◌, ℕ, suc, ◌<◌, ◌≤◌, ℤ, pos, ◌+ℤ◌, ◌-ℤ◌, ◌*ℤ◌, ◌≤ℤ◌, nat_abs, List, [], ◌∷◌, length, map, Option, Some, None, Result, Ok, Err, slice_get, unwrap_or, ok_or, All}
@@ -66,7 +66,7 @@ abbrev pub and_then : {A B : Type 0} → (A → Result B Trap) → Result A Trap
 and_then f (Err trap) = Err trap
 and_then f (Ok x) = f x
 
--- one value more in front, unless an operand traps
+-- one value more first, unless an operand traps
 abbrev pub value_before : Result ℤ Trap → Result (List ℤ) Trap → Result (List ℤ) Trap
 value_before (Err trap) more = Err trap
 value_before (Ok z) (Err trap) = Err trap

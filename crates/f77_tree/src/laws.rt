@@ -75,7 +75,7 @@ pub fn ranges_have_counts()
     ensures entered { (p : Program) (input : List ℤ) (n k : ℕ) (exec : Exec) (m : Memory) → AreLoops p.execs p.loops → n < p.loops → slice_get p.execs k ≡ Some exec → IsMemoryOf p input m → (InRange p.execs n k → ⊥) → IfGoes (outcome p.names input m exec.kind) (λ next new text. InRange p.execs n next → (k ≡ do_start p.execs n) × (1 ≤ slice_index new.counts n)) }
 {}
 
-/// Names behind those of a table leave the values, the words and the outcomes of what the table fits.
+/// Names after those of a table leave the values, the words and the outcomes of what the table fits.
 pub fn longer_tables_agree()
     ensures values { (names more : List NameInfo) (store : List ℤ) (next : Option ℤ) (e : Expr) → IsExpression names e → value (names ++ more) store next e ≡ value names store next e }
     ensures places { (names more : List NameInfo) (store : List ℤ) (next : Option ℤ) (access : Access) → IsAccess names access → place (names ++ more) store next access ≡ place names store next access }

@@ -20,8 +20,8 @@ with_count : (nodes : List ℕ) (k : ℕ) (ready : Bool) → length (with_if nod
 with_count nodes k true = length-append nodes (k ∷ [])
 with_count nodes k false = ap length (append-nil nodes) ∙ omega arith
 
-with_front : (nodes : List ℕ) (k : ℕ) (ready : Bool) (i : ℕ) → i < length nodes → get_or (with_if nodes k ready) i 0 ≡ get_or nodes i 0
-with_front nodes k ready i lt = get_or_append_left nodes (if ready then k ∷ [] else []) 0 i lt
+with_prefix : (nodes : List ℕ) (k : ℕ) (ready : Bool) (i : ℕ) → i < length nodes → get_or (with_if nodes k ready) i 0 ≡ get_or nodes i 0
+with_prefix nodes k ready i lt = get_or_append_left nodes (if ready then k ∷ [] else []) 0 i lt
 
 module _ {M : Type 0} {s : Moves M} {m : M} {marks : List Bool} (are : AreReadyMarks s m marks) where
   ready_count : (n : ℕ) → n ≤ s.nodes → length (ready_below s m n) ≡ rank marks n
@@ -47,7 +47,7 @@ module _ {M : Type 0} {s : Moves M} {m : M} {marks : List Bool} (are : AreReadyM
       let count = ready_count n (omega (arith, le)) in
       let more = rank_member marks k k n (are.right k (omega (arith, le, lt)) ∙ ready) (omega arith) below in
       omega (arith, count, more) in
-      with_front (ready_below s m n) n (s.ready m n) (rank marks k) inside ∙ ready_place n k (omega (arith, le)) below ready)
+      with_prefix (ready_below s m n) n (s.ready m n) (rank marks k) inside ∙ ready_place n k (omega (arith, le)) below ready)
       (cases_eq k n)
 
   marked_is : (k : ℕ) → k < s.nodes → has marks k ≡ true → s.ready m k ≡ true

@@ -3,7 +3,7 @@ use Rattle.std.proofs.Common.{◌≡◌, ◌≢◌, ℕ, ◌+◌, ◌++◌, ◌�
 use Rattle.std.proofs.lemmas.Bool.{cases_eq, cases_Bool}
 use Rattle.firing.specs.Laws.{IsLawful}
 use Rattle.firing.specs.Moves.{Moves, CanFire, line_bytes}
-use Rattle.firing.specs.Orders.{IsOrder, IsPrefix, IsBehind, after, counted, serial_count, written}
+use Rattle.firing.specs.Orders.{IsOrder, IsPrefix, WritesPrefixOf, after, counted, serial_count, written}
 use Rattle.firing.proofs.Pulling.{FiresIn, FiresBeside, are_ready, still, swapped, beside_trap, pulled}
 use Rattle.firing.proofs.Resting.{none_before}
 use Rattle.firing.proofs.Trapping.{cases_trap}
@@ -30,7 +30,7 @@ module _ {M : Type 0} (sound : M → Type 0) (s : Moves M) (lawful : IsLawful so
           (λ (serial : s.serial j ≡ false). let here : counted (s.serial j) ≡ 0 = ap counted serial in omega (arith, here, next))
           (cases_Bool (s.serial j))
 
-  -- a line more in front of both
+  -- a line more before both
   prefix_after : (line a b c : List ℕ) → line ++ b ≡ c → IsPrefix a b → IsPrefix (line ++ a) c
   prefix_after line a b c is p = record { more = p.more; is = sym is ∙ ap (λ bytes. line ++ bytes) p.is ∙ sym (append_assoc line a p.more) }
 
@@ -41,34 +41,34 @@ module _ {M : Type 0} (sound : M → Type 0) (s : Moves M) (lawful : IsLawful so
       (cases_Bool (s.serial k))
 
   -- the other order holds the first firing
-  behind-in : (m : M) (k : ℕ) (ks others : List ℕ) (fires : FiresIn s m k others) → IsBehind s (s.fired m k) ks fires.rest → IsBehind s m (k ∷ ks) others
-  behind-in m k ks others fires b = record { no_trap = b.no_trap; prefix = prefix_after (line_bytes (s.line m k)) (written s (s.fired m k) ks) (written s (s.fired m k) fires.rest) (written s m others) fires.lines b.prefix }
+  after-in : (m : M) (k : ℕ) (ks others : List ℕ) (fires : FiresIn s m k others) → WritesPrefixOf s (s.fired m k) ks fires.rest → WritesPrefixOf s m (k ∷ ks) others
+  after-in m k ks others fires b = record { no_trap = b.no_trap; prefix = prefix_after (line_bytes (s.line m k)) (written s (s.fired m k) ks) (written s (s.fired m k) fires.rest) (written s m others) fires.lines b.prefix }
 
   -- it doesn't, and the first firing isn't serial
-  behind-beside : (m : M) (k : ℕ) (ks others : List ℕ) → sound m → CanFire s m k → s.serial k ≡ false → FiresBeside s m k others → IsBehind s (s.fired m k) ks others → IsBehind s m (k ∷ ks) others
-  behind-beside m k ks others is_sound can not fires b =
+  after-beside : (m : M) (k : ℕ) (ks others : List ℕ) → sound m → CanFire s m k → s.serial k ≡ false → FiresBeside s m k others → WritesPrefixOf s (s.fired m k) ks others → WritesPrefixOf s m (k ∷ ks) others
+  after-beside m k ks others is_sound can not fires b =
       let same : line_bytes (s.line m k) ++ written s (s.fired m k) others ≡ written s m others = ap (λ l. line_bytes l ++ written s (s.fired m k) others) (lawful.silent m k is_sound can not).line ∙ fires.same_lines in
       record { no_trap = b.no_trap; prefix = prefix_after (line_bytes (s.line m k)) (written s (s.fired m k) ks) (written s (s.fired m k) others) (written s m others) same b.prefix }
 
-  pub behind : (m : M) (ks others : List ℕ) → sound m → IsOrder s m ks → IsOrder s m others → s.trap (after s m others) ≡ None → serial_count s ks ≤ serial_count s others → IsBehind s m ks others
-  behind m [] others is_sound order other none le = record { no_trap = none_before s m others other none; prefix = record { more = written s m others; is = refl } }
-  behind m (k ∷ ks) others is_sound (can, order) other none le = ⊎_elim (goes_on (λ apart mine there fewer. behind (s.fired m k) ks apart next order mine there fewer)) blocked (cases_trap s (s.trap (s.fired m k)))
+  pub writes_prefix : (m : M) (ks others : List ℕ) → sound m → IsOrder s m ks → IsOrder s m others → s.trap (after s m others) ≡ None → serial_count s ks ≤ serial_count s others → WritesPrefixOf s m ks others
+  writes_prefix m [] others is_sound order other none le = record { no_trap = none_before s m others other none; prefix = record { more = written s m others; is = refl } }
+  writes_prefix m (k ∷ ks) others is_sound (can, order) other none le = ⊎_elim (goes_on (λ apart mine there fewer. writes_prefix (s.fired m k) ks apart next order mine there fewer)) blocked (cases_trap s (s.trap (s.fired m k)))
     where
       next : sound (s.fired m k)
       next = lawful.stays_sound m k is_sound can
 
-      goes_on : ((apart : List ℕ) → IsOrder s (s.fired m k) apart → s.trap (after s (s.fired m k) apart) ≡ None → serial_count s ks ≤ serial_count s apart → IsBehind s (s.fired m k) ks apart) → s.trap (s.fired m k) ≡ None → IsBehind s m (k ∷ ks) others
+      goes_on : ((apart : List ℕ) → IsOrder s (s.fired m k) apart → s.trap (after s (s.fired m k) apart) ≡ None → serial_count s ks ≤ serial_count s apart → WritesPrefixOf s (s.fired m k) ks apart) → s.trap (s.fired m k) ≡ None → WritesPrefixOf s m (k ∷ ks) others
       goes_on further quiet = ⊎_elim
-          (λ (fires : FiresIn s m k others). behind-in m k ks others fires (further fires.rest fires.order (ap s.trap fires.is ∙ none) (omega (arith, le, fires.serials))))
+          (λ (fires : FiresIn s m k others). after-in m k ks others fires (further fires.rest fires.order (ap s.trap fires.is ∙ none) (omega (arith, le, fires.serials))))
           (λ (fires : FiresBeside s m k others).
           let not : s.serial k ≡ false = ⊎_elim
           (λ (serial : s.serial k ≡ true). let zero_others = fires.alone serial in is_serial k (serial_count s ks) (omega (arith, le, zero_others)))
           (λ (no : s.serial k ≡ false). no)
           (cases_Bool (s.serial k)) in
-          behind-beside m k ks others is_sound can not fires (further others fires.order (fires.same_trap ∙ none) (omega (arith, le))))
+          after-beside m k ks others is_sound can not fires (further others fires.order (fires.same_trap ∙ none) (omega (arith, le))))
           (pulled sound s lawful m k others is_sound can quiet other)
 
-      blocked : s.trap (s.fired m k) ≢ None → IsBehind s m (k ∷ ks) others
+      blocked : s.trap (s.fired m k) ≢ None → WritesPrefixOf s m (k ∷ ks) others
       blocked traps =
           let zero_others = no_serial m k others is_sound can traps other none in
           let not = is_serial k (serial_count s ks) (omega (arith, le, zero_others)) in

@@ -114,14 +114,14 @@ module _ {M P : Type 0} (s : Moves M) (course : Course M P) where
     module _ (show : Show) (old new : Option (List ℕ)) where
       broken_same : (n : ℕ) → BreaksOff by_lowest show lost n old new → BreaksOff own show lost n old new
       broken_same n b =
-          let front = ap (λ bytes. bytes ++ take b.count (shown_at by_lowest show lost b.last)) (same_shown show b.last) in
+          let prefix = ap (λ bytes. bytes ++ take b.count (shown_at by_lowest show lost b.last)) (same_shown show b.last) in
           let last = ap (λ bytes. shown own show lost b.last ++ take b.count bytes) (same_at show b.last) in
           record {
             last = b.last;
             is = b.is;
             count = b.count;
             within = subst (λ bytes. b.count ≤ length bytes) (same_at show b.last) b.within;
-            written = subst (Appends old new) (front ∙ last) b.written;
+            written = subst (Appends old new) (prefix ∙ last) b.written;
           }
 
       writes_same : (n : ℕ) (result : PlayEnd) → Writes by_lowest show lost n old new result → Writes own show lost n old new result

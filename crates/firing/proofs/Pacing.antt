@@ -1,11 +1,11 @@
--- Where one order keeps pace with a source, every order follows it.
+-- Where one order stays in lockstep with a source, every order follows it.
 use Rattle.std.proofs.Common.{◌≡◌, ◌≢◌, ◌⊎◌, inl, inr, ℕ, suc, ◌≤◌, Bool, true, false, List, [], ◌∷◌, length, Some, None, refl, sym, ap, subst, ◌∙◌, arith}
 use Rattle.op_table.specs.declared.Trap.{Trap}
 use Rattle.firing.specs.Laws.{IsLawful}
 use Rattle.firing.specs.Moves.{Moves}
-use Rattle.firing.specs.Orders.{IsOrder, IsOver, IsWhole, IsPrefix, IsBehind, Settles, Traps, after, counted, serial_count, written}
-use Rattle.firing.specs.Pacing.{Stage, Going, Done, Failed, StandsAt, IsBusy, IsPaced, WritesFront, EndsWith, TrapsWith, FollowsSource}
-use Rattle.firing.proofs.Counting.{behind}
+use Rattle.firing.specs.Orders.{IsOrder, IsOver, IsWhole, IsPrefix, WritesPrefixOf, Settles, Traps, after, counted, serial_count, written}
+use Rattle.firing.specs.Pacing.{Stage, Going, Done, Failed, StandsAt, IsBusy, IsSimulation, WritesPrefix, EndsWith, TrapsWith, FollowsSource}
+use Rattle.firing.proofs.Counting.{writes_prefix}
 use Rattle.firing.proofs.Resting.{settles}
 use Rattle.firing.proofs.Trapping.{some_traps, traps}
 
@@ -36,18 +36,18 @@ is_stage Going = IsGoing refl
 is_stage Done = IsDone refl
 is_stage (Failed trap) = IsFailed trap refl
 
-module _ {M : Type 0} (sound : M → Type 0) (s : Moves M) (lawful : IsLawful sound s) (start : M) (text : ℕ → List ℕ) (stage : ℕ → Stage) (own : ℕ → List ℕ) (is_sound : sound start) (paced : IsPaced s start text stage own) where
+module _ {M : Type 0} (sound : M → Type 0) (s : Moves M) (lawful : IsLawful sound s) (start : M) (text : ℕ → List ℕ) (stage : ℕ → Stage) (own : ℕ → List ℕ) (is_sound : sound start) (simulated : IsSimulation s start text stage own) where
   quiet : (n : ℕ) → stage n ≡ Going → s.trap (after s start (own n)) ≡ None
-  quiet n is = subst (StandsAt s (after s start (own n))) is (paced.stands n)
+  quiet n is = subst (StandsAt s (after s start (own n))) is (simulated.stands n)
 
   done : (n : ℕ) → stage n ≡ Done → (s.trap (after s start (own n)) ≡ None) × IsOver s (after s start (own n))
-  done n is = subst (StandsAt s (after s start (own n))) is (paced.stands n)
+  done n is = subst (StandsAt s (after s start (own n))) is (simulated.stands n)
 
   failed : (n : ℕ) (trap : Trap × ℕ) → stage n ≡ Failed trap → s.trap (after s start (own n)) ≡ Some trap
-  failed n trap is = subst (StandsAt s (after s start (own n))) is (paced.stands n)
+  failed n trap is = subst (StandsAt s (after s start (own n))) is (simulated.stands n)
 
   whole_own : (n : ℕ) → (s.trap (after s start (own n)) ≡ None) × IsOver s (after s start (own n)) → IsWhole s start (own n)
-  whole_own n (none, over) = record { order = paced.order n; over = over }
+  whole_own n (none, over) = record { order = simulated.order n; over = over }
 
   none_own : (n : ℕ) → (s.trap (after s start (own n)) ≡ None) × IsOver s (after s start (own n)) → s.trap (after s start (own n)) ≡ None
   none_own n (none, over) = none
@@ -56,11 +56,11 @@ module _ {M : Type 0} (sound : M → Type 0) (s : Moves M) (lawful : IsLawful so
   settled n is = settles sound s lawful start (own n) is_sound (whole_own n (done n is)) (none_own n (done n is))
 
   trapped : (n : ℕ) (trap : Trap × ℕ) → stage n ≡ Failed trap → Traps s start trap
-  trapped n trap is = traps sound s lawful trap start (own n) is_sound (paced.order n) (failed n trap is)
+  trapped n trap is = traps sound s lawful trap start (own n) is_sound (simulated.order n) (failed n trap is)
 
   own_output : (n : ℕ) (trap : Trap × ℕ) (is : stage n ≡ Failed trap) → (trapped n trap is).output ≡ written s start (own n)
   own_output n trap is =
-      let whole : IsWhole s start (own n) = record { order = paced.order n; over = over_trap s (after s start (own n)) trap (failed n trap is) } in
+      let whole : IsWhole s start (own n) = record { order = simulated.order n; over = over_trap s (after s start (own n)) trap (failed n trap is) } in
       sym ((trapped n trap is).same_output (own n) whole)
 
   -- an order that makes no fewer serial firings than these
@@ -68,24 +68,24 @@ module _ {M : Type 0} (sound : M → Type 0) (s : Moves M) (lawful : IsLawful so
   caught_up n count is (inl stopped) = absurd (stopped is)
   caught_up n count is (inr enough) = enough
 
-  ahead : (n : ℕ) (ks : List ℕ) → IsOrder s start ks → stage n ≡ Going → serial_count s ks ≤ serial_count s (own n) → IsBehind s start ks (own n)
-  ahead n ks order is fewer = behind sound s lawful start ks (own n) is_sound order (paced.order n) (quiet n is) fewer
+  ahead : (n : ℕ) (ks : List ℕ) → IsOrder s start ks → stage n ≡ Going → serial_count s ks ≤ serial_count s (own n) → WritesPrefixOf s start ks (own n)
+  ahead n ks order is fewer = writes_prefix sound s lawful start ks (own n) is_sound order (simulated.order n) (quiet n is) fewer
 
-  front-by : (ks : List ℕ) → IsOrder s start ks → (b : IsBusy s own stage (serial_count s ks)) → IsStage (stage b.at) → WritesFront text (written s start ks)
-  front-by ks order b (IsGoing is) = record { steps = b.at; prefix = subst (λ bytes. IsPrefix (written s start ks) bytes) (paced.lines b.at) (ahead b.at ks order is (caught_up b.at (serial_count s ks) is b.enough)).prefix }
-  front-by ks order b (IsDone is) = record { steps = b.at; prefix = subst (λ bytes. IsPrefix (written s start ks) bytes) (sym ((settled b.at is).same_output (own b.at) (paced.order b.at) refl) ∙ paced.lines b.at) ((settled b.at is).prefix ks order) }
-  front-by ks order b (IsFailed trap is) = record { steps = b.at; prefix = subst (λ bytes. IsPrefix (written s start ks) bytes) (own_output b.at trap is ∙ paced.lines b.at) ((trapped b.at trap is).prefix ks order) }
+  prefix-by : (ks : List ℕ) → IsOrder s start ks → (b : IsBusy s own stage (serial_count s ks)) → IsStage (stage b.at) → WritesPrefix text (written s start ks)
+  prefix-by ks order b (IsGoing is) = record { steps = b.at; prefix = subst (λ bytes. IsPrefix (written s start ks) bytes) (simulated.lines b.at) (ahead b.at ks order is (caught_up b.at (serial_count s ks) is b.enough)).prefix }
+  prefix-by ks order b (IsDone is) = record { steps = b.at; prefix = subst (λ bytes. IsPrefix (written s start ks) bytes) (sym ((settled b.at is).same_output (own b.at) (simulated.order b.at) refl) ∙ simulated.lines b.at) ((settled b.at is).prefix ks order) }
+  prefix-by ks order b (IsFailed trap is) = record { steps = b.at; prefix = subst (λ bytes. IsPrefix (written s start ks) bytes) (own_output b.at trap is ∙ simulated.lines b.at) ((trapped b.at trap is).prefix ks order) }
 
   rests-by : (ks : List ℕ) → IsWhole s start ks → s.trap (after s start ks) ≡ None → (b : IsBusy s own stage (suc (length ks))) → IsStage (stage b.at) → EndsWith s start text stage own ks
   rests-by ks whole none b (IsGoing is) =
-      let at_most = (settles sound s lawful start ks is_sound whole none).at_most (own b.at) (paced.order b.at) in
+      let at_most = (settles sound s lawful start ks is_sound whole none).at_most (own b.at) (simulated.order b.at) in
       let enough = caught_up b.at (suc (length ks)) is b.enough in
       let serials = serials_at_most s (own b.at) in
       absurd (omega (arith, at_most, enough, serials))
   rests-by ks whole none b (IsDone is) =
       let all = settled b.at is in
       let count = all.whole ks whole in
-      record { steps = b.at; done = is; count = count; is = all.same_end ks whole.order count; lines = all.same_output ks whole.order count ∙ sym (all.same_output (own b.at) (paced.order b.at) refl) ∙ paced.lines b.at }
+      record { steps = b.at; done = is; count = count; is = all.same_end ks whole.order count; lines = all.same_output ks whole.order count ∙ sym (all.same_output (own b.at) (simulated.order b.at) refl) ∙ simulated.lines b.at }
   rests-by ks whole none b (IsFailed trap is) = absurd (some_traps s (s.trap (after s start ks)) trap ((trapped b.at trap is).same_trap ks whole) none)
 
   traps-by : (ks : List ℕ) (trap : Trap × ℕ) → IsOrder s start ks → s.trap (after s start ks) ≡ Some trap → (b : IsBusy s own stage (serial_count s ks)) → IsStage (stage b.at) → TrapsWith text stage trap (written s start ks)
@@ -95,13 +95,13 @@ module _ {M : Type 0} (sound : M → Type 0) (s : Moves M) (lawful : IsLawful so
       let whole : IsWhole s start ks = record { order = order; over = over_trap s (after s start ks) trap is_trap } in
       let all = trapped b.at other is in
       let same : other ≡ trap = same_some other trap (sym (all.same_trap ks whole) ∙ is_trap) in
-      record { steps = b.at; failed = is ∙ ap Failed same; lines = all.same_output ks whole ∙ own_output b.at other is ∙ paced.lines b.at }
+      record { steps = b.at; failed = is ∙ ap Failed same; lines = all.same_output ks whole ∙ own_output b.at other is ∙ simulated.lines b.at }
 
   pub follows : FollowsSource s start text stage own
   follows = record {
-    front = λ ks order. let b = paced.busy (serial_count s ks) in front-by ks order b (is_stage (stage b.at));
-    rests = λ ks order over none. let b = paced.busy (suc (length ks)) in rests-by ks (record { order = order; over = over }) none b (is_stage (stage b.at));
-    traps = λ ks trap order is. let b = paced.busy (serial_count s ks) in traps-by ks trap order is b (is_stage (stage b.at));
+    prefix = λ ks order. let b = simulated.busy (serial_count s ks) in prefix-by ks order b (is_stage (stage b.at));
+    rests = λ ks order over none. let b = simulated.busy (suc (length ks)) in rests-by ks (record { order = order; over = over }) none b (is_stage (stage b.at));
+    traps = λ ks trap order is. let b = simulated.busy (serial_count s ks) in traps-by ks trap order is b (is_stage (stage b.at));
     ends = settled;
     fails = trapped;
   }

@@ -3,7 +3,7 @@ use Rattle.std.proofs.Common.{◌≡◌, ℕ, suc, ◌+◌, ◌<◌, ◌≤◌, 
 use Rattle.std.proofs.lemmas.Bool.{cases_eq}
 use Rattle.std.proofs.KnownBytes.{Appends-nil, Appends-trans}
 use Rattle.std.specs.Io.KnownBytes.{Appends}
-use Rattle.df_io.specs.Write.{AppendsFront}
+use Rattle.df_io.specs.Write.{AppendsPrefix}
 use Rattle.op_table.specs.declared.Trap.{Trap}
 use Rattle.firing.specs.declared.playing.PlayEnd.TheVariants.{Rest, Trapped, Limit, WriteFault}
 use Rattle.firing.specs.declared.playing.Show.{Show}
@@ -57,8 +57,8 @@ module _ {M P : Type 0} (w : Way M P) (start : Moment M P) where
         written = Appends-trans old mid new (shown w show start made) (shown_at w show start made) run.written (subst (Appends mid new) shows added);
       })
 
-      pub run_breaks : {then : Moment M P} {new : Option (List ℕ)} → then ≡ next w now k → AppendsFront mid new (shown_of w.moves show now.marking k) → Plays w start limit show then old new (WriteFault (made + 1))
-      run_breaks {then} {new} is front = record {
+      pub run_breaks : {then : Moment M P} {new : Option (List ℕ)} → then ≡ next w now k → AppendsPrefix mid new (shown_of w.moves show now.marking k) → Plays w start limit show then old new (WriteFault (made + 1))
+      run_breaks {then} {new} is prefix = record {
         firings = suc made;
         leads = moves_on then is;
         going = goes;
@@ -67,9 +67,9 @@ module _ {M P : Type 0} (w : Way M P) (start : Moment M P) where
         writes = record {
           last = made;
           is = refl;
-          count = front.count;
-          within = subst (λ bytes. front.count ≤ length bytes) shows front.within;
-          written = Appends-trans old mid new (shown w show start made) (take front.count (shown_at w show start made)) run.written (subst (λ bytes. Appends mid new (take front.count bytes)) shows front.added);
+          count = prefix.count;
+          within = subst (λ bytes. prefix.count ≤ length bytes) shows prefix.within;
+          written = Appends-trans old mid new (shown w show start made) (take prefix.count (shown_at w show start made)) run.written (subst (λ bytes. Appends mid new (take prefix.count bytes)) shows prefix.added);
         };
       }
 
@@ -115,8 +115,8 @@ module _ {N M : Type 0} (moves : N → Moves M) {net other : N} (same : other �
     pub appends_told : Appends old new (shown_of (moves other) show m k) → Appends old new (shown_of (moves net) show m k)
     appends_told is = subst (λ n. Appends old new (shown_of (moves n) show m k)) same is
 
-    pub front_told : AppendsFront old new (shown_of (moves other) show m k) → AppendsFront old new (shown_of (moves net) show m k)
-    front_told is = subst (λ n. AppendsFront old new (shown_of (moves n) show m k)) same is
+    pub prefix_told : AppendsPrefix old new (shown_of (moves other) show m k) → AppendsPrefix old new (shown_of (moves net) show m k)
+    prefix_told is = subst (λ n. AppendsPrefix old new (shown_of (moves n) show m k)) same is
 
 pub moment_told : {N M P : Type 0} (moves : N → Moves M) (course : N → Course M P) {net other : N} {m then : M} (c : Option P) {later : Option P} {k : ℕ} → other ≡ net → then ≡ (moves other).fired m k → later ≡ steered (course other) m c k → moment then later ≡ moment ((moves net).fired m k) (steered (course net) m c k)
 moment_told moves course {net} {other} {m} {then} c {later} {k} same first second =

@@ -64,7 +64,7 @@ module _ {M : Type 0} (sound : M → Type 0) (s : Moves M) (lawful : IsLawful so
       ∙ sym (swap_lines m j k more both)
       ∙ ap (λ l. line_bytes (s.line m j) ++ (line_bytes l ++ more)) (sym (lawful.same_line m j k both none_j))
 
-  -- ---- one firing more in front
+  -- ---- one firing more first
 
   in-first : (m : M) (k : ℕ) (ks : List ℕ) → IsOrder s m (k ∷ ks) → FiresIn s m k (k ∷ ks)
   in-first m k ks (can, order) = record { rest = ks; order = order; count = refl; is = refl; serials = refl; lines = refl }

@@ -6,12 +6,12 @@ use Rattle.firing.specs.Orders.{IsOrder, IsOver, IsWhole, Settles, after, writte
 use Rattle.firing.proofs.Pulling.{FiresIn, FiresBeside, pulled}
 
 -- firings that lead on to this marking, so many with those before, with this output where that was written before
-pub record Remains {M : Type 0} (s : Moves M) (m : M) (before n : ℕ) (end : M) (front output : List ℕ) : Type 0 where
+pub record Remains {M : Type 0} (s : Moves M) (m : M) (before n : ℕ) (end : M) (prefix output : List ℕ) : Type 0 where
   pub rest : List ℕ
   pub order : IsOrder s m rest
   pub count : before + length rest ≡ n
   pub is : after s m rest ≡ end
-  pub lines : front ++ written s m rest ≡ output
+  pub lines : prefix ++ written s m rest ≡ output
 
 module _ {M : Type 0} (s : Moves M) where
   -- nothing has trapped before the end of an order that ends without a trap
@@ -28,9 +28,9 @@ module _ {M : Type 0} (s : Moves M) where
   no_more m end (k ∷ rest) none is = absurd (omega (arith, none))
 
 module _ {M : Type 0} (sound : M → Type 0) (s : Moves M) (lawful : IsLawful sound s) where
-  no_more_lines : (m : M) (rest front output : List ℕ) → length rest ≡ 0 → front ++ written s m rest ≡ output → front ≡ output
-  no_more_lines m [] front output none is = sym (append-nil front) ∙ is
-  no_more_lines m (k ∷ rest) front output none is = absurd (omega (arith, none))
+  no_more_lines : (m : M) (rest prefix output : List ℕ) → length rest ≡ 0 → prefix ++ written s m rest ≡ output → prefix ≡ output
+  no_more_lines m [] prefix output none is = sym (append-nil prefix) ∙ is
+  no_more_lines m (k ∷ rest) prefix output none is = absurd (omega (arith, none))
 
   remains-none : (m end : M) (ks : List ℕ) → m ≡ end → ks ≡ [] → Remains s (after s m ks) (length ks) 0 end (written s m ks) []
   remains-none m end [] is none = record { rest = []; order = tt; count = refl; is = is; lines = refl }

@@ -73,9 +73,9 @@ module _ {M P : Type 0} (s : Moves M) (course : Course M P) (before after : ℕ 
     ends_later b n Limit (is, can) = (ap (λ i. a + i) is, fires_later n can)
     ends_later b n (WriteFault count) is = ap (λ i. a + i) is
 
-    module _ (show : Show) (old got new : Option (List ℕ)) (front : Appends old got (shown first show start a)) where
+    module _ (show : Show) (old got new : Option (List ℕ)) (prefix : Appends old got (shown first show start a)) where
       adds_later : (n : ℕ) → Appends got new (shown later show there n) → Appends old new (shown first show start (a + n))
-      adds_later n more = subst (Appends old new) (sym (shows show n)) (Appends-trans old got new (shown first show start a) (shown later show there n) front more)
+      adds_later n more = subst (Appends old new) (sym (shows show n)) (Appends-trans old got new (shown first show start a) (shown later show there n) prefix more)
 
       breaks_later : (n : ℕ) → BreaksOff later show there n got new → BreaksOff first show start (a + n) old new
       breaks_later n broken =
@@ -90,7 +90,7 @@ module _ {M P : Type 0} (s : Moves M) (course : Course M P) (before after : ℕ 
             is = ap (λ j. a + j) broken.is ∙ one_more i;
             count = broken.count;
             within = subst (λ bytes. broken.count ≤ length bytes) (sym (shows_at show i)) broken.within;
-            written = subst (Appends old new) same (Appends-trans old got new (shown first show start a) (shown later show there i ++ part) front broken.written);
+            written = subst (Appends old new) same (Appends-trans old got new (shown first show start a) (shown later show there i ++ part) prefix broken.written);
           }
 
       writes_later : (n : ℕ) (result : PlayEnd) → Writes later show there n got new result → Writes first show start (a + n) old new (further a result)
@@ -104,7 +104,7 @@ module _ {M P : Type 0} (s : Moves M) (course : Course M P) (before after : ℕ 
         let all : run.firings ≡ a = run.ends.0 in
         let at : mid ≡ there = run.leads ∙ ap (played first start) all in
         let rest : Plays later there b show end got new result = subst (λ x. Plays later x b show end got new result) at more in
-        let front : Appends old got (shown first show start a) = subst (λ n. Appends old got (shown first show start n)) all run.writes in
+        let prefix : Appends old got (shown first show start a) = subst (λ n. Appends old got (shown first show start n)) all run.writes in
         let bounded = rest.bounded in
         record {
           firings = a + rest.firings;
@@ -112,7 +112,7 @@ module _ {M P : Type 0} (s : Moves M) (course : Course M P) (before after : ℕ 
           going = fires_all rest.firings (λ j lt. run.going j (omega (arith, lt, all))) rest.going;
           bounded = omega (arith, bounded);
           ends = ends_later b rest.firings result rest.ends;
-          writes = writes_later show old got new front rest.firings result rest.writes;
+          writes = writes_later show old got new prefix rest.firings result rest.writes;
         }
 
     goes_on : GoesOn first start a later
@@ -134,24 +134,24 @@ module _ (picks : List ℕ) (some : 0 < length picks) (a : ℕ) where
   turned_length =
       let less = moved_less in
       let all = length-append (drop moved picks) (take moved picks) in
-      let behind = back in
-      let front = length-take-le moved picks (omega (arith, less)) in
-      omega (arith, all, behind, front, less)
+      let gone = back in
+      let prefix = length-take-le moved picks (omega (arith, less)) in
+      omega (arith, all, gone, prefix, less)
 
   -- the place j after the turn, where it is before the end
   turned_back : (j : ℕ) → moved + j < length picks → get_or (turned a picks) j 0 ≡ get_or picks ((moved + j) % length picks) 0
   turned_back j lt =
-      let inside : j < length (drop moved picks) = let behind = back in omega (arith, behind, lt) in
+      let inside : j < length (drop moved picks) = let gone = back in omega (arith, gone, lt) in
       get_or_append_left (drop moved picks) (take moved picks) 0 j inside
       ∙ get_or-drop moved picks j 0
       ∙ ap (λ i. get_or picks i 0) (sym (mod-eq_of_lt lt))
 
   -- and where it is e after the end
-  turned_front : (j e : ℕ) → j < length picks → moved + j ≡ length picks + e → get_or (turned a picks) j 0 ≡ get_or picks ((moved + j) % length picks) 0
-  turned_front j e lt is =
+  turned_prefix : (j e : ℕ) → j < length picks → moved + j ≡ length picks + e → get_or (turned a picks) j 0 ≡ get_or picks ((moved + j) % length picks) 0
+  turned_prefix j e lt is =
       let less = moved_less in
-      let behind = back in
-      let at : j ≡ length (drop moved picks) + e = omega (arith, behind, less, is) in
+      let gone = back in
+      let at : j ≡ length (drop moved picks) + e = omega (arith, gone, less, is) in
       let small : e < moved = omega (arith, lt, is) in
       let there : (moved + j) % length picks ≡ e = ap (λ i. i % length picks) is ∙ add-mod_left (length picks) e ∙ mod-eq_of_lt (omega (arith, less, small)) in
       ap (λ i. get_or (turned a picks) i 0) at
@@ -162,7 +162,7 @@ module _ (picks : List ℕ) (some : 0 < length picks) (a : ℕ) where
   turned_place : (j : ℕ) → j < length picks → get_or (turned a picks) j 0 ≡ get_or picks ((moved + j) % length picks) 0
   turned_place j lt = ⊎_elim
       (λ inside. turned_back j inside)
-      (λ beyond. turned_front j (moved + j - length picks) lt (omega (arith, beyond)))
+      (λ beyond. turned_prefix j (moved + j - length picks) lt (omega (arith, beyond)))
       (cases_lt (moved + j) (length picks))
 
   turned_at : (i : ℕ) → slice_index picks ((a + i) % length picks) ≡ slice_index (turned a picks) (i % length (turned a picks))

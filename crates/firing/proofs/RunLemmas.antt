@@ -2,7 +2,7 @@
 use Rattle.std.proofs.Common.{◌≡◌, ℕ, zero, suc, ◌+◌, ◌<◌, ◌≤◌, ◌++◌, List, [], ◌∷◌, length, Option, Some, refl, sym, ap, subst, ◌∙◌, add-one, length-append, append-nil, append_assoc, arith}
 use Rattle.std.proofs.Math.Seq.{take-append-add}
 use Rattle.std.specs.Io.KnownBytes.{Appends}
-use Rattle.df_io.specs.Write.{AppendsFront}
+use Rattle.df_io.specs.Write.{AppendsPrefix}
 use Rattle.op_table.specs.declared.Trap.{Trap}
 use Rattle.firing.specs.declared.playing.PlayEnd.{PlayEnd}
 use Rattle.firing.specs.declared.playing.PlayEnd.TheVariants.{Rest, Trapped, Limit, WriteFault}
@@ -61,17 +61,17 @@ module _ {M P : Type 0} (w : Way M P) (start : Moment M P) where
 -- ---- what is written of a run as output
 
 module _ {M P : Type 0} (w : Way M P) (start : Moment M P) where
-  broken : (n : ℕ) (old new : Option (List ℕ)) → BreaksOff w Output start n old new → AppendsFront old new (shown w Output start n)
+  broken : (n : ℕ) (old new : Option (List ℕ)) → BreaksOff w Output start n old new → AppendsPrefix old new (shown w Output start n)
   broken n old new b =
       let before = shown w Output start b.last in
       let last = shown_at w Output start b.last in
       let within = b.within in
-      let front : AppendsFront old new (before ++ last) = record {
+      let prefix : AppendsPrefix old new (before ++ last) = record {
         count = length before + b.count;
         within = let all = length-append before last in omega (arith, all, within);
         added = subst (Appends old new) (sym (take-append-add before last b.count)) b.written;
       } in
-      subst (λ i. AppendsFront old new (shown w Output start i)) (sym b.is) front
+      subst (λ i. AppendsPrefix old new (shown w Output start i)) (sym b.is) prefix
 
   writes_output : (show : Show) (n : ℕ) (old new : Option (List ℕ)) (result : PlayEnd) → Writes w show start n old new result → WritesOutput show (shown w Output start n) old new result
   writes_output Output n old new (WriteFault count) writes = broken n old new writes

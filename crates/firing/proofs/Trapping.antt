@@ -23,10 +23,10 @@ module _ {M : Type 0} (s : Moves M) where
   some_traps (Some trap) t is = λ e. absurd cc
 
   -- what can still fail, at the same marking and with the same output before
-  fails_at : (m there : M) (trap : Trap × ℕ) (before front output : List ℕ) → m ≡ there → before ≡ front → Fails s m trap before output → Fails s there trap front output
-  fails_at m there trap before front output is same fails = subst (λ x. Fails s x trap front output) is (subst (λ bytes. Fails s m trap bytes output) same fails)
+  fails_at : (m there : M) (trap : Trap × ℕ) (before prefix output : List ℕ) → m ≡ there → before ≡ prefix → Fails s m trap before output → Fails s there trap prefix output
+  fails_at m there trap before prefix output is same fails = subst (λ x. Fails s x trap prefix output) is (subst (λ bytes. Fails s m trap bytes output) same fails)
 
-  -- the same with a line in front
+  -- the same with a line before it
   fails_after : (m : M) (trap : Trap × ℕ) (line before output : List ℕ) → Fails s m trap before output → Fails s m trap (line ++ before) (line ++ output)
   fails_after m trap line before output fails = record {
     rest = fails.rest;

@@ -1,5 +1,5 @@
 -- Footprints: the parts of a marking that the firings of a node depend on and change. Where two ready nodes have no part in
--- common, or have only such in common as they change in either order alike, neither minds if the other fires first.
+-- common, or have only such in common as they change in either order alike, the firings commute (the diamond property).
 use Rattle.std.specs.Prelude.{◌≡◌, ◌<◌, ◌⊎◌, ℕ, Bool, true, false, None}
 use Rattle.firing.specs.Laws.{AreReady}
 use Rattle.firing.specs.Moves.{Moves, CanFire, IsSilent}

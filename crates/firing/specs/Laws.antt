@@ -1,4 +1,4 @@
--- The laws of firing: of two nodes that may both fire, neither minds if the other fires first.
+-- The laws of firing: of two nodes that may both fire, the firings commute (the diamond property).
 use Rattle.std.specs.Prelude.{◌≡◌, ◌≢◌, ℕ, true, false, None}
 use Rattle.firing.specs.Moves.{Moves, CanFire, IsSilent}
 

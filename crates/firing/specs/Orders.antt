@@ -78,7 +78,7 @@ pub record Traps {M : Type 0} (s : Moves M) (m : M) (trap : Trap × ℕ) : Type 
   -- whatever has fired, the trap can still come
   pub goes_on : (ks : List ℕ) → IsOrder s m ks → Fails s (after s m ks) trap (written s m ks) output
 
--- An order that doesn't trap, and whose output is the front of another order's.
-pub record IsBehind {M : Type 0} (s : Moves M) (m : M) (ks others : List ℕ) : Type 0 where
+-- An order that doesn't trap, and whose output is the beginning of another order's.
+pub record WritesPrefixOf {M : Type 0} (s : Moves M) (m : M) (ks others : List ℕ) : Type 0 where
   pub no_trap : s.trap (after s m ks) ≡ None
   pub prefix : IsPrefix (written s m ks) (written s m others)

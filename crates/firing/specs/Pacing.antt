@@ -1,4 +1,4 @@
--- A source that runs in stages, an order that keeps pace with it, and what every order then does.
+-- A source that runs in stages, an order that stays in lockstep with it, and what every order then does.
 use Rattle.std.specs.Prelude.{◌≡◌, ◌≢◌, ◌≤◌, ◌⊎◌, ℕ, List, length, Some, None}
 use Rattle.op_table.specs.declared.Trap.{Trap}
 use Rattle.firing.specs.Moves.{Moves}
@@ -23,14 +23,14 @@ pub record IsBusy {M : Type 0} (s : Moves M) (own : ℕ → List ℕ) (stage : �
 
 -- For each number of steps of the source there is an order in step with it, with the same output. A source that doesn't
 -- stop makes serial nodes fire again and again.
-pub record IsPaced {M : Type 0} (s : Moves M) (start : M) (text : ℕ → List ℕ) (stage : ℕ → Stage) (own : ℕ → List ℕ) : Type 0 where
+pub record IsSimulation {M : Type 0} (s : Moves M) (start : M) (text : ℕ → List ℕ) (stage : ℕ → Stage) (own : ℕ → List ℕ) : Type 0 where
   pub order : (n : ℕ) → IsOrder s start (own n)
   pub stands : (n : ℕ) → StandsAt s (after s start (own n)) (stage n)
   pub lines : (n : ℕ) → written s start (own n) ≡ text n
   pub busy : (count : ℕ) → IsBusy s own stage count
 
--- the output is a front of the source's
-pub record WritesFront (text : ℕ → List ℕ) (output : List ℕ) : Type 0 where
+-- the output is a prefix of the source's
+pub record WritesPrefix (text : ℕ → List ℕ) (output : List ℕ) : Type 0 where
   pub steps : ℕ
   pub prefix : IsPrefix output (text steps)
 
@@ -48,10 +48,10 @@ pub record TrapsWith (text : ℕ → List ℕ) (stage : ℕ → Stage) (trap : T
   pub failed : stage steps ≡ Failed trap
   pub lines : output ≡ text steps
 
--- Whatever the order, its output is a front of the source's; it rests only where the source has ended, and traps only
+-- Whatever the order, its output is a prefix of the source's; it rests only where the source has ended, and traps only
 -- where the source has trapped. Where the source ends, every order comes to rest; where it traps, none ends otherwise.
 pub record FollowsSource {M : Type 0} (s : Moves M) (start : M) (text : ℕ → List ℕ) (stage : ℕ → Stage) (own : ℕ → List ℕ) : Type 0 where
-  pub front : (ks : List ℕ) → IsOrder s start ks → WritesFront text (written s start ks)
+  pub prefix : (ks : List ℕ) → IsOrder s start ks → WritesPrefix text (written s start ks)
   pub rests : (ks : List ℕ) → IsOrder s start ks → IsOver s (after s start ks) → s.trap (after s start ks) ≡ None → EndsWith s start text stage own ks
   pub traps : (ks : List ℕ) (trap : Trap × ℕ) → IsOrder s start ks → s.trap (after s start ks) ≡ Some trap → TrapsWith text stage trap (written s start ks)
   pub ends : (n : ℕ) → stage n ≡ Done → Settles s start (length (own n)) (after s start (own n))

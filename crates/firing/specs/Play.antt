@@ -1,7 +1,7 @@
 -- Runs of a step system, firing by firing: which node fires each time, what is shown, and why a run ends.
 use Rattle.std.specs.Prelude.{◌≡◌, ◌≤◌, ◌<◌, ◌%◌, ℕ, zero, suc, List, [], ◌++◌, length, take, slice_index, Option, Some, None}
 use Rattle.std.specs.Io.KnownBytes.{Appends}
-use Rattle.df_io.specs.Write.{AppendsFront}
+use Rattle.df_io.specs.Write.{AppendsPrefix}
 use Rattle.firing.specs.declared.playing.PlayEnd.{PlayEnd}
 use Rattle.firing.specs.declared.playing.PlayEnd.TheVariants.{Rest, Trapped, Limit, WriteFault}
 use Rattle.firing.specs.declared.playing.Show.{Show}
@@ -80,7 +80,7 @@ EndsBy w start limit n (Trapped trap line) = w.moves.trap (played w start n).mar
 EndsBy w start limit n Limit = (n ≡ limit) × CanFire w.moves (played w start n).marking (node_at w start n)
 EndsBy w start limit n (WriteFault count) = count ≡ n
 
--- What is shown of all firings but the last was written, and of the last one a front.
+-- What is shown of all firings but the last was written, and of the last one a prefix.
 pub record BreaksOff {M P : Type 0} (w : Way M P) (show : Show) (start : Moment M P) (n : ℕ) (old new : Option (List ℕ)) : Type 0 where
   pub last : ℕ
   pub is : n ≡ suc last
@@ -105,9 +105,9 @@ pub record Plays {M P : Type 0} (w : Way M P) (start : Moment M P) (limit : ℕ)
 
 -- ---- the order that a run makes
 
--- Where lines are shown, what was added to the output was written, or after a fault a front of it.
+-- Where lines are shown, what was added to the output was written, or after a fault a prefix of it.
 abbrev pub WritesOutput : Show → List ℕ → (old new : Option (List ℕ)) → PlayEnd → Type 0
-WritesOutput Output added old new (WriteFault count) = AppendsFront old new added
+WritesOutput Output added old new (WriteFault count) = AppendsPrefix old new added
 WritesOutput Output added old new _ = Appends old new added
 WritesOutput _ added old new _ = Unit {0}
 

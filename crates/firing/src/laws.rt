@@ -5,8 +5,8 @@ ghost use Rattle.op_table.specs.declared.Trap.{Trap};
 ghost use Rattle.firing.specs.Control.{IsInStep};
 ghost use Rattle.firing.specs.declared.playing.PlayEnd.{PlayEnd};
 ghost use Rattle.firing.specs.Moves.{CanFire};
-ghost use Rattle.firing.specs.Orders.{IsBehind, IsOrder, IsOver, IsWhole, Settles, Traps, after, serial_count};
-ghost use Rattle.firing.specs.Pacing.{FollowsSource, IsPaced, Stage};
+ghost use Rattle.firing.specs.Orders.{WritesPrefixOf, IsOrder, IsOver, IsWhole, Settles, Traps, after, serial_count};
+ghost use Rattle.firing.specs.Pacing.{FollowsSource, IsSimulation, Stage};
 ghost use Rattle.firing.specs.Play.{Moment, Way, by_order, by_picks, moment, node_at, played};
 ghost use Rattle.firing.specs.Resuming.{GoesOn, turned};
 ghost use Rattle.firing.specs.Runs.{HasEnd, HasOrder, IsRun};
@@ -16,19 +16,19 @@ use crate::{SourceOrder, StepSystem};
 
 /// Where one order of firing comes to rest without a trap, each does, after as many firings, at the same marking. Where
 /// one traps, none ends without that trap, and each that ends has the same output. Of two orders the one with
-/// no more serial firings writes a front of what the other writes, where that one doesn't trap.
+/// no more serial firings writes a prefix of what the other writes, where that one doesn't trap.
 pub fn every_order<S: StepSystem>()
     ensures rest { (net : S.Net) (m : S.Marking) (ks : List ℕ) → S.sound net m → IsWhole (S.moves net) m ks → (S.moves net).trap (after (S.moves net) m ks) ≡ None → Settles (S.moves net) m (length ks) (after (S.moves net) m ks) }
     ensures trap { (net : S.Net) (m : S.Marking) (ks : List ℕ) (trap : Trap) (line : ℕ) → S.sound net m → IsOrder (S.moves net) m ks → (S.moves net).trap (after (S.moves net) m ks) ≡ Some (trap, line) → Traps (S.moves net) m (trap, line) }
-    ensures prefix { (net : S.Net) (m : S.Marking) (ks others : List ℕ) → S.sound net m → IsOrder (S.moves net) m ks → IsOrder (S.moves net) m others → (S.moves net).trap (after (S.moves net) m others) ≡ None → serial_count (S.moves net) ks ≤ serial_count (S.moves net) others → IsBehind (S.moves net) m ks others }
+    ensures prefix { (net : S.Net) (m : S.Marking) (ks others : List ℕ) → S.sound net m → IsOrder (S.moves net) m ks → IsOrder (S.moves net) m others → (S.moves net).trap (after (S.moves net) m others) ≡ None → serial_count (S.moves net) ks ≤ serial_count (S.moves net) others → WritesPrefixOf (S.moves net) m ks others }
 {}
 
-/// Where one order keeps pace with a source that is given by its output and stage after each number of steps, every order
-/// follows the source: its output is a front of the source's, it comes to rest only where the source has ended, after as
+/// Where one order stays in lockstep with a source that is given by its output and stage after each number of steps, every order
+/// follows the source: its output is a prefix of the source's, it comes to rest only where the source has ended, after as
 /// many firings and at the same marking, and it traps only where the source has trapped, with the same trap and output.
 /// Where the source ends, every order comes to rest; where it traps, none ends otherwise.
 pub fn every_order_follows<S: StepSystem>()
-    ensures { (net : S.Net) (start : S.Marking) (text : ℕ → List ℕ) (stage : ℕ → Stage) (own : ℕ → List ℕ) → S.sound net start → IsPaced (S.moves net) start text stage own → FollowsSource (S.moves net) start text stage own }
+    ensures { (net : S.Net) (start : S.Marking) (text : ℕ → List ℕ) (stage : ℕ → Stage) (own : ℕ → List ℕ) → S.sound net start → IsSimulation (S.moves net) start text stage own → FollowsSource (S.moves net) start text stage own }
 {}
 
 /// A run that was stopped can go on. After the first a firings a run by picks goes on as a run from there by the picks

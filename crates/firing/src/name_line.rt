@@ -4,7 +4,7 @@ ghost use Rattle.std.specs.Prelude.{◌≡◌, ◌+◌, ◌≤◌, ◌++◌, cod
 ghost use Rattle.std.specs.Io.KnownBytes.{Appends};
 ghost use Rattle.arrayvec.specs.ArrayString.{array_string_len};
 ghost use Rattle.df_io.specs.Faults.{Rose};
-ghost use Rattle.df_io.specs.Write.{AppendsFront};
+ghost use Rattle.df_io.specs.Write.{AppendsPrefix};
 ghost use Rattle.firing.specs.NameLine.{name_line};
 
 use crate::NodeName;
@@ -20,7 +20,7 @@ type Line = ArrayString<LENGTH>;
 // Writes the line that names the node, at once.
 pub fn write_name<K: Sink>(sink: &mut K, k: u32, name: NodeName) -> Result<(), WriteFault>
     ensures all { OnOk result (Appends (K.got sink.old) (K.got sink.new) (name_line k name)) }
-    ensures front { OnErr result (AppendsFront (K.got sink.old) (K.got sink.new) (name_line k name)) }
+    ensures prefix { OnErr result (AppendsPrefix (K.got sink.old) (K.got sink.new) (name_line k name)) }
     ensures later { K.faults sink.old ≤ K.faults sink.new }
     ensures fault { OnErr result (Rose (K.faults sink.old) (K.faults sink.new)) }
 {

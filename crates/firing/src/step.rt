@@ -3,7 +3,7 @@
 ghost use Rattle.std.specs.Prelude.{◌≡◌, ◌≤◌, OnOk, OnErr};
 ghost use Rattle.std.specs.Io.KnownBytes.{Appends};
 ghost use Rattle.df_io.specs.Faults.{Rose};
-ghost use Rattle.df_io.specs.Write.{AppendsFront};
+ghost use Rattle.df_io.specs.Write.{AppendsPrefix};
 ghost use Rattle.firing.specs.Control.{IsInStep, steered};
 ghost use Rattle.firing.specs.Marks.{Wakes};
 ghost use Rattle.firing.specs.Moves.{CanFire, line_after};
@@ -31,7 +31,7 @@ pub fn step<S: StepSystem, K: Sink>(
     ensures wakes { Wakes (S.moves (S.net sys.old)) (S.marking sys.old) k (S.woken sys.new) }
     ensures marks { S.marks sys.new ≡ S.marks sys.old }
     ensures all { OnOk result (Appends (K.got sink.old) (K.got sink.new) (shown_of (S.moves (S.net sys.old)) show (S.marking sys.old) k)) }
-    ensures front { OnErr result (AppendsFront (K.got sink.old) (K.got sink.new) (shown_of (S.moves (S.net sys.old)) show (S.marking sys.old) k)) }
+    ensures prefix { OnErr result (AppendsPrefix (K.got sink.old) (K.got sink.new) (shown_of (S.moves (S.net sys.old)) show (S.marking sys.old) k)) }
     ensures later { K.faults sink.old ≤ K.faults sink.new }
     ensures fault { OnErr result (Rose (K.faults sink.old) (K.faults sink.new)) }
 {
@@ -46,7 +46,7 @@ pub fn step<S: StepSystem, K: Sink>(
 // Writes the line of a firing that wrote one.
 fn write_line<S: StepSystem, K: Sink>(sys: &S, fired: Fired, sink: &mut K) -> Result<(), WriteFault>
     ensures all { OnOk result (Appends (K.got sink.old) (K.got sink.new) (line_after fired (S.last sys.now))) }
-    ensures front { OnErr result (AppendsFront (K.got sink.old) (K.got sink.new) (line_after fired (S.last sys.now))) }
+    ensures prefix { OnErr result (AppendsPrefix (K.got sink.old) (K.got sink.new) (line_after fired (S.last sys.now))) }
     ensures later { K.faults sink.old ≤ K.faults sink.new }
     ensures fault { OnErr result (Rose (K.faults sink.old) (K.faults sink.new)) }
 {

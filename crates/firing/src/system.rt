@@ -137,7 +137,7 @@ pub trait StepSystem {
         requires { k < (Self.moves (Self.net self.now)).nodes }
         ensures { result ≡ (Self.moves (Self.net self.now)).name k };
 
-    /// Of two nodes that may both fire, neither minds if the other fires first.
+    /// Of two nodes that may both fire, the firings commute (the diamond property).
     ghost lawful: { (net : Self.Net) → IsLawful (Self.sound net) (Self.moves net) };
 
     /// Where the node that is due fires, the place of control stays in step with the marking.

@@ -16,8 +16,8 @@ filled n xs h =
     let P : ℕ → Type 0 = λ m. take m (xs ++ replicate n 32) ≡ xs ++ replicate (n - length xs) 32 in
     subst P e (take-append-add xs (replicate n 32) (n - length xs) ∙ ap (λ ys. xs ++ ys) (take-replicate (n - length xs) n 32 (omega arith)))
 
-front : (n : ℕ) (xs ys : List ℕ) → n ≤ length xs → take n (take n xs ++ ys) ≡ take n (xs ++ ys)
-front n xs ys h =
+prefix : (n : ℕ) (xs ys : List ℕ) → n ≤ length xs → take n (take n xs ++ ys) ≡ take n (xs ++ ys)
+prefix n xs ys h =
     let long : n ≤ length (take n xs) = omega (arith, length-take-le n xs h) in
     take-append-le n (take n xs) ys long ∙ take-take n n xs (omega arith) ∙ sym (take-append-le n xs ys h)
 
@@ -27,7 +27,7 @@ card-short xs h = filled 72 xs h
 
 pub card-take : (xs : List ℕ) → 72 ≤ length xs → card (take 72 xs) ≡ card xs
 unfolding card
-card-take xs h = front 72 xs (replicate 72 32) h
+card-take xs h = prefix 72 xs (replicate 72 32) h
 
 and-true : (b : Bool) → (b && true) ≡ b
 and-true true = refl

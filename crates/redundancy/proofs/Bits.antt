@@ -25,8 +25,8 @@ not_bit a k fits within =
     let a_low = bit_at-lt a k in
     grind (arith, nat_tests)
 
-pub behind_bit : (computes kills missing k : ℕ) → computes < 2 ^ 64 → k < 64 → has_bit (bit_or kills (bit_and missing (18446744073709551615 - computes))) k ≡ (has_bit kills k || (has_bit missing k && not (has_bit computes k)))
-behind_bit computes kills missing k fits within =
+pub after_bit : (computes kills missing k : ℕ) → computes < 2 ^ 64 → k < 64 → has_bit (bit_or kills (bit_and missing (18446744073709551615 - computes))) k ≡ (has_bit kills k || (has_bit missing k && not (has_bit computes k)))
+after_bit computes kills missing k fits within =
     or_bit kills (bit_and missing (18446744073709551615 - computes)) k
     ∙ ap (λ x. has_bit kills k || x) (and_bit missing (18446744073709551615 - computes) k ∙ ap (λ x. has_bit missing k && x) (not_bit computes k fits within))
 

@@ -35,7 +35,7 @@ before_more all x e d b =
       first = λ k le at. b.first k le (sym (get_left all (x ∷ []) k (omega (arith, le, within))) ∙ at);
     }
 
--- e stands in the list, and d behind it alone
+-- e stands in the list, and d after it alone
 before_last : (all : List Expr) (e d : Expr) → Contains all e → (Contains all d → ⊥) → StandsBefore (all ++ d ∷ []) e d
 before_last all e d c isnt =
     let lt = c.1 in

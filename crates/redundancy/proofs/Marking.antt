@@ -64,7 +64,7 @@ marked_row rows k node row within is inside j v =
     ap (λ (r : List ℕ). has_bit (get_or r v 0) (j % 64)) row_is ∙ sym (or_false (has_mark rows j v)) ∙ ap (λ b. has_mark rows j v || b) (sym (false_and (j == k) (v == node) (ne_eqb j k differ))))
     (cases_eq (j / 64) (k / 64))
 
--- a row without marks behind the rows adds none
+-- a row without marks after the rows adds none
 pub blank_row : (rows : List (List ℕ)) (n j v : ℕ) → has_mark (rows ++ replicate n zero ∷ []) j v ≡ has_mark rows j v
 blank_row rows n j v = ⊎_elim
     (λ (l : j / 64 < length rows). ap (λ (r : List ℕ). has_bit (get_or r v 0) (j % 64)) (get_or_append_left rows (replicate n zero ∷ []) [] (j / 64) l))

@@ -188,8 +188,8 @@ pairs_append node (x ∷ xs) ys = ap (λ (zs : List (ℕ × Expr)). at_node node
 -- one expression more of a list
 pub pairs_more : (node : ℕ) (computed : List (ℕ × Expr)) (found : List Expr) (i : ℕ) (e : Expr) → i < length found → e ≡ get_or found i e → (computed ++ map (at_node node) (take i found)) ++ (node, e) ∷ [] ≡ computed ++ map (at_node node) (take (i + 1) found)
 pairs_more node computed found i e lt at =
-    let front : take (i + 1) found ≡ take i found ++ e ∷ [] = take_more found i e lt ∙ ap (λ (x : Expr). take i found ++ x ∷ []) (sym at) in
-    append_assoc computed (map (at_node node) (take i found)) ((node, e) ∷ []) ∙ ap (λ (z : List (ℕ × Expr)). computed ++ z) (sym (pairs_append node (take i found) (e ∷ [])) ∙ ap (map (at_node node)) (sym front))
+    let prefix : take (i + 1) found ≡ take i found ++ e ∷ [] = take_more found i e lt ∙ ap (λ (x : Expr). take i found ++ x ∷ []) (sym at) in
+    append_assoc computed (map (at_node node) (take i found)) ((node, e) ∷ []) ∙ ap (λ (z : List (ℕ × Expr)). computed ++ z) (sym (pairs_append node (take i found) (e ∷ [])) ∙ ap (map (at_node node)) (sym prefix))
 
 -- ---- piece by piece
 
@@ -247,13 +247,13 @@ contains_either (x ∷ xs) ys y c = ⊎_elim
 -- one piece more
 pub gathered_next : (names : List NameInfo) (execs : List Exec) (pieces : List Piece) (node : ℕ) (piece : Piece) (computed : List (ℕ × Expr)) (found : List Expr) → slice_get pieces node ≡ Some piece → IsGrown names (computed_by execs piece) [] found → IsGathered names execs pieces node computed → IsGathered names execs pieces (node + 1) (computed ++ map (at_node node) found)
 gathered_next names execs pieces node piece computed found is grown s =
-    let more_is : found ≡ grown.more = grown.behind in
+    let more_is : found ≡ grown.more = grown.after in
     let chosen : AreCandidatesIn names (computed_by execs piece) found = subst (λ (z : List Expr). AreCandidatesIn names (computed_by execs piece) z) (sym more_is) grown.are in
     let within = get_within pieces node piece is in
     let at : piece_at pieces node ≡ piece = ap piece_in is in
     let read : get_or pieces node piece ≡ piece = at_get pieces node piece is in
-    let front : take (node + 1) pieces ≡ take node pieces ++ piece ∷ [] = take_more pieces node piece within ∙ ap (λ (x : Piece). take node pieces ++ x ∷ []) read in
-    let parts : flat_map (computed_by execs) (take (node + 1) pieces) ≡ flat_map (computed_by execs) (take node pieces) ++ computed_by execs piece = ap (flat_map (computed_by execs)) front ∙ flat_map-append (computed_by execs) (take node pieces) (piece ∷ []) ∙ ap (λ (z : List Expr). flat_map (computed_by execs) (take node pieces) ++ z) (append_none (computed_by execs piece)) in
+    let prefix : take (node + 1) pieces ≡ take node pieces ++ piece ∷ [] = take_more pieces node piece within ∙ ap (λ (x : Piece). take node pieces ++ x ∷ []) read in
+    let parts : flat_map (computed_by execs) (take (node + 1) pieces) ≡ flat_map (computed_by execs) (take node pieces) ++ computed_by execs piece = ap (flat_map (computed_by execs)) prefix ∙ flat_map-append (computed_by execs) (take node pieces) (piece ∷ []) ∙ ap (λ (z : List Expr). flat_map (computed_by execs) (take node pieces) ++ z) (append_none (computed_by execs piece)) in
     let seconds : map (λ (at : ℕ × Expr). at.1) (computed ++ map (at_node node) found) ≡ map (λ (at : ℕ × Expr). at.1) computed ++ found = map_append (λ at. at.1) computed (map (at_node node) found) ∙ ap (λ (z : List Expr). map (λ (at : ℕ × Expr). at.1) computed ++ z) (map_snd node found) in
     record {
       are = subst (λ (z : List Expr). AreCandidatesIn names (flat_map (computed_by execs) (take (node + 1) pieces)) z) (sym seconds)

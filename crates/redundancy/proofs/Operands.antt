@@ -20,7 +20,7 @@ use Rattle.f77_tree.specs.Value.{row_length, dims_of, IsExpression, AllExpressio
 use Rattle.redundancy.specs.Candidates.{is_scalar, is_plain, are_plain, has_scalar, IsCandidate, subexpressions, row_subexpressions}
 use Rattle.redundancy.specs.Collected.{all_plain, all_subexpressions}
 
--- the row behind a list of operands or subscripts
+-- the row after a list of operands or subscripts
 abbrev pub row_of : Expr → (n : Count) × Row_of-Expr n
 row_of (Read' _ _ row) = (_, row)
 row_of (Apply' _ _ row) = (_, row)

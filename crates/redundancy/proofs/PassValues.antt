@@ -136,23 +136,23 @@ edge_of p input (suc n) k le = ⊎_elim
     (λ (apart : k ≢ suc n). let len = edges_length p input n in get_or_append_left (edges_to p input n) ((passes p input (suc n)).edge ∷ []) 0 k (omega (arith, len, le, apart)) ∙ edge_of p input n k (omega (arith, le, apart)))
     (cases_eq k (suc n))
 
--- what stands behind the front of a list
-at_split : (before behind : List ℕ) (edge : ℕ) → get_or (before ++ edge ∷ behind) (length before) 0 ≡ edge
-at_split [] behind edge = refl
-at_split (x ∷ before) behind edge = at_split before behind edge
+-- what stands after the beginning of a list
+at_split : (before after : List ℕ) (edge : ℕ) → get_or (before ++ edge ∷ after) (length before) 0 ≡ edge
+at_split [] after edge = refl
+at_split (x ∷ before) after edge = at_split before after edge
 
 held_at : (xs : List ℕ) (k : ℕ) → k < length xs → Holds xs (get_or xs k 0)
 held_at [] k lt = absurd (omega (arith, lt))
 held_at (x ∷ xs) zero lt = inl refl
 held_at (x ∷ xs) (suc k) lt = inr (held_at xs k (omega arith))
 
-held_split : (before behind : List ℕ) (edge k : ℕ) → length before ≤ k → k < length (before ++ edge ∷ behind) → Holds (edge ∷ behind) (get_or (before ++ edge ∷ behind) k 0)
-held_split [] behind edge k le lt = held_at (edge ∷ behind) k lt
-held_split (x ∷ before) behind edge zero le lt = absurd (omega (arith, le))
-held_split (x ∷ before) behind edge (suc k) le lt = held_split before behind edge k (omega (arith, le)) (omega (arith, lt))
+held_split : (before after : List ℕ) (edge k : ℕ) → length before ≤ k → k < length (before ++ edge ∷ after) → Holds (edge ∷ after) (get_or (before ++ edge ∷ after) k 0)
+held_split [] after edge k le lt = held_at (edge ∷ after) k lt
+held_split (x ∷ before) after edge zero le lt = absurd (omega (arith, le))
+held_split (x ∷ before) after edge (suc k) le lt = held_split before after edge k (omega (arith, le)) (omega (arith, lt))
 
-short_split : (before behind : List ℕ) (edge : ℕ) → length before < length (before ++ edge ∷ behind)
-short_split before behind edge = omega (arith, length-append before (edge ∷ behind))
+short_split : (before after : List ℕ) (edge : ℕ) → length before < length (before ++ edge ∷ after)
+short_split before after edge = omega (arith, length-append before (edge ∷ after))
 
 -- ---- what can't trap
 
@@ -305,14 +305,14 @@ module _ (p : Program) (c : ClassTable) (input : List ℤ) (well : IsWellFormed 
           let on = available (edges_to p input n) walk in
           let j = length on.before in
           let len = edges_length p input n in
-          let short = short_split on.before on.behind on.edge in
-          let count : length (edges_to p input n) ≡ length (on.before ++ on.edge ∷ on.behind) = ap length on.is in
+          let short = short_split on.before on.after on.edge in
+          let count : length (edges_to p input n) ≡ length (on.before ++ on.edge ∷ on.after) = ap length on.is in
           let j_le : j ≤ n = omega (arith, len, short, count) in
-          let edge_is : on.edge ≡ (passes p input j).edge = sym (at_split on.before on.behind on.edge) ∙ ap (λ (z : List ℕ). get_or z j 0) (sym on.is) ∙ edge_of p input n j j_le in
+          let edge_is : on.edge ≡ (passes p input j).edge = sym (at_split on.before on.after on.edge) ∙ ap (λ (z : List ℕ). get_or z j 0) (sym on.is) ∙ edge_of p input n j j_le in
           let computes : Computes p (flow p.execs) e (from g (passes p input j).edge) = subst (λ x. Computes p (flow p.execs) e (from g x)) edge_is on.computed in
           let kept : (k : ℕ) → j ≤ k → k ≤ n → Kills p (flow p.execs) c e (from g (passes p input k).edge) → ⊥ = λ k from' below kill.
-          let in_walk : get_or (on.before ++ on.edge ∷ on.behind) k 0 ≡ (passes p input k).edge = ap (λ (z : List ℕ). get_or z k 0) (sym on.is) ∙ edge_of p input n k below in
-          on.kept (passes p input k).edge (subst (λ x. Holds (on.edge ∷ on.behind) x) in_walk (held_split on.before on.behind on.edge k from' (omega (arith, below, len, count)))) kill
+          let in_walk : get_or (on.before ++ on.edge ∷ on.after) k 0 ≡ (passes p input k).edge = ap (λ (z : List ℕ). get_or z k 0) (sym on.is) ∙ edge_of p input n k below in
+          on.kept (passes p input k).edge (subst (λ x. Holds (on.edge ∷ on.after) x) in_walk (held_split on.before on.after on.edge k from' (omega (arith, below, len, count)))) kill
           in
           by_place n e run j j_le computes kept
 

@@ -62,7 +62,7 @@ solving-begin g computes kills waiting flow waits =
           let word : get_or (set zeros 0 18446744073709551615) v 0 ≡ 0 = get_or-set_other zeros 0 v 18446744073709551615 0 apart ∙ zero_word g.nodes v in
           absurd (false≢true (sym (ap (λ w. has_bit w k) word ∙ zero_bit k) ∙ has)))
           (cases_eq v 0);
-      closed = λ e k edge few behind. inr (inl ((waits (from g e)).1 (flow.sound.begins e edge)));
+      closed = λ e k edge few after. inr (inl ((waits (from g e)).1 (flow.sound.begins e edge)));
     }
 
 module _ (g : Graph) (computes kills missing : List ℕ) where
@@ -72,7 +72,7 @@ module _ (g : Graph) (computes kills missing : List ℕ) where
     waits = λ v holds. s.waits v (subst (λ z. Holds z v) (sym parts) (Holds-left waiting (u ∷ []) v holds));
     start = s.start;
     lost = s.lost;
-    closed = λ e k edge few behind. ⊎_elim
+    closed = λ e k edge few after. ⊎_elim
         (λ has. inl has)
         (⊎_elim
         (λ waits. ⊎_elim
@@ -80,7 +80,7 @@ module _ (g : Graph) (computes kills missing : List ℕ) where
         (⊎_elim (λ (same : u ≡ from g e). inr (inr (sym same))) (λ none. absurd none))
         (Holds-append waiting (u ∷ []) (from g e) (subst (λ z. Holds z (from g e)) parts waits)))
         (λ none. absurd none))
-        (s.closed e k edge few behind);
+        (s.closed e k edge few after);
   }
 
   pub popped_exists : (all waiting : List ℕ) (u : ℕ) → all ≡ waiting ++ u ∷ [] → IsSolving g computes kills missing all Nothing → u < g.nodes
@@ -90,10 +90,10 @@ module _ (g : Graph) (computes kills missing : List ℕ) where
   solved waiting none s node k within few =
       let empty : waiting ≡ [] = nothing_left waiting none in (
         λ lacks. not-missing g (bit computes k) (bit kills k) (bit missing k)
-            (λ e edge behind. ⊎_elim
+            (λ e edge after. ⊎_elim
             (λ has. has)
             (λ rest. absurd (⊎_elim (λ (waits : Holds waiting (from g e)). let h : ⊥ = subst (λ z. Holds z (from g e)) empty waits in h) (λ no. no) rest))
-            (s.closed e k edge few behind))
+            (s.closed e k edge few after))
             (s.start k few) node lacks,
         λ always. ⊎_elim
             (λ (has : bit missing k node ≡ true). let l = s.lost node k few has in absurd (l.lost (always l.walk l.leads)))

@@ -32,11 +32,11 @@ walk_edge g u v x (e ∷ w) leads (inr h) = walk_edge g (to g e) v x w leads.2 h
 -- what is computed on a walk is so by other tests that say as much of nodes
 computed_alike : (g : Graph) (computes kills computes' kills' : ℕ → Type 0) (u v : ℕ) (w : List ℕ) → IsGraph g → Walk g u w v → ((x : ℕ) → x < g.nodes → computes x → computes' x) → ((x : ℕ) → x < g.nodes → kills' x → kills x) → IsComputedOn g computes kills w → IsComputedOn g computes' kills' w
 computed_alike g computes kills computes' kills' u v w sound leads more fewer c =
-    let held : (x : ℕ) → Holds (c.edge ∷ c.behind) x → from g x < g.nodes = λ x h. sound.begins x (walk_edge g u v x w leads (subst (λ z. Holds z x) (sym c.is) (Holds-right c.before (c.edge ∷ c.behind) x h))) in
+    let held : (x : ℕ) → Holds (c.edge ∷ c.after) x → from g x < g.nodes = λ x h. sound.begins x (walk_edge g u v x w leads (subst (λ z. Holds z x) (sym c.is) (Holds-right c.before (c.edge ∷ c.after) x h))) in
     record {
       before = c.before;
       edge = c.edge;
-      behind = c.behind;
+      after = c.after;
       is = c.is;
       computed = more (from g c.edge) (held c.edge (inl refl)) c.computed;
       kept = λ x h kill. c.kept x h (fewer (from g x) (held x h) kill);

@@ -7,9 +7,9 @@ use Rattle.closed_walks.specs.Graph.{Graph, edge_count, from, to, touches, edges
 use Rattle.closed_walks.specs.Walk.{Walk, Holds}
 use Rattle.closed_walks.specs.Region.{IsFlowGraph}
 use Rattle.redundancy.specs.Available.{has_bit}
-use Rattle.redundancy.specs.Solving.{bit, HasBit, IsLost, missing_behind, IsSolving, Nothing, room, work}
+use Rattle.redundancy.specs.Solving.{bit, HasBit, IsLost, missing_after, IsSolving, Nothing, room, work}
 use Rattle.redundancy.proofs.Bits.{or_bit}
-use Rattle.redundancy.proofs.OnWalks.{Holds-left, Holds-right, Holds-append, lost-behind}
+use Rattle.redundancy.proofs.OnWalks.{Holds-left, Holds-right, Holds-append, lost-after}
 
 -- ---- lists
 
@@ -74,9 +74,9 @@ pub record IsSpreading (g : Graph) (computes kills : List ℕ) (node : ℕ) (edg
   pub same : (get_or missing node 0 ≡ get_or before node 0) ⊎ Holds waiting node
   pub less : work missing waiting ≤ work before first
 
--- the word has what is missing behind the node
-abbrev pub IsBehind : (computes kills before : List ℕ) → (node word : ℕ) → Type 0
-IsBehind computes kills before node word = (k : ℕ) → k < 64 → has_bit word k ≡ missing_behind (bit computes k) (bit kills k) (bit before k) node
+-- the word has what is missing after the node
+abbrev pub IsAfter : (computes kills before : List ℕ) → (node word : ℕ) → Type 0
+IsAfter computes kills before node word = (k : ℕ) → k < 64 → has_bit word k ≡ missing_after (bit computes k) (bit kills k) (bit before k) node
 
 module _ (g : Graph) (computes kills : List ℕ) (node : ℕ) (before first : List ℕ) where
   pub spread-begin : ((node e : ℕ) → Holds (edges_at g node) e ↔ ((e < edge_count g) × (touches g node e ≡ true))) → IsSolving g computes kills before first (λ e. from g e ≡ node) → IsSpreading g computes kills node (edges_at g node) 0 before first before first
@@ -87,12 +87,12 @@ module _ (g : Graph) (computes kills : List ℕ) (node : ℕ) (before first : Li
       waits = s.waits;
       start = s.start;
       lost = s.lost;
-      closed = λ e k edge within behind. ⊎_elim
+      closed = λ e k edge within after. ⊎_elim
           (λ has. inl has)
           (⊎_elim
           (λ waits. inr (inl waits))
           (λ (begins : from g e ≡ node). inr (inr (begins, (touch node e).1 (edge, or_left (from g e == node) (to g e == node) (eq-eqb (from g e) node begins))))))
-          (s.closed e k edge within behind);
+          (s.closed e k edge within after);
     };
     same = inl refl;
     less = omega arith;
@@ -105,21 +105,21 @@ module _ (g : Graph) (computes kills : List ℕ) (node : ℕ) (before first : Li
       waits = s.solving.waits;
       start = s.solving.start;
       lost = s.solving.lost;
-      closed = λ e k edge within behind. ⊎_elim
+      closed = λ e k edge within after. ⊎_elim
           (λ has. inl has)
           (⊎_elim
           (λ waits. inr (inl waits))
           (λ rest. absurd (Holds-drop_end edges i e end rest.1)))
-          (s.solving.closed e k edge within behind);
+          (s.solving.closed e k edge within after);
     }
 
-    module _ (within : i < length edges) (word : ℕ) (is_behind : IsBehind computes kills before node word) where
-      -- what is missing behind the node is in the word, or the node waits again
-      in_word : (k : ℕ) → k < 64 → missing_behind (bit computes k) (bit kills k) (bit missing k) node ≡ true → (has_bit word k ≡ true) ⊎ Holds waiting node
-      in_word k few behind = ⊎_elim
+    module _ (within : i < length edges) (word : ℕ) (is_after : IsAfter computes kills before node word) where
+      -- what is missing after the node is in the word, or the node waits again
+      in_word : (k : ℕ) → k < 64 → missing_after (bit computes k) (bit kills k) (bit missing k) node ≡ true → (has_bit word k ≡ true) ⊎ Holds waiting node
+      in_word k few after = ⊎_elim
           (λ (same : get_or missing node 0 ≡ get_or before node 0).
-          let old : missing_behind (bit computes k) (bit kills k) (bit missing k) node ≡ missing_behind (bit computes k) (bit kills k) (bit before k) node = ap (λ w. bit kills k node || (has_bit w k && not (bit computes k node))) same in
-          inl (is_behind k few ∙ sym old ∙ behind))
+          let old : missing_after (bit computes k) (bit kills k) (bit missing k) node ≡ missing_after (bit computes k) (bit kills k) (bit before k) node = ap (λ w. bit kills k node || (has_bit w k && not (bit computes k node))) same in
+          inl (is_after k few ∙ sym old ∙ after))
           (λ waits. inr waits)
           s.same
 
@@ -131,14 +131,14 @@ module _ (g : Graph) (computes kills : List ℕ) (node : ℕ) (before first : Li
           waits = s.solving.waits;
           start = s.solving.start;
           lost = s.solving.lost;
-          closed = λ e k edge few behind. ⊎_elim
+          closed = λ e k edge few after. ⊎_elim
               (λ has. inl has)
               (⊎_elim
               (λ waits. inr (inl waits))
               (λ rest. ⊎_elim
               (λ (same : get_or edges i 0 ≡ e).
               let begins : from g e ≡ node = rest.0 in
-              let at_node : missing_behind (bit computes k) (bit kills k) (bit missing k) node ≡ true = subst (λ x. missing_behind (bit computes k) (bit kills k) (bit missing k) x ≡ true) begins behind in
+              let at_node : missing_after (bit computes k) (bit kills k) (bit missing k) node ≡ true = subst (λ x. missing_after (bit computes k) (bit kills k) (bit missing k) x ≡ true) begins after in
               ⊎_elim
               (λ (has : has_bit word k ≡ true).
               let all : bit_or (get_or missing (to g e) 0) word ≡ get_or missing (to g e) 0 = subst (λ x. bit_or (get_or missing (to g x) 0) word ≡ get_or missing (to g x) 0) same (stays (ap (from g) same ∙ begins)) in
@@ -147,7 +147,7 @@ module _ (g : Graph) (computes kills : List ℕ) (node : ℕ) (before first : Li
               (in_word k few at_node))
               (λ later. inr (inr (rest.0, later)))
               (Holds-drop edges i e within rest.1)))
-              (s.solving.closed e k edge few behind);
+              (s.solving.closed e k edge few after);
         };
         same = s.same;
         less = s.less;
@@ -179,22 +179,22 @@ module _ (g : Graph) (computes kills : List ℕ) (node : ℕ) (before first : Li
                   let x = get_or edges i 0 in
                   let reach = flow.strong 0 node (omega (arith, here)) here in
                   let leads : Walk g 0 reach.walk (from g x) = subst (λ y. Walk g 0 reach.walk y) (sym begins) reach.leads in
-                  let behind : missing_behind (bit computes k) (bit kills k) (bit before k) (from g x) ≡ true = subst (λ y. missing_behind (bit computes k) (bit kills k) (bit before k) y ≡ true) (sym begins) (sym (is_behind k few) ∙ new.1) in
-                  let found = lost-behind g (bit computes k) (bit kills k) (bit before k) x reach.walk edge leads (λ gone. was.lost (from g x) k few gone) behind in
+                  let after : missing_after (bit computes k) (bit kills k) (bit before k) (from g x) ≡ true = subst (λ y. missing_after (bit computes k) (bit kills k) (bit before k) y ≡ true) (sym begins) (sym (is_after k few) ∙ new.1) in
+                  let found = lost-after g (bit computes k) (bit kills k) (bit before k) x reach.walk edge leads (λ gone. was.lost (from g x) k few gone) after in
                   subst (λ y. IsLost g (HasBit computes k) (HasBit kills k) y) (sym ends ∙ sym new.0) found)
                   (bit_cases missing n word k v inside has);
-              closed = λ e k e_edge few behind. ⊎_elim
+              closed = λ e k e_edge few after. ⊎_elim
                   (λ (same : from g e ≡ n). inr (inl (Holds-right waiting (n ∷ []) (from g e) (inl (sym same)))))
                   (λ (apart : from g e ≢ n).
                   let word_is : get_or (set missing n all) (from g e) 0 ≡ get_or missing (from g e) 0 = get_or-set_other missing n (from g e) all 0 apart in
-                  let old : missing_behind (bit computes k) (bit kills k) (bit missing k) (from g e) ≡ true = sym (ap (λ w. bit kills k (from g e) || (has_bit w k && not (bit computes k (from g e)))) word_is) ∙ behind in
+                  let old : missing_after (bit computes k) (bit kills k) (bit missing k) (from g e) ≡ true = sym (ap (λ w. bit kills k (from g e) || (has_bit w k && not (bit computes k (from g e)))) word_is) ∙ after in
                   ⊎_elim
                   (λ has. inl (bit_grows missing n word k (to g e) inside has))
                   (⊎_elim
                   (λ waits. inr (inl (Holds-left waiting (n ∷ []) (from g e) waits)))
                   (λ rest. ⊎_elim
                   (λ (same : get_or edges i 0 ≡ e).
-                  let at_node : missing_behind (bit computes k) (bit kills k) (bit missing k) node ≡ true = subst (λ x. missing_behind (bit computes k) (bit kills k) (bit missing k) x ≡ true) rest.0 old in
+                  let at_node : missing_after (bit computes k) (bit kills k) (bit missing k) node ≡ true = subst (λ x. missing_after (bit computes k) (bit kills k) (bit missing k) x ≡ true) rest.0 old in
                   ⊎_elim
                   (λ (has : has_bit word k ≡ true).
                   let to_n : to g e ≡ n = sym (ends ∙ ap (to g) same) in
@@ -224,5 +224,5 @@ edge_exists g node edges k touch is within = ((touch node (get_or edges k 0)).0 
 pub word_read : (words : List ℕ) (k word : ℕ) → k < length words → word ≡ get_or words k word → get_or words k 0 ≡ word
 word_read words k word within read = get_or_default words k 0 word within ∙ sym read
 
-pub behind_read : (computes kills before : List ℕ) (node word old : ℕ) → get_or before node 0 ≡ old → ((k : ℕ) → k < 64 → has_bit word k ≡ (has_bit (get_or kills node 0) k || (has_bit old k && not (has_bit (get_or computes node 0) k)))) → IsBehind computes kills before node word
-behind_read computes kills before node word old read told k few = told k few ∙ ap (λ w. has_bit (get_or kills node 0) k || (has_bit w k && not (has_bit (get_or computes node 0) k))) (sym read)
+pub after_read : (computes kills before : List ℕ) (node word old : ℕ) → get_or before node 0 ≡ old → ((k : ℕ) → k < 64 → has_bit word k ≡ (has_bit (get_or kills node 0) k || (has_bit old k && not (has_bit (get_or computes node 0) k)))) → IsAfter computes kills before node word
+after_read computes kills before node word old read told k few = told k few ∙ ap (λ w. has_bit (get_or kills node 0) k || (has_bit w k && not (has_bit (get_or computes node 0) k))) (sym read)

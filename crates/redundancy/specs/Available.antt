@@ -14,10 +14,10 @@ use Rattle.redundancy.specs.Computed.{Computes, Kills, AreCandidates}
 pub record IsComputedOn (g : Graph) (computes kills : ℕ → Type 0) (walk : List ℕ) : Type 0 where
   pub before : List ℕ
   pub edge : ℕ
-  pub behind : List ℕ
-  pub is : walk ≡ before ++ edge ∷ behind
+  pub after : List ℕ
+  pub is : walk ≡ before ++ edge ∷ after
   pub computed : computes (from g edge)
-  pub kept : (x : ℕ) → Holds (edge ∷ behind) x → kills (from g x) → ⊥
+  pub kept : (x : ℕ) → Holds (edge ∷ after) x → kills (from g x) → ⊥
 
 -- on every walk from the start to the node it is computed
 abbrev pub IsOnAllWalks : Graph → (computes kills : ℕ → Type 0) → (node : ℕ) → Type 0

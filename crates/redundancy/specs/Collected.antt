@@ -18,8 +18,8 @@ pub data AreCandidatesIn (names : List NameInfo) : List Expr → List Expr → T
   take : (e : Expr) (es found : List Expr) → IsCandidate names e → AreCandidatesIn names es found → AreCandidatesIn names (e ∷ es) (e ∷ found)
   skip : (e : Expr) (es found : List Expr) → (IsCandidate names e → ⊥) → AreCandidatesIn names es found → AreCandidatesIn names (e ∷ es) found
 
--- the candidates of the list stand behind the old ones
+-- the candidates of the list stand after the old ones
 pub record IsGrown (names : List NameInfo) (es old new : List Expr) : Type 0 where
   pub more : List Expr
   pub are : AreCandidatesIn names es more
-  pub behind : new ≡ old ++ more
+  pub after : new ≡ old ++ more

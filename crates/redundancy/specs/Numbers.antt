@@ -3,7 +3,7 @@ use Rattle.std.specs.Prelude.{◌≡◌, ℕ, ◌<◌, ◌*◌, ◌%◌, ◌^◌
 use Rattle.f77_tree.specs.declared.expressions.Expr.{Expr}
 use Rattle.redundancy.specs.Digests.{digest}
 
--- the expression has the number in the new list, which is the old one, or, where it isn't in that, has it one behind it
+-- the expression has the number in the new list, which is the old one, or, where it isn't in that, has it one after it
 pub record IsNumbered (e : Expr) (old new : List Expr) (k : ℕ) : Type 0 where
   pub at : slice_get new k ≡ Some e
   pub grows : (new ≡ old) ⊎ ((new ≡ old ++ e ∷ []) × (Contains old e → ⊥))

@@ -17,18 +17,18 @@ pub record IsLost (g : Graph) (computes kills : ℕ → Type 0) (node : ℕ) : T
   pub leads : Walk g 0 walk node
   pub lost : IsComputedOn g computes kills walk → ⊥
 
--- what is missing behind a node: what it kills, and what is missing at it and isn't computed by it
-abbrev pub missing_behind : (computes kills missing : ℕ → Bool) → ℕ → Bool
-missing_behind computes kills missing node = kills node || (missing node && not (computes node))
+-- what is missing after a node: what it kills, and what is missing at it and isn't computed by it
+abbrev pub missing_after : (computes kills missing : ℕ → Bool) → ℕ → Bool
+missing_after computes kills missing node = kills node || (missing node && not (computes node))
 
--- What is missing is so by a walk. What is missing behind a node is missing at each node to which an edge leads from it, or the
+-- What is missing is so by a walk. What is missing after a node is missing at each node to which an edge leads from it, or the
 -- node is waiting for its turn, or the edge is one of the rest.
 pub record IsSolving (g : Graph) (computes kills missing waiting : List ℕ) (rest : ℕ → Type 0) : Type 0 where
   pub nodes : length missing ≡ g.nodes
   pub waits : (v : ℕ) → Holds waiting v → v < g.nodes
   pub start : (k : ℕ) → k < 64 → HasBit missing k 0
   pub lost : (v k : ℕ) → k < 64 → HasBit missing k v → IsLost g (HasBit computes k) (HasBit kills k) v
-  pub closed : (e k : ℕ) → e < edge_count g → k < 64 → missing_behind (bit computes k) (bit kills k) (bit missing k) (from g e) ≡ true → HasBit missing k (to g e) ⊎ (Holds waiting (from g e) ⊎ rest e)
+  pub closed : (e k : ℕ) → e < edge_count g → k < 64 → missing_after (bit computes k) (bit kills k) (bit missing k) (from g e) ≡ true → HasBit missing k (to g e) ⊎ (Holds waiting (from g e) ⊎ rest e)
 
 -- no edge
 abbrev pub Nothing : ℕ → Type 0

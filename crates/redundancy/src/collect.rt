@@ -14,7 +14,7 @@ use f77_tree::{Access, Expr, ExprList, NameInfoList};
 use op_table::{Op, fold, may_trap};
 use std::alloc::Global;
 
-/// Puts a copy of each candidate in the expression behind those found, in the order of evaluation, and answers the known value of
+/// Puts a copy of each candidate in the expression after those found, in the order of evaluation, and answers the known value of
 /// the expression.
 #[cycle(collect)]
 pub(crate) fn collect(
@@ -47,7 +47,7 @@ pub(crate) fn collect(
     }
 }
 
-/// Puts copies of the candidates in some expressions behind those found, and answers the known values of the expressions.
+/// Puts copies of the candidates in some expressions after those found, and answers the known values of the expressions.
 #[cycle(collect)]
 pub(crate) fn collect_all(
     alloc: Global,

@@ -34,7 +34,7 @@ fn exec_of<'a>(p: &'a Program, piece: Piece) -> Option<&'a Exec>
     }
 }
 
-/// Puts copies of the candidates that a piece computes behind those found, in the order of evaluation.
+/// Puts copies of the candidates that a piece computes after those found, in the order of evaluation.
 pub(crate) fn collect_piece(
     alloc: Global,
     p: &Program,

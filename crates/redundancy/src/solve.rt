@@ -12,7 +12,7 @@ use df_sequence::NoMemory;
 use std::alloc::Global;
 
 /// For each node a word that has the bits of what isn't available there. Nothing is available at node 0. What a node computes is
-/// available behind it, unless the node kills it; what it neither computes nor kills is available behind it where it is so before
+/// available after it, unless the node kills it; what it neither computes nor kills is available after it where it is so before
 /// it; and what is available on each edge to a node is available at it.
 pub(crate) fn missing_row(
     alloc: Global,
@@ -46,7 +46,7 @@ fn all_nodes(alloc: Global, g: &Digraph) -> Result<Vec<u32>, NoMemory>
     Ok(nodes)
 }
 
-// What is missing behind a node becomes missing at each node to which an edge leads from it. A node at which something is missing that
+// What is missing after a node becomes missing at each node to which an edge leads from it. A node at which something is missing that
 // wasn't before has to wait for its turn.
 fn spread(
     g: &Digraph,
@@ -66,11 +66,11 @@ fn spread(
 {
     edges_of_nodes();
     let at = node as usize;
-    let behind = behind(computes[at], kills[at], missing[at]);
+    let after = after(computes[at], kills[at], missing[at]);
     for e in g.edges_at(node) {
         let to = g.to(*e);
         let before = missing[to as usize];
-        let all = before | behind;
+        let all = before | after;
         if g.from(*e) == node && all != before {
             missing[to as usize] = all;
             waiting.push(to)?;
@@ -79,8 +79,8 @@ fn spread(
     Ok(())
 }
 
-// What is missing behind a node.
-fn behind(computes: u64, kills: u64, missing: u64) -> u64
+// What is missing after a node.
+fn after(computes: u64, kills: u64, missing: u64) -> u64
     ensures { (k : ℕ) → k < 64 → has_bit result k ≡ (has_bit kills k || (has_bit missing k && not (has_bit computes k))) }
 {
     kills | missing & !computes

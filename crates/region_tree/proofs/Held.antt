@@ -42,7 +42,7 @@ Holds-take (suc n) [] e h = absurd h
 Holds-take (suc n) (x ∷ xs) e (inl same) = inl same
 Holds-take (suc n) (x ∷ xs) e (inr h) = inr (Holds-take n xs e h)
 
--- a longer front holds what the first list of two holds
+-- a longer prefix holds what the first list of two holds
 pub Holds-take_append : (n : ℕ) (xs ys : List ℕ) (e : ℕ) → length xs ≤ n → Holds xs e → Holds (take n (xs ++ ys)) e
 Holds-take_append n [] ys e long h = absurd h
 Holds-take_append zero (x ∷ xs) ys e long h = absurd (omega (arith, long))
@@ -94,26 +94,26 @@ AllDiffer-rising (x ∷ xs) rises = (
 )
 
 -- an item stands once
-pub AllDiffer-front : (xs : List ℕ) (n : ℕ) → AllDiffer xs → n < length xs → Holds (take n xs) (get_or xs n 0) → ⊥
-AllDiffer-front [] n differ within h = absurd (omega (arith, within))
-AllDiffer-front (x ∷ xs) zero differ within h = h
-AllDiffer-front (x ∷ xs) (suc n) differ within (inl same) = differ.0 (subst (λ y. Holds xs y) (sym same) (Holds-at xs n (omega arith)))
-AllDiffer-front (x ∷ xs) (suc n) differ within (inr h) = AllDiffer-front xs n differ.1 (omega arith) h
+pub AllDiffer-prefix : (xs : List ℕ) (n : ℕ) → AllDiffer xs → n < length xs → Holds (take n xs) (get_or xs n 0) → ⊥
+AllDiffer-prefix [] n differ within h = absurd (omega (arith, within))
+AllDiffer-prefix (x ∷ xs) zero differ within h = h
+AllDiffer-prefix (x ∷ xs) (suc n) differ within (inl same) = differ.0 (subst (λ y. Holds xs y) (sym same) (Holds-at xs n (omega arith)))
+AllDiffer-prefix (x ∷ xs) (suc n) differ within (inr h) = AllDiffer-prefix xs n differ.1 (omega arith) h
 
 pub AllDiffer-right : (xs ys : List ℕ) → AllDiffer (xs ++ ys) → AllDiffer ys
 AllDiffer-right [] ys differ = differ
 AllDiffer-right (x ∷ xs) ys differ = AllDiffer-right xs ys differ.1
 
--- what stands before an item, and what stands behind it
+-- what stands before an item, and what stands after it
 pub record IsSplitAt (xs : List ℕ) (e : ℕ) : Type 0 where
-  pub front : List ℕ
+  pub prefix : List ℕ
   pub back : List ℕ
-  pub parts : xs ≡ front ++ e ∷ back
+  pub parts : xs ≡ prefix ++ e ∷ back
 
 pub split_at : (xs : List ℕ) (e : ℕ) → Holds xs e → IsSplitAt xs e
 split_at [] e h = absurd h
-split_at (x ∷ xs) e (inl same) = record { front = []; back = xs; parts = ap (λ y. y ∷ xs) same }
-split_at (x ∷ xs) e (inr h) = let s : IsSplitAt xs e = split_at xs e h in record { front = x ∷ s.front; back = s.back; parts = ap (λ ys. x ∷ ys) s.parts }
+split_at (x ∷ xs) e (inl same) = record { prefix = []; back = xs; parts = ap (λ y. y ∷ xs) same }
+split_at (x ∷ xs) e (inr h) = let s : IsSplitAt xs e = split_at xs e h in record { prefix = x ∷ s.prefix; back = s.back; parts = ap (λ ys. x ∷ ys) s.parts }
 
 -- a list of zeros
 pub zero_of : (xs : List ℕ) (n : ℕ) → xs ≡ replicate n 0 → (k : ℕ) → get_or xs k 0 ≡ 0

@@ -77,8 +77,8 @@ module _ (g : Graph) where
   IsGrown-append xs ys grown begins i within = ⊎_elim
       (λ (l : i < length xs).
       let same : get_or (xs ++ ys) i 0 ≡ get_or xs i 0 = get_or_append_left xs ys 0 i l in
-      let front : take i (xs ++ ys) ≡ take i xs = take-append-le i xs ys (omega arith) in
-      subst (λ e. IsReachedBy g (take i (xs ++ ys)) (from g e)) (sym same) (subst (λ zs. IsReachedBy g zs (from g (get_or xs i 0))) (sym front) (grown i l)))
+      let prefix : take i (xs ++ ys) ≡ take i xs = take-append-le i xs ys (omega arith) in
+      subst (λ e. IsReachedBy g (take i (xs ++ ys)) (from g e)) (sym same) (subst (λ zs. IsReachedBy g zs (from g (get_or xs i 0))) (sym prefix) (grown i l)))
       (λ (r : length xs ≤ i).
       let same : get_or (xs ++ ys) i 0 ≡ get_or ys (i - length xs) 0 = get_or-append_right xs ys (length xs) i 0 refl r in
       let len = length-append xs ys in
@@ -96,13 +96,13 @@ unseen-set (false ∷ seen) zero within blank = refl
 unseen-set (true ∷ seen) (suc v) within blank = unseen-set seen v (omega arith) blank
 unseen-set (false ∷ seen) (suc v) within blank = let rest = unseen-set seen v (omega arith) blank in omega (arith, rest)
 
--- What became of the order where a node was put behind it, if it wasn't in it.
+-- What became of the order where a node was put after it, if it wasn't in it.
 pub record IsFound (g : Graph) (node : ℕ) (before : List Bool) (first : List ℕ) (seen : List Bool) (order : List ℕ) : Type 0 where
   pub order_is : IsOrder g order seen
   pub there : Holds order node
   pub work : unseen seen + length order ≡ unseen before + length first
   pub more : List ℕ
-  pub front : order ≡ first ++ more
+  pub prefix : order ≡ first ++ more
   pub new : (v : ℕ) → Holds more v → v ≡ node
 
 module _ (g : Graph) (node : ℕ) (before : List Bool) (first : List ℕ) (o : IsOrder g first before) (exists : node < g.nodes) where
@@ -112,7 +112,7 @@ module _ (g : Graph) (node : ℕ) (before : List Bool) (first : List ℕ) (o : I
     there = (o.marks node).0 old;
     work = refl;
     more = [];
-    front = sym (append-nil first);
+    prefix = sym (append-nil first);
     new = λ v h. absurd h;
   })
 
@@ -135,7 +135,7 @@ module _ (g : Graph) (node : ℕ) (before : List Bool) (first : List ℕ) (o : I
         there = Holds-right first (node ∷ []) node (inl refl);
         work = omega (arith, unseen-set before node inside blank, length-append first (node ∷ []));
         more = node ∷ [];
-        front = refl;
+        prefix = refl;
         new = λ v h. ⊎_elim (λ same. sym same) (λ none. absurd none) h;
       })
 
@@ -156,7 +156,7 @@ module _ (g : Graph) (node : ℕ) (old : List ℕ) (before : List Bool) (first :
   IsLeaving-begin o = record {
     edges_are = sym (append-nil old);
     order_is = o;
-    found = record { more = []; front = sym (append-nil first); heads = λ e h. absurd h; new = λ v h. absurd h };
+    found = record { more = []; prefix = sym (append-nil first); heads = λ e h. absurd h; new = λ v h. absurd h };
     work = omega arith;
   }
 
@@ -186,9 +186,9 @@ module _ (g : Graph) (node : ℕ) (old : List ℕ) (before : List Bool) (first :
           order_is = f.order_is;
           found = rw same (record {
             more = s.found.more ++ f.more;
-            front = f.front ∙ (ap (λ xs. xs ++ f.more) s.found.front ∙ append_assoc first s.found.more f.more);
+            prefix = f.prefix ∙ (ap (λ xs. xs ++ f.more) s.found.prefix ∙ append_assoc first s.found.more f.more);
             heads = λ x h. ⊎_elim
-                (λ (l : Holds done x). subst (λ xs. Holds xs (to g x)) (sym f.front) (Holds-left order f.more (to g x) (s.found.heads x l)))
+                (λ (l : Holds done x). subst (λ xs. Holds xs (to g x)) (sym f.prefix) (Holds-left order f.more (to g x) (s.found.heads x l)))
                 (⊎_elim (λ (is : e ≡ x). subst (λ y. Holds next (to g y)) is f.there) (λ none. absurd none))
                 (Holds-append done (e ∷ []) x h);
             new = λ v h. ⊎_elim
@@ -224,14 +224,14 @@ module _ (g : Graph) (law : NodeEdges g) where
       let node = get_or order done 0 in
       let out = leaving g node (edges_at g node) in
       let len = length-append order d.more in
-      let front : take (done + 1) order' ≡ take done order ++ node ∷ [] = rw d.front (take-append-le (done + 1) order d.more (omega arith) ∙ take_more order done 0 more) in
+      let prefix : take (done + 1) order' ≡ take done order ++ node ∷ [] = rw d.prefix (take-append-le (done + 1) order d.more (omega arith) ∙ take_more order done 0 more) in
       let longer : (e : ℕ) → Holds edges e → Holds edges' e = λ e h. subst (λ xs. Holds xs e) (sym edges_is) (Holds-left edges out e h) in
-      let later : (v : ℕ) → Holds order v → Holds order' v = λ v h. subst (λ xs. Holds xs v) (sym d.front) (Holds-left order d.more v h) in
+      let later : (v : ℕ) → Holds order v → Holds order' v = λ v h. subst (λ xs. Holds xs v) (sym d.prefix) (Holds-left order d.more v h) in
       let begun : (e : ℕ) → Holds out e → IsReachedBy g edges (from g e) = λ e h. subst (λ n. IsReachedBy g edges n) (sym (leaving_begins g law node e h).1) (s.reached node (Holds-at order done more)) in
       record {
         order_is = o;
-        within = let same = ap length d.front in omega (arith, same, len, more);
-        edges_are = edges_is ∙ (ap (λ xs. xs ++ out) s.edges_are ∙ (sym (edges_from-push g (take done order) node) ∙ ap (edges_from g) (sym front)));
+        within = let same = ap length d.prefix in omega (arith, same, len, more);
+        edges_are = edges_is ∙ (ap (λ xs. xs ++ out) s.edges_are ∙ (sym (edges_from-push g (take done order) node) ∙ ap (edges_from g) (sym prefix)));
         grown = subst (λ xs. IsGrown g xs) (sym edges_is) (IsGrown-append g edges out s.grown begun);
         reached = λ v h. ⊎_elim
             (λ (l : Holds order v). reached_more g edges edges' v longer (s.reached v l))
@@ -239,7 +239,7 @@ module _ (g : Graph) (law : NodeEdges g) where
             let i : IsHead g out v = d.new v r in
             let held : Holds edges' i.edge = subst (λ xs. Holds xs i.edge) (sym edges_is) (Holds-right edges out i.edge i.among) in
             subst (λ n. IsReachedBy g edges' n) i.ends (reached_on g edges' i.edge (leaving_begins g law node i.edge i.among).0 held (reached_more g edges edges' (from g i.edge) longer (begun i.edge i.among))))
-            (Holds-append order d.more v (subst (λ xs. Holds xs v) d.front h));
+            (Holds-append order d.more v (subst (λ xs. Holds xs v) d.prefix h));
         heads = λ e h. ⊎_elim
             (λ (l : Holds edges e). later (to g e) (s.heads e l))
             (λ (r : Holds out e). d.heads e r)

@@ -63,8 +63,8 @@ module _ (g : Graph) (f : RegionFacts g) (t : Tree) (s : AreRegions g t) where
     pub left : (e : ℕ) → exit_of t r ≡ e → IsIn g t r (from g e)
     left e same = subst (λ x. IsIn g t r (from g x)) same ((sides.1 (from g (exit_of t r))).0 sides.2.exit_tail)
 
-    pub not_behind : (e : ℕ) → exit_of t r ≡ e → IsIn g t r (to g e) → ⊥
-    not_behind e same inside = false≢true (sym sides.2.exit_head ∙ (sides.1 (to g (exit_of t r))).1 (subst (λ x. IsIn g t r (to g x)) (sym same) inside))
+    pub not_after : (e : ℕ) → exit_of t r ≡ e → IsIn g t r (to g e) → ⊥
+    not_after e same inside = false≢true (sym sides.2.exit_head ∙ (sides.1 (to g (exit_of t r))).1 (subst (λ x. IsIn g t r (to g x)) (sym same) inside))
 
     module _ (e : ℕ) (edge : e < edge_count g) (not_entry : entry_of t r ≢ e) (not_exit : exit_of t r ≢ e) where
       pub on : IsIn g t r (from g e) → IsIn g t r (to g e)
@@ -92,7 +92,7 @@ module _ (g : Graph) (f : RegionFacts g) (t : Tree) (s : AreRegions g t) where
         (λ (same : q ≡ r). part_itself g t q r same)
         (λ (apart : q ≢ r). ⊎_elim
         (λ (part : IsPart g t r q). part)
-        (λ (part : IsPart g t q r). absurd (not_behind r number e is_exit (part (to g e)
+        (λ (part : IsPart g t q r). absurd (not_after r number e is_exit (part (to g e)
         (on q other e edge
         (λ is_entry. not_before q other e is_entry inside)
         (λ same_exit. apart (one_number_exit q r other number (same_exit ∙ sym is_exit)))
@@ -117,7 +117,7 @@ module _ (g : Graph) (f : RegionFacts g) (t : Tree) (s : AreRegions g t) where
 
     pub head_outer : (q : ℕ) → IsNumber t q → entry_of t q ≢ e → IsIn g t q (to g e) → IsOuter g t e q
     head_outer q number not_entry inside =
-        let not_exit : exit_of t q ≢ e = λ is_exit. not_behind q number e is_exit inside in
+        let not_exit : exit_of t q ≢ e = λ is_exit. not_after q number e is_exit inside in
         (back q number e edge not_entry not_exit inside, not_exit)
 
     -- an edge that enters no region

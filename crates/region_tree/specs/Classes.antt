@@ -6,7 +6,7 @@ abbrev pub first_of : List ℕ → (class : ℕ) → List ℕ → Option ℕ
 first_of classes class [] = None
 first_of classes class (e ∷ edges) = if slice_index classes e == class then Some e else first_of classes class edges
 
--- the first edge behind e that is of the same class
+-- the first edge after e that is of the same class
 abbrev pub next_of : List ℕ → (e : ℕ) → List ℕ → Option ℕ
 next_of classes e [] = None
 next_of classes e (f ∷ edges) = if f == e then first_of classes (slice_index classes f) edges else next_of classes e edges

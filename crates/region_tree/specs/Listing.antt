@@ -15,7 +15,7 @@ abbrev pub HasListed : List ℕ → (e r : ℕ) → Option ℕ → Type 0
 HasListed entries e r None = r ≡ 0
 HasListed entries e r (Some f) = IsListedAt entries e r
 
--- Behind a 0 the edges below k with a next one are listed in their order, each with its next one, and the places are noted at the edges.
+-- After a 0 the edges below k with a next one are listed in their order, each with its next one, and the places are noted at the edges.
 pub record IsListing (next : List (Option ℕ)) (k : ℕ) (numbers entries exits : List ℕ) : Type 0 where
   pub some : 0 < length entries
   pub few : length entries ≤ k + 1

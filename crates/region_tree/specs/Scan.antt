@@ -43,14 +43,14 @@ pub record IsHead (g : Graph) (edges : List ℕ) (v : ℕ) : Type 0 where
   pub among : Holds edges edge
   pub ends : to g edge ≡ v
 
--- The nodes at which these edges end were put behind the others of the order, where they weren't in it.
+-- The nodes at which these edges end were put after the others of the order, where they weren't in it.
 pub record Discovers (g : Graph) (edges : List ℕ) (before : List ℕ) (order : List ℕ) : Type 0 where
   pub more : List ℕ
-  pub front : order ≡ before ++ more
+  pub prefix : order ≡ before ++ more
   pub heads : (e : ℕ) → Holds edges e → Holds order (to g e)
   pub new : (v : ℕ) → Holds more v → IsHead g edges v
 
--- The node was put behind the order, if it wasn't seen.
+-- The node was put after the order, if it wasn't seen.
 abbrev pub Finds : (node : ℕ) → (before : List Bool) → (first : List ℕ) → (seen : List Bool) → (order : List ℕ) → Type 0
 Finds node before first seen order =
     ((is_seen before node ≡ true) × (seen ≡ before) × (order ≡ first)) ⊎ ((is_seen before node ≡ false) × (seen ≡ set before node true) × (order ≡ first ++ node ∷ []))

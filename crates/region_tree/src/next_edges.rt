@@ -8,7 +8,7 @@ ghost use Rattle.region_tree.specs.Listing.{next_at};
 use df_sequence::NoMemory;
 use std::alloc::Global;
 
-/// For each edge the first one of its class behind it in the list, if there is one.
+/// For each edge the first one of its class after it in the list, if there is one.
 pub(crate) fn next_edges(
     alloc: Global,
     classes: &[u32],

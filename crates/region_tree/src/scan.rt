@@ -28,7 +28,7 @@ pub(crate) fn scan(alloc: Global, g: &Digraph) -> Result<Vec<u32>, NoMemory>
     Ok(edges)
 }
 
-/// Puts the edges that begin at the node behind the others, and the nodes at which they end behind the order, where they aren't
+/// Puts the edges that begin at the node after the others, and the nodes at which they end after the order, where they aren't
 /// in it.
 fn leave(
     g: &Digraph,
@@ -54,7 +54,7 @@ fn leave(
     Ok(())
 }
 
-/// Puts the node behind the order, where it isn't in it.
+/// Puts the node after the order, where it isn't in it.
 fn find(node: u32, seen: &mut Vec<bool>, order: &mut Vec<u32>) -> Result<(), NoMemory>
     requires { node < length seen.old.items }
     ensures { OnOk result (Finds node seen.old.items order.old.items seen.new.items order.new.items) }

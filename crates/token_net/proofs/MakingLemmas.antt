@@ -8,7 +8,7 @@ use Rattle.firing.specs.Control.{IsInStep}
 use Rattle.token_net.specs.declared.control.Control.{Control}
 use Rattle.token_net.specs.Belonging.{CanCome}
 use Rattle.token_net.specs.NetOrder.{first_control}
-use Rattle.token_net.specs.NetPace.{IsInPace}
+use Rattle.token_net.specs.NetLockstep.{IsInLockstep}
 use Rattle.token_net.specs.Nodes.{NetOf, all_lines, nodes_of}
 use Rattle.token_net.specs.Tokens.{Tokens, first_tokens, led_from, net_moves}
 
@@ -28,7 +28,7 @@ first_made net nodes lines edges memory are_lines are_edges count is_memory =
 pub can_come : (net made : NetOf) (m : Tokens) → net ≡ made → m ≡ first_tokens net → CanCome made (first_tokens made) → CanCome net m
 can_come net made m same is comes = subst (λ t. CanCome net t) (sym is) (subst (λ (x : NetOf). CanCome x (first_tokens x)) (sym same) comes)
 
-pub in_step : (net made : NetOf) (m : Tokens) (c : Control) → net ≡ made → m ≡ first_tokens net → c ≡ first_control net → IsInPace made (first_tokens made) (first_control made) → IsInStep (net_moves net) (IsInPace net) m (Some c)
-in_step net made m c same is stands pace none =
-    let here : IsInPace net (first_tokens net) (first_control net) = subst (λ (x : NetOf). IsInPace x (first_tokens x) (first_control x)) (sym same) pace in
-    subst (λ (x : Control). IsInPace net m x) (sym stands) (subst (λ t. IsInPace net t (first_control net)) (sym is) here)
+pub in_step : (net made : NetOf) (m : Tokens) (c : Control) → net ≡ made → m ≡ first_tokens net → c ≡ first_control net → IsInLockstep made (first_tokens made) (first_control made) → IsInStep (net_moves net) (IsInLockstep net) m (Some c)
+in_step net made m c same is stands lockstep none =
+    let here : IsInLockstep net (first_tokens net) (first_control net) = subst (λ (x : NetOf). IsInLockstep x (first_tokens x) (first_control x)) (sym same) lockstep in
+    subst (λ (x : Control). IsInLockstep net m x) (sym stands) (subst (λ t. IsInLockstep net t (first_control net)) (sym is) here)

@@ -23,7 +23,7 @@ is_member [] k x is = absurd cc
 is_member (y ∷ ys) zero x is = inl cc
 is_member (y ∷ ys) (suc k) x is = inr (is_member ys k x is)
 
--- a number that passes a test comes behind the lower ones that do
+-- a number that passes a test comes after the lower ones that do
 from_a : (test : ℕ → Bool) (a n j : ℕ) → j < n → test (a + j) ≡ true → slice_get (filter test (range_with_len a n)) (length (filter test (range_with_len a j))) ≡ Some (a + j)
 from_a test a zero j below is = absurd (omega (arith, below))
 from_a test a (suc n) zero below is =

@@ -14,7 +14,7 @@ use Rattle.token_net.specs.declared.control.Control.{Control}
 use Rattle.token_net.specs.NetOrder.{arrived, due_node, edge_or, moved_on, taken}
 use Rattle.token_net.specs.NodeLaws.{is_acting, node_is, node_of}
 use Rattle.token_net.specs.Nodes.{NetOf, graph_in, kind_in, nodes_by, nodes_of, node_at, node_count, first_node, led_to}
-use Rattle.token_net.specs.PaceLaws.{IsDue, due_is}
+use Rattle.token_net.specs.LockstepLaws.{IsDue, due_is}
 use Rattle.token_net.specs.Steering.{IsPlaced, Leads}
 use Rattle.token_net.specs.Tokens.{Tokens, pass_at}
 use Rattle.token_net.proofs.TableLemmas.{first_next}

@@ -58,7 +58,7 @@ nil_end (x ∷ xs) = ap (λ zs. x ∷ zs) (nil_end xs)
 pub filter_skipped : (test : ℕ → Bool) (n : ℕ) → test n ≡ false → filter test (range_with_len 0 (n + 1)) ≡ filter test (range_with_len 0 n)
 filter_skipped test n is = filter_next test n ∙ ap (λ b. filter test (range_with_len 0 n) ++ (if b then n ∷ [] else [])) is ∙ nil_end (filter test (range_with_len 0 n))
 
--- what is named for the numbers that pass a test, behind what stood there
+-- what is named for the numbers that pass a test, after what stood there
 module _ {Y : Type 0} (name : ℕ → Y) (test : ℕ → Bool) where
   pub named_taken : (old now : List Y) (n : ℕ) → now ≡ old ++ map name (filter test (range_with_len 0 n)) → test n ≡ true → now ++ name n ∷ [] ≡ old ++ map name (filter test (range_with_len 0 (n + 1)))
   named_taken old now n so is =

@@ -56,7 +56,7 @@ pub record IsAmid (net : NetOf) (start m : Tokens) (piece fired : ℕ) (memory :
   pub at_first : fired ≡ 0 → (k : ℕ) → left_for m k ≡ None
   pub before : (k : ℕ) → k < first_node net piece + fired → left_for m k ≡ None
   pub left : (k : ℕ) → 0 < fired → first_node net piece + fired ≤ k → k ≤ first_node net piece + switch_count net piece → left_for m k ≡ Some (leaving net piece made)
-  pub behind : (k : ℕ) → first_node net piece + switch_count net piece < k → left_for m k ≡ None
+  pub after : (k : ℕ) → first_node net piece + switch_count net piece < k → left_for m k ≡ None
   pub memory_is : m.memory ≡ memory_amid memory made fired
   pub trap_is : m.trap ≡ None
   pub no_trap : 0 < fired → DoesTrap made → ⊥

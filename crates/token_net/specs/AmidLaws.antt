@@ -13,7 +13,7 @@ use Rattle.firing.specs.declared.system.NodeName.TheVariants.{Act, Merge, Switch
 use Rattle.token_net.specs.Amid.{moved_by, moved_first, leaving, memory_or, text_in}
 use Rattle.token_net.specs.MemberLaws.{Member, Member-filtered, Member-cases}
 use Rattle.token_net.specs.Nodes.{NetOf, graph_in, is_free, touched, led_to, passing, nodes_by, switch_lines}
-use Rattle.token_net.specs.PaceLists.{member_at, not_before, HasItem, item_at}
+use Rattle.token_net.specs.LockstepLists.{member_at, not_before, HasItem, item_at}
 
 -- ---- which node comes next
 

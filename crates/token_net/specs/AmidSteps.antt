@@ -9,7 +9,7 @@ use Rattle.firing.specs.declared.system.NodeName.TheVariants.{Act, Merge, Switch
 use Rattle.token_net.specs.Amid.{moved_by, moved_first, leaving, memory_or, memory_amid, switch_count, IsAmid}
 use Rattle.token_net.specs.MemberLaws.{Member, Member-range, Member-in_range}
 use Rattle.token_net.specs.Nodes.{NetOf, graph_in, nodes_at, first_node, switches}
-use Rattle.token_net.specs.PaceLists.{take_more, HasItem, item_at}
+use Rattle.token_net.specs.LockstepLists.{take_more, HasItem, item_at}
 use Rattle.token_net.specs.PlaceLaws.{put, get_set_same, get_set_other, with_all_other, with_all_same}
 use Rattle.token_net.specs.Tokens.{Tokens, joined, left_for, with_all, led_from, gone, stopped, acted, switched, merged}
 
@@ -66,7 +66,7 @@ module _ (net : NetOf) (start m : Tokens) (piece : ℕ) (memory : Memory) where
         at_first = λ one. let e : suc 0 ≡ 0 = one in cc;
         before = λ k low. ap joined (with_all_other m.edges (switches net piece) value k (λ s. let inside = (Member-in_range (suc (first_node net piece)) (switch_count net piece) k s).0 in omega (arith, low, inside))) ∙ amid.at_first refl k;
         left = λ k some low high. left_given m.edges (switches net piece) edge k (Member-range (suc (first_node net piece)) (switch_count net piece) k (omega (arith, low)) (omega (arith, high))) (omega (arith, high, room));
-        behind = λ k high. ap joined (with_all_other m.edges (switches net piece) value k (λ s. let inside = (Member-in_range (suc (first_node net piece)) (switch_count net piece) k s).1 in omega (arith, high, inside))) ∙ amid.at_first refl k;
+        after = λ k high. ap joined (with_all_other m.edges (switches net piece) value k (λ s. let inside = (Member-in_range (suc (first_node net piece)) (switch_count net piece) k s).1 in omega (arith, high, inside))) ∙ amid.at_first refl k;
         memory_is = refl;
         trap_is = amid.trap_is;
         no_trap = λ some (t : ⊥). t;
@@ -90,7 +90,7 @@ module _ (net : NetOf) (start m : Tokens) (piece : ℕ) (memory : Memory) where
             (λ (other : own ≡ k → ⊥). ap joined (get_set_other m.edges own k None other) ∙ amid.before k (lower k low other))
             (same_or_not own k);
         left = λ k some low high. ap joined (get_set_other m.edges own k None (λ same. omega (arith, same, low))) ∙ amid.left k (omega arith) (omega (arith, low)) high;
-        behind = λ k high. ap joined (get_set_other m.edges own k None (λ same. omega (arith, same, high, few))) ∙ amid.behind k high;
+        after = λ k high. ap joined (get_set_other m.edges own k None (λ same. omega (arith, same, high, few))) ∙ amid.after k high;
         memory_is = amid.memory_is;
         trap_is = amid.trap_is;
         no_trap = λ some. amid.no_trap (omega arith);
@@ -108,7 +108,7 @@ module _ (net : NetOf) (start m : Tokens) (piece : ℕ) (memory : Memory) where
     at_first = λ one. let e : suc fired ≡ 0 = one in cc;
     before = λ k low. nothing fired refl k;
     left = λ k some low high. absurd (omega (arith, low, high, none));
-    behind = λ k high. nothing fired refl k;
+    after = λ k high. nothing fired refl k;
     memory_is = amid.memory_is ∙ still fired ∙ sym same;
     trap_is = amid.trap_is;
     no_trap = λ some. goes;
@@ -130,4 +130,4 @@ module _ (net : NetOf) (start m : Tokens) (piece : ℕ) (memory : Memory) where
 
           by : (k < first_node net piece + fired) ⊎ (first_node net piece < k) → left_for m k ≡ None
           by (inl low) = amid.before k low
-          by (inr high) = amid.behind k (omega (arith, high, none))
+          by (inr high) = amid.after k (omega (arith, high, none))

@@ -1,4 +1,4 @@
--- What lower layers tell of the flow graph of a net, as its pace beside the passes needs it.
+-- What lower layers tell of the flow graph of a net, as its lockstep beside the passes needs it.
 use Rattle.std.specs.Prelude.{◌≡◌, ◌≢◌, ◌<◌, ◌≤◌, ℕ, Bool, true, false}
 use Rattle.closed_walks.specs.Graph.{Graph, edge_count, from, to}
 use Rattle.closed_walks.specs.Reaching.{reaches_within}

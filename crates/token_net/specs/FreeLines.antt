@@ -8,7 +8,7 @@ use Rattle.dep_routing.specs.Routing.{wire_at}
 use Rattle.token_net.specs.Belonging.{IsNet}
 use Rattle.token_net.specs.FlowGround.{FlowGround}
 use Rattle.token_net.specs.MemberLaws.{Member, Member-left, Member-right, Member-cases, IsPassed, list_any_member, member_of_list_any}
-use Rattle.token_net.specs.NetPace.{IsBetween}
+use Rattle.token_net.specs.NetLockstep.{IsBetween}
 use Rattle.token_net.specs.Nodes.{NetOf, graph_in, comes_along, is_free}
 use Rattle.token_net.specs.PlaceLaws.{left_of, right_of}
 use Rattle.token_net.specs.Tokens.{Tokens, edge_of}

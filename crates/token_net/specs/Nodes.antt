@@ -95,6 +95,6 @@ switch_lines net piece kind.Branch = passing net piece
 switch_lines net piece kind.Hold = passing net piece
 switch_lines net piece _ = []
 
--- the numbers of the switches of a piece, which come behind its first node
+-- the numbers of the switches of a piece, which come after its first node
 abbrev pub switches : NetOf → ℕ → List ℕ
 switches net piece = range_with_len (suc (first_node net piece)) (length (switch_lines net piece (kind_in net piece)))

@@ -15,13 +15,13 @@ use Rattle.firing.specs.declared.system.NodeName.TheVariants.{Merge, Switch}
 use Rattle.token_net.specs.Belonging.{IsNet}
 use Rattle.token_net.specs.FlowGround.{FlowGround, has_act}
 use Rattle.token_net.specs.MemberLaws.{Member, Member-range}
-use Rattle.token_net.specs.NetPace.{IsInPace}
+use Rattle.token_net.specs.NetLockstep.{IsInLockstep}
 use Rattle.token_net.specs.NetOrder.{first_control}
 use Rattle.token_net.specs.Nodes.{NetOf, graph_in, kind_in, is_free, all_lines, led_to, passing, nodes_by, node_count, first_node}
 use Rattle.token_net.specs.OwnOrder.{firings_of, firings_from, own_passes, own_order}
-use Rattle.token_net.specs.PaceLaws.{in_pace_arrived}
-use Rattle.token_net.specs.PassPace.{StandsBeside, IsPassPace, pass_pace, begins_between}
-use Rattle.token_net.specs.StepPace.{RunGround}
+use Rattle.token_net.specs.LockstepLaws.{in_lockstep_arrived}
+use Rattle.token_net.specs.PassLockstep.{StandsBeside, IsPassLockstep, pass_lockstep, begins_between}
+use Rattle.token_net.specs.StepLockstep.{RunGround}
 use Rattle.token_net.specs.Tokens.{Tokens, net_moves, first_tokens}
 use Rattle.token_net.specs.WayLaws.{IsThere}
 
@@ -114,11 +114,11 @@ module _ (net : NetOf) (is_net : IsNet net) (ground : FlowGround net is_net.tree
   own_few : (n : ℕ) → length (own_passes net n) ≤ n * net.routing.lines
   own_few zero = omega arith
   own_few (suc n) =
-      let pace : IsPassPace net is_net ground n = pass_pace net is_net ground n in
+      let lockstep : IsPassLockstep net is_net ground n = pass_lockstep net is_net ground n in
       let x = passes net.program net.input n in
       let long = length-append (own_passes net n) (firings_from net x x.mark) in
       let before = own_few n in
-      let here = pass_few n x.mark pace.stands in
+      let here = pass_few n x.mark lockstep.stands in
       more (length (own_passes net (suc n))) (length (own_passes net n)) (length (firings_from net x x.mark)) (n * net.routing.lines) (suc n * net.routing.lines) net.routing.lines long before here (suc-mul n net.routing.lines)
     where
       more : (all a b c d l : ℕ) → all ≡ a + b → a ≤ c → b ≤ l → d ≡ c + l → all ≤ d
@@ -142,14 +142,14 @@ module _ (net : NetOf) (is_net : IsNet net) (ground : FlowGround net is_net.tree
   pub order_memory : RunGround net is_net.tree → (n : ℕ) → (after (net_moves net) (first_tokens net) (own_order net n)).memory ≡ (source net.program net.input n).memory
   order_memory run n =
       let k = passes_of net.program net.input n in
-      let pace : IsPassPace net is_net ground k = pass_pace net is_net ground k in
+      let lockstep : IsPassLockstep net is_net ground k = pass_lockstep net is_net ground k in
       let stand : StandsAt net.program (source net.program net.input n) (passes net.program net.input k) = run.steps n in
-      memory_beside (after (net_moves net) (first_tokens net) (own_passes net k)) (passes net.program net.input k) (passes net.program net.input k).mark pace.stands ∙ stand.memory_is
+      memory_beside (after (net_moves net) (first_tokens net) (own_passes net k)) (passes net.program net.input k) (passes net.program net.input k).mark lockstep.stands ∙ stand.memory_is
 
   -- ---- the first place
 
-  pub begins_in_pace : IsInPace net (first_tokens net) (first_control net)
-  begins_in_pace =
+  pub begins_in_lockstep : IsInLockstep net (first_tokens net) (first_control net)
+  begins_in_lockstep =
       let two = ground.shape.two_edges in
       let there : IsThere net is_net ground (first_tokens net) 1 = record {
         passes_made = 0;
@@ -157,4 +157,4 @@ module _ (net : NetOf) (is_net : IsNet net) (ground : FlowGround net is_net.tree
         way = record { running = refl; edge_is = refl; memory_is = refl; exists = two; later = omega arith };
         between = begins_between net is_net ground;
       } in
-      in_pace_arrived net is_net ground (first_tokens net) 1 two there
+      in_lockstep_arrived net is_net ground (first_tokens net) 1 two there

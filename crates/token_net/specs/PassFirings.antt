@@ -14,10 +14,10 @@ use Rattle.token_net.specs.Amid.{memory_amid, text_in, text_amid, IsAmid}
 use Rattle.token_net.specs.AmidLaws.{NodeCase}
 use Rattle.token_net.specs.Belonging.{IsNet}
 use Rattle.token_net.specs.FlowGround.{FlowGround}
-use Rattle.token_net.specs.NetPace.{IsBetween}
+use Rattle.token_net.specs.NetLockstep.{IsBetween}
 use Rattle.token_net.specs.Nodes.{NetOf, graph_in, kind_in, switches, nodes_at, nodes_of, node_count, node_at, first_node}
 use Rattle.token_net.specs.OrderLists.{after_join, order_join, written_join, range_more}
-use Rattle.token_net.specs.PaceLists.{HasItem, item_at}
+use Rattle.token_net.specs.LockstepLists.{HasItem, item_at}
 use Rattle.token_net.specs.PieceEnds.{none_fired}
 use Rattle.token_net.specs.PieceSteps.{exists, node_named, node_below, ready_next, further, own_case, same_name}
 use Rattle.token_net.specs.PlaceLaws.{length_with_all, length_slice_set}

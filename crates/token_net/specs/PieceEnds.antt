@@ -19,9 +19,9 @@ use Rattle.token_net.specs.Belonging.{IsNet}
 use Rattle.token_net.specs.FlowGround.{FlowGround, has_act}
 use Rattle.token_net.specs.FreeLines.{free_of_test, test_of_free, line_below}
 use Rattle.token_net.specs.MemberLaws.{Member, Member-filter, Member-range, Member-left, Member-right, Member-cases}
-use Rattle.token_net.specs.NetPace.{IsBetween}
+use Rattle.token_net.specs.NetLockstep.{IsBetween}
 use Rattle.token_net.specs.Nodes.{NetOf, graph_in, kind_in, is_free, touched, led_to, passing, nodes_by, nodes_at, node_count, first_node, switch_lines, all_lines}
-use Rattle.token_net.specs.PaceLists.{take_whole}
+use Rattle.token_net.specs.LockstepLists.{take_whole}
 use Rattle.token_net.specs.PieceSteps.{IsLed, exists, led_touched, led_passing, led_led}
 use Rattle.token_net.specs.PlaceLaws.{put, with_all_other, with_all_same}
 use Rattle.token_net.specs.Tokens.{Tokens, joined, edge_of, left_for, with_all, led_from, pass_at}
@@ -127,7 +127,7 @@ module _ (net : NetOf) (is_net : IsNet net) (ground : FlowGround net is_net.tree
       at_first = λ none k. between.edges k;
       before = λ k low. between.edges k;
       left = λ k some low high. absurd (omega (arith, some));
-      behind = λ k high. between.edges k;
+      after = λ k high. between.edges k;
       memory_is = between.memory_is;
       trap_is = between.trap_is;
       no_trap = λ some. absurd (omega (arith, some));
@@ -192,7 +192,7 @@ module _ (net : NetOf) (is_net : IsNet net) (ground : FlowGround net is_net.tree
 
           by : (node_count net piece ≡ 0) ⊎ (suc (switch_count net piece) ≤ node_count net piece) → left_for m k ≡ None
           by (inl none) = amid.at_first none k
-          by (inr more) = ⊎_elim (λ (low : k < first_node net piece + node_count net piece). amid.before k low) (λ (high : first_node net piece + switch_count net piece < k). amid.behind k high) (low_or_high (first_node net piece) (node_count net piece) (switch_count net piece) k more)
+          by (inr more) = ⊎_elim (λ (low : k < first_node net piece + node_count net piece). amid.before k low) (λ (high : first_node net piece + switch_count net piece < k). amid.after k high) (low_or_high (first_node net piece) (node_count net piece) (switch_count net piece) k more)
 
       pub all_fired : IsBetween net is_net.tree m d (memory_or memory (pass_at net piece memory))
       all_fired = record {

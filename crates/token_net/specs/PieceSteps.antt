@@ -19,9 +19,9 @@ use Rattle.token_net.specs.Belonging.{IsNet}
 use Rattle.token_net.specs.FlowGround.{FlowGround}
 use Rattle.token_net.specs.FreeLines.{test_of_free, stands_before}
 use Rattle.token_net.specs.MemberLaws.{Member, Member-filtered, Member-in_range}
-use Rattle.token_net.specs.NetPace.{IsBetween}
+use Rattle.token_net.specs.NetLockstep.{IsBetween}
 use Rattle.token_net.specs.Nodes.{NetOf, graph_in, kind_in, is_free, touched, led_to, passing, nodes_by, nodes_at, nodes_of, node_count, node_at, name_in, first_node, switch_lines, switches}
-use Rattle.token_net.specs.PaceLists.{member_at, below_length, HasItem, item_at, get_flat}
+use Rattle.token_net.specs.LockstepLists.{member_at, below_length, HasItem, item_at, get_flat}
 use Rattle.token_net.specs.PlaceLaws.{left_of, with_all_other}
 use Rattle.token_net.specs.Tokens.{Tokens, joined, edge_of, left_for, led_from, is_before, leads_to, ready_as, pass_at, acted, switched, merged, fired_as}
 

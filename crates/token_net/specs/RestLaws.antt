@@ -22,10 +22,10 @@ use Rattle.token_net.specs.Belonging.{IsNet, CanCome}
 use Rattle.token_net.specs.FlowGround.{FlowGround, has_act}
 use Rattle.token_net.specs.MemberLaws.{Member, IsImage, IsFromOne, Member-filter, Member-filtered, Member-range, Member-in_range, Member-mapped, Member-flat_mapped}
 use Rattle.token_net.specs.NetOrder.{net_course}
-use Rattle.token_net.specs.NetPace.{IsBetween, IsInPace}
+use Rattle.token_net.specs.NetLockstep.{IsBetween, IsInLockstep}
 use Rattle.token_net.specs.Nodes.{NetOf, graph_in, kind_in, is_free, touched, led_to, passing, all_lines, nodes_by, nodes_at, nodes_of, node_count, node_at, name_in, switches}
-use Rattle.token_net.specs.PaceLaws.{IsDue, due_is, none_due, due_ready, piece_exists, later}
-use Rattle.token_net.specs.PaceLists.{HasItem, item_at, member_at}
+use Rattle.token_net.specs.LockstepLaws.{IsDue, due_is, none_due, due_ready, piece_exists, later}
+use Rattle.token_net.specs.LockstepLists.{HasItem, item_at, member_at}
 use Rattle.token_net.specs.PieceEnds.{all_fired}
 use Rattle.token_net.specs.PieceSteps.{node_below}
 use Rattle.token_net.specs.PlaceLaws.{left_of, right_of, all_pass}
@@ -116,7 +116,7 @@ module _ (net : NetOf) (is_net : IsNet net) (ground : FlowGround net is_net.tree
 
 -- ---- the order
 
-module _ (net : NetOf) (m : Tokens) (c : Control) (pace : IsInPace net m c) where
+module _ (net : NetOf) (m : Tokens) (c : Control) (lockstep : IsInLockstep net m c) where
   end_kind_of : (k : PieceKind) → is_end k ≡ true → k ≡ kind.End
   end_kind_of kind.End is = refl
   end_kind_of kind.Start is = absurd cc
@@ -129,32 +129,32 @@ module _ (net : NetOf) (m : Tokens) (c : Control) (pace : IsInPace net m c) wher
   -- where all nodes of the end have fired
   over_at_end : is_end (kind_in net c.piece) ≡ true → node_count net c.piece ≤ c.fired → IsOver (net_moves net) m
   over_at_end is high =
-      let way = pace.way in
-      let few = pace.few in
+      let way = lockstep.way in
+      let few = lockstep.few in
       let g = graph_in net in
       let end_kind : kind_in net c.piece ≡ kind.End = end_kind_of (kind_in net c.piece) is in
-      let exists = piece_exists net m c pace in
-      let made : pass_at net c.piece pace.memory ≡ Done = ap (λ k. pass_of net.program net.input pace.memory (out g c.piece) k (exec_kind net.program c.piece)) end_kind in
-      let at_finish : c.piece ≡ finish net.program.execs = (pace.ground.shape.end c.piece exists).0 end_kind in
-      let some = some_edge net pace.is_net pace.ground in
-      let begins : from g 0 ≡ c.piece = (pace.ground.shape.leaves_end 0 some).1 refl ∙ sym at_finish in
-      let back_out : 0 ≡ out g c.piece 0 = pace.ground.one_out 0 some (ap (λ (x : ℕ). leaves_one (kind_in net x)) begins ∙ ap leaves_one end_kind) ∙ ap (λ (x : ℕ). out g x 0) begins in
-      let leaves : leaving net c.piece (pass_at net c.piece pace.memory) ≡ 0 = ap (leaving net c.piece) made ∙ sym back_out in
+      let exists = piece_exists net m c lockstep in
+      let made : pass_at net c.piece lockstep.memory ≡ Done = ap (λ k. pass_of net.program net.input lockstep.memory (out g c.piece) k (exec_kind net.program c.piece)) end_kind in
+      let at_finish : c.piece ≡ finish net.program.execs = (lockstep.ground.shape.end c.piece exists).0 end_kind in
+      let some = some_edge net lockstep.is_net lockstep.ground in
+      let begins : from g 0 ≡ c.piece = (lockstep.ground.shape.leaves_end 0 some).1 refl ∙ sym at_finish in
+      let back_out : 0 ≡ out g c.piece 0 = lockstep.ground.one_out 0 some (ap (λ (x : ℕ). leaves_one (kind_in net x)) begins ∙ ap leaves_one end_kind) ∙ ap (λ (x : ℕ). out g x 0) begins in
+      let leaves : leaving net c.piece (pass_at net c.piece lockstep.memory) ≡ 0 = ap (leaving net c.piece) made ∙ sym back_out in
       let all : c.fired ≡ node_count net c.piece = omega (arith, few, high) in
-      let full : IsAmid net pace.start m c.piece (node_count net c.piece) pace.memory (pass_at net c.piece pace.memory) = subst (λ (i : ℕ). IsAmid net pace.start m c.piece i pace.memory (pass_at net c.piece pace.memory)) all pace.amid in
-      let between : IsBetween net pace.is_net.tree m 0 (memory_or pace.memory (pass_at net c.piece pace.memory)) = all_fired net pace.is_net pace.ground pace.edge c.piece way.exists pace.comes (later net m c pace) pace.start pace.memory pace.between m full 0 leaves some begins in
-      rests net pace.is_net pace.ground m (memory_or pace.memory (pass_at net c.piece pace.memory)) between
+      let full : IsAmid net lockstep.start m c.piece (node_count net c.piece) lockstep.memory (pass_at net c.piece lockstep.memory) = subst (λ (i : ℕ). IsAmid net lockstep.start m c.piece i lockstep.memory (pass_at net c.piece lockstep.memory)) all lockstep.amid in
+      let between : IsBetween net lockstep.is_net.tree m 0 (memory_or lockstep.memory (pass_at net c.piece lockstep.memory)) = all_fired net lockstep.is_net lockstep.ground lockstep.edge c.piece way.exists lockstep.comes (later net m c lockstep) lockstep.start lockstep.memory lockstep.between m full 0 leaves some begins in
+      rests net lockstep.is_net lockstep.ground m (memory_or lockstep.memory (pass_at net c.piece lockstep.memory)) between
 
-pub source_order : (net : NetOf) → IsSourceOrder (CanCome net) (net_moves net) (net_course net) (IsInPace net)
+pub source_order : (net : NetOf) → IsSourceOrder (CanCome net) (net_moves net) (net_course net) (IsInLockstep net)
 source_order net = record {
-  fires = λ m c k sound pace going due.
+  fires = λ m c k sound lockstep going due.
       let d : IsDue net c k = due_is net c k due in
-      let exists = piece_exists net m c pace in
-      subst (λ (i : ℕ). CanFire (net_moves net) m i) d.is (record { going = going; node = node_below net c.piece c.fired exists d.low; ready = due_ready net m c pace d.low });
-  over = λ m c sound pace going due.
+      let exists = piece_exists net m c lockstep in
+      subst (λ (i : ℕ). CanFire (net_moves net) m i) d.is (record { going = going; node = node_below net c.piece c.fired exists d.low; ready = due_ready net m c lockstep d.low });
+  over = λ m c sound lockstep going due.
       let high = none_due net c due in
       ⊎_elim
-      (λ (h : is_end (kind_in net c.piece) ≡ true). over_at_end net m c pace h high)
-      (λ (h : is_end (kind_in net c.piece) ≡ false). let low = pace.due h in absurd (omega (arith, low, high)))
+      (λ (h : is_end (kind_in net c.piece) ≡ true). over_at_end net m c lockstep h high)
+      (λ (h : is_end (kind_in net c.piece) ≡ false). let low = lockstep.due h in absurd (omega (arith, low, high)))
       (cases_Bool (is_end (kind_in net c.piece)));
 }

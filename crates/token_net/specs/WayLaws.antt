@@ -15,7 +15,7 @@ use Rattle.token_net.specs.Amid.{leaving, memory_or, IsAmid}
 use Rattle.token_net.specs.Belonging.{IsNet}
 use Rattle.token_net.specs.FlowGround.{FlowGround}
 use Rattle.token_net.specs.NetOrder.{is_idle, passed, passed_by}
-use Rattle.token_net.specs.NetPace.{IsBetween, IsOnWay}
+use Rattle.token_net.specs.NetLockstep.{IsBetween, IsOnWay}
 use Rattle.token_net.specs.Nodes.{NetOf, graph_in, kind_in, nodes_by, node_count}
 use Rattle.token_net.specs.PieceEnds.{none_fired, all_fired}
 use Rattle.token_net.specs.PlaceLaws.{left_of, right_of}

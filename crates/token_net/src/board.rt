@@ -57,7 +57,7 @@ impl<'a, const W: usize> Board<'a, W> {
         self.tables.firsts[piece as usize]
     }
 
-    /// The number behind the last node of a piece.
+    /// The number after the last node of a piece.
     pub(crate) fn end(&self, piece: u32) -> u32
         requires { piece < (graph_in (net_on self.now)).nodes }
         ensures end { result ≡ first_node (net_on self.now) piece + node_count (net_on self.now) piece }

@@ -20,7 +20,7 @@ use cfg_build::{flow_graph_has_shape, flow_graph_is_strong};
 use dep_routing::{next_edges, touches_are_sound};
 use f77_tree::{reads_decide, well_formed_programs_can_run};
 
-/// Nets keep the laws of firing: of two nodes that may both fire, neither minds if the other fires first.
+/// Nets keep the laws of firing: of two nodes that may both fire, the firings commute (the diamond property).
 pub fn nets_keep_the_laws()
     ensures { (net : NetOf) → IsLawful (CanCome net) (net_moves net) }
 {}

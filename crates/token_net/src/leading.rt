@@ -12,7 +12,7 @@ ghost use Rattle.token_net.specs.Waking.{HasNext, no_node};
 
 use crate::board::Board;
 use crate::standing::{lead, leave};
-use crate::waking::{wake_behind, wake_lines};
+use crate::waking::{wake_after, wake_lines};
 
 /// Leads the lines of a piece that acts along an edge, leaves it for the switches, and names the nodes that can be ready then.
 pub(crate) fn lead_away<const W: usize>(
@@ -46,5 +46,5 @@ pub(crate) fn lead_away<const W: usize>(
     lead(&board.plan, moved, edge, lines);
     leave(edges, first, end, edge);
     wake_lines(board, lines, moved, woken);
-    wake_behind(woken, first, end);
+    wake_after(woken, first, end);
 }

@@ -21,4 +21,6 @@ mod waking;
 pub use control::Control;
 pub use laws::{nets_begin_soundly, nets_keep_the_laws, parts_make_nets};
 pub use net::Net;
-pub use net_laws::{flow_graphs_ground_nets, nets_are_paced, nets_keep_pace, runs_ground_nets};
+pub use net_laws::{
+    flow_graphs_ground_nets, nets_simulate_programs, nets_stay_in_lockstep, runs_ground_nets,
+};

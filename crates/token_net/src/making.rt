@@ -12,7 +12,7 @@ ghost use Rattle.firing.specs.Control.{IsInStep};
 ghost use Rattle.token_net.specs.Belonging.{CanCome};
 ghost use Rattle.token_net.specs.BoardView.{net_on};
 ghost use Rattle.token_net.specs.NetOrder.{first_control as first_control_of};
-ghost use Rattle.token_net.specs.NetPace.{IsInPace};
+ghost use Rattle.token_net.specs.NetLockstep.{IsInLockstep};
 ghost use Rattle.token_net.specs.NetView.{net_of, tokens_of};
 ghost use Rattle.token_net.specs.Nodes.{all_lines};
 ghost use Rattle.token_net.specs.Parts.{AreParts, net_with};
@@ -22,7 +22,7 @@ ghost use Rattle.token_net.specs.Tokens.{first_tokens, led_from, net_moves};
 
 use crate::board::Board;
 use crate::laws::{ground, nets_begin_soundly};
-use crate::net_laws::{flow_graphs_ground_nets, nets_are_paced};
+use crate::net_laws::{flow_graphs_ground_nets, nets_simulate_programs};
 use crate::plan::Plan;
 use crate::tables::make_tables;
 use crate::{Control, Net};
@@ -52,7 +52,7 @@ impl<'a, const W: usize> Net<'a, W> {
         ensures place { IfOk result (λ n. n.control ≡ Some (first_control_of (net_of n))) }
         ensures last { IfOk result (λ n. n.text.items ≡ []) }
         ensures sound { IfOk result (λ n. CanCome (net_of n) (tokens_of n)) }
-        ensures in_step { IfOk result (λ n. IsInStep (net_moves (net_of n)) (IsInPace (net_of n)) (tokens_of n) n.control) }
+        ensures in_step { IfOk result (λ n. IsInStep (net_moves (net_of n)) (IsInLockstep (net_of n)) (tokens_of n) n.control) }
     {
         parts_begin();
         are_words(input);
@@ -77,13 +77,13 @@ impl<'a, const W: usize> Net<'a, W> {
 /// The net of a program begins soundly, and in step with the program.
 fn parts_begin()
     ensures sound { (p : Program) (f : FlowGraph) (touches : (piece line : ℕ) → Bool) (routing : Routing) (input : List ℤ) → AreParts p f touches routing → All IsWord input → CanCome (net_with p input touches routing) (first_tokens (net_with p input touches routing)) }
-    ensures in_pace { (p : Program) (f : FlowGraph) (touches : (piece line : ℕ) → Bool) (routing : Routing) (input : List ℤ) → AreParts p f touches routing → All IsWord input → IsInPace (net_with p input touches routing) (first_tokens (net_with p input touches routing)) (first_control_of (net_with p input touches routing)) }
+    ensures in_lockstep { (p : Program) (f : FlowGraph) (touches : (piece line : ℕ) → Bool) (routing : Routing) (input : List ℤ) → AreParts p f touches routing → All IsWord input → IsInLockstep (net_with p input touches routing) (first_tokens (net_with p input touches routing)) (first_control_of (net_with p input touches routing)) }
 {
     touches_are_sound();
     well_formed_programs_can_run();
     nets_begin_soundly();
     flow_graphs_ground_nets();
-    nets_are_paced();
+    nets_simulate_programs();
 }
 
 /// What the type of words says of each of them.

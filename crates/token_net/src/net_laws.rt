@@ -5,15 +5,15 @@ ghost use Rattle.f77_tree.specs.Run.{source};
 ghost use Rattle.dep_routing.specs.Touches.{AreTouches};
 ghost use Rattle.firing.specs.Control.{KeepsStep};
 ghost use Rattle.firing.specs.Orders.{after};
-ghost use Rattle.firing.specs.Pacing.{IsPaced};
+ghost use Rattle.firing.specs.Pacing.{IsSimulation};
 ghost use Rattle.firing.specs.SourceOrder.{IsSourceOrder, IsDueOrder};
 ghost use Rattle.token_net.specs.Belonging.{IsNet, CanCome};
 ghost use Rattle.token_net.specs.FlowGround.{FlowGround};
 ghost use Rattle.token_net.specs.NetOrder.{first_control, net_course};
-ghost use Rattle.token_net.specs.NetPace.{IsInPace};
+ghost use Rattle.token_net.specs.NetLockstep.{IsInLockstep};
 ghost use Rattle.token_net.specs.Nodes.{NetOf};
 ghost use Rattle.token_net.specs.OwnOrder.{own_order};
-ghost use Rattle.token_net.specs.StepPace.{RunGround, program_stage, program_text};
+ghost use Rattle.token_net.specs.StepLockstep.{RunGround, program_stage, program_text};
 ghost use Rattle.token_net.specs.Tokens.{first_tokens, net_moves};
 
 use cfg_build::{
@@ -28,16 +28,16 @@ use dep_routing::{
 
 /// A control that keeps step with the passes of a program stays in step where the node that is due fires, and such a node can
 /// fire; where none is due, none can.
-pub fn nets_keep_pace()
-    ensures steady { (net : NetOf) → KeepsStep (CanCome net) (net_moves net) (net_course net) (IsInPace net) }
-    ensures ordered { (net : NetOf) → IsSourceOrder (CanCome net) (net_moves net) (net_course net) (IsInPace net) }
+pub fn nets_stay_in_lockstep()
+    ensures steady { (net : NetOf) → KeepsStep (CanCome net) (net_moves net) (net_course net) (IsInLockstep net) }
+    ensures ordered { (net : NetOf) → IsSourceOrder (CanCome net) (net_moves net) (net_course net) (IsInLockstep net) }
 {}
 
-/// The source's own order of a net keeps pace with the steps of its program. Its firings are due one after another, five for each
+/// The source's own order of a net stays in lockstep with the steps of its program. Its firings are due one after another, five for each
 /// line and step at most, and after the firings of so many steps the memory is that after the steps.
-pub fn nets_are_paced()
-    ensures begins { (net : NetOf) (n : IsNet net) → FlowGround net n.tree → IsInPace net (first_tokens net) (first_control net) }
-    ensures paced { (net : NetOf) (n : IsNet net) → FlowGround net n.tree → RunGround net n.tree → IsPaced (net_moves net) (first_tokens net) (program_text net) (program_stage net) (own_order net) }
+pub fn nets_simulate_programs()
+    ensures begins { (net : NetOf) (n : IsNet net) → FlowGround net n.tree → IsInLockstep net (first_tokens net) (first_control net) }
+    ensures simulated { (net : NetOf) (n : IsNet net) → FlowGround net n.tree → RunGround net n.tree → IsSimulation (net_moves net) (first_tokens net) (program_text net) (program_stage net) (own_order net) }
     ensures due { (net : NetOf) (n : IsNet net) → FlowGround net n.tree → (steps : ℕ) → IsDueOrder (net_moves net) (net_course net) (first_tokens net) (first_control net) (own_order net steps) }
     ensures few { (net : NetOf) (n : IsNet net) → FlowGround net n.tree → (steps : ℕ) → length (own_order net steps) ≤ 5 * net.routing.lines * steps }
     ensures memory { (net : NetOf) (n : IsNet net) → FlowGround net n.tree → RunGround net n.tree → (steps : ℕ) → (after (net_moves net) (first_tokens net) (own_order net steps)).memory ≡ (source net.program net.input steps).memory }

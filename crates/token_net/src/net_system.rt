@@ -10,10 +10,10 @@ impl<const W: usize> StepSystem for Net<'_, W> {
     ghost use Rattle.token_net.specs.Belonging.{CanCome};
     ghost use Rattle.token_net.specs.NetLaws.{net_laws};
     ghost use Rattle.token_net.specs.NetOrder.{net_course};
-    ghost use Rattle.token_net.specs.NetPace.{IsInPace};
+    ghost use Rattle.token_net.specs.NetLockstep.{IsInLockstep};
     ghost use Rattle.token_net.specs.NetView.{net_of, tokens_of, woken_of};
     ghost use Rattle.token_net.specs.Nodes.{NetOf};
-    ghost use Rattle.token_net.specs.PaceLaws.{keeps_step};
+    ghost use Rattle.token_net.specs.LockstepLaws.{keeps_step};
     ghost use Rattle.token_net.specs.Tokens.{Tokens, net_moves};
 
     ghost Net = { NetOf };
@@ -40,7 +40,7 @@ impl<const W: usize> StepSystem for Net<'_, W> {
 
     ghost course = { net_course };
 
-    ghost in_step = { IsInPace };
+    ghost in_step = { IsInLockstep };
 
     fn nodes(&self) -> u32 {
         self.board.nodes()

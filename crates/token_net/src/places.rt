@@ -53,7 +53,7 @@ fn places<const W: usize>(
     }
 }
 
-/// The places at a piece that has a node of its own, and behind it a switch for each line that passes it untouched.
+/// The places at a piece that has a node of its own, and after it a switch for each line that passes it untouched.
 fn places_at_switches<const W: usize>(
     alloc: Global,
     plan: &Plan<W>,
@@ -73,8 +73,8 @@ fn places_at_switches<const W: usize>(
     let mut next = first + 1;
     for line in 0..plan.routes.lines() {
         let passes = passing.holds(line);
-        let behind = one_of(passes, next, none);
-        let place = one_of(touched.holds(line), first, behind);
+        let after = one_of(passes, next, none);
+        let place = one_of(touched.holds(line), first, after);
         list.push(place)?;
         next += one_of(passes, 1, 0);
     }

@@ -46,7 +46,7 @@ pub(crate) fn are_before<const W: usize>(
     true
 }
 
-/// Whether nothing is left for the nodes behind the first one, up to the end.
+/// Whether nothing is left for the nodes after the first one, up to the end.
 pub(crate) fn is_clear(edges: &Vec<Option<u32>>, first: u32, end: u32) -> bool
     requires some { first < end }
     requires nodes { end ≤ length edges.now.items }
@@ -90,7 +90,7 @@ pub(crate) fn drop_lines(touched: &[u32], lines: &mut Vec<Option<u32>>)
     }
 }
 
-/// Leaves an edge for the nodes behind the first one, up to the end.
+/// Leaves an edge for the nodes after the first one, up to the end.
 pub(crate) fn leave(edges: &mut Vec<Option<u32>>, first: u32, end: u32, edge: u32)
     requires some { first < end }
     requires nodes { end ≤ length edges.old.items }

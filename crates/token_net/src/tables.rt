@@ -40,7 +40,7 @@ pub(crate) struct Tables {
     pub(crate) places: Vec<LabelList>,
 }
 
-/// The tables of a net. More nodes than can be numbered are want of memory.
+/// The tables of a net. More nodes than can be numbered are allocation failure.
 pub(crate) fn make_tables<const W: usize>(alloc: Global, plan: &Plan<W>) -> Result<Tables, NoMemory>
     ensures { IfOk result (λ t. AreTables (net_in plan.now) t) }
 {

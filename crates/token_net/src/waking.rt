@@ -76,8 +76,8 @@ pub(crate) fn wake_lines<const W: usize>(
     }
 }
 
-/// Names the nodes behind the first one, up to the end.
-pub(crate) fn wake_behind(woken: &mut Vec<u32>, first: u32, end: u32)
+/// Names the nodes after the first one, up to the end.
+pub(crate) fn wake_after(woken: &mut Vec<u32>, first: u32, end: u32)
     requires some { first < end }
     requires room { vec_len woken.old + (end - suc first) ≤ vec_capacity woken.old }
     ensures has { (j : ℕ) → Member (range_with_len (suc first) (end - suc first)) j → Contains woken.new.items j }

@@ -7,7 +7,7 @@ use Rattle.cfg_build.specs.Joined.{FlowGraph}
 use Rattle.cfg_build.specs.Holds.{held_edge, with_hold}
 use Rattle.cfg_build.specs.Flow.{piece_at, piece_in}
 use Rattle.cfg_build.specs.Tables.{drawn_as}
-use Rattle.cfg_build.proofs.PutHolds.{hold_for, piece_is, front_stays, length_pieces, length_edges}
+use Rattle.cfg_build.proofs.PutHolds.{hold_for, piece_is, prefix_stays, length_pieces, length_edges}
 use Rattle.cfg_build.proofs.holds.put_holds.Goals as goal
 
 pub held_edge-edge-requires-clause-some : goal.held_edge-edge-requires-clause-some
@@ -58,5 +58,5 @@ loop-x-preserved c =
           ∙ sym (fold_more step (drawn_as c.args.drawing.now) held i 0 c.loop-x-test.true);
       pieces = omega (arith, ap (λ (f : FlowGraph). length f.pieces) drawn, length_pieces fin before e p, inv.pieces);
       edges = omega (arith, ap (λ (f : FlowGraph). length f.graph.edges) drawn, length_edges fin before e p, inv.edges);
-      same = λ k l. ap (λ (f : FlowGraph). slice_get f.pieces k) drawn ∙ front_stays now (hold_for p ∷ []) k (omega (arith, l, inv.pieces)) ∙ inv.same k l;
+      same = λ k l. ap (λ (f : FlowGraph). slice_get f.pieces k) drawn ∙ prefix_stays now (hold_for p ∷ []) k (omega (arith, l, inv.pieces)) ∙ inv.same k l;
     }

@@ -1,7 +1,7 @@
 use Rattle.std.proofs.Common.{◌≡◌, ◌≢◌, ◌<◌, ◌+◌, ℕ, get_or, length, sym, ap, ◌∙◌, refl, subst, arith}
 use Rattle.std.proofs.lemmas.List.{get_or_read}
 use Rattle.region_tree.specs.Tree.{IsNumber, entry_of, exit_of}
-use Rattle.dep_routing.specs.Order.{IsOrdering, IsPutBehind, unmarked}
+use Rattle.dep_routing.specs.Order.{IsOrdering, IsPutAfter, unmarked}
 use Rattle.dep_routing.proofs.Held.{Holds-at}
 use Rattle.dep_routing.proofs.Ordering.{IsOrdering-none_before, IsOrdering-before, IsOrder-end, number_at, none_at, one_at, find_at}
 use Rattle.dep_routing.proofs.order.regions_in_order.Goals as goal
@@ -60,7 +60,7 @@ step c =
           (IsOrdering-before t (length t.entries) done marks order c.loop-done.invariant more (get_or left e 0) w.place.new.marks.items w.place.new.order.items there (c.requires.left.right e some)
           (λ q other same. one_at t (length c.args.borders.now.left.items) (exit_of t) left c.requires.left q (get_or left e 0) other there same)
           (λ q other same. one_at t (length c.args.borders.now.entered.items) (entry_of t) c.args.borders.now.entered.items c.requires.entered q here other number same)
-          (subst (λ (r : ℕ). IsPutBehind r marks order w.place.new.marks.items w.place.new.order.items) before w.in_ok-place.ensures))
+          (subst (λ (r : ℕ). IsPutAfter r marks order w.place.new.marks.items w.place.new.order.items) before w.in_ok-place.ensures))
       | else-before-ne0 w ↦
           rw (w.marks-is, w.order-is) (
             IsOrdering-none_before t (length t.entries) done marks order c.loop-done.invariant more

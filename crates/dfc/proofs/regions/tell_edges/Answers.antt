@@ -5,8 +5,8 @@ use Rattle.dfc.specs.Regions.{edge_line}
 use Rattle.dfc.proofs.Texts.{line_told, fault_at_line, on_error}
 use Rattle.dfc.proofs.regions.tell_edges.Goals as goal
 
-pub returns-in_err-append-clause-front : goal.returns-in_err-append-clause-front
-returns-in_err-append-clause-front g c =
+pub returns-in_err-append-clause-prefix : goal.returns-in_err-append-clause-prefix
+returns-in_err-append-clause-prefix g c =
     let line : ℕ → List ℕ = λ e. edge_line e (from c.args.g.now e) (to c.args.g.now e) (slice_index c.args.classes.now e) in
     let e = c.loop-e.e in
     let here : e ≡ 0 + e = omega arith in
@@ -15,7 +15,7 @@ returns-in_err-append-clause-front g c =
     on_error c.from_residual.result
     (fault_at_line line 0 e (edge_count c.args.g.now) c.args.buffer.now c.loop-e.buffer c.as_bytes.result.now
     (g.K.Sink.got c.args.sink.now) (g.K.Sink.got c.loop-e.sink) (g.K.Sink.got c.append.new.sink)
-    (grind (arith, c.loop-e-test.true, c.edges-e-end.ensures.count)) is c.loop-e.invariant.written c.in_err-append.ensures.front)
+    (grind (arith, c.loop-e-test.true, c.edges-e-end.ensures.count)) is c.loop-e.invariant.written c.in_err-append.ensures.prefix)
 
 pub loop-e-preserved : goal.loop-e-preserved
 loop-e-preserved g c =

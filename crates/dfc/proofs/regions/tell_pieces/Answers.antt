@@ -4,8 +4,8 @@ use Rattle.dfc.specs.Regions.{piece_line}
 use Rattle.dfc.proofs.Texts.{line_told, fault_at_line, on_error}
 use Rattle.dfc.proofs.regions.tell_pieces.Goals as goal
 
-pub returns-in_err-append-clause-front : goal.returns-in_err-append-clause-front
-returns-in_err-append-clause-front g c =
+pub returns-in_err-append-clause-prefix : goal.returns-in_err-append-clause-prefix
+returns-in_err-append-clause-prefix g c =
     let pieces = c.args.flow.now.pieces in
     let k = c.loop-k.k in
     let here : k ≡ 0 + k = omega arith in
@@ -13,7 +13,7 @@ returns-in_err-append-clause-front g c =
     on_error c.from_residual.result
     (fault_at_line (λ n. piece_line n (piece_at pieces n)) 0 k (length pieces) c.args.buffer.now c.loop-k.buffer c.as_bytes.result.now
     (g.K.Sink.got c.args.sink.now) (g.K.Sink.got c.loop-k.sink) (g.K.Sink.got c.append.new.sink)
-    (grind (arith, c.loop-k-test.true, c.pieces-k-end.ensures.count)) is c.loop-k.invariant.written c.in_err-append.ensures.front)
+    (grind (arith, c.loop-k-test.true, c.pieces-k-end.ensures.count)) is c.loop-k.invariant.written c.in_err-append.ensures.prefix)
 
 pub loop-k-preserved : goal.loop-k-preserved
 loop-k-preserved g c =

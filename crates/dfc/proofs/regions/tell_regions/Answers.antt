@@ -1,6 +1,6 @@
 use Rattle.std.proofs.Common.{List, ℕ, refl, sym, subst, append-nil}
 use Rattle.std.specs.Io.KnownBytes.{Appends}
-use Rattle.df_io.specs.Write.{AppendsFront}
+use Rattle.df_io.specs.Write.{AppendsPrefix}
 use Rattle.dfc.specs.Due.{done}
 use Rattle.dfc.specs.Found.{text_of}
 use Rattle.dfc.proofs.RegionsTold.{found_tells, regions_mean}
@@ -22,7 +22,7 @@ returns-in-Ok-clause-due g c =
     record {
       due = done text;
       is = record { text = found_tells c.args.program.now c.in-Ok.found c.in-Ok.ensures; done = refl };
-      front = subst (λ (bytes : List ℕ). AppendsFront (g.K.Sink.got c.args.sink.now) (g.K.Sink.got c.tell.new.sink) bytes) (sym (append-nil text)) c.in-Err-tell.ensures.front;
+      prefix = subst (λ (bytes : List ℕ). AppendsPrefix (g.K.Sink.got c.args.sink.now) (g.K.Sink.got c.tell.new.sink) bytes) (sym (append-nil text)) c.in-Err-tell.ensures.prefix;
     }
 
 pub returns-in-Ok-tell-clause-means : goal.returns-in-Ok-tell-clause-means

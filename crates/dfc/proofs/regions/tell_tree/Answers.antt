@@ -5,8 +5,8 @@ use Rattle.dfc.specs.Regions.{region_line, region_lines}
 use Rattle.dfc.proofs.Texts.{line_told, fault_at_line, on_error}
 use Rattle.dfc.proofs.regions.tell_tree.Goals as goal
 
-pub returns-in_err-append-clause-front : goal.returns-in_err-append-clause-front
-returns-in_err-append-clause-front g c =
+pub returns-in_err-append-clause-prefix : goal.returns-in_err-append-clause-prefix
+returns-in_err-append-clause-prefix g c =
     let t = c.args.tree.now in
     let line : ℕ → List ℕ = λ r. region_line r (entry_of t r) (exit_of t r) (parent_of t r) in
     let r = c.loop-r.r in
@@ -17,7 +17,7 @@ returns-in_err-append-clause-front g c =
     on_error c.from_residual.result
     (fault_at_line line 1 k (region_count t) c.args.buffer.now c.loop-r.buffer c.as_bytes.result.now
     (g.K.Sink.got c.args.sink.now) (g.K.Sink.got c.loop-r.sink) (g.K.Sink.got c.append.new.sink)
-    (grind (arith, c.loop-r-test.true, c.count-r-end.ensures.count, c.loop-r.invariant.1)) is c.loop-r.invariant.0.written c.in_err-append.ensures.front)
+    (grind (arith, c.loop-r-test.true, c.count-r-end.ensures.count, c.loop-r.invariant.1)) is c.loop-r.invariant.0.written c.in_err-append.ensures.prefix)
 
 pub loop-r-preserved : goal.loop-r-preserved
 loop-r-preserved g c =

@@ -6,5 +6,5 @@ pub returns-clause-whole : goal.returns-clause-whole
 returns-clause-whole c = one-written
 
 -- src/laws.rt:10:1
-pub returns-clause-front : goal.returns-clause-front
-returns-clause-front c = one-end
+pub returns-clause-prefix : goal.returns-clause-prefix
+returns-clause-prefix c = one-end

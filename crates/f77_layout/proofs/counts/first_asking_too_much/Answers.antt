@@ -4,7 +4,7 @@ use Rattle.f77_tree.specs.declared.statements.Labelled.{Labelled}
 use Rattle.f77_layout.specs.Counted.{counted}
 use Rattle.f77_layout.specs.Counts.{asks_too_much, labels_picked, items_taken}
 use Rattle.f77_layout.specs.OwnOperations.{own_operations}
-use Rattle.f77_layout.proofs.FirstLine.{first_behind-here, first_behind-next}
+use Rattle.f77_layout.proofs.FirstLine.{first_after-here, first_after-next}
 use Rattle.f77_layout.proofs.StatementCounts.{sum-more}
 use Rattle.f77_layout.proofs.StatementOperations.{asks-counted, few-unless}
 use Rattle.f77_layout.proofs.counts.first_asking_too_much.Goals as goal
@@ -21,7 +21,7 @@ returns-then-are_too_many c = λ checked.
     let items : c.from-items.result ≡ items_taken s.stmt = c.from-items.ensures ∙ c.items_taken.ensures in
     let asks = asks-counted names checked stmts (take i stmts) s c.own_operations_of.result (c.loop-s.labels + c.from-labels.result) (c.loop-s.items + c.from-items.result) count (omega (arith, labels, c.loop-s.invariant.labels)) (omega (arith, items, c.loop-s.invariant.items)) in
     let too_many : (nat_lt 500 c.own_operations_of.result || nat_lt 4000 (c.loop-s.labels + c.from-labels.result) || nat_lt 4000 (c.loop-s.items + c.from-items.result)) ≡ true = sym c.are_too_many.ensures ∙ c.if-are_too_many.true in
-    sym (c.loop-s.invariant.line checked ∙ first_behind-here (asks_too_much names checked stmts) stmts i s c.loop-s-test.true is (asks ∙ too_many))
+    sym (c.loop-s.invariant.line checked ∙ first_after-here (asks_too_much names checked stmts) stmts i s c.loop-s-test.true is (asks ∙ too_many))
 
 pub loop-s-preserved : goal.loop-s-preserved
 loop-s-preserved c =
@@ -42,5 +42,5 @@ loop-s-preserved c =
       line = λ checked.
           let count : c.own_operations_of.result ≡ counted (own_operations names checked s.stmt) = c.own_operations_of.ensures checked in
           let asks = asks-counted names checked stmts (take i stmts) s c.own_operations_of.result (c.loop-s.labels + c.from-labels.result) (c.loop-s.items + c.from-items.result) count (omega (arith, labels, c.loop-s.invariant.labels)) (omega (arith, items, c.loop-s.invariant.items)) in
-          c.loop-s.invariant.line checked ∙ first_behind-next (asks_too_much names checked stmts) stmts i s c.loop-s-test.true is (asks ∙ few);
+          c.loop-s.invariant.line checked ∙ first_after-next (asks_too_much names checked stmts) stmts i s c.loop-s-test.true is (asks ∙ few);
     }

@@ -5,7 +5,7 @@ use Rattle.std.proofs.lemmas.Option.{slice_get_read}
 use Rattle.f77_tree.specs.declared.statements.Labelled.{Labelled}
 use Rattle.f77_layout.specs.Jumps.{jumps_into, leads_into}
 use Rattle.f77_layout.specs.Labels.{jumps, statement_of}
-use Rattle.f77_layout.proofs.FirstLine.{first_behind-here, first_behind-next}
+use Rattle.f77_layout.proofs.FirstLine.{first_after-here, first_after-next}
 use Rattle.f77_layout.proofs.UsedLabels.{jumps_borne}
 use Rattle.f77_layout.proofs.jumps.first_jump_into.Goals as goal
 
@@ -21,7 +21,7 @@ returns-then-enters_from c =
     let place = length-take-le {A = Labelled} c.loop-i.i c.args.stmts.now (omega (arith, c.loop-i-test.true)) in
     let fault : jumps_into c.args.stmts.now (take c.loop-i.i c.args.stmts.now) s ≡ true =
     ap (λ (n : ℕ). list_any (λ label. leads_into c.args.stmts.now n (statement_of c.args.stmts.now label)) (jumps s.stmt)) place ∙ (sym c.enters_from.ensures ∙ c.if-enters_from.true) in
-    sym (c.loop-i.invariant ∙ first_behind-here (jumps_into c.args.stmts.now) c.args.stmts.now c.loop-i.i s c.loop-i-test.true c.index-stmts-i.is fault)
+    sym (c.loop-i.invariant ∙ first_after-here (jumps_into c.args.stmts.now) c.args.stmts.now c.loop-i.i s c.loop-i-test.true c.index-stmts-i.is fault)
 
 pub loop-i-preserved : goal.loop-i-preserved
 loop-i-preserved c =
@@ -29,4 +29,4 @@ loop-i-preserved c =
     let place = length-take-le {A = Labelled} c.loop-i.i c.args.stmts.now (omega (arith, c.loop-i-test.true)) in
     let none : jumps_into c.args.stmts.now (take c.loop-i.i c.args.stmts.now) s ≡ false =
     ap (λ (n : ℕ). list_any (λ label. leads_into c.args.stmts.now n (statement_of c.args.stmts.now label)) (jumps s.stmt)) place ∙ (sym c.enters_from.ensures ∙ c.if-enters_from.false) in
-    c.loop-i.invariant ∙ first_behind-next (jumps_into c.args.stmts.now) c.args.stmts.now c.loop-i.i s c.loop-i-test.true c.index-stmts-i.is none
+    c.loop-i.invariant ∙ first_after-next (jumps_into c.args.stmts.now) c.args.stmts.now c.loop-i.i s c.loop-i-test.true c.index-stmts-i.is none

@@ -1,7 +1,7 @@
 use Rattle.std.proofs.Common.{length, refl, sym, ◌∙◌}
 use Rattle.std.proofs.lemmas.Option.{slice_get_read}
 use Rattle.f77_layout.specs.Labels.{lacks_label}
-use Rattle.f77_layout.proofs.FirstLine.{first_behind-here, first_behind-next}
+use Rattle.f77_layout.proofs.FirstLine.{first_after-here, first_after-next}
 use Rattle.f77_layout.proofs.UsedLabels.{used_given}
 use Rattle.f77_layout.proofs.labels.first_lacking_label.Goals as goal
 
@@ -12,8 +12,8 @@ lacks_one-requires-clause-targets c =
 
 pub returns-then-lacks_one : goal.returns-then-lacks_one
 returns-then-lacks_one c =
-    sym (c.loop-s.invariant ∙ first_behind-here (lacks_label c.args.stmts.now) c.args.stmts.now c.loop-s.s-index c.s-item.result c.loop-s-test.true c.s-item.is (sym c.lacks_one.ensures ∙ c.if-lacks_one.true))
+    sym (c.loop-s.invariant ∙ first_after-here (lacks_label c.args.stmts.now) c.args.stmts.now c.loop-s.s-index c.s-item.result c.loop-s-test.true c.s-item.is (sym c.lacks_one.ensures ∙ c.if-lacks_one.true))
 
 pub loop-s-preserved : goal.loop-s-preserved
 loop-s-preserved c =
-    c.loop-s.invariant ∙ first_behind-next (lacks_label c.args.stmts.now) c.args.stmts.now c.loop-s.s-index c.s-item.result c.loop-s-test.true c.s-item.is (sym c.lacks_one.ensures ∙ c.if-lacks_one.false)
+    c.loop-s.invariant ∙ first_after-next (lacks_label c.args.stmts.now) c.args.stmts.now c.loop-s.s-index c.s-item.result c.loop-s-test.true c.s-item.is (sym c.lacks_one.ensures ∙ c.if-lacks_one.false)

@@ -2,7 +2,7 @@ use Rattle.std.proofs.Common.{◌≡◌, Bool, false, if◌then◌else◌, lengt
 use Rattle.std.proofs.lemmas.Option.{slice_get_read}
 use Rattle.f77_layout.specs.declared.roles.Role.{Role}
 use Rattle.f77_layout.specs.Roles.{role_of}
-use Rattle.f77_layout.specs.OpenStack.{entries_behind, head_of}
+use Rattle.f77_layout.specs.OpenStack.{entries_after, head_of}
 use Rattle.f77_layout.proofs.OpenSteps.{held}
 use Rattle.f77_layout.proofs.Laminar.{AreNested-walk}
 use Rattle.f77_layout.proofs.SourceLabels.{AreLabelled-source}
@@ -15,8 +15,8 @@ pub returns-then-not-branch : goal.returns-then-not-branch
 returns-then-not-branch c =
     let s = c.index-stmts-i.result in
     let here = slice_get_read c.args.stmts.now (length c.args.stmts.now) c.loop-i.i s refl c.loop-i-test.true c.index-stmts-i.is in
-    let fault : entries_behind (role_of s.stmt) c.loop-i.i s.label c.loop-i.stack ≡ None =
-    ap (λ (r : Role). entries_behind r c.loop-i.i s.label c.loop-i.stack) (sym c.role_in-role.ensures) ∙ (c.in_ok-step.ensures ∙ ap (λ (b : Bool). if b then Some c.step.new.stack else None) c.if-not-branch.true) in
+    let fault : entries_after (role_of s.stmt) c.loop-i.i s.label c.loop-i.stack ≡ None =
+    ap (λ (r : Role). entries_after r c.loop-i.i s.label c.loop-i.stack) (sym c.role_in-role.ensures) ∙ (c.in_ok-step.ensures ∙ ap (λ (b : Bool). if b then Some c.step.new.stack else None) c.if-not-branch.true) in
     IsWalk-fault c.args.stmts.now c.loop-i.i s c.loop-i.stack c.loop-i.heads.items here c.loop-i.invariant fault
 
 pub loop-i-preserved : goal.loop-i-preserved
@@ -24,8 +24,8 @@ loop-i-preserved c =
     let s = c.index-stmts-i.result in
     let role = c.role_in-role.result in
     let here = slice_get_read c.args.stmts.now (length c.args.stmts.now) c.loop-i.i s refl c.loop-i-test.true c.index-stmts-i.is in
-    let by_role : entries_behind role c.loop-i.i s.label c.loop-i.stack ≡ Some c.step.new.stack = c.in_ok-step.ensures ∙ ap (λ (b : Bool). if b then Some c.step.new.stack else None) c.if-not-branch.false in
-    let is : entries_behind (role_of s.stmt) c.loop-i.i s.label c.loop-i.stack ≡ Some c.step.new.stack = ap (λ (r : Role). entries_behind r c.loop-i.i s.label c.loop-i.stack) (sym c.role_in-role.ensures) ∙ by_role in
+    let by_role : entries_after role c.loop-i.i s.label c.loop-i.stack ≡ Some c.step.new.stack = c.in_ok-step.ensures ∙ ap (λ (b : Bool). if b then Some c.step.new.stack else None) c.if-not-branch.false in
+    let is : entries_after (role_of s.stmt) c.loop-i.i s.label c.loop-i.stack ≡ Some c.step.new.stack = ap (λ (r : Role). entries_after r c.loop-i.i s.label c.loop-i.stack) (sym c.role_in-role.ensures) ∙ by_role in
     let head_is : turns_arm (role_of s.stmt) ≡ false → c.match-role.head ≡ head_of (held (role_of s.stmt) c.loop-i.stack) = λ no_arm. elim c.match-role.branch [
       | in-EndBlock w ↦ w.head-is ∙ (w.head-head.ensures ∙ head-ended (role_of s.stmt) c.loop-i.i s.label c.loop-i.stack c.step.new.stack (sym c.role_in-role.ensures ∙ w.in-EndBlock.is) is)
       | in_default w ↦ w.head-is ∙ (c.head-inside.ensures ∙ head-inside (role_of s.stmt) c.loop-i.stack (λ is. w.in_default.not-EndBlock (c.role_in-role.ensures ∙ is)) no_arm)

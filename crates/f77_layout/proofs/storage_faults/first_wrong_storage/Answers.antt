@@ -13,7 +13,7 @@ use Rattle.f77_layout.specs.Order.{is_out_of_order}
 use Rattle.f77_layout.specs.StorageFaults.{HasDeclared, has_wrong_declaration, has_wrong_data}
 use Rattle.f77_layout.specs.PlacedNames.{with_places, HasRightDims}
 use Rattle.f77_layout.specs.GivenWords.{Holds}
-use Rattle.f77_layout.proofs.FirstLine.{first_behind-next, first_behind-here, first_behind-end}
+use Rattle.f77_layout.proofs.FirstLine.{first_after-next, first_after-here, first_after-end}
 use Rattle.f77_layout.proofs.FlatParts.{flat_map_taken}
 use Rattle.f77_layout.proofs.StorageLines.{in_declaration_or_data, first_without_places, data_late, taken_next, clear_at, dims_next, all_dims, dims_clear, right_sizes}
 use Rattle.f77_layout.proofs.storage_faults.first_wrong_storage.Goals as goal
@@ -28,7 +28,7 @@ returns-then-branch c =
     let wrong = c.in_ok-is_wrong.ensures.wrong (take i stmts) c.loop-s.invariant.declared in
     sym (first_without_places names placed stmts [] stmts c.requires.right
     ∙ c.loop-s.invariant.first
-    ∙ first_behind-here (in_declaration_or_data names placed stmts) stmts i s c.loop-s-test.true c.s-item.is (or_left (has_wrong_declaration names (take i stmts) s) (has_wrong_data placed (take i stmts) s) (sym wrong ∙ c.if-branch.true)))
+    ∙ first_after-here (in_declaration_or_data names placed stmts) stmts i s c.loop-s-test.true c.s-item.is (or_left (has_wrong_declaration names (take i stmts) s) (has_wrong_data placed (take i stmts) s) (sym wrong ∙ c.if-branch.true)))
 
 pub is_wrong-requires-in-loop-s-clause-places : goal.is_wrong-requires-in-loop-s-clause-places
 is_wrong-requires-in-loop-s-clause-places c = λ is.
@@ -54,7 +54,7 @@ returns-then-branch-2 c =
     let wrong = c.in_ok-is_wrong-2.ensures.wrong (flat_map (part_words placed) (all_inits (take i stmts))) c.loop-s.invariant.held in
     sym (first_without_places names placed stmts [] stmts c.requires.right
     ∙ c.loop-s.invariant.first
-    ∙ first_behind-here (in_declaration_or_data names placed stmts) stmts i s c.loop-s-test.true c.s-item.is (or_right (has_wrong_declaration names (take i stmts) s) (has_wrong_data placed (take i stmts) s) (sym wrong ∙ c.if-branch-2.true)))
+    ∙ first_after-here (in_declaration_or_data names placed stmts) stmts i s c.loop-s-test.true c.s-item.is (or_right (has_wrong_declaration names (take i stmts) s) (has_wrong_data placed (take i stmts) s) (sym wrong ∙ c.if-branch-2.true)))
 
 pub loop-s-preserved : goal.loop-s-preserved
 loop-s-preserved c =
@@ -75,8 +75,8 @@ loop-s-preserved c =
       declared = subst (λ (above : List Labelled). HasDeclared c.is_wrong.new.self.arrays c.is_wrong.new.self.commons above) (taken_next stmts i s lt is) (c.in_ok-is_wrong.ensures.declared (take i stmts) inv.declared c.if-branch.false);
       held = subst (λ (seen : List ℕ). Holds (get nat_cmp c.is_wrong-in-loop-s.new.given.ends) seen) held (c.in_ok-is_wrong-2.ensures.added words inv.held c.if-branch-2.false);
       dims = dims_next stmts i s lt is inv.dims (dims_clear names (take i stmts) s clear);
-      ordered = sym (first_behind-next is_out_of_order stmts i s lt is (clear_at stmts i s lt is is_out_of_order inv.ordered)) ∙ inv.ordered;
-      first = inv.first ∙ first_behind-next (in_declaration_or_data names placed stmts) stmts i s lt is (or_from (has_wrong_declaration names (take i stmts) s) (has_wrong_data placed (take i stmts) s) clear clear_data);
+      ordered = sym (first_after-next is_out_of_order stmts i s lt is (clear_at stmts i s lt is is_out_of_order inv.ordered)) ∙ inv.ordered;
+      first = inv.first ∙ first_after-next (in_declaration_or_data names placed stmts) stmts i s lt is (or_from (has_wrong_declaration names (take i stmts) s) (has_wrong_data placed (take i stmts) s) clear clear_data);
     }
 
 pub returns : goal.returns
@@ -86,4 +86,4 @@ returns c =
     let stmts = c.args.stmts.now in
     sym (first_without_places names placed stmts [] stmts c.requires.right
     ∙ c.loop-s.invariant.first
-    ∙ first_behind-end (in_declaration_or_data names placed stmts) stmts c.loop-s.s-index c.loop-s-test.false)
+    ∙ first_after-end (in_declaration_or_data names placed stmts) stmts c.loop-s.s-index c.loop-s-test.false)

@@ -3,7 +3,7 @@ use Rattle.std.specs.List.{flat_map, list_any}
 use Rattle.std.specs.Ordering.{nat_cmp}
 use Rattle.std.specs.BTreeMap.{get}
 use Rattle.f77_tree.specs.InitialWords.{part_words}
-use Rattle.f77_layout.specs.Faults.{first_line, first_behind}
+use Rattle.f77_layout.specs.Faults.{first_line, first_after}
 use Rattle.f77_layout.specs.Declarations.{all_inits}
 use Rattle.f77_layout.specs.Order.{is_out_of_order}
 use Rattle.f77_layout.specs.StorageFaults.{HasDeclared, has_wrong_dims}
@@ -21,6 +21,6 @@ invariant-loop-s l =
       declared : HasDeclared l.declared.arrays l.declared.commons above;
       held : Holds (get nat_cmp l.given.ends) (flat_map (part_words placed) (all_inits above));
       dims : list_any has_wrong_dims above ≡ false;
-      ordered : first_behind is_out_of_order above rest ≡ None;
-      first : first_line (in_declaration_or_data l.names placed l.stmts) l.stmts ≡ first_behind (in_declaration_or_data l.names placed l.stmts) above rest;
+      ordered : first_after is_out_of_order above rest ≡ None;
+      first : first_line (in_declaration_or_data l.names placed l.stmts) l.stmts ≡ first_after (in_declaration_or_data l.names placed l.stmts) above rest;
     }

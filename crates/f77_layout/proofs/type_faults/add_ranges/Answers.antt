@@ -4,7 +4,7 @@ use Rattle.f77_tree.specs.declared.declarations.Kind.TheVariants.{Integer}
 use Rattle.f77_tree.specs.declared.declarations.LetterRange.{LetterRange}
 use Rattle.f77_layout.specs.Faults.{has_repeat}
 use Rattle.f77_layout.specs.TypeFaults.{letters_of_range}
-use Rattle.f77_layout.proofs.Repeats.{repeats_within, repeats_behind, more_of_them, given_from}
+use Rattle.f77_layout.proofs.Repeats.{repeats_within, repeats_after, more_of_them, given_from}
 use Rattle.f77_layout.proofs.type_faults.add_ranges.Goals as goal
 
 abbrev no_range : LetterRange
@@ -30,6 +30,6 @@ loop-range-preserved c =
     let keys : c.add_letters.new.implied.keys ≡ seen ++ letters = search rules in
     let next = given_from letters_of_range ranges i no_range c.loop-range-test.true in
     record {
-      again = c.loop-range.invariant.again ∙ repeats_behind (λ x b. x == b) seen (flat_map letters_of_range (drop i ranges)) letters rest next absent ∙ ap (λ (ks : List ℕ). has_repeat (λ x b. x == b) ks rest) (sym keys);
+      again = c.loop-range.invariant.again ∙ repeats_after (λ x b. x == b) seen (flat_map letters_of_range (drop i ranges)) letters rest next absent ∙ ap (λ (ks : List ℕ). has_repeat (λ x b. x == b) ks rest) (sym keys);
       more = ap (λ (ks : List ℕ). ks ++ rest) keys ∙ more_of_them (λ x b. x == b) seen (flat_map letters_of_range (drop i ranges)) letters rest next ∙ c.loop-range.invariant.more;
     }

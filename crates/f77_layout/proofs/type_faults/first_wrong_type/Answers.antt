@@ -2,7 +2,7 @@ use Rattle.std.proofs.Common.{rules, ◌≡◌, ◌||◌, Bool, true, false, not
 use Rattle.f77_layout.specs.Types.{is_well_kinded}
 use Rattle.f77_layout.specs.TypeFaults.{has_wrong_type}
 use Rattle.f77_layout.specs.KindsGiven.{gives_again, GivesMore}
-use Rattle.f77_layout.proofs.FirstLine.{first_behind-here, first_behind-next}
+use Rattle.f77_layout.proofs.FirstLine.{first_after-here, first_after-next}
 use Rattle.f77_layout.proofs.KindsGiven.{given-fault, given-next}
 use Rattle.f77_layout.proofs.type_faults.first_wrong_type.Goals as goal
 use Rattle.f77_layout.proofs.type_faults.first_wrong_type.Goals.{then-branch-via-then-branch, then-branch-via-else-branch+then-not-is_well_kinded}
@@ -32,7 +32,7 @@ returns-then-branch c =
           let good : is_well_kinded names s.stmt ≡ false = search rules in
           either_or (gives_again given s.stmt) (is_well_kinded names s.stmt) again good
     ] in
-    sym (c.loop-s.invariant.first ∙ first_behind-here (has_wrong_type names) stmts i s c.loop-s-test.true c.s-item.is (given-fault names (take i stmts) given s c.loop-s.invariant.given ∙ fault))
+    sym (c.loop-s.invariant.first ∙ first_after-here (has_wrong_type names) stmts i s c.loop-s-test.true c.s-item.is (given-fault names (take i stmts) given s c.loop-s.invariant.given ∙ fault))
 
 pub loop-s-preserved : goal.loop-s-preserved
 loop-s-preserved c =
@@ -46,6 +46,6 @@ loop-s-preserved c =
     let more : GivesMore given s.stmt c.add.new.self = search rules in
     let none = given-fault names (take i stmts) given s c.loop-s.invariant.given ∙ neither_nor (gives_again given s.stmt) (is_well_kinded names s.stmt) again good in
     record {
-      first = c.loop-s.invariant.first ∙ first_behind-next (has_wrong_type names) stmts i s c.loop-s-test.true c.s-item.is none;
+      first = c.loop-s.invariant.first ∙ first_after-next (has_wrong_type names) stmts i s c.loop-s-test.true c.s-item.is none;
       given = given-next stmts i s given c.add.new.self c.loop-s-test.true c.s-item.is c.loop-s.invariant.given more;
     }

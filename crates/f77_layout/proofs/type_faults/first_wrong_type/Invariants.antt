@@ -1,11 +1,11 @@
 use Rattle.std.proofs.Common.{◌≡◌, take, drop}
-use Rattle.f77_layout.specs.Faults.{first_line, first_behind}
+use Rattle.f77_layout.specs.Faults.{first_line, first_after}
 use Rattle.f77_layout.specs.TypeFaults.{has_wrong_type}
 use Rattle.f77_layout.proofs.KindsGiven.{IsGivenBy}
 use Rattle.f77_layout.proofs.type_faults.first_wrong_type.Given as goal
 
 abbrev pub invariant-loop-s : goal.invariant-loop-s
 invariant-loop-s l = record {
-  first : first_line (has_wrong_type l.names) l.stmts ≡ first_behind (has_wrong_type l.names) (take l.s-index l.stmts) (drop l.s-index l.stmts);
+  first : first_line (has_wrong_type l.names) l.stmts ≡ first_after (has_wrong_type l.names) (take l.s-index l.stmts) (drop l.s-index l.stmts);
   given : IsGivenBy (take l.s-index l.stmts) l.given;
 }

@@ -4,7 +4,7 @@ use Rattle.firing.specs.Control.{IsInStep}
 use Rattle.firing.specs.Play.{Moment, by_picks, moment}
 use Rattle.firing.proofs.ChosenLemmas.{marked_chosen, marked_fires, none_marked, marks_told}
 use Rattle.firing.proofs.ControlLemmas.{in_step_next}
-use Rattle.firing.proofs.PlayLemmas.{appends_told, front_told, moment_told, run_breaks, run_on, run_rests, run_stops, same_moment, trap_told}
+use Rattle.firing.proofs.PlayLemmas.{appends_told, prefix_told, moment_told, run_breaks, run_on, run_rests, run_stops, same_moment, trap_told}
 use Rattle.firing.proofs.playing.fire_chosen.Goals as goal
 
 pub returns-then-ready-eq0-clause-plays : goal.returns-then-ready-eq0-clause-plays
@@ -48,7 +48,7 @@ returns-in-Err-clause-plays g c =
     let below : c.firing.made < c.args.limit = omega (arith, kept.run.bounded, c.if-made-limit.false) in
     let did = c.in-Err.ensures in
     let leads = moment_told y.moves y.course (y.place c.firing.sys) kept.net did.marking did.place in
-    run_breaks w start kept.run below chose can leads (front_told y.moves kept.net (y.marking c.firing.sys) c.args.show c.marked_at-k.result (g.K.Sink.got c.firing.sink) (g.K.Sink.got c.step.new.sink) did.front)
+    run_breaks w start kept.run below chose can leads (prefix_told y.moves kept.net (y.marking c.firing.sys) c.args.show c.marked_at-k.result (g.K.Sink.got c.firing.sink) (g.K.Sink.got c.step.new.sink) did.prefix)
 
 pub firing-preserved : goal.firing-preserved
 firing-preserved g c =

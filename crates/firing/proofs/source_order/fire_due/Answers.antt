@@ -3,7 +3,7 @@ use Rattle.firing.specs.Control.{due_at}
 use Rattle.firing.specs.Moves.{CanFire}
 use Rattle.firing.specs.Play.{by_order, moment, node_of}
 use Rattle.firing.proofs.ControlLemmas.{due_fires, due_here, due_told}
-use Rattle.firing.proofs.PlayLemmas.{front_told, moment_told, run_breaks, run_stops, trap_told}
+use Rattle.firing.proofs.PlayLemmas.{prefix_told, moment_told, run_breaks, run_stops, trap_told}
 use Rattle.firing.proofs.source_order.fire_due.Goals as goal
 
 pub returns-then-made-limit-clause-plays : goal.returns-then-made-limit-clause-plays
@@ -47,4 +47,4 @@ returns-in-Err-clause-plays g c =
     let below : c.firing.made < c.args.limit = omega (arith, kept.run.bounded, c.if-made-limit.false) in
     let did = c.in-Err.ensures in
     let leads = moment_told y.moves y.course control kept.net did.marking did.place in
-    run_breaks w start kept.run below (sym (ap node_of (due_here (y.course net) (y.moves net) m control k is_due))) can leads (front_told y.moves kept.net m c.args.show k (g.K.Sink.got c.firing.sink) (g.K.Sink.got c.step.new.sink) did.front)
+    run_breaks w start kept.run below (sym (ap node_of (due_here (y.course net) (y.moves net) m control k is_due))) can leads (prefix_told y.moves kept.net m c.args.show k (g.K.Sink.got c.firing.sink) (g.K.Sink.got c.step.new.sink) did.prefix)

@@ -1,5 +1,5 @@
 use Rattle.std.proofs.Common.{◌∷◌, []}
-use Rattle.redundancy.proofs.Growing.{grown-none, grown-first, grown-one, grown-front}
+use Rattle.redundancy.proofs.Growing.{grown-none, grown-first, grown-one, grown-prefix}
 use Rattle.redundancy.proofs.pieces.collect_exec.Goals as goal
 
 pub returns-in_ok-collect-in-Assign : goal.returns-in_ok-collect-in-Assign
@@ -9,7 +9,7 @@ returns-in_ok-collect-in-Assign c =
     let old = c.args.found.now.items in
     let middle = c.collect_all.new.found.items in
     let new = c.collect.new.found.items in
-    rw c.in-Assign.is (grown-front names c.in-Assign.target.subs (value ∷ []) old middle new c.in_ok-collect_all-in-Assign.ensures.found (grown-one names value middle new c.in_ok-collect-in-Assign.ensures.found))
+    rw c.in-Assign.is (grown-prefix names c.in-Assign.target.subs (value ∷ []) old middle new c.in_ok-collect_all-in-Assign.ensures.found (grown-one names value middle new c.in_ok-collect-in-Assign.ensures.found))
 
 pub returns-in_ok-collect-in-DoStart-3 : goal.returns-in_ok-collect-in-DoStart-3
 returns-in_ok-collect-in-DoStart-3 c =

@@ -6,7 +6,7 @@ use Rattle.dep_routing.specs.Quiet.{IsFree}
 use Rattle.dep_routing.specs.Sound.{comes_to}
 use Rattle.region_tree.specs.Tree.{Tree}
 use Rattle.token_net.specs.Nodes.{NetOf, graph_in}
-use Rattle.token_net.specs.StepPace.{OutputMoves}
+use Rattle.token_net.specs.StepLockstep.{OutputMoves}
 use Rattle.token_net.proofs.net_laws.runs_ground_nets.Goals as goal
 
 moves_on : (net : NetOf) (t : Tree) (n : ℕ) → KeepsMoving net.program t net.touches net.input n → OutputMoves net t n

@@ -27,7 +27,7 @@ loop-line-preserved g c =
     let touches : c.holds.result ≡ net.touches c.args.piece c.loop-line.line = c.holds.ensures.member ∙ touches_at c.args.plan.now.touch.now c.args.piece c.loop-line.line c.at-touched.result.now c.at-touched.ensures.item in
     record {
       list = mapped_more (λ (line : ℕ). place_by net c.args.piece line kind.Branch) c.loop-line.list c.push.new.self c.loop-line.line c.one_of-place.result c.loop-line.invariant.list
-          (c.one_of-place.ensures ∙ ap (λ x. if c.holds.result then c.args.first else x) c.one_of-behind.ensures ∙ place_switch net c.args.piece c.loop-line.line c.args.first c.loop-line.next c.args.none c.holds.result c.holds-passes.result touches passes c.requires.first c.loop-line.invariant.next c.requires.none)
+          (c.one_of-place.ensures ∙ ap (λ x. if c.holds.result then c.args.first else x) c.one_of-after.ensures ∙ place_switch net c.args.piece c.loop-line.line c.args.first c.loop-line.next c.args.none c.holds.result c.holds-passes.result touches passes c.requires.first c.loop-line.invariant.next c.requires.none)
           c.in_ok-push.ensures.ok;
       next = ap (λ x. c.loop-line.next + x) c.one_of-next.ensures ∙ switch_next net c.args.piece c.loop-line.line c.loop-line.next c.holds-passes.result c.loop-line.invariant.next passes;
     }

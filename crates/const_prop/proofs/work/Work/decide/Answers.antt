@@ -6,7 +6,7 @@ use Rattle.cfg_build.specs.Shape.{kind_at}
 use Rattle.dep_routing.specs.Touch.{touches_in}
 use Rattle.const_prop.specs.declared.known.Known.{Known}
 use Rattle.const_prop.specs.declared.known.Known.TheVariants.{Nothing}
-use Rattle.const_prop.specs.Closed.{is_switch, decided_behind}
+use Rattle.const_prop.specs.Closed.{is_switch, decided_after}
 use Rattle.const_prop.specs.Known.{AtMost}
 use Rattle.const_prop.specs.Table.{knowns}
 use Rattle.const_prop.specs.KnownRows.{Rows}
@@ -46,8 +46,8 @@ returns-clause-decided g c =
     let alone = λ (k : ℕ) (l : k < edge_count f.graph) (same : to f.graph k ≡ node). one_edge_to_switch f (finish p.execs) node k c.args.edge c.requires.setting.program.shape c.head-node.ensures.exists switch l c.requires.edge same (sym c.head-node.ensures.node) in
     let here : get_or new.decisions.items (to f.graph c.args.edge) Nothing ≡ c.in-Some.decision =
     ap (λ (n : ℕ). get_or new.decisions.items n Nothing) (sym c.head-node.ensures.node) ∙ ap (λ (ds : List Known). get_or ds node Nothing) c.again.ensures.decisions ∙ decision-here c.args.s.now.program.now c.args.s.now.flow.now c.args.s.now.classes.now (touches_in c.args.s.now.touch.now) c.args.s.now.lines.now old c.args.edge node c.decided-decided.result c.in-Some.decision c.requires.edge c.head-node.ensures.node c.head-node.ensures.exists alone c.requires.settling.sized rise in
-    let same : decided_behind p f c.args.s.now.classes.now (so_far new) c.args.edge ≡ c.decided-decided.result =
-    ap (λ (rows : Rows g.row.W). decided_behind p f c.args.s.now.classes.now (knowns rows []) c.args.edge) c.again.ensures.values ∙ sym c.decided-decided.ensures in
+    let same : decided_after p f c.args.s.now.classes.now (so_far new) c.args.edge ≡ c.decided-decided.result =
+    ap (λ (rows : Rows g.row.W). decided_after p f c.args.s.now.classes.now (knowns rows []) c.args.edge) c.again.ensures.values ∙ sym c.decided-decided.ensures in
     subst (λ (k : Known). AtMost k (get_or new.decisions.items (to f.graph c.args.edge) Nothing)) (sym same) (subst (AtMost c.decided-decided.result) (sym here) rise.reaches)
 
 pub returns-clause-bounded : goal.returns-clause-bounded

@@ -6,7 +6,7 @@ use Rattle.cfg_build.specs.declared.pieces.PieceKind.TheVariants.{Branch}
 use Rattle.cfg_build.specs.Flow.{piece_at}
 use Rattle.cfg_build.specs.Passes.{kind_in}
 use Rattle.cfg_build.specs.Shape.{kind_at}
-use Rattle.const_prop.specs.Closed.{is_switch, selected, words_on, kind_behind, exec_behind}
+use Rattle.const_prop.specs.Closed.{is_switch, selected, words_on, kind_after, exec_after}
 use Rattle.const_prop.specs.Table.{knowns}
 use Rattle.const_prop.proofs.Uses.{switch-branch, branch-can, branch-few, decided-branch}
 use Rattle.const_prop.proofs.work.Work.decided.Goals as goal
@@ -14,7 +14,7 @@ use Rattle.const_prop.proofs.work.Work.decided.Goals as goal
 pub selected-requires : goal.selected-requires
 selected-requires g c =
     let f = c.args.s.now.flow.now in
-    let here : kind_at f c.head-node.result ≡ kind_behind f c.args.edge = ap (kind_at f) c.head-node.ensures.node in
+    let here : kind_at f c.head-node.result ≡ kind_after f c.args.edge = ap (kind_at f) c.head-node.ensures.node in
     let branch : kind_at f c.head-node.result ≡ Branch = switch-branch (kind_at f c.head-node.result) (ap is_switch here ∙ c.requires.switch) (λ is. c.in_default.not-Hold (c.kind.ensures ∙ is)) in
     let can = branch-can c.args.s.now.program.now f c.requires.setting.program c.head-node.result c.head-node.ensures.exists branch in
     let few = branch-few c.args.s.now.program.now f c.requires.setting.program c.head-node.result c.head-node.ensures.exists branch in
@@ -24,9 +24,9 @@ pub returns-in_default : goal.returns-in_default
 returns-in_default g c =
     let f = c.args.s.now.flow.now in
     let p = c.args.s.now.program.now in
-    let here : kind_at f c.head-node.result ≡ kind_behind f c.args.edge = ap (kind_at f) c.head-node.ensures.node in
-    let branch : kind_behind f c.args.edge ≡ Branch = switch-branch (kind_behind f c.args.edge) c.requires.switch (λ is. c.in_default.not-Hold (c.kind.ensures ∙ here ∙ is)) in
+    let here : kind_at f c.head-node.result ≡ kind_after f c.args.edge = ap (kind_at f) c.head-node.ensures.node in
+    let branch : kind_after f c.args.edge ≡ Branch = switch-branch (kind_after f c.args.edge) c.requires.switch (λ is. c.in_default.not-Hold (c.kind.ensures ∙ here ∙ is)) in
     let words = words_on c.args.s.now.classes.now (knowns c.args.self.now.known []) c.args.edge in
     c.selected.ensures
     ∙ ap (selected p.names words) (c.exec.ensures ∙ ap (λ (n : ℕ). kind_in (slice_get p.execs (piece_at f.pieces n).exec)) c.head-node.ensures.node)
-    ∙ sym (decided-branch p.names words (kind_behind f c.args.edge) (exec_behind p f c.args.edge) branch)
+    ∙ sym (decided-branch p.names words (kind_after f c.args.edge) (exec_after p f c.args.edge) branch)

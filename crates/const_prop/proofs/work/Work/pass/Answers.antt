@@ -7,7 +7,7 @@ use Rattle.cfg_build.specs.Shape.{kind_at}
 use Rattle.dep_routing.specs.Routing.{next_at}
 use Rattle.dep_routing.specs.Touch.{touches_in}
 use Rattle.const_prop.specs.declared.known.Known.TheVariants.{Nothing}
-use Rattle.const_prop.specs.Closed.{KindAllows, is_switch, is_merge, kind_behind, led_to}
+use Rattle.const_prop.specs.Closed.{KindAllows, is_switch, is_merge, kind_after, led_to}
 use Rattle.const_prop.specs.Known.{AtMost}
 use Rattle.const_prop.specs.Work.{so_far, these_lines, this_piece}
 use Rattle.const_prop.proofs.Order.{at_most-trans}
@@ -30,7 +30,7 @@ pass_along-requires g c =
     let settling = c.requires.settling in
     let items = outs_row f s.outs.items node e c.index.result.now c.as_slice-out-items.result.now c.requires.setting.outs c.head-node.ensures.exists c.head-node.ensures.node c.index.ensures c.as_slice-out-items.ensures in
     let inside = out_exists f e c.ways.i c.as_slice-out-items.result.now items c.ways-test.true in
-    let kinds : c.passes_on.result ≡ (is_switch (kind_behind f e) || is_merge (kind_behind f e)) = c.passes_on.ensures ∙ ap (λ (k : PieceKind). is_switch k || is_merge k) (c.kind-kind.ensures ∙ ap (kind_at f) c.head-node.ensures.node) in
+    let kinds : c.passes_on.result ≡ (is_switch (kind_after f e) || is_merge (kind_after f e)) = c.passes_on.ensures ∙ ap (λ (k : PieceKind). is_switch k || is_merge k) (c.kind-kind.ensures ∙ ap (kind_at f) c.head-node.ensures.node) in
     let way = allows_way f old e c.ways.i node c.kind-kind.result c.index-decision.result.now c.as_slice-out-items.result.now c.requires.edge c.head-node.ensures.node c.kind-kind.ensures (get_or_read old.decisions.items node c.index-decision.result.now (omega (arith, c.head-node.ensures.exists, settling.sized.decisions)) c.index-decision.ensures Nothing) items c.ways-test.true (c.allows.ensures.0 c.if-allows.true) in
     let past : ArePast r s.touch.now e node c.args.fresh.now c.difference-lines.result = record { wires = c.wires.result.now; standing = c.intersection-standing.result; touched = c.at.result.now; are_wires = c.wires.ensures.wires; within = c.wires.ensures.within; stand = c.intersection-standing.ensures; pass = c.difference-lines.ensures; item = c.at.ensures.item } in
     let parts = past-parts r s.touch.now e node c.args.fresh.now c.difference-lines.result past in

@@ -6,9 +6,9 @@ use Rattle.f77_tree.specs.Grammar.{right_level, operator_level}
 use Rattle.f77_expr.specs.Reader.{operator_at, prefix_at, operand_level, truth_at, expression_at, primary_at, arguments_at}
 use Rattle.f77_expr.specs.Answers.{allowed, passed, meant, prefix_level, kept_prefixed, IsRead, AreRead}
 use Rattle.f77_expr.proofs.Results.{fails, passed_on}
-use Rattle.f77_expr.proofs.Chains.{operator_shorter, behind_shorter, begun_ends, begun_more, begun_fails}
+use Rattle.f77_expr.proofs.Chains.{operator_shorter, after_shorter, begun_ends, begun_more, begun_fails}
 use Rattle.f77_expr.proofs.Lists.{AreBegun, first_argument, no_first, next_argument, no_next, last_argument}
-use Rattle.f77_expr.proofs.Begins.{run_of, behind_run, primary-nothing, primary-number, primary-no_name, primary-call, primary-no_call, primary-name, call-shorter, primary-bracketed, primary-truth, primary-from, begun_primary, no_primary, begun_prefixed, no_operand}
+use Rattle.f77_expr.proofs.Begins.{run_of, after_run, primary-nothing, primary-number, primary-no_name, primary-call, primary-no_call, primary-name, call-shorter, primary-bracketed, primary-truth, primary-from, begun_primary, no_primary, begun_prefixed, no_operand}
 use Rattle.f77_expr.proofs.reader.Reader.+descent.Goals as goal
 
 pub arguments-returns-in_err-expression : goal.arguments-returns-in_err-expression
@@ -35,11 +35,11 @@ arguments-returns-in_err-expression-2 t c =
     let rest = c.loop-alloc.self.rest.now in
     let great_now = c.loop-alloc.self.has_great in
     let begun = c.loop-alloc.invariant in
-    let behind = c.passes.new.self.rest.now in
-    let comma : passed 44 rest ≡ Some behind = search rules in
+    let beyond = c.passes.new.self.rest.now in
+    let comma : passed 44 rest ≡ Some beyond = search rules in
     let whole : c.from_residual-in_err-expression-2.result ≡ Err c.in_err-expression-2.field-0.0 = search rules in
     fails _ _ _ _ c.expression-in-loop-alloc.result c.from_residual-in_err-expression-2.result c.in_err-expression-2.field-0.0 c.in_err-expression-2.was whole c.expression-in-loop-alloc.ensures
-    (λ none. no_next text great list rest great_now begun behind comma none)
+    (λ none. no_next text great list rest great_now begun beyond comma none)
 
 pub arguments-loop-alloc-preserved : goal.arguments-loop-alloc-preserved
 arguments-loop-alloc-preserved t c =
@@ -49,16 +49,16 @@ arguments-loop-alloc-preserved t c =
     let rest = c.loop-alloc.self.rest.now in
     let great_now = c.loop-alloc.self.has_great in
     let begun = c.loop-alloc.invariant in
-    let behind = c.passes.new.self.rest.now in
-    let comma : passed 44 rest ≡ Some behind = search rules in
+    let beyond = c.passes.new.self.rest.now in
+    let comma : passed 44 rest ≡ Some beyond = search rules in
     let e = c.in_ok-expression-2.field-0 in
     let rest_now = c.expression-in-loop-alloc.new.self.rest.now in
     let great_later = c.expression-in-loop-alloc.new.self.has_great in
     let same : c.passes.new.self.has_great ≡ great_now = search rules in
     let longer : c.push-in-loop-alloc.new.self ≡ list ++ e ∷ [] = search rules in
-    let next : IsRead behind c.passes.new.self.has_great (expression_at 0 behind) e rest_now great_later = search rules in
-    let next_same = subst (λ (g : Bool). IsRead behind g (expression_at 0 behind) e rest_now great_later) same next in
-    subst (λ (es : List RawExpr). AreBegun text great es rest_now great_later) (sym longer) (next_argument text great list rest great_now begun behind e rest_now great_later comma next_same)
+    let next : IsRead beyond c.passes.new.self.has_great (expression_at 0 beyond) e rest_now great_later = search rules in
+    let next_same = subst (λ (g : Bool). IsRead beyond g (expression_at 0 beyond) e rest_now great_later) same next in
+    subst (λ (es : List RawExpr). AreBegun text great es rest_now great_later) (sym longer) (next_argument text great list rest great_now begun beyond e rest_now great_later comma next_same)
 
 pub arguments-returns-then-passes : goal.arguments-returns-then-passes
 arguments-returns-then-passes t c =
@@ -82,7 +82,7 @@ expression-expression-requires t c =
     let rest = c.loop-op.self.rest.now in
     let left = c.loop-op.left in
     let some : allowed c.args.least left.level (operator_at rest) ≡ Some (c.in-Some.op, c.in-Some.rest.now) = search rules in
-    let less = behind_shorter c.args.least text great left.expr left.level rest c.loop-op.self.has_great c.loop-op.invariant c.in-Some.op c.in-Some.rest.now some in
+    let less = after_shorter c.args.least text great left.expr left.level rest c.loop-op.self.has_great c.loop-op.invariant c.in-Some.op c.in-Some.rest.now some in
     let room = c.requires.room in
     let d = c.decreases in
     (omega (arith, d, less), omega (arith, less, room))
@@ -94,7 +94,7 @@ expression-returns-in_err-right t c =
     let rest = c.loop-op.self.rest.now in
     let left = c.loop-op.left in
     let some : allowed c.args.least left.level (operator_at rest) ≡ Some (c.in-Some.op, c.in-Some.rest.now) = search rules in
-    let less = behind_shorter c.args.least text great left.expr left.level rest c.loop-op.self.has_great c.loop-op.invariant c.in-Some.op c.in-Some.rest.now some in
+    let less = after_shorter c.args.least text great left.expr left.level rest c.loop-op.self.has_great c.loop-op.invariant c.in-Some.op c.in-Some.rest.now some in
     let level : c.levels_of-levels.result.right ≡ right_level c.in-Some.op = search rules in
     let whole : c.from_residual-in_err-right.result ≡ Err c.in_err-right.field-0.0 = search rules in
     fails _ _ _ _ c.expression.result c.from_residual-in_err-right.result c.in_err-right.field-0.0 c.in_err-right.was whole c.expression.ensures
@@ -117,7 +117,7 @@ expression-loop-op-preserved t c =
     let rest = c.loop-op.self.rest.now in
     let left = c.loop-op.left in
     let some : allowed c.args.least left.level (operator_at rest) ≡ Some (c.in-Some.op, c.in-Some.rest.now) = search rules in
-    let less = behind_shorter c.args.least text great left.expr left.level rest c.loop-op.self.has_great c.loop-op.invariant c.in-Some.op c.in-Some.rest.now some in
+    let less = after_shorter c.args.least text great left.expr left.level rest c.loop-op.self.has_great c.loop-op.invariant c.in-Some.op c.in-Some.rest.now some in
     let level : c.levels_of-levels.result.right ≡ right_level c.in-Some.op = search rules in
     let right : IsRead c.in-Some.rest.now c.loop-op.self.has_great (expression_at c.levels_of-levels.result.right c.in-Some.rest.now) c.in_ok-right.right c.expression.new.self.rest.now c.expression.new.self.has_great = search rules in
     let made : c.in_ok-two.field-0 ≡ Apply c.in-Some.op (left.expr ∷ c.in_ok-right.right ∷ []) = search rules in
@@ -143,11 +143,11 @@ pub named-arguments-requires : goal.named-arguments-requires
 named-arguments-requires t c =
     let text = c.args.self.now.rest.now in
     let great = c.args.self.now.has_great in
-    let moved : c.name.new.self.rest.now ≡ behind_run text = search rules in
-    let behind = c.passes.new.self.rest.now in
-    let passed_there : passed 40 c.name.new.self.rest.now ≡ Some behind = search rules in
-    let bracket = subst (λ (r : List ℕ). passed 40 r ≡ Some behind) moved passed_there in
-    let less = call-shorter text behind bracket in
+    let moved : c.name.new.self.rest.now ≡ after_run text = search rules in
+    let beyond = c.passes.new.self.rest.now in
+    let passed_there : passed 40 c.name.new.self.rest.now ≡ Some beyond = search rules in
+    let bracket = subst (λ (r : List ℕ). passed 40 r ≡ Some beyond) moved passed_there in
+    let less = call-shorter text beyond bracket in
     let d = c.decreases in
     let room = c.requires.room in
     (omega (arith, d, less), omega (arith, less, room))
@@ -156,38 +156,38 @@ pub named-returns-in_err-arguments : goal.named-returns-in_err-arguments
 named-returns-in_err-arguments t c =
     let text = c.args.self.now.rest.now in
     let great = c.args.self.now.has_great in
-    let moved : c.name.new.self.rest.now ≡ behind_run text = search rules in
+    let moved : c.name.new.self.rest.now ≡ after_run text = search rules in
     let is_one : is_name (run_of text) ≡ true = search rules in
     let name : c.in-Some.name ≡ run_of text = search rules in
-    let behind = c.passes.new.self.rest.now in
-    let passed_there : passed 40 c.name.new.self.rest.now ≡ Some behind = search rules in
-    let bracket = subst (λ (r : List ℕ). passed 40 r ≡ Some behind) moved passed_there in
+    let beyond = c.passes.new.self.rest.now in
+    let passed_there : passed 40 c.name.new.self.rest.now ≡ Some beyond = search rules in
+    let bracket = subst (λ (r : List ℕ). passed 40 r ≡ Some beyond) moved passed_there in
     let whole : c.from_residual.result ≡ Err c.in_err-arguments.field-0.0 = search rules in
     fails _ _ _ _ c.arguments.result c.from_residual.result c.in_err-arguments.field-0.0 c.in_err-arguments.was whole c.arguments.ensures
-    (λ none. primary-no_call text c.requires.letter is_one behind bracket none)
+    (λ none. primary-no_call text c.requires.letter is_one beyond bracket none)
 
 pub named-returns-in_ok-arguments : goal.named-returns-in_ok-arguments
 named-returns-in_ok-arguments t c =
     let text = c.args.self.now.rest.now in
     let great = c.args.self.now.has_great in
-    let moved : c.name.new.self.rest.now ≡ behind_run text = search rules in
+    let moved : c.name.new.self.rest.now ≡ after_run text = search rules in
     let is_one : is_name (run_of text) ≡ true = search rules in
     let name : c.in-Some.name ≡ run_of text = search rules in
-    let behind = c.passes.new.self.rest.now in
-    let passed_there : passed 40 c.name.new.self.rest.now ≡ Some behind = search rules in
-    let bracket = subst (λ (r : List ℕ). passed 40 r ≡ Some behind) moved passed_there in
+    let beyond = c.passes.new.self.rest.now in
+    let passed_there : passed 40 c.name.new.self.rest.now ≡ Some beyond = search rules in
+    let bracket = subst (λ (r : List ℕ). passed 40 r ≡ Some beyond) moved passed_there in
     let es = c.in_ok-arguments.field-0 in
     let rest_now = c.arguments.new.self.rest.now in
     let great_now = c.arguments.new.self.has_great in
     let same : c.passes.new.self.has_great ≡ great = search rules in
-    let read : AreRead behind c.passes.new.self.has_great (arguments_at behind) es rest_now great_now = search rules in
-    primary-call text c.requires.letter is_one great c.in-Some.name es behind rest_now great_now name bracket (subst (λ (g : Bool). AreRead behind g (arguments_at behind) es rest_now great_now) same read)
+    let read : AreRead beyond c.passes.new.self.has_great (arguments_at beyond) es rest_now great_now = search rules in
+    primary-call text c.requires.letter is_one great c.in-Some.name es beyond rest_now great_now name bracket (subst (λ (g : Bool). AreRead beyond g (arguments_at beyond) es rest_now great_now) same read)
 
 pub named-returns-else-passes : goal.named-returns-else-passes
 named-returns-else-passes t c =
     let text = c.args.self.now.rest.now in
     let great = c.args.self.now.has_great in
-    let moved : c.name.new.self.rest.now ≡ behind_run text = search rules in
+    let moved : c.name.new.self.rest.now ≡ after_run text = search rules in
     let is_one : is_name (run_of text) ≡ true = search rules in
     let name : c.in-Some.name ≡ run_of text = search rules in
     let unmoved : c.passes.new.self.rest.now ≡ c.name.new.self.rest.now = search rules in
@@ -258,12 +258,12 @@ primary-returns-then-passes t c =
     let first : slice_get text 0 ≡ Some c.in-Some.first.now = search rules in
     let figure : is_figure c.in-Some.first.now ≡ false = search rules in
     let capital : is_capital c.in-Some.first.now ≡ false = search rules in
-    let behind = c.passes.new.self.rest.now in
-    let bracket : passed 40 text ≡ Some behind = search rules in
+    let beyond = c.passes.new.self.rest.now in
+    let bracket : passed 40 text ≡ Some beyond = search rules in
     let same : c.passes.new.self.has_great ≡ great = search rules in
-    let is = primary-bracketed text c.in-Some.first.now first figure capital behind bracket in
+    let is = primary-bracketed text c.in-Some.first.now first figure capital beyond bracket in
     passed_on _ _ _ _ c.bracketed.result
-    (λ e read. primary-from text behind great c.passes.new.self.has_great _ e c.bracketed.new.self.rest.now c.bracketed.new.self.has_great is same read)
+    (λ e read. primary-from text beyond great c.passes.new.self.has_great _ e c.bracketed.new.self.rest.now c.bracketed.new.self.has_great is same read)
     (λ none. is ∙ none) c.bracketed.ensures
 
 pub primary-returns-else-passes : goal.primary-returns-else-passes

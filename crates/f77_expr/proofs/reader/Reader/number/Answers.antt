@@ -1,7 +1,7 @@
 use Rattle.std.proofs.Common.{ap, ◌∙◌}
 use Rattle.std.specs.List.{list_all}
 use Rattle.f77_tree.specs.Name.{is_figure}
-use Rattle.f77_expr.proofs.Fronts.{run_of_kind}
+use Rattle.f77_expr.proofs.Prefixes.{run_of_kind}
 use Rattle.f77_expr.proofs.reader.Reader.number.Goals as goal
 
 pub constant-requires : goal.constant-requires

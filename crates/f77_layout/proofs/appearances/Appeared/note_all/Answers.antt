@@ -6,7 +6,7 @@ use Rattle.f77_layout.specs.Appearances.{appearing, has_real_name}
 use Rattle.f77_layout.specs.KeptDeclarations.{is_array_by}
 use Rattle.f77_layout.specs.Noting.{noted}
 use Rattle.f77_layout.proofs.Appearing.{real-statement, table-whole}
-use Rattle.f77_layout.proofs.FirstLine.{first_behind-here, first_behind-next}
+use Rattle.f77_layout.proofs.FirstLine.{first_after-here, first_after-next}
 use Rattle.f77_layout.proofs.NamesIn.{noted_flat_more}
 use Rattle.f77_layout.proofs.appearances.Appeared.note_all.Goals as goal
 
@@ -18,7 +18,7 @@ returns-then-self-clause-real c =
     let real : has_real_name stmts (take i stmts) s ≡ true =
     sym (real-statement c.args.declared.now stmts c.requires.tells c.loop-s.self (take i stmts) s c.loop-s.invariant.none) ∙ ap (λ (seen : Appeared). seen.has_real) (sym c.in_ok-note_stmt.ensures) ∙ c.if-self.true
     in
-    sym (c.loop-s.invariant.first ∙ first_behind-here (has_real_name stmts) stmts i s c.loop-s-test.true c.s-item.is real)
+    sym (c.loop-s.invariant.first ∙ first_after-here (has_real_name stmts) stmts i s c.loop-s-test.true c.s-item.is real)
 
 pub loop-s-preserved : goal.loop-s-preserved
 loop-s-preserved c =
@@ -31,7 +31,7 @@ loop-s-preserved c =
     sym (real-statement c.args.declared.now stmts c.requires.tells c.loop-s.self (take i stmts) s c.loop-s.invariant.none) ∙ ap (λ (seen : Appeared). seen.has_real) (sym c.in_ok-note_stmt.ensures) ∙ c.if-self.false
     in
     record {
-      first = c.loop-s.invariant.first ∙ first_behind-next (has_real_name stmts) stmts i s c.loop-s-test.true c.s-item.is none;
+      first = c.loop-s.invariant.first ∙ first_after-next (has_real_name stmts) stmts i s c.loop-s-test.true c.s-item.is none;
       none = c.if-self.false;
       seen = c.in_ok-note_stmt.ensures ∙ ap (λ (seen : Appeared). fold note seen (names s)) c.loop-s.invariant.seen ∙ noted_flat_more note names c.args.self.now stmts i s c.loop-s-test.true c.s-item.is;
     }

@@ -23,8 +23,8 @@ loop-span-preserved c = λ seen holds.
     let spans = c.args.spans.now in
     let i = c.loop-span.span-index in
     let x = c.span-item.result in
-    let front = seen ++ flat_map span_words (take i spans) in
-    let free = c.in_ok-add.ensures.free front inv.0 in
-    let added = c.in_ok-add.ensures.added front inv.0 c.if-not-branch.false in
+    let prefix = seen ++ flat_map span_words (take i spans) in
+    let free = c.in_ok-add.ensures.free prefix inv.0 in
+    let added = c.in_ok-add.ensures.added prefix inv.0 c.if-not-branch.false in
     let taken = append_assoc seen (flat_map span_words (take i spans)) (span_words x) ∙ ap (λ (ys : List ℕ). seen ++ ys) (sym (flat_map_taken span_words spans i x c.loop-span-test.true c.span-item.is)) in
     (subst (Holds (get nat_cmp c.add.new.self.ends)) taken added, inv.1 ∙ repeat_later span_words spans i x c.loop-span-test.true c.span-item.is (λ a b. a == b) seen (not-true _ (sym free ∙ c.if-not-branch.false)))

@@ -2,7 +2,7 @@ use Rattle.std.proofs.Common.{ℕ, ◌<◌, ◌≤◌, not, ⊎_elim, ap, sym, �
 use Rattle.std.specs.Ordering.{nat_cmp}
 use Rattle.std.specs.BTreeMap.{get}
 use Rattle.std.proofs.lemmas.Bool.{cases_lt, le-leb, lt-leb}
-use Rattle.f77_layout.proofs.GivenWordLemmas.{free_without, free_behind, taken_inside}
+use Rattle.f77_layout.proofs.GivenWordLemmas.{free_without, free_after, taken_inside}
 use Rattle.f77_layout.proofs.given_words.GivenWords.is_free.Goals as goal
 
 pub returns-in-Some : goal.returns-in-Some
@@ -12,8 +12,8 @@ returns-in-Some c = λ seen holds.
     let len = c.args.len in
     let found : ℕ × ℕ = (c.in-Some.field-0-0, c.in-Some.last) in
     ⊎_elim
-    (λ (behind : first < c.in-Some.last). lt-leb c.in-Some.last first behind ∙ ap not (sym (taken_inside end_of seen holds first len found c.requires.some c.in-Some.ensures behind)))
-    (λ (le : c.in-Some.last ≤ first). le-leb c.in-Some.last first le ∙ ap not (sym (free_behind end_of seen holds first len found c.in-Some.ensures le)))
+    (λ (beyond : first < c.in-Some.last). lt-leb c.in-Some.last first beyond ∙ ap not (sym (taken_inside end_of seen holds first len found c.requires.some c.in-Some.ensures beyond)))
+    (λ (le : c.in-Some.last ≤ first). le-leb c.in-Some.last first le ∙ ap not (sym (free_after end_of seen holds first len found c.in-Some.ensures le)))
     (cases_lt first c.in-Some.last)
 
 pub returns-in-None : goal.returns-in-None

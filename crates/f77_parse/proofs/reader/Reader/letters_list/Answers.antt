@@ -1,6 +1,6 @@
 use Rattle.std.proofs.Common.{◌≡◌, ◌<◌, ◌≤◌, ◌+◌, Bool, List, [], length, Some, Err, rules, arith, sym, ap, subst, ◌∙◌}
 use Rattle.f77_tree.specs.declared.declarations.LetterRange.{LetterRange}
-use Rattle.f77_parse.specs.Parts.{behind_comma}
+use Rattle.f77_parse.specs.Parts.{after_comma}
 use Rattle.f77_parse.specs.Keeping.{letters_kept}
 use Rattle.f77_parse.proofs.Given.{given_fails}
 use Rattle.f77_parse.proofs.ListsKept.{no_letters, first_letters, next_letters}
@@ -34,7 +34,7 @@ loop-self-preserved c =
     let later = c.letters-in-loop-self.new.self.rest.now in
     let bad_now = c.letters-in-loop-self.new.self.is_bad in
     let longer = c.in_ok-list-2.list in
-    let comma : behind_comma c.loop-self.self.rest.now ≡ Some next = search rules in
+    let comma : after_comma c.loop-self.self.rest.now ≡ Some next = search rules in
     let less : length next < length c.loop-self.self.rest.now = search rules in
     let same : c.passes_comma.new.self.is_bad ≡ c.loop-self.self.is_bad = search rules in
     let some : letters_kept c.loop-self.list c.passes_comma.new.self.is_bad next ≡ Some (longer, bad_now, later) = search rules in

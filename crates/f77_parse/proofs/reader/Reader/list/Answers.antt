@@ -1,5 +1,5 @@
 use Rattle.std.proofs.Common.{◌≡◌, ◌<◌, Bool, List, [], ◌∷◌, ◌++◌, length, Some, None, Err, rules, arith, sym, subst}
-use Rattle.f77_parse.specs.Parts.{behind_comma}
+use Rattle.f77_parse.specs.Parts.{after_comma}
 use Rattle.f77_parse.specs.Keeping.{kept_list}
 use Rattle.f77_parse.proofs.Given.{given_fails}
 use Rattle.f77_parse.proofs.ListsKept.{IsBegun, no_first, first_item, last_item, no_next, next_item}
@@ -27,7 +27,7 @@ pub returns-in_err-read-2-clause-gives : goal.returns-in_err-read-2-clause-gives
 returns-in_err-read-2-clause-gives g c =
     let begun = c.loop-alloc.invariant in
     let next = c.passes_comma.new.self.rest.now in
-    let comma : behind_comma c.loop-alloc.self.rest.now ≡ Some next = search rules in
+    let comma : after_comma c.loop-alloc.self.rest.now ≡ Some next = search rules in
     let same : c.passes_comma.new.self.is_bad ≡ c.loop-alloc.self.is_bad = search rules in
     let whole : c.from_residual-in_err-read-2.result ≡ Err c.in_err-read-2.field-0.0 = search rules in
     given_fails _ _ c.read-in-loop-alloc.result c.from_residual-in_err-read-2.result c.in_err-read-2.field-0.0 _ _ _ _ c.in_err-read-2.was whole c.read-in-loop-alloc.ensures.gives
@@ -55,7 +55,7 @@ loop-alloc-preserved g c =
     let next = c.passes_comma.new.self.rest.now in
     let later = c.read-in-loop-alloc.new.reader.rest.now in
     let bad_now = c.read-in-loop-alloc.new.reader.is_bad in
-    let comma : behind_comma c.loop-alloc.self.rest.now ≡ Some next = search rules in
+    let comma : after_comma c.loop-alloc.self.rest.now ≡ Some next = search rules in
     let less : length next < length c.loop-alloc.self.rest.now = search rules in
     let same : c.passes_comma.new.self.is_bad ≡ c.loop-alloc.self.is_bad = search rules in
     let shorter : length later < length next = search rules in
@@ -67,7 +67,7 @@ loop-alloc-preserved g c =
 pub returns-clause-gives : goal.returns-clause-gives
 returns-clause-gives g c =
     let begun = c.loop-alloc.invariant in
-    let none : behind_comma c.loop-alloc.self.rest.now ≡ None = search rules in
+    let none : after_comma c.loop-alloc.self.rest.now ≡ None = search rules in
     let ends : kept_list g.P.Part.kept c.args.self.now.is_bad c.args.self.now.rest.now ≡ Some (c.loop-alloc.list, c.loop-alloc.self.is_bad, c.loop-alloc.self.rest.now) = last_item g.P.Part.kept _ _ _ _ _ _ begun none in
     search rules
 

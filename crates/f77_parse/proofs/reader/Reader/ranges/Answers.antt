@@ -1,6 +1,6 @@
 use Rattle.std.proofs.Common.{◌≡◌, ◌<◌, Bool, List, [], ◌∷◌, ◌++◌, length, Some, None, Err, rules, arith, sym, ap, subst}
-use Rattle.f77_parse.specs.Parts.{behind_comma}
-use Rattle.f77_parse.specs.Keeping.{kept_behind, range_kept}
+use Rattle.f77_parse.specs.Parts.{after_comma}
+use Rattle.f77_parse.specs.Keeping.{kept_after, range_kept}
 use Rattle.f77_parse.proofs.Given.{given_fails}
 use Rattle.f77_parse.proofs.ListsKept.{IsBegun, no_first, first_item, last_item, no_next, next_item}
 use Rattle.f77_parse.proofs.reader.Reader.ranges.Goals as goal
@@ -21,13 +21,13 @@ loop-kind-init c =
     let some : (range_kept c.args.kind) bad text ≡ Some (c.in_ok-range.field-0, bad_now, rest) = search rules in
     let less : length rest < length text = search rules in
     let made : c.push.new.self ≡ c.args.list ++ c.in_ok-range.field-0 ∷ [] = search rules in
-    subst (λ (list : List _). IsBegun (range_kept c.args.kind) c.args.list text (kept_behind (range_kept c.args.kind) c.args.list bad text) list bad_now rest) (sym made) (first_item (range_kept c.args.kind) c.args.list bad text c.in_ok-range.field-0 bad_now rest some less)
+    subst (λ (list : List _). IsBegun (range_kept c.args.kind) c.args.list text (kept_after (range_kept c.args.kind) c.args.list bad text) list bad_now rest) (sym made) (first_item (range_kept c.args.kind) c.args.list bad text c.in_ok-range.field-0 bad_now rest some less)
 
 pub returns-in_err-range-2-clause-gives : goal.returns-in_err-range-2-clause-gives
 returns-in_err-range-2-clause-gives c =
     let begun = c.loop-kind.invariant in
     let next = c.passes_comma.new.self.rest.now in
-    let comma : behind_comma c.loop-kind.self.rest.now ≡ Some next = search rules in
+    let comma : after_comma c.loop-kind.self.rest.now ≡ Some next = search rules in
     let same : c.passes_comma.new.self.is_bad ≡ c.loop-kind.self.is_bad = search rules in
     let whole : c.from_residual-in_err-range-2.result ≡ Err c.in_err-range-2.field-0.0 = search rules in
     given_fails _ _ c.range-in-loop-kind.result c.from_residual-in_err-range-2.result c.in_err-range-2.field-0.0 _ _ _ _ c.in_err-range-2.was whole c.range-in-loop-kind.ensures.gives
@@ -55,20 +55,20 @@ loop-kind-preserved c =
     let next = c.passes_comma.new.self.rest.now in
     let later = c.range-in-loop-kind.new.self.rest.now in
     let bad_now = c.range-in-loop-kind.new.self.is_bad in
-    let comma : behind_comma c.loop-kind.self.rest.now ≡ Some next = search rules in
+    let comma : after_comma c.loop-kind.self.rest.now ≡ Some next = search rules in
     let less : length next < length c.loop-kind.self.rest.now = search rules in
     let same : c.passes_comma.new.self.is_bad ≡ c.loop-kind.self.is_bad = search rules in
     let shorter : length later < length next = search rules in
     let some : (range_kept c.args.kind) c.passes_comma.new.self.is_bad next ≡ Some (c.in_ok-range-2.field-0, bad_now, later) = search rules in
     let made : c.push-in-loop-kind.new.self ≡ c.loop-kind.list ++ c.in_ok-range-2.field-0 ∷ [] = search rules in
     let there = subst (λ (b : Bool). (range_kept c.args.kind) b next ≡ Some (c.in_ok-range-2.field-0, bad_now, later)) same some in
-    subst (λ (list : List _). IsBegun (range_kept c.args.kind) c.args.list text (kept_behind (range_kept c.args.kind) c.args.list c.args.self.now.is_bad text) list bad_now later) (sym made) (next_item (range_kept c.args.kind) _ _ _ _ _ _ begun next c.in_ok-range-2.field-0 bad_now later comma less there shorter)
+    subst (λ (list : List _). IsBegun (range_kept c.args.kind) c.args.list text (kept_after (range_kept c.args.kind) c.args.list c.args.self.now.is_bad text) list bad_now later) (sym made) (next_item (range_kept c.args.kind) _ _ _ _ _ _ begun next c.in_ok-range-2.field-0 bad_now later comma less there shorter)
 
 pub returns-clause-gives : goal.returns-clause-gives
 returns-clause-gives c =
     let begun = c.loop-kind.invariant in
-    let none : behind_comma c.loop-kind.self.rest.now ≡ None = search rules in
-    let ends : kept_behind (range_kept c.args.kind) c.args.list c.args.self.now.is_bad c.args.self.now.rest.now ≡ Some (c.loop-kind.list, c.loop-kind.self.is_bad, c.loop-kind.self.rest.now) = last_item (range_kept c.args.kind) _ _ _ _ _ _ begun none in
+    let none : after_comma c.loop-kind.self.rest.now ≡ None = search rules in
+    let ends : kept_after (range_kept c.args.kind) c.args.list c.args.self.now.is_bad c.args.self.now.rest.now ≡ Some (c.loop-kind.list, c.loop-kind.self.is_bad, c.loop-kind.self.rest.now) = last_item (range_kept c.args.kind) _ _ _ _ _ _ begun none in
     search rules
 
 pub returns-clause-shorter : goal.returns-clause-shorter

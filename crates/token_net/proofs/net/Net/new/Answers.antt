@@ -51,4 +51,4 @@ returns-clause-in_step g c =
     let same : net ≡ made = c.in_ok-board.ensures in
     let memory = c.in_ok-initial_storage.ensures ∙ ap (λ (x : NetOf). Rattle.f77_tree.specs.Run.first_memory x.program) (sym same) in
     in_step net made _ c.first_control-control.result same (first_made net c.nodes.result c.in_ok-first_places.field-0.items c.in_ok-nothing_left.field-0.items (memory_of c.in_ok-initial_storage.field-0) c.in_ok-first_places.ensures c.in_ok-nothing_left.ensures c.nodes.ensures memory) c.first_control-control.ensures.control
-    (c.parts_begin.ensures.in_pace c.args.p.now c.args.f.now (touches_in c.args.touch.now) c.args.l.now c.args.input.now.items c.requires.parts c.are_words.ensures)
+    (c.parts_begin.ensures.in_lockstep c.args.p.now c.args.f.now (touches_in c.args.touch.now) c.args.l.now c.args.input.now.items c.requires.parts c.are_words.ensures)

@@ -1,5 +1,0 @@
-use Rattle.counter_nets.specs.Rivals.{no_laws}
-use Rattle.counter_nets.proofs.rivals.rivals_break_the_laws.Goals as goal
-
-pub returns : goal.returns
-returns g c = λ is_sound lawful. no_laws g.C.OnTokens.holds is_sound lawful

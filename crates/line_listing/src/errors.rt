@@ -1,8 +1,0 @@
-//! Want of memory, as an error of the program.
-
-use std::io;
-use std::io::ErrorKind;
-
-pub(crate) fn no_memory() -> io::Error {
-    io::Error::from(ErrorKind::OutOfMemory)
-}

@@ -1,0 +1,5 @@
+use Rattle.sample_nets.specs.ForkLaws.{fork_laws}
+use Rattle.sample_nets.proofs.forks.readers_keep_the_laws.Goals as goal
+
+pub returns : goal.returns
+returns c = fork_laws

@@ -1,8 +1,0 @@
-use Rattle.std.proofs.Common.{◌≤◌}
-use Rattle.walk_speed.proofs.try_small.Given as goal
-
-abbrev pub invariant-loop : goal.invariant-loop
-invariant-loop l = l.tried ≤ l.counter
-
-abbrev pub ghosts-classes_of : goal.ghosts-classes_of
-ghosts-classes_of a = record { name = a.blank.name; parts = a.blank.parts }
