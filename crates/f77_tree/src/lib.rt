@@ -4,6 +4,7 @@
 mod copies;
 mod declarations;
 mod evaluation;
+mod expression_laws;
 mod expressions;
 mod foresight;
 mod laws;
@@ -17,6 +18,9 @@ pub use declarations::{
     InitValue, InitValueList, Kind, LetterRange, LetterRangeList, Lit, Member, MemberList, Text,
 };
 pub use evaluation::{evaluate, locate};
+pub use expression_laws::{
+    dialects_settle_operators, logical_values_are_truths, what_cannot_trap_has_a_value,
+};
 pub use expressions::{Access, Expr, ExprList};
 pub use foresight::{Foresight, exec_may_trap, foresee};
 pub use laws::{
