@@ -13,6 +13,7 @@ pub mod Loops
 pub mod Name
 pub mod Operations
 pub mod Places
+pub mod Prefixes
 pub mod Results
 pub mod Run
 pub mod StatementGrammar

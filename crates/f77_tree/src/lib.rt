@@ -26,8 +26,8 @@ pub use foresight::{Foresight, exec_may_trap, foresee};
 pub use laws::{
     accesses_stay_in_their_names, executables_keep_the_rest, executables_lead_to_successors,
     known_values_are_right, longer_tables_agree, ranges_have_counts, reads_decide, runs_hold_words,
-    runs_stay_inside, runs_stop_first, statements_bound_operations, well_formed_programs_can_run,
-    what_cannot_trap_does_not, what_takes_data_can_trap,
+    runs_stay_inside, runs_stop_first, statements_bound_operations, stopped_runs_stay,
+    well_formed_programs_can_run, what_cannot_trap_does_not, what_takes_data_can_trap,
 };
 pub use names::Name;
 pub use programs::{Exec, ExecKind, ExecList, Item, ItemList, NameInfo, NameInfoList, Program};
