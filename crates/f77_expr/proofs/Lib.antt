@@ -19,8 +19,10 @@ pub mod Chains
 pub mod Lists
 pub mod Begins
 pub mod Results
+pub mod Visible
 pub mod Whole
 pub mod PrintedNumbers
+pub mod PrintedLaws
 pub mod PrintedLevels
 pub mod PrintedRows
 pub mod PrintedReadings

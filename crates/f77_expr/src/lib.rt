@@ -10,9 +10,11 @@ mod operators;
 mod parse;
 mod parsed;
 mod print;
+mod printed_laws;
 mod printed_operators;
 mod reader;
 mod scan;
+mod targets;
 mod trees;
 
 pub use characters::{
@@ -22,4 +24,6 @@ pub use laws::{one_reading, piece_of_reading};
 pub use parse::{DEEPEST_ALLOWED, parse_expr, read_expr};
 pub use parsed::{ExprEnd, Parsed, ReadEnd, ReadExpr};
 pub use print::print_expr;
+pub use printed_laws::{depth_of_joined_texts, printed_texts_are_read};
 pub use scan::{Open, open_after};
+pub use targets::print_access;

@@ -68,14 +68,18 @@ fn print_open(e: &Expr, names: &NameInfoList, out: &mut Vec<u8>) -> Result<(), N
         Expr::Const(z) => append_number(*z, out),
         Expr::Truth(b) => append_truth(*b, out),
         Expr::Input => Ok(()),
-        Expr::Read(access) => print_access(access, names, out),
+        Expr::Read(access) => print_element(access, names, out),
         Expr::Apply(op, args) => print_operator(*op, args, names, out),
     }
 }
 
 // Appends a scalar, or an array element.
 #[cycle(printing)]
-fn print_access(access: &Access, names: &NameInfoList, out: &mut Vec<u8>) -> Result<(), NoMemory>
+pub(crate) fn print_element(
+    access: &Access,
+    names: &NameInfoList,
+    out: &mut Vec<u8>,
+) -> Result<(), NoMemory>
     requires { AreSubscripts names.now access.now }
     ensures text { Appended out.old.items (spelling (access_at names.now access.now).alone) out.new.items result }
     ensures constants { OnOk result (All HasConstants access.now.subs) }

@@ -3,8 +3,9 @@ use Rattle.std.proofs.Common.{◌≡◌, ℕ, ◌+◌, ◌-◌, ◌≤◌, ◌<�
 use Rattle.std.proofs.lemmas.Bool.{cases_lt}
 use Rattle.std.proofs.lemmas.List.{length-append}
 use Rattle.f77_tree.specs.declared.programs.Program.{Program}
+use Rattle.f77_tree.specs.Prefixes.{IsPrefix}
 use Rattle.f77_tree.specs.Run.{State, Ended, source, out, Reaches, PrintAlike}
-use Rattle.f77_tree.proofs.RunLaws.{Grows, grows_not, grows_on, out-grows, source-ended}
+use Rattle.f77_tree.proofs.RunLaws.{grows_not, grows_on, out-grows, source-ended}
 
 -- ---- an equivalence
 
@@ -44,7 +45,7 @@ none-left xs [] le = append-nil xs
 none-left xs (x ∷ rest) le = let whole = length-append xs (x ∷ rest) in absurd (omega (arith, le, whole))
 
 -- of two texts each is a prefix of the other
-prefixes-same : (xs ys : List ℕ) → Grows xs ys → Grows ys xs → xs ≡ ys
+prefixes-same : (xs ys : List ℕ) → IsPrefix xs ys → IsPrefix ys xs → xs ≡ ys
 prefixes-same xs ys a b =
     let m = length-append xs a.more in
     let n = length-append ys b.more in
@@ -54,17 +55,17 @@ prefixes-same xs ys a b =
 
 module _ (p : Program) (input : List ℤ) where
   -- what was written at any time is a prefix of what was written when the run ended
-  pub ended-whole : (k n : ℕ) → (source p input n).mark ≡ Ended → Grows (out p input k) (out p input n)
+  pub ended-whole : (k n : ℕ) → (source p input n).mark ≡ Ended → IsPrefix (out p input k) (out p input n)
   ended-whole k n ended = ⊎_elim below above (cases_lt k n)
     where
-      below : k < n → Grows (out p input k) (out p input n)
-      below lt = let e : (n - k) + k ≡ n = omega (arith, lt) in subst (λ m. Grows (out p input k) (out p input m)) e (out-grows p input k (n - k))
+      below : k < n → IsPrefix (out p input k) (out p input n)
+      below lt = let e : (n - k) + k ≡ n = omega (arith, lt) in subst (λ m. IsPrefix (out p input k) (out p input m)) e (out-grows p input k (n - k))
 
-      above : n ≤ k → Grows (out p input k) (out p input n)
+      above : n ≤ k → IsPrefix (out p input k) (out p input n)
       above le =
           let e : (k - n) + n ≡ k = omega (arith, le) in
           let same : out p input k ≡ out p input n = ap (out p input) (sym e) ∙ ap (λ (x : State). x.out) (source-ended p input n (k - n) ended) in
-          subst (λ xs. Grows xs (out p input n)) (sym same) (grows_not (out p input n))
+          subst (λ xs. IsPrefix xs (out p input n)) (sym same) (grows_not (out p input n))
 
 -- of two runs that print the same, where both end, the whole outputs are equal
 pub alike-whole : (p q : Program) (input : List ℤ) (m n : ℕ) → PrintAlike (source p input) (source q input) → (source p input m).mark ≡ Ended → (source q input n).mark ≡ Ended → out p input m ≡ out q input n

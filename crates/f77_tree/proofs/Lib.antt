@@ -2,6 +2,7 @@ pub mod Agreement
 pub mod AlikeLaws
 pub mod AllLemmas
 pub mod Coverage
+pub mod DialectLaws
 pub mod Equations
 pub mod ExpressionLemmas
 pub mod ForesightLemmas
@@ -9,6 +10,7 @@ pub mod Keeping
 pub mod KindLemmas
 pub mod KnownValues
 pub mod LineLaws
+pub mod LogicalValues
 pub mod LongerTable
 pub mod LoopCounts
 pub mod NameLemmas
@@ -19,6 +21,7 @@ pub mod OperationLaws
 pub mod Outcomes
 pub mod OutcomesAlike
 pub mod Places
+pub mod PlainRuns
 pub mod RunEnds
 pub mod RunInvariants
 pub mod RunLaws

@@ -5,20 +5,18 @@ use Rattle.op_table.specs.declared.Trap.{Trap}
 use Rattle.f77_tree.specs.declared.programs.Exec.{Exec}
 use Rattle.f77_tree.specs.declared.programs.Program.{Program}
 use Rattle.f77_tree.specs.Execution.{Outcome, Goes, Stops, Ends, outcome}
+use Rattle.f77_tree.specs.Prefixes.{IsPrefix}
 use Rattle.f77_tree.specs.Run.{Mark, Running, Ended, Trapped, State, after, executed_at, step_from, step, source, out, StopsFirst}
 
--- more was written
-pub record Grows (old new : List ℕ) : Type 0 where
-  pub more : List ℕ
-  pub is : new ≡ old ++ more
+-- ---- more was written
 
-pub grows_not : (old : List ℕ) → Grows old old
+pub grows_not : (old : List ℕ) → IsPrefix old old
 grows_not old = record { more = []; is = sym (append-nil old) }
 
-pub grows_on : (a b c : List ℕ) → Grows a b → Grows b c → Grows a c
+pub grows_on : (a b c : List ℕ) → IsPrefix a b → IsPrefix b c → IsPrefix a c
 grows_on a b c first then' = record { more = first.more ++ then'.more; is = then'.is ∙ ap (λ xs. xs ++ then'.more) first.is ∙ append_assoc a first.more then'.more }
 
-after-out : (x : State) (line : ℕ) (o : Outcome) → Grows x.out (after x line o).out
+after-out : (x : State) (line : ℕ) (o : Outcome) → IsPrefix x.out (after x line o).out
 after-out x line (Goes next memory text) = record { more = text; is = refl }
 after-out x line (Stops trap) = grows_not x.out
 after-out x line Ends = grows_not x.out
@@ -59,23 +57,23 @@ module _ (p : Program) (input : List ℤ) where
 
   -- ---- the output only grows, and no step reads it
 
-  executed-out : (x : State) (exec : Option Exec) → Grows x.out (executed_at p input x exec).out
+  executed-out : (x : State) (exec : Option Exec) → IsPrefix x.out (executed_at p input x exec).out
   executed-out x None = grows_not x.out
   executed-out x (Some exec) = after-out x exec.line (outcome p.names input x.memory exec.kind)
 
-  step_from-out : (x : State) (mark : Mark) → Grows x.out (step_from p input x mark).out
+  step_from-out : (x : State) (mark : Mark) → IsPrefix x.out (step_from p input x mark).out
   step_from-out x Running = executed-out x (slice_get p.execs x.position)
   step_from-out x Ended = grows_not x.out
   step_from-out x (Trapped trap line) = grows_not x.out
 
-  pub step-out : (x : State) → Grows x.out (step p input x).out
+  pub step-out : (x : State) → IsPrefix x.out (step p input x).out
   step-out x = step_from-out x x.mark
 
-  pub out-grows : (n k : ℕ) → Grows (out p input n) (out p input (k + n))
-  out-grows n zero = let e : n ≡ zero + n = omega arith in subst (λ m. Grows (out p input n) (out p input m)) e (grows_not (out p input n))
+  pub out-grows : (n k : ℕ) → IsPrefix (out p input n) (out p input (k + n))
+  out-grows n zero = let e : n ≡ zero + n = omega arith in subst (λ m. IsPrefix (out p input n) (out p input m)) e (grows_not (out p input n))
   out-grows n (suc k) =
       let e : suc (k + n) ≡ suc k + n = omega arith in
-      subst (λ m. Grows (out p input n) (out p input m)) e (grows_on _ _ _ (out-grows n k) (step-out (source p input (k + n))))
+      subst (λ m. IsPrefix (out p input n) (out p input m)) e (grows_on _ _ _ (out-grows n k) (step-out (source p input (k + n))))
 
   executed-before : (text : List ℕ) (x : State) (exec : Option Exec) → executed_at p input (written_before text x) exec ≡ written_before text (executed_at p input x exec)
   executed-before text x None = refl

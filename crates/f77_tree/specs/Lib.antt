@@ -1,6 +1,7 @@
 pub mod CanRun
 pub mod Control
 pub mod Declarations
+pub mod Dialects
 pub mod Execution
 pub mod Grammar
 pub mod InitialWords
@@ -12,6 +13,8 @@ pub mod Loops
 pub mod Name
 pub mod Operations
 pub mod Places
+pub mod Prefixes
+pub mod Results
 pub mod Run
 pub mod StatementGrammar
 pub mod Steps

@@ -1,6 +1,7 @@
 //! Laws on runs, and on what executables read and change, as contracts of functions that do nothing.
 
-ghost use Rattle.std.specs.Prelude.{◌≡◌, ◌≢◌, ◌≤◌, ◌<◌, ◌↔◌, Bool, true, false, ℕ, ℤ, List, ◌++◌, All, Contains, Any, flat_map, length, Option, Some, None, Ok, slice_get, slice_index};
+ghost use Rattle.std.specs.Prelude.{◌≡◌, ◌≢◌, ◌≤◌, ◌<◌, ◌↔◌, Bool, true, false, ℕ, ◌+◌, ℤ, List, ◌++◌, All, Contains, Any, flat_map, length, Option, Some, None, Ok, slice_get, slice_index};
+ghost use Rattle.op_table.specs.declared.Trap.{Trap};
 ghost use Rattle.op_table.specs.Words.{IsWord};
 ghost use Rattle.f77_tree.specs.declared.declarations.Dim.{Dim};
 ghost use Rattle.f77_tree.specs.declared.expressions.Access.{Access};
@@ -20,7 +21,8 @@ ghost use Rattle.f77_tree.specs.Line.{line_of};
 ghost use Rattle.f77_tree.specs.Loops.{InRange, AreLoops, do_start};
 ghost use Rattle.f77_tree.specs.Operations.{statements_of, is_increment, exec_operations, statement_operations, most_operations};
 ghost use Rattle.f77_tree.specs.Places.{IsWordOf};
-ghost use Rattle.f77_tree.specs.Run.{Mark, Running, source};
+ghost use Rattle.f77_tree.specs.Prefixes.{IsPrefix};
+ghost use Rattle.f77_tree.specs.Run.{Mark, Running, Ended, Trapped, out, source};
 ghost use Rattle.f77_tree.specs.Steps.{IfGoes, DoesNotTrap, IsMemoryOf, HoldsWords, KeepsRest, HasRoomFor, AgreeFor, AreAlike, Changes, StopsWithin};
 ghost use Rattle.f77_tree.specs.Touched.{ExecMayChange, ExecMayRead, ExecReadsData, MayName, MayRead, ItemMayRead, ReadsData};
 ghost use Rattle.f77_tree.specs.Value.{value, place, word_at, dims_of, IsExpression, IsAccess, ArePlaced};
@@ -41,6 +43,13 @@ pub fn runs_stay_inside()
 /// A run that has ended or trapped after n steps did so first at one of them.
 pub fn runs_stop_first()
     ensures { (p : Program) (input : List ℤ) (n : ℕ) (mark : Mark) → mark ≢ Running → (source p input n).mark ≡ mark → StopsWithin p input n mark }
+{}
+
+/// A run that has ended or trapped stays as it is, and what was written is a prefix of what is written later.
+pub fn stopped_runs_stay()
+    ensures ended { (p : Program) (input : List ℤ) (n k : ℕ) → (source p input n).mark ≡ Ended → source p input (k + n) ≡ source p input n }
+    ensures trapped { (p : Program) (input : List ℤ) (n k : ℕ) (trap : Trap) (line : ℕ) → (source p input n).mark ≡ Trapped trap line → source p input (k + n) ≡ source p input n }
+    ensures text { (p : Program) (input : List ℤ) (n k : ℕ) → IsPrefix (out p input n) (out p input (k + n)) }
 {}
 
 /// An executable that goes on goes to one of its successors.

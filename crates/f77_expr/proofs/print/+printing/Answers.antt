@@ -16,8 +16,8 @@ use Rattle.f77_expr.proofs.print.+printing.Goals as goal
 
 -- ---- print_open
 
-pub print_open-print_access-requires : goal.print_open-print_access-requires
-print_open-print_access-requires t c =
+pub print_open-print_element-requires : goal.print_open-print_element-requires
+print_open-print_element-requires t c =
     let names = c.args.names.now in
     let access = c.in-Read.access in
     (let w = weight-Read access in let i = ap weight c.in-Read.is in let d = c.decreases in omega (arith, d, i, w), subscripts_of names access (subst (IsProper names) c.in-Read.is c.requires))
@@ -31,11 +31,11 @@ pub print_open-returns-in-Read-clause-text : goal.print_open-returns-in-Read-cla
 print_open-returns-in-Read-clause-text t c =
     let names = c.args.names.now in
     let same : access_at names c.in-Read.access ≡ printed names c.args.e.now = sym (printed-Read names c.in-Read.access) ∙ ap (printed names) (sym c.in-Read.is) in
-    appended_is _ _ _ _ c.print_access.result (ap (λ (p : Printed). spelling p.alone) same) c.print_access.ensures.text
+    appended_is _ _ _ _ c.print_element.result (ap (λ (p : Printed). spelling p.alone) same) c.print_element.ensures.text
 
 pub print_open-returns-in-Read-clause-constants : goal.print_open-returns-in-Read-clause-constants
 print_open-returns-in-Read-clause-constants t c =
-    on_ok_weaker c.print_access.result (λ all. subst HasConstants (sym c.in-Read.is) (Read-HasConstants c.in-Read.access all)) c.print_access.ensures.constants
+    on_ok_weaker c.print_element.result (λ all. subst HasConstants (sym c.in-Read.is) (Read-HasConstants c.in-Read.access all)) c.print_element.ensures.constants
 
 pub print_open-returns-in-Apply-clause-text : goal.print_open-returns-in-Apply-clause-text
 print_open-returns-in-Apply-clause-text t c =

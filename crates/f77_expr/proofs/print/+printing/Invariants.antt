@@ -11,8 +11,8 @@ decreases-print_at l = 8 * weight l.e.now + 3
 abbrev pub decreases-print_open : goal.decreases-print_open
 decreases-print_open l = 8 * weight l.e.now + 2
 
-abbrev pub decreases-print_access : goal.decreases-print_access
-decreases-print_access l = 8 * weights l.access.now.subs + 7
+abbrev pub decreases-print_element : goal.decreases-print_element
+decreases-print_element l = 8 * weights l.access.now.subs + 7
 
 abbrev pub decreases-print_operator : goal.decreases-print_operator
 decreases-print_operator l = 8 * weights l.args.now + 7
