@@ -91,7 +91,7 @@ module _ (told : IsTold) (g : Graph) (sound : IsGraph g) (finish : ℕ) (finish_
       (cases_Bool (reaches g y finish))
 
   -- a piece that doesn't leave, and is on a cycle, is held
-  stays_held : (x : ℕ) → x < g.nodes → (Leaves g finish (below x) x → ⊥) → is_on_cycle g x ≡ true → is_held g finish x ≡ true
+  pub stays_held : (x : ℕ) → x < g.nodes → (Leaves g finish (below x) x → ⊥) → is_on_cycle g x ≡ true → is_held g finish x ≡ true
   stays_held x node stays cycle =
       held_from x cycle
       (⊎_elim (λ (h : reaches g x finish ≡ true). absurd (stays (inl ((told g x finish sound node).0 h)))) (λ h. h) (cases_Bool (reaches g x finish)))

@@ -24,11 +24,11 @@ use Rattle.cfg_build.proofs.PassOutcomes.{Fits, last_fits}
 pub trapped_runs : (trap : Trap) (line : ℕ) → Trapped trap line ≡ Running → ⊥
 trapped_runs trap line h = absurd cc
 
-ended_runs : Ended ≡ Running → ⊥
+pub ended_runs : Ended ≡ Running → ⊥
 ended_runs h = absurd cc
 
 -- one part has its own last piece
-own_last : (execs : List Exec) (k : ℕ) (kind : ExecKind) → has_test kind ≡ false → owner execs k kind ≡ k
+pub own_last : (execs : List Exec) (k : ℕ) (kind : ExecKind) → has_test kind ≡ false → owner execs k kind ≡ k
 own_last execs k (Assign target value next) h = refl
 own_last execs k (Print items next) h = refl
 own_last execs k (Pass next) h = refl

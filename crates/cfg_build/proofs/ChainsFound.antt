@@ -14,7 +14,7 @@ use Rattle.cfg_build.specs.declared.parts.Target.TheVariants.{First, Test}
 use Rattle.cfg_build.specs.declared.pieces.PieceKind.TheVariants as piece
 use Rattle.cfg_build.specs.Parts.{part, parts, parts_of, end_part, last_of, line_in}
 use Rattle.cfg_build.specs.Flow.{flow}
-use Rattle.cfg_build.specs.Chains.{entry, has_test, chain}
+use Rattle.cfg_build.specs.Chains.{entry, has_test, following, chain}
 use Rattle.cfg_build.specs.Routes.{holds_in, last_kind, owner, AreChain}
 use Rattle.cfg_build.proofs.Members.{Member}
 use Rattle.cfg_build.proofs.ReachedNodes.{IsTold}
@@ -81,14 +81,14 @@ some_loop : (a b : Loop) → Some a ≡ Some b → a ≡ b
 some_loop a b same = ap (λ (o : Option Loop). unwrap_or o a) same
 
 -- the DO of the test
-record IsTested (execs : List Exec) (k : ℕ) (kind : ExecKind) : Type 0 where
-  loop : Loop
-  begins : begun_at execs (owner execs k kind) ≡ Some loop
-  reached : is_reached execs (owner execs k kind) ≡ true
-  outs : First loop.body ∷ First loop.exit ∷ [] ≡ map First (successors kind)
+pub record IsTested (execs : List Exec) (k : ℕ) (kind : ExecKind) : Type 0 where
+  pub loop : Loop
+  pub begins : begun_at execs (owner execs k kind) ≡ Some loop
+  pub reached : is_reached execs (owner execs k kind) ≡ true
+  pub outs : First loop.body ∷ First loop.exit ∷ [] ≡ map First (successors kind)
 
 module _ (told : IsTold) (met : IsMet) (names : List NameInfo) (execs : List Exec) (loops : ℕ) (well : AreExecs names execs loops) where
-  tested_by : (k : ℕ) (kind : ExecKind) → is_reached execs k ≡ true → ((loop : Loop) → begun kind ≡ Some loop → begun_at execs k ≡ Some loop) → ((loop : Loop) → incremented kind ≡ Some loop → incremented_at execs k ≡ Some loop) → has_test kind ≡ true → IsTested execs k kind
+  pub tested_by : (k : ℕ) (kind : ExecKind) → is_reached execs k ≡ true → ((loop : Loop) → begun kind ≡ Some loop → begun_at execs k ≡ Some loop) → ((loop : Loop) → incremented kind ≡ Some loop → incremented_at execs k ≡ Some loop) → has_test kind ≡ true → IsTested execs k kind
   tested_by k (DoStart loop_no var first last step body exit) reached begins increments h =
       let loop : Loop = record { number = loop_no; variable = var; body = body; exit = exit } in
       record { loop = loop; begins = begins loop refl; reached = reached; outs = refl }
@@ -111,10 +111,10 @@ module _ (told : IsTold) (met : IsMet) (names : List NameInfo) (execs : List Exe
   test_at d loop (Some exec) found begins reached =
       member_part execs (test_part d exec.line loop) (record { at = d; exec = exec; found = found; reached = reached; among = test_in execs d exec.line exec.kind loop begins })
 
-  -- its pieces are as they are said to be, five at most, one hold among them at most
+  -- its pieces are as they are said to be, all that can be followed, one hold among them at most
   pub record IsFound (k : ℕ) (kind : ExecKind) : Type 0 where
     pub are : AreChain (flow execs) (entry execs) execs k (has_test kind) kind (chain execs k)
-    pub few : length (chain execs k) ≤ 5
+    pub whole : (most : ℕ) → 5 ≤ most → following most execs (entry execs k) ≡ chain execs k
     pub one : holds_in (flow execs) (chain execs k) ≤ 1
 
   module _ (k : ℕ) (exec : Exec) (found : slice_get execs k ≡ Some exec) (reached : is_reached execs k ≡ true) where
@@ -141,10 +141,10 @@ module _ (told : IsTold) (met : IsMet) (names : List NameInfo) (execs : List Exe
           test_line = refl;
           outs = t.outs;
         }) in
-        record { are = subst (λ b. AreChain (flow execs) (entry execs) execs k b exec.kind (chain execs k)) (sym two) c.is; few = c.few; one = c.one }
+        record { are = subst (λ b. AreChain (flow execs) (entry execs) execs k b exec.kind (chain execs k)) (sym two) c.is; whole = c.whole; one = c.one }
 
     as_one : has_test exec.kind ≡ false → IsOneChain told met names execs loops well k exec.kind → IsFound k exec.kind
-    as_one single c = record { are = subst (λ b. AreChain (flow execs) (entry execs) execs k b exec.kind (chain execs k)) (sym single) c.is; few = c.few; one = c.one }
+    as_one single c = record { are = subst (λ b. AreChain (flow execs) (entry execs) execs k b exec.kind (chain execs k)) (sym single) c.is; whole = c.whole; one = c.one }
 
     of_end : has_test exec.kind ≡ false → exec.kind ≡ End → IsFound k exec.kind
     of_end single ends =

@@ -57,6 +57,15 @@ rises low (x ∷ xs) i zero r less some = absurd (omega (arith, less))
 rises low (x ∷ xs) zero (suc j) r less some = rise_at (suc x) xs j r.1 (omega (arith, some))
 rises low (x ∷ xs) (suc i) (suc j) r less some = rises (suc x) xs i j r.1 (omega (arith, less)) (omega (arith, some))
 
+-- numbers that come in pairs, from m on
+pub halves : (m n c : ℕ) → n < c + c → (k : ℕ) → k ≡ m + n → (q : ℕ) × (q < c) × ((k ≡ m + (q + q)) ⊎ (k ≡ m + (q + q) + 1))
+halves m zero c less k is = (0, omega (arith, less), inl (omega (arith, is)))
+halves m (suc zero) c less k is = (0, omega (arith, less), inr (omega (arith, is)))
+halves m (suc (suc n)) zero less k is = absurd (omega (arith, less))
+halves m (suc (suc n)) (suc c) less k is =
+    let r = halves m n c (omega (arith, less)) (m + n) refl in
+    (suc r.0, omega (arith, r.1), ⊎_elim (λ (h : m + n ≡ m + (r.0 + r.0)). inl (omega (arith, h, is))) (λ (h : m + n ≡ m + (r.0 + r.0) + 1). inr (omega (arith, h, is))) r.2)
+
 module _ (told : IsTold) (names : List NameInfo) (execs : List Exec) (loops : ℕ) (well : AreExecs names execs loops) where
   abbrev g : Graph
   g = row_graph (parts execs) (finish execs)
@@ -117,15 +126,7 @@ module _ (told : IsTold) (names : List NameInfo) (execs : List Exec) (loops : �
   m = edge_count g
 
   cases_new : (k : ℕ) → m ≤ k → k < m + (count + count) → (q : ℕ) × (q < count) × ((k ≡ m + (q + q)) ⊎ (k ≡ m + (q + q) + 1))
-  cases_new k new below = halves (k - m) count (omega (arith, new, below)) k (omega (arith, new))
-    where
-      halves : (n c : ℕ) → n < c + c → (k : ℕ) → k ≡ m + n → (q : ℕ) × (q < c) × ((k ≡ m + (q + q)) ⊎ (k ≡ m + (q + q) + 1))
-      halves zero c less k is = (0, omega (arith, less), inl (omega (arith, is)))
-      halves (suc zero) c less k is = (0, omega (arith, less), inr (omega (arith, is)))
-      halves (suc (suc n)) zero less k is = absurd (omega (arith, less))
-      halves (suc (suc n)) (suc c) less k is =
-          let r = halves n c (omega (arith, less)) (m + n) refl in
-          (suc r.0, omega (arith, r.1), ⊎_elim (λ (h : m + n ≡ m + (r.0 + r.0)). inl (omega (arith, h, is))) (λ (h : m + n ≡ m + (r.0 + r.0) + 1). inr (omega (arith, h, is))) r.2)
+  cases_new k new below = halves m (k - m) count (omega (arith, new, below)) k (omega (arith, new))
 
   -- an edge that holds brought leaves a hold
   new_from : (k : ℕ) → m ≤ k → k < edge_count f → length (rows (parts execs)) ≤ from f k

@@ -60,3 +60,9 @@ pub mod PassWords
 pub mod NoReturn
 pub mod PlainEdges
 pub mod RangeEntries
+pub mod OwnPieces
+pub mod PassesWithin
+pub mod PassesLie
+pub mod StepsBegin
+pub mod RoundReach
+pub mod RoundHolds

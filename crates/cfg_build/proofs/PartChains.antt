@@ -75,7 +75,7 @@ module _ (told : IsTold) (met : IsMet) (names : List NameInfo) (execs : List Exe
   -- an executable of one part
   pub record IsOneChain (k : ℕ) (kind : ExecKind) : Type 0 where
     pub is : IsOnePart (flow execs) (entry execs) execs k kind (chain execs k)
-    pub few : length (chain execs k) ≤ 5
+    pub whole : (most : ℕ) → 5 ≤ most → following most execs (entry execs k) ≡ chain execs k
     pub one : holds_in (flow execs) (chain execs k) ≤ 1
 
   pub one_chain : (k : ℕ) (exec : Exec) → slice_get execs k ≡ Some exec → has_test exec.kind ≡ false → owner execs k exec.kind ≡ k → (p : Part) → Member (parts execs) p → p.own ≡ First k → p.piece.kind ≡ last_kind exec.kind → p.piece.exec ≡ k → p.piece.line ≡ line_in (slice_get execs k) → p.outs ≡ map First (successors exec.kind) → IsOneChain k exec.kind
@@ -86,13 +86,14 @@ module _ (told : IsTold) (met : IsMet) (names : List NameInfo) (execs : List Exe
       let route : IsRoute (flow execs) (entry execs k) r.prefix node = own_prefix told met names execs loops well p a k own r in
       let made : IsMade (flow execs) execs node (last_kind exec.kind) k = own_made told met names execs loops well p a (last_kind exec.kind) k kind_is exec_is line_is in
       let small = prefix_few a.place r in
-      let more : ℕ = 4 - length r.prefix in
-      let five : 5 ≡ length r.prefix + suc more = omega (arith, small.0) in
       let stops : goes_on execs (piece_at (flow execs).pieces node) ≡ false = made_goes node (last_kind exec.kind) k made ∙ ap (λ e. goes_on_from (last_kind exec.kind) (has_test (kind_in e))) found ∙ ends_here exec.kind single in
-      let is : chain execs k ≡ r.prefix ++ node ∷ [] =
-      ap (λ n. following n execs (entry execs k)) five ∙ along_prefix execs r.prefix (entry execs k) node (suc more) route
+      let follows : (most : ℕ) → 5 ≤ most → following most execs (entry execs k) ≡ r.prefix ++ node ∷ [] =
+      λ (most : ℕ) (enough : 5 ≤ most).
+      let more : ℕ = most - suc (length r.prefix) in
+      let room : most ≡ length r.prefix + suc more = omega (arith, small.0, enough) in
+      ap (λ n. following n execs (entry execs k)) room ∙ along_prefix execs r.prefix (entry execs k) node (suc more) route
       ∙ ap (λ xs. r.prefix ++ xs) (goes_no_further execs more node stops) in
-      let count : length (chain execs k) ≡ length r.prefix + 1 = ap (λ (xs : List ℕ). length xs) is ∙ length-append r.prefix (node ∷ []) in
+      let is : chain execs k ≡ r.prefix ++ node ∷ [] = follows 5 (omega arith) in
       let held : holds (chain execs k) ≡ holds r.prefix + holds (node ∷ []) = ap (λ xs. holds xs) is ∙ count-append (λ x. is_hold (piece_at (flow execs).pieces x).kind) r.prefix (node ∷ []) in
       let none : holds (node ∷ []) ≡ 0 = no_more node (last_kind exec.kind) k [] made (last_not_hold exec.kind) in
       record {
@@ -103,6 +104,6 @@ module _ (told : IsTold) (met : IsMet) (names : List NameInfo) (execs : List Exe
           route = route;
           ends = own_last told met names execs loops well p a k exec.kind kind_is (exec_is ∙ sym owns) (line_is ∙ ap (λ n. line_in (slice_get execs n)) (sym owns)) outs;
         };
-        few = omega (arith, count, small.0);
+        whole = λ (most : ℕ) (enough : 5 ≤ most). follows most enough ∙ sym is;
         one = omega (arith, held, none, small.1);
       }

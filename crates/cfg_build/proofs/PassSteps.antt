@@ -74,7 +74,7 @@ module _ (f : FlowGraph) (p : Program) (input : List ℤ) where
   pub along_edge : (x : PassState) (memory : Memory) (written : List ℕ) (node line edge next : ℕ) (new : Memory) (text : List ℕ) → IsAt x memory written node → to f.graph edge ≡ next → IsAt (after_pass x line (Along edge new text)) new (written ++ text) next
   along_edge x memory written node line edge next new text h ends = record { runs = h.runs; memory_is = refl; out_is = ap (λ o. o ++ text) h.out_is; ends = ends }
 
-  led_once : (x : PassState) (memory : Memory) (written : List ℕ) (node : ℕ) → IsAt x memory written node → leads_on (piece_at f.pieces node).kind ≡ true → IsAt (passed_in x x.mark) memory written (to f.graph (out f.graph node 0))
+  pub led_once : (x : PassState) (memory : Memory) (written : List ℕ) (node : ℕ) → IsAt x memory written node → leads_on (piece_at f.pieces node).kind ≡ true → IsAt (passed_in x x.mark) memory written (to f.graph (out f.graph node 0))
   led_once x memory written node h leads =
       let piece = piece_at f.pieces node in
       let is : passed_in x x.mark ≡ after_pass x piece.line (Along (out f.graph node 0) memory []) =

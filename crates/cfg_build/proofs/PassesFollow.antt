@@ -32,7 +32,7 @@ module _ (p : Program) (input : List ℤ) where
   same_pass x Ended = refl
   same_pass x (Trapped trap line) = refl
 
-  same_run : (n : ℕ) → go (flow p.execs) p input n (passes p input 0) ≡ passes p input n
+  pub same_run : (n : ℕ) → go (flow p.execs) p input n (passes p input 0) ≡ passes p input n
   same_run zero = refl
   same_run (suc n) =
       ap (λ (y : PassState). passed_in (flow p.execs) p input y y.mark) (same_run n)

@@ -54,7 +54,7 @@ module _ (told : IsTold) (met : IsMet) (names : List NameInfo) (execs : List Exe
 
   pub record IsTwoChain (k : ℕ) (kind : ExecKind) : Type 0 where
     pub is : IsTwoParts (flow execs) (entry execs) execs k kind (chain execs k)
-    pub few : length (chain execs k) ≤ 5
+    pub whole : (most : ℕ) → 5 ≤ most → following most execs (entry execs k) ≡ chain execs k
     pub one : holds_in (flow execs) (chain execs k) ≤ 1
 
   module _ (k : ℕ) (exec : Exec) (found : slice_get execs k ≡ Some exec) (two : has_test exec.kind ≡ true) (act test : Part) (are : AreTwo execs k exec.kind act test) where
@@ -108,13 +108,13 @@ module _ (told : IsTold) (met : IsMet) (names : List NameInfo) (execs : List Exe
         ∙ ap (λ n. entering execs n) (first_is told met names execs loops well test b) in
         subst (λ n. IsRoute (flow execs) n s.prefix y) (sym is) s.route
 
-    chain_is : chain execs k ≡ r.prefix ++ x ∷ (s.prefix ++ y ∷ [])
-    chain_is =
-        let more : ℕ = 3 - (length r.prefix + length s.prefix) in
-        let five : 5 ≡ length r.prefix + suc (length s.prefix + suc more) = omega (arith, small.0) in
+    follows : (most : ℕ) → 5 ≤ most → following most execs (entry execs k) ≡ r.prefix ++ x ∷ (s.prefix ++ y ∷ [])
+    follows most enough =
+        let more : ℕ = most - (2 + (length r.prefix + length s.prefix)) in
+        let room : most ≡ length r.prefix + suc (length s.prefix + suc more) = omega (arith, small.0, enough) in
         let goes : goes_on execs (piece_at (flow execs).pieces x) ≡ true = made_goes told met names execs loops well x piece.Act k x_made ∙ ap (λ e. has_test (kind_in e)) found ∙ two in
         let stops : goes_on execs (piece_at (flow execs).pieces y) ≡ false = made_goes told met names execs loops well y piece.Branch (owner execs k exec.kind) y_made in
-        ap (λ n. following n execs (entry execs k)) five
+        ap (λ n. following n execs (entry execs k)) room
         ∙ along_prefix execs r.prefix (entry execs k) x (suc (length s.prefix + suc more)) (own_prefix told met names execs loops well act a k are.first r)
         ∙ ap (λ xs. r.prefix ++ xs) (goes_further execs (length s.prefix + suc more) x goes
         ∙ ap (λ xs. x ∷ xs) (along_prefix execs s.prefix (to (flow execs).graph (out (flow execs).graph x 0)) y (suc more) on ∙ ap (λ xs. s.prefix ++ xs) (goes_no_further execs more y stops)))
@@ -122,8 +122,7 @@ module _ (told : IsTold) (met : IsMet) (names : List NameInfo) (execs : List Exe
     pub two_chain : IsTwoChain k exec.kind
     two_chain =
         let rest : List ℕ = s.prefix ++ y ∷ [] in
-        let count : length (chain execs k) ≡ length r.prefix + length (x ∷ rest) = ap (λ (xs : List ℕ). length xs) chain_is ∙ length-append r.prefix (x ∷ rest) in
-        let more : length rest ≡ length s.prefix + length (y ∷ []) = length-append s.prefix (y ∷ []) in
+        let chain_is : chain execs k ≡ r.prefix ++ x ∷ (s.prefix ++ y ∷ []) = follows 5 (omega arith) in
         let held : holds (chain execs k) ≡ holds r.prefix + holds (x ∷ rest) = ap (λ xs. holds xs) chain_is ∙ count-append (λ z. is_hold (piece_at (flow execs).pieces z).kind) r.prefix (x ∷ rest) in
         let past : holds (x ∷ rest) ≡ holds rest = no_more told met names execs loops well x piece.Act k rest x_made refl in
         let more_held : holds rest ≡ holds s.prefix + holds (y ∷ []) = count-append (λ z. is_hold (piece_at (flow execs).pieces z).kind) s.prefix (y ∷ []) in
@@ -140,6 +139,6 @@ module _ (told : IsTold) (met : IsMet) (names : List NameInfo) (execs : List Exe
             on = on;
             ends = own_last told met names execs loops well test b k exec.kind (are.tests ∙ sym (two_last exec.kind two)) are.test_exec are.test_line are.outs;
           };
-          few = omega (arith, count, more, small.0);
+          whole = λ (most : ℕ) (enough : 5 ≤ most). follows most enough ∙ sym chain_is;
           one = omega (arith, held, past, more_held, none, small.1);
         }

@@ -1,5 +1,5 @@
 -- Chains: the pieces that control takes in one step of a program.
-use Rattle.std.specs.Prelude.{◌≡◌, ℕ, zero, suc, ◌+◌, ◌==◌, Bool, true, false, ◌&&◌, not, ℤ, if◌then◌else◌, List, [], ◌∷◌, length, slice_get}
+use Rattle.std.specs.Prelude.{◌≡◌, ℕ, zero, suc, ◌+◌, ◌≤◌, ◌==◌, Bool, true, false, ◌&&◌, not, ℤ, if◌then◌else◌, List, [], ◌∷◌, length, slice_get}
 use Rattle.std.specs.List.{list_any, position_or_len}
 use Rattle.closed_walks.specs.Graph.{to}
 use Rattle.f77_tree.specs.declared.programs.Exec.{Exec}
@@ -55,6 +55,11 @@ following (suc most) execs node =
 -- the chain of an executable, of five pieces at most
 abbrev pub chain : List Exec → ℕ → List ℕ
 chain execs k = following 5 execs (entry execs k)
+
+-- There are five pieces at most, however many may be followed; so the chain is the same with any more room.
+pub record AreFew (execs : List Exec) (k : ℕ) : Type 0 where
+  pub five : (most : ℕ) → length (following most execs (entry execs k)) ≤ 5
+  pub whole : (most : ℕ) → 5 ≤ most → following most execs (entry execs k) ≡ chain execs k
 
 -- how many passes make so many steps
 abbrev pub passes_of : Program → List ℤ → (steps : ℕ) → ℕ

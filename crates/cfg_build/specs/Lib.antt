@@ -12,3 +12,5 @@ pub mod Degrees
 pub mod Shape
 pub mod Routes
 pub mod Runs
+pub mod Steps
+pub mod Rounds

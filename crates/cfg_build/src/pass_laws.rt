@@ -10,8 +10,8 @@ ghost use Rattle.f77_tree.specs.Execution.{Memory};
 ghost use Rattle.f77_tree.specs.Run.{Running, source};
 ghost use Rattle.f77_tree.specs.Steps.{HoldsWords};
 ghost use Rattle.f77_tree.specs.WellFormed.{AreExecs, IsWellFormed};
-ghost use Rattle.cfg_build.specs.Chains.{entry, has_test, chain, passes_of, StandsAt};
-ghost use Rattle.cfg_build.specs.Control.{is_reached};
+ghost use Rattle.cfg_build.specs.Chains.{AreFew, entry, has_test, chain, passes_of, StandsAt};
+ghost use Rattle.cfg_build.specs.Control.{is_reached, IsReachedExec};
 ghost use Rattle.cfg_build.specs.Flow.{flow};
 ghost use Rattle.cfg_build.specs.Passes.{IfAlong, pass, passes};
 ghost use Rattle.cfg_build.specs.Routes.{AreChain, holds_in};
@@ -23,7 +23,7 @@ use f77_tree::{executables_lead_to_successors, runs_hold_words};
 /// whose last one lead to the successors. There are five at most, and one hold among them at most.
 pub fn chains_lead_to_successors()
     ensures chain { (names : List NameInfo) (execs : List Exec) (loops k : ℕ) (exec : Exec) → AreExecs names execs loops → is_reached execs k ≡ true → slice_get execs k ≡ Some exec → AreChain (flow execs) (entry execs) execs k (has_test exec.kind) exec.kind (chain execs k) }
-    ensures few { (names : List NameInfo) (execs : List Exec) (loops k : ℕ) (exec : Exec) → AreExecs names execs loops → is_reached execs k ≡ true → slice_get execs k ≡ Some exec → length (chain execs k) ≤ 5 }
+    ensures few { (names : List NameInfo) (execs : List Exec) (loops k : ℕ) (exec : Exec) → IsReachedExec names execs loops k exec → AreFew execs k }
     ensures one_hold { (names : List NameInfo) (execs : List Exec) (loops k : ℕ) (exec : Exec) → AreExecs names execs loops → is_reached execs k ≡ true → slice_get execs k ≡ Some exec → holds_in (flow execs) (chain execs k) ≤ 1 }
 
     // Edge 1 leads to the first executable.
