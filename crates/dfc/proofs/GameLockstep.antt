@@ -8,14 +8,14 @@ use Rattle.dep_routing.specs.Routing.{Routing}
 use Rattle.dep_routing.specs.Touches.{AreTouches}
 use Rattle.firing.specs.Pacing.{FollowsSource, IsSimulation, Stage}
 use Rattle.firing.specs.SourceOrder.{IsDueOrder}
-use Rattle.token_net.specs.Belonging.{CanCome, IsNet}
-use Rattle.token_net.specs.FlowGround.{FlowGround}
-use Rattle.token_net.specs.NetOrder.{first_control, net_course}
-use Rattle.token_net.specs.Nodes.{NetOf}
-use Rattle.token_net.specs.OwnOrder.{own_order}
-use Rattle.token_net.specs.Parts.{AreParts, net_with}
-use Rattle.token_net.specs.StepLockstep.{RunGround, program_stage, program_text}
-use Rattle.token_net.specs.Tokens.{Tokens, first_tokens, net_moves}
+use Rattle.net_board.specs.Belonging.{CanCome, IsNet}
+use Rattle.net_board.specs.FlowGround.{FlowGround}
+use Rattle.net_board.specs.NetOrder.{first_control, net_course}
+use Rattle.net_board.specs.Nodes.{NetOf}
+use Rattle.net_board.specs.OwnOrder.{own_order}
+use Rattle.net_board.specs.Parts.{AreParts, net_with}
+use Rattle.net_board.specs.StepLockstep.{RunGround, program_stage, program_text}
+use Rattle.net_board.specs.Tokens.{Tokens, first_tokens, net_moves}
 use Rattle.dfc.specs.Game.{IsNetOn}
 use Rattle.dfc.specs.GameLaws.{OneOfEach}
 use Rattle.dfc.specs.Lockstep.{StaysInLockstep}

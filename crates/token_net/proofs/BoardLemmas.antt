@@ -4,9 +4,9 @@ use Rattle.std.proofs.lemmas.List.FromFn.{length-range_with_len}
 use Rattle.closed_walks.specs.Graph.{Graph, IsGraph, edge_count}
 use Rattle.cfg_build.specs.Joined.{FlowGraph}
 use Rattle.token_net.specs.declared.plan.Plan.{Plan}
-use Rattle.token_net.specs.MemberLaws.{Member-at, Member-filtered, Member-in_range}
-use Rattle.token_net.specs.NetOrder.{arrival, passed_by}
-use Rattle.token_net.specs.Nodes.{NetOf, graph_in, all_lines, touched}
+use Rattle.net_board.proofs.MemberLaws.{Member-at, Member-filtered, Member-in_range}
+use Rattle.net_board.specs.NetOrder.{arrival, passed_by}
+use Rattle.net_board.specs.Nodes.{NetOf, graph_in, all_lines, touched}
 use Rattle.token_net.specs.PlanView.{net_in}
 use Rattle.token_net.proofs.TableLemmas.{short_filter, passed_by_exists}
 

@@ -5,12 +5,12 @@ use Rattle.std.proofs.lemmas.List.FromFn.{length-range_with_len}
 use Rattle.f77_tree.specs.Execution.{Memory}
 use Rattle.f77_tree.specs.Run.{first_memory}
 use Rattle.firing.specs.Control.{IsInStep}
-use Rattle.token_net.specs.declared.control.Control.{Control}
-use Rattle.token_net.specs.Belonging.{CanCome}
-use Rattle.token_net.specs.NetOrder.{first_control}
-use Rattle.token_net.specs.NetLockstep.{IsInLockstep}
-use Rattle.token_net.specs.Nodes.{NetOf, all_lines, nodes_of}
-use Rattle.token_net.specs.Tokens.{Tokens, first_tokens, led_from, net_moves}
+use Rattle.net_board.specs.declared.control.Control.{Control}
+use Rattle.net_board.specs.Belonging.{CanCome}
+use Rattle.net_board.specs.NetOrder.{first_control}
+use Rattle.net_board.specs.NetLockstep.{IsInLockstep}
+use Rattle.net_board.specs.Nodes.{NetOf, all_lines, nodes_of}
+use Rattle.net_board.specs.Tokens.{Tokens, first_tokens, led_from, net_moves}
 
 -- there is an edge for each line
 pub every_line : (net : NetOf) (lines : List (Option ℕ)) → lines ≡ map (led_from net 1) (all_lines net) → length lines ≡ net.routing.lines

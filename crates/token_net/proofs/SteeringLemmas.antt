@@ -10,13 +10,13 @@ use Rattle.cfg_build.specs.Passes.{out, pass_of}
 use Rattle.dep_routing.specs.Touches.{exec_kind}
 use Rattle.firing.specs.declared.system.NodeName.{NodeName}
 use Rattle.firing.specs.declared.system.NodeName.TheVariants.{Act, Merge, Switch}
-use Rattle.token_net.specs.declared.control.Control.{Control}
-use Rattle.token_net.specs.NetOrder.{arrived, due_node, edge_or, moved_on, taken}
-use Rattle.token_net.specs.NodeLaws.{is_acting, node_is, node_of}
-use Rattle.token_net.specs.Nodes.{NetOf, graph_in, kind_in, nodes_by, nodes_of, node_at, node_count, first_node, led_to}
-use Rattle.token_net.specs.LockstepLaws.{IsDue, due_is}
-use Rattle.token_net.specs.Steering.{IsPlaced, Leads}
-use Rattle.token_net.specs.Tokens.{Tokens, pass_at}
+use Rattle.net_board.specs.declared.control.Control.{Control}
+use Rattle.net_board.specs.NetOrder.{arrived, due_node, edge_or, moved_on, taken}
+use Rattle.net_board.specs.Nodes.{is_acting, NetOf, graph_in, kind_in, nodes_by, nodes_of, node_at, node_count, first_node, led_to}
+use Rattle.net_board.proofs.NodeLaws.{node_is, node_of}
+use Rattle.net_board.proofs.LockstepLaws.{IsDue, due_is}
+use Rattle.net_board.specs.Steering.{IsPlaced, Leads}
+use Rattle.net_board.specs.Tokens.{Tokens, pass_at}
 use Rattle.token_net.proofs.TableLemmas.{first_next}
 
 -- ---- numbers of nodes
@@ -49,7 +49,7 @@ leaves_are net m c edge leaves is takes = by (cases_Bool (c.fired == 0))
     by (inl first) = is ∙ ap (λ b. if b then edge else c.leaves) first ∙ sym (takes (eqb-true c.fired 0 first))
     by (inr later) = is ∙ ap (λ b. if b then edge else c.leaves) later ∙ ap (λ b. if b then edge_or (out (graph_in net) c.piece 0) (pass_at net c.piece m.memory) else c.leaves) (sym later)
 
-pub moved_unless : (net : NetOf) (m : Tokens) (c : Control) (leaves piece : ℕ) → leaves ≡ taken net m c → piece ≡ Rattle.token_net.specs.NetOrder.arrival net leaves → (nat_lt (suc c.fired) (node_count net c.piece) || is_end (kind_in net c.piece)) ≡ false → (record { piece = piece; fired = 0; leaves = 0 }) ≡ moved_on net m c
+pub moved_unless : (net : NetOf) (m : Tokens) (c : Control) (leaves piece : ℕ) → leaves ≡ taken net m c → piece ≡ Rattle.net_board.specs.NetOrder.arrival net leaves → (nat_lt (suc c.fired) (node_count net c.piece) || is_end (kind_in net c.piece)) ≡ false → (record { piece = piece; fired = 0; leaves = 0 }) ≡ moved_on net m c
 moved_unless net m c leaves piece are comes goes =
     ap (λ p. record { piece = p; fired = 0; leaves = 0 }) comes
     ∙ ap (arrived net) are

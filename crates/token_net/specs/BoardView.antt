@@ -1,7 +1,7 @@
 -- What contracts see of a board.
 use Rattle.std.specs.Prelude.{ℕ}
 use Rattle.token_net.specs.declared.board.Board.{Board}
-use Rattle.token_net.specs.Nodes.{NetOf}
+use Rattle.net_board.specs.Nodes.{NetOf}
 use Rattle.token_net.specs.PlanView.{net_in}
 
 module _ {W : ℕ} where

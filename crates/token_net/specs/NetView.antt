@@ -2,9 +2,9 @@
 use Rattle.std.specs.Prelude.{ℕ, List}
 use Rattle.f77_meaning.specs.Storage.{memory_of}
 use Rattle.token_net.specs.declared.net.Net.{Net}
-use Rattle.token_net.specs.Nodes.{NetOf}
+use Rattle.net_board.specs.Nodes.{NetOf}
 use Rattle.token_net.specs.BoardView.{net_on}
-use Rattle.token_net.specs.Tokens.{Tokens}
+use Rattle.net_board.specs.Tokens.{Tokens}
 
 module _ {W : ℕ} where
   -- what firings never change

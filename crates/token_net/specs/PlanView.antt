@@ -2,7 +2,7 @@
 use Rattle.std.specs.Prelude.{ℕ}
 use Rattle.dep_routing.specs.Touch.{touches_in}
 use Rattle.token_net.specs.declared.plan.Plan.{Plan}
-use Rattle.token_net.specs.Nodes.{NetOf}
+use Rattle.net_board.specs.Nodes.{NetOf}
 
 module _ {W : ℕ} where
   -- what firings never change

@@ -9,29 +9,30 @@ ghost use Rattle.cfg_build.specs.Joined.{FlowGraph};
 ghost use Rattle.dep_routing.specs.Routing.{Routing};
 ghost use Rattle.dep_routing.specs.Touch.{touches_in};
 ghost use Rattle.firing.specs.Control.{IsInStep};
-ghost use Rattle.token_net.specs.Belonging.{CanCome};
+ghost use Rattle.net_board.specs.Belonging.{CanCome};
 ghost use Rattle.token_net.specs.BoardView.{net_on};
-ghost use Rattle.token_net.specs.NetOrder.{first_control as first_control_of};
-ghost use Rattle.token_net.specs.NetLockstep.{IsInLockstep};
+ghost use Rattle.net_board.specs.NetOrder.{first_control as first_control_of};
+ghost use Rattle.net_board.specs.NetLockstep.{IsInLockstep};
 ghost use Rattle.token_net.specs.NetView.{net_of, tokens_of};
-ghost use Rattle.token_net.specs.Nodes.{all_lines};
-ghost use Rattle.token_net.specs.Parts.{AreParts, net_with};
+ghost use Rattle.net_board.specs.Nodes.{all_lines};
+ghost use Rattle.net_board.specs.Parts.{AreParts, net_with};
 ghost use Rattle.token_net.specs.PlanView.{net_in};
-ghost use Rattle.token_net.specs.Steering.{IsPlaced};
-ghost use Rattle.token_net.specs.Tokens.{first_tokens, led_from, net_moves};
+ghost use Rattle.net_board.specs.Steering.{IsPlaced};
+ghost use Rattle.net_board.specs.Tokens.{first_tokens, led_from, net_moves};
 
+use crate::Net;
 use crate::board::Board;
-use crate::laws::{ground, nets_begin_soundly};
-use crate::net_laws::{flow_graphs_ground_nets, nets_simulate_programs};
 use crate::plan::Plan;
 use crate::tables::make_tables;
-use crate::{Control, Net};
 use cfg_build::Flow;
 use dep_routing::{Lines, TouchList, touches_are_sound};
 use df_sequence::NoMemory;
 use f77_meaning::{initial_storage, longest_line};
 use f77_tree::{Program, well_formed_programs_can_run};
 use firing::ReadySet;
+use net_board::{
+    Control, flow_graphs_ground_nets, ground, nets_begin_soundly, nets_simulate_programs,
+};
 use std::alloc::Global;
 
 impl<'a, const W: usize> Net<'a, W> {

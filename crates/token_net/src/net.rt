@@ -4,14 +4,14 @@ ghost use Rattle.std.specs.Option.{ForSome};
 ghost use Rattle.std.specs.Prelude.{◌≡◌, ◌≤◌, ◌+◌, ◌*◌, length, vec_capacity};
 ghost use Rattle.f77_meaning.specs.Room.{most_room};
 ghost use Rattle.token_net.specs.BoardView.{net_on};
-ghost use Rattle.token_net.specs.Nodes.{nodes_of};
-ghost use Rattle.token_net.specs.Steering.{IsPlaced};
+ghost use Rattle.net_board.specs.Nodes.{nodes_of};
+ghost use Rattle.net_board.specs.Steering.{IsPlaced};
 
-use crate::Control;
 use crate::board::Board;
 use crate::standing::{are_before, is_before, is_clear};
 use f77_meaning::{Storage, word_in};
 use firing::{NodeName, ReadySet};
+use net_board::Control;
 use op_table::Trap;
 
 /// A dataflow net that does what a program does, whatever the order in which its nodes fire. Tokens stand for the classes of the
@@ -46,10 +46,9 @@ impl<'a, const W: usize> Net<'a, W> {
     ghost use Rattle.f77_tree.specs.Value.{word_at};
     ghost use Rattle.firing.specs.declared.system.NodeName.TheVariants.{Act};
     ghost use Rattle.token_net.specs.NetView.{net_of, tokens_of};
-    ghost use Rattle.token_net.specs.NodeLaws.{is_acting};
-    ghost use Rattle.token_net.specs.Nodes.{graph_in, kind_in, node_at};
-    ghost use Rattle.token_net.specs.Standing.{IsReadable};
-    ghost use Rattle.token_net.specs.Tokens.{ready_as};
+    ghost use Rattle.net_board.specs.Nodes.{is_acting, graph_in, kind_in, node_at};
+    ghost use Rattle.net_board.specs.Standing.{IsReadable};
+    ghost use Rattle.net_board.specs.Tokens.{ready_as};
 
     /// The word of the store with this number.
     pub fn word(&self, k: u32) -> i32

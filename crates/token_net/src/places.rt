@@ -2,10 +2,10 @@
 
 ghost use Rattle.std.specs.Prelude.{◌≡◌, ◌<◌, ◌^◌, suc, map, if◌then◌else◌, IfOk};
 ghost use Rattle.std.specs.List.{range_with_len};
-ghost use Rattle.token_net.specs.Nodes.{graph_in, all_lines, first_node};
-ghost use Rattle.token_net.specs.NetTables.{all_pieces};
+ghost use Rattle.net_board.specs.Nodes.{graph_in, all_lines, first_node};
+ghost use Rattle.token_net.specs.NetTables.{all_pieces, kept_places};
 ghost use Rattle.token_net.specs.PlanView.{net_in};
-ghost use Rattle.token_net.specs.Waking.{kept_places, merge_number, no_node, place_by, switch_number};
+ghost use Rattle.net_board.specs.Waking.{merge_number, no_node, place_by, switch_number};
 
 use crate::plan::Plan;
 use crate::tables::{free_lines, passing_lines};

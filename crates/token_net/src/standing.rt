@@ -3,10 +3,10 @@
 ghost use Rattle.std.specs.Prelude.{◌≡◌, ◌<◌, ◌≤◌, ◌-◌, All, None, Some, suc, not, is_some, length};
 ghost use Rattle.std.specs.List.{list_all, range_with_len};
 ghost use Rattle.closed_walks.specs.Graph.{edge_count};
-ghost use Rattle.token_net.specs.Nodes.{graph_in};
+ghost use Rattle.net_board.specs.Nodes.{graph_in};
 ghost use Rattle.token_net.specs.PlanView.{net_in};
-ghost use Rattle.token_net.specs.Standing.{AreEdges, edge_at};
-ghost use Rattle.token_net.specs.Tokens.{leads_to, led_from, with_all};
+ghost use Rattle.net_board.specs.Standing.{AreEdges, edge_at};
+ghost use Rattle.net_board.specs.Tokens.{leads_to, led_from, with_all};
 
 use crate::plan::Plan;
 

@@ -6,14 +6,14 @@ ghost use Rattle.closed_walks.specs.Graph.{edge_count};
 ghost use Rattle.cfg_build.specs.Joined.{is_end};
 ghost use Rattle.firing.specs.Control.{steered as steered_in};
 ghost use Rattle.token_net.specs.BoardView.{net_on};
-ghost use Rattle.token_net.specs.NetOrder.{due_node, moved_on as moved_in, net_course, taken};
-ghost use Rattle.token_net.specs.Nodes.{graph_in, kind_in, node_count};
-ghost use Rattle.token_net.specs.Steering.{IsPlaced, Leads};
-ghost use Rattle.token_net.specs.Tokens.{Tokens};
+ghost use Rattle.net_board.specs.NetOrder.{due_node, moved_on as moved_in, net_course, taken};
+ghost use Rattle.net_board.specs.Nodes.{graph_in, kind_in, node_count};
+ghost use Rattle.net_board.specs.Steering.{IsPlaced, Leads};
+ghost use Rattle.net_board.specs.Tokens.{Tokens};
 
-use crate::Control;
 use crate::board::Board;
 use crate::tables::is_end;
+use net_board::Control;
 
 /// The node that is due at a place.
 pub(crate) fn due_at<const W: usize>(board: &Board<W>, c: Control) -> Option<u32>

@@ -7,8 +7,8 @@ ghost use Rattle.closed_walks.specs.Graph.{edge_count, to};
 ghost use Rattle.cfg_build.specs.Joined.{is_end};
 ghost use Rattle.cfg_build.specs.Passes.{outs as outs_in};
 ghost use Rattle.firing.specs.declared.system.NodeName.TheVariants.{Merge, Switch};
-ghost use Rattle.token_net.specs.Nodes.{graph_in, is_free, led_to, passing, touched, nodes_at, nodes_of, first_node};
-ghost use Rattle.token_net.specs.NetOrder.{arrival, is_idle, passed};
+ghost use Rattle.net_board.specs.Nodes.{graph_in, is_free, led_to, passing, touched, nodes_at, nodes_of, first_node};
+ghost use Rattle.net_board.specs.NetOrder.{arrival, is_idle, passed};
 ghost use Rattle.token_net.specs.NetTables.{AreTables, all_edges, all_pieces};
 ghost use Rattle.token_net.specs.PlanView.{net_in};
 

@@ -3,9 +3,10 @@
 ghost use Rattle.std.specs.Prelude.{◌≡◌, ◌<◌, ◌≤◌, ◌+◌, ◌-◌, ℕ, All, suc, length, vec_len, vec_capacity};
 ghost use Rattle.std.specs.List.{Contains, range_with_len};
 ghost use Rattle.token_net.specs.BoardView.{net_on};
-ghost use Rattle.token_net.specs.MemberLaws.{Member};
-ghost use Rattle.token_net.specs.Standing.{AreEdges, edge_at};
-ghost use Rattle.token_net.specs.Waking.{HasNext, Keeps, no_node};
+ghost use Rattle.net_board.specs.Members.{Member};
+ghost use Rattle.net_board.specs.Standing.{AreEdges, edge_at};
+ghost use Rattle.net_board.specs.Waking.{HasNext, no_node};
+ghost use Rattle.token_net.specs.Waking.{Keeps};
 
 use crate::board::Board;
 

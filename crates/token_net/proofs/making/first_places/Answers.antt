@@ -1,6 +1,6 @@
 use Rattle.std.proofs.Common.{Some, ap}
 use Rattle.token_net.specs.PlanView.{net_in}
-use Rattle.token_net.specs.Tokens.{led_from}
+use Rattle.net_board.specs.Tokens.{led_from}
 use Rattle.token_net.proofs.TableLemmas.{mapped_more}
 use Rattle.token_net.proofs.making.first_places.Goals as goal
 

@@ -1,7 +1,7 @@
 use Rattle.std.proofs.Common.{◌≡◌, map}
 use Rattle.std.specs.List.{range_with_len}
 use Rattle.token_net.specs.PlanView.{net_in}
-use Rattle.token_net.specs.Tokens.{led_from}
+use Rattle.net_board.specs.Tokens.{led_from}
 use Rattle.token_net.proofs.making.first_places.Given as goal
 
 abbrev pub invariant-loop-line : goal.invariant-loop-line

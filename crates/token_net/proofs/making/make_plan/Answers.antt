@@ -6,7 +6,7 @@ use Rattle.cfg_build.specs.Joined.{FlowGraph, finish}
 use Rattle.cfg_build.specs.Shape.{IsShaped}
 use Rattle.dep_routing.specs.Routing.{next_at}
 use Rattle.dep_routing.specs.Touch.{touches_in}
-use Rattle.token_net.proofs.PartsLemmas.{parts_lead}
+use Rattle.net_board.proofs.PartsLemmas.{parts_lead}
 use Rattle.token_net.proofs.making.make_plan.Goals as goal
 
 pub invariant_of-result : goal.invariant_of-result

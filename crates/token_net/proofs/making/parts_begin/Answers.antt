@@ -1,6 +1,6 @@
-use Rattle.token_net.specs.Belonging.{IsNet}
-use Rattle.token_net.specs.Parts.{net_with}
-use Rattle.token_net.proofs.PartsLemmas.{net_made}
+use Rattle.net_board.specs.Belonging.{IsNet}
+use Rattle.net_board.specs.Parts.{net_with}
+use Rattle.net_board.proofs.PartsLemmas.{net_made}
 use Rattle.token_net.proofs.making.parts_begin.Goals as goal
 
 pub returns-clause-sound : goal.returns-clause-sound

@@ -1,9 +1,9 @@
 use Rattle.std.proofs.Common.{◌≡◌, ℕ, true, take}
 use Rattle.std.specs.List.{list_all}
-use Rattle.token_net.specs.Nodes.{graph_in}
+use Rattle.net_board.specs.Nodes.{graph_in}
 use Rattle.token_net.specs.PlanView.{net_in}
-use Rattle.token_net.specs.Standing.{edge_at}
-use Rattle.token_net.specs.Tokens.{leads_to}
+use Rattle.net_board.specs.Standing.{edge_at}
+use Rattle.net_board.specs.Tokens.{leads_to}
 use Rattle.token_net.proofs.standing.are_before.Given as goal
 
 abbrev pub invariant-loop-line : goal.invariant-loop-line

@@ -1,5 +1,5 @@
 use Rattle.std.proofs.Common.{◌≡◌, ℕ, None, drop, length}
-use Rattle.token_net.specs.Tokens.{with_all}
+use Rattle.net_board.specs.Tokens.{with_all}
 use Rattle.token_net.proofs.standing.drop_lines.Given as goal
 
 abbrev pub invariant-loop-line : goal.invariant-loop-line

@@ -1,10 +1,10 @@
 use Rattle.std.proofs.Common.{◌≡◌, ◌<◌, ℕ, Some, nat_eq, sym, ap, ◌∙◌, subst}
 use Rattle.closed_walks.specs.Graph.{Graph, edge_count, to}
 use Rattle.cfg_build.specs.Joined.{FlowGraph}
-use Rattle.token_net.specs.Nodes.{graph_in}
+use Rattle.net_board.specs.Nodes.{graph_in}
 use Rattle.token_net.specs.PlanView.{net_in}
-use Rattle.token_net.specs.Standing.{edge_at}
-use Rattle.token_net.specs.Tokens.{leads_to}
+use Rattle.net_board.specs.Standing.{edge_at}
+use Rattle.net_board.specs.Tokens.{leads_to}
 use Rattle.token_net.proofs.StandingLemmas.{read_edge}
 use Rattle.token_net.proofs.standing.is_before.Goals as goal
 

@@ -1,5 +1,5 @@
 use Rattle.std.proofs.Common.{◌≡◌, ℕ, true, false, not, is_some, sym, ap, ◌∙◌, arith, rules}
-use Rattle.token_net.specs.Standing.{edge_at}
+use Rattle.net_board.specs.Standing.{edge_at}
 use Rattle.token_net.proofs.StandingLemmas.{read_edge, each_in_row, each_next, not_each_in_row}
 use Rattle.token_net.proofs.standing.is_clear.Goals as goal
 

@@ -1,5 +1,5 @@
 use Rattle.std.proofs.Common.{◌≡◌, ◌<◌, ℕ, true, not, is_some}
-use Rattle.token_net.specs.Standing.{edge_at}
+use Rattle.net_board.specs.Standing.{edge_at}
 use Rattle.token_net.proofs.standing.is_clear.Given as goal
 
 abbrev pub invariant-loop-k : goal.invariant-loop-k

@@ -1,6 +1,6 @@
 use Rattle.std.proofs.Common.{sym, ◌∙◌}
 use Rattle.token_net.specs.PlanView.{net_in}
-use Rattle.token_net.specs.Tokens.{led_from}
+use Rattle.net_board.specs.Tokens.{led_from}
 use Rattle.token_net.proofs.StandingLemmas.{leads_stand, places_end}
 use Rattle.token_net.proofs.standing.lead.Goals as goal
 

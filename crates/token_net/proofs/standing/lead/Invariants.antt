@@ -1,6 +1,6 @@
 use Rattle.std.proofs.Common.{◌≡◌, drop, length}
 use Rattle.token_net.specs.PlanView.{net_in}
-use Rattle.token_net.specs.Tokens.{led_from, with_all}
+use Rattle.net_board.specs.Tokens.{led_from, with_all}
 use Rattle.token_net.proofs.standing.lead.Given as goal
 
 abbrev pub invariant-loop-line : goal.invariant-loop-line

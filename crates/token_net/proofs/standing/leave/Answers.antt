@@ -1,7 +1,7 @@
 use Rattle.std.proofs.Common.{ℕ, ◌-◌, suc, Some, slice_set, refl, ◌∙◌}
 use Rattle.std.specs.List.{range_with_len}
-use Rattle.token_net.specs.PlaceLaws.{length_slice_set}
-use Rattle.token_net.specs.Tokens.{with_all}
+use Rattle.net_board.proofs.PlaceLaws.{length_slice_set}
+use Rattle.net_board.specs.Tokens.{with_all}
 use Rattle.token_net.proofs.StandingLemmas.{row_next}
 use Rattle.token_net.proofs.standing.leave.Goals as goal
 

@@ -1,6 +1,6 @@
 use Rattle.std.proofs.Common.{◌≡◌, ◌-◌, ℕ, suc, Some, length}
 use Rattle.std.specs.List.{range_with_len}
-use Rattle.token_net.specs.Tokens.{with_all}
+use Rattle.net_board.specs.Tokens.{with_all}
 use Rattle.token_net.proofs.standing.leave.Given as goal
 
 abbrev pub invariant-loop-k : goal.invariant-loop-k

@@ -1,6 +1,6 @@
 use Rattle.std.proofs.Common.{◌≡◌, Some, sym, ◌∙◌, rules}
 use Rattle.token_net.specs.BoardView.{net_on}
-use Rattle.token_net.specs.NetOrder.{due_node}
+use Rattle.net_board.specs.NetOrder.{due_node}
 use Rattle.token_net.proofs.ActLemmas.{steered_if}
 use Rattle.token_net.proofs.steering.steered.Goals as goal
 

@@ -1,5 +1,5 @@
 use Rattle.std.proofs.Common.{◌≡◌, map}
-use Rattle.token_net.specs.NetOrder.{passed_by}
+use Rattle.net_board.specs.NetOrder.{passed_by}
 use Rattle.token_net.specs.NetTables.{all_edges}
 use Rattle.token_net.specs.PlanView.{net_in}
 use Rattle.token_net.proofs.tables.arrivals.Given as goal

@@ -1,4 +1,4 @@
-use Rattle.token_net.specs.NetOrder.{passed}
+use Rattle.net_board.specs.NetOrder.{passed}
 use Rattle.token_net.specs.PlanView.{net_in}
 use Rattle.token_net.proofs.TableLemmas.{mapped_more}
 use Rattle.token_net.proofs.tables.edges_passed.Goals as goal

@@ -1,6 +1,6 @@
 use Rattle.std.proofs.Common.{◌≡◌, map}
 use Rattle.std.specs.List.{range_with_len}
-use Rattle.token_net.specs.NetOrder.{passed}
+use Rattle.net_board.specs.NetOrder.{passed}
 use Rattle.token_net.specs.PlanView.{net_in}
 use Rattle.token_net.proofs.tables.edges_passed.Given as goal
 

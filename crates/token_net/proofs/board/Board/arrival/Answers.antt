@@ -1,8 +1,8 @@
 use Rattle.std.proofs.Common.{◌≡◌, ◌<◌, subst, sym, ◌∙◌, arith}
 use Rattle.closed_walks.specs.Graph.{edge_count}
 use Rattle.token_net.specs.BoardView.{net_on}
-use Rattle.token_net.specs.NetOrder.{arrival}
-use Rattle.token_net.specs.Nodes.{graph_in}
+use Rattle.net_board.specs.NetOrder.{arrival}
+use Rattle.net_board.specs.Nodes.{graph_in}
 use Rattle.token_net.proofs.BoardLemmas.{arrival_exists}
 use Rattle.token_net.proofs.TableLemmas.{mapped_length, mapped_at}
 use Rattle.token_net.proofs.board.Board.arrival.Goals as goal

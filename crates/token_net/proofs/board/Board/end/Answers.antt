@@ -1,6 +1,6 @@
 use Rattle.std.proofs.Common.{◌≡◌, ◌+◌, suc, ◌∙◌, arith}
 use Rattle.token_net.specs.BoardView.{net_on}
-use Rattle.token_net.specs.Nodes.{graph_in, first_node, node_count}
+use Rattle.net_board.specs.Nodes.{graph_in, first_node, node_count}
 use Rattle.token_net.proofs.SteeringLemmas.{nodes_within}
 use Rattle.token_net.proofs.TableLemmas.{mapped_length, mapped_at, first_next}
 use Rattle.token_net.proofs.board.Board.end.Goals as goal

@@ -2,7 +2,7 @@ use Rattle.std.proofs.Common.{◌≡◌, ◌<◌, ℕ, List, slice_index, subst,
 use Rattle.closed_walks.specs.Graph.{edge_count}
 use Rattle.cfg_build.specs.Passes.{out}
 use Rattle.token_net.specs.BoardView.{net_on}
-use Rattle.token_net.specs.Nodes.{graph_in}
+use Rattle.net_board.specs.Nodes.{graph_in}
 use Rattle.token_net.proofs.BoardLemmas.{some_edge}
 use Rattle.token_net.proofs.TableLemmas.{out_exists}
 use Rattle.token_net.proofs.board.Board.first_out.Goals as goal

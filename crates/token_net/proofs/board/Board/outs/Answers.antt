@@ -1,7 +1,7 @@
 use Rattle.std.proofs.Common.{◌∙◌, arith}
 use Rattle.cfg_build.specs.Passes.{outs}
 use Rattle.token_net.specs.BoardView.{net_on}
-use Rattle.token_net.specs.Nodes.{graph_in}
+use Rattle.net_board.specs.Nodes.{graph_in}
 use Rattle.token_net.proofs.TableLemmas.{mapped_length, mapped_at}
 use Rattle.token_net.proofs.board.Board.outs.Goals as goal
 

@@ -1,8 +1,8 @@
 use Rattle.std.proofs.Common.{◌≡◌, ◌<◌, ◌∙◌, List, ℕ, get_or, arith}
 use Rattle.token_net.specs.declared.board.Board.{Board}
 use Rattle.token_net.specs.BoardView.{net_on}
-use Rattle.token_net.specs.Nodes.{graph_in}
-use Rattle.token_net.specs.Waking.{kept_places}
+use Rattle.net_board.specs.Nodes.{graph_in}
+use Rattle.token_net.specs.NetTables.{kept_places}
 use Rattle.token_net.proofs.PlacesLemmas.{kept_cell, kept_first}
 use Rattle.token_net.proofs.TableLemmas.{mapped_length, mapped_at}
 use Rattle.token_net.proofs.board.Board.place.Goals as goal

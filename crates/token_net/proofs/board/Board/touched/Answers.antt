@@ -1,6 +1,6 @@
 use Rattle.std.proofs.Common.{◌≡◌, ◌<◌, ◌≤◌, ℕ, List, All, length, subst, sym, ◌∙◌, arith}
 use Rattle.token_net.specs.BoardView.{net_on}
-use Rattle.token_net.specs.Nodes.{graph_in, touched}
+use Rattle.net_board.specs.Nodes.{graph_in, touched}
 use Rattle.token_net.proofs.BoardLemmas.{touched_exist, touched_few}
 use Rattle.token_net.proofs.TableLemmas.{mapped_length, mapped_at}
 use Rattle.token_net.proofs.board.Board.touched.Goals as goal

@@ -3,12 +3,12 @@ use Rattle.f77_meaning.specs.Storage.{memory_of}
 use Rattle.f77_meaning.specs.declared.storage.Storage.{Storage}
 use Rattle.cfg_build.specs.Passes.{Along, Traps, out}
 use Rattle.token_net.specs.declared.pieces_run.Ran.{Ran}
-use Rattle.token_net.specs.Belonging.{HasSizesOf}
-use Rattle.token_net.specs.NetOrder.{edge_or}
+use Rattle.net_board.specs.Belonging.{HasSizesOf}
+use Rattle.net_board.specs.NetOrder.{edge_or}
 use Rattle.token_net.specs.NetView.{net_of, tokens_of}
-use Rattle.token_net.specs.Nodes.{graph_in}
+use Rattle.net_board.specs.Nodes.{graph_in}
 use Rattle.token_net.specs.PieceRuns.{KeepsStorage, going_on, told}
-use Rattle.token_net.specs.Tokens.{acted, pass_at}
+use Rattle.net_board.specs.Tokens.{acted, pass_at}
 use Rattle.token_net.proofs.ActLemmas.{IsActing, act_named}
 use Rattle.token_net.proofs.BoardLemmas.{some_edge}
 use Rattle.token_net.proofs.FiredLemmas.{trap_answered}

@@ -2,9 +2,9 @@ use Rattle.std.proofs.Common.{◌≡◌, ◌<◌, ℕ, Some, length, vec_len, su
 use Rattle.closed_walks.specs.Graph.{edge_count}
 use Rattle.cfg_build.specs.Joined.{FlowGraph}
 use Rattle.token_net.specs.NetView.{net_of, tokens_of}
-use Rattle.token_net.specs.PlaceLaws.{length_slice_set}
-use Rattle.token_net.specs.Steering.{Leads}
-use Rattle.token_net.specs.Waking.{no_node}
+use Rattle.net_board.proofs.PlaceLaws.{length_slice_set}
+use Rattle.net_board.specs.Steering.{Leads}
+use Rattle.net_board.specs.Waking.{no_node}
 use Rattle.token_net.proofs.ActLemmas.{IsMerging, merge_named}
 use Rattle.token_net.proofs.FireShapes.{merge_woken}
 use Rattle.token_net.proofs.StandingLemmas.{led_stands, none_all}

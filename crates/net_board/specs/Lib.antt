@@ -1,0 +1,16 @@
+pub mod Members
+pub mod Nodes
+pub mod Tokens
+pub mod NetOrder
+pub mod Amid
+pub mod Ground
+pub mod Belonging
+pub mod FlowGround
+pub mod NetLockstep
+pub mod Feet
+pub mod OwnOrder
+pub mod StepLockstep
+pub mod Parts
+pub mod Standing
+pub mod Steering
+pub mod Waking
