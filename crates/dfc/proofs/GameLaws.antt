@@ -9,7 +9,7 @@ use Rattle.firing.specs.declared.playing.Show.TheVariants.{Output}
 use Rattle.firing.specs.Orders.{IsOver, after}
 use Rattle.firing.specs.Play.{shown}
 use Rattle.firing.specs.Runs.{IsRun}
-use Rattle.net_board.specs.NetOrder.{first_control}
+use Rattle.net_board.specs.ControlCourse.{first_control}
 use Rattle.net_board.specs.Nodes.{NetOf}
 use Rattle.net_board.specs.OwnOrder.{own_order}
 use Rattle.net_board.specs.Tokens.{first_tokens, net_moves}

@@ -18,7 +18,7 @@ use Rattle.firing.specs.Runs.{HasOrder, IsRun}
 use Rattle.net_board.specs.declared.control.Control.{Control}
 use Rattle.net_board.specs.Nodes.{NetOf}
 use Rattle.net_board.specs.OwnOrder.{own_order}
-use Rattle.net_board.specs.StepLockstep.{program_stage, program_text, stage_of}
+use Rattle.net_board.specs.ProgramStages.{program_stage, program_text, stage_of}
 use Rattle.net_board.specs.Tokens.{Tokens, first_tokens, net_moves}
 use Rattle.dfc.specs.declared.status.Status.{Status}
 use Rattle.dfc.specs.declared.status.Status.TheVariants as status

@@ -15,7 +15,7 @@ use Rattle.firing.specs.Moves.{Moves, CanFire}
 use Rattle.firing.specs.Play.{Moment, Way, BreaksOff, Plays, by_order, by_picks, moment, node_at, played, shown, shown_at}
 use Rattle.firing.specs.Runs.{HasEnd, IsOwnEnd, IsRun}
 use Rattle.net_board.specs.declared.control.Control.{Control}
-use Rattle.net_board.specs.NetOrder.{first_control, net_course}
+use Rattle.net_board.specs.ControlCourse.{first_control, net_course}
 use Rattle.net_board.specs.Nodes.{NetOf}
 use Rattle.net_board.specs.Tokens.{Tokens, first_tokens, net_moves}
 use Rattle.dfc.specs.declared.status.Status.{Status}

@@ -8,9 +8,9 @@ use Rattle.firing.specs.Control.{Course}
 use Rattle.firing.specs.Moves.{Moves}
 use Rattle.firing.specs.Play.{Moment, Way, by_order, by_picks, moment}
 use Rattle.net_board.specs.declared.control.Control.{Control}
-use Rattle.net_board.specs.NetOrder.{first_control, net_course}
+use Rattle.net_board.specs.ControlCourse.{first_control, net_course}
 use Rattle.net_board.specs.Nodes.{NetOf}
-use Rattle.net_board.specs.Parts.{AreParts, net_with}
+use Rattle.net_board.specs.NetParts.{AreParts, net_with}
 use Rattle.net_board.specs.Tokens.{Tokens, first_tokens, net_moves}
 
 -- The net of a program over data that are words, made of the program's own parts.

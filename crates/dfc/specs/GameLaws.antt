@@ -17,7 +17,7 @@ use Rattle.firing.specs.Play.{Moment, Way, by_order, moment}
 use Rattle.firing.specs.Runs.{HasOrder, IsRun}
 use Rattle.firing.specs.SourceOrder.{IsDueOrder}
 use Rattle.net_board.specs.declared.control.Control.{Control}
-use Rattle.net_board.specs.NetOrder.{net_course}
+use Rattle.net_board.specs.ControlCourse.{net_course}
 use Rattle.net_board.specs.Nodes.{NetOf}
 use Rattle.net_board.specs.Tokens.{Tokens, net_moves}
 use Rattle.dfc.specs.Game.{IsNetOn}

@@ -7,12 +7,12 @@ use Rattle.cfg_build.specs.declared.pieces.PieceKind.TheVariants as kind
 use Rattle.cfg_build.specs.Joined.{is_end, finish}
 use Rattle.cfg_build.specs.Passes.{out}
 use Rattle.cfg_build.specs.Shape.{leaves_one}
-use Rattle.net_board.specs.Belonging.{IsNet}
-use Rattle.net_board.specs.FlowGround.{FlowGround, IsNearEnd}
-use Rattle.net_board.specs.NetOrder.{is_idle, passed, passed_by, arrival}
+use Rattle.net_board.specs.SoundNets.{IsNet}
+use Rattle.net_board.specs.FlowFacts.{FlowFacts, IsNearEnd}
+use Rattle.net_board.specs.ControlCourse.{is_idle, passed, passed_by, arrival}
 use Rattle.net_board.specs.Nodes.{NetOf, graph_in, kind_in, nodes_by}
-use Rattle.net_board.proofs.PlaceLaws.{left_of, right_of}
-use Rattle.net_board.proofs.WayLaws.{idle_leaves_one}
+use Rattle.net_board.proofs.ListPlaces.{left_of, right_of}
+use Rattle.net_board.proofs.ControlWays.{idle_leaves_one}
 
 -- ---- past idle pieces one by one
 
@@ -56,7 +56,7 @@ one_below (suc k) test is = ⊎_elim
     (λ (h : test k ≡ true). record { one = k; below = omega arith; passes = h })
     (or_cases (any_below k test) (test k) is)
 
-module _ (net : NetOf) (is_net : IsNet net) (ground : FlowGround net is_net.tree) where
+module _ (net : NetOf) (is_net : IsNet net) (ground : FlowFacts net is_net.tree) where
   passed_busy : (edge : ℕ) → is_idle net (to (graph_in net) edge) ≡ false → passed net edge ≡ edge
   passed_busy edge busy = ap (λ (b : Bool). if b then out (graph_in net) (to (graph_in net) edge) 0 else edge) busy
 

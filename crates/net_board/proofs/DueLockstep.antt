@@ -17,21 +17,21 @@ use Rattle.firing.specs.Orders.{after}
 use Rattle.firing.specs.SourceOrder.{IsDueOrder}
 use Rattle.firing.specs.declared.system.NodeName.TheVariants.{Act}
 use Rattle.net_board.specs.declared.control.Control.{Control}
-use Rattle.net_board.specs.Amid.{leaving, IsAmid}
-use Rattle.net_board.proofs.ArrivalLaws.{arrived_busy, arrival_past}
-use Rattle.net_board.specs.Belonging.{IsNet}
-use Rattle.net_board.specs.FlowGround.{FlowGround}
-use Rattle.net_board.specs.NetOrder.{is_idle, passed, passed_by, arrived, edge_or, taken, due_node, moved_on, net_course, first_control}
+use Rattle.net_board.specs.WithinPiece.{leaving, IsAmid}
+use Rattle.net_board.specs.SoundNets.{IsNet}
+use Rattle.net_board.specs.FlowFacts.{FlowFacts}
+use Rattle.net_board.specs.ControlCourse.{is_idle, passed, passed_by, arrived, edge_or, taken, due_node, moved_on, net_course, first_control}
 use Rattle.net_board.specs.NetLockstep.{IsBetween, IsOnWay}
 use Rattle.net_board.specs.Nodes.{NetOf, graph_in, kind_in, nodes_at, nodes_of, node_count, first_node}
-use Rattle.net_board.proofs.OrderLists.{range_more}
 use Rattle.net_board.specs.OwnOrder.{firings_of, firings_from, own_passes}
+use Rattle.net_board.specs.Tokens.{Tokens, net_moves, first_tokens, pass_at}
+use Rattle.net_board.proofs.ArrivalLaws.{arrived_busy, arrival_past}
+use Rattle.net_board.proofs.OrderJoins.{range_more}
 use Rattle.net_board.proofs.PassFirings.{IsPartFired, part_fired}
 use Rattle.net_board.proofs.PassLockstep.{StandsBeside, IsPassLockstep, pass_lockstep, trap_acts}
-use Rattle.net_board.proofs.LockstepLists.{below_length}
-use Rattle.net_board.proofs.PlaceLaws.{left_of}
-use Rattle.net_board.specs.Tokens.{Tokens, net_moves, first_tokens, pass_at}
-use Rattle.net_board.proofs.WayLaws.{idle_pass, not_start}
+use Rattle.net_board.proofs.ListPrefixes.{below_length}
+use Rattle.net_board.proofs.ListPlaces.{left_of}
+use Rattle.net_board.proofs.ControlWays.{idle_pass, not_start}
 
 -- ---- places after firings
 
@@ -59,7 +59,7 @@ at_piece piece leaves fired = record { piece = piece; fired = fired; leaves = le
 not_zero : (j : ℕ) → (suc j == 0) ≡ false
 not_zero j = ⊎_elim (λ (h : (suc j == 0) ≡ true). let clash : suc j ≡ 0 = eqb-true (suc j) 0 h in absurd (omega (arith, clash))) (λ (h : (suc j == 0) ≡ false). h) (cases_Bool (suc j == 0))
 
-module _ (net : NetOf) (is_net : IsNet net) (ground : FlowGround net is_net.tree) where
+module _ (net : NetOf) (is_net : IsNet net) (ground : FlowFacts net is_net.tree) where
   -- ---- at a piece
 
   module _ (e piece : ℕ) (inside : e < edge_count (graph_in net)) (comes : to (graph_in net) e ≡ piece) (later : 0 ≢ piece) (s : Tokens) (memory : Memory) (between : IsBetween net is_net.tree s e memory) (room : length s.edges ≡ length (nodes_of net)) (goes : DoesTrap (pass_at net piece memory) → ⊥) where

@@ -5,14 +5,14 @@ use Rattle.closed_walks.specs.Graph.{Graph, edge_count, from, to, touches, touch
 use Rattle.f77_tree.specs.Execution.{Memory}
 use Rattle.dep_routing.specs.Quiet.{IsFree}
 use Rattle.dep_routing.specs.Routing.{wire_at}
-use Rattle.net_board.specs.Belonging.{IsNet}
-use Rattle.net_board.specs.FlowGround.{FlowGround}
+use Rattle.net_board.specs.SoundNets.{IsNet}
+use Rattle.net_board.specs.FlowFacts.{FlowFacts}
 use Rattle.net_board.specs.Members.{Member}
-use Rattle.net_board.proofs.MemberLaws.{Member-left, Member-right, Member-cases, IsPassed, list_any_member, member_of_list_any}
 use Rattle.net_board.specs.NetLockstep.{IsBetween}
 use Rattle.net_board.specs.Nodes.{NetOf, graph_in, comes_along, is_free}
-use Rattle.net_board.proofs.PlaceLaws.{left_of, right_of}
 use Rattle.net_board.specs.Tokens.{Tokens, edge_of}
+use Rattle.net_board.proofs.MemberLaws.{Member-left, Member-right, Member-cases, IsPassed, list_any_member, member_of_list_any}
+use Rattle.net_board.proofs.ListPlaces.{left_of, right_of}
 
 -- ---- edges at a node
 
@@ -73,7 +73,7 @@ module _ (net : NetOf) (is_net : IsNet net) where
       list_any_member (comes_along (graph_in net) net.routing node line) (edges_at (graph_in net) node) e (among_all (graph_in net) node e inside ends) (and_from (to (graph_in net) e == node) (wire_at net.routing line e) (eq-eqb (to (graph_in net) e) node ends) wire)
 
   -- a line that is led to the piece stands before it
-  pub stands_before : (ground : FlowGround net is_net.tree) (s : Tokens) (e node line : ℕ) (memory : Memory) → e < edge_count (graph_in net) → to (graph_in net) e ≡ node → IsBetween net is_net.tree s e memory → line < net.routing.lines → is_free net node line ≡ true → edge_of s line ≡ Some e
+  pub stands_before : (ground : FlowFacts net is_net.tree) (s : Tokens) (e node line : ℕ) (memory : Memory) → e < edge_count (graph_in net) → to (graph_in net) e ≡ node → IsBetween net is_net.tree s e memory → line < net.routing.lines → is_free net node line ≡ true → edge_of s line ≡ Some e
   stands_before ground s e node line memory inside ends between low is =
       let at = between.stand line low in
       let free : IsFree (graph_in net) is_net.tree net.touches line (to (graph_in net) e) = subst (λ (x : ℕ). IsFree (graph_in net) is_net.tree net.touches line x) (sym ends) (free_of_test node line low is) in

@@ -10,18 +10,18 @@ use Rattle.dep_routing.specs.Sound.{DoesTrap}
 use Rattle.firing.specs.Control.{KeepsStep}
 use Rattle.firing.specs.declared.system.NodeName.{NodeName}
 use Rattle.net_board.specs.declared.control.Control.{Control}
-use Rattle.net_board.specs.Amid.{leaving, memory_or, memory_amid, IsAmid}
-use Rattle.net_board.proofs.ArrivalLaws.{arrival_busy}
-use Rattle.net_board.specs.Belonging.{IsNet, CanCome}
-use Rattle.net_board.specs.FlowGround.{FlowGround}
-use Rattle.net_board.specs.NetOrder.{is_idle, passed_by, arrived, edge_or, taken, due_node, moved_on, net_course}
+use Rattle.net_board.specs.WithinPiece.{leaving, memory_or, memory_amid, IsAmid}
+use Rattle.net_board.specs.SoundNets.{IsNet, CanCome}
+use Rattle.net_board.specs.FlowFacts.{FlowFacts}
+use Rattle.net_board.specs.ControlCourse.{is_idle, passed_by, arrived, edge_or, taken, due_node, moved_on, net_course}
 use Rattle.net_board.specs.NetLockstep.{IsBetween, IsOnWay, IsInLockstep}
 use Rattle.net_board.specs.Nodes.{NetOf, graph_in, kind_in, nodes_at, node_count, node_at, first_node}
-use Rattle.net_board.proofs.LockstepLists.{HasItem, item_at}
+use Rattle.net_board.specs.Tokens.{Tokens, net_moves, pass_at, fired_as, ready_as}
+use Rattle.net_board.proofs.ArrivalLaws.{arrival_busy}
+use Rattle.net_board.proofs.ListPrefixes.{HasItem, item_at}
 use Rattle.net_board.proofs.PieceEnds.{none_fired, all_fired}
 use Rattle.net_board.proofs.PieceSteps.{node_named, ready_next, further}
-use Rattle.net_board.specs.Tokens.{Tokens, net_moves, pass_at, fired_as, ready_as}
-use Rattle.net_board.proofs.WayLaws.{IsThere, along_exists, way_on, not_start, there_passed_by}
+use Rattle.net_board.proofs.ControlWays.{IsThere, along_exists, way_on, not_start, there_passed_by}
 
 -- ---- which node is due
 
@@ -48,7 +48,7 @@ none_due net c due = by (nat_lt c.fired (node_count net c.piece)) refl due
 
 -- ---- places at which no node has fired
 
-pub in_lockstep_there : (net : NetOf) (is_net : IsNet net) (ground : FlowGround net is_net.tree) (m : Tokens) (edge : ℕ) → IsThere net is_net ground m edge → is_idle net (to (graph_in net) edge) ≡ false → IsInLockstep net m (record { piece = to (graph_in net) edge; fired = 0; leaves = 0 })
+pub in_lockstep_there : (net : NetOf) (is_net : IsNet net) (ground : FlowFacts net is_net.tree) (m : Tokens) (edge : ℕ) → IsThere net is_net ground m edge → is_idle net (to (graph_in net) edge) ≡ false → IsInLockstep net m (record { piece = to (graph_in net) edge; fired = 0; leaves = 0 })
 in_lockstep_there net is_net ground m edge there busy =
     let piece = to (graph_in net) edge in
     let way = there.way in
@@ -73,7 +73,7 @@ in_lockstep_there net is_net ground m edge there busy =
     some_nodes zero false busy not_end = let clash : true ≡ false = busy in absurd cc
     some_nodes (suc n) b busy not_end = omega arith
 
-pub in_lockstep_arrived : (net : NetOf) (is_net : IsNet net) (ground : FlowGround net is_net.tree) (m : Tokens) (edge : ℕ) → edge < edge_count (graph_in net) → IsThere net is_net ground m edge → IsInLockstep net m (arrived net edge)
+pub in_lockstep_arrived : (net : NetOf) (is_net : IsNet net) (ground : FlowFacts net is_net.tree) (m : Tokens) (edge : ℕ) → edge < edge_count (graph_in net) → IsThere net is_net ground m edge → IsInLockstep net m (arrived net edge)
 in_lockstep_arrived net is_net ground m edge inside there = in_lockstep_there net is_net ground m (passed_by 18 net edge) (there_passed_by net is_net ground 18 m edge there) (arrival_busy net is_net ground edge inside)
 
 -- ---- the node that is due

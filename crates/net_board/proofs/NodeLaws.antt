@@ -6,9 +6,9 @@ use Rattle.cfg_build.specs.declared.pieces.PieceKind.TheVariants as kind
 use Rattle.firing.specs.declared.system.NodeName.{NodeName}
 use Rattle.firing.specs.declared.system.NodeName.TheVariants.{Act, Merge, Switch, Op}
 use Rattle.net_board.specs.Members.{Member}
-use Rattle.net_board.proofs.MemberLaws.{Member-cases, Member-filtered, Member-filter, Member-mapped, IsImage, Member-flat_mapped, IsFromOne, Member-in_range, Member-range}
 use Rattle.net_board.specs.Nodes.{is_acting, NetOf, graph_in, kind_in, all_lines, is_free, led_to, passing, touched, nodes_by, nodes_at, nodes_of, node_count, first_node, node_at, name_in, switch_lines, switches}
-use Rattle.net_board.proofs.PlaceLaws.{right_of}
+use Rattle.net_board.proofs.MemberLaws.{Member-cases, Member-filtered, Member-filter, Member-mapped, IsImage, Member-flat_mapped, IsFromOne, Member-in_range, Member-range}
+use Rattle.net_board.proofs.ListPlaces.{right_of}
 
 -- ---- lists without repetition
 

@@ -12,19 +12,19 @@ use Rattle.cfg_build.specs.Passes.{Passed, Along, Traps, Done, PassState, out, p
 use Rattle.firing.specs.Orders.{after}
 use Rattle.firing.specs.declared.system.NodeName.{NodeName}
 use Rattle.firing.specs.declared.system.NodeName.TheVariants.{Merge, Switch}
-use Rattle.net_board.specs.Belonging.{IsNet}
-use Rattle.net_board.specs.FlowGround.{FlowGround, has_act}
+use Rattle.net_board.specs.SoundNets.{IsNet}
+use Rattle.net_board.specs.FlowFacts.{FlowFacts, has_act}
 use Rattle.net_board.specs.Members.{Member}
-use Rattle.net_board.proofs.MemberLaws.{Member-range}
 use Rattle.net_board.specs.NetLockstep.{IsInLockstep}
-use Rattle.net_board.specs.NetOrder.{first_control}
+use Rattle.net_board.specs.ControlCourse.{first_control}
 use Rattle.net_board.specs.Nodes.{NetOf, graph_in, kind_in, is_free, all_lines, led_to, passing, nodes_by, node_count, first_node}
 use Rattle.net_board.specs.OwnOrder.{firings_of, firings_from, own_passes, own_order}
+use Rattle.net_board.specs.ProgramStages.{RunFacts}
+use Rattle.net_board.specs.Tokens.{Tokens, net_moves, first_tokens}
+use Rattle.net_board.proofs.MemberLaws.{Member-range}
 use Rattle.net_board.proofs.LockstepLaws.{in_lockstep_arrived}
 use Rattle.net_board.proofs.PassLockstep.{StandsBeside, IsPassLockstep, pass_lockstep, begins_between}
-use Rattle.net_board.specs.StepLockstep.{RunGround}
-use Rattle.net_board.specs.Tokens.{Tokens, net_moves, first_tokens}
-use Rattle.net_board.proofs.WayLaws.{IsThere}
+use Rattle.net_board.proofs.ControlWays.{IsThere}
 
 -- ---- lengths
 
@@ -72,7 +72,7 @@ few_passes net (suc n) = more (passes_of net.program net.input n) (length (chain
     more : (a b : ℕ) → a ≤ 5 * n → b ≤ 5 → a + b ≤ 5 * suc n
     more a b low few = omega (arith, low, few)
 
-module _ (net : NetOf) (is_net : IsNet net) (ground : FlowGround net is_net.tree) where
+module _ (net : NetOf) (is_net : IsNet net) (ground : FlowFacts net is_net.tree) where
   all_long : length (all_lines net) ≡ net.routing.lines
   all_long = length_range 0 net.routing.lines
 
@@ -140,7 +140,7 @@ module _ (net : NetOf) (is_net : IsNet net) (ground : FlowGround net is_net.tree
   memory_beside m x Ended stands = stands.memory_is
   memory_beside m x (Trapped trap line) stands = stands.1
 
-  pub order_memory : RunGround net is_net.tree → (n : ℕ) → (after (net_moves net) (first_tokens net) (own_order net n)).memory ≡ (source net.program net.input n).memory
+  pub order_memory : RunFacts net is_net.tree → (n : ℕ) → (after (net_moves net) (first_tokens net) (own_order net n)).memory ≡ (source net.program net.input n).memory
   order_memory run n =
       let k = passes_of net.program net.input n in
       let lockstep : IsPassLockstep net is_net ground k = pass_lockstep net is_net ground k in

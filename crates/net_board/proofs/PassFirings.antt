@@ -10,18 +10,18 @@ use Rattle.firing.specs.Moves.{CanFire, line_bytes}
 use Rattle.firing.specs.Orders.{IsOrder, after, written}
 use Rattle.firing.specs.declared.system.NodeName.{NodeName}
 use Rattle.firing.specs.declared.system.NodeName.TheVariants.{Act, Merge, Switch, Op}
-use Rattle.net_board.specs.Amid.{memory_amid, text_in, text_amid, IsAmid}
-use Rattle.net_board.proofs.AmidLaws.{NodeCase}
-use Rattle.net_board.specs.Belonging.{IsNet}
-use Rattle.net_board.specs.FlowGround.{FlowGround}
+use Rattle.net_board.specs.WithinPiece.{memory_amid, text_in, text_amid, IsAmid}
+use Rattle.net_board.specs.SoundNets.{IsNet}
+use Rattle.net_board.specs.FlowFacts.{FlowFacts}
 use Rattle.net_board.specs.NetLockstep.{IsBetween}
 use Rattle.net_board.specs.Nodes.{NetOf, graph_in, kind_in, switches, nodes_at, nodes_of, node_count, node_at, first_node}
-use Rattle.net_board.proofs.OrderLists.{after_join, order_join, written_join, range_more}
-use Rattle.net_board.proofs.LockstepLists.{HasItem, item_at}
+use Rattle.net_board.specs.Tokens.{Tokens, net_moves, pass_at, left_for, led_from, gone, stopped, acted, switched, merged, fired_as, line_as, text_of, written as text_written}
+use Rattle.net_board.proofs.WithinPieceLaws.{NodeCase}
+use Rattle.net_board.proofs.OrderJoins.{after_join, order_join, written_join, range_more}
+use Rattle.net_board.proofs.ListPrefixes.{HasItem, item_at}
 use Rattle.net_board.proofs.PieceEnds.{none_fired}
 use Rattle.net_board.proofs.PieceSteps.{exists, node_named, node_below, ready_next, further, own_case, same_name}
-use Rattle.net_board.proofs.PlaceLaws.{length_with_all, length_slice_set}
-use Rattle.net_board.specs.Tokens.{Tokens, net_moves, pass_at, left_for, led_from, gone, stopped, acted, switched, merged, fired_as, line_as, text_of, written as text_written}
+use Rattle.net_board.proofs.ListPlaces.{length_with_all, length_slice_set}
 
 -- ---- what no firing changes
 
@@ -58,7 +58,7 @@ line_text (Along edge new text) = by text
 line_text (Traps trap) = refl
 line_text Done = refl
 
-module _ (net : NetOf) (is_net : IsNet net) (ground : FlowGround net is_net.tree) (e piece : ℕ) (inside : e < edge_count (graph_in net)) (comes : to (graph_in net) e ≡ piece) (later : 0 ≢ piece) (s : Tokens) (memory : Memory) (between : IsBetween net is_net.tree s e memory) (room : length s.edges ≡ length (nodes_of net)) where
+module _ (net : NetOf) (is_net : IsNet net) (ground : FlowFacts net is_net.tree) (e piece : ℕ) (inside : e < edge_count (graph_in net)) (comes : to (graph_in net) e ≡ piece) (later : 0 ≢ piece) (s : Tokens) (memory : Memory) (between : IsBetween net is_net.tree s e memory) (room : length s.edges ≡ length (nodes_of net)) where
   module _ (m : Tokens) (j : ℕ) (amid : IsAmid net s m piece j memory (pass_at net piece memory)) (name : NodeName) (at : slice_get (nodes_at net piece) j ≡ Some name) where
     the_case : NodeCase net piece j (kind_in net piece)
     the_case = own_case net is_net ground e piece inside comes s memory between m j amid name at

@@ -19,22 +19,22 @@ use Rattle.firing.specs.Moves.{line_bytes}
 use Rattle.firing.specs.Orders.{IsOrder, after, written}
 use Rattle.firing.specs.declared.system.NodeName.{NodeName}
 use Rattle.firing.specs.declared.system.NodeName.TheVariants.{Act}
-use Rattle.net_board.specs.Amid.{leaving, memory_or, text_in, text_amid}
-use Rattle.net_board.specs.Belonging.{IsNet}
-use Rattle.net_board.specs.FlowGround.{FlowGround}
-use Rattle.net_board.proofs.FreeLines.{line_below}
+use Rattle.net_board.specs.WithinPiece.{leaving, memory_or, text_in, text_amid}
+use Rattle.net_board.specs.SoundNets.{IsNet}
+use Rattle.net_board.specs.FlowFacts.{FlowFacts}
 use Rattle.net_board.specs.NetLockstep.{IsBetween, IsOnWay}
 use Rattle.net_board.specs.Nodes.{NetOf, graph_in, kind_in, nodes_by, nodes_at, nodes_of, node_count, node_at, first_node}
-use Rattle.net_board.proofs.OrderLists.{after_join, order_join, written_join}
 use Rattle.net_board.specs.OwnOrder.{firings_of, firings_from, own_passes}
+use Rattle.net_board.specs.Tokens.{Tokens, joined, edge_of, led_from, net_moves, first_tokens, pass_at, gone, stopped, acted, fired_as, line_as, ready_as, text_of}
+use Rattle.net_board.proofs.FreeLines.{line_below}
+use Rattle.net_board.proofs.OrderJoins.{after_join, order_join, written_join}
 use Rattle.net_board.proofs.LockstepLaws.{traps_touch}
 use Rattle.net_board.proofs.PassFirings.{IsPartFired, part_fired, fired_room}
 use Rattle.net_board.proofs.PieceEnds.{none_fired, all_fired}
 use Rattle.net_board.proofs.PieceSteps.{exists, node_named, node_below, ready_next}
-use Rattle.net_board.proofs.LockstepLists.{below_length}
+use Rattle.net_board.proofs.ListPrefixes.{below_length}
 use Rattle.net_board.proofs.RestLaws.{some_edge}
-use Rattle.net_board.specs.Tokens.{Tokens, joined, edge_of, led_from, net_moves, first_tokens, pass_at, gone, stopped, acted, fired_as, line_as, ready_as, text_of}
-use Rattle.net_board.proofs.WayLaws.{along_exists, not_back, not_start}
+use Rattle.net_board.proofs.ControlWays.{along_exists, not_back, not_start}
 
 -- ---- what a pass is, by the kind of its piece
 
@@ -59,7 +59,7 @@ trap_acts net piece memory x kind.End trap = absurd trap
 trap_acts net piece memory x kind.Start trap = absurd trap
 trap_acts net piece memory x kind.Pass trap = absurd trap
 
-module _ (net : NetOf) (is_net : IsNet net) (ground : FlowGround net is_net.tree) where
+module _ (net : NetOf) (is_net : IsNet net) (ground : FlowFacts net is_net.tree) where
   -- how the marking stands beside a run of passes
   abbrev pub StandsBeside : Tokens → PassState → Mark → Type 0
   StandsBeside m x Running = (0 < x.edge) × (x.edge < edge_count (graph_in net)) × IsBetween net is_net.tree m x.edge x.memory

@@ -14,18 +14,18 @@ use Rattle.dep_routing.specs.Routing.{next_at}
 use Rattle.dep_routing.specs.Touches.{exec_kind}
 use Rattle.firing.specs.declared.system.NodeName.{NodeName}
 use Rattle.firing.specs.declared.system.NodeName.TheVariants.{Merge, Switch}
-use Rattle.net_board.specs.Amid.{moved_by, moved_first, leaving, memory_or, memory_amid, switch_count, IsAmid}
-use Rattle.net_board.specs.Belonging.{IsNet}
-use Rattle.net_board.specs.FlowGround.{FlowGround, has_act}
-use Rattle.net_board.proofs.FreeLines.{free_of_test, test_of_free, line_below}
+use Rattle.net_board.specs.WithinPiece.{moved_by, moved_first, leaving, memory_or, memory_amid, switch_count, IsAmid}
+use Rattle.net_board.specs.SoundNets.{IsNet}
+use Rattle.net_board.specs.FlowFacts.{FlowFacts, has_act}
 use Rattle.net_board.specs.Members.{Member}
-use Rattle.net_board.proofs.MemberLaws.{Member-filter, Member-range, Member-left, Member-right, Member-cases}
 use Rattle.net_board.specs.NetLockstep.{IsBetween}
 use Rattle.net_board.specs.Nodes.{NetOf, graph_in, kind_in, is_free, touched, led_to, passing, nodes_by, nodes_at, node_count, first_node, switch_lines, all_lines}
-use Rattle.net_board.proofs.LockstepLists.{take_whole}
-use Rattle.net_board.proofs.PieceSteps.{IsLed, exists, led_touched, led_passing, led_led}
-use Rattle.net_board.proofs.PlaceLaws.{put, with_all_other, with_all_same}
 use Rattle.net_board.specs.Tokens.{Tokens, joined, edge_of, left_for, with_all, led_from, pass_at}
+use Rattle.net_board.proofs.FreeLines.{free_of_test, test_of_free, line_below}
+use Rattle.net_board.proofs.MemberLaws.{Member-filter, Member-range, Member-left, Member-right, Member-cases}
+use Rattle.net_board.proofs.ListPrefixes.{take_whole}
+use Rattle.net_board.proofs.PieceSteps.{IsLed, exists, led_touched, led_passing, led_led}
+use Rattle.net_board.proofs.ListPlaces.{put, with_all_other, with_all_same}
 
 moved_switches : (net : NetOf) (piece : ℕ) (lines : List ℕ) → flat_map (moved_by net) (map (Switch piece) lines) ≡ lines
 moved_switches net piece [] = refl
@@ -69,7 +69,7 @@ none_or_more net piece kind.End = none_or_some (length (map (Merge piece) (led_t
 none_or_more net piece kind.Start = inl refl
 none_or_more net piece kind.Pass = inl refl
 
-module _ (net : NetOf) (is_net : IsNet net) (ground : FlowGround net is_net.tree) (e piece : ℕ) (inside : e < edge_count (graph_in net)) (comes : to (graph_in net) e ≡ piece) (later : 0 ≢ piece) where
+module _ (net : NetOf) (is_net : IsNet net) (ground : FlowFacts net is_net.tree) (e piece : ℕ) (inside : e < edge_count (graph_in net)) (comes : to (graph_in net) e ≡ piece) (later : 0 ≢ piece) where
   here : piece < (graph_in net).nodes
   here = exists net is_net ground e piece inside comes
 

@@ -12,19 +12,19 @@ use Rattle.dep_routing.specs.Sound.{DoesTrap}
 use Rattle.dep_routing.specs.Touches.{exec_kind}
 use Rattle.firing.specs.declared.system.NodeName.{NodeName}
 use Rattle.firing.specs.declared.system.NodeName.TheVariants.{Act, Merge, Switch}
-use Rattle.net_board.specs.Amid.{moved_by, moved_first, leaving, memory_amid, switch_count, IsAmid}
-use Rattle.net_board.proofs.AmidLaws.{NodeCase, node_case, not_moved}
-use Rattle.net_board.proofs.AmidSteps.{act_amid, switch_amid, merge_amid}
-use Rattle.net_board.specs.Belonging.{IsNet}
-use Rattle.net_board.specs.FlowGround.{FlowGround}
-use Rattle.net_board.proofs.FreeLines.{test_of_free, stands_before}
+use Rattle.net_board.specs.WithinPiece.{moved_by, moved_first, leaving, memory_amid, switch_count, IsAmid}
+use Rattle.net_board.specs.SoundNets.{IsNet}
+use Rattle.net_board.specs.FlowFacts.{FlowFacts}
 use Rattle.net_board.specs.Members.{Member}
-use Rattle.net_board.proofs.MemberLaws.{Member-filtered, Member-in_range}
 use Rattle.net_board.specs.NetLockstep.{IsBetween}
 use Rattle.net_board.specs.Nodes.{NetOf, graph_in, kind_in, is_free, touched, led_to, passing, nodes_by, nodes_at, nodes_of, node_count, node_at, name_in, first_node, switch_lines, switches}
-use Rattle.net_board.proofs.LockstepLists.{member_at, below_length, HasItem, item_at, get_flat}
-use Rattle.net_board.proofs.PlaceLaws.{left_of, with_all_other}
 use Rattle.net_board.specs.Tokens.{Tokens, joined, edge_of, left_for, led_from, is_before, leads_to, ready_as, pass_at, acted, switched, merged, fired_as}
+use Rattle.net_board.proofs.WithinPieceLaws.{NodeCase, node_case, not_moved}
+use Rattle.net_board.proofs.WithinPieceSteps.{act_amid, switch_amid, merge_amid}
+use Rattle.net_board.proofs.FreeLines.{test_of_free, stands_before}
+use Rattle.net_board.proofs.MemberLaws.{Member-filtered, Member-in_range}
+use Rattle.net_board.proofs.ListPrefixes.{member_at, below_length, HasItem, item_at, get_flat}
+use Rattle.net_board.proofs.ListPlaces.{left_of, with_all_other}
 
 -- ---- numbers of nodes
 
@@ -74,7 +74,7 @@ one_more net piece kind.End at = absurd (no_merge (led_to net piece) at)
 one_more net piece kind.Start at = let e : None ≡ Some (Act piece) = at in absurd cc
 one_more net piece kind.Pass at = let e : None ≡ Some (Act piece) = at in absurd cc
 
-module _ (net : NetOf) (is_net : IsNet net) (ground : FlowGround net is_net.tree) (e piece : ℕ) (inside : e < edge_count (graph_in net)) (comes : to (graph_in net) e ≡ piece) where
+module _ (net : NetOf) (is_net : IsNet net) (ground : FlowFacts net is_net.tree) (e piece : ℕ) (inside : e < edge_count (graph_in net)) (comes : to (graph_in net) e ≡ piece) where
   pub exists : piece < (graph_in net).nodes
   exists = subst (λ (x : ℕ). x < (graph_in net).nodes) comes (ground.heads e inside)
 

@@ -17,22 +17,22 @@ use Rattle.firing.specs.SourceOrder.{IsSourceOrder}
 use Rattle.firing.specs.declared.system.NodeName.{NodeName}
 use Rattle.firing.specs.declared.system.NodeName.TheVariants.{Act, Merge, Switch}
 use Rattle.net_board.specs.declared.control.Control.{Control}
-use Rattle.net_board.specs.Amid.{leaving, memory_or, IsAmid}
-use Rattle.net_board.specs.Belonging.{IsNet, CanCome}
-use Rattle.net_board.specs.FlowGround.{FlowGround, has_act}
+use Rattle.net_board.specs.WithinPiece.{leaving, memory_or, IsAmid}
+use Rattle.net_board.specs.SoundNets.{IsNet, CanCome}
+use Rattle.net_board.specs.FlowFacts.{FlowFacts, has_act}
 use Rattle.net_board.specs.Members.{Member}
-use Rattle.net_board.proofs.MemberLaws.{IsImage, IsFromOne, Member-filter, Member-filtered, Member-range, Member-in_range, Member-mapped, Member-flat_mapped}
-use Rattle.net_board.specs.NetOrder.{net_course}
+use Rattle.net_board.specs.ControlCourse.{net_course}
 use Rattle.net_board.specs.NetLockstep.{IsBetween, IsInLockstep}
 use Rattle.net_board.specs.Nodes.{NetOf, graph_in, kind_in, is_free, touched, led_to, passing, all_lines, nodes_by, nodes_at, nodes_of, node_count, node_at, name_in, switches}
+use Rattle.net_board.specs.Tokens.{Tokens, edge_of, left_for, net_moves, pass_at, is_before, leads_to, ready_as}
+use Rattle.net_board.proofs.MemberLaws.{IsImage, IsFromOne, Member-filter, Member-filtered, Member-range, Member-in_range, Member-mapped, Member-flat_mapped}
 use Rattle.net_board.proofs.LockstepLaws.{IsDue, due_is, none_due, due_ready, piece_exists, later}
-use Rattle.net_board.proofs.LockstepLists.{HasItem, item_at, member_at}
+use Rattle.net_board.proofs.ListPrefixes.{HasItem, item_at, member_at}
 use Rattle.net_board.proofs.PieceEnds.{all_fired}
 use Rattle.net_board.proofs.PieceSteps.{node_below}
-use Rattle.net_board.proofs.PlaceLaws.{left_of, right_of, all_pass}
-use Rattle.net_board.specs.Tokens.{Tokens, edge_of, left_for, net_moves, pass_at, is_before, leads_to, ready_as}
+use Rattle.net_board.proofs.ListPlaces.{left_of, right_of, all_pass}
 
-module _ (net : NetOf) (is_net : IsNet net) (ground : FlowGround net is_net.tree) where
+module _ (net : NetOf) (is_net : IsNet net) (ground : FlowFacts net is_net.tree) where
   pub some_edge : 0 < edge_count (graph_in net)
   some_edge = let two = ground.shape.two_edges in omega (arith, two)
 

@@ -8,8 +8,8 @@ use Rattle.cfg_build.specs.declared.pieces.PieceKind.{PieceKind}
 use Rattle.cfg_build.specs.declared.pieces.PieceKind.TheVariants as kind
 use Rattle.dep_routing.specs.Sound.{KindMayTouchOut}
 use Rattle.dep_routing.specs.Touches.{KindNeeds, exec_kind}
-use Rattle.net_board.specs.Belonging.{IsNet}
-use Rattle.net_board.specs.FlowGround.{has_act}
+use Rattle.net_board.specs.SoundNets.{IsNet}
+use Rattle.net_board.specs.FlowFacts.{has_act}
 use Rattle.net_board.specs.Nodes.{NetOf, graph_in, kind_in}
 
 no_out : (p : Program) (k : PieceKind) (x : ExecKind) → has_act k ≡ false → KindMayTouchOut p k x → ⊥

@@ -1,4 +1,4 @@
--- The own order of a net beside the passes of its program.
+-- The marking and the place of control of a net beside the passes of its program.
 use Rattle.std.specs.Prelude.{◌≡◌, ◌≤◌, ◌<◌, ℕ, false, None, Some}
 use Rattle.closed_walks.specs.Graph.{edge_count, to}
 use Rattle.region_tree.specs.Tree.{Tree}
@@ -8,9 +8,9 @@ use Rattle.cfg_build.specs.Joined.{is_end}
 use Rattle.cfg_build.specs.Passes.{passes}
 use Rattle.dep_routing.specs.Place.{Place}
 use Rattle.net_board.specs.declared.control.Control.{Control}
-use Rattle.net_board.specs.Amid.{leaving, IsAmid}
-use Rattle.net_board.specs.Belonging.{IsNet}
-use Rattle.net_board.specs.FlowGround.{FlowGround}
+use Rattle.net_board.specs.WithinPiece.{leaving, IsAmid}
+use Rattle.net_board.specs.SoundNets.{IsNet}
+use Rattle.net_board.specs.FlowFacts.{FlowFacts}
 use Rattle.net_board.specs.Nodes.{NetOf, graph_in, kind_in, node_count}
 use Rattle.net_board.specs.Tokens.{Tokens, edge_of, left_for, pass_at}
 
@@ -36,7 +36,7 @@ pub record IsOnWay (net : NetOf) (passes_made edge : ℕ) (memory : Memory) : Ty
 -- end.
 pub record IsInLockstep (net : NetOf) (m : Tokens) (c : Control) : Type 0 where
   pub is_net : IsNet net
-  pub ground : FlowGround net is_net.tree
+  pub ground : FlowFacts net is_net.tree
   pub passes_made : ℕ
   pub edge : ℕ
   pub memory : Memory

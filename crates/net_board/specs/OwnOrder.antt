@@ -1,4 +1,4 @@
--- The source's own order of a net, as a list of its nodes.
+-- The program's own order of firing, as a list of nodes: those of so many passes, and those of so many steps.
 use Rattle.std.specs.Prelude.{ℕ, zero, suc, List, [], ◌∷◌, ◌++◌}
 use Rattle.std.specs.List.{range_with_len}
 use Rattle.closed_walks.specs.Graph.{to}

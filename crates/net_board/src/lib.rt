@@ -3,13 +3,13 @@
 #![tactic(auto)]
 
 mod control;
-mod laws;
 mod net_laws;
+mod simulation_laws;
 
 pub use control::Control;
-pub use laws::{
+pub use net_laws::{
     ground, nets_begin_soundly, nets_keep_the_laws, parts_make_nets, woken_nodes_are_all,
 };
-pub use net_laws::{
+pub use simulation_laws::{
     flow_graphs_ground_nets, nets_simulate_programs, nets_stay_in_lockstep, runs_ground_nets,
 };

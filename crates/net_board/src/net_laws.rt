@@ -1,69 +1,59 @@
-//! Laws on nets beside the runs of their programs, as contracts of functions that do nothing.
+//! Laws of the firings of nets, and of their parts, as contracts of functions that do nothing.
 
-ghost use Rattle.std.specs.Prelude.{◌≡◌, ◌*◌, ◌≤◌, ℕ, length};
-ghost use Rattle.f77_tree.specs.Run.{source};
-ghost use Rattle.dep_routing.specs.Touches.{AreTouches};
-ghost use Rattle.firing.specs.Control.{KeepsStep};
-ghost use Rattle.firing.specs.Orders.{after};
-ghost use Rattle.firing.specs.Pacing.{IsSimulation};
-ghost use Rattle.firing.specs.SourceOrder.{IsSourceOrder, IsDueOrder};
-ghost use Rattle.net_board.specs.Belonging.{IsNet, CanCome};
-ghost use Rattle.net_board.specs.FlowGround.{FlowGround};
-ghost use Rattle.net_board.specs.NetOrder.{first_control, net_course};
-ghost use Rattle.net_board.specs.NetLockstep.{IsInLockstep};
-ghost use Rattle.net_board.specs.Nodes.{NetOf};
-ghost use Rattle.net_board.specs.OwnOrder.{own_order};
-ghost use Rattle.net_board.specs.StepLockstep.{RunGround, program_stage, program_text};
-ghost use Rattle.net_board.specs.Tokens.{first_tokens, net_moves};
+ghost use Rattle.std.specs.Prelude.{ℕ, ℤ, List, Bool, All};
+ghost use Rattle.op_table.specs.Words.{IsWord};
+ghost use Rattle.f77_tree.specs.declared.programs.Program.{Program};
+ghost use Rattle.cfg_build.specs.Joined.{FlowGraph};
+ghost use Rattle.dep_routing.specs.Routing.{Routing};
+ghost use Rattle.firing.specs.Laws.{IsLawful};
+ghost use Rattle.firing.specs.Marks.{Wakes};
+ghost use Rattle.firing.specs.Moves.{CanFire};
+ghost use Rattle.net_board.specs.SoundNets.{IsNet, CanCome};
+ghost use Rattle.net_board.specs.ProgramFacts.{ProgramFacts};
+ghost use Rattle.net_board.specs.Nodes.{NetOf, node_at};
+ghost use Rattle.net_board.specs.NetParts.{AreParts, net_with};
+ghost use Rattle.net_board.specs.Tokens.{Tokens, first_tokens, net_moves};
+ghost use Rattle.net_board.specs.WokenNodes.{IsWoken};
 
-use cfg_build::{
-    flow_graph_has_shape, flow_graph_is_strong, passes_are_a_walk, passes_follow_steps,
-    pieces_are_few, pieces_run_executables,
-};
-use closed_walks::reaching_is_told;
-use dep_routing::{
-    free_nodes, free_passed_nodes, output_keeps_moving, pieces_touch_lines, places,
-    places_over_a_pass,
-};
+use alias_classes::{needs_are_a_frame, needs_are_numbered, needs_cover_accesses};
+use cfg_build::{flow_graph_has_shape, flow_graph_is_strong};
+use dep_routing::{next_edges, touches_are_sound};
+use f77_tree::{reads_decide, well_formed_programs_can_run};
 
-/// A control that keeps step with the passes of a program stays in step where the node that is due fires, and such a node can
-/// fire; where none is due, none can.
-pub fn nets_stay_in_lockstep()
-    ensures steady { (net : NetOf) → KeepsStep (CanCome net) (net_moves net) (net_course net) (IsInLockstep net) }
-    ensures ordered { (net : NetOf) → IsSourceOrder (CanCome net) (net_moves net) (net_course net) (IsInLockstep net) }
+/// Nets keep the laws of firing: of two nodes that may both fire, the firings commute (the diamond property).
+pub fn nets_keep_the_laws()
+    ensures { (net : NetOf) → IsLawful (CanCome net) (net_moves net) }
 {}
 
-/// The source's own order of a net stays in lockstep with the steps of its program. Its firings are due one after another, five for each
-/// line and step at most, and after the firings of so many steps the memory is that after the steps.
-pub fn nets_simulate_programs()
-    ensures begins { (net : NetOf) (n : IsNet net) → FlowGround net n.tree → IsInLockstep net (first_tokens net) (first_control net) }
-    ensures simulated { (net : NetOf) (n : IsNet net) → FlowGround net n.tree → RunGround net n.tree → IsSimulation (net_moves net) (first_tokens net) (program_text net) (program_stage net) (own_order net) }
-    ensures due { (net : NetOf) (n : IsNet net) → FlowGround net n.tree → (steps : ℕ) → IsDueOrder (net_moves net) (net_course net) (first_tokens net) (first_control net) (own_order net steps) }
-    ensures few { (net : NetOf) (n : IsNet net) → FlowGround net n.tree → (steps : ℕ) → length (own_order net steps) ≤ 5 * net.routing.lines * steps }
-    ensures memory { (net : NetOf) (n : IsNet net) → FlowGround net n.tree → RunGround net n.tree → (steps : ℕ) → (after (net_moves net) (first_tokens net) (own_order net steps)).memory ≡ (source net.program net.input steps).memory }
+/// The marking of a net before any firing is one that can come.
+pub fn nets_begin_soundly()
+    ensures { (net : NetOf) → IsNet net → CanCome net (first_tokens net) }
+{
+    ground();
+}
+
+/// The parts that are a program's own make its net over data of words.
+pub fn parts_make_nets()
+    ensures { (p : Program) (f : FlowGraph) (touches : (piece line : ℕ) → Bool) (routing : Routing) (input : List ℤ) → AreParts p f touches routing → All IsWord input → IsNet (net_with p input touches routing) }
+{
+    touches_are_sound();
+    well_formed_programs_can_run();
+}
+
+/// A list that has the nodes before which the moved lines stand then, and those that wait, has each that a firing can have made ready.
+pub fn woken_nodes_are_all()
+    ensures { (net : NetOf) (m : Tokens) (k : ℕ) (woken : List ℕ) → CanCome net m → CanFire (net_moves net) m k → IsWoken net ((net_moves net).fired m k) (node_at net k) woken → Wakes (net_moves net) m k woken }
 {}
 
-/// What a net stands on, where the lines that its pieces touch are those of its program.
-pub fn flow_graphs_ground_nets()
-    ensures { (net : NetOf) (n : IsNet net) → AreTouches net.program n.classes net.touches → FlowGround net n.tree }
+/// What lower layers tell of programs, and their nets rest on.
+pub fn ground()
+    ensures { ProgramFacts }
 {
     flow_graph_is_strong();
     flow_graph_has_shape();
-    passes_are_a_walk();
-    places();
-    places_over_a_pass();
-    free_nodes();
-    free_passed_nodes();
-    reaching_is_told();
-    pieces_run_executables();
-    pieces_are_few();
-    pieces_touch_lines();
-}
-
-/// What the runs of a program tell its net: its passes follow its steps, and output keeps moving.
-pub fn runs_ground_nets()
-    ensures { (net : NetOf) (n : IsNet net) → RunGround net n.tree }
-{
-    passes_follow_steps();
-    output_keeps_moving();
+    next_edges();
+    needs_are_numbered();
+    reads_decide();
+    needs_cover_accesses();
+    needs_are_a_frame();
 }

@@ -7,8 +7,8 @@ use Rattle.firing.specs.declared.system.NodeName.TheVariants.{Merge, Switch}
 use Rattle.net_board.specs.Members.{Member}
 use Rattle.net_board.specs.Nodes.{NetOf, graph_in, nodes_of, first_node}
 use Rattle.net_board.specs.Tokens.{Tokens, acted, edge_of, gone, left_for, stopped, switched}
-use Rattle.net_board.specs.Waking.{HasNext, IsWoken}
-use Rattle.token_net.specs.Waking.{Keeps}
+use Rattle.net_board.specs.WokenNodes.{HasNext, IsWoken}
+use Rattle.token_net.specs.WokenList.{Keeps}
 use Rattle.token_net.proofs.WakeLoops.{next_kept}
 
 pub merge_woken : (net : NetOf) (new : Tokens) (piece line : ℕ) (woken : List ℕ) → All (λ j. j < length (nodes_of net)) woken → HasNext net woken line (edge_of new line) → IsWoken net new (Merge piece line) woken

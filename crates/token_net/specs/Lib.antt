@@ -1,6 +1,6 @@
-pub mod PlanView
+pub mod PartsView
 pub mod NetTables
 pub mod PieceRuns
-pub mod Waking
+pub mod WokenList
 pub mod NetView
-pub mod BoardView
+pub mod LookupView

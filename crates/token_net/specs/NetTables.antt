@@ -1,14 +1,14 @@
--- What a net looks up while it fires.
+-- What the tables of a net hold.
 use Rattle.std.specs.Prelude.{◌≡◌, ◌<◌, ◌^◌, ℕ, suc, List, [], length, map}
 use Rattle.std.specs.List.{range_with_len}
 use Rattle.closed_walks.specs.Graph.{edge_count}
 use Rattle.cfg_build.specs.declared.pieces.PieceKind.{PieceKind}
 use Rattle.cfg_build.specs.declared.pieces.PieceKind.TheVariants as kind
 use Rattle.cfg_build.specs.Passes.{outs}
-use Rattle.token_net.specs.declared.tables.Tables.{Tables}
 use Rattle.net_board.specs.Nodes.{NetOf, graph_in, kind_in, touched, nodes_of, first_node}
-use Rattle.net_board.specs.NetOrder.{arrival}
-use Rattle.net_board.specs.Waking.{places}
+use Rattle.net_board.specs.ControlCourse.{arrival}
+use Rattle.net_board.specs.WokenNodes.{places}
+use Rattle.token_net.specs.declared.tables.Tables.{Tables}
 
 abbrev pub all_pieces : NetOf → List ℕ
 all_pieces net = range_with_len 0 (graph_in net).nodes

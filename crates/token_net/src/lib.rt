@@ -1,18 +1,18 @@
 //! Dataflow nets that fire in place of a program's steps.
 #![tactic(auto)]
 
-mod board;
+mod control_moves;
 mod leading;
-mod making;
+mod lookups;
 mod net;
 mod net_firing;
 mod net_system;
+mod new_net;
 mod pieces_run;
 mod places;
-mod plan;
-mod standing;
-mod steering;
+mod program_parts;
 mod tables;
+mod token_lines;
 mod waking;
 
 pub use net::Net;

@@ -1,20 +1,20 @@
 //! The net of a program as a step system, with the program's own order.
 
 use crate::Net;
-use crate::steering::due_at;
+use crate::control_moves::due_at;
 use firing::{Fired, NodeName, SourceOrder, StepSystem};
 use op_table::Trap;
 
 impl<const W: usize> StepSystem for Net<'_, W> {
     ghost use Rattle.net_board.specs.declared.control.Control.{Control as Place_of};
-    ghost use Rattle.net_board.specs.Belonging.{CanCome};
-    ghost use Rattle.net_board.proofs.NetLaws.{net_laws};
-    ghost use Rattle.net_board.specs.NetOrder.{net_course};
+    ghost use Rattle.net_board.specs.SoundNets.{CanCome};
+    ghost use Rattle.net_board.specs.ControlCourse.{net_course};
     ghost use Rattle.net_board.specs.NetLockstep.{IsInLockstep};
-    ghost use Rattle.token_net.specs.NetView.{net_of, tokens_of, woken_of};
     ghost use Rattle.net_board.specs.Nodes.{NetOf};
-    ghost use Rattle.net_board.proofs.LockstepLaws.{keeps_step};
     ghost use Rattle.net_board.specs.Tokens.{Tokens, net_moves};
+    ghost use Rattle.net_board.proofs.FiringLaws.{net_laws};
+    ghost use Rattle.net_board.proofs.LockstepLaws.{keeps_step};
+    ghost use Rattle.token_net.specs.NetView.{net_of, tokens_of, woken_of};
 
     ghost Net = { NetOf };
 

@@ -2,10 +2,10 @@ use Rattle.std.proofs.Common.{◌≡◌, refl, sym, ap, subst, ◌∙◌}
 use Rattle.cfg_build.specs.Joined.{FlowGraph}
 use Rattle.dep_routing.specs.Touch.{touches_in}
 use Rattle.firing.specs.Play.{moment}
-use Rattle.net_board.specs.NetOrder.{net_course}
+use Rattle.net_board.specs.ControlCourse.{net_course}
 use Rattle.token_net.specs.NetView.{net_of, tokens_of}
 use Rattle.net_board.specs.Nodes.{NetOf}
-use Rattle.net_board.specs.Parts.{AreParts, net_with}
+use Rattle.net_board.specs.NetParts.{AreParts, net_with}
 use Rattle.net_board.specs.Tokens.{net_moves}
 use Rattle.dfc.specs.Due.{IsDuePlay, IsGameOf}
 use Rattle.dfc.specs.Game.{IsNetOn, way_by}

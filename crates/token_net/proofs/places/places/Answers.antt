@@ -5,9 +5,9 @@ use Rattle.cfg_build.specs.declared.pieces.PieceKind.TheVariants as kind
 use Rattle.cfg_build.specs.Flow.{flow}
 use Rattle.firing.specs.declared.system.NodeName.TheVariants.{Merge, Switch}
 use Rattle.net_board.specs.Nodes.{all_lines, led_to, passing}
-use Rattle.token_net.specs.PlanView.{net_in}
+use Rattle.net_board.specs.WokenNodes.{place_by}
+use Rattle.token_net.specs.PartsView.{net_in}
 use Rattle.token_net.specs.NetTables.{kept_places}
-use Rattle.net_board.specs.Waking.{place_by}
 use Rattle.token_net.proofs.PlacesLemmas.{kept_as, switch_room, merge_room}
 use Rattle.token_net.proofs.TableLemmas.{kind_told}
 use Rattle.token_net.proofs.places.places.Goals as goal

@@ -1,5 +1,0 @@
-use Rattle.net_board.proofs.NetLaws.{net_laws}
-use Rattle.net_board.proofs.laws.nets_keep_the_laws.Goals as goal
-
-pub returns : goal.returns
-returns c = net_laws
