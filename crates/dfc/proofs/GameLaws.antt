@@ -9,10 +9,10 @@ use Rattle.firing.specs.declared.playing.Show.TheVariants.{Output}
 use Rattle.firing.specs.Orders.{IsOver, after}
 use Rattle.firing.specs.Play.{shown}
 use Rattle.firing.specs.Runs.{IsRun}
-use Rattle.token_net.specs.NetOrder.{first_control}
-use Rattle.token_net.specs.Nodes.{NetOf}
-use Rattle.token_net.specs.OwnOrder.{own_order}
-use Rattle.token_net.specs.Tokens.{first_tokens, net_moves}
+use Rattle.net_board.specs.ControlCourse.{first_control}
+use Rattle.net_board.specs.Nodes.{NetOf}
+use Rattle.net_board.specs.OwnOrder.{own_order}
+use Rattle.net_board.specs.Tokens.{first_tokens, net_moves}
 use Rattle.dfc.specs.Due.{Due, IsDueBy, IsDuePlay, IsPlayedBy}
 use Rattle.dfc.specs.Game.{opening, way_of}
 use Rattle.dfc.specs.Headline.{MeansOn, MeansPlay, line_count}

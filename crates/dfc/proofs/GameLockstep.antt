@@ -8,14 +8,14 @@ use Rattle.dep_routing.specs.Routing.{Routing}
 use Rattle.dep_routing.specs.Touches.{AreTouches}
 use Rattle.firing.specs.Pacing.{FollowsSource, IsSimulation, Stage}
 use Rattle.firing.specs.SourceOrder.{IsDueOrder}
-use Rattle.token_net.specs.Belonging.{CanCome, IsNet}
-use Rattle.token_net.specs.FlowGround.{FlowGround}
-use Rattle.token_net.specs.NetOrder.{first_control, net_course}
-use Rattle.token_net.specs.Nodes.{NetOf}
-use Rattle.token_net.specs.OwnOrder.{own_order}
-use Rattle.token_net.specs.Parts.{AreParts, net_with}
-use Rattle.token_net.specs.StepLockstep.{RunGround, program_stage, program_text}
-use Rattle.token_net.specs.Tokens.{Tokens, first_tokens, net_moves}
+use Rattle.net_board.specs.SoundNets.{CanCome, IsNet}
+use Rattle.net_board.specs.FlowFacts.{FlowFacts}
+use Rattle.net_board.specs.ControlCourse.{first_control, net_course}
+use Rattle.net_board.specs.Nodes.{NetOf}
+use Rattle.net_board.specs.OwnOrder.{own_order}
+use Rattle.net_board.specs.NetParts.{AreParts, net_with}
+use Rattle.net_board.specs.ProgramStages.{RunFacts, program_stage, program_text}
+use Rattle.net_board.specs.Tokens.{Tokens, first_tokens, net_moves}
 use Rattle.dfc.specs.Game.{IsNetOn}
 use Rattle.dfc.specs.GameLaws.{OneOfEach}
 use Rattle.dfc.specs.Lockstep.{StaysInLockstep}
@@ -24,11 +24,11 @@ use Rattle.dfc.specs.Lockstep.{StaysInLockstep}
 pub record LockstepLaws : Type 0 where
   pub made : (p : Program) (f : FlowGraph) (touches : (piece line : ℕ) → Bool) (routing : Routing) (input : List ℤ) → AreParts p f touches routing → All IsWord input → IsNet (net_with p input touches routing)
   pub begins : (net : NetOf) → IsNet net → CanCome net (first_tokens net)
-  pub flows : (net : NetOf) (n : IsNet net) → AreTouches net.program n.classes net.touches → FlowGround net n.tree
-  pub runs : (net : NetOf) (n : IsNet net) → RunGround net n.tree
-  pub simulated : (net : NetOf) (n : IsNet net) → FlowGround net n.tree → RunGround net n.tree → IsSimulation (net_moves net) (first_tokens net) (program_text net) (program_stage net) (own_order net)
-  pub due : (net : NetOf) (n : IsNet net) → FlowGround net n.tree → (steps : ℕ) → IsDueOrder (net_moves net) (net_course net) (first_tokens net) (first_control net) (own_order net steps)
-  pub few : (net : NetOf) (n : IsNet net) → FlowGround net n.tree → (steps : ℕ) → length (own_order net steps) ≤ 5 * net.routing.lines * steps
+  pub flows : (net : NetOf) (n : IsNet net) → AreTouches net.program n.classes net.touches → FlowFacts net n.tree
+  pub runs : (net : NetOf) (n : IsNet net) → RunFacts net n.tree
+  pub simulated : (net : NetOf) (n : IsNet net) → FlowFacts net n.tree → RunFacts net n.tree → IsSimulation (net_moves net) (first_tokens net) (program_text net) (program_stage net) (own_order net)
+  pub due : (net : NetOf) (n : IsNet net) → FlowFacts net n.tree → (steps : ℕ) → IsDueOrder (net_moves net) (net_course net) (first_tokens net) (first_control net) (own_order net steps)
+  pub few : (net : NetOf) (n : IsNet net) → FlowFacts net n.tree → (steps : ℕ) → length (own_order net steps) ≤ 5 * net.routing.lines * steps
   pub follows : (net : NetOf) (start : Tokens) (text : ℕ → List ℕ) (stage : ℕ → Stage) (own : ℕ → List ℕ) → CanCome net start → IsSimulation (net_moves net) start text stage own → FollowsSource (net_moves net) start text stage own
 
 module _ (each : OneOfEach) (laws : LockstepLaws) where

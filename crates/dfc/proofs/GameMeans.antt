@@ -15,11 +15,11 @@ use Rattle.firing.specs.Orders.{IsOver, IsPrefix, after, written}
 use Rattle.firing.specs.Pacing.{EndsWith, Going, Done, Failed, Stage, StandsAt, TrapsWith, WritesPrefix}
 use Rattle.firing.specs.Play.{Way, node_at, played, shown}
 use Rattle.firing.specs.Runs.{HasOrder, IsRun}
-use Rattle.token_net.specs.declared.control.Control.{Control}
-use Rattle.token_net.specs.Nodes.{NetOf}
-use Rattle.token_net.specs.OwnOrder.{own_order}
-use Rattle.token_net.specs.StepLockstep.{program_stage, program_text, stage_of}
-use Rattle.token_net.specs.Tokens.{Tokens, first_tokens, net_moves}
+use Rattle.net_board.specs.declared.control.Control.{Control}
+use Rattle.net_board.specs.Nodes.{NetOf}
+use Rattle.net_board.specs.OwnOrder.{own_order}
+use Rattle.net_board.specs.ProgramStages.{program_stage, program_text, stage_of}
+use Rattle.net_board.specs.Tokens.{Tokens, first_tokens, net_moves}
 use Rattle.dfc.specs.declared.status.Status.{Status}
 use Rattle.dfc.specs.declared.status.Status.TheVariants as status
 use Rattle.dfc.specs.Due.{Due, IsDueBy, IsPlayed, trapped}

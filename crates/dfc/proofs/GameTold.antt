@@ -14,10 +14,10 @@ use Rattle.firing.specs.Control.{Course}
 use Rattle.firing.specs.Moves.{Moves, CanFire}
 use Rattle.firing.specs.Play.{Moment, Way, BreaksOff, Plays, by_order, by_picks, moment, node_at, played, shown, shown_at}
 use Rattle.firing.specs.Runs.{HasEnd, IsOwnEnd, IsRun}
-use Rattle.token_net.specs.declared.control.Control.{Control}
-use Rattle.token_net.specs.NetOrder.{first_control, net_course}
-use Rattle.token_net.specs.Nodes.{NetOf}
-use Rattle.token_net.specs.Tokens.{Tokens, first_tokens, net_moves}
+use Rattle.net_board.specs.declared.control.Control.{Control}
+use Rattle.net_board.specs.ControlCourse.{first_control, net_course}
+use Rattle.net_board.specs.Nodes.{NetOf}
+use Rattle.net_board.specs.Tokens.{Tokens, first_tokens, net_moves}
 use Rattle.dfc.specs.declared.status.Status.{Status}
 use Rattle.dfc.specs.declared.status.Status.TheVariants.{Done, Usage, Refused, Trapped, Limit, ReadFault, WriteFault, NoMemory}
 use Rattle.dfc.specs.Answers.{AnswersAs, IsBegun, IsTold, Tells}

@@ -14,8 +14,8 @@ use Rattle.dep_routing.specs.Next.{Next}
 use Rattle.dep_routing.specs.Quiet.{IsWire}
 use Rattle.dep_routing.specs.Routing.{Routing, IsRouting, next_at, wire_at}
 use Rattle.dep_routing.specs.Touches.{AreTouches}
-use Rattle.token_net.specs.Nodes.{NetOf}
-use Rattle.token_net.specs.Parts.{AreParts, net_with}
+use Rattle.net_board.specs.Nodes.{NetOf}
+use Rattle.net_board.specs.NetParts.{AreParts, net_with}
 use Rattle.dfc.specs.Game.{IsNetOn}
 use Rattle.dfc.specs.GameLaws.{OneOfEach}
 

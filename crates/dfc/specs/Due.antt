@@ -9,7 +9,7 @@ use Rattle.firing.specs.declared.playing.PlayEnd.TheVariants as end
 use Rattle.firing.specs.declared.playing.Show.TheVariants.{Output}
 use Rattle.firing.specs.Play.{Moment, Way, shown}
 use Rattle.firing.specs.Runs.{IsRun}
-use Rattle.token_net.specs.Nodes.{NetOf}
+use Rattle.net_board.specs.Nodes.{NetOf}
 use Rattle.dfc.specs.declared.reading.Code.{Code}
 use Rattle.dfc.specs.declared.status.Status.{Status}
 use Rattle.dfc.specs.declared.status.Status.TheVariants as status

@@ -7,11 +7,11 @@ use Rattle.dep_routing.specs.LineTable.{HaveRows}
 use Rattle.firing.specs.Control.{Course}
 use Rattle.firing.specs.Moves.{Moves}
 use Rattle.firing.specs.Play.{Moment, Way, by_order, by_picks, moment}
-use Rattle.token_net.specs.declared.control.Control.{Control}
-use Rattle.token_net.specs.NetOrder.{first_control, net_course}
-use Rattle.token_net.specs.Nodes.{NetOf}
-use Rattle.token_net.specs.Parts.{AreParts, net_with}
-use Rattle.token_net.specs.Tokens.{Tokens, first_tokens, net_moves}
+use Rattle.net_board.specs.declared.control.Control.{Control}
+use Rattle.net_board.specs.ControlCourse.{first_control, net_course}
+use Rattle.net_board.specs.Nodes.{NetOf}
+use Rattle.net_board.specs.NetParts.{AreParts, net_with}
+use Rattle.net_board.specs.Tokens.{Tokens, first_tokens, net_moves}
 
 -- The net of a program over data that are words, made of the program's own parts.
 pub record IsNetOn (p : Program) (words : List ℤ) (net : NetOf) : Type 0 where

@@ -16,10 +16,10 @@ use Rattle.firing.specs.Orders.{IsOver, after}
 use Rattle.firing.specs.Play.{Moment, Way, by_order, moment}
 use Rattle.firing.specs.Runs.{HasOrder, IsRun}
 use Rattle.firing.specs.SourceOrder.{IsDueOrder}
-use Rattle.token_net.specs.declared.control.Control.{Control}
-use Rattle.token_net.specs.NetOrder.{net_course}
-use Rattle.token_net.specs.Nodes.{NetOf}
-use Rattle.token_net.specs.Tokens.{Tokens, net_moves}
+use Rattle.net_board.specs.declared.control.Control.{Control}
+use Rattle.net_board.specs.ControlCourse.{net_course}
+use Rattle.net_board.specs.Nodes.{NetOf}
+use Rattle.net_board.specs.Tokens.{Tokens, net_moves}
 use Rattle.dfc.specs.Game.{IsNetOn}
 use Rattle.dfc.specs.Lockstep.{StaysInLockstep}
 

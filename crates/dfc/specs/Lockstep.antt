@@ -2,11 +2,11 @@
 use Rattle.std.specs.Prelude.{◌≤◌, ◌*◌, ℕ, length}
 use Rattle.firing.specs.Pacing.{FollowsSource, IsSimulation}
 use Rattle.firing.specs.SourceOrder.{IsDueOrder}
-use Rattle.token_net.specs.NetOrder.{first_control, net_course}
-use Rattle.token_net.specs.Nodes.{NetOf}
-use Rattle.token_net.specs.OwnOrder.{own_order}
-use Rattle.token_net.specs.StepLockstep.{program_stage, program_text}
-use Rattle.token_net.specs.Tokens.{first_tokens, net_moves}
+use Rattle.net_board.specs.ControlCourse.{first_control, net_course}
+use Rattle.net_board.specs.Nodes.{NetOf}
+use Rattle.net_board.specs.OwnOrder.{own_order}
+use Rattle.net_board.specs.ProgramStages.{program_stage, program_text}
+use Rattle.net_board.specs.Tokens.{first_tokens, net_moves}
 
 -- The source's own order stays in lockstep with the steps of the program, in few firings, and whatever the order, the net follows.
 pub record StaysInLockstep (net : NetOf) : Type 0 where

@@ -4,7 +4,7 @@ use Rattle.f77_tree.specs.declared.programs.Program.{Program}
 use Rattle.cfg_build.specs.Flow.{flow}
 use Rattle.dep_routing.specs.LineTable.{HaveRows}
 use Rattle.dep_routing.specs.Touch.{touches_in}
-use Rattle.token_net.specs.Parts.{AreParts}
+use Rattle.net_board.specs.NetParts.{AreParts}
 use Rattle.dfc.specs.declared.making.Parts.{Parts}
 
 -- They are the program's, and there is a set of lines for each piece.

@@ -23,12 +23,13 @@ use dep_routing::next_edges;
 use df_io::{NoMemory, Sink};
 use f77_tree::{Program, runs_stop_first};
 use firing::{due_orders_end, every_order_follows, runs_end};
-use region_tree::one_tree;
-use std::alloc::Global;
-use token_net::{
-    Net, flow_graphs_ground_nets, nets_begin_soundly, nets_simulate_programs, parts_make_nets,
+use net_board::{
+    flow_graphs_ground_nets, nets_begin_soundly, nets_simulate_programs, parts_make_nets,
     runs_ground_nets,
 };
+use region_tree::one_tree;
+use std::alloc::Global;
+use token_net::Net;
 
 /// Plays the game of a program. All memory is taken before the first byte is written.
 pub fn play<K: Sink>(alloc: Global, words: GameWords<'_>, program: &Program, sink: &mut K) -> Status

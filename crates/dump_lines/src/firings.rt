@@ -3,7 +3,7 @@
 ghost use Rattle.std.specs.Prelude.{◌≡◌, ◌<◌, length};
 ghost use Rattle.f77_tree.specs.WellFormed.{IsWellFormed};
 ghost use Rattle.dep_routing.specs.Touch.{touches_in};
-ghost use Rattle.token_net.specs.Parts.{AreParts};
+ghost use Rattle.net_board.specs.NetParts.{AreParts};
 ghost use Rattle.dump_lines.specs.Found.{IsFoundOf};
 
 use crate::errors::no_memory;

@@ -2,7 +2,6 @@
 pub mod Counting
 pub mod CounterLaws
 pub mod CounterOrder
-pub mod ForkLaws
 pub mod Forks
 pub mod Rivals
 pub mod Turns

@@ -8,14 +8,14 @@ use Rattle.cfg_build.specs.declared.pieces.PieceKind.{PieceKind}
 use Rattle.cfg_build.specs.declared.pieces.PieceKind.TheVariants as kind
 use Rattle.firing.specs.Control.{steered, is_node}
 use Rattle.firing.specs.declared.system.NodeName.TheVariants.{Act, Merge, Switch}
-use Rattle.token_net.specs.declared.control.Control.{Control}
-use Rattle.token_net.specs.Belonging.{CanCome}
-use Rattle.token_net.specs.NetOrder.{due_node, moved_on, net_course}
-use Rattle.token_net.specs.NodeLaws.{is_acting, IsNamed, named}
-use Rattle.token_net.specs.Nodes.{NetOf, graph_in, kind_in, all_lines, is_free, touched, passing, nodes_by, nodes_of, node_at, node_count, first_node, switch_lines, switches}
-use Rattle.token_net.specs.Standing.{IsReadable}
-use Rattle.token_net.specs.Tokens.{Tokens, is_before, left_for, ready_as}
-use Rattle.token_net.proofs.SteeringLemmas.{nodes_within}
+use Rattle.net_board.specs.declared.control.Control.{Control}
+use Rattle.net_board.specs.SoundNets.{CanCome}
+use Rattle.net_board.specs.ControlCourse.{due_node, moved_on, net_course}
+use Rattle.net_board.specs.Nodes.{is_acting, NetOf, graph_in, kind_in, all_lines, is_free, touched, passing, nodes_by, nodes_of, node_at, node_count, first_node, switch_lines, switches}
+use Rattle.net_board.specs.TokenEdges.{IsReadable}
+use Rattle.net_board.specs.Tokens.{Tokens, is_before, left_for, ready_as}
+use Rattle.net_board.proofs.NodeLaws.{IsNamed, named}
+use Rattle.token_net.proofs.ControlMoveLemmas.{nodes_within}
 use Rattle.token_net.proofs.TableLemmas.{short_filter}
 
 module _ (net : NetOf) (piece : ℕ) where

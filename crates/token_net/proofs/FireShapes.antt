@@ -4,10 +4,11 @@ use Rattle.dep_routing.specs.Routing.{next_at}
 use Rattle.op_table.specs.declared.Trap.{Trap}
 use Rattle.cfg_build.specs.Passes.{Traps, out}
 use Rattle.firing.specs.declared.system.NodeName.TheVariants.{Merge, Switch}
-use Rattle.token_net.specs.MemberLaws.{Member}
-use Rattle.token_net.specs.Nodes.{NetOf, graph_in, nodes_of, first_node}
-use Rattle.token_net.specs.Tokens.{Tokens, acted, edge_of, gone, left_for, stopped, switched}
-use Rattle.token_net.specs.Waking.{HasNext, IsWoken, Keeps}
+use Rattle.net_board.specs.Members.{Member}
+use Rattle.net_board.specs.Nodes.{NetOf, graph_in, nodes_of, first_node}
+use Rattle.net_board.specs.Tokens.{Tokens, acted, edge_of, gone, left_for, stopped, switched}
+use Rattle.net_board.specs.WokenNodes.{HasNext, IsWoken}
+use Rattle.token_net.specs.WokenList.{Keeps}
 use Rattle.token_net.proofs.WakeLoops.{next_kept}
 
 pub merge_woken : (net : NetOf) (new : Tokens) (piece line : ℕ) (woken : List ℕ) → All (λ j. j < length (nodes_of net)) woken → HasNext net woken line (edge_of new line) → IsWoken net new (Merge piece line) woken

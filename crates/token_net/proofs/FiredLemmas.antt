@@ -9,14 +9,14 @@ use Rattle.firing.specs.declared.system.NodeName.{NodeName}
 use Rattle.firing.specs.declared.system.NodeName.TheVariants.{Act}
 use Rattle.firing.specs.Marks.{Wakes}
 use Rattle.firing.specs.Moves.{CanFire, FiredIs, IsSilent}
-use Rattle.token_net.specs.Belonging.{CanCome}
-use Rattle.token_net.specs.Nodes.{NetOf, graph_in, nodes_of, node_at}
+use Rattle.net_board.specs.SoundNets.{CanCome}
+use Rattle.net_board.specs.Nodes.{NetOf, graph_in, nodes_of, node_at}
+use Rattle.net_board.specs.ControlPlaces.{AnswersTrap}
+use Rattle.net_board.specs.Tokens.{Tokens, acted, stopped, gone, fired_as, line_as, net_moves, pass_at, text_of}
+use Rattle.net_board.specs.WokenNodes.{IsWoken}
+use Rattle.net_board.proofs.WokenNodeLaws.{wakes}
 use Rattle.token_net.specs.PieceRuns.{going_on}
-use Rattle.token_net.specs.Steering.{AnswersTrap}
-use Rattle.token_net.specs.Tokens.{Tokens, acted, stopped, gone, fired_as, line_as, net_moves, pass_at, text_of}
-use Rattle.token_net.specs.Waking.{IsWoken}
 use Rattle.token_net.proofs.FiringLemmas.{acted_told}
-use Rattle.token_net.proofs.WakingLemmas.{wakes}
 
 -- ---- whom they wake
 

@@ -5,11 +5,11 @@ use Rattle.closed_walks.specs.Graph.{edge_count}
 use Rattle.f77_tree.specs.Execution.{Memory}
 use Rattle.cfg_build.specs.Passes.{Passed, Along, Traps, Done, IfAlong, out}
 use Rattle.dep_routing.specs.Touches.{piece_kind, exec_kind}
-use Rattle.token_net.specs.NetOrder.{edge_or}
-use Rattle.token_net.specs.Nodes.{NetOf, graph_in}
-use Rattle.token_net.specs.PassLaws.{IsOut, pass_out}
+use Rattle.net_board.specs.ControlCourse.{edge_or}
+use Rattle.net_board.specs.Nodes.{NetOf, graph_in}
+use Rattle.net_board.specs.Tokens.{Tokens, acted, gone, pass_at}
+use Rattle.net_board.proofs.PassEffects.{IsOut, pass_out}
 use Rattle.token_net.specs.PieceRuns.{going_on}
-use Rattle.token_net.specs.Tokens.{Tokens, acted, gone, pass_at}
 use Rattle.token_net.proofs.TableLemmas.{out_exists}
 
 module _ (net : NetOf) (piece : ℕ) (m : Tokens) where

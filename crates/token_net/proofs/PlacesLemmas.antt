@@ -3,9 +3,10 @@ use Rattle.std.proofs.Common.{◌≡◌, ◌<◌, ◌≤◌, ◌+◌, ◌-◌, �
 use Rattle.std.specs.List.{range_with_len}
 use Rattle.cfg_build.specs.declared.pieces.PieceKind.{PieceKind}
 use Rattle.cfg_build.specs.declared.pieces.PieceKind.TheVariants as kind
-use Rattle.token_net.specs.Nodes.{NetOf, graph_in, kind_in, all_lines, is_free, led_to, passing, nodes_by, node_count, first_node}
-use Rattle.token_net.specs.Waking.{kept_by, kept_places, merge_number, no_node, passing_below, place_by, place_of, places, switch_number}
-use Rattle.token_net.proofs.SteeringLemmas.{nodes_within}
+use Rattle.net_board.specs.Nodes.{NetOf, graph_in, kind_in, all_lines, is_free, led_to, passing, nodes_by, node_count, first_node}
+use Rattle.net_board.specs.WokenNodes.{merge_number, no_node, passing_below, place_by, place_of, places, switch_number}
+use Rattle.token_net.specs.NetTables.{kept_by, kept_places}
+use Rattle.token_net.proofs.ControlMoveLemmas.{nodes_within}
 use Rattle.token_net.proofs.TableLemmas.{filter_next, mapped_at, mapped_length}
 
 -- ---- counts

@@ -15,9 +15,9 @@ use Rattle.cfg_build.specs.declared.pieces.PieceKind.TheVariants as kind
 use Rattle.cfg_build.specs.Flow.{flow, piece_in, piece_at}
 use Rattle.cfg_build.specs.Joined.{FlowGraph}
 use Rattle.cfg_build.specs.Passes.{Passed, Along, Traps, acted, choice, branched, kind_in, out, pass_of}
-use Rattle.token_net.specs.Nodes.{NetOf, graph_in}
+use Rattle.net_board.specs.Nodes.{NetOf, graph_in}
+use Rattle.net_board.specs.Tokens.{pass_at}
 use Rattle.token_net.specs.PieceRuns.{MayChoose, going_on}
-use Rattle.token_net.specs.Tokens.{pass_at}
 
 -- there is room for what each executable writes
 pub has_room : (execs : List Exec) (k : ℕ) (exec : Exec) → slice_get execs k ≡ Some exec → kind_room exec.kind ≤ most_room execs

@@ -14,9 +14,10 @@ use Rattle.cfg_build.specs.Joined.{FlowGraph, is_end}
 use Rattle.cfg_build.specs.Passes.{out, outs}
 use Rattle.cfg_build.specs.Shape.{kind_at}
 use Rattle.dep_routing.specs.Touch.{touches_in}
-use Rattle.token_net.specs.MemberLaws.{Member, Member-cases, Member-at, Member-filtered, Member-in_range}
-use Rattle.token_net.specs.Nodes.{NetOf, graph_in, kind_in, nodes_at, nodes_below, node_count, first_node}
-use Rattle.token_net.specs.NetOrder.{arrival, is_idle, passed, passed_by}
+use Rattle.net_board.specs.Members.{Member}
+use Rattle.net_board.specs.Nodes.{NetOf, graph_in, kind_in, nodes_at, nodes_below, node_count, first_node}
+use Rattle.net_board.specs.ControlCourse.{arrival, is_idle, passed, passed_by}
+use Rattle.net_board.proofs.MemberLaws.{Member-cases, Member-at, Member-filtered, Member-in_range}
 use Rattle.token_net.specs.NetTables.{all_edges}
 
 -- one number more

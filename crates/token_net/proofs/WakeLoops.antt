@@ -2,11 +2,13 @@
 use Rattle.std.proofs.Common.{◌≡◌, ◌<◌, ◌≤◌, ◌+◌, ◌-◌, ◌⊎◌, inl, inr, ℕ, suc, List, get_or, Contains, Option, Some, None, sym, ap, ◌∙◌, subst, arith}
 use Rattle.std.specs.List.{range_with_len}
 use Rattle.closed_walks.specs.Graph.{to}
-use Rattle.token_net.specs.MemberLaws.{Member, Member-in_range, IsAt, at_of}
-use Rattle.token_net.specs.Nodes.{NetOf, graph_in}
-use Rattle.token_net.specs.PlaceLaws.{same_or_not}
-use Rattle.token_net.specs.Standing.{edge_at}
-use Rattle.token_net.specs.Waking.{HasNext, Keeps, no_node, place_of}
+use Rattle.net_board.specs.Members.{Member}
+use Rattle.net_board.specs.Nodes.{NetOf, graph_in}
+use Rattle.net_board.specs.TokenEdges.{edge_at}
+use Rattle.net_board.specs.WokenNodes.{HasNext, no_node, place_of}
+use Rattle.net_board.proofs.MemberLaws.{Member-in_range, IsAt, at_of}
+use Rattle.net_board.proofs.ListPlaces.{same_or_not}
+use Rattle.token_net.specs.WokenList.{Keeps}
 
 module _ (net : NetOf) where
   module _ (woken : List ℕ) (line edge piece k : ℕ) (o : Option ℕ) (stands : o ≡ Some edge) (comes : piece ≡ to (graph_in net) edge) (is : place_of net piece line < no_node net → k ≡ place_of net piece line) where

@@ -1,10 +1,10 @@
 -- What contracts see of a net.
 use Rattle.std.specs.Prelude.{ℕ, List}
 use Rattle.f77_meaning.specs.Storage.{memory_of}
+use Rattle.net_board.specs.Nodes.{NetOf}
+use Rattle.net_board.specs.Tokens.{Tokens}
 use Rattle.token_net.specs.declared.net.Net.{Net}
-use Rattle.token_net.specs.Nodes.{NetOf}
-use Rattle.token_net.specs.BoardView.{net_on}
-use Rattle.token_net.specs.Tokens.{Tokens}
+use Rattle.token_net.specs.LookupView.{net_on}
 
 module _ {W : ℕ} where
   -- what firings never change

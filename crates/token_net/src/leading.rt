@@ -2,16 +2,15 @@
 
 ghost use Rattle.std.specs.Prelude.{◌≡◌, ◌<◌, ◌≤◌, ◌+◌, ◌*◌, ℕ, All, Some, [], Contains, length, true, vec_capacity};
 ghost use Rattle.closed_walks.specs.Graph.{edge_count};
-ghost use Rattle.token_net.specs.BoardView.{net_on};
-ghost use Rattle.token_net.specs.MemberLaws.{Member};
-ghost use Rattle.token_net.specs.NodeLaws.{is_acting};
-ghost use Rattle.token_net.specs.Nodes.{graph_in, kind_in, nodes_of, switches, touched};
-ghost use Rattle.token_net.specs.Standing.{AreEdges, edge_at};
-ghost use Rattle.token_net.specs.Tokens.{led_from, with_all};
-ghost use Rattle.token_net.specs.Waking.{HasNext, no_node};
+ghost use Rattle.net_board.specs.Members.{Member};
+ghost use Rattle.net_board.specs.Nodes.{is_acting, graph_in, kind_in, nodes_of, switches, touched};
+ghost use Rattle.net_board.specs.TokenEdges.{AreEdges, edge_at};
+ghost use Rattle.net_board.specs.Tokens.{led_from, with_all};
+ghost use Rattle.net_board.specs.WokenNodes.{HasNext, no_node};
+ghost use Rattle.token_net.specs.LookupView.{net_on};
 
-use crate::board::Board;
-use crate::standing::{lead, leave};
+use crate::lookups::Board;
+use crate::token_lines::{lead, leave};
 use crate::waking::{wake_after, wake_lines};
 
 /// Leads the lines of a piece that acts along an edge, leaves it for the switches, and names the nodes that can be ready then.

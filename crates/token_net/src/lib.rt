@@ -1,26 +1,18 @@
 //! Dataflow nets that fire in place of a program's steps.
 #![tactic(auto)]
 
-mod board;
-mod control;
-mod laws;
+mod control_moves;
 mod leading;
-mod making;
+mod lookups;
 mod net;
 mod net_firing;
-mod net_laws;
 mod net_system;
+mod new_net;
 mod pieces_run;
 mod places;
-mod plan;
-mod standing;
-mod steering;
+mod program_parts;
 mod tables;
+mod token_lines;
 mod waking;
 
-pub use control::Control;
-pub use laws::{nets_begin_soundly, nets_keep_the_laws, parts_make_nets};
 pub use net::Net;
-pub use net_laws::{
-    flow_graphs_ground_nets, nets_simulate_programs, nets_stay_in_lockstep, runs_ground_nets,
-};

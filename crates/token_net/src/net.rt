@@ -1,17 +1,17 @@
-//! The net of a program.
+//! The net of a program, and which of its nodes are ready.
 
 ghost use Rattle.std.specs.Option.{ForSome};
 ghost use Rattle.std.specs.Prelude.{◌≡◌, ◌≤◌, ◌+◌, ◌*◌, length, vec_capacity};
 ghost use Rattle.f77_meaning.specs.Room.{most_room};
-ghost use Rattle.token_net.specs.BoardView.{net_on};
-ghost use Rattle.token_net.specs.Nodes.{nodes_of};
-ghost use Rattle.token_net.specs.Steering.{IsPlaced};
+ghost use Rattle.net_board.specs.Nodes.{nodes_of};
+ghost use Rattle.net_board.specs.ControlPlaces.{IsPlaced};
+ghost use Rattle.token_net.specs.LookupView.{net_on};
 
-use crate::Control;
-use crate::board::Board;
-use crate::standing::{are_before, is_before, is_clear};
+use crate::lookups::Board;
+use crate::token_lines::{are_before, is_before, is_clear};
 use f77_meaning::{Storage, word_in};
 use firing::{NodeName, ReadySet};
+use net_board::Control;
 use op_table::Trap;
 
 /// A dataflow net that does what a program does, whatever the order in which its nodes fire. Tokens stand for the classes of the
@@ -45,11 +45,10 @@ impl<'a, const W: usize> Net<'a, W> {
     ghost use Rattle.std.specs.Prelude.{◌≡◌, ◌<◌, ℕ, length, true};
     ghost use Rattle.f77_tree.specs.Value.{word_at};
     ghost use Rattle.firing.specs.declared.system.NodeName.TheVariants.{Act};
+    ghost use Rattle.net_board.specs.Nodes.{is_acting, graph_in, kind_in, node_at};
+    ghost use Rattle.net_board.specs.TokenEdges.{IsReadable};
+    ghost use Rattle.net_board.specs.Tokens.{ready_as};
     ghost use Rattle.token_net.specs.NetView.{net_of, tokens_of};
-    ghost use Rattle.token_net.specs.NodeLaws.{is_acting};
-    ghost use Rattle.token_net.specs.Nodes.{graph_in, kind_in, node_at};
-    ghost use Rattle.token_net.specs.Standing.{IsReadable};
-    ghost use Rattle.token_net.specs.Tokens.{ready_as};
 
     /// The word of the store with this number.
     pub fn word(&self, k: u32) -> i32

@@ -1,20 +1,20 @@
 //! The net of a program as a step system, with the program's own order.
 
 use crate::Net;
-use crate::steering::due_at;
+use crate::control_moves::due_at;
 use firing::{Fired, NodeName, SourceOrder, StepSystem};
 use op_table::Trap;
 
 impl<const W: usize> StepSystem for Net<'_, W> {
-    ghost use Rattle.token_net.specs.declared.control.Control.{Control as Place_of};
-    ghost use Rattle.token_net.specs.Belonging.{CanCome};
-    ghost use Rattle.token_net.specs.NetLaws.{net_laws};
-    ghost use Rattle.token_net.specs.NetOrder.{net_course};
-    ghost use Rattle.token_net.specs.NetLockstep.{IsInLockstep};
+    ghost use Rattle.net_board.specs.declared.control.Control.{Control as Place_of};
+    ghost use Rattle.net_board.specs.SoundNets.{CanCome};
+    ghost use Rattle.net_board.specs.ControlCourse.{net_course};
+    ghost use Rattle.net_board.specs.NetLockstep.{IsInLockstep};
+    ghost use Rattle.net_board.specs.Nodes.{NetOf};
+    ghost use Rattle.net_board.specs.Tokens.{Tokens, net_moves};
+    ghost use Rattle.net_board.proofs.FiringLaws.{net_laws};
+    ghost use Rattle.net_board.proofs.LockstepLaws.{keeps_step};
     ghost use Rattle.token_net.specs.NetView.{net_of, tokens_of, woken_of};
-    ghost use Rattle.token_net.specs.Nodes.{NetOf};
-    ghost use Rattle.token_net.specs.LockstepLaws.{keeps_step};
-    ghost use Rattle.token_net.specs.Tokens.{Tokens, net_moves};
 
     ghost Net = { NetOf };
 
@@ -100,7 +100,7 @@ impl<const W: usize> StepSystem for Net<'_, W> {
 }
 
 impl<const W: usize> SourceOrder for Net<'_, W> {
-    ghost use Rattle.token_net.specs.RestLaws.{source_order};
+    ghost use Rattle.net_board.proofs.RestLaws.{source_order};
 
     fn has_control(&self) -> bool {
         self.control.is_some()

@@ -9,13 +9,13 @@ ghost use Rattle.f77_tree.specs.Value.{IsExpression, ArePlaced};
 ghost use Rattle.f77_meaning.specs.Room.{kind_room, most_room};
 ghost use Rattle.f77_meaning.specs.Storage.{memory_of, HasSizes};
 ghost use Rattle.cfg_build.specs.Passes.{acted, choice, out, outs as outs_in};
-ghost use Rattle.token_net.specs.Belonging.{HasSizesOf};
-ghost use Rattle.token_net.specs.Nodes.{graph_in};
+ghost use Rattle.net_board.specs.SoundNets.{HasSizesOf};
+ghost use Rattle.net_board.specs.Nodes.{graph_in};
+ghost use Rattle.net_board.specs.Tokens.{pass_at};
 ghost use Rattle.token_net.specs.PieceRuns.{HasLine, KeepsStorage, MayChoose, going_on, told};
-ghost use Rattle.token_net.specs.PlanView.{net_in};
-ghost use Rattle.token_net.specs.Tokens.{pass_at};
+ghost use Rattle.token_net.specs.PartsView.{net_in};
 
-use crate::plan::Plan;
+use crate::program_parts::Plan;
 use crate::tables::out_at;
 use cfg_build::PieceKind;
 use df_sequence::LabelList;

@@ -2,12 +2,12 @@
 
 ghost use Rattle.std.specs.Prelude.{◌≡◌, ◌<◌, ◌^◌, suc, map, if◌then◌else◌, IfOk};
 ghost use Rattle.std.specs.List.{range_with_len};
-ghost use Rattle.token_net.specs.Nodes.{graph_in, all_lines, first_node};
-ghost use Rattle.token_net.specs.NetTables.{all_pieces};
-ghost use Rattle.token_net.specs.PlanView.{net_in};
-ghost use Rattle.token_net.specs.Waking.{kept_places, merge_number, no_node, place_by, switch_number};
+ghost use Rattle.net_board.specs.Nodes.{graph_in, all_lines, first_node};
+ghost use Rattle.net_board.specs.WokenNodes.{merge_number, no_node, place_by, switch_number};
+ghost use Rattle.token_net.specs.NetTables.{all_pieces, kept_places};
+ghost use Rattle.token_net.specs.PartsView.{net_in};
 
-use crate::plan::Plan;
+use crate::program_parts::Plan;
 use crate::tables::{free_lines, passing_lines};
 use cfg_build::PieceKind;
 use df_sequence::{LabelList, NoMemory};

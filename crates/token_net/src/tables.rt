@@ -1,4 +1,4 @@
-//! What a net looks up while it fires.
+//! The tables of a net, made from its parts.
 
 ghost use Rattle.std.specs.Prelude.{◌≡◌, ◌<◌, ◌^◌, ◌++◌, ◌&&◌, ℕ, suc, not, All, length, map, slice_index, IfOk, OnOk};
 ghost use Rattle.std.specs.List.{range_with_len};
@@ -7,13 +7,13 @@ ghost use Rattle.closed_walks.specs.Graph.{edge_count, to};
 ghost use Rattle.cfg_build.specs.Joined.{is_end};
 ghost use Rattle.cfg_build.specs.Passes.{outs as outs_in};
 ghost use Rattle.firing.specs.declared.system.NodeName.TheVariants.{Merge, Switch};
-ghost use Rattle.token_net.specs.Nodes.{graph_in, is_free, led_to, passing, touched, nodes_at, nodes_of, first_node};
-ghost use Rattle.token_net.specs.NetOrder.{arrival, is_idle, passed};
+ghost use Rattle.net_board.specs.Nodes.{graph_in, is_free, led_to, passing, touched, nodes_at, nodes_of, first_node};
+ghost use Rattle.net_board.specs.ControlCourse.{arrival, is_idle, passed};
 ghost use Rattle.token_net.specs.NetTables.{AreTables, all_edges, all_pieces};
-ghost use Rattle.token_net.specs.PlanView.{net_in};
+ghost use Rattle.token_net.specs.PartsView.{net_in};
 
 use crate::places::all_places;
-use crate::plan::Plan;
+use crate::program_parts::Plan;
 use cfg_build::PieceKind;
 use class_set::ClassSet;
 use closed_walks::Digraph;

@@ -2,12 +2,13 @@
 
 ghost use Rattle.std.specs.Prelude.{◌≡◌, ◌<◌, ◌≤◌, ◌+◌, ◌-◌, ℕ, All, suc, length, vec_len, vec_capacity};
 ghost use Rattle.std.specs.List.{Contains, range_with_len};
-ghost use Rattle.token_net.specs.BoardView.{net_on};
-ghost use Rattle.token_net.specs.MemberLaws.{Member};
-ghost use Rattle.token_net.specs.Standing.{AreEdges, edge_at};
-ghost use Rattle.token_net.specs.Waking.{HasNext, Keeps, no_node};
+ghost use Rattle.net_board.specs.Members.{Member};
+ghost use Rattle.net_board.specs.TokenEdges.{AreEdges, edge_at};
+ghost use Rattle.net_board.specs.WokenNodes.{HasNext, no_node};
+ghost use Rattle.token_net.specs.LookupView.{net_on};
+ghost use Rattle.token_net.specs.WokenList.{Keeps};
 
-use crate::board::Board;
+use crate::lookups::Board;
 
 /// Names a node, for which there is room. A node that was just named isn't named again.
 pub(crate) fn wake(woken: &mut Vec<u32>, k: u32)

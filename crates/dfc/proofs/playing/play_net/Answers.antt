@@ -2,11 +2,11 @@ use Rattle.std.proofs.Common.{◌≡◌, refl, sym, ap, subst, ◌∙◌}
 use Rattle.cfg_build.specs.Joined.{FlowGraph}
 use Rattle.dep_routing.specs.Touch.{touches_in}
 use Rattle.firing.specs.Play.{moment}
-use Rattle.token_net.specs.NetOrder.{net_course}
+use Rattle.net_board.specs.ControlCourse.{net_course}
 use Rattle.token_net.specs.NetView.{net_of, tokens_of}
-use Rattle.token_net.specs.Nodes.{NetOf}
-use Rattle.token_net.specs.Parts.{AreParts, net_with}
-use Rattle.token_net.specs.Tokens.{net_moves}
+use Rattle.net_board.specs.Nodes.{NetOf}
+use Rattle.net_board.specs.NetParts.{AreParts, net_with}
+use Rattle.net_board.specs.Tokens.{net_moves}
 use Rattle.dfc.specs.Due.{IsDuePlay, IsGameOf}
 use Rattle.dfc.specs.Game.{IsNetOn, way_by}
 use Rattle.dfc.specs.Meant.{asked_in}

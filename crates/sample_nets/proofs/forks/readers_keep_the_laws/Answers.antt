@@ -1,4 +1,4 @@
-use Rattle.sample_nets.specs.ForkLaws.{fork_laws}
+use Rattle.sample_nets.proofs.ForkLaws.{fork_laws}
 use Rattle.sample_nets.proofs.forks.readers_keep_the_laws.Goals as goal
 
 pub returns : goal.returns

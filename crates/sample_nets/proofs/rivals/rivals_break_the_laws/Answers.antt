@@ -1,4 +1,4 @@
-use Rattle.sample_nets.specs.Rivals.{no_laws}
+use Rattle.sample_nets.proofs.RivalLaws.{no_laws}
 use Rattle.sample_nets.proofs.rivals.rivals_break_the_laws.Goals as goal
 
 pub returns : goal.returns

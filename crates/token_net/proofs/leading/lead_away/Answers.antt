@@ -1,8 +1,8 @@
 use Rattle.std.proofs.Common.{◌≡◌, ℕ, List, Some, length, vec_len, subst, sym, ap, ◌∙◌, arith, rules}
-use Rattle.token_net.specs.BoardView.{net_on}
-use Rattle.token_net.specs.MemberLaws.{Member}
-use Rattle.token_net.specs.Standing.{edge_at}
-use Rattle.token_net.specs.Tokens.{with_all}
+use Rattle.net_board.specs.Members.{Member}
+use Rattle.net_board.specs.TokenEdges.{edge_at}
+use Rattle.net_board.specs.Tokens.{with_all}
+use Rattle.token_net.specs.LookupView.{net_on}
 use Rattle.token_net.proofs.ActLemmas.{switches_are, switches_few}
 use Rattle.token_net.proofs.WakeLoops.{next_kept}
 use Rattle.token_net.proofs.leading.lead_away.Goals as goal

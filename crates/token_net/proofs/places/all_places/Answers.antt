@@ -1,7 +1,7 @@
 use Rattle.std.proofs.Common.{rules, ◌≡◌, ◌<◌, suc, ◌∙◌, arith}
-use Rattle.token_net.specs.Nodes.{graph_in, first_node}
-use Rattle.token_net.specs.PlanView.{net_in}
-use Rattle.token_net.specs.Waking.{kept_places}
+use Rattle.net_board.specs.Nodes.{graph_in, first_node}
+use Rattle.token_net.specs.PartsView.{net_in}
+use Rattle.token_net.specs.NetTables.{kept_places}
 use Rattle.token_net.proofs.TableLemmas.{mapped_more, mapped_length, mapped_at}
 use Rattle.token_net.proofs.places.all_places.Goals as goal
 

@@ -1,7 +1,7 @@
 use Rattle.std.proofs.Common.{◌≡◌, map}
 use Rattle.std.specs.List.{range_with_len}
-use Rattle.token_net.specs.PlanView.{net_in}
-use Rattle.token_net.specs.Waking.{kept_places}
+use Rattle.token_net.specs.PartsView.{net_in}
+use Rattle.token_net.specs.NetTables.{kept_places}
 use Rattle.token_net.proofs.places.all_places.Given as goal
 
 abbrev pub invariant-loop-piece : goal.invariant-loop-piece

@@ -4,9 +4,10 @@ use Rattle.std.proofs.lemmas.Result.{IfOk-weaker}
 use Rattle.cfg_build.specs.declared.pieces.PieceKind.TheVariants as kind
 use Rattle.cfg_build.specs.Flow.{flow}
 use Rattle.firing.specs.declared.system.NodeName.TheVariants.{Merge, Switch}
-use Rattle.token_net.specs.Nodes.{all_lines, led_to, passing}
-use Rattle.token_net.specs.PlanView.{net_in}
-use Rattle.token_net.specs.Waking.{kept_places, place_by}
+use Rattle.net_board.specs.Nodes.{all_lines, led_to, passing}
+use Rattle.net_board.specs.WokenNodes.{place_by}
+use Rattle.token_net.specs.PartsView.{net_in}
+use Rattle.token_net.specs.NetTables.{kept_places}
 use Rattle.token_net.proofs.PlacesLemmas.{kept_as, switch_room, merge_room}
 use Rattle.token_net.proofs.TableLemmas.{kind_told}
 use Rattle.token_net.proofs.places.places.Goals as goal

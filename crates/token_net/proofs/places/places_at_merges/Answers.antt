@@ -1,8 +1,8 @@
 use Rattle.std.proofs.Common.{◌≡◌, ◌<◌, ◌+◌, ◌^◌, ℕ, ap, ◌∙◌, arith}
 use Rattle.cfg_build.specs.declared.pieces.PieceKind.TheVariants as kind
-use Rattle.token_net.specs.Nodes.{is_free}
-use Rattle.token_net.specs.PlanView.{net_in}
-use Rattle.token_net.specs.Waking.{merge_number, place_by}
+use Rattle.net_board.specs.Nodes.{is_free}
+use Rattle.net_board.specs.WokenNodes.{merge_number, place_by}
+use Rattle.token_net.specs.PartsView.{net_in}
 use Rattle.token_net.proofs.PlacesLemmas.{place_merge, merge_next, merge_fits}
 use Rattle.token_net.proofs.TableLemmas.{mapped_length, mapped_more}
 use Rattle.token_net.proofs.places.places_at_merges.Goals as goal

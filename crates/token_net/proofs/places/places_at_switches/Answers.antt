@@ -1,8 +1,8 @@
 use Rattle.std.proofs.Common.{◌≡◌, ◌<◌, ◌+◌, ◌^◌, ◌&&◌, not, if◌then◌else◌, ℕ, ap, ◌∙◌, arith}
 use Rattle.cfg_build.specs.declared.pieces.PieceKind.TheVariants as kind
-use Rattle.token_net.specs.Nodes.{is_free}
-use Rattle.token_net.specs.PlanView.{net_in}
-use Rattle.token_net.specs.Waking.{switch_number, place_by}
+use Rattle.net_board.specs.Nodes.{is_free}
+use Rattle.net_board.specs.WokenNodes.{switch_number, place_by}
+use Rattle.token_net.specs.PartsView.{net_in}
 use Rattle.token_net.proofs.PlacesLemmas.{place_switch, switch_next, switch_fits}
 use Rattle.token_net.proofs.TableLemmas.{mapped_length, mapped_more, touches_at}
 use Rattle.token_net.proofs.places.places_at_switches.Goals as goal

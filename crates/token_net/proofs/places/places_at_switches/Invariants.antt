@@ -1,8 +1,8 @@
 use Rattle.std.proofs.Common.{◌≡◌, ℕ, map}
 use Rattle.std.specs.List.{range_with_len}
 use Rattle.cfg_build.specs.declared.pieces.PieceKind.TheVariants as kind
-use Rattle.token_net.specs.PlanView.{net_in}
-use Rattle.token_net.specs.Waking.{place_by, switch_number}
+use Rattle.net_board.specs.WokenNodes.{place_by, switch_number}
+use Rattle.token_net.specs.PartsView.{net_in}
 use Rattle.token_net.proofs.places.places_at_switches.Given as goal
 
 abbrev pub invariant-loop-line : goal.invariant-loop-line

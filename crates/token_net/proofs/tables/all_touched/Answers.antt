@@ -1,5 +1,5 @@
-use Rattle.token_net.specs.Nodes.{touched}
-use Rattle.token_net.specs.PlanView.{net_in}
+use Rattle.net_board.specs.Nodes.{touched}
+use Rattle.token_net.specs.PartsView.{net_in}
 use Rattle.token_net.proofs.TableLemmas.{mapped_more}
 use Rattle.token_net.proofs.tables.all_touched.Goals as goal
 

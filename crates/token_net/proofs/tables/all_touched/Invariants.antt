@@ -1,7 +1,7 @@
 use Rattle.std.proofs.Common.{◌≡◌, map}
 use Rattle.std.specs.List.{range_with_len}
-use Rattle.token_net.specs.Nodes.{touched}
-use Rattle.token_net.specs.PlanView.{net_in}
+use Rattle.net_board.specs.Nodes.{touched}
+use Rattle.token_net.specs.PartsView.{net_in}
 use Rattle.token_net.proofs.tables.all_touched.Given as goal
 
 abbrev pub invariant-loop-piece : goal.invariant-loop-piece

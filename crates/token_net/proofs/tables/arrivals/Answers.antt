@@ -2,10 +2,10 @@ use Rattle.std.proofs.Common.{◌≡◌, ◌<◌, ℕ, All, Vec, Global, map, su
 use Rattle.std.proofs.lemmas.Result.{IfOk-weaker}
 use Rattle.closed_walks.specs.Graph.{Graph, edge_count, to}
 use Rattle.cfg_build.specs.Joined.{FlowGraph}
-use Rattle.token_net.specs.Nodes.{graph_in}
-use Rattle.token_net.specs.NetOrder.{arrival, passed_by}
+use Rattle.net_board.specs.Nodes.{graph_in}
+use Rattle.net_board.specs.ControlCourse.{arrival, passed_by}
 use Rattle.token_net.specs.NetTables.{all_edges}
-use Rattle.token_net.specs.PlanView.{net_in}
+use Rattle.token_net.specs.PartsView.{net_in}
 use Rattle.token_net.proofs.TableLemmas.{all_inside, all_within, heads_are, led_twice, passed_by_exists, passed_first, passed_twice}
 use Rattle.token_net.proofs.tables.arrivals.Goals as goal
 

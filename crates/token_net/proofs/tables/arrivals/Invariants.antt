@@ -1,7 +1,7 @@
 use Rattle.std.proofs.Common.{◌≡◌, map}
-use Rattle.token_net.specs.NetOrder.{passed_by}
+use Rattle.net_board.specs.ControlCourse.{passed_by}
 use Rattle.token_net.specs.NetTables.{all_edges}
-use Rattle.token_net.specs.PlanView.{net_in}
+use Rattle.token_net.specs.PartsView.{net_in}
 use Rattle.token_net.proofs.tables.arrivals.Given as goal
 
 abbrev pub invariant-loop-round : goal.invariant-loop-round

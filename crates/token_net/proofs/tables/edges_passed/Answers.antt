@@ -1,5 +1,5 @@
-use Rattle.token_net.specs.NetOrder.{passed}
-use Rattle.token_net.specs.PlanView.{net_in}
+use Rattle.net_board.specs.ControlCourse.{passed}
+use Rattle.token_net.specs.PartsView.{net_in}
 use Rattle.token_net.proofs.TableLemmas.{mapped_more}
 use Rattle.token_net.proofs.tables.edges_passed.Goals as goal
 

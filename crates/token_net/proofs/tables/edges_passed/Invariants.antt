@@ -1,7 +1,7 @@
 use Rattle.std.proofs.Common.{◌≡◌, map}
 use Rattle.std.specs.List.{range_with_len}
-use Rattle.token_net.specs.NetOrder.{passed}
-use Rattle.token_net.specs.PlanView.{net_in}
+use Rattle.net_board.specs.ControlCourse.{passed}
+use Rattle.token_net.specs.PartsView.{net_in}
 use Rattle.token_net.proofs.tables.edges_passed.Given as goal
 
 abbrev pub invariant-loop-e : goal.invariant-loop-e

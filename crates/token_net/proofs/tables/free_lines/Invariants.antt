@@ -2,7 +2,7 @@ use Rattle.std.proofs.Common.{◌≡◌, ◌<◌, ℕ, take}
 use Rattle.std.specs.List.{list_any}
 use Rattle.class_set.specs.ClassSet.{holds}
 use Rattle.closed_walks.specs.Graph.{edges_at}
-use Rattle.token_net.specs.Nodes.{comes_along}
+use Rattle.net_board.specs.Nodes.{comes_along}
 use Rattle.token_net.proofs.tables.free_lines.Given as goal
 
 abbrev pub invariant-loop-e : goal.invariant-loop-e

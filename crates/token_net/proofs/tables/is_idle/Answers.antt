@@ -2,9 +2,9 @@ use Rattle.std.proofs.Common.{◌≡◌, ◌<◌, ◌+◌, suc, ℕ, List, get_o
 use Rattle.std.specs.List.{range_with_len}
 use Rattle.cfg_build.specs.Flow.{flow}
 use Rattle.cfg_build.specs.Joined.{FlowGraph, is_end}
-use Rattle.token_net.specs.declared.plan.Plan.{Plan}
-use Rattle.token_net.specs.Nodes.{graph_in, first_node}
-use Rattle.token_net.specs.PlanView.{net_in}
+use Rattle.net_board.specs.Nodes.{graph_in, first_node}
+use Rattle.token_net.specs.declared.program_parts.Plan.{Plan}
+use Rattle.token_net.specs.PartsView.{net_in}
 use Rattle.token_net.proofs.TableLemmas.{mapped_length, mapped_at, kind_told, idle_if, idle_unless}
 use Rattle.token_net.proofs.tables.is_idle.Goals as goal
 

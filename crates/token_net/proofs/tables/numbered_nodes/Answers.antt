@@ -1,7 +1,7 @@
 use Rattle.std.proofs.Common.{◌≡◌, ◌<◌, ◌^◌, ◌+◌, ◌++◌, List, length, ap, sym, ◌∙◌, arith}
 use Rattle.firing.specs.declared.system.NodeName.{NodeName}
-use Rattle.token_net.specs.Nodes.{nodes_at, nodes_below, first_node}
-use Rattle.token_net.specs.PlanView.{net_in}
+use Rattle.net_board.specs.Nodes.{nodes_at, nodes_below, first_node}
+use Rattle.token_net.specs.PartsView.{net_in}
 use Rattle.token_net.proofs.TableLemmas.{flat_map_next, mapped_more}
 use Rattle.token_net.proofs.tables.numbered_nodes.Goals as goal
 

@@ -2,9 +2,9 @@ use Rattle.std.proofs.Common.{◌≡◌, ◌<◌, true, false, ℕ, List, slice_
 use Rattle.closed_walks.specs.Graph.{Graph, to}
 use Rattle.cfg_build.specs.Joined.{FlowGraph}
 use Rattle.cfg_build.specs.Passes.{out, outs}
-use Rattle.token_net.specs.Nodes.{graph_in}
-use Rattle.token_net.specs.NetOrder.{is_idle}
-use Rattle.token_net.specs.PlanView.{net_in}
+use Rattle.net_board.specs.Nodes.{graph_in}
+use Rattle.net_board.specs.ControlCourse.{is_idle}
+use Rattle.token_net.specs.PartsView.{net_in}
 use Rattle.token_net.proofs.TableLemmas.{mapped_length, mapped_at, passed_if, passed_unless}
 use Rattle.token_net.proofs.tables.passed.Goals as goal
 

@@ -1,7 +1,7 @@
 use Rattle.std.proofs.Common.{◌&&◌, not, Bool, ap, ◌∙◌}
 use Rattle.class_set.specs.ClassSet.{holds}
-use Rattle.token_net.specs.Nodes.{is_free}
-use Rattle.token_net.specs.PlanView.{net_in}
+use Rattle.net_board.specs.Nodes.{is_free}
+use Rattle.token_net.specs.PartsView.{net_in}
 use Rattle.token_net.proofs.TableLemmas.{touches_at}
 use Rattle.token_net.proofs.tables.passing_lines.Goals as goal
 

@@ -1,8 +1,8 @@
 use Rattle.std.proofs.Common.{◌≡◌, ◌++◌, map, filter}
 use Rattle.std.specs.List.{range_with_len}
 use Rattle.firing.specs.declared.system.NodeName.TheVariants.{Merge}
-use Rattle.token_net.specs.Nodes.{is_free}
-use Rattle.token_net.specs.PlanView.{net_in}
+use Rattle.net_board.specs.Nodes.{is_free}
+use Rattle.token_net.specs.PartsView.{net_in}
 use Rattle.token_net.proofs.tables.push_merges.Given as goal
 
 abbrev pub invariant-loop-line : goal.invariant-loop-line

@@ -1,7 +1,7 @@
 use Rattle.std.proofs.Common.{◌≡◌, ◌<◌, ◌&&◌, not, ◌∙◌, sym, arith}
 use Rattle.firing.specs.declared.system.NodeName.TheVariants.{Switch}
-use Rattle.token_net.specs.Nodes.{is_free}
-use Rattle.token_net.specs.PlanView.{net_in}
+use Rattle.net_board.specs.Nodes.{is_free}
+use Rattle.token_net.specs.PartsView.{net_in}
 use Rattle.token_net.proofs.TableLemmas.{named_taken, named_skipped}
 use Rattle.token_net.proofs.tables.push_switches.Goals as goal
 use Rattle.token_net.proofs.tables.push_switches.Goals.{then-holds+in_ok-push, else-holds}

@@ -1,5 +1,5 @@
 use Rattle.std.proofs.Common.{◌<◌, ◌≤◌, ◌+◌, ◌-◌, ℕ, suc, All, Contains, vec_len, vec_capacity}
-use Rattle.token_net.specs.Waking.{Keeps}
+use Rattle.token_net.specs.WokenList.{Keeps}
 use Rattle.token_net.proofs.waking.wake_after.Given as goal
 
 abbrev pub invariant-loop-k : goal.invariant-loop-k

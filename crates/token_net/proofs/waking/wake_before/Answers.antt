@@ -1,10 +1,10 @@
 use Rattle.std.proofs.Common.{◌≡◌, ◌<◌, None, Some, sym, ap, ◌∙◌, subst, arith, rules}
 use Rattle.closed_walks.specs.Graph.{Graph, edge_count, to}
 use Rattle.cfg_build.specs.Joined.{FlowGraph}
-use Rattle.token_net.specs.BoardView.{net_on}
-use Rattle.token_net.specs.Nodes.{graph_in}
-use Rattle.token_net.specs.Standing.{edge_at}
-use Rattle.token_net.proofs.StandingLemmas.{read_edge}
+use Rattle.net_board.specs.Nodes.{graph_in}
+use Rattle.net_board.specs.TokenEdges.{edge_at}
+use Rattle.token_net.specs.LookupView.{net_on}
+use Rattle.token_net.proofs.TokenLineLemmas.{read_edge}
 use Rattle.token_net.proofs.WakeLoops.{next_has, next_past, next_lost}
 use Rattle.token_net.proofs.waking.wake_before.Goals as goal
 

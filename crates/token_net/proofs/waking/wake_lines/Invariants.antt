@@ -1,7 +1,8 @@
 use Rattle.std.proofs.Common.{◌<◌, ◌≤◌, ◌+◌, ℕ, All, get_or, vec_len, vec_capacity}
-use Rattle.token_net.specs.BoardView.{net_on}
-use Rattle.token_net.specs.Standing.{edge_at}
-use Rattle.token_net.specs.Waking.{HasNext, Keeps, no_node}
+use Rattle.net_board.specs.TokenEdges.{edge_at}
+use Rattle.net_board.specs.WokenNodes.{HasNext, no_node}
+use Rattle.token_net.specs.LookupView.{net_on}
+use Rattle.token_net.specs.WokenList.{Keeps}
 use Rattle.token_net.proofs.waking.wake_lines.Given as goal
 
 abbrev pub invariant-loop-line : goal.invariant-loop-line

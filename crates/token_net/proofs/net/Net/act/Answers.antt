@@ -2,18 +2,18 @@ use Rattle.std.proofs.Common.{◌≡◌, [], subst, sym, ap, ◌∙◌, arith}
 use Rattle.f77_meaning.specs.Storage.{memory_of}
 use Rattle.f77_meaning.specs.declared.storage.Storage.{Storage}
 use Rattle.cfg_build.specs.Passes.{Along, Traps, out}
+use Rattle.net_board.specs.SoundNets.{HasSizesOf}
+use Rattle.net_board.specs.ControlCourse.{edge_or}
+use Rattle.net_board.specs.Nodes.{graph_in}
+use Rattle.net_board.specs.Tokens.{acted, pass_at}
 use Rattle.token_net.specs.declared.pieces_run.Ran.{Ran}
-use Rattle.token_net.specs.Belonging.{HasSizesOf}
-use Rattle.token_net.specs.NetOrder.{edge_or}
 use Rattle.token_net.specs.NetView.{net_of, tokens_of}
-use Rattle.token_net.specs.Nodes.{graph_in}
 use Rattle.token_net.specs.PieceRuns.{KeepsStorage, going_on, told}
-use Rattle.token_net.specs.Tokens.{acted, pass_at}
 use Rattle.token_net.proofs.ActLemmas.{IsActing, act_named}
-use Rattle.token_net.proofs.BoardLemmas.{some_edge}
+use Rattle.token_net.proofs.LookupLemmas.{some_edge}
 use Rattle.token_net.proofs.FiredLemmas.{trap_answered}
 use Rattle.token_net.proofs.FiringLemmas.{acted_told, edge_told, edge_exists, trap_told}
-use Rattle.token_net.proofs.SteeringLemmas.{act_leads}
+use Rattle.token_net.proofs.ControlMoveLemmas.{act_leads}
 use Rattle.token_net.proofs.net.Net.act.Goals as goal
 
 pub run_on-ran-requires : goal.run_on-ran-requires

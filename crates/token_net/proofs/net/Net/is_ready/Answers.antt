@@ -1,8 +1,8 @@
 use Rattle.std.proofs.Common.{◌≡◌, ◌&&◌, Bool, is_some, Option, ℕ, sym, ap, ◌∙◌, arith, rules}
+use Rattle.net_board.specs.Tokens.{left_for, ready_as}
 use Rattle.token_net.specs.NetView.{net_of, tokens_of}
-use Rattle.token_net.specs.Tokens.{left_for, ready_as}
 use Rattle.token_net.proofs.ActLemmas.{IsActing, IsSwitching, IsMerging, act_named, switch_named, merge_named}
-use Rattle.token_net.proofs.StandingLemmas.{read_edge}
+use Rattle.token_net.proofs.TokenLineLemmas.{read_edge}
 use Rattle.token_net.proofs.net.Net.is_ready.Goals as goal
 
 pub can_act-requires : goal.can_act-requires

@@ -1,14 +1,14 @@
 use Rattle.std.proofs.Common.{◌≡◌, ◌<◌, ℕ, Some, length, vec_len, subst, sym, ap, ◌∙◌, arith, rules}
 use Rattle.closed_walks.specs.Graph.{edge_count}
 use Rattle.cfg_build.specs.Joined.{FlowGraph}
+use Rattle.net_board.specs.ControlPlaces.{Leads}
+use Rattle.net_board.specs.WokenNodes.{no_node}
+use Rattle.net_board.proofs.ListPlaces.{length_slice_set}
 use Rattle.token_net.specs.NetView.{net_of, tokens_of}
-use Rattle.token_net.specs.PlaceLaws.{length_slice_set}
-use Rattle.token_net.specs.Steering.{Leads}
-use Rattle.token_net.specs.Waking.{no_node}
 use Rattle.token_net.proofs.ActLemmas.{IsMerging, merge_named}
 use Rattle.token_net.proofs.FireShapes.{merge_woken}
-use Rattle.token_net.proofs.StandingLemmas.{led_stands, none_all}
-use Rattle.token_net.proofs.SteeringLemmas.{merge_leads}
+use Rattle.token_net.proofs.TokenLineLemmas.{led_stands, none_all}
+use Rattle.token_net.proofs.ControlMoveLemmas.{merge_leads}
 use Rattle.token_net.proofs.net.Net.merge.Goals as goal
 
 pub first_out-edge-requires : goal.first_out-edge-requires

@@ -4,12 +4,12 @@ use Rattle.f77_tree.specs.Execution.{Memory}
 use Rattle.f77_meaning.specs.Room.{most_room}
 use Rattle.f77_meaning.specs.Storage.{memory_of}
 use Rattle.dep_routing.specs.Touch.{touches_in}
-use Rattle.token_net.specs.declared.control.Control.{Control}
-use Rattle.token_net.specs.BoardView.{net_on}
-use Rattle.token_net.specs.Nodes.{NetOf, nodes_of}
-use Rattle.token_net.specs.Parts.{net_with}
-use Rattle.token_net.specs.Steering.{IsPlaced}
-use Rattle.token_net.proofs.MakingLemmas.{every_line, every_node, first_made, can_come, in_step}
+use Rattle.net_board.specs.declared.control.Control.{Control}
+use Rattle.net_board.specs.Nodes.{NetOf, nodes_of}
+use Rattle.net_board.specs.NetParts.{net_with}
+use Rattle.net_board.specs.ControlPlaces.{IsPlaced}
+use Rattle.token_net.specs.LookupView.{net_on}
+use Rattle.token_net.proofs.NewNetLemmas.{every_line, every_node, first_made, can_come, in_step}
 use Rattle.token_net.proofs.net.Net.new.Goals as goal
 
 pub invariant_of-result : goal.invariant_of-result

@@ -1,6 +1,6 @@
 use Rattle.std.proofs.Common.{◌≡◌, false, subst, sym, rules}
+use Rattle.net_board.specs.ControlPlaces.{Leads}
 use Rattle.token_net.specs.NetView.{net_of, tokens_of}
-use Rattle.token_net.specs.Steering.{Leads}
 use Rattle.token_net.proofs.FireShapes.{over_marking}
 use Rattle.token_net.proofs.net.Net.stop_or_go.Goals as goal
 

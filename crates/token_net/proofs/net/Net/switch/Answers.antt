@@ -1,15 +1,15 @@
 use Rattle.std.proofs.Common.{◌≡◌, ◌<◌, ℕ, None, Some, length, vec_len, ap, ◌∙◌, arith, rules}
 use Rattle.closed_walks.specs.Graph.{edge_count}
 use Rattle.cfg_build.specs.Joined.{FlowGraph}
+use Rattle.net_board.specs.Nodes.{graph_in}
+use Rattle.net_board.specs.Tokens.{left_for}
+use Rattle.net_board.specs.WokenNodes.{no_node}
+use Rattle.net_board.proofs.ListPlaces.{length_slice_set}
 use Rattle.token_net.specs.NetView.{net_of, tokens_of}
-use Rattle.token_net.specs.Nodes.{graph_in}
-use Rattle.token_net.specs.PlaceLaws.{length_slice_set}
-use Rattle.token_net.specs.Tokens.{left_for}
-use Rattle.token_net.specs.Waking.{no_node}
 use Rattle.token_net.proofs.ActLemmas.{IsSwitching, switch_named, first_below}
 use Rattle.token_net.proofs.FireShapes.{left_clash, switch_marking, switch_woken}
-use Rattle.token_net.proofs.StandingLemmas.{led_stands, none_all, read_edge}
-use Rattle.token_net.proofs.SteeringLemmas.{switch_leads}
+use Rattle.token_net.proofs.TokenLineLemmas.{led_stands, none_all, read_edge}
+use Rattle.token_net.proofs.ControlMoveLemmas.{switch_leads}
 use Rattle.token_net.proofs.net.Net.switch.Goals as goal
 
 pub first-first-requires : goal.first-first-requires

@@ -1,8 +1,8 @@
 use Rattle.std.proofs.Common.{sym, ◌∙◌}
 use Rattle.firing.specs.Moves.{CanFire}
 use Rattle.firing.specs.declared.system.NodeName.TheVariants.{Act, Merge, Switch}
+use Rattle.net_board.specs.Tokens.{net_moves}
 use Rattle.token_net.specs.NetView.{net_of, tokens_of}
-use Rattle.token_net.specs.Tokens.{net_moves}
 use Rattle.token_net.proofs.FiredLemmas.{named_wakes}
 use Rattle.token_net.proofs.net_system.NetStepSystem.fire.Goals as goal
 

@@ -1,0 +1,133 @@
+-- Control comes to a piece with nodes, or to the end.
+use Rattle.std.proofs.Common.{◌≡◌, ℕ, zero, suc, ◌+◌, ◌<◌, ◌≤◌, ◌⊎◌, ◌&&◌, ◌==◌, Bool, true, false, not, if◌then◌else◌, length, refl, sym, ap, ◌∙◌, subst, inl, inr, ⊎_elim, arith, eqb-true}
+use Rattle.std.proofs.lemmas.Bool.{cases_Bool, or_cases, false≢true}
+use Rattle.closed_walks.specs.Graph.{edge_count, from, to}
+use Rattle.closed_walks.specs.Reaching.{any_below, reaches_within}
+use Rattle.cfg_build.specs.declared.pieces.PieceKind.TheVariants as kind
+use Rattle.cfg_build.specs.Joined.{is_end, finish}
+use Rattle.cfg_build.specs.Passes.{out}
+use Rattle.cfg_build.specs.Shape.{leaves_one}
+use Rattle.net_board.specs.SoundNets.{IsNet}
+use Rattle.net_board.specs.FlowFacts.{FlowFacts, IsNearEnd}
+use Rattle.net_board.specs.ControlCourse.{is_idle, passed, passed_by, arrival}
+use Rattle.net_board.specs.Nodes.{NetOf, graph_in, kind_in, nodes_by}
+use Rattle.net_board.proofs.ListPlaces.{left_of, right_of}
+use Rattle.net_board.proofs.ControlWays.{idle_leaves_one}
+
+-- ---- past idle pieces one by one
+
+abbrev passed_times : NetOf → (times edge : ℕ) → ℕ
+passed_times net zero edge = edge
+passed_times net (suc n) edge = passed_times net n (passed net edge)
+
+times_add : (net : NetOf) (a b edge : ℕ) → passed_times net (a + b) edge ≡ passed_times net b (passed_times net a edge)
+times_add net zero b edge = ap (λ (n : ℕ). passed_times net n edge) zero_plus
+  where
+    zero_plus : 0 + b ≡ b
+    zero_plus = omega arith
+times_add net (suc a) b edge = ap (λ (n : ℕ). passed_times net n edge) suc_plus ∙ times_add net a b (passed net edge)
+  where
+    suc_plus : suc a + b ≡ suc (a + b)
+    suc_plus = omega arith
+
+abbrev doubled : ℕ → ℕ
+doubled zero = 1
+doubled (suc k) = doubled k + doubled k
+
+by_times : (net : NetOf) (k edge : ℕ) → passed_by k net edge ≡ passed_times net (doubled k) edge
+unfolding passed_by
+by_times net zero edge = refl
+by_times net (suc k) edge =
+    by_times net k (passed_by k net edge)
+    ∙ ap (passed_times net (doubled k)) (by_times net k edge)
+    ∙ sym (times_add net (doubled k) (doubled k) edge)
+
+-- ---- a test of some number
+
+pub record IsOne (k : ℕ) (test : ℕ → Bool) : Type 0 where
+  pub one : ℕ
+  pub below : one < k
+  pub passes : test one ≡ true
+
+one_below : (k : ℕ) (test : ℕ → Bool) → any_below k test ≡ true → IsOne k test
+one_below zero test is = absurd (false≢true is)
+one_below (suc k) test is = ⊎_elim
+    (λ (h : any_below k test ≡ true). let r : IsOne k test = one_below k test h in let low = r.below in record { one = r.one; below = omega (arith, low); passes = r.passes })
+    (λ (h : test k ≡ true). record { one = k; below = omega arith; passes = h })
+    (or_cases (any_below k test) (test k) is)
+
+module _ (net : NetOf) (is_net : IsNet net) (ground : FlowFacts net is_net.tree) where
+  passed_busy : (edge : ℕ) → is_idle net (to (graph_in net) edge) ≡ false → passed net edge ≡ edge
+  passed_busy edge busy = ap (λ (b : Bool). if b then out (graph_in net) (to (graph_in net) edge) 0 else edge) busy
+
+  stays_busy : (n edge : ℕ) → is_idle net (to (graph_in net) edge) ≡ false → passed_times net n edge ≡ edge
+  stays_busy zero edge busy = refl
+  stays_busy (suc n) edge busy = ap (passed_times net n) (passed_busy edge busy) ∙ stays_busy n edge busy
+
+  abbrev IsBusyAt : ℕ → Type 0
+  IsBusyAt edge = is_idle net (to (graph_in net) edge) ≡ false
+
+  end_busy : (edge : ℕ) → edge < edge_count (graph_in net) → to (graph_in net) edge ≡ finish net.program.execs → IsBusyAt edge
+  end_busy edge inside is =
+      let piece = to (graph_in net) edge in
+      let end_kind : kind_in net piece ≡ kind.End = (ground.shape.end piece (ground.heads edge inside)).1 is in
+      ap (λ k. (length (nodes_by net piece k) == 0) && not (is_end k)) end_kind ∙ and_false (length (nodes_by net piece kind.End) == 0)
+    where
+      and_false : (b : Bool) → (b && false) ≡ false
+      and_false true = refl
+      and_false false = refl
+
+  busy_after : (most n edge : ℕ) → most ≤ n → edge < edge_count (graph_in net) → reaches_within most (graph_in net) (to (graph_in net) edge) (finish net.program.execs) ≡ true → IsBusyAt (passed_times net n edge)
+  busy_after zero n edge few inside reached =
+      let busy = end_busy edge inside (eqb-true (to (graph_in net) edge) (finish net.program.execs) reached) in
+      subst IsBusyAt (sym (stays_busy n edge busy)) busy
+  busy_after (suc most) zero edge few inside reached = absurd (omega (arith, few))
+  busy_after (suc most) (suc n) edge few inside reached = by (λ next exists within. busy_after most n next (omega (arith, few)) exists within) (cases_Bool (is_idle net (to (graph_in net) edge)))
+    where
+      on : (next : ℕ) → (next < edge_count (graph_in net) → reaches_within most (graph_in net) (to (graph_in net) next) (finish net.program.execs) ≡ true → IsBusyAt (passed_times net n next)) → IsOne (edge_count (graph_in net)) (λ e. (from (graph_in net) e == to (graph_in net) edge) && reaches_within most (graph_in net) (to (graph_in net) e) (finish net.program.execs)) → is_idle net (to (graph_in net) edge) ≡ true → next ≡ out (graph_in net) (to (graph_in net) edge) 0 → IsBusyAt (passed_times net n next)
+      on next later found idle is =
+          let piece = to (graph_in net) edge in
+          let begins : from (graph_in net) found.one ≡ piece = eqb-true (from (graph_in net) found.one) piece (left_of (from (graph_in net) found.one == piece) (reaches_within most (graph_in net) (to (graph_in net) found.one) (finish net.program.execs)) found.passes) in
+          let within = right_of (from (graph_in net) found.one == piece) (reaches_within most (graph_in net) (to (graph_in net) found.one) (finish net.program.execs)) found.passes in
+          let one_way : leaves_one (kind_in net (from (graph_in net) found.one)) ≡ true = ap (λ (x : ℕ). leaves_one (kind_in net x)) begins ∙ idle_leaves_one net piece (kind_in net piece) idle in
+          let same : found.one ≡ next = ground.one_out found.one found.below one_way ∙ ap (λ (x : ℕ). out (graph_in net) x 0) begins ∙ sym is in
+          later (subst (λ (x : ℕ). x < edge_count (graph_in net)) same found.below) (subst (λ (x : ℕ). reaches_within most (graph_in net) (to (graph_in net) x) (finish net.program.execs) ≡ true) same within)
+
+      by : ((next : ℕ) → next < edge_count (graph_in net) → reaches_within most (graph_in net) (to (graph_in net) next) (finish net.program.execs) ≡ true → IsBusyAt (passed_times net n next)) → (is_idle net (to (graph_in net) edge) ≡ true) ⊎ IsBusyAt edge → IsBusyAt (passed_times net (suc n) edge)
+      by later (inr busy) = subst IsBusyAt (sym (stays_busy (suc n) edge busy)) busy
+      by later (inl idle) = ⊎_elim
+          (λ (h : (to (graph_in net) edge == finish net.program.execs) ≡ true).
+          let busy = end_busy edge inside (eqb-true (to (graph_in net) edge) (finish net.program.execs) h) in
+          subst IsBusyAt (sym (stays_busy (suc n) edge busy)) busy)
+          (λ h.
+          let found = one_below (edge_count (graph_in net)) (λ e. (from (graph_in net) e == to (graph_in net) edge) && reaches_within most (graph_in net) (to (graph_in net) e) (finish net.program.execs)) h in
+          let step : passed net edge ≡ out (graph_in net) (to (graph_in net) edge) 0 = ap (λ (b : Bool). if b then out (graph_in net) (to (graph_in net) edge) 0 else edge) idle in
+          on (passed net edge) (later (passed net edge)) found idle step)
+          (or_cases (to (graph_in net) edge == finish net.program.execs) (any_below (edge_count (graph_in net)) (λ e. (from (graph_in net) e == to (graph_in net) edge) && reaches_within most (graph_in net) (to (graph_in net) e) (finish net.program.execs))) reached)
+
+  busy_by : (k edge : ℕ) → 262144 ≤ doubled k → edge < edge_count (graph_in net) → IsBusyAt (passed_by k net edge)
+  busy_by k edge enough inside =
+      let near : IsNearEnd (graph_in net) (to (graph_in net) edge) (finish net.program.execs) = ground.near_end (to (graph_in net) edge) (ground.heads edge inside) in
+      let few = near.few in
+      subst IsBusyAt (sym (by_times net k edge)) (busy_after near.most (doubled k) edge (omega (arith, few, enough)) inside near.reached)
+
+  pub arrival_busy : (edge : ℕ) → edge < edge_count (graph_in net) → is_idle net (arrival net edge) ≡ false
+  arrival_busy edge inside = busy_by 18 edge (omega arith) inside
+
+  -- control that comes to a piece with nodes, or to the end, comes no farther
+  pub arrived_busy : (k edge : ℕ) → is_idle net (to (graph_in net) edge) ≡ false → passed_by k net edge ≡ edge
+  arrived_busy k edge busy = by_times net k edge ∙ stays_busy (doubled k) edge busy
+
+  past_by : (k edge : ℕ) → 262144 ≤ doubled k → edge < edge_count (graph_in net) → passed_by k net (passed net edge) ≡ passed_by k net edge
+  past_by k edge enough inside =
+      let one_more : suc (doubled k) ≡ doubled k + 1 = omega arith in
+      let busy : IsBusyAt (passed_times net (doubled k) edge) = subst IsBusyAt (by_times net k edge) (busy_by k edge enough inside) in
+      by_times net k (passed net edge)
+      ∙ ap (λ (n : ℕ). passed_times net n edge) one_more
+      ∙ times_add net (doubled k) 1 edge
+      ∙ passed_busy (passed_times net (doubled k) edge) busy
+      ∙ sym (by_times net k edge)
+
+  -- past an idle piece control comes to the same place
+  pub arrival_past : (edge : ℕ) → edge < edge_count (graph_in net) → passed_by 18 net (passed net edge) ≡ passed_by 18 net edge
+  arrival_past edge inside = past_by 18 edge (omega arith) inside

@@ -1,0 +1,16 @@
+pub mod Members
+pub mod Nodes
+pub mod Tokens
+pub mod ControlCourse
+pub mod WithinPiece
+pub mod ProgramFacts
+pub mod SoundNets
+pub mod FlowFacts
+pub mod NetLockstep
+pub mod Footprints
+pub mod OwnOrder
+pub mod ProgramStages
+pub mod NetParts
+pub mod TokenEdges
+pub mod ControlPlaces
+pub mod WokenNodes

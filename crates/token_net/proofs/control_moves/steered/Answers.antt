@@ -1,0 +1,11 @@
+use Rattle.std.proofs.Common.{◌≡◌, Some, sym, ◌∙◌, rules}
+use Rattle.net_board.specs.ControlCourse.{due_node}
+use Rattle.token_net.specs.LookupView.{net_on}
+use Rattle.token_net.proofs.ActLemmas.{steered_if}
+use Rattle.token_net.proofs.control_moves.steered.Goals as goal
+
+pub returns-in-Some-clause-steered : goal.returns-in-Some-clause-steered
+returns-in-Some-clause-steered g c = λ m leads.
+    let same : c.due_at.result ≡ Some c.args.k = search rules in
+    let due : due_node (net_on c.args.board.now) c.in-Some.c ≡ Some c.args.k = sym c.due_at.ensures ∙ same in
+    steered_if (net_on c.args.board.now) m c.args.control c.in-Some.c c.moved_on.result c.args.k c.in-Some.is due (c.moved_on.ensures.moved m (λ none. leads c.in-Some.c (c.requires.placed c.in-Some.c c.in-Some.is) due none))

@@ -1,5 +1,0 @@
-use Rattle.token_net.proofs.PartsLemmas.{net_made}
-use Rattle.token_net.proofs.laws.parts_make_nets.Goals as goal
-
-pub returns : goal.returns
-returns c = net_made c.well_formed_programs_can_run.ensures c.touches_are_sound.ensures

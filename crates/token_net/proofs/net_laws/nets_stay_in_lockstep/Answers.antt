@@ -1,9 +1,0 @@
-use Rattle.token_net.specs.LockstepLaws.{keeps_step}
-use Rattle.token_net.specs.RestLaws.{source_order}
-use Rattle.token_net.proofs.net_laws.nets_stay_in_lockstep.Goals as goal
-
-pub returns-clause-steady : goal.returns-clause-steady
-returns-clause-steady c = λ net. keeps_step net
-
-pub returns-clause-ordered : goal.returns-clause-ordered
-returns-clause-ordered c = λ net. source_order net

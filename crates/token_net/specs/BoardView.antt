@@ -1,9 +1,0 @@
--- What contracts see of a board.
-use Rattle.std.specs.Prelude.{ℕ}
-use Rattle.token_net.specs.declared.board.Board.{Board}
-use Rattle.token_net.specs.Nodes.{NetOf}
-use Rattle.token_net.specs.PlanView.{net_in}
-
-module _ {W : ℕ} where
-  abbrev pub net_on : Board W → NetOf
-  net_on board = net_in board.plan
