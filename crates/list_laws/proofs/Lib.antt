@@ -1,0 +1,4 @@
+pub mod Counts
+pub mod KeyPlaces
+pub mod Members
+pub mod Ranges
