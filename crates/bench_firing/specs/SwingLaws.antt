@@ -5,14 +5,7 @@ use Rattle.std.proofs.lemmas.List.{set_comm, get_or-set_other}
 use Rattle.firing.specs.Laws.{IsLawful}
 use Rattle.firing.specs.Marks.{Wakes}
 use Rattle.bench_firing.specs.Swinging.{Pairs, has_token, is_ready, after_node, other_node, swing_moves, has_pairs}
-
-right_true : (a b : Bool) → (a && b) ≡ true → b ≡ true
-right_true true b is = is
-right_true false b is = absurd cc
-
-left_true : (a b : Bool) → (a && b) ≡ true → a ≡ true
-left_true true b is = refl
-left_true false b is = absurd cc
+use Rattle.std.proofs.lemmas.Bool.{and_parts}
 
 -- the two nodes of a pair don't both have the token
 not_both : (even a b : Bool) → a ≢ b → (if a then even else not even) ≡ true → (if b then even else not even) ≡ true → ⊥
@@ -35,8 +28,8 @@ same_parity j k is = ⊎_elim
 module _ (pairs : Pairs) where
   apart : (m : List Bool) (j k : ℕ) → j ≢ k → is_ready pairs m j ≡ true → is_ready pairs m k ≡ true → j / 2 ≢ k / 2
   apart m j k differ first second same =
-      let token_j = right_true (nat_le pairs.first (j / 2)) (has_token (get_or m (j / 2) false) j) first in
-      let token_k = right_true (nat_le pairs.first (k / 2)) (has_token (get_or m (k / 2) false) k) second in
+      let token_j = (and_parts (nat_le pairs.first (j / 2)) (has_token (get_or m (j / 2) false) j) first).1 in
+      let token_k = (and_parts (nat_le pairs.first (k / 2)) (has_token (get_or m (k / 2) false) k) second).1 in
       let here : has_token (get_or m (k / 2) false) j ≡ true = ap (λ h. has_token (get_or m h false) j) (sym same) ∙ token_j in
       not_both (get_or m (k / 2) false) (nat_eq (j % 2) 0) (nat_eq (k % 2) 0) (λ e. let p = same_parity j k e in differ (omega (arith, same, p))) here token_k
 

@@ -20,7 +20,7 @@ use Rattle.cfg_build.specs.declared.pieces.PieceKind.{PieceKind}
 use Rattle.cfg_build.specs.declared.pieces.PieceKind.TheVariants as piece
 use Rattle.cfg_build.specs.Parts.{part, parts_of}
 use Rattle.cfg_build.specs.Passes.{choice}
-use Rattle.cfg_build.proofs.Members.{Member}
+use Rattle.list_laws.specs.Member.{Member}
 use Rattle.cfg_build.proofs.PassOutcomes.{sign_below, picked-le}
 
 -- a number below this one, or a trap

@@ -8,10 +8,11 @@ use Rattle.closed_walks.specs.Graph.{Graph, IsGraph, edge_count, from, to}
 use Rattle.closed_walks.specs.Reaching.{reaches}
 use Rattle.cfg_build.specs.Holds.{is_on_cycle, reaches_lower_cycle, is_held}
 use Rattle.cfg_build.specs.Tables.{is_entered_from_above, ReachesOne, Leaves, AreHeldBelow}
-use Rattle.cfg_build.proofs.Members.{Member, IsAt, at_of, Member-at, Member-filter, Member-filtered, Member-range, Member-in_range, list_any_member, IsPassed, member_of_list_any}
-use Rattle.cfg_build.proofs.PartOrder.{range_more}
+use Rattle.list_laws.specs.Member.{Member}
+use Rattle.list_laws.proofs.Members.{IsAt, at_of, Member-at, Member-filter, Member-filtered, Member-range, Member-in_range, list_any_member, IsPassed, member_of_list_any}
 use Rattle.cfg_build.proofs.Lowest.{is_on_cycle_from, IsHeldBy, held_says}
 use Rattle.cfg_build.proofs.ReachedNodes.{IsTold, Reaches, stay, join, along, along_last, kept}
+use Rattle.list_laws.proofs.Ranges.{range_last}
 
 -- two tests that pass alike are the same
 pub same_Bool : (a b : Bool) → (a ≡ true → b ≡ true) → (b ≡ true → a ≡ true) → a ≡ b
@@ -151,7 +152,7 @@ module _ (told : IsTold) (g : Graph) (sound : IsGraph g) (finish : ℕ) (finish_
   filter_more x =
       let next : x + 1 ≡ suc x = omega arith in
       let at : 0 + x ≡ x = omega arith in
-      ap below next ∙ ap (filter (is_held g finish)) (range_more 0 x ∙ ap (λ n. range_with_len 0 x ++ n ∷ []) at) ∙ filter-append (is_held g finish) (range_with_len 0 x) (x ∷ [])
+      ap below next ∙ ap (filter (is_held g finish)) (range_last 0 x ∙ ap (λ n. range_with_len 0 x ++ n ∷ []) at) ∙ filter-append (is_held g finish) (range_with_len 0 x) (x ∷ [])
 
   pub none_more : (x : ℕ) (held : List ℕ) (marks : List Bool) → is_held g finish x ≡ false → AreHeldBelow g finish x held marks → AreHeldBelow g finish (x + 1) held marks
   none_more x held marks not_held before = record {

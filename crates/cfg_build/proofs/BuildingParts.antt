@@ -12,12 +12,7 @@ use Rattle.f77_tree.specs.declared.programs.ExecKind.TheVariants.{DoNext}
 use Rattle.f77_tree.specs.Loops.{Loop, AreLoops, IsLoop, begun, begun_in, begun_at, incremented, incremented_in, do_start}
 use Rattle.cfg_build.specs.Control.{is_reached}
 use Rattle.cfg_build.specs.Parts.{parts_in, reached_parts}
-
-pub range_more : (k : ℕ) → range_with_len 0 (k + 1) ≡ range_with_len 0 k ++ k ∷ []
-range_more k =
-    sym (map-id (range_with_len 0 (k + 1)))
-    ∙ map-range_with_len_more (λ (x : ℕ). x) 0 k k (omega arith)
-    ∙ ap (λ (xs : List ℕ). xs ++ k ∷ []) (map-id (range_with_len 0 k))
+use Rattle.list_laws.proofs.Ranges.{range_more}
 
 pub flat_map-range_more : {X : Type 0} (f : ℕ → List X) (k : ℕ) → flat_map f (range_with_len 0 (k + 1)) ≡ flat_map f (range_with_len 0 k) ++ f k
 flat_map-range_more f k =

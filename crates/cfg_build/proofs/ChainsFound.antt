@@ -16,7 +16,7 @@ use Rattle.cfg_build.specs.Parts.{part, parts, parts_of, end_part, last_of, line
 use Rattle.cfg_build.specs.Flow.{flow}
 use Rattle.cfg_build.specs.Chains.{entry, has_test, following, chain}
 use Rattle.cfg_build.specs.Routes.{holds_in, last_kind, owner, AreChain}
-use Rattle.cfg_build.proofs.Members.{Member}
+use Rattle.list_laws.specs.Member.{Member}
 use Rattle.cfg_build.proofs.ReachedNodes.{IsTold}
 use Rattle.cfg_build.proofs.Lowest.{IsMet}
 use Rattle.cfg_build.proofs.PartOrder.{length_is}

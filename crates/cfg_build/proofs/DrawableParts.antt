@@ -21,7 +21,8 @@ use Rattle.cfg_build.specs.Joined.{is_same}
 use Rattle.cfg_build.specs.Tables.{IsOf, AreParts}
 use Rattle.cfg_build.proofs.BuildingParts.{reached_parts-yes, reached_parts-no}
 use Rattle.cfg_build.proofs.JoinedGraph.{IsPartAt, place_of_part}
-use Rattle.cfg_build.proofs.Members.{Member, Member-at}
+use Rattle.list_laws.specs.Member.{Member}
+use Rattle.list_laws.proofs.Members.{Member-at}
 use Rattle.cfg_build.proofs.PartOrder.{parts_apart, length_is}
 use Rattle.cfg_build.proofs.PartsFound.{IsWay, To, Begins, Increments, ways_in, IsExecPart, cases_part, way_leads}
 use Rattle.cfg_build.proofs.PieceNumbers.{part_at}

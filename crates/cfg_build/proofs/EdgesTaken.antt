@@ -16,7 +16,8 @@ use Rattle.cfg_build.specs.Parts.{parts, start_part, end_part}
 use Rattle.cfg_build.specs.Joined.{rows, finish, is_joined, number}
 use Rattle.cfg_build.specs.Flow.{flow, held, piece_at}
 use Rattle.cfg_build.specs.Passes.{outs, out, choice, kind_in}
-use Rattle.cfg_build.proofs.Members.{Member, Member-at, Member-filter, Member-filtered, Member-range, Member-in_range}
+use Rattle.list_laws.specs.Member.{Member}
+use Rattle.list_laws.proofs.Members.{Member-at, Member-filter, Member-filtered, Member-range, Member-in_range}
 use Rattle.cfg_build.proofs.ReachedNodes.{IsTold, IsEdge}
 use Rattle.cfg_build.proofs.Lowest.{IsMet}
 use Rattle.cfg_build.proofs.JoinedGraph.{row_graph, heads_at, heads_of_part}

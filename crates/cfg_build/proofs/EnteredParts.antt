@@ -11,7 +11,8 @@ use Rattle.cfg_build.specs.Joined.{finish}
 use Rattle.cfg_build.specs.Holds.{is_join}
 use Rattle.cfg_build.specs.Flow.{held, piece_at}
 use Rattle.cfg_build.specs.Chains.{hold_of, is_after_hold}
-use Rattle.cfg_build.proofs.Members.{Member, IsAt, at_of, list_any_member, IsPassed, member_of_list_any, Member-at}
+use Rattle.list_laws.specs.Member.{Member}
+use Rattle.list_laws.proofs.Members.{IsAt, at_of, list_any_member, IsPassed, member_of_list_any, Member-at}
 use Rattle.cfg_build.proofs.ReachedNodes.{IsTold, stay}
 use Rattle.cfg_build.proofs.JoinedGraph.{row_graph}
 use Rattle.cfg_build.proofs.JoinedDegrees.{one_comes}

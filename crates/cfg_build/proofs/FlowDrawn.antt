@@ -31,7 +31,7 @@ use Rattle.cfg_build.proofs.FlowEdges.{after}
 use Rattle.cfg_build.proofs.HeldEdges.{edge_for}
 use Rattle.cfg_build.proofs.JoinedGraph.{IsPartAt, place_of_part}
 use Rattle.cfg_build.proofs.Lowest.{IsMet}
-use Rattle.cfg_build.proofs.Members.{Member-at, Member-filtered, Member-in_range}
+use Rattle.list_laws.proofs.Members.{Member-at, Member-filtered, Member-in_range}
 use Rattle.cfg_build.proofs.PartsFound.{member_end}
 use Rattle.cfg_build.proofs.PieceNumbers.{length_rows}
 use Rattle.cfg_build.proofs.ReachedNodes.{IsTold}

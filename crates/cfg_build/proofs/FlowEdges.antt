@@ -14,7 +14,8 @@ use Rattle.cfg_build.specs.Holds.{is_held}
 use Rattle.cfg_build.specs.Flow.{flow, held, piece_at}
 use Rattle.cfg_build.specs.Passes.{outs, out}
 use Rattle.cfg_build.specs.Chains.{hold_of}
-use Rattle.cfg_build.proofs.Members.{Member, Member-at, Member-filtered, Member-in_range}
+use Rattle.list_laws.specs.Member.{Member}
+use Rattle.list_laws.proofs.Members.{Member-at, Member-filtered, Member-in_range}
 use Rattle.cfg_build.proofs.OutEdges.{filter_none, filter_same, filter_row, range_split, first_out, IsOut, out_is}
 use Rattle.cfg_build.proofs.ReachedNodes.{IsTold}
 use Rattle.cfg_build.proofs.JoinedGraph.{row_graph, heads_at}

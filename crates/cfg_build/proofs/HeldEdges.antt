@@ -14,7 +14,8 @@ use Rattle.cfg_build.specs.Holds.{is_held, is_join, held_edge}
 use Rattle.cfg_build.specs.Flow.{piece_at}
 use Rattle.cfg_build.specs.Degrees.{in_degree}
 use Rattle.cfg_build.proofs.JoinedGraph.{row_graph, edge_zero}
-use Rattle.cfg_build.proofs.Counts.{count_unique, comes_to, leaves_from}
+use Rattle.list_laws.proofs.Counts.{count_unique}
+use Rattle.cfg_build.proofs.FanCounts.{comes_to, leaves_from}
 use Rattle.cfg_build.proofs.PieceKinds.{pieces_of}
 use Rattle.cfg_build.proofs.ReachedNodes.{IsTold, Reaches, IsEdge, stay, along}
 use Rattle.cfg_build.proofs.ReachedPieces.{joined_sound, leaves_piece}

@@ -9,8 +9,10 @@ use Rattle.cfg_build.specs.Joined.{FlowGraph}
 use Rattle.cfg_build.specs.Holds.{with_hold}
 use Rattle.cfg_build.specs.Flow.{piece_at}
 use Rattle.cfg_build.specs.Degrees.{in_degree, out_degree}
-use Rattle.cfg_build.proofs.Members.{Member, IsAt, at_of}
-use Rattle.cfg_build.proofs.Counts.{bit, bit_true, bit_false, count-cons, count-append, count-set, count_zero, comes_to, leaves_from}
+use Rattle.list_laws.specs.Member.{Member}
+use Rattle.list_laws.proofs.Members.{IsAt, at_of}
+use Rattle.list_laws.proofs.Counts.{bit, bit_true, bit_false, count-cons, count-append, count-set, count_zero}
+use Rattle.cfg_build.proofs.FanCounts.{comes_to, leaves_from}
 use Rattle.cfg_build.proofs.HoldSteps.{hold_graph, hold_sound, more_edges}
 use Rattle.cfg_build.proofs.HeldEdges.{IsHoldEdge}
 

@@ -5,7 +5,7 @@ use Rattle.closed_walks.specs.Graph.{Graph, IsGraph, edge_count, from, to}
 use Rattle.cfg_build.specs.declared.pieces.Piece.{Piece}
 use Rattle.cfg_build.specs.Joined.{FlowGraph}
 use Rattle.cfg_build.specs.Holds.{with_hold}
-use Rattle.cfg_build.proofs.Members.{Member}
+use Rattle.list_laws.specs.Member.{Member}
 use Rattle.cfg_build.proofs.ReachedNodes.{Reaches, join, along}
 use Rattle.cfg_build.proofs.HeldEdges.{IsHoldEdge}
 use Rattle.cfg_build.proofs.HoldSteps.{hold_graph, more_edges, from_old, to_other, to_hold, leaves, reach_kept, hold_sound}

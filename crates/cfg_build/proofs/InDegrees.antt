@@ -9,13 +9,15 @@ use Rattle.cfg_build.specs.Parts.{start_part}
 use Rattle.cfg_build.specs.Joined.{Row, is_same, is_joined, width, number, ways_to, join_row, part_row, rows_of}
 use Rattle.cfg_build.specs.Degrees.{in_degree}
 use Rattle.cfg_build.specs.Control.{fan}
-use Rattle.cfg_build.proofs.Members.{Member, IsAt, at_of, Member-at}
+use Rattle.list_laws.specs.Member.{Member}
+use Rattle.list_laws.proofs.Members.{IsAt, at_of, Member-at}
 use Rattle.cfg_build.proofs.Places.{begins_before}
 use Rattle.cfg_build.proofs.PartOrder.{AreApart, is_same_itself, not_same}
 use Rattle.cfg_build.proofs.PartsFound.{HasPart}
 use Rattle.cfg_build.proofs.PieceNumbers.{part_at, first_piece, number_is, some_width}
 use Rattle.cfg_build.proofs.JoinedGraph.{heads_in, row_graph, IsPartAt, place_of_part, number_of}
-use Rattle.cfg_build.proofs.Counts.{bit, bit_true, bit_false, count-cons, count_same, count_zero, count-map, count-flat_map, sum_same, sum_at, comes_to, heads_to, heads_of_fan}
+use Rattle.list_laws.proofs.Counts.{bit, bit_true, bit_false, count-cons, count_same, count_zero, count-map, count-flat_map, sum_same, sum_at}
+use Rattle.cfg_build.proofs.FanCounts.{comes_to, heads_to, heads_of_fan}
 
 module _ (ps : List Part) (y : ℕ) where
   -- how many edges come to y from the pieces of a part

@@ -16,11 +16,13 @@ use Rattle.cfg_build.specs.Joined.{is_same, is_end, is_joined, ways_to, rows, fi
 use Rattle.cfg_build.specs.Holds.{is_join}
 use Rattle.cfg_build.specs.Flow.{piece_at}
 use Rattle.cfg_build.specs.Degrees.{in_degree}
-use Rattle.cfg_build.proofs.Members.{Member, IsFromOne, Member-flat_mapped, Member-at}
+use Rattle.list_laws.specs.Member.{Member}
+use Rattle.list_laws.proofs.Members.{IsFromOne, Member-flat_mapped, Member-at}
 use Rattle.cfg_build.proofs.PieceNumbers.{part_at, first_piece, own_piece, joins, IsPieceOf, piece_of}
 use Rattle.cfg_build.proofs.PartsFound.{IsWay, To, Begins, Increments, ways_in, IsExecPart, cases_part}
 use Rattle.cfg_build.proofs.JoinedGraph.{row_graph}
-use Rattle.cfg_build.proofs.Counts.{bit, bit_true, bit_false, count_zero, count_some, comes_to}
+use Rattle.list_laws.proofs.Counts.{bit, bit_true, bit_false, count_zero, count_some}
+use Rattle.cfg_build.proofs.FanCounts.{comes_to}
 use Rattle.cfg_build.proofs.InDegrees.{same_first, in_degree_first, in_degree_joined}
 use Rattle.cfg_build.proofs.PieceKinds.{IsExecKind, cases_kind, pieces_of, join_kind}
 use Rattle.cfg_build.proofs.ReachedPieces.{apart, leads, end_piece, reached_piece}

@@ -8,7 +8,8 @@ use Rattle.cfg_build.specs.Control.{fan}
 use Rattle.cfg_build.specs.Parts.{start_part}
 use Rattle.cfg_build.specs.Joined.{Row, is_joined, number, join_row, part_row, rows}
 use Rattle.cfg_build.proofs.Fans.{places_before, get_or-fan, fan_below, IsInFan, cases_fan}
-use Rattle.cfg_build.proofs.Members.{Member, IsAt, at_of, Member-at, Member-map, IsImage, Member-mapped}
+use Rattle.list_laws.specs.Member.{Member}
+use Rattle.list_laws.proofs.Members.{IsAt, at_of, Member-at, Member-map, IsImage, Member-mapped}
 use Rattle.cfg_build.proofs.PieceNumbers.{part_at, first_piece, own_piece, joins, number_is, row_of_join, row_of_part, own_below, first_below, IsPieceOf, piece_of}
 use Rattle.cfg_build.proofs.PartOrder.{AreApart}
 use Rattle.cfg_build.proofs.PartsFound.{HasPart}

@@ -18,7 +18,8 @@ use Rattle.cfg_build.specs.Flow.{flow, piece_at}
 use Rattle.cfg_build.specs.Passes.{out}
 use Rattle.cfg_build.specs.Chains.{entry}
 use Rattle.cfg_build.specs.Routes.{IsRoute, IsMade, IsLast, last_kind, owner}
-use Rattle.cfg_build.proofs.Members.{Member, IsAt, at_of, Member-at}
+use Rattle.list_laws.specs.Member.{Member}
+use Rattle.list_laws.proofs.Members.{IsAt, at_of, Member-at}
 use Rattle.cfg_build.proofs.ReachedNodes.{IsTold}
 use Rattle.cfg_build.proofs.JoinedGraph.{heads_at, heads_of_part, number_of}
 use Rattle.cfg_build.proofs.Lowest.{IsMet}

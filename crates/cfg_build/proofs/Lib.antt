@@ -6,7 +6,7 @@ pub mod BuildingParts
 pub mod BuildingRows
 pub mod BuildingTables
 pub mod ControlGraph
-pub mod Counts
+pub mod FanCounts
 pub mod DrawableParts
 pub mod EdgeLoops
 pub mod EndNumber
@@ -21,7 +21,6 @@ pub mod InDegrees
 pub mod JoinedDegrees
 pub mod JoinedGraph
 pub mod Lowest
-pub mod Members
 pub mod OutDegrees
 pub mod OutEdges
 pub mod PartOrder

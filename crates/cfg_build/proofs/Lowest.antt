@@ -6,7 +6,7 @@ use Rattle.closed_walks.specs.Graph.{Graph, IsGraph, edge_count, from, to}
 use Rattle.closed_walks.specs.Endless.{GoesOn, MeetsCycle}
 use Rattle.closed_walks.specs.Reaching.{reaches}
 use Rattle.cfg_build.specs.Holds.{is_on_cycle, reaches_lower_cycle, is_held}
-use Rattle.cfg_build.proofs.Members.{IsAt, at_of, Member-at, Member-range, Member-in_range, list_any_member, IsPassed, member_of_list_any}
+use Rattle.list_laws.proofs.Members.{IsAt, at_of, Member-at, Member-range, Member-in_range, list_any_member, IsPassed, member_of_list_any}
 use Rattle.cfg_build.proofs.ReachedNodes.{IsTold, Reaches, join, kept}
 
 -- what the law on ways that go on says

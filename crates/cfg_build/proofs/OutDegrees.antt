@@ -16,11 +16,12 @@ use Rattle.cfg_build.specs.Joined.{is_end, is_joined, ways_to, number, rows, fin
 use Rattle.cfg_build.specs.Flow.{piece_at}
 use Rattle.cfg_build.specs.Degrees.{out_degree}
 use Rattle.cfg_build.specs.Shape.{leaves_one}
-use Rattle.cfg_build.proofs.Members.{Member-at, IsAt, at_of}
+use Rattle.list_laws.proofs.Members.{Member-at, IsAt, at_of}
 use Rattle.cfg_build.proofs.PieceNumbers.{part_at, first_piece, own_piece, joins, IsPieceOf, piece_of}
 use Rattle.cfg_build.proofs.PartsFound.{member_end}
 use Rattle.cfg_build.proofs.JoinedGraph.{heads_in, heads_at, heads_of_join, heads_of_part, row_graph, number_of_one}
-use Rattle.cfg_build.proofs.Counts.{bit, bit_true, bit_false, count-cons, leaves_from, tails_of_fan}
+use Rattle.list_laws.proofs.Counts.{bit, bit_true, bit_false, count-cons}
+use Rattle.cfg_build.proofs.FanCounts.{leaves_from, tails_of_fan}
 use Rattle.cfg_build.proofs.InDegrees.{same_first, none_between}
 use Rattle.cfg_build.proofs.PieceKinds.{IsExecKind, cases_kind, pieces_of, join_kind, part_kind}
 use Rattle.cfg_build.proofs.ReachedPieces.{apart, end_piece, end_not_joined}

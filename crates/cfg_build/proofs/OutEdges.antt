@@ -12,7 +12,8 @@ use Rattle.cfg_build.specs.Joined.{rows}
 use Rattle.cfg_build.specs.Passes.{outs, out}
 use Rattle.cfg_build.proofs.Fans.{places_before, get_or-fan, fan_below, length-fan}
 use Rattle.cfg_build.proofs.JoinedGraph.{heads_in, heads_at, length_heads, row_graph, IsRowEdge, row_edge, edge_zero}
-use Rattle.cfg_build.proofs.Members.{Member, Member-in_range}
+use Rattle.list_laws.specs.Member.{Member}
+use Rattle.list_laws.proofs.Members.{Member-in_range}
 
 -- ---- filters of numbers in a row
 

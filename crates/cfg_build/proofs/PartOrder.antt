@@ -14,6 +14,7 @@ use Rattle.cfg_build.specs.declared.parts.Target.TheVariants.{Start, First, Test
 use Rattle.cfg_build.specs.Control.{is_reached}
 use Rattle.cfg_build.specs.Parts.{parts, parts_of, parts_in, reached_parts, start_part, end_part, last_of}
 use Rattle.cfg_build.specs.Joined.{is_same}
+use Rattle.list_laws.proofs.Ranges.{range_last}
 
 -- ---- targets
 
@@ -90,12 +91,6 @@ rise_from execs k (suc n) =
 
 -- ---- the last executable has no part but the end
 
-pub range_more : (a n : ℕ) → range_with_len a (suc n) ≡ range_with_len a n ++ (a + n) ∷ []
-range_more a zero = ap (λ x. x ∷ []) (omega (arith))
-range_more a (suc n) =
-    let same : a + 1 + n ≡ a + suc n = omega arith in
-    ap (λ xs. a ∷ xs) (range_more (a + 1) n ∙ ap (λ x. range_with_len (a + 1) n ++ x ∷ []) same)
-
 no_parts : (execs : List Exec) (k line : ℕ) (kind : ExecKind) → kind ≡ End → parts_of execs k line kind ≡ []
 no_parts execs k line kind same = ap (λ x. parts_of execs k line x) same
 
@@ -117,7 +112,7 @@ module _ (execs : List Exec) (end : EndsWithEnd execs) where
   middle_parts =
       let last = last_of execs in
       ap (λ n. flat_map (reached_parts execs) (range_with_len 0 n)) length_is
-      ∙ ap (λ xs. flat_map (reached_parts execs) xs) (range_more 0 last)
+      ∙ ap (λ xs. flat_map (reached_parts execs) xs) (range_last 0 last)
       ∙ flat_map-append (reached_parts execs) (range_with_len 0 last) ((0 + last) ∷ [])
       ∙ ap (λ x. flat_map (reached_parts execs) (range_with_len 0 last) ++ flat_map (reached_parts execs) (x ∷ [])) (zero-add last)
       ∙ ap (λ ps. flat_map (reached_parts execs) (range_with_len 0 last) ++ (ps ++ [])) none_of_last

@@ -16,9 +16,10 @@ use Rattle.cfg_build.specs.Flow.{flow, held, piece_at}
 use Rattle.cfg_build.specs.Passes.{out}
 use Rattle.cfg_build.specs.Chains.{hold_of, is_after_hold}
 use Rattle.cfg_build.specs.Routes.{leads_on, is_hold, holds_in, IsRoute}
-use Rattle.cfg_build.proofs.Counts.{bit, bit_true, bit_false, count-cons}
+use Rattle.list_laws.proofs.Counts.{bit, bit_true, bit_false, count-cons}
 use Rattle.cfg_build.proofs.EndNumber.{end_is_last}
-use Rattle.cfg_build.proofs.Members.{Member, Member-at}
+use Rattle.list_laws.specs.Member.{Member}
+use Rattle.list_laws.proofs.Members.{Member-at}
 use Rattle.cfg_build.proofs.ReachedNodes.{IsTold}
 use Rattle.cfg_build.proofs.JoinedGraph.{row_graph, heads_at, heads_of_join}
 use Rattle.cfg_build.proofs.Lowest.{IsMet}

@@ -16,7 +16,8 @@ use Rattle.cfg_build.specs.declared.parts.Target.TheVariants.{First, Test}
 use Rattle.cfg_build.specs.declared.pieces.PieceKind.TheVariants as piece
 use Rattle.cfg_build.specs.Control.{control, is_reached}
 use Rattle.cfg_build.specs.Parts.{part, parts, parts_of, parts_in, reached_parts, start_part, end_part, last_of}
-use Rattle.cfg_build.proofs.Members.{Member, Member-left, Member-right, Member-cases, IsImage, Member-mapped, Member-flat_map, IsFromOne, Member-flat_mapped, Member-range, Contains-from_Member}
+use Rattle.list_laws.specs.Member.{Member}
+use Rattle.list_laws.proofs.Members.{Member-left, Member-right, Member-cases, IsImage, Member-mapped, Member-flat_map, IsFromOne, Member-flat_mapped, Member-range, Contains-from_Member}
 use Rattle.cfg_build.proofs.PartOrder.{length_is}
 use Rattle.cfg_build.proofs.ReachedNodes.{IsTold, Reaches, stay, along_last, kept}
 use Rattle.cfg_build.proofs.ControlGraph.{control_leads, exec_at, exec_below, lead_below, reached_of, is_reached_of, reached_first, reached_next}

@@ -11,7 +11,7 @@ use Rattle.cfg_build.specs.declared.pieces.PieceKind.TheVariants as piece
 use Rattle.cfg_build.specs.Parts.{part, parts, parts_of, start_part, end_part}
 use Rattle.cfg_build.specs.Joined.{Row, is_joined, join_row, part_row, rows}
 use Rattle.cfg_build.specs.Flow.{piece_at}
-use Rattle.cfg_build.proofs.Members.{Member}
+use Rattle.list_laws.specs.Member.{Member}
 use Rattle.cfg_build.proofs.PieceNumbers.{part_at, first_piece, own_piece, row_of_join, row_of_part, own_below, first_below}
 use Rattle.cfg_build.proofs.PartsFound.{IsExecPart, cases_part}
 

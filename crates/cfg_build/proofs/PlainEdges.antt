@@ -17,7 +17,8 @@ use Rattle.cfg_build.specs.Flow.{flow, held}
 use Rattle.cfg_build.specs.Passes.{outs}
 use Rattle.cfg_build.specs.Shape.{kind_at}
 use Rattle.cfg_build.specs.Zones.{IsPlain}
-use Rattle.cfg_build.proofs.Members.{Member, Member-filter, Member-filtered, Member-range, Member-in_range}
+use Rattle.list_laws.specs.Member.{Member}
+use Rattle.list_laws.proofs.Members.{Member-filter, Member-filtered, Member-range, Member-in_range}
 use Rattle.cfg_build.proofs.ReachedNodes.{IsTold}
 use Rattle.cfg_build.proofs.Lowest.{IsMet}
 use Rattle.cfg_build.proofs.JoinedGraph.{row_graph, heads_in, heads_at, heads_of_join, heads_of_part, edge_zero, IsRowEdge, row_edge}

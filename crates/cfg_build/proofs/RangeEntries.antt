@@ -22,7 +22,8 @@ use Rattle.cfg_build.specs.Flow.{flow}
 use Rattle.cfg_build.specs.Passes.{out, kind_in}
 use Rattle.cfg_build.specs.Shape.{kind_at, IsShaped}
 use Rattle.cfg_build.specs.Zones.{exec_at, IsInBody, IsTest, IsPlain, IsWayIn, IsAtTest}
-use Rattle.cfg_build.proofs.Members.{Member, Member-at, Contains-from_Member}
+use Rattle.list_laws.specs.Member.{Member}
+use Rattle.list_laws.proofs.Members.{Member-at, Contains-from_Member}
 use Rattle.cfg_build.proofs.ReachedNodes.{IsTold}
 use Rattle.cfg_build.proofs.Lowest.{IsMet}
 use Rattle.cfg_build.proofs.JoinedGraph.{IsPartAt, place_of_part, number_of}

@@ -16,7 +16,8 @@ use Rattle.cfg_build.specs.declared.pieces.PieceKind.TheVariants as piece
 use Rattle.cfg_build.specs.Control.{control, is_reached}
 use Rattle.cfg_build.specs.Parts.{part, parts, parts_of, start_part, end_part, last_of}
 use Rattle.cfg_build.specs.Joined.{is_end, is_joined, ways_to, number, rows, finish}
-use Rattle.cfg_build.proofs.Members.{Member, Member-right, Member-map, Member-from_Contains, Member-at}
+use Rattle.list_laws.specs.Member.{Member}
+use Rattle.list_laws.proofs.Members.{Member-right, Member-map, Member-from_Contains, Member-at}
 use Rattle.cfg_build.proofs.PartOrder.{AreApart, parts_apart}
 use Rattle.cfg_build.proofs.PartsFound.{HasPart, IsExecPart, member_part, member_start, member_end, cases_part, test_part, way_leads, increment_has}
 use Rattle.cfg_build.proofs.PieceNumbers.{part_at, first_piece, own_piece, joins, IsPieceOf, piece_of}

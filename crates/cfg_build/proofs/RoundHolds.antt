@@ -20,14 +20,15 @@ use Rattle.cfg_build.specs.Rounds.{is_stuck, lowest_stuck, hold_at, rounds}
 use Rattle.cfg_build.specs.Tables.{ReachesOne, Leaves}
 use Rattle.cfg_build.proofs.AfterHolds.{AfterHolds, after_all}
 use Rattle.cfg_build.proofs.BuildingHolds.{stays_held}
-use Rattle.cfg_build.proofs.Counts.{comes_to, leaves_from}
+use Rattle.cfg_build.proofs.FanCounts.{comes_to, leaves_from}
 use Rattle.cfg_build.proofs.FlowEdges.{held_piece, IsHeldPiece, held_is, held_piece_is, held_rise}
 use Rattle.cfg_build.proofs.HeldEdges.{IsHoldEdge, edge_for, hold_edge, hold_leaves_join, hold_comes_to_other, edges_apart}
 use Rattle.cfg_build.proofs.HoldDegrees.{HasHolds, none_yet, all_more}
 use Rattle.cfg_build.proofs.Holding.{begun, AreHeld, all_held}
 use Rattle.cfg_build.proofs.JoinedGraph.{row_graph, edge_zero}
 use Rattle.cfg_build.proofs.Lowest.{IsHeldBy, held_says}
-use Rattle.cfg_build.proofs.Members.{Member, Member-left, Member-cases, Member-at, IsAt, at_of, Member-filter, Member-filtered, Member-range, Member-in_range}
+use Rattle.list_laws.specs.Member.{Member}
+use Rattle.list_laws.proofs.Members.{Member-left, Member-cases, Member-at, IsAt, at_of, Member-filter, Member-filtered, Member-range, Member-in_range}
 use Rattle.cfg_build.proofs.PieceKinds.{pieces_of, length_pieces}
 use Rattle.cfg_build.proofs.ReachedNodes.{IsTold, Reaches, stay, along}
 use Rattle.cfg_build.proofs.ReachedPieces.{joined_sound, finish_below}

@@ -20,7 +20,8 @@ use Rattle.cfg_build.specs.Runs.{is_act, is_branch, IsPartOf}
 use Rattle.cfg_build.specs.Shape.{kind_at}
 use Rattle.cfg_build.proofs.HoldDegrees.{HasHolds}
 use Rattle.cfg_build.proofs.Lowest.{IsMet}
-use Rattle.cfg_build.proofs.Members.{Member, Member-at}
+use Rattle.list_laws.specs.Member.{Member}
+use Rattle.list_laws.proofs.Members.{Member-at}
 use Rattle.cfg_build.proofs.PartsFound.{IsExecPart, cases_part}
 use Rattle.cfg_build.proofs.PieceKinds.{pieces_of, piece_of_part, join_kind}
 use Rattle.cfg_build.proofs.PieceNumbers.{part_at, own_piece, first_piece, IsPieceOf, piece_of}

@@ -20,7 +20,8 @@ use Rattle.cfg_build.proofs.Places.{begins_before}
 use Rattle.cfg_build.proofs.ReachedNodes.{IsTold, IsEdge}
 use Rattle.cfg_build.proofs.JoinedGraph.{row_graph, edge_zero, heads_in, heads_at, length_heads, IsRowEdge, row_edge}
 use Rattle.cfg_build.proofs.PieceKinds.{pieces_of, length_pieces}
-use Rattle.cfg_build.proofs.Counts.{bit, bit_false, count_unique, comes_to, leaves_from}
+use Rattle.list_laws.proofs.Counts.{bit, bit_false, count_unique}
+use Rattle.cfg_build.proofs.FanCounts.{comes_to, leaves_from}
 use Rattle.cfg_build.proofs.ReachedPieces.{joined_sound, finish_below, some_rows, leaves_piece}
 use Rattle.cfg_build.proofs.JoinedDegrees.{one_comes}
 use Rattle.cfg_build.proofs.OutDegrees.{IsPiece, Starts, Ends, Between, is_between, class_of, out_degree_is}

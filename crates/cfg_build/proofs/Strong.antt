@@ -13,7 +13,8 @@ use Rattle.cfg_build.specs.Parts.{parts}
 use Rattle.cfg_build.specs.Joined.{rows, finish, joined}
 use Rattle.cfg_build.specs.Holds.{is_held}
 use Rattle.cfg_build.specs.Flow.{flow, held, piece_at}
-use Rattle.cfg_build.proofs.Members.{Member, Member-filter, Member-filtered, Member-range, Member-in_range}
+use Rattle.list_laws.specs.Member.{Member}
+use Rattle.list_laws.proofs.Members.{Member-filter, Member-filtered, Member-range, Member-in_range}
 use Rattle.cfg_build.proofs.ReachedNodes.{IsTold, Reaches, IsEdge, join, along, cases_Reaches}
 use Rattle.cfg_build.proofs.JoinedGraph.{row_graph, edge_zero}
 use Rattle.cfg_build.proofs.PieceKinds.{pieces_of}

@@ -18,8 +18,8 @@ use Rattle.cfg_build.specs.Flow.{flow, piece_at}
 use Rattle.cfg_build.specs.Passes.{out, kind_in}
 use Rattle.cfg_build.specs.Chains.{entry, has_test, goes_on, goes_on_from, following, chain}
 use Rattle.cfg_build.specs.Routes.{is_hold, holds_in, IsRoute, IsMade, owner, IsTwoParts}
-use Rattle.cfg_build.proofs.Counts.{count-append}
-use Rattle.cfg_build.proofs.Members.{Member}
+use Rattle.list_laws.proofs.Counts.{count-append}
+use Rattle.list_laws.specs.Member.{Member}
 use Rattle.cfg_build.proofs.ReachedNodes.{IsTold}
 use Rattle.cfg_build.proofs.Lowest.{IsMet}
 use Rattle.cfg_build.proofs.PieceNumbers.{part_at, first_piece, own_piece}

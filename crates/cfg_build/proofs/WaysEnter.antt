@@ -11,7 +11,8 @@ use Rattle.cfg_build.specs.Holds.{is_join}
 use Rattle.cfg_build.specs.Flow.{flow, held, piece_at}
 use Rattle.cfg_build.specs.Passes.{out}
 use Rattle.cfg_build.specs.Chains.{hold_of, is_after_hold}
-use Rattle.cfg_build.proofs.Members.{Member, Member-at}
+use Rattle.list_laws.specs.Member.{Member}
+use Rattle.list_laws.proofs.Members.{Member-at}
 use Rattle.cfg_build.proofs.ReachedNodes.{IsTold}
 use Rattle.cfg_build.proofs.JoinedGraph.{row_graph, heads_at}
 use Rattle.cfg_build.proofs.PieceKinds.{pieces_of}

@@ -8,6 +8,7 @@ pub mod Decided
 pub mod Degrees
 pub mod Digraphs
 pub mod Endless
+pub mod Held
 pub mod Nesting
 pub mod NodeEdges
 pub mod Orders

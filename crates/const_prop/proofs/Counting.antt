@@ -5,7 +5,7 @@ use Rattle.std.proofs.lemmas.Grind.{get_or-set_at}
 use Rattle.std.proofs.lemmas.List.{get_or_read, get_or-set_other, get_or_append_left, get_or_past}
 use Rattle.std.proofs.Math.Seq.{get_or-append_seam}
 use Rattle.alias_classes.specs.Classes.{ClassTable}
-use Rattle.cfg_build.proofs.Counts.{count_unique}
+use Rattle.list_laws.proofs.Counts.{count_unique}
 use Rattle.const_prop.specs.Closed.{is_one_word}
 use Rattle.std.proofs.lemmas.List.Sums.{count_by_more_yes, count_by_more_no, count_by-le-length, sum_by-cons}
 

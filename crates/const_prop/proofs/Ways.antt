@@ -12,8 +12,9 @@ use Rattle.cfg_build.specs.Degrees.{in_degree, out_degree}
 use Rattle.cfg_build.specs.Joined.{FlowGraph, finish}
 use Rattle.cfg_build.specs.Passes.{outs, out}
 use Rattle.cfg_build.specs.Shape.{kind_at}
-use Rattle.cfg_build.proofs.Counts.{count_unique}
-use Rattle.cfg_build.proofs.Members.{Member, IsAt, at_of, Member-filter, Member-range}
+use Rattle.list_laws.proofs.Counts.{count_unique}
+use Rattle.list_laws.specs.Member.{Member}
+use Rattle.list_laws.proofs.Members.{IsAt, at_of, Member-filter, Member-range}
 use Rattle.const_prop.specs.Setting.{IsProgram}
 use Rattle.const_prop.proofs.Degrees.{one_edge_to}
 

@@ -7,6 +7,7 @@ use Rattle.std.specs.List.{list_any, position_or_len}
 use Rattle.indexmap.specs.IndexSet.{insert_key}
 use Rattle.cycle_equiv.specs.Names.{AreNumbered}
 use Rattle.cycle_equiv.proofs.Numbers.{fresh-push, IsFirst}
+use Rattle.list_laws.proofs.KeyPlaces.{found, absent}
 
 -- what stands at places past the end of a list of names
 abbrev pub no_name : ℕ × ℕ
@@ -160,49 +161,6 @@ module _ (tops sizes : List ℕ) where
 
 -- ---- a name's place among the names
 
-module _ (eq : ℕ × ℕ → ℕ × ℕ → Bool) (x : ℕ × ℕ) where
-  pub record IsFound (xs : List (ℕ × ℕ)) : Type 0 where
-    pub within : position_or_len (eq x) xs < length xs
-    pub equal : eq x (get_or xs (position_or_len (eq x) xs) no_name) ≡ true
-
-  pub record IsAbsent (xs : List (ℕ × ℕ)) : Type 0 where
-    pub last : position_or_len (eq x) xs ≡ length xs
-    pub none : (k : ℕ) → k < length xs → eq x (get_or xs k no_name) ≡ false
-
-  get_or_next : (y : ℕ × ℕ) (ys : List (ℕ × ℕ)) (k : ℕ) → get_or (y ∷ ys) (1 + k) no_name ≡ get_or ys k no_name
-  get_or_next y ys k = let one : 1 + k ≡ suc k = omega arith in ap (λ j. get_or (y ∷ ys) j no_name) one
-
-  found_more : (y : ℕ × ℕ) (ys : List (ℕ × ℕ)) → (list_any (eq x) ys ≡ true → IsFound ys) → list_any (eq x) (y ∷ ys) ≡ true → (b : Bool) → eq x y ≡ b → IsFound (y ∷ ys)
-  found_more y ys more any true p = record { within = rw p (omega arith); equal = rw p p }
-  found_more y ys more any false p =
-      let rest = more (rw p at any) in
-      record { within = rw p (let w = rest.within in omega (arith, w)); equal = rw (p, get_or_next y ys (position_or_len (eq x) ys)) rest.equal }
-
-  pub found : (xs : List (ℕ × ℕ)) → list_any (eq x) xs ≡ true → IsFound xs
-  found [] any = let e : false ≡ true = any in absurd cc
-  found (y ∷ ys) any = found_more y ys (found ys) any (eq x y) refl
-
-  none_more : (y : ℕ × ℕ) (ys : List (ℕ × ℕ)) → eq x y ≡ false → ((k : ℕ) → k < length ys → eq x (get_or ys k no_name) ≡ false) → (k : ℕ) → k < length (y ∷ ys) → eq x (get_or (y ∷ ys) k no_name) ≡ false
-  none_more y ys first rest zero h = first
-  none_more y ys first rest (suc k) h = rest k (omega (arith, h))
-
-  absent_more : (y : ℕ × ℕ) (ys : List (ℕ × ℕ)) → (list_any (eq x) ys ≡ false → IsAbsent ys) → list_any (eq x) (y ∷ ys) ≡ false → (b : Bool) → eq x y ≡ b → IsAbsent (y ∷ ys)
-  absent_more y ys more any true p = let e : true ≡ false = rw p at any in absurd cc
-  absent_more y ys more any false p =
-      let rest = more (rw p at any) in
-      record { last = rw p (let l = rest.last in omega (arith, l)); none = none_more y ys p rest.none }
-
-  pub absent : (xs : List (ℕ × ℕ)) → list_any (eq x) xs ≡ false → IsAbsent xs
-  absent [] any = record { last = refl; none = λ k h. absurd (omega (arith, h)) }
-  absent (y ∷ ys) any = absent_more y ys (absent ys) any (eq x y) refl
-
-  place_by : (xs : List (ℕ × ℕ)) (b : Bool) → list_any (eq x) xs ≡ b → position_or_len (eq x) xs ≤ length xs
-  place_by xs true p = let w = (found xs p).within in omega (arith, w)
-  place_by xs false p = let l = (absent xs p).last in omega (arith, l)
-
-  pub place_within : (xs : List (ℕ × ℕ)) → position_or_len (eq x) xs ≤ length xs
-  place_within xs = place_by xs (list_any (eq x) xs) refl
-
 -- whether two names are equal
 abbrev pub same_names : ℕ × ℕ → ℕ × ℕ → Bool
 same_names x y = nat_eq x.0 y.0 && nat_eq x.1 y.1
@@ -225,11 +183,11 @@ module _ (tops sizes : List ℕ) where
       by : (b : Bool) → list_any (same_names (name tops sizes e)) names ≡ b → IsNamed tops sizes (e + 1) (insert_key same_names names (name tops sizes e)) (classes ++ position_or_len (same_names (name tops sizes e)) names ∷ [])
       by true p =
           let x = name tops sizes e in
-          let f = found same_names x names p in
+          let f = found same_names no_name x names p in
           rw p (IsNamed-old tops sizes e names classes n (position_or_len (same_names x) names) f.within (sym (same_names-equal x (get_or names (position_or_len (same_names x) names) no_name) f.equal)))
       by false p =
           let x = name tops sizes e in
-          let a = absent same_names x names p in
+          let a = absent same_names no_name x names p in
           rw (p, a.last)
           (IsNamed-new tops sizes e names classes n (λ j h equal.
           let found_it : same_names x (get_or names j no_name) ≡ true = rw equal (same_names-itself x) in

@@ -5,10 +5,7 @@ use Rattle.std.specs.Cmp.{unsigned_Decides}
 use Rattle.f77_tree.specs.declared.programs.NameInfo.{NameInfo}
 use Rattle.f77_tree.specs.Declarations.{index_of}
 use Rattle.f77_tree.specs.Places.{same_block}
-
-both : (a b : Bool) → (a && b) ≡ true → (a ≡ true) × (b ≡ true)
-both true b h = (refl, h)
-both false b h = absurd cc
+use Rattle.std.proofs.lemmas.Bool.{and_parts}
 
 -- names that compare equal are one name
 pub bytes_eq-same : (xs ys : List ℕ) → bytes_eq xs ys ≡ true → xs ≡ ys
@@ -16,7 +13,7 @@ bytes_eq-same [] [] h = refl
 bytes_eq-same [] (y ∷ ys) h = absurd cc
 bytes_eq-same (x ∷ xs) [] h = absurd cc
 bytes_eq-same (x ∷ xs) (y ∷ ys) h =
-    let parts = both (nat_eq x y) (bytes_eq xs ys) h in
+    let parts = and_parts (nat_eq x y) (bytes_eq xs ys) h in
     let first : x ≡ y = (unsigned_Decides x y).0 parts.0 in
     let rest : xs ≡ ys = bytes_eq-same xs ys parts.1 in
     cc

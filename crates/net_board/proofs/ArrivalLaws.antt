@@ -11,8 +11,8 @@ use Rattle.net_board.specs.SoundNets.{IsNet}
 use Rattle.net_board.specs.FlowFacts.{FlowFacts, IsNearEnd}
 use Rattle.net_board.specs.ControlCourse.{is_idle, passed, passed_by, arrival}
 use Rattle.net_board.specs.Nodes.{NetOf, graph_in, kind_in, nodes_by}
-use Rattle.net_board.proofs.ListPlaces.{left_of, right_of}
 use Rattle.net_board.proofs.ControlWays.{idle_leaves_one}
+use Rattle.std.proofs.lemmas.Bool.{and_parts}
 
 -- ---- past idle pieces one by one
 
@@ -87,8 +87,8 @@ module _ (net : NetOf) (is_net : IsNet net) (ground : FlowFacts net is_net.tree)
       on : (next : ℕ) → (next < edge_count (graph_in net) → reaches_within most (graph_in net) (to (graph_in net) next) (finish net.program.execs) ≡ true → IsBusyAt (passed_times net n next)) → IsOne (edge_count (graph_in net)) (λ e. (from (graph_in net) e == to (graph_in net) edge) && reaches_within most (graph_in net) (to (graph_in net) e) (finish net.program.execs)) → is_idle net (to (graph_in net) edge) ≡ true → next ≡ out (graph_in net) (to (graph_in net) edge) 0 → IsBusyAt (passed_times net n next)
       on next later found idle is =
           let piece = to (graph_in net) edge in
-          let begins : from (graph_in net) found.one ≡ piece = eqb-true (from (graph_in net) found.one) piece (left_of (from (graph_in net) found.one == piece) (reaches_within most (graph_in net) (to (graph_in net) found.one) (finish net.program.execs)) found.passes) in
-          let within = right_of (from (graph_in net) found.one == piece) (reaches_within most (graph_in net) (to (graph_in net) found.one) (finish net.program.execs)) found.passes in
+          let begins : from (graph_in net) found.one ≡ piece = eqb-true (from (graph_in net) found.one) piece ((and_parts (from (graph_in net) found.one == piece) (reaches_within most (graph_in net) (to (graph_in net) found.one) (finish net.program.execs)) found.passes).0) in
+          let within = (and_parts (from (graph_in net) found.one == piece) (reaches_within most (graph_in net) (to (graph_in net) found.one) (finish net.program.execs)) found.passes).1 in
           let one_way : leaves_one (kind_in net (from (graph_in net) found.one)) ≡ true = ap (λ (x : ℕ). leaves_one (kind_in net x)) begins ∙ idle_leaves_one net piece (kind_in net piece) idle in
           let same : found.one ≡ next = ground.one_out found.one found.below one_way ∙ ap (λ (x : ℕ). out (graph_in net) x 0) begins ∙ sym is in
           later (subst (λ (x : ℕ). x < edge_count (graph_in net)) same found.below) (subst (λ (x : ℕ). reaches_within most (graph_in net) (to (graph_in net) x) (finish net.program.execs) ≡ true) same within)

@@ -19,7 +19,7 @@ use Rattle.net_board.specs.NetLockstep.{IsBetween, IsOnWay}
 use Rattle.net_board.specs.Nodes.{NetOf, graph_in, kind_in, nodes_by, node_count}
 use Rattle.net_board.specs.Tokens.{Tokens, pass_at}
 use Rattle.net_board.proofs.PieceEnds.{none_fired, all_fired}
-use Rattle.net_board.proofs.ListPlaces.{left_of, right_of}
+use Rattle.std.proofs.lemmas.Bool.{and_parts}
 
 -- the pass of an idle piece
 pub idle_pass : (net : NetOf) (piece : ℕ) (memory : Memory) (x : ExecKind) (k : PieceKind) → ((length (nodes_by net piece k) == 0) && not (is_end k)) ≡ true → pass_of net.program net.input memory (out (graph_in net) piece) k x ≡ Along (out (graph_in net) piece 0) memory []
@@ -27,11 +27,11 @@ idle_pass net piece memory x kind.Join idle = refl
 idle_pass net piece memory x kind.Start idle = refl
 idle_pass net piece memory x kind.Pass idle = refl
 idle_pass net piece memory x kind.Hold idle = refl
-idle_pass net piece memory x kind.End idle = let clash : false ≡ true = right_of (length (nodes_by net piece kind.End) == 0) false idle in absurd cc
-idle_pass net piece memory x kind.Act idle = let none : 1 ≡ 0 = eqb-true 1 0 (left_of (1 == 0) true idle) in absurd (omega (arith, none))
+idle_pass net piece memory x kind.End idle = let clash : false ≡ true = (and_parts (length (nodes_by net piece kind.End) == 0) false idle).1 in absurd cc
+idle_pass net piece memory x kind.Act idle = let none : 1 ≡ 0 = eqb-true 1 0 ((and_parts (1 == 0) true idle).0) in absurd (omega (arith, none))
 idle_pass net piece memory x kind.Branch idle =
     let count = length (nodes_by net piece kind.Branch) in
-    let none : count ≡ 0 = eqb-true count 0 (left_of (count == 0) true idle) in
+    let none : count ≡ 0 = eqb-true count 0 ((and_parts (count == 0) true idle).0) in
     absurd (omega (arith, none))
 
 -- an idle piece has one way on
@@ -43,11 +43,11 @@ idle_leaves_one net piece kind.Act idle = refl
 idle_leaves_one net piece kind.End idle = refl
 idle_leaves_one net piece kind.Branch idle =
     let count = length (nodes_by net piece kind.Branch) in
-    let none : count ≡ 0 = eqb-true count 0 (left_of (count == 0) true idle) in
+    let none : count ≡ 0 = eqb-true count 0 ((and_parts (count == 0) true idle).0) in
     absurd (omega (arith, none))
 idle_leaves_one net piece kind.Hold idle =
     let count = length (nodes_by net piece kind.Hold) in
-    let none : count ≡ 0 = eqb-true count 0 (left_of (count == 0) true idle) in
+    let none : count ≡ 0 = eqb-true count 0 ((and_parts (count == 0) true idle).0) in
     absurd (omega (arith, none))
 
 -- the state after a pass along an edge
@@ -120,7 +120,7 @@ module _ (net : NetOf) (is_net : IsNet net) (ground : FlowFacts net is_net.tree)
       let d = out (graph_in net) piece 0 in
       let way = there.way in
       let along : pass_at net piece memory ≡ Along d memory [] = idle_pass net piece memory (exec_kind net.program piece) (kind_in net piece) idle in
-      let none : node_count net piece ≡ 0 = eqb-true (node_count net piece) 0 (left_of (node_count net piece == 0) (not (is_end (kind_in net piece))) idle) in
+      let none : node_count net piece ≡ 0 = eqb-true (node_count net piece) 0 ((and_parts (node_count net piece == 0) (not (is_end (kind_in net piece))) idle).0) in
       let exit = along_exists edge d memory memory [] way.exists along in
       let later : 0 ≢ piece = not_start there.passes_made edge memory way in
       let start : IsAmid net m m piece 0 memory (pass_at net piece memory) = none_fired net is_net ground edge piece way.exists refl later m memory there.between in

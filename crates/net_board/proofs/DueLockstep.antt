@@ -30,8 +30,8 @@ use Rattle.net_board.proofs.OrderJoins.{range_more}
 use Rattle.net_board.proofs.PassFirings.{IsPartFired, part_fired}
 use Rattle.net_board.proofs.PassLockstep.{StandsBeside, IsPassLockstep, pass_lockstep, trap_acts}
 use Rattle.net_board.proofs.ListPrefixes.{below_length}
-use Rattle.net_board.proofs.ListPlaces.{left_of}
 use Rattle.net_board.proofs.ControlWays.{idle_pass, not_start}
+use Rattle.std.proofs.lemmas.Bool.{and_parts}
 
 -- ---- places after firings
 
@@ -138,7 +138,7 @@ module _ (net : NetOf) (is_net : IsNet net) (ground : FlowFacts net is_net.tree)
         let piece = to (graph_in net) x.edge in
         let d = out (graph_in net) piece 0 in
         let along : pass net.program net.input x.edge x.memory ≡ Along d x.memory [] = idle_pass net piece x.memory (exec_kind net.program piece) (kind_in net piece) idle in
-        let none : node_count net piece ≡ 0 = eqb-true (node_count net piece) 0 (left_of (node_count net piece == 0) (not (is_end (kind_in net piece))) idle) in
+        let none : node_count net piece ≡ 0 = eqb-true (node_count net piece) 0 ((and_parts (node_count net piece == 0) (not (is_end (kind_in net piece))) idle).0) in
         let nothing : firings_of net piece (pass net.program net.input x.edge x.memory) ≡ [] = ap (firings_of net piece) along ∙ ap (range_with_len (first_node net piece)) none in
         let step : passed net x.edge ≡ d = ap (λ (b : Bool). if b then out (graph_in net) (to (graph_in net) x.edge) 0 else x.edge) idle in
         let same : arrived net x.edge ≡ arrived net d = ap (λ (e : ℕ). record { piece = to (graph_in net) e; fired = 0; leaves = 0 }) (sym (arrival_past net is_net ground x.edge stands.1) ∙ ap (passed_by 18 net) step) in

@@ -28,13 +28,14 @@ use Rattle.firing.proofs.FootprintLemmas.{lawful as by_feet}
 use Rattle.net_board.specs.SoundNets.{IsNet, IsMarking, HasSizesOf, CanCome}
 use Rattle.net_board.specs.Footprints.{Part, Line, Left, Word, Count, StepOf, Taken, Trap, at, is_switch, foot_as, foot}
 use Rattle.net_board.specs.ProgramFacts.{ProgramFacts}
-use Rattle.net_board.specs.Members.{Member}
+use Rattle.list_laws.specs.Member.{Member}
 use Rattle.net_board.specs.Nodes.{is_acting, NetOf, graph_in, kind_in, all_lines, touched, nodes_of, node_at, switches}
 use Rattle.net_board.specs.Tokens.{Tokens, joined, edge_of, left_for, leads_to, is_before, ready_as, pass_at, with_all, led_from, gone, stopped, acted, switched, merged, fired_as, written, text_of, line_as, serial_as, net_moves, first_tokens}
-use Rattle.net_board.proofs.MemberLaws.{Member-filtered, Member-in_range, list_any_member, IsPassed, member_of_list_any}
+use Rattle.list_laws.proofs.Members.{Member-filtered, Member-in_range, list_any_member, IsPassed, member_of_list_any}
 use Rattle.net_board.proofs.NodeLaws.{piece_of, Fits, touched_is, is_touched, one_number, IsNamed, named, switch_is}
 use Rattle.net_board.proofs.PassEffects.{IsTouching, AgreeOn, KeepsOthers, PassAlike, IsFramed, pass_alike, pass_framed, pass_out}
-use Rattle.net_board.proofs.ListPlaces.{same_list, put, get_set_same, get_set_other, length_slice_set, length_with_all, with_all_other, with_all_same, same_or_not, member_or_not, all_pass, same_tests, left_of, right_of}
+use Rattle.net_board.proofs.ListPlaces.{same_list, put, get_set_same, get_set_other, length_slice_set, length_with_all, with_all_other, with_all_same, same_or_not, member_or_not, all_pass, same_tests}
+use Rattle.std.proofs.lemmas.Bool.{and_parts}
 
 -- ---- equal parts
 
@@ -478,10 +479,10 @@ module _ (ground : ProgramFacts) (net : NetOf) (is : IsNet net) where
   before : (m : Tokens) (k : ℕ) (name : NodeName) (line : ℕ) → IsNamed net name → ready_as net m k name ≡ true → foot_as net is.classes k name (Line line) ≡ true → is_before net m (piece_of name) line ≡ true
   before m k (Act piece) line named ready mine =
       all_pass (is_before net m piece) (touched net piece) line
-      (left_of (list_all (is_before net m piece) (touched net piece)) (list_all (λ switch. not (is_some (left_for m switch))) (switches net piece)) ready)
+      ((and_parts (list_all (is_before net m piece) (touched net piece)) (list_all (λ switch. not (is_some (left_for m switch))) (switches net piece)) ready).0)
       (is_touched net piece line (touched_line piece line named.exists mine) mine)
   before m k (Switch piece own) line named ready mine =
-      subst (λ l. is_before net m piece l ≡ true) (eqb-true own line mine) (left_of (is_before net m piece own) (is_some (left_for m k)) ready)
+      subst (λ l. is_before net m piece l ≡ true) (eqb-true own line mine) ((and_parts (is_before net m piece own) (is_some (left_for m k)) ready).0)
   before m k (Merge piece own) line named ready mine = subst (λ l. is_before net m piece l ≡ true) (eqb-true own line mine) ready
   before m k (Op piece i) line named ready mine = absurd named.fits
 
@@ -558,8 +559,8 @@ module _ (ground : ProgramFacts) (net : NetOf) (is : IsNet net) where
   -- an act is ready where nothing is left for its switches, a switch where something is
   empty_and_full : {P : Type 0} (m : Tokens) (p q i k line : ℕ) → ready_as net m i (Act p) ≡ true → ready_as net m k (Switch q line) ≡ true → is_switch net p k ≡ true → P
   empty_and_full m p q i k line act switch mine =
-      let empty : not (is_some (left_for m k)) ≡ true = all_pass (λ s. not (is_some (left_for m s))) (switches net p) k (right_of (list_all (is_before net m p) (touched net p)) (list_all (λ s. not (is_some (left_for m s))) (switches net p)) act) (true_switch p k mine) in
-      let full : is_some (left_for m k) ≡ true = right_of (is_before net m q line) (is_some (left_for m k)) switch in
+      let empty : not (is_some (left_for m k)) ≡ true = all_pass (λ s. not (is_some (left_for m s))) (switches net p) k ((and_parts (list_all (is_before net m p) (touched net p)) (list_all (λ s. not (is_some (left_for m s))) (switches net p)) act).1) (true_switch p k mine) in
+      let full : is_some (left_for m k) ≡ true = (and_parts (is_before net m q line) (is_some (left_for m k)) switch).1 in
       by (is_some (left_for m k)) full empty
     where
       by : {P : Type 0} (b : Bool) → b ≡ true → not b ≡ true → P

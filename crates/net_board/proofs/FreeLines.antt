@@ -7,12 +7,12 @@ use Rattle.dep_routing.specs.Quiet.{IsFree}
 use Rattle.dep_routing.specs.Routing.{wire_at}
 use Rattle.net_board.specs.SoundNets.{IsNet}
 use Rattle.net_board.specs.FlowFacts.{FlowFacts}
-use Rattle.net_board.specs.Members.{Member}
+use Rattle.list_laws.specs.Member.{Member}
 use Rattle.net_board.specs.NetLockstep.{IsBetween}
 use Rattle.net_board.specs.Nodes.{NetOf, graph_in, comes_along, is_free}
 use Rattle.net_board.specs.Tokens.{Tokens, edge_of}
-use Rattle.net_board.proofs.MemberLaws.{Member-left, Member-right, Member-cases, IsPassed, list_any_member, member_of_list_any}
-use Rattle.net_board.proofs.ListPlaces.{left_of, right_of}
+use Rattle.list_laws.proofs.Members.{Member-left, Member-right, Member-cases, IsPassed, list_any_member, member_of_list_any}
+use Rattle.std.proofs.lemmas.Bool.{and_parts}
 
 -- ---- edges at a node
 
@@ -63,8 +63,8 @@ module _ (net : NetOf) (is_net : IsNet net) where
   free_of_test node line low is =
       let found : IsPassed (comes_along (graph_in net) net.routing node line) (edges_at (graph_in net) node) = member_of_list_any (comes_along (graph_in net) net.routing node line) (edges_at (graph_in net) node) is in
       let e = found.one in
-      let ends : to (graph_in net) e ≡ node = eqb-true (to (graph_in net) e) node (left_of (to (graph_in net) e == node) (wire_at net.routing line e) found.passes) in
-      let wire : wire_at net.routing line e ≡ true = right_of (to (graph_in net) e == node) (wire_at net.routing line e) found.passes in
+      let ends : to (graph_in net) e ≡ node = eqb-true (to (graph_in net) e) node ((and_parts (to (graph_in net) e == node) (wire_at net.routing line e) found.passes).0) in
+      let wire : wire_at net.routing line e ≡ true = (and_parts (to (graph_in net) e == node) (wire_at net.routing line e) found.passes).1 in
       subst (λ (x : ℕ). IsFree (graph_in net) is_net.tree net.touches line x) ends ((is_net.own_routing.wire line e (line_below line low) (below_count (graph_in net) node e found.among)).0 wire)
 
   pub test_of_free : (e node line : ℕ) → e < edge_count (graph_in net) → to (graph_in net) e ≡ node → line < net.routing.lines → IsFree (graph_in net) is_net.tree net.touches line node → is_free net node line ≡ true

@@ -1,4 +1,3 @@
-pub mod MemberLaws
 pub mod ListPlaces
 pub mod NodeLaws
 pub mod PassEffects

@@ -2,8 +2,9 @@
 use Rattle.std.proofs.Common.{◌≡◌, ◌⊎◌, ⊎_elim, ℕ, zero, suc, ◌&&◌, ℤ, Bool, true, false, List, [], ◌∷◌, length, Option, Some, None, slice_get, slice_set, slice_index, refl, sym, ap, ◌∙◌, subst, inl, inr, arith}
 use Rattle.f77_tree.specs.Value.{word_at}
 use Rattle.std.specs.List.{list_all}
-use Rattle.net_board.specs.Members.{Member}
+use Rattle.list_laws.specs.Member.{Member}
 use Rattle.net_board.specs.Tokens.{with_all}
+use Rattle.std.proofs.lemmas.Bool.{and_parts}
 
 -- ---- equal lists
 
@@ -99,18 +100,10 @@ with_all_same values (place ∷ places) value k (inl e) = by (with_all_same (sli
 
 -- ---- tests of all items
 
-pub left_of : (a b : Bool) → (a && b) ≡ true → a ≡ true
-left_of true b is = refl
-left_of false b is = absurd cc
-
-pub right_of : (a b : Bool) → (a && b) ≡ true → b ≡ true
-right_of true b is = is
-right_of false b is = absurd cc
-
 pub all_pass : {X : Type 0} (test : X → Bool) (xs : List X) (x : X) → list_all test xs ≡ true → Member xs x → test x ≡ true
 all_pass test [] x all m = absurd m
-all_pass test (y ∷ ys) x all (inl e) = sym (ap test e) ∙ left_of (test y) (list_all test ys) all
-all_pass test (y ∷ ys) x all (inr m) = all_pass test ys x (right_of (test y) (list_all test ys) all) m
+all_pass test (y ∷ ys) x all (inl e) = sym (ap test e) ∙ (and_parts (test y) (list_all test ys) all).0
+all_pass test (y ∷ ys) x all (inr m) = all_pass test ys x ((and_parts (test y) (list_all test ys) all).1) m
 
 pub same_tests : {X : Type 0} (test other : X → Bool) (xs : List X) → ((x : X) → Member xs x → test x ≡ other x) → list_all test xs ≡ list_all other xs
 same_tests test other [] same = refl

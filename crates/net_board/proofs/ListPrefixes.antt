@@ -1,8 +1,8 @@
 -- Lists seen from the beginning.
 use Rattle.std.proofs.Common.{◌≡◌, ℕ, zero, suc, ◌+◌, ◌<◌, ◌≤◌, ◌⊎◌, Bool, true, false, cond, List, [], ◌∷◌, ◌++◌, length, map, take, flat_map, filter, Option, Some, None, slice_get, refl, sym, ap, ◌∙◌, subst, inl, inr, ⊎_elim, arith}
 use Rattle.std.specs.List.{range_with_len}
-use Rattle.net_board.specs.Members.{Member}
-use Rattle.net_board.proofs.MemberLaws.{Member-filtered, Member-in_range}
+use Rattle.list_laws.specs.Member.{Member}
+use Rattle.list_laws.proofs.Members.{Member-filtered, Member-in_range}
 
 module _ {X : Type 0} where
   pub take_more : (xs : List X) (j : ℕ) (x : X) → slice_get xs j ≡ Some x → take (suc j) xs ≡ take j xs ++ (x ∷ [])

@@ -5,10 +5,10 @@ use Rattle.cfg_build.specs.declared.pieces.PieceKind.{PieceKind}
 use Rattle.cfg_build.specs.declared.pieces.PieceKind.TheVariants as kind
 use Rattle.firing.specs.declared.system.NodeName.{NodeName}
 use Rattle.firing.specs.declared.system.NodeName.TheVariants.{Act, Merge, Switch, Op}
-use Rattle.net_board.specs.Members.{Member}
+use Rattle.list_laws.specs.Member.{Member}
 use Rattle.net_board.specs.Nodes.{is_acting, NetOf, graph_in, kind_in, all_lines, is_free, led_to, passing, touched, nodes_by, nodes_at, nodes_of, node_count, first_node, node_at, name_in, switch_lines, switches}
-use Rattle.net_board.proofs.MemberLaws.{Member-cases, Member-filtered, Member-filter, Member-mapped, IsImage, Member-flat_mapped, IsFromOne, Member-in_range, Member-range}
-use Rattle.net_board.proofs.ListPlaces.{right_of}
+use Rattle.list_laws.proofs.Members.{Member-cases, Member-filtered, Member-filter, Member-mapped, IsImage, Member-flat_mapped, IsFromOne, Member-in_range, Member-range}
+use Rattle.std.proofs.lemmas.Bool.{and_parts}
 
 -- ---- lists without repetition
 
@@ -134,7 +134,7 @@ module _ (net : NetOf) where
   switch_fits piece k name acts (inr m) =
       let r : IsImage (Switch piece) (passing net piece) name = Member-mapped (Switch piece) (passing net piece) name m in
       let f = Member-filtered (λ line. is_free net piece line && not (net.touches piece line)) (all_lines net) r.origin r.among in
-      subst (λ n. Fits net piece k n) r.is (refl, acts, in_lines r.origin f.0, not_true (net.touches piece r.origin) (right_of (is_free net piece r.origin) (not (net.touches piece r.origin)) f.1))
+      subst (λ n. Fits net piece k n) r.is (refl, acts, in_lines r.origin f.0, not_true (net.touches piece r.origin) ((and_parts (is_free net piece r.origin) (not (net.touches piece r.origin)) f.1).1))
 
   merge_fits : (piece : ℕ) (k : PieceKind) (name : NodeName) → is_acting k ≡ false → Member (map (Merge piece) (led_to net piece)) name → Fits net piece k name
   merge_fits piece k name joins m =

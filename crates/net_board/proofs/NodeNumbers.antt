@@ -7,12 +7,12 @@ use Rattle.cfg_build.specs.declared.pieces.PieceKind.{PieceKind}
 use Rattle.cfg_build.specs.declared.pieces.PieceKind.TheVariants as kind
 use Rattle.firing.specs.declared.system.NodeName.{NodeName}
 use Rattle.firing.specs.declared.system.NodeName.TheVariants.{Act, Merge, Switch, Op}
-use Rattle.net_board.specs.Members.{Member}
+use Rattle.list_laws.specs.Member.{Member}
 use Rattle.net_board.specs.Nodes.{is_acting, NetOf, graph_in, kind_in, all_lines, is_free, led_to, passing, nodes_by, nodes_of, nodes_at, node_at, name_in, first_node}
 use Rattle.net_board.specs.WokenNodes.{passing_below, switch_number, merge_number, no_node, place_by, place_of}
-use Rattle.net_board.proofs.MemberLaws.{Member-filtered, Member-in_range, Member-mapped, IsImage, Member-flat_mapped, IsFromOne}
+use Rattle.list_laws.proofs.Members.{Member-filtered, Member-in_range, Member-mapped, IsImage, Member-flat_mapped, IsFromOne}
 use Rattle.net_board.proofs.NodeLaws.{one_number, IsNamed, named, node_of, node_is}
-use Rattle.net_board.proofs.ListPlaces.{left_of, right_of}
+use Rattle.std.proofs.lemmas.Bool.{and_parts}
 
 pub get_within : {X : Type 0} (xs : List X) (k : ℕ) (x : X) → slice_get xs k ≡ Some x → k < length xs
 get_within [] k x is = absurd cc
@@ -147,12 +147,12 @@ module _ (net : NetOf) where
 
   switch_place : (piece line : ℕ) (k : PieceKind) → (k ≡ kind.Branch) ⊎ (k ≡ kind.Hold) → passes_by piece line ≡ true → place_by net piece line k ≡ switch_number net piece line
   switch_place piece line k (inl e) is =
-      let free : is_free net piece line ≡ true = left_of (is_free net piece line) (not (net.touches piece line)) is in
-      let untouched : net.touches piece line ≡ false = not_true (net.touches piece line) (right_of (is_free net piece line) (not (net.touches piece line)) is) in
+      let free : is_free net piece line ≡ true = (and_parts (is_free net piece line) (not (net.touches piece line)) is).0 in
+      let untouched : net.touches piece line ≡ false = not_true (net.touches piece line) ((and_parts (is_free net piece line) (not (net.touches piece line)) is).1) in
       ap (place_by net piece line) e ∙ ap (λ b. if b then first_node net piece else if is_free net piece line then switch_number net piece line else no_node net) untouched ∙ ap (λ b. if b then switch_number net piece line else no_node net) free
   switch_place piece line k (inr e) is =
-      let free : is_free net piece line ≡ true = left_of (is_free net piece line) (not (net.touches piece line)) is in
-      let untouched : net.touches piece line ≡ false = not_true (net.touches piece line) (right_of (is_free net piece line) (not (net.touches piece line)) is) in
+      let free : is_free net piece line ≡ true = (and_parts (is_free net piece line) (not (net.touches piece line)) is).0 in
+      let untouched : net.touches piece line ≡ false = not_true (net.touches piece line) ((and_parts (is_free net piece line) (not (net.touches piece line)) is).1) in
       ap (place_by net piece line) e ∙ ap (λ b. if b then first_node net piece else if is_free net piece line then switch_number net piece line else no_node net) untouched ∙ ap (λ b. if b then switch_number net piece line else no_node net) free
 
   merge_place : (piece line : ℕ) (k : PieceKind) → (k ≡ kind.Join) ⊎ (k ≡ kind.End) → is_free net piece line ≡ true → place_by net piece line k ≡ merge_number net piece line

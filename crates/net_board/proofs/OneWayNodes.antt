@@ -10,48 +10,9 @@ use Rattle.closed_walks.specs.Walk.{Walk}
 use Rattle.cfg_build.specs.Degrees.{in_degree, out_degree}
 use Rattle.cfg_build.specs.Passes.{outs, out}
 use Rattle.net_board.specs.FlowFacts.{IsNearEnd}
-use Rattle.net_board.specs.Members.{Member}
-use Rattle.net_board.proofs.MemberLaws.{Member-filter, Member-filtered, Member-range, Member-in_range}
-
--- what a truth adds to a count
-abbrev bit : Bool → ℕ
-bit b = cond b 1 0
-
-bit_true : (b : Bool) → b ≡ true → bit b ≡ 1
-bit_true b h = cond-true b 1 0 h
-
-module _ {X : Type 0} where
-  count-cons : (p : X → Bool) (x : X) (xs : List X) → count_by p (x ∷ xs) ≡ bit (p x) + count_by p xs
-  count-cons p x xs = sum_by-cons (λ (y : X). bit (p y)) x xs
-
-  count_some : (p : X → Bool) (xs : List X) (i : ℕ) (d : X) → i < length xs → p (get_or xs i d) ≡ true → 1 ≤ count_by p xs
-  count_some p [] i d some passes = absurd (omega (arith, some))
-  count_some p (x ∷ xs) zero d some passes =
-      let e : count_by p (x ∷ xs) ≡ bit (p x) + count_by p xs = count-cons p x xs in
-      let b : bit (p x) ≡ 1 = bit_true (p x) passes in
-      omega (arith, e, b)
-  count_some p (x ∷ xs) (suc i) d some passes =
-      let e : count_by p (x ∷ xs) ≡ bit (p x) + count_by p xs = count-cons p x xs in
-      let r : 1 ≤ count_by p xs = count_some p xs i d (omega (arith, some)) passes in
-      omega (arith, e, r)
-
-  -- where at most one passes, two that pass are one
-  count_unique : (p : X → Bool) (xs : List X) (i j : ℕ) (d : X) → count_by p xs ≤ 1 → i < length xs → j < length xs → p (get_or xs i d) ≡ true → p (get_or xs j d) ≡ true → i ≡ j
-  count_unique p [] i j d few some other first second = absurd (omega (arith, some))
-  count_unique p (x ∷ xs) zero zero d few some other first second = refl
-  count_unique p (x ∷ xs) zero (suc j) d few some other first second =
-      let e : count_by p (x ∷ xs) ≡ bit (p x) + count_by p xs = count-cons p x xs in
-      let b : bit (p x) ≡ 1 = bit_true (p x) first in
-      let r : 1 ≤ count_by p xs = count_some p xs j d (omega (arith, other)) second in
-      absurd (omega (arith, few, e, b, r))
-  count_unique p (x ∷ xs) (suc i) zero d few some other first second =
-      let e : count_by p (x ∷ xs) ≡ bit (p x) + count_by p xs = count-cons p x xs in
-      let b : bit (p x) ≡ 1 = bit_true (p x) second in
-      let r : 1 ≤ count_by p xs = count_some p xs i d (omega (arith, some)) first in
-      absurd (omega (arith, few, e, b, r))
-  count_unique p (x ∷ xs) (suc i) (suc j) d few some other first second =
-      let e : count_by p (x ∷ xs) ≡ bit (p x) + count_by p xs = count-cons p x xs in
-      ap suc (count_unique p xs i j d (omega (arith, few, e)) (omega (arith, some)) (omega (arith, other)) first second)
+use Rattle.list_laws.specs.Member.{Member}
+use Rattle.list_laws.proofs.Members.{Member-filter, Member-filtered, Member-range, Member-in_range}
+use Rattle.list_laws.proofs.Counts.{count_unique}
 
 pub one_to : (g : Graph) (node a b : ℕ) → in_degree g node ≡ 1 → a < edge_count g → b < edge_count g → to g a ≡ node → to g b ≡ node → a ≡ b
 unfolding to

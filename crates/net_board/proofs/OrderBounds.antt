@@ -14,14 +14,14 @@ use Rattle.firing.specs.declared.system.NodeName.{NodeName}
 use Rattle.firing.specs.declared.system.NodeName.TheVariants.{Merge, Switch}
 use Rattle.net_board.specs.SoundNets.{IsNet}
 use Rattle.net_board.specs.FlowFacts.{FlowFacts, has_act}
-use Rattle.net_board.specs.Members.{Member}
+use Rattle.list_laws.specs.Member.{Member}
 use Rattle.net_board.specs.NetLockstep.{IsInLockstep}
 use Rattle.net_board.specs.ControlCourse.{first_control}
 use Rattle.net_board.specs.Nodes.{NetOf, graph_in, kind_in, is_free, all_lines, led_to, passing, nodes_by, node_count, first_node}
 use Rattle.net_board.specs.OwnOrder.{firings_of, firings_from, own_passes, own_order}
 use Rattle.net_board.specs.ProgramStages.{RunFacts}
 use Rattle.net_board.specs.Tokens.{Tokens, net_moves, first_tokens}
-use Rattle.net_board.proofs.MemberLaws.{Member-range}
+use Rattle.list_laws.proofs.Members.{Member-range}
 use Rattle.net_board.proofs.LockstepLaws.{in_lockstep_arrived}
 use Rattle.net_board.proofs.PassLockstep.{StandsBeside, IsPassLockstep, pass_lockstep, begins_between}
 use Rattle.net_board.proofs.ControlWays.{IsThere}

@@ -17,12 +17,12 @@ use Rattle.firing.specs.declared.system.NodeName.TheVariants.{Merge, Switch}
 use Rattle.net_board.specs.WithinPiece.{moved_by, moved_first, leaving, memory_or, memory_amid, switch_count, IsAmid}
 use Rattle.net_board.specs.SoundNets.{IsNet}
 use Rattle.net_board.specs.FlowFacts.{FlowFacts, has_act}
-use Rattle.net_board.specs.Members.{Member}
+use Rattle.list_laws.specs.Member.{Member}
 use Rattle.net_board.specs.NetLockstep.{IsBetween}
 use Rattle.net_board.specs.Nodes.{NetOf, graph_in, kind_in, is_free, touched, led_to, passing, nodes_by, nodes_at, node_count, first_node, switch_lines, all_lines}
 use Rattle.net_board.specs.Tokens.{Tokens, joined, edge_of, left_for, with_all, led_from, pass_at}
 use Rattle.net_board.proofs.FreeLines.{free_of_test, test_of_free, line_below}
-use Rattle.net_board.proofs.MemberLaws.{Member-filter, Member-range, Member-left, Member-right, Member-cases}
+use Rattle.list_laws.proofs.Members.{Member-filter, Member-range, Member-left, Member-right, Member-cases}
 use Rattle.net_board.proofs.ListPrefixes.{take_whole}
 use Rattle.net_board.proofs.PieceSteps.{IsLed, exists, led_touched, led_passing, led_led}
 use Rattle.net_board.proofs.ListPlaces.{put, with_all_other, with_all_same}

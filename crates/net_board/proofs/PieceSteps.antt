@@ -15,16 +15,17 @@ use Rattle.firing.specs.declared.system.NodeName.TheVariants.{Act, Merge, Switch
 use Rattle.net_board.specs.WithinPiece.{moved_by, moved_first, leaving, memory_amid, switch_count, IsAmid}
 use Rattle.net_board.specs.SoundNets.{IsNet}
 use Rattle.net_board.specs.FlowFacts.{FlowFacts}
-use Rattle.net_board.specs.Members.{Member}
+use Rattle.list_laws.specs.Member.{Member}
 use Rattle.net_board.specs.NetLockstep.{IsBetween}
 use Rattle.net_board.specs.Nodes.{NetOf, graph_in, kind_in, is_free, touched, led_to, passing, nodes_by, nodes_at, nodes_of, node_count, node_at, name_in, first_node, switch_lines, switches}
 use Rattle.net_board.specs.Tokens.{Tokens, joined, edge_of, left_for, led_from, is_before, leads_to, ready_as, pass_at, acted, switched, merged, fired_as}
 use Rattle.net_board.proofs.WithinPieceLaws.{NodeCase, node_case, not_moved}
 use Rattle.net_board.proofs.WithinPieceSteps.{act_amid, switch_amid, merge_amid}
 use Rattle.net_board.proofs.FreeLines.{test_of_free, stands_before}
-use Rattle.net_board.proofs.MemberLaws.{Member-filtered, Member-in_range}
+use Rattle.list_laws.proofs.Members.{Member-filtered, Member-in_range}
 use Rattle.net_board.proofs.ListPrefixes.{member_at, below_length, HasItem, item_at, get_flat}
-use Rattle.net_board.proofs.ListPlaces.{left_of, with_all_other}
+use Rattle.net_board.proofs.ListPlaces.{with_all_other}
+use Rattle.std.proofs.lemmas.Bool.{and_parts}
 
 -- ---- numbers of nodes
 
@@ -97,7 +98,7 @@ module _ (net : NetOf) (is_net : IsNet net) (ground : FlowFacts net is_net.tree)
   pub led_passing : (line : ℕ) → Member (passing net piece) line → IsLed line
   led_passing line m =
       let test : ℕ → Bool = λ l. is_free net piece l && not (net.touches piece l) in
-      record { below = low_of test line m; free = left_of (is_free net piece line) (not (net.touches piece line)) (Member-filtered test (range_with_len 0 net.routing.lines) line m).1 }
+      record { below = low_of test line m; free = (and_parts (is_free net piece line) (not (net.touches piece line)) (Member-filtered test (range_with_len 0 net.routing.lines) line m).1).0 }
 
   pub led_led : (line : ℕ) → Member (led_to net piece) line → IsLed line
   led_led line m = record { below = low_of (is_free net piece) line m; free = (Member-filtered (is_free net piece) (range_with_len 0 net.routing.lines) line m).1 }

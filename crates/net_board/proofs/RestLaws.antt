@@ -20,17 +20,18 @@ use Rattle.net_board.specs.declared.control.Control.{Control}
 use Rattle.net_board.specs.WithinPiece.{leaving, memory_or, IsAmid}
 use Rattle.net_board.specs.SoundNets.{IsNet, CanCome}
 use Rattle.net_board.specs.FlowFacts.{FlowFacts, has_act}
-use Rattle.net_board.specs.Members.{Member}
+use Rattle.list_laws.specs.Member.{Member}
 use Rattle.net_board.specs.ControlCourse.{net_course}
 use Rattle.net_board.specs.NetLockstep.{IsBetween, IsInLockstep}
 use Rattle.net_board.specs.Nodes.{NetOf, graph_in, kind_in, is_free, touched, led_to, passing, all_lines, nodes_by, nodes_at, nodes_of, node_count, node_at, name_in, switches}
 use Rattle.net_board.specs.Tokens.{Tokens, edge_of, left_for, net_moves, pass_at, is_before, leads_to, ready_as}
-use Rattle.net_board.proofs.MemberLaws.{IsImage, IsFromOne, Member-filter, Member-filtered, Member-range, Member-in_range, Member-mapped, Member-flat_mapped}
+use Rattle.list_laws.proofs.Members.{IsImage, IsFromOne, Member-filter, Member-filtered, Member-range, Member-in_range, Member-mapped, Member-flat_mapped}
 use Rattle.net_board.proofs.LockstepLaws.{IsDue, due_is, none_due, due_ready, piece_exists, later}
 use Rattle.net_board.proofs.ListPrefixes.{HasItem, item_at, member_at}
 use Rattle.net_board.proofs.PieceEnds.{all_fired}
 use Rattle.net_board.proofs.PieceSteps.{node_below}
-use Rattle.net_board.proofs.ListPlaces.{left_of, right_of, all_pass}
+use Rattle.net_board.proofs.ListPlaces.{all_pass}
+use Rattle.std.proofs.lemmas.Bool.{and_parts}
 
 module _ (net : NetOf) (is_net : IsNet net) (ground : FlowFacts net is_net.tree) where
   pub some_edge : 0 < edge_count (graph_in net)
@@ -64,14 +65,14 @@ module _ (net : NetOf) (is_net : IsNet net) (ground : FlowFacts net is_net.tree)
     act_rests k piece exists acts ready =
         let line = ground.touch_some piece exists acts in
         let own : Member (touched net piece) line.0 = Member-filter (net.touches piece) (all_lines net) line.0 (let low = line.1 in Member-range 0 net.routing.lines line.0 (omega arith) (omega (arith, low))) line.2 in
-        let before = all_pass (is_before net m piece) (touched net piece) line.0 (left_of (list_all (is_before net m piece) (touched net piece)) (list_all (λ switch. not (is_some (left_for m switch))) (switches net piece)) ready) own in
+        let before = all_pass (is_before net m piece) (touched net piece) line.0 ((and_parts (list_all (is_before net m piece) (touched net piece)) (list_all (λ switch. not (is_some (left_for m switch))) (switches net piece)) ready).0) own in
         let start : kind_in net piece ≡ kind.Start = start_acts piece exists (none_before piece line.0 line.1 before) in
         let clash : false ≡ true = sym (ap has_act start) ∙ acts in
         absurd cc
 
     switch_rests : (k piece line : ℕ) → ready_as net m k (Switch piece line) ≡ true → ⊥
     switch_rests k piece line ready =
-        let left = right_of (is_before net m piece line) (is_some (left_for m k)) ready in
+        let left = (and_parts (is_before net m piece line) (is_some (left_for m k)) ready).1 in
         let clash : false ≡ true = sym (ap (λ (o : Option ℕ). is_some o) (between.edges k)) ∙ left in
         absurd cc
 

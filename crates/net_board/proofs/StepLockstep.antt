@@ -14,14 +14,14 @@ use Rattle.firing.specs.declared.system.NodeName.TheVariants.{Act, Merge, Switch
 use Rattle.net_board.specs.WithinPiece.{moved_by}
 use Rattle.net_board.specs.SoundNets.{IsNet}
 use Rattle.net_board.specs.FlowFacts.{FlowFacts}
-use Rattle.net_board.specs.Members.{Member}
+use Rattle.list_laws.specs.Member.{Member}
 use Rattle.net_board.specs.NetLockstep.{IsOnWay}
 use Rattle.net_board.specs.Nodes.{NetOf, graph_in, kind_in, is_free, nodes_at, node_count, node_at, first_node}
 use Rattle.net_board.specs.OwnOrder.{firings_of, firings_from, own_passes, own_order}
 use Rattle.net_board.specs.ProgramStages.{stage_of, program_stage, program_text, OutputMoves, RunFacts}
 use Rattle.net_board.specs.Tokens.{Tokens, net_moves, first_tokens, pass_at, serial_as}
 use Rattle.net_board.proofs.FreeLines.{test_of_free}
-use Rattle.net_board.proofs.MemberLaws.{IsFromOne, Member-filtered, Member-range, Member-flat_mapped}
+use Rattle.list_laws.proofs.Members.{IsFromOne, Member-filtered, Member-range, Member-flat_mapped}
 use Rattle.net_board.proofs.OrderJoins.{serial_join}
 use Rattle.net_board.proofs.LockstepLaws.{traps_touch}
 use Rattle.net_board.proofs.PassLockstep.{StandsBeside, IsPassLockstep, pass_lockstep, trap_acts}

@@ -11,9 +11,9 @@ use Rattle.dep_routing.specs.Sound.{DoesTrap}
 use Rattle.firing.specs.declared.system.NodeName.{NodeName}
 use Rattle.firing.specs.declared.system.NodeName.TheVariants.{Act, Merge, Switch}
 use Rattle.net_board.specs.WithinPiece.{moved_by, moved_first, leaving, memory_or, text_in}
-use Rattle.net_board.specs.Members.{Member}
+use Rattle.list_laws.specs.Member.{Member}
 use Rattle.net_board.specs.Nodes.{NetOf, graph_in, is_free, touched, led_to, passing, nodes_by, switch_lines}
-use Rattle.net_board.proofs.MemberLaws.{Member-filtered, Member-cases}
+use Rattle.list_laws.proofs.Members.{Member-filtered, Member-cases}
 use Rattle.net_board.proofs.ListPrefixes.{member_at, not_before, HasItem, item_at}
 
 -- ---- which node comes next

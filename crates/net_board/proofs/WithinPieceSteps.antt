@@ -7,10 +7,10 @@ use Rattle.dep_routing.specs.Sound.{DoesTrap}
 use Rattle.firing.specs.declared.system.NodeName.{NodeName}
 use Rattle.firing.specs.declared.system.NodeName.TheVariants.{Act, Merge, Switch}
 use Rattle.net_board.specs.WithinPiece.{moved_by, moved_first, leaving, memory_or, memory_amid, switch_count, IsAmid}
-use Rattle.net_board.specs.Members.{Member}
+use Rattle.list_laws.specs.Member.{Member}
 use Rattle.net_board.specs.Nodes.{NetOf, graph_in, nodes_at, first_node, switches}
 use Rattle.net_board.specs.Tokens.{Tokens, joined, left_for, with_all, led_from, gone, stopped, acted, switched, merged}
-use Rattle.net_board.proofs.MemberLaws.{Member-range, Member-in_range}
+use Rattle.list_laws.proofs.Members.{Member-range, Member-in_range}
 use Rattle.net_board.proofs.ListPrefixes.{take_more, HasItem, item_at}
 use Rattle.net_board.proofs.ListPlaces.{put, get_set_same, get_set_other, with_all_other, with_all_same}
 

@@ -12,16 +12,17 @@ use Rattle.firing.specs.Moves.{CanFire}
 use Rattle.net_board.specs.SoundNets.{IsNet, CanCome}
 use Rattle.net_board.specs.Footprints.{Line, Left, at, foot_as, foot}
 use Rattle.net_board.specs.ProgramFacts.{ProgramFacts}
-use Rattle.net_board.specs.Members.{Member}
+use Rattle.list_laws.specs.Member.{Member}
 use Rattle.net_board.specs.Nodes.{NetOf, graph_in, all_lines, touched, nodes_of, node_at, first_node, switches}
 use Rattle.net_board.specs.Tokens.{Tokens, joined, edge_of, left_for, leads_to, is_before, ready_as, fired_as, net_moves}
 use Rattle.net_board.specs.WithinPiece.{moved_by}
 use Rattle.net_board.specs.WokenNodes.{place_of, HasNext, waiting_for, IsWoken}
-use Rattle.net_board.proofs.MemberLaws.{Member-filtered, Member-in_range, IsPassed, member_of_list_any}
+use Rattle.list_laws.proofs.Members.{Member-filtered, Member-in_range, IsPassed, member_of_list_any}
 use Rattle.net_board.proofs.FiringLaws.{footed}
 use Rattle.net_board.proofs.NodeLaws.{piece_of, is_touched, one_number, IsNamed, named, IsSwitch, switch_is}
-use Rattle.net_board.proofs.ListPlaces.{all_pass, same_tests, left_of, right_of}
+use Rattle.net_board.proofs.ListPlaces.{all_pass, same_tests}
 use Rattle.net_board.proofs.NodeNumbers.{act_is_first, act_place, switch_is_at, merge_is_at}
+use Rattle.std.proofs.lemmas.Bool.{and_parts}
 
 both_ways : {P : Type 0} (b : Bool) → b ≡ true → b ≡ false → P
 both_ways b yes' no' = let e : true ≡ false = sym yes' ∙ no' in absurd cc
@@ -115,8 +116,8 @@ module _ (ground : ProgramFacts) (net : NetOf) (is : IsNet net) (m : Tokens) (k 
   switch : (j piece line : ℕ) → j < length (nodes_of net) → j ≢ k → node_at net j ≡ Switch piece line → IsNew j (Switch piece line) → Contains woken j
   switch j piece line below differ name new =
       let own : IsNamed net (Switch piece line) = subst (λ a. IsNamed net a) name (named net j below) in
-      let stands : is_before net n piece line ≡ true = left_of (is_before net n piece line) (is_some (left_for n j)) new.1 in
-      let full : is_some (left_for n j) ≡ true = right_of (is_before net n piece line) (is_some (left_for n j)) new.1 in
+      let stands : is_before net n piece line ≡ true = (and_parts (is_before net n piece line) (is_some (left_for n j)) new.1).0 in
+      let full : is_some (left_for n j) ≡ true = (and_parts (is_before net n piece line) (is_some (left_for n j)) new.1).1 in
       alone j piece line below own.fits.2 (ap (λ a. takes net a line) name ∙ eq-eqb line line refl) (ap piece_of name) stands
       (λ same. ⊎_elim
       (λ (mine : foot_as net is.classes k (node_at net k) (Left j) ≡ true). freed_switch j (node_at net k) differ refl mine)
@@ -149,10 +150,10 @@ module _ (ground : ProgramFacts) (net : NetOf) (is : IsNet net) (m : Tokens) (k 
   act j piece below differ name new = by (search_all (takes net (node_at net k)) (touched net piece)) (search_all (λ node. foot_as net is.classes k (node_at net k) (Left node)) (switches net piece))
     where
       stand : list_all (is_before net n piece) (touched net piece) ≡ true
-      stand = left_of (list_all (is_before net n piece) (touched net piece)) (list_all (λ node. not (is_some (left_for n node))) (switches net piece)) new.1
+      stand = (and_parts (list_all (is_before net n piece) (touched net piece)) (list_all (λ node. not (is_some (left_for n node))) (switches net piece)) new.1).0
 
       clear : list_all (λ node. not (is_some (left_for n node))) (switches net piece) ≡ true
-      clear = right_of (list_all (is_before net n piece) (touched net piece)) (list_all (λ node. not (is_some (left_for n node))) (switches net piece)) new.1
+      clear = (and_parts (list_all (is_before net n piece) (touched net piece)) (list_all (λ node. not (is_some (left_for n node))) (switches net piece)) new.1).1
 
       by : IsPassed (takes net (node_at net k)) (touched net piece) ⊎ ((line : ℕ) → Member (touched net piece) line → takes net (node_at net k) line ≡ false)
           → IsPassed (λ node. foot_as net is.classes k (node_at net k) (Left node)) (switches net piece) ⊎ ((node : ℕ) → Member (switches net piece) node → foot_as net is.classes k (node_at net k) (Left node) ≡ false)

@@ -1,4 +1,3 @@
-pub mod Members
 pub mod Nodes
 pub mod Tokens
 pub mod ControlCourse

@@ -7,7 +7,7 @@ use Rattle.cfg_build.specs.declared.pieces.PieceKind.TheVariants as kind
 use Rattle.firing.specs.declared.system.NodeName.{NodeName}
 use Rattle.firing.specs.declared.system.NodeName.TheVariants.{Act, Switch}
 use Rattle.net_board.specs.WithinPiece.{moved_by}
-use Rattle.net_board.specs.Members.{Member}
+use Rattle.list_laws.specs.Member.{Member}
 use Rattle.net_board.specs.Nodes.{NetOf, graph_in, kind_in, all_lines, is_free, nodes_of, first_node, switches}
 use Rattle.net_board.specs.Tokens.{Tokens, edge_of}
 

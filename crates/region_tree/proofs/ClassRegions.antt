@@ -10,7 +10,7 @@ use Rattle.closed_walks.specs.Region.{IsPair, IsBefore, IsInside, IsRegion}
 use Rattle.region_tree.specs.Classes.{first_of, next_of}
 use Rattle.region_tree.specs.Scan.{IsScan}
 use Rattle.region_tree.specs.Facts.{RegionFacts, HasSides}
-use Rattle.region_tree.proofs.Held.{Holds-right, Holds-append, AllDiffer-apart, AllDiffer-right, IsSplitAt, split_at}
+use Rattle.closed_walks.proofs.Held.{Holds-right, Holds-append, AllDiffer-apart, AllDiffer-right, IsSplitAt, split_at}
 
 pub option_cases : (v : Option ℕ) → (v ≡ None) ⊎ ((y : ℕ) × (v ≡ Some y))
 option_cases None = inl refl

@@ -1,7 +1,6 @@
 pub mod Chains
 pub mod ClassNumbers
 pub mod ClassRegions
-pub mod Held
 pub mod Listed
 pub mod Listings
 pub mod Nestings

@@ -9,7 +9,7 @@ use Rattle.region_tree.specs.Facts.{RegionFacts}
 use Rattle.region_tree.specs.Scan.{IsHead, IsScan}
 use Rattle.region_tree.specs.Tree.{Tree, entry_of, exit_of, IsNumber, IsIn, AreRegions, IsLeastOrNone, IsAround}
 use Rattle.region_tree.specs.Nesting.{IsNested}
-use Rattle.region_tree.proofs.Held.{Holds-append, Holds-at}
+use Rattle.closed_walks.proofs.Held.{Holds-append, Holds-at}
 use Rattle.region_tree.proofs.Within.{IsOuter, least_row, one_number, outer_stays, outer_leaves, head_none, entered_parent, entered_least}
 
 -- ---- where a walk ends

@@ -8,7 +8,7 @@ use Rattle.closed_walks.specs.Walk.{Walk, Holds}
 use Rattle.closed_walks.specs.Cycle.{AllDiffer}
 use Rattle.closed_walks.specs.Region.{IsFlowGraph, IsReachedBy, IsGrown}
 use Rattle.region_tree.specs.Scan.{leaving, edges_from, IsScan, is_seen, unseen, IsOrder, IsHead, Discovers, Finds}
-use Rattle.region_tree.proofs.Held.{Holds-left, Holds-right, Holds-append, Holds-at, Holds-take_append, Holds-filter, filter-Holds, AllDiffer-append, AllDiffer-filter, AllDiffer-rising}
+use Rattle.closed_walks.proofs.Held.{Holds-left, Holds-right, Holds-append, Holds-at, Holds-take_append, Holds-filter, filter-Holds, AllDiffer-append, AllDiffer-filter, AllDiffer-rising}
 
 -- ---- the edges that begin at nodes
 

@@ -5,6 +5,7 @@ use Rattle.firing.specs.Laws.{IsLawful, AreReady}
 use Rattle.firing.specs.Moves.{IsSilent}
 use Rattle.firing.proofs.FootprintLemmas.{shared_lawful}
 use Rattle.sample_nets.specs.Forks.{Fork, fork_ready, fork_fired, fork_moves, is_writer, any_fork, Part, Line, Word, First, Second, Readers, Value, at, foot, shares, update}
+use Rattle.std.proofs.lemmas.Bool.{and_parts}
 
 abbrev Updated : Fork → Fork → ℕ → Part → Type 0
 Updated m n k part = IsUpdated any_fork fork_moves at shares update m n k part
@@ -101,14 +102,6 @@ inside m n (suc (suc k)) seen Word mine own = ap (λ w. w + 1) (word_left m n (s
 inside m n (suc (suc k)) seen First mine own = absurd cc
 inside m n (suc (suc k)) seen Second mine own = absurd cc
 
-left_true : (a b : Bool) → (a && b) ≡ true → a ≡ true
-left_true true b is = refl
-left_true false b is = absurd cc
-
-right_true : (a b : Bool) → (a && b) ≡ true → b ≡ true
-right_true true b is = is
-right_true false b is = absurd cc
-
 not_both : {P : Type 0} (a : Bool) → not a ≡ true → a ≡ true → P
 not_both true is isnt = absurd cc
 not_both false is isnt = absurd cc
@@ -118,8 +111,8 @@ abbrev Both : Fork → ℕ → ℕ → Type 0
 Both m j k = AreReady any_fork fork_moves m j k
 
 writer_alone : {P : Type 0} (m : Fork) (j k : ℕ) → Both m j (suc (suc k)) → P
-writer_alone m zero k both = not_both m.first_read both.first.ready (left_true m.first_read m.second_read both.second.ready)
-writer_alone m (suc zero) k both = not_both m.second_read both.first.ready (right_true m.first_read m.second_read both.second.ready)
+writer_alone m zero k both = not_both m.first_read both.first.ready ((and_parts m.first_read m.second_read both.second.ready).0)
+writer_alone m (suc zero) k both = not_both m.second_read both.first.ready ((and_parts m.first_read m.second_read both.second.ready).1)
 writer_alone m (suc (suc j)) k both = let first = both.first.node in let second = both.second.node in absurd (both.differ (omega (arith, first, second)))
 
 apart : (m : Fork) (j k : ℕ) → Both m j k → (part : Part) → foot j part ≡ true → foot k part ≡ true → shares k part ≡ true

@@ -5,23 +5,16 @@ use Rattle.sample_nets.specs.declared.counts.Counts.{Counts}
 use Rattle.firing.specs.Laws.{IsLawful, AreReady}
 use Rattle.firing.specs.Moves.{CanFire, IsSilent}
 use Rattle.sample_nets.specs.Counting.{AreSmall, counter_moves, is_ready, after_node, is_serial, line_of, trap_of}
+use Rattle.std.proofs.lemmas.Bool.{and_parts}
 
 abbrev Both : Counts → ℕ → ℕ → Type 0
 Both m j k = AreReady AreSmall counter_moves m j k
 
-left_true : (a b : Bool) → (a && b) ≡ true → a ≡ true
-left_true true b is = refl
-left_true false b is = absurd cc
-
-right_true : (a b : Bool) → (a && b) ≡ true → b ≡ true
-right_true true b is = is
-right_true false b is = absurd cc
-
 -- the writer and the trap are never both ready
 apart : (a b : ℕ) → (nat_lt 0 a && nat_lt 0 b) ≡ true → (nat_lt 0 a && nat_eq b 0) ≡ true → ⊥
 apart a b first second =
-    let some : 0 < b = ltb-true 0 b (right_true (nat_lt 0 a) (nat_lt 0 b) first) in
-    let none : b ≡ 0 = eqb-true b 0 (right_true (nat_lt 0 a) (nat_eq b 0) second) in
+    let some : 0 < b = ltb-true 0 b ((and_parts (nat_lt 0 a) (nat_lt 0 b) first).1) in
+    let none : b ≡ 0 = eqb-true b 0 ((and_parts (nat_lt 0 a) (nat_eq b 0) second).1) in
     omega (arith, some, none)
 
 same_node : {P : Type 0} (m : Counts) (i j : ℕ) → Both m (suc (suc (suc i))) (suc (suc (suc j))) → P
@@ -39,7 +32,7 @@ feed_count m ready =
 
 feed_write : (m : Counts) → is_ready m 2 ≡ true → after_node (after_node m 0) 2 ≡ after_node (after_node m 2) 0
 feed_write m ready =
-    let some : 0 < m.right = ltb-true 0 m.right (left_true (nat_lt 0 m.right) (nat_lt 0 m.lines) ready) in
+    let some : 0 < m.right = ltb-true 0 m.right ((and_parts (nat_lt 0 m.right) (nat_lt 0 m.lines) ready).0) in
     let same : (m.right + 1) - 1 ≡ (m.right - 1) + 1 = omega (arith, some) in
     ap (λ (n : ℕ). record m { supply = m.supply - 1; left = m.left + 1; right = n; lines = m.lines - 1; written = m.written + 1 }) same
 
@@ -67,8 +60,8 @@ more n = lt-ltb 0 (n + 1) (omega arith)
 stays : (m : Counts) (j k : ℕ) → Both m j k → is_ready (after_node m j) k ≡ true
 stays m zero zero both = absurd (both.differ refl)
 stays m zero (suc zero) both = more m.left
-stays m zero (suc (suc zero)) both = and_from (nat_lt 0 (m.right + 1)) (nat_lt 0 m.lines) (more m.right) (right_true (nat_lt 0 m.right) (nat_lt 0 m.lines) both.second.ready)
-stays m zero (suc (suc (suc j))) both = and_from (nat_lt 0 (m.right + 1)) (nat_eq m.lines 0) (more m.right) (right_true (nat_lt 0 m.right) (nat_eq m.lines 0) both.second.ready)
+stays m zero (suc (suc zero)) both = and_from (nat_lt 0 (m.right + 1)) (nat_lt 0 m.lines) (more m.right) ((and_parts (nat_lt 0 m.right) (nat_lt 0 m.lines) both.second.ready).1)
+stays m zero (suc (suc (suc j))) both = and_from (nat_lt 0 (m.right + 1)) (nat_eq m.lines 0) (more m.right) ((and_parts (nat_lt 0 m.right) (nat_eq m.lines 0) both.second.ready).1)
 stays m (suc zero) zero both = both.second.ready
 stays m (suc zero) (suc zero) both = absurd (both.differ refl)
 stays m (suc zero) (suc (suc zero)) both = both.second.ready
@@ -134,7 +127,7 @@ stays_small m (suc zero) small can =
     let first = small.counter_side in
     record { counter_side = omega (arith, some, first); writer_side = small.writer_side }
 stays_small m (suc (suc zero)) small can =
-    let some : 0 < m.right = ltb-true 0 m.right (left_true (nat_lt 0 m.right) (nat_lt 0 m.lines) can.ready) in
+    let some : 0 < m.right = ltb-true 0 m.right ((and_parts (nat_lt 0 m.right) (nat_lt 0 m.lines) can.ready).0) in
     let second = small.writer_side in
     record { counter_side = small.counter_side; writer_side = omega (arith, some, second) }
 stays_small m (suc (suc (suc k))) small can = record { counter_side = small.counter_side; writer_side = small.writer_side }

@@ -4,7 +4,7 @@ use Rattle.dep_routing.specs.Routing.{next_at}
 use Rattle.op_table.specs.declared.Trap.{Trap}
 use Rattle.cfg_build.specs.Passes.{Traps, out}
 use Rattle.firing.specs.declared.system.NodeName.TheVariants.{Merge, Switch}
-use Rattle.net_board.specs.Members.{Member}
+use Rattle.list_laws.specs.Member.{Member}
 use Rattle.net_board.specs.Nodes.{NetOf, graph_in, nodes_of, first_node}
 use Rattle.net_board.specs.Tokens.{Tokens, acted, edge_of, gone, left_for, stopped, switched}
 use Rattle.net_board.specs.WokenNodes.{HasNext, IsWoken}

@@ -5,7 +5,7 @@ use Rattle.closed_walks.specs.Graph.{Graph, IsGraph, edge_count}
 use Rattle.cfg_build.specs.Joined.{FlowGraph}
 use Rattle.net_board.specs.ControlCourse.{arrival, passed_by}
 use Rattle.net_board.specs.Nodes.{NetOf, graph_in, all_lines, touched}
-use Rattle.net_board.proofs.MemberLaws.{Member-at, Member-filtered, Member-in_range}
+use Rattle.list_laws.proofs.Members.{Member-at, Member-filtered, Member-in_range}
 use Rattle.token_net.specs.declared.program_parts.Plan.{Plan}
 use Rattle.token_net.specs.PartsView.{net_in}
 use Rattle.token_net.proofs.TableLemmas.{short_filter, passed_by_exists}

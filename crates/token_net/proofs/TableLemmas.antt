@@ -14,19 +14,17 @@ use Rattle.cfg_build.specs.Joined.{FlowGraph, is_end}
 use Rattle.cfg_build.specs.Passes.{out, outs}
 use Rattle.cfg_build.specs.Shape.{kind_at}
 use Rattle.dep_routing.specs.Touch.{touches_in}
-use Rattle.net_board.specs.Members.{Member}
+use Rattle.list_laws.specs.Member.{Member}
 use Rattle.net_board.specs.Nodes.{NetOf, graph_in, kind_in, nodes_at, nodes_below, node_count, first_node}
 use Rattle.net_board.specs.ControlCourse.{arrival, is_idle, passed, passed_by}
-use Rattle.net_board.proofs.MemberLaws.{Member-cases, Member-at, Member-filtered, Member-in_range}
+use Rattle.list_laws.proofs.Members.{Member-cases, Member-at, Member-filtered, Member-in_range}
 use Rattle.token_net.specs.NetTables.{all_edges}
+use Rattle.list_laws.proofs.Ranges.{range_more}
 
 -- one number more
 pub range_push : (a n : ℕ) → range_with_len a (suc n) ≡ range_with_len a n ++ (a + n) ∷ []
 range_push a zero = let e : a ≡ a + 0 = omega arith in ap (λ x. x ∷ []) e
 range_push a (suc n) = let e : (a + 1) + n ≡ a + suc n = omega arith in ap (λ xs. a ∷ xs) (range_push (a + 1) n ∙ ap (λ x. range_with_len (a + 1) n ++ x ∷ []) e)
-
-pub range_more : (n : ℕ) → range_with_len 0 (n + 1) ≡ range_with_len 0 n ++ n ∷ []
-range_more n = let e : n + 1 ≡ suc n = omega arith in let z : 0 + n ≡ n = omega arith in ap (range_with_len 0) e ∙ range_push 0 n ∙ ap (λ x. range_with_len 0 n ++ x ∷ []) z
 
 module _ {X Y : Type 0} where
   map_append : (f : X → Y) (xs ys : List X) → map f (xs ++ ys) ≡ map f xs ++ map f ys

@@ -4,11 +4,11 @@ use Rattle.std.specs.List.{list_all, range_with_len}
 use Rattle.closed_walks.specs.Graph.{Graph, edge_count}
 use Rattle.cfg_build.specs.Joined.{FlowGraph}
 use Rattle.dep_routing.specs.Routing.{next_at}
-use Rattle.net_board.specs.Members.{Member}
+use Rattle.list_laws.specs.Member.{Member}
 use Rattle.net_board.specs.Nodes.{graph_in}
 use Rattle.net_board.specs.Tokens.{joined, led_from, with_all}
 use Rattle.net_board.specs.TokenEdges.{AreEdges, edge_at}
-use Rattle.net_board.proofs.MemberLaws.{Member-range, IsAt, at_of}
+use Rattle.list_laws.proofs.Members.{Member-range, IsAt, at_of}
 use Rattle.net_board.proofs.ListPlaces.{all_pass, same_or_not, member_or_not, with_all_other, with_all_same, put, get_set_same, get_set_other}
 use Rattle.token_net.specs.declared.program_parts.Plan.{Plan}
 use Rattle.token_net.specs.PartsView.{net_in}

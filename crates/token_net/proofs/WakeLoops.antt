@@ -2,11 +2,11 @@
 use Rattle.std.proofs.Common.{◌≡◌, ◌<◌, ◌≤◌, ◌+◌, ◌-◌, ◌⊎◌, inl, inr, ℕ, suc, List, get_or, Contains, Option, Some, None, sym, ap, ◌∙◌, subst, arith}
 use Rattle.std.specs.List.{range_with_len}
 use Rattle.closed_walks.specs.Graph.{to}
-use Rattle.net_board.specs.Members.{Member}
+use Rattle.list_laws.specs.Member.{Member}
 use Rattle.net_board.specs.Nodes.{NetOf, graph_in}
 use Rattle.net_board.specs.TokenEdges.{edge_at}
 use Rattle.net_board.specs.WokenNodes.{HasNext, no_node, place_of}
-use Rattle.net_board.proofs.MemberLaws.{Member-in_range, IsAt, at_of}
+use Rattle.list_laws.proofs.Members.{Member-in_range, IsAt, at_of}
 use Rattle.net_board.proofs.ListPlaces.{same_or_not}
 use Rattle.token_net.specs.WokenList.{Keeps}
 

@@ -2,7 +2,7 @@
 
 ghost use Rattle.std.specs.Prelude.{◌≡◌, ◌<◌, ◌≤◌, ◌+◌, ◌*◌, ℕ, All, Some, [], Contains, length, true, vec_capacity};
 ghost use Rattle.closed_walks.specs.Graph.{edge_count};
-ghost use Rattle.net_board.specs.Members.{Member};
+ghost use Rattle.list_laws.specs.Member.{Member};
 ghost use Rattle.net_board.specs.Nodes.{is_acting, graph_in, kind_in, nodes_of, switches, touched};
 ghost use Rattle.net_board.specs.TokenEdges.{AreEdges, edge_at};
 ghost use Rattle.net_board.specs.Tokens.{led_from, with_all};

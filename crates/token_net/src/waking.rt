@@ -2,7 +2,7 @@
 
 ghost use Rattle.std.specs.Prelude.{◌≡◌, ◌<◌, ◌≤◌, ◌+◌, ◌-◌, ℕ, All, suc, length, vec_len, vec_capacity};
 ghost use Rattle.std.specs.List.{Contains, range_with_len};
-ghost use Rattle.net_board.specs.Members.{Member};
+ghost use Rattle.list_laws.specs.Member.{Member};
 ghost use Rattle.net_board.specs.TokenEdges.{AreEdges, edge_at};
 ghost use Rattle.net_board.specs.WokenNodes.{HasNext, no_node};
 ghost use Rattle.token_net.specs.LookupView.{net_on};

@@ -1,7 +1,8 @@
 use Rattle.std.proofs.Common.{◌≡◌, ◌≤◌, length, subst, arith}
 use Rattle.std.specs.List.{position_or_len}
-use Rattle.cycle_equiv.proofs.NamedEdges.{IsNamed, IsNamed-none, IsNamed-next, AreNumbered-all, place_within, same_names, name}
+use Rattle.cycle_equiv.proofs.NamedEdges.{IsNamed, IsNamed-none, IsNamed-next, AreNumbered-all, no_name, same_names, name}
 use Rattle.cycle_equiv.proofs.naming.numbered.Goals as goal
+use Rattle.list_laws.proofs.KeyPlaces.{place_within}
 
 pub loop-e-init : goal.loop-e-init
 loop-e-init c = rw (c.new-names.ensures.empty, c.new-classes.ensures.items) (IsNamed-none c.args.tops.now c.args.sizes.now)
@@ -11,7 +12,7 @@ overflow_cast-class c =
     let tops = c.args.tops.now in
     let e = c.loop-e.e in
     let few : length c.loop-e.names.keys ≤ e = c.loop-e.invariant.few in
-    let place : position_or_len (same_names (name tops c.args.sizes.now e)) c.loop-e.names.keys ≤ length c.loop-e.names.keys = place_within same_names (name tops c.args.sizes.now e) c.loop-e.names.keys in
+    let place : position_or_len (same_names (name tops c.args.sizes.now e)) c.loop-e.names.keys ≤ length c.loop-e.names.keys = place_within same_names no_name (name tops c.args.sizes.now e) c.loop-e.names.keys in
     let is : c.in-Ok.class ≡ position_or_len (same_names (name tops c.args.sizes.now e)) c.loop-e.names.keys = c.in-Ok.ensures.index in
     omega (arith, few, place, is, c.loop-e-test.true, c.requires.few)
 

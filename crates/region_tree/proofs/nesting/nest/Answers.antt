@@ -4,7 +4,7 @@ use Rattle.closed_walks.specs.Graph.{edge_count, from}
 use Rattle.region_tree.specs.Listing.{IsListedAt}
 use Rattle.region_tree.specs.Nesting.{table}
 use Rattle.region_tree.specs.Tree.{IsLeastOrNone, exit_of}
-use Rattle.region_tree.proofs.Held.{Holds-at, zero_of}
+use Rattle.closed_walks.proofs.Held.{Holds-at, zero_of}
 use Rattle.region_tree.proofs.Within.{IsOuter}
 use Rattle.region_tree.proofs.Nestings.{IsNested-begin, IsNested-none, IsNested-entered, here_row, outer_right_stays, outer_right_leaves}
 use Rattle.region_tree.proofs.nesting.nest.Goals as goal

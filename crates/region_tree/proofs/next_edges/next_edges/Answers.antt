@@ -1,6 +1,6 @@
 use Rattle.std.proofs.Common.{◌≡◌, ◌-◌, ◌<◌, ◌∷◌, ◌∙◌, suc, length, get_or, drop, ap, arith, None, drop-cons}
 use Rattle.std.proofs.lemmas.List.{get_or_read}
-use Rattle.region_tree.proofs.Held.{Holds-at}
+use Rattle.closed_walks.proofs.Held.{Holds-at}
 use Rattle.region_tree.proofs.NextEdges.{IsLinked-step}
 use Rattle.region_tree.proofs.next_edges.next_edges.Goals as goal
 

@@ -1,7 +1,7 @@
 use Rattle.std.proofs.Common.{◌≡◌, ◌<◌, ◌∙◌, length, get_or, sym, ap, subst}
 use Rattle.closed_walks.specs.Graph.{from, to, edges_at}
 use Rattle.closed_walks.specs.Walk.{Holds}
-use Rattle.region_tree.proofs.Held.{Holds-at}
+use Rattle.closed_walks.proofs.Held.{Holds-at}
 use Rattle.region_tree.proofs.Scanning.{IsLeaving-skip, IsLeaving-take, IsFound, found}
 use Rattle.region_tree.proofs.scan.leave.Goals as goal
 use Rattle.region_tree.proofs.scan.leave.Goals.{then-from-node+in_ok-push+in_ok-find, else-from-node}

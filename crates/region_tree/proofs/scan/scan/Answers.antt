@@ -2,7 +2,7 @@ use Rattle.std.proofs.Common.{◌≡◌, ◌<◌, ◌++◌, length, get_or, subs
 use Rattle.std.proofs.lemmas.List.{get_or_read}
 use Rattle.closed_walks.specs.Graph.{edges_at}
 use Rattle.region_tree.specs.Scan.{leaving, Discovers}
-use Rattle.region_tree.proofs.Held.{Holds-at}
+use Rattle.closed_walks.proofs.Held.{Holds-at}
 use Rattle.region_tree.proofs.Scanning.{NodeEdges, IsScanning-step, IsScanning-end}
 use Rattle.region_tree.proofs.scan.scan.Goals as goal
 

@@ -1,5 +1,5 @@
 use Rattle.std.proofs.Common.{◌≡◌, ℕ, List, Some, length, vec_len, subst, sym, ap, ◌∙◌, arith, rules}
-use Rattle.net_board.specs.Members.{Member}
+use Rattle.list_laws.specs.Member.{Member}
 use Rattle.net_board.specs.TokenEdges.{edge_at}
 use Rattle.net_board.specs.Tokens.{with_all}
 use Rattle.token_net.specs.LookupView.{net_on}

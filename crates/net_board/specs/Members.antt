@@ -1,6 +1,0 @@
--- The members of a list, of whatever type.
-use Rattle.std.specs.Prelude.{◌≡◌, ◌⊎◌, List, [], ◌∷◌}
-
-abbrev pub Member : {X : Type 0} → List X → X → Type 0
-Member [] x = ⊥
-Member (y ∷ ys) x = (y ≡ x) ⊎ Member ys x
