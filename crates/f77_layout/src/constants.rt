@@ -47,17 +47,17 @@ impl<'a> Constants<'a> {
         ensures bound { IfSome result (λ run. run.times ≤ most) }
         ensures none { IfNone result (self.new ≡ []) }
     {
-        while let Some((run, rest)) = self.values.split_first() {
-            if self.taken < run.times {
-                let times = most.min(run.times - self.taken);
+        while let Some((first, rest)) = self.values.split_first() {
+            if self.taken < first.times {
+                let times = most.min(first.times - self.taken);
                 self.taken += times;
                 return Some(Run {
-                    value: run.value,
+                    value: first.value,
                     times,
                 });
             }
             self.values = rest;
-            self.taken -= run.times;
+            self.taken -= first.times;
         }
         None
     }

@@ -29,13 +29,13 @@ fn takes(constants: &mut Constants<'_>, len: u32, kind: Kind) -> bool
 {
     let mut left = len;
     while left > 0 {
-        let Some(run) = constants.take(left) else {
+        let Some(first) = constants.take(left) else {
             return false;
         };
-        if !is_of_kind(kind, run.value) {
+        if !is_of_kind(kind, first.value) {
             return false;
         }
-        left -= run.times;
+        left -= first.times;
     }
     true
 }

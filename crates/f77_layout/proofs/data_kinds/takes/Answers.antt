@@ -8,20 +8,20 @@ use Rattle.f77_layout.proofs.data_kinds.takes.Goals as goal
 pub loop-left-preserved : goal.loop-left-preserved
 loop-left-preserved c = λ more.
     let kind = c.args.kind in
-    let run = c.in-Some.run in
+    let first = c.in-Some.first in
     let left = c.loop-left.left in
     c.loop-left.invariant more
     ∙ ap (λ (constants : List Lit). are_same_kinds (replicate left kind ++ more) (map lit_kind constants)) c.in-Some.ensures.taken
-    ∙ kinds_run kind run.value more c.take.new.self (sym c.is_of_kind.ensures ∙ c.if-not-is_of_kind.false) left run.times c.in-Some.ensures.bound
+    ∙ kinds_run kind first.value more c.take.new.self (sym c.is_of_kind.ensures ∙ c.if-not-is_of_kind.false) left first.times c.in-Some.ensures.bound
 
 pub returns-then-not-is_of_kind : goal.returns-then-not-is_of_kind
 returns-then-not-is_of_kind c = λ more.
     let kind = c.args.kind in
-    let run = c.in-Some.run in
+    let first = c.in-Some.first in
     let left = c.loop-left.left in
     c.loop-left.invariant more
     ∙ ap (λ (constants : List Lit). are_same_kinds (replicate left kind ++ more) (map lit_kind constants)) c.in-Some.ensures.taken
-    ∙ kinds_differ kind run.value more c.take.new.self (sym c.is_of_kind.ensures ∙ c.if-not-is_of_kind.true) left run.times c.loop-left-test.true c.in-Some.ensures.some
+    ∙ kinds_differ kind first.value more c.take.new.self (sym c.is_of_kind.ensures ∙ c.if-not-is_of_kind.true) left first.times c.loop-left-test.true c.in-Some.ensures.some
 
 pub returns-in_default : goal.returns-in_default
 returns-in_default c = λ more.

@@ -20,10 +20,10 @@ increments-requires-clause-room c =
     let s = c.index-self-place.result in
     let is : s ≡ get_or whole place s = c.index-self-place.is in
     let usable : IsUsable whole s = All-at (IsUsable whole) whole place s c.requires.place is c.requires.usable in
-    let next : c.after-next.result ≡ beyond whole place s = c.after-next.ensures s ∙ ap (beyond whole place) (sym is) in
-    let own_so : c.own.new.execs ≡ old ++ at_line (get_or whole place s).line (own_kinds names checked whole place (length old) c.after-next.result (get_or whole place s).stmt) = search rules in
-    let own = own_so ∙ ap (λ (a : Labelled). old ++ at_line a.line (own_kinds names checked whole place (length old) c.after-next.result a.stmt)) (sym is) in
-    let all : AreAll names checked whole place s old c.own.new.execs = all-executables names checked whole place s old c.own.new.execs c.after-next.result c.requires.place is usable c.requires.index next own in
+    let next : c.beyond-next.result ≡ beyond whole place s = c.beyond-next.ensures s ∙ ap (beyond whole place) (sym is) in
+    let own_so : c.own.new.execs ≡ old ++ at_line (get_or whole place s).line (own_kinds names checked whole place (length old) c.beyond-next.result (get_or whole place s).stmt) = search rules in
+    let own = own_so ∙ ap (λ (a : Labelled). old ++ at_line a.line (own_kinds names checked whole place (length old) c.beyond-next.result a.stmt)) (sym is) in
+    let all : AreAll names checked whole place s old c.own.new.execs = all-executables names checked whole place s old c.own.new.execs c.beyond-next.result c.requires.place is usable c.requires.index next own in
     let same = ap (λ (a : Labelled). length (loops_to whole a.label)) (sym is) in
     omega (arith, same, all.longer, executables-within whole place s c.requires.place is, c.requires.flow.few)
 
@@ -37,10 +37,10 @@ returns-clause-execs c =
     let s = c.index-self-place.result in
     let is : s ≡ get_or whole place s = c.index-self-place.is in
     let usable : IsUsable whole s = All-at (IsUsable whole) whole place s c.requires.place is c.requires.usable in
-    let next : c.after-next.result ≡ beyond whole place s = c.after-next.ensures s ∙ ap (beyond whole place) (sym is) in
-    let own_so : c.own.new.execs ≡ old ++ at_line (get_or whole place s).line (own_kinds names checked whole place (length old) c.after-next.result (get_or whole place s).stmt) = search rules in
-    let own = own_so ∙ ap (λ (a : Labelled). old ++ at_line a.line (own_kinds names checked whole place (length old) c.after-next.result a.stmt)) (sym is) in
-    let all : AreAll names checked whole place s old c.own.new.execs = all-executables names checked whole place s old c.own.new.execs c.after-next.result c.requires.place is usable c.requires.index next own in
+    let next : c.beyond-next.result ≡ beyond whole place s = c.beyond-next.ensures s ∙ ap (beyond whole place) (sym is) in
+    let own_so : c.own.new.execs ≡ old ++ at_line (get_or whole place s).line (own_kinds names checked whole place (length old) c.beyond-next.result (get_or whole place s).stmt) = search rules in
+    let own = own_so ∙ ap (λ (a : Labelled). old ++ at_line a.line (own_kinds names checked whole place (length old) c.beyond-next.result a.stmt)) (sym is) in
+    let all : AreAll names checked whole place s old c.own.new.execs = all-executables names checked whole place s old c.own.new.execs c.beyond-next.result c.requires.place is usable c.requires.index next own in
     let ends : OnOk c.increments.result (c.increments.new.execs ≡ c.own.new.execs ++ at_line s.line (increments names whole place (length c.own.new.execs) (loops_to whole s.label))) =
     subst (λ (a : Labelled). OnOk c.increments.result (c.increments.new.execs ≡ c.own.new.execs ++ at_line a.line (increments names whole place (length c.own.new.execs) (loops_to whole a.label)))) (sym is) c.increments.ensures
     in
@@ -56,10 +56,10 @@ returns-clause-index c =
     let s = c.index-self-place.result in
     let is : s ≡ get_or whole place s = c.index-self-place.is in
     let usable : IsUsable whole s = All-at (IsUsable whole) whole place s c.requires.place is c.requires.usable in
-    let next : c.after-next.result ≡ beyond whole place s = c.after-next.ensures s ∙ ap (beyond whole place) (sym is) in
-    let own_so : c.own.new.execs ≡ old ++ at_line (get_or whole place s).line (own_kinds names checked whole place (length old) c.after-next.result (get_or whole place s).stmt) = search rules in
-    let own = own_so ∙ ap (λ (a : Labelled). old ++ at_line a.line (own_kinds names checked whole place (length old) c.after-next.result a.stmt)) (sym is) in
-    let all : AreAll names checked whole place s old c.own.new.execs = all-executables names checked whole place s old c.own.new.execs c.after-next.result c.requires.place is usable c.requires.index next own in
+    let next : c.beyond-next.result ≡ beyond whole place s = c.beyond-next.ensures s ∙ ap (beyond whole place) (sym is) in
+    let own_so : c.own.new.execs ≡ old ++ at_line (get_or whole place s).line (own_kinds names checked whole place (length old) c.beyond-next.result (get_or whole place s).stmt) = search rules in
+    let own = own_so ∙ ap (λ (a : Labelled). old ++ at_line a.line (own_kinds names checked whole place (length old) c.beyond-next.result a.stmt)) (sym is) in
+    let all : AreAll names checked whole place s old c.own.new.execs = all-executables names checked whole place s old c.own.new.execs c.beyond-next.result c.requires.place is usable c.requires.index next own in
     let ends : OnOk c.increments.result (c.increments.new.execs ≡ c.own.new.execs ++ at_line s.line (increments names whole place (length c.own.new.execs) (loops_to whole s.label))) =
     subst (λ (a : Labelled). OnOk c.increments.result (c.increments.new.execs ≡ c.own.new.execs ++ at_line a.line (increments names whole place (length c.own.new.execs) (loops_to whole a.label)))) (sym is) c.increments.ensures
     in
