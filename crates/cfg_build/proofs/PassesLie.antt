@@ -1,18 +1,15 @@
 -- Each pass of a run lies within a step.
-use Rattle.std.proofs.Common.{◌≡◌, ℕ, zero, suc, ◌+◌, ◌-◌, ◌<◌, ◌≤◌, ℤ, true, false, List, [], ◌∷◌, ◌++◌, length, Some, None, Option, slice_get, slice_index, refl, sym, ap, ◌∙◌, subst, ⊎_elim, arith}
-use Rattle.std.proofs.lemmas.Bool.{cases_Bool, cases_lt, false≢true}
-use Rattle.std.proofs.lemmas.List.{length-append, get_or-append-add}
-use Rattle.closed_walks.specs.Graph.{to}
-use Rattle.op_table.specs.declared.Trap.{Trap}
+use Rattle.std.proofs.Common.{◌≡◌, ℕ, zero, suc, ◌+◌, ◌<◌, ◌≤◌, ℤ, true, List, ◌∷◌, length, Some, slice_get, refl, sym, ap, ◌∙◌, subst, ⊎_elim, arith}
+use Rattle.std.proofs.lemmas.Bool.{cases_lt}
 use Rattle.f77_tree.specs.declared.programs.Exec.{Exec}
 use Rattle.f77_tree.specs.declared.programs.NameInfo.{NameInfo}
 use Rattle.f77_tree.specs.declared.programs.Program.{Program}
 use Rattle.f77_tree.specs.Run.{State, Mark, Running, Ended, Trapped, source}
 use Rattle.f77_tree.specs.WellFormed.{AreExecs}
 use Rattle.cfg_build.specs.Control.{IsReachedExec, is_reached}
-use Rattle.cfg_build.specs.Flow.{flow, piece_at}
+use Rattle.cfg_build.specs.Flow.{flow}
 use Rattle.cfg_build.specs.Passes.{PassState, passed_from, passes}
-use Rattle.cfg_build.specs.Chains.{entry, has_test, following, chain, passes_of, StandsAt}
+use Rattle.cfg_build.specs.Chains.{entry, has_test, chain, passes_of, StandsAt}
 use Rattle.cfg_build.specs.Routes.{AreChain}
 use Rattle.cfg_build.specs.Steps.{HasOwnPiece, IsWithin, IsWithinStep, LiesInStep}
 use Rattle.cfg_build.proofs.ReachedNodes.{IsTold}

@@ -1,8 +1,7 @@
 -- Where the passes of a step lie, as far as chains are as they are said to be.
-use Rattle.std.proofs.Common.{◌≡◌, ℕ, zero, suc, ◌+◌, ◌-◌, ◌<◌, ◌≤◌, ℤ, true, false, List, [], ◌∷◌, ◌++◌, length, Some, slice_get, slice_index, refl, sym, ap, ◌∙◌, subst, ⊎_elim, arith}
+use Rattle.std.proofs.Common.{◌≡◌, ℕ, zero, suc, ◌<◌, ◌≤◌, ℤ, true, false, List, [], ◌∷◌, ◌++◌, length, Some, slice_get, slice_index, refl, sym, ap, ◌∙◌, subst, ⊎_elim, arith}
 use Rattle.std.proofs.lemmas.Bool.{cases_Bool}
 use Rattle.closed_walks.specs.Graph.{to}
-use Rattle.op_table.specs.declared.Trap.{Trap}
 use Rattle.f77_tree.specs.declared.programs.Exec.{Exec}
 use Rattle.f77_tree.specs.declared.programs.Program.{Program}
 use Rattle.f77_tree.specs.Execution.{Memory, Outcome, Goes, Stops, Ends, outcome}
@@ -71,8 +70,8 @@ module _ (f : FlowGraph) (entry : ℕ → ℕ) (p : Program) (input : List ℤ) 
 
     pub within_one : IsOnePart f entry p.execs x.position exec.kind pieces → (i : ℕ) → i < length pieces → IsWithin f pieces i x (step p input x) (go f p input i y)
     within_one c i exists = record {
-      begins = λ le. up_to_own c.prefix c.last [] i c.are c.route (ap leads_on c.ends.made.kind_is ∙ last_runs exec.kind) le;
-      goes_on = λ past. absurd (none_past f entry p.execs x.position exec.kind pieces c i past exists);
+      up_to_own = λ le. up_to_own c.prefix c.last [] i c.are c.route (ap leads_on c.ends.made.kind_is ∙ last_runs exec.kind) le;
+      past_own = λ past. absurd (none_past f entry p.execs x.position exec.kind pieces c i past exists);
     }
 
     past_own : (loop_no body exit : ℕ) (c : IsTwoParts f entry p.execs x.position exec.kind pieces) → ((m : Memory) → pass_of p input m (out f.graph c.act) piece.Act exec.kind ≡ acted (out f.graph c.act 0) (outcome p.names input m exec.kind)) → Tested loop_no body exit (outcome p.names input x.memory exec.kind) → (i : ℕ) → i < length pieces → led_in f pieces < i → ComesTo f.graph (slice_index pieces i) (step p input x) (go f p input i y)
@@ -95,8 +94,8 @@ module _ (f : FlowGraph) (entry : ℕ → ℕ) (p : Program) (input : List ℤ) 
 
     pub within_two : (loop_no body exit : ℕ) (c : IsTwoParts f entry p.execs x.position exec.kind pieces) → ((m : Memory) → pass_of p input m (out f.graph c.act) piece.Act exec.kind ≡ acted (out f.graph c.act 0) (outcome p.names input m exec.kind)) → Tested loop_no body exit (outcome p.names input x.memory exec.kind) → (i : ℕ) → i < length pieces → IsWithin f pieces i x (step p input x) (go f p input i y)
     within_two loop_no body exit c acts tells i exists = record {
-      begins = λ le. up_to_own c.prefix c.act (c.middle ++ c.test ∷ []) i c.are c.route (ap leads_on c.acts.kind_is) le;
-      goes_on = λ past. past_own loop_no body exit c acts tells i exists past;
+      up_to_own = λ le. up_to_own c.prefix c.act (c.middle ++ c.test ∷ []) i c.are c.route (ap leads_on c.acts.kind_is) le;
+      past_own = λ past. past_own loop_no body exit c acts tells i exists past;
     }
 
 module _ (told : IsTold) (lead_on : LeadOn) (p : Program) (input : List ℤ) (exist : SuccessorsExist p.execs) (some : 0 < length p.execs) (loops : AreLoops p.execs p.loops) where
@@ -122,8 +121,8 @@ module _ (told : IsTold) (lead_on : LeadOn) (p : Program) (input : List ℤ) (ex
     stopped_within x y pieces i stops agrees same stays =
         let c : ComesTo f.graph (slice_index pieces i) x (go f p input i y) = subst (λ (a : PassState). ComesTo f.graph (slice_index pieces i) x a) (sym same) (stopped f entry p input x y (slice_index pieces i) stops agrees) in
         record {
-          begins = λ le. c;
-          goes_on = λ less. subst (λ (s : State). ComesTo f.graph (slice_index pieces i) s (go f p input i y)) (sym stays) c;
+          up_to_own = λ le. c;
+          past_own = λ less. subst (λ (s : State). ComesTo f.graph (slice_index pieces i) s (go f p input i y)) (sym stays) c;
         }
 
     pub within : (x : State) (y : PassState) (i : ℕ) (mark : Mark) → x.mark ≡ mark → IsInside told lead_on p input exist some loops x → Agrees f entry p input y x → i < length (chain_of x.position) → IsWithin f (chain_of x.position) i x (step p input x) (go f p input i y)

@@ -1,8 +1,8 @@
 -- Holds that come in rounds are those of the definition.
-use Rattle.std.proofs.Common.{◌≡◌, ◌≢◌, ℕ, zero, suc, ◌+◌, ◌<◌, ◌≤◌, ◌⊎◌, Bool, true, false, cond, ◌==◌, nat_lt, List, [], ◌∷◌, ◌++◌, length, get_or, filter, fold, refl, sym, ap, ◌∙◌, subst, inl, inr, ⊎_elim, append-nil, append_assoc, arith}
+use Rattle.std.proofs.Common.{◌≡◌, ◌≢◌, ℕ, zero, suc, ◌+◌, ◌<◌, ◌≤◌, true, false, cond, ◌==◌, nat_lt, List, [], ◌∷◌, ◌++◌, length, get_or, filter, fold, refl, sym, ap, ◌∙◌, subst, inl, inr, ⊎_elim, append-nil, append_assoc, arith}
 use Rattle.std.proofs.Math.Seq.{get_or-append_seam}
-use Rattle.std.proofs.lemmas.Bool.{cases_Bool, cases_lt, cond-true, cond-false, lt-ltb, le-ltb, eqb-true, eq-eqb, ne_eqb, false≢true}
-use Rattle.std.proofs.lemmas.List.{length-append, get_or_append_left, get_or-append-add}
+use Rattle.std.proofs.lemmas.Bool.{cases_Bool, cases_lt, cond-true, cond-false, lt-ltb, le-ltb, ne_eqb}
+use Rattle.std.proofs.lemmas.List.{length-append, get_or_append_left}
 use Rattle.std.proofs.lemmas.List.FromFn.{length-range_with_len, get_or-range_with_len}
 use Rattle.std.proofs.lemmas.List.Sums.{fold_push, position_or_len_is, fails_before_first, passes_at_first}
 use Rattle.std.specs.List.{position_or_len, range_with_len}
@@ -17,18 +17,18 @@ use Rattle.cfg_build.specs.Joined.{FlowGraph, rows, finish, joined}
 use Rattle.cfg_build.specs.Holds.{is_on_cycle, is_held, is_join, held_edge, with_hold}
 use Rattle.cfg_build.specs.Flow.{flow, held, with_hold_for, piece_at}
 use Rattle.cfg_build.specs.Rounds.{is_stuck, lowest_stuck, hold_at, rounds}
-use Rattle.cfg_build.specs.Tables.{ReachesOne, Leaves}
+use Rattle.cfg_build.specs.Tables.{Leaves}
 use Rattle.cfg_build.proofs.AfterHolds.{AfterHolds, after_all}
 use Rattle.cfg_build.proofs.BuildingHolds.{stays_held}
 use Rattle.cfg_build.proofs.FanCounts.{comes_to, leaves_from}
-use Rattle.cfg_build.proofs.FlowEdges.{held_piece, IsHeldPiece, held_is, held_piece_is, held_rise}
+use Rattle.cfg_build.proofs.FlowEdges.{IsHeldPiece, held_is, held_piece_is, held_rise}
 use Rattle.cfg_build.proofs.HeldEdges.{IsHoldEdge, edge_for, hold_edge, hold_leaves_join, hold_comes_to_other, edges_apart}
 use Rattle.cfg_build.proofs.HoldDegrees.{HasHolds, none_yet, all_more}
 use Rattle.cfg_build.proofs.Holding.{begun, AreHeld, all_held}
 use Rattle.cfg_build.proofs.JoinedGraph.{row_graph, edge_zero}
 use Rattle.cfg_build.proofs.Lowest.{IsHeldBy, held_says}
 use Rattle.list_laws.specs.Member.{Member}
-use Rattle.list_laws.proofs.Members.{Member-left, Member-cases, Member-at, IsAt, at_of, Member-filter, Member-filtered, Member-range, Member-in_range}
+use Rattle.list_laws.proofs.Members.{Member-left, Member-at, IsAt, at_of, Member-filter, Member-filtered, Member-range, Member-in_range}
 use Rattle.cfg_build.proofs.PieceKinds.{pieces_of, length_pieces}
 use Rattle.cfg_build.proofs.ReachedNodes.{IsTold, Reaches, stay, along}
 use Rattle.cfg_build.proofs.ReachedPieces.{joined_sound, finish_below}

@@ -1,11 +1,11 @@
 -- What is reached after holds on some edges, and which pieces on cycles still can't come to the end.
-use Rattle.std.proofs.Common.{◌≡◌, ◌≢◌, ℕ, zero, suc, ◌+◌, ◌-◌, ◌<◌, ◌≤◌, ◌⊎◌, Bool, true, false, not, ◌&&◌, List, length, get_or, refl, sym, ap, ◌∙◌, subst, inl, inr, ⊎_elim, arith}
+use Rattle.std.proofs.Common.{◌≡◌, ◌≢◌, ℕ, zero, suc, ◌+◌, ◌-◌, ◌<◌, ◌≤◌, ◌⊎◌, true, false, not, List, length, get_or, refl, sym, ap, ◌∙◌, subst, inl, inr, ⊎_elim, arith}
 use Rattle.std.proofs.lemmas.Bool.{cases_Bool, cases_lt, cases_eq, and_parts, and_from, not-true, not_from_false, false≢true}
 use Rattle.closed_walks.specs.Graph.{Graph, IsGraph, edge_count, from, to}
 use Rattle.closed_walks.specs.Reaching.{reaches}
 use Rattle.cfg_build.specs.Holds.{is_on_cycle}
 use Rattle.cfg_build.specs.Rounds.{is_stuck}
-use Rattle.cfg_build.specs.Tables.{ReachesOne, Leaves}
+use Rattle.cfg_build.specs.Tables.{Leaves}
 use Rattle.cfg_build.proofs.AfterHolds.{AfterHolds}
 use Rattle.cfg_build.proofs.FlowEdges.{halves}
 use Rattle.cfg_build.proofs.HeldEdges.{IsHoldEdge}
@@ -44,18 +44,35 @@ module _ (g : Graph) (sound : IsGraph g) (finish : ℕ) (edge_of : ℕ → ℕ) 
     Stays : (q : ℕ) (few : q < length hs) (begins : from f k ≡ g.nodes + q) (leads : to f k ≡ to g (edge_of (get_or hs q 0))) → IsNow k
     Ends : (q : ℕ) (few : q < length hs) (begins : from f k ≡ g.nodes + q) (leads : to f k ≡ finish) → IsNow k
 
+  held_now : (k q : ℕ) → k < edge_count g → q < length hs → edge_of (get_or hs q 0) ≡ k → IsNow k
+  held_now k q old few on = Held old q few on (subst (λ e. to f e ≡ g.nodes + q) on (h.held q few))
+
+  stays_now : (k q : ℕ) → q < length hs → k ≡ edge_count g + (q + q) → IsNow k
+  stays_now k q few is =
+      Stays q few
+      (subst (λ n. from f n ≡ g.nodes + q) (sym is) (h.from_stay q few))
+      (subst (λ n. to f n ≡ to g (edge_of (get_or hs q 0))) (sym is) (h.to_stay q few))
+
+  ends_now : (k q : ℕ) → q < length hs → k ≡ edge_count g + (q + q) + 1 → IsNow k
+  ends_now k q few is =
+      Ends q few
+      (subst (λ n. from f n ≡ g.nodes + q) (sym is) (h.from_leave q few))
+      (subst (λ n. to f n ≡ finish) (sym is) (h.to_leave q few))
+
+  new_now : (k q : ℕ) → q < length hs → (k ≡ edge_count g + (q + q)) ⊎ (k ≡ edge_count g + (q + q) + 1) → IsNow k
+  new_now k q few (inl is) = stays_now k q few is
+  new_now k q few (inr is) = ends_now k q few is
+
+  old_now : (k : ℕ) → k < edge_count g → ((q : ℕ) × (q < length hs) × (edge_of (get_or hs q 0) ≡ k)) ⊎ ((q : ℕ) → q < length hs → edge_of (get_or hs q 0) ≢ k) → IsNow k
+  old_now k old (inl one) = held_now k one.0 old one.1 one.2
+  old_now k old (inr none) = Free old (h.free k old none)
+
   edge_now : (k : ℕ) → k < edge_count f → IsNow k
   edge_now k exists = ⊎_elim
-      (λ (old : k < edge_count g). ⊎_elim
-      (λ (r : (q : ℕ) × (q < length hs) × (edge_of (get_or hs q 0) ≡ k)). Held old r.0 r.1 r.2 (ap (λ e. to f e) (sym r.2) ∙ h.held r.0 r.1))
-      (λ (none : (q : ℕ) → q < length hs → edge_of (get_or hs q 0) ≢ k). Free old (h.free k old none))
-      (cases_held k (length hs)))
+      (λ (old : k < edge_count g). old_now k old (cases_held k (length hs)))
       (λ (new : edge_count g ≤ k).
       let r = halves (edge_count g) (k - edge_count g) (length hs) (omega (arith, new, exists, h.edges)) k (omega (arith, new)) in
-      ⊎_elim
-      (λ (is : k ≡ edge_count g + (r.0 + r.0)). Stays r.0 r.1 (ap (λ n. from f n) is ∙ h.from_stay r.0 r.1) (ap (λ n. to f n) is ∙ h.to_stay r.0 r.1))
-      (λ (is : k ≡ edge_count g + (r.0 + r.0) + 1). Ends r.0 r.1 (ap (λ n. from f n) is ∙ h.from_leave r.0 r.1) (ap (λ n. to f n) is ∙ h.to_leave r.0 r.1))
-      r.2)
+      new_now k r.0 r.1 r.2)
       (cases_lt k (edge_count g))
 
   module _ (edges : (q : ℕ) → q < length hs → IsHoldEdge g (get_or hs q 0) (edge_of (get_or hs q 0))) (there : (q : ℕ) → q < length hs → Reaches g (from g (edge_of (get_or hs q 0))) (get_or hs q 0)) where

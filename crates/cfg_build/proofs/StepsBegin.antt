@@ -1,5 +1,5 @@
 -- A pass that comes to a piece that is made to run an executable begins the step of that executable.
-use Rattle.std.proofs.Common.{◌≡◌, ℕ, suc, ◌+◌, ◌<◌, ◌≤◌, ℤ, true, false, List, [], ◌∷◌, ◌++◌, length, Some, None, Option, slice_get, slice_index, refl, sym, ap, ◌∙◌, subst, ⊎_elim, arith}
+use Rattle.std.proofs.Common.{◌≡◌, ℕ, suc, ◌+◌, ◌<◌, ◌≤◌, ℤ, true, false, List, [], ◌∷◌, ◌++◌, length, Some, slice_get, slice_index, refl, sym, ap, ◌∙◌, subst, ⊎_elim, arith}
 use Rattle.std.proofs.Math.Seq.{get_or-append_seam}
 use Rattle.std.proofs.lemmas.Bool.{cases_Bool, cases_lt, false≢true}
 use Rattle.closed_walks.specs.Graph.{to}
@@ -17,7 +17,7 @@ use Rattle.cfg_build.specs.Parts.{first_kind}
 use Rattle.cfg_build.specs.Flow.{flow, piece_at}
 use Rattle.cfg_build.specs.Passes.{out, passes}
 use Rattle.cfg_build.specs.Chains.{entry, has_test, chain, passes_of}
-use Rattle.cfg_build.specs.Routes.{leads_on, IsMade, last_kind, owner, IsOnePart, IsTwoParts, AreChain}
+use Rattle.cfg_build.specs.Routes.{leads_on, IsMade, last_kind, owner, IsTwoParts, AreChain}
 use Rattle.cfg_build.specs.Steps.{own_place, own_node, ComesTo, IsWithinStep, LiesInStep, BeginsStep, IsAtOwnPiece}
 use Rattle.cfg_build.proofs.ControlGraph.{exec_at}
 use Rattle.cfg_build.proofs.ReachedNodes.{IsTold}
@@ -43,23 +43,25 @@ not_branch : (kind : PieceKind) → kind ≡ piece.Act → kind ≡ piece.Branch
 not_branch kind act branch = cc
 
 module _ (told : IsTold) (met : IsMet) (p : Program) (well : AreExecs p.names p.execs p.loops) where
-  abbrev made_at : (node : ℕ) (exec : Exec) (k : ℕ) → Type 0
-  made_at node exec k = IsMade (flow p.execs) p.execs node (first_kind exec.kind) k
+  -- a piece that is made for the executable k, of the kind of its own piece
+  record IsOwnFor (node : ℕ) (exec : Exec) (k : ℕ) : Type 0 where
+    kind_is : (piece_at (flow p.execs).pieces node).kind ≡ first_kind exec.kind
+    exec_is : (piece_at (flow p.execs).pieces node).exec ≡ k
 
   -- a piece that leads on runs nothing
-  runs_none : (node : ℕ) (exec : Exec) (k : ℕ) → made_at node exec k → leads_on (piece_at (flow p.execs).pieces node).kind ≡ true → ⊥
+  runs_none : (node : ℕ) (exec : Exec) (k : ℕ) → IsOwnFor node exec k → leads_on (piece_at (flow p.execs).pieces node).kind ≡ true → ⊥
   runs_none node exec k made leads = false≢true (sym (ap leads_on made.kind_is ∙ first_runs exec.kind) ∙ leads)
 
   module _ (j k : ℕ) (own exec : Exec) (reached : is_reached p.execs j ≡ true) (here : slice_get p.execs j ≡ Some own) (found : slice_get p.execs k ≡ Some exec) where
     -- the test of a DO is made for its DO, and isn't the first piece of that
-    tests_none : has_test own.kind ≡ true → (node : ℕ) → IsMade (flow p.execs) p.execs node (last_kind own.kind) (owner p.execs j own.kind) → made_at node exec k → ⊥
+    tests_none : has_test own.kind ≡ true → (node : ℕ) → IsMade (flow p.execs) p.execs node (last_kind own.kind) (owner p.execs j own.kind) → IsOwnFor node exec k → ⊥
     tests_none two node test made =
         let t : IsTested p.execs j own.kind = tested_by told met p.names p.execs p.loops well j own.kind reached (λ loop begins. ap (λ e. begun_in e) here ∙ begins) (λ loop increments. ap (λ e. incremented_in e) here ∙ increments) two in
         let same : owner p.execs j own.kind ≡ k = sym test.exec_is ∙ made.exec_is in
         let begins : begun exec.kind ≡ Some t.loop = sym (ap (λ e. begun_in e) found) ∙ ap (λ n. begun_at p.execs n) (sym same) ∙ t.begins in
         not_branch (first_kind exec.kind) (begun_acts exec.kind t.loop begins) (sym made.kind_is ∙ test.kind_is ∙ two_last own.kind two)
 
-    past_none : (i : ℕ) → own_place p.execs j < i → i < length (chain p.execs j) → made_at (slice_index (chain p.execs j) i) exec k → ⊥
+    past_none : (i : ℕ) → own_place p.execs j < i → i < length (chain p.execs j) → IsOwnFor (slice_index (chain p.execs j) i) exec k → ⊥
     past_none i past exists made =
         let f = flow p.execs in
         let c : AreChain f (entry p.execs) p.execs j (has_test own.kind) own.kind (chain p.execs j) = (chain_found told met p.names p.execs p.loops well j own here reached).are in
@@ -67,13 +69,13 @@ module _ (told : IsTold) (met : IsMet) (p : Program) (well : AreExecs p.names p.
         (λ (two : has_test own.kind ≡ true).
         let parts : IsTwoParts f (entry p.execs) p.execs j own.kind (chain p.execs j) = subst (λ b. AreChain f (entry p.execs) p.execs j b own.kind (chain p.execs j)) two c in
         let q : IsPastAct f (chain p.execs j) parts.prefix parts.middle parts.test i = past_act f (entry p.execs) p.execs j own.kind (chain p.execs j) parts i past exists in
-        let at : made_at (slice_index (parts.middle ++ parts.test ∷ []) q.place) exec k = subst (λ n. made_at n exec k) q.node made in
+        let at : IsOwnFor (slice_index (parts.middle ++ parts.test ∷ []) q.place) exec k = subst (λ n. IsOwnFor n exec k) q.node made in
         ⊎_elim
         (λ (less : q.place < length parts.middle). runs_none (slice_index (parts.middle ++ parts.test ∷ []) q.place) exec k at (route_leads f parts.middle (to f.graph (out f.graph parts.act 0)) parts.test [] q.place parts.on less))
         (λ (last : length parts.middle ≤ q.place).
         let is : q.place ≡ length parts.middle = omega (arith, q.below, last) in
         let test : slice_index (parts.middle ++ parts.test ∷ []) q.place ≡ parts.test = ap (λ n. slice_index (parts.middle ++ parts.test ∷ []) n) is ∙ get_or-append_seam parts.middle parts.test [] 0 in
-        tests_none two parts.test parts.ends.made (subst (λ n. made_at n exec k) test at))
+        tests_none two parts.test parts.ends.made (subst (λ n. IsOwnFor n exec k) test at))
         (cases_lt q.place (length parts.middle)))
         (λ (single : has_test own.kind ≡ false).
         none_past f (entry p.execs) p.execs j own.kind (chain p.execs j) (subst (λ b. AreChain f (entry p.execs) p.execs j b own.kind (chain p.execs j)) single c) i past exists)
@@ -84,7 +86,7 @@ module _ (told : IsTold) (met : IsMet) (p : Program) (well : AreExecs p.names p.
       place : i ≡ own_place p.execs j
       same : j ≡ k
 
-    own_alone : (i : ℕ) → i < length (chain p.execs j) → made_at (slice_index (chain p.execs j) i) exec k → IsOwnOf i
+    own_alone : (i : ℕ) → i < length (chain p.execs j) → IsOwnFor (slice_index (chain p.execs j) i) exec k → IsOwnOf i
     own_alone i exists made =
         let f = flow p.execs in
         let o : IsOwn f p.execs j own.kind (chain p.execs j) = own_piece_of f (entry p.execs) p.execs j own.kind (chain p.execs j) (chain_found told met p.names p.execs p.loops well j own here reached).are in
@@ -107,25 +109,25 @@ module _ (told : IsTold) (met : IsMet) (p : Program) (well : AreExecs p.names p.
         ap (λ n. to g (passes p input n).edge) (sym l.count)
         ∙ ⊎_elim
         (λ (past : own_place p.execs x.position < l.place).
-        let c : ComesTo g node (source p input (suc l.step)) (passes p input (passes_of p input l.step + l.place)) = w.goes_on past in
+        let c : ComesTo g node (source p input (suc l.step)) (passes p input (passes_of p input l.step + l.place)) = w.past_own past in
         c.comes (sym c.mark_is ∙ ap (λ n. (passes p input n).mark) l.count ∙ runs))
         (λ (le : l.place ≤ own_place p.execs x.position).
-        let c : ComesTo g node x (passes p input (passes_of p input l.step + l.place)) = w.begins le in
+        let c : ComesTo g node x (passes p input (passes_of p input l.step + l.place)) = w.up_to_own le in
         c.comes l.runs)
         (cases_lt (own_place p.execs x.position) l.place)
 
-    pub begins_step : (k : ℕ) (exec : Exec) (passed : ℕ) → IsAtOwnPiece p input k exec passed → BeginsStep p input k passed
-    begins_step k exec passed is =
+    pub begins_step : (k passed : ℕ) → IsAtOwnPiece p input k passed → BeginsStep p input k passed
+    begins_step k passed is =
         let g = (flow p.execs).graph in
         let l : LiesInStep p input passed = lies told met lead_on p input well passed is.runs in
         let x : State = source p input l.step in
         let h : IsInside told lead_on p input well.successors well.end.some well.loops_nest x = in_program told met lead_on p input well l.step in
         let e = exec_at p.execs x.position h.below in
         let w : IsWithinStep p input l.step l.place = within_step told met lead_on p input well l.step l.place l.exists in
-        let o : IsOwnOf x.position k e.0 exec h.reached e.1 is.found l.place =
-        own_alone x.position k e.0 exec h.reached e.1 is.found l.place l.exists (subst (λ n. made_at n exec k) (comes_to passed is.runs l w) is.made) in
+        let o : IsOwnOf x.position k e.0 is.exec h.reached e.1 is.found l.place =
+        own_alone x.position k e.0 is.exec h.reached e.1 is.found l.place l.exists (subst (λ n. IsOwnFor n is.exec k) (comes_to passed is.runs l w) (record { kind_is = is.kind_is; exec_is = is.exec_is })) in
         let least : l.place ≤ own_place p.execs x.position = omega (arith, o.place) in
-        let c : ComesTo g (slice_index (chain p.execs x.position) l.place) x (passes p input (passes_of p input l.step + l.place)) = w.begins least in
+        let c : ComesTo g (slice_index (chain p.execs x.position) l.place) x (passes p input (passes_of p input l.step + l.place)) = w.up_to_own least in
         record {
           step = l.step;
           runs = l.runs;

@@ -52,7 +52,7 @@ following (suc most) execs node =
     let f = flow execs in
     node ∷ (if goes_on execs (piece_at f.pieces node) then following most execs (to f.graph (out f.graph node 0)) else [])
 
--- the chain of an executable, of five pieces at most
+-- the chain of an executable: there is room for five pieces, and no chain has more (see `AreFew`)
 abbrev pub chain : List Exec → ℕ → List ℕ
 chain execs k = following 5 execs (entry execs k)
 

@@ -12,6 +12,8 @@ use Rattle.cfg_build.specs.Flow.{flow, piece_at}
 use Rattle.cfg_build.specs.Passes.{PassState, passes}
 use Rattle.cfg_build.specs.Chains.{chain, passes_of}
 use Rattle.cfg_build.specs.Routes.{leads_on, IsMade}
+use Rattle.cfg_build.specs.Shape.{kind_at}
+use Rattle.cfg_build.specs.Zones.{exec_at}
 
 -- how many joins and holds these pieces begin with
 abbrev pub led_in : FlowGraph → List ℕ → ℕ
@@ -41,21 +43,24 @@ pub record ComesTo (g : Graph) (node : ℕ) (x : State) (y : PassState) : Type 0
 -- The run of passes comes to piece i of a step's pieces: up to the first that is no join and no hold with what the run of steps
 -- has before the step, and from the next one on with what it has after it.
 pub record IsWithin (f : FlowGraph) (pieces : List ℕ) (i : ℕ) (before after : State) (y : PassState) : Type 0 where
-  pub begins : i ≤ led_in f pieces → ComesTo f.graph (slice_index pieces i) before y
-  pub goes_on : led_in f pieces < i → ComesTo f.graph (slice_index pieces i) after y
+  pub up_to_own : i ≤ led_in f pieces → ComesTo f.graph (slice_index pieces i) before y
+  pub past_own : led_in f pieces < i → ComesTo f.graph (slice_index pieces i) after y
+
+-- the chain of the step that follows n steps
+abbrev pub chain_after : Program → List ℤ → (n : ℕ) → List ℕ
+chain_after p input n = chain p.execs (source p input n).position
 
 -- i passes after the passes of n steps a run is within the next step, at piece i of the chain
 abbrev pub IsWithinStep : Program → List ℤ → (n i : ℕ) → Type 0
 IsWithinStep p input n i =
-    let x = source p input n in
-    IsWithin (flow p.execs) (chain p.execs x.position) i x (source p input (suc n)) (passes p input (passes_of p input n + i))
+    IsWithin (flow p.execs) (chain_after p input n) i (source p input n) (source p input (suc n)) (passes p input (passes_of p input n + i))
 
--- so many passes are those of some steps, and of some pieces of the chain of the next step, but not of all
+-- so many passes are those of some steps, and of some pieces of the next step's chain, but not of all
 pub record LiesInStep (p : Program) (input : List ℤ) (passed : ℕ) : Type 0 where
   pub step : ℕ
   pub place : ℕ
   pub runs : (source p input step).mark ≡ Running
-  pub exists : place < length (chain p.execs (source p input step).position)
+  pub exists : place < length (chain_after p input step)
   pub count : passes_of p input step + place ≡ passed
 
 -- after so many passes a run comes to the own piece of the executable k, with what the run of steps has where k comes next
@@ -66,8 +71,10 @@ pub record BeginsStep (p : Program) (input : List ℤ) (k passed : ℕ) : Type 0
   pub count : passes_of p input step + own_place p.execs k ≡ passed
   pub comes : ComesTo (flow p.execs).graph (own_node p.execs k) (source p input step) (passes p input passed)
 
--- after so many passes a run goes on, and comes to a piece that is made for the executable k to run it
-pub record IsAtOwnPiece (p : Program) (input : List ℤ) (k : ℕ) (exec : Exec) (passed : ℕ) : Type 0 where
+-- after so many passes a run goes on, and comes to a piece that is made for the executable k, of the kind of its own piece
+pub record IsAtOwnPiece (p : Program) (input : List ℤ) (k passed : ℕ) : Type 0 where
   pub runs : (passes p input passed).mark ≡ Running
+  pub exec : Exec
   pub found : slice_get p.execs k ≡ Some exec
-  pub made : IsMade (flow p.execs) p.execs (to (flow p.execs).graph (passes p input passed).edge) (first_kind exec.kind) k
+  pub kind_is : kind_at (flow p.execs) (to (flow p.execs).graph (passes p input passed).edge) ≡ first_kind exec.kind
+  pub exec_is : exec_at (flow p.execs) (to (flow p.execs).graph (passes p input passed).edge) ≡ k

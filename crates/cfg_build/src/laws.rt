@@ -1,13 +1,13 @@
 //! Laws on flow graphs, as contracts of functions that do nothing.
 
-ghost use Rattle.std.specs.Prelude.{◌≡◌, ◌<◌, ◌≤◌, List, ℕ, false, length};
+ghost use Rattle.std.specs.Prelude.{◌≡◌, ◌<◌, ◌≤◌, List, ℕ};
 ghost use Rattle.closed_walks.specs.Region.{IsFlowGraph};
 ghost use Rattle.f77_tree.specs.declared.programs.Exec.{Exec};
 ghost use Rattle.f77_tree.specs.declared.programs.NameInfo.{NameInfo};
 ghost use Rattle.f77_tree.specs.WellFormed.{AreExecs};
-ghost use Rattle.cfg_build.specs.Joined.{finish, joined};
-ghost use Rattle.cfg_build.specs.Flow.{flow, held};
-ghost use Rattle.cfg_build.specs.Rounds.{is_stuck, rounds};
+ghost use Rattle.cfg_build.specs.Joined.{finish};
+ghost use Rattle.cfg_build.specs.Flow.{flow};
+ghost use Rattle.cfg_build.specs.Rounds.{HoldsComeInRounds};
 ghost use Rattle.cfg_build.specs.Runs.{is_act, is_branch, IsPartOf};
 ghost use Rattle.cfg_build.specs.Shape.{IsShaped, kind_at};
 
@@ -42,8 +42,7 @@ pub fn pieces_are_few()
 /// The holds of the flow graph of a well-formed program come in rounds: as long as some piece on a cycle can't come to the end, the
 /// lowest such piece gets a hold. In the end there is none.
 pub fn holds_come_in_rounds()
-    ensures rounds { (names : List NameInfo) (execs : List Exec) (loops most : ℕ) → AreExecs names execs loops → length (held execs) ≤ most → rounds most (finish execs) (joined execs) ≡ flow execs }
-    ensures none_stuck { (names : List NameInfo) (execs : List Exec) (loops node : ℕ) → AreExecs names execs loops → node < (flow execs).graph.nodes → is_stuck (flow execs).graph (finish execs) node ≡ false }
+    ensures { (names : List NameInfo) (execs : List Exec) (loops : ℕ) → AreExecs names execs loops → HoldsComeInRounds execs }
 {
     reaching_is_told();
 }

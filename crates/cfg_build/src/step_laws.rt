@@ -4,12 +4,11 @@ ghost use Rattle.std.specs.Prelude.{◌≡◌, ◌<◌, ℕ, ℤ, List, length};
 ghost use Rattle.f77_tree.specs.declared.programs.Exec.{Exec};
 ghost use Rattle.f77_tree.specs.declared.programs.NameInfo.{NameInfo};
 ghost use Rattle.f77_tree.specs.declared.programs.Program.{Program};
-ghost use Rattle.f77_tree.specs.Run.{Running, source};
+ghost use Rattle.f77_tree.specs.Run.{Running};
 ghost use Rattle.f77_tree.specs.WellFormed.{AreExecs};
-ghost use Rattle.cfg_build.specs.Chains.{chain};
 ghost use Rattle.cfg_build.specs.Control.{IsReachedExec};
 ghost use Rattle.cfg_build.specs.Passes.{passes};
-ghost use Rattle.cfg_build.specs.Steps.{BeginsStep, HasOwnPiece, IsAtOwnPiece, IsWithinStep, LiesInStep};
+ghost use Rattle.cfg_build.specs.Steps.{chain_after, BeginsStep, HasOwnPiece, IsAtOwnPiece, IsWithinStep, LiesInStep};
 
 use closed_walks::{endless_ways_meet_cycles, reaching_is_told};
 use f77_tree::executables_lead_to_successors;
@@ -28,9 +27,9 @@ pub fn executables_have_own_pieces()
 /// from then on. So it is in a step that traps or ends, and where the run has stopped. While a run of passes goes on, it is
 /// within a step of the run; where it comes to a piece that is made to run an executable, it is at the beginning of a step of that one.
 pub fn passes_lie_within_steps()
-    ensures within { (p : Program) (input : List ℤ) (n i : ℕ) → AreExecs p.names p.execs p.loops → i < length (chain p.execs (source p input n).position) → IsWithinStep p input n i }
+    ensures within { (p : Program) (input : List ℤ) (n i : ℕ) → AreExecs p.names p.execs p.loops → i < length (chain_after p input n) → IsWithinStep p input n i }
     ensures lies { (p : Program) (input : List ℤ) (passed : ℕ) → AreExecs p.names p.execs p.loops → (passes p input passed).mark ≡ Running → LiesInStep p input passed }
-    ensures own { (p : Program) (input : List ℤ) (k : ℕ) (exec : Exec) (passed : ℕ) → AreExecs p.names p.execs p.loops → IsAtOwnPiece p input k exec passed → BeginsStep p input k passed }
+    ensures own { (p : Program) (input : List ℤ) (k passed : ℕ) → AreExecs p.names p.execs p.loops → IsAtOwnPiece p input k passed → BeginsStep p input k passed }
 {
     reaching_is_told();
     endless_ways_meet_cycles();

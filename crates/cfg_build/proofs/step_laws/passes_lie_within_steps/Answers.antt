@@ -9,4 +9,4 @@ pub returns-clause-lies : goal.returns-clause-lies
 returns-clause-lies c = λ p input passed well runs. lies c.reaching_is_told.ensures c.endless_ways_meet_cycles.ensures c.executables_lead_to_successors.ensures p input well passed runs
 
 pub returns-clause-own : goal.returns-clause-own
-returns-clause-own c = λ p input k exec passed well is. begins_step c.reaching_is_told.ensures c.endless_ways_meet_cycles.ensures p well c.executables_lead_to_successors.ensures input k exec passed is
+returns-clause-own c = λ p input k passed well is. begins_step c.reaching_is_told.ensures c.endless_ways_meet_cycles.ensures p well c.executables_lead_to_successors.ensures input k passed is
