@@ -12,4 +12,5 @@ pub mod Routing
 pub mod Rows
 pub mod Sound
 pub mod Touch
+pub mod TouchLaws
 pub mod Touches
