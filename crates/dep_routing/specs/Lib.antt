@@ -1,4 +1,6 @@
 pub mod Facts
+pub mod FreeLaws
+pub mod FreeLines
 pub mod LineTable
 pub mod Leaving
 pub mod Next

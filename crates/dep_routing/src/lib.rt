@@ -8,6 +8,8 @@
 
 mod borders;
 mod facts;
+mod free;
+mod free_laws;
 mod laws;
 mod leaving;
 mod lines;
@@ -22,6 +24,8 @@ mod touching;
 
 use class_set::ClassSet;
 use df_sequence::Sequence;
+pub use free::{bypass_lines, free_lines, passing_lines};
+pub use free_laws::free_lines_are_told;
 pub use laws::{
     free_nodes, free_passed_nodes, largest_quiet_regions, next_edges, places, places_over_a_pass,
     quiet_regions,
