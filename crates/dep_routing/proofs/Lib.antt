@@ -14,6 +14,7 @@ pub mod Hopping
 pub mod Noises
 pub mod Listing
 pub mod Numbering
+pub mod OneTable
 pub mod Ordering
 pub mod PieceNeeds
 pub mod PieceTouches

@@ -6,6 +6,7 @@ pub mod Leaving
 pub mod Next
 pub mod Noise
 pub mod Numbers
+pub mod OneTable
 pub mod Order
 pub mod PieceLines
 pub mod Place

@@ -15,6 +15,7 @@ mod leaving;
 mod lines;
 mod needs;
 mod noise;
+mod one_table;
 mod order;
 mod routing;
 mod rows;
@@ -32,6 +33,7 @@ pub use laws::{
 };
 pub use leaving::{output_keeps_moving, quiet_regions_are_left};
 pub use lines::Lines;
+pub use one_table::{one_routing, one_touching};
 pub use routing::route;
 pub use touch_laws::{
     pieces_touch_lines, touches_are_sound, touches_follow_needs, traps_touch_output,
