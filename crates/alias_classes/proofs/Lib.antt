@@ -14,3 +14,4 @@ pub mod SizeLemmas
 pub mod SpanLemmas
 pub mod TakenNumbers
 pub mod Walked
+pub mod Writing

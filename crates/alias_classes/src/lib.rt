@@ -10,6 +10,7 @@ mod needs;
 mod runs;
 mod spans;
 mod walk;
+mod write_laws;
 
 pub use class_end::ClassEnd;
 pub use classes::{Classes, classes_of};
@@ -18,3 +19,4 @@ pub use laws::{
     classes_are_counted, classes_are_numbered, needs_are_a_frame, needs_are_numbered,
     needs_cover_accesses, one_numbering,
 };
+pub use write_laws::{fewer_loops_have_no_more_classes, writes_cover_changes};
