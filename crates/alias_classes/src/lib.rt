@@ -3,6 +3,7 @@
 
 mod class_end;
 mod classes;
+mod exec_needs;
 mod known;
 mod laws;
 mod making;
@@ -14,6 +15,7 @@ mod write_laws;
 
 pub use class_end::ClassEnd;
 pub use classes::{Classes, classes_of};
+pub use exec_needs::exec_need;
 pub use known::known_word;
 pub use laws::{
     classes_are_counted, classes_are_numbered, needs_are_a_frame, needs_are_numbered,

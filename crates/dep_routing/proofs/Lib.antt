@@ -16,7 +16,6 @@ pub mod Listing
 pub mod Numbering
 pub mod OneTable
 pub mod Ordering
-pub mod PieceNeeds
 pub mod PieceTouches
 pub mod Placing
 pub mod Quietness

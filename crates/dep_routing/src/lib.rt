@@ -7,13 +7,13 @@
 #![tactic(auto)]
 
 mod borders;
+mod branch_needs;
 mod facts;
 mod free;
 mod free_laws;
 mod laws;
 mod leaving;
 mod lines;
-mod needs;
 mod noise;
 mod one_table;
 mod order;
