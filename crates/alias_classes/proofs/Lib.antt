@@ -5,6 +5,7 @@ pub mod Framing
 pub mod KeyLemmas
 pub mod KeyPlaces
 pub mod KnownPlaces
+pub mod ListNeeds
 pub mod MakingLemmas
 pub mod Numbered
 pub mod OneNumbering
@@ -14,3 +15,4 @@ pub mod SizeLemmas
 pub mod SpanLemmas
 pub mod TakenNumbers
 pub mod Walked
+pub mod Writing

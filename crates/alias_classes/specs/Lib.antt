@@ -7,3 +7,5 @@ pub mod Number
 pub mod Runs
 pub mod Spans
 pub mod Walk
+pub mod WriteLaws
+pub mod Writes

@@ -3,6 +3,7 @@
 
 mod class_end;
 mod classes;
+mod exec_needs;
 mod known;
 mod laws;
 mod making;
@@ -10,11 +11,14 @@ mod needs;
 mod runs;
 mod spans;
 mod walk;
+mod write_laws;
 
 pub use class_end::ClassEnd;
 pub use classes::{Classes, classes_of};
+pub use exec_needs::exec_need;
 pub use known::known_word;
 pub use laws::{
     classes_are_counted, classes_are_numbered, needs_are_a_frame, needs_are_numbered,
     needs_cover_accesses, one_numbering,
 };
+pub use write_laws::{fewer_loops_have_no_more_classes, writes_cover_changes};

@@ -6,6 +6,7 @@ pub mod Circles
 pub mod Counting
 pub mod Cycles
 pub mod Ending
+pub mod FreeNodes
 pub mod Staying
 pub mod LeavingRuns
 pub mod Moving
@@ -13,8 +14,8 @@ pub mod Hopping
 pub mod Noises
 pub mod Listing
 pub mod Numbering
+pub mod OneTable
 pub mod Ordering
-pub mod PieceNeeds
 pub mod PieceTouches
 pub mod Placing
 pub mod Quietness

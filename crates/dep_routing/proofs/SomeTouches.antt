@@ -20,7 +20,9 @@ use Rattle.cfg_build.specs.declared.pieces.PieceKind.TheVariants.{Act, Branch, H
 use Rattle.cfg_build.specs.Flow.{flow, piece_at}
 use Rattle.cfg_build.specs.Passes.{kind_in}
 use Rattle.cfg_build.specs.Runs.{is_act, is_branch, IsPartOf}
-use Rattle.dep_routing.specs.Touches.{AreTouches, BranchNeeds, KindNeeds, KindNeedsOut, NeedsOut, PieceNeeds, exec_kind, piece_kind}
+use Rattle.region_tree.specs.Tree.{Tree}
+use Rattle.dep_routing.specs.Sound.{IsSound, KindMustTouchOut, MustTouchOut}
+use Rattle.dep_routing.specs.Touches.{BranchNeeds, KindNeeds, PieceNeeds, exec_kind, piece_kind}
 
 -- ---- a number below another that passes a test
 
@@ -66,19 +68,19 @@ hits_one p c target well names exists = by (known_word c.names target.name (map 
     by (Some w) = (class_of_word c w, refl)
 
 -- an act prints, or needs a class
-abbrev ActsOn : Program → ClassTable → (node : ℕ) → ExecKind → Type 0
-ActsOn p c node kind = KindNeedsOut p c node Act kind ⊎ NeedsOne c kind
+abbrev ActsOn : ClassTable → ExecKind → Type 0
+ActsOn c kind = KindMustTouchOut c Act kind ⊎ NeedsOne c kind
 
-acts_on : (p : Program) (c : ClassTable) (node : ℕ) (kind : ExecKind) → IsWellFormed p → c.names ≡ p.names → CanExecute p kind → is_act kind ≡ true → ActsOn p c node kind
-acts_on p c node (Assign target e next) well names can is = let one = hits_one p c target well names can.0.known in inr (one.0, inl (inr one.1))
-acts_on p c node (Print items next) well names can is = inl (inl tt)
-acts_on p c node (DoStart loop_no var first last step body exit) well names can is = inr (class_of_loop c loop_no, inr (inr refl))
-acts_on p c node (DoNext loop_no var body exit) well names can is = inr (class_of_loop c loop_no, inr refl)
-acts_on p c node (Passing next) well names can is = absurd (false≢true is)
-acts_on p c node (Test cond if_true if_false) well names can is = absurd (false≢true is)
-acts_on p c node (Sign e neg equal above) well names can is = absurd (false≢true is)
-acts_on p c node (Pick e targets other) well names can is = absurd (false≢true is)
-acts_on p c node Ending well names can is = absurd (false≢true is)
+acts_on : (p : Program) (c : ClassTable) (kind : ExecKind) → IsWellFormed p → c.names ≡ p.names → CanExecute p kind → is_act kind ≡ true → ActsOn c kind
+acts_on p c (Assign target e next) well names can is = let one = hits_one p c target well names can.0.known in inr (one.0, inl (inr one.1))
+acts_on p c (Print items next) well names can is = inl (inl tt)
+acts_on p c (DoStart loop_no var first last step body exit) well names can is = inr (class_of_loop c loop_no, inr (inr refl))
+acts_on p c (DoNext loop_no var body exit) well names can is = inr (class_of_loop c loop_no, inr refl)
+acts_on p c (Passing next) well names can is = absurd (false≢true is)
+acts_on p c (Test cond if_true if_false) well names can is = absurd (false≢true is)
+acts_on p c (Sign e neg equal above) well names can is = absurd (false≢true is)
+acts_on p c (Pick e targets other) well names can is = absurd (false≢true is)
+acts_on p c Ending well names can is = absurd (false≢true is)
 
 -- what a branch needs its executable needs
 exec_needs : (c : ClassTable) (kind : ExecKind) (n : ℕ) → BranchNeeds c kind n → ExecNeeds c kind n
@@ -94,16 +96,16 @@ exec_needs c Ending n needs = needs
 
 -- ---- pieces
 
-module _ (p : Program) (c : ClassTable) (touches : ℕ → ℕ → Bool) (well : IsWellFormed p) (classes : IsClasses p c) (are : AreTouches p c touches) (node : ℕ) (exists : node < (flow p.execs).graph.nodes) where
+module _ (p : Program) (c : ClassTable) (touches : ℕ → ℕ → Bool) (well : IsWellFormed p) (classes : IsClasses p c) (t : Tree) (sound : IsSound p c t touches) (node : ℕ) (exists : node < (flow p.execs).graph.nodes) where
   abbrev OneLine : Type 0
   OneLine = One (touches node) (suc (class_count c))
 
-  touches_out : NeedsOut p c node → OneLine
-  touches_out needs = (0, omega arith, (are node 0 exists).1 needs)
+  touches_out : MustTouchOut p c node → OneLine
+  touches_out must = (0, omega arith, sound.must node exists must)
 
   touches_class : (n : ℕ) → 1 ≤ n → n ≤ class_count c → PieceNeeds p c node n → touches node n ≡ true
   touches_class zero some few needs = absurd (omega (arith, some))
-  touches_class (suc n) some few needs = (are node (suc n) exists).1 needs
+  touches_class (suc n) some few needs = (sound.classes node n exists).1 needs
 
   module _ (numbered : (kind : ExecKind) (n : ℕ) → CanExecute p kind → ExecNeeds c kind n → (1 ≤ n) × (n ≤ class_count c)) (can : CanRun p) where
     -- its executable, and that it can run
@@ -117,18 +119,18 @@ module _ (p : Program) (c : ClassTable) (touches : ℕ → ℕ → Bool) (well :
     act_touches is part =
         let at : part.exec.kind ≡ exec_kind p node = sym (kind_is is_act part) in
         ⊎_elim
-        (λ (out : KindNeedsOut p c node Act part.exec.kind).
-        touches_out (subst (λ k. KindNeedsOut p c node k (exec_kind p node)) (sym is) (subst (λ k. KindNeedsOut p c node Act k) at out)))
+        (λ (out : KindMustTouchOut c Act part.exec.kind).
+        touches_out (subst (λ k. KindMustTouchOut c k (exec_kind p node)) (sym is) (subst (λ k. KindMustTouchOut c Act k) at out)))
         (λ (one : NeedsOne c part.exec.kind).
         let low = numbered part.exec.kind one.0 (executes is_act part) one.1 in
         let few = low.1 in
         (one.0, omega (arith, few), touches_class one.0 low.0 low.1 (subst (λ k. KindNeeds c k (exec_kind p node) one.0) (sym is) (subst (λ k. KindNeeds c Act k one.0) at one.1))))
-        (acts_on p c node part.exec.kind well classes.names (executes is_act part) part.fitting)
+        (acts_on p c part.exec.kind well classes.names (executes is_act part) part.fitting)
 
     pub branch_touches : piece_kind p node ≡ Branch → IsPartOf (flow p.execs) p.execs node is_branch → OneLine
     branch_touches is part = ⊎_elim
         (λ (one : OneLine). one)
-        (λ (none : (n : ℕ) → n < suc (class_count c) → touches node n ≡ false). touches_out (subst (λ k. KindNeedsOut p c node k (exec_kind p node)) (sym is) (inr (inr (needs_none none)))))
+        (λ (none : (n : ℕ) → n < suc (class_count c) → touches node n ≡ false). touches_out (subst (λ k. KindMustTouchOut c k (exec_kind p node)) (sym is) (needs_none none)))
         (one_or_none (touches node) (suc (class_count c)))
       where
         needs_none : ((n : ℕ) → n < suc (class_count c) → touches node n ≡ false) → (n : ℕ) → BranchNeeds c (exec_kind p node) n → ⊥
@@ -140,4 +142,4 @@ module _ (p : Program) (c : ClassTable) (touches : ℕ → ℕ → Bool) (well :
             false≢true (sym (none n (omega (arith, few))) ∙ touched)
 
   pub hold_touches : piece_kind p node ≡ Hold → OneLine
-  hold_touches is = touches_out (subst (λ k. KindNeedsOut p c node k (exec_kind p node)) (sym is) tt)
+  hold_touches is = touches_out (subst (λ k. KindMustTouchOut c k (exec_kind p node)) (sym is) tt)

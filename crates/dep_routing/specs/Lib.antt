@@ -1,9 +1,12 @@
 pub mod Facts
+pub mod FreeLaws
+pub mod FreeLines
 pub mod LineTable
 pub mod Leaving
 pub mod Next
 pub mod Noise
 pub mod Numbers
+pub mod OneTable
 pub mod Order
 pub mod PieceLines
 pub mod Place
@@ -12,4 +15,5 @@ pub mod Routing
 pub mod Rows
 pub mod Sound
 pub mod Touch
+pub mod TouchLaws
 pub mod Touches

@@ -7,12 +7,15 @@
 #![tactic(auto)]
 
 mod borders;
+mod branch_needs;
 mod facts;
+mod free;
+mod free_laws;
 mod laws;
 mod leaving;
 mod lines;
-mod needs;
 mod noise;
+mod one_table;
 mod order;
 mod routing;
 mod rows;
@@ -22,12 +25,15 @@ mod touching;
 
 use class_set::ClassSet;
 use df_sequence::Sequence;
+pub use free::{bypass_lines, free_lines, passing_lines};
+pub use free_laws::free_lines_are_told;
 pub use laws::{
     free_nodes, free_passed_nodes, largest_quiet_regions, next_edges, places, places_over_a_pass,
     quiet_regions,
 };
 pub use leaving::{output_keeps_moving, quiet_regions_are_left};
 pub use lines::Lines;
+pub use one_table::{one_routing, one_touching};
 pub use routing::route;
 pub use touch_laws::{
     pieces_touch_lines, touches_are_sound, touches_follow_needs, traps_touch_output,

@@ -5,12 +5,13 @@ ghost use Rattle.op_table.specs.Words.{IsWord};
 ghost use Rattle.f77_tree.specs.declared.programs.Program.{Program};
 ghost use Rattle.f77_tree.specs.Run.{Running};
 ghost use Rattle.f77_tree.specs.WellFormed.{IsWellFormed};
-ghost use Rattle.alias_classes.specs.Classes.{ClassTable, IsClasses, class_count};
+ghost use Rattle.alias_classes.specs.Classes.{ClassTable};
 ghost use Rattle.cfg_build.specs.declared.pieces.PieceKind.TheVariants.{Act, Branch, Hold};
 ghost use Rattle.cfg_build.specs.Flow.{flow};
 ghost use Rattle.cfg_build.specs.Passes.{pass, passes};
 ghost use Rattle.region_tree.specs.Tree.{Tree, IsRegionTree};
-ghost use Rattle.dep_routing.specs.Touches.{AreTouches, PieceNeeds, piece_kind};
+ghost use Rattle.dep_routing.specs.TouchLaws.{PiecesTouchLines};
+ghost use Rattle.dep_routing.specs.Touches.{AreTouches, PieceNeeds};
 ghost use Rattle.dep_routing.specs.Sound.{MustTouchOut, MayTouchOut, DoesTrap, IsSound, comes_to};
 
 use crate::leaving::quiet_regions_are_left;
@@ -28,11 +29,11 @@ pub fn touches_follow_needs()
     ensures may { (p : Program) (c : ClassTable) (touches : ℕ → ℕ → Bool) (node : ℕ) → AreTouches p c touches → node < (flow p.execs).graph.nodes → touches node 0 ≡ true → MayTouchOut p node }
 {}
 
-/// A piece that acts, branches or holds touches a line: that of output, or a class of the program.
+/// Where touches are sound, a piece that acts, branches or holds touches a line: that of output, or a class of the program.
 pub fn pieces_touch_lines()
-    ensures acts { (p : Program) (c : ClassTable) (touches : ℕ → ℕ → Bool) (node : ℕ) → IsWellFormed p → IsClasses p c → AreTouches p c touches → node < (flow p.execs).graph.nodes → piece_kind p node ≡ Act → (line : ℕ) × (line < suc (class_count c)) × (touches node line ≡ true) }
-    ensures branches { (p : Program) (c : ClassTable) (touches : ℕ → ℕ → Bool) (node : ℕ) → IsWellFormed p → IsClasses p c → AreTouches p c touches → node < (flow p.execs).graph.nodes → piece_kind p node ≡ Branch → (line : ℕ) × (line < suc (class_count c)) × (touches node line ≡ true) }
-    ensures holds { (p : Program) (c : ClassTable) (touches : ℕ → ℕ → Bool) (node : ℕ) → IsWellFormed p → IsClasses p c → AreTouches p c touches → node < (flow p.execs).graph.nodes → piece_kind p node ≡ Hold → (line : ℕ) × (line < suc (class_count c)) × (touches node line ≡ true) }
+    ensures acts { PiecesTouchLines Act }
+    ensures branches { PiecesTouchLines Branch }
+    ensures holds { PiecesTouchLines Hold }
 {
     needs_are_numbered();
     pieces_run_executables();

@@ -16,8 +16,8 @@ ghost use Rattle.dep_routing.specs.Touch.{touches_in};
 ghost use Rattle.dep_routing.specs.Touches.{AreTouches, BranchMayTrap, BranchNeeds, KindNeeds, Prints, ends_rounds, is_increment as spec_is_increment};
 
 use crate::TouchList;
-use crate::needs::{branch_need, exec_need};
-use alias_classes::{Classes, needs_are_numbered};
+use crate::branch_needs::branch_need;
+use alias_classes::{Classes, exec_need, needs_are_numbered};
 use cfg_build::{Flow, Piece, PieceKind, flow_graph_has_shape, pieces_run_executables};
 use class_set::ClassSet;
 use closed_walks::on_cycles;

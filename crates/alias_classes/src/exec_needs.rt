@@ -7,14 +7,14 @@ ghost use Rattle.f77_tree.specs.CanRun.{CanExecute, CanPrint};
 ghost use Rattle.f77_tree.specs.Value.{place_of};
 ghost use Rattle.alias_classes.specs.Classes.{IsClasses, class_count};
 ghost use Rattle.alias_classes.specs.Needs.{ItemNeeds, ExecNeeds, IsOfLoop};
-ghost use Rattle.dep_routing.specs.Touches.{BranchNeeds};
 
-use alias_classes::Classes;
+use crate::classes::Classes;
 use class_set::ClassSet;
 use f77_tree::{ExecKind, Item, ItemList, Program};
 
-/// The classes that an executable needs.
-pub(crate) fn exec_need<const W: usize>(p: &Program, c: &Classes<W>, kind: &ExecKind) -> ClassSet<W>
+/// The classes that an executable needs: those that the accesses in it need, the target of an assignment included, and those of the DO
+/// that it begins or increments.
+pub fn exec_need<const W: usize>(p: &Program, c: &Classes<W>, kind: &ExecKind) -> ClassSet<W>
     requires width { IsWidth W }
     requires classes { IsClasses p.now c.now }
     requires few { class_count c.now < 64 * W }
@@ -42,24 +42,6 @@ pub(crate) fn exec_need<const W: usize>(p: &Program, c: &Classes<W>, kind: &Exec
         }
         ExecKind::DoNext { loop_no, var, .. } => loop_need(p, c, *loop_no, *var),
         ExecKind::Pass { .. } | ExecKind::End => ClassSet::empty(),
-    }
-}
-
-/// The classes that a branch needs: the test of a DO the count alone.
-pub(crate) fn branch_need<const W: usize>(
-    p: &Program,
-    c: &Classes<W>,
-    kind: &ExecKind,
-) -> ClassSet<W>
-    requires width { IsWidth W }
-    requires classes { IsClasses p.now c.now }
-    requires few { class_count c.now < 64 * W }
-    requires executes { CanExecute p.now kind.now }
-    ensures { (n : ℕ) → (holds result n ≡ true) ↔ BranchNeeds c.now kind.now n }
-{
-    match kind {
-        ExecKind::DoStart { loop_no, .. } => ClassSet::empty().with(c.of_loop(*loop_no)),
-        _ => exec_need(p, c, kind),
     }
 }
 
