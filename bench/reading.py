@@ -1,11 +1,12 @@
 #!/usr/bin/env python3
-"""Times how long a built dfc takes to read and fire the largest texts of several kinds.
+"""Times how long a built dfc takes for the largest texts of several kinds.
 
     python3 bench/reading.py DFC
 
-DFC is a command in quotes; each text is given to `DFC fire`, three times. Prints for each text its size, the best time,
-and what is answered: a refusal, `run`, or another status.
+DFC is a command in quotes. Each text is given to `DFC fire` or to `DFC regions`, three times. Prints for each text its size, the best
+time, and the answer: a refusal, `run`, or another status; at the end the most memory that a run of `DFC regions` took.
 """
+import resource
 import shlex
 import subprocess
 import sys
@@ -76,7 +77,42 @@ def one_by_one():
     return unlabelled(["INTEGER %s(650)" % array for array in arrays] + ["DATA %s/1%s/" % (array, ",2" * 649) for array in arrays])
 
 
+def loops_of_jumps(count):
+    """Loops of GO TO, each within the one before."""
+    starts = [(str(number + 1), "I=I+1") for number in range(count)]
+    return starts + [("", "IF(I.LT.%d)GO TO %d" % (number, count - number)) for number in range(count)]
+
+
+def one_terminal(count):
+    return unlabelled(["DO 1 I=1,2"] * count) + [("1", "CONTINUE")]
+
+
+def many_targets():
+    """Computed GO TOs with 4,000 labels in all."""
+    starts = [(str(number + 1), "I=I+1") for number in range(3900)]
+    return starts + unlabelled("GO TO(%s),I" % ",".join(str(number * 180 + k + 1) for k in range(200)) for number in range(20))
+
+
+def endless(count):
+    """Loops that never end, each entered by a jump past it."""
+    lines = []
+    for number in range(count // 2):
+        lines += [("", "IF(I.EQ.%d)GO TO %d" % (number, number + 1)), (str(number + 1), "GO TO %d" % (number + 1))]
+    return lines
+
+
+def into_endless(count):
+    """Jumps into a loop that never ends, in reverse order."""
+    first = [("", "IF(I.EQ.%d)GO TO %d" % (number, count // 2 - number)) for number in range(count // 2)]
+    return first + [(str(number + 1), "CONTINUE") for number in range(count // 2)] + [("", "GO TO 1")]
+
+
+def comments():
+    return ("C" * 63 + "\n") * 65535 + "      END\n"
+
+
 TEXTS = [
+    ("4 MiB of comments", comments()),
     ("2,700 statements of 1,319 characters", wide()),
     ("3,999 statements I=1", unlabelled(["I=1"] * 3999)),
     ("3,000 labels, 3,000 GO TOs", jumps(3000)),
@@ -91,18 +127,39 @@ TEXTS = [
 ]
 
 
+GRAPHS = [
+    ("3,999 statements I=1", unlabelled(["I=1"] * 3999)),
+    ("1,020 nested DO loops", loops(1020)),
+    ("1,020 DOs with one terminal statement", one_terminal(1020)),
+    ("1,999 nested loops of GO TO", loops_of_jumps(1999)),
+    ("computed GO TOs with 4,000 labels", many_targets()),
+    ("1,950 loops that never end", endless(3900)),
+    ("1,950 jumps into a loop that never ends", into_endless(3900)),
+]
+
+
+def show(dfc, job, title, statements):
+    """The size of a text, the best of three times, and the answer."""
+    text, best = (statements if isinstance(statements, str) else text_of(statements)).encode(), None
+    for _ in range(3):
+        begin = time.perf_counter()
+        done = subprocess.run(dfc + [job], input=text, stdout=subprocess.PIPE)
+        took = time.perf_counter() - begin
+        best = min(best or took, took)
+    answer = done.stdout.decode().strip() if done.returncode == 2 else "run" if done.returncode == 0 else f"status {done.returncode}"
+    print(f"{job:7} {title:42} {len(text):9,} bytes  {best:7.3f} s  {answer}", flush=True)
+
+
 def main():
     if len(sys.argv) != 2:
         sys.exit(__doc__)
+    dfc = shlex.split(sys.argv[1])
+    for title, statements in GRAPHS:
+        show(dfc, "regions", title, statements)
+    most = resource.getrusage(resource.RUSAGE_CHILDREN).ru_maxrss
+    print(f"regions: at most {most / 1024:.0f} MiB", flush=True)
     for title, statements in TEXTS:
-        text, best = text_of(statements).encode(), None
-        for _ in range(3):
-            begin = time.perf_counter()
-            done = subprocess.run(shlex.split(sys.argv[1]) + ["fire"], input=text, stdout=subprocess.PIPE)
-            took = time.perf_counter() - begin
-            best = min(best or took, took)
-        answer = done.stdout.decode().strip() if done.returncode == 2 else "run" if done.returncode == 0 else f"status {done.returncode}"
-        print(f"{title:42} {len(text):9,} bytes  {best:7.3f} s  {answer}", flush=True)
+        show(dfc, "fire", title, statements)
 
 
 main()
