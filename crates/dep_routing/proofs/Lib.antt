@@ -6,6 +6,7 @@ pub mod Circles
 pub mod Counting
 pub mod Cycles
 pub mod Ending
+pub mod Flags
 pub mod FreeNodes
 pub mod Staying
 pub mod LeavingRuns

@@ -25,7 +25,7 @@ use Rattle.cfg_build.specs.Shape.{kind_at, IsShaped}
 use Rattle.dep_routing.specs.PieceLines.{AreLines, BranchNeedsOut, KindNeedsOutIf, HasExecutable, RunsExecutable, TellBelow}
 use Rattle.dep_routing.specs.Touch.{touches_in}
 use Rattle.dep_routing.proofs.SetTables.{touches-before, touches-last}
-use Rattle.dep_routing.specs.Touches.{BranchNeeds, BranchMayTrap, KindNeeds, KindNeedsOut, Touches, ends_rounds, is_increment}
+use Rattle.dep_routing.specs.Touches.{AreTouchesBy, BranchNeeds, BranchTraps, KindNeeds, KindNeedsOutBy, TouchesBy, ends_rounds, exec_at, exec_kind, is_increment, piece_kind}
 
 -- ---- an item, whatever is read past the end
 
@@ -64,28 +64,42 @@ module _ (p : Program) (f : FlowGraph) (node : ℕ) (piece : Piece) (is : f ≡ 
 
   -- ---- cycles
 
-  module _ {W : ℕ} (c : ClassTable) (round : Bool) (set : ClassSet W) (on : (round ≡ true) ↔ IsOnCycle (flow p.execs).graph (ends_rounds p) node) where
+  module _ {W : ℕ} (c : ClassTable) (may : ℕ → Type 0) (risk : Type 0) (risk_is : risk ↔ may piece.exec) (round : Bool) (set : ClassSet W) (on : (round ≡ true) ↔ IsOnCycle (flow p.execs).graph (ends_rounds p) node) where
     -- why it touches the line of output
-    out-if : (kind : PieceKind) (exec : ExecKind) → KindNeedsOutIf p c round kind exec ↔ KindNeedsOut p c node kind exec
+    branch-if : (exec : ExecKind) → BranchTraps risk exec ↔ BranchTraps (may piece.exec) exec
+    branch-if (DoStart loop_no var first last step body exit) = (λ h. h, λ h. h)
+    branch-if (Assign target e next) = risk_is
+    branch-if (Print items next) = risk_is
+    branch-if (Passing next) = risk_is
+    branch-if (Test cond if_true if_false) = risk_is
+    branch-if (Sign e neg equal pos) = risk_is
+    branch-if (Pick e targets other) = risk_is
+    branch-if (DoNext loop_no var body exit) = risk_is
+    branch-if Ending = risk_is
+
+    out-if : (kind : PieceKind) (exec : ExecKind) → KindNeedsOutIf c risk round kind exec ↔ KindNeedsOutBy p c node (may piece.exec) kind exec
     out-if Start exec = (λ h. h, λ h. h)
-    out-if Act exec = (λ h. h, λ h. h)
+    out-if Act exec = (
+      λ h. ⊎_elim (λ prints. inl prints) (λ more. inr (⊎_elim (λ reads. inl reads) (λ r. inr (risk_is.0 r)) more)) h,
+      λ h. ⊎_elim (λ prints. inl prints) (λ more. inr (⊎_elim (λ reads. inl reads) (λ r. inr (risk_is.1 r)) more)) h,
+    )
     out-if Pass exec = (λ h. h, λ h. h)
     out-if Branch exec = (
-      λ h. ⊎_elim (λ may. inl may) (λ more. inr (⊎_elim (λ r. inl (on.0 r)) (λ none. inr none) more)) h,
-      λ h. ⊎_elim (λ may. inl may) (λ more. inr (⊎_elim (λ r. inl (on.1 r)) (λ none. inr none) more)) h,
+      λ h. ⊎_elim (λ r. inl ((branch-if exec).0 r)) (λ more. inr (⊎_elim (λ r. inl (on.0 r)) (λ none. inr none) more)) h,
+      λ h. ⊎_elim (λ r. inl ((branch-if exec).1 r)) (λ more. inr (⊎_elim (λ r. inl (on.1 r)) (λ none. inr none) more)) h,
     )
     out-if Join exec = (λ h. h, λ h. h)
     out-if Hold exec = (λ h. h, λ h. h)
     out-if End exec = (λ h. h, λ h. h)
 
     -- its set tells its touches
-    pub set-tells : AreLines set (KindNeedsOutIf p c round piece.kind (kind_in (slice_get p.execs piece.exec))) (KindNeeds c piece.kind (kind_in (slice_get p.execs piece.exec))) → (line : ℕ) → (holds set line ≡ true) ↔ Touches p c node line
+    pub set-tells : AreLines set (KindNeedsOutIf c risk round piece.kind (kind_in (slice_get p.execs piece.exec))) (KindNeeds c piece.kind (kind_in (slice_get p.execs piece.exec))) → (line : ℕ) → (holds set line ≡ true) ↔ TouchesBy p c may node line
     set-tells lines = by
       where
-        by : (line : ℕ) → (holds set line ≡ true) ↔ Touches p c node line
+        by : (line : ℕ) → (holds set line ≡ true) ↔ TouchesBy p c may node line
         by zero = (
-          λ h. subst (λ (x : Piece). KindNeedsOut p c node x.kind (kind_in (slice_get p.execs x.exec))) (sym piece-is) ((out-if piece.kind (kind_in (slice_get p.execs piece.exec))).0 (lines.output.0 h)),
-          λ h. lines.output.1 ((out-if piece.kind (kind_in (slice_get p.execs piece.exec))).1 (subst (λ (x : Piece). KindNeedsOut p c node x.kind (kind_in (slice_get p.execs x.exec))) piece-is h)),
+          λ h. subst (λ (x : Piece). KindNeedsOutBy p c node (may x.exec) x.kind (kind_in (slice_get p.execs x.exec))) (sym piece-is) ((out-if piece.kind (kind_in (slice_get p.execs piece.exec))).0 (lines.output.0 h)),
+          λ h. lines.output.1 ((out-if piece.kind (kind_in (slice_get p.execs piece.exec))).1 (subst (λ (x : Piece). KindNeedsOutBy p c node (may x.exec) x.kind (kind_in (slice_get p.execs x.exec))) piece-is h)),
         )
         by (suc n) = (
           λ h. subst (λ (x : Piece). KindNeeds c x.kind (kind_in (slice_get p.execs x.exec)) (suc n)) (sym piece-is) ((lines.classes n).0 h),
@@ -114,15 +128,15 @@ on-round p g ends rounds node round is told marks count lt at =
 -- ---- tables
 
 -- the set of one piece more
-pub one-more : {W : ℕ} (p : Program) (c : ClassTable) (sets new : List (ClassSet W)) (set : ClassSet W) (k : ℕ) → length sets ≡ k → new ≡ sets ++ set ∷ [] → TellBelow p c sets k → ((line : ℕ) → (holds set line ≡ true) ↔ Touches p c k line) → TellBelow p c new (k + 1)
-one-more p c sets new set k count is tell here node line below = ⊎_elim
+pub one-more : {W : ℕ} (p : Program) (c : ClassTable) (may : ℕ → Type 0) (sets new : List (ClassSet W)) (set : ClassSet W) (k : ℕ) → length sets ≡ k → new ≡ sets ++ set ∷ [] → TellBelow p c may sets k → ((line : ℕ) → (holds set line ≡ true) ↔ TouchesBy p c may k line) → TellBelow p c may new (k + 1)
+one-more p c may sets new set k count is tell here node line below = ⊎_elim
     (λ (l : node < k).
     let same : touches_in new node line ≡ touches_in sets node line = ap (λ xs. touches_in xs node line) is ∙ touches-before sets set node line (omega (arith, l, count)) in
     (λ h. (tell node line l).0 (sym same ∙ h), λ h. same ∙ (tell node line l).1 h))
     (λ (m : k ≤ node).
     let at : node ≡ k = omega (arith, m, below) in
     let same : touches_in new node line ≡ holds set line = ap (λ xs. touches_in xs node line) is ∙ touches-last sets set node line (omega (arith, at, count)) in
-    (λ h. subst (λ x. Touches p c x line) (sym at) ((here line).0 (sym same ∙ h)), λ h. same ∙ (here line).1 (subst (λ x. Touches p c x line) at h)))
+    (λ h. subst (λ x. TouchesBy p c may x line) (sym at) ((here line).0 (sym same ∙ h)), λ h. same ∙ (here line).1 (subst (λ x. TouchesBy p c may x line) at h)))
     (cases_lt node k)
 
 -- one edge more
@@ -182,13 +196,13 @@ branch-numbered c (DoNext loop_no var body exit) law is = let low = (law 0 is).0
 branch-numbered c Ending law is = let low = (law 0 is).0 in omega (arith, low)
 
 -- it can't trap, lies on no cycle that a run may go round for ever, and needs a class
-pub quiet-branch : {W : ℕ} (p : Program) (c : ClassTable) (kind : ExecKind) (set : ClassSet W) (round may : Bool) → ((n : ℕ) → ExecNeeds c kind n → (1 ≤ n) × (n ≤ class_count c)) → ((n : ℕ) → (holds set n ≡ true) ↔ BranchNeeds c kind n) → round ≡ false → (may ≡ true) ↔ BranchMayTrap p.names kind → may ≡ false
-    → ((n : ℕ) × (holds set n ≡ true)) → AreLines set (BranchNeedsOut p.names c kind round) (BranchNeeds c kind)
-quiet-branch p c kind set round may law told no_round risk no_risk some = record {
+pub quiet-branch : {W : ℕ} (c : ClassTable) (kind : ExecKind) (risk : Type 0) (set : ClassSet W) (round may : Bool) → ((n : ℕ) → ExecNeeds c kind n → (1 ≤ n) × (n ≤ class_count c)) → ((n : ℕ) → (holds set n ≡ true) ↔ BranchNeeds c kind n) → round ≡ false → (may ≡ true) ↔ BranchTraps risk kind → may ≡ false
+    → ((n : ℕ) × (holds set n ≡ true)) → AreLines set (BranchNeedsOut c risk kind round) (BranchNeeds c kind)
+quiet-branch c kind risk set round may law told no_round told_risk no_risk some = record {
   output = (
     λ h. absurd (branch-numbered c kind law ((told 0).0 h)),
     λ out. absurd (⊎_elim
-        (λ can. false≢true (sym no_risk ∙ risk.1 can))
+        (λ can. false≢true (sym no_risk ∙ told_risk.1 can))
         (λ more. ⊎_elim
         (λ (r : round ≡ true). false≢true (sym no_round ∙ r))
         (λ none. none some.0 ((told some.0).0 some.1))
@@ -197,3 +211,40 @@ quiet-branch p c kind set round may law told no_round risk no_risk some = record
   );
   classes = λ n. told (suc n);
 }
+
+-- ---- the same risks, told in two ways
+
+module _ (p : Program) (c : ClassTable) (node : ℕ) (risk other : Type 0) (same : risk → other) where
+  branch-by : (exec : ExecKind) → BranchTraps risk exec → BranchTraps other exec
+  branch-by (DoStart loop_no var first last step body exit) h = h
+  branch-by (Assign target e next) h = same h
+  branch-by (Print items next) h = same h
+  branch-by (Passing next) h = same h
+  branch-by (Test cond if_true if_false) h = same h
+  branch-by (Sign e neg equal pos) h = same h
+  branch-by (Pick e targets other) h = same h
+  branch-by (DoNext loop_no var body exit) h = same h
+  branch-by Ending h = same h
+
+  out-by : (kind : PieceKind) (exec : ExecKind) → KindNeedsOutBy p c node risk kind exec → KindNeedsOutBy p c node other kind exec
+  out-by Start exec h = h
+  out-by Act exec (inl prints) = inl prints
+  out-by Act exec (inr (inl reads)) = inr (inl reads)
+  out-by Act exec (inr (inr r)) = inr (inr (same r))
+  out-by Pass exec h = h
+  out-by Branch exec (inl r) = inl (branch-by exec r)
+  out-by Branch exec (inr more) = inr more
+  out-by Join exec h = h
+  out-by Hold exec h = h
+  out-by End exec h = h
+
+module _ (p : Program) (c : ClassTable) (may other : ℕ → Type 0) (same : (k : ℕ) → may k ↔ other k) where
+  touches-by : (node line : ℕ) → TouchesBy p c may node line ↔ TouchesBy p c other node line
+  touches-by node zero = (
+    λ h. out-by p c node (may (exec_at p node)) (other (exec_at p node)) (same (exec_at p node)).0 (piece_kind p node) (exec_kind p node) h,
+    λ h. out-by p c node (other (exec_at p node)) (may (exec_at p node)) (same (exec_at p node)).1 (piece_kind p node) (exec_kind p node) h,
+  )
+  touches-by node (suc n) = (λ h. h, λ h. h)
+
+  pub same-risks : (touches : ℕ → ℕ → Bool) → AreTouchesBy p c may touches → AreTouchesBy p c other touches
+  same-risks touches are node line below = (λ h. (touches-by node line).0 ((are node line below).0 h), λ h. (are node line below).1 ((touches-by node line).1 h))

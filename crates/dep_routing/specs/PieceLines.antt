@@ -4,16 +4,14 @@ use Rattle.std.specs.Prelude.{◌≡◌, ℕ, ◌<◌, ◌↔◌, ◌⊎◌, Boo
 use Rattle.class_set.specs.ClassSet.{holds}
 use Rattle.class_set.specs.declared.ClassSet.{ClassSet}
 use Rattle.f77_tree.specs.declared.programs.ExecKind.{ExecKind}
-use Rattle.f77_tree.specs.declared.programs.NameInfo.{NameInfo}
 use Rattle.f77_tree.specs.declared.programs.Program.{Program}
-use Rattle.f77_tree.specs.Known.{ExecMayTrap}
 use Rattle.f77_tree.specs.Touched.{ExecReadsData}
 use Rattle.alias_classes.specs.Classes.{ClassTable}
 use Rattle.cfg_build.specs.declared.pieces.Piece.{Piece}
 use Rattle.cfg_build.specs.declared.pieces.PieceKind.{PieceKind}
 use Rattle.cfg_build.specs.declared.pieces.PieceKind.TheVariants.{Act, Branch, Hold}
 use Rattle.dep_routing.specs.Touch.{touches_in}
-use Rattle.dep_routing.specs.Touches.{BranchNeeds, BranchMayTrap, Prints, Touches}
+use Rattle.dep_routing.specs.Touches.{BranchNeeds, BranchTraps, Prints, TouchesBy}
 
 module _ {W : ℕ} where
   -- the set holds the line of output where `out` says so, and the classes that are needed
@@ -22,19 +20,20 @@ module _ {W : ℕ} where
     pub classes : (n : ℕ) → (holds set (suc n) ≡ true) ↔ needs (suc n)
 
   -- the sets tell which lines the pieces below a number touch
-  abbrev pub TellBelow : Program → ClassTable → List (ClassSet W) → (k : ℕ) → Type 0
-  TellBelow p c sets k = (node line : ℕ) → node < k → (touches_in sets node line ≡ true) ↔ Touches p c node line
+  abbrev pub TellBelow : Program → ClassTable → (may : ℕ → Type 0) → List (ClassSet W) → (k : ℕ) → Type 0
+  TellBelow p c may sets k = (node line : ℕ) → node < k → (touches_in sets node line ≡ true) ↔ TouchesBy p c may node line
 
--- why a branch touches the line of output, where it is told whether it lies on a cycle that a run may go round for ever
-abbrev pub BranchNeedsOut : List NameInfo → ClassTable → ExecKind → (round : Bool) → Type 0
-BranchNeedsOut names c kind round = BranchMayTrap names kind ⊎ ((round ≡ true) ⊎ ((n : ℕ) → BranchNeeds c kind n → ⊥))
+-- why a branch touches the line of output, where it is told whether its executable may trap, and whether the branch lies on a cycle that
+-- a run may go round for ever
+abbrev pub BranchNeedsOut : ClassTable → (may : Type 0) → ExecKind → (round : Bool) → Type 0
+BranchNeedsOut c may kind round = BranchTraps may kind ⊎ ((round ≡ true) ⊎ ((n : ℕ) → BranchNeeds c kind n → ⊥))
 
 -- why a piece touches the line of output, where it is told the same
-abbrev pub KindNeedsOutIf : Program → ClassTable → (round : Bool) → PieceKind → ExecKind → Type 0
-KindNeedsOutIf p c round Act kind = Prints kind ⊎ (ExecReadsData kind ⊎ ExecMayTrap p.names kind)
-KindNeedsOutIf p c round Branch kind = BranchNeedsOut p.names c kind round
-KindNeedsOutIf p c round Hold kind = Unit {0}
-KindNeedsOutIf p c round _ kind = ⊥
+abbrev pub KindNeedsOutIf : ClassTable → (may : Type 0) → (round : Bool) → PieceKind → ExecKind → Type 0
+KindNeedsOutIf c may round Act kind = Prints kind ⊎ (ExecReadsData kind ⊎ may)
+KindNeedsOutIf c may round Branch kind = BranchNeedsOut c may kind round
+KindNeedsOutIf c may round Hold kind = Unit {0}
+KindNeedsOutIf c may round _ kind = ⊥
 
 -- an act or a branch has its executable in the program
 abbrev pub HasExecutable : Program → PieceKind → (exec : ℕ) → Type 0

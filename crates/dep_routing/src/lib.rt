@@ -39,7 +39,7 @@ pub use touch_laws::{
     pieces_touch_lines, touches_are_sound, touches_follow_needs, traps_touch_output,
 };
 pub use touched::touched_lines;
-pub use touching::touches;
+pub use touching::{touches, touches_by};
 
 /// For each node the set of the lines that it touches.
 pub type TouchList<const W: usize> = Sequence<ClassSet<W>>;

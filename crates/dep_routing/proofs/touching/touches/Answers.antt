@@ -1,37 +1,26 @@
-use Rattle.std.proofs.Common.{◌≡◌, ℕ, ◌<◌, List, [], ◌∷◌, Bool, true, false, length, length-append, get_or, ap, sym, subst, ◌∙◌, rules, arith}
-use Rattle.std.specs.Prelude.{◌↔◌}
-use Rattle.closed_walks.specs.Cycling.{IsOnCycle}
-use Rattle.closed_walks.specs.Graph.{Graph}
-use Rattle.cfg_build.specs.Joined.{FlowGraph}
-use Rattle.dep_routing.specs.PieceLines.{RunsExecutable}
-use Rattle.dep_routing.proofs.PieceTouches.{piece-runs, on-round, set-tells, one-more}
+use Rattle.std.proofs.Common.{◌≡◌, ◌↔◌, ℕ, Bool, List, sym, subst, rules}
+use Rattle.std.specs.Prelude.{slice_get}
+use Rattle.f77_tree.specs.Touched.{ExecReadsData}
+use Rattle.cfg_build.specs.Passes.{kind_in}
+use Rattle.dep_routing.specs.Touch.{touches_in}
+use Rattle.dep_routing.specs.Touches.{AreTouches, AreTouchesBy, CanTrapAt, IsFlagged}
+use Rattle.dep_routing.proofs.Flags.{if-ok}
+use Rattle.dep_routing.proofs.PieceTouches.{same-risks}
 use Rattle.dep_routing.proofs.touching.touches.Goals as goal
 
-pub piece_lines-requires : goal.piece_lines-requires
-piece_lines-requires g c =
+pub touches_by-requires : goal.touches_by-requires
+touches_by-requires g c =
     let p = c.args.p.now in
-    let test = c.loop-node-test.true in
-    let nodes = c.pieces-node-end.ensures.nodes in
-    let lt : c.loop-node.node < c.args.f.now.graph.nodes = omega (arith, test, nodes) in
-    let runs : RunsExecutable p c.piece.result = piece-runs p c.args.f.now c.loop-node.node c.piece.result c.requires.flow c.piece.ensures lt
-    (λ below. c.pieces_run_executables.ensures.acts p.names p.execs p.loops c.loop-node.node c.requires.program.execs below)
-    (λ below. c.pieces_run_executables.ensures.branches p.names p.execs p.loops c.loop-node.node c.requires.program.execs below) in
-    search (rules, runs)
+    let flags : List Bool = c.deref.result.now in
+    let same : (k : ℕ) → IsFlagged flags k ↔ CanTrapAt p k = subst (λ (xs : List Bool). (k : ℕ) → IsFlagged xs k ↔ CanTrapAt p k) (sym c.deref.ensures.value) c.in_ok-may_trap.ensures in
+    let reading : (k : ℕ) → ExecReadsData (kind_in (slice_get p.execs k)) → IsFlagged flags k = λ k reads. (same k).1 (c.what_takes_data_can_trap.ensures p.names (kind_in (slice_get p.execs k)) reads) in
+    search (rules, reading)
 
-pub loop-node-preserved : goal.loop-node-preserved
-loop-node-preserved g c =
+pub returns-clause-touches : goal.returns-clause-touches
+returns-clause-touches g c =
     let p = c.args.p.now in
-    let node = c.loop-node.node in
-    let kept = c.loop-node.invariant in
-    let test = c.loop-node-test.true in
-    let nodes = c.pieces-node-end.ensures.nodes in
-    let lt : node < c.graph.result.now.nodes = subst (λ (x : Graph). node < x.nodes) (sym c.graph.ensures) (omega (arith, test, nodes)) in
-    let g = c.graph.result.now in
-    let rounds = c.in_ok-rounds.rounds.items in
-    let marks = subst (λ (xs : List Bool). (k : ℕ) → k < g.nodes → (get_or rounds k false ≡ true) ↔ IsOnCycle g (λ e. get_or xs e false) k) c.deref.ensures.value c.in_ok-rounds.ensures.cycle in
-    let on = on-round p g c.in_ok-ends.ends.items rounds node c.index.result.now (c.graph.ensures ∙ ap (λ (x : FlowGraph). x.graph) c.requires.flow) c.in_ok-ends.ensures.each marks c.in_ok-rounds.ensures.count lt c.index.ensures in
-    let tells = set-tells p c.args.f.now node c.piece.result c.requires.flow c.piece.ensures c.args.c.now c.index.result.now c.piece_lines.result on c.piece_lines.ensures in
-    record {
-      count = let grown = ap length c.in_ok-push.ensures.ok in let count = kept.count in omega (arith, grown, count, length-append c.loop-node.list (c.piece_lines.result ∷ []));
-      tell = one-more p c.args.c.now c.loop-node.list c.push.new.self c.piece_lines.result node kept.count c.in_ok-push.ensures.ok kept.tell tells;
-    }
+    let classes = c.args.c.now in
+    let flags : List Bool = c.deref.result.now in
+    let same : (k : ℕ) → IsFlagged flags k ↔ CanTrapAt p k = subst (λ (xs : List Bool). (k : ℕ) → IsFlagged xs k ↔ CanTrapAt p k) (sym c.deref.ensures.value) c.in_ok-may_trap.ensures in
+    if-ok c.touches_by.result (λ list. AreTouchesBy p classes (IsFlagged flags) (touches_in list)) (λ list. AreTouches p classes (touches_in list))
+    (λ list are. same-risks p classes (IsFlagged flags) (CanTrapAt p) same (touches_in list) are) c.touches_by.ensures.touches
