@@ -191,5 +191,5 @@ module _ (tops sizes : List ℕ) where
           rw (p, a.last)
           (IsNamed-new tops sizes e names classes n (λ j h equal.
           let found_it : same_names x (get_or names j no_name) ≡ true = rw equal (same_names-itself x) in
-          let both : true ≡ false = sym found_it ∙ a.none j h in
+          let both : true ≡ false = sym found_it ∙ a.others j h in
           absurd cc))
