@@ -23,6 +23,7 @@ use Rattle.f77_tree.specs.Touched.{AreAsKnown, MayName}
 use Rattle.f77_tree.specs.Value.{value, row_values, value_before, all_values, and_then, moved, extent, subscripted, word_of, place, place_in, dims_in, place_of, dims_of, size_of, IsAccess, IsPlaced, ArePlaced}
 use Rattle.alias_classes.specs.Constant.{is_constant, is_constant_row}
 use Rattle.alias_classes.proofs.Covering.{StayInNames}
+use Rattle.std.proofs.lemmas.Bool.{and_parts}
 
 -- ---- constants
 
@@ -44,10 +45,6 @@ none_after : (k : Option ℤ) (known : List (Option ℤ)) → all_known known �
 none_after None known is = refl
 none_after (Some z) known is = ap (option_map (λ zs. z ∷ zs)) is
 
-both_true : (a b : Bool) → (a && b) ≡ true → (a ≡ true) × (b ≡ true)
-both_true true b is = (refl, is)
-both_true false b is = let e : false ≡ true = is in absurd cc
-
 module _ (names : List NameInfo) (store : List ℤ) (next : Option ℤ) where
   mutual
     -- a constant's value is known
@@ -61,13 +58,13 @@ module _ (names : List NameInfo) (store : List ℤ) (next : Option ℤ) where
     row-known : {m : _} (row : Row_of-Expr m) → is_constant_row row ≡ true → all_known (row_known row) ≡ result_ok (all_values (row_values names store next row))
     row-known end_of-Expr is = refl
     row-known (more_of-Expr e rest) is =
-        let both = both_true (is_constant e) (is_constant_row rest) is in
+        let both = and_parts (is_constant e) (is_constant_row rest) is in
         ap (λ k. all_known (k ∷ row_known rest)) (constant-known e both.0) ∙ known_before (value names store next e) (row_known rest) (all_values (row_values names store next rest)) (row-known rest both.1)
 
   list-known : (es : List Expr) → list_all is_constant es ≡ true → all_known (map known es) ≡ result_ok (all_values (map (value names store next) es))
   list-known [] is = refl
   list-known (e ∷ es) is =
-      let both = both_true (is_constant e) (list_all is_constant es) is in
+      let both = and_parts (is_constant e) (list_all is_constant es) is in
       ap (λ k. all_known (k ∷ map known es)) (constant-known e both.0) ∙ known_before (value names store next e) (map known es) (all_values (map (value names store next) es)) (list-known es both.1)
 
 -- one operand is no constant, the first or a later one

@@ -7,7 +7,8 @@ use Rattle.std.proofs.Math.ListN.{length-set}
 use Rattle.indexmap.specs.IndexSet.{insert_key}
 use Rattle.alias_classes.specs.Classes.{IsMet, IsNextNumber, SameNames, IsNumbering}
 use Rattle.alias_classes.specs.Walk.{no_key, same_keys, IsMarked, IsKeyed, Before, IsNew, IsWalked}
-use Rattle.alias_classes.proofs.KeyPlaces.{found, absent, same_keys-equal, same_keys-itself}
+use Rattle.alias_classes.proofs.KeyPlaces.{same_keys-equal, same_keys-itself}
+use Rattle.list_laws.proofs.KeyPlaces.{found, absent}
 
 module _ (covers : ℕ → ℕ → Type 0) (key : ℕ → ℕ × ℕ) where
   earlier-met : (j x k w v : ℕ) → Before covers key j x k w → IsMet covers j x v → IsMet covers k w v
@@ -210,14 +211,14 @@ module _ (covers : ℕ → ℕ → Type 0) (key : ℕ → ℕ × ℕ) where
     where
       by : get_or numbers w 0 ≡ 0 → (b : Bool) → list_any (same_keys (key w)) keys ≡ b → IsWalked covers key k (suc w) (set numbers w (position_or_len (same_keys (key w)) keys + 1)) (insert_key same_keys keys (key w))
       by blank true p =
-          let f = found same_keys (key w) keys p in
+          let f = found same_keys no_key (key w) keys p in
           rw p (walked-old k w (position_or_len (same_keys (key w)) keys) numbers keys walked has inside blank f.within (sym (same_keys-equal (key w) (get_or keys (position_or_len (same_keys (key w)) keys) no_key) f.equal)))
       by blank false p =
-          let a = absent same_keys (key w) keys p in
+          let a = absent same_keys no_key (key w) keys p in
           rw (p, a.last)
           (walked-new k w numbers keys walked has inside blank (λ j h equal.
           let found_it : same_keys (key w) (get_or keys j no_key) ≡ true = rw equal (same_keys-itself (key w)) in
-          let both : true ≡ false = sym found_it ∙ a.none j h in
+          let both : true ≡ false = sym found_it ∙ a.others j h in
           absurd cc))
 
       earlier-self : 1 ≤ get_or numbers w 0 → IsMet covers k w w → IsMet covers k w w

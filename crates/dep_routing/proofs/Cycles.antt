@@ -14,44 +14,7 @@ use Rattle.cfg_build.specs.Joined.{finish}
 use Rattle.cfg_build.specs.Shape.{leaves_one, IsShaped}
 use Rattle.dep_routing.specs.Touches.{piece_kind, is_increment, ends_rounds}
 use Rattle.dep_routing.proofs.Circles.{IsPlace, ends_stay, Avoids-fewer}
-
--- ---- counts
-
-abbrev bit : Bool → ℕ
-bit b = cond b 1 0
-
-module _ {X : Type 0} where
-  count_cons : (p : X → Bool) (x : X) (xs : List X) → count_by p (x ∷ xs) ≡ bit (p x) + count_by p xs
-  count_cons p x xs = sum_by-cons (λ (y : X). bit (p y)) x xs
-
-  count_some : (p : X → Bool) (xs : List X) (i : ℕ) (d : X) → i < length xs → p (get_or xs i d) ≡ true → 1 ≤ count_by p xs
-  count_some p [] i d some passes = absurd (omega (arith, some))
-  count_some p (x ∷ xs) zero d some passes =
-      let e : count_by p (x ∷ xs) ≡ bit (p x) + count_by p xs = count_cons p x xs in
-      let b : bit (p x) ≡ 1 = cond-true (p x) 1 0 passes in
-      omega (arith, e, b)
-  count_some p (x ∷ xs) (suc i) d some passes =
-      let e : count_by p (x ∷ xs) ≡ bit (p x) + count_by p xs = count_cons p x xs in
-      let r : 1 ≤ count_by p xs = count_some p xs i d (omega (arith, some)) passes in
-      omega (arith, e, r)
-
-  -- where at most one passes, two that pass are one
-  count_unique : (p : X → Bool) (xs : List X) (i j : ℕ) (d : X) → count_by p xs ≤ 1 → i < length xs → j < length xs → p (get_or xs i d) ≡ true → p (get_or xs j d) ≡ true → i ≡ j
-  count_unique p [] i j d few some other first second = absurd (omega (arith, some))
-  count_unique p (x ∷ xs) zero zero d few some other first second = refl
-  count_unique p (x ∷ xs) zero (suc j) d few some other first second =
-      let e : count_by p (x ∷ xs) ≡ bit (p x) + count_by p xs = count_cons p x xs in
-      let b : bit (p x) ≡ 1 = cond-true (p x) 1 0 first in
-      let r : 1 ≤ count_by p xs = count_some p xs j d (omega (arith, other)) second in
-      absurd (omega (arith, e, b, r, few))
-  count_unique p (x ∷ xs) (suc i) zero d few some other first second =
-      let e : count_by p (x ∷ xs) ≡ bit (p x) + count_by p xs = count_cons p x xs in
-      let b : bit (p x) ≡ 1 = cond-true (p x) 1 0 second in
-      let r : 1 ≤ count_by p xs = count_some p xs i d (omega (arith, some)) first in
-      absurd (omega (arith, e, b, r, few))
-  count_unique p (x ∷ xs) (suc i) (suc j) d few some other first second =
-      let e : count_by p (x ∷ xs) ≡ bit (p x) + count_by p xs = count_cons p x xs in
-      ap suc (count_unique p xs i j d (omega (arith, e, few)) (omega (arith, some)) (omega (arith, other)) first second)
+use Rattle.list_laws.proofs.Counts.{count_unique}
 
 -- one edge leaves the node
 one_from : (g : Graph) (node a b : ℕ) → out_degree g node ≡ 1 → a < edge_count g → b < edge_count g → from g a ≡ node → from g b ≡ node → a ≡ b

@@ -13,7 +13,7 @@ use Rattle.dep_routing.specs.FreeLines.{comes_along, is_bypass, is_free, is_pass
 use Rattle.dep_routing.specs.Next.{Hops, IsHop, Next}
 use Rattle.dep_routing.specs.Quiet.{IsFree, IsWire}
 use Rattle.dep_routing.specs.Routing.{Routing, IsRouting, next_at, wire_at}
-use Rattle.dep_routing.proofs.Held.{Holds-at}
+use Rattle.closed_walks.proofs.Held.{Holds-at}
 use Rattle.dep_routing.proofs.Quietness.{at_entry}
 
 -- ---- lists

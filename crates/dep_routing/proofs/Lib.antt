@@ -1,4 +1,3 @@
-pub mod Held
 pub mod Cells
 pub mod Rounds
 pub mod Repeats

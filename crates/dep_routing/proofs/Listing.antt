@@ -6,7 +6,8 @@ use Rattle.std.proofs.lemmas.List.Elements.{filter-append}
 use Rattle.std.proofs.lemmas.List.Filters.{length-filter_both}
 use Rattle.std.proofs.lemmas.List.FromFn.{length-range_with_len}
 use Rattle.closed_walks.specs.Walk.{Holds}
-use Rattle.dep_routing.proofs.Held.{Holds-left, Holds-right, Holds-append}
+use Rattle.closed_walks.proofs.Held.{Holds-left, Holds-right, Holds-append}
+use Rattle.list_laws.proofs.Ranges.{range_more}
 
 -- Of a list in the making: it has the lines below a bound that the test tells, and of those after it the next one is the first, or
 -- all are listed.
@@ -19,16 +20,6 @@ pub record IsListing (test : ℕ → Bool) (lines next : ℕ) (list : List ℕ) 
   pub gap : (k : ℕ) → bound ≤ k → k < next → test k ≡ false
 
 module _ (test : ℕ → Bool) where
-  range_more : (n : ℕ) → range_with_len 0 (n + 1) ≡ range_with_len 0 n ++ n ∷ []
-  range_more n = on 0 n ∙ ap (λ k. range_with_len 0 n ++ k ∷ []) (zero-add n)
-    where
-      on : (a k : ℕ) → range_with_len a (k + 1) ≡ range_with_len a k ++ (a + k) ∷ []
-      on a zero = ap (λ k. k ∷ []) (omega arith)
-      on a (suc k) =
-          let more : suc k + 1 ≡ suc (k + 1) = omega arith in
-          let last : a + 1 + k ≡ a + suc k = omega arith in
-          ap (range_with_len a) more ∙ ap (λ xs. a ∷ xs) (on (a + 1) k ∙ ap (λ n. range_with_len (a + 1) k ++ n ∷ []) last)
-
   filter_told : (n : ℕ) → test n ≡ true → filter test (range_with_len 0 (n + 1)) ≡ filter test (range_with_len 0 n) ++ n ∷ []
   filter_told n is = ap (filter test) (range_more n) ∙ filter-append test (range_with_len 0 n) (n ∷ []) ∙ rw is refl
 

@@ -17,7 +17,7 @@ use Rattle.dep_routing.specs.Quiet.{IsTouched}
 use Rattle.dep_routing.specs.Order.{is_marked, unmarked}
 use Rattle.dep_routing.specs.Noise.{IsNoneOrMarked, HaveParents, IsMarkedUp, IsMarkedFrom, AreNoisy, marks_of}
 use Rattle.closed_walks.specs.Walk.{Holds}
-use Rattle.dep_routing.proofs.Held.{Holds-at}
+use Rattle.closed_walks.proofs.Held.{Holds-at}
 use Rattle.dep_routing.proofs.Ordering.{unmarked-set}
 use Rattle.dep_routing.proofs.Quietness.{inside_exists}
 

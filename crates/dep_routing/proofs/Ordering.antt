@@ -6,7 +6,7 @@ use Rattle.closed_walks.specs.Walk.{Holds}
 use Rattle.region_tree.specs.Tree.{Tree, entry_of, exit_of, IsNumber}
 use Rattle.dep_routing.specs.Numbers.{AreNumbersBelow}
 use Rattle.dep_routing.specs.Order.{Ranks, IsOrder, IsOrdering, IsPutAfter, is_marked, unmarked}
-use Rattle.dep_routing.proofs.Held.{Holds-left, Holds-right, Holds-append, Holds-at, IsAt, at_Holds}
+use Rattle.closed_walks.proofs.Held.{Holds-left, Holds-right, Holds-append, Holds-at, IsAt, at_Holds}
 
 pub unmarked-set : (marks : List Bool) (r : ℕ) → r < length marks → is_marked marks r ≡ false → unmarked (set marks r true) + 1 ≡ unmarked marks
 unmarked-set [] r within blank = absurd (omega (arith, within))

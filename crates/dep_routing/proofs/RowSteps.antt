@@ -11,7 +11,7 @@ use Rattle.dep_routing.specs.Next.{IsHop, IsLast, Next}
 use Rattle.dep_routing.specs.Noise.{AreNoisy}
 use Rattle.dep_routing.specs.Order.{IsOrder, is_marked}
 use Rattle.dep_routing.specs.Rows.{is_noisy}
-use Rattle.dep_routing.proofs.Held.{Holds-append, Holds-at, Holds-left, Holds-right}
+use Rattle.closed_walks.proofs.Held.{Holds-append, Holds-at, Holds-left, Holds-right}
 use Rattle.dep_routing.proofs.Hopping.{region_or_none, Next-hop, Next-last}
 use Rattle.dep_routing.proofs.Noises.{innermost_within}
 use Rattle.dep_routing.proofs.Quietness.{not_both, quiet_innermost, innermost_quiet}

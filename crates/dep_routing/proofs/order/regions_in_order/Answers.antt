@@ -2,7 +2,7 @@ use Rattle.std.proofs.Common.{◌≡◌, ◌≢◌, ◌<◌, ◌+◌, ℕ, get_o
 use Rattle.std.proofs.lemmas.List.{get_or_read}
 use Rattle.region_tree.specs.Tree.{IsNumber, entry_of, exit_of}
 use Rattle.dep_routing.specs.Order.{IsOrdering, IsPutAfter, unmarked}
-use Rattle.dep_routing.proofs.Held.{Holds-at}
+use Rattle.closed_walks.proofs.Held.{Holds-at}
 use Rattle.dep_routing.proofs.Ordering.{IsOrdering-none_before, IsOrdering-before, IsOrder-end, number_at, none_at, one_at, find_at}
 use Rattle.dep_routing.proofs.order.regions_in_order.Goals as goal
 use Rattle.dep_routing.proofs.order.regions_in_order.Goals.{then-before-ne0+in_ok-place, else-before-ne0}

@@ -5,7 +5,7 @@ use Rattle.class_set.specs.ClassSet.{holds}
 use Rattle.dep_routing.specs.LineTable.{led}
 use Rattle.dep_routing.specs.Noise.{marks_of}
 use Rattle.dep_routing.proofs.Cells.{led-written, led-other}
-use Rattle.dep_routing.proofs.Held.{Holds-at}
+use Rattle.closed_walks.proofs.Held.{Holds-at}
 use Rattle.dep_routing.proofs.Noises.{marked-read}
 use Rattle.dep_routing.proofs.RowSteps.{IsLed-more, IsLed-end}
 use Rattle.dep_routing.proofs.rows.next_rows.Goals as goal

@@ -11,10 +11,7 @@ use Rattle.dep_routing.specs.Touch.{touches_in}
 use Rattle.dep_routing.proofs.RowSteps.{free_told}
 use Rattle.dep_routing.proofs.SetTables.{touches-before, touches-last, touches-past}
 use Rattle.dep_routing.proofs.rows.wire_sets.Goals as goal
-
-left_of : (a b : Bool) → (a && b) ≡ true → a ≡ true
-left_of true b h = refl
-left_of false b h = h
+use Rattle.std.proofs.lemmas.Bool.{and_parts}
 
 pub loop-e-preserved : goal.loop-e-preserved
 loop-e-preserved g c =
@@ -39,7 +36,7 @@ returns-clause-within g c = λ line e member.
     ⊎_elim
     (λ (inside : e < length wires).
     let both = sym (c.loop-e.invariant.told e line (omega (arith, inside, c.loop-e.invariant.size))) ∙ member in
-    ltb-true line c.args.lines (sym (c.lines_below-all.ensures line) ∙ left_of (holds c.lines_below-all.result line) (is_noisy (marks_of c.args.noisy.now.items line) (innermost_of c.args.t.now (to c.args.g.now e))) both))
+    ltb-true line c.args.lines (sym (c.lines_below-all.ensures line) ∙ (and_parts (holds c.lines_below-all.result line) (is_noisy (marks_of c.args.noisy.now.items line) (innermost_of c.args.t.now (to c.args.g.now e))) both).0))
     (λ past. absurd (false≢true (sym (touches-past wires e line past) ∙ member)))
     (cases_lt e (length wires))
 
