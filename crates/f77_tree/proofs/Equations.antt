@@ -56,7 +56,7 @@ All-append P [] ys all more = more
 All-append P (x ∷ xs) ys all more = All-cons P x (xs ++ ys) (All-first P x xs all) (All-append P xs ys (All-rest P x xs all) more)
 
 module _ {X Y : Type 0} (P : Y → Type 0) where
-  All-flat : (f : X → List Y) (xs : List X) → ((k : ℕ) (d : X) → k < length xs → All P (f (get_or xs k d))) → All P (flat_map f xs)
+  pub All-flat : (f : X → List Y) (xs : List X) → ((k : ℕ) (d : X) → k < length xs → All P (f (get_or xs k d))) → All P (flat_map f xs)
   All-flat f [] all = All-nil P
   All-flat f (x ∷ xs) all = All-append P (f x) (flat_map f xs) (all 0 x (omega arith)) (All-flat f xs (λ k d lt. all (suc k) d (omega (arith, lt))))
 
@@ -64,7 +64,7 @@ module _ {X Y : Type 0} (P : Y → Type 0) where
   All-map f [] all = All-nil P
   All-map f (x ∷ xs) all = All-cons P (f x) (map f xs) (all 0 x (omega arith)) (All-map f xs (λ k d lt. all (suc k) d (omega (arith, lt))))
 
-All-filter : {X : Type 0} (P : X → Type 0) (test : X → Bool) (xs : List X) → All P xs → All P (filter test xs)
+pub All-filter : {X : Type 0} (P : X → Type 0) (test : X → Bool) (xs : List X) → All P xs → All P (filter test xs)
 All-filter P test [] all = All-nil P
 All-filter {X} P test (x ∷ xs) all = by (test x) (All-filter P test xs (All-rest P x xs all))
   where
@@ -98,7 +98,7 @@ module _ (names : List NameInfo) (bounds : (x : ℕ) → x < length names → Al
   neighbours-touch (x ∷ y ∷ rest) all =
       All-cons TouchesIfEqual _ (neighbours names (y ∷ rest)) (neighbour-touches x y (all 0 x (omega arith)) (all 1 x (omega arith))) (neighbours-touch (y ∷ rest) (All-rest (λ z. z < length names) x (y ∷ rest) all))
 
-  member-below : (m : Member) → IsMember names m → (k : ℕ) × (member_offset names m ≡ pos k) × (pos k <ℤ size_of (dims_of names (member_index names m)))
+  pub member-below : (m : Member) → IsMember names m → (k : ℕ) × (member_offset names m ≡ pos k) × (pos k <ℤ size_of (dims_of names (member_index names m)))
   member-below m is = by is.element
     where
       by : (m.subs ≡ []) ⊎ AreWithin (dims_of names (member_index names m)) m.subs → (k : ℕ) × (member_offset names m ≡ pos k) × (pos k <ℤ size_of (dims_of names (member_index names m)))
@@ -125,7 +125,7 @@ module _ (names : List NameInfo) (bounds : (x : ℕ) → x < length names → Al
   group-touches [] all = All-nil TouchesIfEqual
   group-touches (first ∷ rest) all = All-map TouchesIfEqual (equated names first) rest (λ k d lt. equated-touches first (get_or rest k d) (All-first (IsMember names) first rest all) (All-rest (IsMember names) first rest all k d lt))
 
-  block-known : (commons : List CommonPart) (block : Option (List ℕ)) → All (IsCommonPart names) commons → All (λ x. x < length names) (block_names names commons block)
+  pub block-known : (commons : List CommonPart) (block : Option (List ℕ)) → All (IsCommonPart names) commons → All (λ x. x < length names) (block_names names commons block)
   block-known commons block all =
       let parts = All-filter (IsCommonPart names) (λ part. same_block part.block block) commons all in
       All-flat (λ x. x < length names) (part_names names) (filter (λ part. same_block part.block block) commons) (λ k d lt.

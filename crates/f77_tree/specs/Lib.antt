@@ -1,3 +1,4 @@
+pub mod AddedNames
 pub mod CanRun
 pub mod Control
 pub mod Declarations

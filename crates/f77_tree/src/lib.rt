@@ -12,6 +12,7 @@ mod name_keys;
 mod names;
 mod programs;
 mod statements;
+mod table_laws;
 
 pub use declarations::{
     CommonPart, CommonPartList, Decl, DeclList, Dim, DimList, GroupList, InitPart, InitPartList,
@@ -34,3 +35,4 @@ pub use programs::{Exec, ExecKind, ExecList, Item, ItemList, NameInfo, NameInfoL
 pub use statements::{
     Labelled, LabelledList, NameList, RawExpr, RawItem, RawItemList, RawList, Stmt,
 };
+pub use table_laws::scalars_can_be_added;
