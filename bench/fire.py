@@ -7,7 +7,7 @@ DFC and OTHER are commands in quotes, run as `COMMAND fire limit=L [picks=..] [d
 at random as in `lines.py`: arrays under EQUIVALENCE and COMMON, subscripts that are known, out of bounds or read, jumps, loops and
 blocks, READ and traps. Each is fired in the source's own order and by three lists of picks. The two agree where they answer the
 same status and the same bytes. Nodes may be others in the two, so where one reaches the limit, what it wrote before the last line
-has to be a front of what the other wrote; such runs are counted as open. In each run of DFC by picks the status and the bytes are
+has to be a prefix of what the other wrote; such runs are counted as open. In each run of DFC by picks the status and the bytes are
 those of its own order as well, unless one of the two is open. Prints up to five texts on which they differ; then how many texts
 were refused and how many runs were open, and last `N texts, M differ`. The exit status is 1 where any differ.
 """

@@ -101,7 +101,7 @@ class Writer:
         return self.element(1) if self.chance.random() < 0.4 or not free else self.chance.choice(free)
 
     def simple(self):
-        """A statement that may stand behind a condition."""
+        """A statement that may follow a condition."""
         kind = self.chance.randint(0, 9)
         if kind <= 5:
             return f"{self.target()}=MOD({self.number(3)},97)"

@@ -1,5 +1,5 @@
 #!/usr/bin/env python3
-"""Compares the lines of tokens of programs that two commands print.
+"""Compares the token lines of programs that two commands print.
 
     python3 bench/lines.py LISTING OTHER [--count N] [--seed S]
 
@@ -7,10 +7,10 @@ LISTING is the program of crates/dump_lines, run as `LISTING < text`; OTHER is a
 `OTHER graph < text`. A text is a program written at random: declarations with EQUIVALENCE and COMMON over arrays, subscripts that
 are known, out of bounds, or read, and jumps, loops and blocks as in `regions.py`. Compared are
 
-- how many lines there are, and the names of each class (`L`);
-- which lines each piece touches (`T`): of OTHER, the lines of all operations of the piece (`N k OP piece operation .. lines`);
-- the wires of each line (`W`);
-- where each line is led past quiet regions (`H`);
+- how many token lines there are, and the names of each class (`L`);
+- which token lines each piece touches (`T`): of OTHER, the lines of all operations of the piece (`N k OP piece operation .. lines`);
+- the wires of each token line (`W`);
+- the next edge of each token line where it bypasses quiet regions (`H`);
 - and that the two refuse the same texts.
 
 The programs have no DO variable in a subscript, since a compiler may know such a subscript from the bounds of the DO. Prints up to five

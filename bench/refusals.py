@@ -9,7 +9,7 @@ or more), a file of FOLDER whose name has no dot, changed in a few places. The t
 - both answer status 2 with the same bytes, a line `REFUSED line CODE`;
 - both read the text, whatever they write of its run;
 - DFC refuses a statement of a subroutine by NOFORM: it has none yet;
-- both refuse by BADORDER, and OTHER a statement directly behind an END, which a compiler with subroutines tells first.
+- both refuse by BADORDER, and OTHER a statement directly after an END, which a compiler with subroutines reports first.
 
 Prints up to five texts on which they differ, with both answers; then how many texts got each code from OTHER, and last
 `N texts, M differ`. The exit status is 1 where any differ.
@@ -33,7 +33,7 @@ Statement = collections.namedtuple("Statement", "label text path")
 
 
 class Writer:
-    """Writes one program. Its statements are (label, text, path): the path tells the blocks that the statement lies in."""
+    """Writes one program. Its statements are (label, text, path): the path has the blocks that the statement lies in."""
 
     def __init__(self, chance):
         self.chance = chance

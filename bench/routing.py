@@ -1,5 +1,5 @@
 #!/usr/bin/env python3
-"""Times how lines of tokens, constants and available expressions are found in programs that are hard on it.
+"""Times how token lines, constants and available expressions are found in programs that are hard on it.
 
     python3 bench/routing.py LISTING [FILE ..]
 

@@ -105,7 +105,7 @@ def program(chance, sums):
 
 
 class Listing:
-    """What the listing tells."""
+    """What the listing prints."""
 
     def __init__(self, lines):
         self.kinds, self.edges, self.values, self.decided, self.available, self.classes = [], [], {}, {}, {}, {}
