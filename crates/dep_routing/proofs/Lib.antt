@@ -19,6 +19,7 @@ pub mod Ordering
 pub mod PieceTouches
 pub mod Placing
 pub mod Quietness
+pub mod Risking
 pub mod RowSteps
 pub mod SetTables
 pub mod TrapTouches

@@ -11,6 +11,7 @@ pub mod Order
 pub mod PieceLines
 pub mod Place
 pub mod Quiet
+pub mod Risks
 pub mod Routing
 pub mod Rows
 pub mod Sound

@@ -17,6 +17,7 @@ mod lines;
 mod noise;
 mod one_table;
 mod order;
+mod risk_laws;
 mod routing;
 mod rows;
 mod touch_laws;
@@ -34,6 +35,7 @@ pub use laws::{
 pub use leaving::{output_keeps_moving, quiet_regions_are_left};
 pub use lines::Lines;
 pub use one_table::{one_routing, one_touching};
+pub use risk_laws::risks_are_sound;
 pub use routing::route;
 pub use touch_laws::{
     pieces_touch_lines, touches_are_sound, touches_follow_needs, traps_touch_output,
