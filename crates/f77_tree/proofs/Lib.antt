@@ -19,6 +19,7 @@ pub mod LoopCounts
 pub mod NameLemmas
 pub mod NameWords
 pub mod Offsets
+pub mod OnePlacing
 pub mod OperationBounds
 pub mod OperationLaws
 pub mod Outcomes

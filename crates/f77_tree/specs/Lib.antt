@@ -13,6 +13,7 @@ pub mod Line
 pub mod Loops
 pub mod Name
 pub mod Operations
+pub mod OtherPlaces
 pub mod Places
 pub mod Prefixes
 pub mod Results

@@ -35,4 +35,4 @@ pub use programs::{Exec, ExecKind, ExecList, Item, ItemList, NameInfo, NameInfoL
 pub use statements::{
     Labelled, LabelledList, NameList, RawExpr, RawItem, RawItemList, RawList, Stmt,
 };
-pub use table_laws::scalars_can_be_added;
+pub use table_laws::{equations_settle_places, scalars_can_be_added};
