@@ -10,3 +10,4 @@ pub mod Right
 pub mod Setting
 pub mod Work
 pub mod Facts
+pub mod Laws
