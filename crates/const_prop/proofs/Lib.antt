@@ -31,3 +31,4 @@ pub mod Rightness
 pub mod Runs
 pub mod Living
 pub mod OneTable
+pub mod Keeping

@@ -6,6 +6,7 @@ pub mod KnownRows
 pub mod Table
 pub mod Closed
 pub mod Live
+pub mod Kept
 pub mod Right
 pub mod Setting
 pub mod Work
