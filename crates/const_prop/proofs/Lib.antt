@@ -30,3 +30,5 @@ pub mod Writing
 pub mod Rightness
 pub mod Runs
 pub mod Living
+pub mod OneTable
+pub mod Keeping

@@ -23,14 +23,15 @@ use Rattle.const_prop.specs.declared.known.Known.{Known}
 use Rattle.const_prop.specs.declared.known.Known.TheVariants.{Nothing, One, Any}
 use Rattle.const_prop.specs.Closed.{IsClosed, IsWay, KindAllows, Allows, decided, decided_after, selected, is_action, is_switch, words_on}
 use Rattle.const_prop.specs.Facts.{PlaceFacts, RunFacts}
-use Rattle.const_prop.specs.Known.{AtMost, IsSomething, one_of, as_index}
-use Rattle.const_prop.specs.Live.{IsLive, is_excluded, is_other}
+use Rattle.const_prop.specs.Known.{IsSomething, one_of, as_index}
+use Rattle.const_prop.specs.Live.{IsLive, is_excluded, is_other, IsKnownOutAfter}
 use Rattle.const_prop.specs.Right.{AreRouted, IsDecidedAt}
 use Rattle.const_prop.specs.Setting.{IsProgram}
 use Rattle.const_prop.specs.Table.{Knowns}
-use Rattle.const_prop.proofs.Coming.{IsMet, met-ready, met-start, met-on, met-decided, decided-something}
+use Rattle.const_prop.proofs.Choosing.{decided_out}
+use Rattle.const_prop.proofs.Coming.{IsMet, met-ready, met-start, met-on, met-decided}
 use Rattle.const_prop.proofs.Passing.{ran_before}
-use Rattle.const_prop.proofs.Rightness.{at_most-one}
+use Rattle.const_prop.proofs.Rightness.{decision-told}
 use Rattle.const_prop.proofs.Runs.{switch-action}
 use Rattle.const_prop.proofs.Ways.{IsOut, out_of, out_exists}
 
@@ -146,7 +147,7 @@ module _ (p : Program) (c : ClassTable) (touches : ℕ → ℕ → Bool) (tree :
           by Nothing is = absurd (subst IsSomething is (met-decided p (flow p.execs) c touches r tree program routed.classes facts routed.actions t closed e ready s))
           by Any is = any_place (λ i. subst (λ (k : Known). KindAllows (piece_kind p node) k i) (sym is) (any-allows (piece_kind p node) i))
           by (One v) is =
-              let told : decided_after p (flow p.execs) c t e ≡ One v = at_most-one (decided_after p (flow p.execs) c t e) v (subst (λ (k : Known). AtMost (decided_after p (flow p.execs) c t e) k) is (closed.decisions e ready s)) (decided-something p.names (words_on c t e) (piece_kind p node) (exec_kind p node)) in
+              let told : decided_after p (flow p.execs) c t e ≡ One v = decision-told p (flow p.execs) c touches r t closed e v ready s is in
               let index : v ≡ pos (at_least_zero v) = decided-place p.names (words_on c t e) (piece_kind p node) (exec_kind p node) v told in
               let chosen : (is_switch (piece_kind p node) && is_other p t node d (one_of (t.decision node))) ≡ false = ap (λ n. is_switch (piece_kind p n) && is_other p t n d (one_of (t.decision n))) (sym begins) ∙ kept in
               let one : (true && not (out (flow p.execs).graph node (at_least_zero v) == d)) ≡ false = ap (λ b. b && not (out (flow p.execs).graph node (at_least_zero v) == d)) (sym s) ∙ ap (λ (k : Known). is_switch (piece_kind p node) && is_other p t node d (one_of k)) (sym is) ∙ chosen in
@@ -179,6 +180,13 @@ module _ (p : Program) (c : ClassTable) (touches : ℕ → ℕ → Bool) (tree :
   pub live-decided : (e : ℕ) → IsLive p t e → is_switch (piece_kind p (to (flow p.execs).graph e)) ≡ true → IsSomething (t.decision (to (flow p.execs).graph e))
   live-decided e live s = met-decided p (flow p.execs) c touches r tree program routed.classes facts routed.actions t closed e
       (met-ready p (flow p.execs) c touches r tree program routed.classes facts routed.actions t closed e (live-met e live) live.edge (switch-action (piece_kind p (to (flow p.execs).graph e)) s)) s
+
+  -- one out-edge that is decided there is known
+  pub live-out : (e : ℕ) (v : ℤ) → IsLive p t e → is_switch (piece_kind p (to (flow p.execs).graph e)) ≡ true → t.decision (to (flow p.execs).graph e) ≡ One v → IsKnownOutAfter p c t e v
+  live-out e v live s is =
+      let node = to (flow p.execs).graph e in
+      let ready = met-ready p (flow p.execs) c touches r tree program routed.classes facts routed.actions t closed e (live-met e live) live.edge (switch-action (piece_kind p node) s) in
+      decided_out p.names (words_on c t e) (piece_kind p node) (exec_kind p node) v s (decision-told p (flow p.execs) c touches r t closed e v ready s is)
 
 -- ---- runs
 

@@ -1,5 +1,5 @@
 -- What a pass does: which out-edge it takes, and what it leaves in the memory.
-use Rattle.std.proofs.Common.{◌≡◌, ℕ, zero, suc, ℤ, List, Result, Ok, Err, refl, sym, ap, subst, ◌∙◌}
+use Rattle.std.proofs.Common.{◌≡◌, ℕ, zero, suc, ℤ, List, ◌++◌, Result, Ok, Err, refl, sym, ap, subst, ◌∙◌}
 use Rattle.op_table.specs.declared.Trap.{Trap}
 use Rattle.f77_tree.specs.declared.programs.ExecKind.{ExecKind}
 use Rattle.f77_tree.specs.declared.programs.NameInfo.{NameInfo}
@@ -82,6 +82,10 @@ passed_at p input n run =
     let went = went_on x (line_at p x.edge) r (sym (ap (λ (s : PassState). s.mark) is) ∙ run) in
     subst (λ (s : PassState). PassedBy p.names input x.memory (out (flow p.execs).graph (comes_to p input n)) (piece_kind p (comes_to p input n)) (exec_kind p (comes_to p input n)) s.edge s.memory) (sym is)
     (passed-by p input x.memory (out (flow p.execs).graph (comes_to p input n)) (piece_kind p (comes_to p input n)) (exec_kind p (comes_to p input n)) (after_pass x (line_at p x.edge) r).edge (after_pass x (line_at p x.edge) r).memory went.0 went.1)
+
+-- a pass that goes along an edge is made
+pub went_along : (p : Program) (input : List ℤ) (n edge : ℕ) (m : Memory) (text : List ℕ) → (passes p input n).mark ≡ Running → pass p input (passes p input n).edge (passes p input n).memory ≡ Along edge m text → passes p input (suc n) ≡ record (passes p input n) { edge = edge; memory = m; out = (passes p input n).out ++ text }
+went_along p input n edge m text run is = ap (passed_from p input (passes p input n)) run ∙ ap (after_pass (passes p input n) (line_at p (passes p input n).edge)) is
 
 -- ---- sizes
 

@@ -25,13 +25,13 @@ use Rattle.dep_routing.specs.Routing.{Routing, next_at, wire_at}
 use Rattle.dep_routing.specs.Touches.{KindNeeds}
 use Rattle.const_prop.specs.declared.known.Known.{Known}
 use Rattle.const_prop.specs.declared.known.Known.TheVariants.{Nothing, One, Any}
-use Rattle.const_prop.specs.Closed.{IsClosed, IsWay, KindAllows, KindWrites, WritesAfter, written_after, decided, is_action, is_switch, is_merge, is_one_word, kind_after, exec_after, words_on, led_to}
+use Rattle.const_prop.specs.Closed.{IsClosed, IsReady, IsWay, KindAllows, KindWrites, WritesAfter, written_after, decided, decided_after, is_action, is_switch, is_merge, is_one_word, kind_after, exec_after, words_on, led_to}
 use Rattle.const_prop.specs.Facts.{PlaceFacts, WordFacts}
 use Rattle.const_prop.specs.Known.{AtMost, IsSomething, IsNotOne, one_of}
 use Rattle.const_prop.specs.Setting.{IsProgram}
 use Rattle.const_prop.specs.Table.{Knowns}
 use Rattle.const_prop.proofs.Choosing.{needed_value, selected_allows}
-use Rattle.const_prop.proofs.Coming.{IsMet, met-ready, met-on, free_kind}
+use Rattle.const_prop.proofs.Coming.{IsMet, met-ready, met-on, free_kind, decided-something}
 use Rattle.const_prop.proofs.Counting.{one_word-zero, one_word-inside}
 use Rattle.const_prop.proofs.Order.{allows-more}
 use Rattle.const_prop.proofs.Passing.{PassedBy}
@@ -51,6 +51,11 @@ told-one : (k : Known) (z : ℤ) → one_of k ≡ Some z → k ≡ One z
 told-one Nothing z is = let clash : None ≡ Some z = is in absurd cc
 told-one (One v) z is = let same : v ≡ z = cc in ap One same
 told-one Any z is = let clash : None ≡ Some z = is in absurd cc
+
+-- a ready piece at which one out-edge is decided decides for it by what is known there
+pub decision-told : (p : Program) (f : FlowGraph) (c : ClassTable) (touches : ℕ → ℕ → Bool) (r : Routing) (t : Knowns) → IsClosed p f c touches r t → (e : ℕ) (v : ℤ) → IsReady f touches r.lines t e → is_switch (kind_after f e) ≡ true → t.decision (to f.graph e) ≡ One v → decided_after p f c t e ≡ One v
+decision-told p f c touches r t closed e v ready s is =
+    at_most-one (decided_after p f c t e) v (subst (λ (k : Known). AtMost (decided_after p f c t e) k) is (closed.decisions e ready s)) (decided-something p.names (words_on c t e) (kind_after f e) (exec_after p f e))
 
 -- an equation of numbers that isn't refuted holds
 stable : (x y : ℤ) → ((x ≡ y → ⊥) → ⊥) → x ≡ y
@@ -93,14 +98,18 @@ module _ (p : Program) (f : FlowGraph) (c : ClassTable) (touches : ℕ → ℕ �
       let one = one_word-known (class_of_word c word) e z (class_in word) edge is in
       one_word-inside c word p.words covered.classes.numbering.each one
 
-  -- what is known of what the piece evaluates is its value
-  pub after-value : (e : ℕ) (m : Memory) → IsHeld e m → e < edge_count f.graph → (next : Option ℤ) (x : Expr) → ((n : ℕ) → ExprNeeds c x n → KindNeeds c (kind_after f e) (exec_after p f e) n) → (z : ℤ) → known_with p.names (words_on c t e) x ≡ Some z → value p.names m.store next x ≡ Ok z
-  after-value e m held edge next x needs z is =
+  -- what is known of an expression is its value, where the piece touches the classes of the known words that it needs
+  pub touched-value : (e : ℕ) (m : Memory) → IsHeld e m → e < edge_count f.graph → (next : Option ℤ) (x : Expr) → ((word : ℕ) (z : ℤ) → ExprNeeds c x (class_of_word c word) → words_on c t e word ≡ Some z → touches (to f.graph e) (class_of_word c word) ≡ true) → (z : ℤ) → known_with p.names (words_on c t e) x ≡ Some z → value p.names m.store next x ≡ Ok z
+  touched-value e m held edge next x all_touched z is =
       needed_value p.names c covered.classes.names (words_on c t e) m.store (touches (to f.graph e)) laws.values
       (λ word z touched told.
       let one : t.value (class_of_word c word) e ≡ One z = told-one (t.value (class_of_word c word) e) z told in
       held.word word e z (word_in word e z edge one) (facts.arrives (class_of_word c word) e edge (facts.touching (class_of_word c word) (to f.graph e) touched)) one)
-      next x (λ word z need told. needed-known e word z edge (needs (class_of_word c word) need) told) z is
+      next x all_touched z is
+
+  -- what is known of what the piece evaluates is its value
+  pub after-value : (e : ℕ) (m : Memory) → IsHeld e m → e < edge_count f.graph → (next : Option ℤ) (x : Expr) → ((n : ℕ) → ExprNeeds c x n → KindNeeds c (kind_after f e) (exec_after p f e) n) → (z : ℤ) → known_with p.names (words_on c t e) x ≡ Some z → value p.names m.store next x ≡ Ok z
+  after-value e m held edge next x needs z is = touched-value e m held edge next x (λ word z need told. needed-known e word z edge (needs (class_of_word c word) need) told) z is
 
   -- ---- one pass
 

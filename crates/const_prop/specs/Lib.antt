@@ -6,7 +6,9 @@ pub mod KnownRows
 pub mod Table
 pub mod Closed
 pub mod Live
+pub mod Kept
 pub mod Right
 pub mod Setting
 pub mod Work
 pub mod Facts
+pub mod Laws

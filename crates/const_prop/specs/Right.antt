@@ -1,11 +1,15 @@
 -- What a closed table says of a run.
-use Rattle.std.specs.Prelude.{◌≡◌, ◌<◌, ◌+◌, ℕ, ℤ, Bool, true, suc, List}
+use Rattle.std.specs.Prelude.{◌≡◌, ◌<◌, ◌+◌, ℕ, ℤ, Bool, true, suc, List, Option, Ok}
 use Rattle.op_table.specs.Trips.{at_least_zero}
+use Rattle.f77_tree.specs.declared.expressions.Expr.{Expr}
+use Rattle.f77_tree.specs.declared.programs.NameInfo.{NameInfo}
 use Rattle.f77_tree.specs.declared.programs.Program.{Program}
+use Rattle.f77_tree.specs.Execution.{Memory}
 use Rattle.f77_tree.specs.Run.{Running}
-use Rattle.f77_tree.specs.Value.{word_at}
+use Rattle.f77_tree.specs.Value.{value, word_at}
 use Rattle.f77_tree.specs.WellFormed.{IsWellFormed}
 use Rattle.alias_classes.specs.Classes.{ClassTable, IsClasses, class_of_word, class_count}
+use Rattle.alias_classes.specs.Needs.{ExprNeeds}
 use Rattle.cfg_build.specs.Flow.{flow}
 use Rattle.cfg_build.specs.Passes.{PassState, out, passes}
 use Rattle.region_tree.specs.Tree.{Tree, IsRegionTree}
@@ -52,3 +56,20 @@ module _ (p : Program) (c : ClassTable) (touches : ℕ → ℕ → Bool) (tree :
 pub record IsDecidedAt (p : Program) (input : List ℤ) (t : Knowns) (n : ℕ) : Type 0 where
   pub something : IsSomething (t.decision (comes_to p input n))
   pub takes : (v : ℤ) → t.decision (comes_to p input n) ≡ One v → (passes p input (suc n)).mark ≡ Running → (passes p input (suc n)).edge ≡ out (flow p.execs).graph (comes_to p input n) (at_least_zero v)
+
+-- ---- what is known of expressions
+
+-- the piece touches each class that the expression needs
+abbrev pub TouchesNeeded : ClassTable → (touches : ℕ → ℕ → Bool) → (node : ℕ) → Expr → Type 0
+TouchesNeeded c touches node e = (n : ℕ) → ExprNeeds c e n → touches node n ≡ true
+
+-- the expression has the value in this memory, whatever the next datum is
+abbrev pub HasValue : List NameInfo → Memory → Expr → ℤ → Type 0
+HasValue names m e z = (next : Option ℤ) → value names m.store next e ≡ Ok z
+
+-- The pass that follows so many passes takes the out-edge with this place, and changes nothing else.
+pub record TakesQuietly (p : Program) (input : List ℤ) (n : ℕ) (v : ℤ) : Type 0 where
+  pub goes_on : (passes p input (suc n)).mark ≡ Running
+  pub edge : (passes p input (suc n)).edge ≡ out (flow p.execs).graph (comes_to p input n) (at_least_zero v)
+  pub memory : (passes p input (suc n)).memory ≡ (passes p input n).memory
+  pub text : (passes p input (suc n)).out ≡ (passes p input n).out

@@ -1,5 +1,5 @@
 -- Tables of what is known, for each line on each edge, and for each piece that decides where control goes.
-use Rattle.std.specs.Prelude.{ℕ, ◌<◌, List, slice_index_or}
+use Rattle.std.specs.Prelude.{◌≡◌, ℕ, ◌<◌, List, slice_index_or}
 use Rattle.const_prop.specs.declared.known.Known.{Known}
 use Rattle.const_prop.specs.declared.known.Known.TheVariants.{Nothing}
 use Rattle.const_prop.specs.declared.table.Table.TheInside.{Inside}
@@ -16,6 +16,11 @@ pub record Knowns : Type 0 where
 pub record IsBelow (lines edges pieces : ℕ) (s t : Knowns) : Type 0 where
   pub value : (line e : ℕ) → line < lines → e < edges → AtMost (s.value line e) (t.value line e)
   pub decision : (piece : ℕ) → piece < pieces → AtMost (s.decision piece) (t.decision piece)
+
+-- on each edge, and at each piece, the two tables tell the same
+pub record AreSameKnowns (lines edges pieces : ℕ) (s t : Knowns) : Type 0 where
+  pub value : (line e : ℕ) → line < lines → e < edges → s.value line e ≡ t.value line e
+  pub decision : (piece : ℕ) → piece < pieces → s.decision piece ≡ t.decision piece
 
 -- ---- what a contract sees of a `Table`
 

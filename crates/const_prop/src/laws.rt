@@ -15,11 +15,14 @@ ghost use Rattle.dep_routing.specs.Sound.{comes_to};
 ghost use Rattle.dep_routing.specs.Touches.{AreTouches, piece_kind};
 ghost use Rattle.const_prop.specs.Closed.{IsClosed, is_switch};
 ghost use Rattle.const_prop.specs.Known.{IsSomething};
+ghost use Rattle.const_prop.specs.Laws.{KnownExpressionsHaveTheirValues, DecidedPiecesGoOn, LiveDecisionsAreKnown, ConstantsAreOneTable};
 ghost use Rattle.const_prop.specs.Live.{IsLive};
 ghost use Rattle.const_prop.specs.Right.{AreRouted, IsRightAt, IsDecidedAt};
 ghost use Rattle.const_prop.specs.Table.{Knowns};
 
 use crate::facts::{place_facts, program_facts, run_facts, word_facts};
+use dep_routing::next_edges;
+use region_tree::one_tree;
 
 /// The lines of a well-formed program are routed by its own touches.
 pub fn own_touches_route()
@@ -50,4 +53,44 @@ pub fn live_edges_have_values()
     place_facts();
     program_facts();
     run_facts();
+}
+
+/// What a closed table tells of an expression is its value: where a run comes to a piece that touches each class that the expression
+/// needs, and a value of the expression is known on the edge by which it comes, the expression has that value there.
+pub fn known_expressions_have_their_values()
+    ensures { KnownExpressionsHaveTheirValues }
+{
+    place_facts();
+    program_facts();
+    run_facts();
+    word_facts();
+}
+
+/// A branch or a hold at which one out-edge is decided doesn't trap: a run that comes to it goes on by that edge, and the pass changes
+/// and writes nothing.
+pub fn decided_pieces_go_on()
+    ensures { DecidedPiecesGoOn }
+{
+    place_facts();
+    program_facts();
+    run_facts();
+    word_facts();
+}
+
+/// The one out-edge that is decided at a branch to which a live edge leads is the one that it takes by its selector, whose value is
+/// known on that edge; at a hold it is the first.
+pub fn live_decisions_are_known()
+    ensures { LiveDecisionsAreKnown }
+{
+    place_facts();
+    program_facts();
+}
+
+/// A program has one table of constants, whatever routing of its lines it is made over.
+pub fn one_table_of_constants()
+    ensures { ConstantsAreOneTable }
+{
+    next_edges();
+    one_tree();
+    program_facts();
 }

@@ -11,6 +11,7 @@ mod known_rows;
 mod known_values;
 mod laws;
 mod line_sets;
+mod live;
 mod making;
 mod pieces;
 mod row;
@@ -22,6 +23,10 @@ mod visit;
 mod work;
 
 pub use known::Known;
-pub use laws::{constants_are_right, live_edges_have_values, own_touches_route};
+pub use laws::{
+    constants_are_right, decided_pieces_go_on, known_expressions_have_their_values,
+    live_decisions_are_known, live_edges_have_values, one_table_of_constants, own_touches_route,
+};
+pub use live::live_edges;
 pub use making::constants;
 pub use table::Table;

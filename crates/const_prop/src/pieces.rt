@@ -51,14 +51,14 @@ pub(crate) fn written<const W: usize>(
         ExecKind::Assign { target, value, .. } => {
             let word = known_word(&s.program.names, s.program.initial.as_slice(), target);
             if word.is_some() && one_word {
-                as_known(known_value(s, rows, edge, value))
+                as_known(known_value(s.program, s.classes, rows, edge, value))
             } else {
                 Known::Any
             }
         }
         ExecKind::DoStart { first, .. } => {
             if one_word {
-                as_known(known_value(s, rows, edge, first))
+                as_known(known_value(s.program, s.classes, rows, edge, first))
             } else {
                 Known::Any
             }
@@ -99,15 +99,17 @@ pub(crate) fn selected<const W: usize>(
     ensures { result ≡ spec_selected s.now.program.now.names (words_on s.now.classes.now (knowns rows.now []) edge) kind.now }
 {
     match kind {
-        ExecKind::Test { cond, .. } => match known_value(s, rows, edge, cond) {
+        ExecKind::Test { cond, .. } => match known_value(s.program, s.classes, rows, edge, cond) {
             Some(z) => Known::One(if z != 0 { 0 } else { 1 }),
             None => Known::Any,
         },
-        ExecKind::Sign { value, .. } => match known_value(s, rows, edge, value) {
+        ExecKind::Sign { value, .. } => match known_value(s.program, s.classes, rows, edge, value) {
             Some(z) => Known::One(place_by_sign(z)),
             None => Known::Any,
         },
-        ExecKind::Pick { value, targets, .. } => match known_value(s, rows, edge, value) {
+        ExecKind::Pick { value, targets, .. } => match known_value(
+            s.program, s.classes, rows, edge, value,
+        ) {
             Some(z) => Known::One(place_by_number(z, targets.len())),
             None => Known::Any,
         },

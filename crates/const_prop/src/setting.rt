@@ -142,7 +142,7 @@ fn words_of_classes<const W: usize>(
 }
 
 /// The out-edges of each piece.
-fn out_rows(alloc: Global, g: &Digraph) -> Result<Vec<Row>, NoMemory>
+pub(crate) fn out_rows(alloc: Global, g: &Digraph) -> Result<Vec<Row>, NoMemory>
     ensures size { IfOk result (λ rows. length rows.items ≡ g.now.nodes) }
     ensures rows { IfOk result (λ rows. (node : ℕ) → node < g.now.nodes → slice_index_or rows.items node [] ≡ outs g.now node) }
 {

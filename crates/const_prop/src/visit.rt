@@ -167,7 +167,7 @@ impl<const W: usize> Work<W> {
 }
 
 /// Whether control decides at the piece.
-fn is_switch(kind: PieceKind) -> bool
+pub(crate) fn is_switch(kind: PieceKind) -> bool
     ensures { result ≡ spec_is_switch kind }
 {
     matches!(kind, PieceKind::Branch | PieceKind::Hold)

@@ -16,3 +16,4 @@ pub mod Firsts
 pub mod Fits
 pub mod Growing
 pub mod Operands
+pub mod Orders

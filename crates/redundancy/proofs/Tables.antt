@@ -1,6 +1,6 @@
 -- Tables of numbered expressions.
 use Rattle.std.proofs.Common.{◌≡◌, ◌≢◌, ℕ, zero, suc, ◌<◌, ◌≤◌, ◌%◌, ◌⊎◌, List, [], ◌∷◌, ◌++◌, length, get_or, set, All, refl, sym, ap, ◌∙◌, subst, inl, inr, ⊎_elim, arith, get_or-set_same, get_or-set_other, length-set, length-append}
-use Rattle.std.specs.Prelude.{Some, slice_get, Contains}
+use Rattle.std.specs.Prelude.{Option, Some, None, MatchOption, slice_get, Contains}
 use Rattle.std.proofs.lemmas.Bool.{cases_eq}
 use Rattle.std.proofs.lemmas.List.{get_or_default}
 use Rattle.f77_tree.specs.declared.expressions.Expr.{Expr}
@@ -127,6 +127,11 @@ not_in_table exprs buckets e t none c =
     let is : slice_get exprs c.0 ≡ Some e = get_of_contains exprs e c in
     none c.0 (t.all c.0 e is) is
 
+-- what is found in the bucket of an expression is found in the table
+pub found_in_table : (exprs : List Expr) (buckets : List (List ℕ)) (e : Expr) (bucket : List ℕ) (o : Option ℕ) → IsTable exprs buckets → bucket ≡ get_or buckets (digest e % length buckets) [] → MatchOption o ((k : ℕ) → Contains bucket k → slice_get exprs k ≡ Some e → ⊥) (λ k. slice_get exprs k ≡ Some e) → MatchOption o (Contains exprs e → ⊥) (λ k. slice_get exprs k ≡ Some e)
+found_in_table exprs buckets e bucket None t is none = not_in_table exprs buckets e t (λ k holds. none k (subst (λ (z : List ℕ). Contains z k) (sym is) holds))
+found_in_table exprs buckets e bucket (Some k) t is at = at
+
 pub numbered-new : (exprs : List Expr) (e : Expr) (k : ℕ) → k ≡ length exprs → (Contains exprs e → ⊥) → IsNumbered e exprs (exprs ++ e ∷ []) k
 numbered-new exprs e k is none = record { at = subst (λ x. slice_get (exprs ++ e ∷ []) x ≡ Some e) (sym is) (get_last exprs e); grows = inr (refl, none) }
 
@@ -134,19 +139,17 @@ pub numbered-old : (exprs : List Expr) (e : Expr) (k : ℕ) → slice_get exprs 
 numbered-old exprs e k is = record { at = is; grows = inl refl }
 
 -- a bucket that was read
-pub bucket_read : (buckets : List (List ℕ)) (number key count : ℕ) (bucket : List ℕ) → number ≡ key → count ≡ length buckets → 0 < length buckets → bucket ≡ get_or buckets (number % count) bucket → bucket ≡ get_or buckets (key % length buckets) []
-bucket_read buckets number key count bucket same counted some read =
-    let at : number % count ≡ key % length buckets = ap (λ x. x % count) same ∙ ap (λ x. key % x) counted in
+pub bucket_read : (buckets : List (List ℕ)) (at key : ℕ) (bucket : List ℕ) → at ≡ key % length buckets → 0 < length buckets → bucket ≡ get_or buckets at bucket → bucket ≡ get_or buckets (key % length buckets) []
+bucket_read buckets at key bucket is some read =
     let within : key % length buckets < length buckets = omega arith in
-    read ∙ ap (λ x. get_or buckets x bucket) at ∙ sym (get_or_default buckets (key % length buckets) [] bucket within)
+    read ∙ ap (λ x. get_or buckets x bucket) is ∙ sym (get_or_default buckets (key % length buckets) [] bucket within)
 
 -- a bucket and the table got one more
-pub table_pushed : (exprs new_exprs : List Expr) (buckets : List (List ℕ)) (e : Expr) (number count k : ℕ) (bucket pushed : List ℕ) → length exprs < 4294967295 → IsTable exprs buckets → number ≡ digest e → count ≡ length buckets → bucket ≡ get_or buckets (number % count) bucket → pushed ≡ bucket ++ k ∷ [] → k ≡ length exprs → new_exprs ≡ exprs ++ e ∷ [] → IsTable new_exprs (set buckets (number % count) pushed)
-table_pushed exprs new_exprs buckets e number count k bucket pushed few t same counted read more place grown =
-    let at : number % count ≡ digest e % length buckets = ap (λ x. x % count) same ∙ ap (λ x. digest e % x) counted in
-    let old = bucket_read buckets number (digest e) count bucket same counted t.some read in
+pub table_pushed : (exprs new_exprs : List Expr) (buckets : List (List ℕ)) (e : Expr) (at k : ℕ) (bucket pushed : List ℕ) → length exprs < 4294967295 → IsTable exprs buckets → at ≡ digest e % length buckets → bucket ≡ get_or buckets at bucket → pushed ≡ bucket ++ k ∷ [] → k ≡ length exprs → new_exprs ≡ exprs ++ e ∷ [] → IsTable new_exprs (set buckets at pushed)
+table_pushed exprs new_exprs buckets e at k bucket pushed few t is read more place grown =
+    let old = bucket_read buckets at (digest e) bucket is t.some read in
     let new : pushed ≡ get_or buckets (digest e % length buckets) [] ++ length exprs ∷ [] = more ∙ ap (λ z. z ++ k ∷ []) old ∙ ap (λ x. get_or buckets (digest e % length buckets) [] ++ x ∷ []) place in
-    rw (grown, at, new) (table-more exprs buckets e few t)
+    rw (grown, is, new) (table-more exprs buckets e few t)
 
 pub blank-push : (lists : List (List ℕ)) (x : List ℕ) → x ≡ [] → ((b : ℕ) → get_or lists b [] ≡ []) → (b : ℕ) → get_or (lists ++ x ∷ []) b [] ≡ []
 blank-push [] x is blank zero = is

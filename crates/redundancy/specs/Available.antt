@@ -1,6 +1,6 @@
 -- Available expressions: a candidate is available at a piece where on every walk from the start to it some piece before it computes
 -- the candidate, and neither that piece nor a later one before it writes what the candidate reads.
-use Rattle.std.specs.Prelude.{◌≡◌, ℕ, ◌/◌, ◌%◌, ◌<◌, ◌↔◌, Bool, true, not, ◌==◌, List, [], ◌∷◌, ◌++◌, Some, slice_get, slice_index, slice_index_or}
+use Rattle.std.specs.Prelude.{◌≡◌, ℕ, ◌/◌, ◌%◌, ◌<◌, ◌↔◌, Bool, true, not, ◌==◌, List, [], ◌∷◌, ◌++◌, Some, length, slice_get, slice_index, slice_index_or}
 use Rattle.std.specs.Int.{bit_at}
 use Rattle.closed_walks.specs.Graph.{Graph, from}
 use Rattle.closed_walks.specs.Walk.{Walk, Holds}
@@ -52,3 +52,8 @@ pub record IsAvailability (p : Program) (f : FlowGraph) (c : ClassTable) (a : Av
   pub pieces : a.pieces ≡ f.graph.nodes
   pub candidates : AreCandidates p f a.candidates
   pub available : (k node : ℕ) (e : Expr) → slice_get a.candidates k ≡ Some e → node < f.graph.nodes → (available_at a k node ≡ true) ↔ IsAvailable p f c e node
+
+-- the tables have the same candidates, and tell the same of each at every piece of the flow graph
+pub record AreSameAvailability (f : FlowGraph) (a b : Availability) : Type 0 where
+  pub candidates : a.candidates ≡ b.candidates
+  pub available : (k node : ℕ) → k < length a.candidates → node < f.graph.nodes → available_at a k node ≡ available_at b k node

@@ -6,6 +6,7 @@ pub mod Digests
 pub mod Fitting
 pub mod Kept
 pub mod Killing
+pub mod Laws
 pub mod Noted
 pub mod Numbers
 pub mod Runs

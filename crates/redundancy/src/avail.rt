@@ -19,6 +19,7 @@ use crate::noting::{Noted, candidates_of};
 use crate::pieces::writes_of;
 use crate::rows::kill_row;
 use crate::solve::missing_row;
+use crate::table::Table;
 use alias_classes::Classes;
 use cfg_build::{Flow, flow_graph_is_strong};
 use class_set::ClassSet;
@@ -31,7 +32,7 @@ use std::marker::Model;
 /// without subscripts or has a known value, and at least one is such a name.
 #[derive(Drop)]
 pub struct Avail {
-    candidates: Vec<Expr>,
+    table: Table,
     pieces: u32,
     missing: Vec<Listed<u64>>,
 }
@@ -58,7 +59,7 @@ impl Avail {
     pub fn count(&self) -> u32
         ensures { result ≡ length self.now.candidates }
     {
-        self.candidates.len() as u32
+        self.table.exprs.len() as u32
     }
 
     /// The candidate with this number. They are numbered from 0 in the order in which they are first computed, piece by piece and
@@ -67,7 +68,15 @@ impl Avail {
         requires { k < length self.now.candidates }
         ensures { slice_get self.now.candidates k ≡ Some result.now }
     {
-        &self.candidates[k as usize]
+        &self.table.exprs[k as usize]
+    }
+
+    /// The number of the candidate that is this expression, if one is. It takes a step for each part of the expression, and a
+    /// comparison for each candidate in its bucket: there are as many buckets as pieces.
+    pub fn number(&self, e: &Expr) -> Option<u32>
+        ensures { (k : ℕ) → (result ≡ Some k) ↔ (slice_get self.now.candidates k ≡ Some e.now) }
+    {
+        self.table.find(e)
     }
 
     /// Whether the candidate with this number is available where the piece begins.
@@ -98,9 +107,9 @@ pub fn available<const W: usize>(
 {
     flow_graph_is_strong();
     let pieces = f.pieces();
-    let Noted { candidates, rows } = candidates_of(alloc, p, f)?;
-    candidates_fit(p, f, &candidates);
-    let needs = needs_of(alloc, c, &candidates)?;
+    let Noted { table, rows } = candidates_of(alloc, p, f)?;
+    candidates_fit(p, f, &table.exprs);
+    let needs = needs_of(alloc, c, &table.exprs)?;
     let writes = writes_of(alloc, p, f, c)?;
     let mut missing = Vec::new(alloc);
     for (k, computes) in rows.iter().enumerate() {
@@ -109,7 +118,7 @@ pub fn available<const W: usize>(
         missing.push(Listed::of(row))?;
     }
     Ok(Avail {
-        candidates,
+        table,
         pieces,
         missing,
     })

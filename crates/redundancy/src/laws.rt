@@ -10,9 +10,10 @@ ghost use Rattle.alias_classes.specs.Classes.{ClassTable, IsClasses};
 ghost use Rattle.cfg_build.specs.Flow.{flow};
 ghost use Rattle.cfg_build.specs.Passes.{passes};
 ghost use Rattle.redundancy.specs.Available.{IsAvailable};
+ghost use Rattle.redundancy.specs.Laws.{AvailabilityIsOneTable};
 ghost use Rattle.redundancy.specs.Runs.{comes_to, KeepsValue};
 
-use alias_classes::needs_cover_accesses;
+use alias_classes::{needs_cover_accesses, one_numbering};
 use cfg_build::{flow_graph_has_shape, passes_are_a_walk};
 use f77_tree::{
     executables_keep_the_rest, reads_decide, runs_hold_words, what_cannot_trap_does_not,
@@ -30,4 +31,11 @@ pub fn available_expressions_keep_their_values()
     reads_decide();
     runs_hold_words();
     what_cannot_trap_does_not();
+}
+
+/// A program has one table of available expressions, whatever table of its classes tells what writes what.
+pub fn one_table_of_availability()
+    ensures { AvailabilityIsOneTable }
+{
+    one_numbering();
 }

@@ -15,4 +15,4 @@ mod table;
 mod trees;
 
 pub use avail::{Avail, available};
-pub use laws::available_expressions_keep_their_values;
+pub use laws::{available_expressions_keep_their_values, one_table_of_availability};

@@ -18,11 +18,11 @@ use df_sequence::NoMemory;
 use f77_tree::{Expr, Program};
 use std::alloc::Global;
 
-/// The candidates of a program, and a row for each 64 of them with a word for each piece, where a bit is set where the piece computes
-/// the candidate.
+/// The candidates of a program with their numbers, and a row for each 64 of them with a word for each piece, where a bit is set where
+/// the piece computes the candidate.
 #[derive(Drop)]
 pub(crate) struct Noted {
-    pub(crate) candidates: Vec<Expr>,
+    pub(crate) table: Table,
     pub(crate) rows: Vec<Listed<u64>>,
 }
 
@@ -30,10 +30,10 @@ pub(crate) struct Noted {
 pub(crate) fn candidates_of(alloc: Global, p: &Program, f: &Flow) -> Result<Noted, NoMemory>
     requires program { IsWellFormed p.now }
     requires some { 0 < length f.now.pieces }
-    ensures few { IfOk result (λ n. length n.candidates.items < 4294967296) }
-    ensures candidates { IfOk result (λ n. AreCandidates p.now f.now n.candidates.items) }
-    ensures rows { IfOk result (λ n. AreRows (length f.now.pieces) (length n.candidates.items) n.rows.items) }
-    ensures computed { IfOk result (λ n. (k node : ℕ) (e : Expr) → slice_get n.candidates.items k ≡ Some e → node < length f.now.pieces → (has_mark n.rows.items k node ≡ true) ↔ Computes p.now f.now e node) }
+    ensures table { IfOk result (λ n. IsTable n.table.exprs.items n.table.buckets.items) }
+    ensures candidates { IfOk result (λ n. AreCandidates p.now f.now n.table.exprs.items) }
+    ensures rows { IfOk result (λ n. AreRows (length f.now.pieces) (length n.table.exprs.items) n.rows.items) }
+    ensures computed { IfOk result (λ n. (k node : ℕ) (e : Expr) → slice_get n.table.exprs.items k ≡ Some e → node < length f.now.pieces → (has_mark n.rows.items k node ≡ true) ↔ Computes p.now f.now e node) }
 {
     let mut table = Table::new(alloc, f.pieces())?;
     let mut rows = Vec::new(alloc);
@@ -42,11 +42,7 @@ pub(crate) fn candidates_of(alloc: Global, p: &Program, f: &Flow) -> Result<Note
         collect_piece(alloc, p, f.piece(node), &mut found)?;
         note(alloc, &mut table, &mut rows, &found, f.pieces(), node)?;
     }
-    let Table { exprs, .. } = table;
-    Ok(Noted {
-        candidates: exprs,
-        rows,
-    })
+    Ok(Noted { table, rows })
 }
 
 // Notes that a piece computes these candidates.

@@ -1,7 +1,7 @@
 //! Numbers for expressions.
 
 ghost use Rattle.std.specs.Prelude.{◌≡◌, ◌<◌, ◌^◌, ◌%◌, ℕ, [], All, Contains, Some, length, slice_get, slice_index_or, OnOk, IfOk, MatchOption};
-ghost use Rattle.redundancy.specs.Digests.{digest as digest_lem};
+ghost use Rattle.redundancy.specs.Digests.{digest as spec_digest};
 ghost use Rattle.redundancy.specs.Numbers.{IsNumbered, IsTable};
 
 use crate::listed::Listed;
@@ -30,6 +30,22 @@ impl Table {
         })
     }
 
+    /// The number of the expression, if it has one.
+    pub(crate) fn find(&self, e: &Expr) -> Option<u32>
+        requires { IsTable self.now.exprs.items self.now.buckets.items }
+        ensures { MatchOption result (Contains self.now.exprs.items e.now → ⊥) (λ k. slice_get self.now.exprs.items k ≡ Some e.now) }
+    {
+        find_among(&self.exprs, self.buckets[self.bucket(e)].as_slice(), e)
+    }
+
+    // The bucket that has the number of the expression, where there is one.
+    fn bucket(&self, e: &Expr) -> usize
+        requires { 0 < length self.now.buckets.items }
+        ensures { result ≡ spec_digest e.now % length self.now.buckets.items }
+    {
+        (digest(e) % self.buckets.len() as u64) as usize
+    }
+
     /// The number of the expression. A copy of it gets the next one where it is new. Numbers have 32 bits: there is no memory for more
     /// expressions.
     pub(crate) fn number(&mut self, alloc: Global, e: &Expr) -> Result<u32, NoMemory>
@@ -37,14 +53,14 @@ impl Table {
         ensures table { OnOk result (IsTable self.new.exprs.items self.new.buckets.items) }
         ensures number { IfOk result (λ k. IsNumbered e.now self.old.exprs.items self.new.exprs.items k) }
     {
-        let at = (digest(e) % self.buckets.len() as u64) as usize;
-        if let Some(k) = find(&self.exprs, self.buckets[at].as_slice(), e) {
+        if let Some(k) = self.find(e) {
             return Ok(k);
         }
         if self.exprs.len() >= u32::MAX as usize {
             return Err(NoMemory);
         }
         let k = self.exprs.len() as u32;
+        let at = self.bucket(e);
         self.buckets[at].push(k)?;
         self.exprs.push(e.copy(alloc)?)?;
         Ok(k)
@@ -64,7 +80,7 @@ fn no_numbers(alloc: Global, buckets: u32) -> Result<Vec<Listed<u32>>, NoMemory>
 }
 
 // Which of these numbers the expression has.
-fn find(exprs: &Vec<Expr>, numbers: &[u32], e: &Expr) -> Option<u32>
+fn find_among(exprs: &Vec<Expr>, numbers: &[u32], e: &Expr) -> Option<u32>
     requires { All (λ k. k < length exprs.now.items) numbers.now }
     ensures { MatchOption result ((k : ℕ) → Contains numbers.now k → slice_get exprs.now.items k ≡ Some e.now → ⊥) (λ k. slice_get exprs.now.items k ≡ Some e.now) }
 {

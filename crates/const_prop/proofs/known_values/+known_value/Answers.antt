@@ -8,8 +8,8 @@ use Rattle.const_prop.proofs.known_values.+known_value.Goals as goal
 
 pub loop-arg-preserved : goal.loop-arg-preserved
 loop-arg-preserved g t c =
-    let names = c.args.s.now.program.now.names in
-    let words = words_on c.args.s.now.classes.now (knowns c.args.rows.now []) c.args.edge in
+    let names = c.args.p.now.names in
+    let words = words_on c.args.c.now (knowns c.args.rows.now []) c.args.edge in
     let kept = c.loop-arg.invariant in
     let items = c.as_slice-arg-items.result.now in
     let i = c.loop-arg.arg-index in
@@ -30,12 +30,12 @@ loop-arg-preserved g t c =
 
 pub returns-in-Read : goal.returns-in-Read
 returns-in-Read g t c =
-    let names = c.args.s.now.program.now.names in
-    let words = words_on c.args.s.now.classes.now (knowns c.args.rows.now []) c.args.edge in
+    let names = c.args.p.now.names in
+    let words = words_on c.args.c.now (knowns c.args.rows.now []) c.args.edge in
     c.known_read.ensures ∙ sym (known_with-Read names words c.in-Read.access) ∙ ap (known_with names words) (sym c.in-Read.is)
 
 pub returns-after-loop-arg : goal.returns-after-loop-arg
 returns-after-loop-arg g t c =
-    let names = c.args.s.now.program.now.names in
-    let words = words_on c.args.s.now.classes.now (knowns c.args.rows.now []) c.args.edge in
+    let names = c.args.p.now.names in
+    let words = words_on c.args.c.now (knowns c.args.rows.now []) c.args.edge in
     operator-known names words c.args.e.now c.in-Apply.op c.in-Apply.args c.as_slice-arg-items.result.now c.loop-arg.arg-index (take c.loop-arg.count c.loop-arg.operands) c.fold.result c.in-Apply.is c.as_slice-arg-items.ensures.items c.loop-arg-test.false c.loop-arg.invariant.values c.fold.ensures

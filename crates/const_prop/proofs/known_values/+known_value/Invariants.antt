@@ -12,6 +12,6 @@ invariant-loop-arg g l = record {
   as_many : length l.arg-items ≡ arity_of l.op;
   few : length l.arg-items ≤ 3;
   room : length l.operands ≡ 3;
-  expressions : All (IsExpression l.s.program.now.names) l.arg-items;
-  values : take l.count l.operands ≡ map (known_with l.s.program.now.names (words_on l.s.classes.now (knowns l.rows []) l.edge)) (take l.arg-index l.arg-items);
+  expressions : All (IsExpression l.p.names) l.arg-items;
+  values : take l.count l.operands ≡ map (known_with l.p.names (words_on l.c (knowns l.rows []) l.edge)) (take l.arg-index l.arg-items);
 }

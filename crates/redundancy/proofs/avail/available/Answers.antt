@@ -11,6 +11,7 @@ use Rattle.closed_walks.specs.Region.{IsFlowGraph}
 use Rattle.std.proofs.lemmas.List.{get_or_default}
 use Rattle.redundancy.specs.Noted.{AreRows}
 use Rattle.redundancy.proofs.Rounds.{first_node}
+use Rattle.redundancy.proofs.Orders.{candidates_distinct}
 use Rattle.redundancy.proofs.Solutions.{AreSolved, solved_more, all_solved, kept_rows, row_told}
 use Rattle.redundancy.proofs.avail.available.Goals as goal
 
@@ -31,13 +32,13 @@ missing_row-requires-clause-flow g c =
 
 pub missing_row-requires-clause-computes : goal.missing_row-requires-clause-computes
 missing_row-requires-clause-computes g c =
-    let rows = c.in_ok-candidates.field-0.rows.items in
+    let rows = c.in_ok-table.field-0.rows.items in
     let items = c.deref-computes-items.result.now in
     let same = c.deref-computes-items.ensures.value in
     let row = row_read rows items c.loop-k.k c.computes-item.result c.as_slice-in-loop-k.result.now same c.loop-k-test.true c.computes-item.is c.as_slice-in-loop-k.ensures in
     let len : length items ≡ length rows = ap length same in
     let less : c.loop-k.k < length rows = omega (arith, len, c.loop-k-test.true) in
-    ap length row ∙ c.in_ok-candidates.ensures.rows.each c.loop-k.k less ∙ sym c.pieces-pieces.ensures.count ∙ c.pieces-pieces.ensures.nodes ∙ ap (λ (x : Graph). x.nodes) (sym c.graph.ensures)
+    ap length row ∙ c.in_ok-table.ensures.rows.each c.loop-k.k less ∙ sym c.pieces-pieces.ensures.count ∙ c.pieces-pieces.ensures.nodes ∙ ap (λ (x : Graph). x.nodes) (sym c.graph.ensures)
 
 pub missing_row-requires-clause-kills : goal.missing_row-requires-clause-kills
 missing_row-requires-clause-kills g c =
@@ -48,9 +49,9 @@ loop-k-preserved g c =
     let p = c.args.p.now in
     let f = c.args.f.now in
     let graph = f.graph in
-    let rows = c.in_ok-candidates.field-0.rows.items in
+    let rows = c.in_ok-table.field-0.rows.items in
     let items = c.deref-computes-items.result.now in
-    let candidates = c.in_ok-candidates.field-0.candidates.items in
+    let candidates = c.in_ok-table.field-0.table.exprs.items in
     let needs = c.in_ok-needs.needs.items in
     let writes = c.as_slice.result.now in
     let same = c.deref-computes-items.ensures.value in
@@ -73,27 +74,32 @@ loop-k-preserved g c =
     let solved : (node b : ℕ) → node < graph.nodes → b < 64 → (bit row b node ≡ false) ↔ IsOnAllWalks graph (HasBit c.as_slice-in-loop-k.result.now b) (HasBit kills b) node =
     subst (λ (x : Graph). (node b : ℕ) → node < x.nodes → b < 64 → (bit row b node ≡ false) ↔ IsOnAllWalks x (HasBit c.as_slice-in-loop-k.result.now b) (HasBit kills b) node) c.graph.ensures c.in_ok-row.ensures.missing in
     let told = row_told p f c.args.c.now candidates rows needs c.part.result.now writes c.loop-k.k c.as_slice-in-loop-k.result.now c.as_slice-in-loop-k-2.result.now c.in_ok-row.row.items strong.sound pieces
-    c.in_ok-candidates.ensures.computed computes killed c.part.ensures.all c.part.ensures.items c.in_ok-needs.ensures.count c.in_ok-needs.ensures.needs count write solved in
+    c.in_ok-table.ensures.computed computes killed c.part.ensures.all c.part.ensures.items c.in_ok-needs.ensures.count c.in_ok-needs.ensures.needs count write solved in
     rw (c.in_ok-push.ensures.items, c.of.ensures)
     (solved_more p f c.args.c.now candidates graph.nodes c.loop-k.k c.loop-k.missing.items c.in_ok-row.row.items c.loop-k.invariant (c.in_ok-row.ensures.nodes ∙ ap (λ (x : Graph). x.nodes) c.graph.ensures) told)
 
 pub invariant_of-result : goal.invariant_of-result
 invariant_of-result g c =
     let f = c.args.f.now in
+    let candidates = c.in_ok-table.field-0.table.exprs.items in
     let same = c.deref-computes-items.ensures.value in
-    let rows = c.in_ok-candidates.field-0.rows.items in
+    let rows = c.in_ok-table.field-0.rows.items in
     let len : length c.deref-computes-items.result.now ≡ length rows = ap length same in
     let done : c.loop-k.k ≡ length rows = omega (arith, len, c.loop-k-test.false, c.loop-k.auto.k-end) in
     let nodes : f.graph.nodes ≡ c.pieces-pieces.result = sym c.pieces-pieces.ensures.nodes in
-    kept_rows (record { candidates = c.in_ok-candidates.field-0.candidates.items; pieces = c.pieces-pieces.result; missing = c.loop-k.missing.items }) rows c.loop-k.k c.args.p.now f c.args.c.now c.in_ok-candidates.ensures.few
-    (subst (λ n. AreRows n (length c.in_ok-candidates.field-0.candidates.items) rows) (sym c.pieces-pieces.ensures.count) c.in_ok-candidates.ensures.rows) done
-    (subst (λ n. AreSolved c.args.p.now f c.args.c.now c.in_ok-candidates.field-0.candidates.items n c.loop-k.k c.loop-k.missing.items) nodes c.loop-k.invariant)
+    record {
+      rows = kept_rows (record { candidates = candidates; pieces = c.pieces-pieces.result; missing = c.loop-k.missing.items }) rows c.loop-k.k c.args.p.now f c.args.c.now c.in_ok-table.ensures.table.few
+          (subst (λ n. AreRows n (length candidates) rows) (sym c.pieces-pieces.ensures.count) c.in_ok-table.ensures.rows) done
+          (subst (λ n. AreSolved c.args.p.now f c.args.c.now candidates n c.loop-k.k c.loop-k.missing.items) nodes c.loop-k.invariant);
+      numbers = c.in_ok-table.ensures.table;
+      distinct = candidates_distinct c.args.p.now f candidates c.in_ok-table.ensures.candidates;
+    }
 
 pub returns : goal.returns
 returns g c =
     let f = c.args.f.now in
     let same = c.deref-computes-items.ensures.value in
-    let rows = c.in_ok-candidates.field-0.rows.items in
+    let rows = c.in_ok-table.field-0.rows.items in
     let len : length c.deref-computes-items.result.now ≡ length rows = ap length same in
     let done : length rows ≤ c.loop-k.k = omega (arith, len, c.loop-k-test.false) in
-    all_solved c.args.p.now f c.args.c.now (record { candidates = c.in_ok-candidates.field-0.candidates.items; pieces = c.pieces-pieces.result; missing = c.loop-k.missing.items }) (length rows) c.loop-k.k c.pieces-pieces.ensures.nodes done c.in_ok-candidates.ensures.rows.covers c.in_ok-candidates.ensures.candidates c.loop-k.invariant
+    all_solved c.args.p.now f c.args.c.now (record { candidates = c.in_ok-table.field-0.table.exprs.items; pieces = c.pieces-pieces.result; missing = c.loop-k.missing.items }) (length rows) c.loop-k.k c.pieces-pieces.ensures.nodes done c.in_ok-table.ensures.rows.covers c.in_ok-table.ensures.candidates c.loop-k.invariant
