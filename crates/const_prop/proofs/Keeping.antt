@@ -17,7 +17,7 @@ use Rattle.const_prop.specs.Known.{one_of}
 use Rattle.const_prop.specs.Live.{IsLive, is_excluded, is_other}
 use Rattle.const_prop.specs.Table.{Knowns}
 use Rattle.const_prop.proofs.Raising.{true_of_not}
-use Rattle.const_prop.proofs.Rising.{and_true}
+use Rattle.std.proofs.lemmas.Bool.{and_from}
 
 -- ---- a graph with one edge more
 
@@ -140,7 +140,7 @@ live-there p t excluded reached live kept told e l =
       λ is.
           let r = is.reached in
           let at : Reach g excluded 0 node = record { walk = r.walk; leads = r.leads; avoids = avoids-alike g (is_excluded p t) excluded (λ d k. sym (same d k)) 0 r.walk node r.leads r.avoids } in
-          told.tells e l ∙ and_true (not (excluded e)) (reached node) (ap not (same e l ∙ is.kept)) ((told.reaches node).1 ((kept-reach g excluded kept told.is_kept 0 node).1 at)),
+          told.tells e l ∙ and_from (not (excluded e)) (reached node) (ap not (same e l ∙ is.kept)) ((told.reaches node).1 ((kept-reach g excluded kept told.is_kept 0 node).1 at)),
     )
 
 pub live-told : (p : Program) (f : FlowGraph) (t : Knowns) (excluded reached live : ℕ → Bool) (kept : Graph) → f ≡ flow p.execs → TellLive f t excluded reached live kept → (e : ℕ) → e < edge_count f.graph → (live e ≡ true) ↔ IsLive p t e

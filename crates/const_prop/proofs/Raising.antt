@@ -17,7 +17,8 @@ use Rattle.const_prop.specs.Rise.{room, IsRise}
 use Rattle.const_prop.specs.Table.{Knowns}
 use Rattle.const_prop.specs.Work.{so_far, is_waiting, IsSized, IsFound}
 use Rattle.const_prop.proofs.Order.{at_most-any}
-use Rattle.const_prop.proofs.Rising.{at, and_true, IsRaised, found-raised}
+use Rattle.const_prop.proofs.Rising.{at, IsRaised, found-raised}
+use Rattle.std.proofs.lemmas.Bool.{and_from}
 
 any-room : (k : Known) → is_any k ≡ false → room Any < room k
 any-room Nothing is = omega arith
@@ -65,7 +66,7 @@ module _ {W : ℕ} (f : FlowGraph) (lines : ℕ) (old new : Work W) (edge : ℕ)
   module _ (rose : ℕ → Bool) (values : (l e : ℕ) → at f lines new l e ≡ (if ((e == edge) && rose l) then Any else at f lines old l e)) where
     -- on the lines that rose any value may come
     pub any-here : (line : ℕ) → rose line ≡ true → at f lines new line edge ≡ Any
-    any-here line is = values line edge ∙ if_true ((edge == edge) && rose line) Any (at f lines old line edge) (and_true (edge == edge) (rose line) (eq-eqb edge edge refl) is)
+    any-here line is = values line edge ∙ if_true ((edge == edge) && rose line) Any (at f lines old line edge) (and_from (edge == edge) (rose line) (eq-eqb edge edge refl) is)
 
     -- the lines of a set rose, of which there is one
     pub raised-any : IsWoken old new edge rose → ((line : ℕ) → rose line ≡ true → is_any (at f lines old line edge) ≡ false) → (first : ℕ) → first < lines → rose first ≡ true → IsRaised f lines old new edge rose

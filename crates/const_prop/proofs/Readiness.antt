@@ -4,7 +4,7 @@ use Rattle.std.proofs.lemmas.Bool.{cases_lt}
 use Rattle.std.proofs.lemmas.List.{get_or_read}
 use Rattle.closed_walks.specs.Walk.{Holds}
 use Rattle.const_prop.specs.Setting.{IsTouchedRow, AreTouched}
-use Rattle.const_prop.proofs.Rows.{Holds-at}
+use Rattle.closed_walks.proofs.Held.{Holds-at}
 
 pub touched_items : (nodes lines : ℕ) (touches : ℕ → ℕ → Bool) (rows : List (List ℕ)) (node at : ℕ) (row items : List ℕ) → AreTouched nodes lines touches rows → node < nodes → node ≡ at → row ≡ get_or rows node row → items ≡ row → IsTouchedRow touches lines at items
 touched_items nodes lines touches rows node at row items are inside is read same =

@@ -17,6 +17,7 @@ use Rattle.const_prop.specs.Table.{Knowns}
 use Rattle.const_prop.specs.Work.{sum_below, so_far, is_pending, is_waiting, one_if, IsSized, Rises, IsFound}
 use Rattle.const_prop.proofs.Order.{at_most-is, at_most-trans}
 use Rattle.const_prop.proofs.Rooms.{rooms-less, sum-less, sum-one_more}
+use Rattle.std.proofs.lemmas.Bool.{and_from}
 
 or_other : (a b : Bool) → a ≡ false → (a || b) ≡ b
 or_other a b is = rw is refl
@@ -29,9 +30,6 @@ and_off a b is = rw is refl
 
 differs : (e edge : ℕ) → e ≢ edge → (e == edge) ≡ false
 differs e edge differ = false_from_ne_true (e == edge) (λ same. differ (eqb-true e edge same))
-
-pub and_true : (a b : Bool) → a ≡ true → b ≡ true → (a && b) ≡ true
-and_true a b is also = rw (is, also) refl
 
 one_if-most : (b : Bool) → one_if b ≤ 1
 one_if-most true = omega arith
@@ -126,7 +124,7 @@ module _ {W : ℕ} (f : FlowGraph) (lines : ℕ) where
       decisions = r.decisions;
       grows = raised-grows;
       moved = λ line e in_l in_e. ⊎_elim
-          (λ (here : (e ≡ edge) × (rose line ≡ true)). inl (r.pending line e ∙ or_left ((e == edge) && rose line) (is_pending old line e) (and_true (e == edge) (rose line) (eq-eqb e edge here.0) here.1)))
+          (λ (here : (e ≡ edge) × (rose line ≡ true)). inl (r.pending line e ∙ or_left ((e == edge) && rose line) (is_pending old line e) (and_from (e == edge) (rose line) (eq-eqb e edge here.0) here.1)))
           (λ (other : (e ≡ edge) × (rose line ≡ true) → ⊥). inr (r.others line e in_l other))
           (here_or_not line e);
       kept = λ line e h. r.pending line e ∙ or_right ((e == edge) && rose line) (is_pending old line e) h;

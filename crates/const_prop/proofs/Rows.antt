@@ -9,37 +9,13 @@ use Rattle.closed_walks.specs.Graph.{Graph, edge_count, from, to, touches, touch
 use Rattle.closed_walks.specs.Walk.{Holds}
 use Rattle.cfg_build.specs.Passes.{outs}
 use Rattle.dep_routing.specs.Touch.{touches_in}
+use Rattle.closed_walks.proofs.Held.{Holds-left, Holds-right, Holds-append, Holds-at}
+use Rattle.list_laws.proofs.Ranges.{range_last}
 
 pub touches-at : {W : ℕ} (sets : List (ClassSet W)) (node line : ℕ) (s : ClassSet W) → slice_get sets node ≡ Some s → touches_in sets node line ≡ holds s line
 touches-at [] node line s is = absurd cc
 touches-at (x ∷ sets) zero line s is = let same : x ≡ s = cc in ap (λ y. holds y line) same
 touches-at (x ∷ sets) (suc node) line s is = touches-at sets node line s is
-
-pub Holds-left : (xs ys : List ℕ) (e : ℕ) → Holds xs e → Holds (xs ++ ys) e
-Holds-left [] ys e h = absurd h
-Holds-left (x ∷ xs) ys e (inl same) = inl same
-Holds-left (x ∷ xs) ys e (inr h) = inr (Holds-left xs ys e h)
-
-pub Holds-right : (xs ys : List ℕ) (e : ℕ) → Holds ys e → Holds (xs ++ ys) e
-Holds-right [] ys e h = h
-Holds-right (x ∷ xs) ys e h = inr (Holds-right xs ys e h)
-
-pub Holds-append : (xs ys : List ℕ) (e : ℕ) → Holds (xs ++ ys) e → Holds xs e ⊎ Holds ys e
-Holds-append [] ys e h = inr h
-Holds-append (x ∷ xs) ys e (inl same) = inl (inl same)
-Holds-append (x ∷ xs) ys e (inr h) = ⊎_elim (λ l. inl (inr l)) (λ r. inr r) (Holds-append xs ys e h)
-
-pub Holds-at : (xs : List ℕ) (k : ℕ) → k < length xs → Holds xs (get_or xs k 0)
-Holds-at [] k within = absurd (omega (arith, within))
-Holds-at (x ∷ xs) zero within = inl refl
-Holds-at (x ∷ xs) (suc k) within = inr (Holds-at xs k (omega arith))
-
--- numbers from a on, the last one apart
-range-last : (a n : ℕ) → range_with_len a (suc n) ≡ range_with_len a n ++ (a + n) ∷ []
-range-last a zero = ap (λ k. k ∷ []) (omega arith)
-range-last a (suc n) =
-    let h = range-last (a + 1) n in
-    ap (λ xs. a ∷ xs) (h ∙ ap (λ k. range_with_len (a + 1) n ++ k ∷ []) (omega arith))
 
 or_false : (a b : Bool) → (a || b) ≡ false → a ≡ false
 or_false true b e = absurd cc
@@ -55,7 +31,7 @@ module _ (g : Graph) (node : ℕ) where
   touching-outs (suc k) =
       let h = touching-outs k in
       let last : filter leaves (range_with_len 0 (suc k)) ≡ filter leaves (range_with_len 0 k) ++ filter leaves (k ∷ []) =
-      ap (filter leaves) (range-last 0 k) ∙ filter-append leaves (range_with_len 0 k) ((0 + k) ∷ []) ∙ ap (λ n. filter leaves (range_with_len 0 k) ++ filter leaves (n ∷ [])) (omega arith)
+      ap (filter leaves) (range_last 0 k) ∙ filter-append leaves (range_with_len 0 k) ((0 + k) ∷ []) ∙ ap (λ n. filter leaves (range_with_len 0 k) ++ filter leaves (n ∷ [])) (omega arith)
       in
       ⊎_elim
       (λ (yes' : touches g node k ≡ true). rw yes' (filter-append leaves (touching_below g node k) (k ∷ []) ∙ ap (λ xs. xs ++ filter leaves (k ∷ [])) h ∙ sym last))

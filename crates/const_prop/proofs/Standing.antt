@@ -6,8 +6,8 @@ use Rattle.class_set.specs.declared.ClassSet.{ClassSet}
 use Rattle.dep_routing.specs.Routing.{Routing, wire_at}
 use Rattle.dep_routing.specs.Touch.{touches_in}
 use Rattle.const_prop.proofs.Raising.{true_of_not}
-use Rattle.const_prop.proofs.Rising.{and_true}
 use Rattle.const_prop.proofs.Rows.{touches-at}
+use Rattle.std.proofs.lemmas.Bool.{and_from}
 
 -- of the fresh lines those that stand on the edge, and of these those that the piece doesn't touch
 pub record ArePast {W : ℕ} (r : Routing) (touch : List (ClassSet W)) (e node : ℕ) (fresh lines : ClassSet W) : Type 0 where
@@ -40,5 +40,5 @@ module _ {W : ℕ} (r : Routing) (touch : List (ClassSet W)) (e node : ℕ) (fre
 
   pub past-all : (line : ℕ) → holds fresh line ≡ true → IsPast r touch e node line → holds lines line ≡ true
   past-all line is past =
-      let stands : holds a.standing line ≡ true = a.stand line ∙ and_true (holds fresh line) (holds a.wires line) is (a.are_wires line past.inside ∙ past.wire) in
-      a.pass line ∙ and_true (holds a.standing line) (not (holds a.touched line)) stands (ap not (sym (touches-at touch node line a.touched a.item) ∙ past.untouched))
+      let stands : holds a.standing line ≡ true = a.stand line ∙ and_from (holds fresh line) (holds a.wires line) is (a.are_wires line past.inside ∙ past.wire) in
+      a.pass line ∙ and_from (holds a.standing line) (not (holds a.touched line)) stands (ap not (sym (touches-at touch node line a.touched a.item) ∙ past.untouched))

@@ -22,7 +22,8 @@ use Rattle.alias_classes.specs.Classes.{ClassTable, IsClasses, class_of_word, cl
 use Rattle.alias_classes.specs.Needs.{Hits, HitsAt, ExprNeeds, ExecNeeds}
 use Rattle.const_prop.specs.declared.known.Known.{Known}
 use Rattle.const_prop.specs.declared.known.Known.TheVariants.{One, Any}
-use Rattle.const_prop.specs.Closed.{ExecWrites, written, is_sure, is_one_word}
+use Rattle.alias_classes.specs.Writes.{ExecWritesOrCounts}
+use Rattle.const_prop.specs.Closed.{written, is_sure, is_one_word}
 use Rattle.const_prop.specs.Known.{AtMost, as_known}
 use Rattle.const_prop.proofs.Counting.{one_word-same}
 use Rattle.const_prop.proofs.Passing.{ActedBy}
@@ -71,7 +72,7 @@ module _ (p : Program) (c : ClassTable) (input : List ℤ) (classes : IsClasses 
   place_same var = ap (λ (names : List NameInfo). place_of names var) classes.names
 
   -- the class of a word that is changed is written
-  change-written : (m : Memory) (x : ExecKind) (word : ℕ) → CanExecute p x → Changes p.names input m x word → ExecWrites c x (class_of_word c word)
+  change-written : (m : Memory) (x : ExecKind) (word : ℕ) → CanExecute p x → Changes p.names input m x word → ExecWritesOrCounts c x (class_of_word c word)
   change-written m (Assign target e next) word can is = hits target word can.0 (changes m (Assign target e next) word is)
   change-written m (DoStart loop_no var first last step body exit) word can is = inl (ap (class_of_word c) (place_same var ∙ is))
   change-written m (DoNext loop_no var body exit) word can is = inl (ap (class_of_word c) (place_same var ∙ is))
@@ -88,7 +89,7 @@ module _ (p : Program) (c : ClassTable) (input : List ℤ) (classes : IsClasses 
       ap (λ (o : Option ℤ). unwrap_or o (pos 0))
       ((goes (λ next new text. KeepsRest p.names input x m new) (outcome p.names input m x) acted.next new acted.text (rest m x) acted.is).store word same)
 
-  pub unwritten : (m new : Memory) (x : ExecKind) (word : ℕ) → CanExecute p x → ActedBy p.names input m x new → (ExecWrites c x (class_of_word c word) → ⊥) → word_at new.store word ≡ word_at m.store word
+  pub unwritten : (m new : Memory) (x : ExecKind) (word : ℕ) → CanExecute p x → ActedBy p.names input m x new → (ExecWritesOrCounts c x (class_of_word c word) → ⊥) → word_at new.store word ≡ word_at m.store word
   unwritten m new x word can acted not_it = unchanged m new x word acted (λ is. not_it (change-written m x word can is))
 
   loop-apart : (loop_no word : ℕ) → class_of_loop c loop_no ≡ class_of_word c word → ⊥
@@ -100,7 +101,7 @@ module _ (p : Program) (c : ClassTable) (input : List ℤ) (classes : IsClasses 
 
     -- the one value that is written is the word
     pub written-right : (x : ExecKind) → CanExecute p x → ActedBy p.names input m x new → ((next : Option ℤ) (e : Expr) → ((n : ℕ) → ExprNeeds c e n → ExecNeeds c x n) → (z : ℤ) → known_with p.names words e ≡ Some z → value p.names m.store next e ≡ Ok z)
-        → ExecWrites c x (class_of_word c word) → AtMost (written p.names c words x (class_of_word c word)) (One v) → word_at new.store word ≡ v
+        → ExecWritesOrCounts c x (class_of_word c word) → AtMost (written p.names c words x (class_of_word c word)) (One v) → word_at new.store word ≡ v
     written-right (Assign target e next) can acted told writes below =
         let parts = if_one (is_sure p.names target && is_one_word c (class_of_word c word)) (as_known (known_with p.names words e)) v below in
         let sure = sure-word (known_word p.names target.name (map known target.subs)) (and_parts (is_sure p.names target) (is_one_word c (class_of_word c word)) parts.0).0 in

@@ -14,6 +14,7 @@ use Rattle.f77_tree.specs.KnownWith.{known_word, known_with}
 use Rattle.f77_tree.specs.Value.{word_at}
 use Rattle.alias_classes.specs.Classes.{ClassTable, class_of_word}
 use Rattle.alias_classes.specs.Needs.{Hits, IsOfLoop}
+use Rattle.alias_classes.specs.Writes.{ExecWritesOrCounts}
 use Rattle.cfg_build.specs.declared.pieces.PieceKind.{PieceKind}
 use Rattle.cfg_build.specs.declared.pieces.PieceKind.TheVariants.{Act, Branch, Join, Hold, End}
 use Rattle.cfg_build.specs.Flow.{piece_at}
@@ -71,15 +72,9 @@ words_on c t edge word = one_of (t.value (class_of_word c word) edge)
 
 -- ---- what pieces write, and decide
 
-abbrev pub ExecWrites : ClassTable → ExecKind → (line : ℕ) → Type 0
-ExecWrites c (Assign target e next) line = Hits c target line
-ExecWrites c (DoStart loop_no var first last step body exit) line = IsOfLoop c loop_no var line
-ExecWrites c (DoNext loop_no var body exit) line = IsOfLoop c loop_no var line
-ExecWrites c _ line = ⊥
-
 -- the piece writes to a word of the line, or may do so: an act alone does
 abbrev pub KindWrites : ClassTable → PieceKind → ExecKind → (line : ℕ) → Type 0
-KindWrites c Act kind line = ExecWrites c kind line
+KindWrites c Act kind line = ExecWritesOrCounts c kind line
 KindWrites c _ kind line = ⊥
 
 -- an access surely hits the one word of its class, where its subscripts are known without the table

@@ -6,7 +6,8 @@ ghost use Rattle.op_table.specs.Operators.{which_of_three, picked};
 ghost use Rattle.op_table.specs.Trips.{at_least_zero};
 ghost use Rattle.f77_tree.specs.CanRun.{CanExecute};
 ghost use Rattle.f77_tree.specs.Control.{targets_of};
-ghost use Rattle.const_prop.specs.Closed.{ExecWrites, words_on, selected as spec_selected};
+ghost use Rattle.alias_classes.specs.Writes.{ExecWritesOrCounts};
+ghost use Rattle.const_prop.specs.Closed.{words_on, selected as spec_selected};
 ghost use Rattle.const_prop.specs.Closed.{written as spec_written};
 ghost use Rattle.const_prop.specs.Known.{as_known as spec_as_known};
 ghost use Rattle.const_prop.specs.KnownRows.{edges_of};
@@ -71,7 +72,7 @@ pub(crate) fn written<const W: usize>(
 pub(crate) fn writes<const W: usize>(s: &Setting<W>, kind: &ExecKind, line: u32) -> bool
     requires setting { IsSetting s.now.program.now s.now.flow.now s.now.classes.now s.now.touch.now s.now.lines.now s.now.one_word.items s.now.outs.items s.now.touched.items }
     requires exec { CanExecute s.now.program.now kind.now }
-    ensures { IsTrue result ↔ ExecWrites s.now.classes.now kind.now line }
+    ensures { IsTrue result ↔ ExecWritesOrCounts s.now.classes.now kind.now line }
 {
     match kind {
         ExecKind::Assign { target, .. } => s.classes.hits(target).holds(line),

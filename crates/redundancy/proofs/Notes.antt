@@ -22,6 +22,7 @@ use Rattle.redundancy.proofs.Bits.{zero_bit}
 use Rattle.redundancy.proofs.Growing.{both, append_none}
 use Rattle.redundancy.proofs.Tables.{get_left, get_within, get_more, get_of_contains, contains_of_get, contains-here, contains-later, contains-left, contains-right, some_same, at_get}
 use Rattle.redundancy.proofs.Firsts.{firsts_more, contains_more, contains-last, contains_first, chosen_sound, chosen_whole, chosen_before}
+use Rattle.std.proofs.lemmas.Bool.{and_parts, and_from}
 
 -- ---- numbers
 
@@ -104,15 +105,6 @@ or_right : (a b : Bool) → b ≡ true → (a || b) ≡ true
 or_right true b is = refl
 or_right false b is = is
 
-and_parts : (a b : Bool) → (a && b) ≡ true → (a ≡ true) × (b ≡ true)
-and_parts true true is = (refl, refl)
-and_parts true false is = absurd (false≢true is)
-and_parts false b is = absurd (false≢true is)
-
-and_both : (a b : Bool) → a ≡ true → b ≡ true → (a && b) ≡ true
-and_both true b is_a is_b = is_b
-and_both false b is_a is_b = absurd (false≢true is_a)
-
 or_both : (a b : Bool) → a ≡ false → b ≡ false → (a || b) ≡ false
 or_both true b is_a is_b = absurd (false≢true (sym is_a))
 or_both false b is_a is_b = is_b
@@ -173,7 +165,7 @@ noted_next nodes computed old new rows more e k node s n marked are =
             let same_v : node ≡ v = ap (λ (p : ℕ × Expr). p.0) pair in
             let same_e : e ≡ d = ap (λ (p : ℕ × Expr). p.1) pair in
             let same_k : j ≡ k = one_number (all ++ e ∷ []) new d j k firsts is (n.at ∙ ap Some same_e) in
-            or_right (has_mark rows j v) ((j == k) && (v == node)) (and_both (j == k) (v == node) (eq-eqb j k same_k) (eq-eqb v node (sym same_v))))
+            or_right (has_mark rows j v) ((j == k) && (v == node)) (and_from (j == k) (v == node) (eq-eqb j k same_k) (eq-eqb v node (sym same_v))))
             (contains_more computed (node, e) (v, d) c),
       );
       blank = λ j v past.

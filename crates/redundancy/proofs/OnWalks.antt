@@ -5,6 +5,7 @@ use Rattle.closed_walks.specs.Graph.{Graph, edge_count, from, to}
 use Rattle.closed_walks.specs.Walk.{Walk, Holds}
 use Rattle.redundancy.specs.Available.{IsComputedOn, IsOnAllWalks}
 use Rattle.redundancy.specs.Solving.{IsLost, missing_after}
+use Rattle.closed_walks.proofs.Held.{Holds-left, Holds-right, Holds-append}
 
 -- ---- tests
 
@@ -29,20 +30,6 @@ or_cases false true false is = absurd (false≢true is)
 or_cases false false c is = absurd (false≢true is)
 
 -- ---- lists
-
-pub Holds-left : (v w : List ℕ) (e : ℕ) → Holds v e → Holds (v ++ w) e
-Holds-left [] w e h = absurd h
-Holds-left (f ∷ v) w e (inl same) = inl same
-Holds-left (f ∷ v) w e (inr h) = inr (Holds-left v w e h)
-
-pub Holds-right : (v w : List ℕ) (e : ℕ) → Holds w e → Holds (v ++ w) e
-Holds-right [] w e h = h
-Holds-right (f ∷ v) w e h = inr (Holds-right v w e h)
-
-pub Holds-append : (v w : List ℕ) (e : ℕ) → Holds (v ++ w) e → Holds v e ⊎ Holds w e
-Holds-append [] w e h = inr h
-Holds-append (f ∷ v) w e (inl same) = inl (inl same)
-Holds-append (f ∷ v) w e (inr h) = ⊎_elim (λ l. inl (inr l)) (λ r. inr r) (Holds-append v w e h)
 
 append_one : (w : List ℕ) (e : ℕ) (z : List ℕ) → (w ++ e ∷ []) ++ z ≡ w ++ e ∷ z
 append_one [] e z = refl

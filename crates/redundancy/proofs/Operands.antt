@@ -19,6 +19,7 @@ use Rattle.f77_tree.specs.Known.{known, row_known, none, MayTrap, SomeMayTrap, S
 use Rattle.f77_tree.specs.Value.{row_length, dims_of, IsExpression, AllExpressions, IsAccess}
 use Rattle.redundancy.specs.Candidates.{is_scalar, is_plain, are_plain, has_scalar, IsCandidate, subexpressions, row_subexpressions}
 use Rattle.redundancy.specs.Collected.{all_plain, all_subexpressions}
+use Rattle.std.proofs.lemmas.Bool.{and_parts}
 
 -- the row after a list of operands or subscripts
 abbrev pub row_of : Expr → (n : Count) × Row_of-Expr n
@@ -178,14 +179,6 @@ or_cases : (a b : Bool) → (a || b) ≡ true → (a ≡ true) ⊎ (b ≡ true)
 or_cases true b is = inl refl
 or_cases false b is = inr is
 
-and_left : (a b : Bool) → (a && b) ≡ true → a ≡ true
-and_left true b is = refl
-and_left false b is = is
-
-and_right : (a b : Bool) → (a && b) ≡ true → b ≡ true
-and_right true b is = is
-and_right false b is = absurd (false≢true is)
-
 plain_quiet : (names : List NameInfo) (e : Expr) → is_plain e ≡ true → MayTrap names e → ⊥
 plain_quiet names e is may = ⊎_elim
     (λ scalar. scalar_quiet names e scalar may)
@@ -194,8 +187,8 @@ plain_quiet names e is may = ⊎_elim
 
 plains_quiet : (names : List NameInfo) (n : _) (row : Row_of-Expr n) → are_plain row ≡ true → SomeMayTrap none names row → ⊥
 plains_quiet names n end_of-Expr is some = some
-plains_quiet names n (more_of-Expr e rest) is (inl here) = plain_quiet names e (and_left (is_plain e) (are_plain rest) is) here
-plains_quiet names n (more_of-Expr e rest) is (inr later) = plains_quiet names _ rest (and_right (is_plain e) (are_plain rest) is) later
+plains_quiet names n (more_of-Expr e rest) is (inl here) = plain_quiet names e ((and_parts (is_plain e) (are_plain rest) is).0) here
+plains_quiet names n (more_of-Expr e rest) is (inr later) = plains_quiet names _ rest ((and_parts (is_plain e) (are_plain rest) is).1) later
 
 -- ---- candidates by their operands
 

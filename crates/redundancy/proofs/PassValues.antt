@@ -41,7 +41,8 @@ use Rattle.f77_tree.specs.WellFormed.{IsExecutable}
 use Rattle.alias_classes.specs.Classes.{ClassTable, IsClasses, class_of_word}
 use Rattle.alias_classes.specs.Needs.{Hits, ExprNeeds, ExecNeeds}
 use Rattle.redundancy.specs.Candidates.{IsCandidate, subexpressions}
-use Rattle.redundancy.specs.Computed.{computed_by, evaluated, ExecWrites}
+use Rattle.alias_classes.specs.Writes.{ExecWrites}
+use Rattle.redundancy.specs.Computed.{computed_by, evaluated}
 use Rattle.redundancy.specs.Fitting.{TargetFits}
 use Rattle.redundancy.proofs.Executables.{program_fits, all-get}
 use Rattle.redundancy.proofs.Fits.{piece_fits, contained_fits}

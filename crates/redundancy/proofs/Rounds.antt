@@ -8,7 +8,8 @@ use Rattle.closed_walks.specs.Region.{IsFlowGraph}
 use Rattle.redundancy.specs.Available.{has_bit, IsOnAllWalks}
 use Rattle.redundancy.specs.Solving.{bit, HasBit, IsLost, IsSolving, Nothing}
 use Rattle.redundancy.proofs.Bits.{zero_bit, full_bit}
-use Rattle.redundancy.proofs.OnWalks.{Holds-left, Holds-right, Holds-append, lost-start, not-missing}
+use Rattle.closed_walks.proofs.Held.{Holds-left, Holds-right, Holds-append}
+use Rattle.redundancy.proofs.OnWalks.{lost-start, not-missing}
 
 pub nothing_left : (xs : List ℕ) → length xs ≡ 0 → xs ≡ []
 nothing_left [] none = refl

@@ -19,7 +19,7 @@ use Rattle.redundancy.specs.Killing.{Meet}
 use Rattle.redundancy.specs.Kept.{HasRows}
 use Rattle.redundancy.specs.Noted.{AreRows}
 use Rattle.redundancy.specs.Solving.{bit, HasBit}
-use Rattle.redundancy.proofs.OnWalks.{Holds-right}
+use Rattle.closed_walks.proofs.Held.{Holds-right}
 use Rattle.redundancy.proofs.Tables.{get_within}
 
 -- ---- walks

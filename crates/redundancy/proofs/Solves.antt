@@ -9,14 +9,11 @@ use Rattle.closed_walks.specs.Region.{IsFlowGraph}
 use Rattle.redundancy.specs.Available.{has_bit}
 use Rattle.redundancy.specs.Solving.{bit, HasBit, IsLost, missing_after, IsSolving, Nothing, room, work}
 use Rattle.redundancy.proofs.Bits.{or_bit}
-use Rattle.redundancy.proofs.OnWalks.{Holds-left, Holds-right, Holds-append, lost-after}
+use Rattle.closed_walks.proofs.Held.{Holds-left, Holds-right, Holds-append}
+use Rattle.redundancy.proofs.OnWalks.{lost-after}
+use Rattle.closed_walks.proofs.Held.{Holds-at}
 
 -- ---- lists
-
-Holds-at : (xs : List ℕ) (k : ℕ) → k < length xs → Holds xs (get_or xs k 0)
-Holds-at [] k within = absurd (omega (arith, within))
-Holds-at (x ∷ xs) zero within = inl refl
-Holds-at (x ∷ xs) (suc k) within = inr (Holds-at xs k (omega arith))
 
 Holds-drop : (xs : List ℕ) (k x : ℕ) → k < length xs → Holds (drop k xs) x → (get_or xs k 0 ≡ x) ⊎ Holds (drop (k + 1) xs) x
 Holds-drop xs k x within holds = rw (add-one k) (subst (λ ys. Holds ys x) (drop-cons xs k 0 within) holds)

@@ -8,6 +8,7 @@ use Rattle.f77_tree.specs.declared.programs.Item.{Item}
 use Rattle.f77_tree.specs.declared.programs.Item.TheVariants.{Value, Chars}
 use Rattle.f77_tree.specs.declared.programs.Program.{Program}
 use Rattle.f77_tree.specs.Value.{place_of}
+use Rattle.alias_classes.specs.Writes.{ExecWrites}
 use Rattle.alias_classes.specs.Classes.{ClassTable, class_of_word}
 use Rattle.alias_classes.specs.Needs.{Hits, ExprNeeds}
 use Rattle.cfg_build.specs.declared.pieces.Piece.{Piece}
@@ -66,13 +67,6 @@ pub record Computes (p : Program) (f : FlowGraph) (e : Expr) (node : ℕ) : Type
   pub stands : Contains (computed_by p.execs (piece_at f.pieces node)) e
 
 -- ---- classes
-
--- n is a class that an executable writes: an assignment each one that its target hits, a DO that of its variable's word
-abbrev pub ExecWrites : ClassTable → ExecKind → ℕ → Type 0
-ExecWrites c (Assign target value next) n = Hits c target n
-ExecWrites c (DoStart loop_no var first last step body exit) n = class_of_word c (place_of c.names var) ≡ n
-ExecWrites c (DoNext loop_no var body exit) n = class_of_word c (place_of c.names var) ≡ n
-ExecWrites c _ n = ⊥
 
 -- only an act writes
 abbrev pub PieceWrites : ClassTable → PieceKind → ExecKind → ℕ → Type 0

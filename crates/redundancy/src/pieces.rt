@@ -10,7 +10,8 @@ ghost use Rattle.f77_tree.specs.WellFormed.{IsWellFormed};
 ghost use Rattle.cfg_build.specs.Flow.{piece_at};
 ghost use Rattle.redundancy.specs.Candidates.{subexpressions};
 ghost use Rattle.redundancy.specs.Collected.{IsGrown, all_subexpressions};
-ghost use Rattle.redundancy.specs.Computed.{expressions, selectors, in_item, computed_by, kind_of_piece, ExecWrites, PieceWrites};
+ghost use Rattle.redundancy.specs.Computed.{expressions, selectors, in_item, computed_by, kind_of_piece, PieceWrites};
+ghost use Rattle.alias_classes.specs.Writes.{ExecWrites};
 ghost use Rattle.redundancy.specs.Fitting.{ExecFits, TargetFits, IsScalarName, WritesAt};
 
 use crate::collect::{collect, collect_all};

@@ -1,7 +1,8 @@
 use Rattle.std.proofs.Common.{◌==◌, ℕ, filter, get_or, subst, ap, ◌∙◌, take_all}
 use Rattle.closed_walks.specs.Graph.{from, edges_at}
 use Rattle.closed_walks.specs.Walk.{Holds}
-use Rattle.const_prop.proofs.Rows.{edges-outs, Holds-at}
+use Rattle.closed_walks.proofs.Held.{Holds-at}
+use Rattle.const_prop.proofs.Rows.{edges-outs}
 use Rattle.const_prop.proofs.setting.out_row.Goals as goal
 
 pub from-requires : goal.from-requires

@@ -6,8 +6,8 @@ use Rattle.const_prop.specs.declared.known.Known.TheVariants.{Any}
 use Rattle.const_prop.specs.Known.{AtMost}
 use Rattle.const_prop.specs.Work.{so_far}
 use Rattle.const_prop.proofs.Order.{at_most-trans, at_most-any}
-use Rattle.const_prop.proofs.Rising.{and_true}
 use Rattle.const_prop.proofs.work.Work.pass_along.Goals as goal
+use Rattle.std.proofs.lemmas.Bool.{and_from}
 
 pub returns-clause-passed : goal.returns-clause-passed
 returns-clause-passed g c = λ k is.
@@ -31,5 +31,5 @@ returns-clause-passed g c = λ k is.
     (λ (later : holds c.intersection-at_once.result k ≡ false).
     at_most-trans ((so_far old).value k edge) ((so_far mid).value k edge) ((so_far new).value k led)
     (c.raise_to_any.ensures.rises.grows k edge inside c.requires.edge)
-    (c.pass_each.ensures.passed k (c.difference.ensures k ∙ and_true (holds c.args.lines.now k) (not (holds c.intersection-at_once.result k)) is (ap not later))))
+    (c.pass_each.ensures.passed k (c.difference.ensures k ∙ and_from (holds c.args.lines.now k) (not (holds c.intersection-at_once.result k)) is (ap not later))))
     (cases_Bool (holds c.intersection-at_once.result k))
