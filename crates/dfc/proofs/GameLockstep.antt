@@ -9,12 +9,12 @@ use Rattle.dep_routing.specs.Touches.{AreTouches}
 use Rattle.firing.specs.Pacing.{FollowsSource, IsSimulation, Stage}
 use Rattle.firing.specs.SourceOrder.{IsDueOrder}
 use Rattle.net_board.specs.SoundNets.{CanCome, IsNet}
-use Rattle.net_board.specs.FlowFacts.{FlowFacts}
 use Rattle.net_board.specs.ControlCourse.{first_control, net_course}
 use Rattle.net_board.specs.Nodes.{NetOf}
 use Rattle.net_board.specs.OwnOrder.{own_order}
+use Rattle.net_board.specs.Simulation.{AreFew, HasOwnTouches, IsDueInTurn, Simulates}
 use Rattle.net_board.specs.NetParts.{AreParts, net_with}
-use Rattle.net_board.specs.ProgramStages.{RunFacts, program_stage, program_text}
+use Rattle.net_board.specs.ProgramStages.{program_stage, program_text}
 use Rattle.net_board.specs.Tokens.{Tokens, first_tokens, net_moves}
 use Rattle.dfc.specs.Game.{IsNetOn}
 use Rattle.dfc.specs.GameLaws.{OneOfEach}
@@ -24,24 +24,20 @@ use Rattle.dfc.specs.Lockstep.{StaysInLockstep}
 pub record LockstepLaws : Type 0 where
   pub made : (p : Program) (f : FlowGraph) (touches : (piece line : ℕ) → Bool) (routing : Routing) (input : List ℤ) → AreParts p f touches routing → All IsWord input → IsNet (net_with p input touches routing)
   pub begins : (net : NetOf) → IsNet net → CanCome net (first_tokens net)
-  pub flows : (net : NetOf) (n : IsNet net) → AreTouches net.program n.classes net.touches → FlowFacts net n.tree
-  pub runs : (net : NetOf) (n : IsNet net) → RunFacts net n.tree
-  pub simulated : (net : NetOf) (n : IsNet net) → FlowFacts net n.tree → RunFacts net n.tree → IsSimulation (net_moves net) (first_tokens net) (program_text net) (program_stage net) (own_order net)
-  pub due : (net : NetOf) (n : IsNet net) → FlowFacts net n.tree → (steps : ℕ) → IsDueOrder (net_moves net) (net_course net) (first_tokens net) (first_control net) (own_order net steps)
-  pub few : (net : NetOf) (n : IsNet net) → FlowFacts net n.tree → (steps : ℕ) → length (own_order net steps) ≤ 5 * net.routing.lines * steps
+  pub simulated : (net : NetOf) (n : IsNet net) → HasOwnTouches net n → Simulates net
+  pub due : (net : NetOf) (n : IsNet net) → HasOwnTouches net n → (steps : ℕ) → IsDueInTurn net steps
+  pub few : (net : NetOf) (n : IsNet net) → HasOwnTouches net n → (steps : ℕ) → AreFew net steps
   pub follows : (net : NetOf) (start : Tokens) (text : ℕ → List ℕ) (stage : ℕ → Stage) (own : ℕ → List ℕ) → CanCome net start → IsSimulation (net_moves net) start text stage own → FollowsSource (net_moves net) start text stage own
 
 module _ (each : OneOfEach) (laws : LockstepLaws) where
   of_net : (net : NetOf) (n : IsNet net) → AreTouches net.program n.classes net.touches → StaysInLockstep net
   of_net net n touches =
-      let flows = laws.flows net n touches in
-      let runs = laws.runs net n in
-      let simulated = laws.simulated net n flows runs in
+      let simulated = laws.simulated net n touches in
       record {
         simulated = simulated;
         follows = laws.follows net (first_tokens net) (program_text net) (program_stage net) (own_order net) (laws.begins net n) simulated;
-        due = laws.due net n flows;
-        few = laws.few net n flows;
+        due = laws.due net n touches;
+        few = laws.few net n touches;
       }
 
   pub stays_in_lockstep : (net : NetOf) (p : Program) (words : List ℤ) → IsNetOn p words net → StaysInLockstep net

@@ -23,10 +23,7 @@ use dep_routing::next_edges;
 use df_io::{NoMemory, Sink};
 use f77_tree::{Program, runs_stop_first};
 use firing::{due_orders_end, every_order_follows, runs_end};
-use net_board::{
-    flow_graphs_ground_nets, nets_begin_soundly, nets_simulate_programs, parts_make_nets,
-    runs_ground_nets,
-};
+use net_board::{nets_begin_soundly, nets_simulate_programs, parts_make_nets};
 use region_tree::one_tree;
 use std::alloc::Global;
 use token_net::Net;
@@ -127,8 +124,6 @@ fn game_laws()
     every_order_follows::<Net<'static, 16>>();
     parts_make_nets();
     nets_begin_soundly();
-    flow_graphs_ground_nets();
-    runs_ground_nets();
     nets_simulate_programs();
     one_numbering();
     one_tree();
