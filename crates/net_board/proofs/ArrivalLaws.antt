@@ -1,5 +1,5 @@
 -- Control comes to a piece with nodes, or to the end.
-use Rattle.std.proofs.Common.{◌≡◌, ℕ, zero, suc, ◌+◌, ◌<◌, ◌≤◌, ◌⊎◌, ◌&&◌, ◌==◌, Bool, true, false, not, if◌then◌else◌, length, refl, sym, ap, ◌∙◌, subst, inl, inr, ⊎_elim, arith, eqb-true}
+use Rattle.std.proofs.Common.{◌≡◌, ℕ, zero, suc, ◌+◌, ◌-◌, ◌<◌, ◌≤◌, ◌⊎◌, ◌&&◌, ◌==◌, Bool, true, false, not, if◌then◌else◌, length, refl, sym, ap, ◌∙◌, subst, inl, inr, ⊎_elim, arith, eqb-true}
 use Rattle.std.proofs.lemmas.Bool.{cases_Bool, or_cases, false≢true}
 use Rattle.closed_walks.specs.Graph.{edge_count, from, to}
 use Rattle.closed_walks.specs.Reaching.{any_below, reaches_within}
@@ -7,18 +7,13 @@ use Rattle.cfg_build.specs.declared.pieces.PieceKind.TheVariants as kind
 use Rattle.cfg_build.specs.Joined.{is_end, finish}
 use Rattle.cfg_build.specs.Passes.{out}
 use Rattle.cfg_build.specs.Shape.{leaves_one}
-use Rattle.net_board.specs.SoundNets.{IsNet}
-use Rattle.net_board.specs.FlowFacts.{FlowFacts, IsNearEnd}
-use Rattle.net_board.specs.ControlCourse.{is_idle, passed, passed_by, arrival}
+use Rattle.net_board.specs.FlowFacts.{GraphFacts, IsNearEnd}
+use Rattle.net_board.specs.ControlCourse.{is_idle, passed, passed_times, passed_by, arrival}
 use Rattle.net_board.specs.Nodes.{NetOf, graph_in, kind_in, nodes_by}
 use Rattle.net_board.proofs.ControlWays.{idle_leaves_one}
 use Rattle.std.proofs.lemmas.Bool.{and_parts}
 
 -- ---- past idle pieces one by one
-
-abbrev passed_times : NetOf → (times edge : ℕ) → ℕ
-passed_times net zero edge = edge
-passed_times net (suc n) edge = passed_times net n (passed net edge)
 
 times_add : (net : NetOf) (a b edge : ℕ) → passed_times net (a + b) edge ≡ passed_times net b (passed_times net a edge)
 times_add net zero b edge = ap (λ (n : ℕ). passed_times net n edge) zero_plus
@@ -56,7 +51,7 @@ one_below (suc k) test is = ⊎_elim
     (λ (h : test k ≡ true). record { one = k; below = omega arith; passes = h })
     (or_cases (any_below k test) (test k) is)
 
-module _ (net : NetOf) (is_net : IsNet net) (ground : FlowFacts net is_net.tree) where
+module _ (net : NetOf) (graph : GraphFacts net) where
   passed_busy : (edge : ℕ) → is_idle net (to (graph_in net) edge) ≡ false → passed net edge ≡ edge
   passed_busy edge busy = ap (λ (b : Bool). if b then out (graph_in net) (to (graph_in net) edge) 0 else edge) busy
 
@@ -70,7 +65,7 @@ module _ (net : NetOf) (is_net : IsNet net) (ground : FlowFacts net is_net.tree)
   end_busy : (edge : ℕ) → edge < edge_count (graph_in net) → to (graph_in net) edge ≡ finish net.program.execs → IsBusyAt edge
   end_busy edge inside is =
       let piece = to (graph_in net) edge in
-      let end_kind : kind_in net piece ≡ kind.End = (ground.shape.end piece (ground.heads edge inside)).1 is in
+      let end_kind : kind_in net piece ≡ kind.End = (graph.shape.end piece (graph.heads edge inside)).1 is in
       ap (λ k. (length (nodes_by net piece k) == 0) && not (is_end k)) end_kind ∙ and_false (length (nodes_by net piece kind.End) == 0)
     where
       and_false : (b : Bool) → (b && false) ≡ false
@@ -90,7 +85,7 @@ module _ (net : NetOf) (is_net : IsNet net) (ground : FlowFacts net is_net.tree)
           let begins : from (graph_in net) found.one ≡ piece = eqb-true (from (graph_in net) found.one) piece ((and_parts (from (graph_in net) found.one == piece) (reaches_within most (graph_in net) (to (graph_in net) found.one) (finish net.program.execs)) found.passes).0) in
           let within = (and_parts (from (graph_in net) found.one == piece) (reaches_within most (graph_in net) (to (graph_in net) found.one) (finish net.program.execs)) found.passes).1 in
           let one_way : leaves_one (kind_in net (from (graph_in net) found.one)) ≡ true = ap (λ (x : ℕ). leaves_one (kind_in net x)) begins ∙ idle_leaves_one net piece (kind_in net piece) idle in
-          let same : found.one ≡ next = ground.one_out found.one found.below one_way ∙ ap (λ (x : ℕ). out (graph_in net) x 0) begins ∙ sym is in
+          let same : found.one ≡ next = graph.one_out found.one found.below one_way ∙ ap (λ (x : ℕ). out (graph_in net) x 0) begins ∙ sym is in
           later (subst (λ (x : ℕ). x < edge_count (graph_in net)) same found.below) (subst (λ (x : ℕ). reaches_within most (graph_in net) (to (graph_in net) x) (finish net.program.execs) ≡ true) same within)
 
       by : ((next : ℕ) → next < edge_count (graph_in net) → reaches_within most (graph_in net) (to (graph_in net) next) (finish net.program.execs) ≡ true → IsBusyAt (passed_times net n next)) → (is_idle net (to (graph_in net) edge) ≡ true) ⊎ IsBusyAt edge → IsBusyAt (passed_times net (suc n) edge)
@@ -105,29 +100,37 @@ module _ (net : NetOf) (is_net : IsNet net) (ground : FlowFacts net is_net.tree)
           on (passed net edge) (later (passed net edge)) found idle step)
           (or_cases (to (graph_in net) edge == finish net.program.execs) (any_below (edge_count (graph_in net)) (λ e. (from (graph_in net) e == to (graph_in net) edge) && reaches_within most (graph_in net) (to (graph_in net) e) (finish net.program.execs))) reached)
 
-  busy_by : (k edge : ℕ) → 262144 ≤ doubled k → edge < edge_count (graph_in net) → IsBusyAt (passed_by k net edge)
-  busy_by k edge enough inside =
-      let near : IsNearEnd (graph_in net) (to (graph_in net) edge) (finish net.program.execs) = ground.near_end (to (graph_in net) edge) (ground.heads edge inside) in
+  busy_far : (n edge : ℕ) → (graph_in net).nodes ≤ n → edge < edge_count (graph_in net) → IsBusyAt (passed_times net n edge)
+  busy_far n edge enough inside =
+      let near : IsNearEnd (graph_in net) (to (graph_in net) edge) (finish net.program.execs) = graph.near_end (to (graph_in net) edge) (graph.heads edge inside) in
       let few = near.few in
-      subst IsBusyAt (sym (by_times net k edge)) (busy_after near.most (doubled k) edge (omega (arith, few, enough)) inside near.reached)
+      busy_after near.most n edge (omega (arith, few, enough)) inside near.reached
 
   pub arrival_busy : (edge : ℕ) → edge < edge_count (graph_in net) → is_idle net (arrival net edge) ≡ false
-  arrival_busy edge inside = busy_by 18 edge (omega arith) inside
+  arrival_busy edge inside = busy_far (graph_in net).nodes edge (omega arith) inside
 
   -- control that comes to a piece with nodes, or to the end, comes no farther
-  pub arrived_busy : (k edge : ℕ) → is_idle net (to (graph_in net) edge) ≡ false → passed_by k net edge ≡ edge
-  arrived_busy k edge busy = by_times net k edge ∙ stays_busy (doubled k) edge busy
+  pub arrived_busy : (n edge : ℕ) → is_idle net (to (graph_in net) edge) ≡ false → passed_times net n edge ≡ edge
+  arrived_busy n edge busy = stays_busy n edge busy
 
-  past_by : (k edge : ℕ) → 262144 ≤ doubled k → edge < edge_count (graph_in net) → passed_by k net (passed net edge) ≡ passed_by k net edge
-  past_by k edge enough inside =
-      let one_more : suc (doubled k) ≡ doubled k + 1 = omega arith in
-      let busy : IsBusyAt (passed_times net (doubled k) edge) = subst IsBusyAt (by_times net k edge) (busy_by k edge enough inside) in
-      by_times net k (passed net edge)
-      ∙ ap (λ (n : ℕ). passed_times net n edge) one_more
-      ∙ times_add net (doubled k) 1 edge
-      ∙ passed_busy (passed_times net (doubled k) edge) busy
-      ∙ sym (by_times net k edge)
+  -- nor does it after more pieces than there are
+  no_farther : (more edge : ℕ) → edge < edge_count (graph_in net) → passed_times net ((graph_in net).nodes + more) edge ≡ passed_times net (graph_in net).nodes edge
+  no_farther more edge inside = times_add net (graph_in net).nodes more edge ∙ stays_busy more (passed_times net (graph_in net).nodes edge) (arrival_busy edge inside)
+
+  far_enough : (n edge : ℕ) → (graph_in net).nodes ≤ n → edge < edge_count (graph_in net) → passed_times net n edge ≡ passed_times net (graph_in net).nodes edge
+  far_enough n edge enough inside =
+      let split : n ≡ (graph_in net).nodes + (n - (graph_in net).nodes) = omega (arith, enough) in
+      ap (λ (k : ℕ). passed_times net k edge) split ∙ no_farther (n - (graph_in net).nodes) edge inside
 
   -- past an idle piece control comes to the same place
-  pub arrival_past : (edge : ℕ) → edge < edge_count (graph_in net) → passed_by 18 net (passed net edge) ≡ passed_by 18 net edge
-  arrival_past edge inside = past_by 18 edge (omega arith) inside
+  pub arrival_past : (edge : ℕ) → edge < edge_count (graph_in net) → passed_times net (graph_in net).nodes (passed net edge) ≡ passed_times net (graph_in net).nodes edge
+  arrival_past edge inside = far_enough (suc (graph_in net).nodes) edge (omega arith) inside
+
+  doublings_reach : (k edge : ℕ) → 262144 ≤ doubled k → edge < edge_count (graph_in net) → passed_by k net edge ≡ passed_times net (graph_in net).nodes edge
+  doublings_reach k edge enough inside =
+      let few = graph.few_pieces in
+      by_times net k edge ∙ far_enough (doubled k) edge (omega (arith, few, enough)) inside
+
+  -- 18 doublings go past more pieces than there are
+  pub arrival_by_doublings : (edge : ℕ) → edge < edge_count (graph_in net) → to (graph_in net) (passed_by 18 net edge) ≡ arrival net edge
+  arrival_by_doublings edge inside = ap (to (graph_in net)) (doublings_reach 18 edge (omega arith) inside)

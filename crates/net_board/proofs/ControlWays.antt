@@ -14,7 +14,7 @@ use Rattle.dep_routing.specs.Touches.{exec_kind}
 use Rattle.net_board.specs.WithinPiece.{leaving, memory_or, IsAmid}
 use Rattle.net_board.specs.SoundNets.{IsNet}
 use Rattle.net_board.specs.FlowFacts.{FlowFacts}
-use Rattle.net_board.specs.ControlCourse.{is_idle, passed, passed_by}
+use Rattle.net_board.specs.ControlCourse.{is_idle, passed, passed_times}
 use Rattle.net_board.specs.NetLockstep.{IsBetween, IsOnWay}
 use Rattle.net_board.specs.Nodes.{NetOf, graph_in, kind_in, nodes_by, node_count}
 use Rattle.net_board.specs.Tokens.{Tokens, pass_at}
@@ -68,13 +68,13 @@ state_along net n edge d memory new text way along = by (passes net.program net.
 module _ (net : NetOf) (is_net : IsNet net) (ground : FlowFacts net is_net.tree) where
   pub along_exists : (edge d : ℕ) (memory new : Memory) (text : List ℕ) → edge < edge_count (graph_in net) → pass net.program net.input edge memory ≡ Along d new text → (d < edge_count (graph_in net)) × (from (graph_in net) d ≡ to (graph_in net) edge)
   along_exists edge d memory new text inside along =
-      subst (λ (made : Passed). IfAlong made (λ next new text. (next < edge_count (graph_in net)) × (from (graph_in net) next ≡ to (graph_in net) edge))) along (ground.passes_on edge memory inside)
+      subst (λ (made : Passed). IfAlong made (λ next new text. (next < edge_count (graph_in net)) × (from (graph_in net) next ≡ to (graph_in net) edge))) along (ground.graph.passes_on edge memory inside)
 
   -- the end has no pass along an edge
   not_end : (edge d : ℕ) (memory new : Memory) (text : List ℕ) → edge < edge_count (graph_in net) → pass net.program net.input edge memory ≡ Along d new text → to (graph_in net) edge ≡ finish net.program.execs → ⊥
   not_end edge d memory new text inside along is =
       let piece = to (graph_in net) edge in
-      let end_kind : kind_in net piece ≡ kind.End = (ground.shape.end piece (ground.heads edge inside)).1 is in
+      let end_kind : kind_in net piece ≡ kind.End = (ground.graph.shape.end piece (ground.graph.heads edge inside)).1 is in
       let made : pass net.program net.input edge memory ≡ Done = ap (λ k. pass_of net.program net.input memory (out (graph_in net) piece) k (exec_kind net.program piece)) end_kind in
       let clash : Done ≡ Along d new text = sym made ∙ along in
       cc
@@ -86,7 +86,7 @@ module _ (net : NetOf) (is_net : IsNet net) (ground : FlowFacts net is_net.tree)
       by (suc d) along = omega arith
       by zero along =
           let h = along_exists edge 0 memory new text inside along in
-          absurd (not_end edge 0 memory new text inside along (sym h.1 ∙ (ground.shape.leaves_end 0 h.0).1 refl))
+          absurd (not_end edge 0 memory new text inside along (sym h.1 ∙ (ground.graph.shape.leaves_end 0 h.0).1 refl))
 
   pub way_on : (n edge d : ℕ) (memory new : Memory) (text : List ℕ) → IsOnWay net n edge memory → pass net.program net.input edge memory ≡ Along d new text → IsOnWay net (suc n) d new
   way_on n edge d memory new text way along =
@@ -102,7 +102,7 @@ module _ (net : NetOf) (is_net : IsNet net) (ground : FlowFacts net is_net.tree)
   -- control has left the start
   pub not_start : (n edge : ℕ) (memory : Memory) → IsOnWay net n edge memory → 0 ≢ to (graph_in net) edge
   not_start n edge memory way is =
-      let e : edge ≡ 0 = (ground.shape.comes_to_start edge way.exists).0 (sym is) in
+      let e : edge ≡ 0 = (ground.graph.shape.comes_to_start edge way.exists).0 (sym is) in
       let later = way.later in
       omega (arith, e, later)
 
@@ -140,7 +140,6 @@ module _ (net : NetOf) (is_net : IsNet net) (ground : FlowFacts net is_net.tree)
       by (inl idle) = subst (λ (b : Bool). IsThere m (if b then out (graph_in net) (to (graph_in net) edge) 0 else edge)) (sym idle) (past_idle m edge idle there)
       by (inr busy) = subst (λ (b : Bool). IsThere m (if b then out (graph_in net) (to (graph_in net) edge) 0 else edge)) (sym busy) there
 
-  pub there_passed_by : (k : ℕ) (m : Tokens) (edge : ℕ) → IsThere m edge → IsThere m (passed_by k net edge)
-  unfolding passed_by
-  there_passed_by zero m edge there = there_passed m edge there
-  there_passed_by (suc k) m edge there = there_passed_by k m (passed_by k net edge) (there_passed_by k m edge there)
+  pub there_passed_times : (n : ℕ) (m : Tokens) (edge : ℕ) → IsThere m edge → IsThere m (passed_times net n edge)
+  there_passed_times zero m edge there = there
+  there_passed_times (suc n) m edge there = there_passed_times n m (passed net edge) (there_passed m edge there)

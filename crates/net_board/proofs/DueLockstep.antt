@@ -20,7 +20,7 @@ use Rattle.net_board.specs.declared.control.Control.{Control}
 use Rattle.net_board.specs.WithinPiece.{leaving, IsAmid}
 use Rattle.net_board.specs.SoundNets.{IsNet}
 use Rattle.net_board.specs.FlowFacts.{FlowFacts}
-use Rattle.net_board.specs.ControlCourse.{is_idle, passed, passed_by, arrived, edge_or, taken, due_node, moved_on, net_course, first_control}
+use Rattle.net_board.specs.ControlCourse.{is_idle, passed, passed_times, arrived, edge_or, taken, due_node, moved_on, net_course, first_control}
 use Rattle.net_board.specs.NetLockstep.{IsBetween, IsOnWay}
 use Rattle.net_board.specs.Nodes.{NetOf, graph_in, kind_in, nodes_at, nodes_of, node_count, first_node}
 use Rattle.net_board.specs.OwnOrder.{firings_of, firings_from, own_passes}
@@ -141,7 +141,7 @@ module _ (net : NetOf) (is_net : IsNet net) (ground : FlowFacts net is_net.tree)
         let none : node_count net piece ≡ 0 = eqb-true (node_count net piece) 0 ((and_parts (node_count net piece == 0) (not (is_end (kind_in net piece))) idle).0) in
         let nothing : firings_of net piece (pass net.program net.input x.edge x.memory) ≡ [] = ap (firings_of net piece) along ∙ ap (range_with_len (first_node net piece)) none in
         let step : passed net x.edge ≡ d = ap (λ (b : Bool). if b then out (graph_in net) (to (graph_in net) x.edge) 0 else x.edge) idle in
-        let same : arrived net x.edge ≡ arrived net d = ap (λ (e : ℕ). record { piece = to (graph_in net) e; fired = 0; leaves = 0 }) (sym (arrival_past net is_net ground x.edge stands.1) ∙ ap (passed_by 18 net) step) in
+        let same : arrived net x.edge ≡ arrived net d = ap (λ (e : ℕ). record { piece = to (graph_in net) e; fired = 0; leaves = 0 }) (sym (arrival_past net ground.graph x.edge stands.1) ∙ ap (passed_times net (graph_in net).nodes) step) in
         let next : after_pass x (line_at net.program x.edge) (pass net.program net.input x.edge x.memory) ≡ after_pass x (line_at net.program x.edge) (Along d x.memory []) = ap (after_pass x (line_at net.program x.edge)) along in
         record {
           due = subst (IsDueOrder (net_moves net) (net_course net) m (arrived net x.edge)) (sym nothing) tt;
@@ -150,7 +150,7 @@ module _ (net : NetOf) (is_net : IsNet net) (ground : FlowFacts net is_net.tree)
 
     module _ (busy : is_idle net (to (graph_in net) (passes net.program net.input n).edge) ≡ false) where
       here : arrived net (passes net.program net.input n).edge ≡ record { piece = to (graph_in net) (passes net.program net.input n).edge; fired = 0; leaves = 0 }
-      here = ap (λ (e : ℕ). record { piece = to (graph_in net) e; fired = 0; leaves = 0 }) (arrived_busy net is_net ground 18 (passes net.program net.input n).edge busy)
+      here = ap (λ (e : ℕ). record { piece = to (graph_in net) e; fired = 0; leaves = 0 }) (arrived_busy net ground.graph (graph_in net).nodes (passes net.program net.input n).edge busy)
 
       due_busy : (made : Passed) → pass net.program net.input (passes net.program net.input n).edge (passes net.program net.input n).memory ≡ made → IsDueBeside m (record { piece = to (graph_in net) (passes net.program net.input n).edge; fired = 0; leaves = 0 }) (firings_of net (to (graph_in net) (passes net.program net.input n).edge) made) (after_pass (passes net.program net.input n) (line_at net.program (passes net.program net.input n).edge) made)
       due_busy (Along d new text) is =

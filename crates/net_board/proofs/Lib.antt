@@ -24,3 +24,5 @@ pub mod OrderBounds
 pub mod OneWayNodes
 pub mod TouchKinds
 pub mod RunEnds
+pub mod StandingLaws
+pub mod LoneEnds

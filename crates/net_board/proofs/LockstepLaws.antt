@@ -13,7 +13,7 @@ use Rattle.net_board.specs.declared.control.Control.{Control}
 use Rattle.net_board.specs.WithinPiece.{leaving, memory_or, memory_amid, IsAmid}
 use Rattle.net_board.specs.SoundNets.{IsNet, CanCome}
 use Rattle.net_board.specs.FlowFacts.{FlowFacts}
-use Rattle.net_board.specs.ControlCourse.{is_idle, passed_by, arrived, edge_or, taken, due_node, moved_on, net_course}
+use Rattle.net_board.specs.ControlCourse.{is_idle, passed_times, arrived, edge_or, taken, due_node, moved_on, net_course}
 use Rattle.net_board.specs.NetLockstep.{IsBetween, IsOnWay, IsInLockstep}
 use Rattle.net_board.specs.Nodes.{NetOf, graph_in, kind_in, nodes_at, node_count, node_at, first_node}
 use Rattle.net_board.specs.Tokens.{Tokens, net_moves, pass_at, fired_as, ready_as}
@@ -21,7 +21,7 @@ use Rattle.net_board.proofs.ArrivalLaws.{arrival_busy}
 use Rattle.net_board.proofs.ListPrefixes.{HasItem, item_at}
 use Rattle.net_board.proofs.PieceEnds.{none_fired, all_fired}
 use Rattle.net_board.proofs.PieceSteps.{node_named, ready_next, further}
-use Rattle.net_board.proofs.ControlWays.{IsThere, along_exists, way_on, not_start, there_passed_by}
+use Rattle.net_board.proofs.ControlWays.{IsThere, along_exists, way_on, not_start, there_passed_times}
 
 -- ---- which node is due
 
@@ -74,7 +74,7 @@ in_lockstep_there net is_net ground m edge there busy =
     some_nodes (suc n) b busy not_end = omega arith
 
 pub in_lockstep_arrived : (net : NetOf) (is_net : IsNet net) (ground : FlowFacts net is_net.tree) (m : Tokens) (edge : ℕ) → edge < edge_count (graph_in net) → IsThere net is_net ground m edge → IsInLockstep net m (arrived net edge)
-in_lockstep_arrived net is_net ground m edge inside there = in_lockstep_there net is_net ground m (passed_by 18 net edge) (there_passed_by net is_net ground 18 m edge there) (arrival_busy net is_net ground edge inside)
+in_lockstep_arrived net is_net ground m edge inside there = in_lockstep_there net is_net ground m (passed_times net (graph_in net).nodes edge) (there_passed_times net is_net ground (graph_in net).nodes m edge there) (arrival_busy net ground.graph edge inside)
 
 -- ---- the node that is due
 
@@ -88,7 +88,7 @@ traps_touch net is_net n edge piece memory way comes trap =
 
 module _ (net : NetOf) (m : Tokens) (c : Control) (lockstep : IsInLockstep net m c) where
   pub piece_exists : c.piece < (graph_in net).nodes
-  piece_exists = let way = lockstep.way in subst (λ (x : ℕ). x < (graph_in net).nodes) lockstep.comes (lockstep.ground.heads lockstep.edge way.exists)
+  piece_exists = let way = lockstep.way in subst (λ (x : ℕ). x < (graph_in net).nodes) lockstep.comes (lockstep.ground.graph.heads lockstep.edge way.exists)
 
   pub later : 0 ≢ c.piece
   later is = not_start net lockstep.is_net lockstep.ground lockstep.passes_made lockstep.edge lockstep.memory lockstep.way (is ∙ sym lockstep.comes)
@@ -148,7 +148,7 @@ module _ (net : NetOf) (m : Tokens) (c : Control) (lockstep : IsInLockstep net m
     leave m' amid all not_end Done is =
         let way = lockstep.way in
         let ended : pass net.program net.input lockstep.edge lockstep.memory ≡ Done = ap (λ (x : ℕ). pass_at net x lockstep.memory) lockstep.comes ∙ is in
-        let end_kind : kind_in net c.piece ≡ kind.End = ap (kind_in net) (sym lockstep.comes) ∙ lockstep.ground.ends lockstep.edge lockstep.memory way.exists ended in
+        let end_kind : kind_in net c.piece ≡ kind.End = ap (kind_in net) (sym lockstep.comes) ∙ lockstep.ground.graph.ends lockstep.edge lockstep.memory way.exists ended in
         let clash : true ≡ false = sym (ap is_end end_kind) ∙ not_end in
         absurd cc
 

@@ -97,7 +97,7 @@ on_one_way g node flow exists later one_in one_leaves =
 
 -- ---- the end
 
--- a walk that takes no node twice is short where the nodes are few
-pub near_end : (g : Graph) (node end : ℕ) → g.nodes ≤ 262144 → reaches g node end ≡ true → IsNearEnd g node end
+-- a walk that takes no node twice has no more edges than there are nodes
+pub near_end : (g : Graph) (node end : ℕ) → reaches g node end ≡ true → IsNearEnd g node end
 unfolding reaches
-near_end g node end few reached = record { most = g.nodes; few = few; reached = reached }
+near_end g node end reached = record { most = g.nodes; few = omega arith; reached = reached }

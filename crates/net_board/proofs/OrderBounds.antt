@@ -13,11 +13,11 @@ use Rattle.firing.specs.Orders.{after}
 use Rattle.firing.specs.declared.system.NodeName.{NodeName}
 use Rattle.firing.specs.declared.system.NodeName.TheVariants.{Merge, Switch}
 use Rattle.net_board.specs.SoundNets.{IsNet}
-use Rattle.net_board.specs.FlowFacts.{FlowFacts, has_act}
+use Rattle.net_board.specs.FlowFacts.{FlowFacts}
 use Rattle.list_laws.specs.Member.{Member}
 use Rattle.net_board.specs.NetLockstep.{IsInLockstep}
 use Rattle.net_board.specs.ControlCourse.{first_control}
-use Rattle.net_board.specs.Nodes.{NetOf, graph_in, kind_in, is_free, all_lines, led_to, passing, nodes_by, node_count, first_node}
+use Rattle.net_board.specs.Nodes.{NetOf, graph_in, kind_in, is_acting, is_free, all_lines, led_to, passing, nodes_by, node_count, first_node}
 use Rattle.net_board.specs.OwnOrder.{firings_of, firings_from, own_passes, own_order}
 use Rattle.net_board.specs.ProgramStages.{RunFacts}
 use Rattle.net_board.specs.Tokens.{Tokens, net_moves, first_tokens}
@@ -77,7 +77,7 @@ module _ (net : NetOf) (is_net : IsNet net) (ground : FlowFacts net is_net.tree)
   all_long = length_range 0 net.routing.lines
 
   -- one node for what the piece touches, and a switch for each other line at most
-  acting_few : (piece : ℕ) → piece < (graph_in net).nodes → has_act (kind_in net piece) ≡ true → suc (length (passing net piece)) ≤ net.routing.lines
+  acting_few : (piece : ℕ) → piece < (graph_in net).nodes → is_acting (kind_in net piece) ≡ true → suc (length (passing net piece)) ≤ net.routing.lines
   acting_few piece exists acts =
       let line = ground.touch_some piece exists acts in
       let low = line.1 in
@@ -91,9 +91,9 @@ module _ (net : NetOf) (is_net : IsNet net) (ground : FlowFacts net is_net.tree)
       and_false false = refl
 
   nodes_few : (piece : ℕ) (k : PieceKind) → piece < (graph_in net).nodes → kind_in net piece ≡ k → length (nodes_by net piece k) ≤ net.routing.lines
-  nodes_few piece kind.Act exists is = let few = acting_few piece exists (ap has_act is) in omega (arith, few)
-  nodes_few piece kind.Branch exists is = let few = acting_few piece exists (ap has_act is) in let long = length_map (Switch piece) (passing net piece) in omega (arith, few, long)
-  nodes_few piece kind.Hold exists is = let few = acting_few piece exists (ap has_act is) in let long = length_map (Switch piece) (passing net piece) in omega (arith, few, long)
+  nodes_few piece kind.Act exists is = let few = acting_few piece exists (ap is_acting is) in omega (arith, few)
+  nodes_few piece kind.Branch exists is = let few = acting_few piece exists (ap is_acting is) in let long = length_map (Switch piece) (passing net piece) in omega (arith, few, long)
+  nodes_few piece kind.Hold exists is = let few = acting_few piece exists (ap is_acting is) in let long = length_map (Switch piece) (passing net piece) in omega (arith, few, long)
   nodes_few piece kind.Join exists is = let most = filter_most (is_free net piece) (all_lines net) in let long = all_long in let same = length_map (Merge piece) (led_to net piece) in omega (arith, most, long, same)
   nodes_few piece kind.End exists is = let most = filter_most (is_free net piece) (all_lines net) in let long = all_long in let same = length_map (Merge piece) (led_to net piece) in omega (arith, most, long, same)
   nodes_few piece kind.Start exists is = omega arith
@@ -108,7 +108,7 @@ module _ (net : NetOf) (is_net : IsNet net) (ground : FlowFacts net is_net.tree)
   firings_few piece (Traps trap) exists = some_line
 
   pass_few : (n : ℕ) (mark : Mark) → StandsBeside net is_net ground (after (net_moves net) (first_tokens net) (own_passes net n)) (passes net.program net.input n) mark → length (firings_from net (passes net.program net.input n) mark) ≤ net.routing.lines
-  pass_few n Running stands = firings_few (to (graph_in net) (passes net.program net.input n).edge) (pass net.program net.input (passes net.program net.input n).edge (passes net.program net.input n).memory) (ground.heads (passes net.program net.input n).edge stands.1)
+  pass_few n Running stands = firings_few (to (graph_in net) (passes net.program net.input n).edge) (pass net.program net.input (passes net.program net.input n).edge (passes net.program net.input n).memory) (ground.graph.heads (passes net.program net.input n).edge stands.1)
   pass_few n Ended stands = omega arith
   pass_few n (Trapped trap line) stands = omega arith
 
@@ -151,7 +151,7 @@ module _ (net : NetOf) (is_net : IsNet net) (ground : FlowFacts net is_net.tree)
 
   pub begins_in_lockstep : IsInLockstep net (first_tokens net) (first_control net)
   begins_in_lockstep =
-      let two = ground.shape.two_edges in
+      let two = ground.graph.shape.two_edges in
       let there : IsThere net is_net ground (first_tokens net) 1 = record {
         passes_made = 0;
         memory = Rattle.f77_tree.specs.Run.first_memory net.program;

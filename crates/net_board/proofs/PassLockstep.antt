@@ -97,8 +97,8 @@ module _ (net : NetOf) (is_net : IsNet net) (ground : FlowFacts net is_net.tree)
 
   pub begins_between : IsBetween net is_net.tree (first_tokens net) 1 (first_memory net.program)
   begins_between =
-      let two = ground.shape.two_edges in
-      let start : from (graph_in net) 1 ≡ 0 = (ground.shape.leaves_start 1 two).1 refl in
+      let two = ground.graph.shape.two_edges in
+      let start : from (graph_in net) 1 ≡ 0 = (ground.graph.shape.leaves_start 1 two).1 refl in
       let at : (line : ℕ) → line < net.routing.lines → edge_of (first_tokens net) line ≡ Some (next_at net.routing line 1) = λ line low. ap joined (get_led (led_from net 1) 0 net.routing.lines line low ∙ ap (λ (x : ℕ). Some (led_from net 1 x)) (zero_plus line)) in
       record {
         lines = λ line place low is. subst (λ (x : ℕ). Rattle.dep_routing.specs.Place.Place (graph_in net) is_net.tree net.touches line 1 x) (same_some (next_at net.routing line 1) place (sym (at line low) ∙ is))
@@ -159,11 +159,11 @@ module _ (net : NetOf) (is_net : IsNet net) (ground : FlowFacts net is_net.tree)
           let count = node_count net piece in
           let ks = range_with_len (first_node net piece) count in
           let all : IsPartFired net is_net ground x.edge piece stands.1 refl left_start m x.memory stands.2 room count = part count (λ trap. subst DoesTrap ended trap) (omega arith) in
-          let end_kind : kind_in net piece ≡ kind.End = ground.ends x.edge x.memory stands.1 ended in
+          let end_kind : kind_in net piece ≡ kind.End = ground.graph.ends x.edge x.memory stands.1 ended in
           let some = some_edge net is_net ground in
-          let at_finish : piece ≡ finish net.program.execs = (ground.shape.end piece (ground.heads x.edge stands.1)).0 end_kind in
-          let begins : from g 0 ≡ piece = (ground.shape.leaves_end 0 some).1 refl ∙ sym at_finish in
-          let back_out : 0 ≡ out g piece 0 = ground.one_out 0 some (ap (λ (y : ℕ). leaves_one (kind_in net y)) begins ∙ ap leaves_one end_kind) ∙ ap (λ (y : ℕ). out g y 0) begins in
+          let at_finish : piece ≡ finish net.program.execs = (ground.graph.shape.end piece (ground.graph.heads x.edge stands.1)).0 end_kind in
+          let begins : from g 0 ≡ piece = (ground.graph.shape.leaves_end 0 some).1 refl ∙ sym at_finish in
+          let back_out : 0 ≡ out g piece 0 = ground.graph.one_out 0 some (ap (λ (y : ℕ). leaves_one (kind_in net y)) begins ∙ ap leaves_one end_kind) ∙ ap (λ (y : ℕ). out g y 0) begins in
           let between : IsBetween net is_net.tree (after (net_moves net) m ks) 0 (memory_or x.memory (pass_at net piece x.memory)) = all_fired net is_net ground x.edge piece stands.1 refl left_start m x.memory stands.2 (after (net_moves net) m ks) all.amid 0 (ap (leaving net piece) ended ∙ sym back_out) some begins in
           record {
             order = all.order;
@@ -248,6 +248,6 @@ module _ (net : NetOf) (is_net : IsNet net) (ground : FlowFacts net is_net.tree)
     order = tt;
     lines = refl;
     room_is = long_replicate (length (nodes_of net)) None;
-    stands = (let two : 0 < 1 = omega arith in two, ground.shape.two_edges, begins_between);
+    stands = (let two : 0 < 1 = omega arith in two, ground.graph.shape.two_edges, begins_between);
   }
   pass_lockstep (suc n) = lockstep_on n (pass_lockstep n)

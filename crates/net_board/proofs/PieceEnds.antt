@@ -16,10 +16,10 @@ use Rattle.firing.specs.declared.system.NodeName.{NodeName}
 use Rattle.firing.specs.declared.system.NodeName.TheVariants.{Merge, Switch}
 use Rattle.net_board.specs.WithinPiece.{moved_by, moved_first, leaving, memory_or, memory_amid, switch_count, IsAmid}
 use Rattle.net_board.specs.SoundNets.{IsNet}
-use Rattle.net_board.specs.FlowFacts.{FlowFacts, has_act}
+use Rattle.net_board.specs.FlowFacts.{FlowFacts}
 use Rattle.list_laws.specs.Member.{Member}
 use Rattle.net_board.specs.NetLockstep.{IsBetween}
-use Rattle.net_board.specs.Nodes.{NetOf, graph_in, kind_in, is_free, touched, led_to, passing, nodes_by, nodes_at, node_count, first_node, switch_lines, all_lines}
+use Rattle.net_board.specs.Nodes.{NetOf, graph_in, kind_in, is_acting, is_free, touched, led_to, passing, nodes_by, nodes_at, node_count, first_node, switch_lines, all_lines}
 use Rattle.net_board.specs.Tokens.{Tokens, joined, edge_of, left_for, with_all, led_from, pass_at}
 use Rattle.net_board.proofs.FreeLines.{free_of_test, test_of_free, line_below}
 use Rattle.list_laws.proofs.Members.{Member-filter, Member-range, Member-left, Member-right, Member-cases}
@@ -98,10 +98,10 @@ module _ (net : NetOf) (is_net : IsNet net) (ground : FlowFacts net is_net.tree)
   moves_each kind.Hold line is low free = split_member (flat_map (moved_by net) (map (Switch piece) (passing net piece))) (λ l low free none. subst (λ (xs : List ℕ). Member xs l) (sym (moved_switches net piece (passing net piece))) (pass_member l low free none)) line low free
   moves_each kind.Join line is low free = subst (λ (xs : List ℕ). Member xs line) (sym (moved_merges net piece (led_to net piece))) (led_member line low free)
   moves_each kind.End line is low free = subst (λ (xs : List ℕ). Member xs line) (sym (moved_merges net piece (led_to net piece))) (led_member line low free)
-  moves_each kind.Start line is low free = absurd (later (sym ((ground.shape.start piece here).0 is)))
+  moves_each kind.Start line is low free = absurd (later (sym ((ground.graph.shape.start piece here).0 is)))
   moves_each kind.Pass line is low free =
       let touches = own_touch kind.Pass line is refl refl low free in
-      let clash : true ≡ false = sym touches ∙ ground.touch_none piece line here (ap has_act is) in
+      let clash : true ≡ false = sym touches ∙ ground.touch_none piece line here (ap is_acting is) in
       absurd cc
 
   led_split : (rest : List ℕ) (line : ℕ) → (Member rest line → IsLed net is_net ground e piece inside comes line) → Member (touched net piece ++ rest) line → IsLed net is_net ground e piece inside comes line

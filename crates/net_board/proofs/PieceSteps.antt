@@ -77,7 +77,7 @@ one_more net piece kind.Pass at = let e : None ≡ Some (Act piece) = at in absu
 
 module _ (net : NetOf) (is_net : IsNet net) (ground : FlowFacts net is_net.tree) (e piece : ℕ) (inside : e < edge_count (graph_in net)) (comes : to (graph_in net) e ≡ piece) where
   pub exists : piece < (graph_in net).nodes
-  exists = subst (λ (x : ℕ). x < (graph_in net).nodes) comes (ground.heads e inside)
+  exists = subst (λ (x : ℕ). x < (graph_in net).nodes) comes (ground.graph.heads e inside)
 
   pub record IsLed (line : ℕ) : Type 0 where
     pub below : line < net.routing.lines
@@ -169,7 +169,7 @@ module _ (net : NetOf) (is_net : IsNet net) (ground : FlowFacts net is_net.tree)
             let low : first_node net piece + switch_count net piece < length (nodes_of net) = node_below net piece (switch_count net piece) exists (one_more net piece (kind_in net piece) first) in
             let going : made ≡ Done → ⊥ = λ is.
             let ended : pass net.program net.input e memory ≡ Done = ap (λ (x : ℕ). pass_at net x memory) comes ∙ is in
-            let end_kind : kind_in net piece ≡ kind.End = ap (kind_in net) (sym comes) ∙ ground.ends e memory inside ended in
+            let end_kind : kind_in net piece ≡ kind.End = ap (kind_in net) (sym comes) ∙ ground.graph.ends e memory inside ended in
             let clash : false ≡ true = sym act.acts ∙ ap is_end end_kind in
             absurd cc
             in

@@ -19,11 +19,11 @@ use Rattle.firing.specs.declared.system.NodeName.TheVariants.{Act, Merge, Switch
 use Rattle.net_board.specs.declared.control.Control.{Control}
 use Rattle.net_board.specs.WithinPiece.{leaving, memory_or, IsAmid}
 use Rattle.net_board.specs.SoundNets.{IsNet, CanCome}
-use Rattle.net_board.specs.FlowFacts.{FlowFacts, has_act}
+use Rattle.net_board.specs.FlowFacts.{FlowFacts}
 use Rattle.list_laws.specs.Member.{Member}
 use Rattle.net_board.specs.ControlCourse.{net_course}
 use Rattle.net_board.specs.NetLockstep.{IsBetween, IsInLockstep}
-use Rattle.net_board.specs.Nodes.{NetOf, graph_in, kind_in, is_free, touched, led_to, passing, all_lines, nodes_by, nodes_at, nodes_of, node_count, node_at, name_in, switches}
+use Rattle.net_board.specs.Nodes.{NetOf, graph_in, kind_in, is_acting, is_free, touched, led_to, passing, all_lines, nodes_by, nodes_at, nodes_of, node_count, node_at, name_in, switches}
 use Rattle.net_board.specs.Tokens.{Tokens, edge_of, left_for, net_moves, pass_at, is_before, leads_to, ready_as}
 use Rattle.list_laws.proofs.Members.{IsImage, IsFromOne, Member-filter, Member-filtered, Member-range, Member-in_range, Member-mapped, Member-flat_mapped}
 use Rattle.net_board.proofs.LockstepLaws.{IsDue, due_is, none_due, due_ready, piece_exists, later}
@@ -35,13 +35,13 @@ use Rattle.std.proofs.lemmas.Bool.{and_parts}
 
 module _ (net : NetOf) (is_net : IsNet net) (ground : FlowFacts net is_net.tree) where
   pub some_edge : 0 < edge_count (graph_in net)
-  some_edge = let two = ground.shape.two_edges in omega (arith, two)
+  some_edge = let two = ground.graph.shape.two_edges in omega (arith, two)
 
   back : to (graph_in net) 0 ≡ 0
-  back = (ground.shape.comes_to_start 0 some_edge).1 refl
+  back = (ground.graph.shape.comes_to_start 0 some_edge).1 refl
 
   module _ (m : Tokens) (memory : Memory) (between : IsBetween net is_net.tree m 0 memory) where
-    all_back : (line : ℕ) → line < net.routing.lines → edge_of m line ≡ Some 0
+    pub all_back : (line : ℕ) → line < net.routing.lines → edge_of m line ≡ Some 0
     all_back line low =
         let at = between.stand line low in
         let free : IsFree (graph_in net) is_net.tree net.touches line (to (graph_in net) 0) = subst (λ (x : ℕ). IsFree (graph_in net) is_net.tree net.touches line x) (sym back) (ground.start_free line) in
@@ -59,15 +59,15 @@ module _ (net : NetOf) (is_net : IsNet net) (ground : FlowFacts net is_net.tree)
         omega (arith, h)
 
     start_acts : (piece : ℕ) → piece < (graph_in net).nodes → 0 ≡ piece → kind_in net piece ≡ kind.Start
-    start_acts piece exists is = (ground.shape.start piece exists).1 (sym is)
+    start_acts piece exists is = (ground.graph.shape.start piece exists).1 (sym is)
 
-    act_rests : (k piece : ℕ) → piece < (graph_in net).nodes → has_act (kind_in net piece) ≡ true → ready_as net m k (Act piece) ≡ true → ⊥
+    act_rests : (k piece : ℕ) → piece < (graph_in net).nodes → is_acting (kind_in net piece) ≡ true → ready_as net m k (Act piece) ≡ true → ⊥
     act_rests k piece exists acts ready =
         let line = ground.touch_some piece exists acts in
         let own : Member (touched net piece) line.0 = Member-filter (net.touches piece) (all_lines net) line.0 (let low = line.1 in Member-range 0 net.routing.lines line.0 (omega arith) (omega (arith, low))) line.2 in
         let before = all_pass (is_before net m piece) (touched net piece) line.0 ((and_parts (list_all (is_before net m piece) (touched net piece)) (list_all (λ switch. not (is_some (left_for m switch))) (switches net piece)) ready).0) own in
         let start : kind_in net piece ≡ kind.Start = start_acts piece exists (none_before piece line.0 line.1 before) in
-        let clash : false ≡ true = sym (ap has_act start) ∙ acts in
+        let clash : false ≡ true = sym (ap is_acting start) ∙ acts in
         absurd cc
 
     switch_rests : (k piece line : ℕ) → ready_as net m k (Switch piece line) ≡ true → ⊥
@@ -89,18 +89,18 @@ module _ (net : NetOf) (is_net : IsNet net) (ground : FlowFacts net is_net.tree)
         let r : IsImage (Merge piece) (led_to net piece) name = Member-mapped (Merge piece) (led_to net piece) name own in
         merge_rests k piece r.origin exists other r.among (subst (λ n. ready_as net m k n ≡ true) (sym r.is) ready)
 
-    first_act : (k piece : ℕ) (name : NodeName) → piece < (graph_in net).nodes → has_act (kind_in net piece) ≡ true → Act piece ≡ name → ready_as net m k name ≡ true → ⊥
+    first_act : (k piece : ℕ) (name : NodeName) → piece < (graph_in net).nodes → is_acting (kind_in net piece) ≡ true → Act piece ≡ name → ready_as net m k name ≡ true → ⊥
     first_act k piece name exists acts same ready = act_rests k piece exists acts (subst (λ n. ready_as net m k n ≡ true) (sym same) ready)
 
     not_start_kind : (piece : ℕ) (k : PieceKind) → kind_in net piece ≡ k → (k ≡ kind.Start → ⊥) → kind_in net piece ≡ kind.Start → ⊥
     not_start_kind piece k is other start = other (sym is ∙ start)
 
     node_rests : (k piece : ℕ) (name : NodeName) (of : PieceKind) → piece < (graph_in net).nodes → kind_in net piece ≡ of → Member (nodes_by net piece of) name → ready_as net m k name ≡ true → ⊥
-    node_rests k piece name kind.Act exists is (inl same) ready = first_act k piece name exists (ap has_act is) same ready
+    node_rests k piece name kind.Act exists is (inl same) ready = first_act k piece name exists (ap is_acting is) same ready
     node_rests k piece name kind.Act exists is (inr none) ready = none
-    node_rests k piece name kind.Branch exists is (inl same) ready = first_act k piece name exists (ap has_act is) same ready
+    node_rests k piece name kind.Branch exists is (inl same) ready = first_act k piece name exists (ap is_acting is) same ready
     node_rests k piece name kind.Branch exists is (inr own) ready = mapped_switch k piece name own ready
-    node_rests k piece name kind.Hold exists is (inl same) ready = first_act k piece name exists (ap has_act is) same ready
+    node_rests k piece name kind.Hold exists is (inl same) ready = first_act k piece name exists (ap is_acting is) same ready
     node_rests k piece name kind.Hold exists is (inr own) ready = mapped_switch k piece name own ready
     node_rests k piece name kind.Join exists is own ready = mapped_merge k piece name exists (not_start_kind piece kind.Join is (λ e. cc)) own ready
     node_rests k piece name kind.End exists is own ready = mapped_merge k piece name exists (not_start_kind piece kind.End is (λ e. cc)) own ready
@@ -137,10 +137,10 @@ module _ (net : NetOf) (m : Tokens) (c : Control) (lockstep : IsInLockstep net m
       let end_kind : kind_in net c.piece ≡ kind.End = end_kind_of (kind_in net c.piece) is in
       let exists = piece_exists net m c lockstep in
       let made : pass_at net c.piece lockstep.memory ≡ Done = ap (λ k. pass_of net.program net.input lockstep.memory (out g c.piece) k (exec_kind net.program c.piece)) end_kind in
-      let at_finish : c.piece ≡ finish net.program.execs = (lockstep.ground.shape.end c.piece exists).0 end_kind in
+      let at_finish : c.piece ≡ finish net.program.execs = (lockstep.ground.graph.shape.end c.piece exists).0 end_kind in
       let some = some_edge net lockstep.is_net lockstep.ground in
-      let begins : from g 0 ≡ c.piece = (lockstep.ground.shape.leaves_end 0 some).1 refl ∙ sym at_finish in
-      let back_out : 0 ≡ out g c.piece 0 = lockstep.ground.one_out 0 some (ap (λ (x : ℕ). leaves_one (kind_in net x)) begins ∙ ap leaves_one end_kind) ∙ ap (λ (x : ℕ). out g x 0) begins in
+      let begins : from g 0 ≡ c.piece = (lockstep.ground.graph.shape.leaves_end 0 some).1 refl ∙ sym at_finish in
+      let back_out : 0 ≡ out g c.piece 0 = lockstep.ground.graph.one_out 0 some (ap (λ (x : ℕ). leaves_one (kind_in net x)) begins ∙ ap leaves_one end_kind) ∙ ap (λ (x : ℕ). out g x 0) begins in
       let leaves : leaving net c.piece (pass_at net c.piece lockstep.memory) ≡ 0 = ap (leaving net c.piece) made ∙ sym back_out in
       let all : c.fired ≡ node_count net c.piece = omega (arith, few, high) in
       let full : IsAmid net lockstep.start m c.piece (node_count net c.piece) lockstep.memory (pass_at net c.piece lockstep.memory) = subst (λ (i : ℕ). IsAmid net lockstep.start m c.piece i lockstep.memory (pass_at net c.piece lockstep.memory)) all lockstep.amid in

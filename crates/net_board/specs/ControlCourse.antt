@@ -18,15 +18,23 @@ is_idle net piece = (node_count net piece == 0) && not (is_end (kind_in net piec
 abbrev pub passed : NetOf → (edge : ℕ) → ℕ
 passed net edge = let piece = to (graph_in net) edge in if is_idle net piece then out (graph_in net) piece 0 else edge
 
+-- past so many idle pieces at most, one after another
+abbrev pub passed_times : NetOf → (times edge : ℕ) → ℕ
+passed_times net zero edge = edge
+passed_times net (suc n) edge = passed_times net n (passed net edge)
+
+-- The next piece with nodes that control comes to along the edge, or the end: control passes no more idle pieces than there are.
+abbrev pub arrival : NetOf → (edge : ℕ) → ℕ
+arrival net edge = to (graph_in net) (passed_times net (graph_in net).nodes edge)
+
 -- past so many idle pieces at most: 1, 2, 4, and so on
 unfoldable pub passed_by : (doublings : ℕ) → NetOf → (edge : ℕ) → ℕ
 passed_by zero net edge = passed net edge
 passed_by (suc n) net edge = passed_by n net (passed_by n net edge)
 
--- The next piece with nodes that control comes to along the edge, or the end. 18 doublings go past 262,144 pieces, and a program
--- has fewer.
-abbrev pub arrival : NetOf → (edge : ℕ) → ℕ
-arrival net edge = to (graph_in net) (passed_by 18 net edge)
+-- the piece that control comes to by 18 doublings
+abbrev pub doubled_arrival : NetOf → (edge : ℕ) → ℕ
+doubled_arrival net edge = to (graph_in net) (passed_by 18 net edge)
 
 -- ---- places
 

@@ -13,3 +13,4 @@ pub mod NetParts
 pub mod TokenEdges
 pub mod ControlPlaces
 pub mod WokenNodes
+pub mod Simulation

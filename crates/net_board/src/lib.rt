@@ -8,8 +8,8 @@ mod simulation_laws;
 
 pub use control::Control;
 pub use net_laws::{
-    ground, nets_begin_soundly, nets_keep_the_laws, parts_make_nets, woken_nodes_are_all,
+    nets_begin_soundly, nets_keep_the_laws, parts_lead_lines, parts_make_nets, woken_nodes_are_all,
 };
 pub use simulation_laws::{
-    flow_graphs_ground_nets, nets_simulate_programs, nets_stay_in_lockstep, runs_ground_nets,
+    control_arrives, lone_ends_have_no_nodes, nets_simulate_programs, nets_stay_in_lockstep,
 };

@@ -12,6 +12,7 @@ ghost use Rattle.net_board.specs.SoundNets.{IsNet, CanCome};
 ghost use Rattle.net_board.specs.ProgramFacts.{ProgramFacts};
 ghost use Rattle.net_board.specs.Nodes.{NetOf, node_at};
 ghost use Rattle.net_board.specs.NetParts.{AreParts, net_with};
+ghost use Rattle.net_board.specs.Simulation.{LeadsLines};
 ghost use Rattle.net_board.specs.Tokens.{Tokens, first_tokens, net_moves};
 ghost use Rattle.net_board.specs.WokenNodes.{IsWoken};
 
@@ -40,13 +41,20 @@ pub fn parts_make_nets()
     well_formed_programs_can_run();
 }
 
+/// The parts of a program lead each line to an edge of its graph.
+pub fn parts_lead_lines()
+    ensures { (p : Program) (f : FlowGraph) (touches : (piece line : ℕ) → Bool) (routing : Routing) → AreParts p f touches routing → LeadsLines p routing }
+{
+    ground();
+}
+
 /// A list that has the nodes before which the moved lines stand then, and those that wait, has each that a firing can have made ready.
 pub fn woken_nodes_are_all()
     ensures { (net : NetOf) (m : Tokens) (k : ℕ) (woken : List ℕ) → CanCome net m → CanFire (net_moves net) m k → IsWoken net ((net_moves net).fired m k) (node_at net k) woken → Wakes (net_moves net) m k woken }
 {}
 
-/// What lower layers tell of programs, and their nets rest on.
-pub fn ground()
+// What lower layers tell of programs, and their nets rest on.
+fn ground()
     ensures { ProgramFacts }
 {
     flow_graph_is_strong();

@@ -3,12 +3,12 @@ use Rattle.std.proofs.Common.{◌≡◌, ◌<◌, ◌≤◌, ℕ, length, get_or
 use Rattle.std.proofs.lemmas.List.FromFn.{length-range_with_len}
 use Rattle.closed_walks.specs.Graph.{Graph, IsGraph, edge_count}
 use Rattle.cfg_build.specs.Joined.{FlowGraph}
-use Rattle.net_board.specs.ControlCourse.{arrival, passed_by}
+use Rattle.net_board.specs.ControlCourse.{arrival, passed_times}
 use Rattle.net_board.specs.Nodes.{NetOf, graph_in, all_lines, touched}
 use Rattle.list_laws.proofs.Members.{Member-at, Member-filtered, Member-in_range}
 use Rattle.token_net.specs.declared.program_parts.Plan.{Plan}
 use Rattle.token_net.specs.PartsView.{net_in}
-use Rattle.token_net.proofs.TableLemmas.{short_filter, passed_by_exists}
+use Rattle.token_net.proofs.TableLemmas.{short_filter, passed_times_exists}
 
 pub touched_exist : (net : NetOf) (piece : ℕ) → All (λ line. line < net.routing.lines) (touched net piece)
 touched_exist net piece k d below =
@@ -34,4 +34,4 @@ module _ {W : ℕ} (plan : Plan W) where
   arrival_exists g edge is sound exists =
       let same : g ≡ graph_in (net_in plan) = is ∙ ap (λ (f : FlowGraph). f.graph) plan.own_flow in
       let graph : IsGraph (graph_in (net_in plan)) = subst (λ (h : Graph). IsGraph h) same sound in
-      graph.ends (passed_by 18 (net_in plan) edge) (passed_by_exists (net_in plan) 18 edge exists)
+      graph.ends (passed_times (net_in plan) (graph_in (net_in plan)).nodes edge) (passed_times_exists (net_in plan) (graph_in (net_in plan)).nodes edge exists)

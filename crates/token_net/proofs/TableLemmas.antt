@@ -16,7 +16,7 @@ use Rattle.cfg_build.specs.Shape.{kind_at}
 use Rattle.dep_routing.specs.Touch.{touches_in}
 use Rattle.list_laws.specs.Member.{Member}
 use Rattle.net_board.specs.Nodes.{NetOf, graph_in, kind_in, nodes_at, nodes_below, node_count, first_node}
-use Rattle.net_board.specs.ControlCourse.{arrival, is_idle, passed, passed_by}
+use Rattle.net_board.specs.ControlCourse.{arrival, is_idle, passed, passed_times, passed_by}
 use Rattle.list_laws.proofs.Members.{Member-cases, Member-at, Member-filtered, Member-in_range}
 use Rattle.token_net.specs.NetTables.{all_edges}
 use Rattle.list_laws.proofs.Ranges.{range_more}
@@ -180,6 +180,12 @@ map_on f h a (suc n) same = two (same a (omega arith) (omega arith)) (map_on f h
     two : f a ≡ h a → map f (range_with_len (a + 1) n) ≡ map h (range_with_len (a + 1) n) → map f (range_with_len a (suc n)) ≡ map h (range_with_len a (suc n))
     two first rest = ap (λ x. x ∷ map f (range_with_len (a + 1) n)) first ∙ ap (λ xs. h a ∷ xs) rest
 
+map_alike : (f h : ℕ → ℕ) (a n : ℕ) → ((i : ℕ) → a ≤ i → i < a + n → f i ≡ h i) → map f (range_with_len a n) ≡ map h (range_with_len a n)
+map_alike f h a zero alike = refl
+map_alike f h a (suc n) alike =
+    ap (λ (x : ℕ). x ∷ map f (range_with_len (a + 1) n)) (alike a (omega arith) (omega arith))
+    ∙ ap (λ (xs : List ℕ). h a ∷ xs) (map_alike f h (a + 1) n (λ i low below. alike i (omega (arith, low)) (omega (arith, below))))
+
 map_map : {X Y : Type 0} (k : X → Y) (f : ℕ → X) (xs : List ℕ) → map k (map f xs) ≡ map (λ i. k (f i)) xs
 map_map k f [] = refl
 map_map k f (x ∷ xs) = ap (λ ys. k (f x) ∷ ys) (map_map k f xs)
@@ -251,7 +257,12 @@ module _ (net : NetOf) where
   unfolding passed_by
   passed_twice n xs are = are ∙ ap (λ k. map (passed_by k net) (all_edges net)) (sym (add-one n))
 
-  pub heads_are : (n : ℕ) (xs ys : List ℕ) → n ≡ 18 → xs ≡ map (passed_by n net) (all_edges net) → ys ≡ map (to (graph_in net)) xs → ys ≡ map (arrival net) (all_edges net)
-  heads_are n xs ys all are so =
+  pub passed_times_exists : (n edge : ℕ) → edge < edge_count (graph_in net) → passed_times net n edge < edge_count (graph_in net)
+  passed_times_exists zero edge exists = exists
+  passed_times_exists (suc n) edge exists = passed_times_exists n (passed net edge) (passed_exists edge exists)
+
+  pub heads_are : ((edge : ℕ) → edge < edge_count (graph_in net) → to (graph_in net) (passed_by 18 net edge) ≡ arrival net edge) → (n : ℕ) (xs ys : List ℕ) → n ≡ 18 → xs ≡ map (passed_by n net) (all_edges net) → ys ≡ map (to (graph_in net)) xs → ys ≡ map (arrival net) (all_edges net)
+  heads_are reach n xs ys all are so =
       so ∙ ap (map (to (graph_in net))) are ∙ map_map (to (graph_in net)) (passed_by n net) (all_edges net)
       ∙ ap (λ k. map (λ e. to (graph_in net) (passed_by k net e)) (all_edges net)) all
+      ∙ map_alike (λ e. to (graph_in net) (passed_by 18 net e)) (arrival net) 0 (edge_count (graph_in net)) (λ e low below. reach e (omega (arith, below)))

@@ -24,15 +24,13 @@ use crate::Net;
 use crate::lookups::Board;
 use crate::program_parts::Plan;
 use crate::tables::make_tables;
-use cfg_build::Flow;
+use cfg_build::{Flow, flow_graph_has_shape};
 use dep_routing::{Lines, TouchList, touches_are_sound};
 use df_sequence::NoMemory;
 use f77_meaning::{initial_storage, longest_line};
 use f77_tree::{Program, well_formed_programs_can_run};
 use firing::ReadySet;
-use net_board::{
-    Control, flow_graphs_ground_nets, ground, nets_begin_soundly, nets_simulate_programs,
-};
+use net_board::{Control, nets_begin_soundly, nets_simulate_programs, parts_lead_lines};
 use std::alloc::Global;
 
 impl<'a, const W: usize> Net<'a, W> {
@@ -83,7 +81,6 @@ fn parts_begin()
     touches_are_sound();
     well_formed_programs_can_run();
     nets_begin_soundly();
-    flow_graphs_ground_nets();
     nets_simulate_programs();
 }
 
@@ -115,7 +112,8 @@ fn make_plan<'a, const W: usize>(
     requires sets { length touch.now ≡ (flow_graph p.now.execs).graph.nodes }
     ensures { IfOk result (λ plan. net_in plan ≡ net_with p.now input.now.items (touches_in touch.now) l.now) }
 {
-    ground();
+    flow_graph_has_shape();
+    parts_lead_lines();
     let input = Vec::from_slice(alloc, input)?;
     Ok(Plan {
         program: p,

@@ -9,6 +9,7 @@ ghost use Rattle.cfg_build.specs.Passes.{outs as outs_in};
 ghost use Rattle.firing.specs.declared.system.NodeName.TheVariants.{Merge, Switch};
 ghost use Rattle.net_board.specs.Nodes.{graph_in, is_free, led_to, passing, touched, nodes_at, nodes_of, first_node};
 ghost use Rattle.net_board.specs.ControlCourse.{arrival, is_idle, passed};
+ghost use Rattle.net_board.specs.Simulation.{HasExecs};
 ghost use Rattle.token_net.specs.NetTables.{AreTables, all_edges, all_pieces};
 ghost use Rattle.token_net.specs.PartsView.{net_in};
 
@@ -20,6 +21,7 @@ use closed_walks::Digraph;
 use dep_routing::touched_lines;
 use df_sequence::{LabelList, NoMemory};
 use firing::NodeName;
+use net_board::control_arrives;
 use std::alloc::Global;
 
 /// The nodes of a net, and for each piece what its firings look up.
@@ -42,6 +44,7 @@ pub(crate) struct Tables {
 
 /// The tables of a net. More nodes than can be numbered are allocation failure.
 pub(crate) fn make_tables<const W: usize>(alloc: Global, plan: &Plan<W>) -> Result<Tables, NoMemory>
+    requires { HasExecs (net_in plan.now) }
     ensures { IfOk result (λ t. AreTables (net_in plan.now) t) }
 {
     let nodes = numbered_nodes(alloc, plan)?;
@@ -242,10 +245,12 @@ fn arrivals<const W: usize>(
     firsts: &Vec<u32>,
     outs: &Vec<LabelList>,
 ) -> Result<Vec<u32>, NoMemory>
+    requires execs { HasExecs (net_in plan.now) }
     requires firsts { firsts.now.items ≡ map (first_node (net_in plan.now)) (range_with_len 0 (suc (graph_in (net_in plan.now)).nodes)) }
     requires outs { outs.now.items ≡ map (outs_in (graph_in (net_in plan.now))) (all_pieces (net_in plan.now)) }
     ensures { IfOk result (λ arrivals. arrivals.items ≡ map (arrival (net_in plan.now)) (all_edges (net_in plan.now))) }
 {
+    control_arrives();
     let mut edges = edges_passed(alloc, plan, firsts, outs)?;
     for round in 0..18u32 {
         edges = doubled(alloc, &edges)?;

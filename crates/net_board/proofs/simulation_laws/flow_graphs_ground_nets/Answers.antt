@@ -1,24 +1,20 @@
-use Rattle.std.proofs.Common.{◌≤◌, arith}
 use Rattle.closed_walks.specs.Region.{IsFlowGraph}
 use Rattle.cfg_build.specs.Flow.{flow}
 use Rattle.cfg_build.specs.Joined.{finish}
 use Rattle.cfg_build.specs.Shape.{IsShaped}
 use Rattle.net_board.specs.Nodes.{graph_in}
-use Rattle.net_board.proofs.RunEnds.{ends_only}
-use Rattle.net_board.proofs.OneWayNodes.{IsOnOneWay, near_end, one_out, on_one_way}
+use Rattle.net_board.proofs.OneWayNodes.{IsOnOneWay, on_one_way}
 use Rattle.net_board.proofs.TouchKinds.{touch_none, touch_some}
 use Rattle.net_board.proofs.simulation_laws.flow_graphs_ground_nets.Goals as goal
 
 pub returns : goal.returns
-returns c = λ net n are.
+returns c = λ net n.
     let p = net.program in
     let g = graph_in net in
     let t = n.tree in
     let well = n.program.execs in
     let strong : IsFlowGraph g = c.flow_graph_is_strong.ensures p.names p.execs p.loops well in
     let shape : IsShaped (flow p.execs) (finish p.execs) = c.flow_graph_has_shape.ensures p.names p.execs p.loops well in
-    let graph = strong.sound in
-    let few_pieces : g.nodes ≤ 262144 = let few = c.pieces_are_few.ensures p.names p.execs p.loops well in omega (arith, few) in
     record {
       one_place = λ line e f h first second. c.places.ensures.one g t net.touches line e f h strong n.own_tree first second;
       arrives = λ line e inside free. c.places_over_a_pass.ensures.arrives g t net.touches line e strong n.own_tree inside free;
@@ -31,16 +27,9 @@ returns c = λ net n are.
           c.free_passed_nodes.ensures g t net.touches line node own.a own.b strong n.own_tree own.passed later free;
       touch_none = touch_none net n;
       touch_some = λ node exists acts. touch_some net n node
-          (c.pieces_touch_lines.ensures.acts p n.classes net.touches node n.program n.own_classes are exists)
-          (c.pieces_touch_lines.ensures.branches p n.classes net.touches node n.program n.own_classes are exists)
-          (c.pieces_touch_lines.ensures.holds p n.classes net.touches node n.program n.own_classes are exists)
+          (c.pieces_touch_lines.ensures.acts p n.classes n.tree net.touches node n.program n.own_classes n.sound_touches exists)
+          (c.pieces_touch_lines.ensures.branches p n.classes n.tree net.touches node n.program n.own_classes n.sound_touches exists)
+          (c.pieces_touch_lines.ensures.holds p n.classes n.tree net.touches node n.program n.own_classes n.sound_touches exists)
           acts;
-      shape = shape;
-      heads = λ e inside. graph.ends e inside;
-      passes_on = λ edge m inside. c.passes_are_a_walk.ensures.each p net.input edge m well inside;
-      ends = λ edge m inside is. ends_only net (λ node exists acts. c.pieces_run_executables.ensures.acts p.names p.execs p.loops node well exists acts) edge m (graph.ends edge inside) is;
-      one_out = λ e inside one. one_out g e inside (shape.one_leaves (Rattle.closed_walks.specs.Graph.from g e) (graph.begins e inside) one);
-      near_end = λ node exists.
-          let way = strong.strong node (finish p.execs) exists shape.end_exists in
-          near_end g node (finish p.execs) few_pieces ((c.reaching_is_told.ensures g node (finish p.execs) graph exists).1 way);
+      graph = c.flow_graphs_lead_on.ensures net well;
     }

@@ -39,5 +39,5 @@ returns g c =
     IfOk-weaker c.heads.result
     (λ (v : Vec ℕ Global). v.items ≡ map (to c.graph.result.now) xs)
     (λ (v : Vec ℕ Global). v.items ≡ map (arrival net) (all_edges net))
-    (λ (v : Vec ℕ Global) (so : v.items ≡ map (to c.graph.result.now) xs). heads_are net c.loop-round.round xs v.items all c.loop-round.invariant (so ∙ ap (λ (h : Graph). map (to h) xs) same))
+    (λ (v : Vec ℕ Global) (so : v.items ≡ map (to c.graph.result.now) xs). heads_are net (λ edge inside. c.control_arrives.ensures.doublings net edge c.requires.execs inside) c.loop-round.round xs v.items all c.loop-round.invariant (so ∙ ap (λ (h : Graph). map (to h) xs) same))
     c.heads.ensures

@@ -1,9 +1,9 @@
 use Rattle.std.proofs.Common.{◌∙◌, arith}
 use Rattle.cfg_build.specs.Passes.{outs}
-use Rattle.token_net.specs.BoardView.{net_on}
+use Rattle.token_net.specs.LookupView.{net_on}
 use Rattle.net_board.specs.Nodes.{graph_in}
 use Rattle.token_net.proofs.TableLemmas.{mapped_length, mapped_at}
-use Rattle.token_net.proofs.board.Board.outs.Goals as goal
+use Rattle.token_net.proofs.lookups.Board.outs.Goals as goal
 
 pub index-requires : goal.index-requires
 index-requires g c =
