@@ -18,3 +18,7 @@ pub use laws::{
     classes_are_counted, classes_are_numbered, needs_are_a_frame, needs_are_numbered,
     needs_cover_accesses, one_numbering,
 };
+
+/// A set of the alias classes of a program has so many words of 64 bits. One bit is no class, so that a program may have
+/// `64 * CLASS_WORDS - 1` classes.
+pub const CLASS_WORDS: usize = 16;

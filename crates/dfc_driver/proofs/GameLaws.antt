@@ -1,5 +1,5 @@
 -- What games mean, from what is known of nets and runs.
-use Rattle.std.proofs.Common.{◌≡◌, ◌≢◌, ℕ, suc, ◌≤◌, List, [], length, sym, ap, subst, ◌∙◌}
+use Rattle.std.proofs.Common.{◌≡◌, ◌≢◌, ℕ, suc, ◌≤◌, Bool, List, [], length, sym, ap, subst, ◌∙◌}
 use Rattle.closed_walks.specs.Region.{IsFlowGraph}
 use Rattle.f77_tree.specs.declared.programs.Program.{Program}
 use Rattle.cfg_build.specs.Flow.{flow}
@@ -30,8 +30,8 @@ same_due e f limit text a b same left right = on e (subst (λ x. IsDueBy x limit
     on Limit right left = left ∙ sym right
     on (WriteFault n) right left = absurd left
 
-module _ (laws : GameLaws) (asked : Asked) (p : Program) (strong : IsFlowGraph (flow p.execs).graph) where
-  one_due : (net : NetOf) (n m : ℕ) (a b : Due) → IsPlayedBy (way_of net asked.picks) (opening net) asked.limit n a → IsPlayedBy (way_of net asked.picks) (opening net) asked.limit m b → a ≡ b
+module _ (laws : GameLaws) (asked : Asked) (checked : Bool) (p : Program) (strong : IsFlowGraph (flow p.execs).graph) where
+  one_due : (net : NetOf) (n m : ℕ) (a b : Due) → IsPlayedBy (way_of net asked.picks) (opening net) asked.limit Output n a → IsPlayedBy (way_of net asked.picks) (opening net) asked.limit Output m b → a ≡ b
   one_due net n m a b left right =
       let same = laws.runs.one (way_of net asked.picks) (opening net) asked.limit n m left.end right.end left.run right.run in
       same_due left.end right.end asked.limit (shown (way_of net asked.picks) Output (opening net) n) a b same.1 left.is
@@ -41,7 +41,7 @@ module _ (laws : GameLaws) (asked : Asked) (p : Program) (strong : IsFlowGraph (
   one a b left right =
       let net = one_net laws.each p strong asked.input right.played.net left.played.net right.played.own left.played.own in
       one_due left.played.net left.firings right.firings a b left.played.played
-      (subst (λ x. IsPlayedBy (way_of x asked.picks) (opening x) asked.limit right.firings b) net right.played.played)
+      (subst (λ x. IsPlayedBy (way_of x asked.picks) (opening x) asked.limit Output right.firings b) net right.played.played)
 
   means : (due : Due) → IsDuePlay asked p due → MeansPlay asked p due
   means due is =
@@ -65,5 +65,5 @@ module _ (laws : GameLaws) (asked : Asked) (p : Program) (strong : IsFlowGraph (
         fails = λ steps trap line fails none enough. fails_by laws.stop_first asked p due net program input lines lockstep is.firings is.played all due_runs steps trap line fails none enough end run told;
       }
 
-  pub game_means : MeansOn (Play asked) p
+  pub game_means : MeansOn (Play asked) checked p
   game_means = record { one = one; means = means }

@@ -9,6 +9,7 @@ use Rattle.df_io.specs.Write.{AppendsPrefix}
 use Rattle.df_io.proofs.Prefixes.{AppendsPrefix-longer}
 use Rattle.firing.specs.declared.playing.PlayEnd.{PlayEnd}
 use Rattle.firing.specs.declared.playing.PlayEnd.TheVariants as end
+use Rattle.firing.specs.declared.playing.Show.{Show}
 use Rattle.firing.specs.declared.playing.Show.TheVariants.{Output}
 use Rattle.firing.specs.Control.{Course}
 use Rattle.firing.specs.Moves.{Moves, CanFire}
@@ -51,16 +52,16 @@ module _ (is_due : Due → Type 0) (due line : Due) (is : is_due due) (same : al
     prefix = prefix_after old mid new due.text due.last before (subst (AppendsPrefix mid new) (ap all_due begun.is ∙ same) begun.prefix);
   }
 
-module _ {M P : Type 0} (w : Way M P) (start : Moment M P) (limit : ℕ) where
+module _ {M P : Type 0} (w : Way M P) (start : Moment M P) (limit : ℕ) (show : Show) where
   abbrev text : ℕ → List ℕ
-  text n = shown w Output start n
+  text n = shown w show start n
 
-  run_of : {last : Moment M P} {old mid : Option (List ℕ)} {end : PlayEnd} (plays : Plays w start limit Output last old mid end) → IsOwnEnd end → IsRun w start limit plays.firings end
+  run_of : {last : Moment M P} {old mid : Option (List ℕ)} {end : PlayEnd} (plays : Plays w start limit show last old mid end) → IsOwnEnd end → IsRun w start limit plays.firings end
   run_of plays own = record { going = plays.going; bounded = plays.bounded; ends = plays.ends; own = own }
 
   module _ (last : Moment M P) (old mid : Option (List ℕ)) where
     -- nothing follows at rest
-    pub rest_told : (n : ℕ) → Plays w start limit Output last old mid (end.Rest n) → AnswersAs (IsGameOf w start limit) old mid Done
+    pub rest_told : (n : ℕ) → Plays w start limit show last old mid (end.Rest n) → AnswersAs (IsGameOf w start limit show) old mid Done
     rest_told n plays = record {
       due = done (text plays.firings);
       is = record { firings = plays.firings; played = record { end = end.Rest n; run = run_of plays tt; is = refl } };
@@ -68,22 +69,22 @@ module _ {M P : Type 0} (w : Way M P) (start : Moment M P) (limit : ℕ) where
       written = subst (Appends old mid) (sym (append-nil (text plays.firings))) plays.writes;
     }
 
-    pub trap_told : (trap : Trap) (line : ℕ) (new : Option (List ℕ)) (s : Status) → Plays w start limit Output last old mid (end.Trapped trap line) → Tells (trapped [] trap line) mid new s → AnswersAs (IsGameOf w start limit) old new s
+    pub trap_told : (trap : Trap) (line : ℕ) (new : Option (List ℕ)) (s : Status) → Plays w start limit show last old mid (end.Trapped trap line) → Tells (trapped [] trap line) mid new s → AnswersAs (IsGameOf w start limit show) old new s
     trap_told trap line new s plays tells =
         let due = trapped (text plays.firings) trap line in
-        let is : IsGameOf w start limit due = record { firings = plays.firings; played = record { end = end.Trapped trap line; run = run_of plays tt; is = refl } } in
+        let is : IsGameOf w start limit show due = record { firings = plays.firings; played = record { end = end.Trapped trap line; run = run_of plays tt; is = refl } } in
         ⊎_elim
-        (λ (e : s ≡ Trapped). subst (AnswersAs (IsGameOf w start limit) old new) (sym e) (told_on (IsGameOf w start limit) due (trapped [] trap line) is refl old mid new plays.writes (subst (AnswersAs (IsJust (trapped [] trap line)) mid new) e tells.answers)))
-        (λ (e : s ≡ WriteFault). subst (AnswersAs (IsGameOf w start limit) old new) (sym e) (begun_on (IsGameOf w start limit) due (trapped [] trap line) is refl old mid new plays.writes (subst (AnswersAs (IsJust (trapped [] trap line)) mid new) e tells.answers)))
+        (λ (e : s ≡ Trapped). subst (AnswersAs (IsGameOf w start limit show) old new) (sym e) (told_on (IsGameOf w start limit show) due (trapped [] trap line) is refl old mid new plays.writes (subst (AnswersAs (IsJust (trapped [] trap line)) mid new) e tells.answers)))
+        (λ (e : s ≡ WriteFault). subst (AnswersAs (IsGameOf w start limit show) old new) (sym e) (begun_on (IsGameOf w start limit show) due (trapped [] trap line) is refl old mid new plays.writes (subst (AnswersAs (IsJust (trapped [] trap line)) mid new) e tells.answers)))
         tells.told
 
-    pub limit_told : (new : Option (List ℕ)) (s : Status) → Plays w start limit Output last old mid end.Limit → Tells (stopped [] limit) mid new s → AnswersAs (IsGameOf w start limit) old new s
+    pub limit_told : (new : Option (List ℕ)) (s : Status) → Plays w start limit show last old mid end.Limit → Tells (stopped [] limit) mid new s → AnswersAs (IsGameOf w start limit show) old new s
     limit_told new s plays tells =
         let due = stopped (text plays.firings) limit in
-        let is : IsGameOf w start limit due = record { firings = plays.firings; played = record { end = end.Limit; run = run_of plays tt; is = refl } } in
+        let is : IsGameOf w start limit show due = record { firings = plays.firings; played = record { end = end.Limit; run = run_of plays tt; is = refl } } in
         ⊎_elim
-        (λ (e : s ≡ Limit). subst (AnswersAs (IsGameOf w start limit) old new) (sym e) (told_on (IsGameOf w start limit) due (stopped [] limit) is refl old mid new plays.writes (subst (AnswersAs (IsJust (stopped [] limit)) mid new) e tells.answers)))
-        (λ (e : s ≡ WriteFault). subst (AnswersAs (IsGameOf w start limit) old new) (sym e) (begun_on (IsGameOf w start limit) due (stopped [] limit) is refl old mid new plays.writes (subst (AnswersAs (IsJust (stopped [] limit)) mid new) e tells.answers)))
+        (λ (e : s ≡ Limit). subst (AnswersAs (IsGameOf w start limit show) old new) (sym e) (told_on (IsGameOf w start limit show) due (stopped [] limit) is refl old mid new plays.writes (subst (AnswersAs (IsJust (stopped [] limit)) mid new) e tells.answers)))
+        (λ (e : s ≡ WriteFault). subst (AnswersAs (IsGameOf w start limit show) old new) (sym e) (begun_on (IsGameOf w start limit show) due (stopped [] limit) is refl old mid new plays.writes (subst (AnswersAs (IsJust (stopped [] limit)) mid new) e tells.answers)))
         tells.told
 
   -- ---- a fault of the sink
@@ -95,16 +96,16 @@ module _ {M P : Type 0} (w : Way M P) (start : Moment M P) (limit : ℕ) where
       ([], ap text same ∙ sym (append-nil (text n)))
   text_prefix n (suc more) =
       let before = text_prefix n more in
-      let next = shown_at w Output start (more + n) in
+      let next = shown_at w show start (more + n) in
       let same : suc more + n ≡ suc (more + n) = omega arith in
       (before.0 ++ next, ap text same ∙ ap (λ (bytes : List ℕ). bytes ++ next) before.1 ∙ append_assoc (text n) before.0 next)
 
-  broken : (n : ℕ) (old mid : Option (List ℕ)) → BreaksOff w Output start n old mid → AppendsPrefix old mid (text n)
+  broken : (n : ℕ) (old mid : Option (List ℕ)) → BreaksOff w show start n old mid → AppendsPrefix old mid (text n)
   broken n old mid b =
-      let prefix : AppendsPrefix old mid (text b.last ++ shown_at w Output start b.last) = record {
+      let prefix : AppendsPrefix old mid (text b.last ++ shown_at w show start b.last) = record {
         count = length (text b.last) + b.count;
-        within = let all = length-append (text b.last) (shown_at w Output start b.last) in let low = b.within in omega (arith, all, low);
-        added = subst (Appends old mid) (sym (take-append-add (text b.last) (shown_at w Output start b.last) b.count)) b.written;
+        within = let all = length-append (text b.last) (shown_at w show start b.last) in let low = b.within in omega (arith, all, low);
+        added = subst (Appends old mid) (sym (take-append-add (text b.last) (shown_at w show start b.last) b.count)) b.written;
       } in
       subst (λ i. AppendsPrefix old mid (text i)) (sym b.is) prefix
 
@@ -119,7 +120,7 @@ module _ {M P : Type 0} (w : Way M P) (start : Moment M P) (limit : ℕ) where
   due_with end.Limit bytes own = record { due = stopped bytes limit; is = refl; same = refl }
   due_with (end.WriteFault n) bytes own = absurd own
 
-  pub fault_told : (last : Moment M P) (old mid : Option (List ℕ)) (n : ℕ) → HasEnd w start limit → ((j m : ℕ) (e : PlayEnd) → IsRun w start limit m e → j ≤ limit → ((i : ℕ) → i < j → CanFire w.moves (played w start i).marking (node_at w start i)) → j ≤ m) → Plays w start limit Output last old mid (end.WriteFault n) → AnswersAs (IsGameOf w start limit) old mid WriteFault
+  pub fault_told : (last : Moment M P) (old mid : Option (List ℕ)) (n : ℕ) → HasEnd w start limit → ((j m : ℕ) (e : PlayEnd) → IsRun w start limit m e → j ≤ limit → ((i : ℕ) → i < j → CanFire w.moves (played w start i).marking (node_at w start i)) → j ≤ m) → Plays w start limit show last old mid (end.WriteFault n) → AnswersAs (IsGameOf w start limit show) old mid WriteFault
   fault_told last old mid n has longest plays =
       let le : plays.firings ≤ has.firings = longest plays.firings has.firings has.end has.run plays.bounded plays.going in
       let more = has.firings - plays.firings in
@@ -158,10 +159,10 @@ answers_more is also old new s more answers = on s answers
     on NoMemory t = t
 
 -- the game of a net of the program and its data is one of the program
-pub played_on : (asked : Asked) (p : Program) (net : NetOf) (m : Tokens) (place : Option Control) (picks : List ℕ) → IsNetOn p asked.input net → m ≡ first_tokens net → place ≡ Some (first_control net) → picks ≡ asked.picks → (due : Due) → IsGameOf (way_by (net_moves net) (net_course net) picks) (moment m place) asked.limit due → IsDuePlay asked p due
+pub played_on : (asked : Asked) (p : Program) (net : NetOf) (m : Tokens) (place : Option Control) (picks : List ℕ) → IsNetOn p asked.input net → m ≡ first_tokens net → place ≡ Some (first_control net) → picks ≡ asked.picks → (due : Due) → IsGameOf (way_by (net_moves net) (net_course net) picks) (moment m place) asked.limit Output due → IsDuePlay asked p due
 played_on asked p net m place picks own begun control same due game =
-    let there : IsGameOf (way_of net asked.picks) (opening net) asked.limit due =
-    subst (λ xs. IsGameOf (way_of net xs) (opening net) asked.limit due) same
-    (subst (λ c. IsGameOf (way_of net picks) (moment (first_tokens net) c) asked.limit due) control
-    (subst (λ (x : Tokens). IsGameOf (way_of net picks) (moment x place) asked.limit due) begun game)) in
+    let there : IsGameOf (way_of net asked.picks) (opening net) asked.limit Output due =
+    subst (λ xs. IsGameOf (way_of net xs) (opening net) asked.limit Output due) same
+    (subst (λ c. IsGameOf (way_of net picks) (moment (first_tokens net) c) asked.limit Output due) control
+    (subst (λ (x : Tokens). IsGameOf (way_of net picks) (moment x place) asked.limit Output due) begun game)) in
     record { firings = there.firings; played = record { net = net; own = own; played = there.played } }

@@ -1,10 +1,23 @@
--- The net that is made of the parts of a program.
-use Rattle.std.proofs.Common.{◌≡◌, ℕ, zero, suc, ◌≤◌, false, List, [], ◌∷◌, length, refl, arith}
-use Rattle.class_set.specs.declared.ClassSet.{ClassSet}
+-- What was found of a program makes its net.
+use Rattle.std.proofs.Common.{◌≡◌}
+use Rattle.f77_tree.specs.declared.programs.Program.{Program}
+use Rattle.f77_tree.specs.WellFormed.{IsWellFormed}
+use Rattle.cfg_build.specs.Flow.{flow}
+use Rattle.cfg_build.specs.Joined.{FlowGraph}
 use Rattle.dep_routing.specs.Touch.{touches_in}
+use Rattle.flow_analysis.specs.declared.parts.Analysis.{Analysis}
+use Rattle.flow_analysis.specs.Analysis.{IsAnalysisOf}
+use Rattle.token_net.specs.Parts.{AreParts}
 
--- no lines are those of a piece past the list
-pub none_past : {W : ℕ} (sets : List (ClassSet W)) (piece line : ℕ) → length sets ≤ piece → touches_in sets piece line ≡ false
-none_past [] piece line past = refl
-none_past (set ∷ sets) zero line past = absurd (omega (arith, past))
-none_past (set ∷ sets) (suc piece) line past = none_past sets piece line (omega (arith, past))
+pub found_parts : (p : Program) (found : Analysis) (f : FlowGraph) → f ≡ flow p.execs → IsWellFormed p → IsAnalysisOf p found → AreParts p f (touches_in found.touch) found.lines
+found_parts p found f own well_formed is = record {
+  program = well_formed;
+  own_flow = own;
+  classes = found.classes;
+  own_classes = is.classes;
+  tree = found.tree;
+  own_tree = is.tree;
+  own_touches = is.touches;
+  outside = is.outside;
+  own_routing = is.routing;
+}

@@ -1,5 +1,5 @@
 -- The text of regions, part after part, and what it means.
-use Rattle.std.proofs.Common.{◌≡◌, ℕ, List, [], ◌++◌, Option, sym, ap, subst, ◌∙◌, length}
+use Rattle.std.proofs.Common.{◌≡◌, ℕ, Bool, List, [], ◌++◌, Option, sym, ap, subst, ◌∙◌, length}
 use Rattle.closed_walks.specs.Graph.{Graph, edge_count}
 use Rattle.closed_walks.specs.Numbering.{fresh, IsNumbering}
 use Rattle.closed_walks.specs.Region.{IsFlowGraph}
@@ -68,23 +68,23 @@ one_text p a b one_numbering one_tree strong first second =
     let tree = one_tree f.graph first.tree second.tree strong first.regions second.regions in
     first.is ∙ ap (λ (xs : List ℕ). regions_text f xs first.tree) classes ∙ ap (regions_text f second.classes) tree ∙ sym second.is
 
--- what is due tells each edge once, with its class
-regions_told : (p : Program) (due : Due) → IsDueOn Regions p due → Means Regions p due
-regions_told p due is =
+-- what is due tells each piece, edge and region once
+regions_told : (checked : Bool) (p : Program) (due : Due) → IsDueOn Regions checked p due → Means Regions checked p due
+regions_told checked p due is =
     let f = flow p.execs in
     record {
       done = ap (λ (d : Due). d.status) is.done;
-      before = counts_line (length f.pieces) (edge_count f.graph) (fresh is.text.classes) (region_count is.text.tree) ++ piece_lines f.pieces (length f.pieces);
       classes = is.text.classes;
-      after = region_lines is.text.tree (region_count is.text.tree);
+      tree = is.text.tree;
       lines = is.text.is;
       same = is.text.numbering.same;
+      regions = is.text.regions;
     }
 
-pub regions_mean : (p : Program) (found : Found) → OneNumbering → OneTree → IsFoundOf p found → MeansOn Regions p
-regions_mean p found one_numbering one_tree is =
+pub regions_mean : (checked : Bool) (p : Program) (found : Found) → OneNumbering → OneTree → IsFoundOf p found → MeansOn Regions checked p
+regions_mean checked p found one_numbering one_tree is =
     let strong : IsFlowGraph (flow p.execs).graph = subst (λ (f : FlowGraph). IsFlowGraph f.graph) is.flow is.strong in
     record {
       one = λ a b first second. first.done ∙ ap done (one_text p a.text b.text one_numbering one_tree strong first.text second.text) ∙ sym second.done;
-      means = regions_told p;
+      means = regions_told checked p;
     }

@@ -80,7 +80,7 @@ pub record ReadsText (old new : Option (List ℕ)) (code : ℕ) : Type 0 where
 -- How much of a source was read, by what is left of it: words that ask for no text leave it as it was.
 abbrev pub ReadsFor : {A : Type 0} → (A → Option (List ℕ)) → Option Job → A → A → ℕ → Type 0
 ReadsFor left None old new code = new ≡ old
-ReadsFor left (Some (On task dialect)) old new code = ReadsText (left old) (left new) code
+ReadsFor left (Some (On task checked)) old new code = ReadsText (left old) (left new) code
 
 -- Source and sink are blamed only where they failed: no count of faults falls, and each rose where it is blamed.
 pub record Blames (source_old source_new sink_old sink_new code : ℕ) : Type 0 where

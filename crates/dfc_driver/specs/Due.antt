@@ -1,11 +1,12 @@
 -- What is due for some words and a text: a status, and the bytes that are written.
-use Rattle.std.specs.Prelude.{◌≡◌, ℕ, List, [], ◌∷◌, ◌++◌, Option, Some, None, codes}
+use Rattle.std.specs.Prelude.{◌≡◌, ℕ, Bool, List, [], ◌∷◌, ◌++◌, Option, Some, None, codes}
 use Rattle.std.specs.Fmt.{decimal}
 use Rattle.op_table.specs.declared.Trap.{Trap}
 use Rattle.op_table.specs.declared.Trap.TheVariants.{Divide, Subscript, Step, Input, Overflow}
 use Rattle.f77_tree.specs.declared.programs.Program.{Program}
 use Rattle.firing.specs.declared.playing.PlayEnd.{PlayEnd}
 use Rattle.firing.specs.declared.playing.PlayEnd.TheVariants as end
+use Rattle.firing.specs.declared.playing.Show.{Show}
 use Rattle.firing.specs.declared.playing.Show.TheVariants.{Output}
 use Rattle.firing.specs.Play.{Moment, Way, shown}
 use Rattle.firing.specs.Runs.{IsRun}
@@ -63,22 +64,21 @@ IsDueBy (end.Trapped trap line) limit text due = due ≡ trapped text trap line
 IsDueBy end.Limit limit text due = due ≡ stopped text limit
 IsDueBy (end.WriteFault n) limit text due = ⊥
 
--- A game was played for so many firings: up to a rest, a trap or the limit, whatever comes first. Its text is the lines that they
--- write.
-pub record IsPlayedBy {M P : Type 0} (w : Way M P) (start : Moment M P) (limit firings : ℕ) (due : Due) : Type 0 where
+-- A game was played for so many firings: up to a rest, a trap or the limit, whatever comes first. Its text is what is shown of them.
+pub record IsPlayedBy {M P : Type 0} (w : Way M P) (start : Moment M P) (limit : ℕ) (show : Show) (firings : ℕ) (due : Due) : Type 0 where
   pub end : PlayEnd
   pub run : IsRun w start limit firings end
-  pub is : IsDueBy end limit (shown w Output start firings) due
+  pub is : IsDueBy end limit (shown w show start firings) due
 
-pub record IsGameOf {M P : Type 0} (w : Way M P) (start : Moment M P) (limit : ℕ) (due : Due) : Type 0 where
+pub record IsGameOf {M P : Type 0} (w : Way M P) (start : Moment M P) (limit : ℕ) (show : Show) (due : Due) : Type 0 where
   pub firings : ℕ
-  pub played : IsPlayedBy w start limit firings due
+  pub played : IsPlayedBy w start limit show firings due
 
 -- the game of the net of a program was played
 pub record IsPlayed (asked : Asked) (p : Program) (firings : ℕ) (due : Due) : Type 0 where
   pub net : NetOf
   pub own : IsNetOn p asked.input net
-  pub played : IsPlayedBy (way_of net asked.picks) (opening net) asked.limit firings due
+  pub played : IsPlayedBy (way_of net asked.picks) (opening net) asked.limit Output firings due
 
 pub record IsDuePlay (asked : Asked) (p : Program) (due : Due) : Type 0 where
   pub firings : ℕ
@@ -93,18 +93,18 @@ pub record IsDoneBy (asked : List ℕ → Type 0) (due : Due) : Type 0 where
   pub text : asked due.text
   pub done : due ≡ done due.text
 
--- what each task owes on a program
-abbrev pub IsDueOn : Task → Program → Due → Type 0
-IsDueOn Regions p = IsDoneBy (TellsRegions p)
-IsDueOn (Play asked) p = IsDuePlay asked p
+-- what each task owes on a program of the plain dialect or of the checked one
+abbrev pub IsDueOn : Task → (checked : Bool) → Program → Due → Type 0
+IsDueOn Regions checked p = IsDoneBy (TellsRegions p)
+IsDueOn (Play asked) checked p = IsDuePlay asked p
 
-abbrev pub IsDueRead : Task → Reading → Due → Type 0
-IsDueRead task (Refused line code) = IsJust (refusal line code)
-IsDueRead task (Accepted p) = IsDueOn task p
+abbrev pub IsDueRead : Task → (checked : Bool) → Reading → Due → Type 0
+IsDueRead task checked (Refused line code) = IsJust (refusal line code)
+IsDueRead task checked (Accepted p) = IsDueOn task checked p
 
 abbrev pub IsDueFor : Option Job → List ℕ → Due → Type 0
 IsDueFor None bytes = IsJust usage
-IsDueFor (Some (On task dialect)) bytes = IsDueRead task (reading dialect bytes)
+IsDueFor (Some (On task checked)) bytes = IsDueRead task checked (reading checked bytes)
 
 -- this is due for the words and the text
 abbrev pub IsDue : List (List ℕ) → List ℕ → Due → Type 0

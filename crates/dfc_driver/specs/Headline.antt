@@ -1,18 +1,20 @@
 -- What each job promises of the program of a text, beyond the bytes that are due.
-use Rattle.std.specs.Prelude.{◌≡◌, ◌<◌, ◌≤◌, ◌+◌, ◌*◌, ◌↔◌, ◌++◌, ℕ, suc, List, [], Option, Some, None, slice_index}
+use Rattle.std.specs.Prelude.{◌≡◌, ◌<◌, ◌≤◌, ◌+◌, ◌*◌, ◌↔◌, ℕ, suc, Bool, List, [], Option, Some, None, slice_index}
 use Rattle.op_table.specs.declared.Trap.{Trap}
-use Rattle.closed_walks.specs.Graph.{Graph, edge_count}
+use Rattle.closed_walks.specs.Graph.{edge_count}
 use Rattle.closed_walks.specs.Walk.{IsCycleEquivalent}
 use Rattle.f77_tree.specs.declared.programs.Program.{Program}
 use Rattle.f77_tree.specs.Operations.{most_operations}
 use Rattle.f77_tree.specs.Run.{EndsIn, TrapsAt, out}
 use Rattle.alias_classes.specs.Number.{number_of_classes}
 use Rattle.cfg_build.specs.Flow.{flow}
+use Rattle.cfg_build.specs.Joined.{FlowGraph}
+use Rattle.region_tree.specs.Tree.{Tree, IsRegionTree}
 use Rattle.firing.specs.Orders.{IsPrefix}
 use Rattle.dfc_driver.specs.declared.status.Status.TheVariants.{Done, Trapped}
 use Rattle.dfc_driver.specs.Due.{Due, IsDueOn, IsPlayed, trapped}
 use Rattle.dfc_driver.specs.Reading.{Reading, Accepted, Refused, reading}
-use Rattle.dfc_driver.specs.Regions.{edge_lines}
+use Rattle.dfc_driver.specs.Regions.{regions_text}
 use Rattle.dfc_driver.specs.Words.{Asked, Job, On, Task, Regions, Play}
 
 -- ---- games
@@ -59,30 +61,30 @@ pub record MeansPlay (asked : Asked) (p : Program) (due : Due) : Type 0 where
 
 -- ---- regions
 
--- Each edge has one line, in order, between the lines before and the lines after. Two of them tell one class exactly where the
--- edges are cycle equivalent.
-pub record MeansRegions (g : Graph) (due : Due) : Type 0 where
+-- The text is the line of counts, then one line for each piece, one for each edge, and one for each region, in the order of their
+-- numbers, and nothing else. Two lines of edges tell one class exactly where the edges are cycle equivalent.
+pub record MeansRegions (f : FlowGraph) (due : Due) : Type 0 where
   pub done : due.status ≡ Done
-  pub before : List ℕ
   pub classes : List ℕ
-  pub after : List ℕ
-  pub lines : due.text ≡ before ++ edge_lines g classes (edge_count g) ++ after
-  pub same : (a b : ℕ) → a < edge_count g → b < edge_count g → (slice_index classes a ≡ slice_index classes b) ↔ IsCycleEquivalent g a b
+  pub tree : Tree
+  pub lines : due.text ≡ regions_text f classes tree
+  pub same : (a b : ℕ) → a < edge_count f.graph → b < edge_count f.graph → (slice_index classes a ≡ slice_index classes b) ↔ IsCycleEquivalent f.graph a b
+  pub regions : IsRegionTree f.graph tree
 
 -- what each task promises
-abbrev pub Means : Task → Program → Due → Type 0
-Means Regions p due = MeansRegions (flow p.execs).graph due
-Means (Play asked) p due = MeansPlay asked p due
+abbrev pub Means : Task → (checked : Bool) → Program → Due → Type 0
+Means Regions checked p due = MeansRegions (flow p.execs) due
+Means (Play asked) checked p due = MeansPlay asked p due
 
 -- No two things are due on the program, and what is due means this.
-pub record MeansOn (task : Task) (p : Program) : Type 0 where
-  pub one : (a b : Due) → IsDueOn task p a → IsDueOn task p b → a ≡ b
-  pub means : (due : Due) → IsDueOn task p due → Means task p due
+pub record MeansOn (task : Task) (checked : Bool) (p : Program) : Type 0 where
+  pub one : (a b : Due) → IsDueOn task checked p a → IsDueOn task checked p b → a ≡ b
+  pub means : (due : Due) → IsDueOn task checked p due → Means task checked p due
 
-abbrev pub MeansRead : Task → Reading → Type 0
-MeansRead task (Refused line code) = Unit {0}
-MeansRead task (Accepted p) = MeansOn task p
+abbrev pub MeansRead : Task → (checked : Bool) → Reading → Type 0
+MeansRead task checked (Refused line code) = Unit {0}
+MeansRead task checked (Accepted p) = MeansOn task checked p
 
 abbrev pub MeansFor : Option Job → List ℕ → Type 0
 MeansFor None bytes = Unit {0}
-MeansFor (Some (On task dialect)) bytes = MeansRead task (reading dialect bytes)
+MeansFor (Some (On task checked)) bytes = MeansRead task checked (reading checked bytes)

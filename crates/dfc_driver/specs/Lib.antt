@@ -7,7 +7,6 @@ pub mod Regions
 pub mod Found
 pub mod Due
 pub mod Lockstep
-pub mod Parts
 pub mod GameLaws
 pub mod Answers
 pub mod Headline

@@ -18,7 +18,7 @@ task_meant read_task.Regions = Regions
 task_meant (read_task.Play words) = Play (asked_in words)
 
 abbrev pub job_meant : read.Job → Job
-job_meant (read_job.On task dialect) = On (task_meant task) dialect
+job_meant (read_job.On task checked) = On (task_meant task) checked
 
 abbrev pub meant : Option read.Job → Option Job
 meant None = None
@@ -38,4 +38,4 @@ IsTask read_task.Regions = Unit {0}
 IsTask (read_task.Play words) = AreGameWords words
 
 abbrev pub IsJob : read.Job → Type 0
-IsJob (read_job.On task dialect) = IsTask task
+IsJob (read_job.On task checked) = IsTask task

@@ -1,5 +1,5 @@
 -- What a text is: a program, or refused. Allocation failure has no place in it.
-use Rattle.std.specs.Prelude.{◌≡◌, ℕ, ◌+◌, Bool, true, false, List, length, Option, Some, None, Result, Ok, Err, nat_lt, MatchBool, if◌then◌else◌}
+use Rattle.std.specs.Prelude.{◌≡◌, ℕ, ◌+◌, Bool, List, length, Option, Some, None, Result, Ok, Err, nat_lt, MatchBool, if◌then◌else◌}
 use Rattle.std.specs.Io.KnownBytes.{IsAtEnd}
 use Rattle.df_io.specs.Read.{Takes, TakesAtMost}
 use Rattle.f77_tree.specs.declared.programs.Program.{Program}
@@ -7,8 +7,6 @@ use Rattle.f77_source.specs.declared.source_end.Refusal.{Refusal}
 use Rattle.f77_source.specs.Reading as source
 use Rattle.dfc_driver.specs.declared.reading.Code.{Code}
 use Rattle.dfc_driver.specs.declared.reading.Code.TheVariants.{TooLong, Text}
-use Rattle.dfc_driver.specs.declared.words.Dialect.{Dialect}
-use Rattle.dfc_driver.specs.declared.words.Dialect.TheVariants.{Plain, Checked}
 use Rattle.dfc_driver.specs.declared.reading.NoProgram.{NoProgram}
 use Rattle.dfc_driver.specs.declared.reading.NoProgram.TheVariants as none
 
@@ -25,13 +23,9 @@ abbrev pub read_source : Result Program Refusal → Reading
 read_source (Ok program) = Accepted program
 read_source (Err refusal) = Refused refusal.line (Text refusal.code)
 
-abbrev pub is_checked : Dialect → Bool
-is_checked Plain = false
-is_checked Checked = true
-
 -- a text that is too long is refused before anything else
-abbrev pub reading : Dialect → List ℕ → Reading
-reading dialect bytes = if nat_lt most_bytes (length bytes) then Refused 0 TooLong else read_source (source.reading bytes (is_checked dialect))
+abbrev pub reading : (checked : Bool) → List ℕ → Reading
+reading checked bytes = if nat_lt most_bytes (length bytes) then Refused 0 TooLong else read_source (source.reading bytes checked)
 
 -- A text was read as what it is, or the source failed or memory ended.
 abbrev pub IsReadAs : Reading → Result Program NoProgram → Type 0

@@ -1,12 +1,10 @@
 -- What the words ask for.
-use Rattle.std.specs.Prelude.{ℕ, ◌+◌, ℤ, pos, neg_ℤ, Bool, false, ◌&&◌, nat_le, ◌==◌, List, [], ◌∷◌, ◌++◌, length, map, take, drop, Option, Some, None, codes, if◌then◌else◌}
+use Rattle.std.specs.Prelude.{ℕ, ◌+◌, ℤ, pos, neg_ℤ, Bool, true, false, ◌&&◌, nat_le, ◌==◌, List, [], ◌∷◌, ◌++◌, length, map, take, drop, Option, Some, None, codes, if◌then◌else◌}
 use Rattle.std.specs.List.{list_all}
 use Rattle.std.specs.Str.{bytes_eq}
 use Rattle.f77_tree.specs.Name.{is_figure}
 use Rattle.fixed_form.specs.Columns.{number}
 use Rattle.f77_tree.specs.Grammar.{greatest_constant}
-use Rattle.dfc_driver.specs.declared.words.Dialect.{Dialect}
-use Rattle.dfc_driver.specs.declared.words.Dialect.TheVariants.{Plain, Checked}
 use Rattle.dfc_driver.specs.declared.words.Setting.{Setting}
 use Rattle.dfc_driver.specs.declared.words.Setting.TheVariants.{Limit, Picks, Data}
 
@@ -22,9 +20,9 @@ pub data Task : Type 0 where
   Regions : Task
   Play : (asked : Asked) → Task
 
--- a task on the program of a text
+-- a task on the program of a text, in the checked dialect or in the plain one
 pub data Job : Type 0 where
-  On : (task : Task) (dialect : Dialect) → Job
+  On : (task : Task) (checked : Bool) → Job
 
 -- ---- numbers and lists of them
 
@@ -93,16 +91,17 @@ values_in value (c ∷ text) = map value (pieces_after [] (c ∷ text))
 
 -- ---- the dialect: `checked`, or the plain one
 
-abbrev pub dialect_of : List (List ℕ) → Option Dialect
-dialect_of [] = Some Plain
-dialect_of (word ∷ []) = if bytes_eq word (codes "checked") then Some Checked else None
+-- whether it is the checked one
+abbrev pub dialect_of : List (List ℕ) → Option Bool
+dialect_of [] = Some false
+dialect_of (word ∷ []) = if bytes_eq word (codes "checked") then Some true else None
 dialect_of (word ∷ more ∷ words) = None
 
 -- ---- jobs
 
-abbrev pub on : Task → Option Dialect → Option Job
+abbrev pub on : Task → Option Bool → Option Job
 on task None = None
-on task (Some dialect) = Some (On task dialect)
+on task (Some checked) = Some (On task checked)
 
 -- the limit, the picks, the data and the dialect, in this order, each of them once or not at all
 abbrev pub play_of : List (List ℕ) → Option Job

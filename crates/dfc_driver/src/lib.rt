@@ -4,7 +4,6 @@
 
 mod game;
 mod lines;
-mod making;
 mod numbers;
 mod playing;
 mod reading;
@@ -17,4 +16,3 @@ mod words;
 pub use reading::Code;
 pub use status::Status;
 pub use top::dfc_main;
-pub use words::Dialect;

@@ -1,11 +1,10 @@
 ghost use Rattle.std.specs.Prelude.{◌≡◌, ◌≢◌, ◌≤◌, ◌<◌, length, IfOk, IfSome, IsErrOf};
 ghost use Rattle.df_io.specs.Faults.{Rose};
 ghost use Rattle.f77_tree.specs.WellFormed.{IsWellFormed};
-ghost use Rattle.alias_classes.specs.Number.{number_of_classes};
+ghost use Rattle.alias_classes.specs.Number.{HasFewClasses};
 ghost use Rattle.dfc_driver.specs.Codes.{name_of};
 ghost use Rattle.dfc_driver.specs.Reading.{reading, most_bytes, IsReadAs, IsReadFor, IsReadWithin};
 
-use crate::words::Dialect;
 use df_io::{ReadEnd, Source, read_all};
 use f77_source::SourceEnd;
 use f77_tree::Program;
@@ -80,11 +79,11 @@ pub enum NoProgram {
 pub fn read_program<S: Source>(
     alloc: Global,
     source: &mut S,
-    dialect: Dialect,
+    checked: bool,
 ) -> Result<Program, NoProgram>
-    ensures reads { IfSome (S.left source.old) (λ bytes. IsReadAs (reading dialect bytes) result) }
+    ensures reads { IfSome (S.left source.old) (λ bytes. IsReadAs (reading checked bytes) result) }
     ensures well_formed { IfOk result (λ program. IsWellFormed program) }
-    ensures few { IfOk result (λ program. number_of_classes program < 1024) }
+    ensures few { IfOk result (λ program. HasFewClasses program) }
     ensures taken { IsReadFor (S.left source.old) (S.left source.new) result }
     ensures within { IsReadWithin (S.left source.old) (S.left source.new) }
 
@@ -93,7 +92,7 @@ pub fn read_program<S: Source>(
     ensures fault { IsErrOf result NoProgram.ReadFault → Rose (S.faults source.old) (S.faults source.new) }
 {
     match read_all(alloc, source, MOST_BYTES) {
-        Ok(bytes) => read_text(alloc, bytes.as_slice(), dialect),
+        Ok(bytes) => read_text(alloc, bytes.as_slice(), checked),
         Err(ReadEnd::TooLong) => Err(NoProgram::Refused {
             line: 0,
             code: Code::TooLong,
@@ -104,14 +103,14 @@ pub fn read_program<S: Source>(
 }
 
 // The program of a text that isn't too long.
-fn read_text(alloc: Global, bytes: &[u8], dialect: Dialect) -> Result<Program, NoProgram>
+fn read_text(alloc: Global, bytes: &[u8], checked: bool) -> Result<Program, NoProgram>
     requires { length bytes.now ≤ most_bytes }
-    ensures reads { IsReadAs (reading dialect bytes.now) result }
+    ensures reads { IsReadAs (reading checked bytes.now) result }
     ensures well_formed { IfOk result (λ program. IsWellFormed program) }
-    ensures few { IfOk result (λ program. number_of_classes program < 1024) }
+    ensures few { IfOk result (λ program. HasFewClasses program) }
     ensures read { IsErrOf result NoProgram.ReadFault → ⊥ }
 {
-    match f77_source::read_program(alloc, bytes, dialect == Dialect::Checked) {
+    match f77_source::read_program(alloc, bytes, checked) {
         Ok(program) => Ok(program),
         Err(SourceEnd::Refused(refusal)) => Err(NoProgram::Refused {
             line: refusal.line,

@@ -1,6 +1,6 @@
 //! The pieces, edges, classes and regions of a program's flow graph, as a text.
 
-ghost use Rattle.std.specs.Prelude.{◌≡◌, ◌≢◌, ◌≤◌, ◌<◌, [], ◌++◌, length, IfOk, OnOk, OnErr};
+ghost use Rattle.std.specs.Prelude.{◌≡◌, ◌≢◌, ◌≤◌, ◌<◌, Bool, [], ◌++◌, length, IfOk, OnOk, OnErr};
 ghost use Rattle.std.specs.Io.KnownBytes.{Appends};
 ghost use Rattle.closed_walks.specs.Graph.{edge_count};
 ghost use Rattle.closed_walks.specs.Numbering.{fresh};
@@ -10,24 +10,22 @@ ghost use Rattle.df_io.specs.Write.{AppendsPrefix};
 ghost use Rattle.f77_tree.specs.WellFormed.{IsWellFormed};
 ghost use Rattle.region_tree.specs.Tree.{region_count};
 ghost use Rattle.dfc_driver.specs.Answers.{AnswersAs};
-ghost use Rattle.dfc_driver.specs.Due.{IsDueOn};
+ghost use Rattle.dfc_driver.specs.Due.{IsDoneBy};
 ghost use Rattle.dfc_driver.specs.Found.{IsFoundOf, text_of};
 ghost use Rattle.dfc_driver.specs.Headline.{MeansOn};
 ghost use Rattle.dfc_driver.specs.Words.{Regions};
-ghost use Rattle.dfc_driver.specs.Regions.{piece_lines, edge_lines, region_lines};
+ghost use Rattle.dfc_driver.specs.Regions.{TellsRegions, piece_lines, edge_lines, region_lines};
 
-use crate::making::edge_numbers;
 use crate::region_line::{counts_line, edge_line, piece_line, region_line};
 use crate::status::Status;
-use cfg_build::{Flow, flow_of};
+use cfg_build::Flow;
 use closed_walks::Digraph;
 use cycle_equiv::one_numbering;
 use df_io::{NoMemory, Sink, TextBuffer, WriteFault};
 use f77_tree::Program;
-use region_tree::{RegionTree, one_tree, region_tree};
+use flow_analysis::{FlowRegions, flow_regions};
+use region_tree::{RegionTree, one_tree};
 use std::alloc::Global;
-use std::marker::Brand;
-use std::sync::ledger::Blank;
 
 /// What is found of a flow graph, and the buffer through which it is told.
 #[derive(Drop)]
@@ -41,8 +39,8 @@ struct Found {
 /// Tells the regions of a program. All memory is taken before the first byte is written.
 pub fn tell_regions<K: Sink>(alloc: Global, program: &Program, sink: &mut K) -> Status
     requires { IsWellFormed program.now }
-    ensures due { AnswersAs (IsDueOn Regions program.now) (K.got sink.old) (K.got sink.new) result }
-    ensures means { result ≢ Status.NoMemory → MeansOn Regions program.now }
+    ensures due { AnswersAs (IsDoneBy (TellsRegions program.now)) (K.got sink.old) (K.got sink.new) result }
+    ensures means { result ≢ Status.NoMemory → (checked : Bool) → MeansOn Regions checked program.now }
     ensures words { result ≢ Status.Usage }
     ensures reads { result ≢ Status.ReadFault }
     ensures later { K.faults sink.old ≤ K.faults sink.new }
@@ -64,12 +62,14 @@ fn find(alloc: Global, program: &Program) -> Result<Found, NoMemory>
     requires { IsWellFormed program.now }
     ensures { IfOk result (λ found. IsFoundOf program.now found) }
 {
-    let flow = flow_of(alloc, program)?;
-    let classes = edge_numbers::<Brand>(alloc, flow.graph(), Blank::new(1))?;
-    let tree = region_tree(alloc, flow.graph(), &classes)?;
+    let FlowRegions {
+        flow,
+        edge_classes,
+        tree,
+    } = flow_regions(alloc, program)?;
     Ok(Found {
         flow,
-        classes,
+        classes: edge_classes,
         tree,
         buffer: TextBuffer::new(alloc)?,
     })

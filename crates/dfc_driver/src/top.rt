@@ -1,8 +1,8 @@
-ghost use Rattle.std.specs.Prelude.{◌≡◌, ◌≢◌, ◌≤◌, ◌<◌, map, IfSome};
+ghost use Rattle.std.specs.Prelude.{◌≡◌, ◌≢◌, ◌≤◌, map, IfSome};
 ghost use Rattle.std.specs.String.{string_bytes};
 ghost use Rattle.df_io.specs.Faults.{Rose};
 ghost use Rattle.f77_tree.specs.WellFormed.{IsWellFormed};
-ghost use Rattle.alias_classes.specs.Number.{number_of_classes};
+ghost use Rattle.alias_classes.specs.Number.{HasFewClasses};
 ghost use Rattle.dfc_driver.specs.Answers.{Answers, AnswersAs, Blames, HasAll, IsUnwritten, ReadsFor, ReadsText, TellsWords, code_of};
 ghost use Rattle.dfc_driver.specs.Due.{IsDue, IsDueFor, IsDueOn, IsDueRead};
 ghost use Rattle.dfc_driver.specs.Headline.{MeansFor, MeansOn, MeansRead};
@@ -15,7 +15,7 @@ use crate::playing::play;
 use crate::reading::{NoProgram, read_program};
 use crate::regions::tell_regions;
 use crate::status::Status;
-use crate::words::{Dialect, Job, Task, read_words};
+use crate::words::{Job, Task, read_words};
 use df_io::{Sink, Source};
 use f77_tree::Program;
 use std::alloc::Global;
@@ -66,7 +66,7 @@ fn do_job<S: Source, K: Sink>(alloc: Global, job: Job<'_>, source: &mut S, sink:
     ensures blames { Blames (S.faults source.old) (S.faults source.new) (K.faults sink.old) (K.faults sink.new) (code_of result) }
 {
     match job {
-        Job::On(task, dialect) => on_text(alloc, task, dialect, source, sink),
+        Job::On(task, checked) => on_text(alloc, task, checked, source, sink),
     }
 }
 
@@ -74,20 +74,20 @@ fn do_job<S: Source, K: Sink>(alloc: Global, job: Job<'_>, source: &mut S, sink:
 fn on_text<S: Source, K: Sink>(
     alloc: Global,
     task: Task<'_>,
-    dialect: Dialect,
+    checked: bool,
     source: &mut S,
     sink: &mut K,
 ) -> Status
     requires { IsTask task }
-    ensures due { IfSome (S.left source.old) (λ bytes. AnswersAs (IsDueRead (task_meant task.entry) (reading dialect bytes)) (K.got sink.old) (K.got sink.new) result) }
+    ensures due { IfSome (S.left source.old) (λ bytes. AnswersAs (IsDueRead (task_meant task.entry) checked (reading checked bytes)) (K.got sink.old) (K.got sink.new) result) }
     ensures words { result ≢ Status.Usage }
     ensures unwritten { IsUnwritten (K.got sink.old) (K.got sink.new) (code_of result) }
-    ensures means { HasAll (code_of result) → IfSome (S.left source.old) (λ bytes. MeansRead (task_meant task.entry) (reading dialect bytes)) }
+    ensures means { HasAll (code_of result) → IfSome (S.left source.old) (λ bytes. MeansRead (task_meant task.entry) checked (reading checked bytes)) }
     ensures takes { ReadsText (S.left source.old) (S.left source.new) (code_of result) }
     ensures blames { Blames (S.faults source.old) (S.faults source.new) (K.faults sink.old) (K.faults sink.new) (code_of result) }
 {
-    match read_program(alloc, source, dialect) {
-        Ok(program) => on_program(alloc, task, &program, sink),
+    match read_program(alloc, source, checked) {
+        Ok(program) => on_program(alloc, task, checked, &program, sink),
         Err(NoProgram::Refused { line, code }) => tell_refusal(line, code, sink),
         Err(NoProgram::ReadFault) => Status::ReadFault,
         Err(NoProgram::NoMemory) => Status::NoMemory,
@@ -95,14 +95,20 @@ fn on_text<S: Source, K: Sink>(
 }
 
 // Does a task on a program.
-fn on_program<K: Sink>(alloc: Global, task: Task<'_>, program: &Program, sink: &mut K) -> Status
+fn on_program<K: Sink>(
+    alloc: Global,
+    task: Task<'_>,
+    checked: bool,
+    program: &Program,
+    sink: &mut K,
+) -> Status
     requires task { IsTask task }
     requires program { IsWellFormed program.now }
-    requires few { number_of_classes program.now < 1024 }
-    ensures due { AnswersAs (IsDueOn (task_meant task.entry) program.now) (K.got sink.old) (K.got sink.new) result }
+    requires few { HasFewClasses program.now }
+    ensures due { AnswersAs (IsDueOn (task_meant task.entry) checked program.now) (K.got sink.old) (K.got sink.new) result }
     ensures words { result ≢ Status.Usage }
     ensures reads { result ≢ Status.ReadFault }
-    ensures means { result ≢ Status.NoMemory → MeansOn (task_meant task.entry) program.now }
+    ensures means { result ≢ Status.NoMemory → MeansOn (task_meant task.entry) checked program.now }
     ensures later { K.faults sink.old ≤ K.faults sink.new }
     ensures fault { result ≡ Status.WriteFault → Rose (K.faults sink.old) (K.faults sink.new) }
 {

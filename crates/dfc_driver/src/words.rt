@@ -9,8 +9,9 @@ ghost use Rattle.dfc_driver.specs.Words.{job_of, play_of, after, text_of, limit_
 /// What the words after the program's name ask for.
 #[derive(Clone, Copy, Debug, PartialEq, Eq)]
 pub enum Job<'a> {
-    /// A task on the program of the text that the source has.
-    On(Task<'a>, Dialect),
+    /// A task on the program of the text that the source has, in the checked dialect, where a result that is no word traps, or in
+    /// the plain one, where results wrap to words.
+    On(Task<'a>, bool),
 }
 
 /// What is done with a program.
@@ -44,15 +45,6 @@ pub enum Setting {
     Data,
 }
 
-/// How arithmetic is done.
-#[derive(Clone, Copy, Debug, PartialEq, Eq)]
-pub enum Dialect {
-    /// Results wrap to words.
-    Plain,
-    /// A result that is no word traps.
-    Checked,
-}
-
 /// The job that the words ask for, or none where they have no meaning.
 pub fn read_words(words: &[String]) -> Option<Job<'_>>
     ensures job { meant result ≡ job_of (map string_bytes words.now) }
@@ -60,8 +52,8 @@ pub fn read_words(words: &[String]) -> Option<Job<'_>>
 {
     match words {
         [word, options @ ..] if word.as_str() == "regions" => {
-            let dialect = read_dialect(options)?;
-            Some(Job::On(Task::Regions, dialect))
+            let checked = read_dialect(options)?;
+            Some(Job::On(Task::Regions, checked))
         }
         [word, options @ ..] if word.as_str() == "fire" => read_game(options),
         _ => None,
@@ -76,7 +68,7 @@ fn read_game(words: &[String]) -> Option<Job<'_>>
     let (limit, words) = split_setting(Setting::Limit, words);
     let (picks, words) = split_setting(Setting::Picks, words);
     let (input, words) = split_setting(Setting::Data, words);
-    let dialect = read_dialect(words)?;
+    let checked = read_dialect(words)?;
     let limit = limit_in(limit);
     Some(Job::On(
         Task::Play(GameWords {
@@ -84,7 +76,7 @@ fn read_game(words: &[String]) -> Option<Job<'_>>
             picks,
             input,
         }),
-        dialect,
+        checked,
     ))
 }
 
@@ -132,13 +124,13 @@ fn limit_in(text: &[u8]) -> u64
     }
 }
 
-// The dialect that the last word chooses.
-fn read_dialect(words: &[String]) -> Option<Dialect>
+// Whether the last word chooses the checked dialect.
+fn read_dialect(words: &[String]) -> Option<bool>
     ensures { result ≡ dialect_of (map string_bytes words.now) }
 {
     match words {
-        [] => Some(Dialect::Plain),
-        [word] if word.as_str() == "checked" => Some(Dialect::Checked),
+        [] => Some(false),
+        [word] if word.as_str() == "checked" => Some(true),
         _ => None,
     }
 }

@@ -26,7 +26,7 @@ returns-in-Ok-clause-due g c =
     }
 
 pub returns-in-Ok-tell-clause-means : goal.returns-in-Ok-tell-clause-means
-returns-in-Ok-tell-clause-means g c = λ _. regions_mean c.args.program.now c.in-Ok.found c.one_numbering.ensures c.one_tree.ensures c.in-Ok.ensures
+returns-in-Ok-tell-clause-means g c = λ _ checked. regions_mean checked c.args.program.now c.in-Ok.found c.one_numbering.ensures c.one_tree.ensures c.in-Ok.ensures
 
 pub returns-in-Ok-clause-means : goal.returns-in-Ok-clause-means
-returns-in-Ok-clause-means g c = λ _. regions_mean c.args.program.now c.in-Ok.found c.one_numbering.ensures c.one_tree.ensures c.in-Ok.ensures
+returns-in-Ok-clause-means g c = λ _ checked. regions_mean checked c.args.program.now c.in-Ok.found c.one_numbering.ensures c.one_tree.ensures c.in-Ok.ensures

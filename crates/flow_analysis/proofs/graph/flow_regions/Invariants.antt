@@ -1,4 +1,4 @@
-use Rattle.dfc_driver.proofs.making.parts_of.Given as goal
+use Rattle.flow_analysis.proofs.graph.flow_regions.Given as goal
 
 -- the ledger of the count of steps
 abbrev pub ghosts-edge_numbers : goal.ghosts-edge_numbers
