@@ -1,12 +1,10 @@
 -- What a game means for the run of its program.
-use Rattle.std.proofs.Common.{◌≡◌, ◌≢◌, ℕ, zero, suc, ◌+◌, ◌-◌, ◌*◌, ◌≤◌, ℤ, List, [], length, Option, Some, None, refl, sym, ap, subst, ◌∙◌, arith}
-use Rattle.std.proofs.Math.Nat.{mul-le-mul_left, mul-le-mul_right}
+use Rattle.std.proofs.Common.{◌≡◌, ◌≢◌, ℕ, zero, suc, ◌+◌, ◌-◌, ◌≤◌, ℤ, List, [], length, Option, Some, None, refl, sym, ap, subst, ◌∙◌, arith}
 use Rattle.op_table.specs.declared.Trap.{Trap}
 use Rattle.f77_tree.specs.declared.programs.Program.{Program}
-use Rattle.f77_tree.specs.Operations.{most_operations}
 use Rattle.f77_tree.specs.Run as runs
 use Rattle.f77_tree.specs.Steps.{StopsWithin}
-use Rattle.f77_tree.specs.Run.{Mark, Running, Ended, State, StopsFirst, EndsIn, TrapsAt, out, source}
+use Rattle.f77_tree.specs.Run.{Mark, Running, Ended, State, EndsIn, TrapsAt, out, source}
 use Rattle.firing.specs.declared.playing.PlayEnd.{PlayEnd}
 use Rattle.firing.specs.declared.playing.PlayEnd.TheVariants.{Rest, Trapped, Limit, WriteFault}
 use Rattle.firing.specs.declared.playing.Show.TheVariants.{Output}
@@ -15,18 +13,13 @@ use Rattle.firing.specs.Orders.{IsOver, IsPrefix, after, written}
 use Rattle.firing.specs.Pacing.{EndsWith, Going, Done, Failed, Stage, StandsAt, TrapsWith, WritesPrefix}
 use Rattle.firing.specs.Play.{Way, node_at, played, shown}
 use Rattle.firing.specs.Runs.{HasOrder, IsRun}
-use Rattle.token_net.specs.declared.control.Control.{Control}
-use Rattle.token_net.specs.Nodes.{NetOf}
-use Rattle.token_net.specs.OwnOrder.{own_order}
-use Rattle.token_net.specs.StepLockstep.{program_stage, program_text, stage_of}
-use Rattle.token_net.specs.Tokens.{Tokens, first_tokens, net_moves}
 use Rattle.dfc_driver.specs.declared.status.Status.{Status}
 use Rattle.dfc_driver.specs.declared.status.Status.TheVariants as status
 use Rattle.dfc_driver.specs.Due.{Due, IsDueBy, IsPlayed, trapped}
-use Rattle.dfc_driver.specs.Game.{opening, way_of}
+use Rattle.dfc_driver.specs.Game.{Marking, Place}
 use Rattle.dfc_driver.specs.GameLaws.{StopFirst}
-use Rattle.dfc_driver.specs.Headline.{IsPrefixOfRun, MeansRest, MeansTrap, bound_of, line_count}
-use Rattle.dfc_driver.specs.Lockstep.{StaysInLockstep}
+use Rattle.dfc_driver.specs.Headline.{IsPrefixOfRun, MeansRest, MeansTrap, bound_of}
+use Rattle.dfc_driver.specs.Playing.{Game, StaysInLockstep, opening, stage, stage_of, way_of}
 use Rattle.dfc_driver.specs.Words.{Asked}
 
 -- ---- where the program is
@@ -74,50 +67,23 @@ module _ (p : Program) (input : List ℤ) where
 
 -- ---- the game
 
-enough : (l m n : ℕ) → 5 * l * n ≤ (5 * (l + 1) + m) * (n + 1)
-enough l m n =
-    let wide : 5 * l ≤ 5 * (l + 1) + m = omega arith in
-    let first = mul-le-mul_right n wide in
-    let second : (5 * (l + 1) + m) * n ≤ (5 * (l + 1) + m) * (n + 1) = mul-le-mul_left (5 * (l + 1) + m) (omega arith) in
-    omega (arith, first, second)
-
-module _ (stop_first : StopFirst) (asked : Asked) (p : Program) (due : Due) (net : NetOf) (program : net.program ≡ p) (input : net.input ≡ asked.input) (lines : net.routing.lines ≡ line_count p) (lockstep : StaysInLockstep net) where
-  abbrev w : Way Tokens Control
-  w = way_of net asked.picks
-
-  same_source : (n : ℕ) → source net.program net.input n ≡ source p asked.input n
-  same_source n = ap (λ (q : Program). source q net.input n) program ∙ ap (λ xs. source p xs n) input
-
-  same_text : (n : ℕ) → program_text net n ≡ out p asked.input n
-  same_text n = ap (λ (x : State). x.out) (same_source n)
-
-  stops_here : (n : ℕ) (mark : Mark) → StopsFirst net.program net.input n mark → StopsFirst p asked.input n mark
-  stops_here n mark first = subst (λ d. StopsFirst p d n mark) input (subst (λ (q : Program). StopsFirst q net.input n mark) program first)
-
-  stops_there : (n : ℕ) (mark : Mark) → StopsFirst p asked.input n mark → (source net.program net.input n).mark ≡ mark
-  stops_there n mark first = ap (λ (x : State). x.mark) (same_source n) ∙ first.reached
-
-  -- few firings are enough
-  within : (n : ℕ) → length (own_order net n) ≤ bound_of p n
-  within n =
-      let few = lockstep.few n in
-      let same : 5 * net.routing.lines * n ≡ 5 * line_count p * n = ap (λ l. 5 * l * n) lines in
-      let all = enough (line_count p) (most_operations p) n in
-      omega (arith, few, same, all)
+module _ (stop_first : StopFirst) (asked : Asked) (p : Program) (due : Due) (game : Game Marking Place) (lockstep : StaysInLockstep game p asked.input) (within : (n : ℕ) → length (game.own_order n) ≤ bound_of p n) where
+  abbrev w : Way Marking Place
+  w = way_of game asked.picks
 
   -- the same text at the first step at which the run has stopped
-  first_text : (n : ℕ) (mark : Mark) → mark ≢ Running → (first : StopsWithin net.program net.input n mark) → program_text net n ≡ out p asked.input first.count
+  first_text : (n : ℕ) (mark : Mark) → mark ≢ Running → (first : StopsWithin p asked.input n mark) → out p asked.input n ≡ out p asked.input first.count
   first_text n mark goes first =
       let le = first.within in
       let d = n - first.count in
       let sum : n ≡ d + first.count = omega (arith, le) in
-      ap (program_text net) sum ∙ ap (λ (x : State). x.out) (stays net.program net.input first.count d mark goes first.stops.reached) ∙ same_text first.count
+      ap (out p asked.input) sum ∙ ap (λ (x : State). x.out) (stays p asked.input first.count d mark goes first.stops.reached)
 
-  module _ (firings : ℕ) (whole : IsPlayed asked p firings due) (all : HasOrder w (opening net) firings) where
+  module _ (firings : ℕ) (whole : IsPlayed asked p firings due) (all : HasOrder w (opening game) firings) where
     abbrev ks : List ℕ
     ks = all.nodes
 
-    text_is : (end : PlayEnd) → IsDueBy end asked.limit (shown w Output (opening net) firings) due → due.text ≡ written (net_moves net) (first_tokens net) ks
+    text_is : (end : PlayEnd) → IsDueBy end asked.limit (shown w Output (opening game) firings) due → due.text ≡ written game.moves game.start ks
     text_is (Rest n) is = ap (λ (d : Due). d.text) is ∙ sym all.are.lines
     text_is (Trapped trap line) is = ap (λ (d : Due). d.text) is ∙ sym all.are.lines
     text_is Limit is = ap (λ (d : Due). d.text) is ∙ sym all.are.lines
@@ -126,65 +92,65 @@ module _ (stop_first : StopFirst) (asked : Asked) (p : Program) (due : Due) (net
     other_status : (a b : Status) (text : Due) → (a ≡ b → ⊥) → due ≡ text → text.status ≡ a → due.status ≡ b → ⊥
     other_status a b text differ is has told = differ (sym has ∙ ap (λ (d : Due). d.status) (sym is) ∙ told)
 
-    pub prefix_of_run : (end : PlayEnd) → IsDueBy end asked.limit (shown w Output (opening net) firings) due → IsPrefixOfRun asked p due
+    pub prefix_of_run : (end : PlayEnd) → IsDueBy end asked.limit (shown w Output (opening game) firings) due → IsPrefixOfRun asked p due
     prefix_of_run end is =
-        let f : WritesPrefix (program_text net) (written (net_moves net) (first_tokens net) ks) = lockstep.follows.prefix ks all.are.order in
-        record { steps = f.steps; prefix = subst (IsPrefix due.text) (same_text f.steps) (subst (λ bytes. IsPrefix bytes (program_text net f.steps)) (sym (text_is end is)) f.prefix) }
+        let f : WritesPrefix (out p asked.input) (written game.moves game.start ks) = lockstep.follows.prefix ks all.are.order in
+        record { steps = f.steps; prefix = subst (λ bytes. IsPrefix bytes (out p asked.input f.steps)) (sym (text_is end is)) f.prefix }
 
     -- the marking that the firings lead to
-    abbrev there : Tokens
-    there = after (net_moves net) (first_tokens net) ks
+    abbrev there : Marking
+    there = after game.moves game.start ks
 
-    over_there : IsOver (net_moves net) (played w (opening net) firings).marking → IsOver (net_moves net) there
-    over_there over = subst (IsOver (net_moves net)) (sym all.are.leads) over
+    over_there : IsOver game.moves (played w (opening game) firings).marking → IsOver game.moves there
+    over_there over = subst (IsOver game.moves) (sym all.are.leads) over
 
-    pub rests : (end : PlayEnd) → IsRun w (opening net) asked.limit firings end → IsDueBy end asked.limit (shown w Output (opening net) firings) due → due.status ≡ status.Done → MeansRest asked p due
+    pub rests : (end : PlayEnd) → IsRun w (opening game) asked.limit firings end → IsDueBy end asked.limit (shown w Output (opening game) firings) due → due.status ≡ status.Done → MeansRest asked p due
     rests (WriteFault n) run is told = absurd is
     rests Limit run is told = absurd (other_status status.Limit status.Done _ (λ e. cc) is refl told)
     rests (Trapped trap line) run is told = absurd (other_status status.Trapped status.Done _ (λ e. cc) is refl told)
     rests (Rest n) run is told =
-        let s = net_moves net in
+        let s = game.moves in
         let over : IsOver s there = over_there run.ends.2 in
         let none : s.trap there ≡ None = ap s.trap all.are.leads ∙ run.ends.1 in
-        let e : EndsWith s (first_tokens net) (program_text net) (program_stage net) (own_order net) ks = lockstep.follows.rests ks all.are.order over none in
-        let first = stop_first net.program net.input e.steps Ended (λ c. cc) (ended_at (source net.program net.input e.steps).mark e.done) in
+        let e : EndsWith s game.start (out p asked.input) (stage p asked.input) game.own_order ks = lockstep.follows.rests ks all.are.order over none in
+        let first = stop_first p asked.input e.steps Ended (λ c. cc) (ended_at (source p asked.input e.steps).mark e.done) in
         let settles = lockstep.follows.ends first.count (ap stage_of first.stops.reached) in
-        let count : length ks ≡ length (own_order net first.count) = settles.whole ks (record { order = all.are.order; over = over }) in
+        let count : length ks ≡ length (game.own_order first.count) = settles.whole ks (record { order = all.are.order; over = over }) in
         let made = all.are.count in
         let few = within first.count in
         record {
           steps = first.count;
-          ends = stops_here first.count Ended first.stops;
+          ends = first.stops;
           output = text_is (Rest n) is ∙ e.lines ∙ first_text e.steps Ended (λ c. cc) first;
           firings = firings;
           played = whole;
           few = omega (arith, count, made, few);
         }
 
-    pub traps : (end : PlayEnd) → IsRun w (opening net) asked.limit firings end → IsDueBy end asked.limit (shown w Output (opening net) firings) due → due.status ≡ status.Trapped → MeansTrap asked p due
+    pub traps : (end : PlayEnd) → IsRun w (opening game) asked.limit firings end → IsDueBy end asked.limit (shown w Output (opening game) firings) due → due.status ≡ status.Trapped → MeansTrap asked p due
     traps (WriteFault n) run is told = absurd is
     traps Limit run is told = absurd (other_status status.Limit status.Trapped _ (λ e. cc) is refl told)
     traps (Rest n) run is told = absurd (other_status status.Done status.Trapped _ (λ e. cc) is refl told)
     traps (Trapped trap line) run is told =
-        let s = net_moves net in
+        let s = game.moves in
         let trapped_there : s.trap there ≡ Some (trap, line) = ap s.trap all.are.leads ∙ run.ends in
-        let e : TrapsWith (program_text net) (program_stage net) (trap, line) (written s (first_tokens net) ks) = lockstep.follows.traps ks (trap, line) all.are.order trapped_there in
-        let first = stop_first net.program net.input e.steps (runs.Trapped trap line) (λ c. cc) (trapped_at (source net.program net.input e.steps).mark trap line e.failed) in
+        let e : TrapsWith (out p asked.input) (stage p asked.input) (trap, line) (written s game.start ks) = lockstep.follows.traps ks (trap, line) all.are.order trapped_there in
+        let first = stop_first p asked.input e.steps (runs.Trapped trap line) (λ c. cc) (trapped_at (source p asked.input e.steps).mark trap line e.failed) in
         record {
           steps = first.count;
           trap = trap;
           line = line;
-          traps = stops_here first.count (runs.Trapped trap line) first.stops;
+          traps = first.stops;
           told = is ∙ ap (λ text. trapped text trap line) (sym all.are.lines ∙ e.lines ∙ first_text e.steps (runs.Trapped trap line) (λ c. cc) first);
         }
 
     -- where the run ends, the game is done
-    pub done_by : (steps : ℕ) → EndsIn p asked.input steps → bound_of p steps ≤ asked.limit → (end : PlayEnd) → IsRun w (opening net) asked.limit firings end → IsDueBy end asked.limit (shown w Output (opening net) firings) due → due.status ≡ status.Done
+    pub done_by : (steps : ℕ) → EndsIn p asked.input steps → bound_of p steps ≤ asked.limit → (end : PlayEnd) → IsRun w (opening game) asked.limit firings end → IsDueBy end asked.limit (shown w Output (opening game) firings) due → due.status ≡ status.Done
     done_by steps ends enough (Rest n) run is = ap (λ (d : Due). d.status) is
     done_by steps ends enough (WriteFault n) run is = absurd is
     done_by steps ends enough (Trapped trap line) run is =
-        let s = net_moves net in
-        let settles = lockstep.follows.ends steps (ap stage_of (stops_there steps Ended ends)) in
+        let s = game.moves in
+        let settles = lockstep.follows.ends steps (ap stage_of (ends.reached)) in
         let clash : s.trap there ≡ None = settles.no_trap ks all.are.order in
         let trapped_there : s.trap there ≡ Some (trap, line) = ap s.trap all.are.leads ∙ run.ends in
         absurd (no_trap (s.trap there) (trap, line) clash trapped_there)
@@ -192,27 +158,27 @@ module _ (stop_first : StopFirst) (asked : Asked) (p : Program) (due : Due) (net
         no_trap : (t : Option (Trap × ℕ)) (x : Trap × ℕ) → t ≡ None → t ≡ Some x → ⊥
         no_trap t x none some = cc
     done_by steps ends enough Limit run is =
-        let s = net_moves net in
-        let m = first_tokens net in
-        let stage : program_stage net steps ≡ Done = ap stage_of (stops_there steps Ended ends) in
+        let s = game.moves in
+        let m = game.start in
+        let stage : stage p asked.input steps ≡ Done = ap stage_of (ends.reached) in
         let settles = lockstep.follows.ends steps stage in
         let most = settles.at_most ks all.are.order in
         let made = all.are.count in
         let few = within steps in
         let limit : firings ≡ asked.limit = run.ends.0 in
-        let count : length ks ≡ length (own_order net steps) = omega (arith, most, made, few, limit, enough) in
-        let end_is : there ≡ after s m (own_order net steps) = settles.same_end ks all.are.order count ∙ sym (settles.same_end (own_order net steps) (lockstep.simulated.order steps) refl) in
-        let over : IsOver s (after s m (own_order net steps)) = (subst (StandsAt s (after s m (own_order net steps))) stage (lockstep.simulated.stands steps)).1 in
-        let can : CanFire s there (node_at w (opening net) firings) = subst (λ (x : Tokens). CanFire s x (node_at w (opening net) firings)) (sym all.are.leads) run.ends.1 in
-        absurd (subst (IsOver s) (sym end_is) over (node_at w (opening net) firings) can)
+        let count : length ks ≡ length (game.own_order steps) = omega (arith, most, made, few, limit, enough) in
+        let end_is : there ≡ after s m (game.own_order steps) = settles.same_end ks all.are.order count ∙ sym (settles.same_end (game.own_order steps) (lockstep.simulated.order steps) refl) in
+        let over : IsOver s (after s m (game.own_order steps)) = (subst (StandsAt s (after s m (game.own_order steps))) stage (lockstep.simulated.stands steps)).1 in
+        let can : CanFire s there (node_at w (opening game) firings) = subst (λ (x : Marking). CanFire s x (node_at w (opening game) firings)) (sym all.are.leads) run.ends.1 in
+        absurd (subst (IsOver s) (sym end_is) over (node_at w (opening game) firings) can)
 
     -- where the run traps, the game traps in the source's own order
-    pub fails_by : ((steps : ℕ) → (end : PlayEnd) → asked.picks ≡ [] → IsRun w (opening net) asked.limit firings end → IsOver (net_moves net) (after (net_moves net) (first_tokens net) (own_order net steps)) → length (own_order net steps) ≤ asked.limit → end ≢ Limit) → (steps : ℕ) (trap : Trap) (line : ℕ) → TrapsAt p asked.input steps trap line → asked.picks ≡ [] → bound_of p steps ≤ asked.limit → (end : PlayEnd) → IsRun w (opening net) asked.limit firings end → IsDueBy end asked.limit (shown w Output (opening net) firings) due → due.status ≡ status.Trapped
+    pub fails_by : ((steps : ℕ) → (end : PlayEnd) → asked.picks ≡ [] → IsRun w (opening game) asked.limit firings end → IsOver game.moves (after game.moves game.start (game.own_order steps)) → length (game.own_order steps) ≤ asked.limit → end ≢ Limit) → (steps : ℕ) (trap : Trap) (line : ℕ) → TrapsAt p asked.input steps trap line → asked.picks ≡ [] → bound_of p steps ≤ asked.limit → (end : PlayEnd) → IsRun w (opening game) asked.limit firings end → IsDueBy end asked.limit (shown w Output (opening game) firings) due → due.status ≡ status.Trapped
     fails_by no_limit steps trap line fails none enough (Trapped kind at) run is = ap (λ (d : Due). d.status) is
     fails_by no_limit steps trap line fails none enough (WriteFault n) run is = absurd is
     fails_by no_limit steps trap line fails none enough (Rest n) run is =
-        let s = net_moves net in
-        let stage : program_stage net steps ≡ Failed (trap, line) = ap stage_of (stops_there steps (runs.Trapped trap line) fails) in
+        let s = game.moves in
+        let stage : stage p asked.input steps ≡ Failed (trap, line) = ap stage_of (fails.reached) in
         let told = lockstep.follows.fails steps (trap, line) stage in
         let same : s.trap there ≡ Some (trap, line) = told.same_trap ks (record { order = all.are.order; over = over_there run.ends.2 }) in
         absurd (no_trap (s.trap there) (trap, line) (ap s.trap all.are.leads ∙ run.ends.1) same)
@@ -220,12 +186,12 @@ module _ (stop_first : StopFirst) (asked : Asked) (p : Program) (due : Due) (net
         no_trap : (t : Option (Trap × ℕ)) (x : Trap × ℕ) → t ≡ None → t ≡ Some x → ⊥
         no_trap t x none some = cc
     fails_by no_limit steps trap line fails none enough Limit run is =
-        let s = net_moves net in
-        let m = first_tokens net in
-        let stage : program_stage net steps ≡ Failed (trap, line) = ap stage_of (stops_there steps (runs.Trapped trap line) fails) in
-        let there : s.trap (after s m (own_order net steps)) ≡ Some (trap, line) = subst (StandsAt s (after s m (own_order net steps))) stage (lockstep.simulated.stands steps) in
+        let s = game.moves in
+        let m = game.start in
+        let stage : stage p asked.input steps ≡ Failed (trap, line) = ap stage_of (fails.reached) in
+        let there : s.trap (after s m (game.own_order steps)) ≡ Some (trap, line) = subst (StandsAt s (after s m (game.own_order steps))) stage (lockstep.simulated.stands steps) in
         let few = within steps in
-        absurd (no_limit steps Limit none run (λ k can. no_trap (s.trap (after s m (own_order net steps))) (trap, line) can.going there) (omega (arith, few, enough)) refl)
+        absurd (no_limit steps Limit none run (λ k can. no_trap (s.trap (after s m (game.own_order steps))) (trap, line) can.going there) (omega (arith, few, enough)) refl)
       where
         no_trap : (t : Option (Trap × ℕ)) (x : Trap × ℕ) → t ≡ None → t ≡ Some x → ⊥
         no_trap t x none some = cc

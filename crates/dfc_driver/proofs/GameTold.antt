@@ -15,15 +15,12 @@ use Rattle.firing.specs.Control.{Course}
 use Rattle.firing.specs.Moves.{Moves, CanFire}
 use Rattle.firing.specs.Play.{Moment, Way, BreaksOff, Plays, by_order, by_picks, moment, node_at, played, shown, shown_at}
 use Rattle.firing.specs.Runs.{HasEnd, IsOwnEnd, IsRun}
-use Rattle.token_net.specs.declared.control.Control.{Control}
-use Rattle.token_net.specs.NetOrder.{first_control, net_course}
-use Rattle.token_net.specs.Nodes.{NetOf}
-use Rattle.token_net.specs.Tokens.{Tokens, first_tokens, net_moves}
 use Rattle.dfc_driver.specs.declared.status.Status.{Status}
 use Rattle.dfc_driver.specs.declared.status.Status.TheVariants.{Done, Usage, Refused, Trapped, Limit, ReadFault, WriteFault, NoMemory}
 use Rattle.dfc_driver.specs.Answers.{AnswersAs, IsBegun, IsTold, Tells}
 use Rattle.dfc_driver.specs.Due.{Due, IsDueBy, IsDuePlay, IsGameOf, IsJust, all_due, done, stopped, trapped}
-use Rattle.dfc_driver.specs.Game.{IsNetOn, opening, way_by, way_of}
+use Rattle.dfc_driver.specs.Game.{IsGameOn, Marking, Place}
+use Rattle.dfc_driver.specs.Playing.{Game, opening, way_by, way_of}
 use Rattle.dfc_driver.specs.Words.{Asked}
 
 -- ---- a line after a text
@@ -158,11 +155,11 @@ answers_more is also old new s more answers = on s answers
     on WriteFault t = record { due = t.due; is = more t.due t.is; prefix = t.prefix }
     on NoMemory t = t
 
--- the game of a net of the program and its data is one of the program
-pub played_on : (asked : Asked) (p : Program) (net : NetOf) (m : Tokens) (place : Option Control) (picks : List ℕ) → IsNetOn p asked.input net → m ≡ first_tokens net → place ≡ Some (first_control net) → picks ≡ asked.picks → (due : Due) → IsGameOf (way_by (net_moves net) (net_course net) picks) (moment m place) asked.limit Output due → IsDuePlay asked p due
-played_on asked p net m place picks own begun control same due game =
-    let there : IsGameOf (way_of net asked.picks) (opening net) asked.limit Output due =
-    subst (λ xs. IsGameOf (way_of net xs) (opening net) asked.limit Output due) same
-    (subst (λ c. IsGameOf (way_of net picks) (moment (first_tokens net) c) asked.limit Output due) control
-    (subst (λ (x : Tokens). IsGameOf (way_of net picks) (moment x place) asked.limit Output due) begun game)) in
-    record { firings = there.firings; played = record { net = net; own = own; played = there.played } }
+-- a game of the program and its data is due on it
+pub played_on : (asked : Asked) (p : Program) (game : Game Marking Place) (m : Marking) (place : Option Place) (picks : List ℕ) → IsGameOn p asked.input game → m ≡ game.start → place ≡ Some game.control → picks ≡ asked.picks → (due : Due) → IsGameOf (way_of game picks) (moment m place) asked.limit Output due → IsDuePlay asked p due
+played_on asked p game m place picks own begun control same due is =
+    let there : IsGameOf (way_of game asked.picks) (opening game) asked.limit Output due =
+    subst (λ xs. IsGameOf (way_of game xs) (opening game) asked.limit Output due) same
+    (subst (λ c. IsGameOf (way_of game picks) (moment game.start c) asked.limit Output due) control
+    (subst (λ (x : Marking). IsGameOf (way_of game picks) (moment x place) asked.limit Output due) begun is)) in
+    record { firings = there.firings; played = record { game = game; own = own; played = there.played } }

@@ -1,8 +1,8 @@
 mod DataWords
 mod GameLaws
 mod GameMeans
-mod GameLockstep
 mod GameTold
+mod NetGames
 mod NetParts
 mod OneNet
 mod Pieces

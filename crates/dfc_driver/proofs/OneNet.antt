@@ -5,9 +5,9 @@ use Rattle.std.proofs.lemmas.List.{ext_get_or}
 use mathlib.Core.Path.{fun_ext}
 use Rattle.closed_walks.specs.Graph.{Graph, edge_count}
 use Rattle.closed_walks.specs.Region.{IsFlowGraph}
-use Rattle.region_tree.specs.Tree.{Tree}
+use Rattle.region_tree.specs.Tree.{Tree, IsRegionTree}
 use Rattle.f77_tree.specs.declared.programs.Program.{Program}
-use Rattle.alias_classes.specs.Classes.{ClassTable, class_count}
+use Rattle.alias_classes.specs.Classes.{ClassTable, IsClasses, class_count}
 use Rattle.cfg_build.specs.Flow.{flow}
 use Rattle.dep_routing.specs.LineTable.{HaveRows}
 use Rattle.dep_routing.specs.Next.{Next}
@@ -17,7 +17,12 @@ use Rattle.dep_routing.specs.Touches.{AreTouches}
 use Rattle.token_net.specs.Nodes.{NetOf}
 use Rattle.token_net.specs.Parts.{AreParts, net_with}
 use Rattle.dfc_driver.specs.Game.{IsNetOn}
-use Rattle.dfc_driver.specs.GameLaws.{OneOfEach}
+
+-- a program has one table of classes and one tree of regions, and a line is led to one edge
+pub record OneOfEach : Type 0 where
+  pub classes : (p : Program) (t other : ClassTable) → IsClasses p t → IsClasses p other → t ≡ other
+  pub trees : (g : Graph) (t u : Tree) → IsFlowGraph g → IsRegionTree g t → IsRegionTree g u → t ≡ u
+  pub next : (g : Graph) (t : Tree) (touches : ℕ → ℕ → Bool) (line e f h : ℕ) → IsFlowGraph g → IsRegionTree g t → Next g t touches line e f → Next g t touches line e h → f ≡ h
 
 -- two tests that tell the same
 same_test : (A : Type 0) (a b : Bool) → (a ≡ true) ↔ A → (b ≡ true) ↔ A → a ≡ b

@@ -10,12 +10,12 @@ use Rattle.firing.specs.declared.playing.Show.{Show}
 use Rattle.firing.specs.declared.playing.Show.TheVariants.{Output}
 use Rattle.firing.specs.Play.{Moment, Way, shown}
 use Rattle.firing.specs.Runs.{IsRun}
-use Rattle.token_net.specs.Nodes.{NetOf}
 use Rattle.dfc_driver.specs.declared.reading.Code.{Code}
 use Rattle.dfc_driver.specs.declared.status.Status.{Status}
 use Rattle.dfc_driver.specs.declared.status.Status.TheVariants as status
 use Rattle.dfc_driver.specs.Codes.{name_of}
-use Rattle.dfc_driver.specs.Game.{IsNetOn, opening, way_of}
+use Rattle.dfc_driver.specs.Game.{IsGameOn, Marking, Place}
+use Rattle.dfc_driver.specs.Playing.{Game, opening, way_of}
 use Rattle.dfc_driver.specs.Reading.{Reading, Accepted, Refused, reading}
 use Rattle.dfc_driver.specs.Regions.{TellsRegions}
 use Rattle.dfc_driver.specs.Words.{Asked, Job, On, Task, Regions, Play, job_of}
@@ -74,11 +74,11 @@ pub record IsGameOf {M P : Type 0} (w : Way M P) (start : Moment M P) (limit : �
   pub firings : ℕ
   pub played : IsPlayedBy w start limit show firings due
 
--- the game of the net of a program was played
+-- the game of a program was played
 pub record IsPlayed (asked : Asked) (p : Program) (firings : ℕ) (due : Due) : Type 0 where
-  pub net : NetOf
-  pub own : IsNetOn p asked.input net
-  pub played : IsPlayedBy (way_of net asked.picks) (opening net) asked.limit Output firings due
+  pub game : Game Marking Place
+  pub own : IsGameOn p asked.input game
+  pub played : IsPlayedBy (way_of game asked.picks) (opening game) asked.limit Output firings due
 
 pub record IsDuePlay (asked : Asked) (p : Program) (due : Due) : Type 0 where
   pub firings : ℕ

@@ -6,7 +6,7 @@ ghost use Rattle.firing.specs.Control.{IsInStep};
 ghost use Rattle.firing.specs.Play.{Plays, moment};
 ghost use Rattle.dfc_driver.specs.Answers.{AnswersAs};
 ghost use Rattle.dfc_driver.specs.Due.{IsGameOf};
-ghost use Rattle.dfc_driver.specs.Game.{way_by};
+ghost use Rattle.dfc_driver.specs.Playing.{way_by};
 
 use crate::lines::{tell_limit, tell_trap};
 use crate::status::Status;

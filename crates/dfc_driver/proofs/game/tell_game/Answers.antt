@@ -1,5 +1,5 @@
 use Rattle.firing.specs.Play.{moment}
-use Rattle.dfc_driver.specs.Game.{way_by}
+use Rattle.dfc_driver.specs.Playing.{way_by}
 use Rattle.dfc_driver.proofs.GameTold.{fault_told, has_end, limit_told, rest_told, trap_told}
 use Rattle.dfc_driver.proofs.game.tell_game.Goals as goal
 

@@ -9,7 +9,8 @@ use Rattle.token_net.specs.Nodes.{NetOf}
 use Rattle.token_net.specs.Parts.{net_with}
 use Rattle.token_net.specs.Tokens.{net_moves}
 use Rattle.dfc_driver.specs.Due.{IsDuePlay, IsGameOf}
-use Rattle.dfc_driver.specs.Game.{IsNetOn, way_by}
+use Rattle.dfc_driver.specs.Game.{IsGameOn, IsNetOn, game_of}
+use Rattle.dfc_driver.specs.Playing.{way_by}
 use Rattle.dfc_driver.specs.Meant.{asked_in}
 use Rattle.dfc_driver.proofs.DataWords.{data_words}
 use Rattle.dfc_driver.proofs.GameTold.{answers_more, played_on}
@@ -37,9 +38,11 @@ returns-in-Ok-clause-due g c =
       is = refl;
     } in
     let own : IsNetOn p asked.input net = subst (λ (n : NetOf). IsNetOn p asked.input n) (sym same) made in
+    let game = game_of net in
+    let is : IsGameOn p asked.input game = record { net = net; own = own; is = refl } in
     let picks = c.deref.ensures.value ∙ c.requires.picks in
     answers_more
     (IsGameOf (way_by (net_moves net) (net_course net) c.deref.result.now) (moment (tokens_of c.in-Ok.net) c.in-Ok.net.control) asked.limit Output)
     (IsDuePlay asked p) (g.K.Sink.got c.args.sink.now) (g.K.Sink.got c.tell_game.new.sink) c.tell_game.result
-    (λ due game. played_on asked p net (tokens_of c.in-Ok.net) c.in-Ok.net.control c.deref.result.now own c.in-Ok.ensures.marking c.in-Ok.ensures.place picks due game)
+    (λ due plays. played_on asked p game (tokens_of c.in-Ok.net) c.in-Ok.net.control c.deref.result.now is c.in-Ok.ensures.marking c.in-Ok.ensures.place picks due plays)
     c.tell_game.ensures.due
