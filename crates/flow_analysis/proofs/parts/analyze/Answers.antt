@@ -1,6 +1,5 @@
-use Rattle.std.proofs.Common.{◌≡◌, ◌+◌, suc, sym, ap, subst, ◌∙◌, arith}
+use Rattle.std.proofs.Common.{◌≡◌, ◌+◌, suc, ap, subst, ◌∙◌, arith}
 use Rattle.closed_walks.specs.Graph.{Graph}
-use Rattle.region_tree.specs.Tree.{IsRegionTree}
 use Rattle.alias_classes.specs.Classes.{class_count}
 use Rattle.cfg_build.specs.Flow.{flow}
 use Rattle.cfg_build.specs.Joined.{FlowGraph}
