@@ -22,3 +22,7 @@ pub use laws::{
     needs_cover_accesses, one_numbering,
 };
 pub use write_laws::{fewer_loops_have_no_more_classes, writes_cover_changes};
+
+/// A set of the alias classes of a program has so many words of 64 bits. One bit is no class, so that a program may have
+/// `64 * CLASS_WORDS - 1` classes.
+pub const CLASS_WORDS: usize = 16;

@@ -1,19 +1,8 @@
 //! `dfc`, a dependence flow graph compiler for integer Fortran 77.
 #![tactic(auto)]
 
-mod game;
-mod lines;
-mod making;
-mod numbers;
-mod playing;
-mod reading;
-mod region_line;
-mod regions;
-mod status;
-mod top;
-mod words;
-
 use df_io::{StdSink, StdSource};
+use dfc_driver::dfc_main;
 use std::process::ExitCode;
 use std::{env, io};
 
@@ -28,7 +17,7 @@ fn main(rt: HostRuntime) -> ExitCode {
         Ok(words) => {
             let mut source = StdSource::new(rt.stdin());
             let mut sink = StdSink::new(rt.stdout());
-            ExitCode::from(top::dfc_main(rt.alloc(), &words, &mut source, &mut sink))
+            ExitCode::from(dfc_main(rt.alloc(), &words, &mut source, &mut sink))
         }
         Err(status) => ExitCode::from(status),
     }
@@ -49,6 +38,3 @@ fn arguments(rt: &HostRuntime) -> Result<Vec<String>, u8> {
     }
     Ok(words)
 }
-
-#[cfg(test)]
-mod tests;

@@ -7,10 +7,10 @@ ghost use Rattle.net_board.specs.NetParts.{AreParts};
 ghost use Rattle.dump_lines.specs.Found.{IsFoundOf};
 
 use crate::errors::no_memory;
-use crate::found::Found;
 use df_io::StdSink;
 use f77_tree::Program;
 use firing::{PlayEnd, Show, follow, play};
+use flow_analysis::Analysis;
 use op_table::Trap;
 use std::io::ErrorKind;
 use std::{env, io};
@@ -66,7 +66,7 @@ fn data_in(rt: &HostRuntime) -> io::Result<Vec<i32>> {
 }
 
 /// Fires the nodes of the net of a program, tells each one, and tells how it ended.
-pub(crate) fn fire(rt: &HostRuntime, p: &Program, found: &Found, order: &Order) -> io::Result<()>
+pub(crate) fn fire(rt: &HostRuntime, p: &Program, found: &Analysis, order: &Order) -> io::Result<()>
     requires program { IsWellFormed p.now }
     requires found { IsFoundOf p.now found.now }
 {
@@ -96,7 +96,7 @@ pub(crate) fn fire(rt: &HostRuntime, p: &Program, found: &Found, order: &Order) 
 }
 
 // What was found makes the net of the program.
-fn are_parts(p: &Program, found: &Found)
+fn are_parts(p: &Program, found: &Analysis)
     requires program { IsWellFormed p.now }
     requires found { IsFoundOf p.now found.now }
     ensures { AreParts p.now found.now.flow (touches_in found.now.touch) found.now.lines }

@@ -6,6 +6,7 @@
 #![tactic(auto)]
 
 ghost use Rattle.f77_tree.specs.WellFormed.{IsWellFormed};
+ghost use Rattle.alias_classes.specs.Number.{HasFewClasses};
 
 mod errors;
 mod firings;
@@ -60,7 +61,8 @@ fn main(rt: HostRuntime) -> io::Result<()> {
 }
 
 fn answer(rt: &HostRuntime, program: &Program, task: Task) -> io::Result<()>
-    requires { IsWellFormed program.now }
+    requires program { IsWellFormed program.now }
+    requires few { HasFewClasses program.now }
 {
     let Ok(found) = find(rt.alloc(), program) else {
         return Err(no_memory());

@@ -4,7 +4,7 @@ ghost use Rattle.std.specs.Prelude.{◌≡◌, ◌<◌, length, IfOk};
 ghost use Rattle.alias_classes.specs.Classes.{IsClasses};
 ghost use Rattle.f77_tree.specs.Value.{IsAccess};
 
-use alias_classes::Classes;
+use alias_classes::{CLASS_WORDS, Classes};
 use class_set::ClassSet;
 use df_sequence::{NoMemory, Sequence};
 use f77_tree::{Access, Expr, NameInfoList, Program};
@@ -14,8 +14,8 @@ use std::alloc::Global;
 pub(crate) fn name_sets(
     alloc: Global,
     p: &Program,
-    c: &Classes<16>,
-) -> Result<Vec<ClassSet<16>>, NoMemory>
+    c: &Classes<CLASS_WORDS>,
+) -> Result<Vec<ClassSet<CLASS_WORDS>>, NoMemory>
     requires { IsClasses p.now c.now }
     ensures { IfOk result (λ sets. length sets.items ≡ length p.now.names) }
 {

@@ -3,23 +3,24 @@
 ghost use Rattle.std.specs.Prelude.{◌≡◌, ◌<◌, ◌≤◌, ◌+◌, ◌*◌, length, IfOk};
 ghost use Rattle.closed_walks.specs.Graph.{edge_count};
 ghost use Rattle.alias_classes.specs.Classes.{IsClasses, class_count};
+ghost use Rattle.alias_classes.specs.declared.TheConstants.{CLASS_WORDS};
 ghost use Rattle.f77_tree.specs.WellFormed.{IsWellFormed};
 ghost use Rattle.dump_lines.specs.Found.{IsFoundOf};
 
 use crate::errors::no_memory;
-use crate::found::Found;
 use crate::names::name_sets;
-use alias_classes::Classes;
+use alias_classes::{CLASS_WORDS, Classes};
 use class_set::ClassSet;
 use closed_walks::Digraph;
 use dep_routing::{Lines, TouchList};
 use f77_tree::{ExecKind, NameInfoList, Program};
+use flow_analysis::Analysis;
 use std::alloc::{AllocError, Global};
 use std::fmt::Write;
 use std::io;
 
 /// Tells the lines of a program.
-pub(crate) fn tell(rt: &HostRuntime, p: &Program, found: &Found) -> io::Result<()>
+pub(crate) fn tell(rt: &HostRuntime, p: &Program, found: &Analysis) -> io::Result<()>
     requires program { IsWellFormed p.now }
     requires found { IsFoundOf p.now found.now }
 {
@@ -33,9 +34,9 @@ pub(crate) fn tell(rt: &HostRuntime, p: &Program, found: &Found) -> io::Result<(
 }
 
 // Tells the classes of words, each with the names that have one of its words.
-fn tell_classes(rt: &HostRuntime, p: &Program, c: &Classes<16>) -> io::Result<()>
+fn tell_classes(rt: &HostRuntime, p: &Program, c: &Classes<CLASS_WORDS>) -> io::Result<()>
     requires classes { IsClasses p.now c.now }
-    requires few { class_count c.now < 64 * 16 }
+    requires few { class_count c.now < 64 * CLASS_WORDS }
 {
     let Ok(sets) = name_sets(rt.alloc(), p, c) else {
         return Err(no_memory());
@@ -51,7 +52,7 @@ fn tell_classes(rt: &HostRuntime, p: &Program, c: &Classes<16>) -> io::Result<()
 fn names_in(
     alloc: Global,
     names: &NameInfoList,
-    sets: &[ClassSet<16>],
+    sets: &[ClassSet<CLASS_WORDS>],
     class: u32,
 ) -> Result<String, AllocError>
     requires { length sets.now ≡ length names.now }
@@ -69,7 +70,7 @@ fn names_in(
 }
 
 // Tells the classes of the DOs, each with the line of its DO.
-fn tell_loops(rt: &HostRuntime, p: &Program, c: &Classes<16>) -> io::Result<()>
+fn tell_loops(rt: &HostRuntime, p: &Program, c: &Classes<CLASS_WORDS>) -> io::Result<()>
     requires { IsClasses p.now c.now }
 {
     let mut loop_no = 0;
@@ -83,7 +84,7 @@ fn tell_loops(rt: &HostRuntime, p: &Program, c: &Classes<16>) -> io::Result<()>
 }
 
 // Tells which lines each piece touches.
-fn tell_touches(rt: &HostRuntime, touch: &TouchList<16>, lines: u32) -> io::Result<()> {
+fn tell_touches(rt: &HostRuntime, touch: &TouchList<CLASS_WORDS>, lines: u32) -> io::Result<()> {
     for node in 0..touch.len() {
         let members = members(rt.alloc(), touch.at(node), lines)?;
         println!(rt; "T {node}{members}")?;
@@ -92,7 +93,7 @@ fn tell_touches(rt: &HostRuntime, touch: &TouchList<16>, lines: u32) -> io::Resu
 }
 
 // The numbers in the set below the bound, each after a blank.
-fn members(alloc: Global, set: &ClassSet<16>, bound: u32) -> Result<String, AllocError> {
+fn members(alloc: Global, set: &ClassSet<CLASS_WORDS>, bound: u32) -> Result<String, AllocError> {
     let mut text = String::new(alloc);
     for n in 0..bound {
         if set.holds(n) {
@@ -103,7 +104,7 @@ fn members(alloc: Global, set: &ClassSet<16>, bound: u32) -> Result<String, Allo
 }
 
 // Tells the wires of each line.
-fn tell_wires(rt: &HostRuntime, l: &Lines<16>, edges: u32) -> io::Result<()>
+fn tell_wires(rt: &HostRuntime, l: &Lines<CLASS_WORDS>, edges: u32) -> io::Result<()>
     requires { edges ≡ l.now.edges }
 {
     for line in 0..l.lines() {
@@ -114,7 +115,12 @@ fn tell_wires(rt: &HostRuntime, l: &Lines<16>, edges: u32) -> io::Result<()>
 }
 
 // The wires of the line, each after a blank.
-fn wires_of(alloc: Global, l: &Lines<16>, edges: u32, line: u32) -> Result<String, AllocError>
+fn wires_of(
+    alloc: Global,
+    l: &Lines<CLASS_WORDS>,
+    edges: u32,
+    line: u32,
+) -> Result<String, AllocError>
     requires line { line < l.now.lines }
     requires edges { edges ≡ l.now.edges }
 {
@@ -128,7 +134,7 @@ fn wires_of(alloc: Global, l: &Lines<16>, edges: u32, line: u32) -> Result<Strin
 }
 
 // Tells to which edges the lines bypass quiet regions.
-fn tell_hops(rt: &HostRuntime, g: &Digraph, l: &Lines<16>) -> io::Result<()>
+fn tell_hops(rt: &HostRuntime, g: &Digraph, l: &Lines<CLASS_WORDS>) -> io::Result<()>
     requires { l.now.edges ≡ edge_count g.now }
 {
     let entries = entries(rt.alloc(), g)?;
@@ -155,7 +161,7 @@ fn entries(alloc: Global, g: &Digraph) -> Result<Vec<u32>, AllocError>
 fn hops_of(
     alloc: Global,
     g: &Digraph,
-    l: &Lines<16>,
+    l: &Lines<CLASS_WORDS>,
     entries: &[u32],
     line: u32,
 ) -> Result<String, AllocError>

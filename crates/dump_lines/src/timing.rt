@@ -4,17 +4,17 @@ ghost use Rattle.std.specs.Prelude.{◌≡◌};
 ghost use Rattle.f77_tree.specs.WellFormed.{IsWellFormed};
 ghost use Rattle.dump_lines.specs.Found.{IsFoundOf};
 
-use crate::found::Found;
-use alias_classes::classes_of;
+use alias_classes::{CLASS_WORDS, classes_of};
 use const_prop::constants;
 use dep_routing::{route, touches};
 use f77_tree::Program;
+use flow_analysis::Analysis;
 use redundancy::available;
 use std::io;
 use std::time::Instant;
 
 /// Finds the parts of what was found once more, and tells how long each takes.
-pub(crate) fn time(rt: &HostRuntime, p: &Program, found: &Found) -> io::Result<()>
+pub(crate) fn time(rt: &HostRuntime, p: &Program, found: &Analysis) -> io::Result<()>
     requires program { IsWellFormed p.now }
     requires found { IsFoundOf p.now found.now }
 {
@@ -31,29 +31,29 @@ fn time_classes(rt: &HostRuntime, p: &Program) -> io::Result<()>
     requires { IsWellFormed p.now }
 {
     let start = Instant::now(rt)?;
-    let made = classes_of::<16>(rt.alloc(), p).is_ok();
+    let made = classes_of::<CLASS_WORDS>(rt.alloc(), p).is_ok();
     report(rt, "classes", made, start)
 }
 
-fn time_touches(rt: &HostRuntime, p: &Program, found: &Found) -> io::Result<()>
+fn time_touches(rt: &HostRuntime, p: &Program, found: &Analysis) -> io::Result<()>
     requires program { IsWellFormed p.now }
     requires found { IsFoundOf p.now found.now }
 {
     let start = Instant::now(rt)?;
-    let made = touches::<16>(rt.alloc(), p, &found.flow, &found.classes).is_ok();
+    let made = touches::<CLASS_WORDS>(rt.alloc(), p, &found.flow, &found.classes).is_ok();
     report(rt, "touched lines", made, start)
 }
 
-fn time_wires(rt: &HostRuntime, p: &Program, found: &Found) -> io::Result<()>
+fn time_wires(rt: &HostRuntime, p: &Program, found: &Analysis) -> io::Result<()>
     requires { IsFoundOf p.now found.now }
 {
     let (g, lines) = (found.flow.graph(), found.lines.lines());
     let start = Instant::now(rt)?;
-    let made = route::<16>(rt.alloc(), g, &found.tree, &found.touch, lines).is_ok();
+    let made = route::<CLASS_WORDS>(rt.alloc(), g, &found.tree, &found.touch, lines).is_ok();
     report(rt, "wires", made, start)
 }
 
-fn time_constants(rt: &HostRuntime, p: &Program, found: &Found) -> io::Result<()>
+fn time_constants(rt: &HostRuntime, p: &Program, found: &Analysis) -> io::Result<()>
     requires program { IsWellFormed p.now }
     requires found { IsFoundOf p.now found.now }
 {
@@ -63,7 +63,7 @@ fn time_constants(rt: &HostRuntime, p: &Program, found: &Found) -> io::Result<()
     report(rt, "constants", made, start)
 }
 
-fn time_available(rt: &HostRuntime, p: &Program, found: &Found) -> io::Result<()>
+fn time_available(rt: &HostRuntime, p: &Program, found: &Analysis) -> io::Result<()>
     requires program { IsWellFormed p.now }
     requires found { IsFoundOf p.now found.now }
 {

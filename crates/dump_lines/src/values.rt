@@ -8,11 +8,12 @@ ghost use Rattle.const_prop.specs.KnownRows.{edges_of};
 ghost use Rattle.dump_lines.specs.Found.{IsFoundOf};
 
 use crate::errors::no_memory;
-use crate::found::Found;
+use alias_classes::CLASS_WORDS;
 use cfg_build::{Flow, PieceKind};
 use const_prop::{Known, Table, constants};
 use dep_routing::Lines;
 use f77_tree::{Expr, NameInfoList, Program};
+use flow_analysis::Analysis;
 use redundancy::{Avail, available};
 use std::alloc::{AllocError, Global};
 use std::fmt::Write;
@@ -20,7 +21,7 @@ use std::io;
 
 /// Tells the pieces and the edges of a program, on which wires one value is known or none comes, which out-edges are decided, and
 /// where which expressions are available.
-pub(crate) fn tell_values(rt: &HostRuntime, p: &Program, found: &Found) -> io::Result<()>
+pub(crate) fn tell_values(rt: &HostRuntime, p: &Program, found: &Analysis) -> io::Result<()>
     requires program { IsWellFormed p.now }
     requires found { IsFoundOf p.now found.now }
 {
@@ -57,7 +58,12 @@ fn tell_edges(rt: &HostRuntime, f: &Flow) -> io::Result<()> {
 }
 
 // Tells for each line on which of its wires one value is known, or none comes.
-fn tell_table(rt: &HostRuntime, t: &Table<16>, l: &Lines<16>, edges: u32) -> io::Result<()>
+fn tell_table(
+    rt: &HostRuntime,
+    t: &Table<CLASS_WORDS>,
+    l: &Lines<CLASS_WORDS>,
+    edges: u32,
+) -> io::Result<()>
     requires lines { t.now.known.lines ≡ l.now.lines }
     requires edges { edges_of t.now.known ≡ edges }
     requires wires { l.now.edges ≡ edges }
@@ -71,8 +77,8 @@ fn tell_table(rt: &HostRuntime, t: &Table<16>, l: &Lines<16>, edges: u32) -> io:
 
 fn known_row(
     alloc: Global,
-    t: &Table<16>,
-    l: &Lines<16>,
+    t: &Table<CLASS_WORDS>,
+    l: &Lines<CLASS_WORDS>,
     edges: u32,
     line: u32,
 ) -> Result<String, AllocError>
@@ -95,7 +101,7 @@ fn known_row(
 }
 
 // Tells what is decided at branches and holds.
-fn tell_decisions(rt: &HostRuntime, f: &Flow, t: &Table<16>) -> io::Result<()>
+fn tell_decisions(rt: &HostRuntime, f: &Flow, t: &Table<CLASS_WORDS>) -> io::Result<()>
     requires { length t.now.decisions ≡ f.now.graph.nodes }
 {
     for node in 0..f.pieces() {

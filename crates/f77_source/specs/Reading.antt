@@ -1,5 +1,5 @@
 -- What a source text is: a program, or its first refusal. Allocation failure has no place in it.
-use Rattle.std.specs.Prelude.{◌≡◌, ℕ, Bool, nat_lt, if◌then◌else◌, List, [], ◌∷◌, Result, Ok, Err}
+use Rattle.std.specs.Prelude.{◌≡◌, ℕ, ◌*◌, ◌-◌, Bool, nat_lt, if◌then◌else◌, List, [], ◌∷◌, Result, Ok, Err}
 use Rattle.fixed_form.specs.declared.raw_stmt.RawStmt.{RawStmt}
 use Rattle.fixed_form.specs.declared.form_end.FormEnd.{FormEnd}
 use Rattle.fixed_form.specs.declared.form_end.FormEnd.TheVariants as form
@@ -13,6 +13,7 @@ use Rattle.f77_layout.specs.declared.layout_end.LayoutEnd.{LayoutEnd}
 use Rattle.f77_layout.specs.declared.layout_end.LayoutEnd.TheVariants as layout
 use Rattle.f77_layout.specs.Layout as laid
 use Rattle.alias_classes.specs.Number.{number_of_classes}
+use Rattle.alias_classes.specs.declared.TheConstants.{CLASS_WORDS}
 use Rattle.f77_source.specs.declared.source_end.Code.{Code}
 use Rattle.f77_source.specs.declared.source_end.Code.TheVariants as code
 use Rattle.f77_source.specs.declared.source_end.Refusal.{Refusal}
@@ -67,7 +68,7 @@ layout_refusal layout.NoMemory = told code.OutOfOrder 0
 
 -- a program may have so many alias classes
 abbrev pub most_classes : ℕ
-most_classes = 1023
+most_classes = 64 * CLASS_WORDS - 1
 
 -- a program with more is refused, at the line of END
 abbrev pub unless_many_classes : (end_line : ℕ) → Program → Result Program Refusal

@@ -2,7 +2,7 @@ ghost use Rattle.std.specs.Prelude.{◌≡◌, ◌≢◌, ◌<◌, ◌≤◌, �
 ghost use Rattle.fixed_form.specs.Limits.{AreWithinForm};
 ghost use Rattle.f77_tree.specs.Operations.{HasFewOperations};
 ghost use Rattle.f77_tree.specs.WellFormed.{IsWellFormed};
-ghost use Rattle.alias_classes.specs.Number.{number_of_classes};
+ghost use Rattle.alias_classes.specs.Number.{HasFewClasses, number_of_classes};
 ghost use Rattle.f77_layout.specs.Layout.{layout, last_line};
 ghost use Rattle.f77_layout.specs.Source.{IsSource};
 ghost use Rattle.f77_source.specs.Accepted.{IsAccepted};
@@ -10,16 +10,13 @@ ghost use Rattle.f77_source.specs.Answers.{IsReadAs, told_form, told_stmt, told_
 ghost use Rattle.f77_source.specs.Reading.{reading, statements_of, most_classes, program_of as program_of_statements};
 
 use crate::{Code, Refusal, SourceEnd};
-use alias_classes::{ClassEnd, classes_are_counted, classes_of};
+use alias_classes::{CLASS_WORDS, ClassEnd, classes_are_counted, classes_of};
 use df_sequence::{NoMemory, Sequence};
 use f77_layout::{LayoutEnd, assemble};
 use f77_parse::{StmtEnd, one_statement, parse_stmt};
 use f77_tree::{LabelledList, Program};
 use fixed_form::{FormEnd, RawStmtList, statements};
 use std::alloc::Global;
-
-// A set of alias classes has so many words of 64 bits, of which one bit is no class.
-const CLASS_WORDS: usize = 16;
 
 /// The program that a source text is. In the checked dialect arithmetic traps where a result is no word.
 ///
@@ -33,7 +30,7 @@ pub fn read_program(alloc: Global, bytes: &[u8], checked: bool) -> Result<Progra
     ensures read { IsReadAs (reading bytes.now checked) result }
     ensures well_formed { IfOk result (λ program. IsWellFormed program) }
     ensures modest { IfOk result (λ program. HasFewOperations program) }
-    ensures few { IfOk result (λ program. number_of_classes program < 64 * 16) }
+    ensures few { IfOk result (λ program. HasFewClasses program) }
 {
     match statements(alloc, bytes) {
         Err(end) => Err(form_refused(end)),
@@ -48,7 +45,7 @@ fn program_of(alloc: Global, raws: &RawStmtList, checked: bool) -> Result<Progra
     ensures read { IsReadAs (program_of_statements checked (statements_of raws.now)) result }
     ensures well_formed { IfOk result (λ program. IsWellFormed program) }
     ensures modest { IfOk result (λ program. HasFewOperations program) }
-    ensures few { IfOk result (λ program. number_of_classes program < 64 * 16) }
+    ensures few { IfOk result (λ program. HasFewClasses program) }
 {
     let stmts = parsed(alloc, raws)?;
     match assemble(alloc, &stmts, checked) {

@@ -1,6 +1,6 @@
 //! Available expressions of programs, from their texts.
 use crate::flows::program_of;
-use alias_classes::classes_of;
+use alias_classes::{CLASS_WORDS, classes_of};
 use cfg_build::flow_of;
 use f77_tree::Expr;
 use redundancy::available;
@@ -23,7 +23,7 @@ I=I+1;J=I+1;END=>Add: End3 ";
 fn shown(alloc: Global, statements: &str) -> Result<String, Fail> {
     let program = program_of(alloc, statements)?;
     let flow = flow_of(alloc, &program)?;
-    let Ok(classes) = classes_of::<16>(alloc, &program) else {
+    let Ok(classes) = classes_of::<CLASS_WORDS>(alloc, &program) else {
         return Err(Fail::from("too many classes"));
     };
     let found = available(alloc, &program, &flow, &classes)?;

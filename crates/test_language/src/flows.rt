@@ -1,6 +1,7 @@
 //! Flow graphs of programs, from their texts.
 ghost use Rattle.std.specs.Prelude.{IfOk};
 ghost use Rattle.f77_tree.specs.WellFormed.{IsWellFormed};
+ghost use Rattle.alias_classes.specs.Number.{HasFewClasses};
 
 use crate::programs::text_of;
 use cfg_build::{Flow, flow_of};
@@ -35,7 +36,8 @@ fn drawn(alloc: Global, f: &Flow) -> Result<String, Fail> {
 
 /// The program of some statements.
 pub(crate) fn program_of(alloc: Global, statements: &str) -> Result<Program, Fail>
-    ensures { IfOk result IsWellFormed }
+    ensures well_formed { IfOk result IsWellFormed }
+    ensures few { IfOk result HasFewClasses }
 {
     let text = text_of(alloc, statements)?;
     if text.len() > 1_000_000 {

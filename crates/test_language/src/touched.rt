@@ -1,30 +1,19 @@
 //! The alias classes of programs, which lines their pieces touch, and where the lines are led, from their texts.
-ghost use Rattle.std.specs.Prelude.{◌≡◌, ◌<◌, length, IfOk};
-ghost use Rattle.closed_walks.specs.Graph.{edge_count};
-ghost use Rattle.closed_walks.specs.Numbering.{IsNumbering};
-ghost use Rattle.closed_walks.specs.Region.{IsFlowGraph};
-ghost use Rattle.closed_walks.specs.Walk.{IsStrong};
+ghost use Rattle.std.specs.Prelude.{◌≡◌, ◌<◌, length};
 ghost use Rattle.f77_tree.specs.CanRun.{CanExecute};
 ghost use Rattle.f77_tree.specs.WellFormed.{IsWellFormed};
-ghost use Rattle.region_tree.specs.Tree.{IsRegionTree};
 ghost use Rattle.alias_classes.specs.Classes.{IsClasses};
+ghost use Rattle.alias_classes.specs.Number.{HasFewClasses};
 
 use crate::flows::program_of;
-use alias_classes::{Classes, classes_of};
-use cfg_build::{Flow, flow_of};
+use alias_classes::{CLASS_WORDS, Classes, classes_of};
 use class_set::ClassSet;
-use closed_walks::Digraph;
-use cycle_equiv::edge_classes;
-use dep_routing::{Lines, TouchList, route, touches};
-use df_sequence::NoMemory;
+use dep_routing::{Lines, TouchList};
 use f77_tree::{ExecKind, Program, well_formed_programs_can_run};
-use region_tree::{RegionTree, region_tree};
+use flow_analysis::analyze;
 use std::alloc::{AllocError, Global};
 use std::fmt::Write;
-use std::marker::Brand;
-use std::sync::ledger::{Blank, Ledger};
 use std::test::Fail;
-use step_count::Steps;
 
 // Programs; the class of each word; what the target of each assignment hits and needs; and the class of each DO. An array that
 // another name overlaps, a COMMON block under an array, subscripts in and out of bounds, and DOs.
@@ -43,7 +32,7 @@ INTEGER A(5),B;EQUIVALENCE (A(3),B);B=9;I=3;A(I)=A(I)+1;PRINT *,B;END=>/2/3/0,1,
 END=>//=>0/=>0 1 0";
 
 /// The members of a set, with commas between them.
-fn shown(alloc: Global, set: &ClassSet<1>) -> Result<String, AllocError> {
+fn shown(alloc: Global, set: &ClassSet<CLASS_WORDS>) -> Result<String, AllocError> {
     let mut text = String::new(alloc);
     for n in 0..64 {
         if set.holds(n) {
@@ -57,7 +46,7 @@ fn shown(alloc: Global, set: &ClassSet<1>) -> Result<String, AllocError> {
 // ---- classes
 
 /// The class of each word.
-fn words(alloc: Global, words: u32, c: &Classes<1>) -> Result<String, AllocError>
+fn words(alloc: Global, words: u32, c: &Classes<CLASS_WORDS>) -> Result<String, AllocError>
     requires { words ≡ length c.now.numbers }
 {
     let mut text = String::new(alloc);
@@ -68,7 +57,7 @@ fn words(alloc: Global, words: u32, c: &Classes<1>) -> Result<String, AllocError
 }
 
 /// What the target of each assignment hits and needs.
-fn targets(alloc: Global, p: &Program, c: &Classes<1>) -> Result<String, AllocError>
+fn targets(alloc: Global, p: &Program, c: &Classes<CLASS_WORDS>) -> Result<String, AllocError>
     requires program { IsWellFormed p.now }
     requires classes { IsClasses p.now c.now }
 {
@@ -82,7 +71,12 @@ fn targets(alloc: Global, p: &Program, c: &Classes<1>) -> Result<String, AllocEr
 }
 
 /// What the target of an assignment hits and needs.
-fn target(alloc: Global, p: &Program, c: &Classes<1>, kind: &ExecKind) -> Result<String, AllocError>
+fn target(
+    alloc: Global,
+    p: &Program,
+    c: &Classes<CLASS_WORDS>,
+    kind: &ExecKind,
+) -> Result<String, AllocError>
     requires classes { IsClasses p.now c.now }
     requires executes { CanExecute p.now kind.now }
 {
@@ -97,7 +91,7 @@ fn target(alloc: Global, p: &Program, c: &Classes<1>, kind: &ExecKind) -> Result
 }
 
 /// The class of each DO.
-fn loops(alloc: Global, loops: u32, c: &Classes<1>) -> Result<String, AllocError>
+fn loops(alloc: Global, loops: u32, c: &Classes<CLASS_WORDS>) -> Result<String, AllocError>
     requires { loops ≡ c.now.loops }
 {
     let mut text = String::new(alloc);
@@ -112,7 +106,7 @@ fn words_have_classes(rt: HostRuntime) -> Result<(), Fail> {
     for case in CLASSES.lines() {
         let (statements, want) = case.split_once("=>").ok_or("no answer")?;
         let p = program_of(rt.alloc(), statements)?;
-        let c = classes_of::<1>(rt.alloc(), &p)?;
+        let c = classes_of::<CLASS_WORDS>(rt.alloc(), &p)?;
         let words = words(rt.alloc(), p.words, &c)?;
         let targets = targets(rt.alloc(), &p, &c)?;
         let loops = loops(rt.alloc(), p.loops, &c)?;
@@ -124,34 +118,8 @@ fn words_have_classes(rt: HostRuntime) -> Result<(), Fail> {
 
 // ---- lines
 
-/// The regions of a flow graph.
-fn tree_of(alloc: Global, g: &Digraph) -> Result<RegionTree, NoMemory>
-    requires { IsFlowGraph g.now }
-    ensures { IfOk result (λ tree. IsRegionTree g.now tree) }
-{
-    let classes = edge_classes_of::<Brand>(alloc, g, Blank::new(1))?;
-    region_tree(alloc, g, &classes)
-}
-
-/// The classes of the graph's edges, counted on a ledger of their own.
-fn edge_classes_of<L: Ledger>(
-    alloc: Global,
-    g: &Digraph,
-    blank: Blank,
-) -> Result<Vec<u32>, NoMemory>
-    requires strong { IsStrong g.now }
-    requires edge { 0 < edge_count g.now }
-    requires name { blank.name ≡ L.name }
-    requires parts { blank.parts ≡ L.parts }
-    requires some { 0 < blank.parts }
-    ensures { IfOk result (λ classes. IsNumbering g.now classes.items) }
-{
-    let mut steps: Steps<L> = Steps::new(blank);
-    edge_classes(alloc, g, &mut steps)
-}
-
 /// The lines that each piece touches.
-fn touched(alloc: Global, touch: &TouchList<1>) -> Result<String, AllocError> {
+fn touched(alloc: Global, touch: &TouchList<CLASS_WORDS>) -> Result<String, AllocError> {
     let mut text = String::new(alloc);
     for node in 0..touch.len() {
         write!(text, "{}/", shown(alloc, touch.at(node))?)?;
@@ -160,7 +128,7 @@ fn touched(alloc: Global, touch: &TouchList<1>) -> Result<String, AllocError> {
 }
 
 /// The wires of each line.
-fn wires(alloc: Global, l: &Lines<1>, edges: u32) -> Result<String, AllocError>
+fn wires(alloc: Global, l: &Lines<CLASS_WORDS>, edges: u32) -> Result<String, AllocError>
     requires { edges ≡ l.now.edges }
 {
     let mut text = String::new(alloc);
@@ -171,7 +139,7 @@ fn wires(alloc: Global, l: &Lines<1>, edges: u32) -> Result<String, AllocError>
 }
 
 /// The wires of a line, of which the programs have less than 64.
-fn wires_of(l: &Lines<1>, edges: u32, line: u32) -> ClassSet<1>
+fn wires_of(l: &Lines<CLASS_WORDS>, edges: u32, line: u32) -> ClassSet<CLASS_WORDS>
     requires line { line < l.now.lines }
     requires edges { edges ≡ l.now.edges }
 {
@@ -185,7 +153,7 @@ fn wires_of(l: &Lines<1>, edges: u32, line: u32) -> ClassSet<1>
 }
 
 /// The edges to which lines are led from the edges that are wanted.
-fn led(alloc: Global, l: &Lines<1>, edges: u32, wanted: &str) -> Result<String, Fail>
+fn led(alloc: Global, l: &Lines<CLASS_WORDS>, edges: u32, wanted: &str) -> Result<String, Fail>
     requires { edges ≡ l.now.edges }
 {
     let mut text = String::new(alloc);
@@ -203,16 +171,14 @@ fn led(alloc: Global, l: &Lines<1>, edges: u32, wanted: &str) -> Result<String, 
 
 /// The lines of a program.
 fn lines_of(alloc: Global, p: &Program, hops: &str) -> Result<String, Fail>
-    requires { IsWellFormed p.now }
+    requires program { IsWellFormed p.now }
+    requires few { HasFewClasses p.now }
 {
-    let f = flow_of(alloc, p)?;
-    let classes = classes_of::<1>(alloc, p)?;
-    let touch = touches::<1>(alloc, p, &f, &classes)?;
-    let tree = tree_of(alloc, f.graph())?;
-    let l = route::<1>(alloc, f.graph(), &tree, &touch, classes.count() + 1)?;
-    let touched = touched(alloc, &touch)?;
-    let wires = wires(alloc, &l, f.graph().edges())?;
-    let led = led(alloc, &l, f.graph().edges(), hops)?;
+    let found = analyze(alloc, p)?;
+    let edges = found.flow.graph().edges();
+    let touched = touched(alloc, &found.touch)?;
+    let wires = wires(alloc, &found.lines, edges)?;
+    let led = led(alloc, &found.lines, edges, hops)?;
     Ok(format!(in alloc; "{touched}=>{wires}=>{led}")?)
 }
 

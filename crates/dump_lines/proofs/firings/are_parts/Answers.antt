@@ -1,17 +1,13 @@
-use Rattle.std.proofs.Common.{◌≡◌, ◌+◌, suc, ap, subst, arith}
+use Rattle.std.proofs.Common.{◌≡◌, ◌+◌, suc, subst, arith}
 use Rattle.alias_classes.specs.Classes.{class_count}
 use Rattle.cfg_build.specs.Flow.{flow}
-use Rattle.cfg_build.specs.Joined.{FlowGraph}
 use Rattle.dep_routing.specs.Routing.{IsRouting}
 use Rattle.dep_routing.specs.Touch.{touches_in}
-use Rattle.dump_lines.proofs.NoTouches.{none_past}
 use Rattle.dump_lines.proofs.firings.are_parts.Goals as goal
 
 pub returns : goal.returns
 returns c =
     let found = c.requires.found in
-    let own = ap (λ (f : FlowGraph). f.graph.nodes) found.flow in
-    let sets = found.touched in
     let one_more : class_count c.args.found.now.classes + 1 ≡ suc (class_count c.args.found.now.classes) = omega arith in
     record {
       program = c.requires.program;
@@ -21,6 +17,6 @@ returns c =
       tree = found.routing.tree;
       own_tree = found.routing.is_tree;
       own_touches = found.touches;
-      outside = λ piece line past. none_past c.args.found.now.touch piece line (omega (arith, past, sets, own));
+      outside = found.outside;
       own_routing = subst (λ n. IsRouting (flow c.args.p.now.execs).graph found.routing.tree (touches_in c.args.found.now.touch) n c.args.found.now.lines) one_more found.routing.routing;
     }

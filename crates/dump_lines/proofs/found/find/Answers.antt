@@ -1,33 +1,35 @@
-use Rattle.std.proofs.Common.{◌≡◌, ℕ, ◌+◌, Bool, rules, ap, subst, ◌∙◌}
-use Rattle.closed_walks.specs.Graph.{Graph}
-use Rattle.f77_tree.specs.declared.programs.Program.{Program}
+use Rattle.std.proofs.Common.{◌≡◌, ◌+◌, suc, sym, ap, subst, ◌∙◌, arith}
+use Rattle.closed_walks.specs.Graph.{edge_count}
+use Rattle.closed_walks.specs.Region.{IsFlowGraph}
 use Rattle.alias_classes.specs.Classes.{class_count}
 use Rattle.cfg_build.specs.Flow.{flow}
 use Rattle.cfg_build.specs.Joined.{FlowGraph}
-use Rattle.region_tree.specs.Tree.{Tree, IsRegionTree}
-use Rattle.dep_routing.specs.Routing.{Routing, IsRouting}
+use Rattle.region_tree.specs.Tree.{IsRegionTree}
+use Rattle.dep_routing.specs.Routing.{IsRouting}
 use Rattle.dep_routing.specs.Touch.{touches_in}
-use Rattle.const_prop.specs.Right.{IsProgramRouting}
 use Rattle.dump_lines.proofs.found.find.Goals as goal
 
-routed : (p : Program) (f : FlowGraph) (touches : ℕ → ℕ → Bool) (tree : Tree) (g h : Graph) (count classes : ℕ) (r : Routing) → f ≡ flow p.execs → g ≡ f.graph → h ≡ f.graph → count ≡ classes → IsRegionTree g tree → IsRouting h tree touches (count + 1) r → IsProgramRouting p touches (classes + 1) r
-routed p f touches tree g h count classes r is g_is h_is count_is is_tree routing =
-    let graph : f.graph ≡ (flow p.execs).graph = ap (λ (x : FlowGraph). x.graph) is in
-    record {
-      tree = tree;
-      is_tree = subst (λ (x : Graph). IsRegionTree x tree) (g_is ∙ graph) is_tree;
-      routing = subst (λ (x : Graph). IsRouting x tree touches (classes + 1) r) (h_is ∙ graph) (subst (λ n. IsRouting h tree touches (n + 1) r) count_is routing);
-    }
-
 pub returns : goal.returns
-returns c = record {
-  flow = search rules;
-  classes = search rules;
-  few = search rules;
-  flow_graph = search rules;
-  tree = search rules;
-  touched = search rules;
-  touches = search rules;
-  edges = search rules;
-  routing = routed c.args.p.now c.in_ok-flow.flow (touches_in c.in_ok-touch.touch) c.in_ok-tree.tree c.graph.result.now c.graph-2.result.now c.count.result (class_count c.in_ok-classes.classes) c.in_ok-lines.lines c.in_ok-flow.ensures.flow c.graph.ensures c.graph-2.ensures c.count.ensures.count c.in_ok-tree.ensures c.in_ok-lines.ensures.routing;
-}
+returns c =
+    let p = c.args.p.now in
+    let found = c.in_ok-found.found in
+    let is = c.in_ok-found.ensures in
+    let back = sym is.own_flow in
+    let touches = touches_in found.touch in
+    let one_more : suc (class_count found.classes) ≡ class_count found.classes + 1 = omega arith in
+    record {
+      flow = is.own_flow;
+      classes = is.classes;
+      few = is.few;
+      flow_graph = subst (λ (f : FlowGraph). IsFlowGraph f.graph) back is.strong;
+      tree = subst (λ (f : FlowGraph). IsRegionTree f.graph found.tree) back is.tree;
+      touched = is.sets ∙ ap (λ (f : FlowGraph). f.graph.nodes) back;
+      touches = is.touches;
+      outside = is.outside;
+      edges = is.routing.edges ∙ ap (λ (f : FlowGraph). edge_count f.graph) back;
+      routing = record {
+        tree = found.tree;
+        is_tree = is.tree;
+        routing = subst (λ n. IsRouting (flow p.execs).graph found.tree touches n found.lines) one_more is.routing;
+      };
+    }

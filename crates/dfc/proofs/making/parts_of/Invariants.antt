@@ -1,5 +1,0 @@
-use Rattle.dfc.proofs.making.parts_of.Given as goal
-
--- the ledger of the count of steps
-abbrev pub ghosts-edge_numbers : goal.ghosts-edge_numbers
-ghosts-edge_numbers a = record { name = a.blank.name; parts = a.blank.parts }

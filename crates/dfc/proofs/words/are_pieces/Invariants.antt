@@ -1,5 +1,0 @@
-use Rattle.dfc.proofs.Pieces.{AreRead}
-use Rattle.dfc.proofs.words.are_pieces.Given as goal
-
-abbrev pub invariant-loop-k : goal.invariant-loop-k
-invariant-loop-k l = AreRead l.setting l.text l.begin l.k

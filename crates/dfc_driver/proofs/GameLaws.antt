@@ -1,0 +1,63 @@
+-- What games mean, from what is known of nets and runs.
+use Rattle.std.proofs.Common.{◌≡◌, ◌≢◌, ℕ, ◌≤◌, Bool, List, [], length, sym, subst, ◌∙◌, arith}
+use Rattle.closed_walks.specs.Region.{IsFlowGraph}
+use Rattle.f77_tree.specs.declared.programs.Program.{Program}
+use Rattle.cfg_build.specs.Flow.{flow}
+use Rattle.firing.specs.declared.playing.PlayEnd.{PlayEnd}
+use Rattle.firing.specs.declared.playing.PlayEnd.TheVariants.{Rest, Trapped, Limit, WriteFault}
+use Rattle.firing.specs.declared.playing.Show.TheVariants.{Output}
+use Rattle.firing.specs.Orders.{IsOver, after}
+use Rattle.firing.specs.Play.{shown}
+use Rattle.firing.specs.Runs.{IsRun}
+use Rattle.dfc_driver.specs.Due.{Due, IsDueBy, IsDuePlay, IsPlayedBy}
+use Rattle.dfc_driver.specs.Game.{Marking, Place}
+use Rattle.dfc_driver.specs.Headline.{MeansOn, MeansPlay, bound_of}
+use Rattle.dfc_driver.specs.Playing.{Game, opening, way_of}
+use Rattle.dfc_driver.specs.Words.{Asked, Play}
+use Rattle.dfc_driver.specs.GameLaws.{GameLaws}
+use Rattle.dfc_driver.proofs.GameMeans.{done_by, fails_by, prefix_of_run, rests, traps}
+
+same_due : (e f : PlayEnd) (limit : ℕ) (text : List ℕ) (a b : Due) → e ≡ f → IsDueBy e limit text a → IsDueBy f limit text b → a ≡ b
+same_due e f limit text a b same left right = on e (subst (λ x. IsDueBy x limit text b) (sym same) right) left
+  where
+    on : (x : PlayEnd) → IsDueBy x limit text b → IsDueBy x limit text a → a ≡ b
+    on (Rest n) right left = left ∙ sym right
+    on (Trapped trap line) right left = left ∙ sym right
+    on Limit right left = left ∙ sym right
+    on (WriteFault n) right left = absurd left
+
+module _ (laws : GameLaws) (asked : Asked) (checked : Bool) (p : Program) (strong : IsFlowGraph (flow p.execs).graph) where
+  one_due : (game : Game Marking Place) (n m : ℕ) (a b : Due) → IsPlayedBy (way_of game asked.picks) (opening game) asked.limit Output n a → IsPlayedBy (way_of game asked.picks) (opening game) asked.limit Output m b → a ≡ b
+  one_due game n m a b left right =
+      let same = laws.runs.one (way_of game asked.picks) (opening game) asked.limit n m left.end right.end left.run right.run in
+      same_due left.end right.end asked.limit (shown (way_of game asked.picks) Output (opening game) n) a b same.1 left.is
+      (subst (λ i. IsDueBy right.end asked.limit (shown (way_of game asked.picks) Output (opening game) i) b) (sym same.0) right.is)
+
+  one : (a b : Due) → IsDuePlay asked p a → IsDuePlay asked p b → a ≡ b
+  one a b left right =
+      let game = laws.one p asked.input right.played.game left.played.game strong right.played.own left.played.own in
+      one_due left.played.game left.firings right.firings a b left.played.played
+      (subst (λ (x : Game Marking Place). IsPlayedBy (way_of x asked.picks) (opening x) asked.limit Output right.firings b) game right.played.played)
+
+  means : (due : Due) → IsDuePlay asked p due → MeansPlay asked p due
+  means due is =
+      let game = is.played.game in
+      let own = is.played.own in
+      let run = is.played.played.run in
+      let end = is.played.played.end in
+      let told = is.played.played.is in
+      let lockstep = laws.lockstep p asked.input game own in
+      let all = laws.runs.nodes (way_of game asked.picks) (opening game) asked.limit is.firings end run in
+      let within : (n : ℕ) → length (game.own_order n) ≤ bound_of p n = λ n. let few = lockstep.few n in let enough = laws.few p asked.input game n own in omega (arith, few, enough) in
+      let due_runs : (steps : ℕ) (e : PlayEnd) → asked.picks ≡ [] → IsRun (way_of game asked.picks) (opening game) asked.limit is.firings e → IsOver game.moves (after game.moves game.start (game.own_order steps)) → length (game.own_order steps) ≤ asked.limit → e ≢ Limit =
+      λ steps e none made over few. laws.due p asked.input game own (game.own_order steps) asked.limit is.firings e (lockstep.due steps) over few (subst (λ picks. IsRun (way_of game picks) (opening game) asked.limit is.firings e) none made) in
+      record {
+        prefix = prefix_of_run laws.stop_first asked p due game lockstep within is.firings is.played all end told;
+        rests = rests laws.stop_first asked p due game lockstep within is.firings is.played all end run told;
+        traps = traps laws.stop_first asked p due game lockstep within is.firings is.played all end run told;
+        ends = λ steps ends enough. done_by laws.stop_first asked p due game lockstep within is.firings is.played all steps ends enough end run told;
+        fails = λ steps trap line fails none enough. fails_by laws.stop_first asked p due game lockstep within is.firings is.played all due_runs steps trap line fails none enough end run told;
+      }
+
+  pub game_means : MeansOn (Play asked) checked p
+  game_means = record { one = one; means = means }

@@ -1,0 +1,90 @@
+-- The text of regions, part after part, and what it means.
+use Rattle.std.proofs.Common.{◌≡◌, ℕ, Bool, List, [], ◌++◌, Option, sym, ap, subst, ◌∙◌, length}
+use Rattle.closed_walks.specs.Graph.{Graph, edge_count}
+use Rattle.closed_walks.specs.Numbering.{fresh, IsNumbering}
+use Rattle.closed_walks.specs.Region.{IsFlowGraph}
+use Rattle.cfg_build.specs.Joined.{FlowGraph}
+use Rattle.cfg_build.specs.Flow.{flow}
+use Rattle.df_io.specs.TextBuffer.{IsWrittenBut}
+use Rattle.df_io.specs.Write.{AppendsPrefix}
+use Rattle.df_io.proofs.Prefixes.{AppendsPrefix-longer}
+use Rattle.df_io.proofs.LongTexts.{fault_at_piece}
+use Rattle.f77_tree.specs.declared.programs.Program.{Program}
+use Rattle.region_tree.specs.Tree.{Tree, IsRegionTree, region_count}
+use Rattle.dfc_driver.specs.declared.regions.Found.{Found}
+use Rattle.dfc_driver.specs.Words.{Regions}
+use Rattle.dfc_driver.specs.Due.{Due, IsDueOn, done}
+use Rattle.dfc_driver.specs.Found.{IsFoundOf, text_of}
+use Rattle.dfc_driver.specs.Headline.{Means, MeansOn}
+use Rattle.dfc_driver.specs.Regions.{counts_line, piece_lines, region_lines, regions_text, TellsRegions}
+
+-- the first part, after an empty buffer
+pub told_first : (a b : Option (List ℕ)) (empty held bytes part : List ℕ) → empty ≡ [] → bytes ≡ part → IsWrittenBut held a b (empty ++ bytes) → IsWrittenBut held a b part
+told_first a b empty held bytes part none is now = subst (IsWrittenBut held a b) (ap (λ prefix. prefix ++ bytes) none ∙ is) now
+
+-- a fault at the first part, before three others
+pub fault_first : (a b : Option (List ℕ)) (empty bytes part second third last : List ℕ) → empty ≡ [] → bytes ≡ part → AppendsPrefix a b (empty ++ bytes) → AppendsPrefix a b (part ++ second ++ third ++ last)
+fault_first a b empty bytes part second third last none is prefix =
+    AppendsPrefix-longer a b (part ++ second ++ third) last (AppendsPrefix-longer a b (part ++ second) third (AppendsPrefix-longer a b part second
+    (subst (AppendsPrefix a b) (ap (λ prefix. prefix ++ bytes) none ∙ is) prefix)))
+
+-- a fault at a part, before two others
+pub fault_before_two : (a b c : Option (List ℕ)) (held text part next last : List ℕ) → IsWrittenBut held a b text → AppendsPrefix b c (held ++ part) → AppendsPrefix a c (text ++ part ++ next ++ last)
+fault_before_two a b c held text part next last before prefix =
+    AppendsPrefix-longer a c (text ++ part ++ next) last (AppendsPrefix-longer a c (text ++ part) next (fault_at_piece a b c held text part before prefix))
+
+-- a fault at a part, before another one
+pub fault_before_one : (a b c : Option (List ℕ)) (held text part last : List ℕ) → IsWrittenBut held a b text → AppendsPrefix b c (held ++ part) → AppendsPrefix a c (text ++ part ++ last)
+fault_before_one a b c held text part last before prefix =
+    AppendsPrefix-longer a c (text ++ part) last (fault_at_piece a b c held text part before prefix)
+
+-- the line of counts depends on the counts alone
+pub counts_same : (p p' e e' k k' r r' : ℕ) → p ≡ p' → e ≡ e' → k ≡ k' → r ≡ r' → counts_line p e k r ≡ counts_line p' e' k' r'
+counts_same p p' e e' k k' r r' one two three four =
+    ap (λ n. counts_line n e k r) one ∙ ap (λ n. counts_line p' n k r) two ∙ ap (λ n. counts_line p' e' n r) three ∙ ap (counts_line p' e' k') four
+
+-- the text of what was found tells the regions
+pub found_tells : (p : Program) (found : Found) → IsFoundOf p found → TellsRegions p (text_of found)
+found_tells p found is = record {
+  classes = found.classes.items;
+  numbering = subst (λ (f : FlowGraph). IsNumbering f.graph found.classes.items) is.flow is.classes;
+  tree = found.tree;
+  regions = subst (λ (f : FlowGraph). IsRegionTree f.graph found.tree) is.flow is.tree;
+  is = ap (λ (f : FlowGraph). regions_text f found.classes.items found.tree) is.flow;
+}
+
+-- there is one numbering of the classes of a graph, and one tree of its regions
+abbrev pub OneNumbering : Type 0
+OneNumbering = (g : Graph) (classes others : List ℕ) → IsNumbering g classes → IsNumbering g others → classes ≡ others
+
+abbrev pub OneTree : Type 0
+OneTree = (g : Graph) (t u : Tree) → IsFlowGraph g → IsRegionTree g t → IsRegionTree g u → t ≡ u
+
+-- two texts that tell the regions of a program are the same
+one_text : (p : Program) (a b : List ℕ) → OneNumbering → OneTree → IsFlowGraph (flow p.execs).graph → TellsRegions p a → TellsRegions p b → a ≡ b
+one_text p a b one_numbering one_tree strong first second =
+    let f = flow p.execs in
+    let classes = one_numbering f.graph first.classes second.classes first.numbering second.numbering in
+    let tree = one_tree f.graph first.tree second.tree strong first.regions second.regions in
+    first.is ∙ ap (λ (xs : List ℕ). regions_text f xs first.tree) classes ∙ ap (regions_text f second.classes) tree ∙ sym second.is
+
+-- what is due tells each piece, edge and region once
+regions_told : (checked : Bool) (p : Program) (due : Due) → IsDueOn Regions checked p due → Means Regions checked p due
+regions_told checked p due is =
+    let f = flow p.execs in
+    record {
+      done = ap (λ (d : Due). d.status) is.done;
+      classes = is.text.classes;
+      tree = is.text.tree;
+      lines = is.text.is;
+      same = is.text.numbering.same;
+      regions = is.text.regions;
+    }
+
+pub regions_mean : (checked : Bool) (p : Program) (found : Found) → OneNumbering → OneTree → IsFoundOf p found → MeansOn Regions checked p
+regions_mean checked p found one_numbering one_tree is =
+    let strong : IsFlowGraph (flow p.execs).graph = subst (λ (f : FlowGraph). IsFlowGraph f.graph) is.flow is.strong in
+    record {
+      one = λ a b first second. first.done ∙ ap done (one_text p a.text b.text one_numbering one_tree strong first.text second.text) ∙ sym second.done;
+      means = regions_told checked p;
+    }

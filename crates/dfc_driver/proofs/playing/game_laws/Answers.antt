@@ -1,0 +1,25 @@
+use Rattle.dfc_driver.proofs.NetGames.{LockstepLaws, due_ends, few_firings, one_game, stays_in_lockstep}
+use Rattle.dfc_driver.proofs.OneNet.{OneOfEach}
+use Rattle.dfc_driver.proofs.playing.game_laws.Goals as goal
+
+pub returns : goal.returns
+returns c =
+    let each : OneOfEach = record { classes = c.one_numbering.ensures; trees = c.one_tree.ensures; next = c.next_edges.ensures.one } in
+    let laws : LockstepLaws = record {
+      made = c.parts_make_nets.ensures;
+      begins = c.nets_begin_soundly.ensures;
+      flows = c.flow_graphs_ground_nets.ensures;
+      runs = c.runs_ground_nets.ensures;
+      simulated = c.nets_simulate_programs.ensures.simulated;
+      due = c.nets_simulate_programs.ensures.due;
+      few = c.nets_simulate_programs.ensures.few;
+      follows = c.every_order_follows.ensures;
+    } in
+    record {
+      runs = record { one = c.runs_end.ensures.one; nodes = c.runs_end.ensures.nodes };
+      due = due_ends c.due_orders_end.ensures;
+      one = one_game each;
+      lockstep = stays_in_lockstep each laws;
+      few = few_firings c.classes_are_counted.ensures;
+      stop_first = c.runs_stop_first.ensures;
+    }

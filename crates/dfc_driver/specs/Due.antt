@@ -1,0 +1,111 @@
+-- What is due for some words and a text: a status, and the bytes that are written.
+use Rattle.std.specs.Prelude.{◌≡◌, ℕ, Bool, List, [], ◌∷◌, ◌++◌, Option, Some, None, codes}
+use Rattle.std.specs.Fmt.{decimal}
+use Rattle.op_table.specs.declared.Trap.{Trap}
+use Rattle.op_table.specs.declared.Trap.TheVariants.{Divide, Subscript, Step, Input, Overflow}
+use Rattle.f77_tree.specs.declared.programs.Program.{Program}
+use Rattle.firing.specs.declared.playing.PlayEnd.{PlayEnd}
+use Rattle.firing.specs.declared.playing.PlayEnd.TheVariants as end
+use Rattle.firing.specs.declared.playing.Show.{Show}
+use Rattle.firing.specs.declared.playing.Show.TheVariants.{Output}
+use Rattle.firing.specs.Play.{Moment, Way, shown}
+use Rattle.firing.specs.Runs.{IsRun}
+use Rattle.dfc_driver.specs.declared.reading.Code.{Code}
+use Rattle.dfc_driver.specs.declared.status.Status.{Status}
+use Rattle.dfc_driver.specs.declared.status.Status.TheVariants as status
+use Rattle.dfc_driver.specs.Codes.{name_of}
+use Rattle.dfc_driver.specs.Game.{IsGameOn, Marking, Place}
+use Rattle.dfc_driver.specs.Playing.{Game, opening, way_of}
+use Rattle.dfc_driver.specs.Reading.{Reading, Accepted, Refused, reading}
+use Rattle.dfc_driver.specs.Regions.{TellsRegions}
+use Rattle.dfc_driver.specs.Words.{Asked, Job, On, Task, Regions, Play, job_of}
+
+-- a status, what the job writes, and after that the line that tells how it ended, or nothing
+pub record Due : Type 0 where
+  pub status : Status
+  pub text : List ℕ
+  pub last : List ℕ
+
+-- all bytes that are written
+abbrev pub all_due : Due → List ℕ
+all_due due = due.text ++ due.last
+
+-- the words have no meaning
+abbrev pub usage : Due
+usage = record { status = status.Usage; text = []; last = codes "USAGE" ++ 10 ∷ [] }
+
+-- the text is refused, by a code and the line that it is told at
+abbrev pub refusal : ℕ → Code → Due
+refusal line code = record { status = status.Refused; text = []; last = codes "REFUSED " ++ decimal line ++ 32 ∷ [] ++ name_of code ++ 10 ∷ [] }
+
+-- the job is done
+abbrev pub done : List ℕ → Due
+done text = record { status = status.Done; text = text; last = [] }
+
+abbrev pub trap_name : Trap → List ℕ
+trap_name Divide = codes "DIVIDE"
+trap_name Subscript = codes "SUBSCRIPT"
+trap_name Step = codes "STEP"
+trap_name Input = codes "INPUT"
+trap_name Overflow = codes "OVERFLOW"
+
+-- a trap came after this text, at this line of the source
+abbrev pub trapped : (text : List ℕ) → Trap → (line : ℕ) → Due
+trapped text trap line = record { status = status.Trapped; text = text; last = codes "TRAP " ++ trap_name trap ++ codes " LINE " ++ decimal line ++ 10 ∷ [] }
+
+-- after this text so many firings were made, and more are possible
+abbrev pub stopped : (text : List ℕ) → (limit : ℕ) → Due
+stopped text limit = record { status = status.Limit; text = text; last = codes "LIMIT " ++ decimal limit ++ 10 ∷ [] }
+
+-- what is due after a text where a game ends like this; nothing is after a fault of the sink
+abbrev pub IsDueBy : PlayEnd → (limit : ℕ) → (text : List ℕ) → Due → Type 0
+IsDueBy (end.Rest n) limit text due = due ≡ done text
+IsDueBy (end.Trapped trap line) limit text due = due ≡ trapped text trap line
+IsDueBy end.Limit limit text due = due ≡ stopped text limit
+IsDueBy (end.WriteFault n) limit text due = ⊥
+
+-- A game was played for so many firings: up to a rest, a trap or the limit, whatever comes first. Its text is what is shown of them.
+pub record IsPlayedBy {M P : Type 0} (w : Way M P) (start : Moment M P) (limit : ℕ) (show : Show) (firings : ℕ) (due : Due) : Type 0 where
+  pub end : PlayEnd
+  pub run : IsRun w start limit firings end
+  pub is : IsDueBy end limit (shown w show start firings) due
+
+pub record IsGameOf {M P : Type 0} (w : Way M P) (start : Moment M P) (limit : ℕ) (show : Show) (due : Due) : Type 0 where
+  pub firings : ℕ
+  pub played : IsPlayedBy w start limit show firings due
+
+-- the game of a program was played
+pub record IsPlayed (asked : Asked) (p : Program) (firings : ℕ) (due : Due) : Type 0 where
+  pub game : Game Marking Place
+  pub own : IsGameOn p asked.input game
+  pub played : IsPlayedBy (way_of game asked.picks) (opening game) asked.limit Output firings due
+
+pub record IsDuePlay (asked : Asked) (p : Program) (due : Due) : Type 0 where
+  pub firings : ℕ
+  pub played : IsPlayed asked p firings due
+
+-- this is due, and nothing else
+abbrev pub IsJust : Due → Due → Type 0
+IsJust only due = due ≡ only
+
+-- The job is done, with a text that is as asked.
+pub record IsDoneBy (asked : List ℕ → Type 0) (due : Due) : Type 0 where
+  pub text : asked due.text
+  pub done : due ≡ done due.text
+
+-- what each task owes on a program of the plain dialect or of the checked one
+abbrev pub IsDueOn : Task → (checked : Bool) → Program → Due → Type 0
+IsDueOn Regions checked p = IsDoneBy (TellsRegions p)
+IsDueOn (Play asked) checked p = IsDuePlay asked p
+
+abbrev pub IsDueRead : Task → (checked : Bool) → Reading → Due → Type 0
+IsDueRead task checked (Refused line code) = IsJust (refusal line code)
+IsDueRead task checked (Accepted p) = IsDueOn task checked p
+
+abbrev pub IsDueFor : Option Job → List ℕ → Due → Type 0
+IsDueFor None bytes = IsJust usage
+IsDueFor (Some (On task checked)) bytes = IsDueRead task checked (reading checked bytes)
+
+-- this is due for the words and the text
+abbrev pub IsDue : List (List ℕ) → List ℕ → Due → Type 0
+IsDue words bytes = IsDueFor (job_of words) bytes

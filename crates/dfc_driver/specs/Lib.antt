@@ -1,0 +1,12 @@
+pub mod Words
+pub mod Meant
+pub mod Codes
+pub mod Reading
+pub mod Playing
+pub mod Game
+pub mod Regions
+pub mod Found
+pub mod Due
+pub mod GameLaws
+pub mod Answers
+pub mod Headline

@@ -1,0 +1,41 @@
+-- What a job that was read from words means. Its picks and its data are still texts.
+use Rattle.std.specs.Prelude.{◌≡◌, ℕ, true, List, [], ◌∷◌, Option, Some, None}
+use Rattle.fixed_form.specs.Columns.{number}
+use Rattle.dfc_driver.specs.declared.words.GameWords.{GameWords}
+use Rattle.dfc_driver.specs.declared.words.Job as read
+use Rattle.dfc_driver.specs.declared.words.Job.TheVariants as read_job
+use Rattle.dfc_driver.specs.declared.words.Setting.{Setting}
+use Rattle.dfc_driver.specs.declared.words.Setting.TheVariants.{Picks, Data}
+use Rattle.dfc_driver.specs.declared.words.Task as read_tasks
+use Rattle.dfc_driver.specs.declared.words.Task.TheVariants as read_task
+use Rattle.dfc_driver.specs.Words.{Asked, Task, Regions, Play, Job, On, is_text, values_in, word_value}
+
+abbrev pub asked_in : GameWords → Asked
+asked_in words = record { limit = words.limit; picks = values_in number words.picks.now; input = values_in word_value words.input.now }
+
+abbrev pub task_meant : read_tasks.Task → Task
+task_meant read_task.Regions = Regions
+task_meant (read_task.Play words) = Play (asked_in words)
+
+abbrev pub job_meant : read.Job → Job
+job_meant (read_job.On task checked) = On (task_meant task) checked
+
+abbrev pub meant : Option read.Job → Option Job
+meant None = None
+meant (Some job) = Some (job_meant job)
+
+-- such a text stands after the name of the setting, or there is none
+abbrev pub MayStand : Setting → List ℕ → Type 0
+MayStand s [] = Unit {0}
+MayStand s (c ∷ text) = is_text s (c ∷ text) ≡ true
+
+pub record AreGameWords (words : GameWords) : Type 0 where
+  pub picks : MayStand Picks words.picks.now
+  pub input : MayStand Data words.input.now
+
+abbrev pub IsTask : read_tasks.Task → Type 0
+IsTask read_task.Regions = Unit {0}
+IsTask (read_task.Play words) = AreGameWords words
+
+abbrev pub IsJob : read.Job → Type 0
+IsJob (read_job.On task checked) = IsTask task

@@ -1,0 +1,18 @@
+//! The jobs of `dfc`: what its words ask for, done on the bytes of a source and written to a sink, with the exit status. Programs
+//! call it with sources and sinks of their own.
+#![tactic(auto)]
+
+mod game;
+mod lines;
+mod numbers;
+mod playing;
+mod reading;
+mod region_line;
+mod regions;
+mod status;
+mod top;
+mod words;
+
+pub use reading::Code;
+pub use status::Status;
+pub use top::dfc_main;

@@ -1,0 +1,218 @@
+ghost use Rattle.std.specs.Prelude.{◌≡◌, ◌<◌, ◌≤◌, ◌^◌, [], true, false, map, length, drop, IfSome, MatchOption};
+ghost use Rattle.std.specs.List.{list_all};
+ghost use Rattle.std.specs.String.{string_bytes};
+ghost use Rattle.f77_tree.specs.Name.{is_figure};
+ghost use Rattle.fixed_form.specs.Columns.{number};
+ghost use Rattle.dfc_driver.specs.Meant.{IsJob, MayStand, meant};
+ghost use Rattle.dfc_driver.specs.Words.{job_of, play_of, after, text_of, limit_in as spec_limit_in, dialect_of, are_digits_to as spec_are_digits_to, is_piece as spec_is_piece, is_setting, is_text as spec_is_text, is_word as spec_is_word, is_number_to as spec_is_number_to, name_of, pieces_after};
+
+/// What the words after the program's name ask for.
+#[derive(Clone, Copy, Debug, PartialEq, Eq)]
+pub enum Job<'a> {
+    /// A task on the program of the text that the source has, in the checked dialect, where a result that is no word traps, or in
+    /// the plain one, where results wrap to words.
+    On(Task<'a>, bool),
+}
+
+/// What is done with a program.
+#[derive(Clone, Copy, Debug, PartialEq, Eq)]
+pub enum Task<'a> {
+    /// The pieces, edges, classes and regions of its flow graph are written.
+    Regions,
+    /// The game of its net is played, and its output written.
+    Play(GameWords<'a>),
+}
+
+/// What a game is asked to do, as far as words tell it without memory.
+#[derive(Clone, Copy, Debug, PartialEq, Eq)]
+pub struct GameWords<'a> {
+    /// The most firings.
+    pub limit: u64,
+    /// The picks that choose nodes, as they stand in a word, or nothing: the source's own order.
+    pub picks: &'a [u8],
+    /// The words that READ takes, as they stand in a word, or nothing.
+    pub input: &'a [u8],
+}
+
+/// A setting of a game.
+#[derive(Clone, Copy, Debug, PartialEq, Eq)]
+pub enum Setting {
+    /// The most firings.
+    Limit,
+    /// The picks that choose nodes.
+    Picks,
+    /// The words that READ takes.
+    Data,
+}
+
+/// The job that the words ask for, or none where they have no meaning.
+pub fn read_words(words: &[String]) -> Option<Job<'_>>
+    ensures job { meant result ≡ job_of (map string_bytes words.now) }
+    ensures texts { IfSome result IsJob }
+{
+    match words {
+        [word, options @ ..] if word.as_str() == "regions" => {
+            let checked = read_dialect(options)?;
+            Some(Job::On(Task::Regions, checked))
+        }
+        [word, options @ ..] if word.as_str() == "fire" => read_game(options),
+        _ => None,
+    }
+}
+
+// The game that the words after `fire` ask for.
+fn read_game(words: &[String]) -> Option<Job<'_>>
+    ensures job { meant result ≡ play_of (map string_bytes words.now) }
+    ensures texts { IfSome result IsJob }
+{
+    let (limit, words) = split_setting(Setting::Limit, words);
+    let (picks, words) = split_setting(Setting::Picks, words);
+    let (input, words) = split_setting(Setting::Data, words);
+    let checked = read_dialect(words)?;
+    let limit = limit_in(limit);
+    Some(Job::On(
+        Task::Play(GameWords {
+            limit,
+            picks,
+            input,
+        }),
+        checked,
+    ))
+}
+
+// What a setting says that stands before the words, if it does, and the words after it.
+fn split_setting(setting: Setting, words: &[String]) -> (&[u8], &[String])
+    ensures text { result.0.now ≡ text_of setting (map string_bytes words.now) }
+    ensures may { MayStand setting result.0.now }
+    ensures rest { map string_bytes result.1.now ≡ after setting (map string_bytes words.now) }
+{
+    match words {
+        [word, rest @ ..] => match setting_text(setting, word.as_str().as_bytes()) {
+            Some(text) => (text, rest),
+            None => (&[], words),
+        },
+        [] => (&[], words),
+    }
+}
+
+// What a word says that is such a setting.
+fn setting_text(setting: Setting, word: &[u8]) -> Option<&[u8]>
+    ensures is { MatchOption result (is_setting setting word.now ≡ false) (λ text. is_setting setting word.now ≡ true) }
+    ensures text { IfSome result (λ text. text.now ≡ drop (length (name_of setting)) word.now) }
+{
+    let text = match setting {
+        Setting::Limit => word.strip_prefix(b"limit=")?,
+        Setting::Picks => word.strip_prefix(b"picks=")?,
+        Setting::Data => word.strip_prefix(b"data=")?,
+    };
+    if is_text(setting, text) {
+        Some(text)
+    } else {
+        None
+    }
+}
+
+// The limit that the text tells. Without a text it is a million.
+fn limit_in(text: &[u8]) -> u64
+    requires { MayStand Setting.Limit text.now }
+    ensures { result ≡ spec_limit_in text.now }
+{
+    if text.is_empty() {
+        1_000_000
+    } else {
+        number_in(text)
+    }
+}
+
+// Whether the last word chooses the checked dialect.
+fn read_dialect(words: &[String]) -> Option<bool>
+    ensures { result ≡ dialect_of (map string_bytes words.now) }
+{
+    match words {
+        [] => Some(false),
+        [word] if word.as_str() == "checked" => Some(true),
+        _ => None,
+    }
+}
+
+// Whether such a text may stand after the name of the setting.
+fn is_text(setting: Setting, text: &[u8]) -> bool
+    ensures { result ≡ spec_is_text setting text.now }
+{
+    match setting {
+        Setting::Limit => is_piece(Setting::Limit, text),
+        Setting::Picks | Setting::Data => are_pieces(setting, text),
+    }
+}
+
+// Whether each piece between commas may stand there.
+fn are_pieces(setting: Setting, text: &[u8]) -> bool
+    ensures { result ≡ list_all (spec_is_piece setting) (pieces_after [] text.now) }
+{
+    let mut begin = 0;
+    for (k, c) in text.iter().enumerate() {
+        if *c == b',' {
+            if !is_piece(setting, &text[begin..k]) {
+                return false;
+            }
+            begin = k + 1;
+        }
+    }
+    is_piece(setting, &text[begin..])
+}
+
+// Whether the piece may stand between commas.
+fn is_piece(setting: Setting, piece: &[u8]) -> bool
+    ensures { result ≡ spec_is_piece setting piece.now }
+{
+    match setting {
+        Setting::Limit => are_digits_to(18, piece),
+        Setting::Picks => are_digits_to(9, piece),
+        Setting::Data => is_word(piece),
+    }
+}
+
+// Whether the piece is a word in decimal.
+fn is_word(piece: &[u8]) -> bool
+    ensures { result ≡ spec_is_word piece.now }
+{
+    match piece {
+        [] => false,
+        [b'-', digits @ ..] => is_number_to(2_147_483_648, digits),
+        _ => is_number_to(2_147_483_647, piece),
+    }
+}
+
+// Whether the piece is one to ten digits, of a number up to the greatest.
+fn is_number_to(greatest: u64, piece: &[u8]) -> bool
+    ensures { result ≡ spec_is_number_to greatest piece.now }
+{
+    are_digits_to(10, piece) && number_in(piece) <= greatest
+}
+
+// Whether the piece is one to so many digits.
+fn are_digits_to(most: usize, piece: &[u8]) -> bool
+    ensures { result ≡ spec_are_digits_to most piece.now }
+{
+    !piece.is_empty() && piece.len() <= most && are_digits(piece)
+}
+
+fn are_digits(piece: &[u8]) -> bool
+    ensures { result ≡ list_all is_figure piece.now }
+{
+    piece.iter().all(|&b| b'0' <= b && b <= b'9')
+}
+
+/// The number that digits write.
+pub fn number_in(digits: &[u8]) -> u64
+    requires digits { list_all is_figure digits.now ≡ true }
+    requires few { length digits.now ≤ 18 }
+    ensures value { result ≡ number digits.now }
+    ensures small { result < 10 ^ length digits.now }
+{
+    let mut number: u64 = 0;
+    for b in digits {
+        number = 10 * number + u64::from(*b - b'0');
+    }
+    number
+}

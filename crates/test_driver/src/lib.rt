@@ -1,0 +1,6 @@
+//! Tests of `dfc_driver`: words and texts with the status and the bytes that are due, and faults of the source and of the sink. They go
+//! over public calls alone, and stand apart because a crate that has tests is proved a second time with them.
+#![tactic(auto)]
+
+#[cfg(test)]
+mod top;
