@@ -12,23 +12,21 @@ use Rattle.alias_classes.specs.Number.{number_of_classes}
 use Rattle.cfg_build.specs.Flow.{flow}
 use Rattle.cfg_build.specs.Joined.{FlowGraph}
 use Rattle.dep_routing.specs.Routing.{Routing}
-use Rattle.dep_routing.specs.Touches.{AreTouches}
 use Rattle.firing.specs.declared.playing.PlayEnd.{PlayEnd}
 use Rattle.firing.specs.declared.playing.PlayEnd.TheVariants.{Limit}
 use Rattle.firing.specs.Orders.{IsOver, after}
 use Rattle.firing.specs.Pacing.{FollowsSource, IsSimulation, Stage}
 use Rattle.firing.specs.Play.{by_order, moment}
 use Rattle.firing.specs.Runs.{IsRun}
-use Rattle.firing.specs.SourceOrder.{IsDueOrder}
 use Rattle.net_board.specs.declared.control.Control.{Control}
 use Rattle.net_board.specs.SoundNets.{CanCome, IsNet}
-use Rattle.net_board.specs.FlowFacts.{FlowFacts}
 use Rattle.net_board.specs.ControlCourse.{first_control, net_course}
 use Rattle.net_board.specs.Nodes.{NetOf}
 use Rattle.net_board.specs.OwnOrder.{own_order}
 use Rattle.net_board.specs.NetParts.{AreParts, net_with}
 use Rattle.net_board.specs.ProgramStages as net_steps
-use Rattle.net_board.specs.ProgramStages.{RunFacts, program_stage, program_text}
+use Rattle.net_board.specs.ProgramStages.{program_stage, program_text}
+use Rattle.net_board.specs.Simulation.{AreFew, IsDueInTurn, Simulates}
 use Rattle.net_board.specs.Tokens.{Tokens, first_tokens, net_moves}
 use Rattle.dfc_driver.specs.Game.{IsGameOn, Marking, Place, game_of}
 use Rattle.dfc_driver.specs.GameLaws.{DueEnds}
@@ -40,11 +38,9 @@ use Rattle.dfc_driver.proofs.OneNet.{OneOfEach, one_net}
 pub record LockstepLaws : Type 0 where
   pub made : (p : Program) (f : FlowGraph) (touches : (piece line : ℕ) → Bool) (routing : Routing) (input : List ℤ) → AreParts p f touches routing → All IsWord input → IsNet (net_with p input touches routing)
   pub begins : (net : NetOf) → IsNet net → CanCome net (first_tokens net)
-  pub flows : (net : NetOf) (n : IsNet net) → AreTouches net.program n.classes net.touches → FlowFacts net n.tree
-  pub runs : (net : NetOf) (n : IsNet net) → RunFacts net n.tree
-  pub simulated : (net : NetOf) (n : IsNet net) → FlowFacts net n.tree → RunFacts net n.tree → IsSimulation (net_moves net) (first_tokens net) (program_text net) (program_stage net) (own_order net)
-  pub due : (net : NetOf) (n : IsNet net) → FlowFacts net n.tree → (steps : ℕ) → IsDueOrder (net_moves net) (net_course net) (first_tokens net) (first_control net) (own_order net steps)
-  pub few : (net : NetOf) (n : IsNet net) → FlowFacts net n.tree → (steps : ℕ) → length (own_order net steps) ≤ 5 * net.routing.lines * steps
+  pub simulated : (net : NetOf) → IsNet net → Simulates net
+  pub due : (net : NetOf) → IsNet net → (steps : ℕ) → IsDueInTurn net steps
+  pub few : (net : NetOf) → IsNet net → (steps : ℕ) → AreFew net steps
   pub follows : (net : NetOf) (start : Tokens) (text : ℕ → List ℕ) (stage : ℕ → Stage) (own : ℕ → List ℕ) → CanCome net start → IsSimulation (net_moves net) start text stage own → FollowsSource (net_moves net) start text stage own
 
 same_stage : (mark : Mark) → net_steps.stage_of mark ≡ stage_of mark
@@ -55,18 +51,16 @@ same_stage (Trapped trap line) = refl
 same_stages : (net : NetOf) → program_stage net ≡ stage net.program net.input
 same_stages net = fun_ext (λ n. same_stage (source net.program net.input n).mark)
 
-module _ (each : OneOfEach) (laws : LockstepLaws) where
-  of_net : (net : NetOf) (n : IsNet net) → AreTouches net.program n.classes net.touches → StaysInLockstep (game_of net) net.program net.input
-  of_net net n touches =
-      let flows = laws.flows net n touches in
-      let runs = laws.runs net n in
-      let simulated = laws.simulated net n flows runs in
+module _ (laws : LockstepLaws) where
+  of_net : (net : NetOf) → IsNet net → StaysInLockstep (game_of net) net.program net.input
+  of_net net n =
+      let simulated = laws.simulated net n in
       let follows = laws.follows net (first_tokens net) (program_text net) (program_stage net) (own_order net) (laws.begins net n) simulated in
       record {
         simulated = subst (λ (s : ℕ → Stage). IsSimulation (net_moves net) (first_tokens net) (program_text net) s (own_order net)) (same_stages net) simulated;
         follows = subst (λ (s : ℕ → Stage). FollowsSource (net_moves net) (first_tokens net) (program_text net) s (own_order net)) (same_stages net) follows;
-        due = laws.due net n flows;
-        few = laws.few net n flows;
+        due = laws.due net n;
+        few = laws.few net n;
       }
 
   -- games stay in lockstep with their programs
@@ -76,8 +70,7 @@ module _ (each : OneOfEach) (laws : LockstepLaws) where
       let parts = is.own.parts in
       let made = net_with p words net.touches net.routing in
       let n : IsNet made = laws.made p (flow p.execs) net.touches net.routing words parts is.own.are_words in
-      let classes = each.classes p parts.classes n.classes parts.own_classes n.own_classes in
-      let stays : StaysInLockstep (game_of made) p words = of_net made n (subst (λ c. AreTouches p c net.touches) classes parts.own_touches) in
+      let stays : StaysInLockstep (game_of made) p words = of_net made n in
       let same : game_of made ≡ game = sym (is.is ∙ ap game_of is.own.is) in
       subst (λ (g : Game Marking Place). StaysInLockstep g p words) same stays
 

@@ -18,16 +18,12 @@ use crate::status::Status;
 use crate::words::GameWords;
 use alias_classes::{CLASS_WORDS, classes_are_counted, one_numbering};
 use cfg_build::flow_graph_is_strong;
-use dep_routing::next_edges;
+use dep_routing::{one_routing, one_touching};
 use df_io::{NoMemory, Sink};
 use f77_tree::{Program, runs_stop_first};
 use firing::{Show, due_orders_end, every_order_follows, runs_end};
 use flow_analysis::{Analysis, analyze};
-use net_board::{
-    flow_graphs_ground_nets, nets_begin_soundly, nets_simulate_programs, parts_make_nets,
-    runs_ground_nets,
-};
-use region_tree::one_tree;
+use net_board::{nets_begin_soundly, nets_simulate_programs, parts_make_nets};
 use std::alloc::Global;
 use token_net::Net;
 
@@ -132,12 +128,10 @@ fn game_laws()
     every_order_follows::<Net<'static, CLASS_WORDS>>();
     parts_make_nets();
     nets_begin_soundly();
-    flow_graphs_ground_nets();
-    runs_ground_nets();
     nets_simulate_programs();
     one_numbering();
-    one_tree();
-    next_edges();
+    one_touching();
+    one_routing();
     classes_are_counted();
     runs_stop_first();
 }

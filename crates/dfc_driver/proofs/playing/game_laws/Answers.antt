@@ -4,12 +4,10 @@ use Rattle.dfc_driver.proofs.playing.game_laws.Goals as goal
 
 pub returns : goal.returns
 returns c =
-    let each : OneOfEach = record { classes = c.one_numbering.ensures; trees = c.one_tree.ensures; next = c.next_edges.ensures.one } in
+    let each : OneOfEach = record { classes = c.one_numbering.ensures; touching = c.one_touching.ensures.one; routing = c.one_routing.ensures.one } in
     let laws : LockstepLaws = record {
       made = c.parts_make_nets.ensures;
       begins = c.nets_begin_soundly.ensures;
-      flows = c.flow_graphs_ground_nets.ensures;
-      runs = c.runs_ground_nets.ensures;
       simulated = c.nets_simulate_programs.ensures.simulated;
       due = c.nets_simulate_programs.ensures.due;
       few = c.nets_simulate_programs.ensures.few;
@@ -19,7 +17,7 @@ returns c =
       runs = record { one = c.runs_end.ensures.one; nodes = c.runs_end.ensures.nodes };
       due = due_ends c.due_orders_end.ensures;
       one = one_game each;
-      lockstep = stays_in_lockstep each laws;
+      lockstep = stays_in_lockstep laws;
       few = few_firings c.classes_are_counted.ensures;
       stop_first = c.runs_stop_first.ensures;
     }
