@@ -8,7 +8,7 @@ use Rattle.list_laws.specs.Member.{Member}
 use Rattle.net_board.specs.Nodes.{graph_in}
 use Rattle.net_board.specs.Tokens.{joined, led_from, with_all}
 use Rattle.net_board.specs.TokenEdges.{AreEdges, edge_at}
-use Rattle.list_laws.proofs.Members.{Member-range, IsAt, at_of}
+use Rattle.list_laws.proofs.Members.{Member-range, Member-in_range, IsAt, at_of}
 use Rattle.net_board.proofs.ListPlaces.{all_pass, same_or_not, member_or_not, with_all_other, with_all_same, put, get_set_same, get_set_other}
 use Rattle.token_net.specs.declared.program_parts.Plan.{Plan}
 use Rattle.token_net.specs.PartsView.{net_in}
@@ -27,7 +27,7 @@ all_in test [] each = refl
 all_in test (x ∷ xs) each = ap (λ b. b && list_all test xs) (each x (inl refl)) ∙ all_in test xs (λ y m. each y (inr m))
 
 in_row : (a n x : ℕ) → Member (range_with_len a n) x → (a ≤ x) × (x < a + n)
-in_row a n x m = Rattle.net_board.proofs.MemberLaws.Member-in_range a n x m
+in_row a n x m = Member-in_range a n x m
 
 pub each_in_row : (test : ℕ → Bool) (first end : ℕ) → first < end → ((j : ℕ) → first < j → j < end → test j ≡ true) → list_all test (range_with_len (suc first) (end - suc first)) ≡ true
 each_in_row test first end some each = all_in test (range_with_len (suc first) (end - suc first)) (λ j m. let r = in_row (suc first) (end - suc first) j m in let low = r.0 in let high = r.1 in each j (omega (arith, low)) (omega (arith, high, some)))

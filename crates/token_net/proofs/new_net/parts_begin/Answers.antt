@@ -11,4 +11,4 @@ pub returns-clause-in_lockstep : goal.returns-clause-in_lockstep
 returns-clause-in_lockstep c = λ p f touches routing input parts words.
     let net = net_with p input touches routing in
     let made : IsNet net = net_made c.well_formed_programs_can_run.ensures c.touches_are_sound.ensures p f touches routing input parts words in
-    c.nets_simulate_programs.ensures.begins net made parts.own_touches
+    c.nets_simulate_programs.ensures.begins net made
