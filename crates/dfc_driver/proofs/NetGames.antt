@@ -18,6 +18,7 @@ use Rattle.firing.specs.Orders.{IsOver, after}
 use Rattle.firing.specs.Pacing.{FollowsSource, IsSimulation, Stage}
 use Rattle.firing.specs.Play.{by_order, moment}
 use Rattle.firing.specs.Runs.{IsRun}
+use Rattle.firing.specs.SourceOrder.{IsDueOrder}
 use Rattle.net_board.specs.declared.control.Control.{Control}
 use Rattle.net_board.specs.SoundNets.{CanCome, IsNet}
 use Rattle.net_board.specs.ControlCourse.{first_control, net_course}

@@ -1,4 +1,4 @@
-use Rattle.std.proofs.Common.{◌≡◌, refl, sym, ap, subst, ◌∙◌}
+use Rattle.std.proofs.Common.{◌≡◌, refl, sym, ap, subst, ◌∙◌, arith}
 use Rattle.cfg_build.specs.Flow.{flow}
 use Rattle.dep_routing.specs.Touch.{touches_in}
 use Rattle.firing.specs.declared.playing.Show.TheVariants.{Output}
@@ -6,7 +6,7 @@ use Rattle.firing.specs.Play.{moment}
 use Rattle.net_board.specs.ControlCourse.{net_course}
 use Rattle.token_net.specs.NetView.{net_of, tokens_of}
 use Rattle.net_board.specs.Nodes.{NetOf}
-use Rattle.net_board.specs.NetParts.{net_with}
+use Rattle.net_board.specs.NetParts.{AreParts, net_with}
 use Rattle.net_board.specs.Tokens.{net_moves}
 use Rattle.dfc_driver.specs.Due.{IsDuePlay, IsGameOf}
 use Rattle.dfc_driver.specs.Game.{IsGameOn, IsNetOn, game_of}
@@ -17,10 +17,11 @@ use Rattle.dfc_driver.proofs.GameTold.{answers_more, played_on}
 use Rattle.dfc_driver.proofs.NetParts.{found_parts}
 use Rattle.dfc_driver.proofs.playing.play_net.Goals as goal
 
-pub new-requires-clause-parts : goal.new-requires-clause-parts
-new-requires-clause-parts g c =
+pub new-requires : goal.new-requires
+new-requires g c =
     let found = c.args.game.now.analysis in
-    found_parts c.args.program.now found found.flow c.requires.analysis.own_flow c.requires.program c.requires.analysis
+    let parts : AreParts c.args.program.now found.flow (touches_in found.touch) found.lines = found_parts c.args.program.now found found.flow c.requires.analysis.own_flow c.requires.program c.requires.analysis in
+    (omega arith, (omega arith, (omega arith, (record { some = omega arith; few = omega arith }, (parts, c.requires.analysis.sets)))))
 
 pub returns-in-Ok-clause-due : goal.returns-in-Ok-clause-due
 returns-in-Ok-clause-due g c =
