@@ -52,6 +52,10 @@ pub lost_control : {P : Type 0} (c : Option P) → false ≡ is_some c → c ≡
 lost_control None is = refl
 lost_control (Some p) is = absurd cc
 
+-- where a node is due, control has a place
+pub due_control : {M P : Type 0} (course : Course M P) (m : M) (c : Option P) → due_at course m c ≢ None → c ≢ None
+due_control course m c some = λ lost. some (ap (due_at course m) lost)
+
 -- the node that a system with an equal net tells
 pub due_told : {N M P : Type 0} (course : N → Course M P) {net other : N} (m : M) (c : Option P) {told : Option ℕ} → other ≡ net → told ≡ due_at (course other) m c → due_at (course net) m c ≡ told
 due_told course {net} {other} m c same is = ap (λ n. due_at (course n) m c) (sym same) ∙ sym is

@@ -1,9 +1,9 @@
 -- Counts of members by blocks: what they add up to, and how a member that comes or goes changes them.
-use Rattle.std.proofs.Common.{◌≡◌, ◌≢◌, ◌⊎◌, inl, inr, ℕ, zero, suc, ◌+◌, ◌-◌, ◌*◌, ◌/◌, ◌<◌, ◌≤◌, Bool, true, false, List, length, get_or, set, replicate, refl, sym, ap, subst, ◌∙◌, ⊎_elim, add-one, arith, length-set}
+use Rattle.std.proofs.Common.{◌≡◌, ◌≢◌, ◌⊎◌, inl, inr, ℕ, zero, suc, ◌+◌, ◌-◌, ◌*◌, ◌/◌, ◌<◌, ◌≤◌, ◌^◌, Bool, true, false, List, length, get_or, set, replicate, refl, sym, ap, subst, ◌∙◌, ⊎_elim, add-one, arith, length-set}
 use Rattle.std.proofs.lemmas.Bool.{cases_eq, cases_Bool, cases_lt}
 use Rattle.std.proofs.lemmas.List.{length-replicate, get_or_past, get_or-set_same, get_or-set_other}
 use Rattle.std.proofs.Math.Nat.{mul-suc, mul-zero, mul-le-mul_left}
-use Rattle.firing.specs.BlockCounts.{AreCounts, IsCounted, IsInBlock, before, shifted}
+use Rattle.firing.specs.BlockCounts.{AreCounts, CanShift, IsCounted, IsInBlock, before, shifted}
 use Rattle.firing.specs.ReadySet.{has, rank, member_count}
 use Rattle.firing.proofs.RankLemmas.{HasOneMore, rank_past, rank_slow, rank_member, rank_short, rank_before, rank_after, rank_empty, more_put, more_taken}
 
@@ -180,22 +180,31 @@ total_put flags k false inside differ =
     omega (arith, more, same)
 
 module _ (flags : List Bool) (low mid high : List ℕ) (total : ℕ) (are : IsCounted flags low mid high total) where
-  pub all_put : (k : ℕ) (ready : Bool) → k < length flags → has flags k ≢ ready → IsCounted (set flags k ready) (set low (k / 1024) (shifted (get_or low (k / 1024) 0) ready)) (set mid (k / 32768) (shifted (get_or mid (k / 32768) 0) ready)) (set high (k / 1048576) (shifted (get_or high (k / 1048576) 0) ready)) (shifted total ready)
-  all_put k ready inside differ = record {
-    low_counts = counts_put 1024 low flags k (k / 1024) ready are.low_counts inside differ (omega arith) (omega arith);
-    mid_counts = counts_put 32768 mid flags k (k / 32768) ready are.mid_counts inside differ (omega arith) (omega arith);
-    high_counts = counts_put 1048576 high flags k (k / 1048576) ready are.high_counts inside differ (omega arith) (omega arith);
-    all = ap (λ n. shifted n ready) are.all ∙ sym (total_put flags k ready inside differ);
-  }
+  pub all_put : (k : ℕ) (ready : Bool) (new_mid new_high : List ℕ) → k < length flags → has flags k ≢ ready → (32768 < length flags → new_mid ≡ set mid (k / 32768) (shifted (get_or mid (k / 32768) 0) ready)) → (32768 < length flags → new_high ≡ set high (k / 1048576) (shifted (get_or high (k / 1048576) 0) ready)) → IsCounted (set flags k ready) (set low (k / 1024) (shifted (get_or low (k / 1024) 0) ready)) new_mid new_high (shifted total ready)
+  all_put k ready new_mid new_high inside differ mid_is high_is =
+      let room = length-set flags k ready in
+      record {
+        low_counts = counts_put 1024 low flags k (k / 1024) ready are.low_counts inside differ (omega arith) (omega arith);
+        mid_counts = λ many. let large : 32768 < length flags = omega (arith, many, room) in subst (λ counts. AreCounts 32768 counts (set flags k ready)) (sym (mid_is large)) (counts_put 32768 mid flags k (k / 32768) ready (are.mid_counts large) inside differ (omega arith) (omega arith));
+        high_counts = λ many. let large : 32768 < length flags = omega (arith, many, room) in subst (λ counts. AreCounts 1048576 counts (set flags k ready)) (sym (high_is large)) (counts_put 1048576 high flags k (k / 1048576) ready (are.high_counts large) inside differ (omega arith) (omega arith));
+        all = ap (λ n. shifted n ready) are.all ∙ sym (total_put flags k ready inside differ);
+      }
 
 -- what a number that comes needs of a count, and what one that goes does
-pub come_fits : (width : ℕ) (counts : List ℕ) (flags : List Bool) (k b : ℕ) → AreCounts width counts flags → k < length flags → width * b ≤ k → get_or counts b 0 ≤ width
+come_fits : (width : ℕ) (counts : List ℕ) (flags : List Bool) (k b : ℕ) → AreCounts width counts flags → k < length flags → width * b ≤ k → get_or counts b 0 ≤ width
 come_fits width counts flags k b are inside low = count_fits width counts flags are b (block_inside width counts flags are k b inside low)
 
-pub go_some : (width : ℕ) (counts : List ℕ) (flags : List Bool) (k b : ℕ) (ready : Bool) → AreCounts width counts flags → k < length flags → has flags k ≢ ready → width * b ≤ k → k < width * b + width → ready ≡ false → 0 < get_or counts b 0
+go_some : (width : ℕ) (counts : List ℕ) (flags : List Bool) (k b : ℕ) (ready : Bool) → AreCounts width counts flags → k < length flags → has flags k ≢ ready → width * b ≤ k → k < width * b + width → ready ≡ false → 0 < get_or counts b 0
 go_some width counts flags k b ready are inside differ low high is =
     let member : has flags k ≡ true = ⊎_elim (λ e. e) (λ e. absurd (differ (e ∙ sym is))) (cases_Bool (has flags k)) in
     count_some width counts flags are k b (block_inside width counts flags are k b inside low) member low high
+
+pub can_shift : (width : ℕ) (counts : List ℕ) (flags : List Bool) (k b : ℕ) (ready : Bool) → AreCounts width counts flags → k < length flags → has flags k ≢ ready → width < 2 ^ 32 - 1 → width * b ≤ k → k < width * b + width → CanShift counts b ready
+can_shift width counts flags k b ready are inside differ small low high = record {
+  inside = block_inside width counts flags are k b inside low;
+  fits = λ is. let fits = come_fits width counts flags k b are inside low in omega (arith, fits, small);
+  some = go_some width counts flags k b ready are inside differ low high;
+}
 
 pub total_fits : (flags : List Bool) (k : ℕ) (ready : Bool) → k < length flags → has flags k ≢ ready → ready ≡ true → member_count flags < length flags
 total_fits flags k ready inside differ is = rank_short flags k (length flags) (⊎_elim (λ e. absurd (differ (e ∙ sym is))) (λ e. e) (cases_Bool (has flags k))) inside
@@ -222,8 +231,8 @@ none_counted width room blocks enough = record {
 pub empty_counted : (room : ℕ) → IsCounted (replicate room false) (replicate (room / 1024 + 1) 0) (replicate (room / 32768 + 1) 0) (replicate (room / 1048576 + 1) 0) 0
 empty_counted room = record {
   low_counts = none_counted 1024 room (room / 1024 + 1) (omega arith);
-  mid_counts = none_counted 32768 room (room / 32768 + 1) (omega arith);
-  high_counts = none_counted 1048576 room (room / 1048576 + 1) (omega arith);
+  mid_counts = λ many. none_counted 32768 room (room / 32768 + 1) (omega arith);
+  high_counts = λ many. none_counted 1048576 room (room / 1048576 + 1) (omega arith);
   all = sym (rank_empty room (length (replicate room false)));
 }
 

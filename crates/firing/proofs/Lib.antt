@@ -3,6 +3,7 @@ pub mod ControlLemmas
 pub mod CountLemmas
 pub mod Counting
 pub mod DigitLemmas
+pub mod DueLemmas
 pub mod Ending
 pub mod FootprintLemmas
 pub mod MarkLemmas

@@ -108,9 +108,6 @@ module _ {M P : Type 0} (w : Way M P) (start : Moment M P) where
 -- ---- what a system with an equal net tells
 
 module _ {N M : Type 0} (moves : N → Moves M) {net other : N} (same : other ≡ net) where
-  pub trap_told : {m : M} {told : Option (Trap × ℕ)} → told ≡ (moves other).trap m → (moves net).trap m ≡ told
-  trap_told {m} is = ap (λ n. (moves n).trap m) (sym same) ∙ sym is
-
   module _ (m : M) (show : Show) (k : ℕ) (old new : Option (List ℕ)) where
     pub appends_told : Appends old new (shown_of (moves other) show m k) → Appends old new (shown_of (moves net) show m k)
     appends_told is = subst (λ n. Appends old new (shown_of (moves n) show m k)) same is

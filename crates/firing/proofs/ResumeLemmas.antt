@@ -59,7 +59,7 @@ module _ {M P : Type 0} (s : Moves M) (course : Course M P) (before after : ℕ 
     fires_later : (i : ℕ) → CanFire s (played later there i).marking (node_at later there i) → CanFire s (played first start (a + i)).marking (node_at first start (a + i))
     fires_later i can = subst (CanFire s (played first start (a + i)).marking) (sym (nodes i)) (subst (λ (x : Moment M P). CanFire s x.marking (node_at later there i)) (sym (leads i)) can)
 
-    fires_all : (n : ℕ) → ((j : ℕ) → j < a → CanFire s (played first start j).marking (node_at first start j)) → ((i : ℕ) → i < n → CanFire s (played later there i).marking (node_at later there i)) → (j : ℕ) → j < a + n → CanFire s (played first start j).marking (node_at first start j)
+    pub fires_all : (n : ℕ) → ((j : ℕ) → j < a → CanFire s (played first start j).marking (node_at first start j)) → ((i : ℕ) → i < n → CanFire s (played later there i).marking (node_at later there i)) → (j : ℕ) → j < a + n → CanFire s (played first start j).marking (node_at first start j)
     fires_all n early late j lt = ⊎_elim
         (λ less. early j less)
         (λ beyond.

@@ -47,11 +47,17 @@ pub record AreCounts (width : ℕ) (counts : List ℕ) (flags : List Bool) : Typ
   pub covered : length flags ≤ width * length counts
   pub counted : (b : ℕ) → b < length counts → rank flags (width * b) + get_or counts b 0 ≡ rank flags (width * b + width)
 
--- counts of three widths, and of all
+-- a count can grow or shrink by one
+pub record CanShift (counts : List ℕ) (b : ℕ) (more : Bool) : Type 0 where
+  pub inside : b < length counts
+  pub fits : more ≡ true → get_or counts b 0 < 2 ^ 32 - 1
+  pub some : more ≡ false → 0 < get_or counts b 0
+
+-- counts of three widths, of which the two wider ones serve only large sets, and of all
 pub record IsCounted (flags : List Bool) (low mid high : List ℕ) (total : ℕ) : Type 0 where
   pub low_counts : AreCounts 1024 low flags
-  pub mid_counts : AreCounts 32768 mid flags
-  pub high_counts : AreCounts 1048576 high flags
+  pub mid_counts : 32768 < length flags → AreCounts 32768 mid flags
+  pub high_counts : 32768 < length flags → AreCounts 1048576 high flags
   pub all : total ≡ member_count flags
 
 -- the block of this width that has the member at a place, and the member's place in it

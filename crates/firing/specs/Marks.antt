@@ -1,4 +1,4 @@
--- The ready nodes that a system lends room for, kept up to date firing by firing.
+-- The ready nodes as a set that is kept up to date, firing by firing, by tests of the nodes that a firing can have made ready.
 use Rattle.std.specs.Prelude.{◌≡◌, ◌≢◌, ◌<◌, ◌⊎◌, ℕ, Bool, true, false, List, length, All, None}
 use Rattle.std.specs.List.{Contains}
 use Rattle.firing.specs.Moves.{Moves}
@@ -10,13 +10,11 @@ pub record Wakes {M : Type 0} (s : Moves M) (m : M) (k : ℕ) (woken : List ℕ)
   -- what a trap leaves ready doesn't matter
   pub all : s.trap (s.fired m k) ≡ None → (j : ℕ) → j < s.nodes → j ≢ k → s.ready m j ≡ false → s.ready (s.fired m k) j ≡ true → Contains woken j
 
--- the marked nodes are those that are ready
-pub record AreReadyMarks {M : Type 0} (s : Moves M) (m : M) (marks : List Bool) : Type 0 where
-  pub room : length marks ≡ s.nodes
-  pub right : (j : ℕ) → j < s.nodes → has marks j ≡ s.ready m j
+-- so many marks, of which each tells whether its number passes the test
+pub record AreMarks (count : ℕ) (test : ℕ → Bool) (marks : List Bool) : Type 0 where
+  pub room : length marks ≡ count
+  pub right : (j : ℕ) → j < count → has marks j ≡ test j
 
--- Each mark is as it was or tells whether the node is ready; those of the nodes in a list do.
-pub record Retested {M : Type 0} (s : Moves M) (m : M) (nodes : List ℕ) (old new : List Bool) : Type 0 where
-  pub same_room : length new ≡ length old
-  pub either : (j : ℕ) → (has new j ≡ has old j) ⊎ (has new j ≡ s.ready m j)
-  pub right : (j : ℕ) → Contains nodes j → has new j ≡ s.ready m j
+-- The tests tell the same of the numbers below this one, but of k and of those in the list.
+abbrev pub DifferAt : (count k : ℕ) → List ℕ → (before now : ℕ → Bool) → Type 0
+DifferAt count k nodes before now = (j : ℕ) → j < count → j ≢ k → (now j ≡ before j) ⊎ Contains nodes j

@@ -6,9 +6,10 @@ use Rattle.firing.specs.declared.playing.PlayEnd.{PlayEnd}
 use Rattle.firing.specs.declared.playing.PlayEnd.TheVariants.{Rest, Trapped, Limit, WriteFault}
 use Rattle.firing.specs.declared.playing.Show.{Show}
 use Rattle.firing.specs.declared.playing.Show.TheVariants.{Output, Nodes, Nothing}
+use Rattle.firing.specs.declared.system.Fired.{Fired}
 use Rattle.firing.specs.Choice.{chosen}
 use Rattle.firing.specs.Control.{Course, due_node, steered}
-use Rattle.firing.specs.Moves.{Moves, CanFire, line_bytes}
+use Rattle.firing.specs.Moves.{Moves, CanFire, line_after, line_bytes}
 use Rattle.firing.specs.NameLine.{name_line}
 use Rattle.firing.specs.Orders.{IsOrder, IsOver, after, written as written_by}
 
@@ -61,6 +62,12 @@ abbrev pub shown_of : {M : Type 0} → Moves M → Show → M → ℕ → List �
 shown_of s Output m k = line_bytes (s.line m k)
 shown_of s Nodes m k = name_line k (s.name k)
 shown_of s Nothing m k = []
+
+-- what is shown of firings of which only the last one can have written a line, by its node and answer and the newest line
+abbrev pub told : {M : Type 0} → Moves M → Show → ℕ → Fired → List ℕ → List ℕ
+told s Output k fired newest = line_after fired newest
+told s Nodes k fired newest = name_line k (s.name k)
+told s Nothing k fired newest = []
 
 -- what is shown of the firing number n
 abbrev pub shown_at : {M P : Type 0} → Way M P → Show → Moment M P → ℕ → List ℕ

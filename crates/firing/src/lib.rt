@@ -13,6 +13,7 @@ mod system;
 
 pub use footprints::{InParts, footprints_commute};
 pub use laws::{due_orders_end, every_order, every_order_follows, runs_end, runs_go_on};
+pub use marks::{ReadyMarks, mark_ready, retest_fired};
 pub use playing::{PlayEnd, Show, play};
 pub use ready_set::ReadySet;
 pub use source_order::{SourceOrder, follow};

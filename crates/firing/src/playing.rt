@@ -6,8 +6,7 @@ ghost use Rattle.firing.specs.Orders.{Settles, Traps};
 ghost use Rattle.firing.specs.Play.{MakesOrder, Plays, by_picks, moment};
 
 use crate::StepSystem;
-use crate::marks::{mark_ready, retest_fired};
-use crate::step::step;
+use crate::step::{step, trap_after};
 use df_io::{Sink, WriteFault};
 use op_table::Trap;
 
@@ -39,8 +38,8 @@ pub enum PlayEnd {
 /// the pick number i chooses: of the r ready nodes, in number order, the one at the place pick mod r. The picks are used
 /// over and over.
 ///
-/// A trap, a rest and the limit are looked for in this order before each firing. It takes no memory, and uses the marks of
-/// the system for its own. Control is lost once a pick chooses another node than the one that is due.
+/// A trap, a rest and the limit are looked for in this order before each firing. It takes no memory, and has the system keep
+/// the set of its ready nodes from then on. Control is lost once a pick chooses another node than the one that is due.
 pub fn play<S: StepSystem, K: Sink>(
     sys: &mut S,
     picks: &[u32],
@@ -90,28 +89,37 @@ fn fire_chosen<S: StepSystem, K: Sink>(
     ensures later { K.faults sink.old ≤ K.faults sink.new }
     ensures fault { (n : ℕ) → result ≡ PlayEnd.WriteFault n → Rose (K.faults sink.old) (K.faults sink.new) }
 {
-    mark_ready(sys);
+    sys.keep_ready();
+    let mut trapped = sys.trap();
     let mut made: u64 = 0;
     let mut turn = 0;
     'firing: loop {
-        if let Some((trap, line)) = sys.trap() {
+        if let Some((trap, line)) = trapped {
             return PlayEnd::Trapped(trap, line);
         }
-        let ready = sys.marked();
-        if ready == 0 {
+        let count = sys.ready_count();
+        if count == 0 {
             return PlayEnd::Rest(made);
         }
-        let k = sys.marked_at(picks[turn] % ready);
+        let k = sys.ready_at(place_in(picks[turn], count));
         if made == limit {
             return PlayEnd::Limit;
         }
         made += 1;
         turn = next_turn(turn, picks.len());
-        if let Err(WriteFault) = step(sys, k, show, sink) {
-            return PlayEnd::WriteFault(made);
-        }
-        retest_fired(sys, k);
+        trapped = match step(sys, k, show, sink) {
+            Ok(fired) => trap_after(sys, fired),
+            Err(WriteFault) => return PlayEnd::WriteFault(made),
+        };
     }
+}
+
+// The place that a pick chooses among so many. Most picks are less than the count, and a division takes long.
+fn place_in(pick: u32, count: u32) -> u32
+    requires { 0 < count }
+    ensures { result ≡ pick % count }
+{
+    if pick < count { pick } else { pick % count }
 }
 
 // The place after this one in a list of so many, which is gone through over and over.

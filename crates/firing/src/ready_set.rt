@@ -1,7 +1,7 @@
 //! Sets of numbers that find a member by its place.
 
-ghost use Rattle.std.specs.Prelude.{◌≡◌, ◌+◌, ◌-◌, ◌*◌, ◌<◌, ◌≤◌, ◌^◌, true, false, length, get_or, replicate, set, vec_len, count_ones, IfOk};
-ghost use Rattle.firing.specs.BlockCounts.{IsDigitAt, IsInBlock, before, ones_of, shifted};
+ghost use Rattle.std.specs.Prelude.{◌≡◌, ◌+◌, ◌*◌, ◌/◌, ◌<◌, ◌≤◌, true, false, length, get_or, replicate, set, count_ones, IfOk};
+ghost use Rattle.firing.specs.BlockCounts.{CanShift, IsDigitAt, IsInBlock, before, ones_of, shifted};
 ghost use Rattle.firing.specs.ReadySet.{IsMemberAt, member_count};
 
 use df_io::NoMemory;
@@ -9,7 +9,7 @@ use std::alloc::Global;
 use std::marker::Model;
 
 // How many numbers a word and a block of each level hold. A block has 16 or 32 of the level below, so that few counts are
-// read on the way to a member.
+// read on the way to a member. The two upper levels are used only where there are more numbers than a middle block holds.
 const WORD: usize = 64;
 
 const LOW: usize = 16 * WORD;
@@ -76,8 +76,13 @@ impl ReadySet {
         }
         self.words[k / WORD] = word ^ digit;
         shift(&mut self.low, k / LOW, ready);
-        shift(&mut self.mid, k / MID, ready);
-        shift(&mut self.high, k / HIGH, ready);
+        shift_upper(
+            self.room as usize > MID,
+            &mut self.mid,
+            &mut self.high,
+            k,
+            ready,
+        );
         if ready {
             self.total += 1;
         } else {
@@ -110,12 +115,16 @@ impl ReadySet {
         requires { place < member_count self.now }
         ensures { IsInBlock self.now 1024 place result.0 result.1 }
     {
+        if self.room as usize <= MID {
+            return scan(&self.low, 0, place);
+        }
         let (b, left) = self.mid_block(place);
         scan(&self.low, 32 * b, left)
     }
 
     fn mid_block(&self, place: u32) -> (usize, u32)
-        requires { place < member_count self.now }
+        requires many { 32768 < length self.now }
+        requires place { place < member_count self.now }
         ensures { IsInBlock self.now 32768 place result.0 result.1 }
     {
         let (b, left) = self.high_block(place);
@@ -123,7 +132,8 @@ impl ReadySet {
     }
 
     fn high_block(&self, place: u32) -> (usize, u32)
-        requires { place < member_count self.now }
+        requires many { 32768 < length self.now }
+        requires place { place < member_count self.now }
         ensures { IsInBlock self.now 1048576 place result.0 result.1 }
     {
         scan(&self.high, 0, place)
@@ -132,15 +142,26 @@ impl ReadySet {
 
 // Counts one member more, or one fewer.
 fn shift(counts: &mut Vec<u32>, b: usize, more: bool)
-    requires inside { b < vec_len counts.old }
-    requires fits { more ≡ true → get_or counts.old.items b 0 < 2 ^ 32 - 1 }
-    requires some { more ≡ false → 0 < get_or counts.old.items b 0 }
+    requires { CanShift counts.old.items b more }
     ensures { counts.new.items ≡ set counts.old.items b (shifted (get_or counts.old.items b 0) more) }
 {
     if more {
         counts[b] += 1;
     } else {
         counts[b] -= 1;
+    }
+}
+
+// Counts a number, which comes or goes, in the two upper levels, if they are used.
+fn shift_upper(used: bool, mid: &mut Vec<u32>, high: &mut Vec<u32>, k: usize, more: bool)
+    requires mid { used ≡ true → CanShift mid.old.items (k / 32768) more }
+    requires high { used ≡ true → CanShift high.old.items (k / 1048576) more }
+    ensures mid { used ≡ true → mid.new.items ≡ set mid.old.items (k / 32768) (shifted (get_or mid.old.items (k / 32768) 0) more) }
+    ensures high { used ≡ true → high.new.items ≡ set high.old.items (k / 1048576) (shifted (get_or high.old.items (k / 1048576) 0) more) }
+{
+    if used {
+        shift(mid, k / MID, more);
+        shift(high, k / HIGH, more);
     }
 }
 

@@ -1,13 +1,13 @@
-ghost use Rattle.std.specs.Prelude.{◌≡◌, ◌≢◌, ◌≤◌, ℕ, List, length, Some, None, is_some};
+ghost use Rattle.std.specs.Prelude.{◌≡◌, ◌≢◌, ◌<◌, ◌≤◌, ℕ, List, length, Some, None, is_some};
 ghost use Rattle.df_io.specs.Faults.{Rose};
 ghost use Rattle.op_table.specs.declared.Trap.{Trap};
 ghost use Rattle.firing.specs.Control.{IsInStep, due_at};
 ghost use Rattle.firing.specs.Orders.{IsOver, Settles, Traps, after};
 ghost use Rattle.firing.specs.Play.{MakesOrder, Plays, by_order, moment};
-ghost use Rattle.firing.specs.SourceOrder.{IsDueOrder, IsSourceOrder};
+ghost use Rattle.firing.specs.SourceOrder.{FiresTo, IsDueOrder, IsSourceOrder, newest_after};
 
-use crate::step::step;
-use crate::{PlayEnd, Show, StepSystem, play};
+use crate::step::{show_fired, trap_after};
+use crate::{Fired, PlayEnd, Show, StepSystem, play};
 use df_io::{Sink, WriteFault};
 
 /// A step system with the order in which the source itself fires its nodes.
@@ -23,6 +23,19 @@ pub trait SourceOrder: StepSystem {
         requires in_step { IsInStep (Self.moves (Self.net self.now)) (Self.in_step (Self.net self.now)) (Self.marking self.now) (Self.place self.now) }
         requires going { (Self.moves (Self.net self.now)).trap (Self.marking self.now) ≡ None }
         ensures { result ≡ due_at (Self.course (Self.net self.now)) (Self.marking self.now) (Self.place self.now) };
+
+    /// Fires the node that is due, and then those that are due after it, at least one and at most so many. It stops after the
+    /// first that writes a line or traps, and may stop anywhere before. It tells how many fired and what the last one did. It
+    /// needn't keep the set of the ready nodes.
+    fn fire_due(&mut self, most: u64) -> (u64, Fired)
+        requires some { 0 < most }
+        requires due { due_at (Self.course (Self.net self.old)) (Self.marking self.old) (Self.place self.old) ≢ None }
+        requires sound { Self.sound (Self.net self.old) (Self.marking self.old) }
+        requires in_step { IsInStep (Self.moves (Self.net self.old)) (Self.in_step (Self.net self.old)) (Self.marking self.old) (Self.place self.old) }
+        requires going { (Self.moves (Self.net self.old)).trap (Self.marking self.old) ≡ None }
+        ensures net { Self.net self.new ≡ Self.net self.old }
+        ensures fires { FiresTo (by_order (Self.moves (Self.net self.old)) (Self.course (Self.net self.old))) (moment (Self.marking self.old) (Self.place self.old)) most result.0 result.1 (moment (Self.marking self.new) (Self.place self.new)) }
+        ensures last { Self.last self.new ≡ newest_after (by_order (Self.moves (Self.net self.old)) (Self.course (Self.net self.old))) (moment (Self.marking self.old) (Self.place self.old)) result.0 (Self.last self.old) };
 
     /// A node that is due can fire, and where none is due none can.
     ghost ordered: { (net : Self.Net) → IsSourceOrder (Self.sound net) (Self.moves net) (Self.course net) (Self.in_step net) };
@@ -58,14 +71,19 @@ pub fn follow<S: SourceOrder, K: Sink>(sys: &mut S, limit: u64, show: Show, sink
     ensures traps { (trap : Trap) (line : ℕ) → result ≡ PlayEnd.Trapped trap line → Traps (S.moves (S.net sys.old)) (S.marking sys.old) (trap, line) }
 {
     if sys.has_control() {
-        fire_due(sys, limit, show, sink)
+        fire_in_order(sys, limit, show, sink)
     } else {
         play(sys, &[0], limit, show, sink)
     }
 }
 
 // Fires the nodes that are due at the places of control. What follows of such a run by the laws is a matter of `follow`.
-fn fire_due<S: SourceOrder, K: Sink>(sys: &mut S, limit: u64, show: Show, sink: &mut K) -> PlayEnd
+fn fire_in_order<S: SourceOrder, K: Sink>(
+    sys: &mut S,
+    limit: u64,
+    show: Show,
+    sink: &mut K,
+) -> PlayEnd
     requires control { S.place sys.old ≢ None }
     requires sound { S.sound (S.net sys.old) (S.marking sys.old) }
     requires in_step { IsInStep (S.moves (S.net sys.old)) (S.in_step (S.net sys.old)) (S.marking sys.old) (S.place sys.old) }
@@ -77,9 +95,10 @@ fn fire_due<S: SourceOrder, K: Sink>(sys: &mut S, limit: u64, show: Show, sink: 
     ensures later { K.faults sink.old ≤ K.faults sink.new }
     ensures fault { (n : ℕ) → result ≡ PlayEnd.WriteFault n → Rose (K.faults sink.old) (K.faults sink.new) }
 {
+    let mut trapped = sys.trap();
     let mut made: u64 = 0;
     'firing: loop {
-        if let Some((trap, line)) = sys.trap() {
+        if let Some((trap, line)) = trapped {
             return PlayEnd::Trapped(trap, line);
         }
         let Some(k) = sys.due() else {
@@ -88,9 +107,24 @@ fn fire_due<S: SourceOrder, K: Sink>(sys: &mut S, limit: u64, show: Show, sink: 
         if made == limit {
             return PlayEnd::Limit;
         }
-        made += 1;
-        if let Err(WriteFault) = step(sys, k, show, sink) {
-            return PlayEnd::WriteFault(made);
-        }
+        let (count, fired) = sys.fire_due(at_once(show, limit - made));
+        made += count;
+        trapped = match show_fired(sys, k, fired, show, sink) {
+            Ok(()) => trap_after(sys, fired),
+            Err(WriteFault) => return PlayEnd::WriteFault(made),
+        };
+    }
+}
+
+// How many firings may be made at once, where so many are left. Where each is shown, it is one.
+fn at_once(show: Show, left: u64) -> u64
+    requires { 0 < left }
+    ensures some { 0 < result }
+    ensures bounded { result ≤ left }
+    ensures one { show ≡ Show.Nodes → result ≡ 1 }
+{
+    match show {
+        Show::Nodes => 1,
+        Show::Output | Show::Nothing => left,
     }
 }

@@ -1,9 +1,8 @@
-ghost use Rattle.std.specs.Prelude.{◌≡◌, ◌<◌, ℕ, Bool, List, Option, None, true, length, set};
+ghost use Rattle.std.specs.Prelude.{◌≡◌, ◌<◌, ℕ, List, Option, None, true, length, slice_index};
+ghost use Rattle.firing.specs.Choice.{ready_nodes};
 ghost use Rattle.firing.specs.Control.{Course, IsInStep, KeepsStep, steered};
 ghost use Rattle.firing.specs.Laws.{IsLawful};
-ghost use Rattle.firing.specs.Marks.{Wakes};
 ghost use Rattle.firing.specs.Moves.{Moves, FiredIs, newest};
-ghost use Rattle.firing.specs.ReadySet.{IsMemberAt, member_count};
 
 use op_table::Trap;
 
@@ -56,11 +55,8 @@ pub trait StepSystem {
     /// The line of the last firing that wrote one, empty before one did.
     ghost last: { Self → List ℕ };
 
-    /// The nodes that the last firing can have made ready.
-    ghost woken: { Self → List ℕ };
-
-    /// The nodes that are marked, in a set that no firing changes. It is room for whoever plays the system.
-    ghost marks: { Self → List Bool };
+    /// Holds while the system keeps the set of its ready nodes. What a trap leaves ready needn't be in it.
+    ghost keeps: { Self → Type 0 };
 
     /// Holds of the markings that can come.
     ghost sound: { Self.Net → Self.Marking → Type 0 };
@@ -74,10 +70,9 @@ pub trait StepSystem {
     /// Holds of a marking and a place that can stand beside it.
     ghost in_step: { Self.Net → Self.Marking → Self.Place → Type 0 };
 
-    /// How many nodes there are. The marked ones are among them.
+    /// How many nodes there are.
     fn nodes(&self) -> u32
-        ensures count { result ≡ (Self.moves (Self.net self.now)).nodes }
-        ensures room { length (Self.marks self.now) ≡ result };
+        ensures { result ≡ (Self.moves (Self.net self.now)).nodes };
 
     /// Whether a node has all that it needs.
     fn ready(&self, k: u32) -> bool
@@ -85,7 +80,31 @@ pub trait StepSystem {
         requires sound { Self.sound (Self.net self.now) (Self.marking self.now) }
         ensures { result ≡ (Self.moves (Self.net self.now)).ready (Self.marking self.now) k };
 
-    /// Fires a node that is ready, where nothing has trapped.
+    /// Keeps the set of the ready nodes from now on.
+    fn keep_ready(&mut self)
+        requires sound { Self.sound (Self.net self.old) (Self.marking self.old) }
+        ensures keeps { Self.keeps self.new }
+        ensures net { Self.net self.new ≡ Self.net self.old }
+        ensures marking { Self.marking self.new ≡ Self.marking self.old }
+        ensures place { Self.place self.new ≡ Self.place self.old }
+        ensures last { Self.last self.new ≡ Self.last self.old };
+
+    /// How many nodes are ready, where the system keeps their set.
+    fn ready_count(&self) -> u32
+        requires keeps { Self.keeps self.now }
+        requires sound { Self.sound (Self.net self.now) (Self.marking self.now) }
+        requires going { (Self.moves (Self.net self.now)).trap (Self.marking self.now) ≡ None }
+        ensures { result ≡ length (ready_nodes (Self.moves (Self.net self.now)) (Self.marking self.now)) };
+
+    /// The ready node at this place, counted from 0 in number order, where the system keeps their set.
+    fn ready_at(&self, nth: u32) -> u32
+        requires keeps { Self.keeps self.now }
+        requires sound { Self.sound (Self.net self.now) (Self.marking self.now) }
+        requires going { (Self.moves (Self.net self.now)).trap (Self.marking self.now) ≡ None }
+        requires some { nth < length (ready_nodes (Self.moves (Self.net self.now)) (Self.marking self.now)) }
+        ensures { result ≡ slice_index (ready_nodes (Self.moves (Self.net self.now)) (Self.marking self.now)) nth };
+
+    /// Fires a node that is ready, where nothing has trapped. If the system keeps the set of its ready nodes, it goes on doing so.
     fn fire(&mut self, k: u32) -> Fired
         requires node { k < (Self.moves (Self.net self.old)).nodes }
         requires ready { (Self.moves (Self.net self.old)).ready (Self.marking self.old) k ≡ true }
@@ -95,38 +114,13 @@ pub trait StepSystem {
         ensures net { Self.net self.new ≡ Self.net self.old }
         ensures marking { Self.marking self.new ≡ (Self.moves (Self.net self.old)).fired (Self.marking self.old) k }
         ensures place { Self.place self.new ≡ steered (Self.course (Self.net self.old)) (Self.marking self.old) (Self.place self.old) k }
-        ensures wakes { Wakes (Self.moves (Self.net self.old)) (Self.marking self.old) k (Self.woken self.new) }
-        ensures marks { Self.marks self.new ≡ Self.marks self.old }
+        ensures keeps { Self.keeps self.old → Self.keeps self.new }
         ensures fired { FiredIs (Self.moves (Self.net self.old)) (Self.marking self.old) k result }
         ensures last { Self.last self.new ≡ newest ((Self.moves (Self.net self.old)).line (Self.marking self.old) k) (Self.last self.old) };
 
     /// The line of the last firing that wrote one, empty before one did.
     fn line(&self) -> &[u8]
         ensures { result.now ≡ Self.last self.now };
-
-    /// The nodes that the last firing can have made ready, in any order, and others besides. Each is tested as often as it
-    /// is named, so a system does well to name it once.
-    fn woken(&self) -> &[u32]
-        ensures { result.now ≡ Self.woken self.now };
-
-    /// Marks a node, or takes its mark away.
-    fn mark(&mut self, k: u32, ready: bool)
-        requires { k < (Self.moves (Self.net self.old)).nodes }
-        ensures marks { Self.marks self.new ≡ set (Self.marks self.old) k ready }
-        ensures net { Self.net self.new ≡ Self.net self.old }
-        ensures marking { Self.marking self.new ≡ Self.marking self.old }
-        ensures place { Self.place self.new ≡ Self.place self.old }
-        ensures woken { Self.woken self.new ≡ Self.woken self.old }
-        ensures last { Self.last self.new ≡ Self.last self.old };
-
-    /// How many nodes are marked.
-    fn marked(&self) -> u32
-        ensures { result ≡ member_count (Self.marks self.now) };
-
-    /// The marked node at this place, counted from 0 in number order.
-    fn marked_at(&self, nth: u32) -> u32
-        requires { nth < member_count (Self.marks self.now) }
-        ensures { IsMemberAt (Self.marks self.now) nth result };
 
     /// The trap, and the line of the source at which it came.
     fn trap(&self) -> Option<(Trap, u32)>

@@ -52,14 +52,14 @@ equal m n same =
 
 -- ---- many places
 
-with_all_alike : (a b : List (Option ℕ)) (places : List ℕ) (value : ℕ → Option ℕ) (k : ℕ) → slice_get a k ≡ slice_get b k → slice_get (with_all a places value) k ≡ slice_get (with_all b places value) k
+pub with_all_alike : (a b : List (Option ℕ)) (places : List ℕ) (value : ℕ → Option ℕ) (k : ℕ) → slice_get a k ≡ slice_get b k → slice_get (with_all a places value) k ≡ slice_get (with_all b places value) k
 with_all_alike a b places value k same = by (member_or_not places k)
   where
     by : Member places k ⊎ (Member places k → ⊥) → slice_get (with_all a places value) k ≡ slice_get (with_all b places value) k
     by (inl m) = with_all_same a places value k m ∙ ap (put (value k)) same ∙ sym (with_all_same b places value k m)
     by (inr none) = with_all_other a places value k none ∙ same ∙ sym (with_all_other b places value k none)
 
-set_alike : (a b : List (Option ℕ)) (place : ℕ) (value : Option ℕ) (k : ℕ) → slice_get a k ≡ slice_get b k → slice_get (slice_set a place value) k ≡ slice_get (slice_set b place value) k
+pub set_alike : (a b : List (Option ℕ)) (place : ℕ) (value : Option ℕ) (k : ℕ) → slice_get a k ≡ slice_get b k → slice_get (slice_set a place value) k ≡ slice_get (slice_set b place value) k
 set_alike a b place value k same = by (same_or_not place k)
   where
     by : (place ≡ k) ⊎ (place ≡ k → ⊥) → slice_get (slice_set a place value) k ≡ slice_get (slice_set b place value) k
@@ -67,7 +67,7 @@ set_alike a b place value k same = by (same_or_not place k)
     by (inr n) = get_set_other a place k value n ∙ same ∙ sym (get_set_other b place k value n)
 
 -- what stands at any place then is an edge of so many
-with_all_below : (bound : ℕ) (values : List (Option ℕ)) (places : List ℕ) (value : ℕ → Option ℕ) → ((k e : ℕ) → joined (slice_get values k) ≡ Some e → e < bound) → ((k e : ℕ) → Member places k → value k ≡ Some e → e < bound) → (k e : ℕ) → joined (slice_get (with_all values places value) k) ≡ Some e → e < bound
+pub with_all_below : (bound : ℕ) (values : List (Option ℕ)) (places : List ℕ) (value : ℕ → Option ℕ) → ((k e : ℕ) → joined (slice_get values k) ≡ Some e → e < bound) → ((k e : ℕ) → Member places k → value k ≡ Some e → e < bound) → (k e : ℕ) → joined (slice_get (with_all values places value) k) ≡ Some e → e < bound
 with_all_below bound values places value old new k e is = by (member_or_not places k)
   where
     put_is : (o : Option (Option ℕ)) → joined (put (value k) o) ≡ Some e → value k ≡ Some e
@@ -78,7 +78,7 @@ with_all_below bound values places value old new k e is = by (member_or_not plac
     by (inl m) = new k e m (put_is (slice_get values k) (sym (ap joined (with_all_same values places value k m)) ∙ is))
     by (inr none) = old k e (sym (ap joined (with_all_other values places value k none)) ∙ is)
 
-set_below : (bound : ℕ) (values : List (Option ℕ)) (place : ℕ) (value : Option ℕ) → ((k e : ℕ) → joined (slice_get values k) ≡ Some e → e < bound) → ((e : ℕ) → value ≡ Some e → e < bound) → (k e : ℕ) → joined (slice_get (slice_set values place value) k) ≡ Some e → e < bound
+pub set_below : (bound : ℕ) (values : List (Option ℕ)) (place : ℕ) (value : Option ℕ) → ((k e : ℕ) → joined (slice_get values k) ≡ Some e → e < bound) → ((e : ℕ) → value ≡ Some e → e < bound) → (k e : ℕ) → joined (slice_get (slice_set values place value) k) ≡ Some e → e < bound
 set_below bound values place value old new k e is = by (same_or_not place k)
   where
     put_is : (o : Option (Option ℕ)) → joined (put value o) ≡ Some e → value ≡ Some e
@@ -96,7 +96,7 @@ slice_index_below bound some [] below i = some
 slice_index_below bound some (x ∷ xs) below zero = below x (inl refl)
 slice_index_below bound some (x ∷ xs) below (suc i) = slice_index_below bound some xs (λ y m. below y (inr m)) i
 
-out_below : (g : Graph) (piece i : ℕ) → 0 < edge_count g → out g piece i < edge_count g
+pub out_below : (g : Graph) (piece i : ℕ) → 0 < edge_count g → out g piece i < edge_count g
 out_below g piece i some =
     slice_index_below (edge_count g) some (outs g piece) (λ e m. let f = Member-filtered (λ e. from g e == piece) (range_with_len 0 (edge_count g)) e m in let r = Member-in_range 0 (edge_count g) e f.0 in let high = r.1 in omega (arith, high)) i
 
@@ -110,7 +110,7 @@ module _ (ground : ProgramFacts) (net : NetOf) (is : IsNet net) where
   exec_can k None at = tt
   exec_can k (Some e) at = is.can_run.executes k e at
 
-  can : (piece : ℕ) → CanExecute net.program (exec_kind net.program piece)
+  pub can : (piece : ℕ) → CanExecute net.program (exec_kind net.program piece)
   can piece = exec_can (piece_at (flow net.program.execs).pieces piece).exec (slice_get net.program.execs (piece_at (flow net.program.execs).pieces piece).exec) refl
 
   kind_classes : (k : PieceKind) (e : ExecKind) → CanExecute net.program e → (n : ℕ) → KindNeeds is.classes k e n → (1 ≤ n) × (n ≤ class_count is.classes)
@@ -143,7 +143,7 @@ module _ (ground : ProgramFacts) (net : NetOf) (is : IsNet net) where
       by zero some need = absurd (omega (arith, some))
       by (suc n) some need = (is.sound_touches.classes piece n exists).1 need
 
-  touched_line : (piece line : ℕ) → piece < (graph_in net).nodes → net.touches piece line ≡ true → line < net.routing.lines
+  pub touched_line : (piece line : ℕ) → piece < (graph_in net).nodes → net.touches piece line ≡ true → line < net.routing.lines
   touched_line piece zero exists touched = let count = is.own_routing.count in omega (arith, count)
   touched_line piece (suc n) exists touched =
       let r = kind_classes (piece_kind net.program piece) (exec_kind net.program piece) (can piece) (suc n) ((is.sound_touches.classes piece n exists).0 touched) in
@@ -151,10 +151,10 @@ module _ (ground : ProgramFacts) (net : NetOf) (is : IsNet net) where
       let most = r.1 in
       omega (arith, count, most)
 
-  some_edge : 0 < edge_count (graph_in net)
+  pub some_edge : 0 < edge_count (graph_in net)
   some_edge = (ground.strong net.program.names net.program.execs net.program.loops is.program.execs).some
 
-  led_below : (edge line : ℕ) → edge < edge_count (graph_in net) → line < net.routing.lines → next_at net.routing line edge < edge_count (graph_in net)
+  pub led_below : (edge line : ℕ) → edge < edge_count (graph_in net) → line < net.routing.lines → next_at net.routing line edge < edge_count (graph_in net)
   led_below edge line exists below =
       let count = is.own_routing.count in
       let low : line < suc (class_count is.classes) = omega (arith, count, below) in
@@ -162,13 +162,13 @@ module _ (ground : ProgramFacts) (net : NetOf) (is : IsNet net) where
 
   -- ---- a feature of tests
 
-  both_ways : {P : Type 0} (b : Bool) → b ≡ true → b ≡ false → P
+  pub both_ways : {P : Type 0} (b : Bool) → b ≡ true → b ≡ false → P
   both_ways b yes' no' = let e : true ≡ false = sym yes' ∙ no' in absurd cc
 
-  switch_true : (piece k : ℕ) → Member (switches net piece) k → is_switch net piece k ≡ true
+  pub switch_true : (piece k : ℕ) → Member (switches net piece) k → is_switch net piece k ≡ true
   switch_true piece k m = list_any_member (λ switch. switch == k) (switches net piece) k m (eq-eqb k k refl)
 
-  true_switch : (piece k : ℕ) → is_switch net piece k ≡ true → Member (switches net piece) k
+  pub true_switch : (piece k : ℕ) → is_switch net piece k ≡ true → Member (switches net piece) k
   true_switch piece k is =
       let r : IsPassed (λ switch. switch == k) (switches net piece) = member_of_list_any (λ switch. switch == k) (switches net piece) is in
       subst (λ j. Member (switches net piece) j) (eqb-true r.one k r.passes) r.among
@@ -208,7 +208,7 @@ module _ (ground : ProgramFacts) (net : NetOf) (is : IsNet net) where
   set_outside : (values : List (Option ℕ)) (place other : ℕ) (value : Option ℕ) → (place == other) ≡ false → slice_get (slice_set values place value) other ≡ slice_get values other
   set_outside values place other value not_in = get_set_other values place other value (λ e. both_ways (place == other) (eq-eqb place other e) not_in)
 
-  switched_outside : (m : Tokens) (k piece line : ℕ) (left : Option ℕ) (part : Part) → foot_as net is.classes k (Switch piece line) part ≡ false → at (switched net m k line left) part ≡ at m part
+  pub switched_outside : (m : Tokens) (k piece line : ℕ) (left : Option ℕ) (part : Part) → foot_as net is.classes k (Switch piece line) part ≡ false → at (switched net m k line left) part ≡ at m part
   switched_outside m k piece line None part not_in = refl
   switched_outside m k piece line (Some edge) (Line other) not_in = set_outside m.lines line other (led_from net edge line) not_in
   switched_outside m k piece line (Some edge) (Left node) not_in = set_outside m.edges k node None not_in
@@ -218,7 +218,7 @@ module _ (ground : ProgramFacts) (net : NetOf) (is : IsNet net) where
   switched_outside m k piece line (Some edge) Taken not_in = refl
   switched_outside m k piece line (Some edge) Trap not_in = refl
 
-  merged_outside : (m : Tokens) (k piece line : ℕ) (part : Part) → foot_as net is.classes k (Merge piece line) part ≡ false → at (merged net m piece line) part ≡ at m part
+  pub merged_outside : (m : Tokens) (k piece line : ℕ) (part : Part) → foot_as net is.classes k (Merge piece line) part ≡ false → at (merged net m piece line) part ≡ at m part
   merged_outside m k piece line (Line other) not_in = set_outside m.lines line other (led_from net (out (graph_in net) piece 0) line) not_in
   merged_outside m k piece line (Left node) not_in = refl
   merged_outside m k piece line (Word word) not_in = refl
@@ -254,7 +254,7 @@ module _ (ground : ProgramFacts) (net : NetOf) (is : IsNet net) where
   alike m n k piece exists first second agree =
       pass_alike ground net.program net.input is.classes is.own_classes is.can_run (net.touches piece) (out (graph_in net) piece) (piece_kind net.program piece) (exec_kind net.program piece) (can piece) (touching piece exists) n.memory m.memory second first (agree_on m n k piece agree)
 
-  same_before : (m n : Tokens) (piece line : ℕ) → slice_get n.lines line ≡ slice_get m.lines line → is_before net n piece line ≡ is_before net m piece line
+  pub same_before : (m n : Tokens) (piece line : ℕ) → slice_get n.lines line ≡ slice_get m.lines line → is_before net n piece line ≡ is_before net m piece line
   same_before m n piece line same = ap (λ o. leads_to (graph_in net) piece (joined o)) same
 
   same_ready : (m n : Tokens) (k : ℕ) (name : NodeName) → Agree m n k name → ready_as net n k name ≡ ready_as net m k name
@@ -321,7 +321,7 @@ module _ (ground : ProgramFacts) (net : NetOf) (is : IsNet net) where
   acted_inside m n k piece agree Done (Traps trap) same part mine = absurd same
   acted_inside m n k piece agree Done Done same part mine = gone_inside m n k piece (out (graph_in net) piece 0) n.memory m.memory agree (agree_on m n k piece agree) part mine
 
-  switched_inside : (m n : Tokens) (k piece line : ℕ) (left : Option ℕ) → Agree m n k (Switch piece line) → (part : Part) → foot_as net is.classes k (Switch piece line) part ≡ true → at (switched net n k line left) part ≡ at (switched net m k line left) part
+  pub switched_inside : (m n : Tokens) (k piece line : ℕ) (left : Option ℕ) → Agree m n k (Switch piece line) → (part : Part) → foot_as net is.classes k (Switch piece line) part ≡ true → at (switched net n k line left) part ≡ at (switched net m k line left) part
   switched_inside m n k piece line None agree part mine = agree part mine
   switched_inside m n k piece line (Some edge) agree (Line other) mine = set_alike n.lines m.lines line (led_from net edge line) other (agree (Line other) mine)
   switched_inside m n k piece line (Some edge) agree (Left node) mine = set_alike n.edges m.edges k None node (agree (Left node) mine)
@@ -331,7 +331,7 @@ module _ (ground : ProgramFacts) (net : NetOf) (is : IsNet net) where
   switched_inside m n k piece line (Some edge) agree Taken mine = absurd cc
   switched_inside m n k piece line (Some edge) agree Trap mine = absurd cc
 
-  merged_inside : (m n : Tokens) (k piece line : ℕ) → Agree m n k (Merge piece line) → (part : Part) → foot_as net is.classes k (Merge piece line) part ≡ true → at (merged net n piece line) part ≡ at (merged net m piece line) part
+  pub merged_inside : (m n : Tokens) (k piece line : ℕ) → Agree m n k (Merge piece line) → (part : Part) → foot_as net is.classes k (Merge piece line) part ≡ true → at (merged net n piece line) part ≡ at (merged net m piece line) part
   merged_inside m n k piece line agree (Line other) mine = set_alike n.lines m.lines line (led_from net (out (graph_in net) piece 0) line) other (agree (Line other) mine)
   merged_inside m n k piece line agree (Left node) mine = absurd cc
   merged_inside m n k piece line agree (Word word) mine = absurd cc
@@ -364,7 +364,7 @@ module _ (ground : ProgramFacts) (net : NetOf) (is : IsNet net) where
   same_trap_by m n piece traps Done (Traps trap) same = absurd same
   same_trap_by m n piece traps Done Done same = traps
 
-  switched_trap : (m : Tokens) (k line : ℕ) (left : Option ℕ) → (switched net m k line left).trap ≡ m.trap
+  pub switched_trap : (m : Tokens) (k line : ℕ) (left : Option ℕ) → (switched net m k line left).trap ≡ m.trap
   switched_trap m k line None = refl
   switched_trap m k line (Some edge) = refl
 
@@ -444,7 +444,7 @@ module _ (ground : ProgramFacts) (net : NetOf) (is : IsNet net) where
       one : (a b : ℕ) → Some a ≡ Some b → a ≡ b
       one a b e = cc
 
-  switched_marking : (m : Tokens) (k line : ℕ) (left : Option ℕ) → left_for m k ≡ left → line < net.routing.lines → IsMarking net m → IsMarking net (switched net m k line left)
+  pub switched_marking : (m : Tokens) (k line : ℕ) (left : Option ℕ) → left_for m k ≡ left → line < net.routing.lines → IsMarking net m → IsMarking net (switched net m k line left)
   switched_marking m k line None at below mark = mark
   switched_marking m k line (Some edge) at below mark = record {
     lines = length_slice_set m.lines line (led_from net edge line) ∙ mark.lines;
@@ -457,7 +457,7 @@ module _ (ground : ProgramFacts) (net : NetOf) (is : IsNet net) where
       none : (e : ℕ) → None ≡ Some e → e < edge_count (graph_in net)
       none e at = absurd cc
 
-  merged_marking : (m : Tokens) (piece line : ℕ) → line < net.routing.lines → IsMarking net m → IsMarking net (merged net m piece line)
+  pub merged_marking : (m : Tokens) (piece line : ℕ) → line < net.routing.lines → IsMarking net m → IsMarking net (merged net m piece line)
   merged_marking m piece line below mark = record {
     lines = length_slice_set m.lines line (led_from net (out (graph_in net) piece 0) line) ∙ mark.lines;
     nodes = mark.nodes;
@@ -486,7 +486,7 @@ module _ (ground : ProgramFacts) (net : NetOf) (is : IsNet net) where
   before m k (Merge piece own) line named ready mine = subst (λ l. is_before net m piece l ≡ true) (eqb-true own line mine) ready
   before m k (Op piece i) line named ready mine = absurd named.fits
 
-  one_piece : (p q : ℕ) (o : Option ℕ) → leads_to (graph_in net) p o ≡ true → leads_to (graph_in net) q o ≡ true → p ≡ q
+  pub one_piece : (p q : ℕ) (o : Option ℕ) → leads_to (graph_in net) p o ≡ true → leads_to (graph_in net) q o ≡ true → p ≡ q
   one_piece p q None first second = absurd cc
   one_piece p q (Some edge) first second = sym (eqb-true (to (graph_in net) edge) p first) ∙ eqb-true (to (graph_in net) edge) q second
 

@@ -17,7 +17,7 @@ Distinct [] = Unit {0}
 Distinct (x ∷ xs) = (Member xs x → ⊥) × Distinct xs
 
 module _ {X : Type 0} where
-  member_at : (xs : List X) (k : ℕ) (x : X) → slice_get xs k ≡ Some x → Member xs x
+  pub member_at : (xs : List X) (k : ℕ) (x : X) → slice_get xs k ≡ Some x → Member xs x
   member_at [] k x is = absurd cc
   member_at (y ∷ ys) zero x is = inl (same y x is)
     where
@@ -25,7 +25,7 @@ module _ {X : Type 0} where
       same a b e = cc
   member_at (y ∷ ys) (suc k) x is = inr (member_at ys k x is)
 
-  same_some : (a b : X) → Some a ≡ Some b → a ≡ b
+  pub same_some : (a b : X) → Some a ≡ Some b → a ≡ b
   same_some a b e = cc
 
   pub one_place : (xs : List X) (j k : ℕ) (x : X) → Distinct xs → slice_get xs j ≡ Some x → slice_get xs k ≡ Some x → j ≡ k
@@ -35,12 +35,12 @@ module _ {X : Type 0} where
   one_place (y ∷ ys) (suc j) zero x apart first second = absurd (apart.0 (subst (λ z. Member ys z) (sym (same_some y x second)) (member_at ys j x first)))
   one_place (y ∷ ys) (suc j) (suc k) x apart first second = ap suc (one_place ys j k x apart.1 first second)
 
-  distinct_append : (xs ys : List X) → Distinct xs → Distinct ys → ((x : X) → Member xs x → Member ys x → ⊥) → Distinct (xs ++ ys)
+  pub distinct_append : (xs ys : List X) → Distinct xs → Distinct ys → ((x : X) → Member xs x → Member ys x → ⊥) → Distinct (xs ++ ys)
   distinct_append [] ys first second none = second
   distinct_append (x ∷ xs) ys first second none =
       ((λ m. ⊎_elim (λ l. first.0 l) (λ r. none x (inl refl) r) (Member-cases xs ys x m)), distinct_append xs ys first.1 second (λ y l r. none y (inr l) r))
 
-  distinct_filter : (test : X → Bool) (xs : List X) → Distinct xs → Distinct (filter test xs)
+  pub distinct_filter : (test : X → Bool) (xs : List X) → Distinct xs → Distinct (filter test xs)
   distinct_filter test [] apart = tt
   distinct_filter test (x ∷ xs) apart = by (test x) (distinct_filter test xs apart.1)
     where
@@ -57,17 +57,17 @@ module _ {X : Type 0} where
   get_right [] ys k = ap (λ n. slice_get ys n) (Rattle.std.proofs.Common.zero-add k)
   get_right (x ∷ xs) ys k = let e : suc (length xs) + k ≡ suc (length xs + k) = omega arith in ap (λ n. slice_get (x ∷ (xs ++ ys)) n) e ∙ get_right xs ys k
 
-distinct_range : (a n : ℕ) → Distinct (range_with_len a n)
+pub distinct_range : (a n : ℕ) → Distinct (range_with_len a n)
 distinct_range a zero = tt
 distinct_range a (suc n) = ((λ m. let r = Member-in_range (a + 1) n a m in let low = r.0 in omega (arith, low)), distinct_range (a + 1) n)
 
 module _ {X Y : Type 0} where
-  distinct_map : (f : X → Y) → ((a b : X) → f a ≡ f b → a ≡ b) → (xs : List X) → Distinct xs → Distinct (map f xs)
+  pub distinct_map : (f : X → Y) → ((a b : X) → f a ≡ f b → a ≡ b) → (xs : List X) → Distinct xs → Distinct (map f xs)
   distinct_map f one [] apart = tt
   distinct_map f one (x ∷ xs) apart =
       ((λ m. let r : IsImage f xs (f x) = Member-mapped f xs (f x) m in apart.0 (subst (λ z. Member xs z) (one r.origin x r.is) r.among)), distinct_map f one xs apart.1)
 
-  distinct_flat_map : (f : X → List Y) (key : Y → X) → ((x : X) (y : Y) → Member (f x) y → key y ≡ x) → ((x : X) → Distinct (f x)) → (xs : List X) → Distinct xs → Distinct (flat_map f xs)
+  pub distinct_flat_map : (f : X → List Y) (key : Y → X) → ((x : X) (y : Y) → Member (f x) y → key y ≡ x) → ((x : X) → Distinct (f x)) → (xs : List X) → Distinct xs → Distinct (flat_map f xs)
   distinct_flat_map f key keyed each [] apart = tt
   distinct_flat_map f key keyed each (x ∷ xs) apart =
       distinct_append (f x) (flat_map f xs) (each x) (distinct_flat_map f key keyed each xs apart.1)
@@ -77,7 +77,7 @@ module _ {X Y : Type 0} where
       apart.0 (subst (λ z. Member xs z) same o.among))
 
 -- what stands at a place of lists in a row
-get_flat_map : {Y : Type 0} (f : ℕ → List Y) (a n i j : ℕ) → i < n → j < length (f (a + i)) → slice_get (flat_map f (range_with_len a n)) (length (flat_map f (range_with_len a i)) + j) ≡ slice_get (f (a + i)) j
+pub get_flat_map : {Y : Type 0} (f : ℕ → List Y) (a n i j : ℕ) → i < n → j < length (f (a + i)) → slice_get (flat_map f (range_with_len a n)) (length (flat_map f (range_with_len a i)) + j) ≡ slice_get (f (a + i)) j
 get_flat_map f a zero i j below within = absurd (omega (arith, below))
 get_flat_map f a (suc n) zero j below within =
     let e : a + 0 ≡ a = omega arith in
@@ -116,11 +116,11 @@ Fits net piece k (Merge other line) = (other ≡ piece) × (is_acting k ≡ fals
 Fits net piece k (Op other i) = ⊥
 
 module _ (net : NetOf) where
-  not_true : (b : Bool) → not b ≡ true → b ≡ false
+  pub not_true : (b : Bool) → not b ≡ true → b ≡ false
   not_true true is = absurd cc
   not_true false is = refl
 
-  in_lines : (line : ℕ) → Member (all_lines net) line → line < net.routing.lines
+  pub in_lines : (line : ℕ) → Member (all_lines net) line → line < net.routing.lines
   in_lines line m = let r = Member-in_range 0 net.routing.lines line m in let high = r.1 in omega (arith, high)
 
   pub touched_is : (piece line : ℕ) → Member (touched net piece) line → net.touches piece line ≡ true
@@ -182,7 +182,7 @@ module _ (net : NetOf) where
   distinct_nodes =
       distinct_flat_map (nodes_at net) piece_of (λ piece name m. fits_piece piece (kind_in net piece) name (fits_by piece (kind_in net piece) name m)) (λ piece. distinct_by piece (kind_in net piece)) (range_with_len 0 (graph_in net).nodes) (distinct_range 0 (graph_in net).nodes)
 
-  get_some : {X : Type 0} (xs : List X) (k : ℕ) → k < length xs → (x : X) × (slice_get xs k ≡ Some x)
+  pub get_some : {X : Type 0} (xs : List X) (k : ℕ) → k < length xs → (x : X) × (slice_get xs k ≡ Some x)
   get_some [] k below = absurd (omega (arith, below))
   get_some (x ∷ xs) zero below = (x, refl)
   get_some (x ∷ xs) (suc k) below = get_some xs k (omega (arith, below))

@@ -25,7 +25,7 @@ is_member (y ∷ ys) zero x is = inl cc
 is_member (y ∷ ys) (suc k) x is = inr (is_member ys k x is)
 
 -- a number that passes a test comes after the lower ones that do
-from_a : (test : ℕ → Bool) (a n j : ℕ) → j < n → test (a + j) ≡ true → slice_get (filter test (range_with_len a n)) (length (filter test (range_with_len a j))) ≡ Some (a + j)
+pub from_a : (test : ℕ → Bool) (a n j : ℕ) → j < n → test (a + j) ≡ true → slice_get (filter test (range_with_len a n)) (length (filter test (range_with_len a j))) ≡ Some (a + j)
 from_a test a zero j below is = absurd (omega (arith, below))
 from_a test a (suc n) zero below is =
     let e : a + 0 ≡ a = omega arith in
@@ -40,7 +40,7 @@ from_a test a (suc n) (suc j) below is = by (test a) (from_a test (a + 1) n j (o
     by true rest = rest
     by false rest = rest
 
-among : (test : ℕ → Bool) (n line : ℕ) → line < n → test line ≡ true → slice_get (filter test (range_with_len 0 n)) (passing_below test line) ≡ Some line
+pub among : (test : ℕ → Bool) (n line : ℕ) → line < n → test line ≡ true → slice_get (filter test (range_with_len 0 n)) (passing_below test line) ≡ Some line
 among test n line below is =
     let z : 0 + line ≡ line = omega arith in
     from_a test 0 n line below (ap test z ∙ is) ∙ ap (λ x. Some x) z

@@ -90,7 +90,7 @@ module _ (net : NetOf) (is_net : IsNet net) (ground : FlowFacts net is_net.tree)
       and_false true = refl
       and_false false = refl
 
-  nodes_few : (piece : ℕ) (k : PieceKind) → piece < (graph_in net).nodes → kind_in net piece ≡ k → length (nodes_by net piece k) ≤ net.routing.lines
+  pub nodes_few : (piece : ℕ) (k : PieceKind) → piece < (graph_in net).nodes → kind_in net piece ≡ k → length (nodes_by net piece k) ≤ net.routing.lines
   nodes_few piece kind.Act exists is = let few = acting_few piece exists (ap is_acting is) in omega (arith, few)
   nodes_few piece kind.Branch exists is = let few = acting_few piece exists (ap is_acting is) in let long = length_map (Switch piece) (passing net piece) in omega (arith, few, long)
   nodes_few piece kind.Hold exists is = let few = acting_few piece exists (ap is_acting is) in let long = length_map (Switch piece) (passing net piece) in omega (arith, few, long)
@@ -99,7 +99,7 @@ module _ (net : NetOf) (is_net : IsNet net) (ground : FlowFacts net is_net.tree)
   nodes_few piece kind.Start exists is = omega arith
   nodes_few piece kind.Pass exists is = omega arith
 
-  some_line : 1 ≤ net.routing.lines
+  pub some_line : 1 ≤ net.routing.lines
   some_line = subst (λ (i : ℕ). 1 ≤ i) (sym is_net.own_routing.count) (omega arith)
 
   firings_few : (piece : ℕ) (made : Passed) → piece < (graph_in net).nodes → length (firings_of net piece made) ≤ net.routing.lines

@@ -1,2 +1,4 @@
 pub mod ForkLaws
 pub mod RivalLaws
+pub mod TurnLemmas
+pub mod WakeLemmas

@@ -2,7 +2,9 @@ ghost use Rattle.std.specs.Prelude.{◌≡◌, ◌≤◌, ◌+◌, ◌%◌, leng
 
 use crate::{Counts, Turn};
 use df_io::NoMemory;
-use firing::{Fired, NodeName, ReadySet, SourceOrder, StepSystem};
+use firing::{
+    Fired, NodeName, ReadyMarks, ReadySet, SourceOrder, StepSystem, mark_ready, retest_fired,
+};
 use op_table::Trap;
 use std::alloc::Global;
 
@@ -15,14 +17,20 @@ pub struct Counters {
     text: [u8; 2],
     len: usize,
     set: ReadySet,
+    // Whether the set is kept.
+    kept: bool,
     ghost room: { length set ≡ 4 },
     ghost short: { len ≤ 2 },
     ghost text_room: { length text ≡ 2 },
 }
 
 impl Counters {
-    ghost use Rattle.std.specs.Prelude.{◌≡◌, [], IfOk, Some, false, take};
+    ghost use Rattle.std.specs.Prelude.{◌≡◌, ◌<◌, ℕ, Bool, [], IfOk, Some, false, true, take};
     ghost use Rattle.firing.specs.Control.{steered};
+    ghost use Rattle.firing.specs.Marks.{AreMarks, DifferAt};
+    ghost use Rattle.firing.specs.Moves.{newest};
+    ghost use Rattle.sample_nets.specs.Counting.{is_ready, line_of, woken_by};
+    ghost use Rattle.sample_nets.specs.CountersView.{rest_of};
     ghost use Rattle.sample_nets.specs.Turns.{counter_course};
 
     /// The counters before any firing: the feeder fires at most `supply` times, the writer at most `lines` times.
@@ -48,7 +56,35 @@ impl Counters {
             text: [0, 0],
             len: 0,
             set,
+            kept: false,
         })
+    }
+
+    // Makes the line that a node writes.
+    fn spell(&mut self, k: u32)
+        ensures counts { self.new.counts ≡ self.old.counts }
+        ensures turn { self.new.turn ≡ self.old.turn }
+        ensures fired { self.new.last_fired ≡ self.old.last_fired }
+        ensures line { take self.new.len self.new.text ≡ newest (line_of self.old.counts k) (take self.old.len self.old.text) }
+        ensures set { self.new.set ≡ self.old.set }
+        ensures kept { self.new.kept ≡ self.old.kept }
+    {
+        if k == 2 {
+            self.text = [letter(self.counts.written), b'\n'];
+            self.len = 2;
+        }
+    }
+
+    // Keeps the set after a node has fired.
+    fn retest(&mut self, k: u32)
+        requires node { k < 4 }
+        requires fired { self.old.last_fired ≡ k }
+        ensures rest { rest_of self.new ≡ rest_of self.old }
+        ensures marks { self.old.kept ≡ true → (before : ℕ → Bool) → AreMarks 4 before self.old.set → DifferAt 4 k (woken_by k) before (is_ready self.old.counts) → AreMarks 4 (is_ready self.old.counts) self.new.set }
+    {
+        if self.kept {
+            retest_fired(self, k);
+        }
     }
 
     // The turn after a node fires.
@@ -69,15 +105,56 @@ fn letter(number: u32) -> u8
     b'A' + (number % 26) as u8
 }
 
+impl ReadyMarks for Counters {
+    ghost use Rattle.std.specs.Prelude.{⊤};
+    ghost use Rattle.sample_nets.specs.Counting.{is_ready, woken_by};
+    ghost use Rattle.sample_nets.specs.CountersView.{Unmarked, rest_of};
+
+    ghost Rest = { Unmarked };
+
+    ghost rest = { rest_of };
+
+    ghost marks = { λ s. s.set };
+
+    ghost count = { λ _. 4 };
+
+    ghost is_ready = { λ rest. is_ready rest.counts };
+
+    ghost testable = { λ _. ⊤ };
+
+    ghost woken = { λ rest. woken_by rest.last_fired };
+
+    fn mark_count(&self) -> u32 {
+        4
+    }
+
+    fn test(&self, k: u32) -> bool {
+        self.counts.is_ready(k)
+    }
+
+    fn woken(&self) -> &[u32] {
+        match self.last_fired {
+            0 => &[1, 2, 3],
+            2 => &[3],
+            _ => &[],
+        }
+    }
+
+    fn mark(&mut self, k: u32, ready: bool) {
+        self.set.put(k, ready);
+    }
+}
+
 impl StepSystem for Counters {
-    ghost use Rattle.std.specs.Prelude.{◌≡◌, ◌<◌, ⊤, true, None, set as set_at, length, take};
+    ghost use Rattle.std.specs.Prelude.{◌≡◌, ◌<◌, ⊤, true, None, length, slice_index, take};
+    ghost use Rattle.firing.specs.Choice.{ready_nodes};
     ghost use Rattle.firing.specs.Control.{IsInStep, steered};
-    ghost use Rattle.firing.specs.Marks.{Wakes};
+    ghost use Rattle.firing.specs.Marks.{AreMarks};
     ghost use Rattle.firing.specs.Moves.{FiredIs, newest};
-    ghost use Rattle.firing.specs.ReadySet.{IsMemberAt, member_count};
     ghost use Rattle.sample_nets.specs.declared.counts.Counts.{Counts as Marking_of};
     ghost use Rattle.sample_nets.specs.declared.turn.Turn.{Turn as Place_of};
-    ghost use Rattle.sample_nets.specs.Counting.{AreSmall, counter_moves, woken_by};
+    ghost use Rattle.sample_nets.specs.Counting.{AreSmall, counter_moves};
+    ghost use Rattle.sample_nets.specs.CountersView.{KeepsSet};
     ghost use Rattle.sample_nets.specs.Turns.{counter_course, in_turn};
     ghost use Rattle.sample_nets.specs.CounterOrder.{counter_control};
     ghost use Rattle.sample_nets.specs.CounterLaws.{counter_laws};
@@ -96,9 +173,7 @@ impl StepSystem for Counters {
 
     ghost last = { λ s. take s.len s.text };
 
-    ghost woken = { λ s. woken_by s.last_fired };
-
-    ghost marks = { λ s. s.set };
+    ghost keeps = { KeepsSet };
 
     ghost sound = { λ _. AreSmall };
 
@@ -116,38 +191,30 @@ impl StepSystem for Counters {
         self.counts.is_ready(k)
     }
 
+    fn keep_ready(&mut self) {
+        self.kept = true;
+        mark_ready(self);
+    }
+
+    fn ready_count(&self) -> u32 {
+        self.set.len()
+    }
+
+    fn ready_at(&self, nth: u32) -> u32 {
+        self.set.at(nth)
+    }
+
     fn fire(&mut self, k: u32) -> Fired {
         self.turn = self.turn_after(k);
         self.last_fired = k;
-        if k == 2 {
-            self.text = [letter(self.counts.written), b'\n'];
-            self.len = 2;
-        }
-        self.counts.fire(k)
+        self.spell(k);
+        let fired = self.counts.fire(k);
+        self.retest(k);
+        fired
     }
 
     fn line(&self) -> &[u8] {
         &self.text[..self.len]
-    }
-
-    fn woken(&self) -> &[u32] {
-        match self.last_fired {
-            0 => &[1, 2, 3],
-            2 => &[3],
-            _ => &[],
-        }
-    }
-
-    fn mark(&mut self, k: u32, ready: bool) {
-        self.set.put(k, ready);
-    }
-
-    fn marked(&self) -> u32 {
-        self.set.len()
-    }
-
-    fn marked_at(&self, place: u32) -> u32 {
-        self.set.at(place)
     }
 
     fn trap(&self) -> Option<(Trap, u32)> {
@@ -184,6 +251,25 @@ impl SourceOrder for Counters {
             Some(turn) => self.counts.due(turn),
             None => None,
         }
+    }
+
+    fn fire_due(&mut self, most: u64) -> (u64, Fired) {
+        let Some(first) = self.due() else {
+            return (0, Fired::Moved);
+        };
+        let mut fired = self.fire(first);
+        let mut made: u64 = 1;
+        'more: while made < most {
+            let Fired::Moved = fired else {
+                break;
+            };
+            let Some(k) = self.due() else {
+                break;
+            };
+            fired = self.fire(k);
+            made += 1;
+        }
+        (made, fired)
     }
 
     ghost ordered = { λ _. counter_order };

@@ -9,7 +9,7 @@ use Rattle.net_board.specs.Nodes.{graph_in}
 use Rattle.net_board.specs.Tokens.{joined, led_from, with_all}
 use Rattle.net_board.specs.TokenEdges.{AreEdges, edge_at}
 use Rattle.list_laws.proofs.Members.{Member-range, Member-in_range, IsAt, at_of}
-use Rattle.net_board.proofs.ListPlaces.{all_pass, same_or_not, member_or_not, with_all_other, with_all_same, put, get_set_same, get_set_other}
+use Rattle.net_board.proofs.ListPlaces.{all_pass, same_or_not, member_or_not, with_all_other, with_all_same, put}
 use Rattle.token_net.specs.declared.program_parts.Plan.{Plan}
 use Rattle.token_net.specs.PartsView.{net_in}
 
@@ -81,18 +81,6 @@ each_next test first k each here j low high = by (same_or_not j k)
 pub all_members : (P : ℕ → Type 0) (xs : List ℕ) (x : ℕ) → All P xs → Member xs x → P x
 all_members P xs x all m = let r : IsAt xs x = at_of xs x m in subst P (r.is 0) (all r.place 0 r.exists)
 
--- an edge of the net is put at a place
-pub set_stands : (bound : ℕ) (values : List (Option ℕ)) (place : ℕ) (value : Option ℕ) → ((k e : ℕ) → edge_at values k ≡ Some e → e < bound) → ((e : ℕ) → value ≡ Some e → e < bound) → (k e : ℕ) → edge_at (slice_set values place value) k ≡ Some e → e < bound
-set_stands bound values place value old new k e is = by (same_or_not place k)
-  where
-    put_is : (o : Option (Option ℕ)) → joined (put value o) ≡ Some e → value ≡ Some e
-    put_is None is = absurd cc
-    put_is (Some x) is = is
-
-    by : (place ≡ k) ⊎ (place ≡ k → ⊥) → e < bound
-    by (inl same) = new e (put_is (slice_get values k) (sym (ap joined (subst (λ (p : ℕ). slice_get (slice_set values p value) k ≡ put value (slice_get values k)) (sym same) (get_set_same values k value))) ∙ is))
-    by (inr n) = old k e (sym (ap joined (get_set_other values place k value n)) ∙ is)
-
 pub none_all : (P : ℕ → Type 0) (xs : List ℕ) → xs ≡ [] → All P xs
 none_all P xs none = subst (All P) (sym none) (λ k d below. absurd (omega (arith, below)))
 
@@ -105,11 +93,6 @@ module _ {W : ℕ} (plan : Plan W) where
 
   some_is : (a b : ℕ) → Some a ≡ Some b → a ≡ b
   some_is a b e = cc
-
-  pub led_stands : (edge line led : ℕ) (old : List (Option ℕ)) → line < plan.routes.now.lines → edge < edge_count (graph_in (net_in plan)) → led ≡ next_at plan.routes.now line edge → AreEdges (net_in plan) old → AreEdges (net_in plan) (slice_set old line (Some led))
-  led_stands edge line led old inside exists is stand =
-      set_stands (edge_count (graph_in (net_in plan))) old line (Some led) stand
-      (λ e same. subst (λ x. x < edge_count (graph_in (net_in plan))) (sym is ∙ some_is led e same) (led_below edge line inside exists))
 
   pub leads_stand : (edge : ℕ) (touched : List ℕ) (old now : List (Option ℕ)) → All (λ line. line < plan.routes.now.lines) touched → edge < edge_count (graph_in (net_in plan)) → now ≡ with_all old touched (led_from (net_in plan) edge) → AreEdges (net_in plan) old → AreEdges (net_in plan) now
   leads_stand edge touched old now inside exists are stand =

@@ -11,6 +11,7 @@ mod new_net;
 mod pieces_run;
 mod places;
 mod program_parts;
+mod retesting;
 mod tables;
 mod token_lines;
 mod waking;

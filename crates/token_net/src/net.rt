@@ -28,7 +28,8 @@ pub struct Net<'a, const W: usize> {
     // The line that was made last, and the one that is being made.
     pub(crate) text: Vec<u8>,
     pub(crate) draft: Vec<u8>,
-    // The nodes that the last firing can have made ready.
+    // Whether the set of the ready nodes is kept, and the nodes that the last firing can have made ready, while it is.
+    pub(crate) kept: bool,
     pub(crate) woken: Vec<u32>,
     pub(crate) set: ReadySet,
     ghost every_line: { length lines.items ≡ board.plan.routes.now.lines },

@@ -2,7 +2,7 @@
 
 use crate::Net;
 use crate::control_moves::due_at;
-use firing::{Fired, NodeName, SourceOrder, StepSystem};
+use firing::{Fired, NodeName, SourceOrder, StepSystem, mark_ready};
 use op_table::Trap;
 
 impl<const W: usize> StepSystem for Net<'_, W> {
@@ -14,7 +14,7 @@ impl<const W: usize> StepSystem for Net<'_, W> {
     ghost use Rattle.net_board.specs.Tokens.{Tokens, net_moves};
     ghost use Rattle.net_board.proofs.FiringLaws.{net_laws};
     ghost use Rattle.net_board.proofs.LockstepLaws.{keeps_step};
-    ghost use Rattle.token_net.specs.NetView.{net_of, tokens_of, woken_of};
+    ghost use Rattle.token_net.specs.NetView.{KeepsSet, net_of, tokens_of};
 
     ghost Net = { NetOf };
 
@@ -30,9 +30,7 @@ impl<const W: usize> StepSystem for Net<'_, W> {
 
     ghost last = { λ s. s.text.items };
 
-    ghost woken = { woken_of };
-
-    ghost marks = { λ s. s.set };
+    ghost keeps = { KeepsSet };
 
     ghost sound = { CanCome };
 
@@ -50,40 +48,27 @@ impl<const W: usize> StepSystem for Net<'_, W> {
         self.is_ready(k)
     }
 
+    fn keep_ready(&mut self) {
+        self.kept = true;
+        mark_ready(self);
+    }
+
+    fn ready_count(&self) -> u32 {
+        self.set.len()
+    }
+
+    fn ready_at(&self, nth: u32) -> u32 {
+        self.set.at(nth)
+    }
+
     fn fire(&mut self, k: u32) -> Fired {
-        self.woken.clear();
-        match self.board.name(k) {
-            NodeName::Act(piece) => self.act(k, piece),
-            NodeName::Switch(piece, line) => {
-                self.switch(k, piece, line);
-                Fired::Moved
-            }
-            NodeName::Merge(piece, line) => {
-                self.merge(k, piece, line);
-                Fired::Moved
-            }
-            NodeName::Op(_, _) => Fired::Moved,
-        }
+        let fired = self.fire_node(k);
+        self.retest(k);
+        fired
     }
 
     fn line(&self) -> &[u8] {
         self.text.as_slice()
-    }
-
-    fn woken(&self) -> &[u32] {
-        self.woken.as_slice()
-    }
-
-    fn mark(&mut self, k: u32, ready: bool) {
-        self.set.put(k, ready);
-    }
-
-    fn marked(&self) -> u32 {
-        self.set.len()
-    }
-
-    fn marked_at(&self, place: u32) -> u32 {
-        self.set.at(place)
     }
 
     fn trap(&self) -> Option<(Trap, u32)> {
@@ -110,6 +95,14 @@ impl<const W: usize> SourceOrder for Net<'_, W> {
         match self.control {
             Some(c) => due_at(&self.board, c),
             None => None,
+        }
+    }
+
+    // One firing at a time.
+    fn fire_due(&mut self, _most: u64) -> (u64, Fired) {
+        match self.due() {
+            Some(k) => (1, self.fire(k)),
+            None => (0, Fired::Moved),
         }
     }
 

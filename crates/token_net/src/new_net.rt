@@ -66,6 +66,7 @@ impl<'a, const W: usize> Net<'a, W> {
             control: Some(control),
             text: Vec::with_capacity(alloc, room)?,
             draft: Vec::with_capacity(alloc, room)?,
+            kept: false,
             woken: Vec::with_capacity(alloc, 2 * l.lines() as usize + 2)?,
             set: ReadySet::with_room(alloc, board.nodes())?,
             board,

@@ -1,14 +1,17 @@
 //! The nodes that a firing can have made ready.
 
-ghost use Rattle.std.specs.Prelude.{◌≡◌, ◌<◌, ◌≤◌, ◌+◌, ◌-◌, ℕ, All, suc, length, vec_len, vec_capacity};
+ghost use Rattle.std.specs.Prelude.{◌≡◌, ◌<◌, ◌≤◌, ◌+◌, ◌-◌, ◌*◌, ℕ, All, [], suc, length, true, vec_len, vec_capacity};
 ghost use Rattle.std.specs.List.{Contains, range_with_len};
 ghost use Rattle.list_laws.specs.Member.{Member};
+ghost use Rattle.net_board.specs.Nodes.{is_acting, graph_in, kind_in, nodes_of, node_at, switches, touched};
 ghost use Rattle.net_board.specs.TokenEdges.{AreEdges, edge_at};
-ghost use Rattle.net_board.specs.WokenNodes.{HasNext, no_node};
+ghost use Rattle.net_board.specs.Tokens.{Tokens};
+ghost use Rattle.net_board.specs.WokenNodes.{HasNext, IsWoken, no_node};
 ghost use Rattle.token_net.specs.LookupView.{net_on};
 ghost use Rattle.token_net.specs.WokenList.{Keeps};
 
 use crate::lookups::Board;
+use firing::NodeName;
 
 /// Names a node, for which there is room. A node that was just named isn't named again.
 pub(crate) fn wake(woken: &mut Vec<u32>, k: u32)
@@ -89,5 +92,57 @@ pub(crate) fn wake_after(woken: &mut Vec<u32>, first: u32, end: u32)
 {
     for k in first + 1..end {
         wake(woken, k);
+    }
+}
+
+/// Names the nodes before which the lines of a piece that acts stand, and its switches.
+fn wake_past<const W: usize>(
+    board: &Board<W>,
+    lines: &Vec<Option<u32>>,
+    piece: u32,
+    woken: &mut Vec<u32>,
+)
+    requires piece { piece < (graph_in (net_on board.now)).nodes }
+    requires acts { is_acting (kind_in (net_on board.now) piece) ≡ true }
+    requires all { length lines.now.items ≡ board.now.plan.routes.now.lines }
+    requires edges { AreEdges (net_on board.now) lines.now.items }
+    requires none { woken.old.items ≡ [] }
+    requires room { 2 * board.now.plan.routes.now.lines + 2 ≤ vec_capacity woken.old }
+    ensures nodes { All (λ j. j < no_node (net_on board.now)) woken.new.items }
+    ensures next { (line : ℕ) → Member (touched (net_on board.now) piece) line → HasNext (net_on board.now) woken.new.items line (edge_at lines.now.items line) }
+    ensures waiting { (j : ℕ) → Member (switches (net_on board.now) piece) j → Contains woken.new.items j }
+    ensures capacity { vec_capacity woken.old ≤ vec_capacity woken.new }
+{
+    let first = board.first(piece);
+    let end = board.end(piece);
+    let moved = board.touched(piece);
+    wake_lines(board, lines, moved, woken);
+    wake_after(woken, first, end);
+}
+
+/// Names the nodes that the firing of a node has made ready, where the lines stand as it left them.
+pub(crate) fn wake_fired<const W: usize>(
+    board: &Board<W>,
+    lines: &Vec<Option<u32>>,
+    k: u32,
+    woken: &mut Vec<u32>,
+)
+    requires node { k < length (nodes_of (net_on board.now)) }
+    requires all { length lines.now.items ≡ board.now.plan.routes.now.lines }
+    requires edges { AreEdges (net_on board.now) lines.now.items }
+    requires room { 2 * board.now.plan.routes.now.lines + 2 ≤ vec_capacity woken.old }
+    ensures woken { (m : Tokens) → m.lines ≡ lines.now.items → IsWoken (net_on board.now) m (node_at (net_on board.now) k) woken.new.items }
+    ensures capacity { vec_capacity woken.old ≤ vec_capacity woken.new }
+{
+    woken.clear();
+    match board.name(k) {
+        NodeName::Act(piece) => wake_past(board, lines, piece, woken),
+        NodeName::Switch(piece, line) => {
+            let first = board.first(piece);
+            wake_before(board, lines, line, woken);
+            wake(woken, first);
+        }
+        NodeName::Merge(_piece, line) => wake_before(board, lines, line, woken),
+        NodeName::Op(_, _) => {}
     }
 }

@@ -1,6 +1,5 @@
-use Rattle.std.proofs.Common.{◌≡◌, ◌-◌, ◌%◌, ◌≤◌, length, None}
+use Rattle.std.proofs.Common.{◌≡◌, ◌-◌, ◌%◌, ◌≤◌, length}
 use Rattle.firing.specs.Control.{IsInStep}
-use Rattle.firing.specs.Marks.{AreReadyMarks}
 use Rattle.firing.specs.Play.{by_picks, moment}
 use Rattle.firing.proofs.PlayLemmas.{Running}
 use Rattle.firing.proofs.playing.fire_chosen.Given as goal
@@ -15,8 +14,8 @@ invariant-firing g l =
       sound : y.sound fixed (y.marking l.sys);
       in_step : IsInStep (y.moves fixed) (y.in_step fixed) (y.marking l.sys) (y.place l.sys);
       run : Running (by_picks (y.moves fixed) (y.course fixed) l.picks) (moment (y.marking l.fn.sys) (y.place l.fn.sys)) now l.limit l.show l.made (g.K.Sink.got l.fn.sink) (g.K.Sink.got l.sink);
-      room : length (y.marks l.sys) ≡ (y.moves fixed).nodes;
-      marks : (y.moves fixed).trap (y.marking l.sys) ≡ None → AreReadyMarks (y.moves fixed) (y.marking l.sys) (y.marks l.sys);
+      keeps : y.keeps l.sys;
+      trapped : l.trapped ≡ (y.moves fixed).trap (y.marking l.sys);
       turn : l.turn ≡ l.made % length l.picks;
       later : g.K.Sink.faults l.fn.sink ≤ g.K.Sink.faults l.sink;
     }

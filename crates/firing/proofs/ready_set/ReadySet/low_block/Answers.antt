@@ -1,8 +1,29 @@
-use Rattle.std.proofs.Common.{◌∙◌, arith}
+use Rattle.std.proofs.Common.{◌≡◌, ◌<◌, ◌≤◌, length, ◌∙◌, arith}
 use Rattle.firing.specs.BlockCounts.{flags_of}
-use Rattle.firing.proofs.CountLemmas.{counts_of, block_few, starts, found}
+use Rattle.firing.proofs.CountLemmas.{counts_of, block_few, starts, starts_first, found}
 use Rattle.firing.proofs.WordLemmas.{length_seen}
 use Rattle.firing.proofs.ready_set.ReadySet.low_block.Goals as goal
+
+pub scan-requires-clause-some : goal.scan-requires-clause-some
+scan-requires-clause-some c =
+    let s = c.self.inside in
+    let set = c.args.self.now in
+    let are = counts_of 1024 c.deref.result.now s.low.items (flags_of s.words.items s.room) set c.deref.ensures.value c.self.view_is c.self.invariant.1.low_counts in
+    (starts_first 1024 c.deref.result.now set are c.args.place c.requires).some
+
+pub returns-then-self-le-MID : goal.returns-then-self-le-MID
+returns-then-self-le-MID c =
+    let s = c.self.inside in
+    let set = c.args.self.now in
+    let are = counts_of 1024 c.deref.result.now s.low.items (flags_of s.words.items s.room) set c.deref.ensures.value c.self.view_is c.self.invariant.1.low_counts in
+    found 1024 c.deref.result.now set are c.args.place c.requires c.scan.result.0 c.scan.result.1 c.scan.ensures.within (omega (arith, c.scan.ensures.same)) c.scan.ensures.short
+
+pub mid_block-b-requires-clause-many : goal.mid_block-b-requires-clause-many
+mid_block-b-requires-clause-many c =
+    let s = c.self.inside in
+    let room = length_seen s.words.items s.room c.args.self.now c.self.view_is in
+    let more = c.if-self-le-MID.false in
+    omega (arith, room, more)
 
 pub overflow_mul-b : goal.overflow_mul-b
 overflow_mul-b c =
@@ -12,24 +33,24 @@ overflow_mul-b c =
     let fits = c.self.invariant.0.room_fits in
     omega (arith, few, room, fits)
 
-pub scan-requires-clause-inside : goal.scan-requires-clause-inside
-scan-requires-clause-inside c =
-    let s = c.self.inside in
-    let set = c.args.self.now in
-    let are = counts_of 1024 c.deref.result.now s.low.items (flags_of s.words.items s.room) set c.deref.ensures.value c.self.view_is c.self.invariant.1.low_counts in
-    (starts 1024 c.deref.result.now set are c.args.place c.requires 32 c.mid_block-b.result.0 c.mid_block-b.result.1 c.mid_block-b.ensures).inside
-
-pub scan-requires-clause-some : goal.scan-requires-clause-some
-scan-requires-clause-some c =
-    let s = c.self.inside in
-    let set = c.args.self.now in
-    let are = counts_of 1024 c.deref.result.now s.low.items (flags_of s.words.items s.room) set c.deref.ensures.value c.self.view_is c.self.invariant.1.low_counts in
-    (starts 1024 c.deref.result.now set are c.args.place c.requires 32 c.mid_block-b.result.0 c.mid_block-b.result.1 c.mid_block-b.ensures).some
-
 pub returns : goal.returns
 returns c =
     let s = c.self.inside in
     let set = c.args.self.now in
-    let are = counts_of 1024 c.deref.result.now s.low.items (flags_of s.words.items s.room) set c.deref.ensures.value c.self.view_is c.self.invariant.1.low_counts in
-    let start = starts 1024 c.deref.result.now set are c.args.place c.requires 32 c.mid_block-b.result.0 c.mid_block-b.result.1 c.mid_block-b.ensures in
-    found 1024 c.deref.result.now set are c.args.place c.requires c.scan.result.0 c.scan.result.1 c.scan.ensures.within (c.scan.ensures.same ∙ start.same) c.scan.ensures.short
+    let are = counts_of 1024 c.deref-2.result.now s.low.items (flags_of s.words.items s.room) set c.deref-2.ensures.value c.self.view_is c.self.invariant.1.low_counts in
+    let start = starts 1024 c.deref-2.result.now set are c.args.place c.requires 32 c.mid_block-b.result.0 c.mid_block-b.result.1 c.mid_block-b.ensures in
+    found 1024 c.deref-2.result.now set are c.args.place c.requires c.scan-2.result.0 c.scan-2.result.1 c.scan-2.ensures.within (c.scan-2.ensures.same ∙ start.same) c.scan-2.ensures.short
+
+pub scan-requires-2-clause-inside : goal.scan-requires-2-clause-inside
+scan-requires-2-clause-inside c =
+    let s = c.self.inside in
+    let set = c.args.self.now in
+    let are = counts_of 1024 c.deref-2.result.now s.low.items (flags_of s.words.items s.room) set c.deref-2.ensures.value c.self.view_is c.self.invariant.1.low_counts in
+    (starts 1024 c.deref-2.result.now set are c.args.place c.requires 32 c.mid_block-b.result.0 c.mid_block-b.result.1 c.mid_block-b.ensures).inside
+
+pub scan-requires-2-clause-some : goal.scan-requires-2-clause-some
+scan-requires-2-clause-some c =
+    let s = c.self.inside in
+    let set = c.args.self.now in
+    let are = counts_of 1024 c.deref-2.result.now s.low.items (flags_of s.words.items s.room) set c.deref-2.ensures.value c.self.view_is c.self.invariant.1.low_counts in
+    (starts 1024 c.deref-2.result.now set are c.args.place c.requires 32 c.mid_block-b.result.0 c.mid_block-b.result.1 c.mid_block-b.ensures).some

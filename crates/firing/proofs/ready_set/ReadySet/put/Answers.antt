@@ -1,6 +1,7 @@
-use Rattle.std.proofs.Common.{◌/◌, ◌<◌, ◌∙◌, set, ap, sym, arith}
+use Rattle.std.proofs.Common.{◌≡◌, ◌/◌, ◌<◌, ◌∙◌, true, nat_lt, length, set, ap, sym, arith}
+use Rattle.std.proofs.lemmas.Bool.{ltb-true, lt-ltb}
 use Rattle.firing.specs.BlockCounts.{flags_of, shifted}
-use Rattle.firing.proofs.CountLemmas.{all_put, come_fits, go_some, total_fits, total_some}
+use Rattle.firing.proofs.CountLemmas.{all_put, can_shift, total_fits, total_some}
 use Rattle.firing.proofs.PutLemmas.{changes, puts, stays}
 use Rattle.firing.proofs.WordLemmas.{length_flags, length_seen}
 use Rattle.firing.proofs.ready_set.ReadySet.put.Goals as goal
@@ -27,53 +28,31 @@ returns-then-word-digit c =
     let same = stays s.words.items s.room c.self.invariant.0 c.args.k c.index-word.result.now c.args.ready within c.index-word.ensures c.if-word-digit.true in
     sym c.self.view_is ∙ same ∙ ap (λ xs. set xs c.args.k c.args.ready) c.self.view_is
 
-pub shift-requires-clause-fits : goal.shift-requires-clause-fits
-shift-requires-clause-fits c =
+pub shift-requires : goal.shift-requires
+shift-requires c =
     let s = c.self.inside in
     let flags = flags_of s.words.items s.room in
     let within : c.args.k < s.room = let room = length_seen s.words.items s.room c.args.self.now c.self.view_is in omega (arith, room) in
     let put = changes s.words.items s.room c.self.invariant.0 c.args.k c.index-word.result.now c.args.ready within c.index-word.ensures c.if-word-digit.false in
-    λ is. let fits = come_fits 1024 s.low.items flags c.args.k (c.args.k / 1024) c.self.invariant.1.low_counts put.inside (omega arith) in omega (arith, fits)
+    can_shift 1024 s.low.items flags c.args.k (c.args.k / 1024) c.args.ready c.self.invariant.1.low_counts put.inside put.differs (omega arith) (omega arith) (omega arith)
 
-pub shift-requires-clause-some : goal.shift-requires-clause-some
-shift-requires-clause-some c =
+pub shift_upper-requires-clause-mid : goal.shift_upper-requires-clause-mid
+shift_upper-requires-clause-mid c = λ used.
     let s = c.self.inside in
     let flags = flags_of s.words.items s.room in
     let within : c.args.k < s.room = let room = length_seen s.words.items s.room c.args.self.now c.self.view_is in omega (arith, room) in
     let put = changes s.words.items s.room c.self.invariant.0 c.args.k c.index-word.result.now c.args.ready within c.index-word.ensures c.if-word-digit.false in
-    go_some 1024 s.low.items flags c.args.k (c.args.k / 1024) c.args.ready c.self.invariant.1.low_counts put.inside put.differs (omega arith) (omega arith)
+    let many : 32768 < length flags = let more = ltb-true 32768 s.room used in let room = length_flags s.words.items s.room in omega (arith, more, room) in
+    can_shift 32768 s.mid.items flags c.args.k (c.args.k / 32768) c.args.ready (c.self.invariant.1.mid_counts many) put.inside put.differs (omega arith) (omega arith) (omega arith)
 
-pub shift-requires-2-clause-fits : goal.shift-requires-2-clause-fits
-shift-requires-2-clause-fits c =
+pub shift_upper-requires-clause-high : goal.shift_upper-requires-clause-high
+shift_upper-requires-clause-high c = λ used.
     let s = c.self.inside in
     let flags = flags_of s.words.items s.room in
     let within : c.args.k < s.room = let room = length_seen s.words.items s.room c.args.self.now c.self.view_is in omega (arith, room) in
     let put = changes s.words.items s.room c.self.invariant.0 c.args.k c.index-word.result.now c.args.ready within c.index-word.ensures c.if-word-digit.false in
-    λ is. let fits = come_fits 32768 s.mid.items flags c.args.k (c.args.k / 32768) c.self.invariant.1.mid_counts put.inside (omega arith) in omega (arith, fits)
-
-pub shift-requires-2-clause-some : goal.shift-requires-2-clause-some
-shift-requires-2-clause-some c =
-    let s = c.self.inside in
-    let flags = flags_of s.words.items s.room in
-    let within : c.args.k < s.room = let room = length_seen s.words.items s.room c.args.self.now c.self.view_is in omega (arith, room) in
-    let put = changes s.words.items s.room c.self.invariant.0 c.args.k c.index-word.result.now c.args.ready within c.index-word.ensures c.if-word-digit.false in
-    go_some 32768 s.mid.items flags c.args.k (c.args.k / 32768) c.args.ready c.self.invariant.1.mid_counts put.inside put.differs (omega arith) (omega arith)
-
-pub shift-requires-3-clause-fits : goal.shift-requires-3-clause-fits
-shift-requires-3-clause-fits c =
-    let s = c.self.inside in
-    let flags = flags_of s.words.items s.room in
-    let within : c.args.k < s.room = let room = length_seen s.words.items s.room c.args.self.now c.self.view_is in omega (arith, room) in
-    let put = changes s.words.items s.room c.self.invariant.0 c.args.k c.index-word.result.now c.args.ready within c.index-word.ensures c.if-word-digit.false in
-    λ is. let fits = come_fits 1048576 s.high.items flags c.args.k (c.args.k / 1048576) c.self.invariant.1.high_counts put.inside (omega arith) in omega (arith, fits)
-
-pub shift-requires-3-clause-some : goal.shift-requires-3-clause-some
-shift-requires-3-clause-some c =
-    let s = c.self.inside in
-    let flags = flags_of s.words.items s.room in
-    let within : c.args.k < s.room = let room = length_seen s.words.items s.room c.args.self.now c.self.view_is in omega (arith, room) in
-    let put = changes s.words.items s.room c.self.invariant.0 c.args.k c.index-word.result.now c.args.ready within c.index-word.ensures c.if-word-digit.false in
-    go_some 1048576 s.high.items flags c.args.k (c.args.k / 1048576) c.args.ready c.self.invariant.1.high_counts put.inside put.differs (omega arith) (omega arith)
+    let many : 32768 < length flags = let more = ltb-true 32768 s.room used in let room = length_flags s.words.items s.room in omega (arith, more, room) in
+    can_shift 1048576 s.high.items flags c.args.k (c.args.k / 1048576) c.args.ready (c.self.invariant.1.high_counts many) put.inside put.differs (omega arith) (omega arith) (omega arith)
 
 pub overflow_add-self : goal.overflow_add-self
 overflow_add-self c =
@@ -104,9 +83,10 @@ invariant_of-self c =
     let within : c.args.k < s.room = let room = length_seen s.words.items s.room c.args.self.now c.self.view_is in omega (arith, room) in
     let put = changes s.words.items s.room c.self.invariant.0 c.args.k c.index-word.result.now c.args.ready within c.index-word.ensures c.if-word-digit.false in
     let after = puts s.words.items s.room c.self.invariant.0 c.args.k c.index-word.result.now c.args.ready within c.index-word.ensures c.if-word-digit.false in
-    let counted = all_put flags s.low.items s.mid.items s.high.items s.total c.self.invariant.1 c.args.k c.args.ready put.inside put.differs in
+    let used : 32768 < length flags → nat_lt 32768 s.room ≡ true = λ many. let room = length_flags s.words.items s.room in lt-ltb 32768 s.room (omega (arith, many, room)) in
+    let counted = all_put flags s.low.items s.mid.items s.high.items s.total c.self.invariant.1 c.args.k c.args.ready c.shift_upper.new.mid.items c.shift_upper.new.high.items put.inside put.differs (λ many. c.shift_upper.ensures.mid (used many)) (λ many. c.shift_upper.ensures.high (used many)) in
     let total = ap (shifted s.total) c.if-ready.true in
-    (after.new_words, rw (c.shift.ensures, c.shift-2.ensures, c.shift-3.ensures, after.flags) (rw total at counted))
+    (after.new_words, rw (c.shift.ensures, after.flags) (rw total at counted))
 
 pub invariant_of-self-else-ready : goal.invariant_of-self-else-ready
 invariant_of-self-else-ready c =
@@ -115,9 +95,10 @@ invariant_of-self-else-ready c =
     let within : c.args.k < s.room = let room = length_seen s.words.items s.room c.args.self.now c.self.view_is in omega (arith, room) in
     let put = changes s.words.items s.room c.self.invariant.0 c.args.k c.index-word.result.now c.args.ready within c.index-word.ensures c.if-word-digit.false in
     let after = puts s.words.items s.room c.self.invariant.0 c.args.k c.index-word.result.now c.args.ready within c.index-word.ensures c.if-word-digit.false in
-    let counted = all_put flags s.low.items s.mid.items s.high.items s.total c.self.invariant.1 c.args.k c.args.ready put.inside put.differs in
+    let used : 32768 < length flags → nat_lt 32768 s.room ≡ true = λ many. let room = length_flags s.words.items s.room in lt-ltb 32768 s.room (omega (arith, many, room)) in
+    let counted = all_put flags s.low.items s.mid.items s.high.items s.total c.self.invariant.1 c.args.k c.args.ready c.shift_upper.new.mid.items c.shift_upper.new.high.items put.inside put.differs (λ many. c.shift_upper.ensures.mid (used many)) (λ many. c.shift_upper.ensures.high (used many)) in
     let total = ap (shifted s.total) c.if-ready.false in
-    (after.new_words, rw (c.shift.ensures, c.shift-2.ensures, c.shift-3.ensures, after.flags) (rw total at counted))
+    (after.new_words, rw (c.shift.ensures, after.flags) (rw total at counted))
 
 pub returns-then-ready : goal.returns-then-ready
 returns-then-ready c =

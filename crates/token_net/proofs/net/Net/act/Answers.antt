@@ -28,7 +28,7 @@ go-requires g c =
     let n : IsActing net c.args.piece c.args.k = act_named net c.args.piece c.args.k c.requires.node c.requires.name in
     let mem = memory_of c.run_on-ran.new.storage in
     let pass : going_on (out (graph_in net) c.args.piece 0) m.memory (pass_at net c.args.piece m.memory) ≡ Along c.in-Along.edge mem [] = c.run_on-ran.ensures.pass ∙ ap (λ (r : Ran). told r mem c.run_on-ran.new.draft.items) c.in-Along.is in
-    (omega arith, (n.exists, (n.acts, (edge_exists net c.args.piece m c.in-Along.edge mem [] (some_edge c.args.self.now.board.plan) pass, (c.requires.readable.stand, c.requires.none)))))
+    (omega arith, (n.exists, (n.acts, (edge_exists net c.args.piece m c.in-Along.edge mem [] (some_edge c.args.self.now.board.plan) pass))))
 
 pub go-requires-in-Wrote : goal.go-requires-in-Wrote
 go-requires-in-Wrote g c =
@@ -38,7 +38,7 @@ go-requires-in-Wrote g c =
     let mem = memory_of c.run_on-ran.new.storage in
     let text = c.run_on-ran.new.draft.items in
     let pass : going_on (out (graph_in net) c.args.piece 0) m.memory (pass_at net c.args.piece m.memory) ≡ Along c.in-Wrote.edge mem text = c.run_on-ran.ensures.pass ∙ ap (λ (r : Ran). told r mem text) c.in-Wrote.is in
-    (omega arith, (n.exists, (n.acts, (edge_exists net c.args.piece m c.in-Wrote.edge mem text (some_edge c.args.self.now.board.plan) pass, (c.requires.readable.stand, c.requires.none)))))
+    (omega arith, (n.exists, (n.acts, (edge_exists net c.args.piece m c.in-Wrote.edge mem text (some_edge c.args.self.now.board.plan) pass))))
 
 pub stop_or_go-requires : goal.stop_or_go-requires
 stop_or_go-requires g c =
@@ -46,7 +46,7 @@ stop_or_go-requires g c =
     let n : IsActing net c.args.piece c.args.k = act_named net c.args.piece c.args.k c.requires.node c.requires.name in
     let kept : c.run_on-ran.new.storage ≡ c.args.self.now.storage = subst (λ (r : Ran). KeepsStorage r c.args.self.now.storage c.run_on-ran.new.storage) c.in-Trapped.is c.run_on-ran.ensures.kept in
     let sizes : HasSizesOf net.program (memory_of c.run_on-ran.new.storage) = subst (λ (s : Storage). HasSizesOf net.program (memory_of s)) (sym kept) c.requires.readable.sizes in
-    (omega arith, (n.exists, (n.acts, (record { can_run = c.requires.readable.can_run; sizes = sizes; stand = c.requires.readable.stand; lie = c.requires.readable.lie }, c.requires.none))))
+    (omega arith, (n.exists, (n.acts, record { can_run = c.requires.readable.can_run; sizes = sizes; stand = c.requires.readable.stand; lie = c.requires.readable.lie })))
 
 pub returns-in-Along-clause-marking : goal.returns-in-Along-clause-marking
 returns-in-Along-clause-marking g c =

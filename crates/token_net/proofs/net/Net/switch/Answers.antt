@@ -1,21 +1,14 @@
-use Rattle.std.proofs.Common.{◌≡◌, ◌<◌, ℕ, None, Some, length, vec_len, ap, ◌∙◌, arith, rules}
+use Rattle.std.proofs.Common.{◌≡◌, ◌<◌, None, Some, length, vec_len, ap, ◌∙◌, arith, rules}
 use Rattle.closed_walks.specs.Graph.{edge_count}
 use Rattle.cfg_build.specs.Joined.{FlowGraph}
 use Rattle.net_board.specs.Nodes.{graph_in}
 use Rattle.net_board.specs.Tokens.{left_for}
-use Rattle.net_board.specs.WokenNodes.{no_node}
-use Rattle.net_board.proofs.ListPlaces.{length_slice_set}
 use Rattle.token_net.specs.NetView.{net_of, tokens_of}
-use Rattle.token_net.proofs.ActLemmas.{IsSwitching, switch_named, first_below}
-use Rattle.token_net.proofs.FireShapes.{left_clash, switch_marking, switch_woken}
-use Rattle.token_net.proofs.TokenLineLemmas.{led_stands, none_all, read_edge}
+use Rattle.token_net.proofs.ActLemmas.{IsSwitching, switch_named}
+use Rattle.token_net.proofs.FireShapes.{left_clash, switch_marking}
+use Rattle.token_net.proofs.TokenLineLemmas.{read_edge}
 use Rattle.token_net.proofs.ControlMoveLemmas.{switch_leads}
 use Rattle.token_net.proofs.net.Net.switch.Goals as goal
-
-pub first-first-requires : goal.first-first-requires
-first-first-requires g c =
-    let n : IsSwitching (net_of c.args.self.now) c.args.piece c.args.line c.args.k = switch_named (net_of c.args.self.now) c.args.piece c.args.k c.args.line c.requires.node c.requires.name in
-    (omega arith, n.exists)
 
 pub next_wire-requires : goal.next_wire-requires
 next_wire-requires g c =
@@ -30,26 +23,6 @@ index_mut-requires-in-Some g c =
     let n : IsSwitching (net_of c.args.self.now) c.args.piece c.args.line c.args.k = switch_named (net_of c.args.self.now) c.args.piece c.args.k c.args.line c.requires.node c.requires.name in
     let room : length c.args.self.now.lines.items ≡ vec_len c.args.self.now.lines = search rules in
     omega (arith, n.inside, c.args.self.now.every_line, room)
-
-pub wake_before-requires : goal.wake_before-requires
-wake_before-requires g c =
-    let n : IsSwitching (net_of c.args.self.now) c.args.piece c.args.line c.args.k = switch_named (net_of c.args.self.now) c.args.piece c.args.k c.args.line c.requires.node c.requires.name in
-    let at : left_for (tokens_of c.args.self.now) c.args.k ≡ Some c.in-Some.edge = read_edge c.args.self.now.edges.items c.args.k c.index.result.now (omega (arith, c.requires.node, c.args.self.now.every_node)) c.index.ensures ∙ c.in-Some.is in
-    let exists : c.in-Some.edge < edge_count (graph_in (net_of c.args.self.now)) = c.requires.readable.lie c.args.k c.in-Some.edge at in
-    let room : length c.args.self.now.woken.items ≡ vec_len c.args.self.now.woken = search rules in
-    let empty = ap length c.requires.none in (
-      omega arith,
-      (
-        n.inside,
-        (
-          length_slice_set c.args.self.now.lines.items c.args.line (Some c.next_wire.result) ∙ c.args.self.now.every_line,
-          (
-            led_stands c.args.self.now.board.plan c.in-Some.edge c.args.line c.next_wire.result c.args.self.now.lines.items n.inside exists c.next_wire.ensures c.requires.readable.stand,
-            (none_all (λ (j : ℕ). j < no_node (net_of c.args.self.now)) c.args.self.now.woken.items c.requires.none, omega (arith, room, empty, c.args.self.now.woken_room)),
-          ),
-        ),
-      ),
-    )
 
 pub steered-self-requires : goal.steered-self-requires
 steered-self-requires g c =
@@ -68,11 +41,6 @@ returns-in-Some-clause-place g c =
     let m = tokens_of c.args.self.now in
     c.steered-self.ensures.steered m (switch_leads net m c.args.k c.requires.node c.args.piece c.args.line c.in-Some.edge c.requires.name)
 
-pub returns-in-Some-clause-woken : goal.returns-in-Some-clause-woken
-returns-in-Some-clause-woken g c =
-    let n : IsSwitching (net_of c.args.self.now) c.args.piece c.args.line c.args.k = switch_named (net_of c.args.self.now) c.args.piece c.args.k c.args.line c.requires.node c.requires.name in
-    switch_woken (net_of c.args.self.now) _ c.args.piece c.args.line c.first-first.result c.wake_before.new.woken.items c.wake.new.woken.items (c.wake.ensures.nodes (no_node (net_of c.args.self.now)) c.wake_before.ensures.nodes (first_below (net_of c.args.self.now) c.args.piece c.first-first.result n.exists n.acts c.first-first.ensures)) c.wake_before.ensures.has c.wake.ensures.kept c.first-first.ensures c.wake.ensures.has
-
 pub returns-in_default-clause-marking : goal.returns-in_default-clause-marking
 returns-in_default-clause-marking g c =
     let none : c.index.result.now ≡ None = search rules in
@@ -81,12 +49,6 @@ returns-in_default-clause-marking g c =
 
 pub returns-in_default-clause-place : goal.returns-in_default-clause-place
 returns-in_default-clause-place g c =
-    let none : c.index.result.now ≡ None = search rules in
-    let at : left_for (tokens_of c.args.self.now) c.args.k ≡ None = read_edge c.args.self.now.edges.items c.args.k c.index.result.now (omega (arith, c.requires.node, c.args.self.now.every_node)) c.index.ensures ∙ none in
-    absurd (left_clash (left_for (tokens_of c.args.self.now) c.args.k) at c.requires.left)
-
-pub returns-in_default-clause-woken : goal.returns-in_default-clause-woken
-returns-in_default-clause-woken g c =
     let none : c.index.result.now ≡ None = search rules in
     let at : left_for (tokens_of c.args.self.now) c.args.k ≡ None = read_edge c.args.self.now.edges.items c.args.k c.index.result.now (omega (arith, c.requires.node, c.args.self.now.every_node)) c.index.ensures ∙ none in
     absurd (left_clash (left_for (tokens_of c.args.self.now) c.args.k) at c.requires.left)

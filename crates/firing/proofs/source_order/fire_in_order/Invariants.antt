@@ -2,7 +2,7 @@ use Rattle.std.proofs.Common.{◌≡◌, ◌≢◌, ◌-◌, ◌≤◌, None}
 use Rattle.firing.specs.Control.{IsInStep}
 use Rattle.firing.specs.Play.{by_order, moment}
 use Rattle.firing.proofs.PlayLemmas.{Running}
-use Rattle.firing.proofs.source_order.fire_due.Given as goal
+use Rattle.firing.proofs.source_order.fire_in_order.Given as goal
 
 abbrev pub invariant-firing : goal.invariant-firing
 invariant-firing g l =
@@ -15,6 +15,7 @@ invariant-firing g l =
       in_step : IsInStep (y.moves fixed) (y.in_step fixed) (y.marking l.sys) (y.place l.sys);
       control : y.place l.sys ≢ None;
       run : Running (by_order (y.moves fixed) (y.course fixed)) (moment (y.marking l.fn.sys) (y.place l.fn.sys)) now l.limit l.show l.made (g.K.Sink.got l.fn.sink) (g.K.Sink.got l.sink);
+      trapped : l.trapped ≡ (y.moves fixed).trap (y.marking l.sys);
       later : g.K.Sink.faults l.fn.sink ≤ g.K.Sink.faults l.sink;
     }
 
