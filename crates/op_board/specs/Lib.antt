@@ -1,0 +1,14 @@
+pub mod Operations
+pub mod Effects
+pub mod Needs
+pub mod OperationNets
+pub mod OperationTokens
+pub mod OperationCourse
+pub mod OperationLists
+pub mod SoundOperationNets
+pub mod OperationFootprints
+pub mod OperationOrder
+pub mod OperationLockstep
+pub mod OperationSimulation
+pub mod OperationFacts
+pub mod OrderFacts
