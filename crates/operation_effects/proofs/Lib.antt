@@ -1,0 +1,5 @@
+pub mod ValueReading
+pub mod TaskEffects
+pub mod ArraySizes
+pub mod TaskShapes
+pub mod FittingOperations

@@ -1,0 +1,13 @@
+//! What an operation of a net of operations does at the values of its operands.
+#![tactic(auto)]
+
+mod changes;
+mod effect_laws;
+mod performing;
+mod reading;
+mod sizes;
+mod tasks;
+
+pub use effect_laws::operations_fit_their_programs;
+pub use performing::{Did, perform};
+pub use tasks::{Task, task_of};

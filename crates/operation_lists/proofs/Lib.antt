@@ -1,0 +1,4 @@
+pub mod CompiledLists
+pub mod DimensionParts
+pub mod ItemLists
+pub mod ListLemmas

@@ -1,0 +1,4 @@
+pub mod CanPerform
+pub mod NeededLines
+pub mod OperandLists
+pub mod Seen
