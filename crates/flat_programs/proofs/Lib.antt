@@ -1,0 +1,15 @@
+mod CountedItems
+mod ExecutableRows
+mod FlatDos
+mod FlatExecutables
+mod FlatLoops
+mod FlatPrograms
+mod FlatSuccessors
+mod FlowLemmas
+mod LineLemmas
+mod MarkLemmas
+mod PageLemmas
+mod Positions
+mod Rows
+mod ShownLemmas
+mod TextLemmas

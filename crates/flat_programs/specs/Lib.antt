@@ -1,0 +1,10 @@
+pub mod Declarations
+pub mod Executables
+pub mod FlatForm
+pub mod Flow
+pub mod Lines
+pub mod Marks
+pub mod Pages
+pub mod Shown
+pub mod Text
+pub mod Typeset

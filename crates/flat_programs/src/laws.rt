@@ -1,0 +1,16 @@
+//! Laws on flat statements, as contracts of functions that do nothing.
+ghost use Rattle.std.specs.Prelude.{List};
+ghost use Rattle.f77_tree.specs.declared.programs.NameInfo.{NameInfo};
+ghost use Rattle.f77_tree.specs.declared.programs.Program.{Program};
+ghost use Rattle.f77_tree.specs.WellFormed.{AreExecs, IsWellFormed};
+ghost use Rattle.flat_programs.specs.declared.statements.FlatLine.{FlatLine};
+ghost use Rattle.flat_programs.specs.Marks.{loop_count};
+ghost use Rattle.flat_programs.specs.Executables.{executables, program_of};
+ghost use Rattle.flat_programs.specs.FlatForm.{AreProper, HasFewStatements, IsFlat};
+
+/// The executables of proper flat statements are those of a program, and with the declarations of a well-formed program they are a
+/// well-formed one.
+pub fn flat_statements_make_programs()
+    ensures executables { (names : List NameInfo) (flat : List FlatLine) → IsFlat flat → AreProper names flat → HasFewStatements flat → AreExecs names (executables flat) (loop_count flat) }
+    ensures program { (q : Program) (flat : List FlatLine) → IsWellFormed q → IsFlat flat → AreProper q.names flat → HasFewStatements flat → IsWellFormed (program_of q flat) }
+{}

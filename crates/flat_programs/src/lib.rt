@@ -1,0 +1,18 @@
+//! Flat programs: statements without blocks of IF, where each place to which a statement leads is a CONTINUE of its own. They have
+//! executables, which tell them again, and a printed text.
+#![tactic(auto)]
+
+mod appending;
+mod declarations;
+mod executables;
+mod flow;
+mod laws;
+mod lines;
+mod page;
+mod shown;
+mod statements;
+
+pub use executables::{executables_of, loop_count, program_of};
+pub use laws::flat_statements_make_programs;
+pub use page::{has_long_text, print_flat};
+pub use statements::{Flat, FlatLine, FlatList};
