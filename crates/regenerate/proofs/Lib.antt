@@ -1,0 +1,6 @@
+mod FirstPlaces
+mod FoldedLaws
+mod FoldedLists
+mod LiteralLaws
+mod PieceLemmas
+mod ProperFolds
