@@ -15,8 +15,8 @@ use Rattle.net_board.specs.Nodes.{is_acting, NetOf, graph_in, kind_in, all_lines
 use Rattle.net_board.specs.TokenEdges.{IsReadable}
 use Rattle.net_board.specs.Tokens.{Tokens, is_before, left_for, ready_as}
 use Rattle.net_board.proofs.NodeLaws.{IsNamed, named}
-use Rattle.token_net.proofs.ControlMoveLemmas.{nodes_within}
-use Rattle.token_net.proofs.TableLemmas.{short_filter}
+use Rattle.net_tables.proofs.NodeRanges.{nodes_within}
+use Rattle.net_tables.proofs.TableLemmas.{short_filter}
 
 module _ (net : NetOf) (piece : ℕ) where
   acting_count : (k : PieceKind) → is_acting k ≡ true → length (nodes_by net piece k) ≡ suc (length (switch_lines net piece k))

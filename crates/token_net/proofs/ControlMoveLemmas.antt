@@ -1,5 +1,5 @@
 -- Which node is due at a place of control, and where its firing moves that.
-use Rattle.std.proofs.Common.{◌≡◌, ◌<◌, ◌≤◌, ◌+◌, ◌-◌, ◌==◌, ◌||◌, ◌⊎◌, inl, inr, ℕ, zero, suc, nat_lt, Bool, true, false, if◌then◌else◌, List, [], ◌∷◌, length, map, Some, slice_get, refl, sym, ap, ◌∙◌, subst, arith}
+use Rattle.std.proofs.Common.{◌≡◌, ◌<◌, ◌+◌, ◌-◌, ◌==◌, ◌||◌, ◌⊎◌, inl, inr, ℕ, suc, nat_lt, Bool, true, false, if◌then◌else◌, List, [], ◌∷◌, length, map, Some, slice_get, refl, sym, ap, ◌∙◌, arith}
 use Rattle.std.proofs.lemmas.Bool.{cases_Bool, eqb-true, eq-eqb}
 use Rattle.f77_tree.specs.declared.programs.ExecKind.{ExecKind}
 use Rattle.f77_tree.specs.Execution.{Memory}
@@ -17,28 +17,6 @@ use Rattle.net_board.specs.ControlPlaces.{IsPlaced, Leads}
 use Rattle.net_board.specs.Tokens.{Tokens, pass_at}
 use Rattle.net_board.proofs.NodeLaws.{node_is, node_of}
 use Rattle.net_board.proofs.LockstepLaws.{IsDue, due_is}
-use Rattle.token_net.proofs.TableLemmas.{first_next}
-
--- ---- numbers of nodes
-
-first_rises : (net : NetOf) (piece more : ℕ) → first_node net piece ≤ first_node net (piece + more)
-first_rises net piece zero = let e : piece + 0 ≡ piece = omega arith in subst (λ n. first_node net piece ≤ first_node net n) (sym e) (omega arith)
-first_rises net piece (suc more) =
-    let r = first_rises net piece more in
-    let n = first_next net (piece + more) in
-    let e : (piece + more) + 1 ≡ piece + suc more = omega arith in
-    subst (λ n. first_node net piece ≤ first_node net n) e (omega (arith, r, n))
-
--- the nodes of a piece are among all nodes
-pub nodes_within : (net : NetOf) (piece : ℕ) → piece < (graph_in net).nodes → first_node net piece + node_count net piece ≤ length (nodes_of net)
-nodes_within net piece below =
-    let more : (d : ℕ) × ((piece + 1) + d ≡ (graph_in net).nodes) = ((graph_in net).nodes - (piece + 1), omega (arith, below)) in
-    let r = first_rises net (piece + 1) more.0 in
-    let n = first_next net piece in
-    let last : first_node net (piece + 1) ≤ first_node net (graph_in net).nodes = subst (λ m. first_node net (piece + 1) ≤ first_node net m) more.1 r in
-    omega (arith, last, n)
-
--- ---- the node that is due
 
 -- ---- where it leads
 

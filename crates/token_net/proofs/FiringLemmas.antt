@@ -10,7 +10,7 @@ use Rattle.net_board.specs.Nodes.{NetOf, graph_in}
 use Rattle.net_board.specs.Tokens.{Tokens, acted, gone, pass_at}
 use Rattle.net_board.proofs.PassEffects.{IsOut, pass_out}
 use Rattle.token_net.specs.PieceRuns.{going_on}
-use Rattle.token_net.proofs.TableLemmas.{out_exists}
+use Rattle.net_tables.proofs.TableLemmas.{out_exists}
 
 module _ (net : NetOf) (piece : ℕ) (m : Tokens) where
   first : ℕ

@@ -1,10 +1,6 @@
-pub mod TableLemmas
 pub mod RunLemmas
-pub mod TokenLineLemmas
 pub mod ControlMoveLemmas
 pub mod FiringLemmas
-pub mod PlacesLemmas
-pub mod LookupLemmas
 pub mod WakeLoops
 pub mod ActLemmas
 pub mod NewNetLemmas

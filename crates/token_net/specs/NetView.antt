@@ -6,7 +6,7 @@ use Rattle.net_board.specs.declared.control.Control.{Control}
 use Rattle.net_board.specs.Nodes.{NetOf, nodes_of}
 use Rattle.net_board.specs.Tokens.{Tokens, net_moves}
 use Rattle.token_net.specs.declared.net.Net.{Net}
-use Rattle.token_net.specs.LookupView.{net_on}
+use Rattle.net_tables.specs.LookupView.{net_on}
 
 -- all but the marks
 pub record Unmarked : Type 0 where

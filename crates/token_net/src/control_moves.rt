@@ -9,11 +9,10 @@ ghost use Rattle.net_board.specs.ControlCourse.{due_node, moved_on as moved_in, 
 ghost use Rattle.net_board.specs.Nodes.{graph_in, kind_in, node_count};
 ghost use Rattle.net_board.specs.ControlPlaces.{IsPlaced, Leads};
 ghost use Rattle.net_board.specs.Tokens.{Tokens};
-ghost use Rattle.token_net.specs.LookupView.{net_on};
+ghost use Rattle.net_tables.specs.LookupView.{net_on};
 
-use crate::lookups::Board;
-use crate::tables::is_end;
 use net_board::Control;
+use net_tables::{Board, is_end};
 
 /// The node that is due at a place.
 pub(crate) fn due_at<const W: usize>(board: &Board<W>, c: Control) -> Option<u32>

@@ -4,10 +4,9 @@ ghost use Rattle.std.specs.Prelude.{◌≡◌, ◌<◌, ℕ, Some, length, true}
 ghost use Rattle.closed_walks.specs.Graph.{edge_count};
 ghost use Rattle.net_board.specs.Nodes.{is_acting, graph_in, kind_in, nodes_of, switches, touched};
 ghost use Rattle.net_board.specs.Tokens.{led_from, with_all};
-ghost use Rattle.token_net.specs.LookupView.{net_on};
+ghost use Rattle.net_tables.specs.LookupView.{net_on};
 
-use crate::lookups::Board;
-use crate::token_lines::{lead, leave};
+use net_tables::{Board, lead, leave};
 
 /// Leads the lines of a piece that acts along an edge, and leaves it for the switches.
 pub(crate) fn lead_away<const W: usize>(

@@ -5,13 +5,12 @@ ghost use Rattle.std.specs.Prelude.{◌≡◌, ◌≤◌, ◌+◌, ◌*◌, leng
 ghost use Rattle.f77_meaning.specs.Room.{most_room};
 ghost use Rattle.net_board.specs.Nodes.{nodes_of};
 ghost use Rattle.net_board.specs.ControlPlaces.{IsPlaced};
-ghost use Rattle.token_net.specs.LookupView.{net_on};
+ghost use Rattle.net_tables.specs.LookupView.{net_on};
 
-use crate::lookups::Board;
-use crate::token_lines::{are_before, is_before, is_clear};
 use f77_meaning::{Storage, word_in};
 use firing::{NodeName, ReadySet};
 use net_board::Control;
+use net_tables::{Board, are_before, is_before, is_clear};
 use op_table::Trap;
 
 /// A dataflow net that does what a program does, whatever the order in which its nodes fire. Tokens stand for the classes of the

@@ -16,11 +16,9 @@ ghost use Rattle.token_net.specs.NetView.{net_of, tokens_of};
 use crate::Net;
 use crate::control_moves::steered;
 use crate::leading::lead_away;
-use crate::lookups::run_on;
-use crate::pieces_run::Ran;
-use crate::tables::touches;
-use crate::token_lines::drop_lines;
+use crate::pieces_run::{Ran, run_on};
 use firing::{Fired, NodeName};
+use net_tables::{drop_lines, touches};
 use op_table::Trap;
 use std::mem::swap;
 

@@ -13,14 +13,13 @@ ghost use Rattle.net_board.specs.SoundNets.{HasSizesOf};
 ghost use Rattle.net_board.specs.Nodes.{graph_in};
 ghost use Rattle.net_board.specs.Tokens.{pass_at};
 ghost use Rattle.token_net.specs.PieceRuns.{HasLine, KeepsStorage, MayChoose, going_on, told};
-ghost use Rattle.token_net.specs.PartsView.{net_in};
+ghost use Rattle.net_tables.specs.PartsView.{net_in};
 
-use crate::program_parts::Plan;
-use crate::tables::out_at;
 use cfg_build::PieceKind;
 use df_sequence::LabelList;
 use f77_meaning::{Storage, execute, write_line};
 use f77_tree::{ExecKind, Expr, NameInfoList, Program, evaluate};
+use net_tables::{Board, Plan, out_at};
 use op_table::Trap;
 
 /// What came of a piece.
@@ -36,7 +35,7 @@ pub(crate) enum Ran {
 
 /// Runs a piece, which these edges leave: what it acts on the storage, the line that it makes, and the edge that it takes. It takes
 /// no memory.
-pub(crate) fn run<const W: usize>(
+fn run<const W: usize>(
     plan: &Plan<W>,
     outs: &LabelList,
     piece: u32,
@@ -76,6 +75,27 @@ pub(crate) fn run<const W: usize>(
         },
         _ => Ran::Along(out_at(outs, 0)),
     }
+}
+
+/// Runs a piece: what it acts on the storage, the line that it makes, and the edge that it takes. It takes no memory.
+pub(crate) fn run_on<const W: usize>(
+    board: &Board<W>,
+    piece: u32,
+    storage: &mut Storage,
+    draft: &mut Vec<u8>,
+) -> Ran
+    requires piece { piece < (graph_in (net_in board.now.plan)).nodes }
+    requires can_run { CanRun board.now.plan.program.now }
+    requires sizes { HasSizesOf board.now.plan.program.now (memory_of storage.old) }
+    requires data { storage.old.taken ≤ length board.now.plan.input.items }
+    requires room { most_room board.now.plan.program.now.execs ≤ vec_capacity draft.old }
+    ensures pass { going_on (out (graph_in (net_in board.now.plan)) piece 0) (memory_of storage.old) (pass_at (net_in board.now.plan) piece (memory_of storage.old)) ≡ told result (memory_of storage.new) draft.new.items }
+    ensures kept { KeepsStorage result storage.old storage.new }
+    ensures line { HasLine result draft.new.items }
+    ensures data { storage.new.taken ≤ length board.now.plan.input.items }
+    ensures capacity { vec_capacity draft.old ≤ vec_capacity draft.new }
+{
+    run(&board.plan, board.outs(piece), piece, storage, draft)
 }
 
 /// Runs an executable, which then takes the edge.

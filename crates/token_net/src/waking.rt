@@ -7,11 +7,11 @@ ghost use Rattle.net_board.specs.Nodes.{is_acting, graph_in, kind_in, nodes_of, 
 ghost use Rattle.net_board.specs.TokenEdges.{AreEdges, edge_at};
 ghost use Rattle.net_board.specs.Tokens.{Tokens};
 ghost use Rattle.net_board.specs.WokenNodes.{HasNext, IsWoken, no_node};
-ghost use Rattle.token_net.specs.LookupView.{net_on};
+ghost use Rattle.net_tables.specs.LookupView.{net_on};
 ghost use Rattle.token_net.specs.WokenList.{Keeps};
 
-use crate::lookups::Board;
 use firing::NodeName;
+use net_tables::Board;
 
 /// Names a node, for which there is room. A node that was just named isn't named again.
 pub(crate) fn wake(woken: &mut Vec<u32>, k: u32)

@@ -1,6 +1,6 @@
 use Rattle.std.proofs.Common.{arith}
-use Rattle.token_net.specs.LookupView.{net_on}
-use Rattle.token_net.proofs.ControlMoveLemmas.{nodes_within}
+use Rattle.net_tables.specs.LookupView.{net_on}
+use Rattle.net_tables.proofs.NodeRanges.{nodes_within}
 use Rattle.token_net.proofs.control_moves.due_at.Goals as goal
 
 pub overflow_add-result : goal.overflow_add-result

@@ -1,6 +1,7 @@
 use Rattle.std.proofs.Common.{sym, ◌∙◌, arith}
-use Rattle.token_net.specs.LookupView.{net_on}
-use Rattle.token_net.proofs.ControlMoveLemmas.{nodes_within, leaves_are, moved_unless}
+use Rattle.net_tables.specs.LookupView.{net_on}
+use Rattle.net_tables.proofs.NodeRanges.{nodes_within}
+use Rattle.token_net.proofs.ControlMoveLemmas.{leaves_are, moved_unless}
 use Rattle.token_net.proofs.control_moves.moved_on.Goals as goal
 
 pub overflow_add-result : goal.overflow_add-result

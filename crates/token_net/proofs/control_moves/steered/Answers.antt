@@ -1,6 +1,6 @@
 use Rattle.std.proofs.Common.{◌≡◌, Some, sym, ◌∙◌, rules}
 use Rattle.net_board.specs.ControlCourse.{due_node}
-use Rattle.token_net.specs.LookupView.{net_on}
+use Rattle.net_tables.specs.LookupView.{net_on}
 use Rattle.token_net.proofs.ActLemmas.{steered_if}
 use Rattle.token_net.proofs.control_moves.steered.Goals as goal
 

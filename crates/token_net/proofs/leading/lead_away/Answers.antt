@@ -1,6 +1,6 @@
 use Rattle.std.proofs.Common.{ℕ, List, Some, ap, ◌∙◌}
 use Rattle.net_board.specs.Tokens.{with_all}
-use Rattle.token_net.specs.LookupView.{net_on}
+use Rattle.net_tables.specs.LookupView.{net_on}
 use Rattle.token_net.proofs.ActLemmas.{switches_are}
 use Rattle.token_net.proofs.leading.lead_away.Goals as goal
 

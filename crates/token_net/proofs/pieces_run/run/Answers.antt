@@ -4,7 +4,7 @@ use Rattle.f77_tree.specs.declared.programs.Exec.{Exec}
 use Rattle.cfg_build.specs.Flow.{flow}
 use Rattle.f77_meaning.specs.Storage.{memory_of}
 use Rattle.token_net.specs.PieceRuns.{told}
-use Rattle.token_net.specs.PartsView.{net_in}
+use Rattle.net_tables.specs.PartsView.{net_in}
 use Rattle.token_net.proofs.RunLemmas.{has_room, may_choose, piece_told, act_told, chosen_told, trap_told}
 use Rattle.token_net.proofs.pieces_run.run.Goals as goal
 

@@ -3,8 +3,8 @@ use Rattle.closed_walks.specs.Graph.{Graph, edge_count, to}
 use Rattle.cfg_build.specs.Joined.{FlowGraph}
 use Rattle.net_board.specs.Nodes.{graph_in}
 use Rattle.net_board.specs.TokenEdges.{edge_at}
-use Rattle.token_net.specs.LookupView.{net_on}
-use Rattle.token_net.proofs.TokenLineLemmas.{read_edge}
+use Rattle.net_tables.specs.LookupView.{net_on}
+use Rattle.net_tables.proofs.TokenLineLemmas.{read_edge}
 use Rattle.token_net.proofs.WakeLoops.{next_has, next_past, next_lost}
 use Rattle.token_net.proofs.waking.wake_before.Goals as goal
 

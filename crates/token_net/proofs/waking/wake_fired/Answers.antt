@@ -5,10 +5,10 @@ use Rattle.firing.specs.declared.system.NodeName.TheVariants.{Merge, Switch}
 use Rattle.net_board.specs.Nodes.{node_at}
 use Rattle.net_board.specs.TokenEdges.{edge_at}
 use Rattle.net_board.specs.WokenNodes.{HasNext, IsWoken, no_node}
-use Rattle.token_net.specs.LookupView.{net_on}
+use Rattle.net_tables.specs.LookupView.{net_on}
 use Rattle.token_net.proofs.ActLemmas.{IsActing, IsMerging, IsSwitching, act_named, first_below, merge_named, switch_named}
 use Rattle.token_net.proofs.FireShapes.{merge_woken, switch_woken}
-use Rattle.token_net.proofs.TokenLineLemmas.{none_all}
+use Rattle.net_tables.proofs.TokenLineLemmas.{none_all}
 use Rattle.token_net.proofs.waking.wake_fired.Goals as goal
 
 pub wake_past-requires : goal.wake_past-requires

@@ -1,5 +1,5 @@
 use Rattle.std.proofs.Common.{arith}
-use Rattle.token_net.specs.LookupView.{net_on}
+use Rattle.net_tables.specs.LookupView.{net_on}
 use Rattle.token_net.proofs.WakeLoops.{lines_more, lines_all}
 use Rattle.token_net.proofs.waking.wake_lines.Goals as goal
 

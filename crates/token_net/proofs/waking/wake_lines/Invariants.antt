@@ -1,7 +1,7 @@
 use Rattle.std.proofs.Common.{◌<◌, ◌≤◌, ◌+◌, ℕ, All, get_or, vec_len, vec_capacity}
 use Rattle.net_board.specs.TokenEdges.{edge_at}
 use Rattle.net_board.specs.WokenNodes.{HasNext, no_node}
-use Rattle.token_net.specs.LookupView.{net_on}
+use Rattle.net_tables.specs.LookupView.{net_on}
 use Rattle.token_net.specs.WokenList.{Keeps}
 use Rattle.token_net.proofs.waking.wake_lines.Given as goal
 

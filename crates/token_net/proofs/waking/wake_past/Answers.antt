@@ -1,7 +1,7 @@
 use Rattle.std.proofs.Common.{◌≡◌, ℕ, List, length, vec_len, subst, sym, ap, arith, rules}
 use Rattle.list_laws.specs.Member.{Member}
 use Rattle.net_board.specs.TokenEdges.{edge_at}
-use Rattle.token_net.specs.LookupView.{net_on}
+use Rattle.net_tables.specs.LookupView.{net_on}
 use Rattle.token_net.proofs.ActLemmas.{switches_are, switches_few}
 use Rattle.token_net.proofs.WakeLoops.{next_kept}
 use Rattle.token_net.proofs.waking.wake_past.Goals as goal

@@ -10,7 +10,7 @@ use Rattle.token_net.specs.declared.pieces_run.Ran.{Ran}
 use Rattle.token_net.specs.NetView.{net_of, tokens_of}
 use Rattle.token_net.specs.PieceRuns.{KeepsStorage, going_on, told}
 use Rattle.token_net.proofs.ActLemmas.{IsActing, act_named}
-use Rattle.token_net.proofs.LookupLemmas.{some_edge}
+use Rattle.net_tables.proofs.LookupLemmas.{some_edge}
 use Rattle.token_net.proofs.FiredLemmas.{trap_answered}
 use Rattle.token_net.proofs.FiringLemmas.{acted_told, edge_told, edge_exists, trap_told}
 use Rattle.token_net.proofs.ControlMoveLemmas.{act_leads}

@@ -2,7 +2,7 @@ use Rattle.std.proofs.Common.{◌≡◌, ◌&&◌, Bool, is_some, Option, ℕ, s
 use Rattle.net_board.specs.Tokens.{left_for, ready_as}
 use Rattle.token_net.specs.NetView.{net_of, tokens_of}
 use Rattle.token_net.proofs.ActLemmas.{IsActing, IsSwitching, IsMerging, act_named, switch_named, merge_named}
-use Rattle.token_net.proofs.TokenLineLemmas.{read_edge}
+use Rattle.net_tables.proofs.TokenLineLemmas.{read_edge}
 use Rattle.token_net.proofs.net.Net.is_ready.Goals as goal
 
 pub can_act-requires : goal.can_act-requires

@@ -8,7 +8,7 @@ use Rattle.net_board.specs.declared.control.Control.{Control}
 use Rattle.net_board.specs.Nodes.{NetOf, nodes_of}
 use Rattle.net_board.specs.NetParts.{net_with}
 use Rattle.net_board.specs.ControlPlaces.{IsPlaced}
-use Rattle.token_net.specs.LookupView.{net_on}
+use Rattle.net_tables.specs.LookupView.{net_on}
 use Rattle.token_net.proofs.NewNetLemmas.{every_line, every_node, first_made, can_come, in_step}
 use Rattle.token_net.proofs.net.Net.new.Goals as goal
 
@@ -42,7 +42,7 @@ returns-clause-sound g c =
     let same : net ≡ made = c.in_ok-board.ensures in
     let memory = c.in_ok-initial_storage.ensures ∙ ap (λ (x : NetOf). Rattle.f77_tree.specs.Run.first_memory x.program) (sym same) in
     can_come net made _ same (first_made net c.nodes.result c.in_ok-first_places.field-0.items c.in_ok-nothing_left.field-0.items (memory_of c.in_ok-initial_storage.field-0) c.in_ok-first_places.ensures c.in_ok-nothing_left.ensures c.nodes.ensures memory)
-    (c.parts_begin.ensures.sound c.args.p.now c.args.f.now (touches_in c.args.touch.now) c.args.l.now c.args.input.now.items c.requires.parts c.are_words.ensures)
+    (c.program_nets_begin.ensures.sound c.args.p.now c.args.f.now (touches_in c.args.touch.now) c.args.l.now c.args.input.now.items c.requires.parts c.words_are_words.ensures)
 
 pub returns-clause-in_step : goal.returns-clause-in_step
 returns-clause-in_step g c =
@@ -51,4 +51,4 @@ returns-clause-in_step g c =
     let same : net ≡ made = c.in_ok-board.ensures in
     let memory = c.in_ok-initial_storage.ensures ∙ ap (λ (x : NetOf). Rattle.f77_tree.specs.Run.first_memory x.program) (sym same) in
     in_step net made _ c.first_control-control.result same (first_made net c.nodes.result c.in_ok-first_places.field-0.items c.in_ok-nothing_left.field-0.items (memory_of c.in_ok-initial_storage.field-0) c.in_ok-first_places.ensures c.in_ok-nothing_left.ensures c.nodes.ensures memory) c.first_control-control.ensures.control
-    (c.parts_begin.ensures.in_lockstep c.args.p.now c.args.f.now (touches_in c.args.touch.now) c.args.l.now c.args.input.now.items c.requires.parts c.are_words.ensures)
+    (c.program_nets_begin.ensures.in_lockstep c.args.p.now c.args.f.now (touches_in c.args.touch.now) c.args.l.now c.args.input.now.items c.requires.parts c.words_are_words.ensures)

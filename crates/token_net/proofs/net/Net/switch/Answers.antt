@@ -6,7 +6,7 @@ use Rattle.net_board.specs.Tokens.{left_for}
 use Rattle.token_net.specs.NetView.{net_of, tokens_of}
 use Rattle.token_net.proofs.ActLemmas.{IsSwitching, switch_named}
 use Rattle.token_net.proofs.FireShapes.{left_clash, switch_marking}
-use Rattle.token_net.proofs.TokenLineLemmas.{read_edge}
+use Rattle.net_tables.proofs.TokenLineLemmas.{read_edge}
 use Rattle.token_net.proofs.ControlMoveLemmas.{switch_leads}
 use Rattle.token_net.proofs.net.Net.switch.Goals as goal
 

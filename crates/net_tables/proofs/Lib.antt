@@ -1,0 +1,5 @@
+pub mod TableLemmas
+pub mod NodeRanges
+pub mod TokenLineLemmas
+pub mod PlacesLemmas
+pub mod LookupLemmas

@@ -1,0 +1,3 @@
+pub mod PartsView
+pub mod NetTables
+pub mod LookupView

@@ -1,9 +1,0 @@
-use Rattle.std.proofs.Common.{◌≡◌, ◌&&◌, ◌++◌, not, map, filter}
-use Rattle.std.specs.List.{range_with_len}
-use Rattle.firing.specs.declared.system.NodeName.TheVariants.{Switch}
-use Rattle.net_board.specs.Nodes.{is_free}
-use Rattle.token_net.specs.PartsView.{net_in}
-use Rattle.token_net.proofs.tables.push_switches.Given as goal
-
-abbrev pub invariant-loop-line : goal.invariant-loop-line
-invariant-loop-line g l = l.names.items ≡ l.initial.names.items ++ map (Switch l.piece) (filter (λ line. is_free (net_in l.plan) l.piece line && not ((net_in l.plan).touches l.piece line)) (range_with_len 0 l.line))

@@ -1,6 +1,0 @@
-use Rattle.std.proofs.Common.{◌∙◌}
-use Rattle.token_net.proofs.TableLemmas.{touches_at}
-use Rattle.token_net.proofs.tables.touches.Goals as goal
-
-pub returns : goal.returns
-returns g c = c.holds.ensures.member ∙ touches_at c.args.plan.now.touch.now c.args.piece c.args.line c.at.result.now c.at.ensures.item
