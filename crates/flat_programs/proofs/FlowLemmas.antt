@@ -1,5 +1,5 @@
 -- What is looked up of flat statements.
-use Rattle.std.proofs.Common.{◌≡◌, ℕ, zero, suc, ◌+◌, ◌-◌, ◌*◌, ◌<◌, ◌≤◌, Bool, true, false, cond, List, [], ◌∷◌, length, get_or, refl, sym, ap, ◌∙◌, arith}
+use Rattle.std.proofs.Common.{◌≡◌, ℕ, zero, suc, ◌+◌, ◌*◌, ◌<◌, ◌≤◌, Bool, true, false, cond, List, [], ◌∷◌, length, get_or, refl, sym, ap, ◌∙◌, arith}
 use Rattle.std.specs.Prelude.{slice_get, slice_index, Some, None, Option, option_to_list, nat_lt, sum_by}
 use Rattle.std.specs.List.{range_with_len}
 use Rattle.std.proofs.lemmas.List.{get_or_read, length-map}
@@ -10,11 +10,11 @@ use Rattle.f77_tree.specs.declared.programs.ExecKind.TheVariants.{DoNext}
 use Rattle.flat_programs.specs.declared.statements.Flat.{Flat}
 use Rattle.flat_programs.specs.declared.statements.Flat.TheVariants.{Mark, Assignment, Output, LogicalIf, ArithmeticIf, ComputedGoTo, DoLoop, Jump, Finish}
 use Rattle.flat_programs.specs.declared.statements.FlatLine.{FlatLine}
-use Rattle.flat_programs.specs.Marks.{mark_at, mark_count, mark_places, place_of, loop_at, loop_to, is_end, variable_in}
+use Rattle.flat_programs.specs.Marks.{is_mark_in, mark_at, mark_count, mark_places, loop_at, loop_to, is_end, variable_in}
 use Rattle.flat_programs.specs.Executables.{width_by, width, width_in, width_at, first_of, increment, increments, leading, following, executables_in, executables_at}
-use Rattle.flat_programs.specs.FlatForm.{IsNumber}
 use Rattle.flat_programs.specs.Flow.{IsTable}
-use Rattle.flat_programs.proofs.MarkLemmas.{index_of_number, found, mark_at-most}
+use Rattle.flat_programs.proofs.MarkLemmas.{mark_at-most}
+use Rattle.flat_programs.proofs.Positions.{one}
 
 -- ---- widths
 
@@ -55,16 +55,12 @@ module _ (flat : List FlatLine) where
 
   -- ---- tables
 
-  -- the place of a mark
-  pub record IsPlaceOf (number place : ℕ) : Type 0 where
-    pub is : place ≡ place_of flat number
-    pub within : place < length flat
-
-  pub place_found : (marks : List ℕ) (number place : ℕ) → marks ≡ mark_places flat → IsNumber (mark_count flat) number → place ≡ get_or marks (number - 1) place → IsPlaceOf number place
-  place_found marks number place same is read =
-      let index : number - 1 < length marks = omega (arith, index_of_number flat number is, ap length same) in
-      let at : place ≡ place_of flat number = get_or_read marks (number - 1) place index read 0 ∙ ap (λ (ps : List ℕ). slice_index ps (number - 1)) same in
-      record { is = at; within = omega (arith, at, (found flat number is).within) }
+  -- what is read among the places of marks is a place
+  pub mark_within : (marks : List ℕ) (i place : ℕ) → marks ≡ mark_places flat → i < length marks → place ≡ get_or marks i place → place < length flat
+  mark_within marks i place same less read =
+      let is : place ≡ slice_index (mark_places flat) i = get_or_read marks i place less read 0 ∙ ap (λ (ps : List ℕ). slice_index ps i) same in
+      let within = (one (λ at. is_mark_in (slice_get flat at)) (length flat) i (omega (arith, less, ap length same))).within in
+      omega (arith, within, is)
 
   pub entry_read : (f : ℕ → ℕ) (n k v : ℕ) (table : List ℕ) → IsTable f n table → k < n → v ≡ get_or table k v → v ≡ f k
   entry_read f n k v table is less read = get_or_read table k v (omega (arith, less, is.size)) read 0 ∙ is.entry k less

@@ -5,6 +5,7 @@ pub mod Flow
 pub mod Lines
 pub mod Marks
 pub mod Pages
+pub mod Recovered
 pub mod Shown
 pub mod Text
 pub mod Typeset

@@ -1,16 +1,40 @@
 //! The texts of declarations.
 ghost use Rattle.std.specs.Prelude.{◌≡◌, ◌++◌, ◌<◌, ◌≤◌, Some, [], ◌∷◌, codes, OnOk, drop, map, length, slice_get};
 ghost use Rattle.f77_tree.specs.StatementGrammar.{after_commas, block_text, bracketed_list, constant_text, decl_text, dim_text, kind_text, low_text, member_text, signed_text, times_text, value_text, with_commas};
-ghost use Rattle.flat_programs.specs.Declarations.{block_decls, block_statement, group_statement, init_statement, is_continued as is_continued_in, name_alone, same_block, signed, typed_name, written_block, written_constant, written_dim, written_low, written_member, written_times, written_value};
+ghost use Rattle.flat_programs.specs.Declarations.{block_decls, block_statement, commons, declared, group_statement, init_statement, is_continued as is_continued_in, name_alone, same_block, signed, typed_name, written_block, written_constant, written_dim, written_low, written_member, written_times, written_value};
 ghost use Rattle.flat_programs.specs.Typeset.{blank, typeset};
 
 use crate::appending::{append, append_comma, append_number, append_signed, append_truth};
 use df_sequence::{NoMemory, NumList};
 use f77_tree::{
     CommonPart, CommonPartList, Dim, DimList, InitPart, InitValue, InitValueList, Kind, Lit,
-    Member, MemberList, Name, NameInfo,
+    Member, MemberList, Name, NameInfo, Program,
 };
 use std::alloc::Global;
+
+// ---- numbers
+
+/// How many statements declare the names of a program: one for each name, each block of COMMON, each group of EQUIVALENCE and each
+/// part of DATA. It takes time in proportion to the square of the number of parts of COMMON.
+pub fn declaration_count(p: &Program) -> u64
+    ensures { result ≡ length (declared p.now) }
+{
+    u64::from(p.names.len())
+        + u64::from(block_count(&p.commons))
+        + u64::from(p.groups.len())
+        + u64::from(p.inits.len())
+}
+
+/// How many blocks of COMMON there are.
+fn block_count(parts: &CommonPartList) -> u32
+    ensures { result ≡ length (commons parts.now) }
+{
+    let mut count = 0;
+    for k in 0..parts.len() {
+        count += u32::from(!is_continued(parts, k, parts.at(k)));
+    }
+    count
+}
 
 // ---- names
 

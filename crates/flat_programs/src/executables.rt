@@ -1,8 +1,8 @@
 //! The executables of a flat program.
-ghost use Rattle.std.specs.Prelude.{◌≡◌, ◌+◌, ◌-◌, ◌<◌, ◌^◌, ◌++◌, map, length, Some, All, true, IfOk, OnOk};
-ghost use Rattle.flat_programs.specs.Marks.{mark_at, mark_count, loop_count as count_of_loops, is_loop, variable_in};
+ghost use Rattle.std.specs.Prelude.{◌≡◌, ◌+◌, ◌-◌, ◌<◌, ◌^◌, ◌++◌, map, length, Some, true, IfOk, OnOk};
+ghost use Rattle.flat_programs.specs.Marks.{mark_at, loop_count as count_of_loops, is_loop, variable_in};
 ghost use Rattle.flat_programs.specs.Executables.{executables, executables_at, first_of, following, increments, leading, marked as executable_of_mark, program_of as program_with};
-ghost use Rattle.flat_programs.specs.FlatForm.{AreNumbered, HasNumbers, IsChoiceOrStart, IsNumber};
+ghost use Rattle.flat_programs.specs.FlatForm.{IsChoiceOrStart};
 ghost use Rattle.flat_programs.specs.Flow.{IsFlow};
 
 use crate::flow::Flow;
@@ -14,8 +14,7 @@ use std::alloc::Global;
 /// The program with the declarations of another one and the executables of these statements. It takes time in proportion to their
 /// length and the length of the declarations.
 pub fn program_of(alloc: Global, q: &Program, flat: &FlatList) -> Result<Program, NoMemory>
-    requires short { length flat.now < 2 ^ 31 }
-    requires numbered { AreNumbered flat.now }
+    requires { length flat.now < 2 ^ 31 }
     ensures { IfOk result (λ p. p ≡ program_with q.now flat.now) }
 {
     Ok(Program {
@@ -45,8 +44,7 @@ pub fn loop_count(flat: &FlatList) -> u32
 
 /// The executables of these statements, in the order of the text (ANSI X3.9-1978, section 11).
 pub fn executables_of(alloc: Global, flat: &FlatList) -> Result<ExecList, NoMemory>
-    requires short { length flat.now < 2 ^ 31 }
-    requires numbered { AreNumbered flat.now }
+    requires { length flat.now < 2 ^ 31 }
     ensures { IfOk result (λ execs. execs ≡ executables flat.now) }
 {
     let flow = Flow::of(alloc, flat)?;
@@ -67,7 +65,6 @@ fn append_executables(
 ) -> Result<(), NoMemory>
     requires flow { IsFlow flat.now flow.now }
     requires place { place < length flat.now }
-    requires numbered { AreNumbered flat.now }
     requires few { length execs.old < 2 ^ 32 - 2 }
     ensures { OnOk result (execs.new ≡ execs.old ++ executables_at flat.now place) }
 {
@@ -90,7 +87,6 @@ fn first_kind(
 ) -> Result<ExecKind, NoMemory>
     requires flow { IsFlow flat.now flow.now }
     requires place { place < length flat.now }
-    requires numbers { HasNumbers (mark_count flat.now) stmt.now }
     ensures { IfOk result (λ kind. kind ≡ leading flat.now place stmt.now) }
 {
     let index = flow.first[place as usize];
@@ -129,7 +125,6 @@ fn choice_or_start(
 ) -> Result<ExecKind, NoMemory>
     requires flow { IsFlow flat.now flow.now }
     requires place { place < length flat.now }
-    requires numbers { HasNumbers (mark_count flat.now) stmt.now }
     ensures { IfOk result (λ kind. IsChoiceOrStart stmt.now → kind ≡ leading flat.now place stmt.now) }
 {
     let next = flow.first[place as usize + 1];
@@ -164,7 +159,6 @@ fn start(
 ) -> Result<ExecKind, NoMemory>
     requires flow { IsFlow flat.now flow.now }
     requires place { place < length flat.now }
-    requires numbers { HasNumbers (mark_count flat.now) stmt.now }
     ensures { IfOk result (λ kind. is_loop stmt.now ≡ true → kind ≡ leading flat.now place stmt.now) }
 {
     match stmt {
@@ -191,7 +185,6 @@ fn start(
 fn second_kind(flat: &FlatList, flow: &Flow, place: u32, stmt: &Flat) -> Option<ExecKind>
     requires flow { IsFlow flat.now flow.now }
     requires place { place < length flat.now }
-    requires numbers { HasNumbers (mark_count flat.now) stmt.now }
     ensures { result ≡ following flat.now place stmt.now }
 {
     match stmt {
@@ -238,8 +231,7 @@ fn marked_targets(
     flow: &Flow,
     targets: &LabelList,
 ) -> Result<LabelList, NoMemory>
-    requires flow { IsFlow flat.now flow.now }
-    requires numbers { All (IsNumber (mark_count flat.now)) targets.now }
+    requires { IsFlow flat.now flow.now }
     ensures { IfOk result (λ marked. marked ≡ map (executable_of_mark flat.now) targets.now) }
 {
     let mut marked = Sequence::new(alloc);

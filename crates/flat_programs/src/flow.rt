@@ -1,8 +1,7 @@
 //! What is looked up of the statements of a flat program.
-ghost use Rattle.std.specs.Prelude.{◌≡◌, ◌+◌, ◌<◌, ◌^◌, length, count_by, IfOk};
-ghost use Rattle.flat_programs.specs.Marks.{is_end, is_mark as is_mark_of, is_loop as is_loop_of, mark_at, mark_count, mark_places as places_of_marks, loop_at, loop_to as place_of_loop};
+ghost use Rattle.std.specs.Prelude.{◌≡◌, ◌+◌, ◌<◌, ◌≤◌, ◌^◌, length, count_by, IfOk};
+ghost use Rattle.flat_programs.specs.Marks.{is_end, is_mark as is_mark_of, is_loop as is_loop_of, mark_at, mark_count, mark_places as places_of_marks, place_of, loop_at, loop_to as place_of_loop};
 ghost use Rattle.flat_programs.specs.Executables.{first_of, width_by, marked as executable_of_mark, beyond as executable_beyond};
-ghost use Rattle.flat_programs.specs.FlatForm.{IsNumber};
 ghost use Rattle.flat_programs.specs.Flow.{IsTable, IsFlow};
 
 use crate::{Flat, FlatList};
@@ -46,22 +45,35 @@ impl Flow {
 
     /// The executable of the mark with a number.
     pub(crate) fn marked(&self, flat: &FlatList, number: u32) -> u32
-        requires flow { IsFlow flat.now self.now }
-        requires number { IsNumber (mark_count flat.now) number }
+        requires { IsFlow flat.now self.now }
         ensures { result ≡ executable_of_mark flat.now number }
     {
-        let _whole = flat;
-        self.first[self.marks[number as usize - 1] as usize]
+        self.first[self.place(flat, number) as usize]
     }
 
     /// The executable after the mark with a number, and after the increment that may stand there.
     pub(crate) fn beyond(&self, flat: &FlatList, number: u32) -> u32
         requires flow { IsFlow flat.now self.now }
-        requires number { IsNumber (mark_count flat.now) number }
+        requires some { 0 < length flat.now }
         ensures { result ≡ executable_beyond flat.now number }
     {
+        self.first[self.place(flat, number) as usize + 1]
+    }
+
+    /// The place of the mark with a number, or the first place where there is none.
+    fn place(&self, flat: &FlatList, number: u32) -> u32
+        requires { IsFlow flat.now self.now }
+        ensures place { result ≡ place_of flat.now number }
+        ensures within { result ≤ length flat.now }
+        ensures exists { 0 < length flat.now → result < length flat.now }
+    {
         let _whole = flat;
-        self.first[self.marks[number as usize - 1] as usize + 1]
+        let index = number.saturating_sub(1) as usize;
+        if index < self.marks.len() {
+            self.marks[index]
+        } else {
+            0
+        }
     }
 }
 

@@ -1,16 +1,25 @@
 //! Laws on flat statements, as contracts of functions that do nothing.
-ghost use Rattle.std.specs.Prelude.{List};
+ghost use Rattle.std.specs.Prelude.{◌≡◌, List};
 ghost use Rattle.f77_tree.specs.declared.programs.NameInfo.{NameInfo};
 ghost use Rattle.f77_tree.specs.declared.programs.Program.{Program};
 ghost use Rattle.f77_tree.specs.WellFormed.{AreExecs, IsWellFormed};
 ghost use Rattle.flat_programs.specs.declared.statements.FlatLine.{FlatLine};
 ghost use Rattle.flat_programs.specs.Marks.{loop_count};
 ghost use Rattle.flat_programs.specs.Executables.{executables, program_of};
-ghost use Rattle.flat_programs.specs.FlatForm.{AreProper, HasFewStatements, IsFlat};
+ghost use Rattle.flat_programs.specs.FlatForm.{AreProper, AreStatementsOf, HasFewStatements, IsFlat};
+ghost use Rattle.flat_programs.specs.Recovered.{recovered};
 
 /// The executables of proper flat statements are those of a program, and with the declarations of a well-formed program they are a
 /// well-formed one.
 pub fn flat_statements_make_programs()
     ensures executables { (names : List NameInfo) (flat : List FlatLine) → IsFlat flat → AreProper names flat → HasFewStatements flat → AreExecs names (executables flat) (loop_count flat) }
     ensures program { (q : Program) (flat : List FlatLine) → IsWellFormed q → IsFlat flat → AreProper q.names flat → HasFewStatements flat → IsWellFormed (program_of q flat) }
+{}
+
+/// The executables of flat statements tell these statements, so that no other ones have them; and the executables of a well-formed
+/// program are those of proper statements alone.
+pub fn executables_tell_statements()
+    ensures recovered { (flat : List FlatLine) → IsFlat flat → recovered (executables flat) ≡ flat }
+    ensures one { (p : Program) (flat other : List FlatLine) → AreStatementsOf p flat → AreStatementsOf p other → flat ≡ other }
+    ensures proper { (p : Program) (flat : List FlatLine) → IsWellFormed p → AreStatementsOf p flat → AreProper p.names flat }
 {}

@@ -9,10 +9,13 @@ mod flow;
 mod laws;
 mod lines;
 mod page;
+mod recovery;
 mod shown;
 mod statements;
 
+pub use declarations::declaration_count;
 pub use executables::{executables_of, loop_count, program_of};
-pub use laws::flat_statements_make_programs;
-pub use page::{has_long_text, print_flat};
+pub use laws::{executables_tell_statements, flat_statements_make_programs};
+pub use page::{has_long_text, print_flat, print_program};
+pub use recovery::recover;
 pub use statements::{Flat, FlatLine, FlatList};

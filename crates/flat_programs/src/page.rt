@@ -1,7 +1,8 @@
 //! The printed text of a flat program.
-ghost use Rattle.std.specs.Prelude.{◌≡◌, ◌+◌, ◌<◌, [], ◌∷◌, if◌then◌else◌, map, flat_map, length, slice_get, IfOk, OnOk};
+ghost use Rattle.std.specs.Prelude.{◌≡◌, ◌+◌, ◌<◌, List, [], ◌∷◌, if◌then◌else◌, map, flat_map, length, slice_get, IfOk, OnOk};
 ghost use Rattle.std.specs.List.{range_with_len};
-ghost use Rattle.flat_programs.specs.FlatForm.{AreProper};
+ghost use Rattle.flat_programs.specs.declared.statements.FlatLine.{FlatLine};
+ghost use Rattle.flat_programs.specs.FlatForm.{AreProper, AreStatementsOf, IsFlatProgram};
 ghost use Rattle.flat_programs.specs.Marks.{is_mark as is_mark_of};
 ghost use Rattle.flat_programs.specs.Declarations.{common_at, commons, group_statement, init_statement, typed_name};
 ghost use Rattle.flat_programs.specs.Pages.{Grows, IsPage};
@@ -10,6 +11,7 @@ ghost use Rattle.flat_programs.specs.Text.{has_long_text as is_long_somewhere, s
 use crate::declarations::{append_common, append_group, append_init, append_typed, is_continued};
 use crate::flow::is_mark;
 use crate::lines::{append_lines, is_long};
+use crate::recovery::recover;
 use crate::shown::append_statement;
 use crate::{Flat, FlatList};
 use df_sequence::NoMemory;
@@ -26,6 +28,15 @@ pub fn print_flat(alloc: Global, p: &Program, flat: &FlatList) -> Result<Vec<u8>
 {
     let page = page_of(alloc, p, flat)?;
     Ok(page.bytes)
+}
+
+/// The text of a program of flat statements: `print_flat` of the statements whose executables it has.
+pub fn print_program(alloc: Global, p: &Program) -> Result<Vec<u8>, NoMemory>
+    requires { IsFlatProgram p.now }
+    ensures { IfOk result (λ bytes. (flat : List FlatLine) → AreStatementsOf p.now flat → bytes.items ≡ text_of p.now flat) }
+{
+    let flat = recover(alloc, p)?;
+    print_flat(alloc, p, &flat)
 }
 
 /// Whether some statement of the text has more than 1,320 characters or more than 60 open brackets: no source may have such a one.
