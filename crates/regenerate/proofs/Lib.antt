@@ -1,6 +1,17 @@
+mod ControlWays
+mod Entering
 mod FirstPlaces
 mod FoldedLaws
 mod FoldedLists
+mod ItemLemmas
+mod JumpLemmas
+mod JumpTables
+mod LeadingOn
 mod LiteralLaws
+mod LiveWays
+mod LoopNumbers
+mod OnePiece
 mod PieceLemmas
 mod ProperFolds
+mod RangeCounts
+mod StatementLemmas

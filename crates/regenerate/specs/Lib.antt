@@ -3,5 +3,7 @@ pub mod Folding
 pub mod Items
 pub mod Simplified
 pub mod Tables
+pub mod Plans
+pub mod LiveWays
 pub mod Temporaries
 pub mod Shared

@@ -4,7 +4,6 @@ use Rattle.std.specs.Prelude.{◌≡◌, ℕ, ◌+◌, ℤ, Bool, true, false, �
 use Rattle.std.specs.Option.{option_map}
 use Rattle.std.specs.List.{list_any, range_with_len}
 use Rattle.op_table.specs.Trips.{at_least_zero}
-use Rattle.f77_tree.specs.declared.expressions.Expr.{Expr}
 use Rattle.f77_tree.specs.declared.programs.ExecKind.{ExecKind}
 use Rattle.f77_tree.specs.declared.programs.ExecKind.TheVariants.{Assign, Print, Pass, Test, Sign, Pick, DoStart, DoNext, End}
 use Rattle.f77_tree.specs.declared.programs.Program.{Program}
@@ -50,15 +49,11 @@ abbrev pub is_increment : ExecKind → Bool
 is_increment (DoNext loop_no var body exit) = true
 is_increment kind = false
 
-module _ (p : Program) (c : ClassTable) (t : Knowns) (checked : Bool) (is_item : ℕ → Bool) where
-  -- the out-edge that a branch always takes, counted from 0
-  abbrev pub decided : (k : ℕ) → Option ℕ
-  decided k = option_map at_least_zero (one_of (t.decision (own_piece p k)))
+-- the out-edge that a branch always takes, counted from 0
+abbrev pub decided : Program → Knowns → (k : ℕ) → Option ℕ
+decided p t k = option_map at_least_zero (one_of (t.decision (own_piece p k)))
 
-  -- what is known of words where control comes to an executable
-  abbrev pub words_at : (k word : ℕ) → Option ℤ
-  words_at k = words_on c t (own_edge p k)
-
+module _ (is_item : ℕ → Bool) where
   -- how many items stand before an executable
   abbrev pub items_before : (k : ℕ) → ℕ
   items_before k = count_by is_item (range_with_len 0 k)
@@ -72,9 +67,13 @@ module _ (p : Program) (c : ClassTable) (t : Knowns) (checked : Bool) (is_item :
   last_jump k None = []
   last_jump k (Some s) = if is_next k s then [] else s ∷ []
 
-  -- all executables to which the statements of an item jump
+  -- all executables to which the statements of an item jump, where its decision is told
+  abbrev pub jumps_by : (k : ℕ) → ExecKind → (decided : Option ℕ) → List ℕ
+  jumps_by k kind decided = own_jumps kind decided ++ last_jump k (rest kind decided)
+
+module _ (p : Program) (t : Knowns) (is_item : ℕ → Bool) where
   abbrev pub jumps : (k : ℕ) → List ℕ
-  jumps k = own_jumps (kind_at p k) (decided k) ++ last_jump k (rest (kind_at p k) (decided k))
+  jumps k = jumps_by is_item k (kind_at p k) (decided p t k)
 
   -- ---- marks: of what is jumped to, and of each increment
 
@@ -88,26 +87,36 @@ module _ (p : Program) (c : ClassTable) (t : Knowns) (checked : Bool) (is_item :
   abbrev pub mark_of : (k : ℕ) → ℕ
   mark_of k = count_by has_mark (range_with_len 0 (k + 1))
 
-  -- ---- statements
+-- ---- statements
+
+-- what is left of an executable itself, where its decision is told, what is known of words, and the number of the mark of each executable
+module _ (p : Program) (checked : Bool) (words : ℕ → Option ℤ) (mark : ℕ → ℕ) where
+  abbrev pub left_of : ExecKind → (decided : Option ℕ) → List Flat
+  left_of (Assign target value next) decided = Assignment (folded_access p.names checked words target) (folded p.names checked words value) ∷ []
+  left_of (Print items next) decided = Output (map (folded_item p.names checked words) items) ∷ []
+  left_of (Test cond if_true if_false) None = LogicalIf (folded p.names checked words cond) (mark if_true) ∷ []
+  left_of (Sign value below at above) None = ArithmeticIf (folded p.names checked words value) (mark below) (mark at) (mark above) ∷ []
+  left_of (Pick value targets other) None = ComputedGoTo (folded p.names checked words value) (map mark targets) ∷ []
+  left_of (DoStart loop_no var first last step body exit) decided = DoLoop (mark (do_next p.execs loop_no)) var (folded p.names checked words first) (folded p.names checked words last) (folded p.names checked words step) ∷ []
+  left_of End decided = Finish ∷ []
+  left_of kind decided = []
+
+module _ (p : Program) (c : ClassTable) (t : Knowns) (checked : Bool) (is_item : ℕ → Bool) where
+  -- what is known of words where control comes to an executable
+  abbrev pub words_at : (k word : ℕ) → Option ℤ
+  words_at k = words_on c t (own_edge p k)
+
+  abbrev pub mark : (k : ℕ) → ℕ
+  mark k = mark_of p t is_item k
 
   module _ (k : ℕ) where
-    abbrev pub folded_at : Expr → Expr
-    folded_at e = folded p.names checked (words_at k) e
-
     -- what is left of an executable itself
     abbrev pub own : ExecKind → (decided : Option ℕ) → List Flat
-    own (Assign target value next) decided = Assignment (folded_access p.names checked (words_at k) target) (folded_at value) ∷ []
-    own (Print items next) decided = Output (map (folded_item p.names checked (words_at k)) items) ∷ []
-    own (Test cond if_true if_false) None = LogicalIf (folded_at cond) (mark_of if_true) ∷ []
-    own (Sign value below at above) None = ArithmeticIf (folded_at value) (mark_of below) (mark_of at) (mark_of above) ∷ []
-    own (Pick value targets other) None = ComputedGoTo (folded_at value) (map mark_of targets) ∷ []
-    own (DoStart loop_no var first last step body exit) decided = DoLoop (mark_of (do_next p.execs loop_no)) var (folded_at first) (folded_at last) (folded_at step) ∷ []
-    own End decided = Finish ∷ []
-    own kind decided = []
+    own kind decided = left_of p checked (words_at k) mark kind decided
 
     -- the statements of an item: its mark, what is left of it, and its jump
     abbrev pub statements : List Flat
-    statements = (if has_mark k then Mark ∷ [] else []) ++ own (kind_at p k) (decided k) ++ map (λ s. Jump (mark_of s)) (last_jump k (rest (kind_at p k) (decided k)))
+    statements = (if has_mark p t is_item k then Mark ∷ [] else []) ++ own (kind_at p k) (decided p t k) ++ map (λ s. Jump (mark s)) (last_jump is_item k (rest (kind_at p k) (decided p t k)))
 
     abbrev pub lines : List FlatLine
     lines = if is_item k then map (λ stmt. record { line = line_in (slice_get p.execs k); stmt = stmt }) statements else []

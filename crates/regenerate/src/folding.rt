@@ -33,9 +33,9 @@ pub struct FoldedExpr {
 
 /// The same of some expressions, one after another.
 #[derive(Drop)]
-struct FoldedExprs {
-    trees: ExprList,
-    known: Vec<Option<i32>>,
+pub(crate) struct FoldedExprs {
+    pub(crate) trees: ExprList,
+    pub(crate) known: Vec<Option<i32>>,
 }
 
 /// The expression in which constants stand for what is known where control takes an edge. It takes a few steps for each part of the
@@ -109,7 +109,7 @@ pub fn fold_expr<const W: usize>(
 
 /// Expressions in which constants stand for what is known where control takes an edge.
 #[cycle(fold)]
-fn fold_all<const W: usize>(
+pub(crate) fn fold_all<const W: usize>(
     alloc: Global,
     p: &Program,
     c: &Classes<W>,

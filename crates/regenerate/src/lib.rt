@@ -2,10 +2,21 @@
 //! done once.
 #![tactic(auto)]
 
+mod counts;
 mod ends;
 mod folding;
+mod items;
+mod laws;
 mod literals;
+mod loops;
 mod own_pieces;
+mod plan;
+mod scene;
+mod simplified;
+mod statements;
+mod ways;
 
 pub use ends::{FlatEnd, RewriteEnd};
 pub use folding::{FoldedExpr, fold_expr};
+pub use laws::{live_executables_lead_on, own_pieces_stand_in_chains};
+pub use simplified::simplify;
