@@ -1,0 +1,90 @@
+-- The marking of a net of operations before any firing.
+use Rattle.std.proofs.Common.{ℤ, Bool, List, ◌≡◌, ◌≤◌, ◌⊎◌, ⊎_elim, inl, inr, ℕ, true, false, length, slice_get, Option, None, Some, refl, sym, ap, ◌∙◌, subst, arith}
+use Rattle.std.proofs.lemmas.List.{length-map, length-replicate}
+use Rattle.std.proofs.lemmas.List.FromFn.{length-range_with_len}
+use Rattle.std.proofs.lemmas.Option.{slice_get_past}
+use Rattle.f77_tree.specs.declared.programs.Program.{Program}
+use Rattle.f77_tree.specs.Execution.{Memory}
+use Rattle.f77_tree.specs.Run.{first_memory}
+use Rattle.dep_routing.specs.Routing.{Routing}
+use Rattle.firing.specs.Control.{IsInStep, KeepsStep}
+use Rattle.firing.specs.SourceOrder.{IsSourceOrder}
+use Rattle.net_board.specs.declared.control.Control.{Control}
+use Rattle.net_board.specs.ControlCourse.{first_control}
+use Rattle.net_board.specs.NetParts.{net_with}
+use Rattle.net_board.specs.Nodes.{NetOf, all_lines, graph_in, nodes_of}
+use Rattle.net_board.specs.TokenEdges.{edge_at}
+use Rattle.net_board.specs.Tokens.{led_from}
+use Rattle.op_board.specs.OperationCourse.{operation_course}
+use Rattle.op_board.specs.OperationLockstep.{IsInOperationLockstep}
+use Rattle.op_board.specs.OperationNets.{OperationNet, operation_count}
+use Rattle.op_board.specs.OperationTokens.{OperationTokens, first_operation_tokens, operation_moves}
+use Rattle.op_board.specs.SoundOperationNets.{OperationsCanCome}
+use Rattle.op_net.specs.declared.places.Places.{Places}
+use Rattle.op_net.specs.declared.plan.OperationPlan.{OperationPlan}
+use Rattle.op_net.specs.declared.plan.PieceOperations.{PieceOperations}
+use Rattle.op_net.specs.FirstPlaces.{AreFirstPlaces}
+use Rattle.op_net.specs.PieceView.{piece_needs, set_holds}
+use Rattle.op_net.specs.PlacesView.{IsCounted}
+use Rattle.op_net.specs.PlanView.{operations_in}
+use Rattle.op_net.specs.SoundPlaces.{ArePlaces}
+use Rattle.op_net.specs.StaysInStep.{StaysInStep}
+use Rattle.op_net.specs.Waits.{node_total}
+use Rattle.op_net.proofs.PlannedCounts.{counted}
+
+module _ (x : OperationNet) (s : Places) (first : AreFirstPlaces x s) where
+  pub own_places : OperationsCanCome x (first_operation_tokens x) → ArePlaces x s
+  own_places come = record {
+    lines = ap length first.lines ∙ length-map (all_lines x.net) (led_from x.net 1) ∙ length-range_with_len 0 x.net.routing.lines;
+    passed = ap length first.passed ∙ length-replicate x.net.routing.lines 0;
+    edges = ap length first.edges ∙ length-replicate (length (nodes_of x.net)) None;
+    values = ap length first.values ∙ length-replicate (node_total x) None;
+    marks = ap length first.marks ∙ length-replicate (node_total x) false;
+    room = first.room;
+    stand = λ k edge is. come.is_marking.tokens.stand k edge (ap (λ xs. edge_at xs k) (sym first.lines) ∙ is);
+    lie = λ k edge is. come.is_marking.tokens.lie k edge (ap (λ xs. edge_at xs k) (sym first.edges) ∙ is);
+  }
+
+  pub not_counted : IsCounted x s
+  not_counted = record {
+    counts = λ is. let e : false ≡ true = sym first.counted ∙ is in absurd cc;
+    marks = λ is. let e : false ≡ true = sym first.counted ∙ is in absurd cc;
+    none = λ is. first.counts;
+  }
+
+  pub first_marking : (memory : Memory) → memory ≡ first_memory x.net.program → record { tokens = record { lines = s.lines.items; edges = s.edges.items; memory = memory; trap = None }; passed = s.passed.items; values = s.values.items } ≡ first_operation_tokens x
+  first_marking memory is = λ i. record { tokens = record { lines = first.lines i; edges = first.edges i; memory = is i; trap = None }; passed = first.passed i; values = first.values i }
+
+-- the memory of a program before any step is that of its net
+pub memory_first : (net : NetOf) (p : Program) (input : List ℤ) (touches : (piece line : ℕ) → Bool) (routing : Routing) (memory : Memory) → net ≡ net_with p input touches routing → memory ≡ first_memory p → memory ≡ first_memory net.program
+memory_first net p input touches routing memory same is = is ∙ ap (λ (y : NetOf). first_memory y.program) (sym same)
+
+module _ (x : OperationNet) (m : OperationTokens) (is : m ≡ first_operation_tokens x) where
+  pub can_come : OperationsCanCome x (first_operation_tokens x) → OperationsCanCome x m
+  can_come come = subst (λ t. OperationsCanCome x t) (sym is) come
+
+  pub in_step : (c : Control) → c ≡ first_control x.net → IsInOperationLockstep x (first_operation_tokens x) (first_control x.net) → KeepsStep (OperationsCanCome x) (operation_moves x) (operation_course x) (IsInOperationLockstep x) → IsSourceOrder (OperationsCanCome x) (operation_moves x) (operation_course x) (IsInOperationLockstep x) → IsInStep (operation_moves x) (StaysInStep x) m (Some c)
+  in_step c stands begins steady ordered none = record {
+    lockstep = subst (λ (p : Control). IsInOperationLockstep x m p) (sym stands) (subst (λ t. IsInOperationLockstep x t (first_control x.net)) (sym is) begins);
+    steady = steady;
+    ordered = ordered;
+  }
+
+module _ {W : ℕ} (plan : OperationPlan W) where
+  -- no operation needs a line where there is no piece
+  pub outside_pieces : (piece i line : ℕ) → (graph_in (operations_in plan).net).nodes ≤ piece → (operations_in plan).needs piece i line ≡ false
+  outside_pieces piece i line past = ap (λ o. piece_needs o i line) (slice_get_past plan.pieces.items piece (omega (arith, past, plan.every_piece)))
+
+  cases : (o : Option (PieceOperations W)) → (o ≡ None) ⊎ ((p : PieceOperations W) × (o ≡ Some p))
+  cases None = inl refl
+  cases (Some p) = inr (p, refl)
+
+  -- and none that isn't there does
+  pub outside_operations : (piece i line : ℕ) → operation_count (operations_in plan) piece ≤ i → (operations_in plan).needs piece i line ≡ false
+  outside_operations piece i line past = ⊎_elim
+      (λ (none : slice_get plan.pieces.items piece ≡ None). ap (λ o. piece_needs o i line) none)
+      (λ (found : (p : PieceOperations W) × (slice_get plan.pieces.items piece ≡ Some p)).
+      let count = counted plan piece found.0 found.1 in
+      let needs = plan.own_needs piece found.0 found.1 in
+      ap (λ o. piece_needs o i line) found.1 ∙ ap (λ o. set_holds o line) (slice_get_past found.0.needs.items i (omega (arith, past, count, needs))))
+      (cases (slice_get plan.pieces.items piece))

@@ -1,0 +1,107 @@
+-- The rows of all pieces, and the most operands of an operation.
+use Rattle.std.proofs.Common.{◌≡◌, ◌<◌, ◌≤◌, ⊎_elim, ℕ, ◌+◌, List, [], ◌∷◌, ◌++◌, length, get_or, slice_get, None, Some, map, All, sym, ap, ◌∙◌, subst, arith, length-append}
+use mathlib.Core.Logic.{∥∥₁_elim}
+use Rattle.std.proofs.Props.{props}
+use Rattle.std.specs.Option.{option_map}
+use Rattle.std.proofs.lemmas.Bool.{cases_lt}
+use Rattle.std.proofs.lemmas.List.{length-map}
+use Rattle.std.proofs.lemmas.Option.{slice_get-map, slice_get_past, slice_get_within, get_or_from_slice_get}
+use Rattle.cfg_build.specs.declared.pieces.PieceKind.TheVariants as kind
+use Rattle.cfg_build.specs.Flow.{flow, piece_in}
+use Rattle.cfg_build.specs.Joined.{FlowGraph}
+use Rattle.dep_routing.specs.Touches.{exec_kind}
+use Rattle.net_board.specs.Nodes.{graph_in, kind_in}
+use Rattle.op_board.specs.OperationNets.{OperationNet, operation_at, operation_count, operation_in, operations_at}
+use Rattle.op_board.specs.Operations as board
+use Rattle.operation_lists.specs.declared.operations.Operation.{Operation}
+use Rattle.operation_lists.specs.Seen.{operand_seen, operation_seen}
+use Rattle.op_net.specs.declared.plan.OperationPlan.{OperationPlan}
+use Rattle.op_net.specs.declared.plan.PieceOperations.{PieceOperations}
+use Rattle.op_net.specs.declared.rows.PieceRows.{PieceRows}
+use Rattle.op_net.specs.OperationRows.{AreRows}
+use Rattle.op_net.specs.PieceTables.{AreAllRows}
+use Rattle.op_net.specs.PlanView.{operations_in}
+use Rattle.op_net.proofs.GrownLists.{get_last, get_some}
+
+-- ---- rows
+
+-- the rows of so many pieces
+pub record AreFirstRows (x : OperationNet) (n : ℕ) (pieces : List PieceRows) : Type 0 where
+  pub count : length pieces ≡ n
+  pub rows : (piece : ℕ) (rows : PieceRows) → slice_get pieces piece ≡ Some rows → ∥ AreRows x piece rows ∥₁
+
+module _ (x : OperationNet) where
+  pub no_rows : (pieces : List PieceRows) → pieces ≡ [] → AreFirstRows x 0 pieces
+  no_rows pieces none = record {
+    count = ap length none;
+    rows = λ piece rows at. let nothing : slice_get {X = PieceRows} [] piece ≡ Some rows = ap (λ xs. slice_get xs piece) (sym none) ∙ at in let past : slice_get {X = PieceRows} [] piece ≡ None = slice_get_past [] piece (omega arith) in absurd cc;
+  }
+
+  pub next_rows : (n : ℕ) (pieces new : List PieceRows) (made : PieceRows) → AreFirstRows x n pieces → ∥ AreRows x n made ∥₁ → new ≡ pieces ++ made ∷ [] → AreFirstRows x (n + 1) new
+  next_rows n pieces new made first here are = record {
+    count = let l = length-append pieces (made ∷ []) in let e = ap length are in omega (arith, l, e, first.count);
+    rows = λ piece other at. ⊎_elim
+        (λ (before : slice_get pieces piece ≡ Some other). first.rows piece other before)
+        (λ (last : (piece ≡ length pieces) × (made ≡ other)).
+        subst (λ (k : ℕ). ∥ AreRows x k other ∥₁) (sym (last.0 ∙ first.count)) (subst (λ (y : PieceRows). ∥ AreRows x n y ∥₁) last.1 here))
+        (get_last pieces made other piece (ap (λ xs. slice_get xs piece) (sym are) ∙ at));
+  }
+
+  pub rows_done : (n : ℕ) (pieces : List PieceRows) → AreFirstRows x n pieces → n ≡ (graph_in x.net).nodes → AreAllRows x pieces
+  rows_done n pieces first all = record { count = first.count ∙ all; rows = first.rows }
+
+-- ---- operands
+
+-- no operation of so many pieces has more operands than this
+pub record AreMost {W : ℕ} (pieces : List (PieceOperations W)) (n most : ℕ) : Type 0 where
+  pub each : (piece i : ℕ) (planned : PieceOperations W) (operation : Operation) → piece < n → slice_get pieces piece ≡ Some planned → slice_get planned.operations.items i ≡ Some operation → length operation.operands.items ≤ most
+
+module _ {W : ℕ} where
+  pub none_most : (pieces : List (PieceOperations W)) → AreMost pieces 0 0
+  none_most pieces = record { each = λ piece i planned operation below. absurd (omega (arith, below)) }
+
+  pub next_most : (pieces : List (PieceOperations W)) (n old here new : ℕ) (planned : PieceOperations W) → AreMost pieces n old → slice_get pieces n ≡ Some planned → All (λ (operation : Operation). length operation.operands.items ≤ here) planned.operations.items → old ≤ new → here ≤ new → AreMost pieces (n + 1) new
+  next_most pieces n old here new planned before at all low high = record {
+    each = λ piece i other operation below is has. ⊎_elim
+        (λ (l : piece < n). let r = before.each piece i other operation l is has in omega (arith, r, low))
+        (λ (past : n ≤ piece).
+        let same : piece ≡ n = omega (arith, past, below) in
+        let found : Some planned ≡ Some other = sym at ∙ ap (slice_get pieces) (sym same) ∙ is in
+        let own : planned ≡ other = cc in
+        let there : slice_get planned.operations.items i ≡ Some operation = ap (λ (y : PieceOperations W). slice_get y.operations.items i) own ∙ has in
+        let inside = slice_get_within planned.operations.items i operation there in
+        let r : length (get_or planned.operations.items i operation).operands.items ≤ here = all i operation inside in
+        let item : get_or planned.operations.items i operation ≡ operation = get_or_from_slice_get planned.operations.items i operation operation there in
+        let s : length operation.operands.items ≤ here = subst (λ (o : Operation). length o.operands.items ≤ here) item r in
+        omega (arith, s, high))
+        (cases_lt piece n);
+  }
+
+  -- a piece that isn't there is the start, which has no operations
+  no_operations : (plan : OperationPlan W) (piece : ℕ) → (graph_in (operations_in plan).net).nodes ≤ piece → operation_count (operations_in plan) piece ≡ 0
+  no_operations plan piece past =
+      let x : OperationNet = operations_in plan in
+      let f : FlowGraph = flow x.net.program.execs in
+      let pieces : length f.pieces ≡ f.graph.nodes = subst (λ (g : FlowGraph). length g.pieces ≡ g.graph.nodes) plan.board.plan.own_flow plan.board.plan.pieces in
+      let none : slice_get f.pieces piece ≡ None = slice_get_past f.pieces piece (omega (arith, pieces, past)) in
+      let start : kind_in x.net piece ≡ kind.Start = ap (λ o. (piece_in o).kind) none in
+      ap (λ k. length (board.operations_of x.net.program.names k (exec_kind x.net.program piece))) start
+
+  pub most_of_all : (plan : OperationPlan W) (n most : ℕ) → AreMost plan.pieces.items n most → n ≡ length plan.pieces.items → (piece i : ℕ) → i < operation_count (operations_in plan) piece → length (operation_at (operations_in plan) piece i).operands ≤ most
+  most_of_all plan n most are all piece i inside =
+      let x : OperationNet = operations_in plan in
+      ⊎_elim
+      (λ (exists : piece < length plan.pieces.items).
+      let found = get_some plan.pieces.items piece exists in
+      ∥∥₁_elim (plan.own_operations piece found.0 found.1) (hlevel props)
+      (λ (own : map operation_seen found.0.operations.items ≡ operations_at x piece).
+      let count : length found.0.operations.items ≡ operation_count x piece = sym (length-map found.0.operations.items operation_seen) ∙ ap length own in
+      let op = get_some found.0.operations.items i (omega (arith, inside, count)) in
+      let is : operation_at x piece i ≡ operation_seen op.0 = ap operation_in (ap (λ ops. slice_get ops i) (sym own) ∙ slice_get-map operation_seen found.0.operations.items i ∙ ap (option_map operation_seen) op.1) in
+      let few = are.each piece i found.0 op.0 (omega (arith, exists, all)) found.1 op.1 in
+      let seen : length (operation_seen op.0).operands ≡ length op.0.operands.items = length-map op.0.operands.items operand_seen in
+      subst (λ (o : board.Operation). length o.operands ≤ most) (sym is) (omega (arith, few, seen))))
+      (λ (past : length plan.pieces.items ≤ piece).
+      let none = no_operations plan piece (omega (arith, past, plan.every_piece)) in
+      absurd (omega (arith, inside, none)))
+      (cases_lt piece (length plan.pieces.items))

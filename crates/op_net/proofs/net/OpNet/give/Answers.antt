@@ -1,0 +1,83 @@
+use Rattle.std.proofs.Common.{◌≡◌, ◌+◌, ◌-◌, ℕ, true, w32, ap, subst, sym, ◌∙◌, arith}
+use Rattle.std.specs.List.{list_all}
+use Rattle.std.proofs.lemmas.Int.{to_z-of_z}
+use mathlib.Core.Logic.{∥∥₁_elim}
+use Rattle.std.proofs.Props.{props}
+use Rattle.f77_meaning.specs.Storage.{memory_of}
+use Rattle.op_board.specs.OperationNets.{first_operation, needed}
+use Rattle.op_board.specs.OperationTokens.{OperationTokens, stands_before}
+use Rattle.op_net.specs.FiringChanges.{given_on, gone_on}
+use Rattle.op_net.specs.NetView.{marking_of, net_of}
+use Rattle.op_net.specs.OperationRows.{IsRow, IsTaker}
+use Rattle.op_net.specs.Waits.{IsNodeAfter}
+use Rattle.op_net.proofs.NodeNames.{IsOperationAt, operation_at_node, operation_within}
+use Rattle.op_net.proofs.NodesAfter.{one_after}
+use Rattle.op_net.proofs.net.OpNet.give.Goals as goal
+
+pub row-requires : goal.row-requires
+row-requires g c =
+    let x = net_of c.args.self.now in
+    let k = c.args.k in
+    let piece = c.args.piece in
+    let i = c.args.i in
+    let n : IsOperationAt x k piece i = operation_at_node x k piece i c.requires.node c.requires.name in
+    (omega arith, (n.exists, n.inside))
+
+pub overflow_sub-taker : goal.overflow_sub-taker
+overflow_sub-taker g c =
+    let x = net_of c.args.self.now in
+    let k = c.args.k in
+    let piece = c.args.piece in
+    let i = c.args.i in
+    let n : IsOperationAt x k piece i = operation_at_node x k piece i c.requires.node c.requires.name in
+    let is = n.number in
+    omega (arith, is)
+
+pub overflow_add-taker : goal.overflow_add-taker
+overflow_add-taker g c =
+    let x = net_of c.args.self.now in
+    let k = c.args.k in
+    let piece = c.args.piece in
+    let i = c.args.i in
+    let n : IsOperationAt x k piece i = operation_at_node x k piece i c.requires.node c.requires.name in
+    let taker : IsTaker x piece i c.row.result.now.taker = ∥∥₁_elim c.row.ensures (hlevel props) (λ (row : IsRow x piece i c.row.result.now). row.taker (row.gives ∙ c.requires.gives)) in
+    let within = operation_within x piece c.row.result.now.taker n.exists taker.inside in
+    let few = c.args.self.now.board.own_tables.few in
+    let is = n.number in
+    omega (arith, within, few, is)
+
+pub give-requires : goal.give-requires
+give-requires g c =
+    let x = net_of c.args.self.now in
+    let k = c.args.k in
+    let piece = c.args.piece in
+    let i = c.args.i in
+    let n : IsOperationAt x k piece i = operation_at_node x k piece i c.requires.node c.requires.name in
+    let taker : IsTaker x piece i c.row.result.now.taker = ∥∥₁_elim c.row.ensures (hlevel props) (λ (row : IsRow x piece i c.row.result.now). row.taker (row.gives ∙ c.requires.gives)) in
+    let within = operation_within x piece c.row.result.now.taker n.exists taker.inside in
+    let few = c.args.self.now.board.own_tables.few in
+    let is = n.number in
+    let own = c.args.self.now.own_places in
+    let values = own.values in
+    let node = c.requires.node in
+    let here : first_operation x piece + c.row.result.now.taker ≡ (k - i) + c.row.result.now.taker = omega (arith, is) in
+    let after : IsNodeAfter x k ((k - i) + c.row.result.now.taker) = subst (λ (a : ℕ). IsNodeAfter x a ((k - i) + c.row.result.now.taker)) (sym is) (subst (IsNodeAfter x (first_operation x piece + i)) here (one_after x piece i c.row.result.now.taker n.exists taker)) in
+    (omega arith, (omega (arith, node, values), (node, (own.marks, (c.args.self.now.counted, (c.requires.empty, (omega (arith, within, is), λ asked. after)))))))
+
+pub go-requires : goal.go-requires
+go-requires g c =
+    let x = net_of c.args.self.now in
+    let k = c.args.k in
+    let piece = c.args.piece in
+    let i = c.args.i in
+    let n : IsOperationAt x k piece i = operation_at_node x k piece i c.requires.node c.requires.name in
+    (omega arith, (n.exists, (n.inside, subst (λ (a : OperationTokens). list_all (stands_before x a piece i) (needed x piece i) ≡ true) (sym c.give.ensures.standing) c.requires.stand)))
+
+pub returns-clause-marking : goal.returns-clause-marking
+returns-clause-marking g c =
+    let x = net_of c.args.self.now in
+    let k = c.args.k in
+    let piece = c.args.piece in
+    let i = c.args.i in
+    c.go.ensures.marking ∙ ap (λ (m : OperationTokens). gone_on x (record m { tokens = record m.tokens { memory = memory_of c.args.self.now.storage; trap = c.args.self.now.trapped } }) piece i 0) c.give.ensures.standing
+    ∙ ap (given_on x (marking_of c.args.self.now) k piece i) (to_z-of_z w32 c.args.z c.ranges.z)

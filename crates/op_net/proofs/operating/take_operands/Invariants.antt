@@ -1,0 +1,22 @@
+use Rattle.std.proofs.Common.{◌≡◌, true, drop, fold, length}
+use Rattle.std.specs.List.{list_all}
+use Rattle.op_board.specs.OperationNets.{operation_at}
+use Rattle.op_board.specs.OperationTokens.{is_given}
+use Rattle.op_net.specs.BoardView.{operation_net_on}
+use Rattle.op_net.specs.PlaceSteps.{operand_taken}
+use Rattle.op_net.specs.PlacesView.{IsCounted, KeepsCounts, standing}
+use Rattle.op_net.specs.StandingChanges.{values_taken}
+use Rattle.op_net.specs.Waits.{node_total}
+use Rattle.op_net.proofs.operating.take_operands.Given as goal
+
+abbrev pub invariant-loop-operand : goal.invariant-loop-operand
+invariant-loop-operand g l =
+    let x = operation_net_on l.board in
+    let left = drop l.operand-index (operation_at x l.piece l.i).operands in
+    record {
+      taken : fold (operand_taken x l.piece) (standing l.places) left ≡ values_taken x (standing l.fn.places) l.piece l.i;
+      given : list_all (is_given x (standing l.places) l.piece) left ≡ true;
+      values : length l.places.values.items ≡ node_total x;
+      counted : IsCounted x l.places;
+      kept : KeepsCounts l.fn.places l.places;
+    }

@@ -1,0 +1,52 @@
+use Rattle.std.proofs.Common.{◌≡◌, ◌<◌, ◌==◌, ◌++◌, [], ◌∷◌, length, set, refl, ap, ◌∙◌, arith}
+use Rattle.std.proofs.lemmas.List.FromFn.{length-map-range_with_len}
+use Rattle.op_net.specs.BoardView.{operation_net_on}
+use Rattle.op_net.specs.PlacesView.{standing}
+use Rattle.op_net.specs.Waits.{node_total, waits}
+use Rattle.op_net.proofs.CountedBelow.{all_counted, next_counted, none_counted}
+use Rattle.op_net.proofs.places.Places.count_all.Goals as goal
+
+pub loop-k-init : goal.loop-k-init
+loop-k-init g c =
+    let x = operation_net_on c.args.board.now in
+    let old = c.args.self.now in
+    record {
+      stands = refl;
+      below = none_counted (node_total x) (waits x (standing old)) old.counts.items old.set c.requires.none c.requires.places.marks;
+      places = c.requires.places;
+    }
+
+pub count_one-requires : goal.count_one-requires
+count_one-requires g c =
+    let x = operation_net_on c.args.board.now in
+    let kept = c.loop-k.invariant in
+    let long : length c.loop-k.self.counts.items ≡ c.loop-k.k = ap length kept.below.counts ∙ length-map-range_with_len (waits x (standing c.args.self.now)) 0 c.loop-k.k in
+    (omega arith, (omega (arith, c.nodes-k-end.ensures, c.loop-k-test.true), (kept.places, long)))
+
+pub loop-k-preserved : goal.loop-k-preserved
+loop-k-preserved g c =
+    let x = operation_net_on c.args.board.now in
+    let kept = c.loop-k.invariant in
+    let k = c.loop-k.k in
+    let old = c.loop-k.self in
+    let new = c.count_one.new.self in
+    let node : k < node_total x = omega (arith, c.nodes-k-end.ensures, c.loop-k-test.true) in
+    record {
+      stands = c.count_one.ensures.standing ∙ kept.stands;
+      below = next_counted (node_total x) k (waits x (standing c.args.self.now)) old.counts.items new.counts.items old.set new.set kept.below node
+          (c.count_one.ensures.counts ∙ ap (λ m. old.counts.items ++ waits x m k ∷ []) kept.stands)
+          (c.count_one.ensures.set ∙ ap (λ m. set old.set k (waits x m k == 0)) kept.stands);
+      places = c.count_one.ensures.places;
+    }
+
+pub returns-clause-standing : goal.returns-clause-standing
+returns-clause-standing g c = c.loop-k.invariant.stands
+
+pub returns-clause-counts : goal.returns-clause-counts
+returns-clause-counts g c =
+    let x = operation_net_on c.args.board.now in
+    let last : c.loop-k.k ≡ node_total x = omega (arith, c.nodes-k-end.ensures, c.loop-k-test.false, c.loop-k.auto.k-end) in
+    all_counted (node_total x) c.loop-k.k (waits x (standing c.args.self.now)) c.loop-k.self.counts.items c.loop-k.self.set last c.loop-k.invariant.below
+
+pub returns-clause-places : goal.returns-clause-places
+returns-clause-places g c = c.loop-k.invariant.places

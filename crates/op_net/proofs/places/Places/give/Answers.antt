@@ -1,0 +1,46 @@
+use Rattle.std.proofs.Common.{◌≡◌, ◌<◌, ◌+◌, ◌==◌, ℕ, true, Some, is_some, ap, ◌∙◌, rules, w32}
+use mir.Val.{SFits}
+use Rattle.std.proofs.lemmas.Int.{to_z-of_z}
+use Rattle.op_board.specs.OperationTokens.{OperationTokens, value_of}
+use Rattle.op_net.specs.BoardView.{operation_net_on}
+use Rattle.op_net.specs.PlacesView.{value_put, standing}
+use Rattle.op_net.specs.Waits.{node_total, one_if, waits}
+use Rattle.op_net.proofs.CountedPlaces.{counted_after, counted_few, counted_marks, less_marks, less_some}
+use Rattle.op_net.proofs.WaitChanges.{put_elsewhere, put_there, value_waits}
+use Rattle.op_net.proofs.ValueNodes.{giver_operates}
+use Rattle.op_net.proofs.places.Places.give.Goals as goal
+
+pub wait_more-requires-clause-few : goal.wait_more-requires-clause-few
+wait_more-requires-clause-few g c = counted_few (operation_net_on c.args.board.now) c.args.self.now c.requires.counted c.args.k c.waits_are_few.ensures c.requires.node
+
+pub wait_more-requires-clause-marks : goal.wait_more-requires-clause-marks
+wait_more-requires-clause-marks g c = counted_marks (operation_net_on c.args.board.now) c.args.self.now c.requires.counted c.requires.marks
+
+pub wait_less-requires-clause-some : goal.wait_less-requires-clause-some
+wait_less-requires-clause-some g c =
+    let x = operation_net_on c.args.board.now in
+    let old = c.args.self.now in
+    let new : OperationTokens = value_put (standing old) c.args.k (Some c.args.z) in
+    let change : old.counted ≡ true → (j : ℕ) → j < node_total x → waits x new j + one_if (j == c.args.taker) ≡ waits x (standing old) j + one_if (j == c.args.k) =
+    λ counted. value_waits x (standing old) old.values.items new.values c.args.k (λ j differ. put_elsewhere old.values.items c.args.k j (Some c.args.z) differ) (ap is_some c.requires.empty) (ap (λ o. is_some (value_of o)) (put_there old.values.items c.args.k (Some c.args.z) c.requires.value)) c.args.taker (giver_operates x c.args.board.now.plan.facts c.args.k c.args.taker c.requires.after (c.requires.taker counted)) (c.requires.taker counted) in
+    less_some x old c.requires.counted c.wait_more.new.self new c.args.k c.args.taker change c.wait_more.ensures.kept.counted c.wait_more.ensures.counts
+
+pub wait_less-requires-clause-marks : goal.wait_less-requires-clause-marks
+wait_less-requires-clause-marks g c =
+    let x = operation_net_on c.args.board.now in
+    let old = c.args.self.now in
+    let new : OperationTokens = value_put (standing old) c.args.k (Some c.args.z) in
+    let change : old.counted ≡ true → (j : ℕ) → j < node_total x → waits x new j + one_if (j == c.args.taker) ≡ waits x (standing old) j + one_if (j == c.args.k) =
+    λ counted. value_waits x (standing old) old.values.items new.values c.args.k (λ j differ. put_elsewhere old.values.items c.args.k j (Some c.args.z) differ) (ap is_some c.requires.empty) (ap (λ o. is_some (value_of o)) (put_there old.values.items c.args.k (Some c.args.z) c.requires.value)) c.args.taker (giver_operates x c.args.board.now.plan.facts c.args.k c.args.taker c.requires.after (c.requires.taker counted)) (c.requires.taker counted) in
+    less_marks x old c.requires.counted c.wait_more.new.self new c.args.k c.args.taker change c.wait_more.ensures.kept.counted c.wait_more.ensures.counts
+
+pub returns-clause-counted : goal.returns-clause-counted
+returns-clause-counted g c =
+    let x = operation_net_on c.args.board.now in
+    let old = c.args.self.now in
+    let fits : SFits w32 c.args.z = search rules in
+    let new : OperationTokens = value_put (standing old) c.args.k (Some c.args.z) in
+    let change : old.counted ≡ true → (j : ℕ) → j < node_total x → waits x new j + one_if (j == c.args.taker) ≡ waits x (standing old) j + one_if (j == c.args.k) =
+    λ counted. value_waits x (standing old) old.values.items new.values c.args.k (λ j differ. put_elsewhere old.values.items c.args.k j (Some c.args.z) differ) (ap is_some c.requires.empty) (ap (λ o. is_some (value_of o)) (put_there old.values.items c.args.k (Some c.args.z) c.requires.value)) c.args.taker (giver_operates x c.args.board.now.plan.facts c.args.k c.args.taker c.requires.after (c.requires.taker counted)) (c.requires.taker counted) in
+    counted_after x old c.requires.counted c.wait_more.new.self new c.args.k c.args.taker change c.wait_more.ensures.kept.counted c.wait_more.ensures.counts
+    c.wait_less.new.self c.wait_less.ensures.kept.counted (c.wait_less.ensures.standing ∙ c.wait_more.ensures.standing ∙ ap (λ v. value_put (standing old) c.args.k (Some v)) (to_z-of_z w32 c.args.z fits)) c.wait_more.ensures.uncounted c.wait_less.ensures.uncounted c.wait_less.ensures.counts

@@ -1,0 +1,42 @@
+-- What contracts see of the places of lines, decisions and values.
+use Rattle.std.specs.Prelude.{◌≡◌, ◌≤◌, ◌==◌, ℕ, ℤ, true, false, [], length, map, Option, None, slice_set, vec_capacity}
+use Rattle.std.specs.List.{range_with_len}
+use Rattle.f77_tree.specs.Execution.{Memory}
+use Rattle.firing.specs.Marks.{AreMarks}
+use Rattle.op_board.specs.OperationNets.{OperationNet}
+use Rattle.op_board.specs.OperationTokens.{OperationTokens}
+use Rattle.op_net.specs.declared.places.Places.{Places}
+use Rattle.op_net.specs.Waits.{node_total, waits}
+
+abbrev no_memory : Memory
+no_memory = record { store = []; counts = []; steps = []; taken = 0 }
+
+-- the marking, but for its memory and trap, on which it doesn't depend what nodes wait for
+abbrev pub standing : Places → OperationTokens
+standing s = record {
+  tokens = record { lines = s.lines.items; edges = s.edges.items; memory = no_memory; trap = None };
+  passed = s.passed.items;
+  values = s.values.items;
+}
+
+-- the line stands on this edge, and has passed so many of the operations that need it
+abbrev pub line_put : OperationTokens → (line : ℕ) (edge : Option ℕ) (passed : ℕ) → OperationTokens
+line_put m line edge passed = record m { tokens = record m.tokens { lines = slice_set m.tokens.lines line edge }; passed = slice_set m.passed line passed }
+
+abbrev pub value_put : OperationTokens → (k : ℕ) (value : Option ℤ) → OperationTokens
+value_put m k value = record m { values = slice_set m.values k value }
+
+abbrev pub edge_put : OperationTokens → (switch : ℕ) (edge : Option ℕ) → OperationTokens
+edge_put m switch edge = record m { tokens = record m.tokens { edges = slice_set m.tokens.edges switch edge } }
+
+-- while it is asked for, it is counted for how much each node waits, and those are marked that wait for nothing
+pub record IsCounted (x : OperationNet) (s : Places) : Type 0 where
+  pub counts : s.counted ≡ true → s.counts.items ≡ map (waits x (standing s)) (range_with_len 0 (node_total x))
+  pub marks : s.counted ≡ true → AreMarks (node_total x) (λ k. waits x (standing s) k == 0) s.set
+  pub none : s.counted ≡ false → s.counts.items ≡ []
+
+-- it is counted after a change as it was before
+pub record KeepsCounts (old new : Places) : Type 0 where
+  pub counted : new.counted ≡ old.counted
+  pub marks : length new.set ≡ length old.set
+  pub room : vec_capacity old.counts ≤ vec_capacity new.counts

@@ -1,0 +1,172 @@
+//! Changes of the places of lines, decisions and values, one at a time, with what nodes wait for.
+
+ghost use Rattle.std.specs.Prelude.{◌≡◌, ◌<◌, ◌-◌, ◌^◌, ℕ, None, Some, false, is_some, length, slice_index, true};
+ghost use Rattle.net_board.specs.Tokens.{edge_of, left_for};
+ghost use Rattle.op_board.specs.OperationTokens.{passed_by, value_at};
+ghost use Rattle.op_net.specs.BoardView.{operation_net_on};
+ghost use Rattle.op_net.specs.Counts.{AreCounts, one_more};
+ghost use Rattle.op_net.specs.PlacesView.{IsCounted, KeepsCounts, edge_put, line_put, standing, value_put};
+ghost use Rattle.op_net.specs.Waits.{AreSwitchNodes, IsNodeAfter, IsNodeBefore, node_total, waits};
+
+use crate::lookups::OperationBoard;
+use crate::places::Places;
+use crate::waiting::waits_are_few;
+
+impl Places {
+    /// Puts a line that stands before one node on an edge, or nowhere, so that it stands before another node, or the same, or none.
+    pub(crate) fn put_line<const W: usize>(
+        &mut self,
+        board: &OperationBoard<W>,
+        line: u32,
+        edge: Option<u32>,
+        passed: u32,
+        from: u32,
+        to: u32,
+    )
+        requires exists { line < (operation_net_on board.now).net.routing.lines }
+        requires line { line < length self.old.lines.items }
+        requires passed { line < length self.old.passed.items }
+        requires node { from < node_total (operation_net_on board.now) }
+        requires marks { length self.old.set ≡ node_total (operation_net_on board.now) }
+        requires counted { IsCounted (operation_net_on board.now) self.old }
+        requires from { self.old.counted ≡ true → IsNodeBefore (operation_net_on board.now) line (edge_of (standing self.old).tokens line) (passed_by (standing self.old) line) from }
+        requires to { self.old.counted ≡ true → IsNodeBefore (operation_net_on board.now) line edge passed to }
+        ensures standing { standing self.new ≡ line_put (standing self.old) line edge passed }
+        ensures counted { IsCounted (operation_net_on board.now) self.new }
+        ensures kept { KeepsCounts self.old self.new }
+    {
+        waits_are_few(board);
+        self.lines[line as usize] = edge;
+        self.passed[line as usize] = passed;
+        self.wait_more(from);
+        self.wait_less(to);
+    }
+
+    /// Gives the value of a node, which another node takes.
+    pub(crate) fn give<const W: usize>(
+        &mut self,
+        board: &OperationBoard<W>,
+        k: u32,
+        z: i32,
+        taker: u32,
+    )
+        requires value { k < length self.old.values.items }
+        requires node { k < node_total (operation_net_on board.now) }
+        requires marks { length self.old.set ≡ node_total (operation_net_on board.now) }
+        requires counted { IsCounted (operation_net_on board.now) self.old }
+        requires empty { value_at (standing self.old) k ≡ None }
+        requires after { taker < node_total (operation_net_on board.now) }
+        requires taker { self.old.counted ≡ true → IsNodeAfter (operation_net_on board.now) k taker }
+        ensures standing { standing self.new ≡ value_put (standing self.old) k (Some z) }
+        ensures counted { IsCounted (operation_net_on board.now) self.new }
+        ensures kept { KeepsCounts self.old self.new }
+    {
+        waits_are_few(board);
+        self.values[k as usize] = Some(z);
+        self.wait_more(k);
+        self.wait_less(taker);
+    }
+
+    /// Takes the value of a node for another one.
+    pub(crate) fn take<const W: usize>(&mut self, board: &OperationBoard<W>, k: u32, taker: u32)
+        requires value { k < length self.old.values.items }
+        requires node { taker < node_total (operation_net_on board.now) }
+        requires marks { length self.old.set ≡ node_total (operation_net_on board.now) }
+        requires counted { IsCounted (operation_net_on board.now) self.old }
+        requires full { is_some (value_at (standing self.old) k) ≡ true }
+        requires taker { self.old.counted ≡ true → IsNodeAfter (operation_net_on board.now) k taker }
+        ensures standing { standing self.new ≡ value_put (standing self.old) k None }
+        ensures counted { IsCounted (operation_net_on board.now) self.new }
+        ensures kept { KeepsCounts self.old self.new }
+    {
+        waits_are_few(board);
+        self.values[k as usize] = None;
+        self.wait_more(taker);
+        self.wait_less(k);
+    }
+
+    /// Leaves an edge for a switch, of which this is the node and this its decision.
+    pub(crate) fn leave<const W: usize>(
+        &mut self,
+        board: &OperationBoard<W>,
+        switch: u32,
+        edge: u32,
+        node: u32,
+        decision: u32,
+    )
+        requires switch { switch < length self.old.edges.items }
+        requires decision { decision < node_total (operation_net_on board.now) }
+        requires marks { length self.old.set ≡ node_total (operation_net_on board.now) }
+        requires counted { IsCounted (operation_net_on board.now) self.old }
+        requires empty { left_for (standing self.old).tokens switch ≡ None }
+        requires nodes { self.old.counted ≡ true → AreSwitchNodes (operation_net_on board.now) switch node decision }
+        ensures standing { standing self.new ≡ edge_put (standing self.old) switch (Some edge) }
+        ensures counted { IsCounted (operation_net_on board.now) self.new }
+        ensures kept { KeepsCounts self.old self.new }
+    {
+        waits_are_few(board);
+        self.edges[switch as usize] = Some(edge);
+        self.wait_more(decision);
+        self.wait_less(node);
+    }
+
+    /// Takes the edge that is left for a switch.
+    pub(crate) fn clear<const W: usize>(
+        &mut self,
+        board: &OperationBoard<W>,
+        switch: u32,
+        node: u32,
+        decision: u32,
+    )
+        requires switch { switch < length self.old.edges.items }
+        requires node { node < node_total (operation_net_on board.now) }
+        requires marks { length self.old.set ≡ node_total (operation_net_on board.now) }
+        requires counted { IsCounted (operation_net_on board.now) self.old }
+        requires full { is_some (left_for (standing self.old).tokens switch) ≡ true }
+        requires nodes { self.old.counted ≡ true → AreSwitchNodes (operation_net_on board.now) switch node decision }
+        ensures standing { standing self.new ≡ edge_put (standing self.old) switch None }
+        ensures counted { IsCounted (operation_net_on board.now) self.new }
+        ensures kept { KeepsCounts self.old self.new }
+    {
+        waits_are_few(board);
+        self.edges[switch as usize] = None;
+        self.wait_more(node);
+        self.wait_less(decision);
+    }
+
+    // A node waits for one thing more.
+    fn wait_more(&mut self, k: u32)
+        requires few { self.old.counted ≡ true → slice_index self.old.counts.items k < 2 ^ 64 - 1 }
+        requires marks { self.old.counted ≡ true → length self.old.set ≡ length self.old.counts.items }
+        ensures standing { standing self.new ≡ standing self.old }
+        ensures kept { KeepsCounts self.old self.new }
+        ensures uncounted { self.old.counted ≡ false → self.new.counts.items ≡ self.old.counts.items }
+        ensures counts { self.old.counted ≡ true → (count : ℕ → ℕ) → AreCounts (length self.old.counts.items) count self.old.counts.items self.old.set → AreCounts (length self.old.counts.items) (one_more count k) self.new.counts.items self.new.set }
+    {
+        if self.counted && (k as usize) < self.counts.len() {
+            let count = self.counts[k as usize];
+            self.counts[k as usize] = count + 1;
+            if count == 0 {
+                self.set.put(k, false);
+            }
+        }
+    }
+
+    // A node waits for one thing less. There is no such node where the number is that of all nodes.
+    fn wait_less(&mut self, k: u32)
+        requires some { self.old.counted ≡ true → k < length self.old.counts.items → 0 < slice_index self.old.counts.items k }
+        requires marks { self.old.counted ≡ true → length self.old.set ≡ length self.old.counts.items }
+        ensures standing { standing self.new ≡ standing self.old }
+        ensures kept { KeepsCounts self.old self.new }
+        ensures uncounted { self.old.counted ≡ false → self.new.counts.items ≡ self.old.counts.items }
+        ensures counts { self.old.counted ≡ true → (count : ℕ → ℕ) → AreCounts (length self.old.counts.items) (one_more count k) self.old.counts.items self.old.set → AreCounts (length self.old.counts.items) count self.new.counts.items self.new.set }
+    {
+        if self.counted && (k as usize) < self.counts.len() {
+            let count = self.counts[k as usize] - 1;
+            self.counts[k as usize] = count;
+            if count == 0 {
+                self.set.put(k, true);
+            }
+        }
+    }
+}

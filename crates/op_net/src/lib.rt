@@ -1,0 +1,27 @@
+//! The net of a program with operations as nodes.
+#![tactic(auto)]
+
+mod control_moves;
+mod counting;
+mod entries;
+mod hops;
+mod lookups;
+mod names;
+mod net;
+mod net_firing;
+mod net_system;
+mod new_net;
+mod operating;
+mod places;
+mod plan;
+mod row_laws;
+mod rows;
+mod standing;
+mod tables;
+mod takers;
+mod telling;
+mod waiting;
+
+pub use net::OpNet;
+pub use operation_lists::Operand;
+pub use telling::OpName;

@@ -1,0 +1,117 @@
+//! Looking up the nodes of a net of operations, and what their firings need.
+
+ghost use Rattle.std.specs.Prelude.{◌≡◌, ◌+◌, ◌<◌, ◌≤◌, ◌-◌, ℕ, length};
+ghost use Rattle.closed_walks.specs.Graph.{edge_count};
+ghost use Rattle.cfg_build.specs.Passes.{out};
+ghost use Rattle.firing.specs.declared.system.NodeName.TheVariants.{Switch};
+ghost use Rattle.net_board.specs.Nodes.{graph_in, nodes_of};
+ghost use Rattle.net_board.specs.WokenNodes.{switch_number};
+ghost use Rattle.op_board.specs.OperationNets.{first_operation, operation_count, operation_node, operation_node_count};
+ghost use Rattle.op_net.specs.OperationRows.{IsRow};
+ghost use Rattle.op_net.specs.OperationTables.{AreOperationTables};
+ghost use Rattle.op_net.specs.PlanView.{operations_in};
+ghost use Rattle.op_net.specs.Waits.{IsSwitchOf, node_total};
+
+use crate::plan::OperationPlan;
+use crate::rows::Row;
+use crate::tables::OperationTables;
+use firing::NodeName;
+use net_tables::out_at;
+
+/// A plan with its tables.
+#[derive(Drop)]
+pub(crate) struct OperationBoard<'a, const W: usize> {
+    pub(crate) plan: OperationPlan<'a, W>,
+    pub(crate) tables: OperationTables<'a>,
+    ghost own_tables: { AreOperationTables (operations_in plan) tables },
+}
+
+impl<'a, const W: usize> OperationBoard<'a, W> {
+    ghost use Rattle.op_net.specs.BoardView.{operation_net_on};
+
+    /// How many nodes there are.
+    pub(crate) fn nodes(&self) -> u32
+        ensures { result ≡ node_total (operation_net_on self.now) }
+    {
+        self.tables.names.len() as u32
+    }
+
+    /// The name of a node.
+    pub(crate) fn name(&self, k: u32) -> NodeName
+        requires { k < node_total (operation_net_on self.now) }
+        ensures { result ≡ operation_node (operation_net_on self.now) k }
+    {
+        self.tables.names[k as usize]
+    }
+
+    /// The number of the first node of a piece.
+    pub(crate) fn first(&self, piece: u32) -> u32
+        requires { piece < (graph_in (operation_net_on self.now).net).nodes }
+        ensures { result ≡ first_operation (operation_net_on self.now) piece }
+    {
+        self.tables.firsts[piece as usize]
+    }
+
+    /// The number after the last node of a piece.
+    pub(crate) fn end(&self, piece: u32) -> u32
+        requires { piece < (graph_in (operation_net_on self.now).net).nodes }
+        ensures end { result ≡ first_operation (operation_net_on self.now) piece + operation_node_count (operation_net_on self.now) piece }
+        ensures within { result ≤ node_total (operation_net_on self.now) }
+    {
+        self.tables.firsts[piece as usize + 1]
+    }
+
+    /// How many nodes a piece has.
+    pub(crate) fn count(&self, piece: u32) -> u32
+        requires { piece < (graph_in (operation_net_on self.now).net).nodes }
+        ensures { result ≡ operation_node_count (operation_net_on self.now) piece }
+    {
+        self.end(piece) - self.first(piece)
+    }
+
+    /// How many operations a piece has.
+    pub(crate) fn operations(&self, piece: u32) -> u32
+        requires { piece < (graph_in (operation_net_on self.now).net).nodes }
+        ensures { result ≡ operation_count (operation_net_on self.now) piece }
+    {
+        self.tables.pieces[piece as usize].rows.len() as u32
+    }
+
+    /// What the firing of an operation looks up.
+    pub(crate) fn row(&self, piece: u32, i: u32) -> &Row<'a>
+        requires piece { piece < (graph_in (operation_net_on self.now).net).nodes }
+        requires operation { i < operation_count (operation_net_on self.now) piece }
+        ensures { ∥ IsRow (operation_net_on self.now) piece i result.now ∥₁ }
+    {
+        &self.tables.pieces[piece as usize].rows[i as usize]
+    }
+
+    /// The number of a switch in the net of statements.
+    pub(crate) fn switch_number(&self, k: u32, piece: u32) -> u32
+        requires node { k < node_total (operation_net_on self.now) }
+        requires switch { IsSwitchOf (operation_node (operation_net_on self.now) k) piece }
+        ensures within { result < length (nodes_of (operation_net_on self.now).net) }
+        ensures number { (line : ℕ) → operation_node (operation_net_on self.now) k ≡ Switch piece line → result ≡ switch_number (operation_net_on self.now).net piece line }
+    {
+        let behind = self.end(piece) - k;
+        self.plan.board.end(piece) - behind
+    }
+
+    /// The decision of a piece at which edges part, which is its last operation.
+    pub(crate) fn decision(&self, piece: u32) -> u32
+        requires piece { piece < (graph_in (operation_net_on self.now).net).nodes }
+        requires some { 0 < operation_count (operation_net_on self.now) piece }
+        ensures { result ≡ first_operation (operation_net_on self.now) piece + (operation_count (operation_net_on self.now) piece - 1) }
+    {
+        self.first(piece) + (self.operations(piece) - 1)
+    }
+
+    /// The edge that leaves a piece and has this number among those, or the first edge of the graph where none has it.
+    pub(crate) fn out(&self, piece: u32, choice: u32) -> u32
+        requires { piece < (graph_in (operation_net_on self.now).net).nodes }
+        ensures edge { result ≡ out (graph_in (operation_net_on self.now).net) piece choice }
+        ensures exists { result < edge_count (graph_in (operation_net_on self.now).net) }
+    {
+        out_at(self.plan.board.outs(piece), choice)
+    }
+}

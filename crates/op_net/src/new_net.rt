@@ -1,0 +1,101 @@
+//! A new net of operations, before any firing.
+
+ghost use Rattle.std.specs.Prelude.{◌≡◌, ◌≤◌, [], ℕ, Some, false, length, IfOk};
+ghost use Rattle.class_set.specs.Members.{IsWidth};
+ghost use Rattle.cfg_build.specs.Flow.{flow as flow_graph};
+ghost use Rattle.dep_routing.specs.Touch.{touches_in};
+ghost use Rattle.firing.specs.Control.{IsInStep};
+ghost use Rattle.net_board.specs.ControlCourse.{first_control as first_control_of};
+ghost use Rattle.net_board.specs.NetParts.{net_with};
+ghost use Rattle.net_board.specs.Nodes.{graph_in};
+ghost use Rattle.op_board.specs.OperationNets.{operation_count};
+ghost use Rattle.op_board.specs.OperationTokens.{first_operation_tokens, operation_moves};
+ghost use Rattle.op_board.specs.SoundOperationNets.{IsOperationNet, OperationsCanCome};
+ghost use Rattle.op_net.specs.FirstPlaces.{AreFirstPlaces};
+ghost use Rattle.op_net.specs.NetView.{marking_of, net_of};
+ghost use Rattle.op_net.specs.OperationParts.{AreOperationParts};
+ghost use Rattle.op_net.specs.OperationTables.{AreOperationTables};
+ghost use Rattle.op_net.specs.PlanView.{operations_in};
+ghost use Rattle.op_net.specs.StaysInStep.{StaysInStep};
+
+use crate::OpNet;
+use crate::lookups::OperationBoard;
+use crate::places::Places;
+use crate::plan::{OperationPlan, make_plan};
+use crate::tables::{OperationTables, make_tables};
+use alias_classes::Classes;
+use cfg_build::Flow;
+use dep_routing::{Lines, TouchList};
+use df_sequence::NoMemory;
+use f77_meaning::{initial_storage, longest_line};
+use f77_tree::Program;
+use firing::ReadySet;
+use net_tables::{first_control, first_places, nothing_left};
+use op_board::{operation_nets_begin_soundly, operation_nets_stay_in_lockstep};
+use std::alloc::Global;
+
+impl<'a, const W: usize> OpNet<'a, W> {
+    /// The net of a program over a copy of its data, before any firing. All memory is taken here, room for the longest line too.
+    pub fn new(
+        alloc: Global,
+        p: &'a Program,
+        f: &'a Flow,
+        c: &Classes<W>,
+        touch: &'a TouchList<W>,
+        l: &'a Lines<W>,
+        input: &Vec<i32>,
+    ) -> Result<OpNet<'a, W>, NoMemory>
+        requires width { IsWidth W }
+        requires parts { AreOperationParts p.now f.now c.now (touches_in touch.now) l.now }
+        requires sets { length touch.now ≡ (flow_graph p.now.execs).graph.nodes }
+        ensures net { IfOk result (λ n. (net_of n).net ≡ net_with p.now input.now.items (touches_in touch.now) l.now) }
+        ensures is_net { IfOk result (λ n. IsOperationNet (net_of n)) }
+        ensures outside_pieces { IfOk result (λ n. (piece i line : ℕ) → (graph_in (net_of n).net).nodes ≤ piece → (net_of n).needs piece i line ≡ false) }
+        ensures outside_operations { IfOk result (λ n. (piece i line : ℕ) → operation_count (net_of n) piece ≤ i → (net_of n).needs piece i line ≡ false) }
+        ensures marking { IfOk result (λ n. marking_of n ≡ first_operation_tokens (net_of n)) }
+        ensures place { IfOk result (λ n. n.control ≡ Some (first_control_of (net_of n).net)) }
+        ensures last { IfOk result (λ n. n.text.items ≡ []) }
+        ensures sound { IfOk result (λ n. OperationsCanCome (net_of n) (marking_of n)) }
+        ensures in_step { IfOk result (λ n. IsInStep (operation_moves (net_of n)) (StaysInStep (net_of n)) (marking_of n) n.control) }
+    {
+        operation_nets_begin_soundly();
+        operation_nets_stay_in_lockstep();
+        let plan = make_plan(alloc, p, f, c, touch, l, input)?;
+        let tables = make_tables(alloc, &plan)?;
+        let room = longest_line(p.execs.as_slice())?;
+        let control = first_control(&plan.board);
+        let places = first_state(alloc, &plan, &tables)?;
+        Ok(OpNet {
+            places,
+            storage: initial_storage(alloc, p)?,
+            trapped: None,
+            control: Some(control),
+            text: Vec::with_capacity(alloc, room)?,
+            draft: Vec::with_capacity(alloc, room)?,
+            args: Vec::with_capacity(alloc, tables.most)?,
+            board: OperationBoard { plan, tables },
+        })
+    }
+}
+
+// Each line stands where it is led from the edge that leaves the start, nothing is left for any switch, and no value is given.
+fn first_state<const W: usize>(
+    alloc: Global,
+    plan: &OperationPlan<W>,
+    tables: &OperationTables,
+) -> Result<Places, NoMemory>
+    requires { AreOperationTables (operations_in plan.now) tables.now }
+    ensures { IfOk result (λ s. AreFirstPlaces (operations_in plan.now) s) }
+{
+    let nodes = tables.names.len();
+    let lines = plan.board.plan.routes.lines() as usize;
+    Ok(Places {
+        lines: first_places(alloc, &plan.board.plan)?,
+        passed: vec![in alloc; 0; lines]?,
+        edges: nothing_left(alloc, plan.board.nodes())?,
+        values: vec![in alloc; None; nodes]?,
+        counted: false,
+        counts: Vec::with_capacity(alloc, nodes)?,
+        set: ReadySet::with_room(alloc, nodes as u32)?,
+    })
+}

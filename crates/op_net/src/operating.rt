@@ -1,0 +1,272 @@
+//! What the firing of an operation takes, and where it leads lines.
+
+ghost use Rattle.std.specs.Prelude.{◌≡◌, ◌<◌, ◌≤◌, ◌+◌, ◌++◌, [], ◌∷◌, ℕ, None, Some, length, map, true, vec_capacity, vec_len};
+ghost use Rattle.closed_walks.specs.Graph.{edge_count};
+ghost use Rattle.net_board.specs.Nodes.{graph_in, switches};
+ghost use Rattle.net_board.specs.Tokens.{edge_of, led_from, with_all};
+ghost use Rattle.op_board.specs.Operations.{is_decision};
+ghost use Rattle.op_board.specs.OperationNets.{first_operation, last_needed, needed, operation_at, operation_count};
+ghost use Rattle.op_board.specs.OperationTokens.{are_clear, is_given, operand_in, passed_after, passed_by, replaced, stands_before, taken_values};
+ghost use Rattle.std.specs.List.{list_all};
+ghost use Rattle.operation_lists.specs.Seen.{operand_seen};
+ghost use Rattle.op_net.specs.BoardView.{operation_net_on};
+ghost use Rattle.op_net.specs.OperationRows.{IsHop};
+ghost use Rattle.op_net.specs.PlaceSteps.{IsOwnOperand, line_moved, operand_taken};
+ghost use Rattle.op_net.specs.PlacesView.{IsCounted, KeepsCounts, line_put, standing};
+ghost use Rattle.op_net.specs.SoundPlaces.{ArePlaces};
+ghost use Rattle.op_net.specs.StandingChanges.{lines_dropped, lines_moved, room_filled, values_taken};
+ghost use Rattle.op_net.specs.Waits.{IsNodeBefore, node_total};
+
+use crate::hops::Hop;
+use crate::lookups::OperationBoard;
+use crate::places::Places;
+use crate::standing::node_before;
+use operation_lists::Operand;
+
+/// Reads the values of the operands of an operation, whose piece has this first node.
+pub(crate) fn read_operands<const W: usize>(
+    board: &OperationBoard<W>,
+    places: &Places,
+    piece: u32,
+    i: u32,
+    args: &mut Vec<i32>,
+)
+    requires piece { piece < (graph_in (operation_net_on board.now).net).nodes }
+    requires operation { i < operation_count (operation_net_on board.now) piece }
+    requires places { ArePlaces (operation_net_on board.now) places.now }
+    requires room { board.now.tables.most ≤ vec_capacity args.old }
+    ensures args { args.new.items ≡ map (operand_in (operation_net_on board.now) (standing places.now) piece) (operation_at (operation_net_on board.now) piece i).operands }
+    ensures capacity { vec_capacity args.old ≤ vec_capacity args.new }
+{
+    args.clear();
+    for operand in board.row(piece, i).operands.as_slice() {
+        push_argument(args, operand_value(board, places, piece, i, *operand));
+    }
+}
+
+// Appends a value for which there is room.
+fn push_argument(args: &mut Vec<i32>, z: i32)
+    requires { vec_len args.old + 1 ≤ vec_capacity args.old }
+    ensures items { args.new.items ≡ args.old.items ++ z ∷ [] }
+    ensures capacity { vec_capacity args.old ≤ vec_capacity args.new }
+{
+    let _pushed = args.push(z);
+}
+
+// The value of an operand.
+fn operand_value<const W: usize>(
+    board: &OperationBoard<W>,
+    places: &Places,
+    piece: u32,
+    i: u32,
+    operand: Operand,
+) -> i32
+    requires piece { piece < (graph_in (operation_net_on board.now).net).nodes }
+    requires operation { i < operation_count (operation_net_on board.now) piece }
+    requires places { ArePlaces (operation_net_on board.now) places.now }
+    requires own { IsOwnOperand (operation_net_on board.now) piece i (operand_seen operand) }
+    ensures { result ≡ operand_in (operation_net_on board.now) (standing places.now) piece (operand_seen operand) }
+{
+    match operand {
+        Operand::Known(z) => z,
+        Operand::Node(number) => {
+            places.values[(board.first(piece) + number) as usize].unwrap_or(0)
+        }
+    }
+}
+
+/// Takes the values of the operands of an operation.
+pub(crate) fn take_operands<const W: usize>(
+    board: &OperationBoard<W>,
+    places: &mut Places,
+    piece: u32,
+    i: u32,
+)
+    requires piece { piece < (graph_in (operation_net_on board.now).net).nodes }
+    requires operation { i < operation_count (operation_net_on board.now) piece }
+    requires places { ArePlaces (operation_net_on board.now) places.old }
+    requires counted { IsCounted (operation_net_on board.now) places.old }
+    requires given { list_all (is_given (operation_net_on board.now) (standing places.old) piece) (operation_at (operation_net_on board.now) piece i).operands ≡ true }
+    ensures standing { standing places.new ≡ values_taken (operation_net_on board.now) (standing places.old) piece i }
+    ensures counted { IsCounted (operation_net_on board.now) places.new }
+    ensures kept { KeepsCounts places.old places.new }
+{
+    for operand in board.row(piece, i).operands.as_slice() {
+        take_operand(board, places, piece, i, *operand);
+    }
+}
+
+// Takes the value of an operand.
+fn take_operand<const W: usize>(
+    board: &OperationBoard<W>,
+    places: &mut Places,
+    piece: u32,
+    i: u32,
+    operand: Operand,
+)
+    requires piece { piece < (graph_in (operation_net_on board.now).net).nodes }
+    requires operation { i < operation_count (operation_net_on board.now) piece }
+    requires values { length places.old.values.items ≡ node_total (operation_net_on board.now) }
+    requires marks { length places.old.set ≡ node_total (operation_net_on board.now) }
+    requires counted { IsCounted (operation_net_on board.now) places.old }
+    requires own { IsOwnOperand (operation_net_on board.now) piece i (operand_seen operand) }
+    requires given { is_given (operation_net_on board.now) (standing places.old) piece (operand_seen operand) ≡ true }
+    ensures standing { standing places.new ≡ operand_taken (operation_net_on board.now) piece (standing places.old) (operand_seen operand) }
+    ensures counted { IsCounted (operation_net_on board.now) places.new }
+    ensures kept { KeepsCounts places.old places.new }
+{
+    if let Operand::Node(number) = operand {
+        let first = board.first(piece);
+        places.take(board, first + number, first + i);
+    }
+}
+
+/// Leads on the lines that an operation needs: past it, and after the last operation of the piece that needs them along this edge.
+pub(crate) fn move_lines<const W: usize>(
+    board: &OperationBoard<W>,
+    places: &mut Places,
+    piece: u32,
+    i: u32,
+    edge: u32,
+)
+    requires piece { piece < (graph_in (operation_net_on board.now).net).nodes }
+    requires operation { i < operation_count (operation_net_on board.now) piece }
+    requires edge { edge < edge_count (graph_in (operation_net_on board.now).net) }
+    requires places { ArePlaces (operation_net_on board.now) places.old }
+    requires counted { IsCounted (operation_net_on board.now) places.old }
+    requires stand { list_all (stands_before (operation_net_on board.now) (standing places.old) piece i) (needed (operation_net_on board.now) piece i) ≡ true }
+    ensures standing { standing places.new ≡ lines_moved (operation_net_on board.now) (standing places.old) piece i edge }
+    ensures counted { IsCounted (operation_net_on board.now) places.new }
+    ensures kept { KeepsCounts places.old places.new }
+{
+    for hop in &board.row(piece, i).hops {
+        move_line(board, places, piece, i, *hop, edge);
+    }
+}
+
+// Leads on one line.
+fn move_line<const W: usize>(
+    board: &OperationBoard<W>,
+    places: &mut Places,
+    piece: u32,
+    i: u32,
+    hop: Hop,
+    edge: u32,
+)
+    requires piece { piece < (graph_in (operation_net_on board.now).net).nodes }
+    requires operation { i < operation_count (operation_net_on board.now) piece }
+    requires edge { edge < edge_count (graph_in (operation_net_on board.now).net) }
+    requires lines { length places.old.lines.items ≡ (operation_net_on board.now).net.routing.lines }
+    requires passed { length places.old.passed.items ≡ (operation_net_on board.now).net.routing.lines }
+    requires marks { length places.old.set ≡ node_total (operation_net_on board.now) }
+    requires counted { IsCounted (operation_net_on board.now) places.old }
+    requires hop { ∥ IsHop (operation_net_on board.now) piece i hop ∥₁ }
+    requires needs { (operation_net_on board.now).needs piece i hop.line ≡ true }
+    requires stands { stands_before (operation_net_on board.now) (standing places.old) piece i hop.line ≡ true }
+    ensures standing { standing places.new ≡ line_moved (operation_net_on board.now) piece i edge (standing places.old) hop.line }
+    ensures counted { IsCounted (operation_net_on board.now) places.new }
+    ensures kept { KeepsCounts places.old places.new }
+{
+    let first = board.first(piece);
+    match hop.next {
+        Some(n) => {
+            let old = places.lines[hop.line as usize];
+            places.put_line(board, hop.line, old, hop.before + 1, first + i, first + n);
+        }
+        None => lead_line(board, places, hop.line, edge, first + i),
+    }
+}
+
+/// Leads a line along an edge from the node before which it stands.
+pub(crate) fn lead_line<const W: usize>(
+    board: &OperationBoard<W>,
+    places: &mut Places,
+    line: u32,
+    edge: u32,
+    k: u32,
+)
+    requires edge { edge < edge_count (graph_in (operation_net_on board.now).net) }
+    requires line { line < (operation_net_on board.now).net.routing.lines }
+    requires lines { length places.old.lines.items ≡ (operation_net_on board.now).net.routing.lines }
+    requires passed { length places.old.passed.items ≡ (operation_net_on board.now).net.routing.lines }
+    requires marks { length places.old.set ≡ node_total (operation_net_on board.now) }
+    requires node { k < node_total (operation_net_on board.now) }
+    requires counted { IsCounted (operation_net_on board.now) places.old }
+    requires from { IsNodeBefore (operation_net_on board.now) line (edge_of (standing places.old).tokens line) (passed_by (standing places.old) line) k }
+    ensures standing { standing places.new ≡ line_put (standing places.old) line (led_from (operation_net_on board.now).net edge line) 0 }
+    ensures counted { IsCounted (operation_net_on board.now) places.new }
+    ensures kept { KeepsCounts places.old places.new }
+{
+    let next = board.plan.board.plan.routes.next_wire(line, edge);
+    let to = node_led_to(board, places.counted, line, next);
+    places.put_line(board, line, Some(next), 0, k, to);
+}
+
+// The node before which a line comes to stand on an edge, where that is asked for.
+fn node_led_to<const W: usize>(board: &OperationBoard<W>, asked: bool, line: u32, edge: u32) -> u32
+    requires line { line < (operation_net_on board.now).net.routing.lines }
+    requires edge { edge < edge_count (graph_in (operation_net_on board.now).net) }
+    ensures { asked ≡ true → IsNodeBefore (operation_net_on board.now) line (Some edge) 0 result }
+{
+    if asked {
+        node_before(board, line, edge)
+    } else {
+        0
+    }
+}
+
+/// The lines that an operation needs vanish.
+pub(crate) fn drop_needed<const W: usize>(
+    board: &OperationBoard<W>,
+    places: &mut Places,
+    piece: u32,
+    i: u32,
+)
+    requires piece { piece < (graph_in (operation_net_on board.now).net).nodes }
+    requires operation { i < operation_count (operation_net_on board.now) piece }
+    requires places { ArePlaces (operation_net_on board.now) places.old }
+    requires counted { IsCounted (operation_net_on board.now) places.old }
+    requires stand { list_all (stands_before (operation_net_on board.now) (standing places.old) piece i) (needed (operation_net_on board.now) piece i) ≡ true }
+    ensures standing { standing places.new ≡ lines_dropped (operation_net_on board.now) (standing places.old) piece i }
+    ensures counted { IsCounted (operation_net_on board.now) places.new }
+    ensures kept { KeepsCounts places.old places.new }
+{
+    let k = board.first(piece) + i;
+    let none = board.nodes();
+    for hop in &board.row(piece, i).hops {
+        places.put_line(board, hop.line, None, 0, k, none);
+    }
+}
+
+/// Leaves an edge for the switches of a piece at which edges part.
+pub(crate) fn fill_room<const W: usize>(
+    board: &OperationBoard<W>,
+    places: &mut Places,
+    piece: u32,
+    i: u32,
+    edge: u32,
+)
+    requires piece { piece < (graph_in (operation_net_on board.now).net).nodes }
+    requires operation { i < operation_count (operation_net_on board.now) piece }
+    requires decides { is_decision (operation_at (operation_net_on board.now) piece i).work ≡ true }
+    requires edge { edge < edge_count (graph_in (operation_net_on board.now).net) }
+    requires places { ArePlaces (operation_net_on board.now) places.old }
+    requires counted { IsCounted (operation_net_on board.now) places.old }
+    requires clear { are_clear (operation_net_on board.now) (standing places.old) piece ≡ true }
+    ensures standing { standing places.new ≡ room_filled (operation_net_on board.now) (standing places.old) piece edge }
+    ensures counted { IsCounted (operation_net_on board.now) places.new }
+    ensures kept { KeepsCounts places.old places.new }
+{
+    let decision = board.first(piece) + i;
+    let from = board.plan.board.first(piece) + 1;
+    let end = board.plan.board.end(piece);
+    for switch in from..end {
+        places.leave(
+            board,
+            switch,
+            edge,
+            decision + 1 + (switch - from),
+            decision,
+        );
+    }
+}

@@ -1,0 +1,146 @@
+//! What the firing of an operation looks up.
+
+ghost use Rattle.std.specs.Prelude.{◌≡◌, ◌+◌, ◌^◌, ◌<◌, ℕ, true, IfOk, OnOk};
+ghost use Rattle.net_board.specs.Nodes.{graph_in};
+ghost use Rattle.op_board.specs.Operations.{gives_value};
+ghost use Rattle.op_board.specs.OperationNets.{operation_at, operation_count};
+ghost use Rattle.op_net.specs.OperationRows.{AreRows, HasRows, IsCountedHop, IsHop, IsRowWith, IsTaker};
+ghost use Rattle.op_net.specs.PlanView.{operations_in};
+ghost use Rattle.op_net.specs.ScratchLines.{AreCounted, AreLinked, IsClean};
+
+use crate::entries::{clear_lines, first_entries};
+use crate::hops::{Hop, Scratch, link_hops, unlinked_hops};
+use crate::plan::OperationPlan;
+use crate::row_laws::{needed_lines_exist, operations_fit};
+use crate::takers::{copied_operands, operation_total, value_takers};
+use df_sequence::NoMemory;
+use op_board::values_are_taken_once;
+use operation_effects::{Task, task_of};
+use operation_lists::{Operands, gives_value, is_decision};
+use std::alloc::Global;
+
+/// An operation, ready to fire. Operations are told by their numbers in the piece.
+#[derive(Drop)]
+pub(crate) struct Row<'a> {
+    pub(crate) task: Task<'a>,
+    pub(crate) operands: Operands,
+    /// The lines that it needs, in rising order.
+    pub(crate) hops: Vec<Hop>,
+    /// The operation that takes its value. It is of no meaning where there is no value.
+    pub(crate) taker: u32,
+    /// Whether it gives a value.
+    pub(crate) gives: bool,
+    /// Whether it tells the edge by which control leaves the piece.
+    pub(crate) decides: bool,
+    /// Whether it needs the line of output.
+    pub(crate) serial: bool,
+}
+
+/// The operations of a piece, and for each line that it touches the first one that needs it.
+#[derive(Drop)]
+pub(crate) struct PieceRows<'a> {
+    pub(crate) rows: Vec<Row<'a>>,
+    pub(crate) entries: Vec<u32>,
+}
+
+/// The rows of a piece. The scratch is clean before and after, but not after a failure. More operations than can be numbered are
+/// allocation failure.
+pub(crate) fn make_rows<'a, const W: usize>(
+    alloc: Global,
+    plan: &OperationPlan<'a, W>,
+    piece: u32,
+    scratch: &mut Scratch,
+) -> Result<PieceRows<'a>, NoMemory>
+    requires piece { piece < (graph_in (operations_in plan.now).net).nodes }
+    requires clean { IsClean (operations_in plan.now).net.routing.lines scratch.old }
+    ensures rows { IfOk result (λ t. ∥ AreRows (operations_in plan.now) piece t ∥₁) }
+    ensures clean { OnOk result (IsClean (operations_in plan.now).net.routing.lines scratch.new) }
+{
+    let rows = linked_rows(alloc, plan, piece, scratch)?;
+    let touched = plan.board.touched(piece);
+    let entries = first_entries(alloc, touched, scratch)?;
+    clear_lines(touched, scratch);
+    Ok(PieceRows { rows, entries })
+}
+
+/// The rows of the operations of a piece.
+fn linked_rows<'a, const W: usize>(
+    alloc: Global,
+    plan: &OperationPlan<'a, W>,
+    piece: u32,
+    scratch: &mut Scratch,
+) -> Result<Vec<Row<'a>>, NoMemory>
+    requires piece { piece < (graph_in (operations_in plan.now).net).nodes }
+    requires clean { IsClean (operations_in plan.now).net.routing.lines scratch.old }
+    ensures rows { IfOk result (λ rows. ∥ HasRows (IsHop (operations_in plan.now) piece) (operations_in plan.now) piece rows.items ∥₁) }
+    ensures counted { OnOk result (AreCounted (operations_in plan.now) piece (operation_count (operations_in plan.now) piece) scratch.new) }
+    ensures linked { OnOk result (AreLinked (operations_in plan.now) piece 0 scratch.new) }
+{
+    let mut rows = unlinked_rows(alloc, plan, piece, scratch)?;
+    let mut i = operation_total(&plan.pieces[piece as usize].operations)?;
+    while i > 0 {
+        i -= 1;
+        link_hops(&mut rows[i as usize].hops, scratch, i);
+    }
+    Ok(rows)
+}
+
+/// The rows of the operations of a piece, which don't tell yet where lines go on after each of them.
+fn unlinked_rows<'a, const W: usize>(
+    alloc: Global,
+    plan: &OperationPlan<'a, W>,
+    piece: u32,
+    scratch: &mut Scratch,
+) -> Result<Vec<Row<'a>>, NoMemory>
+    requires piece { piece < (graph_in (operations_in plan.now).net).nodes }
+    requires clean { IsClean (operations_in plan.now).net.routing.lines scratch.old }
+    ensures rows { IfOk result (λ rows. ∥ HasRows (IsCountedHop (operations_in plan.now) piece) (operations_in plan.now) piece rows.items ∥₁) }
+    ensures counted { OnOk result (AreCounted (operations_in plan.now) piece (operation_count (operations_in plan.now) piece) scratch.new) }
+    ensures first { scratch.new.first.items ≡ scratch.old.first.items }
+{
+    values_are_taken_once();
+    let operations = &plan.pieces[piece as usize].operations;
+    let count = operation_total(operations)?;
+    let takers = value_takers(alloc, operations)?;
+    let mut rows = Vec::with_capacity(alloc, count as usize)?;
+    for i in 0..count {
+        rows.push(unlinked_row(alloc, plan, piece, i, takers[i as usize], scratch)?)?;
+    }
+    Ok(rows)
+}
+
+/// The row of an operation whose value, if it gives one, is taken by the taker.
+fn unlinked_row<'a, const W: usize>(
+    alloc: Global,
+    plan: &OperationPlan<'a, W>,
+    piece: u32,
+    i: u32,
+    taker: u32,
+    scratch: &mut Scratch,
+) -> Result<Row<'a>, NoMemory>
+    requires piece { piece < (graph_in (operations_in plan.now).net).nodes }
+    requires operation { i < operation_count (operations_in plan.now) piece }
+    requires few { operation_count (operations_in plan.now) piece < 2 ^ 32 }
+    requires taker { gives_value (operation_at (operations_in plan.now) piece i).work ≡ true → IsTaker (operations_in plan.now) piece i taker }
+    requires counted { AreCounted (operations_in plan.now) piece i scratch.old }
+    ensures row { IfOk result (λ row. ∥ IsRowWith (IsCountedHop (operations_in plan.now) piece i) (operations_in plan.now) piece i row ∥₁) }
+    ensures counted { OnOk result (AreCounted (operations_in plan.now) piece (i + 1) scratch.new) }
+    ensures first { scratch.new.first.items ≡ scratch.old.first.items }
+{
+    needed_lines_exist();
+    operations_fit();
+    let operations = &plan.pieces[piece as usize];
+    let operation = &operations.operations[i as usize];
+    let needs = &operations.needs[i as usize];
+    let operands = copied_operands(alloc, &operation.operands)?;
+    let hops = unlinked_hops(alloc, needs, scratch)?;
+    Ok(Row {
+        task: task_of(plan.board.plan.program, operation.work),
+        operands,
+        hops,
+        taker,
+        gives: gives_value(&operation.work),
+        decides: is_decision(&operation.work),
+        serial: needs.holds(0),
+    })
+}

@@ -1,0 +1,85 @@
+//! The tables of a net of operations, made from its plan.
+
+ghost use Rattle.std.specs.Prelude.{◌<◌, ◌≤◌, ℕ, All, length, IfOk};
+ghost use Rattle.operation_lists.specs.declared.operations.Operation.{Operation};
+ghost use Rattle.op_board.specs.OperationNets.{operation_at, operation_count};
+ghost use Rattle.op_net.specs.OperationTables.{AreOperationTables};
+ghost use Rattle.op_net.specs.PieceTables.{AreAllRows};
+ghost use Rattle.op_net.specs.PlanView.{operations_in};
+
+use crate::hops::make_scratch;
+use crate::names::numbered_nodes;
+use crate::plan::OperationPlan;
+use crate::rows::{PieceRows, make_rows};
+use df_sequence::NoMemory;
+use firing::NodeName;
+use operation_lists::Operation;
+use std::alloc::Global;
+
+/// The nodes of a net of operations, and what their firings look up.
+#[derive(Drop)]
+pub(crate) struct OperationTables<'a> {
+    /// The name of each node.
+    pub(crate) names: Vec<NodeName>,
+    /// For each piece the number of its first node, and last the number of all nodes.
+    pub(crate) firsts: Vec<u32>,
+    /// For each piece its operations.
+    pub(crate) pieces: Vec<PieceRows<'a>>,
+    /// No operation has more operands than this.
+    pub(crate) most: usize,
+}
+
+/// The tables of a net of operations. More nodes than can be numbered are allocation failure.
+pub(crate) fn make_tables<'a, const W: usize>(
+    alloc: Global,
+    plan: &OperationPlan<'a, W>,
+) -> Result<OperationTables<'a>, NoMemory>
+    ensures { IfOk result (λ t. AreOperationTables (operations_in plan.now) t) }
+{
+    let nodes = numbered_nodes(alloc, plan)?;
+    let pieces = all_rows(alloc, plan)?;
+    let most = most_operands(plan);
+    Ok(OperationTables {
+        names: nodes.names,
+        firsts: nodes.firsts,
+        pieces,
+        most,
+    })
+}
+
+/// For each piece the rows of its operations.
+fn all_rows<'a, const W: usize>(
+    alloc: Global,
+    plan: &OperationPlan<'a, W>,
+) -> Result<Vec<PieceRows<'a>>, NoMemory>
+    ensures { IfOk result (λ pieces. AreAllRows (operations_in plan.now) pieces.items) }
+{
+    let mut scratch = make_scratch(alloc, plan.board.plan.routes.lines())?;
+    let mut pieces = Vec::with_capacity(alloc, plan.pieces.len())?;
+    for piece in 0..plan.board.plan.flow.pieces() {
+        pieces.push(make_rows(alloc, plan, piece, &mut scratch)?)?;
+    }
+    Ok(pieces)
+}
+
+/// No operation has more operands than this.
+fn most_operands<const W: usize>(plan: &OperationPlan<W>) -> usize
+    ensures { (piece i : ℕ) → i < operation_count (operations_in plan.now) piece → length (operation_at (operations_in plan.now) piece i).operands ≤ result }
+{
+    let mut most = 0;
+    for operations in &plan.pieces {
+        most = most.max(most_of(&operations.operations));
+    }
+    most
+}
+
+/// None of the operations has more operands than this.
+fn most_of(operations: &Vec<Operation>) -> usize
+    ensures { All (λ (operation : Operation). length operation.operands.items ≤ result) operations.now.items }
+{
+    let mut most = 0;
+    for operation in operations {
+        most = most.max(operation.operands.len());
+    }
+    most
+}
