@@ -28,6 +28,7 @@ pub mod LookedUp
 pub mod TurnNodes
 pub mod RisingLines
 pub mod CountsKept
+pub mod DueFirings
 pub mod RowFacts
 pub mod HopFacts
 pub mod WaitBounds

@@ -96,11 +96,23 @@ impl<const W: usize> SourceOrder for OpNet<'_, W> {
         }
     }
 
-    fn fire_due(&mut self, _most: u64) -> (u64, Fired) {
-        match self.due() {
-            Some(k) => (1, self.fire(k)),
-            None => (0, Fired::Moved),
+    fn fire_due(&mut self, most: u64) -> (u64, Fired) {
+        let Some(first) = self.due() else {
+            return (0, Fired::Moved);
+        };
+        let mut fired = self.fire_node(first);
+        let mut made: u64 = 1;
+        'more: while made < most {
+            let Fired::Moved = fired else {
+                break;
+            };
+            let Some(k) = self.due() else {
+                break;
+            };
+            fired = self.fire_node(k);
+            made += 1;
         }
+        (made, fired)
     }
 
     ghost ordered = { source_order };
