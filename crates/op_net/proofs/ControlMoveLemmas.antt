@@ -1,6 +1,6 @@
 -- Where the firing of the node that is due moves control.
-use Rattle.std.proofs.Common.{◌≡◌, ◌<◌, ◌-◌, ◌==◌, ◌||◌, ◌⊎◌, inl, inr, ℕ, suc, nat_lt, Bool, true, false, if◌then◌else◌, cond, List, map, Option, Some, None, slice_get, refl, sym, ap, ◌∙◌, arith}
-use Rattle.std.proofs.lemmas.Bool.{cases_Bool, eqb-true, eq-eqb}
+use Rattle.std.proofs.Common.{◌≡◌, ◌<◌, ◌≤◌, ◌+◌, ◌-◌, ◌==◌, ◌||◌, ◌⊎◌, inl, inr, ℕ, suc, nat_lt, Bool, true, false, if◌then◌else◌, cond, List, map, Option, Some, None, slice_get, refl, sym, ap, subst, ◌∙◌, lt-ltb, arith}
+use Rattle.std.proofs.lemmas.Bool.{cases_Bool, eqb-true, eq-eqb, le-ltb}
 use Rattle.std.proofs.lemmas.Option.{slice_get-map}
 use Rattle.std.specs.Option.{option_map}
 use Rattle.cfg_build.specs.declared.pieces.PieceKind.{PieceKind}
@@ -16,7 +16,7 @@ use Rattle.net_board.specs.ControlPlaces.{IsPlaced}
 use Rattle.net_board.specs.Nodes.{NetOf, graph_in, is_acting, kind_in, led_to, nodes_by}
 use Rattle.op_board.specs.OperationCourse.{choice_of, control_after, decided, due_operation, edge_taken, operation_course}
 use Rattle.op_board.specs.OperationLists.{IsOperationList}
-use Rattle.op_board.specs.OperationNets.{OperationNet, all_operation_nodes, operation_at, operation_count, operation_node, operation_node_count, operation_nodes_at, operations_at}
+use Rattle.op_board.specs.OperationNets.{OperationNet, all_operation_nodes, first_operation, operation_at, operation_count, operation_node, operation_node_count, operation_nodes_at, operations_at}
 use Rattle.op_board.specs.OperationTokens.{OperationTokens, performed_at}
 use Rattle.op_board.proofs.LockstepOperations.{IsDueOperation, due_operation_is}
 use Rattle.op_board.proofs.OperationControl.{idle_decided}
@@ -24,7 +24,9 @@ use Rattle.op_board.proofs.OperationNumbers.{operation_is, operation_of}
 use Rattle.op_board.proofs.PieceNodes.{nodes_same}
 use Rattle.op_net.specs.PlanFacts.{PlanFacts}
 use Rattle.op_net.specs.Steering.{LeadsBy}
+use Rattle.op_net.specs.Visits.{IsVisit}
 use Rattle.op_net.specs.Waits.{node_total}
+use Rattle.op_net.specs.declared.control_moves.Visit.{Visit}
 use Rattle.op_net.proofs.NodeNames.{operation_name_at}
 
 -- ---- where it leads
@@ -58,6 +60,32 @@ module _ (x : OperationNet) (m : OperationTokens) where
       ap (λ (d : Control). Some d) is
       ∙ ap (λ (b : Bool). cond b (Some (control_after x m c)) None) (sym here)
       ∙ ap (λ (o : Option Control). steered (operation_course x) m o k) (sym stands)
+
+-- ---- visits
+
+module _ (x : OperationNet) (v : Visit) (is : IsVisit x v) where
+  abbrev number_due : ℕ
+  number_due = first_operation x v.control.piece + v.control.fired
+
+  pub due_some : v.control.fired < v.count → Some (v.first + v.control.fired) ≡ due_operation x v.control
+  due_some low =
+      let test : nat_lt v.control.fired (operation_node_count x v.control.piece) ≡ true = ap (nat_lt v.control.fired) (sym is.count) ∙ lt-ltb v.control.fired v.count low in
+      ap (λ (n : ℕ). Some (n + v.control.fired)) is.first ∙ ap (λ (b : Bool). if b then Some number_due else None) (sym test)
+
+  pub due_none : v.count ≤ v.control.fired → None ≡ due_operation x v.control
+  due_none high =
+      let test : nat_lt v.control.fired (operation_node_count x v.control.piece) ≡ false = ap (nat_lt v.control.fired) (sym is.count) ∙ le-ltb v.control.fired v.count high in
+      ap (λ (b : Bool). if b then Some number_due else None) (sym test)
+
+  pub stays_as : (end : Bool) → (nat_lt (suc v.control.fired) v.count || end) ≡ (nat_lt (suc v.control.fired) (operation_node_count x v.control.piece) || end)
+  stays_as end = ap (λ (n : ℕ). nat_lt (suc v.control.fired) n || end) is.count
+
+  pub takes_as : (edge : ℕ) → (if v.control.fired == v.operations - 1 then edge else v.control.leaves) ≡ (if v.control.fired == operation_count x v.control.piece - 1 then edge else v.control.leaves)
+  takes_as edge = ap (λ (n : ℕ). if v.control.fired == n - 1 then edge else v.control.leaves) is.operations
+
+pub one_of : (bound edge old leaves : ℕ) (b : Bool) → leaves ≡ (if b then edge else old) → edge < bound → old < bound → leaves < bound
+one_of bound edge old leaves true is new before = subst (λ (e : ℕ). e < bound) (sym is) new
+one_of bound edge old leaves false is new before = subst (λ (e : ℕ). e < bound) (sym is) before
 
 -- ---- the edge that the last operation of a piece takes, or the first node of one without operations
 

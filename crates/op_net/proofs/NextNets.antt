@@ -1,7 +1,6 @@
 -- What is told of a net after a part of a firing, said of the net before it, which is the same.
 use Rattle.std.proofs.Common.{◌≡◌, ◌<◌, ℕ, true, None, Option, ap, ◌∙◌, subst, sym}
 use Rattle.std.specs.List.{list_all}
-use Rattle.cfg_build.specs.Passes.{out}
 use Rattle.f77_tree.specs.Execution.{Memory}
 use Rattle.firing.specs.Control.{steered}
 use Rattle.firing.specs.declared.system.NodeName.TheVariants.{Op}
@@ -17,11 +16,10 @@ use Rattle.op_net.proofs.FiringParts.{IsReadyOperation, ready_operation, taken_e
 use Rattle.op_net.proofs.NodeNames.{IsOperationAt, operation_at_node}
 
 module _ {x1 x0 : OperationNet} (same : x1 ≡ x0) where
-  pub place_told : (c1 c0 new : Option Control) (k piece choice : ℕ) → c1 ≡ c0 → ((m : OperationTokens) → LeadsBy x1 m k (out (graph_in x1.net) piece choice) → new ≡ steered (operation_course x1) m c1 k)
-      → (m : OperationTokens) → LeadsBy x0 m k (out (graph_in x0.net) piece choice) → new ≡ steered (operation_course x0) m c0 k
-  place_told c1 c0 new k piece choice control tells =
-      subst (λ (x : OperationNet). (m : OperationTokens) → LeadsBy x m k (out (graph_in x.net) piece choice) → new ≡ steered (operation_course x) m c0 k) same
-      (subst (λ (c : Option Control). (m : OperationTokens) → LeadsBy x1 m k (out (graph_in x1.net) piece choice) → new ≡ steered (operation_course x1) m c k) control tells)
+  pub place_told : (c1 c0 new : Option Control) (k edge : ℕ) → c1 ≡ c0 → ((m : OperationTokens) → LeadsBy x1 m k edge → new ≡ steered (operation_course x1) m c1 k) → (m : OperationTokens) → LeadsBy x0 m k edge → new ≡ steered (operation_course x0) m c0 k
+  place_told c1 c0 new k edge control tells =
+      subst (λ (x : OperationNet). (m : OperationTokens) → LeadsBy x m k edge → new ≡ steered (operation_course x) m c0 k) same
+      (subst (λ (c : Option Control). (m : OperationTokens) → LeadsBy x1 m k edge → new ≡ steered (operation_course x1) m c k) control tells)
 
   pub marking_told : (after : OperationNet → OperationTokens → OperationTokens) (new m1 m0 : OperationTokens) → new ≡ after x1 m1 → m1 ≡ m0 → new ≡ after x0 m0
   marking_told after new m1 m0 is marking = is ∙ ap (λ (x : OperationNet). after x m1) same ∙ ap (after x0) marking

@@ -60,6 +60,7 @@ module _ (x : OperationNet) (piece i : ℕ) where
       gives = is.gives;
       decides = is.decides;
       serial = is.serial;
+      edge = is.edge;
       taker = is.taker;
       lines = ap (map line_of) hops_are ∙ lines_linked s row.hops.items ∙ is.lines;
       hops = subst (All (IsHop x piece i)) (sym hops_are) each;

@@ -5,7 +5,9 @@ use Rattle.std.proofs.lemmas.Bool.{cases_lt}
 use Rattle.std.proofs.lemmas.List.{get_or-map, get_or_past, length-map}
 use Rattle.std.proofs.lemmas.List.Elements.{All-filter}
 use Rattle.std.proofs.lemmas.List.FromFn.{get_or-range_with_len, length-range_with_len}
+use Rattle.cfg_build.specs.Passes.{out}
 use Rattle.f77_meaning.specs.Room.{most_room}
+use Rattle.net_board.specs.Nodes.{graph_in}
 use Rattle.op_board.specs.Operations as board
 use Rattle.op_board.specs.OperationNets.{OperationNet, needed, operation_at, operation_count}
 use Rattle.operation_effects.specs.Tasks.{CanPerform, IsTaskOf, TakesOperands}
@@ -53,10 +55,10 @@ module _ (x : OperationNet) (piece i : ℕ) where
   module _ (op : Operation) (op_is : operation_at x piece i ≡ operation_seen op) (row : Row) where
     pub row_made : IsTaskOf x.net.program.names (work_seen op.work) row.task → CanPerform x.net.program row.task → ((count : ℕ) → HasOperands (work_seen op.work) count → TakesOperands row.task count)
         → OperationFits x.net.program (operation_at x piece i) → work_room (operation_at x piece i).work ≤ most_room x.net.program.execs
-        → row.operands.items ≡ op.operands.items → row.gives ≡ board.gives_value (work_seen op.work) → row.decides ≡ board.is_decision (work_seen op.work) → row.serial ≡ x.needs piece i 0
+        → row.operands.items ≡ op.operands.items → row.gives ≡ board.gives_value (work_seen op.work) → row.decides ≡ board.is_decision (work_seen op.work) → row.serial ≡ x.needs piece i 0 → row.edge ≡ out (graph_in x.net) piece 0
         → (board.gives_value (operation_at x piece i).work ≡ true → IsTaker x piece i row.taker) → map line_of row.hops.items ≡ needed x piece i → All (IsCountedHop x piece i) row.hops.items
         → IsRowWith (IsCountedHop x piece i) x piece i row
-    row_made is_task can takes fits room operands gives decides serial taker lines hops =
+    row_made is_task can takes fits room operands gives decides serial edge taker lines hops =
         let task : IsTaskOf x.net.program.names (operation_at x piece i).work row.task = subst (λ (o : board.Operation). IsTaskOf x.net.program.names o.work row.task) (sym op_is) is_task in
         let given : row.gives ≡ board.gives_value (operation_at x piece i).work = gives ∙ sym (ap (λ (o : board.Operation). board.gives_value o.work) op_is) in
         let has : HasOperands (work_seen op.work) (length (map operand_seen op.operands.items)) = subst (λ (o : board.Operation). HasOperands o.work (length o.operands)) op_is fits.1 in
@@ -69,6 +71,7 @@ module _ (x : OperationNet) (piece i : ℕ) where
           gives = given;
           decides = decides ∙ sym (ap (λ (o : board.Operation). board.is_decision o.work) op_is);
           serial = serial;
+          edge = edge;
           taker = λ yes'. taker (sym given ∙ yes');
           lines = lines;
           hops = hops;

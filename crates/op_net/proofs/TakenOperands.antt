@@ -1,5 +1,5 @@
 -- The operands of an operation are taken, one after another.
-use Rattle.std.proofs.Common.{◌≡◌, ◌<◌, ◌≤◌, ℕ, ℤ, zero, suc, ◌+◌, true, List, [], ◌∷◌, length, get_or, fold, drop, Option, None, is_some, slice_get, refl, sym, ap, ◌∙◌, subst, inl, inr, arith}
+use Rattle.std.proofs.Common.{◌≡◌, ◌<◌, ◌≤◌, ℕ, ℤ, zero, suc, ◌+◌, true, List, [], ◌∷◌, length, map, get_or, fold, drop, pos, unwrap_or, Option, None, is_some, slice_get, refl, sym, ap, ◌∙◌, subst, inl, inr, arith}
 use Rattle.std.specs.List.{list_all}
 use Rattle.dep_routing.specs.Touches.{exec_kind}
 use Rattle.list_laws.specs.Member.{Member}
@@ -7,7 +7,7 @@ use Rattle.net_board.specs.Nodes.{graph_in, kind_in}
 use Rattle.net_board.proofs.ListPlaces.{get_set_other, length_slice_set, same_tests}
 use Rattle.op_board.specs.OperationLists.{takes_by}
 use Rattle.op_board.specs.OperationNets.{OperationNet, first_operation, operation_at, operation_count, operations_at}
-use Rattle.op_board.specs.OperationTokens.{OperationTokens, givers, is_given, replaced, value_at, value_of}
+use Rattle.op_board.specs.OperationTokens.{OperationTokens, givers, is_given, operand_in, replaced, value_at, value_of}
 use Rattle.op_board.specs.Operations.{Operand, Known, From}
 use Rattle.op_board.proofs.OperationsApart.{operation_get}
 use Rattle.op_board.proofs.ValueTaking.{taken_once, takes_by_more, takes_one_same}
@@ -47,21 +47,36 @@ module _ (x : OperationNet) (piece : ℕ) where
   given_same m k (Known z) apart = refl
   given_same m k (From number) apart = ap (λ o. is_some (value_of o)) (get_set_other m.values k (first_operation x piece + number) None (apart number refl))
 
+  -- what is left takes no value that the first of it takes
+  apart : (number : ℕ) (rest : List Operand) → ((other : ℕ) → takes_by (From number ∷ rest) other ≤ 1) → (operand : Operand) (other : ℕ) → Member rest operand → operand ≡ From other → first_operation x piece + number ≡ first_operation x piece + other → ⊥
+  apart number rest once operand other among is same =
+      let same_number : other ≡ number = omega (arith, same) in
+      let there : Member rest (From number) = subst (λ (n : ℕ). Member rest (From n)) same_number (subst (λ (o : Operand). Member rest o) is among) in
+      let some = member_takes rest number there in
+      let one = takes_one_same number (takes_by rest number) in
+      let most = once number in
+      omega (arith, some, one, most)
+
   still_given : (m : OperationTokens) (operand : Operand) (rest : List Operand) → ((number : ℕ) → takes_by (operand ∷ rest) number ≤ 1) → list_all (is_given x m piece) rest ≡ true → list_all (is_given x (operand_taken x piece m operand) piece) rest ≡ true
   still_given m (Known z) rest once given = given
   still_given m (From number) rest once given =
       same_tests (is_given x (value_put m (first_operation x piece + number) None) piece) (is_given x m piece) rest
-      (λ operand among. given_same m (first_operation x piece + number) operand (λ other is same. apart operand other among is same))
+      (λ operand among. given_same m (first_operation x piece + number) operand (λ other is same. apart number rest once operand other among is same))
       ∙ given
-    where
-      apart : (operand : Operand) (other : ℕ) → Member rest operand → operand ≡ From other → first_operation x piece + number ≡ first_operation x piece + other → ⊥
-      apart operand other among is same =
-          let same_number : other ≡ number = omega (arith, same) in
-          let there : Member rest (From number) = subst (λ (n : ℕ). Member rest (From n)) same_number (subst (λ (o : Operand). Member rest o) is among) in
-          let some = member_takes rest number there in
-          let one = takes_one_same number (takes_by rest number) in
-          let most = once number in
-          omega (arith, some, one, most)
+
+  read_same : (m : OperationTokens) (k : ℕ) (operand : Operand) → ((number : ℕ) → operand ≡ From number → k ≡ first_operation x piece + number → ⊥) → operand_in x (value_put m k None) piece operand ≡ operand_in x m piece operand
+  read_same m k (Known z) apart = refl
+  read_same m k (From number) apart = ap (λ (o : Option (Option ℤ)). unwrap_or (value_of o) (pos 0)) (get_set_other m.values k (first_operation x piece + number) None (apart number refl))
+
+  same_reads : (f g : Operand → ℤ) (operands : List Operand) → ((operand : Operand) → Member operands operand → f operand ≡ g operand) → map f operands ≡ map g operands
+  same_reads f g [] same = refl
+  same_reads f g (operand ∷ operands) same = ap (λ z. z ∷ map f operands) (same operand (inl refl)) ∙ ap (λ zs. g operand ∷ zs) (same_reads f g operands (λ other among. same other (inr among)))
+
+  still_read : (m : OperationTokens) (operand : Operand) (rest : List Operand) → ((number : ℕ) → takes_by (operand ∷ rest) number ≤ 1) → map (operand_in x (operand_taken x piece m operand) piece) rest ≡ map (operand_in x m piece) rest
+  still_read m (Known z) rest once = refl
+  still_read m (From number) rest once =
+      same_reads (operand_in x (value_put m (first_operation x piece + number) None) piece) (operand_in x m piece) rest
+      (λ operand among. read_same m (first_operation x piece + number) operand (λ other is same. apart number rest once operand other among is same))
 
   module _ (i : ℕ) (inside : i < operation_count x piece) where
     -- each operand is one of the operation
@@ -84,6 +99,14 @@ module _ (x : OperationNet) (piece : ℕ) where
         let one = once_taken number in
         omega (arith, some, one))
         given
+
+    pub rest_read : (m : OperationTokens) (place : ℕ) (operand : Operand) (rest : List Operand) → drop place (operation_at x piece i).operands ≡ operand ∷ rest → map (operand_in x (operand_taken x piece m operand) piece) rest ≡ map (operand_in x m piece) rest
+    rest_read m place operand rest is =
+        still_read m operand rest
+        (λ number.
+        let some : takes_by (operand ∷ rest) number ≤ takes_by (operation_at x piece i).operands number = subst (λ (os : List Operand). takes_by os number ≤ takes_by (operation_at x piece i).operands number) is (left_takes (operation_at x piece i).operands place number) in
+        let one = once_taken number in
+        omega (arith, some, one))
 
   pub operands_taken : (m : OperationTokens) (i : ℕ) → fold (operand_taken x piece) m (operation_at x piece i).operands ≡ values_taken x m piece i
   operands_taken m i = all_taken m (operation_at x piece i).operands

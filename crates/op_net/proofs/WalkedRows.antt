@@ -6,7 +6,7 @@ use Rattle.std.specs.List.{list_all}
 use Rattle.list_laws.specs.Member.{Member}
 use Rattle.net_board.proofs.ListPlaces.{length_slice_set}
 use Rattle.op_board.specs.OperationNets.{OperationNet, needed, operation_at, operation_count}
-use Rattle.op_board.specs.OperationTokens.{OperationTokens, is_given, stands_before}
+use Rattle.op_board.specs.OperationTokens.{OperationTokens, is_given, operand_in, stands_before}
 use Rattle.op_board.specs.Operations.{Operand}
 use Rattle.op_board.proofs.NeededLines.{needed_has}
 use Rattle.operation_lists.specs.Seen.{operand_seen}
@@ -18,7 +18,7 @@ use Rattle.op_net.specs.declared.hops.Hop.{Hop}
 use Rattle.op_net.specs.declared.rows.Row.{Row}
 use Rattle.op_net.proofs.FoldedLists.{Member-left_at, first_passes, fold_next, left_at, map_next, not_left, rest_passes}
 use Rattle.op_net.proofs.MovedLines.{distinct_needed, moved_length, moved_passed, moved_stand, still_stand}
-use Rattle.op_net.proofs.TakenOperands.{own_operand, rest_given, taken_length}
+use Rattle.op_net.proofs.TakenOperands.{own_operand, rest_given, rest_read, taken_length}
 
 get_or_any : {A : Type 0} (xs : List A) (i : ℕ) (a b : A) → i < length xs → get_or xs i a ≡ get_or xs i b
 get_or_any [] i a b low = absurd (omega (arith, low))
@@ -28,14 +28,14 @@ get_or_any (x ∷ xs) (suc i) a b low = get_or_any xs i a b (omega (arith, low))
 left_get : {A B : Type 0} (f : A → B) (items : List A) (seen : List B) (i : ℕ) (d : A) → map f items ≡ seen → i < length items → drop i seen ≡ f (get_or items i d) ∷ drop (i + 1) seen
 left_get f items seen i d is low = left_at f items seen i (get_or items i d) is low (get_or_any items i d (get_or items i d) low)
 
-pub done_length : {A B : Type 0} (f : A → B) (done : List B) (xs : List A) (i : ℕ) → done ++ map f (drop i xs) ≡ map f xs → i ≤ length xs → length done ≡ i
-done_length f done xs i is low =
+pub read_length : {A B : Type 0} (done : List B) (xs : List A) (i : ℕ) (f whole : A → B) → done ++ map f (drop i xs) ≡ map whole xs → i ≤ length xs → length done ≡ i
+read_length done xs i f whole is low =
     let all = ap length is in
     let both = length-append done (map f (drop i xs)) in
     let left = length-map (drop i xs) f in
-    let whole = length-map xs f in
+    let every = length-map xs whole in
     let rest = length-drop i xs in
-    omega (arith, all, both, left, whole, rest, low)
+    omega (arith, all, both, left, every, rest, low)
 
 module _ (x : OperationNet) (piece i : ℕ) where
   -- ---- operands
@@ -63,6 +63,8 @@ module _ (x : OperationNet) (piece i : ℕ) where
       pub taken : fold (operand_taken x piece) new (drop (j + 1) operands) ≡ goal
       pub given : list_all (is_given x new piece) (drop (j + 1) operands) ≡ true
       pub values : length new.values ≡ length m.values
+      -- what is left is read as before
+      pub read : map (operand_in x new piece) (drop (j + 1) operands) ≡ map (operand_in x m piece) (drop (j + 1) operands)
 
     pub taken_next : (m new goal : OperationTokens) → i < operation_count x piece → new ≡ operand_taken x piece m operand → fold (operand_taken x piece) m (drop j operands) ≡ goal → list_all (is_given x m piece) (drop j operands) ≡ true → IsTakenOn m new goal
     taken_next m new goal inside made so given = record {
@@ -70,6 +72,7 @@ module _ (x : OperationNet) (piece i : ℕ) where
       given = subst (λ (n : OperationTokens). list_all (is_given x n piece) (drop (j + 1) operands) ≡ true) (sym made)
           (rest_given x piece i inside m j operand (drop (j + 1) operands) left_operands (rest_passes (is_given x m piece) (drop j operands) operand (drop (j + 1) operands) left_operands given));
       values = ap (λ (n : OperationTokens). length n.values) made ∙ taken_length x piece m operand;
+      read = ap (λ (n : OperationTokens). map (operand_in x n piece) (drop (j + 1) operands)) made ∙ rest_read x piece i inside m j operand (drop (j + 1) operands) left_operands;
     }
 
   -- ---- lines

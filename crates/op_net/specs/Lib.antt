@@ -19,6 +19,7 @@ pub mod PlacesView
 pub mod StandingChanges
 pub mod PlaceSteps
 pub mod Steering
+pub mod Visits
 pub mod NetView
 pub mod FiringChanges
 pub mod Telling

@@ -1,7 +1,8 @@
 -- What the rows of operations hold.
 use Rattle.std.specs.Prelude.{◌≡◌, ◌<◌, ◌≤◌, ℕ, suc, true, false, List, length, map, All, Option, Some, None, slice_get}
+use Rattle.cfg_build.specs.Passes.{out}
 use Rattle.f77_meaning.specs.Room.{most_room}
-use Rattle.net_board.specs.Nodes.{is_acting, kind_in, touched}
+use Rattle.net_board.specs.Nodes.{graph_in, is_acting, kind_in, touched}
 use Rattle.op_board.specs.Operations.{Operation, gives_value, is_decision}
 use Rattle.op_board.specs.OperationLists.{takes_by}
 use Rattle.op_board.specs.OperationNets.{OperationNet, is_last_at, needed, needing_before, operation_at, operation_count, operation_in}
@@ -57,6 +58,7 @@ pub record IsRowWith (IsHopOf : Hop → Type 0) (x : OperationNet) (piece i : �
   pub gives : row.gives ≡ gives_value (operation_at x piece i).work
   pub decides : row.decides ≡ is_decision (operation_at x piece i).work
   pub serial : row.serial ≡ x.needs piece i 0
+  pub edge : row.edge ≡ out (graph_in x.net) piece 0
   pub taker : row.gives ≡ true → IsTaker x piece i row.taker
   pub lines : map (λ (hop : Hop). hop.line) row.hops.items ≡ needed x piece i
   pub hops : All IsHopOf row.hops.items

@@ -16,3 +16,4 @@ pub record AreOperationTables (x : OperationNet) (t : OperationTables) : Type 0 
   pub pieces : length t.pieces.items ≡ (graph_in x.net).nodes
   pub rows : (piece : ℕ) (rows : PieceRows) → slice_get t.pieces.items piece ≡ Some rows → ∥ AreRows x piece rows ∥₁
   pub most : (piece i : ℕ) → i < operation_count x piece → length (operation_at x piece i).operands ≤ t.most
+  pub fits : t.most < 2 ^ 32

@@ -12,6 +12,7 @@ ghost use Rattle.op_board.specs.OperationNets.{operation_count, operation_node_c
 ghost use Rattle.op_board.specs.OperationTokens.{OperationTokens};
 ghost use Rattle.op_net.specs.BoardView.{operation_net_on};
 ghost use Rattle.op_net.specs.Steering.{LeadsBy};
+ghost use Rattle.op_net.specs.Visits.{IsVisit};
 
 use crate::lookups::OperationBoard;
 use net_board::Control;
@@ -57,36 +58,103 @@ fn moved_on<const W: usize>(board: &OperationBoard<W>, c: Control, edge: u32) ->
     ensures moved { (m : OperationTokens) → (c.fired ≡ operation_count (operation_net_on board.now) c.piece - 1 → decided (operation_net_on board.now) m c.piece c.fired ≡ edge) → result ≡ control_after (operation_net_on board.now) m c }
     ensures placed { IsPlaced (operation_net_on board.now).net result }
 {
-    let leaves = leaves_by(board, c, edge);
-    if stays(board, c) {
-        Control {
-            piece: c.piece,
-            fired: c.fired + 1,
-            leaves,
+    let visit = visit_at(board, c);
+    passed_on(board, visit, edge).control
+}
+
+// ---- visits
+
+/// A place of control, with what is looked up of the nodes of its piece.
+#[derive(Clone, Copy)]
+pub(crate) struct Visit {
+    pub(crate) control: Control,
+    /// The number of the first node of the piece.
+    pub(crate) first: u32,
+    /// How many nodes the piece has.
+    pub(crate) count: u32,
+    /// How many of these are operations.
+    pub(crate) operations: u32,
+}
+
+/// A place, with the nodes of its piece.
+pub(crate) fn visit_at<const W: usize>(board: &OperationBoard<W>, c: Control) -> Visit
+    requires placed { IsPlaced (operation_net_on board.now).net c }
+    ensures visit { IsVisit (operation_net_on board.now) result }
+    ensures place { result.control ≡ c }
+{
+    Visit {
+        control: c,
+        first: board.first(c.piece),
+        count: board.count(c.piece),
+        operations: board.operations(c.piece),
+    }
+}
+
+/// The node that is due.
+pub(crate) fn due_in<const W: usize>(board: &OperationBoard<W>, visit: Visit) -> Option<u32>
+    requires visit { IsVisit (operation_net_on board.now) visit }
+    ensures { result ≡ due_operation (operation_net_on board.now) visit.control }
+{
+    if visit.control.fired < visit.count {
+        Some(visit.first + visit.control.fired)
+    } else {
+        None
+    }
+}
+
+/// The visit to which the node that is due leads, where it takes this edge if it is the last operation of its piece, or the first node
+/// where the piece has none.
+pub(crate) fn passed_on<const W: usize>(board: &OperationBoard<W>, visit: Visit, edge: u32) -> Visit
+    requires visit { IsVisit (operation_net_on board.now) visit }
+    requires due { visit.control.fired < operation_node_count (operation_net_on board.now) visit.control.piece }
+    requires edge { edge < edge_count (graph_in (operation_net_on board.now).net) }
+    ensures moved { (m : OperationTokens) → (visit.control.fired ≡ operation_count (operation_net_on board.now) visit.control.piece - 1 → decided (operation_net_on board.now) m visit.control.piece visit.control.fired ≡ edge) → result.control ≡ control_after (operation_net_on board.now) m visit.control }
+    ensures visit { IsVisit (operation_net_on board.now) result }
+{
+    let leaves = leaves_by(board, visit, edge);
+    if stays(board, visit) {
+        Visit {
+            control: Control {
+                piece: visit.control.piece,
+                fired: visit.control.fired + 1,
+                leaves,
+            },
+            first: visit.first,
+            count: visit.count,
+            operations: visit.operations,
         }
     } else {
-        Control {
-            piece: board.plan.board.arrival(leaves),
-            fired: 0,
-            leaves: 0,
-        }
+        let piece = board.plan.board.arrival(leaves);
+        visit_at(
+            board,
+            Control {
+                piece,
+                fired: 0,
+                leaves: 0,
+            },
+        )
     }
 }
 
 // The edge by which control leaves a piece, whose last operation takes this edge.
-fn leaves_by<const W: usize>(board: &OperationBoard<W>, c: Control, edge: u32) -> u32
-    requires placed { IsPlaced (operation_net_on board.now).net c }
-    ensures { result ≡ (if c.fired == operation_count (operation_net_on board.now) c.piece - 1 then edge else c.leaves) }
+fn leaves_by<const W: usize>(board: &OperationBoard<W>, visit: Visit, edge: u32) -> u32
+    requires visit { IsVisit (operation_net_on board.now) visit }
+    ensures { result ≡ (if visit.control.fired == operation_count (operation_net_on board.now) visit.control.piece - 1 then edge else visit.control.leaves) }
 {
-    let last = board.operations(c.piece).saturating_sub(1);
-    if c.fired == last { edge } else { c.leaves }
+    let last = visit.operations.saturating_sub(1);
+    if visit.control.fired == last {
+        edge
+    } else {
+        visit.control.leaves
+    }
 }
 
 // Whether control is at the same piece once the node that is due has fired.
-fn stays<const W: usize>(board: &OperationBoard<W>, c: Control) -> bool
-    requires placed { IsPlaced (operation_net_on board.now).net c }
-    requires due { c.fired < operation_node_count (operation_net_on board.now) c.piece }
-    ensures { result ≡ (nat_lt (suc c.fired) (operation_node_count (operation_net_on board.now) c.piece) || is_end (kind_in (operation_net_on board.now).net c.piece)) }
+fn stays<const W: usize>(board: &OperationBoard<W>, visit: Visit) -> bool
+    requires visit { IsVisit (operation_net_on board.now) visit }
+    requires due { visit.control.fired < operation_node_count (operation_net_on board.now) visit.control.piece }
+    ensures { result ≡ (nat_lt (suc visit.control.fired) (operation_node_count (operation_net_on board.now) visit.control.piece) || is_end (kind_in (operation_net_on board.now).net visit.control.piece)) }
 {
-    c.fired + 1 < board.count(c.piece) || is_end(board.plan.board.plan.flow.piece(c.piece).kind)
+    let piece = visit.control.piece;
+    visit.control.fired + 1 < visit.count || is_end(board.plan.board.plan.flow.piece(piece).kind)
 }

@@ -107,7 +107,7 @@ impl<'a, const W: usize> OperationBoard<'a, W> {
     }
 
     /// The edge that leaves a piece and has this number among those, or the first edge of the graph where none has it.
-    pub(crate) fn out(&self, piece: u32, choice: u32) -> u32
+    pub(crate) fn out_edge(&self, piece: u32, choice: u32) -> u32
         requires { piece < (graph_in (operation_net_on self.now).net).nodes }
         ensures edge { result ≡ out (graph_in (operation_net_on self.now).net) piece choice }
         ensures exists { result < edge_count (graph_in (operation_net_on self.now).net) }

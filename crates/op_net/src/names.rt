@@ -43,7 +43,7 @@ pub(crate) fn numbered_nodes<const W: usize>(
 }
 
 /// The count as a number of 32 bits, unless it is too great.
-fn number_of(count: usize) -> Result<u32, NoMemory>
+pub(crate) fn number_of(count: usize) -> Result<u32, NoMemory>
     ensures { IfOk result (λ number. number ≡ count) }
 {
     if count <= u32::MAX as usize {

@@ -1,7 +1,7 @@
 //! The net of a program with operations as nodes as a step system, with the program's own order.
 
 use crate::OpNet;
-use crate::control_moves::due_at;
+use crate::control_moves::{due_at, due_in, steered, visit_at};
 use crate::waiting::waits;
 use firing::{Fired, NodeName, SourceOrder, StepSystem};
 use op_table::Trap;
@@ -62,7 +62,9 @@ impl<const W: usize> StepSystem for OpNet<'_, W> {
     }
 
     fn fire(&mut self, k: u32) -> Fired {
-        self.fire_node(k)
+        let (fired, edge) = self.fire_node(k);
+        self.control = steered(&self.board, self.control, k, edge);
+        fired
     }
 
     fn line(&self) -> &[u8] {
@@ -97,19 +99,23 @@ impl<const W: usize> SourceOrder for OpNet<'_, W> {
     }
 
     fn fire_due(&mut self, most: u64) -> (u64, Fired) {
-        let Some(first) = self.due() else {
+        let Some(control) = self.control else {
             return (0, Fired::Moved);
         };
-        let mut fired = self.fire_node(first);
+        let mut visit = visit_at(&self.board, control);
+        let Some(first) = due_in(&self.board, visit) else {
+            return (0, Fired::Moved);
+        };
+        let mut fired = self.fire_visited(&mut visit, first);
         let mut made: u64 = 1;
         'more: while made < most {
             let Fired::Moved = fired else {
                 break;
             };
-            let Some(k) = self.due() else {
+            let Some(k) = due_in(&self.board, visit) else {
                 break;
             };
-            fired = self.fire_node(k);
+            fired = self.fire_visited(&mut visit, k);
             made += 1;
         }
         (made, fired)

@@ -2,6 +2,7 @@
 
 ghost use Rattle.std.specs.Prelude.{◌≡◌, ◌<◌, ◌≤◌, ◌+◌, ◌++◌, [], ◌∷◌, ℕ, None, Some, length, map, true, vec_capacity, vec_len};
 ghost use Rattle.closed_walks.specs.Graph.{edge_count};
+ghost use Rattle.cfg_build.specs.Passes.{out};
 ghost use Rattle.net_board.specs.Nodes.{graph_in, switches};
 ghost use Rattle.net_board.specs.Tokens.{edge_of, led_from, with_all};
 ghost use Rattle.op_board.specs.Operations.{is_decision};
@@ -10,7 +11,7 @@ ghost use Rattle.op_board.specs.OperationTokens.{are_clear, is_given, operand_in
 ghost use Rattle.std.specs.List.{list_all};
 ghost use Rattle.operation_lists.specs.Seen.{operand_seen};
 ghost use Rattle.op_net.specs.BoardView.{operation_net_on};
-ghost use Rattle.op_net.specs.OperationRows.{IsHop};
+ghost use Rattle.op_net.specs.OperationRows.{IsHop, IsRow};
 ghost use Rattle.op_net.specs.PlaceSteps.{IsOwnOperand, line_moved, operand_taken};
 ghost use Rattle.op_net.specs.PlacesView.{IsCounted, KeepsCounts, line_put, standing};
 ghost use Rattle.op_net.specs.SoundPlaces.{ArePlaces};
@@ -20,29 +21,9 @@ ghost use Rattle.op_net.specs.Waits.{IsNodeBefore, node_total};
 use crate::hops::Hop;
 use crate::lookups::OperationBoard;
 use crate::places::Places;
+use crate::rows::Row;
 use crate::standing::node_before;
 use operation_lists::Operand;
-
-/// Reads the values of the operands of an operation, whose piece has this first node.
-pub(crate) fn read_operands<const W: usize>(
-    board: &OperationBoard<W>,
-    places: &Places,
-    piece: u32,
-    i: u32,
-    args: &mut Vec<i32>,
-)
-    requires piece { piece < (graph_in (operation_net_on board.now).net).nodes }
-    requires operation { i < operation_count (operation_net_on board.now) piece }
-    requires places { ArePlaces (operation_net_on board.now) places.now }
-    requires room { board.now.tables.most ≤ vec_capacity args.old }
-    ensures args { args.new.items ≡ map (operand_in (operation_net_on board.now) (standing places.now) piece) (operation_at (operation_net_on board.now) piece i).operands }
-    ensures capacity { vec_capacity args.old ≤ vec_capacity args.new }
-{
-    args.clear();
-    for operand in board.row(piece, i).operands.as_slice() {
-        push_argument(args, operand_value(board, places, piece, i, *operand));
-    }
-}
 
 // Appends a value for which there is room.
 fn push_argument(args: &mut Vec<i32>, z: i32)
@@ -53,46 +34,33 @@ fn push_argument(args: &mut Vec<i32>, z: i32)
     let _pushed = args.push(z);
 }
 
-// The value of an operand.
-fn operand_value<const W: usize>(
-    board: &OperationBoard<W>,
-    places: &Places,
-    piece: u32,
-    i: u32,
-    operand: Operand,
-) -> i32
-    requires piece { piece < (graph_in (operation_net_on board.now).net).nodes }
-    requires operation { i < operation_count (operation_net_on board.now) piece }
-    requires places { ArePlaces (operation_net_on board.now) places.now }
-    requires own { IsOwnOperand (operation_net_on board.now) piece i (operand_seen operand) }
-    ensures { result ≡ operand_in (operation_net_on board.now) (standing places.now) piece (operand_seen operand) }
-{
-    match operand {
-        Operand::Known(z) => z,
-        Operand::Node(number) => {
-            places.values[(board.first(piece) + number) as usize].unwrap_or(0)
-        }
-    }
-}
-
 /// Takes the values of the operands of an operation.
 pub(crate) fn take_operands<const W: usize>(
     board: &OperationBoard<W>,
     places: &mut Places,
     piece: u32,
     i: u32,
+    row: &Row,
+    args: &mut Vec<i32>,
 )
     requires piece { piece < (graph_in (operation_net_on board.now).net).nodes }
     requires operation { i < operation_count (operation_net_on board.now) piece }
+    requires row { ∥ IsRow (operation_net_on board.now) piece i row.now ∥₁ }
     requires places { ArePlaces (operation_net_on board.now) places.old }
     requires counted { IsCounted (operation_net_on board.now) places.old }
     requires given { list_all (is_given (operation_net_on board.now) (standing places.old) piece) (operation_at (operation_net_on board.now) piece i).operands ≡ true }
+    requires room { board.now.tables.most ≤ vec_capacity args.old }
+    ensures args { args.new.items ≡ map (operand_in (operation_net_on board.now) (standing places.old) piece) (operation_at (operation_net_on board.now) piece i).operands }
+    ensures capacity { vec_capacity args.old ≤ vec_capacity args.new }
     ensures standing { standing places.new ≡ values_taken (operation_net_on board.now) (standing places.old) piece i }
     ensures counted { IsCounted (operation_net_on board.now) places.new }
     ensures kept { KeepsCounts places.old places.new }
 {
-    for operand in board.row(piece, i).operands.as_slice() {
-        take_operand(board, places, piece, i, *operand);
+    let first = board.first(piece);
+    args.clear();
+    for operand in row.operands.as_slice() {
+        let z = take_operand(board, places, piece, i, first, *operand);
+        push_argument(args, z);
     }
 }
 
@@ -102,22 +70,50 @@ fn take_operand<const W: usize>(
     places: &mut Places,
     piece: u32,
     i: u32,
+    first: u32,
     operand: Operand,
-)
+) -> i32
     requires piece { piece < (graph_in (operation_net_on board.now).net).nodes }
     requires operation { i < operation_count (operation_net_on board.now) piece }
+    requires first { first ≡ first_operation (operation_net_on board.now) piece }
     requires values { length places.old.values.items ≡ node_total (operation_net_on board.now) }
     requires marks { length places.old.set ≡ node_total (operation_net_on board.now) }
     requires counted { IsCounted (operation_net_on board.now) places.old }
     requires own { IsOwnOperand (operation_net_on board.now) piece i (operand_seen operand) }
     requires given { is_given (operation_net_on board.now) (standing places.old) piece (operand_seen operand) ≡ true }
+    ensures value { result ≡ operand_in (operation_net_on board.now) (standing places.old) piece (operand_seen operand) }
     ensures standing { standing places.new ≡ operand_taken (operation_net_on board.now) piece (standing places.old) (operand_seen operand) }
     ensures counted { IsCounted (operation_net_on board.now) places.new }
     ensures kept { KeepsCounts places.old places.new }
 {
-    if let Operand::Node(number) = operand {
-        let first = board.first(piece);
-        places.take(board, first + number, first + i);
+    match operand {
+        Operand::Known(z) => z,
+        Operand::Node(number) => {
+            let giver = first + number;
+            let z = places.values[giver as usize].unwrap_or(0);
+            places.take(board, giver, first + i);
+            z
+        }
+    }
+}
+
+/// The edge that leaves a piece and has this number among those, or the first edge of the graph where none has it.
+pub(crate) fn chosen_edge<const W: usize>(
+    board: &OperationBoard<W>,
+    piece: u32,
+    i: u32,
+    row: &Row,
+    choice: u32,
+) -> u32
+    requires piece { piece < (graph_in (operation_net_on board.now).net).nodes }
+    requires row { ∥ IsRow (operation_net_on board.now) piece i row.now ∥₁ }
+    ensures edge { result ≡ out (graph_in (operation_net_on board.now).net) piece choice }
+    ensures exists { result < edge_count (graph_in (operation_net_on board.now).net) }
+{
+    if choice == 0 {
+        row.edge
+    } else {
+        board.out_edge(piece, choice)
     }
 }
 
@@ -127,10 +123,12 @@ pub(crate) fn move_lines<const W: usize>(
     places: &mut Places,
     piece: u32,
     i: u32,
+    row: &Row,
     edge: u32,
 )
     requires piece { piece < (graph_in (operation_net_on board.now).net).nodes }
     requires operation { i < operation_count (operation_net_on board.now) piece }
+    requires row { ∥ IsRow (operation_net_on board.now) piece i row.now ∥₁ }
     requires edge { edge < edge_count (graph_in (operation_net_on board.now).net) }
     requires places { ArePlaces (operation_net_on board.now) places.old }
     requires counted { IsCounted (operation_net_on board.now) places.old }
@@ -139,8 +137,9 @@ pub(crate) fn move_lines<const W: usize>(
     ensures counted { IsCounted (operation_net_on board.now) places.new }
     ensures kept { KeepsCounts places.old places.new }
 {
-    for hop in &board.row(piece, i).hops {
-        move_line(board, places, piece, i, *hop, edge);
+    let first = board.first(piece);
+    for hop in &row.hops {
+        move_line(board, places, piece, i, first, *hop, edge);
     }
 }
 
@@ -150,11 +149,13 @@ fn move_line<const W: usize>(
     places: &mut Places,
     piece: u32,
     i: u32,
+    first: u32,
     hop: Hop,
     edge: u32,
 )
     requires piece { piece < (graph_in (operation_net_on board.now).net).nodes }
     requires operation { i < operation_count (operation_net_on board.now) piece }
+    requires first { first ≡ first_operation (operation_net_on board.now) piece }
     requires edge { edge < edge_count (graph_in (operation_net_on board.now).net) }
     requires lines { length places.old.lines.items ≡ (operation_net_on board.now).net.routing.lines }
     requires passed { length places.old.passed.items ≡ (operation_net_on board.now).net.routing.lines }
@@ -167,7 +168,6 @@ fn move_line<const W: usize>(
     ensures counted { IsCounted (operation_net_on board.now) places.new }
     ensures kept { KeepsCounts places.old places.new }
 {
-    let first = board.first(piece);
     match hop.next {
         Some(n) => {
             let old = places.lines[hop.line as usize];

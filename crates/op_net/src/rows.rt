@@ -34,6 +34,8 @@ pub(crate) struct Row<'a> {
     pub(crate) decides: bool,
     /// Whether it needs the line of output.
     pub(crate) serial: bool,
+    /// The first of the edges that leave the piece.
+    pub(crate) edge: u32,
 }
 
 /// The operations of a piece, and for each line that it touches the first one that needs it.
@@ -142,5 +144,6 @@ fn unlinked_row<'a, const W: usize>(
         gives: gives_value(&operation.work),
         decides: is_decision(&operation.work),
         serial: needs.holds(0),
+        edge: plan.board.first_out(piece),
     })
 }

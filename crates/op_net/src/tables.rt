@@ -8,7 +8,7 @@ ghost use Rattle.op_net.specs.PieceTables.{AreAllRows};
 ghost use Rattle.op_net.specs.PlanView.{operations_in};
 
 use crate::hops::make_scratch;
-use crate::names::numbered_nodes;
+use crate::names::{number_of, numbered_nodes};
 use crate::plan::OperationPlan;
 use crate::rows::{PieceRows, make_rows};
 use df_sequence::NoMemory;
@@ -25,11 +25,11 @@ pub(crate) struct OperationTables<'a> {
     pub(crate) firsts: Vec<u32>,
     /// For each piece its operations.
     pub(crate) pieces: Vec<PieceRows<'a>>,
-    /// No operation has more operands than this.
+    /// No operation has more operands than this, which can be numbered.
     pub(crate) most: usize,
 }
 
-/// The tables of a net of operations. More nodes than can be numbered are allocation failure.
+/// The tables of a net of operations. More nodes than can be numbered, or operands of an operation, are allocation failure.
 pub(crate) fn make_tables<'a, const W: usize>(
     alloc: Global,
     plan: &OperationPlan<'a, W>,
@@ -38,12 +38,12 @@ pub(crate) fn make_tables<'a, const W: usize>(
 {
     let nodes = numbered_nodes(alloc, plan)?;
     let pieces = all_rows(alloc, plan)?;
-    let most = most_operands(plan);
+    let most = number_of(most_operands(plan))?;
     Ok(OperationTables {
         names: nodes.names,
         firsts: nodes.firsts,
         pieces,
-        most,
+        most: most as usize,
     })
 }
 

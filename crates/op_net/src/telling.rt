@@ -107,24 +107,24 @@ impl<'a, const W: usize> OpNet<'a, W> {
     }
 
     /// How many operands an operation has.
-    pub fn operands(&self, k: u32) -> usize
+    pub fn operands(&self, k: u32) -> u32
         requires node { k < node_total (net_of self.now) }
         requires operation { IsOperation (operation_node (net_of self.now) k) }
         ensures { result ≡ length (operation_at (net_of self.now) (piece_of (operation_node (net_of self.now) k)) (number_of (operation_node (net_of self.now) k))).operands }
     {
         let (piece, number) = self.operation(k);
-        self.board.row(piece, number).operands.len()
+        self.board.row(piece, number).operands.len() as u32
     }
 
     /// An operand of an operation, counted from 0: the node that gives it, or its known value.
-    pub fn operand(&self, k: u32, i: usize) -> Operand
+    pub fn operand(&self, k: u32, i: u32) -> Operand
         requires node { k < node_total (net_of self.now) }
         requires operation { IsOperation (operation_node (net_of self.now) k) }
         requires inside { i < length (operation_at (net_of self.now) (piece_of (operation_node (net_of self.now) k)) (number_of (operation_node (net_of self.now) k))).operands }
         ensures { Some result ≡ slice_get (node_operands (net_of self.now) (piece_of (operation_node (net_of self.now) k)) (number_of (operation_node (net_of self.now) k))) i }
     {
         let (piece, number) = self.operation(k);
-        let operand = operand_at(&self.board.row(piece, number).operands, i);
+        let operand = operand_at(&self.board.row(piece, number).operands, i as usize);
         match operand {
             Operand::Known(_) => operand,
             Operand::Node(giver) => Operand::Node(self.board.first(piece) + giver),

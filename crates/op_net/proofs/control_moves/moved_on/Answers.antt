@@ -1,14 +1,19 @@
-use Rattle.std.proofs.Common.{sym, ◌∙◌, arith}
+use Rattle.std.proofs.Common.{◌≡◌, ◌<◌, ◌-◌, sym, subst, arith}
+use Rattle.net_board.specs.declared.control.Control.{Control}
+use Rattle.op_board.specs.OperationCourse.{control_after, decided}
+use Rattle.op_board.specs.OperationNets.{operation_count, operation_node_count}
 use Rattle.op_net.specs.BoardView.{operation_net_on}
-use Rattle.op_net.proofs.OperationRanges.{nodes_within}
-use Rattle.op_net.proofs.ControlMoveLemmas.{leaves_are, moved_unless}
 use Rattle.op_net.proofs.control_moves.moved_on.Goals as goal
 
-pub overflow_add-result : goal.overflow_add-result
-overflow_add-result g c =
-    let within = nodes_within (operation_net_on c.args.board.now) c.args.c.piece c.requires.placed.piece in
-    omega (arith, within, c.args.board.now.own_tables.few, c.requires.due)
+pub passed_on-requires : goal.passed_on-requires
+passed_on-requires g c =
+    let x = operation_net_on c.args.board.now in
+    (omega arith, (c.visit_at-visit.ensures.visit, (subst (λ (d : Control). d.fired < operation_node_count x d.piece) (sym c.visit_at-visit.ensures.place) c.requires.due, c.requires.edge)))
 
-pub returns-else-stays-clause-moved : goal.returns-else-stays-clause-moved
-returns-else-stays-clause-moved g c = λ m takes.
-    moved_unless (operation_net_on c.args.board.now) m c.args.c c.leaves_by-leaves.result c.arrival.result (leaves_are (operation_net_on c.args.board.now) m c.args.c c.args.edge c.leaves_by-leaves.result c.leaves_by-leaves.ensures takes) c.arrival.ensures.piece (sym c.stays.ensures ∙ c.if-stays.false)
+pub returns-clause-moved : goal.returns-clause-moved
+returns-clause-moved g c = λ m.
+    let x = operation_net_on c.args.board.now in
+    subst (λ (d : Control). (d.fired ≡ operation_count x d.piece - 1 → decided x m d.piece d.fired ≡ c.args.edge) → c.passed_on.result.control ≡ control_after x m d) c.visit_at-visit.ensures.place (c.passed_on.ensures.moved m)
+
+pub returns-clause-placed : goal.returns-clause-placed
+returns-clause-placed g c = c.passed_on.ensures.visit.placed

@@ -23,7 +23,7 @@ overflow_add-hop g c =
 
 pub overflow_add-first : goal.overflow_add-first
 overflow_add-first g c =
-    let below = own_node (operation_net_on c.args.board.now) c.args.piece c.args.i c.first-first.result c.requires.piece c.requires.operation c.first-first.ensures in
+    let below = own_node (operation_net_on c.args.board.now) c.args.piece c.args.i c.args.first c.requires.piece c.requires.operation c.requires.first in
     let few = c.args.board.now.own_tables.few in
     record { fits = omega (arith, below, few) }
 
@@ -31,13 +31,13 @@ pub overflow_add-first-in-Some : goal.overflow_add-first-in-Some
 overflow_add-first-in-Some g c =
     let x = operation_net_on c.args.board.now in
     let next = hop_next x c.args.piece c.args.i c.args.hop c.requires.hop c.in-Some.n c.in-Some.is in
-    let below = own_node x c.args.piece c.in-Some.n c.first-first.result c.requires.piece next.inside c.first-first.ensures in
+    let below = own_node x c.args.piece c.in-Some.n c.args.first c.requires.piece next.inside c.requires.first in
     let few = c.args.board.now.own_tables.few in
     record { fits = omega (arith, below, few) }
 
 pub overflow_add-first-in-None : goal.overflow_add-first-in-None
 overflow_add-first-in-None g c =
-    let below = own_node (operation_net_on c.args.board.now) c.args.piece c.args.i c.first-first.result c.requires.piece c.requires.operation c.first-first.ensures in
+    let below = own_node (operation_net_on c.args.board.now) c.args.piece c.args.i c.args.first c.requires.piece c.requires.operation c.requires.first in
     let few = c.args.board.now.own_tables.few in
     record { fits = omega (arith, below, few) }
 
@@ -60,14 +60,14 @@ put_line-requires g c =
           (
             omega (arith, exists, passed),
             (
-              own_node x c.args.piece c.args.i c.first-first.result c.requires.piece c.requires.operation c.first-first.ensures,
+              own_node x c.args.piece c.args.i c.args.first c.requires.piece c.requires.operation c.requires.first,
               (
                 c.requires.marks,
                 (
                   c.requires.counted,
                   (
-                    (λ counted. before_here x facts c.args.piece c.args.i hop.line m c.requires.piece c.requires.operation c.requires.needs c.requires.stands c.first-first.result c.first-first.ensures),
-                    (λ counted. before_next x facts c.args.piece c.args.i hop.line m c.requires.piece c.requires.operation c.requires.needs c.requires.stands c.first-first.result c.in-Some.n (hop.before + 1) c.index-old.result.now c.first-first.ensures next at (add-one hop.before ∙ ap suc (hop_before x c.args.piece c.args.i hop c.requires.hop))),
+                    (λ counted. before_here x facts c.args.piece c.args.i hop.line m c.requires.piece c.requires.operation c.requires.needs c.requires.stands c.args.first c.requires.first),
+                    (λ counted. before_next x facts c.args.piece c.args.i hop.line m c.requires.piece c.requires.operation c.requires.needs c.requires.stands c.args.first c.in-Some.n (hop.before + 1) c.index-old.result.now c.requires.first next at (add-one hop.before ∙ ap suc (hop_before x c.args.piece c.args.i hop c.requires.hop))),
                   ),
                 ),
               ),
@@ -94,10 +94,10 @@ lead_line-requires g c =
               (
                 c.requires.marks,
                 (
-                  own_node x c.args.piece c.args.i c.first-first.result c.requires.piece c.requires.operation c.first-first.ensures,
+                  own_node x c.args.piece c.args.i c.args.first c.requires.piece c.requires.operation c.requires.first,
                   (
                     c.requires.counted,
-                    before_here x c.args.board.now.plan.facts c.args.piece c.args.i hop.line (standing c.args.places.now) c.requires.piece c.requires.operation c.requires.needs c.requires.stands c.first-first.result c.first-first.ensures,
+                    before_here x c.args.board.now.plan.facts c.args.piece c.args.i hop.line (standing c.args.places.now) c.requires.piece c.requires.operation c.requires.needs c.requires.stands c.args.first c.requires.first,
                   ),
                 ),
               ),

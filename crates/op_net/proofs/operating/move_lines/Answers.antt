@@ -27,27 +27,30 @@ move_line-requires g c =
     let x = operation_net_on c.args.board.now in
     let items = c.deref-hop-items.result.now in
     let j = c.loop-hop.hop-index in
-    let seen : map (λ (hop : Hop). hop.line) items ≡ needed x c.args.piece c.args.i = ap (map (λ (hop : Hop). hop.line)) c.deref-hop-items.ensures.value ∙ row_lines x c.args.piece c.args.i c.row.result.now c.row.ensures in (
+    let seen : map (λ (hop : Hop). hop.line) items ≡ needed x c.args.piece c.args.i = ap (map (λ (hop : Hop). hop.line)) c.deref-hop-items.ensures.value ∙ row_lines x c.args.piece c.args.i c.args.row.now c.requires.row in (
       omega arith,
       (
         c.requires.piece,
         (
           c.requires.operation,
           (
-            c.requires.edge,
+            c.first-first.ensures,
             (
-              c.loop-hop.invariant.lines,
+              c.requires.edge,
               (
-                c.loop-hop.invariant.passed,
+                c.loop-hop.invariant.lines,
                 (
-                  c.loop-hop.invariant.kept.marks ∙ c.requires.places.marks,
+                  c.loop-hop.invariant.passed,
                   (
-                    c.loop-hop.invariant.counted,
+                    c.loop-hop.invariant.kept.marks ∙ c.requires.places.marks,
                     (
-                      walked.hop_at x c.args.piece c.args.i c.row.result.now items j _ c.row.ensures c.deref-hop-items.ensures.value c.loop-hop-test.true,
+                      c.loop-hop.invariant.counted,
                       (
-                        walked.line_needs x c.args.piece c.args.i items j _ seen c.loop-hop-test.true,
-                        walked.line_stands x c.args.piece c.args.i items j _ seen c.loop-hop-test.true (standing c.loop-hop.places) c.loop-hop.invariant.stand,
+                        walked.hop_at x c.args.piece c.args.i c.args.row.now items j _ c.requires.row c.deref-hop-items.ensures.value c.loop-hop-test.true,
+                        (
+                          walked.line_needs x c.args.piece c.args.i items j _ seen c.loop-hop-test.true,
+                          walked.line_stands x c.args.piece c.args.i items j _ seen c.loop-hop-test.true (standing c.loop-hop.places) c.loop-hop.invariant.stand,
+                        ),
                       ),
                     ),
                   ),
@@ -64,7 +67,7 @@ loop-hop-preserved g c =
     let x = operation_net_on c.args.board.now in
     let items = c.deref-hop-items.result.now in
     let j = c.loop-hop.hop-index in
-    let seen : map (λ (hop : Hop). hop.line) items ≡ needed x c.args.piece c.args.i = ap (map (λ (hop : Hop). hop.line)) c.deref-hop-items.ensures.value ∙ row_lines x c.args.piece c.args.i c.row.result.now c.row.ensures in
+    let seen : map (λ (hop : Hop). hop.line) items ≡ needed x c.args.piece c.args.i = ap (map (λ (hop : Hop). hop.line)) c.deref-hop-items.ensures.value ∙ row_lines x c.args.piece c.args.i c.args.row.now c.requires.row in
     let r = walked.moved_next x c.args.piece c.args.i items j _ seen c.loop-hop-test.true c.args.edge (standing c.loop-hop.places) (standing c.move_line.new.places) (lines_moved x (standing c.args.places.now) c.args.piece c.args.i c.args.edge) c.move_line.ensures.standing c.loop-hop.invariant.moved c.loop-hop.invariant.stand in
     record {
       moved = r.moved;
@@ -80,5 +83,5 @@ returns-clause-standing g c =
     let x = operation_net_on c.args.board.now in
     let items = c.deref-hop-items.result.now in
     let j = c.loop-hop.hop-index in
-    let seen : map (λ (hop : Hop). hop.line) items ≡ needed x c.args.piece c.args.i = ap (map (λ (hop : Hop). hop.line)) c.deref-hop-items.ensures.value ∙ row_lines x c.args.piece c.args.i c.row.result.now c.row.ensures in
+    let seen : map (λ (hop : Hop). hop.line) items ≡ needed x c.args.piece c.args.i = ap (map (λ (hop : Hop). hop.line)) c.deref-hop-items.ensures.value ∙ row_lines x c.args.piece c.args.i c.args.row.now c.requires.row in
     fold_end (line_moved x c.args.piece c.args.i c.args.edge) (standing c.loop-hop.places) (lines_moved x (standing c.args.places.now) c.args.piece c.args.i c.args.edge) (drop j (needed x c.args.piece c.args.i)) (left_none (λ (hop : Hop). hop.line) items (needed x c.args.piece c.args.i) j seen c.loop-hop-test.false) c.loop-hop.invariant.moved

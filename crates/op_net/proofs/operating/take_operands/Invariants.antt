@@ -1,7 +1,7 @@
-use Rattle.std.proofs.Common.{◌≡◌, true, drop, fold, length}
+use Rattle.std.proofs.Common.{◌≡◌, ◌≤◌, ◌++◌, true, drop, fold, length, map, vec_capacity}
 use Rattle.std.specs.List.{list_all}
 use Rattle.op_board.specs.OperationNets.{operation_at}
-use Rattle.op_board.specs.OperationTokens.{is_given}
+use Rattle.op_board.specs.OperationTokens.{is_given, operand_in}
 use Rattle.op_net.specs.BoardView.{operation_net_on}
 use Rattle.op_net.specs.PlaceSteps.{operand_taken}
 use Rattle.op_net.specs.PlacesView.{IsCounted, KeepsCounts, standing}
@@ -12,8 +12,11 @@ use Rattle.op_net.proofs.operating.take_operands.Given as goal
 abbrev pub invariant-loop-operand : goal.invariant-loop-operand
 invariant-loop-operand g l =
     let x = operation_net_on l.board in
-    let left = drop l.operand-index (operation_at x l.piece l.i).operands in
+    let operands = (operation_at x l.piece l.i).operands in
+    let left = drop l.operand-index operands in
     record {
+      args : l.args.items ++ map (operand_in x (standing l.places) l.piece) left ≡ map (operand_in x (standing l.fn.places) l.piece) operands;
+      room : vec_capacity l.fn.args ≤ vec_capacity l.args;
       taken : fold (operand_taken x l.piece) (standing l.places) left ≡ values_taken x (standing l.fn.places) l.piece l.i;
       given : list_all (is_given x (standing l.places) l.piece) left ≡ true;
       values : length l.places.values.items ≡ node_total x;

@@ -81,13 +81,13 @@ returns-clause-row g c =
     let low : i < length planned.operations.items = omega (arith, all, c.requires.operation) in
     let needs : ◌≡◌ {A = ℕ → Bool} (λ line. x.needs piece i line) (λ line. holds set line) = needs_are plan piece planned c.requires.piece c.index-operations.ensures i set c.requires.operation c.index-needs.ensures in
     let lines : map line_of hops ≡ needed x piece i = lines_needed (map line_of hops) (λ line. x.needs piece i line) (λ line. holds set line) (length c.args.scratch.now.before.items) x.net.routing.lines c.in_ok-hops.ensures.lines c.requires.counted.all.before needs in
-    let row : Row = record { task = c.task_of.result; operands = c.in_ok-operands.operands; hops = c.in_ok-hops.hops; taker = c.args.taker; gives = c.gives_value.result; decides = c.is_decision.result; serial = c.holds.result } in
+    let row : Row = record { task = c.task_of.result; operands = c.in_ok-operands.operands; hops = c.in_ok-hops.hops; taker = c.args.taker; gives = c.gives_value.result; decides = c.is_decision.result; serial = c.holds.result; edge = c.first_out.result } in
     ∥∥₁_elim plan.is_net (hlevel props) (λ (is : IsOperationNet x).
     ∥∥₁_map (plan.own_operations piece planned (found plan piece planned c.requires.piece c.index-operations.ensures)) (λ (own : map operation_seen planned.operations.items ≡ operations_at x piece).
     row_made x piece i op (operation_is plan piece planned c.requires.piece c.index-operations.ensures i op low c.index-operation.ensures own) row
     c.task_of.ensures.task c.task_of.ensures.can c.task_of.ensures.operands
     (c.operations_fit.ensures.fits x piece i is c.requires.operation) (c.operations_fit.ensures.room x piece i is c.requires.piece c.requires.operation)
-    c.in_ok-operands.ensures c.gives_value.ensures c.is_decision.ensures (c.holds.ensures.member ∙ sym (ap (λ (test : ℕ → Bool). test 0) needs))
+    c.in_ok-operands.ensures c.gives_value.ensures c.is_decision.ensures (c.holds.ensures.member ∙ sym (ap (λ (test : ℕ → Bool). test 0) needs)) c.first_out.ensures.edge
     c.requires.taker lines (hops_counted x piece i c.args.scratch.now c.requires.counted hops lines c.in_ok-hops.ensures.before)))
 
 pub returns-clause-counted : goal.returns-clause-counted

@@ -1,8 +1,7 @@
-use Rattle.std.proofs.Common.{ap, subst, sym, arith}
+use Rattle.std.proofs.Common.{ap, arith}
 use Rattle.f77_meaning.specs.Storage.{memory_of}
 use Rattle.op_board.specs.OperationTokens.{OperationTokens}
 use Rattle.op_net.specs.NetView.{marking_of, net_of}
-use Rattle.op_net.specs.Steering.{LeadsBy}
 use Rattle.net_board.specs.Tokens.{edge_of}
 use Rattle.op_board.specs.OperationTokens.{passed_by}
 use Rattle.op_net.proofs.NodesBefore.{one_before}
@@ -22,11 +21,6 @@ pub returns-clause-marking : goal.returns-clause-marking
 returns-clause-marking g c =
     ap (λ (m : OperationTokens). record m { tokens = record m.tokens { memory = memory_of c.args.self.now.storage; trap = c.args.self.now.trapped } }) c.lead_line.ensures.standing
 
-pub returns-clause-place : goal.returns-clause-place
-returns-clause-place g c =
-    let x = net_of c.args.self.now in
-    λ m leads. c.steered-self.ensures.steered m (subst (LeadsBy x m c.args.k) (sym c.out-first.ensures.edge) leads)
-
 pub invariant_of-self : goal.invariant_of-self
 invariant_of-self g c =
     record {
@@ -36,5 +30,5 @@ invariant_of-self g c =
       text_room = c.args.self.now.text_room;
       draft_room = c.args.self.now.draft_room;
       args_room = c.args.self.now.args_room;
-      placed = c.steered-self.ensures.placed;
+      placed = c.args.self.now.placed;
     }

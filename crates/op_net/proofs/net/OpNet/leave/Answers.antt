@@ -21,7 +21,7 @@ fill_room-requires g c =
     let piece = c.args.piece in
     let i = c.args.i in
     let decides : is_decision (operation_at x piece i).work ≡ true = sym (∥∥₁_elim c.row.ensures (hlevel props) (λ (row : IsRow x piece i c.row.result.now). row.decides)) ∙ c.if-row.true in
-    (omega arith, (c.requires.piece, (c.requires.operation, (decides, (c.out-edge.ensures.exists, (c.args.self.now.own_places, (c.args.self.now.counted, room_clear x m piece (operation_at x piece i).work c.requires.room decides)))))))
+    (omega arith, (c.requires.piece, (c.requires.operation, (decides, (c.out_edge-edge.ensures.exists, (c.args.self.now.own_places, (c.args.self.now.counted, room_clear x m piece (operation_at x piece i).work c.requires.room decides)))))))
 
 pub returns-then-row-clause-marking : goal.returns-then-row-clause-marking
 returns-then-row-clause-marking g c =
@@ -31,7 +31,7 @@ returns-then-row-clause-marking g c =
     let i = c.args.i in
     let decides : is_decision (operation_at x piece i).work ≡ true = sym (∥∥₁_elim c.row.ensures (hlevel props) (λ (row : IsRow x piece i c.row.result.now). row.decides)) ∙ c.if-row.true in
     ap (λ (m : OperationTokens). record m { tokens = record m.tokens { memory = memory_of c.args.self.now.storage; trap = c.args.self.now.trapped } }) c.fill_room.ensures.standing
-    ∙ ap (room_filled x m piece) c.out-edge.ensures.edge
+    ∙ ap (room_filled x m piece) c.out_edge-edge.ensures.edge
     ∙ left_if x m piece i (out (graph_in x.net) piece c.args.choice) decides
 
 pub returns-else-row-clause-marking : goal.returns-else-row-clause-marking
@@ -46,7 +46,7 @@ returns-else-row-clause-marking g c =
 pub invariant_of-self : goal.invariant_of-self
 invariant_of-self g c =
     record {
-      own_places = filled_kept c.args.self.now.board c.args.self.now.places c.fill_room.new.places c.args.self.now.own_places c.fill_room.ensures.kept c.args.piece c.out-edge.result c.out-edge.ensures.exists c.fill_room.ensures.standing;
+      own_places = filled_kept c.args.self.now.board c.args.self.now.places c.fill_room.new.places c.args.self.now.own_places c.fill_room.ensures.kept c.args.piece c.out_edge-edge.result c.out_edge-edge.ensures.exists c.fill_room.ensures.standing;
       counted = c.fill_room.ensures.counted;
       «data» = c.args.self.now.data;
       text_room = c.args.self.now.text_room;

@@ -1,4 +1,4 @@
-use Rattle.std.proofs.Common.{◌≡◌, length, sym, ap, ◌∙◌, rules}
+use Rattle.std.proofs.Common.{◌≡◌, length, sym, ap, ◌∙◌, arith, rules}
 use mathlib.Core.Logic.{∥∥₁_elim}
 use Rattle.std.proofs.Props.{props}
 use Rattle.std.proofs.lemmas.List.{length-map}
@@ -9,6 +9,16 @@ use Rattle.op_board.specs.OperationNets.{operation_at}
 use Rattle.op_net.specs.NetView.{net_of}
 use Rattle.op_net.specs.Telling.{number_of, piece_of}
 use Rattle.op_net.proofs.net.OpNet.operands.Goals as goal
+
+pub overflow_cast-result : goal.overflow_cast-result
+overflow_cast-result g c =
+    let x = net_of c.args.self.now in
+    let long : c.len.result ≡ length c.row.result.now.operands.items = search rules in
+    let count : length c.row.result.now.operands.items ≡ length (operation_at x c.operation-piece.result.0 c.operation-piece.result.1).operands = ∥∥₁_elim c.row.ensures (hlevel props) (λ (row : IsRow x c.operation-piece.result.0 c.operation-piece.result.1 c.row.result.now). sym (length-map c.row.result.now.operands.items operand_seen) ∙ ap length row.operands) in
+    let own = c.args.self.now.board.own_tables in
+    let most = own.most c.operation-piece.result.0 c.operation-piece.result.1 c.operation-piece.ensures.inside in
+    let fits = own.fits in
+    omega (arith, long, count, most, fits)
 
 pub returns : goal.returns
 returns g c =

@@ -1,7 +1,10 @@
-use Rattle.std.proofs.Common.{◌≡◌, true, w32, rules, [], Ok, Err, None, refl, sym, ap, subst, ◌∙◌, arith}
+use Rattle.std.proofs.Common.{◌≡◌, ◌<◌, true, w32, rules, [], Ok, Err, None, refl, sym, ap, subst, ◌∙◌, arith}
 use Rattle.std.proofs.lemmas.Int.{to_z-of_z}
 use mir.Val.{SFits}
+use Rattle.closed_walks.specs.Graph.{edge_count}
+use Rattle.cfg_build.specs.Passes.{out}
 use Rattle.f77_meaning.specs.Storage.{memory_of}
+use Rattle.net_board.specs.Nodes.{graph_in}
 use Rattle.op_board.specs.Effects.{gives, tells}
 use Rattle.op_board.specs.OperationCourse.{choice_of}
 use Rattle.op_board.specs.OperationNets.{OperationNet, operation_at}
@@ -11,9 +14,10 @@ use Rattle.operation_effects.specs.declared.performing.Did.{Did}
 use Rattle.operation_effects.specs.Done.{KeepsLine, KeepsStorage, told}
 use Rattle.op_net.specs.FiringChanges.{AnswersTrap, given_on, gone_on, told_on, trapped_on, worked_on}
 use Rattle.op_net.specs.NetView.{marking_of, net_of}
+use Rattle.op_net.specs.Steering.{LeadsBy}
 use Rattle.op_net.proofs.ControlMoveLemmas.{operation_leads}
 use Rattle.op_net.proofs.FiringParts.{IsReadyOperation, gave_gives, gave_marking, new_line, ready_operation, same_at_trap, same_line, silent, told_marking, trap_answered, trapped_gives, trapped_marking, wrote, wrote_marking}
-use Rattle.op_net.proofs.NextNets.{IsWorked, is_worked, marking_told, place_told, there}
+use Rattle.op_net.proofs.NextNets.{IsWorked, is_worked, marking_told, there}
 use Rattle.op_net.proofs.NodeNames.{IsOperationAt, operation_at_node}
 use Rattle.op_net.proofs.net.OpNet.operate.Goals as goal
 
@@ -116,8 +120,12 @@ returns-in-Gave-clause-marking g c =
     let fits : SFits w32 c.in-Gave.z = search rules in
     marking_told same (λ x m. given_on x m k piece i c.in-Gave.z) _ (marking_of c.work.new.self) (worked_on x m piece i mem) (c.give.ensures.marking ∙ ap (given_on (net_of c.work.new.self) (marking_of c.work.new.self) k piece i) (to_z-of_z w32 c.in-Gave.z fits)) c.work.ensures.marking ∙ gave_marking x m k piece i mem c.in-Gave.z did
 
-pub returns-in-Gave-clause-place : goal.returns-in-Gave-clause-place
-returns-in-Gave-clause-place g c =
+pub returns-in-Gave-clause-control : goal.returns-in-Gave-clause-control
+returns-in-Gave-clause-control g c =
+    c.give.ensures.control ∙ c.work.ensures.control
+
+pub returns-in-Gave-clause-leads : goal.returns-in-Gave-clause-leads
+returns-in-Gave-clause-leads g c =
     let x = net_of c.args.self.now in
     let m = marking_of c.args.self.now in
     let k = c.args.k in
@@ -125,9 +133,13 @@ returns-in-Gave-clause-place g c =
     let i = c.args.i in
     let mem = memory_of c.work.new.self.storage in
     let draft = c.work.new.self.draft.items in
-    let same : net_of c.work.new.self ≡ x = c.work.ensures.net in
     let did : performed_at x m piece (operation_at x piece i) ≡ Ok (gives mem c.in-Gave.z) = c.work.ensures.effect ∙ ap (λ (d : Did). told d mem draft) c.in-Gave.is in
-    place_told same _ _ _ k piece 0 c.work.ensures.control c.give.ensures.place m (operation_leads x c.args.self.now.board.plan.facts k c.requires.node m piece i 0 c.requires.name (ap choice_of did))
+    let edge : c.give.result ≡ out (graph_in x.net) piece 0 = c.give.ensures.edge ∙ ap (λ (y : OperationNet). out (graph_in y.net) piece 0) c.work.ensures.net in
+    subst (LeadsBy x m k) (sym edge) (operation_leads x c.args.self.now.board.plan.facts k c.requires.node m piece i 0 c.requires.name (ap choice_of did))
+
+pub returns-in-Gave-clause-edge : goal.returns-in-Gave-clause-edge
+returns-in-Gave-clause-edge g c =
+    subst (λ (y : OperationNet). c.give.result < edge_count (graph_in y.net)) c.work.ensures.net c.give.ensures.exists
 
 pub returns-in-Gave-clause-kept : goal.returns-in-Gave-clause-kept
 returns-in-Gave-clause-kept g c =
@@ -177,8 +189,12 @@ returns-in-Changed-clause-marking g c =
     let r : IsReadyOperation x m k piece i = ready_operation x m k piece i c.requires.ready in
     marking_told same (λ x m. told_on x m piece i 0) _ (marking_of c.work.new.self) (worked_on x m piece i mem) c.tell.ensures.marking c.work.ensures.marking ∙ told_marking x m k piece i mem 0 r.empty did
 
-pub returns-in-Changed-clause-place : goal.returns-in-Changed-clause-place
-returns-in-Changed-clause-place g c =
+pub returns-in-Changed-clause-control : goal.returns-in-Changed-clause-control
+returns-in-Changed-clause-control g c =
+    c.tell.ensures.control ∙ c.work.ensures.control
+
+pub returns-in-Changed-clause-leads : goal.returns-in-Changed-clause-leads
+returns-in-Changed-clause-leads g c =
     let x = net_of c.args.self.now in
     let m = marking_of c.args.self.now in
     let k = c.args.k in
@@ -186,9 +202,13 @@ returns-in-Changed-clause-place g c =
     let i = c.args.i in
     let mem = memory_of c.work.new.self.storage in
     let draft = c.work.new.self.draft.items in
-    let same : net_of c.work.new.self ≡ x = c.work.ensures.net in
     let did : performed_at x m piece (operation_at x piece i) ≡ Ok (tells mem 0) = c.work.ensures.effect ∙ ap (λ (d : Did). told d mem draft) c.in-Changed.is in
-    place_told same _ _ _ k piece 0 c.work.ensures.control c.tell.ensures.place m (operation_leads x c.args.self.now.board.plan.facts k c.requires.node m piece i 0 c.requires.name (ap choice_of did))
+    let edge : c.tell.result ≡ out (graph_in x.net) piece 0 = c.tell.ensures.edge ∙ ap (λ (y : OperationNet). out (graph_in y.net) piece 0) c.work.ensures.net in
+    subst (LeadsBy x m k) (sym edge) (operation_leads x c.args.self.now.board.plan.facts k c.requires.node m piece i 0 c.requires.name (ap choice_of did))
+
+pub returns-in-Changed-clause-edge : goal.returns-in-Changed-clause-edge
+returns-in-Changed-clause-edge g c =
+    subst (λ (y : OperationNet). c.tell.result < edge_count (graph_in y.net)) c.work.ensures.net c.tell.ensures.exists
 
 pub returns-in-Changed-clause-kept : goal.returns-in-Changed-clause-kept
 returns-in-Changed-clause-kept g c =
@@ -239,8 +259,12 @@ returns-in-Wrote-clause-marking g c =
     let r : IsReadyOperation x m k piece i = ready_operation x m k piece i c.requires.ready in
     marking_told same (λ x m. gone_on x m piece i 0) _ (marking_of c.work.new.self) (worked_on x m piece i mem) c.go.ensures.marking c.work.ensures.marking ∙ wrote_marking x m k piece i mem draft r.empty some did
 
-pub returns-in-Wrote-clause-place : goal.returns-in-Wrote-clause-place
-returns-in-Wrote-clause-place g c =
+pub returns-in-Wrote-clause-control : goal.returns-in-Wrote-clause-control
+returns-in-Wrote-clause-control g c =
+    c.go.ensures.control ∙ c.work.ensures.control
+
+pub returns-in-Wrote-clause-leads : goal.returns-in-Wrote-clause-leads
+returns-in-Wrote-clause-leads g c =
     let x = net_of c.args.self.now in
     let m = marking_of c.args.self.now in
     let k = c.args.k in
@@ -248,10 +272,13 @@ returns-in-Wrote-clause-place g c =
     let i = c.args.i in
     let mem = memory_of c.work.new.self.storage in
     let draft = c.work.new.self.draft.items in
-    let same : net_of c.work.new.self ≡ x = c.work.ensures.net in
     let did : performed_at x m piece (operation_at x piece i) ≡ Ok (record { value = None; memory = mem; text = draft; choice = 0 }) = c.work.ensures.effect ∙ ap (λ (d : Did). told d mem draft) c.in-Wrote.is in
-    let some : draft ≡ [] → ⊥ = subst (λ (d : Did). KeepsLine d c.args.self.now.draft.items draft) c.in-Wrote.is c.work.ensures.line in
-    place_told same _ _ _ k piece 0 c.work.ensures.control c.go.ensures.place m (operation_leads x c.args.self.now.board.plan.facts k c.requires.node m piece i 0 c.requires.name (ap choice_of did))
+    let edge : c.go.result ≡ out (graph_in x.net) piece 0 = c.go.ensures.edge ∙ ap (λ (y : OperationNet). out (graph_in y.net) piece 0) c.work.ensures.net in
+    subst (LeadsBy x m k) (sym edge) (operation_leads x c.args.self.now.board.plan.facts k c.requires.node m piece i 0 c.requires.name (ap choice_of did))
+
+pub returns-in-Wrote-clause-edge : goal.returns-in-Wrote-clause-edge
+returns-in-Wrote-clause-edge g c =
+    subst (λ (y : OperationNet). c.go.result < edge_count (graph_in y.net)) c.work.ensures.net c.go.ensures.exists
 
 pub returns-in-Wrote-clause-kept : goal.returns-in-Wrote-clause-kept
 returns-in-Wrote-clause-kept g c =
@@ -304,8 +331,12 @@ returns-in-Told-clause-marking g c =
     let r : IsReadyOperation x m k piece i = ready_operation x m k piece i c.requires.ready in
     marking_told same (λ x m. told_on x m piece i c.in-Told.choice) _ (marking_of c.work.new.self) (worked_on x m piece i mem) c.tell-in-Told.ensures.marking c.work.ensures.marking ∙ told_marking x m k piece i mem c.in-Told.choice r.empty did
 
-pub returns-in-Told-clause-place : goal.returns-in-Told-clause-place
-returns-in-Told-clause-place g c =
+pub returns-in-Told-clause-control : goal.returns-in-Told-clause-control
+returns-in-Told-clause-control g c =
+    c.tell-in-Told.ensures.control ∙ c.work.ensures.control
+
+pub returns-in-Told-clause-leads : goal.returns-in-Told-clause-leads
+returns-in-Told-clause-leads g c =
     let x = net_of c.args.self.now in
     let m = marking_of c.args.self.now in
     let k = c.args.k in
@@ -313,9 +344,13 @@ returns-in-Told-clause-place g c =
     let i = c.args.i in
     let mem = memory_of c.work.new.self.storage in
     let draft = c.work.new.self.draft.items in
-    let same : net_of c.work.new.self ≡ x = c.work.ensures.net in
     let did : performed_at x m piece (operation_at x piece i) ≡ Ok (tells mem c.in-Told.choice) = c.work.ensures.effect ∙ ap (λ (d : Did). told d mem draft) c.in-Told.is in
-    place_told same _ _ _ k piece c.in-Told.choice c.work.ensures.control c.tell-in-Told.ensures.place m (operation_leads x c.args.self.now.board.plan.facts k c.requires.node m piece i c.in-Told.choice c.requires.name (ap choice_of did))
+    let edge : c.tell-in-Told.result ≡ out (graph_in x.net) piece c.in-Told.choice = c.tell-in-Told.ensures.edge ∙ ap (λ (y : OperationNet). out (graph_in y.net) piece c.in-Told.choice) c.work.ensures.net in
+    subst (LeadsBy x m k) (sym edge) (operation_leads x c.args.self.now.board.plan.facts k c.requires.node m piece i c.in-Told.choice c.requires.name (ap choice_of did))
+
+pub returns-in-Told-clause-edge : goal.returns-in-Told-clause-edge
+returns-in-Told-clause-edge g c =
+    subst (λ (y : OperationNet). c.tell-in-Told.result < edge_count (graph_in y.net)) c.work.ensures.net c.tell-in-Told.ensures.exists
 
 pub returns-in-Told-clause-kept : goal.returns-in-Told-clause-kept
 returns-in-Told-clause-kept g c =
@@ -366,8 +401,12 @@ returns-in-Trapped-clause-marking g c =
     let r : IsReadyOperation x m k piece i = ready_operation x m k piece i c.requires.ready in
     marking_told same (λ x m. trapped_on x m k piece i c.in-Trapped.trap) _ (marking_of c.work.new.self) (worked_on x m piece i mem) c.stop_or_go.ensures.marking c.work.ensures.marking ∙ trapped_marking x m k piece i mem c.in-Trapped.trap (ap memory_of storage) did
 
-pub returns-in-Trapped-clause-place : goal.returns-in-Trapped-clause-place
-returns-in-Trapped-clause-place g c =
+pub returns-in-Trapped-clause-control : goal.returns-in-Trapped-clause-control
+returns-in-Trapped-clause-control g c =
+    c.stop_or_go.ensures.control ∙ c.work.ensures.control
+
+pub returns-in-Trapped-clause-leads : goal.returns-in-Trapped-clause-leads
+returns-in-Trapped-clause-leads g c =
     let x = net_of c.args.self.now in
     let m = marking_of c.args.self.now in
     let k = c.args.k in
@@ -375,10 +414,13 @@ returns-in-Trapped-clause-place g c =
     let i = c.args.i in
     let mem = memory_of c.work.new.self.storage in
     let draft = c.work.new.self.draft.items in
-    let same : net_of c.work.new.self ≡ x = c.work.ensures.net in
     let did : performed_at x m piece (operation_at x piece i) ≡ Err c.in-Trapped.trap = c.work.ensures.effect ∙ ap (λ (d : Did). told d mem draft) c.in-Trapped.is in
-    let storage : c.work.new.self.storage ≡ c.args.self.now.storage = subst (λ (d : Did). KeepsStorage d c.args.self.now.storage c.work.new.self.storage) c.in-Trapped.is c.work.ensures.memory in
-    place_told same _ _ _ k piece 0 c.work.ensures.control c.stop_or_go.ensures.place m (operation_leads x c.args.self.now.board.plan.facts k c.requires.node m piece i 0 c.requires.name (ap choice_of did))
+    let edge : c.stop_or_go.result.1 ≡ out (graph_in x.net) piece 0 = c.stop_or_go.ensures.edge ∙ ap (λ (y : OperationNet). out (graph_in y.net) piece 0) c.work.ensures.net in
+    subst (LeadsBy x m k) (sym edge) (operation_leads x c.args.self.now.board.plan.facts k c.requires.node m piece i 0 c.requires.name (ap choice_of did))
+
+pub returns-in-Trapped-clause-edge : goal.returns-in-Trapped-clause-edge
+returns-in-Trapped-clause-edge g c =
+    subst (λ (y : OperationNet). c.stop_or_go.result.1 < edge_count (graph_in y.net)) c.work.ensures.net c.stop_or_go.ensures.exists
 
 pub returns-in-Trapped-clause-kept : goal.returns-in-Trapped-clause-kept
 returns-in-Trapped-clause-kept g c =
@@ -396,7 +438,7 @@ returns-in-Trapped-clause-fired g c =
     let same : net_of c.work.new.self ≡ x = c.work.ensures.net in
     let did : performed_at x m piece (operation_at x piece i) ≡ Err c.in-Trapped.trap = c.work.ensures.effect ∙ ap (λ (d : Did). told d mem draft) c.in-Trapped.is in
     let storage : c.work.new.self.storage ≡ c.args.self.now.storage = subst (λ (d : Did). KeepsStorage d c.args.self.now.storage c.work.new.self.storage) c.in-Trapped.is c.work.ensures.memory in
-    trap_answered x m k piece i c.requires.name c.requires.going c.in-Trapped.trap c.stop_or_go.result did (subst (λ (y : OperationNet). AnswersTrap y piece i c.stop_or_go.result) same c.stop_or_go.ensures.fired)
+    trap_answered x m k piece i c.requires.name c.requires.going c.in-Trapped.trap c.stop_or_go.result.0 did (subst (λ (y : OperationNet). AnswersTrap y piece i c.stop_or_go.result.0) same c.stop_or_go.ensures.fired)
 
 pub returns-in-Trapped-clause-last : goal.returns-in-Trapped-clause-last
 returns-in-Trapped-clause-last g c =

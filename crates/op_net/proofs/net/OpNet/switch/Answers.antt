@@ -11,7 +11,6 @@ use Rattle.op_board.specs.OperationTokens.{OperationTokens, passed_by}
 use Rattle.op_net.specs.NetView.{marking_of, net_of}
 use Rattle.op_net.specs.PlacesView.{line_put}
 use Rattle.op_net.specs.Waits.{AreSwitchNodes, IsSwitchOf, stands_at}
-use Rattle.op_net.proofs.ControlMoveLemmas.{switch_leads}
 use Rattle.op_net.proofs.LedLines.{IsReadySwitch, ready_switch, switch_marking, switch_stands, switch_through}
 use Rattle.op_net.proofs.NodeNames.{IsSwitchAt, switch_at_node}
 use Rattle.op_net.proofs.SwitchNodes.{some_operations, switch_nodes}
@@ -58,7 +57,7 @@ lead-requires g c =
     let at : left_for m.tokens c.switch_number-switch.result ≡ Some c.in-Some.edge = read_edge c.args.self.now.places.edges.items c.switch_number-switch.result c.index.result.now inside c.index.ensures ∙ c.in-Some.is in
     let edge : c.in-Some.edge < edge_count (graph_in x.net) = c.args.self.now.own_places.lie c.switch_number-switch.result c.in-Some.edge at in
     let stands = subst (λ (a : OperationTokens). stands_at x (edge_of a.tokens line) (passed_by a line) (operation_node x k) line ≡ true) (sym c.clear.ensures.standing) (switch_stands x m k piece line c.requires.name r.before) in
-    (omega arith, (c.requires.node, (n.exists, (n.low, (edge, (switch_through x m k piece line c.requires.name, stands))))))
+    (omega arith, (c.requires.node, (n.low, (edge, (switch_through x m k piece line c.requires.name, stands)))))
 
 pub returns-in-Some-clause-marking : goal.returns-in-Some-clause-marking
 returns-in-Some-clause-marking g c =
@@ -75,14 +74,13 @@ returns-in-Some-clause-marking g c =
     ∙ ap (λ (a : OperationTokens). line_put (record a { tokens = record a.tokens { memory = memory_of c.args.self.now.storage; trap = c.args.self.now.trapped } }) line (led_from x.net c.in-Some.edge line) 0) c.clear.ensures.standing
     ∙ switch_marking x m k piece line c.switch_number-switch.result c.in-Some.edge is at
 
-pub returns-in-Some-clause-place : goal.returns-in-Some-clause-place
-returns-in-Some-clause-place g c =
+pub returns-in-Some-clause-edge : goal.returns-in-Some-clause-edge
+returns-in-Some-clause-edge g c =
     let x = net_of c.args.self.now in
-    let k = c.args.k in
-    let piece = c.args.piece in
-    let line = c.args.line in
-    let n : IsSwitchAt x k piece line = switch_at_node x k piece line c.requires.node c.requires.name in
-    c.lead.ensures.place (marking_of c.args.self.now) (switch_leads x c.args.self.now.board.plan.facts k c.requires.node (marking_of c.args.self.now) piece line _ c.requires.name)
+    let m = marking_of c.args.self.now in
+    let inside : c.switch_number-switch.result < length c.args.self.now.places.edges.items = let within = c.switch_number-switch.ensures.within in let edges = c.args.self.now.own_places.edges in omega (arith, within, edges) in
+    let at : left_for m.tokens c.switch_number-switch.result ≡ Some c.in-Some.edge = read_edge c.args.self.now.places.edges.items c.switch_number-switch.result c.index.result.now inside c.index.ensures ∙ c.in-Some.is in
+    c.args.self.now.own_places.lie c.switch_number-switch.result c.in-Some.edge at
 
 pub returns-in_default-clause-marking : goal.returns-in_default-clause-marking
 returns-in_default-clause-marking g c =
@@ -100,8 +98,8 @@ returns-in_default-clause-marking g c =
     let clash : false ≡ true = sym (ap (λ (o : Option ℕ). is_some o) (ap (left_for m.tokens) (sym is) ∙ at)) ∙ r.left in
     absurd cc
 
-pub returns-in_default-clause-place : goal.returns-in_default-clause-place
-returns-in_default-clause-place g c =
+pub returns-in_default-clause-edge : goal.returns-in_default-clause-edge
+returns-in_default-clause-edge g c =
     let x = net_of c.args.self.now in
     let m = marking_of c.args.self.now in
     let k = c.args.k in

@@ -1,12 +1,13 @@
-use Rattle.std.proofs.Common.{◌≡◌, ◌<◌, true, subst, sym, ◌∙◌, arith}
+use Rattle.std.proofs.Common.{◌≡◌, ◌<◌, true, ap, subst, sym, ◌∙◌, arith}
 use Rattle.std.specs.List.{list_all}
+use Rattle.closed_walks.specs.Graph.{edge_count}
 use Rattle.cfg_build.specs.Passes.{out}
 use Rattle.net_board.specs.Nodes.{graph_in}
 use Rattle.op_board.specs.OperationNets.{OperationNet, needed, operation_count}
 use Rattle.op_board.specs.OperationTokens.{stands_before}
 use Rattle.op_net.specs.FiringChanges.{gone_on, room_left}
 use Rattle.op_net.specs.NetView.{marking_of, net_of}
-use Rattle.op_net.proofs.NextNets.{marking_told, place_told, there}
+use Rattle.op_net.proofs.NextNets.{marking_told, there}
 use Rattle.op_net.proofs.net.OpNet.tell.Goals as goal
 
 pub go-requires : goal.go-requires
@@ -37,15 +38,17 @@ returns-clause-marking g c =
     let i = c.args.i in
     marking_told same (λ y n. gone_on y n piece i c.args.choice) _ m1 (room_left x m piece i (out (graph_in x.net) piece c.args.choice)) c.go.ensures.marking c.leave.ensures.marking
 
-pub returns-clause-place : goal.returns-clause-place
-returns-clause-place g c =
-    let x = net_of c.args.self.now in
-    let x1 = net_of c.leave.new.self in
-    let m1 = marking_of c.leave.new.self in
-    let same : x1 ≡ x = c.leave.ensures.net in
-    let piece = c.args.piece in
-    let i = c.args.i in
-    place_told same _ _ _ c.args.k piece c.args.choice c.leave.ensures.control c.go.ensures.place
+pub returns-clause-control : goal.returns-clause-control
+returns-clause-control g c =
+    c.go.ensures.control ∙ c.leave.ensures.control
+
+pub returns-clause-edge : goal.returns-clause-edge
+returns-clause-edge g c =
+    c.go.ensures.edge ∙ ap (λ (y : OperationNet). out (graph_in y.net) c.args.piece c.args.choice) c.leave.ensures.net
+
+pub returns-clause-exists : goal.returns-clause-exists
+returns-clause-exists g c =
+    subst (λ (y : OperationNet). c.go.result < edge_count (graph_in y.net)) c.leave.ensures.net c.go.ensures.exists
 
 pub returns-clause-kept : goal.returns-clause-kept
 returns-clause-kept g c =

@@ -22,7 +22,7 @@ perform-requires-clause-task g c =
     let m = marking_of c.args.self.now in
     let piece = c.args.piece in
     let i = c.args.i in
-    ∥∥₁_elim c.row.ensures (can_prop x.net.program c.row.result.now.task) (λ (row : IsRow x piece i c.row.result.now). row.can)
+    ∥∥₁_elim c.row-row.ensures (can_prop x.net.program c.row-row.result.now.task) (λ (row : IsRow x piece i c.row-row.result.now). row.can)
 
 pub perform-requires-clause-operands : goal.perform-requires-clause-operands
 perform-requires-clause-operands g c =
@@ -31,10 +31,10 @@ perform-requires-clause-operands g c =
     let piece = c.args.piece in
     let i = c.args.i in
     let ops = (operation_at x piece i).operands in
-    let same : c.as_slice.result.now ≡ c.read_operands.new.args.items = search rules in
-    let args : c.as_slice.result.now ≡ map (operand_in x (standing c.args.self.now.places) piece) ops = same ∙ c.read_operands.ensures.args in
-    ∥∥₁_elim c.row.ensures (takes_prop c.row.result.now.task (length c.as_slice.result.now)) (λ (row : IsRow x piece i c.row.result.now).
-    subst (TakesOperands c.row.result.now.task) (sym (length-map c.row.result.now.operands.items operand_seen) ∙ ap length row.operands ∙ sym (length-map ops (operand_in x (standing c.args.self.now.places) piece)) ∙ ap length (sym args)) row.takes)
+    let same : c.as_slice.result.now ≡ c.take_operands.new.args.items = search rules in
+    let args : c.as_slice.result.now ≡ map (operand_in x (standing c.args.self.now.places) piece) ops = same ∙ c.take_operands.ensures.args in
+    ∥∥₁_elim c.row-row.ensures (takes_prop c.row-row.result.now.task (length c.as_slice.result.now)) (λ (row : IsRow x piece i c.row-row.result.now).
+    subst (TakesOperands c.row-row.result.now.task) (sym (length-map c.row-row.result.now.operands.items operand_seen) ∙ ap length row.operands ∙ sym (length-map ops (operand_in x (standing c.args.self.now.places) piece)) ∙ ap length (sym args)) row.takes)
 
 pub perform-requires-clause-room : goal.perform-requires-clause-room
 perform-requires-clause-room g c =
@@ -42,8 +42,8 @@ perform-requires-clause-room g c =
     let m = marking_of c.args.self.now in
     let piece = c.args.piece in
     let i = c.args.i in
-    ∥∥₁_elim c.row.ensures (hlevel props) (λ (row : IsRow x piece i c.row.result.now).
-    let room : task_room c.row.result.now.task ≤ most_room x.net.program.execs = row.room in
+    ∥∥₁_elim c.row-row.ensures (hlevel props) (λ (row : IsRow x piece i c.row-row.result.now).
+    let room : task_room c.row-row.result.now.task ≤ most_room x.net.program.execs = row.room in
     let enough : most_room x.net.program.execs ≤ vec_capacity c.args.self.now.draft = c.args.self.now.draft_room in
     omega (arith, room, enough))
 
@@ -54,9 +54,9 @@ returns-clause-effect g c =
     let piece = c.args.piece in
     let i = c.args.i in
     let ops = (operation_at x piece i).operands in
-    let same : c.as_slice.result.now ≡ c.read_operands.new.args.items = search rules in
-    let args : c.as_slice.result.now ≡ map (operand_in x (standing c.args.self.now.places) piece) ops = same ∙ c.read_operands.ensures.args in
-    ∥∥₁_elim c.row.ensures (result_prop _ _) (λ (row : IsRow x piece i c.row.result.now).
+    let same : c.as_slice.result.now ≡ c.take_operands.new.args.items = search rules in
+    let args : c.as_slice.result.now ≡ map (operand_in x (standing c.args.self.now.places) piece) ops = same ∙ c.take_operands.ensures.args in
+    ∥∥₁_elim c.row-row.ensures (result_prop _ _) (λ (row : IsRow x piece i c.row-row.result.now).
     ap (performed x.net.program.names x.net.input m.tokens.memory (operation_at x piece i).work) (args_same x piece m (standing c.args.self.now.places) refl ops ∙ sym args)
     ∙ c.perform.ensures.effect (operation_at x piece i).work row.task)
 
@@ -64,7 +64,7 @@ pub invariant_of-self : goal.invariant_of-self
 invariant_of-self g c =
     let more = c.perform.ensures.capacity in
     let enough = c.args.self.now.draft_room in
-    let longer = c.read_operands.ensures.capacity in
+    let longer = c.take_operands.ensures.capacity in
     let room = c.args.self.now.args_room in
     record {
       own_places = taken_kept c.args.self.now.board c.args.self.now.places c.take_operands.new.places c.args.self.now.own_places c.take_operands.ensures.kept c.args.piece c.args.i c.take_operands.ensures.standing;

@@ -1,9 +1,10 @@
-use Rattle.std.proofs.Common.{◌≡◌, ◌-◌}
+use Rattle.std.proofs.Common.{◌≡◌, ◌-◌, Some}
 use Rattle.firing.specs.Play.{by_order, moment}
 use Rattle.firing.specs.SourceOrder.{FiresTo, newest_after}
 use Rattle.op_board.specs.OperationCourse.{operation_course}
 use Rattle.op_board.specs.OperationTokens.{operation_moves}
 use Rattle.op_net.specs.NetView.{marking_of, net_of}
+use Rattle.op_net.specs.Visits.{IsVisit}
 use Rattle.op_net.proofs.net_system.OpNetSourceOrder.fire_due.Given as goal
 
 abbrev pub invariant-more : goal.invariant-more
@@ -13,6 +14,8 @@ invariant-more g l =
     let start = moment (marking_of l.fn.self) l.fn.self.control in
     record {
       same : net_of l.self ≡ x;
+      visit : IsVisit (net_of l.self) l.visit;
+      here : l.self.control ≡ Some l.visit.control;
       to : FiresTo own start l.most l.made l.fired (moment (marking_of l.self) l.self.control);
       line : l.self.text.items ≡ newest_after own start l.made l.fn.self.text.items;
     }

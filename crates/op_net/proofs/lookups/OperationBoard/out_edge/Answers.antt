@@ -5,7 +5,7 @@ use Rattle.net_board.specs.Nodes.{graph_in}
 use Rattle.net_tables.proofs.LookupLemmas.{some_edge}
 use Rattle.net_tables.proofs.TableLemmas.{out_exists}
 use Rattle.op_net.specs.BoardView.{operation_net_on}
-use Rattle.op_net.proofs.lookups.OperationBoard.out.Goals as goal
+use Rattle.op_net.proofs.lookups.OperationBoard.out_edge.Goals as goal
 
 pub returns-clause-exists : goal.returns-clause-exists
 returns-clause-exists g c =
