@@ -1,7 +1,8 @@
 //! `dfc`, a dependence flow graph compiler for integer Fortran 77.
 #![tactic(auto)]
 
-use df_io::{StdSink, StdSource};
+use buffered_sink::{Buffer, BufferedSink};
+use df_io::{Failed, StdSink, StdSource};
 use dfc_driver::dfc_main;
 use std::process::ExitCode;
 use std::{env, io};
@@ -9,17 +10,35 @@ use std::{env, io};
 // The words could not be had from the system.
 const NO_WORDS: u8 = 8;
 
-// There was no memory for the words.
+// There was no memory for the words or for the buffer.
 const NO_MEMORY: u8 = 7;
+
+// Standard output failed.
+const WRITE_FAULT: u8 = 6;
 
 fn main(rt: HostRuntime) -> ExitCode {
     match arguments(&rt) {
-        Ok(words) => {
-            let mut source = StdSource::new(rt.stdin());
-            let mut sink = StdSink::new(rt.stdout());
-            ExitCode::from(dfc_main(rt.alloc(), &words, &mut source, &mut sink))
-        }
+        Ok(words) => ExitCode::from(do_words(&rt, &words)),
         Err(status) => ExitCode::from(status),
+    }
+}
+
+// Does what the words ask for on standard input and output, and answers the status to end with. Output goes out in pieces of 64 KiB,
+// so that a long trace is not a system call for each line.
+fn do_words(rt: &HostRuntime, words: &Vec<String>) -> u8 {
+    let Ok(mut buffer) = Buffer::new(rt.alloc()) else {
+        return NO_MEMORY;
+    };
+    let mut source = StdSource::new(rt.stdin());
+    let mut output = StdSink::new(rt.stdout());
+    let mut sink = BufferedSink::new(&mut buffer, &mut output);
+    let status = dfc_main(rt.alloc(), words, &mut source, &mut sink);
+    if status == WRITE_FAULT {
+        return status;
+    }
+    match sink.flush() {
+        Ok(()) => status,
+        Err(Failed) => WRITE_FAULT,
     }
 }
 

@@ -1,5 +1,5 @@
 -- What a game means for the run of its program.
-use Rattle.std.proofs.Common.{◌≡◌, ◌≢◌, ℕ, zero, suc, ◌+◌, ◌-◌, ◌≤◌, ℤ, List, [], length, Option, Some, None, refl, sym, ap, subst, ◌∙◌, arith}
+use Rattle.std.proofs.Common.{◌≡◌, ◌≢◌, ℕ, zero, suc, ◌+◌, ◌-◌, ◌≤◌, ℤ, List, [], ◌++◌, length, Option, Some, None, refl, sym, ap, subst, ◌∙◌, arith}
 use Rattle.op_table.specs.declared.Trap.{Trap}
 use Rattle.f77_tree.specs.declared.programs.Program.{Program}
 use Rattle.f77_tree.specs.Run as runs
@@ -7,7 +7,7 @@ use Rattle.f77_tree.specs.Steps.{StopsWithin}
 use Rattle.f77_tree.specs.Run.{Mark, Running, Ended, State, EndsIn, TrapsAt, out, source}
 use Rattle.firing.specs.declared.playing.PlayEnd.{PlayEnd}
 use Rattle.firing.specs.declared.playing.PlayEnd.TheVariants.{Rest, Trapped, Limit, WriteFault}
-use Rattle.firing.specs.declared.playing.Show.TheVariants.{Output}
+use Rattle.firing.specs.declared.playing.Show.TheVariants as show
 use Rattle.firing.specs.Moves.{CanFire}
 use Rattle.firing.specs.Orders.{IsOver, IsPrefix, after, written}
 use Rattle.firing.specs.Pacing.{EndsWith, Going, Done, Failed, Stage, StandsAt, TrapsWith, WritesPrefix}
@@ -15,12 +15,16 @@ use Rattle.firing.specs.Play.{Way, node_at, played, shown}
 use Rattle.firing.specs.Runs.{HasOrder, IsRun}
 use Rattle.dfc_driver.specs.declared.status.Status.{Status}
 use Rattle.dfc_driver.specs.declared.status.Status.TheVariants as status
-use Rattle.dfc_driver.specs.Due.{Due, IsDueBy, IsPlayed, trapped}
-use Rattle.dfc_driver.specs.Game.{Marking, Place}
+use Rattle.dfc_driver.specs.declared.words.Told.{Told}
+use Rattle.dfc_driver.specs.declared.words.Told.TheVariants.{Output, Nodes, Store}
+use Rattle.dfc_driver.specs.Due.{Due, IsDueBy, IsPlayed, told_text, trapped}
+use Rattle.dfc_driver.specs.Game.{Marking, Place, store_in}
 use Rattle.dfc_driver.specs.GameLaws.{StopFirst}
-use Rattle.dfc_driver.specs.Headline.{IsPrefixOfRun, MeansRest, MeansTrap, bound_of}
+use Rattle.dfc_driver.specs.Headline.{IsPrefixOfRun, MeansRest, MeansTrap, TellsEnd, TellsPrefix, TellsTrap, bound_of, lines_in}
 use Rattle.dfc_driver.specs.Playing.{Game, StaysInLockstep, opening, stage, stage_of, way_of}
+use Rattle.dfc_driver.specs.StoreText.{fired_line, store_text}
 use Rattle.dfc_driver.specs.Words.{Asked}
+use Rattle.dfc_driver.proofs.NameLines.{name_lines}
 
 -- ---- where the program is
 
@@ -67,7 +71,7 @@ module _ (p : Program) (input : List ℤ) where
 
 -- ---- the game
 
-module _ (stop_first : StopFirst) (asked : Asked) (p : Program) (due : Due) (game : Game Marking Place) (lockstep : StaysInLockstep game p asked.input) (within : (n : ℕ) → length (game.own_order n) ≤ bound_of p n) where
+module _ (stop_first : StopFirst) (what : Told) (asked : Asked) (p : Program) (due : Due) (game : Game Marking Place) (lockstep : StaysInLockstep game p asked.input) (store : (n : ℕ) → store_in (after game.moves game.start (game.own_order n)) ≡ (source p asked.input n).memory.store) (within : (n : ℕ) → length (game.own_order n) ≤ bound_of p n) where
   abbrev w : Way Marking Place
   w = way_of game asked.picks
 
@@ -79,23 +83,35 @@ module _ (stop_first : StopFirst) (asked : Asked) (p : Program) (due : Due) (gam
       let sum : n ≡ d + first.count = omega (arith, le) in
       ap (out p asked.input) sum ∙ ap (λ (x : State). x.out) (stays p asked.input first.count d mark goes first.stops.reached)
 
-  module _ (firings : ℕ) (whole : IsPlayed asked p firings due) (all : HasOrder w (opening game) firings) where
+  module _ (firings : ℕ) (whole : IsPlayed what asked p firings due) (all : HasOrder w (opening game) firings) where
     abbrev ks : List ℕ
     ks = all.nodes
 
-    text_is : (end : PlayEnd) → IsDueBy end asked.limit (shown w Output (opening game) firings) due → due.text ≡ written game.moves game.start ks
-    text_is (Rest n) is = ap (λ (d : Due). d.text) is ∙ sym all.are.lines
-    text_is (Trapped trap line) is = ap (λ (d : Due). d.text) is ∙ sym all.are.lines
-    text_is Limit is = ap (λ (d : Due). d.text) is ∙ sym all.are.lines
-    text_is (WriteFault n) is = absurd is
+    -- what is told of the game
+    abbrev text : PlayEnd → List ℕ
+    text end = told_text what p w (opening game) firings end
+
+    text_is : (end : PlayEnd) (bytes : List ℕ) → IsDueBy end asked.limit bytes due → due.text ≡ bytes
+    text_is (Rest n) bytes is = ap (λ (d : Due). d.text) is
+    text_is (Trapped trap line) bytes is = ap (λ (d : Due). d.text) is
+    text_is Limit bytes is = ap (λ (d : Due). d.text) is
+    text_is (WriteFault n) bytes is = absurd is
 
     other_status : (a b : Status) (text : Due) → (a ≡ b → ⊥) → due ≡ text → text.status ≡ a → due.status ≡ b → ⊥
     other_status a b text differ is has told = differ (sym has ∙ ap (λ (d : Due). d.status) (sym is) ∙ told)
 
-    pub prefix_of_run : (end : PlayEnd) → IsDueBy end asked.limit (shown w Output (opening game) firings) due → IsPrefixOfRun asked p due
-    prefix_of_run end is =
+    output_prefix : (bytes : List ℕ) → bytes ≡ shown w show.Output (opening game) firings → IsPrefixOfRun asked p bytes
+    output_prefix bytes is =
         let f : WritesPrefix (out p asked.input) (written game.moves game.start ks) = lockstep.follows.prefix ks all.are.order in
-        record { steps = f.steps; prefix = subst (λ bytes. IsPrefix bytes (out p asked.input f.steps)) (sym (text_is end is)) f.prefix }
+        record { steps = f.steps; prefix = subst (λ l. IsPrefix l (out p asked.input f.steps)) (all.are.lines ∙ sym is) f.prefix }
+
+    tells_prefix : (kind : Told) (end : PlayEnd) → due.text ≡ told_text kind p w (opening game) firings end → TellsPrefix kind asked p due.text
+    tells_prefix Output end is = output_prefix due.text is
+    tells_prefix Nodes end is = tt
+    tells_prefix Store end is = tt
+
+    pub prefix_of_run : (end : PlayEnd) → IsDueBy end asked.limit (text end) due → TellsPrefix what asked p due.text
+    prefix_of_run end is = tells_prefix what end (text_is end (text end) is)
 
     -- the marking that the firings lead to
     abbrev there : Marking
@@ -104,7 +120,26 @@ module _ (stop_first : StopFirst) (asked : Asked) (p : Program) (due : Due) (gam
     over_there : IsOver game.moves (played w (opening game) firings).marking → IsOver game.moves there
     over_there over = subst (IsOver game.moves) (sym all.are.leads) over
 
-    pub rests : (end : PlayEnd) → IsRun w (opening game) asked.limit firings end → IsDueBy end asked.limit (shown w Output (opening game) firings) due → due.status ≡ status.Done → MeansRest asked p due
+    -- the marking at the end of the source's own order
+    end_is : (steps : ℕ) → EndsIn p asked.input steps → length ks ≡ length (game.own_order steps) → there ≡ after game.moves game.start (game.own_order steps)
+    end_is steps ends count =
+        let settles = lockstep.follows.ends steps (ap stage_of (ends.reached)) in
+        settles.same_end ks all.are.order count ∙ sym (settles.same_end (game.own_order steps) (lockstep.simulated.order steps) refl)
+
+    store_is : (steps : ℕ) → EndsIn p asked.input steps → length ks ≡ length (game.own_order steps) → store_in (played w (opening game) firings).marking ≡ (source p asked.input steps).memory.store
+    store_is steps ends count = ap store_in (sym all.are.leads ∙ end_is steps ends count) ∙ store steps
+
+    tells_end : (kind : Told) (n steps : ℕ) → n ≡ firings → written game.moves game.start ks ≡ out p asked.input steps → store_in (played w (opening game) firings).marking ≡ (source p asked.input steps).memory.store → due.text ≡ told_text kind p w (opening game) firings (Rest n) → TellsEnd kind asked p steps firings due.text
+    tells_end Output n steps made lines words is = is ∙ sym all.are.lines ∙ lines
+    tells_end Nodes n steps made lines words is = ap lines_in is ∙ name_lines w (opening game) firings
+    tells_end Store n steps made lines words is = is ∙ ap (λ l. store_text p.names l ++ fired_line n) words ∙ ap (λ k. store_text p.names (source p asked.input steps).memory.store ++ fired_line k) made
+
+    tells_trap : (kind : Told) (trap : Trap) (line steps : ℕ) → written game.moves game.start ks ≡ out p asked.input steps → due.text ≡ told_text kind p w (opening game) firings (Trapped trap line) → TellsTrap kind asked p steps due.text
+    tells_trap Output trap line steps lines is = is ∙ sym all.are.lines ∙ lines
+    tells_trap Nodes trap line steps lines is = tt
+    tells_trap Store trap line steps lines is = is
+
+    pub rests : (end : PlayEnd) → IsRun w (opening game) asked.limit firings end → IsDueBy end asked.limit (text end) due → due.status ≡ status.Done → MeansRest what asked p due
     rests (WriteFault n) run is told = absurd is
     rests Limit run is told = absurd (other_status status.Limit status.Done _ (λ e. cc) is refl told)
     rests (Trapped trap line) run is told = absurd (other_status status.Trapped status.Done _ (λ e. cc) is refl told)
@@ -121,13 +156,13 @@ module _ (stop_first : StopFirst) (asked : Asked) (p : Program) (due : Due) (gam
         record {
           steps = first.count;
           ends = first.stops;
-          output = text_is (Rest n) is ∙ e.lines ∙ first_text e.steps Ended (λ c. cc) first;
           firings = firings;
           played = whole;
           few = omega (arith, count, made, few);
+          told = tells_end what n first.count run.ends.0 (e.lines ∙ first_text e.steps Ended (λ c. cc) first) (store_is first.count first.stops count) (text_is (Rest n) (text (Rest n)) is);
         }
 
-    pub traps : (end : PlayEnd) → IsRun w (opening game) asked.limit firings end → IsDueBy end asked.limit (shown w Output (opening game) firings) due → due.status ≡ status.Trapped → MeansTrap asked p due
+    pub traps : (end : PlayEnd) → IsRun w (opening game) asked.limit firings end → IsDueBy end asked.limit (text end) due → due.status ≡ status.Trapped → MeansTrap what asked p due
     traps (WriteFault n) run is told = absurd is
     traps Limit run is told = absurd (other_status status.Limit status.Trapped _ (λ e. cc) is refl told)
     traps (Rest n) run is told = absurd (other_status status.Done status.Trapped _ (λ e. cc) is refl told)
@@ -141,11 +176,12 @@ module _ (stop_first : StopFirst) (asked : Asked) (p : Program) (due : Due) (gam
           trap = trap;
           line = line;
           traps = first.stops;
-          told = is ∙ ap (λ text. trapped text trap line) (sym all.are.lines ∙ e.lines ∙ first_text e.steps (runs.Trapped trap line) (λ c. cc) first);
+          is = is ∙ ap (λ bytes. trapped bytes trap line) (sym (text_is (Trapped trap line) (text (Trapped trap line)) is));
+          told = tells_trap what trap line first.count (e.lines ∙ first_text e.steps (runs.Trapped trap line) (λ c. cc) first) (text_is (Trapped trap line) (text (Trapped trap line)) is);
         }
 
     -- where the run ends, the game is done
-    pub done_by : (steps : ℕ) → EndsIn p asked.input steps → bound_of p steps ≤ asked.limit → (end : PlayEnd) → IsRun w (opening game) asked.limit firings end → IsDueBy end asked.limit (shown w Output (opening game) firings) due → due.status ≡ status.Done
+    pub done_by : (steps : ℕ) → EndsIn p asked.input steps → bound_of p steps ≤ asked.limit → (end : PlayEnd) → IsRun w (opening game) asked.limit firings end → IsDueBy end asked.limit (text end) due → due.status ≡ status.Done
     done_by steps ends enough (Rest n) run is = ap (λ (d : Due). d.status) is
     done_by steps ends enough (WriteFault n) run is = absurd is
     done_by steps ends enough (Trapped trap line) run is =
@@ -167,13 +203,13 @@ module _ (stop_first : StopFirst) (asked : Asked) (p : Program) (due : Due) (gam
         let few = within steps in
         let limit : firings ≡ asked.limit = run.ends.0 in
         let count : length ks ≡ length (game.own_order steps) = omega (arith, most, made, few, limit, enough) in
-        let end_is : there ≡ after s m (game.own_order steps) = settles.same_end ks all.are.order count ∙ sym (settles.same_end (game.own_order steps) (lockstep.simulated.order steps) refl) in
+        let same_end : there ≡ after s m (game.own_order steps) = end_is steps ends count in
         let over : IsOver s (after s m (game.own_order steps)) = (subst (StandsAt s (after s m (game.own_order steps))) stage (lockstep.simulated.stands steps)).1 in
         let can : CanFire s there (node_at w (opening game) firings) = subst (λ (x : Marking). CanFire s x (node_at w (opening game) firings)) (sym all.are.leads) run.ends.1 in
-        absurd (subst (IsOver s) (sym end_is) over (node_at w (opening game) firings) can)
+        absurd (subst (IsOver s) (sym same_end) over (node_at w (opening game) firings) can)
 
     -- where the run traps, the game traps in the source's own order
-    pub fails_by : ((steps : ℕ) → (end : PlayEnd) → asked.picks ≡ [] → IsRun w (opening game) asked.limit firings end → IsOver game.moves (after game.moves game.start (game.own_order steps)) → length (game.own_order steps) ≤ asked.limit → end ≢ Limit) → (steps : ℕ) (trap : Trap) (line : ℕ) → TrapsAt p asked.input steps trap line → asked.picks ≡ [] → bound_of p steps ≤ asked.limit → (end : PlayEnd) → IsRun w (opening game) asked.limit firings end → IsDueBy end asked.limit (shown w Output (opening game) firings) due → due.status ≡ status.Trapped
+    pub fails_by : ((steps : ℕ) → (end : PlayEnd) → asked.picks ≡ [] → IsRun w (opening game) asked.limit firings end → IsOver game.moves (after game.moves game.start (game.own_order steps)) → length (game.own_order steps) ≤ asked.limit → end ≢ Limit) → (steps : ℕ) (trap : Trap) (line : ℕ) → TrapsAt p asked.input steps trap line → asked.picks ≡ [] → bound_of p steps ≤ asked.limit → (end : PlayEnd) → IsRun w (opening game) asked.limit firings end → IsDueBy end asked.limit (text end) due → due.status ≡ status.Trapped
     fails_by no_limit steps trap line fails none enough (Trapped kind at) run is = ap (λ (d : Due). d.status) is
     fails_by no_limit steps trap line fails none enough (WriteFault n) run is = absurd is
     fails_by no_limit steps trap line fails none enough (Rest n) run is =

@@ -1,7 +1,7 @@
 -- What is told of a game.
 use Rattle.std.proofs.Common.{◌≡◌, ℕ, zero, suc, ◌+◌, ◌-◌, ◌<◌, ◌≤◌, List, [], ◌∷◌, ◌++◌, length, take, Option, Some, refl, sym, ap, subst, ◌∙◌, ⊎_elim, append_assoc, append-nil, length-append, arith}
 use Rattle.std.proofs.KnownBytes.{Appends-trans}
-use Rattle.std.proofs.Math.Seq.{take-append-add}
+use Rattle.std.proofs.Math.Seq.{take-append-add, take-nil}
 use Rattle.std.specs.Io.KnownBytes.{Appends}
 use Rattle.op_table.specs.declared.Trap.{Trap}
 use Rattle.f77_tree.specs.declared.programs.Program.{Program}
@@ -10,17 +10,20 @@ use Rattle.df_io.proofs.Prefixes.{AppendsPrefix-longer}
 use Rattle.firing.specs.declared.playing.PlayEnd.{PlayEnd}
 use Rattle.firing.specs.declared.playing.PlayEnd.TheVariants as end
 use Rattle.firing.specs.declared.playing.Show.{Show}
-use Rattle.firing.specs.declared.playing.Show.TheVariants.{Output}
+use Rattle.firing.specs.declared.playing.Show.TheVariants as show
 use Rattle.firing.specs.Control.{Course}
 use Rattle.firing.specs.Moves.{Moves, CanFire}
 use Rattle.firing.specs.Play.{Moment, Way, BreaksOff, Plays, by_order, by_picks, moment, node_at, played, shown, shown_at}
 use Rattle.firing.specs.Runs.{HasEnd, IsOwnEnd, IsRun}
 use Rattle.dfc_driver.specs.declared.status.Status.{Status}
 use Rattle.dfc_driver.specs.declared.status.Status.TheVariants.{Done, Usage, Refused, Trapped, Limit, ReadFault, WriteFault, NoMemory}
+use Rattle.dfc_driver.specs.declared.words.Told.{Told}
+use Rattle.dfc_driver.specs.declared.words.Told.TheVariants.{Output, Nodes, Store}
 use Rattle.dfc_driver.specs.Answers.{AnswersAs, IsBegun, IsTold, Tells}
-use Rattle.dfc_driver.specs.Due.{Due, IsDueBy, IsDuePlay, IsGameOf, IsJust, all_due, done, stopped, trapped}
-use Rattle.dfc_driver.specs.Game.{IsGameOn, Marking, Place}
+use Rattle.dfc_driver.specs.Due.{Due, IsDueBy, IsDuePlay, IsGameOf, IsGameTold, IsJust, all_due, done, stopped, told_text, trapped}
+use Rattle.dfc_driver.specs.Game.{IsGameOn, Marking, Place, store_in}
 use Rattle.dfc_driver.specs.Playing.{Game, opening, way_by, way_of}
+use Rattle.dfc_driver.specs.StoreText.{fired_line, store_text}
 use Rattle.dfc_driver.specs.Words.{Asked}
 
 -- ---- a line after a text
@@ -49,6 +52,26 @@ module _ (is_due : Due → Type 0) (due line : Due) (is : is_due due) (same : al
     prefix = prefix_after old mid new due.text due.last before (subst (AppendsPrefix mid new) (ap all_due begun.is ∙ same) begun.prefix);
   }
 
+-- a trap came after a text that was written, and its line is told
+trap_after : (is_due : Due → Type 0) (text : List ℕ) (trap : Trap) (line : ℕ) → is_due (trapped text trap line) → (old mid new : Option (List ℕ)) (s : Status) → Appends old mid text → Tells (trapped [] trap line) mid new s → AnswersAs is_due old new s
+trap_after is_due text trap line is old mid new s before tells =
+    let due = trapped text trap line in
+    let told = trapped [] trap line in
+    ⊎_elim
+    (λ (e : s ≡ Trapped). subst (AnswersAs is_due old new) (sym e) (told_on is_due due told is refl old mid new before (subst (AnswersAs (IsJust told) mid new) e tells.answers)))
+    (λ (e : s ≡ WriteFault). subst (AnswersAs is_due old new) (sym e) (begun_on is_due due told is refl old mid new before (subst (AnswersAs (IsJust told) mid new) e tells.answers)))
+    tells.told
+
+-- the limit came after a text that was written, and its line is told
+limit_after : (is_due : Due → Type 0) (text : List ℕ) (limit : ℕ) → is_due (stopped text limit) → (old mid new : Option (List ℕ)) (s : Status) → Appends old mid text → Tells (stopped [] limit) mid new s → AnswersAs is_due old new s
+limit_after is_due text limit is old mid new s before tells =
+    let due = stopped text limit in
+    let told = stopped [] limit in
+    ⊎_elim
+    (λ (e : s ≡ Limit). subst (AnswersAs is_due old new) (sym e) (told_on is_due due told is refl old mid new before (subst (AnswersAs (IsJust told) mid new) e tells.answers)))
+    (λ (e : s ≡ WriteFault). subst (AnswersAs is_due old new) (sym e) (begun_on is_due due told is refl old mid new before (subst (AnswersAs (IsJust told) mid new) e tells.answers)))
+    tells.told
+
 module _ {M P : Type 0} (w : Way M P) (start : Moment M P) (limit : ℕ) (show : Show) where
   abbrev text : ℕ → List ℕ
   text n = shown w show start n
@@ -68,21 +91,13 @@ module _ {M P : Type 0} (w : Way M P) (start : Moment M P) (limit : ℕ) (show :
 
     pub trap_told : (trap : Trap) (line : ℕ) (new : Option (List ℕ)) (s : Status) → Plays w start limit show last old mid (end.Trapped trap line) → Tells (trapped [] trap line) mid new s → AnswersAs (IsGameOf w start limit show) old new s
     trap_told trap line new s plays tells =
-        let due = trapped (text plays.firings) trap line in
-        let is : IsGameOf w start limit show due = record { firings = plays.firings; played = record { end = end.Trapped trap line; run = run_of plays tt; is = refl } } in
-        ⊎_elim
-        (λ (e : s ≡ Trapped). subst (AnswersAs (IsGameOf w start limit show) old new) (sym e) (told_on (IsGameOf w start limit show) due (trapped [] trap line) is refl old mid new plays.writes (subst (AnswersAs (IsJust (trapped [] trap line)) mid new) e tells.answers)))
-        (λ (e : s ≡ WriteFault). subst (AnswersAs (IsGameOf w start limit show) old new) (sym e) (begun_on (IsGameOf w start limit show) due (trapped [] trap line) is refl old mid new plays.writes (subst (AnswersAs (IsJust (trapped [] trap line)) mid new) e tells.answers)))
-        tells.told
+        trap_after (IsGameOf w start limit show) (text plays.firings) trap line (record { firings = plays.firings; played = record { end = end.Trapped trap line; run = run_of plays tt; is = refl } })
+        old mid new s plays.writes tells
 
     pub limit_told : (new : Option (List ℕ)) (s : Status) → Plays w start limit show last old mid end.Limit → Tells (stopped [] limit) mid new s → AnswersAs (IsGameOf w start limit show) old new s
     limit_told new s plays tells =
-        let due = stopped (text plays.firings) limit in
-        let is : IsGameOf w start limit show due = record { firings = plays.firings; played = record { end = end.Limit; run = run_of plays tt; is = refl } } in
-        ⊎_elim
-        (λ (e : s ≡ Limit). subst (AnswersAs (IsGameOf w start limit show) old new) (sym e) (told_on (IsGameOf w start limit show) due (stopped [] limit) is refl old mid new plays.writes (subst (AnswersAs (IsJust (stopped [] limit)) mid new) e tells.answers)))
-        (λ (e : s ≡ WriteFault). subst (AnswersAs (IsGameOf w start limit show) old new) (sym e) (begun_on (IsGameOf w start limit show) due (stopped [] limit) is refl old mid new plays.writes (subst (AnswersAs (IsJust (stopped [] limit)) mid new) e tells.answers)))
-        tells.told
+        limit_after (IsGameOf w start limit show) (text plays.firings) limit (record { firings = plays.firings; played = record { end = end.Limit; run = run_of plays tt; is = refl } })
+        old mid new s plays.writes tells
 
   -- ---- a fault of the sink
 
@@ -155,11 +170,86 @@ answers_more is also old new s more answers = on s answers
     on WriteFault t = record { due = t.due; is = more t.due t.is; prefix = t.prefix }
     on NoMemory t = t
 
+-- where the output is told, or the nodes, what is shown of the firings is told
+pub output_told : (what : Told) → what ≡ Output → (p : Program) (w : Way Marking Place) (start : Moment Marking Place) (limit : ℕ) (due : Due) → IsGameOf w start limit show.Output due → IsGameTold what p w start limit due
+output_told what same p w start limit due is = subst (λ (kind : Told). IsGameTold kind p w start limit due) (sym same) (record { firings = is.firings; tells = record { end = is.played.end; run = is.played.run; is = is.played.is } })
+
+pub nodes_told : (what : Told) → what ≡ Nodes → (p : Program) (w : Way Marking Place) (start : Moment Marking Place) (limit : ℕ) (due : Due) → IsGameOf w start limit show.Nodes due → IsGameTold what p w start limit due
+nodes_told what same p w start limit due is = subst (λ (kind : Told). IsGameTold kind p w start limit due) (sym same) (record { firings = is.firings; tells = record { end = is.played.end; run = is.played.run; is = is.played.is } })
+
 -- a game of the program and its data is due on it
-pub played_on : (asked : Asked) (p : Program) (game : Game Marking Place) (m : Marking) (place : Option Place) (picks : List ℕ) → IsGameOn p asked.input game → m ≡ game.start → place ≡ Some game.control → picks ≡ asked.picks → (due : Due) → IsGameOf (way_of game picks) (moment m place) asked.limit Output due → IsDuePlay asked p due
-played_on asked p game m place picks own begun control same due is =
-    let there : IsGameOf (way_of game asked.picks) (opening game) asked.limit Output due =
-    subst (λ xs. IsGameOf (way_of game xs) (opening game) asked.limit Output due) same
-    (subst (λ c. IsGameOf (way_of game picks) (moment game.start c) asked.limit Output due) control
-    (subst (λ (x : Marking). IsGameOf (way_of game picks) (moment x place) asked.limit Output due) begun is)) in
-    record { firings = there.firings; played = record { game = game; own = own; played = there.played } }
+pub played_on : (what : Told) (asked : Asked) (p : Program) (game : Game Marking Place) (m : Marking) (place : Option Place) (picks : List ℕ) → IsGameOn p asked.input game → m ≡ game.start → place ≡ Some game.control → picks ≡ asked.picks → (due : Due) → IsGameTold what p (way_of game picks) (moment m place) asked.limit due → IsDuePlay what asked p due
+played_on what asked p game m place picks own begun control same due is =
+    let there : IsGameTold what p (way_of game asked.picks) (opening game) asked.limit due =
+    subst (λ xs. IsGameTold what p (way_of game xs) (opening game) asked.limit due) same
+    (subst (λ c. IsGameTold what p (way_of game picks) (moment game.start c) asked.limit due) control
+    (subst (λ (x : Marking). IsGameTold what p (way_of game picks) (moment x place) asked.limit due) begun is)) in
+    record { firings = there.firings; played = record { game = game; own = own; played = there.tells } }
+
+-- ---- the store
+
+-- what is shown of firings of which nothing is shown
+nothing_shown : (w : Way Marking Place) (start : Moment Marking Place) (n : ℕ) → shown w show.Nothing start n ≡ []
+nothing_shown w start zero = refl
+nothing_shown w start (suc n) = append-nil (shown w show.Nothing start n) ∙ nothing_shown w start n
+
+module _ (p : Program) (w : Way Marking Place) (start : Moment Marking Place) (limit : ℕ) where
+  -- nothing was written of the firings
+  unwritten : (n : ℕ) (old mid : Option (List ℕ)) → Appends old mid (shown w show.Nothing start n) → Appends old mid []
+  unwritten n old mid written = subst (Appends old mid) (nothing_shown w start n) written
+
+  abbrev is_told : Due → Type 0
+  is_told due = IsGameTold Store p w start limit due
+
+  module _ (last : Moment Marking Place) (old mid : Option (List ℕ)) where
+    -- at rest: the store, and how many nodes fired
+    abbrev text_at : (count : ℕ) → List ℕ
+    text_at count = store_text p.names (store_in last.marking) ++ fired_line count
+
+    rest_due : (n : ℕ) → Plays w start limit show.Nothing last old mid (end.Rest n) → is_told (done (text_at n))
+    rest_due n plays = record {
+      firings = plays.firings;
+      tells = record {
+        end = end.Rest n;
+        run = run_of w start limit show.Nothing plays tt;
+        is = ap (λ (m : Moment Marking Place). done (store_text p.names (store_in m.marking) ++ fired_line n)) plays.leads;
+      };
+    }
+
+    pub store_told : (n : ℕ) (new : Option (List ℕ)) → Plays w start limit show.Nothing last old mid (end.Rest n) → Appends mid new (text_at n) → AnswersAs is_told old new Done
+    store_told n new plays written = record {
+      due = done (text_at n);
+      is = rest_due n plays;
+      same = refl;
+      written = subst (Appends old new) (sym (append-nil (text_at n))) (Appends-trans old mid new [] (text_at n) (unwritten plays.firings old mid plays.writes) written);
+    }
+
+    pub store_begun : (n : ℕ) (new : Option (List ℕ)) → Plays w start limit show.Nothing last old mid (end.Rest n) → AppendsPrefix mid new (text_at n) → AnswersAs is_told old new WriteFault
+    store_begun n new plays prefix = record {
+      due = done (text_at n);
+      is = rest_due n plays;
+      prefix = subst (AppendsPrefix old new) (sym (append-nil (text_at n))) (prefix_after old mid new [] (text_at n) (unwritten plays.firings old mid plays.writes) prefix);
+    }
+
+    -- at a trap or at the limit no store is told
+    pub store_trap : (trap : Trap) (line : ℕ) (new : Option (List ℕ)) (s : Status) → Plays w start limit show.Nothing last old mid (end.Trapped trap line) → Tells (trapped [] trap line) mid new s → AnswersAs is_told old new s
+    store_trap trap line new s plays tells =
+        trap_after is_told [] trap line (record { firings = plays.firings; tells = record { end = end.Trapped trap line; run = run_of w start limit show.Nothing plays tt; is = refl } })
+        old mid new s (unwritten plays.firings old mid plays.writes) tells
+
+    pub store_limit : (new : Option (List ℕ)) (s : Status) → Plays w start limit show.Nothing last old mid end.Limit → Tells (stopped [] limit) mid new s → AnswersAs is_told old new s
+    store_limit new s plays tells =
+        limit_after is_told [] limit (record { firings = plays.firings; tells = record { end = end.Limit; run = run_of w start limit show.Nothing plays tt; is = refl } })
+        old mid new s (unwritten plays.firings old mid plays.writes) tells
+
+    -- Before the end nothing was written.
+    pub store_fault : (n : ℕ) → HasEnd w start limit → Plays w start limit show.Nothing last old mid (end.WriteFault n) → AnswersAs is_told old mid WriteFault
+    store_fault n has plays =
+        let b : BreaksOff w show.Nothing start plays.firings old mid = plays.writes in
+        let with = due_with w start limit show.Nothing has.end (told_text Store p w start has.firings has.end) has.run.own in
+        let none : shown w show.Nothing start b.last ++ take b.count [] ≡ [] = ap (λ (bytes : List ℕ). shown w show.Nothing start b.last ++ bytes) (take-nil b.count) ∙ append-nil (shown w show.Nothing start b.last) ∙ nothing_shown w start b.last in
+        record {
+          due = with.due;
+          is = record { firings = has.firings; tells = record { end = has.end; run = has.run; is = with.is } };
+          prefix = record { count = 0; within = omega arith; added = subst (Appends old mid) none b.written };
+        }

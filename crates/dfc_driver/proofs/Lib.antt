@@ -2,9 +2,23 @@ mod DataWords
 mod GameLaws
 mod GameMeans
 mod GameTold
+mod GraphMeans
+mod GraphParts
 mod NetGames
 mod NetParts
 mod OneNet
+mod NameLines
+mod Telling
+mod NodesTold
 mod Pieces
 mod RegionsTold
+mod SetNumbers
 pub mod Texts
+mod Items
+mod Sizes
+mod Alike
+mod ClassesOfNames
+mod Entered
+mod LinesTold
+mod NameWords
+mod WiresTold

@@ -7,18 +7,22 @@ use Rattle.f77_tree.specs.declared.programs.Program.{Program}
 use Rattle.firing.specs.declared.playing.PlayEnd.{PlayEnd}
 use Rattle.firing.specs.declared.playing.PlayEnd.TheVariants as end
 use Rattle.firing.specs.declared.playing.Show.{Show}
-use Rattle.firing.specs.declared.playing.Show.TheVariants.{Output}
-use Rattle.firing.specs.Play.{Moment, Way, shown}
+use Rattle.firing.specs.declared.playing.Show.TheVariants as show
+use Rattle.firing.specs.Play.{Moment, Way, shown, played as moment_after}
 use Rattle.firing.specs.Runs.{IsRun}
 use Rattle.dfc_driver.specs.declared.reading.Code.{Code}
 use Rattle.dfc_driver.specs.declared.status.Status.{Status}
 use Rattle.dfc_driver.specs.declared.status.Status.TheVariants as status
+use Rattle.dfc_driver.specs.declared.words.Told.{Told}
+use Rattle.dfc_driver.specs.declared.words.Told.TheVariants as told
 use Rattle.dfc_driver.specs.Codes.{name_of}
-use Rattle.dfc_driver.specs.Game.{IsGameOn, Marking, Place}
+use Rattle.dfc_driver.specs.Game.{IsGameOn, Marking, Place, store_in}
+use Rattle.dfc_driver.specs.GraphText.{TellsGraph}
 use Rattle.dfc_driver.specs.Playing.{Game, opening, way_of}
 use Rattle.dfc_driver.specs.Reading.{Reading, Accepted, Refused, reading}
 use Rattle.dfc_driver.specs.Regions.{TellsRegions}
-use Rattle.dfc_driver.specs.Words.{Asked, Job, On, Task, Regions, Play, job_of}
+use Rattle.dfc_driver.specs.StoreText.{fired_line, store_text}
+use Rattle.dfc_driver.specs.Words.{Asked, Job, On, Task, Regions, Graph, Play, job_of}
 
 -- a status, what the job writes, and after that the line that tells how it ended, or nothing
 pub record Due : Type 0 where
@@ -74,15 +78,34 @@ pub record IsGameOf {M P : Type 0} (w : Way M P) (start : Moment M P) (limit : �
   pub firings : ℕ
   pub played : IsPlayedBy w start limit show firings due
 
+-- What is told of a game of so many firings that ended like this. The store is told at a rest alone.
+abbrev pub told_text : Told → Program → Way Marking Place → Moment Marking Place → (firings : ℕ) → PlayEnd → List ℕ
+told_text told.Output p w start firings end = shown w show.Output start firings
+told_text told.Nodes p w start firings end = shown w show.Nodes start firings
+told_text told.Store p w start firings (end.Rest count) = store_text p.names (store_in (moment_after w start firings).marking) ++ fired_line count
+told_text told.Store p w start firings (end.Trapped trap line) = []
+told_text told.Store p w start firings end.Limit = []
+told_text told.Store p w start firings (end.WriteFault count) = []
+
+-- A game was played for so many firings, up to a rest, a trap or the limit, and this is due of it.
+pub record IsToldBy (what : Told) (p : Program) (w : Way Marking Place) (start : Moment Marking Place) (limit firings : ℕ) (due : Due) : Type 0 where
+  pub end : PlayEnd
+  pub run : IsRun w start limit firings end
+  pub is : IsDueBy end limit (told_text what p w start firings end) due
+
+pub record IsGameTold (what : Told) (p : Program) (w : Way Marking Place) (start : Moment Marking Place) (limit : ℕ) (due : Due) : Type 0 where
+  pub firings : ℕ
+  pub tells : IsToldBy what p w start limit firings due
+
 -- the game of a program was played
-pub record IsPlayed (asked : Asked) (p : Program) (firings : ℕ) (due : Due) : Type 0 where
+pub record IsPlayed (what : Told) (asked : Asked) (p : Program) (firings : ℕ) (due : Due) : Type 0 where
   pub game : Game Marking Place
   pub own : IsGameOn p asked.input game
-  pub played : IsPlayedBy (way_of game asked.picks) (opening game) asked.limit Output firings due
+  pub played : IsToldBy what p (way_of game asked.picks) (opening game) asked.limit firings due
 
-pub record IsDuePlay (asked : Asked) (p : Program) (due : Due) : Type 0 where
+pub record IsDuePlay (what : Told) (asked : Asked) (p : Program) (due : Due) : Type 0 where
   pub firings : ℕ
-  pub played : IsPlayed asked p firings due
+  pub played : IsPlayed what asked p firings due
 
 -- this is due, and nothing else
 abbrev pub IsJust : Due → Due → Type 0
@@ -96,7 +119,8 @@ pub record IsDoneBy (asked : List ℕ → Type 0) (due : Due) : Type 0 where
 -- what each task owes on a program of the plain dialect or of the checked one
 abbrev pub IsDueOn : Task → (checked : Bool) → Program → Due → Type 0
 IsDueOn Regions checked p = IsDoneBy (TellsRegions p)
-IsDueOn (Play asked) checked p = IsDuePlay asked p
+IsDueOn Graph checked p = IsDoneBy (TellsGraph p)
+IsDueOn (Play what asked) checked p = IsDuePlay what asked p
 
 abbrev pub IsDueRead : Task → (checked : Bool) → Reading → Due → Type 0
 IsDueRead task checked (Refused line code) = IsJust (refusal line code)

@@ -12,7 +12,7 @@ use Rattle.firing.specs.Orders.{IsOver, after}
 use Rattle.firing.specs.Play.{Moment, Way, by_order}
 use Rattle.firing.specs.Runs.{HasOrder, IsRun}
 use Rattle.firing.specs.SourceOrder.{IsDueOrder}
-use Rattle.dfc_driver.specs.Game.{IsGameOn, Marking, Place}
+use Rattle.dfc_driver.specs.Game.{IsGameOn, Marking, Place, store_in}
 use Rattle.dfc_driver.specs.Headline.{bound_of}
 use Rattle.dfc_driver.specs.Playing.{Game, StaysInLockstep, opening}
 
@@ -36,4 +36,6 @@ pub record GameLaws : Type 0 where
   pub one : (p : Program) (words : List ℤ) (game other : Game Marking Place) → IsFlowGraph (flow p.execs).graph → IsGameOn p words game → IsGameOn p words other → game ≡ other
   pub lockstep : (p : Program) (words : List ℤ) (game : Game Marking Place) → IsGameOn p words game → StaysInLockstep game p words
   pub few : (p : Program) (words : List ℤ) (game : Game Marking Place) (steps : ℕ) → IsGameOn p words game → game.bound steps ≤ bound_of p steps
+  -- after the firings of so many steps in the source's own order the store is that of the program
+  pub store : (p : Program) (words : List ℤ) (game : Game Marking Place) (steps : ℕ) → IsGameOn p words game → store_in (after game.moves game.start (game.own_order steps)) ≡ (source p words steps).memory.store
   pub stop_first : StopFirst

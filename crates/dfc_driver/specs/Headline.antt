@@ -1,28 +1,29 @@
 -- What each job promises of the program of a text, beyond the bytes that are due.
-use Rattle.std.specs.Prelude.{◌≡◌, ◌<◌, ◌≤◌, ◌+◌, ◌*◌, ◌↔◌, ℕ, suc, Bool, List, [], Option, Some, None, slice_index}
+use Rattle.std.specs.Prelude.{◌≡◌, ◌<◌, ◌≤◌, ◌+◌, ◌*◌, ◌==◌, ◌++◌, ◌↔◌, ℕ, ℤ, suc, Bool, List, [], length, filter, Option, Some, None, slice_index}
 use Rattle.op_table.specs.declared.Trap.{Trap}
 use Rattle.closed_walks.specs.Graph.{edge_count}
 use Rattle.closed_walks.specs.Walk.{IsCycleEquivalent}
 use Rattle.f77_tree.specs.declared.programs.Program.{Program}
 use Rattle.f77_tree.specs.Operations.{most_operations}
-use Rattle.f77_tree.specs.Run.{EndsIn, TrapsAt, out}
+use Rattle.f77_tree.specs.Run.{EndsIn, TrapsAt, out, source}
 use Rattle.alias_classes.specs.Number.{number_of_classes}
 use Rattle.cfg_build.specs.Flow.{flow}
 use Rattle.cfg_build.specs.Joined.{FlowGraph}
 use Rattle.region_tree.specs.Tree.{Tree, IsRegionTree}
 use Rattle.firing.specs.Orders.{IsPrefix}
+use Rattle.op_board.specs.OperationNets.{OperationNet}
 use Rattle.dfc_driver.specs.declared.status.Status.TheVariants.{Done, Trapped}
+use Rattle.dfc_driver.specs.declared.words.Told.{Told}
+use Rattle.dfc_driver.specs.declared.words.Told.TheVariants.{Output, Nodes, Store}
 use Rattle.dfc_driver.specs.Due.{Due, IsDueOn, IsPlayed, trapped}
+use Rattle.dfc_driver.specs.Game.{IsNetOn}
+use Rattle.dfc_driver.specs.GraphText.{TellsGraph, graph_text}
 use Rattle.dfc_driver.specs.Reading.{Reading, Accepted, Refused, reading}
 use Rattle.dfc_driver.specs.Regions.{regions_text}
-use Rattle.dfc_driver.specs.Words.{Asked, Job, On, Task, Regions, Play}
+use Rattle.dfc_driver.specs.StoreText.{fired_line, store_text}
+use Rattle.dfc_driver.specs.Words.{Asked, Job, On, Task, Regions, Graph, Play}
 
 -- ---- games
-
--- the text is a prefix of what the run of the program writes
-pub record IsPrefixOfRun (asked : Asked) (p : Program) (due : Due) : Type 0 where
-  pub steps : ℕ
-  pub prefix : IsPrefix due.text (out p asked.input steps)
 
 -- how many lines a net has: that of output, and one for each class
 abbrev pub line_count : Program → ℕ
@@ -32,32 +33,69 @@ line_count p = suc (number_of_classes p)
 abbrev pub bound_of : Program → (steps : ℕ) → ℕ
 bound_of p steps = (5 * (line_count p + 1) + most_operations p) * (steps + 1)
 
--- The run of the program ends, and the text is all that it writes. The game comes to rest after few firings.
-pub record MeansRest (asked : Asked) (p : Program) (due : Due) : Type 0 where
+-- how many lines a text has
+abbrev pub lines_in : List ℕ → ℕ
+lines_in text = length (filter (λ c. c == 10) text)
+
+-- the text is a prefix of what the run of the program writes
+pub record IsPrefixOfRun (asked : Asked) (p : Program) (text : List ℕ) : Type 0 where
+  pub steps : ℕ
+  pub prefix : IsPrefix text (out p asked.input steps)
+
+-- what is told as output is a prefix of what the run of the program writes
+abbrev pub TellsPrefix : Told → Asked → Program → List ℕ → Type 0
+TellsPrefix Output asked p text = IsPrefixOfRun asked p text
+TellsPrefix Nodes asked p text = Unit {0}
+TellsPrefix Store asked p text = Unit {0}
+
+-- What is told where the run ended in so many steps, and the game came to rest after so many firings: all that the run writes, a line
+-- for each firing, or the final words of all names and the number of firings.
+abbrev pub TellsEnd : Told → Asked → Program → (steps firings : ℕ) → List ℕ → Type 0
+TellsEnd Output asked p steps firings text = text ≡ out p asked.input steps
+TellsEnd Nodes asked p steps firings text = lines_in text ≡ firings
+TellsEnd Store asked p steps firings text = text ≡ store_text p.names (source p asked.input steps).memory.store ++ fired_line firings
+
+-- What is told where the run trapped at so many steps: all that it writes, or no store.
+abbrev pub TellsTrap : Told → Asked → Program → (steps : ℕ) → List ℕ → Type 0
+TellsTrap Output asked p steps text = text ≡ out p asked.input steps
+TellsTrap Nodes asked p steps text = Unit {0}
+TellsTrap Store asked p steps text = text ≡ []
+
+-- The run of the program ends, and what is told is what the run comes to. The game comes to rest after few firings.
+pub record MeansRest (what : Told) (asked : Asked) (p : Program) (due : Due) : Type 0 where
   pub steps : ℕ
   pub ends : EndsIn p asked.input steps
-  pub output : due.text ≡ out p asked.input steps
   pub firings : ℕ
-  pub played : IsPlayed asked p firings due
+  pub played : IsPlayed what asked p firings due
   pub few : firings ≤ bound_of p steps
+  pub told : TellsEnd what asked p steps firings due.text
 
--- The run of the program traps, with the trap and at the line that are told, and the text is all that it writes.
-pub record MeansTrap (asked : Asked) (p : Program) (due : Due) : Type 0 where
+-- The run of the program traps, with the trap and at the line that are told.
+pub record MeansTrap (what : Told) (asked : Asked) (p : Program) (due : Due) : Type 0 where
   pub steps : ℕ
   pub trap : Trap
   pub line : ℕ
   pub traps : TrapsAt p asked.input steps trap line
-  pub told : due ≡ trapped (out p asked.input steps) trap line
+  pub is : due ≡ trapped due.text trap line
+  pub told : TellsTrap what asked p steps due.text
 
--- What is written is a prefix of what the run of the program writes, whatever the picks and the limit. The game is done only where the
--- run ends, and traps only where it traps. Where the run ends and the limit is large enough, the game is done; where it traps
+-- What is written as output is a prefix of what the run of the program writes, whatever the picks and the limit. The game is done only
+-- where the run ends, and traps only where it traps. Where the run ends and the limit is large enough, the game is done; where it traps
 -- and the limit is large enough, the game traps in the source's own order.
-pub record MeansPlay (asked : Asked) (p : Program) (due : Due) : Type 0 where
-  pub prefix : IsPrefixOfRun asked p due
-  pub rests : due.status ≡ Done → MeansRest asked p due
-  pub traps : due.status ≡ Trapped → MeansTrap asked p due
+pub record MeansPlay (what : Told) (asked : Asked) (p : Program) (due : Due) : Type 0 where
+  pub prefix : TellsPrefix what asked p due.text
+  pub rests : due.status ≡ Done → MeansRest what asked p due
+  pub traps : due.status ≡ Trapped → MeansTrap what asked p due
   pub ends : (steps : ℕ) → EndsIn p asked.input steps → bound_of p steps ≤ asked.limit → due.status ≡ Done
   pub fails : (steps : ℕ) (trap : Trap) (line : ℕ) → TrapsAt p asked.input steps trap line → asked.picks ≡ [] → bound_of p steps ≤ asked.limit → due.status ≡ Trapped
+
+-- ---- graphs
+
+-- The text is that of the net of operations of the program, which is the net that games of the program fire, over whatever data.
+pub record MeansGraph (p : Program) (due : Due) : Type 0 where
+  pub done : due.status ≡ Done
+  pub tells : TellsGraph p due.text
+  pub fired : (words : List ℤ) (net : OperationNet) (own : IsNetOn p words net) → due.text ≡ graph_text p own.parts.classes net
 
 -- ---- regions
 
@@ -74,7 +112,8 @@ pub record MeansRegions (f : FlowGraph) (due : Due) : Type 0 where
 -- what each task promises
 abbrev pub Means : Task → (checked : Bool) → Program → Due → Type 0
 Means Regions checked p due = MeansRegions (flow p.execs) due
-Means (Play asked) checked p due = MeansPlay asked p due
+Means Graph checked p due = MeansGraph p due
+Means (Play what asked) checked p due = MeansPlay what asked p due
 
 -- No two things are due on the program, and what is due means this.
 pub record MeansOn (task : Task) (checked : Bool) (p : Program) : Type 0 where

@@ -5,6 +5,14 @@ pub mod Reading
 pub mod Playing
 pub mod Game
 pub mod Regions
+pub mod StoreText
+pub mod OperationNames
+pub mod GraphText
+pub mod Below
+pub mod GivenText
+pub mod NameSets
+pub mod Entries
+pub mod Drawn
 pub mod Found
 pub mod Due
 pub mod GameLaws

@@ -5,6 +5,8 @@ use Rattle.std.specs.Str.{bytes_eq}
 use Rattle.f77_tree.specs.Name.{is_figure}
 use Rattle.fixed_form.specs.Columns.{number}
 use Rattle.f77_tree.specs.Grammar.{greatest_constant}
+use Rattle.dfc_driver.specs.declared.words.Told.{Told}
+use Rattle.dfc_driver.specs.declared.words.Told.TheVariants.{Output, Nodes, Store}
 use Rattle.dfc_driver.specs.declared.words.Setting.{Setting}
 use Rattle.dfc_driver.specs.declared.words.Setting.TheVariants.{Limit, Picks, Data}
 
@@ -18,7 +20,8 @@ pub record Asked : Type 0 where
 -- what is done with a program
 pub data Task : Type 0 where
   Regions : Task
-  Play : (asked : Asked) → Task
+  Graph : Task
+  Play : (told : Told) (asked : Asked) → Task
 
 -- a task on the program of a text, in the checked dialect or in the plain one
 pub data Job : Type 0 where
@@ -104,14 +107,23 @@ on task None = None
 on task (Some checked) = Some (On task checked)
 
 -- the limit, the picks, the data and the dialect, in this order, each of them once or not at all
-abbrev pub play_of : List (List ℕ) → Option Job
-play_of words =
+abbrev pub play_of : Told → List (List ℕ) → Option Job
+play_of told words =
     let after_limit = after Limit words in
     let after_picks = after Picks after_limit in
     let after_data = after Data after_picks in
-    on (Play (record { limit = limit_in (text_of Limit words); picks = values_in number (text_of Picks after_limit); input = values_in word_value (text_of Data after_picks) })) (dialect_of after_data)
+    on (Play told (record { limit = limit_in (text_of Limit words); picks = values_in number (text_of Picks after_limit); input = values_in word_value (text_of Data after_picks) })) (dialect_of after_data)
 
--- The job that these words ask for: `regions` and the dialect, or `fire` and its settings, as yet. Other words have no meaning.
+-- the game that this word asks for
+abbrev pub told_by : List ℕ → Option Told
+told_by word = if bytes_eq word (codes "fire") then Some Output else if bytes_eq word (codes "trace") then Some Nodes else if bytes_eq word (codes "store") then Some Store else None
+
+abbrev pub game_of_words : Option Told → List (List ℕ) → Option Job
+game_of_words None words = None
+game_of_words (Some told) words = play_of told words
+
+-- The job that these words ask for: `regions` or `graph` and the dialect, or `fire`, `trace` or `store` and the settings of a game, as
+-- yet. Other words have no meaning.
 abbrev pub job_of : List (List ℕ) → Option Job
 job_of [] = None
-job_of (word ∷ words) = if bytes_eq word (codes "regions") then on Regions (dialect_of words) else if bytes_eq word (codes "fire") then play_of words else None
+job_of (word ∷ words) = if bytes_eq word (codes "regions") then on Regions (dialect_of words) else if bytes_eq word (codes "graph") then on Graph (dialect_of words) else game_of_words (told_by word) words

@@ -53,6 +53,7 @@ pub fn play_game<S: SourceOrder, K: Sink>(
     requires sound { S.sound (S.net sys.old) (S.marking sys.old) }
     requires in_step { IsInStep (S.moves (S.net sys.old)) (S.in_step (S.net sys.old)) (S.marking sys.old) (S.place sys.old) }
     ensures plays { Plays (way_by (S.moves (S.net sys.old)) (S.course (S.net sys.old)) picks.now) (moment (S.marking sys.old) (S.place sys.old)) limit show (moment (S.marking sys.new) (S.place sys.new)) (K.got sink.old) (K.got sink.new) result }
+    ensures sound { S.sound (S.net sys.old) (S.marking sys.new) }
     ensures later { K.faults sink.old ≤ K.faults sink.new }
     ensures fault { (n : ℕ) → result ≡ PlayEnd.WriteFault n → Rose (K.faults sink.old) (K.faults sink.new) }
 {

@@ -3,13 +3,21 @@
 #![tactic(auto)]
 
 mod game;
+mod graph;
+mod graph_line;
+mod graph_lines;
+mod graph_nodes;
+mod graph_wires;
 mod lines;
+mod net_parts;
 mod numbers;
+mod operation_names;
 mod playing;
 mod reading;
 mod region_line;
 mod regions;
 mod status;
+mod store;
 mod top;
 mod words;
 

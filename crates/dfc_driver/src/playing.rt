@@ -1,39 +1,57 @@
 //! Games that are played on a program.
 
-ghost use Rattle.std.specs.Prelude.{◌≡◌, ◌≢◌, ◌≤◌, Bool, IfOk};
+ghost use Rattle.std.specs.Prelude.{◌≡◌, ◌≢◌, ◌≤◌, Bool, None, IfOk};
 ghost use Rattle.df_io.specs.Faults.{Rose};
 ghost use Rattle.alias_classes.specs.Number.{HasFewClasses};
 ghost use Rattle.f77_tree.specs.WellFormed.{IsWellFormed};
+ghost use Rattle.firing.specs.Control.{IsInStep};
+ghost use Rattle.firing.specs.Play.{moment};
 ghost use Rattle.flow_analysis.specs.Analysis.{IsAnalysisOf};
+ghost use Rattle.op_board.specs.OperationCourse.{operation_course};
+ghost use Rattle.op_board.specs.OperationTokens.{operation_moves};
+ghost use Rattle.op_board.specs.SoundOperationNets.{OperationsCanCome};
+ghost use Rattle.op_net.specs.NetView.{marking_of, net_of};
+ghost use Rattle.op_net.specs.StaysInStep.{StaysInStep};
+ghost use Rattle.dfc_driver.specs.declared.words.Told.{Told};
 ghost use Rattle.dfc_driver.specs.Answers.{AnswersAs};
-ghost use Rattle.dfc_driver.specs.Due.{IsDuePlay};
+ghost use Rattle.dfc_driver.specs.Due.{IsDuePlay, IsGameTold};
 ghost use Rattle.dfc_driver.specs.GameLaws.{GameLaws};
 ghost use Rattle.dfc_driver.specs.Headline.{MeansOn};
 ghost use Rattle.dfc_driver.specs.Meant.{AreGameWords, asked_in};
+ghost use Rattle.dfc_driver.specs.Playing.{way_by};
 ghost use Rattle.dfc_driver.specs.Words.{Asked, Play};
 
-use crate::game::tell_game;
+use crate::game::{play_game, tell_game};
+use crate::lines::{tell_limit, tell_trap};
+use crate::net_parts::are_net_parts;
 use crate::numbers::{data_in, picks_in};
 use crate::status::Status;
-use crate::words::GameWords;
+use crate::store::tell_store;
+use crate::words::{GameWords, Told};
 use alias_classes::{CLASS_WORDS, classes_are_counted, one_numbering};
 use cfg_build::flow_graph_is_strong;
 use dep_routing::{one_routing, one_touching};
-use df_io::{NoMemory, Sink};
+use df_io::{NoMemory, Sink, WriteFault};
 use f77_tree::{Program, runs_stop_first};
-use firing::{Show, due_orders_end, every_order_follows, runs_end};
+use firing::{PlayEnd, Show, due_orders_end, every_order_follows, runs_end};
 use flow_analysis::{Analysis, analyze};
-use net_board::{nets_begin_soundly, nets_simulate_programs, parts_make_nets};
+use op_board::{operation_nets_begin_soundly, operation_nets_simulate_programs};
+use op_net::OpNet;
 use std::alloc::Global;
-use token_net::Net;
 
-/// Plays the game of a program. All memory is taken before the first byte is written.
-pub fn play<K: Sink>(alloc: Global, words: GameWords<'_>, program: &Program, sink: &mut K) -> Status
+/// Plays the game of a program, and tells of it. All memory is taken before the first byte is written.
+pub fn play<K: Sink>(
+    alloc: Global,
+    told: Told,
+    words: GameWords<'_>,
+    program: &Program,
+    sink: &mut K,
+) -> Status
     requires words { AreGameWords words }
     requires program { IsWellFormed program.now }
     requires few { HasFewClasses program.now }
-    ensures due { AnswersAs (IsDuePlay (asked_in words.entry) program.now) (K.got sink.old) (K.got sink.new) result }
-    ensures means { result ≢ Status.NoMemory → (checked : Bool) → MeansOn (Play (asked_in words.entry)) checked program.now }
+    ensures due { AnswersAs (IsDuePlay told (asked_in words.entry) program.now) (K.got sink.old) (K.got sink.new) result }
+    ensures means { result ≢ Status.NoMemory → (checked : Bool) → MeansOn (Play told (asked_in words.entry)) checked program.now }
     ensures usage { result ≢ Status.Usage }
     ensures reads { result ≢ Status.ReadFault }
     ensures later { K.faults sink.old ≤ K.faults sink.new }
@@ -41,7 +59,7 @@ pub fn play<K: Sink>(alloc: Global, words: GameWords<'_>, program: &Program, sin
 {
     games_mean(program);
     match game_of(alloc, words, program) {
-        Ok(game) => play_net(alloc, words, program, &game, sink),
+        Ok(game) => play_net(alloc, told, words, program, &game, sink),
         Err(NoMemory) => Status::NoMemory,
     }
 }
@@ -77,12 +95,13 @@ fn game_of<'a>(
     })
 }
 
-// Plays the net of a program.
+// Plays the net of a program, and tells of it.
 fn play_net<K: Sink>(
     alloc: Global,
+    told: Told,
     words: GameWords<'_>,
     program: &Program,
-    game: &Game,
+    game: &Game<'_>,
     sink: &mut K,
 ) -> Status
     requires words { AreGameWords words }
@@ -90,30 +109,93 @@ fn play_net<K: Sink>(
     requires input { game.now.input.items ≡ (asked_in words).input }
     requires program { IsWellFormed program.now }
     requires analysis { IsAnalysisOf program.now game.now.analysis }
-    ensures due { AnswersAs (IsDuePlay (asked_in words.entry) program.now) (K.got sink.old) (K.got sink.new) result }
+    ensures due { AnswersAs (IsDuePlay told (asked_in words.entry) program.now) (K.got sink.old) (K.got sink.new) result }
     ensures usage { result ≢ Status.Usage }
     ensures reads { result ≢ Status.ReadFault }
     ensures later { K.faults sink.old ≤ K.faults sink.new }
     ensures fault { result ≡ Status.WriteFault → Rose (K.faults sink.old) (K.faults sink.new) }
 {
     let analysis = &game.analysis;
-    match Net::new(
+    are_net_parts(program, analysis);
+    let made = OpNet::new(
         alloc,
         program,
         &analysis.flow,
+        &analysis.classes,
         &analysis.touch,
         &analysis.lines,
         &game.input,
-    ) {
-        Ok(mut net) => tell_game(&mut net, &game.picks, words.limit, Show::Output, sink),
+    );
+    match made {
+        Ok(mut net) => tell_net(told, program, &mut net, &game.picks, words.limit, sink),
         Err(NoMemory) => Status::NoMemory,
+    }
+}
+
+// Plays a net, and writes what is told of it.
+fn tell_net<K: Sink>(
+    told: Told,
+    program: &Program,
+    net: &mut OpNet<'_, CLASS_WORDS>,
+    picks: &[u32],
+    limit: u64,
+    sink: &mut K,
+) -> Status
+    requires program { IsWellFormed program.now }
+    requires own { (net_of net.old).net.program ≡ program.now }
+    requires sound { OperationsCanCome (net_of net.old) (marking_of net.old) }
+    requires in_step { IsInStep (operation_moves (net_of net.old)) (StaysInStep (net_of net.old)) (marking_of net.old) net.old.control }
+    requires control { net.old.control ≢ None }
+    ensures due { AnswersAs (IsGameTold told program.now (way_by (operation_moves (net_of net.old)) (operation_course (net_of net.old)) picks.now) (moment (marking_of net.old) net.old.control) limit) (K.got sink.old) (K.got sink.new) result }
+    ensures usage { result ≢ Status.Usage }
+    ensures reads { result ≢ Status.ReadFault }
+    ensures memory { result ≢ Status.NoMemory }
+    ensures later { K.faults sink.old ≤ K.faults sink.new }
+    ensures fault { result ≡ Status.WriteFault → Rose (K.faults sink.old) (K.faults sink.new) }
+{
+    match told {
+        Told::Output => tell_game(net, picks, limit, Show::Output, sink),
+        Told::Nodes => tell_game(net, picks, limit, Show::Nodes, sink),
+        Told::Store => tell_rest(program, net, picks, limit, sink),
+    }
+}
+
+// Plays a net, and writes the store with which it comes to rest.
+fn tell_rest<K: Sink>(
+    program: &Program,
+    net: &mut OpNet<'_, CLASS_WORDS>,
+    picks: &[u32],
+    limit: u64,
+    sink: &mut K,
+) -> Status
+    requires program { IsWellFormed program.now }
+    requires own { (net_of net.old).net.program ≡ program.now }
+    requires sound { OperationsCanCome (net_of net.old) (marking_of net.old) }
+    requires in_step { IsInStep (operation_moves (net_of net.old)) (StaysInStep (net_of net.old)) (marking_of net.old) net.old.control }
+    requires control { net.old.control ≢ None }
+    ensures due { AnswersAs (IsGameTold Told.Store program.now (way_by (operation_moves (net_of net.old)) (operation_course (net_of net.old)) picks.now) (moment (marking_of net.old) net.old.control) limit) (K.got sink.old) (K.got sink.new) result }
+    ensures usage { result ≢ Status.Usage }
+    ensures reads { result ≢ Status.ReadFault }
+    ensures memory { result ≢ Status.NoMemory }
+    ensures later { K.faults sink.old ≤ K.faults sink.new }
+    ensures fault { result ≡ Status.WriteFault → Rose (K.faults sink.old) (K.faults sink.new) }
+{
+    runs_end::<OpNet<'static, CLASS_WORDS>>();
+    match play_game(net, picks, limit, Show::Nothing, sink) {
+        PlayEnd::Rest(firings) => match tell_store(program, net, firings, sink) {
+            Ok(()) => Status::Done,
+            Err(WriteFault) => Status::WriteFault,
+        },
+        PlayEnd::Trapped(trap, line) => tell_trap(trap, line, sink),
+        PlayEnd::Limit => tell_limit(limit, sink),
+        PlayEnd::WriteFault(_) => Status::WriteFault,
     }
 }
 
 // Games mean what the runs of their programs do.
 fn games_mean(program: &Program)
     requires { IsWellFormed program.now }
-    ensures { (asked : Asked) (checked : Bool) → MeansOn (Play asked) checked program.now }
+    ensures { (told : Told) (asked : Asked) (checked : Bool) → MeansOn (Play told asked) checked program.now }
 {
     game_laws();
     flow_graph_is_strong();
@@ -123,12 +205,11 @@ fn games_mean(program: &Program)
 fn game_laws()
     ensures { GameLaws }
 {
-    runs_end::<Net<'static, CLASS_WORDS>>();
-    due_orders_end::<Net<'static, CLASS_WORDS>>();
-    every_order_follows::<Net<'static, CLASS_WORDS>>();
-    parts_make_nets();
-    nets_begin_soundly();
-    nets_simulate_programs();
+    runs_end::<OpNet<'static, CLASS_WORDS>>();
+    due_orders_end::<OpNet<'static, CLASS_WORDS>>();
+    every_order_follows::<OpNet<'static, CLASS_WORDS>>();
+    operation_nets_begin_soundly();
+    operation_nets_simulate_programs();
     one_numbering();
     one_touching();
     one_routing();

@@ -10,6 +10,7 @@ ghost use Rattle.dfc_driver.specs.Meant.{IsJob, IsTask, job_meant, task_meant};
 ghost use Rattle.dfc_driver.specs.Reading.{reading};
 ghost use Rattle.dfc_driver.specs.Words.{job_of};
 
+use crate::graph::tell_graph;
 use crate::lines::{tell_refusal, tell_usage};
 use crate::playing::play;
 use crate::reading::{NoProgram, read_program};
@@ -114,6 +115,7 @@ fn on_program<K: Sink>(
 {
     match task {
         Task::Regions => tell_regions(alloc, program, sink),
-        Task::Play(words) => play(alloc, words, program, sink),
+        Task::Graph => tell_graph(alloc, program, sink),
+        Task::Play(told, words) => play(alloc, told, words, program, sink),
     }
 }

@@ -19,8 +19,21 @@ pub enum Job<'a> {
 pub enum Task<'a> {
     /// The pieces, edges, classes and regions of its flow graph are written.
     Regions,
-    /// The game of its net is played, and its output written.
-    Play(GameWords<'a>),
+    /// The lines, nodes and wires of its net of operations are written.
+    Graph,
+    /// The game of its net of operations is played, and something told of it.
+    Play(Told, GameWords<'a>),
+}
+
+/// What is told of a game.
+#[derive(Clone, Copy, Debug, PartialEq, Eq)]
+pub enum Told {
+    /// The output of the program.
+    Output,
+    /// The nodes as they fire.
+    Nodes,
+    /// The store after it, where it came to rest, and how many nodes fired.
+    Store,
 }
 
 /// What a game is asked to do, as far as words tell it without memory.
@@ -55,14 +68,20 @@ pub fn read_words(words: &[String]) -> Option<Job<'_>>
             let checked = read_dialect(options)?;
             Some(Job::On(Task::Regions, checked))
         }
-        [word, options @ ..] if word.as_str() == "fire" => read_game(options),
+        [word, options @ ..] if word.as_str() == "graph" => {
+            let checked = read_dialect(options)?;
+            Some(Job::On(Task::Graph, checked))
+        }
+        [word, options @ ..] if word.as_str() == "fire" => read_game(Told::Output, options),
+        [word, options @ ..] if word.as_str() == "trace" => read_game(Told::Nodes, options),
+        [word, options @ ..] if word.as_str() == "store" => read_game(Told::Store, options),
         _ => None,
     }
 }
 
-// The game that the words after `fire` ask for.
-fn read_game(words: &[String]) -> Option<Job<'_>>
-    ensures job { meant result ≡ play_of (map string_bytes words.now) }
+// The game that the words after `fire`, `trace` or `store` ask for.
+fn read_game(told: Told, words: &[String]) -> Option<Job<'_>>
+    ensures job { meant result ≡ play_of told (map string_bytes words.now) }
     ensures texts { IfSome result IsJob }
 {
     let (limit, words) = split_setting(Setting::Limit, words);
@@ -71,11 +90,14 @@ fn read_game(words: &[String]) -> Option<Job<'_>>
     let checked = read_dialect(words)?;
     let limit = limit_in(limit);
     Some(Job::On(
-        Task::Play(GameWords {
-            limit,
-            picks,
-            input,
-        }),
+        Task::Play(
+            told,
+            GameWords {
+                limit,
+                picks,
+                input,
+            },
+        ),
         checked,
     ))
 }

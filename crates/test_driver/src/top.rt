@@ -8,11 +8,11 @@ use std::test::Fail;
 const PROGRAM: &str =
     "      I=2\n      J=I+I+1\n      PRINT *,J,I\n      K=I-J\n      PRINT *,K\n      END\n";
 
-const TWO_WAYS: &str = "      I=2\n      IF(I.GT.1)J=5\n      PRINT *,J\n      END\n";
+pub(crate) const TWO_WAYS: &str = "      I=2\n      IF(I.GT.1)J=5\n      PRINT *,J\n      END\n";
 
 const TWO_IFS: &str = "      IF(I.EQ.0)J=3\n      IF(K.NE.0)M=4\n      PRINT *,J,M\n      END\n";
 
-const DIVIDES: &str =
+pub(crate) const DIVIDES: &str =
     "      PRINT *,1\n      I=0\n      J=5/I\n      K=4\n      PRINT *,2\n      END\n";
 
 const LOOP: &str = "      PRINT *,1\n   10 CONTINUE\n      GO TO 10\n      END\n";
@@ -25,9 +25,9 @@ const GREATEST: &str = "      I=2147483647\n      PRINT *,I+1\n      END\n";
 
 /// Which calls fail.
 #[derive(Clone, Copy)]
-struct Faults {
-    source: [u32; 1],
-    sink: [u32; 1],
+pub(crate) struct Faults {
+    pub(crate) source: [u32; 1],
+    pub(crate) sink: [u32; 1],
 }
 
 const NONE: Faults = Faults {
@@ -60,8 +60,8 @@ fn check(
 fn fires_programs(rt: HostRuntime) -> Result<(), Fail> {
     for (text, words, status, written) in [
         (PROGRAM, ["fire"].as_slice(), 0, " 5 2\n -3\n"),
-        (TWO_WAYS, ["fire", "limit=7"].as_slice(), 0, " 5\n"),
-        (TWO_WAYS, ["fire", "limit=6"].as_slice(), 4, "LIMIT 6\n"),
+        (TWO_WAYS, ["fire", "limit=10"].as_slice(), 0, " 5\n"),
+        (TWO_WAYS, ["fire", "limit=9"].as_slice(), 4, "LIMIT 9\n"),
         (DIVIDES, ["fire"].as_slice(), 3, " 1\nTRAP DIVIDE LINE 3\n"),
         (LOOP, ["fire", "limit=50"].as_slice(), 4, " 1\nLIMIT 50\n"),
         (TEXT_FAULT, ["fire"].as_slice(), 2, "REFUSED 2 REALNAME\n"),
@@ -85,15 +85,15 @@ fn fires_by_picks(rt: HostRuntime) -> Result<(), Fail> {
     for (text, words, status, written) in [
         (
             TWO_IFS,
-            ["fire", "limit=10", "picks=7,3,5"].as_slice(),
+            ["fire", "limit=16", "picks=7,3,5"].as_slice(),
             0,
             " 3 0\n",
         ),
         (
             TWO_IFS,
-            ["fire", "limit=9", "picks=1"].as_slice(),
+            ["fire", "limit=15", "picks=1"].as_slice(),
             4,
-            "LIMIT 9\n",
+            "LIMIT 15\n",
         ),
         (
             DIVIDES,
@@ -295,8 +295,8 @@ fn blames_what_failed(rt: HostRuntime) -> Result<(), Fail> {
     )
 }
 
-// What is written where a call of the source or of the sink fails, with the status.
-fn failing(
+/// What is written where a call of the source or of the sink fails, with the status.
+pub(crate) fn failing(
     alloc: Global,
     words: &[&str],
     text: &str,

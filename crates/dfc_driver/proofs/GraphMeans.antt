@@ -1,0 +1,128 @@
+-- The text of a program's net, and what it means: the net is the same over whatever data.
+use Rattle.std.proofs.Common.{◌≡◌, ◌≤◌, ℕ, ℤ, Bool, false, List, [], All, refl, sym, ap, subst, ◌∙◌}
+use Rattle.std.proofs.lemmas.List.Elements.{All-nil}
+use Rattle.op_table.specs.Words.{IsWord}
+use Rattle.closed_walks.specs.Region.{IsFlowGraph}
+use Rattle.f77_tree.specs.declared.programs.Program.{Program}
+use Rattle.f77_tree.specs.WellFormed.{IsWellFormed}
+use Rattle.alias_classes.specs.Classes.{ClassTable}
+use Rattle.cfg_build.specs.Flow.{flow}
+use Rattle.dep_routing.specs.LineTable.{HaveRows}
+use Rattle.dep_routing.specs.Routing.{Routing}
+use Rattle.dep_routing.specs.Touch.{touches_in}
+use Rattle.flow_analysis.specs.declared.parts.Analysis.{Analysis}
+use Rattle.flow_analysis.specs.Analysis.{IsAnalysisOf}
+use Rattle.net_board.specs.Nodes.{NetOf, graph_in}
+use Rattle.net_board.specs.NetParts.{AreParts, net_with}
+use Rattle.net_board.specs.SoundNets.{IsNet}
+use Rattle.op_board.specs.OperationNets.{OperationNet, operation_count}
+use Rattle.op_board.specs.SoundOperationNets.{IsOperationNet}
+use Rattle.dfc_driver.specs.Words.{Graph}
+use Rattle.dfc_driver.specs.Due.{Due, IsDueOn, done}
+use Rattle.dfc_driver.specs.Game.{IsNetOn}
+use Rattle.dfc_driver.specs.GraphText.{TellsGraph, graph_text}
+use Rattle.dfc_driver.specs.Headline.{MeansGraph, MeansOn}
+use Rattle.dfc_driver.proofs.NetParts.{found_parts}
+use Rattle.dfc_driver.proofs.OneNet.{OneOfEach, one_net}
+
+-- the net of a program over data, with these parts
+abbrev pub made : Program → List ℤ → (touches : ℕ → ℕ → Bool) → Routing → (needs : ℕ → ℕ → ℕ → Bool) → OperationNet
+made p words touches routing needs = record { net = net_with p words touches routing; needs = needs }
+
+module _ (p : Program) (touches : ℕ → ℕ → Bool) (routing : Routing) (needs : ℕ → ℕ → ℕ → Bool) where
+  -- what makes a net sound does not depend on the data
+  abbrev net_over : (words others : List ℤ) → All IsWord others → IsNet (net_with p words touches routing) → IsNet (net_with p others touches routing)
+  net_over words others are is = record {
+    program = is.program;
+    can_run = is.can_run;
+    input_words = are;
+    classes = is.classes;
+    own_classes = is.own_classes;
+    tree = is.tree;
+    own_tree = is.own_tree;
+    sound_touches = is.sound_touches;
+    own_routing = is.own_routing;
+  }
+
+  abbrev operations_over : (words others : List ℤ) → All IsWord others → IsOperationNet (made p words touches routing needs) → IsOperationNet (made p others touches routing needs)
+  operations_over words others are is = record {
+    is_net = net_over words others are is.is_net;
+    own_needs = is.own_needs;
+    traps = is.traps;
+  }
+
+  -- the net of a program over data, without them
+  over_none : (words : List ℤ) → IsNetOn p words (made p words touches routing needs) → IsNetOn p [] (made p [] touches routing needs)
+  over_none words own = record {
+    are_words = All-nil IsWord;
+    parts = own.parts;
+    rows = own.rows;
+    is = refl;
+    operations = operations_over words [] (All-nil IsWord) own.operations;
+    outside_pieces = own.outside_pieces;
+    outside_operations = own.outside_operations;
+  }
+
+  -- The parts of a program make such a net, and its text tells it.
+  pub made_tells : (parts : AreParts p (flow p.execs) touches routing) (net : NetOf) → HaveRows routing → net ≡ net_with p [] touches routing → IsOperationNet (record { net = net; needs = needs })
+      → ((piece i line : ℕ) → (graph_in net).nodes ≤ piece → needs piece i line ≡ false)
+      → ((piece i line : ℕ) → operation_count (record { net = net; needs = needs }) piece ≤ i → needs piece i line ≡ false)
+      → TellsGraph p (graph_text p parts.classes (record { net = net; needs = needs }))
+  made_tells parts net rows same operations outside_pieces outside_operations =
+      let own : IsNetOn p [] (made p [] touches routing needs) = record {
+        are_words = All-nil IsWord;
+        parts = parts;
+        rows = rows;
+        is = refl;
+        operations = subst (λ (n : NetOf). IsOperationNet (record { net = n; needs = needs })) same operations;
+        outside_pieces = subst (λ (n : NetOf). (piece i line : ℕ) → (graph_in n).nodes ≤ piece → needs piece i line ≡ false) same outside_pieces;
+        outside_operations = subst (λ (n : NetOf). (piece i line : ℕ) → operation_count (record { net = n; needs = needs }) piece ≤ i → needs piece i line ≡ false) same outside_operations;
+      } in
+      told parts.classes own refl
+    where
+      told : (c : ClassTable) (own : IsNetOn p [] (made p [] touches routing needs)) → own.parts.classes ≡ c → TellsGraph p (graph_text p c (record { net = net; needs = needs }))
+      told c own is =
+          let here : TellsGraph p (graph_text p own.parts.classes (made p [] touches routing needs)) = record { net = made p [] touches routing needs; own = own; is = refl } in
+          let same_classes = subst (λ (t : ClassTable). TellsGraph p (graph_text p t (made p [] touches routing needs))) is here in
+          subst (λ (n : NetOf). TellsGraph p (graph_text p c (record { net = n; needs = needs }))) (sym same) same_classes
+
+  -- the text of a net over data is that of the net without them
+  same_text : (words : List ℤ) (c : ClassTable) → graph_text p c (made p [] touches routing needs) ≡ graph_text p c (made p words touches routing needs)
+  same_text words c = refl
+
+module _ (each : OneOfEach) (p : Program) (strong : IsFlowGraph (flow p.execs).graph) where
+  -- the text tells the net over whatever data
+  fired : (text : List ℕ) → TellsGraph p text → (words : List ℤ) (net : OperationNet) (own : IsNetOn p words net) → text ≡ graph_text p own.parts.classes net
+  fired text tells words net own =
+      let touches = net.net.touches in
+      let routing = net.net.routing in
+      let here : IsNetOn p words (made p words touches routing net.needs) = subst (λ (n : NetOf). IsNetOn p words (record { net = n; needs = net.needs })) own.is own in
+      let nets : tells.net ≡ made p [] touches routing net.needs = one_net each p strong [] tells.net (made p [] touches routing net.needs) tells.own (over_none p touches routing net.needs words here) in
+      let classes : tells.own.parts.classes ≡ own.parts.classes = each.classes p tells.own.parts.classes own.parts.classes tells.own.parts.own_classes own.parts.own_classes in
+      tells.is
+      ∙ ap (λ (c : ClassTable). graph_text p c tells.net) classes
+      ∙ ap (graph_text p own.parts.classes) nets
+      ∙ same_text p touches routing net.needs words own.parts.classes
+      ∙ ap (λ (n : NetOf). graph_text p own.parts.classes (record { net = n; needs = net.needs })) (sym own.is)
+
+  one : (checked : Bool) (a b : Due) → IsDueOn Graph checked p a → IsDueOn Graph checked p b → a ≡ b
+  one checked a b first second =
+      let same : a.text ≡ b.text = fired a.text first.text [] second.text.net second.text.own ∙ sym second.text.is in
+      first.done ∙ ap done same ∙ sym second.done
+
+  means : (checked : Bool) (due : Due) → IsDueOn Graph checked p due → MeansGraph p due
+  means checked due is = record {
+    done = ap (λ (d : Due). d.status) is.done;
+    tells = is.text;
+    fired = fired due.text is.text;
+  }
+
+  pub graph_means : (checked : Bool) → MeansOn Graph checked p
+  graph_means checked = record { one = one checked; means = means checked }
+
+-- what was found of a program makes a net whose text tells it
+pub found_tells : (p : Program) (found : Analysis) (x : OperationNet) → IsWellFormed p → IsAnalysisOf p found → x.net ≡ net_with p [] (touches_in found.touch) found.lines → IsOperationNet x
+    → ((piece i line : ℕ) → (graph_in x.net).nodes ≤ piece → x.needs piece i line ≡ false) → ((piece i line : ℕ) → operation_count x piece ≤ i → x.needs piece i line ≡ false)
+    → TellsGraph p (graph_text p found.classes x)
+found_tells p found x well_formed is same operations outside_pieces outside_operations =
+    made_tells p (touches_in found.touch) found.lines x.needs (found_parts p found (flow p.execs) refl well_formed is) x.net is.rows same operations outside_pieces outside_operations

@@ -1,0 +1,21 @@
+use Rattle.std.proofs.Common.{[], ◌∷◌}
+use Rattle.std.specs.Fmt.{decimal}
+use Rattle.dfc_driver.proofs.Telling.{told_more, fault_more, fault_before}
+use Rattle.dfc_driver.proofs.Texts.{on_error, then_on_error, then_on_ok}
+use Rattle.dfc_driver.proofs.graph_nodes.tell_number.Goals as goal
+
+pub returns-in_err-append-clause-prefix : goal.returns-in_err-append-clause-prefix
+returns-in_err-append-clause-prefix g c =
+    on_error c.from_residual.result (fault_before (g.K.Sink.got c.args.sink.now) (g.K.Sink.got c.append.new.sink) c.args.buffer.now (32 ∷ []) (decimal c.args.n) c.in_err-append.ensures.prefix)
+
+pub returns-clause-text : goal.returns-clause-text
+returns-clause-text g c =
+    then_on_ok c.append_number.result
+    (told_more (g.K.Sink.got c.args.sink.now) (g.K.Sink.got c.append.new.sink) (g.K.Sink.got c.append_number.new.sink) c.args.buffer.now c.append.new.self c.append_number.new.self (32 ∷ []) (decimal c.args.n) c.in_ok-append.ensures.text)
+    c.append_number.ensures.text
+
+pub returns-clause-prefix : goal.returns-clause-prefix
+returns-clause-prefix g c =
+    then_on_error c.append_number.result
+    (fault_more (g.K.Sink.got c.args.sink.now) (g.K.Sink.got c.append.new.sink) (g.K.Sink.got c.append_number.new.sink) c.args.buffer.now c.append.new.self (32 ∷ []) (decimal c.args.n) c.in_ok-append.ensures.text)
+    c.append_number.ensures.prefix
