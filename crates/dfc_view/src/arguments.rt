@@ -1,0 +1,131 @@
+//! What the words after the program's name ask for.
+
+use crate::fault::Fault;
+use std::alloc::Global;
+
+/// What `--version` prints.
+pub const VERSION: &str = "dfc_view 1\n";
+
+/// What `--help` prints.
+pub const HELP: &str = "\
+usage: dfc_view dot [--regions] [--lines N,N..]
+       dfc_view json
+       dfc_view profile
+       dfc_view --help | --version
+
+Reads what `dfc` printed of a program from standard input: the texts of
+`dfc regions`, `dfc graph` and `dfc trace`, each or none, in this order.
+
+dot      a picture for Graphviz: of the dataflow graph where the text has one,
+         with its wires where it has the flow graph too; else of the flow graph
+         --regions      the flow graph, with its regions as nested boxes
+         --lines N,N..  only these lines of tokens
+json     the same as JSON
+profile  of a graph and a trace: how many nodes could have fired at once
+
+Status: 0 done, 1 no such command, 2 the text can't be read, 5 standard input
+failed, 6 standard output failed, 7 memory ran out, 8 no arguments.
+";
+
+/// What is asked for.
+#[derive(Drop)]
+pub enum Job {
+    /// How the program is used.
+    Help,
+    /// Which program it is.
+    Version,
+    /// Something of the text.
+    Show(Task),
+}
+
+/// What is shown of the text.
+#[derive(Drop)]
+pub enum Task {
+    /// A picture of the flow graph with its regions.
+    Regions,
+    /// A picture of the dataflow graph, or else of the flow graph.
+    Dot(Lines),
+    /// All of it, as JSON.
+    Json,
+    /// The profile of the trace.
+    Profile,
+}
+
+/// Which lines of tokens are shown.
+#[derive(Drop)]
+pub enum Lines {
+    /// All of them.
+    All,
+    /// Only these.
+    Only(Vec<u32>),
+}
+
+impl Lines {
+    /// Whether this line is shown.
+    pub fn shows(&self, line: u32) -> bool {
+        match self {
+            Lines::All => true,
+            Lines::Only(lines) => lines.as_slice().contains(&line),
+        }
+    }
+}
+
+/// The job that the words ask for.
+pub fn job_of(alloc: Global, words: &[String]) -> Result<Job, Fault> {
+    match words {
+        [word] => match word.as_str() {
+            "--help" => Ok(Job::Help),
+            "--version" => Ok(Job::Version),
+            "json" => Ok(Job::Show(Task::Json)),
+            "profile" => Ok(Job::Show(Task::Profile)),
+            "dot" => Ok(Job::Show(Task::Dot(Lines::All))),
+            _ => Err(Fault::Usage),
+        },
+        [word, options @ ..] if word.as_str() == "dot" => {
+            Ok(Job::Show(picture_of(alloc, options)?))
+        }
+        _ => Err(Fault::Usage),
+    }
+}
+
+// The picture that the words after `dot` ask for.
+fn picture_of(alloc: Global, options: &[String]) -> Result<Task, Fault> {
+    match options {
+        [option] if option.as_str() == "--regions" => Ok(Task::Regions),
+        [option, lines] if option.as_str() == "--lines" => Ok(Task::Dot(Lines::Only(numbers_in(
+            alloc,
+            lines.as_str().as_bytes(),
+        )?))),
+        _ => Err(Fault::Usage),
+    }
+}
+
+// The numbers between commas.
+fn numbers_in(alloc: Global, text: &[u8]) -> Result<Vec<u32>, Fault> {
+    let mut all = Vec::new(alloc);
+    let mut number = None;
+    for c in text {
+        match *c {
+            b',' => {
+                all.push(number.ok_or(Fault::Usage)?)?;
+                number = None;
+            }
+            digit => number = Some(with_digit(number.unwrap_or(0), digit)?),
+        }
+    }
+    all.push(number.ok_or(Fault::Usage)?)?;
+    Ok(all)
+}
+
+// A number with one more digit.
+fn with_digit(number: u32, digit: u8) -> Result<u32, Fault> {
+    if !digit.is_ascii_digit() {
+        return Err(Fault::Usage);
+    }
+    match number.checked_mul(10) {
+        Some(tens) => tens
+            .checked_add(u32::from(digit - b'0'))
+            .ok_or(Fault::Usage),
+        None => Err(Fault::Usage),
+    }
+}

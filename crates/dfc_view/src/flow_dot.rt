@@ -1,0 +1,70 @@
+//! A picture of a flow graph, for Graphviz. Edges have the colours of their classes.
+
+use crate::clusters::write_clusters;
+use crate::fault::Fault;
+use crate::output::Output;
+use df_io::Sink;
+use printed_graphs::{Edge, Piece, PrintedFlow, kind_name};
+use std::alloc::Global;
+
+/// The colour of a class or of a line of tokens: twelve that can be told apart, used over and over.
+pub fn colour(number: u32) -> &'static str {
+    match number % 12 {
+        0 => "#1f77b4",
+        1 => "#d62728",
+        2 => "#2ca02c",
+        3 => "#9467bd",
+        4 => "#ff7f0e",
+        5 => "#17becf",
+        6 => "#8c564b",
+        7 => "#e377c2",
+        8 => "#7f7f7f",
+        9 => "#bcbd22",
+        10 => "#0000a0",
+        _ => "#a00060",
+    }
+}
+
+/// Writes the picture, with the regions as nested boxes where that is asked for.
+pub fn write<K: Sink + Drop>(
+    alloc: Global,
+    flow: &PrintedFlow,
+    with_regions: bool,
+    output: &mut Output<K>,
+) -> Result<(), Fault> {
+    output.text("digraph flow {\n  node [shape=box, fontname=\"sans-serif\", fontsize=11];\n")?;
+    output.text("  edge [fontname=\"sans-serif\", fontsize=9];\n")?;
+    for (k, piece) in flow.pieces.as_slice().iter().enumerate() {
+        write_piece(k as u64, piece, output)?;
+    }
+    if with_regions {
+        write_clusters(alloc, flow, output)?;
+    }
+    for (k, edge) in flow.edges.as_slice().iter().enumerate() {
+        write_edge(k as u64, edge, output)?;
+    }
+    output.text("}\n")
+}
+
+// A piece with its number, its kind and its line.
+fn write_piece<K: Sink + Drop>(k: u64, piece: &Piece, output: &mut Output<K>) -> Result<(), Fault> {
+    output.text("  p")?;
+    output.number(k)?;
+    output.text(" [label=\"")?;
+    output.text(kind_name(piece.kind))?;
+    output.text(" ")?;
+    output.number(k)?;
+    output.item("\\nline ", piece.line)?;
+    output.text("\"];\n")
+}
+
+// An edge with its number, in the colour of its class.
+fn write_edge<K: Sink + Drop>(k: u64, edge: &Edge, output: &mut Output<K>) -> Result<(), Fault> {
+    output.item("  p", edge.from)?;
+    output.item(" -> p", edge.to)?;
+    output.text(" [label=\"")?;
+    output.number(k)?;
+    output.text("\", color=\"")?;
+    output.text(colour(edge.class))?;
+    output.text("\"];\n")
+}

@@ -1,0 +1,9 @@
+use Rattle.std.proofs.Common.{◌≡◌, ◌++◌, length, flat_map}
+use Rattle.printed_graphs.specs.DataflowText.{bypass_text}
+use Rattle.printed_graphs.proofs.dataflow_lines.read_bypasses.Given as goal
+
+abbrev pub invariant-loop-cursor : goal.invariant-loop-cursor
+invariant-loop-cursor l = l.fn.cursor.rest.now ≡ flat_map bypass_text l.all.items ++ l.cursor.rest.now
+
+abbrev pub decreases-loop-cursor : goal.decreases-loop-cursor
+decreases-loop-cursor l = length l.cursor.rest.now

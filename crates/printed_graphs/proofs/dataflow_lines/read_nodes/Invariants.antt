@@ -1,0 +1,10 @@
+use Rattle.std.proofs.Common.{◌≡◌, ◌++◌, length}
+use Rattle.printed_graphs.specs.DataflowText.{node_line_text}
+use Rattle.printed_graphs.specs.Words.{lines_from}
+use Rattle.printed_graphs.proofs.dataflow_lines.read_nodes.Given as goal
+
+abbrev pub invariant-loop-k : goal.invariant-loop-k
+invariant-loop-k l = record {
+  text : l.fn.cursor.rest.now ≡ lines_from node_line_text 0 l.all.items ++ l.cursor.rest.now;
+  count : length l.all.items ≡ l.k;
+}
