@@ -1,3 +1,4 @@
+mod DueLemmas
 mod ControlWays
 mod Entering
 mod FirstPlaces
@@ -10,8 +11,12 @@ mod LeadingOn
 mod LiteralLaws
 mod LiveWays
 mod LoopNumbers
+mod NameCounts
+mod NumberLemmas
 mod OnePiece
 mod PieceLemmas
 mod ProperFolds
 mod RangeCounts
+mod ReplacedLemmas
+mod SharingLemmas
 mod StatementLemmas

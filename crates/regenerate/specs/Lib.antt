@@ -7,3 +7,4 @@ pub mod Plans
 pub mod LiveWays
 pub mod Temporaries
 pub mod Shared
+pub mod Numbered

@@ -3,15 +3,19 @@
 #![tactic(auto)]
 
 mod counts;
+mod due;
 mod ends;
 mod folding;
 mod items;
 mod laws;
 mod literals;
 mod loops;
+mod names;
 mod own_pieces;
 mod plan;
+mod replacing;
 mod scene;
+mod sharing;
 mod simplified;
 mod statements;
 mod ways;

@@ -1,0 +1,9 @@
+use Rattle.std.proofs.Common.{◌≡◌, take, map}
+use Rattle.regenerate.specs.Numbered.{AreTemporaries, number_of}
+use Rattle.regenerate.specs.Shared.{replaced}
+use Rattle.regenerate.proofs.replacing.+replaced.Given as goal
+
+abbrev pub invariant-replace_all-loop-e : goal.invariant-replace_all-loop-e
+invariant-replace_all-loop-e l = record {
+  all : l.all ≡ map (replaced l.t.q.now l.t.a.now (number_of l.t.a.now)) (take l.e-index l.e-items);
+}

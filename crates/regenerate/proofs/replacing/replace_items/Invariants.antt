@@ -1,0 +1,9 @@
+use Rattle.std.proofs.Common.{◌≡◌, take, map}
+use Rattle.regenerate.specs.Numbered.{AreTemporaries, number_of}
+use Rattle.regenerate.specs.Shared.{replaced_item}
+use Rattle.regenerate.proofs.replacing.replace_items.Given as goal
+
+abbrev pub invariant-loop-item : goal.invariant-loop-item
+invariant-loop-item l = record {
+  all : l.all ≡ map (replaced_item l.t.q.now l.t.a.now (number_of l.t.a.now)) (take l.item-index l.item-items);
+}
