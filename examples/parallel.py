@@ -1,6 +1,7 @@
+#!/usr/bin/env python3
 """Tells which operations of the pieces of a loop depend on none of each other.
 
-    (dfc regions < P.f; dfc graph < P.f) | dfc_view json | python3 parallel.py REGION
+    (dfc regions < P.f; dfc graph < P.f) | dfc_view json | python3 examples/parallel.py REGION
 
 It takes networkx, a package of most systems.
 """
