@@ -65,3 +65,4 @@ pub mod PassesLie
 pub mod StepsBegin
 pub mod RoundReach
 pub mod RoundHolds
+pub mod LeavingEdges

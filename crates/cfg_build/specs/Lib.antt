@@ -14,3 +14,4 @@ pub mod Routes
 pub mod Runs
 pub mod Steps
 pub mod Rounds
+pub mod WaysOut

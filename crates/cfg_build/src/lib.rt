@@ -17,7 +17,7 @@ mod zone_laws;
 pub use flow::{Flow, flow_of};
 pub use laws::{
     flow_graph_has_shape, flow_graph_is_strong, holds_come_in_rounds, pieces_are_few,
-    pieces_run_executables,
+    pieces_have_ways_out, pieces_run_executables,
 };
 pub use pass_laws::{
     chains_lead_to_successors, passes_are_a_walk, passes_follow_steps, passes_hold_words,
