@@ -6,6 +6,7 @@ pub mod Counting
 pub mod Cycles
 pub mod Ending
 pub mod Flags
+pub mod Filling
 pub mod FreeNodes
 pub mod Staying
 pub mod LeavingRuns

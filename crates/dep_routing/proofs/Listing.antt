@@ -1,5 +1,5 @@
 -- Lists of the lines that a test tells, made from one such line to the next.
-use Rattle.std.proofs.Common.{◌≡◌, ◌≢◌, ℕ, zero, suc, ◌+◌, ◌-◌, ◌<◌, ◌≤◌, ◌↔◌, Bool, true, false, not, List, length, [], ◌∷◌, ◌++◌, filter, refl, sym, ap, ◌∙◌, subst, inl, ⊎_elim, arith, zero-add}
+use Rattle.std.proofs.Common.{◌≡◌, ◌≢◌, ℕ, zero, suc, ◌+◌, ◌-◌, ◌<◌, ◌≤◌, ◌↔◌, Bool, true, false, not, List, length, [], ◌∷◌, ◌++◌, filter, refl, sym, ap, ◌∙◌, subst, inl, ⊎_elim, arith}
 use Rattle.std.specs.List.{range_with_len}
 use Rattle.std.proofs.lemmas.Bool.{cases_eq, cases_lt, cases_Bool, false≢true}
 use Rattle.std.proofs.lemmas.List.Elements.{filter-append}
@@ -34,7 +34,7 @@ module _ (test : ℕ → Bool) where
   filter_gap a zero none = ap (λ n. filter test (range_with_len 0 n)) (omega arith)
   filter_gap a (suc more) none = ap (λ n. filter test (range_with_len 0 n)) (omega arith) ∙ filter_not (a + more) (none (a + more) (omega arith) (omega arith)) ∙ filter_gap a more (λ k from below. none k from (omega (arith, below)))
 
-  filter_between : (a b : ℕ) → a ≤ b → ((k : ℕ) → a ≤ k → k < b → test k ≡ false) → filter test (range_with_len 0 b) ≡ filter test (range_with_len 0 a)
+  pub filter_between : (a b : ℕ) → a ≤ b → ((k : ℕ) → a ≤ k → k < b → test k ≡ false) → filter test (range_with_len 0 b) ≡ filter test (range_with_len 0 a)
   filter_between a b le none =
       let sum : a + (b - a) ≡ b = omega (arith, le) in
       ap (λ n. filter test (range_with_len 0 n)) (sym sum) ∙ filter_gap a (b - a) (λ k from below. none k from (omega (arith, below, le)))

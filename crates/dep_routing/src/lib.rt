@@ -19,6 +19,7 @@ mod one_table;
 mod order;
 mod risk_laws;
 mod routing;
+mod row;
 mod rows;
 mod touch_laws;
 mod touched;
@@ -40,7 +41,7 @@ pub use routing::route;
 pub use touch_laws::{
     pieces_touch_lines, touches_are_sound, touches_follow_needs, traps_touch_output,
 };
-pub use touched::touched_lines;
+pub use touched::{least_above, touched_lines};
 pub use touching::{touches, touches_by};
 
 /// For each node the set of the lines that it touches.

@@ -4,8 +4,8 @@ ghost use Rattle.std.specs.Prelude.{◌≡◌, ◌<◌, ℕ, true, length};
 ghost use Rattle.class_set.specs.ClassSet.{holds};
 ghost use Rattle.dep_routing.specs.LineTable.{led as led_in};
 
+use crate::row::Row;
 use class_set::ClassSet;
-use df_sequence::LabelList;
 use std::marker::Model;
 
 /// For each line and edge, whether the edge is a wire of the line, and to which edge the line is led from it. Contracts see a
@@ -17,7 +17,7 @@ pub struct Lines<const W: usize> {
     pub(crate) wires: Vec<ClassSet<W>>,
     /// For each edge, where it is the entry of a region, the edge to which each line is led from it. From any other edge no line
     /// is led on.
-    pub(crate) next: Vec<LabelList>,
+    pub(crate) next: Vec<Row>,
 }
 
 impl<const W: usize> Model for Lines<W> {
@@ -72,7 +72,7 @@ impl<const W: usize> Lines<W> {
 }
 
 /// The edge to which the line is led from the edge: what the row of the edge tells, or else the edge itself.
-pub(crate) fn led(rows: &Vec<LabelList>, line: u32, edge: u32) -> u32
+pub(crate) fn led(rows: &Vec<Row>, line: u32, edge: u32) -> u32
     requires { edge < length rows.now.items }
     ensures { result ≡ led_in rows.now.items line edge }
 {

@@ -13,10 +13,11 @@ ghost use Rattle.dep_routing.specs.Rows.{LeadOn, TellWires, is_noisy};
 ghost use Rattle.dep_routing.specs.Touch.{touches_in};
 
 use crate::facts::tree_facts;
-use crate::lines::led;
+use crate::row::Row;
+use crate::touched::least_above;
 use class_set::ClassSet;
 use closed_walks::Digraph;
-use df_sequence::{LabelList, NoMemory};
+use df_sequence::NoMemory;
 use region_tree::RegionTree;
 use std::alloc::Global;
 
@@ -29,7 +30,7 @@ pub(crate) fn next_rows<const W: usize>(
     order: &[u32],
     noisy: &Vec<ClassSet<W>>,
     lines: u32,
-) -> Result<Vec<LabelList>, NoMemory>
+) -> Result<Vec<Row>, NoMemory>
     requires width { IsWidth W }
     requires order { IsOrder t.now order.now }
     requires exist { (r : ℕ) → IsNumber t.now r → (entry_of t.now r < edges) × (exit_of t.now r < edges) }
@@ -47,13 +48,13 @@ pub(crate) fn next_rows<const W: usize>(
 }
 
 /// So many rows without a number.
-fn empty_rows(alloc: Global, edges: u32) -> Result<Vec<LabelList>, NoMemory>
+fn empty_rows(alloc: Global, edges: u32) -> Result<Vec<Row>, NoMemory>
     ensures size { IfOk result (λ rows. length rows.items ≡ edges) }
     ensures none { IfOk result (λ rows. (line e : ℕ) → led_in rows.items line e ≡ e) }
 {
     let mut rows = Vec::with_capacity(alloc, edges as usize)?;
     for _edge in 0..edges {
-        rows.push(LabelList::new(alloc))?;
+        rows.push(Row::new(alloc))?;
     }
     Ok(rows)
 }
@@ -65,22 +66,19 @@ fn next_row<const W: usize>(
     entry: u32,
     exit: u32,
     noisy: &ClassSet<W>,
-    rows: &Vec<LabelList>,
+    rows: &Vec<Row>,
     lines: u32,
-) -> Result<LabelList, NoMemory>
+) -> Result<Row, NoMemory>
     requires width { IsWidth W }
     requires exit { exit < length rows.now.items }
     ensures size { IfOk result (λ row. length row ≡ lines) }
     ensures cells { IfOk result (λ row. (line : ℕ) → line < lines → slice_index row line ≡ (if holds noisy.now line then entry else led_in rows.now.items line exit)) }
 {
-    let mut row = LabelList::new(alloc);
-    for line in 0..lines {
-        let next = if noisy.holds(line) {
-            entry
-        } else {
-            led(rows, line, exit)
-        };
-        row.push(next)?;
+    let mut row = rows[exit as usize].copy_of_len(alloc, lines, exit)?;
+    let mut line = least_above(noisy, None, lines);
+    while line < lines {
+        row.set(line, entry);
+        line = least_above(noisy, Some(line), lines);
     }
     Ok(row)
 }

@@ -35,7 +35,7 @@ pub fn touched_lines<const W: usize>(
 }
 
 /// The least member above the number, or of all where there is no number, that is below the end; or else the end.
-fn least_above<const W: usize>(set: &ClassSet<W>, n: Option<u32>, end: u32) -> u32
+pub fn least_above<const W: usize>(set: &ClassSet<W>, n: Option<u32>, end: u32) -> u32
     requires { IsWidth W }
     ensures within { result ≤ end }
     ensures member { result < end → (holds set.now result ≡ true) × IsAbove n result }

@@ -1,8 +1,11 @@
 -- Which node each line goes through, line by line.
-use Rattle.std.proofs.Common.{◌≡◌, ◌<◌, ◌≤◌, ◌+◌, ◌-◌, ◌&&◌, ℕ, zero, suc, Bool, true, false, not, if◌then◌else◌, List, [], ◌∷◌, get_or, length, filter, map, length-append, refl, sym, ap, ◌∙◌, subst, arith}
+use Rattle.std.proofs.Common.{◌≡◌, ◌<◌, ◌≤◌, ◌+◌, ◌-◌, ◌&&◌, ℕ, zero, suc, Bool, true, false, not, if◌then◌else◌, List, [], ◌∷◌, get_or, length, filter, map, replicate, zero-add, length-append, refl, sym, ap, ◌∙◌, subst, arith}
 use Rattle.std.specs.List.{range_with_len}
+use Rattle.std.proofs.lemmas.List.{ext_get_or, get_or-replicate}
+use Rattle.std.proofs.lemmas.List.FromFn.{length-map-range_with_len, get_or-map-range_with_len}
 use Rattle.cfg_build.specs.declared.pieces.PieceKind.{PieceKind}
 use Rattle.cfg_build.specs.declared.pieces.PieceKind.TheVariants as kind
+use Rattle.dep_routing.proofs.Listing.{filter_between}
 use Rattle.net_board.specs.Nodes.{NetOf, graph_in, kind_in, all_lines, is_free, led_to, passing, nodes_by, node_count, first_node}
 use Rattle.net_board.specs.WokenNodes.{merge_number, no_node, passing_below, place_by, place_of, places, switch_number}
 use Rattle.net_tables.specs.NetTables.{kept_by, kept_places}
@@ -31,27 +34,49 @@ passing_rises test n m most =
     let e : n + (m - n) ≡ m = omega (arith, most) in
     subst (λ x. passing_below test n ≤ passing_below test x) e (passing_more test n (m - n))
 
+-- tests that tell the same below a number pass as many below it
+pub passing_same : (f h : ℕ → Bool) (n : ℕ) → ((i : ℕ) → i < n → f i ≡ h i) → passing_below f n ≡ passing_below h n
+passing_same f h zero same = refl
+passing_same f h (suc n) same =
+    let e : suc n ≡ n + 1 = omega arith in
+    ap (passing_below f) e ∙ passing_next f n
+    ∙ ap (λ m. m + (if f n then 1 else 0)) (passing_same f h n (λ i below. same i (omega (arith, below))))
+    ∙ ap (λ (b : Bool). passing_below h n + (if b then 1 else 0)) (same n (omega arith))
+    ∙ sym (passing_next h n) ∙ ap (passing_below h) (sym e)
+
+-- ---- numbers of the lines that pass, one line after another
+
+pub number_begin : (test : ℕ → Bool) (first line : ℕ) → ((k : ℕ) → k < line → test k ≡ false) → first ≡ first + passing_below test line
+number_begin test first line none =
+    let gap : passing_below test line ≡ 0 = ap length (filter_between test 0 line (omega arith) (λ k from below. none k below)) in
+    omega (arith, gap)
+
+module _ (test : ℕ → Bool) (first line number : ℕ) (is : number ≡ first + passing_below test line) (passes : test line ≡ true) where
+  one_more : passing_below test (line + 1) ≡ passing_below test line + 1
+  one_more = passing_next test line ∙ ap (λ (b : Bool). passing_below test line + (if b then 1 else 0)) passes
+
+  pub number_next : (next : ℕ) → line < next → ((k : ℕ) → line < k → k < next → test k ≡ false) → number + 1 ≡ first + passing_below test next
+  number_next next above none =
+      let more = one_more in
+      let gap : passing_below test next ≡ passing_below test (line + 1) = ap length (filter_between test (line + 1) next (omega (arith, above)) (λ k from below. none k (omega (arith, from)) below)) in
+      omega (arith, is, more, gap)
+
+  pub number_fits : (lines bound : ℕ) → line < lines → first + passing_below test lines < bound → number + 1 < bound
+  number_fits lines bound low room =
+      let more = one_more in
+      let rises = passing_rises test (line + 1) lines (omega (arith, low)) in
+      omega (arith, is, more, rises, room)
+
 module _ (net : NetOf) (piece : ℕ) where
   abbrev passes_by : ℕ → Bool
   passes_by other = is_free net piece other && not (net.touches piece other)
 
-  pub switch_next : (line next : ℕ) (passes : Bool) → next ≡ switch_number net piece line → passes ≡ (is_free net piece line && not (net.touches piece line)) → next + (if passes then 1 else 0) ≡ switch_number net piece (line + 1)
-  switch_next line next passes is so =
-      let s = passing_next passes_by line in
-      let e : next + (if passes then 1 else 0) ≡ switch_number net piece line + (if passes_by line then 1 else 0) = ap (λ n. n + (if passes then 1 else 0)) is ∙ ap (λ (b : Bool). switch_number net piece line + (if b then 1 else 0)) so in
-      omega (arith, s, e)
+  -- the number of a switch, or of a merge, by a test that tells the same
+  pub switch_told : (passing : ℕ → Bool) (first line : ℕ) → first ≡ first_node net piece → ((k : ℕ) → k < line → passing k ≡ (is_free net piece k && not (net.touches piece k))) → (first + 1) + passing_below passing line ≡ switch_number net piece line
+  switch_told passing first line is same = let s = passing_same passing passes_by line same in omega (arith, is, s)
 
-  pub merge_next : (line next : ℕ) (free : Bool) → next ≡ merge_number net piece line → free ≡ is_free net piece line → next + (if free then 1 else 0) ≡ merge_number net piece (line + 1)
-  merge_next line next free is so =
-      let s = passing_next (is_free net piece) line in
-      let e : next + (if free then 1 else 0) ≡ merge_number net piece line + (if is_free net piece line then 1 else 0) = ap (λ n. n + (if free then 1 else 0)) is ∙ ap (λ (b : Bool). merge_number net piece line + (if b then 1 else 0)) so in
-      omega (arith, s, e)
-
-  pub switch_fits : (line lines bound : ℕ) → line < lines → switch_number net piece lines < bound → switch_number net piece (line + 1) < bound
-  switch_fits line lines bound below fits = let r = passing_rises passes_by (line + 1) lines (omega (arith, below)) in omega (arith, r, fits)
-
-  pub merge_fits : (line lines bound : ℕ) → line < lines → merge_number net piece lines < bound → merge_number net piece (line + 1) < bound
-  merge_fits line lines bound below fits = let r = passing_rises (is_free net piece) (line + 1) lines (omega (arith, below)) in omega (arith, r, fits)
+  pub merge_told : (free : ℕ → Bool) (first line : ℕ) → first ≡ first_node net piece → ((k : ℕ) → k < line → free k ≡ is_free net piece k) → first + passing_below free line ≡ merge_number net piece line
+  merge_told free first line is same = let s = passing_same free (is_free net piece) line same in omega (arith, is, s)
 
   -- ---- places
 
@@ -76,6 +101,37 @@ module _ (net : NetOf) (piece : ℕ) where
       ∙ ap (λ x. if is_free net piece line then merge_number net piece line else x) n
 
   -- ---- rows
+
+  -- a row with the place of each line
+  row_told : (k : PieceKind) (row : List ℕ) → length row ≡ net.routing.lines → ((line : ℕ) → line < net.routing.lines → get_or row line 0 ≡ place_by net piece line k) → row ≡ map (λ (line : ℕ). place_by net piece line k) (all_lines net)
+  row_told k row long cells =
+      let place : ℕ → ℕ = λ line. place_by net piece line k in
+      let count = length-map-range_with_len place 0 net.routing.lines in
+      ext_get_or 0 row (map place (all_lines net)) (long ∙ sym count)
+      (λ line low.
+      let below : line < net.routing.lines = omega (arith, low, long) in
+      cells line below ∙ sym (get_or-map-range_with_len place 0 net.routing.lines line line 0 below (zero-add line)))
+
+  module _ (lines first none : ℕ) (all : lines ≡ net.routing.lines) (f : first ≡ first_node net piece) (n : none ≡ no_node net) where
+    filled_at : (k : ℕ) → k < lines → get_or (replicate lines none) k 0 ≡ none
+    filled_at k low = get_or-replicate lines k none 0 low
+
+    pub switch_row : (touched passing : ℕ → Bool) (numbered row : List ℕ) → ((k : ℕ) → k < lines → touched k ≡ net.touches piece k) → ((k : ℕ) → k < lines → passing k ≡ (is_free net piece k && not (net.touches piece k)))
+        → ((k : ℕ) → k < lines → get_or numbered k 0 ≡ (if passing k then (first + 1) + passing_below passing k else get_or (replicate lines none) k 0)) → length row ≡ lines → ((k : ℕ) → k < lines → get_or row k 0 ≡ (if touched k then first else get_or numbered k 0))
+        → row ≡ map (λ (line : ℕ). place_by net piece line kind.Branch) (all_lines net)
+    switch_row touched passing numbered row t p begun long cells = row_told kind.Branch row (long ∙ all) (λ line low.
+        let below : line < lines = omega (arith, low, all) in
+        cells line below
+        ∙ ap (λ x. if touched line then first else x) (begun line below ∙ ap (λ x. if passing line then (first + 1) + passing_below passing line else x) (filled_at line below))
+        ∙ place_switch line first ((first + 1) + passing_below passing line) none (touched line) (passing line) (t line below) (p line below) f (switch_told passing first line f (λ k under. p k (omega (arith, under, below)))) n)
+
+    pub merge_row : (free : ℕ → Bool) (row : List ℕ) → ((k : ℕ) → k < lines → free k ≡ is_free net piece k)
+        → length row ≡ lines → ((k : ℕ) → k < lines → get_or row k 0 ≡ (if free k then first + passing_below free k else get_or (replicate lines none) k 0))
+        → row ≡ map (λ (line : ℕ). place_by net piece line kind.Join) (all_lines net)
+    merge_row free row r long cells = row_told kind.Join row (long ∙ all) (λ line low.
+        let below : line < lines = omega (arith, low, all) in
+        cells line below ∙ ap (λ x. if free line then first + passing_below free line else x) (filled_at line below)
+        ∙ place_merge line (first + passing_below free line) none (free line) (r line below) (merge_told free first line f (λ k under. r k (omega (arith, under, below)))) n)
 
   pub row_kept : (k : PieceKind) → kind_in net piece ≡ k → kept_by net piece k ≡ places net piece → kept_places net piece ≡ places net piece
   row_kept k is kept = ap (kept_by net piece) is ∙ kept

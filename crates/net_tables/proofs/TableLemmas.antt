@@ -14,6 +14,7 @@ use Rattle.cfg_build.specs.Joined.{FlowGraph, is_end}
 use Rattle.cfg_build.specs.Passes.{out, outs}
 use Rattle.cfg_build.specs.Shape.{kind_at}
 use Rattle.dep_routing.specs.Touch.{touches_in}
+use Rattle.dep_routing.proofs.Listing.{filter_between}
 use Rattle.list_laws.specs.Member.{Member}
 use Rattle.net_board.specs.Nodes.{NetOf, graph_in, kind_in, nodes_at, nodes_below, node_count, first_node}
 use Rattle.net_board.specs.ControlCourse.{arrival, is_idle, passed, passed_times, passed_by}
@@ -54,9 +55,6 @@ nil_end : {X : Type 0} (xs : List X) → xs ++ [] ≡ xs
 nil_end [] = refl
 nil_end (x ∷ xs) = ap (λ zs. x ∷ zs) (nil_end xs)
 
-pub filter_skipped : (test : ℕ → Bool) (n : ℕ) → test n ≡ false → filter test (range_with_len 0 (n + 1)) ≡ filter test (range_with_len 0 n)
-filter_skipped test n is = filter_next test n ∙ ap (λ b. filter test (range_with_len 0 n) ++ (if b then n ∷ [] else [])) is ∙ nil_end (filter test (range_with_len 0 n))
-
 -- what is named for the numbers that pass a test, after what stood there
 module _ {Y : Type 0} (name : ℕ → Y) (test : ℕ → Bool) where
   pub named_taken : (old now : List Y) (n : ℕ) → now ≡ old ++ map name (filter test (range_with_len 0 n)) → test n ≡ true → now ++ name n ∷ [] ≡ old ++ map name (filter test (range_with_len 0 (n + 1)))
@@ -70,8 +68,33 @@ module _ {Y : Type 0} (name : ℕ → Y) (test : ℕ → Bool) where
       assoc [] ys zs = refl
       assoc (x ∷ xs) ys zs = ap (λ ws. x ∷ ws) (assoc xs ys zs)
 
-  pub named_skipped : (old now : List Y) (n : ℕ) → now ≡ old ++ map name (filter test (range_with_len 0 n)) → test n ≡ false → now ≡ old ++ map name (filter test (range_with_len 0 (n + 1)))
-  named_skipped old now n so is = so ∙ ap (λ xs. old ++ map name xs) (sym (filter_skipped test n is))
+-- Of names in the making: those for the numbers below the next one that pass a test stand after what was there. The next one passes it,
+-- or all are named.
+pub record IsNaming {Y : Type 0} (name : ℕ → Y) (test : ℕ → Bool) (old : List Y) (lines next : ℕ) (now : List Y) : Type 0 where
+  pub within : next ≤ lines
+  pub member : next < lines → test next ≡ true
+  pub named : now ≡ old ++ map name (filter test (range_with_len 0 next))
+
+module _ {Y : Type 0} (name : ℕ → Y) (test : ℕ → Bool) (old : List Y) (lines : ℕ) where
+  pub IsNaming-begin : (next : ℕ) → next ≤ lines → (next < lines → test next ≡ true) → ((k : ℕ) → k < next → test k ≡ false) → IsNaming name test old lines next old
+  IsNaming-begin next within member none = record {
+    within = within;
+    member = member;
+    named = sym (nil_end old) ∙ ap (λ xs. old ++ map name xs) (sym (filter_between test 0 next (omega arith) (λ k from below. none k below)));
+  }
+
+  pub IsNaming-more : (line : ℕ) (now : List Y) → line < lines → IsNaming name test old lines line now → (next : ℕ) → next ≤ lines → (next < lines → (test next ≡ true) × (line < next)) → ((k : ℕ) → line < k → k < next → test k ≡ false) → IsNaming name test old lines next (now ++ name line ∷ [])
+  IsNaming-more line now low n next within member none =
+      let above : line < next = ⊎_elim (λ more. (member more).1) (λ past. omega (arith, past, low)) (cases_lt next lines) in
+      record {
+        within = within;
+        member = λ more. (member more).0;
+        named = named_taken name test old now line n.named (n.member low)
+            ∙ ap (λ xs. old ++ map name xs) (sym (filter_between test (line + 1) next (omega (arith, above)) (λ k from below. none k (omega (arith, from)) below)));
+      }
+
+  pub IsNaming-end : (next : ℕ) (now : List Y) → lines ≤ next → IsNaming name test old lines next now → now ≡ old ++ map name (filter test (range_with_len 0 lines))
+  IsNaming-end next now past n = let within = n.within in let all : next ≡ lines = omega (arith, past, within) in n.named ∙ ap (λ m. old ++ map name (filter test (range_with_len 0 m))) all
 
 -- the lists of the numbers below one, one number further
 pub flat_map_next : {Y : Type 0} (f : ℕ → List Y) (n : ℕ) → flat_map f (range_with_len 0 (n + 1)) ≡ flat_map f (range_with_len 0 n) ++ f n

@@ -15,10 +15,11 @@ ghost use Rattle.net_tables.specs.PartsView.{net_in};
 
 use crate::places::all_places;
 use crate::program_parts::Plan;
+use crate::row::Row;
 use cfg_build::PieceKind;
 use class_set::ClassSet;
 use closed_walks::Digraph;
-use dep_routing::touched_lines;
+use dep_routing::{least_above, touched_lines};
 use df_sequence::{LabelList, NoMemory};
 use firing::NodeName;
 use net_board::control_arrives;
@@ -39,7 +40,7 @@ pub(crate) struct Tables {
     pub(crate) arrivals: Vec<u32>,
     /// For each piece that can have switches or merges, for each line the node of the piece that the line goes through, or the
     /// number of all nodes. The list of any other piece is empty.
-    pub(crate) places: Vec<LabelList>,
+    pub(crate) places: Vec<Row>,
 }
 
 /// The tables of a net. More nodes than can be numbered are allocation failure.
@@ -130,10 +131,11 @@ fn push_switches<const W: usize>(
     ensures { OnOk result (names.new.items ≡ names.old.items ++ map (Switch piece) (passing (net_in plan.now) piece)) }
 {
     let passing = passing_lines(plan, piece);
-    for line in 0..plan.routes.lines() {
-        if passing.holds(line) {
-            names.push(NodeName::Switch(piece, line))?;
-        }
+    let lines = plan.routes.lines();
+    let mut line = least_above(&passing, None, lines);
+    while line < lines {
+        names.push(NodeName::Switch(piece, line))?;
+        line = least_above(&passing, Some(line), lines);
     }
     Ok(())
 }
@@ -148,10 +150,11 @@ fn push_merges<const W: usize>(
     ensures { OnOk result (names.new.items ≡ names.old.items ++ map (Merge piece) (led_to (net_in plan.now) piece)) }
 {
     let free = free_lines(plan, piece);
-    for line in 0..plan.routes.lines() {
-        if free.holds(line) {
-            names.push(NodeName::Merge(piece, line))?;
-        }
+    let lines = plan.routes.lines();
+    let mut line = least_above(&free, None, lines);
+    while line < lines {
+        names.push(NodeName::Merge(piece, line))?;
+        line = least_above(&free, Some(line), lines);
     }
     Ok(())
 }

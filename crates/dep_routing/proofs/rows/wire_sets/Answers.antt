@@ -1,4 +1,4 @@
-use Rattle.std.proofs.Common.{◌≡◌, ◌<◌, ◌&&◌, ◌↔◌, ◌∙◌, ℕ, Bool, true, false, length, refl, sym, ap, arith, ⊎_elim, subst, length-append, ◌∷◌, []}
+use Rattle.std.proofs.Common.{◌≡◌, ◌<◌, ◌&&◌, ◌↔◌, ◌∙◌, ℕ, Bool, true, length, sym, ap, arith, ⊎_elim, subst, length-append, ◌∷◌, []}
 use Rattle.std.proofs.lemmas.Bool.{cases_eq, cases_lt, false≢true, ltb-true, lt-ltb}
 use Rattle.closed_walks.specs.Graph.{edge_count, to}
 use Rattle.class_set.specs.ClassSet.{holds}

@@ -1,4 +1,4 @@
-use Rattle.std.proofs.Common.{◌≡◌, ◌↔◌, ℕ, Bool, List, sym, subst, rules}
+use Rattle.std.proofs.Common.{◌↔◌, ℕ, Bool, List, sym, subst, rules}
 use Rattle.std.specs.Prelude.{slice_get}
 use Rattle.f77_tree.specs.Touched.{ExecReadsData}
 use Rattle.cfg_build.specs.Passes.{kind_in}

@@ -1,33 +1,34 @@
-use Rattle.std.proofs.Common.{◌≡◌, ◌<◌, ◌+◌, ◌^◌, ◌&&◌, not, if◌then◌else◌, ℕ, ap, ◌∙◌, arith}
-use Rattle.cfg_build.specs.declared.pieces.PieceKind.TheVariants as kind
-use Rattle.net_board.specs.Nodes.{is_free}
-use Rattle.net_board.specs.WokenNodes.{switch_number, place_by}
+use Rattle.std.proofs.Common.{◌≡◌, ◌+◌, ℕ, Bool, List, length, replicate, get_or, if◌then◌else◌, ◌∙◌, ap, arith, rules}
+use Rattle.std.proofs.lemmas.List.{length-replicate}
+use Rattle.class_set.specs.ClassSet.{holds}
+use Rattle.net_board.specs.WokenNodes.{passing_below, switch_number}
 use Rattle.net_tables.specs.PartsView.{net_in}
-use Rattle.net_tables.proofs.PlacesLemmas.{place_switch, switch_next, switch_fits}
-use Rattle.net_tables.proofs.TableLemmas.{mapped_length, mapped_more, touches_at}
+use Rattle.net_tables.proofs.PlacesLemmas.{switch_told, switch_row}
+use Rattle.net_tables.proofs.TableLemmas.{touches_at}
 use Rattle.net_tables.proofs.places.places_at_switches.Goals as goal
 
-pub push-requires : goal.push-requires
-push-requires g c = let long = mapped_length (λ (line : ℕ). place_by (net_in c.args.plan.now) c.args.piece line kind.Branch) c.loop-line.list c.loop-line.line c.loop-line.invariant.list in omega (arith, long, c.loop-line-test.true, c.lines-line-end.ensures)
-
-pub overflow_add-next-in-loop-line : goal.overflow_add-next-in-loop-line
-overflow_add-next-in-loop-line g c =
+pub number_lines-requires : goal.number_lines-requires
+number_lines-requires g c =
     let net = net_in c.args.plan.now in
-    let below : c.loop-line.line < net.routing.lines = omega (arith, c.loop-line-test.true, c.lines-line-end.ensures) in
-    let passes : c.holds-passes.result ≡ (is_free net c.args.piece c.loop-line.line && not (net.touches c.args.piece c.loop-line.line)) = c.holds-passes.ensures.member ∙ c.passing_lines-passing.ensures c.loop-line.line below in
-    let next : c.loop-line.next + c.one_of-next.result ≡ switch_number net c.args.piece (c.loop-line.line + 1) = ap (λ x. c.loop-line.next + x) c.one_of-next.ensures ∙ switch_next net c.args.piece c.loop-line.line c.loop-line.next c.holds-passes.result c.loop-line.invariant.next passes in
-    let fits : switch_number net c.args.piece (c.loop-line.line + 1) < 2 ^ 32 = switch_fits net c.args.piece c.loop-line.line net.routing.lines (2 ^ 32) below c.requires.room in
-    omega (arith, next, fits)
+    let lines = c.lines-lines.result in
+    let passing = holds c.passing_lines.result in
+    let told : (c.args.first + 1) + passing_below passing lines ≡ switch_number net c.args.piece lines = switch_told net c.args.piece passing c.args.first lines c.requires.first (λ k low. c.passing_lines.ensures k (omega (arith, low, c.lines-lines.ensures))) in
+    let same : switch_number net c.args.piece lines ≡ switch_number net c.args.piece net.routing.lines = ap (switch_number net c.args.piece) c.lines-lines.ensures in
+    let filled : c.in_ok-row.row ≡ replicate lines c.args.none = c.in_ok-row.ensures in
+    (search rules, (c.args.plan.now.width, (ap length filled ∙ length-replicate lines c.args.none, omega (arith, told, same, c.requires.room))))
 
-pub loop-line-preserved : goal.loop-line-preserved
-loop-line-preserved g c =
+pub write_at_lines-requires : goal.write_at_lines-requires
+write_at_lines-requires g c = (search rules, (c.args.plan.now.width, c.number_lines.ensures.size))
+
+pub returns : goal.returns
+returns g c =
     let net = net_in c.args.plan.now in
-    let below : c.loop-line.line < net.routing.lines = omega (arith, c.loop-line-test.true, c.lines-line-end.ensures) in
-    let passes : c.holds-passes.result ≡ (is_free net c.args.piece c.loop-line.line && not (net.touches c.args.piece c.loop-line.line)) = c.holds-passes.ensures.member ∙ c.passing_lines-passing.ensures c.loop-line.line below in
-    let touches : c.holds.result ≡ net.touches c.args.piece c.loop-line.line = c.holds.ensures.member ∙ touches_at c.args.plan.now.touch.now c.args.piece c.loop-line.line c.at-touched.result.now c.at-touched.ensures.item in
-    record {
-      list = mapped_more (λ (line : ℕ). place_by net c.args.piece line kind.Branch) c.loop-line.list c.push.new.self c.loop-line.line c.one_of-place.result c.loop-line.invariant.list
-          (c.one_of-place.ensures ∙ ap (λ x. if c.holds.result then c.args.first else x) c.one_of-after.ensures ∙ place_switch net c.args.piece c.loop-line.line c.args.first c.loop-line.next c.args.none c.holds.result c.holds-passes.result touches passes c.requires.first c.loop-line.invariant.next c.requires.none)
-          c.in_ok-push.ensures.ok;
-      next = ap (λ x. c.loop-line.next + x) c.one_of-next.ensures ∙ switch_next net c.args.piece c.loop-line.line c.loop-line.next c.holds-passes.result c.loop-line.invariant.next passes;
-    }
+    let lines = c.lines-lines.result in
+    let first = c.args.first in
+    let passing : ℕ → Bool = holds c.passing_lines.result in
+    let filled : c.in_ok-row.row ≡ replicate lines c.args.none = c.in_ok-row.ensures in
+    switch_row net c.args.piece lines first c.args.none c.lines-lines.ensures c.requires.first c.requires.none (holds c.at.result.now) passing c.number_lines.new.row c.write_at_lines.new.row
+    (λ k low. touches_at c.args.plan.now.touch.now c.args.piece k c.at.result.now c.at.ensures.item)
+    (λ k low. c.passing_lines.ensures k (omega (arith, low, c.lines-lines.ensures)))
+    (λ k low. c.number_lines.ensures.cells k low ∙ ap (λ (xs : List ℕ). if passing k then (first + 1) + passing_below passing k else get_or xs k 0) filled)
+    c.write_at_lines.ensures.size c.write_at_lines.ensures.cells

@@ -1,19 +1,36 @@
-use Rattle.std.proofs.Common.{◌≡◌, ◌<◌, ◌∙◌, sym, arith}
+use Rattle.std.proofs.Common.{◌≡◌, ◌<◌, ◌++◌, ◌∙◌, ℕ, Bool, map, sym, ap, arith, filter}
+use Rattle.std.specs.List.{range_with_len}
+use Rattle.class_set.specs.ClassSet.{holds}
 use Rattle.firing.specs.declared.system.NodeName.TheVariants.{Merge}
 use Rattle.net_board.specs.Nodes.{is_free}
 use Rattle.net_tables.specs.PartsView.{net_in}
-use Rattle.net_tables.proofs.TableLemmas.{named_taken, named_skipped}
+use Rattle.net_tables.proofs.TableLemmas.{IsNaming-begin, IsNaming-more, IsNaming-end}
 use Rattle.net_tables.proofs.tables.push_merges.Goals as goal
-use Rattle.net_tables.proofs.tables.push_merges.Goals.{then-holds+in_ok-push, else-holds}
+
+pub loop-line-init : goal.loop-line-init
+loop-line-init g c =
+    let net = net_in c.args.plan.now in
+    let test : ℕ → Bool = is_free net c.args.piece in
+    let lines = c.lines-lines.result in
+    let next = c.least_above-line.result in
+    let e = c.least_above-line.ensures in
+    let told : (k : ℕ) → k < lines → test k ≡ holds c.free_lines-free.result k = λ k low. sym (c.free_lines-free.ensures k (omega (arith, low, c.lines-lines.ensures))) in
+    IsNaming-begin (Merge c.args.piece) test c.args.names.now.items lines next e.within (λ more. told next more ∙ (e.member more).0) (λ k below. told k (omega (arith, below, e.within)) ∙ e.none k tt below)
 
 pub loop-line-preserved : goal.loop-line-preserved
 loop-line-preserved g c =
     let net = net_in c.args.plan.now in
-    let below : c.loop-line.line < net.routing.lines = omega (arith, c.loop-line-test.true, c.lines-line-end.ensures) in
-    let is : c.holds.result ≡ is_free net c.args.piece c.loop-line.line = c.holds.ensures.member ∙ c.free_lines-free.ensures c.loop-line.line below in
-    elim c.if-holds.branch [
-      | then-holds+in_ok-push w ↦
-          rw w.names-is (w.in_ok-push.ensures.items ∙ named_taken (Merge c.args.piece) (is_free net c.args.piece) c.args.names.now.items c.loop-line.names.items c.loop-line.line c.loop-line.invariant (sym is ∙ w.if-holds.true))
-      | else-holds w ↦
-          rw w.names-is (named_skipped (Merge c.args.piece) (is_free net c.args.piece) c.args.names.now.items c.loop-line.names.items c.loop-line.line c.loop-line.invariant (sym is ∙ w.if-holds.false))
-    ]
+    let test : ℕ → Bool = is_free net c.args.piece in
+    let lines = c.lines-lines.result in
+    let next = c.least_above-line-in-loop-line.result in
+    let e = c.least_above-line-in-loop-line.ensures in
+    let told : (k : ℕ) → k < lines → test k ≡ holds c.free_lines-free.result k = λ k low. sym (c.free_lines-free.ensures k (omega (arith, low, c.lines-lines.ensures))) in
+    rw c.in_ok-push.ensures.items (IsNaming-more (Merge c.args.piece) test c.args.names.now.items lines c.loop-line.line c.loop-line.names.items c.loop-line-test.true c.loop-line.invariant next e.within
+    (λ more. (told next more ∙ (e.member more).0, (e.member more).1)) (λ k above below. told k (omega (arith, below, e.within)) ∙ e.none k above below))
+
+pub returns : goal.returns
+returns g c =
+    let net = net_in c.args.plan.now in
+    let test : ℕ → Bool = is_free net c.args.piece in
+    IsNaming-end (Merge c.args.piece) test c.args.names.now.items c.lines-lines.result c.loop-line.line c.loop-line.names.items c.loop-line-test.false c.loop-line.invariant
+    ∙ ap (λ n. c.args.names.now.items ++ map (Merge c.args.piece) (filter test (range_with_len 0 n))) c.lines-lines.ensures

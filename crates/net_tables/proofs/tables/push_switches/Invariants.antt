@@ -1,9 +1,12 @@
-use Rattle.std.proofs.Common.{◌≡◌, ◌&&◌, ◌++◌, not, map, filter}
-use Rattle.std.specs.List.{range_with_len}
+use Rattle.std.proofs.Common.{◌-◌, ◌&&◌, not}
 use Rattle.firing.specs.declared.system.NodeName.TheVariants.{Switch}
 use Rattle.net_board.specs.Nodes.{is_free}
 use Rattle.net_tables.specs.PartsView.{net_in}
+use Rattle.net_tables.proofs.TableLemmas.{IsNaming}
 use Rattle.net_tables.proofs.tables.push_switches.Given as goal
 
 abbrev pub invariant-loop-line : goal.invariant-loop-line
-invariant-loop-line g l = l.names.items ≡ l.initial.names.items ++ map (Switch l.piece) (filter (λ line. is_free (net_in l.plan) l.piece line && not ((net_in l.plan).touches l.piece line)) (range_with_len 0 l.line))
+invariant-loop-line g l = IsNaming (Switch l.piece) (λ line. is_free (net_in l.plan) l.piece line && not ((net_in l.plan).touches l.piece line)) l.initial.names.items l.lines l.line l.names.items
+
+abbrev pub decreases-loop-line : goal.decreases-loop-line
+decreases-loop-line g l = l.lines - l.line

@@ -21,11 +21,11 @@ row_is board piece kept row exists at is =
 pub returns-then-line-row : goal.returns-then-line-row
 returns-then-line-row g c = λ node.
     let net = net_on c.args.self.now in
-    let row = row_is c.args.self.now c.args.piece c.index.result.now c.as_slice-row.result.now c.requires.piece c.index.ensures c.as_slice-row.ensures.items in
+    let row = row_is c.args.self.now c.args.piece c.index.result.now c.as_slice-row.result.now c.requires.piece c.index.ensures c.as_slice-row.ensures in
     kept_cell net c.args.piece c.as_slice-row.result.now c.args.line row c.if-line-row.true
 
 pub returns-else-line-row : goal.returns-else-line-row
 returns-else-line-row g c = λ node.
     let net = net_on c.args.self.now in
-    let row = row_is c.args.self.now c.args.piece c.index.result.now c.as_slice-row.result.now c.requires.piece c.index.ensures c.as_slice-row.ensures.items in
+    let row = row_is c.args.self.now c.args.piece c.index.result.now c.as_slice-row.result.now c.requires.piece c.index.ensures c.as_slice-row.ensures in
     c.first.ensures ∙ kept_first net c.args.piece c.as_slice-row.result.now c.args.line row c.if-line-row.false c.requires.line node

@@ -1,0 +1,14 @@
+use Rattle.std.proofs.Common.{◌≡◌, ◌+◌, ◌-◌, get_or}
+use Rattle.class_set.specs.ClassSet.{holds}
+use Rattle.dep_routing.proofs.Filling.{IsFilling}
+use Rattle.net_board.specs.WokenNodes.{passing_below}
+use Rattle.net_tables.proofs.places.number_lines.Given as goal
+
+abbrev pub invariant-loop-line : goal.invariant-loop-line
+invariant-loop-line g l = record {
+  row : IsFilling (holds l.set) (λ k. l.first + passing_below (holds l.set) k) (λ k. get_or l.initial.row k 0) l.lines l.line l.row;
+  next : l.next ≡ l.first + passing_below (holds l.set) l.line;
+}
+
+abbrev pub decreases-loop-line : goal.decreases-loop-line
+decreases-loop-line g l = l.lines - l.line
