@@ -33,32 +33,32 @@ module _ {M P : Type 0} (s : Moves M) (course : Course M P) where
 module _ (x : OperationNet) where
   -- ---- at a piece
 
-  module _ (piece : ℕ) (start : OperationTokens) where
-    -- the edge that is told after so many firings
+  module _ (piece : ℕ) (start : OperationTokens) (left : ℕ) where
+    -- the edge that is told after so many firings, where this one was told before
     pub leaves_after : (i : ℕ) → ℕ
-    leaves_after zero = 0
+    leaves_after zero = left
     leaves_after (suc i) = edge_taken x (after (operation_moves x) start (range_with_len (first_operation x piece) i)) (at_place piece i (leaves_after i))
 
     pub record IsPartDue (i : ℕ) : Type 0 where
-      pub due : IsDueOrder (operation_moves x) (operation_course x) start (at_place piece 0 0) (range_with_len (first_operation x piece) i)
-      pub place : place_after (operation_moves x) (operation_course x) start (at_place piece 0 0) (range_with_len (first_operation x piece) i) ≡ at_place piece i (leaves_after i)
+      pub due : IsDueOrder (operation_moves x) (operation_course x) start (at_place piece 0 left) (range_with_len (first_operation x piece) i)
+      pub place : place_after (operation_moves x) (operation_course x) start (at_place piece 0 left) (range_with_len (first_operation x piece) i) ≡ at_place piece i (leaves_after i)
 
     due_here : (i leaves : ℕ) → i < operation_node_count x piece → due_operation x (at_place piece i leaves) ≡ Some (first_operation x piece + i)
     due_here i leaves low = ap (λ (b : Bool). if b then Some (first_operation x piece + i) else None) (lt-ltb i (operation_node_count x piece) low)
 
-    due_more : (i : ℕ) → i < operation_node_count x piece → IsPartDue i → IsDueOrder (operation_moves x) (operation_course x) start (at_place piece 0 0) (range_with_len (first_operation x piece) (suc i))
+    due_more : (i : ℕ) → i < operation_node_count x piece → IsPartDue i → IsDueOrder (operation_moves x) (operation_course x) start (at_place piece 0 left) (range_with_len (first_operation x piece) (suc i))
     due_more i low part =
         let ks = range_with_len (first_operation x piece) i in
-        subst (IsDueOrder (operation_moves x) (operation_course x) start (at_place piece 0 0)) (sym (range_more (first_operation x piece) i))
-        (due_join (operation_moves x) (operation_course x) start (at_place piece 0 0) ks ((first_operation x piece + i) ∷ []) part.due
+        subst (IsDueOrder (operation_moves x) (operation_course x) start (at_place piece 0 left)) (sym (range_more (first_operation x piece) i))
+        (due_join (operation_moves x) (operation_course x) start (at_place piece 0 left) ks ((first_operation x piece + i) ∷ []) part.due
         (subst (λ (p : Control). IsDueOrder (operation_moves x) (operation_course x) (after (operation_moves x) start ks) p ((first_operation x piece + i) ∷ [])) (sym part.place) (due_here i (leaves_after i) low, tt)))
 
-    place_more : (i : ℕ) → i < operation_node_count x piece → IsPartDue i → place_after (operation_moves x) (operation_course x) start (at_place piece 0 0) (range_with_len (first_operation x piece) (suc i)) ≡ (if nat_lt (suc i) (operation_node_count x piece) || is_end (kind_in x.net piece) then at_place piece (suc i) (leaves_after (suc i)) else arrived x.net (leaves_after (suc i)))
+    place_more : (i : ℕ) → i < operation_node_count x piece → IsPartDue i → place_after (operation_moves x) (operation_course x) start (at_place piece 0 left) (range_with_len (first_operation x piece) (suc i)) ≡ (if nat_lt (suc i) (operation_node_count x piece) || is_end (kind_in x.net piece) then at_place piece (suc i) (leaves_after (suc i)) else arrived x.net (leaves_after (suc i)))
     unfolding leaves_after
     place_more i low part =
         let ks = range_with_len (first_operation x piece) i in
-        ap (place_after (operation_moves x) (operation_course x) start (at_place piece 0 0)) (range_more (first_operation x piece) i)
-        ∙ place_join (operation_moves x) (operation_course x) start (at_place piece 0 0) ks ((first_operation x piece + i) ∷ [])
+        ap (place_after (operation_moves x) (operation_course x) start (at_place piece 0 left)) (range_more (first_operation x piece) i)
+        ∙ place_join (operation_moves x) (operation_course x) start (at_place piece 0 left) ks ((first_operation x piece + i) ∷ [])
         ∙ ap (λ (p : Control). control_after x (after (operation_moves x) start ks) p) part.place
 
     part_due : (i : ℕ) → i < operation_node_count x piece → IsPartDue i
@@ -73,11 +73,11 @@ module _ (x : OperationNet) where
               ∙ ap (λ (b : Bool). if b then at_place piece (suc i) (leaves_after (suc i)) else arrived x.net (leaves_after (suc i))) (or_left (nat_lt (suc i) (operation_node_count x piece)) (is_end (kind_in x.net piece)) (lt-ltb (suc i) (operation_node_count x piece) low));
         }
 
-    pub so_many_due : (i : ℕ) → i ≤ operation_node_count x piece → IsDueOrder (operation_moves x) (operation_course x) start (at_place piece 0 0) (range_with_len (first_operation x piece) i)
+    pub so_many_due : (i : ℕ) → i ≤ operation_node_count x piece → IsDueOrder (operation_moves x) (operation_course x) start (at_place piece 0 left) (range_with_len (first_operation x piece) i)
     so_many_due zero few = tt
     so_many_due (suc i) few = due_more i (omega (arith, few)) (part_due i (omega (arith, few)))
 
-    pub all_placed : (count : ℕ) → count ≡ operation_node_count x piece → 0 < count → is_end (kind_in x.net piece) ≡ false → place_after (operation_moves x) (operation_course x) start (at_place piece 0 0) (range_with_len (first_operation x piece) count) ≡ arrived x.net (leaves_after count)
+    pub all_placed : (count : ℕ) → count ≡ operation_node_count x piece → 0 < count → is_end (kind_in x.net piece) ≡ false → place_after (operation_moves x) (operation_course x) start (at_place piece 0 left) (range_with_len (first_operation x piece) count) ≡ arrived x.net (leaves_after count)
     all_placed zero is some not_end = absurd (omega (arith, some))
     all_placed (suc i) is some not_end =
         place_more i (omega (arith, is)) (part_due i (omega (arith, is)))

@@ -111,10 +111,10 @@ module _ (x : OperationNet) (n : IsOperationNet x) (facts : OperationFacts x) (i
       here = ap (λ (e : ℕ). at_place (to (graph_in x.net) e) 0 0) (arrived_busy x.net ground.graph (graph_in x.net).nodes state.edge busy)
 
       -- the edge that is told in the end
-      told : (d : ℕ) (new : Memory) (text : List ℕ) → pass x.net.program x.net.input state.edge state.memory ≡ Along d new text → 0 < operation_node_count x piece → leaves_after x piece (between_pieces x m) (operation_node_count x piece) ≡ d
+      told : (d : ℕ) (new : Memory) (text : List ℕ) → pass x.net.program x.net.input state.edge state.memory ≡ Along d new text → 0 < operation_node_count x piece → leaves_after x piece (between_pieces x m) 0 (operation_node_count x piece) ≡ d
       told d new text is some = by (cases_Bool (is_acting (kind_in x.net piece)))
         where
-          by : (is_acting (kind_in x.net piece) ≡ true) ⊎ (is_acting (kind_in x.net piece) ≡ false) → leaves_after x piece (between_pieces x m) (operation_node_count x piece) ≡ d
+          by : (is_acting (kind_in x.net piece) ≡ true) ⊎ (is_acting (kind_in x.net piece) ≡ false) → leaves_after x piece (between_pieces x m) 0 (operation_node_count x piece) ≡ d
           by (inl acting) =
               let goes : DoesTrap (pass_at x.net piece state.memory) → ⊥ = λ does. subst DoesTrap is does in
               let run = runs x n facts is_net ground first_comes words k m room comes running stands goes acting in
@@ -122,11 +122,11 @@ module _ (x : OperationNet) (n : IsOperationNet x) (facts : OperationFacts x) (i
               let count = acting_count x piece acting in
               let first = below_length (nodes_at x.net piece) 0 (Act piece) (act_first x.net piece (kind_in x.net piece) acting) in
               let r : IsDistance (operation_count x piece) (operation_node_count x piece) = distance (operation_count x piece) (operation_node_count x piece) (omega (arith, count, first)) in
-              stays_told x piece (between_pieces x m) d list.some
+              stays_told x piece (between_pieces x m) 0 d list.some
               (λ i last. decided_end x n facts piece m run.0 run.1 i last ∙ ap (leaving x.net piece) (same_pass x n facts is_net ground first_comes words k m room comes running stands ∙ is))
               r.more (operation_node_count x piece) (sym r.is)
           by (inr idle) =
-              idle_told x piece (between_pieces x m) idle (operation_node_count x piece) some
+              idle_told x piece (between_pieces x m) 0 idle (operation_node_count x piece) some
               ∙ sym (idle_way x piece state.memory (exec_kind x.net.program piece) (kind_in x.net piece) idle)
               ∙ ap (edge_or (out (graph_in x.net) piece 0)) is
 
@@ -148,8 +148,8 @@ module _ (x : OperationNet) (n : IsOperationNet x) (facts : OperationFacts x) (i
           in
           let some = some_here piece exists (some_nodes (node_count x.net piece) (is_end (kind_in x.net piece)) busy not_end) in
           record {
-            due = so_many_due x piece (between_pieces x m) (operation_node_count x piece) (omega arith);
-            place = λ runs_on. all_placed x piece (between_pieces x m) (operation_node_count x piece) refl some not_end ∙ ap (arrived x.net) (told d new text is some);
+            due = so_many_due x piece (between_pieces x m) 0 (operation_node_count x piece) (omega arith);
+            place = λ runs_on. all_placed x piece (between_pieces x m) 0 (operation_node_count x piece) refl some not_end ∙ ap (arrived x.net) (told d new text is some);
           }
       due_busy (Traps trap) is =
           let own : IsStopRun x n facts piece m (acting_at x n facts is_net ground first_comes words k m room comes running stands (acts x n facts is_net ground first_comes words k m room comes running stands trap is)) = stop x n facts is_net ground first_comes words k m room comes running stands trap is in
@@ -158,10 +158,10 @@ module _ (x : OperationNet) (n : IsOperationNet x) (facts : OperationFacts x) (i
           let first = below_length (nodes_at x.net piece) 0 (Act piece) (act_first x.net piece (kind_in x.net piece) acting) in
           let inside = own.inside in
           record {
-            due = subst (λ (i : ℕ). IsDueOrder (operation_moves x) (operation_course x) (between_pieces x m) (at_place piece 0 0) (range_with_len (first_operation x piece) i)) (sym (many x n facts is_net ground first_comes words k m room comes running stands trap is)) (so_many_due x piece (between_pieces x m) (suc own.number) (omega (arith, count, first, inside)));
+            due = subst (λ (i : ℕ). IsDueOrder (operation_moves x) (operation_course x) (between_pieces x m) (at_place piece 0 0) (range_with_len (first_operation x piece) i)) (sym (many x n facts is_net ground first_comes words k m room comes running stands trap is)) (so_many_due x piece (between_pieces x m) 0 (suc own.number) (omega (arith, count, first, inside)));
             place = λ runs_on. absurd (not_running_trapped trap (line_at x.net.program state.edge) runs_on);
           }
-      due_busy Done is = record { due = so_many_due x piece (between_pieces x m) (operation_node_count x piece) (omega arith); place = λ runs_on. absurd (not_running_ended runs_on) }
+      due_busy Done is = record { due = so_many_due x piece (between_pieces x m) 0 (operation_node_count x piece) (omega arith); place = λ runs_on. absurd (not_running_ended runs_on) }
 
     due_running : AreDueBeside (between_pieces x m) (arrived x.net state.edge) (operation_firings_from x state Running) (passed_from x.net.program x.net.input state Running)
     due_running = by (cases_Bool (is_idle x.net piece))

@@ -47,5 +47,8 @@ pub mod OperationControl
 pub mod LockstepOperations
 pub mod DueOperations
 pub mod DuePasses
+pub mod DueMoments
+pub mod PassedPieces
+pub mod WholePieces
 pub mod ChainOperations
 pub mod FewOperations

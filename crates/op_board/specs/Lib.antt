@@ -12,3 +12,4 @@ pub mod OperationLockstep
 pub mod OperationSimulation
 pub mod OperationFacts
 pub mod OrderFacts
+pub mod WholePieces

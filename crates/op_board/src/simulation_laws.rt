@@ -11,6 +11,7 @@ ghost use Rattle.op_board.specs.OperationSimulation.{AreDueInTurn, AreFewOperati
 ghost use Rattle.op_board.specs.OperationTokens.{first_operation_tokens, operation_moves};
 ghost use Rattle.op_board.specs.OrderFacts.{OrderFacts};
 ghost use Rattle.op_board.specs.SoundOperationNets.{IsOperationNet, OperationsCanCome};
+ghost use Rattle.op_board.specs.WholePieces.{PassesWhole};
 
 use crate::operation_laws::{operation_nets_begin_soundly, operation_nets_keep_the_laws};
 use crate::structure_laws::{operations_have_facts, pieces_have_operations};
@@ -48,6 +49,15 @@ pub fn operation_nets_simulate_programs()
     nets_simulate_programs();
     operation_nets_keep_the_laws();
     operation_nets_begin_soundly();
+    runs_ground_orders();
+}
+
+/// Where control comes to a piece other than the end, and each of its operations can be performed without a trap, all nodes of the
+/// piece fire one after another in the source's own order. None but the last of them writes a line, which is that of the piece's last
+/// operation. After them the lines that they move are led along the edge that this operation tells, and control goes on along it.
+pub fn operation_nets_pass_pieces_whole()
+    ensures { (x : OperationNet) → IsOperationNet x → PassesWhole x }
+{
     runs_ground_orders();
 }
 
