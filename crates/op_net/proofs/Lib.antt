@@ -29,6 +29,8 @@ pub mod TurnNodes
 pub mod RisingLines
 pub mod CountsKept
 pub mod DueFirings
+pub mod JoinedFirings
+pub mod NetFirings
 pub mod RowFacts
 pub mod HopFacts
 pub mod WaitBounds
@@ -56,3 +58,5 @@ pub mod TaskPropositions
 pub mod ReadyNodes
 pub mod PlannedOperations
 pub mod RowOperands
+pub mod PieceLines
+pub mod PieceValues

@@ -20,6 +20,7 @@ use Rattle.op_board.specs.OperationLockstep.{IsInOperationLockstep}
 use Rattle.op_board.specs.OperationNets.{OperationNet, operation_count}
 use Rattle.op_board.specs.OperationTokens.{OperationTokens, first_operation_tokens, operation_moves}
 use Rattle.op_board.specs.SoundOperationNets.{OperationsCanCome}
+use Rattle.op_board.specs.WholePieces.{PassesWhole}
 use Rattle.op_net.specs.declared.places.Places.{Places}
 use Rattle.op_net.specs.declared.plan.OperationPlan.{OperationPlan}
 use Rattle.op_net.specs.declared.plan.PieceOperations.{PieceOperations}
@@ -63,11 +64,12 @@ module _ (x : OperationNet) (m : OperationTokens) (is : m ≡ first_operation_to
   pub can_come : OperationsCanCome x (first_operation_tokens x) → OperationsCanCome x m
   can_come come = subst (λ t. OperationsCanCome x t) (sym is) come
 
-  pub in_step : (c : Control) → c ≡ first_control x.net → IsInOperationLockstep x (first_operation_tokens x) (first_control x.net) → KeepsStep (OperationsCanCome x) (operation_moves x) (operation_course x) (IsInOperationLockstep x) → IsSourceOrder (OperationsCanCome x) (operation_moves x) (operation_course x) (IsInOperationLockstep x) → IsInStep (operation_moves x) (StaysInStep x) m (Some c)
-  in_step c stands begins steady ordered none = record {
+  pub in_step : (c : Control) → c ≡ first_control x.net → IsInOperationLockstep x (first_operation_tokens x) (first_control x.net) → KeepsStep (OperationsCanCome x) (operation_moves x) (operation_course x) (IsInOperationLockstep x) → IsSourceOrder (OperationsCanCome x) (operation_moves x) (operation_course x) (IsInOperationLockstep x) → PassesWhole x → IsInStep (operation_moves x) (StaysInStep x) m (Some c)
+  in_step c stands begins steady ordered passes none = record {
     lockstep = subst (λ (p : Control). IsInOperationLockstep x m p) (sym stands) (subst (λ t. IsInOperationLockstep x t (first_control x.net)) (sym is) begins);
     steady = steady;
     ordered = ordered;
+    passes = passes;
   }
 
 module _ {W : ℕ} (plan : OperationPlan W) where

@@ -5,7 +5,7 @@ use Rattle.std.proofs.Props.{props}
 use Rattle.std.specs.Option.{option_map}
 use Rattle.std.proofs.lemmas.Bool.{cases_lt}
 use Rattle.std.proofs.lemmas.List.{length-map}
-use Rattle.std.proofs.lemmas.Option.{slice_get-map, slice_get_past, slice_get_within, get_or_from_slice_get}
+use Rattle.std.proofs.lemmas.Option.{slice_get-map, slice_get_past}
 use Rattle.cfg_build.specs.declared.pieces.PieceKind.TheVariants as kind
 use Rattle.cfg_build.specs.Flow.{flow, piece_in}
 use Rattle.cfg_build.specs.Joined.{FlowGraph}
@@ -52,15 +52,15 @@ module _ (x : OperationNet) where
 
 -- ---- operands
 
--- no operation of so many pieces has more operands than this
+-- there are no more operations before one of so many pieces together with its operands than this
 pub record AreMost {W : ℕ} (pieces : List (PieceOperations W)) (n most : ℕ) : Type 0 where
-  pub each : (piece i : ℕ) (planned : PieceOperations W) (operation : Operation) → piece < n → slice_get pieces piece ≡ Some planned → slice_get planned.operations.items i ≡ Some operation → length operation.operands.items ≤ most
+  pub each : (piece i : ℕ) (planned : PieceOperations W) (operation : Operation) → piece < n → slice_get pieces piece ≡ Some planned → slice_get planned.operations.items i ≡ Some operation → i + length operation.operands.items ≤ most
 
 module _ {W : ℕ} where
   pub none_most : (pieces : List (PieceOperations W)) → AreMost pieces 0 0
   none_most pieces = record { each = λ piece i planned operation below. absurd (omega (arith, below)) }
 
-  pub next_most : (pieces : List (PieceOperations W)) (n old here new : ℕ) (planned : PieceOperations W) → AreMost pieces n old → slice_get pieces n ≡ Some planned → All (λ (operation : Operation). length operation.operands.items ≤ here) planned.operations.items → old ≤ new → here ≤ new → AreMost pieces (n + 1) new
+  pub next_most : (pieces : List (PieceOperations W)) (n old here new : ℕ) (planned : PieceOperations W) → AreMost pieces n old → slice_get pieces n ≡ Some planned → ((i : ℕ) (operation : Operation) → slice_get planned.operations.items i ≡ Some operation → i + length operation.operands.items ≤ here) → old ≤ new → here ≤ new → AreMost pieces (n + 1) new
   next_most pieces n old here new planned before at all low high = record {
     each = λ piece i other operation below is has. ⊎_elim
         (λ (l : piece < n). let r = before.each piece i other operation l is has in omega (arith, r, low))
@@ -69,11 +69,8 @@ module _ {W : ℕ} where
         let found : Some planned ≡ Some other = sym at ∙ ap (slice_get pieces) (sym same) ∙ is in
         let own : planned ≡ other = cc in
         let there : slice_get planned.operations.items i ≡ Some operation = ap (λ (y : PieceOperations W). slice_get y.operations.items i) own ∙ has in
-        let inside = slice_get_within planned.operations.items i operation there in
-        let r : length (get_or planned.operations.items i operation).operands.items ≤ here = all i operation inside in
-        let item : get_or planned.operations.items i operation ≡ operation = get_or_from_slice_get planned.operations.items i operation operation there in
-        let s : length operation.operands.items ≤ here = subst (λ (o : Operation). length o.operands.items ≤ here) item r in
-        omega (arith, s, high))
+        let r = all i operation there in
+        omega (arith, r, high))
         (cases_lt piece n);
   }
 
@@ -87,7 +84,7 @@ module _ {W : ℕ} where
       let start : kind_in x.net piece ≡ kind.Start = ap (λ o. (piece_in o).kind) none in
       ap (λ k. length (board.operations_of x.net.program.names k (exec_kind x.net.program piece))) start
 
-  pub most_of_all : (plan : OperationPlan W) (n most : ℕ) → AreMost plan.pieces.items n most → n ≡ length plan.pieces.items → (piece i : ℕ) → i < operation_count (operations_in plan) piece → length (operation_at (operations_in plan) piece i).operands ≤ most
+  pub most_of_all : (plan : OperationPlan W) (n most : ℕ) → AreMost plan.pieces.items n most → n ≡ length plan.pieces.items → (piece i : ℕ) → i < operation_count (operations_in plan) piece → i + length (operation_at (operations_in plan) piece i).operands ≤ most
   most_of_all plan n most are all piece i inside =
       let x : OperationNet = operations_in plan in
       ⊎_elim
@@ -100,7 +97,7 @@ module _ {W : ℕ} where
       let is : operation_at x piece i ≡ operation_seen op.0 = ap operation_in (ap (λ ops. slice_get ops i) (sym own) ∙ slice_get-map operation_seen found.0.operations.items i ∙ ap (option_map operation_seen) op.1) in
       let few = are.each piece i found.0 op.0 (omega (arith, exists, all)) found.1 op.1 in
       let seen : length (operation_seen op.0).operands ≡ length op.0.operands.items = length-map op.0.operands.items operand_seen in
-      subst (λ (o : board.Operation). length o.operands ≤ most) (sym is) (omega (arith, few, seen))))
+      subst (λ (o : board.Operation). i + length o.operands ≤ most) (sym is) (omega (arith, few, seen))))
       (λ (past : length plan.pieces.items ≤ piece).
       let none = no_operations plan piece (omega (arith, past, plan.every_piece)) in
       absurd (omega (arith, inside, none)))

@@ -13,6 +13,10 @@ use Rattle.op_board.specs.OperationTokens.{OperationTokens}
 use Rattle.op_net.specs.PlacesView.{value_put}
 use Rattle.op_net.specs.StandingChanges.{lines_dropped, lines_moved, values_taken}
 
+-- the memory is this one
+abbrev pub remembered : OperationTokens → Memory → OperationTokens
+remembered m memory = record m { tokens = record m.tokens { memory = memory } }
+
 -- the operands are taken, and the operation leaves this memory
 abbrev pub worked_on : OperationNet → OperationTokens → (piece i : ℕ) → Memory → OperationTokens
 worked_on x m piece i memory = let taken = values_taken x m piece i in record taken { tokens = record taken.tokens { memory = memory } }

@@ -21,7 +21,10 @@ pub mod PlaceSteps
 pub mod Steering
 pub mod Visits
 pub mod NetView
+pub mod PieceEnds
+pub mod NetFirings
 pub mod FiringChanges
+pub mod PieceValues
 pub mod Telling
 pub mod StaysInStep
 pub mod StepLaws

@@ -1,5 +1,5 @@
 -- What the tables of a net of operations hold.
-use Rattle.std.specs.Prelude.{◌≡◌, ◌<◌, ◌≤◌, ◌^◌, ℕ, suc, length, map, Some, slice_get}
+use Rattle.std.specs.Prelude.{◌≡◌, ◌<◌, ◌≤◌, ◌+◌, ◌^◌, ℕ, suc, length, map, Some, slice_get}
 use Rattle.std.specs.List.{range_with_len}
 use Rattle.net_board.specs.Nodes.{graph_in}
 use Rattle.op_board.specs.OperationNets.{OperationNet, all_operation_nodes, first_operation, operation_at, operation_count}
@@ -15,5 +15,6 @@ pub record AreOperationTables (x : OperationNet) (t : OperationTables) : Type 0 
   pub firsts : t.firsts.items ≡ map (first_operation x) (range_with_len 0 (suc (graph_in x.net).nodes))
   pub pieces : length t.pieces.items ≡ (graph_in x.net).nodes
   pub rows : (piece : ℕ) (rows : PieceRows) → slice_get t.pieces.items piece ≡ Some rows → ∥ AreRows x piece rows ∥₁
-  pub most : (piece i : ℕ) → i < operation_count x piece → length (operation_at x piece i).operands ≤ t.most
+  -- there are no more operations before one in its piece together with its operands
+  pub most : (piece i : ℕ) → i < operation_count x piece → i + length (operation_at x piece i).operands ≤ t.most
   pub fits : t.most < 2 ^ 32

@@ -4,6 +4,7 @@ use Rattle.net_board.specs.Nodes.{switches}
 use Rattle.net_board.specs.Tokens.{led_from, with_all}
 use Rattle.op_board.specs.OperationNets.{OperationNet, last_needed, needed, operation_at}
 use Rattle.op_board.specs.OperationTokens.{OperationTokens, passed_after, replaced, taken_values}
+use Rattle.op_board.specs.WholePieces.{lines_moved_at}
 
 -- the operands are taken
 abbrev pub values_taken : OperationNet → OperationTokens → (piece i : ℕ) → OperationTokens
@@ -26,3 +27,7 @@ lines_dropped x m piece i = record m {
 -- the edge is left for the switches of the piece
 abbrev pub room_filled : OperationNet → OperationTokens → (piece edge : ℕ) → OperationTokens
 room_filled x m piece edge = record m { tokens = record m.tokens { edges = with_all m.tokens.edges (switches x.net piece) (λ switch. Some edge) } }
+
+-- the lines that the nodes of a piece move are led along the edge
+abbrev pub lines_led : OperationNet → OperationTokens → (piece edge : ℕ) → OperationTokens
+lines_led x m piece edge = record m { tokens = record m.tokens { lines = with_all m.tokens.lines (lines_moved_at x.net piece) (led_from x.net edge) } }

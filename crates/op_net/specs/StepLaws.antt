@@ -13,6 +13,7 @@ keeps_step x = record {
     lockstep = in_step.steady.kept m p k sound in_step.lockstep can due going;
     steady = in_step.steady;
     ordered = in_step.ordered;
+    passes = in_step.passes;
   };
 }
 

@@ -27,7 +27,8 @@ pub struct OpNet<'a, const W: usize> {
     // The line that was made last, and the one that is being made.
     pub(crate) text: Vec<u8>,
     pub(crate) draft: Vec<u8>,
-    // The values of the operands of the operation that fires.
+    // The values of the operands of the operation that fires. Where all operations of a piece are performed, those that they gave stand
+    // before them.
     pub(crate) args: Vec<i32>,
     ghost own_places: { ArePlaces (operation_net_on board) places },
     ghost counted: { IsCounted (operation_net_on board) places },

@@ -106,8 +106,7 @@ impl<const W: usize> SourceOrder for OpNet<'_, W> {
         let Some(first) = due_in(&self.board, visit) else {
             return (0, Fired::Moved);
         };
-        let mut fired = self.fire_visited(&mut visit, first);
-        let mut made: u64 = 1;
+        let (mut made, mut fired) = self.go_on(&mut visit, first, most);
         'more: while made < most {
             let Fired::Moved = fired else {
                 break;
@@ -115,8 +114,9 @@ impl<const W: usize> SourceOrder for OpNet<'_, W> {
             let Some(k) = due_in(&self.board, visit) else {
                 break;
             };
-            fired = self.fire_visited(&mut visit, k);
-            made += 1;
+            let (more, last) = self.go_on(&mut visit, k, most - made);
+            made += more;
+            fired = last;
         }
         (made, fired)
     }

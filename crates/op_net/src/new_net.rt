@@ -31,7 +31,9 @@ use f77_meaning::{initial_storage, longest_line};
 use f77_tree::Program;
 use firing::ReadySet;
 use net_tables::{first_control, first_places, nothing_left};
-use op_board::{operation_nets_begin_soundly, operation_nets_stay_in_lockstep};
+use op_board::{
+    operation_nets_begin_soundly, operation_nets_pass_pieces_whole, operation_nets_stay_in_lockstep,
+};
 use std::alloc::Global;
 
 impl<'a, const W: usize> OpNet<'a, W> {
@@ -60,6 +62,7 @@ impl<'a, const W: usize> OpNet<'a, W> {
     {
         operation_nets_begin_soundly();
         operation_nets_stay_in_lockstep();
+        operation_nets_pass_pieces_whole();
         let plan = make_plan(alloc, p, f, c, touch, l, input)?;
         let tables = make_tables(alloc, &plan)?;
         let room = longest_line(p.execs.as_slice())?;

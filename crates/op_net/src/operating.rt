@@ -25,8 +25,8 @@ use crate::rows::Row;
 use crate::standing::node_before;
 use operation_lists::Operand;
 
-// Appends a value for which there is room.
-fn push_argument(args: &mut Vec<i32>, z: i32)
+/// Appends a value for which there is room.
+pub(crate) fn push_argument(args: &mut Vec<i32>, z: i32)
     requires { vec_len args.old + 1 ≤ vec_capacity args.old }
     ensures items { args.new.items ≡ args.old.items ++ z ∷ [] }
     ensures capacity { vec_capacity args.old ≤ vec_capacity args.new }

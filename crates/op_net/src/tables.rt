@@ -1,6 +1,6 @@
 //! The tables of a net of operations, made from its plan.
 
-ghost use Rattle.std.specs.Prelude.{◌<◌, ◌≤◌, ℕ, All, length, IfOk};
+ghost use Rattle.std.specs.Prelude.{◌≡◌, ◌<◌, ◌≤◌, ◌+◌, ℕ, IfOk, Some, length, slice_get};
 ghost use Rattle.operation_lists.specs.declared.operations.Operation.{Operation};
 ghost use Rattle.op_board.specs.OperationNets.{operation_at, operation_count};
 ghost use Rattle.op_net.specs.OperationTables.{AreOperationTables};
@@ -25,11 +25,12 @@ pub(crate) struct OperationTables<'a> {
     pub(crate) firsts: Vec<u32>,
     /// For each piece its operations.
     pub(crate) pieces: Vec<PieceRows<'a>>,
-    /// No operation has more operands than this, which can be numbered.
+    /// There are no more operations before one in its piece together with its operands than this, which can be numbered.
     pub(crate) most: usize,
 }
 
-/// The tables of a net of operations. More nodes than can be numbered, or operands of an operation, are allocation failure.
+/// The tables of a net of operations. More nodes than can be numbered, or values for which an
+/// operation needs room, are allocation failure.
 pub(crate) fn make_tables<'a, const W: usize>(
     alloc: Global,
     plan: &OperationPlan<'a, W>,
@@ -38,7 +39,7 @@ pub(crate) fn make_tables<'a, const W: usize>(
 {
     let nodes = numbered_nodes(alloc, plan)?;
     let pieces = all_rows(alloc, plan)?;
-    let most = number_of(most_operands(plan))?;
+    let most = number_of(most_values(plan))?;
     Ok(OperationTables {
         names: nodes.names,
         firsts: nodes.firsts,
@@ -62,9 +63,9 @@ fn all_rows<'a, const W: usize>(
     Ok(pieces)
 }
 
-/// No operation has more operands than this.
-fn most_operands<const W: usize>(plan: &OperationPlan<W>) -> usize
-    ensures { (piece i : ℕ) → i < operation_count (operations_in plan.now) piece → length (operation_at (operations_in plan.now) piece i).operands ≤ result }
+/// There are no more operations before one in its piece together with its operands than this.
+fn most_values<const W: usize>(plan: &OperationPlan<W>) -> usize
+    ensures { (piece i : ℕ) → i < operation_count (operations_in plan.now) piece → i + length (operation_at (operations_in plan.now) piece i).operands ≤ result }
 {
     let mut most = 0;
     for operations in &plan.pieces {
@@ -73,13 +74,13 @@ fn most_operands<const W: usize>(plan: &OperationPlan<W>) -> usize
     most
 }
 
-/// None of the operations has more operands than this.
+/// There are no more operations before one of these together with its operands than this.
 fn most_of(operations: &Vec<Operation>) -> usize
-    ensures { All (λ (operation : Operation). length operation.operands.items ≤ result) operations.now.items }
+    ensures { (i : ℕ) (operation : Operation) → slice_get operations.now.items i ≡ Some operation → i + length operation.operands.items ≤ result }
 {
     let mut most = 0;
-    for operation in operations {
-        most = most.max(operation.operands.len());
+    for i in 0..operations.len() {
+        most = most.max(i + operations[i].operands.as_slice().len());
     }
     most
 }

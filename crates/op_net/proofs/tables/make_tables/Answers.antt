@@ -14,6 +14,6 @@ returns g c =
       firsts = nodes.firsts;
       pieces = c.in_ok-pieces.ensures.count;
       rows = c.in_ok-pieces.ensures.rows;
-      most = λ piece i inside. let bound = c.most_operands.ensures piece i inside in omega (arith, bound, number);
+      most = λ piece i inside. let bound = c.most_values.ensures piece i inside in omega (arith, bound, number);
       fits = fits;
     }

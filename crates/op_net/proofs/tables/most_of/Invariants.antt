@@ -1,6 +1,6 @@
-use Rattle.std.proofs.Common.{◌≤◌, All, length, take}
+use Rattle.std.proofs.Common.{◌≡◌, ◌<◌, ◌≤◌, ◌+◌, ℕ, Some, length, slice_get}
 use Rattle.operation_lists.specs.declared.operations.Operation.{Operation}
 use Rattle.op_net.proofs.tables.most_of.Given as goal
 
-abbrev pub invariant-loop-operation : goal.invariant-loop-operation
-invariant-loop-operation l = All (λ (operation : Operation). length operation.operands.items ≤ l.most) (take l.operation-index l.operations.items)
+abbrev pub invariant-loop-i : goal.invariant-loop-i
+invariant-loop-i l = (i : ℕ) (operation : Operation) → i < l.i → slice_get l.operations.items i ≡ Some operation → i + length operation.operands.items ≤ l.most

@@ -1,4 +1,4 @@
-use Rattle.std.proofs.Common.{◌≡◌, ◌<◌, ◌-◌, ℕ, Some, sym, ap, subst, ◌∙◌, arith}
+use Rattle.std.proofs.Common.{◌≡◌, ◌<◌, ◌-◌, sym, subst, arith}
 use Rattle.closed_walks.specs.Graph.{edge_count}
 use Rattle.net_board.specs.declared.control.Control.{Control}
 use Rattle.net_board.specs.ControlPlaces.{IsPlaced}

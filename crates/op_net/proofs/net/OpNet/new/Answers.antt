@@ -57,4 +57,4 @@ returns-clause-in_step g c =
     let x : OperationNet = operations_in c.in_ok-plan.plan in
     let memory = memory_first x.net c.args.p.now c.args.input.now.items (touches_in c.args.touch.now) c.args.l.now (memory_of c.in_ok-initial_storage.field-0) c.in_ok-plan.ensures.net c.in_ok-initial_storage.ensures in
     in_step x _ (first_marking x c.in_ok-places.places c.in_ok-places.ensures (memory_of c.in_ok-initial_storage.field-0) memory) c.first_control-control.result c.first_control-control.ensures.control
-    (c.operation_nets_stay_in_lockstep.ensures.begins x c.in_ok-plan.ensures.is_net) (c.operation_nets_stay_in_lockstep.ensures.steady x) (c.operation_nets_stay_in_lockstep.ensures.ordered x)
+    (c.operation_nets_stay_in_lockstep.ensures.begins x c.in_ok-plan.ensures.is_net) (c.operation_nets_stay_in_lockstep.ensures.steady x) (c.operation_nets_stay_in_lockstep.ensures.ordered x) (c.operation_nets_pass_pieces_whole.ensures x c.in_ok-plan.ensures.is_net)

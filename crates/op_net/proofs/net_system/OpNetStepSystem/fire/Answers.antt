@@ -2,7 +2,7 @@ use Rattle.std.proofs.Common.{◌<◌, sym, subst, ◌∙◌, arith}
 use Rattle.closed_walks.specs.Graph.{edge_count}
 use Rattle.net_board.specs.Nodes.{graph_in}
 use Rattle.op_board.specs.OperationNets.{OperationNet}
-use Rattle.op_net.specs.NetView.{marking_of, net_of}
+use Rattle.op_net.specs.NetView.{marking_of}
 use Rattle.op_net.proofs.NextNets.{place_told}
 use Rattle.op_net.proofs.net_system.OpNetStepSystem.fire.Goals as goal
 

@@ -1,6 +1,6 @@
 use Rattle.std.proofs.Common.{◌≡◌, length, arith}
 use Rattle.op_net.proofs.TableLemmas.{most_of_all}
-use Rattle.op_net.proofs.tables.most_operands.Goals as goal
+use Rattle.op_net.proofs.tables.most_values.Goals as goal
 
 pub returns : goal.returns
 returns g c =
