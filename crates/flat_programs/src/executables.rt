@@ -3,7 +3,7 @@ ghost use Rattle.std.specs.Prelude.{◌≡◌, ◌+◌, ◌-◌, ◌<◌, ◌^�
 ghost use Rattle.flat_programs.specs.Marks.{mark_at, loop_count as count_of_loops, is_loop, variable_in};
 ghost use Rattle.flat_programs.specs.Executables.{executables, executables_at, first_of, following, increments, leading, marked as executable_of_mark, program_of as program_with};
 ghost use Rattle.flat_programs.specs.FlatForm.{IsChoiceOrStart};
-ghost use Rattle.flat_programs.specs.Flow.{IsFlow};
+ghost use Rattle.flat_programs.specs.Flow.{IsFlow, IsTable};
 
 use crate::flow::Flow;
 use crate::{Flat, FlatLine, FlatList};
@@ -53,6 +53,15 @@ pub fn executables_of(alloc: Global, flat: &FlatList) -> Result<ExecList, NoMemo
         append_executables(alloc, flat, &flow, place, &mut execs)?;
     }
     Ok(execs)
+}
+
+/// For each place, the index of the first executable of its statement; after them how many executables there are.
+pub fn first_executables(alloc: Global, flat: &FlatList) -> Result<Vec<u32>, NoMemory>
+    requires { length flat.now < 2 ^ 31 }
+    ensures { IfOk result (λ first. IsTable (first_of flat.now) (length flat.now + 1) first.items) }
+{
+    let flow = Flow::of(alloc, flat)?;
+    Ok(flow.first)
 }
 
 /// Appends the executables of the statement at a place.

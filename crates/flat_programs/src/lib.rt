@@ -14,7 +14,7 @@ mod shown;
 mod statements;
 
 pub use declarations::declaration_count;
-pub use executables::{executables_of, loop_count, program_of};
+pub use executables::{executables_of, first_executables, loop_count, program_of};
 pub use laws::{executables_tell_statements, flat_statements_make_programs};
 pub use page::{has_long_text, print_flat, print_program};
 pub use recovery::recover;
