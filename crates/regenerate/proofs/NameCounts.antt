@@ -1,5 +1,5 @@
 -- Names of temporaries, and how many there are.
-use Rattle.std.proofs.Common.{◌≡◌, ℕ, zero, suc, ◌+◌, ◌-◌, ◌<◌, ◌≤◌, Bool, true, false, List, [], ◌∷◌, ◌++◌, length, Option, Some, None, if◌then◌else◌, sym, ap, subst, ◌∙◌, ⊎_elim, arith}
+use Rattle.std.proofs.Common.{◌≡◌, ℕ, zero, suc, ◌+◌, ◌-◌, ◌<◌, ◌≤◌, Bool, List, [], ◌∷◌, ◌++◌, length, Option, Some, None, if◌then◌else◌, sym, ap, subst, ◌∙◌, ⊎_elim, arith}
 use Rattle.std.specs.List.{count_by, range_with_len}
 use Rattle.std.proofs.lemmas.Bool.{cases_eq}
 use Rattle.std.proofs.lemmas.List.{get_or_push, get_or_append_left, length_push}
@@ -7,7 +7,7 @@ use Rattle.list_laws.proofs.Counts.{bit}
 use Rattle.f77_tree.specs.declared.programs.Program.{Program}
 use Rattle.redundancy.specs.Available.{Availability}
 use Rattle.regenerate.specs.Numbered.{number_of, temporary_of}
-use Rattle.regenerate.specs.Plans.{answer, told, AreTold}
+use Rattle.regenerate.specs.Plans.{answer, AreTold}
 use Rattle.regenerate.specs.Shared.{is_shared}
 use Rattle.regenerate.specs.Tables.{AreAnswers}
 use Rattle.regenerate.proofs.RangeCounts.{count-range-more, count-range-same}

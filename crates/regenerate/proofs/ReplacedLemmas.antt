@@ -1,5 +1,5 @@
 -- Expressions in which temporaries stand for shared candidates, over lists of operands and subscripts.
-use Rattle.std.proofs.Common.{◌≡◌, ℕ, ◌<◌, Bool, true, false, List, [], ◌∷◌, length, map, Option, Some, None, refl, sym, ap, ◌∙◌}
+use Rattle.std.proofs.Common.{◌≡◌, ℕ, Bool, true, false, List, ◌∷◌, map, Option, Some, None, refl, sym, ap, ◌∙◌}
 use Rattle.std.specs.Option.{option_and_then}
 use Rattle.std.specs.Prelude.{if◌then◌else◌}
 use mathlib.Core.Former.{Count}
@@ -64,3 +64,10 @@ module _ (q : Program) (a : Availability) where
       ∙ sym (or_none (number_of a (Apply op args)) (Apply op (map (replaced q a (number_of a)) args)) (ap (λ (x : Expr). option_and_then (temporary_of q a) (number_of a x)) (sym is) ∙ sym are ∙ none))
       ∙ sym (replaced-Apply op args)
       ∙ ap (replaced q a (number_of a)) (sym is)
+
+  -- an operator that is no candidate, over operands in which nothing is replaced
+  pub replaced-untold : (op : Op) (args : List Expr) → number_of a (Apply op args) ≡ None → map (replaced q a (number_of a)) args ≡ args → replaced q a (number_of a) (Apply op args) ≡ Apply op args
+  replaced-untold op args none same =
+      replaced-Apply op args
+      ∙ ap (λ (o : Option ℕ). temporary_or q a (number_of a) o (Apply op (map (replaced q a (number_of a)) args))) none
+      ∙ ap (Apply op) same

@@ -1,6 +1,6 @@
 -- The numbers of expressions in a list of candidates, and what is looked up of them. No public clause cites this module.
 use base.Stored.{Gv, gnil, gnum, gcons}
-use Rattle.std.specs.Prelude.{◌≡◌, ◌+◌, ℕ, suc, Bool, true, false, ◌==◌, ◌&&◌, if◌then◌else◌, List, [], ◌∷◌, ◌++◌, length, flat_map, Option, None, Some, option_to_list}
+use Rattle.std.specs.Prelude.{◌≡◌, ◌<◌, ℕ, suc, Bool, true, false, ◌==◌, ◌&&◌, if◌then◌else◌, List, [], ◌∷◌, ◌++◌, length, flat_map, Option, None, Some, option_to_list}
 use Rattle.std.specs.Option.{option_map}
 use Rattle.f77_tree.specs.contracts.expressions.Expr as contract
 use Rattle.f77_tree.specs.declared.expressions.Access.{Access}
@@ -8,7 +8,7 @@ use Rattle.f77_tree.specs.declared.expressions.Expr.{Expr}
 use Rattle.f77_tree.specs.declared.expressions.Expr.TheVariants.{Const, Truth, Input, Read', Apply'}
 use Rattle.f77_tree.specs.declared.programs.Program.{Program}
 use Rattle.redundancy.specs.Available.{Availability}
-use Rattle.redundancy.specs.Candidates.{subexpressions, row_subexpressions}
+use Rattle.redundancy.specs.Candidates.{row_subexpressions}
 use Rattle.regenerate.specs.Plans.{AreTold}
 use Rattle.regenerate.specs.Shared.{is_one_of, is_shared, temporary}
 
@@ -60,3 +60,8 @@ temporary_of q a n = if is_shared q a (number_of a) n then Some (temporary q a (
 
 abbrev pub AreTemporaries : Program → Availability → List (Option ℕ) → Type 0
 AreTemporaries q a names = AreTold (temporary_of q a) (length a.candidates) names
+
+-- the number of a shared candidate
+pub record IsSharedNumber (q : Program) (a : Availability) (n : ℕ) : Type 0 where
+  pub within : n < length a.candidates
+  pub shared : is_shared q a (number_of a) n ≡ true

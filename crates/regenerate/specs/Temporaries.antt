@@ -13,6 +13,14 @@ temporary_name n = 90 ∷ digit_at 10000 n ∷ digit_at 1000 n ∷ digit_at 100 
 abbrev pub is_in_use : List NameInfo → List ℕ → Bool
 is_in_use names name = list_any (λ info. bytes_eq info.name name) names
 
+-- the greatest number that a name of a temporary can have
+unfoldable pub last_number : ℕ
+last_number = 99999
+
+-- the free names among those with the numbers from 1 to n, in order
+abbrev pub free_up_to : List NameInfo → (n : ℕ) → List (List ℕ)
+free_up_to names n = filter (λ name. not (is_in_use names name)) (map temporary_name (range_with_len 1 n))
+
 -- the names that temporaries can have, in order
 abbrev pub free_names : List NameInfo → List (List ℕ)
-free_names names = filter (λ name. not (is_in_use names name)) (map temporary_name (range_with_len 1 99999))
+free_names names = free_up_to names last_number

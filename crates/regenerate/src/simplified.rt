@@ -20,7 +20,7 @@ use flat_programs::{FlatList, declaration_count, program_of};
 use std::alloc::Global;
 
 // No text has more statements.
-const MOST_STATEMENTS: u64 = 4000;
+pub(crate) const MOST_STATEMENTS: u64 = 4000;
 
 /// The simplified form of a program, by a table of its constants, in a dialect: executables to which control can't come are left out, a
 /// branch that always goes one way only goes there, and constants stand for what is known. It takes a few steps for each executable, each

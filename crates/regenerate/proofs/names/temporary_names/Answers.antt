@@ -1,4 +1,4 @@
-use Rattle.std.proofs.Common.{◌≡◌, ◌<◌, ◌+◌, List, ℕ, Option, length, refl, sym, subst, ◌∙◌, arith}
+use Rattle.std.proofs.Common.{◌<◌, ◌+◌, List, ℕ, Option, length, refl, sym, subst, ◌∙◌, arith}
 use Rattle.regenerate.specs.Numbered.{temporary_of}
 use Rattle.regenerate.specs.Plans.{answer, AreTold}
 use Rattle.regenerate.proofs.NameCounts.{count_within, told-push, temporary-told}

@@ -1,5 +1,5 @@
 use Rattle.std.proofs.Common.{◌≡◌, take, map}
-use Rattle.regenerate.specs.Numbered.{AreTemporaries, number_of}
+use Rattle.regenerate.specs.Numbered.{number_of}
 use Rattle.regenerate.specs.Shared.{replaced}
 use Rattle.regenerate.proofs.replacing.+replaced.Given as goal
 

@@ -1,4 +1,4 @@
-use Rattle.std.proofs.Common.{rules, ◌≡◌, ◌++◌, ◌≤◌, List, Bool, length, sym, ap, ◌∙◌, arith}
+use Rattle.std.proofs.Common.{rules, ◌≡◌, ◌≤◌, List, Bool, length, ap, ◌∙◌, arith}
 use Rattle.redundancy.specs.Computed.{computed_by}
 use Rattle.cfg_build.specs.Flow.{piece_at}
 use Rattle.regenerate.specs.Plans.{answer}

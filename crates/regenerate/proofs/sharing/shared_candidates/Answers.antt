@@ -1,4 +1,4 @@
-use Rattle.std.proofs.Common.{◌≡◌, ◌||◌, ◌&&◌, ℕ, Bool, sym, ap, ◌∙◌}
+use Rattle.std.proofs.Common.{◌||◌, ◌&&◌, ℕ, Bool, sym, ap, ◌∙◌}
 use Rattle.regenerate.specs.Numbered.{number_of}
 use Rattle.regenerate.specs.Shared.{computed, is_available, is_one_of}
 use Rattle.regenerate.proofs.SharingLemmas.{list_any-range_more}

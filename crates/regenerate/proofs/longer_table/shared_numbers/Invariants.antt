@@ -1,0 +1,10 @@
+use Rattle.std.proofs.Common.{◌≡◌, filter}
+use Rattle.std.specs.List.{range_with_len}
+use Rattle.regenerate.specs.Numbered.{number_of}
+use Rattle.regenerate.specs.Shared.{is_shared}
+use Rattle.regenerate.proofs.longer_table.shared_numbers.Given as goal
+
+abbrev pub invariant-loop-n : goal.invariant-loop-n
+invariant-loop-n l = record {
+  numbers : l.numbers.items ≡ filter (is_shared l.q l.a (number_of l.a)) (range_with_len 0 l.n);
+}
