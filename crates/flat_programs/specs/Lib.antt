@@ -1,4 +1,5 @@
 pub mod Declarations
+pub mod ExecutablePlaces
 pub mod Executables
 pub mod FlatForm
 pub mod Flow
