@@ -18,6 +18,9 @@ use df_sequence::NoMemory;
 use f77_tree::{Expr, Program};
 use std::alloc::Global;
 
+// A table has no more buckets, which take 24 bytes each.
+const MOST_BUCKETS: u32 = 262_144;
+
 /// The candidates of a program with their numbers, and a row for each 64 of them with a word for each piece, where a bit is set where
 /// the piece computes the candidate.
 #[derive(Drop)]
@@ -35,7 +38,7 @@ pub(crate) fn candidates_of(alloc: Global, p: &Program, f: &Flow) -> Result<Note
     ensures rows { IfOk result (λ n. AreRows (length f.now.pieces) (length n.table.exprs.items) n.rows.items) }
     ensures computed { IfOk result (λ n. (k node : ℕ) (e : Expr) → slice_get n.table.exprs.items k ≡ Some e → node < length f.now.pieces → (has_mark n.rows.items k node ≡ true) ↔ Computes p.now f.now e node) }
 {
-    let mut table = Table::new(alloc, f.pieces())?;
+    let mut table = Table::new(alloc, bucket_count(f.pieces()))?;
     let mut rows = Vec::new(alloc);
     for node in 0..f.pieces() {
         let mut found = Vec::new(alloc);
@@ -43,6 +46,14 @@ pub(crate) fn candidates_of(alloc: Global, p: &Program, f: &Flow) -> Result<Note
         note(alloc, &mut table, &mut rows, &found, f.pieces(), node)?;
     }
     Ok(Noted { table, rows })
+}
+
+// How many buckets the table of candidates gets. A statement may compute a hundred, so there are more of them than pieces.
+fn bucket_count(pieces: u32) -> u32
+    requires { 0 < pieces }
+    ensures { 0 < result }
+{
+    pieces.saturating_mul(64).min(MOST_BUCKETS)
 }
 
 // Notes that a piece computes these candidates.
