@@ -100,7 +100,7 @@ module _ (names : List NameInfo) (checked : Bool) (words : ℕ → Option ℤ) w
       folded-value (Apply' op shape args) proper =
           known-value (Apply' op shape args) (Apply op (row_folded names checked words args)) (known_with names words (Apply' op shape args)) proper refl (value-Apply names store next op (row_folded names checked words args) ∙ ap (λ rs. and_then (applied op) (all_values rs)) (row_folded-values _ args _ proper.2))
 
-      row_folded-values : (m : _) (row : Row_of-Expr m) (kind : Kind) → AllOfKind names kind row → map (value names store next) (row_folded names checked words row) ≡ row_values names store next row
+      pub row_folded-values : (m : _) (row : Row_of-Expr m) (kind : Kind) → AllOfKind names kind row → map (value names store next) (row_folded names checked words row) ≡ row_values names store next row
       row_folded-values m end_of-Expr kind all = refl
       row_folded-values m (more_of-Expr e rest) kind all =
           ap (λ r. r ∷ map (value names store next) (row_folded names checked words rest)) (folded-value e all.0)

@@ -48,7 +48,7 @@ module _ (names : List NameInfo) (words : ℕ → Option ℤ) where
       ap (known_result op) (row_known_with-items row.0 row.1 ∙ ap (map (known_with names words)) (items_hidden-the_row-Expr-0 args))
 
 module _ (names : List NameInfo) (checked : Bool) (words : ℕ → Option ℤ) where
-  row_folded-items : (m : _) (row : Row_of-Expr m) → row_folded names checked words row ≡ map (folded names checked words) (items-the_row-Expr m row)
+  pub row_folded-items : (m : _) (row : Row_of-Expr m) → row_folded names checked words row ≡ map (folded names checked words) (items-the_row-Expr m row)
   row_folded-items m end_of-Expr = refl
   row_folded-items m (more_of-Expr e rest) = ap (λ es. folded names checked words e ∷ es) (row_folded-items _ rest)
 

@@ -66,7 +66,7 @@ begun_in-begins (Some exec) loop is = begun-begins exec.kind loop is
 
 module _ (p : Program) (loops : AreLoops p.execs p.loops) (k : ℕ) (exec : Exec) (found : slice_get p.execs k ≡ Some exec) where
   -- the last piece of an executable with a test is that of a DO
-  owner-begins : (kind : ExecKind) → exec.kind ≡ kind → begins_do (kind_in (slice_get p.execs (owner p.execs k kind))) ≡ has_test kind
+  pub owner-begins : (kind : ExecKind) → exec.kind ≡ kind → begins_do (kind_in (slice_get p.execs (owner p.execs k kind))) ≡ has_test kind
   owner-begins (Assign target value next) is = ap begins_do (ap kind_in found ∙ is)
   owner-begins (Print items next) is = ap begins_do (ap kind_in found ∙ is)
   owner-begins (Pass next) is = ap begins_do (ap kind_in found ∙ is)
@@ -79,7 +79,7 @@ module _ (p : Program) (loops : AreLoops p.execs p.loops) (k : ℕ) (exec : Exec
       begun_in-begins (slice_get p.execs (owner p.execs k (DoNext loop_no var body exit))) each.loop each.begins
   owner-begins End is = ap begins_do (ap kind_in found ∙ is)
 
-  successor-exists : SuccessorsExist p.execs → (i : ℕ) → i < length (successors exec.kind) → slice_index (successors exec.kind) i < length p.execs
+  pub successor-exists : SuccessorsExist p.execs → (i : ℕ) → i < length (successors exec.kind) → slice_index (successors exec.kind) i < length p.execs
   successor-exists exist i less =
       let n = length p.execs in
       let here : get_or p.execs k exec ≡ exec = get_or_from_slice_get p.execs k exec exec found in
@@ -88,16 +88,16 @@ module _ (p : Program) (loops : AreLoops p.execs p.loops) (k : ℕ) (exec : Exec
 
 -- ---- what the laws of other crates say
 
-abbrev ChainsAreFound : Type 0
+abbrev pub ChainsAreFound : Type 0
 ChainsAreFound = (names : List NameInfo) (execs : List Exec) (loops k : ℕ) (exec : Exec) → AreExecs names execs loops → is_reached execs k ≡ true → slice_get execs k ≡ Some exec → AreChain (flow execs) (entry execs) execs k (has_test exec.kind) exec.kind (chain execs k)
 
-abbrev AreStrong : Type 0
+abbrev pub AreStrong : Type 0
 AreStrong = (names : List NameInfo) (execs : List Exec) (loops : ℕ) → AreExecs names execs loops → IsFlowGraph (flow execs).graph
 
-abbrev HaveShape : Type 0
+abbrev pub HaveShape : Type 0
 HaveShape = (names : List NameInfo) (execs : List Exec) (loops : ℕ) → AreExecs names execs loops → IsShaped (flow execs) (finish execs)
 
-live-facts : LiveDecisionsAreKnown → (p : Program) (c : ClassTable) (touches : ℕ → ℕ → Bool) (tree : Tree) (r : Routing) (t : Knowns) → AreRouted p c touches tree r → IsClosed p (flow p.execs) c touches r t → LiveFacts p t
+pub live-facts : LiveDecisionsAreKnown → (p : Program) (c : ClassTable) (touches : ℕ → ℕ → Bool) (tree : Tree) (r : Routing) (t : Knowns) → AreRouted p c touches tree r → IsClosed p (flow p.execs) c touches r t → LiveFacts p t
 live-facts known p c touches tree r t routed closed =
     record {
       holds = λ e v live hold is.
@@ -128,7 +128,7 @@ first-live told chains led strong shape known p c touches tree r t routed closed
 some-successor : (kind : ExecKind) (i : ℕ) → i < length (successors kind) → kind ≡ End → ⊥
 some-successor kind i less end = let none = ap (λ (x : ExecKind). length (successors x)) end in omega (arith, none, less)
 
-entered-reached : (p : Program) (t : Knowns) → IsFlowGraph (flow p.execs).graph → IsShaped (flow p.execs) (finish p.execs) → EndsWithEnd p.execs → (k : ℕ) (exec : Exec) → slice_get p.execs k ≡ Some exec → (exec.kind ≡ End → ⊥) → IsEntered p t k → is_reached p.execs k ≡ true
+pub entered-reached : (p : Program) (t : Knowns) → IsFlowGraph (flow p.execs).graph → IsShaped (flow p.execs) (finish p.execs) → EndsWithEnd p.execs → (k : ℕ) (exec : Exec) → slice_get p.execs k ≡ Some exec → (exec.kind ≡ End → ⊥) → IsEntered p t k → is_reached p.execs k ≡ true
 entered-reached p t strong shape ends k exec found other by =
     let below = strong.sound.ends by.edge by.live.edge in
     piece-reached p k exec ends found other (omega (arith, below, by.ends, shape.count))

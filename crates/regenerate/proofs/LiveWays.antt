@@ -3,7 +3,7 @@ use Rattle.std.proofs.Common.{◌≡◌, ◌≢◌, ℕ, ◌<◌, ◌≤◌, ◌
 use Rattle.std.specs.Prelude.{slice_get, slice_index}
 use Rattle.std.specs.List.{range_with_len}
 use Rattle.std.specs.Option.{option_map}
-use Rattle.std.proofs.lemmas.Bool.{cases_lt, eq-eqb, eqb-true}
+use Rattle.std.proofs.lemmas.Bool.{cases_Bool, cases_lt, eq-eqb, eqb-true}
 use Rattle.std.proofs.lemmas.List.{get_or_past}
 use Rattle.list_laws.specs.Member.{Member}
 use Rattle.list_laws.proofs.Members.{Member-at, Member-filtered, Member-in_range}
@@ -31,7 +31,7 @@ use Rattle.const_prop.specs.Known.{one_of}
 use Rattle.const_prop.specs.Live.{is_other, is_excluded}
 use Rattle.const_prop.specs.Table.{Knowns}
 use Rattle.regenerate.specs.Items.{begins_do, is_own, own_piece, IsEnteredPiece}
-use Rattle.regenerate.specs.LiveWays.{LiveFacts, MayTake}
+use Rattle.regenerate.specs.LiveWays.{LiveFacts, decides, MayTake}
 use Rattle.regenerate.specs.Simplified.{decided}
 use Rattle.regenerate.proofs.OnePiece.{one-piece}
 
@@ -62,7 +62,7 @@ last-start (DoNext loop_no var body exit) is = cc
 last-start End is = cc
 
 -- the last piece of an executable without a test is its own
-last-own : (execs : List Exec) (k : ℕ) (kind : ExecKind) → has_test kind ≡ false → (is_own (last_kind kind) kind ≡ true) × (owner execs k kind ≡ k)
+pub last-own : (execs : List Exec) (k : ℕ) (kind : ExecKind) → has_test kind ≡ false → (is_own (last_kind kind) kind ≡ true) × (owner execs k kind ≡ k)
 last-own execs k (Assign target value next) single = (refl, refl)
 last-own execs k (Print items next) single = (refl, refl)
 last-own execs k (Pass next) single = (refl, refl)
@@ -72,6 +72,18 @@ last-own execs k (Pick e targets other) single = (refl, refl)
 last-own execs k (DoStart loop_no var first last step body exit) single = let no : true ≡ false = single in absurd cc
 last-own execs k (DoNext loop_no var body exit) single = let no : true ≡ false = single in absurd cc
 last-own execs k End single = (refl, refl)
+
+-- nothing is decided at the last piece of an executable that doesn't decide
+last-idle : (kind : ExecKind) → has_test kind ≡ false → decides kind ≡ false → is_switch (last_kind kind) ≡ false
+last-idle (Assign target value next) single idle = refl
+last-idle (Print items next) single idle = refl
+last-idle (Pass next) single idle = refl
+last-idle (Test c a b) single idle = let no : true ≡ false = idle in absurd cc
+last-idle (Sign e a b c) single idle = let no : true ≡ false = idle in absurd cc
+last-idle (Pick e targets other) single idle = let no : true ≡ false = idle in absurd cc
+last-idle (DoStart loop_no var first last step body exit) single idle = let no : true ≡ false = single in absurd cc
+last-idle (DoNext loop_no var body exit) single idle = let no : true ≡ false = single in absurd cc
+last-idle End single idle = refl
 
 module _ (p : Program) (t : Knowns) (strong : IsFlowGraph (flow p.execs).graph) (shape : IsShaped (flow p.execs) (finish p.execs)) (facts : LiveFacts p t) where
   abbrev f : FlowGraph
@@ -188,7 +200,7 @@ module _ (p : Program) (t : Knowns) (strong : IsFlowGraph (flow p.execs).graph) 
   -- ---- executables
 
   module _ (ends : EndsWithEnd p.execs) (k : ℕ) (exec : Exec) (found : slice_get p.execs k ≡ Some exec) where
-    made-own : (node : ℕ) (kind : PieceKind) → IsMade f p.execs node kind k → is_own kind exec.kind ≡ true → own_piece p k ≡ node
+    pub made-own : (node : ℕ) (kind : PieceKind) → IsMade f p.execs node kind k → is_own kind exec.kind ≡ true → own_piece p k ≡ node
     made-own node kind made own =
         let x = piece_at f.pieces node in
         let runs : is_own x.kind (kind_in (slice_get p.execs k)) ≡ true = ap (λ y. is_own y (kind_in (slice_get p.execs k))) made.kind_is ∙ ap (is_own kind) (ap kind_in found) ∙ own in
@@ -251,5 +263,11 @@ module _ (p : Program) (t : Knowns) (strong : IsFlowGraph (flow p.execs).graph) 
         let here : IsEnteredPiece p t c.last = subst (IsEnteredPiece p t) same by in
         let leads = c.ends.leads i less in
         let way = out-edge c.last i (λ zero. other (sym leads ∙ zero)) in
-        let chosen = subst (λ (n : ℕ). (option_map at_least_zero (one_of (t.decision n)) ≡ None) ⊎ (option_map at_least_zero (one_of (t.decision n)) ≡ Some i)) same (may has) in
-        subst (IsEnteredPiece p t) leads (go c.last (out g c.last i) here way (chosen-kept c.last (out g c.last i) way (other-none c.last i (one_of (t.decision c.last)) chosen)))
+        let kept : is_excluded p t (out g c.last i) ≡ false = ⊎_elim
+        (λ (does : decides exec.kind ≡ true).
+        let chosen = subst (λ (n : ℕ). (option_map at_least_zero (one_of (t.decision n)) ≡ None) ⊎ (option_map at_least_zero (one_of (t.decision n)) ≡ Some i)) same (may does) in
+        chosen-kept c.last (out g c.last i) way (other-none c.last i (one_of (t.decision c.last)) chosen))
+        (λ (idle : decides exec.kind ≡ false). idle-kept c.last (out g c.last i) way (ap is_switch c.ends.made.kind_is ∙ last-idle exec.kind has idle))
+        (cases_Bool (decides exec.kind))
+        in
+        subst (IsEnteredPiece p t) leads (go c.last (out g c.last i) here way kept)

@@ -47,9 +47,9 @@ are_plain-items n end_of-Expr = refl
 are_plain-items n (more_of-Expr e rest) = ap (λ b. is_plain e && b) (are_plain-items _ rest)
 
 -- the next word of the data, taken as a value of this kind
-record IsTaken (e : Expr) : Type 0 where
-  kind : Kind
-  is : e ≡ taken_as kind
+pub record IsTaken (e : Expr) : Type 0 where
+  pub kind : Kind
+  pub is : e ≡ taken_as kind
 
 module _ (names : List NameInfo) where
   last-proper : (e d : Expr) → IsProper names e → Member (e ∷ []) d → IsProper names d
@@ -114,7 +114,7 @@ module _ (names : List NameInfo) where
   assigned-value x e kind (inr taken) (inr m) = absurd m
 
   -- what an executable evaluates
-  executable-value : (kind : ExecKind) (e : Expr) → IsExecutable names kind → Member (expressions kind) e → IsProper names e ⊎ IsTaken e
+  pub executable-value : (kind : ExecKind) (e : Expr) → IsExecutable names kind → Member (expressions kind) e → IsProper names e ⊎ IsTaken e
   executable-value (Assign target value next) e is m = ⊎_elim
       (λ (r : Member target.subs e). integer-value target.subs e (IsProper-element names target is.access).subscripts r)
       (λ (h : Member (value ∷ []) e). assigned-value value e _ is.of_kind h)

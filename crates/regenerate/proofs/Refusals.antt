@@ -3,11 +3,9 @@ use Rattle.std.proofs.Common.{◌≡◌, ℕ, ◌+◌, ◌<◌, ◌≤◌, Bool,
 use Rattle.std.specs.Prelude.{nat_lt, if◌then◌else◌}
 use Rattle.std.proofs.lemmas.Bool.Decides.{Decides-ltb, nat_tests}
 use Rattle.std.proofs.lemmas.List.{length-append, length-map}
-use Rattle.f77_tree.specs.declared.programs.NameInfo.{NameInfo}
 use Rattle.f77_tree.specs.declared.programs.Program.{Program}
 use Rattle.flat_programs.specs.declared.statements.FlatLine.{FlatLine}
 use Rattle.flat_programs.specs.Declarations.{commons, declared, group_statement, init_statement, typed_name}
-use Rattle.flat_programs.specs.FlatForm.{AreStatementsOf}
 use Rattle.flat_programs.specs.Text.{has_long_text}
 use Rattle.redundancy.specs.Available.{Availability}
 use Rattle.regenerate.specs.declared.ends.RewriteEnd.{RewriteEnd}

@@ -51,21 +51,21 @@ module _ (flat : List FlatLine) where
   statement-length place (Jump target) = refl
   statement-length place Finish = refl
 
-  executables_in-length : (place : ℕ) (o : Option FlatLine) → length (executables_in flat place o) ≡ width_in flat place o
+  pub executables_in-length : (place : ℕ) (o : Option FlatLine) → length (executables_in flat place o) ≡ width_in flat place o
   executables_in-length place None = refl
   executables_in-length place (Some l) =
       length-map (leading flat place l.stmt ∷ option_to_list (following flat place l.stmt)) (λ (kind : ExecKind). let exec : Exec = record { line = l.line; kind = kind } in exec)
       ∙ statement-length place l.stmt
 
-  executables-length : length (executables flat) ≡ first_of flat (length flat)
+  pub executables-length : length (executables flat) ≡ first_of flat (length flat)
   executables-length =
       length-flat_map (executables_at flat) (range_with_len 0 (length flat))
       ∙ sum_same (λ place. length (executables_at flat place)) (width_at flat) (range_with_len 0 (length flat)) (λ place m. executables_in-length place (slice_get flat place))
 
-  first-more : (k : ℕ) → first_of flat (k + 1) ≡ first_of flat k + width_at flat k
+  pub first-more : (k : ℕ) → first_of flat (k + 1) ≡ first_of flat k + width_at flat k
   first-more k = ap (sum_by (width_at flat)) (range_more k) ∙ sum_by_push (width_at flat) (range_with_len 0 k) k
 
-  first-up : (k j : ℕ) → first_of flat k ≤ first_of flat (k + j)
+  pub first-up : (k j : ℕ) → first_of flat k ≤ first_of flat (k + j)
   first-up k zero = let e : k ≡ k + 0 = omega arith in subst (λ n. first_of flat k ≤ first_of flat n) e (omega arith)
   first-up k (suc j) =
       let e : k + j + 1 ≡ k + suc j = omega arith in
@@ -73,7 +73,7 @@ module _ (flat : List FlatLine) where
       let rest = first-up k j in
       subst (λ n. first_of flat k ≤ first_of flat n) e (omega (arith, more, rest))
 
-  wide : (place : ℕ) (o : Option FlatLine) (l : FlatLine) → o ≡ Some l → 1 ≤ width_in flat place o
+  pub wide : (place : ℕ) (o : Option FlatLine) (l : FlatLine) → o ≡ Some l → 1 ≤ width_in flat place o
   wide place None l is = let e : None ≡ Some l = is in absurd cc
   wide place (Some m) l is = let size = statement-length place m.stmt in omega (arith, size)
 

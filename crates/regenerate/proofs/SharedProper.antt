@@ -1,11 +1,10 @@
 -- Statements with temporaries are statements over the table with temporaries.
-use Rattle.std.proofs.Common.{◌≡◌, ℕ, zero, suc, ◌+◌, ◌<◌, ◌⊎◌, inl, inr, ⊎_elim, All, Bool, true, false, List, [], ◌∷◌, ◌++◌, length, map, Option, Some, None, refl, sym, ap, subst, ◌∙◌, arith}
+use Rattle.std.proofs.Common.{◌≡◌, ℕ, zero, suc, ◌<◌, inl, inr, ⊎_elim, All, Bool, true, false, List, [], ◌∷◌, ◌++◌, length, map, Option, Some, None, refl, sym, ap, subst, ◌∙◌, arith}
 use Rattle.std.specs.Prelude.{flat_map, slice_get, if◌then◌else◌}
 use Rattle.std.specs.List.{range_with_len}
 use Rattle.std.proofs.lemmas.List.{length-append, length-map}
 use Rattle.std.proofs.lemmas.List.Elements.{All-nil, All-cons, All-append, All-map, All-weaker, All-head, All-tail}
 use Rattle.std.proofs.lemmas.Option.{slice_get-get_or}
-use Rattle.op_table.specs.declared.Op.{Op}
 use Rattle.op_table.specs.declared.Op.TheVariants.{Truth as TruthOf}
 use Rattle.f77_tree.specs.declared.declarations.Kind.{Kind}
 use Rattle.f77_tree.specs.declared.declarations.Kind.TheVariants.{Integer, Logical}
@@ -21,7 +20,7 @@ use Rattle.f77_tree.specs.Declarations.{IsIntegerScalar}
 use Rattle.f77_tree.specs.Kinds.{operand_kind, taken_as, IsAssignment, IsProper, IsProperAccess, AllOfKind, IsOfKind}
 use Rattle.f77_tree.specs.Line.{kind_of_expression}
 use Rattle.f77_tree.specs.Value.{dims_in, dims_of, kind_in, kind_of, row_length}
-use Rattle.f77_tree.specs.WellFormed.{IsDo, IsExecutable, IsProperItem}
+use Rattle.f77_tree.specs.WellFormed.{IsExecutable, IsProperItem}
 use Rattle.f77_tree.proofs.KindLemmas.{element-IsProper, IsProper-element, operation-IsProper}
 use Rattle.flat_programs.specs.declared.statements.Flat.{Flat}
 use Rattle.flat_programs.specs.declared.statements.Flat.TheVariants.{Mark, Assignment, Output, LogicalIf, ArithmeticIf, ComputedGoTo, DoLoop, Jump, Finish}
@@ -146,7 +145,7 @@ module _ (q : Program) (a : Availability) (fit : FitTable q a) where
   untold None none = refl
   untold (Some n) none = absurd (none n refl)
 
-  taken-replaced : (kind : Kind) → replaced q a (number_of a) (taken_as kind) ≡ taken_as kind
+  pub taken-replaced : (kind : Kind) → replaced q a (number_of a) (taken_as kind) ≡ taken_as kind
   taken-replaced Integer = refl
   taken-replaced Logical =
       replaced-untold q a TruthOf (Input ∷ []) (untold (number_of a (Apply TruthOf (Input ∷ []))) (λ n told. no_candidate n (number_in-is a.candidates (Apply TruthOf (Input ∷ [])) n told))) refl

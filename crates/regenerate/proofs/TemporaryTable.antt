@@ -85,7 +85,7 @@ module _ (q : Program) (a : Availability) where
   pub temporaries-length : length (temporaries q a (number_of a)) ≡ length (shared q a (number_of a))
   temporaries-length = infos-length (length (shared q a (number_of a))) (omega arith)
 
-  info-there : (j n : ℕ) → slice_get (shared q a (number_of a)) j ≡ Some n → slice_get (temporaries q a (number_of a)) j ≡ Some (temporary_info q a (number_of a) j n)
+  pub info-there : (j n : ℕ) → slice_get (shared q a (number_of a)) j ≡ Some n → slice_get (temporaries q a (number_of a)) j ≡ Some (temporary_info q a (number_of a) j n)
   info-there j n at =
       let m = length (shared q a (number_of a)) in
       let less = slice_get_within (shared q a (number_of a)) j n at in

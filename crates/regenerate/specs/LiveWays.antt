@@ -3,12 +3,12 @@ use Rattle.std.specs.Prelude.{◌≡◌, ◌<◌, ◌⊎◌, ℕ, ℤ, pos, Bool
 use Rattle.closed_walks.specs.Graph.{to}
 use Rattle.f77_tree.specs.declared.programs.Exec.{Exec}
 use Rattle.f77_tree.specs.declared.programs.ExecKind.{ExecKind}
+use Rattle.f77_tree.specs.declared.programs.ExecKind.TheVariants.{Test, Sign, Pick}
 use Rattle.f77_tree.specs.declared.programs.Program.{Program}
 use Rattle.f77_tree.specs.Control.{successors}
 use Rattle.alias_classes.specs.Classes.{ClassTable}
 use Rattle.region_tree.specs.Tree.{Tree}
 use Rattle.cfg_build.specs.declared.pieces.PieceKind.TheVariants.{Branch, Hold}
-use Rattle.cfg_build.specs.Chains.{has_test}
 use Rattle.cfg_build.specs.Flow.{flow, piece_at}
 use Rattle.cfg_build.specs.Passes.{kind_in}
 use Rattle.cfg_build.specs.Shape.{kind_at}
@@ -26,9 +26,16 @@ pub record LiveFacts (p : Program) (t : Knowns) : Type 0 where
   pub holds : (e : ℕ) (v : ℤ) → IsLive p t e → kind_at (flow p.execs) (to (flow p.execs).graph e) ≡ Hold → t.decision (to (flow p.execs).graph e) ≡ One v → v ≡ pos 0
   pub tests : (e : ℕ) (v : ℤ) → IsLive p t e → kind_at (flow p.execs) (to (flow p.execs).graph e) ≡ Branch → begins_do (kind_in (slice_get p.execs (piece_at (flow p.execs).pieces (to (flow p.execs).graph e)).exec)) ≡ true → t.decision (to (flow p.execs).graph e) ≡ One v → ⊥
 
--- the executable may go to the successor with this place: it decides for it, or for none; DOs don't decide
+-- the executable decides where control goes on
+abbrev pub decides : ExecKind → Bool
+decides (Test cond if_true if_false) = true
+decides (Sign value below at above) = true
+decides (Pick value targets other) = true
+decides _ = false
+
+-- the executable may go to the successor with this place: where it decides, its decision is for it, or for none
 abbrev pub MayTake : ExecKind → (decided : Option ℕ) → (i : ℕ) → Type 0
-MayTake kind decided i = has_test kind ≡ false → (decided ≡ None) ⊎ (decided ≡ Some i)
+MayTake kind decided i = decides kind ≡ true → (decided ≡ None) ⊎ (decided ≡ Some i)
 
 -- Where control can come to an executable, by the decisions of a closed table, it can come to each successor that it may go to.
 abbrev pub LiveExecutablesLeadOn : Type 0

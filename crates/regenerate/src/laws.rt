@@ -5,12 +5,15 @@ ghost use Rattle.f77_tree.specs.declared.programs.Exec.{Exec};
 ghost use Rattle.f77_tree.specs.declared.programs.Program.{Program};
 ghost use Rattle.cfg_build.specs.Control.{IsReachedExec};
 ghost use Rattle.cfg_build.specs.Steps.{own_node};
+ghost use Rattle.regenerate.specs.ItemPlaces.{MarksStandAtItems, StatementsStandInOrder};
 ghost use Rattle.regenerate.specs.Items.{own_piece};
+ghost use Rattle.regenerate.specs.LiveItems.{DosAreItems, FirstExecutableIsItem, ItemsLeadToItems, JumpsAreItems, LiveExecutablesAreItems, RestsAreItems};
+ghost use Rattle.regenerate.specs.LiveRanges.{LiveIncrementsHaveLiveStarts, LiveRangesHaveLiveStarts};
 ghost use Rattle.regenerate.specs.LiveWays.{FirstExecutableIsLive, LiveExecutablesLeadOn};
 
 use cfg_build::{
     chains_lead_to_successors, executables_have_own_pieces, flow_graph_has_shape,
-    flow_graph_is_strong,
+    flow_graph_is_strong, pieces_have_ways_out,
 };
 use closed_walks::reaching_is_told;
 use const_prop::live_decisions_are_known;
@@ -34,3 +37,44 @@ pub fn live_executables_lead_on()
     live_decisions_are_known();
     reaching_is_told();
 }
+
+/// By the decisions of a closed table control comes into the range of a DO from its beginning alone: where it can come to an executable
+/// in the range, and so where it can come to the increment, it can come to the beginning.
+pub fn live_ranges_have_live_starts()
+    ensures ranges { LiveRangesHaveLiveStarts }
+    ensures increments { LiveIncrementsHaveLiveStarts }
+{
+    chains_lead_to_successors();
+    executables_have_own_pieces();
+    flow_graph_has_shape();
+    flow_graph_is_strong();
+    live_decisions_are_known();
+    reaching_is_told();
+    pieces_have_ways_out();
+}
+
+/// The first executable is an item of a closed table, and so is each to which control can come. Each successor to which an item may go
+/// is one to which control can come; so the statements of items lead to items. The beginning and the increment of a DO are items
+/// together.
+pub fn items_lead_to_items()
+    ensures first { FirstExecutableIsItem }
+    ensures live { LiveExecutablesAreItems }
+    ensures leads { ItemsLeadToItems }
+    ensures rests { RestsAreItems }
+    ensures jumps { JumpsAreItems }
+    ensures dos { DosAreItems }
+{
+    live_executables_lead_on();
+    live_ranges_have_live_starts();
+    executables_have_own_pieces();
+    flow_graph_has_shape();
+    flow_graph_is_strong();
+    live_decisions_are_known();
+}
+
+/// The statements of items stand one after another in the simplified form, in the order of the items, and the mark of an item is the first
+/// of its statements.
+pub fn statements_stand_in_order()
+    ensures marks { MarksStandAtItems }
+    ensures statements { StatementsStandInOrder }
+{}

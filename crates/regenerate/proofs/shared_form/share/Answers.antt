@@ -1,4 +1,4 @@
-use Rattle.std.proofs.Common.{◌≡◌, ◌+◌, ◌<◌, ◌≤◌, Bool, true, false, List, ℕ, length, ap, sym, subst, ◌∙◌, arith}
+use Rattle.std.proofs.Common.{◌≡◌, ◌+◌, ◌<◌, ◌≤◌, Bool, false, List, length, ap, sym, subst, ◌∙◌, arith}
 use Rattle.f77_tree.specs.declared.programs.Exec.{Exec}
 use Rattle.regenerate.specs.Numbered.{number_of}
 use Rattle.regenerate.specs.Shared.{has_many_names, is_shared, most_words}
