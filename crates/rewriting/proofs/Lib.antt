@@ -1,0 +1,7 @@
+mod SameItems
+mod SameStatements
+mod SameSharing
+mod SameShared
+mod Analyses
+mod OneForm
+mod PrintingAlike

@@ -1,0 +1,98 @@
+//! The rewritten form of a program.
+
+ghost use Rattle.std.specs.Prelude.{IfOk, IsErrOf};
+ghost use Rattle.f77_tree.specs.WellFormed.{IsWellFormed};
+ghost use Rattle.alias_classes.specs.Classes.{IsClasses};
+ghost use Rattle.alias_classes.specs.Number.{HasFewClasses};
+ghost use Rattle.flat_programs.specs.FlatForm.{IsFlatProgram};
+ghost use Rattle.rewriting.specs.Rewritten.{HasManySimplifiedOf, IsRefusedOf, IsRewritten, IsSharedOf, IsSimplifiedOf, PassesLimit};
+
+use alias_classes::{CLASS_WORDS, ClassEnd, Classes, classes_of};
+use cfg_build::flow_of;
+use const_prop::{constants, own_touches_route};
+use df_sequence::NoMemory;
+use f77_tree::Program;
+use flow_analysis::analyze;
+use redundancy::available;
+use regenerate::{
+    FlatEnd, RewriteEnd, share, shared_programs_are_flat, simplified_programs_are_flat,
+    simplified_programs_have_no_more_classes, simplify,
+};
+use std::alloc::Global;
+
+/// The rewritten form of a program, in a dialect: first simplified by its constants, and then with repeated expressions done once.
+///
+/// # Errors
+///
+/// TooManyStatements, where the simplified form or then the shared form has more than 4,000 statements with its declarations;
+/// TooManyNames and LongText, where the shared form passes these limits; NoMemory, where an allocation failed.
+pub fn rewrite(alloc: Global, p: &Program, checked: bool) -> Result<Program, RewriteEnd>
+    requires program { IsWellFormed p.now }
+    requires few { HasFewClasses p.now }
+    ensures rewritten { IfOk result (λ s. IsRewritten p.now checked s) }
+    ensures flat { IfOk result (λ s. IsFlatProgram s) }
+    ensures names { IsErrOf result RewriteEnd.TooManyNames → PassesLimit p.now checked RewriteEnd.TooManyNames }
+    ensures statements { IsErrOf result RewriteEnd.TooManyStatements → PassesLimit p.now checked RewriteEnd.TooManyStatements }
+    ensures long { IsErrOf result RewriteEnd.LongText → PassesLimit p.now checked RewriteEnd.LongText }
+{
+    match simplified(alloc, p, checked) {
+        Ok(simple) => shared(alloc, &simple),
+        Err(FlatEnd::TooManyStatements) => Err(RewriteEnd::TooManyStatements),
+        Err(FlatEnd::NoMemory) => Err(RewriteEnd::NoMemory),
+    }
+}
+
+// The simplified form of a program by its own constants.
+#[tactic(auto, using(crate::proofs::Analyses::program_routed, crate::proofs::Analyses::pieces_touch))]
+fn simplified(alloc: Global, p: &Program, checked: bool) -> Result<Program, FlatEnd>
+    requires program { IsWellFormed p.now }
+    requires few { HasFewClasses p.now }
+    ensures simplified { IfOk result (λ q. IsSimplifiedOf p.now checked q) }
+    ensures flat { IfOk result (λ q. IsFlatProgram q) }
+    ensures few { IfOk result (λ q. HasFewClasses q) }
+    ensures many { IsErrOf result FlatEnd.TooManyStatements → HasManySimplifiedOf p.now checked }
+{
+    own_touches_route();
+    simplified_programs_are_flat();
+    simplified_programs_have_no_more_classes();
+    let found = analyze(alloc, p)?;
+    let table = constants(
+        alloc,
+        p,
+        &found.flow,
+        &found.classes,
+        &found.touch,
+        &found.lines,
+    )?;
+    simplify(alloc, p, &found.flow, &found.classes, &table, checked)
+}
+
+// The shared form of a flat program by its own available expressions.
+fn shared(alloc: Global, q: &Program) -> Result<Program, RewriteEnd>
+    requires program { IsFlatProgram q.now }
+    requires few { HasFewClasses q.now }
+    ensures shared { IfOk result (λ s. IsSharedOf q.now s) }
+    ensures flat { IfOk result (λ s. IsFlatProgram s) }
+    ensures names { IsErrOf result RewriteEnd.TooManyNames → IsRefusedOf q.now RewriteEnd.TooManyNames }
+    ensures statements { IsErrOf result RewriteEnd.TooManyStatements → IsRefusedOf q.now RewriteEnd.TooManyStatements }
+    ensures long { IsErrOf result RewriteEnd.LongText → IsRefusedOf q.now RewriteEnd.LongText }
+{
+    shared_programs_are_flat();
+    let flow = flow_of(alloc, q)?;
+    let classes = few_classes_of(alloc, q)?;
+    let found = available(alloc, q, &flow, &classes)?;
+    share(alloc, q, &flow, &classes, &found)
+}
+
+// The alias classes of a program that has few.
+fn few_classes_of(alloc: Global, q: &Program) -> Result<Classes<'_, CLASS_WORDS>, NoMemory>
+    requires program { IsWellFormed q.now }
+    requires few { HasFewClasses q.now }
+    ensures { IfOk result (λ classes. IsClasses q.now classes) }
+{
+    match classes_of::<CLASS_WORDS>(alloc, q) {
+        Ok(classes) => Ok(classes),
+        Err(ClassEnd::TooManyClasses) => unreachable!(),
+        Err(ClassEnd::NoMemory) => Err(NoMemory),
+    }
+}
