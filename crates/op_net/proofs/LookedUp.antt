@@ -26,6 +26,9 @@ module _ {W : ℕ} (board : OperationBoard W) where
   pub count_at : (piece : ℕ) (rows : PieceRows) → piece < (graph_in (operation_net_on board).net).nodes → rows ≡ get_or board.tables.pieces.items piece rows → length rows.rows.items ≡ operation_count (operation_net_on board) piece
   count_at piece rows exists at = ∥∥₁_elim (rows_at piece rows exists at) (Prim.hlevel props) (λ are. are.count)
 
+  pub rows_told : (piece : ℕ) (rows : PieceRows) → piece < (graph_in (operation_net_on board).net).nodes → rows ≡ get_or board.tables.pieces.items piece rows → (i : ℕ) (row : Row) → slice_get rows.rows.items i ≡ Some row → ∥ IsRow (operation_net_on board) piece i row ∥₁
+  rows_told piece rows exists at i row there = ∥∥₁_map (rows_at piece rows exists at) (λ are. are.rows i row there)
+
   pub row_at : (piece i : ℕ) (rows : PieceRows) (row : Row) → piece < (graph_in (operation_net_on board).net).nodes → i < operation_count (operation_net_on board) piece → rows ≡ get_or board.tables.pieces.items piece rows → row ≡ get_or rows.rows.items i row → ∥ IsRow (operation_net_on board) piece i row ∥₁
   row_at piece i rows row exists inside at own =
       let count = count_at piece rows exists at in

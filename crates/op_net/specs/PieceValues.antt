@@ -1,5 +1,5 @@
 -- The operations of a piece while they are performed one after another, over a list of the values that they gave so far.
-use Rattle.std.specs.Prelude.{◌≡◌, ◌<◌, ◌≤◌, ℕ, ℤ, Bool, true, false, List, length, map, drop, Result}
+use Rattle.std.specs.Prelude.{◌≤◌, ℕ, ℤ, List, length, map, drop, Result}
 use Rattle.op_table.specs.declared.Trap.{Trap}
 use Rattle.f77_meaning.specs.Room.{most_room}
 use Rattle.f77_meaning.specs.Storage.{memory_of}
@@ -8,21 +8,6 @@ use Rattle.f77_tree.specs.Execution.{Memory}
 use Rattle.net_board.specs.SoundNets.{HasSizesOf}
 use Rattle.op_board.specs.Effects.{Effect, Ran, changes, operand_at, performed, ran}
 use Rattle.op_board.specs.OperationNets.{OperationNet, operation_at, operations_at}
-use Rattle.op_board.specs.Operations.{Operand, Known, From}
-use Rattle.operation_effects.specs.declared.tasks.Task.{Task}
-use Rattle.operation_effects.specs.declared.tasks.Task.TheVariants as task
-
--- a task that gives a value where it doesn't trap, and leaves the memory as it is
-abbrev pub only_gives : Task → Bool
-only_gives (task.Load word kind) = true
-only_gives (task.LoadAt word size kind) = true
-only_gives (task.Operate op) = true
-only_gives _ = false
-
--- an operand that isn't known is one of so many values
-abbrev pub IsAmong : (count : ℕ) → Operand → Type 0
-IsAmong count (Known z) = Unit {0}
-IsAmong count (From number) = number < count
 
 -- what comes of an operation of a piece over the values of those before it
 abbrev pub performed_over : OperationNet → (piece i : ℕ) → Memory → (values : List ℤ) → Result Effect Trap

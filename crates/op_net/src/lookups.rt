@@ -1,6 +1,6 @@
 //! Looking up the nodes of a net of operations, and what their firings need.
 
-ghost use Rattle.std.specs.Prelude.{◌≡◌, ◌+◌, ◌<◌, ◌≤◌, ◌-◌, ℕ, length};
+ghost use Rattle.std.specs.Prelude.{◌≡◌, ◌+◌, ◌<◌, ◌≤◌, ◌-◌, ℕ, Some, length, slice_get};
 ghost use Rattle.closed_walks.specs.Graph.{edge_count};
 ghost use Rattle.cfg_build.specs.Passes.{out};
 ghost use Rattle.firing.specs.declared.system.NodeName.TheVariants.{Switch};
@@ -8,6 +8,7 @@ ghost use Rattle.net_board.specs.Nodes.{graph_in, nodes_of};
 ghost use Rattle.net_board.specs.WokenNodes.{switch_number};
 ghost use Rattle.op_board.specs.OperationNets.{first_operation, operation_count, operation_node, operation_node_count};
 ghost use Rattle.op_net.specs.OperationRows.{IsRow};
+ghost use Rattle.op_net.specs.declared.rows.Row.{Row};
 ghost use Rattle.op_net.specs.OperationTables.{AreOperationTables};
 ghost use Rattle.op_net.specs.PlanView.{operations_in};
 ghost use Rattle.op_net.specs.Waits.{IsSwitchOf, node_total};
@@ -84,6 +85,15 @@ impl<'a, const W: usize> OperationBoard<'a, W> {
         ensures { ∥ IsRow (operation_net_on self.now) piece i result.now ∥₁ }
     {
         &self.tables.pieces[piece as usize].rows[i as usize]
+    }
+
+    /// What the firings of the operations of a piece look up.
+    pub(crate) fn rows(&self, piece: u32) -> &[Row<'a>]
+        requires { piece < (graph_in (operation_net_on self.now).net).nodes }
+        ensures count { length result.now ≡ operation_count (operation_net_on self.now) piece }
+        ensures rows { (i : ℕ) (row : Row) → slice_get result.now i ≡ Some row → ∥ IsRow (operation_net_on self.now) piece i row ∥₁ }
+    {
+        self.tables.pieces[piece as usize].rows.as_slice()
     }
 
     /// The number of a switch in the net of statements.

@@ -27,15 +27,17 @@ pub struct OpNet<'a, const W: usize> {
     // The line that was made last, and the one that is being made.
     pub(crate) text: Vec<u8>,
     pub(crate) draft: Vec<u8>,
-    // The values of the operands of the operation that fires. Where all operations of a piece are performed, those that they gave stand
-    // before them.
+    // The values of the operands of the operation that fires.
     pub(crate) args: Vec<i32>,
+    // The values that the operations of a piece gave, where all of them are performed one after another.
+    pub(crate) values: Vec<i32>,
     ghost own_places: { ArePlaces (operation_net_on board) places },
     ghost counted: { IsCounted (operation_net_on board) places },
     ghost data: { storage.taken ≤ length board.plan.board.plan.input.items },
     ghost text_room: { most_room board.plan.board.plan.program.now.execs ≤ vec_capacity text },
     ghost draft_room: { most_room board.plan.board.plan.program.now.execs ≤ vec_capacity draft },
     ghost args_room: { board.tables.most ≤ vec_capacity args },
+    ghost values_room: { board.tables.most ≤ length values.items },
     ghost placed: { ForSome control (IsPlaced (operation_net_on board).net) },
 }
 

@@ -76,6 +76,7 @@ impl<'a, const W: usize> OpNet<'a, W> {
             text: Vec::with_capacity(alloc, room)?,
             draft: Vec::with_capacity(alloc, room)?,
             args: Vec::with_capacity(alloc, tables.most)?,
+            values: vec![in alloc; 0; tables.most]?,
             board: OperationBoard { plan, tables },
         })
     }

@@ -33,6 +33,7 @@ use std::mem::swap;
 impl<const W: usize> OpNet<'_, W> {
     /// Fires the node that is due where control stands, and where that is the first of its piece all others of it, if so many may
     /// fire. It tells how many fired, and what the last one did.
+    #[inline(always)]
     pub(crate) fn go_on(&mut self, visit: &mut Visit, k: u32, most: u64) -> (u64, Fired)
         requires some { 0 < most }
         requires visit { IsVisit (net_of self.old) visit.old }

@@ -65,8 +65,7 @@ fn lead_moved<const W: usize>(board: &Board<W>, k: u32, edge: u32, lines: &mut V
 {
     match board.name(k) {
         NodeName::Act(piece) => lead(&board.plan, board.touched(piece), edge, lines),
-        NodeName::Switch(_, line) => lead_one(board, line, edge, lines),
-        NodeName::Merge(_, line) => lead_one(board, line, edge, lines),
+        NodeName::Switch(_, line) | NodeName::Merge(_, line) => lead_one(board, line, edge, lines),
         NodeName::Op(_, _) => {}
     }
 }

@@ -1,13 +1,14 @@
 //! All operations of a piece, performed one after another, without places for their values.
 
-ghost use Rattle.std.specs.Prelude.{◌≡◌, ◌≢◌, ◌<◌, ◌≤◌, ◌+◌, ◌++◌, [], ℕ, All, IfSome, None, Ok, Some, length, map, true, vec_capacity};
+ghost use Rattle.std.specs.Prelude.{◌≡◌, ◌≢◌, ◌<◌, ◌≤◌, [], ℕ, All, IfSome, None, Ok, Some, length, take, true, vec_capacity};
 ghost use Rattle.f77_meaning.specs.Storage.{memory_of};
 ghost use Rattle.net_board.specs.Nodes.{graph_in};
 ghost use Rattle.net_board.specs.SoundNets.{HasSizesOf};
-ghost use Rattle.op_board.specs.Effects.{All_done, gives, operand_at};
+ghost use Rattle.op_board.specs.Effects.{All_done, gives};
 ghost use Rattle.op_board.specs.OperationNets.{operation_count};
 ghost use Rattle.op_board.specs.OperationOrder.{ran_at};
 ghost use Rattle.operation_effects.specs.Done.{KeepsLine, KeepsStorage, told};
+ghost use Rattle.operation_effects.specs.OperandValues.{IsAmong, operand_values};
 ghost use Rattle.operation_lists.specs.Seen.{operand_seen};
 ghost use Rattle.operation_lists.specs.declared.operations.Operand.{Operand};
 ghost use Rattle.op_net.specs.BoardView.{operation_net_on};
@@ -15,15 +16,15 @@ ghost use Rattle.op_net.specs.FiringChanges.{remembered};
 ghost use Rattle.op_net.specs.NetView.{marking_of, net_of};
 ghost use Rattle.op_net.specs.OperationRows.{IsRow};
 ghost use Rattle.op_net.specs.PieceEnds.{effect_told};
-ghost use Rattle.op_net.specs.PieceValues.{HasRoom, IsAmong, only_gives, performed_over, ran_from};
+ghost use Rattle.op_net.specs.PieceValues.{HasRoom, performed_over, ran_from};
 
 use crate::OpNet;
 use crate::lookups::OperationBoard;
 use crate::operating::push_argument;
 use crate::rows::Row;
 use f77_meaning::Storage;
-use operation_effects::{Did, Task, perform};
-use operation_lists::{Operand, Operands};
+use operation_effects::{Did, give_value, operand_value, perform};
+use operation_lists::Operands;
 
 /// How control leaves a piece whose operations were all performed.
 #[derive(Clone, Copy)]
@@ -54,6 +55,7 @@ impl<const W: usize> OpNet<'_, W> {
             piece,
             &mut self.storage,
             &mut self.draft,
+            &mut self.values,
             &mut self.args,
         )
     }
@@ -65,106 +67,112 @@ fn perform_piece<const W: usize>(
     piece: u32,
     storage: &mut Storage,
     draft: &mut Vec<u8>,
+    values: &mut Vec<i32>,
     args: &mut Vec<i32>,
 ) -> Option<PieceEnd>
     requires piece { piece < (graph_in (operation_net_on board.now).net).nodes }
     requires room { HasRoom (operation_net_on board.now) board.now.tables.most storage.old (vec_capacity draft.old) (vec_capacity args.old) }
+    requires values { board.now.tables.most ≤ length values.old.items }
     ensures done { (end : PieceEnd) → result ≡ Some end → ran_at (operation_net_on board.now) piece (memory_of storage.old) ≡ All_done (effect_told end (memory_of storage.new) draft.new.items) }
     ensures line { result ≡ Some PieceEnd.Wrote → draft.new.items ≢ [] }
     ensures none { result ≡ None → memory_of storage.new ≡ memory_of storage.old }
     ensures room { HasRoom (operation_net_on board.now) board.now.tables.most storage.new (vec_capacity draft.new) (vec_capacity args.new) }
+    ensures values { length values.new.items ≡ length values.old.items }
 {
-    let count = board.operations(piece);
+    let rows = board.rows(piece);
+    let count = rows.len();
     if count == 0 {
         return Some(PieceEnd::Along(0));
     }
     let last = count - 1;
-    if !perform_givers(board, piece, last, storage, draft, args) {
+    if !give_values(board, piece, last, storage, values) {
         return None;
     }
-    perform_last(board, piece, last, storage, draft, args)
+    perform_last(
+        board,
+        piece,
+        last,
+        &rows[last],
+        storage,
+        draft,
+        &values[..last],
+        args,
+    )
 }
 
-// Performs the operations of a piece before the last one, and lists their values. It stops before an operation that doesn't only give
-// a value, and at a trap, and answers whether it came to the last one.
-fn perform_givers<const W: usize>(
+// The values of the operations of a piece before the last one, in their places. It stops before an operation that doesn't only give a
+// value, and at a trap, and answers whether it came to the last one.
+#[inline(always)]
+fn give_values<const W: usize>(
     board: &OperationBoard<W>,
     piece: u32,
-    last: u32,
-    storage: &mut Storage,
-    draft: &mut Vec<u8>,
-    args: &mut Vec<i32>,
+    last: usize,
+    storage: &Storage,
+    values: &mut Vec<i32>,
 ) -> bool
     requires piece { piece < (graph_in (operation_net_on board.now).net).nodes }
     requires last { last < operation_count (operation_net_on board.now) piece }
-    requires room { HasRoom (operation_net_on board.now) board.now.tables.most storage.old (vec_capacity draft.old) (vec_capacity args.old) }
-    ensures ran { result ≡ true → ran_at (operation_net_on board.now) piece (memory_of storage.old) ≡ ran_from (operation_net_on board.now) piece last (memory_of storage.old) args.new.items }
-    ensures count { result ≡ true → length args.new.items ≡ last }
-    ensures memory { memory_of storage.new ≡ memory_of storage.old }
-    ensures room { HasRoom (operation_net_on board.now) board.now.tables.most storage.new (vec_capacity draft.new) (vec_capacity args.new) }
+    requires room { last ≤ length values.old.items }
+    requires sizes { HasSizesOf (operation_net_on board.now).net.program (memory_of storage.now) }
+    ensures ran { result ≡ true → ran_at (operation_net_on board.now) piece (memory_of storage.now) ≡ ran_from (operation_net_on board.now) piece last (memory_of storage.now) (take last values.new.items) }
+    ensures room { length values.new.items ≡ length values.old.items }
 {
-    args.clear();
+    let rows = board.rows(piece);
     for i in 0..last {
-        let Some(z) = perform_giver(board, piece, i, storage, draft, args) else {
+        let Some(z) = give_value_of(board, piece, i, &rows[i], storage, &values[..i]) else {
             return false;
         };
-        push_argument(args, z);
+        values[i] = z;
     }
     true
 }
 
-// Performs an operation over the values of those before it in its piece. There is no answer at an operation that doesn't only give a
-// value, and at a trap.
-fn perform_giver<const W: usize>(
+// The value of an operation over those of the operations before it in its piece. There is no answer at an operation that doesn't
+// only give a value, and at a trap.
+#[inline(always)]
+fn give_value_of<const W: usize>(
     board: &OperationBoard<W>,
     piece: u32,
-    i: u32,
-    storage: &mut Storage,
-    draft: &mut Vec<u8>,
-    args: &mut Vec<i32>,
+    i: usize,
+    row: &Row,
+    storage: &Storage,
+    values: &[i32],
 ) -> Option<i32>
-    requires piece { piece < (graph_in (operation_net_on board.now).net).nodes }
     requires operation { i < operation_count (operation_net_on board.now) piece }
-    requires values { length args.old.items ≡ i }
-    requires room { HasRoom (operation_net_on board.now) board.now.tables.most storage.old (vec_capacity draft.old) (vec_capacity args.old) }
-    ensures value { IfSome result (λ z. performed_over (operation_net_on board.now) piece i (memory_of storage.old) args.old.items ≡ Ok (gives (memory_of storage.old) z)) }
-    ensures memory { memory_of storage.new ≡ memory_of storage.old }
-    ensures values { args.new.items ≡ args.old.items }
-    ensures room { HasRoom (operation_net_on board.now) board.now.tables.most storage.new (vec_capacity draft.new) (vec_capacity args.new) }
+    requires row { ∥ IsRow (operation_net_on board.now) piece i row.now ∥₁ }
+    requires values { length values.now ≡ i }
+    requires sizes { HasSizesOf (operation_net_on board.now).net.program (memory_of storage.now) }
+    ensures { IfSome result (λ z. performed_over (operation_net_on board.now) piece i (memory_of storage.now) values.now ≡ Ok (gives (memory_of storage.now) z)) }
 {
-    let row = board.row(piece, i);
-    if !only_gives(row.task) {
-        return None;
-    }
-    match perform_row(board, piece, i, row, storage, draft, args) {
-        Did::Gave(z) => Some(z),
-        _ => None,
-    }
+    let program = board.plan.board.plan.program;
+    give_value(row.task, row.operands.as_slice(), values, program, storage)
 }
 
 // Performs the last operation of a piece over the values of those before it. There is no answer at an operation that gives a value.
 fn perform_last<const W: usize>(
     board: &OperationBoard<W>,
     piece: u32,
-    last: u32,
+    last: usize,
+    row: &Row,
     storage: &mut Storage,
     draft: &mut Vec<u8>,
+    values: &[i32],
     args: &mut Vec<i32>,
 ) -> Option<PieceEnd>
     requires piece { piece < (graph_in (operation_net_on board.now).net).nodes }
     requires operation { last < operation_count (operation_net_on board.now) piece }
-    requires values { length args.old.items ≡ last }
+    requires row { ∥ IsRow (operation_net_on board.now) piece last row.now ∥₁ }
+    requires values { length values.now ≡ last }
     requires room { HasRoom (operation_net_on board.now) board.now.tables.most storage.old (vec_capacity draft.old) (vec_capacity args.old) }
-    ensures done { (end : PieceEnd) → result ≡ Some end → performed_over (operation_net_on board.now) piece last (memory_of storage.old) args.old.items ≡ Ok (effect_told end (memory_of storage.new) draft.new.items) }
+    ensures done { (end : PieceEnd) → result ≡ Some end → performed_over (operation_net_on board.now) piece last (memory_of storage.old) values.now ≡ Ok (effect_told end (memory_of storage.new) draft.new.items) }
     ensures line { result ≡ Some PieceEnd.Wrote → draft.new.items ≢ [] }
     ensures none { result ≡ None → memory_of storage.new ≡ memory_of storage.old }
     ensures room { HasRoom (operation_net_on board.now) board.now.tables.most storage.new (vec_capacity draft.new) (vec_capacity args.new) }
 {
-    let row = board.row(piece, last);
     if row.gives {
         return None;
     }
-    match perform_row(board, piece, last, row, storage, draft, args) {
+    match perform_row(board, piece, last, row, storage, draft, values, args) {
         Did::Changed => Some(PieceEnd::Along(0)),
         Did::Told(choice) => Some(PieceEnd::Along(choice)),
         Did::Wrote => Some(PieceEnd::Wrote),
@@ -173,70 +181,50 @@ fn perform_last<const W: usize>(
 }
 
 // Performs an operation over the values of those before it in its piece.
+#[inline(always)]
 fn perform_row<const W: usize>(
     board: &OperationBoard<W>,
     piece: u32,
-    i: u32,
+    i: usize,
     row: &Row,
     storage: &mut Storage,
     draft: &mut Vec<u8>,
+    values: &[i32],
     args: &mut Vec<i32>,
 ) -> Did
     requires piece { piece < (graph_in (operation_net_on board.now).net).nodes }
     requires operation { i < operation_count (operation_net_on board.now) piece }
     requires row { ∥ IsRow (operation_net_on board.now) piece i row.now ∥₁ }
-    requires values { length args.old.items ≡ i }
+    requires values { length values.now ≡ i }
     requires room { HasRoom (operation_net_on board.now) board.now.tables.most storage.old (vec_capacity draft.old) (vec_capacity args.old) }
-    ensures effect { performed_over (operation_net_on board.now) piece i (memory_of storage.old) args.old.items ≡ told result (memory_of storage.new) draft.new.items }
+    ensures effect { performed_over (operation_net_on board.now) piece i (memory_of storage.old) values.now ≡ told result (memory_of storage.new) draft.new.items }
     ensures memory { KeepsStorage result storage.old storage.new }
     ensures line { KeepsLine result draft.old.items draft.new.items }
-    ensures values { args.new.items ≡ args.old.items }
     ensures room { HasRoom (operation_net_on board.now) board.now.tables.most storage.new (vec_capacity draft.new) (vec_capacity args.new) }
 {
-    push_operands(&row.operands, args);
+    read_operands(&row.operands, values, args);
     let plan = &board.plan.board.plan;
-    let did = perform(
+    perform(
         row.task,
-        &args[i as usize..],
+        args.as_slice(),
         plan.program,
         &plan.input,
         storage,
         draft,
-    );
-    args.truncate(i as usize);
-    did
+    )
 }
 
-// Appends the values of operands to the values of operations, among which they are where they aren't known.
-fn push_operands(operands: &Operands, args: &mut Vec<i32>)
-    requires among { All (λ (operand : Operand). IsAmong (length args.old.items) (operand_seen operand)) operands.now.items }
-    requires room { length args.old.items + length operands.now.items ≤ vec_capacity args.old }
-    ensures items { args.new.items ≡ args.old.items ++ map (operand_at args.old.items) (map operand_seen operands.now.items) }
+// The values of operands, which are among those of operations where they aren't known.
+#[inline(always)]
+fn read_operands(operands: &Operands, values: &[i32], args: &mut Vec<i32>)
+    requires among { All (λ (operand : Operand). IsAmong (length values.now) (operand_seen operand)) operands.now.items }
+    requires room { length operands.now.items ≤ vec_capacity args.old }
+    ensures items { args.new.items ≡ operand_values values.now operands.now.items }
     ensures capacity { vec_capacity args.old ≤ vec_capacity args.new }
 {
+    args.clear();
     for operand in operands.as_slice() {
-        let z = value_of(*operand, args);
+        let z = operand_value(*operand, values);
         push_argument(args, z);
     }
-}
-
-// The value of an operand.
-fn value_of(operand: Operand, args: &Vec<i32>) -> i32
-    requires { IsAmong (length args.now.items) (operand_seen operand) }
-    ensures { result ≡ operand_at args.now.items (operand_seen operand) }
-{
-    match operand {
-        Operand::Known(z) => z,
-        Operand::Node(number) => args[number as usize],
-    }
-}
-
-// Whether an operation gives a value where it doesn't trap, and leaves the storage as it is.
-fn only_gives(task: Task) -> bool
-    ensures { result ≡ only_gives task.entry }
-{
-    matches!(
-        task,
-        Task::Load(_, _) | Task::LoadAt(_, _, _) | Task::Operate(_)
-    )
 }

@@ -3,3 +3,4 @@ pub mod TaskEffects
 pub mod ArraySizes
 pub mod TaskShapes
 pub mod FittingOperations
+pub mod OperandReading

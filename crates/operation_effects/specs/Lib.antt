@@ -1,3 +1,5 @@
 pub mod Works
 pub mod Tasks
 pub mod Done
+pub mod OperandValues
+pub mod Given

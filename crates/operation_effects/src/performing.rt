@@ -34,6 +34,7 @@ pub enum Did {
 
 /// Performs an operation at the values of its operands. A trap leaves the storage as it is, and only a line changes the draft. It
 /// takes no memory.
+#[inline(always)]
 pub fn perform(
     task: Task,
     args: &[i32],
@@ -58,6 +59,7 @@ pub fn perform(
 }
 
 // Does what the task says.
+#[inline(always)]
 fn perform_task(
     task: Task,
     args: &[i32],

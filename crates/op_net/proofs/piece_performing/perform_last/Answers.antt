@@ -18,11 +18,11 @@ pub returns-in-Gave-clause-none : goal.returns-in-Gave-clause-none
 returns-in-Gave-clause-none g c = λ end.
     let x = operation_net_on c.args.board.now in
     let op = operation_at x c.args.piece c.args.last in
-    let silent : gives_value op.work ≡ false = ∥∥₁_elim c.row-row.ensures (hlevel props) (λ (row : IsRow x c.args.piece c.args.last c.row-row.result.now). sym row.gives ∙ c.if-row.false) in
+    let silent : gives_value op.work ≡ false = ∥∥₁_elim c.requires.row (hlevel props) (λ (row : IsRow x c.args.piece c.args.last c.args.row.now). sym row.gives ∙ c.if-row.false) in
     let old = c.args.storage.now in
     let new = c.perform_row.new.storage in
     let answer = c.perform_row.result in
     ⊎_elim
-    (λ (w : (z : ℤ) × (answer ≡ did.Gave z)). no_value x.net.program.names x.net.input answer (memory_of old) (memory_of new) c.perform_row.new.draft.items op.work (map (operand_at c.args.args.now.items) op.operands) silent c.perform_row.ensures.effect (ap is_gave w.1))
+    (λ (w : (z : ℤ) × (answer ≡ did.Gave z)). no_value x.net.program.names x.net.input answer (memory_of old) (memory_of new) c.perform_row.new.draft.items op.work (map (operand_at c.args.values.now) op.operands) silent c.perform_row.ensures.effect (ap is_gave w.1))
     (λ (w : (trap : Trap) × (answer ≡ did.Trapped trap)). let same : new ≡ old = subst (λ (d : Did). KeepsStorage d old new) w.1 c.perform_row.ensures.memory in ap memory_of same)
     c.in-Gave.is

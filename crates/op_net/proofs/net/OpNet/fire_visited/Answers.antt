@@ -48,5 +48,6 @@ invariant_of-self g c =
       text_room = fired.text_room;
       draft_room = fired.draft_room;
       args_room = fired.args_room;
+      values_room = fired.values_room;
       placed = λ p is. subst (λ (d : Control). IsPlaced (net_of fired).net d) (let e : c.passed_on.result.control ≡ p = cc in e) placed;
     }

@@ -104,5 +104,6 @@ invariant_of-self g c =
       text_room = c.args.self.now.text_room;
       draft_room = c.args.self.now.draft_room;
       args_room = c.args.self.now.args_room;
+      values_room = c.args.self.now.values_room;
       placed = c.args.self.now.placed;
     }

@@ -1,4 +1,4 @@
-use Rattle.std.proofs.Common.{◌≡◌, sym, ap, ◌∙◌, subst, arith}
+use Rattle.std.proofs.Common.{◌≡◌, length, vec_len, sym, ap, ◌∙◌, subst, arith, rules}
 use Rattle.f77_tree.specs.Execution.{Memory}
 use Rattle.f77_meaning.specs.Room.{most_room}
 use Rattle.f77_meaning.specs.Storage.{memory_of}
@@ -25,6 +25,7 @@ invariant_of-result-2 g c =
       text_room = let exact = c.in_ok-with_capacity.ensures.exact in omega (arith, room, exact);
       draft_room = let exact = c.in_ok-with_capacity-2.ensures.exact in omega (arith, room, exact);
       args_room = let exact = c.in_ok-with_capacity-3.ensures.exact in omega (arith, exact);
+      values_room = let long = c.in_ok-vec.ensures.len in let all : length c.in_ok-vec.field-0.items ≡ vec_len c.in_ok-vec.field-0 = search rules in omega (arith, long, all);
       placed = λ p is. subst (λ (d : Control). IsPlaced x.net d) (let e : c.first_control-control.result ≡ p = cc in e) c.first_control-control.ensures.placed;
     }
 

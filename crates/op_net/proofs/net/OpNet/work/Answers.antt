@@ -73,5 +73,6 @@ invariant_of-self g c =
       text_room = c.args.self.now.text_room;
       draft_room = omega (arith, more, enough);
       args_room = omega (arith, longer, room);
+      values_room = c.args.self.now.values_room;
       placed = c.args.self.now.placed;
     }

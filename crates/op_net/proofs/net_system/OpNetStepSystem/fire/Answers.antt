@@ -32,5 +32,6 @@ invariant_of-self g c =
       text_room = fired.text_room;
       draft_room = fired.draft_room;
       args_room = fired.args_room;
+      values_room = fired.values_room;
       placed = c.steered-self.ensures.placed;
     }
