@@ -1,6 +1,9 @@
 pub mod DataflowText
 pub mod FlowText
+pub mod GraphReading
 pub mod Names
+pub mod Printable
 pub mod Printed
+pub mod Reading
 pub mod TraceText
 pub mod Words

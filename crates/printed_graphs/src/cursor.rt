@@ -1,9 +1,11 @@
 //! What is left of a text that is being read.
 
-ghost use Rattle.std.specs.Prelude.{◌≡◌, ◌<◌, ◌+◌, ◌++◌, ◌∷◌, [], true, IfOk, IfSome, OnOk, MatchBool, length};
+ghost use Rattle.std.specs.Prelude.{◌≡◌, ◌<◌, ◌+◌, ◌++◌, ◌∷◌, [], true, Some, None, All, IfOk, IfSome, OnOk, MatchBool, length, take, drop, is_some, option_map};
 ghost use Rattle.std.specs.Bool.{OnTrue};
 ghost use Rattle.std.specs.Fmt.{decimal, signed_decimal};
+ghost use Rattle.printed_graphs.specs.Printable.{AreShort};
 ghost use Rattle.printed_graphs.specs.Words.{numbers_text, field_text, sign_text};
+ghost use Rattle.printed_graphs.specs.Reading.{Gives, Passes, PassesInMemory, begins_with, after_numbers, after_signed, fits_signed, is_word_char, word_length, after_word, digit_at, long_number_at, number_at, after_number, field_at};
 
 use crate::fault::Stop;
 use std::alloc::Global;
@@ -17,7 +19,8 @@ pub(crate) struct Cursor<'a> {
 impl<'a> Cursor<'a> {
     /// Passes these bytes, if they come next.
     pub(crate) fn takes(&mut self, word: &[u8]) -> bool
-        ensures { MatchBool result (self.old.rest.now ≡ word.now ++ self.new.rest.now) (self.new.rest.now ≡ self.old.rest.now) }
+        ensures text { MatchBool result (self.old.rest.now ≡ word.now ++ self.new.rest.now) (self.new.rest.now ≡ self.old.rest.now) }
+        ensures after { MatchBool result (after_word word.now self.old.rest.now ≡ Some self.new.rest.now) (after_word word.now self.old.rest.now ≡ None) }
     {
         match self.rest.strip_prefix(word) {
             Some(rest) => {
@@ -30,7 +33,8 @@ impl<'a> Cursor<'a> {
 
     /// Passes these bytes, which have to come next.
     pub(crate) fn passes(&mut self, word: &[u8]) -> Result<(), Stop>
-        ensures { OnOk result (self.old.rest.now ≡ word.now ++ self.new.rest.now) }
+        ensures text { OnOk result (self.old.rest.now ≡ word.now ++ self.new.rest.now) }
+        ensures after { Passes result self.new.rest.now (after_word word.now self.old.rest.now) }
     {
         if self.takes(word) {
             Ok(())
@@ -40,13 +44,18 @@ impl<'a> Cursor<'a> {
     }
 
     /// Whether these bytes come next.
-    pub(crate) fn is_at(&self, word: &[u8]) -> bool {
-        self.rest.starts_with(word)
+    pub(crate) fn is_at(&self, word: &[u8]) -> bool
+        ensures { result ≡ begins_with word.now self.now.rest.now }
+    {
+        let mut ahead = Cursor { rest: self.rest };
+        ahead.takes(word)
     }
 
     /// Whether a digit comes next.
+    #[tactic(auto, unfolding(crate::specs::Reading::digit_at))]
     pub(crate) fn is_at_digit(&self) -> bool
-        ensures { OnTrue result (0 < length self.now.rest.now) }
+        ensures some { OnTrue result (0 < length self.now.rest.now) }
+        ensures begin { result ≡ is_some (digit_at self.now.rest.now) }
     {
         match self.rest.first() {
             Some(c) => c.is_ascii_digit(),
@@ -56,7 +65,8 @@ impl<'a> Cursor<'a> {
 
     /// A number of up to 64 bits in decimal, without needless zeros.
     pub(crate) fn long_number(&mut self) -> Result<u64, Stop>
-        ensures { IfOk result (λ n. self.old.rest.now ≡ decimal n ++ self.new.rest.now) }
+        ensures text { IfOk result (λ n. self.old.rest.now ≡ decimal n ++ self.new.rest.now) }
+        ensures after { Gives result self.new.rest.now (long_number_at self.old.rest.now) }
     {
         match number_at(self.rest) {
             Some((n, rest)) => {
@@ -68,8 +78,10 @@ impl<'a> Cursor<'a> {
     }
 
     /// A number of up to 32 bits.
+    #[tactic(auto, unfolding(crate::specs::Reading::number_at))]
     pub(crate) fn number(&mut self) -> Result<u32, Stop>
-        ensures { IfOk result (λ n. self.old.rest.now ≡ decimal n ++ self.new.rest.now) }
+        ensures text { IfOk result (λ n. self.old.rest.now ≡ decimal n ++ self.new.rest.now) }
+        ensures after { Gives result self.new.rest.now (number_at self.old.rest.now) }
     {
         let n = self.long_number()?;
         match u32::try_from(n) {
@@ -79,8 +91,10 @@ impl<'a> Cursor<'a> {
     }
 
     /// Passes a number, which has to be this one.
+    #[tactic(auto, unfolding(crate::specs::Reading::after_number))]
     pub(crate) fn expects(&mut self, n: u32) -> Result<(), Stop>
-        ensures { OnOk result (self.old.rest.now ≡ decimal n ++ self.new.rest.now) }
+        ensures text { OnOk result (self.old.rest.now ≡ decimal n ++ self.new.rest.now) }
+        ensures after { Passes result self.new.rest.now (after_number n self.old.rest.now) }
     {
         if self.number()? == n {
             Ok(())
@@ -90,8 +104,10 @@ impl<'a> Cursor<'a> {
     }
 
     /// A number after a blank.
+    #[tactic(auto, unfolding(crate::specs::Reading::field_at))]
     pub(crate) fn field(&mut self) -> Result<u32, Stop>
-        ensures { IfOk result (λ n. self.old.rest.now ≡ field_text n ++ self.new.rest.now) }
+        ensures text { IfOk result (λ n. self.old.rest.now ≡ field_text n ++ self.new.rest.now) }
+        ensures after { Gives result self.new.rest.now (field_at self.old.rest.now) }
     {
         self.passes(b" ")?;
         self.number()
@@ -99,7 +115,8 @@ impl<'a> Cursor<'a> {
 
     /// A word of the machine, a negative one after a minus sign.
     pub(crate) fn signed_number(&mut self) -> Result<i32, Stop>
-        ensures { IfOk result (λ z. self.old.rest.now ≡ signed_decimal z ++ self.new.rest.now) }
+        ensures text { IfOk result (λ z. self.old.rest.now ≡ signed_decimal z ++ self.new.rest.now) }
+        ensures after { Passes result self.new.rest.now (after_signed self.old.rest.now) }
     {
         let is_negative = self.takes(b"-");
         let n = self.number()?;
@@ -111,7 +128,10 @@ impl<'a> Cursor<'a> {
 
     /// All letters and digits that come next.
     pub(crate) fn word(&mut self) -> &'a [u8]
-        ensures { self.old.rest.now ≡ result.now ++ self.new.rest.now }
+        ensures text { self.old.rest.now ≡ result.now ++ self.new.rest.now }
+        ensures word { result.now ≡ take (word_length self.old.rest.now) self.old.rest.now }
+        ensures after { self.new.rest.now ≡ drop (word_length self.old.rest.now) self.old.rest.now }
+        ensures letters { All (λ c. is_word_char c ≡ true) result.now }
     {
         let end = word_length(self.rest);
         let word = &self.rest[..end];
@@ -121,7 +141,9 @@ impl<'a> Cursor<'a> {
 
     /// All numbers that come next, each after a blank.
     pub(crate) fn numbers(&mut self, alloc: Global) -> Result<Vec<u32>, Stop>
-        ensures { IfOk result (λ v. self.old.rest.now ≡ numbers_text v.items ++ self.new.rest.now) }
+        ensures text { IfOk result (λ v. self.old.rest.now ≡ numbers_text v.items ++ self.new.rest.now) }
+        ensures after { PassesInMemory result self.new.rest.now (after_numbers self.old.rest.now) }
+        ensures short { IfOk result (λ v. AreShort v.items) }
     {
         let mut all = Vec::new(alloc);
         while self.takes(b" ") {
@@ -133,19 +155,30 @@ impl<'a> Cursor<'a> {
 
 // How many letters and digits a text begins with.
 fn word_length(text: &[u8]) -> usize
-    ensures { result < length text.now + 1 }
+    ensures length { result ≡ word_length text.now }
+    ensures within { result < length text.now + 1 }
 {
-    for (k, c) in text.iter().enumerate() {
-        if !c.is_ascii_uppercase() && !c.is_ascii_digit() {
-            return k;
+    let mut end = 0;
+    for c in text {
+        if !is_word_char(*c) {
+            return end;
         }
+        end += 1;
     }
-    text.len()
+    end
+}
+
+// A capital letter or a digit.
+fn is_word_char(c: u8) -> bool
+    ensures { result ≡ is_word_char c }
+{
+    c.is_ascii_uppercase() || c.is_ascii_digit()
 }
 
 // The number with this sign, where it is a word and no negative zero.
 fn signed(is_negative: bool, n: u32) -> Option<i32>
-    ensures { IfSome result (λ z. signed_decimal z ≡ sign_text is_negative ++ decimal n) }
+    ensures text { IfSome result (λ z. signed_decimal z ≡ sign_text is_negative ++ decimal n) }
+    ensures variant { is_some result ≡ fits_signed is_negative n }
 {
     let z = if is_negative {
         -i64::from(n)
@@ -159,8 +192,10 @@ fn signed(is_negative: bool, n: u32) -> Option<i32>
 }
 
 // The first digit of a text, as a number, and what follows it.
+#[tactic(auto, unfolding(crate::specs::Reading::digit_at))]
 fn digit_at(text: &[u8]) -> Option<(u8, &[u8])>
-    ensures { IfSome result (λ r. (r.0 < 10) × (text.now ≡ (48 + r.0) ∷ r.1.now)) }
+    ensures text { IfSome result (λ r. (r.0 < 10) × (text.now ≡ (48 + r.0) ∷ r.1.now)) }
+    ensures after { option_map (λ r. (r.0, r.1.now)) result ≡ digit_at text.now }
 {
     match text {
         [c, rest @ ..] if c.is_ascii_digit() => Some((*c - b'0', rest)),
@@ -170,7 +205,8 @@ fn digit_at(text: &[u8]) -> Option<(u8, &[u8])>
 
 // The number that a text begins with, and what follows it. A zero is a number by itself.
 fn number_at(text: &[u8]) -> Option<(u64, &[u8])>
-    ensures { IfSome result (λ r. text.now ≡ decimal r.0 ++ r.1.now) }
+    ensures text { IfSome result (λ r. text.now ≡ decimal r.0 ++ r.1.now) }
+    ensures after { option_map (λ r. (r.0, r.1.now)) result ≡ long_number_at text.now }
 {
     let (first, mut rest) = digit_at(text)?;
     let mut n = u64::from(first);

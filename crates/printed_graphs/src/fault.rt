@@ -1,3 +1,6 @@
+ghost use Rattle.std.specs.Prelude.{◌≡◌};
+ghost use Rattle.printed_graphs.specs.declared.fault.Stop.TheVariants as stop;
+
 use df_sequence::NoMemory;
 use std::alloc::{AllocError, AllocFailed};
 
@@ -20,18 +23,24 @@ pub(crate) enum Stop {
 }
 
 impl From<NoMemory> for Stop {
+    ghost from_gives = { λ _ e. e ≡ stop.NoMemory };
+
     fn from(_none: NoMemory) -> Stop {
         Stop::NoMemory
     }
 }
 
 impl From<AllocError> for Stop {
+    ghost from_gives = { λ _ e. e ≡ stop.NoMemory };
+
     fn from(_error: AllocError) -> Stop {
         Stop::NoMemory
     }
 }
 
 impl<T: Drop> From<AllocFailed<T>> for Stop {
+    ghost from_gives = { λ _ e. e ≡ stop.NoMemory };
+
     fn from(_refused: AllocFailed<T>) -> Stop {
         Stop::NoMemory
     }

@@ -1,4 +1,7 @@
-ghost use Rattle.std.specs.Prelude.{◌≡◌, ◌≤◌, ◌+◌, ◌++◌, [], IfOk, IfErr, length};
+ghost use Rattle.std.specs.Prelude.{◌≡◌, ◌<◌, ◌≤◌, ◌+◌, ◌++◌, [], IfOk, IfSome, IsOkUnless, length};
+ghost use Rattle.printed_graphs.specs.GraphReading.{flow_part_at, graph_part_at, trace_part_at, printed_at};
+ghost use Rattle.printed_graphs.specs.Reading.{PassesInMemory};
+ghost use Rattle.printed_graphs.specs.Printable.{IsPrintableFlow, IsPrintableGraph, IsPrintableTrace, IsPrintable, IsPrintedText};
 ghost use Rattle.printed_graphs.specs.Printed.{printed_text, flow_part, graph_part, trace_part};
 
 use crate::cursor::Cursor;
@@ -22,9 +25,11 @@ pub struct Printed {
 
 /// Reads what `dfc` printed of a program.
 ///
-/// The text of what is read is the text that was given.
+/// What is read can be printed, its text is the text that was given, and each text that can be printed is read.
 pub fn read_printed(alloc: Global, text: &[u8]) -> Result<Printed, ReadFault>
-    ensures { IfOk result (λ printed. printed_text printed ≡ text.now) }
+    ensures text { IfOk result (λ printed. printed_text printed ≡ text.now) }
+    ensures printable { IfOk result (λ printed. IsPrintable printed) }
+    ensures reads { IsPrintedText text.now → IsOkUnless result ReadFault.NoMemory }
 {
     let mut cursor = Cursor { rest: text };
     match read_parts(alloc, &mut cursor) {
@@ -35,8 +40,11 @@ pub fn read_printed(alloc: Global, text: &[u8]) -> Result<Printed, ReadFault>
 }
 
 // The texts, of which the last one ends where the text does.
+#[tactic(auto, unfolding(crate::specs::GraphReading::printed_at))]
 fn read_parts(alloc: Global, cursor: &mut Cursor<'_>) -> Result<Printed, Stop>
-    ensures { IfOk result (λ printed. printed_text printed ≡ cursor.old.rest.now) }
+    ensures text { IfOk result (λ printed. printed_text printed ≡ cursor.old.rest.now) }
+    ensures after { PassesInMemory result cursor.new.rest.now (printed_at cursor.old.rest.now) }
+    ensures printable { IfOk result IsPrintable }
 {
     let flow = flow_if_any(alloc, cursor)?;
     let graph = graph_if_any(alloc, cursor)?;
@@ -49,8 +57,11 @@ fn read_parts(alloc: Global, cursor: &mut Cursor<'_>) -> Result<Printed, Stop>
 }
 
 // The flow graph, where its text comes next.
+#[tactic(auto, unfolding(crate::specs::GraphReading::flow_part_at))]
 fn flow_if_any(alloc: Global, cursor: &mut Cursor<'_>) -> Result<Option<PrintedFlow>, Stop>
-    ensures { IfOk result (λ part. cursor.old.rest.now ≡ flow_part part ++ cursor.new.rest.now) }
+    ensures text { IfOk result (λ part. cursor.old.rest.now ≡ flow_part part ++ cursor.new.rest.now) }
+    ensures after { PassesInMemory result cursor.new.rest.now (flow_part_at cursor.old.rest.now) }
+    ensures printable { IfOk result (λ part. IfSome part IsPrintableFlow) }
 {
     if cursor.is_at(b"PIECES") {
         Ok(Some(read_flow(alloc, cursor)?))
@@ -60,8 +71,11 @@ fn flow_if_any(alloc: Global, cursor: &mut Cursor<'_>) -> Result<Option<PrintedF
 }
 
 // The dataflow graph, where its text comes next.
+#[tactic(auto, unfolding(crate::specs::GraphReading::graph_part_at))]
 fn graph_if_any(alloc: Global, cursor: &mut Cursor<'_>) -> Result<Option<PrintedGraph>, Stop>
-    ensures { IfOk result (λ part. cursor.old.rest.now ≡ graph_part part ++ cursor.new.rest.now) }
+    ensures text { IfOk result (λ part. cursor.old.rest.now ≡ graph_part part ++ cursor.new.rest.now) }
+    ensures after { PassesInMemory result cursor.new.rest.now (graph_part_at cursor.old.rest.now) }
+    ensures printable { IfOk result (λ part. IfSome part IsPrintableGraph) }
 {
     if cursor.is_at(b"LINES") {
         Ok(Some(read_graph(alloc, cursor)?))
@@ -71,8 +85,12 @@ fn graph_if_any(alloc: Global, cursor: &mut Cursor<'_>) -> Result<Option<Printed
 }
 
 // The trace, where some text is left.
+#[tactic(auto, unfolding(crate::specs::GraphReading::trace_part_at))]
 fn trace_if_any(alloc: Global, cursor: &mut Cursor<'_>) -> Result<Option<PrintedTrace>, Stop>
-    ensures { IfOk result (λ part. cursor.old.rest.now ≡ trace_part part ++ cursor.new.rest.now) }
+    ensures text { IfOk result (λ part. cursor.old.rest.now ≡ trace_part part ++ cursor.new.rest.now) }
+    ensures after { PassesInMemory result cursor.new.rest.now (trace_part_at cursor.old.rest.now) }
+    ensures printable { IfOk result (λ part. IfSome part IsPrintableTrace) }
+    ensures some { IfOk result (λ part. IfSome part (λ _. 0 < length cursor.old.rest.now)) }
 {
     if cursor.rest.is_empty() {
         Ok(None)

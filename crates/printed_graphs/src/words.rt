@@ -1,6 +1,8 @@
 //! The words that stand for kinds of pieces, for what operations do, and for traps.
 
-ghost use Rattle.std.specs.Prelude.{◌≡◌, IfSome};
+ghost use Rattle.std.specs.Prelude.{◌≡◌, IfSome, is_some};
+ghost use Rattle.printed_graphs.specs.GraphReading.{is_work, is_trap};
+ghost use Rattle.printed_graphs.specs.Reading.{is_kind};
 ghost use Rattle.printed_graphs.specs.Names.{kind_text, work_text, operator_text, trap_text};
 
 use crate::{PieceKind, Work};
@@ -159,7 +161,8 @@ pub fn trap_name(trap: Trap) -> &'static str
 
 /// The kind of piece that a word stands for.
 pub(crate) fn kind_of(word: &[u8]) -> Option<PieceKind>
-    ensures { IfSome result (λ kind. word.now ≡ kind_text kind) }
+    ensures text { IfSome result (λ kind. word.now ≡ kind_text kind) }
+    ensures variant { is_some result ≡ is_kind word.now }
 {
     for kind in KINDS {
         if kind_name(kind).as_bytes() == word {
@@ -171,7 +174,8 @@ pub(crate) fn kind_of(word: &[u8]) -> Option<PieceKind>
 
 /// What an operation does that a word stands for.
 pub(crate) fn work_of(word: &[u8]) -> Option<Work>
-    ensures { IfSome result (λ work. word.now ≡ work_text work) }
+    ensures text { IfSome result (λ work. word.now ≡ work_text work) }
+    ensures variant { is_some result ≡ is_work word.now }
 {
     for work in WORKS {
         if work_name(work).as_bytes() == word {
@@ -183,7 +187,8 @@ pub(crate) fn work_of(word: &[u8]) -> Option<Work>
 
 /// The trap that a word stands for.
 pub(crate) fn trap_of(word: &[u8]) -> Option<Trap>
-    ensures { IfSome result (λ trap. word.now ≡ trap_text trap) }
+    ensures text { IfSome result (λ trap. word.now ≡ trap_text trap) }
+    ensures variant { is_some result ≡ is_trap word.now }
 {
     for trap in TRAPS {
         if trap_name(trap).as_bytes() == word {

@@ -1,9 +1,18 @@
-use Rattle.std.proofs.Common.{◌≡◌, ◌++◌, length, flat_map}
+use Rattle.std.proofs.Common.{◌≡◌, ◌++◌, length, flat_map, codes}
+use Rattle.std.specs.List.{All}
 use Rattle.printed_graphs.specs.DataflowText.{bypass_text}
+use Rattle.printed_graphs.specs.GraphReading.{bypass_at, after_bypasses}
+use Rattle.printed_graphs.specs.Printable.{IsPrintableBypass}
+use Rattle.printed_graphs.specs.Reading.{after_word}
+use Rattle.printed_graphs.proofs.Loops.{PartsLeft}
 use Rattle.printed_graphs.proofs.dataflow_lines.read_bypasses.Given as goal
 
-abbrev pub invariant-loop-cursor : goal.invariant-loop-cursor
-invariant-loop-cursor l = l.fn.cursor.rest.now ≡ flat_map bypass_text l.all.items ++ l.cursor.rest.now
+abbrev pub invariant-loop-all : goal.invariant-loop-all
+invariant-loop-all l = record {
+  text : l.fn.cursor.rest.now ≡ flat_map bypass_text l.all.items ++ l.cursor.rest.now;
+  after : PartsLeft (after_word (codes "H ")) bypass_at l.cursor.rest.now (after_bypasses l.fn.cursor.rest.now);
+  printable : All IsPrintableBypass l.all.items;
+}
 
-abbrev pub decreases-loop-cursor : goal.decreases-loop-cursor
-decreases-loop-cursor l = length l.cursor.rest.now
+abbrev pub decreases-loop-all : goal.decreases-loop-all
+decreases-loop-all l = length l.cursor.rest.now

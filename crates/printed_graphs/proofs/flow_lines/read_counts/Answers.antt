@@ -3,8 +3,8 @@ use Rattle.std.specs.Fmt.{decimal}
 use Rattle.printed_graphs.proofs.Texts.{joined, two_joined}
 use Rattle.printed_graphs.proofs.flow_lines.read_counts.Goals as goal
 
-pub returns : goal.returns
-returns c =
+pub returns-clause-text : goal.returns-clause-text
+returns-clause-text c =
     let text = c.args.cursor.now.rest.now in
     let after1 = c.count_after.new.cursor.rest.now in
     let after2 = c.count_after-2.new.cursor.rest.now in

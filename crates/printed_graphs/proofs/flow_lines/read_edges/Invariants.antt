@@ -1,5 +1,8 @@
-use Rattle.std.proofs.Common.{◌≡◌, ◌++◌, length}
+use Rattle.std.proofs.Common.{◌≡◌, ◌-◌, ◌++◌, length}
+use Rattle.std.specs.List.{All}
 use Rattle.printed_graphs.specs.FlowText.{edge_text}
+use Rattle.printed_graphs.specs.Printable.{IsPrintableEdge}
+use Rattle.printed_graphs.specs.Reading.{edge_at, lines_at}
 use Rattle.printed_graphs.specs.Words.{lines_from}
 use Rattle.printed_graphs.proofs.flow_lines.read_edges.Given as goal
 
@@ -7,4 +10,6 @@ abbrev pub invariant-loop-k : goal.invariant-loop-k
 invariant-loop-k l = record {
   text : l.fn.cursor.rest.now ≡ lines_from edge_text 0 l.all.items ++ l.cursor.rest.now;
   count : length l.all.items ≡ l.k;
+  after : lines_at edge_at l.k (l.count - l.k) l.cursor.rest.now ≡ lines_at edge_at 0 l.count l.fn.cursor.rest.now;
+  printable : All IsPrintableEdge l.all.items;
 }
