@@ -1,5 +1,11 @@
 //! What the words after the program's name ask for.
 
+ghost use Rattle.std.specs.Prelude.{◌≡◌, ℕ, ◌<◌, ◌^◌, List, ◌∷◌, Some, None, All, map};
+ghost use Rattle.std.specs.Fmt.{decimal};
+ghost use Rattle.std.specs.String.{string_bytes};
+ghost use Rattle.dfc_view.specs.Json.{in_commas};
+ghost use Rattle.dfc_view.specs.Words.{Answers, alone, asked_by, meant, meant_task, numbers_on, picture_of as spec_picture_of, with_digit as spec_with_digit};
+
 use crate::fault::Fault;
 use std::alloc::Global;
 
@@ -70,17 +76,12 @@ impl Lines {
     }
 }
 
-/// The job that the words ask for.
-pub fn job_of(alloc: Global, words: &[String]) -> Result<Job, Fault> {
+/// The job that the words ask for, or `Usage` where they have no meaning.
+pub fn job_of(alloc: Global, words: &[String]) -> Result<Job, Fault>
+    ensures { Answers meant result (asked_by (map string_bytes words.now)) }
+{
     match words {
-        [word] => match word.as_str() {
-            "--help" => Ok(Job::Help),
-            "--version" => Ok(Job::Version),
-            "json" => Ok(Job::Show(Task::Json)),
-            "profile" => Ok(Job::Show(Task::Profile)),
-            "dot" => Ok(Job::Show(Task::Dot(Lines::All))),
-            _ => Err(Fault::Usage),
-        },
+        [word] => job_of_word(word.as_str()),
         [word, options @ ..] if word.as_str() == "dot" => {
             Ok(Job::Show(picture_of(alloc, options)?))
         }
@@ -88,8 +89,24 @@ pub fn job_of(alloc: Global, words: &[String]) -> Result<Job, Fault> {
     }
 }
 
+// The job that a word asks for by itself.
+fn job_of_word(word: &str) -> Result<Job, Fault>
+    ensures { Answers meant result (alone word.now) }
+{
+    match word {
+        "--help" => Ok(Job::Help),
+        "--version" => Ok(Job::Version),
+        "json" => Ok(Job::Show(Task::Json)),
+        "profile" => Ok(Job::Show(Task::Profile)),
+        "dot" => Ok(Job::Show(Task::Dot(Lines::All))),
+        _ => Err(Fault::Usage),
+    }
+}
+
 // The picture that the words after `dot` ask for.
-fn picture_of(alloc: Global, options: &[String]) -> Result<Task, Fault> {
+fn picture_of(alloc: Global, options: &[String]) -> Result<Task, Fault>
+    ensures { Answers meant_task result (spec_picture_of (map string_bytes options.now)) }
+{
     match options {
         [option] if option.as_str() == "--regions" => Ok(Task::Regions),
         [option, lines] if option.as_str() == "--lines" => Ok(Task::Dot(Lines::Only(numbers_in(
@@ -101,24 +118,39 @@ fn picture_of(alloc: Global, options: &[String]) -> Result<Task, Fault> {
 }
 
 // The numbers between commas.
-fn numbers_in(alloc: Global, text: &[u8]) -> Result<Vec<u32>, Fault> {
+fn numbers_in(alloc: Global, text: &[u8]) -> Result<Vec<u32>, Fault>
+    ensures { Answers (λ numbers. numbers.items) result (numbers_on None text.now) }
+{
     let mut all = Vec::new(alloc);
     let mut number = None;
     for c in text {
-        match *c {
-            b',' => {
-                all.push(number.ok_or(Fault::Usage)?)?;
-                number = None;
-            }
-            digit => number = Some(with_digit(number.unwrap_or(0), digit)?),
+        if *c == b',' {
+            all.push(ended(number)?)?;
+            number = None;
+        } else {
+            number = Some(with_digit(number.unwrap_or(0), *c)?);
         }
     }
-    all.push(number.ok_or(Fault::Usage)?)?;
+    all.push(ended(number)?)?;
     Ok(all)
 }
 
+/// Numbers of 32 bits that are written with commas between them are those that are read.
+pub fn written_numbers_are_read()
+    ensures { (n : ℕ) (numbers : List ℕ) → All (λ m. m < 2 ^ 32) (n ∷ numbers) → numbers_on None (in_commas decimal (n ∷ numbers)) ≡ Some (n ∷ numbers) }
+{}
+
+// The number that ends at a comma or at the end of a text, if one has begun.
+fn ended(number: Option<u32>) -> Result<u32, Fault>
+    ensures { Answers (λ n. n) result number }
+{
+    number.ok_or(Fault::Usage)
+}
+
 // A number with one more digit.
-fn with_digit(number: u32, digit: u8) -> Result<u32, Fault> {
+fn with_digit(number: u32, digit: u8) -> Result<u32, Fault>
+    ensures { Answers (λ n. n) result (spec_with_digit number digit) }
+{
     if !digit.is_ascii_digit() {
         return Err(Fault::Usage);
     }

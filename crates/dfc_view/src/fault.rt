@@ -1,3 +1,7 @@
+ghost use Rattle.std.specs.Prelude.{◌≡◌};
+ghost use Rattle.dfc_view.specs.declared.fault.Fault.TheVariants as fault;
+ghost use Rattle.dfc_view.specs.Statuses.{status_of};
+
 use df_io::{NoMemory, ReadEnd, WriteFault};
 use printed_graphs::ReadFault;
 use std::alloc::{AllocError, AllocFailed};
@@ -26,7 +30,9 @@ pub enum Fault {
 }
 
 /// The status to end with, as `dfc` has it.
-pub fn status(fault: Fault) -> u8 {
+pub fn status(fault: Fault) -> u8
+    ensures { result ≡ status_of fault }
+{
     match fault {
         Fault::Usage => 1,
         Fault::Line(_) | Fault::Firing(_) | Fault::NoText | Fault::TooLong => 2,
@@ -63,18 +69,24 @@ impl From<WriteFault> for Fault {
 }
 
 impl From<NoMemory> for Fault {
+    ghost from_gives = { λ _ e. e ≡ fault.NoMemory };
+
     fn from(_none: NoMemory) -> Fault {
         Fault::NoMemory
     }
 }
 
 impl From<AllocError> for Fault {
+    ghost from_gives = { λ _ e. e ≡ fault.NoMemory };
+
     fn from(_error: AllocError) -> Fault {
         Fault::NoMemory
     }
 }
 
 impl<T: Drop> From<AllocFailed<T>> for Fault {
+    ghost from_gives = { λ _ e. e ≡ fault.NoMemory };
+
     fn from(_refused: AllocFailed<T>) -> Fault {
         Fault::NoMemory
     }

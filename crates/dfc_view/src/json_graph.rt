@@ -1,92 +1,98 @@
 //! A dataflow graph as JSON.
 
+ghost use Rattle.std.specs.Prelude.{◌++◌, OnOk, codes};
+ghost use Rattle.std.specs.Fmt.{decimal};
+ghost use Rattle.dfc_view.specs.Json.{bypass_json, graph_json, leading_json, line_json, name_json, node_json, operand_json, value_json, wires_json};
+ghost use Rattle.dfc_view.specs.Told.{Adds, told};
+
 use crate::fault::Fault;
-use crate::json::{separate, write_numbers};
+use crate::json::{Json, write_in_commas, write_numbers, write_rows};
 use crate::output::Output;
 use df_io::Sink;
-use printed_graphs::{Bypass, Node, Operand, PrintedGraph, TokenLine, Value, work_name};
+use printed_graphs::{Bypass, Node, Operand, PrintedGraph, TokenLine, Value, Wires, work_name};
 
-/// Writes the graph.
-pub fn write<K: Sink + Drop>(graph: &PrintedGraph, output: &mut Output<K>) -> Result<(), Fault> {
-    output.text("{\"lines\":[")?;
-    for (k, line) in graph.lines.as_slice().iter().enumerate() {
-        separate(k, output)?;
-        write_line(line, output)?;
+impl Json for PrintedGraph {
+    ghost json_text = { graph_json };
+
+    fn write<K: Sink + Drop>(&self, output: &mut Output<K>) -> Result<(), Fault> {
+        output.text("{\"lines\":[")?;
+        write_rows(self.lines.as_slice(), output)?;
+        output.text("],\n\"nodes\":[")?;
+        write_rows(self.nodes.as_slice(), output)?;
+        output.text("],\n\"values\":[")?;
+        write_rows(self.values.as_slice(), output)?;
+        output.text("],\n\"wires\":[")?;
+        write_rows(self.wires.as_slice(), output)?;
+        output.text("],\n\"bypasses\":[")?;
+        write_rows(self.bypasses.as_slice(), output)?;
+        output.text("]}")
     }
-    output.text("],\n\"nodes\":[")?;
-    for (k, node) in graph.nodes.as_slice().iter().enumerate() {
-        separate(k, output)?;
-        write_node(node, output)?;
-    }
-    output.text("],\n\"values\":[")?;
-    for (k, value) in graph.values.as_slice().iter().enumerate() {
-        separate(k, output)?;
-        write_value(value, output)?;
-    }
-    output.text("],\n\"wires\":[")?;
-    for (k, wires) in graph.wires.as_slice().iter().enumerate() {
-        separate(k, output)?;
-        write_numbers(wires.edges.as_slice(), output)?;
-    }
-    output.text("],\n\"bypasses\":[")?;
-    for (k, bypass) in graph.bypasses.as_slice().iter().enumerate() {
-        separate(k, output)?;
-        write_bypass(bypass, output)?;
-    }
-    output.text("]}")
 }
 
-// A line of tokens. Its names are letters and digits, so nothing in them needs an escape.
-fn write_line<K: Sink + Drop>(line: &TokenLine, output: &mut Output<K>) -> Result<(), Fault> {
-    match line {
-        TokenLine::Output => output.text("{\"kind\":\"output\"}"),
-        TokenLine::Class(names) => {
-            output.text("{\"kind\":\"words\",\"names\":[")?;
-            for (k, name) in names.as_slice().iter().enumerate() {
-                if k > 0 {
-                    output.text(",")?;
-                }
-                output.text("\"")?;
-                output.bytes(name.as_slice())?;
-                output.text("\"")?;
+impl Json for TokenLine {
+    ghost json_text = { line_json };
+
+    fn write<K: Sink + Drop>(&self, output: &mut Output<K>) -> Result<(), Fault> {
+        match self {
+            TokenLine::Output => output.text("{\"kind\":\"output\"}"),
+            TokenLine::Class(names) => {
+                output.text("{\"kind\":\"words\",\"names\":[")?;
+                write_in_commas(names.as_slice(), output)?;
+                output.text("]}")
             }
-            output.text("]}")
-        }
-        TokenLine::Loop(line) => {
-            output.item("{\"kind\":\"loop\",\"line\":", *line)?;
-            output.text("}")
+            TokenLine::Loop(line) => {
+                output.item("{\"kind\":\"loop\",\"line\":", *line)?;
+                output.text("}")
+            }
         }
     }
 }
 
-fn write_node<K: Sink + Drop>(node: &Node, output: &mut Output<K>) -> Result<(), Fault> {
-    match node {
-        Node::Operation {
-            piece,
-            number,
-            work,
-            lines,
-        } => {
-            output.item("{\"kind\":\"OP\",\"piece\":", *piece)?;
-            output.item(",\"number\":", *number)?;
-            output.text(",\"work\":\"")?;
-            output.text(work_name(*work))?;
-            output.text("\",\"lines\":")?;
-            write_numbers(lines.as_slice(), output)?;
-            output.text("}")
-        }
-        Node::Switch { piece, line } => write_leading("SWITCH", *piece, *line, output),
-        Node::Merge { piece, line } => write_leading("MERGE", *piece, *line, output),
+// A name has letters and digits alone, so nothing in it needs an escape.
+impl Json for Vec<u8> {
+    ghost json_text = { name_json };
+
+    fn write<K: Sink + Drop>(&self, output: &mut Output<K>) -> Result<(), Fault> {
+        output.text("\"")?;
+        output.bytes(self.as_slice())?;
+        output.text("\"")
     }
 }
 
-// A node that leads a line on.
+impl Json for Node {
+    ghost json_text = { node_json };
+
+    fn write<K: Sink + Drop>(&self, output: &mut Output<K>) -> Result<(), Fault> {
+        match self {
+            Node::Operation {
+                piece,
+                number,
+                work,
+                lines,
+            } => {
+                output.item("{\"kind\":\"OP\",\"piece\":", *piece)?;
+                output.item(",\"number\":", *number)?;
+                output.text(",\"work\":\"")?;
+                output.text(work_name(*work))?;
+                output.text("\",\"lines\":")?;
+                write_numbers(lines.as_slice(), output)?;
+                output.text("}")
+            }
+            Node::Switch { piece, line } => write_leading("SWITCH", *piece, *line, output),
+            Node::Merge { piece, line } => write_leading("MERGE", *piece, *line, output),
+        }
+    }
+}
+
+// Appends a node that leads a line on.
 fn write_leading<K: Sink + Drop>(
     kind: &str,
     piece: u32,
     line: u32,
     output: &mut Output<K>,
-) -> Result<(), Fault> {
+) -> Result<(), Fault>
+    ensures { OnOk result (Adds (told K.got output.old) (told K.got output.new) (leading_json kind.now piece line)) }
+{
     output.text("{\"kind\":\"")?;
     output.text(kind)?;
     output.item("\",\"piece\":", piece)?;
@@ -94,32 +100,50 @@ fn write_leading<K: Sink + Drop>(
     output.text("}")
 }
 
-fn write_value<K: Sink + Drop>(value: &Value, output: &mut Output<K>) -> Result<(), Fault> {
-    output.item("{\"node\":", value.node)?;
-    output.text(",\"operands\":[")?;
-    for (k, operand) in value.operands.as_slice().iter().enumerate() {
-        if k > 0 {
-            output.text(",")?;
-        }
-        write_operand(*operand, output)?;
+impl Json for Value {
+    ghost json_text = { value_json };
+
+    fn write<K: Sink + Drop>(&self, output: &mut Output<K>) -> Result<(), Fault> {
+        output.item("{\"node\":", self.node)?;
+        output.text(",\"operands\":[")?;
+        write_in_commas(self.operands.as_slice(), output)?;
+        output.text("]}")
     }
-    output.text("]}")
 }
 
-fn write_operand<K: Sink + Drop>(operand: Operand, output: &mut Output<K>) -> Result<(), Fault> {
-    match operand {
-        Operand::From(node) => output.item("{\"node\":", node)?,
-        Operand::Known(z) => {
-            output.text("{\"known\":")?;
-            output.signed(z)?;
+impl Json for Operand {
+    ghost json_text = { operand_json };
+
+    fn write<K: Sink + Drop>(&self, output: &mut Output<K>) -> Result<(), Fault> {
+        match *self {
+            Operand::From(node) => {
+                output.item("{\"node\":", node)?;
+                output.text("}")
+            }
+            Operand::Known(z) => {
+                output.text("{\"known\":")?;
+                output.signed(z)?;
+                output.text("}")
+            }
         }
     }
-    output.text("}")
 }
 
-fn write_bypass<K: Sink + Drop>(bypass: &Bypass, output: &mut Output<K>) -> Result<(), Fault> {
-    output.item("{\"line\":", bypass.line)?;
-    output.item(",\"edge\":", bypass.edge)?;
-    output.item(",\"next\":", bypass.next)?;
-    output.text("}")
+impl Json for Wires {
+    ghost json_text = { wires_json };
+
+    fn write<K: Sink + Drop>(&self, output: &mut Output<K>) -> Result<(), Fault> {
+        write_numbers(self.edges.as_slice(), output)
+    }
+}
+
+impl Json for Bypass {
+    ghost json_text = { bypass_json };
+
+    fn write<K: Sink + Drop>(&self, output: &mut Output<K>) -> Result<(), Fault> {
+        output.item("{\"line\":", self.line)?;
+        output.item(",\"edge\":", self.edge)?;
+        output.item(",\"next\":", self.next)?;
+        output.text("}")
+    }
 }

@@ -1,9 +1,15 @@
 //! Reads a text and shows it.
 
+ghost use Rattle.std.specs.Prelude.{◌≡◌, OnOk};
+ghost use Rattle.dfc_view.specs.declared.arguments.Task.TheVariants as task_kind;
+ghost use Rattle.dfc_view.specs.Shown.{ShowsJson};
+ghost use Rattle.dfc_view.specs.Told.{told};
+
 use crate::arguments::{Lines, Task};
 use crate::fault::Fault;
+use crate::json::Json;
 use crate::output::Output;
-use crate::{flow_dot, graph_dot, json, profile};
+use crate::{flow_dot, graph_dot, profile};
 use df_io::{Sink, Source, read_all};
 use printed_graphs::{Printed, read_printed};
 use std::alloc::Global;
@@ -17,13 +23,15 @@ pub fn show<S: Source, K: Sink + Drop>(
     task: Task,
     source: &mut S,
     output: &mut Output<K>,
-) -> Result<(), Fault> {
+) -> Result<(), Fault>
+    ensures json { task ≡ task_kind.Json → OnOk result (ShowsJson (S.left source.old) (S.left source.new) (told K.got output.old) (told K.got output.new)) }
+{
     let text = read_all(alloc, source, LONGEST)?;
     let printed = read_printed(alloc, text.as_slice())?;
     match task {
         Task::Regions => flow_picture(alloc, &printed, true, output),
         Task::Dot(lines) => picture(alloc, &printed, &lines, output),
-        Task::Json => json::write(&printed, output),
+        Task::Json => printed.write(output),
         Task::Profile => profile_of(alloc, &printed, output),
     }
 }

@@ -1,0 +1,5 @@
+mod NumberLists
+mod NumbersAgain
+mod Pieces
+mod Rows
+mod SingleWords
