@@ -29,7 +29,7 @@ use Rattle.dfc_driver.specs.Words.{Asked}
 -- ---- a line after a text
 
 -- some bytes after others
-prefix_after : (old mid new : Option (List ℕ)) (text last : List ℕ) → Appends old mid text → AppendsPrefix mid new last → AppendsPrefix old new (text ++ last)
+pub prefix_after : (old mid new : Option (List ℕ)) (text last : List ℕ) → Appends old mid text → AppendsPrefix mid new last → AppendsPrefix old new (text ++ last)
 prefix_after old mid new text last before prefix = record {
   count = length text + prefix.count;
   within = let all = length-append text last in let low = prefix.within in omega (arith, all, low);
@@ -37,7 +37,7 @@ prefix_after old mid new text last before prefix = record {
 }
 
 module _ (is_due : Due → Type 0) (due line : Due) (is : is_due due) (same : all_due line ≡ due.last) (old mid new : Option (List ℕ)) (before : Appends old mid due.text) where
-  told_on : IsTold (IsJust line) mid new due.status → IsTold is_due old new due.status
+  pub told_on : IsTold (IsJust line) mid new due.status → IsTold is_due old new due.status
   told_on told = record {
     due = due;
     is = is;
@@ -45,7 +45,7 @@ module _ (is_due : Due → Type 0) (due line : Due) (is : is_due due) (same : al
     written = Appends-trans old mid new due.text due.last before (subst (Appends mid new) (ap all_due told.is ∙ same) told.written);
   }
 
-  begun_on : IsBegun (IsJust line) mid new → IsBegun is_due old new
+  pub begun_on : IsBegun (IsJust line) mid new → IsBegun is_due old new
   begun_on begun = record {
     due = due;
     is = is;
@@ -63,7 +63,7 @@ trap_after is_due text trap line is old mid new s before tells =
     tells.told
 
 -- the limit came after a text that was written, and its line is told
-limit_after : (is_due : Due → Type 0) (text : List ℕ) (limit : ℕ) → is_due (stopped text limit) → (old mid new : Option (List ℕ)) (s : Status) → Appends old mid text → Tells (stopped [] limit) mid new s → AnswersAs is_due old new s
+pub limit_after : (is_due : Due → Type 0) (text : List ℕ) (limit : ℕ) → is_due (stopped text limit) → (old mid new : Option (List ℕ)) (s : Status) → Appends old mid text → Tells (stopped [] limit) mid new s → AnswersAs is_due old new s
 limit_after is_due text limit is old mid new s before tells =
     let due = stopped text limit in
     let told = stopped [] limit in

@@ -9,9 +9,11 @@ mod NetParts
 mod OneNet
 mod NameLines
 mod Telling
+mod TopAnswers
 mod NodesTold
 mod Pieces
 mod RegionsTold
+mod RunsMade
 mod SetNumbers
 pub mod Texts
 mod Items
@@ -19,6 +21,8 @@ mod Sizes
 mod Alike
 mod ClassesOfNames
 mod Entered
+mod FormsMean
+mod FormsTold
 mod LinesTold
 mod NameWords
 mod WiresTold

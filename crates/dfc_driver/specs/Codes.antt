@@ -2,7 +2,7 @@
 use Rattle.std.specs.Prelude.{ℕ, List, codes}
 use Rattle.f77_source.specs.declared.source_end.Code.TheVariants as text
 use Rattle.dfc_driver.specs.declared.reading.Code.{Code}
-use Rattle.dfc_driver.specs.declared.reading.Code.TheVariants.{TooLong, Text}
+use Rattle.dfc_driver.specs.declared.reading.Code.TheVariants.{TooLong, Text, TooManyNames, LongText}
 
 abbrev pub name_of : Code → List ℕ
 name_of TooLong = codes "TOOLONG"
@@ -26,3 +26,5 @@ name_of (Text text.JumpInto) = codes "JUMPINTO"
 name_of (Text text.TooManyWords) = codes "MANYWORDS"
 name_of (Text text.TooManyOps) = codes "MANYOPS"
 name_of (Text text.TooManyClasses) = codes "MANYCLASSES"
+name_of TooManyNames = codes "MANYNAMES"
+name_of LongText = codes "LONGTEXT"

@@ -1,9 +1,18 @@
 -- What is due for some words and a text: a status, and the bytes that are written.
-use Rattle.std.specs.Prelude.{◌≡◌, ℕ, Bool, List, [], ◌∷◌, ◌++◌, Option, Some, None, codes}
+use Rattle.std.specs.Prelude.{◌≡◌, ◌<◌, ◌≤◌, ◌⊎◌, ℕ, ℤ, Bool, List, [], ◌∷◌, ◌++◌, Option, Some, None, codes}
 use Rattle.std.specs.Fmt.{decimal}
 use Rattle.op_table.specs.declared.Trap.{Trap}
 use Rattle.op_table.specs.declared.Trap.TheVariants.{Divide, Subscript, Step, Input, Overflow}
 use Rattle.f77_tree.specs.declared.programs.Program.{Program}
+use Rattle.f77_tree.specs.Run as runs
+use Rattle.f77_tree.specs.Run.{Mark, Running, Ended, out, source}
+use Rattle.f77_source.specs.declared.source_end.Code.TheVariants as text_code
+use Rattle.flat_programs.specs.declared.statements.FlatLine.{FlatLine}
+use Rattle.flat_programs.specs.FlatForm.{AreStatementsOf}
+use Rattle.flat_programs.specs.Text.{text as text_of}
+use Rattle.regenerate.specs.declared.ends.RewriteEnd.{RewriteEnd}
+use Rattle.regenerate.specs.declared.ends.RewriteEnd.TheVariants as rewrite_end
+use Rattle.rewriting.specs.Rewritten.{IsRewritten, PassesLimit}
 use Rattle.firing.specs.declared.playing.PlayEnd.{PlayEnd}
 use Rattle.firing.specs.declared.playing.PlayEnd.TheVariants as end
 use Rattle.firing.specs.declared.playing.Show.{Show}
@@ -11,6 +20,7 @@ use Rattle.firing.specs.declared.playing.Show.TheVariants as show
 use Rattle.firing.specs.Play.{Moment, Way, shown, played as moment_after}
 use Rattle.firing.specs.Runs.{IsRun}
 use Rattle.dfc_driver.specs.declared.reading.Code.{Code}
+use Rattle.dfc_driver.specs.declared.reading.Code.TheVariants as code
 use Rattle.dfc_driver.specs.declared.status.Status.{Status}
 use Rattle.dfc_driver.specs.declared.status.Status.TheVariants as status
 use Rattle.dfc_driver.specs.declared.words.Told.{Told}
@@ -22,7 +32,7 @@ use Rattle.dfc_driver.specs.Playing.{Game, opening, way_of}
 use Rattle.dfc_driver.specs.Reading.{Reading, Accepted, Refused, reading}
 use Rattle.dfc_driver.specs.Regions.{TellsRegions}
 use Rattle.dfc_driver.specs.StoreText.{fired_line, store_text}
-use Rattle.dfc_driver.specs.Words.{Asked, Job, On, Task, Regions, Graph, Play, job_of}
+use Rattle.dfc_driver.specs.Words.{Asked, Job, On, Task, Regions, Graph, Play, Regen, Run, job_of}
 
 -- a status, what the job writes, and after that the line that tells how it ended, or nothing
 pub record Due : Type 0 where
@@ -57,7 +67,11 @@ trap_name Overflow = codes "OVERFLOW"
 abbrev pub trapped : (text : List ℕ) → Trap → (line : ℕ) → Due
 trapped text trap line = record { status = status.Trapped; text = text; last = codes "TRAP " ++ trap_name trap ++ codes " LINE " ++ decimal line ++ 10 ∷ [] }
 
--- after this text so many firings were made, and more are possible
+-- a trap came after this text, in a program that has lines of its own
+abbrev pub trapped_alone : (text : List ℕ) → Trap → Due
+trapped_alone text trap = record { status = status.Trapped; text = text; last = codes "TRAP " ++ trap_name trap ++ 10 ∷ [] }
+
+-- after this text so many firings or steps were made, and more are possible
 abbrev pub stopped : (text : List ℕ) → (limit : ℕ) → Due
 stopped text limit = record { status = status.Limit; text = text; last = codes "LIMIT " ++ decimal limit ++ 10 ∷ [] }
 
@@ -116,11 +130,70 @@ pub record IsDoneBy (asked : List ℕ → Type 0) (due : Due) : Type 0 where
   pub text : asked due.text
   pub done : due ≡ done due.text
 
+-- ---- rewritten forms
+
+-- what is due where a rewriting ends like this: the code of the limit, at no line of the source
+abbrev pub IsDueByEnd : RewriteEnd → Due → Type 0
+IsDueByEnd rewrite_end.TooManyNames due = due ≡ refusal 0 code.TooManyNames
+IsDueByEnd rewrite_end.TooManyStatements due = due ≡ refusal 0 (code.Text text_code.TooManyStatements)
+IsDueByEnd rewrite_end.LongText due = due ≡ refusal 0 code.LongText
+IsDueByEnd rewrite_end.NoMemory due = ⊥
+
+-- the rewriting of a program passes a limit, and this is due of it
+pub record IsDueLimit (p : Program) (checked : Bool) (due : Due) : Type 0 where
+  pub end : RewriteEnd
+  pub passes : PassesLimit p checked end
+  pub is : IsDueByEnd end due
+
+-- the text of a program of flat statements
+pub record IsPrinted (form : Program) (due : Due) : Type 0 where
+  pub flat : List FlatLine
+  pub statements : AreStatementsOf form flat
+  pub is : due ≡ done (text_of form flat)
+
+-- that of the rewritten form of a program
+pub record IsTextDue (p : Program) (checked : Bool) (due : Due) : Type 0 where
+  pub form : Program
+  pub rewritten : IsRewritten p checked form
+  pub printed : IsPrinted form due
+
+abbrev pub IsDueRegen : Program → (checked : Bool) → Due → Type 0
+IsDueRegen p checked due = IsTextDue p checked due ⊎ IsDueLimit p checked due
+
+-- a run makes so many steps: the least number after which it has ended or trapped, or the limit, whatever comes first
+pub record MakesSteps (p : Program) (input : List ℤ) (limit steps : ℕ) : Type 0 where
+  pub most : steps ≤ limit
+  pub before : (n : ℕ) → n < steps → (source p input n).mark ≡ Running
+  pub last : (source p input steps).mark ≡ Running → steps ≡ limit
+
+-- what is due after the output of a run, by the mark that it has then
+abbrev pub due_by_mark : Mark → (output : List ℕ) → (limit : ℕ) → Due
+due_by_mark Running output limit = stopped output limit
+due_by_mark Ended output limit = done output
+due_by_mark (runs.Trapped trap line) output limit = trapped_alone output trap
+
+-- a program was run, and this is due of it
+pub record IsDueRunOf (form : Program) (input : List ℤ) (limit : ℕ) (due : Due) : Type 0 where
+  pub steps : ℕ
+  pub made : MakesSteps form input limit steps
+  pub is : due ≡ due_by_mark (source form input steps).mark (out form input steps) limit
+
+-- the rewritten form of a program was run
+pub record IsOutputDue (p : Program) (checked : Bool) (input : List ℤ) (limit : ℕ) (due : Due) : Type 0 where
+  pub form : Program
+  pub rewritten : IsRewritten p checked form
+  pub ran : IsDueRunOf form input limit due
+
+abbrev pub IsDueRun : Program → (checked : Bool) → (input : List ℤ) → (limit : ℕ) → Due → Type 0
+IsDueRun p checked input limit due = IsOutputDue p checked input limit due ⊎ IsDueLimit p checked due
+
 -- what each task owes on a program of the plain dialect or of the checked one
 abbrev pub IsDueOn : Task → (checked : Bool) → Program → Due → Type 0
 IsDueOn Regions checked p = IsDoneBy (TellsRegions p)
 IsDueOn Graph checked p = IsDoneBy (TellsGraph p)
 IsDueOn (Play what asked) checked p = IsDuePlay what asked p
+IsDueOn Regen checked p = IsDueRegen p checked
+IsDueOn (Run limit input) checked p = IsDueRun p checked input limit
 
 abbrev pub IsDueRead : Task → (checked : Bool) → Reading → Due → Type 0
 IsDueRead task checked (Refused line code) = IsJust (refusal line code)

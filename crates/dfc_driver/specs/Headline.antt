@@ -1,27 +1,31 @@
 -- What each job promises of the program of a text, beyond the bytes that are due.
-use Rattle.std.specs.Prelude.{◌≡◌, ◌<◌, ◌≤◌, ◌+◌, ◌*◌, ◌==◌, ◌++◌, ◌↔◌, ℕ, ℤ, suc, Bool, List, [], length, filter, Option, Some, None, slice_index}
+use Rattle.std.specs.Prelude.{◌≡◌, ◌<◌, ◌≤◌, ◌+◌, ◌*◌, ◌==◌, ◌++◌, ◌↔◌, ◌⊎◌, ℕ, ℤ, suc, Bool, All, List, [], length, filter, Option, Some, None, slice_index}
 use Rattle.op_table.specs.declared.Trap.{Trap}
+use Rattle.op_table.specs.Words.{IsWord}
 use Rattle.closed_walks.specs.Graph.{edge_count}
 use Rattle.closed_walks.specs.Walk.{IsCycleEquivalent}
 use Rattle.f77_tree.specs.declared.programs.Program.{Program}
 use Rattle.f77_tree.specs.Operations.{most_operations}
-use Rattle.f77_tree.specs.Run.{EndsIn, TrapsAt, out, source}
+use Rattle.f77_tree.specs.Run.{EndsIn, PrintAlike, Reaches, TrapsAt, out, source}
 use Rattle.alias_classes.specs.Number.{number_of_classes}
 use Rattle.cfg_build.specs.Flow.{flow}
 use Rattle.cfg_build.specs.Joined.{FlowGraph}
 use Rattle.region_tree.specs.Tree.{Tree, IsRegionTree}
 use Rattle.firing.specs.Orders.{IsPrefix}
+use Rattle.flat_programs.specs.declared.statements.FlatLine.{FlatLine}
+use Rattle.flat_programs.specs.FlatForm.{AreStatementsOf}
+use Rattle.flat_programs.specs.Text.{text as text_of}
 use Rattle.op_board.specs.OperationNets.{OperationNet}
-use Rattle.dfc_driver.specs.declared.status.Status.TheVariants.{Done, Trapped}
+use Rattle.dfc_driver.specs.declared.status.Status.TheVariants.{Done, Refused as Refused_status, Trapped}
 use Rattle.dfc_driver.specs.declared.words.Told.{Told}
 use Rattle.dfc_driver.specs.declared.words.Told.TheVariants.{Output, Nodes, Store}
-use Rattle.dfc_driver.specs.Due.{Due, IsDueOn, IsPlayed, trapped}
+use Rattle.dfc_driver.specs.Due.{Due, IsDueOn, IsPlayed, trapped, trapped_alone}
 use Rattle.dfc_driver.specs.Game.{IsNetOn}
 use Rattle.dfc_driver.specs.GraphText.{TellsGraph, graph_text}
 use Rattle.dfc_driver.specs.Reading.{Reading, Accepted, Refused, reading}
 use Rattle.dfc_driver.specs.Regions.{regions_text}
 use Rattle.dfc_driver.specs.StoreText.{fired_line, store_text}
-use Rattle.dfc_driver.specs.Words.{Asked, Job, On, Task, Regions, Graph, Play}
+use Rattle.dfc_driver.specs.Words.{Asked, Job, On, Task, Regions, Graph, Play, Regen, Run}
 
 -- ---- games
 
@@ -109,11 +113,56 @@ pub record MeansRegions (f : FlowGraph) (due : Due) : Type 0 where
   pub same : (a b : ℕ) → a < edge_count f.graph → b < edge_count f.graph → (slice_index classes a ≡ slice_index classes b) ↔ IsCycleEquivalent f.graph a b
   pub regions : IsRegionTree f.graph tree
 
+-- ---- rewritten programs
+
+-- The text is that of a program of flat statements, which prints what the program prints, whatever the data.
+pub record MeansText (p : Program) (text : List ℕ) : Type 0 where
+  pub form : Program
+  pub flat : List FlatLine
+  pub statements : AreStatementsOf form flat
+  pub is : text ≡ text_of form flat
+  pub alike : (input : List ℤ) → All IsWord input → PrintAlike (source p input) (source form input)
+
+-- The text is written, or the rewriting passes a limit.
+pub record MeansRegen (p : Program) (due : Due) : Type 0 where
+  pub ends : (due.status ≡ Done) ⊎ (due.status ≡ Refused_status)
+  pub text : due.status ≡ Done → MeansText p due.text
+
+-- so many steps of the rewritten form are enough for so many steps of the program
+abbrev pub run_bound : Program → (steps : ℕ) → ℕ
+run_bound p steps = (most_operations p + 3) * steps
+
+-- The run of the program ends, and the text is all that it writes.
+pub record MeansEnd (input : List ℤ) (p : Program) (text : List ℕ) : Type 0 where
+  pub steps : ℕ
+  pub ends : EndsIn p input steps
+  pub output : text ≡ out p input steps
+
+-- The run of the program traps with the trap that is told, and the text before is all that it writes.
+pub record MeansStop (input : List ℤ) (p : Program) (due : Due) : Type 0 where
+  pub steps : ℕ
+  pub trap : Trap
+  pub line : ℕ
+  pub traps : TrapsAt p input steps trap line
+  pub is : due ≡ trapped_alone due.text trap
+  pub output : due.text ≡ out p input steps
+
+-- What is written as output is a prefix of what the run of the program writes. The job is done only where the run ends, and tells of a
+-- trap only where it traps. Where the run ends or traps and the limit is large enough, so it is, but for a limit of the rewriting.
+pub record MeansRun (limit : ℕ) (input : List ℤ) (p : Program) (due : Due) : Type 0 where
+  pub prefix : Reaches (source p input) due.text
+  pub ends : due.status ≡ Done → MeansEnd input p due.text
+  pub traps : due.status ≡ Trapped → MeansStop input p due
+  pub finishes : (steps : ℕ) → EndsIn p input steps → run_bound p steps ≤ limit → (due.status ≡ Done) ⊎ (due.status ≡ Refused_status)
+  pub fails : (steps : ℕ) (trap : Trap) (line : ℕ) → TrapsAt p input steps trap line → run_bound p steps ≤ limit → (due.status ≡ Trapped) ⊎ (due.status ≡ Refused_status)
+
 -- what each task promises
 abbrev pub Means : Task → (checked : Bool) → Program → Due → Type 0
 Means Regions checked p due = MeansRegions (flow p.execs) due
 Means Graph checked p due = MeansGraph p due
 Means (Play what asked) checked p due = MeansPlay what asked p due
+Means Regen checked p due = MeansRegen p due
+Means (Run limit input) checked p due = MeansRun limit input p due
 
 -- No two things are due on the program, and what is due means this.
 pub record MeansOn (task : Task) (checked : Bool) (p : Program) : Type 0 where

@@ -15,6 +15,7 @@ pub mod Entries
 pub mod Drawn
 pub mod Found
 pub mod Due
+pub mod Stopping
 pub mod GameLaws
 pub mod Answers
 pub mod Headline

@@ -22,6 +22,10 @@ pub data Task : Type 0 where
   Regions : Task
   Graph : Task
   Play : (told : Told) (asked : Asked) → Task
+  -- the text of its rewritten form is written
+  Regen : Task
+  -- its rewritten form is run, for so many steps at most, over these words for READ
+  Run : (limit : ℕ) (input : List ℤ) → Task
 
 -- a task on the program of a text, in the checked dialect or in the plain one
 pub data Job : Type 0 where
@@ -51,7 +55,7 @@ abbrev pub word_value : List ℕ → ℤ
 word_value [] = pos 0
 word_value (c ∷ digits) = if c == 45 then neg_ℤ (pos (number digits)) else pos (number (c ∷ digits))
 
--- ---- settings of a game: `limit=` and a number of firings, `picks=` and numbers, `data=` and words, with commas between them
+-- ---- settings of a game or of a run: `limit=` and a number of firings or steps, `picks=` and numbers, `data=` and words, with commas between them
 
 abbrev pub name_of : Setting → List ℕ
 name_of Limit = codes "limit="
@@ -122,8 +126,14 @@ abbrev pub game_of_words : Option Told → List (List ℕ) → Option Job
 game_of_words None words = None
 game_of_words (Some told) words = play_of told words
 
--- The job that these words ask for: `regions` or `graph` and the dialect, or `fire`, `trace` or `store` and the settings of a game, as
--- yet. Other words have no meaning.
+-- a run has no picks
+abbrev pub run_of : List (List ℕ) → Option Job
+run_of words =
+    let after_limit = after Limit words in
+    on (Run (limit_in (text_of Limit words)) (values_in word_value (text_of Data after_limit))) (dialect_of (after Data after_limit))
+
+-- The job that these words ask for: `regions`, `graph` or `regen` and the dialect, `run` and the settings of a run, or `fire`, `trace`
+-- or `store` and the settings of a game, as yet. Other words have no meaning.
 abbrev pub job_of : List (List ℕ) → Option Job
 job_of [] = None
-job_of (word ∷ words) = if bytes_eq word (codes "regions") then on Regions (dialect_of words) else if bytes_eq word (codes "graph") then on Graph (dialect_of words) else game_of_words (told_by word) words
+job_of (word ∷ words) = if bytes_eq word (codes "regions") then on Regions (dialect_of words) else if bytes_eq word (codes "graph") then on Graph (dialect_of words) else if bytes_eq word (codes "regen") then on Regen (dialect_of words) else if bytes_eq word (codes "run") then run_of words else game_of_words (told_by word) words

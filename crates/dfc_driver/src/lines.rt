@@ -3,7 +3,7 @@
 ghost use Rattle.std.specs.Prelude.{◌≡◌, ◌≤◌, [], length};
 ghost use Rattle.df_io.specs.Faults.{Rose};
 ghost use Rattle.dfc_driver.specs.Answers.{Tells};
-ghost use Rattle.dfc_driver.specs.Due.{refusal, stopped, trapped, trap_name as spec_trap_name, usage};
+ghost use Rattle.dfc_driver.specs.Due.{refusal, stopped, trapped, trapped_alone, trap_name as spec_trap_name, usage};
 
 use crate::reading::Code;
 use crate::status::Status;
@@ -56,7 +56,20 @@ pub fn tell_trap<K: Sink>(trap: Trap, line: u32, sink: &mut K) -> Status
     }
 }
 
-/// Writes that so many firings were made, and more are possible.
+/// Writes that a trap came, without the line of the source: a rewritten program has lines of its own.
+pub fn tell_trap_alone<K: Sink>(trap: Trap, sink: &mut K) -> Status
+    ensures tells { Tells (trapped_alone [] trap) (K.got sink.old) (K.got sink.new) result }
+    ensures later { K.faults sink.old ≤ K.faults sink.new }
+    ensures fault { result ≡ Status.WriteFault → Rose (K.faults sink.old) (K.faults sink.new) }
+{
+    let text = trap_alone(trap);
+    match write_all(sink, text.as_str().as_bytes()) {
+        Ok(()) => Status::Trapped,
+        Err(_) => Status::WriteFault,
+    }
+}
+
+/// Writes that so many firings or steps were made, and more are possible.
 pub fn tell_limit<K: Sink>(limit: u64, sink: &mut K) -> Status
     ensures tells { Tells (stopped [] limit) (K.got sink.old) (K.got sink.new) result }
     ensures later { K.faults sink.old ≤ K.faults sink.new }
@@ -79,6 +92,17 @@ fn trap_line(trap: Trap, line: u32) -> Line
     text.push_str(trap_name(trap));
     text.push_str(" LINE ");
     text.push_str(buffer.format(line));
+    text.push_str("\n");
+    text
+}
+
+// The line of a trap alone.
+fn trap_alone(trap: Trap) -> Line
+    ensures { result.bytes ≡ (trapped_alone [] trap).last }
+{
+    let mut text = ArrayString::new();
+    text.push_str("TRAP ");
+    text.push_str(trap_name(trap));
     text.push_str("\n");
     text
 }

@@ -20,6 +20,10 @@ pub enum Code {
     TooLong,
     /// It is no program.
     Text(f77_source::Code),
+    /// Its rewritten form has more temporaries than there are names for, or too many words with them.
+    TooManyNames,
+    /// A statement of its rewritten form is too long or too deep.
+    LongText,
 }
 
 impl Code {
@@ -31,6 +35,8 @@ impl Code {
         match self {
             Code::TooLong => "TOOLONG",
             Code::Text(code) => text_name(code),
+            Code::TooManyNames => "MANYNAMES",
+            Code::LongText => "LONGTEXT",
         }
     }
 }

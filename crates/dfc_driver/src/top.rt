@@ -14,7 +14,9 @@ use crate::graph::tell_graph;
 use crate::lines::{tell_refusal, tell_usage};
 use crate::playing::play;
 use crate::reading::{NoProgram, read_program};
+use crate::regen::tell_regen;
 use crate::regions::tell_regions;
+use crate::run::tell_run;
 use crate::status::Status;
 use crate::words::{Job, Task, read_words};
 use df_io::{Sink, Source};
@@ -117,5 +119,7 @@ fn on_program<K: Sink>(
         Task::Regions => tell_regions(alloc, program, sink),
         Task::Graph => tell_graph(alloc, program, sink),
         Task::Play(told, words) => play(alloc, told, words, program, sink),
+        Task::Regen => tell_regen(alloc, program, checked, sink),
+        Task::Run(words) => tell_run(alloc, words, program, checked, sink),
     }
 }

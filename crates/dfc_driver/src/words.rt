@@ -4,7 +4,7 @@ ghost use Rattle.std.specs.String.{string_bytes};
 ghost use Rattle.f77_tree.specs.Name.{is_figure};
 ghost use Rattle.fixed_form.specs.Columns.{number};
 ghost use Rattle.dfc_driver.specs.Meant.{IsJob, MayStand, meant};
-ghost use Rattle.dfc_driver.specs.Words.{job_of, play_of, after, text_of, limit_in as spec_limit_in, dialect_of, are_digits_to as spec_are_digits_to, is_piece as spec_is_piece, is_setting, is_text as spec_is_text, is_word as spec_is_word, is_number_to as spec_is_number_to, name_of, pieces_after};
+ghost use Rattle.dfc_driver.specs.Words.{job_of, play_of, run_of, after, text_of, limit_in as spec_limit_in, dialect_of, are_digits_to as spec_are_digits_to, is_piece as spec_is_piece, is_setting, is_text as spec_is_text, is_word as spec_is_word, is_number_to as spec_is_number_to, name_of, pieces_after};
 
 /// What the words after the program's name ask for.
 #[derive(Clone, Copy, Debug, PartialEq, Eq)]
@@ -23,6 +23,10 @@ pub enum Task<'a> {
     Graph,
     /// The game of its net of operations is played, and something told of it.
     Play(Told, GameWords<'a>),
+    /// The text of its rewritten form is written.
+    Regen,
+    /// Its rewritten form is run, and the output written.
+    Run(RunWords<'a>),
 }
 
 /// What is told of a game.
@@ -47,10 +51,19 @@ pub struct GameWords<'a> {
     pub input: &'a [u8],
 }
 
-/// A setting of a game.
+/// What a run is asked to do, as far as words tell it without memory.
+#[derive(Clone, Copy, Debug, PartialEq, Eq)]
+pub struct RunWords<'a> {
+    /// The most steps.
+    pub limit: u64,
+    /// The words that READ takes, as they stand in a word, or nothing.
+    pub input: &'a [u8],
+}
+
+/// A setting of a game or of a run.
 #[derive(Clone, Copy, Debug, PartialEq, Eq)]
 pub enum Setting {
-    /// The most firings.
+    /// The most firings or steps.
     Limit,
     /// The picks that choose nodes.
     Picks,
@@ -72,6 +85,11 @@ pub fn read_words(words: &[String]) -> Option<Job<'_>>
             let checked = read_dialect(options)?;
             Some(Job::On(Task::Graph, checked))
         }
+        [word, options @ ..] if word.as_str() == "regen" => {
+            let checked = read_dialect(options)?;
+            Some(Job::On(Task::Regen, checked))
+        }
+        [word, options @ ..] if word.as_str() == "run" => read_run(options),
         [word, options @ ..] if word.as_str() == "fire" => read_game(Told::Output, options),
         [word, options @ ..] if word.as_str() == "trace" => read_game(Told::Nodes, options),
         [word, options @ ..] if word.as_str() == "store" => read_game(Told::Store, options),
@@ -100,6 +118,18 @@ fn read_game(told: Told, words: &[String]) -> Option<Job<'_>>
         ),
         checked,
     ))
+}
+
+// The run that the words after `run` ask for.
+fn read_run(words: &[String]) -> Option<Job<'_>>
+    ensures job { meant result ≡ run_of (map string_bytes words.now) }
+    ensures texts { IfSome result IsJob }
+{
+    let (limit, words) = split_setting(Setting::Limit, words);
+    let (input, words) = split_setting(Setting::Data, words);
+    let checked = read_dialect(words)?;
+    let limit = limit_in(limit);
+    Some(Job::On(Task::Run(RunWords { limit, input }), checked))
 }
 
 // What a setting says that stands before the words, if it does, and the words after it.

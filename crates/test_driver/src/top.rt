@@ -23,6 +23,9 @@ const READS: &str = "      READ *,N,M\n      IF(N.LT.M)READ *,N\n      PRINT *,N
 
 const GREATEST: &str = "      I=2147483647\n      PRINT *,I+1\n      END\n";
 
+const REWRITTEN: &str =
+    "      INTEGER I\n      INTEGER J\n      INTEGER K\n      I=2\n      J=5\n      PRINT *,5,2\n      K=-3\n      PRINT *,-3\n      END\n";
+
 /// Which calls fail.
 #[derive(Clone, Copy)]
 pub(crate) struct Faults {
@@ -108,6 +111,39 @@ fn fires_by_picks(rt: HostRuntime) -> Result<(), Fail> {
             3,
             " 1\nTRAP DIVIDE LINE 3\n",
         ),
+    ] {
+        check(
+            &rt,
+            rt.alloc(),
+            words,
+            text.as_bytes(),
+            &NONE,
+            status,
+            written,
+        )?;
+    }
+    Ok(())
+}
+
+#[test]
+fn rewrites_programs(rt: HostRuntime) -> Result<(), Fail> {
+    for (text, words, status, written) in [
+        (PROGRAM, ["regen"].as_slice(), 0, REWRITTEN),
+        (PROGRAM, ["run"].as_slice(), 0, " 5 2\n -3\n"),
+        (PROGRAM, ["run", "limit=2"].as_slice(), 4, "LIMIT 2\n"),
+        (READS, ["run", "data=3,5,-4"].as_slice(), 0, " 1\n"),
+        (READS, ["run", "data=3"].as_slice(), 3, "TRAP INPUT\n"),
+        (DIVIDES, ["run"].as_slice(), 3, " 1\nTRAP DIVIDE\n"),
+        (LOOP, ["run", "limit=50"].as_slice(), 4, " 1\nLIMIT 50\n"),
+        (
+            GREATEST,
+            ["run", "checked"].as_slice(),
+            3,
+            "TRAP OVERFLOW\n",
+        ),
+        (TEXT_FAULT, ["regen"].as_slice(), 2, "REFUSED 2 REALNAME\n"),
+        ("", ["regen", "limit=2"].as_slice(), 1, "USAGE\n"),
+        ("", ["run", "picks=2"].as_slice(), 1, "USAGE\n"),
     ] {
         check(
             &rt,
@@ -243,7 +279,7 @@ fn tells_words_without_meaning(rt: HostRuntime) -> Result<(), Fail> {
     check(
         &rt,
         rt.alloc(),
-        &["run"],
+        &["runs"],
         PROGRAM.as_bytes(),
         &NONE,
         1,

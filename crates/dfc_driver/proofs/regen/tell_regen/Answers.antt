@@ -1,0 +1,13 @@
+use Rattle.dfc_driver.specs.Due.{IsDueByEnd, IsDueRegen}
+use Rattle.dfc_driver.proofs.FormsTold.{IsEndOf, no_form_due}
+use Rattle.dfc_driver.proofs.GameTold.{answers_more}
+use Rattle.dfc_driver.proofs.regen.tell_regen.Goals as goal
+
+pub returns-in-Err-clause-due : goal.returns-in-Err-clause-due
+returns-in-Err-clause-due g c =
+    let p = c.args.program.now in
+    let checked = c.args.checked in
+    let end = c.in-Err.end in
+    let is : IsEndOf p checked end = record { names = c.in-Err.ensures.names; statements = c.in-Err.ensures.statements; long = c.in-Err.ensures.long } in
+    answers_more (IsDueByEnd end) (IsDueRegen p checked) (g.K.Sink.got c.args.sink.now) (g.K.Sink.got c.tell_end.new.sink) c.tell_end.result
+    (λ due told. no_form_due p checked end is due told) c.tell_end.ensures.due

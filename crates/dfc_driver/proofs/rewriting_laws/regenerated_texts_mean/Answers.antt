@@ -1,0 +1,16 @@
+use Rattle.dfc_driver.proofs.FormsMean.{regen_on}
+use Rattle.dfc_driver.proofs.rewriting_laws.regenerated_texts_mean.Goals as goal
+
+pub returns : goal.returns
+returns c =
+    let p = c.args.program.now in
+    let checked = c.args.checked in
+    let one = c.rewritten_forms_are_one.ensures in
+    let well = c.requires in
+    regen_on c.executables_tell_statements.ensures.one p checked
+    (record {
+      form = λ s r is also. one.rewritten p checked s r well is also;
+      none = λ s end is passes. one.none p checked s end well is passes;
+      limit = λ end other passes also. one.limit p checked end other well passes also;
+    })
+    (λ s input is words. c.rewritten_programs_print_alike.ensures.alike p checked s input well is words)

@@ -1,0 +1,65 @@
+//! The text of a program's rewritten form.
+
+ghost use Rattle.std.specs.Prelude.{◌≡◌, ◌≢◌, ◌≤◌};
+ghost use Rattle.df_io.specs.Faults.{Rose};
+ghost use Rattle.alias_classes.specs.Number.{HasFewClasses};
+ghost use Rattle.f77_tree.specs.WellFormed.{IsWellFormed};
+ghost use Rattle.flat_programs.specs.FlatForm.{IsFlatProgram};
+ghost use Rattle.dfc_driver.specs.Answers.{AnswersAs, Tells};
+ghost use Rattle.dfc_driver.specs.Due.{IsDueRegen, IsPrinted, done};
+ghost use Rattle.dfc_driver.specs.Headline.{MeansOn};
+ghost use Rattle.dfc_driver.specs.Words.{Regen};
+
+use crate::rewriting_end::tell_end;
+use crate::rewriting_laws::regenerated_texts_mean;
+use crate::status::Status;
+use df_io::{NoMemory, Sink, WriteFault, write_all};
+use f77_tree::Program;
+use flat_programs::print_program;
+use rewriting::rewrite;
+use std::alloc::Global;
+
+/// Writes the text of a program's rewritten form, in a dialect. All memory is taken before the first byte is written.
+pub fn tell_regen<K: Sink>(alloc: Global, program: &Program, checked: bool, sink: &mut K) -> Status
+    requires program { IsWellFormed program.now }
+    requires few { HasFewClasses program.now }
+    ensures due { AnswersAs (IsDueRegen program.now checked) (K.got sink.old) (K.got sink.new) result }
+    ensures means { result ≢ Status.NoMemory → MeansOn Regen checked program.now }
+    ensures words { result ≢ Status.Usage }
+    ensures reads { result ≢ Status.ReadFault }
+    ensures later { K.faults sink.old ≤ K.faults sink.new }
+    ensures fault { result ≡ Status.WriteFault → Rose (K.faults sink.old) (K.faults sink.new) }
+{
+    regenerated_texts_mean(program, checked);
+    match rewrite(alloc, program, checked) {
+        Ok(form) => tell_form(alloc, &form, sink),
+        Err(end) => tell_end(end, sink),
+    }
+}
+
+// Writes the text of a program of flat statements.
+fn tell_form<K: Sink>(alloc: Global, form: &Program, sink: &mut K) -> Status
+    requires { IsFlatProgram form.now }
+    ensures due { AnswersAs (IsPrinted form.now) (K.got sink.old) (K.got sink.new) result }
+    ensures words { result ≢ Status.Usage }
+    ensures reads { result ≢ Status.ReadFault }
+    ensures later { K.faults sink.old ≤ K.faults sink.new }
+    ensures fault { result ≡ Status.WriteFault → Rose (K.faults sink.old) (K.faults sink.new) }
+{
+    match print_program(alloc, form) {
+        Ok(text) => tell_text(text.as_slice(), sink),
+        Err(NoMemory) => Status::NoMemory,
+    }
+}
+
+// Writes a text.
+fn tell_text<K: Sink>(text: &[u8], sink: &mut K) -> Status
+    ensures tells { Tells (done text.now) (K.got sink.old) (K.got sink.new) result }
+    ensures later { K.faults sink.old ≤ K.faults sink.new }
+    ensures fault { result ≡ Status.WriteFault → Rose (K.faults sink.old) (K.faults sink.new) }
+{
+    match write_all(sink, text) {
+        Ok(()) => Status::Done,
+        Err(WriteFault) => Status::WriteFault,
+    }
+}
