@@ -1,0 +1,5 @@
+mod ClassBounds
+mod FlowLines
+mod FlowPrinted
+mod Rows
+mod ShortLines
