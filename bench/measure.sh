@@ -11,6 +11,8 @@ echo "== reading and regions"
 python3 bench/reading.py crates/dfc/out/dfc
 echo "== firing"
 python3 bench/orders.py crates/dfc/out/dfc
+echo "== printing and rewriting"
+python3 bench/printing.py crates/dfc/out/dfc
 echo "== a large net that is no program"
 crates/bench_firing/out/bench_firing 2>&1
 echo "== classes of large graphs"

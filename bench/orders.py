@@ -85,4 +85,5 @@ def main():
             print(f"{title:9} {order:10} {few:7.3f} s for a million firings in all, {19 / (many - few):6.1f} million firings a second", flush=True)
 
 
-main()
+if __name__ == "__main__":
+    main()
