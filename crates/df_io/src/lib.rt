@@ -4,6 +4,8 @@
 mod faults;
 mod mem_sink;
 mod mem_source;
+mod never_sink;
+mod never_source;
 mod read;
 mod sink;
 mod source;
@@ -17,6 +19,8 @@ pub use df_sequence::NoMemory;
 pub use faults::Failed;
 pub use mem_sink::MemSink;
 pub use mem_source::MemSource;
+pub use never_sink::NeverSink;
+pub use never_source::NeverSource;
 pub use read::{ReadEnd, read_all};
 pub use sink::Sink;
 pub use source::Source;
