@@ -5,4 +5,6 @@
 #[cfg(test)]
 mod jobs;
 #[cfg(test)]
+mod never;
+#[cfg(test)]
 mod top;
