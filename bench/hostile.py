@@ -1,0 +1,427 @@
+#!/usr/bin/env python3
+"""Runs a built dfc on hostile texts, and looks for runs that break a rule.
+
+    python3 bench/hostile.py PROGRAM [--count N] [--seed S] [--from N] [--limit L] [--seconds T] [--megabytes M] [--save FOLDER]
+
+PROGRAM is a built dfc. A text is made by its number and the seed alone: a text of examples/ or cases/ with one to eight changes of its
+bytes, tokens, lines or labels; or one written at random, well formed for the most part; or, one in a hundred, a large one near the limits
+of the language. Each is run under every job: regions, graph, fire (in both dialects, and by picks), trace, store, regen and run, each in
+a dialect and with data by chance, and with limit=L (2,000) where the job has a limit. The rules:
+
+- no signal ends a run, none takes more than T seconds of the processor (10), and none is given more than M megabytes of memory (1,024);
+- the status is 0, 2, 3, 4 or 7, the last line fits it, and nothing is written to standard error;
+- a refusal is one line `REFUSED line CODE`, with a known code and a line of the text or the one after it, or of the rewriting's at line 0;
+- status 7 comes with nothing written;
+- every job refuses alike, or none does;
+- runs of one dialect and one list of data that end (0) or trap (3) do so alike: the same trap, the same output, by picks and rewritten
+  too; and the output of one that stopped at a limit is a prefix of that of one that ended.
+
+Prints each run that breaks one; saves its text under FOLDER (hostile_found) with the words; and last prints a table: texts, runs by
+status, refusals by code, the slowest run and the largest. The exit status is 1 where a rule was broken.
+"""
+import argparse
+import collections
+import glob
+import os
+import random
+import re
+import sys
+
+from running import Runner, broken, last_line, refusal
+
+TOP = os.path.dirname(os.path.dirname(os.path.abspath(__file__)))
+NUMBERS = "0 1 2 3 7 -1 00 60 61 72 255 400 500 501 1023 1024 4000 4001 99999 100000 262144 262145 2147483647 2147483648 4294967296 99999999999999999999".split()
+TOKENS = ("I A P X IF ( ) (( )) , = + - * ** / : ' '' .LT. .AND. .NOT. .TRUE. .EQV. & $ END STOP ELSE END#IF CONTINUE GO#TO DO#10#I=1,2 "
+          "IF(P)THEN IF(I)10,20,30 INTEGER LOGICAL COMMON DATA EQUIVALENCE(A,I) DIMENSION#A(2) IMPLICIT#NONE PROGRAM#P READ*,I PRINT*,I "
+          "WRITE(*,*) MOD( MAX( ABS( SIGN( CALL#S SUBROUTINE#S RETURN REAL#X FORMAT(I5)").split()
+TOKENS = [it.replace("#", " ") for it in TOKENS]
+
+
+# Changes. Each takes the chance and a text of bytes, and gives one.
+
+def change_bytes(chance, text):
+    at, stop = sorted(chance.randrange(len(text) + 1) for _ in range(2))
+    stop = min(stop, at + chance.choice([1, 1, 1, 2, 8, 80]))
+    new = bytes(chance.choice([chance.randrange(256), chance.choice(b" \n\r\t'&()0C,=.\x00\x7f\xff")]) for _ in range(chance.choice([0, 1, 1, 2])))
+    form = chance.random()
+    if form < 0.1:
+        return text[:at] if form < 0.05 else text[at:]
+    return text[:at] + (new if form < 0.8 else text[at:stop] * chance.choice([2, 3])) + text[stop:]
+
+
+def change_tokens(chance, text):
+    found = list(re.finditer(rb"\d+|[A-Za-z]+\d*|\.[A-Z]+\.|\*\*|\S", text))
+    if not found:
+        return text
+    it, other = chance.choice(found), chance.choice(found).group()
+    if it.group().isdigit() and chance.random() < 0.6:
+        new = chance.choice(NUMBERS).encode()
+    else:
+        new = chance.choice([chance.choice(TOKENS).encode(), other, b"", it.group() * 2, b"(" + it.group() + b")"])
+    return text[: it.start()] + new + text[it.end():]
+
+
+def change_lines(chance, text):
+    lines = text.split(b"\n")
+    at, other = chance.randrange(len(lines)), chance.randrange(len(lines))
+    line = lines[at]
+    forms = [[], [line] * chance.choice([2, 3, 20, 21]), [lines[other], line], [line[:6] + b" " * chance.choice([1, 40]) + line[6:]],
+             [line[: 6 + len(line[6:]) // 2], b"     &" + line[6 + len(line[6:]) // 2:]], [b"     &" + line[6:]], [b"C" + line, line],
+             [line.lower()], [line + b"\r"], [line.ljust(72) + b"IGNORED"], [line, b"      END"], [line[chance.randrange(8):]]]
+    lines[at: at + 1] = chance.choices(forms, [4, 4, 4, 4, 4, 1, 2, 2, 2, 2, 1, 1])[0]
+    if chance.random() < 0.3:
+        lines[at: at + 1], lines[other: other + 1] = lines[other: other + 1], lines[at: at + 1]
+    return b"\n".join(lines)
+
+
+def change_labels(chance, text):
+    labels = [it.strip() for it in re.findall(rb"^ *\d[\d ]{0,4}(?=[ 0])", text, re.M)] or [b"10"]
+    lines = text.split(b"\n")
+    at = chance.randrange(len(lines))
+    label = chance.choice(labels + [b"77", b"0", b"99999"])[:5]
+    code = chance.choice([b"GO TO " + label, b"DO " + label + b" K=1,3", b"IF(I)" + label + b"," + chance.choice(labels) + b"," + label,
+                          b"GO TO(" + b",".join(chance.choice(labels) for _ in range(chance.choice([1, 3, 12]))) + b"),I", b"CONTINUE"])
+    forms = [label.rjust(5) + lines[at][5:], b"     " + lines[at][5:], b"      " + code, label.rjust(5) + b" " + code]
+    lines[at: at + chance.randint(0, 1)] = [chance.choice(forms)]
+    return b"\n".join(lines)
+
+
+def splice(chance, text, other):
+    """The beginning of one text and the end of another."""
+    first, second = text.split(b"\n"), other.split(b"\n")
+    return b"\n".join(first[: chance.randrange(len(first) + 1)] + second[chance.randrange(len(second)):])
+
+
+def changed(chance, texts):
+    text = chance.choice(texts)
+    for _ in range(chance.choice([1, 1, 1, 2, 2, 3, 5, 8])):
+        form = chance.choice([change_bytes, change_tokens, change_tokens, change_lines, change_lines, change_labels, change_labels, None])
+        text = form(chance, text) if form else splice(chance, text, chance.choice(texts))
+    return text[: 1 << 17]
+
+
+class Writer:
+    """Writes one program of about `size` statements."""
+
+    def __init__(self, chance, size):
+        self.chance, self.size, self.lines, self.open, self.loops = chance, size, [], [], 0
+        self.scalars = ["I", "J", "K", "L", "M", "N"][: chance.randint(2, 6)] + ["I%d" % k for k in range(size // 20)]
+        self.arrays, self.truths = {}, ["P", "Q"][: chance.randint(1, 2)]
+        self.labels = [str(10 * k) for k in range(1, 2 + size // 6)]
+        self.unplaced = list(self.labels)
+
+    def put(self, text, label=""):
+        """A statement on as many lines as it needs."""
+        width = 66 if self.chance.random() < 0.97 else self.chance.randint(min(66, len(text) // 19 + 1), 66)
+        for at in range(0, len(text), width):
+            self.lines.append((label.rjust(5) + " " if at == 0 else "     " + self.chance.choice("&1X+")) + text[at: at + width])
+
+    def declare(self):
+        self.put("LOGICAL " + ",".join(self.truths))
+        for name in ["A", "B", "C"][: self.chance.choice([0, 1, 1, 2, 3])]:
+            bounds = [(low, low + self.chance.choice([0, 1, 2, 4, 9])) for low in self.chance.choices([1, 1, 1, 0, -3], k=self.chance.choice([1, 1, 2, 3, 7]))]
+            self.arrays[name] = bounds
+            self.put("INTEGER " + name + "(" + ",".join(f"{low}:{high}" if low != 1 else str(high) for low, high in bounds) + ")")
+        if self.chance.random() < 0.25:
+            self.put("COMMON /C/ " + ",".join(self.chance.sample(self.scalars, 2)))
+        for _ in range(self.chance.choice([0, 0, 0, 1, 1, 1, 1, 3]) if self.arrays else 0):
+            name = self.chance.choice(list(self.arrays))
+            at = ",".join(str(self.chance.randint(*pair)) for pair in self.arrays[name])
+            self.put(f"EQUIVALENCE ({name}({at}),{self.chance.choice(self.scalars)})")
+        if self.chance.random() < 0.3:
+            self.put(f"DATA {self.scalars[0]}/{self.chance.choice(['1', '-5', '2147483647', '1*3'])}/")
+
+    def target(self, depth=0):
+        if self.arrays and self.chance.random() < 0.3:
+            name = self.chance.choice(list(self.arrays))
+            return name + "(" + ",".join(self.subscript(pair, depth + 1) for pair in self.arrays[name]) + ")"
+        return self.chance.choice(self.scalars)
+
+    def subscript(self, pair, depth):
+        return str(self.chance.randint(*pair)) if depth > 3 or self.chance.random() < 0.6 else self.number(depth)
+
+    def number(self, depth=0):
+        turn = self.chance.random()
+        if depth > 4 or turn < 0.3:
+            return self.chance.choice(["0", "1", "2", "3", "5", "2147483647"] + self.scalars[:4])
+        if turn < 0.5:
+            return self.target(depth + 1)
+        if turn < 0.85:
+            return "(" + self.number(depth + 1) + self.chance.choice("+ - * / **".split() + ["+"]) + self.number(depth + 1) + ")"
+        name, count = self.chance.choice([("MOD", 2), ("ABS", 1), ("SIGN", 2), ("MAX", 2), ("MIN", 3), ("IABS", 1), ("MAX0", 4)])
+        return name + "(" + ",".join(self.number(depth + 1) for _ in range(count)) + ")"
+
+    def truth(self, depth=0):
+        turn = self.chance.random()
+        if depth > 3 or turn < 0.6:
+            return self.number(3) + self.chance.choice([".LT.", ".LE.", ".EQ.", ".NE.", ".GE.", ".GT."]) + self.number(3)
+        if turn < 0.75:
+            return self.chance.choice(self.truths + [".TRUE.", ".FALSE."])
+        if turn < 0.85:
+            return ".NOT.(" + self.truth(depth + 1) + ")"
+        return "(" + self.truth(depth + 1) + self.chance.choice([".AND.", ".OR.", ".EQV.", ".NEQV."]) + self.truth(depth + 1) + ")"
+
+    def plain(self):
+        """A statement that a logical IF may hold."""
+        label = lambda: self.chance.choice(self.labels)
+        turn = self.chance.random()
+        if turn < 0.45:
+            return self.target() + "=" + self.number()
+        if turn < 0.5:
+            return self.chance.choice(self.truths) + "=" + self.truth()
+        if turn < 0.62:
+            return "PRINT *" + "".join("," + self.chance.choice([self.number(2), self.truth(2), "'IT''S'"]) for _ in range(self.chance.randint(0, 3)))
+        if turn < 0.68:
+            return "READ *," + ",".join(self.target() for _ in range(self.chance.randint(1, 3)))
+        if turn < 0.82:
+            return "GO TO " + label()
+        if turn < 0.88:
+            return "GO TO (" + ",".join(label() for _ in range(self.chance.choice([1, 2, 3, 9]))) + ")," + self.number(2)
+        return f"IF({self.number(2)}){label()},{label()},{label()}" if turn < 0.95 else self.chance.choice(["CONTINUE", "STOP"])
+
+    def statement(self):
+        turn = self.chance.random()
+        if 0.2 <= turn < 0.3 and self.open:
+            self.close()
+            return
+        # A jump into a block is refused, so that labels stand outside for the most part.
+        is_free = self.unplaced and self.chance.random() < (0.01 if self.open else 0.4)
+        label = self.unplaced.pop(0) if is_free else ""
+        if turn < 0.1:
+            self.loops += 1
+            for _ in range(self.chance.choice([1, 1, 1, 2])):
+                self.put(f"DO {50000 + self.loops} {self.chance.choice(self.scalars)}={self.number(3)},{self.number(3)}"
+                         + self.chance.choice(["", "", ",2", ",-1", ",K"]), label)
+                label = ""
+            self.open.append(str(50000 + self.loops))
+        elif turn < 0.2:
+            self.put("IF(" + self.truth() + ")THEN", label)
+            self.open.append("IF")
+        elif turn < 0.32:
+            self.put("IF(" + self.truth() + ")" + self.plain(), label)
+        else:
+            self.put(self.plain(), label)
+
+    def close(self):
+        if self.open[-1] == "IF" and self.chance.random() < 0.4:
+            self.open[-1] = self.chance.choice(["IF", "ELSE"])
+            self.put("ELSE" if self.open[-1] == "ELSE" else "ELSE IF(" + self.truth() + ")THEN")
+            return
+        label = self.open.pop()
+        if label in ("IF", "ELSE"):
+            self.put("END IF")
+        else:
+            self.put(self.chance.choice(["CONTINUE", "J=J+1"]), label)
+
+    def program(self):
+        self.declare()
+        while len(self.lines) < self.size:
+            self.statement()
+        while self.open:
+            self.close()
+        for label in self.unplaced:
+            self.put(self.chance.choice(["CONTINUE", "I=I+1", "PRINT *,J"]), label)
+        self.put("END")
+        return "\n".join(self.lines).encode() + b"\n"
+
+
+# Large texts. Each is a list of (label, statement), near a limit of the language.
+
+def web(chance):
+    """Jumps everywhere over many names."""
+    count, names = chance.choice([500, 1900]), chance.choice([8, 100, 1000])
+    listed = [("", "INTEGER " + ",".join("I%d" % k for k in range(at, min(names, at + 100)))) for at in range(0, names, 100)]
+    for k in range(1, min(count, 1990 - len(listed) // 2)):
+        listed += [(k, f"IF(I0.EQ.{k})GO TO {chance.randint(1, 450)}"), ("", f"I{k % names}=I{k * 7 % names}+1")]
+    return listed
+
+
+def nest(chance):
+    """DO and IF in one another."""
+    depth = chance.choice([200, 1300])
+    heads = [("", f"DO {k} J{k % 9}=1,2") if chance.random() < 0.3 and k < 900 else ("", f"IF(I.EQ.{k})THEN") for k in range(1, depth)]
+    ends = [(text.split()[1], "CONTINUE") if text[0] == "D" else ("", "END IF") for _, text in reversed(heads)]
+    return heads + [("", "I=I+1")] + ends
+
+
+def choices(chance):
+    """Computed GO TOs with many labels."""
+    count = chance.choice([100, 400, 401])
+    picks = [("", "GO TO (" + ",".join(str(chance.randint(1, 99)) for _ in range(count)) + f"),I+{k}") for k in range(10)]
+    return [("", "READ *,I")] + picks + [(k, f"I=I+{k}") for k in range(1, chance.choice([100, 2000]))]
+
+
+def sums(chance):
+    """Long and deep expressions, shared ones among them."""
+    terms = [chance.choice(["I", "J", "(I+J)", "I*J", "MAX(I,J)"]) for _ in range(chance.choice([60, 100, 126]))]
+    deep = "(" * 60 + "I" + "+1)" * 60
+    return [("", "K=" + "+".join(terms)), ("", "K=" + deep)] * chance.choice([3, 1990]) + [("", "PRINT *" + ",I+J,K" * chance.choice([30, 83, 84]))]
+
+
+def storage(chance):
+    """Many words, and places that are chained."""
+    size = chance.choice([131072, 262143])
+    pairs = [f"(A({k}),I{k})" for k in range(1, chance.choice([60, 500, 1015, 1030]))]
+    chains = [("", "EQUIVALENCE " + ",".join(pairs[at: at + 50])) for at in range(0, len(pairs), 50)]
+    return [("", f"INTEGER A({size})")] + chains + [("", f"DATA A/{size}*7/"), ("", "A(I)=A(J)+1")] * chance.choice([0, 1]) + [("", "PRINT *,A(1),I1")]
+
+
+def lists(chance):
+    """READ and PRINT with many items, in a loop."""
+    count = chance.choice([130, 390])
+    return [("", "DO 10 I=1,50")] + [("", "READ *" + ",K" * count)] * 10 + [("", "PRINT *" + ",K" * count)] * chance.choice([10, 3900]) + [("10", "CONTINUE")]
+
+
+def overlays(chance):
+    """Elements of an array of many classes: each read needs all of them. With 700 such statements more memory is asked for than is given."""
+    pairs = [f"(A({k}),I{k})" for k in range(1, 1015)]
+    chains = [("", "EQUIVALENCE " + ",".join(pairs[at: at + 50])) for at in range(0, len(pairs), 50)]
+    return [("", "INTEGER A(2000)"), *chains] + [("", "K=A(I1+1)" + "+A(I1)" * 90)] * chance.choice([1, 1, 1, 1, 20, 700])
+
+
+def large(chance):
+    """Statements on lines, and END."""
+    lines = []
+    for label, text in chance.choice([web, nest, choices, sums, storage, lists, overlays])(chance):
+        lines += [(str(label).rjust(5) + " " if at == 0 else "     &") + text[at: at + 66] for at in range(0, len(text), 66)]
+    return "\n".join(lines + ["      END", ""]).encode()
+
+
+def text_of(chance, texts):
+    turn = chance.random()
+    if turn < 0.01:
+        text = large(chance)
+        return text if chance.random() < 0.7 else change_tokens(chance, text)
+    if turn < 0.5:
+        return changed(chance, texts)
+    text = Writer(chance, chance.choice([3, 6, 10, 15, 25, 40, 150])).program()
+    for _ in range(chance.choice([0, 0, 0, 1, 2])):
+        text = chance.choice([change_tokens, change_lines, change_labels, change_bytes])(chance, text)
+    return text
+
+
+def word_lists(chance, limit):
+    """The words of each run on a text. Data and picks are the same for all."""
+    data = [] if chance.random() < 0.4 else ["data=" + ",".join(str(chance.choice([0, 1, 2, 3, -1, 10, 2147483647, -2147483648]))
+                                                                 for _ in range(chance.choice([1, 3, 9])))]
+    picks = ["picks=" + ",".join(str(chance.choice([0, 1, 2, 3, 7, 99, 999999999])) for _ in range(chance.choice([1, 2, 3, 8])))]
+    dialect = lambda: chance.choice([[], ["checked"]])
+    for job in ("regions", "graph", "regen"):
+        yield [job] + dialect()
+    most = [f"limit={limit}"]
+    yield ["fire"] + most + data
+    yield ["fire"] + most + data + ["checked"]
+    yield ["fire"] + most + picks + data + dialect()
+    yield ["trace"] + most + chance.choice([[], picks]) + data + dialect()
+    yield ["store"] + most + chance.choice([[], picks]) + data + dialect()
+    yield ["run"] + most + data + dialect()
+
+
+def output_of(answer):
+    """What the program itself wrote, where all of it was kept."""
+    if answer.length != len(answer.begin):
+        return None
+    return answer.begin if answer.status == 0 else answer.begin[: -len(last_line(answer)) - 1]
+
+
+def disagree(runs):
+    """The rule that several runs on one text break, with the words of one, or nothing."""
+    refused = {words[0]: refusal(answer) for words, answer in runs if answer.status != 7}
+    refused = {job: told for job, told in refused.items() if told is None or told[0] > 0 or told[1] == "TOOLONG"}
+    plain = [told for job, told in refused.items() if job not in ("regen", "run")]
+    if len(set(plain)) > 1 or plain and plain[0] and set(refused.values()) != {plain[0]}:
+        return runs[0][0], f"the jobs don't refuse alike: {refused}"
+    for checked in (True, False):
+        mine = [(words, it) for words, it in runs if words[0] in ("fire", "run", "store", "trace") and ("checked" in words) == checked]
+        ended = [(words, it) for words, it in mine if it.status in (0, 3)]
+        traps = {last_line(it).split(" LINE")[0] if it.status == 3 else "" for _, it in ended}
+        if len(traps) > 1:
+            return ended[0][0], f"the runs don't end alike: {traps}"
+        whole = {output_of(it) for words, it in ended if words[0] in ("fire", "run")} - {None}
+        parts = [output_of(it) for words, it in mine if it.status == 4 and words[0] in ("fire", "run")]
+        if len(whole) > 1 or whole and any(part is not None and not next(iter(whole)).startswith(part) for part in parts):
+            return mine[0][0], "the outputs differ"
+    return None
+
+
+class Table:
+    """What the runs came to."""
+
+    def __init__(self, folder):
+        self.folder, self.texts, self.bytes, self.found = folder, 0, 0, 0
+        self.statuses, self.codes = collections.Counter(), collections.Counter()
+        self.slowest, self.largest, self.longest = (0, ""), (0, ""), (0, "")
+
+    def add(self, number, words, answer):
+        name = f"text {number}, {' '.join(words)}"
+        self.statuses[answer.status] += 1
+        self.slowest = max(self.slowest, (answer.seconds, name))
+        self.largest = max(self.largest, (answer.megabytes, name))
+        self.longest = max(self.longest, (answer.length, name))
+
+    def report(self, number, text, words, rule):
+        self.found += 1
+        os.makedirs(self.folder, exist_ok=True)
+        path = os.path.join(self.folder, f"text_{number}")
+        with open(path, "wb") as file, open(path + ".args", "w") as args:
+            file.write(text)
+            args.write("\n".join(words) + "\n")
+        print(f"text {number}, {' '.join(words)}: {rule}; saved as {path}", flush=True)
+
+    def show(self):
+        print(f"{self.texts} texts of {self.bytes} bytes, {sum(self.statuses.values())} runs")
+        print("runs by status:", ", ".join(f"{status}: {count}" for status, count in sorted(self.statuses.items())))
+        print("texts by refusal:", ", ".join(f"{count} {code}" for code, count in self.codes.most_common()))
+        print("slowest run: %.2f s of the processor (%s)" % self.slowest)
+        print("largest run: %.0f MB in memory (%s)" % self.largest)
+        print("longest output: %d bytes (%s)" % self.longest)
+        print(f"{self.found} runs broke a rule")
+
+
+def try_text(runner, table, number, text, lists):
+    """Runs one text under every job."""
+    runner.put(text)
+    runs, lines = [], text.count(b"\n") + (not text.endswith(b"\n") and text != b"")
+    for words in lists:
+        answer = runner.run(words)
+        runs.append((words, answer))
+        table.add(number, words, answer)
+        rule = broken(words, answer, lines)
+        if rule:
+            table.report(number, text, words, rule)
+    table.texts, table.bytes = table.texts + 1, table.bytes + len(text)
+    told = refusal(runs[0][1])
+    table.codes[told[1] if told else "accepted"] += 1
+    rule = disagree(runs)
+    if rule:
+        table.report(number, text, *rule)
+
+
+def corpus():
+    """The texts of examples/ and cases/, but for long ones."""
+    paths = glob.glob(os.path.join(TOP, "examples", "*.f")) + glob.glob(os.path.join(TOP, "cases", "*", "*"))
+    for path in sorted(paths):
+        if os.path.isfile(path) and (path.endswith(".f") or "." not in os.path.basename(path)) and os.path.getsize(path) < 20000:
+            with open(path, "rb") as file:
+                yield file.read()
+
+
+def main():
+    parser = argparse.ArgumentParser(description=__doc__, formatter_class=argparse.RawDescriptionHelpFormatter)
+    parser.add_argument("program")
+    parser.add_argument("--save", default="hostile_found")
+    for name, value in [("count", 1000), ("seed", 1), ("from", 0), ("limit", 2000), ("seconds", 10), ("megabytes", 1024)]:
+        parser.add_argument("--" + name, type=int, default=value)
+    options = parser.parse_args()
+    runner, table, texts = Runner([options.program], options.seconds, options.megabytes), Table(options.save), list(dict.fromkeys(corpus()))
+    first = getattr(options, "from")
+    for number in range(first, first + options.count):
+        chance = random.Random(options.seed * 1000003 + number)
+        text = text_of(chance, texts)
+        try_text(runner, table, number, text, list(word_lists(chance, options.limit)))
+    table.show()
+    return 1 if table.found else 0
+
+
+if __name__ == "__main__":
+    sys.exit(main())
