@@ -1,7 +1,7 @@
 #!/usr/bin/env python3
 """Runs a built dfc on hostile texts, and looks for runs that break a rule.
 
-    python3 bench/hostile.py PROGRAM [--count N] [--seed S] [--from N] [--limit L] [--seconds T] [--megabytes M] [--save FOLDER]
+    python3 bench/hostile.py PROGRAM [--count N] [--seed S] [--from N] [--limit L] [--seconds T] [--megabytes M] [--save FOLDER] [--other OTHER]
 
 PROGRAM is a built dfc. A text is made by its number and the seed alone: a text of examples/ or cases/ with one to eight changes of its
 bytes, tokens, lines or labels; or one written at random, well formed for the most part; or, one in a hundred, a large one near the limits
@@ -15,6 +15,11 @@ a dialect and with data by chance, and with limit=L (2,000) where the job has a 
 - every job refuses alike, or none does;
 - runs of one dialect and one list of data that end (0) or trap (3) do so alike: the same trap, the same output, by picks and rewritten
   too; and the output of one that stopped at a limit is a prefix of that of one that ended.
+
+With --other, each run is made with that compiler of the language too, and both have to write the same and end alike, where neither wants for
+memory. As another compiler may read subroutines, texts with CALL, RETURN or SUBROUTINE are left out, and those that both refuse by BADORDER. As
+one may know the range of a DO variable in a subscript, so that fewer firings wait for the output, runs that tell of firings are left out of
+texts with arrays and DO.
 
 Prints each run that breaks one; saves its text under FOLDER (hostile_found) with the words; and last prints a table: texts, runs by
 status, refusals by code, the slowest run and the largest. The exit status is 1 where a rule was broken.
@@ -30,7 +35,8 @@ import sys
 from running import Runner, broken, last_line, refusal
 
 TOP = os.path.dirname(os.path.dirname(os.path.abspath(__file__)))
-NUMBERS = "0 1 2 3 7 -1 00 60 61 72 255 400 500 501 1023 1024 4000 4001 99999 100000 262144 262145 2147483647 2147483648 4294967296 99999999999999999999".split()
+NUMBERS = ("0 1 2 3 7 -1 00 60 61 72 255 400 500 501 1023 1024 4000 4001 99999 100000 262144 262145 2147483647 2147483648 4294967296 "
+           "99999999999999999999").split()
 TOKENS = ("I A P X IF ( ) (( )) , = + - * ** / : ' '' .LT. .AND. .NOT. .TRUE. .EQV. & $ END STOP ELSE END#IF CONTINUE GO#TO DO#10#I=1,2 "
           "IF(P)THEN IF(I)10,20,30 INTEGER LOGICAL COMMON DATA EQUIVALENCE(A,I) DIMENSION#A(2) IMPLICIT#NONE PROGRAM#P READ*,I PRINT*,I "
           "WRITE(*,*) MOD( MAX( ABS( SIGN( CALL#S SUBROUTINE#S RETURN REAL#X FORMAT(I5)").split()
@@ -119,7 +125,8 @@ class Writer:
     def declare(self):
         self.put("LOGICAL " + ",".join(self.truths))
         for name in ["A", "B", "C"][: self.chance.choice([0, 1, 1, 2, 3])]:
-            bounds = [(low, low + self.chance.choice([0, 1, 2, 4, 9])) for low in self.chance.choices([1, 1, 1, 0, -3], k=self.chance.choice([1, 1, 2, 3, 7]))]
+            lows = self.chance.choices([1, 1, 1, 0, -3], k=self.chance.choice([1, 1, 2, 3, 7]))
+            bounds = [(low, low + self.chance.choice([0, 1, 2, 4, 9])) for low in lows]
             self.arrays[name] = bounds
             self.put("INTEGER " + name + "(" + ",".join(f"{low}:{high}" if low != 1 else str(high) for low, high in bounds) + ")")
         if self.chance.random() < 0.25:
@@ -255,7 +262,8 @@ def sums(chance):
     """Long and deep expressions, shared ones among them."""
     terms = [chance.choice(["I", "J", "(I+J)", "I*J", "MAX(I,J)"]) for _ in range(chance.choice([60, 100, 126]))]
     deep = "(" * 60 + "I" + "+1)" * 60
-    return [("", "K=" + "+".join(terms)), ("", "K=" + deep)] * chance.choice([3, 1990]) + [("", "PRINT *" + ",I+J,K" * chance.choice([30, 83, 84]))]
+    body = [("", "K=" + "+".join(terms)), ("", "K=" + deep)] * chance.choice([3, 1990])
+    return body + [("", "PRINT *" + ",I+J,K" * chance.choice([30, 83, 84]))]
 
 
 def storage(chance):
@@ -263,13 +271,15 @@ def storage(chance):
     size = chance.choice([131072, 262143])
     pairs = [f"(A({k}),I{k})" for k in range(1, chance.choice([60, 500, 1015, 1030]))]
     chains = [("", "EQUIVALENCE " + ",".join(pairs[at: at + 50])) for at in range(0, len(pairs), 50)]
-    return [("", f"INTEGER A({size})")] + chains + [("", f"DATA A/{size}*7/"), ("", "A(I)=A(J)+1")] * chance.choice([0, 1]) + [("", "PRINT *,A(1),I1")]
+    body = [("", f"DATA A/{size}*7/"), ("", "A(I)=A(J)+1")] * chance.choice([0, 1])
+    return [("", f"INTEGER A({size})")] + chains + body + [("", "PRINT *,A(1),I1")]
 
 
 def lists(chance):
     """READ and PRINT with many items, in a loop."""
     count = chance.choice([130, 390])
-    return [("", "DO 10 I=1,50")] + [("", "READ *" + ",K" * count)] * 10 + [("", "PRINT *" + ",K" * count)] * chance.choice([10, 3900]) + [("10", "CONTINUE")]
+    body = [("", "READ *" + ",K" * count)] * 10 + [("", "PRINT *" + ",K" * count)] * chance.choice([10, 3900])
+    return [("", "DO 10 I=1,50")] + body + [("10", "CONTINUE")]
 
 
 def overlays(chance):
@@ -378,7 +388,21 @@ class Table:
         print(f"{self.found} runs broke a rule")
 
 
-def try_text(runner, table, number, text, lists):
+def differ(text, words, mine, theirs):
+    """How the answer of another compiler differs, or nothing."""
+    read = re.sub(rb"[ &]", b"", text).upper()
+    if 7 in (mine.status, theirs.status) or re.search(b"CALL|RETURN|SUBROUTINE", read):
+        return None
+    has_firings = words[0] in ("graph", "trace", "store") or 4 in (mine.status, theirs.status)
+    if has_firings and b"DO" in read and re.search(rb"(INTEGER|LOGICAL|DIMENSION|COMMON)[^=\n]*\(", read):
+        return None
+    told = refusal(mine), refusal(theirs)
+    if mine[:4] == theirs[:4] or all(it and it[1] == "BADORDER" for it in told):
+        return None
+    return f"status {mine.status}, {mine.end[-60:]!r}; the other has status {theirs.status}, {theirs.end[-60:]!r}"
+
+
+def try_text(runner, table, number, text, lists, other):
     """Runs one text under every job."""
     runner.put(text)
     runs, lines = [], text.count(b"\n") + (not text.endswith(b"\n") and text != b"")
@@ -387,6 +411,8 @@ def try_text(runner, table, number, text, lists):
         runs.append((words, answer))
         table.add(number, words, answer)
         rule = broken(words, answer, lines)
+        if other and not rule:
+            rule = differ(text, words, answer, runner.run(words, other))
         if rule:
             table.report(number, text, words, rule)
     table.texts, table.bytes = table.texts + 1, table.bytes + len(text)
@@ -410,15 +436,18 @@ def main():
     parser = argparse.ArgumentParser(description=__doc__, formatter_class=argparse.RawDescriptionHelpFormatter)
     parser.add_argument("program")
     parser.add_argument("--save", default="hostile_found")
+    parser.add_argument("--other")
     for name, value in [("count", 1000), ("seed", 1), ("from", 0), ("limit", 2000), ("seconds", 10), ("megabytes", 1024)]:
         parser.add_argument("--" + name, type=int, default=value)
     options = parser.parse_args()
-    runner, table, texts = Runner([options.program], options.seconds, options.megabytes), Table(options.save), list(dict.fromkeys(corpus()))
+    runner, table, texts = Runner(options.program, options.seconds, options.megabytes), Table(options.save), list(dict.fromkeys(corpus()))
     first = getattr(options, "from")
     for number in range(first, first + options.count):
         chance = random.Random(options.seed * 1000003 + number)
         text = text_of(chance, texts)
-        try_text(runner, table, number, text, list(word_lists(chance, options.limit)))
+        try_text(runner, table, number, text, list(word_lists(chance, options.limit)), options.other)
+        if number % 1000 == 999:
+            print(f"{table.texts} texts, {table.found} runs broke a rule", file=sys.stderr, flush=True)
     table.show()
     return 1 if table.found else 0
 

@@ -36,18 +36,18 @@ class Runner:
         with open(self.text, "wb") as file:
             file.write(text)
 
-    def started(self, words, output):
+    def started(self, program, words, output):
         """The number of a process that writes to `output`."""
         actions = [(os.POSIX_SPAWN_OPEN, 0, self.text, os.O_RDONLY, 0), (os.POSIX_SPAWN_DUP2, output, 1),
                    (os.POSIX_SPAWN_OPEN, 2, self.errors, os.O_WRONLY | os.O_CREAT | os.O_TRUNC, 0o600)]
-        pid = os.posix_spawn(self.program[0], self.program + words, os.environ, file_actions=actions)
+        pid = os.posix_spawn(program, [program] + words, os.environ, file_actions=actions)
         resource.prlimit(pid, resource.RLIMIT_CPU, (self.seconds, self.seconds + 1))
         return pid
 
-    def run(self, words):
-        """One run on the text that was put last."""
+    def run(self, words, program=None):
+        """One run on the text that was put last, of the program or of another one."""
         reading, writing = os.pipe()
-        pid = self.started(words, writing)
+        pid = self.started(program or self.program, words, writing)
         os.close(writing)
         begin, end, length, late = b"", b"", 0, False
         # Other work may hold the processor, so that the clock on the wall is no measure: it only ends a run that waits for ever.
