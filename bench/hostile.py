@@ -12,6 +12,7 @@ a dialect and with data by chance, and with limit=L (2,000) where the job has a 
 - the status is 0, 2, 3, 4 or 7, the last line fits it, and nothing is written to standard error;
 - a refusal is one line `REFUSED line CODE`, with a known code and a line of the text or the one after it, or of the rewriting's at line 0;
 - status 7 comes with nothing written;
+- invalid arguments, as one more run for each text has for the most part, give `USAGE` and status 1, and such as are no text status 8;
 - every job refuses alike, or none does;
 - runs of one dialect and one list of data that end (0) or trap (3) do so alike: the same trap, the same output, by picks and rewritten
   too; and the output of one that stopped at a limit is a prefix of that of one that ended.
@@ -327,6 +328,50 @@ def word_lists(chance, limit):
     yield ["run"] + most + data + dialect()
 
 
+def hostile_words(chance):
+    """Arguments that are valid or nearly so."""
+    limit = "limit=" + chance.choice(["0", "7", "99", "000000000000000010", "0000000000000000010", "", "-1", "+5", "1e3", " 5", "5 "])
+    picks = "picks=" + chance.choice(["0", "1,2", "999999999", "0000000001", "1,", ",1", "", "1,,2", "-1", "1 2", "7" * 9 + ",7"])
+    data = "data=" + chance.choice(["1", "-1,2", "2147483647", "2147483648", "-2147483648", "-2147483649", "0000000001", "00000000001", "-",
+                                    "--1", "1,", "", "+1", "1,2,3"])
+    words = [chance.choice(["fire", "trace", "store", "run", "graph", "regions", "regen", "fire", "run", "Fire", "fires", "sample", ""]),
+             *(word for word in (limit, picks, data, "checked") if chance.random() < 0.5)]
+    for _ in range(chance.choice([0, 0, 0, 1, 1, 2]) if words else 0):
+        words = words or [""]
+        at = chance.randrange(len(words))
+        words[at: at + 1] = chance.choice([[], [words[at]] * 2, [words[at].upper()], [words[at] + "\udcff"], [words[at], ""], [words[at] + "="],
+                                           [words[at], "checked"], [words[at][:-1]], list(reversed(words[at: at + 2])), ["x" * 100000]])
+    return words
+
+
+def is_number(text):
+    return re.fullmatch(r"-?[0-9]{1,10}", text) is not None and -2147483648 <= int(text) <= 2147483647
+
+
+def status_of_words(words):
+    """1 where the arguments ask for no job, 8 where they can't be read, else nothing."""
+    if any("\udcff" in word for word in words):
+        return 8
+    forms = [r"limit=[0-9]{1,18}", r"picks=[0-9]{1,9}(,[0-9]{1,9})*", r"data=.*", "checked"]
+    allowed = {"fire": forms, "trace": forms, "store": forms, "run": [forms[0], *forms[2:]]}.get(words[0] if words else "", forms[3:])
+    rest = words[1:]
+    for form in allowed:
+        taken = bool(rest) and re.fullmatch(form, rest[0], re.S) is not None
+        if taken and form == forms[2] and not all(is_number(part) for part in rest[0][5:].split(",")):
+            return 1
+        rest = rest[1:] if taken else rest
+    is_job = words and words[0] in ("fire", "trace", "store", "run", "graph", "regions", "regen")
+    return None if is_job and not rest else 1
+
+
+def broken_words(words, answer, lines):
+    """The rule that a run with arguments of any kind breaks, or nothing."""
+    due = status_of_words(words)
+    if due is None:
+        return broken(words, answer, lines)
+    return None if (answer.status, answer.begin) == (due, b"USAGE\n" if due == 1 else b"") else f"status {answer.status}, due {due}"
+
+
 def output_of(answer):
     """What the program itself wrote, where all of it was kept."""
     if answer.length != len(answer.begin):
@@ -375,7 +420,7 @@ class Table:
         path = os.path.join(self.folder, f"text_{number}")
         with open(path, "wb") as file, open(path + ".args", "w") as args:
             file.write(text)
-            args.write("\n".join(words) + "\n")
+            args.write("\n".join(words).encode("utf-8", "replace").decode() + "\n")
         print(f"text {number}, {' '.join(words)}: {rule}; saved as {path}", flush=True)
 
     def show(self):
@@ -402,8 +447,8 @@ def differ(text, words, mine, theirs):
     return f"status {mine.status}, {mine.end[-60:]!r}; the other has status {theirs.status}, {theirs.end[-60:]!r}"
 
 
-def try_text(runner, table, number, text, lists, other):
-    """Runs one text under every job."""
+def try_text(chance, runner, table, number, text, lists, other):
+    """Runs one text under every job, and once with arguments of any kind."""
     runner.put(text)
     runs, lines = [], text.count(b"\n") + (not text.endswith(b"\n") and text != b"")
     for words in lists:
@@ -415,6 +460,10 @@ def try_text(runner, table, number, text, lists, other):
             rule = differ(text, words, answer, runner.run(words, other))
         if rule:
             table.report(number, text, words, rule)
+    words = hostile_words(chance)
+    rule = broken_words(words, runner.run(words), lines)
+    if rule:
+        table.report(number, text, words, rule)
     table.texts, table.bytes = table.texts + 1, table.bytes + len(text)
     told = refusal(runs[0][1])
     table.codes[told[1] if told else "accepted"] += 1
@@ -445,7 +494,7 @@ def main():
     for number in range(first, first + options.count):
         chance = random.Random(options.seed * 1000003 + number)
         text = text_of(chance, texts)
-        try_text(runner, table, number, text, list(word_lists(chance, options.limit)), options.other)
+        try_text(chance, runner, table, number, text, list(word_lists(chance, options.limit)), options.other)
         if number % 1000 == 999:
             print(f"{table.texts} texts, {table.found} runs broke a rule", file=sys.stderr, flush=True)
     table.show()
