@@ -439,7 +439,7 @@ def differ(text, words, mine, theirs):
     if 7 in (mine.status, theirs.status) or re.search(b"CALL|RETURN|SUBROUTINE", read):
         return None
     has_firings = words[0] in ("graph", "trace", "store") or 4 in (mine.status, theirs.status)
-    if has_firings and b"DO" in read and re.search(rb"(INTEGER|LOGICAL|DIMENSION|COMMON)[^=\n]*\(", read):
+    if has_firings and b"DO" in read and re.search(rb"(INTEGER|LOGICAL|DIMENSION|COMMON)[^=]*\(", read):
         return None
     told = refusal(mine), refusal(theirs)
     if mine[:4] == theirs[:4] or all(it and it[1] == "BADORDER" for it in told):
