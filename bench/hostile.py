@@ -411,7 +411,8 @@ class Table:
         name = f"text {number}, {' '.join(words)}"
         self.statuses[answer.status] += 1
         self.slowest = max(self.slowest, (answer.seconds, name))
-        self.largest = max(self.largest, (answer.megabytes, name))
+        if answer.status != 7:
+            self.largest = max(self.largest, (answer.megabytes, name))
         self.longest = max(self.longest, (answer.length, name))
 
     def report(self, number, text, words, rule):
@@ -428,7 +429,7 @@ class Table:
         print("runs by status:", ", ".join(f"{status}: {count}" for status, count in sorted(self.statuses.items())))
         print("texts by refusal:", ", ".join(f"{count} {code}" for code, count in self.codes.most_common()))
         print("slowest run: %.2f s of the processor (%s)" % self.slowest)
-        print("largest run: %.0f MB in memory (%s)" % self.largest)
+        print("largest run, but for those of status 7: %.0f MB in memory (%s)" % self.largest)
         print("longest output: %d bytes (%s)" % self.longest)
         print(f"{self.found} runs broke a rule")
 
