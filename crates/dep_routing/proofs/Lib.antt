@@ -4,6 +4,7 @@ pub mod Repeats
 pub mod Circles
 pub mod Counting
 pub mod Cycles
+pub mod EdgeRowSteps
 pub mod Ending
 pub mod Flags
 pub mod Filling

@@ -8,6 +8,7 @@
 
 mod borders;
 mod branch_needs;
+mod edge_rows;
 mod facts;
 mod free;
 mod free_laws;
@@ -19,7 +20,6 @@ mod one_table;
 mod order;
 mod risk_laws;
 mod routing;
-mod row;
 mod rows;
 mod touch_laws;
 mod touched;

@@ -1,10 +1,9 @@
 //! The table of wires.
 
-ghost use Rattle.std.specs.Prelude.{◌≡◌, ◌<◌, ℕ, true, length};
+ghost use Rattle.std.specs.Prelude.{◌≡◌, ◌<◌, ℕ, true};
 ghost use Rattle.class_set.specs.ClassSet.{holds};
-ghost use Rattle.dep_routing.specs.LineTable.{led as led_in};
 
-use crate::row::Row;
+use crate::edge_rows::EdgeRows;
 use class_set::ClassSet;
 use std::marker::Model;
 
@@ -17,7 +16,7 @@ pub struct Lines<const W: usize> {
     pub(crate) wires: Vec<ClassSet<W>>,
     /// For each edge, where it is the entry of a region, the edge to which each line is led from it. From any other edge no line
     /// is led on.
-    pub(crate) next: Vec<Row>,
+    pub(crate) next: EdgeRows,
 }
 
 impl<const W: usize> Model for Lines<W> {
@@ -67,19 +66,6 @@ impl<const W: usize> Lines<W> {
         requires edge { edge < self.now.edges }
         ensures { result ≡ next_at self.now line edge }
     {
-        led(&self.next, line, edge)
-    }
-}
-
-/// The edge to which the line is led from the edge: what the row of the edge tells, or else the edge itself.
-pub(crate) fn led(rows: &Vec<Row>, line: u32, edge: u32) -> u32
-    requires { edge < length rows.now.items }
-    ensures { result ≡ led_in rows.now.items line edge }
-{
-    let row = rows[edge as usize].as_slice();
-    if (line as usize) < row.len() {
-        row[line as usize]
-    } else {
-        edge
+        self.next.led(line, edge)
     }
 }

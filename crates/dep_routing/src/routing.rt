@@ -20,7 +20,8 @@ use region_tree::RegionTree;
 use std::alloc::Global;
 
 /// The wires of the lines from 0 on, so many, and to which edges the lines are led. `touch` has the set of lines of each node. It takes
-/// four bytes for each region and line, and a set of lines for each edge.
+/// a set of lines for each edge, and for each region and each 16 lines four bytes, with 64 more where a node of the region touches one of
+/// the 16.
 pub fn route<const W: usize>(
     alloc: Global,
     g: &Digraph,

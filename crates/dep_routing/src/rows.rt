@@ -1,24 +1,26 @@
 //! The rows of the edges: of which lines each is a wire, and to which edges lines are led from it.
 
-ghost use Rattle.std.specs.Prelude.{◌≡◌, ◌<◌, ◌≤◌, ◌*◌, ◌&&◌, ℕ, true, length, slice_index, nat_lt, if◌then◌else◌, IfOk};
+ghost use Rattle.std.specs.Prelude.{◌≡◌, ◌<◌, ◌≤◌, ◌*◌, ◌&&◌, ℕ, true, length, replicate, slice_index, nat_lt, if◌then◌else◌, IfOk, IfSome, OnOk};
 ghost use Rattle.class_set.specs.ClassSet.{holds};
 ghost use Rattle.class_set.specs.Members.{IsWidth};
 ghost use Rattle.closed_walks.specs.Graph.{edge_count};
 ghost use Rattle.closed_walks.specs.Region.{IsFlowGraph};
 ghost use Rattle.region_tree.specs.Tree.{IsRegionTree, IsNumber, entry_of, exit_of};
-ghost use Rattle.dep_routing.specs.LineTable.{led as led_in};
+ghost use Rattle.dep_routing.specs.LineTable.{AreEdgeRows};
 ghost use Rattle.dep_routing.specs.Noise.{marks_of};
 ghost use Rattle.dep_routing.specs.Order.{IsOrder};
-ghost use Rattle.dep_routing.specs.Rows.{LeadOn, TellWires, is_noisy};
+ghost use Rattle.dep_routing.specs.Rows.{IsOneMore, LeadOn, TellWires, begun_row, is_noisy};
 ghost use Rattle.dep_routing.specs.Touch.{touches_in};
+ghost use Rattle.shared_rows.specs.Table.{numbered_rows, with_row};
 
+use crate::edge_rows::EdgeRows;
 use crate::facts::tree_facts;
-use crate::row::Row;
 use crate::touched::least_above;
 use class_set::ClassSet;
 use closed_walks::Digraph;
 use df_sequence::NoMemory;
 use region_tree::RegionTree;
+use shared_rows::SharedRows;
 use std::alloc::Global;
 
 /// For the entry of each region the edges to which the lines are led from it, and for any other edge no number. The exit of a region
@@ -30,57 +32,73 @@ pub(crate) fn next_rows<const W: usize>(
     order: &[u32],
     noisy: &Vec<ClassSet<W>>,
     lines: u32,
-) -> Result<Vec<Row>, NoMemory>
+) -> Result<EdgeRows, NoMemory>
     requires width { IsWidth W }
     requires order { IsOrder t.now order.now }
     requires exist { (r : ℕ) → IsNumber t.now r → (entry_of t.now r < edges) × (exit_of t.now r < edges) }
     requires size { length noisy.now.items ≡ length t.now.entries }
-    ensures count { IfOk result (λ rows. length rows.items ≡ edges) }
-    ensures next { IfOk result (λ rows. LeadOn t.now noisy.now.items edges lines rows.items) }
+    ensures rows { IfOk result (λ rows. AreEdgeRows edges lines rows) }
+    ensures next { IfOk result (λ rows. LeadOn t.now noisy.now.items edges lines (numbered_rows rows.table rows.row_of.items)) }
 {
-    let mut rows = empty_rows(alloc, edges)?;
+    let mut table = SharedRows::new(alloc, lines);
+    let mut row_of = no_rows(alloc, edges)?;
     for r in order {
         let (entry, exit) = (t.entry(*r), t.exit(*r));
-        let row = next_row(alloc, entry, exit, &noisy[*r as usize], &rows, lines)?;
-        rows[entry as usize] = row;
+        let row = table.len();
+        push_row(
+            &mut table,
+            row_of[exit as usize],
+            exit,
+            &noisy[*r as usize],
+            entry,
+        )?;
+        row_of[entry as usize] = Some(row);
     }
-    Ok(rows)
+    Ok(EdgeRows { table, row_of })
 }
 
-/// So many rows without a number.
-fn empty_rows(alloc: Global, edges: u32) -> Result<Vec<Row>, NoMemory>
-    ensures size { IfOk result (λ rows. length rows.items ≡ edges) }
-    ensures none { IfOk result (λ rows. (line e : ℕ) → led_in rows.items line e ≡ e) }
+/// So many edges without a row.
+fn no_rows(alloc: Global, edges: u32) -> Result<Vec<Option<u32>>, NoMemory>
+    ensures { IfOk result (λ row_of. row_of.items ≡ replicate edges None) }
 {
-    let mut rows = Vec::with_capacity(alloc, edges as usize)?;
-    for _edge in 0..edges {
-        rows.push(Row::new(alloc))?;
-    }
-    Ok(rows)
+    let mut row_of = Vec::with_capacity(alloc, edges as usize)?;
+    row_of.resize(edges as usize, None)?;
+    Ok(row_of)
 }
 
-/// The edges to which the lines are led from the entry of a region: a line that a node in it touches to no other, and each other
-/// one to where it is led from the exit.
-fn next_row<const W: usize>(
-    alloc: Global,
-    entry: u32,
-    exit: u32,
-    noisy: &ClassSet<W>,
-    rows: &Vec<Row>,
-    lines: u32,
-) -> Result<Row, NoMemory>
+/// Puts a row after the others: this number for the lines in the set, and for each other one what the other row has, or if there is none
+/// the other number.
+fn push_row<const W: usize>(
+    table: &mut SharedRows,
+    other: Option<u32>,
+    rest: u32,
+    set: &ClassSet<W>,
+    number: u32,
+) -> Result<(), NoMemory>
     requires width { IsWidth W }
-    requires exit { exit < length rows.now.items }
-    ensures size { IfOk result (λ row. length row ≡ lines) }
-    ensures cells { IfOk result (λ row. (line : ℕ) → line < lines → slice_index row line ≡ (if holds noisy.now line then entry else led_in rows.now.items line exit)) }
+    requires other { IfSome other (λ k. k < length table.old.rows) }
+    ensures { OnOk result (IsOneMore table.old table.new (λ line. if holds set.now line then number else slice_index (begun_row table.old other rest) line)) }
 {
-    let mut row = rows[exit as usize].copy_of_len(alloc, lines, exit)?;
-    let mut line = least_above(noisy, None, lines);
+    let row = table.len();
+    let lines = table.width();
+    begin_row(table, other, rest)?;
+    let mut line = least_above(set, None, lines);
     while line < lines {
-        row.set(line, entry);
-        line = least_above(noisy, Some(line), lines);
+        table.set(row, line, number)?;
+        line = least_above(set, Some(line), lines);
     }
-    Ok(row)
+    Ok(())
+}
+
+/// Puts a copy of the row after the others, or one that has this number for each line.
+fn begin_row(table: &mut SharedRows, other: Option<u32>, rest: u32) -> Result<(), NoMemory>
+    requires { IfSome other (λ k. k < length table.old.rows) }
+    ensures { OnOk result (table.new ≡ with_row table.old (begun_row table.old other rest)) }
+{
+    match other {
+        Some(row) => table.push_copy(row),
+        None => table.push_filled(rest),
+    }
 }
 
 /// For each edge the lines of which it is a wire: those that a node touches in the smallest region that holds its end, or all lines

@@ -1,3 +1,4 @@
 pub mod PartsView
 pub mod NetTables
 pub mod LookupView
+pub mod PlaceRowSteps

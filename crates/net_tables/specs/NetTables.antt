@@ -8,6 +8,8 @@ use Rattle.cfg_build.specs.Passes.{outs}
 use Rattle.net_board.specs.Nodes.{NetOf, graph_in, kind_in, touched, nodes_of, first_node}
 use Rattle.net_board.specs.ControlCourse.{arrival}
 use Rattle.net_board.specs.WokenNodes.{places}
+use Rattle.shared_rows.specs.Table.{AreThere, numbered_rows}
+use Rattle.net_tables.specs.declared.places.PlaceRows.{PlaceRows}
 use Rattle.net_tables.specs.declared.tables.Tables.{Tables}
 
 abbrev pub all_pieces : NetOf → List ℕ
@@ -27,6 +29,12 @@ kept_by net piece _ = []
 abbrev pub kept_places : NetOf → ℕ → List ℕ
 kept_places net piece = kept_by net piece (kind_in net piece)
 
+-- the nodes that lines go through, for the pieces that have a row
+pub record ArePlaceRows (net : NetOf) (rows : PlaceRows) : Type 0 where
+  pub wide : rows.table.width ≡ net.routing.lines
+  pub there : AreThere rows.table rows.row_of.items
+  pub places : numbered_rows rows.table rows.row_of.items ≡ map (kept_places net) (all_pieces net)
+
 -- the tables tell the nodes of the net, and of its pieces and edges what firings look up
 pub record AreTables (net : NetOf) (t : Tables) : Type 0 where
   pub names : t.names.items ≡ nodes_of net
@@ -36,4 +44,4 @@ pub record AreTables (net : NetOf) (t : Tables) : Type 0 where
   pub touched : t.touched.items ≡ map (touched net) (all_pieces net)
   pub outs : t.outs.items ≡ map (outs (graph_in net)) (all_pieces net)
   pub arrivals : t.arrivals.items ≡ map (arrival net) (all_edges net)
-  pub places : t.places.items ≡ map (kept_places net) (all_pieces net)
+  pub places : ArePlaceRows net t.places

@@ -7,7 +7,6 @@ mod lookups;
 mod new_board;
 mod places;
 mod program_parts;
-mod row;
 mod tables;
 mod token_lines;
 

@@ -111,11 +111,9 @@ impl<'a, const W: usize> Board<'a, W> {
         requires line { line < self.now.plan.routes.now.lines }
         ensures { place_of (net_on self.now) piece line < no_node (net_on self.now) → result ≡ place_of (net_on self.now) piece line }
     {
-        let row = self.tables.places[piece as usize].as_slice();
-        if (line as usize) < row.len() {
-            row[line as usize]
-        } else {
-            self.first(piece)
+        match self.tables.places.row_of[piece as usize] {
+            Some(row) => self.tables.places.table.get(row, line),
+            None => self.first(piece),
         }
     }
 }

@@ -13,9 +13,8 @@ ghost use Rattle.net_board.specs.Simulation.{HasExecs};
 ghost use Rattle.net_tables.specs.NetTables.{AreTables, all_edges, all_pieces};
 ghost use Rattle.net_tables.specs.PartsView.{net_in};
 
-use crate::places::all_places;
+use crate::places::{PlaceRows, all_places};
 use crate::program_parts::Plan;
-use crate::row::Row;
 use cfg_build::PieceKind;
 use class_set::ClassSet;
 use closed_walks::Digraph;
@@ -40,7 +39,7 @@ pub(crate) struct Tables {
     pub(crate) arrivals: Vec<u32>,
     /// For each piece that can have switches or merges, for each line the node of the piece that the line goes through, or the
     /// number of all nodes. The list of any other piece is empty.
-    pub(crate) places: Vec<Row>,
+    pub(crate) places: PlaceRows,
 }
 
 /// The tables of a net. More nodes than can be numbered are allocation failure.

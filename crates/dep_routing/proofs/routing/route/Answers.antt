@@ -1,6 +1,7 @@
 use Rattle.std.proofs.Common.{◌≡◌, ◌↔◌, ℕ, Bool, true, false, length, refl, sym, subst, arith}
 use Rattle.closed_walks.specs.Graph.{edge_count}
 use Rattle.dep_routing.specs.LineTable.{led}
+use Rattle.shared_rows.specs.Table.{numbered_rows}
 use Rattle.dep_routing.specs.Next.{Next}
 use Rattle.dep_routing.specs.Noise.{AreNoisy, marks_of}
 use Rattle.dep_routing.specs.Facts.{TreeFacts}
@@ -15,7 +16,7 @@ returns-clause-routing g c =
     let t = c.args.t.now in
     let touches = touches_in c.args.touch.now in
     let wires = c.in_ok-wires.wires.items in
-    let rows = c.in_ok-next.next.items in
+    let rows = numbered_rows c.in_ok-next.next.table c.in_ok-next.next.row_of.items in
     let edges = length wires in
     let noisy = c.in_ok-noisy.noisy.items in
     let f : TreeFacts graph t = c.tree_facts.ensures graph t c.requires.flow c.requires.tree in
@@ -37,8 +38,8 @@ returns-clause-rows g c =
     let wires = c.in_ok-wires.wires.items in
     let edges = length wires in
     record {
-      next = rows_length edges c.args.lines (led c.in_ok-next.next.items);
-      next_cells = λ e edge. cells_length edges c.args.lines (led c.in_ok-next.next.items) e edge;
+      next = rows_length edges c.args.lines (led (numbered_rows c.in_ok-next.next.table c.in_ok-next.next.row_of.items));
+      next_cells = λ e edge. cells_length edges c.args.lines (led (numbered_rows c.in_ok-next.next.table c.in_ok-next.next.row_of.items)) e edge;
       wires = rows_length edges c.args.lines (λ line e. touches_in wires e line);
       wire_cells = λ e edge. cells_length edges c.args.lines (λ line k. touches_in wires k line) e edge;
     }

@@ -2,11 +2,13 @@ use Rattle.std.proofs.Common.{◌≡◌, ◌+◌, ◌-◌, get_or}
 use Rattle.class_set.specs.ClassSet.{holds}
 use Rattle.dep_routing.proofs.Filling.{IsFilling}
 use Rattle.net_board.specs.WokenNodes.{passing_below}
+use Rattle.shared_rows.specs.Table.{row_at, with_row_at}
 use Rattle.net_tables.proofs.places.number_lines.Given as goal
 
 abbrev pub invariant-loop-line : goal.invariant-loop-line
 invariant-loop-line g l = record {
-  row : IsFilling (holds l.set) (λ k. l.first + passing_below (holds l.set) k) (λ k. get_or l.initial.row k 0) l.lines l.line l.row;
+  is : l.table ≡ with_row_at l.fn.table l.row (row_at l.table l.row);
+  filling : IsFilling (holds l.set) (λ k. l.first + passing_below (holds l.set) k) (λ k. get_or (row_at l.fn.table l.row) k 0) l.lines l.line (row_at l.table l.row);
   next : l.next ≡ l.first + passing_below (holds l.set) l.line;
 }
 

@@ -1,19 +1,21 @@
-use Rattle.std.proofs.Common.{get_or, refl}
+use Rattle.std.proofs.Common.{get_or}
 use Rattle.class_set.specs.ClassSet.{holds}
-use Rattle.dep_routing.proofs.Filling.{IsFilling-begin, IsFilling-more, IsFilling-end}
+use Rattle.dep_routing.proofs.Filling.{IsFilling-more}
+use Rattle.shared_rows.specs.Table.{row_at}
+use Rattle.net_tables.proofs.PlaceRows.{is_next, row_next}
 use Rattle.net_tables.proofs.places.write_at_lines.Goals as goal
-
-pub loop-line-init : goal.loop-line-init
-loop-line-init g c =
-    let e = c.least_above-line.ensures in
-    IsFilling-begin (holds c.args.set.now) (λ _. c.args.number) (λ k. get_or c.args.row.now k 0) c.args.lines c.args.row.now c.requires.size (λ k low. refl)
-    c.least_above-line.result e.within (λ more. (e.member more).0) (λ k below. e.none k tt below)
 
 pub loop-line-preserved : goal.loop-line-preserved
 loop-line-preserved g c =
+    let t = c.args.table.now in
+    let k = c.args.row in
+    let now = c.loop-line.table in
+    let line = c.loop-line.line in
+    let i = c.loop-line.invariant in
     let next = c.least_above-line-in-loop-line.result in
     let e = c.least_above-line-in-loop-line.ensures in
-    rw c.set.ensures (IsFilling-more (holds c.args.set.now) (λ _. c.args.number) (λ k. get_or c.args.row.now k 0) c.args.lines c.loop-line.line c.loop-line.row c.loop-line-test.true c.loop-line.invariant next e.within e.member e.none)
-
-pub returns-clause-cells : goal.returns-clause-cells
-returns-clause-cells g c = IsFilling-end (holds c.args.set.now) (λ _. c.args.number) (λ k. get_or c.args.row.now k 0) c.args.lines c.loop-line.line c.loop-line.row c.loop-line-test.false c.loop-line.invariant
+    record {
+      is = is_next t k c.requires.row now c.set.new.self line c.args.number i.is c.in_ok-set.ensures.ok;
+      filling = rw (row_next t k c.requires.row now c.set.new.self line c.args.number i.is c.in_ok-set.ensures.ok)
+          (IsFilling-more (holds c.args.set.now) (λ _. c.args.number) (λ j. get_or (row_at t k) j 0) c.width-lines.result line (row_at now k) c.loop-line-test.true i.filling next e.within e.member e.none);
+    }

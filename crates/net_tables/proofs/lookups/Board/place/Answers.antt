@@ -1,31 +1,38 @@
-use Rattle.std.proofs.Common.{◌≡◌, ◌<◌, ◌∙◌, List, ℕ, get_or, arith}
-use Rattle.net_board.specs.Nodes.{graph_in}
-use Rattle.net_tables.specs.declared.lookups.Board.{Board}
+use Rattle.std.proofs.Common.{◌∙◌, [], sym, ap, arith}
+use Rattle.shared_rows.specs.Table.{numbered_row, row_at}
 use Rattle.net_tables.specs.LookupView.{net_on}
-use Rattle.net_tables.specs.NetTables.{kept_places}
+use Rattle.net_tables.proofs.PlaceRows.{numbers_length, told_row, told_there}
 use Rattle.net_tables.proofs.PlacesLemmas.{kept_cell, kept_first}
-use Rattle.net_tables.proofs.TableLemmas.{mapped_length, mapped_at}
 use Rattle.net_tables.proofs.lookups.Board.place.Goals as goal
 
 pub index-requires : goal.index-requires
 index-requires g c =
-    let net = net_on c.args.self.now in
-    let count = mapped_length (kept_places net) c.args.self.now.tables.places.items (graph_in net).nodes c.args.self.now.own_tables.places in
-    omega (arith, count, c.requires.piece)
+    let rows = c.args.self.now.tables.places in
+    let count = numbers_length (net_on c.args.self.now) rows.table rows.row_of.items c.args.self.now.own_tables.places.places in
+    let exists = c.requires.piece in
+    omega (arith, count, exists)
 
-row_is : {W : ℕ} (board : Board W) (piece : ℕ) (kept row : List ℕ) → piece < (graph_in (net_on board)).nodes → kept ≡ get_or board.tables.places.items piece kept → row ≡ kept → row ≡ kept_places (net_on board) piece
-row_is board piece kept row exists at is =
-    let net = net_on board in
-    is ∙ at ∙ mapped_at (kept_places net) board.tables.places.items (graph_in net).nodes piece kept board.own_tables.places exists
+pub get-requires-clause-row : goal.get-requires-clause-row
+get-requires-clause-row g c =
+    let rows = c.args.self.now.tables.places in
+    told_there (net_on c.args.self.now) rows.table rows.row_of.items c.args.self.now.own_tables.places.places c.args.piece c.in-Some.row c.index.result.now c.args.self.now.own_tables.places.there c.requires.piece c.index.ensures c.in-Some.is
 
-pub returns-then-line-row : goal.returns-then-line-row
-returns-then-line-row g c = λ node.
-    let net = net_on c.args.self.now in
-    let row = row_is c.args.self.now c.args.piece c.index.result.now c.as_slice-row.result.now c.requires.piece c.index.ensures c.as_slice-row.ensures in
-    kept_cell net c.args.piece c.as_slice-row.result.now c.args.line row c.if-line-row.true
+pub get-requires-clause-column : goal.get-requires-clause-column
+get-requires-clause-column g c =
+    let wide = c.args.self.now.own_tables.places.wide in
+    let line = c.requires.line in
+    omega (arith, wide, line)
 
-pub returns-else-line-row : goal.returns-else-line-row
-returns-else-line-row g c = λ node.
+pub returns-in-Some : goal.returns-in-Some
+returns-in-Some g c = λ node.
     let net = net_on c.args.self.now in
-    let row = row_is c.args.self.now c.args.piece c.index.result.now c.as_slice-row.result.now c.requires.piece c.index.ensures c.as_slice-row.ensures in
-    c.first.ensures ∙ kept_first net c.args.piece c.as_slice-row.result.now c.args.line row c.if-line-row.false c.requires.line node
+    let rows = c.args.self.now.tables.places in
+    let told = told_row net rows.table rows.row_of.items c.args.self.now.own_tables.places.places c.args.piece c.index.result.now c.requires.piece c.index.ensures in
+    c.get.ensures.number ∙ kept_cell net c.args.piece (row_at rows.table c.in-Some.row) c.args.line (sym (ap (numbered_row rows.table) c.in-Some.is) ∙ told) c.get.ensures.within
+
+pub returns-in-None : goal.returns-in-None
+returns-in-None g c = λ node.
+    let net = net_on c.args.self.now in
+    let rows = c.args.self.now.tables.places in
+    let told = told_row net rows.table rows.row_of.items c.args.self.now.own_tables.places.places c.args.piece c.index.result.now c.requires.piece c.index.ensures in
+    c.first.ensures ∙ kept_first net c.args.piece [] c.args.line (sym (ap (numbered_row rows.table) c.in-None.is) ∙ told) (omega arith) c.requires.line node

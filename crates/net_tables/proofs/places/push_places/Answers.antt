@@ -1,6 +1,5 @@
-use Rattle.std.proofs.Common.{◌≡◌, ⊎_elim, ℕ, suc, List, map, refl, sym, ap, ◌∙◌, arith}
+use Rattle.std.proofs.Common.{◌≡◌, ⊎_elim, ℕ, suc, map, refl, sym, ap, ◌∙◌, arith}
 use Rattle.std.proofs.lemmas.List.{length-map}
-use Rattle.std.proofs.lemmas.Result.{IfOk-weaker}
 use Rattle.cfg_build.specs.declared.pieces.PieceKind.TheVariants as kind
 use Rattle.cfg_build.specs.Flow.{flow}
 use Rattle.firing.specs.declared.system.NodeName.TheVariants.{Merge, Switch}
@@ -10,10 +9,10 @@ use Rattle.net_tables.specs.PartsView.{net_in}
 use Rattle.net_tables.specs.NetTables.{kept_places}
 use Rattle.net_tables.proofs.PlacesLemmas.{kept_as, switch_room, merge_room}
 use Rattle.net_tables.proofs.TableLemmas.{kind_told}
-use Rattle.net_tables.proofs.places.places.Goals as goal
+use Rattle.net_tables.proofs.places.push_places.Goals as goal
 
-pub places_at_switches-requires : goal.places_at_switches-requires
-places_at_switches-requires g c =
+pub push_switch_places-requires : goal.push_switch_places-requires
+push_switch_places-requires g c =
     let net = net_in c.args.plan.now in
     let told = kind_told c.args.plan.now.flow.now (flow c.args.plan.now.program.now.execs) c.args.piece c.piece.result c.args.plan.now.own_flow c.piece.ensures in
     let one = ap suc (length-map (passing net c.args.piece) (Switch c.args.piece)) in
@@ -23,10 +22,10 @@ places_at_switches-requires g c =
     c.in-Branch.is
     in
     let fits = c.ranges.none.fits in
-    (omega arith, (c.requires.piece, (c.requires.first, (c.requires.none, omega (arith, few, fits, c.requires.none)))))
+    (omega arith, (c.requires.piece, (c.requires.first, (c.requires.none, (c.requires.blank, omega (arith, few, fits, c.requires.none))))))
 
-pub places_at_merges-requires : goal.places_at_merges-requires
-places_at_merges-requires g c =
+pub push_merge_places-requires : goal.push_merge_places-requires
+push_merge_places-requires g c =
     let net = net_in c.args.plan.now in
     let told = kind_told c.args.plan.now.flow.now (flow c.args.plan.now.program.now.execs) c.args.piece c.piece.result c.args.plan.now.own_flow c.piece.ensures in
     let one = length-map (led_to net c.args.piece) (Merge c.args.piece) in
@@ -36,7 +35,7 @@ places_at_merges-requires g c =
     c.in-Join.is
     in
     let fits = c.ranges.none.fits in
-    (omega arith, (c.requires.piece, (c.requires.first, (c.requires.none, omega (arith, few, fits, c.requires.none)))))
+    (omega arith, (c.requires.piece, (c.requires.first, (c.requires.none, (c.requires.blank, omega (arith, few, fits, c.requires.none))))))
 
 pub returns-in-Branch : goal.returns-in-Branch
 returns-in-Branch g c =
@@ -47,11 +46,7 @@ returns-in-Branch g c =
     (λ (e : c.piece.result.kind ≡ kind.Hold). kept_as net c.args.piece kind.Hold (sym told ∙ e) refl)
     c.in-Branch.is
     in
-    IfOk-weaker c.places_at_switches.result
-    (λ (list : List ℕ). list ≡ map (λ (line : ℕ). place_by net c.args.piece line kind.Branch) (all_lines net))
-    (λ (list : List ℕ). list ≡ kept_places net c.args.piece)
-    (λ (list : List ℕ) (is : list ≡ map (λ (line : ℕ). place_by net c.args.piece line kind.Branch) (all_lines net)). is ∙ row)
-    c.places_at_switches.ensures
+    rw (← row) c.push_switch_places.ensures
 
 pub returns-in-Join : goal.returns-in-Join
 returns-in-Join g c =
@@ -62,8 +57,4 @@ returns-in-Join g c =
     (λ (e : c.piece.result.kind ≡ kind.End). kept_as net c.args.piece kind.End (sym told ∙ e) refl)
     c.in-Join.is
     in
-    IfOk-weaker c.places_at_merges.result
-    (λ (list : List ℕ). list ≡ map (λ (line : ℕ). place_by net c.args.piece line kind.Join) (all_lines net))
-    (λ (list : List ℕ). list ≡ kept_places net c.args.piece)
-    (λ (list : List ℕ) (is : list ≡ map (λ (line : ℕ). place_by net c.args.piece line kind.Join) (all_lines net)). is ∙ row)
-    c.places_at_merges.ensures
+    rw (← row) c.push_merge_places.ensures
