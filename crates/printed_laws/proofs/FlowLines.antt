@@ -1,7 +1,6 @@
 -- The lines of pieces, edges and regions, as both sides write them.
-use Rattle.std.proofs.Common.{◌≡◌, ℕ, zero, suc, ◌+◌, List, [], ◌∷◌, ◌++◌, map, flat_map, codes, refl, ap, sym, ◌∙◌, append_assoc, arith}
+use Rattle.std.proofs.Common.{◌≡◌, ℕ, ◌+◌, List, [], ◌∷◌, ◌++◌, codes, refl, ap, ◌∙◌}
 use Rattle.std.specs.Fmt.{decimal}
-use Rattle.std.specs.List.{range_with_len}
 use Rattle.cfg_build.specs.declared.pieces.Piece.{Piece}
 use Rattle.cfg_build.specs.declared.pieces.PieceKind.{PieceKind}
 use Rattle.cfg_build.specs.declared.pieces.PieceKind.TheVariants.{Start, Act, Pass, Branch, Join, Hold, End}
@@ -13,7 +12,8 @@ use Rattle.printed_graphs.specs.declared.flow.PieceKind.TheVariants as kind
 use Rattle.printed_graphs.specs.declared.flow.Region.{Region}
 use Rattle.printed_graphs.specs.Names.{kind_text}
 use Rattle.printed_graphs.specs.FlowText.{piece_text, edge_text, region_text}
-use Rattle.printed_graphs.specs.Words.{field_text, lines_from}
+use Rattle.printed_graphs.specs.Words.{field_text}
+use Rattle.printed_laws.proofs.Lines.{apart}
 
 abbrev pub kind_of : PieceKind → printed_kind.PieceKind
 kind_of Start = kind.Start
@@ -42,10 +42,6 @@ edge_of a b c = record { from = a; to = b; class = c }
 abbrev pub region_of : (a b c : ℕ) → Region
 region_of a b c = record { entry = a; exit = b; parent = c }
 
--- a blank by itself
-apart : (xs ys : List ℕ) → xs ++ 32 ∷ ys ≡ xs ++ 32 ∷ [] ++ ys
-apart xs ys = sym (append_assoc xs (32 ∷ []) ys)
-
 three_apart : (xs a b c : List ℕ) → xs ++ (32 ∷ a) ++ (32 ∷ b) ++ (32 ∷ c) ≡ xs ++ 32 ∷ [] ++ a ++ 32 ∷ [] ++ b ++ 32 ∷ [] ++ c
 three_apart xs a b c =
     apart (xs ++ (32 ∷ a) ++ (32 ∷ b)) c
@@ -63,10 +59,3 @@ pub region_same : (place r a b c : ℕ) → place + 1 ≡ r → region_text plac
 region_same place r a b c is =
     ap (λ n. codes "R " ++ decimal n ++ field_text a ++ field_text b ++ field_text c ++ (10 ∷ [])) is
     ∙ ap (λ r. r ++ (10 ∷ [])) (three_apart (codes "R " ++ decimal r) (decimal a) (decimal b) (decimal c))
-
--- lines of values with their places, and lines of numbers that stand so far above the places
-pub lines_same : {A : Type 0} (line : ℕ → A → List ℕ) (f : ℕ → A) (g : ℕ → List ℕ) (shift a b n : ℕ) → a + shift ≡ b → ((i k : ℕ) → i + shift ≡ k → line i (f k) ≡ g k) → lines_from line a (map f (range_with_len b n)) ≡ flat_map g (range_with_len b n)
-lines_same line f g shift a b zero at same = refl
-lines_same line f g shift a b (suc n) at same =
-    ap (λ r. line a (f b) ++ r) (lines_same line f g shift (a + 1) (b + 1) n (omega arith) same)
-    ∙ ap (λ l. l ++ flat_map g (range_with_len (b + 1) n)) (same a b at)

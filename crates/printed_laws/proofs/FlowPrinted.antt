@@ -1,8 +1,8 @@
 -- The value whose text tells the regions.
-use Rattle.std.proofs.Common.{◌≡◌, ℕ, ◌+◌, ◌-◌, ◌<◌, ◌≤◌, ◌^◌, List, [], ◌++◌, length, map, slice_index, All, Some, None, ap, sym, ◌∙◌, subst, append-nil, ⊎_elim, arith}
+use Rattle.std.proofs.Common.{◌≡◌, ℕ, ◌+◌, ◌-◌, ◌<◌, ◌≤◌, ◌^◌, List, [], ◌++◌, length, map, slice_index, Some, None, ap, sym, ◌∙◌, subst, append-nil, ⊎_elim, arith}
 use Rattle.std.proofs.Math.Nat.{lt_trans, lt_of_le_of_lt}
 use Rattle.std.specs.List.{range_with_len}
-use Rattle.std.proofs.lemmas.List.FromFn.{length-map-range_with_len, get_or-map-range_with_len}
+use Rattle.std.proofs.lemmas.List.FromFn.{length-map-range_with_len}
 use Rattle.closed_walks.specs.Graph.{Graph, IsGraph, edge_count, from, to}
 use Rattle.closed_walks.specs.Numbering.{fresh, IsNumbering}
 use Rattle.cfg_build.specs.Joined.{FlowGraph}
@@ -19,8 +19,9 @@ use Rattle.printed_graphs.specs.Printable.{IsPrintableFlow, IsPrintablePiece, Is
 use Rattle.printed_graphs.specs.Words.{lines_from}
 use Rattle.printed_laws.specs.ShortFlow.{IsShortFlow}
 use Rattle.printed_laws.proofs.ClassBounds.{class_most, classes_few, regions_few}
-use Rattle.printed_laws.proofs.Rows.{vec_of, the_heap}
-use Rattle.printed_laws.proofs.FlowLines.{piece_of, edge_of, region_of, piece_same, edge_same, region_same, lines_same}
+use Rattle.printed_laws.proofs.FlowLines.{piece_of, edge_of, region_of, piece_same, edge_same, region_same}
+use Rattle.printed_laws.proofs.Lines.{all_made, all_made_below, lines_same}
+use Rattle.printed_laws.proofs.Rows.{vec_of, the_heap, short_is_small}
 
 abbrev piece_in_flow : FlowGraph → ℕ → Piece
 piece_in_flow f k = piece_of (piece_at f.pieces k)
@@ -59,17 +60,17 @@ flow_of f classes t small = record {
 pieces_told : (f : FlowGraph) → lines_from piece_text 0 (pieces_of f) ≡ piece_lines f.pieces (length f.pieces)
 pieces_told f =
     lines_same piece_text (piece_in_flow f) (λ k. piece_line k (piece_at f.pieces k)) 0 0 0 (length f.pieces) (omega arith)
-    (λ i k at. let same : i ≡ k = omega (arith, at) in ap (λ n. piece_text n (piece_in_flow f k)) same ∙ piece_same k (piece_at f.pieces k))
+    (λ i k at low lt. let same : i ≡ k = omega (arith, at) in ap (λ n. piece_text n (piece_in_flow f k)) same ∙ piece_same k (piece_at f.pieces k))
 
 edges_told : (g : Graph) (classes : List ℕ) → lines_from edge_text 0 (edges_of g classes) ≡ edge_lines g classes (edge_count g)
 edges_told g classes =
     lines_same edge_text (edge_in g classes) (λ e. edge_line e (from g e) (to g e) (slice_index classes e)) 0 0 0 (edge_count g) (omega arith)
-    (λ i k at. let same : i ≡ k = omega (arith, at) in ap (λ n. edge_text n (edge_in g classes k)) same ∙ edge_same k (from g k) (to g k) (slice_index classes k))
+    (λ i k at low lt. let same : i ≡ k = omega (arith, at) in ap (λ n. edge_text n (edge_in g classes k)) same ∙ edge_same k (from g k) (to g k) (slice_index classes k))
 
 regions_told : (t : Tree) → lines_from region_text 0 (regions_of t) ≡ region_lines t (region_count t)
 regions_told t =
     lines_same region_text (region_in t) (λ r. region_line r (entry_of t r) (exit_of t r) (parent_of t r)) 1 0 1 (region_count t) (omega arith)
-    (λ i k at. region_same i k (entry_of t k) (exit_of t k) (parent_of t k) at)
+    (λ i k at low lt. region_same i k (entry_of t k) (exit_of t k) (parent_of t k) at)
 
 counts_told : (a b c d p e r : ℕ) → a ≡ p → b ≡ e → d ≡ r → counts_text a b c d ≡ counts_line p e c r
 counts_told a b c d p e r one two three = ap (λ n. counts_text n b c d) one ∙ ap (λ n. counts_text p n c d) two ∙ ap (λ n. counts_text p e c n) three
@@ -88,12 +89,6 @@ flow_told f classes t small =
     ∙ ap (λ l. counts_line (length f.pieces) (edge_count f.graph) (fresh classes) (region_count t) ++ piece_lines f.pieces (length f.pieces) ++ edge_lines f.graph classes (edge_count f.graph) ++ l) (regions_told t)
 
 -- ---- its numbers
-
-all_made : {X : Type 0} (P : X → Type 0) (f : ℕ → X) (a n : ℕ) → ((k : ℕ) → a ≤ k → k < a + n → P (f k)) → All P (map f (range_with_len a n))
-all_made P f a n each k d lt =
-    let long = length-map-range_with_len f a n in
-    let within : k < n = omega (arith, lt, long) in
-    subst P (sym (get_or-map-range_with_len f a n k (a + k) d within (omega arith))) (each (a + k) (omega arith) (omega (arith, within)))
 
 -- A flow graph with its classes and regions, all of whose numbers are below a bound.
 record Fits (f : FlowGraph) (classes : List ℕ) (t : Tree) (top : ℕ) : Type 0 where
@@ -120,9 +115,6 @@ below_next a n m lt le = omega arith
 
 count_most : (n m : ℕ) → n ≤ m + 1 → n - 1 ≤ m
 count_most n m le = omega arith
-
-from_zero : (n k : ℕ) → k < 0 + n → k < n
-from_zero n k lt = omega (arith, lt)
 
 region_below : (n k : ℕ) → 0 < n → k < 1 + (n - 1) → k < n
 region_below n k some lt = omega arith
@@ -162,9 +154,6 @@ flow_few f classes t fits =
       regions = subst (λ n. n < 2 ^ 32) (sym (length-map-range_with_len (region_in t) 1 (region_count t))) (lt_of_le_of_lt (count_most (length t.entries) (edge_count f.graph) few) fits.edges);
     }
 
-short_is_small : 2 ^ 32 < 2 ^ 63
-short_is_small = omega arith
-
 flow_small : (f : FlowGraph) (classes : List ℕ) (t : Tree) → AreFew f classes t → IsSmall f classes t
 flow_small f classes t few = record { pieces = lt_trans few.pieces short_is_small; edges = lt_trans few.edges short_is_small; regions = lt_trans few.regions short_is_small }
 
@@ -177,8 +166,8 @@ flow_fits f classes t small short fits =
       few_pieces = few.pieces;
       few_edges = few.edges;
       few_regions = few.regions;
-      pieces = all_made IsPrintablePiece (piece_in_flow f) 0 (length f.pieces) (λ k low lt. short.lines k (from_zero (length f.pieces) k lt));
-      edges = all_made IsPrintableEdge (edge_in f.graph classes) 0 (edge_count f.graph) (λ k low lt. edge_fits f classes t k fits (from_zero (edge_count f.graph) k lt));
+      pieces = all_made_below IsPrintablePiece (piece_in_flow f) (length f.pieces) short.lines;
+      edges = all_made_below IsPrintableEdge (edge_in f.graph classes) (edge_count f.graph) (λ k lt. edge_fits f classes t k fits lt);
       regions = all_made IsPrintableRegion (region_in t) 1 (region_count t) (λ k low lt. region_fits f classes t k fits low (region_below (length t.entries) k some lt));
     }
 

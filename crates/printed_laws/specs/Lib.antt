@@ -1,1 +1,3 @@
 pub mod ShortFlow
+pub mod ShortNet
+pub mod ShortProgram

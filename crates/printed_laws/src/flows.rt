@@ -1,8 +1,8 @@
 //! Flow graphs as they are made.
 
-ghost use Rattle.std.specs.Prelude.{◌<◌, ◌^◌};
 ghost use Rattle.printed_laws.specs.ShortFlow.{IsShortFlow};
 
+use crate::numbers::stays_short;
 use cfg_build::Flow;
 
 /// Each flow graph that is made has edges and lines that are counted in 32 bits.
@@ -14,8 +14,3 @@ pub fn flows_are_short(flow: &Flow)
         stays_short(flow.piece(k).line);
     }
 }
-
-// What a line that is counted in 32 bits tells.
-fn stays_short(line: u32)
-    ensures { line < 2 ^ 32 }
-{}
