@@ -1,0 +1,4 @@
+pub mod Linear
+pub mod Plain
+pub mod Seen
+pub mod Subscripts

@@ -1,0 +1,4 @@
+pub mod Marks
+pub mod Ranges
+pub mod Reaches
+pub mod Shapes
