@@ -1,4 +1,4 @@
-//! Tests of the crates that stand on no program: lists, bytes, operators, sets of lines, graphs and nets. They go over
+//! Tests of the crates that stand on no program: lists, bytes, operators, sets of lines, shared rows, graphs and nets. They go over
 //! public calls alone, and stand apart because a crate that has tests is proved a second time with them.
 #![tactic(auto)]
 
@@ -12,5 +12,7 @@ mod lists;
 mod nets;
 #[cfg(test)]
 mod operators;
+#[cfg(test)]
+mod rows;
 #[cfg(test)]
 mod sets;
