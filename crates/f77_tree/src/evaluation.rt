@@ -44,6 +44,7 @@ pub fn evaluate(
 /// The word of the store that an access names. Its subscripts are evaluated and checked one after another, from left to
 /// right (ANSI X3.9-1978, section 5.4). It takes no memory.
 #[cycle(evaluation)]
+#[inline(always)]
 pub fn locate(
     access: &Access,
     names: &NameInfoList,

@@ -108,6 +108,7 @@ pub fn arity(op: Op) -> u32
 
 /// The value of an operator at its operands, or its trap. There are as many operands as `arity` says. A power takes
 /// at most 62 products.
+#[inline(always)]
 pub fn apply(op: Op, args: &[i32]) -> Result<i32, Trap>
     requires { length args.now ≡ arity_of op }
     ensures { result ≡ applied op args.now }

@@ -1,8 +1,8 @@
 -- From rows of words to available expressions.
-use Rattle.std.proofs.Common.{◌≡◌, ◌≢◌, ℕ, ◌+◌, ◌*◌, ◌/◌, ◌%◌, ◌<◌, ◌≤◌, Bool, true, false, not, List, [], ◌∷◌, ◌++◌, length, get_or, refl, sym, ap, ◌∙◌, subst, inl, inr, ⊎_elim, arith, length-append}
+use Rattle.std.proofs.Common.{◌≡◌, ◌≢◌, ℕ, zero, suc, ◌+◌, ◌*◌, ◌/◌, ◌%◌, ◌<◌, ◌≤◌, Bool, true, false, not, List, [], ◌∷◌, length, get_or, set, take, drop, refl, sym, ap, ◌∙◌, subst, inl, inr, ⊎_elim, arith}
 use Rattle.std.specs.Prelude.{Some, slice_get, ◌↔◌}
 use Rattle.std.proofs.lemmas.Bool.{cases_eq, false≢true}
-use Rattle.std.proofs.lemmas.List.{get_or_append_left, get_or_push}
+use Rattle.std.proofs.lemmas.List.{get_or-set_same, get_or-set_other, length-set}
 use Rattle.closed_walks.specs.Graph.{Graph, IsGraph, edge_count, from, to}
 use Rattle.closed_walks.specs.Walk.{Walk, Holds}
 use Rattle.class_set.specs.declared.ClassSet.{ClassSet}
@@ -59,41 +59,43 @@ mark_of_bit rows r b v few =
     let p = place_parts r b few in
     ap (λ x. has_bit (get_or (get_or rows x []) v 0) ((64 * r + b) % 64)) p.0 ∙ ap (λ x. has_bit (get_or (get_or rows r []) v 0) x) p.1
 
--- the first rows tell where the candidates are missing
-pub record AreSolved (p : Program) (f : FlowGraph) (c : ClassTable) (candidates : List Expr) (nodes done : ℕ) (missing : List (List ℕ)) : Type 0 where
-  pub count : length missing ≡ done
+-- the first rows tell where the candidates are missing, and the others are still those of what is computed
+pub record AreSolved (p : Program) (f : FlowGraph) (c : ClassTable) (candidates : List Expr) (nodes done : ℕ) (computes missing : List (List ℕ)) : Type 0 where
+  pub count : length missing ≡ length computes
   pub each : (r : ℕ) → r < done → length (get_or missing r []) ≡ nodes
   pub told : (r b node : ℕ) (e : Expr) → r < done → b < 64 → slice_get candidates (64 * r + b) ≡ Some e → node < nodes → (bit (get_or missing r []) b node ≡ false) ↔ IsAvailable p f c e node
+  pub rest : (r : ℕ) → done ≤ r → get_or missing r [] ≡ get_or computes r []
 
-pub solved_none : (p : Program) (f : FlowGraph) (c : ClassTable) (candidates : List Expr) (nodes : ℕ) → AreSolved p f c candidates nodes 0 []
-solved_none p f c candidates nodes = record {
+pub solved_none : (p : Program) (f : FlowGraph) (c : ClassTable) (candidates : List Expr) (nodes : ℕ) (computes : List (List ℕ)) → AreSolved p f c candidates nodes 0 computes computes
+solved_none p f c candidates nodes computes = record {
   count = refl;
   each = λ r less. absurd (omega (arith, less));
   told = λ r b node e less few is within. absurd (omega (arith, less));
+  rest = λ r from. refl;
 }
 
-pub solved_more : (p : Program) (f : FlowGraph) (c : ClassTable) (candidates : List Expr) (nodes done : ℕ) (missing : List (List ℕ)) (row : List ℕ) → AreSolved p f c candidates nodes done missing → length row ≡ nodes
-    → ((b node : ℕ) (e : Expr) → b < 64 → slice_get candidates (64 * done + b) ≡ Some e → node < nodes → (bit row b node ≡ false) ↔ IsAvailable p f c e node)
-    → AreSolved p f c candidates nodes (done + 1) (missing ++ row ∷ [])
-solved_more p f c candidates nodes done missing row s len told =
-    let count = s.count in
-    let longer = length-append missing (row ∷ []) in
+pub solved_more : (p : Program) (f : FlowGraph) (c : ClassTable) (candidates : List Expr) (nodes done : ℕ) (computes missing new : List (List ℕ)) (row : List ℕ) → AreSolved p f c candidates nodes done computes missing → done < length missing → length row ≡ nodes
+    → ((b node : ℕ) (e : Expr) → b < 64 → slice_get candidates (64 * done + b) ≡ Some e → node < nodes → (bit row b node ≡ false) ↔ IsAvailable p f c e node) → new ≡ set missing done row
+    → AreSolved p f c candidates nodes (done + 1) computes new
+solved_more p f c candidates nodes done computes missing new row s within_rows len told is_set =
+    let here : get_or new done [] ≡ row = ap (λ (z : List (List ℕ)). get_or z done []) is_set ∙ get_or-set_same missing done row [] within_rows in
+    let other : (r : ℕ) → r ≢ done → get_or new r [] ≡ get_or missing r [] = λ r apart. ap (λ (z : List (List ℕ)). get_or z r []) is_set ∙ get_or-set_other missing done r row [] apart in
     record {
-      count = omega (arith, count, longer);
+      count = ap length is_set ∙ length-set missing done row ∙ s.count;
       each = λ r less. ⊎_elim
-          (λ (same : r ≡ done). ap length (get_or_push missing row [] r (count ∙ sym same)) ∙ len)
-          (λ (apart : r ≢ done). ap length (get_or_append_left missing (row ∷ []) [] r (omega (arith, less, apart, count))) ∙ s.each r (omega (arith, less, apart)))
+          (λ (same : r ≡ done). ap (λ x. length (get_or new x [])) same ∙ ap length here ∙ len)
+          (λ (apart : r ≢ done). ap length (other r apart) ∙ s.each r (omega (arith, less, apart)))
           (cases_eq r done);
       told = λ r b node e less few is within. ⊎_elim
           (λ (same : r ≡ done).
-          let here : get_or (missing ++ row ∷ []) r [] ≡ row = get_or_push missing row [] r (count ∙ sym same) in
+          let at : get_or new r [] ≡ row = ap (λ x. get_or new x []) same ∙ here in
           let t = told b node e few (ap (λ x. slice_get candidates (64 * x + b)) (sym same) ∙ is) within in
-          (λ no'. t.0 (sym (ap (λ (z : List ℕ). bit z b node) here) ∙ no'), λ a. ap (λ (z : List ℕ). bit z b node) here ∙ t.1 a))
+          (λ no'. t.0 (sym (ap (λ (z : List ℕ). bit z b node) at) ∙ no'), λ a. ap (λ (z : List ℕ). bit z b node) at ∙ t.1 a))
           (λ (apart : r ≢ done).
-          let here : get_or (missing ++ row ∷ []) r [] ≡ get_or missing r [] = get_or_append_left missing (row ∷ []) [] r (omega (arith, less, apart, count)) in
           let t = s.told r b node e (omega (arith, less, apart)) few is within in
-          (λ no'. t.0 (sym (ap (λ (z : List ℕ). bit z b node) here) ∙ no'), λ a. ap (λ (z : List ℕ). bit z b node) here ∙ t.1 a))
+          (λ no'. t.0 (sym (ap (λ (z : List ℕ). bit z b node) (other r apart)) ∙ no'), λ a. ap (λ (z : List ℕ). bit z b node) (other r apart) ∙ t.1 a))
           (cases_eq r done);
+      rest = λ r from. let apart : r ≢ done = omega (arith, from) in other r apart ∙ s.rest r (omega (arith, from));
     }
 
 not_false : (b : Bool) → not b ≡ true → b ≡ false
@@ -107,8 +109,8 @@ false_not false is = refl
 whole_place : (k : ℕ) → 64 * (k / 64) + k % 64 ≡ k
 whole_place k = omega arith
 
-pub all_solved : (p : Program) (f : FlowGraph) (c : ClassTable) (a : Availability) (rows done : ℕ) → a.pieces ≡ f.graph.nodes → rows ≤ done → length a.candidates ≤ 64 * rows → AreCandidates p f a.candidates → AreSolved p f c a.candidates f.graph.nodes done a.missing → IsAvailability p f c a
-all_solved p f c a rows done pieces end covers candidates s = record {
+pub all_solved : (p : Program) (f : FlowGraph) (c : ClassTable) (a : Availability) (rows done : ℕ) → a.pieces ≡ f.graph.nodes → rows ≤ done → length a.candidates ≤ 64 * rows → AreCandidates p f a.candidates → (computes : List (List ℕ)) → AreSolved p f c a.candidates f.graph.nodes done computes a.missing → IsAvailability p f c a
+all_solved p f c a rows done pieces end covers candidates computes s = record {
   pieces = pieces;
   candidates = candidates;
   available = λ k node e is within.
@@ -120,7 +122,7 @@ all_solved p f c a rows done pieces end covers candidates s = record {
       (λ yes'. t.0 (not_false (has_mark a.missing k node) yes'), λ av. false_not (has_mark a.missing k node) (t.1 av));
 }
 
-pub kept_rows : (a : Availability) (rows : List (List ℕ)) (done : ℕ) (p : Program) (f : FlowGraph) (c : ClassTable) → length a.candidates < 4294967296 → AreRows a.pieces (length a.candidates) rows → done ≡ length rows → AreSolved p f c a.candidates a.pieces done a.missing → HasRows a
+pub kept_rows : (a : Availability) (rows : List (List ℕ)) (done : ℕ) (p : Program) (f : FlowGraph) (c : ClassTable) → length a.candidates < 4294967296 → AreRows a.pieces (length a.candidates) rows → done ≡ length rows → AreSolved p f c a.candidates a.pieces done rows a.missing → HasRows a
 kept_rows a rows done p f c few are end s =
     let count = s.count in
     let covers = are.covers in
@@ -138,19 +140,36 @@ kills_told p f c e v needs writes need write = (
   λ k. (k.class, (need k.class).1 k.reads, (write k.class).1 k.writes),
 )
 
+module _ {X : Type 0} where
+  get-take : (xs : List X) (m j : ℕ) → j < m → slice_get (take m xs) j ≡ slice_get xs j
+  get-take [] zero j less = refl
+  get-take [] (suc m) j less = refl
+  get-take (x ∷ xs) zero j less = absurd (omega (arith, less))
+  get-take (x ∷ xs) (suc m) zero less = refl
+  get-take (x ∷ xs) (suc m) (suc j) less = get-take xs m j (omega (arith, less))
+
+  get-drop : (xs : List X) (n j : ℕ) → slice_get (drop n xs) j ≡ slice_get xs (n + j)
+  get-drop [] zero j = refl
+  get-drop [] (suc n) j = refl
+  get-drop (x ∷ xs) zero j = let e : j ≡ 0 + j = omega arith in ap (slice_get (x ∷ xs)) e
+  get-drop (x ∷ xs) (suc n) j = let e : suc (n + j) ≡ suc n + j = omega arith in get-drop xs n j ∙ ap (slice_get (x ∷ xs)) e
+
+  -- an item of a part is one of the whole
+  pub get-part : (xs : List X) (n m j : ℕ) → j < m → slice_get (take m (drop n xs)) j ≡ slice_get xs (n + j)
+  get-part xs n m j less = get-take (drop n xs) m j less ∙ get-drop xs n j
+
 first_of : {X : Type 0} (xs : List X) → 0 < length xs → X
 first_of [] some = absurd (omega (arith, some))
 first_of (x ∷ xs) some = x
 
 -- what is told of a row
-module _ {W : ℕ} (p : Program) (f : FlowGraph) (c : ClassTable) (candidates : List Expr) (rows : List (List ℕ)) (needs part writes : List (ClassSet W)) (k : ℕ) (computes kills row : List ℕ) (sound : IsGraph f.graph) (pieces : length f.pieces ≡ f.graph.nodes)
+module _ {W : ℕ} (p : Program) (f : FlowGraph) (c : ClassTable) (candidates part : List Expr) (rows : List (List ℕ)) (needs writes : List (ClassSet W)) (k : ℕ) (computes kills row : List ℕ) (sound : IsGraph f.graph) (pieces : length f.pieces ≡ f.graph.nodes)
     (computed : (j x : ℕ) (e : Expr) → slice_get candidates j ≡ Some e → x < length f.pieces → (has_mark rows j x ≡ true) ↔ Computes p f e x)
     (computes_is : computes ≡ get_or rows k [])
-    (killed : (x b : ℕ) (d : ClassSet W) → x < length writes → b < length part → HasBit kills b x ↔ Meet (get_or part b d) (get_or writes x d))
-    (part_all : (j : ℕ) → j < 64 → 64 * k + j < length needs → j < length part)
-    (part_items : (j : ℕ) (d : ClassSet W) → j < length part → get_or part j d ≡ get_or needs (64 * k + j) d)
-    (needs_count : length needs ≡ length candidates)
-    (need : (j n : ℕ) (e : Expr) (d : ClassSet W) → slice_get candidates j ≡ Some e → (holds (get_or needs j d) n ≡ true) ↔ ExprNeeds c e n)
+    (killed : (x b : ℕ) (d : ClassSet W) → x < length writes → b < length needs → HasBit kills b x ↔ Meet (get_or needs b d) (get_or writes x d))
+    (part_items : (j : ℕ) → j < 64 → slice_get part j ≡ slice_get candidates (64 * k + j))
+    (needs_count : length needs ≡ length part)
+    (need : (j n : ℕ) (e : Expr) (d : ClassSet W) → slice_get part j ≡ Some e → (holds (get_or needs j d) n ≡ true) ↔ ExprNeeds c e n)
     (writes_count : length writes ≡ length f.pieces)
     (write : (x n : ℕ) (d : ClassSet W) → x < length f.pieces → (holds (get_or writes x d) n ≡ true) ↔ WritesAt c p.execs f.pieces x n)
     (solved : (node b : ℕ) → node < f.graph.nodes → b < 64 → (bit row b node ≡ false) ↔ IsOnAllWalks f.graph (HasBit computes b) (HasBit kills b) node) where
@@ -164,14 +183,11 @@ module _ {W : ℕ} (p : Program) (f : FlowGraph) (c : ClassTable) (candidates : 
   kill_told b x e few is less =
       let inside : x < length f.pieces = omega (arith, less, pieces) in
       let x_less : x < length writes = omega (arith, inside, writes_count) in
-      let there = get_within candidates (64 * k + b) e is in
-      let b_less : b < length part = part_all b few (omega (arith, there, needs_count)) in
+      let at : slice_get part b ≡ Some e = part_items b few ∙ is in
+      let there = get_within part b e at in
+      let b_less : b < length needs = omega (arith, there, needs_count) in
       let d = first_of writes (omega (arith, x_less)) in
-      let own : (n : ℕ) → (holds (get_or part b d) n ≡ true) ↔ ExprNeeds c e n = λ n. (
-        λ h. (need (64 * k + b) n e d is).0 (sym (ap (λ (s : ClassSet W). holds s n) (part_items b d b_less)) ∙ h),
-        λ h. ap (λ (s : ClassSet W). holds s n) (part_items b d b_less) ∙ (need (64 * k + b) n e d is).1 h,
-      ) in
-      let meets = kills_told p f c e x (get_or part b d) (get_or writes x d) own (λ n. write x n d inside) in
+      let meets = kills_told p f c e x (get_or needs b d) (get_or writes x d) (λ n. need b n e d at) (λ n. write x n d inside) in
       let bits = killed x b d x_less b_less in
       (λ has. meets.0 (bits.0 has), λ kill. bits.1 (meets.1 kill))
 

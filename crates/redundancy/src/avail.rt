@@ -107,20 +107,19 @@ pub fn available<const W: usize>(
 {
     flow_graph_is_strong();
     let pieces = f.pieces();
-    let Noted { table, rows } = candidates_of(alloc, p, f)?;
+    let Noted { table, mut rows } = candidates_of(alloc, p, f)?;
     candidates_fit(p, f, &table.exprs);
-    let needs = needs_of(alloc, c, &table.exprs)?;
     let writes = writes_of(alloc, p, f, c)?;
-    let mut missing = Vec::new(alloc);
-    for (k, computes) in rows.iter().enumerate() {
-        let kills = kill_row(alloc, writes.as_slice(), part(&needs, k))?;
-        let row = missing_row(alloc, f.graph(), computes.as_slice(), kills.as_slice())?;
-        missing.push(Listed::of(row))?;
+    for k in 0..rows.len() {
+        let needs = needs_of(alloc, c, part(c, &table.exprs, k))?;
+        let kills = kill_row(alloc, writes.as_slice(), &needs)?;
+        let row = missing_row(alloc, f.graph(), rows[k].as_slice(), kills.as_slice())?;
+        rows[k] = Listed::of(row);
     }
     Ok(Avail {
         table,
         pieces,
-        missing,
+        missing: rows,
     })
 }
 
@@ -131,14 +130,16 @@ fn candidates_fit(p: &Program, f: &Flow, candidates: &Vec<Expr>)
     ensures { (names : List NameInfo) → names ≡ p.now.names → All (IsExpression names) candidates.now.items }
 {}
 
-// The 64 sets with this number, or fewer at the end.
-fn part<const W: usize>(sets: &Vec<ClassSet<W>>, k: usize) -> &[ClassSet<W>]
-    requires { 64 * k < length sets.now.items }
+// The 64 candidates with this number, or fewer at the end.
+fn part<'a, const W: usize>(c: &Classes<W>, exprs: &'a Vec<Expr>, k: usize) -> &'a [Expr]
+    requires inside { 64 * k < length exprs.now.items }
+    requires fit { All (IsExpression c.now.names) exprs.now.items }
     ensures few { length result.now ≤ 64 }
-    ensures all { (j : ℕ) → j < 64 → 64 * k + j < length sets.now.items → j < length result.now }
-    ensures items { (j : ℕ) (d : ClassSet W) → j < length result.now → slice_index_or result.now j d ≡ slice_index_or sets.now.items (64 * k + j) d }
+    ensures part { result.now ≡ take 64 (drop (64 * k) exprs.now.items) }
+    ensures fit { All (IsExpression c.now.names) result.now }
 {
-    let rest = &sets[64 * k..];
+    let _classes = c;
+    let rest = &exprs[64 * k..];
     &rest[..rest.len().min(64)]
 }
 
@@ -146,11 +147,11 @@ fn part<const W: usize>(sets: &Vec<ClassSet<W>>, k: usize) -> &[ClassSet<W>]
 fn needs_of<const W: usize>(
     alloc: Global,
     c: &Classes<W>,
-    exprs: &Vec<Expr>,
+    exprs: &[Expr],
 ) -> Result<Vec<ClassSet<W>>, NoMemory>
-    requires { All (IsExpression c.now.names) exprs.now.items }
-    ensures count { IfOk result (λ needs. length needs.items ≡ length exprs.now.items) }
-    ensures needs { IfOk result (λ needs. (k n : ℕ) (e : Expr) (d : ClassSet W) → slice_get exprs.now.items k ≡ Some e → (holds (slice_index_or needs.items k d) n ≡ true) ↔ ExprNeeds c.now e n) }
+    requires { All (IsExpression c.now.names) exprs.now }
+    ensures count { IfOk result (λ needs. length needs.items ≡ length exprs.now) }
+    ensures needs { IfOk result (λ needs. (k n : ℕ) (e : Expr) (d : ClassSet W) → slice_get exprs.now k ≡ Some e → (holds (slice_index_or needs.items k d) n ≡ true) ↔ ExprNeeds c.now e n) }
 {
     let mut needs = Vec::new(alloc);
     for e in exprs {

@@ -8,6 +8,7 @@ mod collect;
 mod laws;
 mod listed;
 mod noting;
+mod operators;
 mod pieces;
 mod rows;
 mod solve;

@@ -10,6 +10,7 @@ ghost use Rattle.redundancy.specs.Noted.{AreRows, IsNoted, at_node};
 ghost use Rattle.redundancy.specs.Numbers.{IsTable};
 
 use crate::listed::Listed;
+use crate::operators::operator_count;
 use crate::pieces::collect_piece;
 use crate::rows::mark;
 use crate::table::Table;
@@ -38,7 +39,7 @@ pub(crate) fn candidates_of(alloc: Global, p: &Program, f: &Flow) -> Result<Note
     ensures rows { IfOk result (λ n. AreRows (length f.now.pieces) (length n.table.exprs.items) n.rows.items) }
     ensures computed { IfOk result (λ n. (k node : ℕ) (e : Expr) → slice_get n.table.exprs.items k ≡ Some e → node < length f.now.pieces → (has_mark n.rows.items k node ≡ true) ↔ Computes p.now f.now e node) }
 {
-    let mut table = Table::new(alloc, bucket_count(f.pieces()))?;
+    let mut table = Table::new(alloc, bucket_count(p))?;
     let mut rows = Vec::new(alloc);
     for node in 0..f.pieces() {
         let mut found = Vec::new(alloc);
@@ -48,12 +49,11 @@ pub(crate) fn candidates_of(alloc: Global, p: &Program, f: &Flow) -> Result<Note
     Ok(Noted { table, rows })
 }
 
-// How many buckets the table of candidates gets. A statement may compute a hundred, so there are more of them than pieces.
-fn bucket_count(pieces: u32) -> u32
-    requires { 0 < pieces }
+// How many buckets the table of candidates gets: one for each operator, up to that number.
+fn bucket_count(p: &Program) -> u32
     ensures { 0 < result }
 {
-    pieces.saturating_mul(64).min(MOST_BUCKETS)
+    operator_count(p).clamp(1, MOST_BUCKETS)
 }
 
 // Notes that a piece computes these candidates.

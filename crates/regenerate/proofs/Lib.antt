@@ -90,4 +90,5 @@ mod Stepping
 mod StepsMet
 mod TemporaryLemmas
 mod TemporaryTable
+mod TurnedLists
 mod WaysOn

@@ -2,7 +2,6 @@
 -- name among its operands.
 use Rattle.std.proofs.Common.{◌≡◌, ℕ, zero, suc, ◌+◌, ◌*◌, ◌<◌, ◌≤◌, ◌⊎◌, inl, inr, ⊎_elim, ℤ, Bool, true, false, not, ◌&&◌, List, [], ◌∷◌, ◌++◌, length, filter, fold, Option, Some, None, option_to_list, refl, sym, ap, subst, ◌∙◌, arith}
 use Rattle.std.specs.Prelude.{flat_map, slice_get, sum_by, if◌then◌else◌, ◌==◌}
-use Rattle.std.proofs.Math.Nat.{mul-suc}
 use Rattle.std.proofs.lemmas.Bool.{and_parts, eqb-true, or_cases}
 use Rattle.std.proofs.lemmas.List.{length-append}
 use Rattle.std.proofs.lemmas.List.Sums.{sum_by-append, sum_by-cons}
@@ -26,6 +25,7 @@ use Rattle.cfg_build.specs.Passes.{kind_in}
 use Rattle.redundancy.specs.Available.{Availability}
 use Rattle.redundancy.specs.Candidates.{has_scalar, is_scalar, row_subexpressions, subexpressions, IsCandidate}
 use Rattle.redundancy.specs.Computed.{computed_by, evaluated, expressions, in_item, kind_of_piece, selectors}
+use Rattle.regenerate.specs.InStep.{operations_in, operations_of_run}
 use Rattle.regenerate.specs.Items.{is_piece_of, own_piece}
 use Rattle.regenerate.specs.Numbered.{added, number_of, numbers_in}
 use Rattle.regenerate.specs.Shared.{computed, due, is_available, is_one_of, is_shared}
@@ -219,26 +219,32 @@ module _ (q : Program) (a : Availability) (are : (k : ℕ) (e : Expr) → slice_
       omega (arith, all, some)
 
 -- so many steps of the shared form are few
-module _ (q : Program) (a : Availability) (input : List ℤ) (most : ℕ) (few : (n : ℕ) → 2 * length (due q a (number_of a) (source q input n).position) ≤ most) where
-  pub steps-most : (n : ℕ) → 2 * shared_steps q a (number_of a) input n ≤ (most + 2) * n
-  steps-most zero = omega arith
-  steps-most (suc n) =
-      let more = mul-suc (most + 2) n in
-      let rest = steps-most n in
+module _ (q : Program) (a : Availability) (input : List ℤ) (few : (n : ℕ) → 2 * length (due q a (number_of a) (source q input n).position) ≤ operations_in (slice_get q.execs (source q input n).position)) where
+  pub steps-taken : (n : ℕ) → 2 * shared_steps q a (number_of a) input n ≤ operations_of_run q input n + 2 * n
+  steps-taken zero = omega arith
+  steps-taken (suc n) =
+      let rest = steps-taken n in
       let one = few n in
       let next : shared_steps q a (number_of a) input (suc n) ≡ shared_steps q a (number_of a) input n + (length (due q a (number_of a) (source q input n).position) + 1) = refl in
-      omega (arith, more, rest, one, next)
+      let taken : operations_of_run q input (suc n) ≡ operations_of_run q input n + operations_in (slice_get q.execs (source q input n).position) = refl in
+      omega (arith, rest, one, next, taken)
 
 pub due-few : (q r : Program) (c : ClassTable) (a : Availability) (k : ℕ) (exec : Exec) (is : IsSharedBy q c a r) → slice_get q.execs k ≡ Some exec → 2 * length (due q a is.shared.number k) ≤ exec_operations exec.kind
 due-few q r c a k exec is at =
     subst (λ (g : Expr → Option ℕ). 2 * length (due q a g k) ≤ exec_operations exec.kind) (numbers-told a is.shared.number is.shared.sharing.numbers)
     (due-most q a (λ j e there. (is.available.candidates.sound j e there).0) k exec at)
 
-pub steps-few : (q r : Program) (c : ClassTable) (a : Availability) (input : List ℤ) (n : ℕ) (is : IsSharedBy q c a r) → ((m : ℕ) → (source q input m).position < length q.execs) → ((k : ℕ) (exec : Exec) → slice_get q.execs k ≡ Some exec → exec_operations exec.kind ≤ most_operations q) → 2 * shared_steps q a is.shared.number input n ≤ (most_operations q + 2) * n
-steps-few q r c a input n is inside most =
-    subst (λ (g : Expr → Option ℕ). 2 * shared_steps q a g input n ≤ (most_operations q + 2) * n) (numbers-told a is.shared.number is.shared.sharing.numbers)
-    (steps-most q a input (most_operations q) (λ m.
+pub steps-taken-by : (q r : Program) (c : ClassTable) (a : Availability) (input : List ℤ) (n : ℕ) (is : IsSharedBy q c a r) → ((m : ℕ) → (source q input m).position < length q.execs) → 2 * shared_steps q a is.shared.number input n ≤ operations_of_run q input n + 2 * n
+steps-taken-by q r c a input n is inside =
+    subst (λ (g : Expr → Option ℕ). 2 * shared_steps q a g input n ≤ operations_of_run q input n + 2 * n) (numbers-told a is.shared.number is.shared.sharing.numbers)
+    (steps-taken q a input (λ m.
     let item = item_at q.execs (source q input m).position (inside m) in
     let own = due-most q a (λ j e there. (is.available.candidates.sound j e there).0) (source q input m).position item.0 item.1 in
-    let all = most (source q input m).position item.0 item.1 in
+    let all : operations_in (slice_get q.execs (source q input m).position) ≡ exec_operations item.0.kind = ap operations_in item.1 in
     omega (arith, own, all)) n)
+
+few-by : (steps taken most n : ℕ) → 2 * steps ≤ taken + 2 * n → taken ≤ most * n → 2 * steps ≤ (most + 2) * n
+few-by steps taken most n first second = omega (arith, first, second)
+
+pub steps-few : (q r : Program) (c : ClassTable) (a : Availability) (input : List ℤ) (n : ℕ) (is : IsSharedBy q c a r) → ((m : ℕ) → (source q input m).position < length q.execs) → operations_of_run q input n ≤ most_operations q * n → 2 * shared_steps q a is.shared.number input n ≤ (most_operations q + 2) * n
+steps-few q r c a input n is inside few = few-by (shared_steps q a is.shared.number input n) (operations_of_run q input n) (most_operations q) n (steps-taken-by q r c a input n is inside) few

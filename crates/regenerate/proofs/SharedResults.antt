@@ -16,6 +16,7 @@ use Rattle.regenerate.specs.declared.ends.RewriteEnd.{RewriteEnd}
 use Rattle.regenerate.specs.declared.ends.RewriteEnd.TheVariants.{TooManyNames, TooManyStatements, LongText}
 use Rattle.regenerate.specs.Numbered.{number_of}
 use Rattle.regenerate.specs.Shared.{has_many_names, most_words, refusal, shared, shared_flat, with_temporaries, IsRefused, IsShared, IsSharing}
+use Rattle.regenerate.specs.SharedParts.{declared_alone}
 use Rattle.regenerate.specs.Simplified.{has_many_statements, most_statements}
 use Rattle.regenerate.specs.Temporaries.{free_names}
 use Rattle.regenerate.proofs.NumberLemmas.{number_in-is}
@@ -64,7 +65,7 @@ module _ (q : Program) (f : FlowGraph) (c : ClassTable) (a : Availability) (form
   pub refused-lines : has_many_names q a (number_of a) ≡ false → most_statements < length (shared_flat q a (number_of a) flat) → IsRefused q a TooManyStatements
   refused-lines few more = refused TooManyStatements (refused-statements q a flat few (many-lines q a flat more))
 
-  module _ (longer : Program) (all : List FlatLine) (longer_is : longer ≡ with_temporaries q a (number_of a)) (all_is : all ≡ shared_flat q a (number_of a) flat) where
+  module _ (longer : Program) (all : List FlatLine) (longer_is : longer ≡ declared_alone (with_temporaries q a (number_of a))) (all_is : all ≡ shared_flat q a (number_of a) flat) where
     many_same : has_many_statements (with_temporaries q a (number_of a)) (shared_flat q a (number_of a) flat) ≡ has_many_statements longer all
     many_same = ap (λ (p : Program). has_many_statements p (shared_flat q a (number_of a) flat)) (sym longer_is) ∙ ap (has_many_statements longer) (sym all_is)
 

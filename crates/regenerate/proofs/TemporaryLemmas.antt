@@ -1,8 +1,8 @@
 -- Names of temporaries and their numbers.
-use Rattle.std.proofs.Common.{◌≡◌, ℕ, ◌+◌, ◌*◌, ◌/◌, ◌%◌, ◌<◌, ◌≤◌, Bool, true, false, not, ◌||◌, List, [], ◌∷◌, ◌++◌, length, get_or, set, take, refl, sym, ap, ◌∙◌, ⊎_elim, arith}
+use Rattle.std.proofs.Common.{◌≡◌, ℕ, zero, suc, ◌+◌, ◌*◌, ◌/◌, ◌%◌, ◌<◌, ◌≤◌, Bool, true, false, not, ◌||◌, List, [], ◌∷◌, ◌++◌, length, get_or, set, take, refl, sym, ap, subst, ◌∙◌, ⊎_elim, arith}
 use Rattle.std.specs.Prelude.{bytes_eq, cond, if◌then◌else◌}
 use Rattle.std.proofs.lemmas.Bool.{cases_eq, cases_Bool}
-use Rattle.std.proofs.lemmas.List.{get_or-set_same, get_or-set_other}
+use Rattle.std.proofs.lemmas.List.{get_or-set_same, get_or-set_other, length-append, length-take, take-append-le, take_all}
 use Rattle.std.proofs.lemmas.Slice.Eq.{bytes_eq-Decides}
 use Rattle.std.proofs.lemmas.List.FromFn.{filter_of_map_range_with_len_more}
 use Rattle.std.proofs.lemmas.List.Folds.{list_any_more}
@@ -111,3 +111,28 @@ free_more names k old new used is so_far made =
     turned : (b : Bool) (name : List ℕ) → (if b then [] else (name ∷ [])) ≡ cond (not b) (name ∷ []) []
     turned true name = refl
     turned false name = refl
+
+-- the names up to a number are the first ones
+pub free-front : (names : List NameInfo) (k j : ℕ) → take (length (free_up_to names k)) (free_up_to names (k + j)) ≡ free_up_to names k
+free-front names k zero =
+    let e : k ≡ k + 0 = omega arith in
+    ap (λ n. take (length (free_up_to names k)) (free_up_to names n)) (sym e) ∙ take_all (length (free_up_to names k)) (free_up_to names k) (omega arith)
+free-front names k (suc j) =
+    let front = free_up_to names k in
+    let so_far = free_up_to names (k + j) in
+    let used = is_in_use names (temporary_name (k + j + 1)) in
+    let more : List (List ℕ) = if used then [] else (temporary_name (k + j + 1) ∷ []) in
+    let e : k + j + 1 ≡ k + suc j = omega arith in
+    let rest = free-front names k j in
+    let size = ap length rest in
+    let cut = length-take (length front) so_far in
+    let grown = sym (free_more names (k + j) so_far (so_far ++ more) used refl refl refl) in
+    subst (λ n. take (length front) (free_up_to names n) ≡ front) e (ap (take (length front)) grown ∙ take-append-le (length front) so_far more (omega (arith, size, cut)) ∙ rest)
+
+-- so many names as there are up to a number are those
+pub free-first : (names : List NameInfo) (free : List (List ℕ)) (k j count : ℕ) → free ≡ free_up_to names k → length free ≡ count → free ≡ take count (free_up_to names (k + j))
+free-first names free k j count is size = is ∙ sym (free-front names k j) ∙ ap (λ n. take n (free_up_to names (k + j))) (sym (ap length is) ∙ size)
+
+pub few-more : (used : Bool) (old new : List (List ℕ)) (name : List ℕ) → new ≡ old ++ (if used then [] else (name ∷ [])) → length new ≤ length old + 1
+few-more true old new name is = let size = ap length is ∙ length-append old [] in omega (arith, size)
+few-more false old new name is = let size = ap length is ∙ length-append old (name ∷ []) in omega (arith, size)

@@ -26,7 +26,7 @@ abbrev pub operations_in : Option Exec → ℕ
 operations_in None = 0
 operations_in (Some exec) = exec_operations exec.kind
 
--- how many operations a run takes in n steps
+-- how many operations a run takes in n steps; one that has stopped stays at its executable, which each later step counts again
 abbrev pub operations_of_run : Program → List ℤ → (n : ℕ) → ℕ
 operations_of_run p input zero = 0
 operations_of_run p input (suc n) = operations_of_run p input n + operations_in (slice_get p.execs (source p input n).position)

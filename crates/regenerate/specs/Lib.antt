@@ -18,3 +18,4 @@ pub mod Shared
 pub mod Numbered
 pub mod RightRuns
 pub mod SharedRuns
+pub mod SharedParts

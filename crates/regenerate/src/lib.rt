@@ -16,6 +16,7 @@ mod names;
 mod own_pieces;
 mod plan;
 mod replacing;
+mod rewritten_steps;
 mod run_laws;
 mod running;
 mod scene;
@@ -36,10 +37,10 @@ pub use laws::{
     items_lead_to_items, live_executables_lead_on, live_ranges_have_live_starts,
     own_pieces_stand_in_chains, statements_stand_in_order,
 };
+pub use rewritten_steps::rewritten_programs_take_few_steps;
 pub use run_laws::{known_values_are_words, known_words_are_right_in_runs};
 pub use running::{
-    folded_expressions_keep_their_values, rewritten_programs_take_few_steps,
-    runs_take_few_operations, simplified_programs_print_alike,
+    folded_expressions_keep_their_values, runs_take_few_operations, simplified_programs_print_alike,
 };
 pub use shared_form::share;
 pub use shared_laws::shared_programs_are_flat;

@@ -5,6 +5,7 @@ ghost use Rattle.f77_tree.specs.Line.{kind_of_expression};
 ghost use Rattle.f77_tree.specs.Value.{IsExpression};
 ghost use Rattle.regenerate.specs.Numbered.{number_of};
 ghost use Rattle.regenerate.specs.Shared.{candidate, is_shared, shared as all_shared, temporaries, with_temporaries as with_all};
+ghost use Rattle.regenerate.specs.SharedParts.{declared_alone};
 ghost use Rattle.regenerate.specs.Tables.{AreAnswers};
 ghost use Rattle.regenerate.specs.Temporaries.{free_names};
 
@@ -43,7 +44,7 @@ fn append_one(n: u32, is_one: bool, numbers: &mut Vec<u32>) -> Result<(), NoMemo
     Ok(())
 }
 
-/// The program with the temporaries of its shared candidates, which have these names.
+/// The declarations of a program with the temporaries of its shared candidates, which have these names, and no executables.
 pub(crate) fn with_temporaries(
     alloc: Global,
     q: &Program,
@@ -58,7 +59,7 @@ pub(crate) fn with_temporaries(
     requires names { length q.now.names ≤ 4000 }
     requires expressions { All (IsExpression q.now.names) a.now.candidates }
     requires initial { length q.now.initial ≡ q.now.words }
-    ensures { IfOk result (λ r. r ≡ with_all q.now a.now (number_of a.now)) }
+    ensures { IfOk result (λ r. r ≡ declared_alone (with_all q.now a.now (number_of a.now))) }
 {
     let count = shared.len() as u32;
     Ok(Program {
@@ -68,7 +69,7 @@ pub(crate) fn with_temporaries(
         commons: q.commons.copy(alloc)?,
         groups: q.groups.copy(alloc)?,
         inits: q.inits.copy(alloc)?,
-        execs: q.execs.copy(alloc)?,
+        execs: Sequence::new(alloc),
         loops: q.loops,
     })
 }

@@ -2,12 +2,10 @@
 
 ghost use Rattle.regenerate.specs.FoldedValues.{FoldedAccessesHaveTheirPlaces, FoldedExpressionsHaveTheirKinds, FoldedExpressionsHaveTheirValues, FoldedItemsHaveTheirLines, FoldedValuesAreAssignedAlike, LiteralsHaveTheirValues};
 ghost use Rattle.regenerate.specs.InStep.{RunsTakeFewOperations, SimplifiedProgramsKeepStep, SimplifiedProgramsLeaveTheSameWords, SimplifiedProgramsPrintAlike};
-ghost use Rattle.regenerate.specs.RewrittenSteps.{RewrittenProgramsFollow};
 
 use crate::laws::items_lead_to_items;
 use crate::run_laws::known_words_are_right_in_runs;
-use crate::shared_runs::{shared_programs_follow, shared_steps_are_few};
-use f77_tree::{runs_stay_inside, statements_bound_operations, well_formed_programs_can_run};
+use f77_tree::statements_bound_operations;
 use flat_programs::executables_stand_in_order;
 
 /// A folded expression has the kind of the expression, and over each store of words in which what is told of words is right it has its
@@ -39,17 +37,4 @@ pub fn runs_take_few_operations()
     ensures { RunsTakeFewOperations }
 {
     statements_bound_operations();
-}
-
-/// Over data of words the shared form of the simplified form of a program follows the program: for each step it takes at most three
-/// steps, and one for each operation of the statement that asks for most.
-pub fn rewritten_programs_take_few_steps()
-    ensures { RewrittenProgramsFollow }
-{
-    runs_stay_inside();
-    runs_take_few_operations();
-    shared_programs_follow();
-    shared_steps_are_few();
-    simplified_programs_print_alike();
-    well_formed_programs_can_run();
 }

@@ -5,6 +5,7 @@ ghost use Rattle.cfg_build.specs.Flow.{flow};
 ghost use Rattle.flat_programs.specs.FlatForm.{IsFlatProgram};
 ghost use Rattle.redundancy.specs.Available.{IsAvailability};
 ghost use Rattle.regenerate.specs.Shared.{IsRefused, IsShared};
+ghost use Rattle.regenerate.specs.SharedParts.{HasParts};
 
 use crate::ends::RewriteEnd;
 use crate::longer_table::{shared_numbers, with_temporaries};
@@ -17,7 +18,7 @@ use crate::temporaries::free_names;
 use alias_classes::Classes;
 use cfg_build::Flow;
 use f77_tree::{Program, scalars_can_be_added};
-use flat_programs::{executables_tell_statements, has_long_text, program_of, recover};
+use flat_programs::{FlatList, executables_tell_statements, has_long_text, program_of, recover};
 use redundancy::Avail;
 use std::alloc::Global;
 
@@ -27,28 +28,62 @@ const MOST_WORDS: u32 = 262_144;
 /// The shared form of a flat program, by its available expressions: a candidate that is available somewhere where it is computed again
 /// has a temporary, which is assigned its value in front of each statement that computes the candidate where it isn't available, and
 /// stands for the candidate everywhere. It takes a few steps for each part of an expression and each executable. The limits are tried
-/// in the order of `RewriteEnd`.
+/// in the order of `RewriteEnd`. The available expressions are given back before the form is made, since they may take as much memory.
 pub fn share<const W: usize>(
     alloc: Global,
     q: &Program,
     f: &Flow,
     c: &Classes<W>,
-    a: &Avail,
+    a: Avail,
 ) -> Result<Program, RewriteEnd>
     requires program { IsFlatProgram q.now }
     requires flow { f.now ≡ flow q.now.execs }
-    requires available { IsAvailability q.now f.now c.now a.now }
-    ensures shared { IfOk result (λ r. IsShared q.now a.now r) }
-    ensures names { IsErrOf result RewriteEnd.TooManyNames → IsRefused q.now a.now RewriteEnd.TooManyNames }
-    ensures statements { IsErrOf result RewriteEnd.TooManyStatements → IsRefused q.now a.now RewriteEnd.TooManyStatements }
-    ensures long { IsErrOf result RewriteEnd.LongText → IsRefused q.now a.now RewriteEnd.LongText }
+    requires available { IsAvailability q.now f.now c.now a }
+    ensures shared { IfOk result (λ r. IsShared q.now a r) }
+    ensures names { IsErrOf result RewriteEnd.TooManyNames → IsRefused q.now a RewriteEnd.TooManyNames }
+    ensures statements { IsErrOf result RewriteEnd.TooManyStatements → IsRefused q.now a RewriteEnd.TooManyStatements }
+    ensures long { IsErrOf result RewriteEnd.LongText → IsRefused q.now a RewriteEnd.LongText }
 {
-    let _classes = c;
     scalars_can_be_added();
     executables_tell_statements();
+    let parts = shared_parts(alloc, q, f, c, a)?;
+    if has_many_statements(&parts.declared, &parts.statements) {
+        return Err(RewriteEnd::TooManyStatements);
+    }
+    if has_long_text(alloc, &parts.declared, &parts.statements)? {
+        return Err(RewriteEnd::LongText);
+    }
+    Ok(program_of(alloc, &parts.declared, &parts.statements)?)
+}
+
+/// The parts of a shared form.
+#[derive(Drop)]
+pub(crate) struct SharedParts {
+    /// A program that has the declarations, and no executables.
+    pub(crate) declared: Program,
+    pub(crate) statements: FlatList,
+}
+
+/// The parts of the shared form of a flat program, where there are names and words for its temporaries.
+fn shared_parts<const W: usize>(
+    alloc: Global,
+    q: &Program,
+    f: &Flow,
+    c: &Classes<W>,
+    a: Avail,
+) -> Result<SharedParts, RewriteEnd>
+    requires program { IsFlatProgram q.now }
+    requires flow { f.now ≡ flow q.now.execs }
+    requires available { IsAvailability q.now f.now c.now a }
+    ensures parts { IfOk result (λ parts. HasParts q.now a parts) }
+    ensures names { IsErrOf result RewriteEnd.TooManyNames → IsRefused q.now a RewriteEnd.TooManyNames }
+    ensures statements { IsErrOf result RewriteEnd.TooManyStatements → IsRefused q.now a RewriteEnd.TooManyStatements }
+    ensures long { IsErrOf result RewriteEnd.LongText → IsRefused q.now a RewriteEnd.LongText }
+{
+    let _classes = c;
     let flat = recover(alloc, q)?;
-    let is_shared = shared_candidates(alloc, q, f, a)?;
-    let shared = shared_numbers(alloc, q, a, &is_shared)?;
+    let is_shared = shared_candidates(alloc, q, f, &a)?;
+    let shared = shared_numbers(alloc, q, &a, &is_shared)?;
     if shared.len() > (MOST_WORDS - q.words) as usize {
         return Err(RewriteEnd::TooManyNames);
     }
@@ -58,21 +93,18 @@ pub fn share<const W: usize>(
     if MOST_STATEMENTS < u64::from(q.names.len()) {
         return Err(RewriteEnd::TooManyStatements);
     }
-    let names = temporary_names(alloc, q, a, &is_shared)?;
+    let names = temporary_names(alloc, q, &a, &is_shared)?;
+    let declared = with_temporaries(alloc, q, &a, &shared, &free)?;
     let temporaries = Temporaries {
         q,
-        a,
+        a: &a,
         names: &names,
     };
-    let Some(all) = shared_statements(alloc, &temporaries, f, &flat)? else {
+    let Some(statements) = shared_statements(alloc, &temporaries, f, flat)? else {
         return Err(RewriteEnd::TooManyStatements);
     };
-    let longer = with_temporaries(alloc, q, a, &shared, &free)?;
-    if has_many_statements(&longer, &all) {
-        return Err(RewriteEnd::TooManyStatements);
-    }
-    if has_long_text(alloc, &longer, &all)? {
-        return Err(RewriteEnd::LongText);
-    }
-    Ok(program_of(alloc, &longer, &all)?)
+    Ok(SharedParts {
+        declared,
+        statements,
+    })
 }

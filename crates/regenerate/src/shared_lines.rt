@@ -1,6 +1,6 @@
 //! Statements in which temporaries stand for shared candidates, and the assignments to these.
 
-ghost use Rattle.std.specs.Prelude.{◌≡◌, ◌+◌, ◌<◌, ◌≤◌, ◌^◌, ◌++◌, [], ◌∷◌, true, All, map, length, slice_get, IfOk, OnOk, MatchOption};
+ghost use Rattle.std.specs.Prelude.{◌≡◌, ◌+◌, ◌<◌, ◌≤◌, ◌^◌, ◌++◌, [], ◌∷◌, true, All, map, length, reverse, slice_get, IfOk, OnOk, MatchOption};
 ghost use Rattle.cfg_build.specs.Flow.{flow};
 ghost use Rattle.flat_programs.specs.Executables.{executables, first_of};
 ghost use Rattle.regenerate.specs.Numbered.{AreTemporaries, IsSharedNumber, number_of};
@@ -17,34 +17,55 @@ use flat_programs::{Flat, FlatLine, FlatList, first_executables};
 use std::alloc::Global;
 
 /// The statements of a flat program with temporaries, and before each the assignments that are due there; none where these are more
-/// than 4,000.
+/// than 4,000. A statement is given back as soon as the one with temporaries is made, so that there are not two of all.
 pub(crate) fn shared_statements(
     alloc: Global,
     t: &Temporaries,
     f: &Flow,
-    flat: &FlatList,
+    flat: FlatList,
 ) -> Result<Option<FlatList>, NoMemory>
     requires names { AreTemporaries t.now.q.now t.now.a.now t.now.names.now }
     requires flow { f.now ≡ flow t.now.q.now.execs }
     requires pieces { t.now.a.now.pieces ≡ f.now.graph.nodes }
-    requires execs { executables flat.now ≡ t.now.q.now.execs }
-    requires short { length flat.now < 2 ^ 31 }
-    ensures { IfOk result (λ found. MatchOption found (most_statements < length (shared_flat t.now.q.now t.now.a.now (number_of t.now.a.now) flat.now)) (λ all. all ≡ shared_flat t.now.q.now t.now.a.now (number_of t.now.a.now) flat.now)) }
+    requires execs { executables flat ≡ t.now.q.now.execs }
+    requires short { length flat < 2 ^ 31 }
+    ensures { IfOk result (λ found. MatchOption found (most_statements < length (shared_flat t.now.q.now t.now.a.now (number_of t.now.a.now) flat)) (λ all. all ≡ shared_flat t.now.q.now t.now.a.now (number_of t.now.a.now) flat)) }
 {
     let own = own_pieces(alloc, t.q, f)?;
-    let first = first_executables(alloc, flat)?;
+    let first = first_executables(alloc, &flat)?;
+    let mut waiting = reversed(alloc, flat)?;
     let mut all = Sequence::new(alloc);
-    for place in 0..flat.len() {
-        let l = flat.at(place);
+    let mut place: u32 = 0;
+    while let Some(l) = waiting.pop() {
         let k = first[place as usize];
         let node = own[k as usize];
         let due = due(alloc, t, f, k, node)?;
         if MOST_STATEMENTS - u64::from(all.len()) <= due.len() as u64 {
             return Ok(None);
         }
-        append_statement(alloc, t, l, &due, &mut all)?;
+        append_statement(alloc, t, &l, &due, &mut all)?;
+        give_back(l);
+        place += 1;
     }
     Ok(Some(all))
+}
+
+/// Gives back the memory of a statement.
+fn give_back(l: FlatLine) {
+    let _given = l;
+}
+
+/// Statements from the last to the first.
+fn reversed(alloc: Global, flat: FlatList) -> Result<FlatList, NoMemory>
+    requires { length flat < 2 ^ 31 }
+    ensures { IfOk result (λ turned. reverse turned ≡ flat) }
+{
+    let mut rest = flat;
+    let mut turned = Sequence::new(alloc);
+    while let Some(l) = rest.pop() {
+        turned.push(l)?;
+    }
+    Ok(turned)
 }
 
 /// Appends a statement with temporaries, after the assignments that are due there.

@@ -11,9 +11,11 @@ ghost use Rattle.f77_tree.specs.Run.{source, Ended, PrintAlike};
 ghost use Rattle.f77_tree.specs.Value.{value, word_at, IsExpression};
 ghost use Rattle.redundancy.specs.Available.{Availability};
 ghost use Rattle.redundancy.specs.Candidates.{subexpressions};
+ghost use Rattle.regenerate.specs.InStep.{operations_of_run};
 ghost use Rattle.regenerate.specs.Shared.{due, replaced, with_temporaries, AreNumbers};
 ghost use Rattle.regenerate.specs.SharedRuns.{shared_steps, AgreeUpTo, HoldValues, IsSharedBy};
 
+use crate::running::runs_take_few_operations;
 use cfg_build::{
     executables_have_own_pieces, flow_graph_is_strong, passes_are_a_walk, passes_lie_within_steps,
     pieces_run_executables,
@@ -22,8 +24,8 @@ use closed_walks::reaching_is_told;
 use f77_tree::{
     accesses_stay_in_their_names, executables_keep_the_rest, executables_lead_to_successors,
     logical_values_are_truths, longer_tables_agree, reads_decide, runs_hold_words,
-    runs_stay_inside, scalars_can_be_added, statements_bound_operations, stopped_runs_stay,
-    well_formed_programs_can_run, what_cannot_trap_has_a_value,
+    runs_stay_inside, scalars_can_be_added, stopped_runs_stay, well_formed_programs_can_run,
+    what_cannot_trap_has_a_value,
 };
 use flat_programs::executables_tell_statements;
 use redundancy::available_expressions_keep_their_values;
@@ -74,12 +76,14 @@ pub fn shared_programs_print_alike()
 }
 
 /// Before an executable at most half as many assignments are due as it takes operations: each candidate has an operator and a name. So
-/// the shared form takes at most half as many steps for each step of the program as the program's greatest number of operations, and one.
+/// the shared form takes one step for each step of the program, and at most half as many more as that takes operations; these are at
+/// most the program's greatest number of operations for each step.
 pub fn shared_steps_are_few()
     ensures due { (q r : Program) (c : ClassTable) (a : Availability) (k : ℕ) (exec : Exec) → (is : IsSharedBy q c a r) → slice_get q.execs k ≡ Some exec → 2 * length (due q a is.shared.number k) ≤ exec_operations exec.kind }
+    ensures operations { (q r : Program) (c : ClassTable) (a : Availability) (input : List ℤ) (n : ℕ) → (is : IsSharedBy q c a r) → 2 * shared_steps q a is.shared.number input n ≤ operations_of_run q input n + 2 * n }
     ensures steps { (q r : Program) (c : ClassTable) (a : Availability) (input : List ℤ) (n : ℕ) → (is : IsSharedBy q c a r) → 2 * shared_steps q a is.shared.number input n ≤ (most_operations q + 2) * n }
 {
     runs_stay_inside();
-    statements_bound_operations();
+    runs_take_few_operations();
     well_formed_programs_can_run();
 }

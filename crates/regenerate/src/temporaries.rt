@@ -21,22 +21,29 @@ pub(crate) fn free_names(
 ) -> Result<Option<Vec<Name>>, NoMemory>
     ensures { IfOk result (λ found. MatchOption found (length (all_free names.now) < count) (λ free. (length free.items ≡ count) × (free.items ≡ take count (all_free names.now)))) }
 {
-    let mut free = every_free_name(alloc, names, LAST_NUMBER)?;
+    let free = first_free_names(alloc, names, LAST_NUMBER, count as usize)?;
     if free.len() < count as usize {
         return Ok(None);
     }
-    free.truncate(count as usize);
     Ok(Some(free))
 }
 
-/// All names that temporaries can have, where the greatest number of one is told.
-fn every_free_name(alloc: Global, names: &NameInfoList, last: u32) -> Result<Vec<Name>, NoMemory>
+/// The first so many names that temporaries can have, or all where there are fewer. The greatest number of one is told.
+fn first_free_names(
+    alloc: Global,
+    names: &NameInfoList,
+    last: u32,
+    count: usize,
+) -> Result<Vec<Name>, NoMemory>
     requires { last ≡ last_number }
-    ensures { IfOk result (λ free. free.items ≡ all_free names.now) }
+    ensures { IfOk result (λ free. free.items ≡ take count (all_free names.now)) }
 {
     let used = used_numbers(alloc, names, last)?;
     let mut free = Vec::new(alloc);
     for k in 0..last {
+        if free.len() == count {
+            return Ok(free);
+        }
         let is_used = used[k as usize + 1];
         append_free(k + 1, is_used, &mut free)?;
     }

@@ -81,7 +81,7 @@ fn shared(alloc: Global, q: &Program) -> Result<Program, RewriteEnd>
     let flow = flow_of(alloc, q)?;
     let classes = few_classes_of(alloc, q)?;
     let found = available(alloc, q, &flow, &classes)?;
-    share(alloc, q, &flow, &classes, &found)
+    share(alloc, q, &flow, &classes, found)
 }
 
 // The alias classes of a program that has few.

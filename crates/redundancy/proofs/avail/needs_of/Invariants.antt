@@ -9,5 +9,5 @@ use Rattle.redundancy.proofs.avail.needs_of.Given as goal
 abbrev pub invariant-loop-e : goal.invariant-loop-e
 invariant-loop-e g l = record {
   count : length l.needs.items ≡ l.e-index;
-  needs : (k n : ℕ) (e : Expr) (d : ClassSet g.row.W) → k < l.e-index → slice_get l.exprs.items k ≡ Some e → (holds (get_or l.needs.items k d) n ≡ true) ↔ ExprNeeds l.c e n;
+  needs : (k n : ℕ) (e : Expr) (d : ClassSet g.row.W) → k < l.e-index → slice_get l.exprs k ≡ Some e → (holds (get_or l.needs.items k d) n ≡ true) ↔ ExprNeeds l.c e n;
 }

@@ -23,8 +23,8 @@ loop-node-preserved c =
     let kept = c.loop-node.invariant in
     let node = c.loop-node.node in
     let found = c.collect_piece.new.found.items in
-    let count : c.pieces-in-loop-node.result ≡ length pieces = c.pieces-in-loop-node.ensures.count in
-    let old : IsNoted c.pieces-in-loop-node.result kept.computed c.loop-node.table.exprs.items c.loop-node.rows.items = subst (λ n. IsNoted n kept.computed c.loop-node.table.exprs.items c.loop-node.rows.items) (sym count) kept.noted in
+    let count : c.pieces.result ≡ length pieces = c.pieces.ensures.count in
+    let old : IsNoted c.pieces.result kept.computed c.loop-node.table.exprs.items c.loop-node.rows.items = subst (λ n. IsNoted n kept.computed c.loop-node.table.exprs.items c.loop-node.rows.items) (sym count) kept.noted in
     let grown : IsGrown c.args.p.now.names (computed_by c.args.p.now.execs c.piece.result) [] found = subst (λ (z : List Expr). IsGrown c.args.p.now.names (computed_by c.args.p.now.execs c.piece.result) z found) c.new-found.ensures.items c.in_ok-collect_piece.ensures in
     record {
       table = c.in_ok-note.ensures.table;
@@ -32,7 +32,7 @@ loop-node-preserved c =
       computed = kept.computed ++ map (at_node node) found;
       gathered = gathered_next c.args.p.now.names c.args.p.now.execs pieces node c.piece.result kept.computed found c.piece.ensures grown kept.gathered;
       noted = subst (λ n. IsNoted n (kept.computed ++ map (at_node node) found) c.note.new.table.exprs.items c.note.new.rows.items) count
-          (subst (λ (z : List Expr). IsNoted c.pieces-in-loop-node.result (kept.computed ++ map (at_node node) z) c.note.new.table.exprs.items c.note.new.rows.items) c.deref.ensures.value (c.in_ok-note.ensures.noted kept.computed old));
+          (subst (λ (z : List Expr). IsNoted c.pieces.result (kept.computed ++ map (at_node node) z) c.note.new.table.exprs.items c.note.new.rows.items) c.deref.ensures.value (c.in_ok-note.ensures.noted kept.computed old));
     }
 
 pub returns-clause-candidates : goal.returns-clause-candidates

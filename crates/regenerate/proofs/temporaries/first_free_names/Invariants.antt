@@ -1,8 +1,9 @@
-use Rattle.std.proofs.Common.{◌≡◌}
+use Rattle.std.proofs.Common.{◌≡◌, ◌≤◌, length}
 use Rattle.regenerate.specs.Temporaries.{free_up_to}
-use Rattle.regenerate.proofs.temporaries.every_free_name.Given as goal
+use Rattle.regenerate.proofs.temporaries.first_free_names.Given as goal
 
 abbrev pub invariant-loop-k : goal.invariant-loop-k
 invariant-loop-k l = record {
   free : l.free.items ≡ free_up_to l.names l.k;
+  few : length l.free.items ≤ l.count;
 }
