@@ -1,5 +1,9 @@
+mod Greatest
+mod Marks
 mod NumberLists
 mod NumbersAgain
 mod Pieces
+mod PlacesTold
 mod Rows
 mod SingleWords
+mod WaitsTold

@@ -1,5 +1,7 @@
 pub mod Json
+pub mod Rounds
 pub mod Shown
+pub mod Statuses
+pub mod Tables
 pub mod Told
 pub mod Words
-pub mod Statuses

@@ -16,6 +16,7 @@ mod output;
 mod places;
 mod profile;
 mod rounds;
+mod tables;
 mod view;
 mod wires_dot;
 

@@ -1,5 +1,7 @@
 //! How wide a program is: how many nodes of a trace could have fired in each round.
 
+ghost use Rattle.std.specs.Prelude.{◌≡◌, ◌<◌, true, length};
+
 use crate::bars::write_table;
 use crate::fault::Fault;
 use crate::output::Output;
@@ -54,7 +56,9 @@ fn count(widths: &mut Vec<u32>, round: u32) -> Result<(), Fault> {
 }
 
 // Whether the graph has the node that fired.
-fn is_node(nodes: &[Node], firing: Firing) -> bool {
+fn is_node(nodes: &[Node], firing: Firing) -> bool
+    ensures { result ≡ true → firing.node < length nodes.now }
+{
     match nodes.get(firing.node as usize) {
         Some(node) => has_name(node, firing.name),
         None => false,
