@@ -41,7 +41,7 @@ one_limit p checked one a b is also =
     let same : also.end ≡ is.end = one.limit also.end is.end also.passes is.passes in
     by_end is.end a b is.is (subst (λ (end : RewriteEnd). IsDueByEnd end b) same also.is)
 
-refused : (end : RewriteEnd) (due : Due) → IsDueByEnd end due → due.status ≡ status.Refused
+pub refused : (end : RewriteEnd) (due : Due) → IsDueByEnd end due → due.status ≡ status.Refused
 refused rewrite_end.TooManyNames due is = ap (λ (d : Due). d.status) is
 refused rewrite_end.TooManyStatements due is = ap (λ (d : Due). d.status) is
 refused rewrite_end.LongText due is = ap (λ (d : Due). d.status) is

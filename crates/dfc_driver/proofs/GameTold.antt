@@ -121,12 +121,12 @@ module _ {M P : Type 0} (w : Way M P) (start : Moment M P) (limit : ℕ) (show :
       } in
       subst (λ i. AppendsPrefix old mid (text i)) (sym b.is) prefix
 
-  record IsDueWith (e : PlayEnd) (bytes : List ℕ) : Type 0 where
-    due : Due
-    is : IsDueBy e limit bytes due
-    same : due.text ≡ bytes
+  pub record IsDueWith (e : PlayEnd) (bytes : List ℕ) : Type 0 where
+    pub due : Due
+    pub is : IsDueBy e limit bytes due
+    pub same : due.text ≡ bytes
 
-  due_with : (e : PlayEnd) (bytes : List ℕ) → IsOwnEnd e → IsDueWith e bytes
+  pub due_with : (e : PlayEnd) (bytes : List ℕ) → IsOwnEnd e → IsDueWith e bytes
   due_with (end.Rest n) bytes own = record { due = done bytes; is = refl; same = refl }
   due_with (end.Trapped trap line) bytes own = record { due = trapped bytes trap line; is = refl; same = refl }
   due_with end.Limit bytes own = record { due = stopped bytes limit; is = refl; same = refl }

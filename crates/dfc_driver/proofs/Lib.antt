@@ -14,6 +14,11 @@ mod NodesTold
 mod Pieces
 mod RegionsTold
 mod RunsMade
+mod SamplesTold
+mod ThreeTexts
+mod SamplesMade
+mod SamplesMean
+mod FirstLines
 mod SetNumbers
 pub mod Texts
 mod Items

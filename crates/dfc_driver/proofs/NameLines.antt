@@ -9,7 +9,7 @@ use Rattle.firing.specs.NameLine.{name_line}
 use Rattle.firing.specs.Play.{Moment, Way, node_at, shown}
 use Rattle.dfc_driver.specs.Headline.{lines_in}
 
-lines_append : (a b : List ℕ) → lines_in (a ++ b) ≡ lines_in a + lines_in b
+pub lines_append : (a b : List ℕ) → lines_in (a ++ b) ≡ lines_in a + lines_in b
 lines_append a b = ap length (filter-append (λ c. c == 10) a b) ∙ length-append (filter (λ c. c == 10) a) (filter (λ c. c == 10) b)
 
 -- ---- a number has no line feed
@@ -33,13 +33,13 @@ digits_are_none : (k n : ℕ) (text : List ℕ) → lines_in (digits_onto k 10 f
 digits_are_none zero n text = refl
 digits_are_none (suc k) n text = digits_on k n text (λ m more. digits_are_none k m more) (n / 10 == 0)
 
-in_number : (n : ℕ) → lines_in (decimal n) ≡ 0
+pub in_number : (n : ℕ) → lines_in (decimal n) ≡ 0
 unfolding digits
 in_number n = digits_are_none 64 n []
 
 -- ---- the line of a name
 
-in_four : (a b c d : List ℕ) → lines_in (a ++ b ++ c ++ d) ≡ lines_in a + lines_in b + lines_in c + lines_in d
+pub in_four : (a b c d : List ℕ) → lines_in (a ++ b ++ c ++ d) ≡ lines_in a + lines_in b + lines_in c + lines_in d
 in_four a b c d =
     let last = lines_append (a ++ b ++ c) d in
     let third = lines_append (a ++ b) c in

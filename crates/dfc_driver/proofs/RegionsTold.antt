@@ -81,10 +81,8 @@ regions_told checked p due is =
       regions = is.text.regions;
     }
 
-pub regions_mean : (checked : Bool) (p : Program) (found : Found) → OneNumbering → OneTree → IsFoundOf p found → MeansOn Regions checked p
-regions_mean checked p found one_numbering one_tree is =
-    let strong : IsFlowGraph (flow p.execs).graph = subst (λ (f : FlowGraph). IsFlowGraph f.graph) is.flow is.strong in
-    record {
-      one = λ a b first second. first.done ∙ ap done (one_text p a.text b.text one_numbering one_tree strong first.text second.text) ∙ sym second.done;
-      means = regions_told checked p;
-    }
+pub regions_mean : (checked : Bool) (p : Program) → OneNumbering → OneTree → IsFlowGraph (flow p.execs).graph → MeansOn Regions checked p
+regions_mean checked p one_numbering one_tree strong = record {
+  one = λ a b first second. first.done ∙ ap done (one_text p a.text b.text one_numbering one_tree strong first.text second.text) ∙ sym second.done;
+  means = regions_told checked p;
+}

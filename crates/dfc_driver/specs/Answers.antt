@@ -3,11 +3,13 @@ use Rattle.std.specs.Prelude.{◌≡◌, ◌≢◌, ◌⊎◌, ◌≤◌, ℕ, L
 use Rattle.std.specs.Io.KnownBytes.{Appends, Keeps}
 use Rattle.df_io.specs.Faults.{Rose}
 use Rattle.df_io.specs.Write.{AppendsPrefix}
+use Rattle.sample_texts.specs.SampleText.{sample_text}
 use Rattle.dfc_driver.specs.declared.status.Status.{Status}
 use Rattle.dfc_driver.specs.declared.status.Status.TheVariants.{Done, Usage, Refused, Trapped, Limit, ReadFault, WriteFault, NoMemory}
-use Rattle.dfc_driver.specs.Due.{Due, IsJust, all_due, usage}
+use Rattle.dfc_driver.specs.Due.{Due, IsDueSampleText, IsJust, all_due, sample_limit, usage}
+use Rattle.dfc_driver.specs.Headline.{MeansSampleText}
 use Rattle.dfc_driver.specs.Reading.{IsReadWhole, IsReadWithin}
-use Rattle.dfc_driver.specs.Words.{Job, On}
+use Rattle.dfc_driver.specs.Words.{Job, On, Sample}
 
 -- the exit status
 abbrev pub code_of : Status → ℕ
@@ -56,10 +58,18 @@ pub record Answers (is_due : Due → Type 0) (old new : Option (List ℕ)) (code
   pub code_is : code ≡ code_of status
   pub answers : AnswersAs is_due old new status
 
+-- A sample is told by itself, whatever the source tells.
+pub record TellsSample (n : ℕ) (old new : Option (List ℕ)) (code : ℕ) : Type 0 where
+  pub answers : Answers (IsDueSampleText n sample_limit (sample_text n)) old new code
+  pub means : code ≢ 7 → MeansSampleText n sample_limit (sample_text n)
+  pub meant : code ≢ 1
+  pub reads : code ≢ 5
+
 -- Invalid arguments are told so, unless the sink fails. No other words are.
 abbrev pub TellsWords : Option Job → Option (List ℕ) → Option (List ℕ) → ℕ → Type 0
 TellsWords None old new code = Answers (IsJust usage) old new code × ((code ≡ 1) ⊎ (code ≡ 6))
-TellsWords (Some job) old new code = code ≢ 1
+TellsWords (Some (On task checked)) old new code = code ≢ 1
+TellsWords (Some (Sample n)) old new code = TellsSample n old new code
 
 -- Where the source failed or there was no memory, nothing was written.
 pub record IsUnwritten (old new : Option (List ℕ)) (code : ℕ) : Type 0 where
@@ -77,10 +87,11 @@ pub record ReadsText (old new : Option (List ℕ)) (code : ℕ) : Type 0 where
   pub whole : HasAll code → IsReadWhole old new
   pub within : IsReadWithin old new
 
--- How much of a source was read, by what is left of it: words that ask for no text leave it as it was.
+-- How much of a source was read, by what is left of it: words that ask for no task leave it as it was.
 abbrev pub ReadsFor : {A : Type 0} → (A → Option (List ℕ)) → Option Job → A → A → ℕ → Type 0
 ReadsFor left None old new code = new ≡ old
 ReadsFor left (Some (On task checked)) old new code = ReadsText (left old) (left new) code
+ReadsFor left (Some (Sample n)) old new code = new ≡ old
 
 -- Source and sink are blamed only where they failed: no count of faults falls, and each rose where it is blamed.
 pub record Blames (source_old source_new sink_old sink_new code : ℕ) : Type 0 where

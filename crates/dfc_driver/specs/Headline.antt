@@ -1,5 +1,6 @@
 -- What each job promises of the program of a text, beyond the bytes that are due.
-use Rattle.std.specs.Prelude.{◌≡◌, ◌<◌, ◌≤◌, ◌+◌, ◌*◌, ◌==◌, ◌++◌, ◌↔◌, ◌⊎◌, ℕ, ℤ, suc, Bool, All, List, [], length, filter, Option, Some, None, slice_index}
+use Rattle.std.specs.Prelude.{◌≡◌, ◌<◌, ◌≤◌, ◌+◌, ◌*◌, ◌==◌, ◌++◌, ◌↔◌, ◌⊎◌, ℕ, ℤ, suc, Bool, false, All, List, [], length, filter, Option, Some, None, slice_index}
+use Rattle.sample_texts.specs.SampleText.{sample_text}
 use Rattle.op_table.specs.declared.Trap.{Trap}
 use Rattle.op_table.specs.Words.{IsWord}
 use Rattle.closed_walks.specs.Graph.{edge_count}
@@ -19,13 +20,13 @@ use Rattle.op_board.specs.OperationNets.{OperationNet}
 use Rattle.dfc_driver.specs.declared.status.Status.TheVariants.{Done, Refused as Refused_status, Trapped}
 use Rattle.dfc_driver.specs.declared.words.Told.{Told}
 use Rattle.dfc_driver.specs.declared.words.Told.TheVariants.{Output, Nodes, Store}
-use Rattle.dfc_driver.specs.Due.{Due, IsDueOn, IsPlayed, trapped, trapped_alone}
+use Rattle.dfc_driver.specs.Due.{Due, IsDueOn, IsDueSample, IsPlayed, TellsSizes, sample_limit, trapped, trapped_alone, up_to}
 use Rattle.dfc_driver.specs.Game.{IsNetOn}
 use Rattle.dfc_driver.specs.GraphText.{TellsGraph, graph_text}
 use Rattle.dfc_driver.specs.Reading.{Reading, Accepted, Refused, reading}
 use Rattle.dfc_driver.specs.Regions.{regions_text}
 use Rattle.dfc_driver.specs.StoreText.{fired_line, store_text}
-use Rattle.dfc_driver.specs.Words.{Asked, Job, On, Task, Regions, Graph, Play, Regen, Run}
+use Rattle.dfc_driver.specs.Words.{Asked, Job, On, Task, Regions, Graph, Play, Regen, Run, Sample}
 
 -- ---- games
 
@@ -173,6 +174,37 @@ abbrev pub MeansRead : Task → (checked : Bool) → Reading → Type 0
 MeansRead task checked (Refused line code) = Unit {0}
 MeansRead task checked (Accepted p) = MeansOn task checked p
 
+-- ---- samples
+
+-- The run of the program ends, and after the sizes the text is all that it writes, twice: as it is fired, and as it is run.
+pub record MeansTwice (n bytes : ℕ) (p : Program) (text : List ℕ) : Type 0 where
+  pub steps : ℕ
+  pub ends : EndsIn p [] steps
+  pub sizes : List ℕ
+  pub tells_sizes : TellsSizes n bytes p sizes
+  pub output : text ≡ sizes ++ out p [] steps ++ out p [] steps
+
+-- No two things are due of the program of a sample, and each part of what is due means what the job promises that owes it. It is done
+-- only where the run of the program ends; and where that ends and the limit is large enough, it is, but for a limit of the rewriting.
+pub record MeansSample (n bytes limit : ℕ) (p : Program) : Type 0 where
+  pub one : (a b : Due) → IsDueSample n bytes limit p a → IsDueSample n bytes limit p b → a ≡ b
+  pub regions : MeansOn Regions false p
+  pub graph : MeansOn Graph false p
+  pub fired : MeansOn (Play Output (up_to limit)) false p
+  pub ran : MeansOn (Run limit []) false p
+  pub twice : (due : Due) → IsDueSample n bytes limit p due → due.status ≡ Done → MeansTwice n bytes p due.text
+  pub finishes : (due : Due) (steps : ℕ) → IsDueSample n bytes limit p due → EndsIn p [] steps → bound_of p steps ≤ limit → run_bound p steps ≤ limit → (due.status ≡ Done) ⊎ (due.status ≡ Refused_status)
+
+abbrev pub MeansSampleRead : (n bytes limit : ℕ) → Reading → Type 0
+MeansSampleRead n bytes limit (Refused line code) = Unit {0}
+MeansSampleRead n bytes limit (Accepted p) = MeansSample n bytes limit p
+
+abbrev pub MeansSampleText : (n limit : ℕ) → (text : List ℕ) → Type 0
+MeansSampleText n limit text = MeansSampleRead n (length text) limit (reading false text)
+
+-- ---- jobs
+
 abbrev pub MeansFor : Option Job → List ℕ → Type 0
 MeansFor None bytes = Unit {0}
 MeansFor (Some (On task checked)) bytes = MeansRead task checked (reading checked bytes)
+MeansFor (Some (Sample n)) bytes = MeansSampleText n sample_limit (sample_text n)

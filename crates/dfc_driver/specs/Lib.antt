@@ -16,6 +16,7 @@ pub mod Drawn
 pub mod Found
 pub mod Due
 pub mod Stopping
+pub mod Samples
 pub mod GameLaws
 pub mod Answers
 pub mod Headline

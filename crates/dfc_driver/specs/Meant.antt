@@ -1,5 +1,5 @@
 -- What a job that was read from words means. Its picks and its data are still texts.
-use Rattle.std.specs.Prelude.{◌≡◌, ℕ, true, List, [], ◌∷◌, Option, Some, None}
+use Rattle.std.specs.Prelude.{◌≡◌, ◌≤◌, ℕ, true, List, [], ◌∷◌, Option, Some, None}
 use Rattle.fixed_form.specs.Columns.{number}
 use Rattle.dfc_driver.specs.declared.words.GameWords.{GameWords}
 use Rattle.dfc_driver.specs.declared.words.Job as read
@@ -8,7 +8,7 @@ use Rattle.dfc_driver.specs.declared.words.Setting.{Setting}
 use Rattle.dfc_driver.specs.declared.words.Setting.TheVariants.{Picks, Data}
 use Rattle.dfc_driver.specs.declared.words.Task as read_tasks
 use Rattle.dfc_driver.specs.declared.words.Task.TheVariants as read_task
-use Rattle.dfc_driver.specs.Words.{Asked, Task, Regions, Graph, Play, Regen, Run, Job, On, is_text, values_in, word_value}
+use Rattle.dfc_driver.specs.Words.{Asked, Task, Regions, Graph, Play, Regen, Run, Job, On, Sample, is_text, values_in, word_value}
 
 abbrev pub asked_in : GameWords → Asked
 asked_in words = record { limit = words.limit; picks = values_in number words.picks.now; input = values_in word_value words.input.now }
@@ -22,6 +22,7 @@ task_meant (read_task.Run words) = Run words.limit (values_in word_value words.i
 
 abbrev pub job_meant : read.Job → Job
 job_meant (read_job.On task checked) = On (task_meant task) checked
+job_meant (read_job.Sample n) = Sample n
 
 abbrev pub meant : Option read.Job → Option Job
 meant None = None
@@ -43,5 +44,11 @@ IsTask (read_task.Play told words) = AreGameWords words
 IsTask read_task.Regen = Unit {0}
 IsTask (read_task.Run words) = MayStand Data words.input.now
 
+-- there is a sample with this number
+pub record IsSampleNumber (n : ℕ) : Type 0 where
+  pub least : 1 ≤ n
+  pub most : n ≤ 2000
+
 abbrev pub IsJob : read.Job → Type 0
 IsJob (read_job.On task checked) = IsTask task
+IsJob (read_job.Sample n) = IsSampleNumber n

@@ -27,9 +27,10 @@ pub data Task : Type 0 where
   -- its rewritten form is run, for so many steps at most, over these words for READ
   Run : (limit : ℕ) (input : List ℤ) → Task
 
--- a task on the program of a text, in the checked dialect or in the plain one
+-- a task on the program of a text, in the checked dialect or in the plain one, or the sample with this number
 pub data Job : Type 0 where
   On : (task : Task) (checked : Bool) → Job
+  Sample : (number : ℕ) → Job
 
 -- ---- numbers and lists of them
 
@@ -132,8 +133,17 @@ run_of words =
     let after_limit = after Limit words in
     on (Run (limit_in (text_of Limit words)) (values_in word_value (text_of Data after_limit))) (dialect_of (after Data after_limit))
 
--- The job that these words ask for: `regions`, `graph` or `regen` and the dialect, `run` and the settings of a run, or `fire`, `trace`
+-- the samples are numbered from 1 to 2,000
+abbrev pub is_sample : List ℕ → Bool
+is_sample digits = are_digits_to 18 digits && nat_le 1 (number digits) && nat_le (number digits) 2000
+
+abbrev pub sample_of : List (List ℕ) → Option Job
+sample_of [] = None
+sample_of (word ∷ []) = if is_sample word then Some (Sample (number word)) else None
+sample_of (word ∷ more ∷ words) = None
+
+-- The job that these words ask for: `sample` and its number, `regions`, `graph` or `regen` and the dialect, `run` and the settings of a run, or `fire`, `trace`
 -- or `store` and the settings of a game, as yet. Other words have no meaning.
 abbrev pub job_of : List (List ℕ) → Option Job
 job_of [] = None
-job_of (word ∷ words) = if bytes_eq word (codes "regions") then on Regions (dialect_of words) else if bytes_eq word (codes "graph") then on Graph (dialect_of words) else if bytes_eq word (codes "regen") then on Regen (dialect_of words) else if bytes_eq word (codes "run") then run_of words else game_of_words (told_by word) words
+job_of (word ∷ words) = if bytes_eq word (codes "regions") then on Regions (dialect_of words) else if bytes_eq word (codes "graph") then on Graph (dialect_of words) else if bytes_eq word (codes "regen") then on Regen (dialect_of words) else if bytes_eq word (codes "run") then run_of words else if bytes_eq word (codes "sample") then sample_of words else game_of_words (told_by word) words

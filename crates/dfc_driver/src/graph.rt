@@ -215,8 +215,8 @@ fn wires_are_alike(program: &Program, analysis: &Analysis<'_>)
     free_lines_are_told();
 }
 
-// A program has one such text, and it tells the net over whatever data.
-fn graph_means(program: &Program)
+/// A program has one such text, and it tells the net over whatever data.
+pub fn graph_means(program: &Program)
     requires { IsWellFormed program.now }
     ensures { (checked : Bool) → MeansOn Graph checked program.now }
 {

@@ -192,8 +192,8 @@ fn tell_rest<K: Sink>(
     }
 }
 
-// Games mean what the runs of their programs do.
-fn games_mean(program: &Program)
+/// Games mean what the runs of their programs do.
+pub fn games_mean(program: &Program)
     requires { IsWellFormed program.now }
     ensures { (told : Told) (asked : Asked) (checked : Bool) → MeansOn (Play told asked) checked program.now }
 {

@@ -108,6 +108,22 @@ pub fn read_program<S: Source>(
     }
 }
 
+/// The program of a text.
+pub fn read_bytes(alloc: Global, bytes: &[u8], checked: bool) -> Result<Program, NoProgram>
+    ensures reads { IsReadAs (reading checked bytes.now) result }
+    ensures well_formed { IfOk result (λ program. IsWellFormed program) }
+    ensures few { IfOk result (λ program. HasFewClasses program) }
+    ensures read { IsErrOf result NoProgram.ReadFault → ⊥ }
+{
+    if bytes.len() > MOST_BYTES as usize {
+        return Err(NoProgram::Refused {
+            line: 0,
+            code: Code::TooLong,
+        });
+    }
+    read_text(alloc, bytes, checked)
+}
+
 // The program of a text that isn't too long.
 fn read_text(alloc: Global, bytes: &[u8], checked: bool) -> Result<Program, NoProgram>
     requires { length bytes.now ≤ most_bytes }

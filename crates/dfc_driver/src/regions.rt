@@ -18,7 +18,7 @@ ghost use Rattle.dfc_driver.specs.Regions.{TellsRegions, piece_lines, edge_lines
 
 use crate::region_line::{counts_line, edge_line, piece_line, region_line};
 use crate::status::Status;
-use cfg_build::Flow;
+use cfg_build::{Flow, flow_graph_is_strong};
 use closed_walks::Digraph;
 use cycle_equiv::one_numbering;
 use df_io::{NoMemory, Sink, TextBuffer, WriteFault};
@@ -46,8 +46,7 @@ pub fn tell_regions<K: Sink>(alloc: Global, program: &Program, sink: &mut K) -> 
     ensures later { K.faults sink.old ≤ K.faults sink.new }
     ensures fault { result ≡ Status.WriteFault → Rose (K.faults sink.old) (K.faults sink.new) }
 {
-    one_numbering();
-    one_tree();
+    regions_mean(program);
     match find(alloc, program) {
         Ok(mut found) => match tell(&mut found, sink) {
             Ok(()) => Status::Done,
@@ -99,8 +98,8 @@ fn tell<K: Sink>(found: &mut Found, sink: &mut K) -> Result<(), WriteFault>
     found.buffer.write_out(sink)
 }
 
-// How many classes there are.
-fn class_count(classes: &[u32]) -> u64
+/// How many classes there are.
+pub fn class_count(classes: &[u32]) -> u64
     ensures { result ≡ fresh classes.now }
 {
     let mut count = 0;
@@ -167,4 +166,14 @@ fn tell_tree<K: Sink>(
         buffer.append(line.as_str().as_bytes(), sink)?;
     }
     Ok(())
+}
+
+/// A program has one such text, and it tells each edge with its class.
+pub fn regions_mean(program: &Program)
+    requires { IsWellFormed program.now }
+    ensures { (checked : Bool) → MeansOn Regions checked program.now }
+{
+    one_numbering();
+    one_tree();
+    flow_graph_is_strong();
 }

@@ -1,12 +1,11 @@
 //! What rewritten forms mean for the runs of their programs.
 
+ghost use Rattle.std.specs.Prelude.{ℕ, ℤ, All, List};
+ghost use Rattle.op_table.specs.Words.{IsWord};
 ghost use Rattle.f77_tree.specs.WellFormed.{IsWellFormed};
-ghost use Rattle.dfc_driver.specs.declared.words.Setting.TheVariants.{Data};
 ghost use Rattle.dfc_driver.specs.Headline.{MeansOn};
-ghost use Rattle.dfc_driver.specs.Meant.{MayStand};
-ghost use Rattle.dfc_driver.specs.Words.{Regen, Run, values_in, word_value};
+ghost use Rattle.dfc_driver.specs.Words.{Regen, Run};
 
-use crate::words::RunWords;
 use f77_tree::{Program, runs_stop_first, stopped_runs_stay};
 use flat_programs::executables_tell_statements;
 use rewriting::{rewritten_forms_are_one, rewritten_programs_print_alike};
@@ -21,11 +20,10 @@ pub fn regenerated_texts_mean(program: &Program, checked: bool)
     rewritten_programs_print_alike();
 }
 
-/// The output of a program's rewritten form means what the run of the program does.
-pub fn outputs_mean(program: &Program, checked: bool, words: RunWords<'_>)
-    requires program { IsWellFormed program.now }
-    requires data { MayStand Data words.input.now }
-    ensures { MeansOn (Run words.entry.limit (values_in word_value words.entry.input.now)) checked program.now }
+/// The output of a program's rewritten form means what the run of the program does, over all data of words.
+pub fn runs_mean(program: &Program, checked: bool)
+    requires { IsWellFormed program.now }
+    ensures { (limit : ℕ) (input : List ℤ) → All IsWord input → MeansOn (Run limit input) checked program.now }
 {
     rewritten_forms_are_one();
     rewritten_programs_print_alike();

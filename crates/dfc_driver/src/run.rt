@@ -21,7 +21,7 @@ ghost use Rattle.dfc_driver.specs.Words.{Run as Run_task, values_in, word_value}
 use crate::lines::{tell_limit, tell_trap_alone};
 use crate::numbers::data_in;
 use crate::rewriting_end::tell_end;
-use crate::rewriting_laws::outputs_mean;
+use crate::rewriting_laws::runs_mean;
 use crate::status::Status;
 use crate::words::RunWords;
 use df_io::{NoMemory, Sink, TextBuffer, WriteFault};
@@ -50,7 +50,7 @@ pub fn tell_run<K: Sink>(
     ensures later { K.faults sink.old ≤ K.faults sink.new }
     ensures fault { result ≡ Status.WriteFault → Rose (K.faults sink.old) (K.faults sink.new) }
 {
-    outputs_mean(program, checked, words);
+    runs_mean(program, checked);
     match rewrite(alloc, program, checked) {
         Ok(form) => run_form(alloc, words, &form, sink),
         Err(end) => tell_end(end, sink),
@@ -59,7 +59,7 @@ pub fn tell_run<K: Sink>(
 
 /// A run, and the buffer through which its output is written.
 #[derive(Drop)]
-struct Run<'a> {
+pub struct Run<'a> {
     stepper: Stepper<'a>,
     buffer: TextBuffer,
 }
@@ -92,8 +92,8 @@ fn run_form<K: Sink>(alloc: Global, words: RunWords<'_>, form: &Program, sink: &
     }
 }
 
-// The run of a program over data, at its beginning.
-fn run_of<'a>(alloc: Global, input: &[u8], form: &'a Program) -> Result<Run<'a>, NoMemory>
+/// The run of a program over data, at its beginning.
+pub fn run_of<'a>(alloc: Global, input: &[u8], form: &'a Program) -> Result<Run<'a>, NoMemory>
     requires words { MayStand Data input.now }
     requires can { CanRun form.now }
     ensures { IfOk result (λ run. IsAtStart form.now (values_in word_value input.now) run) }
@@ -105,13 +105,14 @@ fn run_of<'a>(alloc: Global, input: &[u8], form: &'a Program) -> Result<Run<'a>,
     })
 }
 
-// Makes the steps of a run, and tells of them and of how they end.
-fn tell_steps<K: Sink>(run: &mut Run<'_>, limit: u64, sink: &mut K) -> Status
+/// Makes the steps of a run, and tells of them and of how they end. It takes no memory.
+pub fn tell_steps<K: Sink>(run: &mut Run<'_>, limit: u64, sink: &mut K) -> Status
     requires can { CanRun (program_of run.old.stepper) }
     requires begins { IsAtStart (program_of run.old.stepper) (input_of run.old.stepper) run.old }
     ensures due { AnswersAs (IsDueRunOf (program_of run.old.stepper) (input_of run.old.stepper) limit) (K.got sink.old) (K.got sink.new) result }
     ensures usage { result ≢ Status.Usage }
     ensures reads { result ≢ Status.ReadFault }
+    ensures memory { result ≢ Status.NoMemory }
     ensures later { K.faults sink.old ≤ K.faults sink.new }
     ensures fault { result ≡ Status.WriteFault → Rose (K.faults sink.old) (K.faults sink.new) }
 {

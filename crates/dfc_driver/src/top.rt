@@ -17,6 +17,7 @@ use crate::reading::{NoProgram, read_program};
 use crate::regen::tell_regen;
 use crate::regions::tell_regions;
 use crate::run::tell_run;
+use crate::sample::tell_sample;
 use crate::status::Status;
 use crate::words::{Job, Task, read_words};
 use df_io::{Sink, Source};
@@ -35,7 +36,7 @@ pub fn dfc_main<S: Source, K: Sink>(
     // The status and the bytes are those that are due, where the source tells its bytes and the sink what it got.
     ensures due { IfSome (S.left source.old) (λ bytes. Answers (IsDue (map string_bytes words.now.items) bytes) (K.got sink.old) (K.got sink.new) result) }
 
-    // Status 1 comes exactly where the words ask for no job, whatever the source tells.
+    // Status 1 comes exactly where the words ask for no job, and a sample is told by itself, whatever the source tells.
     ensures words { TellsWords (job_of (map string_bytes words.now.items)) (K.got sink.old) (K.got sink.new) result }
 
     // After a fault of the source and without memory nothing was written, whatever the source tells.
@@ -62,7 +63,7 @@ pub fn dfc_main<S: Source, K: Sink>(
 fn do_job<S: Source, K: Sink>(alloc: Global, job: Job<'_>, source: &mut S, sink: &mut K) -> Status
     requires { IsJob job }
     ensures due { IfSome (S.left source.old) (λ bytes. AnswersAs (IsDueFor (Some (job_meant job.entry)) bytes) (K.got sink.old) (K.got sink.new) result) }
-    ensures words { result ≢ Status.Usage }
+    ensures words { TellsWords (Some (job_meant job.entry)) (K.got sink.old) (K.got sink.new) (code_of result) }
     ensures unwritten { IsUnwritten (K.got sink.old) (K.got sink.new) (code_of result) }
     ensures means { HasAll (code_of result) → IfSome (S.left source.old) (MeansFor (Some (job_meant job.entry))) }
     ensures takes { ReadsFor S.left (Some (job_meant job.entry)) source.old source.new (code_of result) }
@@ -70,6 +71,7 @@ fn do_job<S: Source, K: Sink>(alloc: Global, job: Job<'_>, source: &mut S, sink:
 {
     match job {
         Job::On(task, checked) => on_text(alloc, task, checked, source, sink),
+        Job::Sample(n) => tell_sample(alloc, n, sink),
     }
 }
 

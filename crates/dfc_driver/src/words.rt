@@ -3,8 +3,8 @@ ghost use Rattle.std.specs.List.{list_all};
 ghost use Rattle.std.specs.String.{string_bytes};
 ghost use Rattle.f77_tree.specs.Name.{is_figure};
 ghost use Rattle.fixed_form.specs.Columns.{number};
-ghost use Rattle.dfc_driver.specs.Meant.{IsJob, MayStand, meant};
-ghost use Rattle.dfc_driver.specs.Words.{job_of, play_of, run_of, after, text_of, limit_in as spec_limit_in, dialect_of, are_digits_to as spec_are_digits_to, is_piece as spec_is_piece, is_setting, is_text as spec_is_text, is_word as spec_is_word, is_number_to as spec_is_number_to, name_of, pieces_after};
+ghost use Rattle.dfc_driver.specs.Meant.{IsJob, IsSampleNumber, MayStand, meant};
+ghost use Rattle.dfc_driver.specs.Words.{job_of, play_of, run_of, sample_of, is_sample, after, text_of, limit_in as spec_limit_in, dialect_of, are_digits_to as spec_are_digits_to, is_piece as spec_is_piece, is_setting, is_text as spec_is_text, is_word as spec_is_word, is_number_to as spec_is_number_to, name_of, pieces_after};
 
 /// What the words after the program's name ask for.
 #[derive(Clone, Copy, Debug, PartialEq, Eq)]
@@ -12,6 +12,8 @@ pub enum Job<'a> {
     /// A task on the program of the text that the source has, in the checked dialect, where a result that is no word traps, or in
     /// the plain one, where results wrap to words.
     On(Task<'a>, bool),
+    /// The sample program with this number, and what becomes of it.
+    Sample(u32),
 }
 
 /// What is done with a program.
@@ -90,6 +92,7 @@ pub fn read_words(words: &[String]) -> Option<Job<'_>>
             Some(Job::On(Task::Regen, checked))
         }
         [word, options @ ..] if word.as_str() == "run" => read_run(options),
+        [word, options @ ..] if word.as_str() == "sample" => read_sample(options),
         [word, options @ ..] if word.as_str() == "fire" => read_game(Told::Output, options),
         [word, options @ ..] if word.as_str() == "trace" => read_game(Told::Nodes, options),
         [word, options @ ..] if word.as_str() == "store" => read_game(Told::Store, options),
@@ -130,6 +133,37 @@ fn read_run(words: &[String]) -> Option<Job<'_>>
     let checked = read_dialect(words)?;
     let limit = limit_in(limit);
     Some(Job::On(Task::Run(RunWords { limit, input }), checked))
+}
+
+// The sample that the words after `sample` ask for.
+fn read_sample(words: &[String]) -> Option<Job<'_>>
+    ensures job { meant result ≡ sample_of (map string_bytes words.now) }
+    ensures texts { IfSome result IsJob }
+{
+    match words {
+        [word] => {
+            let n = sample_number(word.as_str().as_bytes())?;
+            Some(Job::Sample(n))
+        }
+        _ => None,
+    }
+}
+
+// The number of a sample that a word tells, from 1 to 2,000.
+fn sample_number(word: &[u8]) -> Option<u32>
+    ensures is { MatchOption result (is_sample word.now ≡ false) (λ n. is_sample word.now ≡ true) }
+    ensures value { IfSome result (λ n. n ≡ number word.now) }
+    ensures range { IfSome result IsSampleNumber }
+{
+    if !are_digits_to(18, word) {
+        return None;
+    }
+    let n = number_in(word);
+    if 1 <= n && n <= 2000 {
+        Some(n as u32)
+    } else {
+        None
+    }
 }
 
 // What a setting says that stands before the words, if it does, and the words after it.

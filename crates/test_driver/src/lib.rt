@@ -7,4 +7,6 @@ mod jobs;
 #[cfg(test)]
 mod never;
 #[cfg(test)]
+mod samples;
+#[cfg(test)]
 mod top;

@@ -1,0 +1,18 @@
+use Rattle.std.proofs.Common.{ℕ, List, refl, ◌∙◌, subst}
+use Rattle.dfc_driver.specs.Answers.{AnswersAs}
+use Rattle.dfc_driver.specs.Due.{IsDueSampleText, sample_limit}
+use Rattle.dfc_driver.specs.Headline.{MeansSampleText}
+use Rattle.dfc_driver.proofs.sample.tell_sample.Goals as goal
+
+pub returns-in-Ok-clause-due : goal.returns-in-Ok-clause-due
+returns-in-Ok-clause-due g c =
+    let old = g.K.Sink.got c.args.sink.now in
+    let new = g.K.Sink.got c.on_text.new.sink in
+    subst (λ (text : List ℕ). AnswersAs (IsDueSampleText c.args.n sample_limit text) old new c.on_text.result) (c.as_slice.ensures.value ∙ c.in-Ok.ensures) c.on_text.ensures.due
+
+pub returns-in-Ok-clause-means : goal.returns-in-Ok-clause-means
+returns-in-Ok-clause-means g c = λ memory.
+    subst (λ (text : List ℕ). MeansSampleText c.args.n sample_limit text) (c.as_slice.ensures.value ∙ c.in-Ok.ensures) (c.on_text.ensures.means memory)
+
+pub returns-in-Err-clause-means : goal.returns-in-Err-clause-means
+returns-in-Err-clause-means g c = λ memory. absurd (memory refl)
