@@ -1,3 +1,4 @@
 pub mod ShortFlow
 pub mod ShortNet
 pub mod ShortProgram
+pub mod TraceOf

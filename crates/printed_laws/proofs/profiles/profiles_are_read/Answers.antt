@@ -9,7 +9,8 @@ use Rattle.printed_laws.proofs.TracePrinted.{play_told_by}
 use Rattle.printed_laws.proofs.profiles.profiles_are_read.Goals as goal
 
 pub returns : goal.returns
-returns c = λ words asked checked p text due tells plays is few short flow_short net_short game_short.
+returns c = λ words p text due tells trace few short flow_short net_short game_short.
+    let plays = trace.plays in
     let own = tells.own in
     let classes = own.parts.classes in
     let execs = own.parts.program.execs in
@@ -19,7 +20,7 @@ returns c = λ words asked checked p text due tells plays is few short flow_shor
     let counted = c.classes_are_counted.ensures p classes own.parts.own_classes in
     let game = plays.played.own in
     let game_counted = c.classes_are_counted.ensures p game.own.parts.classes game.own.parts.own_classes in
-    let below = net_below p asked.input game.net game.own pieces game_counted few game_short.nodes in
+    let below = net_below p trace.asked.input game.net game.own pieces game_counted few game_short.nodes in
     read_in_turn text (all_due due)
     (graph_told_by p classes tells.net text (net_facts p [] tells.net own strong pieces counted c.next_edges.ensures.exists few short flow_short net_short) tells.is)
-    (play_told_by p asked due plays below flow_short shape.count (limits_are_small words Nodes asked checked is))
+    (play_told_by p trace.asked due plays below flow_short shape.count (limits_are_small words Nodes trace.asked trace.checked trace.job))
