@@ -1,6 +1,7 @@
 -- The marking of a net of operations before any firing.
 use Rattle.std.proofs.Common.{ℤ, Bool, List, ◌≡◌, ◌≤◌, ◌⊎◌, ⊎_elim, inl, inr, ℕ, true, false, length, slice_get, Option, None, Some, refl, sym, ap, ◌∙◌, subst, arith}
 use Rattle.std.proofs.lemmas.List.{length-map, length-replicate}
+use Rattle.std.proofs.lemmas.List.Elements.{All-weaker}
 use Rattle.std.proofs.lemmas.List.FromFn.{length-range_with_len}
 use Rattle.std.proofs.lemmas.Option.{slice_get_past}
 use Rattle.f77_tree.specs.declared.programs.Program.{Program}
@@ -21,10 +22,12 @@ use Rattle.op_board.specs.OperationNets.{OperationNet, operation_count}
 use Rattle.op_board.specs.OperationTokens.{OperationTokens, first_operation_tokens, operation_moves}
 use Rattle.op_board.specs.SoundOperationNets.{OperationsCanCome}
 use Rattle.op_board.specs.WholePieces.{PassesWhole}
+use Rattle.op_net.specs.declared.leads.Lead.{Lead}
 use Rattle.op_net.specs.declared.places.Places.{Places}
 use Rattle.op_net.specs.declared.plan.OperationPlan.{OperationPlan}
 use Rattle.op_net.specs.declared.plan.PieceOperations.{PieceOperations}
 use Rattle.op_net.specs.FirstPlaces.{AreFirstPlaces}
+use Rattle.op_net.specs.Leads.{IsLead}
 use Rattle.op_net.specs.PieceView.{piece_needs, set_holds}
 use Rattle.op_net.specs.PlacesView.{IsCounted}
 use Rattle.op_net.specs.PlanView.{operations_in}
@@ -46,11 +49,18 @@ module _ (x : OperationNet) (s : Places) (first : AreFirstPlaces x s) where
     lie = λ k edge is. come.is_marking.tokens.lie k edge (ap (λ xs. edge_at xs k) (sym first.edges) ∙ is);
   }
 
+  no_line : (lead : Lead) → x.net.routing.lines ≤ lead.line → IsLead x lead
+  no_line lead past = record {
+    wire = λ inside. absurd (omega (arith, past, inside));
+    node = λ inside. absurd (omega (arith, past, inside));
+  }
+
   pub not_counted : IsCounted x s
   not_counted = record {
     counts = λ is. let e : false ≡ true = sym first.counted ∙ is in absurd cc;
     marks = λ is. let e : false ≡ true = sym first.counted ∙ is in absurd cc;
     none = λ is. first.counts;
+    leads = All-weaker (λ (lead : Lead). x.net.routing.lines ≤ lead.line) (IsLead x) no_line s.leads.items first.leads;
   }
 
   pub first_marking : (memory : Memory) → memory ≡ first_memory x.net.program → record { tokens = record { lines = s.lines.items; edges = s.edges.items; memory = memory; trap = None }; passed = s.passed.items; values = s.values.items } ≡ first_operation_tokens x

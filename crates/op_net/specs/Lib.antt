@@ -10,6 +10,7 @@ pub mod RowRoom
 pub mod OperationTables
 pub mod BoardView
 pub mod Waits
+pub mod Leads
 pub mod Turns
 pub mod Counts
 pub mod SoundPlaces

@@ -1,11 +1,12 @@
 -- What contracts see of the places of lines, decisions and values.
-use Rattle.std.specs.Prelude.{◌≡◌, ◌≤◌, ◌==◌, ℕ, ℤ, true, false, [], length, map, Option, None, slice_set, vec_capacity}
+use Rattle.std.specs.Prelude.{◌≡◌, ◌≤◌, ◌==◌, ℕ, ℤ, true, false, [], All, length, map, Option, None, slice_set, vec_capacity}
 use Rattle.std.specs.List.{range_with_len}
 use Rattle.f77_tree.specs.Execution.{Memory}
 use Rattle.firing.specs.Marks.{AreMarks}
 use Rattle.op_board.specs.OperationNets.{OperationNet}
 use Rattle.op_board.specs.OperationTokens.{OperationTokens}
 use Rattle.op_net.specs.declared.places.Places.{Places}
+use Rattle.op_net.specs.Leads.{IsLead}
 use Rattle.op_net.specs.Waits.{node_total, waits}
 
 abbrev no_memory : Memory
@@ -29,11 +30,13 @@ value_put m k value = record m { values = slice_set m.values k value }
 abbrev pub edge_put : OperationTokens → (switch : ℕ) (edge : Option ℕ) → OperationTokens
 edge_put m switch edge = record m { tokens = record m.tokens { edges = slice_set m.tokens.edges switch edge } }
 
--- while it is asked for, it is counted for how much each node waits, and those are marked that wait for nothing
+-- While it is asked for, it is counted for how much each node waits, and those are marked that wait for nothing. What is remembered of
+-- lines is right.
 pub record IsCounted (x : OperationNet) (s : Places) : Type 0 where
   pub counts : s.counted ≡ true → s.counts.items ≡ map (waits x (standing s)) (range_with_len 0 (node_total x))
   pub marks : s.counted ≡ true → AreMarks (node_total x) (λ k. waits x (standing s) k == 0) s.set
   pub none : s.counted ≡ false → s.counts.items ≡ []
+  pub leads : All (IsLead x) s.leads.items
 
 -- it is counted after a change as it was before
 pub record KeepsCounts (old new : Places) : Type 0 where

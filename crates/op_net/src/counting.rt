@@ -1,6 +1,6 @@
 //! Changes of the places of lines, decisions and values, one at a time, with what nodes wait for.
 
-ghost use Rattle.std.specs.Prelude.{◌≡◌, ◌<◌, ◌-◌, ◌^◌, ℕ, None, Some, false, is_some, length, slice_index, true};
+ghost use Rattle.std.specs.Prelude.{◌≡◌, ◌<◌, ◌≤◌, ◌-◌, ◌^◌, ℕ, [], None, Some, false, is_some, length, set, slice_index, true};
 ghost use Rattle.net_board.specs.Tokens.{edge_of, left_for};
 ghost use Rattle.op_board.specs.OperationTokens.{passed_by, value_at};
 ghost use Rattle.op_net.specs.BoardView.{operation_net_on};
@@ -11,9 +11,11 @@ ghost use Rattle.op_net.specs.Waits.{AreSwitchNodes, IsNodeAfter, IsNodeBefore, 
 use crate::lookups::OperationBoard;
 use crate::places::Places;
 use crate::waiting::waits_are_few;
+use firing::ReadySet;
 
 impl Places {
     /// Puts a line that stands before one node on an edge, or nowhere, so that it stands before another node, or the same, or none.
+    #[inline(always)]
     pub(crate) fn put_line<const W: usize>(
         &mut self,
         board: &OperationBoard<W>,
@@ -43,6 +45,7 @@ impl Places {
     }
 
     /// Gives the value of a node, which another node takes.
+    #[inline(always)]
     pub(crate) fn give<const W: usize>(
         &mut self,
         board: &OperationBoard<W>,
@@ -68,6 +71,7 @@ impl Places {
     }
 
     /// Takes the value of a node for another one.
+    #[inline(always)]
     pub(crate) fn take<const W: usize>(&mut self, board: &OperationBoard<W>, k: u32, taker: u32)
         requires value { k < length self.old.values.items }
         requires node { taker < node_total (operation_net_on board.now) }
@@ -86,6 +90,7 @@ impl Places {
     }
 
     /// Leaves an edge for a switch, of which this is the node and this its decision.
+    #[inline(always)]
     pub(crate) fn leave<const W: usize>(
         &mut self,
         board: &OperationBoard<W>,
@@ -111,6 +116,7 @@ impl Places {
     }
 
     /// Takes the edge that is left for a switch.
+    #[inline(always)]
     pub(crate) fn clear<const W: usize>(
         &mut self,
         board: &OperationBoard<W>,
@@ -134,39 +140,59 @@ impl Places {
         self.wait_less(decision);
     }
 
-    // A node waits for one thing more.
+    // A node waits for one thing more, if there is a count of it.
     fn wait_more(&mut self, k: u32)
-        requires few { self.old.counted ≡ true → slice_index self.old.counts.items k < 2 ^ 64 - 1 }
-        requires marks { self.old.counted ≡ true → length self.old.set ≡ length self.old.counts.items }
+        requires few { slice_index self.old.counts.items k < 2 ^ 64 - 1 }
+        requires marks { length self.old.counts.items ≤ length self.old.set }
         ensures standing { standing self.new ≡ standing self.old }
         ensures kept { KeepsCounts self.old self.new }
-        ensures uncounted { self.old.counted ≡ false → self.new.counts.items ≡ self.old.counts.items }
-        ensures counts { self.old.counted ≡ true → (count : ℕ → ℕ) → AreCounts (length self.old.counts.items) count self.old.counts.items self.old.set → AreCounts (length self.old.counts.items) (one_more count k) self.new.counts.items self.new.set }
+        ensures leads { self.new.leads.items ≡ self.old.leads.items }
+        ensures none { self.old.counts.items ≡ [] → self.new.counts.items ≡ [] }
+        ensures counts { (count : ℕ → ℕ) → AreCounts (length self.old.counts.items) count self.old.counts.items self.old.set → AreCounts (length self.old.counts.items) (one_more count k) self.new.counts.items self.new.set }
     {
-        if self.counted && (k as usize) < self.counts.len() {
+        if (k as usize) < self.counts.len() {
             let count = self.counts[k as usize];
             self.counts[k as usize] = count + 1;
             if count == 0 {
-                self.set.put(k, false);
+                leave_out(&mut self.set, k);
             }
         }
     }
 
-    // A node waits for one thing less. There is no such node where the number is that of all nodes.
+    // A node waits for one thing less, if there is a count of it. No node has the number of all nodes.
     fn wait_less(&mut self, k: u32)
-        requires some { self.old.counted ≡ true → k < length self.old.counts.items → 0 < slice_index self.old.counts.items k }
-        requires marks { self.old.counted ≡ true → length self.old.set ≡ length self.old.counts.items }
+        requires some { k < length self.old.counts.items → 0 < slice_index self.old.counts.items k }
+        requires marks { length self.old.counts.items ≤ length self.old.set }
         ensures standing { standing self.new ≡ standing self.old }
         ensures kept { KeepsCounts self.old self.new }
-        ensures uncounted { self.old.counted ≡ false → self.new.counts.items ≡ self.old.counts.items }
-        ensures counts { self.old.counted ≡ true → (count : ℕ → ℕ) → AreCounts (length self.old.counts.items) (one_more count k) self.old.counts.items self.old.set → AreCounts (length self.old.counts.items) count self.new.counts.items self.new.set }
+        ensures leads { self.new.leads.items ≡ self.old.leads.items }
+        ensures none { self.old.counts.items ≡ [] → self.new.counts.items ≡ [] }
+        ensures counts { (count : ℕ → ℕ) → AreCounts (length self.old.counts.items) (one_more count k) self.old.counts.items self.old.set → AreCounts (length self.old.counts.items) count self.new.counts.items self.new.set }
     {
-        if self.counted && (k as usize) < self.counts.len() {
+        if (k as usize) < self.counts.len() {
             let count = self.counts[k as usize] - 1;
             self.counts[k as usize] = count;
             if count == 0 {
-                self.set.put(k, true);
+                take_in(&mut self.set, k);
             }
         }
     }
+}
+
+// Takes a node out of a set. This and the next one are called about once a firing. Inlined at each count they would be in its way.
+#[inline(never)]
+fn leave_out(nodes: &mut ReadySet, k: u32)
+    requires { k < length nodes.old }
+    ensures { nodes.new ≡ set nodes.old k false }
+{
+    nodes.put(k, false);
+}
+
+// Puts a node into a set.
+#[inline(never)]
+fn take_in(nodes: &mut ReadySet, k: u32)
+    requires { k < length nodes.old }
+    ensures { nodes.new ≡ set nodes.old k true }
+{
+    nodes.put(k, true);
 }

@@ -5,6 +5,7 @@ mod control_moves;
 mod counting;
 mod entries;
 mod hops;
+mod leads;
 mod lookups;
 mod names;
 mod net;

@@ -105,6 +105,7 @@ impl<const W: usize> OpNet<'_, W> {
     }
 
     // Fires an operation, and tells the edge by which control leaves the piece after the last one.
+    #[inline(always)]
     fn operate(&mut self, k: u32, piece: u32, i: u32) -> (Fired, u32)
         requires node { k < node_total (net_of self.old) }
         requires name { operation_node (net_of self.old) k ≡ Op piece i }
@@ -133,6 +134,7 @@ impl<const W: usize> OpNet<'_, W> {
     }
 
     // Takes the operands of an operation, and performs it.
+    #[inline(always)]
     fn work(&mut self, piece: u32, i: u32) -> Did
         requires piece { piece < (graph_in (net_of self.old).net).nodes }
         requires operation { i < operation_count (net_of self.old) piece }
@@ -162,6 +164,7 @@ impl<const W: usize> OpNet<'_, W> {
     }
 
     // Gives a value to the operation that takes it, and leads on the lines that the operation needs.
+    #[inline(always)]
     fn give(&mut self, k: u32, piece: u32, i: u32, z: i32) -> u32
         requires node { k < node_total (net_of self.old) }
         requires name { operation_node (net_of self.old) k ≡ Op piece i }
@@ -186,6 +189,7 @@ impl<const W: usize> OpNet<'_, W> {
     }
 
     // Leads on the lines that an operation needs, along the edge with this number, which it tells.
+    #[inline(never)]
     fn go(&mut self, piece: u32, i: u32, choice: u32) -> u32
         requires piece { piece < (graph_in (net_of self.old).net).nodes }
         requires operation { i < operation_count (net_of self.old) piece }
@@ -206,6 +210,7 @@ impl<const W: usize> OpNet<'_, W> {
     }
 
     // Leads on the lines that an operation needs, and where it is a decision leaves the edge with this number for the switches.
+    #[inline(never)]
     fn tell(&mut self, piece: u32, i: u32, choice: u32) -> u32
         requires piece { piece < (graph_in (net_of self.old).net).nodes }
         requires operation { i < operation_count (net_of self.old) piece }
@@ -241,6 +246,7 @@ impl<const W: usize> OpNet<'_, W> {
     }
 
     // A trap stops the net at an operation that needs the line of output. Another one gives 0.
+    #[inline(never)]
     fn stop_or_go(&mut self, k: u32, piece: u32, i: u32, trap: Trap) -> (Fired, u32)
         requires node { k < node_total (net_of self.old) }
         requires name { operation_node (net_of self.old) k ≡ Op piece i }
@@ -283,6 +289,7 @@ impl<const W: usize> OpNet<'_, W> {
     }
 
     // Leads a line on along the edge that was left for it, which it tells.
+    #[inline(always)]
     fn switch(&mut self, k: u32, piece: u32, line: u32) -> u32
         requires node { k < node_total (net_of self.old) }
         requires name { operation_node (net_of self.old) k ≡ Switch piece line }
@@ -306,6 +313,7 @@ impl<const W: usize> OpNet<'_, W> {
     }
 
     // Leads a line on along the edge that leaves the piece, which it tells.
+    #[inline(always)]
     fn merge(&mut self, k: u32, piece: u32, line: u32) -> u32
         requires node { k < node_total (net_of self.old) }
         requires name { operation_node (net_of self.old) k ≡ Merge piece line }
@@ -324,6 +332,7 @@ impl<const W: usize> OpNet<'_, W> {
     }
 
     // Leads a line on along an edge from a switch or a merge.
+    #[inline(never)]
     fn lead(&mut self, k: u32, line: u32, edge: u32)
         requires node { k < node_total (net_of self.old) }
         requires line { line < (net_of self.old).net.routing.lines }

@@ -19,6 +19,7 @@ ghost use Rattle.op_net.specs.PlanView.{operations_in};
 ghost use Rattle.op_net.specs.StaysInStep.{StaysInStep};
 
 use crate::OpNet;
+use crate::leads::no_leads;
 use crate::lookups::OperationBoard;
 use crate::places::Places;
 use crate::plan::{OperationPlan, make_plan};
@@ -101,5 +102,6 @@ fn first_state<const W: usize>(
         counted: false,
         counts: Vec::with_capacity(alloc, nodes)?,
         set: ReadySet::with_room(alloc, nodes as u32)?,
+        leads: no_leads(alloc)?,
     })
 }

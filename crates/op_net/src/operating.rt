@@ -19,10 +19,10 @@ ghost use Rattle.op_net.specs.StandingChanges.{lines_dropped, lines_moved, room_
 ghost use Rattle.op_net.specs.Waits.{IsNodeBefore, node_total};
 
 use crate::hops::Hop;
+use crate::leads::lead_of;
 use crate::lookups::OperationBoard;
 use crate::places::Places;
 use crate::rows::Row;
-use crate::standing::node_before;
 use operation_lists::Operand;
 
 /// Appends a value for which there is room.
@@ -35,6 +35,7 @@ pub(crate) fn push_argument(args: &mut Vec<i32>, z: i32)
 }
 
 /// Takes the values of the operands of an operation.
+#[inline(always)]
 pub(crate) fn take_operands<const W: usize>(
     board: &OperationBoard<W>,
     places: &mut Places,
@@ -65,6 +66,7 @@ pub(crate) fn take_operands<const W: usize>(
 }
 
 // Takes the value of an operand.
+#[inline(always)]
 fn take_operand<const W: usize>(
     board: &OperationBoard<W>,
     places: &mut Places,
@@ -118,6 +120,7 @@ pub(crate) fn chosen_edge<const W: usize>(
 }
 
 /// Leads on the lines that an operation needs: past it, and after the last operation of the piece that needs them along this edge.
+#[inline(always)]
 pub(crate) fn move_lines<const W: usize>(
     board: &OperationBoard<W>,
     places: &mut Places,
@@ -144,6 +147,7 @@ pub(crate) fn move_lines<const W: usize>(
 }
 
 // Leads on one line.
+#[inline(always)]
 fn move_line<const W: usize>(
     board: &OperationBoard<W>,
     places: &mut Places,
@@ -178,6 +182,7 @@ fn move_line<const W: usize>(
 }
 
 /// Leads a line along an edge from the node before which it stands.
+#[inline(always)]
 pub(crate) fn lead_line<const W: usize>(
     board: &OperationBoard<W>,
     places: &mut Places,
@@ -197,22 +202,8 @@ pub(crate) fn lead_line<const W: usize>(
     ensures counted { IsCounted (operation_net_on board.now) places.new }
     ensures kept { KeepsCounts places.old places.new }
 {
-    let next = board.plan.board.plan.routes.next_wire(line, edge);
-    let to = node_led_to(board, places.counted, line, next);
-    places.put_line(board, line, Some(next), 0, k, to);
-}
-
-// The node before which a line comes to stand on an edge, where that is asked for.
-fn node_led_to<const W: usize>(board: &OperationBoard<W>, asked: bool, line: u32, edge: u32) -> u32
-    requires line { line < (operation_net_on board.now).net.routing.lines }
-    requires edge { edge < edge_count (graph_in (operation_net_on board.now).net) }
-    ensures { asked ≡ true → IsNodeBefore (operation_net_on board.now) line (Some edge) 0 result }
-{
-    if asked {
-        node_before(board, line, edge)
-    } else {
-        0
-    }
+    let lead = lead_of(board, places.counted, &mut places.leads, line, edge);
+    places.put_line(board, line, Some(lead.wire), 0, k, lead.node);
 }
 
 /// The lines that an operation needs vanish.

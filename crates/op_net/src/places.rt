@@ -1,5 +1,6 @@
 //! Where token lines stand, which edges are left for switches, and which values are given.
 
+use crate::leads::Lead;
 use firing::ReadySet;
 
 /// Where each token line stands, which edge is left for each switch, and which values are given and not taken. While that is asked
@@ -17,4 +18,6 @@ pub(crate) struct Places {
     pub(crate) counted: bool,
     pub(crate) counts: Vec<u64>,
     pub(crate) set: ReadySet,
+    /// Where lines came to stand that were led along edges.
+    pub(crate) leads: Vec<Lead>,
 }

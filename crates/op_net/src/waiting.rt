@@ -191,6 +191,7 @@ impl Places {
         requires places { ArePlaces (operation_net_on board.now) self.old }
         requires none { self.old.counts.items ≡ [] }
         ensures standing { standing self.new ≡ standing self.old }
+        ensures leads { self.new.leads.items ≡ self.old.leads.items }
         ensures counts { AreCounts (node_total (operation_net_on board.now)) (waits (operation_net_on board.now) (standing self.old)) self.new.counts.items self.new.set }
         ensures places { ArePlaces (operation_net_on board.now) self.new }
     {
@@ -205,6 +206,7 @@ impl Places {
         requires places { ArePlaces (operation_net_on board.now) self.old }
         requires below { length self.old.counts.items ≡ k }
         ensures standing { standing self.new ≡ standing self.old }
+        ensures leads { self.new.leads.items ≡ self.old.leads.items }
         ensures counts { self.new.counts.items ≡ self.old.counts.items ++ waits (operation_net_on board.now) (standing self.old) k ∷ [] }
         ensures set { self.new.set ≡ set self.old.set k (waits (operation_net_on board.now) (standing self.old) k == 0) }
         ensures places { ArePlaces (operation_net_on board.now) self.new }

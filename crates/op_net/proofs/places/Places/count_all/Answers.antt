@@ -12,6 +12,7 @@ loop-k-init g c =
     let old = c.args.self.now in
     record {
       stands = refl;
+      leads = refl;
       below = none_counted (node_total x) (waits x (standing old)) old.counts.items old.set c.requires.none c.requires.places.marks;
       places = c.requires.places;
     }
@@ -33,6 +34,7 @@ loop-k-preserved g c =
     let node : k < node_total x = omega (arith, c.nodes-k-end.ensures, c.loop-k-test.true) in
     record {
       stands = c.count_one.ensures.standing ∙ kept.stands;
+      leads = c.count_one.ensures.leads ∙ kept.leads;
       below = next_counted (node_total x) k (waits x (standing c.args.self.now)) old.counts.items new.counts.items old.set new.set kept.below node
           (c.count_one.ensures.counts ∙ ap (λ m. old.counts.items ++ waits x m k ∷ []) kept.stands)
           (c.count_one.ensures.set ∙ ap (λ m. set old.set k (waits x m k == 0)) kept.stands);
@@ -50,3 +52,6 @@ returns-clause-counts g c =
 
 pub returns-clause-places : goal.returns-clause-places
 returns-clause-places g c = c.loop-k.invariant.places
+
+pub returns-clause-leads : goal.returns-clause-leads
+returns-clause-leads g c = c.loop-k.invariant.leads

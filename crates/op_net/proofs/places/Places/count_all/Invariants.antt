@@ -9,6 +9,7 @@ use Rattle.op_net.proofs.places.Places.count_all.Given as goal
 abbrev pub invariant-loop-k : goal.invariant-loop-k
 invariant-loop-k g l = record {
   stands : standing l.self ≡ standing l.fn.self;
+  leads : l.self.leads.items ≡ l.fn.self.leads.items;
   below : CountedBelow (node_total (operation_net_on l.board)) l.k (waits (operation_net_on l.board) (standing l.fn.self)) l.self.counts.items l.self.set;
   places : ArePlaces (operation_net_on l.board) l.self;
 }

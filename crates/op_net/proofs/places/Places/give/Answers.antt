@@ -23,7 +23,7 @@ wait_less-requires-clause-some g c =
     let new : OperationTokens = value_put (standing old) c.args.k (Some c.args.z) in
     let change : old.counted ≡ true → (j : ℕ) → j < node_total x → waits x new j + one_if (j == c.args.taker) ≡ waits x (standing old) j + one_if (j == c.args.k) =
     λ counted. value_waits x (standing old) old.values.items new.values c.args.k (λ j differ. put_elsewhere old.values.items c.args.k j (Some c.args.z) differ) (ap is_some c.requires.empty) (ap (λ o. is_some (value_of o)) (put_there old.values.items c.args.k (Some c.args.z) c.requires.value)) c.args.taker (giver_operates x c.args.board.now.plan.facts c.args.k c.args.taker c.requires.after (c.requires.taker counted)) (c.requires.taker counted) in
-    less_some x old c.requires.counted c.wait_more.new.self new c.args.k c.args.taker change c.wait_more.ensures.kept.counted c.wait_more.ensures.counts
+    less_some x old c.requires.counted c.wait_more.new.self new c.args.k c.args.taker change c.wait_more.ensures.kept.counted c.wait_more.ensures.none c.wait_more.ensures.counts
 
 pub wait_less-requires-clause-marks : goal.wait_less-requires-clause-marks
 wait_less-requires-clause-marks g c =
@@ -32,7 +32,7 @@ wait_less-requires-clause-marks g c =
     let new : OperationTokens = value_put (standing old) c.args.k (Some c.args.z) in
     let change : old.counted ≡ true → (j : ℕ) → j < node_total x → waits x new j + one_if (j == c.args.taker) ≡ waits x (standing old) j + one_if (j == c.args.k) =
     λ counted. value_waits x (standing old) old.values.items new.values c.args.k (λ j differ. put_elsewhere old.values.items c.args.k j (Some c.args.z) differ) (ap is_some c.requires.empty) (ap (λ o. is_some (value_of o)) (put_there old.values.items c.args.k (Some c.args.z) c.requires.value)) c.args.taker (giver_operates x c.args.board.now.plan.facts c.args.k c.args.taker c.requires.after (c.requires.taker counted)) (c.requires.taker counted) in
-    less_marks x old c.requires.counted c.wait_more.new.self new c.args.k c.args.taker change c.wait_more.ensures.kept.counted c.wait_more.ensures.counts
+    less_marks x old c.requires.counted c.wait_more.new.self new c.args.k c.args.taker change c.wait_more.ensures.kept.counted c.wait_more.ensures.none c.wait_more.ensures.counts
 
 pub returns-clause-counted : goal.returns-clause-counted
 returns-clause-counted g c =
@@ -42,5 +42,5 @@ returns-clause-counted g c =
     let new : OperationTokens = value_put (standing old) c.args.k (Some c.args.z) in
     let change : old.counted ≡ true → (j : ℕ) → j < node_total x → waits x new j + one_if (j == c.args.taker) ≡ waits x (standing old) j + one_if (j == c.args.k) =
     λ counted. value_waits x (standing old) old.values.items new.values c.args.k (λ j differ. put_elsewhere old.values.items c.args.k j (Some c.args.z) differ) (ap is_some c.requires.empty) (ap (λ o. is_some (value_of o)) (put_there old.values.items c.args.k (Some c.args.z) c.requires.value)) c.args.taker (giver_operates x c.args.board.now.plan.facts c.args.k c.args.taker c.requires.after (c.requires.taker counted)) (c.requires.taker counted) in
-    counted_after x old c.requires.counted c.wait_more.new.self new c.args.k c.args.taker change c.wait_more.ensures.kept.counted c.wait_more.ensures.counts
-    c.wait_less.new.self c.wait_less.ensures.kept.counted (c.wait_less.ensures.standing ∙ c.wait_more.ensures.standing ∙ ap (λ v. value_put (standing old) c.args.k (Some v)) (to_z-of_z w32 c.args.z fits)) c.wait_more.ensures.uncounted c.wait_less.ensures.uncounted c.wait_less.ensures.counts
+    counted_after x old c.requires.counted c.wait_more.new.self new c.args.k c.args.taker change c.wait_more.ensures.kept.counted c.wait_more.ensures.none c.wait_more.ensures.counts
+    c.wait_less.new.self c.wait_less.ensures.kept.counted (c.wait_less.ensures.standing ∙ c.wait_more.ensures.standing ∙ ap (λ v. value_put (standing old) c.args.k (Some v)) (to_z-of_z w32 c.args.z fits)) c.wait_less.ensures.none c.wait_less.ensures.counts (c.wait_less.ensures.leads ∙ c.wait_more.ensures.leads)

@@ -1,7 +1,8 @@
-use Rattle.std.proofs.Common.{◌≡◌, true, false, sym, subst}
+use Rattle.std.proofs.Common.{◌≡◌, true, false, All, sym, subst}
 use Rattle.op_board.specs.OperationTokens.{OperationTokens}
 use Rattle.op_net.specs.BoardView.{operation_net_on}
 use Rattle.op_net.specs.Counts.{AreCounts}
+use Rattle.op_net.specs.Leads.{IsLead}
 use Rattle.op_net.specs.PlacesView.{standing}
 use Rattle.op_net.specs.Waits.{node_total, waits}
 use Rattle.op_net.proofs.places.Places.keep_counts.Goals as goal
@@ -16,4 +17,5 @@ returns-clause-counted g c =
       counts = λ counted. all.counts;
       marks = λ counted. all.marks;
       none = λ (none : true ≡ false). absurd cc;
+      leads = subst (All (IsLead x)) (sym c.count_all.ensures.leads) c.requires.counted.leads;
     }

@@ -21,7 +21,7 @@ wait_less-requires-clause-some g c =
     let new : OperationTokens = edge_put (standing old) c.args.switch (Some c.args.edge) in
     let change : old.counted ≡ true → (j : ℕ) → j < node_total x → waits x new j + one_if (j == c.args.node) ≡ waits x (standing old) j + one_if (j == c.args.decision) =
     λ counted. edge_waits x (standing old) old.edges.items new.tokens.edges c.args.switch (λ j differ. put_elsewhere old.edges.items c.args.switch j (Some c.args.edge) differ) (ap is_some c.requires.empty) (ap (λ o. is_some (joined o)) (put_there old.edges.items c.args.switch (Some c.args.edge) c.requires.switch)) c.args.node c.args.decision (c.requires.nodes counted) in
-    less_some x old c.requires.counted c.wait_more.new.self new c.args.decision c.args.node change c.wait_more.ensures.kept.counted c.wait_more.ensures.counts
+    less_some x old c.requires.counted c.wait_more.new.self new c.args.decision c.args.node change c.wait_more.ensures.kept.counted c.wait_more.ensures.none c.wait_more.ensures.counts
 
 pub wait_less-requires-clause-marks : goal.wait_less-requires-clause-marks
 wait_less-requires-clause-marks g c =
@@ -30,7 +30,7 @@ wait_less-requires-clause-marks g c =
     let new : OperationTokens = edge_put (standing old) c.args.switch (Some c.args.edge) in
     let change : old.counted ≡ true → (j : ℕ) → j < node_total x → waits x new j + one_if (j == c.args.node) ≡ waits x (standing old) j + one_if (j == c.args.decision) =
     λ counted. edge_waits x (standing old) old.edges.items new.tokens.edges c.args.switch (λ j differ. put_elsewhere old.edges.items c.args.switch j (Some c.args.edge) differ) (ap is_some c.requires.empty) (ap (λ o. is_some (joined o)) (put_there old.edges.items c.args.switch (Some c.args.edge) c.requires.switch)) c.args.node c.args.decision (c.requires.nodes counted) in
-    less_marks x old c.requires.counted c.wait_more.new.self new c.args.decision c.args.node change c.wait_more.ensures.kept.counted c.wait_more.ensures.counts
+    less_marks x old c.requires.counted c.wait_more.new.self new c.args.decision c.args.node change c.wait_more.ensures.kept.counted c.wait_more.ensures.none c.wait_more.ensures.counts
 
 pub returns-clause-counted : goal.returns-clause-counted
 returns-clause-counted g c =
@@ -39,5 +39,5 @@ returns-clause-counted g c =
     let new : OperationTokens = edge_put (standing old) c.args.switch (Some c.args.edge) in
     let change : old.counted ≡ true → (j : ℕ) → j < node_total x → waits x new j + one_if (j == c.args.node) ≡ waits x (standing old) j + one_if (j == c.args.decision) =
     λ counted. edge_waits x (standing old) old.edges.items new.tokens.edges c.args.switch (λ j differ. put_elsewhere old.edges.items c.args.switch j (Some c.args.edge) differ) (ap is_some c.requires.empty) (ap (λ o. is_some (joined o)) (put_there old.edges.items c.args.switch (Some c.args.edge) c.requires.switch)) c.args.node c.args.decision (c.requires.nodes counted) in
-    counted_after x old c.requires.counted c.wait_more.new.self new c.args.decision c.args.node change c.wait_more.ensures.kept.counted c.wait_more.ensures.counts
-    c.wait_less.new.self c.wait_less.ensures.kept.counted (c.wait_less.ensures.standing ∙ c.wait_more.ensures.standing) c.wait_more.ensures.uncounted c.wait_less.ensures.uncounted c.wait_less.ensures.counts
+    counted_after x old c.requires.counted c.wait_more.new.self new c.args.decision c.args.node change c.wait_more.ensures.kept.counted c.wait_more.ensures.none c.wait_more.ensures.counts
+    c.wait_less.new.self c.wait_less.ensures.kept.counted (c.wait_less.ensures.standing ∙ c.wait_more.ensures.standing) c.wait_less.ensures.none c.wait_less.ensures.counts (c.wait_less.ensures.leads ∙ c.wait_more.ensures.leads)

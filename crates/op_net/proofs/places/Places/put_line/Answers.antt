@@ -20,7 +20,7 @@ wait_less-requires-clause-some g c =
     let new : OperationTokens = line_put (standing old) c.args.line c.args.edge c.args.passed in
     let change : old.counted ≡ true → (j : ℕ) → j < node_total x → waits x new j + one_if (j == c.args.to) ≡ waits x (standing old) j + one_if (j == c.args.from) =
     λ counted. line_waits x (standing old) c.args.line c.args.edge c.args.passed c.requires.exists c.requires.line c.requires.passed c.args.from c.args.to (c.requires.from counted) (c.requires.to counted) in
-    less_some x old c.requires.counted c.wait_more.new.self new c.args.from c.args.to change c.wait_more.ensures.kept.counted c.wait_more.ensures.counts
+    less_some x old c.requires.counted c.wait_more.new.self new c.args.from c.args.to change c.wait_more.ensures.kept.counted c.wait_more.ensures.none c.wait_more.ensures.counts
 
 pub wait_less-requires-clause-marks : goal.wait_less-requires-clause-marks
 wait_less-requires-clause-marks g c =
@@ -29,7 +29,7 @@ wait_less-requires-clause-marks g c =
     let new : OperationTokens = line_put (standing old) c.args.line c.args.edge c.args.passed in
     let change : old.counted ≡ true → (j : ℕ) → j < node_total x → waits x new j + one_if (j == c.args.to) ≡ waits x (standing old) j + one_if (j == c.args.from) =
     λ counted. line_waits x (standing old) c.args.line c.args.edge c.args.passed c.requires.exists c.requires.line c.requires.passed c.args.from c.args.to (c.requires.from counted) (c.requires.to counted) in
-    less_marks x old c.requires.counted c.wait_more.new.self new c.args.from c.args.to change c.wait_more.ensures.kept.counted c.wait_more.ensures.counts
+    less_marks x old c.requires.counted c.wait_more.new.self new c.args.from c.args.to change c.wait_more.ensures.kept.counted c.wait_more.ensures.none c.wait_more.ensures.counts
 
 pub returns-clause-counted : goal.returns-clause-counted
 returns-clause-counted g c =
@@ -38,5 +38,5 @@ returns-clause-counted g c =
     let new : OperationTokens = line_put (standing old) c.args.line c.args.edge c.args.passed in
     let change : old.counted ≡ true → (j : ℕ) → j < node_total x → waits x new j + one_if (j == c.args.to) ≡ waits x (standing old) j + one_if (j == c.args.from) =
     λ counted. line_waits x (standing old) c.args.line c.args.edge c.args.passed c.requires.exists c.requires.line c.requires.passed c.args.from c.args.to (c.requires.from counted) (c.requires.to counted) in
-    counted_after x old c.requires.counted c.wait_more.new.self new c.args.from c.args.to change c.wait_more.ensures.kept.counted c.wait_more.ensures.counts
-    c.wait_less.new.self c.wait_less.ensures.kept.counted (c.wait_less.ensures.standing ∙ c.wait_more.ensures.standing) c.wait_more.ensures.uncounted c.wait_less.ensures.uncounted c.wait_less.ensures.counts
+    counted_after x old c.requires.counted c.wait_more.new.self new c.args.from c.args.to change c.wait_more.ensures.kept.counted c.wait_more.ensures.none c.wait_more.ensures.counts
+    c.wait_less.new.self c.wait_less.ensures.kept.counted (c.wait_less.ensures.standing ∙ c.wait_more.ensures.standing) c.wait_less.ensures.none c.wait_less.ensures.counts (c.wait_less.ensures.leads ∙ c.wait_more.ensures.leads)

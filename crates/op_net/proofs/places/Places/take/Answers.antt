@@ -21,7 +21,7 @@ wait_less-requires-clause-some g c =
     let new : OperationTokens = value_put (standing old) c.args.k None in
     let change : old.counted ≡ true → (j : ℕ) → j < node_total x → waits x new j + one_if (j == c.args.k) ≡ waits x (standing old) j + one_if (j == c.args.taker) =
     λ counted j below. sym (value_waits x (standing old) new.values old.values.items c.args.k (λ i differ. sym (put_elsewhere old.values.items c.args.k i None differ)) (ap (λ o. is_some (value_of o)) (put_there old.values.items c.args.k None c.requires.value)) c.requires.full c.args.taker (giver_operates x c.args.board.now.plan.facts c.args.k c.args.taker c.requires.node (c.requires.taker counted)) (c.requires.taker counted) j below) in
-    less_some x old c.requires.counted c.wait_more.new.self new c.args.taker c.args.k change c.wait_more.ensures.kept.counted c.wait_more.ensures.counts
+    less_some x old c.requires.counted c.wait_more.new.self new c.args.taker c.args.k change c.wait_more.ensures.kept.counted c.wait_more.ensures.none c.wait_more.ensures.counts
 
 pub wait_less-requires-clause-marks : goal.wait_less-requires-clause-marks
 wait_less-requires-clause-marks g c =
@@ -30,7 +30,7 @@ wait_less-requires-clause-marks g c =
     let new : OperationTokens = value_put (standing old) c.args.k None in
     let change : old.counted ≡ true → (j : ℕ) → j < node_total x → waits x new j + one_if (j == c.args.k) ≡ waits x (standing old) j + one_if (j == c.args.taker) =
     λ counted j below. sym (value_waits x (standing old) new.values old.values.items c.args.k (λ i differ. sym (put_elsewhere old.values.items c.args.k i None differ)) (ap (λ o. is_some (value_of o)) (put_there old.values.items c.args.k None c.requires.value)) c.requires.full c.args.taker (giver_operates x c.args.board.now.plan.facts c.args.k c.args.taker c.requires.node (c.requires.taker counted)) (c.requires.taker counted) j below) in
-    less_marks x old c.requires.counted c.wait_more.new.self new c.args.taker c.args.k change c.wait_more.ensures.kept.counted c.wait_more.ensures.counts
+    less_marks x old c.requires.counted c.wait_more.new.self new c.args.taker c.args.k change c.wait_more.ensures.kept.counted c.wait_more.ensures.none c.wait_more.ensures.counts
 
 pub returns-clause-counted : goal.returns-clause-counted
 returns-clause-counted g c =
@@ -39,5 +39,5 @@ returns-clause-counted g c =
     let new : OperationTokens = value_put (standing old) c.args.k None in
     let change : old.counted ≡ true → (j : ℕ) → j < node_total x → waits x new j + one_if (j == c.args.k) ≡ waits x (standing old) j + one_if (j == c.args.taker) =
     λ counted j below. sym (value_waits x (standing old) new.values old.values.items c.args.k (λ i differ. sym (put_elsewhere old.values.items c.args.k i None differ)) (ap (λ o. is_some (value_of o)) (put_there old.values.items c.args.k None c.requires.value)) c.requires.full c.args.taker (giver_operates x c.args.board.now.plan.facts c.args.k c.args.taker c.requires.node (c.requires.taker counted)) (c.requires.taker counted) j below) in
-    counted_after x old c.requires.counted c.wait_more.new.self new c.args.taker c.args.k change c.wait_more.ensures.kept.counted c.wait_more.ensures.counts
-    c.wait_less.new.self c.wait_less.ensures.kept.counted (c.wait_less.ensures.standing ∙ c.wait_more.ensures.standing) c.wait_more.ensures.uncounted c.wait_less.ensures.uncounted c.wait_less.ensures.counts
+    counted_after x old c.requires.counted c.wait_more.new.self new c.args.taker c.args.k change c.wait_more.ensures.kept.counted c.wait_more.ensures.none c.wait_more.ensures.counts
+    c.wait_less.new.self c.wait_less.ensures.kept.counted (c.wait_less.ensures.standing ∙ c.wait_more.ensures.standing) c.wait_less.ensures.none c.wait_less.ensures.counts (c.wait_less.ensures.leads ∙ c.wait_more.ensures.leads)

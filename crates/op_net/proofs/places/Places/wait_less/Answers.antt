@@ -1,31 +1,27 @@
 use Rattle.std.proofs.Common.{◌≡◌, ◌-◌, ◌<◌, ◌≤◌, Bool, List, length, get_or, slice_set, sym, ap, ◌∙◌, subst, arith}
-use Rattle.std.proofs.lemmas.Bool.{false≢true}
 use Rattle.std.proofs.lemmas.List.{get_or_default}
 use Rattle.op_net.specs.Counts.{AreCounts}
 use Rattle.op_net.proofs.CountedNumbers.{less_kept, less_marked, less_outside}
-use Rattle.op_net.proofs.places.Places.wait_less.Goals.{else-self-via-then-self+else-k-len, else-self-via-else-self}
 use Rattle.op_net.proofs.places.Places.wait_less.Goals as goal
 
 pub returns-then-count-eq0-clause-counts : goal.returns-then-count-eq0-clause-counts
-returns-then-count-eq0-clause-counts c counted count are =
+returns-then-count-eq0-clause-counts c count are =
     let items = c.args.self.now.counts.items in
     let was = c.index.result.now in
     let inside : c.args.k < length items = omega (arith, c.if-k-len.true, c.len.ensures) in
     let at : was - 1 ≡ get_or items c.args.k 0 - 1 = ap (λ n. n - 1) (c.index.ensures ∙ get_or_default items c.args.k was 0 inside) in
-    subst (λ (marks : List Bool). AreCounts (length items) count (slice_set items c.args.k (was - 1)) marks) (sym c.put.ensures) (less_marked (length items) count c.args.k items c.args.self.now.set are inside (was - 1) at c.if-count-eq0.true)
+    subst (λ (marks : List Bool). AreCounts (length items) count (slice_set items c.args.k (was - 1)) marks) (sym c.take_in.ensures) (less_marked (length items) count c.args.k items c.args.self.now.set are inside (was - 1) at c.if-count-eq0.true)
 
 pub returns-else-count-eq0-clause-counts : goal.returns-else-count-eq0-clause-counts
-returns-else-count-eq0-clause-counts c counted count are =
+returns-else-count-eq0-clause-counts c count are =
     let items = c.args.self.now.counts.items in
     let was = c.index.result.now in
     let inside : c.args.k < length items = omega (arith, c.if-k-len.true, c.len.ensures) in
     let at : was - 1 ≡ get_or items c.args.k 0 - 1 = ap (λ n. n - 1) (c.index.ensures ∙ get_or_default items c.args.k was 0 inside) in
     less_kept (length items) count c.args.k items c.args.self.now.set are inside (was - 1) at c.if-count-eq0.false
 
-pub returns-else-self-clause-counts : goal.returns-else-self-clause-counts
-returns-else-self-clause-counts c counted count are =
+pub returns-else-k-len-clause-counts : goal.returns-else-k-len-clause-counts
+returns-else-k-len-clause-counts c count are =
     let items = c.args.self.now.counts.items in
-    elim c.else-self.branch [
-      | else-self-via-then-self+else-k-len w ↦ let outside : length items ≤ c.args.k = omega (arith, w.if-k-len.false, w.len.ensures) in less_outside (length items) count c.args.k items c.args.self.now.set are outside
-      | else-self-via-else-self w ↦ absurd (false≢true (sym w.if-self.false ∙ counted))
-    ]
+    let outside : length items ≤ c.args.k = omega (arith, c.if-k-len.false, c.len.ensures) in
+    less_outside (length items) count c.args.k items c.args.self.now.set are outside

@@ -1,31 +1,27 @@
 use Rattle.std.proofs.Common.{◌≡◌, ◌+◌, ◌<◌, ◌≤◌, Bool, List, length, get_or, slice_set, sym, ◌∙◌, subst, arith}
-use Rattle.std.proofs.lemmas.Bool.{false≢true}
 use Rattle.std.proofs.lemmas.List.{get_or_default}
 use Rattle.op_net.specs.Counts.{AreCounts, one_more}
 use Rattle.op_net.proofs.CountedNumbers.{more_kept, more_marked, more_outside}
-use Rattle.op_net.proofs.places.Places.wait_more.Goals.{else-self-via-then-self+else-k-len, else-self-via-else-self}
 use Rattle.op_net.proofs.places.Places.wait_more.Goals as goal
 
 pub returns-then-count-eq0-clause-counts : goal.returns-then-count-eq0-clause-counts
-returns-then-count-eq0-clause-counts c counted count are =
+returns-then-count-eq0-clause-counts c count are =
     let items = c.args.self.now.counts.items in
     let now = c.index-count.result.now in
     let inside : c.args.k < length items = omega (arith, c.if-k-len.true, c.len.ensures) in
     let at : now ≡ get_or items c.args.k 0 = c.index-count.ensures ∙ get_or_default items c.args.k now 0 inside in
-    subst (λ (marks : List Bool). AreCounts (length items) (one_more count c.args.k) (slice_set items c.args.k (now + 1)) marks) (sym c.put.ensures) (more_marked (length items) count c.args.k items c.args.self.now.set are inside now at)
+    subst (λ (marks : List Bool). AreCounts (length items) (one_more count c.args.k) (slice_set items c.args.k (now + 1)) marks) (sym c.leave_out.ensures) (more_marked (length items) count c.args.k items c.args.self.now.set are inside now at)
 
 pub returns-else-count-eq0-clause-counts : goal.returns-else-count-eq0-clause-counts
-returns-else-count-eq0-clause-counts c counted count are =
+returns-else-count-eq0-clause-counts c count are =
     let items = c.args.self.now.counts.items in
     let now = c.index-count.result.now in
     let inside : c.args.k < length items = omega (arith, c.if-k-len.true, c.len.ensures) in
     let at : now ≡ get_or items c.args.k 0 = c.index-count.ensures ∙ get_or_default items c.args.k now 0 inside in
     more_kept (length items) count c.args.k items c.args.self.now.set are inside now at c.if-count-eq0.false
 
-pub returns-else-self-clause-counts : goal.returns-else-self-clause-counts
-returns-else-self-clause-counts c counted count are =
+pub returns-else-k-len-clause-counts : goal.returns-else-k-len-clause-counts
+returns-else-k-len-clause-counts c count are =
     let items = c.args.self.now.counts.items in
-    elim c.else-self.branch [
-      | else-self-via-then-self+else-k-len w ↦ let outside : length items ≤ c.args.k = omega (arith, w.if-k-len.false, w.len.ensures) in more_outside (length items) count c.args.k items c.args.self.now.set are outside
-      | else-self-via-else-self w ↦ absurd (false≢true (sym w.if-self.false ∙ counted))
-    ]
+    let outside : length items ≤ c.args.k = omega (arith, c.if-k-len.false, c.len.ensures) in
+    more_outside (length items) count c.args.k items c.args.self.now.set are outside
