@@ -8,7 +8,7 @@ use Rattle.f77_tree.specs.Name.{is_figure}
 use Rattle.fixed_form.specs.Columns.{number}
 use Rattle.dfc_driver.specs.declared.words.Told.{Told}
 use Rattle.dfc_driver.specs.declared.words.Setting.TheVariants as setting
-use Rattle.dfc_driver.specs.Words.{Asked, Job, On, Play, Regen, Regions, Graph, Run, Task, after, are_digits_to, dialect_of, game_of_words, is_setting, is_text, job_of, limit_in, name_of, on, play_of, run_of, text_of, told_by, values_in, word_value}
+use Rattle.dfc_driver.specs.Words.{Asked, Job, On, Sample, Play, Regen, Regions, Graph, Run, Task, after, are_digits_to, dialect_of, game_of_words, is_sample, is_setting, is_text, job_of, limit_in, name_of, on, play_of, run_of, sample_of, text_of, told_by, values_in, word_value}
 
 figure : (c : ℕ) → is_figure c ≡ true → c - 48 ≤ 9
 figure c is =
@@ -76,6 +76,7 @@ limit_small (word ∷ words) = given_small word (is_setting setting.Limit word) 
 -- the limit of a game
 abbrev limit_of : Option Job → ℕ
 limit_of None = 0
+limit_of (Some (Sample n)) = 0
 limit_of (Some (On Regions checked)) = 0
 limit_of (Some (On Graph checked)) = 0
 limit_of (Some (On (Play told asked) checked)) = asked.limit
@@ -112,13 +113,20 @@ run_small words =
     let after_limit = after setting.Limit words in
     on_small (Run (limit_in (text_of setting.Limit words)) (values_in word_value (text_of setting.Data after_limit))) (dialect_of (after setting.Data after_limit)) (λ checked. none_small)
 
+sample_small : (words : List (List ℕ)) → IsSmall (sample_of words)
+sample_small [] = none_small
+sample_small (word ∷ []) = small_if (is_sample word) (Some (Sample (number word))) None none_small none_small
+sample_small (word ∷ more ∷ words) = none_small
+
 job_small : (words : List (List ℕ)) → IsSmall (job_of words)
 job_small [] = none_small
 job_small (word ∷ words) =
-    let run = small_if (bytes_eq word (codes "run")) (run_of words) (game_of_words (told_by word) words) (run_small words) (game_small (told_by word) words) in
-    let run_job = if bytes_eq word (codes "run") then run_of words else game_of_words (told_by word) words in
+    let sample_job = if bytes_eq word (codes "sample") then sample_of words else game_of_words (told_by word) words in
+    let run_job = if bytes_eq word (codes "run") then run_of words else sample_job in
     let regen_job = if bytes_eq word (codes "regen") then on Regen (dialect_of words) else run_job in
     let graph_job = if bytes_eq word (codes "graph") then on Graph (dialect_of words) else regen_job in
+    let sample = small_if (bytes_eq word (codes "sample")) (sample_of words) (game_of_words (told_by word) words) (sample_small words) (game_small (told_by word) words) in
+    let run = small_if (bytes_eq word (codes "run")) (run_of words) sample_job (run_small words) sample in
     let regen = small_if (bytes_eq word (codes "regen")) (on Regen (dialect_of words)) run_job (on_small Regen (dialect_of words) (λ checked. none_small)) run in
     let graph = small_if (bytes_eq word (codes "graph")) (on Graph (dialect_of words)) regen_job (on_small Graph (dialect_of words) (λ checked. none_small)) regen in
     small_if (bytes_eq word (codes "regions")) (on Regions (dialect_of words)) graph_job (on_small Regions (dialect_of words) (λ checked. none_small)) graph
