@@ -120,7 +120,7 @@ impl<T> Sequence<T> {
 
 impl<T: Copied + Drop> Copied for Sequence<T> {
     fn copy(&self, alloc: Global) -> Result<Self, NoMemory> {
-        let mut copied = Vec::new(alloc);
+        let mut copied = Vec::with_capacity(alloc, self.items.len())?;
         for item in &self.items {
             copied.push(item.copy(alloc)?)?;
         }
