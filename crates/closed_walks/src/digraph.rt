@@ -130,7 +130,7 @@ impl Digraph {
 fn no_edges(alloc: Global, nodes: u32) -> Result<Vec<EdgeList>, NoMemory>
     ensures { IfOk result (λ lists. (length lists.items ≡ nodes) × ((node : ℕ) → slice_index_or lists.items node [] ≡ [])) }
 {
-    let mut lists = Vec::new(alloc);
+    let mut lists = Vec::with_capacity(alloc, nodes as usize)?;
     for _ in 0..nodes {
         lists.push(EdgeList::new(alloc))?;
     }

@@ -3,13 +3,14 @@
 ghost use Rattle.std.specs.Prelude.{◌≡◌, ℕ, List, [], ◌∷◌, ◌++◌, OnOk, OnErr};
 
 use df_sequence::NoMemory;
+use smallvec::SmallVec;
 use std::alloc::Global;
 use std::marker::Model;
 
-/// Numbers of edges. Contracts see the list of them.
+/// Numbers of edges. Contracts see the list of them. Most nodes have few edges, and the numbers of those lie in the list itself.
 #[derive(Drop)]
 pub(crate) struct EdgeList {
-    numbers: Vec<u32>,
+    numbers: SmallVec<u32, 4>,
 }
 
 impl Model for EdgeList {
@@ -26,7 +27,7 @@ impl EdgeList {
         ensures { result ≡ [] }
     {
         EdgeList {
-            numbers: Vec::new(alloc),
+            numbers: SmallVec::new(alloc),
         }
     }
 
