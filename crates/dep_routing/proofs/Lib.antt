@@ -13,6 +13,7 @@ pub mod Staying
 pub mod LeavingRuns
 pub mod Moving
 pub mod Hopping
+pub mod KnownRisks
 pub mod Noises
 pub mod Listing
 pub mod Numbering

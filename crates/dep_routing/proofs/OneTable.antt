@@ -13,7 +13,7 @@ use Rattle.dep_routing.specs.Next.{Next}
 use Rattle.dep_routing.specs.OneTable.{EndAt, HaveSameCells}
 use Rattle.dep_routing.specs.Quiet.{IsWire}
 use Rattle.dep_routing.specs.Routing.{Routing, IsRouting, next_at, wire_at}
-use Rattle.dep_routing.specs.Touches.{AreTouches, Touches}
+use Rattle.dep_routing.specs.Touches.{AreTouchesBy, TouchesBy}
 
 -- two tests that tell the same
 same_test : (A : Type 0) (a b : Bool) → (a ≡ true) ↔ A → (b ≡ true) ↔ A → a ≡ b
@@ -23,9 +23,10 @@ same_test A false false left right = refl
 
 -- ---- touches
 
-pub one_touching : (p : Program) (c : ClassTable) (touches others : ℕ → ℕ → Bool) → AreTouches p c touches → AreTouches p c others → EndAt (flow p.execs).graph.nodes touches → EndAt (flow p.execs).graph.nodes others → touches ≡ others
-one_touching p c touches others are too outside beyond = fun_ext (λ node. fun_ext (λ line. ⊎_elim
-    (λ (inside : node < (flow p.execs).graph.nodes). same_test (Touches p c node line) (touches node line) (others node line) (are node line inside) (too node line inside))
+-- by the same risks
+pub one_touching : (p : Program) (c : ClassTable) (may : ℕ → Type 0) (touches others : ℕ → ℕ → Bool) → AreTouchesBy p c may touches → AreTouchesBy p c may others → EndAt (flow p.execs).graph.nodes touches → EndAt (flow p.execs).graph.nodes others → touches ≡ others
+one_touching p c may touches others are too outside beyond = fun_ext (λ node. fun_ext (λ line. ⊎_elim
+    (λ (inside : node < (flow p.execs).graph.nodes). same_test (TouchesBy p c may node line) (touches node line) (others node line) (are node line inside) (too node line inside))
     (λ out. outside node line out ∙ sym (beyond node line out))
     (cases_lt node (flow p.execs).graph.nodes)))
 

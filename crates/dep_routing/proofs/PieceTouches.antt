@@ -215,7 +215,8 @@ quiet-branch c kind risk set round may law told no_round told_risk no_risk some 
 -- ---- the same risks, told in two ways
 
 module _ (p : Program) (c : ClassTable) (node : ℕ) (risk other : Type 0) (same : risk → other) where
-  branch-by : (exec : ExecKind) → BranchTraps risk exec → BranchTraps other exec
+  -- so of a branch, but for the test of a DO
+  pub branch-by : (exec : ExecKind) → BranchTraps risk exec → BranchTraps other exec
   branch-by (DoStart loop_no var first last step body exit) h = h
   branch-by (Assign target e next) h = same h
   branch-by (Print items next) h = same h

@@ -49,6 +49,28 @@ module _ (p : Program) (input : List ℤ) (m : Memory) (safe : (kind : ExecKind)
   piece-traps c node out Branch exec none traps = branch-traps out exec (λ may. none (inl may)) traps
   piece-traps c node out End exec none traps = traps
 
+-- a branch of which the executable doesn't trap doesn't
+branch-safe : (p : Program) (input : List ℤ) (m : Memory) (out : ℕ → ℕ) (kind : ExecKind) → DoesNotTrap (outcome p.names input m kind) → DoesTrap (branched m out (choice p.names m kind)) → ⊥
+branch-safe p input m out (Test cond if_true if_false) can traps = chosen-traps m out _ _ (value_in p.names m cond) can traps
+branch-safe p input m out (Sign e neg equal pos') can traps = chosen-traps m out _ _ (value_in p.names m e) can traps
+branch-safe p input m out (Pick e targets other) can traps = chosen-traps m out _ _ (value_in p.names m e) can traps
+branch-safe p input m out (DoStart loop_no var first last step body exit) can traps = traps
+branch-safe p input m out (Assign target e next) can traps = traps
+branch-safe p input m out (Print items next) can traps = traps
+branch-safe p input m out (Passing next) can traps = traps
+branch-safe p input m out (DoNext loop_no var body exit) can traps = traps
+branch-safe p input m out Ending can traps = traps
+
+-- a pass of an executable that doesn't trap doesn't
+pub pass-safe : (p : Program) (input : List ℤ) (m : Memory) (out : ℕ → ℕ) (kind : PieceKind) (exec : ExecKind) → DoesNotTrap (outcome p.names input m exec) → DoesTrap (pass_of p input m out kind exec) → ⊥
+pass-safe p input m out Start exec can traps = traps
+pass-safe p input m out Pass exec can traps = traps
+pass-safe p input m out Join exec can traps = traps
+pass-safe p input m out Hold exec can traps = traps
+pass-safe p input m out Act exec can traps = acted-traps (out 0) (outcome p.names input m exec) can traps
+pass-safe p input m out Branch exec can traps = branch-safe p input m out exec can traps
+pass-safe p input m out End exec can traps = traps
+
 -- a test that is right for what is not refuted holds
 pub tells : {P : Type 0} (b : Bool) → (P → b ≡ true) → ((P → ⊥) → ⊥) → b ≡ true
 tells b told not_none = ⊎_elim (λ is. is) (λ is. absurd (not_none (λ h. false≢true (sym is ∙ told h)))) (cases_Bool b)

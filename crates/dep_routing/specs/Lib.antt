@@ -1,6 +1,7 @@
 pub mod Facts
 pub mod FreeLaws
 pub mod FreeLines
+pub mod KnownTraps
 pub mod LineTable
 pub mod Leaving
 pub mod Next

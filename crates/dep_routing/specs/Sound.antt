@@ -14,6 +14,7 @@ use Rattle.cfg_build.specs.declared.pieces.PieceKind.TheVariants.{Act, Branch, H
 use Rattle.cfg_build.specs.Flow.{flow}
 use Rattle.cfg_build.specs.Passes.{Passed, Traps, pass, passes}
 use Rattle.region_tree.specs.Tree.{Tree, IsIn, exit_of}
+use Rattle.dep_routing.specs.KnownTraps.{PieceKnownToTrap}
 use Rattle.dep_routing.specs.Quiet.{IsQuiet}
 use Rattle.dep_routing.specs.Touches.{piece_kind, exec_kind, BranchNeeds, PieceNeeds, Prints}
 
@@ -62,6 +63,8 @@ pub record IsSound (p : Program) (c : ClassTable) (t : Tree) (touches : ℕ → 
   pub classes : (node n : ℕ) → node < (flow p.execs).graph.nodes → (touches node (suc n) ≡ true) ↔ PieceNeeds p c node (suc n)
   pub must : (node : ℕ) → node < (flow p.execs).graph.nodes → MustTouchOut p c node → touches node 0 ≡ true
   pub may : (node : ℕ) → node < (flow p.execs).graph.nodes → touches node 0 ≡ true → MayTouchOut p node
+  -- a piece that is known to trap touches the line of output
+  pub known : (node : ℕ) → node < (flow p.execs).graph.nodes → PieceKnownToTrap p node → touches node 0 ≡ true
   -- where a run traps, the piece touches the line of output
   pub traps : (input : List ℤ) (n : ℕ) → All IsWord input → (passes p input n).mark ≡ Running → DoesTrap (pass p input (passes p input n).edge (passes p input n).memory) → touches (comes_to p input n) 0 ≡ true
   -- a run that is in a region quiet for the line of output leaves it, by its exit, and without a trap
