@@ -1,5 +1,5 @@
 -- Lists seen by what stands at each place.
-use Rattle.std.proofs.Common.{◌≡◌, ◌⊎◌, ⊎_elim, ℕ, zero, suc, ◌&&◌, ℤ, Bool, true, false, List, [], ◌∷◌, length, Option, Some, None, slice_get, slice_set, slice_index, refl, sym, ap, ◌∙◌, subst, inl, inr, arith}
+use Rattle.std.proofs.Common.{◌≡◌, ◌⊎◌, ⊎_elim, ℕ, zero, suc, ◌&&◌, ℤ, Bool, true, List, [], ◌∷◌, length, Option, Some, None, slice_get, slice_set, slice_index, refl, sym, ap, ◌∙◌, subst, inl, inr, arith}
 use Rattle.f77_tree.specs.Value.{word_at}
 use Rattle.std.specs.List.{list_all}
 use Rattle.list_laws.specs.Member.{Member}

@@ -2,23 +2,20 @@
 use Rattle.std.proofs.Common.{◌<◌, ℕ, suc, ℤ, Bool, List, All, arith}
 use Rattle.op_table.specs.Words.{IsWord}
 use Rattle.closed_walks.specs.Graph.{edge_count}
-use Rattle.region_tree.specs.Tree.{Tree, IsRegionTree}
 use Rattle.f77_tree.specs.CanRun.{CanRun}
 use Rattle.f77_tree.specs.WellFormed.{IsWellFormed}
 use Rattle.f77_tree.specs.declared.programs.Program.{Program}
-use Rattle.alias_classes.specs.Classes.{ClassTable, class_count}
+use Rattle.alias_classes.specs.Classes.{class_count}
 use Rattle.cfg_build.specs.Flow.{flow}
 use Rattle.cfg_build.specs.Joined.{FlowGraph}
 use Rattle.dep_routing.specs.Routing.{Routing, next_at}
-use Rattle.dep_routing.specs.Sound.{IsSound}
-use Rattle.dep_routing.specs.Touches.{AreTouches}
 use Rattle.net_board.specs.SoundNets.{IsNet}
 use Rattle.net_board.specs.ProgramFacts.{ProgramFacts}
 use Rattle.net_board.specs.NetParts.{AreParts, net_with}
 
-abbrev pub net_made : ((p : Program) → IsWellFormed p → CanRun p) → ((p : Program) (c : ClassTable) (t : Tree) (touches : ℕ → ℕ → Bool) → IsWellFormed p → IsRegionTree (flow p.execs).graph t → AreTouches p c touches → IsSound p c t touches)
+abbrev pub net_made : ((p : Program) → IsWellFormed p → CanRun p)
     → (p : Program) (f : FlowGraph) (touches : (piece line : ℕ) → Bool) (routing : Routing) (input : List ℤ) → AreParts p f touches routing → All IsWord input → IsNet (net_with p input touches routing)
-net_made can_run sound p f touches routing input parts words = record {
+net_made can_run p f touches routing input parts words = record {
   program = parts.program;
   can_run = can_run p parts.program;
   input_words = words;
@@ -26,7 +23,7 @@ net_made can_run sound p f touches routing input parts words = record {
   own_classes = parts.own_classes;
   tree = parts.tree;
   own_tree = parts.own_tree;
-  sound_touches = sound p parts.classes parts.tree touches parts.program parts.own_tree parts.own_touches;
+  sound_touches = parts.sound_touches;
   own_routing = parts.own_routing;
 }
 

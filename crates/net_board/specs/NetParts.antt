@@ -7,10 +7,10 @@ use Rattle.alias_classes.specs.Classes.{ClassTable, IsClasses, class_count}
 use Rattle.cfg_build.specs.Flow.{flow}
 use Rattle.cfg_build.specs.Joined.{FlowGraph}
 use Rattle.dep_routing.specs.Routing.{Routing, IsRouting}
-use Rattle.dep_routing.specs.Touches.{AreTouches}
+use Rattle.dep_routing.specs.Sound.{IsSound}
 use Rattle.net_board.specs.Nodes.{NetOf}
 
--- the parts of the net of a program are the program's own
+-- The parts of the net of a program are the program's own, and the touches are sound, by whatever means it is seen which pieces can't trap.
 pub record AreParts (p : Program) (f : FlowGraph) (touches : (piece line : ℕ) → Bool) (routing : Routing) : Type 0 where
   pub program : IsWellFormed p
   pub own_flow : f ≡ flow p.execs
@@ -18,7 +18,7 @@ pub record AreParts (p : Program) (f : FlowGraph) (touches : (piece line : ℕ) 
   pub own_classes : IsClasses p classes
   pub tree : Tree
   pub own_tree : IsRegionTree (flow p.execs).graph tree
-  pub own_touches : AreTouches p classes touches
+  pub sound_touches : IsSound p classes tree touches
   -- there are no other pieces
   pub outside : (piece line : ℕ) → (flow p.execs).graph.nodes ≤ piece → touches piece line ≡ false
   pub own_routing : IsRouting (flow p.execs).graph tree touches (suc (class_count classes)) routing

@@ -14,7 +14,6 @@ use Rattle.dep_routing.specs.Routing.{Routing, next_at}
 use Rattle.firing.specs.Orders.{IsWhole, after}
 use Rattle.firing.specs.Pacing.{IsSimulation}
 use Rattle.firing.specs.SourceOrder.{IsDueOrder}
-use Rattle.net_board.specs.SoundNets.{IsNet}
 use Rattle.net_board.specs.NetLockstep.{IsBetween}
 use Rattle.net_board.specs.ControlCourse.{first_control, net_course}
 use Rattle.net_board.specs.Nodes.{NetOf, graph_in, kind_in}

@@ -18,7 +18,7 @@ ghost use Rattle.net_board.specs.WokenNodes.{IsWoken};
 
 use alias_classes::{needs_are_a_frame, needs_are_numbered, needs_cover_accesses};
 use cfg_build::{flow_graph_has_shape, flow_graph_is_strong};
-use dep_routing::{next_edges, touches_are_sound};
+use dep_routing::next_edges;
 use f77_tree::{reads_decide, well_formed_programs_can_run};
 
 /// Nets keep the laws of firing: of two nodes that may both fire, the firings commute (the diamond property).
@@ -37,7 +37,6 @@ pub fn nets_begin_soundly()
 pub fn parts_make_nets()
     ensures { (p : Program) (f : FlowGraph) (touches : (piece line : ℕ) → Bool) (routing : Routing) (input : List ℤ) → AreParts p f touches routing → All IsWord input → IsNet (net_with p input touches routing) }
 {
-    touches_are_sound();
     well_formed_programs_can_run();
 }
 
