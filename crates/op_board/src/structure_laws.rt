@@ -2,9 +2,8 @@
 
 ghost use Rattle.std.specs.Prelude.{◌≡◌, ◌<◌, ◌≤◌, ◌&&◌, ◌==◌, ◌⊎◌, ℕ, suc, true, Some, slice_get};
 ghost use Rattle.f77_tree.specs.Operations.{most_operations};
-ghost use Rattle.alias_classes.specs.Classes.{ClassTable};
-ghost use Rattle.dep_routing.specs.Touches.{AreTouches};
 ghost use Rattle.net_board.specs.Nodes.{graph_in, is_acting, kind_in};
+ghost use Rattle.net_board.specs.SoundNets.{IsNet};
 ghost use Rattle.op_board.specs.Needs.{TrapsAsKnown};
 ghost use Rattle.op_board.specs.OperationFacts.{IsNeededAt, NeedsLine, OperationFacts, TakesValue, is_parting};
 ghost use Rattle.op_board.specs.OperationLists.{IsOperationList, takes_by, takes_of};
@@ -45,9 +44,9 @@ pub fn pieces_touch_needed_lines()
     pieces_touch_lines();
 }
 
-/// Where what a piece touches is told by its text, it touches the line of output if an operator of it traps at what is known.
+/// A piece touches the line of output if an operator of it traps at what is known.
 pub fn known_traps_touch_output()
-    ensures { (x : OperationNet) (c : ClassTable) (piece i : ℕ) → AreTouches x.net.program c x.net.touches → piece < (graph_in x.net).nodes → i < operation_count x piece → TrapsAsKnown (operation_at x piece i) → x.net.touches piece 0 ≡ true }
+    ensures { (x : OperationNet) (piece i : ℕ) → IsNet x.net → piece < (graph_in x.net).nodes → i < operation_count x piece → TrapsAsKnown (operation_at x piece i) → x.net.touches piece 0 ≡ true }
 {}
 
 /// The operations of a piece do what the piece does, and need the lines that it touches.
