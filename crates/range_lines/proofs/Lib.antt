@@ -6,3 +6,8 @@ pub mod FlagRows
 pub mod ShapeForms
 pub mod RangeLemmas
 pub mod RowLemmas
+pub mod RiskTraps
+pub mod QuietForms
+pub mod ExceptedTraps
+pub mod RiskFlags
+pub mod RangeRiskLemmas

@@ -38,7 +38,8 @@ abbrev HasDim : Subscript → Type 0
 HasDim s = IsDim s.dim
 
 module _ (names : List NameInfo) (table : All IsNameInfo names) where
-  dims-at : (o : Option NameInfo) (k : ℕ) → slice_get names k ≡ o → All IsDim (dims_in o)
+  -- each dimension of a name is one that a program can have
+  pub dims-at : (o : Option NameInfo) (k : ℕ) → slice_get names k ≡ o → All IsDim (dims_in o)
   dims-at None k at = All-nil IsDim
   dims-at (Some info) k at = (All-get IsNameInfo names k info table at).dimensions.bounds
 
@@ -138,7 +139,7 @@ module _ (p : Program) (t : ClassTable) (k : ℕ) (current : List (Option Reach)
       }
 
   -- a subscript that is marked
-  seen-sound : (s : Subscript) → IsDim s.dim → is_seen current k s ≡ true → IsSeenInRange p t k s.sub s.dim
+  pub seen-sound : (s : Subscript) → IsDim s.dim → is_seen current k s ≡ true → IsSeenInRange p t k s.sub s.dim
   seen-sound s dim is = by (shape_of s.sub) refl is
     where
       by : (o : Option Shape) → shape_of s.sub ≡ o → shape_seen current k s.dim o ≡ true → IsSeenInRange p t k s.sub s.dim
@@ -163,7 +164,7 @@ module _ (p : Program) (t : ClassTable) (k : ℕ) (current : List (Option Reach)
           }
 
   -- a subscript that is seen in range
-  seen-whole : (s : Subscript) → IsSeenInRange p t k s.sub s.dim → is_seen current k s ≡ true
+  pub seen-whole : (s : Subscript) → IsSeenInRange p t k s.sub s.dim → is_seen current k s ≡ true
   seen-whole s seen =
       let reach = reach_of p seen.number seen.parameters in
       let after = seen.between.after_start in

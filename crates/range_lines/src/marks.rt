@@ -164,7 +164,14 @@ fn mark_access(
     Ok(())
 }
 
-fn is_seen(names: &NameInfoList, current: &[Option<Reach>], k: u32, sub: &Expr, dim: Dim) -> bool
+/// Whether a subscript of this dimension, in the executable k, is seen in range.
+pub(crate) fn is_seen(
+    names: &NameInfoList,
+    current: &[Option<Reach>],
+    k: u32,
+    sub: &Expr,
+    dim: Dim,
+) -> bool
     requires { IsExpression names.now sub.now }
     ensures { result ≡ spec_is_seen current.now k (record { sub = sub.now; dim = dim }) }
 {
@@ -205,8 +212,8 @@ fn push_flag(row: &mut Sequence<bool>, flag: bool) -> Result<(), NoMemory>
     row.push(flag)
 }
 
-// What an expression that fits the table of names reads is an access of the table.
-fn access_fits(names: &NameInfoList, e: &Expr, a: &Access)
+/// What an expression that fits the table of names reads is an access of the table.
+pub(crate) fn access_fits(names: &NameInfoList, e: &Expr, a: &Access)
     requires form { e.now ≡ Expr.Read a.now }
     requires expression { IsExpression names.now e.now }
     ensures { IsAccess names.now a.now }

@@ -73,8 +73,8 @@ impl Ranges {
     }
 }
 
-// Before the first executable no name has a reach.
-fn no_reaches(alloc: Global, names: u32) -> Result<Vec<Option<Reach>>, NoMemory>
+/// Before the first executable no name has a reach.
+pub(crate) fn no_reaches(alloc: Global, names: u32) -> Result<Vec<Option<Reach>>, NoMemory>
     ensures { IfOk result (λ current. current.items ≡ replicate names None) }
 {
     let mut current = Vec::new(alloc);
@@ -84,8 +84,13 @@ fn no_reaches(alloc: Global, names: u32) -> Result<Vec<Option<Reach>>, NoMemory>
     Ok(current)
 }
 
-// From an executable that begins a DO on, its variable has the reach of that.
-fn advance(p: &Program, current: &mut Vec<Option<Reach>>, exec: &Exec, reach: Option<Reach>)
+/// From an executable that begins a DO on, its variable has the reach of that.
+pub(crate) fn advance(
+    p: &Program,
+    current: &mut Vec<Option<Reach>>,
+    exec: &Exec,
+    reach: Option<Reach>,
+)
     requires executes { CanExecute p.now exec.now.kind }
     requires each { length current.old.items ≡ length p.now.names }
     ensures { current.new.items ≡ after_exec exec.now.kind reach current.old.items }
@@ -95,8 +100,8 @@ fn advance(p: &Program, current: &mut Vec<Option<Reach>>, exec: &Exec, reach: Op
     }
 }
 
-// An executable of a well-formed program can run.
-fn executable_fits(p: &Program, k: u32, exec: &Exec)
+/// An executable of a well-formed program can run.
+pub(crate) fn executable_fits(p: &Program, k: u32, exec: &Exec)
     requires program { IsWellFormed p.now }
     requires executable { slice_get p.now.execs k ≡ Some exec.now }
     ensures { CanExecute p.now exec.now.kind }

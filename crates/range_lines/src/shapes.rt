@@ -9,8 +9,8 @@ ghost use Rattle.range_lines.specs.Shapes.{term_of as spec_term_of, sum as spec_
 use f77_tree::{Dim, Expr, ExprList, NameInfoList};
 use op_table::{Op, fold};
 
-// No operator takes more operands.
-const MOST_OPERANDS: usize = 3;
+/// No operator takes more operands.
+pub(crate) const MOST_OPERANDS: usize = 3;
 
 /// What an operand of a subscript is: a name that is read, a number that is known before the program runs, or neither.
 #[derive(Clone, Copy, Debug, PartialEq, Eq)]
@@ -167,8 +167,8 @@ fn multiple(variable: u32, factor: i32) -> Shape
     }
 }
 
-// As many operands as the operator takes fit the table of names with the expression.
-fn operands_fit(names: &NameInfoList, e: &Expr, op: Op, args: &ExprList)
+/// As many operands as the operator takes fit the table of names with the expression.
+pub(crate) fn operands_fit(names: &NameInfoList, e: &Expr, op: Op, args: &ExprList)
     requires form { e.now ≡ Expr.Apply op args.now }
     requires expression { IsExpression names.now e.now }
     ensures as_many { length args.now ≡ arity_of op }
