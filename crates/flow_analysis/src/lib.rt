@@ -6,4 +6,4 @@ mod graph;
 mod parts;
 
 pub use graph::{FlowRegions, flow_regions};
-pub use parts::{Analysis, analyze};
+pub use parts::{Analysis, analyze, analyze_by_ranges};

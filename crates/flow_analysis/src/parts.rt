@@ -5,14 +5,15 @@ ghost use Rattle.f77_tree.specs.WellFormed.{IsWellFormed};
 ghost use Rattle.alias_classes.specs.Classes.{IsClasses, class_count};
 ghost use Rattle.alias_classes.specs.Number.{HasFewClasses};
 ghost use Rattle.alias_classes.specs.declared.TheConstants.{CLASS_WORDS};
-ghost use Rattle.flow_analysis.specs.Analysis.{IsAnalysisOf};
+ghost use Rattle.flow_analysis.specs.Analysis.{IsAnalysisOf, IsRangeAnalysisOf};
 
 use crate::graph::{FlowRegions, flow_regions};
 use alias_classes::{CLASS_WORDS, ClassEnd, Classes, classes_of};
 use cfg_build::Flow;
-use dep_routing::{Lines, TouchList, route, touches};
+use dep_routing::{Lines, TouchList, route, touches, touches_are_sound};
 use df_sequence::NoMemory;
 use f77_tree::Program;
+use range_lines::{range_touches, range_touches_are_sound};
 use region_tree::RegionTree;
 use std::alloc::Global;
 
@@ -43,6 +44,7 @@ pub fn analyze<'a>(alloc: Global, program: &'a Program) -> Result<Analysis<'a>, 
     requires few { HasFewClasses program.now }
     ensures { IfOk result (λ found. IsAnalysisOf program.now found) }
 {
+    touches_are_sound();
     let classes = few_classes_of(alloc, program)?;
     let FlowRegions {
         flow,
@@ -57,6 +59,35 @@ pub fn analyze<'a>(alloc: Global, program: &'a Program) -> Result<Analysis<'a>, 
         tree,
         classes,
         touch,
+        lines,
+    })
+}
+
+/// Makes the same for the games on a program: subscripts that are seen in range can't trap, so fewer pieces touch the line of output.
+///
+/// # Errors
+///
+/// NoMemory, where an allocation failed.
+pub fn analyze_by_ranges<'a>(alloc: Global, program: &'a Program) -> Result<Analysis<'a>, NoMemory>
+    requires program { IsWellFormed program.now }
+    requires few { HasFewClasses program.now }
+    ensures { IfOk result (λ found. IsRangeAnalysisOf program.now found) }
+{
+    range_touches_are_sound();
+    let classes = few_classes_of(alloc, program)?;
+    let FlowRegions {
+        flow,
+        edge_classes,
+        tree,
+    } = flow_regions(alloc, program)?;
+    let touched = range_touches(alloc, program, &flow, &classes)?;
+    let lines = route(alloc, flow.graph(), &tree, &touched, classes.count() + 1)?;
+    Ok(Analysis {
+        flow,
+        edge_classes,
+        tree,
+        classes,
+        touch: touched,
         lines,
     })
 }

@@ -26,6 +26,7 @@ returns c =
       few = c.in_ok-classes.ensures.few;
       sets = sets;
       touches = c.in_ok-touch.ensures.touches;
+      sound = c.touches_are_sound.ensures c.args.program.now c.in_ok-classes.classes tree touches c.requires.program found.tree c.in_ok-touch.ensures.touches;
       outside = λ piece line past. none_past c.in_ok-touch.touch piece line (omega (arith, past, sets));
       routing = subst (λ n. IsRouting g tree touches n c.in_ok-lines.lines) count (subst (λ (x : Graph). IsRouting x tree touches (c.count.result + 1) c.in_ok-lines.lines) of_lines c.in_ok-lines.ensures.routing);
       rows = c.in_ok-lines.ensures.rows;
