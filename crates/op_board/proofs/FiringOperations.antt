@@ -125,7 +125,7 @@ module _ (x : OperationNet) (c : ClassTable) where
         let place : ℕ = first_operation x piece + number in
         ap value_of (agree (Given place) (or_right (k == place) (is_giver x piece i place) (giver_is piece i place (gives piece number (operation_at x piece i).operands among))))
 
-    same_given : (operand : Operand) → Member (operation_at x piece i).operands operand → is_given x n piece operand ≡ is_given x m piece operand
+    pub same_given : (operand : Operand) → Member (operation_at x piece i).operands operand → is_given x n piece operand ≡ is_given x m piece operand
     same_given (Known z) among = refl
     same_given (From number) among = ap is_some (same_value number among)
 
@@ -142,7 +142,7 @@ module _ (x : OperationNet) (c : ClassTable) where
     pub same_args : map (operand_in x n piece) (operation_at x piece i).operands ≡ map (operand_in x m piece) (operation_at x piece i).operands
     same_args = same_map (operation_at x piece i).operands same_operand
 
-    same_own : value_at n k ≡ value_at m k
+    pub same_own : value_at n k ≡ value_at m k
     same_own = ap value_of (agree (Given k) (own (k == k) (is_giver x piece i k) (eq-eqb k k refl)))
       where
         own : (a b : Bool) → a ≡ true → (a || b) ≡ true

@@ -83,14 +83,14 @@ module _ (ground : ProgramFacts) (x : OperationNet) (is : IsNet x.net) (touched 
 
   -- ---- lines
 
-  before : (m : OperationTokens) (k : ℕ) (name : NodeName) (line : ℕ) → IsOperationNamed x name → ready_as x m k name ≡ true → foot_as x is.classes k name (Token (Line line)) ≡ true → is_before x.net m.tokens (piece_of name) line ≡ true
+  pub before : (m : OperationTokens) (k : ℕ) (name : NodeName) (line : ℕ) → IsOperationNamed x name → ready_as x m k name ≡ true → foot_as x is.classes k name (Token (Line line)) ≡ true → is_before x.net m.tokens (piece_of name) line ≡ true
   before m k (Op piece i) line named ready mine = (and_parts (is_before x.net m.tokens piece line) (passed_by m line == needing_before x piece i line) (stands m k piece i line named ready mine)).0
   before m k (Switch piece own) line named ready mine =
       subst (λ l. is_before x.net m.tokens piece l ≡ true) (eqb-true own line mine) ((and_parts (is_before x.net m.tokens piece own) (is_some (left_for m.tokens (switch_number x.net piece own))) ready).0)
   before m k (Merge piece own) line named ready mine = subst (λ l. is_before x.net m.tokens piece l ≡ true) (eqb-true own line mine) ready
   before m k (Act piece) line named ready mine = absurd named.fits
 
-  passed_is : (m : OperationTokens) (k piece i line : ℕ) → IsOperationNamed x (Op piece i) → ready_as x m k (Op piece i) ≡ true → x.needs piece i line ≡ true → passed_by m line ≡ needing_before x piece i line
+  pub passed_is : (m : OperationTokens) (k piece i line : ℕ) → IsOperationNamed x (Op piece i) → ready_as x m k (Op piece i) ≡ true → x.needs piece i line ≡ true → passed_by m line ≡ needing_before x piece i line
   passed_is m k piece i line named ready needs = eqb-true (passed_by m line) (needing_before x piece i line) ((and_parts (is_before x.net m.tokens piece line) (passed_by m line == needing_before x piece i line) (stands m k piece i line named ready needs)).1)
 
   order : (i j : ℕ) → (i ≡ j) ⊎ ((i < j) ⊎ (j < i))
@@ -103,7 +103,7 @@ module _ (ground : ProgramFacts) (x : OperationNet) (is : IsNet x.net) (touched 
       (order i j)
 
   -- two operations that need the line come at different numbers of those that need it
-  same_place : (piece i j line : ℕ) → x.needs piece i line ≡ true → x.needs piece j line ≡ true → needing_before x piece i line ≡ needing_before x piece j line → i ≡ j
+  pub same_place : (piece i j line : ℕ) → x.needs piece i line ≡ true → x.needs piece j line ≡ true → needing_before x piece i line ≡ needing_before x piece j line → i ≡ j
   same_place piece i j line needs needs_too same = ⊎_elim
       (λ is. is)
       (λ (apart : (i < j) ⊎ (j < i)). ⊎_elim
@@ -112,7 +112,7 @@ module _ (ground : ProgramFacts) (x : OperationNet) (is : IsNet x.net) (touched 
       apart)
       (order i j)
 
-  untouched : {P : Type 0} (piece i own line : ℕ) → IsOperationNamed x (Op piece i) → Member (switch_lines x.net piece (kind_in x.net piece)) own → x.needs piece i line ≡ true → (own == line) ≡ true → P
+  pub untouched : {P : Type 0} (piece i own line : ℕ) → IsOperationNamed x (Op piece i) → Member (switch_lines x.net piece (kind_in x.net piece)) own → x.needs piece i line ≡ true → (own == line) ≡ true → P
   untouched piece i own line named among needs same =
       both_ways (x.net.touches piece line) (touched piece i line named.exists named.fits.2 needs)
       (subst (λ l. x.net.touches piece l ≡ false) (eqb-true own line same) (not_touched x.net piece own (switch_line x.net piece own (kind_in x.net piece) among)))
@@ -145,7 +145,7 @@ module _ (ground : ProgramFacts) (x : OperationNet) (is : IsNet x.net) (touched 
 
   -- ---- the line to which a part belongs
 
-  abbrev line_of : OperationPart → Option ℕ
+  abbrev pub line_of : OperationPart → Option ℕ
   line_of (Token (Line line)) = Some line
   line_of (Token (Left node)) = None
   line_of (Token (Word word)) = Some (class_of_word is.classes word)
@@ -156,7 +156,7 @@ module _ (ground : ProgramFacts) (x : OperationNet) (is : IsNet x.net) (touched 
   line_of (Passed line) = Some line
   line_of (Given k) = None
 
-  belongs : (k : ℕ) (name : NodeName) (part : OperationPart) (line : ℕ) → line_of part ≡ Some line → foot_as x is.classes k name part ≡ true → foot_as x is.classes k name (Token (Line line)) ≡ true
+  pub belongs : (k : ℕ) (name : NodeName) (part : OperationPart) (line : ℕ) → line_of part ≡ Some line → foot_as x is.classes k name part ≡ true → foot_as x is.classes k name (Token (Line line)) ≡ true
   belongs k (Op piece i) (Token (Line l)) line at mine = let same : l ≡ line = cc in subst (λ n. x.needs piece i n ≡ true) same mine
   belongs k (Op piece i) (Token (Left node)) line at mine = absurd cc
   belongs k (Op piece i) (Token (Word word)) line at mine = let same : class_of_word is.classes word ≡ line = cc in subst (λ n. x.needs piece i n ≡ true) same mine
@@ -249,7 +249,7 @@ module _ (ground : ProgramFacts) (x : OperationNet) (is : IsNet x.net) (touched 
   -- ---- values
 
   -- an operation that takes the value of this node
-  record IsTaker (piece i k : ℕ) : Type 0 where
+  pub record IsTaker (piece i k : ℕ) : Type 0 where
     pub number : ℕ
     pub among : Member (operation_at x piece i).operands (From number)
     pub gives_it : first_operation x piece + number ≡ k
@@ -260,7 +260,7 @@ module _ (ground : ProgramFacts) (x : OperationNet) (is : IsNet x.net) (touched 
   taker_by piece k (From number ∷ operands) (inl e) = (number, inl refl, e)
   taker_by piece k (From number ∷ operands) (inr m) = let r = taker_by piece k operands m in (r.0, inr r.1, r.2)
 
-  taker : (piece i k : ℕ) → is_giver x piece i k ≡ true → IsTaker piece i k
+  pub taker : (piece i k : ℕ) → is_giver x piece i k ≡ true → IsTaker piece i k
   taker piece i k gives =
       let r : IsPassed (λ giver. giver == k) (givers x piece (operation_at x piece i).operands) = member_of_list_any (λ giver. giver == k) (givers x piece (operation_at x piece i).operands) gives in
       let m : Member (givers x piece (operation_at x piece i).operands) k = subst (λ j. Member (givers x piece (operation_at x piece i).operands) j) (eqb-true r.one k r.passes) r.among in
@@ -286,7 +286,7 @@ module _ (ground : ProgramFacts) (x : OperationNet) (is : IsNet x.net) (touched 
   number_of (Merge piece line) = 0
   number_of (Act piece) = 0
 
-  same_taker : (p s q t k : ℕ) → IsOperationNamed x (Op p s) → IsOperationNamed x (Op q t) → is_giver x p s k ≡ true → is_giver x q t k ≡ true → Op p s ≡ Op q t
+  pub same_taker : (p s q t k : ℕ) → IsOperationNamed x (Op p s) → IsOperationNamed x (Op q t) → is_giver x p s k ≡ true → is_giver x q t k ≡ true → Op p s ≡ Op q t
   unfolding number_of
   same_taker p s q t k first second mine theirs =
       let a : IsTaker p s k = taker p s k mine in
