@@ -1,0 +1,13 @@
+pub mod FilteredRanges
+pub mod LoadSpots
+pub mod ForkLines
+pub mod ForkNodes
+pub mod ForksApart
+pub mod ForkFirings
+pub mod ForkMarkings
+pub mod ForksFooted
+pub mod ForkLaws
+pub mod ShorterWalks
+pub mod LoadLists
+pub mod GroupChains
+pub mod ChainLaws

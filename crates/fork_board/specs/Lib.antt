@@ -1,0 +1,5 @@
+pub mod LoadGroups
+pub mod ForkTokens
+pub mod SoundForks
+pub mod ForkFootprints
+pub mod Chains

@@ -1,0 +1,21 @@
+//! Laws of groups of loads, as contracts of functions that do nothing.
+
+ghost use Rattle.op_board.specs.OperationNets.{OperationNet};
+ghost use Rattle.op_board.specs.SoundOperationNets.{IsOperationNet};
+ghost use Rattle.fork_board.specs.Chains.{ComeOnce};
+
+use net_board::{nets_begin_soundly, nets_simulate_programs};
+use op_board::operations_have_facts;
+use region_tree::{region_borders, start_is_outside};
+
+/// Groups of loads are chains: along a token line no load comes a second time before another operation does. A circle of loads would
+/// be one of acts and of regions that the line passes by, and no way would lead from it to the end.
+pub fn loads_come_once()
+    ensures { (x : OperationNet) → IsOperationNet x → ComeOnce x }
+{
+    nets_begin_soundly();
+    nets_simulate_programs();
+    operations_have_facts();
+    region_borders();
+    start_is_outside();
+}

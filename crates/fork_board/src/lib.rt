@@ -1,0 +1,8 @@
+//! The game of a program's net of operations in which the loads of a group fire in any order.
+#![tactic(auto)]
+
+mod chain_laws;
+mod fork_laws;
+
+pub use chain_laws::loads_come_once;
+pub use fork_laws::{forks_begin_soundly, forks_keep_the_laws};
