@@ -8,7 +8,6 @@ use mathlib.Core.Path.{fun_ext}
 use Rattle.op_table.specs.Words.{IsWord}
 use Rattle.class_set.specs.ClassSet.{holds}
 use Rattle.class_set.specs.declared.ClassSet.{ClassSet}
-use Rattle.region_tree.specs.Tree.{Tree, IsRegionTree}
 use Rattle.f77_tree.specs.declared.programs.Program.{Program}
 use Rattle.f77_tree.specs.CanRun.{CanRun}
 use Rattle.f77_tree.specs.WellFormed.{IsWellFormed}
@@ -18,9 +17,8 @@ use Rattle.cfg_build.specs.Flow.{flow, piece_in}
 use Rattle.cfg_build.specs.Joined.{FlowGraph}
 use Rattle.cfg_build.specs.Passes.{kind_in as exec_kind_in}
 use Rattle.dep_routing.specs.Routing.{Routing}
-use Rattle.dep_routing.specs.Sound.{IsSound}
 use Rattle.dep_routing.specs.Touch.{touches_in}
-use Rattle.dep_routing.specs.Touches.{AreTouches, exec_kind}
+use Rattle.dep_routing.specs.Touches.{exec_kind}
 use Rattle.net_board.specs.Nodes.{NetOf, graph_in}
 use Rattle.net_board.specs.NetParts.{net_with}
 use Rattle.net_board.specs.SoundNets.{IsNet}
@@ -151,11 +149,10 @@ module _ {W : ℕ} (on : Board W) (c : ClassTable) (pieces : List (PieceOperatio
       (subst (λ (o : Option (PieceOperations W)). (piece_needs o i line ≡ true) ↔ OperationNeeds c (x.net.touches piece) (operation_seen op.0) line) (sym found.1) told)
 
   pub planned_net : (p : Program) (f : FlowGraph) (touches : (piece line : ℕ) → Bool) (routing : Routing) (input : List ℤ)
-      → ((p : Program) (c : ClassTable) (t : Tree) (touches : ℕ → ℕ → Bool) → IsWellFormed p → IsRegionTree (flow p.execs).graph t → AreTouches p c touches → IsSound p c t touches)
       → ((p : Program) → IsWellFormed p → CanRun p)
-      → ((x : OperationNet) (c : ClassTable) (piece i : ℕ) → AreTouches x.net.program c x.net.touches → piece < (graph_in x.net).nodes → i < operation_count x piece → TrapsAsKnown (operation_at x piece i) → x.net.touches piece 0 ≡ true)
+      → ((x : OperationNet) (piece i : ℕ) → IsNet x.net → piece < (graph_in x.net).nodes → i < operation_count x piece → TrapsAsKnown (operation_at x piece i) → x.net.touches piece 0 ≡ true)
       → net_on on ≡ net_with p input touches routing → AreOperationParts p f c touches routing → All IsWord input → IsOperationNet x
-  planned_net p f touches routing input sound can known same both words =
+  planned_net p f touches routing input can known same both words =
       let parts = both.parts in
       let made : IsNetWith (net_with p input touches routing) c = record {
         is_net = record {
@@ -166,16 +163,14 @@ module _ {W : ℕ} (on : Board W) (c : ClassTable) (pieces : List (PieceOperatio
           own_classes = parts.own_classes;
           tree = parts.tree;
           own_tree = parts.own_tree;
-          sound_touches = sound p parts.classes parts.tree touches parts.program parts.own_tree parts.own_touches;
+          sound_touches = parts.sound_touches;
           own_routing = parts.own_routing;
         };
         own = both.own_classes;
       } in
       let n : IsNetWith x.net c = subst (λ (net : NetOf). IsNetWith net c) (sym same) made in
-      let told : AreTouches p c touches = subst (λ (t : ClassTable). AreTouches p t touches) both.own_classes parts.own_touches in
-      let tell : AreTouches x.net.program c x.net.touches = subst (λ (net : NetOf). AreTouches net.program c net.touches) (sym same) told in
       record {
         is_net = n.is_net;
         own_needs = subst (λ (t : ClassTable). AreNeeds x t) (sym n.own) are_needs;
-        traps = λ piece i exists inside t. known x c piece i tell exists inside t;
+        traps = λ piece i exists inside t. known x piece i n.is_net exists inside t;
       }

@@ -21,7 +21,7 @@ ghost use Rattle.op_net.specs.PlannedPieces.{AreNeedsOf, AreOperationsOf, ArePla
 use alias_classes::Classes;
 use cfg_build::Flow;
 use class_set::ClassSet;
-use dep_routing::{Lines, TouchList, touches_are_sound};
+use dep_routing::{Lines, TouchList};
 use df_sequence::NoMemory;
 use f77_tree::{Program, well_formed_programs_can_run};
 use net_tables::{Board, make_board, words_are_words};
@@ -64,7 +64,6 @@ pub(crate) fn make_plan<'a, const W: usize>(
     ensures net { IfOk result (λ plan. net_on plan.board ≡ net_with p.now input.now.items (touches_in touch.now) l.now) }
     ensures is_net { IfOk result (λ plan. IsOperationNet (net_with_operations plan.board plan.pieces.items)) }
 {
-    touches_are_sound();
     well_formed_programs_can_run();
     words_are_words(input);
     known_traps_touch_output();

@@ -27,7 +27,7 @@ invariant_of-result g c =
     let board = c.in_ok-board.board in
     let pieces = c.in_ok-pieces.pieces.items in
     let x : OperationNet = net_with_operations board pieces in
-    let is : IsOperationNet x = planned_net board c.args.c.now pieces c.in_ok-pieces.ensures c.args.p.now c.args.f.now (touches_in c.args.touch.now) c.args.l.now c.args.input.now.items c.touches_are_sound.ensures c.well_formed_programs_can_run.ensures c.known_traps_touch_output.ensures c.in_ok-board.ensures c.requires.parts c.words_are_words.ensures in
+    let is : IsOperationNet x = planned_net board c.args.c.now pieces c.in_ok-pieces.ensures c.args.p.now c.args.f.now (touches_in c.args.touch.now) c.args.l.now c.args.input.now.items c.well_formed_programs_can_run.ensures c.known_traps_touch_output.ensures c.in_ok-board.ensures c.requires.parts c.words_are_words.ensures in
     record {
       is_net = merely is;
       facts = plan_facts x (c.operations_have_facts.ensures x is);
@@ -40,4 +40,4 @@ pub returns-clause-net : goal.returns-clause-net
 returns-clause-net g c = c.in_ok-board.ensures
 
 pub returns-clause-is_net : goal.returns-clause-is_net
-returns-clause-is_net g c = planned_net c.in_ok-board.board c.args.c.now c.in_ok-pieces.pieces.items c.in_ok-pieces.ensures c.args.p.now c.args.f.now (touches_in c.args.touch.now) c.args.l.now c.args.input.now.items c.touches_are_sound.ensures c.well_formed_programs_can_run.ensures c.known_traps_touch_output.ensures c.in_ok-board.ensures c.requires.parts c.words_are_words.ensures
+returns-clause-is_net g c = planned_net c.in_ok-board.board c.args.c.now c.in_ok-pieces.pieces.items c.in_ok-pieces.ensures c.args.p.now c.args.f.now (touches_in c.args.touch.now) c.args.l.now c.args.input.now.items c.well_formed_programs_can_run.ensures c.known_traps_touch_output.ensures c.in_ok-board.ensures c.requires.parts c.words_are_words.ensures
