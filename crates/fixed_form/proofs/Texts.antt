@@ -1,5 +1,5 @@
 -- The text of characters, one after another.
-use Rattle.std.proofs.Common.{◌≡◌, ◌==◌, ℕ, suc, ◌+◌, ◌-◌, ◌<◌, ◌≤◌, Bool, true, false, List, [], ◌∷◌, ◌++◌, length, get_or, drop, replicate, refl, sym, ap, ◌∙◌, arith, length-append, append_assoc}
+use Rattle.std.proofs.Common.{◌≡◌, ◌==◌, ℕ, zero, suc, ◌+◌, ◌-◌, ◌<◌, ◌≤◌, Bool, true, false, List, [], ◌∷◌, ◌++◌, length, get_or, drop, replicate, refl, sym, ap, ◌∙◌, arith, length-append, append_assoc}
 use Rattle.std.proofs.lemmas.List.{length-drop, append-nil, drop_more, drop_all}
 use Rattle.std.proofs.lemmas.List.Sums.{fold-append}
 use Rattle.std.proofs.lemmas.Bool.{cond_both}
@@ -50,6 +50,21 @@ blank_next stmt n i h =
 
 pub put_none : (stmt : OpenStmt) → with_characters stmt [] ≡ stmt
 put_none stmt = ap (λ t. record stmt { text = t }) (append-nil stmt.text)
+
+-- outside of a character constant blanks give nothing, and open none
+blanks_text : (n : ℕ) → text_from false (replicate n 32) ≡ []
+blanks_text zero = refl
+blanks_text (suc n) = blanks_text n
+
+blanks_inside : (n : ℕ) → fold inside_after false (replicate n 32) ≡ false
+blanks_inside zero = refl
+blanks_inside (suc n) = blanks_inside n
+
+pub put_nothing : (stmt : OpenStmt) (n : ℕ) → stmt.is_inside ≡ false → with_characters stmt (replicate n 32) ≡ stmt
+put_nothing stmt n outside =
+    let text : stmt.text ++ text_from stmt.is_inside (replicate n 32) ≡ stmt.text = ap (λ b. stmt.text ++ text_from b (replicate n 32)) outside ∙ ap (λ t. stmt.text ++ t) (blanks_text n) ∙ append-nil stmt.text in
+    let inside : fold inside_after stmt.is_inside (replicate n 32) ≡ stmt.is_inside = ap (λ b. fold inside_after b (replicate n 32)) outside ∙ blanks_inside n ∙ sym outside in
+    ap (λ t. record stmt { text = t; is_inside = fold inside_after stmt.is_inside (replicate n 32) }) text ∙ ap (λ b. record stmt { is_inside = b }) inside
 
 -- what a line has in columns 7 to 72, and then its fill
 pub put_card : (stmt : OpenStmt) (xs : List ℕ) → length xs ≤ 72 → with_characters (with_characters stmt (drop 6 xs)) (replicate (66 - length (drop 6 xs)) 32) ≡ with_characters stmt (drop 6 (card xs))

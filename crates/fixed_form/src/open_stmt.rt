@@ -98,12 +98,15 @@ impl OpenStmt {
         Ok(())
     }
 
-    /// Goes on with n blanks.
+    /// Goes on with n blanks, of which none is kept outside of a character constant.
     #[tactic(auto, using(crate::proofs::Texts::put_none))]
     fn put_blanks(&mut self, n: usize) -> Result<(), NoMemory>
         requires { length self.old.text + n < 4294967296 }
         ensures { OnOk result (self.new ≡ with_characters self.old (replicate n 32)) }
     {
+        if !self.is_inside {
+            return Ok(());
+        }
         for i in 0..n {
             self.put(b' ')?;
         }
