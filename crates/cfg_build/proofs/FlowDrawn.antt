@@ -1,6 +1,6 @@
 -- The flow graph of a program as it is drawn: first the parts, with joins, and then the holds.
-use Rattle.std.proofs.Common.{◌≡◌, ℕ, suc, ◌+◌, ◌<◌, ◌≤◌, ◌-◌, Bool, true, false, cond, List, [], ◌∷◌, length, get_or, map, filter, fold, Result, Ok, Err, IfOk, refl, sym, ap, ◌∙◌, subst, ⊎_elim, arith}
-use Rattle.std.proofs.lemmas.Bool.{cases_Bool, cond-true, cond-false}
+use Rattle.std.proofs.Common.{◌≡◌, ℕ, suc, ◌+◌, ◌<◌, ◌≤◌, ◌-◌, ◌==◌, Bool, true, false, cond, List, [], ◌∷◌, length, get_or, map, filter, fold, Result, Ok, Err, IfOk, refl, sym, ap, ◌∙◌, subst, ⊎_elim, arith}
+use Rattle.std.proofs.lemmas.Bool.{cases_Bool, cond-true, cond-false, cases_eq, ne_eqb, true≢false}
 use Rattle.std.proofs.lemmas.List.{length-map}
 use Rattle.std.proofs.lemmas.List.Sums.{sum_by-append, sum_by-cons}
 use Rattle.std.proofs.lemmas.List.FromFn.{length-range_with_len}
@@ -72,6 +72,14 @@ pub record HoldsFit (j : FlowGraph) (g : Graph) (fin : ℕ) (hs : List ℕ) (f :
   pub edges : (k d : ℕ) → k < length hs → held_edge g (get_or hs k d) (piece_at j.pieces (get_or hs k d)).kind < edge_count g
   pub few : j.graph.nodes + length hs ≤ 160008
   pub is : put j g fin hs ≡ f
+
+-- where there are none, the drawing stays
+no_count : (n : ℕ) → (n == 0) ≡ true → n ≡ 0
+no_count n none = ⊎_elim (λ e. e) (λ d. absurd (true≢false (sym none ∙ ne_eqb n 0 d))) (cases_eq n 0)
+
+pub none_held : (j : FlowGraph) (g : Graph) (fin : ℕ) (hs : List ℕ) (f : FlowGraph) → HoldsFit j g fin hs f → (length hs == 0) ≡ true → j ≡ f
+none_held j g fin [] f fit none = fit.is
+none_held j g fin (x ∷ xs) f fit none = absurd (omega (arith, no_count (length (x ∷ xs)) none))
 
 module _ (told : IsTold) (met : IsMet) (names : List NameInfo) (execs : List Exec) (loops : ℕ) (well : AreExecs names execs loops) where
   are : AreParts (length execs) (parts execs)

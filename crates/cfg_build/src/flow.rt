@@ -75,6 +75,10 @@ pub fn flow_of(alloc: Global, p: &Program) -> Result<Flow, NoMemory>
     let graph = graph_of(alloc, &drawing)?;
     let finish = graph.nodes() - 1;
     let held = held_pieces(alloc, &graph, finish)?;
+    if held.is_empty() {
+        let pieces = drawing.pieces;
+        return Ok(Flow { graph, pieces });
+    }
     put_holds(&mut drawing, &graph, &held, finish)?;
     Ok(Flow {
         graph: graph_of(alloc, &drawing)?,

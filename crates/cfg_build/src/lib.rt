@@ -6,6 +6,7 @@ mod flow;
 mod holds;
 mod laws;
 mod numbers;
+mod outs;
 mod parts;
 mod pass_laws;
 mod pieces;

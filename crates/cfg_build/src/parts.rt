@@ -2,15 +2,15 @@
 
 ghost use Rattle.std.specs.Prelude.{◌≡◌, ◌+◌, ◌<◌, ◌++◌, ◌∷◌, [], ℕ, false, length, map, IfOk, OnOk, slice_index, slice_index_or, slice_get, Option};
 ghost use Rattle.std.specs.Option.{option_map};
-ghost use Rattle.f77_tree.specs.Control.{successors};
 ghost use Rattle.f77_tree.specs.Loops.{begun, do_start, Loop};
 ghost use Rattle.f77_tree.specs.WellFormed.{IsWellFormed};
 ghost use Rattle.cfg_build.specs.Control.{is_reached};
 ghost use Rattle.cfg_build.specs.Parts.{part, parts, parts_in, ways_on, start_part, end_part, first_kind};
 
+use crate::outs::Outs;
 use crate::pieces::{Piece, PieceKind};
 use crate::reached::successors;
-use df_sequence::{NoMemory, Sequence};
+use df_sequence::NoMemory;
 use f77_tree::{Exec, ExecKind, Program};
 use std::alloc::Global;
 
@@ -25,6 +25,12 @@ pub enum Target {
     Test(u32),
 }
 
+impl Default for Target {
+    fn default() -> Target {
+        Target::Start
+    }
+}
+
 /// A part of an executable, or the start.
 #[derive(Drop)]
 pub struct Part {
@@ -33,7 +39,7 @@ pub struct Part {
     /// What it is in the flow graph.
     pub piece: Piece,
     /// Where it leads, in order.
-    pub outs: Sequence<Target>,
+    pub outs: Outs,
 }
 
 /// The start, the parts of the executables that control can come to, and the end.
@@ -44,7 +50,7 @@ pub(crate) fn parts_of(alloc: Global, p: &Program, reached: &[bool]) -> Result<V
     ensures { IfOk result (λ v. v.items ≡ parts p.now.execs) }
 {
     let starts = loop_starts(alloc, p)?;
-    let mut parts = Vec::new(alloc);
+    let mut parts = Vec::with_capacity(alloc, p.execs.len() as usize + 2)?;
     parts.push(start_part(alloc)?)?;
     for k in 0..p.execs.len() {
         if reached[k as usize] {
@@ -83,7 +89,7 @@ fn loop_begun(kind: &ExecKind) -> Option<u32>
 fn start_part(alloc: Global) -> Result<Part, NoMemory>
     ensures { IfOk result (λ x. x ≡ start_part) }
 {
-    let mut outs = Sequence::new(alloc);
+    let mut outs = Outs::new(alloc);
     outs.push(Target::First(0))?;
     Ok(Part {
         own: Target::Start,
@@ -108,7 +114,7 @@ fn end_part(alloc: Global, p: &Program) -> Part
             line: p.execs.at(last).line,
             exec: last,
         },
-        outs: Sequence::new(alloc),
+        outs: Outs::new(alloc),
     }
 }
 
@@ -152,7 +158,7 @@ fn push_part(
     exec: &Exec,
     kind: PieceKind,
     k: u32,
-    outs: Sequence<Target>,
+    outs: Outs,
 ) -> Result<(), NoMemory>
     ensures { OnOk result (parts.new.items ≡ parts.old.items ++ part own kind exec.now.line k outs ∷ []) }
 {
@@ -179,20 +185,19 @@ fn first_kind(kind: &ExecKind) -> PieceKind
 }
 
 // The way to the test of a DO.
-fn to_test(alloc: Global, start: u32) -> Result<Sequence<Target>, NoMemory>
+fn to_test(alloc: Global, start: u32) -> Result<Outs, NoMemory>
     ensures { IfOk result (λ outs. outs ≡ Target.Test start ∷ []) }
 {
-    let mut outs = Sequence::new(alloc);
+    let mut outs = Outs::new(alloc);
     outs.push(Target::Test(start))?;
     Ok(outs)
 }
 
 // The ways to the first parts of the successors.
-fn to_successors(alloc: Global, kind: &ExecKind) -> Result<Sequence<Target>, NoMemory>
-    requires { length (successors kind.now) < 4294967295 }
+fn to_successors(alloc: Global, kind: &ExecKind) -> Result<Outs, NoMemory>
     ensures { IfOk result (λ outs. outs ≡ ways_on kind.now) }
 {
-    let mut outs = Sequence::new(alloc);
+    let mut outs = Outs::new(alloc);
     let heads = successors(alloc, kind)?;
     for head in heads.as_slice() {
         outs.push(Target::First(*head))?;

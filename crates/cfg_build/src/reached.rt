@@ -9,6 +9,7 @@ ghost use Rattle.cfg_build.specs.Control.{control, is_reached};
 use closed_walks::{Digraph, reached_from, reaching_is_told};
 use df_sequence::{LabelList, NoMemory};
 use f77_tree::{ExecKind, Program};
+use smallvec::{SmallVec, smallvec};
 use std::alloc::Global;
 
 /// For each executable, whether control can come to it from the first one.
@@ -31,7 +32,7 @@ fn control(alloc: Global, p: &Program) -> Result<Digraph, NoMemory>
     let mut graph = Digraph::new(alloc, p.execs.len())?;
     for k in 0..p.execs.len() {
         let heads = successors(alloc, &p.execs.at(k).kind)?;
-        add_edges(alloc, &mut graph, k, &heads)?;
+        add_edges(alloc, &mut graph, k, heads.as_slice())?;
     }
     Ok(graph)
 }
@@ -49,28 +50,31 @@ fn add_edges(alloc: Global, graph: &mut Digraph, tail: u32, heads: &[u32]) -> Re
     Ok(())
 }
 
+/// Executables that control may go to, of which most have no more than three.
+pub(crate) type Heads = SmallVec<u32, 3>;
+
 /// The executables that control may go to from an executable.
-pub(crate) fn successors(alloc: Global, kind: &ExecKind) -> Result<Vec<u32>, NoMemory>
+pub(crate) fn successors(alloc: Global, kind: &ExecKind) -> Result<Heads, NoMemory>
     ensures { IfOk result (λ heads. heads.items ≡ successors kind.now) }
 {
     match kind {
-        ExecKind::Assign { next, .. } => Ok(vec![in alloc; *next]?),
-        ExecKind::Print { next, .. } => Ok(vec![in alloc; *next]?),
-        ExecKind::Pass { next } => Ok(vec![in alloc; *next]?),
-        ExecKind::Test { yes, no, .. } => Ok(vec![in alloc; *yes, *no]?),
-        ExecKind::Sign { neg, zero, pos, .. } => Ok(vec![in alloc; *neg, *zero, *pos]?),
+        ExecKind::Assign { next, .. } => Ok(smallvec![in alloc; *next]?),
+        ExecKind::Print { next, .. } => Ok(smallvec![in alloc; *next]?),
+        ExecKind::Pass { next } => Ok(smallvec![in alloc; *next]?),
+        ExecKind::Test { yes, no, .. } => Ok(smallvec![in alloc; *yes, *no]?),
+        ExecKind::Sign { neg, zero, pos, .. } => Ok(smallvec![in alloc; *neg, *zero, *pos]?),
         ExecKind::Pick { targets, other, .. } => targets_with(alloc, targets, *other),
-        ExecKind::DoStart { body, exit, .. } => Ok(vec![in alloc; *body, *exit]?),
-        ExecKind::DoNext { body, exit, .. } => Ok(vec![in alloc; *body, *exit]?),
-        ExecKind::End => Ok(Vec::new(alloc)),
+        ExecKind::DoStart { body, exit, .. } => Ok(smallvec![in alloc; *body, *exit]?),
+        ExecKind::DoNext { body, exit, .. } => Ok(smallvec![in alloc; *body, *exit]?),
+        ExecKind::End => Ok(SmallVec::new(alloc)),
     }
 }
 
 // The targets of a computed GO TO, and what follows where none is taken.
-fn targets_with(alloc: Global, targets: &LabelList, other: u32) -> Result<Vec<u32>, NoMemory>
+fn targets_with(alloc: Global, targets: &LabelList, other: u32) -> Result<Heads, NoMemory>
     ensures { IfOk result (λ heads. heads.items ≡ targets.now ++ other ∷ []) }
 {
-    let mut heads = Vec::new(alloc);
+    let mut heads = SmallVec::new(alloc);
     for target in targets.as_slice() {
         heads.push(*target)?;
     }

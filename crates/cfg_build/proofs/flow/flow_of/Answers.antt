@@ -1,10 +1,10 @@
-use Rattle.std.proofs.Common.{◌≡◌, sym, ap, subst, ◌∙◌, ◌-◌, arith}
+use Rattle.std.proofs.Common.{◌≡◌, ◌==◌, true, length, vec_len, sym, ap, subst, ◌∙◌, ◌-◌, arith}
 use Rattle.closed_walks.specs.Graph.{Graph, IsGraph, edge_count}
 use Rattle.closed_walks.specs.Region.{IsFlowGraph}
 use Rattle.cfg_build.specs.Joined.{FlowGraph}
 use Rattle.cfg_build.specs.Flow.{flow}
 use Rattle.cfg_build.specs.Tables.{drawn_as}
-use Rattle.cfg_build.proofs.FlowDrawn.{HoldsFit, holds_fit, few_nodes, few_edges, sound, few_flow_nodes, few_flow_edges, flow_strong}
+use Rattle.cfg_build.proofs.FlowDrawn.{HoldsFit, holds_fit, few_nodes, few_edges, sound, none_held, few_flow_nodes, few_flow_edges, flow_strong}
 use Rattle.cfg_build.proofs.flow.flow_of.Goals as goal
 
 pub graph_of-requires-clause-sound : goal.graph_of-requires-clause-sound
@@ -91,3 +91,25 @@ returns-clause-flow_graph c =
     c.in_ok-drawing.ensures c.in_ok-graph.ensures (ap (λ n. n - 1) c.nodes-finish.ensures.count) (c.deref.ensures.value ∙ c.in_ok-held.ensures) in
     let drawn : drawn_as c.put_holds.new.drawing ≡ flow c.args.p.now.execs = c.in_ok-put_holds.ensures ∙ fit.is in
     subst (λ (h : Graph). IsFlowGraph h) (sym (c.in_ok-graph_of.ensures ∙ ap (λ (f : FlowGraph). f.graph) drawn)) (flow_strong c.reaching_is_told.ensures c.endless_ways_meet_cycles.ensures c.args.p.now.names c.args.p.now.execs c.args.p.now.loops c.requires.execs)
+
+pub returns-then-is_empty-clause-flow : goal.returns-then-is_empty-clause-flow
+returns-then-is_empty-clause-flow c =
+    let fit : HoldsFit (drawn_as c.in_ok-drawing.drawing) c.in_ok-graph.graph (c.nodes-finish.result - 1) c.in_ok-held.held.items (flow c.args.p.now.execs) =
+    holds_fit c.reaching_is_told.ensures c.endless_ways_meet_cycles.ensures c.args.p.now.names c.args.p.now.execs c.args.p.now.loops c.requires.execs
+    (drawn_as c.in_ok-drawing.drawing) c.in_ok-graph.graph (c.nodes-finish.result - 1) c.in_ok-held.held.items
+    c.in_ok-drawing.ensures c.in_ok-graph.ensures (ap (λ n. n - 1) c.nodes-finish.ensures.count) c.in_ok-held.ensures in
+    let size : length c.in_ok-held.held.items ≡ vec_len c.in_ok-held.held = omega (arith, c.in_ok-held.held.ok.0) in
+    let none : (length c.in_ok-held.held.items == 0) ≡ true = ap (λ n. n == 0) size ∙ sym c.is_empty.ensures ∙ c.if-is_empty.true in
+    let drawn : drawn_as c.in_ok-drawing.drawing ≡ flow c.args.p.now.execs = none_held (drawn_as c.in_ok-drawing.drawing) c.in_ok-graph.graph (c.nodes-finish.result - 1) c.in_ok-held.held.items (flow c.args.p.now.execs) fit none in
+    ap (λ (h : Graph). record { graph = h; pieces = c.in_ok-drawing.drawing.pieces.items }) c.in_ok-graph.ensures ∙ drawn
+
+pub returns-then-is_empty-clause-flow_graph : goal.returns-then-is_empty-clause-flow_graph
+returns-then-is_empty-clause-flow_graph c =
+    let fit : HoldsFit (drawn_as c.in_ok-drawing.drawing) c.in_ok-graph.graph (c.nodes-finish.result - 1) c.in_ok-held.held.items (flow c.args.p.now.execs) =
+    holds_fit c.reaching_is_told.ensures c.endless_ways_meet_cycles.ensures c.args.p.now.names c.args.p.now.execs c.args.p.now.loops c.requires.execs
+    (drawn_as c.in_ok-drawing.drawing) c.in_ok-graph.graph (c.nodes-finish.result - 1) c.in_ok-held.held.items
+    c.in_ok-drawing.ensures c.in_ok-graph.ensures (ap (λ n. n - 1) c.nodes-finish.ensures.count) c.in_ok-held.ensures in
+    let size : length c.in_ok-held.held.items ≡ vec_len c.in_ok-held.held = omega (arith, c.in_ok-held.held.ok.0) in
+    let none : (length c.in_ok-held.held.items == 0) ≡ true = ap (λ n. n == 0) size ∙ sym c.is_empty.ensures ∙ c.if-is_empty.true in
+    let drawn : drawn_as c.in_ok-drawing.drawing ≡ flow c.args.p.now.execs = none_held (drawn_as c.in_ok-drawing.drawing) c.in_ok-graph.graph (c.nodes-finish.result - 1) c.in_ok-held.held.items (flow c.args.p.now.execs) fit none in
+    subst (λ (h : Graph). IsFlowGraph h) (sym (c.in_ok-graph.ensures ∙ ap (λ (f : FlowGraph). f.graph) drawn)) (flow_strong c.reaching_is_told.ensures c.endless_ways_meet_cycles.ensures c.args.p.now.names c.args.p.now.execs c.args.p.now.loops c.requires.execs)

@@ -11,8 +11,8 @@ add_edges-requires-clause-room c =
     let execs = c.args.p.now.execs in
     let d = c.at.result.now in
     let few = few_so_far execs c.loop-k.k d (omega arith) c.requires.execs.count c.requires.execs.target_count in
-    let same : length c.deref.result.now ≡ length (successors (get_or execs c.loop-k.k d).kind) =
-    ap length (c.deref.ensures.value ∙ c.in_ok-heads.ensures) ∙ ap (λ (exec : Exec). length (successors exec.kind)) c.at.ensures.lookup in
+    let same : length c.as_slice.result.now ≡ length (successors (get_or execs c.loop-k.k d).kind) =
+    ap length (c.as_slice.ensures ∙ c.in_ok-heads.ensures) ∙ ap (λ (exec : Exec). length (successors exec.kind)) c.at.ensures.lookup in
     let edges : edge_count c.loop-k.graph ≡ length (fan 0 (map (λ (exec : Exec). successors exec.kind) (take c.loop-k.k execs))) = ap edge_count c.loop-k.invariant in
     omega (arith, few, same, edges)
 
@@ -21,10 +21,10 @@ loop-k-preserved c =
     let execs = c.args.p.now.execs in
     let k = c.loop-k.k in
     let d = c.at.result.now in
-    let heads : c.deref.result.now ≡ successors (get_or execs k d).kind =
-    (c.deref.ensures.value ∙ c.in_ok-heads.ensures) ∙ ap (λ (exec : Exec). successors exec.kind) c.at.ensures.lookup in
+    let heads : c.as_slice.result.now ≡ successors (get_or execs k d).kind =
+    (c.as_slice.ensures ∙ c.in_ok-heads.ensures) ∙ ap (λ (exec : Exec). successors exec.kind) c.at.ensures.lookup in
     let so_far = fan 0 (map (λ (exec : Exec). successors exec.kind) (take k execs)) in
     c.in_ok-add_edges.ensures
-    ∙ ap (λ (g : Graph). record { nodes = g.nodes; edges = g.edges ++ map (λ head. (k, head)) c.deref.result.now }) c.loop-k.invariant
+    ∙ ap (λ (g : Graph). record { nodes = g.nodes; edges = g.edges ++ map (λ head. (k, head)) c.as_slice.result.now }) c.loop-k.invariant
     ∙ ap (λ (hs : List ℕ). record { nodes = length execs; edges = so_far ++ map (λ head. (k, head)) hs }) heads
     ∙ ap (λ (es : List (ℕ × ℕ)). record { nodes = length execs; edges = es }) (sym (fan_more (λ (exec : Exec). successors exec.kind) execs k d (omega arith)))
