@@ -1,0 +1,13 @@
+mod DeclaredForms
+mod FoldedTexts
+mod Folds
+mod LabelColumns
+mod LineBlocks
+mod PlainParts
+mod PlainTexts
+mod PrintedBlocks
+mod PrintedCards
+mod PrintedRead
+mod PrintedSource
+mod Prints
+mod WrittenNumbers

@@ -1,0 +1,4 @@
+pub mod Declarations
+pub mod Lines
+pub mod ReadLines
+pub mod Typeset

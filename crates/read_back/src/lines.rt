@@ -1,0 +1,4 @@
+//! Lines.
+
+/// Nothing yet.
+pub fn printed_lines_are_read() {}
