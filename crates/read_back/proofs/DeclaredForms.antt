@@ -25,7 +25,7 @@ use Rattle.f77_tree.proofs.AllLemmas.{All-nil, All-cons, All-first, All-rest, Al
 use Rattle.f77_tree.proofs.NameLemmas.{index_of-name}
 use Rattle.f77_expr.specs.Printing.{name_in}
 use Rattle.f77_expr.proofs.PrintedNumbers.{is_number-decimal, number_of-decimal}
-use Rattle.read_back.specs.Declarations.{signed, written_dim, typed_name, same_block, written_block, name_alone, block_decls, block_statement, is_continued, common_at, commons, written_member, group_statement, written_constant, written_times, written_value, init_statement}
+use Rattle.flat_programs.specs.Declarations.{signed, written_dim, typed_name, same_block, written_block, name_alone, block_decls, block_statement, is_continued, common_at, commons, written_member, group_statement, written_constant, written_times, written_value, init_statement}
 use Rattle.read_back.proofs.Prints.{Prints, typed_prints, common_prints, equivalence_prints, init_prints}
 use Rattle.read_back.proofs.WrittenNumbers.{AreFine, fine-append, fine_signed, fine_small, signed_signed, signed_small, signed_fine, small_fits, dims_fine, within_written}
 
@@ -186,6 +186,9 @@ module _ (names : List NameInfo) (table : All IsNameInfo names) where
   members_are [] all = refl
   members_are (m ∷ ms) all =
       and_from (is_member (written_member m)) (list_all is_member (map written_member ms)) (member_is m (All-first (IsMember names) m ms all)) (members_are ms (All-rest (IsMember names) m ms all))
+
+  pub members_symbolic : (ms : List Member) → All (IsMember names) ms → All (λ (m : Member). is_name m.name ≡ true) ms
+  members_symbolic ms all k d lt = known_name _ (all k d lt).known
 
   members_fine : (ms : List Member) → All (IsMember names) ms → AreFine (flat_map (λ (m : WrittenMember). m.subs) (map written_member ms))
   members_fine [] all = tt

@@ -1,4 +1,5 @@
 mod DeclaredForms
+mod FoldedDepth
 mod FoldedTexts
 mod Folds
 mod LabelColumns
@@ -10,4 +11,7 @@ mod PrintedCards
 mod PrintedRead
 mod PrintedSource
 mod Prints
+mod ProgramRead
+mod RepeatBound
+mod ShownForms
 mod WrittenNumbers

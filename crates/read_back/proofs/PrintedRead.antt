@@ -15,7 +15,7 @@ use Rattle.fixed_form.specs.SourceLine.{SourceLine, numbered_from, source_lines,
 use Rattle.fixed_form.specs.Statement.{statements_of, ends_with_end, text}
 use Rattle.fixed_form.specs.Fault.{first_fault}
 use Rattle.fixed_form.specs.Reading.{outcome, reading}
-use Rattle.read_back.specs.Lines.{Typeset, digits_of_label, right_justified, line_count, line_of, lines_of}
+use Rattle.flat_programs.specs.Lines.{Typeset, digits_of_label, right_justified, line_count, line_of, lines_of}
 use Rattle.read_back.specs.ReadLines.{CanStand, begins_visibly, read_from}
 use Rattle.read_back.proofs.LabelColumns.{TellsLabel, columns_of, tells_label}
 use Rattle.read_back.proofs.LineBlocks.{Block, IsBlock, AreBlocks, all_lines, block_lines, block_statement, no_fault, all_stand, block_statements}

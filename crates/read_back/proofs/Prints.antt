@@ -11,7 +11,7 @@ use Rattle.f77_tree.specs.StatementGrammar.{WrittenStatement, Print_star, Read_s
 use Rattle.f77_tree.proofs.AllLemmas.{All-first, All-rest}
 use Rattle.fixed_form.specs.Columns.{is_character}
 use Rattle.read_back.specs.ReadLines.{begins_visibly}
-use Rattle.read_back.specs.Typeset.{blank, typeset}
+use Rattle.flat_programs.specs.Typeset.{blank, typeset}
 use Rattle.read_back.proofs.Folds.{Folds, AllFold, both, plain_folds, constant_folds, after_commas_fold}
 use Rattle.read_back.proofs.PlainTexts.{is_plain, Plain, joined, number_plain, name_parts, spelling_plain}
 use Rattle.read_back.proofs.PlainParts.{commas_plain, brackets_plain, numbers_plain, decls_plain, block_plain, group_plain, data_plain, step_plain}

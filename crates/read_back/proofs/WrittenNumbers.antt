@@ -11,7 +11,7 @@ use Rattle.f77_tree.specs.Grammar.{is_number, number_of, greatest_constant}
 use Rattle.f77_tree.specs.StatementGrammar.{SignedDigits, is_signed, is_great, are_great, dim_numbers, numbers_of}
 use Rattle.f77_tree.proofs.AllLemmas.{All-nil, All-cons, All-first, All-rest}
 use Rattle.f77_expr.proofs.PrintedNumbers.{is_number-decimal, number_of-decimal}
-use Rattle.read_back.specs.Declarations.{signed, written_low, written_dim}
+use Rattle.flat_programs.specs.Declarations.{signed, written_low, written_dim}
 
 -- numbers of the grammar that are no greater than the greatest constant
 abbrev pub AreFine : List SignedDigits → Type 0

@@ -1,4 +1,2 @@
-pub mod Declarations
-pub mod Lines
+pub mod PrintedStatements
 pub mod ReadLines
-pub mod Typeset

@@ -4,7 +4,7 @@ use Rattle.std.specs.List.{list_all, fold}
 use Rattle.fixed_form.specs.declared.raw_stmt.RawStmt.{RawStmt}
 use Rattle.fixed_form.specs.Columns.{is_character}
 use Rattle.fixed_form.specs.Statement.{inside_after, text}
-use Rattle.read_back.specs.Lines.{Typeset, line_count}
+use Rattle.flat_programs.specs.Lines.{Typeset, line_count}
 
 -- whether another character than a blank comes first
 abbrev pub begins_visibly : List ℕ → Bool

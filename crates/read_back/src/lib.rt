@@ -1,6 +1,9 @@
-//! The printed text of a flat program is read back: laws over `flat_programs` and the crates that read texts. No code is here.
+//! The printed text of a flat program is read back: laws over what `flat_programs` prints and the crates that read texts. No code of the
+//! compiler is here.
 #![tactic(auto)]
 
 mod lines;
+mod programs;
 
 pub use lines::printed_lines_are_read;
+pub use programs::printed_programs_are_read_by_statements;

@@ -1,0 +1,18 @@
+//! The statements of printed programs.
+
+ghost use Rattle.std.specs.Prelude.{List};
+ghost use Rattle.f77_tree.specs.declared.programs.Program.{Program};
+ghost use Rattle.flat_programs.specs.declared.statements.FlatLine.{FlatLine};
+ghost use Rattle.flat_programs.specs.Text.{text};
+ghost use Rattle.read_back.specs.PrintedStatements.{AreReadAs, CanBeText, labelled_from, written_statements};
+
+use f77_parse::one_answer;
+
+/// The printed text of a flat program is read, statement by statement, as what its declarations and its flat statements are written
+/// as: no line, no statement and no constant of it is refused. The program has at most 4,000 statements, declarations among them, and
+/// none of them is longer or deeper than a source may have it.
+pub fn printed_programs_are_read_by_statements()
+    ensures { (q : Program) (flat : List FlatLine) → CanBeText q flat → AreReadAs (text q flat) (labelled_from 1 (written_statements q flat)) }
+{
+    one_answer();
+}
