@@ -1,6 +1,6 @@
 -- The declarations of a program can be printed and read.
-use Rattle.std.proofs.Common.{◌≡◌, ◌==◌, ℕ, zero, suc, ◌+◌, ◌<◌, ◌≤◌, ℤ, Bool, true, false, cond, List, [], ◌∷◌, ◌++◌, length, ◌&&◌, ◌||◌, nat_lt, nat_le, map, refl, sym, ap, ◌∙◌, subst, arith, Option, Some, None, ⊎_elim, length-append, filter}
-use Rattle.std.specs.Prelude.{flat_map, decimal, All, slice_get, if◌then◌else◌}
+use Rattle.std.proofs.Common.{◌≡◌, ◌==◌, ℕ, zero, suc, ◌+◌, ◌<◌, ◌≤◌, Bool, true, false, cond, List, [], ◌∷◌, ◌++◌, length, ◌&&◌, ◌||◌, nat_lt, nat_le, map, refl, sym, ap, ◌∙◌, subst, arith, Option, Some, None, ⊎_elim, length-append, filter}
+use Rattle.std.specs.Prelude.{flat_map, decimal, All, slice_get}
 use Rattle.std.specs.List.{list_all, list_any, range_with_len}
 use Rattle.std.proofs.lemmas.Bool.{and_from, le-leb, lt-ltb, le-ltb, ne_eqb, eqb-true}
 use Rattle.std.proofs.lemmas.List.{length-map}
@@ -8,7 +8,6 @@ use Rattle.std.proofs.lemmas.List.Elements.{All-append}
 use Rattle.std.proofs.lemmas.Slice.Eq.{bytes_eq-Decides}
 use Rattle.f77_tree.specs.declared.declarations.CommonPart.{CommonPart}
 use Rattle.f77_tree.specs.declared.declarations.Decl.{Decl}
-use Rattle.f77_tree.specs.declared.declarations.Dim.{Dim}
 use Rattle.f77_tree.specs.declared.declarations.InitPart.{InitPart}
 use Rattle.f77_tree.specs.declared.declarations.InitValue.{InitValue}
 use Rattle.f77_tree.specs.declared.declarations.Lit.{Lit}
@@ -19,8 +18,8 @@ use Rattle.f77_tree.specs.Declarations.{CanBeWritten, IsDim, IsNameInfo, index_o
 use Rattle.f77_tree.specs.InitialWords.{IsLit, IsInitValue, IsInitPart}
 use Rattle.f77_tree.specs.Value.{dims_of}
 use Rattle.f77_tree.specs.Name.{is_name}
-use Rattle.f77_tree.specs.Grammar.{is_number, number_of, greatest_constant}
-use Rattle.f77_tree.specs.StatementGrammar.{SignedDigits, is_signed, is_great, are_great, dim_numbers, WrittenDecl, decl_numbers, IsDecl, WrittenBlock, IsPart, is_block, WrittenMember, is_member, is_group, WrittenConstant, is_constant, constant_is_great, WrittenValue, are_times, times_of, is_value, value_is_bad, WrittenData, is_data, WrittenStatement, IsStatement, statement_of, has_bad_constant, is_of_subroutines}
+use Rattle.f77_tree.specs.Grammar.{greatest_constant}
+use Rattle.f77_tree.specs.StatementGrammar.{is_signed, are_great, dim_numbers, WrittenDecl, decl_numbers, IsDecl, IsPart, is_block, WrittenMember, is_member, is_group, is_constant, constant_is_great, are_times, times_of, is_value, value_is_bad, WrittenData, is_data, WrittenStatement, IsStatement, statement_of, has_bad_constant, is_of_subroutines}
 use Rattle.f77_tree.proofs.AllLemmas.{All-nil, All-cons, All-first, All-rest, All-get}
 use Rattle.f77_tree.proofs.NameLemmas.{index_of-name}
 use Rattle.f77_expr.specs.Printing.{name_in}
@@ -240,9 +239,10 @@ module _ (names : List NameInfo) (table : All IsNameInfo names) where
   value_is v is small =
       let times = times_by v.times (v.times == 1) small refl in
       let constant = constant_is v.value is.constant in
-      let good : (nat_lt greatest_constant (times_of (written_times v.times)) || (times_of (written_times v.times) == 0)) ≡ false = ap (λ n. nat_lt greatest_constant n || (n == 0)) times.is ∙ times_good v.times greatest_constant is.repeated small in
-      (and_from (are_times (written_times v.times)) (is_constant (written_constant v.value)) times.are constant.0,
-      none_of (nat_lt greatest_constant (times_of (written_times v.times)) || (times_of (written_times v.times) == 0)) (constant_is_great (written_constant v.value)) good constant.1)
+      let good : (nat_lt greatest_constant (times_of (written_times v.times)) || (times_of (written_times v.times) == 0)) ≡ false = ap (λ n. nat_lt greatest_constant n || (n == 0)) times.is ∙ times_good v.times greatest_constant is.repeated small in (
+        and_from (are_times (written_times v.times)) (is_constant (written_constant v.value)) times.are constant.0,
+        none_of (nat_lt greatest_constant (times_of (written_times v.times)) || (times_of (written_times v.times) == 0)) (constant_is_great (written_constant v.value)) good constant.1,
+      )
 
   abbrev IsFewTimes : InitValue → Type 0
   IsFewTimes v = v.times ≤ greatest_constant

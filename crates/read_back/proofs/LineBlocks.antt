@@ -1,10 +1,9 @@
 -- Lines that make statements without a fault: an initial line, and the continuation lines after it.
-use Rattle.std.proofs.Common.{◌≡◌, ℕ, zero, suc, ◌+◌, ◌<◌, ◌≤◌, Bool, true, false, not, cond, leb, eqb, List, [], ◌∷◌, ◌++◌, length, map, Option, Some, None, refl, sym, ap, ◌∙◌, arith, append_assoc}
+use Rattle.std.proofs.Common.{◌≡◌, ℕ, suc, ◌+◌, ◌<◌, ◌≤◌, Bool, true, false, not, cond, leb, eqb, List, [], ◌∷◌, ◌++◌, length, map, Option, Some, None, refl, ap, ◌∙◌, arith}
 use Rattle.std.specs.Prelude.{flat_map, codes}
 use Rattle.std.specs.List.{filter}
 use Rattle.std.specs.Option.{option_or}
 use Rattle.std.proofs.lemmas.Bool.{lt-leb, ne_eqb}
-use Rattle.std.proofs.lemmas.List.Elements.{filter-append}
 use Rattle.fixed_form.specs.declared.form_end.FormEnd.{FormEnd}
 use Rattle.fixed_form.specs.declared.form_end.FormEnd.TheVariants.{BadByte, BadLabelField, StrayContinuation, TooManyContinuations, TooManyStatements}
 use Rattle.fixed_form.specs.declared.raw_stmt.RawStmt.{RawStmt}

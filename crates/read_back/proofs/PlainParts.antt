@@ -1,14 +1,14 @@
 -- The parts of printed declarations and statements are plain texts.
-use Rattle.std.proofs.Common.{◌≡◌, ℕ, zero, suc, ◌<◌, ◌≤◌, Bool, true, false, List, [], ◌∷◌, ◌++◌, length, ◌&&◌, nat_lt, nat_le, map, refl, sym, ap, ◌∙◌, arith, Option, Some, None}
+use Rattle.std.proofs.Common.{◌≡◌, ℕ, Bool, true, false, List, [], ◌∷◌, ◌++◌, length, ◌&&◌, nat_lt, nat_le, map, refl, sym, ◌∙◌, Option, Some, None}
 use Rattle.std.specs.Prelude.{codes, flat_map, All}
 use Rattle.std.specs.List.{list_all}
 use Rattle.std.proofs.lemmas.Bool.{and_parts}
 use Rattle.std.proofs.lemmas.List.Folds.{list_all-append}
 use Rattle.f77_tree.specs.Name.{is_name}
-use Rattle.f77_tree.specs.Grammar.{Written, IsGrammatical, is_number, spelling, truth_text}
-use Rattle.f77_tree.specs.StatementGrammar.{Sign, No_sign, Plus_sign, Minus_sign, SignedDigits, sign_text, signed_text, is_signed, WrittenDim, low_text, dim_text, numbers_of, dim_numbers, WrittenDecl, bracketed_list, in_brackets, with_commas, decl_text, decls_text, decl_numbers, IsDecl, WrittenBlock, Unsaid, Blank, Block, block_text, is_block, WrittenMember, member_text, is_member, group_text, is_group, WrittenConstant, Whole, Logical_value, constant_text, is_constant, WrittenValue, times_text, are_times, value_text, is_value, WrittenData, data_text, is_data, comma_if, step_text, IsStep}
+use Rattle.f77_tree.specs.Grammar.{Written, is_number, spelling}
+use Rattle.f77_tree.specs.StatementGrammar.{Sign, No_sign, Plus_sign, Minus_sign, SignedDigits, sign_text, signed_text, is_signed, WrittenDim, low_text, dim_text, numbers_of, dim_numbers, WrittenDecl, bracketed_list, in_brackets, with_commas, decl_text, decls_text, IsDecl, WrittenBlock, Unsaid, Blank, Block, block_text, is_block, WrittenMember, member_text, is_member, group_text, is_group, WrittenConstant, Whole, Logical_value, constant_text, is_constant, WrittenValue, times_text, are_times, value_text, is_value, WrittenData, data_text, is_data, comma_if, step_text, IsStep}
 use Rattle.f77_tree.proofs.AllLemmas.{All-first, All-rest}
-use Rattle.read_back.proofs.PlainTexts.{is_plain, Plain, joined, number_plain, name_parts, spelling_plain, truth_plain}
+use Rattle.read_back.proofs.PlainTexts.{Plain, joined, number_plain, name_parts, spelling_plain, truth_plain}
 
 -- ---- lists
 

@@ -1,6 +1,6 @@
 -- The characters of what is written without blanks: from the opening bracket of ASCII to its capital Z.
-use Rattle.std.proofs.Common.{◌≡◌, ◌==◌, ℕ, ◌+◌, ◌<◌, ◌≤◌, Bool, true, false, List, [], ◌∷◌, ◌++◌, length, leb, ◌&&◌, ◌||◌, nat_lt, nat_le, map, cond, refl, sym, ap, ◌∙◌, arith, ⊎_elim}
-use Rattle.std.specs.Prelude.{codes, flat_map, slice_index}
+use Rattle.std.proofs.Common.{◌≡◌, ℕ, ◌<◌, ◌≤◌, Bool, true, false, List, [], ◌∷◌, ◌++◌, length, leb, ◌&&◌, ◌||◌, nat_lt, nat_le, refl, ◌∙◌, arith, ⊎_elim}
+use Rattle.std.specs.Prelude.{codes, slice_index}
 use Rattle.std.specs.Int.{is_in_range}
 use Rattle.std.specs.List.{list_all}
 use Rattle.std.proofs.lemmas.Bool.{and_parts, and_from, or_cases, leb-true, le-leb}

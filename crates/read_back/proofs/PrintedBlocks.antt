@@ -1,15 +1,15 @@
 -- The lines of a printed statement are without fault, and give its text.
-use Rattle.std.proofs.Common.{◌≡◌, ◌==◌, ℕ, zero, suc, ◌+◌, ◌-◌, ◌*◌, ◌<◌, ◌≤◌, Bool, true, false, List, [], ◌∷◌, ◌++◌, length, map, take, drop, replicate, refl, sym, ap, ◌∙◌, arith}
+use Rattle.std.proofs.Common.{◌≡◌, ◌==◌, ℕ, zero, suc, ◌+◌, ◌*◌, ◌≤◌, Bool, true, false, List, [], ◌∷◌, ◌++◌, length, map, take, drop, replicate, refl, sym, ap, ◌∙◌, arith}
 use Rattle.std.specs.Prelude.{codes}
-use Rattle.std.specs.List.{list_all, range_with_len, fold, concat}
+use Rattle.std.specs.List.{list_all, range_with_len, fold}
 use Rattle.std.proofs.lemmas.Bool.{and_parts}
 use Rattle.std.proofs.lemmas.List.{drop-append-le, drop-drop}
 use Rattle.fixed_form.specs.Columns.{card, is_character, statement_field, label as label_in}
-use Rattle.fixed_form.specs.SourceLine.{SourceLine, numbered, numbered_from}
-use Rattle.fixed_form.specs.Statement.{joined, inside_after, text, statement_of}
+use Rattle.fixed_form.specs.SourceLine.{numbered, numbered_from}
+use Rattle.fixed_form.specs.Statement.{joined, inside_after, text}
 use Rattle.read_back.proofs.FoldedTexts.{text_padded}
 use Rattle.read_back.proofs.LabelColumns.{TellsLabel}
-use Rattle.read_back.proofs.LineBlocks.{Block, IsBlock, IsInitial, IsContinuation, AreContinuations, block_statement}
+use Rattle.read_back.proofs.LineBlocks.{Block, IsBlock, AreContinuations, block_statement}
 use Rattle.read_back.proofs.PrintedCards.{field, field_padded, next_margin, next_kind, next_field, next_unlabelled, next_characters, first_field, first_label, first_labelled, first_characters, first_kind, all_taken}
 
 -- ---- texts in pieces

@@ -1,14 +1,14 @@
 -- The cards of printed lines: their first six columns, and what they have of the text after them.
-use Rattle.std.proofs.Common.{◌≡◌, ℕ, zero, suc, ◌+◌, ◌-◌, ◌*◌, ◌<◌, ◌≤◌, Bool, true, false, not, cond, leb, ◌&&◌, ◌||◌, ◌==◌, List, [], ◌∷◌, ◌++◌, length, get_or, take, drop, replicate, refl, sym, ap, ◌∙◌, subst, arith, append_assoc, append-nil, length-append, ⊎_elim}
+use Rattle.std.proofs.Common.{◌≡◌, ℕ, zero, suc, ◌+◌, ◌≤◌, Bool, true, false, not, cond, leb, ◌&&◌, ◌||◌, ◌==◌, List, [], ◌∷◌, ◌++◌, length, get_or, take, replicate, refl, sym, ap, ◌∙◌, subst, arith, append_assoc, length-append, ⊎_elim}
 use Rattle.std.specs.Prelude.{codes}
 use Rattle.std.specs.Char.{is_ascii_digit}
 use Rattle.std.specs.List.{list_all, list_any, filter}
 use Rattle.std.proofs.Math.Seq.{take-append-add}
 use Rattle.std.proofs.lemmas.Bool.{and_parts, and_from, or_cases, eqb-true, ne_eqb, leb-true}
-use Rattle.std.proofs.lemmas.List.{take-replicate, take_at, drop_at, get_or_at, get_or_append_left, drop-append-le, length-replicate}
+use Rattle.std.proofs.lemmas.List.{take-replicate, take_at, drop_at, get_or_at, get_or_append_left}
 use Rattle.std.proofs.lemmas.List.Folds.{list_all-append}
 use Rattle.std.proofs.lemmas.List.Sums.{AllPass-from_list_all}
-use Rattle.fixed_form.specs.Columns.{card, column, kind, is_blank, is_comment, marks_comment, is_character, is_label_character, label_field, statement_field, label, number, has_bad_label, has_bad_byte, is_bad_label_field}
+use Rattle.fixed_form.specs.Columns.{card, column, kind, is_blank, marks_comment, is_character, is_label_character, label_field, statement_field, label, number, has_bad_label, has_bad_byte, is_bad_label_field}
 use Rattle.read_back.proofs.LineBlocks.{initial_card, continuation_card}
 
 -- ---- columns 7 to 72

@@ -1,23 +1,23 @@
 -- Printed statements are read from their lines.
-use Rattle.std.proofs.Common.{◌≡◌, ◌==◌, ◌/◌, ℕ, zero, suc, ◌+◌, ◌-◌, ◌*◌, ◌<◌, ◌≤◌, Bool, true, false, cond, not, List, [], ◌∷◌, ◌++◌, length, map, take, drop, Option, Some, None, Ok, Err, Result, refl, sym, ap, ◌∙◌, subst, arith, append_assoc, length-append}
-use Rattle.std.specs.Prelude.{flat_map, codes, decimal}
+use Rattle.std.proofs.Common.{◌≡◌, ◌==◌, ℕ, zero, suc, ◌+◌, ◌-◌, ◌*◌, ◌<◌, ◌≤◌, Bool, true, false, cond, List, [], ◌∷◌, ◌++◌, length, map, take, drop, Option, None, Ok, Err, refl, sym, ap, ◌∙◌, subst, arith}
+use Rattle.std.specs.Prelude.{flat_map, codes}
 use Rattle.std.specs.List.{list_all, range_with_len, All, filter}
 use Rattle.std.specs.Str.Lines.{lines}
 use Rattle.std.proofs.Math.Dec.{eqb-suc-zero}
-use Rattle.std.proofs.lemmas.Bool.{and_parts, and_from, ne_eqb, not-true}
+use Rattle.std.proofs.lemmas.Bool.{and_from, not-true}
 use Rattle.std.proofs.lemmas.List.Concat.{flat_map-append}
 use Rattle.std.proofs.lemmas.List.Folds.{list_all-append}
 use Rattle.fixed_form.specs.declared.raw_stmt.RawStmt.{RawStmt}
 use Rattle.fixed_form.specs.declared.form_end.FormEnd.{FormEnd}
 use Rattle.fixed_form.specs.declared.form_end.FormEnd.TheVariants.{NoEnd}
 use Rattle.fixed_form.specs.Columns.{is_character}
-use Rattle.fixed_form.specs.SourceLine.{SourceLine, numbered_from, source_lines, is_statement_line}
+use Rattle.fixed_form.specs.SourceLine.{numbered_from, source_lines, is_statement_line}
 use Rattle.fixed_form.specs.Statement.{statements_of, ends_with_end, text}
 use Rattle.fixed_form.specs.Fault.{first_fault}
 use Rattle.fixed_form.specs.Reading.{outcome, reading}
 use Rattle.flat_programs.specs.Lines.{Typeset, digits_of_label, right_justified, line_count, line_of, lines_of}
 use Rattle.read_back.specs.ReadLines.{CanStand, begins_visibly, read_from}
-use Rattle.read_back.proofs.LabelColumns.{TellsLabel, columns_of, tells_label}
+use Rattle.read_back.proofs.LabelColumns.{columns_of, tells_label}
 use Rattle.read_back.proofs.LineBlocks.{Block, IsBlock, AreBlocks, all_lines, block_lines, block_statement, no_fault, all_stand, block_statements}
 use Rattle.read_back.proofs.PrintedBlocks.{piece, next_line, next_lines, statement_lines, block_of, block_fine, block_reads, all_dropped}
 use Rattle.read_back.proofs.PrintedCards.{all_taken}

@@ -1,19 +1,19 @@
 -- The printed texts of statements are read as their texts.
-use Rattle.std.proofs.Common.{◌≡◌, ◌==◌, ℕ, ◌<◌, ◌≤◌, Bool, true, false, not, List, [], ◌∷◌, ◌++◌, length, ◌&&◌, nat_le, map, refl, sym, ap, ◌∙◌, arith, append-nil, Option, Some, None}
-use Rattle.std.specs.Prelude.{codes, flat_map, All}
+use Rattle.std.proofs.Common.{◌≡◌, ℕ, true, false, not, List, [], ◌∷◌, ◌++◌, nat_le, map, refl, ap, ◌∙◌, arith, append-nil, Option}
+use Rattle.std.specs.Prelude.{codes, All}
 use Rattle.std.specs.List.{list_all}
 use Rattle.std.proofs.lemmas.Bool.{and_parts, ne_eqb, leb-true}
 use Rattle.f77_tree.specs.declared.declarations.Kind.{Kind}
 use Rattle.f77_tree.specs.declared.declarations.Kind.TheVariants.{Integer, Logical}
-use Rattle.f77_tree.specs.Name.{is_name, is_capital}
+use Rattle.f77_tree.specs.Name.{is_name}
 use Rattle.f77_tree.specs.Grammar.{Written, IsGrammatical, is_number, spelling}
-use Rattle.f77_tree.specs.StatementGrammar.{WrittenStatement, Print_star, Read_star, WrittenDecl, WrittenBlock, WrittenMember, WrittenData, WrittenItem, Expression, Characters, IsItem, item_text, IsPart, IsStatement, IsVariable, is_variable, is_group, is_data, is_block, block_text, decls_text, group_text, data_text, in_brackets, with_commas, after_commas, step_text, statement_text}
+use Rattle.f77_tree.specs.StatementGrammar.{WrittenStatement, Print_star, Read_star, WrittenDecl, WrittenBlock, WrittenMember, WrittenData, WrittenItem, Expression, Characters, IsItem, item_text, IsPart, IsStatement, IsVariable, is_variable, is_group, is_data, block_text, decls_text, group_text, data_text, in_brackets, with_commas, after_commas, step_text, statement_text}
 use Rattle.f77_tree.proofs.AllLemmas.{All-first, All-rest}
 use Rattle.fixed_form.specs.Columns.{is_character}
 use Rattle.read_back.specs.ReadLines.{begins_visibly}
 use Rattle.flat_programs.specs.Typeset.{blank, typeset}
 use Rattle.read_back.proofs.Folds.{Folds, AllFold, both, plain_folds, constant_folds, after_commas_fold}
-use Rattle.read_back.proofs.PlainTexts.{is_plain, Plain, joined, number_plain, name_parts, spelling_plain}
+use Rattle.read_back.proofs.PlainTexts.{Plain, joined, number_plain, name_parts, spelling_plain}
 use Rattle.read_back.proofs.PlainParts.{commas_plain, brackets_plain, numbers_plain, decls_plain, block_plain, group_plain, data_plain, step_plain}
 
 -- a statement whose printed text is read as its text

@@ -1,20 +1,19 @@
 -- A repeat in a DATA statement that isn't too long is no greater than the greatest constant: each item of the statement takes some of
 -- its characters, and has at most as many words as an array may have.
-use Rattle.std.proofs.Common.{◌≡◌, ℕ, zero, suc, ◌+◌, ◌*◌, ◌<◌, ◌≤◌, ℤ, pos, negsuc, nat_abs, ◌≤ℤ◌, true, false, List, [], ◌∷◌, ◌++◌, length, map, replicate, refl, sym, ap, ◌∙◌, subst, arith, length-append}
+use Rattle.std.proofs.Common.{◌≡◌, ℕ, zero, suc, ◌*◌, ◌≤◌, ℤ, pos, nat_abs, ◌≤ℤ◌, true, List, [], ◌∷◌, ◌++◌, length, map, replicate, refl, sym, ap, ◌∙◌, subst, arith, length-append}
 use Rattle.std.specs.Prelude.{flat_map, All, codes}
 use Rattle.std.proofs.lemmas.Int.{ints}
 use Rattle.std.proofs.lemmas.List.{length-map, length-replicate}
 use Rattle.f77_tree.specs.declared.declarations.Dim.{Dim}
 use Rattle.f77_tree.specs.declared.declarations.InitPart.{InitPart}
 use Rattle.f77_tree.specs.declared.declarations.InitValue.{InitValue}
-use Rattle.f77_tree.specs.declared.declarations.Kind.{Kind}
 use Rattle.f77_tree.specs.declared.declarations.Lit.{Lit}
 use Rattle.f77_tree.specs.declared.declarations.Member.{Member}
 use Rattle.f77_tree.specs.declared.programs.NameInfo.{NameInfo}
-use Rattle.f77_tree.specs.Declarations.{AreDims, IsDim, IsNameInfo, IsMember, index_of, member_index}
+use Rattle.f77_tree.specs.Declarations.{AreDims, IsNameInfo, member_index}
 use Rattle.f77_tree.specs.Grammar.{greatest_constant}
 use Rattle.f77_tree.specs.InitialWords.{IsInitPart, words_from, words_at, item_words, item_kinds, part_kinds, constants, lit_kind}
-use Rattle.f77_tree.specs.StatementGrammar.{member_text, value_text, with_commas, bracketed_list, signed_text, WrittenMember}
+use Rattle.f77_tree.specs.StatementGrammar.{member_text, value_text, with_commas, bracketed_list, signed_text}
 use Rattle.f77_tree.specs.Value.{dims_of, place_of, size_of}
 use Rattle.f77_tree.specs.Name.{is_name}
 use Rattle.f77_tree.proofs.AllLemmas.{All-first, All-rest}

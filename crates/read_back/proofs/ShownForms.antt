@@ -1,5 +1,5 @@
 -- The statements of a flat program can be printed and read.
-use Rattle.std.proofs.Common.{◌≡◌, ◌==◌, ℕ, zero, suc, ◌+◌, ◌^◌, ◌<◌, ◌≤◌, Bool, true, false, cond, List, [], ◌∷◌, length, ◌||◌, nat_lt, leb, map, refl, sym, ap, ◌∙◌, subst, arith, Option, Some, None, ⊎_elim}
+use Rattle.std.proofs.Common.{◌≡◌, ◌==◌, ℕ, zero, suc, ◌^◌, ◌<◌, ◌≤◌, Bool, true, false, cond, List, [], ◌∷◌, length, ◌||◌, nat_lt, leb, map, refl, sym, ap, ◌∙◌, arith, Some, None, ⊎_elim}
 use Rattle.std.specs.Prelude.{decimal, All, slice_get}
 use Rattle.std.specs.List.{list_all, list_any}
 use Rattle.std.proofs.lemmas.Bool.{and_from, le-leb, le-ltb, ne_eqb}
@@ -15,16 +15,16 @@ use Rattle.f77_tree.specs.declared.programs.Item.TheVariants.{Value, Chars}
 use Rattle.f77_tree.specs.declared.programs.NameInfo.{NameInfo}
 use Rattle.f77_tree.specs.Declarations.{IsNameInfo}
 use Rattle.f77_tree.specs.Execution.{words_taken}
-use Rattle.f77_tree.specs.Grammar.{Written, IsGrammatical, has_great_number, is_number, number_of, reading}
+use Rattle.f77_tree.specs.Grammar.{IsGrammatical, has_great_number, is_number, reading}
 use Rattle.f77_tree.specs.Kinds.{IsAssignment, IsOfKind, IsProper, taken_as}
 use Rattle.f77_tree.specs.Name.{is_name}
-use Rattle.f77_tree.specs.StatementGrammar.{WrittenStatement, Print_star, Read_star, WrittenItem, Expression, Characters, IsItem, item_is_great, IsVariable, is_variable, IsStep, step_is_great, is_bad_label, IsStatement, statement_of}
+use Rattle.f77_tree.specs.StatementGrammar.{WrittenStatement, Print_star, Read_star, WrittenItem, IsItem, item_is_great, IsVariable, is_variable, IsStep, step_is_great, is_bad_label, IsStatement, statement_of}
 use Rattle.f77_tree.specs.Value.{kind_of}
-use Rattle.f77_tree.specs.WellFormed.{IsText, IsProperItem, IsDo}
+use Rattle.f77_tree.specs.WellFormed.{IsProperItem, IsDo}
 use Rattle.f77_tree.proofs.AllLemmas.{All-nil, All-cons, All-first, All-rest}
 use Rattle.f77_tree.proofs.Subroutines.{guarded_subroutines}
 use Rattle.f77_tree.proofs.Taking.{words_taken_apply}
-use Rattle.f77_expr.specs.Printing.{Printed, name_in, name_at, printed, printed_access}
+use Rattle.f77_expr.specs.Printing.{Printed, name_in, name_at, printed_access}
 use Rattle.f77_expr.proofs.PrintedLaws.{proper-writes}
 use Rattle.f77_expr.proofs.PrintedNumbers.{is_number-decimal, number_of-decimal}
 use Rattle.fixed_form.specs.Columns.{is_character}
@@ -33,7 +33,7 @@ use Rattle.flat_programs.specs.declared.statements.Flat.TheVariants.{Mark, Assig
 use Rattle.flat_programs.specs.FlatForm.{IsProperFlat, IsNumber, HasNumbers}
 use Rattle.flat_programs.specs.Shown.{written, written_item, is_one, written_step, shown}
 use Rattle.read_back.proofs.DeclaredForms.{CanBePrinted}
-use Rattle.read_back.proofs.Prints.{Prints, IsPrintable, read_prints, assignment_prints, print_prints, continue_prints, end_prints, go_to_prints, computed_prints, arithmetic_prints, logical_prints, do_prints}
+use Rattle.read_back.proofs.Prints.{IsPrintable, read_prints, assignment_prints, print_prints, continue_prints, end_prints, go_to_prints, computed_prints, arithmetic_prints, logical_prints, do_prints}
 
 -- ---- labels
 

@@ -1,13 +1,13 @@
 -- Numbers of declarations as they are written: digits whose number is no more than the greatest constant.
-use Rattle.std.proofs.Common.{◌≡◌, ℕ, zero, suc, ◌+◌, ◌^◌, ◌<◌, ◌≤◌, ℤ, pos, negsuc, nat_abs, ◌≤ℤ◌, Bool, true, false, List, [], ◌∷◌, ◌++◌, length, ◌&&◌, ◌||◌, nat_lt, map, refl, sym, ap, ◌∙◌, subst, arith, Option, Some, None}
+use Rattle.std.proofs.Common.{◌≡◌, ℕ, ◌^◌, ◌<◌, ◌≤◌, ℤ, pos, negsuc, nat_abs, ◌≤ℤ◌, Bool, true, false, List, [], ◌∷◌, ◌++◌, ◌||◌, nat_lt, map, refl, ap, ◌∙◌, arith, Some, None}
 use Rattle.std.specs.Prelude.{flat_map, decimal, All, if◌then◌else◌}
 use Rattle.std.specs.Ordering.{int_eq}
-use Rattle.std.specs.List.{list_all, list_any}
+use Rattle.std.specs.List.{list_all}
 use Rattle.std.proofs.lemmas.Bool.{and_from, le-ltb}
 use Rattle.std.proofs.lemmas.Int.{ints}
 use Rattle.f77_tree.specs.declared.declarations.Dim.{Dim}
 use Rattle.f77_tree.specs.Declarations.{CanBeWritten, IsDim, AreWithin}
-use Rattle.f77_tree.specs.Grammar.{is_number, number_of, greatest_constant}
+use Rattle.f77_tree.specs.Grammar.{number_of, greatest_constant}
 use Rattle.f77_tree.specs.StatementGrammar.{SignedDigits, is_signed, is_great, are_great, dim_numbers, numbers_of}
 use Rattle.f77_tree.proofs.AllLemmas.{All-nil, All-cons, All-first, All-rest}
 use Rattle.f77_expr.proofs.PrintedNumbers.{is_number-decimal, number_of-decimal}
