@@ -37,7 +37,7 @@ pub record ArePlaceRows (net : NetOf) (rows : PlaceRows) : Type 0 where
 
 -- the tables tell the nodes of the net, and of its pieces and edges what firings look up
 pub record AreTables (net : NetOf) (t : Tables) : Type 0 where
-  pub names : t.names.items ≡ nodes_of net
+  pub names : t.names ≡ nodes_of net
   pub few : length (nodes_of net) < 2 ^ 32
   -- the last one is the number of all nodes
   pub firsts : t.firsts.items ≡ map (first_node net) (range_with_len 0 (suc (graph_in net).nodes))

@@ -40,7 +40,7 @@ impl<'a, const W: usize> Board<'a, W> {
         requires { k < length (nodes_of (net_on self.now)) }
         ensures { result ≡ node_at (net_on self.now) k }
     {
-        self.tables.names[k as usize]
+        self.tables.names.at(k as usize)
     }
 
     /// The number of the first node of a piece. Where the piece has none, that of the next piece with nodes, or the number of all nodes.

@@ -22,13 +22,14 @@ use dep_routing::{least_above, touched_lines};
 use df_sequence::{LabelList, NoMemory};
 use firing::NodeName;
 use net_board::control_arrives;
+use node_names::NameList;
 use std::alloc::Global;
 
 /// The nodes of a net, and for each piece what its firings look up.
 #[derive(Drop)]
 pub(crate) struct Tables {
     /// The name of each node.
-    pub(crate) names: Vec<NodeName>,
+    pub(crate) names: NameList,
     /// For each piece the number of its first node, and last the number of all nodes.
     pub(crate) firsts: Vec<u32>,
     /// For each piece the lines that it touches.
@@ -65,16 +66,16 @@ pub(crate) fn make_tables<const W: usize>(alloc: Global, plan: &Plan<W>) -> Resu
 /// The nodes by pieces.
 #[derive(Drop)]
 struct NumberedNodes {
-    names: Vec<NodeName>,
+    names: NameList,
     firsts: Vec<u32>,
 }
 
 fn numbered_nodes<const W: usize>(alloc: Global, plan: &Plan<W>) -> Result<NumberedNodes, NoMemory>
-    ensures names { IfOk result (λ n. n.names.items ≡ nodes_of (net_in plan.now)) }
-    ensures few { IfOk result (λ n. length n.names.items < 2 ^ 32) }
+    ensures names { IfOk result (λ n. n.names ≡ nodes_of (net_in plan.now)) }
+    ensures few { IfOk result (λ n. length n.names < 2 ^ 32) }
     ensures firsts { IfOk result (λ n. n.firsts.items ≡ map (first_node (net_in plan.now)) (range_with_len 0 (suc (graph_in (net_in plan.now)).nodes))) }
 {
-    let mut names = Vec::new(alloc);
+    let mut names = NameList::new(alloc);
     let mut firsts = Vec::with_capacity(alloc, plan.flow.pieces() as usize + 1)?;
     let mut count = 0;
     firsts.push(count)?;
@@ -87,8 +88,8 @@ fn numbered_nodes<const W: usize>(alloc: Global, plan: &Plan<W>) -> Result<Numbe
 }
 
 /// How many nodes there are, unless they can't be numbered.
-fn count_of(names: &Vec<NodeName>) -> Result<u32, NoMemory>
-    ensures { IfOk result (λ count. count ≡ length names.now.items) }
+fn count_of(names: &NameList) -> Result<u32, NoMemory>
+    ensures { IfOk result (λ count. count ≡ length names.now) }
 {
     if names.len() <= u32::MAX as usize {
         Ok(names.len() as u32)
@@ -99,12 +100,12 @@ fn count_of(names: &Vec<NodeName>) -> Result<u32, NoMemory>
 
 /// Appends the nodes of a piece.
 fn push_nodes<const W: usize>(
-    names: &mut Vec<NodeName>,
+    names: &mut NameList,
     plan: &Plan<W>,
     piece: u32,
 ) -> Result<(), NoMemory>
     requires { piece < (graph_in (net_in plan.now)).nodes }
-    ensures { OnOk result (names.new.items ≡ names.old.items ++ nodes_at (net_in plan.now) piece) }
+    ensures { OnOk result (names.new ≡ names.old ++ nodes_at (net_in plan.now) piece) }
 {
     match plan.flow.piece(piece).kind {
         PieceKind::Act => {
@@ -122,12 +123,12 @@ fn push_nodes<const W: usize>(
 
 /// Appends a switch for each line that passes the piece untouched.
 fn push_switches<const W: usize>(
-    names: &mut Vec<NodeName>,
+    names: &mut NameList,
     plan: &Plan<W>,
     piece: u32,
 ) -> Result<(), NoMemory>
     requires { piece < (graph_in (net_in plan.now)).nodes }
-    ensures { OnOk result (names.new.items ≡ names.old.items ++ map (Switch piece) (passing (net_in plan.now) piece)) }
+    ensures { OnOk result (names.new ≡ names.old ++ map (Switch piece) (passing (net_in plan.now) piece)) }
 {
     let passing = passing_lines(plan, piece);
     let lines = plan.routes.lines();
@@ -141,12 +142,12 @@ fn push_switches<const W: usize>(
 
 /// Appends a merge for each line that is led to the piece.
 fn push_merges<const W: usize>(
-    names: &mut Vec<NodeName>,
+    names: &mut NameList,
     plan: &Plan<W>,
     piece: u32,
 ) -> Result<(), NoMemory>
     requires { piece < (graph_in (net_in plan.now)).nodes }
-    ensures { OnOk result (names.new.items ≡ names.old.items ++ map (Merge piece) (led_to (net_in plan.now) piece)) }
+    ensures { OnOk result (names.new ≡ names.old ++ map (Merge piece) (led_to (net_in plan.now) piece)) }
 {
     let free = free_lines(plan, piece);
     let lines = plan.routes.lines();

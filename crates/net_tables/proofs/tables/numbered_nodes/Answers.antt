@@ -9,9 +9,9 @@ pub loop-piece-preserved : goal.loop-piece-preserved
 loop-piece-preserved g c =
     let net = net_in c.args.plan.now in
     let piece = c.loop-piece.piece in
-    let names : c.push_nodes.new.names.items ≡ nodes_below net (piece + 1) =
+    let names : c.push_nodes.new.names ≡ nodes_below net (piece + 1) =
     c.in_ok-push_nodes.ensures ∙ ap (λ (xs : List NodeName). xs ++ nodes_at net piece) c.loop-piece.invariant.names ∙ sym (flat_map_next (nodes_at net) piece) in
-    let count : c.in_ok-count.count ≡ length c.push_nodes.new.names.items = c.in_ok-count.ensures in
+    let count : c.in_ok-count.count ≡ length c.push_nodes.new.names = c.in_ok-count.ensures in
     let small : c.in_ok-count.count < 2 ^ 32 = omega arith in
     record {
       names = names;

@@ -15,7 +15,7 @@ loop-line-init g c =
     let next = c.least_above-line.result in
     let e = c.least_above-line.ensures in
     let told : (k : ℕ) → k < lines → test k ≡ holds c.free_lines-free.result k = λ k low. sym (c.free_lines-free.ensures k (omega (arith, low, c.lines-lines.ensures))) in
-    IsNaming-begin (Merge c.args.piece) test c.args.names.now.items lines next e.within (λ more. told next more ∙ (e.member more).0) (λ k below. told k (omega (arith, below, e.within)) ∙ e.none k tt below)
+    IsNaming-begin (Merge c.args.piece) test c.args.names.now lines next e.within (λ more. told next more ∙ (e.member more).0) (λ k below. told k (omega (arith, below, e.within)) ∙ e.none k tt below)
 
 pub loop-line-preserved : goal.loop-line-preserved
 loop-line-preserved g c =
@@ -25,12 +25,12 @@ loop-line-preserved g c =
     let next = c.least_above-line-in-loop-line.result in
     let e = c.least_above-line-in-loop-line.ensures in
     let told : (k : ℕ) → k < lines → test k ≡ holds c.free_lines-free.result k = λ k low. sym (c.free_lines-free.ensures k (omega (arith, low, c.lines-lines.ensures))) in
-    rw c.in_ok-push.ensures.items (IsNaming-more (Merge c.args.piece) test c.args.names.now.items lines c.loop-line.line c.loop-line.names.items c.loop-line-test.true c.loop-line.invariant next e.within
+    rw c.in_ok-push.ensures (IsNaming-more (Merge c.args.piece) test c.args.names.now lines c.loop-line.line c.loop-line.names c.loop-line-test.true c.loop-line.invariant next e.within
     (λ more. (told next more ∙ (e.member more).0, (e.member more).1)) (λ k above below. told k (omega (arith, below, e.within)) ∙ e.none k above below))
 
 pub returns : goal.returns
 returns g c =
     let net = net_in c.args.plan.now in
     let test : ℕ → Bool = is_free net c.args.piece in
-    IsNaming-end (Merge c.args.piece) test c.args.names.now.items c.lines-lines.result c.loop-line.line c.loop-line.names.items c.loop-line-test.false c.loop-line.invariant
-    ∙ ap (λ n. c.args.names.now.items ++ map (Merge c.args.piece) (filter test (range_with_len 0 n))) c.lines-lines.ensures
+    IsNaming-end (Merge c.args.piece) test c.args.names.now c.lines-lines.result c.loop-line.line c.loop-line.names c.loop-line-test.false c.loop-line.invariant
+    ∙ ap (λ n. c.args.names.now ++ map (Merge c.args.piece) (filter test (range_with_len 0 n))) c.lines-lines.ensures

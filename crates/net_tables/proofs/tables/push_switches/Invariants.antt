@@ -6,7 +6,7 @@ use Rattle.net_tables.proofs.TableLemmas.{IsNaming}
 use Rattle.net_tables.proofs.tables.push_switches.Given as goal
 
 abbrev pub invariant-loop-line : goal.invariant-loop-line
-invariant-loop-line g l = IsNaming (Switch l.piece) (λ line. is_free (net_in l.plan) l.piece line && not ((net_in l.plan).touches l.piece line)) l.initial.names.items l.lines l.line l.names.items
+invariant-loop-line g l = IsNaming (Switch l.piece) (λ line. is_free (net_in l.plan) l.piece line && not ((net_in l.plan).touches l.piece line)) l.initial.names l.lines l.line l.names
 
 abbrev pub decreases-loop-line : goal.decreases-loop-line
 decreases-loop-line g l = l.lines - l.line
