@@ -28,7 +28,8 @@ use Rattle.op_net.specs.declared.plan.OperationPlan.{OperationPlan}
 use Rattle.op_net.specs.declared.plan.PieceOperations.{PieceOperations}
 use Rattle.op_net.specs.FirstPlaces.{AreFirstPlaces}
 use Rattle.op_net.specs.Leads.{IsLead}
-use Rattle.op_net.specs.PieceView.{piece_needs, set_holds}
+use Rattle.op_net.specs.PieceView.{piece_needs}
+use Rattle.set_lists.proofs.Past.{test_past}
 use Rattle.op_net.specs.PlacesView.{IsCounted}
 use Rattle.op_net.specs.PlanView.{operations_in}
 use Rattle.op_net.specs.SoundPlaces.{ArePlaces}
@@ -98,5 +99,5 @@ module _ {W : ℕ} (plan : OperationPlan W) where
       (λ (found : (p : PieceOperations W) × (slice_get plan.pieces.items piece ≡ Some p)).
       let count = counted plan piece found.0 found.1 in
       let needs = plan.own_needs piece found.0 found.1 in
-      ap (λ o. piece_needs o i line) found.1 ∙ ap (λ o. set_holds o line) (slice_get_past found.0.needs.items i (omega (arith, past, count, needs))))
+      ap (λ o. piece_needs o i line) found.1 ∙ test_past found.0.needs i line (omega (arith, past, count, needs)))
       (cases (slice_get plan.pieces.items piece))

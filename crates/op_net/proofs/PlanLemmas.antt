@@ -8,6 +8,8 @@ use mathlib.Core.Path.{fun_ext}
 use Rattle.op_table.specs.Words.{IsWord}
 use Rattle.class_set.specs.ClassSet.{holds}
 use Rattle.class_set.specs.declared.ClassSet.{ClassSet}
+use Rattle.set_lists.specs.declared.lists.SetList.{SetList}
+use Rattle.set_lists.specs.Sets.{set_count, test_at}
 use Rattle.f77_tree.specs.declared.programs.Program.{Program}
 use Rattle.f77_tree.specs.CanRun.{CanRun}
 use Rattle.f77_tree.specs.WellFormed.{IsWellFormed}
@@ -32,9 +34,9 @@ use Rattle.operation_lists.specs.declared.operations.Operation.{Operation}
 use Rattle.operation_lists.specs.Seen.{operation_seen}
 use Rattle.op_net.specs.declared.plan.PieceOperations.{PieceOperations}
 use Rattle.op_net.specs.OperationParts.{AreOperationParts}
-use Rattle.op_net.specs.PieceView.{net_with_operations, piece_needs, set_holds}
+use Rattle.op_net.specs.PieceView.{net_with_operations, piece_needs}
 use Rattle.op_net.specs.PlannedPieces.{AreNeedsOf, AreOperationsOf, ArePlanned}
-use Rattle.op_net.proofs.GrownLists.{get_before, get_end, get_last, get_some}
+use Rattle.op_net.proofs.GrownLists.{get_last, get_some}
 
 -- ---- the program
 
@@ -56,32 +58,33 @@ same_touches sets node s is = fun_ext (λ line. touches_at sets node line s is)
 -- ---- what the operations of a piece need
 
 -- the lines that so many of the operations need
-pub record AreFirstNeeds {W : ℕ} (c : ClassTable) (touches : ℕ → Bool) (operations : List Operation) (n : ℕ) (needs : List (ClassSet W)) : Type 0 where
-  pub count : length needs ≡ n
-  pub each : (i line : ℕ) (operation : Operation) → i < n → slice_get operations i ≡ Some operation → (set_holds (slice_get needs i) line ≡ true) ↔ OperationNeeds c touches (operation_seen operation) line
+pub record AreFirstNeeds {W : ℕ} (c : ClassTable) (touches : ℕ → Bool) (operations : List Operation) (n : ℕ) (needs : SetList W) : Type 0 where
+  pub count : set_count needs ≡ n
+  pub each : (i line : ℕ) (operation : Operation) → i < n → slice_get operations i ≡ Some operation → (test_at needs i line ≡ true) ↔ OperationNeeds c touches (operation_seen operation) line
 
 module _ {W : ℕ} (c : ClassTable) (touches : ℕ → Bool) (operations : List Operation) where
-  pub no_needs : (needs : List (ClassSet W)) → needs ≡ [] → AreFirstNeeds c touches operations 0 needs
-  no_needs needs none = record { count = ap length none; each = λ i line operation below. absurd (omega (arith, below)) }
+  pub no_needs : (needs : SetList W) → set_count needs ≡ 0 → AreFirstNeeds c touches operations 0 needs
+  no_needs needs none = record { count = none; each = λ i line operation below. absurd (omega (arith, below)) }
 
   -- those of one operation more
-  pub next_needs : (n : ℕ) (needs new : List (ClassSet W)) (operation : Operation) (set : ClassSet W) → AreFirstNeeds c touches operations n needs → slice_get operations n ≡ Some operation → ((line : ℕ) → (holds set line ≡ true) ↔ OperationNeeds c touches (operation_seen operation) line) → new ≡ needs ++ set ∷ [] → AreFirstNeeds c touches operations (n + 1) new
-  next_needs n needs new operation set first at told are = record {
-    count = let l = length-append needs (set ∷ []) in let e = ap length are in omega (arith, l, e, first.count);
+  pub next_needs : (n : ℕ) (needs new : SetList W) (operation : Operation) (set : ClassSet W) → AreFirstNeeds c touches operations n needs → slice_get operations n ≡ Some operation → ((line : ℕ) → (holds set line ≡ true) ↔ OperationNeeds c touches (operation_seen operation) line)
+      → set_count new ≡ set_count needs + 1 → ((line : ℕ) → test_at new (set_count needs) line ≡ holds set line) → ((i line : ℕ) → i < set_count needs → test_at new i line ≡ test_at needs i line) → AreFirstNeeds c touches operations (n + 1) new
+  next_needs n needs new operation set first at told more last others = record {
+    count = more ∙ ap (λ k. k + 1) first.count;
     each = λ i line other below is. ⊎_elim
         (λ (before : i < n).
-        let same : slice_get new i ≡ slice_get needs i = ap (λ xs. slice_get xs i) are ∙ get_before needs (set ∷ []) i (omega (arith, before, first.count)) in
-        subst (λ (o : Option (ClassSet W)). (set_holds o line ≡ true) ↔ OperationNeeds c touches (operation_seen other) line) (sym same) (first.each i line other before is))
+        let same : test_at new i line ≡ test_at needs i line = others i line (omega (arith, before, first.count)) in
+        subst (λ (b : Bool). (b ≡ true) ↔ OperationNeeds c touches (operation_seen other) line) (sym same) (first.each i line other before is))
         (λ (past : n ≤ i).
         let here : i ≡ n = omega (arith, past, below) in
-        let same : slice_get new i ≡ Some set = ap (λ xs. slice_get xs i) are ∙ get_end needs set i (omega (arith, here, first.count)) in
+        let same : test_at new i line ≡ holds set line = ap (λ k. test_at new k line) (here ∙ sym first.count) ∙ last line in
         let found : Some operation ≡ Some other = sym at ∙ ap (slice_get operations) (sym here) ∙ is in
         let own : operation ≡ other = cc in
-        subst (λ (o : Option (ClassSet W)). (set_holds o line ≡ true) ↔ OperationNeeds c touches (operation_seen other) line) (sym same) (subst (λ (op : Operation). (holds set line ≡ true) ↔ OperationNeeds c touches (operation_seen op) line) own (told line)))
+        subst (λ (b : Bool). (b ≡ true) ↔ OperationNeeds c touches (operation_seen other) line) (sym same) (subst (λ (op : Operation). (holds set line ≡ true) ↔ OperationNeeds c touches (operation_seen op) line) own (told line)))
         (cases_lt i n);
   }
 
-  pub needs_done : (n : ℕ) (needs : List (ClassSet W)) → AreFirstNeeds c touches operations n needs → n ≡ length operations → AreNeedsOf c touches operations needs
+  pub needs_done : (n : ℕ) (needs : SetList W) → AreFirstNeeds c touches operations n needs → n ≡ length operations → AreNeedsOf c touches operations needs
   needs_done n needs first all = record {
     count = first.count ∙ all;
     each = λ i line operation is. first.each i line operation (let below = slice_get_within operations i operation is in omega (arith, below, all)) is;
@@ -134,7 +137,7 @@ module _ {W : ℕ} (on : Board W) (c : ClassTable) (pieces : List (PieceOperatio
   pub operations_are : (piece : ℕ) (o : PieceOperations W) → slice_get pieces piece ≡ Some o → map operation_seen o.operations.items ≡ operations_at x piece
   operations_are piece o at = let own = planned.each piece o at in own.operations
 
-  pub needs_are : (piece : ℕ) (o : PieceOperations W) → slice_get pieces piece ≡ Some o → length o.needs.items ≡ length o.operations.items
+  pub needs_are : (piece : ℕ) (o : PieceOperations W) → slice_get pieces piece ≡ Some o → set_count o.needs ≡ length o.operations.items
   needs_are piece o at = let own = planned.each piece o at in own.needs.count
 
   are_needs : AreNeeds x c

@@ -12,9 +12,10 @@ use Rattle.op_board.specs.Operations as board
 use Rattle.op_board.specs.OperationNets.{operation_at, operation_count, operation_in, operations_at}
 use Rattle.operation_lists.specs.declared.operations.Operation.{Operation}
 use Rattle.operation_lists.specs.Seen.{operation_seen, work_seen}
+use Rattle.set_lists.specs.Sets.{set_count, test_at}
 use Rattle.op_net.specs.declared.plan.OperationPlan.{OperationPlan}
 use Rattle.op_net.specs.declared.plan.PieceOperations.{PieceOperations}
-use Rattle.op_net.specs.PieceView.{piece_needs, set_holds}
+use Rattle.op_net.specs.PieceView.{piece_needs}
 use Rattle.op_net.specs.PlanView.{operations_in}
 use Rattle.op_net.specs.Telling.{operation_name}
 use Rattle.op_net.proofs.PlannedCounts.{counted}
@@ -26,7 +27,7 @@ module _ {W : ℕ} (plan : OperationPlan W) (piece i : ℕ) (o : PieceOperations
   pub inside_operations : i < length o.operations.items
   inside_operations = let count = counted plan piece o at in omega (arith, count, inside)
 
-  pub inside_needs : i < length o.needs.items
+  pub inside_needs : i < set_count o.needs
   inside_needs = let same = plan.own_needs piece o at in let low = inside_operations in omega (arith, same, low)
 
   pub planned_name : (op : Operation) → op ≡ get_or o.operations.items i op → operation_name (work_seen op.work) ≡ operation_name (operation_at (operations_in plan) piece i).work
@@ -35,7 +36,7 @@ module _ {W : ℕ} (plan : OperationPlan W) (piece i : ℕ) (o : PieceOperations
       ap (λ (ops : List board.Operation). slice_get ops i) (sym own) ∙ slice_get-map operation_seen o.operations.items i ∙ ap (option_map operation_seen) (slice_get_read o.operations.items (length o.operations.items) i op refl inside_operations read) in
       ap (λ (q : Option board.Operation). operation_name (operation_in q).work) (sym here))
 
-  pub planned_needs : (set : ClassSet W) → set ≡ get_or o.needs.items i set → (line : ℕ) → holds set line ≡ (operations_in plan).needs piece i line
+  pub planned_needs : (set : ClassSet W) → ((line : ℕ) → holds set line ≡ test_at o.needs i line) → (line : ℕ) → holds set line ≡ (operations_in plan).needs piece i line
   planned_needs set read line =
-      ap (λ (q : Option (ClassSet W)). set_holds q line) (sym (slice_get_read o.needs.items (length o.needs.items) i set refl inside_needs read))
+      read line
       ∙ ap (λ (q : Option (PieceOperations W)). piece_needs q i line) (sym at)

@@ -9,7 +9,7 @@ use Rattle.op_net.specs.OperationRows.{AreRows}
 
 -- the tables tell the nodes of the net, and of each operation what its firing looks up
 pub record AreOperationTables (x : OperationNet) (t : OperationTables) : Type 0 where
-  pub names : t.names.items ≡ all_operation_nodes x
+  pub names : t.names ≡ all_operation_nodes x
   pub few : length (all_operation_nodes x) < 2 ^ 32
   -- the last one is the number of all nodes
   pub firsts : t.firsts.items ≡ map (first_operation x) (range_with_len 0 (suc (graph_in x.net).nodes))

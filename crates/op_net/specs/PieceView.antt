@@ -1,21 +1,16 @@
 -- What contracts see of the operations of pieces.
 use Rattle.std.specs.Prelude.{ℕ, Bool, false, List, Option, Some, None, slice_get}
-use Rattle.class_set.specs.ClassSet.{holds}
-use Rattle.class_set.specs.declared.ClassSet.{ClassSet}
 use Rattle.net_tables.specs.declared.lookups.Board.{Board}
 use Rattle.net_tables.specs.LookupView.{net_on}
 use Rattle.op_board.specs.OperationNets.{OperationNet}
+use Rattle.set_lists.specs.Sets.{test_at}
 use Rattle.op_net.specs.declared.plan.PieceOperations.{PieceOperations}
 
 module _ {W : ℕ} where
-  abbrev pub set_holds : Option (ClassSet W) → (line : ℕ) → Bool
-  set_holds None line = false
-  set_holds (Some set) line = holds set line
-
   -- an operation of the piece needs the line
   abbrev pub piece_needs : Option (PieceOperations W) → (i line : ℕ) → Bool
   piece_needs None i line = false
-  piece_needs (Some operations) i line = set_holds (slice_get operations.needs.items i) line
+  piece_needs (Some operations) i line = test_at operations.needs i line
 
   -- the net whose pieces have these operations
   abbrev pub net_with_operations : Board W → List (PieceOperations W) → OperationNet

@@ -7,19 +7,19 @@ use Rattle.op_board.specs.Needs.{OperationNeeds}
 use Rattle.op_board.specs.Operations.{operations_of}
 use Rattle.operation_lists.specs.declared.operations.Operation.{Operation}
 use Rattle.operation_lists.specs.Seen.{operation_seen}
-use Rattle.class_set.specs.declared.ClassSet.{ClassSet}
+use Rattle.set_lists.specs.declared.lists.SetList.{SetList}
+use Rattle.set_lists.specs.Sets.{set_count, test_at}
 use Rattle.op_net.specs.declared.plan.PieceOperations.{PieceOperations}
-use Rattle.op_net.specs.PieceView.{set_holds}
 
 -- for each of the operations the set of the lines that it needs, where it is told which lines the piece touches
-pub record AreNeedsOf {W : ℕ} (c : ClassTable) (touches : ℕ → Bool) (operations : List Operation) (needs : List (ClassSet W)) : Type 0 where
-  pub count : length needs ≡ length operations
-  pub each : (i line : ℕ) (operation : Operation) → slice_get operations i ≡ Some operation → (set_holds (slice_get needs i) line ≡ true) ↔ OperationNeeds c touches (operation_seen operation) line
+pub record AreNeedsOf {W : ℕ} (c : ClassTable) (touches : ℕ → Bool) (operations : List Operation) (needs : SetList W) : Type 0 where
+  pub count : set_count needs ≡ length operations
+  pub each : (i line : ℕ) (operation : Operation) → slice_get operations i ≡ Some operation → (test_at needs i line ≡ true) ↔ OperationNeeds c touches (operation_seen operation) line
 
 -- the operations of the piece, and the lines that they need
 pub record AreOperationsOf {W : ℕ} (net : NetOf) (c : ClassTable) (piece : ℕ) (planned : PieceOperations W) : Type 0 where
   pub operations : map operation_seen planned.operations.items ≡ operations_of net.program.names (kind_in net piece) (exec_kind net.program piece)
-  pub needs : AreNeedsOf c (net.touches piece) planned.operations.items planned.needs.items
+  pub needs : AreNeedsOf c (net.touches piece) planned.operations.items planned.needs
 
 -- the operations of each piece
 pub record ArePlanned {W : ℕ} (net : NetOf) (c : ClassTable) (pieces : List (PieceOperations W)) : Type 0 where

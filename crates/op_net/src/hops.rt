@@ -56,8 +56,9 @@ pub(crate) fn unlinked_hops<const W: usize>(
     ensures all { length scratch.new.before.items ≡ length scratch.old.before.items }
     ensures first { scratch.new.first.items ≡ scratch.old.first.items }
 {
-    let mut hops = Vec::new(alloc);
     let mut next = needs.next_after(None);
+    // Few operations need more than one line.
+    let mut hops = Vec::with_capacity(alloc, usize::from(next.is_some()))?;
     while let Some(line) = next {
         let before = scratch.before[line as usize];
         hops.push(Hop {

@@ -42,7 +42,7 @@ impl<'a, const W: usize> OperationBoard<'a, W> {
         requires { k < node_total (operation_net_on self.now) }
         ensures { result ≡ operation_node (operation_net_on self.now) k }
     {
-        self.tables.names[k as usize]
+        self.tables.names.at(k as usize)
     }
 
     /// The number of the first node of a piece.

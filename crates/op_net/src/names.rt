@@ -11,12 +11,13 @@ use crate::plan::OperationPlan;
 use cfg_build::PieceKind;
 use df_sequence::NoMemory;
 use firing::NodeName;
+use node_names::NameList;
 use std::alloc::Global;
 
 /// The nodes by pieces.
 #[derive(Drop)]
 pub(crate) struct NumberedNodes {
-    pub(crate) names: Vec<NodeName>,
+    pub(crate) names: NameList,
     pub(crate) firsts: Vec<u32>,
 }
 
@@ -26,11 +27,11 @@ pub(crate) fn numbered_nodes<const W: usize>(
     alloc: Global,
     plan: &OperationPlan<W>,
 ) -> Result<NumberedNodes, NoMemory>
-    ensures names { IfOk result (λ n. n.names.items ≡ all_operation_nodes (operations_in plan.now)) }
-    ensures few { IfOk result (λ n. length n.names.items < 2 ^ 32) }
+    ensures names { IfOk result (λ n. n.names ≡ all_operation_nodes (operations_in plan.now)) }
+    ensures few { IfOk result (λ n. length n.names < 2 ^ 32) }
     ensures firsts { IfOk result (λ n. n.firsts.items ≡ map (first_operation (operations_in plan.now)) (range_with_len 0 (suc (graph_in (operations_in plan.now).net).nodes))) }
 {
-    let mut names = Vec::new(alloc);
+    let mut names = NameList::new(alloc);
     let mut firsts = Vec::with_capacity(alloc, plan.board.plan.flow.pieces() as usize + 1)?;
     let mut count = 0;
     firsts.push(count)?;
@@ -55,12 +56,12 @@ pub(crate) fn number_of(count: usize) -> Result<u32, NoMemory>
 
 /// Appends the nodes of a piece: its operations, and its switches or merges.
 fn push_nodes<const W: usize>(
-    names: &mut Vec<NodeName>,
+    names: &mut NameList,
     plan: &OperationPlan<W>,
     piece: u32,
 ) -> Result<(), NoMemory>
     requires { piece < (graph_in (operations_in plan.now).net).nodes }
-    ensures { OnOk result (names.new.items ≡ names.old.items ++ operation_nodes_at (operations_in plan.now) piece) }
+    ensures { OnOk result (names.new ≡ names.old ++ operation_nodes_at (operations_in plan.now) piece) }
 {
     match plan.board.plan.flow.piece(piece).kind {
         PieceKind::Act => push_operations(names, plan, piece),
@@ -72,12 +73,12 @@ fn push_nodes<const W: usize>(
 
 /// Appends a node for each operation of the piece.
 fn push_operations<const W: usize>(
-    names: &mut Vec<NodeName>,
+    names: &mut NameList,
     plan: &OperationPlan<W>,
     piece: u32,
 ) -> Result<(), NoMemory>
     requires { piece < (graph_in (operations_in plan.now).net).nodes }
-    ensures { OnOk result (names.new.items ≡ names.old.items ++ operation_nodes (operations_in plan.now) piece) }
+    ensures { OnOk result (names.new ≡ names.old ++ operation_nodes (operations_in plan.now) piece) }
 {
     let count = number_of(plan.pieces[piece as usize].operations.len())?;
     for i in 0..count {
@@ -89,13 +90,13 @@ fn push_operations<const W: usize>(
 /// Appends the nodes of a piece at which edges part: its operations, and its switches, which are those of the net of statements,
 /// behind the first node of the piece there.
 fn push_parting<const W: usize>(
-    names: &mut Vec<NodeName>,
+    names: &mut NameList,
     plan: &OperationPlan<W>,
     piece: u32,
 ) -> Result<(), NoMemory>
     requires piece { piece < (graph_in (operations_in plan.now).net).nodes }
     requires parts { is_parting (kind_in (operations_in plan.now).net piece) ≡ true }
-    ensures { OnOk result (names.new.items ≡ names.old.items ++ operation_nodes_at (operations_in plan.now) piece) }
+    ensures { OnOk result (names.new ≡ names.old ++ operation_nodes_at (operations_in plan.now) piece) }
 {
     push_operations(names, plan, piece)?;
     let end = plan.board.end(piece);
@@ -104,26 +105,26 @@ fn push_parting<const W: usize>(
 
 /// Appends the nodes that a piece has in the net of statements.
 fn push_merges<const W: usize>(
-    names: &mut Vec<NodeName>,
+    names: &mut NameList,
     plan: &OperationPlan<W>,
     piece: u32,
 ) -> Result<(), NoMemory>
     requires { piece < (graph_in (operations_in plan.now).net).nodes }
-    ensures { OnOk result (names.new.items ≡ names.old.items ++ nodes_at (operations_in plan.now).net piece) }
+    ensures { OnOk result (names.new ≡ names.old ++ nodes_at (operations_in plan.now).net piece) }
 {
     push_turns(names, plan, plan.board.first(piece), plan.board.end(piece))
 }
 
 /// Appends the nodes of the net of statements from one number up to another one.
 fn push_turns<const W: usize>(
-    names: &mut Vec<NodeName>,
+    names: &mut NameList,
     plan: &OperationPlan<W>,
     from: u32,
     end: u32,
 ) -> Result<(), NoMemory>
     requires order { from ≤ end }
     requires within { end ≤ length (nodes_of (operations_in plan.now).net) }
-    ensures { OnOk result (names.new.items ≡ names.old.items ++ map (node_at (operations_in plan.now).net) (range_with_len from (end - from))) }
+    ensures { OnOk result (names.new ≡ names.old ++ map (node_at (operations_in plan.now).net) (range_with_len from (end - from))) }
 {
     for n in from..end {
         names.push(plan.board.name(n))?;

@@ -17,23 +17,24 @@ ghost use Rattle.op_net.specs.OperationParts.{AreOperationParts};
 ghost use Rattle.op_net.specs.PieceView.{net_with_operations};
 ghost use Rattle.op_net.specs.PlanFacts.{PlanFacts};
 ghost use Rattle.op_net.specs.PlannedPieces.{AreNeedsOf, AreOperationsOf, ArePlanned};
+ghost use Rattle.set_lists.specs.Sets.{set_count};
 
 use alias_classes::Classes;
 use cfg_build::Flow;
-use class_set::ClassSet;
 use dep_routing::{Lines, TouchList};
 use df_sequence::NoMemory;
 use f77_tree::{Program, well_formed_programs_can_run};
 use net_tables::{Board, make_board, words_are_words};
 use op_board::{known_traps_touch_output, operations_have_facts};
 use operation_lists::{Operation, operation_needs, piece_operations};
+use set_lists::SetList;
 use std::alloc::Global;
 
 /// The operations of a piece, and the lines that each of them needs.
 #[derive(Drop)]
 pub(crate) struct PieceOperations<'a, const W: usize> {
     pub(crate) operations: Vec<Operation<'a>>,
-    pub(crate) needs: Vec<ClassSet<W>>,
+    pub(crate) needs: SetList<W>,
 }
 
 /// The board of a net of statements, and the operations of each piece.
@@ -45,7 +46,7 @@ pub(crate) struct OperationPlan<'a, const W: usize> {
     ghost facts: { PlanFacts (net_with_operations board pieces.items) },
     ghost every_piece: { length pieces.items ≡ (graph_in (net_on board)).nodes },
     ghost own_operations: { (piece : ℕ) (operations : _) → slice_get pieces.items piece ≡ Some operations → ∥ map operation_seen operations.operations.items ≡ operations_at (net_with_operations board pieces.items) piece ∥₁ },
-    ghost own_needs: { (piece : ℕ) (operations : _) → slice_get pieces.items piece ≡ Some operations → length operations.needs.items ≡ length operations.operations.items },
+    ghost own_needs: { (piece : ℕ) (operations : _) → slice_get pieces.items piece ≡ Some operations → set_count operations.needs ≡ length operations.operations.items },
 }
 
 /// The operations of a program over data. More operations of a piece than can be numbered are allocation failure.
@@ -114,17 +115,17 @@ fn all_needs<const W: usize>(
     c: &Classes<W>,
     piece: u32,
     operations: &Vec<Operation>,
-) -> Result<Vec<ClassSet<W>>, NoMemory>
+) -> Result<SetList<W>, NoMemory>
     requires piece { piece < (graph_in (net_on board.now)).nodes }
     requires classes { IsClasses board.now.plan.program.now c.now }
     requires can { All (CanPerform board.now.plan.program.now) operations.now.items }
-    ensures { IfOk result (λ needs. AreNeedsOf c.now ((net_on board.now).touches piece) operations.now.items needs.items) }
+    ensures { IfOk result (λ needs. AreNeedsOf c.now ((net_on board.now).touches piece) operations.now.items needs) }
 {
     few_classes(c);
     let touched = board.plan.touch.at(piece);
-    let mut needs = Vec::with_capacity(alloc, operations.len())?;
+    let mut needs = SetList::new(alloc);
     for operation in operations {
-        needs.push(operation_needs(board.plan.program, c, touched, operation))?;
+        needs.push(&operation_needs(board.plan.program, c, touched, operation))?;
     }
     Ok(needs)
 }

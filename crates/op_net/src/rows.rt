@@ -133,9 +133,9 @@ fn unlinked_row<'a, const W: usize>(
     operations_fit();
     let operations = &plan.pieces[piece as usize];
     let operation = &operations.operations[i as usize];
-    let needs = &operations.needs[i as usize];
+    let needs = operations.needs.at(i as usize);
     let operands = copied_operands(alloc, &operation.operands)?;
-    let hops = unlinked_hops(alloc, needs, scratch)?;
+    let hops = unlinked_hops(alloc, &needs, scratch)?;
     Ok(Row {
         task: task_of(plan.board.plan.program, operation.work),
         operands,

@@ -12,7 +12,7 @@ use crate::names::{number_of, numbered_nodes};
 use crate::plan::OperationPlan;
 use crate::rows::{PieceRows, make_rows};
 use df_sequence::NoMemory;
-use firing::NodeName;
+use node_names::NameList;
 use operation_lists::Operation;
 use std::alloc::Global;
 
@@ -20,7 +20,7 @@ use std::alloc::Global;
 #[derive(Drop)]
 pub(crate) struct OperationTables<'a> {
     /// The name of each node.
-    pub(crate) names: Vec<NodeName>,
+    pub(crate) names: NameList,
     /// For each piece the number of its first node, and last the number of all nodes.
     pub(crate) firsts: Vec<u32>,
     /// For each piece its operations.

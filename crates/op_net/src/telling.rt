@@ -103,7 +103,7 @@ impl<'a, const W: usize> OpNet<'a, W> {
         ensures { (line : ℕ) → holds result line ≡ (net_of self.now).needs (piece_of (operation_node (net_of self.now) k)) (number_of (operation_node (net_of self.now) k)) line }
     {
         let (piece, i) = self.operation(k);
-        self.board.plan.pieces[piece as usize].needs[i as usize]
+        self.board.plan.pieces[piece as usize].needs.at(i as usize)
     }
 
     /// How many operands an operation has.

@@ -17,8 +17,8 @@ loop-next-init g c =
     let test = holds c.args.needs.now in
     let lines = length c.args.scratch.now.before.items in
     record {
-      walk = rw c.new-hops.ensures.items (walk_begin test lines c.next_after-next.result c.next_after-next.ensures.next);
-      before = rw c.new-hops.ensures.items (search rules);
+      walk = rw c.in_ok-hops.ensures.items (walk_begin test lines c.next_after-next.result c.next_after-next.ensures.next);
+      before = rw c.in_ok-hops.ensures.items (search rules);
       counts = counts_begin test lines (before_at c.args.scratch.now) c.next_after-next.result c.next_after-next.ensures.next;
       all = refl;
       first = refl;

@@ -9,10 +9,10 @@ pub loop-piece-preserved : goal.loop-piece-preserved
 loop-piece-preserved g c =
     let x = operations_in c.args.plan.now in
     let piece = c.loop-piece.piece in
-    let names : c.push_nodes.new.names.items ≡ operation_nodes_below x (piece + 1) =
+    let names : c.push_nodes.new.names ≡ operation_nodes_below x (piece + 1) =
     c.in_ok-push_nodes.ensures ∙ ap (λ (xs : List NodeName). xs ++ operation_nodes_at x piece) c.loop-piece.invariant.names ∙ sym (flat_map_next (operation_nodes_at x) piece) in
     let told : c.in_ok-count.count ≡ c.len.result = c.in_ok-count.ensures in
-    let count : c.in_ok-count.count ≡ length c.push_nodes.new.names.items = omega (arith, told, c.len.ensures, c.push_nodes.new.names.ok.0) in
+    let count : c.in_ok-count.count ≡ length c.push_nodes.new.names = omega (arith, told, c.len.ensures) in
     let small : c.in_ok-count.count < 2 ^ 32 = omega arith in
     record {
       names = names;

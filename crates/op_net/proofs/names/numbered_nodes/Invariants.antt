@@ -6,7 +6,7 @@ use Rattle.op_net.proofs.names.numbered_nodes.Given as goal
 
 abbrev pub invariant-loop-piece : goal.invariant-loop-piece
 invariant-loop-piece g l = record {
-  names : l.names.items ≡ operation_nodes_below (operations_in l.plan) l.piece;
-  few : length l.names.items < 2 ^ 32;
+  names : l.names ≡ operation_nodes_below (operations_in l.plan) l.piece;
+  few : length l.names < 2 ^ 32;
   firsts : l.firsts.items ≡ map (first_operation (operations_in l.plan)) (range_with_len 0 (l.piece + 1));
 }

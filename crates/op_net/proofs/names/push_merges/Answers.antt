@@ -8,4 +8,4 @@ use Rattle.op_net.proofs.names.push_merges.Goals as goal
 pub returns : goal.returns
 returns g c =
     let turns = all_turns (operations_in c.args.plan.now).net c.args.piece c.requires c.first.result c.end.result c.first.ensures c.end.ensures.end in
-    OnOk-then c.push_turns.result (λ after. after ∙ ap (λ (xs : List NodeName). c.args.names.now.items ++ xs) turns) c.push_turns.ensures
+    OnOk-then c.push_turns.result (λ after. after ∙ ap (λ (xs : List NodeName). c.args.names.now ++ xs) turns) c.push_turns.ensures

@@ -8,7 +8,7 @@ use Rattle.op_net.proofs.PlannedCounts.{counted_at}
 use Rattle.op_net.proofs.names.push_operations.Goals as goal
 
 pub loop-i-preserved : goal.loop-i-preserved
-loop-i-preserved g c = c.in_ok-push.ensures.items ∙ named_more (Op c.args.piece) c.args.names.now.items c.loop-i.names.items 0 c.loop-i.i c.loop-i.i (zero-add c.loop-i.i) c.loop-i.invariant
+loop-i-preserved g c = c.in_ok-push.ensures ∙ named_more (Op c.args.piece) c.args.names.now c.loop-i.names 0 c.loop-i.i c.loop-i.i (zero-add c.loop-i.i) c.loop-i.invariant
 
 pub returns : goal.returns
 returns g c =
@@ -16,4 +16,4 @@ returns g c =
     let here = counted_at c.args.plan.now c.args.piece c.index.result.now c.requires c.index.ensures in
     let count : c.in_ok-count.count ≡ operation_count (operations_in c.args.plan.now) c.args.piece = omega (arith, told, c.len.ensures, c.index.result.now.operations.ok.0, here) in
     let all : c.loop-i.i ≡ operation_count (operations_in c.args.plan.now) c.args.piece = omega (arith, count) in
-    c.loop-i.invariant ∙ ap (λ n. c.args.names.now.items ++ map (Op c.args.piece) (range_with_len 0 n)) all
+    c.loop-i.invariant ∙ ap (λ n. c.args.names.now ++ map (Op c.args.piece) (range_with_len 0 n)) all

@@ -4,4 +4,4 @@ use Rattle.firing.specs.declared.system.NodeName.TheVariants.{Op}
 use Rattle.op_net.proofs.names.push_operations.Given as goal
 
 abbrev pub invariant-loop-i : goal.invariant-loop-i
-invariant-loop-i g l = l.names.items ≡ l.initial.names.items ++ map (Op l.piece) (range_with_len 0 l.i)
+invariant-loop-i g l = l.names ≡ l.initial.names ++ map (Op l.piece) (range_with_len 0 l.i)

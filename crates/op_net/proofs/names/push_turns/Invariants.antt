@@ -5,4 +5,4 @@ use Rattle.op_net.specs.PlanView.{operations_in}
 use Rattle.op_net.proofs.names.push_turns.Given as goal
 
 abbrev pub invariant-loop-n : goal.invariant-loop-n
-invariant-loop-n g l = l.names.items ≡ l.initial.names.items ++ map (node_at (operations_in l.plan).net) (range_with_len l.from (l.n - l.from))
+invariant-loop-n g l = l.names ≡ l.initial.names ++ map (node_at (operations_in l.plan).net) (range_with_len l.from (l.n - l.from))

@@ -25,19 +25,18 @@ index-operation-requires g c =
     let size = c.index-operations.result.now.operations.ok.0 in
     omega (arith, all, size, c.requires.operation)
 
-pub index-needs-requires : goal.index-needs-requires
-index-needs-requires g c =
+pub at-needs-requires : goal.at-needs-requires
+at-needs-requires g c =
     let all = needs_count c.args.plan.now c.args.piece c.index-operations.result.now c.requires.piece c.index-operations.ensures in
-    let size = c.index-operations.result.now.needs.ok.0 in
-    omega (arith, all, size, c.requires.operation)
+    omega (arith, all, c.requires.operation)
 
 pub unlinked_hops-requires : goal.unlinked_hops-requires
 unlinked_hops-requires g c =
     let plan = c.args.plan.now in
     let x = operations_in plan in
     let planned = c.index-operations.result.now in
-    let set = c.index-needs.result.now in
-    let needs : ◌≡◌ {A = ℕ → Bool} (λ line. x.needs c.args.piece c.args.i line) (λ line. holds set line) = needs_are plan c.args.piece planned c.requires.piece c.index-operations.ensures c.args.i set c.requires.operation c.index-needs.ensures in
+    let set = c.at-needs.result in
+    let needs : ◌≡◌ {A = ℕ → Bool} (λ line. x.needs c.args.piece c.args.i line) (λ line. holds set line) = needs_are plan c.args.piece planned c.requires.piece c.index-operations.ensures c.args.i set c.at-needs.ensures in
     let exist : (line : ℕ) → holds set line ≡ true → line < length c.args.scratch.now.before.items = λ line is.
     let own : x.needs c.args.piece c.args.i line ≡ true = ap (λ (test : ℕ → Bool). test line) needs ∙ is in
     let low : line < x.net.routing.lines = ∥∥₁_elim plan.is_net (hlevel props) (λ (net : IsOperationNet x). c.needed_lines_exist.ensures x c.args.piece c.args.i line net c.requires.piece c.requires.operation own) in
@@ -75,11 +74,11 @@ returns-clause-row g c =
     let i = c.args.i in
     let planned = c.index-operations.result.now in
     let op : Operation = c.index-operation.result.now in
-    let set = c.index-needs.result.now in
+    let set = c.at-needs.result in
     let hops = c.in_ok-hops.hops.items in
     let all = planned_count plan piece planned c.requires.piece c.index-operations.ensures in
     let low : i < length planned.operations.items = omega (arith, all, c.requires.operation) in
-    let needs : ◌≡◌ {A = ℕ → Bool} (λ line. x.needs piece i line) (λ line. holds set line) = needs_are plan piece planned c.requires.piece c.index-operations.ensures i set c.requires.operation c.index-needs.ensures in
+    let needs : ◌≡◌ {A = ℕ → Bool} (λ line. x.needs piece i line) (λ line. holds set line) = needs_are plan piece planned c.requires.piece c.index-operations.ensures i set c.at-needs.ensures in
     let lines : map line_of hops ≡ needed x piece i = lines_needed (map line_of hops) (λ line. x.needs piece i line) (λ line. holds set line) (length c.args.scratch.now.before.items) x.net.routing.lines c.in_ok-hops.ensures.lines c.requires.counted.all.before needs in
     let row : Row = record { task = c.task_of.result; operands = c.in_ok-operands.operands; hops = c.in_ok-hops.hops; taker = c.args.taker; gives = c.gives_value.result; decides = c.is_decision.result; serial = c.holds.result; edge = c.first_out.result } in
     ∥∥₁_elim plan.is_net (hlevel props) (λ (is : IsOperationNet x).
@@ -95,7 +94,7 @@ returns-clause-counted g c =
     let plan = c.args.plan.now in
     let x = operations_in plan in
     let planned = c.index-operations.result.now in
-    let set = c.index-needs.result.now in
-    let needs : ◌≡◌ {A = ℕ → Bool} (λ line. x.needs c.args.piece c.args.i line) (λ line. holds set line) = needs_are plan c.args.piece planned c.requires.piece c.index-operations.ensures c.args.i set c.requires.operation c.index-needs.ensures in
+    let set = c.at-needs.result in
+    let needs : ◌≡◌ {A = ℕ → Bool} (λ line. x.needs c.args.piece c.args.i line) (λ line. holds set line) = needs_are plan c.args.piece planned c.requires.piece c.index-operations.ensures c.args.i set c.at-needs.ensures in
     counted_more x c.args.piece c.args.i c.args.scratch.now c.requires.counted c.unlinked_hops.new.scratch c.in_ok-hops.ensures.all c.in_ok-hops.ensures.first
     (λ line. c.in_ok-hops.ensures.counts line ∙ ap (λ (test : ℕ → Bool). before_at c.args.scratch.now line + one_if (test line)) (sym needs))

@@ -5,12 +5,12 @@ use Rattle.op_net.specs.Telling.{number_of, piece_of}
 use Rattle.op_net.proofs.PlannedOperations.{inside_needs, planned_needs}
 use Rattle.op_net.proofs.net.OpNet.needs.Goals as goal
 
-pub index-requires-2 : goal.index-requires-2
-index-requires-2 g c =
+pub at-requires : goal.at-requires
+at-requires g c =
     let low = inside_needs c.args.self.now.board.plan c.operation-piece.result.0 c.operation-piece.result.1 c.index.result.now c.operation-piece.ensures.exists c.operation-piece.ensures.inside c.index.ensures in
     omega (arith, low)
 
 pub returns : goal.returns
 returns g c =
-    λ line. planned_needs c.args.self.now.board.plan c.operation-piece.result.0 c.operation-piece.result.1 c.index.result.now c.operation-piece.ensures.exists c.operation-piece.ensures.inside c.index.ensures c.index-2.result.now c.index-2.ensures line
+    λ line. planned_needs c.args.self.now.board.plan c.operation-piece.result.0 c.operation-piece.result.1 c.index.result.now c.operation-piece.ensures.exists c.operation-piece.ensures.inside c.index.ensures c.at.result c.at.ensures line
     ∙ ap (λ (n : NodeName). (net_of c.args.self.now).needs (piece_of n) (number_of n) line) (sym c.operation-piece.ensures.name)
