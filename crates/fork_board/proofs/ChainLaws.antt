@@ -1,12 +1,8 @@
 -- Loads come once along a line, by what lower layers tell of nets.
-use Rattle.std.proofs.Common.{◌≡◌, ◌<◌, ℕ, suc, sym, subst}
-use Rattle.closed_walks.specs.Graph.{edge_count}
+use Rattle.std.proofs.Common.{◌<◌, ℕ, subst}
 use Rattle.closed_walks.specs.Region.{IsFlowGraph}
 use Rattle.region_tree.specs.Laws.{HasBorders}
 use Rattle.region_tree.specs.Tree.{IsIn, IsNumber}
-use Rattle.alias_classes.specs.Classes.{class_count}
-use Rattle.cfg_build.specs.Passes.{out}
-use Rattle.dep_routing.specs.Routing.{next_at}
 use Rattle.net_board.specs.ControlCourse.{first_control}
 use Rattle.net_board.specs.NetLockstep.{IsInLockstep}
 use Rattle.net_board.specs.Nodes.{NetOf, graph_in}

@@ -1,12 +1,12 @@
 -- What firings depend on and what they change, in the game with groups of loads.
-use Rattle.std.proofs.Common.{◌≡◌, ◌<◌, ◌⊎◌, inl, inr, ⊎_elim, ℕ, ◌&&◌, ◌||◌, ◌==◌, ℤ, Bool, true, false, not, if◌then◌else◌, List, length, map, Option, Some, None, is_some, Ok, Err, Result, slice_get, slice_index, refl, sym, ap, ◌∙◌, subst}
+use Rattle.std.proofs.Common.{◌≡◌, ◌⊎◌, inl, inr, ⊎_elim, ℕ, ◌&&◌, ℤ, Bool, true, false, not, if◌then◌else◌, List, map, Option, Some, None, is_some, Ok, Err, Result, slice_get, refl, sym, ap, ◌∙◌}
 use Rattle.std.specs.List.{list_all}
-use Rattle.std.proofs.lemmas.Bool.{cases_Bool, and_parts, and_from}
+use Rattle.std.proofs.lemmas.Bool.{cases_Bool}
 use Rattle.alias_classes.specs.Classes.{ClassTable}
 use Rattle.op_table.specs.declared.Trap.{Trap as Kind_of_trap}
 use Rattle.firing.specs.declared.system.NodeName.{NodeName}
 use Rattle.firing.specs.declared.system.NodeName.TheVariants.{Act, Merge, Switch, Op}
-use Rattle.firing.specs.Footprints.{HasFootprints, IsReadyAt, LooksSame}
+use Rattle.firing.specs.Footprints.{HasFootprints}
 use Rattle.list_laws.specs.Member.{Member}
 use Rattle.net_board.specs.Footprints.{Line, Left, Word, Count, StepOf, Taken, Trap}
 use Rattle.net_board.specs.ProgramFacts.{ProgramFacts}
@@ -15,8 +15,8 @@ use Rattle.op_board.specs.Effects.{Effect, gives}
 use Rattle.op_board.specs.Needs.{WorkNeeds}
 use Rattle.op_board.specs.Operations.{Operand, Work, Load, Operate, Store, Take, Write, Begin, Advance, DecideTruth, DecideSign, DecideNumber, DecideTrips, DecideFirst}
 use Rattle.op_board.specs.OperationFootprints.{OperationPart, Token, Passed, Given, foot_as, operation_foot, part_at}
-use Rattle.op_board.specs.OperationNets.{OperationNet, needed, operation_at, operation_node}
-use Rattle.op_board.specs.OperationTokens.{OperationTokens, fired_as, is_given, line_as, operand_in, operated, operated_on, operation_moves, performed_at, ready_as, replaced, serial_as, stopped_by, text_written, value_at, zero_effect}
+use Rattle.op_board.specs.OperationNets.{OperationNet, needed, operation_at}
+use Rattle.op_board.specs.OperationTokens.{OperationTokens, fired_as, is_given, operand_in, operated, operated_on, operation_moves, performed_at, serial_as, stopped_by, value_at, zero_effect}
 use Rattle.op_board.specs.SoundOperationNets.{IsOperationNet, OperationsCanCome}
 use Rattle.op_board.proofs.FiringOperations.{AgreeAt, alike, operated_inside, operated_outside, same_given, same_own}
 use Rattle.op_board.proofs.NeededLines.{needed_has}
@@ -25,11 +25,10 @@ use Rattle.op_board.proofs.OperationFirings.{FiringFacts, operations_footed}
 use Rattle.op_board.proofs.OperationNumbers.{IsOperationNamed}
 use Rattle.op_board.proofs.ReplacedItems.{replaced_other, replaced_same}
 use Rattle.fork_board.specs.LoadGroups.{is_load}
-use Rattle.fork_board.specs.ForkTokens.{ForkTokens, Standing, after_load, can_load, fork_fired_as, fork_ready_as, is_load_node, is_open, loaded_on, read_by, standing, unforked}
-use Rattle.fork_board.specs.ForkFootprints.{ForkPart, Rest, Stand, StandValue, fork_foot_as, fork_part_at, fork_shares_as, is_read, put_in, rest_at, standing_of, stand_read, stood_as, tells_line}
-use Rattle.fork_board.specs.SoundForks.{ForksCanCome}
-use Rattle.fork_board.proofs.ForkLines.{IsOpen, index_get, open_from}
-use Rattle.fork_board.proofs.ForkNodes.{IsLoadDone, load_done, load_fired, load_ready, other_fired, other_ready, rest_back, rest_loaded, rest_same, rest_told}
+use Rattle.fork_board.specs.ForkTokens.{ForkTokens, Standing, after_load, fork_ready_as, is_open, loaded_on, read_by, standing}
+use Rattle.fork_board.specs.ForkFootprints.{ForkPart, Rest, Stand, StandValue, fork_foot_as, fork_part_at, is_read, put_in, rest_at, standing_of, stand_read, stood_as, tells_line}
+use Rattle.fork_board.proofs.ForkLines.{index_get}
+use Rattle.fork_board.proofs.ForkNodes.{IsLoadDone, load_done, load_ready, rest_loaded, rest_same, rest_told}
 use Rattle.fork_board.proofs.ForksApart.{IsReadyLoad, needed_line, ready_load}
 use mathlib.Core.Path.{fun_ext}
 
@@ -57,7 +56,7 @@ equal_forks equal m n same =
     each (Passed line) = ap (λ (v : StandValue). v.passed) (same (Stand line))
     each (Given k) = same (Rest (Given k))
 
-three_from : (a b d : Bool) → a ≡ true → b ≡ true → d ≡ true → (a && b && d) ≡ true
+pub three_from : (a b d : Bool) → a ≡ true → b ≡ true → d ≡ true → (a && b && d) ≡ true
 three_from true true d first second third = third
 three_from true false d first second third = absurd cc
 three_from false b d first second third = absurd cc

@@ -1,11 +1,11 @@
 -- What loads do to the lines that they need: two of one group in either order do the same.
-use Rattle.std.proofs.Common.{◌≡◌, ◌<◌, ◌⊎◌, inl, inr, ⊎_elim, ℕ, zero, suc, ◌==◌, ◌&&◌, ◌||◌, Bool, true, false, not, if◌then◌else◌, List, [], ◌∷◌, Option, Some, None, refl, sym, ap, ◌∙◌, subst, eqb-true, slice_get, slice_index}
-use Rattle.std.specs.List.{list_all, list_any}
-use Rattle.std.proofs.lemmas.Bool.{cases_Bool, and_parts, and_from}
+use Rattle.std.proofs.Common.{◌≡◌, ℕ, zero, suc, ◌==◌, ◌&&◌, ◌||◌, Bool, true, false, not, if◌then◌else◌, List, [], ◌∷◌, Option, Some, None, refl, sym, ap, ◌∙◌, subst, eqb-true, slice_get, slice_index}
+use Rattle.std.specs.List.{list_all}
+use Rattle.std.proofs.lemmas.Bool.{and_parts, and_from}
 use Rattle.net_board.specs.Tokens.{joined}
 use Rattle.op_board.specs.OperationNets.{OperationNet}
 use Rattle.firing.specs.declared.system.NodeName.TheVariants.{Op}
-use Rattle.fork_board.specs.LoadGroups.{Site, Spot, spot, behind_group, group_at, is_among, is_site}
+use Rattle.fork_board.specs.LoadGroups.{Site, spot, behind_group, group_at, is_among, is_site}
 use Rattle.fork_board.specs.ForkTokens.{Standing, gone_on, is_open, is_open_on, is_whole, read_by, standing_at, with_load}
 use Rattle.fork_board.specs.ForkFootprints.{StandValue, number_in, put_in, standing_of, stand_read, stood_as}
 use mathlib.Core.Path.{fun_ext}

@@ -1,12 +1,11 @@
 -- Loads lead from markings that can come to markings that can come.
-use Rattle.std.proofs.Common.{◌≡◌, ◌<◌, ℕ, zero, suc, Bool, true, false, if◌then◌else◌, length, Option, Some, None, refl, sym, ap, ◌∙◌, subst}
+use Rattle.std.proofs.Common.{◌≡◌, ◌<◌, ℕ, zero, suc, Bool, true, false, if◌then◌else◌, Option, Some, None, refl, ◌∙◌, subst}
 use Rattle.closed_walks.specs.Graph.{edge_count}
 use Rattle.cfg_build.specs.Passes.{out}
 use Rattle.dep_routing.specs.Routing.{next_at}
 use Rattle.net_board.specs.Nodes.{graph_in}
 use Rattle.net_board.specs.ProgramFacts.{ProgramFacts}
-use Rattle.net_board.specs.SoundNets.{IsNet, IsMarking}
-use Rattle.net_board.specs.Tokens.{edge_of}
+use Rattle.net_board.specs.SoundNets.{IsNet}
 use Rattle.net_board.proofs.FiringLaws.{led_below, out_below, some_edge, with_all_below}
 use Rattle.net_board.proofs.ListPlaces.{length_with_all}
 use Rattle.op_board.specs.OperationNets.{OperationNet, needed}

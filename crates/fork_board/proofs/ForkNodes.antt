@@ -1,5 +1,5 @@
 -- Loads and other nodes: when they are ready, what they do, and what a part of a marking without its lines tells.
-use Rattle.std.proofs.Common.{◌≡◌, ℕ, ◌&&◌, ℤ, Bool, true, false, if◌then◌else◌, List, map, Option, Some, None, Ok, Result, refl, ap, ◌∙◌}
+use Rattle.std.proofs.Common.{◌≡◌, ℕ, ℤ, true, false, if◌then◌else◌, List, map, Ok, Result, refl, ap}
 use Rattle.op_table.specs.declared.Trap.{Trap as Kind_of_trap}
 use Rattle.f77_tree.specs.declared.programs.NameInfo.{NameInfo}
 use Rattle.f77_tree.specs.Execution.{Memory}

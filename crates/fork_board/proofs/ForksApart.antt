@@ -1,7 +1,7 @@
 -- Two different nodes that are ready have no part of the marking in common but what loads share.
-use Rattle.std.proofs.Common.{◌≡◌, ◌<◌, ◌⊎◌, inl, inr, ⊎_elim, ℕ, ◌+◌, ◌==◌, ◌&&◌, ◌||◌, Bool, true, false, not, if◌then◌else◌, List, length, Option, Some, None, is_some, refl, sym, ap, ◌∙◌, subst, eqb-true, eq-eqb, arith}
+use Rattle.std.proofs.Common.{◌≡◌, ◌<◌, ◌⊎◌, inl, inr, ⊎_elim, ℕ, ◌+◌, ◌==◌, ◌&&◌, ◌||◌, Bool, true, false, not, List, length, Some, is_some, refl, sym, ap, ◌∙◌, subst, eqb-true, arith}
 use Rattle.std.specs.List.{list_all}
-use Rattle.std.proofs.lemmas.Bool.{cases_Bool, and_parts, and_from}
+use Rattle.std.proofs.lemmas.Bool.{and_parts}
 use Rattle.alias_classes.specs.Classes.{class_of_word, class_of_loop}
 use Rattle.closed_walks.specs.Graph.{to}
 use Rattle.cfg_build.specs.declared.pieces.PieceKind.{PieceKind}
@@ -17,9 +17,8 @@ use Rattle.net_board.specs.Nodes.{graph_in, is_acting, kind_in}
 use Rattle.net_board.specs.ProgramFacts.{ProgramFacts}
 use Rattle.net_board.specs.SoundNets.{IsNet}
 use Rattle.net_board.specs.Tokens.{edge_of, is_before, leads_to}
-use Rattle.net_board.proofs.FiringLaws.{one_piece, touched_line}
+use Rattle.net_board.proofs.FiringLaws.{touched_line}
 use Rattle.net_board.proofs.ListPlaces.{all_pass}
-use Rattle.net_board.proofs.NodeLaws.{piece_of}
 use Rattle.op_board.specs.Operations.{Work, Load, Operate, Store, Take, Write, Begin, Advance, DecideTruth, DecideSign, DecideNumber, DecideTrips, DecideFirst, From, is_decision, operations_of}
 use Rattle.op_board.specs.OperationFootprints.{OperationPart, Token, Passed, Given, foot_as, is_giver}
 use Rattle.op_board.specs.OperationNets.{OperationNet, first_operation, needed, needing_before, operation_at, operation_count}
@@ -28,7 +27,7 @@ use Rattle.op_board.proofs.NeededLines.{needed_in}
 use Rattle.op_board.proofs.OperationNumbers.{IsOperationNamed}
 use Rattle.op_board.proofs.OperationsApart.{AreNeedsTouched, IsTaker, before, belongs, line_of, passed_is, same_place, same_taker, taker, untouched}
 use Rattle.fork_board.specs.LoadGroups.{is_load, spot}
-use Rattle.fork_board.specs.ForkTokens.{ForkTokens, can_load, fork_ready_as, is_load_node, is_open, standing}
+use Rattle.fork_board.specs.ForkTokens.{ForkTokens, fork_ready_as, is_load_node, is_open, standing}
 use Rattle.fork_board.specs.ForkFootprints.{is_read, tells_line}
 use Rattle.fork_board.proofs.ForkLines.{IsOpen, opened}
 use Rattle.fork_board.proofs.ForkNodes.{load_ready, other_ready}

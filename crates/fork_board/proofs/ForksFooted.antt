@@ -1,16 +1,15 @@
 -- Nets with groups of loads keep the laws of firing, by their footprints and what loads share.
-use Rattle.std.proofs.Common.{◌≡◌, ◌≢◌, ◌<◌, ◌⊎◌, inl, inr, ⊎_elim, ℕ, ◌&&◌, Bool, true, false, if◌then◌else◌, List, [], ◌∷◌, length, slice_get, Option, Some, None, zero, suc, ◌≤◌, arith, refl, sym, ap, ◌∙◌, subst}
+use Rattle.std.proofs.Common.{◌≡◌, ◌<◌, ◌⊎◌, inl, inr, ⊎_elim, ℕ, ◌&&◌, Bool, true, false, if◌then◌else◌, List, [], ◌∷◌, length, slice_get, None, zero, suc, ◌≤◌, arith, refl, sym, ap, ◌∙◌, subst}
 use Rattle.std.proofs.lemmas.Bool.{cases_Bool, and_parts, and_from}
 use Rattle.firing.specs.declared.system.NodeName.{NodeName}
 use Rattle.firing.specs.declared.system.NodeName.TheVariants.{Act, Merge, Switch, Op}
 use Rattle.firing.specs.Footprints.{IsReadyAt, IsUpdated, LooksSame, LooksShared, SharesFootprints}
-use Rattle.firing.specs.Laws.{AreReady, IsLawful}
+use Rattle.firing.specs.Laws.{AreReady}
 use Rattle.firing.specs.Moves.{CanFire, IsSilent}
-use Rattle.firing.proofs.FootprintLemmas.{shared_lawful}
 use Rattle.net_board.specs.Footprints.{Line, Left, Word, Count, StepOf, Taken, Trap}
 use Rattle.net_board.specs.ProgramFacts.{ProgramFacts}
 use Rattle.op_board.specs.OperationFootprints.{OperationPart, Token, Passed, Given, foot_as, operation_foot, part_at}
-use Rattle.op_board.specs.OperationNets.{OperationNet, all_operation_nodes, operation_at, operation_node}
+use Rattle.op_board.specs.OperationNets.{OperationNet, all_operation_nodes, operation_node}
 use Rattle.op_board.specs.OperationTokens.{OperationTokens, fired_as, line_as, operation_moves, text_written}
 use Rattle.op_board.specs.SoundOperationNets.{IsOperationMarking, IsOperationNet, OperationsCanCome}
 use Rattle.op_board.proofs.OperationFirings.{FiringFacts}
@@ -18,7 +17,6 @@ use Rattle.op_board.proofs.OperationMarkings.{fired_marking}
 use Rattle.op_board.proofs.ValueTaking.{below_or_not}
 use Rattle.net_board.specs.Nodes.{name_in}
 use Rattle.op_board.proofs.OperationNumbers.{IsOperationNamed, one_operation_number, operation_named}
-use Rattle.fork_board.specs.LoadGroups.{is_load}
 use Rattle.fork_board.specs.ForkTokens.{ForkTokens, fork_fired_as, fork_moves, fork_ready_as, is_load_node, is_open, loaded_on, standing, unforked}
 use Rattle.fork_board.specs.ForkFootprints.{ForkPart, Rest, Stand, StandValue, fork_foot, fork_foot_as, fork_part_at, fork_shares, fork_shares_as, fork_update, is_read, rest_at, standing_of, stand_read, tells_line}
 use Rattle.fork_board.specs.SoundForks.{ForksCanCome}

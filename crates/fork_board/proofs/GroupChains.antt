@@ -1,12 +1,12 @@
 -- Groups of loads are chains: along a line no load comes twice.
-use Rattle.std.proofs.Common.{◌≡◌, ◌<◌, ◌≤◌, ◌⊎◌, inl, inr, ⊎_elim, ℕ, zero, suc, ◌+◌, ◌-◌, ◌==◌, ◌&&◌, ◌||◌, Bool, true, false, if◌then◌else◌, List, [], ◌∷◌, length, Option, Some, None, slice_get, refl, sym, ap, ◌∙◌, subst, eqb-true, eq-eqb, arith}
-use Rattle.std.proofs.lemmas.Bool.{cases_Bool, and_parts, and_from}
+use Rattle.std.proofs.Common.{◌≡◌, ◌<◌, ◌≤◌, ◌⊎◌, inl, inr, ⊎_elim, ℕ, zero, suc, ◌+◌, ◌-◌, ◌==◌, ◌||◌, Bool, true, false, if◌then◌else◌, List, [], ◌∷◌, length, Some, refl, sym, ap, ◌∙◌, subst, eqb-true, eq-eqb, arith}
+use Rattle.std.proofs.lemmas.Bool.{cases_Bool, and_from}
 use Rattle.alias_classes.specs.Classes.{ClassTable}
 use Rattle.closed_walks.specs.Graph.{edge_count, from, to}
 use Rattle.closed_walks.specs.Region.{IsFlowGraph}
 use Rattle.closed_walks.specs.Walk.{Walk, Reach, no_edge}
 use Rattle.region_tree.specs.Laws.{HasBorders}
-use Rattle.region_tree.specs.Tree.{Tree, IsIn, IsNumber}
+use Rattle.region_tree.specs.Tree.{IsIn, IsNumber}
 use Rattle.cfg_build.specs.declared.pieces.PieceKind.{PieceKind}
 use Rattle.cfg_build.specs.declared.pieces.PieceKind.TheVariants as kind
 use Rattle.cfg_build.specs.Passes.{out}
@@ -19,16 +19,16 @@ use Rattle.net_board.specs.Nodes.{graph_in, is_acting, kind_in}
 use Rattle.op_board.specs.Needs.{WorkNeeds}
 use Rattle.op_board.specs.Operations.{Operand, Work, Load, Operate, Store, Take, Write, Begin, Advance, DecideTruth, DecideSign, DecideNumber, DecideTrips, DecideFirst, is_decision}
 use Rattle.op_board.specs.OperationFacts.{OperationFacts, is_parting}
-use Rattle.op_board.specs.OperationNets.{OperationNet, needing_before, operation_at, operation_count, operations_at}
+use Rattle.op_board.specs.OperationNets.{OperationNet, needing_before, operation_at, operation_count}
 use Rattle.op_board.specs.SoundOperationNets.{IsOperationNet}
 use Rattle.op_board.proofs.NeededLines.{passing_some}
 use Rattle.op_board.proofs.OperationsApart.{operation_get}
-use Rattle.fork_board.specs.LoadGroups.{Site, Spot, followed_by, is_among, is_last_there, is_load, is_site, load_at, loads_within, number_at, piece_at, site, spot, spot_after, spot_behind}
+use Rattle.fork_board.specs.LoadGroups.{Site, Spot, is_among, is_last_there, is_load, is_site, load_at, loads_within, number_at, piece_at, site, spot, spot_after, spot_behind}
 use Rattle.fork_board.proofs.ForkLines.{same_site}
 use Rattle.fork_board.proofs.ForksApart.{acting_with}
 use Rattle.fork_board.proofs.LoadLists.{AreLoads, IsFirstLoad, first_of}
 use Rattle.fork_board.proofs.LoadSpots.{IsLoadIn, IsNumberAt, load_is, number_is}
-use Rattle.fork_board.proofs.ShorterWalks.{IsBack, IsNearer, led_back, nearer_still, never_nearer}
+use Rattle.fork_board.proofs.ShorterWalks.{IsNearer, led_back, nearer_still, never_nearer}
 
 both_ways : {P : Type 0} (b : Bool) → b ≡ true → b ≡ false → P
 both_ways b yes' no' = let e : true ≡ false = sym yes' ∙ no' in absurd cc

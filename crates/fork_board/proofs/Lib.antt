@@ -11,3 +11,8 @@ pub mod ShorterWalks
 pub mod LoadLists
 pub mod GroupChains
 pub mod ChainLaws
+pub mod LinesInStep
+pub mod OrdersInStep
+pub mod OrdersForked
+pub mod ForksEnd
+pub mod ForkSimulations

@@ -1,7 +1,7 @@
 -- Loads along a line, one after another.
-use Rattle.std.proofs.Common.{◌≡◌, ◌<◌, ◌≤◌, ◌⊎◌, inl, inr, ⊎_elim, ℕ, zero, suc, ◌+◌, ◌||◌, Bool, true, false, List, [], ◌∷◌, ◌++◌, length, Option, Some, None, refl, sym, ap, ◌∙◌, subst, arith}
+use Rattle.std.proofs.Common.{◌≡◌, ℕ, suc, ◌∷◌, length, Option, Some, None, refl, ap, arith}
 use Rattle.op_board.specs.OperationNets.{OperationNet}
-use Rattle.fork_board.specs.LoadGroups.{Site, Spot, followed_by, here_or, is_among, is_site, load_at, loads_within, spot_after, spot_behind}
+use Rattle.fork_board.specs.LoadGroups.{Site, Spot, followed_by, here_or, load_at, loads_within, spot_after, spot_behind}
 
 module _ (x : OperationNet) (line : ℕ) where
   -- so many loads stand one after another from there on

@@ -1,7 +1,7 @@
 -- Where a line is led, the start is nearer: from behind a region walks back to the start are shorter than from before it.
-use Rattle.std.proofs.Common.{◌≡◌, ◌<◌, ◌≤◌, ◌⊎◌, inl, inr, ⊎_elim, ℕ, zero, suc, Bool, true, false, List, [], ◌∷◌, length, refl, sym, ap, ◌∙◌, subst, arith}
+use Rattle.std.proofs.Common.{◌≡◌, ◌≤◌, ◌⊎◌, inl, inr, ⊎_elim, ℕ, zero, suc, Bool, true, false, List, [], ◌∷◌, length, sym, ◌∙◌, subst, arith}
 use Rattle.std.proofs.lemmas.Bool.{cases_Bool}
-use Rattle.closed_walks.specs.Graph.{Graph, edge_count, from, to}
+use Rattle.closed_walks.specs.Graph.{Graph, from, to}
 use Rattle.closed_walks.specs.Region.{IsEntered}
 use Rattle.closed_walks.specs.Walk.{Walk}
 use Rattle.region_tree.specs.Laws.{HasBorders}

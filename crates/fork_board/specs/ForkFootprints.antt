@@ -3,7 +3,7 @@ use Rattle.std.specs.Prelude.{ℕ, ◌&&◌, Bool, true, false, if◌then◌else
 use Rattle.alias_classes.specs.Classes.{ClassTable}
 use Rattle.firing.specs.declared.system.NodeName.{NodeName}
 use Rattle.firing.specs.declared.system.NodeName.TheVariants.{Op}
-use Rattle.net_board.specs.Footprints.{Part, Line, Left, Word, Count, StepOf, Taken, Trap}
+use Rattle.net_board.specs.Footprints.{Line, Left, Word, Count, StepOf, Taken, Trap}
 use Rattle.net_board.specs.Tokens.{joined}
 use Rattle.op_board.specs.OperationFootprints.{OperationPart, Token, Passed, Given, PartValue, foot_as, part_at}
 use Rattle.op_board.specs.OperationNets.{OperationNet, operation_node}

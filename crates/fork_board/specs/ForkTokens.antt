@@ -1,13 +1,13 @@
 -- The game of a net of operations in which the loads of a group fire in any order: its markings, which nodes are ready there, and what
 -- they lead to.
-use Rattle.std.specs.Prelude.{ℕ, ◌&&◌, ◌||◌, ◌==◌, Bool, false, not, if◌then◌else◌, length, Option, Some, None, is_some, slice_get}
+use Rattle.std.specs.Prelude.{ℕ, ◌&&◌, ◌||◌, ◌==◌, Bool, false, not, if◌then◌else◌, length, Option, Some, None, is_some}
 use Rattle.std.specs.List.{list_all}
 use Rattle.firing.specs.declared.system.NodeName.{NodeName}
-use Rattle.firing.specs.declared.system.NodeName.TheVariants.{Act, Merge, Switch, Op}
+use Rattle.firing.specs.declared.system.NodeName.TheVariants.{Op}
 use Rattle.firing.specs.Control.{Course}
 use Rattle.firing.specs.Moves.{Moves}
 use Rattle.net_board.specs.declared.control.Control.{Control}
-use Rattle.net_board.specs.Tokens.{Tokens, edge_of, with_all}
+use Rattle.net_board.specs.Tokens.{edge_of, with_all}
 use Rattle.op_board.specs.Operations.{Operation}
 use Rattle.op_board.specs.OperationCourse.{control_after, due_operation}
 use Rattle.op_board.specs.OperationNets.{OperationNet, all_operation_nodes, needed, operation_at, operation_node}

@@ -3,3 +3,4 @@ pub mod ForkTokens
 pub mod SoundForks
 pub mod ForkFootprints
 pub mod Chains
+pub mod ForkSimulation
