@@ -50,7 +50,7 @@ module _ (ground : ProgramFacts) (x : OperationNet) (n : IsOperationNet x) (fact
       each (Passed line) = refl
       each (Given j) = rest (Given j) refl
 
-  goes : (ks : List ℕ) → IsOrder (operation_moves x) (first_operation_tokens x) ks → GoInStep ground x n facts once (first_operation_tokens x) (first_fork_tokens x) ks
+  pub goes : (ks : List ℕ) → IsOrder (operation_moves x) (first_operation_tokens x) ks → GoInStep ground x n facts once (first_operation_tokens x) (first_fork_tokens x) ks
   goes ks order = go_in_step ground x n facts once (first_operation_tokens x) (first_fork_tokens x) ks (begin_in_step ground x n facts once (first_operation_tokens x) comes) order
 
   pub forked : OrdersAreForked x
@@ -67,7 +67,7 @@ module _ (ground : ProgramFacts) (x : OperationNet) (n : IsOperationNet x) (fact
 
   -- ---- due in turn
 
-  moved_alike : (m : OperationTokens) (f : ForkTokens) (c : Control) → Step m f → (fork_course x).moved f c ≡ (operation_course x).moved m c
+  pub moved_alike : (m : OperationTokens) (f : ForkTokens) (c : Control) → Step m f → (fork_course x).moved f c ≡ (operation_course x).moved m c
   moved_alike m f c step = ap (λ (o : OperationTokens). control_after x o c) (beside_lines m f step)
 
   due_too : (m : OperationTokens) (f : ForkTokens) (c : Control) (ks : List ℕ) → Step m f → IsOrder (operation_moves x) m ks → IsDueOrder (operation_moves x) (operation_course x) m c ks → IsDueOrder (fork_moves x) (fork_course x) f c ks

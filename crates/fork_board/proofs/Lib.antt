@@ -16,3 +16,4 @@ pub mod OrdersInStep
 pub mod OrdersForked
 pub mod ForksEnd
 pub mod ForkSimulations
+pub mod ForkControl

@@ -4,3 +4,4 @@ pub mod SoundForks
 pub mod ForkFootprints
 pub mod Chains
 pub mod ForkSimulation
+pub mod ForkLockstep

@@ -7,4 +7,4 @@ mod simulation_laws;
 
 pub use chain_laws::loads_come_once;
 pub use fork_laws::{forks_begin_soundly, forks_keep_the_laws};
-pub use simulation_laws::forks_simulate_programs;
+pub use simulation_laws::{forks_simulate_programs, forks_stay_in_lockstep};
