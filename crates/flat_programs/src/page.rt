@@ -88,8 +88,9 @@ fn page_of(alloc: Global, p: &Program, flat: &FlatList) -> Result<Page, NoMemory
 fn put_names(alloc: Global, names: &NameInfoList, page: &mut Page) -> Result<(), NoMemory>
     ensures { OnOk result (Grows page.old page.new (map unlabelled (map typed_name names.now))) }
 {
+    let mut text = Vec::new(alloc);
     for k in 0..names.len() {
-        let mut text = Vec::new(alloc);
+        text.clear();
         append_typed(names.at(k), &mut text)?;
         page.put(0, &text)?;
     }
@@ -161,9 +162,10 @@ fn put_statements(
     ensures { OnOk result (Grows page.old page.new (flat_map (typeset_at p.now.names flat.now) (range_with_len 0 (length flat.now)))) }
 {
     let mut number = 1;
+    let mut text = Vec::new(alloc);
     for k in 0..flat.len() {
         let stmt = &flat.at(k).stmt;
-        let mut text = Vec::new(alloc);
+        text.clear();
         append_statement(alloc, p, stmt, &mut text)?;
         page.put(label_of(stmt, number), &text)?;
         number += u32::from(is_mark(stmt));
