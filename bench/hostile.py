@@ -18,9 +18,7 @@ a dialect and with data by chance, and with limit=L (2,000) where the job has a 
   too; and the output of one that stopped at a limit is a prefix of that of one that ended.
 
 With --other, each run is made with that compiler of the language too, and both have to write the same and end alike, where neither wants for
-memory. As another compiler may read subroutines, texts with CALL, RETURN or SUBROUTINE are left out, and those that both refuse by BADORDER. As
-one may know the range of a DO variable in a subscript, so that fewer firings wait for the output, runs that tell of firings are left out of
-texts with arrays and DO.
+memory. As another compiler may read subroutines, texts with CALL, RETURN or SUBROUTINE are left out, and those that both refuse by BADORDER.
 
 Prints each run that breaks one; saves its text under FOLDER (hostile_found) with the words; and last prints a table: texts, runs by
 status, refusals by code, the slowest run and the largest. The exit status is 1 where a rule was broken.
@@ -438,9 +436,6 @@ def differ(text, words, mine, theirs):
     """How the answer of another compiler differs, or nothing."""
     read = re.sub(rb"[ &]", b"", text).upper()
     if 7 in (mine.status, theirs.status) or re.search(b"CALL|RETURN|SUBROUTINE", read):
-        return None
-    has_firings = words[0] in ("graph", "trace", "store") or 4 in (mine.status, theirs.status)
-    if has_firings and b"DO" in read and re.search(rb"(INTEGER|LOGICAL|DIMENSION|COMMON)[^=]*\(", read):
         return None
     told = refusal(mine), refusal(theirs)
     if mine[:4] == theirs[:4] or all(it and it[1] == "BADORDER" for it in told):

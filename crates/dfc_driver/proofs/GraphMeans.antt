@@ -11,7 +11,7 @@ use Rattle.dep_routing.specs.LineTable.{HaveRows}
 use Rattle.dep_routing.specs.Routing.{Routing}
 use Rattle.dep_routing.specs.Touch.{touches_in}
 use Rattle.flow_analysis.specs.declared.parts.Analysis.{Analysis}
-use Rattle.flow_analysis.specs.Analysis.{IsAnalysisOf}
+use Rattle.flow_analysis.specs.Analysis.{IsRangeAnalysisOf}
 use Rattle.net_board.specs.Nodes.{NetOf, graph_in}
 use Rattle.net_board.specs.NetParts.{AreParts, net_with}
 use Rattle.net_board.specs.SoundNets.{IsNet}
@@ -19,10 +19,10 @@ use Rattle.op_board.specs.OperationNets.{OperationNet, operation_count}
 use Rattle.op_board.specs.SoundOperationNets.{IsOperationNet}
 use Rattle.dfc_driver.specs.Words.{Graph}
 use Rattle.dfc_driver.specs.Due.{Due, IsDueOn, done}
-use Rattle.dfc_driver.specs.Game.{IsNetOn}
+use Rattle.dfc_driver.specs.Game.{AreToldByRanges, IsNetOn}
 use Rattle.dfc_driver.specs.GraphText.{TellsGraph, graph_text}
 use Rattle.dfc_driver.specs.Headline.{MeansGraph, MeansOn}
-use Rattle.dfc_driver.proofs.NetParts.{found_parts}
+use Rattle.dfc_driver.proofs.NetParts.{found_parts, found_ranges}
 use Rattle.dfc_driver.proofs.OneNet.{OneOfEach, one_net}
 
 -- the net of a program over data, with these parts
@@ -56,6 +56,7 @@ module _ (p : Program) (touches : ℕ → ℕ → Bool) (routing : Routing) (nee
   over_none words own = record {
     are_words = All-nil IsWord;
     parts = own.parts;
+    ranges = own.ranges;
     rows = own.rows;
     is = refl;
     operations = operations_over words [] (All-nil IsWord) own.operations;
@@ -64,14 +65,15 @@ module _ (p : Program) (touches : ℕ → ℕ → Bool) (routing : Routing) (nee
   }
 
   -- The parts of a program make such a net, and its text tells it.
-  pub made_tells : (parts : AreParts p (flow p.execs) touches routing) (net : NetOf) → HaveRows routing → net ≡ net_with p [] touches routing → IsOperationNet (record { net = net; needs = needs })
+  pub made_tells : (parts : AreParts p (flow p.execs) touches routing) → AreToldByRanges p touches → (net : NetOf) → HaveRows routing → net ≡ net_with p [] touches routing → IsOperationNet (record { net = net; needs = needs })
       → ((piece i line : ℕ) → (graph_in net).nodes ≤ piece → needs piece i line ≡ false)
       → ((piece i line : ℕ) → operation_count (record { net = net; needs = needs }) piece ≤ i → needs piece i line ≡ false)
       → TellsGraph p (graph_text p parts.classes (record { net = net; needs = needs }))
-  made_tells parts net rows same operations outside_pieces outside_operations =
+  made_tells parts ranges net rows same operations outside_pieces outside_operations =
       let own : IsNetOn p [] (made p [] touches routing needs) = record {
         are_words = All-nil IsWord;
         parts = parts;
+        ranges = ranges;
         rows = rows;
         is = refl;
         operations = subst (λ (n : NetOf). IsOperationNet (record { net = n; needs = needs })) same operations;
@@ -121,8 +123,8 @@ module _ (each : OneOfEach) (p : Program) (strong : IsFlowGraph (flow p.execs).g
   graph_means checked = record { one = one checked; means = means checked }
 
 -- what was found of a program makes a net whose text tells it
-pub found_tells : (p : Program) (found : Analysis) (x : OperationNet) → IsWellFormed p → IsAnalysisOf p found → x.net ≡ net_with p [] (touches_in found.touch) found.lines → IsOperationNet x
+pub found_tells : (p : Program) (found : Analysis) (x : OperationNet) → IsWellFormed p → IsRangeAnalysisOf p found → x.net ≡ net_with p [] (touches_in found.touch) found.lines → IsOperationNet x
     → ((piece i line : ℕ) → (graph_in x.net).nodes ≤ piece → x.needs piece i line ≡ false) → ((piece i line : ℕ) → operation_count x piece ≤ i → x.needs piece i line ≡ false)
     → TellsGraph p (graph_text p found.classes x)
 found_tells p found x well_formed is same operations outside_pieces outside_operations =
-    made_tells p (touches_in found.touch) found.lines x.needs (found_parts p found (flow p.execs) refl well_formed is) x.net is.rows same operations outside_pieces outside_operations
+    made_tells p (touches_in found.touch) found.lines x.needs (found_parts p found (flow p.execs) refl well_formed is) (found_ranges p found is) x.net is.rows same operations outside_pieces outside_operations

@@ -7,19 +7,20 @@ use Rattle.f77_tree.specs.declared.programs.Program.{Program}
 use Rattle.alias_classes.specs.Classes.{ClassTable, IsClasses, class_count}
 use Rattle.cfg_build.specs.Flow.{flow}
 use Rattle.dep_routing.specs.LineTable.{HaveRows}
-use Rattle.dep_routing.specs.OneTable.{OneTouching, OneRouting}
+use Rattle.dep_routing.specs.OneTable.{OneRouting}
 use Rattle.dep_routing.specs.Routing.{Routing, IsRouting}
+use Rattle.range_lines.specs.RangeTouches.{OneRangeTouching}
 use Rattle.net_board.specs.Nodes.{NetOf, graph_in}
 use Rattle.net_board.specs.NetParts.{AreParts, net_with}
 use Rattle.op_board.specs.Needs.{OperationNeeds}
 use Rattle.op_board.specs.OperationNets.{OperationNet, operation_at, operation_count}
 use Rattle.op_board.specs.SoundOperationNets.{AreNeeds}
-use Rattle.dfc_driver.specs.Game.{IsNetOn}
+use Rattle.dfc_driver.specs.Game.{AreToldByRanges, IsNetOn}
 
 -- a program has one table of classes and of touches, and touches have one table of wires
 pub record OneOfEach : Type 0 where
   pub classes : (p : Program) (t other : ClassTable) → IsClasses p t → IsClasses p other → t ≡ other
-  pub touching : OneTouching
+  pub touching : OneRangeTouching
   pub routing : OneRouting
 
 -- ---- nets
@@ -27,6 +28,7 @@ pub record OneOfEach : Type 0 where
 -- what a net has beside a program and its data
 record HasParts (p : Program) (touches : ℕ → ℕ → Bool) (routing : Routing) : Type 0 where
   parts : AreParts p (flow p.execs) touches routing
+  ranges : AreToldByRanges p touches
   rows : HaveRows routing
 
 module _ (each : OneOfEach) (p : Program) (strong : IsFlowGraph (flow p.execs).graph) where
@@ -34,7 +36,7 @@ module _ (each : OneOfEach) (p : Program) (strong : IsFlowGraph (flow p.execs).g
   touches_same a b r s one two =
       let left = one.parts in
       let right = two.parts in
-      each.touching p left.classes right.classes a b left.own_classes right.own_classes left.own_touches right.own_touches left.outside right.outside
+      each.touching p one.ranges.classes two.ranges.classes a b one.ranges.own_classes two.ranges.own_classes one.ranges.are two.ranges.are left.outside right.outside
 
   routing_same : (a : ℕ → ℕ → Bool) (r s : Routing) → HasParts p a r → HasParts p a s → r ≡ s
   routing_same a r s one two =
@@ -46,8 +48,8 @@ module _ (each : OneOfEach) (p : Program) (strong : IsFlowGraph (flow p.execs).g
 
   one_statement_net : (words : List ℤ) (x y : OperationNet) → IsNetOn p words x → IsNetOn p words y → x.net ≡ y.net
   one_statement_net words x y own too =
-      let one : HasParts p x.net.touches x.net.routing = record { parts = own.parts; rows = own.rows } in
-      let two : HasParts p y.net.touches y.net.routing = record { parts = too.parts; rows = too.rows } in
+      let one : HasParts p x.net.touches x.net.routing = record { parts = own.parts; ranges = own.ranges; rows = own.rows } in
+      let two : HasParts p y.net.touches y.net.routing = record { parts = too.parts; ranges = too.ranges; rows = too.rows } in
       let touches = touches_same x.net.touches y.net.touches x.net.routing y.net.routing one two in
       let routing = routing_same y.net.touches x.net.routing y.net.routing (subst (λ a. HasParts p a x.net.routing) touches one) two in
       own.is

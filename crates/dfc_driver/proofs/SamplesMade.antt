@@ -5,7 +5,7 @@ use Rattle.cfg_build.specs.Flow.{flow}
 use Rattle.cfg_build.specs.Joined.{FlowGraph}
 use Rattle.firing.specs.Play.{moment}
 use Rattle.flow_analysis.specs.declared.parts.Analysis.{Analysis}
-use Rattle.flow_analysis.specs.Analysis.{IsAnalysisOf}
+use Rattle.flow_analysis.specs.Analysis.{IsRangeAnalysisOf}
 use Rattle.op_board.specs.OperationCourse.{operation_course}
 use Rattle.op_board.specs.OperationNets.{OperationNet}
 use Rattle.op_board.specs.OperationTokens.{operation_moves}
@@ -25,7 +25,7 @@ use Rattle.dfc_driver.proofs.GameTold.{output_told, played_on}
 module _ (n bytes limit : ℕ) (p : Program) where
   -- what is told of the net and the run of a program is due of its sample
   pub sample_due : (found : Analysis) (x : OperationNet) (marking : Marking) (control : Option Place) (form : Program)
-      → IsAnalysisOf p found
+      → IsRangeAnalysisOf p found
       → IsNetOn p [] x
       → marking ≡ (game_of x).start
       → control ≡ Some (game_of x).control

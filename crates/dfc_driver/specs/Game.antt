@@ -1,15 +1,17 @@
 -- The game that is played on a program. This is the one place that names a net: another game takes its place by another text of this
 -- module, and of the proofs that tell of it.
-use Rattle.std.specs.Prelude.{◌≡◌, ◌≤◌, ◌+◌, ◌*◌, ℕ, ℤ, false, List, All}
+use Rattle.std.specs.Prelude.{◌≡◌, ◌≤◌, ◌+◌, ◌*◌, ℕ, ℤ, Bool, false, List, All}
 use Rattle.op_table.specs.Words.{IsWord}
 use Rattle.f77_tree.specs.declared.programs.Program.{Program}
 use Rattle.f77_tree.specs.Operations.{most_operations}
+use Rattle.alias_classes.specs.Classes.{ClassTable, IsClasses}
 use Rattle.cfg_build.specs.Flow.{flow}
 use Rattle.dep_routing.specs.LineTable.{HaveRows}
 use Rattle.net_board.specs.declared.control.Control.{Control}
 use Rattle.net_board.specs.ControlCourse.{first_control}
 use Rattle.net_board.specs.NetParts.{AreParts, net_with}
 use Rattle.net_board.specs.Nodes.{graph_in}
+use Rattle.range_lines.specs.RangeTouches.{AreRangeTouches}
 use Rattle.op_board.specs.OperationCourse.{operation_course}
 use Rattle.op_board.specs.OperationNets.{OperationNet, operation_count}
 use Rattle.op_board.specs.OperationOrder.{own_operations}
@@ -17,11 +19,18 @@ use Rattle.op_board.specs.OperationTokens.{OperationTokens, first_operation_toke
 use Rattle.op_board.specs.SoundOperationNets.{IsOperationNet}
 use Rattle.dfc_driver.specs.Playing.{Game}
 
+-- the lines that the pieces of a program touch are told by its classes, where subscripts that are seen in range can't trap
+pub record AreToldByRanges (p : Program) (touches : (piece line : ℕ) → Bool) : Type 0 where
+  pub classes : ClassTable
+  pub own_classes : IsClasses p classes
+  pub are : AreRangeTouches p classes touches
+
 -- The net of operations of a program over data that are words, made of the program's own parts. Beside its operations nothing needs a
 -- line, so that there is one such net.
 pub record IsNetOn (p : Program) (words : List ℤ) (x : OperationNet) : Type 0 where
   pub are_words : All IsWord words
   pub parts : AreParts p (flow p.execs) x.net.touches x.net.routing
+  pub ranges : AreToldByRanges p x.net.touches
   pub rows : HaveRows x.net.routing
   pub is : x.net ≡ net_with p words x.net.touches x.net.routing
   pub operations : IsOperationNet x

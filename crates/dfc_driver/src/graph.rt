@@ -10,7 +10,7 @@ ghost use Rattle.df_io.specs.Write.{AppendsPrefix};
 ghost use Rattle.f77_tree.specs.WellFormed.{IsWellFormed};
 ghost use Rattle.alias_classes.specs.Number.{HasFewClasses};
 ghost use Rattle.dep_routing.specs.Touch.{touches_in};
-ghost use Rattle.flow_analysis.specs.Analysis.{IsAnalysisOf};
+ghost use Rattle.flow_analysis.specs.Analysis.{IsRangeAnalysisOf};
 ghost use Rattle.net_board.specs.NetParts.{net_with};
 ghost use Rattle.op_net.specs.NetView.{net_of};
 ghost use Rattle.dfc_driver.specs.Answers.{AnswersAs};
@@ -29,12 +29,13 @@ use crate::status::Status;
 use alias_classes::{CLASS_WORDS, one_numbering};
 use cfg_build::flow_graph_is_strong;
 use class_set::ClassSet;
-use dep_routing::{free_lines_are_told, one_routing, one_touching};
+use dep_routing::{free_lines_are_told, one_routing};
 use df_io::{NoMemory, Sink, TextBuffer, WriteFault};
 use f77_tree::Program;
 use firing::StepSystem;
-use flow_analysis::{Analysis, analyze};
+use flow_analysis::{Analysis, analyze_by_ranges};
 use op_net::OpNet;
+use range_lines::one_range_touching;
 use std::alloc::Global;
 
 /// What is found of a program, and the buffer through which it is told.
@@ -74,7 +75,7 @@ fn draw<'a>(alloc: Global, program: &'a Program) -> Result<Drawn<'a>, NoMemory>
     requires few { HasFewClasses program.now }
     ensures { IfOk result (λ drawn. IsDrawnOf program.now drawn) }
 {
-    let analysis = analyze(alloc, program)?;
+    let analysis = analyze_by_ranges(alloc, program)?;
     let name_sets = name_sets(alloc, program, &analysis.classes)?;
     let entries = entries(alloc, analysis.flow.graph())?;
     Ok(Drawn {
@@ -141,7 +142,7 @@ fn tell<K: Sink>(
     sink: &mut K,
 ) -> Result<(), WriteFault>
     requires program { IsWellFormed program.now }
-    requires analysis { IsAnalysisOf program.now analysis.now }
+    requires analysis { IsRangeAnalysisOf program.now analysis.now }
     requires own { (net_of net.now).net ≡ net_with program.now [] (touches_in analysis.now.touch) analysis.now.lines }
     requires sets { AreNameSets program.now.names analysis.now.classes name_sets.now }
     requires each { length entries.now ≡ analysis.now.flow.graph.nodes }
@@ -168,7 +169,7 @@ fn tell_parts<K: Sink>(
     sink: &mut K,
 ) -> Result<(), WriteFault>
     requires program { IsWellFormed program.now }
-    requires analysis { IsAnalysisOf program.now analysis.now }
+    requires analysis { IsRangeAnalysisOf program.now analysis.now }
     requires own { (net_of net.now).net ≡ net_with program.now [] (touches_in analysis.now.touch) analysis.now.lines }
     requires sets { AreNameSets program.now.names analysis.now.classes name_sets.now }
     requires each { length entries.now ≡ analysis.now.flow.graph.nodes }
@@ -209,7 +210,7 @@ fn tell_size<K: Sink>(
 
 // Edges that end at one node are wires of the same lines.
 fn wires_are_alike(program: &Program, analysis: &Analysis<'_>)
-    requires { IsAnalysisOf program.now analysis.now }
+    requires { IsRangeAnalysisOf program.now analysis.now }
     ensures { AreAlike analysis.now.flow.graph analysis.now.lines }
 {
     free_lines_are_told();
@@ -221,7 +222,7 @@ pub fn graph_means(program: &Program)
     ensures { (checked : Bool) → MeansOn Graph checked program.now }
 {
     one_numbering();
-    one_touching();
+    one_range_touching();
     one_routing();
     flow_graph_is_strong();
 }

@@ -6,7 +6,7 @@ ghost use Rattle.alias_classes.specs.Number.{HasFewClasses};
 ghost use Rattle.f77_tree.specs.WellFormed.{IsWellFormed};
 ghost use Rattle.firing.specs.Control.{IsInStep};
 ghost use Rattle.firing.specs.Play.{moment};
-ghost use Rattle.flow_analysis.specs.Analysis.{IsAnalysisOf};
+ghost use Rattle.flow_analysis.specs.Analysis.{IsRangeAnalysisOf};
 ghost use Rattle.op_board.specs.OperationCourse.{operation_course};
 ghost use Rattle.op_board.specs.OperationTokens.{operation_moves};
 ghost use Rattle.op_board.specs.SoundOperationNets.{OperationsCanCome};
@@ -30,13 +30,14 @@ use crate::store::tell_store;
 use crate::words::{GameWords, Told};
 use alias_classes::{CLASS_WORDS, classes_are_counted, one_numbering};
 use cfg_build::flow_graph_is_strong;
-use dep_routing::{one_routing, one_touching};
+use dep_routing::one_routing;
 use df_io::{NoMemory, Sink, WriteFault};
 use f77_tree::{Program, runs_stop_first};
 use firing::{PlayEnd, Show, due_orders_end, every_order_follows, runs_end};
-use flow_analysis::{Analysis, analyze};
+use flow_analysis::{Analysis, analyze_by_ranges};
 use op_board::{operation_nets_begin_soundly, operation_nets_simulate_programs};
 use op_net::OpNet;
+use range_lines::one_range_touching;
 use std::alloc::Global;
 
 /// Plays the game of a program, and tells of it. All memory is taken before the first byte is written.
@@ -83,11 +84,11 @@ fn game_of<'a>(
     requires few { HasFewClasses program.now }
     ensures picks { IfOk result (λ game. game.picks.items ≡ (asked_in words.entry).picks) }
     ensures input { IfOk result (λ game. game.input.items ≡ (asked_in words.entry).input) }
-    ensures analysis { IfOk result (λ game. IsAnalysisOf program.now game.analysis) }
+    ensures analysis { IfOk result (λ game. IsRangeAnalysisOf program.now game.analysis) }
 {
     let picks = picks_in(alloc, words.picks)?;
     let input = data_in(alloc, words.input)?;
-    let analysis = analyze(alloc, program)?;
+    let analysis = analyze_by_ranges(alloc, program)?;
     Ok(Game {
         analysis,
         picks,
@@ -108,7 +109,7 @@ fn play_net<K: Sink>(
     requires picks { game.now.picks.items ≡ (asked_in words).picks }
     requires input { game.now.input.items ≡ (asked_in words).input }
     requires program { IsWellFormed program.now }
-    requires analysis { IsAnalysisOf program.now game.now.analysis }
+    requires analysis { IsRangeAnalysisOf program.now game.now.analysis }
     ensures due { AnswersAs (IsDuePlay told (asked_in words.entry) program.now) (K.got sink.old) (K.got sink.new) result }
     ensures usage { result ≢ Status.Usage }
     ensures reads { result ≢ Status.ReadFault }
@@ -211,7 +212,7 @@ fn game_laws()
     operation_nets_begin_soundly();
     operation_nets_simulate_programs();
     one_numbering();
-    one_touching();
+    one_range_touching();
     one_routing();
     classes_are_counted();
     runs_stop_first();

@@ -7,7 +7,7 @@ ghost use Rattle.df_io.specs.Write.{AppendsPrefix};
 ghost use Rattle.alias_classes.specs.Number.{HasFewClasses};
 ghost use Rattle.f77_tree.specs.CanRun.{CanRun};
 ghost use Rattle.f77_tree.specs.WellFormed.{IsWellFormed};
-ghost use Rattle.flow_analysis.specs.Analysis.{IsAnalysisOf};
+ghost use Rattle.flow_analysis.specs.Analysis.{IsRangeAnalysisOf};
 ghost use Rattle.f77_meaning.specs.Stepper.{input_of, program_of};
 ghost use Rattle.firing.specs.Control.{IsInStep};
 ghost use Rattle.firing.specs.Play.{moment};
@@ -39,7 +39,7 @@ use alias_classes::CLASS_WORDS;
 use df_io::{NoMemory, Sink, WriteFault, write_all};
 use f77_tree::{Program, well_formed_programs_can_run};
 use firing::{Show, StepSystem, runs_end};
-use flow_analysis::{Analysis, analyze};
+use flow_analysis::{Analysis, analyze_by_ranges};
 use op_net::OpNet;
 use rewriting::rewrite;
 use sample_texts::sample_text;
@@ -158,7 +158,7 @@ fn with_run<K: Sink>(
     ensures later { K.faults sink.old ≤ K.faults sink.new }
     ensures fault { result ≡ Status.WriteFault → Rose (K.faults sink.old) (K.faults sink.new) }
 {
-    match analyze(alloc, program) {
+    match analyze_by_ranges(alloc, program) {
         Ok(analysis) => with_analysis(alloc, sample, program, &analysis, run, sink),
         Err(NoMemory) => Status::NoMemory,
     }
@@ -174,7 +174,7 @@ fn with_analysis<K: Sink>(
     sink: &mut K,
 ) -> Status
     requires program { IsWellFormed program.now }
-    requires analysis { IsAnalysisOf program.now analysis.now }
+    requires analysis { IsRangeAnalysisOf program.now analysis.now }
     requires can { CanRun (program_of run.old.stepper) }
     requires input { input_of run.old.stepper ≡ [] }
     requires begins { IsAtStart (program_of run.old.stepper) (input_of run.old.stepper) run.old }

@@ -7,6 +7,7 @@ ghost use Rattle.net_board.specs.NetParts.{AreParts};
 ghost use Rattle.dump_lines.specs.Found.{IsFoundOf};
 
 use crate::errors::no_memory;
+use dep_routing::touches_are_sound;
 use df_io::StdSink;
 use f77_tree::Program;
 use firing::{PlayEnd, Show, follow, play};
@@ -100,7 +101,9 @@ fn are_parts(p: &Program, found: &Analysis)
     requires program { IsWellFormed p.now }
     requires found { IsFoundOf p.now found.now }
     ensures { AreParts p.now found.now.flow (touches_in found.now.touch) found.now.lines }
-{}
+{
+    touches_are_sound();
+}
 
 fn name_of(trap: Trap) -> &'static str {
     match trap {

@@ -17,6 +17,8 @@ mod printing;
 #[cfg(test)]
 mod programs;
 #[cfg(test)]
+mod ranges;
+#[cfg(test)]
 mod runs;
 #[cfg(test)]
 mod showing;

@@ -119,7 +119,10 @@ fn words_have_classes(rt: HostRuntime) -> Result<(), Fail> {
 // ---- lines
 
 /// The lines that each piece touches.
-fn touched(alloc: Global, touch: &TouchList<CLASS_WORDS>) -> Result<String, AllocError> {
+pub(crate) fn touched(
+    alloc: Global,
+    touch: &TouchList<CLASS_WORDS>,
+) -> Result<String, AllocError> {
     let mut text = String::new(alloc);
     for node in 0..touch.len() {
         write!(text, "{}/", shown(alloc, touch.at(node))?)?;

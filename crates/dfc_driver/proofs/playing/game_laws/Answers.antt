@@ -4,7 +4,7 @@ use Rattle.dfc_driver.proofs.playing.game_laws.Goals as goal
 
 pub returns : goal.returns
 returns c =
-    let each : OneOfEach = record { classes = c.one_numbering.ensures; touching = c.one_touching.ensures.one; routing = c.one_routing.ensures.one } in
+    let each : OneOfEach = record { classes = c.one_numbering.ensures; touching = c.one_range_touching.ensures; routing = c.one_routing.ensures.one } in
     let laws : LockstepLaws = record {
       begins = c.operation_nets_begin_soundly.ensures;
       simulated = c.operation_nets_simulate_programs.ensures.simulated;

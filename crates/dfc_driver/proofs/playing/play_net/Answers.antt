@@ -13,7 +13,7 @@ use Rattle.dfc_driver.specs.Playing.{way_by}
 use Rattle.dfc_driver.specs.Meant.{asked_in}
 use Rattle.dfc_driver.proofs.DataWords.{data_words}
 use Rattle.dfc_driver.proofs.GameTold.{answers_more, played_on}
-use Rattle.dfc_driver.proofs.NetParts.{found_parts, net_on}
+use Rattle.dfc_driver.proofs.NetParts.{found_parts, found_ranges, net_on}
 use Rattle.dfc_driver.proofs.playing.play_net.Goals as goal
 
 pub tell_net-requires-clause-own : goal.tell_net-requires-clause-own
@@ -34,6 +34,7 @@ returns-in-Ok-clause-due g c =
     net_on p asked.input touches lines x same
     (data_words c.args.words.input.now c.requires.words.input)
     (found_parts p found (flow p.execs) refl c.requires.program c.requires.analysis)
+    (found_ranges p found c.requires.analysis)
     c.requires.analysis.rows made.is_net made.outside_pieces made.outside_operations in
     let game = game_of x in
     let is : IsGameOn p asked.input game = record { net = x; own = own; is = refl } in

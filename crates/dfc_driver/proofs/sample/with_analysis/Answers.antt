@@ -16,7 +16,7 @@ use Rattle.dfc_driver.specs.Game.{IsNetOn}
 use Rattle.dfc_driver.specs.Playing.{way_by}
 use Rattle.dfc_driver.specs.Samples.{AreBothOf, IsAfter, sizes_text}
 use Rattle.dfc_driver.proofs.GameTold.{answers_more}
-use Rattle.dfc_driver.proofs.NetParts.{found_parts, net_on}
+use Rattle.dfc_driver.proofs.NetParts.{found_parts, found_ranges, net_on}
 use Rattle.dfc_driver.proofs.SamplesMade.{sample_due}
 use Rattle.dfc_driver.proofs.sample.with_analysis.Goals as goal
 
@@ -35,6 +35,7 @@ returns-in-Ok-clause-due g c =
     let own : IsNetOn p [] x =
     net_on p [] touches lines x same (All-nil IsWord)
     (found_parts p found (flow p.execs) refl c.requires.program c.requires.analysis)
+    (found_ranges p found c.requires.analysis)
     c.requires.analysis.rows made.is_net made.outside_pieces made.outside_operations in
     let s = c.args.sample in
     let form = program_of c.args.run.now.stepper in

@@ -16,7 +16,7 @@ returns c =
       own_classes = found.classes;
       tree = found.routing.tree;
       own_tree = found.routing.is_tree;
-      own_touches = found.touches;
+      sound_touches = c.touches_are_sound.ensures c.args.p.now c.args.found.now.classes found.routing.tree (touches_in c.args.found.now.touch) c.requires.program found.routing.is_tree found.touches;
       outside = found.outside;
       own_routing = subst (λ n. IsRouting (flow c.args.p.now.execs).graph found.routing.tree (touches_in c.args.found.now.touch) n c.args.found.now.lines) one_more found.routing.routing;
     }
