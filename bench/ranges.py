@@ -69,12 +69,16 @@ class Writer:
 
     # ---- subscripts
 
-    def subscript(self, loops):
-        """The text of a subscript and the numbers that it may be, which the bounds are made for; or None for any."""
+    def subscript(self, dim, loops):
+        """The text of a subscript of this dimension and the numbers that it may be, which the bounds are made for; or None for any."""
         chance = self.chance
-        loop = chance.choice(loops) if loops and chance.random() < 0.9 else None
+        loop = chance.choice(loops) if loops and chance.random() < 0.95 else None
+        if loop is None and chance.random() < 0.93:
+            low, high = dim or (1, 3)
+            known = chance.randint(low, min(high, low + 9))
+            return chance.choice([(str(known), [known]), (f"{known}-0", [known])])
         if loop is None:
-            return self.chance.choice([("M", None), ("2", [2]), ("1", [1]), ("3", [3]), ("NA(1)", None), ("1-2", [-1]), ("M+1", None), ("I", None)])
+            return chance.choice([("M", None), ("2", [2]), ("NA(1)", None), ("1-2", [-1]), ("M+1", None), ("I", None)])
         v, values = loop.variable, loop.values or [1, 2]
         k = chance.choice([0, 1, 2, 3, 5, -1])
         form = chance.random()
@@ -97,13 +101,13 @@ class Writer:
             return f"{v}*{big}", [wrapped(x * big) for x in values]
         return chance.choice([(f"{abs(k)}-{v}", [abs(k) - x for x in values]), (f"2*{v}+1", [2 * x + 1 for x in values]), (f"{v}+{v}", [2 * x for x in values]),
                               (f"({v}+1)-1", values), (f"{v}/2", [x // 2 for x in values]), (f"MOD({v},3)", [0, 2]), (f"-{v}", [-x for x in values]),
-                              (f"NA({v})", None), (f"{v}+M", None), (f"{v}*1+0", values), (f"0+{v}*1", values), (f"ABS({v})", [abs(x) for x in values])])
+                              (f"{v}+M", None) if chance.random() < 0.5 else (f"NA({v})", None), (f"{v}*1+0", values), (f"0+{v}*1", values), (f"ABS({v})", [abs(x) for x in values])])
 
     def near(self, dim, loops):
         """A subscript, of which a few are tried for one that lies within the bounds or misses them by one."""
-        slack = self.chance.choice([0, 0, 0, 1])
-        for _ in range(self.chance.choice([1, 4, 8])):
-            text, numbers = self.subscript(loops)
+        slack = self.chance.choice([0] * 9 + [1])
+        for _ in range(self.chance.choice([1, 8, 8])):
+            text, numbers = self.subscript(dim, loops)
             if dim is None or numbers and dim[0] - slack <= min(numbers) and max(numbers) <= dim[1] + slack:
                 break
         return text, numbers
@@ -123,8 +127,8 @@ class Writer:
         low, high = max(low, -FAR + 4), min(high, FAR - 4)
         if high - low > 60:
             low, high = (low, low + 4) if self.chance.random() < 0.5 else (high - 4, high)
-        low += self.chance.choice([0, 0, 0, 0, 1, -1])
-        high += self.chance.choice([0, 0, 0, 0, -1, 1, 2])
+        low += self.chance.choice([0] * 8 + [1, -1, -1])
+        high += self.chance.choice([0] * 8 + [-1, 1, 1, 2])
         return low, max(low, high)
 
     # ---- statements
