@@ -55,7 +55,7 @@ fn excluded_edges<const W: usize>(
     ensures excluded { IfOk result (λ excluded. (e : ℕ) → e < edge_count f.now.graph → slice_index_or excluded.items e false ≡ excludes f.now (knowns_of t.now) e) }
 {
     let rows = out_rows(alloc, f.graph())?;
-    let mut excluded = Vec::new(alloc);
+    let mut excluded = Vec::with_capacity(alloc, f.graph().edges() as usize)?;
     for e in 0..f.graph().edges() {
         excluded.push(is_excluded(f, t, &rows, e))?;
     }
@@ -130,7 +130,7 @@ fn reached_edges(
     ensures size { IfOk result (λ live. length live.items ≡ edge_count g.now) }
     ensures live { IfOk result (λ live. (e : ℕ) → e < edge_count g.now → slice_index_or live.items e false ≡ (not (slice_index_or excluded.now e false) && slice_index_or reached.now (from g.now e) false)) }
 {
-    let mut live = Vec::new(alloc);
+    let mut live = Vec::with_capacity(alloc, g.edges() as usize)?;
     for e in 0..g.edges() {
         live.push(is_reached(g, excluded, reached, e))?;
     }

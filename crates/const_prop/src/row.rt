@@ -3,13 +3,14 @@
 ghost use Rattle.std.specs.Prelude.{◌≡◌, [], ◌∷◌, ◌++◌, OnOk, OnErr};
 
 use df_sequence::NoMemory;
+use smallvec::SmallVec;
 use std::alloc::Global;
 use std::marker::Model;
 
-/// Some numbers, of edges or of lines. Contracts see the list of them.
+/// Some numbers, of edges or of lines. Contracts see the list of them. A few of them lie in the row itself.
 #[derive(Drop)]
 pub(crate) struct Row {
-    numbers: Vec<u32>,
+    numbers: SmallVec<u32, 4>,
 }
 
 impl Model for Row {
@@ -26,7 +27,7 @@ impl Row {
         ensures { result ≡ [] }
     {
         Row {
-            numbers: Vec::new(alloc),
+            numbers: SmallVec::new(alloc),
         }
     }
 

@@ -146,7 +146,7 @@ pub(crate) fn out_rows(alloc: Global, g: &Digraph) -> Result<Vec<Row>, NoMemory>
     ensures size { IfOk result (λ rows. length rows.items ≡ g.now.nodes) }
     ensures rows { IfOk result (λ rows. (node : ℕ) → node < g.now.nodes → slice_index_or rows.items node [] ≡ outs g.now node) }
 {
-    let mut rows = Vec::new(alloc);
+    let mut rows = Vec::with_capacity(alloc, g.nodes() as usize)?;
     for node in 0..g.nodes() {
         rows.push(out_row(alloc, g, node)?)?;
     }
@@ -178,7 +178,7 @@ fn touched_rows<const W: usize>(
     requires nodes { nodes ≡ length touch.now }
     ensures { IfOk result (λ rows. AreTouched nodes lines (touches_in touch.now) rows.items) }
 {
-    let mut rows = Vec::new(alloc);
+    let mut rows = Vec::with_capacity(alloc, nodes as usize)?;
     for node in 0..nodes {
         rows.push(touched_lines(alloc, touch, node, lines)?)?;
     }
