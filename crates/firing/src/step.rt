@@ -13,7 +13,9 @@ use crate::{Fired, Show, StepSystem};
 use df_io::{Sink, WriteFault, write_all};
 use op_table::Trap;
 
-// Fires a node that can fire, and writes what is shown of it.
+// Fires a node that can fire, and writes what is shown of it. Each firing by picks goes through this one and those below, in which there
+// is mostly nothing to do.
+#[inline(always)]
 pub fn step<S: StepSystem, K: Sink>(
     sys: &mut S,
     k: u32,
@@ -41,6 +43,7 @@ pub fn step<S: StepSystem, K: Sink>(
 }
 
 // Writes what is shown of firings, by the node and the answer of the last one.
+#[inline(always)]
 pub fn show_fired<S: StepSystem, K: Sink>(
     sys: &S,
     k: u32,
@@ -62,6 +65,7 @@ pub fn show_fired<S: StepSystem, K: Sink>(
 }
 
 // Writes the line of a firing that wrote one.
+#[inline(always)]
 fn write_line<S: StepSystem, K: Sink>(sys: &S, fired: Fired, sink: &mut K) -> Result<(), WriteFault>
     ensures all { OnOk result (Appends (K.got sink.old) (K.got sink.new) (line_after fired (S.last sys.now))) }
     ensures prefix { OnErr result (AppendsPrefix (K.got sink.old) (K.got sink.new) (line_after fired (S.last sys.now))) }
@@ -75,6 +79,7 @@ fn write_line<S: StepSystem, K: Sink>(sys: &S, fired: Fired, sink: &mut K) -> Re
 }
 
 // What has trapped after a firing that answered this.
+#[inline(always)]
 pub fn trap_after<S: StepSystem>(sys: &S, fired: Fired) -> Option<(Trap, u32)>
     requires { fired ≢ Fired.Trapped → (S.moves (S.net sys.now)).trap (S.marking sys.now) ≡ None }
     ensures { result ≡ (S.moves (S.net sys.now)).trap (S.marking sys.now) }
