@@ -33,6 +33,7 @@ use std::mem::swap;
 
 impl<const W: usize> OpNet<'_, W> {
     /// Fires a ready node, and tells the edge by which control leaves the piece, if the node is due where that is decided.
+    #[inline(always)]
     pub(crate) fn fire_node(&mut self, k: u32) -> (Fired, u32)
         requires node { k < node_total (net_of self.old) }
         requires ready { (operation_moves (net_of self.old)).ready (marking_of self.old) k ≡ true }

@@ -63,6 +63,10 @@ impl<const W: usize> StepSystem for OpNet<'_, W> {
 
     fn fire(&mut self, k: u32) -> Fired {
         let (fired, edge) = self.fire_node(k);
+        // By picks control is mostly lost.
+        if self.control.is_none() {
+            return fired;
+        }
         self.control = steered(&self.board, self.control, k, edge);
         fired
     }
