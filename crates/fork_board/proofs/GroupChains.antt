@@ -89,23 +89,23 @@ pub record LineFacts (x : OperationNet) (n : IsOperationNet x) (line : ℕ) : Ty
   pub out_exists : (piece : ℕ) → out (graph_in x.net) piece 0 < edge_count (graph_in x.net)
 
 module _ (x : OperationNet) (n : IsOperationNet x) (line : ℕ) (facts : LineFacts x n line) where
-  abbrev Exists : Spot → Type 0
+  abbrev pub Exists : Spot → Type 0
   Exists s = s.edge < edge_count (graph_in x.net)
 
   -- ---- a load that is the last one in its piece
 
-  record IsLoadThere (s : Spot) (load : Site) : Type 0 where
+  pub record IsLoadThere (s : Spot) (load : Site) : Type 0 where
     pub number : ℕ
     pub at : IsNumberAt x line s number
     pub loads : is_load (operation_at x (piece_at x s) number).work ≡ true
     pub is : load ≡ site (piece_at x s) number
 
-  load_there : (s : Spot) (load : Site) → load_at x line s ≡ Some load → IsLoadThere s load
+  pub load_there : (s : Spot) (load : Site) → load_at x line s ≡ Some load → IsLoadThere s load
   load_there s load at =
       let r : IsLoadIn x (piece_at x s) (number_at x line s) load = load_is x (piece_at x s) (number_at x line s) load at in
       record { number = r.number; at = number_is x line s r.number r.at; loads = r.loads; is = r.is }
 
-  acting : (s : Spot) (load : Site) → IsLoadThere s load → is_acting (kind_in x.net (piece_at x s)) ≡ true
+  pub acting : (s : Spot) (load : Site) → IsLoadThere s load → is_acting (kind_in x.net (piece_at x s)) ≡ true
   acting s load r = acting_with x.net.program.names (kind_in x.net (piece_at x s)) (exec_kind x.net.program (piece_at x s)) r.number r.at.below
 
   -- after a load where edges part, a decision needs the line
@@ -148,10 +148,10 @@ module _ (x : OperationNet) (n : IsOperationNet x) (line : ℕ) (facts : LineFac
   -- ---- one load after another
 
   -- so many operations further in the same piece, or nearer to the start
-  abbrev IsFurther : (s t : Spot) (count : ℕ) → Type 0
+  abbrev pub IsFurther : (s t : Spot) (count : ℕ) → Type 0
   IsFurther s t count = ((t.edge ≡ s.edge) × (t.passed ≡ s.passed + count)) ⊎ IsNearer (graph_in x.net) (piece_at x s) (piece_at x t)
 
-  one_further : (s : Spot) (load : Site) → Exists s → load_at x line s ≡ Some load → Exists (spot_after x line s) × IsFurther s (spot_after x line s) 1
+  pub one_further : (s : Spot) (load : Site) → Exists s → load_at x line s ≡ Some load → Exists (spot_after x line s) × IsFurther s (spot_after x line s) 1
   one_further s load exists at = by (is_last_there x line s) refl
     where
       by : (b : Bool) → is_last_there x line s ≡ b

@@ -17,3 +17,4 @@ pub mod OrdersForked
 pub mod ForksEnd
 pub mod ForkSimulations
 pub mod ForkControl
+pub mod GroupEnds

@@ -2,7 +2,7 @@
 
 ghost use Rattle.op_board.specs.OperationNets.{OperationNet};
 ghost use Rattle.op_board.specs.SoundOperationNets.{IsOperationNet};
-ghost use Rattle.fork_board.specs.Chains.{ComeOnce};
+ghost use Rattle.fork_board.specs.Chains.{ComeOnce, GroupsEnd};
 
 use net_board::{nets_begin_soundly, nets_simulate_programs};
 use op_board::operations_have_facts;
@@ -12,6 +12,17 @@ use region_tree::{region_borders, start_is_outside};
 /// be one of acts and of regions that the line passes by, and no way would lead from it to the end.
 pub fn loads_come_once()
     ensures { (x : OperationNet) → IsOperationNet x → ComeOnce x }
+{
+    nets_begin_soundly();
+    nets_simulate_programs();
+    operations_have_facts();
+    region_borders();
+    start_is_outside();
+}
+
+/// A group has all loads that follow: behind it no load stands.
+pub fn groups_end()
+    ensures { (x : OperationNet) → IsOperationNet x → GroupsEnd x }
 {
     nets_begin_soundly();
     nets_simulate_programs();
