@@ -14,8 +14,10 @@ use Rattle.op_board.specs.OperationFacts.{OperationFacts}
 use Rattle.op_board.specs.OperationNets.{OperationNet}
 use Rattle.op_board.specs.SoundOperationNets.{IsOperationNet}
 use Rattle.fork_board.specs.Chains.{ComeOnce, GroupsEnd}
+use Rattle.fork_board.specs.Successors.{MeetSuccessors}
 use Rattle.fork_board.proofs.GroupChains.{LineFacts, not_among}
 use Rattle.fork_board.proofs.GroupEnds.{ends}
+use Rattle.fork_board.proofs.LoadSuccessors.{meets}
 
 pub flow_graph : (ground : ProgramFacts) (net : NetOf) → IsNet net → IsFlowGraph (graph_in net)
 flow_graph ground net is = ground.strong net.program.names net.program.execs net.program.loops is.program.execs
@@ -40,3 +42,6 @@ module _ (begins : (net : NetOf) → IsNet net → CanCome net (first_tokens net
 
   pub groups_end : (x : OperationNet) → IsOperationNet x → GroupsEnd x
   groups_end x n line s below exists = ends x n line (line_facts x n line below) s exists
+
+  pub meet_successors : (x : OperationNet) → IsOperationNet x → MeetSuccessors x
+  meet_successors x n line s load below exists at = meets x n line (line_facts x n line below) s load exists at

@@ -1,8 +1,8 @@
 -- The source's own order of the game with groups of loads: control stays in lockstep, and what is due can fire.
-use Rattle.std.proofs.Common.{◌≡◌, ℕ, List, [], ◌∷◌, ◌++◌, Some, None, refl, sym, ap, ◌∙◌, subst}
+use Rattle.std.proofs.Common.{◌≡◌, ℕ, List, [], ◌∷◌, ◌++◌, Some, None, refl, sym, ◌∙◌, subst}
 use Rattle.firing.specs.Control.{KeepsStep}
 use Rattle.firing.specs.Moves.{CanFire}
-use Rattle.firing.specs.Orders.{IsOrder, IsOver, IsWhole, after}
+use Rattle.firing.specs.Orders.{IsOrder, IsOver, after}
 use Rattle.firing.specs.SourceOrder.{IsSourceOrder}
 use Rattle.net_board.specs.declared.control.Control.{Control}
 use Rattle.net_board.specs.ControlCourse.{first_control}

@@ -131,7 +131,7 @@ module _ (x : OperationNet) (n : IsOperationNet x) (line : ℕ) (facts : LineFac
       absurd (omega (arith, before, up, more, same)))
       (same_or_less r.number z (omega (arith, inside, count)))
 
-  not_parting : (s : Spot) (load : Site) → Exists s → IsLoadThere s load → is_last_there x line s ≡ true → is_parting (kind_in x.net (piece_at x s)) ≡ false
+  pub not_parting : (s : Spot) (load : Site) → Exists s → IsLoadThere s load → is_last_there x line s ≡ true → is_parting (kind_in x.net (piece_at x s)) ≡ false
   not_parting s load exists r last = ⊎_elim (λ (parts : is_parting (kind_in x.net (piece_at x s)) ≡ true). absurd (parted s load exists r last parts)) (λ not. not) (cases_Bool (is_parting (kind_in x.net (piece_at x s))))
 
   -- after it the start is nearer

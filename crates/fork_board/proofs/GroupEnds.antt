@@ -1,5 +1,5 @@
 -- Groups of loads end: behind one stands another operation, or none.
-use Rattle.std.proofs.Common.{◌≡◌, ◌<◌, ◌≤◌, ◌⊎◌, inl, inr, ⊎_elim, ℕ, zero, suc, ◌+◌, Bool, true, false, List, [], ◌∷◌, ◌++◌, length, map, Option, Some, None, slice_get, refl, sym, ap, ◌∙◌, subst, arith}
+use Rattle.std.proofs.Common.{◌≡◌, ◌<◌, ◌≤◌, ◌⊎◌, inl, inr, ⊎_elim, ℕ, zero, suc, ◌+◌, Bool, true, false, List, [], ◌∷◌, length, map, Option, Some, None, slice_get, refl, sym, ap, ◌∙◌, subst, arith}
 use Rattle.std.proofs.lemmas.Bool.{eqb-true, eq-eqb, and_from, false≢true, ne_eqb, or_cases}
 use Rattle.std.proofs.lemmas.List.{length-map}
 use Rattle.std.proofs.lemmas.Map.Steps.{length-le_from_distinct_below}
@@ -12,7 +12,7 @@ use Rattle.list_laws.specs.Member.{Member}
 use Rattle.list_laws.proofs.Members.{IsImage, Member-mapped, list_any_member}
 use Rattle.net_board.specs.Nodes.{graph_in}
 use Rattle.net_board.proofs.NodeLaws.{Distinct, distinct_append, piece_of}
-use Rattle.op_board.specs.OperationNets.{OperationNet, all_operation_nodes, first_operation, operation_count, operation_node}
+use Rattle.op_board.specs.OperationNets.{OperationNet, all_operation_nodes, first_operation, operation_node}
 use Rattle.op_board.specs.SoundOperationNets.{IsOperationNet}
 use Rattle.op_board.proofs.OperationNumbers.{operation_name, operation_stands}
 use Rattle.fork_board.specs.LoadGroups.{Site, Spot, behind_group, followed_by, here_or, is_among, is_site, load_at, loads_within, most_loads, site, spot_after, spot_behind}
@@ -124,10 +124,11 @@ module _ (x : OperationNet) (n : IsOperationNet x) (line : ℕ) (facts : LineFac
 
   distinct_places : (sites : List Site) → ((z : Site) → Member sites z → IsOperation z) → Distinct sites → Distinct (map place sites)
   distinct_places [] each differ = tt
-  distinct_places (y ∷ sites) each differ =
-      ((λ m. let r : IsImage place sites (place y) = Member-mapped place sites (place y) m in
-      differ.0 (subst (λ (z : Site). Member sites z) (one_place r.origin y (each r.origin (inr r.among)) (each y (inl refl)) r.is) r.among)),
-      distinct_places sites (λ z m. each z (inr m)) differ.1)
+  distinct_places (y ∷ sites) each differ = (
+    (λ m. let r : IsImage place sites (place y) = Member-mapped place sites (place y) m in
+        differ.0 (subst (λ (z : Site). Member sites z) (one_place r.origin y (each r.origin (inr r.among)) (each y (inl refl)) r.is) r.among)),
+    distinct_places sites (λ z m. each z (inr m)) differ.1,
+  )
 
   few : (count : ℕ) (s : Spot) → s.edge < edge_count (graph_in x.net) → AreLoads x line count s → count ≤ most_loads x
   few count s exists are =

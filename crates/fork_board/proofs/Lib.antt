@@ -18,3 +18,4 @@ pub mod ForksEnd
 pub mod ForkSimulations
 pub mod ForkControl
 pub mod GroupEnds
+pub mod LoadSuccessors

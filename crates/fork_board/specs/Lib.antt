@@ -5,3 +5,4 @@ pub mod ForkFootprints
 pub mod Chains
 pub mod ForkSimulation
 pub mod ForkLockstep
+pub mod Successors

@@ -3,6 +3,7 @@
 ghost use Rattle.op_board.specs.OperationNets.{OperationNet};
 ghost use Rattle.op_board.specs.SoundOperationNets.{IsOperationNet};
 ghost use Rattle.fork_board.specs.Chains.{ComeOnce, GroupsEnd};
+ghost use Rattle.fork_board.specs.Successors.{MeetSuccessors};
 
 use net_board::{nets_begin_soundly, nets_simulate_programs};
 use op_board::operations_have_facts;
@@ -23,6 +24,18 @@ pub fn loads_come_once()
 /// A group has all loads that follow: behind it no load stands.
 pub fn groups_end()
     ensures { (x : OperationNet) → IsOperationNet x → GroupsEnd x }
+{
+    nets_begin_soundly();
+    nets_simulate_programs();
+    operations_have_facts();
+    region_borders();
+    start_is_outside();
+}
+
+/// The loads of a group are successors of one another: after a load a line stands before the next operation of the piece that needs it;
+/// where there is none, the piece is an act, and the line stands before the first such operation of the next piece that it comes to.
+pub fn loads_meet_successors()
+    ensures { (x : OperationNet) → IsOperationNet x → MeetSuccessors x }
 {
     nets_begin_soundly();
     nets_simulate_programs();
