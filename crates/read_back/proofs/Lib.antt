@@ -8,6 +8,7 @@ mod PlainParts
 mod PlainTexts
 mod PrintedBlocks
 mod PrintedCards
+mod PrintedKinds
 mod PrintedRead
 mod PrintedSource
 mod Prints

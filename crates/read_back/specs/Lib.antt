@@ -1,2 +1,3 @@
+pub mod PrintedArrays
 pub mod PrintedStatements
 pub mod ReadLines

@@ -2,8 +2,10 @@
 //! compiler is here.
 #![tactic(auto)]
 
+mod expressions;
 mod lines;
 mod programs;
 
+pub use expressions::printed_expressions_keep_their_kinds;
 pub use lines::printed_lines_are_read;
 pub use programs::printed_programs_are_read_by_statements;
