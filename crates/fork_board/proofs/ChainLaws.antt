@@ -1,8 +1,11 @@
 -- Loads come once along a line, by what lower layers tell of nets.
-use Rattle.std.proofs.Common.{◌<◌, ℕ, subst}
+use Rattle.std.proofs.Common.{◌<◌, ℕ, subst, ◌≡◌, true, sym}
+use Rattle.closed_walks.specs.Graph.{from}
 use Rattle.closed_walks.specs.Region.{IsFlowGraph}
 use Rattle.region_tree.specs.Laws.{HasBorders}
 use Rattle.region_tree.specs.Tree.{IsIn, IsNumber}
+use Rattle.dep_routing.specs.Next.{Next}
+use Rattle.dep_routing.specs.Quiet.{IsFree}
 use Rattle.net_board.specs.ControlCourse.{first_control}
 use Rattle.net_board.specs.NetLockstep.{IsInLockstep}
 use Rattle.net_board.specs.Nodes.{NetOf, graph_in}
@@ -14,10 +17,11 @@ use Rattle.op_board.specs.OperationFacts.{OperationFacts}
 use Rattle.op_board.specs.OperationNets.{OperationNet}
 use Rattle.op_board.specs.SoundOperationNets.{IsOperationNet}
 use Rattle.fork_board.specs.Chains.{ComeOnce, GroupsEnd}
-use Rattle.fork_board.specs.Successors.{MeetSuccessors}
+use Rattle.fork_board.specs.Successors.{FollowOne, MeetSuccessors}
 use Rattle.fork_board.proofs.GroupChains.{LineFacts, not_among}
 use Rattle.fork_board.proofs.GroupEnds.{ends}
 use Rattle.fork_board.proofs.LoadSuccessors.{meets}
+use Rattle.fork_board.proofs.OneSource.{one_source}
 
 pub flow_graph : (ground : ProgramFacts) (net : NetOf) → IsNet net → IsFlowGraph (graph_in net)
 flow_graph ground net is = ground.strong net.program.names net.program.execs net.program.loops is.program.execs
@@ -45,3 +49,9 @@ module _ (begins : (net : NetOf) → IsNet net → CanCome net (first_tokens net
 
   pub meet_successors : (x : OperationNet) → IsOperationNet x → MeetSuccessors x
   meet_successors x n line s load below exists at = meets x n line (line_facts x n line below) s load exists at
+
+  pub follow_one : ((x : OperationNet) (n : IsOperationNet x) (line node : ℕ) → x.net.touches node line ≡ true → IsFree (graph_in x.net) n.is_net.tree x.net.touches line node)
+      → ((x : OperationNet) (n : IsOperationNet x) (line e d f : ℕ) → IsFlowGraph (graph_in x.net) → IsFree (graph_in x.net) n.is_net.tree x.net.touches line (from (graph_in x.net) e) → IsFree (graph_in x.net) n.is_net.tree x.net.touches line (from (graph_in x.net) d) → Next (graph_in x.net) n.is_net.tree x.net.touches line e f → Next (graph_in x.net) n.is_net.tree x.net.touches line d f → e ≡ d)
+      → (x : OperationNet) → IsOperationNet x → FollowOne x
+  follow_one free back x n line s t a b c below s_exists t_exists first second s_next t_next =
+      one_source x n line (line_facts x n line below) (λ node touched. free x n line node touched) (λ e d f. back x n line e d f (flow_graph (begins x.net n.is_net).ground x.net n.is_net)) s t a b c s_exists t_exists first second s_next t_next

@@ -62,7 +62,7 @@ load_decides (DecideNumber count) loads decides = absurd cc
 load_decides (DecideTrips loop_no) loads decides = absurd cc
 load_decides DecideFirst loads decides = absurd cc
 
-act_leaves_one : (k : PieceKind) → is_acting k ≡ true → is_parting k ≡ false → leaves_one k ≡ true
+pub act_leaves_one : (k : PieceKind) → is_acting k ≡ true → is_parting k ≡ false → leaves_one k ≡ true
 act_leaves_one kind.Act acts not = refl
 act_leaves_one kind.Branch acts not = absurd cc
 act_leaves_one kind.Hold acts not = absurd cc

@@ -19,3 +19,4 @@ pub mod ForkSimulations
 pub mod ForkControl
 pub mod GroupEnds
 pub mod LoadSuccessors
+pub mod OneSource

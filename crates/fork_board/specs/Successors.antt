@@ -39,3 +39,8 @@ successor x line a = successor_by x line a.piece (slice_get (needing_from x line
 abbrev pub MeetSuccessors : OperationNet → Type 0
 MeetSuccessors x =
     (line : ℕ) (s : Spot) (load : Site) → line < x.net.routing.lines → s.edge < edge_count (graph_in x.net) → load_at x line s ≡ Some load → site_in (piece_at x (spot_after x line s)) (number_at x line (spot_after x line s)) ≡ successor x line load
+
+-- No operation is the successor of two loads.
+abbrev pub FollowOne : OperationNet → Type 0
+FollowOne x =
+    (line : ℕ) (s t : Spot) (a b c : Site) → line < x.net.routing.lines → s.edge < edge_count (graph_in x.net) → t.edge < edge_count (graph_in x.net) → load_at x line s ≡ Some a → load_at x line t ≡ Some b → successor x line a ≡ Some c → successor x line b ≡ Some c → a ≡ b

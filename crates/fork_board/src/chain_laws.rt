@@ -3,8 +3,9 @@
 ghost use Rattle.op_board.specs.OperationNets.{OperationNet};
 ghost use Rattle.op_board.specs.SoundOperationNets.{IsOperationNet};
 ghost use Rattle.fork_board.specs.Chains.{ComeOnce, GroupsEnd};
-ghost use Rattle.fork_board.specs.Successors.{MeetSuccessors};
+ghost use Rattle.fork_board.specs.Successors.{FollowOne, MeetSuccessors};
 
+use dep_routing::{free_nodes, next_edges};
 use net_board::{nets_begin_soundly, nets_simulate_programs};
 use op_board::operations_have_facts;
 use region_tree::{region_borders, start_is_outside};
@@ -42,4 +43,17 @@ pub fn loads_meet_successors()
     operations_have_facts();
     region_borders();
     start_is_outside();
+}
+
+/// No operation is the successor of two loads: lists of loads that are successors of one another don't run together.
+pub fn loads_follow_one()
+    ensures { (x : OperationNet) → IsOperationNet x → FollowOne x }
+{
+    nets_begin_soundly();
+    nets_simulate_programs();
+    operations_have_facts();
+    region_borders();
+    start_is_outside();
+    free_nodes();
+    next_edges();
 }
