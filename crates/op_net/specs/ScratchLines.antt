@@ -23,6 +23,10 @@ pub record IsClean (lines : ℕ) (s : Scratch) : Type 0 where
   pub before : (line : ℕ) → line < lines → before_at s line ≡ 0
   pub first : (line : ℕ) → line < lines → first_at s line ≡ None
 
+-- a line that an operation needs, of which it isn't told yet where it goes on
+abbrev pub unlinked : (line before : ℕ) → Hop
+unlinked line before = record { line = line; before = before; next = None }
+
 -- the operation to which a line goes on from a hop is the first one that is known to need it
 abbrev pub linked : Scratch → Hop → Hop
 linked s hop = record hop { next = first_at s hop.line }

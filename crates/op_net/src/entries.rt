@@ -19,7 +19,7 @@ pub(crate) fn first_entries(
 {
     let mut entries = Vec::with_capacity(alloc, touched.len())?;
     for line in touched {
-        entries.push(scratch.first[*line as usize].unwrap_or(0))?;
+        entries.push(u32::from(scratch.first[*line as usize].unwrap_or(0)))?;
     }
     Ok(entries)
 }

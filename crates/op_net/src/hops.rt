@@ -5,21 +5,21 @@ ghost use Rattle.std.specs.List.{list_any, range_with_len};
 ghost use Rattle.std.specs.List.Sorted.{IsStrictlyIncreasing};
 ghost use Rattle.class_set.specs.ClassSet.{holds};
 ghost use Rattle.class_set.specs.Members.{IsWidth};
-ghost use Rattle.op_net.specs.ScratchLines.{IsClean, before_at, first_at, linked};
+ghost use Rattle.op_net.specs.ScratchLines.{IsClean, before_at, first_at, linked, unlinked};
 ghost use Rattle.op_net.specs.Waits.{one_if};
 
 use class_set::ClassSet;
 use df_sequence::NoMemory;
 use std::alloc::Global;
 
-/// A line that an operation needs.
+/// A line that an operation needs, in eight bytes: a program may have millions of them.
 #[derive(Clone, Copy, Debug, PartialEq, Eq)]
 pub(crate) struct Hop {
-    pub(crate) line: u32,
+    pub(crate) line: u16,
     /// How many of the operations of the piece before this one need it.
-    pub(crate) before: u32,
+    pub(crate) before: u16,
     /// The next operation of the piece that needs it. Without one the line goes on from the piece.
-    pub(crate) next: Option<u32>,
+    pub(crate) next: Option<u16>,
 }
 
 /// What is known of each line while the rows of a piece are made: how many of its operations need the line so far, and, from the last
@@ -27,7 +27,7 @@ pub(crate) struct Hop {
 #[derive(Drop)]
 pub(crate) struct Scratch {
     pub(crate) before: Vec<u32>,
-    pub(crate) first: Vec<Option<u32>>,
+    pub(crate) first: Vec<Option<u16>>,
 }
 
 /// Nothing is known of so many lines.
@@ -38,6 +38,27 @@ pub(crate) fn make_scratch(alloc: Global, lines: u32) -> Result<Scratch, NoMemor
         before: vec![in alloc; 0; lines as usize]?,
         first: vec![in alloc; None; lines as usize]?,
     })
+}
+
+/// A line that an operation needs, as so many before it do. Numbers of 2^16 or more are allocation failure.
+fn unlinked_hop(line: u32, before: u32) -> Result<Hop, NoMemory>
+    ensures { IfOk result (λ hop. hop ≡ unlinked line before) }
+{
+    Ok(Hop {
+        line: short(line)?,
+        before: short(before)?,
+        next: None,
+    })
+}
+
+/// The number in 16 bits, unless it is too great.
+pub(crate) fn short(number: u32) -> Result<u16, NoMemory>
+    ensures { IfOk result (λ n. n ≡ number) }
+{
+    match u16::try_from(number) {
+        Ok(n) => Ok(n),
+        Err(_) => Err(NoMemory),
+    }
 }
 
 /// The lines that an operation needs, and how many of the operations before it need each of them. Those of the next operation are
@@ -61,11 +82,7 @@ pub(crate) fn unlinked_hops<const W: usize>(
     let mut hops = Vec::with_capacity(alloc, usize::from(next.is_some()))?;
     while let Some(line) = next {
         let before = scratch.before[line as usize];
-        hops.push(Hop {
-            line,
-            before,
-            next: None,
-        })?;
+        hops.push(unlinked_hop(line, before)?)?;
         scratch.before[line as usize] = before + 1;
         next = needs.next_after(Some(line));
     }
@@ -73,7 +90,7 @@ pub(crate) fn unlinked_hops<const W: usize>(
 }
 
 /// Tells of the lines that operation i needs which operation needs them next. The first one that needs them is operation i then.
-pub(crate) fn link_hops(hops: &mut Vec<Hop>, scratch: &mut Scratch, i: u32)
+pub(crate) fn link_hops(hops: &mut Vec<Hop>, scratch: &mut Scratch, i: u16)
     requires exist { All (λ (hop : Hop). hop.line < length scratch.old.first.items) hops.old.items }
     requires rising { IsStrictlyIncreasing (map (λ (hop : Hop). hop.line) hops.old.items) }
     ensures hops { hops.new.items ≡ map (linked scratch.old) hops.old.items }

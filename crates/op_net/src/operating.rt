@@ -175,9 +175,17 @@ fn move_line<const W: usize>(
     match hop.next {
         Some(n) => {
             let old = places.lines[hop.line as usize];
-            places.put_line(board, hop.line, old, hop.before + 1, first + i, first + n);
+            let passed = hop.before as u32 + 1;
+            places.put_line(
+                board,
+                hop.line as u32,
+                old,
+                passed,
+                first + i,
+                first + n as u32,
+            );
         }
-        None => lead_line(board, places, hop.line, edge, first + i),
+        None => lead_line(board, places, hop.line as u32, edge, first + i),
     }
 }
 
@@ -225,7 +233,7 @@ pub(crate) fn drop_needed<const W: usize>(
     let k = board.first(piece) + i;
     let none = board.nodes();
     for hop in &board.row(piece, i).hops {
-        places.put_line(board, hop.line, None, 0, k, none);
+        places.put_line(board, hop.line as u32, None, 0, k, none);
     }
 }
 

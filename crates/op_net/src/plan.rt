@@ -123,7 +123,7 @@ fn all_needs<const W: usize>(
 {
     few_classes(c);
     let touched = board.plan.touch.at(piece);
-    let mut needs = SetList::new(alloc);
+    let mut needs = SetList::with_room(alloc, operations.len())?;
     for operation in operations {
         needs.push(&operation_needs(board.plan.program, c, touched, operation))?;
     }

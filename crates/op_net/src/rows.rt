@@ -9,7 +9,7 @@ ghost use Rattle.op_net.specs.PlanView.{operations_in};
 ghost use Rattle.op_net.specs.ScratchLines.{AreCounted, AreLinked, IsClean};
 
 use crate::entries::{clear_lines, first_entries};
-use crate::hops::{Hop, Scratch, link_hops, unlinked_hops};
+use crate::hops::{Hop, Scratch, link_hops, short, unlinked_hops};
 use crate::plan::OperationPlan;
 use crate::row_laws::{needed_lines_exist, operations_fit};
 use crate::takers::{copied_operands, operation_total, value_takers};
@@ -79,7 +79,8 @@ fn linked_rows<'a, const W: usize>(
     ensures linked { OnOk result (AreLinked (operations_in plan.now) piece 0 scratch.new) }
 {
     let mut rows = unlinked_rows(alloc, plan, piece, scratch)?;
-    let mut i = operation_total(&plan.pieces[piece as usize].operations)?;
+    let count = operation_total(&plan.pieces[piece as usize].operations)?;
+    let mut i = short(count)?;
     while i > 0 {
         i -= 1;
         link_hops(&mut rows[i as usize].hops, scratch, i);

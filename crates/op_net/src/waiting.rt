@@ -107,8 +107,9 @@ fn hop_stands<const W: usize>(
     requires places { ArePlaces (operation_net_on board.now) places.now }
     ensures { result ≡ hop_stands (operation_net_on board.now) (standing places.now) piece hop.now }
 {
-    let before = is_before(&board.plan.board.plan, &places.lines, piece, hop.line);
-    before && places.passed[hop.line as usize] == hop.before
+    let line = hop.line as u32;
+    let before = is_before(&board.plan.board.plan, &places.lines, piece, line);
+    before && places.passed[hop.line as usize] == hop.before as u32
 }
 
 // How many operands of an operation aren't there, where its piece has this first node.

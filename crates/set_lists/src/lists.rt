@@ -33,15 +33,15 @@ pub struct SetList<const W: usize> {
 impl<const W: usize> SetList<W> {
     ghost use Rattle.set_lists.specs.Sets.{set_count, test_at};
 
-    /// No set. It takes no memory.
-    pub fn new(alloc: Global) -> Self
+    /// No set, with room for so many that have one member at most.
+    pub fn with_room(alloc: Global, room: usize) -> Result<Self, NoMemory>
         requires { IsWidth W }
-        ensures { set_count result ≡ 0 }
+        ensures { IfOk result (λ sets. set_count sets ≡ 0) }
     {
-        SetList {
-            items: Vec::new(alloc),
+        Ok(SetList {
+            items: Vec::with_capacity(alloc, room)?,
             shared: Vec::new(alloc),
-        }
+        })
     }
 
     /// How many sets there are.

@@ -1,4 +1,4 @@
-use Rattle.std.proofs.Common.{◌≡◌, ◌+◌, ◌<◌, ◌&&◌, nat_lt, ℕ, Option, Some, None, [], ◌∷◌, length, map, slice_index, slice_set, refl, ap, ◌∙◌, subst, rules, length-set}
+use Rattle.std.proofs.Common.{◌≡◌, ◌+◌, ◌<◌, ◌&&◌, nat_lt, ℕ, Option, Some, None, [], ◌∷◌, ◌++◌, length, map, slice_index, slice_set, refl, ap, ◌∙◌, subst, rules, length-set}
 use Rattle.std.proofs.lemmas.List.{get_or-set_same, get_or-set_other, map-append}
 use Rattle.std.proofs.lemmas.List.Elements.{All-append, All-cons, All-nil}
 use Rattle.std.proofs.lemmas.Grind.{get_or_default_zero}
@@ -38,7 +38,7 @@ loop-next-preserved g c =
     let walk : IsWalk test lines (Some line) (map line_of hops) = subst (λ (o : Option ℕ). IsWalk test lines o (map line_of hops)) c.in-Some.is inv.walk in
     let low : line < lines = c.requires.exist line walk.member in
     let counted : (k : ℕ) → before_at c.loop-next.scratch k ≡ before_at old k + one_if (test k && nat_lt k line) = subst (λ (o : Option ℕ). (k : ℕ) → before_at c.loop-next.scratch k ≡ before_at old k + one_if (test k && nat_lt k (end_of lines o))) c.in-Some.is inv.counts in
-    let pushed = c.in_ok-push.ensures.items in
+    let pushed : c.push.new.self.items ≡ hops ++ hop ∷ [] = c.in_ok-push.ensures.items ∙ ap (λ (h : Hop). hops ++ h ∷ []) c.in_ok-unlinked_hop.ensures in
     let inside : line < length counts = rw inv.all low in
     let read : c.index-before.result.now ≡ slice_index counts line = c.index-before.ensures ∙ get_or_default_zero counts line c.index-before.result.now inside in
     let same : c.index-before.result.now ≡ before_at old line = read ∙ count_at test lines line low (before_at old) (before_at c.loop-next.scratch) counted in

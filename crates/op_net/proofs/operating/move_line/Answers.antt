@@ -15,8 +15,8 @@ index-old-requires g c =
     let lines = c.requires.lines in
     omega (arith, exists, lines)
 
-pub overflow_add-hop : goal.overflow_add-hop
-overflow_add-hop g c =
+pub overflow_add-passed : goal.overflow_add-passed
+overflow_add-passed g c =
     let x = operation_net_on c.args.board.now in
     let few = few_operations x c.args.board.now.tables c.args.board.now.own_tables c.args.piece c.requires.piece in
     record { fits = passed_few x c.args.piece c.args.i c.args.hop c.requires.hop c.in-Some.n c.in-Some.is few }

@@ -21,8 +21,7 @@ loop-i-init g c =
     let x = operations_in plan in
     let piece = c.args.piece in
     let all = planned_count plan piece c.index.result.now c.requires.piece c.index.ensures in
-    let count = c.in_ok-i.ensures in
-    let is : c.in_ok-i.i ≡ operation_count x piece = count ∙ all in
+    let is : c.in_ok-i.i ≡ operation_count x piece = c.in_ok-i.ensures ∙ c.in_ok-count.ensures ∙ all in
     let rows = c.in_ok-rows.ensures in
     record {
       within = omega (arith, is);
