@@ -1,4 +1,5 @@
 mod DeclaredForms
+mod ExpressionInduction
 mod FoldedDepth
 mod FoldedTexts
 mod Folds
@@ -11,6 +12,7 @@ mod PrintedCards
 mod PrintedKinds
 mod PrintedRead
 mod PrintedSource
+mod PrintedTrees
 mod Prints
 mod ProgramRead
 mod RepeatBound

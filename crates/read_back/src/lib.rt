@@ -6,6 +6,6 @@ mod expressions;
 mod lines;
 mod programs;
 
-pub use expressions::printed_expressions_keep_their_kinds;
+pub use expressions::printed_expressions_are_themselves;
 pub use lines::printed_lines_are_read;
 pub use programs::printed_programs_are_read_by_statements;
