@@ -1,5 +1,5 @@
 -- Induction over expressions whose operands and subscripts are lists.
-use Rattle.std.proofs.Common.{◌≡◌, ℕ, zero, suc, ℤ, Bool, ◌<◌, List, [], ◌∷◌, length, map, sym, subst, arith}
+use Rattle.std.proofs.Common.{zero, suc, ℤ, Bool, List, [], ◌∷◌, map, sym, subst, arith}
 use Rattle.std.specs.Prelude.{All}
 use Rattle.op_table.specs.declared.Op.{Op}
 use Rattle.f77_tree.specs.declared.expressions.Access.{Access}

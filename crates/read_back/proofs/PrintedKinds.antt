@@ -1,8 +1,8 @@
 -- The form of a printed expression has the expression's kind, where no array bears the name of an intrinsic function that is printed.
-use Rattle.std.proofs.Common.{◌≡◌, ◌==◌, ℕ, zero, suc, ◌+◌, ◌<◌, ◌≤◌, Bool, true, false, not, cond, ◌&&◌, ◌||◌, nat_lt, List, [], ◌∷◌, ◌++◌, length, map, Option, Some, None, refl, sym, ap, ◌∙◌, subst, arith, length-append, if◌then◌else◌}
+use Rattle.std.proofs.Common.{◌≡◌, ◌==◌, ℕ, zero, suc, ◌+◌, ◌<◌, ◌≤◌, Bool, true, false, not, cond, ◌&&◌, ◌||◌, nat_lt, List, [], ◌∷◌, ◌++◌, length, Option, Some, None, refl, sym, ap, ◌∙◌, subst, arith, length-append, if◌then◌else◌}
 use Rattle.std.specs.Prelude.{codes, slice_get, bytes_eq}
-use Rattle.std.specs.List.{list_all, position_or_len}
-use Rattle.std.proofs.lemmas.Bool.{and_parts, and_from, lt-ltb, eq-eqb}
+use Rattle.std.specs.List.{list_all}
+use Rattle.std.proofs.lemmas.Bool.{and_from, lt-ltb, eq-eqb}
 use Rattle.std.proofs.lemmas.List.{length-map}
 use Rattle.std.proofs.lemmas.List.Folds.{list_all-append}
 use Rattle.std.proofs.lemmas.Slice.Eq.{bytes_eq-Decides}
@@ -254,9 +254,9 @@ module _ (names : List NameInfo) (differ : NamesDiffer names) (free : HasNoPrint
       let count : length (dims_named names name) ≡ length args = ap (λ j. length (dims_of names j)) at ∙ sym len ∙ sym (length-map (a ∷ more) (λ (f : Form). f.alone)) in
       let as_many : (length (dims_named names name) == length args) ≡ true = ap (λ n. n == length args) count ∙ same_number (length args) in
       let of : kind_of_call names name (length args) ≡ Some (kind_of names k) =
-          ap (λ b. if b then (if length (dims_named names name) == length args then Some (kind_named names name) else None) else (if takes name (length args) then Some Integer else None)) array
-          ∙ ap (λ b. if b then Some (kind_named names name) else None) as_many
-          ∙ ap (λ j. Some (kind_of names j)) at
+      ap (λ b. if b then (if length (dims_named names name) == length args then Some (kind_named names name) else None) else (if takes name (length args) then Some Integer else None)) array
+      ∙ ap (λ b. if b then Some (kind_named names name) else None) as_many
+      ∙ ap (λ j. Some (kind_of names j)) at
       in
       plain_kinded (kind_of names k) (Call name args) (kind-Call names name args (Some (kind_of names k)) (alone_kinded Integer (a ∷ more) all) of)
 
