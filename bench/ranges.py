@@ -99,9 +99,12 @@ class Writer:
         if form < 0.87:
             big = chance.choice([FAR // 2, FAR - 1, FAR // 4 + 1])
             return f"{v}*{big}", [wrapped(x * big) for x in values]
-        return chance.choice([(f"{abs(k)}-{v}", [abs(k) - x for x in values]), (f"2*{v}+1", [2 * x + 1 for x in values]), (f"{v}+{v}", [2 * x for x in values]),
-                              (f"({v}+1)-1", values), (f"{v}/2", [x // 2 for x in values]), (f"MOD({v},3)", [0, 2]), (f"-{v}", [-x for x in values]),
-                              (f"{v}+M", None) if chance.random() < 0.5 else (f"NA({v})", None), (f"{v}*1+0", values), (f"0+{v}*1", values), (f"ABS({v})", [abs(x) for x in values])])
+        other = (f"{v}+M", None) if chance.random() < 0.5 else (f"NA({v})", None)
+        return chance.choice([
+            (f"{abs(k)}-{v}", [abs(k) - x for x in values]), (f"2*{v}+1", [2 * x + 1 for x in values]), (f"{v}+{v}", [2 * x for x in values]),
+            (f"({v}+1)-1", values), (f"{v}/2", [x // 2 for x in values]), (f"MOD({v},3)", [0, 2]), (f"-{v}", [-x for x in values]),
+            other, (f"{v}*1+0", values), (f"0+{v}*1", values), (f"ABS({v})", [abs(x) for x in values]),
+        ])
 
     def near(self, dim, loops):
         """A subscript, of which a few are tried for one that lies within the bounds or misses them by one."""

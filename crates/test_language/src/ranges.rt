@@ -13,7 +13,8 @@ use std::test::Fail;
 
 // Programs; of each executable 1 for each subscript that is seen in range, and 0 for each other; and the lines that each piece touches. A
 // subscript that ends at the bound, and one that ends past it.
-const RANGES: &str = "INTEGER A(3);DO 10 I=1,3;10~A(I)=I*I;PRINT *,7;PRINT *,A(2);END=>/1///0//=>/2,3//3/1,2/2,3/0/0,1//
+const RANGES: &str =
+    "INTEGER A(3);DO 10 I=1,3;10~A(I)=I*I;PRINT *,7;PRINT *,A(2);END=>/1///0//=>/2,3//3/1,2/2,3/0/0,1//
 INTEGER A(3);DO 10 I=1,4;10~A(I)=I*I;PRINT *,7;PRINT *,A(2);END=>/0///0//=>/2,3//3/0,1,2/2,3/0/0,1//
 END=>/=>//";
 

@@ -119,10 +119,7 @@ fn words_have_classes(rt: HostRuntime) -> Result<(), Fail> {
 // ---- lines
 
 /// The lines that each piece touches.
-pub(crate) fn touched(
-    alloc: Global,
-    touch: &TouchList<CLASS_WORDS>,
-) -> Result<String, AllocError> {
+pub(crate) fn touched(alloc: Global, touch: &TouchList<CLASS_WORDS>) -> Result<String, AllocError> {
     let mut text = String::new(alloc);
     for node in 0..touch.len() {
         write!(text, "{}/", shown(alloc, touch.at(node))?)?;
