@@ -23,11 +23,10 @@ mod SetNumbers
 pub mod Texts
 mod Items
 mod Sizes
-mod Alike
 mod ClassesOfNames
-mod Entered
 mod FormsMean
 mod FormsTold
 mod LinesTold
 mod NameWords
+mod MarkedRows
 mod WiresTold

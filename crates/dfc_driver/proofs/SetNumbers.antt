@@ -2,7 +2,7 @@
 use Rattle.std.proofs.Common.{◌≡◌, ℕ, zero, suc, ◌+◌, ◌-◌, ◌<◌, ◌≤◌, Bool, true, false, List, [], ◌∷◌, ◌++◌, Option, Some, None, refl, ap, ◌∙◌, append-nil, arith}
 use Rattle.std.proofs.lemmas.List.Elements.{filter-append}
 use Rattle.std.proofs.lemmas.List.Concat.{flat_map-append}
-use Rattle.std.specs.Prelude.{filter}
+use Rattle.std.specs.Prelude.{filter, flat_map}
 use Rattle.std.specs.Fmt.{decimal}
 use Rattle.std.specs.List.{range_with_len}
 use Rattle.class_set.specs.Members.{IsAbove, first_above}
@@ -72,21 +72,33 @@ module _ (is_member : ℕ → Bool) where
   pub members_all : (before : Option ℕ) (end : ℕ) → first_above before ≤ end → IsLastBelow is_member before end → members end ≡ members (first_above before)
   members_all before end within none = members_same (first_above before) end within (λ k from below. none k (above_from before k from) below)
 
-  -- ---- as a text
+  -- ---- as a text, with a line for each
+
+  module _ (line : ℕ → List ℕ) where
+    pub text_next : (before : Option ℕ) (end n : ℕ) → IsNextBelow is_member before end n → flat_map line (members (n + 1)) ≡ flat_map line (members (first_above before)) ++ line n
+    text_next before end n is =
+        ap (flat_map line) (members_next before end n is)
+        ∙ flat_map-append line (members (first_above before)) (n ∷ [])
+        ∙ ap (λ last. flat_map line (members (first_above before)) ++ last) (append-nil (line n))
+
+    -- what is left after a member
+    abbrev pub text_left : (n end : ℕ) → List ℕ
+    text_left n end = flat_map line (filter is_member (range_with_len (n + 1) (end - (n + 1))))
+
+    pub text_after : (before : Option ℕ) (end n : ℕ) → IsNextBelow is_member before end n → flat_map line (members end) ≡ (flat_map line (members (first_above before)) ++ line n) ++ text_left n end
+    text_after before end n is =
+        let below = is.below in
+        ap (flat_map line) (members_after (n + 1) end (omega (arith, below)))
+        ∙ flat_map-append line (members (n + 1)) (filter is_member (range_with_len (n + 1) (end - (n + 1))))
+        ∙ ap (λ text. text ++ text_left n end) (text_next before end n is)
+
+  -- ---- as numbers
 
   pub numbers_next : (before : Option ℕ) (end n : ℕ) → IsNextBelow is_member before end n → numbers_text (members (n + 1)) ≡ numbers_text (members (first_above before)) ++ (32 ∷ decimal n)
-  numbers_next before end n is =
-      ap numbers_text (members_next before end n is)
-      ∙ flat_map-append (λ k. 32 ∷ decimal k) (members (first_above before)) (n ∷ [])
-      ∙ ap (λ last. numbers_text (members (first_above before)) ++ last) (append-nil (32 ∷ decimal n))
+  numbers_next = text_next (λ k. 32 ∷ decimal k)
 
-  -- what is left after a member
   abbrev pub numbers_left : (n end : ℕ) → List ℕ
-  numbers_left n end = numbers_text (filter is_member (range_with_len (n + 1) (end - (n + 1))))
+  numbers_left = text_left (λ k. 32 ∷ decimal k)
 
   pub numbers_after : (before : Option ℕ) (end n : ℕ) → IsNextBelow is_member before end n → numbers_text (members end) ≡ (numbers_text (members (first_above before)) ++ (32 ∷ decimal n)) ++ numbers_left n end
-  numbers_after before end n is =
-      let below = is.below in
-      ap numbers_text (members_after (n + 1) end (omega (arith, below)))
-      ∙ flat_map-append (λ k. 32 ∷ decimal k) (members (n + 1)) (filter is_member (range_with_len (n + 1) (end - (n + 1))))
-      ∙ ap (λ text. text ++ numbers_left n end) (numbers_next before end n is)
+  numbers_after = text_after (λ k. 32 ∷ decimal k)

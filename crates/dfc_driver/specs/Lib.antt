@@ -11,7 +11,7 @@ pub mod GraphText
 pub mod Below
 pub mod GivenText
 pub mod NameSets
-pub mod Entries
+pub mod EdgeTables
 pub mod Drawn
 pub mod Found
 pub mod Due

@@ -1,9 +1,9 @@
 //! The lines, nodes and wires of a program's net of operations, as a text.
 
-ghost use Rattle.std.specs.Prelude.{◌≡◌, ◌≢◌, ◌<◌, ◌≤◌, ◌∷◌, ◌++◌, ℕ, Bool, [], codes, length, slice_index, IfOk, OnOk, OnErr};
+ghost use Rattle.std.specs.Prelude.{◌≡◌, ◌≢◌, ◌≤◌, ◌∷◌, ◌++◌, Bool, [], codes, IfOk, OnOk, OnErr};
 ghost use Rattle.std.specs.Fmt.{decimal};
 ghost use Rattle.std.specs.Io.KnownBytes.{Appends};
-ghost use Rattle.closed_walks.specs.Graph.{edge_count, to};
+ghost use Rattle.closed_walks.specs.Graph.{edge_count};
 ghost use Rattle.df_io.specs.Faults.{Rose};
 ghost use Rattle.df_io.specs.TextBuffer.{IsWrittenBut};
 ghost use Rattle.df_io.specs.Write.{AppendsPrefix};
@@ -16,20 +16,21 @@ ghost use Rattle.op_net.specs.NetView.{net_of};
 ghost use Rattle.dfc_driver.specs.Answers.{AnswersAs};
 ghost use Rattle.dfc_driver.specs.Drawn.{IsDrawnOf};
 ghost use Rattle.dfc_driver.specs.Due.{IsDoneBy};
-ghost use Rattle.dfc_driver.specs.Entries.{AreAlike, IsEntry};
+ghost use Rattle.dfc_driver.specs.EdgeTables.{AreTablesOf};
 ghost use Rattle.dfc_driver.specs.GraphText.{TellsGraph, graph_text};
 ghost use Rattle.dfc_driver.specs.Headline.{MeansOn};
 ghost use Rattle.dfc_driver.specs.NameSets.{AreNameSets};
 ghost use Rattle.dfc_driver.specs.Words.{Graph};
 
+use crate::edge_tables::{EdgeTables, tables_of_edges};
 use crate::graph_lines::{name_sets, tell_lines};
 use crate::graph_nodes::{tell_nodes, tell_numbered, tell_values};
-use crate::graph_wires::{entries, tell_hops, tell_wires};
+use crate::graph_wires::{tell_hops, tell_wires};
 use crate::status::Status;
 use alias_classes::{CLASS_WORDS, one_numbering};
 use cfg_build::flow_graph_is_strong;
 use class_set::ClassSet;
-use dep_routing::{free_lines_are_told, one_routing};
+use dep_routing::one_routing;
 use df_io::{NoMemory, Sink, TextBuffer, WriteFault};
 use f77_tree::Program;
 use firing::StepSystem;
@@ -44,8 +45,6 @@ struct Drawn<'a> {
     analysis: Analysis<'a>,
     /// For each name the classes of its words.
     name_sets: Vec<ClassSet<CLASS_WORDS>>,
-    /// For each piece an edge that ends at it.
-    entries: Vec<u32>,
     /// The net is the same whatever the data.
     input: Vec<i32>,
     buffer: TextBuffer,
@@ -77,11 +76,9 @@ fn draw<'a>(alloc: Global, program: &'a Program) -> Result<Drawn<'a>, NoMemory>
 {
     let analysis = analyze_by_ranges(alloc, program)?;
     let name_sets = name_sets(alloc, program, &analysis.classes)?;
-    let entries = entries(alloc, analysis.flow.graph())?;
     Ok(Drawn {
         analysis,
         name_sets,
-        entries,
         input: Vec::new(alloc),
         buffer: TextBuffer::new(alloc)?,
     })
@@ -104,8 +101,7 @@ fn tell_net<K: Sink>(
 {
     let analysis = &drawn.analysis;
     let sets = drawn.name_sets.as_slice();
-    let entries = drawn.entries.as_slice();
-    let made = OpNet::new(
+    let Ok(net) = OpNet::new(
         alloc,
         program,
         &analysis.flow,
@@ -113,21 +109,23 @@ fn tell_net<K: Sink>(
         &analysis.touch,
         &analysis.lines,
         &drawn.input,
-    );
-    match made {
-        Ok(net) => match tell(
-            program,
-            analysis,
-            sets,
-            entries,
-            &net,
-            &mut drawn.buffer,
-            sink,
-        ) {
-            Ok(()) => Status::Done,
-            Err(WriteFault) => Status::WriteFault,
-        },
-        Err(NoMemory) => Status::NoMemory,
+    ) else {
+        return Status::NoMemory;
+    };
+    let Ok(tables) = tables_of_edges(alloc, analysis.flow.graph(), &analysis.lines) else {
+        return Status::NoMemory;
+    };
+    match tell(
+        program,
+        analysis,
+        sets,
+        &tables,
+        &net,
+        &mut drawn.buffer,
+        sink,
+    ) {
+        Ok(()) => Status::Done,
+        Err(WriteFault) => Status::WriteFault,
     }
 }
 
@@ -136,7 +134,7 @@ fn tell<K: Sink>(
     program: &Program,
     analysis: &Analysis<'_>,
     name_sets: &[ClassSet<CLASS_WORDS>],
-    entries: &[u32],
+    tables: &EdgeTables,
     net: &OpNet<'_, CLASS_WORDS>,
     buffer: &mut TextBuffer,
     sink: &mut K,
@@ -145,16 +143,14 @@ fn tell<K: Sink>(
     requires analysis { IsRangeAnalysisOf program.now analysis.now }
     requires own { (net_of net.now).net ≡ net_with program.now [] (touches_in analysis.now.touch) analysis.now.lines }
     requires sets { AreNameSets program.now.names analysis.now.classes name_sets.now }
-    requires each { length entries.now ≡ analysis.now.flow.graph.nodes }
-    requires ends { (edge : ℕ) → edge < edge_count analysis.now.flow.graph → IsEntry analysis.now.flow.graph (slice_index entries.now (to analysis.now.flow.graph edge)) (to analysis.now.flow.graph edge) }
+    requires tables { AreTablesOf analysis.now.flow.graph analysis.now.lines tables.now }
     requires buffer { buffer.old ≡ [] }
     ensures all { OnOk result (Appends (K.got sink.old) (K.got sink.new) (graph_text program.now analysis.now.classes (net_of net.now))) }
     ensures prefix { OnErr result (AppendsPrefix (K.got sink.old) (K.got sink.new) (graph_text program.now analysis.now.classes (net_of net.now))) }
     ensures later { K.faults sink.old ≤ K.faults sink.new }
     ensures fault { OnErr result (Rose (K.faults sink.old) (K.faults sink.new)) }
 {
-    wires_are_alike(program, analysis);
-    tell_parts(program, analysis, name_sets, entries, net, buffer, sink)?;
+    tell_parts(program, analysis, name_sets, tables, net, buffer, sink)?;
     buffer.write_out(sink)
 }
 
@@ -163,7 +159,7 @@ fn tell_parts<K: Sink>(
     program: &Program,
     analysis: &Analysis<'_>,
     name_sets: &[ClassSet<CLASS_WORDS>],
-    entries: &[u32],
+    tables: &EdgeTables,
     net: &OpNet<'_, CLASS_WORDS>,
     buffer: &mut TextBuffer,
     sink: &mut K,
@@ -172,9 +168,7 @@ fn tell_parts<K: Sink>(
     requires analysis { IsRangeAnalysisOf program.now analysis.now }
     requires own { (net_of net.now).net ≡ net_with program.now [] (touches_in analysis.now.touch) analysis.now.lines }
     requires sets { AreNameSets program.now.names analysis.now.classes name_sets.now }
-    requires each { length entries.now ≡ analysis.now.flow.graph.nodes }
-    requires ends { (edge : ℕ) → edge < edge_count analysis.now.flow.graph → IsEntry analysis.now.flow.graph (slice_index entries.now (to analysis.now.flow.graph edge)) (to analysis.now.flow.graph edge) }
-    requires alike { AreAlike analysis.now.flow.graph analysis.now.lines }
+    requires tables { AreTablesOf analysis.now.flow.graph analysis.now.lines tables.now }
     requires edges { analysis.now.lines.edges ≡ edge_count analysis.now.flow.graph }
     ensures text { OnOk result (IsWrittenBut buffer.new (K.got sink.old) (K.got sink.new) (buffer.old ++ graph_text program.now analysis.now.classes (net_of net.now))) }
     ensures prefix { OnErr result (AppendsPrefix (K.got sink.old) (K.got sink.new) (buffer.old ++ graph_text program.now analysis.now.classes (net_of net.now))) }
@@ -187,8 +181,8 @@ fn tell_parts<K: Sink>(
     tell_lines(program, &analysis.classes, name_sets, buffer, sink)?;
     tell_nodes(net, lines, buffer, sink)?;
     tell_values(net, buffer, sink)?;
-    tell_wires(graph, &analysis.lines, buffer, sink)?;
-    tell_hops(graph, &analysis.lines, entries, buffer, sink)
+    tell_wires(graph, &analysis.lines, &tables.wires, buffer, sink)?;
+    tell_hops(graph, &analysis.lines, &tables.bypasses, buffer, sink)
 }
 
 // Appends how many lines and nodes there are.
@@ -206,14 +200,6 @@ fn tell_size<K: Sink>(
     tell_numbered(b"LINES ", lines, buffer, sink)?;
     tell_numbered(b" NODES ", nodes, buffer, sink)?;
     buffer.append(b"\n", sink)
-}
-
-// Edges that end at one node are wires of the same lines.
-fn wires_are_alike(program: &Program, analysis: &Analysis<'_>)
-    requires { IsRangeAnalysisOf program.now analysis.now }
-    ensures { AreAlike analysis.now.flow.graph analysis.now.lines }
-{
-    free_lines_are_told();
 }
 
 /// A program has one such text, and it tells the net over whatever data.

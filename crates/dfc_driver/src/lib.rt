@@ -2,6 +2,7 @@
 //! call it with sources and sinks of their own.
 #![tactic(auto)]
 
+mod edge_tables;
 mod game;
 mod graph;
 mod graph_line;

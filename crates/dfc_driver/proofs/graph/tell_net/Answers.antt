@@ -1,26 +1,36 @@
-use Rattle.std.proofs.Common.{◌∙◌, ◌<◌, List, ℕ, length, ap, arith, refl, sym, subst, append-nil}
-use Rattle.std.specs.Prelude.{slice_index}
+use Rattle.std.proofs.Common.{◌∙◌, List, ℕ, ap, arith, refl, sym, subst, append-nil}
 use Rattle.std.specs.Io.KnownBytes.{Appends}
 use Rattle.class_set.specs.declared.ClassSet.{ClassSet}
-use Rattle.closed_walks.specs.Graph.{edge_count, to}
+use Rattle.closed_walks.specs.Graph.{Graph, edge_count}
+use Rattle.cfg_build.specs.Joined.{FlowGraph}
 use Rattle.alias_classes.specs.declared.TheConstants.{CLASS_WORDS}
 use Rattle.df_io.specs.Write.{AppendsPrefix}
 use Rattle.dep_routing.specs.Touch.{touches_in}
 use Rattle.net_board.specs.NetParts.{net_with}
 use Rattle.op_net.specs.NetView.{net_of}
 use Rattle.dfc_driver.specs.Due.{done}
-use Rattle.dfc_driver.specs.Entries.{IsEntry}
+use Rattle.dfc_driver.specs.EdgeTables.{AreTablesOf}
 use Rattle.dfc_driver.specs.NameSets.{AreNameSets}
 use Rattle.dfc_driver.specs.GraphText.{graph_text}
 use Rattle.dfc_driver.proofs.GraphMeans.{found_tells}
 use Rattle.dfc_driver.proofs.NetParts.{found_operation_parts}
 use Rattle.dfc_driver.proofs.graph.tell_net.Goals as goal
 
-pub new-made-requires : goal.new-made-requires
-new-made-requires g c =
+pub new-requires : goal.new-requires
+new-requires g c =
     let found = c.args.drawn.now.analysis in
     let parts = found_operation_parts c.args.program.now found found.flow c.requires.drawn.analysis.own_flow c.requires.program c.requires.drawn.analysis in
     (omega arith, (omega arith, (omega arith, (omega arith, (record { some = omega arith; few = omega arith }, (parts, c.requires.drawn.analysis.sets))))))
+
+pub tables_of_edges-requires : goal.tables_of_edges-requires
+tables_of_edges-requires g c =
+    let found = c.args.drawn.now.analysis in
+    let is = c.requires.drawn.analysis in
+    is.routing.edges ∙ ap (λ (f : FlowGraph). edge_count f.graph) (sym is.own_flow) ∙ ap edge_count (sym c.graph.ensures)
+
+pub tell-requires-clause-tables : goal.tell-requires-clause-tables
+tell-requires-clause-tables g c =
+    subst (λ (h : Graph). AreTablesOf h c.args.drawn.now.analysis.lines c.in-Ok-tables_of_edges.tables) c.graph.ensures c.in-Ok-tables_of_edges.ensures
 
 pub tell-requires-clause-own : goal.tell-requires-clause-own
 tell-requires-clause-own g c =
@@ -30,14 +40,6 @@ tell-requires-clause-own g c =
 pub tell-requires-clause-sets : goal.tell-requires-clause-sets
 tell-requires-clause-sets g c =
     subst (λ (xs : List (ClassSet CLASS_WORDS)). AreNameSets c.args.program.now.names c.args.drawn.now.analysis.classes xs) (sym c.as_slice-sets.ensures.value) c.requires.drawn.sets
-
-pub tell-requires-clause-each : goal.tell-requires-clause-each
-tell-requires-clause-each g c = ap (λ (xs : List ℕ). length xs) c.as_slice-entries.ensures.value ∙ c.requires.drawn.each
-
-pub tell-requires-clause-ends : goal.tell-requires-clause-ends
-tell-requires-clause-ends g c =
-    let h = c.args.drawn.now.analysis.flow.graph in
-    subst (λ (xs : List ℕ). (edge : ℕ) → edge < edge_count h → IsEntry h (slice_index xs (to h edge)) (to h edge)) (sym c.as_slice-entries.ensures.value) c.requires.drawn.ends
 
 pub returns-in-Ok-tell-clause-due : goal.returns-in-Ok-tell-clause-due
 returns-in-Ok-tell-clause-due g c =
@@ -54,8 +56,8 @@ returns-in-Ok-tell-clause-due g c =
       written = subst (λ (bytes : List ℕ). Appends (g.K.Sink.got c.args.sink.now) (g.K.Sink.got c.tell.new.sink) bytes) (sym (append-nil text)) c.in-Ok-tell.ensures.all;
     }
 
-pub returns-in-Ok-clause-due : goal.returns-in-Ok-clause-due
-returns-in-Ok-clause-due g c =
+pub returns-clause-due : goal.returns-clause-due
+returns-clause-due g c =
     let p = c.args.program.now in
     let found = c.args.drawn.now.analysis in
     let x = net_of c.in-Ok.net in
@@ -65,5 +67,5 @@ returns-in-Ok-clause-due g c =
     record {
       due = done text;
       is = record { text = found_tells p found x c.requires.program c.requires.drawn.analysis same made.is_net made.outside_pieces made.outside_operations; done = refl };
-      prefix = subst (λ (bytes : List ℕ). AppendsPrefix (g.K.Sink.got c.args.sink.now) (g.K.Sink.got c.tell.new.sink) bytes) (sym (append-nil text)) c.in-Err-tell.ensures.prefix;
+      prefix = subst (λ (bytes : List ℕ). AppendsPrefix (g.K.Sink.got c.args.sink.now) (g.K.Sink.got c.tell.new.sink) bytes) (sym (append-nil text)) c.in-Err.ensures.prefix;
     }

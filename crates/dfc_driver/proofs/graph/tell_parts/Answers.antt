@@ -1,13 +1,11 @@
-use Rattle.std.proofs.Common.{◌≡◌, ◌++◌, ◌∙◌, ◌<◌, ℕ, ap, sym, subst}
-use Rattle.std.specs.Prelude.{slice_index}
-use Rattle.closed_walks.specs.Graph.{Graph, edge_count, to}
-use Rattle.closed_walks.specs.Region.{IsFlowGraph}
+use Rattle.std.proofs.Common.{◌≡◌, ◌++◌, ◌∙◌, ap, sym, subst}
+use Rattle.closed_walks.specs.Graph.{Graph, edge_count}
 use Rattle.cfg_build.specs.Joined.{FlowGraph}
 use Rattle.dep_routing.specs.Routing.{Routing}
 use Rattle.net_board.specs.Nodes.{NetOf, graph_in}
 use Rattle.op_net.specs.NetView.{net_of}
 use Rattle.dfc_driver.specs.GraphText.{hop_lines, line_lines, node_lines, size_line, value_lines, wire_lines}
-use Rattle.dfc_driver.specs.Entries.{AreAlike, IsEntry}
+use Rattle.dfc_driver.specs.EdgeTables.{AreBypasses, AreWires}
 use Rattle.dfc_driver.proofs.GraphParts.{hops_told, size_text, size_told, wires_told}
 use Rattle.dfc_driver.proofs.Telling.{begun, begun_fault, fault_before, fault_more, told_more}
 use Rattle.dfc_driver.proofs.Texts.{on_error, then_on_error, then_on_ok}
@@ -191,21 +189,13 @@ returns-clause-prefix g c =
     let w5 = told_more s0 s4 s5 first c.tell_values.new.buffer c.tell_wires.new.buffer (t0 ++ t1 ++ t2 ++ t3) t4 w4 (begun s4 s5 c.tell_values.new.buffer c.tell_wires.new.buffer (wire_lines c.graph-graph.result.now found.lines) t4 wires c.in_ok-tell_wires.ensures.text) in
     then_on_error c.tell_hops.result (λ now. fault_more s0 s5 s6 first c.tell_wires.new.buffer (t0 ++ t1 ++ t2 ++ t3 ++ t4) t5 w5 (begun_fault s5 s6 c.tell_wires.new.buffer (hop_lines c.graph-graph.result.now found.lines) t5 hops now)) c.tell_hops.ensures.prefix
 
-pub tell_hops-requires-clause-flow : goal.tell_hops-requires-clause-flow
-tell_hops-requires-clause-flow g c =
-    let graph = c.graph-graph.ensures ∙ ap (λ (f : FlowGraph). f.graph) c.requires.analysis.own_flow in
-    subst IsFlowGraph (sym graph) c.requires.analysis.strong
+pub tell_wires-requires : goal.tell_wires-requires
+tell_wires-requires g c =
+    subst (λ (h : Graph). AreWires h c.args.analysis.now.lines c.args.tables.now.wires) (sym c.graph-graph.ensures) c.requires.tables.wires
 
 pub tell_hops-requires-clause-edges : goal.tell_hops-requires-clause-edges
 tell_hops-requires-clause-edges g c = c.requires.edges ∙ ap edge_count (sym c.graph-graph.ensures)
 
-pub tell_hops-requires-clause-size : goal.tell_hops-requires-clause-size
-tell_hops-requires-clause-size g c = c.requires.each ∙ ap (λ (h : Graph). h.nodes) (sym c.graph-graph.ensures)
-
-pub tell_hops-requires-clause-ends : goal.tell_hops-requires-clause-ends
-tell_hops-requires-clause-ends g c =
-    subst (λ (h : Graph). (edge : ℕ) → edge < edge_count h → IsEntry h (slice_index c.args.entries.now (to h edge)) (to h edge)) (sym c.graph-graph.ensures) c.requires.ends
-
-pub tell_hops-requires-clause-alike : goal.tell_hops-requires-clause-alike
-tell_hops-requires-clause-alike g c =
-    subst (λ (h : Graph). AreAlike h c.args.analysis.now.lines) (sym c.graph-graph.ensures) c.requires.alike
+pub tell_hops-requires-clause-bypasses : goal.tell_hops-requires-clause-bypasses
+tell_hops-requires-clause-bypasses g c =
+    subst (λ (h : Graph). AreBypasses h c.args.analysis.now.lines c.args.tables.now.bypasses) (sym c.graph-graph.ensures) c.requires.tables.bypasses

@@ -1,60 +1,66 @@
-use Rattle.std.proofs.Common.{◌≡◌, ◌+◌, ℕ, ◌&&◌, not, List, [], ◌++◌, ap, subst, ◌∙◌, arith}
+use Rattle.std.proofs.Common.{◌≡◌, ◌++◌, ◌+◌, ◌∙◌, ℕ, List, sym, ap, subst, arith}
+use Rattle.std.specs.Prelude.{flat_map}
 use Rattle.closed_walks.specs.Graph.{edge_count}
-use Rattle.std.specs.Prelude.{slice_index, if◌then◌else◌}
-use Rattle.df_io.specs.TextBuffer.{IsWrittenBut}
-use Rattle.df_io.specs.Write.{AppendsPrefix}
-use Rattle.dep_routing.specs.Routing.{wire_at}
-use Rattle.dfc_driver.specs.GraphText.{hop_line}
-use Rattle.dfc_driver.proofs.Entered.{entry_is}
-use Rattle.dfc_driver.proofs.WiresTold.{hop_is, hop_text, hops_are}
-use Rattle.dfc_driver.proofs.Texts.{line_told, lines, fault_at_line, on_error}
+use Rattle.class_set.specs.Members.{first_above}
+use Rattle.set_columns.specs.Marks.{marked}
+use Rattle.dfc_driver.specs.GraphText.{hop_line, hops_text}
+use Rattle.dfc_driver.proofs.SetNumbers.{members, members_all, text_after, text_left, text_next}
+use Rattle.dfc_driver.proofs.Telling.{begun, begun_fault, fault_before, fault_more, told_more}
+use Rattle.dfc_driver.proofs.Texts.{on_error}
+use Rattle.dfc_driver.proofs.WiresTold.{hops_are}
 use Rattle.dfc_driver.proofs.graph_wires.tell_hops_of.Goals as goal
 
-pub tell_hop-requires-clause-entry : goal.tell_hop-requires-clause-entry
-tell_hop-requires-clause-entry g c =
-    let graph = c.args.g.now in
-    let edge = c.loop-edge.edge in
-    let entry = slice_index c.args.entries.now c.from.result in
-    let is = entry_is graph c.args.entries.now edge c.from.result c.requires.flow (omega (arith, c.loop-edge-test.true, c.edges-edge-end.ensures.count)) c.from.ensures.node c.requires.ends in
-    let inside = is.inside in
-    omega (arith, inside, c.requires.edges)
+pub tell_hop-requires-clause-edge : goal.tell_hop-requires-clause-edge
+tell_hop-requires-clause-edge g c =
+    let below = c.in-Some.ensures.below in
+    omega (arith, below, c.edges-end.ensures.count, c.requires.edges)
 
 pub returns-in_err-tell_hop-clause-prefix : goal.returns-in_err-tell_hop-clause-prefix
 returns-in_err-tell_hop-clause-prefix g c =
-    let graph = c.args.g.now in
-    let edge = c.loop-edge.edge in
-    let entry = slice_index c.args.entries.now c.from.result in
-    let is = entry_is graph c.args.entries.now edge c.from.result c.requires.flow (omega (arith, c.loop-edge-test.true, c.edges-edge-end.ensures.count)) c.from.ensures.node c.requires.ends in
-    let part = if wire_at c.args.l.now c.args.line entry && not (wire_at c.args.l.now c.args.line edge) then hop_line c.args.l.now c.args.line edge else [] in
-    let told = hop_is graph c.args.l.now c.args.line entry edge c.requires.alike is c.requires.line in
-    let line : ℕ → List ℕ = hop_text c.args.g.now c.args.l.now c.args.line in
-    let k = c.loop-edge.edge in
-    let here : k ≡ 0 + k = omega arith in
+    let first = c.args.buffer.now in
+    let told : ℕ → List ℕ = hop_line c.args.l.now c.args.line in
+    let test = marked c.args.bypasses.now c.args.line in
+    let end = c.edges-end.result in
+    let n = c.in-Some.edge in
+    let text = flat_map told (members test (first_above c.loop-edge.before)) in
+    let left = text_left test told n end in
+    let s0 = g.K.Sink.got c.args.sink.now in
+    let s1 = g.K.Sink.got c.loop-edge.sink in
+    let s2 = g.K.Sink.got c.tell_hop.new.sink in
+    let prefix = fault_more s0 s1 s2 first c.loop-edge.buffer text (told n) c.loop-edge.invariant.written c.in_err-tell_hop.ensures.prefix in
+    let all : (text ++ told n) ++ left ≡ hops_text c.args.g.now c.args.l.now c.args.line =
+    sym (text_after test told c.loop-edge.before end n c.in-Some.ensures)
+    ∙ ap (λ e. flat_map told (members test e)) c.edges-end.ensures.count
+    ∙ hops_are c.args.g.now c.args.l.now c.args.bypasses.now c.args.line c.requires.bypasses c.requires.line in
     on_error c.from_residual.result
-    (subst (λ (text : List ℕ). AppendsPrefix (g.K.Sink.got c.args.sink.now) (g.K.Sink.got c.tell_hop.new.sink) (c.args.buffer.now ++ text)) (hops_are c.args.g.now c.args.l.now c.args.line)
-    (fault_at_line line 0 k (edge_count c.args.g.now) c.args.buffer.now c.loop-edge.buffer part
-    (g.K.Sink.got c.args.sink.now) (g.K.Sink.got c.loop-edge.sink) (g.K.Sink.got c.tell_hop.new.sink)
-    (grind (arith, c.loop-edge-test.true, c.edges-edge-end.ensures.count)) (told ∙ ap line here) c.loop-edge.invariant.written c.in_err-tell_hop.ensures.prefix))
+    (begun_fault s0 s2 first ((text ++ told n) ++ left) (hops_text c.args.g.now c.args.l.now c.args.line) all (fault_before s0 s2 first (text ++ told n) left prefix))
 
 pub loop-edge-preserved : goal.loop-edge-preserved
 loop-edge-preserved g c =
-    let graph = c.args.g.now in
-    let edge = c.loop-edge.edge in
-    let entry = slice_index c.args.entries.now c.from.result in
-    let is = entry_is graph c.args.entries.now edge c.from.result c.requires.flow (omega (arith, c.loop-edge-test.true, c.edges-edge-end.ensures.count)) c.from.ensures.node c.requires.ends in
-    let part = if wire_at c.args.l.now c.args.line entry && not (wire_at c.args.l.now c.args.line edge) then hop_line c.args.l.now c.args.line edge else [] in
-    let told = hop_is graph c.args.l.now c.args.line entry edge c.requires.alike is c.requires.line in
-    let line : ℕ → List ℕ = hop_text c.args.g.now c.args.l.now c.args.line in
-    let k = c.loop-edge.edge in
-    let here : k ≡ 0 + k = omega arith in
+    let first = c.args.buffer.now in
+    let told : ℕ → List ℕ = hop_line c.args.l.now c.args.line in
+    let test = marked c.args.bypasses.now c.args.line in
+    let end = c.edges-end.result in
+    let n = c.in-Some.edge in
+    let below = c.in-Some.ensures.below in
+    let text = flat_map told (members test (first_above c.loop-edge.before)) in
+    let s0 = g.K.Sink.got c.args.sink.now in
+    let s1 = g.K.Sink.got c.loop-edge.sink in
+    let s2 = g.K.Sink.got c.tell_hop.new.sink in
     record {
-      written = line_told line 0 k c.args.buffer.now c.loop-edge.buffer c.tell_hop.new.buffer part
-          (g.K.Sink.got c.args.sink.now) (g.K.Sink.got c.loop-edge.sink) (g.K.Sink.got c.tell_hop.new.sink) (told ∙ ap line here) c.loop-edge.invariant.written c.in_ok-tell_hop.ensures.text;
+      written = begun s0 s2 first c.tell_hop.new.buffer (text ++ told n) (flat_map told (members test (n + 1))) (sym (text_next test told c.loop-edge.before end n c.in-Some.ensures))
+          (told_more s0 s1 s2 first c.loop-edge.buffer c.tell_hop.new.buffer text (told n) c.loop-edge.invariant.written c.in_ok-tell_hop.ensures.text);
       later = omega (arith, c.loop-edge.invariant.later, c.tell_hop.ensures.later);
+      within = omega (arith, below);
     }
 
 pub returns-clause-text : goal.returns-clause-text
 returns-clause-text g c =
-    let line : ℕ → List ℕ = hop_text c.args.g.now c.args.l.now c.args.line in
-    let end : c.loop-edge.edge ≡ (edge_count c.args.g.now) = omega (arith, c.loop-edge-test.false, c.edges-edge-end.ensures.count) in
-    subst (λ (text : List ℕ). IsWrittenBut c.loop-edge.buffer (g.K.Sink.got c.args.sink.now) (g.K.Sink.got c.loop-edge.sink) (c.args.buffer.now ++ text)) (ap (lines line 0) end ∙ hops_are c.args.g.now c.args.l.now c.args.line) c.loop-edge.invariant.written
+    let told : ℕ → List ℕ = hop_line c.args.l.now c.args.line in
+    let test = marked c.args.bypasses.now c.args.line in
+    let end = c.edges-end.result in
+    let all : flat_map told (members test (first_above c.loop-edge.before)) ≡ hops_text c.args.g.now c.args.l.now c.args.line =
+    ap (flat_map told) (sym (members_all test c.loop-edge.before end c.loop-edge.invariant.within c.in_default.ensures))
+    ∙ ap (λ e. flat_map told (members test e)) c.edges-end.ensures.count
+    ∙ hops_are c.args.g.now c.args.l.now c.args.bypasses.now c.args.line c.requires.bypasses c.requires.line in
+    begun (g.K.Sink.got c.args.sink.now) (g.K.Sink.got c.loop-edge.sink) c.args.buffer.now c.loop-edge.buffer (flat_map told (members test (first_above c.loop-edge.before))) (hops_text c.args.g.now c.args.l.now c.args.line) all c.loop-edge.invariant.written
