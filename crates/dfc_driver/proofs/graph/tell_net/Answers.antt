@@ -1,4 +1,5 @@
 use Rattle.std.proofs.Common.{◌∙◌, List, ℕ, ap, arith, refl, sym, subst, append-nil}
+use Rattle.std.proofs.KnownBytes.{Keeps-refl}
 use Rattle.std.specs.Io.KnownBytes.{Appends}
 use Rattle.class_set.specs.declared.ClassSet.{ClassSet}
 use Rattle.closed_walks.specs.Graph.{Graph, edge_count}
@@ -40,6 +41,9 @@ tell-requires-clause-own g c =
 pub tell-requires-clause-sets : goal.tell-requires-clause-sets
 tell-requires-clause-sets g c =
     subst (λ (xs : List (ClassSet CLASS_WORDS)). AreNameSets c.args.program.now.names c.args.drawn.now.analysis.classes xs) (sym c.as_slice-sets.ensures.value) c.requires.drawn.sets
+
+pub returns-in_default-tables_of_edges-clause-due : goal.returns-in_default-tables_of_edges-clause-due
+returns-in_default-tables_of_edges-clause-due g c = Keeps-refl (g.K.Sink.got c.args.sink.now)
 
 pub returns-in-Ok-tell-clause-due : goal.returns-in-Ok-tell-clause-due
 returns-in-Ok-tell-clause-due g c =
