@@ -1,9 +1,9 @@
 //! `dfc`, a dependence flow graph compiler for integer Fortran 77.
 #![tactic(auto)]
 
-use buffered_sink::Buffer;
-use df_io::{StdSink, StdSource};
-use dfc_buffered::dfc_buffered;
+use buffered_sink::{Buffer, BufferedSink};
+use df_io::{Failed, StdSink, StdSource};
+use dfc_driver::dfc_main;
 use std::process::ExitCode;
 use std::{env, io};
 
@@ -13,6 +13,9 @@ const NO_WORDS: u8 = 8;
 // There was no memory for the words or for the buffer.
 const NO_MEMORY: u8 = 7;
 
+// Standard output failed.
+const WRITE_FAULT: u8 = 6;
+
 fn main(rt: HostRuntime) -> ExitCode {
     match arguments(&rt) {
         Ok(words) => ExitCode::from(do_words(&rt, &words)),
@@ -20,14 +23,23 @@ fn main(rt: HostRuntime) -> ExitCode {
     }
 }
 
-// Does what the words ask for on standard input and output, and answers the status to end with.
+// Does what the words ask for on standard input and output, and answers the status to end with. Output goes out in pieces of 64 KiB,
+// so that a long trace is not a system call for each line.
 fn do_words(rt: &HostRuntime, words: &Vec<String>) -> u8 {
-    let Ok(buffer) = Buffer::new(rt.alloc()) else {
+    let Ok(mut buffer) = Buffer::new(rt.alloc()) else {
         return NO_MEMORY;
     };
     let mut source = StdSource::new(rt.stdin());
-    let output = StdSink::new(rt.stdout());
-    dfc_buffered(rt.alloc(), words, &mut source, output, buffer).0
+    let mut output = StdSink::new(rt.stdout());
+    let mut sink = BufferedSink::new(&mut buffer, &mut output);
+    let status = dfc_main(rt.alloc(), words, &mut source, &mut sink);
+    if status == WRITE_FAULT {
+        return status;
+    }
+    match sink.flush() {
+        Ok(()) => status,
+        Err(Failed) => WRITE_FAULT,
+    }
 }
 
 // The words after the program's name, or the status to end with.
