@@ -94,7 +94,7 @@ index-name names k differ lt =
 
 -- ---- forms
 
-same_kind : (kind : Kind) → is_kind kind (Some kind) ≡ true
+pub same_kind : (kind : Kind) → is_kind kind (Some kind) ≡ true
 same_kind Integer = refl
 same_kind Logical = refl
 
@@ -260,7 +260,7 @@ module _ (names : List NameInfo) (differ : NamesDiffer names) (free : HasNoPrint
       in
       plain_kinded (kind_of names k) (Call name args) (kind-Call names name args (Some (kind_of names k)) (alone_kinded Integer (a ∷ more) all) of)
 
-  row_count : {m : _} (row : Row_of-Expr m) → length (row_forms names row) ≡ row_length row
+  pub row_count : {m : _} (row : Row_of-Expr m) → length (row_forms names row) ≡ row_length row
   row_count end_of-Expr = refl
   row_count (more_of-Expr e rest) = ap suc (row_count rest)
 

@@ -69,12 +69,12 @@ labels_are count (m ∷ ms) few all =
 
 -- ---- expressions
 
-taken-one : (kind : Kind) → words_taken (taken_as kind) ≡ 1
+pub taken-one : (kind : Kind) → words_taken (taken_as kind) ≡ 1
 taken-one Integer = refl
 taken-one Logical = words_taken_apply Truth (Input ∷ [])
 
 -- the value of an assignment that takes no data is an expression of the program
-value_proper : (names : List NameInfo) (target : Access) (value : Expr) → IsAssignment names target value → (words_taken value == 1) ≡ false → IsProper names value
+pub value_proper : (names : List NameInfo) (target : Access) (value : Expr) → IsAssignment names target value → (words_taken value == 1) ≡ false → IsProper names value
 value_proper names target value is none =
     ⊎_elim
     (λ (of : IsOfKind names (kind_of names target.name) value). of.proper)

@@ -1,3 +1,4 @@
 pub mod PrintedArrays
 pub mod PrintedStatements
 pub mod ReadLines
+pub mod SourceStatements

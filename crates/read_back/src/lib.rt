@@ -5,7 +5,11 @@
 mod expressions;
 mod lines;
 mod programs;
+mod refusals;
 
 pub use expressions::printed_expressions_are_themselves;
 pub use lines::printed_lines_are_read;
-pub use programs::printed_programs_are_read_by_statements;
+pub use programs::{
+    printed_programs_are_read_by_statements, printed_programs_have_their_statements,
+};
+pub use refusals::printed_statements_are_in_order;

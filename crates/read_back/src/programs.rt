@@ -5,6 +5,7 @@ ghost use Rattle.f77_tree.specs.declared.programs.Program.{Program};
 ghost use Rattle.flat_programs.specs.declared.statements.FlatLine.{FlatLine};
 ghost use Rattle.flat_programs.specs.Text.{text};
 ghost use Rattle.read_back.specs.PrintedStatements.{AreReadAs, CanBeText, labelled_from, written_statements};
+ghost use Rattle.read_back.specs.SourceStatements.{HasStatements, statements_read};
 
 use f77_parse::one_answer;
 
@@ -15,4 +16,11 @@ pub fn printed_programs_are_read_by_statements()
     ensures { (q : Program) (flat : List FlatLine) → CanBeText q flat → AreReadAs (text q flat) (labelled_from 1 (written_statements q flat)) }
 {
     one_answer();
+}
+
+/// The statements of the printed text of such a program are what its declarations and its flat statements are written as.
+pub fn printed_programs_have_their_statements()
+    ensures { (q : Program) (flat : List FlatLine) → CanBeText q flat → HasStatements (text q flat) (statements_read q flat) }
+{
+    printed_programs_are_read_by_statements();
 }
