@@ -170,7 +170,7 @@ module _ (names : List NameInfo) (table : All IsNameInfo names) where
 
   -- ---- EQUIVALENCE
 
-  subs_written : (m : Member) → IsMember names m → All CanBeWritten m.subs
+  pub subs_written : (m : Member) → IsMember names m → All CanBeWritten m.subs
   subs_written m is =
       ⊎_elim
       (λ (none : m.subs ≡ []). subst (λ subs. All CanBeWritten subs) (sym none) (All-nil CanBeWritten))

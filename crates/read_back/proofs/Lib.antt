@@ -1,5 +1,6 @@
 mod DeclaredEach
 mod DeclaredForms
+mod DeclaredTable
 mod ExpressionInduction
 mod FirstFaults
 mod FoldedDepth
@@ -8,10 +9,12 @@ mod Folds
 mod LabelColumns
 mod LineBlocks
 mod MarkPlaces
+mod NamedForms
 mod PlainParts
 mod PlainTexts
 mod PrintedBlocks
 mod PrintedCards
+mod PrintedDimensions
 mod PrintedJumps
 mod PrintedKinds
 mod PrintedLabels
@@ -20,10 +23,15 @@ mod PrintedOrder
 mod PrintedPlaces
 mod PrintedRead
 mod PrintedSource
+mod PrintedTable
 mod PrintedTrees
+mod PrintedTypes
 mod Prints
 mod ProgramRead
+mod ReadForms
 mod RepeatBound
 mod ShownForms
 mod SourceStatements
+mod StatementParts
+mod TypedFirst
 mod WrittenNumbers

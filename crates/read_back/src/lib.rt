@@ -12,4 +12,7 @@ pub use lines::printed_lines_are_read;
 pub use programs::{
     printed_programs_are_read_by_statements, printed_programs_have_their_statements,
 };
-pub use refusals::printed_statements_are_in_order;
+pub use refusals::{
+    printed_arrays_have_their_dimensions, printed_names_are_those_of_the_table,
+    printed_statements_are_in_order,
+};

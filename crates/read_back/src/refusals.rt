@@ -2,12 +2,18 @@
 
 ghost use Rattle.std.specs.Prelude.{◌≡◌, List, [], None};
 ghost use Rattle.f77_tree.specs.declared.programs.Program.{Program};
+ghost use Rattle.f77_tree.specs.OtherPlaces.{without_places};
+ghost use Rattle.f77_layout.specs.Appearances.{has_real_name};
 ghost use Rattle.f77_layout.specs.Faults.{first_line};
 ghost use Rattle.f77_layout.specs.Jumps.{jumps_into};
 ghost use Rattle.f77_layout.specs.Labels.{is_labelled_twice, lacks_label};
+ghost use Rattle.f77_layout.specs.Layout.{names_of};
 ghost use Rattle.f77_layout.specs.Nesting.{first_unnested};
 ghost use Rattle.f77_layout.specs.Order.{is_out_of_order};
+ghost use Rattle.f77_layout.specs.StorageFaults.{has_dims_twice, has_wrong_dims, has_wrong_member};
+ghost use Rattle.f77_layout.specs.TypeFaults.{has_wrong_type};
 ghost use Rattle.flat_programs.specs.declared.statements.FlatLine.{FlatLine};
+ghost use Rattle.read_back.specs.PrintedArrays.{HasNoPrintedArrays};
 ghost use Rattle.read_back.specs.PrintedStatements.{CanBeText};
 ghost use Rattle.read_back.specs.SourceStatements.{statements_read};
 
@@ -20,4 +26,21 @@ pub fn printed_statements_are_in_order()
     ensures label_borne { (q : Program) (flat : List FlatLine) → CanBeText q flat → first_line (lacks_label (statements_read q flat)) (statements_read q flat) ≡ None }
     ensures nesting { (q : Program) (flat : List FlatLine) → CanBeText q flat → first_unnested [] (statements_read q flat) ≡ None }
     ensures jumps { (q : Program) (flat : List FlatLine) → CanBeText q flat → first_line (jumps_into (statements_read q flat)) (statements_read q flat) ≡ None }
+{}
+
+/// The names that appear in the statements that a printed program is read as are those of its table, in this order, with their kinds and
+/// dimensions (ANSI X3.9-1978, sections 4.1 and 5); so no name is real, no kind is given twice, and no kind is wrong (sections 8.4, 8.5
+/// and 10). No array bears a name with which an intrinsic function is printed.
+pub fn printed_names_are_those_of_the_table()
+    ensures table { (q : Program) (flat : List FlatLine) → CanBeText q flat → HasNoPrintedArrays q.names → names_of (statements_read q flat) ≡ without_places q.names }
+    ensures known { (q : Program) (flat : List FlatLine) → CanBeText q flat → HasNoPrintedArrays q.names → first_line (has_real_name (statements_read q flat)) (statements_read q flat) ≡ None }
+    ensures kinds { (q : Program) (flat : List FlatLine) → CanBeText q flat → HasNoPrintedArrays q.names → first_line (has_wrong_type (names_of (statements_read q flat))) (statements_read q flat) ≡ None }
+{}
+
+/// Each array of a printed program has its dimensions in one of the statements that the program is read as, and no more elements than an
+/// array may have; members of EQUIVALENCE and items of DATA lie within these dimensions (ANSI X3.9-1978, sections 5.1, 8.2 and 9).
+pub fn printed_arrays_have_their_dimensions()
+    ensures once { (q : Program) (flat : List FlatLine) → CanBeText q flat → first_line has_dims_twice (statements_read q flat) ≡ None }
+    ensures sizes { (q : Program) (flat : List FlatLine) → CanBeText q flat → first_line (λ above s. has_wrong_dims s) (statements_read q flat) ≡ None }
+    ensures members { (q : Program) (flat : List FlatLine) → CanBeText q flat → HasNoPrintedArrays q.names → first_line (λ above s. has_wrong_member (names_of (statements_read q flat)) s) (statements_read q flat) ≡ None }
 {}
