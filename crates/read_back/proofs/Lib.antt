@@ -6,6 +6,7 @@ mod FirstFaults
 mod FoldedDepth
 mod FoldedTexts
 mod Folds
+mod GatheredParts
 mod LabelColumns
 mod LineBlocks
 mod MarkPlaces
@@ -14,6 +15,7 @@ mod PlainParts
 mod PlainTexts
 mod PrintedBlocks
 mod PrintedCards
+mod PrintedCommon
 mod PrintedDimensions
 mod PrintedJumps
 mod PrintedKinds
@@ -28,6 +30,7 @@ mod PrintedTrees
 mod PrintedTypes
 mod Prints
 mod ProgramRead
+mod ReadDeclarations
 mod ReadForms
 mod RepeatBound
 mod ShownForms

@@ -89,19 +89,19 @@ none_any p [] h = All-nil (λ x. p x ≡ false)
 none_any p (x ∷ xs) h = let parts = or_parts (p x) (list_any p xs) h in All-cons (λ y. p y ≡ false) x xs parts.0 (none_any p xs parts.1)
 
 -- neither long nor deep
-record IsShort (xs : List ℕ) : Type 0 where
-  length_few : length xs ≤ most_characters
-  depth_few : bracket_depth xs ≤ deepest_allowed
+pub record IsShort (xs : List ℕ) : Type 0 where
+  pub length_few : length xs ≤ most_characters
+  pub depth_few : bracket_depth xs ≤ deepest_allowed
 
-is_short : (t : Typeset) → is_long t ≡ false → IsShort t.text
+pub is_short : (t : Typeset) → is_long t ≡ false → IsShort t.text
 is_short t h =
     let parts = or_parts (nat_lt most_characters (length t.text)) (nat_lt deepest_allowed (bracket_depth t.text)) h in
     record { length_few = ltb-false most_characters (length t.text) parts.0; depth_few = ltb-false deepest_allowed (bracket_depth t.text) parts.1 }
 
-abbrev is_long_alone : WrittenStatement → Bool
+abbrev pub is_long_alone : WrittenStatement → Bool
 is_long_alone w = is_long (page.unlabelled w)
 
-inits_short : (q : Program) (flat : List FlatLine) → page.has_long_text q flat ≡ false → list_any is_long_alone (map init_statement q.inits) ≡ false
+pub inits_short : (q : Program) (flat : List FlatLine) → page.has_long_text q flat ≡ false → list_any is_long_alone (map init_statement q.inits) ≡ false
 inits_short q flat short =
     let front = map page.unlabelled (declared q) in
     let rest = flat_map (page.typeset_at q.names flat) (range_with_len 0 (length flat)) in

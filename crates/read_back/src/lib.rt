@@ -2,17 +2,19 @@
 //! compiler is here.
 #![tactic(auto)]
 
+mod declarations;
 mod expressions;
 mod lines;
 mod programs;
 mod refusals;
 
+pub use declarations::printed_groups_and_data_are_read_again;
 pub use expressions::printed_expressions_are_themselves;
 pub use lines::printed_lines_are_read;
 pub use programs::{
     printed_programs_are_read_by_statements, printed_programs_have_their_statements,
 };
 pub use refusals::{
-    printed_arrays_have_their_dimensions, printed_names_are_those_of_the_table,
-    printed_statements_are_in_order,
+    printed_arrays_have_their_dimensions, printed_names_are_common_once,
+    printed_names_are_those_of_the_table, printed_statements_are_in_order,
 };

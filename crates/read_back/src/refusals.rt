@@ -10,7 +10,7 @@ ghost use Rattle.f77_layout.specs.Labels.{is_labelled_twice, lacks_label};
 ghost use Rattle.f77_layout.specs.Layout.{names_of};
 ghost use Rattle.f77_layout.specs.Nesting.{first_unnested};
 ghost use Rattle.f77_layout.specs.Order.{is_out_of_order};
-ghost use Rattle.f77_layout.specs.StorageFaults.{has_dims_twice, has_wrong_dims, has_wrong_member};
+ghost use Rattle.f77_layout.specs.StorageFaults.{has_dims_twice, has_wrong_dims, has_wrong_member, is_common_twice};
 ghost use Rattle.f77_layout.specs.TypeFaults.{has_wrong_type};
 ghost use Rattle.flat_programs.specs.declared.statements.FlatLine.{FlatLine};
 ghost use Rattle.read_back.specs.PrintedArrays.{HasNoPrintedArrays};
@@ -35,6 +35,11 @@ pub fn printed_names_are_those_of_the_table()
     ensures table { (q : Program) (flat : List FlatLine) → CanBeText q flat → HasNoPrintedArrays q.names → names_of (statements_read q flat) ≡ without_places q.names }
     ensures known { (q : Program) (flat : List FlatLine) → CanBeText q flat → HasNoPrintedArrays q.names → first_line (has_real_name (statements_read q flat)) (statements_read q flat) ≡ None }
     ensures kinds { (q : Program) (flat : List FlatLine) → CanBeText q flat → HasNoPrintedArrays q.names → first_line (has_wrong_type (names_of (statements_read q flat))) (statements_read q flat) ≡ None }
+{}
+
+/// No name stands twice in the COMMON statements that a printed program is read as (ANSI X3.9-1978, section 8.3).
+pub fn printed_names_are_common_once()
+    ensures { (q : Program) (flat : List FlatLine) → CanBeText q flat → first_line is_common_twice (statements_read q flat) ≡ None }
 {}
 
 /// Each array of a printed program has its dimensions in one of the statements that the program is read as, and no more elements than an
