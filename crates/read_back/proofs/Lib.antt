@@ -24,6 +24,7 @@ mod PrintedNesting
 mod PrintedOrder
 mod PrintedPlaces
 mod PrintedRead
+mod PrintedRefusals
 mod PrintedSource
 mod PrintedTable
 mod PrintedTrees

@@ -2,3 +2,4 @@ pub mod PrintedArrays
 pub mod PrintedStatements
 pub mod ReadLines
 pub mod SourceStatements
+pub mod StorageRefusals

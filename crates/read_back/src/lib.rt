@@ -16,5 +16,6 @@ pub use programs::{
 };
 pub use refusals::{
     printed_arrays_have_their_dimensions, printed_names_are_common_once,
-    printed_names_are_those_of_the_table, printed_statements_are_in_order,
+    printed_names_are_those_of_the_table, printed_programs_are_refused_for_storage_alone,
+    printed_statements_are_in_order,
 };

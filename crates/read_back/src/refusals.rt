@@ -1,13 +1,14 @@
 //! Faults of statements that no printed statement has.
 
-ghost use Rattle.std.specs.Prelude.{◌≡◌, List, [], None};
+ghost use Rattle.std.specs.Prelude.{◌≡◌, Bool, List, [], None, Err};
 ghost use Rattle.f77_tree.specs.declared.programs.Program.{Program};
 ghost use Rattle.f77_tree.specs.OtherPlaces.{without_places};
+ghost use Rattle.f77_layout.specs.declared.layout_end.LayoutEnd.{LayoutEnd};
 ghost use Rattle.f77_layout.specs.Appearances.{has_real_name};
 ghost use Rattle.f77_layout.specs.Faults.{first_line};
 ghost use Rattle.f77_layout.specs.Jumps.{jumps_into};
 ghost use Rattle.f77_layout.specs.Labels.{is_labelled_twice, lacks_label};
-ghost use Rattle.f77_layout.specs.Layout.{names_of};
+ghost use Rattle.f77_layout.specs.Layout.{layout, names_of};
 ghost use Rattle.f77_layout.specs.Nesting.{first_unnested};
 ghost use Rattle.f77_layout.specs.Order.{is_out_of_order};
 ghost use Rattle.f77_layout.specs.StorageFaults.{has_dims_twice, has_wrong_dims, has_wrong_member, is_common_twice};
@@ -16,6 +17,7 @@ ghost use Rattle.flat_programs.specs.declared.statements.FlatLine.{FlatLine};
 ghost use Rattle.read_back.specs.PrintedArrays.{HasNoPrintedArrays};
 ghost use Rattle.read_back.specs.PrintedStatements.{CanBeText};
 ghost use Rattle.read_back.specs.SourceStatements.{statements_read};
+ghost use Rattle.read_back.specs.StorageRefusals.{IsOfStorage};
 
 /// No statement that a printed program is read as is out of order (ANSI X3.9-1978, section 3.5); none bears a label of another one, or
 /// uses a label that no statement bears (sections 3.4 and 11); their DOs are nested, and none jumps into the range of a DO from outside
@@ -48,4 +50,10 @@ pub fn printed_arrays_have_their_dimensions()
     ensures once { (q : Program) (flat : List FlatLine) → CanBeText q flat → first_line has_dims_twice (statements_read q flat) ≡ None }
     ensures sizes { (q : Program) (flat : List FlatLine) → CanBeText q flat → first_line (λ above s. has_wrong_dims s) (statements_read q flat) ≡ None }
     ensures members { (q : Program) (flat : List FlatLine) → CanBeText q flat → HasNoPrintedArrays q.names → first_line (λ above s. has_wrong_member (names_of (statements_read q flat)) s) (statements_read q flat) ≡ None }
+{}
+
+/// The statements that a printed program is read as are refused by the layout, if at all, for what they ask of storage or of operations. No
+/// array bears a name with which an intrinsic function is printed.
+pub fn printed_programs_are_refused_for_storage_alone()
+    ensures { (q : Program) (flat : List FlatLine) (checked : Bool) (end : LayoutEnd) → CanBeText q flat → HasNoPrintedArrays q.names → layout (statements_read q flat) checked ≡ Err end → IsOfStorage end }
 {}

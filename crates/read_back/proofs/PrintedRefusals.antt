@@ -1,0 +1,78 @@
+-- What a printed program can be refused for by the layout: storage and operations alone.
+use Rattle.std.proofs.Common.{◌≡◌, ℕ, Bool, List, [], sym, ap, ◌∙◌, subst, arith, Option, Some, None, Err}
+use Rattle.f77_tree.specs.declared.programs.Program.{Program}
+use Rattle.f77_tree.specs.declared.statements.Labelled.{Labelled}
+use Rattle.f77_layout.specs.declared.layout_end.LayoutEnd.{LayoutEnd}
+use Rattle.f77_layout.specs.declared.layout_end.LayoutEnd.TheVariants.{OutOfOrder, RealName, TypeWrong, LayoutWrong, LabelTwice, LabelMissing, BadNesting, JumpInto, TooManyWords, TooManyOps}
+use Rattle.f77_layout.specs.Appearances.{has_real_name}
+use Rattle.f77_layout.specs.Counts.{asks_too_much}
+use Rattle.f77_layout.specs.Faults.{first_line, answer_or}
+use Rattle.f77_layout.specs.Jumps.{jumps_into}
+use Rattle.f77_layout.specs.Labels.{is_labelled_twice, lacks_label}
+use Rattle.f77_layout.specs.Layout.{names_of, placed_names, line_of_words, at_line, refusal, layout, program, unless_refused}
+use Rattle.f77_layout.specs.Nesting.{first_unnested}
+use Rattle.f77_layout.specs.Order.{is_out_of_order}
+use Rattle.f77_layout.specs.StorageFaults.{has_wrong_storage}
+use Rattle.f77_layout.specs.TypeFaults.{has_wrong_type}
+use Rattle.flat_programs.specs.declared.statements.FlatLine.{FlatLine}
+use Rattle.read_back.specs.PrintedArrays.{HasNoPrintedArrays}
+use Rattle.read_back.specs.PrintedStatements.{CanBeText}
+use Rattle.read_back.specs.SourceStatements.{statements_read}
+use Rattle.read_back.specs.StorageRefusals.{IsOfStorage}
+use Rattle.read_back.proofs.PrintedJumps.{none_jumps_into}
+use Rattle.read_back.proofs.PrintedLabels.{none_labelled_twice, none_lacks_label}
+use Rattle.read_back.proofs.PrintedNesting.{none_unnested}
+use Rattle.read_back.proofs.PrintedOrder.{none_out_of_order}
+use Rattle.read_back.proofs.PrintedTable.{none_real}
+use Rattle.read_back.proofs.PrintedTypes.{none_wrong_type}
+
+-- a refusal that isn't there leaves the later ones
+skip : (end : ℕ → LayoutEnd) (line : Option ℕ) (later : Option LayoutEnd) → line ≡ None → answer_or (at_line end line) later ≡ later
+skip end line later none = ap (λ found. answer_or (at_line end found) later) none
+
+refused_by : (p : Program) (found : Option LayoutEnd) (end : LayoutEnd) → unless_refused found p ≡ Err end → found ≡ Some end
+refused_by p None end is = absurd cc
+refused_by p (Some other) end is = let same : other ≡ end = cc in ap Some same
+
+of_storage : (wrong words ops : Option ℕ) (end : LayoutEnd) → answer_or (at_line LayoutWrong wrong) (answer_or (at_line TooManyWords words) (answer_or (at_line TooManyOps ops) None)) ≡ Some end → IsOfStorage end
+of_storage (Some line) words ops end is = let same : LayoutWrong line ≡ end = cc in subst IsOfStorage same tt
+of_storage None (Some line) ops end is = let same : TooManyWords line ≡ end = cc in subst IsOfStorage same tt
+of_storage None None (Some line) end is = let same : TooManyOps line ≡ end = cc in subst IsOfStorage same tt
+of_storage None None None end is = absurd cc
+
+module _ (q : Program) (flat : List FlatLine) (given : CanBeText q flat) (free : HasNoPrintedArrays q.names) (checked : Bool) where
+  abbrev stmts : List Labelled
+  stmts = statements_read q flat
+
+  abbrev wrong : Option ℕ
+  wrong = first_line (has_wrong_storage (names_of stmts) (placed_names stmts) stmts) stmts
+
+  abbrev ops : Option ℕ
+  ops = first_line (asks_too_much (names_of stmts) checked stmts) stmts
+
+  abbrev last_ones : Option LayoutEnd
+  last_ones = answer_or (at_line TooManyWords (line_of_words stmts)) (answer_or (at_line TooManyOps ops) None)
+
+  only_storage : refusal stmts checked ≡ answer_or (at_line LayoutWrong wrong) last_ones
+  only_storage =
+      let few = given.few in
+      let later = answer_or (at_line JumpInto (first_line (jumps_into stmts) stmts)) last_ones in
+      let nested = answer_or (at_line BadNesting (first_unnested [] stmts)) later in
+      let missing = answer_or (at_line LabelMissing (first_line (lacks_label stmts) stmts)) nested in
+      let labels : answer_or (at_line LabelTwice (first_line is_labelled_twice stmts)) missing ≡ last_ones =
+      skip LabelTwice (first_line is_labelled_twice stmts) missing (none_labelled_twice q flat)
+      ∙ skip LabelMissing (first_line (lacks_label stmts) stmts) nested (none_lacks_label q flat given.form (omega (arith, few)))
+      ∙ skip BadNesting (first_unnested [] stmts) later (none_unnested q flat given.form (omega (arith, few)))
+      ∙ skip JumpInto (first_line (jumps_into stmts) stmts) last_ones (none_jumps_into q flat given.form (omega (arith, few)))
+      in
+      let stored = answer_or (at_line LayoutWrong wrong) (answer_or (at_line LabelTwice (first_line is_labelled_twice stmts)) missing) in
+      let typed = answer_or (at_line TypeWrong (first_line (has_wrong_type (names_of stmts)) stmts)) stored in
+      let named = answer_or (at_line RealName (first_line (has_real_name stmts) stmts)) typed in
+      skip OutOfOrder (first_line is_out_of_order stmts) named (none_out_of_order q flat given.form)
+      ∙ skip RealName (first_line (has_real_name stmts) stmts) typed (none_real q flat given free)
+      ∙ skip TypeWrong (first_line (has_wrong_type (names_of stmts)) stmts) stored (none_wrong_type q flat given free)
+      ∙ ap (answer_or (at_line LayoutWrong wrong)) labels
+
+  pub refused_for_storage : (end : LayoutEnd) → layout (statements_read q flat) checked ≡ Err end → IsOfStorage end
+  refused_for_storage end is =
+      of_storage wrong (line_of_words stmts) ops end (sym only_storage ∙ refused_by (program stmts checked) (refusal stmts checked) end is)
