@@ -1,18 +1,20 @@
 #!/usr/bin/env python3
 """Runs a built dfc on hostile texts, and looks for runs that break a rule.
 
-    python3 bench/hostile.py PROGRAM [--count N] [--seed S] [--from N] [--limit L] [--seconds T] [--megabytes M] [--save FOLDER] [--other OTHER]
+    python3 bench/hostile.py PROGRAM [--count N] [--seed S] [--from N] [--one] [--whole N] [--large N] [--forking] [--counts FILE]
+                             [--limit L] [--seconds T] [--megabytes M] [--save FOLDER] [--other OTHER]
 
 PROGRAM is a built dfc. A text is made by its number and the seed alone: a text of examples/ or cases/ with one to eight changes of its
-bytes, tokens, lines or labels; or one written at random, well formed for the most part; or, one in a hundred, a large one near the limits
-of the language. Each is run under every job: regions, graph, fire (in both dialects, and by picks), trace, store, regen and run, each in
-a dialect and with data by chance, and with limit=L (2,000) where the job has a limit. The rules:
+bytes, tokens, lines or labels; or one written at random, well formed for the most part; or, one in N of --large (100), a large one near the
+limits of the language. Each is run under every job: regions, graph, fire (in both dialects, and by picks), trace, store, regen and run, each
+in a dialect and with data by chance, and with limit=L (2,000) where the job has a limit; and once with arguments of any kind, those of
+`sample` among them. With --one, a text gets one of these runs, drawn at random, and only one text in N of --whole (100) gets all. The rules:
 
 - no signal ends a run, none takes more than T seconds of the processor (10), and none is given more than M megabytes of memory (1,024);
 - the status is 0, 2, 3, 4 or 7, the last line fits it, and nothing is written to standard error;
 - a refusal is one line `REFUSED line CODE`, with a known code and a line of the text or the one after it, or of the rewriting's at line 0;
 - status 7 comes with nothing written;
-- invalid arguments, as one more run for each text has for the most part, give `USAGE` and status 1, and such as are no text status 8;
+- invalid arguments give `USAGE` and status 1, and such as are no text status 8;
 - every job refuses alike, or none does;
 - runs of one dialect and one list of data that end (0) or trap (3) do so alike: the same trap, the same output, by picks and rewritten
   too; and the output of one that stopped at a limit is a prefix of that of one that ended.
@@ -20,17 +22,22 @@ a dialect and with data by chance, and with limit=L (2,000) where the job has a 
 With --other, each run is made with that compiler of the language too, and both have to write the same and end alike, where neither wants for
 memory. As another compiler may read subroutines, texts with CALL, RETURN or SUBROUTINE are left out, and those that both refuse by BADORDER.
 
-Prints each run that breaks one; saves its text under FOLDER (hostile_found) with the words; and last prints a table: texts, runs by
+With --forking a run is a copy of a process that is loaded once (forking.py). With --counts what came of it is kept in that file now and then, and the
+next run with it goes on after the last text of those; `python3 bench/counts.py FILE..` adds several up.
+
+Prints each run that breaks a rule; saves its text under FOLDER (hostile_found) with the words; and last prints a table: texts, runs by
 status, refusals by code, the slowest run and the largest. The exit status is 1 where a rule was broken.
 """
 import argparse
-import collections
 import glob
 import os
 import random
 import re
+import resource
 import sys
 
+from counts import kept
+from forking import ForkingRunner
 from running import Runner, broken, last_line, refusal
 
 TOP = os.path.dirname(os.path.dirname(os.path.abspath(__file__)))
@@ -296,14 +303,14 @@ def large(chance):
     return "\n".join(lines + ["      END", ""]).encode()
 
 
-def text_of(chance, texts):
-    turn = chance.random()
-    if turn < 0.01:
+def text_of(chance, texts, large_ones=100):
+    """A text; of so many one is large."""
+    if chance.random() * large_ones < 1:
         text = large(chance)
         return text if chance.random() < 0.7 else change_tokens(chance, text)
-    if turn < 0.5:
+    if chance.random() < 0.5:
         return changed(chance, texts)
-    text = Writer(chance, chance.choice([3, 6, 10, 15, 25, 40, 150])).program()
+    text = Writer(chance, chance.choice([3, 6, 10, 15, 25, 40] * 4 + [150])).program()
     for _ in range(chance.choice([0, 0, 0, 1, 2])):
         text = chance.choice([change_tokens, change_lines, change_labels, change_bytes])(chance, text)
     return text
@@ -332,6 +339,9 @@ def hostile_words(chance):
     picks = "picks=" + chance.choice(["0", "1,2", "999999999", "0000000001", "1,", ",1", "", "1,,2", "-1", "1 2", "7" * 9 + ",7"])
     data = "data=" + chance.choice(["1", "-1,2", "2147483647", "2147483648", "-2147483648", "-2147483649", "0000000001", "00000000001", "-",
                                     "--1", "1,", "", "+1", "1,2,3"])
+    number = chance.choice(["1", "2", "13", "0", "-1", "", "000000000000000001", "0000000000000000001", "2000", "2001", "1 ", "4294967297"])
+    if chance.random() < 0.1:
+        return ["sample", number, *(["checked"] if chance.random() < 0.1 else [])]
     words = [chance.choice(["fire", "trace", "store", "run", "graph", "regions", "regen", "fire", "run", "Fire", "fires", "sample", ""]),
              *(word for word in (limit, picks, data, "checked") if chance.random() < 0.5)]
     for _ in range(chance.choice([0, 0, 0, 1, 1, 2]) if words else 0):
@@ -350,6 +360,8 @@ def status_of_words(words):
     """1 where the arguments ask for no job, 8 where they can't be read, else nothing."""
     if any("\udcff" in word for word in words):
         return 8
+    if words[:1] == ["sample"]:
+        return None if len(words) == 2 and re.fullmatch("[0-9]{1,18}", words[1]) and 1 <= int(words[1]) <= 2000 else 1
     forms = [r"limit=[0-9]{1,18}", r"picks=[0-9]{1,9}(,[0-9]{1,9})*", r"data=.*", "checked"]
     allowed = {"fire": forms, "trace": forms, "store": forms, "run": [forms[0], *forms[2:]]}.get(words[0] if words else "", forms[3:])
     rest = words[1:]
@@ -366,8 +378,15 @@ def broken_words(words, answer, lines):
     """The rule that a run with arguments of any kind breaks, or nothing."""
     due = status_of_words(words)
     if due is None:
-        return broken(words, answer, lines)
+        return broken(words, answer, lines) or (broken_sample(words, answer) if words[0] == "sample" else None)
     return None if (answer.status, answer.begin) == (due, b"USAGE\n" if due == 1 else b"") else f"status {answer.status}, due {due}"
+
+
+def broken_sample(words, answer):
+    """The rule that a sample breaks, or nothing: it is done, and its two outputs agree."""
+    lines = answer.begin.split(b"\n")
+    good = answer.status == 0 and len(lines) == 6 and lines[0].startswith(b"SAMPLE %d BYTES " % int(words[1])) and lines[3] == lines[4]
+    return None if good or answer.status == 7 else "it isn't what a sample tells"
 
 
 def output_of(answer):
@@ -397,39 +416,20 @@ def disagree(runs):
     return None
 
 
-class Table:
-    """What the runs came to."""
+class Reports:
+    """Where runs that broke a rule are told and kept."""
 
     def __init__(self, folder):
-        self.folder, self.texts, self.bytes, self.found = folder, 0, 0, 0
-        self.statuses, self.codes = collections.Counter(), collections.Counter()
-        self.slowest, self.largest, self.longest = (0, ""), (0, ""), (0, "")
+        self.folder, self.found = folder, 0
 
-    def add(self, number, words, answer):
-        name = f"text {number}, {' '.join(words)}"
-        self.statuses[answer.status] += 1
-        self.slowest = max(self.slowest, (answer.seconds, name))
-        if answer.status != 7:
-            self.largest = max(self.largest, (answer.megabytes, name))
-        self.longest = max(self.longest, (answer.length, name))
-
-    def report(self, number, text, words, rule):
+    def add(self, number, text, words, rule):
         self.found += 1
         os.makedirs(self.folder, exist_ok=True)
         path = os.path.join(self.folder, f"text_{number}")
         with open(path, "wb") as file, open(path + ".args", "w") as args:
             file.write(text)
             args.write("\n".join(words).encode("utf-8", "replace").decode() + "\n")
-        print(f"text {number}, {' '.join(words)}: {rule}; saved as {path}", flush=True)
-
-    def show(self):
-        print(f"{self.texts} texts of {self.bytes} bytes, {sum(self.statuses.values())} runs")
-        print("runs by status:", ", ".join(f"{status}: {count}" for status, count in sorted(self.statuses.items())))
-        print("texts by refusal:", ", ".join(f"{count} {code}" for code, count in self.codes.most_common()))
-        print("slowest run: %.2f s of the processor (%s)" % self.slowest)
-        print("largest run, but for those of status 7: %.0f MB in memory (%s)" % self.largest)
-        print("longest output: %d bytes (%s)" % self.longest)
-        print(f"{self.found} runs broke a rule")
+        print(f"text {number}, {' '.join(words)[:200]}: {rule}; saved as {path}", flush=True)
 
 
 def differ(text, words, mine, theirs):
@@ -443,29 +443,38 @@ def differ(text, words, mine, theirs):
     return f"status {mine.status}, {mine.end[-60:]!r}; the other has status {theirs.status}, {theirs.end[-60:]!r}"
 
 
-def try_text(chance, runner, table, number, text, lists, other):
-    """Runs one text under every job, and once with arguments of any kind."""
-    runner.put(text)
-    runs, lines = [], text.count(b"\n") + (not text.endswith(b"\n") and text != b"")
-    for words in lists:
-        answer = runner.run(words)
-        runs.append((words, answer))
-        table.add(number, words, answer)
-        rule = broken(words, answer, lines)
-        if other and not rule:
-            rule = differ(text, words, answer, runner.run(words, other))
+class Trial:
+    """Runs of a program on texts, and what came of them."""
+
+    def __init__(self, runner, counts, reports, other):
+        self.runner, self.counts, self.reports, self.other = runner, counts, reports, other
+
+    def try_words(self, number, text, words, rule_of):
+        """One run on the text that was put."""
+        answer = self.runner.run(words)
+        self.counts.add(f"text {number}", words, answer, words[0] if rule_of is broken else "any arguments")
+        rule = rule_of(words, answer, text.count(b"\n") + (not text.endswith(b"\n") and text != b""))
+        if self.other and not rule and rule_of is broken:
+            rule = differ(text, words, answer, self.runner.run(words, self.other))
         if rule:
-            table.report(number, text, words, rule)
-    words = hostile_words(chance)
-    rule = broken_words(words, runner.run(words), lines)
-    if rule:
-        table.report(number, text, words, rule)
-    table.texts, table.bytes = table.texts + 1, table.bytes + len(text)
-    told = refusal(runs[0][1])
-    table.codes[told[1] if told else "accepted"] += 1
-    rule = disagree(runs)
-    if rule:
-        table.report(number, text, *rule)
+            self.reports.add(number, text, words, rule)
+        return answer
+
+    def try_one(self, number, text, lists, hostile, chance):
+        """Runs one text under one of the jobs, or with arguments of any kind."""
+        at = chance.randrange(len(lists) + 1)
+        answer = self.try_words(number, text, *((lists[at], broken) if at < len(lists) else (hostile, broken_words)))
+        if at < len(lists) and lists[at][0] not in ("regen", "run"):
+            self.counts.tell(answer)
+
+    def try_all(self, number, text, lists, hostile):
+        """Runs one text under every job, and once with arguments of any kind."""
+        runs = [(words, self.try_words(number, text, words, broken)) for words in lists]
+        self.try_words(number, text, hostile, broken_words)
+        self.counts.tell(runs[0][1])
+        rule = disagree(runs)
+        if rule:
+            self.reports.add(number, text, *rule)
 
 
 def corpus():
@@ -477,24 +486,47 @@ def corpus():
                 yield file.read()
 
 
-def main():
+def options_of():
     parser = argparse.ArgumentParser(description=__doc__, formatter_class=argparse.RawDescriptionHelpFormatter)
     parser.add_argument("program")
     parser.add_argument("--save", default="hostile_found")
     parser.add_argument("--other")
-    for name, value in [("count", 1000), ("seed", 1), ("from", 0), ("limit", 2000), ("seconds", 10), ("megabytes", 1024)]:
+    parser.add_argument("--counts")
+    for name in ("one", "forking"):
+        parser.add_argument("--" + name, action="store_true")
+    for name, value in [("count", 1000), ("seed", 1), ("from", 0), ("limit", 2000), ("seconds", 10), ("megabytes", 1024), ("whole", 100), ("large", 100)]:
         parser.add_argument("--" + name, type=int, default=value)
-    options = parser.parse_args()
-    runner, table, texts = Runner(options.program, options.seconds, options.megabytes), Table(options.save), list(dict.fromkeys(corpus()))
-    first = getattr(options, "from")
-    for number in range(first, first + options.count):
+    return parser.parse_args()
+
+
+def processor():
+    """The seconds of the processor that this process and those that it started have taken, as far as they have ended."""
+    return sum(it.ru_utime + it.ru_stime for it in map(resource.getrusage, (resource.RUSAGE_SELF, resource.RUSAGE_CHILDREN)))
+
+
+def main():
+    options = options_of()
+    counts, reports, texts = kept(options.counts or ""), Reports(options.save), list(dict.fromkeys(corpus()))
+    runner = (ForkingRunner if options.forking else Runner)(options.program, options.seconds, options.megabytes)
+    trial, first = Trial(runner, counts, reports, options.other), getattr(options, "from")
+    before, taken = counts.found, counts.processor
+    for number in range(first + counts.texts, first + options.count):
         chance = random.Random(options.seed * 1000003 + number)
-        text = text_of(chance, texts)
-        try_text(chance, runner, table, number, text, list(word_lists(chance, options.limit)), options.other)
-        if number % 1000 == 999:
-            print(f"{table.texts} texts, {table.found} runs broke a rule", file=sys.stderr, flush=True)
-    table.show()
-    return 1 if table.found else 0
+        text = text_of(chance, texts, options.large)
+        lists, hostile = list(word_lists(chance, options.limit)), hostile_words(chance)
+        runner.put(text)
+        if options.one and number % options.whole != 0:
+            trial.try_one(number, text, lists, hostile, chance)
+        else:
+            trial.try_all(number, text, lists, hostile)
+        counts.add_text(text)
+        if number % 1000 == 999 or number == first + options.count - 1:
+            counts.found, counts.processor = before + reports.found, taken + processor() + runner.processor()
+            if options.counts:
+                counts.keep(options.counts)
+            print(f"{counts.texts} texts, {counts.found} runs broke a rule", file=sys.stderr, flush=True)
+    counts.show()
+    return 1 if counts.found else 0
 
 
 if __name__ == "__main__":

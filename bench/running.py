@@ -31,6 +31,10 @@ class Runner:
         self.errors = os.path.join(self.folder.name, "errors")
         resource.setrlimit(resource.RLIMIT_AS, (megabytes << 20, resource.getrlimit(resource.RLIMIT_AS)[1]))
 
+    def processor(self):
+        """What runs have taken of the processor that isn't told of this process."""
+        return 0
+
     def put(self, text):
         """Makes these bytes the standard input of the next runs."""
         with open(self.text, "wb") as file:
