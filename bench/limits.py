@@ -101,6 +101,10 @@ def data_digits(count):
     return data("7".rjust(count, "0"))
 
 
+def sample_digits(count):
+    return ["sample", "1".rjust(count, "0")], ""
+
+
 def limit_digits(count):
     return ["fire", "limit=" + "9" * count], text("PRINT *,1")
 
@@ -155,6 +159,10 @@ def blocks(count):
     return fire(*["IF(I.EQ.0)THEN"] * count, *["END IF"] * count)
 
 
+SAMPLE_1 = "SAMPLE 1 BYTES 239\nPIECES 20 EDGES 23 CLASSES 7 REGIONS 16\nLINES 8 NODES 69\n" + " 5 7 1\n" * 2
+SAMPLE_2000 = ("SAMPLE 2000 BYTES 27698\nPIECES 2842 EDGES 3343 CLASSES 1003 REGIONS 2340\nLINES 174 NODES 10859\n"
+               + " 14696 316226023 167\n" * 2)
+
 LIMITS = [
     Limit("text_bytes", 4194304, bytes_of_text, " 1\n", "REFUSED 0 TOOLONG\n"),
     Limit("byte_greatest", 126, lambda code: fire(f"PRINT *,'{chr(code)}'"), " ~\n", "REFUSED 1 BADBYTE\n"),
@@ -191,6 +199,9 @@ LIMITS = [
     Limit("data_greatest", 2147483647, data, " 2147483647\n", "USAGE\n"),
     Limit("data_least", -2147483648, data, " -2147483648\n", "USAGE\n", -1),
     Limit("data_digits", 10, data_digits, " 7\n", "USAGE\n"),
+    Limit("sample_greatest", 2000, lambda number: (["sample", str(number)], ""), SAMPLE_2000, "USAGE\n"),
+    Limit("sample_least", 1, lambda number: (["sample", str(number)], ""), SAMPLE_1, "USAGE\n", -1),
+    Limit("sample_digits", 18, sample_digits, SAMPLE_1, "USAGE\n"),
     Limit("limit", 0, limit_of_firings, "I 2\nJ 5\nFIRED 9\n", "LIMIT 8\n"),
     Limit("firings", 1000000, firings, "I 200000\nFIRED 1000000\n", "LIMIT 1000000\n"),
     Limit("steps", 1000000, steps, " 333333\n", " 333333\nLIMIT 1000000\n"),

@@ -1,13 +1,14 @@
 #!/usr/bin/env python3
 """Runs a built dfc where memory is refused, at each allocation in turn.
 
-    python3 bench/memory.py PROGRAM [--texts FOLDER].. [--most N]
+    python3 bench/memory.py PROGRAM [--texts PATH].. [--most N] [--few]
 
-PROGRAM is a built dfc that asks the C library for memory; `cc` has to be there. The texts are those of examples/, and of each FOLDER the
-files of less than 400 bytes without a dot in their names. Each text is run under every job, fire and store by picks too, with data and with
-limit=500 where the job takes them; first with ample memory, and then with the allocation number k refused, for each k (at most N of a
-run, 3,000, spread over all): once alone, and once with every later one. Each run has to end with status 7 and nothing written, or as with
-ample memory.
+PROGRAM is a built dfc that asks the C library for memory; `cc` has to be there. The texts are four of cases/ (`sequence`, `shared_word` and
+`euclid` of cases/fire, `two_ways` of cases/regions), those of examples/, unless --few leaves them out, and each PATH, or where it is a folder
+its files of less than 400 bytes without a dot in their names. Each text is run under every job, fire and store by picks too, with data and with
+limit=500 where the job takes them; and `sample 1` is, on no text. First each run has ample memory, and then the allocation number k is refused,
+for each k (at most N of a run, 3,000, spread over all): once alone, and once with every later one. Each run has to end with status 7 and
+nothing written, or as with ample memory.
 
 Prints each run that doesn't, and last how many did. The exit status is 1 where any doesn't.
 """
@@ -19,6 +20,7 @@ import sys
 import tempfile
 
 TOP = os.path.dirname(os.path.dirname(os.path.abspath(__file__)))
+FIRST = ["fire/sequence", "fire/shared_word", "fire/euclid", "regions/two_ways"]
 GAME = ["limit=500", "data=3,5,-4,7,1,2,9"]
 LISTS = [["regions"], ["graph"], ["regen", "checked"], ["run"] + GAME, ["fire"] + GAME, ["fire", "limit=500", "picks=7,3,5"] + GAME[1:],
          ["trace"] + GAME, ["store", "limit=500", "picks=1"] + GAME[1:] + ["checked"]]
@@ -73,23 +75,31 @@ def refusals(program, words, text, library, most):
     return wrong, runs
 
 
+def paths_of(options):
+    """The paths of the texts."""
+    paths = [os.path.join(TOP, "cases", name) for name in FIRST]
+    paths += [] if options.few else sorted(glob.glob(os.path.join(TOP, "examples", "*.f")))
+    for path in options.texts:
+        names = sorted(glob.glob(os.path.join(path, "*"))) if os.path.isdir(path) else [path]
+        paths += [it for it in names if it == path or "." not in os.path.basename(it) and os.path.getsize(it) < 400]
+    return paths
+
+
 def main():
     parser = argparse.ArgumentParser(description=__doc__, formatter_class=argparse.RawDescriptionHelpFormatter)
     parser.add_argument("program")
     parser.add_argument("--texts", action="append", default=[])
     parser.add_argument("--most", type=int, default=3000)
+    parser.add_argument("--few", action="store_true")
     options = parser.parse_args()
-    paths = sorted(glob.glob(os.path.join(TOP, "examples", "*.f")))
-    for folder in options.texts:
-        names = [path for path in sorted(glob.glob(os.path.join(folder, "*"))) if "." not in os.path.basename(path)]
-        paths += [path for path in names if os.path.getsize(path) < 400]
+    paths = paths_of(options)
     total, found = 0, 0
     with tempfile.TemporaryDirectory() as folder:
         library = compiled(folder)
-        for path in paths:
+        for path in [os.devnull, *paths]:
             with open(path, "rb") as file:
                 text = file.read()
-            for words in LISTS:
+            for words in LISTS if path != os.devnull else [["sample", "1"]]:
                 wrong, runs = refusals(options.program, words, text, library, options.most)
                 total, found = total + runs, found + len(wrong)
                 print("".join(f"{os.path.relpath(path)}, {it}\n" for it in wrong), end="", flush=True)

@@ -1,7 +1,7 @@
 use crate::top::{DIVIDES, Faults, TWO_WAYS, failing};
 use std::test::Fail;
 
-const GRAPH: &str = "LINES 3 NODES 10
+pub(crate) const GRAPH: &str = "LINES 3 NODES 10
 L 0 *OUT
 L 1 I
 L 2 J
@@ -31,7 +31,7 @@ H 2 1 2
 H 2 7 0
 ";
 
-const TRACE: &str = "0 OP 1 0
+pub(crate) const TRACE: &str = "0 OP 1 0
 1 OP 2 0
 2 OP 2 1
 3 OP 2 2
@@ -55,7 +55,7 @@ const PICKED: &str = "0 OP 1 0
 9 OP 5 1
 ";
 
-const STORE: &str = "I 2
+pub(crate) const STORE: &str = "I 2
 J 5
 FIRED 10
 ";

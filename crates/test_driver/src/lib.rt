@@ -3,7 +3,11 @@
 #![tactic(auto)]
 
 #[cfg(test)]
+mod every_job;
+#[cfg(test)]
 mod jobs;
+#[cfg(test)]
+mod limits;
 #[cfg(test)]
 mod never;
 #[cfg(test)]

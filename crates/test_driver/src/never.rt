@@ -6,7 +6,7 @@ use std::alloc::Global;
 use std::test::Fail;
 
 // It has 52 bytes.
-const TEXT: &str = "      I=2\n      J=I*I+1\n      PRINT *,J,I\n      END\n";
+pub(crate) const TEXT: &str = "      I=2\n      J=I*I+1\n      PRINT *,J,I\n      END\n";
 
 // Over a source and a sink that never fail, neither is ever blamed.
 fn status_over(
@@ -27,12 +27,16 @@ fn blames_neither(rt: HostRuntime) -> Result<(), Fail> {
         (["fire"].as_slice(), 52, 0, 5),
         (["fire", "picks=3,1,2"].as_slice(), 52, 0, 5),
         (["fire", "limit=8"].as_slice(), 52, 4, 8),
+        (["regions"].as_slice(), 52, 0, 179),
+        (["graph"].as_slice(), 52, 0, 304),
+        (["graph", "checked"].as_slice(), 52, 0, 312),
         (["trace"].as_slice(), 52, 0, 81),
         (["store"].as_slice(), 52, 0, 16),
         (["run"].as_slice(), 52, 0, 5),
         (["regen"].as_slice(), 52, 0, 80),
         (["fire"].as_slice(), 24, 2, 16),
         (["fires"].as_slice(), 52, 1, 6),
+        (["sample", "1"].as_slice(), 52, 0, 89),
     ] {
         let mut given = Vec::new(rt.alloc());
         for word in words {

@@ -33,7 +33,7 @@ pub(crate) struct Faults {
     pub(crate) sink: [u32; 1],
 }
 
-const NONE: Faults = Faults {
+pub(crate) const NONE: Faults = Faults {
     source: [u32::MAX],
     sink: [u32::MAX],
 };
@@ -196,7 +196,7 @@ fn takes_data_and_the_dialect(rt: HostRuntime) -> Result<(), Fail> {
     Ok(())
 }
 
-const REGIONS: &str = "PIECES 7 EDGES 8 CLASSES 3 REGIONS 5
+pub(crate) const REGIONS: &str = "PIECES 7 EDGES 8 CLASSES 3 REGIONS 5
 P 0 START 0
 P 1 ACT 1
 P 2 BRANCH 2
@@ -338,12 +338,26 @@ pub(crate) fn failing(
     text: &str,
     faults: &Faults,
 ) -> Result<(u8, MemSink), Fail> {
+    told(alloc, words, text.as_bytes(), faults, (16, 2))
+}
+
+/// The same where one call of the source gives, and one of the sink takes, at most so many bytes.
+pub(crate) fn told(
+    alloc: Global,
+    words: &[&str],
+    text: &[u8],
+    faults: &Faults,
+    pieces: (u32, u32),
+) -> Result<(u8, MemSink), Fail>
+    requires given { 0 < pieces.0 }
+    requires taken { 0 < pieces.1 }
+{
     let mut given = Vec::new(alloc);
     for word in words {
         given.push(String::from_str(alloc, word)?)?;
     }
-    let mut source = MemSource::new(alloc, text.as_bytes(), &faults.source, 16)?;
-    let mut sink = MemSink::new(alloc, 1000, &faults.sink, 2)?;
+    let mut source = MemSource::new(alloc, text, &faults.source, pieces.0)?;
+    let mut sink = MemSink::new(alloc, 1_000_000, &faults.sink, pieces.1)?;
     let status = dfc_main(alloc, &given, &mut source, &mut sink);
     Ok((status, sink))
 }
