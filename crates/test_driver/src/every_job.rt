@@ -48,33 +48,51 @@ fn blames_each_read_of_each_job(rt: HostRuntime) -> Result<(), Fail> {
             };
             let (status, sink) = told(rt.alloc(), words, TWO_WAYS.as_bytes(), &faults, (8, 100))?;
             assert_eq!(&rt; status, if call < calls { 5 } else { 0 });
-            assert_eq!(&rt; sink.written(), if call < calls { b"".as_slice() } else { due.as_bytes() });
+            assert_eq!(&rt;
+                sink.written(),
+                if call < calls {
+                    b"".as_slice()
+                } else {
+                    due.as_bytes()
+                }
+            );
         }
     }
     Ok(())
 }
 
-// Each write of single bytes fails in turn: so many bytes were written before.
+// Each write fails in turn, and after the last one none does. Each takes eight bytes at most.
+fn check_writes(rt: &impl Abort, alloc: Global, words: &[&str], due: &str) -> Result<(), Fail> {
+    let most = due.len().div_ceil(8) as u32;
+    let mut is_whole = false;
+    for call in 0..due.len() as u32 {
+        let faults = Faults {
+            source: [u32::MAX],
+            sink: [call],
+        };
+        let (status, sink) = told(alloc, words, TWO_WAYS.as_bytes(), &faults, (100, 8))?;
+        is_whole = sink.written() == due.as_bytes();
+        assert_eq!(rt; status, if is_whole { 0 } else { 6 });
+        assert_eq!(rt; due.as_bytes().starts_with(sink.written()), true);
+        assert_eq!(rt; is_whole && call < most, false);
+        if is_whole {
+            break;
+        }
+    }
+    assert_eq!(rt; is_whole, true);
+    Ok(())
+}
+
 #[test]
 fn blames_each_write_of_each_job(rt: HostRuntime) -> Result<(), Fail> {
     for (words, due) in JOBS {
-        let mut before = 0;
-        for _ in due.as_bytes() {
-            let faults = Faults {
-                source: [u32::MAX],
-                sink: [before],
-            };
-            let (status, sink) = told(rt.alloc(), words, TWO_WAYS.as_bytes(), &faults, (100, 1))?;
-            assert_eq!(&rt; status, 6);
-            assert_eq!(&rt; sink.written().len(), before as usize);
-            assert_eq!(&rt; due.as_bytes().starts_with(sink.written()), true);
-            before = before.saturating_add(1);
-        }
+        check_writes(&rt, rt.alloc(), words, due)?;
     }
     Ok(())
 }
 
-const TRAPS: &str = "      PRINT *,(-2147483647-1)/(-1)\n      PRINT *,2**(-1),(-1)**(-3),MOD(-7,3)\n      PRINT *,0**(-1)\n      END\n";
+const TRAPS: &str =
+    "      PRINT *,(-2147483647-1)/(-1)\n      PRINT *,2**(-1),(-1)**(-3),MOD(-7,3)\n      PRINT *,0**(-1)\n      END\n";
 
 #[test]
 fn keeps_what_was_written_before_a_trap(rt: HostRuntime) -> Result<(), Fail> {
@@ -106,11 +124,20 @@ fn refusal_of_part(size: usize) -> Option<&'static str> {
 }
 
 // What a job tells of a part of the text: that it is refused, or what the whole text gives.
-fn check_part(rt: &impl Abort, alloc: Global, words: &[&str], part: &[u8], whole: &[u8]) -> Result<(), Fail> {
+fn check_part(
+    rt: &impl Abort,
+    alloc: Global,
+    words: &[&str],
+    part: &[u8],
+    whole: &[u8],
+) -> Result<(), Fail> {
     let (status, sink) = told(alloc, words, part, &NONE, (7, 100))?;
     let refusal = refusal_of_part(part.len());
     assert_eq!(rt; status, if refusal.is_some() { 2 } else { 0 });
-    assert_eq!(rt; sink.written(), refusal.map_or(whole, |told| told.as_bytes()));
+    assert_eq!(rt;
+        sink.written(),
+        refusal.map_or(whole, |told| told.as_bytes())
+    );
     Ok(())
 }
 

@@ -31,12 +31,7 @@ fn check_accepted(rt: &impl Abort, alloc: Global, text: &[u8]) -> Result<(), Fai
 }
 
 // Each job refuses it so.
-fn check_refused(
-    rt: &impl Abort,
-    alloc: Global,
-    text: &[u8],
-    refusal: &str,
-) -> Result<(), Fail> {
+fn check_refused(rt: &impl Abort, alloc: Global, text: &[u8], refusal: &str) -> Result<(), Fail> {
     for (words, _) in JOBS {
         check_told(rt, alloc, words, text, 2, refusal.as_bytes())?;
     }
@@ -85,7 +80,10 @@ fn reads_so_many_statements(rt: HostRuntime) -> Result<(), Fail> {
         let (status, sink) = told(rt.alloc(), words, most.as_bytes(), &NONE, (65536, 65536))?;
         let rewritten = words.contains(&"regen") || words.contains(&"run");
         assert_eq!(&rt; status, if rewritten { 2 } else { 0 });
-        assert_eq!(&rt; sink.written() == b"REFUSED 0 MANYSTMTS\n".as_slice(), rewritten);
+        assert_eq!(&rt;
+            sink.written() == b"REFUSED 0 MANYSTMTS\n".as_slice(),
+            rewritten
+        );
     }
     check_refused(&rt, rt.alloc(), many.as_bytes(), "REFUSED 4001 MANYSTMTS\n")
 }
@@ -105,15 +103,26 @@ fn sum(alloc: Global, more: &str) -> Result<String, AllocError> {
 #[test]
 fn takes_so_many_operations(rt: HostRuntime) -> Result<(), Fail> {
     check_accepted(&rt, rt.alloc(), sum(rt.alloc(), "")?.as_bytes())?;
-    check_refused(&rt, rt.alloc(), sum(rt.alloc(), "+1")?.as_bytes(), "REFUSED 1 MANYOPS\n")
+    check_refused(
+        &rt,
+        rt.alloc(),
+        sum(rt.alloc(), "+1")?.as_bytes(),
+        "REFUSED 1 MANYOPS\n",
+    )
 }
 
 #[test]
 fn stores_so_many_words(rt: HostRuntime) -> Result<(), Fail> {
     check_accepted(&rt, rt.alloc(), b"      INTEGER A(262144)\n      END\n")?;
     for (text, refusal) in [
-        ("      INTEGER A(262144),B\n      END\n", "REFUSED 2 MANYWORDS\n"),
-        ("      INTEGER A(262145)\n      END\n", "REFUSED 1 BADLAYOUT\n"),
+        (
+            "      INTEGER A(262144),B\n      END\n",
+            "REFUSED 2 MANYWORDS\n",
+        ),
+        (
+            "      INTEGER A(262145)\n      END\n",
+            "REFUSED 1 BADLAYOUT\n",
+        ),
     ] {
         check_refused(&rt, rt.alloc(), text.as_bytes(), refusal)?;
     }
