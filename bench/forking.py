@@ -45,8 +45,8 @@ static int go_on(char *name, uint32_t size, char **settings) {
     for (char **at = list + count + 1; *settings; ) *at++ = *settings++;
     for (int to = 0; to < 3; ++to) dup2(handle[2 + to], to);
     for (int k = 0; k < 5; ++k) close(handle[k]);
-    // Other work may hold the processor: the clock on the wall only ends a run that waits for ever.
-    alarm(30 * seconds);
+    // Other work may hold the processor for long: the clock on the wall only ends a run that waits for ever.
+    alarm(360 * seconds);
     setrlimit(RLIMIT_CPU, &time);
     setrlimit(RLIMIT_AS, &memory);
     return count;
