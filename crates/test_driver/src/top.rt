@@ -1,3 +1,5 @@
+ghost use Rattle.std.specs.Prelude.{◌<◌};
+
 use df_io::{MemSink, MemSource};
 use dfc_driver::dfc_main;
 use std::alloc::{AllocError, Global};
