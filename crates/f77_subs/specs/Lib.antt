@@ -1,0 +1,11 @@
+pub mod Units
+pub mod Cuts
+pub mod Layouts
+pub mod Entities
+pub mod Names
+pub mod Widths
+pub mod Copies
+pub mod Expansion
+pub mod Refusals
+pub mod Storage
+pub mod Calls

@@ -1,0 +1,17 @@
+//! Laws on expansions, as contracts of functions that do nothing.
+
+ghost use Rattle.std.specs.Prelude.{◌≡◌, ◌+◌, ℕ, List, length};
+ghost use Rattle.std.specs.List.{range_with_len};
+ghost use Rattle.f77_tree.specs.declared.statements.Labelled.{Labelled};
+ghost use Rattle.f77_subs.specs.Entities.{Entity};
+ghost use Rattle.f77_subs.specs.Widths.{body_width, body_labels, labels_written};
+ghost use Rattle.f77_subs.specs.Copies.{copy};
+ghost use Rattle.f77_subs.specs.Expansion.{total_width, whole_list};
+
+/// A copy of a unit has as many statements as are counted for it, whatever its dummies stand for, and its labels follow
+/// one another in order of place. The whole list has as many statements as are counted before it is made.
+pub fn copies_are_counted()
+    ensures statements { (us : List (List Labelled)) (depth k : ℕ) (arguments : List Entity) (base : ℕ) → length (copy us depth k arguments base) ≡ body_width us depth k }
+    ensures labels { (us : List (List Labelled)) (depth k : ℕ) (arguments : List Entity) (base : ℕ) → labels_written (copy us depth k arguments base) ≡ range_with_len (base + 1) (body_labels us depth k) }
+    ensures whole { (us : List (List Labelled)) → length (whole_list us) ≡ total_width us }
+{}

@@ -1,0 +1,9 @@
+//! Program units: the statements of a text that has subroutines, and the one program that they come to.
+#![tactic(auto)]
+
+mod laws;
+mod splitting;
+mod sub_end;
+
+pub use laws::copies_are_counted;
+pub use sub_end::SubEnd;
