@@ -1,6 +1,7 @@
 -- The labels of a copy stand in a row.
 use Rattle.std.proofs.Common.{◌≡◌, ℕ, zero, suc, ◌+◌, ◌<◌, ◌==◌, Bool, true, false, List, [], ◌∷◌, ◌++◌, map, Option, Some, None, if◌then◌else◌, sum_by, refl, sym, ap, ◌∙◌, arith}
 use Rattle.std.specs.List.{range_with_len}
+use Rattle.std.proofs.lemmas.Bool.{ne_eqb}
 use Rattle.std.proofs.lemmas.List.Sums.{sum_by-cons}
 use Rattle.f77_tree.specs.declared.statements.Labelled.{Labelled}
 use Rattle.f77_tree.specs.declared.statements.RawExpr.{RawExpr}
@@ -34,17 +35,18 @@ row_around m n =
 
 -- ---- labels of lists
 
+written-step : (blank : Bool) (label : ℕ) (xs ys all : List ℕ) → all ≡ xs ++ ys → (if blank then all else label ∷ all) ≡ (if blank then xs else label ∷ xs) ++ ys
+written-step true label xs ys all same = same
+written-step false label xs ys all same = ap (λ (ls : List ℕ). label ∷ ls) same
+
 written-append : (xs ys : List Labelled) → labels_written (xs ++ ys) ≡ labels_written xs ++ labels_written ys
 written-append [] ys = refl
-written-append (s ∷ xs) ys = by (s.label == 0)
-  where
-    by : (blank : Bool) → (if blank then labels_written (xs ++ ys) else s.label ∷ labels_written (xs ++ ys)) ≡ (if blank then labels_written xs else s.label ∷ labels_written xs) ++ labels_written ys
-    by true = written-append xs ys
-    by false = ap (λ (ls : List ℕ). s.label ∷ ls) (written-append xs ys)
+written-append (s ∷ xs) ys = written-step (s.label == 0) s.label (labels_written xs) (labels_written ys) (labels_written (xs ++ ys)) (written-append xs ys)
 
 written-some : (label line : ℕ) (stmt : Stmt) (rest : List Labelled) → 0 < label → labels_written (bare label line stmt ∷ rest) ≡ label ∷ labels_written rest
-written-some zero line stmt rest some = absurd (omega arith)
-written-some (suc n) line stmt rest some = refl
+written-some label line stmt rest some =
+    let is_not : (label == 0) ≡ false = ne_eqb label 0 (λ (e : label ≡ 0). omega arith) in
+    ap (λ (blank : Bool). if blank then labels_written rest else label ∷ labels_written rest) is_not
 
 around_labels : (c : Change) (a b line : ℕ) (guard : Option RawExpr) (inside : List Labelled) → 0 < a → 0 < b → labels_written (around c a b line guard inside) ≡ a ∷ (labels_written inside ++ b ∷ [])
 around_labels c a b line None inside has_a has_b =

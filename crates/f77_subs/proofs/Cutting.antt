@@ -69,11 +69,11 @@ module _ (stmts : List Labelled) (spans : List Span) (from i : ℕ) (s : Labelle
         rising = let h = cut.rising in omega arith;
         inside = cut.inside;
         same =
-          cut.same
-          ∙ ap (λ (left : List Labelled). parts spans stmts ++ joined (slice_range stmts from i) (units left)) here
-          ∙ ap (λ (us : List (List Labelled)). parts spans stmts ++ joined (slice_range stmts from i) us) (units-other s (drop (i + 1) stmts) is)
-          ∙ ap (λ (us : List (List Labelled)). parts spans stmts ++ us) (joined-other (slice_range stmts from i) s rest)
-          ∙ ap (λ (begun : List Labelled). parts spans stmts ++ joined begun rest) longer;
+            cut.same
+            ∙ ap (λ (left : List Labelled). parts spans stmts ++ joined (slice_range stmts from i) (units left)) here
+            ∙ ap (λ (us : List (List Labelled)). parts spans stmts ++ joined (slice_range stmts from i) us) (units-other s (drop (i + 1) stmts) is)
+            ∙ ap (λ (us : List (List Labelled)). parts spans stmts ++ us) (joined-other (slice_range stmts from i) s rest)
+            ∙ ap (λ (begun : List Labelled). parts spans stmts ++ joined begun rest) longer;
       }
 
   abbrev pub whole : Span
@@ -92,14 +92,14 @@ module _ (stmts : List Labelled) (spans : List Span) (from i : ℕ) (s : Labelle
         rising = omega arith;
         inside = All-push (IsSpanOf stmts) spans whole cut.inside is_whole;
         same =
-          cut.same
-          ∙ ap (λ (left : List Labelled). parts spans stmts ++ joined (slice_range stmts from i) (units left)) here
-          ∙ ap (λ (us : List (List Labelled)). parts spans stmts ++ joined (slice_range stmts from i) us) (units-end s (drop (i + 1) stmts) is)
-          ∙ ap (λ (us : List (List Labelled)). parts spans stmts ++ us) (joined-end (slice_range stmts from i) s rest)
-          ∙ ap (λ (begun : List Labelled). parts spans stmts ++ begun ∷ rest) longer
-          ∙ sym (append_assoc (parts spans stmts) (part stmts whole ∷ []) rest)
-          ∙ ap (λ (us : List (List Labelled)). us ++ rest) (sym (map-append (part stmts) spans (whole ∷ [])))
-          ∙ ap (λ (begun : List Labelled). parts (spans ++ whole ∷ []) stmts ++ joined begun rest) (sym (nothing (i + 1)));
+            cut.same
+            ∙ ap (λ (left : List Labelled). parts spans stmts ++ joined (slice_range stmts from i) (units left)) here
+            ∙ ap (λ (us : List (List Labelled)). parts spans stmts ++ joined (slice_range stmts from i) us) (units-end s (drop (i + 1) stmts) is)
+            ∙ ap (λ (us : List (List Labelled)). parts spans stmts ++ us) (joined-end (slice_range stmts from i) s rest)
+            ∙ ap (λ (begun : List Labelled). parts spans stmts ++ begun ∷ rest) longer
+            ∙ sym (append_assoc (parts spans stmts) (part stmts whole ∷ []) rest)
+            ∙ ap (λ (us : List (List Labelled)). us ++ rest) (sym (map-append (part stmts) spans (whole ∷ [])))
+            ∙ ap (λ (begun : List Labelled). parts (spans ++ whole ∷ []) stmts ++ joined begun rest) (sym (nothing (i + 1)));
       }
 
 -- all of a text, cut
@@ -141,6 +141,6 @@ module _ (stmts : List Labelled) (spans : List Span) (from : ℕ) (cut : IsCut s
 
   pub cut-all : AreCut stmts (spans ++ span_if from (length stmts))
   cut-all = ⊎_elim
-    (λ (h : from < length stmts). subst (λ (b : Bool). AreCut stmts (spans ++ (if b then last ∷ [] else []))) (sym (lt-ltb from (length stmts) h)) (cut-all-more h))
-    (λ (h : length stmts ≤ from). subst (λ (b : Bool). AreCut stmts (spans ++ (if b then last ∷ [] else []))) (sym (le-ltb from (length stmts) h)) (subst (λ (found : List Span). AreCut stmts found) (sym (append-nil spans)) (cut-all-done h)))
-    (cases_lt from (length stmts))
+      (λ (h : from < length stmts). subst (λ (b : Bool). AreCut stmts (spans ++ (if b then last ∷ [] else []))) (sym (lt-ltb from (length stmts) h)) (cut-all-more h))
+      (λ (h : length stmts ≤ from). subst (λ (b : Bool). AreCut stmts (spans ++ (if b then last ∷ [] else []))) (sym (le-ltb from (length stmts) h)) (subst (λ (found : List Span). AreCut stmts found) (sym (append-nil spans)) (cut-all-done h)))
+      (cases_lt from (length stmts))

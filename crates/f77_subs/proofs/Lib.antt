@@ -1,3 +1,4 @@
 mod Cutting
 mod CopyWidths
 mod CopyLabels
+mod Settled

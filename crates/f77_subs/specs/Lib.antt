@@ -4,6 +4,7 @@ pub mod Layouts
 pub mod Entities
 pub mod Names
 pub mod Widths
+pub mod Heights
 pub mod Copies
 pub mod Expansion
 pub mod Refusals

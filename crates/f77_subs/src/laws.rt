@@ -1,11 +1,12 @@
 //! Laws on expansions, as contracts of functions that do nothing.
 
-ghost use Rattle.std.specs.Prelude.{◌≡◌, ◌+◌, ℕ, List, length};
+ghost use Rattle.std.specs.Prelude.{◌≡◌, ◌+◌, ◌<◌, ℕ, List, length};
 ghost use Rattle.std.specs.List.{range_with_len};
 ghost use Rattle.f77_tree.specs.declared.statements.Labelled.{Labelled};
 ghost use Rattle.f77_subs.specs.Entities.{Entity};
 ghost use Rattle.f77_subs.specs.Widths.{body_width, body_labels, labels_written};
 ghost use Rattle.f77_subs.specs.Copies.{copy};
+ghost use Rattle.f77_subs.specs.Heights.{IsHeight};
 ghost use Rattle.f77_subs.specs.Expansion.{total_width, whole_list};
 
 /// A copy of a unit has as many statements as are counted for it, whatever its dummies stand for, and its labels follow
@@ -14,4 +15,11 @@ pub fn copies_are_counted()
     ensures statements { (us : List (List Labelled)) (depth k : ℕ) (arguments : List Entity) (base : ℕ) → length (copy us depth k arguments base) ≡ body_width us depth k }
     ensures labels { (us : List (List Labelled)) (depth k : ℕ) (arguments : List Entity) (base : ℕ) → labels_written (copy us depth k arguments base) ≡ range_with_len (base + 1) (body_labels us depth k) }
     ensures whole { (us : List (List Labelled)) → length (whole_list us) ≡ total_width us }
+{}
+
+/// Where each unit has a height above the units that it calls, what is counted for its copy is the same at each depth
+/// above its height.
+pub fn counts_settle()
+    ensures statements { (us : List (List Labelled)) (height : ℕ → ℕ) → IsHeight us height → (d e k : ℕ) → height k < d → height k < e → body_width us d k ≡ body_width us e k }
+    ensures labels { (us : List (List Labelled)) (height : ℕ → ℕ) → IsHeight us height → (d e k : ℕ) → height k < d → height k < e → body_labels us d k ≡ body_labels us e k }
 {}

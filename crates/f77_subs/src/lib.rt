@@ -5,5 +5,5 @@ mod laws;
 mod splitting;
 mod sub_end;
 
-pub use laws::copies_are_counted;
+pub use laws::{copies_are_counted, counts_settle};
 pub use sub_end::SubEnd;

@@ -26,7 +26,6 @@ impl<'a> Model for Units<'a> {
     ghost use Rattle.std.specs.Prelude.{List, All};
     ghost use Rattle.f77_tree.specs.declared.statements.Labelled.{Labelled};
     ghost use Rattle.f77_subs.specs.Cuts.{parts, IsSpanOf};
-
     ghost use Rattle.std.specs.Coded.{codes};
     ghost use Rattle.f77_tree.specs.contracts.statements.Stmt as statement;
 

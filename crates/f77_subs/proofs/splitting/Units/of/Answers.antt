@@ -12,14 +12,14 @@ loop-i-preserved c =
     let i = c.loop-i.i in
     elim c.if-is_end.branch [
       | then-is_end+in_ok-push w ↦
-        let is : is_end_of s.stmt ≡ true = sym c.is_end.ensures ∙ w.if-is_end.true in
-        rw (w.spans-is, w.in_ok-push.ensures.items, w.from-is) (cut-end stmts c.loop-i.spans.items c.loop-i.from i s c.loop-i.invariant c.loop-i-test.true c.index-stmts-i.is is)
+          let is : is_end_of s.stmt ≡ true = sym c.is_end.ensures ∙ w.if-is_end.true in
+          rw (w.spans-is, w.in_ok-push.ensures.items, w.from-is) (cut-end stmts c.loop-i.spans.items c.loop-i.from i s c.loop-i.invariant c.loop-i-test.true c.index-stmts-i.is is)
       | else-is_end w ↦
-        let items : c.if-is_end.spans.items ≡ c.loop-i.spans.items = cc in
-        let is : is_end_of s.stmt ≡ false = sym c.is_end.ensures ∙ w.if-is_end.false in
-        subst (λ (from : ℕ). IsCut stmts c.if-is_end.spans.items from (i + 1)) (sym w.from-is)
+          let items : c.if-is_end.spans.items ≡ c.loop-i.spans.items = cc in
+          let is : is_end_of s.stmt ≡ false = sym c.is_end.ensures ∙ w.if-is_end.false in
+          subst (λ (from : ℕ). IsCut stmts c.if-is_end.spans.items from (i + 1)) (sym w.from-is)
           (subst (λ (spans : List Span). IsCut stmts spans c.loop-i.from (i + 1)) (sym items)
-            (cut-other stmts c.loop-i.spans.items c.loop-i.from i s c.loop-i.invariant c.loop-i-test.true c.index-stmts-i.is is))
+          (cut-other stmts c.loop-i.spans.items c.loop-i.from i s c.loop-i.invariant c.loop-i-test.true c.index-stmts-i.is is))
     ]
 
 pub invariant_of-result : goal.invariant_of-result
