@@ -2,3 +2,6 @@ mod Cutting
 mod CopyWidths
 mod CopyLabels
 mod Settled
+mod SettledCopies
+mod StandingIn
+mod UnitWalk

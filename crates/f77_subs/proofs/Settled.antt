@@ -1,5 +1,5 @@
 -- What is counted for copies is the same at each depth above a unit's height.
-use Rattle.std.proofs.Common.{◌≡◌, ℕ, zero, suc, ◌+◌, ◌<◌, Bool, true, false, List, [], ◌∷◌, Option, Some, None, if◌then◌else◌, sum_by, refl, sym, ap, ◌∙◌, arith}
+use Rattle.std.proofs.Common.{◌≡◌, ℕ, zero, suc, ◌+◌, ◌<◌, Bool, true, List, [], ◌∷◌, Option, Some, None, if◌then◌else◌, sum_by, refl, sym, ap, ◌∙◌, arith}
 use Rattle.std.specs.List.{list_all}
 use Rattle.std.proofs.lemmas.Bool.{and_parts, ltb-true}
 use Rattle.std.proofs.lemmas.List.Sums.{sum_by-cons}
@@ -9,7 +9,7 @@ use Rattle.f77_subs.specs.Units.{Call, call_in, guard_of, unit_at, unit_of}
 use Rattle.f77_subs.specs.Heights.{calls_below, IsHeight}
 use Rattle.f77_subs.specs.Widths.{is_kept, lines_around, width_by, width, body_width, labels_by, labels, body_labels}
 
-sums_alike : {X : Type 0} (p : X → Bool) (f g : X → ℕ) → ((x : X) → p x ≡ true → f x ≡ g x) → (xs : List X) → list_all p xs ≡ true → sum_by f xs ≡ sum_by g xs
+pub sums_alike : {X : Type 0} (p : X → Bool) (f g : X → ℕ) → ((x : X) → p x ≡ true → f x ≡ g x) → (xs : List X) → list_all p xs ≡ true → sum_by f xs ≡ sum_by g xs
 sums_alike p f g same [] all = refl
 sums_alike p f g same (x ∷ xs) all =
     let both : (p x ≡ true) × (list_all p xs ≡ true) = and_parts (p x) (list_all p xs) all in
@@ -44,7 +44,7 @@ module _ (us : List (List Labelled)) (height : ℕ → ℕ) (is : IsHeight us he
   call_labels v w k agree label None below = refl
   call_labels v w k agree label (Some call) below = ap (λ (n : ℕ). 2 + n) (agree.at (unit_of us call.name) (ltb-true (height (unit_of us call.name)) (height k) below))
 
-  labels_alike : (v w : ℕ → ℕ) (k : ℕ) → Agree v w k → (s : Labelled) → lower k s ≡ true → labels v us k s ≡ labels w us k s
+  pub labels_alike : (v w : ℕ → ℕ) (k : ℕ) → Agree v w k → (s : Labelled) → lower k s ≡ true → labels v us k s ≡ labels w us k s
   labels_alike v w k agree s below = ap (λ (n : ℕ). if is_kept k s.stmt then n else 0) (call_labels v w k agree s.label (call_in s.stmt) below)
 
   pub labels_settle : (d e k : ℕ) → height k < d → height k < e → body_labels us d k ≡ body_labels us e k

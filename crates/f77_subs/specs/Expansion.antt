@@ -1,11 +1,6 @@
 -- The expansion: the main program with copies in place of its CALLs.
-use Rattle.std.specs.Prelude.{ℕ, ◌+◌, ◌-◌, Bool, true, false, not, ◌&&◌, ◌||◌, ◌==◌, nat_lt, if◌then◌else◌, List, [], ◌∷◌, ◌++◌, map, flat_map, filter, fold, take, drop, length, sum_by, Option, Some, None, slice_get}
+use Rattle.std.specs.Prelude.{ℕ, ◌+◌, ◌-◌, Bool, not, ◌&&◌, nat_lt, if◌then◌else◌, List, [], ◌∷◌, ◌++◌, map, flat_map, filter, fold, take, drop, length, sum_by, Option, Some, None, slice_get}
 use Rattle.std.specs.List.{list_any, position_or_len, range_with_len}
-use Rattle.f77_tree.specs.declared.declarations.Kind.{Kind}
-use Rattle.f77_tree.specs.declared.declarations.Kind.TheVariants.{Integer}
-use Rattle.f77_tree.specs.declared.declarations.Dim.{Dim}
-use Rattle.f77_tree.specs.declared.declarations.Decl.{Decl}
-use Rattle.f77_tree.specs.declared.declarations.CommonPart.{CommonPart}
 use Rattle.f77_tree.specs.declared.declarations.Member.{Member}
 use Rattle.f77_tree.specs.declared.declarations.InitPart.{InitPart}
 use Rattle.f77_tree.specs.declared.statements.Labelled.{Labelled}

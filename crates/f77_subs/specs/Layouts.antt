@@ -1,5 +1,5 @@
 -- A unit by itself as a program.
-use Rattle.std.specs.Prelude.{Bool, List, map}
+use Rattle.std.specs.Prelude.{Bool, List}
 use Rattle.f77_tree.specs.declared.statements.Labelled.{Labelled}
 use Rattle.f77_tree.specs.declared.programs.Program.{Program}
 use Rattle.f77_layout.specs.Layout.{program}

@@ -1,16 +1,15 @@
 -- Where the words of locals and blocks lie, and what they begin with.
-use Rattle.std.specs.Prelude.{◌≡◌, ℕ, suc, ◌+◌, ◌≤◌, ◌<◌, ℤ, pos, ◌+ℤ◌, ◌<ℤ◌, ◌≤ℤ◌, Bool, true, List, [], ◌∷◌, length, Contains, Option, Some, None, slice_get, slice_index_or, zip}
+use Rattle.std.specs.Prelude.{◌≡◌, ℕ, suc, ◌≤◌, ◌<◌, ℤ, pos, ◌+ℤ◌, ◌<ℤ◌, ◌≤ℤ◌, Bool, true, List, [], ◌∷◌, length, Contains, Option, Some, slice_get}
 use Rattle.f77_tree.specs.declared.declarations.Member.{Member}
 use Rattle.f77_tree.specs.declared.programs.NameInfo.{NameInfo}
 use Rattle.f77_tree.specs.declared.statements.Labelled.{Labelled}
-use Rattle.f77_tree.specs.declared.declarations.InitPart.{InitPart}
 use Rattle.f77_tree.specs.Declarations.{offset_of}
 use Rattle.f77_tree.specs.InitialWords.{lit_word, given}
 use Rattle.f77_tree.specs.Value.{size_of}
 use Rattle.f77_layout.specs.Declarations.{dims_of, all_groups, all_inits}
 use Rattle.f77_subs.specs.Units.{unit_at, runs}
 use Rattle.f77_subs.specs.Layouts.{own_program}
-use Rattle.f77_subs.specs.Entities.{Entity, Local, InBlock, entity_of, stands_for}
+use Rattle.f77_subs.specs.Entities.{Entity, InBlock, entity_of, stands_for}
 use Rattle.f77_subs.specs.Names.{own_names}
 use Rattle.f77_subs.specs.Expansion.{declared_in}
 

@@ -32,12 +32,16 @@ unit_at us k = unit_or_none (slice_get us k)
 -- ---- a unit by itself
 
 -- SUBROUTINE as PROGRAM, CALL as CONTINUE, RETURN as STOP
+abbrev pub stand_in_alone : Stmt → Stmt
+stand_in_alone (Sub name dummies) = Program
+stand_in_alone (CallTo name arguments) = Continue
+stand_in_alone Back = Stop
+stand_in_alone s = s
+
+-- the same after the condition of a logical IF
 abbrev pub stand_in : Stmt → Stmt
-stand_in (Sub name dummies) = Program
-stand_in (CallTo name arguments) = Continue
-stand_in Back = Stop
-stand_in (ThenIf' condition shape (more_of-Stmt stmt rest)) = ThenIf condition (stand_in stmt)
-stand_in s = s
+stand_in (ThenIf' condition shape (more_of-Stmt stmt rest)) = ThenIf condition (stand_in_alone stmt)
+stand_in s = stand_in_alone s
 
 abbrev pub standing_in : List Labelled → List Labelled
 standing_in u = map (λ (s : Labelled). record s { stmt = stand_in s.stmt }) u

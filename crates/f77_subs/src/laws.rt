@@ -17,9 +17,10 @@ pub fn copies_are_counted()
     ensures whole { (us : List (List Labelled)) → length (whole_list us) ≡ total_width us }
 {}
 
-/// Where each unit has a height above the units that it calls, what is counted for its copy is the same at each depth
-/// above its height.
-pub fn counts_settle()
+/// Where each unit has a height above the units that it calls, its copy, and what is counted for it, is the same at each
+/// depth above its height.
+pub fn copies_settle()
     ensures statements { (us : List (List Labelled)) (height : ℕ → ℕ) → IsHeight us height → (d e k : ℕ) → height k < d → height k < e → body_width us d k ≡ body_width us e k }
     ensures labels { (us : List (List Labelled)) (height : ℕ → ℕ) → IsHeight us height → (d e k : ℕ) → height k < d → height k < e → body_labels us d k ≡ body_labels us e k }
+    ensures copies { (us : List (List Labelled)) (height : ℕ → ℕ) → IsHeight us height → (d e k : ℕ) (arguments : List Entity) (base : ℕ) → height k < d → height k < e → copy us d k arguments base ≡ copy us e k arguments base }
 {}

@@ -3,7 +3,9 @@
 
 mod laws;
 mod splitting;
+mod stand_in;
 mod sub_end;
+mod unit_order;
 
-pub use laws::{copies_are_counted, counts_settle};
+pub use laws::{copies_are_counted, copies_settle};
 pub use sub_end::SubEnd;

@@ -1,4 +1,4 @@
-use Rattle.std.proofs.Common.{◌≡◌, ℕ, ◌+◌, List, [], ◌∷◌, ◌++◌, length, true, false, sym, subst, ◌∙◌, arith}
+use Rattle.std.proofs.Common.{◌≡◌, ℕ, ◌+◌, List, length, true, false, sym, subst, ◌∙◌, arith}
 use Rattle.f77_subs.specs.declared.splitting.Span.{Span}
 use Rattle.f77_subs.specs.Units.{is_end as is_end_of}
 use Rattle.f77_subs.proofs.Cutting.{IsCut, AreCut, cut-other, cut-end, cut-all}
