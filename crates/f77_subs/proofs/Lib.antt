@@ -5,3 +5,4 @@ mod Settled
 mod SettledCopies
 mod StandingIn
 mod UnitWalk
+mod SubNames

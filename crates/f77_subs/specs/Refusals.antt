@@ -46,6 +46,11 @@ abbrev pub is_one_of : Option (List ℕ) → List Labelled → Bool
 is_one_of None stmts = false
 is_one_of (Some name) stmts = list_any (is_sub_of name) stmts
 
+-- a name is one of these
+abbrev pub is_told : (names : List (List ℕ)) → Option (List ℕ) → Bool
+is_told names None = false
+is_told names (Some name) = list_any (bytes_eq name) names
+
 abbrev pub is_sub_again : (above : List Labelled) → Labelled → Bool
 is_sub_again above s = is_one_of (sub_name s.stmt) above
 

@@ -91,7 +91,7 @@ dummies_of u = flat_map (λ s. sub_dummies s.stmt) u
 
 abbrev pub is_named : List ℕ → Option (List ℕ) → Bool
 is_named name None = false
-is_named name (Some other) = bytes_eq other name
+is_named name (Some other) = bytes_eq name other
 
 -- a SUBROUTINE of this name
 abbrev pub is_sub_of : List ℕ → Labelled → Bool

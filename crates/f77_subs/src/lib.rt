@@ -5,6 +5,7 @@ mod laws;
 mod splitting;
 mod stand_in;
 mod sub_end;
+mod sub_names;
 mod unit_order;
 
 pub use laws::{copies_are_counted, copies_settle};
