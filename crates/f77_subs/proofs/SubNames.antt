@@ -1,13 +1,13 @@
 -- Names of subroutines, met statement by statement.
-use Rattle.std.proofs.Common.{◌≡◌, ℕ, ◌+◌, ◌<◌, Bool, true, false, ◌||◌, List, [], ◌∷◌, ◌++◌, length, get_or, take, drop, Option, Some, None, refl, sym, ap, ◌∙◌, append-nil}
+use Rattle.std.proofs.Common.{◌≡◌, ℕ, ◌+◌, ◌<◌, Bool, true, false, ◌||◌, List, [], ◌∷◌, ◌++◌, length, get_or, take, drop, Option, Some, None, not, refl, sym, ap, ◌∙◌, append-nil, arith}
 use Rattle.std.specs.Prelude.{bytes_eq, option_to_list}
 use Rattle.std.specs.List.{list_any}
-use Rattle.std.proofs.lemmas.List.{take_more}
+use Rattle.std.proofs.lemmas.List.{take_all, take_more}
 use Rattle.f77_tree.specs.declared.statements.Labelled.{Labelled}
 use Rattle.f77_layout.specs.Faults.{first_line, first_after}
-use Rattle.f77_layout.proofs.FirstLine.{first_after-next}
-use Rattle.f77_subs.specs.Units.{is_named, is_sub_of, sub_name}
-use Rattle.f77_subs.specs.Refusals.{is_one_of, is_told, is_sub_again}
+use Rattle.f77_layout.proofs.FirstLine.{first_after-next, first_after-end}
+use Rattle.f77_subs.specs.Units.{Call, call_in, is_named, is_sub_of, sub_name}
+use Rattle.f77_subs.specs.Refusals.{AreSubNames, is_one_of, is_told, is_sub_again, lacks_sub, lacks_sub_of, lacks_told}
 
 or-step : (b u v w : Bool) → u ≡ (v || w) → (b || u) ≡ ((b || v) || w)
 or-step true u v w same = refl
@@ -50,3 +50,15 @@ module _ (stmts : List Labelled) (i : ℕ) (names : List (List ℕ)) (above : Ar
       ∙ sym (any-push (is_sub_of x) (take i stmts) s)
       ∙ ap (list_any (is_sub_of x)) (sym (take_more stmts i s inside ∙ ap (λ (a : Labelled). take i stmts ++ a ∷ []) (sym stands)));
   }
+
+pub names-all : (stmts : List Labelled) (names : List (List ℕ)) → AreAbove stmts (length stmts) names → (first_line is_sub_again stmts ≡ None) × AreSubNames stmts names
+names-all stmts names above =
+    let whole : take (length stmts) stmts ≡ stmts = take_all (length stmts) stmts (omega arith) in
+    (above.first ∙ first_after-end is_sub_again stmts (length stmts) (omega arith), record { same = λ x. above.same x ∙ ap (list_any (is_sub_of x)) whole })
+
+lacking-by : (whole : List Labelled) (names : List (List ℕ)) → AreSubNames whole names → (call : Option Call) → lacks_told names call ≡ lacks_sub_of whole call
+lacking-by whole names are None = refl
+lacking-by whole names are (Some call) = ap not (are.same call.name)
+
+pub lacking-is : (whole : List Labelled) (names : List (List ℕ)) → AreSubNames whole names → (above : List Labelled) (s : Labelled) → lacks_told names (call_in s.stmt) ≡ lacks_sub whole above s
+lacking-is whole names are above s = lacking-by whole names are (call_in s.stmt)

@@ -1,5 +1,5 @@
 -- What refuses units, in order; each refusal has the lowest line that has its fault.
-use Rattle.std.specs.Prelude.{ℕ, ◌-◌, Result, Ok, Err, Bool, true, false, not, ◌&&◌, ◌||◌, nat_lt, if◌then◌else◌, List, [], ◌∷◌, flat_map, filter, take, length, Option, Some, None, bytes_eq, slice_get}
+use Rattle.std.specs.Prelude.{◌≡◌, ℕ, ◌-◌, Result, Ok, Err, Bool, true, false, not, ◌&&◌, ◌||◌, nat_lt, if◌then◌else◌, List, [], ◌∷◌, flat_map, filter, take, length, Option, Some, None, bytes_eq, slice_get}
 use Rattle.std.specs.List.{list_any, count_by, range_with_len}
 use Rattle.std.specs.Option.{is_some}
 use Rattle.std.specs.Ordering.{int_eq}
@@ -57,6 +57,15 @@ is_sub_again above s = is_one_of (sub_name s.stmt) above
 abbrev pub lacks_sub_of : List Labelled → Option Call → Bool
 lacks_sub_of whole None = false
 lacks_sub_of whole (Some call) = not (list_any (is_sub_of call.name) whole)
+
+-- a CALL of another name than these
+abbrev pub lacks_told : (names : List (List ℕ)) → Option Call → Bool
+lacks_told names None = false
+lacks_told names (Some call) = not (list_any (bytes_eq call.name) names)
+
+-- these are the names of all subroutines
+pub record AreSubNames (whole : List Labelled) (names : List (List ℕ)) : Type 0 where
+  pub same : (x : List ℕ) → list_any (bytes_eq x) names ≡ list_any (is_sub_of x) whole
 
 abbrev pub lacks_sub : (whole above : List Labelled) → Labelled → Bool
 lacks_sub whole above s = lacks_sub_of whole (call_in s.stmt)

@@ -1,9 +1,10 @@
 //! The names of subroutines.
 ghost use Rattle.std.specs.Prelude.{◌≡◌, ◌++◌, [], ◌∷◌, not, true, false, IfOk, bytes_eq, option_to_list};
 ghost use Rattle.std.specs.List.{list_any};
+ghost use Rattle.std.specs.Result.{result_err};
 ghost use Rattle.f77_layout.specs.Faults.{first_line};
-ghost use Rattle.f77_subs.specs.Units.{sub_name};
-ghost use Rattle.f77_subs.specs.Refusals.{is_sub_again, is_told};
+ghost use Rattle.f77_subs.specs.Units.{call_by, inner, sub_name};
+ghost use Rattle.f77_subs.specs.Refusals.{AreSubNames, is_sub_again, is_told, lacks_sub, lacks_told};
 
 use df_sequence::{Copied, NoMemory};
 use f77_tree::{Labelled, Name, Stmt};
@@ -11,26 +12,60 @@ use indexmap::IndexSet;
 use std::alloc::Global;
 use std::marker::Model;
 
-/// The line of the first SUBROUTINE whose name another one above has.
-pub(crate) fn first_sub_again(
+/// The names of all subroutines, or the line of the first SUBROUTINE whose name another one above has.
+pub(crate) fn sub_names(
     alloc: Global,
     stmts: &[Labelled],
-) -> Result<Option<u32>, NoMemory>
-    ensures { IfOk result (λ line. line ≡ first_line is_sub_again stmts.now) }
+) -> Result<Result<SubNames, u32>, NoMemory>
+    ensures line { IfOk result (λ found. result_err found ≡ first_line is_sub_again stmts.now) }
+    ensures names { IfOk result (λ found. IfOk found (λ names. AreSubNames stmts.now names)) }
 {
     let mut names = SubNames::new(alloc);
     for s in stmts {
         let again = names.tell(alloc, &s.stmt)?;
         if again {
-            return Ok(Some(s.line));
+            return Ok(Err(s.line));
         }
     }
-    Ok(None)
+    Ok(Ok(names))
+}
+
+/// The line of the first CALL of a name that no SUBROUTINE has, where these are the names of all.
+pub(crate) fn first_lacking_sub(stmts: &[Labelled], names: &SubNames) -> Option<u32>
+    requires { AreSubNames stmts.now names.now }
+    ensures { result ≡ first_line (lacks_sub stmts.now) stmts.now }
+{
+    for s in stmts {
+        if is_lacking(names, inner_of(&s.stmt)) {
+            return Some(s.line);
+        }
+    }
+    None
+}
+
+// Whether a statement is a CALL of another name than these.
+fn is_lacking(names: &SubNames, stmt: &Stmt) -> bool
+    ensures { result ≡ lacks_told names.now (call_by stmt.now) }
+{
+    match stmt {
+        Stmt::CallTo(name, _) => !names.has(name),
+        _ => false,
+    }
+}
+
+// The statement after the condition of a logical IF, or the statement itself.
+fn inner_of(stmt: &Stmt) -> &Stmt
+    ensures { result.now ≡ inner stmt.now }
+{
+    match stmt {
+        Stmt::ThenIf(_, inner) => inner.get(),
+        _ => stmt,
+    }
 }
 
 /// Names, each once. Contracts see them as a list, in the order in which they were added.
 #[derive(Drop)]
-struct SubNames {
+pub(crate) struct SubNames {
     names: IndexSet<Name>,
 }
 
@@ -58,6 +93,13 @@ impl SubNames {
         ensures names { IfOk result (λ is_new. is_new ≡ true → self.new ≡ self.old ++ name.now ∷ []) }
     {
         Ok(self.names.insert(name.copy(alloc)?)?)
+    }
+
+    // Whether a name is here.
+    fn has(&self, name: &Name) -> bool
+        ensures { result ≡ list_any (bytes_eq name.now) self.now }
+    {
+        self.names.contains(name)
     }
 
     // Whether a statement is a SUBROUTINE of a name that is here; if it isn't, its name is here from now on.
