@@ -45,10 +45,10 @@ module _ (stmts : List Labelled) (i : ℕ) (names : List (List ℕ)) (above : Ar
   names-more s inside stands no_fault = record {
     first = above.first ∙ first_after-next is_sub_again stmts i s inside stands no_fault;
     same = λ x.
-      any-named x names (sub_name s.stmt)
-      ∙ ap (λ (b : Bool). b || is_named x (sub_name s.stmt)) (above.same x)
-      ∙ sym (any-push (is_sub_of x) (take i stmts) s)
-      ∙ ap (list_any (is_sub_of x)) (sym (take_more stmts i s inside ∙ ap (λ (a : Labelled). take i stmts ++ a ∷ []) (sym stands)));
+        any-named x names (sub_name s.stmt)
+        ∙ ap (λ (b : Bool). b || is_named x (sub_name s.stmt)) (above.same x)
+        ∙ sym (any-push (is_sub_of x) (take i stmts) s)
+        ∙ ap (list_any (is_sub_of x)) (sym (take_more stmts i s inside ∙ ap (λ (a : Labelled). take i stmts ++ a ∷ []) (sym stands)));
   }
 
 pub names-all : (stmts : List Labelled) (names : List (List ℕ)) → AreAbove stmts (length stmts) names → (first_line is_sub_again stmts ≡ None) × AreSubNames stmts names
