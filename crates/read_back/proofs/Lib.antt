@@ -33,6 +33,7 @@ mod Prints
 mod ProgramRead
 mod ReadDeclarations
 mod ReadForms
+mod ReadLoops
 mod RepeatBound
 mod ShownForms
 mod SourceStatements

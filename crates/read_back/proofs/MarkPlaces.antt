@@ -12,12 +12,12 @@ use Rattle.flat_programs.specs.FlatForm.{IsNumber}
 use Rattle.flat_programs.specs.Marks.{is_mark, is_mark_in, mark_at, mark_count, place_of}
 use Rattle.read_back.proofs.PrintedPlaces.{get_some, got_within}
 
-take_next : {X : Type 0} (xs : List X) (k : ℕ) (x : X) → slice_get xs k ≡ Some x → take (suc k) xs ≡ take k xs ++ x ∷ []
+pub take_next : {X : Type 0} (xs : List X) (k : ℕ) (x : X) → slice_get xs k ≡ Some x → take (suc k) xs ≡ take k xs ++ x ∷ []
 take_next [] k x is = absurd cc
 take_next (y ∷ ys) zero x is = let same : y ≡ x = cc in ap (λ z. z ∷ []) same
 take_next (y ∷ ys) (suc k) x is = ap (λ zs. y ∷ zs) (take_next ys k x is)
 
-take_all : {X : Type 0} (xs : List X) → take (length xs) xs ≡ xs
+pub take_all : {X : Type 0} (xs : List X) → take (length xs) xs ≡ xs
 take_all [] = refl
 take_all (x ∷ xs) = ap (λ ys. x ∷ ys) (take_all xs)
 

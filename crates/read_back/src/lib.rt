@@ -8,7 +8,7 @@ mod lines;
 mod programs;
 mod refusals;
 
-pub use declarations::printed_groups_and_data_are_read_again;
+pub use declarations::{printed_groups_and_data_are_read_again, printed_loops_are_read_again};
 pub use expressions::printed_expressions_are_themselves;
 pub use lines::printed_lines_are_read;
 pub use programs::{
