@@ -1,5 +1,6 @@
 -- What a printed program can be refused for by the layout: storage and operations alone.
-use Rattle.std.proofs.Common.{◌≡◌, ℕ, Bool, List, [], sym, ap, ◌∙◌, subst, arith, Option, Some, None, Err}
+use Rattle.std.proofs.Common.{◌≡◌, ℕ, Bool, List, [], refl, sym, ap, ◌∙◌, subst, arith, Option, Some, None, Ok, Err}
+use Rattle.std.specs.Prelude.{IfErr, Result}
 use Rattle.f77_tree.specs.declared.programs.Program.{Program}
 use Rattle.f77_tree.specs.declared.statements.Labelled.{Labelled}
 use Rattle.f77_layout.specs.declared.layout_end.LayoutEnd.{LayoutEnd}
@@ -76,3 +77,7 @@ module _ (q : Program) (flat : List FlatLine) (given : CanBeText q flat) (free :
   pub refused_for_storage : (end : LayoutEnd) → layout (statements_read q flat) checked ≡ Err end → IsOfStorage end
   refused_for_storage end is =
       of_storage wrong (line_of_words stmts) ops end (sym only_storage ∙ refused_by (program stmts checked) (refusal stmts checked) end is)
+
+pub if_refused : (answer : Result Program LayoutEnd) → ((end : LayoutEnd) → answer ≡ Err end → IsOfStorage end) → IfErr answer IsOfStorage
+if_refused (Ok p) refused = tt
+if_refused (Err end) refused = refused end refl

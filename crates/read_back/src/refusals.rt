@@ -1,9 +1,8 @@
 //! Faults of statements that no printed statement has.
 
-ghost use Rattle.std.specs.Prelude.{◌≡◌, Bool, List, [], None, Err};
+ghost use Rattle.std.specs.Prelude.{◌≡◌, Bool, List, [], None, IfErr};
 ghost use Rattle.f77_tree.specs.declared.programs.Program.{Program};
 ghost use Rattle.f77_tree.specs.OtherPlaces.{without_places};
-ghost use Rattle.f77_layout.specs.declared.layout_end.LayoutEnd.{LayoutEnd};
 ghost use Rattle.f77_layout.specs.Appearances.{has_real_name};
 ghost use Rattle.f77_layout.specs.Jumps.{jumps_into};
 ghost use Rattle.f77_layout.specs.Labels.{is_labelled_twice, lacks_label};
@@ -13,9 +12,8 @@ ghost use Rattle.f77_layout.specs.Order.{is_out_of_order};
 ghost use Rattle.f77_layout.specs.StorageFaults.{has_dims_twice, has_wrong_dims, has_wrong_member, is_common_twice};
 ghost use Rattle.f77_layout.specs.TypeFaults.{has_wrong_type};
 ghost use Rattle.flat_programs.specs.declared.statements.FlatLine.{FlatLine};
-ghost use Rattle.read_back.specs.PrintedArrays.{HasNoPrintedArrays};
 ghost use Rattle.read_back.specs.PrintedStatements.{CanBeText};
-ghost use Rattle.read_back.specs.SourceStatements.{NoneHas, statements_read};
+ghost use Rattle.read_back.specs.SourceStatements.{CanBeRead, NoneHas, statements_read};
 ghost use Rattle.read_back.specs.StorageRefusals.{IsOfStorage};
 
 /// No statement that a printed program is read as is out of order (ANSI X3.9-1978, section 3.5); none bears a label of another one, or
@@ -33,9 +31,9 @@ pub fn printed_statements_are_in_order()
 /// dimensions (ANSI X3.9-1978, sections 4.1 and 5); so no name is real, no kind is given twice, and no kind is wrong (sections 8.4, 8.5
 /// and 10). No array bears a name with which an intrinsic function is printed.
 pub fn printed_names_are_those_of_the_table()
-    ensures table { (q : Program) (flat : List FlatLine) → CanBeText q flat → HasNoPrintedArrays q.names → names_of (statements_read q flat) ≡ without_places q.names }
-    ensures known { (q : Program) (flat : List FlatLine) → CanBeText q flat → HasNoPrintedArrays q.names → NoneHas has_real_name q flat }
-    ensures kinds { (q : Program) (flat : List FlatLine) → CanBeText q flat → HasNoPrintedArrays q.names → NoneHas (λ whole. has_wrong_type (names_of whole)) q flat }
+    ensures table { (q : Program) (flat : List FlatLine) → CanBeRead q flat → names_of (statements_read q flat) ≡ without_places q.names }
+    ensures known { (q : Program) (flat : List FlatLine) → CanBeRead q flat → NoneHas has_real_name q flat }
+    ensures kinds { (q : Program) (flat : List FlatLine) → CanBeRead q flat → NoneHas (λ whole. has_wrong_type (names_of whole)) q flat }
 {}
 
 /// No name stands twice in the COMMON statements that a printed program is read as (ANSI X3.9-1978, section 8.3).
@@ -48,11 +46,11 @@ pub fn printed_names_are_common_once()
 pub fn printed_arrays_have_their_dimensions()
     ensures once { (q : Program) (flat : List FlatLine) → CanBeText q flat → NoneHas (λ whole. has_dims_twice) q flat }
     ensures sizes { (q : Program) (flat : List FlatLine) → CanBeText q flat → NoneHas (λ whole above. has_wrong_dims) q flat }
-    ensures members { (q : Program) (flat : List FlatLine) → CanBeText q flat → HasNoPrintedArrays q.names → NoneHas (λ whole above. has_wrong_member (names_of whole)) q flat }
+    ensures members { (q : Program) (flat : List FlatLine) → CanBeRead q flat → NoneHas (λ whole above. has_wrong_member (names_of whole)) q flat }
 {}
 
 /// The statements that a printed program is read as are refused by the layout, if at all, for what they ask of storage or of operations. No
 /// array bears a name with which an intrinsic function is printed.
 pub fn printed_programs_are_refused_for_storage_alone()
-    ensures { (q : Program) (flat : List FlatLine) (checked : Bool) (end : LayoutEnd) → CanBeText q flat → HasNoPrintedArrays q.names → layout (statements_read q flat) checked ≡ Err end → IsOfStorage end }
+    ensures { (q : Program) (flat : List FlatLine) (checked : Bool) → CanBeRead q flat → IfErr (layout (statements_read q flat) checked) IsOfStorage }
 {}

@@ -8,4 +8,4 @@ pub returns-clause-sizes : goal.returns-clause-sizes
 returns-clause-sizes c = λ q flat given. none_wrong_dims q flat given
 
 pub returns-clause-members : goal.returns-clause-members
-returns-clause-members c = λ q flat given free. none_wrong_member q flat given free
+returns-clause-members c = λ q flat given. none_wrong_member q flat given.text given.arrays
