@@ -1,0 +1,9 @@
+pub mod LinesRead
+pub mod LoadFirings
+pub mod NearLoads
+pub mod StepLaws
+pub mod LoadWalks
+pub mod LineReads
+pub mod ForgottenLoads
+pub mod LoadReads
+pub mod MarkLemmas

@@ -1,0 +1,4 @@
+pub mod LoadSteps
+pub mod LoadedGroups
+pub mod LoadChanges
+pub mod LoadMarks
