@@ -17,3 +17,4 @@ pub mod Fits
 pub mod Growing
 pub mod Operands
 pub mod Orders
+mod UserWords

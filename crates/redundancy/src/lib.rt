@@ -14,6 +14,7 @@ mod rows;
 mod solve;
 mod table;
 mod trees;
+mod users;
 
 pub use avail::{Avail, available};
 pub use laws::{available_expressions_keep_their_values, one_table_of_availability};

@@ -7,9 +7,10 @@ ghost use Rattle.class_set.specs.Members.{IsWidth};
 ghost use Rattle.redundancy.specs.Available.{has_bit};
 ghost use Rattle.redundancy.specs.Noted.{AreRows, IsMarked};
 ghost use Rattle.redundancy.specs.Solving.{HasBit, bit};
-ghost use Rattle.redundancy.specs.Killing.{Meet};
+ghost use Rattle.redundancy.specs.Killing.{AreUsers, Meet};
 
 use crate::listed::Listed;
+use crate::users::{only_member, users_of};
 use class_set::ClassSet;
 use df_sequence::NoMemory;
 use std::alloc::Global;
@@ -50,15 +51,35 @@ pub(crate) fn kill_row<const W: usize>(
     ensures bits { IfOk result (λ row. (node k : ℕ) (d : ClassSet W) → node < length writes.now → k < length needs.now → HasBit row.items k node ↔ Meet (slice_index_or needs.now k d) (slice_index_or writes.now node d)) }
 {
     let all = union_of(needs);
+    let users = users_of(alloc, needs)?;
     let mut row = Vec::new(alloc);
     for written in writes {
-        row.push(killed(needs, &all, written))?;
+        row.push(killed(needs, &users, &all, written))?;
     }
     Ok(row)
 }
 
+// Which of these sets meet the set. Where it has one member alone, as most have, `users` has the answer.
+fn killed<const W: usize>(
+    sets: &[ClassSet<W>],
+    users: &Listed<u64>,
+    all: &ClassSet<W>,
+    set: &ClassSet<W>,
+) -> u64
+    requires width { IsWidth W }
+    requires few { length sets.now ≤ 64 }
+    requires users { AreUsers sets.now (length sets.now) users.now }
+    requires all { (k n : ℕ) (d : ClassSet W) → k < length sets.now → holds (slice_index_or sets.now k d) n ≡ true → holds all.now n ≡ true }
+    ensures { (k : ℕ) (d : ClassSet W) → k < length sets.now → (has_bit result k ≡ true) ↔ Meet (slice_index_or sets.now k d) set.now }
+{
+    match only_member(set) {
+        Some(n) => users.as_slice()[n as usize],
+        None => killed_by_many(sets, all, set),
+    }
+}
+
 // Which of these sets meet the set. `all` has all their members, so that most questions need one look.
-fn killed<const W: usize>(sets: &[ClassSet<W>], all: &ClassSet<W>, set: &ClassSet<W>) -> u64
+fn killed_by_many<const W: usize>(sets: &[ClassSet<W>], all: &ClassSet<W>, set: &ClassSet<W>) -> u64
     requires width { IsWidth W }
     requires few { length sets.now ≤ 64 }
     requires all { (k n : ℕ) (d : ClassSet W) → k < length sets.now → holds (slice_index_or sets.now k d) n ≡ true → holds all.now n ≡ true }
