@@ -12,7 +12,7 @@ ghost use Rattle.alias_classes.specs.Number.{HasFewClasses};
 ghost use Rattle.dep_routing.specs.Touch.{touches_in};
 ghost use Rattle.flow_analysis.specs.Analysis.{IsRangeAnalysisOf};
 ghost use Rattle.net_board.specs.NetParts.{net_with};
-ghost use Rattle.op_net.specs.NetView.{net_of};
+ghost use Rattle.op_net.specs.GraphView.{operations_of};
 ghost use Rattle.dfc_driver.specs.Answers.{AnswersAs};
 ghost use Rattle.dfc_driver.specs.Drawn.{IsDrawnOf};
 ghost use Rattle.dfc_driver.specs.Due.{IsDoneBy};
@@ -33,9 +33,8 @@ use class_set::ClassSet;
 use dep_routing::one_routing;
 use df_io::{NoMemory, Sink, TextBuffer, WriteFault};
 use f77_tree::Program;
-use firing::StepSystem;
 use flow_analysis::{Analysis, analyze_by_ranges};
-use op_net::OpNet;
+use op_net::OpGraph;
 use range_lines::one_range_touching;
 use std::alloc::Global;
 
@@ -101,7 +100,7 @@ fn tell_net<K: Sink>(
 {
     let analysis = &drawn.analysis;
     let sets = drawn.name_sets.as_slice();
-    let Ok(net) = OpNet::new(
+    let Ok(net) = OpGraph::new(
         alloc,
         program,
         &analysis.flow,
@@ -135,18 +134,18 @@ fn tell<K: Sink>(
     analysis: &Analysis<'_>,
     name_sets: &[ClassSet<CLASS_WORDS>],
     tables: &EdgeTables,
-    net: &OpNet<'_, CLASS_WORDS>,
+    net: &OpGraph<'_, CLASS_WORDS>,
     buffer: &mut TextBuffer,
     sink: &mut K,
 ) -> Result<(), WriteFault>
     requires program { IsWellFormed program.now }
     requires analysis { IsRangeAnalysisOf program.now analysis.now }
-    requires own { (net_of net.now).net ≡ net_with program.now [] (touches_in analysis.now.touch) analysis.now.lines }
+    requires own { (operations_of net.now).net ≡ net_with program.now [] (touches_in analysis.now.touch) analysis.now.lines }
     requires sets { AreNameSets program.now.names analysis.now.classes name_sets.now }
     requires tables { AreTablesOf analysis.now.flow.graph analysis.now.lines tables.now }
     requires buffer { buffer.old ≡ [] }
-    ensures all { OnOk result (Appends (K.got sink.old) (K.got sink.new) (graph_text program.now analysis.now.classes (net_of net.now))) }
-    ensures prefix { OnErr result (AppendsPrefix (K.got sink.old) (K.got sink.new) (graph_text program.now analysis.now.classes (net_of net.now))) }
+    ensures all { OnOk result (Appends (K.got sink.old) (K.got sink.new) (graph_text program.now analysis.now.classes (operations_of net.now))) }
+    ensures prefix { OnErr result (AppendsPrefix (K.got sink.old) (K.got sink.new) (graph_text program.now analysis.now.classes (operations_of net.now))) }
     ensures later { K.faults sink.old ≤ K.faults sink.new }
     ensures fault { OnErr result (Rose (K.faults sink.old) (K.faults sink.new)) }
 {
@@ -160,18 +159,18 @@ fn tell_parts<K: Sink>(
     analysis: &Analysis<'_>,
     name_sets: &[ClassSet<CLASS_WORDS>],
     tables: &EdgeTables,
-    net: &OpNet<'_, CLASS_WORDS>,
+    net: &OpGraph<'_, CLASS_WORDS>,
     buffer: &mut TextBuffer,
     sink: &mut K,
 ) -> Result<(), WriteFault>
     requires program { IsWellFormed program.now }
     requires analysis { IsRangeAnalysisOf program.now analysis.now }
-    requires own { (net_of net.now).net ≡ net_with program.now [] (touches_in analysis.now.touch) analysis.now.lines }
+    requires own { (operations_of net.now).net ≡ net_with program.now [] (touches_in analysis.now.touch) analysis.now.lines }
     requires sets { AreNameSets program.now.names analysis.now.classes name_sets.now }
     requires tables { AreTablesOf analysis.now.flow.graph analysis.now.lines tables.now }
     requires edges { analysis.now.lines.edges ≡ edge_count analysis.now.flow.graph }
-    ensures text { OnOk result (IsWrittenBut buffer.new (K.got sink.old) (K.got sink.new) (buffer.old ++ graph_text program.now analysis.now.classes (net_of net.now))) }
-    ensures prefix { OnErr result (AppendsPrefix (K.got sink.old) (K.got sink.new) (buffer.old ++ graph_text program.now analysis.now.classes (net_of net.now))) }
+    ensures text { OnOk result (IsWrittenBut buffer.new (K.got sink.old) (K.got sink.new) (buffer.old ++ graph_text program.now analysis.now.classes (operations_of net.now))) }
+    ensures prefix { OnErr result (AppendsPrefix (K.got sink.old) (K.got sink.new) (buffer.old ++ graph_text program.now analysis.now.classes (operations_of net.now))) }
     ensures later { K.faults sink.old ≤ K.faults sink.new }
     ensures fault { OnErr result (Rose (K.faults sink.old) (K.faults sink.new)) }
 {

@@ -9,7 +9,7 @@ ghost use Rattle.df_io.specs.Faults.{Rose};
 ghost use Rattle.df_io.specs.TextBuffer.{IsWrittenBut};
 ghost use Rattle.df_io.specs.Write.{AppendsPrefix};
 ghost use Rattle.op_board.specs.OperationNets.{operation_node};
-ghost use Rattle.op_net.specs.NetView.{net_of};
+ghost use Rattle.op_net.specs.GraphView.{operations_of};
 ghost use Rattle.op_net.specs.Telling.{IsOperation};
 ghost use Rattle.op_net.specs.Waits.{node_total};
 ghost use Rattle.dfc_driver.specs.Below.{IsLastBelow, IsNextBelow};
@@ -20,19 +20,19 @@ use crate::operation_names::name_of;
 use alias_classes::CLASS_WORDS;
 use class_set::ClassSet;
 use df_io::{Sink, TextBuffer, WriteFault};
-use firing::{NodeName, StepSystem};
-use op_net::{OpNet, Operand};
+use firing::NodeName;
+use op_net::{OpGraph, Operand};
 
 /// Appends the nodes of a net with so many lines: each with its name, and an operation with what it does and the lines that it needs.
 pub fn tell_nodes<K: Sink>(
-    net: &OpNet<'_, CLASS_WORDS>,
+    net: &OpGraph<'_, CLASS_WORDS>,
     lines: u32,
     buffer: &mut TextBuffer,
     sink: &mut K,
 ) -> Result<(), WriteFault>
-    requires lines { lines ≡ (net_of net.now).net.routing.lines }
-    ensures text { OnOk result (IsWrittenBut buffer.new (K.got sink.old) (K.got sink.new) (buffer.old ++ node_lines (net_of net.now))) }
-    ensures prefix { OnErr result (AppendsPrefix (K.got sink.old) (K.got sink.new) (buffer.old ++ node_lines (net_of net.now))) }
+    requires lines { lines ≡ (operations_of net.now).net.routing.lines }
+    ensures text { OnOk result (IsWrittenBut buffer.new (K.got sink.old) (K.got sink.new) (buffer.old ++ node_lines (operations_of net.now))) }
+    ensures prefix { OnErr result (AppendsPrefix (K.got sink.old) (K.got sink.new) (buffer.old ++ node_lines (operations_of net.now))) }
     ensures later { K.faults sink.old ≤ K.faults sink.new }
     ensures fault { OnErr result (Rose (K.faults sink.old) (K.faults sink.new)) }
 {
@@ -44,16 +44,16 @@ pub fn tell_nodes<K: Sink>(
 
 // Appends the line of a node.
 fn tell_node<K: Sink>(
-    net: &OpNet<'_, CLASS_WORDS>,
+    net: &OpGraph<'_, CLASS_WORDS>,
     lines: u32,
     k: u32,
     buffer: &mut TextBuffer,
     sink: &mut K,
 ) -> Result<(), WriteFault>
-    requires lines { lines ≡ (net_of net.now).net.routing.lines }
-    requires node { k < node_total (net_of net.now) }
-    ensures text { OnOk result (IsWrittenBut buffer.new (K.got sink.old) (K.got sink.new) (buffer.old ++ node_line (net_of net.now) k)) }
-    ensures prefix { OnErr result (AppendsPrefix (K.got sink.old) (K.got sink.new) (buffer.old ++ node_line (net_of net.now) k)) }
+    requires lines { lines ≡ (operations_of net.now).net.routing.lines }
+    requires node { k < node_total (operations_of net.now) }
+    ensures text { OnOk result (IsWrittenBut buffer.new (K.got sink.old) (K.got sink.new) (buffer.old ++ node_line (operations_of net.now) k)) }
+    ensures prefix { OnErr result (AppendsPrefix (K.got sink.old) (K.got sink.new) (buffer.old ++ node_line (operations_of net.now) k)) }
     ensures later { K.faults sink.old ≤ K.faults sink.new }
     ensures fault { OnErr result (Rose (K.faults sink.old) (K.faults sink.new)) }
 {
@@ -64,16 +64,16 @@ fn tell_node<K: Sink>(
 
 // Appends the name of a node, after a blank.
 fn tell_name<K: Sink>(
-    net: &OpNet<'_, CLASS_WORDS>,
+    net: &OpGraph<'_, CLASS_WORDS>,
     lines: u32,
     k: u32,
     buffer: &mut TextBuffer,
     sink: &mut K,
 ) -> Result<(), WriteFault>
-    requires lines { lines ≡ (net_of net.now).net.routing.lines }
-    requires node { k < node_total (net_of net.now) }
-    ensures text { OnOk result (IsWrittenBut buffer.new (K.got sink.old) (K.got sink.new) (buffer.old ++ node_text (net_of net.now) (operation_node (net_of net.now) k))) }
-    ensures prefix { OnErr result (AppendsPrefix (K.got sink.old) (K.got sink.new) (buffer.old ++ node_text (net_of net.now) (operation_node (net_of net.now) k))) }
+    requires lines { lines ≡ (operations_of net.now).net.routing.lines }
+    requires node { k < node_total (operations_of net.now) }
+    ensures text { OnOk result (IsWrittenBut buffer.new (K.got sink.old) (K.got sink.new) (buffer.old ++ node_text (operations_of net.now) (operation_node (operations_of net.now) k))) }
+    ensures prefix { OnErr result (AppendsPrefix (K.got sink.old) (K.got sink.new) (buffer.old ++ node_text (operations_of net.now) (operation_node (operations_of net.now) k))) }
     ensures later { K.faults sink.old ≤ K.faults sink.new }
     ensures fault { OnErr result (Rose (K.faults sink.old) (K.faults sink.new)) }
 {
@@ -87,7 +87,7 @@ fn tell_name<K: Sink>(
 
 // Appends the name of an operation, with what it does and the lines that it needs.
 fn tell_operation<K: Sink>(
-    net: &OpNet<'_, CLASS_WORDS>,
+    net: &OpGraph<'_, CLASS_WORDS>,
     lines: u32,
     k: u32,
     piece: u32,
@@ -95,11 +95,11 @@ fn tell_operation<K: Sink>(
     buffer: &mut TextBuffer,
     sink: &mut K,
 ) -> Result<(), WriteFault>
-    requires lines { lines ≡ (net_of net.now).net.routing.lines }
-    requires node { k < node_total (net_of net.now) }
-    requires operation { operation_node (net_of net.now) k ≡ NodeName.Op piece i }
-    ensures text { OnOk result (IsWrittenBut buffer.new (K.got sink.old) (K.got sink.new) (buffer.old ++ node_text (net_of net.now) (NodeName.Op piece i))) }
-    ensures prefix { OnErr result (AppendsPrefix (K.got sink.old) (K.got sink.new) (buffer.old ++ node_text (net_of net.now) (NodeName.Op piece i))) }
+    requires lines { lines ≡ (operations_of net.now).net.routing.lines }
+    requires node { k < node_total (operations_of net.now) }
+    requires operation { operation_node (operations_of net.now) k ≡ NodeName.Op piece i }
+    ensures text { OnOk result (IsWrittenBut buffer.new (K.got sink.old) (K.got sink.new) (buffer.old ++ node_text (operations_of net.now) (NodeName.Op piece i))) }
+    ensures prefix { OnErr result (AppendsPrefix (K.got sink.old) (K.got sink.new) (buffer.old ++ node_text (operations_of net.now) (NodeName.Op piece i))) }
     ensures later { K.faults sink.old ≤ K.faults sink.new }
     ensures fault { OnErr result (Rose (K.faults sink.old) (K.faults sink.new)) }
 {
@@ -195,12 +195,12 @@ fn next_below(set: &ClassSet<CLASS_WORDS>, before: Option<u32>, end: u32) -> Opt
 
 /// Appends the operands of the operations that have some.
 pub fn tell_values<K: Sink>(
-    net: &OpNet<'_, CLASS_WORDS>,
+    net: &OpGraph<'_, CLASS_WORDS>,
     buffer: &mut TextBuffer,
     sink: &mut K,
 ) -> Result<(), WriteFault>
-    ensures text { OnOk result (IsWrittenBut buffer.new (K.got sink.old) (K.got sink.new) (buffer.old ++ value_lines (net_of net.now))) }
-    ensures prefix { OnErr result (AppendsPrefix (K.got sink.old) (K.got sink.new) (buffer.old ++ value_lines (net_of net.now))) }
+    ensures text { OnOk result (IsWrittenBut buffer.new (K.got sink.old) (K.got sink.new) (buffer.old ++ value_lines (operations_of net.now))) }
+    ensures prefix { OnErr result (AppendsPrefix (K.got sink.old) (K.got sink.new) (buffer.old ++ value_lines (operations_of net.now))) }
     ensures later { K.faults sink.old ≤ K.faults sink.new }
     ensures fault { OnErr result (Rose (K.faults sink.old) (K.faults sink.new)) }
 {
@@ -212,14 +212,14 @@ pub fn tell_values<K: Sink>(
 
 // Appends the line of the operands of a node, if it has some.
 fn tell_value<K: Sink>(
-    net: &OpNet<'_, CLASS_WORDS>,
+    net: &OpGraph<'_, CLASS_WORDS>,
     k: u32,
     buffer: &mut TextBuffer,
     sink: &mut K,
 ) -> Result<(), WriteFault>
-    requires node { k < node_total (net_of net.now) }
-    ensures text { OnOk result (IsWrittenBut buffer.new (K.got sink.old) (K.got sink.new) (buffer.old ++ value_text (net_of net.now) k (operation_node (net_of net.now) k))) }
-    ensures prefix { OnErr result (AppendsPrefix (K.got sink.old) (K.got sink.new) (buffer.old ++ value_text (net_of net.now) k (operation_node (net_of net.now) k))) }
+    requires node { k < node_total (operations_of net.now) }
+    ensures text { OnOk result (IsWrittenBut buffer.new (K.got sink.old) (K.got sink.new) (buffer.old ++ value_text (operations_of net.now) k (operation_node (operations_of net.now) k))) }
+    ensures prefix { OnErr result (AppendsPrefix (K.got sink.old) (K.got sink.new) (buffer.old ++ value_text (operations_of net.now) k (operation_node (operations_of net.now) k))) }
     ensures later { K.faults sink.old ≤ K.faults sink.new }
     ensures fault { OnErr result (Rose (K.faults sink.old) (K.faults sink.new)) }
 {
@@ -233,15 +233,15 @@ fn tell_value<K: Sink>(
 
 // Appends the line of the operands of an operation.
 fn tell_operands_line<K: Sink>(
-    net: &OpNet<'_, CLASS_WORDS>,
+    net: &OpGraph<'_, CLASS_WORDS>,
     k: u32,
     buffer: &mut TextBuffer,
     sink: &mut K,
 ) -> Result<(), WriteFault>
-    requires node { k < node_total (net_of net.now) }
-    requires operation { IsOperation (operation_node (net_of net.now) k) }
-    ensures text { OnOk result (IsWrittenBut buffer.new (K.got sink.old) (K.got sink.new) (buffer.old ++ (codes "V " ++ decimal k ++ operands_text (net_of net.now) (operation_node (net_of net.now) k) ++ 10 ∷ []))) }
-    ensures prefix { OnErr result (AppendsPrefix (K.got sink.old) (K.got sink.new) (buffer.old ++ (codes "V " ++ decimal k ++ operands_text (net_of net.now) (operation_node (net_of net.now) k) ++ 10 ∷ []))) }
+    requires node { k < node_total (operations_of net.now) }
+    requires operation { IsOperation (operation_node (operations_of net.now) k) }
+    ensures text { OnOk result (IsWrittenBut buffer.new (K.got sink.old) (K.got sink.new) (buffer.old ++ (codes "V " ++ decimal k ++ operands_text (operations_of net.now) (operation_node (operations_of net.now) k) ++ 10 ∷ []))) }
+    ensures prefix { OnErr result (AppendsPrefix (K.got sink.old) (K.got sink.new) (buffer.old ++ (codes "V " ++ decimal k ++ operands_text (operations_of net.now) (operation_node (operations_of net.now) k) ++ 10 ∷ []))) }
     ensures later { K.faults sink.old ≤ K.faults sink.new }
     ensures fault { OnErr result (Rose (K.faults sink.old) (K.faults sink.new)) }
 {
@@ -251,9 +251,9 @@ fn tell_operands_line<K: Sink>(
 }
 
 // Whether the node is an operation with operands.
-fn has_operands(net: &OpNet<'_, CLASS_WORDS>, k: u32) -> bool
-    requires node { k < node_total (net_of net.now) }
-    ensures { result ≡ has_operands_in (net_of net.now) (operation_node (net_of net.now) k) }
+fn has_operands(net: &OpGraph<'_, CLASS_WORDS>, k: u32) -> bool
+    requires node { k < node_total (operations_of net.now) }
+    ensures { result ≡ has_operands_in (operations_of net.now) (operation_node (operations_of net.now) k) }
 {
     match net.name(k) {
         NodeName::Op(_, _) => 0 < net.operands(k),
@@ -263,15 +263,15 @@ fn has_operands(net: &OpNet<'_, CLASS_WORDS>, k: u32) -> bool
 
 // Appends the operands of an operation.
 fn tell_operands<K: Sink>(
-    net: &OpNet<'_, CLASS_WORDS>,
+    net: &OpGraph<'_, CLASS_WORDS>,
     k: u32,
     buffer: &mut TextBuffer,
     sink: &mut K,
 ) -> Result<(), WriteFault>
-    requires node { k < node_total (net_of net.now) }
-    requires operation { IsOperation (operation_node (net_of net.now) k) }
-    ensures text { OnOk result (IsWrittenBut buffer.new (K.got sink.old) (K.got sink.new) (buffer.old ++ operands_text (net_of net.now) (operation_node (net_of net.now) k))) }
-    ensures prefix { OnErr result (AppendsPrefix (K.got sink.old) (K.got sink.new) (buffer.old ++ operands_text (net_of net.now) (operation_node (net_of net.now) k))) }
+    requires node { k < node_total (operations_of net.now) }
+    requires operation { IsOperation (operation_node (operations_of net.now) k) }
+    ensures text { OnOk result (IsWrittenBut buffer.new (K.got sink.old) (K.got sink.new) (buffer.old ++ operands_text (operations_of net.now) (operation_node (operations_of net.now) k))) }
+    ensures prefix { OnErr result (AppendsPrefix (K.got sink.old) (K.got sink.new) (buffer.old ++ operands_text (operations_of net.now) (operation_node (operations_of net.now) k))) }
     ensures later { K.faults sink.old ≤ K.faults sink.new }
     ensures fault { OnErr result (Rose (K.faults sink.old) (K.faults sink.new)) }
 {

@@ -57,6 +57,6 @@ pub mod NextNets
 pub mod TaskPropositions
 pub mod ReadyNodes
 pub mod PlannedOperations
-pub mod RowOperands
+pub mod GivenOperands
 pub mod PieceLines
 pub mod PieceValues

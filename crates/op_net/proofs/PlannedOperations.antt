@@ -1,6 +1,6 @@
 -- What a plan tells of an operation.
 use Rattle.std.proofs.Common.{◌≡◌, ◌<◌, ℕ, List, length, get_or, map, Option, Some, slice_get, refl, sym, ap, ◌∙◌, arith}
-use mathlib.Core.Logic.{∥∥₁_elim}
+use Rattle.std.proofs.Math.Logic.{∥∥₁_elim, ∥∥₁_map}
 use mathlib.Core.Sum.{⊎_set}
 use Rattle.std.proofs.Props.{props}
 use Rattle.std.specs.Option.{option_map}
@@ -11,7 +11,7 @@ use Rattle.net_board.specs.Nodes.{graph_in}
 use Rattle.op_board.specs.Operations as board
 use Rattle.op_board.specs.OperationNets.{operation_at, operation_count, operation_in, operations_at}
 use Rattle.operation_lists.specs.declared.operations.Operation.{Operation}
-use Rattle.operation_lists.specs.Seen.{operation_seen, work_seen}
+use Rattle.operation_lists.specs.Seen.{operand_seen, operation_seen, work_seen}
 use Rattle.set_lists.specs.Sets.{set_count, test_at}
 use Rattle.op_net.specs.declared.plan.OperationPlan.{OperationPlan}
 use Rattle.op_net.specs.declared.plan.PieceOperations.{PieceOperations}
@@ -30,11 +30,17 @@ module _ {W : ℕ} (plan : OperationPlan W) (piece i : ℕ) (o : PieceOperations
   pub inside_needs : i < set_count o.needs
   inside_needs = let same = plan.own_needs piece o at in let low = inside_operations in omega (arith, same, low)
 
+  here : map operation_seen o.operations.items ≡ operations_at (operations_in plan) piece → (op : Operation) → op ≡ get_or o.operations.items i op → slice_get (operations_at (operations_in plan) piece) i ≡ Some (operation_seen op)
+  here own op read =
+      ap (λ (ops : List board.Operation). slice_get ops i) (sym own) ∙ slice_get-map operation_seen o.operations.items i ∙ ap (option_map operation_seen) (slice_get_read o.operations.items (length o.operations.items) i op refl inside_operations read)
+
   pub planned_name : (op : Operation) → op ≡ get_or o.operations.items i op → operation_name (work_seen op.work) ≡ operation_name (operation_at (operations_in plan) piece i).work
   planned_name op read = ∥∥₁_elim (plan.own_operations piece o at) (hlevel (props, ⊎_set)) (λ (own : map operation_seen o.operations.items ≡ operations_at (operations_in plan) piece).
-      let here : slice_get (operations_at (operations_in plan) piece) i ≡ Some (operation_seen op) =
-      ap (λ (ops : List board.Operation). slice_get ops i) (sym own) ∙ slice_get-map operation_seen o.operations.items i ∙ ap (option_map operation_seen) (slice_get_read o.operations.items (length o.operations.items) i op refl inside_operations read) in
-      ap (λ (q : Option board.Operation). operation_name (operation_in q).work) (sym here))
+      ap (λ (q : Option board.Operation). operation_name (operation_in q).work) (sym (here own op read)))
+
+  pub planned_operands : (op : Operation) → op ≡ get_or o.operations.items i op → ∥ map operand_seen op.operands.items ≡ (operation_at (operations_in plan) piece i).operands ∥₁
+  planned_operands op read = ∥∥₁_map (plan.own_operations piece o at) (λ (own : map operation_seen o.operations.items ≡ operations_at (operations_in plan) piece).
+      ap (λ (q : Option board.Operation). (operation_in q).operands) (sym (here own op read)))
 
   pub planned_needs : (set : ClassSet W) → ((line : ℕ) → holds set line ≡ test_at o.needs i line) → (line : ℕ) → holds set line ≡ (operations_in plan).needs piece i line
   planned_needs set read line =

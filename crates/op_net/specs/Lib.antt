@@ -6,6 +6,8 @@ pub mod ScratchLines
 pub mod OperationRows
 pub mod PieceTables
 pub mod PlanFacts
+pub mod NodeTables
+pub mod GraphView
 pub mod RowRoom
 pub mod OperationTables
 pub mod BoardView

@@ -4,6 +4,7 @@
 mod control_moves;
 mod counting;
 mod entries;
+mod graph;
 mod hops;
 mod leads;
 mod lookups;
@@ -26,6 +27,7 @@ mod takers;
 mod telling;
 mod waiting;
 
+pub use graph::OpGraph;
 pub use net::OpNet;
 pub use operation_lists::Operand;
 pub use telling::OpName;

@@ -18,12 +18,12 @@ ghost use Rattle.op_net.specs.OperationTables.{AreOperationTables};
 ghost use Rattle.op_net.specs.PlanView.{operations_in};
 ghost use Rattle.op_net.specs.StaysInStep.{StaysInStep};
 
-use crate::OpNet;
 use crate::leads::no_leads;
 use crate::lookups::OperationBoard;
 use crate::places::Places;
-use crate::plan::{OperationPlan, make_plan};
+use crate::plan::OperationPlan;
 use crate::tables::{OperationTables, make_tables};
+use crate::{OpGraph, OpNet};
 use alias_classes::Classes;
 use cfg_build::Flow;
 use dep_routing::{Lines, TouchList};
@@ -64,8 +64,11 @@ impl<'a, const W: usize> OpNet<'a, W> {
         operation_nets_begin_soundly();
         operation_nets_stay_in_lockstep();
         operation_nets_pass_pieces_whole();
-        let plan = make_plan(alloc, p, f, c, touch, l, input)?;
-        let tables = make_tables(alloc, &plan)?;
+        let OpGraph {
+            plan,
+            tables: nodes,
+        } = OpGraph::new(alloc, p, f, c, touch, l, input)?;
+        let tables = make_tables(alloc, &plan, nodes)?;
         let room = longest_line(p.execs.as_slice())?;
         let control = first_control(&plan.board);
         let places = first_state(alloc, &plan, &tables)?;

@@ -3,6 +3,7 @@
 ghost use Rattle.std.specs.Prelude.{◌≡◌, ◌<◌, ◌≤◌, ◌+◌, ℕ, IfOk, Some, length, slice_get};
 ghost use Rattle.operation_lists.specs.declared.operations.Operation.{Operation};
 ghost use Rattle.op_board.specs.OperationNets.{operation_at, operation_count};
+ghost use Rattle.op_net.specs.NodeTables.{AreNodeTables};
 ghost use Rattle.op_net.specs.OperationTables.{AreOperationTables};
 ghost use Rattle.op_net.specs.PieceTables.{AreAllRows};
 ghost use Rattle.op_net.specs.PlanView.{operations_in};
@@ -15,6 +16,17 @@ use df_sequence::NoMemory;
 use node_names::NameList;
 use operation_lists::Operation;
 use std::alloc::Global;
+
+/// The nodes of a net of operations.
+#[derive(Drop)]
+pub(crate) struct NodeTables {
+    /// The name of each node.
+    pub(crate) names: NameList,
+    /// For each piece the number of its first node, and last the number of all nodes.
+    pub(crate) firsts: Vec<u32>,
+    /// There are no more operations before one in its piece together with its operands than this, which can be numbered.
+    pub(crate) most: usize,
+}
 
 /// The nodes of a net of operations, and what their firings look up.
 #[derive(Drop)]
@@ -29,22 +41,37 @@ pub(crate) struct OperationTables<'a> {
     pub(crate) most: usize,
 }
 
-/// The tables of a net of operations. More nodes than can be numbered, or values for which an
-/// operation needs room, are allocation failure.
+/// The nodes of a net of operations. More nodes than can be numbered, or operands of an operation, are allocation failure.
+pub(crate) fn make_node_tables<const W: usize>(
+    alloc: Global,
+    plan: &OperationPlan<W>,
+) -> Result<NodeTables, NoMemory>
+    ensures { IfOk result (λ t. AreNodeTables (operations_in plan.now) t) }
+{
+    let nodes = numbered_nodes(alloc, plan)?;
+    let most = number_of(most_values(plan))?;
+    Ok(NodeTables {
+        names: nodes.names,
+        firsts: nodes.firsts,
+        most: most as usize,
+    })
+}
+
+/// The tables of a net of operations with these nodes.
 pub(crate) fn make_tables<'a, const W: usize>(
     alloc: Global,
     plan: &OperationPlan<'a, W>,
+    nodes: NodeTables,
 ) -> Result<OperationTables<'a>, NoMemory>
+    requires { AreNodeTables (operations_in plan.now) nodes }
     ensures { IfOk result (λ t. AreOperationTables (operations_in plan.now) t) }
 {
-    let nodes = numbered_nodes(alloc, plan)?;
     let pieces = all_rows(alloc, plan)?;
-    let most = number_of(most_values(plan))?;
     Ok(OperationTables {
         names: nodes.names,
         firsts: nodes.firsts,
         pieces,
-        most: most as usize,
+        most: nodes.most,
     })
 }
 

@@ -3,19 +3,19 @@
 ghost use Rattle.std.specs.Prelude.{◌<◌};
 ghost use Rattle.op_table.specs.Words.{IsWord};
 ghost use Rattle.op_board.specs.OperationNets.{operation_at, operation_node};
-ghost use Rattle.op_net.specs.NetView.{net_of};
+ghost use Rattle.op_net.specs.GraphView.{operations_of};
 ghost use Rattle.op_net.specs.Telling.{IsOperation, number_of, piece_of};
 ghost use Rattle.op_net.specs.Waits.{node_total};
 ghost use Rattle.printed_laws.specs.ShortNet.{AreShortOperands, HasShortOperands, IsShortGiven, IsShortNet};
 
 use crate::numbers::stays_short;
-use firing::{NodeName, StepSystem};
-use op_net::{OpNet, Operand};
+use firing::NodeName;
+use op_net::{OpGraph, Operand};
 
 /// Each net of operations that is made has nodes that are counted in 32 bits, and so are the operands of each operation. They are the
 /// numbers of nodes, or words.
-pub fn nets_are_short<const W: usize>(net: &OpNet<'_, W>)
-    ensures { IsShortNet (net_of net.now) }
+pub fn nets_are_short<const W: usize>(net: &OpGraph<'_, W>)
+    ensures { IsShortNet (operations_of net.now) }
 {
     for k in 0..net.nodes() {
         node_is_short(net, k);
@@ -23,9 +23,9 @@ pub fn nets_are_short<const W: usize>(net: &OpNet<'_, W>)
 }
 
 // The operands of a node.
-fn node_is_short<const W: usize>(net: &OpNet<'_, W>, k: u32)
-    requires { k < node_total (net_of net.now) }
-    ensures { HasShortOperands (net_of net.now) (operation_node (net_of net.now) k) }
+fn node_is_short<const W: usize>(net: &OpGraph<'_, W>, k: u32)
+    requires { k < node_total (operations_of net.now) }
+    ensures { HasShortOperands (operations_of net.now) (operation_node (operations_of net.now) k) }
 {
     match net.name(k) {
         NodeName::Op(_, _) => operands_are_short(net, k),
@@ -34,10 +34,10 @@ fn node_is_short<const W: usize>(net: &OpNet<'_, W>, k: u32)
 }
 
 // The operands of an operation.
-fn operands_are_short<const W: usize>(net: &OpNet<'_, W>, k: u32)
-    requires node { k < node_total (net_of net.now) }
-    requires operation { IsOperation (operation_node (net_of net.now) k) }
-    ensures { AreShortOperands (net_of net.now) (piece_of (operation_node (net_of net.now) k)) (operation_at (net_of net.now) (piece_of (operation_node (net_of net.now) k)) (number_of (operation_node (net_of net.now) k))).operands }
+fn operands_are_short<const W: usize>(net: &OpGraph<'_, W>, k: u32)
+    requires node { k < node_total (operations_of net.now) }
+    requires operation { IsOperation (operation_node (operations_of net.now) k) }
+    ensures { AreShortOperands (operations_of net.now) (piece_of (operation_node (operations_of net.now) k)) (operation_at (operations_of net.now) (piece_of (operation_node (operations_of net.now) k)) (number_of (operation_node (operations_of net.now) k))).operands }
 {
     let count = net.operands(k);
     stays_short(count);

@@ -4,21 +4,21 @@ use Rattle.cfg_build.specs.Joined.{FlowGraph}
 use Rattle.df_io.specs.TextBuffer.{IsWrittenBut}
 use Rattle.df_io.specs.Write.{AppendsPrefix}
 use Rattle.df_io.proofs.LongTexts.{all_out, fault_at_end}
-use Rattle.op_net.specs.NetView.{net_of}
+use Rattle.op_net.specs.GraphView.{operations_of}
 use Rattle.dfc_driver.specs.GraphText.{graph_text}
 use Rattle.dfc_driver.proofs.Texts.{on_error, then_on_error, then_on_ok}
 use Rattle.dfc_driver.proofs.graph.tell.Goals as goal
 
 pub returns-in_err-tell_parts-clause-prefix : goal.returns-in_err-tell_parts-clause-prefix
 returns-in_err-tell_parts-clause-prefix g c =
-    let text = graph_text c.args.program.now c.args.analysis.now.classes (net_of c.args.net.now) in
+    let text = graph_text c.args.program.now c.args.analysis.now.classes (operations_of c.args.net.now) in
     let s0 = g.K.Sink.got c.args.sink.now in
     let s1 = g.K.Sink.got c.tell_parts.new.sink in
     on_error c.from_residual.result (subst (λ (empty : List ℕ). AppendsPrefix s0 s1 (empty ++ text)) c.requires.buffer c.in_err-tell_parts.ensures.prefix)
 
 pub returns-clause-all : goal.returns-clause-all
 returns-clause-all g c =
-    let text = graph_text c.args.program.now c.args.analysis.now.classes (net_of c.args.net.now) in
+    let text = graph_text c.args.program.now c.args.analysis.now.classes (operations_of c.args.net.now) in
     let s0 = g.K.Sink.got c.args.sink.now in
     let s1 = g.K.Sink.got c.tell_parts.new.sink in
     let held = c.tell_parts.new.buffer in
@@ -27,7 +27,7 @@ returns-clause-all g c =
 
 pub returns-clause-prefix : goal.returns-clause-prefix
 returns-clause-prefix g c =
-    let text = graph_text c.args.program.now c.args.analysis.now.classes (net_of c.args.net.now) in
+    let text = graph_text c.args.program.now c.args.analysis.now.classes (operations_of c.args.net.now) in
     let s0 = g.K.Sink.got c.args.sink.now in
     let s1 = g.K.Sink.got c.tell_parts.new.sink in
     let held = c.tell_parts.new.buffer in

@@ -8,7 +8,7 @@ use Rattle.alias_classes.specs.declared.TheConstants.{CLASS_WORDS}
 use Rattle.df_io.specs.Write.{AppendsPrefix}
 use Rattle.dep_routing.specs.Touch.{touches_in}
 use Rattle.net_board.specs.NetParts.{net_with}
-use Rattle.op_net.specs.NetView.{net_of}
+use Rattle.op_net.specs.GraphView.{operations_of}
 use Rattle.dfc_driver.specs.Due.{done}
 use Rattle.dfc_driver.specs.EdgeTables.{AreTablesOf}
 use Rattle.dfc_driver.specs.NameSets.{AreNameSets}
@@ -49,7 +49,7 @@ pub returns-in-Ok-tell-clause-due : goal.returns-in-Ok-tell-clause-due
 returns-in-Ok-tell-clause-due g c =
     let p = c.args.program.now in
     let found = c.args.drawn.now.analysis in
-    let x = net_of c.in-Ok.net in
+    let x = operations_of c.in-Ok.net in
     let made = c.in-Ok.ensures in
     let text = graph_text p found.classes x in
     let same = made.net ∙ ap (λ xs. net_with p xs (touches_in found.touch) found.lines) c.requires.drawn.input in
@@ -64,7 +64,7 @@ pub returns-clause-due : goal.returns-clause-due
 returns-clause-due g c =
     let p = c.args.program.now in
     let found = c.args.drawn.now.analysis in
-    let x = net_of c.in-Ok.net in
+    let x = operations_of c.in-Ok.net in
     let made = c.in-Ok.ensures in
     let text = graph_text p found.classes x in
     let same = made.net ∙ ap (λ xs. net_with p xs (touches_in found.touch) found.lines) c.requires.drawn.input in

@@ -3,7 +3,7 @@ use Rattle.closed_walks.specs.Graph.{Graph, edge_count}
 use Rattle.cfg_build.specs.Joined.{FlowGraph}
 use Rattle.dep_routing.specs.Routing.{Routing}
 use Rattle.net_board.specs.Nodes.{NetOf, graph_in}
-use Rattle.op_net.specs.NetView.{net_of}
+use Rattle.op_net.specs.GraphView.{operations_of}
 use Rattle.dfc_driver.specs.GraphText.{hop_lines, line_lines, node_lines, size_line, value_lines, wire_lines}
 use Rattle.dfc_driver.specs.EdgeTables.{AreBypasses, AreWires}
 use Rattle.dfc_driver.proofs.GraphParts.{hops_told, size_text, size_told, wires_told}
@@ -16,7 +16,7 @@ returns-in_err-tell_size-clause-prefix g c =
     let first = c.args.buffer.now in
     let p = c.args.program.now in
     let found = c.args.analysis.now in
-    let x = net_of c.args.net.now in
+    let x = operations_of c.args.net.now in
     let routing : found.lines ≡ x.net.routing = ap (λ (n : NetOf). n.routing) (sym c.requires.own) in
     let graph : c.graph-graph.result.now ≡ graph_in x.net = c.graph-graph.ensures ∙ ap (λ (f : FlowGraph). f.graph) c.requires.analysis.own_flow ∙ ap graph_in (sym c.requires.own) in
     let size : size_text c.lines-lines.result c.nodes.result ≡ size_line x = size_told x c.lines-lines.result c.nodes.result (c.lines-lines.ensures ∙ ap (λ (r : Routing). r.lines) routing) c.nodes.ensures in
@@ -35,7 +35,7 @@ returns-in_err-tell_lines-clause-prefix g c =
     let first = c.args.buffer.now in
     let p = c.args.program.now in
     let found = c.args.analysis.now in
-    let x = net_of c.args.net.now in
+    let x = operations_of c.args.net.now in
     let routing : found.lines ≡ x.net.routing = ap (λ (n : NetOf). n.routing) (sym c.requires.own) in
     let graph : c.graph-graph.result.now ≡ graph_in x.net = c.graph-graph.ensures ∙ ap (λ (f : FlowGraph). f.graph) c.requires.analysis.own_flow ∙ ap graph_in (sym c.requires.own) in
     let size : size_text c.lines-lines.result c.nodes.result ≡ size_line x = size_told x c.lines-lines.result c.nodes.result (c.lines-lines.ensures ∙ ap (λ (r : Routing). r.lines) routing) c.nodes.ensures in
@@ -56,7 +56,7 @@ returns-in_err-tell_nodes-clause-prefix g c =
     let first = c.args.buffer.now in
     let p = c.args.program.now in
     let found = c.args.analysis.now in
-    let x = net_of c.args.net.now in
+    let x = operations_of c.args.net.now in
     let routing : found.lines ≡ x.net.routing = ap (λ (n : NetOf). n.routing) (sym c.requires.own) in
     let graph : c.graph-graph.result.now ≡ graph_in x.net = c.graph-graph.ensures ∙ ap (λ (f : FlowGraph). f.graph) c.requires.analysis.own_flow ∙ ap graph_in (sym c.requires.own) in
     let size : size_text c.lines-lines.result c.nodes.result ≡ size_line x = size_told x c.lines-lines.result c.nodes.result (c.lines-lines.ensures ∙ ap (λ (r : Routing). r.lines) routing) c.nodes.ensures in
@@ -79,7 +79,7 @@ returns-in_err-tell_values-clause-prefix g c =
     let first = c.args.buffer.now in
     let p = c.args.program.now in
     let found = c.args.analysis.now in
-    let x = net_of c.args.net.now in
+    let x = operations_of c.args.net.now in
     let routing : found.lines ≡ x.net.routing = ap (λ (n : NetOf). n.routing) (sym c.requires.own) in
     let graph : c.graph-graph.result.now ≡ graph_in x.net = c.graph-graph.ensures ∙ ap (λ (f : FlowGraph). f.graph) c.requires.analysis.own_flow ∙ ap graph_in (sym c.requires.own) in
     let size : size_text c.lines-lines.result c.nodes.result ≡ size_line x = size_told x c.lines-lines.result c.nodes.result (c.lines-lines.ensures ∙ ap (λ (r : Routing). r.lines) routing) c.nodes.ensures in
@@ -104,7 +104,7 @@ returns-in_err-tell_wires-clause-prefix g c =
     let first = c.args.buffer.now in
     let p = c.args.program.now in
     let found = c.args.analysis.now in
-    let x = net_of c.args.net.now in
+    let x = operations_of c.args.net.now in
     let routing : found.lines ≡ x.net.routing = ap (λ (n : NetOf). n.routing) (sym c.requires.own) in
     let graph : c.graph-graph.result.now ≡ graph_in x.net = c.graph-graph.ensures ∙ ap (λ (f : FlowGraph). f.graph) c.requires.analysis.own_flow ∙ ap graph_in (sym c.requires.own) in
     let size : size_text c.lines-lines.result c.nodes.result ≡ size_line x = size_told x c.lines-lines.result c.nodes.result (c.lines-lines.ensures ∙ ap (λ (r : Routing). r.lines) routing) c.nodes.ensures in
@@ -132,7 +132,7 @@ returns-clause-text g c =
     let first = c.args.buffer.now in
     let p = c.args.program.now in
     let found = c.args.analysis.now in
-    let x = net_of c.args.net.now in
+    let x = operations_of c.args.net.now in
     let routing : found.lines ≡ x.net.routing = ap (λ (n : NetOf). n.routing) (sym c.requires.own) in
     let graph : c.graph-graph.result.now ≡ graph_in x.net = c.graph-graph.ensures ∙ ap (λ (f : FlowGraph). f.graph) c.requires.analysis.own_flow ∙ ap graph_in (sym c.requires.own) in
     let size : size_text c.lines-lines.result c.nodes.result ≡ size_line x = size_told x c.lines-lines.result c.nodes.result (c.lines-lines.ensures ∙ ap (λ (r : Routing). r.lines) routing) c.nodes.ensures in
@@ -163,7 +163,7 @@ returns-clause-prefix g c =
     let first = c.args.buffer.now in
     let p = c.args.program.now in
     let found = c.args.analysis.now in
-    let x = net_of c.args.net.now in
+    let x = operations_of c.args.net.now in
     let routing : found.lines ≡ x.net.routing = ap (λ (n : NetOf). n.routing) (sym c.requires.own) in
     let graph : c.graph-graph.result.now ≡ graph_in x.net = c.graph-graph.ensures ∙ ap (λ (f : FlowGraph). f.graph) c.requires.analysis.own_flow ∙ ap graph_in (sym c.requires.own) in
     let size : size_text c.lines-lines.result c.nodes.result ≡ size_line x = size_told x c.lines-lines.result c.nodes.result (c.lines-lines.ensures ∙ ap (λ (r : Routing). r.lines) routing) c.nodes.ensures in

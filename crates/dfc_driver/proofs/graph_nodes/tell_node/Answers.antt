@@ -1,7 +1,7 @@
 use Rattle.std.proofs.Common.{[], ◌∷◌, ◌++◌, codes}
 use Rattle.std.specs.Fmt.{decimal}
 use Rattle.op_board.specs.OperationNets.{operation_node}
-use Rattle.op_net.specs.NetView.{net_of}
+use Rattle.op_net.specs.GraphView.{operations_of}
 use Rattle.dfc_driver.specs.GraphText.{node_text}
 use Rattle.dfc_driver.proofs.Telling.{fault_before, fault_more, told_more}
 use Rattle.dfc_driver.proofs.Texts.{on_error, then_on_error, then_on_ok}
@@ -10,7 +10,7 @@ use Rattle.dfc_driver.proofs.graph_nodes.tell_node.Goals as goal
 pub returns-in_err-tell_numbered-clause-prefix : goal.returns-in_err-tell_numbered-clause-prefix
 returns-in_err-tell_numbered-clause-prefix g c =
     let first = c.args.buffer.now in
-    let x = net_of c.args.net.now in
+    let x = operations_of c.args.net.now in
     let t0 = codes "N " ++ decimal c.args.k in
     let t1 = node_text x (operation_node x c.args.k) in
     let t2 = 10 ∷ [] in
@@ -21,7 +21,7 @@ returns-in_err-tell_numbered-clause-prefix g c =
 pub returns-in_err-tell_name-clause-prefix : goal.returns-in_err-tell_name-clause-prefix
 returns-in_err-tell_name-clause-prefix g c =
     let first = c.args.buffer.now in
-    let x = net_of c.args.net.now in
+    let x = operations_of c.args.net.now in
     let t0 = codes "N " ++ decimal c.args.k in
     let t1 = node_text x (operation_node x c.args.k) in
     let t2 = 10 ∷ [] in
@@ -34,7 +34,7 @@ returns-in_err-tell_name-clause-prefix g c =
 pub returns-clause-text : goal.returns-clause-text
 returns-clause-text g c =
     let first = c.args.buffer.now in
-    let x = net_of c.args.net.now in
+    let x = operations_of c.args.net.now in
     let t0 = codes "N " ++ decimal c.args.k in
     let t1 = node_text x (operation_node x c.args.k) in
     let t2 = 10 ∷ [] in
@@ -49,7 +49,7 @@ returns-clause-text g c =
 pub returns-clause-prefix : goal.returns-clause-prefix
 returns-clause-prefix g c =
     let first = c.args.buffer.now in
-    let x = net_of c.args.net.now in
+    let x = operations_of c.args.net.now in
     let t0 = codes "N " ++ decimal c.args.k in
     let t1 = node_text x (operation_node x c.args.k) in
     let t2 = 10 ∷ [] in

@@ -1,13 +1,13 @@
 use Rattle.std.proofs.Common.{◌≡◌, ◌+◌, ℕ, List, length, ap, arith}
 use Rattle.op_board.specs.OperationNets.{all_operation_nodes}
-use Rattle.op_net.specs.NetView.{net_of}
+use Rattle.op_net.specs.GraphView.{operations_of}
 use Rattle.dfc_driver.specs.GraphText.{node_line}
 use Rattle.dfc_driver.proofs.Texts.{fault_at_line, line_told, on_error}
 use Rattle.dfc_driver.proofs.graph_nodes.tell_nodes.Goals as goal
 
 pub returns-in_err-tell_node-clause-prefix : goal.returns-in_err-tell_node-clause-prefix
 returns-in_err-tell_node-clause-prefix g c =
-    let x = net_of c.args.net.now in
+    let x = operations_of c.args.net.now in
     let line : ℕ → List ℕ = node_line x in
     let k = c.loop-k.k in
     let here : k ≡ 0 + k = omega arith in
@@ -19,7 +19,7 @@ returns-in_err-tell_node-clause-prefix g c =
 
 pub loop-k-preserved : goal.loop-k-preserved
 loop-k-preserved g c =
-    let x = net_of c.args.net.now in
+    let x = operations_of c.args.net.now in
     let line : ℕ → List ℕ = node_line x in
     let k = c.loop-k.k in
     let here : k ≡ 0 + k = omega arith in

@@ -1,7 +1,7 @@
 use Rattle.std.proofs.Common.{◌≡◌, ◌+◌, ◌++◌, ◌∙◌, drop, ap, sym, arith}
 use Rattle.std.specs.Prelude.{flat_map}
 use Rattle.op_board.specs.OperationNets.{operation_node}
-use Rattle.op_net.specs.NetView.{net_of}
+use Rattle.op_net.specs.GraphView.{operations_of}
 use Rattle.dfc_driver.specs.GivenText.{given_text}
 use Rattle.dfc_driver.specs.GraphText.{operands_text}
 use Rattle.dfc_driver.proofs.NodesTold.{given_after, given_first, given_next, given_of, given_whole, operands_given}
@@ -11,7 +11,7 @@ use Rattle.dfc_driver.proofs.graph_nodes.tell_operands.Goals as goal
 
 pub returns-in_err-tell_operand-clause-prefix : goal.returns-in_err-tell_operand-clause-prefix
 returns-in_err-tell_operand-clause-prefix g c =
-    let x = net_of c.args.net.now in
+    let x = operations_of c.args.net.now in
     let name = operation_node x c.args.k in
     let operands = given_of x name in
     let i = c.loop-i.i in
@@ -30,7 +30,7 @@ returns-in_err-tell_operand-clause-prefix g c =
 
 pub loop-i-preserved : goal.loop-i-preserved
 loop-i-preserved g c =
-    let x = net_of c.args.net.now in
+    let x = operations_of c.args.net.now in
     let operands = given_of x (operation_node x c.args.k) in
     let i = c.loop-i.i in
     let first = c.args.buffer.now in
@@ -47,7 +47,7 @@ loop-i-preserved g c =
 
 pub returns-clause-text : goal.returns-clause-text
 returns-clause-text g c =
-    let x = net_of c.args.net.now in
+    let x = operations_of c.args.net.now in
     let name = operation_node x c.args.k in
     let operands = given_of x name in
     let i = c.loop-i.i in

@@ -4,7 +4,7 @@ use Rattle.std.specs.Fmt.{decimal}
 use Rattle.std.specs.List.{range_with_len}
 use Rattle.class_set.specs.ClassSet.{holds}
 use Rattle.op_board.specs.OperationNets.{needed, operation_at, operation_node}
-use Rattle.op_net.specs.NetView.{net_of}
+use Rattle.op_net.specs.GraphView.{operations_of}
 use Rattle.dfc_driver.specs.GraphText.{numbers_text}
 use Rattle.dfc_driver.specs.OperationNames.{work_name}
 use Rattle.dfc_driver.proofs.NodesTold.{lines_told, work_told}
@@ -15,7 +15,7 @@ use Rattle.dfc_driver.proofs.graph_nodes.tell_operation.Goals as goal
 pub returns-in_err-tell_two-clause-prefix : goal.returns-in_err-tell_two-clause-prefix
 returns-in_err-tell_two-clause-prefix g c =
     let first = c.args.buffer.now in
-    let x = net_of c.args.net.now in
+    let x = operations_of c.args.net.now in
     let t0 = codes " OP " ++ decimal c.args.piece ++ 32 ∷ decimal c.args.i in
     let t1 = 32 ∷ work_name (operation_at x c.args.piece c.args.i).work in
     let t2 = numbers_text (needed x c.args.piece c.args.i) in
@@ -26,7 +26,7 @@ returns-in_err-tell_two-clause-prefix g c =
 pub returns-in_err-tell_word-clause-prefix : goal.returns-in_err-tell_word-clause-prefix
 returns-in_err-tell_word-clause-prefix g c =
     let first = c.args.buffer.now in
-    let x = net_of c.args.net.now in
+    let x = operations_of c.args.net.now in
     let t0 = codes " OP " ++ decimal c.args.piece ++ 32 ∷ decimal c.args.i in
     let t1 = 32 ∷ work_name (operation_at x c.args.piece c.args.i).work in
     let t2 = numbers_text (needed x c.args.piece c.args.i) in
@@ -40,7 +40,7 @@ returns-in_err-tell_word-clause-prefix g c =
 pub returns-clause-text : goal.returns-clause-text
 returns-clause-text g c =
     let first = c.args.buffer.now in
-    let x = net_of c.args.net.now in
+    let x = operations_of c.args.net.now in
     let t0 = codes " OP " ++ decimal c.args.piece ++ 32 ∷ decimal c.args.i in
     let t1 = 32 ∷ work_name (operation_at x c.args.piece c.args.i).work in
     let t2 = numbers_text (needed x c.args.piece c.args.i) in
@@ -57,7 +57,7 @@ returns-clause-text g c =
 pub returns-clause-prefix : goal.returns-clause-prefix
 returns-clause-prefix g c =
     let first = c.args.buffer.now in
-    let x = net_of c.args.net.now in
+    let x = operations_of c.args.net.now in
     let t0 = codes " OP " ++ decimal c.args.piece ++ 32 ∷ decimal c.args.i in
     let t1 = 32 ∷ work_name (operation_at x c.args.piece c.args.i).work in
     let t2 = numbers_text (needed x c.args.piece c.args.i) in

@@ -3,7 +3,7 @@ use Rattle.std.specs.Fmt.{decimal}
 use Rattle.df_io.specs.TextBuffer.{IsWrittenBut}
 use Rattle.df_io.proofs.LongTexts.{all_held}
 use Rattle.op_board.specs.OperationNets.{operation_node}
-use Rattle.op_net.specs.NetView.{net_of}
+use Rattle.op_net.specs.GraphView.{operations_of}
 use Rattle.dfc_driver.specs.GraphText.{has_operands, operands_text, value_text}
 use Rattle.dfc_driver.proofs.NodesTold.{is_operation, no_line, some_line}
 use Rattle.dfc_driver.proofs.Telling.{begun, begun_fault}
@@ -16,13 +16,13 @@ nothing_told a held = subst (IsWrittenBut held a a) (sym (append-nil held)) (all
 
 pub tell_operands_line-requires-clause-operation : goal.tell_operands_line-requires-clause-operation
 tell_operands_line-requires-clause-operation g c =
-    let x = net_of c.args.net.now in
+    let x = operations_of c.args.net.now in
     let has : has_operands x (operation_node x c.args.k) ≡ true = sym c.has_operands-has.ensures ∙ c.if-has.true in
     is_operation x (operation_node x c.args.k) has
 
 pub returns-then-has-clause-text : goal.returns-then-has-clause-text
 returns-then-has-clause-text g c =
-    let x = net_of c.args.net.now in
+    let x = operations_of c.args.net.now in
     let name = operation_node x c.args.k in
     let has : has_operands x name ≡ true = sym c.has_operands-has.ensures ∙ c.if-has.true in
     let line : List ℕ = codes "V " ++ decimal c.args.k ++ operands_text x name ++ 10 ∷ [] in
@@ -32,7 +32,7 @@ returns-then-has-clause-text g c =
 
 pub returns-then-has-clause-prefix : goal.returns-then-has-clause-prefix
 returns-then-has-clause-prefix g c =
-    let x = net_of c.args.net.now in
+    let x = operations_of c.args.net.now in
     let name = operation_node x c.args.k in
     let has : has_operands x name ≡ true = sym c.has_operands-has.ensures ∙ c.if-has.true in
     let line : List ℕ = codes "V " ++ decimal c.args.k ++ operands_text x name ++ 10 ∷ [] in
@@ -42,7 +42,7 @@ returns-then-has-clause-prefix g c =
 
 pub returns-else-has-clause-text : goal.returns-else-has-clause-text
 returns-else-has-clause-text g c =
-    let x = net_of c.args.net.now in
+    let x = operations_of c.args.net.now in
     let name = operation_node x c.args.k in
     let has : has_operands x name ≡ false = sym c.has_operands-has.ensures ∙ c.if-has.false in
     begun (g.K.Sink.got c.args.sink.now) (g.K.Sink.got c.args.sink.now) c.args.buffer.now c.args.buffer.now [] (value_text x c.args.k name) (no_line x c.args.k name has) (nothing_told (g.K.Sink.got c.args.sink.now) c.args.buffer.now)

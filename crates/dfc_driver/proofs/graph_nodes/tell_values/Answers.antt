@@ -1,14 +1,14 @@
 use Rattle.std.proofs.Common.{◌≡◌, ◌+◌, ◌++◌, ℕ, List, length, ap, subst, arith}
 use Rattle.df_io.specs.TextBuffer.{IsWrittenBut}
 use Rattle.op_board.specs.OperationNets.{all_operation_nodes, operation_node}
-use Rattle.op_net.specs.NetView.{net_of}
+use Rattle.op_net.specs.GraphView.{operations_of}
 use Rattle.dfc_driver.specs.GraphText.{value_text}
 use Rattle.dfc_driver.proofs.Texts.{fault_at_line, line_told, lines, on_error}
 use Rattle.dfc_driver.proofs.graph_nodes.tell_values.Goals as goal
 
 pub returns-in_err-tell_value-clause-prefix : goal.returns-in_err-tell_value-clause-prefix
 returns-in_err-tell_value-clause-prefix g c =
-    let x = net_of c.args.net.now in
+    let x = operations_of c.args.net.now in
     let line : ℕ → List ℕ = λ n. value_text x n (operation_node x n) in
     let k = c.loop-k.k in
     let here : k ≡ 0 + k = omega arith in
@@ -20,7 +20,7 @@ returns-in_err-tell_value-clause-prefix g c =
 
 pub loop-k-preserved : goal.loop-k-preserved
 loop-k-preserved g c =
-    let x = net_of c.args.net.now in
+    let x = operations_of c.args.net.now in
     let line : ℕ → List ℕ = λ n. value_text x n (operation_node x n) in
     let k = c.loop-k.k in
     let here : k ≡ 0 + k = omega arith in
@@ -32,7 +32,7 @@ loop-k-preserved g c =
 
 pub returns-clause-text : goal.returns-clause-text
 returns-clause-text g c =
-    let x = net_of c.args.net.now in
+    let x = operations_of c.args.net.now in
     let line : ℕ → List ℕ = λ n. value_text x n (operation_node x n) in
     let count : c.nodes-k-end.result ≡ length (all_operation_nodes x) = c.nodes-k-end.ensures in
     let all : c.loop-k.k ≡ length (all_operation_nodes x) = omega (arith, c.loop-k-test.false, c.loop-k.auto.k-end, count) in

@@ -1,19 +1,14 @@
-use Rattle.std.proofs.Common.{◌<◌, length, ap, arith, rules}
 use Rattle.op_net.proofs.tables.make_tables.Goals as goal
 
 pub returns : goal.returns
 returns g c =
-    let nodes = c.in_ok-nodes.ensures in
-    let few = nodes.few in
-    let all = ap length nodes.names in
-    let number = c.in_ok-most.ensures in
-    let fits : c.in_ok-most.most < 4294967296 = search rules in
+    let nodes = c.requires in
     record {
       names = nodes.names;
-      few = omega (arith, few, all);
+      few = nodes.few;
       firsts = nodes.firsts;
       pieces = c.in_ok-pieces.ensures.count;
       rows = c.in_ok-pieces.ensures.rows;
-      most = λ piece i inside. let bound = c.most_values.ensures piece i inside in omega (arith, bound, number);
-      fits = fits;
+      most = nodes.most;
+      fits = nodes.fits;
     }

@@ -2,7 +2,7 @@ use Rattle.std.proofs.Common.{◌<◌, ◌≤◌, ◌^◌, List, All, length, su
 use Rattle.std.proofs.lemmas.List.{take_all}
 use Rattle.op_board.specs.Operations.{Operand}
 use Rattle.op_board.specs.OperationNets.{operation_at, operation_node}
-use Rattle.op_net.specs.NetView.{net_of}
+use Rattle.op_net.specs.GraphView.{operations_of}
 use Rattle.op_net.specs.Telling.{number_of, piece_of}
 use Rattle.printed_laws.specs.ShortNet.{IsShortOperand}
 use Rattle.printed_laws.proofs.ShortOperands.{one_more_operand}
@@ -10,7 +10,7 @@ use Rattle.printed_laws.proofs.nets.operands_are_short.Goals as goal
 
 pub loop-i-preserved : goal.loop-i-preserved
 loop-i-preserved g c =
-    let x = net_of c.args.net.now in
+    let x = operations_of c.args.net.now in
     let name = operation_node x c.args.k in
     let operands = (operation_at x (piece_of name) (number_of name)).operands in
     let inside : c.loop-i.i < length operands = omega (arith, c.loop-i-test.true, c.operands-count.ensures) in
@@ -18,7 +18,7 @@ loop-i-preserved g c =
 
 pub returns : goal.returns
 returns g c =
-    let x = net_of c.args.net.now in
+    let x = operations_of c.args.net.now in
     let name = operation_node x c.args.k in
     let operands = (operation_at x (piece_of name) (number_of name)).operands in
     let end : length operands ≤ c.loop-i.i = omega (arith, c.loop-i-test.false, c.operands-count.ensures) in

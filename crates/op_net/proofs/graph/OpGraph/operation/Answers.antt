@@ -1,21 +1,21 @@
 use Rattle.std.proofs.Common.{sym, ◌∙◌, subst}
 use Rattle.firing.specs.declared.system.NodeName.{NodeName}
-use Rattle.op_net.specs.NetView.{net_of}
+use Rattle.op_net.specs.GraphView.{operations_of}
 use Rattle.op_net.specs.Telling.{IsOperation}
 use Rattle.op_net.proofs.NodeNames.{IsOperationAt, operation_at_node}
-use Rattle.op_net.proofs.net.OpNet.operation.Goals as goal
+use Rattle.op_net.proofs.graph.OpGraph.operation.Goals as goal
 
 pub returns-in-Op-clause-name : goal.returns-in-Op-clause-name
 returns-in-Op-clause-name g c = sym c.name.ensures ∙ c.in-Op.is
 
 pub returns-in-Op-clause-exists : goal.returns-in-Op-clause-exists
 returns-in-Op-clause-exists g c =
-    let n : IsOperationAt (net_of c.args.self.now) c.args.k c.in-Op.piece c.in-Op.i = operation_at_node (net_of c.args.self.now) c.args.k c.in-Op.piece c.in-Op.i c.requires.node (sym c.name.ensures ∙ c.in-Op.is) in
+    let n : IsOperationAt (operations_of c.args.self.now) c.args.k c.in-Op.piece c.in-Op.i = operation_at_node (operations_of c.args.self.now) c.args.k c.in-Op.piece c.in-Op.i c.requires.node (sym c.name.ensures ∙ c.in-Op.is) in
     n.exists
 
 pub returns-in-Op-clause-inside : goal.returns-in-Op-clause-inside
 returns-in-Op-clause-inside g c =
-    let n : IsOperationAt (net_of c.args.self.now) c.args.k c.in-Op.piece c.in-Op.i = operation_at_node (net_of c.args.self.now) c.args.k c.in-Op.piece c.in-Op.i c.requires.node (sym c.name.ensures ∙ c.in-Op.is) in
+    let n : IsOperationAt (operations_of c.args.self.now) c.args.k c.in-Op.piece c.in-Op.i = operation_at_node (operations_of c.args.self.now) c.args.k c.in-Op.piece c.in-Op.i c.requires.node (sym c.name.ensures ∙ c.in-Op.is) in
     n.inside
 
 pub returns-in-Switch-clause-name : goal.returns-in-Switch-clause-name

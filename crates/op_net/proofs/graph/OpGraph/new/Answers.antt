@@ -1,0 +1,8 @@
+use Rattle.op_net.proofs.NewNetLemmas.{outside_operations, outside_pieces}
+use Rattle.op_net.proofs.graph.OpGraph.new.Goals as goal
+
+pub returns-clause-outside_pieces : goal.returns-clause-outside_pieces
+returns-clause-outside_pieces g c = outside_pieces c.in_ok-plan.plan
+
+pub returns-clause-outside_operations : goal.returns-clause-outside_operations
+returns-clause-outside_operations g c = outside_operations c.in_ok-plan.plan
