@@ -64,10 +64,11 @@ impl<'a, const W: usize> OpNet<'a, W> {
         operation_nets_begin_soundly();
         operation_nets_stay_in_lockstep();
         operation_nets_pass_pieces_whole();
+        let graph = OpGraph::new(alloc, p, f, c, touch, l, input)?;
         let OpGraph {
             plan,
             tables: nodes,
-        } = OpGraph::new(alloc, p, f, c, touch, l, input)?;
+        } = graph;
         let tables = make_tables(alloc, &plan, nodes)?;
         let room = longest_line(p.execs.as_slice())?;
         let control = first_control(&plan.board);

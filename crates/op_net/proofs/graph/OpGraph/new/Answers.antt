@@ -1,6 +1,9 @@
 use Rattle.op_net.proofs.NewNetLemmas.{outside_operations, outside_pieces}
 use Rattle.op_net.proofs.graph.OpGraph.new.Goals as goal
 
+pub returns-clause-net : goal.returns-clause-net
+returns-clause-net g c = c.in_ok-plan.ensures.net
+
 pub returns-clause-outside_pieces : goal.returns-clause-outside_pieces
 returns-clause-outside_pieces g c = outside_pieces c.in_ok-plan.plan
 
