@@ -129,7 +129,7 @@ fn tell_class<K: Sink>(
     ensures later { K.faults sink.old ≤ K.faults sink.new }
     ensures fault { OnErr result (Rose (K.faults sink.old) (K.faults sink.new)) }
 {
-    buffer.append(numbered("L ", class).as_str().as_bytes(), sink)?;
+    buffer.append(numbered(b"L ", class).as_bytes(), sink)?;
     tell_names(names, name_sets, class, buffer, sink)?;
     buffer.append(b"\n", sink)
 }

@@ -1,6 +1,6 @@
 // The nodes of a net of operations, as a part of a text.
 
-ghost use Rattle.std.specs.Prelude.{◌≡◌, ◌<◌, ◌≤◌, ◌*◌, ◌∷◌, ◌++◌, [], codes, filter, MatchOption, OnOk, OnErr};
+ghost use Rattle.std.specs.Prelude.{◌≡◌, ◌<◌, ◌≤◌, ◌*◌, ◌∷◌, ◌++◌, [], codes, filter, length, MatchOption, OnOk, OnErr};
 ghost use Rattle.std.specs.Fmt.{decimal};
 ghost use Rattle.std.specs.List.{range_with_len};
 ghost use Rattle.alias_classes.specs.declared.TheConstants.{CLASS_WORDS};
@@ -16,6 +16,7 @@ ghost use Rattle.dfc_driver.specs.Below.{IsLastBelow, IsNextBelow};
 ghost use Rattle.dfc_driver.specs.GivenText.{given_text};
 ghost use Rattle.dfc_driver.specs.GraphText.{has_operands as has_operands_in, node_line, node_lines, node_text, numbers_text, operands_text, value_lines, value_text};
 
+use crate::graph_line::numbered;
 use crate::operation_names::name_of;
 use alias_classes::CLASS_WORDS;
 use class_set::ClassSet;
@@ -126,27 +127,26 @@ fn tell_number<K: Sink>(n: u32, buffer: &mut TextBuffer, sink: &mut K) -> Result
     ensures later { K.faults sink.old ≤ K.faults sink.new }
     ensures fault { OnErr result (Rose (K.faults sink.old) (K.faults sink.new)) }
 {
-    buffer.append(b" ", sink)?;
-    buffer.append_number(n, sink)
+    buffer.append(numbered(b" ", n).as_bytes(), sink)
 }
 
-/// Appends a word and a number.
+/// Appends a word of at most eight characters and a number.
 pub fn tell_numbered<K: Sink>(
     word: &[u8],
     n: u32,
     buffer: &mut TextBuffer,
     sink: &mut K,
 ) -> Result<(), WriteFault>
+    requires { length word.now ≤ 8 }
     ensures text { OnOk result (IsWrittenBut buffer.new (K.got sink.old) (K.got sink.new) (buffer.old ++ (word.now ++ decimal n))) }
     ensures prefix { OnErr result (AppendsPrefix (K.got sink.old) (K.got sink.new) (buffer.old ++ (word.now ++ decimal n))) }
     ensures later { K.faults sink.old ≤ K.faults sink.new }
     ensures fault { OnErr result (Rose (K.faults sink.old) (K.faults sink.new)) }
 {
-    buffer.append(word, sink)?;
-    buffer.append_number(n, sink)
+    buffer.append(numbered(word, n).as_bytes(), sink)
 }
 
-// Appends a word and two numbers.
+// Appends a word of at most eight characters and two numbers.
 fn tell_two<K: Sink>(
     word: &[u8],
     a: u32,
@@ -154,6 +154,7 @@ fn tell_two<K: Sink>(
     buffer: &mut TextBuffer,
     sink: &mut K,
 ) -> Result<(), WriteFault>
+    requires { length word.now ≤ 8 }
     ensures text { OnOk result (IsWrittenBut buffer.new (K.got sink.old) (K.got sink.new) (buffer.old ++ (word.now ++ decimal a ++ 32 ∷ decimal b))) }
     ensures prefix { OnErr result (AppendsPrefix (K.got sink.old) (K.got sink.new) (buffer.old ++ (word.now ++ decimal a ++ 32 ∷ decimal b))) }
     ensures later { K.faults sink.old ≤ K.faults sink.new }

@@ -54,7 +54,7 @@ fn tell_wire_line<K: Sink>(
     ensures later { K.faults sink.old ≤ K.faults sink.new }
     ensures fault { OnErr result (Rose (K.faults sink.old) (K.faults sink.new)) }
 {
-    buffer.append(numbered("W ", line).as_str().as_bytes(), sink)?;
+    buffer.append(numbered(b"W ", line).as_bytes(), sink)?;
     tell_edges(wires, line, g.edges(), buffer, sink)?;
     buffer.append(b"\n", sink)
 }
@@ -75,7 +75,7 @@ fn tell_edges<K: Sink>(
 {
     let mut before = None;
     while let Some(edge) = next_edge(table, line, before, end) {
-        buffer.append(numbered(" ", edge).as_str().as_bytes(), sink)?;
+        buffer.append(numbered(b" ", edge).as_bytes(), sink)?;
         before = Some(edge);
     }
     Ok(())
