@@ -63,7 +63,7 @@ fn blames_each_read_of_each_job(rt: HostRuntime) -> Result<(), Fail> {
 
 // Each write fails in turn, and after the last one none does. Each takes eight bytes at most.
 fn check_writes(rt: &impl Abort, alloc: Global, words: &[&str], due: &str) -> Result<(), Fail> {
-    let most = due.len().div_ceil(8) as u32;
+    let most = due.len().div_ceil(8);
     let mut is_whole = false;
     for call in 0..due.len() as u32 {
         let faults = Faults {
@@ -74,7 +74,7 @@ fn check_writes(rt: &impl Abort, alloc: Global, words: &[&str], due: &str) -> Re
         is_whole = sink.written() == due.as_bytes();
         assert_eq!(rt; status, if is_whole { 0 } else { 6 });
         assert_eq!(rt; due.as_bytes().starts_with(sink.written()), true);
-        assert_eq!(rt; is_whole && call < most, false);
+        assert_eq!(rt; is_whole && (call as usize) < most, false);
         if is_whole {
             break;
         }
