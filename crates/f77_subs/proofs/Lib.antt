@@ -6,3 +6,6 @@ mod SettledCopies
 mod StandingIn
 mod UnitWalk
 mod SubNames
+mod Counting
+mod CallReach
+mod UnitHeights

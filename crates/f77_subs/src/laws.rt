@@ -1,12 +1,12 @@
 //! Laws on expansions, as contracts of functions that do nothing.
 
-ghost use Rattle.std.specs.Prelude.{◌≡◌, ◌+◌, ◌<◌, ℕ, List, length};
+ghost use Rattle.std.specs.Prelude.{◌≡◌, ◌+◌, ◌<◌, ◌≤◌, ℕ, List, length};
 ghost use Rattle.std.specs.List.{range_with_len};
 ghost use Rattle.f77_tree.specs.declared.statements.Labelled.{Labelled};
 ghost use Rattle.f77_subs.specs.Entities.{Entity};
 ghost use Rattle.f77_subs.specs.Widths.{body_width, body_labels, labels_written};
 ghost use Rattle.f77_subs.specs.Copies.{copy};
-ghost use Rattle.f77_subs.specs.Heights.{IsHeight};
+ghost use Rattle.f77_subs.specs.Heights.{IsHeight, NoneCallsItself, height};
 ghost use Rattle.f77_subs.specs.Expansion.{total_width, whole_list};
 
 /// A copy of a unit has as many statements as are counted for it, whatever its dummies stand for, and its labels follow
@@ -23,4 +23,11 @@ pub fn copies_settle()
     ensures statements { (us : List (List Labelled)) (height : ℕ → ℕ) → IsHeight us height → (d e k : ℕ) → height k < d → height k < e → body_width us d k ≡ body_width us e k }
     ensures labels { (us : List (List Labelled)) (height : ℕ → ℕ) → IsHeight us height → (d e k : ℕ) → height k < d → height k < e → body_labels us d k ≡ body_labels us e k }
     ensures copies { (us : List (List Labelled)) (height : ℕ → ℕ) → IsHeight us height → (d e k : ℕ) (arguments : List Entity) (base : ℕ) → height k < d → height k < e → copy us d k arguments base ≡ copy us e k arguments base }
+{}
+
+/// Where no unit calls itself, through any number of calls, each has a height above the units that it calls, of at most as
+/// many as there are units.
+pub fn units_have_heights()
+    ensures above { (us : List (List Labelled)) → NoneCallsItself us → IsHeight us (height us) }
+    ensures few { (us : List (List Labelled)) → NoneCallsItself us → (k : ℕ) → height us k ≤ length us }
 {}

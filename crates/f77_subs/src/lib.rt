@@ -8,5 +8,5 @@ mod sub_end;
 mod sub_names;
 mod unit_order;
 
-pub use laws::{copies_are_counted, copies_settle};
+pub use laws::{copies_are_counted, copies_settle, units_have_heights};
 pub use sub_end::SubEnd;
