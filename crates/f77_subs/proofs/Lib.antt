@@ -9,3 +9,7 @@ mod SubNames
 mod Counting
 mod CallReach
 mod UnitHeights
+mod NamedUnits
+mod Kept
+mod Capped
+mod CountedWidths

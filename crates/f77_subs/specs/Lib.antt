@@ -5,6 +5,7 @@ pub mod Entities
 pub mod Names
 pub mod Widths
 pub mod Heights
+pub mod CallTable
 pub mod Copies
 pub mod Expansion
 pub mod Refusals

@@ -53,8 +53,8 @@ fn is_lacking(names: &SubNames, stmt: &Stmt) -> bool
     }
 }
 
-// The statement after the condition of a logical IF, or the statement itself.
-fn inner_of(stmt: &Stmt) -> &Stmt
+/// The statement after the condition of a logical IF, or the statement itself.
+pub(crate) fn inner_of(stmt: &Stmt) -> &Stmt
     ensures { result.now ≡ inner stmt.now }
 {
     match stmt {

@@ -1,0 +1,68 @@
+//! The units by the names of their subroutines.
+ghost use Rattle.std.specs.Prelude.{◌≡◌, ℕ, List, bytes_eq, IfOk, OnOk};
+ghost use Rattle.std.specs.List.{list_any};
+ghost use Rattle.indexmap.specs.IndexMap.{get};
+ghost use Rattle.f77_layout.specs.Faults.{answer_or};
+ghost use Rattle.f77_subs.specs.Units.{is_named, is_sub_of, sub_name};
+ghost use Rattle.f77_subs.specs.CallTable.{unit_if, unit_named};
+
+use crate::splitting::Units;
+use df_sequence::{Copied, NoMemory};
+use f77_tree::{Labelled, Name, Stmt};
+use indexmap::IndexMap;
+use std::alloc::Global;
+
+/// For the name of a subroutine the first unit that has it, counted from 0.
+pub(crate) fn sub_index(alloc: Global, us: &Units) -> Result<IndexMap<Name, usize>, NoMemory>
+    ensures { IfOk result (λ index. (name : List ℕ) → get bytes_eq index name ≡ unit_named us.now name) }
+{
+    let mut index = IndexMap::new(alloc);
+    for k in 0..us.len() {
+        note_subs(alloc, &mut index, us.at(k), k)?;
+    }
+    Ok(index)
+}
+
+// Notes the subroutines of the unit at the index k.
+fn note_subs(
+    alloc: Global,
+    index: &mut IndexMap<Name, usize>,
+    unit: &[Labelled],
+    k: usize,
+) -> Result<(), NoMemory>
+    ensures { OnOk result ((name : List ℕ) → get bytes_eq index.new name ≡ answer_or (get bytes_eq index.old name) (unit_if (list_any (is_sub_of name) unit.now) k)) }
+{
+    for s in unit {
+        note_sub(alloc, index, &s.stmt, k)?;
+    }
+    Ok(())
+}
+
+// Notes a subroutine, unless one of its name was noted before.
+fn note_sub(
+    alloc: Global,
+    index: &mut IndexMap<Name, usize>,
+    stmt: &Stmt,
+    k: usize,
+) -> Result<(), NoMemory>
+    ensures { OnOk result ((name : List ℕ) → get bytes_eq index.new name ≡ answer_or (get bytes_eq index.old name) (unit_if (is_named name (sub_name stmt.now)) k)) }
+{
+    match stmt {
+        Stmt::Sub(name, _) => note_name(alloc, index, name, k),
+        _ => Ok(()),
+    }
+}
+
+fn note_name(
+    alloc: Global,
+    index: &mut IndexMap<Name, usize>,
+    name: &Name,
+    k: usize,
+) -> Result<(), NoMemory>
+    ensures { OnOk result ((other : List ℕ) → get bytes_eq index.new other ≡ answer_or (get bytes_eq index.old other) (unit_if (bytes_eq name.now other) k)) }
+{
+    if !index.contains_key(name) {
+        index.insert(name.copy(alloc)?, k)?;
+    }
+    Ok(())
+}
