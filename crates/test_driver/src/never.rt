@@ -36,7 +36,7 @@ fn blames_neither(rt: HostRuntime) -> Result<(), Fail> {
         (["regen"].as_slice(), 52, 0, 80),
         (["fire"].as_slice(), 24, 2, 16),
         (["fires"].as_slice(), 52, 1, 6),
-        (["sample", "1"].as_slice(), 52, 0, 89),
+        (["sample", "1"].as_slice(), 52, 0, 90),
     ] {
         let mut given = Vec::new(rt.alloc());
         for word in words {
