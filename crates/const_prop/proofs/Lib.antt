@@ -1,5 +1,6 @@
 pub mod Cells
 pub mod KnownRowsLemmas
+pub mod ValuesLemmas
 pub mod LineSetLemmas
 pub mod EdgeSetLemmas
 pub mod Counting

@@ -2,6 +2,7 @@ pub mod Known
 pub mod LineSets
 pub mod EdgeSet
 pub mod Rise
+pub mod Values
 pub mod KnownRows
 pub mod Table
 pub mod Closed

@@ -6,9 +6,11 @@ ghost use Rattle.class_set.specs.Members.{IsWidth};
 ghost use Rattle.const_prop.specs.KnownRows.{is_any, edges_of, value_in};
 ghost use Rattle.const_prop.specs.Known.{AtMost};
 ghost use Rattle.const_prop.specs.Rise.{IsRise, room};
+ghost use Rattle.const_prop.specs.Values.{places};
 
 use crate::known::{Known, risen};
 use crate::line_sets::LineSets;
+use crate::values::Values;
 use class_set::ClassSet;
 use df_sequence::NoMemory;
 use std::alloc::Global;
@@ -24,7 +26,7 @@ pub(crate) struct KnownRows<const W: usize> {
     /// For each edge the lines on which any value may come.
     any: LineSets<W>,
     /// For each edge a row of all lines, with the one value of each line where it is known.
-    values: Vec<i32>,
+    values: Values,
 }
 
 impl<const W: usize> Model for KnownRows<W> {
@@ -50,7 +52,7 @@ impl<const W: usize> KnownRows<W> {
             lines,
             one: LineSets::new(alloc, edges)?,
             any: LineSets::new(alloc, edges)?,
-            values: vec![in alloc; 0; lines as usize * edges as usize]?,
+            values: no_values(alloc, lines, edges)?,
         })
     }
 
@@ -63,10 +65,21 @@ impl<const W: usize> KnownRows<W> {
         if self.any.at(edge).holds(line) {
             Known::Any
         } else if self.one.at(edge).holds(line) {
-            Known::One(self.values[edge as usize * self.lines as usize + line as usize])
+            Known::One(self.values.get(self.place(line, edge)))
         } else {
             Known::Nothing
         }
+    }
+
+    // Where the value of the line on the edge stands.
+    #[tactic(auto, using(crate::proofs::KnownRowsLemmas::place_within))]
+    fn place(&self, line: u32, edge: u32) -> usize
+        requires line { line < self.now.lines }
+        requires edge { edge < edges_of self.now }
+        ensures is { result ≡ edge * self.now.lines + line }
+        ensures within { result < places self.now.values }
+    {
+        edge as usize * self.lines as usize + line as usize
     }
 
     /// The lines on which any value may come by the edge.
@@ -98,6 +111,7 @@ impl<const W: usize> KnownRows<W> {
     }
 
     /// Puts down what is known now of the line on the edge, where something came and that is more than before.
+    #[tactic(auto, using(crate::proofs::KnownRowsLemmas::value_in_here))]
     fn put(&mut self, line: u32, edge: u32, known: Known)
         requires line { line < self.old.lines }
         requires edge { edge < edges_of self.old }
@@ -110,8 +124,9 @@ impl<const W: usize> KnownRows<W> {
         match known {
             Known::Nothing => {}
             Known::One(v) => {
+                let place = self.place(line, edge);
                 self.one.insert(edge, line);
-                self.values[edge as usize * self.lines as usize + line as usize] = v;
+                self.values.set(place, v);
             }
             Known::Any => self.any.insert(edge, line),
         }
@@ -126,4 +141,13 @@ impl<const W: usize> KnownRows<W> {
     {
         self.any.add(edge, lines);
     }
+}
+
+/// A word for each of so many lines on each of so many edges.
+#[tactic(auto, using(crate::proofs::KnownRowsLemmas::few_places))]
+fn no_values(alloc: Global, lines: u32, edges: u32) -> Result<Values, NoMemory>
+    requires { lines ≤ 1024 }
+    ensures { IfOk result (λ values. lines * edges ≤ places values) }
+{
+    Values::new(alloc, lines as usize * edges as usize)
 }

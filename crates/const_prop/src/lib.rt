@@ -19,6 +19,7 @@ mod setting;
 mod starts;
 mod sweeps;
 mod table;
+mod values;
 mod visit;
 mod work;
 

@@ -8,14 +8,14 @@ ghost use Rattle.cfg_build.specs.Passes.{outs, kind_in};
 ghost use Rattle.cfg_build.specs.Shape.{kind_at};
 ghost use Rattle.dep_routing.specs.Touch.{touches_in};
 ghost use Rattle.dep_routing.specs.Touches.{piece_kind, exec_kind};
-ghost use Rattle.const_prop.specs.Setting.{IsProgram, AreLines, TellOneWord, AreOuts, AreTouched, IsSetting};
+ghost use Rattle.const_prop.specs.Setting.{IsProgram, AreLines, TellOneWord, AreOuts, AreTouched, IsSetting, IsTouchedRow};
 
 use crate::row::Row;
 use alias_classes::Classes;
 use cfg_build::{Flow, PieceKind};
 use closed_walks::{Digraph, edges_of_nodes};
-use dep_routing::{Lines, TouchList, touched_lines};
-use df_sequence::{LabelList, NoMemory};
+use dep_routing::{Lines, TouchList, least_above};
+use df_sequence::NoMemory;
 use f77_tree::{ExecKind, Program};
 use std::alloc::Global;
 
@@ -32,7 +32,7 @@ pub(crate) struct Setting<'a, const W: usize> {
     /// For each piece its out-edges, in order.
     pub(crate) outs: Vec<Row>,
     /// For each piece the lines that it touches.
-    pub(crate) touched: Vec<LabelList>,
+    pub(crate) touched: Vec<Row>,
 }
 
 impl<'a, const W: usize> Setting<'a, W> {
@@ -173,14 +173,35 @@ fn touched_rows<const W: usize>(
     touch: &TouchList<W>,
     nodes: u32,
     lines: u32,
-) -> Result<Vec<LabelList>, NoMemory>
+) -> Result<Vec<Row>, NoMemory>
     requires width { IsWidth W }
     requires nodes { nodes ≡ length touch.now }
     ensures { IfOk result (λ rows. AreTouched nodes lines (touches_in touch.now) rows.items) }
 {
     let mut rows = Vec::with_capacity(alloc, nodes as usize)?;
     for node in 0..nodes {
-        rows.push(touched_lines(alloc, touch, node, lines)?)?;
+        rows.push(touched_row(alloc, touch, node, lines)?)?;
     }
     Ok(rows)
+}
+
+/// The lines that a piece touches, in rising order. It takes a few steps for each of them.
+fn touched_row<const W: usize>(
+    alloc: Global,
+    touch: &TouchList<W>,
+    node: u32,
+    lines: u32,
+) -> Result<Row, NoMemory>
+    requires width { IsWidth W }
+    requires node { node < length touch.now }
+    ensures { IfOk result (IsTouchedRow (touches_in touch.now) lines node) }
+{
+    let set = touch.at(node);
+    let mut row = Row::new(alloc);
+    let mut line = least_above(set, None, lines);
+    while line < lines {
+        row.push(line)?;
+        line = least_above(set, Some(line), lines);
+    }
+    Ok(row)
 }

@@ -11,7 +11,7 @@ use Rattle.const_prop.proofs.work.Work.is_ready.Goals as goal
 
 pub get-requires : goal.get-requires
 get-requires g c =
-    let row = touched_items c.args.s.now.flow.now.graph.nodes c.args.s.now.lines.now.lines (touches_in c.args.s.now.touch.now) c.args.s.now.touched.items c.head-node.result (to c.args.s.now.flow.now.graph c.args.edge) c.index.result.now c.as_slice-line-items.result.now c.requires.setting.touched c.head-node.ensures.exists c.head-node.ensures.node c.index.ensures c.as_slice-line-items.ensures.items in
+    let row = touched_items c.args.s.now.flow.now.graph.nodes c.args.s.now.lines.now.lines (touches_in c.args.s.now.touch.now) c.args.s.now.touched.items c.head-node.result (to c.args.s.now.flow.now.graph c.args.edge) c.index.result.now c.as_slice-line-items.result.now c.requires.setting.touched c.head-node.ensures.exists c.head-node.ensures.node c.index.ensures c.as_slice-line-items.ensures in
     let at = touched_at (touches_in c.args.s.now.touch.now) c.args.s.now.lines.now.lines (to c.args.s.now.flow.now.graph c.args.edge) c.as_slice-line-items.result.now c.loop-line.line-index row c.loop-line-test.true in
     let inside = at.0 in
     let size = c.requires.sized.lines_are in
@@ -21,7 +21,7 @@ get-requires g c =
 
 pub returns-then-not-is_something : goal.returns-then-not-is_something
 returns-then-not-is_something g c =
-    let row = touched_items c.args.s.now.flow.now.graph.nodes c.args.s.now.lines.now.lines (touches_in c.args.s.now.touch.now) c.args.s.now.touched.items c.head-node.result (to c.args.s.now.flow.now.graph c.args.edge) c.index.result.now c.as_slice-line-items.result.now c.requires.setting.touched c.head-node.ensures.exists c.head-node.ensures.node c.index.ensures c.as_slice-line-items.ensures.items in
+    let row = touched_items c.args.s.now.flow.now.graph.nodes c.args.s.now.lines.now.lines (touches_in c.args.s.now.touch.now) c.args.s.now.touched.items c.head-node.result (to c.args.s.now.flow.now.graph c.args.edge) c.index.result.now c.as_slice-line-items.result.now c.requires.setting.touched c.head-node.ensures.exists c.head-node.ensures.node c.index.ensures c.as_slice-line-items.ensures in
     let line = get_or c.as_slice-line-items.result.now c.loop-line.line-index 0 in
     let at = touched_at (touches_in c.args.s.now.touch.now) c.args.s.now.lines.now.lines (to c.args.s.now.flow.now.graph c.args.edge) c.as_slice-line-items.result.now c.loop-line.line-index row c.loop-line-test.true in
     let read : c.get.result ≡ (so_far c.args.self.now).value line c.args.edge = c.get.ensures in (
@@ -37,7 +37,7 @@ loop-line-preserved g c =
 
 pub returns : goal.returns
 returns g c =
-    let row = touched_items c.args.s.now.flow.now.graph.nodes c.args.s.now.lines.now.lines (touches_in c.args.s.now.touch.now) c.args.s.now.touched.items c.head-node.result (to c.args.s.now.flow.now.graph c.args.edge) c.index.result.now c.as_slice-line-items.result.now c.requires.setting.touched c.head-node.ensures.exists c.head-node.ensures.node c.index.ensures c.as_slice-line-items.ensures.items in (
+    let row = touched_items c.args.s.now.flow.now.graph.nodes c.args.s.now.lines.now.lines (touches_in c.args.s.now.touch.now) c.args.s.now.touched.items c.head-node.result (to c.args.s.now.flow.now.graph c.args.edge) c.index.result.now c.as_slice-line-items.result.now c.requires.setting.touched c.head-node.ensures.exists c.head-node.ensures.node c.index.ensures c.as_slice-line-items.ensures in (
       λ is. record {
         edge = c.requires.edge;
         action = ap is_action (sym (ap (kind_at c.args.s.now.flow.now) c.head-node.ensures.node)) ∙ ap is_action (sym c.kind.ensures) ∙ sym c.is_action.ensures ∙ c.if-not-is_action.false;
