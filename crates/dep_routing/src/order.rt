@@ -54,7 +54,7 @@ fn last_regions(alloc: Global, t: &RegionTree, borders: &Borders) -> Result<Orde
     ensures { IfOk result (λ o. IsOrdering t.now (length t.now.entries) 0 o.marks.items o.regions.items) }
 {
     let mut marks = vec![in alloc; false; t.count() as usize + 1]?;
-    let mut regions = Vec::new(alloc);
+    let mut regions = Vec::with_capacity(alloc, t.count() as usize)?;
     for r in 1..t.count() + 1 {
         if borders.entered[t.exit(r) as usize] == 0 {
             place(r, &mut marks, &mut regions)?;

@@ -40,7 +40,8 @@ pub(crate) fn next_rows<const W: usize>(
     ensures rows { IfOk result (λ rows. AreEdgeRows edges lines rows) }
     ensures next { IfOk result (λ rows. LeadOn t.now noisy.now.items edges lines (numbered_rows rows.table rows.row_of.items)) }
 {
-    let mut table = SharedRows::new(alloc, lines);
+    let room = blocks_of(order, noisy, lines);
+    let mut table = SharedRows::with_room(alloc, lines, t.count(), room)?;
     let mut row_of = no_rows(alloc, edges)?;
     for r in order {
         let (entry, exit) = (t.entry(*r), t.exit(*r));
@@ -55,6 +56,32 @@ pub(crate) fn next_rows<const W: usize>(
         row_of[entry as usize] = Some(row);
     }
     Ok(EdgeRows { table, row_of })
+}
+
+/// How many blocks of 16 lines the rows of the regions take at most: those in which a node touches a line, and one more where a row is
+/// no copy of another.
+fn blocks_of<const W: usize>(order: &[u32], noisy: &Vec<ClassSet<W>>, lines: u32) -> usize
+    requires width { IsWidth W }
+    requires regions { (k : ℕ) → k < length order.now → slice_index order.now k < length noisy.now.items }
+{
+    let mut count = order.len();
+    for r in order {
+        count = count.saturating_add(blocks_met(&noisy[*r as usize], lines) as usize);
+    }
+    count
+}
+
+/// How many of the blocks of 16 lines have a line in the set.
+fn blocks_met<const W: usize>(set: &ClassSet<W>, lines: u32) -> u32
+    requires { IsWidth W }
+{
+    let mut count: u32 = 0;
+    let mut line = least_above(set, None, lines);
+    while line < lines {
+        count = count.saturating_add(1);
+        line = least_above(set, Some(line.saturating_add(15 - line % 16)), lines);
+    }
+    count
 }
 
 /// So many edges without a row.

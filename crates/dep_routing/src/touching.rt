@@ -86,7 +86,7 @@ fn trap_flags(alloc: Global, p: &Program) -> Result<Vec<bool>, NoMemory>
     ensures { IfOk result (λ flags. (k : ℕ) → IsFlagged flags.items k ↔ CanTrapAt p.now k) }
 {
     well_formed_programs_can_run();
-    let mut flags = Vec::new(alloc);
+    let mut flags = Vec::with_capacity(alloc, p.execs.len() as usize)?;
     for exec in p.execs.as_slice() {
         flags.push(exec_may_trap(p, &exec.kind))?;
     }

@@ -53,6 +53,23 @@ impl SharedRows {
         }
     }
 
+    /// A table of this width without a row, with room for so many rows, and for so many blocks of 16 columns that differ. Room is no
+    /// limit: where the rows take more, the table grows.
+    pub fn with_room(alloc: Global, width: u32, rows: u32, blocks: usize) -> Result<Self, NoMemory>
+        ensures width { IfOk result (λ table. table.width ≡ width) }
+        ensures rows { IfOk result (λ table. table.rows ≡ []) }
+    {
+        let row_blocks = width / COLUMNS + 1;
+        Ok(SharedRows {
+            width,
+            blocks: row_blocks,
+            count: 0,
+            pool: Vec::with_capacity(alloc, blocks)?,
+            numbers: Vec::with_capacity(alloc, rows as usize * row_blocks as usize)?,
+            own: 0,
+        })
+    }
+
     /// How many rows there are.
     pub fn len(&self) -> u32
         ensures count { result ≡ length self.now.rows }

@@ -18,14 +18,25 @@ pub loop-r-init : goal.loop-r-init
 loop-r-init g c =
     let n = c.args.edges in
     record {
-      wide = c.new-table.ensures.width;
+      wide = c.in_ok-table.ensures.width;
       size = ap length c.in_ok-row_of.ensures ∙ length-replicate n None;
-      there = subst (λ (xs : List (Option ℕ)). AreThere c.new-table.result xs) (sym c.in_ok-row_of.ensures) (there-none c.new-table.result n);
+      there = subst (λ (xs : List (Option ℕ)). AreThere c.in_ok-table.table xs) (sym c.in_ok-row_of.ensures) (there-none c.in_ok-table.table n);
       led = λ h touches line f quiet low. record {
-        rest = λ e none. ap (λ (xs : List (Option ℕ)). led (numbered_rows c.new-table.result xs) line e) c.in_ok-row_of.ensures ∙ led-none c.new-table.result n line e;
+        rest = λ e none. ap (λ (xs : List (Option ℕ)). led (numbered_rows c.in_ok-table.table xs) line e) c.in_ok-row_of.ensures ∙ led-none c.in_ok-table.table n line e;
         done = λ r held. absurd held;
       };
     }
+
+pub blocks_of-room-requires : goal.blocks_of-room-requires
+blocks_of-room-requires g c = (
+  search,
+  (
+    c.requires.width,
+    λ k below.
+        let number : IsNumber c.args.t.now (get_or c.args.order.now k 0) = c.requires.order.numbers (get_or c.args.order.now k 0) (Holds-at c.args.order.now k below) in
+        omega (arith, number.1, c.requires.size),
+  ),
+)
 
 pub entry-entry-requires : goal.entry-entry-requires
 entry-entry-requires g c = c.requires.order.numbers (get_or c.args.order.now c.loop-r.r-index 0) (Holds-at c.args.order.now c.loop-r.r-index c.loop-r-test.true)
