@@ -5,12 +5,11 @@ use Rattle.closed_walks.specs.Graph.{Graph, edge_count}
 use Rattle.region_tree.specs.Tree.{Tree}
 use Rattle.shared_rows.specs.Table.{Table, row_at, with_row}
 use Rattle.dep_routing.specs.Facts.{TreeFacts}
-use Rattle.dep_routing.specs.LineTable.{led}
+use Rattle.dep_routing.specs.LineTable.{led, wire_in}
 use Rattle.dep_routing.specs.Next.{Next}
 use Rattle.dep_routing.specs.Noise.{AreNoisy, marks_of}
 use Rattle.dep_routing.specs.Order.{is_marked}
 use Rattle.dep_routing.specs.Quiet.{IsWire}
-use Rattle.dep_routing.specs.Touch.{touches_in}
 
 -- the number is 0, or a node in the region touches the line
 abbrev pub is_noisy : List Bool → ℕ → Bool
@@ -34,5 +33,5 @@ module _ {W : ℕ} where
   LeadOn t noisy edges lines rows = (g : Graph) (touches : ℕ → ℕ → Bool) (line e : ℕ) → TreeFacts g t → AreNoisy g t touches line (marks_of noisy line) → line < lines → e < edges → Next g t touches line e (led rows line e)
 
   -- The sets tell for each edge of which lines it is a wire.
-  abbrev pub TellWires : Graph → Tree → (noisy : List (ClassSet W)) → (lines : ℕ) → (wires : List (ClassSet W)) → Type 0
-  TellWires g t noisy lines wires = (touches : ℕ → ℕ → Bool) (line e : ℕ) → AreNoisy g t touches line (marks_of noisy line) → line < lines → e < edge_count g → (touches_in wires e line ≡ true) ↔ IsWire g t touches line e
+  abbrev pub TellWires : Graph → Tree → (noisy : List (ClassSet W)) → (lines : ℕ) → (sets : List (ClassSet W)) → (set_of : List ℕ) → Type 0
+  TellWires g t noisy lines sets set_of = (touches : ℕ → ℕ → Bool) (line e : ℕ) → AreNoisy g t touches line (marks_of noisy line) → line < lines → e < edge_count g → (wire_in sets set_of line e ≡ true) ↔ IsWire g t touches line e

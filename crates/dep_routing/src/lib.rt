@@ -9,6 +9,7 @@
 mod borders;
 mod branch_needs;
 mod edge_rows;
+mod edge_sets;
 mod facts;
 mod free;
 mod free_laws;

@@ -4,6 +4,7 @@ ghost use Rattle.std.specs.Prelude.{◌≡◌, ◌<◌, ℕ, true};
 ghost use Rattle.class_set.specs.ClassSet.{holds};
 
 use crate::edge_rows::EdgeRows;
+use crate::edge_sets::EdgeSets;
 use class_set::ClassSet;
 use std::marker::Model;
 
@@ -12,8 +13,8 @@ use std::marker::Model;
 #[derive(Drop)]
 pub struct Lines<const W: usize> {
     pub(crate) lines: u32,
-    /// For each edge the lines of which it is a wire.
-    pub(crate) wires: Vec<ClassSet<W>>,
+    /// For each edge the lines of which it is a wire: edges to nodes of which one region is the smallest that holds them have one set.
+    pub(crate) wires: EdgeSets<W>,
     /// For each edge, where it is the entry of a region, the edge to which each line is led from it. From any other edge no line
     /// is led on.
     pub(crate) next: EdgeRows,
@@ -47,7 +48,7 @@ impl<const W: usize> Lines<W> {
         ensures wires { (line : ℕ) → line < self.now.lines → holds result.now line ≡ wire_at self.now line edge }
         ensures within { (line : ℕ) → holds result.now line ≡ true → line < self.now.lines }
     {
-        &self.wires[edge as usize]
+        self.wires.of(edge)
     }
 
     /// Whether the edge is a wire of the line.
@@ -56,7 +57,7 @@ impl<const W: usize> Lines<W> {
         requires edge { edge < self.now.edges }
         ensures { result ≡ wire_at self.now line edge }
     {
-        self.wires[edge as usize].holds(line)
+        self.wires.of(edge).holds(line)
     }
 
     /// The edge to which the line is led from the edge, past regions that are quiet for it. It is a wire where the edge begins at a

@@ -20,7 +20,7 @@ use region_tree::RegionTree;
 use std::alloc::Global;
 
 /// The wires of the lines from 0 on, so many, and to which edges the lines are led. `touch` has the set of lines of each node. It takes
-/// a set of lines for each edge, and for each region and each 16 lines four bytes, with 64 more where a node of the region touches one of
+/// a set of lines for each region, and for each region and each 16 lines four bytes, with 64 more where a node of the region touches one of
 /// the 16.
 pub fn route<const W: usize>(
     alloc: Global,
@@ -42,6 +42,6 @@ pub fn route<const W: usize>(
     let order = regions_in_order(alloc, t, &borders)?;
     let noisy = noisy_regions(alloc, g, t, touch)?;
     let next = next_rows(alloc, g.edges(), t, order.as_slice(), &noisy, lines)?;
-    let wires = wire_sets(alloc, g, t, &noisy, lines)?;
+    let wires = wire_sets(alloc, g, t, noisy, lines)?;
     Ok(Lines { lines, wires, next })
 }

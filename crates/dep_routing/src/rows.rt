@@ -3,10 +3,10 @@
 ghost use Rattle.std.specs.Prelude.{◌≡◌, ◌<◌, ◌≤◌, ◌*◌, ◌&&◌, ℕ, true, length, replicate, slice_index, nat_lt, if◌then◌else◌, IfOk, IfSome, OnOk};
 ghost use Rattle.class_set.specs.ClassSet.{holds};
 ghost use Rattle.class_set.specs.Members.{IsWidth};
-ghost use Rattle.closed_walks.specs.Graph.{edge_count};
+ghost use Rattle.closed_walks.specs.Graph.{edge_count, to};
 ghost use Rattle.closed_walks.specs.Region.{IsFlowGraph};
-ghost use Rattle.region_tree.specs.Tree.{IsRegionTree, IsNumber, entry_of, exit_of};
-ghost use Rattle.dep_routing.specs.LineTable.{AreEdgeRows};
+ghost use Rattle.region_tree.specs.Tree.{IsRegionTree, IsNumber, entry_of, exit_of, innermost_of};
+ghost use Rattle.dep_routing.specs.LineTable.{AreEdgeRows, AreEdgeSets};
 ghost use Rattle.dep_routing.specs.Noise.{marks_of};
 ghost use Rattle.dep_routing.specs.Order.{IsOrder};
 ghost use Rattle.dep_routing.specs.Rows.{IsOneMore, LeadOn, TellWires, begun_row, is_noisy};
@@ -14,6 +14,7 @@ ghost use Rattle.dep_routing.specs.Touch.{touches_in};
 ghost use Rattle.shared_rows.specs.Table.{numbered_rows, with_row};
 
 use crate::edge_rows::EdgeRows;
+use crate::edge_sets::EdgeSets;
 use crate::facts::tree_facts;
 use crate::touched::least_above;
 use class_set::ClassSet;
@@ -76,10 +77,10 @@ fn blocks_met<const W: usize>(set: &ClassSet<W>, lines: u32) -> u32
     requires { IsWidth W }
 {
     let mut count: u32 = 0;
-    let mut line = least_above(set, None, lines);
-    while line < lines {
+    let mut next = least_above(set, None, lines);
+    while next < lines {
         count = count.saturating_add(1);
-        line = least_above(set, Some(line.saturating_add(15 - line % 16)), lines);
+        next = least_above(set, Some(next.saturating_add(15 - next % 16)), lines);
     }
     count
 }
@@ -134,29 +135,52 @@ pub(crate) fn wire_sets<const W: usize>(
     alloc: Global,
     g: &Digraph,
     t: &RegionTree,
-    noisy: &Vec<ClassSet<W>>,
+    noisy: Vec<ClassSet<W>>,
     lines: u32,
-) -> Result<Vec<ClassSet<W>>, NoMemory>
+) -> Result<EdgeSets<W>, NoMemory>
     requires width { IsWidth W }
     requires flow { IsFlowGraph g.now }
     requires tree { IsRegionTree g.now t.now }
-    requires size { length noisy.now.items ≡ length t.now.entries }
+    requires size { length noisy.items ≡ length t.now.entries }
     requires few { lines ≤ 64 * W }
-    ensures count { IfOk result (λ wires. length wires.items ≡ edge_count g.now) }
-    ensures within { IfOk result (λ wires. (line e : ℕ) → touches_in wires.items e line ≡ true → line < lines) }
-    ensures wires { IfOk result (λ wires. TellWires g.now t.now noisy.now.items lines wires.items) }
+    ensures sets { IfOk result (λ wires. AreEdgeSets (edge_count g.now) lines wires) }
+    ensures wires { IfOk result (λ wires. TellWires g.now t.now noisy.entry.items lines wires.sets.items wires.set_of.items) }
 {
     tree_facts();
-    let all = lines_below(lines);
-    let mut wires = Vec::with_capacity(alloc, g.edges() as usize)?;
+    let set_of = regions_at_ends(alloc, g, t)?;
+    let mut sets = noisy;
+    keep_lines(&mut sets, &lines_below(lines));
+    Ok(EdgeSets { sets, set_of })
+}
+
+/// For each edge the smallest region that holds the node at which it ends, or 0.
+fn regions_at_ends(alloc: Global, g: &Digraph, t: &RegionTree) -> Result<Vec<u32>, NoMemory>
+    requires flow { IsFlowGraph g.now }
+    requires tree { IsRegionTree g.now t.now }
+    ensures count { IfOk result (λ regions. length regions.items ≡ edge_count g.now) }
+    ensures each { IfOk result (λ regions. (e : ℕ) → e < edge_count g.now → slice_index regions.items e ≡ innermost_of t.now (to g.now e)) }
+{
+    tree_facts();
+    let mut regions = Vec::with_capacity(alloc, g.edges() as usize)?;
     for e in 0..g.edges() {
-        wires.push(lines_at(t.innermost(g.to(e)), noisy, &all))?;
+        regions.push(t.innermost(g.to(e)))?;
     }
-    Ok(wires)
+    Ok(regions)
+}
+
+/// Keeps of each set those of the lines that are in it, and puts all lines in the place of the set number 0.
+fn keep_lines<const W: usize>(sets: &mut Vec<ClassSet<W>>, lines: &ClassSet<W>)
+    requires width { IsWidth W }
+    ensures size { length sets.new.items ≡ length sets.old.items }
+    ensures each { (r line : ℕ) → r < length sets.old.items → touches_in sets.new.items r line ≡ (holds lines.now line && is_noisy (marks_of sets.old.items line) r) }
+{
+    for r in 0..sets.len() {
+        sets[r] = lines_at(r, sets, lines);
+    }
 }
 
 /// Those of the lines that a node in the region touches, or all where the number is 0.
-fn lines_at<const W: usize>(r: u32, noisy: &Vec<ClassSet<W>>, lines: &ClassSet<W>) -> ClassSet<W>
+fn lines_at<const W: usize>(r: usize, noisy: &Vec<ClassSet<W>>, lines: &ClassSet<W>) -> ClassSet<W>
     requires width { IsWidth W }
     requires region { r < length noisy.now.items }
     ensures { (line : ℕ) → holds result line ≡ (holds lines.now line && is_noisy (marks_of noisy.now.items line) r) }
@@ -164,7 +188,7 @@ fn lines_at<const W: usize>(r: u32, noisy: &Vec<ClassSet<W>>, lines: &ClassSet<W
     if r == 0 {
         *lines
     } else {
-        noisy[r as usize].intersection(lines)
+        noisy[r].intersection(lines)
     }
 }
 
