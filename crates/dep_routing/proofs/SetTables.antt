@@ -39,3 +39,14 @@ touches-apart (x ∷ sets) zero zero line s apart = absurd (apart refl)
 touches-apart (x ∷ sets) zero (suc k) line s apart = refl
 touches-apart (x ∷ sets) (suc r) zero line s apart = refl
 touches-apart (x ∷ sets) (suc r) (suc k) line s apart = touches-apart sets r k line s (λ same. apart (ap suc same))
+
+pub touches-before : {W : ℕ} (sets : List (ClassSet W)) (set : ClassSet W) (node line : ℕ) → node < length sets → touches_in (sets ++ set ∷ []) node line ≡ touches_in sets node line
+touches-before [] set node line lt = absurd (omega (arith, lt))
+touches-before (first ∷ sets) set zero line lt = refl
+touches-before (first ∷ sets) set (suc node) line lt = touches-before sets set node line (omega (arith, lt))
+
+pub touches-last : {W : ℕ} (sets : List (ClassSet W)) (set : ClassSet W) (node line : ℕ) → node ≡ length sets → touches_in (sets ++ set ∷ []) node line ≡ holds set line
+touches-last [] set zero line is = refl
+touches-last [] set (suc node) line is = absurd (omega (arith, is))
+touches-last (first ∷ sets) set zero line is = absurd (omega (arith, is))
+touches-last (first ∷ sets) set (suc node) line is = touches-last sets set node line (omega (arith, is))
