@@ -1,4 +1,4 @@
-use Rattle.std.proofs.Common.{◌≡◌, ◌<◌, ◌≤◌, ◌==◌, ◌||◌, ◌&&◌, ◌∙◌, ℕ, Bool, length, set, sym, ap, arith, ⊎_elim, length-set}
+use Rattle.std.proofs.Common.{◌≡◌, ◌<◌, ◌==◌, ◌||◌, ◌&&◌, ◌∙◌, ℕ, Bool, length, set, sym, ap, arith, ⊎_elim, length-set}
 use Rattle.std.proofs.lemmas.Bool.{cases_eq}
 use Rattle.class_set.specs.ClassSet.{holds}
 use Rattle.dep_routing.specs.Noise.{marks_of}
