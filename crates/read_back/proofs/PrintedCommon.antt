@@ -356,7 +356,10 @@ module _ (q : Program) (flat : List FlatLine) (given : CanBeText q flat) where
       ∙ ap (λ ns. of_written common_names (commons q.commons) ++ ns) inits_none
       ∙ append-nil (of_written common_names (commons q.commons))
 
+  -- no name of the statements stands twice in COMMON
+  pub all_common_once : has_repeat bytes_eq [] (flat_map (λ (s : Labelled). common_names s.stmt) (statements_read q flat)) ≡ false
+  all_common_once = ap (has_repeat bytes_eq []) common_all ∙ commons_once q.commons (once_in q.names q.commons given.declarations.common_once)
+
   pub none_common_twice : first_line is_common_twice (statements_read q flat) ≡ None
   none_common_twice =
-      let whole = ap (has_repeat bytes_eq []) common_all ∙ commons_once q.commons (once_in q.names q.commons given.declarations.common_once) in
-      none_faulty is_common_twice (statements_read q flat) (λ k s is. within_all (λ (t : Labelled). common_names t.stmt) [] (statements_read q flat) k s whole is)
+      none_faulty is_common_twice (statements_read q flat) (λ k s is. within_all (λ (t : Labelled). common_names t.stmt) [] (statements_read q flat) k s all_common_once is)

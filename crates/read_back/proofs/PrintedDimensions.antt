@@ -67,7 +67,7 @@ right_up_to most dims all le =
     let same = size-pos dims all in
     ap (λ b. b || nat_lt most (elements dims)) (all_forward dims all) ∙ le-ltb most (elements dims) (omega (arith, ints, same, le))
 
-right_dims : (dims : List Dim) → AreDims dims → are_wrong_dims dims ≡ false
+pub right_dims : (dims : List Dim) → AreDims dims → are_wrong_dims dims ≡ false
 right_dims dims are = right_up_to 262144 dims are.bounds are.elements
 
 -- ---- declarators without dimensions

@@ -10,7 +10,7 @@ use Rattle.f77_layout.specs.Counts.{asks_too_much}
 use Rattle.f77_layout.specs.Faults.{first_line, answer_or}
 use Rattle.f77_layout.specs.Jumps.{jumps_into}
 use Rattle.f77_layout.specs.Labels.{is_labelled_twice, lacks_label}
-use Rattle.f77_layout.specs.Layout.{names_of, placed_names, line_of_words, at_line, refusal, layout, program, unless_refused}
+use Rattle.f77_layout.specs.Layout.{names_of, placed_names, line_of_words, at_line, refusal, layout, program, unless_refused, HasForm}
 use Rattle.f77_layout.specs.Nesting.{first_unnested}
 use Rattle.f77_layout.specs.Order.{is_out_of_order}
 use Rattle.f77_layout.specs.StorageFaults.{has_wrong_storage}
@@ -19,7 +19,7 @@ use Rattle.flat_programs.specs.declared.statements.FlatLine.{FlatLine}
 use Rattle.read_back.specs.PrintedArrays.{HasNoPrintedArrays}
 use Rattle.read_back.specs.PrintedStatements.{CanBeText}
 use Rattle.read_back.specs.SourceStatements.{statements_read}
-use Rattle.read_back.specs.StorageRefusals.{IsOfStorage}
+use Rattle.read_back.specs.StorageRefusals.{IsOfStorage, IsOfOperations}
 use Rattle.read_back.proofs.PrintedJumps.{none_jumps_into}
 use Rattle.read_back.proofs.PrintedLabels.{none_labelled_twice, none_lacks_label}
 use Rattle.read_back.proofs.PrintedNesting.{none_unnested}
@@ -41,6 +41,10 @@ of_storage None (Some line) ops end is = let same : TooManyWords line ≡ end = 
 of_storage None None (Some line) end is = let same : TooManyOps line ≡ end = cc in subst IsOfStorage same tt
 of_storage None None None end is = absurd cc
 
+of_operations : (ops : Option ℕ) (end : LayoutEnd) → answer_or (at_line TooManyOps ops) None ≡ Some end → IsOfOperations end
+of_operations (Some line) end is = let same : TooManyOps line ≡ end = cc in subst IsOfOperations same tt
+of_operations None end is = absurd cc
+
 module _ (q : Program) (flat : List FlatLine) (given : CanBeText q flat) (free : HasNoPrintedArrays q.names) (checked : Bool) where
   abbrev stmts : List Labelled
   stmts = statements_read q flat
@@ -51,20 +55,29 @@ module _ (q : Program) (flat : List FlatLine) (given : CanBeText q flat) (free :
   abbrev ops : Option ℕ
   ops = first_line (asks_too_much (names_of stmts) checked stmts) stmts
 
-  abbrev last_ones : Option LayoutEnd
-  last_ones = answer_or (at_line TooManyWords (line_of_words stmts)) (answer_or (at_line TooManyOps ops) None)
+  -- the refusals up to those of words and operations
+  abbrev refused_before : Option LayoutEnd → Option LayoutEnd
+  refused_before last =
+      let jumped = answer_or (at_line JumpInto (first_line (jumps_into stmts) stmts)) last in
+      let nested = answer_or (at_line BadNesting (first_unnested [] stmts)) jumped in
+      let missing = answer_or (at_line LabelMissing (first_line (lacks_label stmts) stmts)) nested in
+      let labelled = answer_or (at_line LabelTwice (first_line is_labelled_twice stmts)) missing in
+      let stored = answer_or (at_line LayoutWrong wrong) labelled in
+      let typed = answer_or (at_line TypeWrong (first_line (has_wrong_type (names_of stmts)) stmts)) stored in
+      let named = answer_or (at_line RealName (first_line (has_real_name stmts) stmts)) typed in
+      answer_or (at_line OutOfOrder (first_line is_out_of_order stmts)) named
 
-  only_storage : refusal stmts checked ≡ answer_or (at_line LayoutWrong wrong) last_ones
-  only_storage =
+  only_storage : (last : Option LayoutEnd) → refused_before last ≡ answer_or (at_line LayoutWrong wrong) last
+  only_storage last =
       let few = given.few in
-      let later = answer_or (at_line JumpInto (first_line (jumps_into stmts) stmts)) last_ones in
+      let later = answer_or (at_line JumpInto (first_line (jumps_into stmts) stmts)) last in
       let nested = answer_or (at_line BadNesting (first_unnested [] stmts)) later in
       let missing = answer_or (at_line LabelMissing (first_line (lacks_label stmts) stmts)) nested in
-      let labels : answer_or (at_line LabelTwice (first_line is_labelled_twice stmts)) missing ≡ last_ones =
+      let labels : answer_or (at_line LabelTwice (first_line is_labelled_twice stmts)) missing ≡ last =
       skip LabelTwice (first_line is_labelled_twice stmts) missing (none_labelled_twice q flat)
       ∙ skip LabelMissing (first_line (lacks_label stmts) stmts) nested (none_lacks_label q flat given.form (omega (arith, few)))
       ∙ skip BadNesting (first_unnested [] stmts) later (none_unnested q flat given.form (omega (arith, few)))
-      ∙ skip JumpInto (first_line (jumps_into stmts) stmts) last_ones (none_jumps_into q flat given.form (omega (arith, few)))
+      ∙ skip JumpInto (first_line (jumps_into stmts) stmts) last (none_jumps_into q flat given.form (omega (arith, few)))
       in
       let stored = answer_or (at_line LayoutWrong wrong) (answer_or (at_line LabelTwice (first_line is_labelled_twice stmts)) missing) in
       let typed = answer_or (at_line TypeWrong (first_line (has_wrong_type (names_of stmts)) stmts)) stored in
@@ -74,10 +87,29 @@ module _ (q : Program) (flat : List FlatLine) (given : CanBeText q flat) (free :
       ∙ skip TypeWrong (first_line (has_wrong_type (names_of stmts)) stmts) stored (none_wrong_type q flat given free)
       ∙ ap (answer_or (at_line LayoutWrong wrong)) labels
 
+  abbrev last_ones : Option LayoutEnd
+  last_ones = answer_or (at_line TooManyWords (line_of_words stmts)) (answer_or (at_line TooManyOps ops) None)
+
   pub refused_for_storage : (end : LayoutEnd) → layout (statements_read q flat) checked ≡ Err end → IsOfStorage end
   refused_for_storage end is =
-      of_storage wrong (line_of_words stmts) ops end (sym only_storage ∙ refused_by (program stmts checked) (refusal stmts checked) end is)
+      of_storage wrong (line_of_words stmts) ops end (sym (only_storage last_ones) ∙ refused_by (program stmts checked) (refusal stmts checked) end is)
 
-pub if_refused : (answer : Result Program LayoutEnd) → ((end : LayoutEnd) → answer ≡ Err end → IsOfStorage end) → IfErr answer IsOfStorage
-if_refused (Ok p) refused = tt
-if_refused (Err end) refused = refused end refl
+  -- where its storage is right
+  module _ (right : wrong ≡ None) (few : line_of_words stmts ≡ None) where
+    pub has_form : HasForm (statements_read q flat)
+    has_form =
+        only_storage (answer_or (at_line TooManyWords (line_of_words stmts)) None)
+        ∙ skip LayoutWrong wrong (answer_or (at_line TooManyWords (line_of_words stmts)) None) right
+        ∙ skip TooManyWords (line_of_words stmts) None few
+
+    only_operations : refusal stmts checked ≡ answer_or (at_line TooManyOps ops) None
+    only_operations =
+        let last = answer_or (at_line TooManyOps ops) None in
+        only_storage last_ones ∙ skip LayoutWrong wrong last_ones right ∙ skip TooManyWords (line_of_words stmts) last few
+
+    pub refused_for_operations : (end : LayoutEnd) → layout (statements_read q flat) checked ≡ Err end → IsOfOperations end
+    refused_for_operations end is = of_operations ops end (sym only_operations ∙ refused_by (program stmts checked) (refusal stmts checked) end is)
+
+pub if_refused : (Q : LayoutEnd → Type 0) (answer : Result Program LayoutEnd) → ((end : LayoutEnd) → answer ≡ Err end → Q end) → IfErr answer Q
+if_refused Q (Ok p) refused = tt
+if_refused Q (Err end) refused = refused end refl

@@ -24,7 +24,7 @@ use Rattle.f77_expr.specs.Printing.{name_at, plain, Form, plain_form, forms_alon
 use Rattle.f77_expr.proofs.PrintedItems.{form-Apply, form-Read}
 use Rattle.read_back.specs.PrintedArrays.{HasNoPrintedArrays}
 use Rattle.f77_layout.specs.Types.{intrinsics, is_array_in}
-use Rattle.f77_layout.specs.Resolved.{in_dialect, nested, intrinsic_call, resolved_call, resolved, resolved_row}
+use Rattle.f77_layout.specs.Resolved.{in_dialect, nested, intrinsic_call, resolved_call, resolved, resolved_row, access_of}
 use Rattle.read_back.proofs.ExpressionInduction.{Holds, every_expression}
 use Rattle.read_back.proofs.PrintedKinds.{index-name}
 
@@ -44,6 +44,11 @@ module _ (names : List NameInfo) (checked : Bool) where
   resolved-Call name args =
       let row = raw_row_of (Call name args) in
       ap (resolved_call names checked name) (resolved-items row.0 row.1 ∙ ap (map (resolved names checked)) (items_hidden-the_row-RawExpr-0 args))
+
+  access_of-Call : (name : List ℕ) (args : List RawExpr) → access_of names checked (Call name args) ≡ record { name = index_of names name; subs = map (resolved names checked) args }
+  access_of-Call name args =
+      let row = raw_row_of (Call name args) in
+      ap (λ (es : List Expr). let made : Access = record { name = index_of names name; subs = es } in made) (resolved-items row.0 row.1 ∙ ap (map (resolved names checked)) (items_hidden-the_row-RawExpr-0 args))
 
   resolved-Apply : (op : Op) (args : List RawExpr) → resolved names checked (RawApply op args) ≡ Apply (in_dialect checked op) (map (resolved names checked) args)
   resolved-Apply op args =
@@ -265,3 +270,22 @@ module _ (names : List NameInfo) (checked : Bool) (differ : NamesDiffer names) (
   -- the form of an expression is resolved to the expression
   pub printed_tree : (e : Expr) → IsProper names e → HasDialect checked e → resolved names checked (raw_form names e) ≡ e
   printed_tree e proper dialect = (every_expression IsPrinted expressions_resolved e proper dialect).alone
+
+  -- ---- what is assigned to
+
+  access_again : (k : ℕ) (subs : List Expr) (fs : List Form) → k < length names → AllResolved subs fs → access_of names checked (access_form (name_at names k) fs).alone ≡ record { name = k; subs = subs }
+  access_again k [] [] known all = ap (λ j. let made : Access = record { name = j; subs = [] } in made) (index-name names k differ known)
+  access_again k [] (f ∷ fs) known all = absurd all
+  access_again k (s ∷ subs) [] known all = absurd all
+  access_again k (s ∷ subs) (f ∷ fs) known all =
+      let raws = forms_alone (f ∷ fs) in
+      access_of-Call names checked (name_at names k) raws
+      ∙ ap (λ j. let made : Access = record { name = j; subs = map (resolved names checked) raws } in made) (index-name names k differ known)
+      ∙ ap (λ (es : List Expr). let made : Access = record { name = k; subs = es } in made) (alone_resolved (s ∷ subs) (f ∷ fs) all)
+
+  pub printed_target : (target : Access) → IsProper names (Read target) → All (HasDialect checked) target.subs → access_of names checked (raw_form names (Read target)) ≡ target
+  printed_target target proper dialect =
+      let is = IsProper-element names target proper in
+      let each : All IsPrinted target.subs = λ k d lt. every_expression IsPrinted expressions_resolved _ in
+      let subs = all_resolved target.subs each (λ k d lt. (is.subscripts k d lt).proper) dialect in
+      ap (λ (f : Form). access_of names checked f.alone) (form-Read names target) ∙ access_again target.name target.subs (map (form names) target.subs) is.known subs

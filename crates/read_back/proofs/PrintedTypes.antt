@@ -81,7 +81,7 @@ module _ (names : List NameInfo) where
   kind_same : (name : List ℕ) → kind_named bare name ≡ kind_named names name
   kind_same name = ap (kind_of bare) (bare-index names name) ∙ bare-kind names (index_of names name)
 
-  array_same : (name : List ℕ) → is_array_in bare name ≡ is_array_in names name
+  pub array_same : (name : List ℕ) → is_array_in bare name ≡ is_array_in names name
   array_same name = ap (λ dims. nat_lt 0 (length dims)) (dims_same name)
 
   call_same : (name : List ℕ) (count : ℕ) → kind_of_call bare name count ≡ kind_of_call names name count
@@ -115,7 +115,7 @@ unfolding Rattle.f77_tree.specs.declared.statements.Stmt.TheBlock.hidden-the_row
 guarded_kinds names condition target = refl
 
 module _ (names : List NameInfo) (differ : NamesDiffer names) (free : HasNoPrintedArrays names) where
-  kind_is : (e : Expr) → IsProper names e → kind_in (bare names) (raw_form names e) ≡ Some (kind_of_expression names e)
+  pub kind_is : (e : Expr) → IsProper names e → kind_in (bare names) (raw_form names e) ≡ Some (kind_of_expression names e)
   kind_is e proper = kinds_same names (raw_form names e) ∙ printed_kind names differ free e proper
 
   of_kind : (kind : Kind) (e : Expr) → IsOfKind names kind e → is_of_kind (bare names) kind (raw_form names e) ≡ true
@@ -141,7 +141,7 @@ module _ (names : List NameInfo) (differ : NamesDiffer names) (free : HasNoPrint
   target_is target proper =
       and_from (is_variable (bare names) (raw_form names (Read target))) (is_some (kind_in (bare names) (raw_form names (Read target)))) (variable_is target proper) (ap is_some (kind_is (Read target) proper))
 
-  value_of : (target : Access) (value : Expr) → IsAssignment names target value → (words_taken value == 1) ≡ false → IsOfKind names (kind_of names target.name) value
+  pub value_of : (target : Access) (value : Expr) → IsAssignment names target value → (words_taken value == 1) ≡ false → IsOfKind names (kind_of names target.name) value
   value_of target value is none =
       ⊎_elim
       (λ (of : IsOfKind names (kind_of names target.name) value). of)

@@ -35,7 +35,7 @@ length_if : {X : Type 0} (b : Bool) (x : X) (xs : List X) → length (cond b (x 
 length_if true x xs = refl
 length_if false x xs = refl
 
-counted : {X : Type 0} (p : X → Bool) (xs : List X) → length (filter p xs) ≡ count_by p xs
+pub counted : {X : Type 0} (p : X → Bool) (xs : List X) → length (filter p xs) ≡ count_by p xs
 counted p [] = refl
 counted p (x ∷ xs) = length_if (p x) x (filter p xs) ∙ counted_if (p x) (length (filter p xs)) (count_by p xs) (counted p xs) ∙ sym (count-cons p x xs)
 

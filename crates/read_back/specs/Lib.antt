@@ -1,5 +1,6 @@
 pub mod PrintedArrays
 pub mod PrintedStatements
+pub mod ReadAgain
 pub mod ReadLines
 pub mod SourceStatements
 pub mod StorageRefusals

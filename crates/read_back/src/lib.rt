@@ -3,12 +3,15 @@
 #![tactic(auto)]
 
 mod declarations;
+mod executables;
 mod expressions;
 mod lines;
 mod programs;
 mod refusals;
+mod storage;
 
 pub use declarations::{printed_groups_and_data_are_read_again, printed_loops_are_read_again};
+pub use executables::printed_programs_have_their_executables;
 pub use expressions::printed_expressions_are_themselves;
 pub use lines::printed_lines_are_read;
 pub use programs::{
@@ -19,3 +22,4 @@ pub use refusals::{
     printed_names_are_those_of_the_table, printed_programs_are_refused_for_storage_alone,
     printed_statements_are_in_order,
 };
+pub use storage::{printed_programs_have_form, printed_programs_have_their_storage};
