@@ -1,7 +1,6 @@
 -- DATA of a printed program is right: its constants have the kinds of their words, and no word has two values.
-use Rattle.std.proofs.Common.{◌≡◌, ℕ, zero, suc, ◌+◌, ◌==◌, Bool, true, false, not, ◌||◌, List, [], ◌∷◌, ◌++◌, length, map, take, drop, All, None, Some, refl, sym, ap, subst, ◌∙◌, ⊎_elim, arith, append_assoc, append-nil}
+use Rattle.std.proofs.Common.{◌≡◌, ℕ, suc, ◌+◌, ◌==◌, Bool, true, false, not, ◌||◌, List, [], ◌∷◌, ◌++◌, length, map, take, drop, All, None, Some, refl, sym, ap, subst, ◌∙◌, ⊎_elim, arith, append_assoc}
 use Rattle.std.specs.Prelude.{flat_map, slice_get}
-use Rattle.std.specs.List.{list_any}
 use Rattle.std.proofs.lemmas.Bool.{cases_Bool, eqb-true, or_parts, or_from}
 use Rattle.std.proofs.lemmas.List.Concat.{flat_map-append}
 use Rattle.f77_tree.specs.declared.declarations.InitPart.{InitPart}
@@ -10,11 +9,11 @@ use Rattle.f77_tree.specs.declared.declarations.Kind.TheVariants.{Integer, Logic
 use Rattle.f77_tree.specs.declared.programs.NameInfo.{NameInfo}
 use Rattle.f77_tree.specs.declared.programs.Program.{Program}
 use Rattle.f77_tree.specs.declared.statements.Labelled.{Labelled}
-use Rattle.f77_tree.specs.InitialWords.{IsInitPart, GivenOnce, part_kinds, part_words, constants, lit_kind, given_words}
+use Rattle.f77_tree.specs.InitialWords.{IsInitPart, part_kinds, part_words, constants, lit_kind, given_words}
 use Rattle.f77_tree.proofs.AllLemmas.{All-nil, All-cons, All-first, All-rest, get-longer}
 use Rattle.f77_layout.specs.Declarations.{all_inits, inits_of}
 use Rattle.f77_layout.specs.Faults.{first_line, has_repeat}
-use Rattle.f77_layout.specs.StorageFaults.{same_kind, are_same_kinds, is_wrong_part, has_wrong_part, has_wrong_data}
+use Rattle.f77_layout.specs.StorageFaults.{are_same_kinds, is_wrong_part, has_wrong_part, has_wrong_data}
 use Rattle.f77_layout.proofs.FirstLine.{has_repeat-append}
 use Rattle.flat_programs.specs.declared.statements.FlatLine.{FlatLine}
 use Rattle.read_back.specs.PrintedStatements.{CanBeText}

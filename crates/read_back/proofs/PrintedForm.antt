@@ -1,20 +1,15 @@
 -- A printed program is read without a fault of form: the layout can refuse it for operations alone.
-use Rattle.std.proofs.Common.{◌≡◌, ℕ, zero, suc, ◌+◌, ◌<◌, ◌≤◌, ℤ, Bool, true, false, cond, ◌||◌, nat_lt, List, [], ◌∷◌, ◌++◌, length, map, take, Option, Some, None, Ok, Err, refl, sym, ap, subst, ◌∙◌, arith, append-nil, append_assoc}
-use Rattle.std.specs.Prelude.{slice_get, Result}
+use Rattle.std.proofs.Common.{◌≡◌, ℕ, zero, suc, ◌+◌, ◌<◌, ◌≤◌, ℤ, Bool, true, false, cond, ◌||◌, nat_lt, List, [], ◌∷◌, ◌++◌, length, map, take, Some, None, refl, sym, ap, subst, ◌∙◌, arith, append-nil, append_assoc}
+use Rattle.std.specs.Prelude.{slice_get}
 use Rattle.std.specs.List.{range_with_len}
 use Rattle.std.proofs.lemmas.Bool.{or_from, le-ltb}
-use Rattle.std.proofs.lemmas.List.FromFn.{length-map-range_with_len}
-use Rattle.f77_tree.specs.declared.programs.NameInfo.{NameInfo}
 use Rattle.f77_tree.specs.declared.programs.Program.{Program}
 use Rattle.f77_tree.specs.declared.statements.Labelled.{Labelled}
 use Rattle.f77_tree.specs.InitialWords.{initial_word, AreInitial}
 use Rattle.f77_tree.specs.Places.{ArePlaces, equations}
-use Rattle.f77_layout.specs.declared.layout_end.LayoutEnd.{LayoutEnd}
-use Rattle.f77_layout.specs.declared.layout_end.LayoutEnd.TheVariants.{LayoutWrong, TooManyWords, TooManyOps}
-use Rattle.f77_layout.specs.Counts.{asks_too_much}
 use Rattle.f77_layout.specs.Declarations.{all_inits}
-use Rattle.f77_layout.specs.Faults.{first_after, first_line, answer_or}
-use Rattle.f77_layout.specs.Layout.{names_of, placed_names, word_count, last_line, line_of_words, at_line, refusal, layout, program, HasForm}
+use Rattle.f77_layout.specs.Faults.{first_after, first_line}
+use Rattle.f77_layout.specs.Layout.{names_of, placed_names, word_count, last_line, line_of_words, program}
 use Rattle.f77_layout.specs.StorageFaults.{has_dims_twice, has_wrong_dims, is_common_twice, has_wrong_member, has_wrong_places, has_wrong_data, has_wrong_storage}
 use Rattle.flat_programs.specs.declared.statements.FlatLine.{FlatLine}
 use Rattle.read_back.specs.PrintedArrays.{HasNoPrintedArrays}

@@ -1,5 +1,5 @@
 -- The storage that a printed program is read with is that of the program: its places are right, and each name has its own.
-use Rattle.std.proofs.Common.{◌≡◌, ℕ, zero, suc, ◌+◌, ◌<◌, ◌≤◌, ◌⊎◌, ⊎_elim, ℤ, pos, Bool, true, false, cond, not, ◌==◌, List, [], ◌∷◌, ◌++◌, length, map, take, drop, All, Contains, Option, Some, None, refl, sym, ap, subst, ◌∙◌, arith, append-nil, append_assoc}
+use Rattle.std.proofs.Common.{◌≡◌, ℕ, zero, suc, ◌+◌, ◌<◌, ⊎_elim, ℤ, pos, Bool, true, false, cond, not, List, [], ◌∷◌, ◌++◌, length, map, take, drop, All, Contains, Option, Some, None, refl, sym, ap, subst, ◌∙◌, arith, append-nil, append_assoc}
 use Rattle.std.specs.Prelude.{◌&&◌, filter, flat_map, slice_get, bytes_eq}
 use Rattle.std.specs.List.{list_any}
 use Rattle.std.proofs.lemmas.Int.{ints}
@@ -24,7 +24,7 @@ use Rattle.f77_layout.specs.Declarations.{all_commons, all_groups, parts_of, gro
 use Rattle.f77_layout.specs.Faults.{first_line, has_repeat}
 use Rattle.f77_layout.specs.Layout.{names_of, spots_of, placed_from, placed_names, word_count}
 use Rattle.f77_layout.specs.Standings.{AreGroupsKnown}
-use Rattle.f77_layout.specs.Storage.{Standing, standings, spots_by, size_at, common_equations as common_solved, group_equations as group_solved, equations as solved}
+use Rattle.f77_layout.specs.Storage.{Standing, standings, size_at, common_equations as common_solved, group_equations as group_solved, equations as solved}
 use Rattle.f77_layout.specs.StorageFaults.{are_wrong_dims, is_equivalence, gives_places, has_wrong_places}
 use Rattle.f77_layout.proofs.DeclaredCommon.{names_in_part, common_names-all, once_in_common}
 use Rattle.f77_layout.proofs.DeclaredEquations.{linked-within}
@@ -155,6 +155,10 @@ module _ (q : Program) (flat : List FlatLine) (given : CanBeText q flat) (free :
     blocks = λ block. ap (λ ps. block_names q.names ps block) parts_same ∙ block_again q.names q.commons block;
     once = common_once;
   }
+
+  -- each block has the names that it had, in their order
+  pub blocks_again : (block : Option (List ℕ)) → block_names q.names (all_commons (statements_read q flat)) block ≡ block_names q.names q.commons block
+  blocks_again block = alike.blocks block
 
   known_groups : AreGroupsKnown table q.groups
   known_groups = subst (AreGroupsKnown table) (groups_same q flat given) (all_groups-known stmts)

@@ -1,11 +1,11 @@
 -- A printed program is read with its executables.
-use Rattle.std.proofs.Common.{◌≡◌, ◌==◌, ℕ, zero, suc, ◌+◌, ◌-◌, ◌<◌, ◌≤◌, Bool, true, false, cond, nat_lt, List, [], ◌∷◌, ◌++◌, length, map, filter, take, refl, sym, ap, ◌∙◌, subst, ⊎_elim, arith, Option, Some, None, append-nil}
+use Rattle.std.proofs.Common.{◌≡◌, ◌==◌, ℕ, zero, suc, ◌+◌, ◌<◌, ◌≤◌, Bool, true, false, cond, nat_lt, List, [], ◌∷◌, ◌++◌, length, map, take, refl, sym, ap, ◌∙◌, arith, Option, Some, None, append-nil}
 use Rattle.std.specs.Prelude.{All, flat_map, slice_get, option_to_list, sum_by}
 use Rattle.std.specs.List.{count_by, range_with_len}
-use Rattle.std.proofs.lemmas.Bool.{cases_Bool, cases_lt, eq-eqb, ltb-true, ltb-false, lt-ltb, true≢false}
+use Rattle.std.proofs.lemmas.Bool.{eq-eqb, ltb-true}
 use Rattle.std.proofs.lemmas.List.{map-append}
 use Rattle.std.proofs.lemmas.List.Concat.{flat_map-append}
-use Rattle.std.proofs.lemmas.List.Sums.{sum_by_push, passes_at_first, fails_before_first}
+use Rattle.std.proofs.lemmas.List.Sums.{sum_by_push, passes_at_first}
 use Rattle.std.proofs.lemmas.Option.{get_or_from_slice_get}
 use Rattle.list_laws.proofs.Counts.{bit, count-append}
 use Rattle.list_laws.proofs.Ranges.{range_more}
@@ -14,7 +14,7 @@ use Rattle.f77_tree.specs.declared.expressions.Expr.{Expr}
 use Rattle.f77_tree.specs.declared.expressions.Expr.TheVariants.{Read}
 use Rattle.f77_tree.specs.declared.programs.Exec.{Exec}
 use Rattle.f77_tree.specs.declared.programs.ExecKind.{ExecKind}
-use Rattle.f77_tree.specs.declared.programs.ExecKind.TheVariants.{Assign, Print, Pass, Test, Sign, Pick, DoStart, DoNext, End}
+use Rattle.f77_tree.specs.declared.programs.ExecKind.TheVariants.{Assign, Print, Pass, Test, Sign, Pick, DoStart, DoNext}
 use Rattle.f77_tree.specs.declared.programs.NameInfo.{NameInfo}
 use Rattle.f77_tree.specs.declared.programs.Program.{Program}
 use Rattle.f77_tree.specs.declared.statements.Labelled.{Labelled}
@@ -31,19 +31,18 @@ use Rattle.f77_tree.specs.StatementGrammar.{WrittenStatement, statement_of as st
 use Rattle.f77_tree.specs.WellFormed.{IsDo}
 use Rattle.f77_tree.proofs.AllLemmas.{All-first, All-rest, All-get}
 use Rattle.f77_expr.specs.Printing.{name_at, raw_form}
-use Rattle.f77_layout.specs.Executables.{own_executables, is_do, kind_or_integer, loops_to, first_of, met, labelled, beyond, loop_number, exit_among, exit_after, exit_of, increments_at, own_kinds, do_variable, variable_of, increments, kinds_at, executables_at, executables_if_any, executables}
+use Rattle.f77_layout.specs.Executables.{own_executables, is_do, kind_or_integer, loops_to, first_of, met, labelled, beyond, loop_number, exit_among, exit_after, exit_of, increments_at, own_kinds, do_variable, variable_of, increments, kinds_at, executables_if_any, executables}
 use Rattle.f77_layout.specs.Labels.{statement_of}
 use Rattle.f77_layout.specs.Layout.{names_of}
-use Rattle.f77_layout.specs.Resolved.{resolved, access_of, resolved_item, resolved_step}
+use Rattle.f77_layout.specs.Resolved.{resolved, resolved_step}
 use Rattle.f77_layout.specs.Types.{kind_in}
 use Rattle.flat_programs.specs.declared.statements.Flat.{Flat}
 use Rattle.flat_programs.specs.declared.statements.Flat.TheVariants.{Mark, Assignment, Output, LogicalIf, ArithmeticIf, ComputedGoTo, DoLoop, Jump, Finish}
 use Rattle.flat_programs.specs.declared.statements.FlatLine.{FlatLine}
 use Rattle.flat_programs.specs.Declarations.{declared}
-use Rattle.flat_programs.specs.Executables.{width_by, width, width_at, width_in, marked, leading, following, increment, increments as flat_increments, first_of as first_flat_of, beyond as beyond_mark, executables as flat_executables, executables_at as flat_executables_at, executables_in}
-use Rattle.flat_programs.specs.FlatForm.{IsSpan, IsNumber, HasNumbers, IsProperFlat, jumps, range_end}
+use Rattle.flat_programs.specs.Executables.{width_by, width, width_at, width_in, marked, leading, following, increment, first_of as first_flat_of, beyond as beyond_mark, executables as flat_executables, executables_at as flat_executables_at, executables_in}
+use Rattle.flat_programs.specs.FlatForm.{IsNumber, HasNumbers, IsProperFlat}
 use Rattle.flat_programs.specs.Marks.{is_mark, mark_at, mark_count, place_of, ends_at, is_loop, loop_at, loop_to, is_end, variable_in}
-use Rattle.flat_programs.specs.Text.{label_at}
 use Rattle.read_back.specs.PrintedArrays.{HasNoPrintedArrays}
 use Rattle.read_back.specs.PrintedStatements.{CanBeText}
 use Rattle.read_back.specs.SourceStatements.{statements_read}
@@ -56,7 +55,7 @@ use Rattle.read_back.proofs.PrintedTable.{table_same}
 use Rattle.read_back.proofs.PrintedTypes.{bare-index, value_of}
 use Rattle.read_back.proofs.ReadForms.{read_form, assigned_form, step_form}
 use Rattle.read_back.proofs.ReadLoops.{counted}
-use Rattle.read_back.proofs.ReadPlaces.{IsRead, read_at, do_same, first_same, met_same, loops_of, none_unlabelled, head_is}
+use Rattle.read_back.proofs.ReadPlaces.{IsRead, read_at, first_same, met_same, loops_of, none_unlabelled, head_is}
 use Rattle.read_back.proofs.ReadValues.{tree_again, target_again, items_again, step_again, taken_again}
 
 -- ---- what flat statements are read as

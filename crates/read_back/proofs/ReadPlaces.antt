@@ -1,10 +1,10 @@
 -- The executables of the statements that a printed program is read as stand at the places of those of its flat statements.
-use Rattle.std.proofs.Common.{◌≡◌, ◌==◌, ℕ, zero, suc, ◌+◌, ◌-◌, ◌<◌, ◌≤◌, Bool, true, false, cond, not, ◌&&◌, nat_lt, List, [], ◌∷◌, ◌++◌, length, map, filter, take, drop, get_or, refl, sym, ap, ◌∙◌, subst, ⊎_elim, arith, Option, Some, None}
+use Rattle.std.proofs.Common.{◌≡◌, ◌==◌, ℕ, zero, suc, ◌+◌, ◌-◌, ◌<◌, ◌≤◌, Bool, true, false, cond, ◌&&◌, List, [], ◌∷◌, length, filter, take, drop, refl, sym, ap, ◌∙◌, subst, ⊎_elim, arith, Option, Some, None}
 use Rattle.std.specs.Prelude.{All, sum_by, slice_get, reverse}
-use Rattle.std.specs.List.{range_with_len, position_or_len}
-use Rattle.std.proofs.lemmas.Bool.{cases_Bool, cases_lt, cases_eq, eqb-true, eq-eqb, ltb-true, ltb-false, lt-ltb, le-ltb, true≢false}
+use Rattle.std.specs.List.{range_with_len}
+use Rattle.std.proofs.lemmas.Bool.{cases_Bool, cases_lt, cases_eq, eqb-true, ltb-true, ltb-false, lt-ltb, true≢false}
 use Rattle.std.proofs.lemmas.List.Sums.{sum_by_push, passes_at_first, fails_before_first}
-use Rattle.std.proofs.lemmas.Option.{slice_get-get_or, get_or_from_slice_get}
+use Rattle.std.proofs.lemmas.Option.{get_or_from_slice_get}
 use Rattle.list_laws.proofs.Ranges.{range_more}
 use Rattle.f77_tree.specs.declared.expressions.Access.{Access}
 use Rattle.f77_tree.specs.declared.expressions.Expr.{Expr}
@@ -25,7 +25,7 @@ use Rattle.flat_programs.specs.declared.statements.Flat.TheVariants.{Mark, Assig
 use Rattle.flat_programs.specs.declared.statements.FlatLine.{FlatLine}
 use Rattle.flat_programs.specs.Declarations.{declared}
 use Rattle.flat_programs.specs.Executables.{width_by, width, width_at, width_in, first_of as first_flat_of}
-use Rattle.flat_programs.specs.FlatForm.{IsFlat, IsSpan, IsNumber, HasNumbers, range_end}
+use Rattle.flat_programs.specs.FlatForm.{IsSpan, IsNumber, HasNumbers, range_end}
 use Rattle.flat_programs.specs.Marks.{is_mark, mark_at, mark_count, place_of, ends_at, loop_to, is_end}
 use Rattle.flat_programs.specs.Text.{label_at}
 use Rattle.read_back.specs.PrintedArrays.{HasNoPrintedArrays}
@@ -33,7 +33,7 @@ use Rattle.read_back.specs.PrintedStatements.{CanBeText}
 use Rattle.read_back.specs.SourceStatements.{statements_read}
 use Rattle.read_back.proofs.DeclaredEach.{declared_each}
 use Rattle.read_back.proofs.MarkPlaces.{take_next}
-use Rattle.read_back.proofs.PrintedPlaces.{get_some, got_within, IsDeclaredAt, HasStatement, first_flat, statement_count, has_statement, flat_at, declared_at}
+use Rattle.read_back.proofs.PrintedPlaces.{get_some, got_within, first_flat, statement_count, has_statement, declared_at}
 use Rattle.read_back.proofs.PrintedTable.{flat_form}
 use Rattle.read_back.proofs.ReadForms.{read_form, assigned_form}
 

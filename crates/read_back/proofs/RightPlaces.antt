@@ -1,5 +1,5 @@
 -- Places that meet the equations of a program are right places: no order of its EQUIVALENCE statements makes them wrong.
-use Rattle.std.proofs.Common.{◌≡◌, ℕ, suc, ◌<◌, ⊎_elim, ℤ, ◌≤ℤ◌, Bool, true, false, cond, not, ◌==◌, List, [], ◌∷◌, ◌++◌, length, Option, Some, None, Contains, refl, sym, ap, subst, ◌∙◌, arith, append_assoc}
+use Rattle.std.proofs.Common.{◌≡◌, ℕ, suc, ◌<◌, ⊎_elim, ℤ, ◌≤ℤ◌, Bool, true, false, not, List, [], ◌∷◌, ◌++◌, Option, Some, None, Contains, refl, sym, ap, ◌∙◌, arith, append_assoc}
 use Rattle.std.specs.Prelude.{◌&&◌, ◌||◌, int_le}
 use Rattle.std.specs.List.{list_all, list_any, range_with_len}
 use Rattle.std.proofs.lemmas.Int.{ints}
@@ -7,11 +7,11 @@ use Rattle.std.proofs.lemmas.Bool.{cases_Bool, eqb-true, and_from, or_left, or_r
 use Rattle.std.proofs.lemmas.List.FromFn.{length-range_with_len, get_or-range_with_len}
 use Rattle.std.proofs.lemmas.Slice.Eq.{bytes_eq-Decides}
 use Rattle.f77_tree.specs.Places.{Equation, Linked, same_block}
-use Rattle.f77_layout.specs.Storage.{Spot, Standing, spots_by, spot_at, is_kept, shares_storage, blocks_are_apart, none_before, blocks_begin, are_right}
+use Rattle.f77_layout.specs.Storage.{Spot, Standing, spots_by, is_kept, shares_storage, blocks_are_apart, none_before, blocks_begin, are_right}
 use Rattle.f77_layout.specs.Trees.{storage_at, distance_at}
 use Rattle.f77_layout.proofs.PlacedEquations.{AreInTable}
 use Rattle.f77_layout.proofs.PlacedLinks.{AreEquations, storage-linked_names}
-use Rattle.read_back.proofs.SpotPlaces.{Holds, AreAt, at_spots, kept, in_order}
+use Rattle.read_back.proofs.SpotPlaces.{Holds, at_spots, kept, in_order}
 
 -- ---- tests
 

@@ -1,5 +1,5 @@
 -- The equations of storage that a printed program is read with are those of the program, in some order.
-use Rattle.std.proofs.Common.{◌≡◌, ℕ, suc, ⊎_elim, ℤ, pos, ◌-ℤ◌, Bool, true, false, cond, List, [], ◌∷◌, ◌++◌, length, map, All, Contains, Option, Some, None, refl, sym, ap, subst, ◌∙◌, arith}
+use Rattle.std.proofs.Common.{◌≡◌, ℕ, ⊎_elim, ℤ, pos, ◌-ℤ◌, Bool, true, false, List, [], ◌∷◌, ◌++◌, map, All, Contains, Option, Some, None, refl, sym, ap, subst, ◌∙◌, arith}
 use Rattle.std.specs.Prelude.{filter, flat_map}
 use Rattle.std.specs.List.{list_any}
 use mathlib.Core.Path.{fun_ext}
@@ -12,7 +12,7 @@ use Rattle.f77_tree.specs.declared.declarations.Dim.{Dim}
 use Rattle.f77_tree.specs.declared.declarations.Member.{Member}
 use Rattle.f77_tree.specs.declared.programs.NameInfo.{NameInfo}
 use Rattle.f77_tree.specs.Value.{dims_of, size_of}
-use Rattle.f77_tree.specs.Declarations.{index_of, part_names, member_index, member_offset, offset_of, CommonOnce, IsMember, IsGroup}
+use Rattle.f77_tree.specs.Declarations.{index_of, part_names, member_index, member_offset, CommonOnce, IsMember, IsGroup}
 use Rattle.f77_tree.specs.Places.{Equation, same_block, block_names, neighbours, common_equations, equated, group_equations, equations}
 use Rattle.f77_tree.proofs.AllLemmas.{All-first, All-rest}
 use Rattle.f77_tree.proofs.NameLemmas.{same_block-same}

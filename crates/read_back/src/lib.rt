@@ -6,6 +6,7 @@ mod declarations;
 mod executables;
 mod expressions;
 mod lines;
+mod printed;
 mod programs;
 mod refusals;
 mod storage;
@@ -14,6 +15,7 @@ pub use declarations::{printed_groups_and_data_are_read_again, printed_loops_are
 pub use executables::printed_programs_have_their_executables;
 pub use expressions::printed_expressions_are_themselves;
 pub use lines::printed_lines_are_read;
+pub use printed::printed_text_is_read_back;
 pub use programs::{
     printed_programs_are_read_by_statements, printed_programs_have_their_statements,
 };
