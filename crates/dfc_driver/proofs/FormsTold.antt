@@ -11,7 +11,7 @@ use Rattle.f77_tree.specs.Run.{Mark, out, source}
 use Rattle.flat_programs.specs.FlatForm.{AreStatementsOf}
 use Rattle.regenerate.specs.declared.ends.RewriteEnd.{RewriteEnd}
 use Rattle.regenerate.specs.declared.ends.RewriteEnd.TheVariants as rewrite_end
-use Rattle.rewriting.specs.Rewritten.{IsRewritten, PassesLimit}
+use Rattle.rewriting.specs.Rewritten.{IsRewritten, IsRewrittenText, PassesLimit}
 use Rattle.dfc_driver.specs.declared.run.RunEnd.{RunEnd}
 use Rattle.dfc_driver.specs.declared.run.RunEnd.TheVariants as end
 use Rattle.dfc_driver.specs.declared.status.Status.{Status}
@@ -113,8 +113,8 @@ run_due p checked input limit form is due ran = inl (record { form = form; rewri
 pub no_run_due : (p : Program) (checked : Bool) (input : List ℤ) (limit : ℕ) (end : RewriteEnd) → IsEndOf p checked end → (due : Due) → IsDueByEnd end due → IsDueRun p checked input limit due
 no_run_due p checked input limit end is due told = inr (limit_due p checked end is due told)
 
-pub form_due : (p : Program) (checked : Bool) (form : Program) → IsRewritten p checked form → (due : Due) → IsPrinted form due → IsDueRegen p checked due
-form_due p checked form is due printed = inl (record { form = form; rewritten = is; printed = printed })
+pub rewritten_text_due : (p : Program) (checked : Bool) (text : List ℕ) → IsRewrittenText p checked text → (due : Due) → IsJust (done text) due → IsDueRegen p checked due
+rewritten_text_due p checked text is due told = inl (record { form = is.form; rewritten = is.rewritten; printed = record { flat = is.flat; statements = is.statements; is = told ∙ ap done is.is } })
 
 pub no_form_due : (p : Program) (checked : Bool) (end : RewriteEnd) → IsEndOf p checked end → (due : Due) → IsDueByEnd end due → IsDueRegen p checked due
 no_form_due p checked end is due told = inr (limit_due p checked end is due told)

@@ -4,19 +4,17 @@ ghost use Rattle.std.specs.Prelude.{◌≡◌, ◌≢◌, ◌≤◌};
 ghost use Rattle.df_io.specs.Faults.{Rose};
 ghost use Rattle.alias_classes.specs.Number.{HasFewClasses};
 ghost use Rattle.f77_tree.specs.WellFormed.{IsWellFormed};
-ghost use Rattle.flat_programs.specs.FlatForm.{IsFlatProgram};
 ghost use Rattle.dfc_driver.specs.Answers.{AnswersAs, Tells};
-ghost use Rattle.dfc_driver.specs.Due.{IsDueRegen, IsPrinted, done};
+ghost use Rattle.dfc_driver.specs.Due.{IsDueRegen, done};
 ghost use Rattle.dfc_driver.specs.Headline.{MeansOn};
 ghost use Rattle.dfc_driver.specs.Words.{Regen};
 
 use crate::rewriting_end::tell_end;
 use crate::rewriting_laws::regenerated_texts_mean;
 use crate::status::Status;
-use df_io::{NoMemory, Sink, WriteFault, write_all};
+use df_io::{Sink, WriteFault, write_all};
 use f77_tree::Program;
-use flat_programs::print_program;
-use rewriting::rewrite;
+use rewriting::rewrite_text;
 use std::alloc::Global;
 
 /// Writes the text of a program's rewritten form, in a dialect. All memory is taken before the first byte is written.
@@ -31,24 +29,9 @@ pub fn tell_regen<K: Sink>(alloc: Global, program: &Program, checked: bool, sink
     ensures fault { result ≡ Status.WriteFault → Rose (K.faults sink.old) (K.faults sink.new) }
 {
     regenerated_texts_mean(program, checked);
-    match rewrite(alloc, program, checked) {
-        Ok(form) => tell_form(alloc, &form, sink),
-        Err(end) => tell_end(end, sink),
-    }
-}
-
-// Writes the text of a program of flat statements.
-fn tell_form<K: Sink>(alloc: Global, form: &Program, sink: &mut K) -> Status
-    requires { IsFlatProgram form.now }
-    ensures due { AnswersAs (IsPrinted form.now) (K.got sink.old) (K.got sink.new) result }
-    ensures words { result ≢ Status.Usage }
-    ensures reads { result ≢ Status.ReadFault }
-    ensures later { K.faults sink.old ≤ K.faults sink.new }
-    ensures fault { result ≡ Status.WriteFault → Rose (K.faults sink.old) (K.faults sink.new) }
-{
-    match print_program(alloc, form) {
+    match rewrite_text(alloc, program, checked) {
         Ok(text) => tell_text(text.as_slice(), sink),
-        Err(NoMemory) => Status::NoMemory,
+        Err(end) => tell_end(end, sink),
     }
 }
 

@@ -18,6 +18,6 @@ pub use executables::{executables_of, first_executables, loop_count, program_of}
 pub use laws::{
     executables_stand_in_order, executables_tell_statements, flat_statements_make_programs,
 };
-pub use page::{has_long_text, print_flat, print_program};
+pub use page::{has_long_text, print_flat, print_program, print_unless_long};
 pub use recovery::recover;
 pub use statements::{Flat, FlatLine, FlatList};

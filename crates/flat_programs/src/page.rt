@@ -1,5 +1,5 @@
 //! The printed text of a flat program.
-ghost use Rattle.std.specs.Prelude.{◌≡◌, ◌+◌, ◌<◌, List, [], ◌∷◌, if◌then◌else◌, map, flat_map, length, slice_get, IfOk, OnOk};
+ghost use Rattle.std.specs.Prelude.{◌≡◌, ◌+◌, ◌<◌, List, [], ◌∷◌, if◌then◌else◌, map, flat_map, length, slice_get, true, false, IfOk, MatchOption, OnOk};
 ghost use Rattle.std.specs.List.{range_with_len};
 ghost use Rattle.flat_programs.specs.declared.statements.FlatLine.{FlatLine};
 ghost use Rattle.flat_programs.specs.FlatForm.{AreProper, AreStatementsOf, IsFlatProgram};
@@ -47,6 +47,24 @@ pub fn has_long_text(alloc: Global, p: &Program, flat: &FlatList) -> Result<bool
 {
     let page = page_of(alloc, p, flat)?;
     Ok(page.is_long)
+}
+
+/// The text of flat statements as `print_flat` gives it, unless some statement of it has more than 1,320 characters or more than 60 open
+/// brackets.
+pub fn print_unless_long(
+    alloc: Global,
+    p: &Program,
+    flat: &FlatList,
+) -> Result<Option<Vec<u8>>, NoMemory>
+    requires proper { AreProper p.now.names flat.now }
+    requires short { length flat.now < 4294967295 }
+    ensures { IfOk result (λ text. MatchOption text (is_long_somewhere p.now flat.now ≡ true) (λ bytes. (is_long_somewhere p.now flat.now ≡ false) × (bytes.items ≡ text_of p.now flat.now))) }
+{
+    let page = page_of(alloc, p, flat)?;
+    if page.is_long {
+        return Ok(None);
+    }
+    Ok(Some(page.bytes))
 }
 
 /// The lines of statements, and whether one of these is too long to be read.

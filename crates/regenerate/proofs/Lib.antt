@@ -92,3 +92,4 @@ mod TemporaryLemmas
 mod TemporaryTable
 mod TurnedLists
 mod WaysOn
+mod FoldedWholes

@@ -1,5 +1,5 @@
 -- What follows for the shared form of a flat program.
-use Rattle.std.proofs.Common.{◌≡◌, ℕ, ◌+◌, ◌<◌, ◌≤◌, true, false, List, ◌++◌, length, take, Option, Some, None, sym, ap, subst, ◌∙◌, arith}
+use Rattle.std.proofs.Common.{◌≡◌, ℕ, ◌+◌, ◌<◌, ◌≤◌, true, false, List, ◌++◌, length, take, Option, Some, None, refl, sym, ap, subst, ◌∙◌, arith}
 use Rattle.std.proofs.lemmas.List.{length-take}
 use Rattle.f77_tree.specs.declared.programs.ExecKind.{ExecKind}
 use Rattle.f77_tree.specs.declared.programs.NameInfo.{NameInfo}
@@ -9,13 +9,13 @@ use Rattle.alias_classes.specs.Classes.{ClassTable}
 use Rattle.cfg_build.specs.Joined.{FlowGraph}
 use Rattle.flat_programs.specs.declared.statements.FlatLine.{FlatLine}
 use Rattle.flat_programs.specs.Executables.{program_of}
-use Rattle.flat_programs.specs.FlatForm.{AreProper, AreStatementsOf}
-use Rattle.flat_programs.specs.Text.{has_long_text}
+use Rattle.flat_programs.specs.FlatForm.{AreProper, AreStatementsOf, IsFlat}
+use Rattle.flat_programs.specs.Text.{has_long_text, text as text_of}
 use Rattle.redundancy.specs.Available.{Availability, IsAvailability}
 use Rattle.regenerate.specs.declared.ends.RewriteEnd.{RewriteEnd}
 use Rattle.regenerate.specs.declared.ends.RewriteEnd.TheVariants.{TooManyNames, TooManyStatements, LongText}
 use Rattle.regenerate.specs.Numbered.{number_of}
-use Rattle.regenerate.specs.Shared.{has_many_names, most_words, refusal, shared, shared_flat, with_temporaries, IsRefused, IsShared, IsSharing}
+use Rattle.regenerate.specs.Shared.{has_many_names, most_words, refusal, shared, shared_flat, with_temporaries, IsRefused, IsShared, IsSharedText, IsSharing}
 use Rattle.regenerate.specs.SharedParts.{declared_alone}
 use Rattle.regenerate.specs.Simplified.{has_many_statements, most_statements}
 use Rattle.regenerate.specs.Temporaries.{free_names}
@@ -23,6 +23,7 @@ use Rattle.regenerate.proofs.NumberLemmas.{number_in-is}
 use Rattle.regenerate.proofs.ProperCandidates.{candidate-proper, place-number}
 use Rattle.regenerate.proofs.Refusals.{enough-names, few-names, few-words, many-declared, many-lines, not-refused, refused-names, refused-statements, refused-text}
 use Rattle.regenerate.proofs.SharedProper.{FitTable, shared-proper}
+use Rattle.regenerate.proofs.SharedSpread.{shared-flat}
 
 -- a front that is as long as it is told to be is no longer than all
 front-most : (n : ℕ) (front all : List (List ℕ)) → length front ≡ n → front ≡ take n all → n ≤ length all
@@ -89,6 +90,17 @@ module _ (q : Program) (f : FlowGraph) (c : ClassTable) (a : Availability) (form
           flat = flat;
           sharing = sharing None (not-refused q a flat few (many_same ∙ short) (long_same ∙ fits));
           is = program ∙ ap (λ (p : Program). program_of p all) longer_is ∙ ap (program_of (with_temporaries q a (number_of a))) all_is;
+        }
+
+    -- the text of these statements is that of the shared form
+    pub made-text : has_many_names q a (number_of a) ≡ false → has_many_statements longer all ≡ false → has_long_text longer all ≡ false → (text : List ℕ) → text ≡ text_of longer all → IsSharedText q a text
+    made-text few short fits text is =
+        record {
+          form = program_of longer all;
+          shared = made (program_of longer all) few short fits refl;
+          flat = all;
+          statements = record { form = subst IsFlat (sym all_is) (shared-flat q a (number_of a) flat statements.form); execs = refl };
+          is = is;
         }
 
     -- the statements with temporaries fit the longer table

@@ -15,7 +15,7 @@ use Rattle.flat_programs.specs.declared.statements.Flat.TheVariants.{Mark, Assig
 use Rattle.flat_programs.specs.declared.statements.FlatLine.{FlatLine}
 use Rattle.flat_programs.specs.Executables.{program_of, first_of}
 use Rattle.flat_programs.specs.FlatForm.{AreStatementsOf}
-use Rattle.flat_programs.specs.Text.{has_long_text}
+use Rattle.flat_programs.specs.Text.{has_long_text, text as text_of}
 use Rattle.redundancy.specs.Available.{Availability, available_at}
 use Rattle.redundancy.specs.Computed.{computed_by}
 use Rattle.regenerate.specs.declared.ends.RewriteEnd.{RewriteEnd}
@@ -173,6 +173,14 @@ pub record IsShared (q : Program) (a : Availability) (r : Program) : Type 0 wher
   pub flat : List FlatLine
   pub sharing : IsSharing q a number flat None
   pub is : r ≡ shared_program q a number flat
+
+-- the text of the shared form of a flat program
+pub record IsSharedText (q : Program) (a : Availability) (text : List ℕ) : Type 0 where
+  pub form : Program
+  pub shared : IsShared q a form
+  pub flat : List FlatLine
+  pub statements : AreStatementsOf form flat
+  pub is : text ≡ text_of form flat
 
 -- the shared form of a flat program passes a limit
 pub record IsRefused (q : Program) (a : Availability) (end : RewriteEnd) : Type 0 where

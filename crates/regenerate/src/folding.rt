@@ -107,6 +107,34 @@ pub fn fold_expr<const W: usize>(
     }
 }
 
+/// The same, where the parts of an operator whose value is known aren't looked at one by one. It is for whole expressions: each part
+/// would be looked at again for each operator around it.
+#[tactic(auto, using(crate::proofs::FoldedWholes::whole_known))]
+pub(crate) fn fold_whole<const W: usize>(
+    alloc: Global,
+    p: &Program,
+    c: &Classes<W>,
+    t: &Table<W>,
+    checked: bool,
+    edge: u32,
+    e: &Expr,
+) -> Result<FoldedExpr, NoMemory>
+    requires program { IsWellFormed p.now }
+    requires classes { IsClasses p.now c.now }
+    requires lines { t.now.known.lines ≡ class_count c.now + 1 }
+    requires edge { edge < edges_of t.now.known }
+    requires expression { IsExpression p.now.names e.now }
+    ensures { IfOk result (λ f. f.tree ≡ folded p.now.names checked (words_on c.now (knowns_of t.now) edge) e.now) }
+{
+    if let Expr::Apply(op, args) = e {
+        operands_fit(&p.names, e, *op, args);
+        if let Some(z) = t.known_value(p, c, edge, e) {
+            return known_as(alloc, &p.names, checked, e, z);
+        }
+    }
+    fold_expr(alloc, p, c, t, checked, edge, e)
+}
+
 /// Expressions in which constants stand for what is known where control takes an edge.
 #[cycle(fold)]
 pub(crate) fn fold_all<const W: usize>(

@@ -42,7 +42,7 @@ pub use run_laws::{known_values_are_words, known_words_are_right_in_runs};
 pub use running::{
     folded_expressions_keep_their_values, runs_take_few_operations, simplified_programs_print_alike,
 };
-pub use shared_form::share;
+pub use shared_form::{share, share_text};
 pub use shared_laws::shared_programs_are_flat;
 pub use shared_runs::{
     replaced_expressions_have_their_values, shared_programs_follow, shared_programs_print_alike,

@@ -9,7 +9,7 @@ ghost use Rattle.const_prop.specs.Table.{knowns_of};
 ghost use Rattle.regenerate.specs.Folding.{folded, folded_access, folded_item};
 ghost use Rattle.regenerate.specs.Plans.{mark_in, IsScene};
 
-use crate::folding::{FoldedExpr, FoldedExprs, fold_all, fold_expr};
+use crate::folding::{FoldedExpr, FoldedExprs, fold_all, fold_whole};
 use crate::plan::Plan;
 use alias_classes::Classes;
 use const_prop::Table;
@@ -37,7 +37,7 @@ impl<'a, const W: usize> Scene<'a, W> {
         requires expression { IsExpression self.now.p.now.names e.now }
         ensures { IfOk result (λ x. x ≡ folded self.now.p.now.names self.now.checked (words_on self.now.c.now (knowns_of self.now.t.now) self.now.edge) e.now) }
     {
-        let FoldedExpr { tree, known: _ } = fold_expr(
+        let FoldedExpr { tree, known: _ } = fold_whole(
             alloc,
             self.p,
             self.c,

@@ -4,7 +4,7 @@ ghost use Rattle.std.specs.Prelude.{◌≡◌, IfOk, IsErrOf};
 ghost use Rattle.cfg_build.specs.Flow.{flow};
 ghost use Rattle.flat_programs.specs.FlatForm.{IsFlatProgram};
 ghost use Rattle.redundancy.specs.Available.{IsAvailability};
-ghost use Rattle.regenerate.specs.Shared.{IsRefused, IsShared};
+ghost use Rattle.regenerate.specs.Shared.{IsRefused, IsShared, IsSharedText};
 ghost use Rattle.regenerate.specs.SharedParts.{HasParts};
 
 use crate::ends::RewriteEnd;
@@ -18,7 +18,9 @@ use crate::temporaries::free_names;
 use alias_classes::Classes;
 use cfg_build::Flow;
 use f77_tree::{Program, scalars_can_be_added};
-use flat_programs::{FlatList, executables_tell_statements, has_long_text, program_of, recover};
+use flat_programs::{
+    FlatList, executables_tell_statements, has_long_text, print_unless_long, program_of, recover,
+};
 use redundancy::Avail;
 use std::alloc::Global;
 
@@ -54,6 +56,36 @@ pub fn share<const W: usize>(
         return Err(RewriteEnd::LongText);
     }
     Ok(program_of(alloc, &parts.declared, &parts.statements)?)
+}
+
+/// The text of the shared form of a flat program, as `share` makes it and `print_program` prints it, without the form itself. The limits
+/// are the same.
+pub fn share_text<const W: usize>(
+    alloc: Global,
+    q: &Program,
+    f: &Flow,
+    c: &Classes<W>,
+    a: Avail,
+) -> Result<Vec<u8>, RewriteEnd>
+    requires program { IsFlatProgram q.now }
+    requires flow { f.now ≡ flow q.now.execs }
+    requires available { IsAvailability q.now f.now c.now a }
+    ensures text { IfOk result (λ text. IsSharedText q.now a text.items) }
+    ensures names { IsErrOf result RewriteEnd.TooManyNames → IsRefused q.now a RewriteEnd.TooManyNames }
+    ensures statements { IsErrOf result RewriteEnd.TooManyStatements → IsRefused q.now a RewriteEnd.TooManyStatements }
+    ensures long { IsErrOf result RewriteEnd.LongText → IsRefused q.now a RewriteEnd.LongText }
+{
+    scalars_can_be_added();
+    executables_tell_statements();
+    let parts = shared_parts(alloc, q, f, c, a)?;
+    let is_many = has_many_statements(&parts.declared, &parts.statements);
+    if is_many {
+        return Err(RewriteEnd::TooManyStatements);
+    }
+    match print_unless_long(alloc, &parts.declared, &parts.statements)? {
+        None => Err(RewriteEnd::LongText),
+        Some(text) => Ok(text),
+    }
 }
 
 /// The parts of a shared form.

@@ -5,3 +5,4 @@ mod SameShared
 mod Analyses
 mod OneForm
 mod PrintingAlike
+mod Texts

@@ -1,6 +1,6 @@
 -- Programs written anew: the simplified form of a program by its own constants, and the shared form of that by its own available
 -- expressions.
-use Rattle.std.specs.Prelude.{◌≡◌, ◌+◌, ◌⊎◌, ℕ, Bool}
+use Rattle.std.specs.Prelude.{◌≡◌, ◌+◌, ◌⊎◌, ℕ, Bool, List}
 use Rattle.f77_tree.specs.declared.programs.Program.{Program}
 use Rattle.alias_classes.specs.Classes.{ClassTable, IsClasses, class_count}
 use Rattle.cfg_build.specs.Flow.{flow}
@@ -10,11 +10,13 @@ use Rattle.dep_routing.specs.Touches.{AreTouches}
 use Rattle.const_prop.specs.Closed.{IsConstants}
 use Rattle.const_prop.specs.Right.{IsProgramRouting}
 use Rattle.const_prop.specs.Table.{Knowns}
-use Rattle.flat_programs.specs.FlatForm.{IsFlatProgram}
+use Rattle.flat_programs.specs.declared.statements.FlatLine.{FlatLine}
+use Rattle.flat_programs.specs.FlatForm.{AreStatementsOf, IsFlatProgram}
+use Rattle.flat_programs.specs.Text.{text as text_of}
 use Rattle.redundancy.specs.Available.{Availability, IsAvailability}
 use Rattle.regenerate.specs.declared.ends.RewriteEnd.{RewriteEnd}
 use Rattle.regenerate.specs.declared.ends.RewriteEnd.TheVariants.{TooManyStatements}
-use Rattle.regenerate.specs.Shared.{IsRefused, IsShared}
+use Rattle.regenerate.specs.Shared.{IsRefused, IsShared, IsSharedText}
 use Rattle.regenerate.specs.Simplified.{HasManySimplified, IsSimplified}
 
 -- ---- the simplified form
@@ -58,6 +60,12 @@ pub record IsSharedOf (q s : Program) : Type 0 where
   pub available : AreAvailableOf q table
   pub shared : IsShared q table s
 
+-- its text
+pub record IsSharedTextOf (q : Program) (text : List ℕ) : Type 0 where
+  pub table : Availability
+  pub available : AreAvailableOf q table
+  pub shared : IsSharedText q table text
+
 -- it passes a limit
 pub record IsRefusedOf (q : Program) (end : RewriteEnd) : Type 0 where
   pub table : Availability
@@ -71,6 +79,14 @@ pub record IsRewritten (p : Program) (checked : Bool) (s : Program) : Type 0 whe
   pub form : Program
   pub simplified : IsSimplifiedOf p checked form
   pub shared : IsSharedOf form s
+
+-- the text of the rewritten form of a program in a dialect
+pub record IsRewrittenText (p : Program) (checked : Bool) (text : List ℕ) : Type 0 where
+  pub form : Program
+  pub rewritten : IsRewritten p checked form
+  pub flat : List FlatLine
+  pub statements : AreStatementsOf form flat
+  pub is : text ≡ text_of form flat
 
 -- there is a simplified form, and its shared form passes a limit
 pub record IsSharingRefused (p : Program) (checked : Bool) (end : RewriteEnd) : Type 0 where

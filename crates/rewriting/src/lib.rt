@@ -6,4 +6,4 @@ mod rewritten;
 
 pub use laws::{rewritten_forms_are_one, rewritten_programs_print_alike};
 pub use regenerate::RewriteEnd;
-pub use rewritten::rewrite;
+pub use rewritten::{rewrite, rewrite_text};

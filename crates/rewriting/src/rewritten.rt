@@ -5,7 +5,7 @@ ghost use Rattle.f77_tree.specs.WellFormed.{IsWellFormed};
 ghost use Rattle.alias_classes.specs.Classes.{IsClasses};
 ghost use Rattle.alias_classes.specs.Number.{HasFewClasses};
 ghost use Rattle.flat_programs.specs.FlatForm.{IsFlatProgram};
-ghost use Rattle.rewriting.specs.Rewritten.{HasManySimplifiedOf, IsRefusedOf, IsRewritten, IsSharedOf, IsSimplifiedOf, PassesLimit};
+ghost use Rattle.rewriting.specs.Rewritten.{HasManySimplifiedOf, IsRefusedOf, IsRewritten, IsRewrittenText, IsSharedOf, IsSharedTextOf, IsSimplifiedOf, PassesLimit};
 
 use alias_classes::{CLASS_WORDS, ClassEnd, Classes, classes_of};
 use cfg_build::flow_of;
@@ -15,7 +15,7 @@ use f77_tree::Program;
 use flow_analysis::analyze;
 use redundancy::available;
 use regenerate::{
-    FlatEnd, RewriteEnd, share, shared_programs_are_flat, simplified_programs_are_flat,
+    FlatEnd, RewriteEnd, share, share_text, shared_programs_are_flat, simplified_programs_are_flat,
     simplified_programs_have_no_more_classes, simplify,
 };
 use std::alloc::Global;
@@ -40,6 +40,28 @@ pub fn rewrite(alloc: Global, p: &Program, checked: bool) -> Result<Program, Rew
         Err(FlatEnd::TooManyStatements) => Err(RewriteEnd::TooManyStatements),
         Err(FlatEnd::NoMemory) => Err(RewriteEnd::NoMemory),
     }
+}
+
+/// The text of the rewritten form of a program, in a dialect: the form that `rewrite` makes, printed without being made.
+///
+/// # Errors
+///
+/// Those of `rewrite`.
+#[tactic(auto, using(crate::proofs::Texts::rewritten_text))]
+pub fn rewrite_text(alloc: Global, p: &Program, checked: bool) -> Result<Vec<u8>, RewriteEnd>
+    requires program { IsWellFormed p.now }
+    requires few { HasFewClasses p.now }
+    ensures text { IfOk result (λ text. IsRewrittenText p.now checked text.items) }
+    ensures names { IsErrOf result RewriteEnd.TooManyNames → PassesLimit p.now checked RewriteEnd.TooManyNames }
+    ensures statements { IsErrOf result RewriteEnd.TooManyStatements → PassesLimit p.now checked RewriteEnd.TooManyStatements }
+    ensures long { IsErrOf result RewriteEnd.LongText → PassesLimit p.now checked RewriteEnd.LongText }
+{
+    let simple = match simplified(alloc, p, checked) {
+        Ok(simple) => simple,
+        Err(FlatEnd::NoMemory) => return Err(RewriteEnd::NoMemory),
+        Err(FlatEnd::TooManyStatements) => return Err(RewriteEnd::TooManyStatements),
+    };
+    shared_text(alloc, &simple)
 }
 
 // The simplified form of a program by its own constants.
@@ -82,6 +104,21 @@ fn shared(alloc: Global, q: &Program) -> Result<Program, RewriteEnd>
     let classes = few_classes_of(alloc, q)?;
     let found = available(alloc, q, &flow, &classes)?;
     share(alloc, q, &flow, &classes, found)
+}
+
+// The text of the shared form of a flat program by its own available expressions.
+fn shared_text(alloc: Global, q: &Program) -> Result<Vec<u8>, RewriteEnd>
+    requires program { IsFlatProgram q.now }
+    requires few { HasFewClasses q.now }
+    ensures text { IfOk result (λ text. IsSharedTextOf q.now text.items) }
+    ensures names { IsErrOf result RewriteEnd.TooManyNames → IsRefusedOf q.now RewriteEnd.TooManyNames }
+    ensures statements { IsErrOf result RewriteEnd.TooManyStatements → IsRefusedOf q.now RewriteEnd.TooManyStatements }
+    ensures long { IsErrOf result RewriteEnd.LongText → IsRefusedOf q.now RewriteEnd.LongText }
+{
+    let flow = flow_of(alloc, q)?;
+    let classes = few_classes_of(alloc, q)?;
+    let found = available(alloc, q, &flow, &classes)?;
+    share_text(alloc, q, &flow, &classes, found)
 }
 
 // The alias classes of a program that has few.

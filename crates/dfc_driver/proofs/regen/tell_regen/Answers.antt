@@ -1,7 +1,16 @@
-use Rattle.dfc_driver.specs.Due.{IsDueByEnd, IsDueRegen}
-use Rattle.dfc_driver.proofs.FormsTold.{IsEndOf, no_form_due}
+use Rattle.dfc_driver.specs.Due.{IsDueByEnd, IsDueRegen, IsJust, done}
+use Rattle.dfc_driver.proofs.FormsTold.{IsEndOf, no_form_due, rewritten_text_due}
 use Rattle.dfc_driver.proofs.GameTold.{answers_more}
 use Rattle.dfc_driver.proofs.regen.tell_regen.Goals as goal
+
+pub returns-in-Ok-clause-due : goal.returns-in-Ok-clause-due
+returns-in-Ok-clause-due g c =
+    let p = c.args.program.now in
+    let checked = c.args.checked in
+    let text = c.in-Ok.text.items in
+    let told = c.tell_text.ensures.tells in
+    answers_more (IsJust (done text)) (IsDueRegen p checked) (g.K.Sink.got c.args.sink.now) (g.K.Sink.got c.tell_text.new.sink) c.tell_text.result
+    (λ due is. rewritten_text_due p checked text c.in-Ok.ensures.text due is) told.answers
 
 pub returns-in-Err-clause-due : goal.returns-in-Err-clause-due
 returns-in-Err-clause-due g c =

@@ -1,0 +1,26 @@
+use Rattle.std.proofs.Common.{sym, ◌∙◌}
+use Rattle.regenerate.proofs.SharedResults.{made-text, proper, refused-all, refused-long}
+use Rattle.regenerate.proofs.shared_form.share_text.Goals as goal
+
+pub returns-then-is_many-clause-statements : goal.returns-then-is_many-clause-statements
+returns-then-is_many-clause-statements g c =
+    let has = c.in_ok-parts.ensures.parts in
+    λ _. refused-all c.args.q.now c.args.f.now c.args.c.now c.args.a c.requires.program.well_formed c.requires.available has.flat has.are c.in_ok-parts.parts.declared c.in_ok-parts.parts.statements has.declared has.statements has.few (sym c.has_many_statements-is_many.ensures ∙ c.if-is_many.true)
+
+pub print_unless_long-requires-clause-proper : goal.print_unless_long-requires-clause-proper
+print_unless_long-requires-clause-proper g c =
+    let q = c.args.q.now in
+    let has = c.in_ok-parts.ensures.parts in
+    let fits = c.executables_tell_statements.ensures.proper q has.flat c.requires.program.well_formed has.are in
+    proper q c.args.f.now c.args.c.now c.args.a c.requires.program.well_formed c.requires.available has.flat has.are c.in_ok-parts.parts.declared c.in_ok-parts.parts.statements has.declared has.statements (c.scalars_can_be_added.ensures.executables q.names) fits
+
+pub returns-in-None-clause-long : goal.returns-in-None-clause-long
+returns-in-None-clause-long g c =
+    let has = c.in_ok-parts.ensures.parts in
+    λ _. refused-long c.args.q.now c.args.f.now c.args.c.now c.args.a c.requires.program.well_formed c.requires.available has.flat has.are c.in_ok-parts.parts.declared c.in_ok-parts.parts.statements has.declared has.statements has.few (sym c.has_many_statements-is_many.ensures ∙ c.if-is_many.false) c.in-None.ensures
+
+pub returns-in-Some-clause-text : goal.returns-in-Some-clause-text
+returns-in-Some-clause-text g c =
+    let has = c.in_ok-parts.ensures.parts in
+    let printed = c.in-Some.ensures in
+    made-text c.args.q.now c.args.f.now c.args.c.now c.args.a c.requires.program.well_formed c.requires.available has.flat has.are c.in_ok-parts.parts.declared c.in_ok-parts.parts.statements has.declared has.statements has.few (sym c.has_many_statements-is_many.ensures ∙ c.if-is_many.false) printed.0 c.in-Some.text.items printed.1
