@@ -20,6 +20,7 @@ mod FoldedLaws
 mod FoldedLists
 mod FoldedOperations
 mod FoldedUses
+mod FoldedWholes
 mod FreeNames
 mod FrontRuns
 mod ItemLemmas
@@ -47,6 +48,7 @@ mod LoopKinds
 mod LoopNumbers
 mod NameCounts
 mod NewLoops
+mod NoneShared
 mod NumberLemmas
 mod OnePiece
 mod OutcomesMet
@@ -92,4 +94,3 @@ mod TemporaryLemmas
 mod TemporaryTable
 mod TurnedLists
 mod WaysOn
-mod FoldedWholes

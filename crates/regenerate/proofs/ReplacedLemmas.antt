@@ -36,7 +36,7 @@ module _ (q : Program) (a : Availability) where
   row_replaced-list : (e : Expr) (es : List Expr) → items-the_row-Expr (row_of e).0 (row_of e).1 ≡ es → row_replaced q a (number_of a) (row_of e).1 ≡ map (replaced q a (number_of a)) es
   row_replaced-list e es are = row_replaced-items (row_of e).0 (row_of e).1 ∙ ap (map (replaced q a (number_of a))) are
 
-  replaced-Apply : (op : Op) (args : List Expr) → replaced q a (number_of a) (Apply op args) ≡ temporary_or q a (number_of a) (number_of a (Apply op args)) (Apply op (map (replaced q a (number_of a)) args))
+  pub replaced-Apply : (op : Op) (args : List Expr) → replaced q a (number_of a) (Apply op args) ≡ temporary_or q a (number_of a) (number_of a (Apply op args)) (Apply op (map (replaced q a (number_of a)) args))
   replaced-Apply op args = ap (λ (es : List Expr). temporary_or q a (number_of a) (number_of a (Apply op args)) (Apply op es)) (row_replaced-list (Apply op args) args (items_hidden-the_row-Expr-0 args))
 
   pub replaced-Read : (e : Expr) (access : Access) → e ≡ Read access → Read (replaced_access q a (number_of a) access) ≡ replaced q a (number_of a) e

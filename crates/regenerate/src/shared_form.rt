@@ -11,7 +11,7 @@ use crate::ends::RewriteEnd;
 use crate::longer_table::{shared_numbers, with_temporaries};
 use crate::names::temporary_names;
 use crate::replacing::Temporaries;
-use crate::shared_lines::shared_statements;
+use crate::shared_lines::statements_with_temporaries;
 use crate::sharing::shared_candidates;
 use crate::simplified::{MOST_STATEMENTS, has_many_statements};
 use crate::temporaries::free_names;
@@ -132,7 +132,8 @@ fn shared_parts<const W: usize>(
         a: &a,
         names: &names,
     };
-    let Some(statements) = shared_statements(alloc, &temporaries, f, flat)? else {
+    let Some(statements) = statements_with_temporaries(alloc, &temporaries, f, &shared, flat)?
+    else {
         return Err(RewriteEnd::TooManyStatements);
     };
     Ok(SharedParts {

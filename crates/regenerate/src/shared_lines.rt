@@ -4,7 +4,7 @@ ghost use Rattle.std.specs.Prelude.{◌≡◌, ◌+◌, ◌<◌, ◌≤◌, ◌^
 ghost use Rattle.cfg_build.specs.Flow.{flow};
 ghost use Rattle.flat_programs.specs.Executables.{executables, first_of};
 ghost use Rattle.regenerate.specs.Numbered.{AreTemporaries, IsSharedNumber, number_of};
-ghost use Rattle.regenerate.specs.Shared.{is_shared, kept_value as value_kept, replaced_in, shared_flat, shared_lines, temporary};
+ghost use Rattle.regenerate.specs.Shared.{is_shared, kept_value as value_kept, replaced_in, shared as shared_of, shared_flat, shared_lines, temporary};
 ghost use Rattle.regenerate.specs.Simplified.{most_statements};
 
 use crate::due::due;
@@ -17,8 +17,32 @@ use flat_programs::{Flat, FlatLine, FlatList, first_executables};
 use std::alloc::Global;
 
 /// The statements of a flat program with temporaries, and before each the assignments that are due there; none where these are more
+/// than 4,000. Where no candidate is shared, the program's own statements are those, however many there are.
+#[tactic(auto, using(crate::proofs::NoneShared::flat_stays))]
+pub(crate) fn statements_with_temporaries(
+    alloc: Global,
+    t: &Temporaries,
+    f: &Flow,
+    shared: &[u32],
+    flat: FlatList,
+) -> Result<Option<FlatList>, NoMemory>
+    requires names { AreTemporaries t.now.q.now t.now.a.now t.now.names.now }
+    requires flow { f.now ≡ flow t.now.q.now.execs }
+    requires pieces { t.now.a.now.pieces ≡ f.now.graph.nodes }
+    requires shared { shared.now ≡ shared_of t.now.q.now t.now.a.now (number_of t.now.a.now) }
+    requires execs { executables flat ≡ t.now.q.now.execs }
+    requires short { length flat < 2 ^ 31 }
+    ensures { IfOk result (λ found. MatchOption found (most_statements < length (shared_flat t.now.q.now t.now.a.now (number_of t.now.a.now) flat)) (λ all. all ≡ shared_flat t.now.q.now t.now.a.now (number_of t.now.a.now) flat)) }
+{
+    if shared.is_empty() {
+        return Ok(Some(flat));
+    }
+    shared_statements(alloc, t, f, flat)
+}
+
+/// The statements of a flat program with temporaries, and before each the assignments that are due there; none where these are more
 /// than 4,000. A statement is given back as soon as the one with temporaries is made, so that there are not two of all.
-pub(crate) fn shared_statements(
+fn shared_statements(
     alloc: Global,
     t: &Temporaries,
     f: &Flow,

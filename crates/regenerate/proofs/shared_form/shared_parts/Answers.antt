@@ -42,8 +42,8 @@ temporary_names-requires-clause-few g c =
     let words : q.words + length numbers ≤ most_words = omega (arith, c.if-len-q.false, c.len.ensures, c.requires.program.well_formed.word_count) in
     omega (arith, counted, same, words, c.if-from-gt-MOST_STATEMENTS.false, c.from.ensures, c.len-3.ensures)
 
-pub shared_statements-requires-clause-short : goal.shared_statements-requires-clause-short
-shared_statements-requires-clause-short g c =
+pub statements_with_temporaries-requires-clause-short : goal.statements_with_temporaries-requires-clause-short
+statements_with_temporaries-requires-clause-short g c =
     let most = statements-most c.in_ok-flat.flat in
     let same = ap (λ (execs : List Exec). length execs) c.in_ok-flat.ensures.execs in
     omega (arith, most, same, c.requires.program.well_formed.execs.count)
