@@ -125,7 +125,7 @@ module _ (q : Program) (a : Availability) (none : shared q a (number_of a) ≡ [
       let ns : List ℕ = computed q a (number_of a) k in
       let test : ℕ → Bool = λ n. is_shared q a (number_of a) n && not (is_available q a (number_of a) k n) in
       let below : All (λ n. n < length a.candidates) ns = numbers_in-below a.candidates (computed_by q.execs (piece_at (flow q.execs).pieces (own_piece q k))) in
-      ap (fold once [])
+      ap (fold (once q a (number_of a)) [])
       (none_passes test ns (All-weaker (λ n. n < length a.candidates) (λ n. test n ≡ false) (λ n less. ap (λ b. b && not (is_available q a (number_of a) k n)) (unshared n less)) ns below))
 
   line_stays : (first : ℕ) (l : FlatLine) → shared_lines q a (number_of a) first (Some l) ≡ l ∷ []

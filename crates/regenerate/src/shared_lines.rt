@@ -18,7 +18,6 @@ use std::alloc::Global;
 
 /// The statements of a flat program with temporaries, and before each the assignments that are due there; none where these are more
 /// than 4,000. Where no candidate is shared, the program's own statements are those, however many there are.
-#[tactic(auto, using(crate::proofs::NoneShared::flat_stays))]
 pub(crate) fn statements_with_temporaries(
     alloc: Global,
     t: &Temporaries,

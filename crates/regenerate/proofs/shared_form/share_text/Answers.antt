@@ -17,10 +17,10 @@ print_unless_long-requires-clause-proper g c =
 pub returns-in-None-clause-long : goal.returns-in-None-clause-long
 returns-in-None-clause-long g c =
     let has = c.in_ok-parts.ensures.parts in
-    λ _. refused-long c.args.q.now c.args.f.now c.args.c.now c.args.a c.requires.program.well_formed c.requires.available has.flat has.are c.in_ok-parts.parts.declared c.in_ok-parts.parts.statements has.declared has.statements has.few (sym c.has_many_statements-is_many.ensures ∙ c.if-is_many.false) c.in-None.ensures
+    λ _. refused-long c.args.q.now c.args.f.now c.args.c.now c.args.a c.requires.program.well_formed c.requires.available has.flat has.are c.in_ok-parts.parts.declared c.in_ok-parts.parts.statements has.declared has.statements has.few (sym c.has_many_statements-is_many.ensures ∙ c.if-is_many.false) (rw c.in-None.is at c.in_ok-print_unless_long.ensures)
 
-pub returns-in-Some-clause-text : goal.returns-in-Some-clause-text
-returns-in-Some-clause-text g c =
+pub returns-clause-text : goal.returns-clause-text
+returns-clause-text g c =
     let has = c.in_ok-parts.ensures.parts in
-    let printed = c.in-Some.ensures in
+    let printed = rw c.in-Some.is at c.in_ok-print_unless_long.ensures in
     made-text c.args.q.now c.args.f.now c.args.c.now c.args.a c.requires.program.well_formed c.requires.available has.flat has.are c.in_ok-parts.parts.declared c.in_ok-parts.parts.statements has.declared has.statements has.few (sym c.has_many_statements-is_many.ensures ∙ c.if-is_many.false) printed.0 c.in-Some.text.items printed.1
