@@ -19,7 +19,7 @@ use Rattle.const_prop.specs.Closed.{IsClosed, IsReady, IsWay, KindAllows, is_swi
 use Rattle.const_prop.specs.Known.{AtMost}
 use Rattle.const_prop.specs.Table.{Knowns}
 use Rattle.const_prop.specs.EdgeSet.{edge_holds}
-use Rattle.const_prop.specs.LineSets.{set_holds}
+use Rattle.const_prop.specs.SparseSets.{Sets, keys_of, set_holds}
 use Rattle.const_prop.specs.Rise.{room, IsRise}
 use Rattle.const_prop.specs.Work.{so_far, is_pending, is_waiting, work_left, IsSized, IsFound, IsPassedOn, IsSeen, IsSettling, all_lines, this_piece, no_line}
 use Rattle.const_prop.proofs.Order.{at_most-trans, something-more}
@@ -107,10 +107,10 @@ module _ {W : ℕ} (p : Program) (f : FlowGraph) (c : ClassTable) (touches : ℕ
         omega (arith, e', rise.rises)
 
   -- the lines that stand on the edge are to be passed on again, and it waits
-  abbrev pub woken : Work W → (pending : List (ClassSet W)) → (waits : List (ClassSet 1)) → Work W
+  abbrev pub woken : Work W → (pending : Sets W) → (waits : List (ClassSet 1)) → Work W
   woken w pending waits = record { known = w.known; decisions = w.decisions; pending = pending; waits = waits }
 
-  module _ (w : Work W) (e : ℕ) (pending : List (ClassSet W)) (waits : List (ClassSet 1)) (standing : ClassSet W) (size : length pending ≡ length w.pending) (room : length waits ≡ length w.waits) (waited : (k : ℕ) → edge_holds waits k ≡ ((k == e) || is_waiting w k)) (stand : (line : ℕ) → line < r.lines → holds standing line ≡ wire_at r line e) (more : (d k : ℕ) → set_holds pending d k ≡ (((d == e) && holds standing k) || is_pending w k d)) where
+  module _ (w : Work W) (e : ℕ) (pending : Sets W) (waits : List (ClassSet 1)) (standing : ClassSet W) (size : keys_of pending ≡ keys_of w.pending) (room : length waits ≡ length w.waits) (waited : (k : ℕ) → edge_holds waits k ≡ ((k == e) || is_waiting w k)) (stand : (line : ℕ) → line < r.lines → holds standing line ≡ wire_at r line e) (more : (d k : ℕ) → set_holds pending d k ≡ (((d == e) && holds standing k) || is_pending w k d)) where
     woken-here : (k : ℕ) → k ≡ e → is_waiting (woken w pending waits) k ≡ true
     woken-here k is = waited k ∙ or_left (k == e) (is_waiting w k) (eq-eqb k e is)
 

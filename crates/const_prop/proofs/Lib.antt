@@ -1,7 +1,7 @@
 pub mod Cells
 pub mod KnownRowsLemmas
 pub mod ValuesLemmas
-pub mod LineSetLemmas
+pub mod SparseSetLemmas
 pub mod EdgeSetLemmas
 pub mod Counting
 pub mod Expressions

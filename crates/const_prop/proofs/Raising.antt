@@ -12,7 +12,7 @@ use Rattle.const_prop.specs.declared.work.Work.{Work}
 use Rattle.const_prop.specs.Closed.{IsClosed, is_one_word}
 use Rattle.const_prop.specs.Known.{AtMost, IsNotOne}
 use Rattle.const_prop.specs.KnownRows.{edges_of, is_any}
-use Rattle.const_prop.specs.LineSets.{set_holds}
+use Rattle.const_prop.specs.SparseSets.{keys_of, set_holds}
 use Rattle.const_prop.specs.Rise.{room, IsRise}
 use Rattle.const_prop.specs.Table.{Knowns}
 use Rattle.const_prop.specs.Work.{so_far, is_waiting, IsSized, IsFound}
@@ -36,7 +36,7 @@ pub record IsWoken {W : ℕ} (old new : Work W) (edge : ℕ) (rose : ℕ → Boo
   pub lines_are : new.known.lines ≡ old.known.lines
   pub edges_are : edges_of new.known ≡ edges_of old.known
   pub decisions : new.decisions.items ≡ old.decisions.items
-  pub pending_size : length new.pending ≡ length old.pending
+  pub pending_size : keys_of new.pending ≡ keys_of old.pending
   pub pending : (e k : ℕ) → set_holds new.pending e k ≡ (((e == edge) && rose k) || set_holds old.pending e k)
   pub waits_size : length new.waits ≡ length old.waits
   pub waits : (e : ℕ) → is_waiting new e ≡ ((e == edge) || is_waiting old e)

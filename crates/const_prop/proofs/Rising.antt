@@ -13,6 +13,7 @@ use Rattle.const_prop.specs.Closed.{IsClosed, is_one_word}
 use Rattle.const_prop.specs.Known.{AtMost, IsNotOne}
 use Rattle.const_prop.specs.KnownRows.{edges_of}
 use Rattle.const_prop.specs.Rise.{room}
+use Rattle.const_prop.specs.SparseSets.{keys_of}
 use Rattle.const_prop.specs.Table.{Knowns}
 use Rattle.const_prop.specs.Work.{sum_below, so_far, is_pending, is_waiting, one_if, IsSized, Rises, IsFound}
 use Rattle.const_prop.proofs.Order.{at_most-is, at_most-trans}
@@ -87,7 +88,7 @@ module _ {W : ℕ} (f : FlowGraph) (lines : ℕ) where
     pub first_in : first < lines
     pub first_rises : room (at new first edge) < room (at old first edge)
     pub decisions : new.decisions.items ≡ old.decisions.items
-    pub pending_size : length new.pending ≡ length old.pending
+    pub pending_size : keys_of new.pending ≡ keys_of old.pending
     pub pending : (line e : ℕ) → is_pending new line e ≡ (((e == edge) && rose line) || is_pending old line e)
     pub waits_size : length new.waits ≡ length old.waits
     pub waits : (e : ℕ) → is_waiting new e ≡ ((e == edge) || is_waiting old e)

@@ -11,7 +11,7 @@ use Rattle.dep_routing.specs.Routing.{Routing}
 use Rattle.const_prop.specs.declared.work.Work.{Work}
 use Rattle.const_prop.specs.Closed.{IsConstants, is_switch, is_merge, kind_after}
 use Rattle.const_prop.specs.EdgeSet.{edge_holds}
-use Rattle.const_prop.specs.LineSets.{set_holds}
+use Rattle.const_prop.specs.SparseSets.{Sets, keys_of, set_holds}
 use Rattle.const_prop.specs.Table.{Knowns}
 use Rattle.const_prop.specs.Work.{so_far, is_pending, is_waiting, work_left, IsPassedOn, IsSeen, IsSettling, no_line, no_piece, these_lines, this_piece}
 use Rattle.const_prop.proofs.Rising.{waits-less}
@@ -21,10 +21,10 @@ module _ {W : ℕ} (p : Program) (f : FlowGraph) (c : ClassTable) (touches : ℕ
   at w = so_far w
 
   -- the lines that were pending on the edge are taken, and it waits no more
-  abbrev pub visited : Work W → (pending : List (ClassSet W)) → (waits : List (ClassSet 1)) → Work W
+  abbrev pub visited : Work W → (pending : Sets W) → (waits : List (ClassSet 1)) → Work W
   visited w pending waits = record { known = w.known; decisions = w.decisions; pending = pending; waits = waits }
 
-  module _ (w : Work W) (e : ℕ) (pending : List (ClassSet W)) (waits : List (ClassSet 1)) (fresh : ClassSet W) (edge : e < edge_count f.graph) (size : length pending ≡ length w.pending) (room : length waits ≡ length w.waits) (waited : (k : ℕ) → edge_holds waits k ≡ (not (k == e) && is_waiting w k)) (taken : (k : ℕ) → holds fresh k ≡ is_pending w k e) (rest : (d k : ℕ) → set_holds pending d k ≡ (not (d == e) && is_pending w k d)) where
+  module _ (w : Work W) (e : ℕ) (pending : Sets W) (waits : List (ClassSet 1)) (fresh : ClassSet W) (edge : e < edge_count f.graph) (size : keys_of pending ≡ keys_of w.pending) (room : length waits ≡ length w.waits) (waited : (k : ℕ) → edge_holds waits k ≡ (not (k == e) && is_waiting w k)) (taken : (k : ℕ) → holds fresh k ≡ is_pending w k e) (rest : (d k : ℕ) → set_holds pending d k ≡ (not (d == e) && is_pending w k d)) where
     differs : (k : ℕ) → k ≢ e → (k == e) ≡ false
     differs k differ = false_from_ne_true (k == e) (λ same. differ (eqb-true k e same))
 

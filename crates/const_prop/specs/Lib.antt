@@ -1,5 +1,5 @@
 pub mod Known
-pub mod LineSets
+pub mod SparseSets
 pub mod EdgeSet
 pub mod Rise
 pub mod Values

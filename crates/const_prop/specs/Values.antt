@@ -1,38 +1,41 @@
--- Words at places, in blocks of 16, of which most hold no word but 0.
+-- Words at places, in blocks of 16, of which most hold none.
 use Rattle.std.proofs.Common.{zero, suc}
-use Rattle.std.specs.Prelude.{◌≡◌, ◌≢◌, ◌≤◌, ◌+◌, ◌*◌, ◌/◌, ◌%◌, ◌==◌, ℕ, ℤ, pos, Bool, not, List, length, count_by, slice_index_or, vec_capacity}
+use Rattle.std.specs.Prelude.{◌≡◌, ◌≢◌, ◌≤◌, ◌<◌, ◌+◌, ◌*◌, ◌/◌, ◌%◌, ◌^◌, ℕ, ℤ, pos, Option, Some, None, if◌then◌else◌, List, length, count_by, slice_index_or, vec_capacity}
+use Rattle.class_set.specs.declared.ClassSet.{ClassSet}
 use Rattle.const_prop.specs.declared.values.Values.TheInside.{Inside}
+use Rattle.const_prop.specs.SparseSets.{is_number, nth_holds}
 
--- for each block its number, and the words of the blocks whose number isn't 0
+-- for each block its number; of the blocks whose number isn't 0 the places that have words, and the words
 pub record Blocks : Type 0 where
   pub numbers : List ℕ
+  pub filled : List (ClassSet 1)
   pub words : List ℤ
 
 abbrev pub blocks_of : Inside → Blocks
-blocks_of d = record { numbers = d.numbers.items; words = d.words.items }
+blocks_of d = record { numbers = d.numbers.items; filled = d.filled.items; words = d.words.items }
 
 abbrev pub places : Blocks → ℕ
 places b = 16 * length b.numbers
 
--- the word at a place of a block with this number; a block with number 0 holds 0 everywhere
-abbrev pub word_in : (number : ℕ) → List ℤ → (k : ℕ) → ℤ
-word_in zero words k = pos 0
-word_in (suc n) words k = slice_index_or words (16 * n + k) (pos 0)
+-- the word at a place of a block with this number; a block with number 0 holds none
+abbrev pub word_in : (number : ℕ) → List (ClassSet 1) → List ℤ → (k : ℕ) → Option ℤ
+word_in zero filled words k = None
+word_in (suc n) filled words k = if nth_holds filled n k then Some (slice_index_or words (16 * n + k) (pos 0)) else None
 
 -- the word at a place
-abbrev pub word_of : Blocks → (place : ℕ) → ℤ
-word_of b place = word_in (slice_index_or b.numbers (place / 16) 0) b.words (place % 16)
+abbrev pub word_of : Blocks → (place : ℕ) → Option ℤ
+word_of b place = word_in (slice_index_or b.numbers (place / 16) 0) b.filled b.words (place % 16)
 
-abbrev pub is_number : ℕ → Bool
-is_number n = not (n == 0)
-
--- the blocks that have a number other than 0 have those from 1 on, each its own, with words for all of them
+-- the blocks that have a number other than 0 have those from 1 on, each its own, so many
 pub record AreNumbered (numbers : List ℕ) (count : ℕ) : Type 0 where
-  pub words : count ≡ 16 * count_by is_number numbers
+  pub all : count ≡ count_by is_number numbers
   pub within : (i : ℕ) → slice_index_or numbers i 0 ≤ count_by is_number numbers
   pub own : (i j : ℕ) → slice_index_or numbers i 0 ≡ slice_index_or numbers j 0 → slice_index_or numbers i 0 ≢ 0 → i ≡ j
 
--- and there is room for words of every block
+-- and there are words for all of them, and room for every block
 pub record IsKept (d : Inside) : Type 0 where
-  pub numbered : AreNumbered d.numbers.items (length d.words.items)
-  pub room : 16 * length d.numbers.items ≤ vec_capacity d.words
+  pub few : length d.numbers.items < 2 ^ 32
+  pub numbered : AreNumbered d.numbers.items (length d.filled.items)
+  pub words : length d.words.items ≡ 16 * length d.filled.items
+  pub filled_room : length d.numbers.items ≤ vec_capacity d.filled
+  pub words_room : 16 * length d.numbers.items ≤ vec_capacity d.words

@@ -16,8 +16,8 @@ use Rattle.const_prop.specs.Closed.{IsClosed, IsReady, IsWay, WritesAfter, writt
 use Rattle.const_prop.specs.Known.{AtMost, IsNotOne}
 use Rattle.const_prop.specs.EdgeSet.{edge_holds}
 use Rattle.const_prop.specs.KnownRows.{edges_of, value_in}
-use Rattle.const_prop.specs.LineSets.{set_holds}
 use Rattle.const_prop.specs.Rise.{room}
+use Rattle.const_prop.specs.SparseSets.{keys_of, set_holds}
 use Rattle.const_prop.specs.Table.{Knowns, IsBelow, knowns}
 
 -- the sum of the first terms
@@ -54,7 +54,7 @@ module _ {W : ℕ} where
     pub lines_are : w.known.lines ≡ lines
     pub edges_are : edges_of w.known ≡ edge_count f.graph
     pub decisions : length w.decisions.items ≡ f.graph.nodes
-    pub pending : length w.pending ≡ edge_count f.graph
+    pub pending : keys_of w.pending ≡ edge_count f.graph
     pub waits : edge_count f.graph ≤ 64 * length w.waits
 
   -- no edge waits from an edge on

@@ -1,15 +1,15 @@
 //! What is known of each line on each edge.
 
-ghost use Rattle.std.specs.Prelude.{◌≡◌, ◌≤◌, ◌<◌, ◌+◌, ◌*◌, ◌==◌, ◌&&◌, ℕ, not, true, false, if◌then◌else◌, IfOk};
+ghost use Rattle.std.specs.Prelude.{◌≡◌, ◌≤◌, ◌<◌, ◌+◌, ◌*◌, ◌==◌, ◌&&◌, ℕ, not, true, false, if◌then◌else◌, None, IfOk};
 ghost use Rattle.class_set.specs.ClassSet.{holds};
 ghost use Rattle.class_set.specs.Members.{IsWidth};
 ghost use Rattle.const_prop.specs.KnownRows.{is_any, edges_of, value_in};
 ghost use Rattle.const_prop.specs.Known.{AtMost};
 ghost use Rattle.const_prop.specs.Rise.{IsRise, room};
-ghost use Rattle.const_prop.specs.Values.{places};
+ghost use Rattle.const_prop.specs.Values.{places, word_of};
 
 use crate::known::{Known, risen};
-use crate::line_sets::LineSets;
+use crate::sparse_sets::SparseSets;
 use crate::values::Values;
 use class_set::ClassSet;
 use df_sequence::NoMemory;
@@ -21,11 +21,9 @@ use std::marker::Model;
 #[derive(Drop)]
 pub(crate) struct KnownRows<const W: usize> {
     lines: u32,
-    /// For each edge the lines on which something came that was one value at first.
-    one: LineSets<W>,
     /// For each edge the lines on which any value may come.
-    any: LineSets<W>,
-    /// For each edge a row of all lines, with the one value of each line where it is known.
+    any: SparseSets<W>,
+    /// For each edge a row of all lines, with the one value that came first on each line where one did.
     values: Values,
 }
 
@@ -50,8 +48,7 @@ impl<const W: usize> KnownRows<W> {
     {
         Ok(KnownRows {
             lines,
-            one: LineSets::new(alloc, edges)?,
-            any: LineSets::new(alloc, edges)?,
+            any: SparseSets::new(alloc, edges)?,
             values: no_values(alloc, lines, edges)?,
         })
     }
@@ -63,11 +60,11 @@ impl<const W: usize> KnownRows<W> {
         ensures { result ≡ value_in self.now line edge }
     {
         if self.any.at(edge).holds(line) {
-            Known::Any
-        } else if self.one.at(edge).holds(line) {
-            Known::One(self.values.get(self.place(line, edge)))
-        } else {
-            Known::Nothing
+            return Known::Any;
+        }
+        match self.values.get(self.place(line, edge)) {
+            Some(v) => Known::One(v),
+            None => Known::Nothing,
         }
     }
 
@@ -125,7 +122,6 @@ impl<const W: usize> KnownRows<W> {
             Known::Nothing => {}
             Known::One(v) => {
                 let place = self.place(line, edge);
-                self.one.insert(edge, line);
                 self.values.set(place, v);
             }
             Known::Any => self.any.insert(edge, line),
@@ -143,11 +139,12 @@ impl<const W: usize> KnownRows<W> {
     }
 }
 
-/// A word for each of so many lines on each of so many edges.
+/// No word for any of so many lines on any of so many edges.
 #[tactic(auto, using(crate::proofs::KnownRowsLemmas::few_places))]
 fn no_values(alloc: Global, lines: u32, edges: u32) -> Result<Values, NoMemory>
     requires { lines ≤ 1024 }
-    ensures { IfOk result (λ values. lines * edges ≤ places values) }
+    ensures places { IfOk result (λ values. lines * edges ≤ places values) }
+    ensures none { IfOk result (λ values. (k : ℕ) → word_of values k ≡ None) }
 {
     Values::new(alloc, lines as usize * edges as usize)
 }

@@ -9,7 +9,7 @@ ghost use Rattle.const_prop.specs.Work.{IsBlank, IsSettling, IsSettlingFrom, no_
 use crate::edge_set::EdgeSet;
 use crate::known::Known;
 use crate::known_rows::KnownRows;
-use crate::line_sets::LineSets;
+use crate::sparse_sets::SparseSets;
 use crate::setting::Setting;
 use crate::work::Work;
 use df_sequence::NoMemory;
@@ -26,7 +26,7 @@ impl<const W: usize> Work<W> {
         Ok(Work {
             known: KnownRows::new(alloc, s.lines.lines(), edges)?,
             decisions: vec![in alloc; Known::Nothing; s.flow.pieces() as usize]?,
-            pending: LineSets::new(alloc, edges)?,
+            pending: SparseSets::new(alloc, edges)?,
             waits: EdgeSet::full(alloc, edges)?,
         })
     }

@@ -15,7 +15,7 @@ ghost use Rattle.const_prop.specs.Work.{IsSized, Rises, IsFound, IsSettling, so_
 use crate::edge_set::EdgeSet;
 use crate::known::Known;
 use crate::known_rows::KnownRows;
-use crate::line_sets::LineSets;
+use crate::sparse_sets::SparseSets;
 use crate::setting::Setting;
 use cfg_build::PieceKind;
 use class_set::ClassSet;
@@ -26,7 +26,7 @@ pub(crate) struct Work<const W: usize> {
     pub(crate) known: KnownRows<W>,
     pub(crate) decisions: Vec<Known>,
     /// For each edge the lines of which more is known there than was passed on.
-    pub(crate) pending: LineSets<W>,
+    pub(crate) pending: SparseSets<W>,
     /// The edges that are to be visited: those that have such lines, or by which the piece at their end is still to be entered.
     pub(crate) waits: EdgeSet,
 }

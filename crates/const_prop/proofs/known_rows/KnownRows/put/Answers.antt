@@ -9,4 +9,4 @@ returns-in-One-clause-others g c =
     let is : old ≡ c.args.self.now = c.self.view_is in
     let place_is : c.place-place.result ≡ c.args.edge * old.lines + c.args.line = subst (λ (r : Rows g.row.W). c.place-place.result ≡ c.args.edge * r.lines + c.args.line) (sym is) c.place-place.ensures.is in
     rw (← is)
-    (λ l e. value_in-other old _ c.args.line c.args.edge _ (rw (← is) at c.requires.line) refl refl (rw place_is at c.set.ensures.words) c.insert.ensures.holds l e)
+    (λ l e. value_in-other old _ c.args.line c.args.edge _ (rw (← is) at c.requires.line) refl refl (rw place_is at c.set.ensures.words) l e)

@@ -16,7 +16,7 @@ returns-clause-rises g c =
     let old = c.args.self.now in
     let new : Work g.row.W = record { known = c.set_any.new.self; decisions = c.args.self.now.decisions; pending = c.add.new.self; waits = c.insert.new.self } in
     let rose : ℕ → Bool = holds c.difference-risen.result in
-    let woken : IsWoken old new c.args.edge rose = record { lines_are = c.set_any.ensures.lines; edges_are = c.set_any.ensures.edges; decisions = refl; pending_size = c.add.ensures.edges; pending = c.add.ensures.holds; waits_size = c.insert.ensures.room; waits = c.insert.ensures.holds } in
+    let woken : IsWoken old new c.args.edge rose = record { lines_are = c.set_any.ensures.lines; edges_are = c.set_any.ensures.edges; decisions = refl; pending_size = c.add.ensures.keys; pending = c.add.ensures.holds; waits_size = c.insert.ensures.room; waits = c.insert.ensures.holds } in
     let parts = λ (k : ℕ) (is : rose k ≡ true). and_parts (holds c.args.lines.now k) (not (holds c.any_at.result.now k)) (sym (c.difference-risen.ensures k) ∙ is) in
     let lower = λ (k : ℕ) (is : rose k ≡ true). sym (c.any_at.ensures k) ∙ true_of_not (holds c.any_at.result.now k) (parts k is).1 in
     let first = some-member (IsLast (holds c.difference-risen.result) None) (IsNext (holds c.difference-risen.result) None) c.next_after.result c.if-is_none.ensures c.next_after.ensures.next in
@@ -31,7 +31,7 @@ returns-clause-found g c =
     let old = c.args.self.now in
     let new : Work g.row.W = record { known = c.set_any.new.self; decisions = c.args.self.now.decisions; pending = c.add.new.self; waits = c.insert.new.self } in
     let rose : ℕ → Bool = holds c.difference-risen.result in
-    let woken : IsWoken old new c.args.edge rose = record { lines_are = c.set_any.ensures.lines; edges_are = c.set_any.ensures.edges; decisions = refl; pending_size = c.add.ensures.edges; pending = c.add.ensures.holds; waits_size = c.insert.ensures.room; waits = c.insert.ensures.holds } in
+    let woken : IsWoken old new c.args.edge rose = record { lines_are = c.set_any.ensures.lines; edges_are = c.set_any.ensures.edges; decisions = refl; pending_size = c.add.ensures.keys; pending = c.add.ensures.holds; waits_size = c.insert.ensures.room; waits = c.insert.ensures.holds } in
     let parts = λ (k : ℕ) (is : rose k ≡ true). and_parts (holds c.args.lines.now k) (not (holds c.any_at.result.now k)) (sym (c.difference-risen.ensures k) ∙ is) in
     let lower = λ (k : ℕ) (is : rose k ≡ true). sym (c.any_at.ensures k) ∙ true_of_not (holds c.any_at.result.now k) (parts k is).1 in
     let first = some-member (IsLast (holds c.difference-risen.result) None) (IsNext (holds c.difference-risen.result) None) c.next_after.result c.if-is_none.ensures c.next_after.ensures.next in
