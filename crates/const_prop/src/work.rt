@@ -33,6 +33,7 @@ pub(crate) struct Work<const W: usize> {
 
 impl<const W: usize> Work<W> {
     /// Joins what comes to what is known of the line on the edge. Where that rises, the edge waits with the line.
+    #[inline(always)]
     pub(crate) fn raise(&mut self, s: &Setting<W>, line: u32, edge: u32, comes: Known)
         requires setting { IsSetting s.now.program.now s.now.flow.now s.now.classes.now s.now.touch.now s.now.lines.now s.now.one_word.items s.now.outs.items s.now.touched.items }
         requires sized { IsSized s.now.flow.now s.now.lines.now.lines self.old }
