@@ -13,3 +13,6 @@ mod NamedUnits
 mod Kept
 mod Capped
 mod CountedWidths
+mod CallEdges
+mod CallCycles
+mod GrowingGraph

@@ -6,6 +6,7 @@ pub mod Names
 pub mod Widths
 pub mod Heights
 pub mod CallTable
+pub mod CallGraph
 pub mod Copies
 pub mod Expansion
 pub mod Refusals

@@ -85,8 +85,8 @@ fn note_callee(
     Ok(())
 }
 
-// The index of the first unit with a SUBROUTINE of this name, or the number of units.
-fn unit_of(us: &Units, index: &IndexMap<Name, usize>, name: &Name) -> usize
+/// The index of the first unit with a SUBROUTINE of this name, or the number of units.
+pub(crate) fn unit_of(us: &Units, index: &IndexMap<Name, usize>, name: &Name) -> usize
     requires { (name : List ℕ) → get bytes_eq index.now name ≡ unit_named us.now name }
     ensures { result ≡ unit_of_name us.now name.now }
 {

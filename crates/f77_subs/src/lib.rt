@@ -3,6 +3,7 @@
 
 mod call_rows;
 mod laws;
+mod recursion;
 mod splitting;
 mod stand_in;
 mod sub_end;
