@@ -10,6 +10,7 @@ mod Folds
 mod GatheredParts
 mod LabelColumns
 mod LineBlocks
+mod LoopTotals
 mod MarkPlaces
 mod NamedForms
 mod PlainParts
@@ -49,5 +50,6 @@ mod ShownForms
 mod SourceStatements
 mod SpotPlaces
 mod StatementParts
+mod TooGreat
 mod TypedFirst
 mod WrittenNumbers

@@ -19,7 +19,7 @@ use Rattle.flat_programs.specs.declared.statements.FlatLine.{FlatLine}
 use Rattle.read_back.specs.PrintedArrays.{HasNoPrintedArrays}
 use Rattle.read_back.specs.PrintedStatements.{CanBeText}
 use Rattle.read_back.specs.SourceStatements.{statements_read}
-use Rattle.read_back.specs.StorageRefusals.{IsOfStorage, IsOfOperations}
+use Rattle.read_back.specs.StorageRefusals.{IsOfStorage}
 use Rattle.read_back.proofs.PrintedJumps.{none_jumps_into}
 use Rattle.read_back.proofs.PrintedLabels.{none_labelled_twice, none_lacks_label}
 use Rattle.read_back.proofs.PrintedNesting.{none_unnested}
@@ -40,10 +40,6 @@ of_storage (Some line) words ops end is = let same : LayoutWrong line ≡ end = 
 of_storage None (Some line) ops end is = let same : TooManyWords line ≡ end = cc in subst IsOfStorage same tt
 of_storage None None (Some line) end is = let same : TooManyOps line ≡ end = cc in subst IsOfStorage same tt
 of_storage None None None end is = absurd cc
-
-of_operations : (ops : Option ℕ) (end : LayoutEnd) → answer_or (at_line TooManyOps ops) None ≡ Some end → IsOfOperations end
-of_operations (Some line) end is = let same : TooManyOps line ≡ end = cc in subst IsOfOperations same tt
-of_operations None end is = absurd cc
 
 module _ (q : Program) (flat : List FlatLine) (given : CanBeText q flat) (free : HasNoPrintedArrays q.names) (checked : Bool) where
   abbrev stmts : List Labelled
@@ -101,14 +97,6 @@ module _ (q : Program) (flat : List FlatLine) (given : CanBeText q flat) (free :
         only_storage (answer_or (at_line TooManyWords (line_of_words stmts)) None)
         ∙ skip LayoutWrong wrong (answer_or (at_line TooManyWords (line_of_words stmts)) None) right
         ∙ skip TooManyWords (line_of_words stmts) None few
-
-    only_operations : refusal stmts checked ≡ answer_or (at_line TooManyOps ops) None
-    only_operations =
-        let last = answer_or (at_line TooManyOps ops) None in
-        only_storage last_ones ∙ skip LayoutWrong wrong last_ones right ∙ skip TooManyWords (line_of_words stmts) last few
-
-    pub refused_for_operations : (end : LayoutEnd) → layout (statements_read q flat) checked ≡ Err end → IsOfOperations end
-    refused_for_operations end is = of_operations ops end (sym only_operations ∙ refused_by (program stmts checked) (refusal stmts checked) end is)
 
 pub if_refused : (Q : LayoutEnd → Type 0) (answer : Result Program LayoutEnd) → ((end : LayoutEnd) → answer ≡ Err end → Q end) → IfErr answer Q
 if_refused Q (Ok p) refused = tt

@@ -8,8 +8,3 @@ IsOfStorage (LayoutWrong line) = Unit {0}
 IsOfStorage (TooManyWords line) = Unit {0}
 IsOfStorage (TooManyOps line) = Unit {0}
 IsOfStorage _ = ⊥
-
--- a statement asks too much
-abbrev pub IsOfOperations : LayoutEnd → Type 0
-IsOfOperations (TooManyOps line) = Unit {0}
-IsOfOperations _ = ⊥
