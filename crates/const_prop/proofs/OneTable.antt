@@ -1,5 +1,5 @@
 -- A program has one table of constants.
-use Rattle.std.proofs.Common.{◌≡◌, ℕ, ◌<◌, ◌+◌, ◌↔◌, ℤ, Bool, true, false, refl, sym, ap, subst, ◌∙◌, arith}
+use Rattle.std.proofs.Common.{◌≡◌, ℕ, ◌<◌, ◌+◌, ◌↔◌, Bool, true, false, refl, sym, ap, subst, ◌∙◌, arith}
 use Rattle.closed_walks.specs.Graph.{Graph, edge_count, to}
 use Rattle.f77_tree.specs.declared.programs.Program.{Program}
 use Rattle.f77_tree.specs.Value.{word_at}

@@ -1,5 +1,5 @@
 -- Rows of numbers, and what they hold.
-use Rattle.std.proofs.Common.{◌≡◌, ℕ, zero, suc, ◌+◌, ◌<◌, ◌≤◌, ◌⊎◌, Bool, true, false, ◌==◌, ◌||◌, List, [], ◌∷◌, ◌++◌, length, get_or, filter, Some, slice_get, refl, sym, ap, ◌∙◌, inl, inr, ⊎_elim, arith, append-nil}
+use Rattle.std.proofs.Common.{◌≡◌, ℕ, zero, suc, ◌+◌, ◌<◌, ◌≤◌, Bool, true, false, ◌==◌, ◌||◌, List, [], ◌∷◌, ◌++◌, length, get_or, filter, Some, slice_get, refl, sym, ap, ◌∙◌, inl, inr, ⊎_elim, arith, append-nil}
 use Rattle.std.proofs.lemmas.Bool.{cases_Bool, eqb-true}
 use Rattle.std.proofs.lemmas.List.Elements.{filter-append}
 use Rattle.std.specs.List.{range_with_len}
@@ -9,7 +9,6 @@ use Rattle.closed_walks.specs.Graph.{Graph, edge_count, from, to, touches, touch
 use Rattle.closed_walks.specs.Walk.{Holds}
 use Rattle.cfg_build.specs.Passes.{outs}
 use Rattle.dep_routing.specs.Touch.{touches_in}
-use Rattle.closed_walks.proofs.Held.{Holds-left, Holds-right, Holds-append, Holds-at}
 use Rattle.list_laws.proofs.Ranges.{range_last}
 
 pub touches-at : {W : ℕ} (sets : List (ClassSet W)) (node line : ℕ) (s : ClassSet W) → slice_get sets node ≡ Some s → touches_in sets node line ≡ holds s line

@@ -1,5 +1,5 @@
 -- What a closed table tells is so in runs.
-use Rattle.std.proofs.Common.{◌≡◌, ℕ, zero, suc, ℤ, Bool, true, List, [], Option, Some, None, refl, sym, ap, subst, ◌∙◌}
+use Rattle.std.proofs.Common.{◌≡◌, ℕ, zero, suc, ℤ, Bool, true, List, [], Some, None, refl, sym, ap, subst, ◌∙◌}
 use Rattle.std.proofs.lemmas.List.{append-nil}
 use Rattle.op_table.specs.Trips.{at_least_zero}
 use Rattle.f77_tree.specs.declared.expressions.Expr.{Expr}

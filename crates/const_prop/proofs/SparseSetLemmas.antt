@@ -1,6 +1,6 @@
 -- Which sets keys have, after a set is read or written, and after a key got a number or lost it.
-use Rattle.std.proofs.Common.{◌≡◌, ◌≢◌, ℕ, zero, suc, ◌+◌, ◌<◌, ◌≤◌, Bool, true, false, not, ◌==◌, ◌||◌, ◌&&◌, List, [], ◌∷◌, ◌++◌, length, set, replicate, get_or, count_by, refl, sym, ap, ◌∙◌, ⊎_elim, arith, subst}
-use Rattle.std.proofs.lemmas.Bool.{cases_eq, cases_lt}
+use Rattle.std.proofs.Common.{◌≡◌, ◌≢◌, ℕ, zero, suc, ◌+◌, ◌<◌, ◌≤◌, Bool, true, false, not, ◌==◌, ◌||◌, ◌&&◌, List, [], ◌∷◌, ◌++◌, length, set, get_or, count_by, refl, sym, ap, ◌∙◌, ⊎_elim, arith, subst}
+use Rattle.std.proofs.lemmas.Bool.{cases_eq}
 use Rattle.std.proofs.lemmas.Bool.Decides.{nat_tests}
 use Rattle.std.proofs.lemmas.List.Sums.{count_by-le-length}
 use Rattle.std.proofs.lemmas.List.{get_or-set_same, get_or-set_other, length-set, length-append}
@@ -9,7 +9,7 @@ use Rattle.std.proofs.Math.ListN.{get_or-append}
 use Rattle.list_laws.proofs.Counts.{bit, count-set, count_some}
 use Rattle.class_set.specs.ClassSet.{holds}
 use Rattle.class_set.specs.declared.ClassSet.{ClassSet}
-use Rattle.const_prop.specs.SparseSets.{Sets, is_number, nth_holds, set_holds, AreShared}
+use Rattle.const_prop.specs.SparseSets.{is_number, nth_holds, AreShared}
 
 module _ {W : ℕ} where
   -- a set that was read

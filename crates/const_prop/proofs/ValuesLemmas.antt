@@ -1,12 +1,12 @@
 -- What blocks of words hold, after a block got a number, or a place a word.
-use Rattle.std.proofs.Common.{◌≡◌, ◌≢◌, ℕ, zero, suc, ℤ, pos, ◌+◌, ◌-◌, ◌*◌, ◌/◌, ◌%◌, ◌<◌, ◌≤◌, ◌==◌, ◌||◌, Bool, true, false, if◌then◌else◌, Option, Some, None, List, [], ◌∷◌, ◌++◌, length, set, get_or, replicate, count_by, refl, sym, ap, ◌∙◌, ⊎_elim, arith, subst}
+use Rattle.std.proofs.Common.{◌≡◌, ◌≢◌, ℕ, zero, suc, ℤ, pos, ◌+◌, ◌-◌, ◌*◌, ◌/◌, ◌%◌, ◌<◌, ◌≤◌, ◌==◌, ◌||◌, Bool, true, false, if◌then◌else◌, Some, None, List, [], ◌∷◌, ◌++◌, length, set, get_or, count_by, refl, sym, ap, ◌∙◌, ⊎_elim, arith, subst}
 use Rattle.std.proofs.lemmas.Bool.{cases_eq}
 use Rattle.std.proofs.lemmas.List.{get_or-set_same, get_or-set_other, length-set}
 use Rattle.std.proofs.lemmas.List.Sums.{count_by-le-length}
 use Rattle.class_set.specs.ClassSet.{holds}
 use Rattle.class_set.specs.declared.ClassSet.{ClassSet}
 use Rattle.const_prop.specs.SparseSets.{is_number, nth_holds}
-use Rattle.const_prop.specs.Values.{Blocks, word_in, word_of, places, AreNumbered}
+use Rattle.const_prop.specs.Values.{word_in, word_of, AreNumbered}
 use Rattle.const_prop.proofs.SparseSetLemmas.{nth_read, nth-set_same, nth-set_other, nth-append, nth-last, count-more, is_same, is_other}
 
 -- before a block got a number not all had one

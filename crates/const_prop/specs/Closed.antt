@@ -6,14 +6,13 @@ use Rattle.op_table.specs.Words.{is_true}
 use Rattle.closed_walks.specs.Graph.{edge_count, to}
 use Rattle.f77_tree.specs.declared.expressions.Access.{Access}
 use Rattle.f77_tree.specs.declared.programs.ExecKind.{ExecKind}
-use Rattle.f77_tree.specs.declared.programs.ExecKind.TheVariants.{Assign, Test, Sign, Pick, DoStart, DoNext}
+use Rattle.f77_tree.specs.declared.programs.ExecKind.TheVariants.{Assign, Test, Sign, Pick, DoStart}
 use Rattle.f77_tree.specs.declared.programs.NameInfo.{NameInfo}
 use Rattle.f77_tree.specs.declared.programs.Program.{Program}
 use Rattle.f77_tree.specs.Known.{known}
 use Rattle.f77_tree.specs.KnownWith.{known_word, known_with}
 use Rattle.f77_tree.specs.Value.{word_at}
 use Rattle.alias_classes.specs.Classes.{ClassTable, class_of_word}
-use Rattle.alias_classes.specs.Needs.{Hits, IsOfLoop}
 use Rattle.alias_classes.specs.Writes.{ExecWritesOrCounts}
 use Rattle.cfg_build.specs.declared.pieces.PieceKind.{PieceKind}
 use Rattle.cfg_build.specs.declared.pieces.PieceKind.TheVariants.{Act, Branch, Join, Hold, End}

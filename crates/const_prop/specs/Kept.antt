@@ -1,5 +1,5 @@
 -- The edges of a flow graph that a table keeps. No public clause cites this module.
-use Rattle.std.specs.Prelude.{◌≡◌, ◌<◌, ℕ, ℤ, Bool, false, ◌==◌, ◌&&◌, not, if◌then◌else◌, List, slice_index}
+use Rattle.std.specs.Prelude.{◌≡◌, ◌<◌, ℕ, Bool, false, ◌==◌, ◌&&◌, not, if◌then◌else◌, List, slice_index}
 use Rattle.op_table.specs.Trips.{at_least_zero}
 use Rattle.closed_walks.specs.Graph.{Graph, edge_count, from, to}
 use Rattle.cfg_build.specs.Joined.{FlowGraph}

@@ -9,8 +9,8 @@ ghost use Rattle.const_prop.specs.Work.{IsBlank, IsSettling, IsSettlingFrom, no_
 use crate::edge_set::EdgeSet;
 use crate::known::Known;
 use crate::known_rows::KnownRows;
-use crate::sparse_sets::SparseSets;
 use crate::setting::Setting;
+use crate::sparse_sets::SparseSets;
 use crate::work::Work;
 use df_sequence::NoMemory;
 use f77_tree::Program;

@@ -15,8 +15,8 @@ ghost use Rattle.const_prop.specs.Work.{IsSized, Rises, IsFound, IsSettling, so_
 use crate::edge_set::EdgeSet;
 use crate::known::Known;
 use crate::known_rows::KnownRows;
-use crate::sparse_sets::SparseSets;
 use crate::setting::Setting;
+use crate::sparse_sets::SparseSets;
 use cfg_build::PieceKind;
 use class_set::ClassSet;
 

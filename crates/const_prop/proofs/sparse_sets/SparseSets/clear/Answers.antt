@@ -1,7 +1,7 @@
 use Rattle.std.proofs.Common.{◌≡◌, ◌≢◌, ◌<◌, ◌++◌, ◌∷◌, [], length, set, get_or, arith, rules, ap, ◌∙◌}
 use Rattle.std.proofs.lemmas.Grind.{get_or_default_zero}
 use Rattle.std.proofs.lemmas.List.{length-set}
-use Rattle.const_prop.specs.SparseSets.{Sets, keys_of}
+use Rattle.const_prop.specs.SparseSets.{keys_of}
 use Rattle.const_prop.proofs.SparseSetLemmas.{shared_cleared, holds_cleared, free_left}
 use Rattle.const_prop.proofs.sparse_sets.SparseSets.clear.Goals as goal
 

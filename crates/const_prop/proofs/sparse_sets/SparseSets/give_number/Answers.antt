@@ -1,4 +1,4 @@
-use Rattle.std.proofs.Common.{◌≡◌, ◌≢◌, ◌<◌, ◌++◌, ◌∷◌, [], length, set, get_or, arith, rules, ap, sym, ◌∙◌}
+use Rattle.std.proofs.Common.{◌≡◌, ◌<◌, length, set, get_or, arith, rules, ap, ◌∙◌}
 use Rattle.std.proofs.lemmas.List.{length-set}
 use Rattle.const_prop.specs.SparseSets.{Sets, keys_of, number_of}
 use Rattle.const_prop.proofs.SparseSetLemmas.{shared_reused, shared_new, holds_reused, holds_new, sets_left, reused_some}

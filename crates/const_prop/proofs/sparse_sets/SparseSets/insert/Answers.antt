@@ -1,8 +1,6 @@
-use Rattle.std.proofs.Common.{◌≡◌, ◌≢◌, ◌<◌, ◌==◌, ◌&&◌, ◌||◌, ℕ, Bool, length, set, get_or, arith, ap, sym, ◌∙◌}
+use Rattle.std.proofs.Common.{◌≡◌, ◌≢◌, ◌<◌, ◌==◌, ◌&&◌, ◌||◌, ℕ, Bool, length, get_or, arith, ap, sym, ◌∙◌}
 use Rattle.std.proofs.lemmas.Grind.{get_or_default_zero}
-use Rattle.std.proofs.lemmas.List.{length-set}
-use Rattle.class_set.specs.ClassSet.{holds}
-use Rattle.const_prop.specs.SparseSets.{Sets, keys_of, number_of, nth_holds, set_holds}
+use Rattle.const_prop.specs.SparseSets.{Sets, keys_of, number_of, set_holds}
 use Rattle.const_prop.proofs.SparseSetLemmas.{nth_read, shared_written, holds_written}
 use Rattle.const_prop.proofs.sparse_sets.SparseSets.insert.Goals as goal
 

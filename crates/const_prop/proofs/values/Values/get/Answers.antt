@@ -1,6 +1,6 @@
-use Rattle.std.proofs.Common.{◌≡◌, ◌≢◌, ◌<◌, ◌/◌, ◌*◌, length, get_or, arith, rules, ap, sym, ◌∙◌}
+use Rattle.std.proofs.Common.{◌≡◌, ◌<◌, ◌/◌, ◌*◌, length, get_or, arith, rules, ap, sym, ◌∙◌}
 use Rattle.std.proofs.lemmas.Grind.{get_or_default_zero}
-use Rattle.const_prop.specs.Values.{Blocks, places, word_of}
+use Rattle.const_prop.specs.Values.{places}
 use Rattle.const_prop.proofs.ValuesLemmas.{word_none, word_off, word_on}
 use Rattle.const_prop.proofs.values.Values.get.Goals as goal
 

@@ -1,4 +1,4 @@
-use Rattle.std.proofs.Common.{◌≡◌, ◌<◌, ◌+◌, ◌*◌, ◌++◌, ◌∷◌, [], ℕ, pos, length, set, get_or, arith, rules, ap, ◌∙◌}
+use Rattle.std.proofs.Common.{◌≡◌, ◌<◌, ◌+◌, ◌∷◌, [], ℕ, pos, length, set, get_or, arith, rules, ap, ◌∙◌}
 use Rattle.std.proofs.lemmas.List.{length-set, length-append}
 use Rattle.const_prop.specs.Values.{Blocks}
 use Rattle.const_prop.proofs.ValuesLemmas.{some_left, are_numbered_more, word_of_begun}
