@@ -28,7 +28,7 @@ module _ (flat : List FlatLine) where
   abbrev begins : FlatLine → Bool
   begins l = is_loop l.stmt
 
-  loops_next : (place : ℕ) (l : FlatLine) → slice_get flat place ≡ Some l → loop_at flat (suc place) ≡ loop_at flat place + bit (is_loop l.stmt)
+  pub loops_next : (place : ℕ) (l : FlatLine) → slice_get flat place ≡ Some l → loop_at flat (suc place) ≡ loop_at flat place + bit (is_loop l.stmt)
   loops_next place l there =
       let one : count_by begins (l ∷ []) ≡ bit (is_loop l.stmt) = omega arith in
       ap (count_by begins) (take_next flat place l there) ∙ count-append begins (take place flat) (l ∷ []) ∙ ap (λ n. loop_at flat place + n) one

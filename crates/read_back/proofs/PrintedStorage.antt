@@ -3,7 +3,6 @@ use Rattle.std.proofs.Common.{◌≡◌, ℕ, zero, suc, ◌+◌, ◌<◌, ⊎_e
 use Rattle.std.specs.Prelude.{◌&&◌, filter, flat_map, slice_get, bytes_eq}
 use Rattle.std.specs.List.{list_any}
 use Rattle.std.proofs.lemmas.Int.{ints}
-use Rattle.std.proofs.lemmas.Slice.Eq.{bytes_eq-Decides}
 use Rattle.std.proofs.lemmas.List.Concat.{flat_map-append}
 use Rattle.std.proofs.lemmas.List.Elements.{All-map, filter-append, Contains-append_left, Contains-append_right, Contains-append_cases}
 use Rattle.list_laws.proofs.Members.{Member-from_Contains, Contains-from_Member, Member-filter, Member-map}
@@ -15,7 +14,7 @@ use Rattle.f77_tree.specs.declared.programs.Program.{Program}
 use Rattle.f77_tree.specs.declared.statements.Labelled.{Labelled}
 use Rattle.f77_tree.specs.Declarations.{index_of, IsNameInfo, CommonOnce}
 use Rattle.f77_tree.specs.OtherPlaces.{without_places, DifferInPlaces}
-use Rattle.f77_tree.specs.Places.{Equation, Linked, same_block, block_names, IsFirstOfBlock, ArePlaces, equations}
+use Rattle.f77_tree.specs.Places.{Equation, Linked, block_names, IsFirstOfBlock, ArePlaces, equations}
 use Rattle.f77_tree.specs.StatementGrammar.{WrittenStatement, statement_of}
 use Rattle.f77_tree.specs.Value.{dims_of, dims_in, size_of, place_of}
 use Rattle.f77_tree.proofs.AllLemmas.{All-get}
@@ -51,7 +50,7 @@ use Rattle.read_back.proofs.PrintedDimensions.{right_dims}
 use Rattle.read_back.proofs.PrintedTable.{table_same}
 use Rattle.read_back.proofs.PrintedTypes.{bare-index, bare-dims}
 use Rattle.read_back.proofs.ReadDeclarations.{groups_same}
-use Rattle.read_back.proofs.RightPlaces.{MeetRules, right_places}
+use Rattle.read_back.proofs.RightPlaces.{same_block-itself, MeetRules, right_places}
 use Rattle.read_back.proofs.SameEquations.{AreAlike, equations-to, equations-from, standing-names}
 use Rattle.read_back.proofs.StatementParts.{HoldsOfRead}
 
@@ -65,10 +64,6 @@ split_at f (y ∷ ys) (suc k) x is =
     let a = flat_map f (take k ys) in
     let c = flat_map f (drop (suc k) ys) in
     ap (λ zs. f y ++ zs) (split_at f ys k x is) ∙ sym (append_assoc (f y) (a ++ f x) c) ∙ ap (λ zs. zs ++ c) (sym (append_assoc (f y) a (f x)))
-
-same_block-itself : (block : Option (List ℕ)) → same_block block block ≡ true
-same_block-itself None = refl
-same_block-itself (Some block) = (bytes_eq-Decides block block).1 refl
 
 -- ---- names of blocks as they stand
 

@@ -47,6 +47,7 @@ use Rattle.read_back.specs.PrintedArrays.{HasNoPrintedArrays}
 use Rattle.read_back.specs.PrintedStatements.{CanBeText}
 use Rattle.read_back.specs.SourceStatements.{statements_read}
 use Rattle.read_back.proofs.DeclaredEach.{declared_each}
+use Rattle.read_back.proofs.LoopTotals.{loops_next}
 use Rattle.read_back.proofs.MarkPlaces.{take_next, mark_of}
 use Rattle.read_back.proofs.PrintedJumps.{label_place}
 use Rattle.read_back.proofs.PrintedKinds.{index-name}
@@ -184,12 +185,6 @@ module _ (q : Program) (flat : List FlatLine) (given : CanBeText q flat) (free :
       let before = dos_declared k (omega (arith, le)) in
       omega (arith, next, before)
 
-  loops_next : (place : ℕ) (l : FlatLine) → slice_get flat place ≡ Some l → loop_at flat (suc place) ≡ loop_at flat place + bit (is_loop l.stmt)
-  loops_next place l there =
-      let p : FlatLine → Bool = λ k. is_loop k.stmt in
-      let one : count_by p (l ∷ []) ≡ bit (is_loop l.stmt) = omega arith in
-      ap (count_by p) (take_next flat place l there) ∙ count-append p (take place flat) (l ∷ []) ∙ ap (λ n. loop_at flat place + n) one
-
   dos_same : (place : ℕ) → place ≤ length flat → dos_above (front + place) ≡ loop_at flat place
   dos_same zero le = let e : front + 0 ≡ front = omega arith in ap dos_above e ∙ dos_declared front (omega arith)
   dos_same (suc place) le =
@@ -199,7 +194,7 @@ module _ (q : Program) (flat : List FlatLine) (given : CanBeText q flat) (free :
       ap dos_above e ∙ dos_next (front + place) is.s is.stands
       ∙ ap (λ n. n + bit (is_do is.s.stmt)) (dos_same place (omega (arith, le)))
       ∙ ap (λ b. loop_at flat place + bit b) (ap is_do is.stmt ∙ loop_same q.names found.0.stmt)
-      ∙ sym (loops_next place found.0 found.1)
+      ∙ sym (loops_next flat place found.0 found.1)
 
   number_same : (place : ℕ) (l : FlatLine) → slice_get flat place ≡ Some l → loop_number stmts (front + place) ≡ loop_at flat place
   number_same place l there = let within = got_within flat place l there in counted (λ (s : Labelled). is_do s.stmt) (take (front + place) stmts) ∙ dos_same place (omega (arith, within))

@@ -19,7 +19,7 @@ use Rattle.flat_programs.specs.Executables.{leading, following, executables, exe
 use Rattle.flat_programs.specs.FlatForm.{AreProper}
 use Rattle.flat_programs.specs.Text.{text}
 use Rattle.read_back.specs.PrintedStatements.{CanBeText}
-use Rattle.read_back.specs.ReadAgain.{IsPrinted, program_read, kinds_of, IsReadAgain, IsReadBack}
+use Rattle.read_back.specs.ReadAgain.{HasText, program_read, kinds_of, IsReadAgain, IsReadBack}
 use Rattle.read_back.specs.SourceStatements.{CanBeRead, HasStatements, statements_read}
 use Rattle.read_back.proofs.LoopTotals.{StandFirst, AreOnly, loops_counted}
 use Rattle.read_back.proofs.PrintedForm.{none_wrong_storage, few_words, initial_again}
@@ -46,7 +46,7 @@ first_dialect flat checked dialect place l there =
     let own : All Has (executables_in flat place (Some l)) = subst (λ found. All Has (executables_in flat place found)) there here in
     All-first Has (record { line = l.line; kind = leading flat place l.stmt }) (map (λ kind. record { line = l.line; kind = kind }) (option_to_list (following flat place l.stmt))) own
 
-pub can_be_read : (p : Program) (flat : List FlatLine) → IsPrinted p flat → AreProper p.names flat → CanBeRead p flat
+pub can_be_read : (p : Program) (flat : List FlatLine) → HasText p flat → AreProper p.names flat → CanBeRead p flat
 can_be_read p flat is proper = record {
   text = record { declarations = is.well_formed.declarations; form = is.statements.form; proper = proper; few = is.few; short = is.short };
   arrays = is.arrays;
@@ -54,7 +54,7 @@ can_be_read p flat is proper = record {
 
 -- ---- the whole program
 
-module _ (p : Program) (flat : List FlatLine) (given : CanBeText p flat) (is : IsPrinted p flat) where
+module _ (p : Program) (flat : List FlatLine) (given : CanBeText p flat) (is : HasText p flat) where
   abbrev stmts : List Labelled
   stmts = statements_read p flat
 

@@ -22,7 +22,7 @@ all_pass test (x ∷ xs) each = and_from (test x) (list_all test xs) (each x (0,
 le_test : (x y : ℤ) → x ≤ℤ y → int_le x y ≡ true
 le_test x y h = grind (arith, ints)
 
-same_block-itself : (block : Option (List ℕ)) → same_block block block ≡ true
+pub same_block-itself : (block : Option (List ℕ)) → same_block block block ≡ true
 same_block-itself None = refl
 same_block-itself (Some block) = (bytes_eq-Decides block block).1 refl
 

@@ -18,7 +18,7 @@ use Rattle.read_back.specs.SourceStatements.{statements_read}
 
 -- A well-formed program of these flat statements, which are few and short enough for a source text. No array bears a name with which an
 -- intrinsic function is printed.
-pub record IsPrinted (p : Program) (flat : List FlatLine) : Type 0 where
+pub record HasText (p : Program) (flat : List FlatLine) : Type 0 where
   pub well_formed : IsWellFormed p
   pub statements : AreStatementsOf p flat
   pub few : length (declared p) + length flat ≤ 4000

@@ -6,7 +6,7 @@ ghost use Rattle.f77_tree.specs.Dialects.{IsOfDialect};
 ghost use Rattle.f77_source.specs.Reading.{Reads, reading};
 ghost use Rattle.flat_programs.specs.declared.statements.FlatLine.{FlatLine};
 ghost use Rattle.flat_programs.specs.Text.{text};
-ghost use Rattle.read_back.specs.ReadAgain.{IsPrinted, IsReadBack, IsUnlessTooGreat};
+ghost use Rattle.read_back.specs.ReadAgain.{HasText, IsReadBack, IsUnlessTooGreat};
 
 use crate::programs::{printed_programs_can_be_read, printed_programs_have_their_statements};
 use flat_programs::executables_stand_in_order;
@@ -14,7 +14,7 @@ use flat_programs::executables_stand_in_order;
 /// The printed text of a program of flat statements is read back as the program, but for lines and the listing of COMMON. The operators of
 /// the program are of the dialect in which it is read.
 pub fn printed_text_is_read_back()
-    ensures { (p : Program) (flat : List FlatLine) (checked : Bool) → IsPrinted p flat → IsOfDialect checked p → IsReadBack (text p flat) checked p }
+    ensures { (p : Program) (flat : List FlatLine) (checked : Bool) → HasText p flat → IsOfDialect checked p → IsReadBack (text p flat) checked p }
 {
     executables_stand_in_order();
     printed_programs_can_be_read();

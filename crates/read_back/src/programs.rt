@@ -5,7 +5,7 @@ ghost use Rattle.f77_tree.specs.declared.programs.Program.{Program};
 ghost use Rattle.flat_programs.specs.declared.statements.FlatLine.{FlatLine};
 ghost use Rattle.flat_programs.specs.Text.{text};
 ghost use Rattle.read_back.specs.PrintedStatements.{AreReadAs, CanBeText, labelled_from, written_statements};
-ghost use Rattle.read_back.specs.ReadAgain.{IsPrinted};
+ghost use Rattle.read_back.specs.ReadAgain.{HasText};
 ghost use Rattle.read_back.specs.SourceStatements.{CanBeRead, HasStatements, statements_read};
 
 use f77_parse::one_answer;
@@ -30,7 +30,7 @@ pub fn printed_programs_have_their_statements()
 /// A program of flat statements that are few and short enough for a source can have a text and be read, where no array bears a name with
 /// which an intrinsic function is printed.
 pub fn printed_programs_can_be_read()
-    ensures { (p : Program) (flat : List FlatLine) → IsPrinted p flat → CanBeRead p flat }
+    ensures { (p : Program) (flat : List FlatLine) → HasText p flat → CanBeRead p flat }
 {
     executables_tell_statements();
 }
