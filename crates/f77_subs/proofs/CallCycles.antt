@@ -32,10 +32,10 @@ module _ (us : List (List Labelled)) where
 
   -- ---- from walks to calls
 
-  first-call : (e j : ℕ) → e < edge_count g → from g e ≡ j → IsCall us j (to g e)
+  pub first-call : (e j : ℕ) → e < edge_count g → from g e ≡ j → IsCall us j (to g e)
   first-call e j exists begins = subst (λ x. IsCall us x (to g e)) begins (edge-is e exists)
 
-  walk-reaches : (w : List ℕ) (e j k : ℕ) → k < length us → Walk g j (e ∷ w) k → reaches us (suc (length w)) j k ≡ true
+  pub walk-reaches : (w : List ℕ) (e j k : ℕ) → k < length us → Walk g j (e ∷ w) k → reaches us (suc (length w)) j k ≡ true
   walk-reaches [] e j k inside walk =
       let call : IsCall us j (to g e) = first-call e j walk.0 walk.1 in
       let same : to g e ≡ k = walk.2 in
@@ -50,16 +50,16 @@ module _ (us : List (List Labelled)) where
 
   -- ---- from calls to walks
 
-  record HasWalk (j k : ℕ) : Type 0 where
-    first : ℕ
-    rest : List ℕ
-    leads : Walk g j (first ∷ rest) k
+  pub record HasWalk (j k : ℕ) : Type 0 where
+    pub first : ℕ
+    pub rest : List ℕ
+    pub leads : Walk g j (first ∷ rest) k
 
   begun : (j m k : ℕ) → IsEdge j m → (m ≡ k) ⊎ HasWalk m k → HasWalk j k
   begun j m k e (inl same) = record { first = e.edge; rest = []; leads = (e.exists, e.begins, e.ends ∙ same) }
   begun j m k e (inr walk) = record { first = e.edge; rest = walk.first ∷ walk.rest; leads = (e.exists, e.begins, subst (λ x. Walk g x (walk.first ∷ walk.rest) k) (sym e.ends) walk.leads) }
 
-  reach-walk : (d j k : ℕ) → j < length us → reaches us d j k ≡ true → HasWalk j k
+  pub reach-walk : (d j k : ℕ) → j < length us → reaches us d j k ≡ true → HasWalk j k
   reach-walk zero j k inside is = let h : false ≡ true = is in absurd cc
   reach-walk (suc d) j k inside is =
       let chain : Chain us d j k = chain-from us d j k is in
@@ -70,7 +70,7 @@ module _ (us : List (List Labelled)) where
       by {m} true same either more = inl (eqb-true m k same)
       by {m} false apart either more = inr (more either)
 
-  avoids-all : (avoided : ℕ → Bool) → ((e : ℕ) → avoided e ≡ false) → (w : List ℕ) → Avoids avoided w
+  pub avoids-all : (avoided : ℕ → Bool) → ((e : ℕ) → avoided e ≡ false) → (w : List ℕ) → Avoids avoided w
   avoids-all avoided none [] = tt
   avoids-all avoided none (e ∷ w) = (none e, avoids-all avoided none w)
 

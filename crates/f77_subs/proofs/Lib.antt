@@ -16,3 +16,4 @@ mod CountedWidths
 mod CallEdges
 mod CallCycles
 mod GrowingGraph
+mod RunningUnits

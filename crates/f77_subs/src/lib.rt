@@ -4,6 +4,7 @@
 mod call_rows;
 mod laws;
 mod recursion;
+mod running;
 mod splitting;
 mod stand_in;
 mod sub_end;
