@@ -8,7 +8,6 @@ use Rattle.op_table.specs.declared.Trap.{Trap}
 use Rattle.f77_tree.specs.declared.programs.Program.{Program}
 use Rattle.f77_tree.specs.Run as runs
 use Rattle.f77_tree.specs.Run.{Mark, out, source}
-use Rattle.flat_programs.specs.FlatForm.{AreStatementsOf}
 use Rattle.regenerate.specs.declared.ends.RewriteEnd.{RewriteEnd}
 use Rattle.regenerate.specs.declared.ends.RewriteEnd.TheVariants as rewrite_end
 use Rattle.rewriting.specs.Rewritten.{IsRewritten, IsRewrittenText, PassesLimit}
@@ -17,7 +16,7 @@ use Rattle.dfc_driver.specs.declared.run.RunEnd.TheVariants as end
 use Rattle.dfc_driver.specs.declared.status.Status.{Status}
 use Rattle.dfc_driver.specs.declared.status.Status.TheVariants.{Done, Trapped, Limit, WriteFault}
 use Rattle.dfc_driver.specs.Answers.{AnswersAs, IsBegun, IsTold, Tells}
-use Rattle.dfc_driver.specs.Due.{Due, IsDueByEnd, IsDueLimit, IsDueRun, IsDueRegen, IsDueRunOf, IsJust, IsPrinted, due_by_mark, done, stopped, trapped_alone}
+use Rattle.dfc_driver.specs.Due.{Due, IsDueByEnd, IsDueLimit, IsDueRun, IsDueRegen, IsDueRunOf, IsJust, due_by_mark, done, stopped, trapped_alone}
 use Rattle.dfc_driver.specs.Stopping.{IsBrokenOff, IsWritten, end_by}
 use Rattle.dfc_driver.proofs.GameTold.{begun_on, limit_after, told_on}
 
@@ -28,6 +27,22 @@ pub record IsEndOf (p : Program) (checked : Bool) (end : RewriteEnd) : Type 0 wh
   pub names : IsErrOf {T = Program} (Err end) rewrite_end.TooManyNames → PassesLimit p checked rewrite_end.TooManyNames
   pub statements : IsErrOf {T = Program} (Err end) rewrite_end.TooManyStatements → PassesLimit p checked rewrite_end.TooManyStatements
   pub long : IsErrOf {T = Program} (Err end) rewrite_end.LongText → PassesLimit p checked rewrite_end.LongText
+
+-- what an error is doesn't hang on what there is where there is none
+other_error : {T : Type 0} (a b : RewriteEnd) → IsErrOf {T = Program} (Err a) b → IsErrOf {T = T} (Err a) b
+other_error {T} a b is =
+    let e : Err a ≡ Err b = is in
+    let same : a ≡ b = cc in
+    ap (λ (x : RewriteEnd). Err x) same
+
+-- the same of a rewriting that gives a text
+pub end_of_text : {T : Type 0} (p : Program) (checked : Bool) (end : RewriteEnd) → (IsErrOf {T = T} (Err end) rewrite_end.TooManyNames → PassesLimit p checked rewrite_end.TooManyNames) → (IsErrOf {T = T} (Err end) rewrite_end.TooManyStatements → PassesLimit p checked rewrite_end.TooManyStatements) → (IsErrOf {T = T} (Err end) rewrite_end.LongText → PassesLimit p checked rewrite_end.LongText) → IsEndOf p checked end
+end_of_text p checked end names statements long =
+    record {
+      names = λ is. names (other_error end rewrite_end.TooManyNames is);
+      statements = λ is. statements (other_error end rewrite_end.TooManyStatements is);
+      long = λ is. long (other_error end rewrite_end.LongText is);
+    }
 
 pub limit_due : (p : Program) (checked : Bool) (end : RewriteEnd) → IsEndOf p checked end → (due : Due) → IsDueByEnd end due → IsDueLimit p checked due
 limit_due p checked rewrite_end.TooManyNames is due told = record { end = rewrite_end.TooManyNames; passes = is.names refl; is = told }

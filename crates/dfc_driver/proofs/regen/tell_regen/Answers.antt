@@ -1,5 +1,7 @@
+use Rattle.std.proofs.Common.{List, ℕ, subst, sym}
+use Rattle.rewriting.specs.Rewritten.{IsRewrittenText}
 use Rattle.dfc_driver.specs.Due.{IsDueByEnd, IsDueRegen, IsJust, done}
-use Rattle.dfc_driver.proofs.FormsTold.{IsEndOf, no_form_due, rewritten_text_due}
+use Rattle.dfc_driver.proofs.FormsTold.{end_of_text, no_form_due, rewritten_text_due}
 use Rattle.dfc_driver.proofs.GameTold.{answers_more}
 use Rattle.dfc_driver.proofs.regen.tell_regen.Goals as goal
 
@@ -7,16 +9,16 @@ pub returns-in-Ok-clause-due : goal.returns-in-Ok-clause-due
 returns-in-Ok-clause-due g c =
     let p = c.args.program.now in
     let checked = c.args.checked in
-    let text = c.in-Ok.text.items in
-    let told = c.tell_text.ensures.tells in
+    let text = c.as_slice.result.now in
+    let is = subst (λ (bytes : List ℕ). IsRewrittenText p checked bytes) (sym c.as_slice.ensures.value) c.in-Ok.ensures.text in
     answers_more (IsJust (done text)) (IsDueRegen p checked) (g.K.Sink.got c.args.sink.now) (g.K.Sink.got c.tell_text.new.sink) c.tell_text.result
-    (λ due is. rewritten_text_due p checked text c.in-Ok.ensures.text due is) told.answers
+    (λ due told. rewritten_text_due p checked text is due told) c.tell_text.ensures.tells.answers
 
 pub returns-in-Err-clause-due : goal.returns-in-Err-clause-due
 returns-in-Err-clause-due g c =
     let p = c.args.program.now in
     let checked = c.args.checked in
     let end = c.in-Err.end in
-    let is : IsEndOf p checked end = record { names = c.in-Err.ensures.names; statements = c.in-Err.ensures.statements; long = c.in-Err.ensures.long } in
+    let is = end_of_text p checked end c.in-Err.ensures.names c.in-Err.ensures.statements c.in-Err.ensures.long in
     answers_more (IsDueByEnd end) (IsDueRegen p checked) (g.K.Sink.got c.args.sink.now) (g.K.Sink.got c.tell_end.new.sink) c.tell_end.result
     (λ due told. no_form_due p checked end is due told) c.tell_end.ensures.due
