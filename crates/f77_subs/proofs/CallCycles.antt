@@ -1,5 +1,5 @@
 -- A unit calls itself, through any number of calls, exactly where it stands on a cycle of the graph of CALLs.
-use Rattle.std.proofs.Common.{◌≡◌, ℕ, zero, suc, ◌+◌, ◌<◌, ◌==◌, ◌⊎◌, ◌↔◌, Bool, true, false, ◌||◌, List, [], ◌∷◌, length, get_or, replicate, slice_index_or, inl, inr, refl, sym, ap, subst, ◌∙◌, arith}
+use Rattle.std.proofs.Common.{◌≡◌, ℕ, zero, suc, ◌+◌, ◌<◌, ◌==◌, ◌⊎◌, ◌↔◌, Bool, true, false, ◌||◌, List, [], ◌∷◌, length, replicate, slice_index_or, inl, inr, refl, sym, subst, ◌∙◌, arith}
 use Rattle.std.proofs.lemmas.Bool.{eq-eqb, eqb-true}
 use Rattle.std.proofs.lemmas.Bool.Decides.{same_from_decides}
 use Rattle.closed_walks.specs.Graph.{Graph, edge_count, from, to}
@@ -10,7 +10,7 @@ use Rattle.f77_subs.specs.Units.{calls, reaches}
 use Rattle.f77_subs.specs.CallGraph.{call_graph}
 use Rattle.f77_subs.proofs.Counting.{or-left, or-right}
 use Rattle.f77_subs.proofs.CallReach.{Chain, chain-from, reach-by, reach-few}
-use Rattle.f77_subs.proofs.CallEdges.{IsCall, edge-calls, HasEdge, call-edge}
+use Rattle.f77_subs.proofs.CallEdges.{IsCall, edge-calls, call-edge}
 
 module _ (us : List (List Labelled)) where
   abbrev g : Graph

@@ -1,16 +1,15 @@
 -- The edges of the graph of CALLs: one leads from a unit to each unit that it calls, and there are no others.
-use Rattle.std.proofs.Common.{◌≡◌, ℕ, zero, suc, ◌+◌, ◌<◌, ◌≤◌, ◌==◌, Bool, true, false, ◌&&◌, ◌||◌, List, [], ◌∷◌, ◌++◌, map, length, get_or, take, sum_by, Option, Some, None, refl, sym, ap, subst, ◌∙◌, arith}
+use Rattle.std.proofs.Common.{◌≡◌, ℕ, ◌+◌, ◌<◌, ◌==◌, Bool, true, false, ◌&&◌, ◌||◌, List, [], ◌∷◌, ◌++◌, length, get_or, Option, Some, None, refl, sym, ap, subst, ◌∙◌, arith}
 use Rattle.std.specs.Prelude.{flat_map}
 use Rattle.std.specs.List.{list_any, range_with_len}
 use Rattle.std.proofs.lemmas.Bool.{and_parts, and_from, eq-eqb, eqb-true}
-use Rattle.std.proofs.lemmas.List.{length-map}
 use Rattle.std.proofs.lemmas.List.Concat.{flat_map-cons}
 use Rattle.std.proofs.lemmas.List.Folds.{list_any_at, list_any-append}
 use Rattle.std.proofs.lemmas.List.FromFn.{get_or-range_with_len, length-range_with_len}
 use Rattle.f77_tree.specs.declared.statements.Labelled.{Labelled}
 use Rattle.f77_subs.specs.Units.{Call, call_in, calls, calls_unit, unit_at, unit_of}
 use Rattle.f77_subs.specs.CallTable.{callee_of, callees}
-use Rattle.f77_subs.specs.CallGraph.{edges_from, calls_from, calls_below_unit, call_graph}
+use Rattle.f77_subs.specs.CallGraph.{edges_from, calls_from, calls_below_unit}
 use Rattle.f77_subs.proofs.Counting.{Found, any-found}
 
 -- whether a pair leads from j to k

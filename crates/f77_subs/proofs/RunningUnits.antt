@@ -1,9 +1,9 @@
 -- A unit runs exactly where the main program reaches it in the graph of CALLs.
-use Rattle.std.proofs.Common.{◌≡◌, ℕ, suc, ◌+◌, ◌<◌, ◌==◌, ◌⊎◌, ◌↔◌, Bool, true, false, ◌||◌, List, [], ◌∷◌, length, slice_index_or, inl, inr, ⊎_elim, refl, sym, subst, arith}
+use Rattle.std.proofs.Common.{◌≡◌, ℕ, suc, ◌<◌, ◌==◌, ◌⊎◌, ◌↔◌, Bool, true, false, ◌||◌, List, [], ◌∷◌, length, slice_index_or, inl, inr, ⊎_elim, refl, sym, subst, arith}
 use Rattle.std.proofs.lemmas.Bool.{eq-eqb, eqb-true}
 use Rattle.std.proofs.lemmas.Bool.Decides.{same_from_decides}
 use Rattle.closed_walks.specs.Graph.{Graph}
-use Rattle.closed_walks.specs.Walk.{Walk, Avoids, Reach, no_edge}
+use Rattle.closed_walks.specs.Walk.{Walk, Reach, no_edge}
 use Rattle.f77_tree.specs.declared.statements.Labelled.{Labelled}
 use Rattle.f77_subs.specs.Units.{reaches, runs}
 use Rattle.f77_subs.specs.CallGraph.{call_graph}

@@ -1,4 +1,4 @@
-use Rattle.std.proofs.Common.{◌≡◌, ◌++◌, map, take, length, ap, arith, length-append}
+use Rattle.std.proofs.Common.{◌≡◌, ◌++◌, take, length, ap, arith, length-append}
 use Rattle.closed_walks.specs.Graph.{edge_count}
 use Rattle.f77_tree.specs.declared.statements.Stmt.{Stmt}
 use Rattle.f77_subs.specs.Units.{call_by, call_in}

@@ -1,4 +1,4 @@
-use Rattle.std.proofs.Common.{◌≡◌, take, map, ◌++◌}
+use Rattle.std.proofs.Common.{◌≡◌, take, ◌++◌}
 use Rattle.f77_subs.specs.CallTable.{callees}
 use Rattle.f77_subs.specs.CallGraph.{edges_from}
 use Rattle.f77_subs.proofs.recursion.add_calls.Given as goal
