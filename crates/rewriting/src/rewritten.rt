@@ -1,6 +1,6 @@
 //! The rewritten form of a program.
 
-ghost use Rattle.std.specs.Prelude.{IfOk, IsErrOf};
+ghost use Rattle.std.specs.Prelude.{◌≡◌, IfOk, IsErrOf};
 ghost use Rattle.f77_tree.specs.WellFormed.{IsWellFormed};
 ghost use Rattle.alias_classes.specs.Classes.{IsClasses};
 ghost use Rattle.alias_classes.specs.Number.{HasFewClasses};
@@ -8,11 +8,11 @@ ghost use Rattle.flat_programs.specs.FlatForm.{IsFlatProgram};
 ghost use Rattle.rewriting.specs.Rewritten.{HasManySimplifiedOf, IsRefusedOf, IsRewritten, IsRewrittenText, IsSharedOf, IsSharedTextOf, IsSimplifiedOf, PassesLimit};
 
 use alias_classes::{CLASS_WORDS, ClassEnd, Classes, classes_of};
-use cfg_build::flow_of;
+use cfg_build::{Flow, flow_of};
 use const_prop::{constants, own_touches_route};
 use df_sequence::NoMemory;
 use f77_tree::Program;
-use flow_analysis::analyze;
+use flow_analysis::{Analysis, analyze};
 use redundancy::available;
 use regenerate::{
     FlatEnd, RewriteEnd, share, share_text, shared_programs_are_flat, simplified_programs_are_flat,
@@ -85,7 +85,24 @@ fn simplified(alloc: Global, p: &Program, checked: bool) -> Result<Program, Flat
         &found.touch,
         &found.lines,
     )?;
-    simplify(alloc, p, &found.flow, &found.classes, &table, checked)
+    let (flow, classes) = flow_and_classes(found);
+    simplify(alloc, p, &flow, &classes, &table, checked)
+}
+
+// The flow graph and the alias classes of an analysis. The rest of it is given back, since the simplified form may take as much memory.
+fn flow_and_classes<'a>(found: Analysis<'a>) -> (Flow, Classes<'a, CLASS_WORDS>)
+    ensures flow { result.0 ≡ found.entry.flow }
+    ensures classes { result.1 ≡ found.entry.classes }
+{
+    let Analysis {
+        flow,
+        edge_classes: _edge_classes,
+        tree: _tree,
+        classes,
+        touch: _touch,
+        lines: _lines,
+    } = found;
+    (flow, classes)
 }
 
 // The shared form of a flat program by its own available expressions.
