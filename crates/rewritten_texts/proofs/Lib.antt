@@ -1,0 +1,5 @@
+mod FlatDialects
+mod FoldedDialects
+mod RewrittenDialects
+mod SharedDialects
+mod SimplifiedDialects
