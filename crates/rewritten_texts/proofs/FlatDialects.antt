@@ -1,5 +1,5 @@
 -- Flat statements are of the dialect of which their executables are.
-use Rattle.std.proofs.Common.{◌≡◌, ◌⊎◌, inl, inr, ⊎_elim, ℕ, ◌+◌, Bool, true, false, List, get_or, All, Option, Some, None, sym, subst}
+use Rattle.std.proofs.Common.{◌≡◌, ⊎_elim, ℕ, ◌+◌, Bool, true, false, List, get_or, All, Some, None, subst}
 use Rattle.std.specs.Prelude.{if◌then◌else◌, slice_get}
 use Rattle.std.proofs.lemmas.Option.{slice_get-get_or}
 use Rattle.f77_tree.specs.declared.programs.Exec.{Exec}

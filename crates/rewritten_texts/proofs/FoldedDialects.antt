@@ -1,15 +1,12 @@
 -- Folded expressions keep to their dialect, and so does what is left of executables.
-use Rattle.std.proofs.Common.{◌≡◌, ℕ, suc, ℤ, pos, negsuc, Bool, true, false, List, [], ◌∷◌, ◌++◌, map, All, Option, Some, None, refl}
-use Rattle.std.specs.Prelude.{◌==◌, if◌then◌else◌, flat_map, slice_get}
-use Rattle.std.specs.List.{range_with_len}
-use Rattle.std.proofs.lemmas.List.Elements.{All-append, All-map}
-use Rattle.std.proofs.lemmas.Option.{slice_get-get_or}
+use Rattle.std.proofs.Common.{◌≡◌, ℕ, suc, ℤ, pos, negsuc, Bool, true, false, List, [], ◌∷◌, map, All, Option, Some, None, refl}
+use Rattle.std.specs.Prelude.{◌==◌, if◌then◌else◌, flat_map}
+use Rattle.std.proofs.lemmas.List.Elements.{All-append}
 use Rattle.f77_tree.specs.declared.declarations.Kind.{Kind}
 use Rattle.f77_tree.specs.declared.declarations.Kind.TheVariants.{Integer, Logical}
 use Rattle.f77_tree.specs.declared.expressions.Access.{Access}
 use Rattle.f77_tree.specs.declared.expressions.Expr.{Expr, Row_of-Expr, end_of-Expr, more_of-Expr}
 use Rattle.f77_tree.specs.declared.expressions.Expr.TheVariants.{Const, Truth, Input, Read, Read', Apply, Apply'}
-use Rattle.f77_tree.specs.declared.programs.Exec.{Exec}
 use Rattle.f77_tree.specs.declared.programs.ExecKind.{ExecKind}
 use Rattle.f77_tree.specs.declared.programs.ExecKind.TheVariants.{Assign, Print, Pass, Test, Sign, Pick, DoStart, DoNext, End}
 use Rattle.f77_tree.specs.declared.programs.Item.{Item}
@@ -22,8 +19,8 @@ use Rattle.f77_tree.specs.Line.{kind_of_expression}
 use Rattle.f77_tree.proofs.AllLemmas.{All-nil, All-cons, All-first, All-rest}
 use Rattle.f77_tree.proofs.DialectLaws.{Apply-dialect, Read-dialect}
 use Rattle.flat_programs.specs.declared.statements.Flat.{Flat}
-use Rattle.regenerate.specs.Folding.{folded, folded_access, folded_item, row_folded}
-use Rattle.regenerate.specs.Literals.{minus, difference, negative, least_literal, negative_literal, integer_literal, literal, literal_or}
+use Rattle.regenerate.specs.Folding.{folded, folded_item, row_folded}
+use Rattle.regenerate.specs.Literals.{minus, difference, negative, least_literal, integer_literal, literal, literal_or}
 use Rattle.regenerate.specs.Simplified.{left_of}
 use Rattle.rewritten_texts.proofs.FlatDialects.{FlatHasDialect}
 

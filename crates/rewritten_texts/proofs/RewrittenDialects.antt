@@ -1,11 +1,9 @@
 -- The rewritten form of a program is of the dialect of the program.
-use Rattle.std.proofs.Common.{◌≡◌, Bool, List, All, sym, ap, subst}
-use Rattle.f77_tree.specs.declared.programs.Exec.{Exec}
+use Rattle.std.proofs.Common.{Bool, All, sym, subst}
 use Rattle.f77_tree.specs.declared.programs.Program.{Program}
 use Rattle.f77_tree.specs.Dialects.{IsOfDialect}
 use Rattle.cfg_build.specs.Flow.{flow}
-use Rattle.flat_programs.specs.Executables.{executables, program_of}
-use Rattle.regenerate.specs.Shared.{shared_flat, shared_program}
+use Rattle.regenerate.specs.Shared.{shared_flat}
 use Rattle.rewriting.specs.Rewritten.{IsRewritten, IsSharedOf, IsSimplifiedOf}
 use Rattle.rewritten_texts.proofs.FlatDialects.{StandFirst, AreOnly, LineHasDialect, ExecIsOfDialect, flat-dialect, executables-dialect}
 use Rattle.rewritten_texts.proofs.SimplifiedDialects.{simplified-dialect}

@@ -1,6 +1,6 @@
 -- The statements of the shared form of a flat program are of the dialect of the program.
-use Rattle.std.proofs.Common.{◌≡◌, ℕ, Bool, true, false, List, [], ◌∷◌, ◌++◌, length, map, All, Option, Some, None, refl}
-use Rattle.std.specs.Prelude.{if◌then◌else◌, flat_map, slice_get}
+use Rattle.std.proofs.Common.{◌≡◌, ℕ, Bool, true, false, List, [], ◌∷◌, length, map, All, Option, Some, None, refl}
+use Rattle.std.specs.Prelude.{if◌then◌else◌, slice_get}
 use Rattle.std.specs.List.{range_with_len}
 use Rattle.std.proofs.lemmas.List.Elements.{All-append, All-contains}
 use Rattle.f77_tree.specs.declared.expressions.Access.{Access}
@@ -17,7 +17,6 @@ use Rattle.f77_tree.proofs.DialectLaws.{Apply-dialect, Read-dialect}
 use Rattle.cfg_build.specs.declared.pieces.Piece.{Piece}
 use Rattle.cfg_build.specs.declared.pieces.PieceKind.{PieceKind}
 use Rattle.cfg_build.specs.declared.pieces.PieceKind.TheVariants.{Start, Join, Act, Pass, Branch, Hold, End}
-use Rattle.cfg_build.specs.Flow.{flow}
 use Rattle.cfg_build.specs.Joined.{FlowGraph}
 use Rattle.flat_programs.specs.declared.statements.Flat.{Flat}
 use Rattle.flat_programs.specs.declared.statements.Flat.TheVariants.{Mark, Assignment, Output, LogicalIf, ArithmeticIf, ComputedGoTo, DoLoop, Jump, Finish}
@@ -26,8 +25,8 @@ use Rattle.flat_programs.specs.Executables.{first_of}
 use Rattle.redundancy.specs.Available.{Availability}
 use Rattle.redundancy.specs.Candidates.{subexpressions, row_subexpressions}
 use Rattle.redundancy.specs.Computed.{all_computed, computed_by, evaluated, expressions, in_item, kind_of_piece, selectors, AreCandidates}
-use Rattle.regenerate.specs.Shared.{candidate, due, expression_in, is_shared, kept_value, replaced, replaced_access, replaced_in, replaced_item, row_replaced, scalar, shared_flat, shared_lines, temporary, temporary_or}
-use Rattle.rewritten_texts.proofs.FlatDialects.{FlatHasDialect, LineHasDialect, ExecIsOfDialect}
+use Rattle.regenerate.specs.Shared.{due, expression_in, is_shared, kept_value, replaced, replaced_in, replaced_item, row_replaced, scalar, shared_flat, shared_lines, temporary, temporary_or}
+use Rattle.rewritten_texts.proofs.FlatDialects.{FlatHasDialect, LineHasDialect}
 use Rattle.rewritten_texts.proofs.FoldedDialects.{all-flat_map, all-map, all-one}
 use Rattle.rewritten_texts.proofs.SimplifiedDialects.{Anything, anything, at-dialect}
 

@@ -1,6 +1,6 @@
 -- The statements of the simplified form of a program are of the dialect of the program.
 use Rattle.std.proofs.Common.{◌≡◌, ℕ, Bool, true, false, List, [], ◌∷◌, ◌++◌, length, map, All, Option, Some, None, refl}
-use Rattle.std.specs.Prelude.{if◌then◌else◌, flat_map, slice_get}
+use Rattle.std.specs.Prelude.{if◌then◌else◌, slice_get}
 use Rattle.std.specs.List.{range_with_len}
 use Rattle.std.proofs.lemmas.List.Elements.{All-append}
 use Rattle.f77_tree.specs.declared.programs.Exec.{Exec}
