@@ -1,4 +1,4 @@
-ghost use Rattle.std.specs.Prelude.{◌≡◌, ◌<◌, [], ◌∷◌, ◌++◌, All, length, IsTrue, ◌↔◌, ◌^◌, slice_get, slice_index_or, option_to_list, IfNone, OnOk, OnErr};
+ghost use Rattle.std.specs.Prelude.{◌≡◌, ◌<◌, [], ◌∷◌, ◌++◌, All, length, IsTrue, ◌↔◌, ◌^◌, slice_get, slice_index_or, option_to_list, IfNone, IfOk, OnOk, OnErr};
 
 use crate::{Copied, NoMemory};
 use std::alloc::Global;
@@ -44,6 +44,15 @@ impl<T> Sequence<T> {
         Sequence {
             items: Vec::new(alloc),
         }
+    }
+
+    /// An empty sequence with memory for this many items: as many pushes take no more.
+    pub fn with_capacity(alloc: Global, room: u32) -> Result<Self, NoMemory>
+        ensures { IfOk result (λ made. made ≡ []) }
+    {
+        Ok(Sequence {
+            items: Vec::with_capacity(alloc, room as usize)?,
+        })
     }
 
     /// How many items there are.
