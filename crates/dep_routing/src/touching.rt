@@ -71,7 +71,7 @@ pub fn touches_by<const W: usize>(
     let ends = round_ends(alloc, p, f)?;
     let rounds = on_cycles(alloc, f.graph(), &ends)?;
     pieces_run_executables();
-    let mut list = Sequence::new(alloc);
+    let mut list = Sequence::with_capacity(alloc, f.pieces() as usize)?;
     for node in 0..f.pieces() {
         let piece = f.piece(node);
         let may = is_flagged(may_trap, piece.exec);

@@ -47,11 +47,11 @@ impl<T> Sequence<T> {
     }
 
     /// An empty sequence with memory for this many items: as many pushes take no more.
-    pub fn with_capacity(alloc: Global, room: u32) -> Result<Self, NoMemory>
+    pub fn with_capacity(alloc: Global, room: usize) -> Result<Self, NoMemory>
         ensures { IfOk result (λ made. made ≡ []) }
     {
         Ok(Sequence {
-            items: Vec::with_capacity(alloc, room as usize)?,
+            items: Vec::with_capacity(alloc, room)?,
         })
     }
 

@@ -14,7 +14,7 @@ use std::alloc::Global;
 fn one(alloc: Global, op: Op, operand: RawExpr) -> Result<RawExpr, NoMemory>
     ensures { IfOk result (λ e. e ≡ Apply op (operand ∷ [])) }
 {
-    let mut operands = Sequence::new(alloc);
+    let mut operands = Sequence::with_capacity(alloc, 1)?;
     operands.push(operand)?;
     Ok(RawExpr::Apply(op, operands))
 }
@@ -23,7 +23,7 @@ fn one(alloc: Global, op: Op, operand: RawExpr) -> Result<RawExpr, NoMemory>
 pub(crate) fn two(alloc: Global, op: Op, left: RawExpr, right: RawExpr) -> Result<RawExpr, NoMemory>
     ensures { IfOk result (λ e. e ≡ Apply op (left ∷ right ∷ [])) }
 {
-    let mut operands = Sequence::new(alloc);
+    let mut operands = Sequence::with_capacity(alloc, 2)?;
     operands.push(left)?;
     operands.push(right)?;
     Ok(RawExpr::Apply(op, operands))

@@ -57,7 +57,7 @@ fn all(maker: &Maker) -> Result<ExecList, NoMemory>
     requires usable { All (IsUsable maker.now.stmts.now) maker.now.stmts.now }
     ensures { IfOk result (λ execs. execs ≡ executables maker.now.names.now maker.now.checked maker.now.stmts.now) }
 {
-    let mut execs = Sequence::new(maker.alloc);
+    let mut execs = Sequence::with_capacity(maker.alloc, maker.stmts.len())?;
     for place in 0..maker.stmts.len() {
         maker.statement(&mut execs, place)?;
     }
@@ -168,7 +168,7 @@ impl Maker<'_> {
     fn items(&self, items: &RawItemList) -> Result<ItemList, NoMemory>
         ensures { IfOk result (λ list. list ≡ map (resolved_item self.now.names.now self.now.checked) items.now) }
     {
-        let mut list = Sequence::new(self.alloc);
+        let mut list = Sequence::with_capacity(self.alloc, items.len() as usize)?;
         for item in items.as_slice() {
             list.push(resolve_item(self.alloc, self.names, self.checked, item)?)?;
         }
@@ -180,7 +180,7 @@ impl Maker<'_> {
         requires { IsFlow self.now.stmts.now self.now.flow.now }
         ensures { IfOk result (λ list. list ≡ map (labelled self.now.stmts.now) labels.now) }
     {
-        let mut list = Sequence::new(self.alloc);
+        let mut list = Sequence::with_capacity(self.alloc, labels.len() as usize)?;
         for label in labels.as_slice() {
             list.push(self.flow.labelled(self.stmts, *label))?;
         }
@@ -216,7 +216,7 @@ impl Maker<'_> {
         ensures { IfOk result (λ value. value ≡ taken_as (kind_or_integer (kind_in self.now.names.now target.now))) }
     {
         if let Some(Kind::Logical) = kind_of(self.names, target) {
-            let mut input = Sequence::new(self.alloc);
+            let mut input = Sequence::with_capacity(self.alloc, 1)?;
             input.push(Expr::Input)?;
             return Ok(Expr::Apply(Op::Truth, input));
         }

@@ -45,7 +45,7 @@ fn resolve_row(
 ) -> Result<ExprList, NoMemory>
     ensures { IfOk result (λ row. row ≡ map (resolved names.now checked) args.now) }
 {
-    let mut row = Sequence::new(alloc);
+    let mut row = Sequence::with_capacity(alloc, args.len() as usize)?;
     for arg in args.as_slice() {
         row.push(resolve(alloc, names, checked, arg)?)?;
     }
@@ -88,7 +88,7 @@ fn resolve_nested(
 ) -> Result<Expr, NoMemory>
     ensures { IfOk result (λ resolution. resolution ≡ nested op (map (resolved names.now checked) args.now)) }
 {
-    let mut operands = Sequence::new(alloc);
+    let mut operands = Sequence::with_capacity(alloc, args.len() as usize)?;
     for arg in args.as_slice() {
         let operand = resolve(alloc, names, checked, arg)?;
         operands = with_operand(alloc, op, operands, operand)?;
@@ -109,7 +109,7 @@ fn with_operand(
         operands.push(operand)?;
         return Ok(operands);
     }
-    let mut pair = Sequence::new(alloc);
+    let mut pair = Sequence::with_capacity(alloc, 2)?;
     pair.push(Expr::Apply(op, operands))?;
     pair.push(operand)?;
     Ok(pair)

@@ -88,7 +88,7 @@ fn parsed(alloc: Global, raws: &RawStmtList) -> Result<LabelledList, SourceEnd>
     ensures read { IsReadAs (statements_of raws.now) result }
     ensures source { IfOk result (λ stmts. IsSource stmts) }
 {
-    let mut stmts = Sequence::new(alloc);
+    let mut stmts = Sequence::with_capacity(alloc, raws.len() as usize)?;
     for raw in raws.as_slice() {
         match parse_stmt(alloc, raw) {
             Err(end) => return Err(stmt_refused(end)),

@@ -91,7 +91,7 @@ impl Copied for Expr {
             Expr::Input => Ok(Expr::Input),
             Expr::Read(access) => Ok(Expr::Read(access.copy(alloc)?)),
             Expr::Apply(op, args) => {
-                let mut copied = Sequence::new(alloc);
+                let mut copied = Sequence::with_capacity(alloc, args.len() as usize)?;
                 for arg in args.as_slice() {
                     copied.push(arg.copy(alloc)?)?;
                 }
@@ -104,7 +104,7 @@ impl Copied for Expr {
 impl Copied for Access {
     #[cycle(copies)]
     fn copy(&self, alloc: Global) -> Result<Access, NoMemory> {
-        let mut copied = Sequence::new(alloc);
+        let mut copied = Sequence::with_capacity(alloc, self.subs.len() as usize)?;
         for sub in self.subs.as_slice() {
             copied.push(sub.copy(alloc)?)?;
         }
@@ -245,14 +245,14 @@ impl Copied for RawExpr {
             RawExpr::Truth(b) => Ok(RawExpr::Truth(*b)),
             RawExpr::Named(name) => Ok(RawExpr::Named(name.copy(alloc)?)),
             RawExpr::Call(name, args) => {
-                let mut copied = Sequence::new(alloc);
+                let mut copied = Sequence::with_capacity(alloc, args.len() as usize)?;
                 for arg in args.as_slice() {
                     copied.push(arg.copy(alloc)?)?;
                 }
                 Ok(RawExpr::Call(name.copy(alloc)?, copied))
             }
             RawExpr::Apply(op, operands) => {
-                let mut copied = Sequence::new(alloc);
+                let mut copied = Sequence::with_capacity(alloc, operands.len() as usize)?;
                 for operand in operands.as_slice() {
                     copied.push(operand.copy(alloc)?)?;
                 }

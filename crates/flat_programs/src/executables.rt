@@ -48,7 +48,7 @@ pub fn executables_of(alloc: Global, flat: &FlatList) -> Result<ExecList, NoMemo
     ensures { IfOk result (λ execs. execs ≡ executables flat.now) }
 {
     let flow = Flow::of(alloc, flat)?;
-    let mut execs = Sequence::new(alloc);
+    let mut execs = Sequence::with_capacity(alloc, flat.len() as usize)?;
     for place in 0..flat.len() {
         append_executables(alloc, flat, &flow, place, &mut execs)?;
     }
@@ -243,7 +243,7 @@ fn marked_targets(
     requires { IsFlow flat.now flow.now }
     ensures { IfOk result (λ marked. marked ≡ map (executable_of_mark flat.now) targets.now) }
 {
-    let mut marked = Sequence::new(alloc);
+    let mut marked = Sequence::with_capacity(alloc, targets.len() as usize)?;
     for number in targets.as_slice() {
         marked.push(flow.marked(flat, *number))?;
     }

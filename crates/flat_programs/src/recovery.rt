@@ -22,7 +22,7 @@ fn statements_of(alloc: Global, execs: &ExecList) -> Result<FlatList, NoMemory>
     ensures { IfOk result (λ flat. flat ≡ recovered execs.now) }
 {
     let counts = mark_counts(alloc, execs)?;
-    let mut flat = Sequence::new(alloc);
+    let mut flat = Sequence::with_capacity(alloc, execs.len() as usize)?;
     for k in 0..execs.len() {
         append_statement(alloc, execs, &counts, k, &mut flat)?;
     }

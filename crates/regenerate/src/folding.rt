@@ -154,8 +154,8 @@ pub(crate) fn fold_all<const W: usize>(
     ensures trees { IfOk result (λ f. f.trees ≡ map (folded p.now.names checked (words_on c.now (knowns_of t.now) edge)) es.now) }
     ensures known { IfOk result (λ f. f.known.items ≡ map (known_with p.now.names (words_on c.now (knowns_of t.now) edge)) es.now) }
 {
-    let mut trees = Sequence::new(alloc);
-    let mut known = Vec::new(alloc);
+    let mut trees = Sequence::with_capacity(alloc, es.len() as usize)?;
+    let mut known = Vec::with_capacity(alloc, es.len() as usize)?;
     for e in es.as_slice() {
         let f = fold_expr(alloc, p, c, t, checked, edge, e)?;
         trees.push(f.tree)?;

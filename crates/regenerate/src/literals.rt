@@ -35,7 +35,7 @@ fn integer_literal(alloc: Global, checked: bool, z: i32) -> Result<Expr, NoMemor
 fn least_word(alloc: Global, checked: bool) -> Result<Expr, NoMemory>
     ensures { IfOk result (λ e. e ≡ least_literal checked) }
 {
-    let mut operands = Sequence::new(alloc);
+    let mut operands = Sequence::with_capacity(alloc, 2)?;
     operands.push(negative(alloc, checked, i32::MAX)?)?;
     operands.push(Expr::Const(1))?;
     Ok(Expr::Apply(difference(checked), operands))
@@ -46,7 +46,7 @@ fn negative(alloc: Global, checked: bool, n: i32) -> Result<Expr, NoMemory>
     requires { pos 0 <ℤ n }
     ensures { IfOk result (λ e. e ≡ spec_negative checked (nat_abs n)) }
 {
-    let mut operands = Sequence::new(alloc);
+    let mut operands = Sequence::with_capacity(alloc, 1)?;
     operands.push(Expr::Const(n))?;
     Ok(Expr::Apply(minus(checked), operands))
 }

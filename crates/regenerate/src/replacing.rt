@@ -50,7 +50,7 @@ fn replace_all(alloc: Global, t: &Temporaries, es: &ExprList) -> Result<ExprList
     requires { AreTemporaries t.now.q.now t.now.a.now t.now.names.now }
     ensures { IfOk result (λ xs. xs ≡ map (replaced t.now.q.now t.now.a.now (number_of t.now.a.now)) es.now) }
 {
-    let mut all = Sequence::new(alloc);
+    let mut all = Sequence::with_capacity(alloc, es.len() as usize)?;
     for e in es.as_slice() {
         all.push(replace(alloc, t, e)?)?;
     }
@@ -107,7 +107,7 @@ fn replace_items(alloc: Global, t: &Temporaries, items: &ItemList) -> Result<Ite
     requires { AreTemporaries t.now.q.now t.now.a.now t.now.names.now }
     ensures { IfOk result (λ xs. xs ≡ map (replaced_item t.now.q.now t.now.a.now (number_of t.now.a.now)) items.now) }
 {
-    let mut all = Sequence::new(alloc);
+    let mut all = Sequence::with_capacity(alloc, items.len() as usize)?;
     for item in items.as_slice() {
         all.push(replace_item(alloc, t, item)?)?;
     }

@@ -84,7 +84,7 @@ fn reversed(alloc: Global, flat: FlatList) -> Result<FlatList, NoMemory>
     ensures { IfOk result (λ turned. reverse turned ≡ flat) }
 {
     let mut rest = flat;
-    let mut turned = Sequence::new(alloc);
+    let mut turned = Sequence::with_capacity(alloc, rest.len() as usize)?;
     while let Some(l) = rest.pop() {
         turned.push(l)?;
     }

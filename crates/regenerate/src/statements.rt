@@ -36,7 +36,7 @@ pub(crate) fn statements<'a, const W: usize>(
     ensures few { IfOk result (λ flat. length flat < 2 ^ 31) }
     ensures flat { IfOk result (λ flat. flat ≡ all_lines p.now c.now (knowns_of t.now) checked (answer plan.now.ways.items.items)) }
 {
-    let mut flat = Sequence::new(alloc);
+    let mut flat = Sequence::with_capacity(alloc, p.execs.len() as usize)?;
     for k in 0..p.execs.len() {
         let edge = plan.edges[k as usize];
         let scene = Scene {
