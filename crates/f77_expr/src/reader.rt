@@ -191,7 +191,7 @@ impl<'a> Reader<'a> {
         requires room { length self.old.rest.now < 4294967296 }
         ensures { Answers (λ es. AreRead self.old.rest.now self.old.has_great (arguments_at self.old.rest.now) es self.new.rest.now self.new.has_great) (arguments_at self.old.rest.now ≡ None) result }
     {
-        let mut list = Sequence::new(alloc);
+        let mut list = Sequence::with_capacity(alloc, 2)?;
         list.push(self.expression(alloc, 0)?)?;
         while self.passes(b',') {
             list.push(self.expression(alloc, 0)?)?;

@@ -32,7 +32,7 @@ impl<'a> Reader<'a> {
         ensures gives { Gives (kept_list P.kept self.old.is_bad self.old.rest.now) result self.new.is_bad self.new.rest.now }
         ensures shorter { Shortens result self.old.rest.now self.new.rest.now }
     {
-        let mut list = Sequence::new(alloc);
+        let mut list = Sequence::with_capacity(alloc, 2)?;
         list.push(P::read(self, alloc)?)?;
         while self.passes_comma() {
             list.push(P::read(self, alloc)?)?;
