@@ -4,6 +4,7 @@
 use buffered_sink::{Buffer, BufferedSink};
 use df_io::{Failed, StdSink, StdSource};
 use dfc_driver::dfc_main;
+use std::alloc::{AllocError, Global};
 use std::process::ExitCode;
 use std::{env, io};
 
@@ -16,11 +17,22 @@ const NO_MEMORY: u8 = 7;
 // Standard output failed.
 const WRITE_FAULT: u8 = 6;
 
+// How large the block is that `keep_memory` takes, in bytes.
+const KEPT: usize = 16 << 20;
+
 fn main(rt: HostRuntime) -> ExitCode {
+    keep_memory(rt.alloc());
     match arguments(&rt) {
         Ok(words) => ExitCode::from(do_words(&rt, &words)),
         Err(status) => ExitCode::from(status),
     }
+}
+
+// Takes a large block and gives it back. The C library then keeps blocks up to this size that are given back, and hands them out again,
+// where it would return each block of some pages to the system and pay for the pages of the next one anew. No page of the block itself is
+// touched. Where it can't be had, nothing changes.
+fn keep_memory(alloc: Global) {
+    let _block: Result<Vec<u8>, AllocError> = Vec::with_capacity(alloc, KEPT);
 }
 
 // Does what the words ask for on standard input and output, and answers the status to end with. Output goes out in pieces of 64 KiB,
