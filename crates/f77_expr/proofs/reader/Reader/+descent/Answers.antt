@@ -15,8 +15,8 @@ pub arguments-returns-in_err-expression : goal.arguments-returns-in_err-expressi
 arguments-returns-in_err-expression t c =
     let text = c.args.self.now.rest.now in
     let great = c.args.self.now.has_great in
-    let whole : c.from_residual.result ≡ Err c.in_err-expression.field-0.0 = search rules in
-    fails _ _ _ _ c.expression.result c.from_residual.result c.in_err-expression.field-0.0 c.in_err-expression.was whole c.expression.ensures (λ none. no_first text great none)
+    let whole : c.from_residual-in_err-expression.result ≡ Err c.in_err-expression.field-0.0 = search rules in
+    fails _ _ _ _ c.expression.result c.from_residual-in_err-expression.result c.in_err-expression.field-0.0 c.in_err-expression.was whole c.expression.ensures (λ none. no_first text great none)
 
 pub arguments-loop-alloc-init : goal.arguments-loop-alloc-init
 arguments-loop-alloc-init t c =
