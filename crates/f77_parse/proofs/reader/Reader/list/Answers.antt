@@ -9,8 +9,8 @@ pub returns-in_err-read-clause-gives : goal.returns-in_err-read-clause-gives
 returns-in_err-read-clause-gives g c =
     let text = c.args.self.now.rest.now in
     let bad = c.args.self.now.is_bad in
-    let whole : c.from_residual.result ≡ Err c.in_err-read.field-0.0 = search rules in
-    given_fails _ _ c.read.result c.from_residual.result c.in_err-read.field-0.0 _ _ _ _ c.in_err-read.was whole c.read.ensures.gives (λ none. no_first g.P.Part.kept [] bad text none)
+    let whole : c.from_residual-in_err-read.result ≡ Err c.in_err-read.field-0.0 = search rules in
+    given_fails _ _ c.read.result c.from_residual-in_err-read.result c.in_err-read.field-0.0 _ _ _ _ c.in_err-read.was whole c.read.ensures.gives (λ none. no_first g.P.Part.kept [] bad text none)
 
 pub loop-alloc-init : goal.loop-alloc-init
 loop-alloc-init g c =
