@@ -44,7 +44,7 @@ pub record IsWoken {W : ℕ} (old new : Work W) (edge : ℕ) (rose : ℕ → Boo
 module _ {W : ℕ} (f : FlowGraph) (lines : ℕ) (old new : Work W) (edge : ℕ) (edge_in : edge < edge_count f.graph) (sized : IsSized f lines old) where
   -- one line rose
   pub raised-one : (line : ℕ) (comes : Known) → line < lines → IsWoken old new edge (λ k. k == line) → IsRise (at f lines old line edge) comes (at f lines new line edge)
-      → ((l e : ℕ) → l < old.known.lines → ((l ≡ line) × (e ≡ edge) → ⊥) → at f lines new l e ≡ at f lines old l e)
+      → ((l e : ℕ) → e < edges_of old.known → ((l ≡ line) × (e ≡ edge) → ⊥) → at f lines new l e ≡ at f lines old l e)
       → IsRaised f lines old new edge (λ k. k == line)
   raised-one line comes in_l woken rise others = record {
     edge_in = edge_in;
@@ -52,7 +52,7 @@ module _ {W : ℕ} (f : FlowGraph) (lines : ℕ) (old new : Work W) (edge : ℕ)
     lines_are = woken.lines_are;
     edges_are = woken.edges_are;
     grows = λ l m is. subst (λ (n : ℕ). AtMost (at f lines old n edge) (at f lines new n edge)) (sym (eqb-true l line is)) rise.grows;
-    others = λ l e m other. others l e (let size = sized.lines_are in omega (arith, size)) (λ both. other (both.1, eq-eqb l line both.0));
+    others = λ l e m n other. others l e (let size = sized.edges_are in omega (arith, n, size)) (λ both. other (both.1, eq-eqb l line both.0));
     first = line;
     first_in = in_l;
     first_rises = rise.rises;
@@ -76,7 +76,7 @@ module _ {W : ℕ} (f : FlowGraph) (lines : ℕ) (old new : Work W) (edge : ℕ)
       lines_are = woken.lines_are;
       edges_are = woken.edges_are;
       grows = λ l m up. subst (AtMost (at f lines old l edge)) (sym (any-here l up)) (at_most-any (at f lines old l edge));
-      others = λ l e m other. values l e ∙ if_false ((e == edge) && rose l) Any (at f lines old l e) (not_both l e other);
+      others = λ l e m n other. values l e ∙ if_false ((e == edge) && rose l) Any (at f lines old l e) (not_both l e other);
       first = first;
       first_in = first_in;
       first_rises = subst (λ (k : Known). room k < room (at f lines old first edge)) (sym (any-here first is)) (any-room (at f lines old first edge) (lower first is));

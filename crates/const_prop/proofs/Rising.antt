@@ -83,7 +83,7 @@ module _ {W : ℕ} (f : FlowGraph) (lines : ℕ) where
     pub lines_are : new.known.lines ≡ old.known.lines
     pub edges_are : edges_of new.known ≡ edges_of old.known
     pub grows : (line : ℕ) → line < lines → rose line ≡ true → AtMost (at old line edge) (at new line edge)
-    pub others : (line e : ℕ) → line < lines → ((e ≡ edge) × (rose line ≡ true) → ⊥) → at new line e ≡ at old line e
+    pub others : (line e : ℕ) → line < lines → e < edge_count f.graph → ((e ≡ edge) × (rose line ≡ true) → ⊥) → at new line e ≡ at old line e
     pub first : ℕ
     pub first_in : first < lines
     pub first_rises : room (at new first edge) < room (at old first edge)
@@ -107,7 +107,7 @@ module _ {W : ℕ} (f : FlowGraph) (lines : ℕ) where
     pub raised-grows : (line e : ℕ) → line < lines → e < edge_count f.graph → AtMost (at old line e) (at new line e)
     raised-grows line e in_l in_e = ⊎_elim
         (λ (here : (e ≡ edge) × (rose line ≡ true)). subst (λ (n : ℕ). AtMost (at old line n) (at new line n)) (sym here.0) (r.grows line in_l here.1))
-        (λ (other : (e ≡ edge) × (rose line ≡ true) → ⊥). at_most-is (at old line e) (at new line e) (sym (r.others line e in_l other)))
+        (λ (other : (e ≡ edge) × (rose line ≡ true) → ⊥). at_most-is (at old line e) (at new line e) (sym (r.others line e in_l in_e other)))
         (here_or_not line e)
 
     waits_at : (e : ℕ) → e ≡ edge → is_waiting new e ≡ true
@@ -126,7 +126,7 @@ module _ {W : ℕ} (f : FlowGraph) (lines : ℕ) where
       grows = raised-grows;
       moved = λ line e in_l in_e. ⊎_elim
           (λ (here : (e ≡ edge) × (rose line ≡ true)). inl (r.pending line e ∙ or_left ((e == edge) && rose line) (is_pending old line e) (and_from (e == edge) (rose line) (eq-eqb e edge here.0) here.1)))
-          (λ (other : (e ≡ edge) × (rose line ≡ true) → ⊥). inr (r.others line e in_l other))
+          (λ (other : (e ≡ edge) × (rose line ≡ true) → ⊥). inr (r.others line e in_l in_e other))
           (here_or_not line e);
       kept = λ line e h. r.pending line e ∙ or_right ((e == edge) && rose line) (is_pending old line e) h;
       waiting = λ e h. r.waits e ∙ or_right (e == edge) (is_waiting old e) h;
@@ -150,12 +150,12 @@ module _ {W : ℕ} (p : Program) (f : FlowGraph) (c : ClassTable) (touches : ℕ
   found-raised old new edge rose raised found due one = record {
     words = λ l e in_l in_e several. ⊎_elim
         (λ (here : (e ≡ edge) × (rose l ≡ true)). subst (λ (n : ℕ). IsNotOne (at f r.lines new l n)) (sym here.0) (one l in_l here.1 several))
-        (λ (other : (e ≡ edge) × (rose l ≡ true) → ⊥). subst IsNotOne (sym (raised.others l e in_l other)) (found.words l e in_l in_e several))
+        (λ (other : (e ≡ edge) × (rose l ≡ true) → ⊥). subst IsNotOne (sym (raised.others l e in_l in_e other)) (found.words l e in_l in_e several))
         (here_or_not f r.lines old new edge rose raised l e);
     below = λ b closed. let was = found.below b closed in record {
       value = λ l e in_l in_e. ⊎_elim
           (λ (here : (e ≡ edge) × (rose l ≡ true)). subst (λ (n : ℕ). AtMost (at f r.lines new l n) (b.value l n)) (sym here.0) (due b l closed in_l here.1))
-          (λ (other : (e ≡ edge) × (rose l ≡ true) → ⊥). subst (λ (k : Known). AtMost k (b.value l e)) (sym (raised.others l e in_l other)) (was.value l e in_l in_e))
+          (λ (other : (e ≡ edge) × (rose l ≡ true) → ⊥). subst (λ (k : Known). AtMost k (b.value l e)) (sym (raised.others l e in_l in_e other)) (was.value l e in_l in_e))
           (here_or_not f r.lines old new edge rose raised l e);
       decision = λ piece inside. subst (λ (xs : List Known). AtMost (get_or xs piece Nothing) (b.decision piece)) (sym raised.decisions) (was.decision piece inside);
     };

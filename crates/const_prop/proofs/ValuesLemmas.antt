@@ -70,37 +70,37 @@ none_if : (b : Bool) (v : ℤ) → b ≡ false → (if b then Some v else None) 
 none_if b v off = ap (λ (x : Bool). if x then Some v else None) off
 
 -- a block that had a number has the words that it had
-word_in-kept : (m k : ℕ) (filled more : List (ClassSet 1)) (s : ClassSet 1) (words after : List ℤ) → k < 16 → m ≤ length filled → length words ≡ 16 * length filled → more ≡ filled ++ s ∷ [] → ((i : ℕ) → i < length words → get_or after i (pos 0) ≡ get_or words i (pos 0)) → word_in m more after k ≡ word_in m filled words k
+word_in-kept : (m k : ℕ) (filled more : List (ClassSet 1)) (s : ClassSet 1) (words after : List ℤ) → k < 32 → m ≤ length filled → length words ≡ 32 * length filled → more ≡ filled ++ s ∷ [] → ((i : ℕ) → i < length words → get_or after i (pos 0) ≡ get_or words i (pos 0)) → word_in m more after k ≡ word_in m filled words k
 word_in-kept zero k filled more s words after in_block some size is same = refl
 word_in-kept (suc m) k filled more s words after in_block some size is same =
-    some_if (nth_holds more m k) (nth_holds filled m k) (get_or after (16 * m + k) (pos 0)) (get_or words (16 * m + k) (pos 0)) (ap (λ (xs : List (ClassSet 1)). nth_holds xs m k) is ∙ nth-append filled m k s (omega (arith, some))) (same (16 * m + k) (omega (arith, in_block, some, size)))
+    some_if (nth_holds more m k) (nth_holds filled m k) (get_or after (32 * m + k) (pos 0)) (get_or words (32 * m + k) (pos 0)) (ap (λ (xs : List (ClassSet 1)). nth_holds xs m k) is ∙ nth-append filled m k s (omega (arith, some))) (same (32 * m + k) (omega (arith, in_block, some, size)))
 
 -- one that got its number has none
 word_in-begun : (n k : ℕ) (filled more : List (ClassSet 1)) (s : ClassSet 1) (after : List ℤ) → n ≡ length filled + 1 → more ≡ filled ++ s ∷ [] → ((k : ℕ) → holds s k ≡ false) → word_in n more after k ≡ None
 word_in-begun zero k filled more s after is grown empty = refl
 word_in-begun (suc n) k filled more s after is grown empty =
-    none_if (nth_holds more n k) (get_or after (16 * n + k) (pos 0)) (ap (λ (xs : List (ClassSet 1)). nth_holds xs n k) grown ∙ nth-last filled n k s (omega (arith, is)) ∙ empty k)
+    none_if (nth_holds more n k) (get_or after (32 * n + k) (pos 0)) (ap (λ (xs : List (ClassSet 1)). nth_holds xs n k) grown ∙ nth-last filled n k s (omega (arith, is)) ∙ empty k)
 
-pub word_of_begun : (numbers : List ℕ) (filled more : List (ClassSet 1)) (s : ClassSet 1) (words after : List ℤ) (block n : ℕ) → block < length numbers → get_or numbers block 0 ≡ 0 → AreNumbered numbers (length filled) → length words ≡ 16 * length filled → n ≡ length filled + 1 → more ≡ filled ++ s ∷ [] → ((k : ℕ) → holds s k ≡ false) → ((i : ℕ) → i < length words → get_or after i (pos 0) ≡ get_or words i (pos 0)) → (place : ℕ) → word_of (record { numbers = set numbers block n; filled = more; words = after }) place ≡ word_of (record { numbers = numbers; filled = filled; words = words }) place
+pub word_of_begun : (numbers : List ℕ) (filled more : List (ClassSet 1)) (s : ClassSet 1) (words after : List ℤ) (block n : ℕ) → block < length numbers → get_or numbers block 0 ≡ 0 → AreNumbered numbers (length filled) → length words ≡ 32 * length filled → n ≡ length filled + 1 → more ≡ filled ++ s ∷ [] → ((k : ℕ) → holds s k ≡ false) → ((i : ℕ) → i < length words → get_or after i (pos 0) ≡ get_or words i (pos 0)) → (place : ℕ) → word_of (record { numbers = set numbers block n; filled = more; words = after }) place ≡ word_of (record { numbers = numbers; filled = filled; words = words }) place
 word_of_begun numbers filled more s words after block n within none are size is grown empty same place = ⊎_elim
-    (λ (e : place / 16 ≡ block).
-    let now : get_or (set numbers block n) (place / 16) 0 ≡ n = ap (λ i. get_or (set numbers block n) i 0) e ∙ get_or-set_same numbers block n 0 within in
-    let before : get_or numbers (place / 16) 0 ≡ 0 = ap (λ i. get_or numbers i 0) e ∙ none in
-    rw (now, before) (word_in-begun n (place % 16) filled more s after is grown empty))
-    (λ (d : place / 16 ≢ block).
-    let now : get_or (set numbers block n) (place / 16) 0 ≡ get_or numbers (place / 16) 0 = get_or-set_other numbers block (place / 16) n 0 d in
-    let most = are.within (place / 16) in
+    (λ (e : place / 32 ≡ block).
+    let now : get_or (set numbers block n) (place / 32) 0 ≡ n = ap (λ i. get_or (set numbers block n) i 0) e ∙ get_or-set_same numbers block n 0 within in
+    let before : get_or numbers (place / 32) 0 ≡ 0 = ap (λ i. get_or numbers i 0) e ∙ none in
+    rw (now, before) (word_in-begun n (place % 32) filled more s after is grown empty))
+    (λ (d : place / 32 ≢ block).
+    let now : get_or (set numbers block n) (place / 32) 0 ≡ get_or numbers (place / 32) 0 = get_or-set_other numbers block (place / 32) n 0 d in
+    let most = are.within (place / 32) in
     let all = are.all in
-    rw now (word_in-kept (get_or numbers (place / 16) 0) (place % 16) filled more s words after (omega arith) (omega (arith, most, all)) size grown same))
-    (cases_eq (place / 16) block)
+    rw now (word_in-kept (get_or numbers (place / 32) 0) (place % 32) filled more s words after (omega arith) (omega (arith, most, all)) size grown same))
+    (cases_eq (place / 32) block)
 
 -- the word that was put, and the others
-module _ (m q : ℕ) (filled : List (ClassSet 1)) (old new : ClassSet 1) (words : List ℤ) (v : ℤ) (in_block : q < 16) (some : m ≢ 0) (room : m ≤ length filled) (size : length words ≡ 16 * length filled) (read : old ≡ get_or filled (m - 1) old) (more : (k : ℕ) → holds new k ≡ ((k == q) || holds old k)) where
+module _ (m q : ℕ) (filled : List (ClassSet 1)) (old new : ClassSet 1) (words : List ℤ) (v : ℤ) (in_block : q < 32) (some : m ≢ 0) (room : m ≤ length filled) (size : length words ≡ 32 * length filled) (read : old ≡ get_or filled (m - 1) old) (more : (k : ℕ) → holds new k ≡ ((k == q) || holds old k)) where
   abbrev after : List (ClassSet 1)
   after = set filled (m - 1) new
 
   abbrev put : List ℤ
-  put = set words (16 * (m - 1) + q) v
+  put = set words (32 * (m - 1) + q) v
 
   held : (b d : Bool) → b ≡ true → (b || d) ≡ true
   held b d is = ap (λ (x : Bool). x || d) is
@@ -113,15 +113,15 @@ module _ (m q : ℕ) (filled : List (ClassSet 1)) (old new : ClassSet 1) (words 
   word_in-here (suc a) k same place =
       let number : a ≡ m - 1 = omega (arith, same) in
       let within : m - 1 < length filled = omega (arith, room, some) in
-      let at : 16 * a + k ≡ 16 * (m - 1) + q = omega (arith, number, place) in
+      let at : 32 * a + k ≡ 32 * (m - 1) + q = omega (arith, number, place) in
       let on : nth_holds after a k ≡ true = ap (λ i. nth_holds after i k) number ∙ nth-set_same filled (m - 1) k new within ∙ more k ∙ held (k == q) (holds old k) (is_same k q place) in
-      let word : get_or put (16 * a + k) (pos 0) ≡ v = ap (λ i. get_or put i (pos 0)) at ∙ get_or-set_same words (16 * (m - 1) + q) v (pos 0) (omega (arith, size, within, in_block)) in
-      some_if (nth_holds after a k) true (get_or put (16 * a + k) (pos 0)) v on word
+      let word : get_or put (32 * a + k) (pos 0) ≡ v = ap (λ i. get_or put i (pos 0)) at ∙ get_or-set_same words (32 * (m - 1) + q) v (pos 0) (omega (arith, size, within, in_block)) in
+      some_if (nth_holds after a k) true (get_or put (32 * a + k) (pos 0)) v on word
 
-  word_in-there : (a k : ℕ) → k < 16 → (a ≡ m → k ≡ q → ⊥) → word_in a after put k ≡ word_in a filled words k
+  word_in-there : (a k : ℕ) → k < 32 → (a ≡ m → k ≡ q → ⊥) → word_in a after put k ≡ word_in a filled words k
   word_in-there zero k inside other = refl
   word_in-there (suc a) k inside other =
-      let word : get_or put (16 * a + k) (pos 0) ≡ get_or words (16 * a + k) (pos 0) = get_or-set_other words (16 * (m - 1) + q) (16 * a + k) v (pos 0) (λ same. other (omega (arith, same, some, inside, in_block)) (omega (arith, same, some, inside, in_block))) in
+      let word : get_or put (32 * a + k) (pos 0) ≡ get_or words (32 * a + k) (pos 0) = get_or-set_other words (32 * (m - 1) + q) (32 * a + k) v (pos 0) (λ same. other (omega (arith, same, some, inside, in_block)) (omega (arith, same, some, inside, in_block))) in
       let bit : nth_holds after a k ≡ nth_holds filled a k = ⊎_elim
       (λ (e : a ≡ m - 1).
       let within : m - 1 < length filled = omega (arith, room, some) in
@@ -129,33 +129,33 @@ module _ (m q : ℕ) (filled : List (ClassSet 1)) (old new : ClassSet 1) (words 
       ap (λ i. nth_holds after i k) e ∙ nth-set_same filled (m - 1) k new within ∙ more k ∙ passed (k == q) (holds old k) (is_other k q apart) ∙ nth_read filled (m - 1) k old within read ∙ ap (λ i. nth_holds filled i k) (sym e))
       (λ (d : a ≢ m - 1). nth-set_other filled (m - 1) a k new d)
       (cases_eq a (m - 1)) in
-      some_if (nth_holds after a k) (nth_holds filled a k) (get_or put (16 * a + k) (pos 0)) (get_or words (16 * a + k) (pos 0)) bit word
+      some_if (nth_holds after a k) (nth_holds filled a k) (get_or put (32 * a + k) (pos 0)) (get_or words (32 * a + k) (pos 0)) bit word
 
-pub word_of_set : (numbers : List ℕ) (filled : List (ClassSet 1)) (old new : ClassSet 1) (words : List ℤ) (place m : ℕ) (v : ℤ) → AreNumbered numbers (length filled) → length words ≡ 16 * length filled → m ≡ get_or numbers (place / 16) 0 → m ≢ 0 → old ≡ get_or filled (m - 1) old → ((k : ℕ) → holds new k ≡ ((k == place % 16) || holds old k)) → (i : ℕ) → word_of (record { numbers = numbers; filled = set filled (m - 1) new; words = set words (16 * (m - 1) + place % 16) v }) i ≡ (if i == place then Some v else word_of (record { numbers = numbers; filled = filled; words = words }) i)
+pub word_of_set : (numbers : List ℕ) (filled : List (ClassSet 1)) (old new : ClassSet 1) (words : List ℤ) (place m : ℕ) (v : ℤ) → AreNumbered numbers (length filled) → length words ≡ 32 * length filled → m ≡ get_or numbers (place / 32) 0 → m ≢ 0 → old ≡ get_or filled (m - 1) old → ((k : ℕ) → holds new k ≡ ((k == place % 32) || holds old k)) → (i : ℕ) → word_of (record { numbers = numbers; filled = set filled (m - 1) new; words = set words (32 * (m - 1) + place % 32) v }) i ≡ (if i == place then Some v else word_of (record { numbers = numbers; filled = filled; words = words }) i)
 word_of_set numbers filled old new words place m v are size is some read more i =
-    let most = are.within (place / 16) in
+    let most = are.within (place / 32) in
     let all = are.all in
     let room : m ≤ length filled = omega (arith, most, all, is) in
     ⊎_elim
     (λ (e : i ≡ place).
     rw (is_same i place e)
-    (word_in-here m (place % 16) filled old new words v (omega arith) some room size read more (get_or numbers (i / 16) 0) (i % 16) (ap (λ x. get_or numbers (x / 16) 0) e ∙ sym is) (ap (λ x. x % 16) e)))
+    (word_in-here m (place % 32) filled old new words v (omega arith) some room size read more (get_or numbers (i / 32) 0) (i % 32) (ap (λ x. get_or numbers (x / 32) 0) e ∙ sym is) (ap (λ x. x % 32) e)))
     (λ (d : i ≢ place).
     rw (is_other i place d)
-    (word_in-there m (place % 16) filled old new words v (omega arith) some room size read more (get_or numbers (i / 16) 0) (i % 16) (omega arith)
-    (λ same rest. let block : i / 16 ≡ place / 16 = are.own (i / 16) (place / 16) (same ∙ is) (λ none. some (sym same ∙ none)) in d (omega (arith, block, rest)))))
+    (word_in-there m (place % 32) filled old new words v (omega arith) some room size read more (get_or numbers (i / 32) 0) (i % 32) (omega arith)
+    (λ same rest. let block : i / 32 ≡ place / 32 = are.own (i / 32) (place / 32) (same ∙ is) (λ none. some (sym same ∙ none)) in d (omega (arith, block, rest)))))
     (cases_eq i place)
 
 -- the place of a word in a block that has a number
-pub word_place : (numbers : List ℕ) (count words place m : ℕ) → AreNumbered numbers count → words ≡ 16 * count → m ≡ get_or numbers (place / 16) 0 → m ≢ 0 → 16 * (m - 1) + place % 16 < words
+pub word_place : (numbers : List ℕ) (count words place m : ℕ) → AreNumbered numbers count → words ≡ 32 * count → m ≡ get_or numbers (place / 32) 0 → m ≢ 0 → 32 * (m - 1) + place % 32 < words
 word_place numbers count words place m are size is some =
-    let most = are.within (place / 16) in
+    let most = are.within (place / 32) in
     let all = are.all in
     omega (arith, most, all, some, size, is)
 
-pub number_place : (numbers : List ℕ) (count place m : ℕ) → AreNumbered numbers count → m ≡ get_or numbers (place / 16) 0 → m ≢ 0 → m - 1 < count
+pub number_place : (numbers : List ℕ) (count place m : ℕ) → AreNumbered numbers count → m ≡ get_or numbers (place / 32) 0 → m ≢ 0 → m - 1 < count
 number_place numbers count place m are is some =
-    let most = are.within (place / 16) in
+    let most = are.within (place / 32) in
     let all = are.all in
     omega (arith, most, all, some, is)
 
@@ -166,27 +166,27 @@ read_any (x ∷ words) zero w d within is = sym is
 read_any (x ∷ words) (suc i) w d within is = read_any words i w d (omega arith) is
 
 -- what was read of a place: no number, no word, or a word
-pub word_none : (numbers : List ℕ) (filled : List (ClassSet 1)) (words : List ℤ) (place m : ℕ) → m ≡ get_or numbers (place / 16) 0 → m ≡ 0 → None ≡ word_of (record { numbers = numbers; filled = filled; words = words }) place
+pub word_none : (numbers : List ℕ) (filled : List (ClassSet 1)) (words : List ℤ) (place m : ℕ) → m ≡ get_or numbers (place / 32) 0 → m ≡ 0 → None ≡ word_of (record { numbers = numbers; filled = filled; words = words }) place
 word_none numbers filled words place m is none = rw (sym is ∙ none) refl
 
 word_in-off : (filled : List (ClassSet 1)) (words : List ℤ) (a m k : ℕ) (old : ClassSet 1) → a ≡ m → m - 1 < length filled → old ≡ get_or filled (m - 1) old → holds old k ≡ false → word_in a filled words k ≡ None
 word_in-off filled words zero m k old same within read off = refl
 word_in-off filled words (suc a) m k old same within read off =
     let number : a ≡ m - 1 = omega (arith, same) in
-    none_if (nth_holds filled a k) (get_or words (16 * a + k) (pos 0)) (ap (λ i. nth_holds filled i k) number ∙ sym (nth_read filled (m - 1) k old within read) ∙ off)
+    none_if (nth_holds filled a k) (get_or words (32 * a + k) (pos 0)) (ap (λ i. nth_holds filled i k) number ∙ sym (nth_read filled (m - 1) k old within read) ∙ off)
 
-word_in-on : (filled : List (ClassSet 1)) (words : List ℤ) (a m k : ℕ) (old : ClassSet 1) (w : ℤ) → a ≡ m → m ≢ 0 → m - 1 < length filled → 16 * (m - 1) + k < length words → old ≡ get_or filled (m - 1) old → holds old k ≡ true → w ≡ get_or words (16 * (m - 1) + k) w → word_in a filled words k ≡ Some w
+word_in-on : (filled : List (ClassSet 1)) (words : List ℤ) (a m k : ℕ) (old : ClassSet 1) (w : ℤ) → a ≡ m → m ≢ 0 → m - 1 < length filled → 32 * (m - 1) + k < length words → old ≡ get_or filled (m - 1) old → holds old k ≡ true → w ≡ get_or words (32 * (m - 1) + k) w → word_in a filled words k ≡ Some w
 word_in-on filled words zero m k old w same some within room read on is = absurd (some (sym same))
 word_in-on filled words (suc a) m k old w same some within room read on is =
     let number : a ≡ m - 1 = omega (arith, same) in
-    some_if (nth_holds filled a k) true (get_or words (16 * a + k) (pos 0)) w
+    some_if (nth_holds filled a k) true (get_or words (32 * a + k) (pos 0)) w
     (ap (λ i. nth_holds filled i k) number ∙ sym (nth_read filled (m - 1) k old within read) ∙ on)
-    (ap (λ i. get_or words (16 * i + k) (pos 0)) number ∙ read_any words (16 * (m - 1) + k) w (pos 0) room is)
+    (ap (λ i. get_or words (32 * i + k) (pos 0)) number ∙ read_any words (32 * (m - 1) + k) w (pos 0) room is)
 
-pub word_off : (numbers : List ℕ) (filled : List (ClassSet 1)) (words : List ℤ) (place m : ℕ) (old : ClassSet 1) → AreNumbered numbers (length filled) → m ≡ get_or numbers (place / 16) 0 → m ≢ 0 → old ≡ get_or filled (m - 1) old → holds old (place % 16) ≡ false → None ≡ word_of (record { numbers = numbers; filled = filled; words = words }) place
+pub word_off : (numbers : List ℕ) (filled : List (ClassSet 1)) (words : List ℤ) (place m : ℕ) (old : ClassSet 1) → AreNumbered numbers (length filled) → m ≡ get_or numbers (place / 32) 0 → m ≢ 0 → old ≡ get_or filled (m - 1) old → holds old (place % 32) ≡ false → None ≡ word_of (record { numbers = numbers; filled = filled; words = words }) place
 word_off numbers filled words place m old are is some read off =
-    sym (word_in-off filled words (get_or numbers (place / 16) 0) m (place % 16) old (sym is) (number_place numbers (length filled) place m are is some) read off)
+    sym (word_in-off filled words (get_or numbers (place / 32) 0) m (place % 32) old (sym is) (number_place numbers (length filled) place m are is some) read off)
 
-pub word_on : (numbers : List ℕ) (filled : List (ClassSet 1)) (words : List ℤ) (place m : ℕ) (old : ClassSet 1) (w : ℤ) → AreNumbered numbers (length filled) → length words ≡ 16 * length filled → m ≡ get_or numbers (place / 16) 0 → m ≢ 0 → old ≡ get_or filled (m - 1) old → holds old (place % 16) ≡ true → w ≡ get_or words (16 * (m - 1) + place % 16) w → Some w ≡ word_of (record { numbers = numbers; filled = filled; words = words }) place
+pub word_on : (numbers : List ℕ) (filled : List (ClassSet 1)) (words : List ℤ) (place m : ℕ) (old : ClassSet 1) (w : ℤ) → AreNumbered numbers (length filled) → length words ≡ 32 * length filled → m ≡ get_or numbers (place / 32) 0 → m ≢ 0 → old ≡ get_or filled (m - 1) old → holds old (place % 32) ≡ true → w ≡ get_or words (32 * (m - 1) + place % 32) w → Some w ≡ word_of (record { numbers = numbers; filled = filled; words = words }) place
 word_on numbers filled words place m old w are size is some read on word =
-    sym (word_in-on filled words (get_or numbers (place / 16) 0) m (place % 16) old w (sym is) some (number_place numbers (length filled) place m are is some) (word_place numbers (length filled) (length words) place m are size is some) read on word)
+    sym (word_in-on filled words (get_or numbers (place / 32) 0) m (place % 32) old w (sym is) some (number_place numbers (length filled) place m are is some) (word_place numbers (length filled) (length words) place m are size is some) read on word)

@@ -7,7 +7,7 @@ use Rattle.const_prop.specs.declared.known_rows.KnownRows.TheInside.{Inside}
 use Rattle.const_prop.specs.SparseSets.{Sets, keys_of, set_holds}
 use Rattle.const_prop.specs.Values.{Blocks, places, word_of}
 
--- for each edge a set of the lines on which any value may come, and a row of the values of all lines, where one came first
+-- for each edge a set of the lines on which any value may come, and for each line a row of the values on all edges, where one came first
 pub record Rows (W : ℕ) : Type 0 where
   pub lines : ℕ
   pub any : Sets W
@@ -28,12 +28,12 @@ module _ {W : ℕ} where
 
   -- what is known of the line on the edge
   abbrev pub value_in : Rows W → (line edge : ℕ) → Known
-  value_in r line edge = known_by (set_holds r.any edge line) (word_of r.values (edge * r.lines + line))
+  value_in r line edge = known_by (set_holds r.any edge line) (word_of r.values (line * edges_of r + edge))
 
   abbrev pub rows_of : Inside W → Rows W
   rows_of d = record { lines = d.lines; any = d.any; values = d.values }
 
-  -- there are values of all lines for each edge
+  -- there are values on all edges for each line
   pub record IsKept (d : Inside W) : Type 0 where
     pub width : IsWidth W
     pub lines : d.lines ≤ 64 * W

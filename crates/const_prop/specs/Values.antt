@@ -1,4 +1,4 @@
--- Words at places, in blocks of 16, of which most hold none.
+-- Words at places, in blocks of 32, of which most hold none.
 use Rattle.std.proofs.Common.{zero, suc}
 use Rattle.std.specs.Prelude.{◌≡◌, ◌≢◌, ◌≤◌, ◌<◌, ◌+◌, ◌*◌, ◌/◌, ◌%◌, ◌^◌, ℕ, ℤ, pos, Option, Some, None, if◌then◌else◌, List, length, count_by, slice_index_or, vec_capacity}
 use Rattle.class_set.specs.declared.ClassSet.{ClassSet}
@@ -15,16 +15,16 @@ abbrev pub blocks_of : Inside → Blocks
 blocks_of d = record { numbers = d.numbers.items; filled = d.filled.items; words = d.words.items }
 
 abbrev pub places : Blocks → ℕ
-places b = 16 * length b.numbers
+places b = 32 * length b.numbers
 
 -- the word at a place of a block with this number; a block with number 0 holds none
 abbrev pub word_in : (number : ℕ) → List (ClassSet 1) → List ℤ → (k : ℕ) → Option ℤ
 word_in zero filled words k = None
-word_in (suc n) filled words k = if nth_holds filled n k then Some (slice_index_or words (16 * n + k) (pos 0)) else None
+word_in (suc n) filled words k = if nth_holds filled n k then Some (slice_index_or words (32 * n + k) (pos 0)) else None
 
 -- the word at a place
 abbrev pub word_of : Blocks → (place : ℕ) → Option ℤ
-word_of b place = word_in (slice_index_or b.numbers (place / 16) 0) b.filled b.words (place % 16)
+word_of b place = word_in (slice_index_or b.numbers (place / 32) 0) b.filled b.words (place % 32)
 
 -- the blocks that have a number other than 0 have those from 1 on, each its own, so many
 pub record AreNumbered (numbers : List ℕ) (count : ℕ) : Type 0 where
@@ -36,6 +36,6 @@ pub record AreNumbered (numbers : List ℕ) (count : ℕ) : Type 0 where
 pub record IsKept (d : Inside) : Type 0 where
   pub few : length d.numbers.items < 2 ^ 32
   pub numbered : AreNumbered d.numbers.items (length d.filled.items)
-  pub words : length d.words.items ≡ 16 * length d.filled.items
+  pub words : length d.words.items ≡ 32 * length d.filled.items
   pub filled_room : length d.numbers.items ≤ vec_capacity d.filled
-  pub words_room : 16 * length d.numbers.items ≤ vec_capacity d.words
+  pub words_room : 32 * length d.numbers.items ≤ vec_capacity d.words

@@ -23,7 +23,8 @@ pub(crate) struct KnownRows<const W: usize> {
     lines: u32,
     /// For each edge the lines on which any value may come.
     any: SparseSets<W>,
-    /// For each edge a row of all lines, with the one value that came first on each line where one did.
+    /// For each line a row of all edges, with the one value that came first on each edge where one did. Where a line has a value, it mostly
+    /// has one on edges that follow each other, and so in few blocks.
     values: Values,
 }
 
@@ -73,10 +74,10 @@ impl<const W: usize> KnownRows<W> {
     fn place(&self, line: u32, edge: u32) -> usize
         requires line { line < self.now.lines }
         requires edge { edge < edges_of self.now }
-        ensures is { result ≡ edge * self.now.lines + line }
+        ensures is { result ≡ line * edges_of self.now + edge }
         ensures within { result < places self.now.values }
     {
-        edge as usize * self.lines as usize + line as usize
+        line as usize * self.any.keys() as usize + edge as usize
     }
 
     /// The lines on which any value may come by the edge.
@@ -94,7 +95,7 @@ impl<const W: usize> KnownRows<W> {
         ensures lines { self.new.lines ≡ self.old.lines }
         ensures edges { edges_of self.new ≡ edges_of self.old }
         ensures rises { result ≡ true → IsRise (value_in self.old line edge) comes (value_in self.new line edge) }
-        ensures others { (l e : ℕ) → l < self.old.lines → ((l ≡ line) × (e ≡ edge) → ⊥) → value_in self.new l e ≡ value_in self.old l e }
+        ensures others { (l e : ℕ) → e < edges_of self.old → ((l ≡ line) × (e ≡ edge) → ⊥) → value_in self.new l e ≡ value_in self.old l e }
         ensures reached { result ≡ false → AtMost comes (value_in self.old line edge) }
         ensures same { result ≡ false → self.new ≡ self.old }
     {
@@ -116,7 +117,7 @@ impl<const W: usize> KnownRows<W> {
         ensures lines { self.new.lines ≡ self.old.lines }
         ensures edges { edges_of self.new ≡ edges_of self.old }
         ensures here { value_in self.new line edge ≡ known }
-        ensures others { (l e : ℕ) → l < self.old.lines → ((l ≡ line) × (e ≡ edge) → ⊥) → value_in self.new l e ≡ value_in self.old l e }
+        ensures others { (l e : ℕ) → e < edges_of self.old → ((l ≡ line) × (e ≡ edge) → ⊥) → value_in self.new l e ≡ value_in self.old l e }
     {
         match known {
             Known::Nothing => {}

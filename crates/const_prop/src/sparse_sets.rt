@@ -48,6 +48,13 @@ impl<const W: usize> SparseSets<W> {
         })
     }
 
+    /// How many keys there are.
+    pub(crate) fn keys(&self) -> u32
+        ensures { result ≡ keys_of self.now }
+    {
+        self.numbers.len() as u32
+    }
+
     /// The set of the key.
     pub(crate) fn at(&self, key: u32) -> &ClassSet<W>
         requires { key < keys_of self.now }

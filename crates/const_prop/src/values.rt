@@ -9,9 +9,9 @@ use std::alloc::Global;
 use std::marker::Model;
 
 /// How many places are kept together.
-const BLOCK: usize = 16;
+const BLOCK: usize = 32;
 
-/// A word or none at each of so many places, none at first. Memory is written only for blocks of 16 places in which one has a word, and a
+/// A word or none at each of so many places, none at first. Memory is written only for blocks of 32 places in which one has a word, and a
 /// number for each block, so that a large table with few words takes little time. Contracts see the words, place by place, by way of the
 /// blocks.
 #[derive(Drop)]
@@ -35,7 +35,7 @@ impl Model for Values {
 }
 
 impl Values {
-    /// So many places, or a few more, with no word. There is no memory for 2^36 places or more.
+    /// So many places, or a few more, with no word. There is no memory for 2^37 places or more.
     pub(crate) fn new(alloc: Global, count: usize) -> Result<Self, NoMemory>
         requires { count < 2 ^ 60 }
         ensures places { IfOk result (λ v. count ≤ places v) }

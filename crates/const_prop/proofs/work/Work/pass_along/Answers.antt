@@ -6,8 +6,12 @@ use Rattle.const_prop.specs.declared.known.Known.TheVariants.{Any}
 use Rattle.const_prop.specs.Known.{AtMost}
 use Rattle.const_prop.specs.Work.{so_far}
 use Rattle.const_prop.proofs.Order.{at_most-trans, at_most-any}
+use Rattle.const_prop.proofs.Rising.{rises-trans}
 use Rattle.const_prop.proofs.work.Work.pass_along.Goals as goal
 use Rattle.std.proofs.lemmas.Bool.{and_from}
+
+pub returns-clause-rises : goal.returns-clause-rises
+returns-clause-rises g c = rises-trans c.args.s.now.flow.now c.args.s.now.lines.now.lines c.args.self.now c.raise_to_any.new.self c.pass_each.new.self c.raise_to_any.ensures.rises c.pass_each.ensures.rises
 
 pub returns-clause-passed : goal.returns-clause-passed
 returns-clause-passed g c = λ k is.
