@@ -60,3 +60,4 @@ pub mod PlannedOperations
 pub mod GivenOperands
 pub mod PieceLines
 pub mod PieceValues
+pub mod ApartNets

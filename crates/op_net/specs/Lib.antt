@@ -31,3 +31,4 @@ pub mod PieceValues
 pub mod Telling
 pub mod StaysInStep
 pub mod StepLaws
+pub mod ApartLoads

@@ -1,6 +1,7 @@
 //! The net of a program with operations as nodes.
 #![tactic(auto)]
 
+mod apart;
 mod control_moves;
 mod counting;
 mod entries;

@@ -34,7 +34,7 @@ use std::mem::swap;
 impl<const W: usize> OpNet<'_, W> {
     /// Fires a ready node, and tells the edge by which control leaves the piece, if the node is due where that is decided.
     #[inline(always)]
-    pub(crate) fn fire_node(&mut self, k: u32) -> (Fired, u32)
+    pub fn fire_node(&mut self, k: u32) -> (Fired, u32)
         requires node { k < node_total (net_of self.old) }
         requires ready { (operation_moves (net_of self.old)).ready (marking_of self.old) k ≡ true }
         requires sizes { HasSizesOf (net_of self.old).net.program (marking_of self.old).tokens.memory }
@@ -134,9 +134,9 @@ impl<const W: usize> OpNet<'_, W> {
         }
     }
 
-    // Takes the operands of an operation, and performs it.
+    /// Takes the operands of an operation, and performs it.
     #[inline(always)]
-    fn work(&mut self, piece: u32, i: u32) -> Did
+    pub(crate) fn work(&mut self, piece: u32, i: u32) -> Did
         requires piece { piece < (graph_in (net_of self.old).net).nodes }
         requires operation { i < operation_count (net_of self.old) piece }
         requires given { list_all (is_given (net_of self.old) (marking_of self.old) piece) (operation_at (net_of self.old) piece i).operands ≡ true }

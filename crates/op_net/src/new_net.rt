@@ -11,6 +11,7 @@ ghost use Rattle.net_board.specs.Nodes.{graph_in};
 ghost use Rattle.op_board.specs.OperationNets.{operation_count};
 ghost use Rattle.op_board.specs.OperationTokens.{first_operation_tokens, operation_moves};
 ghost use Rattle.op_board.specs.SoundOperationNets.{IsOperationNet, OperationsCanCome};
+ghost use Rattle.op_net.specs.ApartLoads.{IsUncounted};
 ghost use Rattle.op_net.specs.FirstPlaces.{AreFirstPlaces};
 ghost use Rattle.op_net.specs.NetView.{marking_of, net_of};
 ghost use Rattle.op_net.specs.OperationParts.{AreOperationParts};
@@ -58,6 +59,7 @@ impl<'a, const W: usize> OpNet<'a, W> {
         ensures marking { IfOk result (λ n. marking_of n ≡ first_operation_tokens (net_of n)) }
         ensures place { IfOk result (λ n. n.control ≡ Some (first_control_of (net_of n).net)) }
         ensures last { IfOk result (λ n. n.text.items ≡ []) }
+        ensures uncounted { IfOk result (λ n. IsUncounted n) }
         ensures sound { IfOk result (λ n. OperationsCanCome (net_of n) (marking_of n)) }
         ensures in_step { IfOk result (λ n. IsInStep (operation_moves (net_of n)) (StaysInStep (net_of n)) (marking_of n) n.control) }
     {

@@ -28,8 +28,8 @@ pub(crate) fn node_before<const W: usize>(board: &OperationBoard<W>, line: u32, 
     }
 }
 
-// The piece to which an edge leads.
-fn head<const W: usize>(board: &OperationBoard<W>, edge: u32) -> u32
+/// The piece to which an edge leads.
+pub(crate) fn head<const W: usize>(board: &OperationBoard<W>, edge: u32) -> u32
     requires { edge < edge_count (graph_in (operation_net_on board.now).net) }
     ensures piece { to (graph_in (operation_net_on board.now).net) edge ≡ result }
     ensures exists { result < (graph_in (operation_net_on board.now).net).nodes }

@@ -32,8 +32,8 @@ pub enum OpName {
     Take,
 }
 
-// What is told of what an operation does.
-fn work_name(work: &Work) -> OpName
+/// What is told of what an operation does.
+pub(crate) fn work_name(work: &Work) -> OpName
     ensures { result ≡ operation_name (work_seen work.now) }
 {
     match work {

@@ -112,8 +112,8 @@ fn hop_stands<const W: usize>(
     before && places.passed[hop.line as usize] == hop.before as u32
 }
 
-// How many operands of an operation aren't there, where its piece has this first node.
-fn waits_for_operands(places: &Places, operands: &[Operand], first: u32) -> u64
+/// How many operands of an operation aren't there, where its piece has this first node.
+pub(crate) fn waits_for_operands(places: &Places, operands: &[Operand], first: u32) -> u64
     requires operands { All (IsBelow (length places.now.values.items) first) operands.now }
     requires nodes { length places.now.values.items < 2 ^ 32 }
     ensures { result ≡ failing (is_there places.now.values.items first) operands.now }

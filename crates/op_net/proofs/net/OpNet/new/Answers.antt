@@ -47,6 +47,9 @@ returns-clause-marking g c =
     let memory = memory_first x.net c.args.p.now c.args.input.now.items (touches_in c.args.touch.now) c.args.l.now (memory_of c.in_ok-initial_storage.field-0) c.in_ok-graph.ensures.net c.in_ok-initial_storage.ensures in
     first_marking x c.in_ok-places.places c.in_ok-places.ensures (memory_of c.in_ok-initial_storage.field-0) memory
 
+pub returns-clause-uncounted : goal.returns-clause-uncounted
+returns-clause-uncounted g c = c.in_ok-places.ensures.counted
+
 pub returns-clause-sound : goal.returns-clause-sound
 returns-clause-sound g c =
     let x : OperationNet = operations_in c.in_ok-graph.graph.plan in
