@@ -1,0 +1,3 @@
+mod AcceptedTexts
+mod StatementDialects
+mod WrittenDialects
