@@ -19,3 +19,4 @@ pub mod Numbered
 pub mod RightRuns
 pub mod SharedRuns
 pub mod SharedParts
+pub mod SharedFlat

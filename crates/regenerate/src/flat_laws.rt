@@ -1,7 +1,7 @@
 //! Laws on the simplified form as a flat program, as contracts of functions that do nothing.
 
 ghost use Rattle.regenerate.specs.SimplifiedClasses.{SimplifiedProgramsHaveNoMoreClasses};
-ghost use Rattle.regenerate.specs.SimplifiedFlat.{SimplifiedProgramsAreFlat};
+ghost use Rattle.regenerate.specs.SimplifiedFlat.{SimplifiedProgramsAreFlat, SimplifiedStatementsAreFlat};
 
 use crate::laws::items_lead_to_items;
 use crate::run_laws::known_values_are_words;
@@ -14,20 +14,27 @@ use closed_walks::reaching_is_told;
 use const_prop::live_decisions_are_known;
 use flat_programs::flat_statements_make_programs;
 
-/// The simplified form of a program by its constants is a flat program: its statements are proper, marks and jumps fit one another, and
-/// the ranges of DOs lie one in the other or apart.
-pub fn simplified_programs_are_flat()
-    ensures { SimplifiedProgramsAreFlat }
+/// The statements of the simplified form of a program by its constants are flat: marks and jumps fit one another, and the ranges of DOs
+/// lie one in the other or apart.
+pub fn simplified_statements_are_flat()
+    ensures { SimplifiedStatementsAreFlat }
 {
     chains_lead_to_successors();
     executables_have_own_pieces();
     flow_graph_has_shape();
     flow_graph_is_strong();
     items_lead_to_items();
-    known_values_are_words();
     live_decisions_are_known();
     pieces_have_ways_out();
     reaching_is_told();
+}
+
+/// The simplified form of a program by its constants is a flat program: its statements are flat and proper.
+pub fn simplified_programs_are_flat()
+    ensures { SimplifiedProgramsAreFlat }
+{
+    simplified_statements_are_flat();
+    known_values_are_words();
     flat_statements_make_programs();
 }
 

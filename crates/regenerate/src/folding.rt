@@ -20,6 +20,7 @@ use df_sequence::{NoMemory, Sequence};
 use f77_meaning::kind_of_value;
 use f77_tree::{Access, Expr, ExprList, NameInfoList, Program};
 use op_table::{Op, fold};
+use smallvec::SmallVec;
 use std::alloc::Global;
 
 /// An expression in which constants stand for what is known, and its value, where that is known.
@@ -35,7 +36,7 @@ pub struct FoldedExpr {
 #[derive(Drop)]
 pub(crate) struct FoldedExprs {
     pub(crate) trees: ExprList,
-    pub(crate) known: Vec<Option<i32>>,
+    pub(crate) known: SmallVec<Option<i32>, 4>,
 }
 
 /// The expression in which constants stand for what is known where control takes an edge. It takes a few steps for each part of the
@@ -96,7 +97,7 @@ pub fn fold_expr<const W: usize>(
         Expr::Apply(op, args) => {
             operands_fit(&p.names, e, *op, args);
             let FoldedExprs { trees, known } = fold_all(alloc, p, c, t, checked, edge, args)?;
-            if let Some(z) = fold(*op, &known) {
+            if let Some(z) = fold(*op, known.as_slice()) {
                 return known_as(alloc, &p.names, checked, e, z);
             }
             Ok(FoldedExpr {
@@ -155,7 +156,7 @@ pub(crate) fn fold_all<const W: usize>(
     ensures known { IfOk result (λ f. f.known.items ≡ map (known_with p.now.names (words_on c.now (knowns_of t.now) edge)) es.now) }
 {
     let mut trees = Sequence::with_capacity(alloc, es.len() as usize)?;
-    let mut known = Vec::with_capacity(alloc, es.len() as usize)?;
+    let mut known = SmallVec::new(alloc);
     for e in es.as_slice() {
         let f = fold_expr(alloc, p, c, t, checked, edge, e)?;
         trees.push(f.tree)?;

@@ -31,7 +31,10 @@ mod temporaries;
 mod ways;
 
 pub use ends::{FlatEnd, RewriteEnd};
-pub use flat_laws::{simplified_programs_are_flat, simplified_programs_have_no_more_classes};
+pub use flat_laws::{
+    simplified_programs_are_flat, simplified_programs_have_no_more_classes,
+    simplified_statements_are_flat,
+};
 pub use folding::{FoldedExpr, fold_expr};
 pub use laws::{
     items_lead_to_items, live_executables_lead_on, live_ranges_have_live_starts,
@@ -43,9 +46,9 @@ pub use running::{
     folded_expressions_keep_their_values, runs_take_few_operations, simplified_programs_print_alike,
 };
 pub use shared_form::{share, share_text};
-pub use shared_laws::shared_programs_are_flat;
+pub use shared_laws::{shared_programs_are_flat, shared_statements_are_flat};
 pub use shared_runs::{
     replaced_expressions_have_their_values, shared_programs_follow, shared_programs_print_alike,
     shared_steps_are_few,
 };
-pub use simplified::simplify;
+pub use simplified::{Simplified, simplify};

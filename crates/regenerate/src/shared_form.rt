@@ -2,7 +2,8 @@
 
 ghost use Rattle.std.specs.Prelude.{◌≡◌, IfOk, IsErrOf};
 ghost use Rattle.cfg_build.specs.Flow.{flow};
-ghost use Rattle.flat_programs.specs.FlatForm.{IsFlatProgram};
+ghost use Rattle.f77_tree.specs.WellFormed.{IsWellFormed};
+ghost use Rattle.flat_programs.specs.FlatForm.{AreStatementsOf};
 ghost use Rattle.redundancy.specs.Available.{IsAvailability};
 ghost use Rattle.regenerate.specs.Shared.{IsRefused, IsShared, IsSharedText};
 ghost use Rattle.regenerate.specs.SharedParts.{HasParts};
@@ -19,7 +20,7 @@ use alias_classes::Classes;
 use cfg_build::Flow;
 use f77_tree::{Program, scalars_can_be_added};
 use flat_programs::{
-    FlatList, executables_tell_statements, has_long_text, print_unless_long, program_of, recover,
+    FlatList, executables_tell_statements, has_long_text, print_unless_long, program_of,
 };
 use redundancy::Avail;
 use std::alloc::Global;
@@ -27,18 +28,21 @@ use std::alloc::Global;
 // No program has more words.
 const MOST_WORDS: u32 = 262_144;
 
-/// The shared form of a flat program, by its available expressions: a candidate that is available somewhere where it is computed again
-/// has a temporary, which is assigned its value in front of each statement that computes the candidate where it isn't available, and
-/// stands for the candidate everywhere. It takes a few steps for each part of an expression and each executable. The limits are tried
-/// in the order of `RewriteEnd`. The available expressions are given back before the form is made, since they may take as much memory.
+/// The shared form of a flat program, which has these statements, by its available expressions: a candidate that is available somewhere
+/// where it is computed again has a temporary, which is assigned its value in front of each statement that computes the candidate where it
+/// isn't available, and stands for the candidate everywhere. It takes a few steps for each part of an expression and each executable. The
+/// limits are tried in the order of `RewriteEnd`. The available expressions are given back before the form is made, since they may take as
+/// much memory.
 pub fn share<const W: usize>(
     alloc: Global,
     q: &Program,
+    flat: FlatList,
     f: &Flow,
     c: &Classes<W>,
     a: Avail,
 ) -> Result<Program, RewriteEnd>
-    requires program { IsFlatProgram q.now }
+    requires program { IsWellFormed q.now }
+    requires statements { AreStatementsOf q.now flat }
     requires flow { f.now ≡ flow q.now.execs }
     requires available { IsAvailability q.now f.now c.now a }
     ensures shared { IfOk result (λ r. IsShared q.now a r) }
@@ -48,7 +52,7 @@ pub fn share<const W: usize>(
 {
     scalars_can_be_added();
     executables_tell_statements();
-    let parts = shared_parts(alloc, q, f, c, a)?;
+    let parts = shared_parts(alloc, q, flat, f, c, a)?;
     if has_many_statements(&parts.declared, &parts.statements) {
         return Err(RewriteEnd::TooManyStatements);
     }
@@ -58,16 +62,18 @@ pub fn share<const W: usize>(
     Ok(program_of(alloc, &parts.declared, &parts.statements)?)
 }
 
-/// The text of the shared form of a flat program, as `share` makes it and `print_program` prints it, without the form itself. The limits
-/// are the same.
+/// The text of the shared form of a flat program, which has these statements, as `share` makes it and `print_program` prints it, without
+/// the form itself. The limits are the same.
 pub fn share_text<const W: usize>(
     alloc: Global,
     q: &Program,
+    flat: FlatList,
     f: &Flow,
     c: &Classes<W>,
     a: Avail,
 ) -> Result<Vec<u8>, RewriteEnd>
-    requires program { IsFlatProgram q.now }
+    requires program { IsWellFormed q.now }
+    requires statements { AreStatementsOf q.now flat }
     requires flow { f.now ≡ flow q.now.execs }
     requires available { IsAvailability q.now f.now c.now a }
     ensures text { IfOk result (λ text. IsSharedText q.now a text.items) }
@@ -77,7 +83,7 @@ pub fn share_text<const W: usize>(
 {
     scalars_can_be_added();
     executables_tell_statements();
-    let parts = shared_parts(alloc, q, f, c, a)?;
+    let parts = shared_parts(alloc, q, flat, f, c, a)?;
     let is_many = has_many_statements(&parts.declared, &parts.statements);
     if is_many {
         return Err(RewriteEnd::TooManyStatements);
@@ -100,20 +106,21 @@ pub(crate) struct SharedParts {
 fn shared_parts<const W: usize>(
     alloc: Global,
     q: &Program,
+    flat: FlatList,
     f: &Flow,
     c: &Classes<W>,
     a: Avail,
 ) -> Result<SharedParts, RewriteEnd>
-    requires program { IsFlatProgram q.now }
+    requires program { IsWellFormed q.now }
+    requires statements { AreStatementsOf q.now flat }
     requires flow { f.now ≡ flow q.now.execs }
     requires available { IsAvailability q.now f.now c.now a }
-    ensures parts { IfOk result (λ parts. HasParts q.now a parts) }
+    ensures parts { IfOk result (λ parts. HasParts q.now a flat parts) }
     ensures names { IsErrOf result RewriteEnd.TooManyNames → IsRefused q.now a RewriteEnd.TooManyNames }
     ensures statements { IsErrOf result RewriteEnd.TooManyStatements → IsRefused q.now a RewriteEnd.TooManyStatements }
     ensures long { IsErrOf result RewriteEnd.LongText → IsRefused q.now a RewriteEnd.LongText }
 {
     let _classes = c;
-    let flat = recover(alloc, q)?;
     let is_shared = shared_candidates(alloc, q, f, &a)?;
     let shared = shared_numbers(alloc, q, &a, &is_shared)?;
     if shared.len() > (MOST_WORDS - q.words) as usize {

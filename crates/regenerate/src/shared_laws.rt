@@ -6,6 +6,7 @@ ghost use Rattle.cfg_build.specs.Flow.{flow};
 ghost use Rattle.flat_programs.specs.FlatForm.{IsFlatProgram};
 ghost use Rattle.redundancy.specs.Available.{Availability, IsAvailability};
 ghost use Rattle.regenerate.specs.Shared.{IsShared};
+ghost use Rattle.regenerate.specs.SharedFlat.{SharedStatementsAreFlat};
 
 use f77_tree::scalars_can_be_added;
 use flat_programs::{executables_tell_statements, flat_statements_make_programs};
@@ -19,3 +20,9 @@ pub fn shared_programs_are_flat()
     executables_tell_statements();
     flat_statements_make_programs();
 }
+
+/// Flat statements stay flat where temporaries stand for candidates and assignments to them come before statements: marks keep their
+/// numbers, and each statement leads to where it led.
+pub fn shared_statements_are_flat()
+    ensures { SharedStatementsAreFlat }
+{}

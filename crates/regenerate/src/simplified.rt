@@ -7,7 +7,8 @@ ghost use Rattle.alias_classes.specs.Classes.{IsClasses, class_count};
 ghost use Rattle.cfg_build.specs.Flow.{flow};
 ghost use Rattle.const_prop.specs.KnownRows.{edges_of};
 ghost use Rattle.const_prop.specs.Table.{knowns_of};
-ghost use Rattle.regenerate.specs.Simplified.{has_many_statements as has_many, HasManySimplified, IsSimplified};
+ghost use Rattle.flat_programs.specs.Executables.{program_of as program_with};
+ghost use Rattle.regenerate.specs.Simplified.{has_many_statements as has_many, AreSimplified, HasManySimplified, IsSimplified};
 
 use crate::ends::FlatEnd;
 use crate::plan::Plan;
@@ -22,6 +23,15 @@ use std::alloc::Global;
 // No text has more statements.
 pub(crate) const MOST_STATEMENTS: u64 = 4000;
 
+/// The simplified form of a program, and the statements that it has.
+#[derive(Drop)]
+pub struct Simplified {
+    /// The form, whose executables are those of the statements.
+    pub form: Program,
+    /// Its statements, in the order of the text.
+    pub statements: FlatList,
+}
+
 /// The simplified form of a program, by a table of its constants, in a dialect: executables to which control can't come are left out, a
 /// branch that always goes one way only goes there, and constants stand for what is known. It takes a few steps for each executable, each
 /// piece and edge of the flow graph, and each part of an expression. `TooManyStatements` where it has more than 4,000 statements with its
@@ -33,22 +43,25 @@ pub fn simplify<const W: usize>(
     c: &Classes<W>,
     t: &Table<W>,
     checked: bool,
-) -> Result<Program, FlatEnd>
+) -> Result<Simplified, FlatEnd>
     requires program { IsWellFormed p.now }
     requires flow { f.now ≡ flow p.now.execs }
     requires classes { IsClasses p.now c.now }
     requires lines { t.now.known.lines ≡ class_count c.now + 1 }
     requires edges { edges_of t.now.known ≡ edge_count f.now.graph }
     requires pieces { length t.now.decisions ≡ f.now.graph.nodes }
-    ensures simplified { IfOk result (λ q. IsSimplified p.now c.now (knowns_of t.now) checked q) }
+    ensures simplified { IfOk result (λ s. IsSimplified p.now c.now (knowns_of t.now) checked s.form) }
+    ensures statements { IfOk result (λ s. AreSimplified p.now c.now (knowns_of t.now) checked s.statements) }
+    ensures form { IfOk result (λ s. s.form ≡ program_with p.now s.statements) }
     ensures many { IsErrOf result FlatEnd.TooManyStatements → HasManySimplified p.now c.now (knowns_of t.now) checked }
 {
     let plan = Plan::of(alloc, p, f, t)?;
-    let flat = statements(alloc, p, c, t, checked, &plan)?;
-    if has_many_statements(p, &flat) {
+    let statements = statements(alloc, p, c, t, checked, &plan)?;
+    if has_many_statements(p, &statements) {
         return Err(FlatEnd::TooManyStatements);
     }
-    Ok(program_of(alloc, p, &flat)?)
+    let form = program_of(alloc, p, &statements)?;
+    Ok(Simplified { form, statements })
 }
 
 /// Whether a program of these statements has too many with its declarations.

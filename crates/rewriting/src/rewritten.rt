@@ -4,7 +4,7 @@ ghost use Rattle.std.specs.Prelude.{◌≡◌, IfOk, IsErrOf};
 ghost use Rattle.f77_tree.specs.WellFormed.{IsWellFormed};
 ghost use Rattle.alias_classes.specs.Classes.{IsClasses};
 ghost use Rattle.alias_classes.specs.Number.{HasFewClasses};
-ghost use Rattle.flat_programs.specs.FlatForm.{IsFlatProgram};
+ghost use Rattle.flat_programs.specs.FlatForm.{AreStatementsOf, IsFlatProgram};
 ghost use Rattle.rewriting.specs.Rewritten.{HasManySimplifiedOf, IsRefusedOf, IsRewritten, IsRewrittenText, IsSharedOf, IsSharedTextOf, IsSimplifiedOf, PassesLimit};
 
 use alias_classes::{CLASS_WORDS, ClassEnd, Classes, classes_of};
@@ -12,11 +12,13 @@ use cfg_build::{Flow, flow_of};
 use const_prop::{constants, own_touches_route};
 use df_sequence::NoMemory;
 use f77_tree::Program;
+use flat_programs::FlatList;
 use flow_analysis::{Analysis, analyze};
 use redundancy::available;
 use regenerate::{
-    FlatEnd, RewriteEnd, share, share_text, shared_programs_are_flat, simplified_programs_are_flat,
-    simplified_programs_have_no_more_classes, simplify,
+    FlatEnd, RewriteEnd, Simplified, share, share_text, shared_programs_are_flat,
+    simplified_programs_are_flat, simplified_programs_have_no_more_classes,
+    simplified_statements_are_flat, simplify,
 };
 use std::alloc::Global;
 
@@ -36,7 +38,7 @@ pub fn rewrite(alloc: Global, p: &Program, checked: bool) -> Result<Program, Rew
     ensures long { IsErrOf result RewriteEnd.LongText → PassesLimit p.now checked RewriteEnd.LongText }
 {
     match simplified(alloc, p, checked) {
-        Ok(simple) => shared(alloc, &simple),
+        Ok(Simplified { form, statements }) => shared(alloc, &form, statements),
         Err(FlatEnd::TooManyStatements) => Err(RewriteEnd::TooManyStatements),
         Err(FlatEnd::NoMemory) => Err(RewriteEnd::NoMemory),
     }
@@ -55,26 +57,28 @@ pub fn rewrite_text(alloc: Global, p: &Program, checked: bool) -> Result<Vec<u8>
     ensures statements { IsErrOf result RewriteEnd.TooManyStatements → PassesLimit p.now checked RewriteEnd.TooManyStatements }
     ensures long { IsErrOf result RewriteEnd.LongText → PassesLimit p.now checked RewriteEnd.LongText }
 {
-    let simple = match simplified(alloc, p, checked) {
+    let Simplified { form, statements } = match simplified(alloc, p, checked) {
         Ok(simple) => simple,
         Err(FlatEnd::NoMemory) => return Err(RewriteEnd::NoMemory),
         Err(FlatEnd::TooManyStatements) => return Err(RewriteEnd::TooManyStatements),
     };
-    shared_text(alloc, &simple)
+    shared_text(alloc, &form, statements)
 }
 
 // The simplified form of a program by its own constants.
 #[tactic(auto, using(crate::proofs::Analyses::program_routed, crate::proofs::Analyses::pieces_touch))]
-fn simplified(alloc: Global, p: &Program, checked: bool) -> Result<Program, FlatEnd>
+fn simplified(alloc: Global, p: &Program, checked: bool) -> Result<Simplified, FlatEnd>
     requires program { IsWellFormed p.now }
     requires few { HasFewClasses p.now }
-    ensures simplified { IfOk result (λ q. IsSimplifiedOf p.now checked q) }
-    ensures flat { IfOk result (λ q. IsFlatProgram q) }
-    ensures few { IfOk result (λ q. HasFewClasses q) }
+    ensures simplified { IfOk result (λ s. IsSimplifiedOf p.now checked s.form) }
+    ensures flat { IfOk result (λ s. IsFlatProgram s.form) }
+    ensures statements { IfOk result (λ s. AreStatementsOf s.form s.statements) }
+    ensures few { IfOk result (λ s. HasFewClasses s.form) }
     ensures many { IsErrOf result FlatEnd.TooManyStatements → HasManySimplifiedOf p.now checked }
 {
     own_touches_route();
     simplified_programs_are_flat();
+    simplified_statements_are_flat();
     simplified_programs_have_no_more_classes();
     let found = analyze(alloc, p)?;
     let table = constants(
@@ -105,9 +109,10 @@ fn flow_and_classes<'a>(found: Analysis<'a>) -> (Flow, Classes<'a, CLASS_WORDS>)
     (flow, classes)
 }
 
-// The shared form of a flat program by its own available expressions.
-fn shared(alloc: Global, q: &Program) -> Result<Program, RewriteEnd>
+// The shared form of a flat program with these statements by its own available expressions.
+fn shared(alloc: Global, q: &Program, flat: FlatList) -> Result<Program, RewriteEnd>
     requires program { IsFlatProgram q.now }
+    requires statements { AreStatementsOf q.now flat }
     requires few { HasFewClasses q.now }
     ensures shared { IfOk result (λ s. IsSharedOf q.now s) }
     ensures flat { IfOk result (λ s. IsFlatProgram s) }
@@ -119,12 +124,13 @@ fn shared(alloc: Global, q: &Program) -> Result<Program, RewriteEnd>
     let flow = flow_of(alloc, q)?;
     let classes = few_classes_of(alloc, q)?;
     let found = available(alloc, q, &flow, &classes)?;
-    share(alloc, q, &flow, &classes, found)
+    share(alloc, q, flat, &flow, &classes, found)
 }
 
-// The text of the shared form of a flat program by its own available expressions.
-fn shared_text(alloc: Global, q: &Program) -> Result<Vec<u8>, RewriteEnd>
+// The text of the shared form of a flat program with these statements by its own available expressions.
+fn shared_text(alloc: Global, q: &Program, flat: FlatList) -> Result<Vec<u8>, RewriteEnd>
     requires program { IsFlatProgram q.now }
+    requires statements { AreStatementsOf q.now flat }
     requires few { HasFewClasses q.now }
     ensures text { IfOk result (λ text. IsSharedTextOf q.now text.items) }
     ensures names { IsErrOf result RewriteEnd.TooManyNames → IsRefusedOf q.now RewriteEnd.TooManyNames }
@@ -134,7 +140,7 @@ fn shared_text(alloc: Global, q: &Program) -> Result<Vec<u8>, RewriteEnd>
     let flow = flow_of(alloc, q)?;
     let classes = few_classes_of(alloc, q)?;
     let found = available(alloc, q, &flow, &classes)?;
-    share_text(alloc, q, &flow, &classes, found)
+    share_text(alloc, q, flat, &flow, &classes, found)
 }
 
 // The alias classes of a program that has few.

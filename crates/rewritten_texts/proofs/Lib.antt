@@ -1,5 +1,7 @@
 mod FlatDialects
 mod FoldedDialects
 mod RewrittenDialects
+mod RewrittenTables
+mod RewrittenTexts
 mod SharedDialects
 mod SimplifiedDialects

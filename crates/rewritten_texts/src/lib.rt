@@ -1,6 +1,8 @@
-//! The rewritten form of a program and its text: laws over `rewriting`. No code of the compiler is here.
+//! The text of the rewritten form of a program is read back: laws over `rewriting` and `read_back`. No code of the compiler is here.
 #![tactic(auto)]
 
 mod dialects;
+mod texts;
 
 pub use dialects::rewritten_programs_keep_their_dialect;
+pub use texts::{rewritten_programs_have_text, rewritten_texts_are_read_back};

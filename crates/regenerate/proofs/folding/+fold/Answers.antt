@@ -25,7 +25,7 @@ fold_all-loop-e-preserved g t c =
     record {
       expressions = kept.expressions;
       trees = c.in_ok-push.ensures.ok ∙ ap (λ (x : Expr). old ++ x ∷ []) c.in_ok-f.ensures.tree ∙ map-more (folded names c.args.checked words) items i e old c.loop-e-test.true c.e-item.is kept.trees;
-      known = c.in_ok-push-2.ensures.items ∙ ap (λ (x : Option ℤ). told ++ x ∷ []) c.in_ok-f.ensures.known ∙ map-more (known_with names words) items i e told c.loop-e-test.true c.e-item.is kept.known;
+      known = c.in_ok-push-2.ensures.ok ∙ ap (λ (x : Option ℤ). told ++ x ∷ []) c.in_ok-f.ensures.known ∙ map-more (known_with names words) items i e told c.loop-e-test.true c.e-item.is kept.known;
     }
 
 pub fold_expr-returns-in-Some-fold-clause-tree : goal.fold_expr-returns-in-Some-fold-clause-tree
@@ -33,8 +33,8 @@ fold_expr-returns-in-Some-fold-clause-tree g t c =
     let names = c.args.p.now.names in
     let words = words_on c.args.c.now (knowns_of c.args.t.now) c.args.edge in
     let e = c.args.e.now in
-    let are : c.deref.result.now ≡ map (known_with names words) c.in-Apply.args = c.deref.ensures.value ∙ c.in_ok-trees-in-Apply.ensures.known in
-    let told : known_with names words e ≡ Some c.in-Some-fold.z = sym (operator-told names c.args.checked words e c.in-Apply.op c.in-Apply.args c.deref.result.now c.fold.result c.in-Apply.is are c.fold.ensures) ∙ c.in-Some-fold.is in
+    let are : c.as_slice.result.now ≡ map (known_with names words) c.in-Apply.args = c.as_slice.ensures ∙ c.in_ok-trees-in-Apply.ensures.known in
+    let told : known_with names words e ≡ Some c.in-Some-fold.z = sym (operator-told names c.args.checked words e c.in-Apply.op c.in-Apply.args c.as_slice.result.now c.fold.result c.in-Apply.is are c.fold.ensures) ∙ c.in-Some-fold.is in
     let fits : SFits w32 c.in-Some-fold.z = search rules in
     let made = rw (to_z-of_z w32 c.in-Some-fold.z fits) at c.known_as-in-Some-fold.ensures.tree in
     if_ok-map (λ (f : FoldedExpr). f.tree ≡ literal c.args.checked (kind_of_expression names e) c.in-Some-fold.z) (λ (f : FoldedExpr). f.tree ≡ folded names c.args.checked words e) c.known_as-in-Some-fold.result
@@ -46,8 +46,8 @@ fold_expr-returns-in-Some-fold-clause-known g t c =
     let names = c.args.p.now.names in
     let words = words_on c.args.c.now (knowns_of c.args.t.now) c.args.edge in
     let e = c.args.e.now in
-    let are : c.deref.result.now ≡ map (known_with names words) c.in-Apply.args = c.deref.ensures.value ∙ c.in_ok-trees-in-Apply.ensures.known in
-    let told : Some c.in-Some-fold.z ≡ known_with names words e = sym c.in-Some-fold.is ∙ operator-told names c.args.checked words e c.in-Apply.op c.in-Apply.args c.deref.result.now c.fold.result c.in-Apply.is are c.fold.ensures in
+    let are : c.as_slice.result.now ≡ map (known_with names words) c.in-Apply.args = c.as_slice.ensures ∙ c.in_ok-trees-in-Apply.ensures.known in
+    let told : Some c.in-Some-fold.z ≡ known_with names words e = sym c.in-Some-fold.is ∙ operator-told names c.args.checked words e c.in-Apply.op c.in-Apply.args c.as_slice.result.now c.fold.result c.in-Apply.is are c.fold.ensures in
     let fits : SFits w32 c.in-Some-fold.z = search rules in
     let made = rw (to_z-of_z w32 c.in-Some-fold.z fits) at c.known_as-in-Some-fold.ensures.known in
     if_ok-map (λ (f : FoldedExpr). f.known ≡ Some c.in-Some-fold.z) (λ (f : FoldedExpr). f.known ≡ known_with names words e) c.known_as-in-Some-fold.result
@@ -65,8 +65,8 @@ fold_expr-returns-in_default-fold-clause-tree g t c =
     let names = c.args.p.now.names in
     let words = words_on c.args.c.now (knowns_of c.args.t.now) c.args.edge in
     let e = c.args.e.now in
-    let are : c.deref.result.now ≡ map (known_with names words) c.in-Apply.args = c.deref.ensures.value ∙ c.in_ok-trees-in-Apply.ensures.known in
-    let told : known_with names words e ≡ None = sym (operator-told names c.args.checked words e c.in-Apply.op c.in-Apply.args c.deref.result.now c.fold.result c.in-Apply.is are c.fold.ensures) ∙ c.in_default-fold.is in
+    let are : c.as_slice.result.now ≡ map (known_with names words) c.in-Apply.args = c.as_slice.ensures ∙ c.in_ok-trees-in-Apply.ensures.known in
+    let told : known_with names words e ≡ None = sym (operator-told names c.args.checked words e c.in-Apply.op c.in-Apply.args c.as_slice.result.now c.fold.result c.in-Apply.is are c.fold.ensures) ∙ c.in_default-fold.is in
     operator-unknown names c.args.checked words e c.in-Apply.op c.in-Apply.args c.in_ok-trees-in-Apply.field-0.trees c.in-Apply.is told c.in_ok-trees-in-Apply.ensures.trees
 
 pub fold_expr-returns-in_default-fold-clause-known : goal.fold_expr-returns-in_default-fold-clause-known
@@ -74,5 +74,5 @@ fold_expr-returns-in_default-fold-clause-known g t c =
     let names = c.args.p.now.names in
     let words = words_on c.args.c.now (knowns_of c.args.t.now) c.args.edge in
     let e = c.args.e.now in
-    let are : c.deref.result.now ≡ map (known_with names words) c.in-Apply.args = c.deref.ensures.value ∙ c.in_ok-trees-in-Apply.ensures.known in
-    sym c.in_default-fold.is ∙ operator-told names c.args.checked words e c.in-Apply.op c.in-Apply.args c.deref.result.now c.fold.result c.in-Apply.is are c.fold.ensures
+    let are : c.as_slice.result.now ≡ map (known_with names words) c.in-Apply.args = c.as_slice.ensures ∙ c.in_ok-trees-in-Apply.ensures.known in
+    sym c.in_default-fold.is ∙ operator-told names c.args.checked words e c.in-Apply.op c.in-Apply.args c.as_slice.result.now c.fold.result c.in-Apply.is are c.fold.ensures

@@ -6,7 +6,7 @@ use Rattle.rewriting.proofs.rewritten.rewrite_text.Goals as goal
 pub returns-clause-text : goal.returns-clause-text
 returns-clause-text c =
     let p = c.args.p.now in
-    let simple = c.in-Ok.simple in
-    IfOk-weaker c.shared_text.result (λ text. IsSharedTextOf simple text.items) (λ text. IsRewrittenText p c.args.checked text.items)
-    (λ text is. rewritten_text p c.args.checked simple c.in-Ok.ensures.simplified text.items is)
+    let form = c.in-Ok.simple.form in
+    IfOk-weaker c.shared_text.result (λ text. IsSharedTextOf form text.items) (λ text. IsRewrittenText p c.args.checked text.items)
+    (λ text is. rewritten_text p c.args.checked form c.in-Ok.ensures.simplified text.items is)
     c.shared_text.ensures.text
