@@ -7,3 +7,10 @@ pub mod LineReads
 pub mod ForgottenLoads
 pub mod LoadReads
 pub mod MarkLemmas
+pub mod SpotWalks
+pub mod LoadNodes
+pub mod LoadNames
+pub mod ForkCourses
+pub mod NewMarks
+pub mod FirstForks
+pub mod OpenLines

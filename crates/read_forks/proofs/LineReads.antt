@@ -20,6 +20,12 @@ own_edge [] k inside = refl
 own_edge (e ∷ edges) zero inside = refl
 own_edge (e ∷ edges) (suc k) inside = ap (λ more. e ∷ more) (own_edge edges k (omega (arith, inside)))
 
+-- a line that stands on an edge is one of the list
+pub is_inside : (edges : List (Option ℕ)) (k edge : ℕ) → joined (slice_get edges k) ≡ Some edge → k < length edges
+is_inside [] k edge is = absurd cc
+is_inside (e ∷ edges) zero edge is = omega arith
+is_inside (e ∷ edges) (suc k) edge is = let r = is_inside edges k edge is in omega (arith, r)
+
 own_number : (numbers : List ℕ) (k : ℕ) → slice_set numbers k (slice_index numbers k) ≡ numbers
 own_number [] k = refl
 own_number (n ∷ numbers) zero = refl

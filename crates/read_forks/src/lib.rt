@@ -1,9 +1,17 @@
-//! What code that plays the game with groups of loads stands on: a load line by line, and marks of the loads that have fired on the token
-//! lines that they need.
+//! The net of a program with operations as nodes, in which the loads of a group fire in any order, and the laws and the marks on which
+//! it stands.
 #![tactic(auto)]
 
+mod fork_firing;
+mod fork_net;
+mod fork_system;
+mod group_walks;
 mod marks;
+mod new_fork_net;
+mod new_marks;
+mod retesting;
 mod step_laws;
 
+pub use fork_net::ForkNet;
 pub use marks::{Mark, is_loaded, put_mark};
 pub use step_laws::{fired_loads_are_near, loads_fire_line_by_line};

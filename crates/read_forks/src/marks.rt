@@ -3,7 +3,7 @@
 ghost use Rattle.std.specs.Prelude.{◌≡◌, ◌<◌, ℕ, true, length, map, slice_get, Some};
 ghost use Rattle.std.specs.List.{list_any};
 ghost use Rattle.read_forks.specs.LoadChanges.{IsPut};
-ghost use Rattle.read_forks.specs.LoadMarks.{HasSameLines, Row, is_of, loaded_in, mark_put, row_at, row_in, tells};
+ghost use Rattle.read_forks.specs.LoadMarks.{HasSameLines, Row, is_of, line_of, loaded_in, mark_put, row_at, row_in, tells};
 
 /// A token line that an operation needs.
 #[derive(Clone, Copy, Debug, PartialEq, Eq)]
@@ -24,6 +24,28 @@ pub fn is_loaded(marks: &Vec<Vec<Vec<Mark>>>, line: u32, piece: u32, i: u32) -> 
         return false;
     };
     row_tells(row, line)
+}
+
+/// The marks of an operation, of which there are none but for loads.
+pub(crate) fn marks_of(marks: &Vec<Vec<Vec<Mark>>>, piece: u32, i: u32) -> &[Mark]
+    ensures { result.now ≡ row_at marks.now.items piece i }
+{
+    let Some(rows) = marks.get(piece as usize) else {
+        return &[];
+    };
+    let Some(row) = rows.get(i as usize) else {
+        return &[];
+    };
+    row.as_slice()
+}
+
+/// The line of the mark with this number of an operation.
+pub(crate) fn line_at(marks: &Vec<Vec<Vec<Mark>>>, piece: u32, i: u32, j: usize) -> u32
+    requires { j < length (row_at marks.now.items piece i) }
+    ensures { slice_get (map line_of (row_at marks.now.items piece i)) j ≡ Some result }
+{
+    let row = marks_of(marks, piece, i);
+    row[j].line
 }
 
 // Whether a load has fired on a line, by its marks.

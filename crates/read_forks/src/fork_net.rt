@@ -1,0 +1,45 @@
+//! The net of a program with operations as nodes, in which the loads of a group fire in any order.
+
+ghost use Rattle.std.specs.Prelude.{◌≡◌, length};
+ghost use Rattle.op_net.specs.ApartLoads.{IsUncounted};
+ghost use Rattle.op_net.specs.NetView.{net_of as net_in};
+ghost use Rattle.op_net.specs.Waits.{node_total};
+ghost use Rattle.read_forks.specs.MarkedNets.{fork_marking};
+ghost use Rattle.read_forks.specs.LoadMarks.{AreMarksOf};
+ghost use Rattle.read_forks.specs.LoadedGroups.{AreNear};
+
+use crate::marks::Mark;
+use firing::ReadySet;
+use op_net::OpNet;
+
+/// A dataflow net that does what a program does, as `OpNet` does, but that loads which follow one another along a token line fire in any
+/// order: no load changes what another one reads. The line waits before them until all of them have fired.
+#[derive(Drop)]
+pub struct ForkNet<'a, const W: usize> {
+    // Each of its lines stands before the first load of its group until the line goes on.
+    pub(crate) net: OpNet<'a, W>,
+    // For each operation of each piece the lines that it needs, and on which of them it has fired while others of its group haven't.
+    pub(crate) marks: Vec<Vec<Vec<Mark>>>,
+    // The ready nodes, while they are kept.
+    pub(crate) kept: bool,
+    pub(crate) set: ReadySet,
+    ghost uncounted: { IsUncounted net },
+    ghost own_marks: { AreMarksOf (net_in net) marks.items },
+    ghost room: { length set ≡ node_total (net_in net) },
+    ghost near: { AreNear (net_in net) (fork_marking net marks.items) },
+}
+
+impl<'a, const W: usize> ForkNet<'a, W> {
+    ghost use Rattle.std.specs.Prelude.{◌≡◌, ◌<◌, length};
+    ghost use Rattle.f77_tree.specs.Value.{word_at};
+    ghost use Rattle.op_net.specs.Waits.{node_total};
+    ghost use Rattle.read_forks.specs.ForkView.{marking_of};
+
+    /// The word of the store with this number.
+    pub fn word(&self, k: u32) -> i32
+        requires { k < length (marking_of self.now).operations.tokens.memory.store }
+        ensures { result ≡ word_at (marking_of self.now).operations.tokens.memory.store k }
+    {
+        self.net.word(k)
+    }
+}
