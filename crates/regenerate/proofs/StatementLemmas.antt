@@ -1,5 +1,5 @@
 -- The statements that items become.
-use Rattle.std.proofs.Common.{◌≡◌, ℕ, ◌+◌, ◌<◌, ◌≤◌, ℤ, Bool, true, false, ◌==◌, List, [], ◌∷◌, ◌++◌, length, get_or, map, flat_map, Option, Some, None, sym, ap, subst, ◌∙◌, arith, append_assoc, append-nil}
+use Rattle.std.proofs.Common.{◌≡◌, ℕ, ◌+◌, ◌<◌, ◌≤◌, ℤ, Bool, true, false, ◌==◌, List, [], ◌∷◌, ◌++◌, length, get_or, map, flat_map, Option, Some, None, refl, sym, ap, subst, ◌∙◌, arith, append_assoc, append-nil}
 use Rattle.std.specs.Prelude.{if◌then◌else◌, slice_get}
 use Rattle.std.specs.List.{range_with_len}
 use Rattle.std.proofs.lemmas.Bool.{eq-eqb}
@@ -26,6 +26,7 @@ use Rattle.flat_programs.specs.declared.statements.FlatLine.{FlatLine}
 use Rattle.regenerate.specs.Items.{kind_at, own_piece, own_edge, IsEnteredPiece, IsKeptKind, IsItem}
 use Rattle.regenerate.specs.Plans.{IsFoldedAt}
 use Rattle.regenerate.specs.Simplified.{decided, has_mark, mark_of, last_jump, left_of, lines, rest}
+use Rattle.regenerate.specs.StatementCounts.{left_count}
 
 -- ---- how many there are
 
@@ -43,6 +44,20 @@ module _ (p : Program) (checked : Bool) (words : ℕ → Option ℤ) (mark : ℕ
   left_of-most (DoStart loop_no var first last step body exit) d = omega arith
   left_of-most (DoNext loop_no var body exit) d = omega arith
   left_of-most End d = omega arith
+
+  left_of-count : (kind : ExecKind) (d : Option ℕ) → length (left_of p checked words mark kind d) ≡ left_count kind d
+  left_of-count (Assign target value next) d = refl
+  left_of-count (Print items next) d = refl
+  left_of-count (Pass next) d = refl
+  left_of-count (Test c if_true if_false) None = refl
+  left_of-count (Test c if_true if_false) (Some i) = refl
+  left_of-count (Sign value below at above) None = refl
+  left_of-count (Sign value below at above) (Some i) = refl
+  left_of-count (Pick value targets other) None = refl
+  left_of-count (Pick value targets other) (Some i) = refl
+  left_of-count (DoStart loop_no var first last step body exit) d = refl
+  left_of-count (DoNext loop_no var body exit) d = refl
+  left_of-count End d = refl
 
 either-most : {X : Type 0} (b : Bool) (x : X) → length (if b then x ∷ [] else []) ≤ 1
 either-most true x = omega arith
@@ -117,6 +132,24 @@ module _ (p : Program) (c : ClassTable) (t : Knowns) (checked : Bool) (is_item :
       ∙ ap (λ (xs : List Flat). old ++ map (at exec.line) ((if has_mark p t is_item k then Mark ∷ [] else []) ++ xs ++ j)) o_is
       ∙ ap (λ (xs : List Flat). old ++ map (at exec.line) ((if has_mark p t is_item k then Mark ∷ [] else []) ++ left_of p checked (words_on c t edge) (mark_of p t is_item) exec.kind d ++ xs)) j_is
       ∙ ap (λ (xs : List FlatLine). old ++ xs) (lines-are exec edge d item found edge_is d_is)
+
+  -- how many statements an item becomes
+  pub lines-count : (exec : Exec) (d : Option ℕ) (m j : List Flat) (own : ℕ) → is_item k ≡ true → slice_get p.execs k ≡ Some exec → d ≡ decided p t k
+      → m ≡ (if has_mark p t is_item k then Mark ∷ [] else []) → own ≡ left_count exec.kind d → j ≡ map (λ s. Jump (mark_of p t is_item s)) (last_jump is_item k (rest exec.kind d))
+      → length m + own + length j ≡ length (lines p c t checked is_item k)
+  lines-count exec d m j own item found d_is m_is own_is j_is =
+      let edge = own_edge p k in
+      let marks : List Flat = if has_mark p t is_item k then Mark ∷ [] else [] in
+      let o = left_of p checked (words_on c t edge) (mark_of p t is_item) exec.kind d in
+      let js = map (λ s. Jump (mark_of p t is_item s)) (last_jump is_item k (rest exec.kind d)) in
+      let first = length-append marks o in
+      let second = length-append (marks ++ o) js in
+      let third = length-map (stmts edge exec.kind d) (at exec.line) in
+      let left = left_of-count p checked (words_on c t edge) (mark_of p t is_item) exec.kind d in
+      let same = ap (λ (xs : List FlatLine). length xs) (lines-are exec edge d item found refl d_is) in
+      let m_same = ap (λ (xs : List Flat). length xs) m_is in
+      let j_same = ap (λ (xs : List Flat). length xs) j_is in
+      omega (arith, first, second, third, left, same, m_same, j_same, own_is)
 
 -- the statements of one executable more
 pub lines-more : (f : ℕ → List FlatLine) (k : ℕ) → flat_map f (range_with_len 0 (k + 1)) ≡ flat_map f (range_with_len 0 k) ++ f k

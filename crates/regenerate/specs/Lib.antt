@@ -20,3 +20,4 @@ pub mod RightRuns
 pub mod SharedRuns
 pub mod SharedParts
 pub mod SharedFlat
+pub mod StatementCounts

@@ -26,6 +26,7 @@ mod shared_lines;
 mod shared_runs;
 mod sharing;
 mod simplified;
+mod statement_counts;
 mod statements;
 mod temporaries;
 mod ways;

@@ -1,17 +1,19 @@
 //! The simplified form of a program.
 
-ghost use Rattle.std.specs.Prelude.{◌≡◌, ◌+◌, ◌<◌, ◌^◌, length, IfOk, IsErrOf};
+ghost use Rattle.std.specs.Prelude.{◌≡◌, ◌+◌, ◌<◌, ◌^◌, nat_lt, length, IfOk, IsErrOf};
 ghost use Rattle.closed_walks.specs.Graph.{edge_count};
 ghost use Rattle.f77_tree.specs.WellFormed.{IsWellFormed};
 ghost use Rattle.alias_classes.specs.Classes.{IsClasses, class_count};
 ghost use Rattle.cfg_build.specs.Flow.{flow};
 ghost use Rattle.const_prop.specs.KnownRows.{edges_of};
 ghost use Rattle.const_prop.specs.Table.{knowns_of};
+ghost use Rattle.flat_programs.specs.Declarations.{declared};
 ghost use Rattle.flat_programs.specs.Executables.{program_of as program_with};
-ghost use Rattle.regenerate.specs.Simplified.{has_many_statements as has_many, AreSimplified, HasManySimplified, IsSimplified};
+ghost use Rattle.regenerate.specs.Simplified.{has_many_statements as has_many, most_statements, AreSimplified, HasManySimplified, IsSimplified};
 
 use crate::ends::FlatEnd;
 use crate::plan::Plan;
+use crate::statement_counts::statement_count;
 use crate::statements::statements;
 use alias_classes::Classes;
 use cfg_build::Flow;
@@ -35,7 +37,7 @@ pub struct Simplified {
 /// The simplified form of a program, by a table of its constants, in a dialect: executables to which control can't come are left out, a
 /// branch that always goes one way only goes there, and constants stand for what is known. It takes a few steps for each executable, each
 /// piece and edge of the flow graph, and each part of an expression. `TooManyStatements` where it has more than 4,000 statements with its
-/// declarations.
+/// declarations; these are counted before one is made.
 pub fn simplify<const W: usize>(
     alloc: Global,
     p: &Program,
@@ -56,10 +58,11 @@ pub fn simplify<const W: usize>(
     ensures many { IsErrOf result FlatEnd.TooManyStatements → HasManySimplified p.now c.now (knowns_of t.now) checked }
 {
     let plan = Plan::of(alloc, p, f, t)?;
-    let statements = statements(alloc, p, c, t, checked, &plan)?;
-    if has_many_statements(p, &statements) {
+    let count = statement_count(&*p, &*c, &*t, checked, &plan);
+    if has_too_many(p, count) {
         return Err(FlatEnd::TooManyStatements);
     }
+    let statements = statements(alloc, p, c, t, checked, &plan, count)?;
     let form = program_of(alloc, p, &statements)?;
     Ok(Simplified { form, statements })
 }
@@ -68,8 +71,15 @@ pub fn simplify<const W: usize>(
 pub(crate) fn has_many_statements(p: &Program, flat: &FlatList) -> bool
     ensures { result ≡ has_many p.now flat.now }
 {
+    has_too_many(p, flat.len())
+}
+
+/// Whether a program of so many statements has too many with its declarations.
+fn has_too_many(p: &Program, count: u32) -> bool
+    ensures { result ≡ nat_lt most_statements (length (declared p.now) + count) }
+{
     if MOST_STATEMENTS < u64::from(p.names.len()) {
         return true;
     }
-    MOST_STATEMENTS < declaration_count(p).saturating_add(u64::from(flat.len()))
+    MOST_STATEMENTS < declaration_count(p).saturating_add(u64::from(count))
 }

@@ -22,7 +22,7 @@ use f77_tree::{ExecKind, Program, well_formed_programs_can_run};
 use flat_programs::{Flat, FlatLine, FlatList};
 use std::alloc::Global;
 
-/// All statements of the simplified form of a program, in order.
+/// All statements of the simplified form of a program, in order. There is room at once for as many as are told.
 pub(crate) fn statements<'a, const W: usize>(
     alloc: Global,
     p: &'a Program,
@@ -30,13 +30,14 @@ pub(crate) fn statements<'a, const W: usize>(
     t: &'a Table<W>,
     checked: bool,
     plan: &'a Plan,
+    count: u32,
 ) -> Result<FlatList, NoMemory>
     requires scene { IsScene p.now c.now t.now plan.now }
     requires edges { edges_of t.now.known ≡ edge_count (flow p.now.execs).graph }
     ensures few { IfOk result (λ flat. length flat < 2 ^ 31) }
     ensures flat { IfOk result (λ flat. flat ≡ all_lines p.now c.now (knowns_of t.now) checked (answer plan.now.ways.items.items)) }
 {
-    let mut flat = Sequence::with_capacity(alloc, p.execs.len() as usize)?;
+    let mut flat = Sequence::with_capacity(alloc, count as usize)?;
     for k in 0..p.execs.len() {
         let edge = plan.edges[k as usize];
         let scene = Scene {
@@ -106,7 +107,7 @@ fn append(flat: &mut FlatList, line: u32, stmt: Option<Flat>) -> Result<(), NoMe
 }
 
 /// The mark of an item, if it has one.
-fn own_mark<const W: usize>(s: &Scene<W>) -> Option<Flat>
+pub(crate) fn own_mark<const W: usize>(s: &Scene<W>) -> Option<Flat>
     requires scene { IsScene s.now.p.now s.now.c.now s.now.t.now s.now.plan.now }
     requires k { s.now.k < length s.now.p.now.execs }
     ensures { option_to_list result ≡ (if has_mark s.now.p.now (knowns_of s.now.t.now) (answer s.now.plan.now.ways.items.items) s.now.k then Mark ∷ [] else []) }
@@ -119,7 +120,7 @@ fn own_mark<const W: usize>(s: &Scene<W>) -> Option<Flat>
 }
 
 /// The jump of an item to the successor that is left, if it has one.
-fn jump<const W: usize>(s: &Scene<W>, kind: &ExecKind) -> Option<Flat>
+pub(crate) fn jump<const W: usize>(s: &Scene<W>, kind: &ExecKind) -> Option<Flat>
     requires scene { IsScene s.now.p.now s.now.c.now s.now.t.now s.now.plan.now }
     requires k { s.now.k < length s.now.p.now.execs }
     requires executable { All (λ x. x < length s.now.p.now.execs) (successors kind.now) }

@@ -1,6 +1,6 @@
 -- No array comes to the table of names with temporaries.
 use Rattle.std.proofs.Common.{◌≡◌, ℕ, zero, suc, ◌+◌, Bool, true, false, cond, not, List, [], ◌∷◌, ◌++◌, length, All, Option, Some, None, refl, sym, ap, ◌∙◌, arith}
-use Rattle.std.specs.Prelude.{nat_lt, bytes_eq, flat_map, slice_get}
+use Rattle.std.specs.Prelude.{nat_lt, bytes_eq, slice_get}
 use Rattle.std.specs.List.{range_with_len}
 use Rattle.f77_tree.specs.declared.declarations.Dim.{Dim}
 use Rattle.f77_tree.specs.declared.expressions.Expr.{Expr}

@@ -1,10 +1,8 @@
 -- The rewritten form of a program has a text, which is read back.
-use Rattle.std.proofs.Common.{◌≡◌, ℕ, ◌+◌, ◌<◌, ◌≤◌, ⊎_elim, Bool, true, false, List, length, Option, Some, None, refl, sym, ap, subst, ◌∙◌}
+use Rattle.std.proofs.Common.{◌≡◌, ℕ, ◌+◌, ◌<◌, ◌≤◌, ⊎_elim, Bool, true, false, List, length, Some, None, refl, sym, ap, subst, ◌∙◌}
 use Rattle.std.specs.Prelude.{nat_lt, if◌then◌else◌}
 use Rattle.std.proofs.lemmas.Bool.{cases_lt, false≢true}
 use Rattle.std.proofs.lemmas.Bool.Decides.{Decides-ltb}
-use Rattle.f77_tree.specs.declared.expressions.Expr.{Expr}
-use Rattle.f77_tree.specs.declared.programs.NameInfo.{NameInfo}
 use Rattle.f77_tree.specs.declared.programs.Program.{Program}
 use Rattle.f77_tree.specs.Dialects.{IsOfDialect}
 use Rattle.f77_tree.specs.WellFormed.{IsWellFormed}
@@ -12,7 +10,7 @@ use Rattle.alias_classes.specs.Classes.{ClassTable}
 use Rattle.cfg_build.specs.Flow.{flow}
 use Rattle.flat_programs.specs.declared.statements.FlatLine.{FlatLine}
 use Rattle.flat_programs.specs.Declarations.{declared}
-use Rattle.flat_programs.specs.FlatForm.{AreStatementsOf, IsFlat, IsFlatProgram}
+use Rattle.flat_programs.specs.FlatForm.{AreStatementsOf, IsFlatProgram}
 use Rattle.flat_programs.specs.Text.{has_long_text, text as text_of}
 use Rattle.redundancy.specs.Available.{Availability, IsAvailability}
 use Rattle.regenerate.specs.declared.ends.RewriteEnd.TheVariants.{TooManyNames, TooManyStatements, LongText}
