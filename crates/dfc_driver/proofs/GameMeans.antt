@@ -18,7 +18,7 @@ use Rattle.dfc_driver.specs.declared.status.Status.TheVariants as status
 use Rattle.dfc_driver.specs.declared.words.Told.{Told}
 use Rattle.dfc_driver.specs.declared.words.Told.TheVariants.{Output, Nodes, Store}
 use Rattle.dfc_driver.specs.Due.{Due, IsDueBy, IsPlayed, told_text, trapped}
-use Rattle.dfc_driver.specs.Game.{Marking, Place, store_in}
+use Rattle.dfc_driver.specs.Game.{GameKind, Place}
 use Rattle.dfc_driver.specs.GameLaws.{StopFirst}
 use Rattle.dfc_driver.specs.Headline.{IsPrefixOfRun, MeansRest, MeansTrap, TellsEnd, TellsPrefix, TellsTrap, bound_of, lines_in}
 use Rattle.dfc_driver.specs.Playing.{Game, StaysInLockstep, opening, stage, stage_of, way_of}
@@ -71,8 +71,8 @@ module _ (p : Program) (input : List ℤ) where
 
 -- ---- the game
 
-module _ (stop_first : StopFirst) (what : Told) (asked : Asked) (p : Program) (due : Due) (game : Game Marking Place) (lockstep : StaysInLockstep game p asked.input) (store : (n : ℕ) → store_in (after game.moves game.start (game.own_order n)) ≡ (source p asked.input n).memory.store) (within : (n : ℕ) → length (game.own_order n) ≤ bound_of p n) where
-  abbrev w : Way Marking Place
+module _ {M : Type 0} (kind : GameKind M) (stop_first : StopFirst) (what : Told) (asked : Asked) (p : Program) (due : Due) (game : Game M Place) (lockstep : StaysInLockstep game p asked.input) (store : (n : ℕ) → kind.store (after game.moves game.start (game.own_order n)) ≡ (source p asked.input n).memory.store) (within : (n : ℕ) → length (game.own_order n) ≤ bound_of p n) where
+  abbrev w : Way M Place
   w = way_of game asked.picks
 
   -- the same text at the first step at which the run has stopped
@@ -83,13 +83,13 @@ module _ (stop_first : StopFirst) (what : Told) (asked : Asked) (p : Program) (d
       let sum : n ≡ d + first.count = omega (arith, le) in
       ap (out p asked.input) sum ∙ ap (λ (x : State). x.out) (stays p asked.input first.count d mark goes first.stops.reached)
 
-  module _ (firings : ℕ) (whole : IsPlayed what asked p firings due) (all : HasOrder w (opening game) firings) where
+  module _ (firings : ℕ) (whole : IsPlayed kind what asked p firings due) (all : HasOrder w (opening game) firings) where
     abbrev ks : List ℕ
     ks = all.nodes
 
     -- what is told of the game
     abbrev text : PlayEnd → List ℕ
-    text end = told_text what p w (opening game) firings end
+    text end = told_text kind what p w (opening game) firings end
 
     text_is : (end : PlayEnd) (bytes : List ℕ) → IsDueBy end asked.limit bytes due → due.text ≡ bytes
     text_is (Rest n) bytes is = ap (λ (d : Due). d.text) is
@@ -105,7 +105,7 @@ module _ (stop_first : StopFirst) (what : Told) (asked : Asked) (p : Program) (d
         let f : WritesPrefix (out p asked.input) (written game.moves game.start ks) = lockstep.follows.prefix ks all.are.order in
         record { steps = f.steps; prefix = subst (λ l. IsPrefix l (out p asked.input f.steps)) (all.are.lines ∙ sym is) f.prefix }
 
-    tells_prefix : (kind : Told) (end : PlayEnd) → due.text ≡ told_text kind p w (opening game) firings end → TellsPrefix kind asked p due.text
+    tells_prefix : (shown_as : Told) (end : PlayEnd) → due.text ≡ told_text kind shown_as p w (opening game) firings end → TellsPrefix shown_as asked p due.text
     tells_prefix Output end is = output_prefix due.text is
     tells_prefix Nodes end is = tt
     tells_prefix Store end is = tt
@@ -114,7 +114,7 @@ module _ (stop_first : StopFirst) (what : Told) (asked : Asked) (p : Program) (d
     prefix_of_run end is = tells_prefix what end (text_is end (text end) is)
 
     -- the marking that the firings lead to
-    abbrev there : Marking
+    abbrev there : M
     there = after game.moves game.start ks
 
     over_there : IsOver game.moves (played w (opening game) firings).marking → IsOver game.moves there
@@ -126,20 +126,20 @@ module _ (stop_first : StopFirst) (what : Told) (asked : Asked) (p : Program) (d
         let settles = lockstep.follows.ends steps (ap stage_of (ends.reached)) in
         settles.same_end ks all.are.order count ∙ sym (settles.same_end (game.own_order steps) (lockstep.simulated.order steps) refl)
 
-    store_is : (steps : ℕ) → EndsIn p asked.input steps → length ks ≡ length (game.own_order steps) → store_in (played w (opening game) firings).marking ≡ (source p asked.input steps).memory.store
-    store_is steps ends count = ap store_in (sym all.are.leads ∙ end_is steps ends count) ∙ store steps
+    store_is : (steps : ℕ) → EndsIn p asked.input steps → length ks ≡ length (game.own_order steps) → kind.store (played w (opening game) firings).marking ≡ (source p asked.input steps).memory.store
+    store_is steps ends count = ap kind.store (sym all.are.leads ∙ end_is steps ends count) ∙ store steps
 
-    tells_end : (kind : Told) (n steps : ℕ) → n ≡ firings → written game.moves game.start ks ≡ out p asked.input steps → store_in (played w (opening game) firings).marking ≡ (source p asked.input steps).memory.store → due.text ≡ told_text kind p w (opening game) firings (Rest n) → TellsEnd kind asked p steps firings due.text
+    tells_end : (shown_as : Told) (n steps : ℕ) → n ≡ firings → written game.moves game.start ks ≡ out p asked.input steps → kind.store (played w (opening game) firings).marking ≡ (source p asked.input steps).memory.store → due.text ≡ told_text kind shown_as p w (opening game) firings (Rest n) → TellsEnd shown_as asked p steps firings due.text
     tells_end Output n steps made lines words is = is ∙ sym all.are.lines ∙ lines
     tells_end Nodes n steps made lines words is = ap lines_in is ∙ name_lines w (opening game) firings
     tells_end Store n steps made lines words is = is ∙ ap (λ l. store_text p.names l ++ fired_line n) words ∙ ap (λ k. store_text p.names (source p asked.input steps).memory.store ++ fired_line k) made
 
-    tells_trap : (kind : Told) (trap : Trap) (line steps : ℕ) → written game.moves game.start ks ≡ out p asked.input steps → due.text ≡ told_text kind p w (opening game) firings (Trapped trap line) → TellsTrap kind asked p steps due.text
+    tells_trap : (shown_as : Told) (trap : Trap) (line steps : ℕ) → written game.moves game.start ks ≡ out p asked.input steps → due.text ≡ told_text kind shown_as p w (opening game) firings (Trapped trap line) → TellsTrap shown_as asked p steps due.text
     tells_trap Output trap line steps lines is = is ∙ sym all.are.lines ∙ lines
     tells_trap Nodes trap line steps lines is = tt
     tells_trap Store trap line steps lines is = is
 
-    pub rests : (end : PlayEnd) → IsRun w (opening game) asked.limit firings end → IsDueBy end asked.limit (text end) due → due.status ≡ status.Done → MeansRest what asked p due
+    pub rests : (end : PlayEnd) → IsRun w (opening game) asked.limit firings end → IsDueBy end asked.limit (text end) due → due.status ≡ status.Done → MeansRest kind what asked p due
     rests (WriteFault n) run is told = absurd is
     rests Limit run is told = absurd (other_status status.Limit status.Done _ (λ e. cc) is refl told)
     rests (Trapped trap line) run is told = absurd (other_status status.Trapped status.Done _ (λ e. cc) is refl told)
@@ -205,7 +205,7 @@ module _ (stop_first : StopFirst) (what : Told) (asked : Asked) (p : Program) (d
         let count : length ks ≡ length (game.own_order steps) = omega (arith, most, made, few, limit, enough) in
         let same_end : there ≡ after s m (game.own_order steps) = end_is steps ends count in
         let over : IsOver s (after s m (game.own_order steps)) = (subst (StandsAt s (after s m (game.own_order steps))) stage (lockstep.simulated.stands steps)).1 in
-        let can : CanFire s there (node_at w (opening game) firings) = subst (λ (x : Marking). CanFire s x (node_at w (opening game) firings)) (sym all.are.leads) run.ends.1 in
+        let can : CanFire s there (node_at w (opening game) firings) = subst (λ (x : M). CanFire s x (node_at w (opening game) firings)) (sym all.are.leads) run.ends.1 in
         absurd (subst (IsOver s) (sym same_end) over (node_at w (opening game) firings) can)
 
     -- where the run traps, the game traps in the source's own order

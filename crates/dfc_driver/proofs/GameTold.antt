@@ -21,7 +21,7 @@ use Rattle.dfc_driver.specs.declared.words.Told.{Told}
 use Rattle.dfc_driver.specs.declared.words.Told.TheVariants.{Output, Nodes, Store}
 use Rattle.dfc_driver.specs.Answers.{AnswersAs, IsBegun, IsTold, Tells}
 use Rattle.dfc_driver.specs.Due.{Due, IsDueBy, IsDuePlay, IsGameOf, IsGameTold, IsJust, all_due, done, stopped, told_text, trapped}
-use Rattle.dfc_driver.specs.Game.{IsGameOn, Marking, Place, store_in}
+use Rattle.dfc_driver.specs.Game.{GameKind, IsGameOn, Place}
 use Rattle.dfc_driver.specs.Playing.{Game, opening, way_by, way_of}
 use Rattle.dfc_driver.specs.StoreText.{fired_line, store_text}
 use Rattle.dfc_driver.specs.Words.{Asked}
@@ -171,40 +171,40 @@ answers_more is also old new s more answers = on s answers
     on NoMemory t = t
 
 -- where the output is told, or the nodes, what is shown of the firings is told
-pub output_told : (what : Told) → what ≡ Output → (p : Program) (w : Way Marking Place) (start : Moment Marking Place) (limit : ℕ) (due : Due) → IsGameOf w start limit show.Output due → IsGameTold what p w start limit due
-output_told what same p w start limit due is = subst (λ (kind : Told). IsGameTold kind p w start limit due) (sym same) (record { firings = is.firings; tells = record { end = is.played.end; run = is.played.run; is = is.played.is } })
+pub output_told : {M : Type 0} (kind : GameKind M) (what : Told) → what ≡ Output → (p : Program) (w : Way M Place) (start : Moment M Place) (limit : ℕ) (due : Due) → IsGameOf w start limit show.Output due → IsGameTold kind what p w start limit due
+output_told kind what same p w start limit due is = subst (λ (shown_as : Told). IsGameTold kind shown_as p w start limit due) (sym same) (record { firings = is.firings; tells = record { end = is.played.end; run = is.played.run; is = is.played.is } })
 
-pub nodes_told : (what : Told) → what ≡ Nodes → (p : Program) (w : Way Marking Place) (start : Moment Marking Place) (limit : ℕ) (due : Due) → IsGameOf w start limit show.Nodes due → IsGameTold what p w start limit due
-nodes_told what same p w start limit due is = subst (λ (kind : Told). IsGameTold kind p w start limit due) (sym same) (record { firings = is.firings; tells = record { end = is.played.end; run = is.played.run; is = is.played.is } })
+pub nodes_told : {M : Type 0} (kind : GameKind M) (what : Told) → what ≡ Nodes → (p : Program) (w : Way M Place) (start : Moment M Place) (limit : ℕ) (due : Due) → IsGameOf w start limit show.Nodes due → IsGameTold kind what p w start limit due
+nodes_told kind what same p w start limit due is = subst (λ (shown_as : Told). IsGameTold kind shown_as p w start limit due) (sym same) (record { firings = is.firings; tells = record { end = is.played.end; run = is.played.run; is = is.played.is } })
 
 -- a game of the program and its data is due on it
-pub played_on : (what : Told) (asked : Asked) (p : Program) (game : Game Marking Place) (m : Marking) (place : Option Place) (picks : List ℕ) → IsGameOn p asked.input game → m ≡ game.start → place ≡ Some game.control → picks ≡ asked.picks → (due : Due) → IsGameTold what p (way_of game picks) (moment m place) asked.limit due → IsDuePlay what asked p due
-played_on what asked p game m place picks own begun control same due is =
-    let there : IsGameTold what p (way_of game asked.picks) (opening game) asked.limit due =
-    subst (λ xs. IsGameTold what p (way_of game xs) (opening game) asked.limit due) same
-    (subst (λ c. IsGameTold what p (way_of game picks) (moment game.start c) asked.limit due) control
-    (subst (λ (x : Marking). IsGameTold what p (way_of game picks) (moment x place) asked.limit due) begun is)) in
+pub played_on : {M : Type 0} (kind : GameKind M) (what : Told) (asked : Asked) (p : Program) (game : Game M Place) (m : M) (place : Option Place) (picks : List ℕ) → IsGameOn kind p asked.input game → m ≡ game.start → place ≡ Some game.control → picks ≡ asked.picks → (due : Due) → IsGameTold kind what p (way_of game picks) (moment m place) asked.limit due → IsDuePlay kind what asked p due
+played_on {M = M} kind what asked p game m place picks own begun control same due is =
+    let there : IsGameTold kind what p (way_of game asked.picks) (opening game) asked.limit due =
+    subst (λ xs. IsGameTold kind what p (way_of game xs) (opening game) asked.limit due) same
+    (subst (λ c. IsGameTold kind what p (way_of game picks) (moment game.start c) asked.limit due) control
+    (subst (λ (x : M). IsGameTold kind what p (way_of game picks) (moment x place) asked.limit due) begun is)) in
     record { firings = there.firings; played = record { game = game; own = own; played = there.tells } }
 
 -- ---- the store
 
 -- what is shown of firings of which nothing is shown
-nothing_shown : (w : Way Marking Place) (start : Moment Marking Place) (n : ℕ) → shown w show.Nothing start n ≡ []
+nothing_shown : {M : Type 0} (w : Way M Place) (start : Moment M Place) (n : ℕ) → shown w show.Nothing start n ≡ []
 nothing_shown w start zero = refl
 nothing_shown w start (suc n) = append-nil (shown w show.Nothing start n) ∙ nothing_shown w start n
 
-module _ (p : Program) (w : Way Marking Place) (start : Moment Marking Place) (limit : ℕ) where
+module _ {M : Type 0} (kind : GameKind M) (p : Program) (w : Way M Place) (start : Moment M Place) (limit : ℕ) where
   -- nothing was written of the firings
   unwritten : (n : ℕ) (old mid : Option (List ℕ)) → Appends old mid (shown w show.Nothing start n) → Appends old mid []
   unwritten n old mid written = subst (Appends old mid) (nothing_shown w start n) written
 
   abbrev is_told : Due → Type 0
-  is_told due = IsGameTold Store p w start limit due
+  is_told due = IsGameTold kind Store p w start limit due
 
-  module _ (last : Moment Marking Place) (old mid : Option (List ℕ)) where
+  module _ (last : Moment M Place) (old mid : Option (List ℕ)) where
     -- at rest: the store, and how many nodes fired
     abbrev text_at : (count : ℕ) → List ℕ
-    text_at count = store_text p.names (store_in last.marking) ++ fired_line count
+    text_at count = store_text p.names (kind.store last.marking) ++ fired_line count
 
     rest_due : (n : ℕ) → Plays w start limit show.Nothing last old mid (end.Rest n) → is_told (done (text_at n))
     rest_due n plays = record {
@@ -212,7 +212,7 @@ module _ (p : Program) (w : Way Marking Place) (start : Moment Marking Place) (l
       tells = record {
         end = end.Rest n;
         run = run_of w start limit show.Nothing plays tt;
-        is = ap (λ (m : Moment Marking Place). done (store_text p.names (store_in m.marking) ++ fired_line n)) plays.leads;
+        is = ap (λ (m : Moment M Place). done (store_text p.names (kind.store m.marking) ++ fired_line n)) plays.leads;
       };
     }
 
@@ -246,7 +246,7 @@ module _ (p : Program) (w : Way Marking Place) (start : Moment Marking Place) (l
     pub store_fault : (n : ℕ) → HasEnd w start limit → Plays w start limit show.Nothing last old mid (end.WriteFault n) → AnswersAs is_told old mid WriteFault
     store_fault n has plays =
         let b : BreaksOff w show.Nothing start plays.firings old mid = plays.writes in
-        let with = due_with w start limit show.Nothing has.end (told_text Store p w start has.firings has.end) has.run.own in
+        let with = due_with w start limit show.Nothing has.end (told_text kind Store p w start has.firings has.end) has.run.own in
         let none : shown w show.Nothing start b.last ++ take b.count [] ≡ [] = ap (λ (bytes : List ℕ). shown w show.Nothing start b.last ++ bytes) (take-nil b.count) ∙ append-nil (shown w show.Nothing start b.last) ∙ nothing_shown w start b.last in
         record {
           due = with.due;

@@ -7,6 +7,7 @@ mod GraphParts
 mod NetGames
 mod NetParts
 mod OneNet
+mod OperationGames
 mod NameLines
 mod Telling
 mod TopAnswers

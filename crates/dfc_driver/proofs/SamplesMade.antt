@@ -13,7 +13,7 @@ use Rattle.regenerate.specs.declared.ends.RewriteEnd.{RewriteEnd}
 use Rattle.rewriting.specs.Rewritten.{IsRewritten}
 use Rattle.dfc_driver.specs.declared.words.Told.TheVariants.{Output}
 use Rattle.dfc_driver.specs.Due.{Due, IsDueByEnd, IsDueSample, IsSampleDue, after_text, first_line, sample_line, up_to}
-use Rattle.dfc_driver.specs.Game.{IsGameOn, IsNetOn, Marking, Place, game_of}
+use Rattle.dfc_driver.specs.Game.{IsGameOn, IsNetOn, Marking, Place, game_of, operation_game}
 use Rattle.dfc_driver.specs.Playing.{way_by}
 use Rattle.dfc_driver.specs.GraphText.{graph_text, size_line}
 use Rattle.dfc_driver.specs.Regions.{regions_text}
@@ -37,7 +37,7 @@ module _ (n bytes limit : ℕ) (p : Program) where
       let head = sizes_text n bytes found.flow found.edge_classes.items found.tree x in
       let both = after.told in
       let w = way_by (operation_moves x) (operation_course x) [] in
-      let is : IsGameOn p [] (game_of x) = record { net = x; own = own; is = refl } in
+      let is : IsGameOn operation_game p [] (game_of x) = record { net = x; own = own; is = refl } in
       let numbers = found.edge_classes.items in
       let tree_text = regions_text (flow p.execs) numbers found.tree in
       let net_text = graph_text p own.parts.classes x in
@@ -54,7 +54,7 @@ module _ (n bytes limit : ℕ) (p : Program) where
               ∙ ap (λ line. sample_line n bytes ++ first_line tree_text ++ line) (sym (first_of_graph p own.parts.classes x));
         };
         fired = both.game;
-        is_fired = played_on Output (up_to limit) p (game_of x) marking control [] is begun placed refl both.game (output_told Output refl p w (moment marking control) limit both.game both.played);
+        is_fired = played_on operation_game Output (up_to limit) p (game_of x) marking control [] is begun placed refl both.game (output_told operation_game Output refl p w (moment marking control) limit both.game both.played);
         ran = both.run;
         is_ran = record { form = form; rewritten = rewritten; ran = both.ran };
         is = after.is ∙ ap (after_text head) both.is;

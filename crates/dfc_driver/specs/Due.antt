@@ -27,7 +27,7 @@ use Rattle.dfc_driver.specs.declared.status.Status.TheVariants as status
 use Rattle.dfc_driver.specs.declared.words.Told.{Told}
 use Rattle.dfc_driver.specs.declared.words.Told.TheVariants as told
 use Rattle.dfc_driver.specs.Codes.{name_of}
-use Rattle.dfc_driver.specs.Game.{IsGameOn, Marking, Place, store_in}
+use Rattle.dfc_driver.specs.Game.{GameKind, IsGameOn, Place, operation_game}
 use Rattle.dfc_driver.specs.GraphText.{TellsGraph}
 use Rattle.dfc_driver.specs.Playing.{Game, opening, way_of}
 use Rattle.dfc_driver.specs.Reading.{Reading, Accepted, Refused, reading}
@@ -94,33 +94,33 @@ pub record IsGameOf {M P : Type 0} (w : Way M P) (start : Moment M P) (limit : �
   pub played : IsPlayedBy w start limit show firings due
 
 -- What is told of a game of so many firings that ended like this. The store is told at a rest alone.
-abbrev pub told_text : Told → Program → Way Marking Place → Moment Marking Place → (firings : ℕ) → PlayEnd → List ℕ
-told_text told.Output p w start firings end = shown w show.Output start firings
-told_text told.Nodes p w start firings end = shown w show.Nodes start firings
-told_text told.Store p w start firings (end.Rest count) = store_text p.names (store_in (moment_after w start firings).marking) ++ fired_line count
-told_text told.Store p w start firings (end.Trapped trap line) = []
-told_text told.Store p w start firings end.Limit = []
-told_text told.Store p w start firings (end.WriteFault count) = []
+abbrev pub told_text : {M : Type 0} → GameKind M → Told → Program → Way M Place → Moment M Place → (firings : ℕ) → PlayEnd → List ℕ
+told_text kind told.Output p w start firings end = shown w show.Output start firings
+told_text kind told.Nodes p w start firings end = shown w show.Nodes start firings
+told_text kind told.Store p w start firings (end.Rest count) = store_text p.names (kind.store (moment_after w start firings).marking) ++ fired_line count
+told_text kind told.Store p w start firings (end.Trapped trap line) = []
+told_text kind told.Store p w start firings end.Limit = []
+told_text kind told.Store p w start firings (end.WriteFault count) = []
 
 -- A game was played for so many firings, up to a rest, a trap or the limit, and this is due of it.
-pub record IsToldBy (what : Told) (p : Program) (w : Way Marking Place) (start : Moment Marking Place) (limit firings : ℕ) (due : Due) : Type 0 where
+pub record IsToldBy {M : Type 0} (kind : GameKind M) (what : Told) (p : Program) (w : Way M Place) (start : Moment M Place) (limit firings : ℕ) (due : Due) : Type 0 where
   pub end : PlayEnd
   pub run : IsRun w start limit firings end
-  pub is : IsDueBy end limit (told_text what p w start firings end) due
+  pub is : IsDueBy end limit (told_text kind what p w start firings end) due
 
-pub record IsGameTold (what : Told) (p : Program) (w : Way Marking Place) (start : Moment Marking Place) (limit : ℕ) (due : Due) : Type 0 where
+pub record IsGameTold {M : Type 0} (kind : GameKind M) (what : Told) (p : Program) (w : Way M Place) (start : Moment M Place) (limit : ℕ) (due : Due) : Type 0 where
   pub firings : ℕ
-  pub tells : IsToldBy what p w start limit firings due
+  pub tells : IsToldBy kind what p w start limit firings due
 
--- the game of a program was played
-pub record IsPlayed (what : Told) (asked : Asked) (p : Program) (firings : ℕ) (due : Due) : Type 0 where
-  pub game : Game Marking Place
-  pub own : IsGameOn p asked.input game
-  pub played : IsToldBy what p (way_of game asked.picks) (opening game) asked.limit firings due
+-- the game of this kind of a program was played
+pub record IsPlayed {M : Type 0} (kind : GameKind M) (what : Told) (asked : Asked) (p : Program) (firings : ℕ) (due : Due) : Type 0 where
+  pub game : Game M Place
+  pub own : IsGameOn kind p asked.input game
+  pub played : IsToldBy kind what p (way_of game asked.picks) (opening game) asked.limit firings due
 
-pub record IsDuePlay (what : Told) (asked : Asked) (p : Program) (due : Due) : Type 0 where
+pub record IsDuePlay {M : Type 0} (kind : GameKind M) (what : Told) (asked : Asked) (p : Program) (due : Due) : Type 0 where
   pub firings : ℕ
-  pub played : IsPlayed what asked p firings due
+  pub played : IsPlayed kind what asked p firings due
 
 -- this is due, and nothing else
 abbrev pub IsJust : Due → Due → Type 0
@@ -192,7 +192,7 @@ IsDueRun p checked input limit due = IsOutputDue p checked input limit due ⊎ I
 abbrev pub IsDueOn : Task → (checked : Bool) → Program → Due → Type 0
 IsDueOn Regions checked p = IsDoneBy (TellsRegions p)
 IsDueOn Graph checked p = IsDoneBy (TellsGraph p)
-IsDueOn (Play what asked) checked p = IsDuePlay what asked p
+IsDueOn (Play what asked) checked p = IsDuePlay operation_game what asked p
 IsDueOn Regen checked p = IsDueRegen p checked
 IsDueOn (Run limit input) checked p = IsDueRun p checked input limit
 
@@ -240,7 +240,7 @@ pub record IsSampleDue (n bytes limit : ℕ) (p : Program) (due : Due) : Type 0 
   pub sizes : List ℕ
   pub tells_sizes : TellsSizes n bytes p sizes
   pub fired : Due
-  pub is_fired : IsDuePlay told.Output (up_to limit) p fired
+  pub is_fired : IsDuePlay operation_game told.Output (up_to limit) p fired
   pub ran : Due
   pub is_ran : IsOutputDue p false [] limit ran
   pub is : due ≡ after_text sizes (followed_by fired ran)

@@ -1,5 +1,5 @@
--- The game that is played on a program. This is the one place that names a net: another game takes its place by another text of this
--- module, and of the proofs that tell of it.
+-- The games that are played on a program. This is the one place that names nets: a game of another kind is another record here, with
+-- the proofs that tell of its nets.
 use Rattle.std.specs.Prelude.{◌≡◌, ◌≤◌, ◌+◌, ◌*◌, ℕ, ℤ, Bool, false, List, All}
 use Rattle.op_table.specs.Words.{IsWord}
 use Rattle.f77_tree.specs.declared.programs.Program.{Program}
@@ -37,23 +37,37 @@ pub record IsNetOn (p : Program) (words : List ℤ) (x : OperationNet) : Type 0 
   pub outside_pieces : (piece i line : ℕ) → (graph_in x.net).nodes ≤ piece → x.needs piece i line ≡ false
   pub outside_operations : (piece i line : ℕ) → operation_count x piece ≤ i → x.needs piece i line ≡ false
 
--- the markings of the game, and the places of control
-abbrev pub Marking : Type 0
-Marking = OperationTokens
+-- ---- games
 
+-- the places of control
 abbrev pub Place : Type 0
 Place = Control
 
--- the words of the program
+-- so many firings of a net make so many steps of its program at most
+abbrev pub firing_bound : OperationNet → (steps : ℕ) → ℕ
+firing_bound x steps = (5 * x.net.routing.lines + most_operations x.net.program) * steps
+
+-- A kind of games over markings M: the game of each net, and the words of the program in a marking.
+pub record GameKind (M : Type 0) : Type 0 where
+  pub of_net : OperationNet → Game M Place
+  pub store : M → List ℤ
+
+-- the game of this kind of a program over data
+pub record IsGameOn {M : Type 0} (kind : GameKind M) (p : Program) (words : List ℤ) (game : Game M Place) : Type 0 where
+  pub net : OperationNet
+  pub own : IsNetOn p words net
+  pub is : game ≡ kind.of_net net
+
+-- ---- the game in which the operations that need a line fire in turn
+
+abbrev pub Marking : Type 0
+Marking = OperationTokens
+
 abbrev pub store_in : Marking → List ℤ
 store_in m = m.tokens.memory.store
 
--- the game of a net
 abbrev pub game_of : OperationNet → Game Marking Place
-game_of x = record { moves = operation_moves x; course = operation_course x; start = first_operation_tokens x; control = first_control x.net; own_order = own_operations x; bound = λ steps. (5 * x.net.routing.lines + most_operations x.net.program) * steps }
+game_of x = record { moves = operation_moves x; course = operation_course x; start = first_operation_tokens x; control = first_control x.net; own_order = own_operations x; bound = firing_bound x }
 
--- the game of a program over data
-pub record IsGameOn (p : Program) (words : List ℤ) (game : Game Marking Place) : Type 0 where
-  pub net : OperationNet
-  pub own : IsNetOn p words net
-  pub is : game ≡ game_of net
+abbrev pub operation_game : GameKind Marking
+operation_game = record { of_net = game_of; store = store_in }

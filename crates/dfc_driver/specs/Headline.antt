@@ -21,7 +21,7 @@ use Rattle.dfc_driver.specs.declared.status.Status.TheVariants.{Done, Refused as
 use Rattle.dfc_driver.specs.declared.words.Told.{Told}
 use Rattle.dfc_driver.specs.declared.words.Told.TheVariants.{Output, Nodes, Store}
 use Rattle.dfc_driver.specs.Due.{Due, IsDueOn, IsDueSample, IsPlayed, TellsSizes, sample_limit, trapped, trapped_alone, up_to}
-use Rattle.dfc_driver.specs.Game.{IsNetOn}
+use Rattle.dfc_driver.specs.Game.{GameKind, IsNetOn, operation_game}
 use Rattle.dfc_driver.specs.GraphText.{TellsGraph, graph_text}
 use Rattle.dfc_driver.specs.Reading.{Reading, Accepted, Refused, reading}
 use Rattle.dfc_driver.specs.Regions.{regions_text}
@@ -67,11 +67,11 @@ TellsTrap Nodes asked p steps text = Unit {0}
 TellsTrap Store asked p steps text = text ≡ []
 
 -- The run of the program ends, and what is told is what the run comes to. The game comes to rest after few firings.
-pub record MeansRest (what : Told) (asked : Asked) (p : Program) (due : Due) : Type 0 where
+pub record MeansRest {M : Type 0} (kind : GameKind M) (what : Told) (asked : Asked) (p : Program) (due : Due) : Type 0 where
   pub steps : ℕ
   pub ends : EndsIn p asked.input steps
   pub firings : ℕ
-  pub played : IsPlayed what asked p firings due
+  pub played : IsPlayed kind what asked p firings due
   pub few : firings ≤ bound_of p steps
   pub told : TellsEnd what asked p steps firings due.text
 
@@ -87,9 +87,9 @@ pub record MeansTrap (what : Told) (asked : Asked) (p : Program) (due : Due) : T
 -- What is written as output is a prefix of what the run of the program writes, whatever the picks and the limit. The game is done only
 -- where the run ends, and traps only where it traps. Where the run ends and the limit is large enough, the game is done; where it traps
 -- and the limit is large enough, the game traps in the source's own order.
-pub record MeansPlay (what : Told) (asked : Asked) (p : Program) (due : Due) : Type 0 where
+pub record MeansPlay {M : Type 0} (kind : GameKind M) (what : Told) (asked : Asked) (p : Program) (due : Due) : Type 0 where
   pub prefix : TellsPrefix what asked p due.text
-  pub rests : due.status ≡ Done → MeansRest what asked p due
+  pub rests : due.status ≡ Done → MeansRest kind what asked p due
   pub traps : due.status ≡ Trapped → MeansTrap what asked p due
   pub ends : (steps : ℕ) → EndsIn p asked.input steps → bound_of p steps ≤ asked.limit → due.status ≡ Done
   pub fails : (steps : ℕ) (trap : Trap) (line : ℕ) → TrapsAt p asked.input steps trap line → asked.picks ≡ [] → bound_of p steps ≤ asked.limit → due.status ≡ Trapped
@@ -161,7 +161,7 @@ pub record MeansRun (limit : ℕ) (input : List ℤ) (p : Program) (due : Due) :
 abbrev pub Means : Task → (checked : Bool) → Program → Due → Type 0
 Means Regions checked p due = MeansRegions (flow p.execs) due
 Means Graph checked p due = MeansGraph p due
-Means (Play what asked) checked p due = MeansPlay what asked p due
+Means (Play what asked) checked p due = MeansPlay operation_game what asked p due
 Means Regen checked p due = MeansRegen p due
 Means (Run limit input) checked p due = MeansRun limit input p due
 

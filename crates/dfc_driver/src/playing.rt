@@ -15,6 +15,7 @@ ghost use Rattle.op_net.specs.StaysInStep.{StaysInStep};
 ghost use Rattle.dfc_driver.specs.declared.words.Told.{Told};
 ghost use Rattle.dfc_driver.specs.Answers.{AnswersAs};
 ghost use Rattle.dfc_driver.specs.Due.{IsDuePlay, IsGameTold};
+ghost use Rattle.dfc_driver.specs.Game.{operation_game};
 ghost use Rattle.dfc_driver.specs.GameLaws.{GameLaws};
 ghost use Rattle.dfc_driver.specs.Headline.{MeansOn};
 ghost use Rattle.dfc_driver.specs.Meant.{AreGameWords, asked_in};
@@ -51,7 +52,7 @@ pub fn play<K: Sink>(
     requires words { AreGameWords words }
     requires program { IsWellFormed program.now }
     requires few { HasFewClasses program.now }
-    ensures due { AnswersAs (IsDuePlay told (asked_in words.entry) program.now) (K.got sink.old) (K.got sink.new) result }
+    ensures due { AnswersAs (IsDuePlay operation_game told (asked_in words.entry) program.now) (K.got sink.old) (K.got sink.new) result }
     ensures means { result ≢ Status.NoMemory → (checked : Bool) → MeansOn (Play told (asked_in words.entry)) checked program.now }
     ensures usage { result ≢ Status.Usage }
     ensures reads { result ≢ Status.ReadFault }
@@ -110,7 +111,7 @@ fn play_net<K: Sink>(
     requires input { game.now.input.items ≡ (asked_in words).input }
     requires program { IsWellFormed program.now }
     requires analysis { IsRangeAnalysisOf program.now game.now.analysis }
-    ensures due { AnswersAs (IsDuePlay told (asked_in words.entry) program.now) (K.got sink.old) (K.got sink.new) result }
+    ensures due { AnswersAs (IsDuePlay operation_game told (asked_in words.entry) program.now) (K.got sink.old) (K.got sink.new) result }
     ensures usage { result ≢ Status.Usage }
     ensures reads { result ≢ Status.ReadFault }
     ensures later { K.faults sink.old ≤ K.faults sink.new }
@@ -147,7 +148,7 @@ fn tell_net<K: Sink>(
     requires sound { OperationsCanCome (net_of net.old) (marking_of net.old) }
     requires in_step { IsInStep (operation_moves (net_of net.old)) (StaysInStep (net_of net.old)) (marking_of net.old) net.old.control }
     requires control { net.old.control ≢ None }
-    ensures due { AnswersAs (IsGameTold told program.now (way_by (operation_moves (net_of net.old)) (operation_course (net_of net.old)) picks.now) (moment (marking_of net.old) net.old.control) limit) (K.got sink.old) (K.got sink.new) result }
+    ensures due { AnswersAs (IsGameTold operation_game told program.now (way_by (operation_moves (net_of net.old)) (operation_course (net_of net.old)) picks.now) (moment (marking_of net.old) net.old.control) limit) (K.got sink.old) (K.got sink.new) result }
     ensures usage { result ≢ Status.Usage }
     ensures reads { result ≢ Status.ReadFault }
     ensures memory { result ≢ Status.NoMemory }
@@ -174,7 +175,7 @@ fn tell_rest<K: Sink>(
     requires sound { OperationsCanCome (net_of net.old) (marking_of net.old) }
     requires in_step { IsInStep (operation_moves (net_of net.old)) (StaysInStep (net_of net.old)) (marking_of net.old) net.old.control }
     requires control { net.old.control ≢ None }
-    ensures due { AnswersAs (IsGameTold Told.Store program.now (way_by (operation_moves (net_of net.old)) (operation_course (net_of net.old)) picks.now) (moment (marking_of net.old) net.old.control) limit) (K.got sink.old) (K.got sink.new) result }
+    ensures due { AnswersAs (IsGameTold operation_game Told.Store program.now (way_by (operation_moves (net_of net.old)) (operation_course (net_of net.old)) picks.now) (moment (marking_of net.old) net.old.control) limit) (K.got sink.old) (K.got sink.new) result }
     ensures usage { result ≢ Status.Usage }
     ensures reads { result ≢ Status.ReadFault }
     ensures memory { result ≢ Status.NoMemory }
@@ -202,9 +203,9 @@ pub fn games_mean(program: &Program)
     flow_graph_is_strong();
 }
 
-// What is known of nets, their runs and their programs.
+// What is known of the games of nets whose operations fire in turn.
 fn game_laws()
-    ensures { GameLaws }
+    ensures { GameLaws operation_game }
 {
     runs_end::<OpNet<'static, CLASS_WORDS>>();
     due_orders_end::<OpNet<'static, CLASS_WORDS>>();

@@ -6,7 +6,7 @@ use Rattle.net_board.specs.Nodes.{NetOf}
 use Rattle.op_board.specs.OperationNets.{OperationNet}
 use Rattle.dfc_driver.specs.declared.words.Told.TheVariants.{Nodes}
 use Rattle.dfc_driver.specs.Due.{Due, IsDuePlay, IsToldBy, all_due}
-use Rattle.dfc_driver.specs.Game.{Marking, Place, game_of}
+use Rattle.dfc_driver.specs.Game.{Marking, Place, game_of, operation_game}
 use Rattle.dfc_driver.specs.Playing.{Game, opening, way_of}
 use Rattle.dfc_driver.specs.Words.{Asked}
 use Rattle.printed_laws.specs.ShortFlow.{IsShortFlow}
@@ -22,9 +22,9 @@ piece_short p x line own short count stands =
     let known : (piece_at (flow p.execs).pieces stands.piece).line < 2 ^ 32 = short.lines stands.piece (subst (λ n. stands.piece < n) (sym count) exists) in
     subst (λ n. n < 2 ^ 32) (ap (λ (q : Program). (piece_at (flow q.execs).pieces stands.piece).line) (sym own) ∙ stands.is) known
 
-pub trace_told_by : (p : Program) (asked : Asked) (x : OperationNet) (game : Game Marking Place) (firings : ℕ) (due : Due) → x.net.program ≡ p → game ≡ game_of x → IsBelow x (2 ^ 32) → IsShortFlow (flow p.execs) → length (flow p.execs).pieces ≡ (flow p.execs).graph.nodes → asked.limit < 2 ^ 63 → IsToldBy Nodes p (way_of game asked.picks) (opening game) asked.limit firings due → IsTraceText (all_due due)
+pub trace_told_by : (p : Program) (asked : Asked) (x : OperationNet) (game : Game Marking Place) (firings : ℕ) (due : Due) → x.net.program ≡ p → game ≡ game_of x → IsBelow x (2 ^ 32) → IsShortFlow (flow p.execs) → length (flow p.execs).pieces ≡ (flow p.execs).graph.nodes → asked.limit < 2 ^ 63 → IsToldBy operation_game Nodes p (way_of game asked.picks) (opening game) asked.limit firings due → IsTraceText (all_due due)
 trace_told_by p asked x game firings due own is below short count few told =
-    let same : IsToldBy Nodes p (way_of (game_of x) asked.picks) (opening (game_of x)) asked.limit firings due = subst (λ (g : Game Marking Place). IsToldBy Nodes p (way_of g asked.picks) (opening g) asked.limit firings due) is told in
+    let same : IsToldBy operation_game Nodes p (way_of (game_of x) asked.picks) (opening (game_of x)) asked.limit firings due = subst (λ (g : Game Marking Place). IsToldBy operation_game Nodes p (way_of g asked.picks) (opening g) asked.limit firings due) is told in
     let run = same.run in
     game_told_by (way_of (game_of x) asked.picks) (opening (game_of x)) asked.limit firings same.end due few run.bounded
     (fired_short x asked.picks firings run.going below)
@@ -32,7 +32,7 @@ trace_told_by p asked x game firings due own is below short count few told =
     same.is
 
 -- the same, from what a game of the program is
-pub play_told_by : (p : Program) (asked : Asked) (due : Due) (plays : IsDuePlay Nodes asked p due) → IsBelow plays.played.own.net (2 ^ 32) → IsShortFlow (flow p.execs) → length (flow p.execs).pieces ≡ (flow p.execs).graph.nodes → asked.limit < 2 ^ 63 → IsTraceText (all_due due)
+pub play_told_by : (p : Program) (asked : Asked) (due : Due) (plays : IsDuePlay operation_game Nodes asked p due) → IsBelow plays.played.own.net (2 ^ 32) → IsShortFlow (flow p.execs) → length (flow p.execs).pieces ≡ (flow p.execs).graph.nodes → asked.limit < 2 ^ 63 → IsTraceText (all_due due)
 play_told_by p asked due plays below short count few =
     let own = plays.played.own in
     trace_told_by p asked own.net plays.played.game plays.firings due (ap (λ (net : NetOf). net.program) own.own.is) own.is below short count few plays.played.played

@@ -4,6 +4,7 @@ use Rattle.f77_tree.specs.declared.programs.Program.{Program}
 use Rattle.op_board.specs.OperationNets.{OperationNet}
 use Rattle.dfc_driver.specs.declared.words.Told.TheVariants.{Nodes}
 use Rattle.dfc_driver.specs.Due.{Due, IsDuePlay}
+use Rattle.dfc_driver.specs.Game.{operation_game}
 use Rattle.dfc_driver.specs.Words.{Asked, On, Play, job_of}
 
 -- The words ask for a trace, and this is due of it on the program.
@@ -11,7 +12,7 @@ pub record IsTraceOf (words : List (List ℕ)) (p : Program) (due : Due) : Type 
   pub asked : Asked
   pub checked : Bool
   pub job : job_of words ≡ Some (On (Play Nodes asked) checked)
-  pub plays : IsDuePlay Nodes asked p due
+  pub plays : IsDuePlay operation_game Nodes asked p due
 
 -- the net that fires
 abbrev pub net_fired : (words : List (List ℕ)) (p : Program) (due : Due) → IsTraceOf words p due → OperationNet

@@ -1,5 +1,7 @@
-use Rattle.dfc_driver.proofs.NetGames.{LockstepLaws, due_ends, few_firings, one_game, stays_in_lockstep, store_after}
+use Rattle.dfc_driver.specs.Game.{operation_game}
+use Rattle.dfc_driver.proofs.NetGames.{game_laws_of}
 use Rattle.dfc_driver.proofs.OneNet.{OneOfEach}
+use Rattle.dfc_driver.proofs.OperationGames.{LockstepLaws, operation_laws}
 use Rattle.dfc_driver.proofs.playing.game_laws.Goals as goal
 
 pub returns : goal.returns
@@ -12,13 +14,6 @@ returns c =
       few = c.operation_nets_simulate_programs.ensures.few;
       memory = c.operation_nets_simulate_programs.ensures.memory;
       follows = c.every_order_follows.ensures;
+      due_ends = c.due_orders_end.ensures;
     } in
-    record {
-      runs = record { one = c.runs_end.ensures.one; nodes = c.runs_end.ensures.nodes };
-      due = due_ends c.due_orders_end.ensures;
-      one = one_game each;
-      lockstep = stays_in_lockstep laws;
-      few = few_firings c.classes_are_counted.ensures;
-      store = store_after laws;
-      stop_first = c.runs_stop_first.ensures;
-    }
+    game_laws_of operation_game (operation_laws laws) (record { one = c.runs_end.ensures.one; nodes = c.runs_end.ensures.nodes }) each c.classes_are_counted.ensures c.runs_stop_first.ensures

@@ -8,7 +8,7 @@ use Rattle.op_board.specs.OperationCourse.{operation_course}
 use Rattle.op_board.specs.OperationTokens.{operation_moves}
 use Rattle.op_net.specs.NetView.{marking_of, net_of}
 use Rattle.dfc_driver.specs.Due.{IsDuePlay, IsGameTold}
-use Rattle.dfc_driver.specs.Game.{IsGameOn, IsNetOn, game_of}
+use Rattle.dfc_driver.specs.Game.{IsGameOn, IsNetOn, game_of, operation_game}
 use Rattle.dfc_driver.specs.Playing.{way_by}
 use Rattle.dfc_driver.specs.Meant.{asked_in}
 use Rattle.dfc_driver.proofs.DataWords.{data_words}
@@ -37,10 +37,10 @@ returns-in-Ok-clause-due g c =
     (found_ranges p found c.requires.analysis)
     c.requires.analysis.rows made.is_net made.outside_pieces made.outside_operations in
     let game = game_of x in
-    let is : IsGameOn p asked.input game = record { net = x; own = own; is = refl } in
+    let is : IsGameOn operation_game p asked.input game = record { net = x; own = own; is = refl } in
     let picks = c.deref.ensures.value ∙ c.requires.picks in
     answers_more
-    (IsGameTold told p (way_by (operation_moves x) (operation_course x) c.deref.result.now) (moment (marking_of c.in-Ok.net) c.in-Ok.net.control) asked.limit)
-    (IsDuePlay told asked p) (g.K.Sink.got c.args.sink.now) (g.K.Sink.got c.tell_net.new.sink) c.tell_net.result
-    (λ due tells. played_on told asked p game (marking_of c.in-Ok.net) c.in-Ok.net.control c.deref.result.now is made.marking made.place picks due tells)
+    (IsGameTold operation_game told p (way_by (operation_moves x) (operation_course x) c.deref.result.now) (moment (marking_of c.in-Ok.net) c.in-Ok.net.control) asked.limit)
+    (IsDuePlay operation_game told asked p) (g.K.Sink.got c.args.sink.now) (g.K.Sink.got c.tell_net.new.sink) c.tell_net.result
+    (λ due tells. played_on operation_game told asked p game (marking_of c.in-Ok.net) c.in-Ok.net.control c.deref.result.now is made.marking made.place picks due tells)
     c.tell_net.ensures.due

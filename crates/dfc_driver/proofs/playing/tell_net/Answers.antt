@@ -7,6 +7,7 @@ use Rattle.op_net.specs.NetView.{marking_of, net_of}
 use Rattle.dfc_driver.specs.declared.words.Told.{Told}
 use Rattle.dfc_driver.specs.Answers.{AnswersAs}
 use Rattle.dfc_driver.specs.Due.{IsGameOf, IsGameTold}
+use Rattle.dfc_driver.specs.Game.{operation_game}
 use Rattle.dfc_driver.specs.Playing.{way_by}
 use Rattle.dfc_driver.proofs.GameTold.{answers_more, nodes_told, output_told}
 use Rattle.dfc_driver.proofs.playing.tell_net.Goals as goal
@@ -17,8 +18,8 @@ returns-in-Output-clause-due g c =
     let x = net_of s in
     let w = way_by (operation_moves x) (operation_course x) c.args.picks.now in
     let start = moment (marking_of s) s.control in
-    answers_more (IsGameOf w start c.args.limit show.Output) (IsGameTold c.args.told c.args.program.now w start c.args.limit) _ _ _
-    (output_told c.args.told c.in-Output.is c.args.program.now w start c.args.limit) c.tell_game.ensures.due
+    answers_more (IsGameOf w start c.args.limit show.Output) (IsGameTold operation_game c.args.told c.args.program.now w start c.args.limit) _ _ _
+    (output_told operation_game c.args.told c.in-Output.is c.args.program.now w start c.args.limit) c.tell_game.ensures.due
 
 pub returns-in-Nodes-clause-due : goal.returns-in-Nodes-clause-due
 returns-in-Nodes-clause-due g c =
@@ -26,8 +27,8 @@ returns-in-Nodes-clause-due g c =
     let x = net_of s in
     let w = way_by (operation_moves x) (operation_course x) c.args.picks.now in
     let start = moment (marking_of s) s.control in
-    answers_more (IsGameOf w start c.args.limit show.Nodes) (IsGameTold c.args.told c.args.program.now w start c.args.limit) _ _ _
-    (nodes_told c.args.told c.in-Nodes.is c.args.program.now w start c.args.limit) c.tell_game-in-Nodes.ensures.due
+    answers_more (IsGameOf w start c.args.limit show.Nodes) (IsGameTold operation_game c.args.told c.args.program.now w start c.args.limit) _ _ _
+    (nodes_told operation_game c.args.told c.in-Nodes.is c.args.program.now w start c.args.limit) c.tell_game-in-Nodes.ensures.due
 
 pub returns-in-Store-clause-due : goal.returns-in-Store-clause-due
 returns-in-Store-clause-due g c =
@@ -35,5 +36,5 @@ returns-in-Store-clause-due g c =
     let x = net_of s in
     let w = way_by (operation_moves x) (operation_course x) c.args.picks.now in
     let start = moment (marking_of s) s.control in
-    subst (λ (kind : Told). AnswersAs (IsGameTold kind c.args.program.now w start c.args.limit) (g.K.Sink.got c.args.sink.now) (g.K.Sink.got c.tell_rest.new.sink) c.tell_rest.result)
+    subst (λ (shown_as : Told). AnswersAs (IsGameTold operation_game shown_as c.args.program.now w start c.args.limit) (g.K.Sink.got c.args.sink.now) (g.K.Sink.got c.tell_rest.new.sink) c.tell_rest.result)
     (sym c.in-Store.is) c.tell_rest.ensures.due
