@@ -1,13 +1,13 @@
 #!/usr/bin/env python3
 """Compares graphs, and what their firing tells, between two commands.
 
-    python3 bench/graphs.py DFC OTHER [--count N] [--seed S] [--limit L]
+    python3 bench/graphs.py DFC OTHER [--count N] [--seed S] [--limit L] [--forks]
 
 DFC and OTHER are commands in quotes, run as `COMMAND graph [checked] < text` and as `COMMAND fire|trace|store limit=N [picks=..] [data=..]
 [checked] < text`. A text is a program written at random as in `lines.py`: arrays under EQUIVALENCE and COMMON, subscripts that are
 known, out of bounds or read, jumps, loops and blocks, READ and traps; three in ten are in the checked dialect. Each graph is printed,
 and fired in the source's own order and by three lists of picks, with the limit L (300) or one below 60 for `trace`, and one of up to 20,000 for
-`fire` and `store`. The two agree where they answer the same status and the same bytes, at a limit too. Prints up to five texts on which they
+`fire` and `store`; with --forks there are runs of `forks` and `forks nodes` in place of all these. The two agree where they answer the same status and the same bytes, at a limit too. Prints up to five texts on which they
 differ; then how many texts were refused and how many runs had which status, and last `N texts, M runs, K differ`. The exit
 status is 1 where any differ.
 """
@@ -28,15 +28,15 @@ def picks(chance):
     return "picks=" + ",".join(str(chance.randint(0, most)) for _ in range(chance.randint(1, 9)))
 
 
-def words_of(chance, limit):
+def words_of(chance, limit, forks):
     """The words of all runs of a program."""
     last = ["checked"] if chance.random() < 0.3 else []
     data = [f"data={','.join(str(chance.randint(-5, 9)) for _ in range(chance.randint(1, 6)))}"] if chance.random() < 0.6 else []
-    runs = [["graph", *last]]
+    runs = [] if forks else [["graph", *last]]
     for order in [[], [picks(chance)], [picks(chance)], [picks(chance)]]:
-        runs += [["trace", f"limit={chance.choice([limit, chance.randint(0, 60)])}", *order, *data, *last]]
+        runs += [[*(["forks", "nodes"] if forks else ["trace"]), f"limit={chance.choice([limit, chance.randint(0, 60)])}", *order, *data, *last]]
         most = chance.choice([20000, chance.randint(0, 400)])
-        runs += [[job, f"limit={most}", *order, *data, *last] for job in ["fire", "store"]]
+        runs += [[job, f"limit={most}", *order, *data, *last] for job in (["forks"] if forks else ["fire", "store"])]
     return runs
 
 
@@ -45,7 +45,7 @@ def compare(options, number):
     chance = random.Random(options.seed * 1000003 + number)
     text = lines.declarations(chance) + lines.Writer(chance).program()
     wrong, statuses = [], collections.Counter()
-    for words in words_of(chance, options.limit):
+    for words in words_of(chance, options.limit, options.forks):
         ours = regions.answer(shlex.split(options.dfc), words, text)
         theirs = regions.answer(shlex.split(options.other), words, text)
         if ours != theirs:
@@ -63,6 +63,7 @@ def main():
     parser.add_argument("--count", type=int, default=500)
     parser.add_argument("--seed", type=int, default=0)
     parser.add_argument("--limit", type=int, default=300)
+    parser.add_argument("--forks", action="store_true")
     options = parser.parse_args()
     refused = unlike = 0
     statuses = collections.Counter()

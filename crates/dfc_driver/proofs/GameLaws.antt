@@ -9,11 +9,11 @@ use Rattle.firing.specs.declared.playing.PlayEnd.TheVariants.{Rest, Trapped, Lim
 use Rattle.firing.specs.Orders.{IsOver, after}
 use Rattle.firing.specs.Runs.{IsRun}
 use Rattle.dfc_driver.specs.declared.words.Told.{Told}
-use Rattle.dfc_driver.specs.Due.{Due, IsDueBy, IsDuePlay, IsToldBy, told_text}
-use Rattle.dfc_driver.specs.Game.{GameKind, Place, operation_game}
+use Rattle.dfc_driver.specs.Due.{Due, IsDueBy, IsDuePlay, IsToldBy, told_by_forks, told_text}
+use Rattle.dfc_driver.specs.Game.{GameKind, Place, fork_game, operation_game}
 use Rattle.dfc_driver.specs.Headline.{MeansOn, MeansPlay, bound_of}
 use Rattle.dfc_driver.specs.Playing.{Game, opening, way_of}
-use Rattle.dfc_driver.specs.Words.{Asked, Play}
+use Rattle.dfc_driver.specs.Words.{Asked, Forks, Play}
 use Rattle.dfc_driver.specs.GameLaws.{GameLaws}
 use Rattle.dfc_driver.proofs.GameMeans.{done_by, fails_by, prefix_of_run, rests, traps}
 
@@ -64,3 +64,6 @@ module _ {M : Type 0} (kind : GameKind M) (laws : GameLaws kind) (what : Told) (
 
 pub game_means : GameLaws operation_game → (what : Told) (asked : Asked) (checked : Bool) (p : Program) → IsFlowGraph (flow p.execs).graph → MeansOn (Play what asked) checked p
 game_means laws what asked checked p strong = record { one = one_game_due operation_game laws what asked p strong; means = game_due_means operation_game laws what asked p strong }
+
+pub forks_mean : GameLaws fork_game → (nodes : Bool) (asked : Asked) (checked : Bool) (p : Program) → IsFlowGraph (flow p.execs).graph → MeansOn (Forks nodes asked) checked p
+forks_mean laws nodes asked checked p strong = record { one = one_game_due fork_game laws (told_by_forks nodes) asked p strong; means = game_due_means fork_game laws (told_by_forks nodes) asked p strong }

@@ -1,5 +1,5 @@
 -- What is told of a game.
-use Rattle.std.proofs.Common.{◌≡◌, ℕ, zero, suc, ◌+◌, ◌-◌, ◌<◌, ◌≤◌, List, [], ◌∷◌, ◌++◌, length, take, Option, Some, refl, sym, ap, subst, ◌∙◌, ⊎_elim, append_assoc, append-nil, length-append, arith}
+use Rattle.std.proofs.Common.{◌≡◌, Bool, true, false, ℕ, zero, suc, ◌+◌, ◌-◌, ◌<◌, ◌≤◌, List, [], ◌∷◌, ◌++◌, length, take, Option, Some, refl, sym, ap, subst, ◌∙◌, ⊎_elim, append_assoc, append-nil, length-append, arith}
 use Rattle.std.proofs.KnownBytes.{Appends-trans}
 use Rattle.std.proofs.Math.Seq.{take-append-add, take-nil}
 use Rattle.std.specs.Io.KnownBytes.{Appends}
@@ -20,7 +20,7 @@ use Rattle.dfc_driver.specs.declared.status.Status.TheVariants.{Done, Usage, Ref
 use Rattle.dfc_driver.specs.declared.words.Told.{Told}
 use Rattle.dfc_driver.specs.declared.words.Told.TheVariants.{Output, Nodes, Store}
 use Rattle.dfc_driver.specs.Answers.{AnswersAs, IsBegun, IsTold, Tells}
-use Rattle.dfc_driver.specs.Due.{Due, IsDueBy, IsDuePlay, IsGameOf, IsGameTold, IsJust, all_due, done, stopped, told_text, trapped}
+use Rattle.dfc_driver.specs.Due.{Due, IsDueBy, IsDuePlay, IsGameOf, IsGameTold, IsJust, all_due, done, shown_by_forks, stopped, told_by_forks, told_text, trapped}
 use Rattle.dfc_driver.specs.Game.{GameKind, IsGameOn, Place}
 use Rattle.dfc_driver.specs.Playing.{Game, opening, way_by, way_of}
 use Rattle.dfc_driver.specs.StoreText.{fired_line, store_text}
@@ -176,6 +176,11 @@ output_told kind what same p w start limit due is = subst (λ (shown_as : Told).
 
 pub nodes_told : {M : Type 0} (kind : GameKind M) (what : Told) → what ≡ Nodes → (p : Program) (w : Way M Place) (start : Moment M Place) (limit : ℕ) (due : Due) → IsGameOf w start limit show.Nodes due → IsGameTold kind what p w start limit due
 nodes_told kind what same p w start limit due is = subst (λ (shown_as : Told). IsGameTold kind shown_as p w start limit due) (sym same) (record { firings = is.firings; tells = record { end = is.played.end; run = is.played.run; is = is.played.is } })
+
+-- what `forks` shows of the firings is told
+pub forks_told : {M : Type 0} (kind : GameKind M) (nodes : Bool) (p : Program) (w : Way M Place) (start : Moment M Place) (limit : ℕ) (due : Due) → IsGameOf w start limit (shown_by_forks nodes) due → IsGameTold kind (told_by_forks nodes) p w start limit due
+forks_told kind false p w start limit due is = output_told kind Output refl p w start limit due is
+forks_told kind true p w start limit due is = nodes_told kind Nodes refl p w start limit due is
 
 -- a game of the program and its data is due on it
 pub played_on : {M : Type 0} (kind : GameKind M) (what : Told) (asked : Asked) (p : Program) (game : Game M Place) (m : M) (place : Option Place) (picks : List ℕ) → IsGameOn kind p asked.input game → m ≡ game.start → place ≡ Some game.control → picks ≡ asked.picks → (due : Due) → IsGameTold kind what p (way_of game picks) (moment m place) asked.limit due → IsDuePlay kind what asked p due

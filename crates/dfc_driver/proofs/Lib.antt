@@ -1,4 +1,5 @@
 mod DataWords
+mod ForkGames
 mod GameLaws
 mod GameMeans
 mod GameTold

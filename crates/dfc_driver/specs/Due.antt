@@ -1,5 +1,5 @@
 -- What is due for some words and a text: a status, and the bytes that are written.
-use Rattle.std.specs.Prelude.{◌≡◌, ◌<◌, ◌≤◌, ◌==◌, ◌⊎◌, ℕ, ℤ, Bool, false, List, [], ◌∷◌, ◌++◌, length, Option, Some, None, codes, if◌then◌else◌}
+use Rattle.std.specs.Prelude.{◌≡◌, ◌<◌, ◌≤◌, ◌==◌, ◌⊎◌, ℕ, ℤ, Bool, true, false, List, [], ◌∷◌, ◌++◌, length, Option, Some, None, codes, if◌then◌else◌}
 use Rattle.std.specs.Fmt.{decimal}
 use Rattle.sample_texts.specs.SampleText.{sample_text}
 use Rattle.op_table.specs.declared.Trap.{Trap}
@@ -27,13 +27,13 @@ use Rattle.dfc_driver.specs.declared.status.Status.TheVariants as status
 use Rattle.dfc_driver.specs.declared.words.Told.{Told}
 use Rattle.dfc_driver.specs.declared.words.Told.TheVariants as told
 use Rattle.dfc_driver.specs.Codes.{name_of}
-use Rattle.dfc_driver.specs.Game.{GameKind, IsGameOn, Place, operation_game}
+use Rattle.dfc_driver.specs.Game.{GameKind, IsGameOn, Place, fork_game, operation_game}
 use Rattle.dfc_driver.specs.GraphText.{TellsGraph}
 use Rattle.dfc_driver.specs.Playing.{Game, opening, way_of}
 use Rattle.dfc_driver.specs.Reading.{Reading, Accepted, Refused, reading}
 use Rattle.dfc_driver.specs.Regions.{TellsRegions}
 use Rattle.dfc_driver.specs.StoreText.{fired_line, store_text}
-use Rattle.dfc_driver.specs.Words.{Asked, Job, On, Sample, Task, Regions, Graph, Play, Regen, Run, job_of}
+use Rattle.dfc_driver.specs.Words.{Asked, Job, On, Sample, Task, Regions, Graph, Play, Forks, Regen, Run, job_of}
 
 -- a status, what the job writes, and after that the line that tells how it ended, or nothing
 pub record Due : Type 0 where
@@ -122,6 +122,16 @@ pub record IsDuePlay {M : Type 0} (kind : GameKind M) (what : Told) (asked : Ask
   pub firings : ℕ
   pub played : IsPlayed kind what asked p firings due
 
+-- what `forks` tells of its game: the output, or the nodes as they fire
+abbrev pub told_by_forks : (nodes : Bool) → Told
+told_by_forks false = told.Output
+told_by_forks true = told.Nodes
+
+-- the same, as what is shown of the firings
+abbrev pub shown_by_forks : (nodes : Bool) → Show
+shown_by_forks false = show.Output
+shown_by_forks true = show.Nodes
+
 -- this is due, and nothing else
 abbrev pub IsJust : Due → Due → Type 0
 IsJust only due = due ≡ only
@@ -193,6 +203,7 @@ abbrev pub IsDueOn : Task → (checked : Bool) → Program → Due → Type 0
 IsDueOn Regions checked p = IsDoneBy (TellsRegions p)
 IsDueOn Graph checked p = IsDoneBy (TellsGraph p)
 IsDueOn (Play what asked) checked p = IsDuePlay operation_game what asked p
+IsDueOn (Forks nodes asked) checked p = IsDuePlay fork_game (told_by_forks nodes) asked p
 IsDueOn Regen checked p = IsDueRegen p checked
 IsDueOn (Run limit input) checked p = IsDueRun p checked input limit
 

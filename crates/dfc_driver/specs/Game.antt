@@ -17,6 +17,7 @@ use Rattle.op_board.specs.OperationNets.{OperationNet, operation_count}
 use Rattle.op_board.specs.OperationOrder.{own_operations}
 use Rattle.op_board.specs.OperationTokens.{OperationTokens, first_operation_tokens, operation_moves}
 use Rattle.op_board.specs.SoundOperationNets.{IsOperationNet}
+use Rattle.fork_board.specs.ForkTokens.{ForkTokens, first_fork_tokens, fork_course, fork_moves}
 use Rattle.dfc_driver.specs.Playing.{Game}
 
 -- the lines that the pieces of a program touch are told by its classes, where subscripts that are seen in range can't trap
@@ -71,3 +72,11 @@ game_of x = record { moves = operation_moves x; course = operation_course x; sta
 
 abbrev pub operation_game : GameKind Marking
 operation_game = record { of_net = game_of; store = store_in }
+
+-- ---- the game in which the loads of a group fire in any order
+
+abbrev pub fork_game_of : OperationNet → Game ForkTokens Place
+fork_game_of x = record { moves = fork_moves x; course = fork_course x; start = first_fork_tokens x; control = first_control x.net; own_order = own_operations x; bound = firing_bound x }
+
+abbrev pub fork_game : GameKind ForkTokens
+fork_game = record { of_net = fork_game_of; store = λ m. store_in m.operations }

@@ -20,13 +20,13 @@ use Rattle.op_board.specs.OperationNets.{OperationNet}
 use Rattle.dfc_driver.specs.declared.status.Status.TheVariants.{Done, Refused as Refused_status, Trapped}
 use Rattle.dfc_driver.specs.declared.words.Told.{Told}
 use Rattle.dfc_driver.specs.declared.words.Told.TheVariants.{Output, Nodes, Store}
-use Rattle.dfc_driver.specs.Due.{Due, IsDueOn, IsDueSample, IsPlayed, TellsSizes, sample_limit, trapped, trapped_alone, up_to}
-use Rattle.dfc_driver.specs.Game.{GameKind, IsNetOn, operation_game}
+use Rattle.dfc_driver.specs.Due.{Due, IsDueOn, IsDueSample, IsPlayed, TellsSizes, sample_limit, told_by_forks, trapped, trapped_alone, up_to}
+use Rattle.dfc_driver.specs.Game.{GameKind, IsNetOn, fork_game, operation_game}
 use Rattle.dfc_driver.specs.GraphText.{TellsGraph, graph_text}
 use Rattle.dfc_driver.specs.Reading.{Reading, Accepted, Refused, reading}
 use Rattle.dfc_driver.specs.Regions.{regions_text}
 use Rattle.dfc_driver.specs.StoreText.{fired_line, store_text}
-use Rattle.dfc_driver.specs.Words.{Asked, Job, On, Task, Regions, Graph, Play, Regen, Run, Sample}
+use Rattle.dfc_driver.specs.Words.{Asked, Job, On, Task, Regions, Graph, Play, Forks, Regen, Run, Sample}
 
 -- ---- games
 
@@ -162,6 +162,7 @@ abbrev pub Means : Task → (checked : Bool) → Program → Due → Type 0
 Means Regions checked p due = MeansRegions (flow p.execs) due
 Means Graph checked p due = MeansGraph p due
 Means (Play what asked) checked p due = MeansPlay operation_game what asked p due
+Means (Forks nodes asked) checked p due = MeansPlay fork_game (told_by_forks nodes) asked p due
 Means Regen checked p due = MeansRegen p due
 Means (Run limit input) checked p due = MeansRun limit input p due
 

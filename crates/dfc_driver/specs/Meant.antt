@@ -8,7 +8,7 @@ use Rattle.dfc_driver.specs.declared.words.Setting.{Setting}
 use Rattle.dfc_driver.specs.declared.words.Setting.TheVariants.{Picks, Data}
 use Rattle.dfc_driver.specs.declared.words.Task as read_tasks
 use Rattle.dfc_driver.specs.declared.words.Task.TheVariants as read_task
-use Rattle.dfc_driver.specs.Words.{Asked, Task, Regions, Graph, Play, Regen, Run, Job, On, Sample, is_text, values_in, word_value}
+use Rattle.dfc_driver.specs.Words.{Asked, Task, Regions, Graph, Play, Forks, Regen, Run, Job, On, Sample, is_text, values_in, word_value}
 
 abbrev pub asked_in : GameWords → Asked
 asked_in words = record { limit = words.limit; picks = values_in number words.picks.now; input = values_in word_value words.input.now }
@@ -17,6 +17,7 @@ abbrev pub task_meant : read_tasks.Task → Task
 task_meant read_task.Regions = Regions
 task_meant read_task.Graph = Graph
 task_meant (read_task.Play told words) = Play told (asked_in words)
+task_meant (read_task.Forks nodes words) = Forks nodes (asked_in words)
 task_meant read_task.Regen = Regen
 task_meant (read_task.Run words) = Run words.limit (values_in word_value words.input.now)
 
@@ -41,6 +42,7 @@ abbrev pub IsTask : read_tasks.Task → Type 0
 IsTask read_task.Regions = Unit {0}
 IsTask read_task.Graph = Unit {0}
 IsTask (read_task.Play told words) = AreGameWords words
+IsTask (read_task.Forks nodes words) = AreGameWords words
 IsTask read_task.Regen = Unit {0}
 IsTask (read_task.Run words) = MayStand Data words.input.now
 

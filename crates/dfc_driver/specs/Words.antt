@@ -22,6 +22,8 @@ pub data Task : Type 0 where
   Regions : Task
   Graph : Task
   Play : (told : Told) (asked : Asked) → Task
+  -- the game is played in which the loads of a group fire in any order, and its output is told, or its nodes as they fire
+  Forks : (nodes : Bool) (asked : Asked) → Task
   -- the text of its rewritten form is written
   Regen : Task
   -- its rewritten form is run, for so many steps at most, over these words for READ
@@ -111,13 +113,24 @@ abbrev pub on : Task → Option Bool → Option Job
 on task None = None
 on task (Some checked) = Some (On task checked)
 
--- the limit, the picks, the data and the dialect, in this order, each of them once or not at all
-abbrev pub play_of : Told → List (List ℕ) → Option Job
-play_of told words =
+-- what a game is asked by these words: the limit, the picks and the data, in this order, each of them once or not at all
+abbrev pub asked_of : List (List ℕ) → Asked
+asked_of words =
     let after_limit = after Limit words in
     let after_picks = after Picks after_limit in
-    let after_data = after Data after_picks in
-    on (Play told (record { limit = limit_in (text_of Limit words); picks = values_in number (text_of Picks after_limit); input = values_in word_value (text_of Data after_picks) })) (dialect_of after_data)
+    record { limit = limit_in (text_of Limit words); picks = values_in number (text_of Picks after_limit); input = values_in word_value (text_of Data after_picks) }
+
+-- the dialect, which stands after them
+abbrev pub dialect_after : List (List ℕ) → Option Bool
+dialect_after words = dialect_of (after Data (after Picks (after Limit words)))
+
+abbrev pub play_of : Told → List (List ℕ) → Option Job
+play_of told words = on (Play told (asked_of words)) (dialect_after words)
+
+-- the same settings, and before them `nodes` or not
+abbrev pub forks_of : List (List ℕ) → Option Job
+forks_of [] = on (Forks false (asked_of [])) (dialect_after [])
+forks_of (word ∷ words) = if bytes_eq word (codes "nodes") then on (Forks true (asked_of words)) (dialect_after words) else on (Forks false (asked_of (word ∷ words))) (dialect_after (word ∷ words))
 
 -- the game that this word asks for
 abbrev pub told_by : List ℕ → Option Told
@@ -142,8 +155,8 @@ sample_of [] = None
 sample_of (word ∷ []) = if is_sample word then Some (Sample (number word)) else None
 sample_of (word ∷ more ∷ words) = None
 
--- The job that these words ask for: `sample` and its number, `regions`, `graph` or `regen` and the dialect, `run` and the settings of a run, or `fire`, `trace`
--- or `store` and the settings of a game, as yet. Other words have no meaning.
+-- The job that these words ask for: `sample` and its number, `regions`, `graph` or `regen` and the dialect, `run` and the settings of a run, `fire`, `trace`
+-- or `store` and the settings of a game, or `forks`, `nodes` or not, and the settings of a game. Other words have no meaning.
 abbrev pub job_of : List (List ℕ) → Option Job
 job_of [] = None
-job_of (word ∷ words) = if bytes_eq word (codes "regions") then on Regions (dialect_of words) else if bytes_eq word (codes "graph") then on Graph (dialect_of words) else if bytes_eq word (codes "regen") then on Regen (dialect_of words) else if bytes_eq word (codes "run") then run_of words else if bytes_eq word (codes "sample") then sample_of words else game_of_words (told_by word) words
+job_of (word ∷ words) = if bytes_eq word (codes "regions") then on Regions (dialect_of words) else if bytes_eq word (codes "graph") then on Graph (dialect_of words) else if bytes_eq word (codes "regen") then on Regen (dialect_of words) else if bytes_eq word (codes "run") then run_of words else if bytes_eq word (codes "sample") then sample_of words else if bytes_eq word (codes "forks") then forks_of words else game_of_words (told_by word) words

@@ -3,6 +3,7 @@
 #![tactic(auto)]
 
 mod edge_tables;
+mod forks;
 mod game;
 mod graph;
 mod graph_line;

@@ -68,14 +68,17 @@ pub fn play<K: Sink>(
 
 /// What a game is played with: what was found of the program, the picks and the data.
 #[derive(Drop)]
-struct Game<'a> {
-    analysis: Analysis<'a>,
-    picks: Vec<u32>,
-    input: Vec<i32>,
+pub struct Game<'a> {
+    /// What was found of the program.
+    pub analysis: Analysis<'a>,
+    /// The picks that choose nodes, none where the source's own order does.
+    pub picks: Vec<u32>,
+    /// The words that READ takes.
+    pub input: Vec<i32>,
 }
 
-// What the game of a program is played with.
-fn game_of<'a>(
+/// What the game of a program is played with.
+pub fn game_of<'a>(
     alloc: Global,
     words: GameWords<'_>,
     program: &'a Program,

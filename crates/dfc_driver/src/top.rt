@@ -10,6 +10,7 @@ ghost use Rattle.dfc_driver.specs.Meant.{IsJob, IsTask, job_meant, task_meant};
 ghost use Rattle.dfc_driver.specs.Reading.{reading};
 ghost use Rattle.dfc_driver.specs.Words.{job_of};
 
+use crate::forks::play_forks;
 use crate::graph::tell_graph;
 use crate::lines::{tell_refusal, tell_usage};
 use crate::playing::play;
@@ -121,6 +122,7 @@ fn on_program<K: Sink>(
         Task::Regions => tell_regions(alloc, program, sink),
         Task::Graph => tell_graph(alloc, program, sink),
         Task::Play(told, words) => play(alloc, told, words, program, sink),
+        Task::Forks(nodes, words) => play_forks(alloc, nodes, words, program, sink),
         Task::Regen => tell_regen(alloc, program, checked, sink),
         Task::Run(words) => tell_run(alloc, words, program, checked, sink),
     }

@@ -1,10 +1,10 @@
-ghost use Rattle.std.specs.Prelude.{◌≡◌, ◌<◌, ◌≤◌, ◌^◌, [], true, false, map, length, drop, IfSome, MatchOption};
+ghost use Rattle.std.specs.Prelude.{◌≡◌, ◌<◌, ◌≤◌, ◌^◌, [], true, false, Some, None, map, length, drop, IfSome, MatchOption};
 ghost use Rattle.std.specs.List.{list_all};
 ghost use Rattle.std.specs.String.{string_bytes};
 ghost use Rattle.f77_tree.specs.Name.{is_figure};
 ghost use Rattle.fixed_form.specs.Columns.{number};
-ghost use Rattle.dfc_driver.specs.Meant.{IsJob, IsSampleNumber, MayStand, meant};
-ghost use Rattle.dfc_driver.specs.Words.{job_of, play_of, run_of, sample_of, is_sample, after, text_of, limit_in as spec_limit_in, dialect_of, are_digits_to as spec_are_digits_to, is_piece as spec_is_piece, is_setting, is_text as spec_is_text, is_word as spec_is_word, is_number_to as spec_is_number_to, name_of, pieces_after};
+ghost use Rattle.dfc_driver.specs.Meant.{AreGameWords, IsJob, IsSampleNumber, asked_in, MayStand, meant};
+ghost use Rattle.dfc_driver.specs.Words.{job_of, told_by as spec_told_by, play_of, forks_of, asked_of, dialect_after, run_of, sample_of, is_sample, after, text_of, limit_in as spec_limit_in, dialect_of, are_digits_to as spec_are_digits_to, is_piece as spec_is_piece, is_setting, is_text as spec_is_text, is_word as spec_is_word, is_number_to as spec_is_number_to, name_of, pieces_after};
 
 /// What the words after the program's name ask for.
 #[derive(Clone, Copy, Debug, PartialEq, Eq)]
@@ -25,6 +25,9 @@ pub enum Task<'a> {
     Graph,
     /// The game of its net of operations is played, and something told of it.
     Play(Told, GameWords<'a>),
+    /// The game of its net is played in which the loads of a group fire in any order, and its output written, or where this is true
+    /// the nodes as they fire.
+    Forks(bool, GameWords<'a>),
     /// The text of its rewritten form is written.
     Regen,
     /// Its rewritten form is run, and the output written.
@@ -93,10 +96,27 @@ pub fn read_words(words: &[String]) -> Option<Job<'_>>
         }
         [word, options @ ..] if word.as_str() == "run" => read_run(options),
         [word, options @ ..] if word.as_str() == "sample" => read_sample(options),
-        [word, options @ ..] if word.as_str() == "fire" => read_game(Told::Output, options),
-        [word, options @ ..] if word.as_str() == "trace" => read_game(Told::Nodes, options),
-        [word, options @ ..] if word.as_str() == "store" => read_game(Told::Store, options),
-        _ => None,
+        [word, options @ ..] if word.as_str() == "forks" => read_forks(options),
+        [word, options @ ..] => {
+            let told = told_by(word.as_str())?;
+            read_game(told, options)
+        }
+        [] => None,
+    }
+}
+
+// What is told of the game that this word asks for.
+fn told_by(word: &str) -> Option<Told>
+    ensures { result ≡ spec_told_by word.now }
+{
+    if word == "fire" {
+        Some(Told::Output)
+    } else if word == "trace" {
+        Some(Told::Nodes)
+    } else if word == "store" {
+        Some(Told::Store)
+    } else {
+        None
     }
 }
 
@@ -105,20 +125,44 @@ fn read_game(told: Told, words: &[String]) -> Option<Job<'_>>
     ensures job { meant result ≡ play_of told (map string_bytes words.now) }
     ensures texts { IfSome result IsJob }
 {
+    let (asked, checked) = read_settings(words)?;
+    Some(Job::On(Task::Play(told, asked), checked))
+}
+
+// The game that the words after `forks` ask for.
+fn read_forks(words: &[String]) -> Option<Job<'_>>
+    ensures job { meant result ≡ forks_of (map string_bytes words.now) }
+    ensures texts { IfSome result IsJob }
+{
+    match words {
+        [word, options @ ..] if word.as_str() == "nodes" => {
+            let (asked, checked) = read_settings(options)?;
+            Some(Job::On(Task::Forks(true, asked), checked))
+        }
+        _ => {
+            let (asked, checked) = read_settings(words)?;
+            Some(Job::On(Task::Forks(false, asked), checked))
+        }
+    }
+}
+
+// The settings of a game, and after them the dialect: whether it is the checked one.
+fn read_settings(words: &[String]) -> Option<(GameWords<'_>, bool)>
+    ensures checked { MatchOption result (dialect_after (map string_bytes words.now) ≡ None) (λ read. dialect_after (map string_bytes words.now) ≡ Some read.1) }
+    ensures asked { IfSome result (λ read. asked_in read.0 ≡ asked_of (map string_bytes words.now)) }
+    ensures texts { IfSome result (λ read. AreGameWords read.0) }
+{
     let (limit, words) = split_setting(Setting::Limit, words);
     let (picks, words) = split_setting(Setting::Picks, words);
     let (input, words) = split_setting(Setting::Data, words);
     let checked = read_dialect(words)?;
     let limit = limit_in(limit);
-    Some(Job::On(
-        Task::Play(
-            told,
-            GameWords {
-                limit,
-                picks,
-                input,
-            },
-        ),
+    Some((
+        GameWords {
+            limit,
+            picks,
+            input,
+        },
         checked,
     ))
 }

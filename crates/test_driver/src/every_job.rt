@@ -9,7 +9,7 @@ const WRITTEN: &str =
     "      INTEGER I\n      INTEGER J\n      I=2\n      J=5\n      PRINT *,5\n      END\n";
 
 /// Each job that reads a text, in both dialects, and what is due for it on `TWO_WAYS`.
-pub(crate) const JOBS: [(&[&str], &str); 14] = [
+pub(crate) const JOBS: [(&[&str], &str); 18] = [
     (&["regions"], REGIONS),
     (&["regions", "checked"], REGIONS),
     (&["graph"], GRAPH),
@@ -20,6 +20,10 @@ pub(crate) const JOBS: [(&[&str], &str); 14] = [
     (&["trace", "checked"], TRACE),
     (&["store"], STORE),
     (&["store", "checked"], STORE),
+    (&["forks"], " 5\n"),
+    (&["forks", "checked"], " 5\n"),
+    (&["forks", "nodes"], TRACE),
+    (&["forks", "nodes", "checked"], TRACE),
     (&["regen"], WRITTEN),
     (&["regen", "checked"], WRITTEN),
     (&["run"], " 5\n"),

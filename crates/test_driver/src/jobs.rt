@@ -73,8 +73,11 @@ const STOPPED: &str = "0 OP 1 0
 LIMIT 3
 ";
 
+// Two loads of one word follow one another.
+const TWO_LOADS: &str = "      J=I+1\n      K=I+2\n      PRINT *,J+K\n      END\n";
+
 // Programs with the words for them, and what is due.
-const ROWS: [(&str, &[&str], u8, &str); 10] = [
+const ROWS: [(&str, &[&str], u8, &str); 15] = [
     (TWO_WAYS, &["graph"], 0, GRAPH),
     (TWO_WAYS, &["trace"], 0, TRACE),
     (TWO_WAYS, &["store"], 0, STORE),
@@ -85,6 +88,21 @@ const ROWS: [(&str, &[&str], u8, &str); 10] = [
     (TWO_WAYS, &["store", "limit=5"], 4, "LIMIT 5\n"),
     (DIVIDES, &["trace"], 3, TRAPPED),
     (DIVIDES, &["store"], 3, "TRAP DIVIDE LINE 3\n"),
+    (TWO_LOADS, &["forks"], 0, " 3\n"),
+    (TWO_LOADS, &["forks", "picks=1"], 0, " 3\n"),
+    (
+        TWO_LOADS,
+        &["trace", "limit=1", "picks=1"],
+        4,
+        "0 OP 1 0\nLIMIT 1\n",
+    ),
+    (
+        TWO_LOADS,
+        &["forks", "nodes", "limit=1", "picks=1"],
+        4,
+        "3 OP 2 0\nLIMIT 1\n",
+    ),
+    (DIVIDES, &["forks", "nodes"], 3, TRAPPED),
 ];
 
 // Each write fails in turn, and after the last one none does.
@@ -129,6 +147,9 @@ fn knows_no_settings_of_graphs(rt: HostRuntime) -> Result<(), Fail> {
         ["graph", "checked", "checked"].as_slice(),
         ["trace", "checked", "limit=3"].as_slice(),
         ["store", "picks=1", "limit=3"].as_slice(),
+        ["forks", "limit=3", "nodes"].as_slice(),
+        ["forks", "nodes", "nodes"].as_slice(),
+        ["trace", "nodes"].as_slice(),
     ] {
         let (answer, sink) = failing(rt.alloc(), words, TWO_WAYS, &never)?;
         assert_eq!(&rt; answer, 1);

@@ -32,6 +32,8 @@ fn blames_neither(rt: HostRuntime) -> Result<(), Fail> {
         (["graph", "checked"].as_slice(), 52, 0, 312),
         (["trace"].as_slice(), 52, 0, 81),
         (["store"].as_slice(), 52, 0, 16),
+        (["forks"].as_slice(), 52, 0, 5),
+        (["forks", "nodes"].as_slice(), 52, 0, 81),
         (["run"].as_slice(), 52, 0, 5),
         (["regen"].as_slice(), 52, 0, 80),
         (["fire"].as_slice(), 24, 2, 16),

@@ -1,0 +1,50 @@
+use Rattle.std.proofs.Common.{◌≡◌, refl, ap, subst, ◌∙◌}
+use Rattle.cfg_build.specs.Flow.{flow}
+use Rattle.dep_routing.specs.Touch.{touches_in}
+use Rattle.firing.specs.declared.playing.Show.{Show}
+use Rattle.firing.specs.Play.{moment}
+use Rattle.net_board.specs.NetParts.{net_with}
+use Rattle.net_board.specs.Nodes.{NetOf}
+use Rattle.fork_board.specs.ForkTokens.{fork_course, fork_moves}
+use Rattle.read_forks.specs.ForkView.{marking_of, net_of, place_of}
+use Rattle.dfc_driver.specs.Answers.{AnswersAs}
+use Rattle.dfc_driver.specs.Due.{IsDuePlay, IsGameOf, shown_by_forks, told_by_forks}
+use Rattle.dfc_driver.specs.Game.{IsGameOn, IsNetOn, fork_game, fork_game_of}
+use Rattle.dfc_driver.specs.Playing.{way_by}
+use Rattle.dfc_driver.specs.Meant.{asked_in}
+use Rattle.dfc_driver.proofs.DataWords.{data_words}
+use Rattle.dfc_driver.proofs.GameTold.{answers_more, forks_told, played_on}
+use Rattle.dfc_driver.proofs.NetParts.{found_parts, found_ranges, net_on}
+use Rattle.dfc_driver.proofs.forks.play_fork_net.Goals as goal
+
+pub returns-in-Ok-clause-due : goal.returns-in-Ok-clause-due
+returns-in-Ok-clause-due g c =
+    let p = c.args.program.now in
+    let nodes = c.args.nodes in
+    let told = told_by_forks nodes in
+    let asked = asked_in c.args.words in
+    let found = c.args.game.now.analysis in
+    let touches = touches_in found.touch in
+    let lines = found.lines in
+    let s = c.in-Ok.net in
+    let x = net_of s in
+    let made = c.in-Ok.ensures in
+    let same : x.net ≡ net_with p asked.input touches lines = made.net ∙ ap (λ xs. net_with p xs touches lines) c.requires.input in
+    let own : IsNetOn p asked.input x =
+    net_on p asked.input touches lines x same
+    (data_words c.args.words.input.now c.requires.words.input)
+    (found_parts p found (flow p.execs) refl c.requires.program c.requires.analysis)
+    (found_ranges p found c.requires.analysis)
+    c.requires.analysis.rows made.is_net made.outside_pieces made.outside_operations in
+    let game = fork_game_of x in
+    let is : IsGameOn fork_game p asked.input game = record { net = x; own = own; is = refl } in
+    let picks = c.deref.ensures.value ∙ c.requires.picks in
+    let w = way_by (fork_moves x) (fork_course x) c.deref.result.now in
+    let start = moment (marking_of s) (place_of s) in
+    let old = g.K.Sink.got c.args.sink.now in
+    let new = g.K.Sink.got c.tell_game.new.sink in
+    let answers : AnswersAs (IsGameOf w start asked.limit (shown_by_forks nodes)) old new c.tell_game.result =
+    subst (λ (show : Show). AnswersAs (IsGameOf w start asked.limit show) old new c.tell_game.result) c.show_of.ensures c.tell_game.ensures.due in
+    answers_more (IsGameOf w start asked.limit (shown_by_forks nodes)) (IsDuePlay fork_game told asked p) old new c.tell_game.result
+    (λ due is_told. played_on fork_game told asked p game (marking_of s) (place_of s) c.deref.result.now is made.marking made.place picks due (forks_told fork_game nodes p w start asked.limit due is_told))
+    answers
