@@ -8,7 +8,7 @@ use Rattle.f77_tree.specs.Name.{is_figure}
 use Rattle.fixed_form.specs.Columns.{number}
 use Rattle.dfc_driver.specs.declared.words.Told.{Told}
 use Rattle.dfc_driver.specs.declared.words.Setting.TheVariants as setting
-use Rattle.dfc_driver.specs.Words.{Asked, Job, On, Sample, Play, Regen, Regions, Graph, Run, Task, after, are_digits_to, dialect_of, game_of_words, is_sample, is_setting, is_text, job_of, limit_in, name_of, on, play_of, run_of, sample_of, text_of, told_by, values_in, word_value}
+use Rattle.dfc_driver.specs.Words.{Asked, Job, On, Sample, Play, Forks, Regen, Regions, Graph, Run, Task, after, are_digits_to, asked_of, dialect_after, dialect_of, forks_of, game_of_words, is_sample, is_setting, is_text, job_of, limit_in, name_of, on, play_of, run_of, sample_of, text_of, told_by, values_in, word_value}
 
 figure : (c : ℕ) → is_figure c ≡ true → c - 48 ≤ 9
 figure c is =
@@ -80,6 +80,7 @@ limit_of (Some (Sample n)) = 0
 limit_of (Some (On Regions checked)) = 0
 limit_of (Some (On Graph checked)) = 0
 limit_of (Some (On (Play told asked) checked)) = asked.limit
+limit_of (Some (On (Forks nodes asked) checked)) = asked.limit
 limit_of (Some (On Regen checked)) = 0
 limit_of (Some (On (Run limit input) checked)) = 0
 
@@ -98,11 +99,16 @@ on_small task None each = none_small
 on_small task (Some checked) each = each checked
 
 play_small : (told : Told) (words : List (List ℕ)) → IsSmall (play_of told words)
-play_small told words =
-    let after_limit = after setting.Limit words in
-    let after_picks = after setting.Picks after_limit in
-    let asked : Asked = record { limit = limit_in (text_of setting.Limit words); picks = values_in number (text_of setting.Picks after_limit); input = values_in word_value (text_of setting.Data after_picks) } in
-    on_small (Play told asked) (dialect_of (after setting.Data after_picks)) (λ checked. limit_small words)
+play_small told words = on_small (Play told (asked_of words)) (dialect_after words) (λ checked. limit_small words)
+
+forks_small : (words : List (List ℕ)) → IsSmall (forks_of words)
+forks_small [] = on_small (Forks false (asked_of [])) (dialect_after []) (λ checked. limit_small [])
+forks_small (word ∷ words) =
+    let with_nodes = on (Forks true (asked_of words)) (dialect_after words) in
+    let without = on (Forks false (asked_of (word ∷ words))) (dialect_after (word ∷ words)) in
+    small_if (bytes_eq word (codes "nodes")) with_nodes without
+    (on_small (Forks true (asked_of words)) (dialect_after words) (λ checked. limit_small words))
+    (on_small (Forks false (asked_of (word ∷ words))) (dialect_after (word ∷ words)) (λ checked. limit_small (word ∷ words)))
 
 game_small : (told : Option Told) (words : List (List ℕ)) → IsSmall (game_of_words told words)
 game_small None words = none_small
@@ -121,11 +127,13 @@ sample_small (word ∷ more ∷ words) = none_small
 job_small : (words : List (List ℕ)) → IsSmall (job_of words)
 job_small [] = none_small
 job_small (word ∷ words) =
-    let sample_job = if bytes_eq word (codes "sample") then sample_of words else game_of_words (told_by word) words in
+    let forks_job = if bytes_eq word (codes "forks") then forks_of words else game_of_words (told_by word) words in
+    let sample_job = if bytes_eq word (codes "sample") then sample_of words else forks_job in
     let run_job = if bytes_eq word (codes "run") then run_of words else sample_job in
     let regen_job = if bytes_eq word (codes "regen") then on Regen (dialect_of words) else run_job in
     let graph_job = if bytes_eq word (codes "graph") then on Graph (dialect_of words) else regen_job in
-    let sample = small_if (bytes_eq word (codes "sample")) (sample_of words) (game_of_words (told_by word) words) (sample_small words) (game_small (told_by word) words) in
+    let forks = small_if (bytes_eq word (codes "forks")) (forks_of words) (game_of_words (told_by word) words) (forks_small words) (game_small (told_by word) words) in
+    let sample = small_if (bytes_eq word (codes "sample")) (sample_of words) forks_job (sample_small words) forks in
     let run = small_if (bytes_eq word (codes "run")) (run_of words) sample_job (run_small words) sample in
     let regen = small_if (bytes_eq word (codes "regen")) (on Regen (dialect_of words)) run_job (on_small Regen (dialect_of words) (λ checked. none_small)) run in
     let graph = small_if (bytes_eq word (codes "graph")) (on Graph (dialect_of words)) regen_job (on_small Graph (dialect_of words) (λ checked. none_small)) regen in
