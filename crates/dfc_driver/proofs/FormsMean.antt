@@ -14,7 +14,9 @@ use Rattle.flat_programs.specs.Text.{text as text_of}
 use Rattle.regenerate.specs.declared.ends.RewriteEnd.{RewriteEnd}
 use Rattle.regenerate.specs.RewrittenSteps.{FollowsWithin}
 use Rattle.regenerate.specs.declared.ends.RewriteEnd.TheVariants as rewrite_end
-use Rattle.rewriting.specs.Rewritten.{IsRewritten, PassesLimit}
+use Rattle.rewriting.specs.Rewritten.{IsRewritten, IsRewrittenText, PassesLimit}
+use Rattle.read_back.specs.PrintedArrays.{HasNoPrintedArrays}
+use Rattle.read_back.specs.ReadAgain.{IsReadBack}
 use Rattle.dfc_driver.specs.declared.status.Status.{Status}
 use Rattle.dfc_driver.specs.declared.status.Status.TheVariants as status
 use Rattle.dfc_driver.specs.Due.{Due, IsDueByEnd, IsDueLimit, IsDueRegen, IsDueRun, IsDueRunOf, IsOutputDue, IsPrinted, IsTextDue, MakesSteps, due_by_mark, done, trapped_alone}
@@ -79,30 +81,41 @@ one_regen lists p checked one a b is also =
 abbrev pub FormsPrintAlike : Program → (checked : Bool) → Type 0
 FormsPrintAlike p checked = (s : Program) (input : List ℤ) → IsRewritten p checked s → All IsWord input → PrintAlike (source p input) (source s input)
 
-text_means : (p : Program) (checked : Bool) → FormsPrintAlike p checked → (due : Due) → IsTextDue p checked due → MeansText p due.text
-text_means p checked alike due is = record {
+-- and their texts are read back
+abbrev pub TextsAreReadBack : Program → (checked : Bool) → Type 0
+TextsAreReadBack p checked = (text : List ℕ) → HasNoPrintedArrays p.names → (is : IsRewrittenText p checked text) → IsReadBack text checked is.form
+
+text_means : (p : Program) (checked : Bool) → FormsPrintAlike p checked → TextsAreReadBack p checked → (due : Due) → IsTextDue p checked due → MeansText checked p due.text
+text_means p checked alike again due is = record {
   form = is.form;
   flat = is.printed.flat;
   statements = is.printed.statements;
   is = ap (λ (d : Due). d.text) is.printed.is;
   alike = λ input words. alike is.form input is.rewritten words;
+  read = λ arrays. again due.text arrays (record {
+    form = is.form;
+    rewritten = is.rewritten;
+    flat = is.printed.flat;
+    statements = is.printed.statements;
+    is = ap (λ (d : Due). d.text) is.printed.is;
+  });
 }
 
-regen_means : (p : Program) (checked : Bool) → FormsPrintAlike p checked → (due : Due) → IsDueRegen p checked due → MeansRegen p due
-regen_means p checked alike due is = record {
+regen_means : (p : Program) (checked : Bool) → FormsPrintAlike p checked → TextsAreReadBack p checked → (due : Due) → IsDueRegen p checked due → MeansRegen checked p due
+regen_means p checked alike again due is = record {
   ends =
       ⊎_elim
       (λ (x : IsTextDue p checked due). inl (ap (λ (d : Due). d.status) x.printed.is))
       (λ (x : IsDueLimit p checked due). inr (refused x.end due x.is))
       is;
   text = λ told. ⊎_elim
-      (λ (x : IsTextDue p checked due). text_means p checked alike due x)
+      (λ (x : IsTextDue p checked due). text_means p checked alike again due x)
       (λ (x : IsDueLimit p checked due). absurd (not_refused p checked due status.Done (λ e. absurd cc) x told))
       is;
 }
 
-pub regen_on : OneList → (p : Program) (checked : Bool) → IsOneForm p checked → FormsPrintAlike p checked → MeansOn Regen checked p
-regen_on lists p checked one alike = record { one = one_regen lists p checked one; means = regen_means p checked alike }
+pub regen_on : OneList → (p : Program) (checked : Bool) → IsOneForm p checked → FormsPrintAlike p checked → TextsAreReadBack p checked → MeansOn Regen checked p
+regen_on lists p checked one alike again = record { one = one_regen lists p checked one; means = regen_means p checked alike again }
 
 -- ---- runs
 

@@ -17,6 +17,8 @@ use Rattle.flat_programs.specs.declared.statements.FlatLine.{FlatLine}
 use Rattle.flat_programs.specs.FlatForm.{AreStatementsOf}
 use Rattle.flat_programs.specs.Text.{text as text_of}
 use Rattle.op_board.specs.OperationNets.{OperationNet}
+use Rattle.read_back.specs.PrintedArrays.{HasNoPrintedArrays}
+use Rattle.read_back.specs.ReadAgain.{IsReadBack}
 use Rattle.dfc_driver.specs.declared.status.Status.TheVariants.{Done, Refused as Refused_status, Trapped}
 use Rattle.dfc_driver.specs.declared.words.Told.{Told}
 use Rattle.dfc_driver.specs.declared.words.Told.TheVariants.{Output, Nodes, Store}
@@ -116,18 +118,21 @@ pub record MeansRegions (f : FlowGraph) (due : Due) : Type 0 where
 
 -- ---- rewritten programs
 
--- The text is that of a program of flat statements, which prints what the program prints, whatever the data.
-pub record MeansText (p : Program) (text : List ℕ) : Type 0 where
+-- The text is that of a program of flat statements, which prints what the program prints, whatever the data. Where no array of the program
+-- bears a name with which an intrinsic function is printed, the text is read as that program again, on other lines and with COMMON once a
+-- block.
+pub record MeansText (checked : Bool) (p : Program) (text : List ℕ) : Type 0 where
   pub form : Program
   pub flat : List FlatLine
   pub statements : AreStatementsOf form flat
   pub is : text ≡ text_of form flat
   pub alike : (input : List ℤ) → All IsWord input → PrintAlike (source p input) (source form input)
+  pub read : HasNoPrintedArrays p.names → IsReadBack text checked form
 
 -- The text is written, or the rewriting passes a limit.
-pub record MeansRegen (p : Program) (due : Due) : Type 0 where
+pub record MeansRegen (checked : Bool) (p : Program) (due : Due) : Type 0 where
   pub ends : (due.status ≡ Done) ⊎ (due.status ≡ Refused_status)
-  pub text : due.status ≡ Done → MeansText p due.text
+  pub text : due.status ≡ Done → MeansText checked p due.text
 
 -- so many steps of the rewritten form are enough for so many steps of the program
 abbrev pub run_bound : Program → (steps : ℕ) → ℕ
@@ -163,7 +168,7 @@ Means Regions checked p due = MeansRegions (flow p.execs) due
 Means Graph checked p due = MeansGraph p due
 Means (Play what asked) checked p due = MeansPlay operation_game what asked p due
 Means (Forks nodes asked) checked p due = MeansPlay fork_game (told_by_forks nodes) asked p due
-Means Regen checked p due = MeansRegen p due
+Means Regen checked p due = MeansRegen checked p due
 Means (Run limit input) checked p due = MeansRun limit input p due
 
 -- No two things are due on the program, and what is due means this.

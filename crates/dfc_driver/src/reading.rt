@@ -1,5 +1,6 @@
 ghost use Rattle.std.specs.Prelude.{◌≡◌, ◌≢◌, ◌≤◌, ◌<◌, length, IfOk, IfSome, IsErrOf};
 ghost use Rattle.df_io.specs.Faults.{Rose};
+ghost use Rattle.f77_tree.specs.Dialects.{IsOfDialect};
 ghost use Rattle.f77_tree.specs.WellFormed.{IsWellFormed};
 ghost use Rattle.alias_classes.specs.Number.{HasFewClasses};
 ghost use Rattle.dfc_driver.specs.Codes.{name_of};
@@ -8,6 +9,7 @@ ghost use Rattle.dfc_driver.specs.Reading.{reading, most_bytes, IsReadAs, IsRead
 use df_io::{ReadEnd, Source, read_all};
 use f77_source::SourceEnd;
 use f77_tree::Program;
+use read_dialects::programs_are_read_in_their_dialect;
 use std::alloc::Global;
 
 /// How many bytes a text may have.
@@ -89,6 +91,7 @@ pub fn read_program<S: Source>(
 ) -> Result<Program, NoProgram>
     ensures reads { IfSome (S.left source.old) (λ bytes. IsReadAs (reading checked bytes) result) }
     ensures well_formed { IfOk result (λ program. IsWellFormed program) }
+    ensures dialect { IfOk result (λ program. IsOfDialect checked program) }
     ensures few { IfOk result (λ program. HasFewClasses program) }
     ensures taken { IsReadFor (S.left source.old) (S.left source.new) result }
     ensures within { IsReadWithin (S.left source.old) (S.left source.new) }
@@ -129,9 +132,11 @@ fn read_text(alloc: Global, bytes: &[u8], checked: bool) -> Result<Program, NoPr
     requires { length bytes.now ≤ most_bytes }
     ensures reads { IsReadAs (reading checked bytes.now) result }
     ensures well_formed { IfOk result (λ program. IsWellFormed program) }
+    ensures dialect { IfOk result (λ program. IsOfDialect checked program) }
     ensures few { IfOk result (λ program. HasFewClasses program) }
     ensures read { IsErrOf result NoProgram.ReadFault → ⊥ }
 {
+    programs_are_read_in_their_dialect();
     match f77_source::read_program(alloc, bytes, checked) {
         Ok(program) => Ok(program),
         Err(SourceEnd::Refused(refusal)) => Err(NoProgram::Refused {

@@ -3,6 +3,7 @@
 ghost use Rattle.std.specs.Prelude.{◌≡◌, ◌≢◌, ◌≤◌};
 ghost use Rattle.df_io.specs.Faults.{Rose};
 ghost use Rattle.alias_classes.specs.Number.{HasFewClasses};
+ghost use Rattle.f77_tree.specs.Dialects.{IsOfDialect};
 ghost use Rattle.f77_tree.specs.WellFormed.{IsWellFormed};
 ghost use Rattle.dfc_driver.specs.Answers.{AnswersAs, Tells};
 ghost use Rattle.dfc_driver.specs.Due.{IsDueRegen, done};
@@ -20,6 +21,7 @@ use std::alloc::Global;
 /// Writes the text of a program's rewritten form, in a dialect. All memory is taken before the first byte is written.
 pub fn tell_regen<K: Sink>(alloc: Global, program: &Program, checked: bool, sink: &mut K) -> Status
     requires program { IsWellFormed program.now }
+    requires dialect { IsOfDialect checked program.now }
     requires few { HasFewClasses program.now }
     ensures due { AnswersAs (IsDueRegen program.now checked) (K.got sink.old) (K.got sink.new) result }
     ensures means { result ≢ Status.NoMemory → MeansOn Regen checked program.now }

@@ -1,5 +1,7 @@
+mod AgainRuns
 mod FlatDialects
 mod FoldedDialects
+mod ReadRuns
 mod RewrittenDialects
 mod RewrittenTables
 mod RewrittenTexts

@@ -1,1 +1,2 @@
+pub mod ReadRuns
 pub mod Texts

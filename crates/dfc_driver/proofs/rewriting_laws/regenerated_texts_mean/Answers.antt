@@ -6,7 +6,7 @@ returns c =
     let p = c.args.program.now in
     let checked = c.args.checked in
     let one = c.rewritten_forms_are_one.ensures in
-    let well = c.requires in
+    let well = c.requires.program in
     regen_on c.executables_tell_statements.ensures.one p checked
     (record {
       form = λ s r is also. one.rewritten p checked s r well is also;
@@ -14,3 +14,4 @@ returns c =
       limit = λ end other passes also. one.limit p checked end other well passes also;
     })
     (λ s input is words. c.rewritten_programs_print_alike.ensures.alike p checked s input well is words)
+    (λ text arrays is. c.rewritten_texts_are_read_back.ensures p checked text arrays c.requires.dialect is)
