@@ -109,10 +109,9 @@ const ROWS: [(&str, &[&str], u8, &str); 15] = [
 #[test]
 fn writes_what_is_due(rt: HostRuntime) -> Result<(), Fail> {
     for (text, words, status, due) in ROWS {
-        // Each call takes two bytes at most, and so many calls were made.
-        let most = due.len() as u32;
         let mut before = None;
-        for call in 0..most + 1 {
+        // Each call takes two bytes at most, and no row has as many.
+        for call in 0..1000 {
             let faults = Faults {
                 source: [u32::MAX],
                 sink: [call],
