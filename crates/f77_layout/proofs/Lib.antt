@@ -2,6 +2,7 @@ pub mod Answers
 pub mod Appearing
 mod Beginnings
 mod Begun
+mod BlockDepths
 mod Chains
 mod Coming
 mod CommonSteps
@@ -21,6 +22,7 @@ pub mod DeclaredOnce
 pub mod DeclaredPrograms
 pub mod DeclaredSizes
 pub mod DeclaredStandings
+mod Describing
 pub mod ElementCounts
 pub mod EndLaws
 pub mod EndedLoops
@@ -47,6 +49,8 @@ pub mod LabelTables
 pub mod LabelsLead
 pub mod Laminar
 mod Linking
+mod LaidFacts
+mod LaidWords
 pub mod LoopBegins
 pub mod LoopBlocks
 pub mod LoopEnds
@@ -108,6 +112,7 @@ pub mod Refusals
 pub mod Repeats
 mod ResolvedRows
 pub mod RightStorage
+mod RisingLines
 pub mod RoleLemmas
 pub mod RunLemmas
 pub mod SeenNames

@@ -8,7 +8,8 @@ use Rattle.f77_tree.specs.Places.{Equation, Linked, itself, along, against, IsEa
 abbrev pub AreAmong : List Equation → List Equation → Type 0
 AreAmong some all = (e : Equation) → Contains some e → Contains all e
 
-linked-by-more : (some all : List Equation) → AreAmong some all → (x y : ℕ) → Linked some x y → Linked all x y
+-- links by the one are links by the others
+pub linked-by-more : (some all : List Equation) → AreAmong some all → (x y : ℕ) → Linked some x y → Linked all x y
 linked-by-more some all among x y itself = itself
 linked-by-more some all among x y (along e here rest) = along e (among e here) (linked-by-more some all among e.to y rest)
 linked-by-more some all among x y (against e here rest) = against e (among e here) (linked-by-more some all among e.from y rest)

@@ -2,7 +2,7 @@
 use Rattle.std.proofs.Common.{◌≡◌, ℕ, ◌<◌, Bool, List, None, arith}
 use Rattle.f77_tree.specs.declared.statements.Labelled.{Labelled}
 use Rattle.f77_tree.specs.Value.{dims_of}
-use Rattle.f77_tree.specs.Places.{ArePlaces, equations as equations_of}
+use Rattle.f77_tree.specs.Places.{ArePlaces, IsWordOf, Linked, equations as equations_of}
 use Rattle.f77_layout.specs.Faults.{first_line}
 use Rattle.f77_layout.specs.Declarations.{all_commons, all_groups}
 use Rattle.f77_layout.specs.Layout.{names_of, placed_names, program}
@@ -15,8 +15,8 @@ use Rattle.f77_layout.proofs.DeclaredCommon.{all_commons-once}
 use Rattle.f77_layout.proofs.DeclaredEquations.{sizes-exact, equations-agree}
 use Rattle.f77_layout.proofs.PlacedNameLemmas.{right_dims}
 use Rattle.f77_layout.proofs.RightStorage.{right_dims_of}
-use Rattle.f77_layout.proofs.PlacedAlike.{places-alike}
-use Rattle.f77_layout.proofs.PlacedProgram.{places-of}
+use Rattle.f77_layout.proofs.PlacedAlike.{linked-by-more, places-alike}
+use Rattle.f77_layout.proofs.PlacedProgram.{places-of, shared-of}
 
 module _ (whole : List Labelled) (source : IsSource whole) (none : first_line (has_wrong_storage (names_of whole) (placed_names whole) whole) whole ≡ None) where
   some : (x : ℕ) → 0 < size_at (names_of whole) x
@@ -29,3 +29,9 @@ module _ (whole : List Labelled) (source : IsSource whole) (none : first_line (h
       let same = equations-agree whole none source in
       let are = places-of whole (λ x. (sizes-exact whole none x, some x)) (all_commons-known whole) (all_groups-known whole) (all_commons-once whole none) none in
       places-alike (placed_names whole) (all_commons whole) (equations (names_of whole) (all_commons whole) (all_groups whole)) (equations_of (placed_names whole) (all_commons whole) (all_groups whole)) (program whole checked).words same.to same.from are
+
+  pub program-shared : (checked : Bool) (x y word : ℕ) → IsWordOf (program whole checked).names x word → IsWordOf (program whole checked).names y word → Linked (equations_of (program whole checked).names (program whole checked).commons (program whole checked).groups) x y
+  program-shared checked x y word at_x at_y =
+      let same = equations-agree whole none source in
+      linked-by-more (equations (names_of whole) (all_commons whole) (all_groups whole)) (equations_of (placed_names whole) (all_commons whole) (all_groups whole)) same.to x y
+      (shared-of whole (λ x. (sizes-exact whole none x, some x)) (all_commons-known whole) (all_groups-known whole) (all_commons-once whole none) none x y word at_x at_y)

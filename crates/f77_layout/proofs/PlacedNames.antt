@@ -1,11 +1,11 @@
 -- Places that the equations give are places of a program.
-use Rattle.std.proofs.Common.{◌≡◌, ℕ, ◌<◌, ◌⊎◌, inl, inr, ⊎_elim, pos, ◌+ℤ◌, ◌≤ℤ◌, true, List, length, sym, ap, ◌∙◌, arith, Contains}
+use Rattle.std.proofs.Common.{◌≡◌, ℕ, zero, suc, ◌<◌, ◌⊎◌, inl, inr, ⊎_elim, pos, ◌+ℤ◌, ◌≤ℤ◌, true, List, length, refl, sym, ap, ◌∙◌, arith, Contains}
 use Rattle.std.specs.List.{list_all}
 use Rattle.std.proofs.lemmas.Int.{ints}
 use Rattle.f77_tree.specs.declared.programs.NameInfo.{NameInfo}
 use Rattle.f77_tree.specs.Value.{dims_of, size_of, place_of as placed_at}
 use Rattle.f77_tree.specs.Declarations.{index_of}
-use Rattle.f77_tree.specs.Places.{Equation, Linked, itself, along, against, IsEarlier, IsLowest, BeginsAfter, EndsAt, end_of}
+use Rattle.f77_tree.specs.Places.{Equation, Linked, itself, along, against, IsEarlier, IsLowest, BeginsAfter, EndsAt, IsWordOf, end_of}
 use Rattle.f77_layout.specs.Storage.{Spot, spots_by, size_at, is_kept, place_of, words_in_all}
 use Rattle.f77_layout.specs.Trees.{storage_at, AreLowest}
 use Rattle.f77_layout.proofs.PlacedLinks.{AreEquations, length-spots, lowest-spots, storage-linked_names, linked-storage, kept-each, link-back}
@@ -24,6 +24,12 @@ pub link-inside : (count : ℕ) (all : List Equation) → AreEquations count all
 link-inside count all are x y lt itself = lt
 link-inside count all are x y lt (along e here rest) = link-inside count all are e.to y (are e here).second rest
 link-inside count all are x y lt (against e here rest) = link-inside count all are e.from y (are e here).first rest
+
+neither-less : (a b : ℕ) → (a < b → ⊥) → (b < a → ⊥) → a ≡ b
+neither-less zero zero first second = refl
+neither-less zero (suc b) first second = absurd (first (omega arith))
+neither-less (suc a) zero first second = absurd (second (omega arith))
+neither-less (suc a) (suc b) first second = ap suc (neither-less a b (λ h. first (omega (arith, h))) (λ h. second (omega (arith, h))))
 
 module _ (names placed : List NameInfo) (count : ℕ) (all : List Equation) (are : AreEquations count all) (kept : list_all (is_kept (spots_by count all)) all ≡ true) (is : IsPlaced names placed (spots_by count all)) where
   abbrev spots : List Spot
@@ -89,6 +95,18 @@ module _ (names placed : List NameInfo) (count : ℕ) (all : List Equation) (are
       let i = counted x lx in
       let j = counted y ly in
       omega (arith, ints, end-is x i, is.places y ly, in-order names spots lowest x y (inside x i) (inside y j) (earlier-storage x y i j earlier))
+
+  -- no word is one of two storages
+  not-before : (x y word : ℕ) → IsWordOf placed x word → IsWordOf placed y word → storage_at spots x < storage_at spots y → ⊥
+  not-before x y word at_x at_y before =
+      let i = counted x at_x.known in
+      let j = counted y at_y.known in
+      omega (arith, ints, end-is x i, is.places y at_y.known, in-order names spots lowest x y (inside x i) (inside y j) before, at_x.ends, at_y.begins)
+
+  pub shared : (x y word : ℕ) → IsWordOf placed x word → IsWordOf placed y word → Linked all x y
+  shared x y word at_x at_y =
+      let same = neither-less (storage_at spots x) (storage_at spots y) (not-before x y word at_x at_y) (not-before y x word at_y at_x) in
+      storage-linked_names count all are x y (counted x at_x.known) (counted y at_y.known) same
 
   has-words : (x : ℕ) → x < length spots → 0 < size_at names x
   has-words x lt = is.some x (omega (arith, is.as_many))

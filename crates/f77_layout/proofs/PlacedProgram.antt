@@ -12,7 +12,7 @@ use Rattle.f77_tree.specs.declared.programs.NameInfo.{NameInfo}
 use Rattle.f77_tree.specs.declared.statements.Labelled.{Labelled}
 use Rattle.f77_tree.specs.Value.{dims_of, size_of, place_of as placed_at}
 use Rattle.f77_tree.specs.Declarations.{index_of, CommonOnce}
-use Rattle.f77_tree.specs.Places.{Equation, Linked, same_block, block_names, IsFirstOfBlock, ArePlaces}
+use Rattle.f77_tree.specs.Places.{Equation, Linked, same_block, block_names, IsFirstOfBlock, ArePlaces, IsWordOf}
 use Rattle.f77_layout.specs.Declarations.{all_commons, all_groups}
 use Rattle.f77_layout.specs.Storage.{Spot, Standing, standings, standings_of, spots_by, size_at, is_kept, blocks_are_apart, blocks_begin, are_right, equations, place_of, words_in_all}
 use Rattle.f77_layout.specs.Standings.{ArePartsKnown, AreGroupsKnown}
@@ -22,7 +22,7 @@ use Rattle.f77_layout.specs.StorageFaults.{has_wrong_storage}
 use Rattle.f77_layout.specs.Layout.{names_of, spots_of, placed_from, placed_names, word_count}
 use Rattle.f77_layout.proofs.PlacedLinks.{AreEquations, length-spots, lowest-spots, linked-storage}
 use Rattle.f77_layout.proofs.PlacedWords.{apart-by}
-use Rattle.f77_layout.proofs.PlacedNames.{IsPlaced, link-inside, equal, within, ordered, begins, ends}
+use Rattle.f77_layout.proofs.PlacedNames.{IsPlaced, link-inside, equal, within, ordered, shared, begins, ends}
 use Rattle.f77_layout.proofs.PlacedBlocks.{IsImage, image-of, in_block, name_in, block-names, one-block, begins-before, first-begins}
 use Rattle.f77_layout.proofs.PlacedEquations.{standings-once, standings-in, ends-in}
 use Rattle.f77_layout.proofs.PlacedRight.{all-right}
@@ -97,6 +97,10 @@ module _ (names placed : List NameInfo) (commons : List CommonPart) (groups : Li
       ends = ends names placed (length names) all are right-parts.kept is;
     }
 
+    -- names that share a word share a storage
+    pub words-shared : (x y word : ℕ) → IsWordOf placed x word → IsWordOf placed y word → Linked all x y
+    words-shared = shared names placed (length names) all are right-parts.kept is
+
 -- ---- the table with places
 
 module _ (names : List NameInfo) (spots : List Spot) where
@@ -135,13 +139,23 @@ module _ (names : List NameInfo) (spots : List Spot) where
       let P : (List ℕ → ℕ) → Type 0 = λ f. (j k x : ℕ) → slice_get (flat_map (λ (part : CommonPart). map (λ (decl : Decl). f decl.name) part.decls) commons) j ≡ Some x → slice_get (flat_map (λ (part : CommonPart). map (λ (decl : Decl). f decl.name) part.decls) commons) k ≡ Some x → j ≡ k in
       subst P (fun_ext (index-placed 0 names)) once
 
--- Where storage is without fault, the places of the names are places of a program.
-pub places-of : (whole : List Labelled) → AreSized (names_of whole) (spots_of whole) → ArePartsKnown (names_of whole) (all_commons whole) → AreGroupsKnown (names_of whole) (all_groups whole) → CommonOnce (placed_names whole) (all_commons whole) → first_line (has_wrong_storage (names_of whole) (placed_names whole) whole) whole ≡ None → ArePlaces (placed_names whole) (all_commons whole) (equations (names_of whole) (all_commons whole) (all_groups whole)) (word_count whole)
-places-of whole sized parts members placed_once none =
-    let names = names_of whole in
-    let commons = all_commons whole in
-    let groups = all_groups whole in
-    let once = placed-once names (spots_of whole) commons placed_once in
-    let right = all-right names (placed_names whole) whole parts once none in
-    let as_many = length-spots (length names) (equations names commons groups) (ends-in names commons groups parts members once) in
-    places-are names (placed_names whole) commons groups (placed-is names (spots_of whole) as_many sized) parts members once right
+module _ (whole : List Labelled) (sized : AreSized (names_of whole) (spots_of whole)) (parts : ArePartsKnown (names_of whole) (all_commons whole)) (members : AreGroupsKnown (names_of whole) (all_groups whole)) (placed_once : CommonOnce (placed_names whole) (all_commons whole)) (none : first_line (has_wrong_storage (names_of whole) (placed_names whole) whole) whole ≡ None) where
+  abbrev names_here : List NameInfo
+  names_here = names_of whole
+
+  once : CommonOnce names_here (all_commons whole)
+  once = placed-once names_here (spots_of whole) (all_commons whole) placed_once
+
+  right : are_right (length names_here) (spots_of whole) (standings names_here (all_commons whole)) (equations names_here (all_commons whole) (all_groups whole)) ≡ true
+  right = all-right names_here (placed_names whole) whole parts once none
+
+  is-placed : IsPlaced names_here (placed_names whole) (spots_of whole)
+  is-placed = placed-is names_here (spots_of whole) (length-spots (length names_here) (equations names_here (all_commons whole) (all_groups whole)) (ends-in names_here (all_commons whole) (all_groups whole) parts members once)) sized
+
+  -- Where storage is without fault, the places of the names are places of a program.
+  pub places-of : ArePlaces (placed_names whole) (all_commons whole) (equations names_here (all_commons whole) (all_groups whole)) (word_count whole)
+  places-of = places-are names_here (placed_names whole) (all_commons whole) (all_groups whole) is-placed parts members once right
+
+  -- And names that share a word are linked.
+  pub shared-of : (x y word : ℕ) → IsWordOf (placed_names whole) x word → IsWordOf (placed_names whole) y word → Linked (equations names_here (all_commons whole) (all_groups whole)) x y
+  shared-of = words-shared names_here (placed_names whole) (all_commons whole) (all_groups whole) is-placed parts members once right

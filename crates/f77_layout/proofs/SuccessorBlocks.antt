@@ -12,12 +12,12 @@ use Rattle.f77_layout.specs.Nesting.{Open, Loop, Block, is_loop_to, can_end, wit
 
 -- ---- how many blocks are open
 
-abbrev blocks_in : List Open → ℕ
+abbrev pub blocks_in : List Open → ℕ
 blocks_in [] = 0
 blocks_in (Block has_else ∷ stack) = 1 + blocks_in stack
 blocks_in (Loop label ∷ stack) = blocks_in stack
 
-abbrev one_if : Bool → ℕ
+abbrev pub one_if : Bool → ℕ
 one_if true = 1
 one_if false = 0
 
@@ -89,7 +89,7 @@ no_part (BlockIf condition) e = let h : true ≡ false = e in absurd cc
 no_part EndIf e = let h : true ≡ false = e in absurd cc
 no_part _ e = (refl, refl)
 
-after-blocks : (s : Labelled) (stack beyond : List Open) → open_after s stack ≡ Some beyond → blocks_in beyond + one_if (is_end_if s.stmt) ≡ blocks_in stack + one_if (is_block_if s.stmt)
+pub after-blocks : (s : Labelled) (stack beyond : List Open) → open_after s stack ≡ Some beyond → blocks_in beyond + one_if (is_end_if s.stmt) ≡ blocks_in stack + one_if (is_block_if s.stmt)
 after-blocks s stack beyond is = by (is_executable s.stmt) (list_any (is_loop_to s.label) stack && not (can_end s.stmt)) refl is
   where
     by : (x y : Bool) → is_executable s.stmt ≡ x → cond (not x) (Some stack) (cond y None (after_statement s.stmt s.label stack)) ≡ Some beyond → blocks_in beyond + one_if (is_end_if s.stmt) ≡ blocks_in stack + one_if (is_block_if s.stmt)
@@ -102,7 +102,7 @@ after-blocks s stack beyond is = by (is_executable s.stmt) (list_any (is_loop_to
     by true false some e = statement-blocks s.stmt s.label stack beyond e
 
 -- after an IF, ELSE IF or ELSE a block is open
-heads-block : (s : Labelled) (stack beyond : List Open) → (is_block_if s.stmt || is_arm s.stmt) ≡ true → open_after s stack ≡ Some beyond → 0 < blocks_in beyond
+pub heads-block : (s : Labelled) (stack beyond : List Open) → (is_block_if s.stmt || is_arm s.stmt) ≡ true → open_after s stack ≡ Some beyond → 0 < blocks_in beyond
 heads-block s stack beyond heads is = by s.stmt (list_any (is_loop_to s.label) stack && not (can_end s.stmt)) stack heads is
   where
     some : (b : Bool) (rest : List Open) → Some (Block b ∷ rest) ≡ Some beyond → 0 < blocks_in beyond
@@ -152,7 +152,7 @@ end_opens-none _ e = let h : false ≡ true = e in absurd cc
 
 module _ (arms : Bool) where
   -- no block is open at END
-  end-closed : (s : Labelled) (stack : List Open) → s.stmt ≡ End → line_or s.line (open_after s stack) (λ beyond. None) ≡ None → blocks_in stack ≡ 0
+  pub end-closed : (s : Labelled) (stack : List Open) → s.stmt ≡ End → line_or s.line (open_after s stack) (λ beyond. None) ≡ None → blocks_in stack ≡ 0
   end-closed s [] is none = refl
   end-closed s (top ∷ rest) is none = by s.stmt (list_any (is_loop_to s.label) (top ∷ rest) && not (can_end s.stmt)) is none
     where

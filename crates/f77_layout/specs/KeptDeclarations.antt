@@ -7,8 +7,10 @@ use Rattle.f77_tree.specs.declared.declarations.Kind.{Kind}
 use Rattle.f77_tree.specs.declared.statements.Labelled.{Labelled}
 use Rattle.f77_tree.specs.declared.statements.Stmt.{Stmt}
 use Rattle.f77_layout.specs.declared.declarations.Declarations.{Declarations}
+use Rattle.f77_layout.specs.declared.name_declarations.NameDeclarations.{NameDeclarations}
 use Rattle.f77_layout.specs.Faults.{first_answer, answer_or}
 use Rattle.f77_layout.specs.Declarations.{dims_told, dims_or_none, declarators, all_declarators, kind_typed, kind_implied, kind_by_default, is_implicit_none}
+use Rattle.f77_layout.specs.Described.{Described}
 
 -- the declarations of these statements
 pub record Tells (declared : Declarations) (stmts : List Labelled) : Type 0 where
@@ -32,3 +34,9 @@ is_array_by declared name = nat_lt 0 (length (dims_by declared name))
 
 abbrev pub kind_by : Declarations → List ℕ → Option Kind
 kind_by declared name = answer_or (get bytes_eq declared.kinds name) (answer_or (get nat_eq declared.letters (slice_index name 0)) (kind_by_default declared.implicit_none (slice_index name 0)))
+
+abbrev pub described_by : Declarations → Described
+described_by declared = record { kind = kind_by declared; dims = dims_by declared }
+
+abbrev pub said_by : NameDeclarations → Described
+said_by told = described_by told.declared

@@ -4,6 +4,8 @@ pub mod BlockEnds
 pub mod Counted
 pub mod Counts
 pub mod Declarations
+pub mod Depths
+pub mod Described
 pub mod Executables
 pub mod Faults
 pub mod Functions
@@ -17,6 +19,7 @@ pub mod Labels
 pub mod Layout
 pub mod Leading
 pub mod Listed
+pub mod LowestLines
 pub mod NameTable
 pub mod Nested
 pub mod Nesting

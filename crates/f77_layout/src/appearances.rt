@@ -23,8 +23,13 @@ pub(crate) struct Appeared {
 }
 
 impl Appeared {
-    // Adds a name where it isn't yet in the table.
-    fn note(&mut self, alloc: Global, declared: &Declarations, name: &Name) -> Result<(), NoMemory>
+    /// Adds a name where it isn't yet in the table.
+    pub(crate) fn note(
+        &mut self,
+        alloc: Global,
+        declared: &Declarations,
+        name: &Name,
+    ) -> Result<(), NoMemory>
         ensures { OnOk result (self.new ≡ noted declared.now self.old name.now) }
     {
         let kind = declared.kind(name);
@@ -57,8 +62,8 @@ impl Appeared {
         }
     }
 
-    // Adds the names of an expression, from left to right.
-    fn note_in(
+    /// Adds the names of an expression, from left to right.
+    pub(crate) fn note_in(
         &mut self,
         alloc: Global,
         declared: &Declarations,
@@ -210,8 +215,8 @@ impl Appeared {
         }
     }
 
-    // Adds the names of a statement, from left to right.
-    fn note_stmt(
+    /// Adds the names of a statement, from left to right.
+    pub(crate) fn note_stmt(
         &mut self,
         alloc: Global,
         declared: &Declarations,

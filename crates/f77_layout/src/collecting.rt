@@ -59,7 +59,7 @@ fn inits_in(stmt: &Stmt) -> &[InitPart]
 }
 
 /// The parts of all COMMON statements.
-pub(crate) fn commons_of(alloc: Global, stmts: &[Labelled]) -> Result<CommonPartList, NoMemory>
+pub fn commons_of(alloc: Global, stmts: &[Labelled]) -> Result<CommonPartList, NoMemory>
     ensures { IfOk result (λ commons. commons ≡ all_commons stmts.now) }
 {
     let mut commons = Sequence::new(alloc);

@@ -6,7 +6,7 @@ ghost use Rattle.f77_layout.specs.Declarations.{dims_told, kind_of_range, kind_b
 ghost use Rattle.f77_layout.specs.KeptDeclarations.{Tells, TellsMore, dims_by, is_array_by, kind_by};
 
 use df_sequence::{Copied, NoMemory};
-use f77_tree::{CommonPart, Decl, DimList, Kind, Labelled, LetterRange, Name, Stmt};
+use f77_tree::{CommonPart, Decl, Dim, DimList, Kind, Labelled, LetterRange, Name, Stmt};
 use indexmap::IndexMap;
 use std::alloc::Global;
 use std::hash::Hash;
@@ -159,6 +159,16 @@ impl Declarations {
         match self.dims.get(name) {
             Some(dims) => dims.copy(alloc),
             None => Ok(DimList::new(alloc)),
+        }
+    }
+
+    /// The dimensions of a name.
+    pub(crate) fn dims(&self, name: &Name) -> &[Dim]
+        ensures { result.now ≡ dims_by self.now name.now }
+    {
+        match self.dims.get(name) {
+            Some(dims) => dims.as_slice(),
+            None => &[],
         }
     }
 

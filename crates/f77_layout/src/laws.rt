@@ -1,13 +1,21 @@
 //! Laws on the executables that statements make, as contracts of functions that do nothing.
 
-ghost use Rattle.std.specs.Prelude.{◌≡◌, ◌+◌, Bool, ℕ, List, Ok, Some, slice_get};
+ghost use Rattle.std.specs.Prelude.{◌≡◌, ◌+◌, ◌≤◌, ◌||◌, Bool, true, ℕ, List, Ok, Some, slice_get};
 ghost use Rattle.f77_tree.specs.declared.programs.ExecKind.{ExecKind};
 ghost use Rattle.f77_tree.specs.declared.programs.Program.{Program};
 ghost use Rattle.f77_tree.specs.declared.statements.Labelled.{Labelled};
+ghost use Rattle.f77_tree.specs.declared.statements.Stmt.TheVariants.{End};
+ghost use Rattle.f77_tree.specs.Operations.{HasFewOperations};
+ghost use Rattle.f77_tree.specs.Places.{IsWordOf, Linked, equations};
+ghost use Rattle.f77_tree.specs.WellFormed.{IsWellFormed};
+ghost use Rattle.f77_layout.specs.Depths.{blocks_open};
+ghost use Rattle.f77_layout.specs.Faults.{first_line};
 ghost use Rattle.f77_layout.specs.Executables.{beyond, first_of, increments, labelled, loops_to, own_executables, own_kinds};
-ghost use Rattle.f77_layout.specs.Labels.{used};
+ghost use Rattle.f77_layout.specs.Jumps.{is_end_if};
+ghost use Rattle.f77_layout.specs.Labels.{is_arm, used};
 ghost use Rattle.f77_layout.specs.Layout.{layout, names_of};
 ghost use Rattle.f77_layout.specs.Leading.{IsLedTo};
+ghost use Rattle.f77_layout.specs.LowestLines.{lowest_line, LinesRise};
 ghost use Rattle.f77_layout.specs.Source.{IsSource};
 
 /// The executables of a program are those of its statements, in the order of the text and each with its statement's line:
@@ -21,4 +29,26 @@ pub fn executables_stand_in_order()
 /// statement alone has the label.
 pub fn labels_lead_to_their_statements()
     ensures { (stmts : List Labelled) (checked : Bool) (p : Program) → IsSource stmts → layout stmts checked ≡ Ok p → (i j : ℕ) (s : Labelled) (label : ℕ) → slice_get stmts i ≡ Some s → slice_get (used s.stmt) j ≡ Some label → IsLedTo stmts p.execs label (labelled stmts label) }
+{}
+
+/// Statements that have no refusal make a well-formed program, no executable of which takes more than 500 operations.
+pub fn programs_are_well_formed()
+    ensures well_formed { (stmts : List Labelled) (checked : Bool) (p : Program) → IsSource stmts → layout stmts checked ≡ Ok p → IsWellFormed p }
+    ensures modest { (stmts : List Labelled) (checked : Bool) (p : Program) → IsSource stmts → layout stmts checked ≡ Ok p → HasFewOperations p }
+{}
+
+/// A block of IF is open at each ELSE IF, ELSE and END IF, and none is open at END.
+pub fn blocks_are_nested()
+    ensures within { (stmts : List Labelled) (checked : Bool) (p : Program) → layout stmts checked ≡ Ok p → (i : ℕ) (s : Labelled) → slice_get stmts i ≡ Some s → (is_arm s.stmt || is_end_if s.stmt) ≡ true → 1 ≤ blocks_open stmts i }
+    ensures closed { (stmts : List Labelled) (checked : Bool) (p : Program) → layout stmts checked ≡ Ok p → (i : ℕ) (s : Labelled) → slice_get stmts i ≡ Some s → s.stmt ≡ End → blocks_open stmts i ≡ 0 }
+{}
+
+/// Two names of a program have a word in common only where equations of COMMON and EQUIVALENCE link them.
+pub fn names_that_share_words_are_linked()
+    ensures { (stmts : List Labelled) (checked : Bool) (p : Program) → IsSource stmts → layout stmts checked ≡ Ok p → (x y word : ℕ) → IsWordOf p.names x word → IsWordOf p.names y word → Linked (equations p.names p.commons p.groups) x y }
+{}
+
+/// Where lines rise, the first statement with a fault has the lowest line of those that have it.
+pub fn first_faults_are_lowest()
+    ensures { (fault : List Labelled → Labelled → Bool) (stmts : List Labelled) → LinesRise stmts → lowest_line fault stmts ≡ first_line fault stmts }
 {}

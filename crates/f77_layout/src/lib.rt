@@ -3,6 +3,7 @@
 #![tactic(auto)]
 
 mod appearances;
+mod appearing_names;
 mod assembly;
 mod blocks;
 mod collecting;
@@ -30,6 +31,7 @@ mod laws;
 mod layout_end;
 mod loops;
 mod members;
+mod name_declarations;
 mod name_set;
 mod names;
 mod nesting;
@@ -46,6 +48,12 @@ mod storages;
 mod type_faults;
 mod word_numbers;
 
+pub use appearing_names::AppearingNames;
 pub use assembly::assemble;
-pub use laws::{executables_stand_in_order, labels_lead_to_their_statements};
+pub use collecting::commons_of;
+pub use laws::{
+    blocks_are_nested, executables_stand_in_order, first_faults_are_lowest,
+    labels_lead_to_their_statements, names_that_share_words_are_linked, programs_are_well_formed,
+};
 pub use layout_end::LayoutEnd;
+pub use name_declarations::NameDeclarations;

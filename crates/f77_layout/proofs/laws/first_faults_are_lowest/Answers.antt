@@ -1,0 +1,5 @@
+use Rattle.f77_layout.proofs.RisingLines.{lowest-first}
+use Rattle.f77_layout.proofs.laws.first_faults_are_lowest.Goals as goal
+
+pub returns : goal.returns
+returns c = lowest-first
