@@ -1,5 +1,5 @@
 -- Loads come once along a line, by what lower layers tell of nets.
-use Rattle.std.proofs.Common.{◌<◌, ℕ, subst, ◌≡◌, true, sym}
+use Rattle.std.proofs.Common.{◌<◌, ℕ, subst, ◌≡◌, true}
 use Rattle.closed_walks.specs.Graph.{from}
 use Rattle.closed_walks.specs.Region.{IsFlowGraph}
 use Rattle.region_tree.specs.Laws.{HasBorders}

@@ -20,3 +20,4 @@ pub mod ForkControl
 pub mod GroupEnds
 pub mod LoadSuccessors
 pub mod OneSource
+pub mod OwnRunsAlike

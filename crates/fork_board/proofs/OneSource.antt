@@ -1,8 +1,7 @@
 -- No operation is the successor of two loads.
-use Rattle.std.proofs.Common.{◌≡◌, ◌≢◌, ◌<◌, ◌⊎◌, inl, inr, ⊎_elim, ℕ, suc, ◌+◌, ◌==◌, Bool, true, false, if◌then◌else◌, List, filter, length, Option, Some, None, slice_get, refl, sym, ap, ◌∙◌, subst, eqb-true, arith}
+use Rattle.std.proofs.Common.{◌≡◌, ◌≢◌, ◌<◌, ℕ, suc, Bool, true, false, if◌then◌else◌, filter, Option, Some, None, slice_get, refl, sym, ap, ◌∙◌, subst, eqb-true, arith}
 use Rattle.std.specs.List.{range_with_len}
 use Rattle.closed_walks.specs.Graph.{edge_count, from, to}
-use Rattle.closed_walks.specs.Region.{IsPassed}
 use Rattle.cfg_build.specs.declared.pieces.PieceKind.{PieceKind}
 use Rattle.cfg_build.specs.declared.pieces.PieceKind.TheVariants as kind
 use Rattle.cfg_build.specs.Passes.{out}

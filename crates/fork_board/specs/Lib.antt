@@ -6,3 +6,4 @@ pub mod Chains
 pub mod ForkSimulation
 pub mod ForkLockstep
 pub mod Successors
+pub mod OwnRuns
