@@ -1,13 +1,15 @@
 -- Nets of operations whose lines are led by another game: loads without their lines, and lines without their loads.
-use Rattle.std.proofs.Common.{◌≡◌, ◌<◌, ◌≤◌, ℕ, zero, suc, ◌+◌, ◌-◌, ◌==◌, ◌&&◌, ℤ, Bool, true, false, not, List, [], ◌∷◌, filter, map, Option, Some, None, Ok, Err, Result, slice_get, All, refl, sym, ap, ◌∙◌, subst, arith}
+use Rattle.std.proofs.Common.{◌≡◌, ◌<◌, ◌≤◌, ℕ, zero, suc, ◌+◌, ◌-◌, ◌==◌, ◌&&◌, ℤ, Bool, true, false, not, List, [], ◌∷◌, filter, length, map, set, Option, Some, None, Ok, Err, Result, slice_get, All, refl, sym, ap, ◌∙◌, subst, arith}
 use Rattle.std.specs.List.{list_all, range_with_len}
 use Rattle.std.proofs.lemmas.Bool.{ne_eqb}
+use Rattle.std.proofs.lemmas.List.{length-set, get_or-set_other}
+use Rattle.firing.specs.ReadySet.{has}
 use Rattle.op_table.specs.declared.Trap.{Trap}
 use Rattle.f77_tree.specs.Execution.{Memory}
 use Rattle.f77_tree.specs.declared.programs.NameInfo.{NameInfo}
 use Rattle.net_board.specs.WokenNodes.{passing_below}
 use Rattle.op_board.specs.Effects.{Effect, gives, loaded, performed}
-use Rattle.op_board.specs.Operations.{Work, Load, Operate, Store, Take, Write, Begin, Advance, DecideTruth, DecideSign, DecideNumber, DecideTrips, DecideFirst}
+use Rattle.op_board.specs.Operations.{Work, Load, Operate, Store, Take, Write, Begin, Advance, DecideTruth, DecideSign, DecideNumber, DecideTrips, DecideFirst, gives_value}
 use Rattle.op_board.specs.OperationCourse.{choice_of}
 use Rattle.op_board.specs.OperationNets.{OperationNet, first_operation, operation_at}
 use Rattle.op_board.specs.OperationTokens.{OperationTokens, is_given, operand_in, operated, performed_at}
@@ -72,6 +74,20 @@ load_gives names input m new (DecideNumber count) args done line loads is = absu
 load_gives names input m new (DecideTrips loop_no) args done line loads is = absurd cc
 load_gives names input m new DecideFirst args done line loads is = absurd cc
 
+pub load_gives_value : (work : Work) → operation_name work ≡ name.Load → gives_value work ≡ true
+load_gives_value (Load array subs) loads = refl
+load_gives_value (Operate op) loads = refl
+load_gives_value Take loads = refl
+load_gives_value (Store array subs) loads = absurd cc
+load_gives_value (Write items) loads = absurd cc
+load_gives_value (Begin loop_no var) loads = absurd cc
+load_gives_value (Advance loop_no var) loads = absurd cc
+load_gives_value DecideTruth loads = absurd cc
+load_gives_value DecideSign loads = absurd cc
+load_gives_value (DecideNumber count) loads = absurd cc
+load_gives_value (DecideTrips loop_no) loads = absurd cc
+load_gives_value DecideFirst loads = absurd cc
+
 -- it tells no other edge than the first one
 pub load_tells_first : (names : List NameInfo) (input : List ℤ) (m : Memory) (work : Work) (args : List ℤ) → operation_name work ≡ name.Load → choice_of (performed names input m work args) ≡ 0
 load_tells_first names input m (Load array subs) args loads = refl
@@ -111,6 +127,21 @@ stays_uncounted x s t off is counted counts leads = record {
     never : {P : Type 0} → t.counted ≡ true → P
     never on = let e : true ≡ false = sym on ∙ counted ∙ off in absurd cc
 
+-- a mark of a node that another game leads is its own
+pub marked_apart : (x : OperationNet) (s : Places) (marks : List Bool) (k : ℕ) (b : Bool) → IsCounted x s → has s.apart.items k ≡ true → marks ≡ set s.set k b → IsCounted x (record s { set = marks })
+marked_apart x s marks k b are led is = record {
+  counts = are.counts;
+  marks = λ counted. record {
+    room = ap (λ (flags : List Bool). length flags) is ∙ length-set s.set k b ∙ (are.marks counted).room;
+    right = λ j below free. ap (λ (flags : List Bool). has flags j) is ∙ get_or-set_other s.set k j b false (other j free) ∙ (are.marks counted).right j below free;
+  };
+  none = are.none;
+  leads = are.leads;
+}
+  where
+    other : (j : ℕ) → has s.apart.items j ≡ false → j ≡ k → ⊥
+    other j free e = let both : true ≡ false = sym led ∙ ap (has s.apart.items) (sym e) ∙ free in cc
+
 -- ---- the operations that need a line
 
 module _ (test : ℕ → Bool) where
@@ -137,6 +168,51 @@ module _ (test : ℕ → Bool) where
 
   pub none_beyond : (i count left : ℕ) → count ≤ i → slice_get (filter test (range_with_len i (count - i))) left ≡ None
   none_beyond i count left past = let none : count - i ≡ 0 = omega (arith, past) in ap (λ n. slice_get (filter test (range_with_len i n)) left) none
+
+  -- the number at a place among those that pass from a on
+  pub record IsPassing (a n place i : ℕ) : Type 0 where
+    pub low : a ≤ i
+    pub high : i < a + n
+    pub passes : test i ≡ true
+    pub before : length (filter test (range_with_len a (i - a))) ≡ place
+
+  pub passing_at : (a n place i : ℕ) → slice_get (filter test (range_with_len a n)) place ≡ Some i → IsPassing a n place i
+  passing_at a zero place i is = absurd cc
+  passing_at a (suc n) place i is = by (test a) refl place is (λ p at. passing_at (a + 1) n p i at)
+    where
+      by : (b : Bool) → test a ≡ b → (p : ℕ) → slice_get (Rattle.std.proofs.Common.cond b (a ∷ filter test (range_with_len (a + 1) n)) (filter test (range_with_len (a + 1) n))) p ≡ Some i → ((q : ℕ) → slice_get (filter test (range_with_len (a + 1) n)) q ≡ Some i → IsPassing (a + 1) n q i) → IsPassing a (suc n) p i
+      by true passes zero at more =
+          let here : a ≡ i = cc in
+          let none : i - a ≡ 0 = omega (arith, here) in
+          record { low = omega (arith, here); high = omega (arith, here); passes = ap test (sym here) ∙ passes; before = ap (λ m. length (filter test (range_with_len a m))) none }
+      by true passes (suc p) at more =
+          let rest : IsPassing (a + 1) n p i = more p at in
+          let low = rest.low in
+          let high = rest.high in
+          let next : i - a ≡ suc (i - (a + 1)) = omega (arith, low) in
+          record {
+            low = omega (arith, low);
+            high = omega (arith, high);
+            passes = rest.passes;
+            before =
+                ap (λ m. length (filter test (range_with_len a m))) next
+                ∙ ap (λ b. length (Rattle.std.proofs.Common.cond b (a ∷ filter test (range_with_len (a + 1) (i - (a + 1)))) (filter test (range_with_len (a + 1) (i - (a + 1)))))) passes
+                ∙ ap suc rest.before;
+          }
+      by false fails p at more =
+          let rest : IsPassing (a + 1) n p i = more p at in
+          let low = rest.low in
+          let high = rest.high in
+          let next : i - a ≡ suc (i - (a + 1)) = omega (arith, low) in
+          record {
+            low = omega (arith, low);
+            high = omega (arith, high);
+            passes = rest.passes;
+            before =
+                ap (λ m. length (filter test (range_with_len a m))) next
+                ∙ ap (λ b. length (Rattle.std.proofs.Common.cond b (a ∷ filter test (range_with_len (a + 1) (i - (a + 1)))) (filter test (range_with_len (a + 1) (i - (a + 1)))))) fails
+                ∙ rest.before;
+          }
 
 -- ---- how many of them there are
 

@@ -30,8 +30,8 @@ next_counted n k count numbers more flags marks below node is_more is_marks = re
     at j low (inl e) = ap (has marks) e ∙ ap (λ xs. has xs k) is_marks ∙ get_or-set_same flags k (count k == 0) Rattle.std.proofs.Common.false inside ∙ ap (λ i. count i == 0) (sym e)
     at j low (inr differ) = ap (λ xs. has xs j) is_marks ∙ get_or-set_other flags k j (count k == 0) Rattle.std.proofs.Common.false differ ∙ below.right j (omega (arith, low, differ))
 
-pub all_counted : (n k : ℕ) (count : ℕ → ℕ) (numbers : List ℕ) (flags : List Bool) → k ≡ n → CountedBelow n k count numbers flags → AreCounts n count numbers flags
-all_counted n k count numbers flags all below = record {
+pub all_counted : (n k : ℕ) (count : ℕ → ℕ) (but : ℕ → Bool) (numbers : List ℕ) (flags : List Bool) → k ≡ n → CountedBelow n k count numbers flags → AreCounts n count but numbers flags
+all_counted n k count but numbers flags all below = record {
   counts = below.counts ∙ ap (λ m. map count (range_with_len 0 m)) all;
-  marks = record { room = below.room; right = λ j low. below.right j (omega (arith, low, all)) };
+  marks = record { room = below.room; right = λ j low free. below.right j (omega (arith, low, all)) };
 }

@@ -15,17 +15,17 @@ module _ (n : ℕ) where
   pub count_long : (f : ℕ → ℕ) (counts : List ℕ) → counts ≡ map f (range_with_len 0 n) → length counts ≡ n
   count_long f counts are = ap length are ∙ length-map-range_with_len f 0 n
 
-  module _ (f g : ℕ → ℕ) (counts : List ℕ) (marks : List Bool) (are : AreCounts n f counts marks) where
+  module _ (f g : ℕ → ℕ) (but : ℕ → Bool) (counts : List ℕ) (marks : List Bool) (are : AreCounts n f but counts marks) where
     long : length counts ≡ n
     long = count_long f counts are.counts
 
     -- counts that are the same
-    pub counts_same : ((j : ℕ) → j < n → g j ≡ f j) → AreCounts n g counts marks
+    pub counts_same : ((j : ℕ) → j < n → g j ≡ f j) → AreCounts n g but counts marks
     counts_same same = record {
       counts = fill_by_all g counts n 0 long (λ j below. count_at f counts j are.counts below ∙ sym (same j below));
       marks = record {
         room = are.marks.room;
-        right = λ j below. are.marks.right j below ∙ ap (λ c. c == 0) (sym (same j below));
+        right = λ j below free. are.marks.right j below free ∙ ap (λ c. c == 0) (sym (same j below));
       };
     }
 
@@ -38,32 +38,32 @@ module _ (n : ℕ) where
           at j below (inr differ) = get_or-set_other counts k j v 0 differ ∙ count_at f counts j are.counts below ∙ sym (others j differ)
 
       -- the mark of the number is set too
-      pub counts_put : (v : ℕ) (b : Bool) → v ≡ g k → b ≡ (g k == 0) → AreCounts n g (set counts k v) (set marks k b)
+      pub counts_put : (v : ℕ) (b : Bool) → v ≡ g k → b ≡ (g k == 0) → AreCounts n g but (set counts k v) (set marks k b)
       counts_put v b is right = record {
         counts = set_count v is;
         marks = record {
           room = length-set marks k b ∙ are.marks.room;
-          right = λ j below. at j below (cases_eq j k);
+          right = λ j below free. at j below free (cases_eq j k);
         };
       }
         where
-          at : (j : ℕ) → j < n → (j ≡ k) ⊎ (j ≡ k → ⊥) → has (set marks k b) j ≡ (g j == 0)
-          at j below (inl e) = ap (has (set marks k b)) e ∙ get_or-set_same marks k b false (let room = are.marks.room in omega (arith, inside, room)) ∙ right ∙ ap (λ i. g i == 0) (sym e)
-          at j below (inr differ) = get_or-set_other marks k j b false differ ∙ are.marks.right j below ∙ ap (λ c. c == 0) (sym (others j differ))
+          at : (j : ℕ) → j < n → but j ≡ false → (j ≡ k) ⊎ (j ≡ k → ⊥) → has (set marks k b) j ≡ (g j == 0)
+          at j below free (inl e) = ap (has (set marks k b)) e ∙ get_or-set_same marks k b false (let room = are.marks.room in omega (arith, inside, room)) ∙ right ∙ ap (λ i. g i == 0) (sym e)
+          at j below free (inr differ) = get_or-set_other marks k j b false differ ∙ are.marks.right j below free ∙ ap (λ c. c == 0) (sym (others j differ))
 
       -- the mark of the number is right still
-      pub counts_kept : (v : ℕ) → v ≡ g k → (f k == 0) ≡ (g k == 0) → AreCounts n g (set counts k v) marks
+      pub counts_kept : (v : ℕ) → v ≡ g k → (f k == 0) ≡ (g k == 0) → AreCounts n g but (set counts k v) marks
       counts_kept v is right = record {
         counts = set_count v is;
         marks = record {
           room = are.marks.room;
-          right = λ j below. at j below (cases_eq j k);
+          right = λ j below free. at j below free (cases_eq j k);
         };
       }
         where
-          at : (j : ℕ) → j < n → (j ≡ k) ⊎ (j ≡ k → ⊥) → has marks j ≡ (g j == 0)
-          at j below (inl e) = ap (has marks) e ∙ are.marks.right k inside ∙ right ∙ ap (λ i. g i == 0) (sym e)
-          at j below (inr differ) = are.marks.right j below ∙ ap (λ c. c == 0) (sym (others j differ))
+          at : (j : ℕ) → j < n → but j ≡ false → (j ≡ k) ⊎ (j ≡ k → ⊥) → has marks j ≡ (g j == 0)
+          at j below free (inl e) = ap (has marks) e ∙ are.marks.right k inside (sym (ap but e) ∙ free) ∙ right ∙ ap (λ i. g i == 0) (sym e)
+          at j below free (inr differ) = are.marks.right j below free ∙ ap (λ c. c == 0) (sym (others j differ))
 
 -- ---- one more, and one less
 
@@ -77,37 +77,37 @@ module _ (n : ℕ) (f : ℕ → ℕ) (k : ℕ) where
   zero_not : (c : ℕ) → (c + 1 == 0) ≡ false
   zero_not c = ne_eqb (c + 1) 0 (λ e. omega (arith, e))
 
-  module _ (counts : List ℕ) (marks : List Bool) where
-    pub more_outside : AreCounts n f counts marks → n ≤ k → AreCounts n (one_more f k) counts marks
-    more_outside are past = counts_same n f (one_more f k) counts marks are (λ j below. other_same j (λ e. omega (arith, e, below, past)))
+  module _ (but : ℕ → Bool) (counts : List ℕ) (marks : List Bool) where
+    pub more_outside : AreCounts n f but counts marks → n ≤ k → AreCounts n (one_more f k) but counts marks
+    more_outside are past = counts_same n f (one_more f k) but counts marks are (λ j below. other_same j (λ e. omega (arith, e, below, past)))
 
-    pub more_marked : AreCounts n f counts marks → k < n → (count : ℕ) → count ≡ get_or counts k 0 → AreCounts n (one_more f k) (set counts k (count + 1)) (set marks k false)
+    pub more_marked : AreCounts n f but counts marks → k < n → (count : ℕ) → count ≡ get_or counts k 0 → AreCounts n (one_more f k) but (set counts k (count + 1)) (set marks k false)
     more_marked are inside count is =
         let at : count ≡ f k = is ∙ count_at n f counts k are.counts inside in
-        counts_put n f (one_more f k) counts marks are k inside other_same (count + 1) false (ap (λ c. c + 1) at ∙ sym here_more) (sym (ap (λ c. c == 0) here_more ∙ zero_not (f k)))
+        counts_put n f (one_more f k) but counts marks are k inside other_same (count + 1) false (ap (λ c. c + 1) at ∙ sym here_more) (sym (ap (λ c. c == 0) here_more ∙ zero_not (f k)))
 
-    pub more_kept : AreCounts n f counts marks → k < n → (count : ℕ) → count ≡ get_or counts k 0 → (count ≡ 0 → ⊥) → AreCounts n (one_more f k) (set counts k (count + 1)) marks
+    pub more_kept : AreCounts n f but counts marks → k < n → (count : ℕ) → count ≡ get_or counts k 0 → (count ≡ 0 → ⊥) → AreCounts n (one_more f k) but (set counts k (count + 1)) marks
     more_kept are inside count is some =
         let at : count ≡ f k = is ∙ count_at n f counts k are.counts inside in
-        counts_kept n f (one_more f k) counts marks are k inside other_same (count + 1) (ap (λ c. c + 1) at ∙ sym here_more)
+        counts_kept n f (one_more f k) but counts marks are k inside other_same (count + 1) (ap (λ c. c + 1) at ∙ sym here_more)
         (ne_eqb (f k) 0 (λ e. some (at ∙ e)) ∙ sym (ap (λ c. c == 0) here_more ∙ zero_not (f k)))
 
-    less_at : AreCounts n (one_more f k) counts marks → k < n → (count : ℕ) → count ≡ get_or counts k 0 - 1 → count ≡ f k
+    less_at : AreCounts n (one_more f k) but counts marks → k < n → (count : ℕ) → count ≡ get_or counts k 0 - 1 → count ≡ f k
     less_at are inside count is =
         let at : get_or counts k 0 ≡ one_more f k k = count_at n (one_more f k) counts k are.counts inside in
         let more = here_more in
         omega (arith, is, at, more)
 
-    pub less_outside : AreCounts n (one_more f k) counts marks → n ≤ k → AreCounts n f counts marks
-    less_outside are past = counts_same n (one_more f k) f counts marks are (λ j below. sym (other_same j (λ e. omega (arith, e, below, past))))
+    pub less_outside : AreCounts n (one_more f k) but counts marks → n ≤ k → AreCounts n f but counts marks
+    less_outside are past = counts_same n (one_more f k) f but counts marks are (λ j below. sym (other_same j (λ e. omega (arith, e, below, past))))
 
-    pub less_marked : AreCounts n (one_more f k) counts marks → k < n → (count : ℕ) → count ≡ get_or counts k 0 - 1 → count ≡ 0 → AreCounts n f (set counts k count) (set marks k true)
+    pub less_marked : AreCounts n (one_more f k) but counts marks → k < n → (count : ℕ) → count ≡ get_or counts k 0 - 1 → count ≡ 0 → AreCounts n f but (set counts k count) (set marks k true)
     less_marked are inside count is none =
         let at = less_at are inside count is in
-        counts_put n (one_more f k) f counts marks are k inside (λ j differ. sym (other_same j differ)) count true at (sym (eq-eqb (f k) 0 (sym at ∙ none)))
+        counts_put n (one_more f k) f but counts marks are k inside (λ j differ. sym (other_same j differ)) count true at (sym (eq-eqb (f k) 0 (sym at ∙ none)))
 
-    pub less_kept : AreCounts n (one_more f k) counts marks → k < n → (count : ℕ) → count ≡ get_or counts k 0 - 1 → (count ≡ 0 → ⊥) → AreCounts n f (set counts k count) marks
+    pub less_kept : AreCounts n (one_more f k) but counts marks → k < n → (count : ℕ) → count ≡ get_or counts k 0 - 1 → (count ≡ 0 → ⊥) → AreCounts n f but (set counts k count) marks
     less_kept are inside count is some =
         let at = less_at are inside count is in
-        counts_kept n (one_more f k) f counts marks are k inside (λ j differ. sym (other_same j differ)) count at
+        counts_kept n (one_more f k) f but counts marks are k inside (λ j differ. sym (other_same j differ)) count at
         (ap (λ c. c == 0) here_more ∙ zero_not (f k) ∙ sym (ne_eqb (f k) 0 (λ e. some (at ∙ e))))

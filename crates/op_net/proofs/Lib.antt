@@ -61,3 +61,4 @@ pub mod GivenOperands
 pub mod PieceLines
 pub mod PieceValues
 pub mod ApartNets
+pub mod PassedNodes

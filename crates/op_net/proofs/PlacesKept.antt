@@ -100,14 +100,17 @@ module _ {W : ℕ} (board : OperationBoard W) (s t : Places) (are : ArePlaces (o
       refl are.stand
       (with_all_below bound s.edges.items (switches x.net piece) (λ switch. Some edge) are.lie (λ switch e m is. some_below bound edge e exists is))
 
-  pub led_kept : (line edge : ℕ) → edge < bound → standing t ≡ line_put (standing s) line (Some edge) 0 → ArePlaces x t
-  led_kept line edge exists is =
-      places_with (line_put (standing s) line (Some edge) 0) is
+  pub put_kept : (line edge passed : ℕ) → edge < bound → standing t ≡ line_put (standing s) line (Some edge) passed → ArePlaces x t
+  put_kept line edge passed exists is =
+      places_with (line_put (standing s) line (Some edge) passed) is
       (length_slice_set s.lines.items line (Some edge))
-      (length_slice_set s.passed.items line 0)
+      (length_slice_set s.passed.items line passed)
       refl refl
       (put_below bound s.lines.items line (Some edge) are.stand (λ e is. some_below bound edge e exists is))
       are.lie
+
+  pub led_kept : (line edge : ℕ) → edge < bound → standing t ≡ line_put (standing s) line (Some edge) 0 → ArePlaces x t
+  led_kept line edge exists is = put_kept line edge 0 exists is
 
   pub cleared_kept : (switch : ℕ) → standing t ≡ edge_put (standing s) switch None → ArePlaces x t
   cleared_kept switch is =

@@ -1,10 +1,14 @@
 -- What the row of an operation tells, where that is known to be true.
-use Rattle.std.proofs.Common.{◌≡◌, ◌<◌, ◌≤◌, ℕ, ℤ, true, List, [], ◌∷◌, length, get_or, map, All, Option, Some, None, refl, sym, ap, ◌∙◌}
+use Rattle.std.proofs.Common.{◌≡◌, ◌<◌, ◌≤◌, ℕ, ℤ, true, List, [], ◌∷◌, length, get_or, map, All, Option, Some, None, slice_get, refl, sym, ap, ◌∙◌, arith}
 use Rattle.std.proofs.Math.Logic.{∥∥₁_elim, ∥∥₁_map}
 use Rattle.std.proofs.Props.{props}
+use Rattle.std.specs.Option.{option_map}
+use Rattle.std.proofs.lemmas.List.{length-map}
+use Rattle.std.proofs.lemmas.Option.{slice_get-map, slice_get_read}
 use Rattle.op_board.specs.OperationNets.{OperationNet, needed, operation_at}
 use Rattle.op_board.specs.Operations.{Operand, Known, From}
 use Rattle.operation_lists.specs.Seen.{operand_seen}
+use Rattle.operation_lists.specs.declared.operations.Operand as kept
 use Rattle.op_net.specs.OperationRows.{IsHop, IsRow}
 use Rattle.op_net.specs.declared.hops.Hop.{Hop}
 use Rattle.op_net.specs.declared.rows.Row.{Row}
@@ -40,6 +44,26 @@ module _ (x : OperationNet) (piece i : ℕ) (row : Row) (is : ∥ IsRow x piece 
 
   pub row_lines : map (λ (hop : Hop). hop.line) row.hops.items ≡ needed x piece i
   row_lines = ∥∥₁_elim is (Prim.hlevel props) (λ (r : IsRow x piece i row). r.lines)
+
+  pub row_line_count : length row.hops.items ≡ length (needed x piece i)
+  row_line_count = sym (length-map row.hops.items (λ (hop : Hop). hop.line)) ∙ ap length row_lines
+
+  pub row_line_at : (j : ℕ) (hop : Hop) → j < length (needed x piece i) → hop ≡ get_or row.hops.items j hop → slice_get (needed x piece i) j ≡ Some hop.line
+  row_line_at j hop low at =
+      let count = row_line_count in
+      ap (λ (lines : List ℕ). slice_get lines j) (sym row_lines)
+      ∙ slice_get-map (λ (hop : Hop). hop.line) row.hops.items j
+      ∙ ap (option_map (λ (hop : Hop). hop.line)) (slice_get_read row.hops.items (length row.hops.items) j hop refl (omega (arith, low, count)) at)
+
+  pub row_operand_count : length row.operands.items ≡ length (operation_at x piece i).operands
+  row_operand_count = sym (length-map row.operands.items operand_seen) ∙ ap length row_operands
+
+  pub row_operand_at : (j : ℕ) (o : kept.Operand) → j < length (operation_at x piece i).operands → o ≡ get_or row.operands.items j o → slice_get (operation_at x piece i).operands j ≡ Some (operand_seen o)
+  row_operand_at j o low at =
+      let count = row_operand_count in
+      ap (λ (operands : List Operand). slice_get operands j) (sym row_operands)
+      ∙ slice_get-map operand_seen row.operands.items j
+      ∙ ap (option_map operand_seen) (slice_get_read row.operands.items (length row.operands.items) j o refl (omega (arith, low, count)) at)
 
   pub row_hop : (j : ℕ) (hop : Hop) → j < length row.hops.items → hop ≡ get_or row.hops.items j hop → ∥ IsHop x piece i hop ∥₁
   row_hop j hop low at = ∥∥₁_map is (λ (r : IsRow x piece i row). Rattle.std.proofs.Common.subst (IsHop x piece i) (sym at) (r.hops j hop low))

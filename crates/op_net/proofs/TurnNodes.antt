@@ -99,16 +99,16 @@ module _ (x : OperationNet) where
   module _ (facts : PlanFacts x) where
     -- ---- the line comes to a switch or a merge
 
-    turn_before_by : (k piece line edge : ℕ) (name : NodeName) → k < node_total x → operation_node x k ≡ name → is_turn name piece line ≡ true → to (graph_in x.net) edge ≡ piece → IsNodeBefore x line (Some edge) 0 k
-    turn_before_by k piece line edge (Switch own other) below named is leads =
-        named_before x facts k line (Some edge) 0 (Switch piece line) below (named ∙ own_switch own other piece line is) (eq-eqb line line refl) (eq-eqb (to (graph_in x.net) edge) piece leads)
-    turn_before_by k piece line edge (Merge own other) below named is leads =
-        named_before x facts k line (Some edge) 0 (Merge piece line) below (named ∙ own_merge own other piece line is) (eq-eqb line line refl) (eq-eqb (to (graph_in x.net) edge) piece leads)
-    turn_before_by k piece line edge (Op own i) below named is leads = absurd cc
-    turn_before_by k piece line edge (Act own) below named is leads = absurd cc
+    turn_before_by : (k piece line edge passed : ℕ) (name : NodeName) → k < node_total x → operation_node x k ≡ name → is_turn name piece line ≡ true → to (graph_in x.net) edge ≡ piece → IsNodeBefore x line (Some edge) passed k
+    turn_before_by k piece line edge passed (Switch own other) below named is leads =
+        named_before x facts k line (Some edge) passed (Switch piece line) below (named ∙ own_switch own other piece line is) (eq-eqb line line refl) (eq-eqb (to (graph_in x.net) edge) piece leads)
+    turn_before_by k piece line edge passed (Merge own other) below named is leads =
+        named_before x facts k line (Some edge) passed (Merge piece line) below (named ∙ own_merge own other piece line is) (eq-eqb line line refl) (eq-eqb (to (graph_in x.net) edge) piece leads)
+    turn_before_by k piece line edge passed (Op own i) below named is leads = absurd cc
+    turn_before_by k piece line edge passed (Act own) below named is leads = absurd cc
 
-    pub turn_before : (k piece line edge : ℕ) → k < node_total x → is_turn (operation_node x k) piece line ≡ true → to (graph_in x.net) edge ≡ piece → IsNodeBefore x line (Some edge) 0 k
-    turn_before k piece line edge below is leads = turn_before_by k piece line edge (operation_node x k) below refl is leads
+    pub turn_before : (k piece line edge passed : ℕ) → k < node_total x → is_turn (operation_node x k) piece line ≡ true → to (graph_in x.net) edge ≡ piece → IsNodeBefore x line (Some edge) passed k
+    turn_before k piece line edge passed below is leads = turn_before_by k piece line edge passed (operation_node x k) below refl is leads
 
     -- ---- the line comes to an operation
 
@@ -118,14 +118,14 @@ module _ (x : OperationNet) where
 
     -- ---- the line comes to none
 
-    module _ (piece line edge : ℕ) (leads : to (graph_in x.net) edge ≡ piece) (untouched : 0 < operation_count x piece → x.net.touches piece line ≡ false) (none : (j : ℕ) → j < node_total x → is_turn (operation_node x j) piece line ≡ true → ⊥) where
+    module _ (piece line edge passed : ℕ) (leads : to (graph_in x.net) edge ≡ piece) (untouched : 0 < operation_count x piece → x.net.touches piece line ≡ false) (none : (j : ℕ) → j < node_total x → is_turn (operation_node x j) piece line ≡ true → ⊥) where
       own_piece : (p : ℕ) → (to (graph_in x.net) edge == p) ≡ true → p ≡ piece
       own_piece p is = sym (eqb-true (to (graph_in x.net) edge) p is) ∙ leads
 
-      not_by : (j : ℕ) (name : NodeName) → j < node_total x → operation_node x j ≡ name → (goes_through x name line && stands_at x (Some edge) 0 name line) ≡ true → ⊥
+      not_by : (j : ℕ) (name : NodeName) → j < node_total x → operation_node x j ≡ name → (goes_through x name line && stands_at x (Some edge) passed name line) ≡ true → ⊥
       not_by j (Op p i) below named is =
-          let parts = and_parts (x.needs p i line) (leads_to (graph_in x.net) p (Some edge) && 0 == needing_before x p i line) is in
-          let same : p ≡ piece = own_piece p ((and_parts (to (graph_in x.net) edge == p) (0 == needing_before x p i line) parts.1).0) in
+          let parts = and_parts (x.needs p i line) (leads_to (graph_in x.net) p (Some edge) && passed == needing_before x p i line) is in
+          let same : p ≡ piece = own_piece p ((and_parts (to (graph_in x.net) edge == p) (passed == needing_before x p i line) parts.1).0) in
           let at : IsOperationAt x j p i = operation_at_node x j p i below named in
           let inside = at.inside in
           let touched : x.net.touches p line ≡ true = facts.touched p i line at.exists at.inside parts.0 in
@@ -139,35 +139,35 @@ module _ (x : OperationNet) where
           none j below (ap (λ (n : NodeName). is_turn n piece line) named ∙ both_same p piece own line (own_piece p parts.1) (eqb-true own line parts.0))
       not_by j (Act p) below named is = let e : false ≡ true = is in absurd cc
 
-      not_before : (j : ℕ) → j < node_total x → (goes_through x (operation_node x j) line && stands_at x (Some edge) 0 (operation_node x j) line) ≡ false
-      not_before j below = by (cases_Bool (goes_through x (operation_node x j) line && stands_at x (Some edge) 0 (operation_node x j) line))
+      not_before : (j : ℕ) → j < node_total x → (goes_through x (operation_node x j) line && stands_at x (Some edge) passed (operation_node x j) line) ≡ false
+      not_before j below = by (cases_Bool (goes_through x (operation_node x j) line && stands_at x (Some edge) passed (operation_node x j) line))
         where
-          by : ((goes_through x (operation_node x j) line && stands_at x (Some edge) 0 (operation_node x j) line) ≡ true) ⊎ ((goes_through x (operation_node x j) line && stands_at x (Some edge) 0 (operation_node x j) line) ≡ false) → (goes_through x (operation_node x j) line && stands_at x (Some edge) 0 (operation_node x j) line) ≡ false
+          by : ((goes_through x (operation_node x j) line && stands_at x (Some edge) passed (operation_node x j) line) ≡ true) ⊎ ((goes_through x (operation_node x j) line && stands_at x (Some edge) passed (operation_node x j) line) ≡ false) → (goes_through x (operation_node x j) line && stands_at x (Some edge) passed (operation_node x j) line) ≡ false
           by (inl is) = absurd (not_by j (operation_node x j) below refl is)
           by (inr is) = is
 
-      pub no_turn : IsNodeBefore x line (Some edge) 0 (node_total x)
+      pub no_turn : IsNodeBefore x line (Some edge) passed (node_total x)
       no_turn j below = not_before j below ∙ sym (ne_eqb j (node_total x) (λ e. omega (arith, below, e)))
 
     -- ---- the node that is looked up
 
     -- it is the one before which the line stands, if it is of that line
-    pub before_turn : (piece line edge n k r : ℕ) → IsLookedUp piece line n k → (0 < operation_count x piece → x.net.touches piece line ≡ false) → to (graph_in x.net) edge ≡ piece → k < node_total x → r ≡ (if is_turn (operation_node x k) piece line then k else node_total x) → IsNodeBefore x line (Some edge) 0 r
-    before_turn piece line edge n k r up untouched leads below is = by (is_turn (operation_node x k) piece line) refl is
+    pub before_turn : (piece line edge passed n k r : ℕ) → IsLookedUp piece line n k → (0 < operation_count x piece → x.net.touches piece line ≡ false) → to (graph_in x.net) edge ≡ piece → k < node_total x → r ≡ (if is_turn (operation_node x k) piece line then k else node_total x) → IsNodeBefore x line (Some edge) passed r
+    before_turn piece line edge passed n k r up untouched leads below is = by (is_turn (operation_node x k) piece line) refl is
       where
-        by : (b : Bool) → is_turn (operation_node x k) piece line ≡ b → r ≡ (if b then k else node_total x) → IsNodeBefore x line (Some edge) 0 r
-        by true own same = subst (λ (i : ℕ). IsNodeBefore x line (Some edge) 0 i) (sym same) (turn_before k piece line edge below own leads)
+        by : (b : Bool) → is_turn (operation_node x k) piece line ≡ b → r ≡ (if b then k else node_total x) → IsNodeBefore x line (Some edge) passed r
+        by true own same = subst (λ (i : ℕ). IsNodeBefore x line (Some edge) passed i) (sym same) (turn_before k piece line edge passed below own leads)
         by false own same =
-            subst (λ (i : ℕ). IsNodeBefore x line (Some edge) 0 i) (sym same)
-            (no_turn piece line edge leads untouched
+            subst (λ (i : ℕ). IsNodeBefore x line (Some edge) passed i) (sym same)
+            (no_turn piece line edge passed leads untouched
             (λ j low turn.
             let e : k ≡ j = its_number piece line n k j up low turn in
             both_ways (is_turn (operation_node x j) piece line) turn (subst (λ (i : ℕ). is_turn (operation_node x i) piece line ≡ false) e own)))
 
     -- and there is none where no node has this number
-    pub before_none : (piece line edge n k : ℕ) → IsLookedUp piece line n k → (0 < operation_count x piece → x.net.touches piece line ≡ false) → to (graph_in x.net) edge ≡ piece → node_total x ≤ k → IsNodeBefore x line (Some edge) 0 (node_total x)
-    before_none piece line edge n k up untouched leads high =
-        no_turn piece line edge leads untouched (λ j low turn. let e : k ≡ j = its_number piece line n k j up low turn in omega (arith, e, low, high))
+    pub before_none : (piece line edge passed n k : ℕ) → IsLookedUp piece line n k → (0 < operation_count x piece → x.net.touches piece line ≡ false) → to (graph_in x.net) edge ≡ piece → node_total x ≤ k → IsNodeBefore x line (Some edge) passed (node_total x)
+    before_none piece line edge passed n k up untouched leads high =
+        no_turn piece line edge passed leads untouched (λ j low turn. let e : k ≡ j = its_number piece line n k j up low turn in omega (arith, e, low, high))
 
 -- one of two numbers is at most the higher one
 pub chosen_low : (b : Bool) (k total r : ℕ) → k < total → r ≡ (if b then k else total) → r ≤ total

@@ -1,5 +1,5 @@
 -- What contracts see of a net of operations.
-use Rattle.std.specs.Prelude.{◌≡◌, ℕ, true}
+use Rattle.std.specs.Prelude.{◌≡◌, ℕ, true, []}
 use Rattle.f77_meaning.specs.Storage.{memory_of}
 use Rattle.op_board.specs.OperationNets.{OperationNet}
 use Rattle.op_board.specs.OperationTokens.{OperationTokens}
@@ -18,6 +18,7 @@ module _ {W : ℕ} where
     values = s.places.values.items;
   }
 
-  -- it is counted for how much each node waits
-  abbrev pub KeepsSet : OpNet W → Type 0
-  KeepsSet s = s.places.counted ≡ true
+  -- it is counted for how much each node waits, and no other game leads a node
+  pub record KeepsSet (s : OpNet W) : Type 0 where
+    pub counted : s.places.counted ≡ true
+    pub whole : s.places.apart.items ≡ []

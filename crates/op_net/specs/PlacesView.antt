@@ -2,12 +2,13 @@
 use Rattle.std.specs.Prelude.{◌≡◌, ◌≤◌, ◌==◌, ℕ, ℤ, true, false, [], All, length, map, Option, None, slice_set, vec_capacity}
 use Rattle.std.specs.List.{range_with_len}
 use Rattle.f77_tree.specs.Execution.{Memory}
-use Rattle.firing.specs.Marks.{AreMarks}
+use Rattle.firing.specs.ReadySet.{has}
 use Rattle.op_board.specs.OperationNets.{OperationNet}
 use Rattle.op_board.specs.OperationTokens.{OperationTokens}
 use Rattle.op_net.specs.declared.places.Places.{Places}
+use Rattle.op_net.specs.Counts.{AreMarksBut}
 use Rattle.op_net.specs.Leads.{IsLead}
-use Rattle.op_net.specs.Waits.{node_total, waits}
+use Rattle.op_net.specs.Waits.{awaits, node_total}
 
 abbrev no_memory : Memory
 no_memory = record { store = []; counts = []; steps = []; taken = 0 }
@@ -30,16 +31,18 @@ value_put m k value = record m { values = slice_set m.values k value }
 abbrev pub edge_put : OperationTokens → (switch : ℕ) (edge : Option ℕ) → OperationTokens
 edge_put m switch edge = record m { tokens = record m.tokens { edges = slice_set m.tokens.edges switch edge } }
 
--- While it is asked for, it is counted for how much each node waits, and those are marked that wait for nothing. What is remembered of
--- lines is right.
+-- While it is asked for, it is counted for how much each node waits, and those are marked that wait for nothing. The marks of the nodes
+-- that another game leads are its own: since they wait for that too, their counts are never 0. What is remembered of lines is right.
 pub record IsCounted (x : OperationNet) (s : Places) : Type 0 where
-  pub counts : s.counted ≡ true → s.counts.items ≡ map (waits x (standing s)) (range_with_len 0 (node_total x))
-  pub marks : s.counted ≡ true → AreMarks (node_total x) (λ k. waits x (standing s) k == 0) s.set
+  pub counts : s.counted ≡ true → s.counts.items ≡ map (awaits x s.apart.items (standing s)) (range_with_len 0 (node_total x))
+  pub marks : s.counted ≡ true → AreMarksBut (node_total x) (has s.apart.items) (λ k. awaits x s.apart.items (standing s) k == 0) s.set
   pub none : s.counted ≡ false → s.counts.items ≡ []
   pub leads : All (IsLead x) s.leads.items
 
--- it is counted after a change as it was before
+-- it is counted after a change as it was before, and the marks of the nodes that another game leads are as they were
 pub record KeepsCounts (old new : Places) : Type 0 where
   pub counted : new.counted ≡ old.counted
   pub marks : length new.set ≡ length old.set
   pub room : vec_capacity old.counts ≤ vec_capacity new.counts
+  pub apart : new.apart.items ≡ old.apart.items
+  pub flags : (k : ℕ) → has old.apart.items k ≡ true → has new.set k ≡ has old.set k

@@ -1,6 +1,7 @@
 -- What the nodes of a net of operations still wait for.
 use Rattle.std.specs.Prelude.{◌≡◌, ◌<◌, ◌+◌, ◌==◌, ◌&&◌, ℕ, Bool, true, false, not, if◌then◌else◌, List, [], ◌∷◌, length, Option, is_some}
 use Rattle.std.specs.List.{list_any}
+use Rattle.firing.specs.ReadySet.{has}
 use Rattle.firing.specs.declared.system.NodeName.{NodeName}
 use Rattle.firing.specs.declared.system.NodeName.TheVariants.{Act, Merge, Op, Switch}
 use Rattle.net_board.specs.Nodes.{graph_in, switches}
@@ -38,6 +39,10 @@ waits_as x m k (Act piece) = 1
 -- for how much the node waits
 abbrev pub waits : OperationNet → OperationTokens → (k : ℕ) → ℕ
 waits x m k = waits_as x m k (operation_node x k)
+
+-- the same, where a node that another game leads waits for that game too
+abbrev pub awaits : OperationNet → (apart : List Bool) → OperationTokens → (k : ℕ) → ℕ
+awaits x apart m k = waits x m k + one_if (has apart k)
 
 -- how many nodes there are; no node has this number
 abbrev pub node_total : OperationNet → ℕ

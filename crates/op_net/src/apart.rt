@@ -1,6 +1,6 @@
-//! What a game needs that leads the lines of loads by itself.
+//! What a game needs that leads some nodes by itself: loads, and the lines of loads.
 
-ghost use Rattle.std.specs.Prelude.{◌≡◌, ◌<◌, ◌&&◌, ℕ, Some, is_some, length, not, slice_get, true};
+ghost use Rattle.std.specs.Prelude.{◌≡◌, ◌<◌, ◌≤◌, ◌&&◌, ◌==◌, ℕ, None, Some, is_some, length, map, not, set, slice_get, true};
 ghost use Rattle.std.specs.List.{list_all};
 ghost use Rattle.closed_walks.specs.Graph.{edge_count, to};
 ghost use Rattle.cfg_build.specs.Passes.{out};
@@ -11,23 +11,99 @@ ghost use Rattle.net_board.specs.Nodes.{graph_in};
 ghost use Rattle.net_board.specs.SoundNets.{HasSizesOf};
 ghost use Rattle.net_board.specs.Tokens.{edge_of};
 ghost use Rattle.op_board.specs.OperationCourse.{operation_course};
-ghost use Rattle.op_board.specs.OperationNets.{operation_at, operation_count, operation_node};
+ghost use Rattle.op_board.specs.OperationNets.{needed, operation_at, operation_count, operation_node};
 ghost use Rattle.op_board.specs.OperationTokens.{OperationTokens, is_given, passed_by, value_at};
-ghost use Rattle.op_net.specs.ApartLoads.{IsUncounted, is_load_name, loaded_apart, needing};
+ghost use Rattle.op_board.specs.Operations.{gives_value};
+ghost use Rattle.operation_lists.specs.Seen.{operand_seen};
+ghost use Rattle.op_net.specs.ApartLoads.{FirstIs, IsCounting, IsUncounted, KeepsApart, MarksOthers, apart_of, flags_of, giver_of, is_apart, is_load_name, loaded_apart, needing};
 ghost use Rattle.op_net.specs.NetView.{marking_of, net_of};
-ghost use Rattle.op_net.specs.PlacesView.{line_put};
+ghost use Rattle.op_net.specs.OperationRows.{NextIs};
+ghost use Rattle.op_net.specs.PlacesView.{line_put, value_put};
 ghost use Rattle.op_net.specs.Steering.{LeadsBy};
 ghost use Rattle.op_net.specs.Telling.{operation_name};
-ghost use Rattle.op_net.specs.Waits.{node_total};
+ghost use Rattle.op_net.specs.Waits.{IsNodeBefore, node_total, one_if, takes_from};
 
 use crate::control_moves::{due_at, steered};
-use crate::standing::head;
-use crate::telling::work_name;
+use crate::standing::{entry, head, is_needed, node_before, turn_of};
+use crate::telling::{operand_at, work_name};
 use crate::waiting::waits_for_operands;
-use crate::{OpName, OpNet};
+use crate::{OpName, OpNet, Operand};
+use firing::ReadySet;
 use operation_effects::Did;
 
 impl<const W: usize> OpNet<'_, W> {
+    // ---- the nodes that another game leads
+
+    /// From now on another game leads these nodes. They may be changed only while it isn't counted for how much nodes wait.
+    pub fn lead_apart(&mut self, apart: Vec<bool>)
+        requires uncounted { IsUncounted self.old }
+        ensures net { net_of self.new ≡ net_of self.old }
+        ensures marking { marking_of self.new ≡ marking_of self.old }
+        ensures place { self.new.control ≡ self.old.control }
+        ensures apart { apart_of self.new ≡ apart.items }
+        ensures kept { IsUncounted self.new }
+        ensures last { self.new.text.items ≡ self.old.text.items }
+    {
+        self.places.apart = apart;
+    }
+
+    /// From now on it is counted for how much each node waits, and of the nodes that no other game leads those are marked that are ready.
+    pub fn count_apart(&mut self)
+        ensures net { net_of self.new ≡ net_of self.old }
+        ensures marking { marking_of self.new ≡ marking_of self.old }
+        ensures place { self.new.control ≡ self.old.control }
+        ensures apart { apart_of self.new ≡ apart_of self.old }
+        ensures counted { IsCounting self.new }
+        ensures others { MarksOthers self.new }
+        ensures room { length (flags_of self.new) ≡ node_total (net_of self.new) }
+        ensures last { self.new.text.items ≡ self.old.text.items }
+    {
+        self.places.keep_counts(&self.board);
+    }
+
+    /// While it is counted, of the nodes that no other game leads those are marked that are ready. It does nothing.
+    pub fn others_are_marked(&self)
+        requires { IsCounting self.now }
+        ensures others { MarksOthers self.now }
+        ensures room { length (flags_of self.now) ≡ node_total (net_of self.now) }
+    {}
+
+    /// Whether it is counted for how much nodes wait.
+    pub fn is_counted(&self) -> bool
+        ensures { result ≡ self.now.places.counted }
+    {
+        self.places.counted
+    }
+
+    /// Whether another game leads a node.
+    pub fn is_apart(&self, k: u32) -> bool
+        ensures { result ≡ is_apart self.now k }
+    {
+        self.places.is_apart(k)
+    }
+
+    /// The marks of nodes.
+    pub fn marked(&self) -> &ReadySet
+        ensures { result.now ≡ flags_of self.now }
+    {
+        &self.places.set
+    }
+
+    /// Marks a node that another game leads, or takes its mark away.
+    pub fn mark_apart(&mut self, k: u32, ready: bool)
+        requires node { k < node_total (net_of self.old) }
+        requires apart { is_apart self.old k ≡ true }
+        ensures net { net_of self.new ≡ net_of self.old }
+        ensures marking { marking_of self.new ≡ marking_of self.old }
+        ensures place { self.new.control ≡ self.old.control }
+        ensures apart { apart_of self.new ≡ apart_of self.old }
+        ensures counted { self.new.places.counted ≡ self.old.places.counted }
+        ensures flags { flags_of self.new ≡ set (flags_of self.old) k ready }
+        ensures last { self.new.text.items ≡ self.old.text.items }
+    {
+        self.places.set.put(k, ready);
+    }
+
     /// Performs a load, but leaves the lines that it needs where they stand.
     pub fn load_apart(&mut self, k: u32, piece: u32, i: u32)
         requires node { k < node_total (net_of self.old) }
@@ -35,32 +111,136 @@ impl<const W: usize> OpNet<'_, W> {
         requires loads { operation_name (operation_at (net_of self.old) piece i).work ≡ OpName.Load }
         requires given { list_all (is_given (net_of self.old) (marking_of self.old) piece) (operation_at (net_of self.old) piece i).operands ≡ true }
         requires sizes { HasSizesOf (net_of self.old).net.program (marking_of self.old).tokens.memory }
-        requires uncounted { IsUncounted self.old }
+        requires empty { value_at (marking_of self.old) k ≡ None }
         ensures net { net_of self.new ≡ net_of self.old }
         ensures marking { marking_of self.new ≡ loaded_apart (net_of self.old) (marking_of self.old) k piece i }
         ensures place { self.new.control ≡ self.old.control }
-        ensures kept { IsUncounted self.new }
+        ensures kept { KeepsApart self.old self.new }
         ensures last { self.new.text.items ≡ self.old.text.items }
     {
         let Did::Gave(z) = self.work(piece, i) else {
             return;
         };
-        self.places.values[k as usize] = Some(z);
+        self.give_apart(k, piece, i, z);
+    }
+
+    // Gives the value of an operation to the one that takes it.
+    fn give_apart(&mut self, k: u32, piece: u32, i: u32, z: i32)
+        requires node { k < node_total (net_of self.old) }
+        requires name { operation_node (net_of self.old) k ≡ Op piece i }
+        requires gives { gives_value (operation_at (net_of self.old) piece i).work ≡ true }
+        requires empty { value_at (marking_of self.old) k ≡ None }
+        ensures net { net_of self.new ≡ net_of self.old }
+        ensures marking { marking_of self.new ≡ value_put (marking_of self.old) k (Some z) }
+        ensures place { self.new.control ≡ self.old.control }
+        ensures kept { KeepsApart self.old self.new }
+        ensures last { self.new.text.items ≡ self.old.text.items }
+    {
+        let taker = self.taker(k, piece, i);
+        self.places.give(&self.board, k, z, taker);
+    }
+
+    /// Whether an operation gives a value.
+    pub fn gives(&self, piece: u32, i: u32) -> bool
+        requires piece { piece < (graph_in (net_of self.now).net).nodes }
+        requires operation { i < operation_count (net_of self.now) piece }
+        ensures { result ≡ gives_value (operation_at (net_of self.now) piece i).work }
+    {
+        self.board.row(piece, i).gives
+    }
+
+    /// The node of an operation.
+    pub fn operation_node(&self, piece: u32, i: u32) -> u32
+        requires piece { piece < (graph_in (net_of self.now).net).nodes }
+        requires operation { i < operation_count (net_of self.now) piece }
+        ensures name { operation_node (net_of self.now) result ≡ Op piece i }
+        ensures exists { result < node_total (net_of self.now) }
+    {
+        self.board.first(piece) + i
+    }
+
+    /// The node that takes the value of an operation. No other node takes it.
+    pub fn taker(&self, k: u32, piece: u32, i: u32) -> u32
+        requires node { k < node_total (net_of self.now) }
+        requires name { operation_node (net_of self.now) k ≡ Op piece i }
+        requires gives { gives_value (operation_at (net_of self.now) piece i).work ≡ true }
+        ensures takes { (j : ℕ) → j < node_total (net_of self.now) → takes_from (net_of self.now) (operation_node (net_of self.now) j) k ≡ one_if (j == result) }
+        ensures within { result < node_total (net_of self.now) }
+    {
+        let row = self.board.row(piece, i);
+        k - i + row.taker
     }
 
     /// Puts a line on an edge, where it has passed so many of the operations that need it.
     pub fn put_line(&mut self, line: u32, edge: u32, passed: u32)
         requires line { line < (net_of self.old).net.routing.lines }
         requires edge { edge < edge_count (graph_in (net_of self.old).net) }
-        requires uncounted { IsUncounted self.old }
         ensures net { net_of self.new ≡ net_of self.old }
         ensures marking { marking_of self.new ≡ line_put (marking_of self.old) line (Some edge) passed }
         ensures place { self.new.control ≡ self.old.control }
-        ensures kept { IsUncounted self.new }
+        ensures kept { KeepsApart self.old self.new }
         ensures last { self.new.text.items ≡ self.old.text.items }
     {
-        self.places.lines[line as usize] = Some(edge);
-        self.places.passed[line as usize] = passed;
+        let (from, to) = self.ends_between(line, edge, passed);
+        self.places
+            .put_line(&self.board, line, Some(edge), passed, from, to);
+    }
+
+    // The node before which a line stands, and the one before which it comes to stand on an edge, where it has passed so many of the
+    // operations that need it. They are looked for only while it is counted for how much nodes wait.
+    fn ends_between(&self, line: u32, edge: u32, passed: u32) -> (u32, u32)
+        requires line { line < (net_of self.now).net.routing.lines }
+        requires edge { edge < edge_count (graph_in (net_of self.now).net) }
+        ensures from { IsCounting self.now → IsNodeBefore (net_of self.now) line (edge_of (marking_of self.now).tokens line) (passed_by (marking_of self.now) line) result.0 }
+        ensures to { IsCounting self.now → IsNodeBefore (net_of self.now) line (Some edge) passed result.1 }
+    {
+        if !self.places.counted {
+            return (0, 0);
+        }
+        let from = self.node_before(line);
+        (from, self.node_at(line, edge, passed))
+    }
+
+    // The node before which a line stands, or the number of all nodes.
+    fn node_before(&self, line: u32) -> u32
+        requires { line < (net_of self.now).net.routing.lines }
+        ensures { IsNodeBefore (net_of self.now) line (edge_of (marking_of self.now).tokens line) (passed_by (marking_of self.now) line) result }
+    {
+        match self.edge_of(line) {
+            Some(edge) => self.node_at(line, edge, self.passed(line)),
+            None => self.board.nodes(),
+        }
+    }
+
+    // The node before which a line stands on an edge, where it has passed so many of the operations that need it, or the number of all
+    // nodes.
+    fn node_at(&self, line: u32, edge: u32, passed: u32) -> u32
+        requires line { line < (net_of self.now).net.routing.lines }
+        requires edge { edge < edge_count (graph_in (net_of self.now).net) }
+        ensures { IsNodeBefore (net_of self.now) line (Some edge) passed result }
+    {
+        if passed == 0 {
+            return node_before(&self.board, line, edge);
+        }
+        let piece = head(&self.board, edge);
+        if is_needed(&self.board, piece, line) {
+            self.node_numbered(piece, line, passed)
+        } else {
+            turn_of(&self.board, piece, line)
+        }
+    }
+
+    // The operation of a piece before which a line stands that has passed so many of those that need it, or the number of all nodes.
+    fn node_numbered(&self, piece: u32, line: u32, passed: u32) -> u32
+        requires piece { piece < (graph_in (net_of self.now).net).nodes }
+        requires some { 0 < operation_count (net_of self.now) piece }
+        requires touched { (net_of self.now).net.touches piece line ≡ true }
+        ensures { (edge : ℕ) → to (graph_in (net_of self.now).net) edge ≡ piece → IsNodeBefore (net_of self.now) line (Some edge) passed result }
+    {
+        match self.number_at(piece, line, passed) {
+            Some(i) => self.board.first(piece) + i,
+            None => self.board.nodes(),
+        }
     }
 
     /// Moves control on where the node that is due fires, which takes this edge if it is the last operation of its piece, or the first
@@ -70,7 +250,7 @@ impl<const W: usize> OpNet<'_, W> {
         ensures net { net_of self.new ≡ net_of self.old }
         ensures marking { marking_of self.new ≡ marking_of self.old }
         ensures place { (m : OperationTokens) → LeadsBy (net_of self.old) m k edge → self.new.control ≡ steered_in (operation_course (net_of self.old)) m self.old.control k }
-        ensures kept { self.new.places.counted ≡ self.old.places.counted }
+        ensures kept { KeepsApart self.old self.new }
         ensures last { self.new.text.items ≡ self.old.text.items }
     {
         self.control = steered(&self.board, self.control, k, edge);
@@ -220,6 +400,77 @@ impl<const W: usize> OpNet<'_, W> {
         needing
     }
 
+    /// The first operation of a piece that needs a line.
+    pub fn first_needing(&self, piece: u32, line: u32) -> Option<u32>
+        requires piece { piece < (graph_in (net_of self.now).net).nodes }
+        requires line { line < (net_of self.now).net.routing.lines }
+        ensures { FirstIs (net_of self.now) piece line result }
+    {
+        if is_needed(&self.board, piece, line) {
+            entry(&self.board, piece, line)
+        } else {
+            None
+        }
+    }
+
+    /// The next operation of a piece that needs a line which this one needs.
+    pub fn next_needing(&self, piece: u32, i: u32, line: u32) -> Option<u32>
+        requires piece { piece < (graph_in (net_of self.now).net).nodes }
+        requires operation { i < operation_count (net_of self.now) piece }
+        requires needs { (net_of self.now).needs piece i line ≡ true }
+        ensures { NextIs (net_of self.now) piece i line result }
+    {
+        let count = self.board.operations(piece);
+        for n in i + 1..count {
+            if self.needs_line(piece, n, line) {
+                return Some(n);
+            }
+        }
+        None
+    }
+
+    /// How many lines an operation needs.
+    pub fn needed_count(&self, piece: u32, i: u32) -> u32
+        requires piece { piece < (graph_in (net_of self.now).net).nodes }
+        requires operation { i < operation_count (net_of self.now) piece }
+        ensures { result ≡ length (needed (net_of self.now) piece i) }
+    {
+        // There are no more than all lines.
+        let _lines = self.lines();
+        self.board.row(piece, i).hops.len() as u32
+    }
+
+    /// One of the lines that an operation needs, counted from 0.
+    pub fn needed_line(&self, piece: u32, i: u32, nth: u32) -> u32
+        requires piece { piece < (graph_in (net_of self.now).net).nodes }
+        requires operation { i < operation_count (net_of self.now) piece }
+        requires inside { nth < length (needed (net_of self.now) piece i) }
+        ensures { slice_get (needed (net_of self.now) piece i) nth ≡ Some result }
+    {
+        self.board.row(piece, i).hops[nth as usize].line as u32
+    }
+
+    // ---- operands
+
+    /// How many operands an operation has.
+    pub fn operand_count(&self, piece: u32, i: u32) -> u32
+        requires piece { piece < (graph_in (net_of self.now).net).nodes }
+        requires operation { i < operation_count (net_of self.now) piece }
+        ensures { result ≡ length (operation_at (net_of self.now) piece i).operands }
+    {
+        self.board.row(piece, i).operands.len() as u32
+    }
+
+    /// The operation of the piece that gives an operand, counted from 0, unless that is known.
+    pub fn operand_giver(&self, piece: u32, i: u32, nth: u32) -> Option<u32>
+        requires piece { piece < (graph_in (net_of self.now).net).nodes }
+        requires operation { i < operation_count (net_of self.now) piece }
+        requires inside { nth < length (operation_at (net_of self.now) piece i).operands }
+        ensures { slice_get (map giver_of (operation_at (net_of self.now) piece i).operands) nth ≡ Some result }
+    {
+        giver(operand_at(&self.board.row(piece, i).operands, nth as usize))
+    }
+
     /// Whether the operands of an operation are there, and its own value was taken.
     pub fn has_values(&self, k: u32, piece: u32, i: u32) -> bool
         requires node { k < node_total (net_of self.now) }
@@ -229,5 +480,15 @@ impl<const W: usize> OpNet<'_, W> {
         let row = self.board.row(piece, i);
         let lacking = waits_for_operands(&self.places, row.operands.as_slice(), k - i);
         lacking == 0 && self.places.values[k as usize].is_none()
+    }
+}
+
+// The operation that gives an operand, unless that is known.
+fn giver(operand: Operand) -> Option<u32>
+    ensures { result ≡ giver_of (operand_seen operand) }
+{
+    match operand {
+        Operand::Known(_) => None,
+        Operand::Node(number) => Some(number),
     }
 }

@@ -1,12 +1,13 @@
 //! Changes of the places of lines, decisions and values, one at a time, with what nodes wait for.
 
-ghost use Rattle.std.specs.Prelude.{◌≡◌, ◌<◌, ◌≤◌, ◌-◌, ◌^◌, ℕ, [], None, Some, false, is_some, length, set, slice_index, true};
+ghost use Rattle.std.specs.Prelude.{◌≡◌, ◌<◌, ◌≤◌, ◌-◌, ◌^◌, ℕ, Bool, [], None, Some, false, is_some, length, set, slice_index, true};
+ghost use Rattle.firing.specs.ReadySet.{has};
 ghost use Rattle.net_board.specs.Tokens.{edge_of, left_for};
 ghost use Rattle.op_board.specs.OperationTokens.{passed_by, value_at};
 ghost use Rattle.op_net.specs.BoardView.{operation_net_on};
 ghost use Rattle.op_net.specs.Counts.{AreCounts, one_more};
 ghost use Rattle.op_net.specs.PlacesView.{IsCounted, KeepsCounts, edge_put, line_put, standing, value_put};
-ghost use Rattle.op_net.specs.Waits.{AreSwitchNodes, IsNodeAfter, IsNodeBefore, node_total, waits};
+ghost use Rattle.op_net.specs.Waits.{AreSwitchNodes, IsNodeAfter, IsNodeBefore, node_total, one_if, waits};
 
 use crate::lookups::OperationBoard;
 use crate::places::Places;
@@ -28,7 +29,6 @@ impl Places {
         requires exists { line < (operation_net_on board.now).net.routing.lines }
         requires line { line < length self.old.lines.items }
         requires passed { line < length self.old.passed.items }
-        requires node { from < node_total (operation_net_on board.now) }
         requires marks { length self.old.set ≡ node_total (operation_net_on board.now) }
         requires counted { IsCounted (operation_net_on board.now) self.old }
         requires from { self.old.counted ≡ true → IsNodeBefore (operation_net_on board.now) line (edge_of (standing self.old).tokens line) (passed_by (standing self.old) line) from }
@@ -142,13 +142,14 @@ impl Places {
 
     // A node waits for one thing more, if there is a count of it.
     fn wait_more(&mut self, k: u32)
-        requires few { slice_index self.old.counts.items k < 2 ^ 64 - 1 }
+        requires few { k < length self.old.counts.items → slice_index self.old.counts.items k < 2 ^ 64 - 1 }
+        requires apart { k < length self.old.counts.items → one_if (has self.old.apart.items k) ≤ slice_index self.old.counts.items k }
         requires marks { length self.old.counts.items ≤ length self.old.set }
         ensures standing { standing self.new ≡ standing self.old }
         ensures kept { KeepsCounts self.old self.new }
         ensures leads { self.new.leads.items ≡ self.old.leads.items }
         ensures none { self.old.counts.items ≡ [] → self.new.counts.items ≡ [] }
-        ensures counts { (count : ℕ → ℕ) → AreCounts (length self.old.counts.items) count self.old.counts.items self.old.set → AreCounts (length self.old.counts.items) (one_more count k) self.new.counts.items self.new.set }
+        ensures counts { (count : ℕ → ℕ) (but : ℕ → Bool) → AreCounts (length self.old.counts.items) count but self.old.counts.items self.old.set → AreCounts (length self.old.counts.items) (one_more count k) but self.new.counts.items self.new.set }
     {
         if (k as usize) < self.counts.len() {
             let count = self.counts[k as usize];
@@ -161,13 +162,13 @@ impl Places {
 
     // A node waits for one thing less, if there is a count of it. No node has the number of all nodes.
     fn wait_less(&mut self, k: u32)
-        requires some { k < length self.old.counts.items → 0 < slice_index self.old.counts.items k }
+        requires some { k < length self.old.counts.items → one_if (has self.old.apart.items k) < slice_index self.old.counts.items k }
         requires marks { length self.old.counts.items ≤ length self.old.set }
         ensures standing { standing self.new ≡ standing self.old }
         ensures kept { KeepsCounts self.old self.new }
         ensures leads { self.new.leads.items ≡ self.old.leads.items }
         ensures none { self.old.counts.items ≡ [] → self.new.counts.items ≡ [] }
-        ensures counts { (count : ℕ → ℕ) → AreCounts (length self.old.counts.items) (one_more count k) self.old.counts.items self.old.set → AreCounts (length self.old.counts.items) count self.new.counts.items self.new.set }
+        ensures counts { (count : ℕ → ℕ) (but : ℕ → Bool) → AreCounts (length self.old.counts.items) (one_more count k) but self.old.counts.items self.old.set → AreCounts (length self.old.counts.items) count but self.new.counts.items self.new.set }
     {
         if (k as usize) < self.counts.len() {
             let count = self.counts[k as usize] - 1;

@@ -16,6 +16,7 @@ ghost use Rattle.op_board.specs.OperationNets.{first_operation, needed, operatio
 ghost use Rattle.op_board.specs.OperationTokens.{can_operate, has_room, is_given, line_as, merged_on, operated, operation_moves, passed_by, performed_at, ready_as, stands_before, switched_on, value_at};
 ghost use Rattle.op_board.specs.Operations.{gives_value};
 ghost use Rattle.operation_effects.specs.Done.{KeepsLine, KeepsStorage, told};
+ghost use Rattle.op_net.specs.ApartLoads.{KeepsApart};
 ghost use Rattle.op_net.specs.FiringChanges.{AnswersTrap, given_on, gone_on, room_left, stopped_on, told_on, trapped_on, worked_on};
 ghost use Rattle.op_net.specs.NetView.{marking_of, net_of};
 ghost use Rattle.op_net.specs.PlacesView.{line_put};
@@ -44,7 +45,7 @@ impl<const W: usize> OpNet<'_, W> {
         ensures control { self.new.control ≡ self.old.control }
         ensures leads { LeadsBy (net_of self.old) (marking_of self.old) k result.1 }
         ensures edge { result.1 < edge_count (graph_in (net_of self.old).net) }
-        ensures kept { self.new.places.counted ≡ self.old.places.counted }
+        ensures kept { KeepsApart self.old self.new }
         ensures fired { FiredIs (operation_moves (net_of self.old)) (marking_of self.old) k result.0 }
         ensures last { self.new.text.items ≡ newest ((operation_moves (net_of self.old)).line (marking_of self.old) k) self.old.text.items }
     {
@@ -94,7 +95,7 @@ impl<const W: usize> OpNet<'_, W> {
         ensures control { self.new.control ≡ self.old.control }
         ensures leads { LeadsBy (net_of self.old) (marking_of self.old) k result.1 }
         ensures edge { result.1 < edge_count (graph_in (net_of self.old).net) }
-        ensures kept { self.new.places.counted ≡ self.old.places.counted }
+        ensures kept { KeepsApart self.old self.new }
         ensures fired { FiredIs (operation_moves (net_of self.old)) (marking_of self.old) k result.0 }
         ensures last { self.new.text.items ≡ newest ((operation_moves (net_of self.old)).line (marking_of self.old) k) self.old.text.items }
     {
@@ -118,7 +119,7 @@ impl<const W: usize> OpNet<'_, W> {
         ensures control { self.new.control ≡ self.old.control }
         ensures leads { LeadsBy (net_of self.old) (marking_of self.old) k result.1 }
         ensures edge { result.1 < edge_count (graph_in (net_of self.old).net) }
-        ensures kept { self.new.places.counted ≡ self.old.places.counted }
+        ensures kept { KeepsApart self.old self.new }
         ensures fired { FiredIs (operation_moves (net_of self.old)) (marking_of self.old) k result.0 }
         ensures last { self.new.text.items ≡ newest (line_as (net_of self.old) (marking_of self.old) (Op piece i)) self.old.text.items }
     {
@@ -147,7 +148,7 @@ impl<const W: usize> OpNet<'_, W> {
         ensures memory { KeepsStorage result self.old.storage self.new.storage }
         ensures line { KeepsLine result self.old.draft.items self.new.draft.items }
         ensures control { self.new.control ≡ self.old.control }
-        ensures kept { self.new.places.counted ≡ self.old.places.counted }
+        ensures kept { KeepsApart self.old self.new }
         ensures text { self.new.text.items ≡ self.old.text.items }
     {
         let board = &self.board;
@@ -177,7 +178,7 @@ impl<const W: usize> OpNet<'_, W> {
         ensures control { self.new.control ≡ self.old.control }
         ensures edge { result ≡ out (graph_in (net_of self.old).net) piece 0 }
         ensures exists { result < edge_count (graph_in (net_of self.old).net) }
-        ensures kept { self.new.places.counted ≡ self.old.places.counted }
+        ensures kept { KeepsApart self.old self.new }
         ensures text { self.new.text.items ≡ self.old.text.items }
     {
         let board = &self.board;
@@ -200,7 +201,7 @@ impl<const W: usize> OpNet<'_, W> {
         ensures control { self.new.control ≡ self.old.control }
         ensures edge { result ≡ out (graph_in (net_of self.old).net) piece choice }
         ensures exists { result < edge_count (graph_in (net_of self.old).net) }
-        ensures kept { self.new.places.counted ≡ self.old.places.counted }
+        ensures kept { KeepsApart self.old self.new }
         ensures text { self.new.text.items ≡ self.old.text.items }
     {
         let board = &self.board;
@@ -222,7 +223,7 @@ impl<const W: usize> OpNet<'_, W> {
         ensures control { self.new.control ≡ self.old.control }
         ensures edge { result ≡ out (graph_in (net_of self.old).net) piece choice }
         ensures exists { result < edge_count (graph_in (net_of self.old).net) }
-        ensures kept { self.new.places.counted ≡ self.old.places.counted }
+        ensures kept { KeepsApart self.old self.new }
         ensures text { self.new.text.items ≡ self.old.text.items }
     {
         self.leave(piece, i, choice);
@@ -237,7 +238,7 @@ impl<const W: usize> OpNet<'_, W> {
         ensures net { net_of self.new ≡ net_of self.old }
         ensures marking { marking_of self.new ≡ room_left (net_of self.old) (marking_of self.old) piece i (out (graph_in (net_of self.old).net) piece choice) }
         ensures control { self.new.control ≡ self.old.control }
-        ensures kept { self.new.places.counted ≡ self.old.places.counted }
+        ensures kept { KeepsApart self.old self.new }
         ensures text { self.new.text.items ≡ self.old.text.items }
     {
         if self.board.row(piece, i).decides {
@@ -259,7 +260,7 @@ impl<const W: usize> OpNet<'_, W> {
         ensures control { self.new.control ≡ self.old.control }
         ensures edge { result.1 ≡ out (graph_in (net_of self.old).net) piece 0 }
         ensures exists { result.1 < edge_count (graph_in (net_of self.old).net) }
-        ensures kept { self.new.places.counted ≡ self.old.places.counted }
+        ensures kept { KeepsApart self.old self.new }
         ensures text { self.new.text.items ≡ self.old.text.items }
         ensures fired { AnswersTrap (net_of self.old) piece i result.0 }
     {
@@ -279,7 +280,7 @@ impl<const W: usize> OpNet<'_, W> {
         ensures control { self.new.control ≡ self.old.control }
         ensures edge { result ≡ out (graph_in (net_of self.old).net) piece 0 }
         ensures exists { result < edge_count (graph_in (net_of self.old).net) }
-        ensures kept { self.new.places.counted ≡ self.old.places.counted }
+        ensures kept { KeepsApart self.old self.new }
         ensures text { self.new.text.items ≡ self.old.text.items }
     {
         let line = self.board.plan.board.plan.flow.piece(piece).line;
@@ -299,7 +300,7 @@ impl<const W: usize> OpNet<'_, W> {
         ensures marking { marking_of self.new ≡ switched_on (net_of self.old) (marking_of self.old) piece line }
         ensures control { self.new.control ≡ self.old.control }
         ensures edge { result < edge_count (graph_in (net_of self.old).net) }
-        ensures kept { self.new.places.counted ≡ self.old.places.counted }
+        ensures kept { KeepsApart self.old self.new }
         ensures text { self.new.text.items ≡ self.old.text.items }
     {
         let switch = self.board.switch_number(k, piece);
@@ -324,7 +325,7 @@ impl<const W: usize> OpNet<'_, W> {
         ensures control { self.new.control ≡ self.old.control }
         ensures edge { result ≡ out (graph_in (net_of self.old).net) piece 0 }
         ensures exists { result < edge_count (graph_in (net_of self.old).net) }
-        ensures kept { self.new.places.counted ≡ self.old.places.counted }
+        ensures kept { KeepsApart self.old self.new }
         ensures text { self.new.text.items ≡ self.old.text.items }
     {
         let edge = self.board.out_edge(piece, 0);
@@ -343,7 +344,7 @@ impl<const W: usize> OpNet<'_, W> {
         ensures net { net_of self.new ≡ net_of self.old }
         ensures marking { marking_of self.new ≡ line_put (marking_of self.old) line (led_from (net_of self.old).net edge line) 0 }
         ensures control { self.new.control ≡ self.old.control }
-        ensures kept { self.new.places.counted ≡ self.old.places.counted }
+        ensures kept { KeepsApart self.old self.new }
         ensures text { self.new.text.items ≡ self.old.text.items }
     {
         lead_line(&self.board, &mut self.places, line, edge, k);

@@ -50,7 +50,7 @@ impl<const W: usize> StepSystem for OpNet<'_, W> {
     }
 
     fn keep_ready(&mut self) {
-        self.places.keep_counts(&self.board);
+        self.places.keep_whole(&self.board);
     }
 
     fn ready_count(&self) -> u32 {

@@ -108,6 +108,7 @@ fn first_state<const W: usize>(
         counted: false,
         counts: Vec::with_capacity(alloc, nodes)?,
         set: ReadySet::with_room(alloc, nodes as u32)?,
+        apart: Vec::with_capacity(alloc, 0)?,
         leads: no_leads(alloc)?,
     })
 }

@@ -18,6 +18,8 @@ pub(crate) struct Places {
     pub(crate) counted: bool,
     pub(crate) counts: Vec<u64>,
     pub(crate) set: ReadySet,
+    /// The nodes that another game leads, if there is one. Their marks in the set are its own.
+    pub(crate) apart: Vec<bool>,
     /// Where lines came to stand that were led along edges.
     pub(crate) leads: Vec<Lead>,
 }

@@ -5,6 +5,7 @@ ghost use Rattle.closed_walks.specs.Graph.{edge_count, to};
 ghost use Rattle.net_board.specs.Nodes.{first_node, graph_in, node_count};
 ghost use Rattle.op_board.specs.OperationNets.{first_operation, operation_count, operation_node, operation_node_count};
 ghost use Rattle.op_net.specs.BoardView.{operation_net_on};
+ghost use Rattle.op_net.specs.OperationRows.{EntryIs};
 ghost use Rattle.op_net.specs.Turns.{is_turn};
 ghost use Rattle.op_net.specs.Waits.{IsNodeBefore, node_total};
 
@@ -37,8 +38,8 @@ pub(crate) fn head<const W: usize>(board: &OperationBoard<W>, edge: u32) -> u32
     board.plan.board.plan.flow.graph().to(edge)
 }
 
-// Whether the piece has operations and touches the line.
-fn is_needed<const W: usize>(board: &OperationBoard<W>, piece: u32, line: u32) -> bool
+/// Whether the piece has operations and touches the line.
+pub(crate) fn is_needed<const W: usize>(board: &OperationBoard<W>, piece: u32, line: u32) -> bool
     requires { piece < (graph_in (operation_net_on board.now).net).nodes }
     ensures some { result ≡ true → 0 < operation_count (operation_net_on board.now) piece }
     ensures touched { result ≡ true → (operation_net_on board.now).net.touches piece line ≡ true }
@@ -60,19 +61,33 @@ fn first_needing<const W: usize>(board: &OperationBoard<W>, piece: u32, line: u3
     ensures before { (edge : ℕ) → to (graph_in (operation_net_on board.now).net) edge ≡ piece → IsNodeBefore (operation_net_on board.now) line (Some edge) 0 result }
     ensures within { result ≤ node_total (operation_net_on board.now) }
 {
-    let touched = board.plan.board.touched(piece);
-    match touched.binary_search(&line) {
-        Ok(place) => board.first(piece) + board.tables.pieces[piece as usize].entries[place],
-        Err(_) => board.nodes(),
+    match entry(board, piece, line) {
+        Some(n) => board.first(piece) + n,
+        None => board.nodes(),
     }
 }
 
-// The switch or merge of a piece that a line goes through, which the piece doesn't touch, or else the number of all nodes.
-fn turn_of<const W: usize>(board: &OperationBoard<W>, piece: u32, line: u32) -> u32
+/// The number of the first operation of a piece that needs a line which the piece touches.
+pub(crate) fn entry<const W: usize>(board: &OperationBoard<W>, piece: u32, line: u32) -> Option<u32>
+    requires piece { piece < (graph_in (operation_net_on board.now).net).nodes }
+    requires line { line < (operation_net_on board.now).net.routing.lines }
+    requires some { 0 < operation_count (operation_net_on board.now) piece }
+    requires touched { (operation_net_on board.now).net.touches piece line ≡ true }
+    ensures { EntryIs (operation_net_on board.now) piece line result }
+{
+    let touched = board.plan.board.touched(piece);
+    match touched.binary_search(&line) {
+        Ok(place) => Some(board.tables.pieces[piece as usize].entries[place]),
+        Err(_) => None,
+    }
+}
+
+/// The switch or merge of a piece that a line goes through, which the piece doesn't touch, or else the number of all nodes.
+pub(crate) fn turn_of<const W: usize>(board: &OperationBoard<W>, piece: u32, line: u32) -> u32
     requires piece { piece < (graph_in (operation_net_on board.now).net).nodes }
     requires line { line < (operation_net_on board.now).net.routing.lines }
     requires untouched { 0 < operation_count (operation_net_on board.now) piece → (operation_net_on board.now).net.touches piece line ≡ false }
-    ensures before { (edge : ℕ) → to (graph_in (operation_net_on board.now).net) edge ≡ piece → IsNodeBefore (operation_net_on board.now) line (Some edge) 0 result }
+    ensures before { (edge passed : ℕ) → to (graph_in (operation_net_on board.now).net) edge ≡ piece → IsNodeBefore (operation_net_on board.now) line (Some edge) passed result }
     ensures within { result ≤ node_total (operation_net_on board.now) }
 {
     let k = numbered_from_end(board, piece, board.plan.board.place(piece, line));

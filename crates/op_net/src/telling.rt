@@ -142,8 +142,8 @@ impl<'a, const W: usize> OpGraph<'a, W> {
     }
 }
 
-// One of these operands.
-fn operand_at(operands: &Operands, i: usize) -> Operand
+/// One of these operands.
+pub(crate) fn operand_at(operands: &Operands, i: usize) -> Operand
     requires { i < length operands.now.items }
     ensures { result ≡ get_or operands.now.items i result }
 {

@@ -2,18 +2,19 @@
 
 ghost use Rattle.std.specs.Prelude.{◌≡◌, ◌<◌, ◌≤◌, ◌+◌, ◌-◌, ◌^◌, ◌==◌, ◌++◌, ◌∷◌, ℕ, suc, [], All, if◌then◌else◌, is_some, length, not, set, true, vec_capacity, vec_len};
 ghost use Rattle.std.specs.List.{range_with_len};
+ghost use Rattle.firing.specs.ReadySet.{has};
 ghost use Rattle.firing.specs.declared.system.NodeName.TheVariants.{Op};
 ghost use Rattle.net_board.specs.Nodes.{graph_in, is_acting, kind_in, switches};
 ghost use Rattle.net_board.specs.TokenEdges.{edge_at};
 ghost use Rattle.net_board.specs.Tokens.{left_for};
-ghost use Rattle.op_board.specs.OperationNets.{operation_node};
+ghost use Rattle.op_board.specs.OperationNets.{OperationNet, operation_node};
 ghost use Rattle.op_board.specs.OperationTokens.{OperationTokens};
 ghost use Rattle.op_net.specs.BoardView.{operation_net_on};
 ghost use Rattle.op_net.specs.Counts.{AreCounts};
 ghost use Rattle.op_net.specs.PlacesView.{IsCounted, standing};
 ghost use Rattle.op_net.specs.RowWaits.{IsBelow, hop_stands, is_there};
 ghost use Rattle.op_net.specs.SoundPlaces.{ArePlaces};
-ghost use Rattle.op_net.specs.Waits.{failing, node_total, one_if, waits, waits_as};
+ghost use Rattle.op_net.specs.Waits.{awaits, failing, node_total, one_if, waits, waits_as};
 ghost use Rattle.op_net.specs.declared.hops.Hop.{Hop};
 
 use crate::hops::Hop;
@@ -171,6 +172,34 @@ fn edges_between(edges: &Vec<Option<u32>>, first: u32, end: u32) -> u64
 }
 
 impl Places {
+    /// From now on no other game leads a node, and it is counted for how much each one waits.
+    pub(crate) fn keep_whole<const W: usize>(&mut self, board: &OperationBoard<W>)
+        requires places { ArePlaces (operation_net_on board.now) self.old }
+        requires counted { IsCounted (operation_net_on board.now) self.old }
+        ensures standing { standing self.new ≡ standing self.old }
+        ensures counted { IsCounted (operation_net_on board.now) self.new }
+        ensures kept { self.new.counted ≡ true }
+        ensures whole { self.new.apart.items ≡ [] }
+        ensures places { ArePlaces (operation_net_on board.now) self.new }
+    {
+        self.lead_all();
+        self.keep_counts(board);
+    }
+
+    // From now on no other game leads a node. What was counted while one did is forgotten.
+    fn lead_all(&mut self)
+        ensures standing { standing self.new ≡ standing self.old }
+        ensures counted { (x : OperationNet) → IsCounted x self.old → IsCounted x self.new }
+        ensures whole { self.new.apart.items ≡ [] }
+        ensures places { (x : OperationNet) → ArePlaces x self.old → ArePlaces x self.new }
+    {
+        if self.apart.len() > 0 {
+            self.apart.clear();
+            self.counts.clear();
+            self.counted = false;
+        }
+    }
+
     /// From now on it is counted for how much each node waits.
     pub(crate) fn keep_counts<const W: usize>(&mut self, board: &OperationBoard<W>)
         requires places { ArePlaces (operation_net_on board.now) self.old }
@@ -178,6 +207,7 @@ impl Places {
         ensures standing { standing self.new ≡ standing self.old }
         ensures counted { IsCounted (operation_net_on board.now) self.new }
         ensures kept { self.new.counted ≡ true }
+        ensures apart { self.new.apart.items ≡ self.old.apart.items }
         ensures places { ArePlaces (operation_net_on board.now) self.new }
     {
         if self.counted {
@@ -193,7 +223,8 @@ impl Places {
         requires none { self.old.counts.items ≡ [] }
         ensures standing { standing self.new ≡ standing self.old }
         ensures leads { self.new.leads.items ≡ self.old.leads.items }
-        ensures counts { AreCounts (node_total (operation_net_on board.now)) (waits (operation_net_on board.now) (standing self.old)) self.new.counts.items self.new.set }
+        ensures apart { self.new.apart.items ≡ self.old.apart.items }
+        ensures counts { AreCounts (node_total (operation_net_on board.now)) (awaits (operation_net_on board.now) self.old.apart.items (standing self.old)) (has self.old.apart.items) self.new.counts.items self.new.set }
         ensures places { ArePlaces (operation_net_on board.now) self.new }
     {
         for k in 0..board.nodes() {
@@ -208,13 +239,22 @@ impl Places {
         requires below { length self.old.counts.items ≡ k }
         ensures standing { standing self.new ≡ standing self.old }
         ensures leads { self.new.leads.items ≡ self.old.leads.items }
-        ensures counts { self.new.counts.items ≡ self.old.counts.items ++ waits (operation_net_on board.now) (standing self.old) k ∷ [] }
-        ensures set { self.new.set ≡ set self.old.set k (waits (operation_net_on board.now) (standing self.old) k == 0) }
+        ensures apart { self.new.apart.items ≡ self.old.apart.items }
+        ensures counts { self.new.counts.items ≡ self.old.counts.items ++ awaits (operation_net_on board.now) self.old.apart.items (standing self.old) k ∷ [] }
+        ensures set { self.new.set ≡ set self.old.set k (awaits (operation_net_on board.now) self.old.apart.items (standing self.old) k == 0) }
         ensures places { ArePlaces (operation_net_on board.now) self.new }
     {
-        let count = waits(board, self, k);
+        waits_are_few(board);
+        let count = waits(board, self, k) + one_if(self.is_apart(k));
         push_count(&mut self.counts, count);
         self.set.put(k, count == 0);
+    }
+
+    /// Whether another game leads a node.
+    pub(crate) fn is_apart(&self, k: u32) -> bool
+        ensures { result ≡ has self.now.apart.items k }
+    {
+        (k as usize) < self.apart.len() && self.apart[k as usize]
     }
 }
 

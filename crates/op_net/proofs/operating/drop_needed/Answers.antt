@@ -54,15 +54,12 @@ put_line-requires g c =
           (
             subst (λ (n : ℕ). hop.line < n) (sym passed) exists,
             (
-              own_node x c.args.piece c.args.i c.first.result c.requires.piece c.requires.operation c.first.ensures,
+              c.loop-hop.invariant.kept.marks ∙ c.requires.places.marks,
               (
-                c.loop-hop.invariant.kept.marks ∙ c.requires.places.marks,
+                c.loop-hop.invariant.counted,
                 (
-                  c.loop-hop.invariant.counted,
-                  (
-                    (λ counted. before_here x c.args.board.now.plan.facts c.args.piece c.args.i hop.line m c.requires.piece c.requires.operation needs stands c.first.result c.first.ensures),
-                    (λ counted. subst (λ (n : ℕ). IsNodeBefore x hop.line None 0 n) (sym c.nodes-none.ensures) (none_before x hop.line 0)),
-                  ),
+                  (λ counted. before_here x c.args.board.now.plan.facts c.args.piece c.args.i hop.line m c.requires.piece c.requires.operation needs stands c.first.result c.first.ensures),
+                  (λ counted. subst (λ (n : ℕ). IsNodeBefore x hop.line None 0 n) (sym c.nodes-none.ensures) (none_before x hop.line 0)),
                 ),
               ),
             ),

@@ -11,7 +11,7 @@ put_line-requires g c =
     let lines = c.requires.lines in
     let passed = c.requires.passed in
     let were = c.requires.counted in
-    (omega arith, (line, (omega (arith, line, lines), (omega (arith, line, passed), (c.requires.node, (c.requires.marks, (record { counts = were.counts; marks = were.marks; none = were.none; leads = c.lead_of-lead.ensures.leads }, ((λ counted. c.requires.from), (λ counted. c.lead_of-lead.ensures.node counted)))))))))
+    (omega arith, (line, (omega (arith, line, lines), (omega (arith, line, passed), (c.requires.marks, (record { counts = were.counts; marks = were.marks; none = were.none; leads = c.lead_of-lead.ensures.leads }, ((λ counted. c.requires.from), (λ counted. c.lead_of-lead.ensures.node counted))))))))
 
 pub returns-clause-standing : goal.returns-clause-standing
 returns-clause-standing g c =

@@ -60,15 +60,12 @@ put_line-requires g c =
           (
             omega (arith, exists, passed),
             (
-              own_node x c.args.piece c.args.i c.args.first c.requires.piece c.requires.operation c.requires.first,
+              c.requires.marks,
               (
-                c.requires.marks,
+                c.requires.counted,
                 (
-                  c.requires.counted,
-                  (
-                    (λ counted. before_here x facts c.args.piece c.args.i hop.line m c.requires.piece c.requires.operation c.requires.needs c.requires.stands c.args.first c.requires.first),
-                    (λ counted. before_next x facts c.args.piece c.args.i hop.line m c.requires.piece c.requires.operation c.requires.needs c.requires.stands c.args.first c.in-Some.n (hop.before + 1) c.index-old.result.now c.requires.first next at (add-one hop.before ∙ ap suc (hop_before x c.args.piece c.args.i hop c.requires.hop))),
-                  ),
+                  (λ counted. before_here x facts c.args.piece c.args.i hop.line m c.requires.piece c.requires.operation c.requires.needs c.requires.stands c.args.first c.requires.first),
+                  (λ counted. before_next x facts c.args.piece c.args.i hop.line m c.requires.piece c.requires.operation c.requires.needs c.requires.stands c.args.first c.in-Some.n (hop.before + 1) c.index-old.result.now c.requires.first next at (add-one hop.before ∙ ap suc (hop_before x c.args.piece c.args.i hop c.requires.hop))),
                 ),
               ),
             ),

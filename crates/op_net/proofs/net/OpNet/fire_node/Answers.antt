@@ -76,3 +76,6 @@ returns-in-Act-clause-fired g c = no_act (net_of c.args.self.now) c.args.k _ c.r
 
 pub returns-in-Act-clause-last : goal.returns-in-Act-clause-last
 returns-in-Act-clause-last g c = no_act (net_of c.args.self.now) c.args.k _ c.requires.node (sym c.name.ensures ∙ c.in-Act.is)
+
+pub returns-in-Act-clause-kept : goal.returns-in-Act-clause-kept
+returns-in-Act-clause-kept g c = no_act (net_of c.args.self.now) c.args.k _ c.requires.node (sym c.name.ensures ∙ c.in-Act.is)

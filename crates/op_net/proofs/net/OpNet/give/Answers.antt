@@ -15,6 +15,7 @@ use Rattle.op_net.specs.Waits.{IsNodeAfter}
 use Rattle.op_net.proofs.NodeNames.{IsOperationAt, operation_at_node, operation_within}
 use Rattle.op_net.proofs.NodesAfter.{one_after}
 use Rattle.op_net.proofs.PlacesKept.{given_kept, moved_kept}
+use Rattle.op_net.proofs.CountsKept.{keeps_more}
 use Rattle.op_net.proofs.net.OpNet.give.Goals as goal
 
 pub row-row-requires : goal.row-row-requires
@@ -107,3 +108,6 @@ invariant_of-self g c =
       values_room = c.args.self.now.values_room;
       placed = c.args.self.now.placed;
     }
+
+pub returns-clause-kept : goal.returns-clause-kept
+returns-clause-kept g c = keeps_more c.args.self.now.places c.give.new.self c.move_lines.new.places c.give.ensures.kept c.move_lines.ensures.kept

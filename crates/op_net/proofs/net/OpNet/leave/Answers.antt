@@ -12,6 +12,7 @@ use Rattle.op_net.specs.OperationRows.{IsRow}
 use Rattle.op_net.specs.StandingChanges.{room_filled}
 use Rattle.op_net.proofs.FiringParts.{left_if, left_unless, room_clear}
 use Rattle.op_net.proofs.PlacesKept.{filled_kept}
+use Rattle.op_net.proofs.CountsKept.{keeps_own}
 use Rattle.op_net.proofs.net.OpNet.leave.Goals as goal
 
 pub fill_room-requires : goal.fill_room-requires
@@ -55,3 +56,6 @@ invariant_of-self g c =
       values_room = c.args.self.now.values_room;
       placed = c.args.self.now.placed;
     }
+
+pub returns-else-row-clause-kept : goal.returns-else-row-clause-kept
+returns-else-row-clause-kept g c = keeps_own c.args.self.now.places

@@ -19,6 +19,7 @@ use Rattle.op_net.proofs.ControlMoveLemmas.{operation_leads}
 use Rattle.op_net.proofs.FiringParts.{IsReadyOperation, gave_gives, gave_marking, new_line, ready_operation, same_at_trap, same_line, silent, told_marking, trap_answered, trapped_gives, trapped_marking, wrote, wrote_marking}
 use Rattle.op_net.proofs.NextNets.{IsWorked, is_worked, marking_told, there}
 use Rattle.op_net.proofs.NodeNames.{IsOperationAt, operation_at_node}
+use Rattle.op_net.proofs.CountsKept.{keeps_more}
 use Rattle.op_net.proofs.net.OpNet.operate.Goals as goal
 
 pub work-requires : goal.work-requires
@@ -143,7 +144,7 @@ returns-in-Gave-clause-edge g c =
 
 pub returns-in-Gave-clause-kept : goal.returns-in-Gave-clause-kept
 returns-in-Gave-clause-kept g c =
-    c.give.ensures.kept ∙ c.work.ensures.kept
+    keeps_more c.args.self.now.places c.work.new.self.places c.give.new.self.places c.work.ensures.kept c.give.ensures.kept
 
 pub returns-in-Gave-clause-fired : goal.returns-in-Gave-clause-fired
 returns-in-Gave-clause-fired g c =
@@ -212,7 +213,7 @@ returns-in-Changed-clause-edge g c =
 
 pub returns-in-Changed-clause-kept : goal.returns-in-Changed-clause-kept
 returns-in-Changed-clause-kept g c =
-    c.tell.ensures.kept ∙ c.work.ensures.kept
+    keeps_more c.args.self.now.places c.work.new.self.places c.tell.new.self.places c.work.ensures.kept c.tell.ensures.kept
 
 pub returns-in-Changed-clause-fired : goal.returns-in-Changed-clause-fired
 returns-in-Changed-clause-fired g c =
@@ -282,7 +283,7 @@ returns-in-Wrote-clause-edge g c =
 
 pub returns-in-Wrote-clause-kept : goal.returns-in-Wrote-clause-kept
 returns-in-Wrote-clause-kept g c =
-    c.go.ensures.kept ∙ c.work.ensures.kept
+    keeps_more c.args.self.now.places c.work.new.self.places c.go.new.self.places c.work.ensures.kept c.go.ensures.kept
 
 pub returns-in-Wrote-clause-fired : goal.returns-in-Wrote-clause-fired
 returns-in-Wrote-clause-fired g c =
@@ -354,7 +355,7 @@ returns-in-Told-clause-edge g c =
 
 pub returns-in-Told-clause-kept : goal.returns-in-Told-clause-kept
 returns-in-Told-clause-kept g c =
-    c.tell-in-Told.ensures.kept ∙ c.work.ensures.kept
+    keeps_more c.args.self.now.places c.work.new.self.places c.tell-in-Told.new.self.places c.work.ensures.kept c.tell-in-Told.ensures.kept
 
 pub returns-in-Told-clause-fired : goal.returns-in-Told-clause-fired
 returns-in-Told-clause-fired g c =
@@ -424,7 +425,7 @@ returns-in-Trapped-clause-edge g c =
 
 pub returns-in-Trapped-clause-kept : goal.returns-in-Trapped-clause-kept
 returns-in-Trapped-clause-kept g c =
-    c.stop_or_go.ensures.kept ∙ c.work.ensures.kept
+    keeps_more c.args.self.now.places c.work.new.self.places c.stop_or_go.new.self.places c.work.ensures.kept c.stop_or_go.ensures.kept
 
 pub returns-in-Trapped-clause-fired : goal.returns-in-Trapped-clause-fired
 returns-in-Trapped-clause-fired g c =

@@ -14,6 +14,7 @@ use Rattle.op_net.specs.Waits.{AreSwitchNodes, IsSwitchOf, stands_at}
 use Rattle.op_net.proofs.LedLines.{IsReadySwitch, ready_switch, switch_marking, switch_stands, switch_through}
 use Rattle.op_net.proofs.NodeNames.{IsSwitchAt, switch_at_node}
 use Rattle.op_net.proofs.SwitchNodes.{some_operations, switch_nodes}
+use Rattle.op_net.proofs.CountsKept.{keeps_more, keeps_own}
 use Rattle.op_net.proofs.net.OpNet.switch.Goals as goal
 
 pub switch_number-switch-requires : goal.switch_number-switch-requires
@@ -113,3 +114,9 @@ returns-in_default-clause-edge g c =
     let at : left_for m.tokens c.switch_number-switch.result ≡ None = read_edge c.args.self.now.places.edges.items c.switch_number-switch.result c.index.result.now inside c.index.ensures ∙ none in
     let clash : false ≡ true = sym (ap (λ (o : Option ℕ). is_some o) (ap (left_for m.tokens) (sym is) ∙ at)) ∙ r.left in
     absurd cc
+
+pub returns-in-Some-clause-kept : goal.returns-in-Some-clause-kept
+returns-in-Some-clause-kept g c = keeps_more c.args.self.now.places c.clear.new.self c.lead.new.self.places c.clear.ensures.kept c.lead.ensures.kept
+
+pub returns-in_default-clause-kept : goal.returns-in_default-clause-kept
+returns-in_default-clause-kept g c = keeps_own c.args.self.now.places

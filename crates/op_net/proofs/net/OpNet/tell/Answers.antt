@@ -8,6 +8,7 @@ use Rattle.op_board.specs.OperationTokens.{stands_before}
 use Rattle.op_net.specs.FiringChanges.{gone_on, room_left}
 use Rattle.op_net.specs.NetView.{marking_of, net_of}
 use Rattle.op_net.proofs.NextNets.{marking_told, there}
+use Rattle.op_net.proofs.CountsKept.{keeps_more}
 use Rattle.op_net.proofs.net.OpNet.tell.Goals as goal
 
 pub go-requires : goal.go-requires
@@ -52,7 +53,7 @@ returns-clause-exists g c =
 
 pub returns-clause-kept : goal.returns-clause-kept
 returns-clause-kept g c =
-    c.go.ensures.kept ∙ c.leave.ensures.kept
+    keeps_more c.args.self.now.places c.leave.new.self.places c.go.new.self.places c.leave.ensures.kept c.go.ensures.kept
 
 pub returns-clause-text : goal.returns-clause-text
 returns-clause-text g c =

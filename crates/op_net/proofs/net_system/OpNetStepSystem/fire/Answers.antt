@@ -20,7 +20,9 @@ returns-clause-place g c =
     place_told did.ensures.net did.new.self.control c.args.self.now.control c.steered-self.result c.args.k did.result.1 did.ensures.control c.steered-self.ensures.steered (marking_of c.args.self.now) did.ensures.leads
 
 pub returns-clause-keeps : goal.returns-clause-keeps
-returns-clause-keeps g c = λ keeps. c.fire_node-fired.ensures.kept ∙ keeps
+returns-clause-keeps g c = λ keeps.
+    let kept = c.fire_node-fired.ensures.kept in
+    record { counted = kept.counted ∙ keeps.counted; whole = kept.apart ∙ keeps.whole }
 
 pub invariant_of-self : goal.invariant_of-self
 invariant_of-self g c =

@@ -1,8 +1,9 @@
 use Rattle.std.proofs.Common.{◌≡◌, ◌<◌, ◌==◌, ◌++◌, [], ◌∷◌, length, set, refl, ap, ◌∙◌, arith}
 use Rattle.std.proofs.lemmas.List.FromFn.{length-map-range_with_len}
+use Rattle.firing.specs.ReadySet.{has}
 use Rattle.op_net.specs.BoardView.{operation_net_on}
 use Rattle.op_net.specs.PlacesView.{standing}
-use Rattle.op_net.specs.Waits.{node_total, waits}
+use Rattle.op_net.specs.Waits.{awaits, node_total}
 use Rattle.op_net.proofs.CountedBelow.{all_counted, next_counted, none_counted}
 use Rattle.op_net.proofs.places.Places.count_all.Goals as goal
 
@@ -13,7 +14,8 @@ loop-k-init g c =
     record {
       stands = refl;
       leads = refl;
-      below = none_counted (node_total x) (waits x (standing old)) old.counts.items old.set c.requires.none c.requires.places.marks;
+      apart = refl;
+      below = none_counted (node_total x) (awaits x old.apart.items (standing old)) old.counts.items old.set c.requires.none c.requires.places.marks;
       places = c.requires.places;
     }
 
@@ -21,7 +23,7 @@ pub count_one-requires : goal.count_one-requires
 count_one-requires g c =
     let x = operation_net_on c.args.board.now in
     let kept = c.loop-k.invariant in
-    let long : length c.loop-k.self.counts.items ≡ c.loop-k.k = ap length kept.below.counts ∙ length-map-range_with_len (waits x (standing c.args.self.now)) 0 c.loop-k.k in
+    let long : length c.loop-k.self.counts.items ≡ c.loop-k.k = ap length kept.below.counts ∙ length-map-range_with_len (awaits x c.args.self.now.apart.items (standing c.args.self.now)) 0 c.loop-k.k in
     (omega arith, (omega (arith, c.nodes-k-end.ensures, c.loop-k-test.true), (kept.places, long)))
 
 pub loop-k-preserved : goal.loop-k-preserved
@@ -35,9 +37,10 @@ loop-k-preserved g c =
     record {
       stands = c.count_one.ensures.standing ∙ kept.stands;
       leads = c.count_one.ensures.leads ∙ kept.leads;
-      below = next_counted (node_total x) k (waits x (standing c.args.self.now)) old.counts.items new.counts.items old.set new.set kept.below node
-          (c.count_one.ensures.counts ∙ ap (λ m. old.counts.items ++ waits x m k ∷ []) kept.stands)
-          (c.count_one.ensures.set ∙ ap (λ m. set old.set k (waits x m k == 0)) kept.stands);
+      apart = c.count_one.ensures.apart ∙ kept.apart;
+      below = next_counted (node_total x) k (awaits x c.args.self.now.apart.items (standing c.args.self.now)) old.counts.items new.counts.items old.set new.set kept.below node
+          (c.count_one.ensures.counts ∙ ap (λ m. old.counts.items ++ awaits x old.apart.items m k ∷ []) kept.stands ∙ ap (λ led. old.counts.items ++ awaits x led (standing c.args.self.now) k ∷ []) kept.apart)
+          (c.count_one.ensures.set ∙ ap (λ m. set old.set k (awaits x old.apart.items m k == 0)) kept.stands ∙ ap (λ led. set old.set k (awaits x led (standing c.args.self.now) k == 0)) kept.apart);
       places = c.count_one.ensures.places;
     }
 
@@ -48,10 +51,13 @@ pub returns-clause-counts : goal.returns-clause-counts
 returns-clause-counts g c =
     let x = operation_net_on c.args.board.now in
     let last : c.loop-k.k ≡ node_total x = omega (arith, c.nodes-k-end.ensures, c.loop-k-test.false, c.loop-k.auto.k-end) in
-    all_counted (node_total x) c.loop-k.k (waits x (standing c.args.self.now)) c.loop-k.self.counts.items c.loop-k.self.set last c.loop-k.invariant.below
+    all_counted (node_total x) c.loop-k.k (awaits x c.args.self.now.apart.items (standing c.args.self.now)) (has c.args.self.now.apart.items) c.loop-k.self.counts.items c.loop-k.self.set last c.loop-k.invariant.below
 
 pub returns-clause-places : goal.returns-clause-places
 returns-clause-places g c = c.loop-k.invariant.places
+
+pub returns-clause-apart : goal.returns-clause-apart
+returns-clause-apart g c = c.loop-k.invariant.apart
 
 pub returns-clause-leads : goal.returns-clause-leads
 returns-clause-leads g c = c.loop-k.invariant.leads

@@ -3,12 +3,16 @@ use Rattle.op_board.specs.OperationTokens.{OperationTokens}
 use Rattle.op_net.specs.BoardView.{operation_net_on}
 use Rattle.op_net.specs.PlacesView.{line_put, standing}
 use Rattle.op_net.specs.Waits.{node_total, one_if, waits}
-use Rattle.op_net.proofs.CountedPlaces.{counted_after, counted_few, counted_marks, less_marks, less_some}
+use Rattle.op_net.proofs.CountedPlaces.{counted_after, counted_apart, counted_few, counted_marks, less_marks, less_some}
+use Rattle.op_net.proofs.CountsKept.{keeps_more}
 use Rattle.op_net.proofs.WaitChanges.{line_waits}
 use Rattle.op_net.proofs.places.Places.put_line.Goals as goal
 
 pub wait_more-requires-clause-few : goal.wait_more-requires-clause-few
-wait_more-requires-clause-few g c = counted_few (operation_net_on c.args.board.now) c.args.self.now c.requires.counted c.args.from c.waits_are_few.ensures c.requires.node
+wait_more-requires-clause-few g c = counted_few (operation_net_on c.args.board.now) c.args.self.now c.requires.counted c.args.from c.waits_are_few.ensures
+
+pub wait_more-requires-clause-apart : goal.wait_more-requires-clause-apart
+wait_more-requires-clause-apart g c = counted_apart (operation_net_on c.args.board.now) c.args.self.now c.requires.counted c.args.from
 
 pub wait_more-requires-clause-marks : goal.wait_more-requires-clause-marks
 wait_more-requires-clause-marks g c = counted_marks (operation_net_on c.args.board.now) c.args.self.now c.requires.counted c.requires.marks
@@ -20,7 +24,7 @@ wait_less-requires-clause-some g c =
     let new : OperationTokens = line_put (standing old) c.args.line c.args.edge c.args.passed in
     let change : old.counted ≡ true → (j : ℕ) → j < node_total x → waits x new j + one_if (j == c.args.to) ≡ waits x (standing old) j + one_if (j == c.args.from) =
     λ counted. line_waits x (standing old) c.args.line c.args.edge c.args.passed c.requires.exists c.requires.line c.requires.passed c.args.from c.args.to (c.requires.from counted) (c.requires.to counted) in
-    less_some x old c.requires.counted c.wait_more.new.self new c.args.from c.args.to change c.wait_more.ensures.kept.counted c.wait_more.ensures.none c.wait_more.ensures.counts
+    less_some x old c.requires.counted c.wait_more.new.self new c.args.from c.args.to change c.wait_more.ensures.kept.counted c.wait_more.ensures.kept.apart c.wait_more.ensures.none c.wait_more.ensures.counts
 
 pub wait_less-requires-clause-marks : goal.wait_less-requires-clause-marks
 wait_less-requires-clause-marks g c =
@@ -29,7 +33,7 @@ wait_less-requires-clause-marks g c =
     let new : OperationTokens = line_put (standing old) c.args.line c.args.edge c.args.passed in
     let change : old.counted ≡ true → (j : ℕ) → j < node_total x → waits x new j + one_if (j == c.args.to) ≡ waits x (standing old) j + one_if (j == c.args.from) =
     λ counted. line_waits x (standing old) c.args.line c.args.edge c.args.passed c.requires.exists c.requires.line c.requires.passed c.args.from c.args.to (c.requires.from counted) (c.requires.to counted) in
-    less_marks x old c.requires.counted c.wait_more.new.self new c.args.from c.args.to change c.wait_more.ensures.kept.counted c.wait_more.ensures.none c.wait_more.ensures.counts
+    less_marks x old c.requires.counted c.wait_more.new.self new c.args.from c.args.to change c.wait_more.ensures.kept.counted c.wait_more.ensures.kept.apart c.wait_more.ensures.none c.wait_more.ensures.counts
 
 pub returns-clause-counted : goal.returns-clause-counted
 returns-clause-counted g c =
@@ -38,5 +42,10 @@ returns-clause-counted g c =
     let new : OperationTokens = line_put (standing old) c.args.line c.args.edge c.args.passed in
     let change : old.counted ≡ true → (j : ℕ) → j < node_total x → waits x new j + one_if (j == c.args.to) ≡ waits x (standing old) j + one_if (j == c.args.from) =
     λ counted. line_waits x (standing old) c.args.line c.args.edge c.args.passed c.requires.exists c.requires.line c.requires.passed c.args.from c.args.to (c.requires.from counted) (c.requires.to counted) in
-    counted_after x old c.requires.counted c.wait_more.new.self new c.args.from c.args.to change c.wait_more.ensures.kept.counted c.wait_more.ensures.none c.wait_more.ensures.counts
-    c.wait_less.new.self c.wait_less.ensures.kept.counted (c.wait_less.ensures.standing ∙ c.wait_more.ensures.standing) c.wait_less.ensures.none c.wait_less.ensures.counts (c.wait_less.ensures.leads ∙ c.wait_more.ensures.leads)
+    counted_after x old c.requires.counted c.wait_more.new.self new c.args.from c.args.to change c.wait_more.ensures.kept.counted c.wait_more.ensures.kept.apart c.wait_more.ensures.none c.wait_more.ensures.counts
+    c.wait_less.new.self c.wait_less.ensures.kept.counted c.wait_less.ensures.kept.apart (c.wait_less.ensures.standing ∙ c.wait_more.ensures.standing) c.wait_less.ensures.none c.wait_less.ensures.counts (c.wait_less.ensures.leads ∙ c.wait_more.ensures.leads)
+
+pub returns-clause-kept : goal.returns-clause-kept
+returns-clause-kept g c =
+    let more = c.wait_more.ensures.kept in
+    keeps_more c.args.self.now c.wait_more.new.self c.wait_less.new.self (record { counted = more.counted; marks = more.marks; room = more.room; apart = more.apart; flags = more.flags }) c.wait_less.ensures.kept

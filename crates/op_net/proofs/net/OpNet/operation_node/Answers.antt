@@ -1,0 +1,23 @@
+use Rattle.std.proofs.Common.{◌≡◌, ◌<◌, ◌+◌, ℕ, sym, ap, subst, ◌∙◌, arith}
+use Rattle.op_board.specs.OperationNets.{operation_node}
+use Rattle.op_net.specs.NetView.{net_of}
+use Rattle.op_net.specs.Waits.{node_total}
+use Rattle.op_net.proofs.NodeNames.{operation_name_at, operation_within}
+use Rattle.op_net.proofs.net.OpNet.operation_node.Goals as goal
+
+pub overflow_add-result : goal.overflow_add-result
+overflow_add-result g c =
+    let x = net_of c.args.self.now in
+    let low = operation_within x c.args.piece c.args.i c.requires.piece c.requires.operation in
+    let few = c.args.self.now.board.own_tables.few in
+    omega (arith, low, few, c.first.ensures)
+
+pub returns-clause-name : goal.returns-clause-name
+returns-clause-name g c =
+    let x = net_of c.args.self.now in
+    ap (λ (n : ℕ). operation_node x (n + c.args.i)) c.first.ensures ∙ operation_name_at x c.args.piece c.args.i c.requires.piece c.requires.operation
+
+pub returns-clause-exists : goal.returns-clause-exists
+returns-clause-exists g c =
+    let x = net_of c.args.self.now in
+    subst (λ (n : ℕ). n + c.args.i < node_total x) (sym c.first.ensures) (operation_within x c.args.piece c.args.i c.requires.piece c.requires.operation)
