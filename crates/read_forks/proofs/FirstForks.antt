@@ -1,5 +1,5 @@
 -- The marking and the control before any firing, as code has them.
-use Rattle.std.proofs.Common.{◌≡◌, ℕ, Bool, true, false, Option, Some, refl, sym, ap, ◌∙◌, subst}
+use Rattle.std.proofs.Common.{◌≡◌, ℕ, true, false, Option, Some, sym, ap, ◌∙◌, subst}
 use mathlib.Core.Path.{fun_ext}
 use Rattle.firing.specs.Control.{IsInStep, KeepsStep}
 use Rattle.firing.specs.SourceOrder.{IsSourceOrder}

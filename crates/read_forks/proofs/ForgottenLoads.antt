@@ -1,7 +1,6 @@
 -- Marks of a group that are taken away, load by load.
-use Rattle.std.proofs.Common.{◌≡◌, ◌⊎◌, inl, inr, ⊎_elim, ℕ, ◌==◌, ◌&&◌, ◌||◌, Bool, true, false, List, [], ◌∷◌, refl, sym, ap, ◌∙◌, subst, eqb-true}
-use Rattle.std.proofs.lemmas.Bool.{and_from, and_parts, eq-eqb}
-use Rattle.net_board.proofs.ListPlaces.{same_or_not}
+use Rattle.std.proofs.Common.{◌≡◌, ℕ, ◌==◌, ◌||◌, Bool, true, false, List, [], ◌∷◌, refl, sym, ap, ◌∙◌, subst, eqb-true}
+use Rattle.std.proofs.lemmas.Bool.{and_parts}
 use Rattle.fork_board.specs.LoadGroups.{Site, is_among, is_site}
 use Rattle.fork_board.proofs.ForkFirings.{both_ways}
 use Rattle.read_forks.specs.LoadChanges.{IsAmidForgetting, IsForgotten, IsPut, Loaded}

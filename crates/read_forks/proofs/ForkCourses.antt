@@ -1,5 +1,5 @@
 -- The own order of the game with groups of loads is that of a net of operations.
-use Rattle.std.proofs.Common.{◌≡◌, ℕ, Option, Some, None, refl, ap, ◌∙◌, sym, subst}
+use Rattle.std.proofs.Common.{◌≡◌, ℕ, Option, Some, None, refl, ap, ◌∙◌, subst}
 use Rattle.firing.specs.Control.{due_at, steered}
 use Rattle.net_board.specs.declared.control.Control.{Control}
 use Rattle.op_board.specs.OperationCourse.{operation_course}

@@ -1,11 +1,11 @@
 -- A load on its lines: one after another, and all at once.
-use Rattle.std.proofs.Common.{◌≡◌, ◌<◌, ◌⊎◌, inl, inr, ⊎_elim, ℕ, zero, suc, ◌==◌, ◌||◌, Bool, true, false, if◌then◌else◌, List, [], ◌∷◌, length, Option, Some, None, slice_get, slice_index, slice_set, refl, sym, ap, ◌∙◌, subst, eqb-true, arith}
+use Rattle.std.proofs.Common.{◌≡◌, ◌<◌, inl, inr, ⊎_elim, ℕ, zero, suc, ◌==◌, ◌||◌, Bool, true, false, if◌then◌else◌, List, [], ◌∷◌, length, Option, slice_get, slice_index, slice_set, refl, sym, ap, ◌∙◌, subst, arith}
 use Rattle.std.specs.List.{list_any}
-use Rattle.std.proofs.lemmas.Bool.{cases_eq, cases_Bool, eq-eqb, ne_eqb}
+use Rattle.std.proofs.lemmas.Bool.{cases_eq, eq-eqb, ne_eqb}
 use mathlib.Core.Path.{fun_ext}
 use Rattle.list_laws.specs.Member.{Member}
 use Rattle.net_board.specs.Tokens.{edge_of, joined, with_all}
-use Rattle.net_board.proofs.ListPlaces.{get_set_other, index_of, length_slice_set}
+use Rattle.net_board.proofs.ListPlaces.{get_set_other, index_of}
 use Rattle.net_board.proofs.NodeLaws.{Distinct}
 use Rattle.op_board.specs.OperationNets.{OperationNet}
 use Rattle.op_board.specs.OperationTokens.{passed_by, replaced}

@@ -1,12 +1,11 @@
 -- The firing of a load: its value first, and then its lines.
-use Rattle.std.proofs.Common.{◌≡◌, ◌<◌, ⊎_elim, ℕ, ℤ, ◌==◌, Bool, true, false, if◌then◌else◌, List, length, Option, Some, None, refl, sym, ap, ◌∙◌, subst, eqb-true}
+use Rattle.std.proofs.Common.{◌≡◌, ⊎_elim, ℕ, ◌==◌, Bool, true, false, if◌then◌else◌, List, Option, Some, refl, sym, ap, ◌∙◌, subst, eqb-true}
 use Rattle.std.proofs.lemmas.Bool.{cases_Bool, eq-eqb}
 use mathlib.Core.Path.{fun_ext}
 use Rattle.list_laws.specs.Member.{Member}
 use Rattle.list_laws.proofs.Members.{IsPassed, list_any_member, member_of_list_any}
 use Rattle.cfg_build.specs.Passes.{out}
 use Rattle.net_board.specs.Nodes.{all_lines, graph_in, switches}
-use Rattle.net_board.specs.ProgramFacts.{ProgramFacts}
 use Rattle.net_board.specs.Tokens.{with_all}
 use Rattle.net_board.proofs.NodeLaws.{Distinct, distinct_filter, distinct_range}
 use Rattle.firing.specs.declared.system.NodeName.TheVariants.{Op}

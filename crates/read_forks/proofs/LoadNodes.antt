@@ -1,6 +1,6 @@
 -- What code sees of the firings of nodes: of a load, and of another one.
-use Rattle.std.proofs.Common.{◌≡◌, ◌<◌, ℕ, true, false, List, [], ◌∷◌, Option, None, length, map, refl, sym, ap, ◌∙◌}
-use Rattle.firing.specs.Moves.{FiredIs, IsSilent}
+use Rattle.std.proofs.Common.{◌≡◌, ◌<◌, ℕ, true, false, List, [], ◌∷◌, None, length, map, refl, sym, ap, ◌∙◌}
+use Rattle.firing.specs.Moves.{FiredIs}
 use Rattle.firing.specs.declared.system.Fired.{Fired}
 use Rattle.firing.specs.declared.system.Fired.TheVariants.{Line, Moved, Trapped}
 use Rattle.firing.specs.declared.system.NodeName.TheVariants.{Op}

@@ -1,11 +1,10 @@
 -- Walks along the loads of a group, load by load.
-use Rattle.std.proofs.Common.{◌≡◌, ◌<◌, ◌⊎◌, inl, inr, ⊎_elim, ℕ, zero, suc, ◌-◌, ◌==◌, ◌&&◌, ◌||◌, Bool, true, false, if◌then◌else◌, List, [], ◌∷◌, length, filter, Option, Some, None, slice_get, refl, sym, ap, ◌∙◌, subst, eqb-true, add-one, arith}
-use Rattle.std.specs.List.{list_all, list_any, range_with_len}
-use Rattle.std.proofs.lemmas.Bool.{and_parts}
+use Rattle.std.proofs.Common.{◌≡◌, ◌<◌, ℕ, zero, suc, ◌-◌, ◌&&◌, Bool, true, false, List, [], ◌∷◌, length, filter, Option, Some, None, slice_get, refl, sym, ap, ◌∙◌, subst, arith}
+use Rattle.std.specs.List.{list_all, range_with_len}
 use Rattle.closed_walks.specs.Graph.{to}
 use Rattle.net_board.specs.Nodes.{graph_in}
 use Rattle.op_board.specs.OperationNets.{OperationNet, operation_at, operation_count}
-use Rattle.fork_board.specs.LoadGroups.{Site, Spot, followed_by, here_or, is_among, is_load, is_site, load_at, load_in, loads_within, number_at, piece_at, site, spot_after, spot_behind}
+use Rattle.fork_board.specs.LoadGroups.{Site, Spot, followed_by, here_or, is_among, is_load, load_at, load_in, loads_within, number_at, piece_at, spot_after, spot_behind}
 use Rattle.fork_board.proofs.LoadSpots.{IsLoadIn, IsNumberAt, load_is, number_is}
 
 within : {A : Type 0} (xs : List A) (k : ℕ) (a : A) → slice_get xs k ≡ Some a → k < length xs
@@ -23,9 +22,6 @@ module _ (x : OperationNet) (line : ℕ) where
   pub found : (s : Spot) (piece : ℕ) (number : Option ℕ) → piece ≡ to (graph_in x.net) s.edge → number ≡ slice_get (needing x piece line) s.passed → load_at x line s ≡ load_in x piece number
   found s piece number here is =
       ap (λ (p : ℕ). load_in x p (slice_get (needing x p line) s.passed)) (sym here) ∙ ap (load_in x piece) (sym is)
-
-  pub found_load : (s : Spot) (piece i : ℕ) (b : Bool) → piece ≡ to (graph_in x.net) s.edge → Some i ≡ slice_get (needing x piece line) s.passed → b ≡ is_load (operation_at x piece i).work → load_at x line s ≡ (if b then Some (site piece i) else None)
-  found_load s piece i b here is loads = found s piece (Some i) here is ∙ ap (λ c. if c then Some (site piece i) else None) (sym loads)
 
   pub found_none : (s : Spot) (piece : ℕ) → piece ≡ to (graph_in x.net) s.edge → None ≡ slice_get (needing x piece line) s.passed → load_at x line s ≡ None
   found_none s piece here is = found s piece None here is
@@ -68,14 +64,6 @@ module _ (x : OperationNet) (line : ℕ) where
       ∙ ap (λ n. spot_behind n x line (spot_after x line s)) (let e : left ≡ suc left - 1 = omega arith in e)
 
   -- ---- a load that is looked for
-
-  pub not_here : (left : ℕ) (s : Spot) (load : Site) (piece i : ℕ) → 0 < left → load_at x line s ≡ Some load → is_site piece i load ≡ false → is_among (loads_within left x line s) piece i ≡ is_among (loads_within (left - 1) x line (spot_after x line s)) piece i
-  not_here left s load piece i some is other =
-      ap (λ loads. is_among loads piece i) (one_more left s load some is) ∙ ap (λ b. b || is_among (loads_within (left - 1) x line (spot_after x line s)) piece i) other
-
-  pub is_here : (left : ℕ) (s : Spot) (load : Site) (piece i : ℕ) → 0 < left → load_at x line s ≡ Some load → is_site piece i load ≡ true → is_among (loads_within left x line s) piece i ≡ true
-  is_here left s load piece i some is own =
-      ap (λ loads. is_among loads piece i) (one_more left s load some is) ∙ ap (λ b. b || is_among (loads_within (left - 1) x line (spot_after x line s)) piece i) own
 
   pub nowhere : (left : ℕ) (s : Spot) (piece i : ℕ) → load_at x line s ≡ None → is_among (loads_within left x line s) piece i ≡ false
   nowhere left s piece i none = ap (λ loads. is_among loads piece i) (no_more left s none)

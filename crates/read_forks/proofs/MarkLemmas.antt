@@ -1,32 +1,29 @@
 -- Marks of loads: those that are made, and one that is put.
-use Rattle.std.specs.declared.alloc.Global.{Global}
-use Rattle.std.proofs.Common.{Vec, ◌≡◌, ◌<◌, ◌≤◌, ◌⊎◌, inl, inr, ⊎_elim, ℕ, zero, suc, ◌+◌, ◌==◌, ◌&&◌, ◌||◌, Bool, true, false, if◌then◌else◌, List, [], ◌∷◌, ◌++◌, length, map, filter, take, drop, get_or, Option, Some, None, slice_get, slice_set, refl, sym, ap, ◌∙◌, subst, eqb-true, add-one, arith}
-use Rattle.std.specs.List.{list_any, range_with_len}
-use Rattle.std.specs.Option.{option_map}
-use Rattle.std.proofs.lemmas.Bool.{and_parts, cases_Bool, cases_eq, eq-eqb, ne_eqb}
-use Rattle.std.proofs.lemmas.Option.{slice_get-map}
+use Rattle.std.proofs.Common.{◌≡◌, ◌<◌, ◌⊎◌, inl, inr, ⊎_elim, ℕ, zero, suc, ◌+◌, ◌==◌, ◌&&◌, ◌||◌, Bool, true, false, if◌then◌else◌, List, [], ◌∷◌, ◌++◌, length, map, take, drop, get_or, Option, Some, None, slice_get, slice_set, refl, sym, ap, ◌∙◌, subst, eqb-true, add-one, arith}
+use Rattle.std.specs.List.{list_any}
+use Rattle.std.proofs.lemmas.Bool.{eq-eqb, ne_eqb}
 use Rattle.list_laws.specs.Member.{Member}
 use Rattle.list_laws.proofs.Members.{IsImage, Member-mapped, list_any_member}
-use Rattle.net_board.specs.Nodes.{all_lines, graph_in}
-use Rattle.net_board.proofs.ListPlaces.{get_set_other, get_set_same, put, same_list, same_or_not}
+use Rattle.net_board.specs.Nodes.{graph_in}
+use Rattle.net_board.proofs.ListPlaces.{get_set_other, get_set_same, put, same_or_not}
 use Rattle.op_board.specs.OperationNets.{OperationNet, needed, operation_at, operation_count}
 use Rattle.fork_board.specs.LoadGroups.{is_load}
 use Rattle.read_forks.specs.LoadChanges.{IsPut}
-use Rattle.read_forks.specs.LoadMarks.{AreMarksOf, AreNewRows, AreSomeRows, HasSameLines, IsClearRow, IsNewRow, IsRowOf, Row, Rows, is_of, line_of, loaded_in, mark_put, row_at, row_in, rows_in, tells}
+use Rattle.read_forks.specs.LoadMarks.{AreMarksOf, AreNewRows, AreSomeRows, HasSameLines, IsNewRow, IsRowOf, Row, Rows, is_of, line_of, loaded_in, mark_put, row_at, row_in, rows_in, tells}
 use Rattle.read_forks.specs.declared.marks.Mark.{Mark}
 
 -- ---- lists that grow at their ends
 
 module _ {X : Type 0} where
   -- what stands in a list with one item more at its end
-  get_last : (xs : List X) (x y : X) (k : ℕ) → slice_get (xs ++ x ∷ []) k ≡ Some y → (slice_get xs k ≡ Some y) ⊎ ((k ≡ length xs) × (x ≡ y))
+  pub get_last : (xs : List X) (x y : X) (k : ℕ) → slice_get (xs ++ x ∷ []) k ≡ Some y → (slice_get xs k ≡ Some y) ⊎ ((k ≡ length xs) × (x ≡ y))
   get_last [] x y zero is = let same : x ≡ y = cc in inr (refl, same)
   get_last [] x y (suc k) is = absurd cc
   get_last (z ∷ zs) x y zero is = inl is
   get_last (z ∷ zs) x y (suc k) is = ⊎_elim (λ l. inl l) (λ (r : (k ≡ length zs) × (x ≡ y)). inr (ap suc r.0, r.1)) (get_last zs x y k is)
 
   -- what stands at a place inside
-  get_some : (xs : List X) (k : ℕ) → k < length xs → (x : X) × (slice_get xs k ≡ Some x)
+  pub get_some : (xs : List X) (k : ℕ) → k < length xs → (x : X) × (slice_get xs k ≡ Some x)
   get_some [] k below = absurd (omega (arith, below))
   get_some (x ∷ xs) zero below = (x, refl)
   get_some (x ∷ xs) (suc k) below = get_some xs k (omega (arith, below))
@@ -188,7 +185,7 @@ still_marks x old new same are piece i exists inside loads = same piece i ∙ ar
 
 -- ---- as code puts them
 
-found_is : {X : Type 0} (xs : List X) (k : ℕ) (a d : X) → slice_get xs k ≡ Some a → get_or xs k d ≡ a
+pub found_is : {X : Type 0} (xs : List X) (k : ℕ) (a d : X) → slice_get xs k ≡ Some a → get_or xs k d ≡ a
 found_is [] k a d is = absurd cc
 found_is (x ∷ xs) zero a d is = let e : x ≡ a = cc in e
 found_is (x ∷ xs) (suc k) a d is = found_is xs k a d is

@@ -2,7 +2,6 @@
 use Rattle.std.proofs.Common.{◌≡◌, ◌<◌, ◌⊎◌, inl, inr, ⊎_elim, ℕ, ◌==◌, ◌&&◌, ◌||◌, Bool, true, false, not, if◌then◌else◌, is_some, length, Option, Some, None, refl, sym, ap, ◌∙◌, subst, eqb-true, arith}
 use Rattle.std.proofs.lemmas.Bool.{and_parts, cases_Bool}
 use Rattle.std.specs.List.{list_all}
-use Rattle.list_laws.specs.Member.{Member}
 use Rattle.closed_walks.specs.Graph.{to}
 use Rattle.firing.specs.Footprints.{IsReadyAt}
 use Rattle.firing.specs.declared.system.NodeName.{NodeName}
@@ -13,20 +12,20 @@ use Rattle.net_board.specs.ProgramFacts.{ProgramFacts}
 use Rattle.net_board.specs.Tokens.{edge_of, is_before, joined, leads_to, left_for}
 use Rattle.net_board.specs.WokenNodes.{switch_number}
 use Rattle.net_board.proofs.ListPlaces.{all_pass, index_of, same_or_not}
-use Rattle.op_board.specs.OperationFootprints.{OperationPart, Passed, Token, foot_as}
+use Rattle.op_board.specs.OperationFootprints.{Passed, Token, foot_as}
 use Rattle.op_board.specs.OperationNets.{OperationNet, all_operation_nodes, needed, needing_before, operation_at, operation_count, operation_node}
-use Rattle.op_board.specs.OperationTokens.{OperationTokens, can_operate, fired_as, has_room, is_given, operation_moves, passed_by, ready_as, stands_before, value_at}
+use Rattle.op_board.specs.OperationTokens.{has_room, is_given, operation_moves, passed_by, ready_as, stands_before, value_at}
 use Rattle.op_board.specs.SoundOperationNets.{IsOperationNet, OperationsCanCome}
 use Rattle.op_board.proofs.OperationFirings.{FiringFacts}
 use Rattle.op_board.proofs.OperationNumbers.{IsOperationNamed, not_touched, operation_named, switch_line}
 use Rattle.op_board.proofs.PieceNodes.{no_operations}
 use Rattle.fork_board.specs.ForkTokens.{ForkTokens, Standing, gone_on, is_load_node, is_open, is_whole, read_by, standing, standing_at, unforked, with_load}
-use Rattle.fork_board.specs.LoadGroups.{behind_group, group_at, is_among, is_load, most_loads, number_at, spot}
+use Rattle.fork_board.specs.LoadGroups.{behind_group, is_load, most_loads, number_at, spot}
 use Rattle.fork_board.proofs.ForkFirings.{both_ways, feet}
 use Rattle.fork_board.proofs.ForkLines.{IsOpen, opened}
 use Rattle.fork_board.proofs.ForksApart.{needed_line}
 use Rattle.fork_board.proofs.LoadSpots.{HasLoad, IsNumberAt, has_load, number_is, number_there}
-use Rattle.read_forks.specs.LoadSteps.{line_read, stood}
+use Rattle.read_forks.specs.LoadSteps.{line_read}
 use Rattle.read_forks.specs.LoadedGroups.{AreNear, LineIsNear, is_near, is_near_on}
 use Rattle.read_forks.proofs.LinesRead.{other_stands, own_stands}
 

@@ -1,10 +1,8 @@
 -- Marks of a load that are made, line by line.
-use Rattle.std.proofs.Common.{◌≡◌, ℕ, ◌+◌, ◌==◌, ◌&&◌, ◌||◌, Bool, true, false, if◌then◌else◌, List, [], ◌∷◌, ◌++◌, map, filter, refl, sym, ap, ◌∙◌, subst, append-nil}
-use Rattle.std.specs.List.{list_any, range_with_len}
-use Rattle.std.proofs.lemmas.List.Elements.{filter-append}
-use Rattle.list_laws.proofs.Ranges.{range_more}
-use Rattle.op_board.specs.OperationNets.{OperationNet}
-use Rattle.read_forks.specs.LoadMarks.{AreSomeRows, IsClearRow, Row, Rows, line_of, tells}
+use Rattle.std.proofs.Common.{◌≡◌, ◌≤◌, ℕ, zero, suc, ◌+◌, ◌==◌, ◌&&◌, ◌||◌, Bool, true, false, List, [], ◌∷◌, ◌++◌, length, map, take, Some, None, slice_get, refl, sym, ap, ◌∙◌, subst, add-one, arith}
+use Rattle.std.specs.List.{list_any}
+use Rattle.op_board.specs.OperationNets.{OperationNet, needed}
+use Rattle.read_forks.specs.LoadMarks.{AreSomeRows, IsClearRow, IsNewRow, Row, Rows, line_of, tells}
 use Rattle.read_forks.specs.declared.marks.Mark.{Mark}
 use Rattle.read_forks.proofs.MarkLemmas.{AreSomePieces}
 
@@ -16,25 +14,27 @@ no_pieces x marks none = subst (λ (m : List Rows). AreSomePieces x 0 m) (sym no
 pub no_rows : (x : OperationNet) (piece : ℕ) (rows : List Row) → rows ≡ [] → AreSomeRows x piece 0 rows
 no_rows x piece rows none = subst (λ (r : List Row). AreSomeRows x piece 0 r) (sym none) (record { all = refl; each = λ i row is. absurd cc })
 
--- ---- the marks of the needed lines below one
+-- ---- the marks of so many of the needed lines
 
-pub record AreLinesBelow (needs : ℕ → Bool) (line : ℕ) (row : List Mark) : Type 0 where
-  pub lines : map line_of row ≡ filter needs (range_with_len 0 line)
+pub record AreMarksFor (lines : List ℕ) (count : ℕ) (row : List Mark) : Type 0 where
+  pub of_lines : map line_of row ≡ take count lines
   pub clear : IsClearRow row
 
-pub none_below : (needs : ℕ → Bool) (row : List Mark) → row ≡ [] → AreLinesBelow needs 0 row
-none_below needs row none = subst (λ (r : List Mark). AreLinesBelow needs 0 r) (sym none) (record { lines = refl; clear = λ line. refl })
+pub none_for : (lines : List ℕ) (row : List Mark) → row ≡ [] → AreMarksFor lines 0 row
+none_for lines row none = subst (λ (r : List Mark). AreMarksFor lines 0 r) (sym none) (record { of_lines = refl; clear = λ line. refl })
 
-module _ (needs : ℕ → Bool) (line : ℕ) (row : List Mark) where
-  below_more : filter needs (range_with_len 0 (line + 1)) ≡ filter needs (range_with_len 0 line) ++ filter needs (line ∷ [])
-  below_more = ap (filter needs) (range_more line) ∙ filter-append needs (range_with_len 0 line) (line ∷ [])
+take_more : (lines : List ℕ) (count line : ℕ) → slice_get lines count ≡ Some line → take (suc count) lines ≡ take count lines ++ line ∷ []
+take_more [] count line at = let e : None ≡ Some line = at in absurd cc
+take_more (l ∷ lines) zero line at = let e : l ≡ line = cc in ap (λ (k : ℕ). k ∷ []) e
+take_more (l ∷ lines) (suc count) line at = ap (λ more. l ∷ more) (take_more lines count line at)
 
-  pub line_passed : needs line ≡ false → AreLinesBelow needs line row → AreLinesBelow needs (line + 1) row
-  line_passed other are = record {
-    lines = are.lines ∙ sym (below_more ∙ ap (λ b. filter needs (range_with_len 0 line) ++ (if b then line ∷ [] else [])) other ∙ append-nil (filter needs (range_with_len 0 line)));
-    clear = are.clear;
-  }
+take_all : (lines : List ℕ) (count : ℕ) → length lines ≤ count → take count lines ≡ lines
+take_all [] zero all = refl
+take_all [] (suc count) all = refl
+take_all (l ∷ lines) zero all = absurd (omega (arith, all))
+take_all (l ∷ lines) (suc count) all = ap (λ more. l ∷ more) (take_all lines count (omega (arith, all)))
 
+module _ (line : ℕ) where
   abbrev mark : Mark
   mark = record { line = line; loaded = false }
 
@@ -54,8 +54,11 @@ module _ (needs : ℕ → Bool) (line : ℕ) (row : List Mark) where
       by more true told = absurd cc
       by more false rest = more rest
 
-  pub line_marked : needs line ≡ true → AreLinesBelow needs line row → (new : List Mark) → new ≡ row ++ mark ∷ [] → AreLinesBelow needs (line + 1) new
-  line_marked own are new is = subst (λ (r : List Mark). AreLinesBelow needs (line + 1) r) (sym is) (record {
-    lines = map_more row ∙ ap (λ l. l ++ line ∷ []) are.lines ∙ sym (below_more ∙ ap (λ b. filter needs (range_with_len 0 line) ++ (if b then line ∷ [] else [])) own);
+  pub one_marked : (lines : List ℕ) (count : ℕ) (row new : List Mark) → AreMarksFor lines count row → slice_get lines count ≡ Some line → new ≡ row ++ mark ∷ [] → AreMarksFor lines (count + 1) new
+  one_marked lines count row new are at is = subst (λ (r : List Mark). AreMarksFor lines (count + 1) r) (sym is) (record {
+    of_lines = map_more row ∙ ap (λ l. l ++ line ∷ []) are.of_lines ∙ sym (take_more lines count line at) ∙ ap (λ n. take n lines) (sym (add-one count));
     clear = λ l. clear_more row l (are.clear l);
   })
+
+pub all_marked : (x : OperationNet) (piece i count : ℕ) (row : List Mark) → length (needed x piece i) ≤ count → AreMarksFor (needed x piece i) count row → IsNewRow x piece i row
+all_marked x piece i count row all are = (λ loads. are.of_lines ∙ take_all (needed x piece i) count all, are.clear)

@@ -2,7 +2,6 @@
 use Rattle.std.proofs.Common.{◌≡◌, ◌<◌, inl, inr, ℕ, zero, suc, ◌&&◌, Bool, true, false, not, List, [], ◌∷◌, All, Option, Some, None, get_or, is_some, length, map, refl, sym, ap, ◌∙◌, subst, arith}
 use Rattle.std.specs.List.{list_all}
 use Rattle.list_laws.specs.Member.{Member}
-use Rattle.firing.specs.declared.system.NodeName.{NodeName}
 use Rattle.firing.specs.declared.system.NodeName.TheVariants.{Op}
 use Rattle.net_board.specs.Nodes.{graph_in}
 use Rattle.op_board.specs.OperationNets.{OperationNet, all_operation_nodes, needed, operation_at, operation_count, operation_node}

@@ -3,7 +3,6 @@ use Rattle.std.proofs.Common.{◌≡◌, ◌<◌, ⊎_elim, inl, inr, ℕ, true,
 use Rattle.std.proofs.lemmas.Bool.{cases_Bool}
 use Rattle.list_laws.specs.Member.{Member}
 use Rattle.firing.specs.Moves.{CanFire}
-use Rattle.firing.specs.declared.system.NodeName.{NodeName}
 use Rattle.firing.specs.declared.system.NodeName.TheVariants.{Op}
 use Rattle.net_board.proofs.ListPlaces.{all_pass, length_slice_set}
 use Rattle.net_board.proofs.NodeLaws.{Distinct}
@@ -11,7 +10,7 @@ use Rattle.op_board.specs.OperationNets.{OperationNet, all_operation_nodes, need
 use Rattle.op_board.proofs.NeededLines.{needed_has}
 use Rattle.op_board.proofs.OperationLaws.{firing_facts}
 use Rattle.op_board.proofs.OperationNumbers.{IsOperationNamed, operation_named}
-use Rattle.fork_board.specs.ForkTokens.{ForkTokens, can_load, first_fork_tokens, fork_fired_as, fork_moves, fork_ready_as, is_load_node, is_open, standing, unforked}
+use Rattle.fork_board.specs.ForkTokens.{ForkTokens, can_load, first_fork_tokens, fork_fired_as, fork_moves, fork_ready_as, is_load_node, is_open, standing}
 use Rattle.fork_board.specs.LoadGroups.{is_load}
 use Rattle.fork_board.specs.SoundForks.{ForksCanCome}
 use Rattle.fork_board.proofs.ForkNodes.{IsLoadNamed, load_named, load_ready, other_fired, other_ready}

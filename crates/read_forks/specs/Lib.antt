@@ -5,4 +5,9 @@ pub mod LoadMarks
 pub mod MarkedNets
 pub mod ForkView
 pub mod LoadSpots
+pub mod LoadLinks
+pub mod OwnLinks
+pub mod LinkTables
 pub mod StaysInForkStep
+pub mod Retests
+pub mod RightMarks

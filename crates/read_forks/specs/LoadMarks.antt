@@ -3,7 +3,9 @@ use Rattle.std.specs.declared.alloc.Global.{Global}
 use Rattle.std.specs.Prelude.{Vec, ◌≡◌, ◌<◌, ℕ, ◌==◌, ◌&&◌, if◌then◌else◌, Bool, true, false, List, [], length, map, Option, Some, None, slice_get}
 use Rattle.std.specs.List.{list_any}
 use Rattle.net_board.specs.Nodes.{graph_in}
-use Rattle.op_board.specs.OperationNets.{OperationNet, needed, operation_at, operation_count}
+use Rattle.op_board.specs.OperationNets.{OperationNet, all_operation_nodes, needed, operation_at, operation_count, operation_node}
+use Rattle.firing.specs.ReadySet.{has}
+use Rattle.fork_board.specs.ForkTokens.{is_load_node}
 use Rattle.fork_board.specs.LoadGroups.{is_load}
 use Rattle.read_forks.specs.declared.marks.Mark.{Mark}
 
@@ -44,6 +46,10 @@ abbrev pub AreMarksOf : OperationNet → List Rows → Type 0
 AreMarksOf x marks = (piece i : ℕ) → piece < (graph_in x.net).nodes → i < operation_count x piece → IsRowOf x piece i (row_at marks piece i)
 
 -- ---- before any firing
+
+-- a flag for each node, which tells whether it is a load
+abbrev pub AreLoadFlags : OperationNet → List Bool → Type 0
+AreLoadFlags x flags = (k : ℕ) → k < length (all_operation_nodes x) → has flags k ≡ is_load_node x (operation_node x k)
 
 -- no load has fired
 abbrev pub IsClearRow : List Mark → Type 0

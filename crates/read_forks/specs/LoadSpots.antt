@@ -1,5 +1,5 @@
 -- What walks along lines see of the definitions of groups.
-use Rattle.std.specs.Prelude.{◌≡◌, ℕ, Bool, true, false, List, Option, Some, None}
+use Rattle.std.specs.Prelude.{◌≡◌, ℕ, true, false, List, Option, Some, None}
 use Rattle.firing.specs.declared.system.NodeName.{NodeName}
 use Rattle.firing.specs.declared.system.NodeName.TheVariants.{Op}
 use Rattle.op_board.specs.OperationNets.{OperationNet, operation_at}
@@ -19,6 +19,11 @@ site_of s = groups.site s.piece s.number
 abbrev pub site_in : Option Site → Option groups.Site
 site_in None = None
 site_in (Some s) = Some (site_of s)
+
+-- the load before which the line stands there
+abbrev pub load_on : OperationNet → (line : ℕ) → Option ℕ → (passed : ℕ) → Option groups.Site
+load_on x line None passed = None
+load_on x line (Some edge) passed = groups.load_at x line (groups.spot edge passed)
 
 -- ---- groups
 

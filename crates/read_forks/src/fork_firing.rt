@@ -8,7 +8,7 @@ ghost use Rattle.firing.specs.Moves.{FiredIs, newest};
 ghost use Rattle.firing.specs.declared.system.NodeName.TheVariants.{Op};
 ghost use Rattle.net_board.specs.Nodes.{graph_in};
 ghost use Rattle.op_board.specs.OperationNets.{needed, operation_at, operation_count, operation_node};
-ghost use Rattle.op_net.specs.ApartLoads.{IsUncounted};
+ghost use Rattle.op_net.specs.ApartLoads.{KeepsApart};
 ghost use Rattle.op_net.specs.NetView.{marking_of as operations_on, net_of as net_in};
 ghost use Rattle.op_net.specs.Steering.{LeadsBy};
 ghost use Rattle.op_net.specs.Waits.{node_total};
@@ -19,50 +19,44 @@ ghost use Rattle.read_forks.specs.LoadSteps.{line_read, lines_read, load_fired};
 ghost use Rattle.read_forks.specs.MarkedNets.{fork_marking};
 ghost use Rattle.read_forks.specs.ForkView.{marking_of, net_of, place_of};
 ghost use Rattle.read_forks.specs.LoadMarks.{AreMarksOf, HasSameLines, is_of, row_at};
-ghost use Rattle.read_forks.specs.LoadSpots.{IsLoadAt};
 ghost use Rattle.read_forks.specs.declared.marks.Mark.{Mark};
-ghost use Rattle.read_forks.specs.LoadedGroups.{AreNear, LineIsNear};
+ghost use Rattle.read_forks.specs.LinkTables.{NeedsLine};
+ghost use Rattle.read_forks.specs.LoadedGroups.{AreNear, LineIsNear, is_near};
 
 use crate::ForkNet;
-use crate::group_walks::{Spot, behind_whole, forget_group, is_in_group};
+use crate::group_walks::{Site, Spot, behind_whole, forget_group, load_before};
+use crate::links::is_among_group;
 use crate::marks::{Mark, is_loaded, line_at, marks_of, put_mark};
+use crate::new_marks::load_of;
 use firing::{Fired, NodeName, StepSystem};
 use op_net::OpNet;
 
 impl<const W: usize> ForkNet<'_, W> {
-    // The piece and the number of a node, if it is a load.
-    fn load(&self, k: u32) -> Option<(u32, u32)>
-        requires { k < node_total (net_of self.now) }
-        ensures { IsLoadAt (net_of self.now) (operation_node (net_of self.now) k) result }
-    {
-        match self.net.name(k) {
-            NodeName::Op(piece, i) => {
-                if self.net.loads(piece, i) {
-                    Some((piece, i))
-                } else {
-                    None
-                }
-            }
-            NodeName::Switch(_, _) => None,
-            NodeName::Merge(_, _) => None,
-            NodeName::Act(_) => None,
-        }
-    }
-
     /// Whether a node has all that it needs.
     pub(crate) fn is_ready(&self, k: u32) -> bool
         requires node { k < node_total (net_of self.now) }
         requires sound { ForksCanCome (net_of self.now) (marking_of self.now) }
         ensures { result ≡ (fork_moves (net_of self.now)).ready (marking_of self.now) k }
     {
-        match self.load(k) {
-            Some((piece, i)) => {
-                let open = self.stands_before(piece, i);
-                let given = self.net.has_values(k, piece, i);
-                open && given
-            }
+        match load_of(&self.net, k) {
+            Some((piece, i)) => self.can_load(k, piece, i),
             None => self.net.ready(k),
         }
+    }
+
+    // Whether a load has all that it needs.
+    fn can_load(&self, k: u32, piece: u32, i: u32) -> bool
+        requires node { k < node_total (net_of self.now) }
+        requires name { operation_node (net_of self.now) k ≡ Op piece i }
+        requires loads { is_load (operation_at (net_of self.now) piece i).work ≡ true }
+        requires sound { ForksCanCome (net_of self.now) (marking_of self.now) }
+        ensures { result ≡ (fork_moves (net_of self.now)).ready (marking_of self.now) k }
+    {
+        let given = self.net.has_values(k, piece, i);
+        if !given {
+            return false;
+        }
+        self.stands_before(piece, i)
     }
 
     // Whether each line that a load needs stands before it.
@@ -70,6 +64,7 @@ impl<const W: usize> ForkNet<'_, W> {
         requires piece { piece < (graph_in (net_of self.now).net).nodes }
         requires operation { i < operation_count (net_of self.now) piece }
         requires loads { is_load (operation_at (net_of self.now) piece i).work ≡ true }
+        requires sound { ForksCanCome (net_of self.now) (marking_of self.now) }
         ensures { result ≡ list_all (λ line. is_open (net_of self.now) line piece i (standing (marking_of self.now) line)) (needed (net_of self.now) piece i) }
     {
         self.are_open(marks_of(&self.marks, piece, i), piece, i)
@@ -77,7 +72,8 @@ impl<const W: usize> ForkNet<'_, W> {
 
     // Whether the lines of these marks all stand before a load.
     fn are_open(&self, row: &[Mark], piece: u32, i: u32) -> bool
-        requires { All (λ (mark : Mark). mark.line < (net_of self.now).net.routing.lines) row.now }
+        requires needs { All (λ (mark : Mark). NeedsLine (net_of self.now) mark.line piece i) row.now }
+        requires sound { ForksCanCome (net_of self.now) (marking_of self.now) }
         ensures { result ≡ list_all (λ (mark : Mark). is_open (net_of self.now) mark.line piece i (standing (marking_of self.now) mark.line)) row.now }
     {
         for mark in row {
@@ -88,21 +84,29 @@ impl<const W: usize> ForkNet<'_, W> {
         true
     }
 
-    // Whether a line stands before a load.
+    // Whether a line stands before a load that needs it.
     fn is_open(&self, line: u32, piece: u32, i: u32) -> bool
-        requires line { line < (net_of self.now).net.routing.lines }
+        requires needs { NeedsLine (net_of self.now) line piece i }
+        requires sound { ForksCanCome (net_of self.now) (marking_of self.now) }
         ensures { result ≡ is_open (net_of self.now) line piece i (standing (marking_of self.now) line) }
     {
-        let Some(edge) = self.net.edge_of(line) else {
-            return false;
-        };
-        let spot = Spot {
-            edge,
-            passed: self.net.passed(line),
-        };
-        let among = is_in_group(&self.net, line, spot, piece, i);
         let loaded = is_loaded(&self.marks, line, piece, i);
-        among && !loaded
+        if loaded {
+            return false;
+        }
+        self.is_near(line, Site { piece, number: i })
+    }
+
+    // Whether a load that needs a line is one of the group before which that stands.
+    fn is_near(&self, line: u32, load: Site) -> bool
+        requires needs { NeedsLine (net_of self.now) line load.piece load.number }
+        requires sound { ForksCanCome (net_of self.now) (marking_of self.now) }
+        ensures { result ≡ is_near (net_of self.now) line load.piece load.number (standing (marking_of self.now) line) }
+    {
+        match load_before(&self.net, line) {
+            Some(first) => is_among_group(&self.net, &self.links, line, first, load),
+            None => false,
+        }
     }
 
     /// Fires a ready node, but leaves control where it is. It tells the edge by which control leaves the piece, if the node is due where
@@ -115,13 +119,13 @@ impl<const W: usize> ForkNet<'_, W> {
         ensures net { net_of self.new ≡ net_of self.old }
         ensures marking { marking_of self.new ≡ (fork_moves (net_of self.old)).fired (marking_of self.old) k }
         ensures place { place_of self.new ≡ place_of self.old }
-        ensures kept { self.new.kept ≡ self.old.kept }
+        ensures apart { KeepsApart self.old.net self.new.net }
         ensures leads { LeadsBy (net_of self.old) (marking_of self.old).operations k result.1 }
         ensures edge { result.1 < edge_count (graph_in (net_of self.old).net) }
         ensures fired { FiredIs (fork_moves (net_of self.old)) (marking_of self.old) k result.0 }
         ensures last { self.new.net.text.items ≡ newest ((fork_moves (net_of self.old)).line (marking_of self.old) k) self.old.net.text.items }
     {
-        match self.load(k) {
+        match load_of(&self.net, k) {
             Some((piece, i)) => (Fired::Moved, self.fire_load(k, piece, i)),
             None => self.net.fire_node(k),
         }
@@ -137,7 +141,7 @@ impl<const W: usize> ForkNet<'_, W> {
         ensures net { net_of self.new ≡ net_of self.old }
         ensures marking { marking_of self.new ≡ load_fired (net_of self.old) (marking_of self.old) k piece i }
         ensures place { place_of self.new ≡ place_of self.old }
-        ensures kept { self.new.kept ≡ self.old.kept }
+        ensures apart { KeepsApart self.old.net self.new.net }
         ensures leads { LeadsBy (net_of self.old) (marking_of self.old).operations k result }
         ensures exists { result < edge_count (graph_in (net_of self.old).net) }
         ensures last { self.new.net.text.items ≡ self.old.net.text.items }
@@ -160,7 +164,6 @@ fn read_lines<const W: usize>(
     requires operation { i < operation_count (net_in net.old) piece }
     requires loads { is_load (operation_at (net_in net.old) piece i).work ≡ true }
     requires marks { AreMarksOf (net_in net.old) marks.old.items }
-    requires uncounted { IsUncounted net.old }
     requires lines { length (operations_on net.old).tokens.lines ≡ (net_in net.old).net.routing.lines }
     requires passed { length (operations_on net.old).passed ≡ (net_in net.old).net.routing.lines }
     requires stand { list_all (λ line. is_open (net_in net.old) line piece i (standing (fork_marking net.old marks.old.items) line)) (needed (net_in net.old) piece i) ≡ true }
@@ -168,7 +171,7 @@ fn read_lines<const W: usize>(
     ensures net { net_in net.new ≡ net_in net.old }
     ensures marking { fork_marking net.new marks.new.items ≡ lines_read (net_in net.old) piece i (fork_marking net.old marks.old.items) (needed (net_in net.old) piece i) }
     ensures marks { AreMarksOf (net_in net.old) marks.new.items }
-    ensures uncounted { IsUncounted net.new }
+    ensures apart { KeepsApart net.old net.new }
     ensures place { net.new.control ≡ net.old.control }
     ensures last { net.new.text.items ≡ net.old.text.items }
 {
@@ -190,13 +193,12 @@ fn read_line<const W: usize>(
     requires marks { AreMarksOf (net_in net.old) marks.old.items }
     requires there { list_any (is_of line) (row_at marks.old.items piece i) ≡ true }
     requires line { line < (net_in net.old).net.routing.lines }
-    requires uncounted { IsUncounted net.old }
     requires before { is_open (net_in net.old) line piece i (standing (fork_marking net.old marks.old.items) line) ≡ true }
     requires near { LineIsNear (net_in net.old) (fork_marking net.old marks.old.items) line }
     ensures net { net_in net.new ≡ net_in net.old }
     ensures marking { fork_marking net.new marks.new.items ≡ line_read (net_in net.old) piece i (fork_marking net.old marks.old.items) line }
     ensures lines { HasSameLines marks.old.items marks.new.items }
-    ensures uncounted { IsUncounted net.new }
+    ensures apart { KeepsApart net.old net.new }
     ensures place { net.new.control ≡ net.old.control }
     ensures last { net.new.text.items ≡ net.old.text.items }
 {

@@ -1,7 +1,8 @@
 //! The net in which the loads of a group fire in any order as a step system, with the program's own order.
 
 use crate::ForkNet;
-use firing::{Fired, NodeName, SourceOrder, StepSystem, mark_ready};
+use firing::{Fired, NodeName, SourceOrder, StepSystem};
+use fork_board::groups_end;
 use op_table::Trap;
 
 impl<const W: usize> StepSystem for ForkNet<'_, W> {
@@ -46,22 +47,22 @@ impl<const W: usize> StepSystem for ForkNet<'_, W> {
     }
 
     fn keep_ready(&mut self) {
-        self.kept = true;
-        mark_ready(self);
+        self.mark_all();
     }
 
     fn ready_count(&self) -> u32 {
-        self.set.len()
+        self.net.marked().len()
     }
 
     fn ready_at(&self, nth: u32) -> u32 {
-        self.set.at(nth)
+        self.net.marked().at(nth)
     }
 
     fn fire(&mut self, k: u32) -> Fired {
+        groups_end();
         let (fired, edge) = self.fire_node(k);
         self.net.steer(k, edge);
-        self.retest();
+        self.mark_changed(k);
         fired
     }
 

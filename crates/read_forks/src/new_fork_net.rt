@@ -10,20 +10,23 @@ ghost use Rattle.net_board.specs.NetParts.{net_with};
 ghost use Rattle.net_board.specs.Nodes.{graph_in};
 ghost use Rattle.op_board.specs.OperationNets.{operation_count};
 ghost use Rattle.op_board.specs.SoundOperationNets.{IsOperationNet};
+ghost use Rattle.op_net.specs.ApartLoads.{IsUncounted};
+ghost use Rattle.op_net.specs.NetView.{marking_of as operations_on, net_of as net_in};
 ghost use Rattle.op_net.specs.OperationParts.{AreOperationParts};
 ghost use Rattle.fork_board.specs.ForkTokens.{first_fork_tokens, fork_moves};
 ghost use Rattle.fork_board.specs.SoundForks.{ForksCanCome};
+ghost use Rattle.read_forks.specs.MarkedNets.{AreLoadsApart};
 ghost use Rattle.read_forks.specs.ForkView.{marking_of, net_of, place_of};
 ghost use Rattle.read_forks.specs.StaysInForkStep.{StaysInForkStep};
 
 use crate::ForkNet;
-use crate::new_marks::clear_marks;
+use crate::new_links::make_links;
+use crate::new_marks::{clear_marks, load_flags};
 use alias_classes::Classes;
 use cfg_build::Flow;
 use dep_routing::{Lines, TouchList};
 use df_sequence::NoMemory;
 use f77_tree::Program;
-use firing::{ReadySet, StepSystem};
 use fork_board::{forks_begin_soundly, forks_stay_in_lockstep};
 use op_net::OpNet;
 use std::alloc::Global;
@@ -54,14 +57,28 @@ impl<'a, const W: usize> ForkNet<'a, W> {
     {
         forks_begin_soundly();
         forks_stay_in_lockstep();
-        let net = OpNet::new(alloc, p, f, c, touch, l, input)?;
+        let whole = OpNet::new(alloc, p, f, c, touch, l, input)?;
+        let net = without_loads(alloc, whole)?;
         let marks = clear_marks(alloc, &net)?;
-        let set = ReadySet::with_room(alloc, net.nodes())?;
-        Ok(ForkNet {
-            net,
-            marks,
-            kept: false,
-            set,
-        })
+        let links = make_links(alloc, &net)?;
+        Ok(ForkNet { net, marks, links })
     }
+}
+
+// A net that leaves its loads to another game.
+fn without_loads<'a, const W: usize>(
+    alloc: Global,
+    whole: OpNet<'a, W>,
+) -> Result<OpNet<'a, W>, NoMemory>
+    requires { IsUncounted whole }
+    ensures net { IfOk result (λ n. net_in n ≡ net_in whole.entry) }
+    ensures marking { IfOk result (λ n. operations_on n ≡ operations_on whole.entry) }
+    ensures place { IfOk result (λ n. n.control ≡ whole.entry.control) }
+    ensures last { IfOk result (λ n. n.text.items ≡ whole.entry.text.items) }
+    ensures apart { IfOk result AreLoadsApart }
+{
+    let mut net = whole;
+    let loads = load_flags(alloc, &net)?;
+    net.lead_apart(loads);
+    Ok(net)
 }

@@ -1,10 +1,8 @@
-use Rattle.std.proofs.Common.{◌≡◌, ◌<◌, ℕ, true, false, Option, Some, None, sym, ap, ◌∙◌, subst, arith, rules}
-use Rattle.closed_walks.specs.Graph.{edge_count}
-use Rattle.net_board.specs.Nodes.{graph_in}
+use Rattle.std.proofs.Common.{◌≡◌, false, Option, Some, None, sym, ap, ◌∙◌, subst, arith, rules}
 use Rattle.net_board.specs.Tokens.{edge_of}
 use Rattle.op_board.specs.OperationTokens.{OperationTokens, passed_by}
 use Rattle.op_net.specs.NetView.{marking_of, net_of}
-use Rattle.fork_board.specs.ForkTokens.{ForkTokens, standing}
+use Rattle.fork_board.specs.ForkTokens.{standing}
 use Rattle.fork_board.specs.LoadGroups as groups
 use Rattle.fork_board.specs.LoadGroups.{group_at}
 use Rattle.fork_board.proofs.ForkLines.{IsOpen, opened}
@@ -14,6 +12,7 @@ use Rattle.read_forks.specs.LoadMarks.{loaded_in}
 use Rattle.read_forks.specs.LoadSpots.{BehindIs, spot_of}
 use Rattle.read_forks.specs.declared.group_walks.Spot.{Spot}
 use Rattle.read_forks.proofs.LineReads.{is_inside, read_last, read_some}
+use Rattle.read_forks.proofs.KeptMarks.{kept_self}
 use Rattle.read_forks.proofs.MarkLemmas.{still_marks}
 use Rattle.read_forks.proofs.fork_firing.read_line.Goals as goal
 
@@ -29,7 +28,7 @@ pub forget_group-requires : goal.forget_group-requires
 forget_group-requires g c = (omega arith, (c.requires.line, (c.edge_of.ensures.exists c.in-Some.edge c.in-Some.is, still_marks (net_of c.args.net.now) c.args.marks.now.items c.put_mark.new.marks.items c.put_mark.ensures.lines c.requires.marks)))
 
 pub put_line-requires : goal.put_line-requires
-put_line-requires g c = (omega arith, (c.requires.line, (c.in-Some-behind_whole.ensures.exists, c.requires.uncounted)))
+put_line-requires g c = (omega arith, (c.requires.line, c.in-Some-behind_whole.ensures.exists))
 
 pub returns-in_default-behind_whole-clause-marking : goal.returns-in_default-behind_whole-clause-marking
 returns-in_default-behind_whole-clause-marking g c =
@@ -58,3 +57,9 @@ returns-clause-marking g c =
 
 pub returns-clause-lines : goal.returns-clause-lines
 returns-clause-lines g c = λ piece i. c.forget_group.ensures.lines piece i ∙ c.put_mark.ensures.lines piece i
+
+pub returns-in_default-clause-apart : goal.returns-in_default-clause-apart
+returns-in_default-clause-apart g c = kept_self c.args.net.now
+
+pub returns-in_default-behind_whole-clause-apart : goal.returns-in_default-behind_whole-clause-apart
+returns-in_default-behind_whole-clause-apart g c = kept_self c.args.net.now

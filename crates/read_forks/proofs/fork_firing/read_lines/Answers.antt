@@ -1,14 +1,14 @@
-use Rattle.std.proofs.Common.{◌≡◌, ◌<◌, ◌≤◌, ◌+◌, inl, ℕ, true, List, ◌∷◌, length, map, drop, Some, refl, sym, ap, ◌∙◌, subst, arith}
-use Rattle.std.specs.List.{list_any}
+use Rattle.std.proofs.Common.{◌≡◌, ◌<◌, ◌≤◌, ◌+◌, inl, ℕ, true, List, ◌∷◌, length, map, drop, refl, sym, ap, ◌∙◌, subst, arith}
 use Rattle.op_board.specs.OperationNets.{OperationNet, needed}
 use Rattle.op_net.specs.NetView.{net_of}
-use Rattle.fork_board.specs.ForkTokens.{ForkTokens, is_open, standing}
+use Rattle.fork_board.specs.ForkTokens.{is_open, standing}
 use Rattle.read_forks.specs.MarkedNets.{fork_marking}
-use Rattle.read_forks.specs.LoadMarks.{AreMarksOf, is_of, line_of, row_at}
+use Rattle.read_forks.specs.LoadMarks.{AreMarksOf, line_of, row_at}
 use Rattle.read_forks.specs.LoadSteps.{line_read}
 use Rattle.read_forks.specs.LoadedGroups.{LineIsNear}
 use Rattle.read_forks.proofs.LoadFirings.{needed_distinct}
 use Rattle.read_forks.proofs.LoadReads.{IsAmidReading, as_long, begins, ends, next_left, none_again, none_left, own_mark, reads_next}
+use Rattle.read_forks.proofs.KeptMarks.{kept_apart, kept_self}
 use Rattle.read_forks.proofs.MarkLemmas.{still_marks}
 use Rattle.read_forks.proofs.fork_firing.read_lines.Goals as goal
 
@@ -17,7 +17,7 @@ loop-j-init g c = record {
   net = refl;
   amid = begins (net_of c.args.net.now) c.args.piece c.args.i (fork_marking c.args.net.now c.args.marks.now.items) c.requires.stand c.requires.near c.requires.lines c.requires.passed;
   lines = λ piece i. refl;
-  uncounted = c.requires.uncounted;
+  apart = kept_self c.args.net.now;
   place = refl;
   last = refl;
 }
@@ -44,10 +44,9 @@ read_line-requires g c =
     let of_marks = subst (λ (y : OperationNet). AreMarksOf y c.loop-j.marks.items) same (still_marks x c.args.marks.now.items c.loop-j.marks.items c.loop-j.invariant.lines c.requires.marks) in
     let of_there = own_mark now c.loop-j.j line c.line_at-line.ensures in
     let of_line = subst (λ (y : OperationNet). line < y.net.routing.lines) same (amid.exist line (inl refl)) in
-    let of_uncounted = c.loop-j.invariant.uncounted in
     let of_before = subst (λ (y : OperationNet). is_open y line c.args.piece c.args.i (standing (fork_marking c.loop-j.net c.loop-j.marks.items) line) ≡ true) same (amid.before line (inl refl)) in
     let of_near = subst (λ (y : OperationNet). LineIsNear y (fork_marking c.loop-j.net c.loop-j.marks.items) line) same (amid.near line) in
-    (omega arith, (of_marks, (of_there, (of_line, (of_uncounted, (of_before, of_near))))))
+    (omega arith, (of_marks, (of_there, (of_line, (of_before, of_near)))))
 
 pub loop-j-preserved : goal.loop-j-preserved
 loop-j-preserved g c =
@@ -65,7 +64,7 @@ loop-j-preserved g c =
           (none_again all c.loop-j.j line (drop (c.loop-j.j + 1) all) (needed_distinct x c.args.piece c.args.i) is)
           (did.marking ∙ ap (λ (y : OperationNet). line_read y c.args.piece c.args.i m line) c.loop-j.invariant.net) c.loop-j.invariant.amid;
       lines = λ piece i. did.lines piece i ∙ c.loop-j.invariant.lines piece i;
-      uncounted = did.uncounted;
+      apart = kept_apart c.args.net.now c.loop-j.net c.read_line.new.net c.loop-j.invariant.apart did.apart;
       place = did.place ∙ c.loop-j.invariant.place;
       last = did.last ∙ c.loop-j.invariant.last;
     }

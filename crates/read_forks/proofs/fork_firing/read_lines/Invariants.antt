@@ -1,6 +1,6 @@
 use Rattle.std.proofs.Common.{◌≡◌, drop}
 use Rattle.op_board.specs.OperationNets.{needed}
-use Rattle.op_net.specs.ApartLoads.{IsUncounted}
+use Rattle.op_net.specs.ApartLoads.{KeepsApart}
 use Rattle.op_net.specs.NetView.{net_of}
 use Rattle.read_forks.specs.MarkedNets.{fork_marking}
 use Rattle.read_forks.specs.LoadMarks.{HasSameLines}
@@ -14,7 +14,7 @@ invariant-loop-j g l =
       net : net_of l.net ≡ x;
       amid : IsAmidReading x l.piece l.i (fork_marking l.fn.net l.fn.marks.items) (fork_marking l.net l.marks.items) (drop l.j (needed x l.piece l.i));
       lines : HasSameLines l.fn.marks.items l.marks.items;
-      uncounted : IsUncounted l.net;
+      apart : KeepsApart l.fn.net l.net;
       place : l.net.control ≡ l.fn.net.control;
       last : l.net.text.items ≡ l.fn.net.text.items;
     }

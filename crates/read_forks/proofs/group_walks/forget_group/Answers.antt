@@ -1,6 +1,4 @@
-use Rattle.std.proofs.Common.{◌≡◌, ◌<◌, ℕ, zero, ◌-◌, true, false, List, [], ◌∷◌, Some, None, sym, ap, ◌∙◌, subst, refl, arith, rules}
-use Rattle.closed_walks.specs.Graph.{edge_count}
-use Rattle.net_board.specs.Nodes.{graph_in}
+use Rattle.std.proofs.Common.{◌≡◌, zero, ◌-◌, List, ◌∷◌, Some, None, sym, ap, ◌∙◌, subst, refl, arith, rules}
 use Rattle.op_net.specs.NetView.{net_of}
 use Rattle.fork_board.specs.LoadGroups.{Site, group_at, load_at, loads_within}
 use Rattle.op_board.proofs.NeededLines.{needed_in}
@@ -16,8 +14,9 @@ pub walk-init : goal.walk-init
 walk-init g c =
     let x = net_of c.args.net.now in
     record {
-      edge = c.requires.edge;
-      amid = subst (λ n. IsAmidForgetting c.args.line (group_at x c.args.line (spot_of c.args.spot)) (loads_within n x c.args.line (spot_of c.args.spot)) (loaded_in c.args.marks.now.items) (loaded_in c.args.marks.now.items)) (sym c.nodes-left.ensures)
+      stop = c.stop_at-stop.ensures.stop;
+      amid = subst (λ (loads : List Site). IsAmidForgetting c.args.line (group_at x c.args.line (spot_of c.args.spot)) loads (loaded_in c.args.marks.now.items) (loaded_in c.args.marks.now.items))
+          (sym (ap (λ s. loads_within c.nodes-left.result x c.args.line (spot_of s)) c.stop_at-stop.ensures.spot ∙ ap (λ n. loads_within n x c.args.line (spot_of c.args.spot)) c.nodes-left.ensures))
           (nothing_forgotten c.args.line (group_at x c.args.line (spot_of c.args.spot)) (loaded_in c.args.marks.now.items));
       lines = λ piece i. refl;
     }
@@ -25,44 +24,41 @@ walk-init g c =
 pub put_mark-requires : goal.put_mark-requires
 put_mark-requires g c =
     let x = net_of c.args.net.now in
-    let here : load_at x c.args.line (spot_of c.walk.at) ≡ Some (site_of c.in-Some.load) = sym c.load_at.ensures.load ∙ ap site_in c.in-Some.is in
-    let n : IsNeeding x c.args.line (spot_of c.walk.at) (site_of c.in-Some.load) = needing_at x c.args.line (spot_of c.walk.at) (site_of c.in-Some.load) here in
-    let exists = c.load_at.ensures.exists c.in-Some.load c.in-Some.is in
+    let here : load_at x c.args.line (spot_of c.walk.stop.spot) ≡ Some (site_of c.in-Some.load) = sym c.walk.invariant.stop.load ∙ ap site_in c.in-Some.is in
+    let n : IsNeeding x c.args.line (spot_of c.walk.stop.spot) (site_of c.in-Some.load) = needing_at x c.args.line (spot_of c.walk.stop.spot) (site_of c.in-Some.load) here in
+    let exists = (c.walk.invariant.stop.needs c.in-Some.load c.in-Some.is).exists in
     record {
       there = marked x c.walk.marks.items c.args.line c.in-Some.load.piece c.in-Some.load.number
           (still_marks x c.args.marks.now.items c.walk.marks.items c.walk.invariant.lines c.requires.marks c.in-Some.load.piece c.in-Some.load.number exists n.below) n.loads
           (needed_in x c.in-Some.load.piece c.in-Some.load.number c.args.line c.requires.line n.needs);
     }
 
-pub load_at-requires : goal.load_at-requires
-load_at-requires g c = (omega arith, c.walk.invariant.edge)
-
-pub spot_after-at-requires : goal.spot_after-at-requires
-spot_after-at-requires g c = (omega arith, (c.requires.line, (c.walk.invariant.edge, c.load_at.ensures.below c.in-Some.load c.in-Some.is)))
+pub stop_after-stop-requires : goal.stop_after-stop-requires
+stop_after-stop-requires g c = (omega arith, (c.walk.invariant.stop, c.in-Some.is))
 
 pub walk-preserved : goal.walk-preserved
 walk-preserved g c =
     let x = net_of c.args.net.now in
-    let here : load_at x c.args.line (spot_of c.walk.at) ≡ Some (site_of c.in-Some.load) = sym c.load_at.ensures.load ∙ ap site_in c.in-Some.is in
-    let more = one_more x c.args.line c.walk.left (spot_of c.walk.at) (site_of c.in-Some.load) c.walk-test.true here ∙ ap (λ s. site_of c.in-Some.load ∷ loads_within (c.walk.left - 1) x c.args.line s) (sym c.spot_after-at.ensures.spot) in
+    let here : load_at x c.args.line (spot_of c.walk.stop.spot) ≡ Some (site_of c.in-Some.load) = sym c.walk.invariant.stop.load ∙ ap site_in c.in-Some.is in
+    let more = one_more x c.args.line c.walk.left (spot_of c.walk.stop.spot) (site_of c.in-Some.load) c.walk-test.true here ∙ ap (λ s. site_of c.in-Some.load ∷ loads_within (c.walk.left - 1) x c.args.line s) (sym c.stop_after-stop.ensures.spot) in
     record {
-      edge = c.spot_after-at.ensures.exists;
-      amid = one_forgotten c.args.line (group_at x c.args.line (spot_of c.args.spot)) (loads_within c.walk.left x c.args.line (spot_of c.walk.at)) (loads_within (c.walk.left - 1) x c.args.line (spot_of c.spot_after-at.result)) (site_of c.in-Some.load) (loaded_in c.args.marks.now.items) (loaded_in c.walk.marks.items) (loaded_in c.put_mark.new.marks.items) more c.walk.invariant.amid c.put_mark.ensures.put;
+      stop = c.stop_after-stop.ensures.stop;
+      amid = one_forgotten c.args.line (group_at x c.args.line (spot_of c.args.spot)) (loads_within c.walk.left x c.args.line (spot_of c.walk.stop.spot)) (loads_within (c.walk.left - 1) x c.args.line (spot_of c.stop_after-stop.result.spot)) (site_of c.in-Some.load) (loaded_in c.args.marks.now.items) (loaded_in c.walk.marks.items) (loaded_in c.put_mark.new.marks.items) more c.walk.invariant.amid c.put_mark.ensures.put;
       lines = λ piece i. c.put_mark.ensures.lines piece i ∙ c.walk.invariant.lines piece i;
     }
 
 pub returns-in_default-clause-gone : goal.returns-in_default-clause-gone
 returns-in_default-clause-gone g c =
     let x = net_of c.args.net.now in
-    let none : c.load_at.result ≡ None = search rules in
-    let here : load_at x c.args.line (spot_of c.walk.at) ≡ None = sym c.load_at.ensures.load ∙ ap site_in none in
-    all_forgotten c.args.line (group_at x c.args.line (spot_of c.args.spot)) (loads_within c.walk.left x c.args.line (spot_of c.walk.at)) (loaded_in c.args.marks.now.items) (loaded_in c.walk.marks.items) (no_more x c.args.line c.walk.left (spot_of c.walk.at) here) c.walk.invariant.amid
+    let none : c.walk.stop.load ≡ None = search rules in
+    let here : load_at x c.args.line (spot_of c.walk.stop.spot) ≡ None = sym c.walk.invariant.stop.load ∙ ap site_in none in
+    all_forgotten c.args.line (group_at x c.args.line (spot_of c.args.spot)) (loads_within c.walk.left x c.args.line (spot_of c.walk.stop.spot)) (loaded_in c.args.marks.now.items) (loaded_in c.walk.marks.items) (no_more x c.args.line c.walk.left (spot_of c.walk.stop.spot) here) c.walk.invariant.amid
 
 pub returns-clause-gone : goal.returns-clause-gone
 returns-clause-gone g c =
     let x = net_of c.args.net.now in
     let e : c.walk.left ≡ zero = omega (arith, c.walk-test.false) in
-    all_forgotten c.args.line (group_at x c.args.line (spot_of c.args.spot)) (loads_within c.walk.left x c.args.line (spot_of c.walk.at)) (loaded_in c.args.marks.now.items) (loaded_in c.walk.marks.items) (ap (λ n. loads_within n x c.args.line (spot_of c.walk.at)) e) c.walk.invariant.amid
+    all_forgotten c.args.line (group_at x c.args.line (spot_of c.args.spot)) (loads_within c.walk.left x c.args.line (spot_of c.walk.stop.spot)) (loaded_in c.args.marks.now.items) (loaded_in c.walk.marks.items) (ap (λ n. loads_within n x c.args.line (spot_of c.walk.stop.spot)) e) c.walk.invariant.amid
 
 pub returns-in_default-clause-lines : goal.returns-in_default-clause-lines
 returns-in_default-clause-lines g c = c.walk.invariant.lines

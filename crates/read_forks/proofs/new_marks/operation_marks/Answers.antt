@@ -1,4 +1,4 @@
-use Rattle.std.proofs.Common.{◌≡◌, false, List, sym, ◌∙◌, subst}
+use Rattle.std.proofs.Common.{List, sym, ◌∙◌, subst}
 use Rattle.op_board.specs.OperationNets.{operation_at}
 use Rattle.op_net.specs.NetView.{net_of}
 use Rattle.read_forks.specs.LoadMarks.{IsNewRow}
