@@ -9,6 +9,7 @@ mod NetGames
 mod NetParts
 mod OneNet
 mod OperationGames
+mod OwnForks
 mod NameLines
 mod Telling
 mod TopAnswers

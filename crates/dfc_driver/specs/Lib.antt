@@ -4,6 +4,7 @@ pub mod Codes
 pub mod Reading
 pub mod Playing
 pub mod Game
+pub mod PlayedNets
 pub mod Regions
 pub mod StoreText
 pub mod OperationNames

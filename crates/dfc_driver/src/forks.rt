@@ -1,6 +1,6 @@
 //! Games that are played on a program, in which the loads of a group fire in any order.
 
-ghost use Rattle.std.specs.Prelude.{◌≡◌, ◌≢◌, ◌≤◌, Bool};
+ghost use Rattle.std.specs.Prelude.{◌≡◌, ◌≢◌, ◌≤◌, Bool, []};
 ghost use Rattle.df_io.specs.Faults.{Rose};
 ghost use Rattle.alias_classes.specs.Number.{HasFewClasses};
 ghost use Rattle.f77_tree.specs.WellFormed.{IsWellFormed};
@@ -15,7 +15,7 @@ ghost use Rattle.dfc_driver.specs.Words.{Asked, Forks};
 
 use crate::game::tell_game;
 use crate::net_parts::are_net_parts;
-use crate::playing::{Game, game_of};
+use crate::playing::{Game, game_of, net_of_game};
 use crate::status::Status;
 use crate::words::GameWords;
 use alias_classes::{CLASS_WORDS, classes_are_counted, one_numbering};
@@ -24,7 +24,7 @@ use dep_routing::one_routing;
 use df_io::{NoMemory, Sink};
 use f77_tree::{Program, runs_stop_first};
 use firing::{Show, due_orders_end, every_order_follows, runs_end};
-use fork_board::{forks_begin_soundly, forks_simulate_programs};
+use fork_board::{forks_begin_soundly, forks_simulate_programs, own_runs_are_alike};
 use op_board::operation_nets_simulate_programs;
 use range_lines::one_range_touching;
 use read_forks::ForkNet;
@@ -51,13 +51,47 @@ pub fn play_forks<K: Sink>(
 {
     forks_mean(program);
     match game_of(alloc, words, program) {
-        Ok(game) => play_fork_net(alloc, nodes, words, program, &game, sink),
+        Ok(game) => {
+            if game.picks.is_empty() {
+                play_in_turn(alloc, nodes, words, program, &game, sink)
+            } else {
+                play_by_picks(alloc, nodes, words, program, &game, sink)
+            }
+        }
         Err(NoMemory) => Status::NoMemory,
     }
 }
 
-// Plays the net of a program, and tells of it.
-fn play_fork_net<K: Sink>(
+// Plays in the source's own order. There a net whose operations fire in turn has the same run, and it fires whole pieces at once.
+fn play_in_turn<K: Sink>(
+    alloc: Global,
+    nodes: bool,
+    words: GameWords<'_>,
+    program: &Program,
+    game: &Game<'_>,
+    sink: &mut K,
+) -> Status
+    requires words { AreGameWords words }
+    requires picks { game.now.picks.items ≡ (asked_in words).picks }
+    requires in_turn { game.now.picks.items ≡ [] }
+    requires input { game.now.input.items ≡ (asked_in words).input }
+    requires program { IsWellFormed program.now }
+    requires analysis { IsRangeAnalysisOf program.now game.now.analysis }
+    ensures due { AnswersAs (IsDuePlay fork_game (told_by_forks nodes) (asked_in words.entry) program.now) (K.got sink.old) (K.got sink.new) result }
+    ensures usage { result ≢ Status.Usage }
+    ensures reads { result ≢ Status.ReadFault }
+    ensures later { K.faults sink.old ≤ K.faults sink.new }
+    ensures fault { result ≡ Status.WriteFault → Rose (K.faults sink.old) (K.faults sink.new) }
+{
+    own_runs_are_alike();
+    match net_of_game(alloc, words, program, game) {
+        Ok(mut net) => tell_game(&mut net, &game.picks, words.limit, show_of(nodes), sink),
+        Err(NoMemory) => Status::NoMemory,
+    }
+}
+
+// Plays the net of a program in which the loads of a group fire in any order, by the picks.
+fn play_by_picks<K: Sink>(
     alloc: Global,
     nodes: bool,
     words: GameWords<'_>,

@@ -1,25 +1,18 @@
 //! Games that are played on a program.
 
-ghost use Rattle.std.specs.Prelude.{◌≡◌, ◌≢◌, ◌≤◌, Bool, None, IfOk};
+ghost use Rattle.std.specs.Prelude.{◌≡◌, ◌≢◌, ◌≤◌, Bool, IfOk};
 ghost use Rattle.df_io.specs.Faults.{Rose};
 ghost use Rattle.alias_classes.specs.Number.{HasFewClasses};
 ghost use Rattle.f77_tree.specs.WellFormed.{IsWellFormed};
-ghost use Rattle.firing.specs.Control.{IsInStep};
-ghost use Rattle.firing.specs.Play.{moment};
 ghost use Rattle.flow_analysis.specs.Analysis.{IsRangeAnalysisOf};
-ghost use Rattle.op_board.specs.OperationCourse.{operation_course};
-ghost use Rattle.op_board.specs.OperationTokens.{operation_moves};
-ghost use Rattle.op_board.specs.SoundOperationNets.{OperationsCanCome};
-ghost use Rattle.op_net.specs.NetView.{marking_of, net_of};
-ghost use Rattle.op_net.specs.StaysInStep.{StaysInStep};
 ghost use Rattle.dfc_driver.specs.declared.words.Told.{Told};
 ghost use Rattle.dfc_driver.specs.Answers.{AnswersAs};
-ghost use Rattle.dfc_driver.specs.Due.{IsDuePlay, IsGameTold};
+ghost use Rattle.dfc_driver.specs.Due.{IsDuePlay};
 ghost use Rattle.dfc_driver.specs.Game.{operation_game};
 ghost use Rattle.dfc_driver.specs.GameLaws.{GameLaws};
 ghost use Rattle.dfc_driver.specs.Headline.{MeansOn};
 ghost use Rattle.dfc_driver.specs.Meant.{AreGameWords, asked_in};
-ghost use Rattle.dfc_driver.specs.Playing.{way_by};
+ghost use Rattle.dfc_driver.specs.PlayedNets.{CanBePlayed, IsOpeningNet, IsToldOf};
 ghost use Rattle.dfc_driver.specs.Words.{Asked, Play};
 
 use crate::game::{play_game, tell_game};
@@ -100,6 +93,33 @@ pub fn game_of<'a>(
     })
 }
 
+/// The net of a game's program, before any firing.
+pub fn net_of_game<'a>(
+    alloc: Global,
+    words: GameWords<'_>,
+    program: &'a Program,
+    game: &'a Game<'_>,
+) -> Result<OpNet<'a, CLASS_WORDS>, NoMemory>
+    requires words { AreGameWords words }
+    requires input { game.now.input.items ≡ (asked_in words).input }
+    requires program { IsWellFormed program.now }
+    requires analysis { IsRangeAnalysisOf program.now game.now.analysis }
+    ensures { IfOk result (λ net. IsOpeningNet program.now (asked_in words.entry).input net) }
+{
+    let analysis = &game.analysis;
+    are_net_parts(program, analysis);
+    let net = OpNet::new(
+        alloc,
+        program,
+        &analysis.flow,
+        &analysis.classes,
+        &analysis.touch,
+        &analysis.lines,
+        &game.input,
+    )?;
+    Ok(net)
+}
+
 // Plays the net of a program, and tells of it.
 fn play_net<K: Sink>(
     alloc: Global,
@@ -120,18 +140,7 @@ fn play_net<K: Sink>(
     ensures later { K.faults sink.old ≤ K.faults sink.new }
     ensures fault { result ≡ Status.WriteFault → Rose (K.faults sink.old) (K.faults sink.new) }
 {
-    let analysis = &game.analysis;
-    are_net_parts(program, analysis);
-    let made = OpNet::new(
-        alloc,
-        program,
-        &analysis.flow,
-        &analysis.classes,
-        &analysis.touch,
-        &analysis.lines,
-        &game.input,
-    );
-    match made {
+    match net_of_game(alloc, words, program, game) {
         Ok(mut net) => tell_net(told, program, &mut net, &game.picks, words.limit, sink),
         Err(NoMemory) => Status::NoMemory,
     }
@@ -147,11 +156,8 @@ fn tell_net<K: Sink>(
     sink: &mut K,
 ) -> Status
     requires program { IsWellFormed program.now }
-    requires own { (net_of net.old).net.program ≡ program.now }
-    requires sound { OperationsCanCome (net_of net.old) (marking_of net.old) }
-    requires in_step { IsInStep (operation_moves (net_of net.old)) (StaysInStep (net_of net.old)) (marking_of net.old) net.old.control }
-    requires control { net.old.control ≢ None }
-    ensures due { AnswersAs (IsGameTold operation_game told program.now (way_by (operation_moves (net_of net.old)) (operation_course (net_of net.old)) picks.now) (moment (marking_of net.old) net.old.control) limit) (K.got sink.old) (K.got sink.new) result }
+    requires net { CanBePlayed program.now net.old }
+    ensures due { AnswersAs (IsToldOf told program.now net.old picks.now limit) (K.got sink.old) (K.got sink.new) result }
     ensures usage { result ≢ Status.Usage }
     ensures reads { result ≢ Status.ReadFault }
     ensures memory { result ≢ Status.NoMemory }
@@ -174,11 +180,8 @@ fn tell_rest<K: Sink>(
     sink: &mut K,
 ) -> Status
     requires program { IsWellFormed program.now }
-    requires own { (net_of net.old).net.program ≡ program.now }
-    requires sound { OperationsCanCome (net_of net.old) (marking_of net.old) }
-    requires in_step { IsInStep (operation_moves (net_of net.old)) (StaysInStep (net_of net.old)) (marking_of net.old) net.old.control }
-    requires control { net.old.control ≢ None }
-    ensures due { AnswersAs (IsGameTold operation_game Told.Store program.now (way_by (operation_moves (net_of net.old)) (operation_course (net_of net.old)) picks.now) (moment (marking_of net.old) net.old.control) limit) (K.got sink.old) (K.got sink.new) result }
+    requires net { CanBePlayed program.now net.old }
+    ensures due { AnswersAs (IsToldOf Told.Store program.now net.old picks.now limit) (K.got sink.old) (K.got sink.new) result }
     ensures usage { result ≢ Status.Usage }
     ensures reads { result ≢ Status.ReadFault }
     ensures memory { result ≢ Status.NoMemory }

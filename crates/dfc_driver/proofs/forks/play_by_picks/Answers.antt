@@ -4,7 +4,6 @@ use Rattle.dep_routing.specs.Touch.{touches_in}
 use Rattle.firing.specs.declared.playing.Show.{Show}
 use Rattle.firing.specs.Play.{moment}
 use Rattle.net_board.specs.NetParts.{net_with}
-use Rattle.net_board.specs.Nodes.{NetOf}
 use Rattle.fork_board.specs.ForkTokens.{fork_course, fork_moves}
 use Rattle.read_forks.specs.ForkView.{marking_of, net_of, place_of}
 use Rattle.dfc_driver.specs.Answers.{AnswersAs}
@@ -15,7 +14,7 @@ use Rattle.dfc_driver.specs.Meant.{asked_in}
 use Rattle.dfc_driver.proofs.DataWords.{data_words}
 use Rattle.dfc_driver.proofs.GameTold.{answers_more, forks_told, played_on}
 use Rattle.dfc_driver.proofs.NetParts.{found_parts, found_ranges, net_on}
-use Rattle.dfc_driver.proofs.forks.play_fork_net.Goals as goal
+use Rattle.dfc_driver.proofs.forks.play_by_picks.Goals as goal
 
 pub returns-in-Ok-clause-due : goal.returns-in-Ok-clause-due
 returns-in-Ok-clause-due g c =
