@@ -14,7 +14,7 @@ use Rattle.f77_subs.specs.Copies.{Change, Copying, Context, bare, changes, chang
 
 -- ---- numbers in a row
 
-row_split : (a n k : ℕ) → range_with_len a (n + k) ≡ range_with_len a n ++ range_with_len (a + n) k
+pub row_split : (a n k : ℕ) → range_with_len a (n + k) ≡ range_with_len a n ++ range_with_len (a + n) k
 row_split a zero k =
     let left : 0 + k ≡ k = omega arith in
     let right : a ≡ a + 0 = omega arith in
@@ -39,7 +39,7 @@ written-step : (blank : Bool) (label : ℕ) (xs ys all : List ℕ) → all ≡ x
 written-step true label xs ys all same = same
 written-step false label xs ys all same = ap (λ (ls : List ℕ). label ∷ ls) same
 
-written-append : (xs ys : List Labelled) → labels_written (xs ++ ys) ≡ labels_written xs ++ labels_written ys
+pub written-append : (xs ys : List Labelled) → labels_written (xs ++ ys) ≡ labels_written xs ++ labels_written ys
 written-append [] ys = refl
 written-append (s ∷ xs) ys = written-step (s.label == 0) s.label (labels_written xs) (labels_written ys) (labels_written (xs ++ ys)) (written-append xs ys)
 
@@ -80,7 +80,7 @@ module _ (us : List (List Labelled)) (body : Copying) (c : Context) (has : (k : 
   if_labels true stood m n same = same
   if_labels false stood m n same = refl
 
-  piece_labels : (m : ℕ) (s : Labelled) → 0 < m → labels_written (piece body us c m s) ≡ range_with_len m (labels count us c.unit s)
+  pub piece_labels : (m : ℕ) (s : Labelled) → 0 < m → labels_written (piece body us c m s) ≡ range_with_len m (labels count us c.unit s)
   piece_labels m s some = if_labels (is_kept c.unit s.stmt) (piece_by body us c m s (call_in s.stmt)) m (labels_by count us s.label (call_in s.stmt)) (piece_by_labels m s (call_in s.stmt) some)
 
   pub pieces_labels : (before : ℕ) (stmts : List Labelled) → labels_written (pieces body us c before stmts) ≡ range_with_len (c.base + before + 1) (sum_by (labels count us c.unit) stmts)

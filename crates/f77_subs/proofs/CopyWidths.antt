@@ -27,7 +27,7 @@ module _ (us : List (List Labelled)) (body : Copying) (wide : ℕ → ℕ) (has 
   if_length true stood n same = same
   if_length false stood n same = refl
 
-  piece_length : (m : ℕ) (s : Labelled) → length (piece body us c m s) ≡ width wide us c.unit s
+  pub piece_length : (m : ℕ) (s : Labelled) → length (piece body us c m s) ≡ width wide us c.unit s
   piece_length m s = if_length (is_kept c.unit s.stmt) (piece_by body us c m s (call_in s.stmt)) (width_by wide us (guard_of s.stmt) (call_in s.stmt)) (piece_by_length m s (call_in s.stmt))
 
   pub pieces_length : (before : ℕ) (stmts : List Labelled) → length (pieces body us c before stmts) ≡ sum_by (width wide us c.unit) stmts

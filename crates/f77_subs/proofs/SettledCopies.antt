@@ -12,14 +12,14 @@ use Rattle.f77_subs.specs.Widths.{is_kept, labels, body_labels, labels_before}
 use Rattle.f77_subs.specs.Copies.{Change, Context, bare, changed_stmt, change_in, call_at, end_by, number_at, around, piece_by, piece, pieces, copy}
 use Rattle.f77_subs.proofs.Settled.{Agree, sums_alike, labels_alike, labels_settle}
 
-pass_take : {X : Type 0} (p : X → Bool) (xs : List X) (n : ℕ) → list_all p xs ≡ true → list_all p (take n xs) ≡ true
+pub pass_take : {X : Type 0} (p : X → Bool) (xs : List X) (n : ℕ) → list_all p xs ≡ true → list_all p (take n xs) ≡ true
 pass_take p xs zero all = refl
 pass_take p [] (suc n) all = refl
 pass_take p (x ∷ xs) (suc n) all =
     let both : (p x ≡ true) × (list_all p xs ≡ true) = and_parts (p x) (list_all p xs) all in
     and_from (p x) (list_all p (take n xs)) both.0 (pass_take p xs n both.1)
 
-pass_at : {X : Type 0} (p : X → Bool) (xs : List X) (i : ℕ) (x : X) → list_all p xs ≡ true → slice_get xs i ≡ Some x → p x ≡ true
+pub pass_at : {X : Type 0} (p : X → Bool) (xs : List X) (i : ℕ) (x : X) → list_all p xs ≡ true → slice_get xs i ≡ Some x → p x ≡ true
 pass_at p [] i x all e = let h : None ≡ Some x = e in absurd cc
 pass_at p (y ∷ ys) zero x all e =
     let h : Some y ≡ Some x = e in

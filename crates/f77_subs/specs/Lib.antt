@@ -1,4 +1,5 @@
 pub mod Units
+pub mod Texts
 pub mod Cuts
 pub mod Layouts
 pub mod Entities
@@ -8,7 +9,18 @@ pub mod Heights
 pub mod CallTable
 pub mod CallGraph
 pub mod Copies
+pub mod Changes
+pub mod LabelCounts
+pub mod LabelRows
+pub mod PutCopies
+pub mod UnitTables
+pub mod LabelTables
 pub mod Expansion
+pub mod ListedCopies
+pub mod OpenBlocks
+pub mod Landings
+pub mod CopiedLoops
+pub mod Contexts
 pub mod Refusals
 pub mod Storage
 pub mod Calls

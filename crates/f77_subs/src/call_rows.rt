@@ -4,6 +4,7 @@ ghost use Rattle.std.specs.Option.{is_some};
 ghost use Rattle.indexmap.specs.IndexMap.{get};
 ghost use Rattle.f77_layout.specs.Labels.{is_executable as is_executable_of};
 ghost use Rattle.f77_subs.specs.Units.{call_by, guard_of, is_end as is_end_of, unit_at, unit_of as unit_of_name};
+ghost use Rattle.f77_subs.specs.Widths.{is_kept as is_kept_of};
 ghost use Rattle.f77_subs.specs.CallTable.{call_row as call_row_of, call_rows as call_rows_of, callee_of, own_lines as own_lines_of, own_width as own_width_of, unit_named};
 
 use crate::splitting::{Units, is_end};
@@ -69,8 +70,8 @@ fn call_row(
     Ok(CallRow { own, callees })
 }
 
-// Notes the unit that a statement calls, if it is a CALL.
-fn note_callee(
+/// Notes the unit that a statement calls, if it is a CALL.
+pub(crate) fn note_callee(
     callees: &mut Vec<usize>,
     us: &Units,
     index: &IndexMap<Name, usize>,
@@ -120,7 +121,7 @@ pub(crate) fn add_within(a: u32, b: u32, limit: u32) -> u32
 fn own_width(k: usize, stmt: &Stmt) -> u32
     ensures { result ≡ own_width_of k stmt.now }
 {
-    if k == 0 || stands_in_copies(stmt) {
+    if is_kept(k, stmt) {
         own_lines(is_guarded(stmt), is_call(inner_of(stmt)))
     } else {
         0
@@ -141,6 +142,13 @@ fn is_guarded(stmt: &Stmt) -> bool
     ensures { result ≡ is_some (guard_of stmt.now) }
 {
     matches!(stmt, Stmt::ThenIf(_, _))
+}
+
+/// Whether a statement of the unit at the index k stands in its copies, or, of the main program, in the list.
+pub(crate) fn is_kept(k: usize, stmt: &Stmt) -> bool
+    ensures { result ≡ is_kept_of k stmt.now }
+{
+    k == 0 || stands_in_copies(stmt)
 }
 
 // Whether a statement of a subroutine stands in its copies.

@@ -2,7 +2,16 @@
 #![tactic(auto)]
 
 mod call_rows;
+mod changed;
+mod changed_stmts;
+mod changes;
+mod copy_laws;
+mod copying;
+mod label_counts;
+mod label_tables;
+mod labels;
 mod laws;
+mod listed_copies;
 mod recursion;
 mod running;
 mod splitting;
@@ -10,8 +19,15 @@ mod stand_in;
 mod sub_end;
 mod sub_index;
 mod sub_names;
+mod unit_laws;
 mod unit_order;
+mod unit_table;
 mod widths;
 
 pub use laws::{copies_are_counted, copies_settle, units_have_heights};
+pub use listed_copies::{
+    arms_end_alike, contexts_are_in_place, control_falls_alike, copies_are_sealed,
+    copies_stand_in_lists, labels_lead_to_pieces, labels_of_pieces_stand_apart, loops_end_alike,
+};
 pub use sub_end::SubEnd;
+pub use unit_laws::{stand_ins_are_given, units_are_sources};

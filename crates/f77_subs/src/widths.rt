@@ -37,8 +37,12 @@ fn first_width(alloc: Global, rows: &[CallRow], limit: u32) -> Result<u32, NoMem
     Ok(width_at(&last, 0))
 }
 
-// The widths after as many rounds as there are rows.
-fn settled_widths(alloc: Global, rows: &[CallRow], limit: u32) -> Result<Vec<u32>, NoMemory>
+/// The widths after as many rounds as there are rows.
+pub(crate) fn settled_widths(
+    alloc: Global,
+    rows: &[CallRow],
+    limit: u32,
+) -> Result<Vec<u32>, NoMemory>
     ensures { IfOk result (λ widths. widths.items ≡ widths_after limit rows.now (length rows.now)) }
 {
     let mut widths = vec![in alloc; 0; rows.len()]?;
@@ -48,8 +52,8 @@ fn settled_widths(alloc: Global, rows: &[CallRow], limit: u32) -> Result<Vec<u32
     Ok(widths)
 }
 
-// The widths after one round more.
-fn next_widths(
+/// The widths after one round more.
+pub(crate) fn next_widths(
     alloc: Global,
     rows: &[CallRow],
     widths: &[u32],

@@ -1,0 +1,169 @@
+-- The units of a text: each is a part of it that ends with END, and what stands in for it can be laid out.
+use Rattle.std.proofs.Common.{◌≡◌, ℕ, zero, suc, ◌+◌, ◌-◌, ◌<◌, ◌≤◌, ◌⊎◌, inl, inr, Bool, true, false, All, List, [], ◌∷◌, ◌++◌, length, get_or, Some, None, refl, sym, ap, subst, ◌∙◌, arith, length-append}
+use Rattle.std.specs.Prelude.{slice_get, if◌then◌else◌}
+use Rattle.std.proofs.lemmas.List.{length-map}
+use Rattle.std.proofs.lemmas.Option.{slice_get_within, get_or_from_slice_get, slice_get-get_or}
+use Rattle.f77_tree.specs.declared.statements.Labelled.{Labelled}
+use Rattle.f77_tree.specs.declared.statements.Stmt.{Stmt}
+use Rattle.f77_tree.specs.declared.statements.Stmt.TheVariants.{End}
+use Rattle.f77_tree.specs.StatementGrammar.{IsGiven, is_of_subroutines}
+use Rattle.f77_layout.specs.Source.{EndsWithEnd, IsSource}
+use Rattle.f77_subs.specs.Texts.{IsText}
+use Rattle.f77_subs.specs.Units.{in_first, is_end, stand_in, standing_in, units}
+use Rattle.f77_subs.proofs.StandInsGiven.{stand_in-given, stand_in-plain}
+
+-- ---- what holds of parts of a text
+
+abbrev Each : (P : Labelled → Type 0) → List Labelled → Type 0
+Each P stmts = (j : ℕ) (s : Labelled) → slice_get stmts j ≡ Some s → P s
+
+each-of : (P : Labelled → Type 0) (stmts : List Labelled) → All P stmts → Each P stmts
+each-of P stmts all j s here = subst P (get_or_from_slice_get stmts j s s here) (all j s (slice_get_within stmts j s here))
+
+all-of : (P : Labelled → Type 0) (stmts : List Labelled) → Each P stmts → All P stmts
+all-of P stmts each k d below = each k (get_or stmts k d) (slice_get-get_or stmts k d below)
+
+record AreRead (stmts : List Labelled) : Type 0 where
+  given : Each (λ s. IsGiven s.stmt) stmts
+  labels : Each (λ s. s.label ≤ 99999) stmts
+  rising : (j k : ℕ) (a b : Labelled) → slice_get stmts j ≡ Some a → slice_get stmts k ≡ Some b → j < k → a.line < b.line
+  few : length stmts ≤ 4000
+
+in-front : (u rest : List Labelled) (j : ℕ) (s : Labelled) → slice_get u j ≡ Some s → slice_get (u ++ rest) j ≡ Some s
+in-front [] rest j s here = let h : None ≡ Some s = here in absurd cc
+in-front (x ∷ u) rest zero s here = here
+in-front (x ∷ u) rest (suc j) s here = in-front u rest j s here
+
+behind-it : (u rest : List Labelled) (j : ℕ) (s : Labelled) → slice_get rest j ≡ Some s → slice_get (u ++ rest) (length u + j) ≡ Some s
+behind-it [] rest j s here = let e : 0 + j ≡ j = omega arith in ap (slice_get rest) e ∙ here
+behind-it (x ∷ u) rest j s here =
+    let e : length (x ∷ u) + j ≡ suc (length u + j) = omega arith in
+    ap (slice_get (x ∷ (u ++ rest))) e ∙ behind-it u rest j s here
+
+read-front : (u rest : List Labelled) → AreRead (u ++ rest) → AreRead u
+read-front u rest are = record {
+  given = λ j s here. are.given j s (in-front u rest j s here);
+  labels = λ j s here. are.labels j s (in-front u rest j s here);
+  rising = λ j k a b here there lt. are.rising j k a b (in-front u rest j a here) (in-front u rest k b there) lt;
+  few = omega (arith, length-append u rest, are.few);
+}
+
+read-behind : (u rest : List Labelled) → AreRead (u ++ rest) → AreRead rest
+read-behind u rest are = record {
+  given = λ j s here. are.given (length u + j) s (behind-it u rest j s here);
+  labels = λ j s here. are.labels (length u + j) s (behind-it u rest j s here);
+  rising = λ j k a b here there lt. are.rising (length u + j) (length u + k) a b (behind-it u rest j a here) (behind-it u rest k b there) (omega (arith, lt));
+  few = omega (arith, length-append u rest, are.few);
+}
+
+-- ---- END is the last statement
+
+abbrev LastIsEnd : List Labelled → Type 0
+LastIsEnd [] = ⊥
+LastIsEnd (s ∷ []) = s.stmt ≡ End
+LastIsEnd (s ∷ t ∷ rest) = LastIsEnd (t ∷ rest)
+
+last-at : (s t : Labelled) (rest : List Labelled) → slice_get (s ∷ t ∷ rest) (length (s ∷ t ∷ rest) - 1) ≡ slice_get (t ∷ rest) (length (t ∷ rest) - 1)
+last-at s t rest = let e : length (s ∷ t ∷ rest) - 1 ≡ suc (length (t ∷ rest) - 1) = omega arith in ap (slice_get (s ∷ t ∷ rest)) e
+
+to-last : (stmts : List Labelled) (last : Labelled) → slice_get stmts (length stmts - 1) ≡ Some last → last.stmt ≡ End → LastIsEnd stmts
+to-last [] last here is = let h : None ≡ Some last = here in absurd cc
+to-last (s ∷ []) last here is = let h : Some s ≡ Some last = here in let same : last ≡ s = cc in subst (λ (t : Labelled). t.stmt ≡ End) same is
+to-last (s ∷ t ∷ rest) last here is = to-last (t ∷ rest) last (sym (last-at s t rest) ∙ here) is
+
+from-last : (u : List Labelled) → LastIsEnd u → EndsWithEnd u
+from-last [] e = absurd e
+from-last (s ∷ []) e = record { last = s; stands = refl; is = e }
+from-last (s ∷ t ∷ rest) e = let r = from-last (t ∷ rest) e in record { last = r.last; stands = last-at s t rest ∙ r.stands; is = r.is }
+
+last-more : (s : Labelled) (u : List Labelled) → LastIsEnd u → LastIsEnd (s ∷ u)
+last-more s [] e = absurd e
+last-more s (t ∷ rest) e = e
+
+end-is : (stmt : Stmt) → is_end stmt ≡ true → stmt ≡ End
+end-is End e = refl
+end-is _ e = let h : false ≡ true = e in absurd cc
+
+-- ---- the first unit, and the others
+
+record First (stmts : List Labelled) : Type 0 where
+  unit : List Labelled
+  rest : List Labelled
+  whole : unit ++ rest ≡ stmts
+  cut : units stmts ≡ unit ∷ units rest
+  ended : LastIsEnd unit
+  more : (rest ≡ []) ⊎ LastIsEnd rest
+
+cut-by : (b : Bool) (s : Labelled) (rest : List Labelled) → is_end s.stmt ≡ b → units (s ∷ rest) ≡ (if b then (s ∷ []) ∷ units rest else in_first s (units rest))
+cut-by b s rest is = ap (λ (c : Bool). if c then (s ∷ []) ∷ units rest else in_first s (units rest)) is
+
+split : (s : Labelled) (rest : List Labelled) → LastIsEnd (s ∷ rest) → First (s ∷ rest)
+split s [] e = record { unit = s ∷ []; rest = []; whole = refl; cut = cut-by true s [] (ap is_end e); ended = e; more = inl refl }
+split s (t ∷ rest) e = by (is_end s.stmt) refl (split t rest e)
+  where
+    by : (b : Bool) → is_end s.stmt ≡ b → First (t ∷ rest) → First (s ∷ t ∷ rest)
+    by true is f = record { unit = s ∷ []; rest = t ∷ rest; whole = refl; cut = cut-by true s (t ∷ rest) is; ended = end-is s.stmt is; more = inr e }
+    by false is f = record {
+      unit = s ∷ f.unit;
+      rest = f.rest;
+      whole = ap (λ (xs : List Labelled). s ∷ xs) f.whole;
+      cut = cut-by false s (t ∷ rest) is ∙ ap (in_first s) f.cut;
+      ended = last-more s f.unit f.ended;
+      more = f.more;
+    }
+
+record IsUnit (u : List Labelled) : Type 0 where
+  read : AreRead u
+  ended : LastIsEnd u
+
+unit-is : (k : ℕ) (stmts u : List Labelled) → AreRead stmts → (stmts ≡ []) ⊎ LastIsEnd stmts → slice_get (units stmts) k ≡ Some u → IsUnit u
+unit-is k [] u are ended here = let h : None ≡ Some u = here in absurd cc
+unit-is k (s ∷ rest) u are (inl none) here = absurd cc
+unit-is zero (s ∷ rest) u are (inr ended) here =
+    let f = split s rest ended in
+    let h : Some f.unit ≡ Some u = ap (λ (us : List (List Labelled)). slice_get us 0) (sym f.cut) ∙ here in
+    let same : f.unit ≡ u = cc in
+    subst IsUnit same (record { read = read-front f.unit f.rest (subst AreRead (sym f.whole) are); ended = f.ended })
+unit-is (suc k) (s ∷ rest) u are (inr ended) here =
+    let f = split s rest ended in
+    unit-is k f.rest u (read-behind f.unit f.rest (subst AreRead (sym f.whole) are)) f.more (ap (λ (us : List (List Labelled)). slice_get us (suc k)) (sym f.cut) ∙ here)
+
+-- ---- what stands in for a unit
+
+abbrev standing : Labelled → Labelled
+standing s = record s { stmt = stand_in s.stmt }
+
+record StandsFor (u : List Labelled) (j : ℕ) (t : Labelled) : Type 0 where
+  s : Labelled
+  here : slice_get u j ≡ Some s
+  is : standing s ≡ t
+
+stands-for : (u : List Labelled) (j : ℕ) (t : Labelled) → slice_get (standing_in u) j ≡ Some t → StandsFor u j t
+stands-for [] j t e = let h : None ≡ Some t = e in absurd cc
+stands-for (s ∷ u) zero t e = let h : Some (standing s) ≡ Some t = e in record { s = s; here = refl; is = cc }
+stands-for (s ∷ u) (suc j) t e = let r = stands-for u j t e in record { s = r.s; here = r.here; is = r.is }
+
+stands-last : (u : List Labelled) → LastIsEnd u → LastIsEnd (standing_in u)
+stands-last [] e = absurd e
+stands-last (s ∷ []) e = ap stand_in e
+stands-last (s ∷ t ∷ rest) e = stands-last (t ∷ rest) e
+
+source-of : (u : List Labelled) → IsUnit u → IsSource (standing_in u)
+source-of u is = record {
+  given = all-of (λ t. IsGiven t.stmt) (standing_in u) (λ j t e. let r = stands-for u j t e in subst (λ (x : Labelled). IsGiven x.stmt) r.is (stand_in-given r.s.stmt (is.read.given j r.s r.here)));
+  no_subroutines = all-of (λ t. is_of_subroutines t.stmt ≡ false) (standing_in u) (λ j t e. let r = stands-for u j t e in subst (λ (x : Labelled). is_of_subroutines x.stmt ≡ false) r.is (stand_in-plain r.s.stmt (is.read.given j r.s r.here)));
+  labels = all-of (λ t. t.label ≤ 99999) (standing_in u) (λ j t e. let r = stands-for u j t e in subst (λ (x : Labelled). x.label ≤ 99999) r.is (is.read.labels j r.s r.here));
+  rising = λ j k a b at_a at_b lt.
+      let x = stands-for u j a at_a in
+      let y = stands-for u k b at_b in
+      let first : x.s.line ≡ a.line = ap (λ (t : Labelled). t.line) x.is in
+      let second : y.s.line ≡ b.line = ap (λ (t : Labelled). t.line) y.is in
+      omega (arith, first, second, is.read.rising j k x.s y.s x.here y.here lt);
+  few = omega (arith, length-map u standing, is.read.few);
+  ended = from-last (standing_in u) (stands-last u is.ended);
+}
+
+pub unit-source : (stmts : List Labelled) → IsText stmts → (k : ℕ) (u : List Labelled) → slice_get (units stmts) k ≡ Some u → IsSource (standing_in u)
+unit-source stmts text k u here =
+    let are : AreRead stmts = record { given = each-of (λ s. IsGiven s.stmt) stmts text.given; labels = each-of (λ s. s.label ≤ 99999) stmts text.labels; rising = text.rising; few = text.few } in
+    source-of u (unit-is k stmts u are (inr (to-last stmts text.ended.last text.ended.stands text.ended.is)) here)
