@@ -6,9 +6,9 @@
 
 PROGRAM is a built dfc. A text is made by its number and the seed alone: a text of examples/ or cases/ with one to eight changes of its
 bytes, tokens, lines or labels; or one written at random, well formed for the most part; or, one in N of --large (100), a large one near the
-limits of the language. Each is run under every job: regions, graph, fire (in both dialects, and by picks), trace, store, regen and run, each
-in a dialect and with data by chance, and with limit=L (2,000) where the job has a limit; and once with arguments of any kind, those of
-`sample` among them. With --one, a text gets one of these runs, drawn at random, and only one text in N of --whole (100) gets all. The rules:
+limits of the language. Each is run under every job: regions, graph, fire (in both dialects, and by picks), trace, store, forks (its output
+and its nodes), regen and run, each in a dialect and with data by chance, and with limit=L (2,000) where the job has a limit; and once with
+arguments of any kind, those of `sample` among them. With --one, a text gets one of these runs, drawn at random, and only one text in N of --whole (100) gets all. The rules:
 
 - no signal ends a run, none takes more than T seconds of the processor (10), and none is given more than M megabytes of memory (1,024);
 - the status is 0, 2, 3, 4 or 7, the last line fits it, and nothing is written to standard error;
@@ -330,6 +330,8 @@ def word_lists(chance, limit):
     yield ["fire"] + most + picks + data + dialect()
     yield ["trace"] + most + chance.choice([[], picks]) + data + dialect()
     yield ["store"] + most + chance.choice([[], picks]) + data + dialect()
+    yield ["forks"] + most + chance.choice([[], picks]) + data + dialect()
+    yield ["forks", "nodes"] + most + chance.choice([[], picks]) + data + dialect()
     yield ["run"] + most + data + dialect()
 
 
@@ -342,7 +344,8 @@ def hostile_words(chance):
     number = chance.choice(["1", "2", "13", "0", "-1", "", "000000000000000001", "0000000000000000001", "2000", "2001", "1 ", "4294967297"])
     if chance.random() < 0.1:
         return ["sample", number, *(["checked"] if chance.random() < 0.1 else [])]
-    words = [chance.choice(["fire", "trace", "store", "run", "graph", "regions", "regen", "fire", "run", "Fire", "fires", "sample", ""]),
+    words = [chance.choice(["fire", "trace", "store", "forks", "run", "graph", "regions", "regen", "fire", "run", "Fire", "fires", "sample", ""]),
+             *(["nodes"] if chance.random() < 0.2 else []),
              *(word for word in (limit, picks, data, "checked") if chance.random() < 0.5)]
     for _ in range(chance.choice([0, 0, 0, 1, 1, 2]) if words else 0):
         words = words or [""]
@@ -363,14 +366,14 @@ def status_of_words(words):
     if words[:1] == ["sample"]:
         return None if len(words) == 2 and re.fullmatch("[0-9]{1,18}", words[1]) and 1 <= int(words[1]) <= 2000 else 1
     forms = [r"limit=[0-9]{1,18}", r"picks=[0-9]{1,9}(,[0-9]{1,9})*", r"data=.*", "checked"]
-    allowed = {"fire": forms, "trace": forms, "store": forms, "run": [forms[0], *forms[2:]]}.get(words[0] if words else "", forms[3:])
-    rest = words[1:]
+    allowed = {"fire": forms, "trace": forms, "store": forms, "forks": forms, "run": [forms[0], *forms[2:]]}.get(words[0] if words else "", forms[3:])
+    rest = words[2:] if words[:2] == ["forks", "nodes"] else words[1:]
     for form in allowed:
         taken = bool(rest) and re.fullmatch(form, rest[0], re.S) is not None
         if taken and form == forms[2] and not all(is_number(part) for part in rest[0][5:].split(",")):
             return 1
         rest = rest[1:] if taken else rest
-    is_job = words and words[0] in ("fire", "trace", "store", "run", "graph", "regions", "regen")
+    is_job = words and words[0] in ("fire", "trace", "store", "forks", "run", "graph", "regions", "regen")
     return None if is_job and not rest else 1
 
 
@@ -396,6 +399,11 @@ def output_of(answer):
     return answer.begin if answer.status == 0 else answer.begin[: -len(last_line(answer)) - 1]
 
 
+def shows_output(words):
+    """Whether a run writes the program's own output."""
+    return words[0] in ("fire", "run") or words[0] == "forks" and words[1] != "nodes"
+
+
 def disagree(runs):
     """The rule that several runs on one text break, with the words of one, or nothing."""
     refused = {words[0]: refusal(answer) for words, answer in runs if answer.status != 7}
@@ -404,13 +412,13 @@ def disagree(runs):
     if len(set(plain)) > 1 or plain and plain[0] and set(refused.values()) != {plain[0]}:
         return runs[0][0], f"the jobs don't refuse alike: {refused}"
     for checked in (True, False):
-        mine = [(words, it) for words, it in runs if words[0] in ("fire", "run", "store", "trace") and ("checked" in words) == checked]
+        mine = [(words, it) for words, it in runs if words[0] in ("fire", "run", "store", "trace", "forks") and ("checked" in words) == checked]
         ended = [(words, it) for words, it in mine if it.status in (0, 3)]
         traps = {last_line(it).split(" LINE")[0] if it.status == 3 else "" for _, it in ended}
         if len(traps) > 1:
             return ended[0][0], f"the runs don't end alike: {traps}"
-        whole = {output_of(it) for words, it in ended if words[0] in ("fire", "run")} - {None}
-        parts = [output_of(it) for words, it in mine if it.status == 4 and words[0] in ("fire", "run")]
+        whole = {output_of(it) for words, it in ended if shows_output(words)} - {None}
+        parts = [output_of(it) for words, it in mine if it.status == 4 and shows_output(words)]
         if len(whole) > 1 or whole and any(part is not None and not next(iter(whole)).startswith(part) for part in parts):
             return mine[0][0], "the outputs differ"
     return None

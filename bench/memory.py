@@ -5,7 +5,7 @@
 
 PROGRAM is a built dfc that asks the C library for memory; `cc` has to be there. The texts are four of cases/ (`sequence`, `shared_word` and
 `euclid` of cases/fire, `two_ways` of cases/regions), those of examples/, unless --few leaves them out, and each PATH, or where it is a folder
-its files of less than 400 bytes without a dot in their names. Each text is run under every job, fire and store by picks too, with data and with
+its files of less than 400 bytes without a dot in their names. Each text is run under every job, fire, store and forks by picks too, with data and with
 limit=500 where the job takes them; and `sample 1` is, on no text. First each run has ample memory, and then the allocation number k is refused,
 for each k (at most N of a run, 3,000, spread over all): once alone, and once with every later one. Each run has to end with status 7 and
 nothing written, or as with ample memory.
@@ -23,7 +23,8 @@ TOP = os.path.dirname(os.path.dirname(os.path.abspath(__file__)))
 FIRST = ["fire/sequence", "fire/shared_word", "fire/euclid", "regions/two_ways"]
 GAME = ["limit=500", "data=3,5,-4,7,1,2,9"]
 LISTS = [["regions"], ["graph"], ["regen", "checked"], ["run"] + GAME, ["fire"] + GAME, ["fire", "limit=500", "picks=7,3,5"] + GAME[1:],
-         ["trace"] + GAME, ["store", "limit=500", "picks=1"] + GAME[1:] + ["checked"]]
+         ["trace"] + GAME, ["store", "limit=500", "picks=1"] + GAME[1:] + ["checked"],
+         ["forks"] + GAME, ["forks", "nodes", "limit=500", "picks=7,3,5"] + GAME[1:]]
 # Put before the C library: it counts the calls that ask for memory, refuses some, and tells the count where none is to be refused.
 REFUSER = r"""
 #include <stdio.h>

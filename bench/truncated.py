@@ -24,8 +24,8 @@ import sys
 from running import REWRITERS, Runner, broken, refusal
 
 TOP = os.path.dirname(os.path.dirname(os.path.abspath(__file__)))
-JOBS = ["regions", "graph", "fire", "trace", "store", "regen", "run"]
-LIMITED = ("fire", "trace", "store", "run")
+JOBS = ["regions", "graph", "fire", "trace", "store", "forks", "regen", "run"]
+LIMITED = ("fire", "trace", "store", "forks", "run")
 
 
 def word_lists(limit):
