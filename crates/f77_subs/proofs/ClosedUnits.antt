@@ -173,7 +173,7 @@ walk (s ∷ front) last ended stack none = by_open (open_after (record s { stmt 
     by_open None is no_line later = let e : Some s.line ≡ None = no_line in absurd cc
     by_open (Some beyond) is no_line later = follow-is s stack beyond is (λ d. are_closed d (front ++ last ∷ [])) ∙ later beyond no_line
 
-answer-none : {B : Type 0} (a b : Option B) → answer_or a b ≡ None → (a ≡ None) × (b ≡ None)
+pub answer-none : {B : Type 0} (a b : Option B) → answer_or a b ≡ None → (a ≡ None) × (b ≡ None)
 answer-none None b is = (refl, is)
 answer-none (Some x) b is = let e : Some x ≡ None = is in absurd cc
 

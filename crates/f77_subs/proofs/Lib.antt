@@ -6,6 +6,7 @@ mod SettledCopies
 mod StandingIn
 mod StandInsGiven
 mod UnitSources
+mod PositiveLabels
 mod UnitWalk
 mod SubNames
 mod Counting
@@ -37,6 +38,12 @@ mod RangeEnds
 mod MappedLandings
 mod LabelPlaces
 mod ReachedContexts
+mod AcceptedUnits
+mod ReachedUnits
+mod FreeNumbers
+mod OwnNames
+mod NotedEntities
+mod UsedNames
 mod ChangedRows
 mod ChangedAlike
 mod CalledNames
@@ -46,3 +53,8 @@ mod PuttingSteps
 mod TabledLabels
 mod CountedRounds
 mod CountedLabels
+mod NamesMet
+mod AlikeOnes
+mod StoredNames
+mod BadCalls
+mod DummyPlaces

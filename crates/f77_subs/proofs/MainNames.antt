@@ -13,8 +13,8 @@ use Rattle.f77_tree.specs.Places.{same_block}
 use Rattle.f77_layout.specs.Declarations.{all_commons}
 use Rattle.f77_layout.specs.Faults.{first_answer, answer_or}
 use Rattle.f77_subs.specs.Units.{unit_at}
-use Rattle.f77_subs.specs.Entities.{Entity, InBlock, Local, block_list, found_in, entity_or, entity_of}
-use Rattle.f77_subs.specs.Names.{has_block, is_main, main_name, y_name, name_for}
+use Rattle.f77_subs.specs.Entities.{InBlock, block_list, found_in, entity_or, entity_of}
+use Rattle.f77_subs.specs.Names.{main_name, y_name, name_for}
 
 abbrev named : List ℕ → Decl → Bool
 named x decl = bytes_eq decl.name x
@@ -48,7 +48,7 @@ or-behind false b is = is
 
 -- ---- blocks
 
-same_block-itself : (block : Option (List ℕ)) → same_block block block ≡ true
+pub same_block-itself : (block : Option (List ℕ)) → same_block block block ≡ true
 same_block-itself None = refl
 same_block-itself (Some name) = (bytes_eq-Decides name name).1 refl
 

@@ -18,7 +18,7 @@ module _ (a n : ℕ) (below : a ≤ n) where
       ap (λ (x : ℕ). if_below x (n + 1)) e ∙ ap (λ (c : Bool). unit_if c n) (lt-ltb n (n + 1) (omega arith))
   new_one false = ap (λ (c : Bool). unit_if c (n + 1)) (le-ltb (n + 1) (n + 1) (omega arith))
 
-  named-push : (b : Bool) → if_below (cond (eqb a n) (n + cond b 0 1) a) (n + 1) ≡ answer_or (if_below a n) (unit_if b n)
+  pub named-push : (b : Bool) → if_below (cond (eqb a n) (n + cond b 0 1) a) (n + 1) ≡ answer_or (if_below a n) (unit_if b n)
   named-push b = ⊎_elim
       (λ (there : nat_lt a n ≡ true).
       let less : a < n = ltb-true a n there in

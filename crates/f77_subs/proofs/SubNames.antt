@@ -13,11 +13,11 @@ or-step : (b u v w : Bool) → u ≡ (v || w) → (b || u) ≡ ((b || v) || w)
 or-step true u v w same = refl
 or-step false u v w same = same
 
-or-none : (b : Bool) → (b || false) ≡ b
+pub or-none : (b : Bool) → (b || false) ≡ b
 or-none true = refl
 or-none false = refl
 
-any-push : {X : Type 0} (p : X → Bool) (xs : List X) (y : X) → list_any p (xs ++ y ∷ []) ≡ (list_any p xs || p y)
+pub any-push : {X : Type 0} (p : X → Bool) (xs : List X) (y : X) → list_any p (xs ++ y ∷ []) ≡ (list_any p xs || p y)
 any-push p [] y = or-none (p y)
 any-push p (x ∷ xs) y = or-step (p x) (list_any p (xs ++ y ∷ [])) (list_any p xs) (p y) (any-push p xs y)
 

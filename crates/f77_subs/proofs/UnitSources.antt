@@ -1,6 +1,7 @@
--- The units of a text: each is a part of it that ends with END, and what stands in for it can be laid out.
+-- The units of a text: each is a part of it with END at its end and nowhere else, and what stands in for it can be laid out.
 use Rattle.std.proofs.Common.{◌≡◌, ℕ, zero, suc, ◌+◌, ◌-◌, ◌<◌, ◌≤◌, ◌⊎◌, inl, inr, Bool, true, false, All, List, [], ◌∷◌, ◌++◌, length, get_or, Some, None, refl, sym, ap, subst, ◌∙◌, arith, length-append}
-use Rattle.std.specs.Prelude.{slice_get, if◌then◌else◌}
+use Rattle.std.specs.List.{list_any}
+use Rattle.std.specs.Prelude.{slice_get, if◌then◌else◌, ◌||◌}
 use Rattle.std.proofs.lemmas.List.{length-map}
 use Rattle.std.proofs.lemmas.Option.{slice_get_within, get_or_from_slice_get, slice_get-get_or}
 use Rattle.f77_tree.specs.declared.statements.Labelled.{Labelled}
@@ -8,13 +9,14 @@ use Rattle.f77_tree.specs.declared.statements.Stmt.{Stmt}
 use Rattle.f77_tree.specs.declared.statements.Stmt.TheVariants.{End}
 use Rattle.f77_tree.specs.StatementGrammar.{IsGiven, is_of_subroutines}
 use Rattle.f77_layout.specs.Source.{EndsWithEnd, IsSource}
+use Rattle.f77_subs.specs.OpenBlocks.{IsEnded}
 use Rattle.f77_subs.specs.Texts.{IsText}
 use Rattle.f77_subs.specs.Units.{in_first, is_end, stand_in, standing_in, units}
 use Rattle.f77_subs.proofs.StandInsGiven.{stand_in-given, stand_in-plain}
 
 -- ---- what holds of parts of a text
 
-abbrev Each : (P : Labelled → Type 0) → List Labelled → Type 0
+abbrev pub Each : (P : Labelled → Type 0) → List Labelled → Type 0
 Each P stmts = (j : ℕ) (s : Labelled) → slice_get stmts j ≡ Some s → P s
 
 each-of : (P : Labelled → Type 0) (stmts : List Labelled) → All P stmts → Each P stmts
@@ -23,11 +25,11 @@ each-of P stmts all j s here = subst P (get_or_from_slice_get stmts j s s here) 
 all-of : (P : Labelled → Type 0) (stmts : List Labelled) → Each P stmts → All P stmts
 all-of P stmts each k d below = each k (get_or stmts k d) (slice_get-get_or stmts k d below)
 
-record AreRead (stmts : List Labelled) : Type 0 where
-  given : Each (λ s. IsGiven s.stmt) stmts
-  labels : Each (λ s. s.label ≤ 99999) stmts
-  rising : (j k : ℕ) (a b : Labelled) → slice_get stmts j ≡ Some a → slice_get stmts k ≡ Some b → j < k → a.line < b.line
-  few : length stmts ≤ 4000
+pub record AreRead (stmts : List Labelled) : Type 0 where
+  pub given : Each (λ s. IsGiven s.stmt) stmts
+  pub labels : Each (λ s. s.label ≤ 99999) stmts
+  pub rising : (j k : ℕ) (a b : Labelled) → slice_get stmts j ≡ Some a → slice_get stmts k ≡ Some b → j < k → a.line < b.line
+  pub few : length stmts ≤ 4000
 
 in-front : (u rest : List Labelled) (j : ℕ) (s : Labelled) → slice_get u j ≡ Some s → slice_get (u ++ rest) j ≡ Some s
 in-front [] rest j s here = let h : None ≡ Some s = here in absurd cc
@@ -58,7 +60,7 @@ read-behind u rest are = record {
 
 -- ---- END is the last statement
 
-abbrev LastIsEnd : List Labelled → Type 0
+abbrev pub LastIsEnd : List Labelled → Type 0
 LastIsEnd [] = ⊥
 LastIsEnd (s ∷ []) = s.stmt ≡ End
 LastIsEnd (s ∷ t ∷ rest) = LastIsEnd (t ∷ rest)
@@ -84,6 +86,10 @@ end-is : (stmt : Stmt) → is_end stmt ≡ true → stmt ≡ End
 end-is End e = refl
 end-is _ e = let h : false ≡ true = e in absurd cc
 
+or_false : (a b : Bool) → a ≡ false → b ≡ false → (a || b) ≡ false
+or_false true b h i = h
+or_false false b h i = i
+
 -- ---- the first unit, and the others
 
 record First (stmts : List Labelled) : Type 0 where
@@ -92,29 +98,44 @@ record First (stmts : List Labelled) : Type 0 where
   whole : unit ++ rest ≡ stmts
   cut : units stmts ≡ unit ∷ units rest
   ended : LastIsEnd unit
+  once : IsEnded unit
   more : (rest ≡ []) ⊎ LastIsEnd rest
 
 cut-by : (b : Bool) (s : Labelled) (rest : List Labelled) → is_end s.stmt ≡ b → units (s ∷ rest) ≡ (if b then (s ∷ []) ∷ units rest else in_first s (units rest))
 cut-by b s rest is = ap (λ (c : Bool). if c then (s ∷ []) ∷ units rest else in_first s (units rest)) is
 
+lone : (s : Labelled) → is_end s.stmt ≡ true → IsEnded (s ∷ [])
+lone s is = record { front = []; last = s; is = refl; ended = is; none = refl }
+
+longer : (s : Labelled) (u : List Labelled) → is_end s.stmt ≡ false → IsEnded u → IsEnded (s ∷ u)
+longer s u no_end once = record {
+  front = s ∷ once.front;
+  last = once.last;
+  is = ap (λ (xs : List Labelled). s ∷ xs) once.is;
+  ended = once.ended;
+  none = or_false (is_end s.stmt) (list_any (λ t. is_end t.stmt) once.front) no_end once.none;
+}
+
 split : (s : Labelled) (rest : List Labelled) → LastIsEnd (s ∷ rest) → First (s ∷ rest)
-split s [] e = record { unit = s ∷ []; rest = []; whole = refl; cut = cut-by true s [] (ap is_end e); ended = e; more = inl refl }
+split s [] e = record { unit = s ∷ []; rest = []; whole = refl; cut = cut-by true s [] (ap is_end e); ended = e; once = lone s (ap is_end e); more = inl refl }
 split s (t ∷ rest) e = by (is_end s.stmt) refl (split t rest e)
   where
     by : (b : Bool) → is_end s.stmt ≡ b → First (t ∷ rest) → First (s ∷ t ∷ rest)
-    by true is f = record { unit = s ∷ []; rest = t ∷ rest; whole = refl; cut = cut-by true s (t ∷ rest) is; ended = end-is s.stmt is; more = inr e }
+    by true is f = record { unit = s ∷ []; rest = t ∷ rest; whole = refl; cut = cut-by true s (t ∷ rest) is; ended = end-is s.stmt is; once = lone s is; more = inr e }
     by false is f = record {
       unit = s ∷ f.unit;
       rest = f.rest;
       whole = ap (λ (xs : List Labelled). s ∷ xs) f.whole;
       cut = cut-by false s (t ∷ rest) is ∙ ap (in_first s) f.cut;
       ended = last-more s f.unit f.ended;
+      once = longer s f.unit is f.once;
       more = f.more;
     }
 
-record IsUnit (u : List Labelled) : Type 0 where
-  read : AreRead u
-  ended : LastIsEnd u
+pub record IsUnit (u : List Labelled) : Type 0 where
+  pub read : AreRead u
+  pub ended : LastIsEnd u
+  pub once : IsEnded u
 
 unit-is : (k : ℕ) (stmts u : List Labelled) → AreRead stmts → (stmts ≡ []) ⊎ LastIsEnd stmts → slice_get (units stmts) k ≡ Some u → IsUnit u
 unit-is k [] u are ended here = let h : None ≡ Some u = here in absurd cc
@@ -123,7 +144,7 @@ unit-is zero (s ∷ rest) u are (inr ended) here =
     let f = split s rest ended in
     let h : Some f.unit ≡ Some u = ap (λ (us : List (List Labelled)). slice_get us 0) (sym f.cut) ∙ here in
     let same : f.unit ≡ u = cc in
-    subst IsUnit same (record { read = read-front f.unit f.rest (subst AreRead (sym f.whole) are); ended = f.ended })
+    subst IsUnit same (record { read = read-front f.unit f.rest (subst AreRead (sym f.whole) are); ended = f.ended; once = f.once })
 unit-is (suc k) (s ∷ rest) u are (inr ended) here =
     let f = split s rest ended in
     unit-is k f.rest u (read-behind f.unit f.rest (subst AreRead (sym f.whole) are)) f.more (ap (λ (us : List (List Labelled)). slice_get us (suc k)) (sym f.cut) ∙ here)
@@ -163,7 +184,10 @@ source-of u is = record {
   ended = from-last (standing_in u) (stands-last u is.ended);
 }
 
-pub unit-source : (stmts : List Labelled) → IsText stmts → (k : ℕ) (u : List Labelled) → slice_get (units stmts) k ≡ Some u → IsSource (standing_in u)
-unit-source stmts text k u here =
+pub text-unit : (stmts : List Labelled) → IsText stmts → (k : ℕ) (u : List Labelled) → slice_get (units stmts) k ≡ Some u → IsUnit u
+text-unit stmts text k u here =
     let are : AreRead stmts = record { given = each-of (λ s. IsGiven s.stmt) stmts text.given; labels = each-of (λ s. s.label ≤ 99999) stmts text.labels; rising = text.rising; few = text.few } in
-    source-of u (unit-is k stmts u are (inr (to-last stmts text.ended.last text.ended.stands text.ended.is)) here)
+    unit-is k stmts u are (inr (to-last stmts text.ended.last text.ended.stands text.ended.is)) here
+
+pub unit-source : (stmts : List Labelled) → IsText stmts → (k : ℕ) (u : List Labelled) → slice_get (units stmts) k ≡ Some u → IsSource (standing_in u)
+unit-source stmts text k u here = source-of u (text-unit stmts text k u here)

@@ -22,5 +22,8 @@ pub mod Landings
 pub mod CopiedLoops
 pub mod Contexts
 pub mod Refusals
+pub mod Alike
+pub mod Dummies
+pub mod Said
 pub mod Storage
 pub mod Calls

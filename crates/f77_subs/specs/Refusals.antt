@@ -154,12 +154,12 @@ abbrev pub end_at : (ℕ → SubEnd) → Option ℕ → Option SubEnd
 end_at refused None = None
 end_at refused (Some line) = Some (refused line)
 
+abbrev pub layout_end_of : Option LayoutEnd → Option SubEnd
+layout_end_of None = None
+layout_end_of (Some end) = Some (Layout end)
+
 abbrev pub layout_end : List Labelled → (checked : Bool) → Option SubEnd
-layout_end u checked = by_end (refusal (standing_in u) checked)
-  where
-    by_end : Option LayoutEnd → Option SubEnd
-    by_end None = None
-    by_end (Some end) = Some (Layout end)
+layout_end u checked = layout_end_of (refusal (standing_in u) checked)
 
 abbrev pub unit_refusals : List Labelled → List (List Labelled) → (checked : Bool) → List (Option SubEnd)
 unit_refusals stmts us checked =

@@ -1,12 +1,16 @@
 //! Program units: the statements of a text that has subroutines, and the one program that they come to.
 #![tactic(auto)]
 
+mod alike;
+mod bad_calls;
 mod call_rows;
 mod changed;
 mod changed_stmts;
 mod changes;
 mod copy_laws;
 mod copying;
+mod dummies;
+mod dummy_places;
 mod label_counts;
 mod label_tables;
 mod labels;
@@ -20,7 +24,9 @@ mod sub_end;
 mod sub_index;
 mod sub_names;
 mod unit_laws;
+mod unit_names;
 mod unit_order;
+mod unit_said;
 mod unit_table;
 mod widths;
 
@@ -28,6 +34,7 @@ pub use laws::{copies_are_counted, copies_settle, units_have_heights};
 pub use listed_copies::{
     arms_end_alike, contexts_are_in_place, control_falls_alike, copies_are_sealed,
     copies_stand_in_lists, labels_lead_to_pieces, labels_of_pieces_stand_apart, loops_end_alike,
+    units_keep_their_control,
 };
 pub use sub_end::SubEnd;
-pub use unit_laws::{stand_ins_are_given, units_are_sources};
+pub use unit_laws::{own_names_are_new, stand_ins_are_given, units_are_sources, units_end_once};

@@ -8,7 +8,7 @@ ghost use Rattle.f77_layout.specs.Executables.{first_of, is_do_to, loops_to, met
 ghost use Rattle.f77_layout.specs.Jumps.{end_after, end_of_arm, end_of_block, is_block_if};
 ghost use Rattle.f77_layout.specs.Labels.{is_arm, statement_of};
 ghost use Rattle.f77_layout.specs.Layout.{refusal};
-ghost use Rattle.f77_subs.specs.Units.{Call, call_in, guard_of, standing_in, unit_at, unit_of};
+ghost use Rattle.f77_subs.specs.Units.{Call, call_in, guard_of, standing_in, unit_at, unit_of, units};
 ghost use Rattle.f77_subs.specs.Entities.{Entity};
 ghost use Rattle.f77_subs.specs.Widths.{body_labels, body_width, labels, labels_written};
 ghost use Rattle.f77_subs.specs.Contexts.{IsInPlace, IsReached};
@@ -19,6 +19,8 @@ ghost use Rattle.f77_subs.specs.ListedCopies.{IsClosedAt, StandsIn, called_conte
 ghost use Rattle.f77_subs.specs.CopiedLoops.{HasEndOf, HasItsLoops, HaveEnds, IsEndOf, last_number};
 ghost use Rattle.f77_subs.specs.Landings.{landing};
 ghost use Rattle.f77_subs.specs.OpenBlocks.{AreClosedUnits, IsEnded, are_closed};
+ghost use Rattle.f77_subs.specs.Refusals.{unit_refusal};
+ghost use Rattle.f77_subs.specs.Texts.{IsText};
 
 /// The main program stands in the whole list, and where the context of a unit stands in a list, so does that of each CALL in
 /// the unit, behind the label before it and, after a condition, the IF.
@@ -90,4 +92,15 @@ pub fn loops_end_alike()
 /// whole list, with its loops, and is deep enough for the copies in it.
 pub fn contexts_are_in_place()
     ensures { (us : List (List Labelled)) → NoneCallsItself us → HaveEnds us → (c : Context) (at : ℕ → ℕ) → IsReached us c at → IsInPlace us c at }
+{}
+
+/// In a text whose units nothing refuses, the blocks of IF and the DO loops of each unit end in it, and no unit calls itself; so
+/// each context that is reached is in its place, and is of a unit of the text, which END ends.
+pub fn units_keep_their_control()
+    ensures closed { (stmts : List Labelled) (checked : Bool) → IsText stmts → unit_refusal stmts checked ≡ None → AreClosedUnits (units stmts) }
+    ensures ends { (stmts : List Labelled) (checked : Bool) → IsText stmts → unit_refusal stmts checked ≡ None → HaveEnds (units stmts) }
+    ensures alone { (stmts : List Labelled) (checked : Bool) → IsText stmts → unit_refusal stmts checked ≡ None → NoneCallsItself (units stmts) }
+    ensures placed { (stmts : List Labelled) (checked : Bool) → IsText stmts → unit_refusal stmts checked ≡ None → (c : Context) (at : ℕ → ℕ) → IsReached (units stmts) c at → IsInPlace (units stmts) c at }
+    ensures inside { (stmts : List Labelled) (checked : Bool) → IsText stmts → unit_refusal stmts checked ≡ None → (c : Context) (at : ℕ → ℕ) → IsReached (units stmts) c at → c.unit < length (units stmts) }
+    ensures ended { (stmts : List Labelled) (checked : Bool) → IsText stmts → unit_refusal stmts checked ≡ None → (c : Context) (at : ℕ → ℕ) → IsReached (units stmts) c at → IsEnded (unit_at (units stmts) c.unit) }
 {}

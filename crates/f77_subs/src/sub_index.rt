@@ -53,7 +53,8 @@ fn note_sub(
     }
 }
 
-fn note_name(
+/// Notes the number k for a name, unless one was noted before.
+pub(crate) fn note_name(
     alloc: Global,
     index: &mut IndexMap<Name, usize>,
     name: &Name,

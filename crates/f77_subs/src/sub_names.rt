@@ -78,8 +78,8 @@ impl Model for SubNames {
 }
 
 impl SubNames {
-    // No names.
-    fn new(alloc: Global) -> SubNames
+    /// No names.
+    pub(crate) fn new(alloc: Global) -> SubNames
         ensures { result ≡ [] }
     {
         SubNames {
@@ -87,8 +87,8 @@ impl SubNames {
         }
     }
 
-    // Adds a name, and tells whether it is new.
-    fn add(&mut self, alloc: Global, name: &Name) -> Result<bool, NoMemory>
+    /// Adds a name, and tells whether it is new.
+    pub(crate) fn add(&mut self, alloc: Global, name: &Name) -> Result<bool, NoMemory>
         ensures new { IfOk result (λ is_new. is_new ≡ not (list_any (bytes_eq name.now) self.old)) }
         ensures names { IfOk result (λ is_new. is_new ≡ true → self.new ≡ self.old ++ name.now ∷ []) }
     {

@@ -1,0 +1,113 @@
+//! CALLs whose arguments aren't as the dummies of the subroutine are, and dummies that stand where they can't.
+ghost use Rattle.std.specs.Prelude.{◌≡◌, ◌+◌, ◌<◌, ◌≤◌, ◌||◌, ℕ, List, true, length, bytes_eq, if◌then◌else◌, IfOk};
+ghost use Rattle.indexmap.specs.IndexMap.{get};
+ghost use Rattle.f77_layout.specs.Faults.{first_line};
+ghost use Rattle.f77_subs.specs.Units.{call_by, call_in, is_end as is_end_of, unit_at, units};
+ghost use Rattle.f77_subs.specs.CallTable.{unit_named};
+ghost use Rattle.f77_subs.specs.Refusals.{calls_wrongly, has_bad_call, has_wrong_dummy as has_wrong_dummy_of};
+ghost use Rattle.f77_subs.specs.Said.{AreSaid, IsSaidOf};
+
+use crate::call_rows::unit_of;
+use crate::dummies::has_wrong_dummy;
+use crate::splitting::{Units, is_end};
+use crate::sub_names::inner_of;
+use crate::unit_said::UnitSaid;
+use df_sequence::NoMemory;
+use f77_tree::{Labelled, Name, Stmt};
+use indexmap::IndexMap;
+use std::alloc::Global;
+
+/// The line of the first statement whose CALL has arguments that aren't as the dummies of the subroutine are, or that has
+/// a dummy twice, or one that its unit has in COMMON, EQUIVALENCE or DATA. It takes a time linear in the statements.
+pub(crate) fn first_bad_call(
+    alloc: Global,
+    stmts: &[Labelled],
+    us: &Units,
+    index: &IndexMap<Name, usize>,
+) -> Result<Option<u32>, NoMemory>
+    requires units { us.now ≡ units stmts.now }
+    requires index { (name : List ℕ) → get bytes_eq index.now name ≡ unit_named us.now name }
+    ensures { IfOk result (λ line. line ≡ first_line (has_bad_call us.now) stmts.now) }
+{
+    let said = said_units(alloc, us)?;
+    let mut k = 0;
+    for s in stmts {
+        let bad = is_bad(alloc, us, index, &said, k, &s.stmt)?;
+        if bad {
+            return Ok(Some(s.line));
+        }
+        k = unit_after(k, us.len(), &s.stmt);
+    }
+    Ok(None)
+}
+
+// What is asked of each unit, and, last, of one without statements.
+fn said_units(alloc: Global, us: &Units) -> Result<Vec<UnitSaid>, NoMemory>
+    ensures { IfOk result (λ said. AreSaid us.now said.items) }
+{
+    let mut said = Vec::new(alloc);
+    for k in 0..us.len() {
+        said.push(UnitSaid::of(alloc, us.at(k))?)?;
+    }
+    said.push(UnitSaid::of(alloc, &[])?)?;
+    Ok(said)
+}
+
+// The unit of the statement behind this one, which stands in the unit k of so many.
+fn unit_after(k: usize, count: usize, stmt: &Stmt) -> usize
+    requires { is_end_of stmt.now ≡ true → k < count }
+    ensures { result ≡ (if is_end_of stmt.now then k + 1 else k) }
+{
+    if is_end(stmt) { k + 1 } else { k }
+}
+
+// Whether a statement of the unit k has a wrong CALL or a wrong dummy.
+fn is_bad(
+    alloc: Global,
+    us: &Units,
+    index: &IndexMap<Name, usize>,
+    said: &[UnitSaid],
+    k: usize,
+    stmt: &Stmt,
+) -> Result<bool, NoMemory>
+    requires index { (name : List ℕ) → get bytes_eq index.now name ≡ unit_named us.now name }
+    requires said { AreSaid us.now said.now }
+    requires unit { k ≤ length us.now }
+    ensures { IfOk result (λ bad. bad ≡ (calls_wrongly us.now k (call_in stmt.now) || has_wrong_dummy_of (unit_at us.now k) stmt.now)) }
+{
+    let wrong = is_wrong_call(us, index, said, k, inner_of(stmt));
+    if wrong {
+        return Ok(true);
+    }
+    has_wrong_dummy(alloc, &said_at(us, said, k).storage, stmt)
+}
+
+// Whether a statement of the unit k is a CALL with wrong arguments.
+fn is_wrong_call(
+    us: &Units,
+    index: &IndexMap<Name, usize>,
+    said: &[UnitSaid],
+    k: usize,
+    stmt: &Stmt,
+) -> bool
+    requires index { (name : List ℕ) → get bytes_eq index.now name ≡ unit_named us.now name }
+    requires said { AreSaid us.now said.now }
+    requires unit { k ≤ length us.now }
+    ensures { result ≡ calls_wrongly us.now k (call_by stmt.now) }
+{
+    match stmt {
+        Stmt::CallTo(name, arguments) => {
+            let callee = said_at(us, said, unit_of(us, index, name));
+            said_at(us, said, k).calls_wrongly(callee, arguments.as_slice())
+        }
+        _ => false,
+    }
+}
+
+fn said_at<'a>(us: &Units, said: &'a [UnitSaid], k: usize) -> &'a UnitSaid
+    requires said { AreSaid us.now said.now }
+    requires unit { k ≤ length us.now }
+    ensures { IsSaidOf (unit_at us.now k) result.now }
+{
+    &said[k]
+}
