@@ -11,7 +11,7 @@ ghost use Rattle.net_board.specs.Nodes.{graph_in};
 ghost use Rattle.net_board.specs.SoundNets.{HasSizesOf};
 ghost use Rattle.net_board.specs.Tokens.{edge_of};
 ghost use Rattle.op_board.specs.OperationCourse.{operation_course};
-ghost use Rattle.op_board.specs.OperationNets.{needed, operation_at, operation_count, operation_node};
+ghost use Rattle.op_board.specs.OperationNets.{needed, needing_before, operation_at, operation_count, operation_node};
 ghost use Rattle.op_board.specs.OperationTokens.{OperationTokens, is_given, passed_by, value_at};
 ghost use Rattle.op_board.specs.Operations.{gives_value};
 ghost use Rattle.operation_lists.specs.Seen.{operand_seen};
@@ -24,6 +24,7 @@ ghost use Rattle.op_net.specs.Telling.{operation_name};
 ghost use Rattle.op_net.specs.Waits.{IsNodeBefore, node_total, one_if, takes_from};
 
 use crate::control_moves::{due_at, steered};
+use crate::leads::lead_of;
 use crate::standing::{entry, head, is_needed, node_before, turn_of};
 use crate::telling::{operand_at, work_name};
 use crate::waiting::waits_for_operands;
@@ -149,12 +150,14 @@ impl<const W: usize> OpNet<'_, W> {
         self.board.row(piece, i).gives
     }
 
-    /// The node of an operation.
+    /// The node of an operation. Lines that it needs, and that have passed the operations of the piece before it that need them, stand
+    /// before it.
     pub fn operation_node(&self, piece: u32, i: u32) -> u32
         requires piece { piece < (graph_in (net_of self.now).net).nodes }
         requires operation { i < operation_count (net_of self.now) piece }
         ensures name { operation_node (net_of self.now) result ≡ Op piece i }
         ensures exists { result < node_total (net_of self.now) }
+        ensures before { (line edge : ℕ) → (net_of self.now).needs piece i line ≡ true → to (graph_in (net_of self.now).net) edge ≡ piece → IsNodeBefore (net_of self.now) line (Some edge) (needing_before (net_of self.now) piece i line) result }
     {
         self.board.first(piece) + i
     }
@@ -212,9 +215,44 @@ impl<const W: usize> OpNet<'_, W> {
         }
     }
 
-    // The node before which a line stands on an edge, where it has passed so many of the operations that need it, or the number of all
-    // nodes.
-    fn node_at(&self, line: u32, edge: u32, passed: u32) -> u32
+    /// Puts a line that stands before one node on an edge, where it has passed so many of the operations that need it, so that it stands
+    /// before another node, or the same, or none.
+    #[inline(always)]
+    pub fn put_between(&mut self, line: u32, edge: u32, passed: u32, from: u32, to: u32)
+        requires line { line < (net_of self.old).net.routing.lines }
+        requires edge { edge < edge_count (graph_in (net_of self.old).net) }
+        requires from { IsNodeBefore (net_of self.old) line (edge_of (marking_of self.old).tokens line) (passed_by (marking_of self.old) line) from }
+        requires to { IsNodeBefore (net_of self.old) line (Some edge) passed to }
+        ensures net { net_of self.new ≡ net_of self.old }
+        ensures marking { marking_of self.new ≡ line_put (marking_of self.old) line (Some edge) passed }
+        ensures place { self.new.control ≡ self.old.control }
+        ensures kept { KeepsApart self.old self.new }
+        ensures last { self.new.text.items ≡ self.old.text.items }
+    {
+        self.places
+            .put_line(&self.board, line, Some(edge), passed, from, to);
+    }
+
+    /// Where a line comes to stand that is led along an edge: on which edge, and before which node, or the number of all nodes.
+    #[inline(always)]
+    pub fn led_to(&mut self, line: u32, edge: u32) -> (u32, u32)
+        requires line { line < (net_of self.old).net.routing.lines }
+        requires edge { edge < edge_count (graph_in (net_of self.old).net) }
+        ensures wire { result.0 ≡ next_at (net_of self.old).net.routing line edge }
+        ensures node { IsNodeBefore (net_of self.old) line (Some result.0) 0 result.1 }
+        ensures net { net_of self.new ≡ net_of self.old }
+        ensures marking { marking_of self.new ≡ marking_of self.old }
+        ensures place { self.new.control ≡ self.old.control }
+        ensures kept { KeepsApart self.old self.new }
+        ensures last { self.new.text.items ≡ self.old.text.items }
+    {
+        let lead = lead_of(&self.board, true, &mut self.places.leads, line, edge);
+        (lead.wire, lead.node)
+    }
+
+    /// The node before which a line stands on an edge, where it has passed so many of the operations that need it, or the number of all
+    /// nodes.
+    pub fn node_at(&self, line: u32, edge: u32, passed: u32) -> u32
         requires line { line < (net_of self.now).net.routing.lines }
         requires edge { edge < edge_count (graph_in (net_of self.now).net) }
         ensures { IsNodeBefore (net_of self.now) line (Some edge) passed result }
@@ -448,6 +486,20 @@ impl<const W: usize> OpNet<'_, W> {
         ensures { slice_get (needed (net_of self.now) piece i) nth ≡ Some result }
     {
         self.board.row(piece, i).hops[nth as usize].line as u32
+    }
+
+    /// The next operation of the piece that needs one of the lines that an operation needs, counted from 0.
+    pub fn needed_next(&self, piece: u32, i: u32, nth: u32) -> Option<u32>
+        requires piece { piece < (graph_in (net_of self.now).net).nodes }
+        requires operation { i < operation_count (net_of self.now) piece }
+        requires inside { nth < length (needed (net_of self.now) piece i) }
+        ensures { (line : ℕ) → slice_get (needed (net_of self.now) piece i) nth ≡ Some line → NextIs (net_of self.now) piece i line result }
+    {
+        let hop = self.board.row(piece, i).hops[nth as usize];
+        match hop.next {
+            Some(n) => Some(u32::from(n)),
+            None => None,
+        }
     }
 
     // ---- operands
