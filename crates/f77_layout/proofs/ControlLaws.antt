@@ -20,7 +20,7 @@ use Rattle.f77_layout.specs.Counts.{asks_too_much, items_taken}
 use Rattle.f77_layout.specs.Executables.{own_executables, own_kinds, increments, beyond, is_do_to, is_do_in, loops_above, loops_to, executables_with_ends, first_of, executables_at, executables_if_any, executables}
 use Rattle.f77_layout.specs.Tables.{IsUsable}
 use Rattle.f77_layout.proofs.LabelLemmas.{statement_of-own}
-use Rattle.f77_layout.proofs.UsedLabels.{used_given}
+use Rattle.f77_layout.proofs.UsedLabels.{used_labels}
 use Rattle.f77_layout.proofs.LoopTables.{range-more, loops_above-next}
 use Rattle.f77_layout.proofs.ExecutableLemmas.{length-own, length-increments, first_of-next}
 use Rattle.f77_layout.proofs.FewExecutables.{own_few, items_few}
@@ -112,7 +112,7 @@ module _ (stmts : List Labelled) (source : IsSource stmts) (once : first_line is
   ends-once : (k : ℕ) (o : Option Labelled) → slice_get stmts k ≡ o → sum_by (λ s. one_if (is_do_in s.label o)) stmts ≤ 1
   ends-once k None at = omega (arith, sum-nothing (λ (s : Labelled). 0) (λ s. refl) stmts)
   ends-once k (Some d) at = one-pass (λ (s : Labelled). is_do_to s.label d.stmt) stmts (λ i j a b here there e f.
-      let labels = used_given stmts source k d at in
+      let labels = used_labels stmts source k d at in
       let same = same-label d.stmt a.label b.label e f in
       sym (statement_of-own stmts once i a here (some-label d.stmt a.label labels e)) ∙ ap (statement_of stmts) same ∙ statement_of-own stmts once j b there (some-label d.stmt b.label labels f))
 

@@ -18,9 +18,10 @@ use Rattle.f77_layout.specs.Declarations.{dims_of as dims_declared, parts_of, al
 use Rattle.f77_layout.specs.Layout.{names_of, placed_names}
 use Rattle.f77_layout.specs.Source.{IsSource}
 use Rattle.f77_layout.specs.StorageFaults.{common_names, has_wrong_storage}
+use Rattle.f77_layout.specs.ReadDeclarations.{IsReadPart}
 use Rattle.f77_layout.proofs.NameTable.{dims_in_table}
 use Rattle.f77_layout.proofs.ProperPlaced.{placed_names-agrees}
-use Rattle.f77_layout.proofs.DeclaredForms.{IsReadPart, All-flat_map, all_commons-read}
+use Rattle.f77_layout.proofs.DeclaredForms.{All-flat_map, all_commons-read}
 use Rattle.f77_layout.proofs.DeclaredNames.{same_index}
 use Rattle.f77_layout.proofs.DeclaredOnce.{one_place, once_in_all}
 use Rattle.f77_layout.proofs.DeclaredKnown.{PartKnown, all_commons-known}
@@ -58,7 +59,7 @@ module _ (whole : List Labelled) where
 
   pub all_commons-right : IsSource whole → first_line (has_wrong_storage (names_of whole) (placed_names whole) whole) whole ≡ None → All (IsCommonPart (placed_names whole)) (all_commons whole)
   all_commons-right source right k d lt =
-      common_part _ (all_commons-read whole source.given k d lt) (all_commons-known whole k d lt) (all_commons-dims (names_of whole) (placed_names whole) whole right k d lt)
+      common_part _ (all_commons-read whole source.trees k d lt) (all_commons-known whole k d lt) (all_commons-dims (names_of whole) (placed_names whole) whole right k d lt)
 
 -- ---- each name once
 

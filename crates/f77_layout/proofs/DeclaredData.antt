@@ -17,9 +17,10 @@ use Rattle.f77_layout.specs.Declarations.{all_inits}
 use Rattle.f77_layout.specs.Layout.{names_of, placed_names, word_count, last_line, line_of_words, program}
 use Rattle.f77_layout.specs.Source.{IsSource}
 use Rattle.f77_layout.specs.StorageFaults.{has_wrong_storage, same_kind, are_same_kinds, is_wrong_part, has_wrong_part}
+use Rattle.f77_layout.specs.ReadDeclarations.{IsReadInit}
 use Rattle.f77_layout.proofs.RightStorage.{right_data_of}
 use Rattle.f77_layout.proofs.FirstLine.{has_repeat-append}
-use Rattle.f77_layout.proofs.DeclaredForms.{IsReadInit, all_inits-read}
+use Rattle.f77_layout.proofs.DeclaredForms.{all_inits-read}
 use Rattle.f77_layout.proofs.DeclaredOnce.{one_place}
 use Rattle.f77_layout.proofs.DeclaredMembers.{all_items-right}
 
@@ -70,7 +71,7 @@ module _ (whole : List Labelled) (right : first_line (has_wrong_storage (names_o
   -- each part of DATA of a program is one by itself
   pub all_inits-right : IsSource whole → All (IsInitPart (placed_names whole)) (all_inits whole)
   all_inits-right source k d lt =
-      init_part (placed_names whole) _ (all_inits-read whole source.given k d lt) (all_items-right whole source right k d lt) (all_kinds (placed_names whole) [] (all_inits whole) (right_data_of (names_of whole) (placed_names whole) whole right) k d lt)
+      init_part (placed_names whole) _ (all_inits-read whole source.trees k d lt) (all_items-right whole source right k d lt) (all_kinds (placed_names whole) [] (all_inits whole) (right_data_of (names_of whole) (placed_names whole) whole right) k d lt)
 
   -- no word is given a value twice
   pub all_inits-once : GivenOnce (placed_names whole) (all_inits whole)

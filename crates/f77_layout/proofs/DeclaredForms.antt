@@ -7,11 +7,7 @@ use Rattle.std.proofs.lemmas.Bool.Decides.{nat_tests}
 use Rattle.std.proofs.lemmas.Int.{ints}
 use Rattle.std.proofs.lemmas.List.{length-map}
 use Rattle.std.proofs.lemmas.List.Elements.{All-nil, All-cons, All-head, All-tail, All-append, All-weaker}
-use Rattle.f77_tree.specs.declared.declarations.Dim.{Dim}
-use Rattle.f77_tree.specs.declared.declarations.Decl.{Decl}
 use Rattle.f77_tree.specs.declared.declarations.CommonPart.{CommonPart}
-use Rattle.f77_tree.specs.declared.declarations.InitPart.{InitPart}
-use Rattle.f77_tree.specs.declared.declarations.Member.{Member}
 use Rattle.f77_tree.specs.declared.statements.Labelled.{Labelled}
 use Rattle.f77_tree.specs.declared.statements.Stmt.{Stmt}
 use Rattle.f77_tree.specs.Grammar.{greatest_constant, number_of}
@@ -19,33 +15,9 @@ use Rattle.f77_tree.specs.StatementGrammar.{Sign, No_sign, Plus_sign, Minus_sign
 use Rattle.f77_tree.specs.Declarations.{CanBeWritten, IsBlock}
 use Rattle.f77_tree.specs.InitialWords.{IsLit, IsInitValue}
 use Rattle.f77_layout.specs.Declarations.{declarators, all_declarators, parts_of, all_commons, groups_of, all_groups, inits_of, all_inits}
+use Rattle.f77_layout.specs.ReadDeclarations.{IsReadDecl, IsReadPart, IsReadGroup, IsReadInit, IsReadDeclaration}
+use Rattle.f77_layout.specs.StatementTrees.{IsTree}
 use Rattle.f77_layout.proofs.FlatParts.{list_any-flat_map}
-
--- ---- what a text gives
-
--- bounds that a source can write, of at most seven dimensions
-pub record IsReadDims (dims : List Dim) : Type 0 where
-  pub lower : All (λ dim. CanBeWritten dim.lo) dims
-  pub upper : All (λ dim. CanBeWritten dim.hi) dims
-  pub few : length dims ≤ 7
-
-abbrev pub IsReadDecl : Decl → Type 0
-IsReadDecl decl = IsReadDims decl.dims
-
--- a part of COMMON has names
-pub record IsReadPart (part : CommonPart) : Type 0 where
-  pub block_name : IsBlock part.block
-  pub some : 0 < length part.decls
-
--- a group has two members
-abbrev pub IsReadGroup : List Member → Type 0
-IsReadGroup group = 2 ≤ length group
-
--- a part of DATA has items and constants
-pub record IsReadInit (part : InitPart) : Type 0 where
-  pub some_items : 0 < length part.items
-  pub some_values : 0 < length part.values
-  pub written : All IsInitValue part.values
 
 -- ---- lists
 
@@ -188,13 +160,6 @@ read_inits _ is few = All-nil IsReadInit
 
 -- ---- statements
 
--- what a statement of a source declares
-pub record IsReadDeclaration (stmt : Stmt) : Type 0 where
-  pub decls : All IsReadDecl (declarators stmt)
-  pub parts : All IsReadPart (parts_of stmt)
-  pub groups : All IsReadGroup (groups_of stmt)
-  pub inits : All IsReadInit (inits_of stmt)
-
 pub given-IsReadDeclaration : (stmt : Stmt) → IsGiven stmt → IsReadDeclaration stmt
 given-IsReadDeclaration stmt given =
     let read = given.is_read in
@@ -208,9 +173,9 @@ given-IsReadDeclaration stmt given =
 
 -- ---- all statements
 
-module _ (stmts : List Labelled) (given : All (λ s. IsGiven s.stmt) stmts) where
+module _ (stmts : List Labelled) (trees : All (λ s. IsTree s.stmt) stmts) where
   each : All (λ s. IsReadDeclaration s.stmt) stmts
-  each = All-weaker (λ (s : Labelled). IsGiven s.stmt) (λ s. IsReadDeclaration s.stmt) (λ s. given-IsReadDeclaration s.stmt) stmts given
+  each = All-weaker (λ (s : Labelled). IsTree s.stmt) (λ s. IsReadDeclaration s.stmt) (λ s is. is.declares) stmts trees
 
   pub all_declarators-read : All IsReadDecl (all_declarators stmts)
   all_declarators-read = All-flat_map IsReadDecl (λ s. declarators s.stmt) stmts (All-weaker (λ (s : Labelled). IsReadDeclaration s.stmt) (λ s. All IsReadDecl (declarators s.stmt)) (λ s is. is.decls) stmts each)

@@ -19,9 +19,10 @@ use Rattle.f77_layout.specs.Declarations.{groups_of, all_groups, inits_of, all_i
 use Rattle.f77_layout.specs.Layout.{names_of, placed_names}
 use Rattle.f77_layout.specs.Source.{IsSource}
 use Rattle.f77_layout.specs.StorageFaults.{are_within, is_member, members_of, has_wrong_member, has_wrong_storage}
+use Rattle.f77_layout.specs.ReadDeclarations.{IsReadGroup}
 use Rattle.f77_layout.proofs.ProperPlaced.{placed_names-agrees}
 use Rattle.f77_layout.proofs.StorageLines.{after_clear, after_next}
-use Rattle.f77_layout.proofs.DeclaredForms.{IsReadGroup, All-flat_map, all_groups-read}
+use Rattle.f77_layout.proofs.DeclaredForms.{All-flat_map, all_groups-read}
 use Rattle.f77_layout.proofs.DeclaredNames.{same_index}
 use Rattle.f77_layout.proofs.DeclaredKnown.{GroupKnown, all_groups-known, all_inits-known, each_part}
 use Rattle.f77_layout.proofs.DeclaredDims.{right_declaration}
@@ -100,7 +101,7 @@ module _ (whole : List Labelled) (source : IsSource whole) (right : first_line (
 
   -- each group of a program is a group
   pub all_groups-right : All (IsGroup placed) (all_groups whole)
-  all_groups-right k d lt = a_group _ (all_groups-read whole source.given k d lt) (all_groups-known whole k d lt) (groups_right k d lt)
+  all_groups-right k d lt = a_group _ (all_groups-read whole source.trees k d lt) (all_groups-known whole k d lt) (groups_right k d lt)
 
   -- each item of DATA is a member
   items_right : All (λ part. All (IsRight names) part.items) (all_inits whole)

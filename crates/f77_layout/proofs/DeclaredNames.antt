@@ -20,11 +20,12 @@ use Rattle.f77_layout.specs.StorageFaults.{are_wrong_dims, has_wrong_storage}
 use Rattle.f77_layout.specs.Layout.{name_info, names_of, spots_of, placed_from, placed_names}
 use Rattle.f77_layout.specs.PlacedNames.{HasRightDims}
 use Rattle.f77_layout.specs.Source.{IsSource}
+use Rattle.f77_layout.specs.ReadDeclarations.{IsReadDims, IsReadDecl}
 use Rattle.f77_layout.proofs.ElementCounts.{right-count, right-size}
 use Rattle.f77_layout.proofs.RightStorage.{right_dims_of}
 use Rattle.f77_layout.proofs.NameTable.{names_differ}
 use Rattle.f77_layout.proofs.SymbolicNames.{table_symbolic}
-use Rattle.f77_layout.proofs.DeclaredForms.{IsReadDims, IsReadDecl, all_declarators-read}
+use Rattle.f77_layout.proofs.DeclaredForms.{all_declarators-read}
 
 -- ---- dimensions
 
@@ -123,7 +124,7 @@ placed_names-differ whole = placed_differ (names_of whole) (spots_of whole) 0 (n
 module _ (whole : List Labelled) (source : IsSource whole) (right : first_line (has_wrong_storage (names_of whole) (placed_names whole) whole) whole ≡ None) where
   -- each name in the table is one that a source can declare
   pub names_of-infos : All IsNameInfo (names_of whole)
-  names_of-infos = infos whole (all_declarators-read whole source.given) (all_names whole) (table_symbolic whole source) (right_dims_of (names_of whole) (placed_names whole) whole right)
+  names_of-infos = infos whole (all_declarators-read whole source.trees) (all_names whole) (table_symbolic whole source) (right_dims_of (names_of whole) (placed_names whole) whole right)
 
   pub placed_names-infos : All IsNameInfo (placed_names whole)
   placed_names-infos = each_placed (names_of whole) (spots_of whole) 0 (names_of whole) names_of-infos

@@ -24,7 +24,7 @@ use Rattle.f77_layout.proofs.LoopTables.{range-more}
 use Rattle.f77_layout.specs.Labels.{is_labelled_twice, lacks_label, statement_of}
 use Rattle.f77_layout.specs.Nesting.{first_unnested}
 use Rattle.f77_layout.proofs.LabelLemmas.{statement_of-own}
-use Rattle.f77_layout.proofs.UsedLabels.{used_given}
+use Rattle.f77_layout.proofs.UsedLabels.{used_labels}
 use Rattle.f77_layout.proofs.Usable.{usable as all_usable}
 use Rattle.f77_layout.proofs.ControlLaws.{some-label}
 use Rattle.f77_layout.proofs.OpenAtEnd.{Fits, NoDos, none-open}
@@ -200,7 +200,7 @@ module _ (stmts : List Labelled) (source : IsSource stmts) (once : first_line is
       let last = source.ended.last in
       let inside = slice_get_within stmts m last source.ended.stands in
       ⊎_elim
-      (λ (nought : last.label ≡ 0). λ d s at. false_from_ne_true (is_do_to last.label s.stmt) (λ e. some-label s.stmt last.label (used_given stmts source d s at) e nought))
+      (λ (nought : last.label ≡ 0). λ d s at. false_from_ne_true (is_do_to last.label s.stmt) (λ e. some-label s.stmt last.label (used_labels stmts source d s at) e nought))
       (λ (some : last.label ≢ 0).
       let apart : (i : ℕ) (s : Labelled) → i + 1 < length stmts → slice_get stmts i ≡ Some s → s.label ≢ last.label = λ i s below at e.
       let first = statement_of-own stmts once i s at (λ z. some (sym e ∙ z)) in

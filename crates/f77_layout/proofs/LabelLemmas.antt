@@ -1,16 +1,18 @@
 -- Labels that lead to their statements.
-use Rattle.std.proofs.Common.{◌≡◌, ℕ, zero, suc, ◌+◌, ◌≤◌, Bool, true, false, not, ◌&&◌, nat_lt, if◌then◌else◌, ◌==◌, List, [], ◌∷◌, ◌++◌, take, slice_get, Option, Some, None, refl, sym, ap, subst, ◌∙◌, arith}
+use Rattle.std.proofs.Common.{◌≡◌, ℕ, zero, suc, ◌+◌, ◌≤◌, Bool, true, false, not, ◌&&◌, nat_lt, if◌then◌else◌, ◌==◌, List, [], ◌∷◌, ◌++◌, take, slice_get, Option, Some, None, All, refl, sym, ap, ◌∙◌, arith}
 use Rattle.std.specs.List.{list_any, position_or_len}
 use Rattle.std.proofs.lemmas.Bool.{or_parts, eqb-false, eq-eqb, ltb-false, ne_eqb}
 use Rattle.std.proofs.lemmas.List.{append_assoc, append-nil}
+use Rattle.std.proofs.lemmas.List.Elements.{All-head}
 use Rattle.f77_tree.specs.declared.statements.Labelled.{Labelled}
 use Rattle.f77_tree.specs.declared.statements.Stmt.{Stmt}
-use Rattle.f77_tree.specs.StatementGrammar.{WrittenStatement, IsGiven, has_bad_constant, is_bad_label, statement_of as stmt_of}
+use Rattle.f77_tree.specs.declared.statements.Stmt.TheVariants.{Do}
+use Rattle.f77_tree.specs.StatementGrammar.{is_bad_label}
 use Rattle.f77_layout.specs.declared.roles.Role.{Role}
 use Rattle.f77_layout.specs.declared.roles.Role.TheVariants.{BeginLoop}
 use Rattle.f77_layout.specs.Faults.{first_after, first_line}
 use Rattle.f77_layout.specs.LabelTable.{IsLabel}
-use Rattle.f77_layout.specs.Labels.{statement_of, is_labelled_twice}
+use Rattle.f77_layout.specs.Labels.{statement_of, is_labelled_twice, used}
 use Rattle.f77_layout.specs.Roles.{role_of}
 use Rattle.f77_tree.specs.Grammar.{number_of}
 
@@ -64,9 +66,6 @@ good_label digits h =
     let le : number_of digits ≤ 99999 = ltb-false 99999 (number_of digits) parts.1 in
     (eqb-false (number_of digits) 0 parts.0, omega (arith, le))
 
-tells : (w : WrittenStatement) → has_bad_constant w ≡ false → TellsLabel (role_of (stmt_of w))
-tells (WrittenStatement.do_loop label comma variable first last step) h = good_label label (or_parts (is_bad_label label) _ (or_parts _ _ (or_parts _ _ h).0).0).0
-tells _ h = tt
-
-pub role_label : (stmt : Stmt) → IsGiven stmt → TellsLabel (role_of stmt)
-role_label stmt given = subst (λ (t : Stmt). TellsLabel (role_of t)) given.is_read.is (tells given.is_read.written given.is_read.constants)
+pub role_label : (stmt : Stmt) → All IsLabel (used stmt) → TellsLabel (role_of stmt)
+role_label (Do label variable first last step) are = All-head IsLabel label [] are
+role_label _ are = tt

@@ -11,7 +11,7 @@ use Rattle.f77_tree.specs.declared.statements.Labelled.{Labelled}
 use Rattle.f77_tree.specs.declared.statements.RawExpr.{RawExpr}
 use Rattle.f77_tree.specs.declared.statements.Stmt.{Stmt, more_of-Stmt}
 use Rattle.f77_tree.specs.declared.statements.Stmt.TheVariants.{Program as Program', Implicit, ImplicitNone, TypeOf, Dimension, Common, Equivalence, Init, Sub, Take, Else, ThenIf'}
-use Rattle.f77_tree.specs.StatementGrammar.{WrittenStatement, IsStatement, IsGiven, statement_of as stmt_of}
+use Rattle.f77_tree.specs.StatementGrammar.{WrittenStatement, IsStatement, statement_of as stmt_of}
 use Rattle.f77_tree.specs.Grammar.{reading}
 use Rattle.f77_layout.specs.Executables.{beyond, first_of, increments, labelled, loops_to, own_executables, own_kinds, executables}
 use Rattle.f77_layout.specs.Labels.{bears, used, lacks_label, statement_of, is_executable, is_arm}
@@ -21,15 +21,15 @@ use Rattle.f77_layout.specs.Source.{IsSource}
 use Rattle.f77_layout.specs.LabelTable.{IsLabel}
 use Rattle.f77_layout.proofs.LabelLemmas.{faultless, statement_of-own}
 use Rattle.f77_layout.proofs.LoopPlaces.{length-own_kinds, own-at, end-at}
-use Rattle.f77_layout.proofs.SourceLabels.{given_at}
+use Rattle.f77_layout.proofs.SourceLabels.{tree_at}
 use Rattle.f77_layout.proofs.Usable.{usable}
-use Rattle.f77_layout.proofs.UsedLabels.{used_given}
+use Rattle.f77_layout.proofs.UsedLabels.{used_labels}
 use Rattle.f77_layout.proofs.WellFormedPrograms.{AreFaultless, laid-faultless, laid-is}
 
 -- ---- statements have executables
 
 -- READ has an item
-taken_some : (w : WrittenStatement) → IsStatement w → (targets : List RawExpr) → stmt_of w ≡ Take targets → 1 ≤ length targets
+pub taken_some : (w : WrittenStatement) → IsStatement w → (targets : List RawExpr) → stmt_of w ≡ Take targets → 1 ≤ length targets
 taken_some (WrittenStatement.read form items) is targets e =
     let same : map reading items ≡ targets = cc in
     omega (arith, is.0, length-map items reading, ap (λ (xs : List RawExpr). length xs) same)
@@ -49,10 +49,6 @@ own_some (Equivalence groups) some x a = let h : false ≡ true = x in absurd cc
 own_some (Init parts) some x a = let h : false ≡ true = x in absurd cc
 own_some (Sub name dummies) some x a = let h : false ≡ true = x in absurd cc
 own_some _ some x a = omega arith
-
-given_some : (stmt : Stmt) → IsGiven stmt → is_executable stmt ≡ true → is_arm stmt ≡ false → 1 ≤ own_executables stmt
-given_some stmt given x a =
-    own_some stmt (λ targets e. taken_some given.is_read.written given.is_read.spells.grammatical targets (given.is_read.is ∙ e)) x a
 
 -- ---- the statement that bears a label
 
@@ -94,7 +90,7 @@ module _ (stmts : List Labelled) (checked : Bool) (p : Program) (source : IsSour
 
   used_label : (i j : ℕ) (s : Labelled) (label : ℕ) → slice_get stmts i ≡ Some s → slice_get (used s.stmt) j ≡ Some label → IsLabel label
   used_label i j s label here is =
-      subst IsLabel (get_or_from_slice_get (used s.stmt) j label label is) (used_given stmts source i s here j label (slice_get_within (used s.stmt) j label is))
+      subst IsLabel (get_or_from_slice_get (used s.stmt) j label label is) (used_labels stmts source i s here j label (slice_get_within (used s.stmt) j label is))
 
   borne : (i j : ℕ) (s : Labelled) (label : ℕ) → slice_get stmts i ≡ Some s → slice_get (used s.stmt) j ≡ Some label → list_any (bears label) stmts ≡ true
   borne i j s label here is =
@@ -113,10 +109,10 @@ module _ (stmts : List Labelled) (checked : Bool) (p : Program) (source : IsSour
       let some : b.statement.label ≡ 0 → ⊥ = λ e. is.0 (sym same ∙ e) in
       let at : statement_of stmts label ≡ b.place = ap (statement_of stmts) (sym same) ∙ statement_of-own stmts none.once b.place b.statement b.stands some in
       let parts = and_parts ((b.statement.label == label) && is_executable b.statement.stmt) (not (is_arm b.statement.stmt)) b.bears_it in
-      let given = given_at stmts source b.place b.statement b.stands in
+      let tree = tree_at stmts source b.place b.statement b.stands in
       let own = own_kinds (names_of stmts) checked stmts b.place (first_of stmts b.place) (beyond stmts b.place b.statement) b.statement.stmt in
       let many = length-own_kinds (names_of stmts) checked stmts (usable stmts source none.borne) b.place b.statement b.stands in
-      let one = given_some b.statement.stmt given (and_parts (b.statement.label == label) (is_executable b.statement.stmt) parts.0).1 (not-true (is_arm b.statement.stmt) parts.1) in
+      let one = own_some b.statement.stmt tree.takes (and_parts (b.statement.label == label) (is_executable b.statement.stmt) parts.0).1 (not-true (is_arm b.statement.stmt) parts.1) in
       let item = first_item own (omega (arith, many, one)) in
       record {
         place = b.place;

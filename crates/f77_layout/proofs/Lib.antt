@@ -36,6 +36,7 @@ pub mod FlatParts
 pub mod FlowLemmas
 mod Forests
 pub mod GivenWordLemmas
+pub mod GivenTrees
 mod Hanging
 mod Held
 pub mod IncrementLemmas

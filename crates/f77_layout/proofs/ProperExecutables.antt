@@ -27,9 +27,9 @@ use Rattle.f77_layout.specs.Types.{dims_named, kind_named, is_array_in, is_kind,
 use Rattle.f77_layout.specs.Appearances.{names_in, names_in_item, names_if_any, appearing}
 use Rattle.f77_layout.specs.Resolved.{resolved, resolved_item, resolved_step, access_of}
 use Rattle.f77_layout.specs.Executables.{own_executables, is_do_to, is_do_in, loops_to, first_of, labelled, beyond, kind_or_integer, taking, own_kinds, do_variable, variable_of, increments, kinds_at, executables_at, executables_if_any, executables}
-use Rattle.f77_layout.proofs.ProperReading.{IsReading}
+use Rattle.f77_layout.specs.ReadExpressions.{IsReading}
+use Rattle.f77_layout.specs.ReadStatements.{IsReadItem, IsReadStep, IsReadStatement}
 use Rattle.f77_layout.proofs.ProperExpressions.{IsKnown, resolved-IsOfKind, resolved-asked, access_of-IsAccessOf, is_kind-some, prefix, rear}
-use Rattle.f77_layout.proofs.ProperStatements.{IsReadItem, IsReadStep, IsReadStatement}
 
 -- a statement that fits the table of names: what a text gives, names of the table, and kinds as their places ask for
 pub record Fits (names : List NameInfo) (arrays : List ℕ → Bool) (stmt : Stmt) : Type 0 where

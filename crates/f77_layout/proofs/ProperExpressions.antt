@@ -20,7 +20,7 @@ use Rattle.f77_tree.proofs.KindLemmas.{element-IsProper}
 use Rattle.f77_layout.specs.Types.{intrinsics, takes, dims_named, kind_named, is_array_in, is_kind, is_of_kind, count_of_row, kind_of_call, kind_in, is_row_of, is_variable}
 use Rattle.f77_layout.specs.Appearances.{called_name, names_in, names_in_row}
 use Rattle.f77_layout.specs.Resolved.{in_dialect, intrinsic_call, resolved, resolved_row, resolved_call, access_of}
-use Rattle.f77_layout.proofs.ProperReading.{IsReading, AllReadings}
+use Rattle.f77_layout.specs.ReadExpressions.{IsReading, AllReadings}
 use Rattle.f77_layout.proofs.ProperCalls.{operation, intrinsic_call-integer}
 
 -- a name of the table

@@ -19,7 +19,7 @@ use Rattle.f77_layout.specs.Faults.{first_after, first_line}
 use Rattle.f77_layout.specs.Labels.{is_labelled_twice}
 use Rattle.f77_layout.specs.Executables.{own_executables, is_do_to, is_do_in, loops_to, first_of, beyond, taking, own_kinds, increments, kinds_at, executables_at, executables_if_any, executables}
 use Rattle.f77_layout.specs.Counts.{items_taken, asks_too_much}
-use Rattle.f77_layout.proofs.ProperStatements.{IsReadStatement, is_guarded}
+use Rattle.f77_layout.specs.ReadStatements.{IsReadStatement, is_guarded}
 use Rattle.f77_layout.proofs.ProperSums.{sum_by-two, sum_by-constant, sum_by-places, sum_by-once, sum_by-nothing, one_if, length-kept}
 use Rattle.f77_layout.proofs.ProperCounts.{few_in_all, little}
 

@@ -25,7 +25,6 @@ use Rattle.f77_layout.specs.Executables.{executables}
 use Rattle.f77_layout.specs.Layout.{name_info, names_of, placed_names, program}
 use Rattle.f77_layout.proofs.NameEntries.{bytes_eq-sym}
 use Rattle.f77_layout.proofs.ProperExpressions.{IsKnown, prefix, rear}
-use Rattle.f77_layout.proofs.ProperStatements.{given-IsReadStatement}
 use Rattle.f77_layout.proofs.ProperCounts.{executables-few_operations, executables-few_targets}
 use Rattle.f77_layout.proofs.ProperLengths.{executables-few}
 use Rattle.f77_layout.proofs.ProperPlaced.{placed_names-agrees, IsExecutable-placed}
@@ -98,7 +97,7 @@ pub source-AllFit : (whole : List Labelled) → IsSource whole → first_line (h
 source-AllFit whole source none =
     let known = each_part (IsKnown (names_of whole)) (λ (s : Labelled). appearing (is_array whole) s.stmt) whole (names_of-known whole) in
     let kinds = all_without (has_wrong_type (names_of whole)) (λ s. is_well_kinded (names_of whole) s.stmt ≡ true) (right_kinds (names_of whole)) [] whole none in
-    λ k d lt. record { reads = given-IsReadStatement _ (source.given k d lt); known = known k d lt; kinds = kinds k d lt }
+    λ k d lt. record { reads = (source.trees k d lt).reads; known = known k d lt; kinds = kinds k d lt }
 
 pub source-AllExecutable : (whole : List Labelled) (checked : Bool) → IsSource whole → first_line (has_wrong_type (names_of whole)) whole ≡ None → All (λ exec. IsExecutable (names_of whole) exec.kind) (executables (names_of whole) checked whole)
 source-AllExecutable whole checked source none = executables-AllExecutable (names_of whole) checked (is_array whole) whole (source-AllFit whole source none)
@@ -119,4 +118,4 @@ module _ (whole : List Labelled) (checked : Bool) (little : first_line (asks_too
   program-target_count = executables-few_targets (names_of whole) checked whole little
 
   pub program-count : IsSource whole → first_line is_labelled_twice whole ≡ None → length (program whole checked).execs ≤ 20000
-  program-count source once = executables-few (names_of whole) checked whole (λ k d lt. given-IsReadStatement _ (source.given k d lt)) source.few once little
+  program-count source once = executables-few (names_of whole) checked whole (λ k d lt. (source.trees k d lt).reads) source.few once little

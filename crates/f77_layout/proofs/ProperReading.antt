@@ -9,24 +9,12 @@ use Rattle.op_table.specs.declared.Op.{Op}
 use Rattle.op_table.specs.declared.Op.TheVariants.{Add, Sub, Mul, Div, Pow, Neg, Lt, Le, Eq, Ne, Ge, Gt, Not, And, Or, Eqv, Neqv}
 use Rattle.op_table.specs.Operators.{arity_of}
 use Rattle.f77_tree.specs.declared.statements.RawExpr.{RawExpr, Row_of-RawExpr, end_of-RawExpr, more_of-RawExpr, items-the_row-RawExpr, items_hidden-the_row-RawExpr-0}
-use Rattle.f77_tree.specs.declared.statements.RawExpr.TheVariants.{Int, Truth, Named, Call, Call', Apply, Apply'}
+use Rattle.f77_tree.specs.declared.statements.RawExpr.TheVariants.{Call, Apply}
 use Rattle.f77_tree.specs.Kinds.{is_written, IsConstant}
 use Rattle.f77_tree.specs.Grammar.{Written, Arguments, IsGrammatical, AreGrammatical, reading, readings, level, operator_level, left_level, number_of, greatest_constant, has_great_number, have_great_number}
+use Rattle.f77_layout.specs.ReadExpressions.{IsReading, AllReadings}
 use Rattle.f77_layout.specs.Types.{count_of_row}
 use Rattle.f77_layout.proofs.RawRows.{row_of}
-
-abbrev mutual
-  -- an expression that some text gives
-  pub IsReading : RawExpr → Type 0
-  IsReading (Int z) = IsConstant z
-  IsReading (Truth b) = Unit {0}
-  IsReading (Named name) = Unit {0}
-  IsReading (Call' name shape args) = AllReadings args
-  IsReading (Apply' op shape args) = (is_written op ≡ true) × (count_of_row args ≡ arity_of op) × AllReadings args
-
-  pub AllReadings : {m : _} → Row_of-RawExpr m → Type 0
-  AllReadings end_of-RawExpr = Unit {0}
-  AllReadings (more_of-RawExpr e rest) = IsReading e × AllReadings rest
 
 -- ---- rows are lists
 

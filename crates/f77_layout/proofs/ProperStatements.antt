@@ -1,5 +1,5 @@
 -- Statements that are read from a text: their expressions, their texts and their lists.
-use Rattle.std.proofs.Common.{◌≡◌, ℕ, ◌<◌, ◌≤◌, ◌||◌, Bool, true, false, List, [], ◌∷◌, ◌++◌, length, map, All, Option, Some, None, refl, sym, subst, ◌∙◌, arith}
+use Rattle.std.proofs.Common.{◌≡◌, ℕ, ◌<◌, ◌≤◌, ◌||◌, true, false, List, [], ◌∷◌, ◌++◌, length, map, All, Option, Some, None, refl, sym, subst, ◌∙◌, arith}
 use Rattle.std.specs.Prelude.{codes, flat_map}
 use Rattle.std.specs.List.{list_all, list_any}
 use Rattle.std.proofs.lemmas.Bool.{and_parts, or_parts}
@@ -8,42 +8,14 @@ use Rattle.std.proofs.lemmas.List.{length-map}
 use Rattle.std.proofs.lemmas.List.Folds.{list_all-append}
 use Rattle.std.proofs.lemmas.List.Elements.{All-nil, All-cons, All-head, All-tail}
 use Rattle.f77_tree.specs.declared.statements.RawExpr.{RawExpr}
-use Rattle.f77_tree.specs.declared.statements.RawItem.{RawItem}
-use Rattle.f77_tree.specs.declared.statements.RawItem.TheVariants.{Value, Chars}
-use Rattle.f77_tree.specs.declared.statements.Stmt.{Stmt, more_of-Stmt}
-use Rattle.f77_tree.specs.declared.statements.Stmt.TheVariants.{Assign, Print, Take, PickGoTo, SignIf, ThenIf, ThenIf', BlockIf, ElseIf, Do}
+use Rattle.f77_tree.specs.declared.statements.Stmt.{Stmt}
+use Rattle.f77_tree.specs.declared.statements.Stmt.TheVariants.{ThenIf}
 use Rattle.f77_tree.specs.WellFormed.{IsText}
 use Rattle.f77_tree.specs.Grammar.{Written, reading, spelling, has_great_number, number_of}
 use Rattle.f77_tree.specs.StatementGrammar.{WrittenStatement, WrittenItem, Expression, Characters, PrintForm, Print_star, Write_star, Write_six, IsStatement, IsVariable, IsItem, IsStep, IsGiven, statement_of, statement_text, is_simple, has_bad_constant, is_bad_label, is_printable, item_of, item_text, item_is_great, step_of, step_is_great, print_text, after_commas, with_commas, in_brackets, character_text, characters_text}
-use Rattle.f77_layout.proofs.ProperReading.{IsReading, reading-IsReading}
-
--- ---- what a text gives
-
-abbrev pub IsReadItem : RawItem → Type 0
-IsReadItem (Value e) = IsReading e
-IsReadItem (Chars text) = IsText text
-
-abbrev pub IsReadStep : Option RawExpr → Type 0
-IsReadStep None = Unit {0}
-IsReadStep (Some e) = IsReading e
-
--- a logical IF
-abbrev pub is_guarded : Stmt → Bool
-is_guarded (ThenIf' condition shape row) = true
-is_guarded _ = false
-
--- the parts of a statement that some text gives: a logical IF has no other after its condition
-abbrev pub IsReadStatement : Stmt → Type 0
-IsReadStatement (Assign target value) = IsReading target × IsReading value
-IsReadStatement (Print items) = All IsReadItem items
-IsReadStatement (Take targets) = All IsReading targets
-IsReadStatement (PickGoTo labels index) = (0 < length labels) × IsReading index
-IsReadStatement (SignIf value negative zero positive) = IsReading value
-IsReadStatement (ThenIf' condition shape (more_of-Stmt stmt rest)) = IsReading condition × IsReadStatement stmt × (is_guarded stmt ≡ false)
-IsReadStatement (BlockIf condition) = IsReading condition
-IsReadStatement (ElseIf condition) = IsReading condition
-IsReadStatement (Do label variable first last step) = IsReading first × IsReading last × IsReadStep step × (0 < label)
-IsReadStatement _ = Unit {0}
+use Rattle.f77_layout.specs.ReadExpressions.{IsReading}
+use Rattle.f77_layout.specs.ReadStatements.{IsReadItem, IsReadStep, is_guarded, IsReadStatement}
+use Rattle.f77_layout.proofs.ProperReading.{reading-IsReading}
 
 -- ---- characters
 

@@ -2,12 +2,12 @@
 use Rattle.std.proofs.Common.{◌≡◌, ℕ, ◌<◌, ◌≤◌, List, slice_get, Some, None, subst, arith}
 use Rattle.std.proofs.lemmas.Option.{slice_get_within, get_or_from_slice_get}
 use Rattle.f77_tree.specs.declared.statements.Labelled.{Labelled}
-use Rattle.f77_tree.specs.StatementGrammar.{IsGiven}
 use Rattle.f77_layout.specs.declared.open_stack.Opened.TheVariants.{Loop}
 use Rattle.f77_layout.specs.declared.roles.Role.{Role}
 use Rattle.f77_layout.specs.declared.roles.Role.TheVariants.{BeginLoop, NextArm}
 use Rattle.f77_layout.specs.Faults.{first_line}
 use Rattle.f77_layout.specs.Source.{IsSource}
+use Rattle.f77_layout.specs.StatementTrees.{IsTree}
 use Rattle.f77_layout.specs.LabelTable.{IsLabel}
 use Rattle.f77_layout.specs.Labels.{is_labelled_twice}
 use Rattle.f77_layout.specs.Roles.{role_of}
@@ -15,8 +15,8 @@ use Rattle.f77_layout.proofs.LabelLemmas.{TellsLabel, role_label, statement_of-o
 use Rattle.f77_layout.proofs.RoleLemmas.{opened_by}
 use Rattle.f77_layout.proofs.OpenSpans.{AreLabelled}
 
-pub given_at : (stmts : List Labelled) → IsSource stmts → (i : ℕ) (s : Labelled) → slice_get stmts i ≡ Some s → IsGiven s.stmt
-given_at stmts source i s here = subst (λ (t : Labelled). IsGiven t.stmt) (get_or_from_slice_get stmts i s s here) (source.given i s (slice_get_within stmts i s here))
+pub tree_at : (stmts : List Labelled) → IsSource stmts → (i : ℕ) (s : Labelled) → slice_get stmts i ≡ Some s → IsTree s.stmt
+tree_at stmts source i s here = subst (λ (t : Labelled). IsTree t.stmt) (get_or_from_slice_get stmts i s s here) (source.trees i s (slice_get_within stmts i s here))
 
 opens_loop : (role : Role) (terminal : ℕ) → opened_by role ≡ Some (Loop terminal) → TellsLabel role → IsLabel terminal
 opens_loop (BeginLoop label) terminal h is = let same : label ≡ terminal = cc in subst IsLabel same is
@@ -26,7 +26,7 @@ opens_loop _ terminal h is = absurd cc
 pub AreLabelled-source : (stmts : List Labelled) → IsSource stmts → first_line is_labelled_twice stmts ≡ None → AreLabelled stmts
 AreLabelled-source stmts source once = record {
   places = statement_of-own stmts once;
-  loops = λ h terminal at. (opens_loop (role_of at.s.stmt) terminal at.opens (role_label at.s.stmt (given_at stmts source h at.s at.stands))).0;
+  loops = λ h terminal at. (opens_loop (role_of at.s.stmt) terminal at.opens (role_label at.s.stmt (tree_at stmts source h at.s at.stands).labels)).0;
 }
 
 pub label_is_small : (stmts : List Labelled) → IsSource stmts → (i : ℕ) (s : Labelled) → slice_get stmts i ≡ Some s → s.label < 100000

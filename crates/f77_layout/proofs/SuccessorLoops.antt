@@ -18,7 +18,7 @@ use Rattle.f77_layout.proofs.FlowLemmas.{exit-outermost, exit-inner}
 use Rattle.f77_layout.proofs.IncrementLemmas.{loops_above-dos}
 use Rattle.f77_layout.proofs.LabelLemmas.{statement_of-own}
 use Rattle.f77_layout.proofs.OpenAtEnd.{Fits, NoDos, none-open}
-use Rattle.f77_layout.proofs.UsedLabels.{used_given}
+use Rattle.f77_layout.proofs.UsedLabels.{used_labels}
 use Rattle.f77_layout.proofs.SuccessorBlocks.{IsEnded}
 use Rattle.f77_layout.proofs.SuccessorPlaces.{total, ended, not-last, up_to-exists, met-exists}
 
@@ -45,7 +45,7 @@ module _ (stmts : List Labelled) (source : IsSource stmts) (once : first_line is
       let last = source.ended.last in
       let inside = slice_get_within stmts m last source.ended.stands in
       ⊎_elim
-      (λ (nought : last.label ≡ 0). λ d s at. false_from_ne_true (is_do_to last.label s.stmt) (λ e. some-label s.stmt last.label (used_given stmts source d s at) e nought))
+      (λ (nought : last.label ≡ 0). λ d s at. false_from_ne_true (is_do_to last.label s.stmt) (λ e. some-label s.stmt last.label (used_labels stmts source d s at) e nought))
       (λ (some : last.label ≢ 0).
       let apart : (i : ℕ) (s : Labelled) → i + 1 < length stmts → slice_get stmts i ≡ Some s → s.label ≢ last.label = λ i s below at e.
       let first = statement_of-own stmts once i s at (λ z. some (sym e ∙ z)) in

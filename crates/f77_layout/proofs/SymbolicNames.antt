@@ -14,6 +14,7 @@ use Rattle.f77_layout.specs.Appearances.{all_names, appearing, called_name, name
 use Rattle.f77_layout.specs.Declarations.{is_array}
 use Rattle.f77_layout.specs.Layout.{name_info, names_of}
 use Rattle.f77_layout.specs.Source.{IsSource}
+use Rattle.f77_layout.specs.StatementTrees.{IsTree}
 use Rattle.f77_layout.specs.Types.{is_intrinsic}
 use Rattle.f77_layout.proofs.NamesIn.{names_in-Apply, names_in-Call}
 use Rattle.f77_layout.proofs.NamesOf.{appearing-ThenIf}
@@ -154,10 +155,10 @@ given_symbolic arrays stmt given =
 
 -- ---- the table of names
 
-statements_symbolic : (arrays : List ℕ → Bool) (stmts : List Labelled) → All (λ s. IsGiven s.stmt) stmts → AreSymbolic (flat_map (λ s. appearing arrays s.stmt) stmts)
+statements_symbolic : (arrays : List ℕ → Bool) (stmts : List Labelled) → All (λ s. IsTree s.stmt) stmts → AreSymbolic (flat_map (λ s. appearing arrays s.stmt) stmts)
 statements_symbolic arrays [] all = refl
 statements_symbolic arrays (s ∷ stmts) all =
-    joined (appearing arrays s.stmt) (flat_map (λ a. appearing arrays a.stmt) stmts) (given_symbolic arrays s.stmt (All-first (λ a. IsGiven a.stmt) s stmts all)) (statements_symbolic arrays stmts (All-rest (λ a. IsGiven a.stmt) s stmts all))
+    joined (appearing arrays s.stmt) (flat_map (λ a. appearing arrays a.stmt) stmts) ((All-first (λ a. IsTree a.stmt) s stmts all).names arrays) (statements_symbolic arrays stmts (All-rest (λ a. IsTree a.stmt) s stmts all))
 
 with_symbolic : (seen : List (List ℕ)) (name : List ℕ) → AreSymbolic seen → is_name name ≡ true → AreSymbolic (with_name seen name)
 with_symbolic seen name symbolic is = by (list_any (bytes_eq name) seen)
@@ -179,4 +180,4 @@ lines_symbolic stmts (name ∷ names) symbolic =
 -- each name in the table is symbolic
 pub table_symbolic : (stmts : List Labelled) → IsSource stmts → All (λ info. is_name info.name ≡ true) (names_of stmts)
 table_symbolic stmts source =
-    lines_symbolic stmts (all_names stmts) (once_symbolic [] (flat_map (λ s. appearing (is_array stmts) s.stmt) stmts) refl (statements_symbolic (is_array stmts) stmts source.given))
+    lines_symbolic stmts (all_names stmts) (once_symbolic [] (flat_map (λ s. appearing (is_array stmts) s.stmt) stmts) refl (statements_symbolic (is_array stmts) stmts source.trees))

@@ -16,8 +16,8 @@ use Rattle.f77_layout.specs.Labels.{bears, used, lacks_label, statement_of, is_e
 use Rattle.f77_layout.specs.LabelTable.{IsLabel}
 use Rattle.f77_layout.specs.Tables.{is_simple, has_simple_inner, IsStanding, IsUsable}
 use Rattle.f77_layout.proofs.LabelLemmas.{faultless}
-use Rattle.f77_layout.proofs.SourceLabels.{label_is_small}
-use Rattle.f77_layout.proofs.UsedLabels.{used_given}
+use Rattle.f77_layout.proofs.SourceLabels.{label_is_small, tree_at}
+use Rattle.f77_layout.proofs.UsedLabels.{used_labels}
 use Rattle.f77_layout.proofs.OwnExecutables.{guarded_simple}
 
 -- ---- after a condition
@@ -40,7 +40,7 @@ inner_is (WrittenStatement.logical_if w s) is none =
     guarded_simple (reading w) (stmt_of s) ∙ simple_is s is.2 (sym (guarded_subroutines (reading w) (stmt_of s)) ∙ none)
 inner_is _ is none = refl
 
-inner_given : (stmt : Stmt) → IsGiven stmt → is_of_subroutines stmt ≡ false → has_simple_inner stmt ≡ true
+pub inner_given : (stmt : Stmt) → IsGiven stmt → is_of_subroutines stmt ≡ false → has_simple_inner stmt ≡ true
 inner_given stmt given none =
     let w = given.is_read.written in
     let is : stmt_of w ≡ stmt = given.is_read.is in
@@ -86,11 +86,10 @@ module _ (stmts : List Labelled) (source : IsSource stmts) where
       let same = get_or_from_slice_get stmts i s s here in
       let inside = slice_get_within stmts i s here in
       let no_subroutine : is_of_subroutines s.stmt ≡ false = subst (λ (t : Labelled). is_of_subroutines t.stmt ≡ false) same (source.no_subroutines i s inside) in
-      let given : IsGiven s.stmt = subst (λ (t : Labelled). IsGiven t.stmt) same (source.given i s inside) in
       record {
         label = label_is_small stmts source i s here;
-        inner = inner_given s.stmt given no_subroutine;
-        labels = all-standing stmts (used s.stmt) (used_given stmts source i s here) (faultless (lacks_label stmts) [] stmts none i s here);
+        inner = (tree_at stmts source i s here).inner;
+        labels = all-standing stmts (used s.stmt) (used_labels stmts source i s here) (faultless (lacks_label stmts) [] stmts none i s here);
         no_subroutine = no_subroutine;
       }
 

@@ -8,14 +8,14 @@ use Rattle.f77_tree.specs.declared.statements.RawExpr.{RawExpr}
 use Rattle.f77_tree.specs.declared.statements.Stmt.{Stmt, more_of-Stmt}
 use Rattle.f77_tree.specs.declared.statements.Stmt.TheVariants.{Do, ThenIf, ThenIf'}
 use Rattle.f77_tree.specs.Grammar.{number_of, reading}
-use Rattle.f77_tree.specs.StatementGrammar.{WrittenStatement, has_bad_constant, is_bad_label, statement_of as stmt_of}
+use Rattle.f77_tree.specs.StatementGrammar.{WrittenStatement, IsGiven, has_bad_constant, is_bad_label, statement_of as stmt_of}
 use Rattle.f77_layout.specs.Faults.{first_line}
 use Rattle.f77_layout.specs.Innermost.{IsBorne}
 use Rattle.f77_layout.specs.Source.{IsSource}
 use Rattle.f77_layout.specs.Labels.{bears, jumps, lacks_label, used}
 use Rattle.f77_layout.specs.LabelTable.{IsLabel}
 use Rattle.f77_layout.proofs.LabelLemmas.{faultless, good_label}
-use Rattle.f77_layout.proofs.SourceLabels.{given_at}
+use Rattle.f77_layout.proofs.SourceLabels.{tree_at}
 
 one_label : (label : ℕ) → IsLabel label → All IsLabel (label ∷ [])
 one_label label is = All-cons IsLabel label [] is (All-nil IsLabel)
@@ -59,15 +59,12 @@ used_by (WrittenStatement.arithmetic_if w negative zero positive) h = jumps_of (
 used_by (WrittenStatement.logical_if w s) h = subst (λ (labels : List ℕ). All IsLabel labels) (sym (used-ThenIf (reading w) (stmt_of s))) (jumps_of s (or_parts _ (has_bad_constant s) h).1)
 used_by _ h = All-nil IsLabel
 
-pub jumps_given : (stmts : List Labelled) → IsSource stmts → (i : ℕ) (s : Labelled) → slice_get stmts i ≡ Some s → All IsLabel (jumps s.stmt)
-jumps_given stmts source i s here =
-    let given = given_at stmts source i s here in
-    subst (λ (t : Stmt). All IsLabel (jumps t)) given.is_read.is (jumps_of given.is_read.written given.is_read.constants)
+-- the labels that a statement of a text uses
+pub used-given : (stmt : Stmt) → IsGiven stmt → All IsLabel (used stmt)
+used-given stmt given = subst (λ (t : Stmt). All IsLabel (used t)) given.is_read.is (used_by given.is_read.written given.is_read.constants)
 
-pub used_given : (stmts : List Labelled) → IsSource stmts → (i : ℕ) (s : Labelled) → slice_get stmts i ≡ Some s → All IsLabel (used s.stmt)
-used_given stmts source i s here =
-    let given = given_at stmts source i s here in
-    subst (λ (t : Stmt). All IsLabel (used t)) given.is_read.is (used_by given.is_read.written given.is_read.constants)
+pub used_labels : (stmts : List Labelled) → IsSource stmts → (i : ℕ) (s : Labelled) → slice_get stmts i ≡ Some s → All IsLabel (used s.stmt)
+used_labels stmts source i s here = (tree_at stmts source i s here).labels
 
 -- ---- labels that stand where they may
 
@@ -87,4 +84,4 @@ borne_all stmts (label ∷ rest) are h =
 
 -- where no statement lacks a label the targets of all jumps stand where they may
 pub jumps_borne : (stmts : List Labelled) → IsSource stmts → first_line (lacks_label stmts) stmts ≡ None → (i : ℕ) (s : Labelled) → slice_get stmts i ≡ Some s → All (IsBorne stmts) (jumps s.stmt)
-jumps_borne stmts source none i s here = used_jumps (IsBorne stmts) s.stmt (borne_all stmts (used s.stmt) (used_given stmts source i s here) (faultless (lacks_label stmts) [] stmts none i s here))
+jumps_borne stmts source none i s here = used_jumps (IsBorne stmts) s.stmt (borne_all stmts (used s.stmt) (used_labels stmts source i s here) (faultless (lacks_label stmts) [] stmts none i s here))

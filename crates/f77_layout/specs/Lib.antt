@@ -28,12 +28,16 @@ pub mod OpenStack
 pub mod Order
 pub mod OwnOperations
 pub mod PlacedNames
+pub mod ReadDeclarations
+pub mod ReadExpressions
+pub mod ReadStatements
 pub mod Resolved
 pub mod Roles
 pub mod Runs
 pub mod Source
 pub mod Stages
 pub mod Standings
+pub mod StatementTrees
 pub mod Storage
 pub mod StorageFaults
 pub mod Storages

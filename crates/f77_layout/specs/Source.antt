@@ -2,7 +2,8 @@
 use Rattle.std.specs.Prelude.{◌≡◌, ℕ, ◌-◌, ◌<◌, ◌≤◌, false, List, length, All, Some, slice_get}
 use Rattle.f77_tree.specs.declared.statements.Labelled.{Labelled}
 use Rattle.f77_tree.specs.declared.statements.Stmt.TheVariants.{End}
-use Rattle.f77_tree.specs.StatementGrammar.{IsGiven, is_of_subroutines}
+use Rattle.f77_tree.specs.StatementGrammar.{is_of_subroutines}
+use Rattle.f77_layout.specs.StatementTrees.{IsTree}
 
 -- the last statement is END
 pub record EndsWithEnd (stmts : List Labelled) : Type 0 where
@@ -10,10 +11,10 @@ pub record EndsWithEnd (stmts : List Labelled) : Type 0 where
   pub stands : slice_get stmts (length stmts - 1) ≡ Some last
   pub is : last.stmt ≡ End
 
--- Statements that were read from a text: each has a text of the grammar and is no statement of subroutines. Their
+-- Statements that can be laid out: each is a tree as those that are read from a text, and no statement of subroutines. Their
 -- lines rise, and there are at most 4,000, with END at the end. A label is a number of up to five digits, or 0.
 pub record IsSource (stmts : List Labelled) : Type 0 where
-  pub given : All (λ s. IsGiven s.stmt) stmts
+  pub trees : All (λ s. IsTree s.stmt) stmts
   pub no_subroutines : All (λ s. is_of_subroutines s.stmt ≡ false) stmts
   pub labels : All (λ s. s.label ≤ 99999) stmts
   pub rising : (j k : ℕ) (a b : Labelled) → slice_get stmts j ≡ Some a → slice_get stmts k ≡ Some b → j < k → a.line < b.line

@@ -1,12 +1,14 @@
 //! Laws on the executables that statements make, as contracts of functions that do nothing.
 
-ghost use Rattle.std.specs.Prelude.{◌≡◌, ◌+◌, ◌≤◌, ◌||◌, Bool, true, ℕ, List, Ok, Some, slice_get};
+ghost use Rattle.std.specs.Prelude.{◌≡◌, ◌+◌, ◌≤◌, ◌||◌, Bool, true, false, ℕ, List, Ok, Some, slice_get};
 ghost use Rattle.f77_tree.specs.declared.programs.ExecKind.{ExecKind};
 ghost use Rattle.f77_tree.specs.declared.programs.Program.{Program};
 ghost use Rattle.f77_tree.specs.declared.statements.Labelled.{Labelled};
+ghost use Rattle.f77_tree.specs.declared.statements.Stmt.{Stmt};
 ghost use Rattle.f77_tree.specs.declared.statements.Stmt.TheVariants.{End};
 ghost use Rattle.f77_tree.specs.Operations.{HasFewOperations};
 ghost use Rattle.f77_tree.specs.Places.{IsWordOf, Linked, equations};
+ghost use Rattle.f77_tree.specs.StatementGrammar.{IsGiven, is_of_subroutines};
 ghost use Rattle.f77_tree.specs.WellFormed.{IsWellFormed};
 ghost use Rattle.f77_layout.specs.Depths.{blocks_open};
 ghost use Rattle.f77_layout.specs.Faults.{first_line};
@@ -17,6 +19,7 @@ ghost use Rattle.f77_layout.specs.Layout.{layout, names_of};
 ghost use Rattle.f77_layout.specs.Leading.{IsLedTo};
 ghost use Rattle.f77_layout.specs.LowestLines.{lowest_line, LinesRise};
 ghost use Rattle.f77_layout.specs.Source.{IsSource};
+ghost use Rattle.f77_layout.specs.StatementTrees.{IsTree};
 
 /// The executables of a program are those of its statements, in the order of the text and each with its statement's line:
 /// first the statement's own, then the increments of the DO loops that end at it.
@@ -46,6 +49,11 @@ pub fn blocks_are_nested()
 /// Two names of a program have a word in common only where equations of COMMON and EQUIVALENCE link them.
 pub fn names_that_share_words_are_linked()
     ensures { (stmts : List Labelled) (checked : Bool) (p : Program) → IsSource stmts → layout stmts checked ≡ Ok p → (x y word : ℕ) → IsWordOf p.names x word → IsWordOf p.names y word → Linked (equations p.names p.commons p.groups) x y }
+{}
+
+/// A statement that is read from a text is a tree that can be laid out, where it is none of subroutines.
+pub fn given_statements_are_trees()
+    ensures { (stmt : Stmt) → IsGiven stmt → is_of_subroutines stmt ≡ false → IsTree stmt }
 {}
 
 /// Where lines rise, the first statement with a fault has the lowest line of those that have it.

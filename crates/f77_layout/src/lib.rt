@@ -53,7 +53,8 @@ pub use assembly::assemble;
 pub use collecting::commons_of;
 pub use laws::{
     blocks_are_nested, executables_stand_in_order, first_faults_are_lowest,
-    labels_lead_to_their_statements, names_that_share_words_are_linked, programs_are_well_formed,
+    given_statements_are_trees, labels_lead_to_their_statements, names_that_share_words_are_linked,
+    programs_are_well_formed,
 };
 pub use layout_end::LayoutEnd;
 pub use name_declarations::NameDeclarations;

@@ -8,6 +8,7 @@ use Rattle.fixed_form.specs.Limits.{AreWithinForm, IsWithinForm}
 use Rattle.fixed_form.specs.Statement.{ends_with_end}
 use Rattle.f77_tree.specs.declared.statements.Stmt.TheVariants.{End}
 use Rattle.f77_layout.specs.Source.{IsSource, EndsWithEnd}
+use Rattle.f77_layout.proofs.GivenTrees.{given-IsTree}
 use Rattle.std.proofs.lemmas.Slice.Eq.{bytes_eq-Decides}
 use Rattle.std.proofs.Math.ListN.{get_or-append}
 use Rattle.std.proofs.Math.Nat.{eq-or-lt_of_le}
@@ -151,8 +152,8 @@ line_of raws stmts k s r before at =
 
 pub are_source : OneStatement → (raws : List RawStmt) (stmts : List Labelled) → AreWithinForm raws → IsAccepted raws → AreRead raws (length raws) stmts → IsSource stmts
 are_source one raws stmts within accepted before = record {
-  given = before.given;
-  no_subroutines = fit (λ s. is_of_subroutines s.stmt ≡ false) IsWithinForm raws stmts before within.each (λ raw s q parsed. parsed.2) raw_statement;
+  trees = λ k s lt. given-IsTree (get_or stmts k s).stmt (before.given k s lt) (plain k s lt);
+  no_subroutines = plain;
   labels = fit (λ s. s.label ≤ 99999) IsWithinForm raws stmts before within.each (λ raw s q parsed. subst (λ label. label ≤ 99999) (sym parsed.3) q.label) raw_statement;
   rising = λ j k a b first second lt.
       let at_j = slice_get_within stmts j a first in
@@ -165,6 +166,9 @@ are_source one raws stmts within accepted before = record {
   where
     raw_statement : RawStmt
     raw_statement = record { label = 0; line = 0; text = [] }
+
+    plain : All (λ s. is_of_subroutines s.stmt ≡ false) stmts
+    plain = fit (λ s. is_of_subroutines s.stmt ≡ false) IsWithinForm raws stmts before within.each (λ raw s q parsed. parsed.2) raw_statement
 
     statement : Labelled
     statement = record { label = 0; line = 0; stmt = End }

@@ -9,6 +9,8 @@ use Rattle.f77_tree.specs.declared.statements.Stmt.{Stmt}
 use Rattle.f77_tree.specs.declared.statements.Stmt.TheVariants.{End}
 use Rattle.f77_tree.specs.StatementGrammar.{IsGiven, is_of_subroutines}
 use Rattle.f77_layout.specs.Source.{EndsWithEnd, IsSource}
+use Rattle.f77_layout.specs.StatementTrees.{IsTree}
+use Rattle.f77_layout.proofs.GivenTrees.{given-IsTree}
 use Rattle.f77_subs.specs.OpenBlocks.{IsEnded}
 use Rattle.f77_subs.specs.Texts.{IsText}
 use Rattle.f77_subs.specs.Units.{in_first, is_end, stand_in, standing_in, units}
@@ -171,7 +173,11 @@ stands-last (s ∷ t ∷ rest) e = stands-last (t ∷ rest) e
 
 source-of : (u : List Labelled) → IsUnit u → IsSource (standing_in u)
 source-of u is = record {
-  given = all-of (λ t. IsGiven t.stmt) (standing_in u) (λ j t e. let r = stands-for u j t e in subst (λ (x : Labelled). IsGiven x.stmt) r.is (stand_in-given r.s.stmt (is.read.given j r.s r.here)));
+  trees = all-of (λ t. IsTree t.stmt) (standing_in u)
+      (λ j t e.
+      let r = stands-for u j t e in
+      let given = is.read.given j r.s r.here in
+      subst (λ (x : Labelled). IsTree x.stmt) r.is (given-IsTree (stand_in r.s.stmt) (stand_in-given r.s.stmt given) (stand_in-plain r.s.stmt given)));
   no_subroutines = all-of (λ t. is_of_subroutines t.stmt ≡ false) (standing_in u) (λ j t e. let r = stands-for u j t e in subst (λ (x : Labelled). is_of_subroutines x.stmt ≡ false) r.is (stand_in-plain r.s.stmt (is.read.given j r.s r.here)));
   labels = all-of (λ t. t.label ≤ 99999) (standing_in u) (λ j t e. let r = stands-for u j t e in subst (λ (x : Labelled). x.label ≤ 99999) r.is (is.read.labels j r.s r.here));
   rising = λ j k a b at_a at_b lt.

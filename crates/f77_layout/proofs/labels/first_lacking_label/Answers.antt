@@ -2,13 +2,13 @@ use Rattle.std.proofs.Common.{length, refl, sym, ◌∙◌}
 use Rattle.std.proofs.lemmas.Option.{slice_get_read}
 use Rattle.f77_layout.specs.Labels.{lacks_label}
 use Rattle.f77_layout.proofs.FirstLine.{first_after-here, first_after-next}
-use Rattle.f77_layout.proofs.UsedLabels.{used_given}
+use Rattle.f77_layout.proofs.UsedLabels.{used_labels}
 use Rattle.f77_layout.proofs.labels.first_lacking_label.Goals as goal
 
 pub lacks_one-requires-clause-targets : goal.lacks_one-requires-clause-targets
 lacks_one-requires-clause-targets c =
     let here = slice_get_read c.args.stmts.now (length c.args.stmts.now) c.loop-s.s-index c.s-item.result refl c.loop-s-test.true c.s-item.is in
-    used_given c.args.stmts.now c.requires.source c.loop-s.s-index c.s-item.result here
+    used_labels c.args.stmts.now c.requires.source c.loop-s.s-index c.s-item.result here
 
 pub returns-then-lacks_one : goal.returns-then-lacks_one
 returns-then-lacks_one c =
