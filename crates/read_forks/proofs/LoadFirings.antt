@@ -38,7 +38,7 @@ no_decision (DecideTrips loop_no) loads = absurd cc
 no_decision DecideFirst loads = absurd cc
 
 module _ (x : OperationNet) (piece i : ℕ) (exist : (line : ℕ) → x.needs piece i line ≡ true → Member (needed x piece i) line) where
-  needed_is : (line : ℕ) → is_in (needed x piece i) line ≡ x.needs piece i line
+  pub needed_is : (line : ℕ) → is_in (needed x piece i) line ≡ x.needs piece i line
   needed_is line = ⊎_elim
       (λ (needs : x.needs piece i line ≡ true). list_any_member (λ l. l == line) (needed x piece i) line (exist line needs) (eq-eqb line line refl) ∙ sym needs)
       (λ (not : x.needs piece i line ≡ false). none not (is_in (needed x piece i) line) refl ∙ sym not)

@@ -3,7 +3,7 @@ use Rattle.std.proofs.Common.{◌≡◌, ◌<◌, ◌≤◌, ◌⊎◌, inl, inr
 use Rattle.firing.specs.ReadySet.{has}
 use Rattle.op_board.specs.OperationNets.{OperationNet, all_operation_nodes, operation_node}
 use Rattle.fork_board.specs.ForkTokens.{is_load_node}
-use Rattle.read_forks.specs.LoadMarks.{AreLoadFlags}
+use Rattle.read_forks.specs.LoadFlags.{AreLoadFlags}
 
 pub record AreFlagsBelow (x : OperationNet) (n : ℕ) (flags : List Bool) : Type 0 where
   pub all : length flags ≡ n

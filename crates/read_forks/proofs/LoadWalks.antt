@@ -7,7 +7,7 @@ use Rattle.op_board.specs.OperationNets.{OperationNet, operation_at, operation_c
 use Rattle.fork_board.specs.LoadGroups.{Site, Spot, followed_by, here_or, is_among, is_load, load_at, load_in, loads_within, number_at, piece_at, spot_after, spot_behind}
 use Rattle.fork_board.proofs.LoadSpots.{IsLoadIn, IsNumberAt, load_is, number_is}
 
-within : {A : Type 0} (xs : List A) (k : ℕ) (a : A) → slice_get xs k ≡ Some a → k < length xs
+pub within : {A : Type 0} (xs : List A) (k : ℕ) (a : A) → slice_get xs k ≡ Some a → k < length xs
 within [] k a is = absurd cc
 within (y ∷ xs) zero a is = omega arith
 within (y ∷ xs) (suc k) a is = let r = within xs k a is in omega (arith, r)

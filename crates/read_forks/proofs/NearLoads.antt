@@ -96,7 +96,7 @@ module _ (ground : ProgramFacts) (x : OperationNet) (n : IsOperationNet x) (fact
     abbrev at : IsReadyAt (OperationsCanCome x) (operation_moves x) m.operations k
     at = record { is_sound = comes; node = below; ready = ready }
 
-    stands_still : (line : ℕ) → mine k (operation_node x k) line ≡ false → standing later line ≡ standing m line
+    pub stands_still : (line : ℕ) → mine k (operation_node x k) line ≡ false → standing later line ≡ standing m line
     stands_still line not_in =
         let laws = feet ground x n facts in
         let edge : edge_of later.operations.tokens line ≡ edge_of m.operations.tokens line = ap joined (laws.outside m.operations k at (Token (Line line)) not_in) in
@@ -110,7 +110,7 @@ module _ (ground : ProgramFacts) (x : OperationNet) (n : IsOperationNet x) (fact
     abbrev IsHere : (line e : ℕ) → Type 0
     IsHere line e = HasLoad x line (spot e (passed_by m.operations line))
 
-    no_load : (name : NodeName) → IsOperationNamed x name → is_load_node x name ≡ false → ready_as x m.operations k name ≡ true → (line e : ℕ) → mine k name line ≡ true → edge_of m.operations.tokens line ≡ Some e → IsHere line e → ⊥
+    pub no_load : (name : NodeName) → IsOperationNamed x name → is_load_node x name ≡ false → ready_as x m.operations k name ≡ true → (line e : ℕ) → mine k name line ≡ true → edge_of m.operations.tokens line ≡ Some e → IsHere line e → ⊥
     no_load (Op piece i) named other can line e own is has =
         let all = first_of_four (list_all (stands_before x m.operations piece i) (needed x piece i)) (list_all (is_given x m.operations piece) (operation_at x piece i).operands) (not (is_some (value_at m.operations k))) (has_room x m.operations piece (operation_at x piece i).work) can in
         let stands = all_pass (stands_before x m.operations piece i) (needed x piece i) line all (needed_line ground x n.is_net facts.touched piece i line named own) in

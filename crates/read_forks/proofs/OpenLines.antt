@@ -11,9 +11,7 @@ use Rattle.op_board.proofs.OperationNumbers.{IsOperationNamed, operation_named}
 use Rattle.fork_board.specs.ForkTokens.{ForkTokens, Standing, fork_moves, fork_ready_as, is_load_node, is_open, is_open_on, standing}
 use Rattle.fork_board.specs.LoadGroups.{group_at, is_among, is_load, spot}
 use Rattle.fork_board.proofs.ForkNodes.{load_ready}
-use Rattle.read_forks.specs.LoadMarks.{line_of}
 use Rattle.read_forks.specs.LoadSpots.{IsLoadAt}
-use Rattle.read_forks.specs.declared.marks.Mark.{Mark}
 
 -- ---- one line
 
@@ -26,20 +24,6 @@ module _ (x : OperationNet) (line piece i : ℕ) (s : Standing) where
       ap (λ b. b && not loaded) (is ∙ ap (λ n. is_among (group_at x line (spot edge n)) piece i) same)
       ∙ ap (λ b. is_among (group_at x line (spot edge s.passed)) piece i && not b) told
       ∙ sym (ap (is_open_on x line piece i s) stands)
-
--- ---- all lines of a load
-
-pub all_lines_of : (test : ℕ → Bool) (row : List Mark) → list_all (λ (mark : Mark). test mark.line) row ≡ list_all test (map line_of row)
-all_lines_of test [] = refl
-all_lines_of test (mark ∷ row) = ap (λ b. test mark.line && b) (all_lines_of test row)
-
-member_line : (row : List Mark) (k : ℕ) (d : Mark) → k < length row → Member (map line_of row) (line_of (get_or row k d))
-member_line [] k d inside = absurd (omega (arith, inside))
-member_line (mark ∷ row) zero d inside = inl refl
-member_line (mark ∷ row) (suc k) d inside = inr (member_line row k d (omega (arith, inside)))
-
-pub lines_exist : (x : OperationNet) (piece i : ℕ) (row : List Mark) → map line_of row ≡ needed x piece i → All (λ (mark : Mark). mark.line < x.net.routing.lines) row
-lines_exist x piece i row are = λ k d inside. (needed_has x piece i (line_of (get_or row k d)) (subst (λ (lines : List ℕ). Member lines (line_of (get_or row k d))) are (member_line row k d inside))).0
 
 -- ---- loads
 

@@ -22,7 +22,7 @@ use Rattle.read_forks.proofs.LoadFirings.{fired_in_steps, needed_distinct}
 use Rattle.read_forks.proofs.NearLoads.{line_read_near, other_near}
 
 module _ (x : OperationNet) where
-  needs_exist : (m : ForkTokens) (piece i : ℕ) → ForksCanCome x m → IsOperationNamed x (Op piece i) → (line : ℕ) → x.needs piece i line ≡ true → Member (needed x piece i) line
+  pub needs_exist : (m : ForkTokens) (piece i : ℕ) → ForksCanCome x m → IsOperationNamed x (Op piece i) → (line : ℕ) → x.needs piece i line ≡ true → Member (needed x piece i) line
   needs_exist m piece i comes named line needs = needed_line comes.ground x comes.is_net.is_net (firing_facts comes.ground x comes.is_net).touched piece i line named needs
 
   pub in_steps : (m : ForkTokens) (k piece i : ℕ) → ForksCanCome x m → k < length (all_operation_nodes x) → operation_node x k ≡ Op piece i → is_load (operation_at x piece i).work ≡ true → (fork_moves x).fired m k ≡ load_fired x m k piece i

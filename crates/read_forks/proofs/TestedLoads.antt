@@ -44,12 +44,12 @@ member_there [] k a is = let e : None ≡ Some a = is in absurd cc
 member_there (y ∷ xs) zero a is = inl cc
 member_there (y ∷ xs) (suc k) a is = inr (member_there xs k a is)
 
-mapped : {A B : Type 0} (f : A → B) (xs : List A) (k : ℕ) (a : A) → slice_get xs k ≡ Some a → slice_get (map f xs) k ≡ Some (f a)
+pub mapped : {A B : Type 0} (f : A → B) (xs : List A) (k : ℕ) (a : A) → slice_get xs k ≡ Some a → slice_get (map f xs) k ≡ Some (f a)
 mapped f [] k a is = let e : None ≡ Some a = is in absurd cc
 mapped f (y ∷ xs) zero a is = let e : y ≡ a = cc in ap (λ b. Some (f b)) e
 mapped f (y ∷ xs) (suc k) a is = mapped f xs k a is
 
-unmapped : (xs : List Operand) (k number : ℕ) → slice_get (map giver_of xs) k ≡ Some (Some number) → slice_get xs k ≡ Some (From number)
+pub unmapped : (xs : List Operand) (k number : ℕ) → slice_get (map giver_of xs) k ≡ Some (Some number) → slice_get xs k ≡ Some (From number)
 unmapped [] k number is = let e : None ≡ Some (Some number) = is in absurd cc
 unmapped (Known z ∷ xs) zero number is = let e : Some None ≡ Some (Some number) = is in absurd cc
 unmapped (From n ∷ xs) zero number is = let e : n ≡ number = cc in ap (λ m. Some (From m)) e

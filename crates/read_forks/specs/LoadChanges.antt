@@ -21,9 +21,3 @@ pub record IsPut (line piece i : ℕ) (fired : Bool) (old new : Loaded) : Type 0
 pub record IsForgotten (line : ℕ) (group : List Site) (old new : Loaded) : Type 0 where
   pub left : (piece number : ℕ) → new line piece number ≡ true → (old line piece number ≡ true) × (is_among group piece number ≡ false)
   pub others : (l piece number : ℕ) → (l ≡ line → ⊥) → new l piece number ≡ old l piece number
-
--- of the group only these loads may still have fired
-pub record IsAmidForgetting (line : ℕ) (group left : List Site) (old new : Loaded) : Type 0 where
-  pub kept : (piece number : ℕ) → new line piece number ≡ true → old line piece number ≡ true
-  pub still : (piece number : ℕ) → new line piece number ≡ true → is_among group piece number ≡ true → is_among left piece number ≡ true
-  pub others : (l piece number : ℕ) → (l ≡ line → ⊥) → new l piece number ≡ old l piece number

@@ -1,13 +1,10 @@
 //! The net of a program with operations as nodes, in which the loads of a group fire in any order.
 
-ghost use Rattle.op_net.specs.NetView.{net_of as net_in};
-ghost use Rattle.read_forks.specs.MarkedNets.{AreLoadsApart, fork_marking};
-ghost use Rattle.read_forks.specs.LoadMarks.{AreMarksOf};
-ghost use Rattle.read_forks.specs.OwnLinks.{AreOwnLinks};
-ghost use Rattle.read_forks.specs.LoadedGroups.{AreNear};
+ghost use Rattle.op_net.specs.NetView.{marking_of as operations_on, net_of as net_in};
+ghost use Rattle.read_forks.specs.KeptLoads.{AreKept};
+ghost use Rattle.read_forks.specs.MarkedNets.{AreLoadsApart};
 
-use crate::links::Link;
-use crate::marks::Mark;
+use crate::waiting::Waiting;
 use op_net::OpNet;
 
 /// A dataflow net that does what a program does, as `OpNet` does, but that loads which follow one another along a token line fire in any
@@ -17,14 +14,9 @@ pub struct ForkNet<'a, const W: usize> {
     // Each of its lines stands before the first load of its group until the line goes on. Where that is so a node that is no load is
     // ready as in any net, so the net keeps the set of the ready nodes itself, and is told of loads alone which of them are ready.
     pub(crate) net: OpNet<'a, W>,
-    // For each operation of each piece the lines that it needs, and on which of them it has fired while others of its group haven't.
-    pub(crate) marks: Vec<Vec<Vec<Mark>>>,
-    // For each of these lines which groups of it the load belongs to. They never change.
-    pub(crate) links: Vec<Vec<Vec<Link>>>,
+    pub(crate) waiting: Waiting,
     ghost apart: { AreLoadsApart net },
-    ghost own_marks: { AreMarksOf (net_in net) marks.items },
-    ghost own_links: { AreOwnLinks (net_in net) links.items },
-    ghost near: { AreNear (net_in net) (fork_marking net marks.items) },
+    ghost kept: { AreKept (net_in net) (operations_on net) waiting },
 }
 
 impl<'a, const W: usize> ForkNet<'a, W> {

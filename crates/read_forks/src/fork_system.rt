@@ -2,7 +2,6 @@
 
 use crate::ForkNet;
 use firing::{Fired, NodeName, SourceOrder, StepSystem};
-use fork_board::groups_end;
 use op_table::Trap;
 
 impl<const W: usize> StepSystem for ForkNet<'_, W> {
@@ -59,11 +58,7 @@ impl<const W: usize> StepSystem for ForkNet<'_, W> {
     }
 
     fn fire(&mut self, k: u32) -> Fired {
-        groups_end();
-        let (fired, edge) = self.fire_node(k);
-        self.net.steer(k, edge);
-        self.mark_changed(k);
-        fired
+        self.fire_node(k)
     }
 
     fn line(&self) -> &[u8] {

@@ -2,19 +2,20 @@
 //! it stands.
 #![tactic(auto)]
 
+mod arriving;
+mod closing;
 mod fork_firing;
 mod fork_net;
 mod fork_system;
-mod group_walks;
-mod link_tables;
-mod links;
-mod marks;
 mod new_fork_net;
-mod new_links;
 mod new_marks;
-mod retesting;
+mod new_steps;
+mod opening;
 mod step_laws;
+mod steps;
+mod testing;
+mod waiting;
+mod ways;
 
 pub use fork_net::ForkNet;
-pub use marks::{Mark, is_loaded, put_mark};
 pub use step_laws::{fired_loads_are_near, loads_fire_line_by_line};

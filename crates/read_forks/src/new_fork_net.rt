@@ -15,13 +15,15 @@ ghost use Rattle.op_net.specs.NetView.{marking_of as operations_on, net_of as ne
 ghost use Rattle.op_net.specs.OperationParts.{AreOperationParts};
 ghost use Rattle.fork_board.specs.ForkTokens.{first_fork_tokens, fork_moves};
 ghost use Rattle.fork_board.specs.SoundForks.{ForksCanCome};
+ghost use Rattle.read_forks.specs.KeptLoads.{AreKept, IsOpenForNone, opened_of};
 ghost use Rattle.read_forks.specs.MarkedNets.{AreLoadsApart};
 ghost use Rattle.read_forks.specs.ForkView.{marking_of, net_of, place_of};
 ghost use Rattle.read_forks.specs.StaysInForkStep.{StaysInForkStep};
 
 use crate::ForkNet;
-use crate::new_links::make_links;
-use crate::new_marks::{clear_marks, load_flags};
+use crate::new_marks::load_flags;
+use crate::new_steps::new_waiting;
+use crate::waiting::Waiting;
 use alias_classes::Classes;
 use cfg_build::Flow;
 use dep_routing::{Lines, TouchList};
@@ -58,27 +60,31 @@ impl<'a, const W: usize> ForkNet<'a, W> {
         forks_begin_soundly();
         forks_stay_in_lockstep();
         let whole = OpNet::new(alloc, p, f, c, touch, l, input)?;
-        let net = without_loads(alloc, whole)?;
-        let marks = clear_marks(alloc, &net)?;
-        let links = make_links(alloc, &net)?;
-        Ok(ForkNet { net, marks, links })
+        let (net, waiting) = without_loads(alloc, whole)?;
+        let mut net = net;
+        let mut waiting = waiting;
+        waiting.arrive_all(&mut net);
+        Ok(ForkNet { net, waiting })
     }
 }
 
-// A net that leaves its loads to another game.
+// A net that leaves its loads to another game, and for what these wait while no line is open for any.
 fn without_loads<'a, const W: usize>(
     alloc: Global,
     whole: OpNet<'a, W>,
-) -> Result<OpNet<'a, W>, NoMemory>
+) -> Result<(OpNet<'a, W>, Waiting), NoMemory>
     requires { IsUncounted whole }
-    ensures net { IfOk result (λ n. net_in n ≡ net_in whole.entry) }
-    ensures marking { IfOk result (λ n. operations_on n ≡ operations_on whole.entry) }
-    ensures place { IfOk result (λ n. n.control ≡ whole.entry.control) }
-    ensures last { IfOk result (λ n. n.text.items ≡ whole.entry.text.items) }
-    ensures apart { IfOk result AreLoadsApart }
+    ensures net { IfOk result (λ n. net_in n.0 ≡ net_in whole.entry) }
+    ensures marking { IfOk result (λ n. operations_on n.0 ≡ operations_on whole.entry) }
+    ensures place { IfOk result (λ n. n.0.control ≡ whole.entry.control) }
+    ensures last { IfOk result (λ n. n.0.text.items ≡ whole.entry.text.items) }
+    ensures apart { IfOk result (λ n. AreLoadsApart n.0) }
+    ensures kept { IfOk result (λ n. AreKept (net_in n.0) (operations_on n.0) n.1) }
+    ensures none { IfOk result (λ n. (line : ℕ) → IsOpenForNone (opened_of (net_in n.0) n.1) line) }
 {
     let mut net = whole;
     let loads = load_flags(alloc, &net)?;
+    let waiting = new_waiting(alloc, &net, &loads)?;
     net.lead_apart(loads);
-    Ok(net)
+    Ok((net, waiting))
 }

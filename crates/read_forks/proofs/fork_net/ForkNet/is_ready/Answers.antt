@@ -1,23 +1,59 @@
-use Rattle.std.proofs.Common.{◌≡◌, None, sym, ◌∙◌, arith, rules}
+use Rattle.std.proofs.Common.{◌≡◌, ◌<◌, length, slice_get, Some, refl, sym, ap, ◌∙◌, arith}
+use Rattle.std.proofs.lemmas.Option.{slice_get_read}
 use Rattle.op_board.specs.OperationNets.{operation_node}
+use Rattle.op_net.specs.NetView.{marking_of as operations_on}
 use Rattle.fork_board.proofs.ForkNodes.{other_ready}
 use Rattle.read_forks.specs.ForkView.{marking_of, net_of}
-use Rattle.read_forks.proofs.OpenLines.{IsLoadHere, is_load_here, is_no_load}
+use Rattle.read_forks.proofs.ListedLoads.{load_step}
+use Rattle.read_forks.proofs.ReadyLoads.{waits_ready}
+use Rattle.read_forks.proofs.TestedNets.{room_closed, room_steps}
 use Rattle.read_forks.proofs.fork_net.ForkNet.is_ready.Goals as goal
+
+pub index-step-requires : goal.index-step-requires
+index-step-requires g c =
+    let long = room_steps c.args.self.now in
+    let low = c.requires.node in
+    omega (arith, long, low)
 
 pub can_load-requires : goal.can_load-requires
 can_load-requires g c =
-    let here : IsLoadHere (net_of c.args.self.now) c.args.k c.in-Some.piece c.in-Some.i = is_load_here (net_of c.args.self.now) c.args.k c.in-Some.piece c.in-Some.i c.requires.node c.load_of.result c.in-Some.is c.load_of.ensures in
-    let of_node = c.requires.node in
-    let of_name = here.name in
-    let of_loads = here.loads in
-    let of_sound = c.requires.sound in
-    (omega arith, (of_node, (of_name, (of_loads, of_sound))))
+    let s = c.args.self.now in
+    let x = net_of s in
+    let k = c.args.k in
+    let low = c.requires.node in
+    let long = room_steps s in
+    let room = room_closed s in
+    let step = c.index-step.result.now in
+    let at : slice_get s.waiting.steps.items k ≡ Some step = slice_get_read s.waiting.steps.items (length s.waiting.steps.items) k step refl (omega (arith, long, low)) c.index-step.ensures in
+    let is = s.kept.tables.steps.each k step at in
+    let loads = sym is.loads ∙ c.if-step.true in
+    (omega arith, (low, (load_step x s.waiting.links.items k step is loads, omega (arith, room, low))))
+
+pub returns-then-step : goal.returns-then-step
+returns-then-step g c =
+    let s = c.args.self.now in
+    let x = net_of s in
+    let k = c.args.k in
+    let low = c.requires.node in
+    let long = room_steps s in
+    let step = c.index-step.result.now in
+    let at : slice_get s.waiting.steps.items k ≡ Some step = slice_get_read s.waiting.steps.items (length s.waiting.steps.items) k step refl (omega (arith, long, low)) c.index-step.ensures in
+    let is = s.kept.tables.steps.each k step at in
+    c.can_load.ensures ∙ waits_ready x (operations_on s.net) s.waiting s.kept k low (sym is.loads ∙ c.if-step.true)
+
+pub returns-else-step : goal.returns-else-step
+returns-else-step g c =
+    let s = c.args.self.now in
+    let x = net_of s in
+    let k = c.args.k in
+    let low = c.requires.node in
+    let long = room_steps s in
+    let step = c.index-step.result.now in
+    let at : slice_get s.waiting.steps.items k ≡ Some step = slice_get_read s.waiting.steps.items (length s.waiting.steps.items) k step refl (omega (arith, long, low)) c.index-step.ensures in
+    let is = s.kept.tables.steps.each k step at in
+    c.ready.ensures ∙ sym (other_ready x (marking_of s) k (operation_node x k) (sym is.loads ∙ c.if-step.false))
 
 pub ready-requires : goal.ready-requires
-ready-requires g c = (omega arith, (c.requires.node, record { ground = c.requires.sound.ground; is_net = c.requires.sound.is_net; is_marking = c.requires.sound.is_marking }))
-
-pub returns-in-None : goal.returns-in-None
-returns-in-None g c =
-    let none : c.load_of.result ≡ None = search rules in
-    c.ready.ensures ∙ sym (other_ready (net_of c.args.self.now) (marking_of c.args.self.now) c.args.k (operation_node (net_of c.args.self.now) c.args.k) (is_no_load (net_of c.args.self.now) c.args.k c.load_of.result none c.load_of.ensures))
+ready-requires g c =
+    let sound = c.requires.sound in
+    (omega arith, (c.requires.node, record { ground = sound.ground; is_net = sound.is_net; is_marking = sound.is_marking }))

@@ -1,116 +1,139 @@
-use Rattle.std.proofs.Common.{◌≡◌, ◌<◌, inl, inr, ⊎_elim, ℕ, ◌+◌, Bool, true, false, List, sym, ap, ◌∙◌, subst, arith}
-use Rattle.std.proofs.lemmas.Bool.{cases_Bool}
-use Rattle.firing.specs.ReadySet.{has}
-use Rattle.op_board.specs.OperationNets.{OperationNet, operation_node}
-use Rattle.op_board.specs.OperationTokens.{OperationTokens}
-use Rattle.op_net.specs.NetView.{net_of as net_in}
+use Rattle.std.proofs.Common.{◌≡◌, ◌<◌, inl, inr, ⊎_elim, ℕ, Some, get_or, length, slice_get, refl, sym, ap, ◌∙◌, subst, arith}
+use Rattle.std.proofs.lemmas.Option.{slice_get_read}
+use Rattle.op_board.specs.OperationNets.{OperationNet}
+use Rattle.op_net.specs.ApartLoads.{flags_of}
+use Rattle.op_net.specs.NetView.{marking_of as operations_on, net_of as net_in}
 use Rattle.op_net.specs.Waits.{node_total}
-use Rattle.fork_board.specs.ForkTokens.{ForkTokens, is_load_node}
-use Rattle.fork_board.specs.SoundForks.{ForksCanCome}
-use Rattle.fork_board.proofs.ForkNodes.{other_ready}
-use Rattle.read_forks.specs.ForkView.{IsRight, Unmarked, marking_of, net_of}
-use Rattle.read_forks.specs.LoadMarks.{AreMarksOf, loaded_in}
-use Rattle.read_forks.specs.OwnLinks.{AreOwnLinks}
-use Rattle.read_forks.proofs.KeptMarks.{apart_too, near_kept, room_too}
-use Rattle.read_forks.proofs.LoadFlags.{below_or_last}
+use Rattle.fork_board.specs.ForkTokens.{ForkTokens, fork_moves}
+use Rattle.read_forks.specs.ForkView.{marking_of, net_of}
+use Rattle.read_forks.specs.KeptLoads.{AreKept}
+use Rattle.read_forks.specs.declared.waiting.Waiting.{Waiting}
+use Rattle.read_forks.proofs.KeptNets.{apart_too, kept_there}
+use Rattle.read_forks.proofs.LoadNets.{view_there}
+use Rattle.read_forks.proofs.TestedNets.{can_test_node, other_mark, right_next, room_steps}
 use Rattle.read_forks.proofs.fork_net.ForkNet.mark_all.Goals as goal
 
 pub loop-k-init : goal.loop-k-init
 loop-k-init g c =
-    let x = net_of c.args.self.now in
+    let s = c.args.self.now in
     let did = c.count_apart.ensures in
-    let net1 = c.count_apart.new.self in
-    let loaded = loaded_in c.args.self.now.marks.items in
     record {
       net = did.net;
-      marking = ap (λ (t : OperationTokens). record { operations = t; loaded = loaded }) did.marking;
+      marking = did.marking;
       place = did.place;
       last = did.last;
+      apart = did.apart;
       counted = did.counted;
-      room = did.room;
+      waiting = refl;
+      room = did.room ∙ ap (λ (y : OperationNet). node_total y) did.net;
       right = λ j low which. ⊎_elim
-          (λ (no_load : is_load_node x (operation_node x j) ≡ false).
-          did.others j (subst (λ (y : OperationNet). j < node_total y) (sym did.net) low) (ap (λ (flags : List Bool). has flags j) did.apart ∙ c.args.self.now.apart j low ∙ no_load)
-          ∙ sym (other_ready (net_in net1) (Rattle.read_forks.specs.MarkedNets.fork_marking net1 c.args.self.now.marks.items) j (operation_node (net_in net1) j) (subst (λ (y : OperationNet). is_load_node y (operation_node y j) ≡ false) (sym did.net) no_load)))
+          (λ none. other_mark s c.count_apart.new.self did.net did.marking did.apart did.others j low none)
           (λ (under : j < 0). absurd (omega (arith, under)))
           which;
     }
 
-pub test-requires : goal.test-requires
-test-requires g c =
-    let x = net_of c.args.self.now in
+pub index-step-requires : goal.index-step-requires
+index-step-requires g c =
+    let s = c.args.self.now in
+    let x = net_of s in
+    let over = c.loop-k-test.true in
+    let count = c.nodes-k-end.ensures in
+    let end = c.loop-k.auto.k-end in
+    let total : node_total (net_in c.count_apart.new.self) ≡ node_total x = ap (λ (y : OperationNet). node_total y) c.count_apart.ensures.net in
+    let long = room_steps s in
+    omega (arith, over, count, end, total, long)
+
+pub test_load-requires : goal.test_load-requires
+test_load-requires g c =
+    let s = c.args.self.now in
+    let x = net_of s in
     let i = c.loop-k.invariant in
     let over = c.loop-k-test.true in
     let count = c.nodes-k-end.ensures in
     let end = c.loop-k.auto.k-end in
     let total : node_total (net_in c.count_apart.new.self) ≡ node_total x = ap (λ (y : OperationNet). node_total y) c.count_apart.ensures.net in
     let low : c.loop-k.k < node_total x = omega (arith, over, count, end, total) in
-    let of_node = subst (λ (y : OperationNet). c.loop-k.k < node_total y) (sym i.net) low in
-    let of_sound = subst (λ (y : OperationNet). ForksCanCome y (marking_of c.loop-k.self)) (sym i.net) (subst (λ (t : ForkTokens). ForksCanCome x t) (sym i.marking) c.requires) in
-    (omega arith, (of_node, (of_sound, i.room)))
+    let long = room_steps s in
+    let step = c.index-step.result.now in
+    let at : slice_get s.waiting.steps.items c.loop-k.k ≡ Some step = slice_get_read s.waiting.steps.items (length s.waiting.steps.items) c.loop-k.k step refl (omega (arith, low, long)) (subst (λ (w : Waiting). step ≡ get_or w.steps.items c.loop-k.k step) i.waiting c.index-step.ensures) in
+    let is = s.kept.tables.steps.each c.loop-k.k step at in
+    (omega arith, can_test_node s c.loop-k.self.net i.net i.marking i.apart i.waiting c.loop-k.k step low at)
 
 pub loop-k-preserved : goal.loop-k-preserved
 loop-k-preserved g c =
-    let x = net_of c.args.self.now in
+    let s = c.args.self.now in
+    let x = net_of s in
     let i = c.loop-k.invariant in
-    let did = c.test.ensures in
+    let over = c.loop-k-test.true in
+    let count = c.nodes-k-end.ensures in
+    let end = c.loop-k.auto.k-end in
+    let total : node_total (net_in c.count_apart.new.self) ≡ node_total x = ap (λ (y : OperationNet). node_total y) c.count_apart.ensures.net in
+    let low : c.loop-k.k < node_total x = omega (arith, over, count, end, total) in
+    let long = room_steps s in
+    let step = c.index-step.result.now in
+    let at : slice_get s.waiting.steps.items c.loop-k.k ≡ Some step = slice_get_read s.waiting.steps.items (length s.waiting.steps.items) c.loop-k.k step refl (omega (arith, low, long)) (subst (λ (w : Waiting). step ≡ get_or w.steps.items c.loop-k.k step) i.waiting c.index-step.ensures) in
+    let is = s.kept.tables.steps.each c.loop-k.k step at in
+    let now = c.loop-k.self.net in
+    let did = c.test_load.ensures in
     record {
-      net = ap (λ (u : Unmarked). u.net) did.kept.rest ∙ i.net;
-      marking = ap (λ (u : Unmarked). u.tokens) did.kept.rest ∙ i.marking;
-      place = ap (λ (u : Unmarked). u.place) did.kept.rest ∙ i.place;
-      last = ap (λ (u : Unmarked). u.text) did.kept.rest ∙ i.last;
-      counted = ap (λ (u : Unmarked). u.kept) did.kept.rest ∙ i.counted;
-      room = room_too c.loop-k.self c.test.new.self did.kept i.room;
-      right = λ j low which. ⊎_elim
-          (λ (no_load : is_load_node x (operation_node x j) ≡ false). did.kept.stays j (i.right j low (inl no_load)))
-          (λ (under : j < c.loop-k.k + 1). ⊎_elim
-          (λ (below : j < c.loop-k.k). did.kept.stays j (i.right j low (inr below)))
-          (λ (here : j ≡ c.loop-k.k). ⊎_elim
-          (λ (loads : is_load_node x (operation_node x j) ≡ true).
-          subst (λ (n : ℕ). IsRight c.test.new.self n) (sym here) (did.right (subst (λ (y : OperationNet). is_load_node y (operation_node y c.loop-k.k) ≡ true) (sym i.net) (subst (λ n. is_load_node x (operation_node x n) ≡ true) here loads))))
-          (λ (no_load : is_load_node x (operation_node x j) ≡ false). did.kept.stays j (i.right j low (inl no_load)))
-          (cases_Bool (is_load_node x (operation_node x j))))
-          (below_or_last j c.loop-k.k under))
-          which;
+      net = did.kept.net ∙ i.net;
+      marking = did.kept.marking ∙ i.marking;
+      place = did.kept.place ∙ i.place;
+      last = did.kept.text ∙ i.last;
+      apart = did.kept.apart ∙ i.apart;
+      counted = did.kept.counted ∙ i.counted;
+      waiting = i.waiting;
+      room = did.kept.room ∙ i.room;
+      right = right_next s now i.net i.marking i.apart c.loop-k.self.waiting.closed.items (ap (λ (w : Waiting). w.closed.items) i.waiting) c.loop-k.k step low at (flags_of c.test_load.new.net) did.tested did.left i.room i.right;
+    }
+
+pub invariant_of-self-in-loop-k : goal.invariant_of-self-in-loop-k
+invariant_of-self-in-loop-k g c =
+    let s = c.args.self.now in
+    let i = c.loop-k.invariant in
+    let kept = c.test_load.ensures.kept in
+    let now = c.test_load.new.net in
+    record {
+      apart = apart_too s.net now (kept.net ∙ i.net) (kept.apart ∙ i.apart) s.apart;
+      kept = subst (λ (w : Waiting). AreKept (net_in now) (operations_on now) w) (sym i.waiting) (kept_there (net_of s) (net_in now) (operations_on s.net) (operations_on now) s.waiting (kept.net ∙ i.net) (kept.marking ∙ i.marking) s.kept);
     }
 
 pub returns-clause-keeps : goal.returns-clause-keeps
 returns-clause-keeps g c =
-    let x = net_of c.args.self.now in
+    let s = c.args.self.now in
+    let x = net_of s in
     let i = c.loop-k.invariant in
+    let now = c.loop-k.self in
     let over = c.loop-k-test.false in
     let count = c.nodes-k-end.ensures in
     let end = c.loop-k.auto.k-end in
     let total : node_total (net_in c.count_apart.new.self) ≡ node_total x = ap (λ (y : OperationNet). node_total y) c.count_apart.ensures.net in
+    let view : marking_of now ≡ marking_of s = view_there x (net_of now) (operations_on s.net) (operations_on now.net) s.waiting now.waiting i.net i.marking i.waiting in
     record {
       kept = i.counted;
       marks = record {
-        room = i.room;
+        room = i.room ∙ ap (λ (y : OperationNet). node_total y) (sym i.net);
         right = λ j low.
             let own : j < node_total x = subst (λ (y : OperationNet). j < node_total y) i.net low in
-            i.right j own (inr (omega (arith, own, over, count, end, total)));
+            i.right j own (inr (omega (arith, own, over, count, end, total)))
+            ∙ ap (λ (t : ForkTokens). (fork_moves x).ready t j) (sym view)
+            ∙ ap (λ (y : OperationNet). (fork_moves y).ready (marking_of now) j) (sym i.net);
       };
     }
 
-pub returns-clause-net : goal.returns-clause-net
-returns-clause-net g c = c.loop-k.invariant.net
-
 pub returns-clause-marking : goal.returns-clause-marking
-returns-clause-marking g c = c.loop-k.invariant.marking
-
-pub returns-clause-place : goal.returns-clause-place
-returns-clause-place g c = c.loop-k.invariant.place
-
-pub returns-clause-last : goal.returns-clause-last
-returns-clause-last g c = c.loop-k.invariant.last
+returns-clause-marking g c =
+    let s = c.args.self.now in
+    let i = c.loop-k.invariant in
+    let now = c.loop-k.self in
+    view_there (net_of s) (net_of now) (operations_on s.net) (operations_on now.net) s.waiting now.waiting i.net i.marking i.waiting
 
 pub invariant_of-self : goal.invariant_of-self
 invariant_of-self g c =
+    let s = c.args.self.now in
     let did = c.count_apart.ensures in
-    let old = c.args.self.now in
+    let now = c.count_apart.new.self in
     record {
-      apart = apart_too old.net c.count_apart.new.self did.net did.apart old.apart;
-      own_marks = subst (λ (y : OperationNet). AreMarksOf y old.marks.items) (sym did.net) old.own_marks;
-      own_links = subst (λ (y : OperationNet). AreOwnLinks y old.links.items) (sym did.net) old.own_links;
-      near = near_kept old.net c.count_apart.new.self old.marks.items did.net did.marking old.near;
+      apart = apart_too s.net now did.net did.apart s.apart;
+      kept = kept_there (net_of s) (net_in now) (operations_on s.net) (operations_on now) s.waiting did.net did.marking s.kept;
     }

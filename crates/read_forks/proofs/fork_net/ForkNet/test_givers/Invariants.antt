@@ -1,16 +1,20 @@
-use Rattle.std.proofs.Common.{◌≡◌, ◌<◌, ℕ, ◌+◌, true, Some, slice_get}
-use Rattle.firing.specs.declared.system.NodeName.TheVariants.{Op}
-use Rattle.op_board.specs.Operations.{From}
-use Rattle.op_board.specs.OperationNets.{first_operation, operation_at}
-use Rattle.fork_board.specs.ForkTokens.{is_load_node}
-use Rattle.read_forks.specs.ForkView.{IsRight, net_of}
-use Rattle.read_forks.specs.RightMarks.{KeepsRight}
+use Rattle.std.proofs.Common.{◌≡◌, ◌<◌, ◌≤◌, ℕ, Some, length, slice_get}
+use Rattle.firing.specs.ReadySet.{has}
+use Rattle.op_net.specs.ApartLoads.{flags_of}
+use Rattle.op_net.specs.NetView.{marking_of as operations_on}
+use Rattle.read_forks.specs.ForkView.{net_of}
+use Rattle.read_forks.specs.WaitingLoads.{IsRemarked, KeepsMarks, waits_for_nothing}
 use Rattle.read_forks.proofs.fork_net.ForkNet.test_givers.Given as goal
 
-abbrev pub invariant-loop-j : goal.invariant-loop-j
-invariant-loop-j g l =
-    let x = net_of l.fn.self in
+abbrev pub invariant-loop-n : goal.invariant-loop-n
+invariant-loop-n g l =
+    let s = l.fn.self in
+    let x = net_of s in
+    let m = operations_on s.net in
+    let closed = s.waiting.closed.items in
     record {
-      kept : KeepsRight l.fn.self l.self;
-      right : (nth number : ℕ) → nth < l.j → slice_get (operation_at x l.piece l.i).operands nth ≡ Some (From number) → is_load_node x (Op l.piece number) ≡ true → IsRight l.self (first_operation x l.piece + number);
+      rest : IsRemarked s.net l.self.net;
+      waiting : l.self.waiting ≡ s.waiting;
+      marks : KeepsMarks x m closed closed (flags_of s.net) (flags_of l.self.net);
+      right : (p j : ℕ) → l.fn.step.giver ≤ p → p < l.n → slice_get s.waiting.givers.items p ≡ Some j → j < length (flags_of s.net) → has (flags_of l.self.net) j ≡ waits_for_nothing x m closed j;
     }

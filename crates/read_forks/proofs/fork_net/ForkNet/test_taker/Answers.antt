@@ -1,41 +1,66 @@
-use Rattle.std.proofs.Common.{◌≡◌, ℕ, true, sym, ◌∙◌, subst, arith}
-use Rattle.firing.specs.declared.system.NodeName.TheVariants.{Op}
+use Rattle.std.proofs.Common.{◌≡◌, ◌<◌, ℕ, length, Some, slice_get, refl, sym, subst, arith}
+use Rattle.std.proofs.lemmas.Option.{slice_get_read}
+use Rattle.firing.specs.ReadySet.{has}
 use Rattle.op_board.specs.OperationNets.{operation_node}
-use Rattle.op_board.proofs.OperationNumbers.{IsOperationNamed, operation_named}
-use Rattle.fork_board.specs.ForkTokens.{is_load_node}
-use Rattle.read_forks.specs.ForkView.{IsRight, marking_of, net_of}
-use Rattle.read_forks.proofs.KeptMarks.{nothing_marked}
-use Rattle.read_forks.proofs.TestedLoads.{only_taker, untaken}
+use Rattle.op_net.specs.ApartLoads.{flags_of}
+use Rattle.op_net.specs.Waits.{node_total}
+use Rattle.op_net.specs.NetView.{marking_of as operations_on, net_of as net_in}
+use Rattle.read_forks.specs.ForkView.{net_of}
+use Rattle.read_forks.specs.WaitingLoads.{waits_for_nothing}
+use Rattle.read_forks.proofs.KeptNets.{apart_too, kept_there}
+use Rattle.read_forks.proofs.TestedLoads.{only_taker}
+use Rattle.read_forks.proofs.TestedNets.{can_test, room_steps}
+use Rattle.read_forks.proofs.WaitTests.{right_here, test_keeps}
 use Rattle.read_forks.proofs.fork_net.ForkNet.test_taker.Goals as goal
 
-pub gives-requires : goal.gives-requires
-gives-requires g c =
-    let x = net_of c.args.self.now in
-    let named : IsOperationNamed x (Op c.args.piece c.args.i) = subst (λ a. IsOperationNamed x a) c.requires.name (operation_named x c.args.k c.requires.node) in
-    let of_piece = named.exists in
-    let of_operation = named.fits.2 in
-    (omega arith, (of_piece, of_operation))
-
-pub taker-taker-requires : goal.taker-taker-requires
-taker-taker-requires g c =
-    let of_node = c.requires.node in
-    let of_name = c.requires.name in
-    let of_gives = sym c.gives.ensures ∙ c.if-not-gives.false in
-    (omega arith, (of_node, (of_name, of_gives)))
-
 pub test-requires : goal.test-requires
-test-requires g c = (omega arith, (c.taker-taker.ensures.within, (c.requires.sound, c.requires.room)))
+test-requires g c =
+    let s = c.args.self.now in
+    let x = net_of s in
+    let m = operations_on s.net in
+    let closed = s.waiting.closed.items in
+    let taker = c.args.step.taker in
+    let less = c.if-step-nodes.true in
+    let nodes = c.nodes.ensures in
+    let exists : taker < node_total x = omega (arith, less, nodes) in
+    let loads = s.kept.tables.values.takers c.args.k c.args.step c.requires.step exists in
+    let long = room_steps s in
+    let step = c.index.result.now in
+    let at : slice_get s.waiting.steps.items taker ≡ Some step = slice_get_read s.waiting.steps.items (length s.waiting.steps.items) taker step refl (omega (arith, exists, long)) c.index.ensures in
+    (omega arith, can_test s s.net refl refl refl refl taker step exists at loads)
 
-pub returns-then-not-gives-clause-kept : goal.returns-then-not-gives-clause-kept
-returns-then-not-gives-clause-kept g c = nothing_marked c.args.self.now
+pub invariant_of-self : goal.invariant_of-self
+invariant_of-self g c =
+    let s = c.args.self.now in
+    let rest = c.test.ensures.kept in
+    let now = c.test.new.net in
+    record {
+      apart = apart_too s.net now rest.net rest.apart s.apart;
+      kept = kept_there (net_of s) (net_in now) (operations_on s.net) (operations_on now) s.waiting rest.net rest.marking s.kept;
+    }
 
-pub returns-then-not-gives-clause-right : goal.returns-then-not-gives-clause-right
-returns-then-not-gives-clause-right g c = λ j low loads took.
-    let x = net_of c.args.self.now in
-    untaken x (marking_of c.args.self.now) c.args.k c.args.piece c.args.i j c.requires.sound (λ p exists acts. c.pieces_have_operations.ensures.lists x p c.requires.sound.is_net exists acts) c.requires.node c.requires.name low (sym c.gives.ensures ∙ c.if-not-gives.true) took
+pub returns-then-step-nodes-clause-marks : goal.returns-then-step-nodes-clause-marks
+returns-then-step-nodes-clause-marks g c =
+    let s = c.args.self.now in
+    test_keeps (net_of s) (operations_on s.net) s.waiting.closed.items (flags_of s.net) (flags_of c.test.new.net) c.args.step.taker c.test.ensures.flags
 
-pub returns-clause-right : goal.returns-clause-right
-returns-clause-right g c = λ j low loads took.
-    let x = net_of c.args.self.now in
-    let same : j ≡ c.taker-taker.result = only_taker x c.args.k j c.taker-taker.result (operation_node x j) (c.taker-taker.ensures.takes j low) took in
-    subst (λ (n : ℕ). IsRight c.test.new.self n) (sym same) (c.test.ensures.right (subst (λ n. is_load_node x (operation_node x n) ≡ true) same loads))
+pub returns-then-step-nodes-clause-right : goal.returns-then-step-nodes-clause-right
+returns-then-step-nodes-clause-right g c = λ j low inside loads takes.
+    let s = c.args.self.now in
+    let x = net_of s in
+    let m = operations_on s.net in
+    let closed = s.waiting.closed.items in
+    let taker = c.args.step.taker in
+    let e : j ≡ taker = only_taker x c.args.k j taker (operation_node x j) (s.kept.tables.values.taker c.args.k c.args.step c.requires.step j low loads) takes in
+    subst (λ (n : ℕ). has (flags_of c.test.new.net) n ≡ waits_for_nothing x m closed n) (sym e)
+    (right_here x m closed (flags_of s.net) (flags_of c.test.new.net) taker c.test.ensures.flags (subst (λ (n : ℕ). n < length (flags_of s.net)) e inside))
+
+pub returns-else-step-nodes-clause-right : goal.returns-else-step-nodes-clause-right
+returns-else-step-nodes-clause-right g c = λ j low inside loads takes.
+    let s = c.args.self.now in
+    let x = net_of s in
+    let taker = c.args.step.taker in
+    let e : j ≡ taker = only_taker x c.args.k j taker (operation_node x j) (s.kept.tables.values.taker c.args.k c.args.step c.requires.step j low loads) takes in
+    let more = c.if-step-nodes.false in
+    let nodes = c.nodes.ensures in
+    absurd (omega (arith, low, e, more, nodes))
