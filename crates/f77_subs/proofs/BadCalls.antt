@@ -61,9 +61,9 @@ each-push P [] x all last (suc j) y is = absurd cc
 each-push P (z ∷ zs) x all last zero y is = all 0 y is
 each-push P (z ∷ zs) x all last (suc j) y is = each-push (λ k. P (suc k)) zs x (λ k w e. all (suc k) w e) last j y is
 
-pub said-push : (us : List (List Labelled)) (table : List UnitSaid) (x : UnitSaid) (k : ℕ) → length table ≡ k → ((j : ℕ) (y : UnitSaid) → slice_get table j ≡ Some y → IsSaidOf (unit_at us j) y) → IsSaidOf (unit_at us k) x
-    → (j : ℕ) (y : UnitSaid) → slice_get (table ++ x ∷ []) j ≡ Some y → IsSaidOf (unit_at us j) y
-said-push us table x k long all last = each-push (λ j y. IsSaidOf (unit_at us j) y) table x all (subst (λ n. IsSaidOf (unit_at us n) x) (sym long) last)
+pub table-push : {X : Type 0} (Is : List Labelled → X → Type 0) (us : List (List Labelled)) (table : List X) (x : X) (k : ℕ) → length table ≡ k → ((j : ℕ) (y : X) → slice_get table j ≡ Some y → Is (unit_at us j) y) → Is (unit_at us k) x
+    → (j : ℕ) (y : X) → slice_get (table ++ x ∷ []) j ≡ Some y → Is (unit_at us j) y
+table-push Is us table x k long all last = each-push (λ j y. Is (unit_at us j) y) table x all (subst (λ n. Is (unit_at us n) x) (sym long) last)
 
 pub none-behind : (us : List (List Labelled)) → unit_at us (length us) ≡ []
 none-behind us = ap unit_or_none (slice_get_past us (length us) (omega arith))

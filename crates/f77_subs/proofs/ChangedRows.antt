@@ -12,7 +12,7 @@ use Rattle.f77_subs.specs.Copies.{Change, pairs, intrinsic_or, changed_call, cha
 use Rattle.f77_subs.specs.Changes.{with_operand}
 
 -- the row after a list of operands, arguments or subscripts
-abbrev row_of : RawExpr → (n : Count) × Row_of-RawExpr n
+abbrev pub row_of : RawExpr → (n : Count) × Row_of-RawExpr n
 row_of (Call' _ _ row) = (_, row)
 row_of (Apply' _ _ row) = (_, row)
 row_of _ = (_, end_of-RawExpr)

@@ -1,25 +1,15 @@
 -- The first places of names in a list, found name by name.
-use Rattle.std.proofs.Common.{◌≡◌, ℕ, ◌+◌, ◌<◌, Bool, not, cond, eqb, List, [], ◌∷◌, ◌++◌, length, take, get_or, Option, sym, ap, ◌∙◌, arith, length-append, length-take-le}
+use Rattle.std.proofs.Common.{◌≡◌, ℕ, ◌+◌, ◌<◌, Bool, List, [], ◌∷◌, ◌++◌, length, take, get_or, Option, sym, ap, ◌∙◌, arith, length-take-le}
 use Rattle.std.specs.Prelude.{bytes_eq}
 use Rattle.std.specs.List.{position_or_len}
-use Rattle.std.proofs.lemmas.List.Folds.{position_or_len_push}
-use Rattle.std.proofs.lemmas.List.Sums.{prefix_len-le-length}
 use Rattle.std.proofs.lemmas.List.{take_more}
 use Rattle.f77_layout.specs.Faults.{answer_or}
 use Rattle.f77_layout.proofs.NameEntries.{bytes_eq-sym}
 use Rattle.f77_subs.specs.CallTable.{if_below, unit_if}
-use Rattle.f77_subs.proofs.NamedUnits.{named-push}
+use Rattle.f77_subs.proofs.FirstPlaces.{place-more}
 
 abbrev pub place_in : (x : List ℕ) → List (List ℕ) → Option ℕ
 place_in x names = if_below (position_or_len (bytes_eq x) names) (length names)
-
-place-push : (x : List ℕ) (names : List (List ℕ)) (name : List ℕ) → place_in x (names ++ name ∷ []) ≡ answer_or (place_in x names) (unit_if (bytes_eq x name) (length names))
-place-push x names name =
-    let p : List ℕ → Bool = bytes_eq x in
-    let longer : length (names ++ name ∷ []) ≡ length names + 1 = length-append names (name ∷ []) in
-    ap (λ (n : ℕ). if_below n (length (names ++ name ∷ []))) (position_or_len_push p names name)
-    ∙ ap (λ (n : ℕ). if_below (cond (eqb (position_or_len p names) (length names)) (length names + cond (p name) 0 1) (position_or_len p names)) n) longer
-    ∙ named-push (position_or_len p names) (length names) (prefix_len-le-length (λ (y : List ℕ). not (p y)) names) (p name)
 
 pub place-next : (x : List ℕ) (names : List (List ℕ)) (i : ℕ) (name : List ℕ) (old new : Option ℕ) → i < length names → name ≡ get_or names i name → old ≡ place_in x (take i names)
     → new ≡ answer_or old (unit_if (bytes_eq name x) i) → new ≡ place_in x (take (i + 1) names)
@@ -30,4 +20,4 @@ place-next x names i name old new inside stands before is =
     ∙ ap (λ (o : Option ℕ). answer_or o (unit_if (bytes_eq name x) i)) before
     ∙ ap (λ (b : Bool). answer_or (place_in x (take i names)) (unit_if b i)) (bytes_eq-sym name x)
     ∙ ap (λ (n : ℕ). answer_or (place_in x (take i names)) (unit_if (bytes_eq x name) n)) (sym long)
-    ∙ sym (ap (place_in x) more ∙ place-push x (take i names) name)
+    ∙ sym (ap (place_in x) more ∙ place-more (bytes_eq x) (take i names) name)

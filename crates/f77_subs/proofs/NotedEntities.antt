@@ -10,15 +10,11 @@ use Rattle.f77_tree.specs.declared.statements.Labelled.{Labelled}
 use Rattle.f77_tree.specs.Places.{same_block}
 use Rattle.f77_subs.specs.Entities.{Entity, Local, InBlock, entity_of}
 use Rattle.f77_subs.specs.Names.{is_main, own_names, same_entity, with_entity, y_entities}
-use Rattle.f77_subs.proofs.MainNames.{same_block-itself}
 use Rattle.f77_subs.proofs.OwnNames.{entities-same}
+use Rattle.f77_subs.proofs.SameEntities.{same-itself}
 
 abbrev Has : Entity → List Entity → Type 0
 Has e found = list_any (same_entity e) found ≡ true
-
-same-itself : (e : Entity) → same_entity e e ≡ true
-same-itself (Local k x) = and_from (k == k) (bytes_eq x x) (eq-eqb k k refl) ((bytes_eq-Decides x x).1 refl)
-same-itself (InBlock block i) = and_from (same_block block block) (i == i) (same_block-itself block) (eq-eqb i i refl)
 
 in-either : (e : Entity) (xs ys : List Entity) → Has e xs → Has e (xs ++ ys)
 in-either e xs ys has = list_any-append (same_entity e) xs ys ∙ or_left (list_any (same_entity e) xs) (list_any (same_entity e) ys) has

@@ -52,7 +52,7 @@ with-zeros n digits = by_tests (nat_lt n 10) (nat_lt n 100) (nat_lt n 1000) (nat
 number-of-name : (n : ℕ) → n < 2 ^ 64 → number_of (drop 1 (y_text n)) ≡ n
 number-of-name n below = with-zeros n (decimal n) ∙ writes n below
 
-texts-apart : (m n : ℕ) → m < 2 ^ 64 → n < 2 ^ 64 → y_text m ≡ y_text n → m ≡ n
+pub texts-apart : (m n : ℕ) → m < 2 ^ 64 → n < 2 ^ 64 → y_text m ≡ y_text n → m ≡ n
 texts-apart m n low high same = sym (number-of-name m low) ∙ ap (λ (text : List ℕ). number_of (drop 1 text)) same ∙ number-of-name n high
 
 -- ---- entities
@@ -104,7 +104,7 @@ next-fits n top below = omega (arith, below)
 in-reach : (m n top : ℕ) → m < 1 + n → n < top → m < top
 in-reach m n top below fits = omega (arith, below, fits)
 
-enough-for : (i count free used : ℕ) → i < count → count + used ≤ free + used → i < free
+pub enough-for : (i count free used : ℕ) → i < count → count + used ≤ free + used → i < free
 enough-for i count free used below plenty = omega (arith, below, plenty)
 
 negated : (b : Bool) → not b ≡ true → b ≡ false
@@ -126,7 +126,7 @@ module _ (us : List (List Labelled)) where
   found : (e : Entity) → list_any (same_entity e) those ≡ true → e ≡ get_or those (place e) e
   found e is = entities-same e (get_or those (place e) e) (passes_at_first (same_entity e) those e (first-inside (same_entity e) those is))
 
-  own-name : (e : Entity) → list_any (same_entity e) those ≡ true → name_for us e ≡ y_name us e
+  pub own-name : (e : Entity) → list_any (same_entity e) those ≡ true → name_for us e ≡ y_name us e
   own-name e is =
       let at : slice_get those (place e) ≡ Some (get_or those (place e) e) = slice_get-get_or those (place e) e (first-inside (same_entity e) those is) in
       let mine : slice_get those (place e) ≡ Some e = at ∙ ap (λ (x : Entity). Some x) (sym (found e is)) in
@@ -136,15 +136,35 @@ module _ (us : List (List Labelled)) where
       by_main true is = let e : false ≡ true = is in absurd cc
       by_main false is = refl
 
+  -- an entity has the text of one of the numbers that are taken
+  pub record HasNumber (e : Entity) : Type 0 where
+    pub number : ℕ
+    pub stands : slice_get (free_numbers us (length (y_entities us))) (position_or_len (same_entity e) (y_entities us)) ≡ Some number
+    pub below : number < 2 ^ 64
+    pub names : name_for us e ≡ y_text number
+
+  -- where each has
+  module _ (numbered : (e : Entity) → list_any (same_entity e) (y_entities us) ≡ true → HasNumber e) where
+    pub free-by : (e : Entity) → list_any (same_entity e) (y_entities us) ≡ true → list_any (bytes_eq (name_for us e)) (used_names us) ≡ false
+    free-by e is =
+        let n = numbered e is in
+        ap (λ (name : List ℕ). list_any (bytes_eq name) (used_names us)) n.names
+        ∙ negated (list_any (bytes_eq (y_text n.number)) (used_names us)) (passing (is_free y_text (2 ^ 64) texts-apart (used_names us)) (range_with_len 1 (length those + length (used_names us))) (place e) n.number n.stands)
+
+    pub apart-by : (e f : Entity) → list_any (same_entity e) (y_entities us) ≡ true → list_any (same_entity f) (y_entities us) ≡ true → name_for us e ≡ name_for us f → e ≡ f
+    apart-by e f is other same =
+        let m = numbered e is in
+        let n = numbered f other in
+        let number : m.number ≡ n.number = texts-apart m.number n.number m.below n.below (sym m.names ∙ same ∙ n.names) in
+        let one : place e ≡ place f = one-place (is_free y_text (2 ^ 64) texts-apart (used_names us)) 1 (length those + length (used_names us)) (place e) (place f) n.number (m.stands ∙ ap (λ (k : ℕ). Some k) number) n.stands in
+        let first : slice_get those (place e) ≡ Some e = slice_get-get_or those (place e) e (first-inside (same_entity e) those is) ∙ ap (λ (x : Entity). Some x) (sym (found e is)) in
+        let second : slice_get those (place f) ≡ Some f = slice_get-get_or those (place f) f (first-inside (same_entity f) those other) ∙ ap (λ (x : Entity). Some x) (sym (found f other)) in
+        let both : Some e ≡ Some f = sym first ∙ ap (λ (k : ℕ). slice_get those k) one ∙ second in
+        cc
+
   module _ (few : length (y_entities us) + length (used_names us) < 2 ^ 64) where
     abbrev numbers : List ℕ
     numbers = free_numbers us (length those)
-
-    record HasNumber (e : Entity) : Type 0 where
-      number : ℕ
-      stands : slice_get numbers (place e) ≡ Some number
-      below : number < 2 ^ 64
-      names : name_for us e ≡ y_text number
 
     numbered : (e : Entity) → list_any (same_entity e) those ≡ true → HasNumber e
     numbered e is =
@@ -155,18 +175,7 @@ module _ (us : List (List Labelled)) where
         record { number = get_or numbers (place e) 0; stands = there; below = in-reach (get_or numbers (place e) 0) (length those + length (used_names us)) (2 ^ 64) range.below few; names = own-name e is ∙ ap y_or there }
 
     pub names-free : (e : Entity) → list_any (same_entity e) (y_entities us) ≡ true → list_any (bytes_eq (name_for us e)) (used_names us) ≡ false
-    names-free e is =
-        let n = numbered e is in
-        ap (λ (name : List ℕ). list_any (bytes_eq name) (used_names us)) n.names
-        ∙ negated (list_any (bytes_eq (y_text n.number)) (used_names us)) (passing (is_free y_text (2 ^ 64) texts-apart (used_names us)) (range_with_len 1 (length those + length (used_names us))) (place e) n.number n.stands)
+    names-free = free-by numbered
 
     pub names-apart : (e f : Entity) → list_any (same_entity e) (y_entities us) ≡ true → list_any (same_entity f) (y_entities us) ≡ true → name_for us e ≡ name_for us f → e ≡ f
-    names-apart e f is other same =
-        let m = numbered e is in
-        let n = numbered f other in
-        let number : m.number ≡ n.number = texts-apart m.number n.number m.below n.below (sym m.names ∙ same ∙ n.names) in
-        let one : place e ≡ place f = one-place (is_free y_text (2 ^ 64) texts-apart (used_names us)) 1 (length those + length (used_names us)) (place e) (place f) n.number (m.stands ∙ ap (λ (k : ℕ). Some k) number) n.stands in
-        let first : slice_get those (place e) ≡ Some e = slice_get-get_or those (place e) e (first-inside (same_entity e) those is) ∙ ap (λ (x : Entity). Some x) (sym (found e is)) in
-        let second : slice_get those (place f) ≡ Some f = slice_get-get_or those (place f) f (first-inside (same_entity f) those other) ∙ ap (λ (x : Entity). Some x) (sym (found f other)) in
-        let both : Some e ≡ Some f = sym first ∙ ap (λ (k : ℕ). slice_get those k) one ∙ second in
-        cc
+    names-apart = apart-by numbered

@@ -121,7 +121,7 @@ module _ (stmts : List Labelled) (checked : Bool) (text : IsText stmts) (accepte
           let named : list_any (is_sub_of call.name) stmts ≡ true = is-sub stmts s call it calls in
           first-inside (λ (v : List Labelled). list_any (is_sub_of call.name) v) us (any-in-units (is_sub_of call.name) stmts ∙ named)
 
-  some-unit : 0 < length us
+  pub some-unit : 0 < length us
   some-unit = by_text stmts refl
     where
       by_text : (xs : List Labelled) → stmts ≡ xs → 0 < length us

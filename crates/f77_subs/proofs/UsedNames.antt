@@ -45,7 +45,11 @@ used us k x has = by_unit (slice_get us k) refl has
     by_unit None is here = let e : false ≡ true = here in absurd cc
     by_unit (Some u) is here = used-at us k u x is here
 
-pub names-new : (us : List (List Labelled)) → length (y_entities us) + length (used_names us) < 2 ^ 64 → (e : Entity) → list_any (same_entity e) (y_entities us) ≡ true → (k : ℕ) (x : List ℕ) → list_any (bytes_eq x) (names_of_unit (unit_at us k)) ≡ true → name_for us e ≡ x → ⊥
-names-new us few e is k x has same =
-    let both : true ≡ false = sym (used us k x has) ∙ ap (λ (name : List ℕ). list_any (bytes_eq name) (used_names us)) (sym same) ∙ names-free us few e is in
+-- a name that is not in use is none of a unit
+pub new-by : (us : List (List Labelled)) (e : Entity) → list_any (bytes_eq (name_for us e)) (used_names us) ≡ false → (k : ℕ) (x : List ℕ) → list_any (bytes_eq x) (names_of_unit (unit_at us k)) ≡ true → name_for us e ≡ x → ⊥
+new-by us e free k x has same =
+    let both : true ≡ false = sym (used us k x has) ∙ ap (λ (name : List ℕ). list_any (bytes_eq name) (used_names us)) (sym same) ∙ free in
     cc
+
+pub names-new : (us : List (List Labelled)) → length (y_entities us) + length (used_names us) < 2 ^ 64 → (e : Entity) → list_any (same_entity e) (y_entities us) ≡ true → (k : ℕ) (x : List ℕ) → list_any (bytes_eq x) (names_of_unit (unit_at us k)) ≡ true → name_for us e ≡ x → ⊥
+names-new us few e is k x has same = new-by us e (names-free us few e is) k x has same

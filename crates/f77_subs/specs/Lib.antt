@@ -25,5 +25,9 @@ pub mod Refusals
 pub mod Alike
 pub mod Dummies
 pub mod Said
+pub mod BlockTables
 pub mod Storage
+pub mod ListedDeclarations
+pub mod ChangedTables
+pub mod SideBySide
 pub mod Calls

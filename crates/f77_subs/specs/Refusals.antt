@@ -1,5 +1,5 @@
 -- What refuses units, in order; each refusal has the lowest line that has its fault.
-use Rattle.std.specs.Prelude.{◌≡◌, ℕ, ◌-◌, Result, Ok, Err, Bool, true, false, not, ◌&&◌, ◌||◌, nat_lt, if◌then◌else◌, List, [], ◌∷◌, flat_map, filter, take, length, Option, Some, None, bytes_eq, slice_get}
+use Rattle.std.specs.Prelude.{◌≡◌, ℕ, ◌-◌, Result, Ok, Err, Bool, true, false, not, ◌&&◌, ◌||◌, nat_lt, if◌then◌else◌, List, [], ◌∷◌, ◌++◌, flat_map, filter, take, length, Option, Some, None, bytes_eq, slice_get}
 use Rattle.std.specs.List.{list_any, count_by, range_with_len}
 use Rattle.std.specs.Option.{is_some}
 use Rattle.std.specs.Ordering.{int_eq}
@@ -161,17 +161,28 @@ layout_end_of (Some end) = Some (Layout end)
 abbrev pub layout_end : List Labelled → (checked : Bool) → Option SubEnd
 layout_end u checked = layout_end_of (refusal (standing_in u) checked)
 
-abbrev pub unit_refusals : List Labelled → List (List Labelled) → (checked : Bool) → List (Option SubEnd)
-unit_refusals stmts us checked =
-    end_at UnitOrder (first_line is_out_of_unit stmts) ∷
-    first_answer (λ u. layout_end u checked) us ∷
-    end_at SubTwice (first_line is_sub_again stmts) ∷
+-- what the main program's END is told for
+abbrev pub size_refusals : List (List Labelled) → List (Option SubEnd)
+size_refusals us =
+    end_at TooManyStatements (main_line_if us (nat_lt 4000 (total_width us))) ∷
+    end_at TooManyNames (main_line_if us (has_great_name us)) ∷ []
+
+abbrev pub call_refusals : List Labelled → List (List Labelled) → List (Option SubEnd)
+call_refusals stmts us =
     end_at NoSub (first_line (lacks_sub stmts) stmts) ∷
     end_at BadCall (first_line (has_bad_call us) stmts) ∷
     end_at BadBlock (first_answer (bad_block us) us) ∷
-    end_at Recursion (first_answer (recursion us) (range_with_len 0 (length us))) ∷
-    end_at TooManyStatements (main_line_if us (nat_lt 4000 (total_width us))) ∷
-    end_at TooManyNames (main_line_if us (has_great_name us)) ∷ []
+    end_at Recursion (first_answer (recursion us) (range_with_len 0 (length us))) ∷ []
+
+abbrev pub form_refusals : List Labelled → List (List Labelled) → (checked : Bool) → List (Option SubEnd)
+form_refusals stmts us checked =
+    end_at UnitOrder (first_line is_out_of_unit stmts) ∷
+    first_answer (λ u. layout_end u checked) us ∷
+    end_at SubTwice (first_line is_sub_again stmts) ∷
+    call_refusals stmts us
+
+abbrev pub unit_refusals : List Labelled → List (List Labelled) → (checked : Bool) → List (Option SubEnd)
+unit_refusals stmts us checked = form_refusals stmts us checked ++ size_refusals us
 
 abbrev pub unit_refusal : List Labelled → (checked : Bool) → Option SubEnd
 unit_refusal stmts checked = first_answer (λ r. r) (unit_refusals stmts (units stmts) checked)

@@ -57,6 +57,8 @@ pub record IsStorage (us : List (List Labelled)) (checked : Bool) (spot : Entity
   pub distances : (d : Distance) → Declares us d → pos (spot d.to) ≡ (pos (spot d.from) +ℤ d.by)
   pub within : (e : Entity) → IsOfRun us e → (pos (spot e) +ℤ size_in us e) ≤ℤ pos words
   pub apart : (e f : Entity) (word : ℕ) → IsOfRun us e → IsOfRun us f → IsWordOf us spot e word → IsWordOf us spot f word → Linked us e f
+  -- the numbers of words are words, or the subscripts of an element would be counted past the greatest one
+  pub few : words ≤ 2147483647
   pub as_many : length opening ≡ words
   pub given_words : (k : ℕ) (pair : _) → runs us k ≡ true → Contains (given (placed us spot k [] (own_program (unit_at us k) checked).names) (all_inits (unit_at us k))) pair → slice_get opening pair.0 ≡ Some (lit_word pair.1)
   pub others : (word : ℕ) → word < words → ((k : ℕ) (pair : _) → runs us k ≡ true → Contains (given (placed us spot k [] (own_program (unit_at us k) checked).names) (all_inits (unit_at us k))) pair → pair.0 ≡ word → ⊥) → slice_get opening word ≡ Some (pos 0)

@@ -2,27 +2,36 @@
 #![tactic(auto)]
 
 mod alike;
+mod bad_blocks;
 mod bad_calls;
+mod block_names;
+mod block_owners;
 mod call_rows;
 mod changed;
 mod changed_stmts;
 mod changes;
+mod copied_steps;
+mod copied_values;
 mod copy_laws;
 mod copying;
 mod dummies;
 mod dummy_places;
+mod form_refusals;
 mod label_counts;
 mod label_tables;
 mod labels;
 mod laws;
 mod listed_copies;
+mod listed_declarations;
 mod recursion;
+mod refused_units;
 mod running;
 mod splitting;
 mod stand_in;
 mod sub_end;
 mod sub_index;
 mod sub_names;
+mod total_widths;
 mod unit_laws;
 mod unit_names;
 mod unit_order;
@@ -30,11 +39,16 @@ mod unit_said;
 mod unit_table;
 mod widths;
 
+pub use copied_steps::copies_do_the_same;
+pub use copied_values::{copies_have_the_same_values, places_decide_no_trees};
 pub use laws::{copies_are_counted, copies_settle, units_have_heights};
 pub use listed_copies::{
     arms_end_alike, contexts_are_in_place, control_falls_alike, copies_are_sealed,
     copies_stand_in_lists, labels_lead_to_pieces, labels_of_pieces_stand_apart, loops_end_alike,
     units_keep_their_control,
 };
+pub use listed_declarations::{lists_declare, names_keep_their_declarations};
 pub use sub_end::SubEnd;
-pub use unit_laws::{own_names_are_new, stand_ins_are_given, units_are_sources, units_end_once};
+pub use unit_laws::{
+    own_names_are_new, short_names_are_new, stand_ins_are_given, units_are_sources, units_end_once,
+};

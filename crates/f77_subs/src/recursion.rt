@@ -72,8 +72,8 @@ fn first_marked(us: &Units, marks: &[bool]) -> Option<u32>
     None
 }
 
-// The line of the first statement, or 0 where there is none.
-fn line_of_first(unit: &[Labelled]) -> u32
+/// The line of the first statement, or 0 where there is none.
+pub(crate) fn line_of_first(unit: &[Labelled]) -> u32
     ensures { result ≡ line_or_none (slice_get unit.now 0) }
 {
     match unit.first() {

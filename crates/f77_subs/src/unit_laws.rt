@@ -1,7 +1,7 @@
 //! Laws on units by themselves, as contracts of functions that do nothing.
 
-ghost use Rattle.std.specs.Prelude.{◌≡◌, ◌+◌, ◌<◌, ◌^◌, ℕ, List, length, Some, true, false, bytes_eq, slice_get};
-ghost use Rattle.std.specs.List.{list_any};
+ghost use Rattle.std.specs.Prelude.{◌≡◌, ◌+◌, ◌<◌, ◌^◌, ℕ, List, length, Some, true, false, bytes_eq, nat_le, slice_get};
+ghost use Rattle.std.specs.List.{list_all, list_any};
 ghost use Rattle.f77_tree.specs.declared.statements.Labelled.{Labelled};
 ghost use Rattle.f77_tree.specs.declared.statements.Stmt.{Stmt};
 ghost use Rattle.f77_tree.specs.StatementGrammar.{IsGiven, is_of_subroutines};
@@ -9,6 +9,7 @@ ghost use Rattle.f77_layout.specs.Executables.{is_do_to};
 ghost use Rattle.f77_layout.specs.Source.{IsSource};
 ghost use Rattle.f77_subs.specs.Entities.{Entity, entity_of};
 ghost use Rattle.f77_subs.specs.Names.{is_main, name_for, names_of_unit, own_names, same_entity, used_names, y_entities};
+ghost use Rattle.f77_subs.specs.Refusals.{has_great_name};
 ghost use Rattle.f77_subs.specs.OpenBlocks.{IsEnded};
 ghost use Rattle.f77_subs.specs.Texts.{IsText};
 ghost use Rattle.f77_subs.specs.Units.{stand_in, standing_in, unit_at, units};
@@ -38,4 +39,11 @@ pub fn own_names_are_new()
     ensures free { (us : List (List Labelled)) → length (y_entities us) + length (used_names us) < 2 ^ 64 → (e : Entity) → list_any (same_entity e) (y_entities us) ≡ true → list_any (bytes_eq (name_for us e)) (used_names us) ≡ false }
     ensures others { (us : List (List Labelled)) → length (y_entities us) + length (used_names us) < 2 ^ 64 → (e : Entity) → list_any (same_entity e) (y_entities us) ≡ true → (k : ℕ) (x : List ℕ) → list_any (bytes_eq x) (names_of_unit (unit_at us k)) ≡ true → name_for us e ≡ x → ⊥ }
     ensures apart { (us : List (List Labelled)) → length (y_entities us) + length (used_names us) < 2 ^ 64 → (e f : Entity) → list_any (same_entity e) (y_entities us) ≡ true → list_any (same_entity f) (y_entities us) ≡ true → name_for us e ≡ name_for us f → e ≡ f }
+{}
+
+/// The same holds of however many names, where each has six characters at most and no name of more than five digits is taken.
+pub fn short_names_are_new()
+    ensures free { (us : List (List Labelled)) → list_all (λ x. nat_le (length x) 6) (used_names us) ≡ true → has_great_name us ≡ false → (e : Entity) → list_any (same_entity e) (y_entities us) ≡ true → list_any (bytes_eq (name_for us e)) (used_names us) ≡ false }
+    ensures apart { (us : List (List Labelled)) → list_all (λ x. nat_le (length x) 6) (used_names us) ≡ true → has_great_name us ≡ false → (e f : Entity) → list_any (same_entity e) (y_entities us) ≡ true → list_any (same_entity f) (y_entities us) ≡ true → name_for us e ≡ name_for us f → e ≡ f }
+    ensures others { (us : List (List Labelled)) → list_all (λ x. nat_le (length x) 6) (used_names us) ≡ true → has_great_name us ≡ false → (e : Entity) → list_any (same_entity e) (y_entities us) ≡ true → (k : ℕ) (x : List ℕ) → list_any (bytes_eq x) (names_of_unit (unit_at us k)) ≡ true → name_for us e ≡ x → ⊥ }
 {}

@@ -3,7 +3,7 @@ use Rattle.std.specs.Prelude.{slice_get}
 use Rattle.f77_tree.specs.declared.statements.Labelled.{Labelled}
 use Rattle.f77_subs.specs.declared.unit_said.UnitSaid.{UnitSaid}
 use Rattle.f77_subs.specs.Said.{IsSaidOf}
-use Rattle.f77_subs.proofs.BadCalls.{none-behind, said-push}
+use Rattle.f77_subs.proofs.BadCalls.{none-behind, table-push}
 use Rattle.f77_subs.proofs.bad_calls.said_units.Goals as goal
 
 pub loop-k-preserved : goal.loop-k-preserved
@@ -17,7 +17,7 @@ loop-k-preserved c =
     let before = c.loop-k.invariant.count in
     record {
       count = omega (arith, long, sum, before);
-      each = λ j y is. said-push us old x c.loop-k.k before c.loop-k.invariant.each (subst (λ (u : List Labelled). IsSaidOf u x) c.at.ensures.statements c.in_ok-of.ensures) j y (ap (λ (t : List UnitSaid). slice_get t j) (sym items) ∙ is);
+      each = λ j y is. table-push IsSaidOf us old x c.loop-k.k before c.loop-k.invariant.each (subst (λ (u : List Labelled). IsSaidOf u x) c.at.ensures.statements c.in_ok-of.ensures) j y (ap (λ (t : List UnitSaid). slice_get t j) (sym items) ∙ is);
     }
 
 pub returns : goal.returns
@@ -31,5 +31,5 @@ returns c =
     let before : length old ≡ length us = let a = c.loop-k.invariant.count in omega (arith, a) in
     record {
       count = omega (arith, long, sum, before);
-      each = λ j y is. said-push us old x (length us) before c.loop-k.invariant.each (subst (λ (u : List Labelled). IsSaidOf u x) (sym (none-behind us)) c.in_ok-of-2.ensures) j y (ap (λ (t : List UnitSaid). slice_get t j) (sym items) ∙ is);
+      each = λ j y is. table-push IsSaidOf us old x (length us) before c.loop-k.invariant.each (subst (λ (u : List Labelled). IsSaidOf u x) (sym (none-behind us)) c.in_ok-of-2.ensures) j y (ap (λ (t : List UnitSaid). slice_get t j) (sym items) ∙ is);
     }

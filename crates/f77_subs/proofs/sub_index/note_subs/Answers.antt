@@ -1,9 +1,10 @@
 use Rattle.std.specs.Prelude.{bytes_eq}
 use Rattle.indexmap.specs.IndexMap.{get}
-use Rattle.f77_subs.proofs.NamedUnits.{noted-more}
+use Rattle.f77_subs.specs.Units.{is_sub_of}
+use Rattle.f77_subs.proofs.NamedUnits.{note-more}
 use Rattle.f77_subs.proofs.sub_index.note_subs.Goals as goal
 
 pub loop-s-preserved : goal.loop-s-preserved
 loop-s-preserved c = λ name.
-    noted-more c.args.unit.now c.loop-s.s-index c.args.k c.s-item.result name (get bytes_eq c.args.index.now name) (get bytes_eq c.loop-s.index name) (get bytes_eq c.note_sub.new.index name)
+    note-more (is_sub_of name) c.args.unit.now c.loop-s.s-index c.args.k c.s-item.result (get bytes_eq c.args.index.now name) (get bytes_eq c.loop-s.index name) (get bytes_eq c.note_sub.new.index name)
     c.loop-s-test.true c.s-item.is (c.loop-s.invariant name) (c.in_ok-note_sub.ensures name)

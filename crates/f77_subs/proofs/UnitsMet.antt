@@ -1,0 +1,35 @@
+-- Units, met one by one.
+use Rattle.std.proofs.Common.{◌≡◌, ℕ, zero, suc, ◌+◌, ◌<◌, ◌≤◌, List, [], ◌∷◌, length, drop, Option, Some, None, refl, sym, ap, subst, ◌∙◌, arith, add-one}
+use Rattle.std.specs.Prelude.{slice_get}
+use Rattle.f77_tree.specs.declared.statements.Labelled.{Labelled}
+use Rattle.f77_layout.specs.Faults.{answer_or, first_answer}
+use Rattle.f77_subs.specs.Units.{unit_at}
+
+pub unit-there : (us : List (List Labelled)) (k : ℕ) → k < length us → slice_get us k ≡ Some (unit_at us k)
+unit-there [] k inside = absurd (omega (arith, inside))
+unit-there (u ∷ us) zero inside = refl
+unit-there (u ∷ us) (suc k) inside = unit-there us k (omega (arith, inside))
+
+module _ {B : Type 0} (f : List Labelled → Option B) where
+  dropped : (us : List (List Labelled)) (k : ℕ) → k < length us → drop k us ≡ unit_at us k ∷ drop (suc k) us
+  dropped [] k inside = absurd (omega (arith, inside))
+  dropped (u ∷ us) zero inside = refl
+  dropped (u ∷ us) (suc k) inside = dropped us k (omega (arith, inside))
+
+  -- the unit at the index k has an answer
+  pub answer-here : (us : List (List Labelled)) (k : ℕ) (x : B) → k < length us → f (unit_at us k) ≡ Some x → first_answer f (drop k us) ≡ Some x
+  answer-here us k x inside is = ap (first_answer f) (dropped us k inside) ∙ ap (λ (o : Option B). answer_or o (first_answer f (drop (suc k) us))) is
+
+  -- it has none
+  pub answer-next : (us : List (List Labelled)) (k : ℕ) → k < length us → f (unit_at us k) ≡ None → first_answer f (drop k us) ≡ first_answer f (drop (k + 1) us)
+  answer-next us k inside is =
+      ap (first_answer f) (dropped us k inside)
+      ∙ ap (λ (o : Option B). answer_or o (first_answer f (drop (suc k) us))) is
+      ∙ ap (λ (n : ℕ). first_answer f (drop n us)) (sym (add-one k))
+
+  -- there is no further unit
+  pub answer-end : (us : List (List Labelled)) (k : ℕ) → length us ≤ k → first_answer f (drop k us) ≡ None
+  answer-end [] zero over = refl
+  answer-end [] (suc k) over = refl
+  answer-end (u ∷ us) zero over = absurd (omega (arith, over))
+  answer-end (u ∷ us) (suc k) over = answer-end us k (omega (arith, over))

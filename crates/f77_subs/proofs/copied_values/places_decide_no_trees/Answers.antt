@@ -1,0 +1,5 @@
+use Rattle.f77_subs.proofs.SameTrees.{accesses-same, kinds-same, trees-same}
+use Rattle.f77_subs.proofs.copied_values.places_decide_no_trees.Goals as goal
+
+pub returns : goal.returns
+returns c = record { trees = trees-same; accesses = accesses-same; kinds = kinds-same }

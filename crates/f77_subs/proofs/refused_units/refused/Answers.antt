@@ -1,0 +1,15 @@
+use Rattle.std.proofs.Common.{◌≡◌, Some, None, ap, sym, ◌∙◌}
+use Rattle.std.specs.Prelude.{Err}
+use Rattle.f77_layout.specs.declared.layout_end.LayoutEnd.{LayoutEnd}
+use Rattle.f77_subs.specs.Units.{standing_in}
+use Rattle.f77_subs.proofs.RefusedUnits.{none-refused, some-refused}
+use Rattle.f77_subs.proofs.refused_units.refused.Goals as goal
+
+pub returns-in-Ok : goal.returns-in-Ok
+returns-in-Ok c = none-refused (standing_in c.args.unit.now) c.in_ok-list.list c.args.checked c.in-Ok.field-0 c.in_ok-list.ensures c.in-Ok.ensures.accepted
+
+pub returns : goal.returns
+returns c =
+    let end = c.in_ok-refusal-in-Err.refusal in
+    some-refused (standing_in c.args.unit.now) c.in_ok-list.list c.args.checked end c.in_ok-list.ensures
+    (c.in-Err.ensures.refused c.in_ok-refusal-in-Err.ensures.other ∙ ap (λ (e : LayoutEnd). Err e) (sym c.in_ok-refusal-in-Err.ensures.same))
