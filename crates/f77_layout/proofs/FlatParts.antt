@@ -37,17 +37,17 @@ module _ {S A : Type 0} (f : S → List A) (xs : List S) (i : ℕ) (x : S) (lt :
     abbrev prefix : List A
     prefix = seen ++ flat_map f (take i xs)
 
-    split : has_repeat same prefix (flat_map f (drop i xs)) ≡ (has_repeat same prefix (f x) || has_repeat same (seen ++ flat_map f (take (i + 1) xs)) (flat_map f (drop (i + 1) xs)))
-    split =
+    pub repeat_split : has_repeat same prefix (flat_map f (drop i xs)) ≡ (has_repeat same prefix (f x) || has_repeat same (seen ++ flat_map f (take (i + 1) xs)) (flat_map f (drop (i + 1) xs)))
+    repeat_split =
         ap (has_repeat same prefix) flat_map_left
         ∙ has_repeat-append same prefix (f x) (flat_map f (drop (i + 1) xs))
         ∙ ap (λ (ys : List A). has_repeat same prefix (f x) || has_repeat same ys (flat_map f (drop (i + 1) xs))) (append_assoc seen (flat_map f (take i xs)) (f x) ∙ ap (λ (ys : List A). seen ++ ys) (sym flat_map_taken))
 
     pub repeat_found : has_repeat same prefix (f x) ≡ true → has_repeat same prefix (flat_map f (drop i xs)) ≡ true
-    repeat_found found = split ∙ ap (λ b. b || has_repeat same (seen ++ flat_map f (take (i + 1) xs)) (flat_map f (drop (i + 1) xs))) found
+    repeat_found found = repeat_split ∙ ap (λ b. b || has_repeat same (seen ++ flat_map f (take (i + 1) xs)) (flat_map f (drop (i + 1) xs))) found
 
     pub repeat_later : has_repeat same prefix (f x) ≡ false → has_repeat same prefix (flat_map f (drop i xs)) ≡ has_repeat same (seen ++ flat_map f (take (i + 1) xs)) (flat_map f (drop (i + 1) xs))
-    repeat_later none = split ∙ ap (λ b. b || has_repeat same (seen ++ flat_map f (take (i + 1) xs)) (flat_map f (drop (i + 1) xs))) none
+    repeat_later none = repeat_split ∙ ap (λ b. b || has_repeat same (seen ++ flat_map f (take (i + 1) xs)) (flat_map f (drop (i + 1) xs))) none
 
 -- two lists of parts that give the same, with one part more
 pub flat_map_both : {S T A : Type 0} (f : S → List A) (g : T → List A) (before : List S) (s : S) (xs : List T) (i : ℕ) (x : T) → i < length xs → x ≡ get_or xs i x → flat_map f before ≡ flat_map g (take i xs) → f s ≡ g x → flat_map f (before ++ s ∷ []) ≡ flat_map g (take (i + 1) xs)

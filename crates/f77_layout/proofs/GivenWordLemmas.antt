@@ -1,5 +1,5 @@
 -- Words in intervals, and whether some of them are given twice.
-use Rattle.std.proofs.Common.{◌≡◌, ℕ, zero, suc, ◌+◌, ◌<◌, ◌≤◌, ◌==◌, Bool, true, false, cond, ◌||◌, List, [], ◌∷◌, ◌++◌, Option, Some, None, ◌⊎◌, ⊎_elim, inl, inr, refl, sym, ap, ◌∙◌, arith}
+use Rattle.std.proofs.Common.{◌≡◌, ℕ, zero, suc, ◌+◌, ◌<◌, ◌≤◌, ◌==◌, Bool, true, false, cond, ◌||◌, List, [], ◌∷◌, ◌++◌, Option, Some, None, ⊎_elim, refl, sym, ap, ◌∙◌, arith}
 use Rattle.std.specs.List.{list_any}
 use Rattle.std.specs.Option.{is_some}
 use Rattle.std.specs.Ordering.{nat_cmp, is_eq, is_lt}
@@ -99,81 +99,6 @@ module _ (end_of : ℕ → Option ℕ) (seen : List ℕ) (holds : Holds end_of s
       (λ (before : found.0 < first). one_twice seen first len first (omega arith) (omega arith) (held first (omega arith) lt))
       (λ (beyond : first ≤ found.0). one_twice seen first len found.0 beyond last.0 (held found.0 (omega arith) (holds.some found.0 found.1 last.1)))
       (cases_lt found.0 first)
-
-  -- the interval of the words beside the others
-  module _ (after : ℕ → Option ℕ) (at : after first ≡ Some (first + len)) (others : (q : ℕ) → (first ≡ q → ⊥) → after q ≡ end_of q) (some_words : 0 < len) (free : repeats ≡ false) where
-    -- no interval reaches into the words
-    outside : (word : ℕ) → first ≤ word → word < first + len → IsWithin end_of word → ⊥
-    outside word low high within = true≢false (sym (one_twice seen first len word low high (holds.seen_all word within)) ∙ free)
-
-    -- what stands after at a place is the new interval or an old one
-    old_or_new : (q end : ℕ) → after q ≡ Some end → ((q ≡ first) × (end ≡ first + len)) ⊎ (end_of q ≡ Some end)
-    old_or_new q end is =
-        ⊎_elim
-        (λ (e : first ≡ q). let one : Some (first + len) ≡ Some end = sym at ∙ ap after e ∙ is in let ends : first + len ≡ end = cc in inl (sym e, sym ends))
-        (λ (ne : first ≡ q → ⊥). inr (sym (others q ne) ∙ is))
-        (cases_eq first q)
-
-    before_new : (q end : ℕ) → end_of q ≡ Some end → q < first → end ≤ first
-    before_new q end is lt =
-        ⊎_elim
-        (λ (reaches : first < end). absurd (outside first (omega arith) (omega arith) (record { first = q; end = end; stands = is; from = omega arith; before = reaches })))
-        (λ (le : end ≤ first). le)
-        (cases_lt first end)
-
-    after_new : (q end : ℕ) → end_of q ≡ Some end → first < q → first + len ≤ q
-    after_new q end is lt =
-        ⊎_elim
-        (λ (reaches : q < first + len). absurd (outside q (omega arith) reaches (record { first = q; end = end; stands = is; from = omega arith; before = holds.some q end is })))
-        (λ (le : first + len ≤ q). le)
-        (cases_lt q (first + len))
-
-    -- the place of an old interval isn't that of the new one
-    old_apart : (word : ℕ) → (within : IsWithin end_of word) → first ≡ within.first → ⊥
-    old_apart word within e = outside first (omega arith) (omega arith) (record { first = within.first; end = within.end; stands = within.stands; from = omega arith; before = let some : within.first < within.end = holds.some within.first within.end within.stands in omega arith })
-
-    within_after : (word : ℕ) → IsWithin end_of word → IsWithin after word
-    within_after word within = record { first = within.first; end = within.end; stands = others within.first (old_apart word within) ∙ within.stands; from = within.from; before = within.before }
-
-    some_after : (q end : ℕ) → after q ≡ Some end → q < end
-    some_after q end is =
-        ⊎_elim
-        (λ (w : (q ≡ first) × (end ≡ first + len)). omega (arith, w.0, w.1))
-        (λ (old : end_of q ≡ Some end). holds.some q end old)
-        (old_or_new q end is)
-
-    apart_after : (q end next last : ℕ) → after q ≡ Some end → after next ≡ Some last → q < next → end ≤ next
-    apart_after q end next last is is_next lt =
-        ⊎_elim
-        (λ (w : (q ≡ first) × (end ≡ first + len)).
-        ⊎_elim
-        (λ (v : (next ≡ first) × (last ≡ first + len)). omega (arith, w.0, v.0))
-        (λ (old : end_of next ≡ Some last). let le : first + len ≤ next = after_new next last old (omega (arith, w.0)) in omega (arith, w.1))
-        (old_or_new next last is_next))
-        (λ (old : end_of q ≡ Some end).
-        ⊎_elim
-        (λ (v : (next ≡ first) × (last ≡ first + len)). let le : end ≤ first = before_new q end old (omega (arith, v.0)) in omega (arith, v.0))
-        (λ (old_next : end_of next ≡ Some last). holds.apart q end next last old old_next lt)
-        (old_or_new next last is_next))
-        (old_or_new q end is)
-
-    seen_after : (word : ℕ) → IsWithin after word → stands word (seen ++ words_from first len) ≡ true
-    seen_after word within =
-        list_any-append (λ x. word == x) seen (words_from first len)
-        ∙ ⊎_elim
-        (λ (w : (within.first ≡ first) × (within.end ≡ first + len)). or_right (stands word seen) (stands word (words_from first len)) (stands-words_from word first len (omega (arith, w.0, within.from)) (omega (arith, w.1, within.before))))
-        (λ (old : end_of within.first ≡ Some within.end). or_left (stands word seen) (stands word (words_from first len)) (holds.seen_all word (record { first = within.first; end = within.end; stands = old; from = within.from; before = within.before })))
-        (old_or_new within.first within.end within.stands)
-
-    held_after : (word : ℕ) → stands word (seen ++ words_from first len) ≡ true → IsWithin after word
-    held_after word is =
-        ⊎_elim
-        (λ (old : stands word seen ≡ true). within_after word (holds.held_all word old))
-        (λ (new : stands word (words_from first len) ≡ true). let inside : (first ≤ word) × (word < first + len) = words_from-stands word first len new in record { first = first; end = first + len; stands = at; from = inside.0; before = inside.1 })
-        (or_cases (stands word seen) (stands word (words_from first len)) (sym (list_any-append (λ x. word == x) seen (words_from first len)) ∙ is))
-
-    pub holds_after : Holds after (seen ++ words_from first len)
-    holds_after = record { some = some_after; apart = apart_after; seen_all = seen_after; held_all = held_after }
 
 -- a place other than the one of a query, by their order
 pub is_other : (k q : ℕ) → (k ≡ q → ⊥) → is_eq (nat_cmp k q) ≡ false

@@ -9,6 +9,8 @@ use Rattle.f77_layout.specs.Faults.{first_answer, first_line}
 use Rattle.f77_layout.specs.Layout.{at_line, layout, names_of, placed_names, program, refusal, refusals, unless_refused}
 use Rattle.f77_layout.specs.Nesting.{first_unnested}
 use Rattle.f77_layout.specs.StorageFaults.{has_wrong_storage}
+use Rattle.f77_layout.specs.StorageLines.{storage_line}
+use Rattle.f77_layout.proofs.FaultLines.{no-storage-fault}
 
 no-answer : {B : Type 0} (answers : List (Option B)) → first_answer (λ r. r) answers ≡ None → (k : ℕ) (o : Option B) → slice_get answers k ≡ Some o → o ≡ None
 no-answer [] none k o at = let h : None ≡ Some o = at in absurd cc
@@ -36,7 +38,7 @@ module _ (stmts : List Labelled) (checked : Bool) (p : Program) (laid : layout s
   laid-program = is-made (refusal stmts checked) (program stmts checked) p laid
 
   pub laid-stored : first_line (has_wrong_storage (names_of stmts) (placed_names stmts) stmts) stmts ≡ None
-  laid-stored = no-line LayoutWrong (first_line (has_wrong_storage (names_of stmts) (placed_names stmts) stmts) stmts) (no-answer (refusals stmts checked) accepted 3 (at_line LayoutWrong (first_line (has_wrong_storage (names_of stmts) (placed_names stmts) stmts) stmts)) refl)
+  laid-stored = no-storage-fault (names_of stmts) (placed_names stmts) stmts (no-line LayoutWrong (storage_line (names_of stmts) (placed_names stmts) stmts) (no-answer (refusals stmts checked) accepted 3 (at_line LayoutWrong (storage_line (names_of stmts) (placed_names stmts) stmts)) refl))
 
   pub laid-nested : first_unnested [] stmts ≡ None
   laid-nested = no-line BadNesting (first_unnested [] stmts) (no-answer (refusals stmts checked) accepted 6 (at_line BadNesting (first_unnested [] stmts)) refl)

@@ -30,6 +30,7 @@ pub mod EndsMet
 pub mod EntryLemmas
 pub mod ExecutableLemmas
 pub mod Exits
+pub mod FaultLines
 pub mod FewExecutables
 pub mod FirstLine
 pub mod FlatParts
@@ -68,8 +69,10 @@ pub mod LoopsHold
 pub mod LoopsOfProgram
 pub mod LoopsOfSource
 mod Lowest
+mod LowestWalk
 pub mod MadePrograms
 pub mod Meeting
+mod MergedWords
 pub mod NameEntries
 pub mod NameTable
 pub mod NamesIn
@@ -133,6 +136,7 @@ pub mod SuccessorPlaces
 pub mod SymbolicNames
 pub mod Tables
 pub mod Telling
+mod ToldLines
 pub mod Usable
 pub mod UsedLabels
 pub mod Walks

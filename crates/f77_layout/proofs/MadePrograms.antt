@@ -22,6 +22,7 @@ use Rattle.f77_layout.specs.PlacedNames.{with_places, ArePlaces}
 use Rattle.f77_layout.specs.Stages.{AreStored}
 use Rattle.f77_layout.specs.Standings.{IsPlaced, IsPlacing, firsts_of}
 use Rattle.f77_layout.specs.Storage.{Spot, place_of, words_in_all, spots_by, standings, equations}
+use Rattle.f77_layout.specs.StorageLines.{storage_line}
 use Rattle.f77_layout.specs.StorageFaults.{is_member, has_wrong_part, has_wrong_storage}
 use Rattle.f77_layout.specs.Storages.{AreStorages}
 use Rattle.f77_layout.specs.Trees.{AreLowest}
@@ -95,13 +96,13 @@ stored-placed stmts names placing s numbers table right is =
     let all = equations (names_of stmts) (all_commons stmts) (all_groups stmts) in
     stored stmts numbers firsts s placed.storages (are firsts all placed.storages)) (subst (IsPlacing names stmts) right is)
 
--- the fault of storage that stands lowest, by these names and places
-pub found-is : (stmts : List Labelled) (numbers : WordNumbers) → AreStored stmts numbers → (names : List NameInfo) (places : List ℕ) (line : Option ℕ) → names ≡ names_of stmts → places ≡ numbers.places.items → line ≡ first_line (has_wrong_storage names (with_places names places) stmts) stmts → line ≡ first_line (has_wrong_storage (names_of stmts) (placed_names stmts) stmts) stmts
+-- the line of a fault of storage, by these names and places
+pub found-is : (stmts : List Labelled) (numbers : WordNumbers) → AreStored stmts numbers → (names : List NameInfo) (places : List ℕ) (line : Option ℕ) → names ≡ names_of stmts → places ≡ numbers.places.items → line ≡ storage_line names (with_places names places) stmts → line ≡ storage_line (names_of stmts) (placed_names stmts) stmts
 found-is stmts numbers is names places line table stand found =
     found
-    ∙ ap (λ names. first_line (has_wrong_storage names (with_places names places) stmts) stmts) table
-    ∙ ap (λ places. first_line (has_wrong_storage (names_of stmts) (with_places (names_of stmts) places) stmts) stmts) stand
-    ∙ ap (λ placed. first_line (has_wrong_storage (names_of stmts) placed stmts) stmts) (placed-is stmts numbers is)
+    ∙ ap (λ names. storage_line names (with_places names places) stmts) table
+    ∙ ap (λ places. storage_line (names_of stmts) (with_places (names_of stmts) places) stmts) stand
+    ∙ ap (λ placed. storage_line (names_of stmts) placed stmts) (placed-is stmts numbers is)
 
 -- ---- the program
 

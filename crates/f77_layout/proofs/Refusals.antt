@@ -6,11 +6,12 @@ use Rattle.f77_layout.specs.Faults.{first_line}
 use Rattle.f77_layout.specs.Appearances.{has_real_name}
 use Rattle.f77_layout.specs.Order.{is_out_of_order}
 use Rattle.f77_layout.specs.TypeFaults.{has_wrong_type}
-use Rattle.f77_layout.specs.StorageFaults.{has_wrong_storage}
+use Rattle.f77_layout.specs.StorageLines.{storage_line}
 use Rattle.f77_layout.specs.Labels.{is_labelled_twice, lacks_label}
 use Rattle.f77_layout.specs.Nesting.{first_unnested}
 use Rattle.f77_layout.specs.Jumps.{jumps_into}
-use Rattle.f77_layout.specs.Counts.{asks_too_much}
+use Rattle.f77_layout.specs.Counts.{is_too_great}
+use Rattle.f77_layout.specs.LowestLines.{lowest_line}
 use Rattle.f77_layout.specs.Layout.{names_of, placed_names, line_of_words, layout, program}
 
 module _ (stmts : List Labelled) (checked : Bool) where
@@ -26,10 +27,10 @@ module _ (stmts : List Labelled) (checked : Bool) where
       wrong_type line is = rw (ordered, typed, is) refl
 
       module _ (kinds : first_line (has_wrong_type (names_of stmts)) stmts ≡ None) where
-        pub wrong_storage : (line : ℕ) → first_line (has_wrong_storage (names_of stmts) (placed_names stmts) stmts) stmts ≡ Some line → layout stmts checked ≡ Err (LayoutWrong line)
+        pub wrong_storage : (line : ℕ) → storage_line (names_of stmts) (placed_names stmts) stmts ≡ Some line → layout stmts checked ≡ Err (LayoutWrong line)
         wrong_storage line is = rw (ordered, typed, kinds, is) refl
 
-        module _ (stored : first_line (has_wrong_storage (names_of stmts) (placed_names stmts) stmts) stmts ≡ None) where
+        module _ (stored : storage_line (names_of stmts) (placed_names stmts) stmts ≡ None) where
           pub labelled_twice : (line : ℕ) → first_line is_labelled_twice stmts ≡ Some line → layout stmts checked ≡ Err (LabelTwice line)
           labelled_twice line is = rw (ordered, typed, kinds, stored, is) refl
 
@@ -50,8 +51,8 @@ module _ (stmts : List Labelled) (checked : Bool) where
                   too_many_words line is = rw (ordered, typed, kinds, stored, once, borne, nested, stays, is) refl
 
                   module _ (fits : line_of_words stmts ≡ None) where
-                    pub too_many_ops : (line : ℕ) → first_line (asks_too_much (names_of stmts) checked stmts) stmts ≡ Some line → layout stmts checked ≡ Err (TooManyOps line)
+                    pub too_many_ops : (line : ℕ) → lowest_line (is_too_great (names_of stmts) checked stmts) stmts ≡ Some line → layout stmts checked ≡ Err (TooManyOps line)
                     too_many_ops line is = rw (ordered, typed, kinds, stored, once, borne, nested, stays, fits, is) refl
 
-                    pub accepted : first_line (asks_too_much (names_of stmts) checked stmts) stmts ≡ None → layout stmts checked ≡ Ok (program stmts checked)
+                    pub accepted : lowest_line (is_too_great (names_of stmts) checked stmts) stmts ≡ None → layout stmts checked ≡ Ok (program stmts checked)
                     accepted is = rw (ordered, typed, kinds, stored, once, borne, nested, stays, fits, is) refl

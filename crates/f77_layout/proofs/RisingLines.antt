@@ -8,7 +8,7 @@ use Rattle.f77_layout.specs.LowestLines.{lower_or, lowest_after, lowest_line, Li
 
 module _ (fault : List Labelled → Labelled → Bool) where
   -- no line with a fault is lower, where all are greater
-  not-lower : (n : ℕ) (above stmts : List Labelled) → ((k : ℕ) (b : Labelled) → slice_get stmts k ≡ Some b → n < b.line) → lower_or n (first_after fault above stmts) ≡ n
+  pub not-lower : (n : ℕ) (above stmts : List Labelled) → ((k : ℕ) (b : Labelled) → slice_get stmts k ≡ Some b → n < b.line) → lower_or n (first_after fault above stmts) ≡ n
   not-lower n above [] greater = refl
   not-lower n above (t ∷ rest) greater = by (fault above t) (not-lower n (above ++ t ∷ []) rest (λ k b at. greater (suc k) b at))
     where

@@ -1,6 +1,6 @@
 -- The operations of a statement's executables are those that are told of the statement.
-use Rattle.std.proofs.Common.{◌≡◌, ℕ, ◌+◌, ◌≤◌, Bool, true, false, not, ◌||◌, List, length, [], ◌∷◌, ◌++◌, map, refl, sym, ap, ◌∙◌, arith}
-use Rattle.std.specs.Prelude.{sum_by, filter, nat_lt}
+use Rattle.std.proofs.Common.{◌≡◌, ℕ, ◌+◌, Bool, true, false, not, ◌||◌, List, length, [], ◌∷◌, ◌++◌, map, refl, sym, ap, ◌∙◌, arith, ◌&&◌}
+use Rattle.std.specs.Prelude.{sum_by, filter, nat_lt, nat_le}
 use Rattle.std.proofs.lemmas.Bool.{lt-ltb, le-ltb, ltb-true, ltb-false}
 use Rattle.std.proofs.lemmas.List.{map-append}
 use Rattle.std.proofs.lemmas.List.Elements.{filter-append}
@@ -16,7 +16,7 @@ use Rattle.f77_tree.specs.declared.statements.Stmt.TheVariants.{Assign, Print, T
 use Rattle.f77_tree.specs.Kinds.{taken_as}
 use Rattle.f77_tree.specs.Operations.{exec_operations, item_operations, is_increment, statement_operations}
 use Rattle.f77_layout.specs.Counted.{counted}
-use Rattle.f77_layout.specs.Counts.{asks_too_much, labels_picked, items_taken}
+use Rattle.f77_layout.specs.Counts.{is_too_great, labels_picked, items_taken}
 use Rattle.f77_layout.specs.Types.{kind_in}
 use Rattle.f77_layout.specs.Resolved.{resolved, resolved_item, access_of}
 use Rattle.f77_layout.specs.Executables.{kind_or_integer, own_kinds, own_executables, taking, increments, loops_to, first_of, beyond, at_line, executables_at}
@@ -88,20 +88,15 @@ few-counted n = by (nat_lt 500 n) refl
     by true is = is ∙ sym (lt-ltb 500 (counted n) (omega (arith, ltb-true 500 n is)))
     by false is = is ∙ sym (le-ltb 500 (counted n) (omega (arith, ltb-false 500 n is)))
 
-pub asks-counted : (names : List NameInfo) (checked : Bool) (whole above : List Labelled) (s : Labelled) (count labels items : ℕ) → count ≡ counted (own_operations names checked s.stmt) → labels ≡ sum_by (λ a. labels_picked a.stmt) above + labels_picked s.stmt → items ≡ sum_by (λ a. items_taken a.stmt) above + items_taken s.stmt
-    → asks_too_much names checked whole above s ≡ (nat_lt 500 count || nat_lt 4000 labels || nat_lt 4000 items)
-asks-counted names checked whole above s count labels items count_is labels_is items_is =
-    ap (λ n. nat_lt 500 n || nat_lt 4000 (sum_by (λ a. labels_picked a.stmt) above + labels_picked s.stmt) || nat_lt 4000 (sum_by (λ a. items_taken a.stmt) above + items_taken s.stmt)) (statement-operations names checked whole (length above) s)
-    ∙ ap (λ b. b || nat_lt 4000 (sum_by (λ a. labels_picked a.stmt) above + labels_picked s.stmt) || nat_lt 4000 (sum_by (λ a. items_taken a.stmt) above + items_taken s.stmt)) (few-counted (own_operations names checked s.stmt))
-    ∙ ap (λ n. nat_lt 500 n || nat_lt 4000 (sum_by (λ a. labels_picked a.stmt) above + labels_picked s.stmt) || nat_lt 4000 (sum_by (λ a. items_taken a.stmt) above + items_taken s.stmt)) (sym count_is)
-    ∙ ap (λ n. nat_lt 500 count || nat_lt 4000 n || nat_lt 4000 (sum_by (λ a. items_taken a.stmt) above + items_taken s.stmt)) (sym labels_is)
-    ∙ ap (λ n. nat_lt 500 count || nat_lt 4000 labels || nat_lt 4000 n) (sym items_is)
-
-pub few-unless : (b : Bool) (labels items : ℕ) → (b || nat_lt 4000 labels || nat_lt 4000 items) ≡ false → (labels ≤ 4000) × (items ≤ 4000)
-few-unless b labels items e = by b (nat_lt 4000 labels) (nat_lt 4000 items) refl refl e
-  where
-    by : (x y z : Bool) → nat_lt 4000 labels ≡ y → nat_lt 4000 items ≡ z → (x || y || z) ≡ false → (labels ≤ 4000) × (items ≤ 4000)
-    by false false false l i f = (ltb-false 4000 labels l, ltb-false 4000 items i)
-    by false false true l i f = absurd cc
-    by false true z l i f = absurd cc
-    by true y z l i f = absurd cc
+pub great-counted : (names : List NameInfo) (checked : Bool) (whole above : List Labelled) (s : Labelled) (count labels before items : ℕ) → count ≡ counted (own_operations names checked s.stmt) → labels ≡ sum_by (λ a. labels_picked a.stmt) above + labels_picked s.stmt → before ≡ sum_by (λ a. items_taken a.stmt) above → items ≡ sum_by (λ a. items_taken a.stmt) above + items_taken s.stmt
+    → is_too_great names checked whole above s ≡ (nat_lt 500 count || nat_lt 4000 labels || (nat_le before 4000 && nat_lt 4000 items))
+great-counted names checked whole above s count labels before items count_is labels_is before_is items_is =
+    let labels_all = sum_by (λ a. labels_picked a.stmt) above + labels_picked s.stmt in
+    let items_above = sum_by (λ a. items_taken a.stmt) above in
+    let tail : Bool = nat_le items_above 4000 && nat_lt 4000 (items_above + items_taken s.stmt) in
+    ap (λ n. nat_lt 500 n || nat_lt 4000 labels_all || tail) (statement-operations names checked whole (length above) s)
+    ∙ ap (λ b. b || nat_lt 4000 labels_all || tail) (few-counted (own_operations names checked s.stmt))
+    ∙ ap (λ n. nat_lt 500 n || nat_lt 4000 labels_all || tail) (sym count_is)
+    ∙ ap (λ n. nat_lt 500 count || nat_lt 4000 n || tail) (sym labels_is)
+    ∙ ap (λ n. nat_lt 500 count || nat_lt 4000 labels || (nat_le n 4000 && nat_lt 4000 (items_above + items_taken s.stmt))) (sym before_is)
+    ∙ ap (λ n. nat_lt 500 count || nat_lt 4000 labels || (nat_le before 4000 && nat_lt 4000 n)) (sym items_is)

@@ -20,6 +20,7 @@ use Rattle.f77_layout.specs.TypeFaults.{has_wrong_type}
 use Rattle.f77_layout.proofs.DeclaredData.{program-AreInitial, program-initial_count, program-word_count}
 use Rattle.f77_layout.proofs.DeclaredPrograms.{program-AreDeclarations}
 use Rattle.f77_layout.proofs.EndLaws.{ends_with_end}
+use Rattle.f77_layout.proofs.FaultLines.{no-storage-fault, storage-without, none-too-great, modest-without}
 use Rattle.f77_layout.proofs.LoopsOfSource.{AreLoops-source}
 use Rattle.f77_layout.proofs.PlacedDeclared.{program-ArePlaces}
 use Rattle.f77_layout.proofs.ProperPrograms.{program-HasFewOperations, program-count, program-each, program-target_count}
@@ -81,12 +82,12 @@ module _ (stmts : List Labelled) (checked : Bool) (source : IsSource stmts) wher
         let stays = none-of _ _ JumpInto refl (jump_into stmts checked ordered typed kinds stored once borne nested) in
         let fits = none-of _ _ TooManyWords refl (too_many_words stmts checked ordered typed kinds stored once borne nested stays) in
         let modest = none-of _ _ TooManyOps refl (too_many_ops stmts checked ordered typed kinds stored once borne nested stays fits) in
-        record { ordered = ordered; typed = typed; kinds = kinds; stored = stored; once = once; borne = borne; nested = nested; stays = stays; fits = fits; modest = modest }
+        record { ordered = ordered; typed = typed; kinds = kinds; stored = no-storage-fault (names_of stmts) (placed_names stmts) stmts stored; once = once; borne = borne; nested = nested; stays = stays; fits = fits; modest = none-too-great (names_of stmts) checked stmts modest }
 
     pub laid-is : program stmts checked ≡ p
     laid-is =
         let none = laid-faultless in
-        let told : Ok (program stmts checked) ≡ Ok p = sym (accepted stmts checked none.ordered none.typed none.kinds none.stored none.once none.borne none.nested none.stays none.fits none.modest) ∙ laid in
+        let told : Ok (program stmts checked) ≡ Ok p = sym (accepted stmts checked none.ordered none.typed none.kinds (storage-without (names_of stmts) (placed_names stmts) stmts none.stored) none.once none.borne none.nested none.stays none.fits (modest-without (names_of stmts) checked stmts none.modest)) ∙ laid in
         cc
 
     pub laid-well_formed : IsWellFormed p

@@ -1,5 +1,5 @@
 -- How much a program and each of its statements may ask.
-use Rattle.std.specs.Prelude.{ℕ, ◌+◌, Bool, ◌||◌, nat_lt, List, length, sum_by}
+use Rattle.std.specs.Prelude.{ℕ, ◌+◌, Bool, ◌&&◌, ◌||◌, nat_le, nat_lt, List, length, sum_by}
 use Rattle.f77_tree.specs.declared.statements.Labelled.{Labelled}
 use Rattle.f77_tree.specs.declared.statements.Stmt.{Stmt, more_of-Stmt}
 use Rattle.f77_tree.specs.declared.statements.Stmt.TheVariants.{Take, PickGoTo, ThenIf'}
@@ -18,6 +18,11 @@ abbrev pub items_taken : Stmt → ℕ
 items_taken (Take targets) = length targets
 items_taken (ThenIf' condition shape (more_of-Stmt stmt rest)) = items_taken stmt
 items_taken _ = 0
+
+-- more than 500 operations, or more than 4,000 labels in computed GO TO up to and with the statement, or it is the one with
+-- which the items of READ become more than 4,000
+abbrev pub is_too_great : List NameInfo → (checked : Bool) → (whole above : List Labelled) → Labelled → Bool
+is_too_great names checked whole above s = nat_lt 500 (statement_operations (executables_at names checked whole (length above) s)) || nat_lt 4000 (sum_by (λ a. labels_picked a.stmt) above + labels_picked s.stmt) || (nat_le (sum_by (λ a. items_taken a.stmt) above) 4000 && nat_lt 4000 (sum_by (λ a. items_taken a.stmt) above + items_taken s.stmt))
 
 -- more than 500 operations, or more than 4,000 labels in computed GO TO or items of READ up to and with the statement
 abbrev pub asks_too_much : List NameInfo → (checked : Bool) → (whole above : List Labelled) → Labelled → Bool

@@ -8,7 +8,7 @@ abbrev pub first_after : (fault : List Labelled → Labelled → Bool) → (abov
 first_after fault above [] = None
 first_after fault above (s ∷ rest) = if fault above s then Some s.line else first_after fault (above ++ s ∷ []) rest
 
--- the lowest line with the fault
+-- the line of the first statement with the fault
 abbrev pub first_line : (fault : List Labelled → Labelled → Bool) → List Labelled → Option ℕ
 first_line fault stmts = first_after fault [] stmts
 

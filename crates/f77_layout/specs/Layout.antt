@@ -13,12 +13,13 @@ use Rattle.f77_layout.specs.Appearances.{all_names, has_real_name}
 use Rattle.f77_layout.specs.Order.{is_out_of_order}
 use Rattle.f77_layout.specs.TypeFaults.{has_wrong_type}
 use Rattle.f77_layout.specs.Storage.{Spot, equations, spots_by, place_of, words_in_all}
-use Rattle.f77_layout.specs.StorageFaults.{has_wrong_storage}
+use Rattle.f77_layout.specs.StorageLines.{storage_line}
 use Rattle.f77_layout.specs.Labels.{is_labelled_twice, lacks_label}
 use Rattle.f77_layout.specs.Nesting.{first_unnested}
 use Rattle.f77_layout.specs.Jumps.{jumps_into}
 use Rattle.f77_layout.specs.Executables.{executables, kind_or_integer, is_do}
-use Rattle.f77_layout.specs.Counts.{asks_too_much}
+use Rattle.f77_layout.specs.Counts.{is_too_great}
+use Rattle.f77_layout.specs.LowestLines.{lowest_line}
 
 -- ---- the table of names
 
@@ -62,13 +63,13 @@ abbrev pub at_line : (ℕ → LayoutEnd) → Option ℕ → Option LayoutEnd
 at_line refusal None = None
 at_line refusal (Some line) = Some (refusal line)
 
--- the refusals in order but for the last one, each with the lowest line that has its fault
+-- the refusals in order but for the last one, each with the line that is told of its fault
 abbrev pub refusals_of_form : List Labelled → List (Option LayoutEnd)
 refusals_of_form stmts =
     at_line OutOfOrder (first_line is_out_of_order stmts) ∷
     at_line RealName (first_line (has_real_name stmts) stmts) ∷
     at_line TypeWrong (first_line (has_wrong_type (names_of stmts)) stmts) ∷
-    at_line LayoutWrong (first_line (has_wrong_storage (names_of stmts) (placed_names stmts) stmts) stmts) ∷
+    at_line LayoutWrong (storage_line (names_of stmts) (placed_names stmts) stmts) ∷
     at_line LabelTwice (first_line is_labelled_twice stmts) ∷
     at_line LabelMissing (first_line (lacks_label stmts) stmts) ∷
     at_line BadNesting (first_unnested [] stmts) ∷
@@ -80,7 +81,7 @@ abbrev pub HasForm : List Labelled → Type 0
 HasForm stmts = first_answer (λ r. r) (refusals_of_form stmts) ≡ None
 
 abbrev pub refusals : List Labelled → (checked : Bool) → List (Option LayoutEnd)
-refusals stmts checked = refusals_of_form stmts ++ at_line TooManyOps (first_line (asks_too_much (names_of stmts) checked stmts) stmts) ∷ []
+refusals stmts checked = refusals_of_form stmts ++ at_line TooManyOps (lowest_line (is_too_great (names_of stmts) checked stmts) stmts) ∷ []
 
 -- the refusal, if there is one
 abbrev pub refusal : List Labelled → (checked : Bool) → Option LayoutEnd

@@ -40,6 +40,7 @@ pub mod Standings
 pub mod StatementTrees
 pub mod Storage
 pub mod StorageFaults
+pub mod StorageLines
 pub mod Storages
 pub mod Tables
 pub mod Trees

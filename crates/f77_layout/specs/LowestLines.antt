@@ -6,6 +6,11 @@ abbrev pub lower_or : ℕ → Option ℕ → ℕ
 lower_or line None = line
 lower_or line (Some other) = if nat_lt other line then other else line
 
+-- the lower of two lines, where there are any
+abbrev pub lower_line : Option ℕ → Option ℕ → Option ℕ
+lower_line None other = other
+lower_line (Some line) other = Some (lower_or line other)
+
 -- the lowest line of these statements with the fault, where those stand above them
 abbrev pub lowest_after : (fault : List Labelled → Labelled → Bool) → (above stmts : List Labelled) → Option ℕ
 lowest_after fault above [] = None

@@ -1,5 +1,5 @@
 -- The statements of a source, in the order of the text.
-use Rattle.std.specs.Prelude.{◌≡◌, ℕ, ◌-◌, ◌<◌, ◌≤◌, false, List, length, All, Some, slice_get}
+use Rattle.std.specs.Prelude.{◌≡◌, ◌-◌, ◌≤◌, false, List, length, All, Some, slice_get}
 use Rattle.f77_tree.specs.declared.statements.Labelled.{Labelled}
 use Rattle.f77_tree.specs.declared.statements.Stmt.TheVariants.{End}
 use Rattle.f77_tree.specs.StatementGrammar.{is_of_subroutines}
@@ -11,12 +11,11 @@ pub record EndsWithEnd (stmts : List Labelled) : Type 0 where
   pub stands : slice_get stmts (length stmts - 1) ≡ Some last
   pub is : last.stmt ≡ End
 
--- Statements that can be laid out: each is a tree as those that are read from a text, and no statement of subroutines. Their
--- lines rise, and there are at most 4,000, with END at the end. A label is a number of up to five digits, or 0.
+-- Statements that can be laid out: each is a tree as those that are read from a text, and no statement of subroutines. There are
+-- at most 4,000, with END at the end. A label is a number of up to five digits, or 0.
 pub record IsSource (stmts : List Labelled) : Type 0 where
   pub trees : All (λ s. IsTree s.stmt) stmts
   pub no_subroutines : All (λ s. is_of_subroutines s.stmt ≡ false) stmts
   pub labels : All (λ s. s.label ≤ 99999) stmts
-  pub rising : (j k : ℕ) (a b : Labelled) → slice_get stmts j ≡ Some a → slice_get stmts k ≡ Some b → j < k → a.line < b.line
   pub few : length stmts ≤ 4000
   pub ended : EndsWithEnd stmts

@@ -15,7 +15,7 @@ use Rattle.f77_layout.specs.Layout.{names_of, placed_names, spots_of}
 use Rattle.f77_layout.specs.Nesting.{first_unnested}
 use Rattle.f77_layout.specs.Order.{is_out_of_order}
 use Rattle.f77_layout.specs.Source.{IsSource}
-use Rattle.f77_layout.specs.StorageFaults.{has_wrong_storage}
+use Rattle.f77_layout.specs.StorageLines.{storage_line}
 use Rattle.f77_layout.specs.Trees.{AreLowest}
 use Rattle.f77_layout.specs.TypeFaults.{has_wrong_type}
 use Rattle.f77_layout.specs.WordNumbers.{AreNumbers}
@@ -38,7 +38,7 @@ pub record AreStored (stmts : List Labelled) (numbers : WordNumbers) : Type 0 wh
 pub record HasWords (stmts : List Labelled) (names : List NameInfo) (numbers : WordNumbers) : Type 0 where
   pub named : HasNames stmts names
   pub kinds : first_line (has_wrong_type (names_of stmts)) stmts ≡ None
-  pub stored : first_line (has_wrong_storage (names_of stmts) (placed_names stmts) stmts) stmts ≡ None
+  pub stored : storage_line (names_of stmts) (placed_names stmts) stmts ≡ None
   pub numbered : AreStored stmts numbers
 
 -- each label stands once, those that are used stand where they may, and these are their places

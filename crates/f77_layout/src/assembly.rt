@@ -3,18 +3,18 @@ ghost use Rattle.std.specs.Result.{result_err};
 ghost use Rattle.f77_tree.specs.Operations.{HasFewOperations};
 ghost use Rattle.f77_tree.specs.WellFormed.{IsWellFormed};
 ghost use Rattle.f77_layout.specs.Answers.{IsLaidAs};
-ghost use Rattle.f77_layout.specs.Counts.{asks_too_much};
-ghost use Rattle.f77_layout.specs.Faults.{first_line};
+ghost use Rattle.f77_layout.specs.Counts.{is_too_great};
 ghost use Rattle.f77_layout.specs.Layout.{layout, program as program_of, names_of, placed_names as placed_names_of};
+ghost use Rattle.f77_layout.specs.LowestLines.{lowest_line};
 ghost use Rattle.f77_layout.specs.Source.{IsSource};
 ghost use Rattle.f77_layout.specs.Stages.{AreStored, HasNames, HasWords, HasLabels, HasBlocks};
-ghost use Rattle.f77_layout.specs.StorageFaults.{has_wrong_storage};
+ghost use Rattle.f77_layout.specs.StorageLines.{storage_line};
 
 use crate::LayoutEnd;
 use crate::appearances::declared_names;
 use crate::blocks::Blocks;
 use crate::collecting::{commons_of, count_loops, groups_of, inits_of, placed_names};
-use crate::counts::first_asking_too_much;
+use crate::counts::lowest_too_great;
 use crate::equations::{Placing, place_names};
 use crate::executables::executables_of;
 use crate::initial::initial_words;
@@ -23,7 +23,7 @@ use crate::labels::{Labels, first_labelled_twice, first_lacking_label};
 use crate::names::Names;
 use crate::nesting::{Nesting, nesting_of};
 use crate::order::first_out_of_order;
-use crate::storage_faults::{first_wrong_above, first_wrong_storage};
+use crate::storage_faults::{wrong_places_line, wrong_storage_line};
 use crate::type_faults::first_wrong_type;
 use crate::word_numbers::{self, WordNumbers};
 use df_sequence::NoMemory;
@@ -39,8 +39,8 @@ const MOST_WORDS: u64 = 262_144;
 ///
 /// # Errors
 ///
-/// The refusals stand in the order of `LayoutEnd`; each tells the lowest line that has its fault. NoMemory may come in
-/// place of any answer.
+/// The refusals stand in the order of `LayoutEnd`, which says whose line each tells. NoMemory may come in place of any
+/// answer.
 pub fn assemble(alloc: Global, stmts: &LabelledList, checked: bool) -> Result<Program, LayoutEnd>
     requires source { IsSource stmts.now }
     ensures accepted { IfOk result (λ program. layout stmts.now checked ≡ Ok program) }
@@ -84,14 +84,14 @@ fn numbers_of(
     names: &Names,
 ) -> Result<Result<WordNumbers, u32>, NoMemory>
     requires { HasNames stmts.now names.now }
-    ensures faulty { IfOk result (λ found. result_err found ≡ first_line (has_wrong_storage (names_of stmts.now) (placed_names_of stmts.now) stmts.now) stmts.now) }
+    ensures faulty { IfOk result (λ found. result_err found ≡ storage_line (names_of stmts.now) (placed_names_of stmts.now) stmts.now) }
     ensures numbers { IfOk result (λ found. IfOk found (λ w. AreStored stmts.now w)) }
 {
     match place_names(alloc, names, stmts)? {
-        Placing::Wrong(line) => Ok(Err(first_wrong_above(alloc, stmts, names, line)?)),
+        Placing::Wrong(line) => Ok(Err(wrong_places_line(alloc, stmts, names, line)?)),
         Placing::Right(storages) => {
             let numbers = word_numbers::numbers_of(alloc, names, &storages)?;
-            match first_wrong_storage(alloc, stmts, names, &numbers.places)? {
+            match wrong_storage_line(alloc, stmts, names, &numbers.places)? {
                 Some(line) => Ok(Err(line)),
                 None => Ok(Ok(numbers)),
             }
@@ -159,7 +159,7 @@ fn with_blocks(
     if numbers.words > MOST_WORDS {
         return Err(LayoutEnd::TooManyWords(stmts[stmts.len() - 1].line));
     }
-    if let Some(line) = first_asking_too_much(names, stmts) {
+    if let Some(line) = lowest_too_great(names, stmts) {
         return Err(LayoutEnd::TooManyOps(line));
     }
     let program = made(alloc, stmts, names, numbers, labels, blocks, checked)?;
@@ -178,7 +178,7 @@ fn made(
 ) -> Result<Program, NoMemory>
     requires blocks { HasBlocks stmts.now names.now numbers.now labels blocks }
     requires few { numbers.now.words ≤ 262144 }
-    requires modest { first_line (asks_too_much (names_of stmts.now) checked stmts.now) stmts.now ≡ None }
+    requires modest { lowest_line (is_too_great (names_of stmts.now) checked stmts.now) stmts.now ≡ None }
     ensures { IfOk result (λ program. program ≡ program_of stmts.now checked) }
 {
     let inits = inits_of(alloc, stmts)?;

@@ -1,41 +1,45 @@
 //! How much a program and each of its statements may ask.
-ghost use Rattle.std.specs.Prelude.{◌≡◌, ◌+◌, ◌||◌, Bool, length, nat_lt, sum_by};
+ghost use Rattle.std.specs.Prelude.{◌≡◌, ◌+◌, ◌≤◌, ◌&&◌, ◌||◌, Bool, length, nat_le, nat_lt, sum_by};
 ghost use Rattle.f77_tree.specs.Kinds.{taken_as};
 ghost use Rattle.f77_tree.specs.Operations.{operations};
 ghost use Rattle.f77_layout.specs.Counted.{counted};
-ghost use Rattle.f77_layout.specs.Faults.{first_line};
-ghost use Rattle.f77_layout.specs.Counts.{asks_too_much, labels_picked as labels_picked_in, items_taken as items_taken_in};
+ghost use Rattle.f77_layout.specs.LowestLines.{lowest_line};
+ghost use Rattle.f77_layout.specs.Counts.{is_too_great, labels_picked as labels_picked_in, items_taken as items_taken_in};
 ghost use Rattle.f77_layout.specs.OwnOperations.{own_operations, printed_operations, target_operations};
 ghost use Rattle.f77_layout.specs.Executables.{kind_or_integer};
 ghost use Rattle.f77_layout.specs.Resolved.{resolved_step};
 
 use crate::kinds::kind_of;
+use crate::lowest_fault::with_line;
 use crate::names::Names;
 use crate::operations::{access_operations_of, operations_of};
 use f77_tree::{Kind, Labelled, RawExpr, RawItem, RawItemList, RawList, Stmt};
 
-/// The line of the first statement that takes more than 500 operations, or up to and with which there are more than 4,000
-/// labels in computed GO TO or more than 4,000 items of READ: the same in either dialect.
-pub(crate) fn first_asking_too_much(names: &Names, stmts: &[Labelled]) -> Option<u32>
-    ensures { (checked : Bool) → result ≡ first_line (asks_too_much names.now checked stmts.now) stmts.now }
+/// The lowest line of a statement that takes more than 500 operations, or up to and with which there are more than 4,000
+/// labels in computed GO TO, or with which the items of READ become more than 4,000: the same in either dialect.
+pub(crate) fn lowest_too_great(names: &Names, stmts: &[Labelled]) -> Option<u32>
+    requires { length stmts.now ≤ 4000 }
+    ensures { (checked : Bool) → result ≡ lowest_line (is_too_great names.now checked stmts.now) stmts.now }
 {
+    let mut lowest = None;
     let mut labels = 0_u64;
     let mut items = 0_u64;
     for s in stmts {
+        let above = items;
         labels += u64::from(labels_picked(&s.stmt));
         items += u64::from(items_taken(&s.stmt));
-        if are_too_many(own_operations_of(names, &s.stmt), labels, items) {
-            return Some(s.line);
-        }
+        let faulty = are_too_many(own_operations_of(names, &s.stmt), labels, above, items);
+        lowest = with_line(lowest, s.line, faulty);
     }
-    None
+    lowest
 }
 
-/// Whether a statement asks too much.
-fn are_too_many(operations: u32, labels: u64, items: u64) -> bool
-    ensures { result ≡ (nat_lt 500 operations || nat_lt 4000 labels || nat_lt 4000 items) }
+/// Whether a statement takes too many operations, or there are too many labels up to and with it, or too many items of READ with
+/// it, but not above it.
+fn are_too_many(operations: u32, labels: u64, above: u64, items: u64) -> bool
+    ensures { result ≡ (nat_lt 500 operations || nat_lt 4000 labels || (nat_le above 4000 && nat_lt 4000 items)) }
 {
-    operations > 500 || labels > 4000 || items > 4000
+    operations > 500 || labels > 4000 || (above <= 4000 && items > 4000)
 }
 
 /// The operations of a statement, without the increments of the DOs that end at it: as many in either dialect. A count that

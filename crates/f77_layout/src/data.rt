@@ -1,25 +1,27 @@
 //! DATA that gives a value of the wrong kind, too few or too many values, or a word two values (ANSI X3.9-1978, section 9).
 
-ghost use Rattle.std.specs.Prelude.{◌≡◌, ℕ, ◌++◌, not, true, false, List, flat_map, IfOk};
+ghost use Rattle.std.specs.Prelude.{◌≡◌, ℕ, ◌++◌, ◌&&◌, ◌||◌, not, false, List, flat_map, IfOk};
 ghost use Rattle.std.specs.List.{list_any};
 ghost use Rattle.std.specs.Ordering.{nat_cmp};
 ghost use Rattle.std.specs.BTreeMap.{get};
 ghost use Rattle.f77_tree.specs.InitialWords.{part_words};
 ghost use Rattle.f77_layout.specs.Declarations.{inits_of};
 ghost use Rattle.f77_layout.specs.StorageFaults.{is_member, has_wrong_member, is_data, is_wrong_part, has_wrong_part};
+ghost use Rattle.f77_layout.specs.StorageLines.{given_by};
 ghost use Rattle.f77_layout.specs.PlacedNames.{with_places, ArePlaces};
 ghost use Rattle.f77_layout.specs.GivenWords.{Holds};
 
 use crate::data_items::spans_of;
 use crate::data_kinds::fits;
 use crate::given_words::GivenWords;
+use crate::members;
 use crate::names::Names;
 use df_sequence::NoMemory;
 use f77_tree::{InitPart, Labelled, Stmt};
 use std::alloc::Global;
 
-/// Whether the values of a statement don't fit its items, where the names have these places, or one of its words has a value.
-/// It adds the words, if not.
+/// Whether an item of the statement is wrong, where the names have these places, or its values don't fit its items, or one of
+/// its words has a value. It adds the words, unless an item is wrong.
 pub(crate) fn is_wrong(
     alloc: Global,
     names: &Names,
@@ -27,13 +29,17 @@ pub(crate) fn is_wrong(
     given: &mut GivenWords,
     s: &Labelled,
 ) -> Result<bool, NoMemory>
-    requires members { has_wrong_member names.now s.now ≡ false }
-    requires places { is_data s.now.stmt ≡ true → ArePlaces names.now places.now }
-    ensures wrong { IfOk result (λ wrong. (seen : List ℕ) → Holds (get nat_cmp given.old.ends) seen → wrong ≡ has_wrong_part (with_places names.now places.now) seen (inits_of s.now.stmt)) }
-    ensures added { IfOk result (λ wrong. (seen : List ℕ) → Holds (get nat_cmp given.old.ends) seen → wrong ≡ false → Holds (get nat_cmp given.new.ends) (seen ++ flat_map (part_words (with_places names.now places.now)) (inits_of s.now.stmt))) }
+    requires places { ArePlaces names.now places.now }
+    ensures wrong { IfOk result (λ wrong. (seen : List ℕ) → Holds (get nat_cmp given.old.ends) seen → wrong ≡ (is_data s.now.stmt && (has_wrong_member names.now s.now || has_wrong_part (with_places names.now places.now) seen (inits_of s.now.stmt)))) }
+    ensures added { IfOk result (λ wrong. (seen : List ℕ) → Holds (get nat_cmp given.old.ends) seen → Holds (get nat_cmp given.new.ends) (seen ++ flat_map (part_words (with_places names.now places.now)) (given_by names.now s.now))) }
 {
     match &s.stmt {
-        Stmt::Init(parts) => are_wrong_parts(alloc, names, places, given, parts.as_slice()),
+        Stmt::Init(parts) => {
+            if members::has_wrong(names, s) {
+                return Ok(true);
+            }
+            are_wrong_parts(alloc, names, places, given, parts.as_slice())
+        }
         _ => Ok(false),
     }
 }
@@ -48,14 +54,14 @@ fn are_wrong_parts(
     requires members { list_any (λ part. list_any (λ member. not (is_member names.now member)) part.items) parts.now ≡ false }
     requires places { ArePlaces names.now places.now }
     ensures wrong { IfOk result (λ wrong. (seen : List ℕ) → Holds (get nat_cmp given.old.ends) seen → wrong ≡ has_wrong_part (with_places names.now places.now) seen parts.now) }
-    ensures added { IfOk result (λ wrong. (seen : List ℕ) → Holds (get nat_cmp given.old.ends) seen → wrong ≡ false → Holds (get nat_cmp given.new.ends) (seen ++ flat_map (part_words (with_places names.now places.now)) parts.now)) }
+    ensures added { IfOk result (λ wrong. (seen : List ℕ) → Holds (get nat_cmp given.old.ends) seen → Holds (get nat_cmp given.new.ends) (seen ++ flat_map (part_words (with_places names.now places.now)) parts.now)) }
 {
+    let mut wrong = false;
     for part in parts {
-        if is_wrong_part_of(alloc, names, places, given, part)? {
-            return Ok(true);
-        }
+        let here = is_wrong_part_of(alloc, names, places, given, part)?;
+        wrong = wrong | here;
     }
-    Ok(false)
+    Ok(wrong)
 }
 
 fn is_wrong_part_of(
@@ -68,11 +74,10 @@ fn is_wrong_part_of(
     requires members { list_any (λ member. not (is_member names.now member)) part.now.items ≡ false }
     requires places { ArePlaces names.now places.now }
     ensures wrong { IfOk result (λ wrong. (seen : List ℕ) → Holds (get nat_cmp given.old.ends) seen → wrong ≡ is_wrong_part (with_places names.now places.now) seen part.now) }
-    ensures added { IfOk result (λ wrong. (seen : List ℕ) → Holds (get nat_cmp given.old.ends) seen → wrong ≡ false → Holds (get nat_cmp given.new.ends) (seen ++ part_words (with_places names.now places.now) part.now)) }
+    ensures added { IfOk result (λ wrong. (seen : List ℕ) → Holds (get nat_cmp given.old.ends) seen → Holds (get nat_cmp given.new.ends) (seen ++ part_words (with_places names.now places.now) part.now)) }
 {
     let spans = spans_of(alloc, names, places, part.items.as_slice())?;
-    if !fits(&spans, part.values.as_slice()) {
-        return Ok(true);
-    }
-    Ok(!given.add_spans(&spans)?)
+    let fit = fits(&spans, part.values.as_slice());
+    let free = given.add_spans(&spans)?;
+    Ok(!fit | !free)
 }

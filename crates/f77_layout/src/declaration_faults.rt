@@ -5,7 +5,8 @@ ghost use Rattle.std.specs.List.{list_any};
 ghost use Rattle.f77_tree.specs.declared.statements.Labelled.{Labelled};
 ghost use Rattle.f77_layout.specs.Faults.{first_line, has_repeat};
 ghost use Rattle.f77_layout.specs.Declarations.{declarators};
-ghost use Rattle.f77_layout.specs.StorageFaults.{dimensioned, array_names, are_wrong_dims, common_names, HasDeclared, has_wrong_declaration};
+ghost use Rattle.f77_layout.specs.StorageFaults.{dimensioned, array_names, are_wrong_dims, common_names, HasDeclared};
+ghost use Rattle.f77_layout.specs.StorageLines.{declares_wrongly};
 
 use crate::dimensions::element_count;
 use crate::members;
@@ -16,13 +17,13 @@ use f77_tree::{CommonPart, Decl, Labelled, Stmt};
 use std::alloc::Global;
 
 /// The line of the first statement that gives dimensions to a name once more, whose dimensions are wrong, that puts a name
-/// into COMMON once more, or of which a member is wrong.
+/// into COMMON once more, or of which a member of EQUIVALENCE is wrong.
 pub(crate) fn first_wrong_declaration(
     alloc: Global,
     stmts: &[Labelled],
     names: &Names,
 ) -> Result<Option<u32>, NoMemory>
-    ensures { IfOk result (λ line. line ≡ first_line (has_wrong_declaration names.now) stmts.now) }
+    ensures { IfOk result (λ line. line ≡ first_line (declares_wrongly names.now) stmts.now) }
 {
     let mut declared = Declared::new(alloc);
     for s in stmts {
@@ -51,7 +52,7 @@ impl Declared {
         }
     }
 
-    /// Whether a statement below those declares a name once more, or its dimensions or members are wrong. It adds what the
+    /// Whether a statement below those declares a name once more, or its dimensions or members of EQUIVALENCE are wrong. It adds what the
     /// statement declares, if not.
     pub(crate) fn is_wrong(
         &mut self,
@@ -59,14 +60,14 @@ impl Declared {
         names: &Names,
         s: &Labelled,
     ) -> Result<bool, NoMemory>
-        ensures wrong { IfOk result (λ wrong. (above : List Labelled) → HasDeclared self.old.arrays self.old.commons above → wrong ≡ has_wrong_declaration names.now above s.now) }
+        ensures wrong { IfOk result (λ wrong. (above : List Labelled) → HasDeclared self.old.arrays self.old.commons above → wrong ≡ declares_wrongly names.now above s.now) }
         ensures declared { IfOk result (λ wrong. (above : List Labelled) → HasDeclared self.old.arrays self.old.commons above → wrong ≡ false → HasDeclared self.new.arrays self.new.commons (above ++ s.now ∷ [])) }
     {
         Ok(
             repeats_array(alloc, &mut self.arrays, &s.stmt)?
                 || has_wrong_dims(&s.stmt)
                 || repeats_common(alloc, &mut self.commons, &s.stmt)?
-                || members::has_wrong(names, s),
+                || members::has_wrong_grouped(names, s),
         )
     }
 }

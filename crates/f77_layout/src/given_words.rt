@@ -6,7 +6,7 @@ ghost use Rattle.std.specs.BTreeMap.{get};
 ghost use Rattle.f77_tree.specs.InitialWords.{words_from};
 ghost use Rattle.f77_layout.specs.Faults.{has_repeat};
 ghost use Rattle.f77_layout.specs.Runs.{span_words};
-ghost use Rattle.f77_layout.specs.GivenWords.{Holds, IsLastBefore};
+ghost use Rattle.f77_layout.specs.GivenWords.{AreClear, Holds, HoldsBeside, IsLastBefore, IsLastReaching};
 
 use crate::data_spans::Span;
 use df_sequence::NoMemory;
@@ -51,30 +51,59 @@ impl GivenWords {
         }
     }
 
-    /// Adds so many words from the first one on, if none of them is held.
+    // The last interval that begins before this word, where it ends behind the other one.
+    fn last_reaching(&self, from: u64, word: u64) -> Option<(u64, u64)>
+        ensures { IsLastReaching (get nat_cmp self.now.ends) from word result }
+    {
+        match self.last_before(word) {
+            Some((first, end)) => { if from < end { Some((first, end)) } else { None } }
+            None => None,
+        }
+    }
+
+    // Takes out the intervals that meet the words from `first` up to `end`. All of them together reach from the first result up
+    // to the second.
+    fn take_out(&mut self, first: u64, end: u64) -> (u64, u64)
+        requires { first < end }
+        ensures some { result.0 < result.1 }
+        ensures beside { (seen : List ℕ) → HoldsBeside (get nat_cmp self.old.ends) first end seen → HoldsBeside (get nat_cmp self.new.ends) result.0 result.1 seen }
+        ensures clear { (seen : List ℕ) → HoldsBeside (get nat_cmp self.old.ends) first end seen → AreClear (get nat_cmp self.new.ends) result.0 result.1 }
+    {
+        let mut from = first;
+        let mut to = end;
+        let mut word = end;
+        while let Some((other, last)) = self.last_reaching(from, word) {
+            self.ends.remove(&other);
+            from = from.min(other);
+            to = to.max(last);
+            word = other;
+        }
+        (from, to)
+    }
+
+    /// Adds so many words from the first one on, and tells whether none of them was held.
     pub(crate) fn add(&mut self, first: u64, len: u32) -> Result<bool, NoMemory>
         requires some { 0 < len }
         requires room { first + len < 2 ^ 64 }
         ensures free { IfOk result (λ free. (seen : List ℕ) → Holds (get nat_cmp self.old.ends) seen → free ≡ not (has_repeat (λ a b. a == b) seen (words_from first len))) }
-        ensures added { IfOk result (λ free. (seen : List ℕ) → Holds (get nat_cmp self.old.ends) seen → free ≡ true → Holds (get nat_cmp self.new.ends) (seen ++ words_from first len)) }
+        ensures added { IfOk result (λ free. (seen : List ℕ) → Holds (get nat_cmp self.old.ends) seen → Holds (get nat_cmp self.new.ends) (seen ++ words_from first len)) }
     {
-        if !self.is_free(first, len) {
-            return Ok(false);
-        }
-        self.ends.insert(first, first + len as u64)?;
-        Ok(true)
+        let free = self.is_free(first, len);
+        let (from, to) = self.take_out(first, first + len as u64);
+        self.ends.insert(from, to)?;
+        Ok(free)
     }
 
-    /// Adds the words of spans, if none of them is held or stands twice.
+    /// Adds the words of spans, and tells whether none of them was held or stands twice.
     pub(crate) fn add_spans(&mut self, spans: &[Span]) -> Result<bool, NoMemory>
         ensures free { IfOk result (λ free. (seen : List ℕ) → Holds (get nat_cmp self.old.ends) seen → free ≡ not (has_repeat (λ a b. a == b) seen (flat_map span_words spans.now))) }
-        ensures added { IfOk result (λ free. (seen : List ℕ) → Holds (get nat_cmp self.old.ends) seen → free ≡ true → Holds (get nat_cmp self.new.ends) (seen ++ flat_map span_words spans.now)) }
+        ensures added { IfOk result (λ free. (seen : List ℕ) → Holds (get nat_cmp self.old.ends) seen → Holds (get nat_cmp self.new.ends) (seen ++ flat_map span_words spans.now)) }
     {
+        let mut free = true;
         for span in spans {
-            if !self.add(span.first, span.len)? {
-                return Ok(false);
-            }
+            let new = self.add(span.first, span.len)?;
+            free = free & new;
         }
-        Ok(true)
+        Ok(free)
     }
 }

@@ -1,7 +1,8 @@
 //! Laws on the executables that statements make, as contracts of functions that do nothing.
 
-ghost use Rattle.std.specs.Prelude.{◌≡◌, ◌+◌, ◌≤◌, ◌||◌, Bool, true, false, ℕ, List, Ok, Some, slice_get};
+ghost use Rattle.std.specs.Prelude.{◌≡◌, ◌+◌, ◌≤◌, ◌||◌, Bool, true, false, ℕ, List, Ok, Some, None, slice_get};
 ghost use Rattle.f77_tree.specs.declared.programs.ExecKind.{ExecKind};
+ghost use Rattle.f77_tree.specs.declared.programs.NameInfo.{NameInfo};
 ghost use Rattle.f77_tree.specs.declared.programs.Program.{Program};
 ghost use Rattle.f77_tree.specs.declared.statements.Labelled.{Labelled};
 ghost use Rattle.f77_tree.specs.declared.statements.Stmt.{Stmt};
@@ -10,6 +11,7 @@ ghost use Rattle.f77_tree.specs.Operations.{HasFewOperations};
 ghost use Rattle.f77_tree.specs.Places.{IsWordOf, Linked, equations};
 ghost use Rattle.f77_tree.specs.StatementGrammar.{IsGiven, is_of_subroutines};
 ghost use Rattle.f77_tree.specs.WellFormed.{IsWellFormed};
+ghost use Rattle.f77_layout.specs.Counts.{asks_too_much, is_too_great};
 ghost use Rattle.f77_layout.specs.Depths.{blocks_open};
 ghost use Rattle.f77_layout.specs.Faults.{first_line};
 ghost use Rattle.f77_layout.specs.Executables.{beyond, first_of, increments, labelled, loops_to, own_executables, own_kinds};
@@ -18,8 +20,11 @@ ghost use Rattle.f77_layout.specs.Labels.{is_arm, used};
 ghost use Rattle.f77_layout.specs.Layout.{layout, names_of};
 ghost use Rattle.f77_layout.specs.Leading.{IsLedTo};
 ghost use Rattle.f77_layout.specs.LowestLines.{lowest_line, LinesRise};
+ghost use Rattle.f77_layout.specs.Order.{is_out_of_order};
 ghost use Rattle.f77_layout.specs.Source.{IsSource};
 ghost use Rattle.f77_layout.specs.StatementTrees.{IsTree};
+ghost use Rattle.f77_layout.specs.StorageFaults.{has_wrong_storage};
+ghost use Rattle.f77_layout.specs.StorageLines.{storage_line};
 
 /// The executables of a program are those of its statements, in the order of the text and each with its statement's line:
 /// first the statement's own, then the increments of the DO loops that end at it.
@@ -54,6 +59,13 @@ pub fn names_that_share_words_are_linked()
 /// A statement that is read from a text is a tree that can be laid out, where it is none of subroutines.
 pub fn given_statements_are_trees()
     ensures { (stmt : Stmt) → IsGiven stmt → is_of_subroutines stmt ≡ false → IsTree stmt }
+{}
+
+/// Where lines rise and statements stand in order, the line that is told of a fault of storage is that of the first statement
+/// with one. Where lines rise, so is that of a statement that asks too much.
+pub fn told_lines_are_first()
+    ensures storage { (names placed : List NameInfo) (stmts : List Labelled) → LinesRise stmts → first_line is_out_of_order stmts ≡ None → storage_line names placed stmts ≡ first_line (has_wrong_storage names placed stmts) stmts }
+    ensures counts { (names : List NameInfo) (checked : Bool) (stmts : List Labelled) → LinesRise stmts → lowest_line (is_too_great names checked stmts) stmts ≡ first_line (asks_too_much names checked stmts) stmts }
 {}
 
 /// Where lines rise, the first statement with a fault has the lowest line of those that have it.

@@ -2,7 +2,8 @@ use df_sequence::NoMemory;
 use thiserror::Error;
 
 /// Why statements make no program. Each number is the line of the statement at fault. The first refusal in this order is
-/// told, NoMemory aside, with the lowest line that has it.
+/// told, NoMemory aside, with the line of the first statement that has it: where lines don't rise, that of LayoutWrong is the
+/// one of `storage_line`, and that of TooManyOps the lowest.
 #[derive(Clone, Copy, Debug, PartialEq, Eq, Error)]
 pub enum LayoutEnd {
     /// A statement stands after one that must follow it, or a second PROGRAM, or anything after END (section 3.5).

@@ -30,6 +30,7 @@ mod labels;
 mod laws;
 mod layout_end;
 mod loops;
+mod lowest_fault;
 mod members;
 mod name_declarations;
 mod name_set;
@@ -54,7 +55,7 @@ pub use collecting::commons_of;
 pub use laws::{
     blocks_are_nested, executables_stand_in_order, first_faults_are_lowest,
     given_statements_are_trees, labels_lead_to_their_statements, names_that_share_words_are_linked,
-    programs_are_well_formed,
+    programs_are_well_formed, told_lines_are_first,
 };
 pub use layout_end::LayoutEnd;
 pub use name_declarations::NameDeclarations;

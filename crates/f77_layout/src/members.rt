@@ -3,6 +3,7 @@
 ghost use Rattle.std.specs.Prelude.{◌≡◌, not};
 ghost use Rattle.std.specs.List.{list_any};
 ghost use Rattle.f77_layout.specs.StorageFaults.{is_member, has_wrong_member};
+ghost use Rattle.f77_layout.specs.StorageLines.{groups_wrongly};
 
 use crate::dimensions::are_inside;
 use crate::names::Names;
@@ -16,6 +17,16 @@ pub(crate) fn has_wrong(names: &Names, s: &Labelled) -> bool
         Stmt::Equivalence(groups) => has_wrong_group(names, groups.as_slice()),
         Stmt::Init(parts) => has_wrong_part(names, parts.as_slice()),
         _ => false,
+    }
+}
+
+/// Whether a member of EQUIVALENCE in the statement is such a one.
+pub(crate) fn has_wrong_grouped(names: &Names, s: &Labelled) -> bool
+    ensures { result ≡ groups_wrongly names.now s.now }
+{
+    match &s.stmt {
+        Stmt::Init(_) => false,
+        _ => has_wrong(names, s),
     }
 }
 

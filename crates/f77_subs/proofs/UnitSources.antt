@@ -1,5 +1,5 @@
 -- The units of a text: each is a part of it with END at its end and nowhere else, and what stands in for it can be laid out.
-use Rattle.std.proofs.Common.{◌≡◌, ℕ, zero, suc, ◌+◌, ◌-◌, ◌<◌, ◌≤◌, ◌⊎◌, inl, inr, Bool, true, false, All, List, [], ◌∷◌, ◌++◌, length, get_or, Some, None, refl, sym, ap, subst, ◌∙◌, arith, length-append}
+use Rattle.std.proofs.Common.{◌≡◌, ℕ, zero, suc, ◌+◌, ◌-◌, ◌≤◌, ◌⊎◌, inl, inr, Bool, true, false, All, List, [], ◌∷◌, ◌++◌, length, get_or, Some, None, refl, sym, ap, subst, ◌∙◌, arith, length-append}
 use Rattle.std.specs.List.{list_any}
 use Rattle.std.specs.Prelude.{slice_get, if◌then◌else◌, ◌||◌}
 use Rattle.std.proofs.lemmas.List.{length-map}
@@ -30,7 +30,6 @@ all-of P stmts each k d below = each k (get_or stmts k d) (slice_get-get_or stmt
 pub record AreRead (stmts : List Labelled) : Type 0 where
   pub given : Each (λ s. IsGiven s.stmt) stmts
   pub labels : Each (λ s. s.label ≤ 99999) stmts
-  pub rising : (j k : ℕ) (a b : Labelled) → slice_get stmts j ≡ Some a → slice_get stmts k ≡ Some b → j < k → a.line < b.line
   pub few : length stmts ≤ 4000
 
 in-front : (u rest : List Labelled) (j : ℕ) (s : Labelled) → slice_get u j ≡ Some s → slice_get (u ++ rest) j ≡ Some s
@@ -48,7 +47,6 @@ read-front : (u rest : List Labelled) → AreRead (u ++ rest) → AreRead u
 read-front u rest are = record {
   given = λ j s here. are.given j s (in-front u rest j s here);
   labels = λ j s here. are.labels j s (in-front u rest j s here);
-  rising = λ j k a b here there lt. are.rising j k a b (in-front u rest j a here) (in-front u rest k b there) lt;
   few = omega (arith, length-append u rest, are.few);
 }
 
@@ -56,7 +54,6 @@ read-behind : (u rest : List Labelled) → AreRead (u ++ rest) → AreRead rest
 read-behind u rest are = record {
   given = λ j s here. are.given (length u + j) s (behind-it u rest j s here);
   labels = λ j s here. are.labels (length u + j) s (behind-it u rest j s here);
-  rising = λ j k a b here there lt. are.rising (length u + j) (length u + k) a b (behind-it u rest j a here) (behind-it u rest k b there) (omega (arith, lt));
   few = omega (arith, length-append u rest, are.few);
 }
 
@@ -180,19 +177,13 @@ source-of u is = record {
       subst (λ (x : Labelled). IsTree x.stmt) r.is (given-IsTree (stand_in r.s.stmt) (stand_in-given r.s.stmt given) (stand_in-plain r.s.stmt given)));
   no_subroutines = all-of (λ t. is_of_subroutines t.stmt ≡ false) (standing_in u) (λ j t e. let r = stands-for u j t e in subst (λ (x : Labelled). is_of_subroutines x.stmt ≡ false) r.is (stand_in-plain r.s.stmt (is.read.given j r.s r.here)));
   labels = all-of (λ t. t.label ≤ 99999) (standing_in u) (λ j t e. let r = stands-for u j t e in subst (λ (x : Labelled). x.label ≤ 99999) r.is (is.read.labels j r.s r.here));
-  rising = λ j k a b at_a at_b lt.
-      let x = stands-for u j a at_a in
-      let y = stands-for u k b at_b in
-      let first : x.s.line ≡ a.line = ap (λ (t : Labelled). t.line) x.is in
-      let second : y.s.line ≡ b.line = ap (λ (t : Labelled). t.line) y.is in
-      omega (arith, first, second, is.read.rising j k x.s y.s x.here y.here lt);
   few = omega (arith, length-map u standing, is.read.few);
   ended = from-last (standing_in u) (stands-last u is.ended);
 }
 
 pub text-unit : (stmts : List Labelled) → IsText stmts → (k : ℕ) (u : List Labelled) → slice_get (units stmts) k ≡ Some u → IsUnit u
 text-unit stmts text k u here =
-    let are : AreRead stmts = record { given = each-of (λ s. IsGiven s.stmt) stmts text.given; labels = each-of (λ s. s.label ≤ 99999) stmts text.labels; rising = text.rising; few = text.few } in
+    let are : AreRead stmts = record { given = each-of (λ s. IsGiven s.stmt) stmts text.given; labels = each-of (λ s. s.label ≤ 99999) stmts text.labels; few = text.few } in
     unit-is k stmts u are (inr (to-last stmts text.ended.last text.ended.stands text.ended.is)) here
 
 pub unit-source : (stmts : List Labelled) → IsText stmts → (k : ℕ) (u : List Labelled) → slice_get (units stmts) k ≡ Some u → IsSource (standing_in u)

@@ -8,9 +8,11 @@ use Rattle.f77_tree.specs.declared.statements.Labelled.{Labelled}
 use Rattle.f77_tree.specs.InitialWords.{initial_word, AreInitial}
 use Rattle.f77_tree.specs.Places.{ArePlaces, equations}
 use Rattle.f77_layout.specs.Declarations.{all_inits}
-use Rattle.f77_layout.specs.Faults.{first_after, first_line}
+use Rattle.f77_layout.specs.Faults.{first_after}
 use Rattle.f77_layout.specs.Layout.{names_of, placed_names, word_count, last_line, line_of_words, program}
 use Rattle.f77_layout.specs.StorageFaults.{has_dims_twice, has_wrong_dims, is_common_twice, has_wrong_member, has_wrong_places, has_wrong_data, has_wrong_storage}
+use Rattle.f77_layout.specs.StorageLines.{storage_line}
+use Rattle.f77_layout.proofs.FaultLines.{storage-without}
 use Rattle.flat_programs.specs.declared.statements.FlatLine.{FlatLine}
 use Rattle.read_back.specs.PrintedArrays.{HasNoPrintedArrays}
 use Rattle.read_back.specs.PrintedStatements.{CanBeText}
@@ -51,9 +53,10 @@ module _ (q : Program) (flat : List FlatLine) (given : CanBeText q flat) (free :
   abbrev stmts : List Labelled
   stmts = statements_read q flat
 
-  pub none_wrong_storage : first_line (has_wrong_storage (names_of stmts) (placed_names stmts) stmts) stmts ≡ None
+  pub none_wrong_storage : storage_line (names_of stmts) (placed_names stmts) stmts ≡ None
   none_wrong_storage =
-      none_faulty (has_wrong_storage (names_of stmts) (placed_names stmts) stmts) stmts (λ k s is.
+      storage-without (names_of stmts) (placed_names stmts) stmts
+      (none_faulty (has_wrong_storage (names_of stmts) (placed_names stmts) stmts) stmts (λ k s is.
       let above = take k stmts in
       let names = names_of stmts in
       let dims_once : has_dims_twice above s ≡ false = each_clear has_dims_twice [] stmts (none_dims_twice q flat given) k s is in
@@ -67,7 +70,7 @@ module _ (q : Program) (flat : List FlatLine) (given : CanBeText q flat) (free :
       let declared = or_from (has_dims_twice above s || has_wrong_dims s || is_common_twice above s) (has_wrong_member names s) once members in
       or_from (has_dims_twice above s || has_wrong_dims s || is_common_twice above s || has_wrong_member names s || has_wrong_places names stmts above s) (has_wrong_data (placed_names stmts) above s)
       (or_from (has_dims_twice above s || has_wrong_dims s || is_common_twice above s || has_wrong_member names s) (has_wrong_places names stmts above s) declared placed)
-      valued)
+      valued))
 
   none_after : (most count : ℕ) → count ≤ most → cond (nat_lt most count) (Some (last_line stmts)) None ≡ None
   none_after most count le = ap (λ b. cond b (Some (last_line stmts)) None) (le-ltb most count le)

@@ -6,14 +6,15 @@ use Rattle.f77_tree.specs.declared.statements.Labelled.{Labelled}
 use Rattle.f77_layout.specs.declared.layout_end.LayoutEnd.{LayoutEnd}
 use Rattle.f77_layout.specs.declared.layout_end.LayoutEnd.TheVariants.{OutOfOrder, RealName, TypeWrong, LayoutWrong, LabelTwice, LabelMissing, BadNesting, JumpInto, TooManyWords, TooManyOps}
 use Rattle.f77_layout.specs.Appearances.{has_real_name}
-use Rattle.f77_layout.specs.Counts.{asks_too_much}
+use Rattle.f77_layout.specs.Counts.{is_too_great}
 use Rattle.f77_layout.specs.Faults.{first_line, answer_or}
 use Rattle.f77_layout.specs.Jumps.{jumps_into}
 use Rattle.f77_layout.specs.Labels.{is_labelled_twice, lacks_label}
 use Rattle.f77_layout.specs.Layout.{names_of, placed_names, line_of_words, at_line, refusal, layout, program, unless_refused, HasForm}
+use Rattle.f77_layout.specs.LowestLines.{lowest_line}
 use Rattle.f77_layout.specs.Nesting.{first_unnested}
 use Rattle.f77_layout.specs.Order.{is_out_of_order}
-use Rattle.f77_layout.specs.StorageFaults.{has_wrong_storage}
+use Rattle.f77_layout.specs.StorageLines.{storage_line}
 use Rattle.f77_layout.specs.TypeFaults.{has_wrong_type}
 use Rattle.flat_programs.specs.declared.statements.FlatLine.{FlatLine}
 use Rattle.read_back.specs.PrintedArrays.{HasNoPrintedArrays}
@@ -46,10 +47,10 @@ module _ (q : Program) (flat : List FlatLine) (given : CanBeText q flat) (free :
   stmts = statements_read q flat
 
   abbrev wrong : Option ℕ
-  wrong = first_line (has_wrong_storage (names_of stmts) (placed_names stmts) stmts) stmts
+  wrong = storage_line (names_of stmts) (placed_names stmts) stmts
 
   abbrev ops : Option ℕ
-  ops = first_line (asks_too_much (names_of stmts) checked stmts) stmts
+  ops = lowest_line (is_too_great (names_of stmts) checked stmts) stmts
 
   -- the refusals up to those of words and operations
   abbrev refused_before : Option LayoutEnd → Option LayoutEnd

@@ -6,8 +6,9 @@ use Rattle.f77_tree.specs.declared.programs.Program.{Program}
 use Rattle.f77_tree.specs.declared.statements.Labelled.{Labelled}
 use Rattle.f77_layout.specs.declared.layout_end.LayoutEnd.{LayoutEnd}
 use Rattle.f77_layout.specs.declared.layout_end.LayoutEnd.TheVariants.{TooManyOps}
-use Rattle.f77_layout.specs.Counts.{asks_too_much}
-use Rattle.f77_layout.specs.Faults.{first_line, first_answer, answer_or}
+use Rattle.f77_layout.specs.Counts.{is_too_great}
+use Rattle.f77_layout.specs.Faults.{first_answer, answer_or}
+use Rattle.f77_layout.specs.LowestLines.{lowest_line}
 use Rattle.f77_layout.specs.Layout.{names_of, at_line, refusals_of_form, refusal, HasForm, program, layout, unless_refused, last_line}
 use Rattle.f77_source.specs.declared.source_end.Code.TheVariants as code
 use Rattle.f77_source.specs.declared.source_end.Refusal.{Refusal}
@@ -25,7 +26,7 @@ later_answer {A} {B} f (x ∷ xs) ys none = by (f x) none (λ rest. later_answer
 
 module _ (stmts : List Labelled) (checked : Bool) (p : Program) (form : HasForm stmts) (is : program stmts checked ≡ p) where
   abbrev ops : Option ℕ
-  ops = first_line (asks_too_much (names_of stmts) checked stmts) stmts
+  ops = lowest_line (is_too_great (names_of stmts) checked stmts) stmts
 
   only_operations : refusal stmts checked ≡ answer_or (at_line TooManyOps ops) None
   only_operations = later_answer (λ r. r) (refusals_of_form stmts) (at_line TooManyOps ops ∷ []) form

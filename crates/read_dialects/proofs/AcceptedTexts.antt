@@ -9,8 +9,9 @@ use Rattle.f77_tree.specs.declared.programs.Program.{Program}
 use Rattle.f77_tree.specs.declared.statements.Labelled.{Labelled}
 use Rattle.f77_layout.specs.declared.layout_end.LayoutEnd.{LayoutEnd}
 use Rattle.f77_layout.specs.declared.layout_end.LayoutEnd.TheVariants.{TooManyOps}
-use Rattle.f77_layout.specs.Counts.{asks_too_much}
-use Rattle.f77_layout.specs.Faults.{first_line, first_answer, answer_or}
+use Rattle.f77_layout.specs.Counts.{is_too_great}
+use Rattle.f77_layout.specs.Faults.{first_answer, answer_or}
+use Rattle.f77_layout.specs.LowestLines.{lowest_line}
 use Rattle.f77_layout.specs.Layout.{at_line, names_of, refusals_of_form, refusal, HasForm, program, layout, unless_refused, last_line}
 use Rattle.f77_source.specs.declared.source_end.Code.TheVariants as code
 use Rattle.f77_source.specs.declared.source_end.Refusal.{Refusal}
@@ -43,7 +44,7 @@ module _ (checked : Bool) (p : Program) where
     are-laid : program_laid (last_line stmts) (layout stmts checked) ≡ Ok p → AreLaid stmts checked p
     are-laid is =
         let both = not-refused (refusal stmts checked) is in
-        let last : List (Option LayoutEnd) = at_line TooManyOps (first_line (asks_too_much (names_of stmts) checked stmts) stmts) ∷ [] in
+        let last : List (Option LayoutEnd) = at_line TooManyOps (lowest_line (is_too_great (names_of stmts) checked stmts) stmts) ∷ [] in
         record { form = none-before (λ r. r) (refusals_of_form stmts) last both.0; is = both.1 }
 
   statements-laid : (bytes : List ℕ) (raws : List RawStmt) (o : Result (List Labelled) Refusal) → lines.reading bytes ≡ Ok raws → statements_of raws ≡ o → program_of checked o ≡ Ok p → Reads bytes checked p

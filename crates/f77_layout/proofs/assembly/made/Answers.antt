@@ -5,6 +5,7 @@ use Rattle.f77_layout.specs.Declarations.{all_commons, all_groups, all_inits}
 use Rattle.f77_layout.specs.Executables.{executables, is_do}
 use Rattle.f77_layout.specs.Layout.{names_of, placed_names, word_count}
 use Rattle.f77_layout.specs.PlacedNames.{with_places}
+use Rattle.f77_layout.proofs.FaultLines.{no-storage-fault, none-too-great}
 use Rattle.f77_layout.proofs.MadePrograms.{as-many, small-places, placed-is, are-places, items-right, data-right, program-is}
 use Rattle.f77_layout.proofs.assembly.made.Goals as goal
 
@@ -21,17 +22,20 @@ placed_names-requires-clause-few c =
 pub initial_words-requires-clause-members : goal.initial_words-requires-clause-members
 initial_words-requires-clause-members c =
     let words = c.requires.blocks.labelled.words in
-    rw words.named.table (rw c.as_slice.ensures.items (rw c.in_ok-inits.ensures (items-right c.args.stmts.now c.args.numbers.now words.numbered words.stored)))
+    rw words.named.table (rw c.as_slice.ensures.items (rw c.in_ok-inits.ensures (items-right c.args.stmts.now c.args.numbers.now words.numbered (no-storage-fault (names_of c.args.stmts.now) (placed_names c.args.stmts.now) c.args.stmts.now words.stored))))
 
 pub initial_words-requires-clause-places : goal.initial_words-requires-clause-places
 initial_words-requires-clause-places c =
     let words = c.requires.blocks.labelled.words in
-    rw words.named.table (rw c.deref-2.ensures.value (are-places c.args.stmts.now c.args.numbers.now words.numbered words.stored))
+    rw words.named.table (rw c.deref-2.ensures.value (are-places c.args.stmts.now c.args.numbers.now words.numbered (no-storage-fault (names_of c.args.stmts.now) (placed_names c.args.stmts.now) c.args.stmts.now words.stored)))
 
 pub initial_words-requires-clause-data : goal.initial_words-requires-clause-data
 initial_words-requires-clause-data c =
     let words = c.requires.blocks.labelled.words in
-    rw words.named.table (rw c.deref-2.ensures.value (rw c.as_slice.ensures.items (rw c.in_ok-inits.ensures (data-right c.args.stmts.now c.args.numbers.now words.numbered words.stored))))
+    rw words.named.table (rw c.deref-2.ensures.value (rw c.as_slice.ensures.items (rw c.in_ok-inits.ensures (data-right c.args.stmts.now c.args.numbers.now words.numbered (no-storage-fault (names_of c.args.stmts.now) (placed_names c.args.stmts.now) c.args.stmts.now words.stored)))))
+
+pub executables_of-requires-clause-modest : goal.executables_of-requires-clause-modest
+executables_of-requires-clause-modest c = rw c.requires.blocks.labelled.words.named.table (none-too-great (names_of c.args.stmts.now) c.args.checked c.args.stmts.now c.requires.modest)
 
 pub returns : goal.returns
 returns c =

@@ -6,13 +6,13 @@ use Rattle.f77_layout.proofs.assembly.numbers_of.Goals as goal
 pub place_names-requires : goal.place_names-requires
 place_names-requires c = rw c.requires.table (statements-known c.args.stmts.now)
 
-pub first_wrong_storage-requires-clause-as_many : goal.first_wrong_storage-requires-clause-as_many
-first_wrong_storage-requires-clause-as_many c =
+pub wrong_storage_line-requires-clause-as_many : goal.wrong_storage_line-requires-clause-as_many
+wrong_storage_line-requires-clause-as_many c =
     let stored = stored-placed c.args.stmts.now c.args.names.now c.in_ok-line.field-0 c.in-Right.storages c.in_ok-numbers-in-Right.numbers c.requires.table c.in-Right.is c.in_ok-line.ensures c.in_ok-numbers-in-Right.ensures in
     ap length c.deref.ensures.value ∙ as-many c.args.stmts.now c.in_ok-numbers-in-Right.numbers stored ∙ sym (ap length c.requires.table)
 
-pub first_wrong_storage-requires-clause-few : goal.first_wrong_storage-requires-clause-few
-first_wrong_storage-requires-clause-few c =
+pub wrong_storage_line-requires-clause-few : goal.wrong_storage_line-requires-clause-few
+wrong_storage_line-requires-clause-few c =
     let stored = stored-placed c.args.stmts.now c.args.names.now c.in_ok-line.field-0 c.in-Right.storages c.in_ok-numbers-in-Right.numbers c.requires.table c.in-Right.is c.in_ok-line.ensures c.in_ok-numbers-in-Right.ensures in
     rw c.deref.ensures.value stored.few
 

@@ -3,7 +3,7 @@ use Rattle.std.specs.List.{list_any}
 use Rattle.f77_tree.specs.declared.declarations.Member.{Member}
 use Rattle.f77_tree.specs.declared.declarations.InitPart.{InitPart}
 use Rattle.f77_tree.specs.declared.statements.Stmt.{Stmt}
-use Rattle.f77_layout.specs.StorageFaults.{is_member, members_of, is_data}
+use Rattle.f77_layout.specs.StorageFaults.{is_member, members_of}
 use Rattle.f77_layout.proofs.FlatParts.{list_any-flat_map}
 use Rattle.f77_layout.proofs.data.is_wrong.Goals as goal
 
@@ -13,7 +13,5 @@ are_wrong_parts-requires-clause-members c =
     ap (λ (parts : List InitPart). list_any (λ part. list_any is_wrong_member part.items) parts) c.as_slice.ensures.items
     ∙ sym (list_any-flat_map is_wrong_member (λ (part : InitPart). part.items) c.in-Init.parts)
     ∙ ap (λ (stmt : Stmt). list_any is_wrong_member (members_of stmt)) (sym c.in-Init.is)
-    ∙ c.requires.members
-
-pub are_wrong_parts-requires-clause-places : goal.are_wrong_parts-requires-clause-places
-are_wrong_parts-requires-clause-places c = c.requires.places (ap is_data c.in-Init.is)
+    ∙ sym c.has_wrong.ensures
+    ∙ c.if-has_wrong.false

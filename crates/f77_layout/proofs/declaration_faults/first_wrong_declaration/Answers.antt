@@ -1,5 +1,5 @@
 use Rattle.std.proofs.Common.{take, sym, ◌∙◌}
-use Rattle.f77_layout.specs.StorageFaults.{has_wrong_declaration}
+use Rattle.f77_layout.specs.StorageLines.{declares_wrongly}
 use Rattle.f77_layout.proofs.FirstLine.{first_after-here}
 use Rattle.f77_layout.proofs.declaration_faults.first_wrong_declaration.Goals as goal
 
@@ -8,4 +8,4 @@ returns-then-branch c =
     let stmts = c.args.stmts.now in
     let i = c.loop-s.s-index in
     let wrong = c.in_ok-is_wrong.ensures.wrong (take i stmts) c.loop-s.invariant.declared in
-    sym (c.loop-s.invariant.first ∙ first_after-here (has_wrong_declaration c.args.names.now) stmts i c.s-item.result c.loop-s-test.true c.s-item.is (sym wrong ∙ c.if-branch.true))
+    sym (c.loop-s.invariant.first ∙ first_after-here (declares_wrongly c.args.names.now) stmts i c.s-item.result c.loop-s-test.true c.s-item.is (sym wrong ∙ c.if-branch.true))

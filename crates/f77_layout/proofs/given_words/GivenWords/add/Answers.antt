@@ -1,12 +1,16 @@
-use Rattle.std.proofs.Common.{sym, ◌∙◌}
+use Rattle.std.proofs.Common.{◌++◌}
 use Rattle.std.specs.Ordering.{nat_cmp}
 use Rattle.std.specs.BTreeMap.{get}
-use Rattle.std.proofs.lemmas.Bool.{not-true}
-use Rattle.f77_layout.proofs.GivenWordLemmas.{holds_after, is_other}
+use Rattle.f77_tree.specs.InitialWords.{words_from}
+use Rattle.f77_layout.proofs.GivenWordLemmas.{is_other}
+use Rattle.f77_layout.proofs.MergedWords.{beside-words, holds_all}
 use Rattle.f77_layout.proofs.given_words.GivenWords.add.Goals as goal
 
 pub returns-clause-added : goal.returns-clause-added
-returns-clause-added c = λ seen holds is.
-    let first = c.args.first in
+returns-clause-added c = λ seen holds.
+    let words = seen ++ words_from c.args.first c.args.len in
+    let beside = beside-words (get nat_cmp c.args.self.now.ends) seen holds c.args.first c.args.len in
+    let out = c.take_out-from.ensures in
     let updates = c.in_ok-insert.ensures.updates in
-    holds_after (get nat_cmp c.args.self.now.ends) seen holds first c.args.len (get nat_cmp c.insert.new.self) updates.1 (λ q ne. updates.2 q (is_other first q ne)) c.requires.some (not-true _ (sym (c.is_free.ensures seen holds) ∙ c.if-not-is_free.false))
+    let from = c.take_out-from.result.0 in
+    holds_all (get nat_cmp c.take_out-from.new.self.ends) (get nat_cmp c.insert.new.self) from c.take_out-from.result.1 words (out.beside words beside) (out.clear words beside) out.some updates.1 (λ q ne. updates.2 q (is_other from q ne))
