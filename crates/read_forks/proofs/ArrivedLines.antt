@@ -1,9 +1,8 @@
 -- Lines that are opened one after another.
-use Rattle.std.proofs.Common.{◌≡◌, ◌<◌, ◌≤◌, ◌⊎◌, ⊎_elim, inl, inr, ℕ, zero, suc, Vec, Global, ◌+◌, ◌==◌, ◌||◌, Bool, true, false, List, [], ◌∷◌, ◌++◌, length, take, Some, slice_get, refl, sym, ap, ◌∙◌, subst, eqb-true, arith}
+use Rattle.std.proofs.Common.{◌≡◌, ◌<◌, ◌≤◌, ◌⊎◌, ⊎_elim, inl, inr, ℕ, zero, suc, ◌+◌, ◌==◌, ◌||◌, Bool, true, false, List, [], ◌∷◌, ◌++◌, length, take, Some, slice_get, refl, sym, ap, ◌∙◌, subst, arith}
 use Rattle.std.specs.List.{list_any}
 use Rattle.std.proofs.lemmas.Bool.{eq-eqb, ne_eqb}
 use Rattle.std.proofs.lemmas.List.Folds.{list_any-append}
-use Rattle.list_laws.specs.Member.{Member}
 use Rattle.list_laws.proofs.Members.{list_any_member}
 use Rattle.firing.specs.declared.system.NodeName.{NodeName}
 use Rattle.firing.specs.declared.system.NodeName.TheVariants.{Act, Merge, Op, Switch}
@@ -11,17 +10,17 @@ use Rattle.net_board.proofs.ListPlaces.{same_or_not}
 use Rattle.net_board.proofs.ListPrefixes.{HasItem, item_at, member_at, take_more}
 use Rattle.net_board.proofs.NodeLaws.{Distinct, one_place}
 use Rattle.op_board.specs.OperationNets.{OperationNet, operation_node}
-use Rattle.op_board.specs.OperationTokens.{OperationTokens}
+use Rattle.op_board.specs.OperationTokens.{OperationTokens, passed_by}
 use Rattle.op_net.specs.ApartLoads.{KeepsApart, flags_of}
 use Rattle.op_net.specs.NetView.{marking_of as operations_on, net_of as net_in}
 use Rattle.op_net.specs.Waits.{node_total}
 use Rattle.op_net.specs.declared.net.OpNet.{OpNet}
 use Rattle.fork_board.specs.ForkTokens.{is_load_node}
 use Rattle.read_forks.specs.KeptLoads.{AreKept, AreOpened, IsOpenForNone, opened_of}
-use Rattle.read_forks.specs.LedLines.{IsLedOn}
+use Rattle.read_forks.specs.LedLines.{HasGoneOn, IsLedOn}
 use Rattle.read_forks.specs.LoadChanges.{Loaded}
 use Rattle.read_forks.specs.MarkedNets.{AreLoadsApart}
-use Rattle.read_forks.specs.NodeLinks.{IsStep, moved_lines}
+use Rattle.read_forks.specs.NodeLinks.{IsStep, is_turn, linked_lines, moved_lines}
 use Rattle.read_forks.specs.OpenGroups.{is_near_in}
 use Rattle.read_forks.specs.WaitingLoads.{IsRemarked, KeepsMarks}
 use Rattle.read_forks.specs.declared.steps.Link.{Link}
@@ -93,10 +92,10 @@ one_link_opened x m links n link at old new are other there =
     subst (λ (l : Link). AreOpened x m (l.line ∷ []) old new) same are
 
 -- what comes of a line that is opened, after the net has been asked where it was led to
-pub record IsFollowed {W : ℕ} (links : List Link) (n : ℕ) (w v : Waiting) (old new : OpNet W) : Type 0 where
+pub record IsArrived {W : ℕ} (line : ℕ) (w v : Waiting) (old new : OpNet W) : Type 0 where
   pub rest : IsRemarked old new
   pub kept : AreKept (net_in old) (operations_on old) v
-  pub opened : (link : Link) → slice_get links n ≡ Some link → AreOpened (net_in old) (operations_on old) (link.line ∷ []) (opened_of (net_in old) w) (opened_of (net_in old) v)
+  pub opened : AreOpened (net_in old) (operations_on old) (line ∷ []) (opened_of (net_in old) w) (opened_of (net_in old) v)
   pub marks : KeepsMarks (net_in old) (operations_on old) w.closed.items v.closed.items (flags_of old) (flags_of new)
   pub steps : v.steps ≡ w.steps
 
@@ -108,16 +107,16 @@ module _ {W : ℕ} where
     marks = λ k low inside loads right. kept.flags k (apart k (subst (λ (y : OperationNet). k < node_total y) (sym net) low) ∙ ap (λ (y : OperationNet). is_load_node y (operation_node y k)) net ∙ loads) ∙ right;
   }
 
-  pub led_arrived : (old mid new : OpNet W) (w v : Waiting) (n : ℕ) (link : Link) → slice_get w.links.items n ≡ Some link → IsRemarked old mid → KeepsApart old mid → AreLoadsApart old → IsRemarked mid new → AreKept (net_in mid) (operations_on mid) v
-      → AreOpened (net_in mid) (operations_on mid) (link.line ∷ []) (opened_of (net_in mid) w) (opened_of (net_in mid) v)
-      → KeepsMarks (net_in mid) (operations_on mid) w.closed.items v.closed.items (flags_of mid) (flags_of new) → v.steps ≡ w.steps → IsFollowed w.links.items n w v old new
-  led_arrived old mid new w v n link at rest apart are_apart again kept opened marks steps =
+  pub led_arrived : (old mid new : OpNet W) (w v : Waiting) (line : ℕ) → IsRemarked old mid → KeepsApart old mid → AreLoadsApart old → IsRemarked mid new → AreKept (net_in mid) (operations_on mid) v
+      → AreOpened (net_in mid) (operations_on mid) (line ∷ []) (opened_of (net_in mid) w) (opened_of (net_in mid) v)
+      → KeepsMarks (net_in mid) (operations_on mid) w.closed.items v.closed.items (flags_of mid) (flags_of new) → v.steps ≡ w.steps → IsArrived line w v old new
+  led_arrived old mid new w v line rest apart are_apart again kept opened marks steps =
       let x = net_in old in
       let m = operations_on old in
       record {
         rest = remarked_twice old mid new rest again;
         kept = kept_there (net_in mid) x (operations_on mid) m v (sym rest.net) (sym rest.marking) kept;
-        opened = one_link_opened x m w.links.items n link at (opened_of x w) (opened_of x v) (opened_there x (net_in mid) m (operations_on mid) rest.net rest.marking (link.line ∷ []) w v opened);
+        opened = opened_there x (net_in mid) m (operations_on mid) rest.net rest.marking (line ∷ []) w v opened;
         marks = kept_twice x m w.closed.items w.closed.items v.closed.items (flags_of old) (flags_of mid) (flags_of new) (same_marks x m w.closed.items old mid refl apart are_apart)
             (marks_there x (net_in mid) m (operations_on mid) rest.net rest.marking w.closed.items v.closed.items (flags_of mid) (flags_of new) marks);
         steps = steps;
@@ -166,20 +165,46 @@ module _ {W : ℕ} where
           below : (l : ℕ) → l < line + 1 → (line ≡ l → ⊥) → l < line
           below l low differ = ⊎_elim (λ (e : l < line). e) (λ (h : line ≤ l). absurd (differ (omega (arith, low, h)))) (Rattle.op_board.proofs.PieceLines.low_or_high l line)
 
--- ---- the lines that a node has led on
+-- ---- the line that a switch or a merge has led on
 
-one_line : (line : ℕ) → Distinct (line ∷ [])
-one_line line = ((λ among. among), tt)
+-- the line has left a piece, and is open for no load yet
+pub record IsTurned (x : OperationNet) (m : OperationTokens) (opened : Loaded) (line : ℕ) : Type 0 where
+  pub exists : line < x.net.routing.lines
+  pub passed : passed_by m line ≡ 0
+  pub none : IsOpenForNone opened line
 
-pub moved_distinct : (x : OperationNet) (name : NodeName) → Distinct (moved_lines x name)
-moved_distinct x (Op piece i) = needed_distinct x piece i
-moved_distinct x (Switch piece line) = one_line line
-moved_distinct x (Merge piece line) = one_line line
-moved_distinct x (Act piece) = one_line 0
+turned_nothing : (x : OperationNet) (m : OperationTokens) (name : NodeName) (line : ℕ) → is_turn name ≡ true → HasGoneOn x m name line → passed_by m line ≡ 0
+turned_nothing x m (Op piece i) line turns gone = let e : false ≡ true = turns in absurd cc
+turned_nothing x m (Switch piece own) line turns gone = gone
+turned_nothing x m (Merge piece own) line turns gone = gone
+turned_nothing x m (Act piece) line turns gone = gone
+
+module _ (x : OperationNet) (m : OperationTokens) (name : NodeName) (line : ℕ) (moves : moved_lines x name ≡ line ∷ []) where
+  pub turn_led : (opened : Loaded) → is_turn name ≡ true → ((l : ℕ) → list_any (λ n. n == l) (moved_lines x name) ≡ true → IsLedOn x m opened name l) → IsTurned x m opened line
+  turn_led opened turns led =
+      let own : IsLedOn x m opened name line = led line (subst (λ (ls : List ℕ). list_any (λ (n : ℕ). n == line) ls ≡ true) (sym moves) (is_own line)) in
+      record { exists = own.exists; passed = turned_nothing x m name line turns own.gone; none = own.none }
+
+  pub turn_opened : (old new : Loaded) → AreOpened x m (line ∷ []) old new → AreOpened x m (moved_lines x name) old new
+  turn_opened old new are = subst (λ (ls : List ℕ). AreOpened x m ls old new) (sym moves) are
+
+-- ---- the lines that an operation has led on
+
+linked_distinct : (x : OperationNet) (name : NodeName) → Distinct (linked_lines x name)
+linked_distinct x (Op piece i) = needed_distinct x piece i
+linked_distinct x (Switch piece line) = tt
+linked_distinct x (Merge piece line) = tt
+linked_distinct x (Act piece) = tt
+
+pub all_linked : (x : OperationNet) (name : NodeName) → is_turn name ≡ false → linked_lines x name ≡ moved_lines x name
+all_linked x (Op piece i) operates = refl
+all_linked x (Switch piece line) operates = let e : true ≡ false = operates in absurd cc
+all_linked x (Merge piece line) operates = let e : true ≡ false = operates in absurd cc
+all_linked x (Act piece) operates = let e : true ≡ false = operates in absurd cc
 
 module _ {W : ℕ} where
   abbrev pub lines_of : OpNet W → (k : ℕ) → List ℕ
-  lines_of net k = moved_lines (net_in net) (operation_node (net_in net) k)
+  lines_of net k = linked_lines (net_in net) (operation_node (net_in net) k)
 
   -- so many of its lines have been opened, and the others are led on
   pub record AreLedOpen (k j : ℕ) (first w : Waiting) (old now : OpNet W) : Type 0 where
@@ -232,17 +257,17 @@ module _ {W : ℕ} where
 
       apart : (n l : ℕ) → j + 1 ≤ n → slice_get lines n ≡ Some l → line ≡ l → ⊥
       apart n l high is same =
-          let e : j ≡ n = one_place lines j n line (moved_distinct x (operation_node x k)) at (is ∙ ap (λ (i : ℕ). Some i) (sym same)) in
+          let e : j ≡ n = one_place lines j n line (linked_distinct x (operation_node x k)) at (is ∙ ap (λ (i : ℕ). Some i) (sym same)) in
           omega (arith, high, e)
 
   -- the node has a link for each of its lines
-  pub step_lines : (k j : ℕ) (step : Step) (first w : Waiting) (old now : OpNet W) → AreLedOpen k j first w old now → slice_get first.steps.items k ≡ Some step → step.count ≡ length (lines_of old k)
-  step_lines k j step first w old now amid own = (amid.kept.tables.steps.each k step (subst (λ (v : Vec Step Global). slice_get v.items k ≡ Some step) (sym amid.steps) own)).has_links.count
+  pub step_lines : (k j : ℕ) (step : Step) (first w : Waiting) (old now : OpNet W) → AreLedOpen k j first w old now → slice_get first.steps k ≡ Some step → step.count ≡ length (lines_of old k)
+  step_lines k j step first w old now amid own = (amid.kept.tables.steps.each k step (subst (λ (v : List Step). slice_get v k ≡ Some step) (sym amid.steps) own)).has_links.count
 
   -- the next link
-  module _ (k j : ℕ) (step : Step) (first w : Waiting) (old now : OpNet W) (amid : AreLedOpen k j first w old now) (own : slice_get first.steps.items k ≡ Some step) (low : j < step.count) where
+  module _ (k j : ℕ) (step : Step) (first w : Waiting) (old now : OpNet W) (amid : AreLedOpen k j first w old now) (own : slice_get first.steps k ≡ Some step) (low : j < step.count) where
     pub step_is : IsStep (net_in old) w.links.items k step
-    step_is = amid.kept.tables.steps.each k step (subst (λ (v : Vec Step Global). slice_get v.items k ≡ Some step) (sym amid.steps) own)
+    step_is = amid.kept.tables.steps.each k step (subst (λ (v : List Step). slice_get v k ≡ Some step) (sym amid.steps) own)
 
     pub link_inside : step.first + j < length w.links.items
     link_inside = let inside = step_is.has_links.inside in omega (arith, inside, low)

@@ -31,7 +31,7 @@ use Rattle.read_forks.proofs.PutLines.{put_sound}
 use Rattle.read_forks.proofs.SameLinks.{AreSameLinks, get_set_here, same_ways, set_links, set_ways}
 
 -- what is told of a link that is about to be closed
-module _ (x : OperationNet) (m : OperationTokens) (w : Waiting) (k : ℕ) (step : Step) (at : ℕ) (comes : OperationsCanCome x m) (kept : AreLinesKept x m w) (own : slice_get w.steps.items k ≡ Some step) (name : operation_node x k ≡ Op step.piece step.number)
+module _ (x : OperationNet) (m : OperationTokens) (w : Waiting) (k : ℕ) (step : Step) (at : ℕ) (comes : OperationsCanCome x m) (kept : AreLinesKept x m w) (own : slice_get w.steps k ≡ Some step) (name : operation_node x k ≡ Op step.piece step.number)
     (from : step.first ≤ at) (below : at < step.first + step.count) where
   is_step : IsStep x w.links.items k step
   is_step = kept.tables.steps.each k step own
@@ -92,7 +92,7 @@ module _ (x : OperationNet) (m : OperationTokens) (w : Waiting) (k : ℕ) (step 
       pub put_is : IsPut line step.piece step.number false (opened_of x w) after
       put_is =
           subst (λ (b : Bool). IsPut line step.piece step.number b (opened_of x w) after) closed
-          (set_opened x w.steps.items links kept.tables.steps at link changed is changed_line changed_node step.piece step.number name_is)
+          (set_opened x w.steps links kept.tables.steps at link changed is changed_line changed_node step.piece step.number name_is)
 
       less : ComeOnce x → count_of (opened_of x w line) (group_at x line here_spot) ≡ suc (count_of (after line) (group_at x line here_spot))
       less once =
@@ -104,16 +104,16 @@ module _ (x : OperationNet) (m : OperationTokens) (w : Waiting) (k : ℕ) (step 
         some_left = let had = (group_is g was).left in let more = less once in omega (arith, had, more)
 
         -- the tables beside it
-        module _ (then_is : Waiting) (links_are : then_is.links.items ≡ then_links) (steps_are : then_is.steps.items ≡ w.steps.items) (givers_are : then_is.givers.items ≡ w.givers.items) (closed_are : then_is.closed.items ≡ w.closed.items) (h : Group) (h_is : h ≡ record g { left = g.left - 1 }) (groups_are : then_is.groups.items ≡ slice_set w.groups.items line h) where
+        module _ (then_is : Waiting) (links_are : then_is.links.items ≡ then_links) (steps_are : then_is.steps ≡ w.steps) (givers_are : then_is.givers.items ≡ w.givers.items) (closed_are : then_is.closed.items ≡ w.closed.items) (h : Group) (h_is : h ≡ record g { left = g.left - 1 }) (groups_are : then_is.groups.items ≡ slice_set w.groups.items line h) where
           tables : AreTables x then_is
           tables =
               let old : AreTables x w = kept.tables in
               let same : AreSameLinks links then_links = set_links links at link changed is changed_line changed_node in
-              let steps : AreSteps x w.steps.items then_links = set_steps x w.steps.items links old.steps at link changed is changed_line changed_node in
+              let steps : AreSteps x w.steps then_links = set_steps x w.steps links old.steps at link changed is changed_line changed_node in
               record {
-                steps = subst (λ (s : List Step). AreSteps x s then_is.links.items) (sym steps_are) (subst (λ (l : List Link). AreSteps x w.steps.items l) (sym links_are) steps);
+                steps = subst (λ (s : List Step). AreSteps x s then_is.links.items) (sym steps_are) (subst (λ (l : List Link). AreSteps x w.steps l) (sym links_are) steps);
                 ways = subst (λ (l : List Link). ∥ AreWays x l ∥₁) (sym links_are) (same_ways links then_links same x (set_ways links at link changed is changed_way) old.ways);
-                values = subst (λ (s : List Step). AreValueLoads x s then_is.givers.items) (sym steps_are) (subst (λ (l : List ℕ). AreValueLoads x w.steps.items l) (sym givers_are) old.values);
+                values = subst (λ (s : List Step). AreValueLoads x s then_is.givers.items) (sym steps_are) (subst (λ (l : List ℕ). AreValueLoads x w.steps l) (sym givers_are) old.values);
                 lines = ap length groups_are ∙ length_slice_set w.groups.items line h ∙ old.lines;
                 nodes = ap length closed_are ∙ old.nodes ∙ sym (ap length steps_are);
               }

@@ -1,5 +1,5 @@
 -- The lines of a load in turn, as links tell them.
-use Rattle.std.proofs.Common.{◌≡◌, ◌<◌, ◌≤◌, inl, ℕ, ◌+◌, ◌-◌, true, false, Vec, Global, List, ◌∷◌, length, drop, Some, slice_get, refl, sym, ap, ◌∙◌, subst, arith}
+use Rattle.std.proofs.Common.{◌≡◌, ◌<◌, ◌≤◌, inl, ℕ, ◌+◌, ◌-◌, true, false, List, ◌∷◌, length, drop, Some, slice_get, refl, sym, ap, ◌∙◌, subst, arith}
 use Rattle.list_laws.specs.Member.{Member}
 use Rattle.firing.specs.declared.system.NodeName.TheVariants.{Op}
 use Rattle.net_board.proofs.NodeLaws.{get_some}
@@ -13,7 +13,7 @@ use Rattle.fork_board.specs.Chains.{ComeOnce, GroupsEnd}
 use Rattle.read_forks.specs.KeptLoads.{AreClosedFor, AreLinesKept, opened_of}
 use Rattle.read_forks.specs.LoadChanges.{IsPut}
 use Rattle.read_forks.specs.LoadSteps.{line_read, lines_read}
-use Rattle.read_forks.specs.NodeLinks.{IsStep, moved_lines}
+use Rattle.read_forks.specs.NodeLinks.{IsStep, linked_lines}
 use Rattle.read_forks.specs.OpenGroups.{marking_by}
 use Rattle.read_forks.specs.RisingLinks.{line_at, line_in}
 use Rattle.read_forks.specs.declared.steps.Step.{Step}
@@ -36,7 +36,7 @@ pub record IsAmid {W : ℕ} (start : OpNet W) (first : Waiting) (step : Step) (a
   pub place : now.control ≡ start.control
   pub last : now.text.items ≡ start.text.items
 
-module _ {W : ℕ} (start : OpNet W) (first : Waiting) (k : ℕ) (step : Step) (own : slice_get first.steps.items k ≡ Some step) (name : operation_node (net_in start) k ≡ Op step.piece step.number) where
+module _ {W : ℕ} (start : OpNet W) (first : Waiting) (k : ℕ) (step : Step) (own : slice_get first.steps k ≡ Some step) (name : operation_node (net_in start) k ≡ Op step.piece step.number) where
   abbrev x : OperationNet
   x = net_in start
 
@@ -62,10 +62,10 @@ module _ {W : ℕ} (start : OpNet W) (first : Waiting) (k : ℕ) (step : Step) (
 
   module _ (at : ℕ) (now : OpNet W) (w : Waiting) (before : IsAmid start first step at now w) where
     is_step : IsStep x w.links.items k step
-    is_step = before.lines.tables.steps.each k step (ap (λ (steps : Vec Step Global). slice_get steps.items k) before.steps ∙ own)
+    is_step = before.lines.tables.steps.each k step (ap (λ (steps : List Step). slice_get steps k) before.steps ∙ own)
 
     count_is : step.count ≡ length all
-    count_is = is_step.has_links.count ∙ ap (λ n. length (moved_lines x n)) name
+    count_is = is_step.has_links.count ∙ ap (λ n. length (linked_lines x n)) name
 
     turn : at < step.first + step.count → slice_get all (at - step.first) ≡ Some (line_at w.links.items at)
     turn below =
@@ -73,7 +73,7 @@ module _ {W : ℕ} (start : OpNet W) (first : Waiting) (k : ℕ) (step : Step) (
         let inside = is_step.has_links.inside in
         let found = get_some x.net w.links.items at (omega (arith, below, inside)) in
         let one : step.first + (at - step.first) ≡ at = omega (arith, from) in
-        ap (λ n. slice_get (moved_lines x n) (at - step.first)) (sym name)
+        ap (λ n. slice_get (linked_lines x n) (at - step.first)) (sym name)
         ∙ is_step.has_links.line (at - step.first) found.0 (omega (arith, from, below)) (ap (slice_get w.links.items) one ∙ found.1)
         ∙ ap (λ (l : ℕ). Some l) (sym (ap line_in found.1))
 
@@ -81,7 +81,7 @@ module _ {W : ℕ} (start : OpNet W) (first : Waiting) (k : ℕ) (step : Step) (
     abbrev CanClose : OperationNet → Type 0
     CanClose y =
         (k < node_total y)
-        × ((slice_get w.steps.items k ≡ Some step)
+        × ((slice_get w.steps k ≡ Some step)
         × ((operation_node y k ≡ Op step.piece step.number)
         × ((step.first ≤ at)
         × ((at < step.first + step.count)
@@ -97,7 +97,7 @@ module _ {W : ℕ} (start : OpNet W) (first : Waiting) (k : ℕ) (step : Step) (
         let is : drop (at - step.first) all ≡ line ∷ drop ((at - step.first) + 1) all = next_left all (at - step.first) line (turn below) in
         let among : Member (drop (at - step.first) all) line = subst (λ (lines : List ℕ). Member lines line) (sym is) (inl refl) in
         subst (λ (y : OperationNet). CanClose y) (sym before.net)
-        (node, (ap (λ (steps : Vec Step Global). slice_get steps.items k) before.steps ∙ own, (name, (before.from, (below, (before.sound, (goes, (once, (before.lines, before.amid.wide line among)))))))))
+        (node, (ap (λ (steps : List Step). slice_get steps k) before.steps ∙ own, (name, (before.from, (below, (before.sound, (goes, (once, (before.lines, before.amid.wide line among)))))))))
 
     -- and what comes of it
     abbrev HasClosed : OperationNet → OpNet W → Waiting → Type 0

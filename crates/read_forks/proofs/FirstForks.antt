@@ -1,11 +1,11 @@
 -- The marking and the control before any firing, as code has them.
-use Rattle.std.proofs.Common.{◌≡◌, ◌<◌, ◌≤◌, ◌⊎◌, inl, inr, ℕ, ◌&&◌, Bool, true, false, not, length, Option, Some, None, refl, sym, ap, ◌∙◌, subst}
+use Rattle.std.proofs.Common.{◌≡◌, ◌<◌, ◌≤◌, ◌⊎◌, inl, inr, ℕ, ◌&&◌, Bool, true, false, not, length, Option, Some, refl, sym, ap, ◌∙◌, subst}
 use mathlib.Core.Path.{fun_ext}
 use Rattle.firing.specs.Control.{IsInStep, KeepsStep}
 use Rattle.firing.specs.SourceOrder.{IsSourceOrder}
 use Rattle.net_board.specs.declared.control.Control.{Control}
 use Rattle.net_board.specs.ControlCourse.{first_control}
-use Rattle.net_board.specs.Tokens.{edge_of, joined}
+use Rattle.net_board.specs.Tokens.{joined}
 use Rattle.op_board.specs.OperationNets.{OperationNet}
 use Rattle.op_board.specs.OperationTokens.{OperationTokens, first_operation_tokens, passed_by}
 use Rattle.op_board.proofs.PieceLines.{low_or_high}

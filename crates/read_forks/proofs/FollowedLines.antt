@@ -1,5 +1,5 @@
 -- Where lines stand that nodes which are no loads have let pass, by the ways that are looked up.
-use Rattle.std.proofs.Common.{◌≡◌, ◌<◌, ℕ, suc, ◌+◌, ◌==◌, ◌||◌, Bool, true, false, if◌then◌else◌, List, [], ◌∷◌, Option, Some, None, slice_get, refl, sym, ap, ◌∙◌, subst, eqb-true}
+use Rattle.std.proofs.Common.{◌≡◌, ◌<◌, ℕ, ◌+◌, ◌==◌, ◌||◌, Bool, true, false, if◌then◌else◌, List, [], ◌∷◌, Option, Some, None, slice_get, refl, sym, ap, ◌∙◌, subst, eqb-true}
 use Rattle.std.proofs.Props.{props}
 use mathlib.Core.Logic.{∥∥₁_elim}
 use Rattle.std.specs.List.{list_any}
@@ -8,11 +8,10 @@ use Rattle.firing.specs.declared.system.NodeName.{NodeName}
 use Rattle.firing.specs.declared.system.NodeName.TheVariants.{Act, Merge, Op, Switch}
 use Rattle.net_board.specs.Nodes.{graph_in}
 use Rattle.net_board.specs.Tokens.{edge_of}
-use Rattle.op_board.specs.OperationNets.{OperationNet, first_operation, needing_before, operation_at, operation_count, operation_node}
+use Rattle.op_board.specs.OperationNets.{OperationNet, first_operation, needing_before, operation_count, operation_node}
 use Rattle.op_board.specs.OperationTokens.{OperationTokens, passed_by}
 use Rattle.op_net.specs.OperationRows.{IsNextNeed}
-use Rattle.fork_board.specs.ForkTokens.{is_load_node}
-use Rattle.fork_board.specs.LoadGroups.{Site, Spot, is_load, load_at, load_in, most_loads, number_at, piece_at, site, spot}
+use Rattle.fork_board.specs.LoadGroups.{Site, Spot, load_at, load_in, most_loads, number_at, piece_at, site, spot}
 use Rattle.fork_board.proofs.LoadSpots.{number_there}
 use Rattle.read_forks.specs.KeptLoads.{AreOpened, IsOpenForNone}
 use Rattle.read_forks.specs.LedLines.{HasGoneOn, HasPassed}
@@ -23,7 +22,6 @@ use Rattle.read_forks.specs.Ways.{AreWays, IsHere, IsLinkAt, IsLinkOf, IsNodeHer
 use Rattle.read_forks.specs.declared.steps.Link.{Link}
 use Rattle.read_forks.specs.declared.ways.Way.{Way}
 use Rattle.read_forks.specs.declared.ways.Way.TheVariants.{Before, Behind, Here, Out, Over}
-use Rattle.read_forks.proofs.LoadFollows.{IsLoadWith, load_with_is}
 use Rattle.read_forks.proofs.LoadWalks.{nowhere}
 
 -- ---- lines before which no load stands

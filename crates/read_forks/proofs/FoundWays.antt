@@ -15,7 +15,7 @@ use Rattle.fork_board.specs.ForkTokens.{is_load_node}
 use Rattle.fork_board.specs.LoadGroups.{Site, is_load, load_at, number_at, piece_at, spot}
 use Rattle.fork_board.proofs.LoadSpots.{IsLoadIn, IsNumberAt, load_is, number_is}
 use Rattle.read_forks.specs.MadeSteps.{AreShut, AreWaysBelow}
-use Rattle.read_forks.specs.NodeLinks.{AreSteps, IsStep, moved_lines}
+use Rattle.read_forks.specs.NodeLinks.{AreSteps, IsStep, linked_lines}
 use Rattle.read_forks.specs.RisingLinks.{HasLine, line_at}
 use Rattle.read_forks.specs.Ways.{AreWays, IsLinkAt, IsWay, IsWayOf, led_from_load}
 use Rattle.read_forks.specs.declared.steps.Link.{Link}
@@ -203,7 +203,7 @@ module _ (x : OperationNet) (steps : List Step) (links : List Link) (are : AreSt
         let from = from_first in
         let below = (are.own at link is).below step there in
         let place : step.first + (at - step.first) ≡ at = omega (arith, from) in
-        sym (ap (λ (n : NodeName). slice_get (moved_lines x n) (at - step.first)) own_name) ∙ own.has_links.line (at - step.first) link (omega (arith, from, below)) (ap (slice_get links) place ∙ is)
+        sym (ap (λ (n : NodeName). slice_get (linked_lines x n) (at - step.first)) own_name) ∙ own.has_links.line (at - step.first) link (omega (arith, from, below)) (ap (slice_get links) place ∙ is)
 
     pub way_of_link : (way : Way) → ∥ IsWay x links step.piece step.number link.line way ∥₁ → (one : Link) → slice_get links at ≡ Some one → ∥ IsWayOf x links (operation_node x one.node) one.line way ∥₁
     way_of_link way told = same_way_at way (subst (λ (n : NodeName). ∥ IsWayOf x links n link.line way ∥₁) (sym own_name) told)

@@ -8,12 +8,12 @@ use Rattle.closed_walks.specs.Graph.{to}
 use Rattle.cfg_build.specs.Passes.{out}
 use Rattle.firing.specs.declared.system.NodeName.TheVariants.{Op}
 use Rattle.net_board.specs.Nodes.{graph_in}
-use Rattle.net_board.specs.Tokens.{edge_of, is_before, joined, led_from, leads_to, with_all}
+use Rattle.net_board.specs.Tokens.{edge_of, is_before, joined, led_from, leads_to}
 use Rattle.net_board.proofs.ListPlaces.{all_pass, put, with_all_other, with_all_same}
 use Rattle.net_board.proofs.NodeLaws.{get_some}
 use Rattle.op_board.specs.Effects.{Effect}
 use Rattle.op_board.specs.Operations.{Operation}
-use Rattle.op_board.specs.OperationNets.{OperationNet, is_last_at, last_needed, needed, needing_before, operation_at}
+use Rattle.op_board.specs.OperationNets.{OperationNet, last_needed, needed, needing_before, operation_at}
 use Rattle.op_board.specs.OperationTokens.{OperationTokens, has_room, is_given, operated, operated_on, passed_after, passed_by, ready_as, replaced, stands_before, stopped_by, value_at, zero_effect}
 use Rattle.op_board.specs.SoundOperationNets.{IsOperationMarking}
 use Rattle.op_board.proofs.NeededLines.{last_has, needed_has}

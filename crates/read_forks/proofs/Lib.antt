@@ -51,3 +51,4 @@ pub mod PlannedNodes
 pub mod OpenedSteps
 pub mod OpenedGroupsKept
 pub mod LoadsBefore
+pub mod PushedSteps

@@ -1,5 +1,5 @@
 -- A net in which a load has fired, and whose lines are closed for it.
-use Rattle.std.proofs.Common.{◌≡◌, ◌<◌, ℕ, ℤ, Vec, Global, Bool, true, false, not, List, length, set, Option, Some, None, is_some, slice_get, refl, sym, ap, ◌∙◌, subst, length-set, arith}
+use Rattle.std.proofs.Common.{◌≡◌, ◌<◌, ℕ, ℤ, Bool, true, false, not, List, length, set, Option, Some, None, is_some, slice_get, refl, sym, ap, ◌∙◌, subst, length-set, arith}
 use Rattle.std.specs.List.{list_all}
 use Rattle.std.proofs.lemmas.List.{get_or-set_same}
 use Rattle.list_laws.specs.Member.{Member}
@@ -24,7 +24,7 @@ use Rattle.read_forks.specs.ForkView.{KeepsSet, marking_of, net_of}
 use Rattle.read_forks.specs.KeptLoads.{AreClosedFor, AreKept, AreLinesKept, opened_of}
 use Rattle.read_forks.specs.LoadChanges.{Loaded}
 use Rattle.read_forks.specs.LoadSteps.{lines_read}
-use Rattle.read_forks.specs.NodeLinks.{IsStep, moved_lines}
+use Rattle.read_forks.specs.NodeLinks.{IsStep, linked_lines}
 use Rattle.read_forks.specs.OpenGroups.{marking_by}
 use Rattle.read_forks.specs.Retests.{takes}
 use Rattle.read_forks.specs.WaitingLoads.{IsRemarked, KeepsMarks, waits_for_nothing}
@@ -63,7 +63,7 @@ module _ (x y : OperationNet) (m n : OperationTokens) (net : y ≡ x) (marking :
   pub taken_there : IsTaken y n k closed before after → IsTaken x m k closed before after
   taken_there is = subst (λ (t : OperationTokens). IsTaken x t k closed before after) marking (subst (λ (z : OperationNet). IsTaken z n k closed before after) net is)
 
-module _ {W : ℕ} (s : ForkNet W) (k : ℕ) (step : Step) (sound : ForksCanCome (net_of s) (marking_of s)) (can : CanFire (fork_moves (net_of s)) (marking_of s) k) (own : slice_get s.waiting.steps.items k ≡ Some step) (loads : is_load_node (net_of s) (operation_node (net_of s) k) ≡ true) where
+module _ {W : ℕ} (s : ForkNet W) (k : ℕ) (step : Step) (sound : ForksCanCome (net_of s) (marking_of s)) (can : CanFire (fork_moves (net_of s)) (marking_of s) k) (own : slice_get s.waiting.steps k ≡ Some step) (loads : is_load_node (net_of s) (operation_node (net_of s) k) ≡ true) where
   abbrev x : OperationNet
   x = net_of s
 
@@ -110,7 +110,7 @@ module _ {W : ℕ} (s : ForkNet W) (k : ℕ) (step : Step) (sound : ForksCanCome
   }
 
   count_is : step.count ≡ length all
-  count_is = is_step.has_links.count ∙ ap (λ n. length (moved_lines x n)) name
+  count_is = is_step.has_links.count ∙ ap (λ n. length (linked_lines x n)) name
 
   module _ (w : Waiting) (closed : w.closed.items ≡ set s.waiting.closed.items k step.count) (links : w.links ≡ s.waiting.links) (steps : w.steps ≡ s.waiting.steps) (givers : w.givers ≡ s.waiting.givers) (groups : w.groups ≡ s.waiting.groups) where
     same_but : (v : Waiting) → v ≡ record s.waiting { closed = w.closed } → AreLinesKept x performed v
@@ -136,7 +136,7 @@ module _ {W : ℕ} (s : ForkNet W) (k : ℕ) (step : Step) (sound : ForksCanCome
     abbrev AreClosable : OperationNet → OperationTokens → Type 0
     AreClosable y n =
         (k < node_total y)
-        × ((slice_get w.steps.items k ≡ Some step)
+        × ((slice_get w.steps k ≡ Some step)
         × ((operation_node y k ≡ Op step.piece step.number)
         × (OperationsCanCome y n
         × (GroupsEnd y
@@ -150,7 +150,7 @@ module _ {W : ℕ} (s : ForkNet W) (k : ℕ) (step : Step) (sound : ForksCanCome
         (subst (λ (n : OperationTokens). AreClosable x n) (sym marking) (
           can.node,
           (
-            ap (λ (v : Waiting). slice_get v.steps.items k) w_is ∙ own,
+            ap (λ (v : Waiting). slice_get v.steps k) w_is ∙ own,
             (
               name,
               (
@@ -208,8 +208,8 @@ module _ {W : ℕ} (s : ForkNet W) (k : ℕ) (step : Step) (sound : ForksCanCome
       pub kept_steered : AreKept (net_in steered) (operations_on steered) v
       kept_steered = kept_there x (net_in steered) (operations_on shut) (operations_on steered) v net_steered steered_marking kept_shut
 
-      pub steps_steered : v.steps ≡ s.waiting.steps → slice_get v.steps.items k ≡ Some step
-      steps_steered is = ap (λ (a : Vec Step Global). slice_get a.items k) is ∙ own
+      pub steps_steered : v.steps ≡ s.waiting.steps → slice_get v.steps k ≡ Some step
+      steps_steered is = ap (λ (a : List Step). slice_get a k) is ∙ own
 
       -- ---- and loads are tested
 

@@ -16,7 +16,7 @@ use Rattle.fork_board.specs.ForkTokens.{is_load_node}
 use Rattle.fork_board.specs.LoadGroups.{Site, load_at, load_in, number_at, piece_at, site, spot}
 use Rattle.fork_board.proofs.ForkFirings.{both_ways}
 use Rattle.fork_board.proofs.LoadSpots.{IsLoadIn, IsNumberAt, load_is, number_is, number_there}
-use Rattle.read_forks.specs.NodeLinks.{HasLinks, IsStep, moved_lines}
+use Rattle.read_forks.specs.NodeLinks.{HasLinks, IsStep, linked_lines}
 use Rattle.read_forks.specs.RisingLinks.{HasLine, line_at, line_in}
 use Rattle.read_forks.specs.Ways.{IsLinkAt, IsLinkOf}
 use Rattle.read_forks.specs.declared.steps.Link.{Link}
@@ -123,11 +123,11 @@ module _ (x : OperationNet) (links : List Link) (k : ℕ) (step : Step) (is : Is
   pub has_line : operation_node x k ≡ Op piece number → line < x.net.routing.lines → x.needs piece number line ≡ true → HasLine links line step.first (step.first + step.count)
   has_line name low needs =
       let has : HasLinks x links k step = is.has_links in
-      let lines : moved_lines x (operation_node x k) ≡ needed x piece number = ap (moved_lines x) name in
+      let lines : linked_lines x (operation_node x k) ≡ needed x piece number = ap (linked_lines x) name in
       let at : IsPlaced (needed x piece number) line = placed (needed x piece number) line (needed_in x piece number line low needs) in
       let j = at.place in
-      let there : slice_get (moved_lines x (operation_node x k)) j ≡ Some line = ap (λ ls. slice_get ls j) lines ∙ at.is in
-      let inside = within (moved_lines x (operation_node x k)) j line there in
+      let there : slice_get (linked_lines x (operation_node x k)) j ≡ Some line = ap (λ ls. slice_get ls j) lines ∙ at.is in
+      let inside = within (linked_lines x (operation_node x k)) j line there in
       let count = has.count in
       let room = has.inside in
       let found = get_some x.net links (step.first + j) (omega (arith, inside, count, room)) in

@@ -111,8 +111,8 @@ untaken_at x k j none low = by (operation_node x j) refl
 
 module _ (x : OperationNet) (k : ℕ) where
   -- no load takes its value where none does
-  pub no_load_taker : ((piece i : ℕ) → operation_node x k ≡ Op piece i → gives_value (operation_at x piece i).work ≡ false) → IsLoadTaker x k (node_total x)
-  no_load_taker none j low loads = untaken_at x k j none low ∙ sym (ap one_if (ne_eqb j (node_total x) (λ e. omega (arith, e, low))))
+  pub no_load_taker : ((piece i : ℕ) → operation_node x k ≡ Op piece i → gives_value (operation_at x piece i).work ≡ false) → (none : ℕ) → node_total x ≤ none → IsLoadTaker x k none
+  no_load_taker not none over j low loads = untaken_at x k j not low ∙ sym (ap one_if (ne_eqb j none (λ e. omega (arith, e, low, over))))
 
   -- or where the node that does is no load
   pub other_taker : (taker : ℕ) → ((j : ℕ) → j < node_total x → takes_from x (operation_node x j) k ≡ one_if (j == taker)) → is_load_node x (operation_node x taker) ≡ false → IsLoadTaker x k (node_total x)

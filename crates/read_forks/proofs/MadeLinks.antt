@@ -3,14 +3,15 @@ use Rattle.std.proofs.Common.{◌≡◌, ◌<◌, ◌≤◌, ⊎_elim, ℕ, zero
 use Rattle.std.specs.List.{range_with_len}
 use Rattle.std.proofs.lemmas.List.{length-append, length-map}
 use Rattle.list_laws.proofs.Members.{Member-filtered, Member-in_range}
-use Rattle.firing.specs.declared.system.NodeName.TheVariants.{Op}
+use Rattle.firing.specs.declared.system.NodeName.{NodeName}
+use Rattle.firing.specs.declared.system.NodeName.TheVariants.{Act, Merge, Op, Switch}
 use Rattle.net_board.proofs.NodeLaws.{get_left, get_right, get_some, member_at}
 use Rattle.op_board.specs.OperationNets.{OperationNet, needed, operation_node}
 use Rattle.op_board.proofs.ValueTaking.{below_or_not, get_end}
 use Rattle.op_net.specs.Waits.{node_total}
 use Rattle.fork_board.specs.ForkTokens.{is_load_node}
 use Rattle.read_forks.specs.MadeSteps.{AreStepsBelow, new_link_of}
-use Rattle.read_forks.specs.NodeLinks.{AreSteps, HasLinks, IsOwnLink, IsStep, moved_lines}
+use Rattle.read_forks.specs.NodeLinks.{AreSteps, HasLinks, IsOwnLink, IsStep, is_turn, linked_lines, turn_step}
 use Rattle.read_forks.specs.RisingLinks.{AreRising, line_at, line_in}
 use Rattle.read_forks.specs.declared.steps.Link.{Link}
 use Rattle.read_forks.specs.declared.steps.Step.{Step}
@@ -39,10 +40,6 @@ filter_rises test s (suc n) i j a b less first second = by (test s) (filter_rise
 
 pub needed_rise : (x : OperationNet) (piece i : ℕ) → DoRise (needed x piece i)
 needed_rise x piece i = filter_rises (x.needs piece i) 0 x.net.routing.lines
-
-pub one_rises : (line : ℕ) → DoRise (line ∷ [])
-one_rises line i zero a b less first second = absurd (omega (arith, less))
-one_rises line i (suc j) a b less first second = absurd cc
 
 -- ---- one of the links that are added
 
@@ -88,7 +85,7 @@ module _ (x : OperationNet) (n : ℕ) (steps : List Step) (links : List Link) (m
   -- ---- the nodes before it
 
   old_step : (k : ℕ) (s : Step) → IsStep x links k s → IsStep x all_links k s
-  old_step k s is = record { named = is.named; loads = is.loads; has_links = has; rise = rises }
+  old_step k s is = record { named = is.named; loads = is.loads; turns = is.turns; has_links = has; rise = rises }
     where
       same : (j : ℕ) → j < s.count → slice_get all_links (s.first + j) ≡ slice_get links (s.first + j)
       same j low = let i = is.has_links.inside in front (s.first + j) (omega (arith, low, i))
@@ -106,9 +103,9 @@ module _ (x : OperationNet) (n : ℕ) (steps : List Step) (links : List Link) (m
 
   -- ---- the node
 
-  module _ (low : n < node_total x) (moved : moved_lines x (operation_node x n) ≡ lines) (rise : DoRise lines)
+  module _ (low : n < node_total x) (linked : linked_lines x (operation_node x n) ≡ lines) (rise : DoRise lines)
       (named : (piece number : ℕ) → operation_node x n ≡ Op piece number → (step.piece ≡ piece) × (step.number ≡ number))
-      (loads : step.loads ≡ is_load_node x (operation_node x n)) (first : step.first ≡ length links) (count : step.count ≡ length lines) where
+      (loads : step.loads ≡ is_load_node x (operation_node x n)) (turns : step.turns ≡ is_turn (operation_node x n)) (first : step.first ≡ length links) (count : step.count ≡ length lines) where
     there : (j : ℕ) → slice_get all_links (step.first + j) ≡ slice_get all_links (length links + j)
     there j = ap (λ (f : ℕ). slice_get all_links (f + j)) first
 
@@ -117,10 +114,10 @@ module _ (x : OperationNet) (n : ℕ) (steps : List Step) (links : List Link) (m
 
     new_has : HasLinks x all_links n step
     new_has = record {
-      count = count ∙ sym (ap length moved);
+      count = count ∙ sym (ap length linked);
       inside = let l = longer in omega (arith, first, count, l);
       node = λ j link below at. let r : IsNew n lines j link = back j link (sym (there j) ∙ at) in ap (λ (l : Link). l.node) r.is;
-      line = λ j link below at. let r : IsNew n lines j link = back j link (sym (there j) ∙ at) in ap (λ (ls : List ℕ). slice_get ls j) moved ∙ r.at ∙ sym (ap (λ (l : Link). Some l.line) r.is);
+      line = λ j link below at. let r : IsNew n lines j link = back j link (sym (there j) ∙ at) in ap (λ (ls : List ℕ). slice_get ls j) linked ∙ r.at ∙ sym (ap (λ (l : Link). Some l.line) r.is);
     }
 
     new_rise : AreRising all_links step
@@ -133,7 +130,7 @@ module _ (x : OperationNet) (n : ℕ) (steps : List Step) (links : List Link) (m
         omega (arith, c, d, r)
 
     new_step : IsStep x all_links n step
-    new_step = record { named = named; loads = loads; has_links = new_has; rise = new_rise }
+    new_step = record { named = named; loads = loads; turns = turns; has_links = new_has; rise = new_rise }
 
     step_there : (s : Step) → slice_get all_steps n ≡ Some s → s ≡ step
     step_there s at = ⊎_elim
@@ -177,6 +174,60 @@ module _ (x : OperationNet) (n : ℕ) (steps : List Step) (links : List Link) (m
               from = λ s f. subst (λ (t : Step). t.first ≤ at) (sym (is s f)) (omega (arith, first, e));
               below = λ s f. subst (λ (t : Step). at < t.first + t.count) (sym (is s f)) (omega (arith, first, count, e, b));
             }
+
+-- ---- a node that is no operation
+
+turn_lines : (x : OperationNet) (name : NodeName) → is_turn name ≡ true → linked_lines x name ≡ []
+turn_lines x (Op piece i) turns = absurd cc
+turn_lines x (Switch piece line) turns = refl
+turn_lines x (Merge piece line) turns = refl
+turn_lines x (Act piece) turns = refl
+
+turn_loads : (x : OperationNet) (name : NodeName) → is_turn name ≡ true → is_load_node x name ≡ false
+turn_loads x (Op piece i) turns = absurd cc
+turn_loads x (Switch piece line) turns = refl
+turn_loads x (Merge piece line) turns = refl
+turn_loads x (Act piece) turns = refl
+
+pub turn_not : (name : NodeName) → is_turn name ≡ true → (piece i : ℕ) → name ≡ Op piece i → ⊥
+turn_not (Op p q) turns piece i is = absurd cc
+turn_not (Switch p line) turns piece i is = absurd cc
+turn_not (Merge p line) turns piece i is = absurd cc
+turn_not (Act p) turns piece i is = absurd cc
+
+module _ (x : OperationNet) (n : ℕ) (steps : List Step) (links : List Link) (made : AreStepsBelow x n steps links) (turns : is_turn (operation_node x n) ≡ true) where
+  new_turn : IsStep x links n turn_step
+  new_turn = record {
+    named = λ piece i is. absurd (turn_not (operation_node x n) turns piece i is);
+    loads = sym (turn_loads x (operation_node x n) turns);
+    turns = sym turns;
+    has_links = record {
+      count = sym (ap length (turn_lines x (operation_node x n) turns));
+      inside = omega arith;
+      node = λ j link low at. absurd (omega (arith, low));
+      line = λ j link low at. absurd (omega (arith, low));
+    };
+    rise = λ i j less low. absurd (omega (arith, low));
+  }
+
+  -- it has no links
+  pub turn_steps_more : AreStepsBelow x (n + 1) (steps ++ turn_step ∷ []) links
+  turn_steps_more = record {
+    all = let a = made.all in let l = length-append steps (turn_step ∷ []) in omega (arith, a, l);
+    each = λ k s at. ⊎_elim
+        (λ (e : slice_get steps k ≡ Some s). made.each k s e)
+        (λ (e : (k ≡ length steps) × (turn_step ≡ s)). subst (λ (t : Step). IsStep x links k t) e.1 (subst (λ (m : ℕ). IsStep x links m turn_step) (sym (e.0 ∙ made.all)) new_turn))
+        (get_end steps turn_step s k at);
+    own = λ at link is.
+        let o : IsOwnLink x steps at link = made.own at link is in
+        let b = made.below at link is in
+        let all = made.all in
+        let same : slice_get (steps ++ turn_step ∷ []) link.node ≡ slice_get steps link.node = get_left steps (turn_step ∷ []) link.node (omega (arith, b, all)) in
+        record { node = o.node; from = λ s e. o.from s (sym same ∙ e); below = λ s e. o.below s (sym same ∙ e) };
+    below = λ at link is. let b = made.below at link is in omega (arith, b);
+    few = made.few;
+    shut = made.shut;
+  }
 
 -- ---- the first one and the last one
 

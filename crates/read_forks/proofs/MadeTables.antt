@@ -11,57 +11,50 @@ use Rattle.op_net.specs.ApartLoads.{giver_of}
 use Rattle.op_net.specs.Waits.{node_total}
 use Rattle.fork_board.specs.ForkTokens.{is_load_node}
 use Rattle.read_forks.specs.MadeSteps.{AreTablesBelow, load_givers, new_link_of}
-use Rattle.read_forks.specs.NodeLinks.{IsLoadTaker, moved_lines}
+use Rattle.read_forks.specs.NodeLinks.{AreValueLoads, IsLoadTaker, is_turn, linked_lines, turn_step}
 use Rattle.read_forks.specs.Retests.{takes}
 use Rattle.read_forks.specs.declared.steps.Link.{Link}
 use Rattle.read_forks.specs.declared.steps.Step.{Step}
 use Rattle.read_forks.proofs.MadeGivers.{among_exists, among_loads, load_among, no_load_taker, no_values, values_more}
-use Rattle.read_forks.proofs.MadeLinks.{needed_rise, no_steps, one_rises, steps_more}
+use Rattle.read_forks.proofs.MadeLinks.{needed_rise, no_steps, steps_more, turn_not, turn_steps_more}
 use Rattle.read_forks.proofs.TestedLoads.{mapped}
 
+-- ---- a node that is no operation
+
+module _ (x : OperationNet) (n : ℕ) (steps : List Step) (links : List Link) (listed : List ℕ) (made : AreTablesBelow x n steps links listed) (turns : is_turn (operation_node x n) ≡ true) where
+  takes_none : (name : NodeName) (k : ℕ) → is_turn name ≡ true → takes x name k ≡ true → ⊥
+  takes_none (Op p i) k is taken = absurd cc
+  takes_none (Switch p l) k is taken = absurd cc
+  takes_none (Merge p l) k is taken = absurd cc
+  takes_none (Act p) k is taken = absurd cc
+
+  pub turn_more : (new_steps : List Step) → new_steps ≡ steps ++ turn_step ∷ [] → node_total x < 2 ^ 32 → AreTablesBelow x (n + 1) new_steps links listed
+  turn_more new_steps grown few =
+      subst (λ (ss : List Step). AreTablesBelow x (n + 1) ss links listed) (sym grown) (record {
+        steps_made = turn_steps_more x n steps links made.steps_made turns;
+        values = subst (λ (gs : List ℕ). AreValueLoads x (steps ++ turn_step ∷ []) gs) (append-nil listed)
+            (values_more x n steps listed made.steps_made.all made.values turn_step []
+            (λ k below load taken. absurd (takes_none (operation_node x n) k turns taken))
+            (λ k among. absurd among)
+            (λ k among. absurd among)
+            (inl refl)
+            (omega arith)
+            (omega arith)
+            (no_load_taker x n (λ p i is. absurd (turn_not (operation_node x n) turns p i is)) turn_step.taker (omega (arith, few)))
+            (λ below. absurd (omega (arith, below, few)))
+            (subst (λ (gs : List ℕ). length gs < 2 ^ 32) (sym (append-nil listed)) made.values.few));
+      })
+
+-- ---- an operation
+
 module _ (x : OperationNet) (n : ℕ) (steps : List Step) (links : List Link) (listed : List ℕ) (made : AreTablesBelow x n steps links listed) (low : n < node_total x) (step : Step) (new_steps : List Step) (new_links : List Link) (grown : new_steps ≡ steps ++ step ∷ []) (first : step.first ≡ length links) (few : length new_links < 2 ^ 32) where
-  -- ---- a node that is no operation
-
-  module _ (turns : (p i : ℕ) → operation_node x n ≡ Op p i → ⊥) where
-    no_load : (name : NodeName) → operation_node x n ≡ name → is_load_node x name ≡ false
-    no_load (Op p i) is = absurd (turns p i is)
-    no_load (Switch p l) is = refl
-    no_load (Merge p l) is = refl
-    no_load (Act p) is = refl
-
-    takes_none : (name : NodeName) (k : ℕ) → operation_node x n ≡ name → takes x name k ≡ true → ⊥
-    takes_none (Op p i) k is taken = absurd (turns p i is)
-    takes_none (Switch p l) k is taken = absurd cc
-    takes_none (Merge p l) k is taken = absurd cc
-    takes_none (Act p) k is taken = absurd cc
-
-    pub turn_more : (line : ℕ) → moved_lines x (operation_node x n) ≡ line ∷ [] → step.count ≡ 1 → step.giver ≡ 0 → step.givers ≡ 0 → step.taker ≡ node_total x → step.loads ≡ false → new_links ≡ links ++ new_link_of n line ∷ [] → AreTablesBelow x (n + 1) new_steps new_links listed
-    turn_more line moved count giver none taker loads longer =
-        subst (λ (ss : List Step). AreTablesBelow x (n + 1) ss new_links listed) (sym grown)
-        (subst (λ (ls : List Link). AreTablesBelow x (n + 1) (steps ++ step ∷ []) ls listed) (sym longer)
-        (subst (λ (gs : List ℕ). AreTablesBelow x (n + 1) (steps ++ step ∷ []) (links ++ new_link_of n line ∷ []) gs) (append-nil listed) (record {
-          steps_made = steps_more x n steps links made.steps_made step (line ∷ []) low moved (one_rises line) (λ p i is. absurd (turns p i is)) (loads ∙ sym (no_load (operation_node x n) refl)) first count (subst (λ (ls : List Link). length ls < 2 ^ 32) longer few);
-          values = values_more x n steps listed made.steps_made.all made.values step []
-              (λ k below load taken. absurd (takes_none (operation_node x n) k refl taken))
-              (λ k among. absurd among)
-              (λ k among. absurd among)
-              (inl refl)
-              (omega (arith, none))
-              (omega (arith, giver))
-              (subst (λ (t : ℕ). IsLoadTaker x n t) (sym taker) (no_load_taker x n (λ p i is. absurd (turns p i is))))
-              (λ below. absurd (omega (arith, taker, below)))
-              (subst (λ (gs : List ℕ). length gs < 2 ^ 32) (sym (append-nil listed)) made.values.few);
-        })))
-
-  -- ---- an operation
-
   module _ (piece i : ℕ) (name : operation_node x n ≡ Op piece i) where
     named : IsOperationNamed x (Op piece i)
     named = subst (λ (a : NodeName). IsOperationNamed x a) name (operation_named x n low)
 
-    pub operation_more : (new_listed : List ℕ) → step.piece ≡ piece → step.number ≡ i → step.loads ≡ is_load_node x (operation_node x n) → new_links ≡ links ++ map (new_link_of n) (needed x piece i) → step.first + step.count ≡ length new_links
+    pub operation_more : (new_listed : List ℕ) → step.piece ≡ piece → step.number ≡ i → step.loads ≡ is_load_node x (operation_node x n) → step.turns ≡ false → new_links ≡ links ++ map (new_link_of n) (needed x piece i) → step.first + step.count ≡ length new_links
         → new_listed ≡ listed ++ load_givers x piece (operation_at x piece i).operands → step.giver ≡ length listed → step.giver + step.givers ≡ length new_listed → length new_listed < 2 ^ 32 → IsLoadTaker x n step.taker → (step.taker < node_total x → is_load_node x (operation_node x step.taker) ≡ true) → AreTablesBelow x (n + 1) new_steps new_links new_listed
-    operation_more new_listed of_piece of_number loads longer end more giver giver_end few_listed taker taker_loads =
+    operation_more new_listed of_piece of_number loads turns longer end more giver giver_end few_listed taker taker_loads =
         let lines : List ℕ = needed x piece i in
         let these : List ℕ = load_givers x piece (operation_at x piece i).operands in
         let long : length new_links ≡ length links + length lines = ap length longer ∙ length-append links (map (new_link_of n) lines) ∙ ap (λ (l : ℕ). length links + l) (length-map lines (new_link_of n)) in
@@ -69,7 +62,7 @@ module _ (x : OperationNet) (n : ℕ) (steps : List Step) (links : List Link) (l
         subst (λ (ss : List Step). AreTablesBelow x (n + 1) ss new_links new_listed) (sym grown)
         (subst (λ (ls : List Link). AreTablesBelow x (n + 1) (steps ++ step ∷ []) ls new_listed) (sym longer)
         (subst (λ (gs : List ℕ). AreTablesBelow x (n + 1) (steps ++ step ∷ []) (links ++ map (new_link_of n) lines) gs) (sym more) (record {
-          steps_made = steps_more x n steps links made.steps_made step lines low (ap (moved_lines x) name) (needed_rise x piece i) same_name loads first (omega (arith, first, end, long)) (subst (λ (ls : List Link). length ls < 2 ^ 32) longer few);
+          steps_made = steps_more x n steps links made.steps_made step lines low (ap (linked_lines x) name) (needed_rise x piece i) same_name loads (turns ∙ sym (ap is_turn name)) first (omega (arith, first, end, long)) (subst (λ (ls : List Link). length ls < 2 ^ 32) longer few);
           values = values_more x n steps listed made.steps_made.all made.values step these
               (λ k below load taken. load_among x piece i named.exists named.fits.2 k load (sym (ap (λ (a : NodeName). takes x a k) name) ∙ taken))
               (λ k among. among_loads x piece i named.exists named.fits.2 k among)

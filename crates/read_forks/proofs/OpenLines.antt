@@ -1,12 +1,10 @@
 -- Which lines stand before a load, as code asks for it.
-use Rattle.std.proofs.Common.{◌≡◌, ◌<◌, inl, inr, ℕ, zero, suc, ◌&&◌, Bool, true, false, not, List, [], ◌∷◌, All, Option, Some, None, get_or, is_some, length, map, refl, sym, ap, ◌∙◌, subst, arith}
+use Rattle.std.proofs.Common.{◌≡◌, ◌<◌, ℕ, ◌&&◌, Bool, true, false, not, Option, Some, None, is_some, length, refl, sym, ap, ◌∙◌, subst}
 use Rattle.std.specs.List.{list_all}
-use Rattle.list_laws.specs.Member.{Member}
 use Rattle.firing.specs.declared.system.NodeName.TheVariants.{Op}
 use Rattle.net_board.specs.Nodes.{graph_in}
 use Rattle.op_board.specs.OperationNets.{OperationNet, all_operation_nodes, needed, operation_at, operation_count, operation_node}
 use Rattle.op_board.specs.OperationTokens.{is_given, value_at}
-use Rattle.op_board.proofs.NeededLines.{needed_has}
 use Rattle.op_board.proofs.OperationNumbers.{IsOperationNamed, operation_named}
 use Rattle.fork_board.specs.ForkTokens.{ForkTokens, Standing, fork_moves, fork_ready_as, is_load_node, is_open, is_open_on, standing}
 use Rattle.fork_board.specs.LoadGroups.{group_at, is_among, is_load, spot}

@@ -1,7 +1,6 @@
 -- A line was opened for a group: what is kept of all lines.
-use Rattle.std.proofs.Common.{◌≡◌, ◌<◌, ◌⊎◌, inl, inr, ℕ, ◌==◌, ◌||◌, Bool, true, false, List, [], ◌∷◌, length, Some, slice_get, slice_set, refl, sym, ap, ◌∙◌, subst}
+use Rattle.std.proofs.Common.{◌≡◌, ◌<◌, ◌⊎◌, inl, inr, ℕ, ◌==◌, true, false, List, [], ◌∷◌, length, Some, slice_get, slice_set, sym, ap, ◌∙◌, subst}
 use Rattle.std.specs.List.{list_any}
-use Rattle.std.proofs.lemmas.Bool.{eq-eqb, ne_eqb}
 use Rattle.list_laws.proofs.Counts.{count_same}
 use Rattle.net_board.specs.Tokens.{edge_of}
 use Rattle.net_board.proofs.ListPlaces.{get_set_other, length_slice_set, same_or_not}
@@ -78,7 +77,7 @@ module _ (x : OperationNet) (m : OperationTokens) (line edge : ℕ) (stands : ed
 
   -- all that is kept
   module _ (w mid new : Waiting) (group : Group) (kept : AreKept x m w) (low : line < x.net.routing.lines) (tables : AreTables x mid) (closed : AreClosed x (opened_of x mid) mid.closed.items) (opened : IsOpenedFor line (group_at x line here) (opened_of x w) (opened_of x mid)) (own : IsGroupAt x (opened_of x mid) line here group) (mid_groups : mid.groups ≡ w.groups)
-      (links : new.links.items ≡ mid.links.items) (steps : new.steps.items ≡ mid.steps.items) (givers : new.givers.items ≡ mid.givers.items) (counts : new.closed.items ≡ mid.closed.items) (set : new.groups.items ≡ slice_set mid.groups.items line group) where
+      (links : new.links.items ≡ mid.links.items) (steps : new.steps ≡ mid.steps) (givers : new.givers.items ≡ mid.givers.items) (counts : new.closed.items ≡ mid.closed.items) (set : new.groups.items ≡ slice_set mid.groups.items line group) where
     same_opened : opened_of x new ≡ opened_of x mid
     same_opened = ap (λ (ls : List Link). opened_in x ls) links
 
@@ -97,9 +96,9 @@ module _ (x : OperationNet) (m : OperationTokens) (line edge : ℕ) (stands : ed
 
         kept_tables : AreTables x new
         kept_tables = record {
-          steps = subst (λ (ss : List Step). AreSteps x ss new.links.items) (sym steps) (subst (λ (ls : List Link). AreSteps x mid.steps.items ls) (sym links) tables.steps);
+          steps = subst (λ (ss : List Step). AreSteps x ss new.links.items) (sym steps) (subst (λ (ls : List Link). AreSteps x mid.steps ls) (sym links) tables.steps);
           ways = subst (λ (ls : List Link). ∥ AreWays x ls ∥₁) (sym links) tables.ways;
-          values = subst (λ (ss : List Step). AreValueLoads x ss new.givers.items) (sym steps) (subst (λ (gs : List ℕ). AreValueLoads x mid.steps.items gs) (sym givers) tables.values);
+          values = subst (λ (ss : List Step). AreValueLoads x ss new.givers.items) (sym steps) (subst (λ (gs : List ℕ). AreValueLoads x mid.steps gs) (sym givers) tables.values);
           lines = ap length set ∙ length_slice_set mid.groups.items line group ∙ tables.lines;
           nodes = ap length counts ∙ tables.nodes ∙ sym (ap length steps);
         }

@@ -78,7 +78,7 @@ module _ {W : ℕ} (first : OpNet W) (old : Waiting) (line : ℕ) (s : Spot) whe
 
     pub shut_there : ComeOnce x → line < x.net.routing.lines → s.edge < edge_count (graph_in x.net) → is_open_in (slice_get now.links.items at) ≡ false
     shut_there once low exists =
-        shut x now.links.items line at t stands now.steps.items has.tables.steps
+        shut x now.links.items line at t stands now.steps has.tables.steps
         (has.opened.here load.piece load.number ∙ not_before x line once low s count (site load.piece load.number) t exists along load.here)
 
     module _ (new : Waiting) (after : OpNet W) (rest : IsRemarked net after) (tables : AreTables y new) (closed : AreClosed y (opened_of y new) new.closed.items)

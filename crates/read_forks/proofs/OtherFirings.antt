@@ -1,14 +1,12 @@
 -- The firing of a node that is no load: which lines it leads on, and what is kept for the loads of the others.
-use Rattle.std.proofs.Common.{◌≡◌, ◌<◌, ℕ, ◌==◌, ◌&&◌, ◌||◌, Bool, true, false, not, List, [], ◌∷◌, length, Option, Some, None, is_some, refl, sym, ap, ◌∙◌, subst, eqb-true, arith}
+use Rattle.std.proofs.Common.{◌≡◌, ◌<◌, ℕ, ◌==◌, ◌&&◌, ◌||◌, Bool, true, false, not, List, length, Option, Some, None, refl, sym, ap, ◌∙◌, subst, eqb-true}
 use Rattle.std.specs.List.{list_any}
-use Rattle.std.proofs.lemmas.Bool.{and_parts}
 use mathlib.Core.Path.{fun_ext}
-use Rattle.list_laws.specs.Member.{Member}
 use Rattle.firing.specs.declared.system.NodeName.{NodeName}
 use Rattle.firing.specs.declared.system.NodeName.TheVariants.{Act, Merge, Switch, Op}
 use Rattle.net_board.specs.Nodes.{kind_in}
 use Rattle.net_board.specs.Tokens.{edge_of}
-use Rattle.op_board.specs.OperationNets.{OperationNet, all_operation_nodes, needed, operation_at, operation_node}
+use Rattle.op_board.specs.OperationNets.{OperationNet, all_operation_nodes, operation_at, operation_node}
 use Rattle.op_board.specs.OperationTokens.{OperationTokens, fired_as, operation_moves, passed_by, performed_at, ready_as}
 use Rattle.op_board.specs.SoundOperationNets.{OperationsCanCome}
 use Rattle.op_board.proofs.NeededLines.{needed_has}

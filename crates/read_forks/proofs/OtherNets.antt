@@ -23,7 +23,7 @@ use Rattle.read_forks.specs.WaitingLoads.{IsRemarked, KeepsMarks, waits_for_noth
 use Rattle.read_forks.specs.declared.fork_net.ForkNet.{ForkNet}
 use Rattle.read_forks.specs.declared.waiting.Waiting.{Waiting}
 use Rattle.read_forks.proofs.ArrivedLines.{marks_there, opened_there}
-use Rattle.read_forks.proofs.KeptNets.{apart_too, kept_there, remarked_twice}
+use Rattle.read_forks.proofs.KeptNets.{apart_too, kept_there}
 use Rattle.read_forks.proofs.LoadNodes.{other_marking}
 use Rattle.read_forks.proofs.OtherFirings.{kept_then, led_on, marking_then}
 use Rattle.read_forks.proofs.OtherMarks.{marks_then}

@@ -116,7 +116,7 @@ module _ (old new : List Link) (same : AreSameLinks old new) where
     }
 
     pub same_step : (k : ℕ) (step : Step) → IsStep x old k step → IsStep x new k step
-    same_step k step is = record { named = is.named; loads = is.loads; has_links = same_has k step is.has_links; rise = same_rising step is.rise }
+    same_step k step is = record { named = is.named; loads = is.loads; turns = is.turns; has_links = same_has k step is.has_links; rise = same_rising step is.rise }
 
     pub same_steps : (steps : List Step) → AreSteps x steps old → AreSteps x steps new
     same_steps steps are = record {

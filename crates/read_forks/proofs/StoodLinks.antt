@@ -1,6 +1,5 @@
 -- The links of the loads before which a line stands, from one load of a group to the next.
-use Rattle.std.proofs.Common.{◌≡◌, ◌<◌, ℕ, suc, ◌+◌, ◌==◌, true, false, if◌then◌else◌, List, length, Option, Some, None, is_some, slice_get, refl, sym, ap, ◌∙◌, subst, arith}
-use Rattle.std.proofs.lemmas.Bool.{and_from, eq-eqb}
+use Rattle.std.proofs.Common.{◌≡◌, ◌<◌, ℕ, suc, ◌+◌, true, false, if◌then◌else◌, List, length, Option, Some, None, is_some, slice_get, refl, sym, ap, ◌∙◌, subst, arith}
 use Rattle.closed_walks.specs.Graph.{edge_count, to}
 use Rattle.dep_routing.specs.Touches.{exec_kind}
 use Rattle.firing.specs.declared.system.NodeName.{NodeName}
@@ -11,7 +10,7 @@ use Rattle.op_board.specs.OperationNets.{OperationNet, all_operation_nodes, firs
 use Rattle.op_board.proofs.OperationNumbers.{operation_name, operation_stands}
 use Rattle.op_net.specs.Waits.{IsNodeBefore, node_total}
 use Rattle.fork_board.specs.ForkTokens.{is_load_node}
-use Rattle.fork_board.specs.LoadGroups.{Site, Spot, is_site, load_at, site, spot, spot_after}
+use Rattle.fork_board.specs.LoadGroups.{Site, Spot, load_at, site, spot, spot_after}
 use Rattle.fork_board.proofs.ForkLines.{same_site}
 use Rattle.fork_board.proofs.ForksApart.{acting_with}
 use Rattle.read_forks.specs.NodeLinks.{AreSteps, opened_in}

@@ -30,7 +30,7 @@ module _ {W : ℕ} (s : ForkNet W) where
   abbrev closed : List ℕ
   closed = s.waiting.closed.items
 
-  pub room_steps : length s.waiting.steps.items ≡ node_total x
+  pub room_steps : length s.waiting.steps ≡ node_total x
   room_steps = s.kept.tables.steps.all
 
   pub room_closed : length closed ≡ node_total x
@@ -50,7 +50,7 @@ module _ {W : ℕ} (s : ForkNet W) where
     abbrev CanTest : (j : ℕ) → Step → List ℕ → OperationNet → Type 0
     CanTest j step numbers y = (j < node_total y) × ((operation_node y j ≡ Op step.piece step.number) × ((is_load_node y (operation_node y j) ≡ true) × (AreLoadsApart now × (j < length numbers))))
 
-    pub can_test : {w : Waiting} → w ≡ s.waiting → (j : ℕ) (step : Step) → j < node_total x → slice_get s.waiting.steps.items j ≡ Some step → loads j ≡ true → CanTest j step w.closed.items (net_in now)
+    pub can_test : {w : Waiting} → w ≡ s.waiting → (j : ℕ) (step : Step) → j < node_total x → slice_get s.waiting.steps j ≡ Some step → loads j ≡ true → CanTest j step w.closed.items (net_in now)
     can_test {w} waiting j step low at is =
         let long = room_closed in
         let inside : j < length closed = omega (arith, low, long) in
@@ -103,7 +103,7 @@ module _ {W : ℕ} (s : ForkNet W) where
     abbrev CanTestNode : (j : ℕ) → Step → List ℕ → OperationNet → Type 0
     CanTestNode j step numbers y = (j < node_total y) × ((step.loads ≡ is_load_node y (operation_node y j)) × ((step.loads ≡ true → operation_node y j ≡ Op step.piece step.number) × (AreLoadsApart now × (j < length numbers))))
 
-    pub can_test_node : {w : Waiting} → w ≡ s.waiting → (j : ℕ) (step : Step) → j < node_total x → slice_get s.waiting.steps.items j ≡ Some step → CanTestNode j step w.closed.items (net_in now)
+    pub can_test_node : {w : Waiting} → w ≡ s.waiting → (j : ℕ) (step : Step) → j < node_total x → slice_get s.waiting.steps j ≡ Some step → CanTestNode j step w.closed.items (net_in now)
     can_test_node {w} waiting j step low at =
         let long = room_closed in
         let is = s.kept.tables.steps.each j step at in
@@ -111,7 +111,7 @@ module _ {W : ℕ} (s : ForkNet W) where
         subst (λ (y : OperationNet). CanTestNode j step w.closed.items y) (sym net)
         (low, (is.loads, (λ own. load_step x s.waiting.links.items j step is (sym is.loads ∙ own), (apart_too s.net now net apart s.apart, subst (λ (v : Waiting). j < length v.closed.items) (sym waiting) inside))))
 
-    pub right_next : (numbers : List ℕ) → numbers ≡ closed → (k : ℕ) (step : Step) → k < node_total x → slice_get s.waiting.steps.items k ≡ Some step → (after : List Bool)
+    pub right_next : (numbers : List ℕ) → numbers ≡ closed → (k : ℕ) (step : Step) → k < node_total x → slice_get s.waiting.steps k ≡ Some step → (after : List Bool)
         → (step.loads ≡ true → after ≡ set (flags_of now) k (waits_for_nothing (net_in now) (operations_on now) numbers k)) → (step.loads ≡ false → after ≡ flags_of now) → length (flags_of now) ≡ node_total x → AreRight (flags_of now) k → AreRight after (k + 1)
     right_next numbers same k step low at after tested left room before = by step.loads refl
       where

@@ -16,11 +16,11 @@ opened_of x w = opened_in x w.links.items
 
 -- what no firing changes: what is looked up of nodes
 pub record AreTables (x : OperationNet) (w : Waiting) : Type 0 where
-  pub steps : AreSteps x w.steps.items w.links.items
+  pub steps : AreSteps x w.steps w.links.items
   pub ways : ∥ AreWays x w.links.items ∥₁
-  pub values : AreValueLoads x w.steps.items w.givers.items
+  pub values : AreValueLoads x w.steps w.givers.items
   pub lines : length w.groups.items ≡ x.net.routing.lines
-  pub nodes : length w.closed.items ≡ length w.steps.items
+  pub nodes : length w.closed.items ≡ length w.steps
 
 -- and what it changes: lines are open for loads of the groups before which they stand, it is counted how many aren't open for each load,
 -- and each line for which loads are open has its group

@@ -10,6 +10,7 @@ pub mod Retests
 pub mod LoadFlags
 pub mod RisingLinks
 pub mod NodeLinks
+pub mod StepRows
 pub mod Ways
 pub mod OpenGroups
 pub mod WaitingLoads

@@ -1,5 +1,5 @@
--- What is looked up of each node: the lines that it needs, as links, and the loads that wait for its firing.
-use Rattle.std.specs.Prelude.{◌≡◌, ◌<◌, ◌≤◌, ◌+◌, ◌^◌, ℕ, ◌==◌, ◌&&◌, Bool, true, false, List, [], ◌∷◌, length, Option, Some, None, slice_get}
+-- What is looked up of each node: the lines that it needs, as links, if it is an operation, and the loads that wait for its firing.
+use Rattle.std.specs.Prelude.{◌≡◌, ◌<◌, ◌≤◌, ◌+◌, ◌-◌, ◌^◌, ℕ, ◌==◌, ◌&&◌, Bool, true, false, List, [], ◌∷◌, length, Option, Some, None, slice_get}
 use Rattle.std.specs.List.{list_any, range_with_len}
 use Rattle.firing.specs.declared.system.NodeName.{NodeName}
 use Rattle.firing.specs.declared.system.NodeName.TheVariants.{Act, Merge, Op, Switch}
@@ -20,12 +20,22 @@ moved_lines x (Switch piece line) = line ∷ []
 moved_lines x (Merge piece line) = line ∷ []
 moved_lines x (Act piece) = 0 ∷ []
 
--- the node has a link for each of its lines, in their order
+-- the node is a switch or a merge, or acts as a whole: it is no operation
+abbrev pub is_turn : NodeName → Bool
+is_turn (Op piece i) = false
+is_turn _ = true
+
+-- the lines for which a node has links, which operations have alone
+abbrev pub linked_lines : OperationNet → NodeName → List ℕ
+linked_lines x (Op piece i) = needed x piece i
+linked_lines x _ = []
+
+-- the node has a link for each of these lines, in their order
 pub record HasLinks (x : OperationNet) (links : List Link) (k : ℕ) (step : Step) : Type 0 where
-  pub count : step.count ≡ length (moved_lines x (operation_node x k))
+  pub count : step.count ≡ length (linked_lines x (operation_node x k))
   pub inside : step.first + step.count ≤ length links
   pub node : (j : ℕ) (link : Link) → j < step.count → slice_get links (step.first + j) ≡ Some link → link.node ≡ k
-  pub line : (j : ℕ) (link : Link) → j < step.count → slice_get links (step.first + j) ≡ Some link → slice_get (moved_lines x (operation_node x k)) j ≡ Some link.line
+  pub line : (j : ℕ) (link : Link) → j < step.count → slice_get links (step.first + j) ≡ Some link → slice_get (linked_lines x (operation_node x k)) j ≡ Some link.line
 
 -- the name is that of this operation
 abbrev pub names_operation : NodeName → (piece number : ℕ) → Bool
@@ -53,16 +63,21 @@ is_listed giver listed first count = list_any (λ n. is_that giver (slice_get li
 abbrev pub AreGivers : OperationNet → (givers : List ℕ) → (k : ℕ) → Step → Type 0
 AreGivers x listed k step = (giver : ℕ) → giver < node_total x → is_load_node x (operation_node x giver) ≡ true → takes x (operation_node x k) giver ≡ true → is_listed giver listed step.giver step.givers ≡ true
 
--- this load takes the value of the node; no load does where the number is that of all nodes
+-- this load takes the value of the node; no load does where no node has the number
 abbrev pub IsLoadTaker : OperationNet → (k taker : ℕ) → Type 0
 IsLoadTaker x k taker = (j : ℕ) → j < node_total x → is_load_node x (operation_node x j) ≡ true → takes_from x (operation_node x j) k ≡ one_if (j == taker)
 
 -- ---- nodes
 
--- What is looked up of a node: what it is, and the lines that it moves, in rising order.
+-- what is looked up of a node that is no operation: it has no links, and no value is taken from it or by it
+abbrev pub turn_step : Step
+turn_step = record { piece = 0; number = 0; first = 0; count = 0; giver = 0; givers = 0; taker = 2 ^ 32 - 1; loads = false; turns = true }
+
+-- What is looked up of a node: what it is, and the lines for which it has links, in rising order.
 pub record IsStep (x : OperationNet) (links : List Link) (k : ℕ) (step : Step) : Type 0 where
   pub named : (piece number : ℕ) → operation_node x k ≡ Op piece number → (step.piece ≡ piece) × (step.number ≡ number)
   pub loads : step.loads ≡ is_load_node x (operation_node x k)
+  pub turns : step.turns ≡ is_turn (operation_node x k)
   pub has_links : HasLinks x links k step
   pub rise : AreRising links step
 

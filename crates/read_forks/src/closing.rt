@@ -24,7 +24,7 @@ impl Waiting {
     #[inline(always)]
     pub(crate) fn close_links<const W: usize>(&mut self, net: &mut OpNet<W>, k: u32, step: Step)
         requires node { k < node_total (net_in net.old) }
-        requires step { slice_get self.old.steps.items k ≡ Some step }
+        requires step { slice_get self.old.steps k ≡ Some step }
         requires name { operation_node (net_in net.old) k ≡ Op step.piece step.number }
         requires sound { OperationsCanCome (net_in net.old) (operations_on net.old) }
         requires ends { GroupsEnd (net_in net.old) }
@@ -50,7 +50,7 @@ impl Waiting {
     #[inline(always)]
     fn close_link<const W: usize>(&mut self, net: &mut OpNet<W>, k: u32, step: Step, at: u32)
         requires node { k < node_total (net_in net.old) }
-        requires step { slice_get self.old.steps.items k ≡ Some step }
+        requires step { slice_get self.old.steps k ≡ Some step }
         requires name { operation_node (net_in net.old) k ≡ Op step.piece step.number }
         requires from { step.first ≤ at }
         requires below { at < step.first + step.count }

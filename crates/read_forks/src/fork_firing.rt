@@ -26,7 +26,7 @@ impl<const W: usize> ForkNet<'_, W> {
         requires sound { ForksCanCome (net_of self.now) (marking_of self.now) }
         ensures { result ≡ (fork_moves (net_of self.now)).ready (marking_of self.now) k }
     {
-        let step = self.waiting.steps[k as usize];
+        let step = self.waiting.steps.at(k as usize);
         if step.loads {
             can_load(&self.net, &self.waiting.closed, k, step)
         } else {
@@ -48,7 +48,7 @@ impl<const W: usize> ForkNet<'_, W> {
         ensures fired { FiredIs (fork_moves (net_of self.old)) (marking_of self.old) k result }
         ensures last { self.new.net.text.items ≡ newest ((fork_moves (net_of self.old)).line (marking_of self.old) k) self.old.net.text.items }
     {
-        let step = self.waiting.steps[k as usize];
+        let step = self.waiting.steps.at(k as usize);
         if step.loads {
             self.fire_load(k, step)
         } else {
@@ -63,7 +63,7 @@ impl<const W: usize> ForkNet<'_, W> {
         requires ready { (fork_moves (net_of self.old)).ready (marking_of self.old) k ≡ true }
         requires sound { ForksCanCome (net_of self.old) (marking_of self.old) }
         requires going { (marking_of self.old).operations.tokens.trap ≡ None }
-        requires step { slice_get self.old.waiting.steps.items k ≡ Some step }
+        requires step { slice_get self.old.waiting.steps k ≡ Some step }
         requires loads { is_load_node (net_of self.old) (operation_node (net_of self.old) k) ≡ true }
         ensures net { net_of self.new ≡ net_of self.old }
         ensures marking { marking_of self.new ≡ (fork_moves (net_of self.old)).fired (marking_of self.old) k }
@@ -93,7 +93,7 @@ impl<const W: usize> ForkNet<'_, W> {
         requires ready { (fork_moves (net_of self.old)).ready (marking_of self.old) k ≡ true }
         requires sound { ForksCanCome (net_of self.old) (marking_of self.old) }
         requires going { (marking_of self.old).operations.tokens.trap ≡ None }
-        requires step { slice_get self.old.waiting.steps.items k ≡ Some step }
+        requires step { slice_get self.old.waiting.steps k ≡ Some step }
         requires loads { is_load_node (net_of self.old) (operation_node (net_of self.old) k) ≡ false }
         ensures net { net_of self.new ≡ net_of self.old }
         ensures marking { marking_of self.new ≡ (fork_moves (net_of self.old)).fired (marking_of self.old) k }

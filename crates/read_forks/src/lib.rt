@@ -1,5 +1,5 @@
-//! The net of a program with operations as nodes, in which the loads of a group fire in any order, and the laws and the marks on which
-//! it stands.
+//! The net of a program with operations as nodes, in which the loads of a group fire in any order: for what its loads wait, and the laws
+//! on which it stands.
 #![tactic(auto)]
 
 mod arriving;

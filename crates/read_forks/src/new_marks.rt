@@ -1,4 +1,4 @@
-//! The marks of the loads of a net, before any firing.
+//! Which nodes of a net are loads.
 
 ghost use Rattle.std.specs.Prelude.{◌≡◌, ◌<◌, length, IfOk};
 ghost use Rattle.op_board.specs.OperationNets.{operation_node};

@@ -12,10 +12,10 @@ ghost use Rattle.fork_board.specs.ForkTokens.{is_load_node};
 ghost use Rattle.read_forks.specs.KeptLoads.{AreKept, IsOpenForNone, opened_of};
 ghost use Rattle.read_forks.specs.LoadFlags.{AreLoadFlags};
 ghost use Rattle.read_forks.specs.MadeSteps.{AppendsGiver, AreShut, AreTablesBelow, IsWayAt, load_givers, new_link_of};
-ghost use Rattle.read_forks.specs.NodeLinks.{AreSteps, IsLoadTaker, moved_lines};
+ghost use Rattle.read_forks.specs.NodeLinks.{AreSteps, IsLoadTaker, is_turn};
 ghost use Rattle.read_forks.specs.Ways.{AreWays, IsWay};
 
-use crate::steps::{Group, Link, Step, link_near, no_group};
+use crate::steps::{Group, Link, Step, Steps, link_near, no_group, number_of};
 use crate::waiting::Waiting;
 use crate::ways::Way;
 use df_sequence::NoMemory;
@@ -57,7 +57,7 @@ pub(crate) fn new_waiting<const W: usize>(
 // The tables of nodes, as they are made.
 #[derive(Drop)]
 struct Tables {
-    steps: Vec<Step>,
+    steps: Steps,
     links: Vec<Link>,
     givers: Vec<u32>,
 }
@@ -70,10 +70,10 @@ fn new_tables<const W: usize>(
 ) -> Result<Tables, NoMemory>
     requires flags { AreLoadFlags (net_of net.now) loads.now.items }
     requires room { length loads.now.items ≡ node_total (net_of net.now) }
-    ensures { IfOk result (λ t. AreTablesBelow (net_of net.now) (node_total (net_of net.now)) t.steps.items t.links.items t.givers.items) }
+    ensures { IfOk result (λ t. AreTablesBelow (net_of net.now) (node_total (net_of net.now)) t.steps t.links.items t.givers.items) }
 {
     let mut tables = Tables {
-        steps: Vec::with_capacity(alloc, net.nodes() as usize)?,
+        steps: Steps::with_room(alloc, net.nodes() as usize)?,
         links: Vec::new(alloc),
         givers: Vec::new(alloc),
     };
@@ -93,44 +93,27 @@ fn push_step<const W: usize>(
     requires node { k < node_total (net_of net.now) }
     requires flags { AreLoadFlags (net_of net.now) loads.now.items }
     requires room { length loads.now.items ≡ node_total (net_of net.now) }
-    requires made { AreTablesBelow (net_of net.now) k tables.old.steps.items tables.old.links.items tables.old.givers.items }
-    ensures { OnOk result (AreTablesBelow (net_of net.now) (k + 1) tables.new.steps.items tables.new.links.items tables.new.givers.items) }
+    requires made { AreTablesBelow (net_of net.now) k tables.old.steps tables.old.links.items tables.old.givers.items }
+    ensures { OnOk result (AreTablesBelow (net_of net.now) (k + 1) tables.new.steps tables.new.links.items tables.new.givers.items) }
 {
     match net.name(k) {
         NodeName::Op(piece, i) => push_operation(net, loads, tables, k, piece, i),
-        NodeName::Switch(piece, line) => push_turn(net, tables, k, piece, line),
-        NodeName::Merge(piece, line) => push_turn(net, tables, k, piece, line),
-        NodeName::Act(piece) => push_turn(net, tables, k, piece, 0),
+        NodeName::Switch(_, _) => push_turn(net, tables, k),
+        NodeName::Merge(_, _) => push_turn(net, tables, k),
+        NodeName::Act(_) => push_turn(net, tables, k),
     }
 }
 
 // Appends a node that is no operation.
-fn push_turn<const W: usize>(
-    net: &OpNet<W>,
-    tables: &mut Tables,
-    k: u32,
-    piece: u32,
-    line: u32,
-) -> Result<(), NoMemory>
+fn push_turn<const W: usize>(net: &OpNet<W>, tables: &mut Tables, k: u32) -> Result<(), NoMemory>
     requires node { k < node_total (net_of net.now) }
-    requires turns { (p i : ℕ) → operation_node (net_of net.now) k ≢ Op p i }
-    requires line { moved_lines (net_of net.now) (operation_node (net_of net.now) k) ≡ line ∷ [] }
-    requires made { AreTablesBelow (net_of net.now) k tables.old.steps.items tables.old.links.items tables.old.givers.items }
-    ensures { OnOk result (AreTablesBelow (net_of net.now) (k + 1) tables.new.steps.items tables.new.links.items tables.new.givers.items) }
+    requires turns { is_turn (operation_node (net_of net.now) k) ≡ true }
+    requires made { AreTablesBelow (net_of net.now) k tables.old.steps tables.old.links.items tables.old.givers.items }
+    ensures { OnOk result (AreTablesBelow (net_of net.now) (k + 1) tables.new.steps tables.new.links.items tables.new.givers.items) }
 {
-    let first = tables.links.len() as u32;
-    tables.links.push(new_link(line, k))?;
-    let _end = number_of(tables.links.len())?;
-    tables.steps.push(Step {
-        piece,
-        number: 0,
-        first,
-        count: 1,
-        giver: 0,
-        givers: 0,
-        taker: net.nodes(),
-        loads: false,
-    })?;
+    // All nodes have numbers below the greatest one.
+    let _nodes = net.nodes();
+    tables.steps.push_turn()?;
     Ok(())
 }
 
@@ -147,8 +130,8 @@ fn push_operation<const W: usize>(
     requires flags { AreLoadFlags (net_of net.now) loads.now.items }
     requires room { length loads.now.items ≡ node_total (net_of net.now) }
     requires name { operation_node (net_of net.now) k ≡ Op piece i }
-    requires made { AreTablesBelow (net_of net.now) k tables.old.steps.items tables.old.links.items tables.old.givers.items }
-    ensures { OnOk result (AreTablesBelow (net_of net.now) (k + 1) tables.new.steps.items tables.new.links.items tables.new.givers.items) }
+    requires made { AreTablesBelow (net_of net.now) k tables.old.steps tables.old.links.items tables.old.givers.items }
+    ensures { OnOk result (AreTablesBelow (net_of net.now) (k + 1) tables.new.steps tables.new.links.items tables.new.givers.items) }
 {
     let first = tables.links.len() as u32;
     push_links(net, &mut tables.links, k, piece, i)?;
@@ -165,19 +148,9 @@ fn push_operation<const W: usize>(
         givers: givers - giver,
         taker: load_taker(net, loads, k, piece, i),
         loads: loads[k as usize],
+        turns: false,
     })?;
     Ok(())
-}
-
-// The count as a number of 32 bits, unless it is too great.
-fn number_of(count: usize) -> Result<u32, NoMemory>
-    ensures { IfOk result (λ number. number ≡ count) }
-{
-    if count <= u32::MAX as usize {
-        Ok(count as u32)
-    } else {
-        Err(NoMemory)
-    }
 }
 
 // A link that leads out.
@@ -289,10 +262,10 @@ fn load_taker<const W: usize>(net: &OpNet<W>, loads: &Vec<bool>, k: u32, piece: 
 // ---- where lines go on
 
 // Finds where lines go on from their nodes.
-fn find_ways<const W: usize>(net: &OpNet<W>, steps: &Vec<Step>, links: &mut Vec<Link>)
-    requires steps { AreSteps (net_of net.now) steps.now.items links.old.items }
+fn find_ways<const W: usize>(net: &OpNet<W>, steps: &Steps, links: &mut Vec<Link>)
+    requires steps { AreSteps (net_of net.now) steps.now links.old.items }
     requires shut { AreShut links.old.items }
-    ensures steps { AreSteps (net_of net.now) steps.now.items links.new.items }
+    ensures steps { AreSteps (net_of net.now) steps.now links.new.items }
     ensures shut { AreShut links.new.items }
     ensures ways { ∥ AreWays (net_of net.now) links.new.items ∥₁ }
 {
@@ -303,15 +276,15 @@ fn find_ways<const W: usize>(net: &OpNet<W>, steps: &Vec<Step>, links: &mut Vec<
 }
 
 // Where a line goes on from a node, by their link.
-fn way_of<const W: usize>(net: &OpNet<W>, steps: &Vec<Step>, links: &Vec<Link>, at: usize) -> Way
-    requires steps { AreSteps (net_of net.now) steps.now.items links.now.items }
+fn way_of<const W: usize>(net: &OpNet<W>, steps: &Steps, links: &Vec<Link>, at: usize) -> Way
+    requires steps { AreSteps (net_of net.now) steps.now links.now.items }
     requires inside { at < length links.now.items }
     ensures { IsWayAt (net_of net.now) links.now.items at result }
 {
     let link = links[at];
     match net.name(link.node) {
         NodeName::Op(_, _) => {
-            let step = steps[link.node as usize];
+            let step = steps.at(link.node as usize);
             way_from(net, steps, links, link, step, at as u32 - step.first)
         }
         NodeName::Switch(_, _) => Way::Out,
@@ -323,13 +296,13 @@ fn way_of<const W: usize>(net: &OpNet<W>, steps: &Vec<Step>, links: &Vec<Link>, 
 // Where a line goes on from an operation, by the number of their link among those of the operation.
 fn way_from<const W: usize>(
     net: &OpNet<W>,
-    steps: &Vec<Step>,
+    steps: &Steps,
     links: &Vec<Link>,
     link: Link,
     step: Step,
     j: u32,
 ) -> Way
-    requires steps { AreSteps (net_of net.now) steps.now.items links.now.items }
+    requires steps { AreSteps (net_of net.now) steps.now links.now.items }
     requires node { link.node < node_total (net_of net.now) }
     requires name { operation_node (net_of net.now) link.node ≡ Op step.piece step.number }
     requires loads { step.loads ≡ is_load_node (net_of net.now) (operation_node (net_of net.now) link.node) }
@@ -339,7 +312,7 @@ fn way_from<const W: usize>(
     match net.needed_next(step.piece, step.number, j) {
         Some(n) => {
             let to = net.operation_node(step.piece, n);
-            let next = steps[to as usize];
+            let next = steps.at(to as usize);
             if next.loads {
                 Way::Here(link_near(links, next, link.line, j))
             } else {
@@ -359,13 +332,13 @@ fn way_from<const W: usize>(
 // The same where the line leaves the piece of a load.
 fn way_over<const W: usize>(
     net: &OpNet<W>,
-    steps: &Vec<Step>,
+    steps: &Steps,
     links: &Vec<Link>,
     link: Link,
     step: Step,
     j: u32,
 ) -> Way
-    requires steps { AreSteps (net_of net.now) steps.now.items links.now.items }
+    requires steps { AreSteps (net_of net.now) steps.now links.now.items }
     requires piece { step.piece < (graph_in (net_of net.now).net).nodes }
     requires line { link.line < (net_of net.now).net.routing.lines }
     requires last { is_last_at (net_of net.now) step.piece step.number link.line ≡ true }
@@ -378,7 +351,7 @@ fn way_over<const W: usize>(
     if to >= net.nodes() {
         return Way::Behind(edge, to);
     }
-    let next = steps[to as usize];
+    let next = steps.at(to as usize);
     if next.loads {
         Way::Over(link_near(links, next, link.line, j), edge)
     } else {
@@ -389,12 +362,12 @@ fn way_over<const W: usize>(
 // ---- before any line is open
 
 // For how many lines each node waits while none is open.
-fn closed_lines(alloc: Global, steps: &Vec<Step>) -> Result<Vec<u32>, NoMemory>
-    ensures { IfOk result (λ closed. closed.items ≡ map (λ (step : Step). step.count) steps.now.items) }
+fn closed_lines(alloc: Global, steps: &Steps) -> Result<Vec<u32>, NoMemory>
+    ensures { IfOk result (λ closed. closed.items ≡ map (λ (step : Step). step.count) steps.now) }
 {
     let mut closed = Vec::with_capacity(alloc, steps.len())?;
     for k in 0..steps.len() {
-        closed.push(steps[k].count)?;
+        closed.push(steps.at(k).count)?;
     }
     Ok(closed)
 }

@@ -61,7 +61,7 @@ impl Waiting {
         if to >= net.nodes() {
             return;
         }
-        let step = self.steps[to as usize];
+        let step = self.steps.at(to as usize);
         if !step.loads {
             return;
         }

@@ -1,9 +1,13 @@
 //! What the firing of a node changes for the loads of a net, looked up by its number.
 
-ghost use Rattle.std.specs.Prelude.{◌≡◌, ◌<◌, ◌≤◌, ◌+◌, ◌^◌, length};
+ghost use Rattle.std.specs.Prelude.{◌≡◌, ◌<◌, ◌≤◌, ◌+◌, ◌^◌, [], ◌∷◌, ◌++◌, Some, length, slice_get, IfOk, OnOk};
+ghost use Rattle.read_forks.specs.NodeLinks.{turn_step};
 ghost use Rattle.read_forks.specs.RisingLinks.{AreRising, HasLine, line_at};
 
 use crate::ways::Way;
+use df_sequence::NoMemory;
+use std::alloc::Global;
+use std::marker::Model;
 
 /// A node. Loads wait for values and for lines; the firing of a node ends the waiting of some of them.
 #[derive(Clone, Copy, Debug, PartialEq, Eq)]
@@ -11,19 +15,118 @@ pub(crate) struct Step {
     /// Its piece, and its number there, if it is an operation.
     pub(crate) piece: u32,
     pub(crate) number: u32,
-    /// Its links: the first one, and how many there are.
+    /// Its links: the first one, and how many there are. A node that is no operation has none.
     pub(crate) first: u32,
     pub(crate) count: u32,
     /// The loads whose values it takes: the place of the first one in the list of all, and how many there are.
     pub(crate) giver: u32,
     pub(crate) givers: u32,
-    /// The load that takes its value, or the number of all nodes.
+    /// The load that takes its value, or a number that no node has.
     pub(crate) taker: u32,
     /// Whether it is a load.
     pub(crate) loads: bool,
+    /// Whether it is no operation.
+    pub(crate) turns: bool,
 }
 
-/// A token line that a node needs.
+/// The steps of nodes, in the order of these. All nodes that are no operations share one. Contracts see them as a list.
+#[derive(Drop)]
+pub(crate) struct Steps {
+    /// For each node the number of its row.
+    numbers: Vec<u32>,
+    /// The first one is that of the nodes which are no operations.
+    rows: Vec<Step>,
+}
+
+impl Model for Steps {
+    ghost use Rattle.std.specs.Prelude.{List};
+    ghost use Rattle.read_forks.specs.StepRows.{AreRows, steps_of};
+    ghost use Rattle.read_forks.specs.declared.steps.Step.{Step as Looked};
+
+    ghost Value = { List Looked };
+
+    ghost view = { steps_of };
+
+    ghost invariant = { AreRows };
+}
+
+impl Steps {
+    /// The steps of no node, with room for those of so many nodes that are no operations.
+    pub(crate) fn with_room(alloc: Global, room: usize) -> Result<Self, NoMemory>
+        ensures { IfOk result (λ steps. steps ≡ []) }
+    {
+        let mut rows = Vec::new(alloc);
+        rows.push(turn_step())?;
+        Ok(Steps {
+            numbers: Vec::with_capacity(alloc, room)?,
+            rows,
+        })
+    }
+
+    /// Of how many nodes there are steps.
+    pub(crate) fn len(&self) -> usize
+        ensures { result ≡ length self.now }
+    {
+        self.numbers.len()
+    }
+
+    /// The step of a node.
+    #[inline(always)]
+    pub(crate) fn at(&self, k: usize) -> Step
+        requires { k < length self.now }
+        ensures { slice_get self.now k ≡ Some result }
+    {
+        self.rows[self.numbers[k] as usize]
+    }
+
+    /// Puts the step of an operation after the others. More of them than can be numbered are allocation failure.
+    pub(crate) fn push(&mut self, step: Step) -> Result<(), NoMemory>
+        ensures { OnOk result (self.new ≡ self.old ++ step ∷ []) }
+    {
+        let number = number_of(self.rows.len())?;
+        self.rows.push(step)?;
+        self.numbers.push(number)?;
+        Ok(())
+    }
+
+    /// Puts the step of a node that is no operation after the others.
+    pub(crate) fn push_turn(&mut self) -> Result<(), NoMemory>
+        ensures { OnOk result (self.new ≡ self.old ++ turn_step ∷ []) }
+    {
+        self.numbers.push(0)?;
+        Ok(())
+    }
+}
+
+// The step of a node that is no operation.
+fn turn_step() -> Step
+    ensures { result ≡ turn_step }
+{
+    Step {
+        piece: 0,
+        number: 0,
+        first: 0,
+        count: 0,
+        giver: 0,
+        givers: 0,
+        taker: u32::MAX,
+        loads: false,
+        turns: true,
+    }
+}
+
+/// The count as a number of 32 bits, unless it is too great.
+pub(crate) fn number_of(count: usize) -> Result<u32, NoMemory>
+    ensures { IfOk result (λ number. number ≡ count) }
+{
+    if count <= u32::MAX as usize {
+        Ok(count as u32)
+    } else {
+        Err(NoMemory)
+    }
+}
+
+/// A token line that an operation needs.
 #[derive(Clone, Copy, Debug, PartialEq, Eq)]
 pub(crate) struct Link {
     pub(crate) line: u32,

@@ -31,7 +31,7 @@ impl<const W: usize> ForkNet<'_, W> {
     {
         self.net.count_apart();
         for k in 0..self.net.nodes() {
-            let step = self.waiting.steps[k as usize];
+            let step = self.waiting.steps.at(k as usize);
             test_load(&mut self.net, &self.waiting.closed, k, step);
         }
     }
@@ -40,7 +40,7 @@ impl<const W: usize> ForkNet<'_, W> {
     #[inline(always)]
     pub(crate) fn test_givers(&mut self, k: u32, step: Step)
         requires node { k < node_total (net_of self.old) }
-        requires step { slice_get self.old.waiting.steps.items k ≡ Some step }
+        requires step { slice_get self.old.waiting.steps k ≡ Some step }
         ensures rest { IsRemarked self.old.net self.new.net }
         ensures waiting { self.new.waiting ≡ self.old.waiting }
         ensures marks { KeepsMarks (net_of self.old) (operations_on self.old.net) self.old.waiting.closed.items self.old.waiting.closed.items (flags_of self.old.net) (flags_of self.new.net) }
@@ -52,7 +52,7 @@ impl<const W: usize> ForkNet<'_, W> {
                 &mut self.net,
                 &self.waiting.closed,
                 j,
-                self.waiting.steps[j as usize],
+                self.waiting.steps.at(j as usize),
             );
         }
     }
@@ -61,7 +61,7 @@ impl<const W: usize> ForkNet<'_, W> {
     #[inline(always)]
     pub(crate) fn test_taker(&mut self, k: u32, step: Step)
         requires node { k < node_total (net_of self.old) }
-        requires step { slice_get self.old.waiting.steps.items k ≡ Some step }
+        requires step { slice_get self.old.waiting.steps k ≡ Some step }
         ensures rest { IsRemarked self.old.net self.new.net }
         ensures waiting { self.new.waiting ≡ self.old.waiting }
         ensures marks { KeepsMarks (net_of self.old) (operations_on self.old.net) self.old.waiting.closed.items self.old.waiting.closed.items (flags_of self.old.net) (flags_of self.new.net) }
@@ -73,7 +73,7 @@ impl<const W: usize> ForkNet<'_, W> {
                 &mut self.net,
                 &self.waiting.closed,
                 taker,
-                self.waiting.steps[taker as usize],
+                self.waiting.steps.at(taker as usize),
             );
         }
     }

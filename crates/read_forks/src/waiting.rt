@@ -12,7 +12,7 @@ ghost use Rattle.read_forks.specs.WaitingLoads.{IsRemarked, KeepsMarks, waits_fo
 ghost use Rattle.read_forks.specs.NodeLinks.{AreValueLoads, IsStep};
 ghost use Rattle.read_forks.specs.Retests.{takes};
 
-use crate::steps::{Group, Link, Step};
+use crate::steps::{Group, Link, Step, Steps};
 use firing::StepSystem;
 use op_net::OpNet;
 
@@ -20,8 +20,8 @@ use op_net::OpNet;
 #[derive(Drop)]
 pub(crate) struct Waiting {
     /// For each node what its firing changes for loads.
-    pub(crate) steps: Vec<Step>,
-    /// The lines that nodes move.
+    pub(crate) steps: Steps,
+    /// The lines that operations need.
     pub(crate) links: Vec<Link>,
     /// The loads whose values nodes take.
     pub(crate) givers: Vec<u32>,
@@ -66,13 +66,13 @@ pub(crate) fn test<const W: usize>(net: &mut OpNet<W>, closed: &Vec<u32>, k: u32
 #[inline(always)]
 pub(crate) fn open_for<const W: usize>(
     net: &mut OpNet<W>,
-    steps: &Vec<Step>,
+    steps: &Steps,
     closed: &mut Vec<u32>,
     k: u32,
 )
     requires node { k < node_total (net_in net.old) }
-    requires step { (step : Step) → slice_get steps.now.items k ≡ Some step → operation_node (net_in net.old) k ≡ Op step.piece step.number }
-    requires exists { k < length steps.now.items }
+    requires step { (step : Step) → slice_get steps.now k ≡ Some step → operation_node (net_in net.old) k ≡ Op step.piece step.number }
+    requires exists { k < length steps.now }
     requires loads { is_load_node (net_in net.old) (operation_node (net_in net.old) k) ≡ true }
     requires apart { AreLoadsApart net.old }
     requires inside { k < length closed.old.items }
@@ -84,6 +84,6 @@ pub(crate) fn open_for<const W: usize>(
     let left = closed[k as usize] - 1;
     closed[k as usize] = left;
     if left == 0 {
-        test(net, closed, k, steps[k as usize]);
+        test(net, closed, k, steps.at(k as usize));
     }
 }

@@ -14,7 +14,7 @@ loop-at-init g c = record { steps = c.requires.steps; shut = c.requires.shut; wa
 pub loop-at-preserved : goal.loop-at-preserved
 loop-at-preserved g c =
     let x = net_of c.args.net.now in
-    let steps = c.args.steps.now.items in
+    let steps = c.args.steps.now in
     let links = c.loop-at.links.items in
     let at = c.loop-at.at in
     let link = c.index_mut.result.now in

@@ -1,6 +1,7 @@
 use Rattle.std.proofs.Common.{◌≡◌, ◌∙◌, ℕ, false, sym, subst, arith}
 use Rattle.op_board.specs.OperationNets.{operation_node}
 use Rattle.op_net.specs.NetView.{net_of}
+use Rattle.op_net.specs.Waits.{node_total}
 use Rattle.fork_board.specs.ForkTokens.{is_load_node}
 use Rattle.read_forks.specs.NodeLinks.{IsLoadTaker}
 use Rattle.read_forks.proofs.MadeGivers.{gives_none, no_load_taker, other_taker}
@@ -38,7 +39,7 @@ returns-else-index-clause-loads g c = λ below. let count = c.nodes-none.ensures
 pub returns-else-gives-clause-takes : goal.returns-else-gives-clause-takes
 returns-else-gives-clause-takes g c =
     let x = net_of c.args.net.now in
-    subst (λ (n : ℕ). IsLoadTaker x c.args.k n) (sym c.nodes-none.ensures) (no_load_taker x c.args.k (gives_none x c.args.k c.args.piece c.args.i c.requires.name (sym c.gives.ensures ∙ c.if-gives.false)))
+    subst (λ (n : ℕ). IsLoadTaker x c.args.k n) (sym c.nodes-none.ensures) (no_load_taker x c.args.k (gives_none x c.args.k c.args.piece c.args.i c.requires.name (sym c.gives.ensures ∙ c.if-gives.false)) (node_total (net_of c.args.net.now)) (omega arith))
 
 pub returns-else-gives-clause-loads : goal.returns-else-gives-clause-loads
 returns-else-gives-clause-loads g c = λ below. let count = c.nodes-none.ensures in absurd (omega (arith, below, count))

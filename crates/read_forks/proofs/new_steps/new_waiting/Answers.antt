@@ -10,7 +10,7 @@ pub find_ways-requires : goal.find_ways-requires
 find_ways-requires g c =
     let x = net_of c.args.net.now in
     let made = c.in_ok-tables.ensures.steps_made in
-    (omega arith, (all_steps_made x (node_total x) c.in_ok-tables.tables.steps.items c.in_ok-tables.tables.links.items refl made, made.shut))
+    (omega arith, (all_steps_made x (node_total x) c.in_ok-tables.tables.steps c.in_ok-tables.tables.links.items refl made, made.shut))
 
 pub returns-clause-kept : goal.returns-clause-kept
 returns-clause-kept g c =

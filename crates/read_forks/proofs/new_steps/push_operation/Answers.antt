@@ -40,9 +40,9 @@ returns g c =
     let grown_2 : length givers ≡ length t.givers.items + length these = ap length c.in_ok-push_givers.ensures ∙ length-append t.givers.items these in
     let room = c.requires.room in
     let node = c.requires.node in
-    operation_more x c.args.k t.steps.items t.links.items t.givers.items c.requires.made c.requires.node _ c.push.new.self.items links c.in_ok-push.ensures.items first (omega (arith, told, long, small))
+    operation_more x c.args.k t.steps t.links.items t.givers.items c.requires.made c.requires.node _ c.push.new.self links c.in_ok-push.ensures first (omega (arith, told, long, small))
     c.args.piece c.args.i c.requires.name givers refl refl
-    (sym (flag_read c.args.loads.now.items c.args.k c.index.result.now (omega (arith, room, node)) c.index.ensures) ∙ c.requires.flags c.args.k c.requires.node)
+    (sym (flag_read c.args.loads.now.items c.args.k c.index.result.now (omega (arith, room, node)) c.index.ensures) ∙ c.requires.flags c.args.k c.requires.node) refl
     c.in_ok-push_links.ensures (omega (arith, told, long, first, grown))
     c.in_ok-push_givers.ensures first_2 (omega (arith, told_2, long_2, first_2, grown_2)) (omega (arith, told_2, long_2, small_2))
     c.load_taker.ensures.takes c.load_taker.ensures.loads

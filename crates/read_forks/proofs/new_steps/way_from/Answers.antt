@@ -1,5 +1,4 @@
-use Rattle.std.proofs.Common.{◌≡◌, ℕ, Option, Some, length, slice_get, refl, subst, arith}
-use Rattle.std.proofs.lemmas.Option.{slice_get_read}
+use Rattle.std.proofs.Common.{◌≡◌, ℕ, Option, Some, slice_get, subst, arith}
 use Rattle.net_board.proofs.NodeLaws.{member_at}
 use Rattle.op_board.specs.OperationNets.{needed}
 use Rattle.op_board.proofs.NeededLines.{needed_has}
@@ -15,7 +14,7 @@ use Rattle.read_forks.proofs.new_steps.way_from.Goals as goal
 pub needed_next-requires : goal.needed_next-requires
 needed_next-requires g c =
     let x = net_of c.args.net.now in
-    let steps = c.args.steps.now.items in
+    let steps = c.args.steps.now in
     let links = c.args.links.now.items in
     let piece = c.args.step.piece in
     let i = c.args.step.number in
@@ -28,7 +27,7 @@ needed_next-requires g c =
 pub operation_node-to-requires : goal.operation_node-to-requires
 operation_node-to-requires g c =
     let x = net_of c.args.net.now in
-    let steps = c.args.steps.now.items in
+    let steps = c.args.steps.now in
     let links = c.args.links.now.items in
     let piece = c.args.step.piece in
     let i = c.args.step.number in
@@ -43,7 +42,7 @@ operation_node-to-requires g c =
 pub link_near-requires-clause-exist : goal.link_near-requires-clause-exist
 link_near-requires-clause-exist g c =
     let x = net_of c.args.net.now in
-    let steps = c.args.steps.now.items in
+    let steps = c.args.steps.now in
     let links = c.args.links.now.items in
     let piece = c.args.step.piece in
     let i = c.args.step.number in
@@ -54,16 +53,16 @@ link_near-requires-clause-exist g c =
     let to = c.operation_node-to.result in
     let low = c.operation_node-to.ensures.exists in
     let is = operation_number x to piece n low c.operation_node-to.ensures.name in
-    let next = c.index-next.result.now in
+    let next = c.at-next.result in
     let all = c.requires.steps.all in
-    let at : slice_get steps to ≡ Some next = slice_get_read steps (length steps) to next refl (omega (arith, low, all)) c.index-next.ensures in
+    let at : slice_get steps to ≡ Some next = c.at-next.ensures in
     let step : IsStep x links to next = c.requires.steps.each to next at in
     step.has_links.inside
 
 pub link_near-requires-clause-rise : goal.link_near-requires-clause-rise
 link_near-requires-clause-rise g c =
     let x = net_of c.args.net.now in
-    let steps = c.args.steps.now.items in
+    let steps = c.args.steps.now in
     let links = c.args.links.now.items in
     let piece = c.args.step.piece in
     let i = c.args.step.number in
@@ -74,16 +73,16 @@ link_near-requires-clause-rise g c =
     let to = c.operation_node-to.result in
     let low = c.operation_node-to.ensures.exists in
     let is = operation_number x to piece n low c.operation_node-to.ensures.name in
-    let next = c.index-next.result.now in
+    let next = c.at-next.result in
     let all = c.requires.steps.all in
-    let at : slice_get steps to ≡ Some next = slice_get_read steps (length steps) to next refl (omega (arith, low, all)) c.index-next.ensures in
+    let at : slice_get steps to ≡ Some next = c.at-next.ensures in
     let step : IsStep x links to next = c.requires.steps.each to next at in
     step.rise
 
 pub link_near-requires-clause-there : goal.link_near-requires-clause-there
 link_near-requires-clause-there g c =
     let x = net_of c.args.net.now in
-    let steps = c.args.steps.now.items in
+    let steps = c.args.steps.now in
     let links = c.args.links.now.items in
     let piece = c.args.step.piece in
     let i = c.args.step.number in
@@ -94,16 +93,16 @@ link_near-requires-clause-there g c =
     let to = c.operation_node-to.result in
     let low = c.operation_node-to.ensures.exists in
     let is = operation_number x to piece n low c.operation_node-to.ensures.name in
-    let next = c.index-next.result.now in
+    let next = c.at-next.result in
     let all = c.requires.steps.all in
-    let at : slice_get steps to ≡ Some next = slice_get_read steps (length steps) to next refl (omega (arith, low, all)) c.index-next.ensures in
+    let at : slice_get steps to ≡ Some next = c.at-next.ensures in
     let step : IsStep x links to next = c.requires.steps.each to next at in
     next_line x links piece i line n follows here.exists to is next step (needed_has x piece i line (member_at (needed x piece i) c.args.j line c.requires.line)).0
 
 pub returns-then-next : goal.returns-then-next
 returns-then-next g c =
     let x = net_of c.args.net.now in
-    let steps = c.args.steps.now.items in
+    let steps = c.args.steps.now in
     let links = c.args.links.now.items in
     let piece = c.args.step.piece in
     let i = c.args.step.number in
@@ -114,16 +113,16 @@ returns-then-next g c =
     let to = c.operation_node-to.result in
     let low = c.operation_node-to.ensures.exists in
     let is = operation_number x to piece n low c.operation_node-to.ensures.name in
-    let next = c.index-next.result.now in
+    let next = c.at-next.result in
     let all = c.requires.steps.all in
-    let at : slice_get steps to ≡ Some next = slice_get_read steps (length steps) to next refl (omega (arith, low, all)) c.index-next.ensures in
+    let at : slice_get steps to ≡ Some next = c.at-next.ensures in
     let step : IsStep x links to next = c.requires.steps.each to next at in
     ∣ way_here x links piece i line n follows here.exists to is next step c.if-next.true c.link_near.result c.link_near.ensures.line c.link_near.ensures.from c.link_near.ensures.below ∣₁
 
 pub returns-else-next : goal.returns-else-next
 returns-else-next g c =
     let x = net_of c.args.net.now in
-    let steps = c.args.steps.now.items in
+    let steps = c.args.steps.now in
     let links = c.args.links.now.items in
     let piece = c.args.step.piece in
     let i = c.args.step.number in
@@ -134,16 +133,16 @@ returns-else-next g c =
     let to = c.operation_node-to.result in
     let low = c.operation_node-to.ensures.exists in
     let is = operation_number x to piece n low c.operation_node-to.ensures.name in
-    let next = c.index-next.result.now in
+    let next = c.at-next.result in
     let all = c.requires.steps.all in
-    let at : slice_get steps to ≡ Some next = slice_get_read steps (length steps) to next refl (omega (arith, low, all)) c.index-next.ensures in
+    let at : slice_get steps to ≡ Some next = c.at-next.ensures in
     let step : IsStep x links to next = c.requires.steps.each to next at in
     ∣ way_before x links piece i line n follows here.exists to is next step c.if-next.false ∣₁
 
 pub way_over-requires : goal.way_over-requires
 way_over-requires g c =
     let x = net_of c.args.net.now in
-    let steps = c.args.steps.now.items in
+    let steps = c.args.steps.now in
     let links = c.args.links.now.items in
     let piece = c.args.step.piece in
     let i = c.args.step.number in

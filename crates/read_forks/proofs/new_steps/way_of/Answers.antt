@@ -7,14 +7,14 @@ use Rattle.read_forks.proofs.new_steps.way_of.Goals as goal
 pub way_from-requires : goal.way_from-requires
 way_from-requires g c =
     let x = net_of c.args.net.now in
-    let steps = c.args.steps.now.items in
+    let steps = c.args.steps.now in
     let links = c.args.links.now.items in
     let link = c.index-link.result.now in
     let is : slice_get links c.args.at ≡ Some link = slice_get_read links (length links) c.args.at link refl c.requires.inside c.index-link.ensures in
     let low = link_node x steps links c.requires.steps c.args.at link is in
     let all = c.requires.steps.all in
-    let step = c.index-step.result.now in
-    let there : slice_get steps link.node ≡ Some step = slice_get_read steps (length steps) link.node step refl (omega (arith, low, all)) c.index-step.ensures in
+    let step = c.at-step.result in
+    let there : slice_get steps link.node ≡ Some step = c.at-step.ensures in
     let name = sym c.name.ensures ∙ c.in-Op.is in
     let own_loads = (c.requires.steps.each link.node step there).loads in
     (omega arith, (c.requires.steps, (low, (own_name x steps links c.requires.steps c.args.at link is step there _ _ name, (own_loads, own_line x steps links c.requires.steps c.args.at link is step there _ _ name)))))
@@ -22,21 +22,21 @@ way_from-requires g c =
 pub returns-in-Op : goal.returns-in-Op
 returns-in-Op g c =
     let x = net_of c.args.net.now in
-    let steps = c.args.steps.now.items in
+    let steps = c.args.steps.now in
     let links = c.args.links.now.items in
     let link = c.index-link.result.now in
     let is : slice_get links c.args.at ≡ Some link = slice_get_read links (length links) c.args.at link refl c.requires.inside c.index-link.ensures in
     let low = link_node x steps links c.requires.steps c.args.at link is in
     let all = c.requires.steps.all in
-    let step = c.index-step.result.now in
-    let there : slice_get steps link.node ≡ Some step = slice_get_read steps (length steps) link.node step refl (omega (arith, low, all)) c.index-step.ensures in
+    let step = c.at-step.result in
+    let there : slice_get steps link.node ≡ Some step = c.at-step.ensures in
     let name = sym c.name.ensures ∙ c.in-Op.is in
     way_of_link x steps links c.requires.steps c.args.at link is step there _ _ name c.way_from.result c.way_from.ensures
 
 pub returns-in-Switch : goal.returns-in-Switch
 returns-in-Switch g c =
     let x = net_of c.args.net.now in
-    let steps = c.args.steps.now.items in
+    let steps = c.args.steps.now in
     let links = c.args.links.now.items in
     let link = c.index-link.result.now in
     let is : slice_get links c.args.at ≡ Some link = slice_get_read links (length links) c.args.at link refl c.requires.inside c.index-link.ensures in
@@ -45,7 +45,7 @@ returns-in-Switch g c =
 pub returns-in-Merge : goal.returns-in-Merge
 returns-in-Merge g c =
     let x = net_of c.args.net.now in
-    let steps = c.args.steps.now.items in
+    let steps = c.args.steps.now in
     let links = c.args.links.now.items in
     let link = c.index-link.result.now in
     let is : slice_get links c.args.at ≡ Some link = slice_get_read links (length links) c.args.at link refl c.requires.inside c.index-link.ensures in
@@ -54,7 +54,7 @@ returns-in-Merge g c =
 pub returns-in-Act : goal.returns-in-Act
 returns-in-Act g c =
     let x = net_of c.args.net.now in
-    let steps = c.args.steps.now.items in
+    let steps = c.args.steps.now in
     let links = c.args.links.now.items in
     let link = c.index-link.result.now in
     let is : slice_get links c.args.at ≡ Some link = slice_get_read links (length links) c.args.at link refl c.requires.inside c.index-link.ensures in

@@ -115,7 +115,7 @@ test_taker-requires g c =
     let done = c.close_links.ensures in
     let led = c.steer.new.self in
     let tested = c.test_givers.new.self in
-    (omega arith, (subst (λ (y : OperationNet). k < node_total y) (sym (c.test_givers.ensures.rest.net ∙ net_steered s k step c.requires.sound can c.requires.step c.requires.loads marked shut w2 net marking done.net (done.marking, (done.lines, done.opened)) (ap (λ (v : Vec ℕ Global). v.items) done.closed) led c.steer.ensures.net c.steer.ensures.marking)) c.requires.node, ap (λ (u : Waiting). slice_get u.steps.items k) c.test_givers.ensures.waiting ∙ steps_steered s k step c.requires.sound can c.requires.step c.requires.loads marked shut w2 net marking done.net (done.marking, (done.lines, done.opened)) (ap (λ (v : Vec ℕ Global). v.items) done.closed) led c.steer.ensures.net c.steer.ensures.marking done.steps))
+    (omega arith, (subst (λ (y : OperationNet). k < node_total y) (sym (c.test_givers.ensures.rest.net ∙ net_steered s k step c.requires.sound can c.requires.step c.requires.loads marked shut w2 net marking done.net (done.marking, (done.lines, done.opened)) (ap (λ (v : Vec ℕ Global). v.items) done.closed) led c.steer.ensures.net c.steer.ensures.marking)) c.requires.node, ap (λ (u : Waiting). slice_get u.steps k) c.test_givers.ensures.waiting ∙ steps_steered s k step c.requires.sound can c.requires.step c.requires.loads marked shut w2 net marking done.net (done.marking, (done.lines, done.opened)) (ap (λ (v : Vec ℕ Global). v.items) done.closed) led c.steer.ensures.net c.steer.ensures.marking done.steps))
 
 pub invariant_of-self : goal.invariant_of-self
 invariant_of-self g c =

@@ -1,4 +1,4 @@
-use Rattle.std.proofs.Common.{◌≡◌, ◌<◌, Vec, Global, false, slice_get, Some, sym, ◌∙◌, subst, arith}
+use Rattle.std.proofs.Common.{List, ◌≡◌, ◌<◌, false, slice_get, Some, sym, ◌∙◌, subst, arith}
 use Rattle.closed_walks.specs.Graph.{edge_count}
 use Rattle.firing.specs.Moves.{CanFire}
 use Rattle.net_board.specs.Nodes.{graph_in}
@@ -99,7 +99,7 @@ test_givers-requires g c =
       omega arith,
       (
         subst (λ (y : OperationNet). k < node_total y) (sym (net_opened s k c.requires.sound can c.requires.loads led net marking kept w arrived.new.net rest arrived.ensures.kept)) c.requires.node,
-        subst (λ (v : Vec Step Global). slice_get v.items k ≡ Some c.args.step) (sym arrived.ensures.steps) c.requires.step,
+        subst (λ (v : List Step). slice_get v k ≡ Some c.args.step) (sym arrived.ensures.steps) c.requires.step,
       ),
     )
 
@@ -120,7 +120,7 @@ test_taker-requires g c =
       omega arith,
       (
         subst (λ (y : OperationNet). k < node_total y) (sym (given.ensures.rest.net ∙ net_opened s k c.requires.sound can c.requires.loads led net marking kept w arrived.new.net rest arrived.ensures.kept)) c.requires.node,
-        subst (λ (u : Waiting). slice_get u.steps.items k ≡ Some c.args.step) (sym given.ensures.waiting) (subst (λ (v : Vec Step Global). slice_get v.items k ≡ Some c.args.step) (sym arrived.ensures.steps) c.requires.step),
+        subst (λ (u : Waiting). slice_get u.steps k ≡ Some c.args.step) (sym given.ensures.waiting) (subst (λ (v : List Step). slice_get v k ≡ Some c.args.step) (sym arrived.ensures.steps) c.requires.step),
       ),
     )
 

@@ -1,5 +1,4 @@
-use Rattle.std.proofs.Common.{◌≡◌, ◌<◌, length, slice_get, Some, refl, sym, ap, ◌∙◌, arith}
-use Rattle.std.proofs.lemmas.Option.{slice_get_read}
+use Rattle.std.proofs.Common.{◌≡◌, slice_get, Some, sym, ◌∙◌, arith}
 use Rattle.op_board.specs.OperationNets.{operation_node}
 use Rattle.op_net.specs.NetView.{marking_of as operations_on}
 use Rattle.fork_board.proofs.ForkNodes.{other_ready}
@@ -9,8 +8,8 @@ use Rattle.read_forks.proofs.ReadyLoads.{waits_ready}
 use Rattle.read_forks.proofs.TestedNets.{room_closed, room_steps}
 use Rattle.read_forks.proofs.fork_net.ForkNet.is_ready.Goals as goal
 
-pub index-step-requires : goal.index-step-requires
-index-step-requires g c =
+pub at-step-requires : goal.at-step-requires
+at-step-requires g c =
     let long = room_steps c.args.self.now in
     let low = c.requires.node in
     omega (arith, long, low)
@@ -23,8 +22,8 @@ can_load-requires g c =
     let low = c.requires.node in
     let long = room_steps s in
     let room = room_closed s in
-    let step = c.index-step.result.now in
-    let at : slice_get s.waiting.steps.items k ≡ Some step = slice_get_read s.waiting.steps.items (length s.waiting.steps.items) k step refl (omega (arith, long, low)) c.index-step.ensures in
+    let step = c.at-step.result in
+    let at : slice_get s.waiting.steps k ≡ Some step = c.at-step.ensures in
     let is = s.kept.tables.steps.each k step at in
     let loads = sym is.loads ∙ c.if-step.true in
     (omega arith, (low, (load_step x s.waiting.links.items k step is loads, omega (arith, room, low))))
@@ -36,8 +35,8 @@ returns-then-step g c =
     let k = c.args.k in
     let low = c.requires.node in
     let long = room_steps s in
-    let step = c.index-step.result.now in
-    let at : slice_get s.waiting.steps.items k ≡ Some step = slice_get_read s.waiting.steps.items (length s.waiting.steps.items) k step refl (omega (arith, long, low)) c.index-step.ensures in
+    let step = c.at-step.result in
+    let at : slice_get s.waiting.steps k ≡ Some step = c.at-step.ensures in
     let is = s.kept.tables.steps.each k step at in
     c.can_load.ensures ∙ waits_ready x (operations_on s.net) s.waiting s.kept k low (sym is.loads ∙ c.if-step.true)
 
@@ -48,8 +47,8 @@ returns-else-step g c =
     let k = c.args.k in
     let low = c.requires.node in
     let long = room_steps s in
-    let step = c.index-step.result.now in
-    let at : slice_get s.waiting.steps.items k ≡ Some step = slice_get_read s.waiting.steps.items (length s.waiting.steps.items) k step refl (omega (arith, long, low)) c.index-step.ensures in
+    let step = c.at-step.result in
+    let at : slice_get s.waiting.steps k ≡ Some step = c.at-step.ensures in
     let is = s.kept.tables.steps.each k step at in
     c.ready.ensures ∙ sym (other_ready x (marking_of s) k (operation_node x k) (sym is.loads ∙ c.if-step.false))
 

@@ -1,5 +1,4 @@
-use Rattle.std.proofs.Common.{◌≡◌, ◌<◌, inl, inr, ⊎_elim, ℕ, Some, get_or, length, slice_get, refl, sym, ap, ◌∙◌, subst, arith}
-use Rattle.std.proofs.lemmas.Option.{slice_get_read}
+use Rattle.std.proofs.Common.{◌≡◌, ◌<◌, inr, ⊎_elim, Some, slice_get, refl, sym, ap, ◌∙◌, subst, arith}
 use Rattle.op_board.specs.OperationNets.{OperationNet}
 use Rattle.op_net.specs.ApartLoads.{flags_of}
 use Rattle.op_net.specs.NetView.{marking_of as operations_on, net_of as net_in}
@@ -32,8 +31,8 @@ loop-k-init g c =
           which;
     }
 
-pub index-step-requires : goal.index-step-requires
-index-step-requires g c =
+pub at-step-requires : goal.at-step-requires
+at-step-requires g c =
     let s = c.args.self.now in
     let x = net_of s in
     let over = c.loop-k-test.true in
@@ -54,8 +53,8 @@ test_load-requires g c =
     let total : node_total (net_in c.count_apart.new.self) ≡ node_total x = ap (λ (y : OperationNet). node_total y) c.count_apart.ensures.net in
     let low : c.loop-k.k < node_total x = omega (arith, over, count, end, total) in
     let long = room_steps s in
-    let step = c.index-step.result.now in
-    let at : slice_get s.waiting.steps.items c.loop-k.k ≡ Some step = slice_get_read s.waiting.steps.items (length s.waiting.steps.items) c.loop-k.k step refl (omega (arith, low, long)) (subst (λ (w : Waiting). step ≡ get_or w.steps.items c.loop-k.k step) i.waiting c.index-step.ensures) in
+    let step = c.at-step.result in
+    let at : slice_get s.waiting.steps c.loop-k.k ≡ Some step = subst (λ (w : Waiting). slice_get w.steps c.loop-k.k ≡ Some step) i.waiting c.at-step.ensures in
     let is = s.kept.tables.steps.each c.loop-k.k step at in
     (omega arith, can_test_node s c.loop-k.self.net i.net i.marking i.apart i.waiting c.loop-k.k step low at)
 
@@ -70,8 +69,8 @@ loop-k-preserved g c =
     let total : node_total (net_in c.count_apart.new.self) ≡ node_total x = ap (λ (y : OperationNet). node_total y) c.count_apart.ensures.net in
     let low : c.loop-k.k < node_total x = omega (arith, over, count, end, total) in
     let long = room_steps s in
-    let step = c.index-step.result.now in
-    let at : slice_get s.waiting.steps.items c.loop-k.k ≡ Some step = slice_get_read s.waiting.steps.items (length s.waiting.steps.items) c.loop-k.k step refl (omega (arith, low, long)) (subst (λ (w : Waiting). step ≡ get_or w.steps.items c.loop-k.k step) i.waiting c.index-step.ensures) in
+    let step = c.at-step.result in
+    let at : slice_get s.waiting.steps c.loop-k.k ≡ Some step = subst (λ (w : Waiting). slice_get w.steps c.loop-k.k ≡ Some step) i.waiting c.at-step.ensures in
     let is = s.kept.tables.steps.each c.loop-k.k step at in
     let now = c.loop-k.self.net in
     let did = c.test_load.ensures in

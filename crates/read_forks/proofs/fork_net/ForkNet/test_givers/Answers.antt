@@ -34,8 +34,8 @@ index-j-requires g c =
     let there = subst (λ (w : Waiting). c.loop-n.n < length w.givers.items) (sym c.loop-n.invariant.waiting) low in
     omega (arith, there)
 
-pub index-requires : goal.index-requires
-index-requires g c =
+pub at-requires : goal.at-requires
+at-requires g c =
     let s = c.args.self.now in
     let x = net_of s in
     let m = operations_on s.net in
@@ -53,8 +53,8 @@ index-requires g c =
     let exists = values.exist c.loop-n.n j at in
     let loads = values.loads c.loop-n.n j at in
     let long = room_steps s in
-    let low_step : j < length s.waiting.steps.items = omega (arith, exists, long) in
-    let there = subst (λ (w : Waiting). j < length w.steps.items) (sym i.waiting) low_step in
+    let low_step : j < length s.waiting.steps = omega (arith, exists, long) in
+    let there = subst (λ (w : Waiting). j < length w.steps) (sym i.waiting) low_step in
     omega (arith, there)
 
 pub test-requires : goal.test-requires
@@ -76,8 +76,8 @@ test-requires g c =
     let exists = values.exist c.loop-n.n j at in
     let loads = values.loads c.loop-n.n j at in
     let long = room_steps s in
-    let step = c.index.result.now in
-    let there = slice_get_read s.waiting.steps.items (length s.waiting.steps.items) j step refl (omega (arith, exists, long)) (subst (λ (w : Waiting). step ≡ get_or w.steps.items j step) i.waiting c.index.ensures) in
+    let step = c.at.result in
+    let there = subst (λ (w : Waiting). slice_get w.steps j ≡ Some step) i.waiting c.at.ensures in
     (omega arith, can_test s c.loop-n.self.net i.rest.net i.rest.marking i.rest.apart i.waiting j step exists there loads)
 
 pub loop-n-preserved : goal.loop-n-preserved

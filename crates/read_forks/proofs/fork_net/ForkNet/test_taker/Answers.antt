@@ -1,5 +1,4 @@
 use Rattle.std.proofs.Common.{◌≡◌, ◌<◌, ℕ, length, Some, slice_get, refl, sym, subst, arith}
-use Rattle.std.proofs.lemmas.Option.{slice_get_read}
 use Rattle.firing.specs.ReadySet.{has}
 use Rattle.op_board.specs.OperationNets.{operation_node}
 use Rattle.op_net.specs.ApartLoads.{flags_of}
@@ -25,8 +24,8 @@ test-requires g c =
     let exists : taker < node_total x = omega (arith, less, nodes) in
     let loads = s.kept.tables.values.takers c.args.k c.args.step c.requires.step exists in
     let long = room_steps s in
-    let step = c.index.result.now in
-    let at : slice_get s.waiting.steps.items taker ≡ Some step = slice_get_read s.waiting.steps.items (length s.waiting.steps.items) taker step refl (omega (arith, exists, long)) c.index.ensures in
+    let step = c.at.result in
+    let at : slice_get s.waiting.steps taker ≡ Some step = c.at.ensures in
     (omega arith, can_test s s.net refl refl refl refl taker step exists at loads)
 
 pub invariant_of-self : goal.invariant_of-self

@@ -11,7 +11,6 @@ use Rattle.read_forks.specs.NodeLinks.{IsStep}
 use Rattle.read_forks.specs.Ways.{IsLinkAt}
 use Rattle.read_forks.proofs.FollowedLines.{far_before_none, none_opened}
 use Rattle.read_forks.proofs.LoadsBefore.{IsLoadBefore, has_line, link_is, load_before, none_where_no_load, none_where_no_node, not_false, not_true}
-use Rattle.read_forks.proofs.OpenedTables.{read_item}
 use Rattle.read_forks.proofs.StoodLinks.{HasHeads}
 use Rattle.read_forks.proofs.waiting.Waiting.arrive.Goals as goal
 
@@ -28,8 +27,8 @@ link_near-at-requires-clause-exist g c =
     let nodes : c.nodes.result ≡ node_total x = c.nodes.ensures in
     let low : k < node_total x = omega (arith, nodes, c.if-to-nodes.false) in
     let all = t.steps.all in
-    let step = c.index-step.result.now in
-    let at : slice_get w.steps.items k ≡ Some step = read_item w.steps.items k step (omega (arith, low, all)) c.index-step.ensures in
+    let step = c.at-step.result in
+    let at : slice_get w.steps k ≡ Some step = c.at-step.ensures in
     let is : IsStep x w.links.items k step = t.steps.each k step at in
     is.has_links.inside
 
@@ -46,8 +45,8 @@ link_near-at-requires-clause-rise g c =
     let nodes : c.nodes.result ≡ node_total x = c.nodes.ensures in
     let low : k < node_total x = omega (arith, nodes, c.if-to-nodes.false) in
     let all = t.steps.all in
-    let step = c.index-step.result.now in
-    let at : slice_get w.steps.items k ≡ Some step = read_item w.steps.items k step (omega (arith, low, all)) c.index-step.ensures in
+    let step = c.at-step.result in
+    let at : slice_get w.steps k ≡ Some step = c.at-step.ensures in
     let is : IsStep x w.links.items k step = t.steps.each k step at in
     is.rise
 
@@ -64,8 +63,8 @@ link_near-at-requires-clause-there g c =
     let nodes : c.nodes.result ≡ node_total x = c.nodes.ensures in
     let low : k < node_total x = omega (arith, nodes, c.if-to-nodes.false) in
     let all = t.steps.all in
-    let step = c.index-step.result.now in
-    let at : slice_get w.steps.items k ≡ Some step = read_item w.steps.items k step (omega (arith, low, all)) c.index-step.ensures in
+    let step = c.at-step.result in
+    let at : slice_get w.steps k ≡ Some step = c.at-step.ensures in
     let is : IsStep x w.links.items k step = t.steps.each k step at in
     let loads : is_load_node x (operation_node x k) ≡ true = sym is.loads ∙ not_false step.loads c.if-not-step.false in
     let there : IsLoadBefore x line edge (passed_by m line) k c.requires.before = load_before x line edge (passed_by m line) k c.requires.before low loads in
@@ -84,8 +83,8 @@ open_group-requires g c =
     let nodes : c.nodes.result ≡ node_total x = c.nodes.ensures in
     let low : k < node_total x = omega (arith, nodes, c.if-to-nodes.false) in
     let all = t.steps.all in
-    let step = c.index-step.result.now in
-    let at : slice_get w.steps.items k ≡ Some step = read_item w.steps.items k step (omega (arith, low, all)) c.index-step.ensures in
+    let step = c.at-step.result in
+    let at : slice_get w.steps k ≡ Some step = c.at-step.ensures in
     let is : IsStep x w.links.items k step = t.steps.each k step at in
     let loads : is_load_node x (operation_node x k) ≡ true = sym is.loads ∙ not_false step.loads c.if-not-step.false in
     let there : IsLoadBefore x line edge (passed_by m line) k c.requires.before = load_before x line edge (passed_by m line) k c.requires.before low loads in
@@ -120,8 +119,8 @@ returns-then-not-step-clause-opened g c =
     let nodes : c.nodes.result ≡ node_total x = c.nodes.ensures in
     let low : k < node_total x = omega (arith, nodes, c.if-to-nodes.false) in
     let all = t.steps.all in
-    let step = c.index-step.result.now in
-    let at : slice_get w.steps.items k ≡ Some step = read_item w.steps.items k step (omega (arith, low, all)) c.index-step.ensures in
+    let step = c.at-step.result in
+    let at : slice_get w.steps k ≡ Some step = c.at-step.ensures in
     let is : IsStep x w.links.items k step = t.steps.each k step at in
     let not : is_load_node x (operation_node x k) ≡ false = sym is.loads ∙ not_true step.loads c.if-not-step.true in
     let none : load_at x line (spot edge (passed_by m line)) ≡ None = none_where_no_load x line edge (passed_by m line) k c.requires.before heads c.requires.exists not in

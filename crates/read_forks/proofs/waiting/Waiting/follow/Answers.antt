@@ -1,18 +1,13 @@
-use Rattle.std.proofs.Common.{◌≡◌, ◌<◌, ℕ, length, Some, None, slice_get, refl, sym, ap, ◌∙◌, subst, arith, rules}
+use Rattle.std.proofs.Common.{◌≡◌, length, Some, None, slice_get, refl, sym, ◌∙◌, arith, rules}
 use Rattle.std.proofs.lemmas.Option.{slice_get_read}
-use Rattle.closed_walks.specs.Graph.{edge_count}
-use Rattle.net_board.specs.Nodes.{graph_in}
 use Rattle.net_board.specs.Tokens.{edge_of}
-use Rattle.op_board.specs.OperationNets.{OperationNet, operation_node}
-use Rattle.op_board.specs.OperationTokens.{OperationTokens, passed_by}
-use Rattle.op_board.specs.SoundOperationNets.{IsOperationNet}
+use Rattle.op_board.specs.OperationNets.{operation_node}
+use Rattle.op_board.specs.OperationTokens.{passed_by}
 use Rattle.op_net.specs.NetView.{marking_of as operations_on, net_of as net_in}
-use Rattle.op_net.specs.Waits.{IsNodeBefore}
-use Rattle.read_forks.specs.KeptLoads.{IsOpenForNone, opened_of}
+use Rattle.read_forks.specs.KeptLoads.{opened_of}
 use Rattle.read_forks.specs.LedLines.{IsLedOn}
-use Rattle.read_forks.proofs.ArrivedLines.{IsFollowed, led_arrived, one_link_opened}
+use Rattle.read_forks.proofs.ArrivedLines.{one_link_opened}
 use Rattle.read_forks.proofs.FollowedLines.{far_before_none, far_where_vanished, load_there, no_load_there, none_opened, passed_nothing}
-use Rattle.read_forks.proofs.KeptNets.{apart_too, kept_there}
 use Rattle.read_forks.proofs.waiting.Waiting.follow.Goals as goal
 
 pub edge_of-requires : goal.edge_of-requires
@@ -70,18 +65,8 @@ open_group-requires g c =
       ),
     )
 
-pub node_led_to-to-requires : goal.node_led_to-to-requires
-node_led_to-to-requires g c =
-    let x = net_in c.args.net.now in
-    let m = operations_on c.args.net.now in
-    let w = c.args.self.now in
-    let link = c.index-link.result.now in
-    let at : slice_get w.links.items c.args.at ≡ Some link = slice_get_read w.links.items (length w.links.items) c.args.at link refl c.requires.inside c.index-link.ensures in
-    let led : IsLedOn x m (opened_of x w) (operation_node x link.node) link.line = c.requires.led link at in
-    (omega arith, (led.exists, (c.edge_of.ensures.exists c.in-Some.wire c.in-Some.is, c.requires.edge)))
-
-pub arrive-requires : goal.arrive-requires
-arrive-requires g c =
+pub arrive_led-requires : goal.arrive_led-requires
+arrive_led-requires g c =
     let x = net_in c.args.net.now in
     let m = operations_on c.args.net.now in
     let w = c.args.self.now in
@@ -89,33 +74,11 @@ arrive-requires g c =
     let at : slice_get w.links.items c.args.at ≡ Some link = slice_get_read w.links.items (length w.links.items) c.args.at link refl c.requires.inside c.index-link.ensures in
     let led : IsLedOn x m (opened_of x w) (operation_node x link.node) link.line = c.requires.led link at in
     let stands : edge_of m.tokens link.line ≡ Some c.in-Some.wire = sym c.edge_of.ensures.edge ∙ c.in-Some.is in
-    let turn = c.node_led_to-to in
-    let rest = turn.ensures.rest in
     let passed : passed_by m link.line ≡ 0 = passed_nothing x m w.links.items link.line c.in-Some.wire stands c.requires.kept.tables.ways c.args.at link at refl led.gone c.in_default-way.not-Here c.in_default-way.not-Before in (
       omega arith,
       (
-        subst (λ (y : OperationNet). link.line < y.net.routing.lines) (sym rest.net) led.exists,
-        (
-          subst (λ (y : OperationNet). IsOperationNet y) (sym rest.net) c.requires.is_net,
-          (
-            subst (λ (y : OperationNet). c.in-Some.wire < edge_count (graph_in y.net)) (sym rest.net) (c.edge_of.ensures.exists c.in-Some.wire c.in-Some.is),
-            (
-              apart_too c.args.net.now turn.new.net rest.net rest.apart c.requires.apart,
-              (
-                kept_there x (net_in turn.new.net) m (operations_on turn.new.net) w rest.net rest.marking c.requires.kept,
-                (
-                  subst (λ (y : OperationNet). IsOpenForNone (opened_of y w) link.line) (sym rest.net) led.none,
-                  (
-                    ap (λ (t : OperationTokens). edge_of t.tokens link.line) rest.marking ∙ stands,
-                    subst (λ (t : OperationTokens). IsNodeBefore (net_in turn.new.net) link.line (Some c.in-Some.wire) (passed_by t link.line) turn.result) (sym rest.marking)
-                        (subst (λ (y : OperationNet). IsNodeBefore y link.line (Some c.in-Some.wire) (passed_by m link.line) turn.result) (sym rest.net)
-                        (subst (λ (n : ℕ). IsNodeBefore x link.line (Some c.in-Some.wire) n turn.result) (sym passed) turn.ensures.before)),
-                  ),
-                ),
-              ),
-            ),
-          ),
-        ),
+        c.requires.is_net,
+        (led.exists, (c.requires.apart, (c.requires.kept, (led.none, (c.edge_of.ensures.exists c.in-Some.wire c.in-Some.is, (stands, (passed, c.requires.edge))))))),
       ),
     )
 
@@ -141,16 +104,12 @@ returns-in-Before-clause-opened g c =
     let none = no_load_there x m w.links.items link.line c.in-Some.wire stands c.requires.kept.tables.ways c.args.at link at refl led.gone c.in-Before.field-0 c.in-Before.is in
     one_link_opened x m w.links.items c.args.at link at (opened_of x w) (opened_of x w) (none_opened x m link.line (opened_of x w) led.none (far_before_none x m link.line c.in-Some.wire stands none))
 
-pub returns-in_default-way : goal.returns-in_default-way
-returns-in_default-way g c =
+pub returns-in_default-way-clause-opened : goal.returns-in_default-way-clause-opened
+returns-in_default-way-clause-opened g c =
     let x = net_in c.args.net.now in
     let m = operations_on c.args.net.now in
     let w = c.args.self.now in
     let link = c.index-link.result.now in
     let at : slice_get w.links.items c.args.at ≡ Some link = slice_get_read w.links.items (length w.links.items) c.args.at link refl c.requires.inside c.index-link.ensures in
     let led : IsLedOn x m (opened_of x w) (operation_node x link.node) link.line = c.requires.led link at in
-    let turn = c.node_led_to-to in
-    let did = c.arrive in
-    let all : IsFollowed w.links.items c.args.at w did.new.self c.args.net.now did.new.net =
-    led_arrived c.args.net.now turn.new.net did.new.net w did.new.self c.args.at link at turn.ensures.rest turn.ensures.kept c.requires.apart did.ensures.rest did.ensures.kept did.ensures.opened did.ensures.marks did.ensures.steps in
-    record { rest = all.rest; kept = all.kept; opened = all.opened; marks = all.marks; steps = all.steps }
+    one_link_opened x m w.links.items c.args.at link at (opened_of x w) (opened_of x c.arrive_led.new.self) c.arrive_led.ensures.opened

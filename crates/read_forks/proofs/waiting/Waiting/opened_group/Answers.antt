@@ -23,7 +23,7 @@ walk-init g c =
     let first = c.requires.first in
     let load : IsLoadOf x c.args.line s (node_at links c.args.first) = load_of x c.args.line s (node_at links c.args.first) first.load in
     let is : slice_get links c.args.first ≡ Some c.index.result.now = read_item links c.args.first c.index.result.now first.inside c.index.ensures in
-    let low = node_low x links c.args.line c.args.first s first c.args.self.now.steps.items c.requires.tables.steps in
+    let low = node_low x links c.args.line c.args.first s first c.args.self.now.steps c.requires.tables.steps in
     record {
       has = nothing_opened c.args.net.now c.args.self.now c.args.line s c.requires.tables c.requires.closed c.requires.none;
       all = omega (arith, c.nodes-most.ensures);
