@@ -25,7 +25,7 @@ use Rattle.f77_subs.proofs.UnitSources.{IsUnit, text-unit}
 
 -- ---- what no answer tells
 
-each-none : {A B : Type 0} (f : A → Option B) (xs : List A) → first_answer f xs ≡ None → (i : ℕ) (x : A) → slice_get xs i ≡ Some x → f x ≡ None
+pub each-none : {A B : Type 0} (f : A → Option B) (xs : List A) → first_answer f xs ≡ None → (i : ℕ) (x : A) → slice_get xs i ≡ Some x → f x ≡ None
 each-none f [] none i x is = let e : None ≡ Some x = is in absurd cc
 each-none f (y ∷ xs) none zero x is =
     let e : Some y ≡ Some x = is in
@@ -41,11 +41,11 @@ pub no-end : (refused : ℕ → SubEnd) (line : Option ℕ) → end_at refused l
 no-end refused None none = refl
 no-end refused (Some line) none = let e : Some (refused line) ≡ None = none in absurd cc
 
-no-line : (b : Bool) (u : List Labelled) → first_line_if b u ≡ None → b ≡ false
+pub no-line : (b : Bool) (u : List Labelled) → first_line_if b u ≡ None → b ≡ false
 no-line true u none = absurd cc
 no-line false u none = refl
 
-in-range : (n k : ℕ) → k < n → slice_get (range_with_len 0 n) k ≡ Some k
+pub in-range : (n k : ℕ) → k < n → slice_get (range_with_len 0 n) k ≡ Some k
 in-range n k below =
     let e : 0 + k ≡ k = omega arith in
     slice_get-get_or (range_with_len 0 n) k k (omega (arith, below, length-range_with_len 0 n)) ∙ ap (λ (m : ℕ). Some m) (get_or-range_with_len 0 n k k below ∙ e)

@@ -55,7 +55,7 @@ end-inside stmts i s inside stands is =
 
 -- ---- what is kept of each unit
 
-each-push : {X : Type 0} (P : ℕ → X → Type 0) (xs : List X) (x : X) → ((j : ℕ) (y : X) → slice_get xs j ≡ Some y → P j y) → P (length xs) x → (j : ℕ) (y : X) → slice_get (xs ++ x ∷ []) j ≡ Some y → P j y
+pub each-push : {X : Type 0} (P : ℕ → X → Type 0) (xs : List X) (x : X) → ((j : ℕ) (y : X) → slice_get xs j ≡ Some y → P j y) → P (length xs) x → (j : ℕ) (y : X) → slice_get (xs ++ x ∷ []) j ≡ Some y → P j y
 each-push P [] x all last zero y is = subst (P 0) (get_or_from_slice_get (x ∷ []) 0 y x is) last
 each-push P [] x all last (suc j) y is = absurd cc
 each-push P (z ∷ zs) x all last zero y is = all 0 y is

@@ -1,5 +1,5 @@
 -- The names in a CALL and in the condition before it appear in the statement.
-use Rattle.std.proofs.Common.{◌≡◌, ℕ, Bool, List, Contains, Option, Some, None, sym, ap, subst}
+use Rattle.std.proofs.Common.{◌≡◌, ℕ, Bool, List, Contains, Some, None, sym, subst}
 use Rattle.std.proofs.lemmas.List.Elements.{Contains-append_left, Contains-append_right}
 use Rattle.f77_tree.specs.declared.statements.RawExpr.{RawExpr}
 use Rattle.f77_tree.specs.declared.statements.Stmt.{Stmt, more_of-Stmt}

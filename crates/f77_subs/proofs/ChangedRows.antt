@@ -1,6 +1,7 @@
 -- Changed expressions, by the lists of their operands.
-use Rattle.std.proofs.Common.{◌≡◌, ◌≤◌, ℕ, ◌∷◌, length, take, length-take, arith, Bool, true, false, not, ◌&&◌, List, [], map, fold, if◌then◌else◌, Option, Some, None, option_map, refl, sym, ap, ◌∙◌}
-use Rattle.std.proofs.lemmas.List.{length-map}
+use Rattle.std.proofs.Common.{◌≡◌, ◌≤◌, ◌<◌, ℕ, ◌+◌, ◌∷◌, ◌++◌, length, take, length-take, get_or, arith, Bool, true, false, not, ◌&&◌, List, [], map, fold, if◌then◌else◌, Option, Some, None, option_map, refl, sym, ap, ◌∙◌}
+use Rattle.std.proofs.lemmas.List.{length-map, map-append, take_more}
+use Rattle.std.proofs.lemmas.List.Sums.{fold-append}
 use mathlib.Core.Former.{Count}
 use Rattle.op_table.specs.declared.Op.{Op}
 use Rattle.f77_tree.specs.declared.statements.RawExpr.{RawExpr, Call, Call', Apply, Apply', Row_of-RawExpr, end_of-RawExpr, more_of-RawExpr, items-the_row-RawExpr, items_hidden-the_row-RawExpr-0}
@@ -74,3 +75,21 @@ changed_stmt-ThenIf c condition stmt = refl
 
 pub map-few : {A B : Type 0} (f : A → B) (xs : List A) (i : ℕ) → length (map f (take i xs)) ≤ i
 map-few f xs i = let a = length-map (take i xs) f in let b = length-take i xs in omega (arith, a, b)
+
+mapped-next : {A B : Type 0} (f : A → B) (xs : List A) (i : ℕ) (x : A) → i < length xs → x ≡ get_or xs i x → map f (take (i + 1) xs) ≡ map f (take i xs) ++ f x ∷ []
+mapped-next f xs i x inside is =
+    ap (map f) (take_more xs i x inside ∙ ap (λ (y : _). take i xs ++ y ∷ []) (sym is)) ∙ map-append f (take i xs) (x ∷ [])
+
+-- one more is mapped
+pub mapped-more : {A B : Type 0} (f : A → B) (xs : List A) (i : ℕ) (x : A) (row : List B) (made : B) → i < length xs → x ≡ get_or xs i x → row ≡ map f (take i xs) → made ≡ f x → row ++ made ∷ [] ≡ map f (take (i + 1) xs)
+mapped-more f xs i x row made inside is known one =
+    ap (λ (r : List _). r ++ made ∷ []) known
+    ∙ ap (λ (y : _). map f (take i xs) ++ y ∷ []) one
+    ∙ sym (mapped-next f xs i x inside is)
+
+-- one more operand is taken
+pub folded-more : {A : Type 0} (f : A → RawExpr) (op : Op) (xs : List A) (i : ℕ) (x : A) (row : List RawExpr) (made : RawExpr) → i < length xs → x ≡ get_or xs i x → row ≡ fold (with_operand op) [] (map f (take i xs)) → made ≡ f x → with_operand op row made ≡ fold (with_operand op) [] (map f (take (i + 1) xs))
+folded-more f op xs i x row made inside is known one =
+    ap (λ (r : List RawExpr). with_operand op r made) known
+    ∙ ap (λ (y : RawExpr). with_operand op (fold (with_operand op) [] (map f (take i xs))) y) one
+    ∙ sym (ap (fold (with_operand op) []) (mapped-next f xs i x inside is) ∙ fold-append (with_operand op) [] (map f (take i xs)) (f x ∷ []))

@@ -1,6 +1,6 @@
 -- Copies put by tables are copies.
-use Rattle.std.proofs.Common.{◌≡◌, ◌≢◌, ℕ, zero, suc, ◌+◌, ◌<◌, ◌≤◌, ◌⊎◌, ◌==◌, Bool, true, false, not, if◌then◌else◌, min, nat_eq, nat_lt, List, [], ◌∷◌, ◌++◌, map, length, take, get_or, sum_by, Contains, Option, Some, None, option_map, bytes_eq, inl, inr, ⊎_elim, refl, sym, ap, subst, ◌∙◌, arith}
-use Rattle.std.specs.List.{list_all, list_any, position_or_len, slice_get}
+use Rattle.std.proofs.Common.{◌≡◌, ◌≢◌, ℕ, zero, suc, ◌+◌, ◌<◌, ◌≤◌, ◌⊎◌, ◌==◌, Bool, true, false, not, if◌then◌else◌, min, nat_lt, List, [], ◌∷◌, ◌++◌, map, length, take, get_or, sum_by, Contains, Option, Some, None, option_map, bytes_eq, inl, inr, ⊎_elim, refl, sym, ap, subst, ◌∙◌, arith}
+use Rattle.std.specs.List.{list_all, position_or_len, slice_get}
 use Rattle.std.proofs.lemmas.Bool.{cases_Bool, cases_eq, and_parts, ltb-true, ltb-false, eqb-true, eq-eqb}
 use Rattle.std.proofs.lemmas.List.{take_all, length-map}
 use Rattle.std.proofs.lemmas.List.Concat.{flat_map-cons}
@@ -9,7 +9,6 @@ use Rattle.std.proofs.lemmas.List.Sums.{sum_by-cons, sum_by-take-drop}
 use Rattle.std.proofs.lemmas.Option.{slice_get-map, slice_get_past, slice_get-get_or}
 use native.Mathlib.Nat.{min-eq_left, min-eq_right}
 use mathlib.Core.Path.{fun_ext}
-use Rattle.indexmap.specs.IndexMap.{get}
 use Rattle.f77_tree.specs.declared.statements.Labelled.{Labelled}
 use Rattle.f77_tree.specs.declared.statements.RawExpr.{RawExpr}
 use Rattle.f77_tree.specs.declared.statements.Stmt.{Stmt}
@@ -17,7 +16,6 @@ use Rattle.f77_tree.specs.declared.statements.Stmt.TheVariants.{Continue, BlockI
 use Rattle.f77_layout.specs.Appearances.{names_in}
 use Rattle.f77_layout.specs.Declarations.{is_array}
 use Rattle.f77_layout.specs.Labels.{statement_of}
-use Rattle.f77_subs.specs.declared.unit_table.NewName.{NewName}
 use Rattle.f77_subs.specs.declared.unit_table.NewName.TheVariants.{Argument, Fixed}
 use Rattle.f77_subs.specs.declared.unit_table.UnitTable.{UnitTable}
 use Rattle.f77_subs.specs.Units.{Call, call_in, dummies_of, guard_of, unit_at, unit_of, unit_or_none}
@@ -25,10 +23,10 @@ use Rattle.f77_subs.specs.Entities.{Entity, entity_of, stands_for, entity_at}
 use Rattle.f77_subs.specs.Heights.{calls_below, IsHeight}
 use Rattle.f77_subs.specs.Names.{appearing_here, name_for}
 use Rattle.f77_subs.specs.Widths.{is_kept, labels, labels_by, body_labels, labels_before}
-use Rattle.f77_subs.specs.Copies.{Change, Context, Copying, bare, changed, changed_stmt, change_in, changes, call_at, end_by, number_at, around, piece_by, piece, pieces, copy}
-use Rattle.f77_subs.specs.Changes.{change_by, first_or, last_or, renamed, or_itself}
+use Rattle.f77_subs.specs.Copies.{Change, Context, bare, changed, changed_stmt, change_in, call_at, end_by, around, piece_by, piece, pieces, copy}
+use Rattle.f77_subs.specs.Changes.{change_by, renamed, or_itself}
 use Rattle.f77_subs.specs.LabelCounts.{count_at, labels_of}
-use Rattle.f77_subs.specs.PutCopies.{opening, closing, Putting, put_by, put_piece, put_pieces, put_unit, put_copy}
+use Rattle.f77_subs.specs.PutCopies.{opening, closing, put_by, put_piece, put_pieces, put_unit, put_copy}
 use Rattle.f77_subs.specs.UnitTables.{IsTableOf, MakeCopies, appearing_in, new_name, labels_behind, passes}
 use Rattle.f77_subs.proofs.CalledNames.{call-names, guard-names}
 use Rattle.f77_subs.proofs.ChangedAlike.{expr-alike, stmt-alike}
@@ -87,7 +85,7 @@ module _ (us : List (List Labelled)) (limit : ℕ) (counts : List ℕ) (height :
     here-same : (s : Labelled) → lower s ≡ true → here s < limit → here s ≡ labels (body_labels us d) us k s
     here-same s below less = by-same (is_kept k s.stmt) s.label (call_in s.stmt) below less
 
-    all-same : (stmts : List Labelled) → list_all lower stmts ≡ true → labels_of us counts k stmts < limit → labels_of us counts k stmts ≡ sum_by (labels (body_labels us d) us k) stmts
+    pub all-same : (stmts : List Labelled) → list_all lower stmts ≡ true → labels_of us counts k stmts < limit → labels_of us counts k stmts ≡ sum_by (labels (body_labels us d) us k) stmts
     all-same [] all less = refl
     all-same (s ∷ rest) all less =
         let both : (lower s ≡ true) × (list_all lower rest ≡ true) = and_parts (lower s) (list_all lower rest) all in

@@ -1,5 +1,5 @@
 -- What is kept of COMMON blocks, part by part.
-use Rattle.std.proofs.Common.{◌≡◌, ℕ, ◌+◌, ◌<◌, Bool, true, false, not, ◌||◌, cond, List, [], ◌∷◌, ◌++◌, map, length, get_or, take, Option, Some, None, refl, sym, ap, ◌∙◌, append-nil}
+use Rattle.std.proofs.Common.{◌≡◌, ℕ, ◌+◌, ◌<◌, Bool, true, false, not, ◌||◌, cond, List, [], ◌∷◌, ◌++◌, length, get_or, take, Option, Some, None, refl, sym, ap, ◌∙◌, append-nil}
 use Rattle.std.specs.Prelude.{flat_map, filter, if◌then◌else◌, unwrap_or}
 use Rattle.std.specs.List.{list_any}
 use Rattle.std.specs.Option.{is_none}
@@ -7,12 +7,11 @@ use Rattle.std.proofs.lemmas.List.{take_more}
 use Rattle.std.proofs.lemmas.List.Concat.{flat_map-append}
 use Rattle.std.proofs.lemmas.List.Elements.{filter-append}
 use Rattle.f77_tree.specs.declared.declarations.CommonPart.{CommonPart}
-use Rattle.f77_tree.specs.declared.declarations.Decl.{Decl}
 use Rattle.f77_tree.specs.Places.{same_block}
 use Rattle.f77_tree.proofs.NameLemmas.{same_block-same}
 use Rattle.f77_subs.specs.declared.block_names.BlockNames.{BlockNames}
 use Rattle.f77_subs.specs.BlockTables.{AreNoted, decl_names, found_names, has_part, names_if, names_in}
-use Rattle.f77_subs.proofs.SubNames.{any-push, or-none}
+use Rattle.f77_subs.proofs.SubNames.{any-push}
 
 -- ---- the names of a block, with one part more
 

@@ -1,14 +1,13 @@
 -- The entities of names of subroutines are noted, but for those that have names of the main program.
-use Rattle.std.proofs.Common.{◌≡◌, ℕ, zero, suc, ◌+◌, ◌<◌, ◌≤◌, ◌==◌, Bool, true, false, not, ◌||◌, cond, List, [], ◌∷◌, ◌++◌, length, filter, flat_map, fold, map, if◌then◌else◌, ⊎_elim, refl, sym, ap, subst, ◌∙◌, arith}
+use Rattle.std.proofs.Common.{◌≡◌, ℕ, zero, suc, ◌+◌, ◌<◌, ◌≤◌, Bool, true, false, not, ◌||◌, cond, List, [], ◌∷◌, ◌++◌, length, filter, flat_map, fold, map, if◌then◌else◌, ⊎_elim, refl, sym, ap, subst, ◌∙◌, arith}
 use Rattle.std.specs.Prelude.{bytes_eq}
 use Rattle.std.specs.List.{list_any, range_with_len}
-use Rattle.std.proofs.lemmas.Bool.{and_from, cases_Bool, cases_lt, eq-eqb, or_left, or_right}
+use Rattle.std.proofs.lemmas.Bool.{cases_Bool, cases_lt, or_left, or_right}
 use Rattle.std.proofs.lemmas.List.Concat.{flat_map-cons}
 use Rattle.std.proofs.lemmas.List.Folds.{list_any-append}
 use Rattle.std.proofs.lemmas.Slice.Eq.{bytes_eq-Decides}
 use Rattle.f77_tree.specs.declared.statements.Labelled.{Labelled}
-use Rattle.f77_tree.specs.Places.{same_block}
-use Rattle.f77_subs.specs.Entities.{Entity, Local, InBlock, entity_of}
+use Rattle.f77_subs.specs.Entities.{Entity, entity_of}
 use Rattle.f77_subs.specs.Names.{is_main, own_names, same_entity, with_entity, y_entities}
 use Rattle.f77_subs.proofs.OwnNames.{entities-same}
 use Rattle.f77_subs.proofs.SameEntities.{same-itself}

@@ -1,5 +1,5 @@
 -- A block of a unit, against that of the first unit that has it, by what is kept of both.
-use Rattle.std.proofs.Common.{◌≡◌, ℕ, ◌≤◌, Bool, true, false, not, List, [], length, Option, Some, None, refl, sym, ap, ◌∙◌}
+use Rattle.std.proofs.Common.{◌≡◌, ℕ, ◌≤◌, Bool, true, false, not, List, [], length, Option, refl, sym, ap, ◌∙◌}
 use Rattle.std.specs.Prelude.{unwrap_or}
 use Rattle.std.specs.List.{position_or_len}
 use Rattle.f77_tree.specs.declared.declarations.CommonPart.{CommonPart}
@@ -7,14 +7,13 @@ use Rattle.f77_tree.specs.declared.statements.Labelled.{Labelled}
 use Rattle.f77_layout.specs.Declarations.{all_commons}
 use Rattle.f77_layout.specs.Described.{Described, described}
 use Rattle.f77_layout.specs.KeptDeclarations.{said_by}
-use Rattle.f77_subs.specs.declared.block_names.BlockNames.{BlockNames}
 use Rattle.f77_subs.specs.declared.block_names.BlockTable.{BlockTable}
 use Rattle.f77_subs.specs.Alike.{are_alike_told}
 use Rattle.f77_subs.specs.Entities.{block_list}
 use Rattle.f77_subs.specs.Names.{has_block}
 use Rattle.f77_subs.specs.Refusals.{are_alike, first_with}
 use Rattle.f77_subs.specs.Units.{unit_at}
-use Rattle.f77_subs.specs.BlockTables.{AreNoted, IsTableOfBlocks, found_names, has_part, is_odd_block, names_if, names_in}
+use Rattle.f77_subs.specs.BlockTables.{IsTableOfBlocks, found_names, has_part, is_odd_block, names_if, names_in}
 use Rattle.f77_subs.proofs.AlikeOnes.{alike-told}
 use Rattle.f77_subs.proofs.FirstPlaces.{first-at-place, place-few}
 use Rattle.f77_subs.proofs.KeptBlocks.{none-here}

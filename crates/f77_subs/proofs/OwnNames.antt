@@ -57,7 +57,7 @@ texts-apart m n low high same = sym (number-of-name m low) ∙ ap (λ (text : Li
 
 -- ---- entities
 
-blocks-same : (a b : Option (List ℕ)) → same_block a b ≡ true → a ≡ b
+pub blocks-same : (a b : Option (List ℕ)) → same_block a b ≡ true → a ≡ b
 blocks-same None None is = refl
 blocks-same None (Some b) is = let e : false ≡ true = is in absurd cc
 blocks-same (Some a) None is = let e : false ≡ true = is in absurd cc

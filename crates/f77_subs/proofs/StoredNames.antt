@@ -85,7 +85,7 @@ told-step x seen n = by_test (list_any (bytes_eq n) seen) refl
     by_test true known = or-known (bytes_eq x n) (list_any (bytes_eq x) seen) (λ (same : bytes_eq x n ≡ true). ap (λ (y : List ℕ). list_any (bytes_eq y) seen) (bytes_eq-same x n same) ∙ known)
     by_test false known = any-push (bytes_eq x) seen n
 
-told-all : (x : List ℕ) (seen names : List (List ℕ)) → list_any (bytes_eq x) (fold with_name seen names) ≡ (list_any (bytes_eq x) seen || list_any (bytes_eq x) names)
+pub told-all : (x : List ℕ) (seen names : List (List ℕ)) → list_any (bytes_eq x) (fold with_name seen names) ≡ (list_any (bytes_eq x) seen || list_any (bytes_eq x) names)
 told-all x seen [] = sym (or-none (list_any (bytes_eq x) seen))
 told-all x seen (n ∷ names) =
     told-all x (with_name seen n) names

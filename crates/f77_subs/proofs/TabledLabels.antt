@@ -1,17 +1,16 @@
 -- The table of a unit's labels, statement by statement.
 use Rattle.std.proofs.Common.{◌≡◌, ℕ, zero, suc, ◌+◌, ◌<◌, ◌≤◌, ◌==◌, Bool, true, false, not, cond, if◌then◌else◌, min, nat_eq, nat_lt, List, [], ◌∷◌, ◌++◌, length, take, get_or, Option, Some, None, option_map, ⊎_elim, refl, sym, ap, subst, ◌∙◌, arith}
-use Rattle.std.specs.List.{position_or_len, prefix_len, slice_get}
+use Rattle.std.specs.List.{slice_get}
 use Rattle.std.proofs.lemmas.Bool.{cases_Bool, ltb-true, ltb-false, lt-ltb, ne_eqb, eq-eqb}
 use Rattle.std.proofs.lemmas.List.{take_more, take_all, take-append-le, length_push}
 use Rattle.std.proofs.lemmas.List.Folds.{position_or_len_push}
 use Rattle.std.proofs.lemmas.List.Sums.{prefix_len-le-length, sum_by-append, sum_by-cons}
 use Rattle.std.proofs.lemmas.Option.{slice_get_past}
-use Rattle.indexmap.specs.IndexMap.{get}
 use Rattle.f77_tree.specs.declared.statements.Labelled.{Labelled}
 use Rattle.f77_layout.specs.Faults.{answer_or}
 use Rattle.f77_layout.specs.Labels.{statement_of}
 use Rattle.f77_subs.specs.declared.unit_table.NewLabel.{NewLabel}
-use Rattle.f77_subs.specs.Units.{Call, call_in}
+use Rattle.f77_subs.specs.Units.{call_in}
 use Rattle.f77_subs.specs.Widths.{labels}
 use Rattle.f77_subs.specs.Copies.{call_at}
 use Rattle.f77_subs.specs.Changes.{first_or, last_or}

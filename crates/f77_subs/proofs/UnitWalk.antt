@@ -16,7 +16,7 @@ last_of : (xs : List Labelled) (s : Labelled) → slice_get (xs ++ s ∷ []) (le
 last_of [] s = refl
 last_of (x ∷ xs) s = last_of xs s
 
-follows-push : (xs : List Labelled) (s : Labelled) → follows_end (xs ++ s ∷ []) ≡ ends s
+pub follows-push : (xs : List Labelled) (s : Labelled) → follows_end (xs ++ s ∷ []) ≡ ends s
 follows-push xs s =
     let place : length (xs ++ s ∷ []) - 1 ≡ length xs = let e = length-append xs (s ∷ []) in omega (arith, e) in
     ap (λ (n : ℕ). is_end_at (slice_get (xs ++ s ∷ []) n)) place ∙ ap is_end_at (last_of xs s)

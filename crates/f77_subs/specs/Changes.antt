@@ -1,8 +1,9 @@
 -- What changes in a copy, by the tables that are kept of its unit.
-use Rattle.std.specs.Prelude.{ℕ, ◌+◌, ◌∷◌, [], ◌++◌, Bool, nat_eq, nat_lt, if◌then◌else◌, List, length, Option, Some, None, bytes_eq, slice_get}
-use Rattle.std.specs.List.{list_any}
+use Rattle.std.specs.Prelude.{ℕ, ◌+◌, ◌∷◌, [], ◌++◌, nat_eq, nat_lt, if◌then◌else◌, List, length, Option, Some, None, bytes_eq, slice_get}
 use Rattle.indexmap.specs.IndexMap.{get}
 use Rattle.op_table.specs.declared.Op.{Op}
+use Rattle.f77_layout.specs.Described.{is_array_told}
+use Rattle.f77_layout.specs.KeptDeclarations.{said_by}
 use Rattle.f77_tree.specs.declared.statements.RawExpr.{RawExpr}
 use Rattle.f77_tree.specs.declared.statements.RawExpr.TheVariants.{Apply}
 use Rattle.f77_subs.specs.declared.unit_table.NewName.{NewName}
@@ -35,7 +36,7 @@ last_or behind (Some label) = label.last
 abbrev pub change_by : UnitTable → (arguments : List (List ℕ)) → (base : ℕ) → Change
 change_by table arguments base = record {
   name = λ x. renamed arguments x (get bytes_eq table.names x);
-  arrays = λ x. list_any (bytes_eq x) table.arrays.keys;
+  arrays = is_array_told (said_by table.declared);
   copied = table.copied;
   jump = λ l. base + first_or table.behind (get nat_eq table.labels l);
   end = λ l. base + last_or table.behind (get nat_eq table.labels l);

@@ -1,6 +1,7 @@
 -- The expansion: the main program with copies in place of its CALLs.
 use Rattle.std.specs.Prelude.{ℕ, ◌+◌, ◌-◌, Bool, not, ◌&&◌, nat_lt, if◌then◌else◌, List, [], ◌∷◌, ◌++◌, map, flat_map, filter, fold, take, drop, length, sum_by, Option, Some, None, slice_get}
 use Rattle.std.specs.List.{list_any, position_or_len, range_with_len}
+use Rattle.f77_tree.specs.declared.declarations.Decl.{Decl}
 use Rattle.f77_tree.specs.declared.declarations.Member.{Member}
 use Rattle.f77_tree.specs.declared.declarations.InitPart.{InitPart}
 use Rattle.f77_tree.specs.declared.statements.Labelled.{Labelled}
@@ -44,8 +45,11 @@ declared_in us (InBlock block place) = first_of (filter (λ u. has_block u block
     first_of [] = ([], [])
     first_of (u ∷ us) = (u, name_or (slice_get (block_list u block) place))
 
+abbrev pub type_decl : List (List Labelled) → Entity → Decl
+type_decl us e = record { name = name_for us e; dims = dims_of (declared_in us e).0 (declared_in us e).1 }
+
 abbrev pub type_of : List (List Labelled) → (line : ℕ) → Entity → Labelled
-type_of us line e = bare 0 line (TypeOf (kind_or_integer (kind_of (declared_in us e).0 (declared_in us e).1)) (record { name = name_for us e; dims = dims_of (declared_in us e).0 (declared_in us e).1 } ∷ []))
+type_of us line e = bare 0 line (TypeOf (kind_or_integer (kind_of (declared_in us e).0 (declared_in us e).1)) (type_decl us e ∷ []))
 
 abbrev pub block_size : List (List Labelled) → Option (List ℕ) → ℕ
 block_size us block = sizes (filter (λ u. has_block u block) us)
@@ -54,24 +58,33 @@ block_size us block = sizes (filter (λ u. has_block u block) us)
     sizes [] = 0
     sizes (u ∷ us) = length (block_list u block)
 
+abbrev pub common_decl : List (List Labelled) → Option (List ℕ) → (place : ℕ) → Decl
+common_decl us block place = record { name = name_for us (InBlock block place); dims = [] }
+
 abbrev pub common_of : List (List Labelled) → (line : ℕ) → Option (List ℕ) → Labelled
-common_of us line block = bare 0 line (Common (record { block = block; decls = map (λ i. record { name = name_for us (InBlock block i); dims = [] }) (range_with_len 0 (block_size us block)) } ∷ []))
+common_of us line block = bare 0 line (Common (record { block = block; decls = map (common_decl us block) (range_with_len 0 (block_size us block)) } ∷ []))
 
 abbrev pub member_for : List (List Labelled) → ℕ → Member → Member
 member_for us k m = record m { name = name_for us (entity_of us k m.name) }
+
+abbrev pub members_for : List (List Labelled) → ℕ → List Member → List Member
+members_for us k members = map (member_for us k) members
+
+abbrev pub init_for : List (List Labelled) → ℕ → InitPart → InitPart
+init_for us k part = record part { items = members_for us k part.items }
 
 abbrev pub ties : List (List Labelled) → ℕ → Labelled → List Labelled
 ties us k s = of_stmt s.stmt
   where
     of_stmt : Stmt → List Labelled
-    of_stmt (Equivalence groups) = bare 0 s.line (Equivalence (map (λ group. map (member_for us k) group) groups)) ∷ []
+    of_stmt (Equivalence groups) = bare 0 s.line (Equivalence (map (members_for us k) groups)) ∷ []
     of_stmt _ = []
 
 abbrev pub datas : List (List Labelled) → ℕ → Labelled → List Labelled
 datas us k s = of_stmt s.stmt
   where
     of_stmt : Stmt → List Labelled
-    of_stmt (Init parts) = bare 0 s.line (Init (map (λ (part : InitPart). record part { items = map (member_for us k) part.items }) parts)) ∷ []
+    of_stmt (Init parts) = bare 0 s.line (Init (map (init_for us k) parts)) ∷ []
     of_stmt _ = []
 
 abbrev pub put_in : List (List Labelled) → List Labelled

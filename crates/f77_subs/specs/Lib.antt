@@ -31,3 +31,9 @@ pub mod ListedDeclarations
 pub mod ChangedTables
 pub mod SideBySide
 pub mod Calls
+pub mod NamedTables
+pub mod PutIn
+pub mod UnitBlocks
+pub mod UnitEntities
+pub mod NewNames
+pub mod PutCounts

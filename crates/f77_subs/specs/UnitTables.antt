@@ -1,9 +1,11 @@
 -- When the tables of a unit are right.
-use Rattle.std.specs.Prelude.{◌≡◌, ℕ, suc, ◌+◌, ◌<◌, ◌==◌, Bool, true, not, nat_eq, nat_lt, if◌then◌else◌, List, map, flat_map, take, length, min, Contains, Option, Some, None, bytes_eq, slice_get}
-use Rattle.std.specs.List.{list_all, list_any, position_or_len}
+use Rattle.std.specs.Prelude.{◌≡◌, ℕ, suc, ◌+◌, ◌<◌, ◌==◌, Bool, true, not, nat_eq, nat_lt, if◌then◌else◌, List, flat_map, take, length, min, Contains, Option, Some, None, bytes_eq, slice_get}
+use Rattle.std.specs.List.{list_all, position_or_len}
 use Rattle.indexmap.specs.IndexMap.{get}
 use Rattle.f77_tree.specs.declared.statements.Labelled.{Labelled}
 use Rattle.f77_layout.specs.Declarations.{is_array}
+use Rattle.f77_layout.specs.Described.{is_array_told}
+use Rattle.f77_layout.specs.KeptDeclarations.{said_by}
 use Rattle.f77_layout.specs.Labels.{statement_of}
 use Rattle.f77_subs.specs.declared.unit_table.NewName.{NewName}
 use Rattle.f77_subs.specs.declared.unit_table.NewName.TheVariants.{Argument, Fixed}
@@ -32,7 +34,7 @@ labels_behind us counts (Some call) = count_at counts (unit_of us call.name) + 1
 -- the tables of the unit k
 pub record IsTableOf (us : List (List Labelled)) (limit : ℕ) (counts : List ℕ) (k : ℕ) (table : UnitTable) : Type 0 where
   pub copied : table.copied ≡ not (k == 0)
-  pub arrays : (x : List ℕ) → list_any (bytes_eq x) table.arrays.keys ≡ is_array (unit_at us k) x
+  pub arrays : (x : List ℕ) → is_array_told (said_by table.declared) x ≡ is_array (unit_at us k) x
   pub main : k ≡ 0 → (x : List ℕ) → get bytes_eq table.names x ≡ None
   pub names : 0 < k → (x : List ℕ) → Contains (appearing_in (unit_at us k) (unit_at us k)) x → get bytes_eq table.names x ≡ Some (new_name us k x)
   pub firsts : (l : ℕ) → first_or table.behind (get nat_eq table.labels l) ≡ min (labels_of us counts k (take (statement_of (unit_at us k) l) (unit_at us k))) limit + 1

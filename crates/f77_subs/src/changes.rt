@@ -73,7 +73,7 @@ impl<'a> CopyOf<'a> {
     pub(crate) fn is_free(&self, name: &Name) -> bool
         ensures { result ≡ ((changes_of self.now).copied && not ((changes_of self.now).arrays name.now)) }
     {
-        self.table.copied && !self.table.arrays.contains(name)
+        self.table.copied && !self.table.declared.is_array(name)
     }
 }
 

@@ -5,6 +5,7 @@ ghost use Rattle.std.specs.List.{list_all};
 ghost use Rattle.std.specs.Option.{is_some};
 ghost use Rattle.op_table.specs.declared.Trap.{Trap};
 ghost use Rattle.f77_tree.specs.declared.programs.NameInfo.{NameInfo};
+ghost use Rattle.f77_tree.specs.declared.statements.Labelled.{Labelled};
 ghost use Rattle.f77_tree.specs.declared.statements.RawExpr.{RawExpr};
 ghost use Rattle.f77_tree.specs.declared.statements.RawItem.{RawItem};
 ghost use Rattle.f77_tree.specs.Declarations.{index_of};
@@ -13,10 +14,13 @@ ghost use Rattle.f77_tree.specs.Line.{line_of};
 ghost use Rattle.f77_tree.specs.OtherPlaces.{DifferInPlaces};
 ghost use Rattle.f77_tree.specs.Value.{ArePlaced, place, value, word_of};
 ghost use Rattle.f77_layout.specs.Appearances.{names_in, names_in_item, names_if_any};
+ghost use Rattle.f77_layout.specs.Layout.{names_of, program};
 ghost use Rattle.f77_layout.specs.Resolved.{access_of, resolved, resolved_item, resolved_step};
 ghost use Rattle.f77_layout.specs.Types.{dims_named, is_item, is_step, is_target, kind_in};
 ghost use Rattle.f77_subs.specs.ChangedTables.{AreChangedTables, AreHeld, AreKnown, AreSameElement, IsKnownAs, target_name};
 ghost use Rattle.f77_subs.specs.Copies.{Change, changed, changed_item, changed_step};
+ghost use Rattle.f77_subs.specs.Entities.{Entity};
+ghost use Rattle.f77_subs.specs.Storage.{placed};
 
 /// Expressions of a unit and of its copy, over two tables of names and two stores in which the names of the expression, as the
 /// copy has them, have the same kinds, dimensions and words. They have the same kind and the same value, or the same trap.
@@ -37,4 +41,8 @@ pub fn places_decide_no_trees()
     ensures trees { (names others : List NameInfo) → DifferInPlaces names others → (checked : Bool) (e : RawExpr) → resolved others checked e ≡ resolved names checked e }
     ensures accesses { (names others : List NameInfo) → DifferInPlaces names others → (checked : Bool) (e : RawExpr) → access_of others checked e ≡ access_of names checked e }
     ensures kinds { (names others : List NameInfo) → DifferInPlaces names others → (e : RawExpr) → kind_in others e ≡ kind_in names e }
+
+    // So do the table of a program and that of a frame from the names as they are declared.
+    ensures programs { (stmts : List Labelled) (checked : Bool) → DifferInPlaces (names_of stmts) (program stmts checked).names }
+    ensures frames { (us : List (List Labelled)) (spot : Entity → ℕ) (k : ℕ) (arguments : List Entity) (stmts : List Labelled) (checked : Bool) → DifferInPlaces (names_of stmts) (placed us spot k arguments (program stmts checked).names) }
 {}

@@ -14,33 +14,54 @@ mod copied_steps;
 mod copied_values;
 mod copy_laws;
 mod copying;
+mod declaring;
 mod dummies;
 mod dummy_places;
+mod entity;
+mod expanding;
 mod form_refusals;
+mod great_names;
 mod label_counts;
 mod label_tables;
 mod labels;
 mod laws;
 mod listed_copies;
 mod listed_declarations;
+mod new_names;
+mod put_blocks;
+mod put_counts;
+mod put_in;
+mod put_storage;
 mod recursion;
 mod refused_units;
 mod running;
+mod size_refusals;
 mod splitting;
 mod stand_in;
 mod sub_end;
 mod sub_index;
 mod sub_names;
+mod text_entities;
+mod text_names;
 mod total_widths;
+mod unit_blocks;
+mod unit_entities;
 mod unit_laws;
+mod unit_lines;
 mod unit_names;
 mod unit_order;
+mod unit_refusals;
 mod unit_said;
 mod unit_table;
+mod unit_tables;
+mod used_names;
+mod whole_list;
 mod widths;
+mod y_names;
 
 pub use copied_steps::copies_do_the_same;
 pub use copied_values::{copies_have_the_same_values, places_decide_no_trees};
+pub use expanding::expand;
 pub use laws::{copies_are_counted, copies_settle, units_have_heights};
 pub use listed_copies::{
     arms_end_alike, contexts_are_in_place, control_falls_alike, copies_are_sealed,
@@ -50,5 +71,7 @@ pub use listed_copies::{
 pub use listed_declarations::{lists_declare, names_keep_their_declarations};
 pub use sub_end::SubEnd;
 pub use unit_laws::{
-    own_names_are_new, short_names_are_new, stand_ins_are_given, units_are_sources, units_end_once,
+    names_of_texts_are_short, own_names_are_new, short_names_are_new, stand_ins_are_given,
+    units_are_sources, units_end_once,
 };
+pub use unit_refusals::first_refusal;

@@ -47,3 +47,8 @@ pub fn short_names_are_new()
     ensures apart { (us : List (List Labelled)) → list_all (λ x. nat_le (length x) 6) (used_names us) ≡ true → has_great_name us ≡ false → (e f : Entity) → list_any (same_entity e) (y_entities us) ≡ true → list_any (same_entity f) (y_entities us) ≡ true → name_for us e ≡ name_for us f → e ≡ f }
     ensures others { (us : List (List Labelled)) → list_all (λ x. nat_le (length x) 6) (used_names us) ≡ true → has_great_name us ≡ false → (e : Entity) → list_any (same_entity e) (y_entities us) ≡ true → (k : ℕ) (x : List ℕ) → list_any (bytes_eq x) (names_of_unit (unit_at us k)) ≡ true → name_for us e ≡ x → ⊥ }
 {}
+
+/// The names of a text have six characters at most.
+pub fn names_of_texts_are_short()
+    ensures { (stmts : List Labelled) → IsText stmts → list_all (λ x. nat_le (length x) 6) (used_names (units stmts)) ≡ true }
+{}

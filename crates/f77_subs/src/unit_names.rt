@@ -45,8 +45,8 @@ fn note_here(
     }
 }
 
-// Adds these names.
-fn note_names(
+/// Adds these names.
+pub(crate) fn note_names(
     alloc: Global,
     names: &mut AppearingNames,
     declared: &NameDeclarations,

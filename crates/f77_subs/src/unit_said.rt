@@ -44,8 +44,8 @@ impl UnitSaid {
     }
 }
 
-// The dummies of a unit.
-fn dummies(alloc: Global, unit: &[Labelled]) -> Result<Vec<Name>, NoMemory>
+/// The dummies of a unit.
+pub(crate) fn dummies(alloc: Global, unit: &[Labelled]) -> Result<Vec<Name>, NoMemory>
     ensures { IfOk result (λ names. names.items ≡ dummies_of unit.now) }
 {
     let mut names = Vec::new(alloc);

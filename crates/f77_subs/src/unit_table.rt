@@ -2,8 +2,9 @@
 ghost use Rattle.std.specs.Prelude.{◌≡◌, ◌<◌, ◌^◌, length};
 
 use crate::label_counts::LabelCounts;
+use f77_layout::NameDeclarations;
 use f77_tree::Name;
-use indexmap::{IndexMap, IndexSet};
+use indexmap::IndexMap;
 
 /// What a name of a unit becomes in a copy.
 #[derive(Drop)]
@@ -29,8 +30,8 @@ pub(crate) struct UnitTable {
     /// Whether it is a subroutine, in whose copies calls of intrinsic functions become operators.
     pub(crate) copied: bool,
     pub(crate) names: IndexMap<Name, NewName>,
-    /// The names of the unit that have dimensions.
-    pub(crate) arrays: IndexSet<Name>,
+    /// What the unit declares, which tells its arrays.
+    pub(crate) declared: NameDeclarations,
     pub(crate) labels: IndexMap<u32, NewLabel>,
     /// The number of the label behind a copy, less those before it.
     pub(crate) behind: u32,

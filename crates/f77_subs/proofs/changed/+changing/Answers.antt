@@ -1,12 +1,12 @@
-use Rattle.std.proofs.Common.{rules, arith, ◌&&◌, not, Bool, true, Option, Some, option_map, length, ◌≤◌, ◌≡◌, [], List, take, map, fold, sym, ap, subst, ◌∙◌}
+use Rattle.std.proofs.Common.{rules, arith, ◌&&◌, not, true, Some, option_map, length, ◌≤◌, ◌≡◌, [], List, take, map, fold, sym, ap, subst, ◌∙◌}
 use Rattle.std.specs.Prelude.{IfOk}
 use Rattle.f77_layout.specs.Functions.{intrinsic_named}
 use Rattle.std.proofs.lemmas.List.{take_all}
 use Rattle.f77_tree.specs.declared.statements.RawExpr.{RawExpr}
-use Rattle.f77_tree.specs.declared.statements.RawExpr.TheVariants.{Call, Apply}
-use Rattle.f77_subs.specs.Copies.{changed, pairs}
+use Rattle.f77_tree.specs.declared.statements.RawExpr.TheVariants.{Apply}
+use Rattle.f77_subs.specs.Copies.{changed}
 use Rattle.f77_subs.specs.Changes.{changes_of, with_operand}
-use Rattle.f77_subs.proofs.ChangedRows.{map-few, changed-Call, changed-Apply, pairs-fold, changed_call-pairs, changed_call-other, changed_call-kept}
+use Rattle.f77_subs.proofs.ChangedRows.{map-few, changed-Call, changed-Apply, pairs-fold, changed_call-pairs, mapped-more, folded-more}
 use Rattle.f77_subs.proofs.changed.+changing.Goals as goal
 
 pub changed-returns-in-Call : goal.changed-returns-in-Call
@@ -42,3 +42,13 @@ changed_row-push-requires t c =
     let few : length c.loop-arg.row ≤ c.loop-arg.arg-index = subst (λ (row : List RawExpr). length row ≤ c.loop-arg.arg-index) (sym c.loop-arg.invariant) (map-few (changed (changes_of c.args.c.now)) c.as_slice-arg-items.result.now c.loop-arg.arg-index) in
     let room = c.as_slice-arg-items.ensures.len in
     omega (arith, few, room)
+
+pub changed_row-loop-arg-preserved : goal.changed_row-loop-arg-preserved
+changed_row-loop-arg-preserved t c =
+    c.in_ok-push.ensures.ok
+    ∙ mapped-more (changed (changes_of c.args.c.now)) c.as_slice-arg-items.result.now c.loop-arg.arg-index c.arg-item.result c.loop-arg.row c.in_ok-changed.field-0 c.loop-arg-test.true c.arg-item.is c.loop-arg.invariant c.in_ok-changed.ensures
+
+pub changed_pairs-loop-arg-preserved : goal.changed_pairs-loop-arg-preserved
+changed_pairs-loop-arg-preserved t c =
+    c.in_ok-operands.ensures
+    ∙ folded-more (changed (changes_of c.args.c.now)) c.args.op c.as_slice-arg-items.result.now c.loop-arg.arg-index c.arg-item.result c.loop-arg.operands c.in_ok-operand.operand c.loop-arg-test.true c.arg-item.is c.loop-arg.invariant c.in_ok-operand.ensures

@@ -1,4 +1,4 @@
-use Rattle.std.proofs.Common.{◌≡◌, ℕ, suc, List, length, map, get_or, sym, ap, subst, ◌∙◌, Ok, Err}
+use Rattle.std.proofs.Common.{◌≡◌, ℕ, suc, List, length, map, get_or, ap, ◌∙◌, Ok, Err}
 use Rattle.std.specs.Prelude.{IfOk, Result}
 use Rattle.f77_subs.specs.CallTable.{CallRow, widths_after, row_width}
 use Rattle.f77_subs.specs.Heights.{height}

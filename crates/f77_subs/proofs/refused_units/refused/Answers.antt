@@ -1,4 +1,4 @@
-use Rattle.std.proofs.Common.{◌≡◌, Some, None, ap, sym, ◌∙◌}
+use Rattle.std.proofs.Common.{ap, sym, ◌∙◌}
 use Rattle.std.specs.Prelude.{Err}
 use Rattle.f77_layout.specs.declared.layout_end.LayoutEnd.{LayoutEnd}
 use Rattle.f77_subs.specs.Units.{standing_in}

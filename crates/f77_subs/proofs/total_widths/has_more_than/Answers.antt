@@ -1,4 +1,4 @@
-use Rattle.std.proofs.Common.{◌≡◌, ◌+◌, ℕ, length, min, sum_by, ap, ◌∙◌}
+use Rattle.std.proofs.Common.{◌+◌, ℕ, length, min, sum_by, ap, ◌∙◌}
 use Rattle.std.specs.Prelude.{nat_lt}
 use Rattle.f77_subs.specs.Units.{unit_at}
 use Rattle.f77_subs.specs.Widths.{body_width, width}

@@ -1,0 +1,41 @@
+use Rattle.std.proofs.Common.{◌≡◌, Some, sym, ap, ◌∙◌, arith}
+use Rattle.indexmap.specs.IndexMap.{get}
+use Rattle.f77_subs.specs.Entities.{Entity, InBlock}
+use Rattle.f77_subs.specs.Expansion.{declared_in}
+use Rattle.f77_subs.specs.Names.{same_entity}
+use Rattle.f77_subs.specs.PutIn.{first_with_block}
+use Rattle.f77_subs.proofs.FirstBlocks.{first-inside, name-kept, table-inside}
+use Rattle.f77_subs.proofs.declaring.declared_in.Goals as goal
+
+pub index-requires : goal.index-requires
+index-requires c =
+    let put = c.args.put.now in
+    let us = put.new.now.text.now.us.now in
+    let block = c.in-InBlock.block in
+    let k = c.in-Some.k.now in
+    let first : first_with_block us block ≡ Some k = sym (put.first_units block) ∙ sym c.in-Some.ensures.value in
+    let kept = put.new.now.text.now.kept in
+    let inside = table-inside us kept.items put.new.now.text.now.all_kept block k first in
+    omega (arith, inside, kept.ok.0)
+
+pub returns-in_ok-name-in-Some-clause-inside : goal.returns-in_ok-name-in-Some-clause-inside
+returns-in_ok-name-in-Some-clause-inside c =
+    let put = c.args.put.now in
+    let us = put.new.now.text.now.us.now in
+    let block = c.in-InBlock.block in
+    let k = c.in-Some.k.now in
+    let first : first_with_block us block ≡ Some k = sym (put.first_units block) ∙ sym c.in-Some.ensures.value in
+    first-inside us block k first
+
+pub returns-in_ok-name-in-Some-clause-same : goal.returns-in_ok-name-in-Some-clause-same
+returns-in_ok-name-in-Some-clause-same c =
+    let put = c.args.put.now in
+    let us = put.new.now.text.now.us.now in
+    let block = c.in-InBlock.block in
+    let place = c.in-InBlock.field-1 in
+    let k = c.in-Some.k.now in
+    let kept = c.index.result.now in
+    let name = c.in_ok-name-in-Some.name in
+    let first : first_with_block us block ≡ Some k = sym (put.first_units block) ∙ sym c.in-Some.ensures.value in
+    let found : get same_entity kept.blocks.names (InBlock block place) ≡ Some name = ap (λ (e : Entity). get same_entity kept.blocks.names e) (sym c.in-InBlock.is) ∙ sym c.name_at.ensures ∙ c.in_ok-name-in-Some.ensures in
+    name-kept us put.new.now.text.now.kept.items put.new.now.text.now.all_kept block place k kept name first c.index.ensures found ∙ ap (declared_in us) (sym c.in-InBlock.is)

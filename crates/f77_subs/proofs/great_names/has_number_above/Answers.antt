@@ -1,0 +1,29 @@
+use Rattle.std.proofs.Common.{◌≡◌, ◌+◌, ◌<◌, ◌^◌, ℕ, List, false, filter, length, nat_lt, sym, ap, ◌∙◌, arith}
+use Rattle.std.specs.List.{range_with_len}
+use Rattle.std.proofs.lemmas.Bool.{ltb-false}
+use Rattle.f77_layout.specs.Appearances.{each_once}
+use Rattle.f77_subs.specs.NewNames.{is_free_of}
+use Rattle.f77_subs.proofs.GreatNames.{few-sum, great-is, none-great}
+use Rattle.f77_subs.proofs.great_names.has_number_above.Goals as goal
+
+pub returns-then-not-is_over : goal.returns-then-not-is_over
+returns-then-not-is_over c = λ all is.
+    let count = c.args.count in
+    let most = c.args.most in
+    let long : c.len.result ≡ length (each_once all) = c.len.ensures ∙ ap length is in
+    let short : c.len.result < 2 ^ 32 = omega arith in
+    let few : count + length (each_once all) < 2 ^ 64 = few-sum count c.len.result (length (each_once all)) (2 ^ 32) (2 ^ 64) long c.requires.few short (omega arith) in
+    let over : nat_lt most (count + length (each_once all)) ≡ false = ap (λ (n : ℕ). nat_lt most (count + n)) (sym long) ∙ sym c.is_over.ensures ∙ c.if-not-is_over.true in
+    sym (great-is all count few most ∙ none-great all count few most (ltb-false most (count + length (each_once all)) over))
+
+pub returns : goal.returns
+returns c = λ all is.
+    let count = c.args.count in
+    let most = c.args.most in
+    let long : c.len.result ≡ length (each_once all) = c.len.ensures ∙ ap length is in
+    let short : c.len.result < 2 ^ 32 = omega arith in
+    let few : count + length (each_once all) < 2 ^ 64 = few-sum count c.len.result (length (each_once all)) (2 ^ 32) (2 ^ 64) long c.requires.few short (omega arith) in
+    c.is_less.ensures
+    ∙ ap (λ (n : ℕ). nat_lt n count) c.in_ok-free.ensures
+    ∙ ap (λ (names : List (List ℕ)). nat_lt (length (filter (is_free_of names) (range_with_len 1 most))) count) is
+    ∙ sym (great-is all count few most)

@@ -1,0 +1,23 @@
+use Rattle.std.proofs.Common.{◌+◌, ◌<◌, Bool, List, cond, filter, length, min, sym, ap, ◌∙◌, arith}
+use Rattle.std.proofs.lemmas.List.{take_all}
+use native.Mathlib.Nat.{min-eq_left}
+use Rattle.f77_subs.specs.Entities.{Entity}
+use Rattle.f77_subs.specs.Expansion.{is_running}
+use Rattle.f77_subs.proofs.PutCounts.{capped-next}
+use Rattle.f77_subs.proofs.put_counts.type_count.Goals as goal
+
+pub loop-i-init : goal.loop-i-init
+loop-i-init c = sym (min-eq_left (omega arith))
+
+pub loop-i-preserved : goal.loop-i-preserved
+loop-i-preserved c =
+    let us = c.args.us.now in
+    let limit = c.args.limit in
+    let inside : c.loop-i.i < length c.args.own.now = omega arith in
+    capped-next (is_running us) c.args.own.now limit c.loop-i.i c.at.result.now c.loop-i.count c.one_more-count.result inside c.at.ensures c.loop-i.invariant
+    (c.one_more-count.ensures ∙ ap (λ (b : Bool). min (c.loop-i.count + cond b 1 0) limit) c.in_ok-counted.ensures)
+
+pub returns : goal.returns
+returns c =
+    c.loop-i.invariant
+    ∙ ap (λ (xs : List Entity). min (length (filter (is_running c.args.us.now) xs)) c.args.limit) (take_all c.loop-i.i c.args.own.now (omega arith))

@@ -1,0 +1,13 @@
+use Rattle.std.proofs.Common.{◌≡◌, List, Some, ap, sym, ◌∙◌}
+use Rattle.std.specs.Prelude.{slice_get}
+use Rattle.f77_subs.specs.Entities.{Entity}
+use Rattle.f77_subs.specs.Expansion.{is_running, type_of}
+use Rattle.f77_subs.specs.Names.{y_entities}
+use Rattle.f77_subs.proofs.PutLists.{kept-more}
+use Rattle.f77_subs.proofs.put_in.PutIn.put_types.Goals as goal
+
+pub loop-i-preserved : goal.loop-i-preserved
+loop-i-preserved c =
+    let us = c.args.self.now.new.now.text.now.us.now in
+    let there : slice_get (y_entities us) c.loop-i.i ≡ Some c.at.result.now = ap (λ (es : List Entity). slice_get es c.loop-i.i) (sym c.args.self.now.new.now.text.now.all_own) ∙ c.at.ensures in
+    kept-more (type_of us c.args.self.now.line) (is_running us) (y_entities us) c.loop-i.i c.at.result.now c.args.out.now c.loop-i.out c.put_type.new.out there c.loop-i.invariant c.in_ok-put_type.ensures

@@ -1,0 +1,11 @@
+use Rattle.std.proofs.Common.{◌≤◌, List, length, arith, sym, subst}
+use Rattle.f77_tree.specs.declared.declarations.Member.{Member}
+use Rattle.f77_subs.specs.Expansion.{member_for}
+use Rattle.f77_subs.proofs.ChangedRows.{map-few}
+use Rattle.f77_subs.proofs.put_storage.changed_members.Goals as goal
+
+pub push-requires : goal.push-requires
+push-requires c =
+    let few : length c.loop-member.made ≤ c.loop-member.member-index = subst (λ (row : List Member). length row ≤ c.loop-member.member-index) (sym c.loop-member.invariant) (map-few (member_for c.args.new.now.text.now.us.now c.args.k) c.as_slice-member-items.result.now c.loop-member.member-index) in
+    let room = c.as_slice-member-items.ensures.len in
+    omega (arith, few, room)

@@ -1,0 +1,9 @@
+use Rattle.std.proofs.Common.{List, [], ap, subst, ◌∙◌}
+use Rattle.f77_subs.specs.UnitBlocks.{AreKept, InCommon, in_commons}
+use Rattle.f77_subs.proofs.CommonPlaces.{blocks-of}
+use Rattle.f77_subs.proofs.unit_blocks.UnitBlocks.of.Goals as goal
+
+pub returns : goal.returns
+returns c =
+    let made = c.note_parts.new.self in
+    blocks-of c.args.unit.now made (subst (λ (cs : List InCommon). AreKept cs made) (ap in_commons (c.as_slice.ensures.items ∙ c.in_ok-commons.ensures)) (c.in_ok-note_parts.ensures [] c.new-blocks.ensures))

@@ -1,0 +1,124 @@
+//! Declarations of entities that are put in.
+ghost use Rattle.std.specs.Prelude.{◌≡◌, ◌<◌, ◌++◌, ◌∷◌, [], length, map, IfOk, OnOk};
+ghost use Rattle.std.specs.List.{range_with_len};
+ghost use Rattle.f77_layout.specs.Declarations.{kind_of};
+ghost use Rattle.f77_layout.specs.Executables.{kind_or_integer as kind_or_integer_of};
+ghost use Rattle.f77_subs.specs.Expansion.{block_size as block_size_of, common_decl as common_decl_of, declared_in as declared_in_of, type_decl as type_decl_of};
+ghost use Rattle.f77_subs.specs.Units.{unit_at};
+
+use crate::entity::{Entity, copy_of_block};
+use crate::new_names::copy_found;
+use crate::put_in::PutIn;
+use df_sequence::{Copied, NoMemory, Sequence};
+use f77_tree::{Decl, DeclList, Kind, Name};
+use std::alloc::Global;
+
+/// The kind of an entity, and its new name with its dimensions.
+pub(crate) fn type_decl(
+    alloc: Global,
+    put: &PutIn,
+    entity: &Entity,
+) -> Result<(Kind, DeclList), NoMemory>
+    ensures kind { IfOk result (λ made. made.0 ≡ kind_or_integer_of (kind_of (declared_in_of put.now.new.now.text.now.us.now entity.now).0 (declared_in_of put.now.new.now.text.now.us.now entity.now).1)) }
+    ensures decls { IfOk result (λ made. made.1 ≡ type_decl_of put.now.new.now.text.now.us.now entity.now ∷ []) }
+{
+    let (k, name) = declared_in(alloc, put, entity)?;
+    let declared = &put.new.text.kept[k].declared;
+    let decl = Decl {
+        name: put.new.name_for(alloc, entity)?,
+        dims: declared.dims_of(alloc, &name)?,
+    };
+    let mut decls = Sequence::new(alloc);
+    decls.push(decl)?;
+    Ok((kind_or_integer(declared.kind(&name)), decls))
+}
+
+// The kind, or Integer where there is none.
+fn kind_or_integer(kind: Option<Kind>) -> Kind
+    ensures { result ≡ kind_or_integer_of kind }
+{
+    match kind {
+        Some(kind) => kind,
+        None => Kind::Integer,
+    }
+}
+
+// The unit that declares an entity, and the name that the entity has there.
+fn declared_in(alloc: Global, put: &PutIn, entity: &Entity) -> Result<(usize, Name), NoMemory>
+    ensures inside { IfOk result (λ found. found.0 < length put.now.new.now.text.now.us.now) }
+    ensures same { IfOk result (λ found. (unit_at put.now.new.now.text.now.us.now found.0, found.1) ≡ declared_in_of put.now.new.now.text.now.us.now entity.now) }
+{
+    match entity {
+        Entity::Local(k, name) => local_in(alloc, put, *k, name),
+        Entity::InBlock(block, _) => match put.firsts.get(block) {
+            Some(k) => {
+                let name = copy_found(alloc, put.new.text.kept[*k].blocks.name_at(entity))?;
+                Ok((*k, name))
+            }
+            None => Err(NoMemory),
+        },
+    }
+}
+
+// A local of the unit k, if there is such a unit.
+fn local_in(alloc: Global, put: &PutIn, k: usize, name: &Name) -> Result<(usize, Name), NoMemory>
+    ensures inside { IfOk result (λ found. found.0 < length put.now.new.now.text.now.us.now) }
+    ensures same { IfOk result (λ found. found ≡ (k, name.now)) }
+{
+    if k < put.new.text.us.len() {
+        Ok((k, name.copy(alloc)?))
+    } else {
+        Err(NoMemory)
+    }
+}
+
+/// Declarators of the new names of a block, as many as it has places.
+pub(crate) fn common_decls(
+    alloc: Global,
+    put: &PutIn,
+    block: &Option<Name>,
+) -> Result<DeclList, NoMemory>
+    ensures { IfOk result (λ made. made ≡ map (common_decl_of put.now.new.now.text.now.us.now block.now) (range_with_len 0 (block_size_of put.now.new.now.text.now.us.now block.now))) }
+{
+    let mut decls = Sequence::new(alloc);
+    for i in 0..block_size(put, block) {
+        add_decl(&mut decls, common_decl(alloc, put, block, i)?)?;
+    }
+    Ok(decls)
+}
+
+// Adds a declarator. A list that is full takes no more.
+fn add_decl(decls: &mut DeclList, decl: Decl) -> Result<(), NoMemory>
+    ensures { OnOk result (decls.new ≡ decls.old ++ decl ∷ []) }
+{
+    if decls.len() == u32::MAX {
+        return Err(NoMemory);
+    }
+    decls.push(decl)
+}
+
+// The new name of a place of a block.
+fn common_decl(
+    alloc: Global,
+    put: &PutIn,
+    block: &Option<Name>,
+    place: usize,
+) -> Result<Decl, NoMemory>
+    ensures { IfOk result (λ made. made ≡ common_decl_of put.now.new.now.text.now.us.now block.now place) }
+{
+    let entity = Entity::InBlock(copy_of_block(alloc, block)?, place);
+    Ok(Decl {
+        name: put.new.name_for(alloc, &entity)?,
+        dims: Sequence::new(alloc),
+    })
+}
+
+// How many places a block has.
+fn block_size(put: &PutIn, block: &Option<Name>) -> usize
+    ensures { result ≡ block_size_of put.now.new.now.text.now.us.now block.now }
+{
+    match put.firsts.get(block) {
+        Some(k) => put.new.text.kept[*k].blocks.size(block),
+        None => 0,
+    }
+}

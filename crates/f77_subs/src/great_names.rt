@@ -1,0 +1,63 @@
+//! Whether a text needs a name of a great number.
+ghost use Rattle.std.specs.Prelude.{◌≡◌, ◌+◌, ◌<◌, ◌^◌, ℕ, List, filter, length, nat_lt, take, IfOk};
+ghost use Rattle.std.specs.List.{list_any, range_with_len};
+ghost use Rattle.f77_layout.specs.Appearances.{each_once};
+ghost use Rattle.f77_subs.specs.NewNames.{is_free_of};
+
+use crate::put_counts::one_if;
+use crate::y_names::y_name;
+use df_sequence::NoMemory;
+use f77_layout::AppearingNames;
+use std::alloc::Global;
+
+/// Whether one of the first so many free numbers is above this, where these are the names in use, each once. It tries no
+/// more numbers than there are names in use and numbers asked for.
+pub(crate) fn has_number_above(
+    alloc: Global,
+    used: &AppearingNames,
+    count: usize,
+    most: u32,
+) -> Result<bool, NoMemory>
+    requires few { count < 2 ^ 32 }
+    ensures { IfOk result (λ above. (all : List (List ℕ)) → used.now ≡ each_once all → above ≡ list_any (nat_lt most) (take count (filter (is_free_of all) (range_with_len 1 (count + length all))))) }
+{
+    if !is_over(count, used.len(), most) {
+        return Ok(false);
+    }
+    let free = count_free(alloc, used, most)?;
+    Ok(is_less(free, count))
+}
+
+// Whether the sum is more than this.
+fn is_over(count: usize, used: u32, most: u32) -> bool
+    requires { count < 2 ^ 32 }
+    ensures { result ≡ nat_lt most (count + used) }
+{
+    count + used as usize > most as usize
+}
+
+fn is_less(free: u32, count: usize) -> bool
+    ensures { result ≡ nat_lt free count }
+{
+    (free as usize) < count
+}
+
+// How many numbers from 1 on are free, of so many.
+fn count_free(alloc: Global, used: &AppearingNames, most: u32) -> Result<u32, NoMemory>
+    ensures { IfOk result (λ count. count ≡ length (filter (is_free_of used.now) (range_with_len 1 most))) }
+{
+    let mut count = 0;
+    for i in 0..most {
+        let free = is_free(alloc, used, i + 1)?;
+        count += one_if(free);
+    }
+    Ok(count)
+}
+
+// Whether the name of a number isn't in use.
+fn is_free(alloc: Global, used: &AppearingNames, n: u32) -> Result<bool, NoMemory>
+    ensures { IfOk result (λ free. free ≡ is_free_of used.now n) }
+{
+    let name = y_name(alloc, n)?;
+    Ok(!used.has(&name))
+}

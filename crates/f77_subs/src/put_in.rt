@@ -1,0 +1,186 @@
+//! What is put into the main program: declarations of the entities that subroutines add, and their EQUIVALENCE and DATA.
+ghost use Rattle.std.specs.Prelude.{◌≡◌, ◌<◌, ◌++◌, ◌∷◌, [], ℕ, List, Option, false, filter, flat_map, if◌then◌else◌, length, map, slice_index_or, IfOk, OnOk};
+ghost use Rattle.std.specs.List.{list_any};
+ghost use Rattle.indexmap.specs.IndexMap.{get};
+ghost use Rattle.f77_tree.specs.Places.{same_block};
+ghost use Rattle.f77_subs.specs.Expansion.{blocks as blocks_of, common_of, datas, is_running as is_running_of, put_in, ties, type_of, units_but_main};
+ghost use Rattle.f77_layout.specs.Layout.{last_line};
+ghost use Rattle.f77_subs.specs.Names.{y_entities};
+ghost use Rattle.f77_subs.specs.PutIn.{first_with_block, is_put_in as is_put_in_of, is_run_block};
+ghost use Rattle.f77_subs.specs.Units.{runs as runs_of, unit_at};
+
+use crate::copying::put;
+use crate::declaring::{common_decls, type_decl};
+use crate::entity::{Entity, copy_of_block};
+use crate::new_names::NewNames;
+use crate::put_blocks::{all_blocks, first_units, running_blocks};
+use crate::put_storage::{put_datas_if, put_ties_if};
+use crate::splitting::Units;
+use crate::text_names::Blocks;
+use crate::unit_lines::line_of_end;
+use df_sequence::{NoMemory, Sequence};
+use f77_tree::{CommonPart, Labelled, LabelledList, Name, Stmt};
+use indexmap::IndexMap;
+use std::alloc::Global;
+
+/// What is known of a text while statements are put in.
+#[derive(Drop)]
+pub(crate) struct PutIn<'a> {
+    pub(crate) new: &'a NewNames<'a>,
+    /// For each unit whether it runs.
+    pub(crate) runs: &'a [bool],
+    /// The blocks of subroutines that run.
+    running: Blocks,
+    /// All blocks, in the order in which they first appear.
+    blocks: Blocks,
+    /// For a block the first unit that has it.
+    pub(crate) firsts: IndexMap<Option<Name>, usize>,
+    /// The line of the main program's END.
+    line: u32,
+    ghost enough: { length new.now.text.now.us.now < length runs.now },
+    ghost told: { (k : ℕ) → k < length new.now.text.now.us.now → slice_index_or runs.now k false ≡ runs_of new.now.text.now.us.now k },
+    ghost run_blocks: { (block : Option (List ℕ)) → list_any (same_block block) running ≡ is_run_block new.now.text.now.us.now block },
+    ghost all_blocks: { blocks ≡ blocks_of new.now.text.now.us.now },
+    ghost first_units: { (block : Option (List ℕ)) → get same_block firsts block ≡ first_with_block new.now.text.now.us.now block },
+    ghost last: { line ≡ last_line (unit_at new.now.text.now.us.now 0) },
+}
+
+impl<'a> PutIn<'a> {
+    /// Reads the blocks of all units.
+    pub(crate) fn of(
+        alloc: Global,
+        new: &'a NewNames<'a>,
+        runs: &'a [bool],
+    ) -> Result<PutIn<'a>, NoMemory>
+        requires enough { length new.now.text.now.us.now < length runs.now }
+        requires told { (k : ℕ) → k < length new.now.text.now.us.now → slice_index_or runs.now k false ≡ runs_of new.now.text.now.us.now k }
+        ensures { IfOk result (λ made. made.new.now.text.now.us.now ≡ new.now.text.now.us.now) }
+    {
+        let running = running_blocks(alloc, new.text.us, runs)?;
+        let blocks = all_blocks(alloc, new.text.us)?;
+        let firsts = first_units(alloc, new.text.us)?;
+        Ok(PutIn {
+            new,
+            runs,
+            running,
+            blocks,
+            firsts,
+            line: line_of_end(new.text.us),
+        })
+    }
+
+    /// Puts all of it behind the list.
+    pub(crate) fn put_all(&self, alloc: Global, out: &mut LabelledList) -> Result<(), NoMemory>
+        ensures { OnOk result (out.new ≡ out.old ++ put_in self.now.new.now.text.now.us.now) }
+    {
+        self.put_types(alloc, out)?;
+        self.put_commons(alloc, out)?;
+        self.put_ties(alloc, out)?;
+        self.put_datas(alloc, out)?;
+        Ok(())
+    }
+
+    // A type statement for each entity of a subroutine that runs.
+    fn put_types(&self, alloc: Global, out: &mut LabelledList) -> Result<(), NoMemory>
+        ensures { OnOk result (out.new ≡ out.old ++ map (type_of self.now.new.now.text.now.us.now self.now.line) (filter (is_running_of self.now.new.now.text.now.us.now) (y_entities self.now.new.now.text.now.us.now))) }
+    {
+        for i in 0..self.new.text.own.len() {
+            self.put_type(alloc, out, self.new.text.own.at(i))?;
+        }
+        Ok(())
+    }
+
+    // The type statement of an entity, if its subroutine runs.
+    fn put_type(
+        &self,
+        alloc: Global,
+        out: &mut LabelledList,
+        entity: &Entity,
+    ) -> Result<(), NoMemory>
+        ensures { OnOk result (out.new ≡ out.old ++ (if is_running_of self.now.new.now.text.now.us.now entity.now then type_of self.now.new.now.text.now.us.now self.now.line entity.now ∷ [] else [])) }
+    {
+        let running = self.is_running(entity)?;
+        if !running {
+            return Ok(());
+        }
+        let (kind, decls) = type_decl(alloc, self, entity)?;
+        put(out, 0, self.line, Stmt::TypeOf(kind, decls))?;
+        Ok(())
+    }
+
+    // Whether an entity is one of a subroutine that runs. Each is one of a unit of the text.
+    fn is_running(&self, entity: &Entity) -> Result<bool, NoMemory>
+        ensures { IfOk result (λ running. running ≡ is_running_of self.now.new.now.text.now.us.now entity.now) }
+    {
+        match entity {
+            Entity::Local(unit, _) => {
+                if *unit < self.new.text.us.len() {
+                    Ok(self.runs[*unit])
+                } else {
+                    Err(NoMemory)
+                }
+            }
+            Entity::InBlock(block, _) => Ok(self.running.has(block)),
+        }
+    }
+
+    // A COMMON statement for each block that subroutines that run add.
+    fn put_commons(&self, alloc: Global, out: &mut LabelledList) -> Result<(), NoMemory>
+        ensures { OnOk result (out.new ≡ out.old ++ map (common_of self.now.new.now.text.now.us.now self.now.line) (filter (is_put_in_of self.now.new.now.text.now.us.now) (blocks_of self.now.new.now.text.now.us.now))) }
+    {
+        for i in 0..self.blocks.len() {
+            self.put_common(alloc, out, self.blocks.at(i))?;
+        }
+        Ok(())
+    }
+
+    // The COMMON statement of a block, if it is added.
+    fn put_common(
+        &self,
+        alloc: Global,
+        out: &mut LabelledList,
+        block: &Option<Name>,
+    ) -> Result<(), NoMemory>
+        ensures { OnOk result (out.new ≡ out.old ++ (if is_put_in_of self.now.new.now.text.now.us.now block.now then common_of self.now.new.now.text.now.us.now self.now.line block.now ∷ [] else [])) }
+    {
+        if !self.is_added(block) {
+            return Ok(());
+        }
+        let decls = common_decls(alloc, self, block)?;
+        let part = CommonPart {
+            block: copy_of_block(alloc, block)?,
+            decls,
+        };
+        let mut parts = Sequence::new(alloc);
+        parts.push(part)?;
+        put(out, 0, self.line, Stmt::Common(parts))?;
+        Ok(())
+    }
+
+    // Whether a block is one of subroutines that run, and none of the main program.
+    fn is_added(&self, block: &Option<Name>) -> bool
+        ensures { result ≡ is_put_in_of self.now.new.now.text.now.us.now block.now }
+    {
+        !self.new.text.main.has(block) && self.running.has(block)
+    }
+
+    // The EQUIVALENCE statements of subroutines that run.
+    fn put_ties(&self, alloc: Global, out: &mut LabelledList) -> Result<(), NoMemory>
+        ensures { OnOk result (out.new ≡ out.old ++ flat_map (λ k. flat_map (ties self.now.new.now.text.now.us.now k) (unit_at self.now.new.now.text.now.us.now k)) (units_but_main self.now.new.now.text.now.us.now)) }
+    {
+        for k in 1..self.new.text.us.len() {
+            put_ties_if(alloc, self.new, out, self.runs[k], k)?;
+        }
+        Ok(())
+    }
+
+    // The DATA statements of subroutines that run.
+    fn put_datas(&self, alloc: Global, out: &mut LabelledList) -> Result<(), NoMemory>
+        ensures { OnOk result (out.new ≡ out.old ++ flat_map (λ k. flat_map (datas self.now.new.now.text.now.us.now k) (unit_at self.now.new.now.text.now.us.now k)) (units_but_main self.now.new.now.text.now.us.now)) }
+    {
+        for k in 1..self.new.text.us.len() {
+            put_datas_if(alloc, self.new, out, self.runs[k], k)?;
+        }
+        Ok(())
+    }
+}

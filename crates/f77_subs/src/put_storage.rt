@@ -1,0 +1,205 @@
+//! EQUIVALENCE and DATA of subroutines, with the new names.
+ghost use Rattle.std.specs.Prelude.{◌≡◌, ◌<◌, ◌++◌, [], flat_map, if◌then◌else◌, length, map, IfOk, OnOk};
+ghost use Rattle.f77_subs.specs.Expansion.{datas, init_for, member_for, members_for, ties};
+ghost use Rattle.f77_subs.specs.Units.{unit_at};
+
+use crate::copying::put;
+use crate::new_names::NewNames;
+use df_sequence::{Copied, NoMemory, Sequence};
+use f77_tree::{
+    GroupList, InitPart, InitPartList, Labelled, LabelledList, Member, MemberList, Stmt,
+};
+use std::alloc::Global;
+
+/// Puts the EQUIVALENCE statements of the unit k behind the list, if it runs.
+pub(crate) fn put_ties_if(
+    alloc: Global,
+    new: &NewNames,
+    out: &mut LabelledList,
+    runs: bool,
+    k: usize,
+) -> Result<(), NoMemory>
+    requires { k < length new.now.text.now.us.now }
+    ensures { OnOk result (out.new ≡ out.old ++ (if runs then flat_map (ties new.now.text.now.us.now k) (unit_at new.now.text.now.us.now k) else [])) }
+{
+    if runs {
+        put_unit_ties(alloc, new, out, k, new.text.us.at(k))
+    } else {
+        Ok(())
+    }
+}
+
+// Puts the EQUIVALENCE statements of the unit k behind the list.
+fn put_unit_ties(
+    alloc: Global,
+    new: &NewNames,
+    out: &mut LabelledList,
+    k: usize,
+    unit: &[Labelled],
+) -> Result<(), NoMemory>
+    requires { k < length new.now.text.now.us.now }
+    ensures { OnOk result (out.new ≡ out.old ++ flat_map (ties new.now.text.now.us.now k) unit.now) }
+{
+    for s in unit {
+        put_tie(alloc, new, out, k, s)?;
+    }
+    Ok(())
+}
+
+fn put_tie(
+    alloc: Global,
+    new: &NewNames,
+    out: &mut LabelledList,
+    k: usize,
+    s: &Labelled,
+) -> Result<(), NoMemory>
+    requires { k < length new.now.text.now.us.now }
+    ensures { OnOk result (out.new ≡ out.old ++ ties new.now.text.now.us.now k s.now) }
+{
+    match &s.stmt {
+        Stmt::Equivalence(groups) => {
+            let changed = changed_groups(alloc, new, k, groups)?;
+            put(out, 0, s.line, Stmt::Equivalence(changed))?;
+            Ok(())
+        }
+        _ => Ok(()),
+    }
+}
+
+/// Puts the DATA statements of the unit k behind the list, if it runs.
+pub(crate) fn put_datas_if(
+    alloc: Global,
+    new: &NewNames,
+    out: &mut LabelledList,
+    runs: bool,
+    k: usize,
+) -> Result<(), NoMemory>
+    requires { k < length new.now.text.now.us.now }
+    ensures { OnOk result (out.new ≡ out.old ++ (if runs then flat_map (datas new.now.text.now.us.now k) (unit_at new.now.text.now.us.now k) else [])) }
+{
+    if runs {
+        put_unit_datas(alloc, new, out, k, new.text.us.at(k))
+    } else {
+        Ok(())
+    }
+}
+
+// Puts the DATA statements of the unit k behind the list.
+fn put_unit_datas(
+    alloc: Global,
+    new: &NewNames,
+    out: &mut LabelledList,
+    k: usize,
+    unit: &[Labelled],
+) -> Result<(), NoMemory>
+    requires { k < length new.now.text.now.us.now }
+    ensures { OnOk result (out.new ≡ out.old ++ flat_map (datas new.now.text.now.us.now k) unit.now) }
+{
+    for s in unit {
+        put_data(alloc, new, out, k, s)?;
+    }
+    Ok(())
+}
+
+fn put_data(
+    alloc: Global,
+    new: &NewNames,
+    out: &mut LabelledList,
+    k: usize,
+    s: &Labelled,
+) -> Result<(), NoMemory>
+    requires { k < length new.now.text.now.us.now }
+    ensures { OnOk result (out.new ≡ out.old ++ datas new.now.text.now.us.now k s.now) }
+{
+    match &s.stmt {
+        Stmt::Init(parts) => {
+            let changed = changed_parts(alloc, new, k, parts)?;
+            put(out, 0, s.line, Stmt::Init(changed))?;
+            Ok(())
+        }
+        _ => Ok(()),
+    }
+}
+
+// Groups of EQUIVALENCE.
+fn changed_groups(
+    alloc: Global,
+    new: &NewNames,
+    k: usize,
+    groups: &GroupList,
+) -> Result<GroupList, NoMemory>
+    requires { k < length new.now.text.now.us.now }
+    ensures { IfOk result (λ made. made ≡ map (members_for new.now.text.now.us.now k) groups.now) }
+{
+    let mut made = Sequence::new(alloc);
+    for group in groups.as_slice() {
+        made.push(changed_members(alloc, new, k, group)?)?;
+    }
+    Ok(made)
+}
+
+// Parts of DATA.
+fn changed_parts(
+    alloc: Global,
+    new: &NewNames,
+    k: usize,
+    parts: &InitPartList,
+) -> Result<InitPartList, NoMemory>
+    requires { k < length new.now.text.now.us.now }
+    ensures { IfOk result (λ made. made ≡ map (init_for new.now.text.now.us.now k) parts.now) }
+{
+    let mut made = Sequence::new(alloc);
+    for part in parts.as_slice() {
+        made.push(changed_part(alloc, new, k, part)?)?;
+    }
+    Ok(made)
+}
+
+// A part of DATA.
+fn changed_part(
+    alloc: Global,
+    new: &NewNames,
+    k: usize,
+    part: &InitPart,
+) -> Result<InitPart, NoMemory>
+    requires { k < length new.now.text.now.us.now }
+    ensures { IfOk result (λ made. made ≡ init_for new.now.text.now.us.now k part.now) }
+{
+    Ok(InitPart {
+        items: changed_members(alloc, new, k, &part.items)?,
+        values: part.values.copy(alloc)?,
+    })
+}
+
+// Variables and elements.
+fn changed_members(
+    alloc: Global,
+    new: &NewNames,
+    k: usize,
+    members: &MemberList,
+) -> Result<MemberList, NoMemory>
+    requires { k < length new.now.text.now.us.now }
+    ensures { IfOk result (λ made. made ≡ members_for new.now.text.now.us.now k members.now) }
+{
+    let mut made = Sequence::new(alloc);
+    for member in members.as_slice() {
+        made.push(changed_member(alloc, new, k, member)?)?;
+    }
+    Ok(made)
+}
+
+// A variable or an element.
+fn changed_member(
+    alloc: Global,
+    new: &NewNames,
+    k: usize,
+    member: &Member,
+) -> Result<Member, NoMemory>
+    requires { k < length new.now.text.now.us.now }
+    ensures { IfOk result (λ made. made ≡ member_for new.now.text.now.us.now k member.now) }
+{
+    Ok(Member {
+        name: new.name_in(alloc, k, &member.name)?,
+        subs: member.subs.copy(alloc)?,
+    })
+}

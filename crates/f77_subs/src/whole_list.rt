@@ -1,0 +1,121 @@
+//! The main program with copies in place of its CALLs, and with what is put in.
+ghost use Rattle.std.specs.Prelude.{◌≡◌, ◌<◌, ◌≤◌, ◌^◌, ℕ, List, length, nat_lt, not, sum_by, bytes_eq, IfOk};
+ghost use Rattle.indexmap.specs.IndexMap.{get};
+ghost use Rattle.f77_layout.specs.Order.{rank};
+ghost use Rattle.f77_subs.specs.CallTable.{unit_named};
+ghost use Rattle.f77_subs.specs.Expansion.{declared_first as declared_first_of, whole_list as whole_list_of};
+ghost use Rattle.f77_subs.specs.Heights.{NoneCallsItself};
+ghost use Rattle.f77_subs.specs.LabelCounts.{labels_of};
+ghost use Rattle.f77_subs.specs.NamedTables.{AreFit, AreTablesFor};
+ghost use Rattle.f77_subs.specs.Units.{unit_at};
+ghost use Rattle.f77_subs.specs.Widths.{body_width, width};
+
+use crate::label_counts::LabelCounts;
+use crate::labels::label_counts;
+use crate::put_in::PutIn;
+use crate::splitting::Units;
+use crate::unit_table::{CopyOf, CopyTables};
+use crate::unit_tables::unit_tables;
+use df_sequence::{NoMemory, Sequence};
+use f77_tree::{Labelled, LabelledList, Name, Stmt};
+use indexmap::IndexMap;
+use std::alloc::Global;
+
+// A copy has fewer labels than this.
+const MOST_LABELS: u32 = 1 << 20;
+
+/// The list of a text whose units nothing refuses. It takes a time linear in the list and in the text, but for the counts of
+/// labels, which take as many rounds over all CALLs as there are units.
+pub(crate) fn whole_list(
+    alloc: Global,
+    us: &Units,
+    index: &IndexMap<Name, usize>,
+    put: &PutIn,
+) -> Result<LabelledList, NoMemory>
+    requires same { put.now.new.now.text.now.us.now ≡ us.now }
+    requires index { (name : List ℕ) → get bytes_eq index.now name ≡ unit_named us.now name }
+    requires none { NoneCallsItself us.now }
+    requires fit { AreFit us.now }
+    requires few { sum_by (width (body_width us.now (length us.now)) us.now 0) (unit_at us.now 0) ≤ 4000 }
+    ensures { IfOk result (λ list. list ≡ whole_list_of us.now) }
+{
+    let counts = label_counts(alloc, us, index, MOST_LABELS)?;
+    let units = LabelCounts {
+        us,
+        index,
+        counts: &counts,
+    };
+    let tables = unit_tables(alloc, put.new, &units)?;
+    let copies = CopyTables {
+        units,
+        tables: &tables,
+    };
+    put_whole(alloc, &copies, put)
+}
+
+// The list, by the tables of all units.
+fn put_whole(alloc: Global, copies: &CopyTables, put: &PutIn) -> Result<LabelledList, NoMemory>
+    requires same { put.now.new.now.text.now.us.now ≡ copies.now.units.us.now }
+    requires tables { AreTablesFor copies.now }
+    requires few { sum_by (width (body_width copies.now.units.us.now (length copies.now.units.us.now)) copies.now.units.us.now 0) (unit_at copies.now.units.us.now 0) ≤ 4000 }
+    ensures { IfOk result (λ list. list ≡ whole_list_of copies.now.units.us.now) }
+{
+    let us = copies.units.us;
+    if us.len() == 0 {
+        return Err(NoMemory);
+    }
+    let main = us.at(0);
+    let copy = CopyOf {
+        table: &copies.tables[0],
+        arguments: &[],
+        base: 0,
+    };
+    let first = declared_first(main);
+    let before = labels_in_main(&copies.units, &main[..first]);
+    let mut out = Sequence::new(alloc);
+    copies.put_pieces(alloc, &mut out, us.len(), 0, &copy, 0, &main[..first])?;
+    put.put_all(alloc, &mut out)?;
+    copies.put_pieces(alloc, &mut out, us.len(), 0, &copy, before, &main[first..])?;
+    Ok(out)
+}
+
+// How many statements of the main program stand before its first DATA or executable statement.
+fn declared_first(main: &[Labelled]) -> usize
+    ensures count { result ≡ declared_first_of main.now }
+    ensures inside { result ≤ length main.now }
+{
+    for i in 0..main.len() {
+        if !is_declared_first(&main[i].stmt) {
+            return i;
+        }
+    }
+    main.len()
+}
+
+// Whether a statement stands before DATA and executable statements.
+fn is_declared_first(stmt: &Stmt) -> bool
+    ensures { result ≡ not (nat_lt 2 (rank stmt.now)) }
+{
+    matches!(
+        stmt,
+        Stmt::Program
+            | Stmt::Implicit(_)
+            | Stmt::ImplicitNone
+            | Stmt::TypeOf(_, _)
+            | Stmt::Dimension(_)
+            | Stmt::Common(_)
+            | Stmt::Equivalence(_)
+    )
+}
+
+// How many labels stand for statements of the main program.
+fn labels_in_main(units: &LabelCounts, stmts: &[Labelled]) -> u32
+    requires { labels_of units.now.us.now units.now.counts.now 0 stmts.now < 2 ^ 20 }
+    ensures { result ≡ labels_of units.now.us.now units.now.counts.now 0 stmts.now }
+{
+    let mut total = 0;
+    for s in stmts {
+        total += units.labels(0, s);
+    }
+    total
+}
