@@ -16,29 +16,29 @@ use Rattle.f77_subs.proofs.UnitWalk.{follows-push}
 
 -- ---- where there is no fault
 
-no-fault : (fault : List Labelled → Labelled → Bool) (above : List Labelled) (s : Labelled) (rest : List Labelled) → first_after fault above (s ∷ rest) ≡ None → (fault above s ≡ false) × (first_after fault (above ++ s ∷ []) rest ≡ None)
+pub no-fault : (fault : List Labelled → Labelled → Bool) (above : List Labelled) (s : Labelled) (rest : List Labelled) → first_after fault above (s ∷ rest) ≡ None → (fault above s ≡ false) × (first_after fault (above ++ s ∷ []) rest ≡ None)
 no-fault fault above s rest none = by_test (fault above s) none
   where
     by_test : (b : Bool) → (if b then Some s.line else first_after fault (above ++ s ∷ []) rest) ≡ None → (b ≡ false) × (first_after fault (above ++ s ∷ []) rest ≡ None)
     by_test true is = let e : Some s.line ≡ None = is in absurd cc
     by_test false is = (refl, is)
 
-or-parts : (a b : Bool) → (a || b) ≡ false → (a ≡ false) × (b ≡ false)
+pub or-parts : (a b : Bool) → (a || b) ≡ false → (a ≡ false) × (b ≡ false)
 or-parts true b is = let e : true ≡ false = is in absurd cc
 or-parts false b is = (refl, is)
 
 -- ---- the main program is no subroutine
 
-abbrev is_plain : Labelled → Bool
+abbrev pub is_plain : Labelled → Bool
 is_plain s = not (is_some (sub_name s.stmt))
 
-plain-here : (above : List Labelled) (s : Labelled) → follows_end above ≡ false → is_out_of_unit above s ≡ false → is_plain s ≡ true
+pub plain-here : (above : List Labelled) (s : Labelled) → follows_end above ≡ false → is_out_of_unit above s ≡ false → is_plain s ≡ true
 plain-here above s inside none =
     let first = (or-parts (differ (follows_end above) (is_some (sub_name s.stmt))) (not (list_any (λ a. is_end a.stmt) above) && is_return (inner s.stmt)) none).0 in
     let e : is_some (sub_name s.stmt) ≡ false = ap (λ (b : Bool). differ b (is_some (sub_name s.stmt))) (sym inside) ∙ first in
     ap not e
 
-first-plain : (s : Labelled) (us : List (List Labelled)) → is_plain s ≡ true → list_all is_plain (unit_at us 0) ≡ true → list_all is_plain (unit_at (in_first s us) 0) ≡ true
+pub first-plain : (s : Labelled) (us : List (List Labelled)) → is_plain s ≡ true → list_all is_plain (unit_at us 0) ≡ true → list_all is_plain (unit_at (in_first s us) 0) ≡ true
 first-plain s [] here all = and_from (is_plain s) true here refl
 first-plain s (u ∷ us) here all = and_from (is_plain s) (list_all is_plain u) here all
 
@@ -53,21 +53,21 @@ main-plain (s ∷ rest) above inside none =
     by_end true is here later = and_from (is_plain s) true here refl
     by_end false is here later = first-plain s (units rest) here (later (follows-push above s ∙ is))
 
-no-sub : (o : Option (List ℕ)) (name : List ℕ) → not (is_some o) ≡ true → is_named name o ≡ false
+pub no-sub : (o : Option (List ℕ)) (name : List ℕ) → not (is_some o) ≡ true → is_named name o ≡ false
 no-sub None name is = refl
 no-sub (Some other) name is = let e : false ≡ true = is in absurd cc
 
-none-named : (name : List ℕ) (stmts : List Labelled) → list_all is_plain stmts ≡ true → list_any (is_sub_of name) stmts ≡ false
+pub none-named : (name : List ℕ) (stmts : List Labelled) → list_all is_plain stmts ≡ true → list_any (is_sub_of name) stmts ≡ false
 none-named name [] all = refl
 none-named name (s ∷ rest) all =
     let both = and_parts (is_plain s) (list_all is_plain rest) all in
     ap (λ (b : Bool). b || list_any (is_sub_of name) rest) (no-sub (sub_name s.stmt) name both.0) ∙ none-named name rest both.1
 
-not-first : (name : List ℕ) (us : List (List Labelled)) → 0 < length us → list_any (is_sub_of name) (unit_at us 0) ≡ false → 0 < unit_of us name
+pub not-first : (name : List ℕ) (us : List (List Labelled)) → 0 < length us → list_any (is_sub_of name) (unit_at us 0) ≡ false → 0 < unit_of us name
 not-first name [] some none = absurd (omega (arith, some))
 not-first name (u ∷ us) some none = subst (λ (b : Bool). 0 < cond (not b) (1 + unit_of us name) 0) (sym none) (omega arith)
 
-no-dummies : (s : Stmt) → not (is_some (sub_name s)) ≡ true → sub_dummies s ≡ []
+pub no-dummies : (s : Stmt) → not (is_some (sub_name s)) ≡ true → sub_dummies s ≡ []
 no-dummies Program is = refl
 no-dummies (Implicit a) is = refl
 no-dummies ImplicitNone is = refl
@@ -95,7 +95,7 @@ no-dummies (CallTo a b) is = refl
 no-dummies Back is = refl
 no-dummies End is = refl
 
-none-passed : (stmts : List Labelled) → list_all is_plain stmts ≡ true → dummies_of stmts ≡ []
+pub none-passed : (stmts : List Labelled) → list_all is_plain stmts ≡ true → dummies_of stmts ≡ []
 none-passed [] all = refl
 none-passed (s ∷ rest) all =
     let both = and_parts (is_plain s) (list_all is_plain rest) all in
@@ -103,7 +103,7 @@ none-passed (s ∷ rest) all =
 
 -- ---- statements of units
 
-units-all : (p : Labelled → Bool) (stmts : List Labelled) → list_all p stmts ≡ true → list_all (λ u. list_all p u) (units stmts) ≡ true
+pub units-all : (p : Labelled → Bool) (stmts : List Labelled) → list_all p stmts ≡ true → list_all (λ u. list_all p u) (units stmts) ≡ true
 units-all p [] all = refl
 units-all p (s ∷ rest) all =
     let both = and_parts (p s) (list_all p rest) all in
@@ -119,7 +119,7 @@ units-all p (s ∷ rest) all =
     by_end true here more = and_from (p s && true) (list_all (λ u. list_all p u) (units rest)) (and_from (p s) true here refl) more
     by_end false here more = in-first (units rest) here more
 
-unit-all : (p : Labelled → Bool) (us : List (List Labelled)) (k : ℕ) → list_all (λ u. list_all p u) us ≡ true → list_all p (unit_at us k) ≡ true
+pub unit-all : (p : Labelled → Bool) (us : List (List Labelled)) (k : ℕ) → list_all (λ u. list_all p u) us ≡ true → list_all p (unit_at us k) ≡ true
 unit-all p us k all = by_unit (slice_get us k) refl
   where
     by_unit : (o : Option (List Labelled)) → slice_get us k ≡ o → list_all p (unit_or_none o) ≡ true
@@ -128,23 +128,23 @@ unit-all p us k all = by_unit (slice_get us k) refl
 
 -- ---- arguments
 
-alike-lengths : (u v : List Labelled) (xs ys : List (List ℕ)) → are_alike u v xs ys ≡ true → length xs ≡ length ys
+pub alike-lengths : (u v : List Labelled) (xs ys : List (List ℕ)) → are_alike u v xs ys ≡ true → length xs ≡ length ys
 alike-lengths u v [] [] is = refl
 alike-lengths u v [] (y ∷ ys) is = let e : false ≡ true = is in absurd cc
 alike-lengths u v (x ∷ xs) [] is = let e : false ≡ true = is in absurd cc
 alike-lengths u v (x ∷ xs) (y ∷ ys) is = ap suc (alike-lengths u v xs ys (and_parts (is_alike u v x y) (are_alike u v xs ys) is).1)
 
-not-not : (b : Bool) → not b ≡ false → b ≡ true
+pub not-not : (b : Bool) → not b ≡ false → b ≡ true
 not-not true is = refl
 not-not false is = let e : true ≡ false = is in absurd cc
 
-fit-call : (us : List (List Labelled)) (k : ℕ) (call : Option Call) → calls_wrongly us k call ≡ false → passes us call ≡ true
+pub fit-call : (us : List (List Labelled)) (k : ℕ) (call : Option Call) → calls_wrongly us k call ≡ false → passes us call ≡ true
 fit-call us k None right = refl
 fit-call us k (Some call) right =
     let callee = unit_at us (unit_of us call.name) in
     eq-eqb (length call.arguments) (length (dummies_of callee)) (alike-lengths (unit_at us k) callee call.arguments (dummies_of callee) (not-not (are_alike (unit_at us k) callee call.arguments (dummies_of callee)) right))
 
-fit-all : (us : List (List Labelled)) (above stmts : List Labelled) → first_after (has_bad_call us) above stmts ≡ None → list_all (λ s. passes us (call_in s.stmt)) stmts ≡ true
+pub fit-all : (us : List (List Labelled)) (above stmts : List Labelled) → first_after (has_bad_call us) above stmts ≡ None → list_all (λ s. passes us (call_in s.stmt)) stmts ≡ true
 fit-all us above [] none = refl
 fit-all us above (s ∷ rest) none =
     let parts = no-fault (has_bad_call us) above s rest none in

@@ -16,14 +16,13 @@ use Rattle.f77_subs.specs.Units.{call_in, in_first, is_end, reaches, unit_at, un
 use Rattle.f77_subs.specs.UnitTables.{passes}
 use Rattle.f77_subs.specs.Widths.{body_width, width}
 use Rattle.f77_subs.proofs.AcceptedTables.{subs, main-dummies, fit}
-use Rattle.f77_subs.proofs.AcceptedUnits.{each-none, in-range, no-end, no-line}
-use Rattle.f77_subs.proofs.ClosedUnits.{none-at}
+use Rattle.f77_subs.proofs.NoAnswer.{each-none, in-range, no-end, no-line, none-at}
 use Rattle.f77_subs.proofs.RefusalsMet.{form-told, size-told}
 use Rattle.f77_subs.proofs.SizesMet.{none-wide}
 
 -- ---- a text has a unit
 
-some-unit : (stmts : List Labelled) → EndsWithEnd stmts → 0 < length (units stmts)
+pub some-unit : (stmts : List Labelled) → EndsWithEnd stmts → 0 < length (units stmts)
 some-unit [] ended = let e : None ≡ Some ended.last = ended.stands in absurd cc
 some-unit (s ∷ rest) ended = by (is_end s.stmt)
   where
@@ -41,10 +40,10 @@ module _ (stmts : List Labelled) (checked : Bool) (ended : EndsWithEnd stmts) (u
   abbrev entries : List (Option SubEnd)
   entries = form_refusals stmts us checked
 
-  in-order : first_line is_out_of_unit stmts ≡ None
+  pub in-order : first_line is_out_of_unit stmts ≡ None
   in-order = no-end UnitOrder (first_line is_out_of_unit stmts) (none-at entries 0 (end_at UnitOrder (first_line is_out_of_unit stmts)) accepted refl)
 
-  called : first_line (has_bad_call us) stmts ≡ None
+  pub called : first_line (has_bad_call us) stmts ≡ None
   called = no-end BadCall (first_line (has_bad_call us) stmts) (none-at entries 4 (end_at BadCall (first_line (has_bad_call us) stmts)) accepted refl)
 
   sub-units : (name : List ℕ) → 0 < unit_of (units stmts) name

@@ -18,7 +18,7 @@ row_of (Call' _ _ row) = (_, row)
 row_of (Apply' _ _ row) = (_, row)
 row_of _ = (_, end_of-RawExpr)
 
-changed_row-items : (c : Change) (n : _) (row : Row_of-RawExpr n) → changed_row c row ≡ map (changed c) (items-the_row-RawExpr n row)
+pub changed_row-items : (c : Change) (n : _) (row : Row_of-RawExpr n) → changed_row c row ≡ map (changed c) (items-the_row-RawExpr n row)
 changed_row-items c n end_of-RawExpr = refl
 changed_row-items c n (more_of-RawExpr e rest) = ap (λ (es : List RawExpr). changed c e ∷ es) (changed_row-items c _ rest)
 

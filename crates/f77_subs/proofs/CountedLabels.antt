@@ -1,15 +1,15 @@
 -- What is counted round by round are the labels of copies, each at most the limit.
-use Rattle.std.proofs.Common.{◌≡◌, ℕ, suc, ◌+◌, ◌≤◌, ◌⊎◌, Bool, true, false, if◌then◌else◌, min, List, [], ◌∷◌, length, get_or, sum_by, Option, Some, None, inl, inr, refl, sym, ap, ◌∙◌, arith}
+use Rattle.std.proofs.Common.{◌≡◌, ℕ, suc, ◌+◌, ◌≤◌, ◌⊎◌, Bool, true, false, if◌then◌else◌, min, List, [], ◌∷◌, length, sum_by, Option, Some, None, inl, inr, refl, sym, ap, ◌∙◌, arith}
 use Rattle.std.proofs.lemmas.List.Sums.{sum_by-cons}
 use Rattle.f77_tree.specs.declared.statements.Labelled.{Labelled}
 use Rattle.f77_subs.specs.Units.{Call, call_in, unit_at, unit_of}
 use Rattle.f77_subs.specs.Heights.{IsHeight}
 use Rattle.f77_subs.specs.LabelCounts.{AreCounted, count_at}
 use Rattle.f77_subs.specs.Widths.{is_kept, labels, labels_by, body_labels}
-use Rattle.f77_subs.specs.CallTable.{callee_of, callees, widths_after}
+use Rattle.f77_subs.specs.CallTable.{AreSettled, callee_of, callees}
 use Rattle.f77_subs.specs.LabelRows.{own_labels, own_labels_by, label_rows}
 use Rattle.f77_subs.proofs.Capped.{sum-capped}
-use Rattle.f77_subs.proofs.CountedRounds.{counted-at, counts-of, rows-count}
+use Rattle.f77_subs.proofs.CountedRounds.{counts-of, settled-all}
 use Rattle.f77_subs.proofs.Kept.{kept_or_none}
 use Rattle.f77_subs.proofs.Settled.{labels_settle}
 
@@ -26,15 +26,9 @@ module _ (us : List (List Labelled)) where
   labels-split body k s = label-parts body (is_kept k s.stmt) s.label (call_in s.stmt) (kept_or_none k s.stmt)
 
   module _ (limit : ℕ) where
-    labels-at : (d k : ℕ) → get_or (widths_after limit (label_rows limit us) d) k 0 ≡ min (body_labels us d k) limit
-    labels-at = counted-at us own_labels (λ body. labels body us) labels-split (body_labels us) (λ k. refl) (λ d k. refl) limit
-
-    as_many : length (label_rows limit us) ≡ length us
-    as_many = rows-count us own_labels (λ body. labels body us) labels-split (body_labels us) (λ k. refl) (λ d k. refl) limit
-
     -- after one round more than there are units
-    pub settled-labels : (k : ℕ) → get_or (widths_after limit (label_rows limit us) (suc (length (label_rows limit us)))) k 0 ≡ min (body_labels us (suc (length us)) k) limit
-    settled-labels k = labels-at (suc (length (label_rows limit us))) k ∙ ap (λ (n : ℕ). min (body_labels us (suc n) k) limit) as_many
+    pub settled-labels : (height : ℕ → ℕ) → IsHeight us height → ((k : ℕ) → height k ≤ length us) → (counts : List ℕ) → AreSettled limit (label_rows limit us) counts → (k : ℕ) → count_at counts k ≡ min (body_labels us (suc (length us)) k) limit
+    settled-labels height is few counts settled = settled-all us own_labels (λ body. labels body us) labels-split (body_labels us) (λ k. refl) (λ d k. refl) limit height is counts settled few
 
     -- where no unit calls itself, they are the sums of what they count
     pub counted-by : (height : ℕ → ℕ) → IsHeight us height → ((k : ℕ) → height k ≤ length us) → (counts : List ℕ) → ((k : ℕ) → count_at counts k ≡ min (body_labels us (suc (length us)) k) limit) → AreCounted us limit counts

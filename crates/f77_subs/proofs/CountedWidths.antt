@@ -1,12 +1,13 @@
 -- What is counted round by round are the widths of copies, each at most the limit.
-use Rattle.std.proofs.Common.{◌≡◌, ℕ, suc, ◌+◌, ◌⊎◌, Bool, true, false, if◌then◌else◌, min, List, [], ◌∷◌, length, get_or, sum_by, Option, Some, None, inl, inr, refl, ap, ◌∙◌, arith}
+use Rattle.std.proofs.Common.{◌≡◌, ℕ, ◌+◌, ◌≤◌, ◌⊎◌, Bool, true, false, if◌then◌else◌, min, List, [], ◌∷◌, length, get_or, sum_by, Option, Some, None, inl, inr, refl, ap, arith}
 use Rattle.std.proofs.lemmas.List.Sums.{sum_by-cons}
 use Rattle.f77_tree.specs.declared.statements.Labelled.{Labelled}
 use Rattle.f77_tree.specs.declared.statements.RawExpr.{RawExpr}
 use Rattle.f77_subs.specs.Units.{Call, call_in, guard_of, unit_at, unit_of}
 use Rattle.f77_subs.specs.Widths.{is_kept, lines_around, width, width_by, body_width}
-use Rattle.f77_subs.specs.CallTable.{own_by, own_width, callee_of, call_rows, widths_after}
-use Rattle.f77_subs.proofs.CountedRounds.{counted-at, rows-count}
+use Rattle.f77_subs.specs.CallTable.{AreSettled, own_by, own_width, callee_of, call_rows}
+use Rattle.f77_subs.specs.Heights.{IsHeight}
+use Rattle.f77_subs.proofs.CountedRounds.{settled-all}
 use Rattle.f77_subs.proofs.Kept.{kept_or_none}
 
 module _ (us : List (List Labelled)) where
@@ -24,8 +25,6 @@ module _ (us : List (List Labelled)) where
   width-split : (body : ℕ → ℕ) (k : ℕ) (s : Labelled) → width body us k s ≡ own k s + sum_by body (callee_of us (call_in s.stmt))
   width-split body k s = width-parts body (is_kept k s.stmt) (guard_of s.stmt) (call_in s.stmt) (kept_or_none k s.stmt)
 
-  module _ (limit : ℕ) where
-    pub counted-main : get_or (widths_after limit (call_rows limit us) (suc (length (call_rows limit us)))) 0 0 ≡ min (sum_by (width (body_width us (length us)) us 0) (unit_at us 0)) limit
-    counted-main =
-        counted-at us own (λ body. width body us) width-split (body_width us) (λ k. refl) (λ d k. refl) limit (suc (length (call_rows limit us))) 0
-        ∙ ap (λ (n : ℕ). min (body_width us (suc n) 0) limit) (rows-count us own (λ body. width body us) width-split (body_width us) (λ k. refl) (λ d k. refl) limit)
+  -- where no unit calls itself, they are the widths of copies
+  pub counted-main : (limit : ℕ) (height : ℕ → ℕ) → IsHeight us height → ((k : ℕ) → height k ≤ length us) → (widths : List ℕ) → AreSettled limit (call_rows limit us) widths → get_or widths 0 0 ≡ min (sum_by (width (body_width us (length us)) us 0) (unit_at us 0)) limit
+  counted-main limit height is few widths settled = settled-all us own (λ body. width body us) width-split (body_width us) (λ k. refl) (λ d k. refl) limit height is widths settled few 0

@@ -16,13 +16,13 @@ use Rattle.f77_subs.proofs.KeptNames.{kept-at}
 use Rattle.f77_subs.proofs.ManyBlocks.{is-first, no-first}
 
 module _ (us : List (List Labelled)) (block : Option (List ℕ)) where
-  size-first : (k : ℕ) → first_with_block us block ≡ Some k → block_size us block ≡ length (block_list (unit_at us k) block)
+  pub size-first : (k : ℕ) → first_with_block us block ≡ Some k → block_size us block ≡ length (block_list (unit_at us k) block)
   size-first k is = let first = is-first block us k is in rw first.kept refl
 
   pub no-size : first_with_block us block ≡ None → block_size us block ≡ 0
   no-size none = rw (no-first block us none) refl
 
-  in-first : (place k : ℕ) (name : List ℕ) → first_with_block us block ≡ Some k → slice_get (block_list (unit_at us k) block) place ≡ Some name → declared_in us (InBlock block place) ≡ (unit_at us k, name)
+  pub in-first : (place k : ℕ) (name : List ℕ) → first_with_block us block ≡ Some k → slice_get (block_list (unit_at us k) block) place ≡ Some name → declared_in us (InBlock block place) ≡ (unit_at us k, name)
   in-first place k name is there = let first = is-first block us k is in rw (first.kept, there) refl
 
   pub first-inside : (k : ℕ) → first_with_block us block ≡ Some k → k < length us

@@ -1,99 +1,75 @@
-mod Cutting
-mod CopyWidths
-mod CopyLabels
-mod Settled
-mod SettledCopies
-mod StandingIn
-mod StandInsGiven
-mod UnitSources
-mod PositiveLabels
-mod UnitWalk
-mod SubNames
+pub mod Cutting
+pub mod CopyWidths
+pub mod CopyLabels
+pub mod Settled
+pub mod SettledCopies
+pub mod StandingIn
+pub mod StandInsGiven
+pub mod UnitSources
+pub mod PositiveLabels
+pub mod UnitWalk
+pub mod SubNames
 mod Counting
-mod CallReach
-mod UnitHeights
-mod NamedUnits
-mod Kept
+pub mod CallReach
+pub mod UnitHeights
+pub mod NamedUnits
+pub mod Kept
 mod Capped
 mod CountedWidths
-mod CallEdges
+pub mod CallEdges
 mod CallCycles
 mod GrowingGraph
-mod RunningUnits
-mod Having
-mod PiecesInLists
-mod SameEntities
-mod PutInDeclared
-mod StandingCopies
-mod PieceLabels
-mod BlockRoles
-mod SealedCopies
-mod ClosedUnits
-mod WhichPieces
-mod MappedArms
-mod CopiedDos
-mod LoopLists
-mod CopiedLoops
-mod LoopsTo
-mod RangeEnds
-mod MappedLandings
-mod LabelPlaces
-mod ReachedContexts
-mod AcceptedUnits
-mod ReachedUnits
-mod FreeNumbers
-mod OwnNames
-mod NotedEntities
-mod UsedNames
-mod ChangedRows
-mod ChangedAlike
-mod CalledNames
-mod MainNames
-mod CopiesByTables
+pub mod RunningUnits
+pub mod Having
+pub mod SameEntities
+pub mod PutInDeclared
+pub mod PieceLabels
+pub mod BlockRoles
+pub mod NoAnswer
+pub mod ReachedUnits
+pub mod FreeNumbers
+pub mod OwnNames
+pub mod NotedEntities
+pub mod UsedNames
+pub mod ChangedRows
+pub mod ChangedAlike
+pub mod CalledNames
+pub mod MainNames
+pub mod CopiesByTables
 mod PuttingSteps
 mod TabledLabels
 mod CountedRounds
 mod CountedLabels
-mod NamesMet
+pub mod NamesMet
 mod AlikeOnes
-mod StoredNames
-mod BadCalls
+pub mod StoredNames
+pub mod BadCalls
 mod DummyPlaces
-mod FirstPlaces
-mod KeptBlocks
-mod UnitsMet
+pub mod FirstPlaces
+pub mod KeptBlocks
+pub mod UnitsMet
 mod OddBlocks
 mod FewCalls
 mod GreatNumbers
 mod RefusedUnits
-mod SameElements
-mod RawTrees
-mod ChangedValues
-mod CopiedValues
-mod CopiedLines
-mod SameTrees
-mod CopiedSteps
-mod ListedDeclarations
-mod ListedNames
-mod ListedEntities
-mod ShortNames
-mod CommonPlaces
-mod OwnEntities
+pub mod ShortNames
+pub mod CommonPlaces
+pub mod OwnEntities
 mod FreeTexts
-mod ManyBlocks
-mod FirstBlocks
-mod Results
+pub mod ManyBlocks
+pub mod FirstBlocks
+pub mod Results
 mod NamesOfTables
 mod PutLists
 mod PutDecls
 mod WholeLists
-mod AcceptedTables
-mod GreatNames
+pub mod AcceptedTables
+pub mod GreatNames
 mod PutCounts
 mod RefusalsMet
 mod EntityKeys
-mod FrameTables
-mod TextNames
+pub mod TextNames
 mod KeptNames
-mod SizesMet
-mod AcceptedTexts
+pub mod SizesMet
+pub mod AcceptedTexts
+mod SettledWidths

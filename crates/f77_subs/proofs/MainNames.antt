@@ -16,15 +16,15 @@ use Rattle.f77_subs.specs.Units.{unit_at}
 use Rattle.f77_subs.specs.Entities.{InBlock, block_list, found_in, entity_or, entity_of}
 use Rattle.f77_subs.specs.Names.{main_name, y_name, name_for}
 
-abbrev named : List ℕ → Decl → Bool
+abbrev pub named : List ℕ → Decl → Bool
 named x decl = bytes_eq decl.name x
 
-abbrev decl_names : List Decl → List (List ℕ)
+abbrev pub decl_names : List Decl → List (List ℕ)
 decl_names decls = map (λ (decl : Decl). decl.name) decls
 
 -- ---- lists
 
-position-next : {X : Type 0} (p : X → Bool) (x : X) (xs : List X) → p x ≡ false → position_or_len p (x ∷ xs) ≡ suc (position_or_len p xs)
+pub position-next : {X : Type 0} (p : X → Bool) (x : X) (xs : List X) → p x ≡ false → position_or_len p (x ∷ xs) ≡ suc (position_or_len p xs)
 position-next p x xs is =
     let e : position_or_len p (x ∷ xs) ≡ 1 + position_or_len p xs = ap (λ (b : Bool). if not b then 1 + position_or_len p xs else 0) is in
     let one : 1 + position_or_len p xs ≡ suc (position_or_len p xs) = omega arith in
@@ -42,7 +42,7 @@ found-at x (y ∷ ys) any = ⊎_elim
     ap (slice_get (y ∷ ys)) (position-next (bytes_eq x) y ys is) ∙ found-at x ys later)
     (cases_Bool (bytes_eq x y))
 
-or-behind : (a b : Bool) → b ≡ true → (a || b) ≡ true
+pub or-behind : (a b : Bool) → b ≡ true → (a || b) ≡ true
 or-behind true b is = refl
 or-behind false b is = is
 
@@ -52,7 +52,7 @@ pub same_block-itself : (block : Option (List ℕ)) → same_block block block �
 same_block-itself None = refl
 same_block-itself (Some name) = (bytes_eq-Decides name name).1 refl
 
-among-names : (x : List ℕ) (decls : List Decl) → list_any (named x) decls ≡ true → list_any (bytes_eq x) (decl_names decls) ≡ true
+pub among-names : (x : List ℕ) (decls : List Decl) → list_any (named x) decls ≡ true → list_any (bytes_eq x) (decl_names decls) ≡ true
 among-names x [] any = let h : false ≡ true = any in absurd cc
 among-names x (decl ∷ decls) any = ⊎_elim
     (λ (is : named x decl ≡ true).
@@ -63,15 +63,15 @@ among-names x (decl ∷ decls) any = ⊎_elim
     or-behind (bytes_eq x decl.name) (list_any (bytes_eq x) (decl_names decls)) (among-names x decls later))
     (cases_Bool (named x decl))
 
-abbrev names_of_block : Option (List ℕ) → List CommonPart → List (List ℕ)
+abbrev pub names_of_block : Option (List ℕ) → List CommonPart → List (List ℕ)
 names_of_block block parts = flat_map (λ (part : CommonPart). decl_names part.decls) (filter (λ (part : CommonPart). same_block part.block block) parts)
 
 -- what a part of a block tells of a name
-record Tells (parts : List CommonPart) (x : List ℕ) (block : Option (List ℕ)) : Type 0 where
-  here : list_any (λ (part : CommonPart). same_block part.block block) parts ≡ true
-  among : list_any (bytes_eq x) (names_of_block block parts) ≡ true
+pub record Tells (parts : List CommonPart) (x : List ℕ) (block : Option (List ℕ)) : Type 0 where
+  pub here : list_any (λ (part : CommonPart). same_block part.block block) parts ≡ true
+  pub among : list_any (bytes_eq x) (names_of_block block parts) ≡ true
 
-in-first : (x : List ℕ) (part : CommonPart) (parts : List CommonPart) → list_any (named x) part.decls ≡ true → Tells (part ∷ parts) x part.block
+pub in-first : (x : List ℕ) (part : CommonPart) (parts : List CommonPart) → list_any (named x) part.decls ≡ true → Tells (part ∷ parts) x part.block
 in-first x part parts any =
     let own = same_block-itself part.block in
     let kept : filter (λ (p : CommonPart). same_block p.block part.block) (part ∷ parts) ≡ part ∷ filter (λ (p : CommonPart). same_block p.block part.block) parts =
@@ -84,7 +84,7 @@ in-first x part parts any =
       among = ap (list_any (bytes_eq x)) split ∙ list_any-append (bytes_eq x) (decl_names part.decls) rest ∙ ap (λ (b : Bool). b || list_any (bytes_eq x) rest) (among-names x part.decls any);
     }
 
-later : (x : List ℕ) (part : CommonPart) (parts : List CommonPart) (block : Option (List ℕ)) → Tells parts x block → Tells (part ∷ parts) x block
+pub later : (x : List ℕ) (part : CommonPart) (parts : List CommonPart) (block : Option (List ℕ)) → Tells parts x block → Tells (part ∷ parts) x block
 later x part parts block told = ⊎_elim
     (λ (is : same_block part.block block ≡ true).
     let rest = names_of_block block parts in
@@ -110,13 +110,13 @@ module _ (us : List (List Labelled)) (x : List ℕ) where
   main = unit_at us 0
 
   -- the entity that a name of a block stands for has this name
-  in-block : (block : Option (List ℕ)) → Tells (all_commons main) x block → name_for us (InBlock block (position_or_len (bytes_eq x) (block_list main block))) ≡ x
+  pub in-block : (block : Option (List ℕ)) → Tells (all_commons main) x block → name_for us (InBlock block (position_or_len (bytes_eq x) (block_list main block))) ≡ x
   in-block block told =
       let e = InBlock block (position_or_len (bytes_eq x) (block_list main block)) in
       ap (λ (b : Bool). if b then main_name us e else y_name us e) told.here
       ∙ (let at = found-at x (block_list main block) told.among in rw at refl)
 
-  by-parts : (parts : List CommonPart) → ((block : Option (List ℕ)) → Tells parts x block → Tells (all_commons main) x block) → name_for us (entity_or 0 x (first_answer (found_in main x) parts)) ≡ x
+  pub by-parts : (parts : List CommonPart) → ((block : Option (List ℕ)) → Tells parts x block → Tells (all_commons main) x block) → name_for us (entity_or 0 x (first_answer (found_in main x) parts)) ≡ x
   by-parts [] whole = refl
   by-parts (part ∷ parts) whole =
       let place = position_or_len (bytes_eq x) (block_list main part.block) in

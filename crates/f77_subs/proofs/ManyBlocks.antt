@@ -30,12 +30,12 @@ use Rattle.f77_subs.proofs.SubNames.{any-push, or-none}
 
 -- ---- blocks that are told once are those that are told
 
-or-known : (a b : Bool) → (a ≡ true → b ≡ true) → b ≡ (b || a)
+pub or-known : (a b : Bool) → (a ≡ true → b ≡ true) → b ≡ (b || a)
 or-known true b known = known refl ∙ ap (λ (c : Bool). c || true) (sym (known refl))
 or-known false true known = refl
 or-known false false known = refl
 
-or-assoc : (a b c : Bool) → ((a || b) || c) ≡ (a || (b || c))
+pub or-assoc : (a b c : Bool) → ((a || b) || c) ≡ (a || (b || c))
 or-assoc true b c = refl
 or-assoc false b c = refl
 
@@ -45,7 +45,7 @@ block-sym None (Some b) = refl
 block-sym (Some a) None = refl
 block-sym (Some a) (Some b) = bytes_eq-sym a b
 
-told-step : (x : Option (List ℕ)) (seen : List (Option (List ℕ))) (n : Option (List ℕ)) → list_any (same_block x) (with_block seen n) ≡ (list_any (same_block x) seen || same_block x n)
+pub told-step : (x : Option (List ℕ)) (seen : List (Option (List ℕ))) (n : Option (List ℕ)) → list_any (same_block x) (with_block seen n) ≡ (list_any (same_block x) seen || same_block x n)
 told-step x seen n = by_test (list_any (same_block n) seen) refl
   where
     by_test : (b : Bool) → list_any (same_block n) seen ≡ b → list_any (same_block x) (if b then seen else seen ++ n ∷ []) ≡ (list_any (same_block x) seen || same_block x n)
@@ -59,7 +59,7 @@ told-blocks x seen (n ∷ names) =
     ∙ ap (λ (b : Bool). b || list_any (same_block x) names) (told-step x seen n)
     ∙ or-assoc (list_any (same_block x) seen) (same_block x n) (list_any (same_block x) names)
 
-has-parts : (x : Option (List ℕ)) (parts : List CommonPart) → list_any (same_block x) (map (λ part. part.block) parts) ≡ list_any (λ part. same_block part.block x) parts
+pub has-parts : (x : Option (List ℕ)) (parts : List CommonPart) → list_any (same_block x) (map (λ part. part.block) parts) ≡ list_any (λ part. same_block part.block x) parts
 has-parts x [] = refl
 has-parts x (part ∷ parts) =
     ap (λ (b : Bool). b || list_any (same_block x) (map (λ p. p.block) parts)) (block-sym x part.block)
@@ -210,7 +210,7 @@ module _ (x : Option (List ℕ)) where
     pub rest : List (List Labelled)
     pub kept : filter has us ≡ unit_at us k ∷ rest
 
-  kept-front : (b : Bool) (u : List Labelled) (us : List (List Labelled)) → has u ≡ b → filter has (u ∷ us) ≡ (if b then u ∷ filter has us else filter has us)
+  pub kept-front : (b : Bool) (u : List Labelled) (us : List (List Labelled)) → has u ≡ b → filter has (u ∷ us) ≡ (if b then u ∷ filter has us else filter has us)
   kept-front true u us is = ap (λ (b : Bool). cond b (u ∷ filter has us) (filter has us)) is
   kept-front false u us is = ap (λ (b : Bool). cond b (u ∷ filter has us) (filter has us)) is
 

@@ -12,36 +12,36 @@ use Rattle.f77_subs.specs.Names.{is_main, own_names, same_entity, with_entity, y
 use Rattle.f77_subs.proofs.OwnNames.{entities-same}
 use Rattle.f77_subs.proofs.SameEntities.{same-itself}
 
-abbrev Has : Entity → List Entity → Type 0
+abbrev pub Has : Entity → List Entity → Type 0
 Has e found = list_any (same_entity e) found ≡ true
 
-in-either : (e : Entity) (xs ys : List Entity) → Has e xs → Has e (xs ++ ys)
+pub in-either : (e : Entity) (xs ys : List Entity) → Has e xs → Has e (xs ++ ys)
 in-either e xs ys has = list_any-append (same_entity e) xs ys ∙ or_left (list_any (same_entity e) xs) (list_any (same_entity e) ys) has
 
-in-other : (e : Entity) (xs ys : List Entity) → Has e ys → Has e (xs ++ ys)
+pub in-other : (e : Entity) (xs ys : List Entity) → Has e ys → Has e (xs ++ ys)
 in-other e xs ys has = list_any-append (same_entity e) xs ys ∙ or_right (list_any (same_entity e) xs) (list_any (same_entity e) ys) has
 
 -- ---- notes
 
-still-noted : (e x : Entity) (seen : List Entity) → Has e seen → Has e (with_entity seen x)
+pub still-noted : (e x : Entity) (seen : List Entity) → Has e seen → Has e (with_entity seen x)
 still-noted e x seen has = by_test (list_any (same_entity x) seen)
   where
     by_test : (b : Bool) → Has e (if b then seen else seen ++ x ∷ [])
     by_test true = has
     by_test false = in-either e seen (x ∷ []) has
 
-now-noted : (e : Entity) (seen : List Entity) → Has e (with_entity seen e)
+pub now-noted : (e : Entity) (seen : List Entity) → Has e (with_entity seen e)
 now-noted e seen = by_test (list_any (same_entity e) seen) refl
   where
     by_test : (b : Bool) → list_any (same_entity e) seen ≡ b → Has e (if b then seen else seen ++ e ∷ [])
     by_test true is = is
     by_test false is = in-other e seen (e ∷ []) (or_left (same_entity e e) false (same-itself e))
 
-all-stay : (e : Entity) (found seen : List Entity) → Has e seen → Has e (fold with_entity seen found)
+pub all-stay : (e : Entity) (found seen : List Entity) → Has e seen → Has e (fold with_entity seen found)
 all-stay e [] seen has = has
 all-stay e (x ∷ found) seen has = all-stay e found (with_entity seen x) (still-noted e x seen has)
 
-all-come : (e : Entity) (found seen : List Entity) → Has e found → Has e (fold with_entity seen found)
+pub all-come : (e : Entity) (found seen : List Entity) → Has e found → Has e (fold with_entity seen found)
 all-come e [] seen has = let h : false ≡ true = has in absurd cc
 all-come e (x ∷ found) seen has = ⊎_elim
     (λ (is : same_entity e x ≡ true). all-stay e found (with_entity seen x) (subst (λ (y : Entity). Has e (with_entity seen y)) (entities-same e x is) (now-noted e seen)))
@@ -50,7 +50,7 @@ all-come e (x ∷ found) seen has = ⊎_elim
 
 -- ---- where they come from
 
-among-kept : (q : Entity → Bool) (e : Entity) (found : List Entity) → q e ≡ true → Has e found → Has e (filter q found)
+pub among-kept : (q : Entity → Bool) (e : Entity) (found : List Entity) → q e ≡ true → Has e found → Has e (filter q found)
 among-kept q e [] passes has = has
 among-kept q e (x ∷ found) passes has = ⊎_elim
     (λ (is : same_entity e x ≡ true).
@@ -63,14 +63,14 @@ among-kept q e (x ∷ found) passes has = ⊎_elim
     by_test true more = or_right (same_entity e x) (list_any (same_entity e) (filter q found)) more
     by_test false more = more
 
-among-mapped : (f : List ℕ → Entity) (x : List ℕ) (names : List (List ℕ)) → list_any (bytes_eq x) names ≡ true → Has (f x) (map f names)
+pub among-mapped : (f : List ℕ → Entity) (x : List ℕ) (names : List (List ℕ)) → list_any (bytes_eq x) names ≡ true → Has (f x) (map f names)
 among-mapped f x [] has = has
 among-mapped f x (y ∷ names) has = ⊎_elim
     (λ (is : bytes_eq x y ≡ true). or_left (same_entity (f x) (f y)) (list_any (same_entity (f x)) (map f names)) (subst (λ (z : List ℕ). same_entity (f x) (f z) ≡ true) ((bytes_eq-Decides x y).0 is) (same-itself (f x))))
     (λ (is : bytes_eq x y ≡ false). or_right (same_entity (f x) (f y)) (list_any (same_entity (f x)) (map f names)) (among-mapped f x names (sym (ap (λ (b : Bool). b || list_any (bytes_eq x) names) is) ∙ has)))
     (cases_Bool (bytes_eq x y))
 
-among-all : (f : ℕ → List Entity) (e : Entity) (a n k : ℕ) → a ≤ k → k < a + n → Has e (f k) → Has e (flat_map f (range_with_len a n))
+pub among-all : (f : ℕ → List Entity) (e : Entity) (a n k : ℕ) → a ≤ k → k < a + n → Has e (f k) → Has e (flat_map f (range_with_len a n))
 among-all f e a zero k least below has = absurd (omega (arith, least, below))
 among-all f e a (suc n) k least below has =
     ap (list_any (same_entity e)) (flat_map-cons f a (range_with_len (a + 1) n))

@@ -97,7 +97,7 @@ module _ (us : List (List Labelled)) (blocks : List (Option (List ℕ))) (main :
 abbrev pub noted_to : List (List Labelled) → (n : ℕ) → List Entity
 noted_to us n = filter (λ e. not (is_main us e)) (flat_map (λ k. map (entity_of us k) (own_names us k)) (range_with_len 1 n))
 
-noted-more : (us : List (List Labelled)) (n : ℕ) → noted_to us (suc n) ≡ noted_to us n ++ filter (λ e. not (is_main us e)) (map (entity_of us (1 + n)) (own_names us (1 + n)))
+pub noted-more : (us : List (List Labelled)) (n : ℕ) → noted_to us (suc n) ≡ noted_to us n ++ filter (λ e. not (is_main us e)) (map (entity_of us (1 + n)) (own_names us (1 + n)))
 noted-more us n =
     let of : ℕ → List Entity = λ k. map (entity_of us k) (own_names us k) in
     ap (λ (ks : List ℕ). filter (λ e. not (is_main us e)) (flat_map of ks)) (range-push 1 n)
@@ -120,7 +120,7 @@ noted-next us (suc n) old new some before is =
     ∙ ap (λ (m : ℕ). fold with_entity [] (noted_to us m)) more
 
 -- what is no unit has no names
-no-unit : (us : List (List Labelled)) → own_names us (length us) ≡ []
+pub no-unit : (us : List (List Labelled)) → own_names us (length us) ≡ []
 no-unit us =
     let none : unit_at us (length us) ≡ [] = ap unit_or_none (slice_get_past us (length us) (omega arith)) in
     ap (λ (u : List Labelled). filter (λ x. not (list_any (bytes_eq x) (dummies_of u))) (names_of_unit u)) none

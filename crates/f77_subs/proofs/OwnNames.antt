@@ -78,7 +78,7 @@ entities-same (InBlock a i) (InBlock b j) is =
     cc
 
 -- what holds of all entities that are noted holds of those that were
-all-noted : (q : Entity → Bool) (seen found : List Entity) → list_all q seen ≡ true → list_all q found ≡ true → list_all q (fold with_entity seen found) ≡ true
+pub all-noted : (q : Entity → Bool) (seen found : List Entity) → list_all q seen ≡ true → list_all q found ≡ true → list_all q (fold with_entity seen found) ≡ true
 all-noted q seen [] before all = before
 all-noted q seen (e ∷ found) before all =
     let parts = and_parts (q e) (list_all q found) all in
@@ -88,7 +88,7 @@ all-noted q seen (e ∷ found) before all =
     by_test true is = before
     by_test false is = list_all-append q seen (e ∷ []) ∙ and_from (list_all q seen) (q e && true) before (and_from (q e) true is refl)
 
-all-kept : (q : Entity → Bool) (found : List Entity) → list_all q (filter q found) ≡ true
+pub all-kept : (q : Entity → Bool) (found : List Entity) → list_all q (filter q found) ≡ true
 all-kept q [] = refl
 all-kept q (e ∷ found) = by_test (q e) refl (all-kept q found)
   where
@@ -98,32 +98,32 @@ all-kept q (e ∷ found) = by_test (q e) refl (all-kept q found)
 
 -- ---- arithmetic over any bound
 
-next-fits : (n top : ℕ) → n < top → 1 + n ≤ top
+pub next-fits : (n top : ℕ) → n < top → 1 + n ≤ top
 next-fits n top below = omega (arith, below)
 
-in-reach : (m n top : ℕ) → m < 1 + n → n < top → m < top
+pub in-reach : (m n top : ℕ) → m < 1 + n → n < top → m < top
 in-reach m n top below fits = omega (arith, below, fits)
 
 pub enough-for : (i count free used : ℕ) → i < count → count + used ≤ free + used → i < free
 enough-for i count free used below plenty = omega (arith, below, plenty)
 
-negated : (b : Bool) → not b ≡ true → b ≡ false
+pub negated : (b : Bool) → not b ≡ true → b ≡ false
 negated true is = let e : false ≡ true = is in absurd cc
 negated false is = refl
 
 -- ---- names
 
 module _ (us : List (List Labelled)) where
-  abbrev those : List Entity
+  abbrev pub those : List Entity
   those = y_entities us
 
-  not-main : list_all (λ e. not (is_main us e)) those ≡ true
+  pub not-main : list_all (λ e. not (is_main us e)) those ≡ true
   not-main = all-noted (λ e. not (is_main us e)) [] (filter (λ e. not (is_main us e)) (flat_map (λ k. map (entity_of us k) (own_names us k)) (range_with_len 1 (length us)))) refl (all-kept (λ e. not (is_main us e)) (flat_map (λ k. map (entity_of us k) (own_names us k)) (range_with_len 1 (length us))))
 
-  abbrev place : Entity → ℕ
+  abbrev pub place : Entity → ℕ
   place e = position_or_len (same_entity e) those
 
-  found : (e : Entity) → list_any (same_entity e) those ≡ true → e ≡ get_or those (place e) e
+  pub found : (e : Entity) → list_any (same_entity e) those ≡ true → e ≡ get_or those (place e) e
   found e is = entities-same e (get_or those (place e) e) (passes_at_first (same_entity e) those e (first-inside (same_entity e) those is))
 
   pub own-name : (e : Entity) → list_any (same_entity e) those ≡ true → name_for us e ≡ y_name us e

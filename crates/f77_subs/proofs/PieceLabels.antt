@@ -28,7 +28,7 @@ module _ (us : List (List Labelled)) (c : Context) where
   piece-labels place s = piece_labels us (copy us c.depth) c (copy_labels us c.depth) (number place) s (let e : 0 < number place = omega arith in e)
 
   -- more of a unit has as many labels at least
-  before-mono : (place other : ℕ) → place ≤ other → labels_before us c.depth c.unit place ≤ labels_before us c.depth c.unit other
+  pub before-mono : (place other : ℕ) → place ≤ other → labels_before us c.depth c.unit place ≤ labels_before us c.depth c.unit other
   before-mono place other le =
       subst (λ (xs : List Labelled). sum_by count xs ≤ sum_by count (take other unit)) (take-take place other unit le) (sum_by-take-le count (take other unit) place)
 
@@ -50,7 +50,7 @@ module _ (us : List (List Labelled)) (c : Context) where
       let most : labels_before us c.depth c.unit (place + 1) ≤ body_labels us (suc c.depth) c.unit = sum_by-take-le count unit (place + 1) in
       omega (arith, e, most)
 
-none-written : (list : List Labelled) → list_all (λ s. s.label == 0) list ≡ true → labels_written list ≡ []
+pub none-written : (list : List Labelled) → list_all (λ s. s.label == 0) list ≡ true → labels_written list ≡ []
 none-written [] all = refl
 none-written (s ∷ rest) all =
     let both = and_parts (s.label == 0) (list_all (λ s. s.label == 0) rest) all in

@@ -21,7 +21,7 @@ abbrev pub Listed : List (List Labelled) → Entity → Type 0
 Listed us e = list_any (same_entity e) (y_entities us) ≡ true
 
 -- each of a list is one of it
-all-in : (more xs : List Entity) → list_all (λ e. list_any (same_entity e) (more ++ xs)) xs ≡ true
+pub all-in : (more xs : List Entity) → list_all (λ e. list_any (same_entity e) (more ++ xs)) xs ≡ true
 all-in more [] = refl
 all-in more (e ∷ xs) =
     and_from (list_any (same_entity e) (more ++ e ∷ xs)) (list_all (λ x. list_any (same_entity x) (more ++ e ∷ xs)) xs)

@@ -10,8 +10,7 @@ use Rattle.f77_subs.specs.OpenBlocks.{IsEnded}
 use Rattle.f77_subs.specs.Refusals.{end_at, lacks_sub, lacks_sub_of, unit_refusal, unit_refusals}
 use Rattle.f77_subs.specs.Texts.{IsText}
 use Rattle.f77_subs.specs.Units.{Call, call_in, in_first, is_end, is_sub_of, unit_at, unit_of, unit_or_none, units}
-use Rattle.f77_subs.proofs.AcceptedUnits.{no-end}
-use Rattle.f77_subs.proofs.ClosedUnits.{none-at}
+use Rattle.f77_subs.proofs.NoAnswer.{no-end, none-at}
 use Rattle.f77_subs.proofs.SettledCopies.{pass_at}
 use Rattle.f77_subs.proofs.UnitSources.{IsUnit, text-unit}
 
@@ -41,7 +40,7 @@ any-first p s (u ∷ us) = by_test (p s) (list_any p u) (list_any (list_any p) u
     by_test true b c = refl
     by_test false b c = refl
 
-all-in-units : (p : Labelled → Bool) (stmts : List Labelled) → list_all (list_all p) (units stmts) ≡ list_all p stmts
+pub all-in-units : (p : Labelled → Bool) (stmts : List Labelled) → list_all (list_all p) (units stmts) ≡ list_all p stmts
 all-in-units p [] = refl
 all-in-units p (s ∷ rest) = by_end (is_end s.stmt) ∙ ap (λ (b : Bool). p s && b) (all-in-units p rest)
   where
@@ -53,7 +52,7 @@ all-in-units p (s ∷ rest) = by_end (is_end s.stmt) ∙ ap (λ (b : Bool). p s 
     by_end true = ap (λ (b : Bool). b && list_all (list_all p) (units rest)) (lone (p s))
     by_end false = all-first p s (units rest)
 
-any-in-units : (p : Labelled → Bool) (stmts : List Labelled) → list_any (list_any p) (units stmts) ≡ list_any p stmts
+pub any-in-units : (p : Labelled → Bool) (stmts : List Labelled) → list_any (list_any p) (units stmts) ≡ list_any p stmts
 any-in-units p [] = refl
 any-in-units p (s ∷ rest) = by_end (is_end s.stmt) ∙ ap (λ (b : Bool). p s || b) (any-in-units p rest)
   where
@@ -75,7 +74,7 @@ first-inside p (x ∷ xs) any = by_test (p x) any (first-inside p xs)
     by_test true found later = omega arith
     by_test false found later = let less = later found in omega (arith, less)
 
-none-past : {X : Type 0} (xs : List X) (k : ℕ) → k < length xs → slice_get xs k ≡ None → ⊥
+pub none-past : {X : Type 0} (xs : List X) (k : ℕ) → k < length xs → slice_get xs k ≡ None → ⊥
 none-past [] k inside none = omega (arith, inside)
 none-past (x ∷ xs) zero inside none = let e : Some x ≡ None = none in absurd cc
 none-past (x ∷ xs) (suc k) inside none = none-past xs k (omega (arith, inside)) none
@@ -86,7 +85,7 @@ module _ (whole : List Labelled) where
   abbrev has : Labelled → Bool
   has s = not (lacks_sub_of whole (call_in s.stmt))
 
-  none-lacks : (above stmts : List Labelled) → first_after (lacks_sub whole) above stmts ≡ None → list_all has stmts ≡ true
+  pub none-lacks : (above stmts : List Labelled) → first_after (lacks_sub whole) above stmts ≡ None → list_all has stmts ≡ true
   none-lacks above [] none = refl
   none-lacks above (s ∷ rest) none = by_test (lacks_sub_of whole (call_in s.stmt)) none (none-lacks (above ++ s ∷ []) rest)
     where
@@ -94,7 +93,7 @@ module _ (whole : List Labelled) where
       by_test true no_line later = let e : Some s.line ≡ None = no_line in absurd cc
       by_test false no_line later = later no_line
 
-  is-sub : (s : Labelled) (call : Call) → has s ≡ true → call_in s.stmt ≡ Some call → list_any (is_sub_of call.name) whole ≡ true
+  pub is-sub : (s : Labelled) (call : Call) → has s ≡ true → call_in s.stmt ≡ Some call → list_any (is_sub_of call.name) whole ≡ true
   is-sub s call has_it calls = by_test (list_any (is_sub_of call.name) whole) (sym (ap (λ (o : Option Call). not (lacks_sub_of whole o)) calls) ∙ has_it)
     where
       by_test : (b : Bool) → not (not b) ≡ true → b ≡ true
@@ -105,12 +104,12 @@ module _ (stmts : List Labelled) (checked : Bool) (text : IsText stmts) (accepte
   abbrev us : List (List Labelled)
   us = units stmts
 
-  all-have : list_all (list_all (has stmts)) us ≡ true
+  pub all-have : list_all (list_all (has stmts)) us ≡ true
   all-have =
       let none : first_line (lacks_sub stmts) stmts ≡ None = no-end NoSub (first_line (lacks_sub stmts) stmts) (none-at (unit_refusals stmts us checked) 3 (end_at NoSub (first_line (lacks_sub stmts) stmts)) accepted refl) in
       all-in-units (has stmts) stmts ∙ none-lacks stmts [] stmts none
 
-  callee-inside : (k place : ℕ) (s : Labelled) (call : Call) → slice_get (unit_at us k) place ≡ Some s → call_in s.stmt ≡ Some call → unit_of us call.name < length us
+  pub callee-inside : (k place : ℕ) (s : Labelled) (call : Call) → slice_get (unit_at us k) place ≡ Some s → call_in s.stmt ≡ Some call → unit_of us call.name < length us
   callee-inside k place s call there calls = by_unit (slice_get us k) refl there
     where
       by_unit : (o : Option (List Labelled)) → slice_get us k ≡ o → slice_get (unit_or_none o) place ≡ Some s → unit_of us call.name < length us

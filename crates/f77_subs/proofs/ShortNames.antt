@@ -62,7 +62,7 @@ long-name n great =
 -- ---- so they are free
 
 module _ (used : List (List ℕ)) (short : list_all (λ x. nat_le (length x) 6) used ≡ true) where
-  far-free : (n : ℕ) → 10 ^ 5 ≤ n → list_any (bytes_eq (y_text n)) used ≡ false
+  pub far-free : (n : ℕ) → 10 ^ 5 ≤ n → list_any (bytes_eq (y_text n)) used ≡ false
   far-free n great = by used short
     where
       by : (xs : List (List ℕ)) → list_all (λ x. nat_le (length x) 6) xs ≡ true → list_any (bytes_eq (y_text n)) xs ≡ false
@@ -130,12 +130,12 @@ module _ (used : List (List ℕ)) (short : list_all (λ x. nat_le (length x) 6) 
       parts : (n top : ℕ) → top ≤ n → n ≡ top + (n - top)
       parts n top more = omega (arith, more)
 
-  enough-short : (n : ℕ) → n ≤ length (filter free (range_with_len 1 n)) + length used
+  pub enough-short : (n : ℕ) → n ≤ length (filter free (range_with_len 1 n)) + length used
   enough-short n = enough-of (10 ^ 5) n (omega arith) all-far
 
 -- ---- numbers that are taken
 
-none-passes : (p : ℕ → Bool) (xs : List ℕ) (i x : ℕ) → list_any p xs ≡ false → slice_get xs i ≡ Some x → p x ≡ false
+pub none-passes : (p : ℕ → Bool) (xs : List ℕ) (i x : ℕ) → list_any p xs ≡ false → slice_get xs i ≡ Some x → p x ≡ false
 none-passes p [] i x none is = let e : None ≡ Some x = is in absurd cc
 none-passes p (y ∷ xs) i x none is = by (p y) refl none i is (λ later j there. none-passes p xs j x later there)
   where
@@ -144,7 +144,7 @@ none-passes p (y ∷ xs) i x none is = by (p y) refl none i is (λ later j there
     by false fails h zero there rest = let e : Some y ≡ Some x = there in let same : y ≡ x = cc in subst (λ (z : ℕ). p z ≡ false) same fails
     by false fails h (suc i) there rest = rest h i there
 
-taken-at : (xs : List ℕ) (n i : ℕ) → i < n → slice_get (take n xs) i ≡ slice_get xs i
+pub taken-at : (xs : List ℕ) (n i : ℕ) → i < n → slice_get (take n xs) i ≡ slice_get xs i
 taken-at xs zero i less = absurd (omega (arith, less))
 taken-at [] (suc n) i less = refl
 taken-at (x ∷ xs) (suc n) zero less = refl

@@ -25,7 +25,7 @@ neither false b h i = i
 
 -- ---- a statement alone
 
-alone-ThenIf : (condition : RawExpr) (stmt : Stmt) → stand_in_alone (ThenIf condition stmt) ≡ ThenIf condition stmt
+pub alone-ThenIf : (condition : RawExpr) (stmt : Stmt) → stand_in_alone (ThenIf condition stmt) ≡ ThenIf condition stmt
 unfolding Rattle.f77_tree.specs.declared.statements.Stmt.TheBlock.hidden-the_row-Stmt-0 denote.Hole.Carrier.hidden
 alone-ThenIf condition stmt = refl
 
@@ -89,11 +89,11 @@ stand_in-given s given =
 
 -- ---- none is of subroutines
 
-subroutines-ThenIf : (condition : RawExpr) (stmt : Stmt) → is_of_subroutines (ThenIf condition stmt) ≡ is_of_subroutines stmt
+pub subroutines-ThenIf : (condition : RawExpr) (stmt : Stmt) → is_of_subroutines (ThenIf condition stmt) ≡ is_of_subroutines stmt
 unfolding Rattle.f77_tree.specs.declared.statements.Stmt.TheBlock.hidden-the_row-Stmt-0 denote.Hole.Carrier.hidden
 subroutines-ThenIf condition stmt = refl
 
-plain_alone : (w : WrittenStatement) → is_simple w ≡ true → is_of_subroutines (stand_in_alone (statement_of w)) ≡ false
+pub plain_alone : (w : WrittenStatement) → is_simple w ≡ true → is_of_subroutines (stand_in_alone (statement_of w)) ≡ false
 plain_alone (WrittenStatement.logical_if w s) e = let h : false ≡ true = e in absurd cc
 plain_alone _ e = refl
 

@@ -22,7 +22,7 @@ standing-more unit i s made inside stands is =
     ∙ sym (map-append (λ (a : Labelled). record a { stmt = stand_in a.stmt }) (take i unit) (s ∷ []))
     ∙ ap standing_in (sym (take_more unit i s inside ∙ ap (λ (x : Labelled). take i unit ++ x ∷ []) (sym stands)))
 
-standing-length : (xs : List Labelled) → length (standing_in xs) ≡ length xs
+pub standing-length : (xs : List Labelled) → length (standing_in xs) ≡ length xs
 standing-length [] = refl
 standing-length (x ∷ xs) = ap suc (standing-length xs)
 

@@ -23,15 +23,15 @@ use Rattle.f77_subs.specs.Dummies.{are_wrong_dummies, stored}
 abbrev here : List Labelled → Labelled → List (List ℕ)
 here unit s = stored (is_array unit) s.stmt
 
-abbrev stored_in : (arrays : List ℕ → Bool) → List Labelled → List (List ℕ)
+abbrev pub stored_in : (arrays : List ℕ → Bool) → List Labelled → List (List ℕ)
 stored_in arrays stmts = flat_map (λ s. appearing arrays s.stmt) stmts
 
-stored-step : (arrays : List ℕ → Bool) (s : Labelled) (rest : List (List ℕ)) (stored_rest : List Labelled) → rest ≡ stored_in arrays stored_rest → (b : Bool)
+pub stored-step : (arrays : List ℕ → Bool) (s : Labelled) (rest : List (List ℕ)) (stored_rest : List Labelled) → rest ≡ stored_in arrays stored_rest → (b : Bool)
     → (if b then appearing arrays s.stmt else []) ++ rest ≡ stored_in arrays (cond b (s ∷ stored_rest) stored_rest)
 stored-step arrays s rest stored_rest is true = ap (λ (names : List (List ℕ)). appearing arrays s.stmt ++ names) is
 stored-step arrays s rest stored_rest is false = is
 
-stored-by : (arrays : List ℕ → Bool) (stmts : List Labelled) → flat_map (λ s. stored arrays s.stmt) stmts ≡ stored_in arrays (filter (λ s. is_of_storage s.stmt) stmts)
+pub stored-by : (arrays : List ℕ → Bool) (stmts : List Labelled) → flat_map (λ s. stored arrays s.stmt) stmts ≡ stored_in arrays (filter (λ s. is_of_storage s.stmt) stmts)
 stored-by arrays [] = refl
 stored-by arrays (s ∷ stmts) =
     stored-step arrays s (flat_map (λ a. stored arrays a.stmt) stmts) (filter (λ a. is_of_storage a.stmt) stmts) (stored-by arrays stmts) (is_of_storage s.stmt)
@@ -69,16 +69,16 @@ taken-more names i x lt is = rw (add-one, take-suc names i x lt, ← is) refl
 
 -- ---- names that are told once are those that are told
 
-or-known : (a b : Bool) → (a ≡ true → b ≡ true) → b ≡ (b || a)
+pub or-known : (a b : Bool) → (a ≡ true → b ≡ true) → b ≡ (b || a)
 or-known true b known = known refl ∙ ap (λ (c : Bool). c || true) (sym (known refl))
 or-known false true known = refl
 or-known false false known = refl
 
-or-assoc : (a b c : Bool) → ((a || b) || c) ≡ (a || (b || c))
+pub or-assoc : (a b c : Bool) → ((a || b) || c) ≡ (a || (b || c))
 or-assoc true b c = refl
 or-assoc false b c = refl
 
-told-step : (x : List ℕ) (seen : List (List ℕ)) (n : List ℕ) → list_any (bytes_eq x) (with_name seen n) ≡ (list_any (bytes_eq x) seen || bytes_eq x n)
+pub told-step : (x : List ℕ) (seen : List (List ℕ)) (n : List ℕ) → list_any (bytes_eq x) (with_name seen n) ≡ (list_any (bytes_eq x) seen || bytes_eq x n)
 told-step x seen n = by_test (list_any (bytes_eq n) seen) refl
   where
     by_test : (b : Bool) → list_any (bytes_eq n) seen ≡ b → list_any (bytes_eq x) (if b then seen else seen ++ n ∷ []) ≡ (list_any (bytes_eq x) seen || bytes_eq x n)

@@ -21,10 +21,10 @@ use Rattle.f77_subs.proofs.StandInsGiven.{stand_in-given, stand_in-plain}
 abbrev pub Each : (P : Labelled → Type 0) → List Labelled → Type 0
 Each P stmts = (j : ℕ) (s : Labelled) → slice_get stmts j ≡ Some s → P s
 
-each-of : (P : Labelled → Type 0) (stmts : List Labelled) → All P stmts → Each P stmts
+pub each-of : (P : Labelled → Type 0) (stmts : List Labelled) → All P stmts → Each P stmts
 each-of P stmts all j s here = subst P (get_or_from_slice_get stmts j s s here) (all j s (slice_get_within stmts j s here))
 
-all-of : (P : Labelled → Type 0) (stmts : List Labelled) → Each P stmts → All P stmts
+pub all-of : (P : Labelled → Type 0) (stmts : List Labelled) → Each P stmts → All P stmts
 all-of P stmts each k d below = each k (get_or stmts k d) (slice_get-get_or stmts k d below)
 
 pub record AreRead (stmts : List Labelled) : Type 0 where
@@ -32,25 +32,25 @@ pub record AreRead (stmts : List Labelled) : Type 0 where
   pub labels : Each (λ s. s.label ≤ 99999) stmts
   pub few : length stmts ≤ 4000
 
-in-front : (u rest : List Labelled) (j : ℕ) (s : Labelled) → slice_get u j ≡ Some s → slice_get (u ++ rest) j ≡ Some s
+pub in-front : (u rest : List Labelled) (j : ℕ) (s : Labelled) → slice_get u j ≡ Some s → slice_get (u ++ rest) j ≡ Some s
 in-front [] rest j s here = let h : None ≡ Some s = here in absurd cc
 in-front (x ∷ u) rest zero s here = here
 in-front (x ∷ u) rest (suc j) s here = in-front u rest j s here
 
-behind-it : (u rest : List Labelled) (j : ℕ) (s : Labelled) → slice_get rest j ≡ Some s → slice_get (u ++ rest) (length u + j) ≡ Some s
+pub behind-it : (u rest : List Labelled) (j : ℕ) (s : Labelled) → slice_get rest j ≡ Some s → slice_get (u ++ rest) (length u + j) ≡ Some s
 behind-it [] rest j s here = let e : 0 + j ≡ j = omega arith in ap (slice_get rest) e ∙ here
 behind-it (x ∷ u) rest j s here =
     let e : length (x ∷ u) + j ≡ suc (length u + j) = omega arith in
     ap (slice_get (x ∷ (u ++ rest))) e ∙ behind-it u rest j s here
 
-read-front : (u rest : List Labelled) → AreRead (u ++ rest) → AreRead u
+pub read-front : (u rest : List Labelled) → AreRead (u ++ rest) → AreRead u
 read-front u rest are = record {
   given = λ j s here. are.given j s (in-front u rest j s here);
   labels = λ j s here. are.labels j s (in-front u rest j s here);
   few = omega (arith, length-append u rest, are.few);
 }
 
-read-behind : (u rest : List Labelled) → AreRead (u ++ rest) → AreRead rest
+pub read-behind : (u rest : List Labelled) → AreRead (u ++ rest) → AreRead rest
 read-behind u rest are = record {
   given = λ j s here. are.given (length u + j) s (behind-it u rest j s here);
   labels = λ j s here. are.labels (length u + j) s (behind-it u rest j s here);
@@ -64,28 +64,28 @@ LastIsEnd [] = ⊥
 LastIsEnd (s ∷ []) = s.stmt ≡ End
 LastIsEnd (s ∷ t ∷ rest) = LastIsEnd (t ∷ rest)
 
-last-at : (s t : Labelled) (rest : List Labelled) → slice_get (s ∷ t ∷ rest) (length (s ∷ t ∷ rest) - 1) ≡ slice_get (t ∷ rest) (length (t ∷ rest) - 1)
+pub last-at : (s t : Labelled) (rest : List Labelled) → slice_get (s ∷ t ∷ rest) (length (s ∷ t ∷ rest) - 1) ≡ slice_get (t ∷ rest) (length (t ∷ rest) - 1)
 last-at s t rest = let e : length (s ∷ t ∷ rest) - 1 ≡ suc (length (t ∷ rest) - 1) = omega arith in ap (slice_get (s ∷ t ∷ rest)) e
 
-to-last : (stmts : List Labelled) (last : Labelled) → slice_get stmts (length stmts - 1) ≡ Some last → last.stmt ≡ End → LastIsEnd stmts
+pub to-last : (stmts : List Labelled) (last : Labelled) → slice_get stmts (length stmts - 1) ≡ Some last → last.stmt ≡ End → LastIsEnd stmts
 to-last [] last here is = let h : None ≡ Some last = here in absurd cc
 to-last (s ∷ []) last here is = let h : Some s ≡ Some last = here in let same : last ≡ s = cc in subst (λ (t : Labelled). t.stmt ≡ End) same is
 to-last (s ∷ t ∷ rest) last here is = to-last (t ∷ rest) last (sym (last-at s t rest) ∙ here) is
 
-from-last : (u : List Labelled) → LastIsEnd u → EndsWithEnd u
+pub from-last : (u : List Labelled) → LastIsEnd u → EndsWithEnd u
 from-last [] e = absurd e
 from-last (s ∷ []) e = record { last = s; stands = refl; is = e }
 from-last (s ∷ t ∷ rest) e = let r = from-last (t ∷ rest) e in record { last = r.last; stands = last-at s t rest ∙ r.stands; is = r.is }
 
-last-more : (s : Labelled) (u : List Labelled) → LastIsEnd u → LastIsEnd (s ∷ u)
+pub last-more : (s : Labelled) (u : List Labelled) → LastIsEnd u → LastIsEnd (s ∷ u)
 last-more s [] e = absurd e
 last-more s (t ∷ rest) e = e
 
-end-is : (stmt : Stmt) → is_end stmt ≡ true → stmt ≡ End
+pub end-is : (stmt : Stmt) → is_end stmt ≡ true → stmt ≡ End
 end-is End e = refl
 end-is _ e = let h : false ≡ true = e in absurd cc
 
-or_false : (a b : Bool) → a ≡ false → b ≡ false → (a || b) ≡ false
+pub or_false : (a b : Bool) → a ≡ false → b ≡ false → (a || b) ≡ false
 or_false true b h i = h
 or_false false b h i = i
 
@@ -136,7 +136,7 @@ pub record IsUnit (u : List Labelled) : Type 0 where
   pub ended : LastIsEnd u
   pub once : IsEnded u
 
-unit-is : (k : ℕ) (stmts u : List Labelled) → AreRead stmts → (stmts ≡ []) ⊎ LastIsEnd stmts → slice_get (units stmts) k ≡ Some u → IsUnit u
+pub unit-is : (k : ℕ) (stmts u : List Labelled) → AreRead stmts → (stmts ≡ []) ⊎ LastIsEnd stmts → slice_get (units stmts) k ≡ Some u → IsUnit u
 unit-is k [] u are ended here = let h : None ≡ Some u = here in absurd cc
 unit-is k (s ∷ rest) u are (inl none) here = absurd cc
 unit-is zero (s ∷ rest) u are (inr ended) here =
@@ -150,25 +150,25 @@ unit-is (suc k) (s ∷ rest) u are (inr ended) here =
 
 -- ---- what stands in for a unit
 
-abbrev standing : Labelled → Labelled
+abbrev pub standing : Labelled → Labelled
 standing s = record s { stmt = stand_in s.stmt }
 
-record StandsFor (u : List Labelled) (j : ℕ) (t : Labelled) : Type 0 where
+pub record StandsFor (u : List Labelled) (j : ℕ) (t : Labelled) : Type 0 where
   s : Labelled
   here : slice_get u j ≡ Some s
   is : standing s ≡ t
 
-stands-for : (u : List Labelled) (j : ℕ) (t : Labelled) → slice_get (standing_in u) j ≡ Some t → StandsFor u j t
+pub stands-for : (u : List Labelled) (j : ℕ) (t : Labelled) → slice_get (standing_in u) j ≡ Some t → StandsFor u j t
 stands-for [] j t e = let h : None ≡ Some t = e in absurd cc
 stands-for (s ∷ u) zero t e = let h : Some (standing s) ≡ Some t = e in record { s = s; here = refl; is = cc }
 stands-for (s ∷ u) (suc j) t e = let r = stands-for u j t e in record { s = r.s; here = r.here; is = r.is }
 
-stands-last : (u : List Labelled) → LastIsEnd u → LastIsEnd (standing_in u)
+pub stands-last : (u : List Labelled) → LastIsEnd u → LastIsEnd (standing_in u)
 stands-last [] e = absurd e
 stands-last (s ∷ []) e = ap stand_in e
 stands-last (s ∷ t ∷ rest) e = stands-last (t ∷ rest) e
 
-source-of : (u : List Labelled) → IsUnit u → IsSource (standing_in u)
+pub source-of : (u : List Labelled) → IsUnit u → IsSource (standing_in u)
 source-of u is = record {
   trees = all-of (λ t. IsTree t.stmt) (standing_in u)
       (λ j t e.

@@ -12,25 +12,25 @@ use Rattle.f77_subs.specs.Names.{name_for, names_of_unit, option_names, same_ent
 use Rattle.f77_subs.specs.Units.{dummies_of, sub_name, unit_at, unit_or_none}
 use Rattle.f77_subs.proofs.OwnNames.{names-free}
 
-abbrev Among : List ℕ → List (List ℕ) → Type 0
+abbrev pub Among : List ℕ → List (List ℕ) → Type 0
 Among x names = list_any (bytes_eq x) names ≡ true
 
-in-front : (x : List ℕ) (xs ys : List (List ℕ)) → Among x xs → Among x (xs ++ ys)
+pub in-front : (x : List ℕ) (xs ys : List (List ℕ)) → Among x xs → Among x (xs ++ ys)
 in-front x xs ys has = list_any-append (bytes_eq x) xs ys ∙ or_left (list_any (bytes_eq x) xs) (list_any (bytes_eq x) ys) has
 
-behind : (x : List ℕ) (xs ys : List (List ℕ)) → Among x ys → Among x (xs ++ ys)
+pub behind : (x : List ℕ) (xs ys : List (List ℕ)) → Among x ys → Among x (xs ++ ys)
 behind x xs ys has = list_any-append (bytes_eq x) xs ys ∙ or_right (list_any (bytes_eq x) xs) (list_any (bytes_eq x) ys) has
 
 -- the names of a unit that are in use
-abbrev used_in : List Labelled → List (List ℕ)
+abbrev pub used_in : List Labelled → List (List ℕ)
 used_in u = names_of_unit u ++ dummies_of u ++ flat_map (λ s. option_names (sub_name s.stmt)) u ++ flat_map (λ part. option_names part.block) (all_commons u)
 
-first-used : (u : List Labelled) (x : List ℕ) → Among x (names_of_unit u) → Among x (used_in u)
+pub first-used : (u : List Labelled) (x : List ℕ) → Among x (names_of_unit u) → Among x (used_in u)
 first-used u x has =
     in-front x ((names_of_unit u ++ dummies_of u) ++ flat_map (λ s. option_names (sub_name s.stmt)) u) (flat_map (λ part. option_names part.block) (all_commons u))
     (in-front x (names_of_unit u ++ dummies_of u) (flat_map (λ s. option_names (sub_name s.stmt)) u) (in-front x (names_of_unit u) (dummies_of u) has))
 
-used-at : (us : List (List Labelled)) (k : ℕ) (u : List Labelled) (x : List ℕ) → slice_get us k ≡ Some u → Among x (names_of_unit u) → Among x (used_names us)
+pub used-at : (us : List (List Labelled)) (k : ℕ) (u : List Labelled) (x : List ℕ) → slice_get us k ≡ Some u → Among x (names_of_unit u) → Among x (used_names us)
 used-at [] k u x is has = let e : None ≡ Some u = is in absurd cc
 used-at (v ∷ us) zero u x is has =
     let e : Some v ≡ Some u = is in
@@ -38,7 +38,7 @@ used-at (v ∷ us) zero u x is has =
     ap (list_any (bytes_eq x)) (flat_map-cons used_in v us) ∙ in-front x (used_in v) (used_names us) (first-used v x (subst (λ (w : List Labelled). Among x (names_of_unit w)) same has))
 used-at (v ∷ us) (suc k) u x is has = ap (list_any (bytes_eq x)) (flat_map-cons used_in v us) ∙ behind x (used_in v) (used_names us) (used-at us k u x is has)
 
-used : (us : List (List Labelled)) (k : ℕ) (x : List ℕ) → Among x (names_of_unit (unit_at us k)) → Among x (used_names us)
+pub used : (us : List (List Labelled)) (k : ℕ) (x : List ℕ) → Among x (names_of_unit (unit_at us k)) → Among x (used_names us)
 used us k x has = by_unit (slice_get us k) refl has
   where
     by_unit : (o : Option (List Labelled)) → slice_get us k ≡ o → Among x (names_of_unit (unit_or_none o)) → Among x (used_names us)

@@ -1,5 +1,5 @@
 -- A unit by what its copy has: so many statements of its own, and the copies of the units that it calls.
-use Rattle.std.specs.Prelude.{ℕ, zero, suc, ◌+◌, min, Bool, if◌then◌else◌, nat_lt, List, [], ◌∷◌, map, flat_map, length, replicate, sum_by, get_or, Option, Some, None}
+use Rattle.std.specs.Prelude.{◌≡◌, ℕ, zero, suc, ◌+◌, min, Bool, if◌then◌else◌, nat_lt, List, [], ◌∷◌, map, flat_map, length, sum_by, get_or, Option, Some, None}
 use Rattle.std.specs.List.{range_with_len}
 use Rattle.f77_tree.specs.declared.statements.Labelled.{Labelled}
 use Rattle.f77_tree.specs.declared.statements.RawExpr.{RawExpr}
@@ -54,6 +54,16 @@ call_rows limit us = map (call_row limit us) (range_with_len 0 (length us))
 abbrev pub row_width : (limit : ℕ) → (widths : List ℕ) → CallRow → ℕ
 row_width limit widths row = min (row.own + sum_by (λ g. get_or widths g 0) row.callees) limit
 
-abbrev pub widths_after : (limit : ℕ) → List CallRow → (rounds : ℕ) → List ℕ
-widths_after limit rows zero = replicate (length rows) 0
-widths_after limit rows (suc rounds) = map (row_width limit (widths_after limit rows rounds)) rows
+-- after so many rounds, from these
+abbrev pub widths_from : (limit : ℕ) → List CallRow → (start : List ℕ) → (rounds : ℕ) → List ℕ
+widths_from limit rows start zero = start
+widths_from limit rows start (suc rounds) = map (row_width limit (widths_from limit rows start rounds)) rows
+
+-- widths after so many rounds, whatever they were before
+pub record AreAfter (limit : ℕ) (rows : List CallRow) (rounds : ℕ) (widths : List ℕ) : Type 0 where
+  pub start : List ℕ
+  pub is : widths ≡ widths_from limit rows start rounds
+
+-- after one round more than there are rows
+abbrev pub AreSettled : (limit : ℕ) → List CallRow → (widths : List ℕ) → Type 0
+AreSettled limit rows widths = AreAfter limit rows (suc (length rows)) widths

@@ -18,7 +18,6 @@ pub mod LabelTables
 pub mod Expansion
 pub mod ListedCopies
 pub mod OpenBlocks
-pub mod Landings
 pub mod CopiedLoops
 pub mod Contexts
 pub mod Refusals
@@ -27,9 +26,6 @@ pub mod Dummies
 pub mod Said
 pub mod BlockTables
 pub mod Storage
-pub mod ListedDeclarations
-pub mod ChangedTables
-pub mod SideBySide
 pub mod Calls
 pub mod NamedTables
 pub mod PutIn

@@ -1,5 +1,5 @@
 -- What refuses units, in order; each refusal has the lowest line that has its fault.
-use Rattle.std.specs.Prelude.{◌≡◌, ℕ, ◌-◌, Result, Ok, Err, Bool, true, false, not, ◌&&◌, ◌||◌, nat_lt, if◌then◌else◌, List, [], ◌∷◌, ◌++◌, flat_map, filter, take, length, Option, Some, None, bytes_eq, slice_get}
+use Rattle.std.specs.Prelude.{◌≡◌, ℕ, ◌-◌, Result, Ok, Err, Bool, true, false, not, ◌&&◌, ◌||◌, nat_lt, if◌then◌else◌, List, [], ◌∷◌, ◌++◌, flat_map, filter, length, Option, Some, None, bytes_eq, slice_get}
 use Rattle.std.specs.List.{list_any, count_by, range_with_len}
 use Rattle.std.specs.Option.{is_some}
 use Rattle.std.specs.Ordering.{int_eq}
@@ -19,7 +19,7 @@ use Rattle.f77_subs.specs.declared.sub_end.SubEnd.{SubEnd}
 use Rattle.f77_subs.specs.declared.sub_end.SubEnd.TheVariants.{UnitOrder, Layout, SubTwice, NoSub, BadCall, BadBlock, Recursion, TooManyStatements, TooManyNames}
 use Rattle.f77_subs.specs.Units.{Call, is_end, is_return, is_sub_of, inner, call_in, sub_name, sub_dummies, dummies_of, unit_at, unit_of, units, standing_in, reaches}
 use Rattle.f77_subs.specs.Entities.{block_list}
-use Rattle.f77_subs.specs.Names.{has_block, y_entities, free_numbers}
+use Rattle.f77_subs.specs.Names.{has_block, own_numbers}
 use Rattle.f77_subs.specs.Expansion.{total_width, whole_list}
 
 -- ---- the order of units
@@ -146,7 +146,7 @@ abbrev pub main_line_if : List (List Labelled) → Bool → Option ℕ
 main_line_if us fault = if fault then Some (last_line (unit_at us 0)) else None
 
 abbrev pub has_great_name : List (List Labelled) → Bool
-has_great_name us = list_any (nat_lt 99999) (take (length (y_entities us)) (free_numbers us (length (y_entities us))))
+has_great_name us = list_any (nat_lt 99999) (own_numbers us)
 
 -- ---- the table
 

@@ -1,8 +1,8 @@
 //! Whether a text needs a name of a great number.
-ghost use Rattle.std.specs.Prelude.{◌≡◌, ◌+◌, ◌<◌, ◌^◌, ℕ, List, filter, length, nat_lt, take, IfOk};
+ghost use Rattle.std.specs.Prelude.{◌≡◌, ◌+◌, ◌<◌, ◌^◌, ℕ, List, filter, length, nat_lt, IfOk};
 ghost use Rattle.std.specs.List.{list_any, range_with_len};
 ghost use Rattle.f77_layout.specs.Appearances.{each_once};
-ghost use Rattle.f77_subs.specs.NewNames.{is_free_of};
+ghost use Rattle.f77_subs.specs.NewNames.{first_free, is_free_of};
 
 use crate::put_counts::one_if;
 use crate::y_names::y_name;
@@ -19,7 +19,7 @@ pub(crate) fn has_number_above(
     most: u32,
 ) -> Result<bool, NoMemory>
     requires few { count < 2 ^ 32 }
-    ensures { IfOk result (λ above. (all : List (List ℕ)) → used.now ≡ each_once all → above ≡ list_any (nat_lt most) (take count (filter (is_free_of all) (range_with_len 1 (count + length all))))) }
+    ensures { IfOk result (λ above. (all : List (List ℕ)) → used.now ≡ each_once all → above ≡ list_any (nat_lt most) (first_free all count)) }
 {
     if !is_over(count, used.len(), most) {
         return Ok(false);

@@ -12,7 +12,7 @@ use crate::call_rows::{CallRow, add_within, is_kept, note_callee, unit_of};
 use crate::label_counts::LabelCounts;
 use crate::splitting::Units;
 use crate::sub_names::inner_of;
-use crate::widths::{next_widths, settled_widths};
+use crate::widths::settled_widths;
 use df_sequence::NoMemory;
 use f77_tree::{Labelled, Name, Stmt};
 use indexmap::IndexMap;
@@ -52,8 +52,7 @@ impl<'a> LabelCounts<'a> {
     }
 }
 
-/// How many labels the copy of each unit has, or the limit where it has more. It takes as many rounds over all CALLs as there
-/// are units, and one.
+/// How many labels the copy of each unit has, or the limit where it has more. It takes a time linear in the statements.
 pub(crate) fn label_counts(
     alloc: Global,
     us: &Units,
@@ -67,7 +66,7 @@ pub(crate) fn label_counts(
 {
     let rows = label_rows(alloc, us, index, limit)?;
     let counts = settled_widths(alloc, &rows, limit)?;
-    next_widths(alloc, &rows, &counts, limit)
+    Ok(counts)
 }
 
 // The rows of all units, in order.

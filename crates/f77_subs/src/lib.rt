@@ -10,8 +10,6 @@ mod call_rows;
 mod changed;
 mod changed_stmts;
 mod changes;
-mod copied_steps;
-mod copied_values;
 mod copy_laws;
 mod copying;
 mod declaring;
@@ -25,8 +23,6 @@ mod label_counts;
 mod label_tables;
 mod labels;
 mod laws;
-mod listed_copies;
-mod listed_declarations;
 mod new_names;
 mod put_blocks;
 mod put_counts;
@@ -59,16 +55,11 @@ mod whole_list;
 mod widths;
 mod y_names;
 
-pub use copied_steps::copies_do_the_same;
-pub use copied_values::{copies_have_the_same_values, places_decide_no_trees};
+pub use entity::Entity;
 pub use expanding::expand;
-pub use laws::{copies_are_counted, copies_settle, units_have_heights};
-pub use listed_copies::{
-    arms_end_alike, contexts_are_in_place, control_falls_alike, copies_are_sealed,
-    copies_stand_in_lists, labels_lead_to_pieces, labels_of_pieces_stand_apart, loops_end_alike,
-    units_keep_their_control,
+pub use laws::{
+    copies_are_counted, copies_settle, labels_of_pieces_stand_apart, units_have_heights,
 };
-pub use listed_declarations::{lists_declare, names_keep_their_declarations};
 pub use sub_end::SubEnd;
 pub use unit_laws::{
     names_of_texts_are_short, own_names_are_new, short_names_are_new, stand_ins_are_given,

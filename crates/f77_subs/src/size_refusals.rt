@@ -1,11 +1,12 @@
 //! Refusals that speak of the size of the expansion.
-ghost use Rattle.std.specs.Prelude.{◌≡◌, ◌+◌, ◌<◌, ℕ, List, false, length, nat_lt, slice_index_or, take, bytes_eq, IfOk};
+ghost use Rattle.std.specs.Prelude.{◌≡◌, ◌+◌, ◌<◌, ℕ, List, false, length, nat_lt, slice_index_or, bytes_eq, IfOk};
 ghost use Rattle.std.specs.List.{list_any};
 ghost use Rattle.indexmap.specs.IndexMap.{get};
 ghost use Rattle.f77_layout.specs.Faults.{first_answer};
 ghost use Rattle.f77_subs.specs.CallTable.{unit_named};
 ghost use Rattle.f77_subs.specs.Expansion.{total_width};
-ghost use Rattle.f77_subs.specs.Names.{free_numbers, y_entities};
+ghost use Rattle.f77_subs.specs.Heights.{NoneCallsItself};
+ghost use Rattle.f77_subs.specs.Names.{own_numbers};
 ghost use Rattle.f77_subs.specs.Refusals.{size_refusals};
 ghost use Rattle.f77_subs.specs.Units.{runs as runs_of};
 
@@ -36,6 +37,7 @@ pub(crate) fn size_refusal(
     requires index { (name : List ℕ) → get bytes_eq index.now name ≡ unit_named text.now.us.now name }
     requires enough { length text.now.us.now < length runs.now }
     requires told { (k : ℕ) → k < length text.now.us.now → slice_index_or runs.now k false ≡ runs_of text.now.us.now k }
+    requires none { NoneCallsItself text.now.us.now }
     ensures { IfOk result (λ end. end ≡ first_answer (λ r. r) (size_refusals text.now.us.now)) }
 {
     let wide = has_more_statements(alloc, text, index, runs, MOST_STATEMENTS)?;
@@ -60,6 +62,7 @@ fn has_more_statements(
     requires index { (name : List ℕ) → get bytes_eq index.now name ≡ unit_named text.now.us.now name }
     requires enough { length text.now.us.now < length runs.now }
     requires told { (k : ℕ) → k < length text.now.us.now → slice_index_or runs.now k false ≡ runs_of text.now.us.now k }
+    requires none { NoneCallsItself text.now.us.now }
     requires most { most + 1 < 4294967296 }
     ensures { IfOk result (λ more. more ≡ nat_lt most (total_width text.now.us.now)) }
 {
@@ -70,7 +73,7 @@ fn has_more_statements(
 
 // Whether the name of a number above this is needed.
 fn needs_number_above(alloc: Global, text: &TextEntities, most: u32) -> Result<bool, NoMemory>
-    ensures { IfOk result (λ above. above ≡ list_any (nat_lt most) (take (length (y_entities text.now.us.now)) (free_numbers text.now.us.now (length (y_entities text.now.us.now))))) }
+    ensures { IfOk result (λ above. above ≡ list_any (nat_lt most) (own_numbers text.now.us.now)) }
 {
     let count = text.own.len();
     if count > u32::MAX as usize {

@@ -3,6 +3,7 @@ ghost use Rattle.std.specs.Prelude.{◌≡◌, ◌+◌, ◌<◌, ℕ, List, leng
 ghost use Rattle.indexmap.specs.IndexMap.{get};
 ghost use Rattle.f77_subs.specs.CallTable.{unit_named};
 ghost use Rattle.f77_subs.specs.Expansion.{put_in as put_in_of, total_width};
+ghost use Rattle.f77_subs.specs.Heights.{NoneCallsItself};
 
 use crate::splitting::Units;
 use crate::widths::main_width;
@@ -21,6 +22,7 @@ pub(crate) fn has_more_than(
     most: u32,
 ) -> Result<bool, NoMemory>
     requires index { (name : List ℕ) → get bytes_eq index.now name ≡ unit_named us.now name }
+    requires none { NoneCallsItself us.now }
     requires put_in { put_in ≡ min (length (put_in_of us.now)) (most + 1) }
     requires most { most + 1 < 4294967296 }
     ensures { IfOk result (λ more. more ≡ nat_lt most (total_width us.now)) }

@@ -1,6 +1,10 @@
 //! The first refusal of the units of a text.
-ghost use Rattle.std.specs.Prelude.{◌≡◌, IfOk};
-ghost use Rattle.f77_subs.specs.Refusals.{unit_refusal};
+ghost use Rattle.std.specs.Prelude.{◌≡◌, ◌<◌, ◌^◌, length, IfOk};
+ghost use Rattle.closed_walks.specs.Graph.{edge_count};
+ghost use Rattle.f77_layout.specs.Faults.{first_answer};
+ghost use Rattle.f77_subs.specs.CallGraph.{call_graph};
+ghost use Rattle.f77_subs.specs.Heights.{NoneCallsItself};
+ghost use Rattle.f77_subs.specs.Refusals.{size_refusals, unit_refusal};
 ghost use Rattle.f77_subs.specs.Texts.{IsText};
 
 use crate::SubEnd;
@@ -30,12 +34,25 @@ pub fn first_refusal(
 {
     let us = Units::of(alloc, stmts)?;
     let form = form_refusal(alloc, stmts, &us, checked)?;
-    if form.is_some() {
-        return Ok(form);
+    match form {
+        Some(end) => Ok(Some(end)),
+        None => {
+            let text = TextEntities::of(alloc, &us)?;
+            let size = size_alone(alloc, &text)?;
+            Ok(size)
+        }
     }
-    let text = TextEntities::of(alloc, &us)?;
+}
+
+// The first refusal of units that nothing but their size refuses.
+fn size_alone(alloc: Global, text: &TextEntities) -> Result<Option<SubEnd>, NoMemory>
+    requires units { length text.now.us.now < 2 ^ 31 }
+    requires room { edge_count (call_graph text.now.us.now) < 2 ^ 31 }
+    requires none { NoneCallsItself text.now.us.now }
+    ensures { IfOk result (λ end. end ≡ first_answer (λ r. r) (size_refusals text.now.us.now)) }
+{
     let index = sub_index(alloc, text.us)?;
     let runs = running(alloc, text.us, &index)?;
-    let size = size_refusal(alloc, &text, &index, &runs)?;
+    let size = size_refusal(alloc, text, &index, &runs)?;
     Ok(size)
 }

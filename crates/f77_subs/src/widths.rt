@@ -1,9 +1,10 @@
 //! How many statements copies have, known before they are made.
-ghost use Rattle.std.specs.Prelude.{◌≡◌, ◌+◌, ℕ, suc, List, length, map, min, get_or, sum_by, bytes_eq, IfOk};
+ghost use Rattle.std.specs.Prelude.{◌≡◌, ◌+◌, ℕ, List, length, map, min, true, get_or, sum_by, bytes_eq, IfOk};
 ghost use Rattle.indexmap.specs.IndexMap.{get};
 ghost use Rattle.f77_subs.specs.Units.{unit_at};
 ghost use Rattle.f77_subs.specs.Widths.{body_width, width};
-ghost use Rattle.f77_subs.specs.CallTable.{row_width as row_width_of, unit_named, widths_after};
+ghost use Rattle.f77_subs.specs.CallTable.{AreSettled, row_width as row_width_of, unit_named};
+ghost use Rattle.f77_subs.specs.Heights.{NoneCallsItself};
 
 use crate::call_rows::{CallRow, add_within, call_rows};
 use crate::splitting::Units;
@@ -12,48 +13,106 @@ use f77_tree::Name;
 use indexmap::IndexMap;
 use std::alloc::Global;
 
-/// How many statements stand for those of the main program, or the limit where they are more. It takes as many rounds over
-/// all CALLs as there are units, and one.
+/// How many statements stand for those of the main program, or the limit where they are more. It takes a time linear in the
+/// statements.
 pub(crate) fn main_width(
     alloc: Global,
     us: &Units,
     index: &IndexMap<Name, usize>,
     limit: u32,
 ) -> Result<u32, NoMemory>
-    requires { (name : List ℕ) → get bytes_eq index.now name ≡ unit_named us.now name }
+    requires index { (name : List ℕ) → get bytes_eq index.now name ≡ unit_named us.now name }
+    requires none { NoneCallsItself us.now }
     ensures { IfOk result (λ found. found ≡ min (sum_by (width (body_width us.now (length us.now)) us.now 0) (unit_at us.now 0)) limit) }
 {
     let rows = call_rows(alloc, us, index, limit)?;
-    let width = first_width(alloc, &rows, limit)?;
-    Ok(width)
+    let widths = settled_widths(alloc, &rows, limit)?;
+    Ok(width_at(&widths, 0))
 }
 
-// The first width, after one round more than there are rows.
-fn first_width(alloc: Global, rows: &[CallRow], limit: u32) -> Result<u32, NoMemory>
-    ensures { IfOk result (λ found. found ≡ get_or (widths_after limit rows.now (suc (length rows.now))) 0 0) }
-{
-    let widths = settled_widths(alloc, rows, limit)?;
-    let last = next_widths(alloc, rows, &widths, limit)?;
-    Ok(width_at(&last, 0))
-}
-
-/// The widths after as many rounds as there are rows.
+/// The widths after one round more than there are rows. Where no row leads back to itself, a search in depth finds them, and
+/// one round tells that they are right; so it takes a time linear in the rows and what they call.
 pub(crate) fn settled_widths(
     alloc: Global,
     rows: &[CallRow],
     limit: u32,
 ) -> Result<Vec<u32>, NoMemory>
-    ensures { IfOk result (λ widths. widths.items ≡ widths_after limit rows.now (length rows.now)) }
+    ensures { IfOk result (λ widths. AreSettled limit rows.now widths.items) }
 {
-    let mut widths = vec![in alloc; 0; rows.len()]?;
+    let mut widths = first_widths(alloc, rows, limit)?;
     for _ in 0..rows.len() {
-        widths = next_widths(alloc, rows, &widths, limit)?;
+        let next = next_widths(alloc, rows, &widths, limit)?;
+        if are_same(&next, &widths) {
+            return Ok(widths);
+        }
+        widths = next;
     }
-    Ok(widths)
+    let last = next_widths(alloc, rows, &widths, limit)?;
+    Ok(last)
 }
 
-/// The widths after one round more.
-pub(crate) fn next_widths(
+// Widths to begin with: those of each row by those of the rows that it needs, as a search in depth comes to them. They may be
+// any, since rounds follow.
+fn first_widths(alloc: Global, rows: &[CallRow], limit: u32) -> Result<Vec<u32>, NoMemory> {
+    let mut search = WidthSearch {
+        seen: vec![in alloc; false; rows.len()]?,
+        widths: vec![in alloc; 0; rows.len()]?,
+    };
+    for k in 0..rows.len() {
+        search.visit(rows, limit, rows.len(), k);
+    }
+    Ok(search.widths)
+}
+
+// A search in depth for the widths of rows.
+#[derive(Drop)]
+struct WidthSearch {
+    seen: Vec<bool>,
+    widths: Vec<u32>,
+}
+
+impl WidthSearch {
+    // Finds the width of a row that wasn't seen yet, behind those of the rows that it needs, so deep.
+    fn visit(&mut self, rows: &[CallRow], limit: u32, depth: usize, k: usize) {
+        if depth == 0 || k >= rows.len() || !self.is_new(k) {
+            return;
+        }
+        let row = &rows[k];
+        for g in &row.callees {
+            self.visit(rows, limit, depth - 1, *g);
+        }
+        let width = row_width(row, &self.widths, limit);
+        self.note(k, width);
+    }
+
+    // Whether a row wasn't seen yet. Now it is.
+    fn is_new(&mut self, k: usize) -> bool {
+        match self.seen.get_mut(k) {
+            Some(seen) => {
+                let new = !*seen;
+                *seen = true;
+                new
+            }
+            None => false,
+        }
+    }
+
+    fn note(&mut self, k: usize, width: u32) {
+        if let Some(found) = self.widths.get_mut(k) {
+            *found = width;
+        }
+    }
+}
+
+// Whether these are the same widths.
+fn are_same(a: &[u32], b: &[u32]) -> bool
+    ensures { result ≡ true → a.now ≡ b.now }
+{
+    a == b
+}
+
+// The widths after one round more.
+fn next_widths(
     alloc: Global,
     rows: &[CallRow],
     widths: &[u32],

@@ -1,11 +1,15 @@
-use Rattle.std.proofs.Common.{◌≡◌, suc, List, length, get_or, ap, ◌∙◌}
-use Rattle.f77_subs.specs.CallTable.{CallRow, call_rows, widths_after}
+use Rattle.std.proofs.Common.{◌≡◌, ℕ, List, get_or, ap, subst, ◌∙◌}
+use Rattle.f77_subs.specs.CallTable.{AreSettled, CallRow, call_rows}
+use Rattle.f77_subs.specs.Heights.{height}
 use Rattle.f77_subs.proofs.CountedWidths.{counted-main}
+use Rattle.f77_subs.proofs.UnitHeights.{are-heights, heights-few}
 use Rattle.f77_subs.proofs.widths.main_width.Goals as goal
 
 pub returns : goal.returns
 returns c =
-    let rows : c.deref.result.now ≡ call_rows c.args.limit c.args.us.now = c.deref.ensures.value ∙ c.in_ok-rows.ensures in
-    c.in_ok-width.ensures
-    ∙ ap (λ (rs : List CallRow). get_or (widths_after c.args.limit rs (suc (length rs))) 0 0) rows
-    ∙ counted-main c.args.us.now c.args.limit
+    let us = c.args.us.now in
+    let limit = c.args.limit in
+    let widths = c.in_ok-widths.widths.items in
+    let rows : c.deref.result.now ≡ call_rows limit us = c.deref.ensures.value ∙ c.in_ok-rows.ensures in
+    let settled : AreSettled limit (call_rows limit us) widths = subst (λ (rs : List CallRow). AreSettled limit rs widths) rows c.in_ok-widths.ensures in
+    c.width_at.ensures ∙ ap (λ (ws : List ℕ). get_or ws 0 0) c.deref-2.ensures.value ∙ counted-main us limit (height us) (are-heights us c.requires.none) (heights-few us c.requires.none) widths settled

@@ -1,0 +1,15 @@
+pub mod PiecesInLists
+pub mod StandingCopies
+pub mod SealedCopies
+pub mod ClosedUnits
+pub mod WhichPieces
+pub mod MappedArms
+pub mod CopiedDos
+pub mod LoopLists
+pub mod CopiedLoops
+pub mod LoopsTo
+pub mod RangeEnds
+pub mod MappedLandings
+pub mod LabelPlaces
+pub mod ReachedContexts
+pub mod AcceptedUnits

@@ -1,0 +1,11 @@
+pub mod SameElements
+pub mod RawTrees
+pub mod ChangedValues
+pub mod CopiedValues
+pub mod CopiedLines
+pub mod SameTrees
+pub mod CopiedSteps
+pub mod ListedDeclarations
+pub mod ListedNames
+pub mod ListedEntities
+pub mod FrameTables

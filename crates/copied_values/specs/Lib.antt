@@ -1,0 +1,3 @@
+pub mod ListedDeclarations
+pub mod ChangedTables
+pub mod SideBySide

@@ -1,6 +1,0 @@
-use Rattle.f77_subs.proofs.FrameTables.{frame-table, program-table}
-use Rattle.f77_subs.proofs.SameTrees.{accesses-same, kinds-same, trees-same}
-use Rattle.f77_subs.proofs.copied_values.places_decide_no_trees.Goals as goal
-
-pub returns : goal.returns
-returns c = record { trees = trees-same; accesses = accesses-same; kinds = kinds-same; programs = program-table; frames = frame-table }

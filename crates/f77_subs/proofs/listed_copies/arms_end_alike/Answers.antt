@@ -1,5 +1,0 @@
-use Rattle.f77_subs.proofs.MappedArms.{arms-mapped, blocks-mapped, inserted-ends}
-use Rattle.f77_subs.proofs.listed_copies.arms_end_alike.Goals as goal
-
-pub returns : goal.returns
-returns c = record { arms = arms-mapped; blocks = blocks-mapped; inserted = inserted-ends }

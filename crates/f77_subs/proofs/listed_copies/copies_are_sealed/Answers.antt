@@ -1,6 +1,0 @@
-use Rattle.f77_subs.proofs.ClosedUnits.{accepted-closed}
-use Rattle.f77_subs.proofs.SealedCopies.{copy-closed, call-closed, passed-over}
-use Rattle.f77_subs.proofs.listed_copies.copies_are_sealed.Goals as goal
-
-pub returns : goal.returns
-returns c = record { accepted = accepted-closed; copies = copy-closed; called = call-closed; passed = passed-over }

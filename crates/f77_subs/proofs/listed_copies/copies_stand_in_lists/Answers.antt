@@ -1,5 +1,0 @@
-use Rattle.f77_subs.proofs.StandingCopies.{main-stands, called-stands}
-use Rattle.f77_subs.proofs.listed_copies.copies_stand_in_lists.Goals as goal
-
-pub returns : goal.returns
-returns c = record { main = main-stands; called = called-stands }

@@ -1,5 +1,0 @@
-use Rattle.f77_subs.proofs.LabelPlaces.{first-leads, last-leads, closed-leads}
-use Rattle.f77_subs.proofs.listed_copies.labels_lead_to_pieces.Goals as goal
-
-pub returns : goal.returns
-returns c = record { first = first-leads; last = last-leads; closed = closed-leads }

@@ -1,6 +1,0 @@
-use Rattle.f77_subs.proofs.ListedEntities.{listed-dims, listed-kinds}
-use Rattle.f77_subs.proofs.ListedNames.{main-dims, main-kinds}
-use Rattle.f77_subs.proofs.listed_declarations.names_keep_their_declarations.Goals as goal
-
-pub returns : goal.returns
-returns c = record { main_kinds = main-kinds; main_dims = main-dims; own_kinds = listed-kinds; own_dims = listed-dims }
