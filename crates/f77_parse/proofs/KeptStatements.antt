@@ -17,8 +17,7 @@ use Rattle.f77_tree.specs.declared.statements.RawItem.TheVariants.{Value}
 use Rattle.f77_tree.specs.declared.statements.Stmt.{Stmt}
 use Rattle.f77_tree.specs.declared.statements.Stmt.TheVariants.{TypeOf, Dimension, Common, Equivalence, Init, Assign, Print, Take, GoTo, PickGoTo, SignIf, ThenIf, BlockIf, ElseIf, Do}
 use Rattle.f77_tree.specs.Grammar.{Written, reading, has_great_number, number_of}
-use Rattle.f77_tree.specs.StatementGrammar.{SignedDigits, signed_value, whole_number, is_great, are_great, is_bad_label, WrittenDim, dim_of, dim_numbers, WrittenDecl, decl_of, decl_numbers, block_of, WrittenPart, part_of, WrittenMember, member_of, WrittenConstant, constant_of, constant_is_great, WrittenValue, value_of, value_is_bad, WrittenData, data_of, WrittenItem, item_of, item_is_great, step_of, step_is_great, WrittenStatement, statement_of, has_bad_constant, is_of_subroutines}
-use Rattle.f77_tree.proofs.Subroutines.{guarded_subroutines}
+use Rattle.f77_tree.specs.StatementGrammar.{SignedDigits, signed_value, whole_number, is_great, are_great, is_bad_label, WrittenDim, dim_of, dim_numbers, WrittenDecl, decl_of, decl_numbers, block_of, WrittenPart, part_of, WrittenMember, member_of, WrittenConstant, constant_of, constant_is_great, WrittenValue, value_of, value_is_bad, WrittenData, data_of, WrittenItem, item_of, item_is_great, step_of, step_is_great, WrittenStatement, statement_of, has_bad_constant}
 use Rattle.f77_expr.specs.Answers.{kept}
 use Rattle.f77_expr.proofs.Whole.{kept-reading}
 use Rattle.f77_parse.specs.KeptValues.{or_zero, kept_label, kept_signed, kept_dim, kept_decl, kept_part, kept_member, kept_constant, is_bad_repeat, kept_value, kept_data, kept_item, kept_step, kept_statement}
@@ -148,32 +147,3 @@ statement_good (WrittenStatement.subroutine name dummies) good = refl
 statement_good (WrittenStatement.call_of name arguments) good = refl
 statement_good WrittenStatement.go_back good = refl
 statement_good WrittenStatement.end good = refl
-
--- a statement of subroutines is kept as one
-pub form_kept_alike : (s : WrittenStatement) → is_of_subroutines (kept_statement s) ≡ is_of_subroutines (statement_of s)
-form_kept_alike (WrittenStatement.program n) = refl
-form_kept_alike WrittenStatement.implicit_none = refl
-form_kept_alike (WrittenStatement.implicit letters) = refl
-form_kept_alike (WrittenStatement.typed kind decls) = refl
-form_kept_alike (WrittenStatement.dimension decls) = refl
-form_kept_alike (WrittenStatement.common parts) = refl
-form_kept_alike (WrittenStatement.equivalence groups) = refl
-form_kept_alike (WrittenStatement.init parts) = refl
-form_kept_alike (WrittenStatement.assignment target value) = refl
-form_kept_alike (WrittenStatement.print form items) = refl
-form_kept_alike (WrittenStatement.read form targets) = refl
-form_kept_alike WrittenStatement.continue = refl
-form_kept_alike (WrittenStatement.stop shown) = refl
-form_kept_alike (WrittenStatement.go_to label) = refl
-form_kept_alike (WrittenStatement.computed_go_to labels comma w) = refl
-form_kept_alike (WrittenStatement.arithmetic_if w negative zero positive) = refl
-form_kept_alike (WrittenStatement.logical_if w s) = guarded_subroutines (kept w) (kept_statement s) ∙ form_kept_alike s ∙ sym (guarded_subroutines (reading w) (statement_of s))
-form_kept_alike (WrittenStatement.block_if w) = refl
-form_kept_alike (WrittenStatement.else_if w) = refl
-form_kept_alike WrittenStatement.else = refl
-form_kept_alike WrittenStatement.end_if = refl
-form_kept_alike (WrittenStatement.do_loop label comma variable first last step) = refl
-form_kept_alike (WrittenStatement.subroutine name dummies) = refl
-form_kept_alike (WrittenStatement.call_of name arguments) = refl
-form_kept_alike WrittenStatement.go_back = refl
-form_kept_alike WrittenStatement.end = refl

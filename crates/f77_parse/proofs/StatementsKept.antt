@@ -5,7 +5,7 @@ use Rattle.std.specs.List.{list_all}
 use Rattle.std.proofs.lemmas.Bool.{lt-ltb, le-ltb, ltb-true, ltb-false}
 use Rattle.f77_tree.specs.declared.statements.Stmt.{Stmt}
 use Rattle.f77_tree.specs.declared.statements.Labelled.{Labelled}
-use Rattle.f77_tree.specs.StatementGrammar.{WrittenStatement, IsWrittenStatement, IsReadAs, IsGiven, is_printable, statement_of, has_bad_constant, is_of_subroutines}
+use Rattle.f77_tree.specs.StatementGrammar.{WrittenStatement, IsWrittenStatement, IsReadAs, IsGiven, is_printable, statement_of, has_bad_constant}
 use Rattle.fixed_form.specs.declared.raw_stmt.RawStmt.{RawStmt}
 use Rattle.f77_expr.specs.Piece.{bracket_depth, deepest_allowed}
 use Rattle.f77_expr.proofs.EachRead.{if_true, if_false}
@@ -15,11 +15,11 @@ use Rattle.f77_parse.specs.Forms.{stands_free, statement_at}
 use Rattle.f77_parse.specs.Keeping.{Keeps}
 use Rattle.f77_parse.specs.KeptForms.{kept_whole, form_kept}
 use Rattle.f77_parse.specs.KeptValues.{kept_statement}
-use Rattle.f77_parse.specs.Parsing.{HasForm, HasBadConstant, IsParsed, answer_for, reading_of}
+use Rattle.f77_parse.specs.Parsing.{HasBadConstant, IsParsed, answer_for, reading_of}
 use Rattle.f77_parse.proofs.FollowFormsWhole.{told_whole, statement_told}
 use Rattle.f77_parse.proofs.FormsReadsWhole.{statement_reads}
 use Rattle.f77_parse.proofs.FormsSoundWhole.{statement_sound}
-use Rattle.f77_parse.proofs.KeptStatements.{statement_good, form_kept_alike}
+use Rattle.f77_parse.proofs.KeptStatements.{statement_good}
 
 -- ---- what is kept of a text
 
@@ -55,33 +55,17 @@ none_kept text e = here (statement_at text) (sym (statement_told text) ∙ e)
 
 -- ---- the answers
 
-pub no_form : (text : List ℕ) → statement_at text ≡ None → (s : WrittenStatement) → HasForm text s → ⊥
-no_form text none s form = let some = statement_reads text s form.spells in absurd cc
+pub no_form : (text : List ℕ) → statement_at text ≡ None → (s : WrittenStatement) → IsWrittenStatement text s → ⊥
+no_form text none s spells = let some = statement_reads text s spells in absurd cc
 
-pub not_told : (text : List ℕ) → kept_whole (marked_form text) ≡ None → (s : WrittenStatement) → HasForm text s → ⊥
+pub not_told : (text : List ℕ) → kept_whole (marked_form text) ≡ None → (s : WrittenStatement) → IsWrittenStatement text s → ⊥
 not_told text e = no_form text (none_kept text e)
 
--- a statement that is left out
-pub left_out : (text : List ℕ) (s : WrittenStatement) → statement_at text ≡ Some s → is_of_subroutines (statement_of s) ≡ true → (other : WrittenStatement) → HasForm text other → ⊥
-left_out text s is_read out other form =
-    let some = statement_reads text other form.spells in
-    let same : ◌≡◌ {A = Option WrittenStatement} (Some s) (Some other) = sym is_read ∙ some in
-    let one : s ≡ other = cc in
-    let in_ = form.left_in in
-    let both : true ≡ false = sym out ∙ ap (λ (t : WrittenStatement). is_of_subroutines (statement_of t)) one ∙ in_ in
-    absurd cc
-
 module _ (text : List ℕ) (stmt : Stmt) (bad : Bool) (rest : List ℕ) (e : kept_whole (marked_form text) ≡ Some (stmt, bad, rest)) where
-  abbrev of_subroutines : (k : IsKeptOf text stmt bad) → is_of_subroutines stmt ≡ is_of_subroutines (statement_of k.written)
-  of_subroutines k = ap is_of_subroutines k.is ∙ form_kept_alike k.written
-
-  pub read_left_out : is_of_subroutines stmt ≡ true → (s : WrittenStatement) → HasForm text s → ⊥
-  read_left_out out = let k = kept_of text stmt bad rest e in left_out text k.written k.is_read (sym (of_subroutines k) ∙ out)
-
-  pub read_bad : is_of_subroutines stmt ≡ false → bad ≡ true → HasBadConstant text
-  read_bad in_ is_bad =
+  pub read_bad : bad ≡ true → HasBadConstant text
+  read_bad is_bad =
       let k = kept_of text stmt bad rest e in
-      record { written = k.written; form = record { spells = statement_sound text k.written k.is_read; left_in = sym (of_subroutines k) ∙ in_ }; constant = sym k.is_bad ∙ is_bad }
+      record { written = k.written; spells = statement_sound text k.written k.is_read; constant = sym k.is_bad ∙ is_bad }
 
   pub read_good : bad ≡ false → IsReadAs text stmt
   read_good good =
@@ -101,12 +85,11 @@ as_marked equals comma bad rest text equals_is comma_is bad_is rest_is =
 
 answer_due : (raw : RawStmt) → bracket_depth raw.text ≤ deepest_allowed → (x : Option WrittenStatement) → statement_at raw.text ≡ x → IsParsed raw (answer_for raw x)
 answer_due raw few None is = (few, no_form raw.text is, refl)
-answer_due raw few (Some s) is = here (is_of_subroutines (statement_of s)) refl (has_bad_constant s) refl
+answer_due raw few (Some s) is = here (has_bad_constant s) refl
   where
-    here : (out : Bool) → is_of_subroutines (statement_of s) ≡ out → (bad : Bool) → has_bad_constant s ≡ bad → IsParsed raw (if out then Err (NoForm raw.line) else (if bad then Err (BadConstant raw.line) else Ok (record { label = raw.label; line = raw.line; stmt = statement_of s })))
-    here true out bad is_bad = (few, left_out raw.text s is out, refl)
-    here false in_ true is_bad = (few, record { written = s; form = record { spells = statement_sound raw.text s is; left_in = in_ }; constant = is_bad }, refl)
-    here false in_ false good = (few, record { written = s; spells = statement_sound raw.text s is; is = refl; constants = good }, in_, refl, refl)
+    here : (bad : Bool) → has_bad_constant s ≡ bad → IsParsed raw (if bad then Err (BadConstant raw.line) else Ok (record { label = raw.label; line = raw.line; stmt = statement_of s }))
+    here true is_bad = (few, record { written = s; spells = statement_sound raw.text s is; constant = is_bad }, refl)
+    here false good = (few, record { written = s; spells = statement_sound raw.text s is; is = refl; constants = good }, refl, refl)
 
 pub reading_due : (raw : RawStmt) → IsParsed raw (reading_of raw)
 reading_due raw = here (nat_lt deepest_allowed (bracket_depth raw.text)) refl
@@ -123,28 +106,18 @@ few_read raw few = if_false (nat_lt deepest_allowed (bracket_depth raw.text)) (E
 spelled : (raw : RawStmt) → bracket_depth raw.text ≤ deepest_allowed → (s : WrittenStatement) → IsWrittenStatement raw.text s → reading_of raw ≡ answer_for raw (Some s)
 spelled raw few s is = few_read raw few ∙ ap (answer_for raw) (statement_reads raw.text s is)
 
--- and is left in
-formed : (raw : RawStmt) → bracket_depth raw.text ≤ deepest_allowed → (s : WrittenStatement) → HasForm raw.text s → reading_of raw ≡ (if has_bad_constant s then Err (BadConstant raw.line) else Ok (record { label = raw.label; line = raw.line; stmt = statement_of s }))
-formed raw few s form =
-    spelled raw few s form.spells
-    ∙ if_false (is_of_subroutines (statement_of s)) (Err (NoForm raw.line)) (if has_bad_constant s then Err (BadConstant raw.line) else Ok (record { label = raw.label; line = raw.line; stmt = statement_of s })) form.left_in
-
-none_due : (raw : RawStmt) → ((s : WrittenStatement) → HasForm raw.text s → ⊥) → (x : Option WrittenStatement) → statement_at raw.text ≡ x → answer_for raw x ≡ Err (NoForm raw.line)
+none_due : (raw : RawStmt) → ((s : WrittenStatement) → IsWrittenStatement raw.text s → ⊥) → (x : Option WrittenStatement) → statement_at raw.text ≡ x → answer_for raw x ≡ Err (NoForm raw.line)
 none_due raw none None is = refl
-none_due raw none (Some s) is = here (is_of_subroutines (statement_of s)) refl
-  where
-    here : (out : Bool) → is_of_subroutines (statement_of s) ≡ out → if◌then◌else◌ {A = Result Labelled StmtEnd} out (Err (NoForm raw.line)) (if has_bad_constant s then Err (BadConstant raw.line) else Ok (record { label = raw.label; line = raw.line; stmt = statement_of s })) ≡ Err (NoForm raw.line)
-    here true out = refl
-    here false in_ = absurd (none s (record { spells = statement_sound raw.text s is; left_in = in_ }))
+none_due raw none (Some s) is = absurd (none s (statement_sound raw.text s is))
 
 pub answer_read : (raw : RawStmt) (labelled : Labelled) → IsParsed raw (Ok labelled) → reading_of raw ≡ Ok labelled
 answer_read raw labelled h =
     let s = h.1.written in
     let made : Labelled = record { label = raw.label; line = raw.line; stmt = statement_of s } in
-    formed raw h.0 s (record { spells = h.1.spells; left_in = ap is_of_subroutines h.1.is ∙ h.2 })
+    spelled raw h.0 s h.1.spells
     ∙ if_false (has_bad_constant s) (Err (BadConstant raw.line)) (Ok made) h.1.constants
-    ∙ ap (λ (label : ℕ). Ok (record made { label = label })) (sym h.3)
-    ∙ ap (λ (line : ℕ). Ok (record { label = labelled.label; line = line; stmt = statement_of s })) (sym h.4)
+    ∙ ap (λ (label : ℕ). Ok (record made { label = label })) (sym h.2)
+    ∙ ap (λ (line : ℕ). Ok (record { label = labelled.label; line = line; stmt = statement_of s })) (sym h.3)
     ∙ ap (λ (stmt : Stmt). Ok (record { label = labelled.label; line = labelled.line; stmt = stmt })) h.1.is
 
 pub answer_refused : (raw : RawStmt) (end : StmtEnd) → IsParsed raw (Err end) → end ≢ NoMemory → reading_of raw ≡ Err end
@@ -155,7 +128,7 @@ answer_refused raw (NoForm line) h some =
     few_read raw h.0 ∙ none_due raw h.1 (statement_at raw.text) refl ∙ ap (λ (n : ℕ). Err (NoForm n)) (sym h.2)
 answer_refused raw (BadConstant line) h some =
     let s = h.1.written in
-    formed raw h.0 s h.1.form
+    spelled raw h.0 s h.1.spells
     ∙ if_true (has_bad_constant s) (Err (BadConstant raw.line)) (Ok (record { label = raw.label; line = raw.line; stmt = statement_of s })) h.1.constant
     ∙ ap (λ (n : ℕ). Err (BadConstant n)) (sym h.2)
 answer_refused raw NoMemory h some = absurd (some refl)

@@ -1,29 +1,24 @@
 -- What reading a statement answers.
-use Rattle.std.specs.Prelude.{◌≡◌, ◌<◌, ◌≤◌, true, false, if◌then◌else◌, nat_lt, ℕ, List, Option, Some, None, Result, Ok, Err}
+use Rattle.std.specs.Prelude.{◌≡◌, ◌<◌, ◌≤◌, true, if◌then◌else◌, nat_lt, ℕ, List, Option, Some, None, Result, Ok, Err}
 use Rattle.f77_tree.specs.declared.statements.Labelled.{Labelled}
-use Rattle.f77_tree.specs.StatementGrammar.{WrittenStatement, IsWrittenStatement, IsReadAs, statement_of, has_bad_constant, is_of_subroutines}
+use Rattle.f77_tree.specs.StatementGrammar.{WrittenStatement, IsWrittenStatement, IsReadAs, statement_of, has_bad_constant}
 use Rattle.fixed_form.specs.declared.raw_stmt.RawStmt.{RawStmt}
 use Rattle.f77_expr.specs.Piece.{bracket_depth, deepest_allowed}
 use Rattle.f77_parse.specs.Forms.{statement_at}
 use Rattle.f77_parse.specs.declared.stmt_end.StmtEnd.{StmtEnd}
 use Rattle.f77_parse.specs.declared.stmt_end.StmtEnd.TheVariants.{NoForm, BadConstant, TooDeep, NoMemory}
 
--- a statement that a text spells; those of subroutines have no form, as long as subroutines are left out of the language
-pub record HasForm (text : List ℕ) (s : WrittenStatement) : Type 0 where
-  pub spells : IsWrittenStatement text s
-  pub left_in : is_of_subroutines (statement_of s) ≡ false
-
 -- a text that is a statement, of which some constant is out of range
 pub record HasBadConstant (text : List ℕ) : Type 0 where
   pub written : WrittenStatement
-  pub form : HasForm text written
+  pub spells : IsWrittenStatement text written
   pub constant : has_bad_constant written ≡ true
 
 -- what is answered for a statement of the source, each answer exactly where it is due
 abbrev pub IsParsed : RawStmt → Result Labelled StmtEnd → Type 0
-IsParsed raw (Ok labelled) = (bracket_depth raw.text ≤ deepest_allowed) × IsReadAs raw.text labelled.stmt × (is_of_subroutines labelled.stmt ≡ false) × (labelled.label ≡ raw.label) × (labelled.line ≡ raw.line)
+IsParsed raw (Ok labelled) = (bracket_depth raw.text ≤ deepest_allowed) × IsReadAs raw.text labelled.stmt × (labelled.label ≡ raw.label) × (labelled.line ≡ raw.line)
 IsParsed raw (Err (TooDeep line)) = (deepest_allowed < bracket_depth raw.text) × (line ≡ raw.line)
-IsParsed raw (Err (NoForm line)) = (bracket_depth raw.text ≤ deepest_allowed) × ((s : WrittenStatement) → HasForm raw.text s → ⊥) × (line ≡ raw.line)
+IsParsed raw (Err (NoForm line)) = (bracket_depth raw.text ≤ deepest_allowed) × ((s : WrittenStatement) → IsWrittenStatement raw.text s → ⊥) × (line ≡ raw.line)
 IsParsed raw (Err (BadConstant line)) = (bracket_depth raw.text ≤ deepest_allowed) × HasBadConstant raw.text × (line ≡ raw.line)
 IsParsed raw (Err NoMemory) = Unit {0}
 
@@ -33,9 +28,8 @@ IsParsed raw (Err NoMemory) = Unit {0}
 abbrev pub answer_for : RawStmt → Option WrittenStatement → Result Labelled StmtEnd
 answer_for raw None = Err (NoForm raw.line)
 answer_for raw (Some s) =
-    if is_of_subroutines (statement_of s) then Err (NoForm raw.line)
-    else (if has_bad_constant s then Err (BadConstant raw.line)
-    else Ok (record { label = raw.label; line = raw.line; stmt = statement_of s }))
+    if has_bad_constant s then Err (BadConstant raw.line)
+    else Ok (record { label = raw.label; line = raw.line; stmt = statement_of s })
 
 -- a statement of the source, read, or why it isn't; allocation failure has no place in it
 abbrev pub reading_of : RawStmt → Result Labelled StmtEnd

@@ -1,18 +1,18 @@
 ghost use Rattle.std.specs.Prelude.{◌≡◌, ◌≢◌, IfOk, IfErr, IsTrue, Ok, Err};
 ghost use Rattle.std.specs.List.{list_all};
-ghost use Rattle.f77_tree.specs.StatementGrammar.{IsGiven, is_printable, is_of_subroutines as spec_is_of_subroutines};
+ghost use Rattle.f77_tree.specs.StatementGrammar.{IsGiven, is_printable};
 ghost use Rattle.f77_parse.specs.Parsing.{IsParsed, reading_of};
 
 use crate::StmtEnd;
 use crate::reader::Reader;
 use crate::scan::marks_of;
 use f77_expr::{DEEPEST_ALLOWED, ReadEnd};
-use f77_tree::{Labelled, Stmt};
+use f77_tree::Labelled;
 use fixed_form::RawStmt;
 use std::alloc::Global;
 
-/// The statement that a text is, with its label and its line (ANSI X3.9-1978, sections 4 to 12). No word is reserved:
-/// `DO10I=1` is an assignment. SUBROUTINE, CALL and RETURN are no statements yet.
+/// The statement that a text is, with its label and its line (ANSI X3.9-1978, sections 4 to 12 and 15). No word is
+/// reserved: `DO10I=1` is an assignment.
 ///
 /// # Errors
 ///
@@ -41,9 +41,6 @@ fn parsed(alloc: Global, raw: &RawStmt) -> Result<Labelled, StmtEnd>
         Err(ReadEnd::NoForm) => Err(StmtEnd::NoForm(raw.line)),
         Err(ReadEnd::NoMemory) => Err(StmtEnd::NoMemory),
         Ok(stmt) => {
-            if is_of_subroutines(&stmt) {
-                return Err(StmtEnd::NoForm(raw.line));
-            }
             if reader.is_bad() {
                 return Err(StmtEnd::BadConstant(raw.line));
             }
@@ -53,16 +50,5 @@ fn parsed(alloc: Global, raw: &RawStmt) -> Result<Labelled, StmtEnd>
                 stmt,
             })
         }
-    }
-}
-
-/// Whether a statement is one of subroutines, alone or after a condition.
-fn is_of_subroutines(stmt: &Stmt) -> bool
-    ensures { result ≡ spec_is_of_subroutines stmt.now }
-{
-    match stmt {
-        Stmt::Sub(_, _) | Stmt::CallTo(_, _) | Stmt::Back => true,
-        Stmt::ThenIf(_, inner) => is_of_subroutines(inner.get()),
-        _ => false,
     }
 }
