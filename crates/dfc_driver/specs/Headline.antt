@@ -120,7 +120,7 @@ pub record MeansRegions (f : FlowGraph) (due : Due) : Type 0 where
 
 -- The text is that of a program of flat statements, which prints what the program prints, whatever the data. Where no array of the program
 -- bears a name with which an intrinsic function is printed, the text is read as that program again, on other lines and with COMMON once a
--- block.
+-- block, and is one unit without subroutines.
 pub record MeansText (checked : Bool) (p : Program) (text : List ℕ) : Type 0 where
   pub form : Program
   pub flat : List FlatLine

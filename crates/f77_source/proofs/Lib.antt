@@ -1,3 +1,4 @@
 pub mod Lines
+pub mod OneUnit
 pub mod Refusals
 pub mod Statements

@@ -1,13 +1,14 @@
 -- Statements that are read text by text.
-use Rattle.std.proofs.Common.{◌≡◌, ℕ, ◌+◌, ◌<◌, ◌≤◌, List, [], ◌∷◌, ◌++◌, length, get_or, take, drop, Result, Ok, Err, refl, sym, ap, ◌∙◌, ⊎_elim, add-one, All, subst, zero, suc, ◌-◌, true, false, arith}
+use Rattle.std.proofs.Common.{◌≡◌, ℕ, ◌+◌, ◌<◌, ◌≤◌, List, [], ◌∷◌, ◌++◌, length, get_or, take, drop, slice_get, Some, Result, Ok, Err, refl, sym, ap, ◌∙◌, ⊎_elim, add-one, All, subst, zero, suc, ◌-◌, true, arith}
 use Rattle.std.specs.Prelude.{codes, bytes_eq}
-use Rattle.std.proofs.lemmas.Option.{slice_get-get_or}
+use Rattle.std.proofs.lemmas.Option.{get_or_from_slice_get, slice_get-get_or, slice_get_within}
 use Rattle.f77_source.specs.Accepted.{IsAccepted}
+use Rattle.f77_source.proofs.Lines.{lines_rise}
 use Rattle.fixed_form.specs.Limits.{AreWithinForm, IsWithinForm}
 use Rattle.fixed_form.specs.Statement.{ends_with_end}
 use Rattle.f77_tree.specs.declared.statements.Stmt.TheVariants.{End}
-use Rattle.f77_layout.specs.Source.{IsSource, EndsWithEnd}
-use Rattle.f77_layout.proofs.GivenTrees.{given-IsTree}
+use Rattle.f77_layout.specs.Source.{EndsWithEnd}
+use Rattle.f77_subs.specs.Texts.{IsText}
 use Rattle.std.proofs.lemmas.Slice.Eq.{bytes_eq-Decides}
 use Rattle.std.proofs.Math.ListN.{get_or-append}
 use Rattle.std.proofs.Math.Nat.{eq-or-lt_of_le}
@@ -16,7 +17,7 @@ use Rattle.std.proofs.lemmas.List.{get_or_default, length-append, take-append-dr
 use Rattle.std.proofs.lemmas.List.Elements.{All-push}
 use Rattle.fixed_form.specs.declared.raw_stmt.RawStmt.{RawStmt}
 use Rattle.f77_tree.specs.declared.statements.Labelled.{Labelled}
-use Rattle.f77_tree.specs.StatementGrammar.{WrittenStatement, IsWrittenStatement, IsGiven, statement_of, is_of_subroutines}
+use Rattle.f77_tree.specs.StatementGrammar.{WrittenStatement, IsWrittenStatement, IsGiven, statement_of}
 use Rattle.f77_parse.specs.declared.stmt_end.StmtEnd.{StmtEnd}
 use Rattle.f77_parse.specs.Parsing.{IsParsed, reading_of}
 use Rattle.f77_source.specs.declared.source_end.Refusal.{Refusal}
@@ -143,20 +144,27 @@ ends one raws stmts r s ended before =
 fit : (P : Labelled → Type 0) (Q : RawStmt → Type 0) (raws : List RawStmt) (stmts : List Labelled) → AreRead raws (length raws) stmts → All Q raws → ((raw : RawStmt) (s : Labelled) → Q raw → IsParsed raw (Ok s) → P s) → RawStmt → All P stmts
 fit P Q raws stmts before each step r k s lt = step (get_or raws k r) (get_or stmts k s) (each k r (omega (arith, lt, before.count))) (before.each k r s (omega (arith, lt, before.count)))
 
-pub are_source : OneStatement → (raws : List RawStmt) (stmts : List Labelled) → AreWithinForm raws → IsAccepted raws → AreRead raws (length raws) stmts → IsSource stmts
-are_source one raws stmts within accepted before = record {
-  trees = λ k s lt. given-IsTree (get_or stmts k s).stmt (before.given k s lt) (plain k s lt);
-  no_subroutines = plain;
-  labels = fit (λ s. s.label ≤ 99999) IsWithinForm raws stmts before within.each (λ raw s q parsed. subst (λ label. label ≤ 99999) (sym parsed.3) q.label) raw_statement;
+line_of : (raws : List RawStmt) (stmts : List Labelled) (k : ℕ) (s : Labelled) (r : RawStmt) → AreRead raws (length raws) stmts → slice_get stmts k ≡ Some s → s.line ≡ (get_or raws k r).line
+line_of raws stmts k s r before at =
+    let lt = slice_get_within stmts k s at in
+    let is = get_or_from_slice_get stmts k s s at in
+    subst (λ x. x.line ≡ (get_or raws k r).line) is (before.each k r s (omega (arith, lt, before.count))).3
+
+pub are_text : OneStatement → (raws : List RawStmt) (stmts : List Labelled) → AreWithinForm raws → IsAccepted raws → AreRead raws (length raws) stmts → IsText stmts
+are_text one raws stmts within accepted before = record {
+  given = before.given;
+  labels = fit (λ s. s.label ≤ 99999) IsWithinForm raws stmts before within.each (λ raw s q parsed. subst (λ label. label ≤ 99999) (sym parsed.2) q.label) raw_statement;
+  rising = λ j k a b first second lt.
+      let at_j = slice_get_within stmts j a first in
+      let at_k = slice_get_within stmts k b second in
+      let rise = lines_rise 1 raws accepted.rise j k (get_or raws j raw_statement) (get_or raws k raw_statement) (slice_get-get_or raws j raw_statement (omega (arith, at_j, before.count))) (slice_get-get_or raws k raw_statement (omega (arith, at_k, before.count))) lt in
+      omega (arith, rise, line_of raws stmts j a raw_statement before first, line_of raws stmts k b raw_statement before second);
   few = rw before.count within.few;
   ended = ends one raws stmts raw_statement statement accepted.ended before;
 }
   where
     raw_statement : RawStmt
     raw_statement = record { label = 0; line = 0; text = [] }
-
-    plain : All (λ s. is_of_subroutines s.stmt ≡ false) stmts
-    plain = fit (λ s. is_of_subroutines s.stmt ≡ false) IsWithinForm raws stmts before within.each (λ raw s q parsed. parsed.2) raw_statement
 
     statement : Labelled
     statement = record { label = 0; line = 0; stmt = End }

@@ -14,6 +14,9 @@ use Rattle.f77_layout.specs.declared.layout_end.LayoutEnd.TheVariants as layout
 use Rattle.f77_layout.specs.Layout as laid
 use Rattle.alias_classes.specs.Number.{number_of_classes}
 use Rattle.alias_classes.specs.declared.TheConstants.{CLASS_WORDS}
+use Rattle.f77_subs.specs.declared.sub_end.SubEnd.{SubEnd}
+use Rattle.f77_subs.specs.declared.sub_end.SubEnd.TheVariants as sub
+use Rattle.f77_source.specs.Listed.{listed}
 use Rattle.f77_source.specs.declared.source_end.Code.{Code}
 use Rattle.f77_source.specs.declared.source_end.Code.TheVariants as code
 use Rattle.f77_source.specs.declared.source_end.Refusal.{Refusal}
@@ -66,6 +69,19 @@ layout_refusal (layout.TooManyWords line) = told code.TooManyWords line
 layout_refusal (layout.TooManyOps line) = told code.TooManyOps line
 layout_refusal layout.NoMemory = told code.OutOfOrder 0
 
+-- the refusal of units; the definition of an expansion never comes to the last row
+abbrev pub sub_refusal : SubEnd → Refusal
+sub_refusal (sub.UnitOrder line) = told code.OutOfOrder line
+sub_refusal (sub.Layout end) = layout_refusal end
+sub_refusal (sub.SubTwice line) = told code.SubTwice line
+sub_refusal (sub.NoSub line) = told code.NoSub line
+sub_refusal (sub.BadCall line) = told code.BadCall line
+sub_refusal (sub.BadBlock line) = told code.BadBlock line
+sub_refusal (sub.Recursion line) = told code.Recursion line
+sub_refusal (sub.TooManyStatements line) = told code.TooManyStatements line
+sub_refusal (sub.TooManyNames line) = told code.TooManyNames line
+sub_refusal sub.NoMemory = told code.NoEnd 0
+
 -- a program may have so many alias classes
 abbrev pub most_classes : ℕ
 most_classes = 64 * CLASS_WORDS - 1
@@ -78,8 +94,13 @@ abbrev pub program_laid : (end_line : ℕ) → Result Program LayoutEnd → Resu
 program_laid end_line (Ok p) = unless_many_classes end_line p
 program_laid end_line (Err end) = Err (layout_refusal end)
 
+-- the program that listed statements make, or the refusal of units
+abbrev pub program_from : (checked : Bool) → Result (List Labelled) SubEnd → Result Program Refusal
+program_from checked (Ok list) = program_laid (laid.last_line list) (laid.layout list checked)
+program_from checked (Err end) = Err (sub_refusal end)
+
 abbrev pub program_of : (checked : Bool) → Result (List Labelled) Refusal → Result Program Refusal
-program_of checked (Ok stmts) = program_laid (laid.last_line stmts) (laid.layout stmts checked)
+program_of checked (Ok stmts) = program_from checked (listed stmts checked)
 program_of checked (Err refusal) = Err refusal
 
 abbrev pub program_in : (checked : Bool) → Result (List RawStmt) FormEnd → Result Program Refusal
@@ -90,11 +111,13 @@ program_in checked (Err end) = Err (form_refusal end)
 abbrev pub reading : (bytes : List ℕ) → (checked : Bool) → Result Program Refusal
 reading bytes checked = program_in checked (lines.reading bytes)
 
--- The text is read as this program, whatever each of its statements asks and however many classes it has.
+-- The text is read as this program, whatever each statement that is laid out asks, and however many classes the program has.
 pub record Reads (bytes : List ℕ) (checked : Bool) (p : Program) : Type 0 where
   pub raws : List RawStmt
   pub stmts : List Labelled
   pub lines : lines.reading bytes ≡ Ok raws
   pub statements : statements_of raws ≡ Ok stmts
-  pub form : laid.HasForm stmts
-  pub is : laid.program stmts checked ≡ p
+  pub list : List Labelled
+  pub units : listed stmts checked ≡ Ok list
+  pub form : laid.HasForm list
+  pub is : laid.program list checked ≡ p

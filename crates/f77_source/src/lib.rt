@@ -1,6 +1,7 @@
 //! Source texts in fixed form: the program that a text is, or its first refusal (ANSI X3.9-1978).
 #![tactic(auto)]
 
+mod listed;
 mod program;
 mod source_end;
 

@@ -5,20 +5,24 @@ ghost use Rattle.f77_tree.specs.WellFormed.{IsWellFormed};
 ghost use Rattle.alias_classes.specs.Number.{HasFewClasses, number_of_classes};
 ghost use Rattle.f77_layout.specs.Layout.{layout, last_line};
 ghost use Rattle.f77_layout.specs.Source.{IsSource};
+ghost use Rattle.f77_subs.specs.Texts.{IsText};
 ghost use Rattle.f77_source.specs.Accepted.{IsAccepted};
-ghost use Rattle.f77_source.specs.Answers.{IsReadAs, told_form, told_stmt, told_layout};
-ghost use Rattle.f77_source.specs.Reading.{reading, statements_of, most_classes, program_of as program_of_statements};
+ghost use Rattle.f77_source.specs.Answers.{IsReadAs, told_form, told_stmt, told_sub, told_layout};
+ghost use Rattle.f77_source.specs.Reading.{reading, statements_of, most_classes, program_of as program_of_statements, program_from as program_from_list};
 
+use crate::listed::listed;
 use crate::{Code, Refusal, SourceEnd};
 use alias_classes::{CLASS_WORDS, ClassEnd, classes_are_counted, classes_of};
 use df_sequence::{NoMemory, Sequence};
 use f77_layout::{LayoutEnd, assemble};
 use f77_parse::{StmtEnd, one_statement, parse_stmt};
+use f77_subs::SubEnd;
 use f77_tree::{LabelledList, Program};
 use fixed_form::{FormEnd, RawStmtList, statements};
 use std::alloc::Global;
 
-/// The program that a source text is. In the checked dialect arithmetic traps where a result is no word.
+/// The program that a source text is: of one unit, or of several by their expansion. In the checked dialect arithmetic traps
+/// where a result is no word.
 ///
 /// There are fewer than 2^32 - 1 bytes.
 ///
@@ -38,7 +42,7 @@ pub fn read_program(alloc: Global, bytes: &[u8], checked: bool) -> Result<Progra
     }
 }
 
-// The program that statements make, or their first refusal.
+// The program that the statements of a text make, or their first refusal.
 fn program_of(alloc: Global, raws: &RawStmtList, checked: bool) -> Result<Program, SourceEnd>
     requires within { AreWithinForm raws.now }
     requires accepted { IsAccepted raws.now }
@@ -48,11 +52,25 @@ fn program_of(alloc: Global, raws: &RawStmtList, checked: bool) -> Result<Progra
     ensures few { IfOk result (λ program. HasFewClasses program) }
 {
     let stmts = parsed(alloc, raws)?;
-    match assemble(alloc, &stmts, checked) {
+    match listed(alloc, stmts, checked) {
+        Err(end) => Err(sub_refused(end)),
+        Ok(list) => program_from(alloc, &list, checked),
+    }
+}
+
+// The program that listed statements make, or their first refusal.
+fn program_from(alloc: Global, list: &LabelledList, checked: bool) -> Result<Program, SourceEnd>
+    requires { IsSource list.now }
+    ensures read { IsReadAs (program_from_list checked (Ok list.now)) result }
+    ensures well_formed { IfOk result (λ program. IsWellFormed program) }
+    ensures modest { IfOk result (λ program. HasFewOperations program) }
+    ensures few { IfOk result (λ program. HasFewClasses program) }
+{
+    match assemble(alloc, list, checked) {
         Err(end) => Err(layout_refused(end)),
         Ok(program) => {
             if has_many_classes(alloc, &program)? {
-                Err(refused(Code::TooManyClasses, end_line(&stmts)))
+                Err(refused(Code::TooManyClasses, end_line(list)))
             } else {
                 Ok(program)
             }
@@ -86,7 +104,7 @@ fn parsed(alloc: Global, raws: &RawStmtList) -> Result<LabelledList, SourceEnd>
     requires within { AreWithinForm raws.now }
     requires accepted { IsAccepted raws.now }
     ensures read { IsReadAs (statements_of raws.now) result }
-    ensures source { IfOk result (λ stmts. IsSource stmts) }
+    ensures text { IfOk result (λ stmts. IsText stmts) }
 {
     let mut stmts = Sequence::with_capacity(alloc, raws.len() as usize)?;
     for raw in raws.as_slice() {
@@ -129,6 +147,23 @@ fn stmt_refused(end: StmtEnd) -> SourceEnd
         StmtEnd::BadConstant(line) => refused(Code::BadConstant, line),
         StmtEnd::TooDeep(line) => refused(Code::TooDeep, line),
         StmtEnd::NoMemory => SourceEnd::NoMemory,
+    }
+}
+
+fn sub_refused(end: SubEnd) -> SourceEnd
+    ensures { result ≡ told_sub end }
+{
+    match end {
+        SubEnd::UnitOrder(line) => refused(Code::OutOfOrder, line),
+        SubEnd::Layout(unit) => layout_refused(unit),
+        SubEnd::SubTwice(line) => refused(Code::SubTwice, line),
+        SubEnd::NoSub(line) => refused(Code::NoSub, line),
+        SubEnd::BadCall(line) => refused(Code::BadCall, line),
+        SubEnd::BadBlock(line) => refused(Code::BadBlock, line),
+        SubEnd::Recursion(line) => refused(Code::Recursion, line),
+        SubEnd::TooManyStatements(line) => refused(Code::TooManyStatements, line),
+        SubEnd::TooManyNames(line) => refused(Code::TooManyNames, line),
+        SubEnd::NoMemory => SourceEnd::NoMemory,
     }
 }
 

@@ -3,6 +3,11 @@ use thiserror::Error;
 
 /// Why a text is no program. The codes stand in the order in which they are told, except that the first line with one of the
 /// first five is refused, and the first statement that is too deep, has no form or has a bad constant.
+///
+/// A text with SUBROUTINE, CALL or RETURN, or with END more than once, is tested by its units before SubTwice: OutOfOrder is
+/// told of the order of units, and then of the first unit that is no program by itself its code, from OutOfOrder to TooManyOps.
+/// The codes from SubTwice to TooManyNames are those of such texts alone, and TooManyStatements of the expansion comes before
+/// the last of them. The codes from OutOfOrder on are then told of the expansion.
 #[derive(Clone, Copy, Debug, PartialEq, Eq)]
 pub enum Code {
     /// A line that isn't a comment has a byte outside 32 to 126 in columns 1 to 72.
@@ -13,7 +18,8 @@ pub enum Code {
     StrayContinuation,
     /// A statement has more than 19 continuation lines.
     TooManyContinuations,
-    /// There are more than 4,000 statements.
+    /// There are more than 4,000 statements. Where the text has no more but its expansion does, the line is that of the main
+    /// program's END.
     TooManyStatements,
     /// There is no statement, or the last one isn't END. The line is the one after the last.
     NoEnd,
@@ -23,7 +29,21 @@ pub enum Code {
     NoForm,
     /// A constant, a label or a repeat is out of range.
     BadConstant,
-    /// A statement stands in the wrong order.
+    /// A SUBROUTINE has the name of one above.
+    SubTwice,
+    /// A CALL names no subroutine of the text.
+    NoSub,
+    /// The arguments of a CALL are others than the dummies of its subroutine in number, kind or bounds, or a dummy stands
+    /// twice, or in COMMON, EQUIVALENCE or DATA. The line is that of the CALL, or of the SUBROUTINE.
+    BadCall,
+    /// A block of COMMON has other names, by number, kind or bounds, than in the first unit that has it. The line is that of
+    /// the unit's first statement.
+    BadBlock,
+    /// A subroutine calls itself, through any number of calls. The line is that of its SUBROUTINE.
+    Recursion,
+    /// The expansion would need a name above Y99999. The line is that of the main program's END.
+    TooManyNames,
+    /// A statement stands in the wrong order, in its unit or in the order of units.
     OutOfOrder,
     /// A name is neither integer nor logical.
     RealName,

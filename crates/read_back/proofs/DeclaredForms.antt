@@ -19,7 +19,7 @@ use Rattle.f77_tree.specs.InitialWords.{IsLit, IsInitValue, IsInitPart}
 use Rattle.f77_tree.specs.Value.{dims_of}
 use Rattle.f77_tree.specs.Name.{is_name}
 use Rattle.f77_tree.specs.Grammar.{greatest_constant}
-use Rattle.f77_tree.specs.StatementGrammar.{is_signed, are_great, dim_numbers, WrittenDecl, decl_numbers, IsDecl, IsPart, is_block, WrittenMember, is_member, is_group, is_constant, constant_is_great, are_times, times_of, is_value, value_is_bad, WrittenData, is_data, WrittenStatement, IsStatement, statement_of, has_bad_constant, is_of_subroutines}
+use Rattle.f77_tree.specs.StatementGrammar.{is_signed, are_great, dim_numbers, WrittenDecl, decl_numbers, IsDecl, IsPart, is_block, WrittenMember, is_member, is_group, is_constant, constant_is_great, are_times, times_of, is_value, value_is_bad, WrittenData, is_data, WrittenStatement, IsStatement, has_bad_constant}
 use Rattle.f77_tree.proofs.AllLemmas.{All-nil, All-cons, All-first, All-rest, All-get}
 use Rattle.f77_tree.proofs.NameLemmas.{index_of-name}
 use Rattle.f77_expr.specs.Printing.{name_in}
@@ -33,7 +33,6 @@ pub record CanBePrinted (w : WrittenStatement) : Type 0 where
   pub prints : Prints w
   pub grammatical : IsStatement w
   pub constants : has_bad_constant w ≡ false
-  pub own : is_of_subroutines (statement_of w) ≡ false
 
 -- ---- declarators
 
@@ -71,7 +70,6 @@ typed_can info is =
       prints = typed_prints info.kind (decl ∷ []) grammar;
       grammatical = grammar;
       constants = fine_small (flat_map decl_numbers (decl ∷ [])) (fine_numbers (decl ∷ []) all);
-      own = refl;
     }
 
 pub names_can : (names : List NameInfo) → All IsNameInfo names → All CanBePrinted (map typed_name names)
@@ -149,7 +147,6 @@ module _ (names : List NameInfo) (table : All IsNameInfo names) where
         prints = common_prints (written_block part.block) decls grammar;
         grammatical = grammar;
         constants = fine_small (flat_map decl_numbers decls ++ []) (fine-append (flat_map decl_numbers decls) [] (fine_numbers decls fine) tt);
-        own = refl;
       }
 
   common_if : (b : Bool) (w : WrittenStatement) → CanBePrinted w → All CanBePrinted (cond b [] (w ∷ []))
@@ -206,7 +203,6 @@ module _ (names : List NameInfo) (table : All IsNameInfo names) where
         prints = equivalence_prints ms grammar;
         grammatical = grammar;
         constants = fine_small (subs ++ []) (fine-append subs [] (members_fine group is.members) tt);
-        own = refl;
       }
 
   pub groups_can : (groups : List (List Member)) → All (IsGroup names) groups → All CanBePrinted (map group_statement groups)
@@ -273,5 +269,4 @@ module _ (names : List NameInfo) (table : All IsNameInfo names) where
         prints = init_prints parts grammar;
         grammatical = grammar;
         constants = none_of (are_great subs || list_any value_is_bad values) false (none_of (are_great subs) (list_any value_is_bad values) (fine_small subs (members_fine part.items is.members)) are.1) refl;
-        own = refl;
       }

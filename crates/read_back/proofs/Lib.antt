@@ -34,6 +34,7 @@ mod PrintedStorage
 mod PrintedTable
 mod PrintedTrees
 mod PrintedTypes
+mod PrintedUnit
 mod Prints
 mod ProgramRead
 mod ReadDeclarations

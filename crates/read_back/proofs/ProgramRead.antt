@@ -212,7 +212,7 @@ module _ (only : OneAnswer) where
   one_read line s is =
       let can = is.line.can in
       let depth : bracket_depth (text (typeset s.written)) ≤ deepest_allowed = subst (λ d. d ≤ deepest_allowed) (sym (folded_depth (typeset s.written))) is.short.depth_few in
-      only (raw_at line s) (Ok (labelled_at line s)) (depth, record { written = s.written; spells = record { grammatical = can.grammatical; is = sym can.prints.folds.is }; is = refl; constants = can.constants }, can.own, refl, refl) (λ h. cc)
+      only (raw_at line s) (Ok (labelled_at line s)) (depth, record { written = s.written; spells = record { grammatical = can.grammatical; is = sym can.prints.folds.is }; is = refl; constants = can.constants }, refl, refl) (λ h. cc)
 
   all_read : (line : ℕ) (ss : List LabelledStatement) → All IsLine ss → map reading_of (read_from line (map printed ss)) ≡ map Ok (labelled_from line ss)
   all_read line [] all = refl
@@ -228,7 +228,7 @@ last_end line [] t is = ap (λ cs. bytes_eq cs (codes "END")) is
 last_end line (s ∷ []) t is = last_end (line + line_count s.text) [] t is
 last_end line (s ∷ next ∷ more) t is = last_end (line + line_count s.text) (next ∷ more) t is
 
-get_some : {X : Type 0} (xs : List X) (k : ℕ) → k < length xs → (x : X) × (slice_get xs k ≡ Some x)
+pub get_some : {X : Type 0} (xs : List X) (k : ℕ) → k < length xs → (x : X) × (slice_get xs k ≡ Some x)
 get_some [] k lt = absurd (omega (arith, lt))
 get_some (x ∷ xs) zero lt = (x, refl)
 get_some (x ∷ xs) (suc k) lt = get_some xs k (omega (arith, lt))

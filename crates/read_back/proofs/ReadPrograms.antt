@@ -26,6 +26,7 @@ use Rattle.read_back.proofs.PrintedForm.{none_wrong_storage, few_words, initial_
 use Rattle.read_back.proofs.PrintedPlaces.{got_within}
 use Rattle.read_back.proofs.PrintedRefusals.{has_form}
 use Rattle.read_back.proofs.PrintedStorage.{table_again, words_again, blocks_again}
+use Rattle.read_back.proofs.PrintedUnit.{printed_listed, printed_unit}
 use Rattle.read_back.proofs.ReadDeclarations.{groups_same, inits_same}
 use Rattle.read_back.proofs.ReadExecutables.{executables_same}
 use Rattle.read_back.proofs.ReadLoops.{loops_same}
@@ -88,6 +89,7 @@ module _ (p : Program) (flat : List FlatLine) (given : CanBeText p flat) (is : H
       pub read_back : HasStatements (text p flat) (statements_read p flat) → IsOfDialect checked p → IsReadBack (text p flat) checked p
       read_back has dialect = record {
         again = program stmts checked;
-        reads = record { raws = has.raws; stmts = stmts; lines = has.lines; statements = has.statements; form = form_again; is = refl };
+        reads = record { raws = has.raws; stmts = stmts; lines = has.lines; statements = has.statements; list = stmts; units = printed_listed p flat checked is.statements.form; form = form_again; is = refl };
+        unit = printed_unit p flat is.statements.form;
         same = read_again dialect;
       }

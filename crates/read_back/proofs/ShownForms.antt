@@ -15,14 +15,13 @@ use Rattle.f77_tree.specs.declared.programs.Item.TheVariants.{Value, Chars}
 use Rattle.f77_tree.specs.declared.programs.NameInfo.{NameInfo}
 use Rattle.f77_tree.specs.Declarations.{IsNameInfo}
 use Rattle.f77_tree.specs.Execution.{words_taken}
-use Rattle.f77_tree.specs.Grammar.{IsGrammatical, has_great_number, is_number, reading}
+use Rattle.f77_tree.specs.Grammar.{IsGrammatical, has_great_number, is_number}
 use Rattle.f77_tree.specs.Kinds.{IsAssignment, IsOfKind, IsProper, taken_as}
 use Rattle.f77_tree.specs.Name.{is_name}
-use Rattle.f77_tree.specs.StatementGrammar.{WrittenStatement, Print_star, Read_star, WrittenItem, IsItem, item_is_great, IsVariable, is_variable, IsStep, step_is_great, is_bad_label, IsStatement, statement_of}
+use Rattle.f77_tree.specs.StatementGrammar.{WrittenStatement, Print_star, Read_star, WrittenItem, IsItem, item_is_great, IsVariable, is_variable, IsStep, step_is_great, is_bad_label, IsStatement}
 use Rattle.f77_tree.specs.Value.{kind_of}
 use Rattle.f77_tree.specs.WellFormed.{IsProperItem, IsDo}
 use Rattle.f77_tree.proofs.AllLemmas.{All-nil, All-cons, All-first, All-rest}
-use Rattle.f77_tree.proofs.Subroutines.{guarded_subroutines}
 use Rattle.f77_tree.proofs.Taking.{words_taken_apply}
 use Rattle.f77_expr.specs.Printing.{Printed, name_in, name_at, printed_access}
 use Rattle.f77_expr.proofs.PrintedLaws.{proper-writes}
@@ -123,14 +122,14 @@ module _ (names : List NameInfo) (table : All IsNameInfo names) where
   read_can target proper =
       let w = written names (Read target) in
       let grammar : IsStatement (WrittenStatement.read Read_star (w ∷ [])) = (omega arith, All-cons IsVariable w [] (variable target proper) (All-nil IsVariable)) in
-      record { prints = read_prints w grammar; grammatical = grammar; constants = none_of (has_great_number w) false (small (Read target) proper) refl; own = refl }
+      record { prints = read_prints w grammar; grammatical = grammar; constants = none_of (has_great_number w) false (small (Read target) proper) refl }
 
   assign_can : (target : Access) (value : Expr) → IsProper names (Read target) → IsProper names value → CanBePrinted (WrittenStatement.assignment (written names (Read target)) (written names value))
   assign_can target value proper of =
       let a = written names (Read target) in
       let b = written names value in
       let grammar : IsStatement (WrittenStatement.assignment a b) = (variable target proper, grammatical value of) in
-      record { prints = assignment_prints a b grammar; grammatical = grammar; constants = none_of (has_great_number a) (has_great_number b) (small (Read target) proper) (small value of); own = refl }
+      record { prints = assignment_prints a b grammar; grammatical = grammar; constants = none_of (has_great_number a) (has_great_number b) (small (Read target) proper) (small value of) }
 
   assigned_can : (target : Access) (value : Expr) (takes : Bool) → IsAssignment names target value → (words_taken value == 1) ≡ takes → CanBePrinted (cond takes (WrittenStatement.read Read_star (written names (Read target) ∷ [])) (WrittenStatement.assignment (written names (Read target)) (written names value)))
   assigned_can target value true is takes = read_can target is.access
@@ -172,14 +171,14 @@ module _ (names : List NameInfo) (table : All IsNameInfo names) where
   output_can items all =
       let ws = map (written_item names) items in
       let of = items_are items all in
-      record { prints = print_prints ws of.are of.printable; grammatical = of.are; constants = of.small_ones; own = refl }
+      record { prints = print_prints ws of.are of.printable; grammatical = of.are; constants = of.small_ones }
 
   -- ---- control
 
   go_to_can : (count m : ℕ) → count ≤ 99999 → IsNumber count m → CanBePrinted (WrittenStatement.go_to (decimal m))
   go_to_can count m few is =
       let label = label_is count m few is in
-      record { prints = go_to_prints (decimal m) label.number; grammatical = label.number; constants = label.good; own = refl }
+      record { prints = go_to_prints (decimal m) label.number; grammatical = label.number; constants = label.good }
 
   logical_can : (condition : Expr) (count m : ℕ) → IsProper names condition → count ≤ 99999 → IsNumber count m → CanBePrinted (WrittenStatement.logical_if (written names condition) (WrittenStatement.go_to (decimal m)))
   logical_can condition count m proper few is =
@@ -189,7 +188,6 @@ module _ (names : List NameInfo) (table : All IsNameInfo names) where
         prints = logical_prints w (WrittenStatement.go_to (decimal m)) (grammatical condition proper) inner.prints;
         grammatical = (grammatical condition proper, inner.grammatical, refl);
         constants = none_of (has_great_number w) (is_bad_label (decimal m)) (small condition proper) inner.constants;
-        own = guarded_subroutines (reading w) (statement_of (WrittenStatement.go_to (decimal m))) ∙ inner.own;
       }
 
   arithmetic_can : (value : Expr) (count below at above : ℕ) → IsProper names value → count ≤ 99999 → All (IsNumber count) (below ∷ at ∷ above ∷ []) → CanBePrinted (WrittenStatement.arithmetic_if (written names value) (decimal below) (decimal at) (decimal above))
@@ -201,7 +199,6 @@ module _ (names : List NameInfo) (table : All IsNameInfo names) where
         prints = arithmetic_prints w (decimal below) (decimal at) (decimal above) grammar;
         grammatical = grammar;
         constants = none_of (has_great_number w) (list_any is_bad_label (decimal below ∷ decimal at ∷ decimal above ∷ [])) (small value proper) labels.1;
-        own = refl;
       }
 
   computed_can : (value : Expr) (count : ℕ) (targets : List ℕ) → IsProper names value → 0 < length targets → count ≤ 99999 → All (IsNumber count) targets → CanBePrinted (WrittenStatement.computed_go_to (map decimal targets) true (written names value))
@@ -214,7 +211,6 @@ module _ (names : List NameInfo) (table : All IsNameInfo names) where
         prints = computed_prints (map decimal targets) w grammar;
         grammatical = grammar;
         constants = none_of (list_any is_bad_label (map decimal targets)) (has_great_number w) labels.1 (small value proper);
-        own = refl;
       }
 
   step_is : (step : Expr) (one : Bool) → IsProper names step → IsStep (cond one None (Some (written names step)))
@@ -239,13 +235,12 @@ module _ (names : List NameInfo) (table : All IsNameInfo names) where
         prints = do_prints (decimal end) (name_at names var) (written names first) (written names last) (written_step names step) grammar;
         grammatical = grammar;
         constants = none_of (is_bad_label (decimal end) || has_great_number (written names first) || has_great_number (written names last)) (step_is_great (written_step names step)) (none_of (is_bad_label (decimal end) || has_great_number (written names first)) (has_great_number (written names last)) (none_of (is_bad_label (decimal end)) (has_great_number (written names first)) label.good (small first a.proper)) (small last b.proper)) (step_small step (is_one step) c.proper);
-        own = refl;
       }
 
   -- ---- all
 
   pub shown_can : (count : ℕ) (stmt : Flat) → count ≤ 99999 → IsProperFlat names stmt → HasNumbers count stmt → CanBePrinted (shown names stmt)
-  shown_can count Mark few proper has = record { prints = continue_prints; grammatical = tt; constants = refl; own = refl }
+  shown_can count Mark few proper has = record { prints = continue_prints; grammatical = tt; constants = refl }
   shown_can count (Assignment target value) few proper has = assigned_can target value (words_taken value == 1) proper refl
   shown_can count (Output items) few proper has = output_can items proper
   shown_can count (LogicalIf condition target) few proper has = logical_can condition count target proper.proper few (All-first (IsNumber count) target [] has.jumps)
@@ -253,4 +248,4 @@ module _ (names : List NameInfo) (table : All IsNameInfo names) where
   shown_can count (ComputedGoTo value targets) few proper has = computed_can value count targets proper.0.proper proper.1 few has.jumps
   shown_can count (DoLoop end var first last step) few proper has = loop_can count end var first last step few (All-first (IsNumber count) end [] has.range_end) proper
   shown_can count (Jump target) few proper has = go_to_can count target few (All-first (IsNumber count) target [] has.jumps)
-  shown_can count Finish few proper has = record { prints = end_prints; grammatical = tt; constants = refl; own = refl }
+  shown_can count Finish few proper has = record { prints = end_prints; grammatical = tt; constants = refl }

@@ -12,7 +12,7 @@ use Rattle.f77_layout.specs.LowestLines.{lowest_line}
 use Rattle.f77_layout.specs.Layout.{names_of, at_line, refusals_of_form, refusal, HasForm, program, layout, unless_refused, last_line}
 use Rattle.f77_source.specs.declared.source_end.Code.TheVariants as code
 use Rattle.f77_source.specs.declared.source_end.Refusal.{Refusal}
-use Rattle.f77_source.specs.Reading.{Reads, told, most_classes, program_laid, program_of as read_of, program_in, reading}
+use Rattle.f77_source.specs.Reading.{Reads, told, most_classes, program_laid, program_from, program_of as read_of, program_in, reading}
 use Rattle.read_back.specs.ReadAgain.{IsUnlessTooGreat}
 
 -- the answer of the later ones, where the first ones give none
@@ -48,5 +48,5 @@ module _ (stmts : List Labelled) (checked : Bool) (p : Program) (form : HasForm 
 
 pub read_unless_too_great : (bytes : List ℕ) (checked : Bool) (p : Program) → Reads bytes checked p → IsUnlessTooGreat p (reading bytes checked)
 read_unless_too_great bytes checked p reads =
-    let told_as : reading bytes checked ≡ program_laid (last_line reads.stmts) (layout reads.stmts checked) = ap (program_in checked) reads.lines ∙ ap (read_of checked) reads.statements in
-    subst (IsUnlessTooGreat p) (sym told_as) (laid_unless_too_great reads.stmts checked p reads.form reads.is)
+    let told_as : reading bytes checked ≡ program_laid (last_line reads.list) (layout reads.list checked) = ap (program_in checked) reads.lines ∙ ap (read_of checked) reads.statements ∙ ap (program_from checked) reads.units in
+    subst (IsUnlessTooGreat p) (sym told_as) (laid_unless_too_great reads.list checked p reads.form reads.is)

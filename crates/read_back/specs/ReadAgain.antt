@@ -1,5 +1,5 @@
 -- A program that is read again: as it was, but for lines and the listing of COMMON.
-use Rattle.std.specs.Prelude.{◌≡◌, ◌⊎◌, ◌≤◌, ◌+◌, ℕ, Bool, false, List, length, map, Option, Result, Ok, Err}
+use Rattle.std.specs.Prelude.{◌≡◌, ◌⊎◌, ◌≤◌, ◌+◌, ℕ, Bool, false, true, List, length, map, Option, Result, Ok, Err}
 use Rattle.f77_tree.specs.declared.programs.Exec.{Exec}
 use Rattle.f77_tree.specs.declared.programs.ExecKind.{ExecKind}
 use Rattle.f77_tree.specs.declared.programs.Program.{Program}
@@ -8,6 +8,7 @@ use Rattle.f77_tree.specs.WellFormed.{IsWellFormed}
 use Rattle.f77_layout.specs.Layout.{program}
 use Rattle.f77_source.specs.declared.source_end.Code.TheVariants.{TooManyOps, TooManyClasses}
 use Rattle.f77_source.specs.declared.source_end.Refusal.{Refusal}
+use Rattle.f77_source.specs.Listed.{is_one_unit}
 use Rattle.f77_source.specs.Reading.{Reads}
 use Rattle.flat_programs.specs.declared.statements.FlatLine.{FlatLine}
 use Rattle.flat_programs.specs.Declarations.{declared}
@@ -45,10 +46,11 @@ pub record IsReadAgain (p q : Program) : Type 0 where
   pub execs : kinds_of p ≡ kinds_of q
   pub loops : p.loops ≡ q.loops
 
--- the text is read as this program again
+-- the text is read as this program again, and is one unit without subroutines
 pub record IsReadBack (bytes : List ℕ) (checked : Bool) (q : Program) : Type 0 where
   pub again : Program
   pub reads : Reads bytes checked again
+  pub unit : is_one_unit reads.stmts ≡ true
   pub same : IsReadAgain again q
 
 -- the answer is this program, or it is refused for how many operations a statement has or how many alias classes the program has

@@ -15,8 +15,8 @@ pub use expressions::printed_expressions_are_themselves;
 pub use lines::printed_lines_are_read;
 pub use printed::{printed_text_is_read_back, texts_are_refused_for_size_alone};
 pub use programs::{
-    printed_programs_are_read_by_statements, printed_programs_can_be_read,
-    printed_programs_have_their_statements,
+    printed_programs_are_one_unit, printed_programs_are_read_by_statements,
+    printed_programs_can_be_read, printed_programs_have_their_statements,
 };
 pub use refusals::{
     printed_arrays_have_their_dimensions, printed_names_are_common_once,

@@ -11,8 +11,8 @@ ghost use Rattle.read_back.specs.ReadAgain.{HasText, IsReadBack, IsUnlessTooGrea
 use crate::programs::{printed_programs_can_be_read, printed_programs_have_their_statements};
 use flat_programs::executables_stand_in_order;
 
-/// The printed text of a program of flat statements is read back as the program, but for lines and the listing of COMMON. The operators of
-/// the program are of the dialect in which it is read.
+/// The printed text of a program of flat statements is read back as the program, but for lines and the listing of COMMON. It is one unit
+/// without subroutines. The operators of the program are of the dialect in which it is read.
 pub fn printed_text_is_read_back()
     ensures { (p : Program) (flat : List FlatLine) (checked : Bool) → HasText p flat → IsOfDialect checked p → IsReadBack (text p flat) checked p }
 {

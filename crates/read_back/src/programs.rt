@@ -1,8 +1,11 @@
 //! The statements of printed programs.
 
-ghost use Rattle.std.specs.Prelude.{List};
+ghost use Rattle.std.specs.Prelude.{◌≡◌, true, false, All, List};
 ghost use Rattle.f77_tree.specs.declared.programs.Program.{Program};
+ghost use Rattle.f77_tree.specs.StatementGrammar.{is_of_subroutines};
+ghost use Rattle.f77_source.specs.Listed.{is_one_unit};
 ghost use Rattle.flat_programs.specs.declared.statements.FlatLine.{FlatLine};
+ghost use Rattle.flat_programs.specs.FlatForm.{IsFlat};
 ghost use Rattle.flat_programs.specs.Text.{text};
 ghost use Rattle.read_back.specs.PrintedStatements.{AreReadAs, CanBeText, labelled_from, written_statements};
 ghost use Rattle.read_back.specs.ReadAgain.{HasText};
@@ -26,6 +29,13 @@ pub fn printed_programs_have_their_statements()
 {
     printed_programs_are_read_by_statements();
 }
+
+/// The statements that a printed program is read as are one unit without subroutines, so they are laid out as they stand: no statement
+/// before the last one is END, and none is SUBROUTINE, CALL or RETURN, alone or after a condition (ANSI X3.9-1978, sections 2.4 and 15.6).
+pub fn printed_programs_are_one_unit()
+    ensures unit { (q : Program) (flat : List FlatLine) → IsFlat flat → is_one_unit (statements_read q flat) ≡ true }
+    ensures plain { (q : Program) (flat : List FlatLine) → IsFlat flat → All (λ s. is_of_subroutines s.stmt ≡ false) (statements_read q flat) }
+{}
 
 /// A program of flat statements that are few and short enough for a source can have a text and be read, where no array bears a name with
 /// which an intrinsic function is printed.

@@ -13,9 +13,11 @@ use Rattle.f77_layout.specs.Counts.{is_too_great}
 use Rattle.f77_layout.specs.Faults.{first_answer, answer_or}
 use Rattle.f77_layout.specs.LowestLines.{lowest_line}
 use Rattle.f77_layout.specs.Layout.{at_line, names_of, refusals_of_form, refusal, HasForm, program, layout, unless_refused, last_line}
+use Rattle.f77_subs.specs.declared.sub_end.SubEnd.{SubEnd}
 use Rattle.f77_source.specs.declared.source_end.Code.TheVariants as code
 use Rattle.f77_source.specs.declared.source_end.Refusal.{Refusal}
-use Rattle.f77_source.specs.Reading.{Reads, told, most_classes, program_laid, program_of, program_in, statements_of, reading}
+use Rattle.f77_source.specs.Listed.{listed}
+use Rattle.f77_source.specs.Reading.{Reads, told, most_classes, program_laid, program_from, program_of, program_in, statements_of, reading}
 
 -- where no one answers, none of the first ones do
 none-before : {A B : Type 0} (f : A → Option B) (xs ys : List A) → first_answer f (xs ++ ys) ≡ None → first_answer f xs ≡ None
@@ -47,11 +49,15 @@ module _ (checked : Bool) (p : Program) where
         let last : List (Option LayoutEnd) = at_line TooManyOps (lowest_line (is_too_great (names_of stmts) checked stmts) stmts) ∷ [] in
         record { form = none-before (λ r. r) (refusals_of_form stmts) last both.0; is = both.1 }
 
+  list-laid : (bytes : List ℕ) (raws : List RawStmt) (stmts : List Labelled) (o : Result (List Labelled) SubEnd) → lines.reading bytes ≡ Ok raws → statements_of raws ≡ Ok stmts → listed stmts checked ≡ o → program_from checked o ≡ Ok p → Reads bytes checked p
+  list-laid bytes raws stmts (Err end) lines statements units is = absurd cc
+  list-laid bytes raws stmts (Ok list) lines statements units is =
+      let laid = are-laid list is in
+      record { raws = raws; stmts = stmts; lines = lines; statements = statements; list = list; units = units; form = laid.form; is = laid.is }
+
   statements-laid : (bytes : List ℕ) (raws : List RawStmt) (o : Result (List Labelled) Refusal) → lines.reading bytes ≡ Ok raws → statements_of raws ≡ o → program_of checked o ≡ Ok p → Reads bytes checked p
   statements-laid bytes raws (Err refusal) lines statements is = absurd cc
-  statements-laid bytes raws (Ok stmts) lines statements is =
-      let laid = are-laid stmts is in
-      record { raws = raws; stmts = stmts; lines = lines; statements = statements; form = laid.form; is = laid.is }
+  statements-laid bytes raws (Ok stmts) lines statements is = list-laid bytes raws stmts (listed stmts checked) lines statements refl is
 
   text-laid : (bytes : List ℕ) (o : Result (List RawStmt) FormEnd) → lines.reading bytes ≡ o → program_in checked o ≡ Ok p → Reads bytes checked p
   text-laid bytes (Err end) lines is = absurd cc

@@ -1,3 +1,5 @@
 mod AcceptedTexts
+mod CopiedOperators
+mod PlainDialects
+mod PlainOperators
 mod StatementDialects
-mod WrittenDialects

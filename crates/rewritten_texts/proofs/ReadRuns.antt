@@ -5,6 +5,7 @@ use Rattle.f77_tree.specs.declared.programs.Program.{Program}
 use Rattle.f77_tree.specs.declared.statements.Labelled.{Labelled}
 use Rattle.f77_tree.specs.Run.{PrintAlike, Reaches, State, source}
 use Rattle.f77_layout.specs.Layout.{program}
+use Rattle.f77_source.specs.Listed.{listed}
 use Rattle.f77_source.specs.Reading.{Reads, statements_of}
 use Rattle.rewriting.specs.Running.{RewrittenProgramsPrintAlike}
 use Rattle.rewritten_texts.specs.ReadRuns.{RewrittenTextsPrintAlike}
@@ -20,7 +21,8 @@ one_reading : (bytes : List ℕ) (checked : Bool) (a b : Program) → Reads byte
 one_reading bytes checked a b first second =
     let raws : first.raws ≡ second.raws = one_ok first.raws second.raws (sym first.lines ∙ second.lines) in
     let stmts : first.stmts ≡ second.stmts = one_ok first.stmts second.stmts (sym first.statements ∙ ap statements_of raws ∙ second.statements) in
-    sym first.is ∙ ap (λ (xs : List Labelled). program xs checked) stmts ∙ second.is
+    let list : first.list ≡ second.list = one_ok first.list second.list (sym first.units ∙ ap (λ (xs : List Labelled). listed xs checked) stmts ∙ second.units) in
+    sym first.is ∙ ap (λ (xs : List Labelled). program xs checked) list ∙ second.is
 
 -- ---- three runs
 

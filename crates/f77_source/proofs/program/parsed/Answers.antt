@@ -6,7 +6,7 @@ use Rattle.fixed_form.specs.Limits.{AreWithinForm}
 use Rattle.f77_source.specs.Accepted.{IsAccepted}
 use Rattle.f77_source.specs.Reading.{statements_of}
 use Rattle.f77_source.proofs.Refusals.{stmt_told}
-use Rattle.f77_source.proofs.Statements.{AreRead, refused_here, read_next, are_source}
+use Rattle.f77_source.proofs.Statements.{AreRead, refused_here, read_next, are_text}
 use Rattle.f77_source.proofs.program.parsed.Goals as goal
 
 -- src/program.rt:60:25
@@ -26,8 +26,8 @@ loop-raw-preserved c =
     (c.in-Ok.ensures.given (subst (λ raw. IsTrue (list_all is_character raw.text)) (sym c.raw-item.is) (within.each c.loop-raw.raw-index c.raw-item.result c.loop-raw-test.true).characters)) c.loop-raw.invariant)
 
 -- src/program.rt:51:1
-pub returns-clause-source : goal.returns-clause-source
-returns-clause-source c =
+pub returns-clause-text : goal.returns-clause-text
+returns-clause-text c =
     let raws = c.as_slice-raw-items.result.now in
-    are_source c.one_statement.ensures raws c.loop-raw.stmts (subst AreWithinForm (sym c.as_slice-raw-items.ensures.items) c.requires.within) (subst IsAccepted (sym c.as_slice-raw-items.ensures.items) c.requires.accepted)
+    are_text c.one_statement.ensures raws c.loop-raw.stmts (subst AreWithinForm (sym c.as_slice-raw-items.ensures.items) c.requires.within) (subst IsAccepted (sym c.as_slice-raw-items.ensures.items) c.requires.accepted)
     (subst (λ i. AreRead raws i c.loop-raw.stmts) (omega (arith, c.loop-raw-test.false, c.loop-raw.auto.raw-index-end)) c.loop-raw.invariant)
