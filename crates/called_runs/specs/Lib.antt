@@ -1,0 +1,9 @@
+pub mod CopiedControl
+pub mod CopiedKinds
+pub mod CopiedPositions
+pub mod DeclaredNames
+pub mod Expanded
+pub mod FramesInStep
+pub mod PairedWords
+pub mod RunsAsCalled
+pub mod SpareWords
