@@ -2,13 +2,14 @@
 """Runs a built dfc on hostile texts, and looks for runs that break a rule.
 
     python3 bench/hostile.py PROGRAM [--count N] [--seed S] [--from N] [--one] [--whole N] [--large N] [--forking] [--counts FILE]
-                             [--limit L] [--seconds T] [--megabytes M] [--save FOLDER] [--other OTHER]
+                             [--limit L] [--seconds T] [--megabytes M] [--save FOLDER] [--other OTHER] [--stock FOLDER]
 
-PROGRAM is a built dfc. A text is made by its number and the seed alone: a text of examples/ or cases/ with one to eight changes of its
-bytes, tokens, lines or labels; or one written at random, well formed for the most part; or, one in N of --large (100), a large one near the
-limits of the language. Each is run under every job: regions, graph, fire (in both dialects, and by picks), trace, store, forks (its output
-and its nodes), regen and run, each in a dialect and with data by chance, and with limit=L (2,000) where the job has a limit; and once with
-arguments of any kind, those of `sample` among them. With --one, a text gets one of these runs, drawn at random, and only one text in N of --whole (100) gets all. The rules:
+PROGRAM is a built dfc. A text is made by its number and the seed alone: a text of examples/ or cases/, or with --stock of that folder
+alone, with one to eight changes of its bytes, tokens, lines or labels; or one written at random, well formed for the most part; or, one in
+N of --large (100), a large one near the limits of the language. Each is run under every job: regions, graph, fire (in both dialects, and by
+picks), trace, store, forks (its output and its nodes), regen and run, each in a dialect and with data by chance, and with limit=L (2,000)
+where the job has a limit; and once with arguments of any kind, those of `sample` among them. With --one, a text gets one of these runs,
+drawn at random, and only one text in N of --whole (100) gets all. The rules:
 
 - no signal ends a run, none takes more than T seconds of the processor (10), and none is given more than M megabytes of memory (1,024);
 - the status is 0, 2, 3, 4 or 7, the last line fits it, and nothing is written to standard error;
@@ -20,7 +21,7 @@ arguments of any kind, those of `sample` among them. With --one, a text gets one
   too; and the output of one that stopped at a limit is a prefix of that of one that ended.
 
 With --other, each run is made with that compiler of the language too, and both have to write the same and end alike, where neither wants for
-memory. As another compiler may read subroutines, texts with CALL, RETURN or SUBROUTINE are left out, and those that both refuse by BADORDER.
+memory.
 
 With --forking a run is a copy of a process that is loaded once (forking.py). With --counts what came of it is kept in that file now and then, and the
 next run with it goes on after the last text of those; `python3 bench/counts.py FILE..` adds several up.
@@ -440,13 +441,9 @@ class Reports:
         print(f"text {number}, {' '.join(words)[:200]}: {rule}; saved as {path}", flush=True)
 
 
-def differ(text, words, mine, theirs):
+def differ(mine, theirs):
     """How the answer of another compiler differs, or nothing."""
-    read = re.sub(rb"[ &]", b"", text).upper()
-    if 7 in (mine.status, theirs.status) or re.search(b"CALL|RETURN|SUBROUTINE", read):
-        return None
-    told = refusal(mine), refusal(theirs)
-    if mine[:4] == theirs[:4] or all(it and it[1] == "BADORDER" for it in told):
+    if 7 in (mine.status, theirs.status) or mine[:4] == theirs[:4]:
         return None
     return f"status {mine.status}, {mine.end[-60:]!r}; the other has status {theirs.status}, {theirs.end[-60:]!r}"
 
@@ -463,7 +460,7 @@ class Trial:
         self.counts.add(f"text {number}", words, answer, words[0] if rule_of is broken else "any arguments")
         rule = rule_of(words, answer, text.count(b"\n") + (not text.endswith(b"\n") and text != b""))
         if self.other and not rule and rule_of is broken:
-            rule = differ(text, words, answer, self.runner.run(words, self.other))
+            rule = differ(answer, self.runner.run(words, self.other))
         if rule:
             self.reports.add(number, text, words, rule)
         return answer
@@ -485,9 +482,9 @@ class Trial:
             self.reports.add(number, text, *rule)
 
 
-def corpus():
-    """The texts of examples/ and cases/, but for long ones."""
-    paths = glob.glob(os.path.join(TOP, "examples", "*.f")) + glob.glob(os.path.join(TOP, "cases", "*", "*"))
+def corpus(folder):
+    """The texts of the folder, or of examples/ and cases/, but for long ones."""
+    paths = glob.glob(os.path.join(folder, "*")) if folder else glob.glob(os.path.join(TOP, "examples", "*.f")) + glob.glob(os.path.join(TOP, "cases", "*", "*"))
     for path in sorted(paths):
         if os.path.isfile(path) and (path.endswith(".f") or "." not in os.path.basename(path)) and os.path.getsize(path) < 20000:
             with open(path, "rb") as file:
@@ -500,6 +497,7 @@ def options_of():
     parser.add_argument("--save", default="hostile_found")
     parser.add_argument("--other")
     parser.add_argument("--counts")
+    parser.add_argument("--stock")
     for name in ("one", "forking"):
         parser.add_argument("--" + name, action="store_true")
     for name, value in [("count", 1000), ("seed", 1), ("from", 0), ("limit", 2000), ("seconds", 10), ("megabytes", 1024), ("whole", 100), ("large", 100)]:
@@ -514,7 +512,7 @@ def processor():
 
 def main():
     options = options_of()
-    counts, reports, texts = kept(options.counts or ""), Reports(options.save), list(dict.fromkeys(corpus()))
+    counts, reports, texts = kept(options.counts or ""), Reports(options.save), list(dict.fromkeys(corpus(options.stock)))
     runner = (ForkingRunner if options.forking else Runner)(options.program, options.seconds, options.megabytes)
     trial, first = Trial(runner, counts, reports, options.other), getattr(options, "from")
     before, taken = counts.found, counts.processor

@@ -44,6 +44,22 @@ def run(*statements):
     return ["run"], text(*statements)
 
 
+def expansion(count):
+    """CALLs whose expansion has so many statements, three for each CALL."""
+    return ["fire"], text(*["CALL S"] * 1332, *["I=1"] * (count - 3997)) + text("SUBROUTINE S", "CONTINUE")
+
+
+def own_names(count):
+    """Subroutines with so many names of their own."""
+    first = "ABCDEFGHIJKLMNOPQRSTUVWXYZ"
+    names = [a + b for a in first for b in ["", *first, *"0123456789"]]
+    units = [text()]
+    for number, at in enumerate(range(0, count, len(names))):
+        some = names[: count - at]
+        units.append(text(f"SUBROUTINE S{number}", *("INTEGER " + ",".join(some[k: k + 321]) for k in range(0, len(some), 321))))
+    return ["fire"], "".join(units)
+
+
 def bytes_of_text(count):
     """A program after comments, of so many bytes."""
     program = text("PRINT *,1")
@@ -171,6 +187,8 @@ LIMITS = [
     Limit("continuations", 19, continued, " 20\n", "REFUSED 21 MANYCONT\n"),
     Limit("characters", 1320, characters, " 7\n", "REFUSED 21 MANYCONT\n"),
     Limit("statements", 4000, lambda count: fire(*["I=1"] * (count - 1)), "", "REFUSED 4001 MANYSTMTS\n"),
+    Limit("expansion", 4000, expansion, "", "REFUSED 1337 MANYSTMTS\n"),
+    Limit("own_names", 99999, own_names, "", "REFUSED 1 MANYNAMES\n"),
     Limit("blocks", 1999, blocks, "", "REFUSED 4001 MANYSTMTS\n"),
     Limit("label_greatest", 99999, lambda label: fire(f"GO TO {label}", (99999, "PRINT *,1")), " 1\n", "REFUSED 1 BADCONST\n"),
     Limit("label_least", 1, lambda label: fire(f"GO TO {label}", (1, "PRINT *,1")), " 1\n", "REFUSED 1 BADCONST\n", -1),

@@ -107,6 +107,14 @@ def into_endless(count):
     return first + [(str(number + 1), "CONTINUE") for number in range(count // 2)] + [("", "GO TO 1")]
 
 
+def chain(count, calls):
+    """The main program and that many subroutines, each unit but the last with so many CALLs of the next one."""
+    lines = ["CALL S1"] * calls
+    for number in range(1, count + 1):
+        lines += ["END", "SUBROUTINE S%d" % number] + ["CALL S%d" % (number + 1)] * (calls if number < count else 0)
+    return unlabelled(lines)
+
+
 def comments():
     return ("C" * 63 + "\n") * 65535 + "      END\n"
 
@@ -124,6 +132,8 @@ TEXTS = [
     ("DATA of 262,144 words, one run", unlabelled(["INTEGER A(262144)", "DATA A/262144*1/"])),
     ("DATA of 261,950 words, one by one", one_by_one()),
     ("DATA of 3,998 elements", unlabelled(["INTEGER A(262144)"] + ["DATA A(%d)/1/" % (262144 - k) for k in range(3998)])),
+    ("1,200 subroutines in a chain of CALLs", chain(1200, 1)),
+    ("999 subroutines, called 2^999 times", chain(999, 2)),
 ]
 
 

@@ -7,9 +7,7 @@ DFC and OTHER are commands in quotes, run as `COMMAND fire [limit=L] [data=1,2,.
 or more), a file of FOLDER whose name has no dot, changed in a few places. The two agree where
 
 - both answer status 2 with the same bytes, a line `REFUSED line CODE`;
-- both read the text, whatever they write of its run;
-- DFC refuses a statement of a subroutine by NOFORM: it has none yet;
-- both refuse by BADORDER, and OTHER a statement directly after an END, which a compiler with subroutines reports first.
+- both read the text, whatever they write of its run.
 
 Prints up to five texts on which they differ, with both answers; then how many texts got each code from OTHER, and last
 `N texts, M differ`. The exit status is 1 where any differ.
@@ -348,17 +346,9 @@ def answer(command, text):
     return done.returncode, 0, "read" if done.returncode in (0, 3, 4) else f"status {done.returncode}", done.stdout
 
 
-def agree(text, ours, theirs):
-    (our_status, our_line, our_code, our_output), (their_status, their_line, their_code, their_output) = ours, theirs
-    if their_status == 2 and our_status == 2 and our_output == their_output:
-        return True
-    lines = [line if line[:1] not in ("C", "c", "*") else "" for line in text.split("\n")]
-    words = [line[6:72].replace(" ", "").upper() for line in lines]
-    if our_code == "NOFORM":
-        return re.search("CALL|RETURN|SUBROUTINE", "".join(words[our_line - 1: our_line + 20])) is not None
-    if our_code == their_code == "BADORDER" and our_line < their_line:
-        return "".join(words[: their_line - 1]).endswith("END")
-    return their_code == our_code == "read"
+def agree(ours, theirs):
+    (our_status, _, our_code, our_output), (their_status, _, their_code, their_output) = ours, theirs
+    return our_status == their_status == 2 and our_output == their_output or our_code == their_code == "read"
 
 
 def compare(options, texts, number):
@@ -386,8 +376,8 @@ def main():
     with concurrent.futures.ThreadPoolExecutor(2) as pool:
         for text, words, ours, theirs in pool.map(lambda number: compare(options, texts, number), range(options.count)):
             codes[theirs[2]] += 1
-            differ += not agree(text, ours, theirs)
-            if differ <= 5 and not agree(text, ours, theirs):
+            differ += not agree(ours, theirs)
+            if differ <= 5 and not agree(ours, theirs):
                 print(f"--- fire {' '.join(words)}: DFC {ours[::3]}, OTHER {theirs[::3]}\n{text}", flush=True)
     print(", ".join(f"{count} {code}" for code, count in codes.most_common()))
     print(f"{options.count} texts, {differ} differ")
