@@ -4,9 +4,9 @@ use Rattle.std.specs.List.{slice_get, range_with_len}
 use Rattle.std.proofs.lemmas.List.FromFn.{get_or-range_with_len, length-range_with_len}
 use Rattle.std.proofs.lemmas.Option.{slice_get-get_or}
 use Rattle.f77_tree.specs.declared.statements.Labelled.{Labelled}
-use Rattle.f77_layout.specs.declared.layout_end.LayoutEnd.{LayoutEnd}
-use Rattle.f77_layout.specs.Faults.{first_answer}
-use Rattle.f77_layout.specs.Layout.{refusal}
+use Rattle.layout_rules.specs.declared.layout_end.LayoutEnd.{LayoutEnd}
+use Rattle.layout_rules.specs.Faults.{first_answer}
+use Rattle.layout_rules.specs.Layout.{refusal}
 use Rattle.f77_subs.specs.declared.sub_end.SubEnd.{SubEnd}
 use Rattle.f77_subs.specs.declared.sub_end.SubEnd.TheVariants.{Recursion}
 use Rattle.f77_subs.specs.Contexts.{IsInPlace, IsReached}

@@ -3,8 +3,8 @@ use Rattle.std.proofs.Common.{◌≡◌, ℕ, zero, suc, true, false, Some, None
 use Rattle.std.proofs.lemmas.Bool.{eqb-true, eq-eqb}
 use Rattle.f77_tree.specs.declared.statements.Stmt.{Stmt, more_of-Stmt}
 use Rattle.f77_tree.specs.declared.statements.Stmt.TheVariants.{Program, Implicit, ImplicitNone, TypeOf, Dimension, Common, Equivalence, Init, Assign, Print, Take, Continue, Stop, GoTo, PickGoTo, SignIf, ThenIf', BlockIf, ElseIf, Else, EndIf, Do, Sub, CallTo, Back, End}
-use Rattle.f77_layout.specs.Executables.{is_do_to}
-use Rattle.f77_layout.specs.Labels.{is_executable}
+use Rattle.layout_rules.specs.Executables.{is_do_to}
+use Rattle.layout_rules.specs.Labels.{is_executable}
 use Rattle.f77_subs.specs.Units.{Call, call_in}
 use Rattle.f77_subs.specs.Widths.{is_kept}
 use Rattle.f77_subs.specs.Copies.{Change, changed_stmt}

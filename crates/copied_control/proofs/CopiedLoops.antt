@@ -7,8 +7,8 @@ use Rattle.std.proofs.lemmas.List.Sums.{sum_by-cons}
 use Rattle.f77_tree.specs.declared.statements.Labelled.{Labelled}
 use Rattle.f77_tree.specs.declared.statements.RawExpr.{RawExpr}
 use Rattle.f77_tree.specs.declared.statements.Stmt.TheVariants.{Continue, EndIf}
-use Rattle.f77_layout.specs.Executables.{is_do_to}
-use Rattle.f77_layout.specs.Labels.{statement_of}
+use Rattle.layout_rules.specs.Executables.{is_do_to}
+use Rattle.layout_rules.specs.Labels.{statement_of}
 use Rattle.f77_subs.specs.Units.{Call, call_in, guard_of, unit_at, unit_of}
 use Rattle.f77_subs.specs.declared.entity.Entity.{Entity}
 use Rattle.f77_subs.specs.Entities.{stands_for}

@@ -2,7 +2,7 @@
 use Rattle.std.proofs.Common.{◌≡◌, ℕ, suc, ◌+◌, Bool, true, false, cond, List, [], ◌∷◌, ◌++◌, length, drop, filter, reverse, Option, Some, refl, ap, ◌∙◌, arith}
 use Rattle.std.specs.List.{slice_get, range_with_len}
 use Rattle.f77_tree.specs.declared.statements.Labelled.{Labelled}
-use Rattle.f77_layout.specs.Executables.{is_do_to, is_do_in, loops_to}
+use Rattle.layout_rules.specs.Executables.{is_do_to, is_do_in, loops_to}
 use Rattle.f77_subs.specs.CopiedLoops.{loop_if, loops_from}
 use Rattle.copied_control.proofs.MappedArms.{first_here, rest_here}
 

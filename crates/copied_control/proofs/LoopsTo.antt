@@ -5,9 +5,9 @@ use Rattle.std.proofs.lemmas.Bool.{cases_order, and_parts, not-true, le-ltb, lt-
 use Rattle.std.proofs.lemmas.List.{append_assoc, append-nil, map-append, reverse-append, take-take, take-append-drop, length-take-le}
 use Rattle.std.proofs.lemmas.List.Sums.{prefix_len-le-length}
 use Rattle.f77_tree.specs.declared.statements.Labelled.{Labelled}
-use Rattle.f77_layout.specs.Executables.{is_do_to, loops_to}
-use Rattle.f77_layout.specs.Labels.{statement_of, is_executable}
-use Rattle.f77_layout.specs.Order.{rank}
+use Rattle.layout_rules.specs.Executables.{is_do_to, loops_to}
+use Rattle.layout_rules.specs.Labels.{statement_of, is_executable}
+use Rattle.layout_rules.specs.Order.{rank}
 use Rattle.f77_subs.specs.Units.{Call, call_in, unit_at, unit_of}
 use Rattle.f77_subs.specs.Widths.{width, body_width, labels, body_labels, labels_before}
 use Rattle.f77_subs.specs.Copies.{Context, changes, changed_stmt, number_at}

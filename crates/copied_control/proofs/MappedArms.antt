@@ -7,8 +7,8 @@ use Rattle.f77_tree.specs.declared.statements.Labelled.{Labelled}
 use Rattle.f77_tree.specs.declared.statements.RawExpr.{RawExpr}
 use Rattle.f77_tree.specs.declared.statements.Stmt.{Stmt}
 use Rattle.f77_tree.specs.declared.statements.Stmt.TheVariants.{Continue, BlockIf}
-use Rattle.f77_layout.specs.Labels.{is_executable, is_arm}
-use Rattle.f77_layout.specs.Jumps.{is_block_if, is_end_if, end_after, end_of_arm, end_of_block}
+use Rattle.layout_rules.specs.Labels.{is_executable, is_arm}
+use Rattle.layout_rules.specs.Jumps.{is_block_if, is_end_if, end_after, end_of_arm, end_of_block}
 use Rattle.f77_subs.specs.Units.{Call, call_in, guard_of, unit_at, unit_of}
 use Rattle.f77_subs.specs.Entities.{stands_for}
 use Rattle.f77_subs.specs.Widths.{body_width, body_labels}

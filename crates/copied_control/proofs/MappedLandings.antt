@@ -7,9 +7,9 @@ use Rattle.std.proofs.lemmas.List.{drop-append-le}
 use Rattle.f77_tree.specs.declared.statements.Labelled.{Labelled}
 use Rattle.f77_tree.specs.declared.statements.RawExpr.{RawExpr}
 use Rattle.f77_tree.specs.declared.statements.Stmt.TheVariants.{End}
-use Rattle.f77_layout.specs.Labels.{is_executable, is_arm}
-use Rattle.f77_layout.specs.Jumps.{is_block_if, end_of_block}
-use Rattle.f77_layout.specs.Executables.{first_of, met, met_after}
+use Rattle.layout_rules.specs.Labels.{is_executable, is_arm}
+use Rattle.layout_rules.specs.Jumps.{is_block_if, end_of_block}
+use Rattle.layout_rules.specs.Executables.{first_of, met, met_after}
 use Rattle.f77_subs.specs.Units.{Call, call_in, guard_of, is_end, unit_at, unit_of}
 use Rattle.f77_subs.specs.Entities.{stands_for}
 use Rattle.f77_subs.specs.Widths.{is_kept, body_labels}

@@ -1,30 +1,30 @@
 -- In a unit that is a program by itself each DO ends at a statement that its copies have.
-use Rattle.std.proofs.Common.{◌≡◌, ℕ, zero, suc, ◌+◌, ◌<◌, ◌≤◌, ⊎_elim, Bool, true, false, not, ◌&&◌, ◌||◌, ◌==◌, cond, List, [], ◌∷◌, ◌++◌, length, take, Option, Some, None, if◌then◌else◌, refl, sym, ap, subst, ◌∙◌, arith}
+use Rattle.std.proofs.Common.{◌≡◌, ℕ, zero, suc, ◌+◌, ◌<◌, ◌≤◌, ⊎_elim, Bool, true, false, not, ◌&&◌, ◌||◌, ◌==◌, cond, List, [], ◌∷◌, ◌++◌, length, take, Some, None, if◌then◌else◌, refl, sym, ap, subst, ◌∙◌, arith}
 use Rattle.std.specs.List.{slice_get, list_any}
 use Rattle.std.proofs.lemmas.Bool.{and_parts, and_from, or_left, or_right, or_cases, eqb-true, eq-eqb, ne_eqb, not_from_false, cases_order}
 use Rattle.std.proofs.lemmas.List.{append_assoc, append-nil}
 use Rattle.std.proofs.lemmas.Option.{slice_get_within}
 use Rattle.f77_tree.specs.declared.statements.Labelled.{Labelled}
-use Rattle.f77_tree.specs.declared.statements.Stmt.{Stmt, more_of-Stmt}
-use Rattle.f77_tree.specs.declared.statements.Stmt.TheVariants.{Program, Implicit, ImplicitNone, TypeOf, Dimension, Common, Equivalence, Init, Assign, Print, Take, Continue, Stop, GoTo, PickGoTo, SignIf, ThenIf', BlockIf, ElseIf, Else, EndIf, Do, Sub, CallTo, Back, End}
-use Rattle.f77_layout.specs.Executables.{is_do_to}
-use Rattle.f77_layout.specs.Faults.{first_after}
-use Rattle.f77_layout.specs.Labels.{bears, is_arm, is_executable, is_labelled_twice, lacks_label, statement_of, used}
-use Rattle.f77_layout.specs.Layout.{at_line, refusal, refusals}
-use Rattle.f77_layout.specs.Nesting.{Open, Loop, Block, is_loop_to, can_end, without_loops, after_ends, after_statement, open_after, line_or, first_unnested}
-use Rattle.f77_layout.specs.declared.layout_end.LayoutEnd.TheVariants.{LabelTwice, LabelMissing, BadNesting}
+use Rattle.f77_tree.specs.declared.statements.Stmt.{Stmt}
+use Rattle.f77_tree.specs.declared.statements.Stmt.TheVariants.{Do, End}
+use Rattle.layout_rules.specs.Executables.{is_do_to}
+use Rattle.layout_rules.specs.Faults.{first_after}
+use Rattle.layout_rules.specs.Labels.{bears, is_arm, is_executable, is_labelled_twice, lacks_label, statement_of, used}
+use Rattle.layout_rules.specs.Layout.{at_line, refusal, refusals}
+use Rattle.layout_rules.specs.Nesting.{first_unnested}
+use Rattle.layout_rules.specs.Roles.{role_of}
+use Rattle.layout_rules.specs.declared.nesting.Opened.{Opened}
+use Rattle.layout_rules.specs.declared.nesting.Role.TheVariants.{BeginLoop}
+use Rattle.layout_rules.proofs.OpenWalks.{goes_on, nothing-at-end, is_open, stays-open, loop-begins}
+use Rattle.layout_rules.specs.declared.layout_end.LayoutEnd.TheVariants.{LabelTwice, LabelMissing, BadNesting}
 use Rattle.f77_subs.specs.Units.{is_end, stand_in, standing_in, unit_at}
 use Rattle.f77_subs.specs.Widths.{is_kept}
 use Rattle.f77_subs.specs.CopiedLoops.{HasEndOf}
 use Rattle.f77_subs.specs.OpenBlocks.{IsEnded}
-use Rattle.copied_control.proofs.ClosedUnits.{stands-does}
+use Rattle.copied_control.proofs.ClosedUnits.{standing, stands-alike, end_is}
 use Rattle.f77_subs.proofs.NoAnswer.{line-none, none-at}
 use Rattle.f77_subs.proofs.Kept.{kept-by}
 use Rattle.copied_control.proofs.MappedLandings.{last-is}
-
--- the statement that stands in for this one
-abbrev pub standing : Labelled → Labelled
-standing s = record s { stmt = stand_in s.stmt }
 
 -- ---- what first faults tell
 
@@ -105,232 +105,39 @@ alone unit none i j label a b some at_i at_j one two below =
 
 -- ---- a DO that is open stays open until its end
 
-abbrev holds : ℕ → List Open → Bool
-holds label stack = list_any (is_loop_to label) stack
+held-on : (label : ℕ) (last : Labelled) → is_end last.stmt ≡ true → (front : List Labelled) → ((i : ℕ) (s : Labelled) → slice_get front i ≡ Some s → s.label ≡ label → ⊥) → (stack : List Opened) → is_open label stack ≡ true → first_unnested stack (standing_in (front ++ last ∷ [])) ≡ None → ⊥
+held-on label last ended [] others stack held none =
+    let e : true ≡ false = sym held ∙ ap (is_open label) (nothing-at-end (standing last) stack (ap stand_in (end_is last.stmt ended)) none) in
+    absurd cc
+held-on label last ended (s ∷ front) others stack held none =
+    let next = goes_on (standing s) (standing_in (front ++ last ∷ [])) stack none in
+    held-on label last ended front (λ i t is. others (suc i) t is) next.beyond (stays-open label (standing s) stack next.beyond (others 0 s refl) next.is held) next.nested
 
-loops-hold : (label other : ℕ) (stack : List Open) → (other ≡ label → ⊥) → holds label stack ≡ true → holds label (without_loops other stack) ≡ true
-loops-hold label other [] differ is = is
-loops-hold label other (Loop terminal ∷ rest) differ is = by_test (terminal == other) refl (loops-hold label other rest differ)
-  where
-    by_test : (b : Bool) → (terminal == other) ≡ b → (holds label rest ≡ true → holds label (without_loops other rest) ≡ true) → holds label (if b then without_loops other rest else Loop terminal ∷ rest) ≡ true
-    by_test true same later = ⊎_elim
-        (λ (h : (terminal == label) ≡ true). absurd (differ (sym (eqb-true terminal other same) ∙ eqb-true terminal label h)))
-        (λ (h : holds label rest ≡ true). later h)
-        (or_cases (terminal == label) (holds label rest) is)
-    by_test false same later = is
-loops-hold label other (Block has_else ∷ rest) differ is = is
+do-role : (label : ℕ) (stmt : Stmt) → is_do_to label stmt ≡ true → role_of (stand_in stmt) ≡ BeginLoop label
+do-role label (Do a b c d e) does = ap BeginLoop (eqb-true a label does)
+do-role label _ does = let e : false ≡ true = does in absurd cc
 
--- what is open after a statement still has the DO
-Keeps : (label : ℕ) → (stack : List Open) → Option (List Open) → Type 0
-Keeps label stack o = (beyond : List Open) → o ≡ Some beyond → holds label stack ≡ true → holds label beyond ≡ true
-
-kept-same : (label : ℕ) (stack beyond : List Open) → Some stack ≡ Some beyond → holds label stack ≡ true → holds label beyond ≡ true
-kept-same label stack beyond is has = let e : stack ≡ beyond = cc in subst (λ (xs : List Open). holds label xs ≡ true) e has
-
-kept-ends : (label other : ℕ) (stack beyond : List Open) → (other ≡ label → ⊥) → after_ends other (without_loops other stack) ≡ Some beyond → holds label stack ≡ true → holds label beyond ≡ true
-kept-ends label other stack beyond differ is has = by_any (list_any (is_loop_to other) (without_loops other stack)) is
-  where
-    by_any : (b : Bool) → (if b then None else Some (without_loops other stack)) ≡ Some beyond → holds label beyond ≡ true
-    by_any true is_none = let e : None ≡ Some beyond = is_none in absurd cc
-    by_any false is_some = kept-same label (without_loops other stack) beyond is_some (loops-hold label other stack differ has)
-
-keeps-after : (label other : ℕ) → (other ≡ label → ⊥) → (s : Stmt) (stack : List Open) → Keeps label stack (after_statement (stand_in s) other stack)
-unfolding Keeps Rattle.f77_tree.specs.declared.statements.Stmt.TheBlock.hidden-the_row-Stmt-0 denote.Hole.Carrier.hidden
-keeps-after label other differ Program stack beyond is has = kept-ends label other stack beyond differ is has
-keeps-after label other differ (Implicit a) stack beyond is has = kept-ends label other stack beyond differ is has
-keeps-after label other differ ImplicitNone stack beyond is has = kept-ends label other stack beyond differ is has
-keeps-after label other differ (TypeOf a b) stack beyond is has = kept-ends label other stack beyond differ is has
-keeps-after label other differ (Dimension a) stack beyond is has = kept-ends label other stack beyond differ is has
-keeps-after label other differ (Common a) stack beyond is has = kept-ends label other stack beyond differ is has
-keeps-after label other differ (Equivalence a) stack beyond is has = kept-ends label other stack beyond differ is has
-keeps-after label other differ (Init a) stack beyond is has = kept-ends label other stack beyond differ is has
-keeps-after label other differ (Assign a b) stack beyond is has = kept-ends label other stack beyond differ is has
-keeps-after label other differ (Print a) stack beyond is has = kept-ends label other stack beyond differ is has
-keeps-after label other differ (Take a) stack beyond is has = kept-ends label other stack beyond differ is has
-keeps-after label other differ Continue stack beyond is has = kept-ends label other stack beyond differ is has
-keeps-after label other differ Stop stack beyond is has = kept-ends label other stack beyond differ is has
-keeps-after label other differ (GoTo a) stack beyond is has = kept-ends label other stack beyond differ is has
-keeps-after label other differ (PickGoTo a b) stack beyond is has = kept-ends label other stack beyond differ is has
-keeps-after label other differ (SignIf a b c d) stack beyond is has = kept-ends label other stack beyond differ is has
-keeps-after label other differ (ThenIf' a b (more_of-Stmt c d)) stack beyond is has = kept-ends label other stack beyond differ is has
-keeps-after label other differ (BlockIf a) stack beyond is has = kept-same label (Block false ∷ stack) beyond is has
-keeps-after label other differ (ElseIf a) [] beyond is has = let e : None ≡ Some beyond = is in absurd cc
-keeps-after label other differ (ElseIf a) (Loop l ∷ rest) beyond is has = let e : None ≡ Some beyond = is in absurd cc
-keeps-after label other differ (ElseIf a) (Block true ∷ rest) beyond is has = let e : None ≡ Some beyond = is in absurd cc
-keeps-after label other differ (ElseIf a) (Block false ∷ rest) beyond is has = kept-same label (Block false ∷ rest) beyond is has
-keeps-after label other differ Else [] beyond is has = let e : None ≡ Some beyond = is in absurd cc
-keeps-after label other differ Else (Loop l ∷ rest) beyond is has = let e : None ≡ Some beyond = is in absurd cc
-keeps-after label other differ Else (Block true ∷ rest) beyond is has = let e : None ≡ Some beyond = is in absurd cc
-keeps-after label other differ Else (Block false ∷ rest) beyond is has = kept-same label (Block true ∷ rest) beyond is has
-keeps-after label other differ EndIf [] beyond is has = let e : None ≡ Some beyond = is in absurd cc
-keeps-after label other differ EndIf (Loop l ∷ rest) beyond is has = let e : None ≡ Some beyond = is in absurd cc
-keeps-after label other differ EndIf (Block h ∷ rest) beyond is has = kept-same label rest beyond is has
-keeps-after label other differ (Do a b c d e) stack beyond is has = kept-same label (Loop a ∷ stack) beyond is (or_right (a == label) (holds label stack) has)
-keeps-after label other differ (Sub a b) stack beyond is has = kept-ends label other stack beyond differ is has
-keeps-after label other differ (CallTo a b) stack beyond is has = kept-ends label other stack beyond differ is has
-keeps-after label other differ Back stack beyond is has = kept-ends label other stack beyond differ is has
-keeps-after label other differ End [] beyond is has = kept-same label [] beyond is has
-keeps-after label other differ End (x ∷ rest) beyond is has = let e : None ≡ Some beyond = is in absurd cc
-
-keeps-open : (label : ℕ) (s : Labelled) → (s.label ≡ label → ⊥) → (stack : List Open) → Keeps label stack (open_after (standing s) stack)
-unfolding Keeps
-keeps-open label s differ stack beyond is has = by_use (is_executable (stand_in s.stmt)) (list_any (is_loop_to s.label) stack && not (can_end (stand_in s.stmt))) is
-  where
-    by_use : (does bad : Bool) → (if not does then Some stack else if bad then None else after_statement (stand_in s.stmt) s.label stack) ≡ Some beyond → holds label beyond ≡ true
-    by_use false bad same = kept-same label stack beyond same has
-    by_use true true none = let e : None ≡ Some beyond = none in absurd cc
-    by_use true false follows = keeps-after label s.label differ s.stmt stack beyond follows has
-
--- END closes no DO
-end-closes-none : (label : ℕ) (last : Labelled) (stmt : Stmt) → is_end stmt ≡ true → last.label ≡ label → (stack : List Open) → holds label stack ≡ true → line_or last.line (open_after (record { label = last.label; line = last.line; stmt = stand_in stmt }) stack) (λ (beyond : List Open). None) ≡ None → ⊥
-end-closes-none label last Program ended has stack held none = let e : false ≡ true = ended in absurd cc
-end-closes-none label last (Implicit a) ended has stack held none = let e : false ≡ true = ended in absurd cc
-end-closes-none label last ImplicitNone ended has stack held none = let e : false ≡ true = ended in absurd cc
-end-closes-none label last (TypeOf a b) ended has stack held none = let e : false ≡ true = ended in absurd cc
-end-closes-none label last (Dimension a) ended has stack held none = let e : false ≡ true = ended in absurd cc
-end-closes-none label last (Common a) ended has stack held none = let e : false ≡ true = ended in absurd cc
-end-closes-none label last (Equivalence a) ended has stack held none = let e : false ≡ true = ended in absurd cc
-end-closes-none label last (Init a) ended has stack held none = let e : false ≡ true = ended in absurd cc
-end-closes-none label last (Assign a b) ended has stack held none = let e : false ≡ true = ended in absurd cc
-end-closes-none label last (Print a) ended has stack held none = let e : false ≡ true = ended in absurd cc
-end-closes-none label last (Take a) ended has stack held none = let e : false ≡ true = ended in absurd cc
-end-closes-none label last Continue ended has stack held none = let e : false ≡ true = ended in absurd cc
-end-closes-none label last Stop ended has stack held none = let e : false ≡ true = ended in absurd cc
-end-closes-none label last (GoTo a) ended has stack held none = let e : false ≡ true = ended in absurd cc
-end-closes-none label last (PickGoTo a b) ended has stack held none = let e : false ≡ true = ended in absurd cc
-end-closes-none label last (SignIf a b c d) ended has stack held none = let e : false ≡ true = ended in absurd cc
-end-closes-none label last (ThenIf' a b c) ended has stack held none = let e : false ≡ true = ended in absurd cc
-end-closes-none label last (BlockIf a) ended has stack held none = let e : false ≡ true = ended in absurd cc
-end-closes-none label last (ElseIf a) ended has stack held none = let e : false ≡ true = ended in absurd cc
-end-closes-none label last Else ended has stack held none = let e : false ≡ true = ended in absurd cc
-end-closes-none label last EndIf ended has stack held none = let e : false ≡ true = ended in absurd cc
-end-closes-none label last (Do a b c d e) ended has stack held none = let e : false ≡ true = ended in absurd cc
-end-closes-none label last (Sub a b) ended has stack held none = let e : false ≡ true = ended in absurd cc
-end-closes-none label last (CallTo a b) ended has stack held none = let e : false ≡ true = ended in absurd cc
-end-closes-none label last Back ended has stack held none = let e : false ≡ true = ended in absurd cc
-end-closes-none label last End ended has stack held none =
-    let mine : holds last.label stack ≡ true = subst (λ (n : ℕ). holds n stack ≡ true) (sym has) held in
-    let e : Some last.line ≡ None = sym (ap (λ (b : Bool). line_or last.line (if b && true then None else after_statement End last.label stack) (λ (beyond : List Open). None)) mine) ∙ none in
-    cc
-
--- what comes of a statement where none is nested wrong
-goes-on : (s : Labelled) (stack : List Open) (rest : List Labelled) → first_unnested stack (standing s ∷ rest) ≡ None → (beyond : List Open) × (open_after (standing s) stack ≡ Some beyond) × (first_unnested beyond rest ≡ None)
-goes-on s stack rest none = by_open (open_after (standing s) stack) refl none
-  where
-    by_open : (o : Option (List Open)) → open_after (standing s) stack ≡ o → line_or s.line o (λ beyond. first_unnested beyond rest) ≡ None → (beyond : List Open) × (open_after (standing s) stack ≡ Some beyond) × (first_unnested beyond rest ≡ None)
-    by_open None is no_line = let e : Some s.line ≡ None = no_line in absurd cc
-    by_open (Some beyond) is no_line = (beyond, is, no_line)
-
-keep-is : (label : ℕ) (s : Labelled) → (s.label ≡ label → ⊥) → (stack beyond : List Open) → open_after (standing s) stack ≡ Some beyond → holds label stack ≡ true → holds label beyond ≡ true
-unfolding Keeps
-keep-is label s differ stack beyond is held = keeps-open label s differ stack beyond is held
-
-held-on : (label : ℕ) (last : Labelled) → is_end last.stmt ≡ true → last.label ≡ label → (front : List Labelled) → ((i : ℕ) (s : Labelled) → slice_get front i ≡ Some s → s.label ≡ label → ⊥) → (stack : List Open) → holds label stack ≡ true → first_unnested stack (standing_in (front ++ last ∷ [])) ≡ None → ⊥
-held-on label last ended has [] others stack held none = end-closes-none label last last.stmt ended has stack held none
-held-on label last ended has (s ∷ front) others stack held none =
-    let next = goes-on s stack (standing_in (front ++ last ∷ [])) none in
-    held-on label last ended has front (λ i t is. others (suc i) t is) next.0 (keep-is label s (others 0 s refl) stack next.0 next.1 held) next.2
-
-do-opens : (label : ℕ) (s : Labelled) (stmt : Stmt) → is_do_to label stmt ≡ true → (stack beyond : List Open) → open_after (record { label = s.label; line = s.line; stmt = stand_in stmt }) stack ≡ Some beyond → holds label beyond ≡ true
-do-opens label s Program does stack beyond is = let e : false ≡ true = does in absurd cc
-do-opens label s (Implicit a) does stack beyond is = let e : false ≡ true = does in absurd cc
-do-opens label s ImplicitNone does stack beyond is = let e : false ≡ true = does in absurd cc
-do-opens label s (TypeOf a b) does stack beyond is = let e : false ≡ true = does in absurd cc
-do-opens label s (Dimension a) does stack beyond is = let e : false ≡ true = does in absurd cc
-do-opens label s (Common a) does stack beyond is = let e : false ≡ true = does in absurd cc
-do-opens label s (Equivalence a) does stack beyond is = let e : false ≡ true = does in absurd cc
-do-opens label s (Init a) does stack beyond is = let e : false ≡ true = does in absurd cc
-do-opens label s (Assign a b) does stack beyond is = let e : false ≡ true = does in absurd cc
-do-opens label s (Print a) does stack beyond is = let e : false ≡ true = does in absurd cc
-do-opens label s (Take a) does stack beyond is = let e : false ≡ true = does in absurd cc
-do-opens label s Continue does stack beyond is = let e : false ≡ true = does in absurd cc
-do-opens label s Stop does stack beyond is = let e : false ≡ true = does in absurd cc
-do-opens label s (GoTo a) does stack beyond is = let e : false ≡ true = does in absurd cc
-do-opens label s (PickGoTo a b) does stack beyond is = let e : false ≡ true = does in absurd cc
-do-opens label s (SignIf a b c d) does stack beyond is = let e : false ≡ true = does in absurd cc
-do-opens label s (ThenIf' a b c) does stack beyond is = let e : false ≡ true = does in absurd cc
-do-opens label s (BlockIf a) does stack beyond is = let e : false ≡ true = does in absurd cc
-do-opens label s (ElseIf a) does stack beyond is = let e : false ≡ true = does in absurd cc
-do-opens label s Else does stack beyond is = let e : false ≡ true = does in absurd cc
-do-opens label s EndIf does stack beyond is = let e : false ≡ true = does in absurd cc
-do-opens label s (Sub a b) does stack beyond is = let e : false ≡ true = does in absurd cc
-do-opens label s (CallTo a b) does stack beyond is = let e : false ≡ true = does in absurd cc
-do-opens label s Back does stack beyond is = let e : false ≡ true = does in absurd cc
-do-opens label s End does stack beyond is = let e : false ≡ true = does in absurd cc
-do-opens label s (Do a b c d e) does stack beyond is = by_test (list_any (is_loop_to s.label) stack && true) is
-  where
-    by_test : (bad : Bool) → (if bad then None else Some (Loop a ∷ stack)) ≡ Some beyond → holds label beyond ≡ true
-    by_test true none = let h : None ≡ Some beyond = none in absurd cc
-    by_test false follows = kept-same label (Loop a ∷ stack) beyond follows (or_left (a == label) (holds label stack) does)
-
-no-end : (label : ℕ) (last : Labelled) → is_end last.stmt ≡ true → last.label ≡ label → (front : List Labelled) → ((i : ℕ) (s : Labelled) → slice_get front i ≡ Some s → s.label ≡ label → ⊥) → (stack : List Open) (i : ℕ) (s : Labelled) → slice_get front i ≡ Some s → is_do_to label s.stmt ≡ true → first_unnested stack (standing_in (front ++ last ∷ [])) ≡ None → ⊥
-no-end label last ended has [] others stack i s is does none = let e : None ≡ Some s = is in cc
-no-end label last ended has (x ∷ front) others stack zero s is does none =
+no-end : (label : ℕ) (last : Labelled) → is_end last.stmt ≡ true → (front : List Labelled) → ((i : ℕ) (s : Labelled) → slice_get front i ≡ Some s → s.label ≡ label → ⊥) → (stack : List Opened) (i : ℕ) (s : Labelled) → slice_get front i ≡ Some s → is_do_to label s.stmt ≡ true → first_unnested stack (standing_in (front ++ last ∷ [])) ≡ None → ⊥
+no-end label last ended [] others stack i s is does none = let e : None ≡ Some s = is in cc
+no-end label last ended (x ∷ front) others stack zero s is does none =
     let e : Some x ≡ Some s = is in
     let same : x ≡ s = cc in
-    let next = goes-on x stack (standing_in (front ++ last ∷ [])) none in
-    held-on label last ended has front (λ i t there. others (suc i) t there) next.0 (do-opens label x x.stmt (subst (λ (y : Labelled). is_do_to label y.stmt ≡ true) (sym same) does) stack next.0 next.1) next.2
-no-end label last ended has (x ∷ front) others stack (suc i) s is does none =
-    let next = goes-on x stack (standing_in (front ++ last ∷ [])) none in
-    no-end label last ended has front (λ k t there. others (suc k) t there) next.0 i s is does next.2
+    let next = goes_on (standing x) (standing_in (front ++ last ∷ [])) stack none in
+    let role = do-role label x.stmt (subst (λ (y : Labelled). is_do_to label y.stmt ≡ true) (sym same) does) in
+    held-on label last ended front (λ i t there. others (suc i) t there) next.beyond (loop-begins label (standing x) stack next.beyond role next.is) next.nested
+no-end label last ended (x ∷ front) others stack (suc i) s is does none =
+    let next = goes_on (standing x) (standing_in (front ++ last ∷ [])) stack none in
+    no-end label last ended front (λ k t there. others (suc k) t there) next.beyond i s is does next.nested
 
 -- ---- units
 
 lone-used : (label : ℕ) (s : Stmt) → is_do_to label s ≡ true → used (stand_in s) ≡ label ∷ []
-lone-used label Program is = let e : false ≡ true = is in absurd cc
-lone-used label (Implicit a) is = let e : false ≡ true = is in absurd cc
-lone-used label ImplicitNone is = let e : false ≡ true = is in absurd cc
-lone-used label (TypeOf a b) is = let e : false ≡ true = is in absurd cc
-lone-used label (Dimension a) is = let e : false ≡ true = is in absurd cc
-lone-used label (Common a) is = let e : false ≡ true = is in absurd cc
-lone-used label (Equivalence a) is = let e : false ≡ true = is in absurd cc
-lone-used label (Init a) is = let e : false ≡ true = is in absurd cc
-lone-used label (Assign a b) is = let e : false ≡ true = is in absurd cc
-lone-used label (Print a) is = let e : false ≡ true = is in absurd cc
-lone-used label (Take a) is = let e : false ≡ true = is in absurd cc
-lone-used label Continue is = let e : false ≡ true = is in absurd cc
-lone-used label Stop is = let e : false ≡ true = is in absurd cc
-lone-used label (GoTo a) is = let e : false ≡ true = is in absurd cc
-lone-used label (PickGoTo a b) is = let e : false ≡ true = is in absurd cc
-lone-used label (SignIf a b c d) is = let e : false ≡ true = is in absurd cc
-lone-used label (ThenIf' a b c) is = let e : false ≡ true = is in absurd cc
-lone-used label (BlockIf a) is = let e : false ≡ true = is in absurd cc
-lone-used label (ElseIf a) is = let e : false ≡ true = is in absurd cc
-lone-used label Else is = let e : false ≡ true = is in absurd cc
-lone-used label EndIf is = let e : false ≡ true = is in absurd cc
 lone-used label (Do a b c d e) is = ap (λ (n : ℕ). n ∷ []) (eqb-true a label is)
-lone-used label (Sub a b) is = let e : false ≡ true = is in absurd cc
-lone-used label (CallTo a b) is = let e : false ≡ true = is in absurd cc
-lone-used label Back is = let e : false ≡ true = is in absurd cc
-lone-used label End is = let e : false ≡ true = is in absurd cc
+lone-used label _ is = let e : false ≡ true = is in absurd cc
 
 do-no-end : (label : ℕ) (s : Stmt) → is_do_to label s ≡ true → is_end s ≡ false
-do-no-end label Program is = refl
-do-no-end label (Implicit a) is = refl
-do-no-end label ImplicitNone is = refl
-do-no-end label (TypeOf a b) is = refl
-do-no-end label (Dimension a) is = refl
-do-no-end label (Common a) is = refl
-do-no-end label (Equivalence a) is = refl
-do-no-end label (Init a) is = refl
-do-no-end label (Assign a b) is = refl
-do-no-end label (Print a) is = refl
-do-no-end label (Take a) is = refl
-do-no-end label Continue is = refl
-do-no-end label Stop is = refl
-do-no-end label (GoTo a) is = refl
-do-no-end label (PickGoTo a b) is = refl
-do-no-end label (SignIf a b c d) is = refl
-do-no-end label (ThenIf' a b c) is = refl
-do-no-end label (BlockIf a) is = refl
-do-no-end label (ElseIf a) is = refl
-do-no-end label Else is = refl
-do-no-end label EndIf is = refl
-do-no-end label (Do a b c d e) is = refl
-do-no-end label (Sub a b) is = refl
-do-no-end label (CallTo a b) is = refl
-do-no-end label Back is = refl
 do-no-end label End is = let e : false ≡ true = is in absurd cc
+do-no-end label _ is = refl
 
 pub front-at : (front : List Labelled) (last s : Labelled) (i : ℕ) → slice_get (front ++ last ∷ []) i ≡ Some s → i < length front → slice_get front i ≡ Some s
 front-at [] last s i is below = absurd (omega (arith, below))
@@ -389,7 +196,6 @@ module _ (us : List (List Labelled)) (checked : Bool) (k : ℕ) (accepted : refu
       let j_is : j ≡ length ended.front = last-is ended.front ended.last t j ended.none at_j is_last in
       let last_is : Some ended.last ≡ Some t = sym (last-at ended.front ended.last) ∙ ap (λ (n : ℕ). slice_get (ended.front ++ ended.last ∷ []) n) (sym j_is) ∙ at_j in
       let same : ended.last ≡ t = cc in
-      let last_label : ended.last.label ≡ label = ap (λ (x : Labelled). x.label) same ∙ has in
       let most = inside-is ended.front ended.last s place at_place in
       let differ : place ≡ j → ⊥ = λ (e : place ≡ j).
       let found : Some s ≡ Some t = sym is ∙ ap (λ (n : ℕ). slice_get unit n) e ∙ there in
@@ -400,7 +206,7 @@ module _ (us : List (List Labelled)) (checked : Bool) (k : ℕ) (accepted : refu
       let others : (i : ℕ) (x : Labelled) → slice_get ended.front i ≡ Some x → x.label ≡ label → ⊥ = λ i x at_i mine.
       let in_unit : slice_get unit i ≡ Some x = ap (λ (u : List Labelled). slice_get u i) ended.is ∙ whole-at ended.front ended.last x i at_i in
       alone unit twice-none i j label x t some in_unit there mine has (let within = front-inside ended.front i x at_i in omega (arith, within, j_is)) in
-      no-end label ended.last ended.ended last_label ended.front others [] place s (front-at ended.front ended.last s place at_place below) does (subst (λ (u : List Labelled). first_unnested [] (standing_in u) ≡ None) ended.is nested)
+      no-end label ended.last ended.ended ended.front others [] place s (front-at ended.front ended.last s place at_place below) does (subst (λ (u : List Labelled). first_unnested [] (standing_in u) ≡ None) ended.is nested)
 
   pub has-end : ((place label : ℕ) (s : Labelled) → slice_get unit place ≡ Some s → is_do_to label s.stmt ≡ true → 0 < label) → (place label : ℕ) (s : Labelled) → slice_get unit place ≡ Some s → is_do_to label s.stmt ≡ true → HasEndOf us k label
   has-end positive place label s is does =
@@ -415,7 +221,7 @@ module _ (us : List (List Labelled)) (checked : Bool) (k : ℕ) (accepted : refu
       (λ (below : statement_of unit label < who.place). absurd (alone unit twice-none (statement_of unit label) who.place label start.statement who.statement some start.stands who.stands start.has has below))
       (λ (above : who.place < statement_of unit label). absurd (omega (arith, above, least))) o) (cases_order (statement_of unit label) who.place) in
       let no_end : is_end who.statement.stmt ≡ false = by_test (is_end who.statement.stmt) refl (λ is_last. not-end place who.place label s who.statement some is does who.stands has is_last) in
-      let does_it : is_executable who.statement.stmt ≡ true = sym (stands-does who.statement.stmt) ∙ both.1 in
+      let does_it : is_executable who.statement.stmt ≡ true = (stands-alike who.statement.stmt).does ∙ both.1 in
       record { last = who.statement; is = record { stands = ap (λ (n : ℕ). slice_get unit n) there ∙ who.stands; bears = has; some = some; kept = keeps k who.statement.stmt no_end does_it } }
     where
       by_test : (b : Bool) {c : Bool} → c ≡ b → (c ≡ true → ⊥) → c ≡ false

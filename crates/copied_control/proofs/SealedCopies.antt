@@ -7,8 +7,8 @@ use Rattle.f77_tree.specs.declared.statements.Labelled.{Labelled}
 use Rattle.f77_tree.specs.declared.statements.RawExpr.{RawExpr}
 use Rattle.f77_tree.specs.declared.statements.Stmt.{Stmt}
 use Rattle.f77_tree.specs.declared.statements.Stmt.TheVariants.{Continue, EndIf}
-use Rattle.f77_layout.specs.Labels.{is_arm}
-use Rattle.f77_layout.specs.Jumps.{is_block_if, is_end_if, end_after}
+use Rattle.layout_rules.specs.Labels.{is_arm}
+use Rattle.layout_rules.specs.Jumps.{is_block_if, is_end_if, end_after}
 use Rattle.f77_subs.specs.Units.{Call, call_in, guard_of, unit_at, unit_of}
 use Rattle.f77_subs.specs.declared.entity.Entity.{Entity}
 use Rattle.f77_subs.specs.Entities.{stands_for}
@@ -30,7 +30,7 @@ turned-neutral s is opened next =
     ∙ ap (λ (b : Bool). turned false b (is_arm s) opened next) is.ends
     ∙ ap (λ (b : Bool). turned false false b opened next) is.arm
 
-turned-alike : (s t : Stmt) → Alike s t → (opened : ℕ) (next : ℕ → Bool) → turned (is_block_if s) (is_end_if s) (is_arm s) opened next ≡ turned (is_block_if t) (is_end_if t) (is_arm t) opened next
+pub turned-alike : (s t : Stmt) → Alike s t → (opened : ℕ) (next : ℕ → Bool) → turned (is_block_if s) (is_end_if s) (is_arm s) opened next ≡ turned (is_block_if t) (is_end_if t) (is_arm t) opened next
 turned-alike s t is opened next =
     ap (λ (b : Bool). turned b (is_end_if s) (is_arm s) opened next) is.begins
     ∙ ap (λ (b : Bool). turned (is_block_if t) b (is_arm s) opened next) is.ends

@@ -1,8 +1,8 @@
 -- The statement that control comes to where it falls.
 use Rattle.std.specs.Prelude.{ℕ, ◌+◌, if◌then◌else◌, List, [], ◌∷◌, drop}
 use Rattle.f77_tree.specs.declared.statements.Labelled.{Labelled}
-use Rattle.f77_layout.specs.Labels.{is_executable, is_arm}
-use Rattle.f77_layout.specs.Jumps.{end_of_block}
+use Rattle.layout_rules.specs.Labels.{is_executable, is_arm}
+use Rattle.layout_rules.specs.Jumps.{end_of_block}
 
 -- its place, where control falls to the statements at this place and after it: an ELSE IF or ELSE leads to the END IF
 abbrev pub landing_after : (whole stmts : List Labelled) → (place : ℕ) → ℕ

@@ -4,10 +4,10 @@ ghost use Rattle.std.specs.Prelude.{◌≡◌, ◌+◌, ◌<◌, ◌++◌, ◌||
 ghost use Rattle.std.specs.List.{range_with_len};
 ghost use Rattle.f77_tree.specs.declared.statements.Labelled.{Labelled};
 ghost use Rattle.f77_tree.specs.declared.statements.RawExpr.{RawExpr};
-ghost use Rattle.f77_layout.specs.Executables.{first_of, is_do_to, loops_to, met};
-ghost use Rattle.f77_layout.specs.Jumps.{end_after, end_of_arm, end_of_block, is_block_if};
-ghost use Rattle.f77_layout.specs.Labels.{is_arm, statement_of};
-ghost use Rattle.f77_layout.specs.Layout.{refusal};
+ghost use Rattle.layout_rules.specs.Executables.{first_of, is_do_to, loops_to, met};
+ghost use Rattle.layout_rules.specs.Jumps.{end_after, end_of_arm, end_of_block, is_block_if};
+ghost use Rattle.layout_rules.specs.Labels.{is_arm, statement_of};
+ghost use Rattle.layout_rules.specs.Layout.{refusal};
 ghost use Rattle.f77_subs.specs.Units.{Call, call_in, guard_of, standing_in, unit_at, unit_of, units};
 ghost use Rattle.f77_subs.specs.declared.entity.Entity.{Entity};
 ghost use Rattle.f77_subs.specs.Widths.{body_labels, body_width, labels, labels_written};

@@ -14,12 +14,12 @@ use Rattle.f77_tree.specs.declared.statements.RawExpr.{RawExpr, Row_of-RawExpr, 
 use Rattle.f77_tree.specs.declared.statements.RawExpr.TheVariants.{Int, Truth, Named, Call as Called, Call', Apply, Apply'}
 use Rattle.f77_tree.specs.Kinds.{operand_kind}
 use Rattle.f77_tree.specs.Line.{kind_of_op}
-use Rattle.f77_layout.specs.Appearances.{called_name, names_in, names_in_row}
-use Rattle.f77_layout.specs.Functions.{intrinsic_named}
-use Rattle.f77_layout.specs.Types.{Intrinsic, count_of_row, dims_named, intrinsics, is_array_in, is_intrinsic, is_kind, is_of_kind, is_row_of, kind_in, kind_named, kind_of_call, takes}
+use Rattle.layout_rules.specs.Appearances.{called_name, names_in, names_in_row}
+use Rattle.declared_names.specs.Functions.{intrinsic_named}
+use Rattle.layout_rules.specs.Types.{Intrinsic, count_of_row, dims_named, intrinsics, is_array_in, is_intrinsic, is_kind, is_of_kind, is_row_of, kind_in, kind_named, kind_of_call, takes}
 use Rattle.copied_values.specs.ChangedTables.{AreChangedTables, AreKnown, IsKnownAs}
 use Rattle.f77_subs.specs.Copies.{Change, changed, changed_call, changed_row, intrinsic_or, pairs}
-use Rattle.copied_values.proofs.RawTrees.{kind_in-Apply, kind_in-Call}
+use Rattle.layout_rules.proofs.RawRows.{kind_in-Apply, kind_in-Call}
 
 -- ---- kinds and functions
 

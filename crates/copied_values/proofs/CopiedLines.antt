@@ -23,9 +23,9 @@ use Rattle.f77_tree.specs.Kinds.{operand_kind}
 use Rattle.f77_tree.specs.Line.{item_text, kind_of_expression, kind_of_op, line_of, line_of_texts, text_of}
 use Rattle.f77_tree.specs.Value.{ArePlaced, and_then, value}
 use Rattle.f77_tree.proofs.ExpressionLemmas.{row_of}
-use Rattle.f77_layout.specs.Appearances.{names_in, names_in_item}
-use Rattle.f77_layout.specs.Resolved.{in_dialect, intrinsic_call, nested, resolved, resolved_call, resolved_item, resolved_row}
-use Rattle.f77_layout.specs.Types.{Intrinsic, count_of_row, intrinsics, is_array_in, is_item, is_row_of, kind_in, kind_named, kind_of_call}
+use Rattle.layout_rules.specs.Appearances.{names_in, names_in_item}
+use Rattle.layout_rules.specs.Resolved.{in_dialect, intrinsic_call, nested, resolved, resolved_call, resolved_item, resolved_row}
+use Rattle.layout_rules.specs.Types.{Intrinsic, count_of_row, intrinsics, is_array_in, is_item, is_row_of, kind_in, kind_named, kind_of_call}
 use Rattle.copied_values.specs.ChangedTables.{AreChangedTables, AreHeld, AreKnown}
 use Rattle.f77_subs.specs.Copies.{Change, changed, changed_item}
 use Rattle.copied_values.proofs.ChangedValues.{IsCall, Array, Function, IsFunction, call-is, function, kinds}

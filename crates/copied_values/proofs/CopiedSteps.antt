@@ -31,10 +31,10 @@ use Rattle.f77_tree.specs.Line.{line_of}
 use Rattle.f77_tree.specs.Value.{place, place_of, size_of, value, word_at}
 use Rattle.f77_tree.proofs.ExpressionLemmas.{value-Apply}
 use Rattle.f77_tree.proofs.Keeping.{get-set_other, get-set_same}
-use Rattle.f77_layout.specs.Appearances.{names_in, names_in_row, names_in_item, names_if_any}
-use Rattle.f77_layout.specs.Executables.{kind_or_integer}
-use Rattle.f77_layout.specs.Resolved.{access_of, resolved, resolved_item, resolved_step}
-use Rattle.f77_layout.specs.Types.{dims_named, is_array_in, is_item, is_kind, is_kind_of_target, is_of_kind, is_step, is_target, is_variable, is_well_kinded, kind_in, kind_named}
+use Rattle.layout_rules.specs.Appearances.{names_in, names_in_row, names_in_item, names_if_any}
+use Rattle.layout_rules.specs.Executables.{kind_or_integer}
+use Rattle.layout_rules.specs.Resolved.{access_of, resolved, resolved_item, resolved_step}
+use Rattle.layout_rules.specs.Types.{dims_named, is_array_in, is_item, is_kind, is_kind_of_target, is_of_kind, is_step, is_target, is_variable, is_well_kinded, kind_in, kind_named}
 use Rattle.copied_values.specs.ChangedTables.{AreHeld, AreSameElement, target_name}
 use Rattle.f77_subs.specs.Copies.{Change, changed, changed_item, changed_step}
 use Rattle.copied_values.specs.SideBySide.{AreSideBySide, AreTied, GoAlike, HoldAlike, IsPairing, with_pair}

@@ -22,9 +22,9 @@ use Rattle.f77_tree.specs.Kinds.{operand_kind}
 use Rattle.f77_tree.specs.Line.{kind_of_op}
 use Rattle.f77_tree.specs.Value.{ArePlaced, all_values, and_then, place, read_as, read_of, value, word_at, word_of}
 use Rattle.f77_tree.proofs.ExpressionLemmas.{value-Apply, value-Read}
-use Rattle.f77_layout.specs.Appearances.{called_name, names_in, names_in_row, names_if_any}
-use Rattle.f77_layout.specs.Resolved.{access_of, in_dialect, intrinsic_call, nested, resolved, resolved_call, resolved_row, resolved_step}
-use Rattle.f77_layout.specs.Types.{Intrinsic, count_of_row, dims_named, intrinsics, is_array_in, is_intrinsic, is_kind, is_row_of, is_step, is_target, kind_in, kind_named, kind_of_call}
+use Rattle.layout_rules.specs.Appearances.{called_name, names_in, names_in_row, names_if_any}
+use Rattle.layout_rules.specs.Resolved.{access_of, in_dialect, intrinsic_call, nested, resolved, resolved_call, resolved_row, resolved_step}
+use Rattle.layout_rules.specs.Types.{Intrinsic, count_of_row, dims_named, intrinsics, is_array_in, is_intrinsic, is_kind, is_row_of, is_step, is_target, kind_in, kind_named, kind_of_call}
 use Rattle.copied_values.specs.ChangedTables.{AreChangedTables, AreHeld, AreKnown, AreSameElement, HoldTheSame, IsKnownAs, target_name}
 use Rattle.f77_subs.specs.Copies.{Change, changed, changed_call, changed_row, changed_step}
 use Rattle.copied_values.proofs.ChangedValues.{IsCall, Array, Function, IsFunction, FunctionChanged, Paired, Stays, array-call, array-known, call-is, function, function-call}

@@ -3,8 +3,8 @@ use Rattle.std.proofs.Common.{◌≡◌, ℕ, ◌+◌, Bool, List, [], ◌∷◌
 use Rattle.f77_tree.specs.declared.programs.NameInfo.{NameInfo}
 use Rattle.f77_tree.specs.declared.statements.Labelled.{Labelled}
 use Rattle.f77_tree.specs.OtherPlaces.{DifferInPlaces, without_places}
-use Rattle.f77_layout.specs.Layout.{names_of, placed_from, placed_names, program, spots_of}
-use Rattle.f77_layout.specs.Storage.{Spot}
+use Rattle.layout_rules.specs.Layout.{names_of, placed_from, placed_names, program, spots_of}
+use Rattle.layout_rules.specs.Storage.{Spot}
 use Rattle.f77_subs.specs.declared.entity.Entity.{Entity}
 use Rattle.f77_subs.specs.Storage.{placed}
 

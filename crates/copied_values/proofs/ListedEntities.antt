@@ -16,11 +16,11 @@ use Rattle.f77_tree.specs.declared.declarations.Kind.{Kind}
 use Rattle.f77_tree.specs.declared.statements.Labelled.{Labelled}
 use Rattle.f77_tree.specs.declared.statements.Stmt.{Stmt}
 use Rattle.f77_tree.specs.declared.statements.Stmt.TheVariants.{Program, Implicit, ImplicitNone, TypeOf, Dimension, Common, Equivalence, Init, Assign, Print, Take, Continue, Stop, GoTo, PickGoTo, SignIf, ThenIf', BlockIf, ElseIf, Else, EndIf, Do, Sub, CallTo, Back, End}
-use Rattle.f77_layout.specs.Appearances.{with_name}
-use Rattle.f77_layout.specs.Declarations.{dims_of, dims_or_none, dims_told, has_dims, is_array, is_implicit_none, kind_by_default, kind_implied, kind_of, kind_typed}
-use Rattle.f77_layout.specs.Executables.{kind_or_integer}
-use Rattle.f77_layout.specs.Faults.{answer_or, first_answer}
-use Rattle.f77_layout.specs.Layout.{last_line}
+use Rattle.layout_rules.specs.Appearances.{with_name}
+use Rattle.layout_rules.specs.Declarations.{dims_of, dims_or_none, dims_told, has_dims, is_array, is_implicit_none, kind_by_default, kind_implied, kind_of, kind_typed}
+use Rattle.layout_rules.specs.Executables.{kind_or_integer}
+use Rattle.layout_rules.specs.Faults.{answer_or, first_answer}
+use Rattle.layout_rules.specs.Layout.{last_line}
 use Rattle.f77_subs.specs.declared.entity.Entity.{Entity}
 use Rattle.f77_subs.specs.Expansion.{block_size, declared_in, is_running, type_of, whole_list}
 use Rattle.copied_values.specs.ListedDeclarations.{declarations}

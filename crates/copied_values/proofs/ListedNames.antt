@@ -16,10 +16,10 @@ use Rattle.f77_tree.specs.declared.declarations.Member.{Member}
 use Rattle.f77_tree.specs.declared.statements.Labelled.{Labelled}
 use Rattle.f77_tree.specs.declared.statements.Stmt.{Stmt}
 use Rattle.f77_tree.specs.declared.statements.Stmt.TheVariants.{Program, Implicit, ImplicitNone, TypeOf, Dimension, Common, Equivalence, Init, Assign, Print, Take, Continue, Stop, GoTo, PickGoTo, SignIf, ThenIf', BlockIf, ElseIf, Else, EndIf, Do, Sub, CallTo, Back, End}
-use Rattle.f77_layout.specs.Declarations.{declarators, dims_of, dims_or_none, dims_told, has_dims, is_implicit_none, kind_by_default, kind_implied, kind_of, kind_typed}
-use Rattle.f77_layout.specs.Executables.{kind_or_integer}
-use Rattle.f77_layout.specs.Faults.{answer_or, first_answer}
-use Rattle.f77_layout.specs.Labels.{is_executable}
+use Rattle.layout_rules.specs.Declarations.{declarators, dims_of, dims_or_none, dims_told, has_dims, is_implicit_none, kind_by_default, kind_implied, kind_of, kind_typed}
+use Rattle.layout_rules.specs.Executables.{kind_or_integer}
+use Rattle.layout_rules.specs.Faults.{answer_or, first_answer}
+use Rattle.layout_rules.specs.Labels.{is_executable}
 use Rattle.f77_subs.specs.declared.entity.Entity.{Entity}
 use Rattle.f77_subs.specs.declared.entity.Entity.TheVariants.{InBlock}
 use Rattle.f77_subs.specs.Expansion.{block_size, common_of, declared_first, declared_in, put_in, type_of, whole_list}

@@ -1,21 +1,15 @@
--- Expressions as they are read, over the lists of their operands: what they are resolved to, and their kinds.
-use Rattle.std.proofs.Common.{◌≡◌, ℕ, ◌&&◌, Bool, List, [], ◌∷◌, map, length, fold, if◌then◌else◌, Some, None, refl, ap, ◌∙◌, arith}
-use Rattle.std.specs.List.{list_all}
+-- Expressions as they are read, over the lists of their operands: what they are resolved to.
+use Rattle.std.proofs.Common.{◌≡◌, ℕ, Bool, List, [], ◌∷◌, map, fold, refl, ap, ◌∙◌}
 use Rattle.op_table.specs.declared.Op.{Op}
-use Rattle.f77_tree.specs.declared.declarations.Kind.{Kind}
-use Rattle.f77_tree.specs.declared.declarations.Kind.TheVariants.{Integer}
 use Rattle.f77_tree.specs.declared.expressions.Access.{Access}
 use Rattle.f77_tree.specs.declared.expressions.Expr.{Expr}
 use Rattle.f77_tree.specs.declared.expressions.Expr.TheVariants.{Apply as ApplyOf}
 use Rattle.f77_tree.specs.declared.programs.NameInfo.{NameInfo}
 use Rattle.f77_tree.specs.declared.statements.RawExpr.{RawExpr, Call, Apply, Row_of-RawExpr, end_of-RawExpr, more_of-RawExpr, items-the_row-RawExpr, items_hidden-the_row-RawExpr-0}
 use Rattle.f77_tree.specs.Declarations.{index_of}
-use Rattle.f77_tree.specs.Kinds.{operand_kind}
-use Rattle.f77_tree.specs.Line.{kind_of_op}
-use Rattle.f77_layout.specs.Resolved.{access_of, in_dialect, nested, resolved, resolved_call, resolved_row}
-use Rattle.f77_layout.specs.Types.{kind_in, is_row_of, is_of_kind, count_of_row, kind_of_call}
+use Rattle.layout_rules.specs.Resolved.{access_of, in_dialect, nested, resolved, resolved_call, resolved_row}
 use Rattle.f77_subs.specs.Copies.{pairs}
-use Rattle.f77_subs.proofs.ChangedRows.{row_of}
+use Rattle.layout_rules.proofs.RawRows.{row_of}
 
 resolved_row-items : (names : List NameInfo) (checked : Bool) (n : _) (row : Row_of-RawExpr n) → resolved_row names checked row ≡ map (resolved names checked) (items-the_row-RawExpr n row)
 resolved_row-items names checked n end_of-RawExpr = refl
@@ -51,25 +45,3 @@ resolved-pairs names checked op (a ∷ []) = resolved-Apply names checked op (a 
 resolved-pairs names checked op (a ∷ b ∷ rest) =
     resolved-fold names checked op (Apply op (a ∷ b ∷ [])) rest
     ∙ ap (λ (x : Expr). fold (λ e c. ApplyOf (in_dialect checked op) (e ∷ c ∷ [])) x (map (resolved names checked) rest)) (resolved-Apply names checked op (a ∷ b ∷ []))
-
--- ---- kinds
-
-is_row_of-items : (names : List NameInfo) (kind : Kind) (n : _) (row : Row_of-RawExpr n) → is_row_of names kind row ≡ list_all (is_of_kind names kind) (items-the_row-RawExpr n row)
-is_row_of-items names kind n end_of-RawExpr = refl
-is_row_of-items names kind n (more_of-RawExpr e rest) = ap (λ b. is_of_kind names kind e && b) (is_row_of-items names kind _ rest)
-
-count_of_row-items : (n : _) (row : Row_of-RawExpr n) → count_of_row row ≡ length (items-the_row-RawExpr n row)
-count_of_row-items n end_of-RawExpr = refl
-count_of_row-items n (more_of-RawExpr e rest) = let more = count_of_row-items _ rest in omega (arith, more)
-
-pub kind_in-Call : (names : List NameInfo) (name : List ℕ) (args : List RawExpr) → kind_in names (Call name args) ≡ (if list_all (is_of_kind names Integer) args then kind_of_call names name (length args) else None)
-kind_in-Call names name args =
-    let row = row_of (Call name args) in
-    let items = items_hidden-the_row-RawExpr-0 args in
-    ap (λ b. if b then kind_of_call names name (count_of_row row.1) else None) (is_row_of-items names Integer row.0 row.1 ∙ ap (list_all (is_of_kind names Integer)) items)
-    ∙ ap (λ n. if list_all (is_of_kind names Integer) args then kind_of_call names name n else None) (count_of_row-items row.0 row.1 ∙ ap length items)
-
-pub kind_in-Apply : (names : List NameInfo) (op : Op) (args : List RawExpr) → kind_in names (Apply op args) ≡ (if list_all (is_of_kind names (operand_kind op)) args then Some (kind_of_op op) else None)
-kind_in-Apply names op args =
-    let row = row_of (Apply op args) in
-    ap (λ b. if b then Some (kind_of_op op) else None) (is_row_of-items names (operand_kind op) row.0 row.1 ∙ ap (list_all (is_of_kind names (operand_kind op))) (items_hidden-the_row-RawExpr-0 args))

@@ -14,7 +14,7 @@ use Rattle.f77_tree.specs.Touched.{AreAsKnown}
 use Rattle.f77_tree.specs.Value.{ArePlaced, and_then, dims_of, extent, moved, place_of, size_of, subscripted, word_of}
 use Rattle.f77_tree.proofs.Offsets.{word-is-element}
 use Rattle.f77_tree.proofs.TouchedWords.{named-is_word_of}
-use Rattle.f77_layout.specs.Types.{dims_named}
+use Rattle.layout_rules.specs.Types.{dims_named}
 use Rattle.copied_values.specs.ChangedTables.{AreSameElement, IsKnownAs}
 
 -- ---- subscripts trap, wherever the name lies, or each is within its bounds

@@ -15,8 +15,8 @@ use Rattle.f77_tree.specs.Kinds.{operand_kind}
 use Rattle.f77_tree.specs.Line.{kind_of_op}
 use Rattle.f77_tree.specs.OtherPlaces.{DifferInPlaces, without_places}
 use Rattle.f77_tree.specs.Value.{dims_of, kind_of}
-use Rattle.f77_layout.specs.Resolved.{access_of, in_dialect, intrinsic_call, resolved, resolved_call, resolved_row}
-use Rattle.f77_layout.specs.Types.{count_of_row, dims_named, intrinsics, is_array_in, is_kind, is_row_of, kind_in, kind_named, kind_of_call, takes}
+use Rattle.layout_rules.specs.Resolved.{access_of, in_dialect, intrinsic_call, resolved, resolved_call, resolved_row}
+use Rattle.layout_rules.specs.Types.{count_of_row, dims_named, intrinsics, is_array_in, is_kind, is_row_of, kind_in, kind_named, kind_of_call, takes}
 
 bare-index : (names : List NameInfo) (name : List ℕ) → index_of (without_places names) name ≡ index_of names name
 bare-index [] name = refl

@@ -2,7 +2,7 @@
 use Rattle.std.specs.Prelude.{Bool, if◌then◌else◌, List, [], ◌∷◌}
 use Rattle.f77_tree.specs.declared.statements.Labelled.{Labelled}
 use Rattle.f77_tree.specs.declared.statements.Stmt.{Stmt}
-use Rattle.f77_layout.specs.Labels.{is_executable}
+use Rattle.layout_rules.specs.Labels.{is_executable}
 
 abbrev pub unless_executable : (does : Bool) → Stmt → List Stmt → List Stmt
 unless_executable does s rest = if does then rest else s ∷ rest

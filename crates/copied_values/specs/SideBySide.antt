@@ -4,7 +4,7 @@ use Rattle.f77_tree.specs.declared.programs.NameInfo.{NameInfo}
 use Rattle.f77_tree.specs.Declarations.{index_of}
 use Rattle.f77_tree.specs.Execution.{Memory, Outcome, Goes, Stops, Ends}
 use Rattle.f77_tree.specs.Value.{ArePlaced, place_of, size_of, word_at}
-use Rattle.f77_layout.specs.Types.{dims_named}
+use Rattle.layout_rules.specs.Types.{dims_named}
 use Rattle.copied_values.specs.ChangedTables.{AreChangedTables, AreKnown}
 use Rattle.f77_subs.specs.Copies.{Change}
 

@@ -11,10 +11,10 @@ ghost use Rattle.f77_tree.specs.declared.declarations.Kind.TheVariants.{Integer,
 ghost use Rattle.f77_tree.specs.Declarations.{index_of};
 ghost use Rattle.f77_tree.specs.Execution.{Memory, outcome};
 ghost use Rattle.f77_tree.specs.Kinds.{taken_as};
-ghost use Rattle.f77_layout.specs.Appearances.{names_in, names_in_item, names_if_any};
-ghost use Rattle.f77_layout.specs.Executables.{kind_or_integer};
-ghost use Rattle.f77_layout.specs.Resolved.{access_of, resolved, resolved_item, resolved_step};
-ghost use Rattle.f77_layout.specs.Types.{is_array_in, is_item, is_of_kind, is_target, is_well_kinded, kind_in};
+ghost use Rattle.layout_rules.specs.Appearances.{names_in, names_in_item, names_if_any};
+ghost use Rattle.layout_rules.specs.Executables.{kind_or_integer};
+ghost use Rattle.layout_rules.specs.Resolved.{access_of, resolved, resolved_item, resolved_step};
+ghost use Rattle.layout_rules.specs.Types.{is_array_in, is_item, is_of_kind, is_target, is_well_kinded, kind_in};
 ghost use Rattle.f77_subs.specs.Copies.{Change, changed, changed_item, changed_step};
 ghost use Rattle.copied_values.specs.SideBySide.{Are, AreSideBySide, AreTied, GoAlike, with_pair};
 

@@ -3,8 +3,8 @@
 ghost use Rattle.std.specs.Prelude.{◌≡◌, ◌<◌, ◌++◌, Bool, false, nat_le, ℕ, List, None, Some, true, length, map, take, drop};
 ghost use Rattle.std.specs.List.{list_all, list_any};
 ghost use Rattle.f77_tree.specs.declared.statements.Labelled.{Labelled};
-ghost use Rattle.f77_layout.specs.Declarations.{dims_of, kind_of};
-ghost use Rattle.f77_layout.specs.Executables.{kind_or_integer};
+ghost use Rattle.layout_rules.specs.Declarations.{dims_of, kind_of};
+ghost use Rattle.layout_rules.specs.Executables.{kind_or_integer};
 ghost use Rattle.f77_subs.specs.declared.entity.Entity.{Entity};
 ghost use Rattle.f77_subs.specs.Expansion.{declared_first, declared_in, is_running, put_in, whole_list};
 ghost use Rattle.copied_values.specs.ListedDeclarations.{declarations};

@@ -8,16 +8,16 @@ use Rattle.f77_tree.specs.declared.statements.Labelled.{Labelled}
 use Rattle.f77_tree.specs.declared.statements.Stmt.{Stmt, more_of-Stmt}
 use Rattle.f77_tree.specs.declared.statements.Stmt.TheVariants.{ThenIf'}
 use Rattle.f77_tree.proofs.AllLemmas.{All-get}
-use Rattle.f77_layout.specs.declared.layout_end.LayoutEnd.TheVariants.{TypeWrong}
-use Rattle.f77_layout.specs.Declarations.{all_declarators, declarators, dims_or_none, dims_told, is_array}
-use Rattle.f77_layout.specs.Faults.{first_answer, first_line}
-use Rattle.f77_layout.specs.Layout.{at_line, names_of, refusals}
-use Rattle.f77_layout.specs.Source.{IsSource}
-use Rattle.f77_layout.specs.StatementTrees.{IsTree}
-use Rattle.f77_layout.specs.TypeFaults.{has_wrong_type, implies_twice, is_beside_none, types_twice}
-use Rattle.f77_layout.specs.Types.{is_array_in, is_well_kinded}
-use Rattle.f77_layout.proofs.LabelLemmas.{faultless}
-use Rattle.f77_layout.proofs.NameTable.{arrays_in_table}
+use Rattle.layout_rules.specs.declared.layout_end.LayoutEnd.TheVariants.{TypeWrong}
+use Rattle.layout_rules.specs.Declarations.{all_declarators, declarators, dims_or_none, dims_told, is_array}
+use Rattle.layout_rules.specs.Faults.{first_answer, first_line}
+use Rattle.layout_rules.specs.Layout.{at_line, names_of, refusals}
+use Rattle.layout_rules.specs.Source.{IsSource}
+use Rattle.layout_rules.specs.StatementTrees.{IsTree}
+use Rattle.layout_rules.specs.TypeFaults.{has_wrong_type, implies_twice, is_beside_none, types_twice}
+use Rattle.layout_rules.specs.Types.{is_array_in, is_well_kinded}
+use Rattle.control_structure.proofs.LabelLemmas.{faultless}
+use Rattle.storage_laws.proofs.NameTable.{arrays_in_table}
 use Rattle.f77_subs.specs.Refusals.{unit_refusal}
 use Rattle.f77_subs.specs.Texts.{IsText}
 use Rattle.f77_subs.specs.Units.{stand_in, standing_in, unit_at, unit_or_none, units}

@@ -10,11 +10,11 @@ use Rattle.f77_tree.specs.declared.declarations.CommonPart.{CommonPart}
 use Rattle.f77_tree.specs.declared.declarations.Decl.{Decl}
 use Rattle.f77_tree.specs.declared.statements.Labelled.{Labelled}
 use Rattle.f77_tree.specs.Places.{same_block}
-use Rattle.f77_layout.specs.Declarations.{all_commons}
-use Rattle.f77_layout.specs.Faults.{answer_or, first_answer, has_repeat}
-use Rattle.f77_layout.proofs.DeclaredOnce.{one_place}
-use Rattle.f77_layout.proofs.FirstLine.{has_repeat-append}
-use Rattle.f77_layout.proofs.NameEntries.{bytes_eq-sym}
+use Rattle.layout_rules.specs.Declarations.{all_commons}
+use Rattle.layout_rules.specs.Faults.{answer_or, first_answer, has_repeat}
+use Rattle.storage_laws.proofs.DeclaredOnce.{one_place}
+use Rattle.layout_rules.proofs.FirstLine.{has_repeat-append}
+use Rattle.symbol_table.proofs.NameEntries.{bytes_eq-sym}
 use Rattle.f77_subs.specs.declared.entity.Entity.{Entity}
 use Rattle.f77_subs.specs.declared.entity.Entity.TheVariants.{InBlock}
 use Rattle.f77_subs.specs.Entities.{block_list, entity_of, entity_or}

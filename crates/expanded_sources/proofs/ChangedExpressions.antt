@@ -12,10 +12,10 @@ use Rattle.f77_tree.specs.declared.programs.NameInfo.{NameInfo}
 use Rattle.f77_tree.specs.declared.statements.RawExpr.{RawExpr, Row_of-RawExpr, end_of-RawExpr, more_of-RawExpr}
 use Rattle.f77_tree.specs.declared.statements.RawExpr.TheVariants.{Int, Truth, Named, Call as Called, Call', Apply'}
 use Rattle.f77_tree.proofs.AllLemmas.{All-cons, All-nil}
-use Rattle.f77_layout.specs.Appearances.{called_name, names_in, names_in_row}
-use Rattle.f77_layout.specs.Functions.{intrinsic_named}
-use Rattle.f77_layout.specs.ReadExpressions.{AllReadings, IsReading}
-use Rattle.f77_layout.specs.Types.{Intrinsic, count_of_row, dims_named, intrinsics, is_array_in, is_intrinsic, is_kind, is_row_of, kind_in, kind_named, kind_of_call, takes}
+use Rattle.layout_rules.specs.Appearances.{called_name, names_in, names_in_row}
+use Rattle.declared_names.specs.Functions.{intrinsic_named}
+use Rattle.layout_rules.specs.ReadExpressions.{AllReadings, IsReading}
+use Rattle.layout_rules.specs.Types.{Intrinsic, count_of_row, dims_named, intrinsics, is_array_in, is_intrinsic, is_kind, is_row_of, kind_in, kind_named, kind_of_call, takes}
 use Rattle.f77_subs.specs.Copies.{Change, changed, changed_call, changed_row, intrinsic_or}
 use Rattle.expanded_sources.proofs.ReadRows.{AreNames, IsFunction, IsReading-Apply, IsReading-Call, applied-names, called-names, function-found, joined, pairs-names, pairs-reading, parted}
 

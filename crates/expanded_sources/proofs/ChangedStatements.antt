@@ -14,18 +14,17 @@ use Rattle.f77_tree.specs.declared.statements.RawItem.TheVariants.{Value, Chars}
 use Rattle.f77_tree.specs.declared.statements.Stmt.{Stmt, more_of-Stmt}
 use Rattle.f77_tree.specs.declared.statements.Stmt.TheVariants.{Assign, Print, Take, Continue, Stop, GoTo, PickGoTo, SignIf, ThenIf, ThenIf', BlockIf, ElseIf, Do, Sub, CallTo, Back}
 use Rattle.f77_tree.proofs.AllLemmas.{All-cons, All-first, All-nil, All-rest}
-use Rattle.f77_layout.specs.Appearances.{appearing, names_if_any, names_in, names_in_item}
-use Rattle.f77_layout.specs.Declarations.{declarators, groups_of, inits_of, parts_of}
-use Rattle.f77_layout.specs.LabelTable.{IsLabel}
-use Rattle.f77_layout.specs.Labels.{jumps, used}
-use Rattle.f77_layout.specs.ReadDeclarations.{IsReadDecl, IsReadDeclaration, IsReadGroup, IsReadInit, IsReadPart}
-use Rattle.f77_layout.specs.ReadExpressions.{IsReading}
-use Rattle.f77_layout.specs.ReadStatements.{IsReadItem, IsReadStatement, IsReadStep, is_guarded}
-use Rattle.f77_layout.specs.StatementTrees.{IsTree}
-use Rattle.f77_layout.specs.Tables.{has_simple_inner, is_simple}
-use Rattle.f77_layout.specs.Types.{is_array_in, is_item, is_kind, is_kind_of_target, is_of_kind, is_step, is_target, is_variable, is_well_kinded, kind_in, kind_named}
-use Rattle.f77_layout.proofs.NamesOf.{appearing-ThenIf}
-use Rattle.f77_layout.proofs.OwnExecutables.{guarded_simple}
+use Rattle.layout_rules.specs.Appearances.{appearing, names_if_any, names_in, names_in_item}
+use Rattle.layout_rules.specs.Declarations.{declarators, groups_of, inits_of, parts_of}
+use Rattle.layout_rules.specs.Labels.{IsLabel, jumps, used}
+use Rattle.layout_rules.specs.ReadDeclarations.{IsReadDecl, IsReadDeclaration, IsReadGroup, IsReadInit, IsReadPart}
+use Rattle.layout_rules.specs.ReadExpressions.{IsReading}
+use Rattle.layout_rules.specs.ReadStatements.{IsReadItem, IsReadStatement, IsReadStep, is_guarded}
+use Rattle.layout_rules.specs.StatementTrees.{IsTree}
+use Rattle.layout_rules.specs.Tables.{has_simple_inner, is_simple}
+use Rattle.layout_rules.specs.Types.{is_array_in, is_item, is_kind, is_kind_of_target, is_of_kind, is_step, is_target, is_variable, is_well_kinded, kind_in, kind_named}
+use Rattle.layout_rules.proofs.NamesOf.{appearing-ThenIf}
+use Rattle.control_structure.proofs.OwnExecutables.{guarded_simple}
 use Rattle.f77_subs.specs.Copies.{Change, changed, changed_item, changed_step, changed_stmt}
 use Rattle.f77_subs.specs.Units.{call_by, call_in, guard_of, stand_in, stand_in_alone, sub_name}
 use Rattle.expanded_sources.proofs.ChangedExpressions.{AreNew, changed-names, changed-reading, some-kind, stays}

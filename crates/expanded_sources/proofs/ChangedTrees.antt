@@ -9,11 +9,11 @@ use Rattle.f77_tree.specs.declared.statements.Labelled.{Labelled}
 use Rattle.f77_tree.specs.declared.statements.RawExpr.{RawExpr}
 use Rattle.f77_tree.specs.declared.statements.Stmt.{Stmt, more_of-Stmt}
 use Rattle.f77_tree.specs.declared.statements.Stmt.TheVariants.{BlockIf, CallTo, ThenIf'}
-use Rattle.f77_layout.specs.Appearances.{appearing, names_in}
-use Rattle.f77_layout.specs.Declarations.{is_array}
-use Rattle.f77_layout.specs.Layout.{names_of}
-use Rattle.f77_layout.specs.StatementTrees.{IsTree}
-use Rattle.f77_layout.proofs.NamesOf.{appearing-ThenIf}
+use Rattle.layout_rules.specs.Appearances.{appearing, names_in}
+use Rattle.layout_rules.specs.Declarations.{is_array}
+use Rattle.layout_rules.specs.Layout.{names_of}
+use Rattle.layout_rules.specs.StatementTrees.{IsTree}
+use Rattle.layout_rules.proofs.NamesOf.{appearing-ThenIf}
 use Rattle.f77_subs.specs.Copies.{Context, changed, changed_stmt, changes}
 use Rattle.f77_subs.specs.Entities.{stands_for}
 use Rattle.f77_subs.specs.Names.{appearing_here, name_for}

@@ -9,15 +9,15 @@ use Rattle.f77_tree.specs.declared.programs.NameInfo.{NameInfo}
 use Rattle.f77_tree.specs.declared.statements.Labelled.{Labelled}
 use Rattle.f77_tree.specs.declared.statements.Stmt.{Stmt, more_of-Stmt}
 use Rattle.f77_tree.specs.declared.statements.Stmt.TheVariants.{Program, Implicit, ImplicitNone, TypeOf, Dimension, Common, Equivalence, Init, Assign, Print, Take, Continue, Stop, GoTo, PickGoTo, SignIf, ThenIf', BlockIf, ElseIf, Else, EndIf, Do, Sub, CallTo, Back, End}
-use Rattle.f77_layout.specs.declared.layout_end.LayoutEnd.TheVariants.{LayoutWrong}
-use Rattle.f77_layout.specs.Declarations.{all_commons, parts_of}
-use Rattle.f77_layout.specs.Faults.{first_line, has_repeat}
-use Rattle.f77_layout.specs.Layout.{at_line, names_of, placed_names, refusals}
-use Rattle.f77_layout.specs.LowestLines.{lower_line, lowest_line}
-use Rattle.f77_layout.specs.StorageFaults.{common_names, has_dims_twice, has_wrong_dims, has_wrong_places, is_common_twice}
-use Rattle.f77_layout.specs.StorageLines.{declares_wrongly, groups_wrongly, initializes_wrongly, storage_line}
-use Rattle.f77_layout.proofs.DeclaredCommon.{common_names-all}
-use Rattle.f77_layout.proofs.DeclaredOnce.{once_in_all}
+use Rattle.layout_rules.specs.declared.layout_end.LayoutEnd.TheVariants.{LayoutWrong}
+use Rattle.layout_rules.specs.Declarations.{all_commons, parts_of}
+use Rattle.layout_rules.specs.Faults.{first_line, has_repeat}
+use Rattle.layout_rules.specs.Layout.{at_line, names_of, placed_names, refusals}
+use Rattle.layout_rules.specs.LowestLines.{lower_line, lowest_line}
+use Rattle.layout_rules.specs.StorageFaults.{common_names, has_dims_twice, has_wrong_dims, has_wrong_places, is_common_twice}
+use Rattle.layout_rules.specs.StorageLines.{declares_wrongly, groups_wrongly, initializes_wrongly, storage_line}
+use Rattle.storage_laws.proofs.DeclaredCommon.{common_names-all}
+use Rattle.storage_laws.proofs.DeclaredOnce.{once_in_all}
 use Rattle.f77_subs.specs.Refusals.{unit_refusal}
 use Rattle.f77_subs.specs.Units.{stand_in, standing_in, unit_at, unit_or_none, units}
 use Rattle.f77_subs.proofs.MainNames.{decl_names}

@@ -3,7 +3,7 @@ use Rattle.std.proofs.Common.{◌≡◌, ℕ, suc, ◌+◌, ◌<◌, ◌≤◌, 
 use Rattle.std.specs.List.{slice_get}
 use Rattle.std.proofs.lemmas.List.Sums.{sum_by-take-le}
 use Rattle.f77_tree.specs.declared.statements.Labelled.{Labelled}
-use Rattle.f77_layout.specs.Labels.{statement_of}
+use Rattle.layout_rules.specs.Labels.{statement_of}
 use Rattle.f77_subs.specs.Copies.{Context, call_at, changes, end_by, number_at}
 use Rattle.f77_subs.specs.Units.{Call, call_in, unit_at, unit_of}
 use Rattle.f77_subs.specs.Widths.{body_labels, is_kept, labels, labels_by}

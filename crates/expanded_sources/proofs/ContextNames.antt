@@ -8,8 +8,8 @@ use Rattle.std.proofs.lemmas.List.Elements.{Contains-append_right}
 use Rattle.std.proofs.lemmas.Option.{slice_get_within}
 use Rattle.f77_tree.specs.Name.{is_name}
 use Rattle.f77_tree.specs.declared.statements.Labelled.{Labelled}
-use Rattle.f77_layout.specs.Declarations.{is_array}
-use Rattle.f77_layout.specs.Faults.{first_line}
+use Rattle.layout_rules.specs.Declarations.{is_array}
+use Rattle.layout_rules.specs.Faults.{first_line}
 use Rattle.f77_subs.specs.declared.sub_end.SubEnd.TheVariants.{BadCall, UnitOrder}
 use Rattle.f77_subs.specs.declared.entity.Entity.{Entity}
 use Rattle.f77_subs.specs.Entities.{entity_at, entity_of, stands_for}

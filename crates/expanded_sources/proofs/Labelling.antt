@@ -1,6 +1,6 @@
 -- The labels that a copy's statements name.
 use Rattle.std.proofs.Common.{ℕ}
-use Rattle.f77_layout.specs.LabelTable.{IsLabel}
+use Rattle.layout_rules.specs.Labels.{IsLabel}
 use Rattle.f77_subs.specs.Copies.{Change}
 
 -- whatever label is changed, the new one is a label

@@ -7,10 +7,10 @@ use Rattle.std.proofs.lemmas.List.FromFn.{length-range_with_len}
 use Rattle.f77_tree.specs.declared.statements.Labelled.{Labelled}
 use Rattle.f77_tree.specs.declared.statements.Stmt.{Stmt}
 use Rattle.f77_tree.specs.declared.statements.Stmt.TheVariants.{End}
-use Rattle.f77_layout.specs.Faults.{first_answer}
-use Rattle.f77_layout.specs.Order.{rank}
-use Rattle.f77_layout.specs.Source.{EndsWithEnd}
-use Rattle.f77_layout.proofs.FirstLine.{first_answer-append}
+use Rattle.layout_rules.specs.Faults.{first_answer}
+use Rattle.layout_rules.specs.Order.{rank}
+use Rattle.layout_rules.specs.Source.{EndsWithEnd}
+use Rattle.layout_rules.proofs.FirstLine.{first_answer-append}
 use Rattle.f77_subs.specs.declared.sub_end.SubEnd.{SubEnd}
 use Rattle.f77_subs.specs.Copies.{Copying, copy, piece, pieces}
 use Rattle.f77_subs.specs.Expansion.{declared_first, main_context, main_pieces, put_in, total_width, whole_list}

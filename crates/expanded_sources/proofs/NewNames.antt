@@ -8,8 +8,8 @@ use Rattle.std.proofs.lemmas.Option.{slice_get-get_or}
 use Rattle.f77_tree.specs.Name.{is_name}
 use Rattle.f77_tree.specs.declared.declarations.CommonPart.{CommonPart}
 use Rattle.f77_tree.specs.declared.statements.Labelled.{Labelled}
-use Rattle.f77_layout.specs.Declarations.{all_commons}
-use Rattle.f77_layout.specs.Faults.{answer_or, first_answer}
+use Rattle.layout_rules.specs.Declarations.{all_commons}
+use Rattle.layout_rules.specs.Faults.{answer_or, first_answer}
 use Rattle.f77_subs.specs.declared.sub_end.SubEnd.TheVariants.{BadBlock, TooManyNames}
 use Rattle.f77_subs.specs.declared.entity.Entity.{Entity}
 use Rattle.f77_subs.specs.declared.entity.Entity.TheVariants.{InBlock}

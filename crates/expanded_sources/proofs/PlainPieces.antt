@@ -8,8 +8,8 @@ use Rattle.f77_tree.specs.declared.statements.Stmt.{Stmt}
 use Rattle.f77_tree.specs.declared.statements.Stmt.TheVariants.{Equivalence, Init, Sub}
 use Rattle.f77_tree.specs.Grammar.{reading}
 use Rattle.f77_tree.specs.StatementGrammar.{IsGiven, IsStatement, WrittenStatement, is_of_subroutines, is_simple, statement_of}
-use Rattle.f77_layout.specs.Faults.{first_line}
-use Rattle.f77_layout.specs.Layout.{last_line}
+use Rattle.layout_rules.specs.Faults.{first_line}
+use Rattle.layout_rules.specs.Layout.{last_line}
 use Rattle.f77_subs.specs.declared.sub_end.SubEnd.TheVariants.{UnitOrder}
 use Rattle.f77_subs.specs.Copies.{Change, Context, changed, changed_stmt, changes, number_at}
 use Rattle.f77_subs.specs.Entities.{stands_for}

@@ -14,11 +14,11 @@ use Rattle.f77_tree.specs.declared.declarations.Member.{Member}
 use Rattle.f77_tree.specs.declared.statements.Labelled.{Labelled}
 use Rattle.f77_tree.specs.declared.statements.Stmt.{Stmt}
 use Rattle.f77_tree.specs.declared.statements.Stmt.TheVariants.{Equivalence, Init}
-use Rattle.f77_layout.specs.LabelTable.{IsLabel}
-use Rattle.f77_layout.specs.Layout.{last_line}
-use Rattle.f77_layout.specs.ReadDeclarations.{IsReadDecl, IsReadGroup, IsReadInit, IsReadPart}
-use Rattle.f77_layout.specs.StatementTrees.{IsTree}
-use Rattle.f77_layout.proofs.DeclaredForms.{All-flat_map}
+use Rattle.layout_rules.specs.Labels.{IsLabel}
+use Rattle.layout_rules.specs.Layout.{last_line}
+use Rattle.layout_rules.specs.ReadDeclarations.{IsReadDecl, IsReadGroup, IsReadInit, IsReadPart}
+use Rattle.layout_rules.specs.StatementTrees.{IsTree}
+use Rattle.storage_laws.proofs.DeclaredForms.{All-flat_map}
 use Rattle.f77_subs.specs.declared.entity.Entity.{Entity}
 use Rattle.f77_subs.specs.Expansion.{block_size, blocks, common_decl, common_of, datas, init_for, is_running, members_for, put_in, ties, type_decl, type_of, units_but_main}
 use Rattle.f77_subs.specs.Entities.{entity_of}

@@ -12,10 +12,10 @@ use Rattle.f77_tree.specs.Name.{is_name}
 use Rattle.f77_tree.specs.declared.statements.RawExpr.{RawExpr, Call, Apply, Row_of-RawExpr, end_of-RawExpr, more_of-RawExpr, items-the_row-RawExpr, items_hidden-the_row-RawExpr-0}
 use Rattle.f77_tree.proofs.AllLemmas.{All-cons, All-first, All-nil, All-rest}
 use Rattle.f77_tree.proofs.NameLemmas.{bytes_eq-same}
-use Rattle.f77_layout.specs.Appearances.{called_name, names_in}
-use Rattle.f77_layout.specs.ReadExpressions.{AllReadings, IsReading}
-use Rattle.f77_layout.specs.Types.{Intrinsic, count_of_row, intrinsics, is_intrinsic, takes}
-use Rattle.f77_layout.proofs.NamesIn.{names_in-Apply, names_in-Call}
+use Rattle.layout_rules.specs.Appearances.{called_name, names_in}
+use Rattle.layout_rules.specs.ReadExpressions.{AllReadings, IsReading}
+use Rattle.layout_rules.specs.Types.{Intrinsic, count_of_row, intrinsics, is_intrinsic, takes}
+use Rattle.layout_rules.proofs.NamesIn.{names_in-Apply, names_in-Call}
 use Rattle.f77_subs.specs.Copies.{pairs}
 use Rattle.f77_subs.proofs.ChangedRows.{row_of}
 

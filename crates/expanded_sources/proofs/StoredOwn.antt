@@ -7,9 +7,9 @@ use Rattle.std.proofs.lemmas.List.Folds.{list_any-append}
 use Rattle.std.proofs.lemmas.List.Sums.{sum_by-append, sum_by-cons}
 use Rattle.f77_tree.proofs.NameLemmas.{bytes_eq-same}
 use Rattle.f77_tree.specs.declared.statements.Labelled.{Labelled}
-use Rattle.f77_layout.specs.Appearances.{appearing}
-use Rattle.f77_layout.specs.Declarations.{is_array}
-use Rattle.f77_layout.specs.Faults.{first_after, first_line, has_repeat}
+use Rattle.layout_rules.specs.Appearances.{appearing}
+use Rattle.layout_rules.specs.Declarations.{is_array}
+use Rattle.layout_rules.specs.Faults.{first_after, first_line, has_repeat}
 use Rattle.f77_subs.specs.declared.sub_end.SubEnd.TheVariants.{BadCall}
 use Rattle.f77_subs.specs.Refusals.{calls_wrongly, end_at, has_bad_call, has_wrong_dummy, is_of_storage, names_of_storage, unit_below, unit_refusal, unit_refusals}
 use Rattle.f77_subs.specs.Units.{call_in, dummies_of, in_first, is_end, sub_dummies, unit_at, units}

@@ -17,9 +17,9 @@ use Rattle.f77_tree.specs.declared.declarations.Decl.{Decl}
 use Rattle.f77_tree.specs.declared.statements.Labelled.{Labelled}
 use Rattle.f77_tree.specs.declared.statements.Stmt.{Stmt}
 use Rattle.f77_tree.specs.declared.statements.Stmt.TheVariants.{Common}
-use Rattle.f77_layout.specs.Appearances.{appearing}
-use Rattle.f77_layout.specs.Declarations.{all_commons, parts_of}
-use Rattle.f77_layout.proofs.SymbolicNames.{given_symbolic}
+use Rattle.layout_rules.specs.Appearances.{appearing}
+use Rattle.layout_rules.specs.Declarations.{all_commons, parts_of}
+use Rattle.storage_laws.proofs.SymbolicNames.{given_symbolic}
 use Rattle.f77_subs.specs.Entities.{block_list}
 use Rattle.f77_subs.specs.Names.{names_of_unit, option_names, y_text, zeros}
 use Rattle.f77_subs.specs.Texts.{IsText}

@@ -6,9 +6,9 @@ use Rattle.std.proofs.lemmas.List.FromFn.{length-range_with_len}
 use Rattle.f77_tree.proofs.AllLemmas.{All-nil}
 use Rattle.f77_tree.specs.declared.statements.Labelled.{Labelled}
 use Rattle.f77_tree.specs.declared.statements.Stmt.TheVariants.{Continue, EndIf}
-use Rattle.f77_layout.specs.LabelTable.{IsLabel}
-use Rattle.f77_layout.specs.ReadDeclarations.{IsReadDecl, IsReadGroup, IsReadInit, IsReadPart}
-use Rattle.f77_layout.specs.StatementTrees.{IsTree}
+use Rattle.layout_rules.specs.Labels.{IsLabel}
+use Rattle.layout_rules.specs.ReadDeclarations.{IsReadDecl, IsReadGroup, IsReadInit, IsReadPart}
+use Rattle.layout_rules.specs.StatementTrees.{IsTree}
 use Rattle.f77_subs.specs.Copies.{Context, changes, number_at}
 use Rattle.f77_subs.specs.Entities.{stands_for}
 use Rattle.f77_subs.specs.Expansion.{main_context, whole_list}

@@ -10,10 +10,10 @@ use Rattle.f77_tree.specs.declared.declarations.Decl.{Decl}
 use Rattle.f77_tree.specs.declared.declarations.Dim.{Dim}
 use Rattle.f77_tree.specs.declared.statements.Labelled.{Labelled}
 use Rattle.f77_tree.specs.Places.{same_block}
-use Rattle.f77_layout.specs.Declarations.{all_commons, all_declarators, declarators, dims_of, dims_or_none, dims_told, has_dims, parts_of}
-use Rattle.f77_layout.specs.Faults.{answer_or, first_answer}
-use Rattle.f77_layout.specs.ReadDeclarations.{IsReadDecl, IsReadDeclaration, IsReadDims, IsReadPart}
-use Rattle.f77_layout.proofs.DeclaredForms.{All-flat_map, given-IsReadDeclaration}
+use Rattle.layout_rules.specs.Declarations.{all_commons, all_declarators, declarators, dims_of, dims_or_none, dims_told, has_dims, parts_of}
+use Rattle.layout_rules.specs.Faults.{answer_or, first_answer}
+use Rattle.layout_rules.specs.ReadDeclarations.{IsReadDecl, IsReadDeclaration, IsReadDims, IsReadPart}
+use Rattle.storage_laws.proofs.DeclaredForms.{All-flat_map, given-IsReadDeclaration}
 use Rattle.f77_subs.specs.declared.entity.Entity.{Entity}
 use Rattle.f77_subs.specs.declared.entity.Entity.TheVariants.{InBlock, Local}
 use Rattle.f77_subs.specs.Entities.{block_list}

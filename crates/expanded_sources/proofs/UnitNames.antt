@@ -5,7 +5,7 @@ use Rattle.std.specs.List.{list_any, slice_get}
 use Rattle.std.proofs.lemmas.Bool.{or_right}
 use Rattle.f77_tree.proofs.NameLemmas.{bytes_eq-same}
 use Rattle.f77_tree.specs.declared.statements.Labelled.{Labelled}
-use Rattle.f77_layout.specs.Declarations.{is_array}
+use Rattle.layout_rules.specs.Declarations.{is_array}
 use Rattle.f77_subs.specs.Names.{appearing_here, names_of_unit, own_names}
 use Rattle.f77_subs.specs.Units.{dummies_of, unit_at}
 use Rattle.f77_subs.proofs.StoredNames.{told-all}

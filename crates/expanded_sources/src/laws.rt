@@ -1,7 +1,7 @@
 //! A law of expansions: they can be laid out.
 ghost use Rattle.std.specs.Prelude.{◌≡◌, Bool, List, Ok};
 ghost use Rattle.f77_tree.specs.declared.statements.Labelled.{Labelled};
-ghost use Rattle.f77_layout.specs.Source.{IsSource};
+ghost use Rattle.layout_rules.specs.Source.{IsSource};
 ghost use Rattle.f77_subs.specs.Refusals.{expansion};
 ghost use Rattle.f77_subs.specs.Texts.{IsText};
 

@@ -1,14 +1,14 @@
 -- What is told of an answer of the layout.
 use Rattle.std.proofs.Common.{◌≡◌, ◌≢◌, Bool, List, Result, Ok, Err, IfOk, IfErr, refl}
 use Rattle.f77_tree.specs.declared.programs.Program.{Program}
-use Rattle.f77_layout.specs.declared.layout_end.LayoutEnd.{LayoutEnd}
-use Rattle.f77_layout.specs.declared.layout_end.LayoutEnd.TheVariants.{OutOfOrder, RealName, TypeWrong, LayoutWrong, LabelTwice, LabelMissing, BadNesting, JumpInto, TooManyWords, TooManyOps, NoMemory}
+use Rattle.layout_rules.specs.declared.layout_end.LayoutEnd.{LayoutEnd}
+use Rattle.layout_rules.specs.declared.layout_end.LayoutEnd.TheVariants.{OutOfOrder, RealName, TypeWrong, LayoutWrong, LabelTwice, LabelMissing, BadNesting, JumpInto, TooManyWords, TooManyOps, NoMemory}
 use Rattle.f77_tree.specs.declared.statements.Labelled.{Labelled}
 use Rattle.f77_tree.specs.Operations.{HasFewOperations}
 use Rattle.f77_tree.specs.WellFormed.{IsWellFormed}
 use Rattle.f77_layout.specs.Answers.{IsLaidAs}
-use Rattle.f77_layout.specs.Layout.{layout}
-use Rattle.f77_layout.specs.Source.{IsSource}
+use Rattle.layout_rules.specs.Layout.{layout}
+use Rattle.layout_rules.specs.Source.{IsSource}
 use Rattle.f77_layout.proofs.WellFormedPrograms.{laid-few_operations, laid-well_formed}
 
 pub laid_accepted : (laid result : Result Program LayoutEnd) → IsLaidAs laid result → IfOk result (λ program. laid ≡ Ok program)

@@ -2,13 +2,13 @@
 use Rattle.std.proofs.Common.{◌≡◌, false, ◌∙◌}
 use Rattle.f77_tree.specs.declared.statements.Stmt.{Stmt}
 use Rattle.f77_tree.specs.StatementGrammar.{IsGiven, is_of_subroutines}
-use Rattle.f77_layout.specs.StatementTrees.{IsTree}
-use Rattle.f77_layout.proofs.DeclaredForms.{given-IsReadDeclaration}
+use Rattle.layout_rules.specs.StatementTrees.{IsTree}
+use Rattle.storage_laws.proofs.DeclaredForms.{given-IsReadDeclaration}
 use Rattle.f77_layout.proofs.LabelsLead.{taken_some}
-use Rattle.f77_layout.proofs.ProperStatements.{given-IsReadStatement}
-use Rattle.f77_layout.proofs.SymbolicNames.{given_symbolic}
-use Rattle.f77_layout.proofs.Usable.{inner_given}
-use Rattle.f77_layout.proofs.UsedLabels.{used-given}
+use Rattle.form_laws.proofs.ProperStatements.{given-IsReadStatement}
+use Rattle.storage_laws.proofs.SymbolicNames.{given_symbolic}
+use Rattle.control_structure.proofs.Usable.{inner_given}
+use Rattle.control_structure.proofs.UsedLabels.{used-given}
 
 pub given-IsTree : (stmt : Stmt) → IsGiven stmt → is_of_subroutines stmt ≡ false → IsTree stmt
 given-IsTree stmt given none = record {

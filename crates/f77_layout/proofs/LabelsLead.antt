@@ -13,17 +13,16 @@ use Rattle.f77_tree.specs.declared.statements.Stmt.{Stmt, more_of-Stmt}
 use Rattle.f77_tree.specs.declared.statements.Stmt.TheVariants.{Program as Program', Implicit, ImplicitNone, TypeOf, Dimension, Common, Equivalence, Init, Sub, Take, Else, ThenIf'}
 use Rattle.f77_tree.specs.StatementGrammar.{WrittenStatement, IsStatement, statement_of as stmt_of}
 use Rattle.f77_tree.specs.Grammar.{reading}
-use Rattle.f77_layout.specs.Executables.{beyond, first_of, increments, labelled, loops_to, own_executables, own_kinds, executables}
-use Rattle.f77_layout.specs.Labels.{bears, used, lacks_label, statement_of, is_executable, is_arm}
-use Rattle.f77_layout.specs.Layout.{layout, names_of}
+use Rattle.layout_rules.specs.Executables.{beyond, first_of, increments, labelled, loops_to, own_executables, own_kinds, executables}
+use Rattle.layout_rules.specs.Labels.{bears, used, lacks_label, statement_of, is_executable, is_arm, IsLabel}
+use Rattle.layout_rules.specs.Layout.{layout, names_of}
 use Rattle.f77_layout.specs.Leading.{IsLedTo}
-use Rattle.f77_layout.specs.Source.{IsSource}
-use Rattle.f77_layout.specs.LabelTable.{IsLabel}
-use Rattle.f77_layout.proofs.LabelLemmas.{faultless, statement_of-own}
-use Rattle.f77_layout.proofs.LoopPlaces.{length-own_kinds, own-at, end-at}
-use Rattle.f77_layout.proofs.SourceLabels.{tree_at}
-use Rattle.f77_layout.proofs.Usable.{usable}
-use Rattle.f77_layout.proofs.UsedLabels.{used_labels}
+use Rattle.layout_rules.specs.Source.{IsSource}
+use Rattle.control_structure.proofs.LabelLemmas.{faultless, statement_of-own}
+use Rattle.control_laws.proofs.LoopPlaces.{length-own_kinds, own-at, end-at}
+use Rattle.control_structure.proofs.SourceTrees.{tree_at}
+use Rattle.control_structure.proofs.Usable.{usable}
+use Rattle.control_structure.proofs.UsedLabels.{used_labels}
 use Rattle.f77_layout.proofs.WellFormedPrograms.{AreFaultless, laid-faultless, laid-is}
 
 -- ---- statements have executables

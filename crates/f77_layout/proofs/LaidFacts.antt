@@ -3,14 +3,14 @@ use Rattle.std.proofs.Common.{◌≡◌, ℕ, suc, zero, Bool, List, [], ◌∷�
 use Rattle.std.specs.Prelude.{slice_get}
 use Rattle.f77_tree.specs.declared.programs.Program.{Program}
 use Rattle.f77_tree.specs.declared.statements.Labelled.{Labelled}
-use Rattle.f77_layout.specs.declared.layout_end.LayoutEnd.{LayoutEnd}
-use Rattle.f77_layout.specs.declared.layout_end.LayoutEnd.TheVariants.{BadNesting, LayoutWrong}
-use Rattle.f77_layout.specs.Faults.{first_answer, first_line}
-use Rattle.f77_layout.specs.Layout.{at_line, layout, names_of, placed_names, program, refusal, refusals, unless_refused}
-use Rattle.f77_layout.specs.Nesting.{first_unnested}
-use Rattle.f77_layout.specs.StorageFaults.{has_wrong_storage}
-use Rattle.f77_layout.specs.StorageLines.{storage_line}
-use Rattle.f77_layout.proofs.FaultLines.{no-storage-fault}
+use Rattle.layout_rules.specs.declared.layout_end.LayoutEnd.{LayoutEnd}
+use Rattle.layout_rules.specs.declared.layout_end.LayoutEnd.TheVariants.{BadNesting, LayoutWrong}
+use Rattle.layout_rules.specs.Faults.{first_answer, first_line}
+use Rattle.layout_rules.specs.Layout.{at_line, layout, names_of, placed_names, program, refusal, refusals, unless_refused}
+use Rattle.layout_rules.specs.Nesting.{first_unnested}
+use Rattle.layout_rules.specs.StorageFaults.{has_wrong_storage}
+use Rattle.layout_rules.specs.StorageLines.{storage_line}
+use Rattle.storage_checks.proofs.FaultLines.{no-storage-fault}
 
 no-answer : {B : Type 0} (answers : List (Option B)) → first_answer (λ r. r) answers ≡ None → (k : ℕ) (o : Option B) → slice_get answers k ≡ Some o → o ≡ None
 no-answer [] none k o at = let h : None ≡ Some o = at in absurd cc

@@ -11,25 +11,26 @@ use Rattle.f77_tree.specs.declared.programs.Exec.{Exec}
 use Rattle.f77_tree.specs.declared.programs.NameInfo.{NameInfo}
 use Rattle.f77_tree.specs.declared.programs.Program.{Program}
 use Rattle.f77_tree.specs.declared.statements.Labelled.{Labelled}
-use Rattle.f77_layout.specs.declared.equations.Placing.{Placing}
-use Rattle.f77_layout.specs.declared.equations.Placing.TheVariants.{Right}
-use Rattle.f77_layout.specs.declared.storages.Storages.{Storages}
-use Rattle.f77_layout.specs.declared.word_numbers.WordNumbers.{WordNumbers}
-use Rattle.f77_layout.specs.Declarations.{all_commons, all_groups, all_inits}
-use Rattle.f77_layout.specs.Faults.{first_line}
-use Rattle.f77_layout.specs.Layout.{names_of, placed_names, spots_of}
-use Rattle.f77_layout.specs.PlacedNames.{with_places, ArePlaces}
+use Rattle.storage_association.specs.declared.equations.Placing.{Placing}
+use Rattle.storage_association.specs.declared.equations.Placing.TheVariants.{Right}
+use Rattle.storage_association.specs.declared.storages.Storages.{Storages}
+use Rattle.storage_association.specs.declared.word_numbers.WordNumbers.{WordNumbers}
+use Rattle.layout_rules.specs.Declarations.{all_commons, all_groups, all_inits}
+use Rattle.layout_rules.specs.Faults.{first_line}
+use Rattle.layout_rules.specs.Layout.{names_of, placed_names, spots_of}
+use Rattle.layout_rules.specs.PlacedNames.{with_places, ArePlaces}
 use Rattle.f77_layout.specs.Stages.{AreStored}
-use Rattle.f77_layout.specs.Standings.{IsPlaced, IsPlacing, firsts_of}
-use Rattle.f77_layout.specs.Storage.{Spot, place_of, words_in_all, spots_by, standings, equations}
-use Rattle.f77_layout.specs.StorageLines.{storage_line}
-use Rattle.f77_layout.specs.StorageFaults.{is_member, has_wrong_part, has_wrong_storage}
-use Rattle.f77_layout.specs.Storages.{AreStorages}
-use Rattle.f77_layout.specs.Trees.{AreLowest}
-use Rattle.f77_layout.specs.WordNumbers.{AreNumbers}
-use Rattle.f77_layout.proofs.Numbering.{all-few}
-use Rattle.f77_layout.proofs.PlacedWords.{within-all}
-use Rattle.f77_layout.proofs.RightStorage.{placed_names-places, right_dims_of, right_items_of, right_data_of}
+use Rattle.layout_rules.specs.Standings.{firsts_of}
+use Rattle.storage_association.specs.CommonStorages.{IsPlaced, IsPlacing}
+use Rattle.layout_rules.specs.Storage.{Spot, place_of, words_in_all, spots_by, standings, equations}
+use Rattle.layout_rules.specs.StorageLines.{storage_line}
+use Rattle.layout_rules.specs.StorageFaults.{is_member, has_wrong_part, has_wrong_storage}
+use Rattle.storage_association.specs.Storages.{AreStorages}
+use Rattle.layout_rules.specs.Spots.{AreLowest}
+use Rattle.storage_association.specs.WordNumbers.{AreNumbers}
+use Rattle.storage_association.proofs.Numbering.{all-few}
+use Rattle.storage_laws.proofs.PlacedWords.{within-all}
+use Rattle.storage_laws.proofs.RightStorage.{placed_names-places, right_dims_of, right_items_of, right_data_of}
 
 -- ---- the numbers of words
 

@@ -1,7 +1,7 @@
 -- Names with places, one more at a time.
 use Rattle.std.proofs.Common.{◌≡◌, ℕ, zero, suc, ◌+◌, ◌<◌, List, [], ◌∷◌, ◌++◌, length, get_or, take, Some, slice_get, refl, ap, subst, ◌∙◌, arith}
 use Rattle.f77_tree.specs.declared.programs.NameInfo.{NameInfo}
-use Rattle.f77_layout.specs.PlacedNames.{with_places}
+use Rattle.layout_rules.specs.PlacedNames.{with_places}
 
 abbrev placed_first : List NameInfo → List ℕ → ℕ → List NameInfo
 placed_first names places k = with_places (take k names) (take k places)

@@ -5,7 +5,7 @@ use Rattle.std.specs.List.{list_any}
 use Rattle.std.proofs.lemmas.Bool.Decides.{nat_tests}
 use Rattle.std.proofs.lemmas.List.Folds.{list_any_more}
 use Rattle.f77_tree.specs.declared.statements.Labelled.{Labelled}
-use Rattle.f77_layout.specs.Order.{rank}
+use Rattle.layout_rules.specs.Order.{rank}
 
 -- a statement of the rank r may not follow statements of which g is the greatest rank, a PROGRAM among them or not
 abbrev pub is_late : (g : ℕ) (p : Bool) (r : ℕ) → Bool

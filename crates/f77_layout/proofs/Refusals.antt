@@ -1,18 +1,18 @@
 -- Which refusal is told, by the faults that statements have and don't have.
 use Rattle.std.proofs.Common.{◌≡◌, ℕ, Bool, List, [], Some, None, Ok, Err, refl}
 use Rattle.f77_tree.specs.declared.statements.Labelled.{Labelled}
-use Rattle.f77_layout.specs.declared.layout_end.LayoutEnd.TheVariants.{OutOfOrder, RealName, TypeWrong, LayoutWrong, LabelTwice, LabelMissing, BadNesting, JumpInto, TooManyWords, TooManyOps}
-use Rattle.f77_layout.specs.Faults.{first_line}
-use Rattle.f77_layout.specs.Appearances.{has_real_name}
-use Rattle.f77_layout.specs.Order.{is_out_of_order}
-use Rattle.f77_layout.specs.TypeFaults.{has_wrong_type}
-use Rattle.f77_layout.specs.StorageLines.{storage_line}
-use Rattle.f77_layout.specs.Labels.{is_labelled_twice, lacks_label}
-use Rattle.f77_layout.specs.Nesting.{first_unnested}
-use Rattle.f77_layout.specs.Jumps.{jumps_into}
-use Rattle.f77_layout.specs.Counts.{is_too_great}
-use Rattle.f77_layout.specs.LowestLines.{lowest_line}
-use Rattle.f77_layout.specs.Layout.{names_of, placed_names, line_of_words, layout, program}
+use Rattle.layout_rules.specs.declared.layout_end.LayoutEnd.TheVariants.{OutOfOrder, RealName, TypeWrong, LayoutWrong, LabelTwice, LabelMissing, BadNesting, JumpInto, TooManyWords, TooManyOps}
+use Rattle.layout_rules.specs.Faults.{first_line}
+use Rattle.layout_rules.specs.Appearances.{has_real_name}
+use Rattle.layout_rules.specs.Order.{is_out_of_order}
+use Rattle.layout_rules.specs.TypeFaults.{has_wrong_type}
+use Rattle.layout_rules.specs.StorageLines.{storage_line}
+use Rattle.layout_rules.specs.Labels.{is_labelled_twice, lacks_label}
+use Rattle.layout_rules.specs.Nesting.{first_unnested}
+use Rattle.layout_rules.specs.Jumps.{jumps_into}
+use Rattle.layout_rules.specs.Counts.{is_too_great}
+use Rattle.layout_rules.specs.LowestLines.{lowest_line}
+use Rattle.layout_rules.specs.Layout.{names_of, placed_names, line_of_words, layout, program}
 
 module _ (stmts : List Labelled) (checked : Bool) where
   pub out_of_order : (line : ℕ) → first_line is_out_of_order stmts ≡ Some line → layout stmts checked ≡ Err (OutOfOrder line)

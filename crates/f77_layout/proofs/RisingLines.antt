@@ -3,8 +3,8 @@ use Rattle.std.proofs.Common.{◌≡◌, ℕ, suc, ◌<◌, Bool, true, false, c
 use Rattle.std.specs.Prelude.{slice_get}
 use Rattle.std.proofs.lemmas.Bool.{le-ltb}
 use Rattle.f77_tree.specs.declared.statements.Labelled.{Labelled}
-use Rattle.f77_layout.specs.Faults.{first_after, first_line}
-use Rattle.f77_layout.specs.LowestLines.{lower_or, lowest_after, lowest_line, LinesRise}
+use Rattle.layout_rules.specs.Faults.{first_after, first_line}
+use Rattle.layout_rules.specs.LowestLines.{lower_or, lowest_after, lowest_line, LinesRise}
 
 module _ (fault : List Labelled → Labelled → Bool) where
   -- no line with a fault is lower, where all are greater

@@ -9,16 +9,16 @@ use Rattle.f77_tree.specs.declared.statements.Labelled.{Labelled}
 use Rattle.f77_tree.specs.declared.statements.Stmt.{Stmt}
 use Rattle.f77_tree.specs.declared.statements.Stmt.TheVariants.{TypeOf, Dimension, Common, Equivalence}
 use Rattle.f77_tree.specs.InitialWords.{part_words}
-use Rattle.f77_layout.specs.Counts.{asks_too_much, is_too_great}
-use Rattle.f77_layout.specs.Declarations.{all_inits, declarators, inits_of}
-use Rattle.f77_layout.specs.Faults.{answer_or, first_after, first_line, has_repeat}
-use Rattle.f77_layout.specs.LowestLines.{lower_line, lower_or, lowest_line, LinesRise}
-use Rattle.f77_layout.specs.Order.{is_out_of_order, rank}
-use Rattle.f77_layout.specs.StorageFaults.{are_wrong_dims, common_names, dimensioned, is_data, is_member, has_dims_twice, has_wrong_data, has_wrong_declaration, has_wrong_dims, has_wrong_member, has_wrong_part, has_wrong_places, has_wrong_storage, is_common_twice, members_of}
-use Rattle.f77_layout.specs.StorageLines.{declares_wrongly, given_by, initializes_wrongly, storage_line}
-use Rattle.f77_layout.proofs.FaultLines.{by-test, and-from, first-great, gives-all, given-push, no-inits, same-values}
+use Rattle.layout_rules.specs.Counts.{asks_too_much, is_too_great}
+use Rattle.layout_rules.specs.Declarations.{all_inits, declarators, inits_of}
+use Rattle.layout_rules.specs.Faults.{answer_or, first_after, first_line, has_repeat}
+use Rattle.layout_rules.specs.LowestLines.{lower_line, lower_or, lowest_line, LinesRise}
+use Rattle.layout_rules.specs.Order.{is_out_of_order, rank}
+use Rattle.layout_rules.specs.StorageFaults.{are_wrong_dims, common_names, dimensioned, is_data, is_member, has_dims_twice, has_wrong_data, has_wrong_declaration, has_wrong_dims, has_wrong_member, has_wrong_part, has_wrong_places, has_wrong_storage, is_common_twice, members_of}
+use Rattle.layout_rules.specs.StorageLines.{declares_wrongly, given_by, initializes_wrongly, storage_line}
+use Rattle.storage_checks.proofs.FaultLines.{by-test, and-from, first-great, gives-all, given-push, no-inits, same-values}
 use Rattle.f77_layout.proofs.RisingLines.{lowest-first, not-lower}
-use Rattle.f77_layout.proofs.StorageLines.{after_clear, after_here, after_next, comes_late, data_late, late_rank, no_places_after, still_late}
+use Rattle.layout_rules.proofs.StorageLines.{after_clear, after_here, after_next, comes_late, data_late, late_rank, no_places_after, still_late}
 
 abbrev Fault : Type 0
 Fault = List Labelled → Labelled → Bool

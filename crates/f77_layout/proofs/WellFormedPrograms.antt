@@ -4,28 +4,28 @@ use Rattle.f77_tree.specs.declared.programs.Program.{Program}
 use Rattle.f77_tree.specs.declared.statements.Labelled.{Labelled}
 use Rattle.f77_tree.specs.Operations.{HasFewOperations}
 use Rattle.f77_tree.specs.WellFormed.{AreExecs, IsWellFormed}
-use Rattle.f77_layout.specs.declared.layout_end.LayoutEnd.{LayoutEnd}
-use Rattle.f77_layout.specs.declared.layout_end.LayoutEnd.TheVariants.{OutOfOrder, RealName, TypeWrong, LayoutWrong, LabelTwice, LabelMissing, BadNesting, JumpInto, TooManyWords, TooManyOps}
-use Rattle.f77_layout.specs.Faults.{first_line}
-use Rattle.f77_layout.specs.Appearances.{has_real_name}
-use Rattle.f77_layout.specs.Counts.{asks_too_much}
-use Rattle.f77_layout.specs.Jumps.{jumps_into}
-use Rattle.f77_layout.specs.Labels.{is_labelled_twice, lacks_label}
-use Rattle.f77_layout.specs.Layout.{names_of, placed_names, layout, program, line_of_words}
-use Rattle.f77_layout.specs.Nesting.{first_unnested}
-use Rattle.f77_layout.specs.Order.{is_out_of_order}
-use Rattle.f77_layout.specs.Source.{IsSource}
-use Rattle.f77_layout.specs.StorageFaults.{has_wrong_storage}
-use Rattle.f77_layout.specs.TypeFaults.{has_wrong_type}
-use Rattle.f77_layout.proofs.DeclaredData.{program-AreInitial, program-initial_count, program-word_count}
-use Rattle.f77_layout.proofs.DeclaredPrograms.{program-AreDeclarations}
-use Rattle.f77_layout.proofs.EndLaws.{ends_with_end}
-use Rattle.f77_layout.proofs.FaultLines.{no-storage-fault, storage-without, none-too-great, modest-without}
-use Rattle.f77_layout.proofs.LoopsOfSource.{AreLoops-source}
-use Rattle.f77_layout.proofs.PlacedDeclared.{program-ArePlaces}
-use Rattle.f77_layout.proofs.ProperPrograms.{program-HasFewOperations, program-count, program-each, program-target_count}
+use Rattle.layout_rules.specs.declared.layout_end.LayoutEnd.{LayoutEnd}
+use Rattle.layout_rules.specs.declared.layout_end.LayoutEnd.TheVariants.{OutOfOrder, RealName, TypeWrong, LayoutWrong, LabelTwice, LabelMissing, BadNesting, JumpInto, TooManyWords, TooManyOps}
+use Rattle.layout_rules.specs.Faults.{first_line}
+use Rattle.layout_rules.specs.Appearances.{has_real_name}
+use Rattle.layout_rules.specs.Counts.{asks_too_much}
+use Rattle.layout_rules.specs.Jumps.{jumps_into}
+use Rattle.layout_rules.specs.Labels.{is_labelled_twice, lacks_label}
+use Rattle.layout_rules.specs.Layout.{names_of, placed_names, layout, program, line_of_words}
+use Rattle.layout_rules.specs.Nesting.{first_unnested}
+use Rattle.layout_rules.specs.Order.{is_out_of_order}
+use Rattle.layout_rules.specs.Source.{IsSource}
+use Rattle.layout_rules.specs.StorageFaults.{has_wrong_storage}
+use Rattle.layout_rules.specs.TypeFaults.{has_wrong_type}
+use Rattle.storage_laws.proofs.DeclaredData.{program-AreInitial, program-initial_count, program-word_count}
+use Rattle.storage_laws.proofs.DeclaredPrograms.{program-AreDeclarations}
+use Rattle.control_laws.proofs.EndLaws.{ends_with_end}
+use Rattle.storage_checks.proofs.FaultLines.{no-storage-fault, storage-without, none-too-great, modest-without}
+use Rattle.control_laws.proofs.LoopsOfSource.{AreLoops-source}
+use Rattle.storage_laws.proofs.PlacedDeclared.{program-ArePlaces}
+use Rattle.form_laws.proofs.ProperPrograms.{program-HasFewOperations, program-count, program-each, program-target_count}
 use Rattle.f77_layout.proofs.Refusals.{out_of_order, real_name, wrong_type, wrong_storage, labelled_twice, label_missing, bad_nesting, jump_into, too_many_words, too_many_ops, accepted}
-use Rattle.f77_layout.proofs.SuccessorLaws.{successors_exist}
+use Rattle.control_laws.proofs.SuccessorLaws.{successors_exist}
 
 pub record AreFaultless (stmts : List Labelled) (checked : Bool) : Type 0 where
   pub ordered : first_line is_out_of_order stmts ≡ None

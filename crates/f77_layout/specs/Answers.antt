@@ -1,8 +1,8 @@
 -- What the layout answers.
 use Rattle.std.specs.Prelude.{◌≡◌, Result, Ok, Err}
 use Rattle.f77_tree.specs.declared.programs.Program.{Program}
-use Rattle.f77_layout.specs.declared.layout_end.LayoutEnd.{LayoutEnd}
-use Rattle.f77_layout.specs.declared.layout_end.LayoutEnd.TheVariants.{NoMemory}
+use Rattle.layout_rules.specs.declared.layout_end.LayoutEnd.{LayoutEnd}
+use Rattle.layout_rules.specs.declared.layout_end.LayoutEnd.TheVariants.{NoMemory}
 
 -- the answer is what is laid out, or memory ended
 abbrev pub IsLaidAs : Result Program LayoutEnd → Result Program LayoutEnd → Type 0

@@ -2,8 +2,8 @@
 use Rattle.std.specs.Prelude.{◌≡◌, ℕ, true, List, Some, slice_get}
 use Rattle.f77_tree.specs.declared.programs.Exec.{Exec}
 use Rattle.f77_tree.specs.declared.statements.Labelled.{Labelled}
-use Rattle.f77_layout.specs.Executables.{first_of}
-use Rattle.f77_layout.specs.Labels.{bears}
+use Rattle.layout_rules.specs.Executables.{first_of}
+use Rattle.layout_rules.specs.Labels.{bears}
 
 -- one statement alone has the label, control may go there, and this is its first executable
 pub record IsLedTo (stmts : List Labelled) (execs : List Exec) (label target : ℕ) : Type 0 where

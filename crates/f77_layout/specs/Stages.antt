@@ -2,23 +2,23 @@
 use Rattle.std.specs.Prelude.{◌≡◌, ◌<◌, ◌^◌, List, [], length, All, None}
 use Rattle.f77_tree.specs.declared.programs.NameInfo.{NameInfo}
 use Rattle.f77_tree.specs.declared.statements.Labelled.{Labelled}
-use Rattle.f77_layout.specs.declared.blocks.Blocks.{Blocks}
-use Rattle.f77_layout.specs.declared.labels.Labels.{Labels}
-use Rattle.f77_layout.specs.declared.word_numbers.WordNumbers.{WordNumbers}
-use Rattle.f77_layout.specs.Appearances.{has_real_name}
-use Rattle.f77_layout.specs.BlockEnds.{AreBlocksOf}
-use Rattle.f77_layout.specs.Faults.{first_line}
-use Rattle.f77_layout.specs.Jumps.{jumps_into}
-use Rattle.f77_layout.specs.LabelTable.{ArePlacesOf}
-use Rattle.f77_layout.specs.Labels.{is_labelled_twice, lacks_label}
-use Rattle.f77_layout.specs.Layout.{names_of, placed_names, spots_of}
-use Rattle.f77_layout.specs.Nesting.{first_unnested}
-use Rattle.f77_layout.specs.Order.{is_out_of_order}
-use Rattle.f77_layout.specs.Source.{IsSource}
-use Rattle.f77_layout.specs.StorageLines.{storage_line}
-use Rattle.f77_layout.specs.Trees.{AreLowest}
-use Rattle.f77_layout.specs.TypeFaults.{has_wrong_type}
-use Rattle.f77_layout.specs.WordNumbers.{AreNumbers}
+use Rattle.control_structure.specs.declared.blocks.Blocks.{Blocks}
+use Rattle.control_structure.specs.declared.labels.Labels.{Labels}
+use Rattle.storage_association.specs.declared.word_numbers.WordNumbers.{WordNumbers}
+use Rattle.layout_rules.specs.Appearances.{has_real_name}
+use Rattle.control_structure.specs.BlockEnds.{AreBlocksOf}
+use Rattle.layout_rules.specs.Faults.{first_line}
+use Rattle.layout_rules.specs.Jumps.{jumps_into}
+use Rattle.control_structure.specs.LabelTable.{ArePlacesOf}
+use Rattle.layout_rules.specs.Labels.{is_labelled_twice, lacks_label}
+use Rattle.layout_rules.specs.Layout.{names_of, placed_names, spots_of}
+use Rattle.layout_rules.specs.Nesting.{first_unnested}
+use Rattle.layout_rules.specs.Order.{is_out_of_order}
+use Rattle.layout_rules.specs.Source.{IsSource}
+use Rattle.layout_rules.specs.StorageLines.{storage_line}
+use Rattle.layout_rules.specs.Spots.{AreLowest}
+use Rattle.layout_rules.specs.TypeFaults.{has_wrong_type}
+use Rattle.storage_association.specs.WordNumbers.{AreNumbers}
 
 -- the statements stand in order, and these are their names, of which none is real
 pub record HasNames (stmts : List Labelled) (names : List NameInfo) : Type 0 where

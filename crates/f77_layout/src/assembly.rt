@@ -3,32 +3,27 @@ ghost use Rattle.std.specs.Result.{result_err};
 ghost use Rattle.f77_tree.specs.Operations.{HasFewOperations};
 ghost use Rattle.f77_tree.specs.WellFormed.{IsWellFormed};
 ghost use Rattle.f77_layout.specs.Answers.{IsLaidAs};
-ghost use Rattle.f77_layout.specs.Counts.{is_too_great};
-ghost use Rattle.f77_layout.specs.Layout.{layout, program as program_of, names_of, placed_names as placed_names_of};
-ghost use Rattle.f77_layout.specs.LowestLines.{lowest_line};
-ghost use Rattle.f77_layout.specs.Source.{IsSource};
+ghost use Rattle.layout_rules.specs.Counts.{is_too_great};
+ghost use Rattle.layout_rules.specs.Layout.{layout, program as program_of, names_of, placed_names as placed_names_of};
+ghost use Rattle.layout_rules.specs.LowestLines.{lowest_line};
+ghost use Rattle.layout_rules.specs.Source.{IsSource};
 ghost use Rattle.f77_layout.specs.Stages.{AreStored, HasNames, HasWords, HasLabels, HasBlocks};
-ghost use Rattle.f77_layout.specs.StorageLines.{storage_line};
+ghost use Rattle.layout_rules.specs.StorageLines.{storage_line};
 
-use crate::LayoutEnd;
-use crate::appearances::declared_names;
-use crate::blocks::Blocks;
 use crate::collecting::{commons_of, count_loops, groups_of, inits_of, placed_names};
-use crate::counts::lowest_too_great;
-use crate::equations::{Placing, place_names};
-use crate::executables::executables_of;
-use crate::initial::initial_words;
-use crate::jumps::first_jump_into;
-use crate::labels::{Labels, first_labelled_twice, first_lacking_label};
-use crate::names::Names;
-use crate::nesting::{Nesting, nesting_of};
 use crate::order::first_out_of_order;
-use crate::storage_faults::{wrong_places_line, wrong_storage_line};
-use crate::type_faults::first_wrong_type;
-use crate::word_numbers::{self, WordNumbers};
+use control_structure::{
+    Blocks, Labels, Nesting, first_jump_into, first_labelled_twice, first_lacking_label, nesting_of,
+};
+use declared_names::{declared_names, first_wrong_type};
 use df_sequence::NoMemory;
+use executable_lists::{executables_of, lowest_too_great};
 use f77_tree::{Labelled, LabelledList, Program};
+use layout_rules::LayoutEnd;
 use std::alloc::Global;
+use storage_association::{Placing, WordNumbers, place_names};
+use storage_checks::{initial_words, wrong_places_line, wrong_storage_line};
+use symbol_table::Names;
 
 /// More words of storage are refused.
 const MOST_WORDS: u64 = 262_144;
@@ -90,7 +85,7 @@ fn numbers_of(
     match place_names(alloc, names, stmts)? {
         Placing::Wrong(line) => Ok(Err(wrong_places_line(alloc, stmts, names, line)?)),
         Placing::Right(storages) => {
-            let numbers = word_numbers::numbers_of(alloc, names, &storages)?;
+            let numbers = storage_association::numbers_of(alloc, names, &storages)?;
             match wrong_storage_line(alloc, stmts, names, &numbers.places)? {
                 Some(line) => Ok(Err(line)),
                 None => Ok(Ok(numbers)),

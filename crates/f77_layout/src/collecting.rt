@@ -1,18 +1,18 @@
 //! The declarations of a program, as its statements have them, in the order of the text.
 
 ghost use Rattle.std.specs.Prelude.{◌≡◌, ◌<◌, ◌≤◌, ◌++◌, ◌∷◌, [], ◌^◌, length, filter, All, IfOk, OnOk};
-ghost use Rattle.f77_layout.specs.Declarations.{all_commons, all_groups, all_inits, parts_of, groups_of as groups_of_stmt, inits_of as inits_of_stmt};
-ghost use Rattle.f77_layout.specs.Executables.{is_do as is_do_of};
-ghost use Rattle.f77_layout.specs.PlacedNames.{with_places};
+ghost use Rattle.layout_rules.specs.Declarations.{all_commons, all_groups, all_inits, parts_of, groups_of as groups_of_stmt, inits_of as inits_of_stmt};
+ghost use Rattle.layout_rules.specs.Executables.{is_do as is_do_of};
+ghost use Rattle.layout_rules.specs.PlacedNames.{with_places};
 
-use crate::loops::is_do;
-use crate::names::Names;
 use df_sequence::{Copied, NoMemory, Sequence};
+use executable_lists::is_do;
 use f77_tree::{
     CommonPart, CommonPartList, GroupList, InitPart, InitPartList, Labelled, MemberList,
     NameInfoList, Stmt,
 };
 use std::alloc::Global;
+use symbol_table::Names;
 
 /// Copies of items after those of a list. A list that is full has no memory for more.
 fn append<T: Copied + Drop>(

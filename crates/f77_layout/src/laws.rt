@@ -1,42 +1,39 @@
 //! Laws on the executables that statements make, as contracts of functions that do nothing.
 
-ghost use Rattle.std.specs.Prelude.{◌≡◌, ◌+◌, ◌≤◌, ◌||◌, Bool, true, false, ℕ, List, Ok, Some, None, slice_get};
-ghost use Rattle.f77_tree.specs.declared.programs.ExecKind.{ExecKind};
+ghost use Rattle.std.specs.Prelude.{◌≡◌, ◌≤◌, ◌||◌, Bool, true, false, ℕ, List, Ok, Some, None, slice_get};
 ghost use Rattle.f77_tree.specs.declared.programs.NameInfo.{NameInfo};
 ghost use Rattle.f77_tree.specs.declared.programs.Program.{Program};
 ghost use Rattle.f77_tree.specs.declared.statements.Labelled.{Labelled};
 ghost use Rattle.f77_tree.specs.declared.statements.Stmt.{Stmt};
 ghost use Rattle.f77_tree.specs.declared.statements.Stmt.TheVariants.{End};
 ghost use Rattle.f77_tree.specs.Operations.{HasFewOperations};
-ghost use Rattle.f77_tree.specs.Places.{IsWordOf, Linked, equations};
 ghost use Rattle.f77_tree.specs.StatementGrammar.{IsGiven, is_of_subroutines};
 ghost use Rattle.f77_tree.specs.WellFormed.{IsWellFormed};
-ghost use Rattle.f77_layout.specs.Counts.{asks_too_much, is_too_great};
+ghost use Rattle.layout_rules.specs.Counts.{asks_too_much, is_too_great};
 ghost use Rattle.f77_layout.specs.Depths.{blocks_open};
-ghost use Rattle.f77_layout.specs.Faults.{first_line};
-ghost use Rattle.f77_layout.specs.Executables.{beyond, first_of, increments, labelled, loops_to, own_executables, own_kinds};
-ghost use Rattle.f77_layout.specs.Jumps.{is_end_if};
-ghost use Rattle.f77_layout.specs.Labels.{is_arm, used};
-ghost use Rattle.f77_layout.specs.Layout.{layout, names_of};
-ghost use Rattle.f77_layout.specs.Leading.{IsLedTo};
-ghost use Rattle.f77_layout.specs.LowestLines.{lowest_line, LinesRise};
-ghost use Rattle.f77_layout.specs.Order.{is_out_of_order};
-ghost use Rattle.f77_layout.specs.Source.{IsSource};
-ghost use Rattle.f77_layout.specs.StatementTrees.{IsTree};
-ghost use Rattle.f77_layout.specs.StorageFaults.{has_wrong_storage};
-ghost use Rattle.f77_layout.specs.StorageLines.{storage_line};
+ghost use Rattle.layout_rules.specs.Faults.{first_line};
+ghost use Rattle.layout_rules.specs.Jumps.{is_end_if};
+ghost use Rattle.layout_rules.specs.Labels.{is_arm};
+ghost use Rattle.layout_rules.specs.Layout.{layout};
+ghost use Rattle.f77_layout.specs.Laid.{IncrementsStand, IsLaid, LabelsLead, OwnStand, SharesWhereLinked};
+ghost use Rattle.layout_rules.specs.LowestLines.{lowest_line, LinesRise};
+ghost use Rattle.layout_rules.specs.Order.{is_out_of_order};
+ghost use Rattle.layout_rules.specs.Source.{IsSource};
+ghost use Rattle.layout_rules.specs.StatementTrees.{IsTree};
+ghost use Rattle.layout_rules.specs.StorageFaults.{has_wrong_storage};
+ghost use Rattle.layout_rules.specs.StorageLines.{storage_line};
 
 /// The executables of a program are those of its statements, in the order of the text and each with its statement's line:
 /// first the statement's own, then the increments of the DO loops that end at it.
 pub fn executables_stand_in_order()
-    ensures own { (stmts : List Labelled) (checked : Bool) (p : Program) → IsSource stmts → layout stmts checked ≡ Ok p → (i j : ℕ) (s : Labelled) (kind : ExecKind) → slice_get stmts i ≡ Some s → slice_get (own_kinds (names_of stmts) checked stmts i (first_of stmts i) (beyond stmts i s) s.stmt) j ≡ Some kind → slice_get p.execs (first_of stmts i + j) ≡ Some (record { line = s.line; kind = kind }) }
-    ensures increments { (stmts : List Labelled) (checked : Bool) (p : Program) → IsSource stmts → layout stmts checked ≡ Ok p → (i j : ℕ) (s : Labelled) (kind : ExecKind) → slice_get stmts i ≡ Some s → slice_get (increments (names_of stmts) stmts i (first_of stmts i + own_executables s.stmt) (loops_to stmts s.label)) j ≡ Some kind → slice_get p.execs (first_of stmts i + own_executables s.stmt + j) ≡ Some (record { line = s.line; kind = kind }) }
+    ensures own { (stmts : List Labelled) (checked : Bool) (p : Program) → IsLaid stmts checked p → OwnStand stmts checked p.execs }
+    ensures increments { (stmts : List Labelled) (checked : Bool) (p : Program) → IsLaid stmts checked p → IncrementsStand stmts p.execs }
 {}
 
 /// A label that a statement of a program uses leads to the first executable of the statement that bears it, and one
 /// statement alone has the label.
 pub fn labels_lead_to_their_statements()
-    ensures { (stmts : List Labelled) (checked : Bool) (p : Program) → IsSource stmts → layout stmts checked ≡ Ok p → (i j : ℕ) (s : Labelled) (label : ℕ) → slice_get stmts i ≡ Some s → slice_get (used s.stmt) j ≡ Some label → IsLedTo stmts p.execs label (labelled stmts label) }
+    ensures { (stmts : List Labelled) (checked : Bool) (p : Program) → IsLaid stmts checked p → LabelsLead stmts p.execs }
 {}
 
 /// Statements that have no refusal make a well-formed program, no executable of which takes more than 500 operations.
@@ -47,13 +44,15 @@ pub fn programs_are_well_formed()
 
 /// A block of IF is open at each ELSE IF, ELSE and END IF, and none is open at END.
 pub fn blocks_are_nested()
-    ensures within { (stmts : List Labelled) (checked : Bool) (p : Program) → layout stmts checked ≡ Ok p → (i : ℕ) (s : Labelled) → slice_get stmts i ≡ Some s → (is_arm s.stmt || is_end_if s.stmt) ≡ true → 1 ≤ blocks_open stmts i }
-    ensures closed { (stmts : List Labelled) (checked : Bool) (p : Program) → layout stmts checked ≡ Ok p → (i : ℕ) (s : Labelled) → slice_get stmts i ≡ Some s → s.stmt ≡ End → blocks_open stmts i ≡ 0 }
+    ensures within { (stmts : List Labelled) (checked : Bool) (p : Program) → layout stmts checked ≡ Ok p → (i : ℕ) (s : Labelled)
+        → slice_get stmts i ≡ Some s → (is_arm s.stmt || is_end_if s.stmt) ≡ true → 1 ≤ blocks_open stmts i }
+    ensures closed { (stmts : List Labelled) (checked : Bool) (p : Program) → layout stmts checked ≡ Ok p → (i : ℕ) (s : Labelled)
+        → slice_get stmts i ≡ Some s → s.stmt ≡ End → blocks_open stmts i ≡ 0 }
 {}
 
 /// Two names of a program have a word in common only where equations of COMMON and EQUIVALENCE link them.
 pub fn names_that_share_words_are_linked()
-    ensures { (stmts : List Labelled) (checked : Bool) (p : Program) → IsSource stmts → layout stmts checked ≡ Ok p → (x y word : ℕ) → IsWordOf p.names x word → IsWordOf p.names y word → Linked (equations p.names p.commons p.groups) x y }
+    ensures { (stmts : List Labelled) (checked : Bool) (p : Program) → IsLaid stmts checked p → SharesWhereLinked p }
 {}
 
 /// A statement that is read from a text is a tree that can be laid out, where it is none of subroutines.
@@ -64,8 +63,10 @@ pub fn given_statements_are_trees()
 /// Where lines rise and statements stand in order, the line that is told of a fault of storage is that of the first statement
 /// with one. Where lines rise, so is that of a statement that asks too much.
 pub fn told_lines_are_first()
-    ensures storage { (names placed : List NameInfo) (stmts : List Labelled) → LinesRise stmts → first_line is_out_of_order stmts ≡ None → storage_line names placed stmts ≡ first_line (has_wrong_storage names placed stmts) stmts }
-    ensures counts { (names : List NameInfo) (checked : Bool) (stmts : List Labelled) → LinesRise stmts → lowest_line (is_too_great names checked stmts) stmts ≡ first_line (asks_too_much names checked stmts) stmts }
+    ensures storage { (names placed : List NameInfo) (stmts : List Labelled) → LinesRise stmts → first_line is_out_of_order stmts ≡ None
+        → storage_line names placed stmts ≡ first_line (has_wrong_storage names placed stmts) stmts }
+    ensures counts { (names : List NameInfo) (checked : Bool) (stmts : List Labelled) → LinesRise stmts
+        → lowest_line (is_too_great names checked stmts) stmts ≡ first_line (asks_too_much names checked stmts) stmts }
 {}
 
 /// Where lines rise, the first statement with a fault has the lowest line of those that have it.

@@ -1,6 +1,6 @@
 ghost use Rattle.std.specs.Prelude.{◌≡◌, ◌&&◌, ◌||◌, ◌==◌, nat_lt};
-ghost use Rattle.f77_layout.specs.Faults.{first_line};
-ghost use Rattle.f77_layout.specs.Order.{rank, is_out_of_order};
+ghost use Rattle.layout_rules.specs.Faults.{first_line};
+ghost use Rattle.layout_rules.specs.Order.{rank, is_out_of_order};
 
 use f77_tree::{Labelled, Stmt};
 

@@ -7,7 +7,7 @@ use Rattle.std.proofs.lemmas.List.Concat.{flat_map-cons}
 use Rattle.f77_tree.specs.declared.statements.Labelled.{Labelled}
 use Rattle.f77_tree.specs.declared.statements.Stmt.{Stmt}
 use Rattle.f77_tree.specs.declared.statements.Stmt.TheVariants.{Program, Implicit, ImplicitNone, TypeOf, Dimension, Common, Equivalence, Init, Assign, Print, Take, Continue, Stop, GoTo, PickGoTo, SignIf, ThenIf', BlockIf, ElseIf, Else, EndIf, Do, Sub, CallTo, Back, End}
-use Rattle.f77_layout.specs.Faults.{first_after, first_line}
+use Rattle.layout_rules.specs.Faults.{first_after, first_line}
 use Rattle.f77_subs.specs.Refusals.{are_alike, calls_wrongly, differ, follows_end, has_bad_call, has_wrong_dummy, is_alike, is_out_of_unit, unit_below}
 use Rattle.f77_subs.specs.Units.{Call, call_in, dummies_of, in_first, inner, is_end, is_named, is_return, is_sub_of, sub_dummies, sub_name, unit_at, unit_of, unit_or_none, units}
 use Rattle.f77_subs.specs.UnitTables.{passes}

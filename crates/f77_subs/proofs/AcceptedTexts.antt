@@ -4,8 +4,8 @@ use Rattle.std.specs.Prelude.{Result, Ok, Err, IfOk, IfErr, nat_lt}
 use Rattle.std.specs.List.{list_all, range_with_len}
 use Rattle.std.proofs.lemmas.Bool.{ltb-false}
 use Rattle.f77_tree.specs.declared.statements.Labelled.{Labelled}
-use Rattle.f77_layout.specs.Faults.{first_answer, first_line}
-use Rattle.f77_layout.specs.Source.{EndsWithEnd}
+use Rattle.layout_rules.specs.Faults.{first_answer, first_line}
+use Rattle.layout_rules.specs.Source.{EndsWithEnd}
 use Rattle.f77_subs.specs.declared.sub_end.SubEnd.{SubEnd}
 use Rattle.f77_subs.specs.declared.sub_end.SubEnd.TheVariants.{UnitOrder, BadCall, NoMemory, Recursion}
 use Rattle.f77_subs.specs.Expansion.{put_in, total_width, whole_list}

@@ -4,7 +4,7 @@ use Rattle.std.specs.Prelude.{slice_get}
 use Rattle.std.proofs.lemmas.Bool.{cases_Bool, eq-eqb, ne_eqb, ltb-true, ltb-false}
 use Rattle.f77_tree.specs.declared.declarations.Dim.{Dim}
 use Rattle.f77_tree.specs.declared.statements.Labelled.{Labelled}
-use Rattle.f77_layout.specs.Described.{Described, described}
+use Rattle.declared_names.specs.Described.{Described, described}
 use Rattle.f77_subs.specs.Refusals.{is_same_dim, are_same_dims, are_alike, is_alike}
 use Rattle.f77_subs.specs.Alike.{are_alike_told, are_both, is_alike_told}
 

@@ -4,8 +4,8 @@ use Rattle.std.specs.Prelude.{if◌then◌else◌, slice_get}
 use Rattle.std.proofs.lemmas.List.Sums.{count_by_more_no, count_by_more_yes, sum_by-cons}
 use Rattle.std.proofs.lemmas.Option.{get_or_from_slice_get, slice_get_past}
 use Rattle.f77_tree.specs.declared.statements.Labelled.{Labelled}
-use Rattle.f77_layout.specs.Described.{Described, described}
-use Rattle.f77_layout.specs.KeptDeclarations.{said_by}
+use Rattle.declared_names.specs.Described.{Described, described}
+use Rattle.declared_names.specs.KeptDeclarations.{said_by}
 use Rattle.f77_subs.specs.declared.unit_said.UnitSaid.{UnitSaid}
 use Rattle.f77_subs.specs.Units.{in_first, is_end, unit_at, unit_or_none, units, dummies_of}
 use Rattle.f77_subs.specs.Refusals.{are_alike, unit_below}

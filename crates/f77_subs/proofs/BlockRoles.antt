@@ -2,8 +2,8 @@
 use Rattle.std.proofs.Common.{◌≡◌, ℕ, zero, suc, true, false, Some, None, refl}
 use Rattle.f77_tree.specs.declared.statements.Stmt.{Stmt, more_of-Stmt}
 use Rattle.f77_tree.specs.declared.statements.Stmt.TheVariants.{Program, Implicit, ImplicitNone, TypeOf, Dimension, Common, Equivalence, Init, Assign, Print, Take, Continue, Stop, GoTo, PickGoTo, SignIf, ThenIf', BlockIf, ElseIf, Else, EndIf, Do, Sub, CallTo, Back, End}
-use Rattle.f77_layout.specs.Labels.{is_executable, is_arm}
-use Rattle.f77_layout.specs.Jumps.{is_block_if, is_end_if}
+use Rattle.layout_rules.specs.Labels.{is_executable, is_arm}
+use Rattle.layout_rules.specs.Jumps.{is_block_if, is_end_if}
 use Rattle.f77_subs.specs.Units.{Call, call_in, is_end}
 use Rattle.f77_subs.specs.Widths.{is_kept}
 use Rattle.f77_subs.specs.Copies.{Change, changed_stmt}

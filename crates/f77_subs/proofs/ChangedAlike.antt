@@ -10,9 +10,9 @@ use Rattle.f77_tree.specs.declared.statements.RawItem.{RawItem}
 use Rattle.f77_tree.specs.declared.statements.RawItem.TheVariants.{Value, Chars}
 use Rattle.f77_tree.specs.declared.statements.Stmt.{Stmt, more_of-Stmt}
 use Rattle.f77_tree.specs.declared.statements.Stmt.TheVariants.{Program, Implicit, ImplicitNone, TypeOf, Dimension, Common, Equivalence, Init, Assign, Print, Take, Continue, Stop, GoTo, PickGoTo, SignIf, ThenIf, ThenIf', BlockIf, ElseIf, Else, EndIf, Do, Sub, CallTo, Back, End}
-use Rattle.f77_layout.specs.Appearances.{called_name, names_in, names_in_row, names_in_item, names_if_any}
-use Rattle.f77_layout.specs.Functions.{intrinsic_named}
-use Rattle.f77_layout.specs.Types.{Intrinsic, is_intrinsic, intrinsics}
+use Rattle.layout_rules.specs.Appearances.{called_name, names_in, names_in_row, names_in_item, names_if_any}
+use Rattle.declared_names.specs.Functions.{intrinsic_named}
+use Rattle.layout_rules.specs.Types.{Intrinsic, is_intrinsic, intrinsics}
 use Rattle.f77_subs.specs.Copies.{Change, intrinsic_or, changed_call, changed, changed_row, changed_item, changed_step, changed_stmt}
 use Rattle.f77_subs.specs.Names.{appearing_here}
 

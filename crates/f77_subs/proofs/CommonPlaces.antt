@@ -9,12 +9,12 @@ use Rattle.f77_tree.specs.declared.declarations.CommonPart.{CommonPart}
 use Rattle.f77_tree.specs.declared.declarations.Decl.{Decl}
 use Rattle.f77_tree.specs.declared.statements.Labelled.{Labelled}
 use Rattle.f77_tree.specs.Places.{same_block}
-use Rattle.f77_layout.specs.Declarations.{all_commons}
-use Rattle.f77_layout.specs.Faults.{first_answer, answer_or}
+use Rattle.layout_rules.specs.Declarations.{all_commons}
+use Rattle.layout_rules.specs.Faults.{first_answer, answer_or}
 use Rattle.indexmap.specs.IndexMap.{get}
-use Rattle.f77_layout.proofs.FlatParts.{flat_map_taken}
-use Rattle.f77_layout.proofs.FirstLine.{first_answer-append}
-use Rattle.f77_layout.proofs.NameEntries.{bytes_eq-sym}
+use Rattle.layout_rules.proofs.FlatParts.{flat_map_taken}
+use Rattle.layout_rules.proofs.FirstLine.{first_answer-append}
+use Rattle.symbol_table.proofs.NameEntries.{bytes_eq-sym}
 use Rattle.f77_subs.specs.declared.unit_blocks.UnitBlocks.{UnitBlocks}
 use Rattle.f77_subs.specs.Entities.{Entity, InBlock, block_list}
 use Rattle.f77_subs.specs.Names.{same_entity}

@@ -13,9 +13,9 @@ use Rattle.f77_tree.specs.declared.statements.Labelled.{Labelled}
 use Rattle.f77_tree.specs.declared.statements.RawExpr.{RawExpr}
 use Rattle.f77_tree.specs.declared.statements.Stmt.{Stmt}
 use Rattle.f77_tree.specs.declared.statements.Stmt.TheVariants.{Continue, BlockIf}
-use Rattle.f77_layout.specs.Appearances.{names_in}
-use Rattle.f77_layout.specs.Declarations.{is_array}
-use Rattle.f77_layout.specs.Labels.{statement_of}
+use Rattle.layout_rules.specs.Appearances.{names_in}
+use Rattle.layout_rules.specs.Declarations.{is_array}
+use Rattle.layout_rules.specs.Labels.{statement_of}
 use Rattle.f77_subs.specs.declared.unit_table.NewName.TheVariants.{Argument, Fixed}
 use Rattle.f77_subs.specs.declared.unit_table.UnitTable.{UnitTable}
 use Rattle.f77_subs.specs.Units.{Call, call_in, dummies_of, guard_of, unit_at, unit_of, unit_or_none}

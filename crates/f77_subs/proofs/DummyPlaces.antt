@@ -3,8 +3,8 @@ use Rattle.std.proofs.Common.{◌≡◌, ℕ, ◌+◌, ◌<◌, Bool, List, [], 
 use Rattle.std.specs.Prelude.{bytes_eq}
 use Rattle.std.specs.List.{position_or_len}
 use Rattle.std.proofs.lemmas.List.{take_more}
-use Rattle.f77_layout.specs.Faults.{answer_or}
-use Rattle.f77_layout.proofs.NameEntries.{bytes_eq-sym}
+use Rattle.layout_rules.specs.Faults.{answer_or}
+use Rattle.symbol_table.proofs.NameEntries.{bytes_eq-sym}
 use Rattle.f77_subs.specs.CallTable.{if_below, unit_if}
 use Rattle.f77_subs.proofs.FirstPlaces.{place-more}
 

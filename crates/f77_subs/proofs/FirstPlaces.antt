@@ -7,7 +7,7 @@ use Rattle.std.proofs.lemmas.List.Folds.{find_at, position_or_len_push}
 use Rattle.std.proofs.lemmas.List.Sums.{prefix_len-le-length}
 use Rattle.std.proofs.lemmas.Option.{get_or_from_slice_get}
 use Rattle.f77_tree.specs.declared.statements.Labelled.{Labelled}
-use Rattle.f77_layout.specs.Faults.{answer_or}
+use Rattle.layout_rules.specs.Faults.{answer_or}
 use Rattle.f77_subs.specs.Units.{unit_at, unit_or_none}
 use Rattle.f77_subs.specs.CallTable.{if_below, unit_if}
 use Rattle.f77_subs.specs.Refusals.{first_unit}

@@ -7,7 +7,7 @@ use Rattle.std.proofs.lemmas.List.{map-append, length-map, take_all, append-nil,
 use Rattle.std.proofs.lemmas.List.Elements.{filter-append}
 use mathlib.Core.Path.{fun_ext}
 use Rattle.f77_tree.specs.declared.statements.Labelled.{Labelled}
-use Rattle.f77_layout.specs.Appearances.{each_once}
+use Rattle.layout_rules.specs.Appearances.{each_once}
 use Rattle.f77_subs.specs.Names.{used_names, y_entities, y_text}
 use Rattle.f77_subs.specs.NewNames.{AreFree, is_free_of, own_texts}
 use Rattle.f77_subs.proofs.FreeNumbers.{enough}

@@ -3,7 +3,7 @@ use Rattle.std.proofs.Common.{◌≡◌, ℕ, zero, suc, ◌+◌, ◌<◌, ◌�
 use Rattle.std.specs.List.{list_any, range_with_len}
 use Rattle.std.proofs.lemmas.Bool.{le-ltb}
 use mathlib.Core.Path.{fun_ext}
-use Rattle.f77_layout.specs.Appearances.{each_once}
+use Rattle.layout_rules.specs.Appearances.{each_once}
 use Rattle.f77_subs.specs.Names.{y_text}
 use Rattle.f77_subs.specs.NewNames.{is_free_of}
 use Rattle.f77_subs.proofs.FreeNumbers.{enough}

@@ -4,7 +4,7 @@ use Rattle.std.specs.Prelude.{bytes_eq, if◌then◌else◌}
 use Rattle.std.specs.List.{list_any, range_with_len, slice_get}
 use Rattle.std.proofs.lemmas.Bool.{cases_Bool, ltb-true, ltb-false, lt-ltb, le-ltb}
 use native.Mathlib.Nat.{min-eq_left, min-eq_right}
-use Rattle.f77_layout.specs.Appearances.{each_once, with_name}
+use Rattle.layout_rules.specs.Appearances.{each_once, with_name}
 use Rattle.f77_subs.proofs.FreeNumbers.{within}
 
 -- ---- a sum that stops above a limit

@@ -10,7 +10,7 @@ use Rattle.std.proofs.lemmas.List.Sums.{prefix_len-le-length}
 use Rattle.std.specs.List.{list_any}
 use Rattle.std.specs.Prelude.{not}
 use Rattle.f77_tree.specs.declared.statements.Labelled.{Labelled}
-use Rattle.f77_layout.specs.Faults.{first_answer, answer_or}
+use Rattle.layout_rules.specs.Faults.{first_answer, answer_or}
 use Rattle.f77_subs.specs.Units.{call_in, is_sub_of, unit_at, unit_of}
 use Rattle.f77_subs.specs.CallTable.{callee_of, callees}
 use Rattle.f77_subs.specs.CallGraph.{edges_from, calls_from, calls_below_unit}

@@ -10,8 +10,8 @@ use Rattle.f77_tree.specs.declared.declarations.CommonPart.{CommonPart}
 use Rattle.f77_tree.specs.declared.declarations.Decl.{Decl}
 use Rattle.f77_tree.specs.declared.statements.Labelled.{Labelled}
 use Rattle.f77_tree.specs.Places.{same_block}
-use Rattle.f77_layout.specs.Declarations.{all_commons}
-use Rattle.f77_layout.specs.Faults.{first_answer, answer_or}
+use Rattle.layout_rules.specs.Declarations.{all_commons}
+use Rattle.layout_rules.specs.Faults.{first_answer, answer_or}
 use Rattle.f77_subs.specs.Units.{unit_at}
 use Rattle.f77_subs.specs.Entities.{InBlock, block_list, found_in, entity_or, entity_of}
 use Rattle.f77_subs.specs.Names.{main_name, y_name, name_for}

@@ -13,10 +13,10 @@ use Rattle.std.proofs.lemmas.Option.{get_or_from_slice_get}
 use Rattle.f77_tree.specs.declared.declarations.CommonPart.{CommonPart}
 use Rattle.f77_tree.specs.declared.statements.Labelled.{Labelled}
 use Rattle.f77_tree.specs.Places.{same_block}
-use Rattle.f77_layout.specs.Declarations.{all_commons}
-use Rattle.f77_layout.specs.Faults.{answer_or}
-use Rattle.f77_layout.proofs.FlatParts.{flat_map_taken}
-use Rattle.f77_layout.proofs.NameEntries.{bytes_eq-sym}
+use Rattle.layout_rules.specs.Declarations.{all_commons}
+use Rattle.layout_rules.specs.Faults.{answer_or}
+use Rattle.layout_rules.proofs.FlatParts.{flat_map_taken}
+use Rattle.symbol_table.proofs.NameEntries.{bytes_eq-sym}
 use Rattle.f77_subs.specs.CallTable.{if_below, unit_if}
 use Rattle.f77_subs.specs.Expansion.{blocks, units_but_main, with_block}
 use Rattle.f77_subs.specs.Names.{has_block}

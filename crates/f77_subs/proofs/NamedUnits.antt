@@ -3,7 +3,7 @@ use Rattle.std.proofs.Common.{◌≡◌, ℕ, ◌+◌, ◌<◌, Bool, true, fals
 use Rattle.std.specs.List.{list_any, slice_get}
 use Rattle.std.proofs.lemmas.List.Folds.{list_any_more}
 use Rattle.f77_tree.specs.declared.statements.Labelled.{Labelled}
-use Rattle.f77_layout.specs.Faults.{answer_or}
+use Rattle.layout_rules.specs.Faults.{answer_or}
 use Rattle.f77_subs.specs.Units.{is_sub_of, unit_of}
 use Rattle.f77_subs.specs.CallTable.{unit_if, unit_named}
 use Rattle.f77_subs.proofs.FirstPlaces.{place-next, place-none}

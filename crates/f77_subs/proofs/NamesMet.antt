@@ -6,10 +6,10 @@ use Rattle.f77_tree.specs.declared.statements.Labelled.{Labelled}
 use Rattle.f77_tree.specs.declared.statements.RawExpr.{RawExpr}
 use Rattle.f77_tree.specs.declared.statements.Stmt.{Stmt}
 use Rattle.f77_tree.specs.declared.statements.Stmt.TheVariants.{ThenIf}
-use Rattle.f77_layout.specs.Appearances.{each_once, names_in, with_name}
-use Rattle.f77_layout.specs.Declarations.{is_array}
-use Rattle.f77_layout.specs.Described.{Described, described, is_array_told}
-use Rattle.f77_layout.proofs.FlatParts.{flat_map_taken}
+use Rattle.layout_rules.specs.Appearances.{each_once, names_in, with_name}
+use Rattle.layout_rules.specs.Declarations.{is_array}
+use Rattle.declared_names.specs.Described.{Described, described, is_array_told}
+use Rattle.layout_rules.proofs.FlatParts.{flat_map_taken}
 use Rattle.f77_subs.specs.Names.{appearing_here}
 
 pub appearing_here-ThenIf : (arrays : List ℕ → Bool) (condition : RawExpr) (stmt : Stmt) → appearing_here arrays (ThenIf condition stmt) ≡ names_in arrays condition ++ appearing_here arrays stmt

@@ -7,10 +7,10 @@ use Rattle.std.proofs.lemmas.Map.Views.{list_any-from_Contains}
 use Rattle.std.specs.Cmp.Lexicographic.{nat_list_eq_equiv}
 use Rattle.indexmap.specs.IndexMap.{get}
 use Rattle.f77_tree.specs.declared.statements.Labelled.{Labelled}
-use Rattle.f77_layout.specs.Described.{Described, described, is_array_told}
-use Rattle.f77_layout.specs.KeptDeclarations.{said_by}
-use Rattle.f77_layout.specs.Declarations.{is_array}
-use Rattle.f77_layout.specs.Labels.{statement_of}
+use Rattle.declared_names.specs.Described.{Described, described, is_array_told}
+use Rattle.declared_names.specs.KeptDeclarations.{said_by}
+use Rattle.layout_rules.specs.Declarations.{is_array}
+use Rattle.layout_rules.specs.Labels.{statement_of}
 use Rattle.f77_subs.specs.declared.label_counts.LabelCounts.{LabelCounts}
 use Rattle.f77_subs.specs.declared.unit_table.UnitTable.{UnitTable}
 use Rattle.f77_subs.specs.Copies.{call_at}

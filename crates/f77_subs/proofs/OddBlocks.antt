@@ -4,9 +4,9 @@ use Rattle.std.specs.Prelude.{unwrap_or}
 use Rattle.std.specs.List.{position_or_len}
 use Rattle.f77_tree.specs.declared.declarations.CommonPart.{CommonPart}
 use Rattle.f77_tree.specs.declared.statements.Labelled.{Labelled}
-use Rattle.f77_layout.specs.Declarations.{all_commons}
-use Rattle.f77_layout.specs.Described.{Described, described}
-use Rattle.f77_layout.specs.KeptDeclarations.{said_by}
+use Rattle.layout_rules.specs.Declarations.{all_commons}
+use Rattle.declared_names.specs.Described.{Described, described}
+use Rattle.declared_names.specs.KeptDeclarations.{said_by}
 use Rattle.f77_subs.specs.declared.block_names.BlockTable.{BlockTable}
 use Rattle.f77_subs.specs.Alike.{are_alike_told}
 use Rattle.f77_subs.specs.Entities.{block_list}

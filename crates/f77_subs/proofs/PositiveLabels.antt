@@ -6,7 +6,7 @@ use Rattle.f77_tree.specs.declared.statements.Stmt.{Stmt}
 use Rattle.f77_tree.specs.declared.statements.Stmt.TheVariants.{ThenIf}
 use Rattle.f77_tree.specs.Grammar.{has_great_number, number_of, reading}
 use Rattle.f77_tree.specs.StatementGrammar.{WrittenStatement, IsGiven, has_bad_constant, statement_of, step_is_great}
-use Rattle.f77_layout.specs.Executables.{is_do_to}
+use Rattle.layout_rules.specs.Executables.{is_do_to}
 
 after-condition : (label : ℕ) (condition : RawExpr) (stmt : Stmt) → is_do_to label (ThenIf condition stmt) ≡ false
 unfolding Rattle.f77_tree.specs.declared.statements.Stmt.TheBlock.hidden-the_row-Stmt-0 denote.Hole.Carrier.hidden

@@ -9,7 +9,7 @@ use Rattle.f77_tree.specs.declared.statements.Labelled.{Labelled}
 use Rattle.f77_tree.specs.declared.statements.Stmt.{Stmt}
 use Rattle.f77_tree.specs.declared.statements.Stmt.TheVariants.{Equivalence, Init}
 use Rattle.f77_subs.specs.Expansion.{blocks, common_of, datas, is_running, put_in, ties, type_of, units_but_main}
-use Rattle.f77_layout.specs.Layout.{last_line}
+use Rattle.layout_rules.specs.Layout.{last_line}
 use mathlib.Core.Path.{fun_ext}
 use Rattle.f77_tree.specs.Places.{same_block}
 use Rattle.f77_subs.specs.Names.{has_block, y_entities}

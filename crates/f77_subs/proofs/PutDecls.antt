@@ -5,9 +5,9 @@ use Rattle.std.proofs.lemmas.List.{map-append}
 use Rattle.f77_tree.specs.declared.declarations.Decl.{Decl}
 use Rattle.f77_tree.specs.declared.declarations.Dim.{Dim}
 use Rattle.f77_tree.specs.declared.statements.Labelled.{Labelled}
-use Rattle.f77_layout.specs.Declarations.{dims_of, kind_of}
-use Rattle.f77_layout.specs.Described.{Described}
-use Rattle.f77_layout.specs.KeptDeclarations.{said_by}
+use Rattle.layout_rules.specs.Declarations.{dims_of, kind_of}
+use Rattle.declared_names.specs.Described.{Described}
+use Rattle.declared_names.specs.KeptDeclarations.{said_by}
 use Rattle.f77_subs.specs.declared.unit_entities.UnitNames.{UnitNames}
 use Rattle.f77_subs.specs.Entities.{Entity}
 use Rattle.f77_subs.specs.Expansion.{common_decl, declared_in, type_decl}

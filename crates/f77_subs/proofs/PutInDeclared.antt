@@ -8,8 +8,8 @@ use Rattle.f77_tree.specs.declared.declarations.Member.{Member}
 use Rattle.f77_tree.specs.declared.statements.Labelled.{Labelled}
 use Rattle.f77_tree.specs.declared.statements.Stmt.{Stmt}
 use Rattle.f77_tree.specs.declared.statements.Stmt.TheVariants.{Program, Implicit, ImplicitNone, TypeOf, Dimension, Common, Equivalence, Init, Assign, Print, Take, Continue, Stop, GoTo, PickGoTo, SignIf, ThenIf', BlockIf, ElseIf, Else, EndIf, Do, Sub, CallTo, Back, End}
-use Rattle.f77_layout.specs.Labels.{is_executable}
-use Rattle.f77_layout.specs.Layout.{last_line}
+use Rattle.layout_rules.specs.Labels.{is_executable}
+use Rattle.layout_rules.specs.Layout.{last_line}
 use Rattle.f77_subs.specs.Units.{unit_at}
 use Rattle.f77_subs.specs.Names.{y_entities, has_block, same_entity}
 use Rattle.f77_subs.specs.Expansion.{type_of, common_of, ties, datas, put_in, is_running, member_for, units_but_main, blocks}

@@ -8,10 +8,10 @@ use Rattle.std.proofs.lemmas.List.Sums.{fold-append}
 use Rattle.std.proofs.lemmas.Option.{get_or_from_slice_get, slice_get_within}
 use Rattle.std.proofs.lemmas.Slice.Eq.{bytes_eq-Decides}
 use Rattle.f77_tree.specs.declared.statements.Labelled.{Labelled}
-use Rattle.f77_layout.specs.Appearances.{each_once, with_name}
-use Rattle.f77_layout.specs.Declarations.{all_commons}
-use Rattle.f77_layout.proofs.FlatParts.{flat_map_taken}
-use Rattle.f77_layout.proofs.NameEntries.{bytes_eq-sym}
+use Rattle.layout_rules.specs.Appearances.{each_once, with_name}
+use Rattle.layout_rules.specs.Declarations.{all_commons}
+use Rattle.layout_rules.proofs.FlatParts.{flat_map_taken}
+use Rattle.symbol_table.proofs.NameEntries.{bytes_eq-sym}
 use Rattle.f77_subs.specs.declared.unit_entities.UnitNames.{UnitNames}
 use Rattle.f77_subs.specs.declared.unit_table.NewName.{NewName}
 use Rattle.f77_subs.specs.Names.{names_of_unit, option_names, used_names}

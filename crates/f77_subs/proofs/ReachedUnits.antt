@@ -2,7 +2,7 @@
 use Rattle.std.proofs.Common.{◌≡◌, ℕ, zero, suc, ◌+◌, ◌-◌, ◌<◌, Bool, true, false, not, ◌&&◌, ◌||◌, cond, List, [], ◌∷◌, ◌++◌, length, Option, Some, None, if◌then◌else◌, refl, sym, ap, subst, ◌∙◌, arith}
 use Rattle.std.specs.List.{list_all, list_any, position_or_len, slice_get}
 use Rattle.f77_tree.specs.declared.statements.Labelled.{Labelled}
-use Rattle.f77_layout.specs.Faults.{first_after, first_line}
+use Rattle.layout_rules.specs.Faults.{first_after, first_line}
 use Rattle.f77_subs.specs.declared.sub_end.SubEnd.TheVariants.{NoSub}
 use Rattle.f77_subs.specs.Contexts.{IsReached, called, main}
 use Rattle.f77_subs.specs.Copies.{Context}

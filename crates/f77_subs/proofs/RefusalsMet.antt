@@ -2,8 +2,8 @@
 use Rattle.std.proofs.Common.{◌≡◌, Bool, true, false, List, ◌++◌, Option, Some, None, refl, sym, ap, ◌∙◌}
 use Rattle.std.specs.Option.{is_some}
 use Rattle.f77_tree.specs.declared.statements.Labelled.{Labelled}
-use Rattle.f77_layout.specs.Faults.{answer_or, first_answer}
-use Rattle.f77_layout.proofs.FirstLine.{first_answer-append}
+use Rattle.layout_rules.specs.Faults.{answer_or, first_answer}
+use Rattle.layout_rules.proofs.FirstLine.{first_answer-append}
 use Rattle.f77_subs.specs.declared.sub_end.SubEnd.{SubEnd}
 use Rattle.f77_subs.specs.Refusals.{form_refusals, size_refusals, unit_refusal}
 use Rattle.f77_subs.specs.Units.{units}

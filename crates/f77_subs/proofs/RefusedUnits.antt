@@ -3,8 +3,8 @@ use Rattle.std.proofs.Common.{◌≡◌, Bool, List, Option, Some, None, refl, s
 use Rattle.std.specs.Prelude.{Ok, Err}
 use Rattle.f77_tree.specs.declared.programs.Program.{Program}
 use Rattle.f77_tree.specs.declared.statements.Labelled.{Labelled}
-use Rattle.f77_layout.specs.declared.layout_end.LayoutEnd.{LayoutEnd}
-use Rattle.f77_layout.specs.Layout.{layout, program, refusal, unless_refused}
+use Rattle.layout_rules.specs.declared.layout_end.LayoutEnd.{LayoutEnd}
+use Rattle.layout_rules.specs.Layout.{layout, program, refusal, unless_refused}
 
 none-by : (refused : Option LayoutEnd) (made p : Program) → unless_refused refused made ≡ Ok p → None ≡ refused
 none-by None made p is = refl

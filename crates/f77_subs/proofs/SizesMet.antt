@@ -1,8 +1,8 @@
 -- The refusals that speak of the size of the expansion, one by one.
 use Rattle.std.proofs.Common.{◌≡◌, ℕ, Bool, true, false, List, [], ◌∷◌, Option, Some, None, refl, ap}
 use Rattle.f77_tree.specs.declared.statements.Labelled.{Labelled}
-use Rattle.f77_layout.specs.Faults.{first_answer}
-use Rattle.f77_layout.specs.Layout.{last_line}
+use Rattle.layout_rules.specs.Faults.{first_answer}
+use Rattle.layout_rules.specs.Layout.{last_line}
 use Rattle.f77_subs.specs.declared.sub_end.SubEnd.{SubEnd}
 use Rattle.f77_subs.specs.declared.sub_end.SubEnd.TheVariants.{TooManyStatements, TooManyNames}
 use Rattle.f77_subs.specs.Refusals.{end_at, main_line_if}

@@ -7,11 +7,11 @@ use Rattle.std.proofs.lemmas.List.Sums.{fold-append}
 use mathlib.Core.Path.{fun_ext}
 use Rattle.f77_tree.specs.declared.statements.Labelled.{Labelled}
 use Rattle.f77_tree.specs.declared.statements.Stmt.{Stmt}
-use Rattle.f77_layout.specs.Appearances.{appearing, each_once, with_name}
-use Rattle.f77_layout.specs.Declarations.{is_array}
-use Rattle.f77_layout.specs.Described.{Described, described, is_array_told}
-use Rattle.f77_layout.specs.Faults.{has_repeat}
-use Rattle.f77_layout.proofs.FlatParts.{flat_map_taken}
+use Rattle.layout_rules.specs.Appearances.{appearing, each_once, with_name}
+use Rattle.layout_rules.specs.Declarations.{is_array}
+use Rattle.declared_names.specs.Described.{Described, described, is_array_told}
+use Rattle.layout_rules.specs.Faults.{has_repeat}
+use Rattle.layout_rules.proofs.FlatParts.{flat_map_taken}
 use Rattle.f77_tree.proofs.NameLemmas.{bytes_eq-same}
 use Rattle.f77_subs.proofs.SubNames.{any-push, or-none}
 use Rattle.f77_subs.specs.Refusals.{has_wrong_dummy, is_of_storage, names_of_storage}

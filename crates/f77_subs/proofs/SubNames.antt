@@ -4,8 +4,8 @@ use Rattle.std.specs.Prelude.{bytes_eq, option_to_list}
 use Rattle.std.specs.List.{list_any}
 use Rattle.std.proofs.lemmas.List.{take_all, take_more}
 use Rattle.f77_tree.specs.declared.statements.Labelled.{Labelled}
-use Rattle.f77_layout.specs.Faults.{first_line, first_after}
-use Rattle.f77_layout.proofs.FirstLine.{first_after-next, first_after-end}
+use Rattle.layout_rules.specs.Faults.{first_line, first_after}
+use Rattle.layout_rules.proofs.FirstLine.{first_after-next, first_after-end}
 use Rattle.f77_subs.specs.Units.{Call, call_in, is_named, is_sub_of, sub_name}
 use Rattle.f77_subs.specs.Refusals.{AreSubNames, is_one_of, is_told, is_sub_again, lacks_sub, lacks_sub_of, lacks_told}
 

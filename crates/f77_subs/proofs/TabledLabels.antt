@@ -7,8 +7,8 @@ use Rattle.std.proofs.lemmas.List.Folds.{position_or_len_push}
 use Rattle.std.proofs.lemmas.List.Sums.{prefix_len-le-length, sum_by-append, sum_by-cons}
 use Rattle.std.proofs.lemmas.Option.{slice_get_past}
 use Rattle.f77_tree.specs.declared.statements.Labelled.{Labelled}
-use Rattle.f77_layout.specs.Faults.{answer_or}
-use Rattle.f77_layout.specs.Labels.{statement_of}
+use Rattle.layout_rules.specs.Faults.{answer_or}
+use Rattle.layout_rules.specs.Labels.{statement_of}
 use Rattle.f77_subs.specs.declared.unit_table.NewLabel.{NewLabel}
 use Rattle.f77_subs.specs.Units.{call_in}
 use Rattle.f77_subs.specs.Widths.{labels}

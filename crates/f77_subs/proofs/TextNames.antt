@@ -12,10 +12,10 @@ use Rattle.f77_tree.specs.declared.declarations.CommonPart.{CommonPart}
 use Rattle.f77_tree.specs.declared.statements.Labelled.{Labelled}
 use Rattle.f77_tree.specs.declared.statements.Stmt.{Stmt}
 use Rattle.f77_tree.proofs.AllLemmas.{All-first, All-rest}
-use Rattle.f77_layout.specs.Appearances.{names_in, with_name}
-use Rattle.f77_layout.specs.Declarations.{all_commons, is_array, parts_of}
-use Rattle.f77_layout.proofs.NamesOf.{appearing-ThenIf}
-use Rattle.f77_layout.proofs.SymbolicNames.{expression_symbolic, given_symbolic}
+use Rattle.layout_rules.specs.Appearances.{names_in, with_name}
+use Rattle.layout_rules.specs.Declarations.{all_commons, is_array, parts_of}
+use Rattle.layout_rules.proofs.NamesOf.{appearing-ThenIf}
+use Rattle.storage_laws.proofs.SymbolicNames.{expression_symbolic, given_symbolic}
 use Rattle.f77_subs.specs.Names.{appearing_here, names_of_unit, option_names, used_names}
 use Rattle.f77_subs.specs.Texts.{IsText}
 use Rattle.f77_subs.specs.Units.{dummies_of, sub_dummies, sub_name, units}

@@ -8,8 +8,8 @@ use Rattle.f77_tree.specs.declared.statements.Labelled.{Labelled}
 use Rattle.f77_tree.specs.declared.statements.Stmt.{Stmt}
 use Rattle.f77_tree.specs.declared.statements.Stmt.TheVariants.{End}
 use Rattle.f77_tree.specs.StatementGrammar.{IsGiven, is_of_subroutines}
-use Rattle.f77_layout.specs.Source.{EndsWithEnd, IsSource}
-use Rattle.f77_layout.specs.StatementTrees.{IsTree}
+use Rattle.layout_rules.specs.Source.{EndsWithEnd, IsSource}
+use Rattle.layout_rules.specs.StatementTrees.{IsTree}
 use Rattle.f77_layout.proofs.GivenTrees.{given-IsTree}
 use Rattle.f77_subs.specs.OpenBlocks.{IsEnded}
 use Rattle.f77_subs.specs.Texts.{IsText}

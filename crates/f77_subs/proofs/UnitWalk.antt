@@ -4,8 +4,8 @@ use Rattle.std.specs.List.{list_any, slice_get}
 use Rattle.std.specs.Option.{is_some}
 use Rattle.std.proofs.lemmas.List.{take_more}
 use Rattle.f77_tree.specs.declared.statements.Labelled.{Labelled}
-use Rattle.f77_layout.specs.Faults.{first_line, first_after}
-use Rattle.f77_layout.proofs.FirstLine.{first_after-next}
+use Rattle.layout_rules.specs.Faults.{first_line, first_after}
+use Rattle.layout_rules.proofs.FirstLine.{first_after-next}
 use Rattle.f77_subs.specs.Units.{is_end, is_return, inner, sub_name}
 use Rattle.f77_subs.specs.Refusals.{differ, is_end_at, follows_end, is_out_of_unit}
 

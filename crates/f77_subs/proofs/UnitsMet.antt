@@ -2,7 +2,7 @@
 use Rattle.std.proofs.Common.{◌≡◌, ℕ, zero, suc, ◌+◌, ◌<◌, ◌≤◌, List, [], ◌∷◌, length, drop, Option, Some, None, refl, sym, ap, ◌∙◌, arith, add-one}
 use Rattle.std.specs.Prelude.{slice_get}
 use Rattle.f77_tree.specs.declared.statements.Labelled.{Labelled}
-use Rattle.f77_layout.specs.Faults.{answer_or, first_answer}
+use Rattle.layout_rules.specs.Faults.{answer_or, first_answer}
 use Rattle.f77_subs.specs.Units.{unit_at}
 
 pub unit-there : (us : List (List Labelled)) (k : ℕ) → k < length us → slice_get us k ≡ Some (unit_at us k)

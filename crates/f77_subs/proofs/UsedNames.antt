@@ -6,7 +6,7 @@ use Rattle.std.proofs.lemmas.Bool.{or_left, or_right}
 use Rattle.std.proofs.lemmas.List.Concat.{flat_map-cons}
 use Rattle.std.proofs.lemmas.List.Folds.{list_any-append}
 use Rattle.f77_tree.specs.declared.statements.Labelled.{Labelled}
-use Rattle.f77_layout.specs.Declarations.{all_commons}
+use Rattle.layout_rules.specs.Declarations.{all_commons}
 use Rattle.f77_subs.specs.Entities.{Entity}
 use Rattle.f77_subs.specs.Names.{name_for, names_of_unit, option_names, same_entity, used_names, y_entities}
 use Rattle.f77_subs.specs.Units.{dummies_of, sub_name, unit_at, unit_or_none}

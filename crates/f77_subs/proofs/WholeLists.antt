@@ -9,7 +9,7 @@ use Rattle.std.proofs.lemmas.Grind.{flat_map-append}
 use native.Mathlib.Nat.{min-eq_left, min-eq_right}
 use Rattle.f77_tree.specs.declared.statements.Labelled.{Labelled}
 use Rattle.f77_tree.specs.declared.statements.RawExpr.{RawExpr}
-use Rattle.f77_layout.specs.Declarations.{is_array}
+use Rattle.layout_rules.specs.Declarations.{is_array}
 use Rattle.f77_subs.specs.declared.unit_table.UnitTable.{UnitTable}
 use Rattle.f77_subs.specs.Changes.{change_by}
 use Rattle.f77_subs.specs.Expansion.{declared_first, main_pieces, put_in, whole_list}

@@ -1,6 +1,6 @@
 -- Names of two units that are alike, by what the declarations of each unit say.
 use Rattle.std.specs.Prelude.{ℕ, Bool, true, false, ◌&&◌, List, [], ◌∷◌, Option, Some, None}
-use Rattle.f77_layout.specs.Described.{Described}
+use Rattle.declared_names.specs.Described.{Described}
 use Rattle.f77_subs.specs.Refusals.{is_same_kind, are_same_dims}
 
 -- both are there, and they fit

@@ -6,9 +6,9 @@ use Rattle.f77_tree.specs.declared.declarations.CommonPart.{CommonPart}
 use Rattle.f77_tree.specs.declared.declarations.Decl.{Decl}
 use Rattle.f77_tree.specs.declared.statements.Labelled.{Labelled}
 use Rattle.f77_tree.specs.Places.{same_block}
-use Rattle.f77_layout.specs.Declarations.{all_commons}
-use Rattle.f77_layout.specs.Described.{described}
-use Rattle.f77_layout.specs.KeptDeclarations.{said_by}
+use Rattle.layout_rules.specs.Declarations.{all_commons}
+use Rattle.declared_names.specs.Described.{described}
+use Rattle.declared_names.specs.KeptDeclarations.{said_by}
 use Rattle.f77_subs.specs.declared.block_names.BlockNames.{BlockNames}
 use Rattle.f77_subs.specs.declared.block_names.BlockTable.{BlockTable}
 use Rattle.f77_subs.specs.declared.block_owners.BlockOwners.{BlockOwners}

@@ -2,8 +2,8 @@
 use Rattle.std.specs.Prelude.{ℕ, ◌+◌, ◌∷◌, [], ◌++◌, nat_eq, nat_lt, if◌then◌else◌, List, length, Option, Some, None, bytes_eq, slice_get}
 use Rattle.indexmap.specs.IndexMap.{get}
 use Rattle.op_table.specs.declared.Op.{Op}
-use Rattle.f77_layout.specs.Described.{is_array_told}
-use Rattle.f77_layout.specs.KeptDeclarations.{said_by}
+use Rattle.declared_names.specs.Described.{is_array_told}
+use Rattle.declared_names.specs.KeptDeclarations.{said_by}
 use Rattle.f77_tree.specs.declared.statements.RawExpr.{RawExpr}
 use Rattle.f77_tree.specs.declared.statements.RawExpr.TheVariants.{Apply}
 use Rattle.f77_subs.specs.declared.unit_table.NewName.{NewName}

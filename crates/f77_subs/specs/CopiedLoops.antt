@@ -1,8 +1,8 @@
 -- DO loops of copies, by the labels of the statements at which their ranges end.
 use Rattle.std.specs.Prelude.{◌≡◌, ℕ, ◌+◌, ◌<◌, ◌≤◌, suc, Bool, true, if◌then◌else◌, List, [], ◌∷◌, ◌++◌, Some, slice_get}
 use Rattle.f77_tree.specs.declared.statements.Labelled.{Labelled}
-use Rattle.f77_layout.specs.Executables.{is_do_to}
-use Rattle.f77_layout.specs.Labels.{statement_of}
+use Rattle.layout_rules.specs.Executables.{is_do_to}
+use Rattle.layout_rules.specs.Labels.{statement_of}
 use Rattle.f77_subs.specs.Units.{call_in, unit_at}
 use Rattle.f77_subs.specs.Widths.{is_kept, body_labels}
 use Rattle.f77_subs.specs.Copies.{Context, end_by, number_at}

@@ -8,10 +8,10 @@ use Rattle.f77_tree.specs.declared.statements.RawItem.{RawItem}
 use Rattle.f77_tree.specs.declared.statements.RawItem.TheVariants.{Value, Chars}
 use Rattle.f77_tree.specs.declared.statements.Stmt.{Stmt, more_of-Stmt}
 use Rattle.f77_tree.specs.declared.statements.Stmt.TheVariants.{Assign, Print, Take, Continue, GoTo, PickGoTo, SignIf, ThenIf, ThenIf', BlockIf, ElseIf, EndIf, Do, Back}
-use Rattle.f77_layout.specs.Declarations.{is_array}
-use Rattle.f77_layout.specs.Functions.{intrinsic_named}
-use Rattle.f77_layout.specs.Labels.{statement_of}
-use Rattle.f77_layout.specs.Types.{Intrinsic}
+use Rattle.layout_rules.specs.Declarations.{is_array}
+use Rattle.declared_names.specs.Functions.{intrinsic_named}
+use Rattle.layout_rules.specs.Labels.{statement_of}
+use Rattle.layout_rules.specs.Types.{Intrinsic}
 use Rattle.f77_subs.specs.Units.{Call, unit_at, unit_of, call_in, guard_of}
 use Rattle.f77_subs.specs.Entities.{Entity, stands_for}
 use Rattle.f77_subs.specs.Names.{name_for}

@@ -2,8 +2,8 @@
 use Rattle.std.specs.Prelude.{ℕ, Bool, ◌||◌, if◌then◌else◌, List, [], bytes_eq}
 use Rattle.std.specs.List.{list_any}
 use Rattle.f77_tree.specs.declared.statements.Stmt.{Stmt}
-use Rattle.f77_layout.specs.Appearances.{appearing}
-use Rattle.f77_layout.specs.Faults.{has_repeat}
+use Rattle.layout_rules.specs.Appearances.{appearing}
+use Rattle.layout_rules.specs.Faults.{has_repeat}
 use Rattle.f77_subs.specs.Refusals.{is_of_storage}
 
 -- the names in a statement, if it is COMMON, EQUIVALENCE or DATA

@@ -8,10 +8,10 @@ use Rattle.f77_tree.specs.declared.statements.Labelled.{Labelled}
 use Rattle.f77_tree.specs.declared.statements.Stmt.{Stmt}
 use Rattle.f77_tree.specs.declared.statements.Stmt.TheVariants.{TypeOf, Common, Equivalence, Init}
 use Rattle.f77_tree.specs.Places.{same_block}
-use Rattle.f77_layout.specs.Declarations.{kind_of, dims_of, all_commons}
-use Rattle.f77_layout.specs.Executables.{kind_or_integer}
-use Rattle.f77_layout.specs.Layout.{last_line}
-use Rattle.f77_layout.specs.Order.{rank}
+use Rattle.layout_rules.specs.Declarations.{kind_of, dims_of, all_commons}
+use Rattle.layout_rules.specs.Executables.{kind_or_integer}
+use Rattle.layout_rules.specs.Layout.{last_line}
+use Rattle.layout_rules.specs.Order.{rank}
 use Rattle.f77_subs.specs.Units.{unit_at, runs}
 use Rattle.f77_subs.specs.Entities.{Entity, Local, InBlock, entity_of, block_list}
 use Rattle.f77_subs.specs.Names.{name_for, y_entities, has_block}

@@ -2,7 +2,7 @@
 use Rattle.std.specs.Prelude.{◌≡◌, ℕ, ◌+◌, ◌^◌, min, nat_eq, List, length, take, slice_get}
 use Rattle.indexmap.specs.IndexMap.{IndexMap, get}
 use Rattle.f77_tree.specs.declared.statements.Labelled.{Labelled}
-use Rattle.f77_layout.specs.Labels.{statement_of}
+use Rattle.layout_rules.specs.Labels.{statement_of}
 use Rattle.f77_subs.specs.declared.label_counts.LabelCounts.{LabelCounts}
 use Rattle.f77_subs.specs.declared.unit_table.NewLabel.{NewLabel}
 use Rattle.f77_subs.specs.Copies.{call_at}

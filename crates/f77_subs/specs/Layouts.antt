@@ -2,7 +2,7 @@
 use Rattle.std.specs.Prelude.{Bool, List}
 use Rattle.f77_tree.specs.declared.statements.Labelled.{Labelled}
 use Rattle.f77_tree.specs.declared.programs.Program.{Program}
-use Rattle.f77_layout.specs.Layout.{program}
+use Rattle.layout_rules.specs.Layout.{program}
 use Rattle.f77_subs.specs.Units.{standing_in}
 
 abbrev pub own_program : List Labelled → (checked : Bool) → Program

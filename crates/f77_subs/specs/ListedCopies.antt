@@ -4,7 +4,7 @@ use Rattle.std.specs.List.{list_all}
 use Rattle.f77_tree.specs.declared.statements.Labelled.{Labelled}
 use Rattle.f77_tree.specs.declared.statements.RawExpr.{RawExpr}
 use Rattle.f77_tree.specs.declared.statements.Stmt.TheVariants.{Continue, EndIf, End}
-use Rattle.f77_layout.specs.Labels.{is_executable}
+use Rattle.layout_rules.specs.Labels.{is_executable}
 use Rattle.f77_subs.specs.Units.{Call, unit_at, unit_of}
 use Rattle.f77_subs.specs.Entities.{stands_for}
 use Rattle.f77_subs.specs.Widths.{is_kept, width, body_width}

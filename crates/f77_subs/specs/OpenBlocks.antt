@@ -2,8 +2,8 @@
 use Rattle.std.specs.Prelude.{◌≡◌, ℕ, ◌+◌, ◌-◌, Bool, true, false, ◌&&◌, nat_lt, ◌==◌, if◌then◌else◌, List, [], ◌∷◌, ◌++◌}
 use Rattle.std.specs.List.{list_any}
 use Rattle.f77_tree.specs.declared.statements.Labelled.{Labelled}
-use Rattle.f77_layout.specs.Labels.{is_arm}
-use Rattle.f77_layout.specs.Jumps.{is_block_if, is_end_if}
+use Rattle.layout_rules.specs.Labels.{is_arm}
+use Rattle.layout_rules.specs.Jumps.{is_block_if, is_end_if}
 use Rattle.f77_subs.specs.Units.{is_end, unit_at}
 
 -- The blocks of IF in these statements, and those that are open before them, so many, end in them, and each ELSE IF, ELSE and

@@ -9,12 +9,12 @@ use Rattle.f77_tree.specs.declared.declarations.CommonPart.{CommonPart}
 use Rattle.f77_tree.specs.declared.statements.Labelled.{Labelled}
 use Rattle.f77_tree.specs.declared.statements.Stmt.{Stmt}
 use Rattle.f77_tree.specs.declared.statements.Stmt.TheVariants.{Common, Equivalence, Init}
-use Rattle.f77_layout.specs.declared.layout_end.LayoutEnd.{LayoutEnd}
-use Rattle.f77_layout.specs.Appearances.{appearing}
-use Rattle.f77_layout.specs.Declarations.{kind_of, dims_of, is_array, all_commons}
-use Rattle.f77_layout.specs.Faults.{first_line, first_answer, has_repeat}
-use Rattle.f77_layout.specs.Layout.{refusal, line_or_none, last_line}
-use Rattle.f77_layout.specs.Types.{is_kind}
+use Rattle.layout_rules.specs.declared.layout_end.LayoutEnd.{LayoutEnd}
+use Rattle.layout_rules.specs.Appearances.{appearing}
+use Rattle.layout_rules.specs.Declarations.{kind_of, dims_of, is_array, all_commons}
+use Rattle.layout_rules.specs.Faults.{first_line, first_answer, has_repeat}
+use Rattle.layout_rules.specs.Layout.{refusal, line_or_none, last_line}
+use Rattle.layout_rules.specs.Types.{is_kind}
 use Rattle.f77_subs.specs.declared.sub_end.SubEnd.{SubEnd}
 use Rattle.f77_subs.specs.declared.sub_end.SubEnd.TheVariants.{UnitOrder, Layout, SubTwice, NoSub, BadCall, BadBlock, Recursion, TooManyStatements, TooManyNames}
 use Rattle.f77_subs.specs.Units.{Call, is_end, is_return, is_sub_of, inner, call_in, sub_name, sub_dummies, dummies_of, unit_at, unit_of, units, standing_in, reaches}

@@ -1,9 +1,9 @@
 -- What is asked of a unit where another one calls it.
 use Rattle.std.specs.Prelude.{◌≡◌, ◌+◌, ℕ, List, length, Some, slice_get}
 use Rattle.f77_tree.specs.declared.statements.Labelled.{Labelled}
-use Rattle.f77_layout.specs.Appearances.{each_once}
-use Rattle.f77_layout.specs.Described.{described}
-use Rattle.f77_layout.specs.KeptDeclarations.{said_by}
+use Rattle.layout_rules.specs.Appearances.{each_once}
+use Rattle.declared_names.specs.Described.{described}
+use Rattle.declared_names.specs.KeptDeclarations.{said_by}
 use Rattle.f77_subs.specs.declared.unit_said.UnitSaid.{UnitSaid}
 use Rattle.f77_subs.specs.Units.{dummies_of, unit_at}
 use Rattle.f77_subs.specs.Refusals.{names_of_storage}

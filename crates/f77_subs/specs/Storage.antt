@@ -6,7 +6,7 @@ use Rattle.f77_tree.specs.declared.statements.Labelled.{Labelled}
 use Rattle.f77_tree.specs.Declarations.{offset_of}
 use Rattle.f77_tree.specs.InitialWords.{lit_word, given}
 use Rattle.f77_tree.specs.Value.{size_of}
-use Rattle.f77_layout.specs.Declarations.{dims_of, all_groups, all_inits}
+use Rattle.layout_rules.specs.Declarations.{dims_of, all_groups, all_inits}
 use Rattle.f77_subs.specs.Units.{unit_at, runs}
 use Rattle.f77_subs.specs.Layouts.{own_program}
 use Rattle.f77_subs.specs.Entities.{Entity, InBlock, entity_of, stands_for}

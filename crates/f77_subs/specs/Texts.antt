@@ -2,7 +2,7 @@
 use Rattle.std.specs.Prelude.{◌≡◌, ℕ, ◌<◌, ◌≤◌, List, length, All, Some, slice_get}
 use Rattle.f77_tree.specs.declared.statements.Labelled.{Labelled}
 use Rattle.f77_tree.specs.StatementGrammar.{IsGiven}
-use Rattle.f77_layout.specs.Source.{EndsWithEnd}
+use Rattle.layout_rules.specs.Source.{EndsWithEnd}
 
 -- Statements that were read from a text. Their lines rise, and there are at most 4,000, with END at the end.
 pub record IsText (stmts : List Labelled) : Type 0 where

@@ -6,8 +6,8 @@ use Rattle.f77_tree.specs.declared.declarations.CommonPart.{CommonPart}
 use Rattle.f77_tree.specs.declared.declarations.Decl.{Decl}
 use Rattle.f77_tree.specs.declared.statements.Labelled.{Labelled}
 use Rattle.f77_tree.specs.Places.{same_block}
-use Rattle.f77_layout.specs.Declarations.{all_commons}
-use Rattle.f77_layout.specs.Faults.{first_answer}
+use Rattle.layout_rules.specs.Declarations.{all_commons}
+use Rattle.layout_rules.specs.Faults.{first_answer}
 use Rattle.f77_subs.specs.declared.unit_blocks.UnitBlocks.{UnitBlocks}
 use Rattle.f77_subs.specs.Entities.{Entity, InBlock, block_list, found_in}
 use Rattle.f77_subs.specs.Names.{same_entity}

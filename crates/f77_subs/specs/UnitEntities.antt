@@ -5,9 +5,9 @@ use Rattle.std.specs.Option.{is_some}
 use Rattle.indexmap.specs.IndexMap.{get}
 use Rattle.f77_tree.specs.declared.statements.Labelled.{Labelled}
 use Rattle.f77_tree.specs.Places.{same_block}
-use Rattle.f77_layout.specs.Declarations.{all_commons}
-use Rattle.f77_layout.specs.Described.{described}
-use Rattle.f77_layout.specs.KeptDeclarations.{said_by}
+use Rattle.layout_rules.specs.Declarations.{all_commons}
+use Rattle.declared_names.specs.Described.{described}
+use Rattle.declared_names.specs.KeptDeclarations.{said_by}
 use Rattle.f77_subs.specs.declared.unit_entities.UnitNames.{UnitNames}
 use Rattle.f77_subs.specs.Units.{dummies_of, sub_name, unit_at}
 use Rattle.f77_subs.specs.CallTable.{if_below}

@@ -3,10 +3,10 @@ use Rattle.std.specs.Prelude.{◌≡◌, ℕ, suc, ◌+◌, ◌<◌, ◌==◌, B
 use Rattle.std.specs.List.{list_all, position_or_len}
 use Rattle.indexmap.specs.IndexMap.{get}
 use Rattle.f77_tree.specs.declared.statements.Labelled.{Labelled}
-use Rattle.f77_layout.specs.Declarations.{is_array}
-use Rattle.f77_layout.specs.Described.{is_array_told}
-use Rattle.f77_layout.specs.KeptDeclarations.{said_by}
-use Rattle.f77_layout.specs.Labels.{statement_of}
+use Rattle.layout_rules.specs.Declarations.{is_array}
+use Rattle.declared_names.specs.Described.{is_array_told}
+use Rattle.declared_names.specs.KeptDeclarations.{said_by}
+use Rattle.layout_rules.specs.Labels.{statement_of}
 use Rattle.f77_subs.specs.declared.unit_table.NewName.{NewName}
 use Rattle.f77_subs.specs.declared.unit_table.NewName.TheVariants.{Argument, Fixed}
 use Rattle.f77_subs.specs.declared.unit_table.UnitTable.{UnitTable}

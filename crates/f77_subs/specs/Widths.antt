@@ -5,7 +5,7 @@ use Rattle.f77_tree.specs.declared.statements.Labelled.{Labelled}
 use Rattle.f77_tree.specs.declared.statements.RawExpr.{RawExpr}
 use Rattle.f77_tree.specs.declared.statements.Stmt.{Stmt}
 use Rattle.f77_tree.specs.declared.statements.Stmt.TheVariants.{End}
-use Rattle.f77_layout.specs.Labels.{is_executable}
+use Rattle.layout_rules.specs.Labels.{is_executable}
 use Rattle.f77_subs.specs.Units.{Call, call_in, guard_of, unit_at, unit_of}
 
 -- a statement of this unit that stands in its copies, or, of the main program, in the list

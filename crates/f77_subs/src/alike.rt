@@ -1,11 +1,11 @@
 //! Names of two units that have the same kind and the same dimensions.
 ghost use Rattle.std.specs.Prelude.{◌≡◌, slice_get};
 ghost use Rattle.std.specs.Ordering.{int_eq};
-ghost use Rattle.f77_layout.specs.KeptDeclarations.{said_by};
+ghost use Rattle.declared_names.specs.KeptDeclarations.{said_by};
 ghost use Rattle.f77_subs.specs.Refusals.{are_same_dims as are_same_dims_of, is_same_dim as is_same_dim_of, is_same_kind as is_same_kind_of};
 ghost use Rattle.f77_subs.specs.Alike.{are_alike_told, are_both, is_alike_told};
 
-use f77_layout::NameDeclarations;
+use declared_names::NameDeclarations;
 use f77_tree::{Dim, Kind, Name};
 
 /// Whether these names of a unit and those of another are as many, and have the same kinds and dimensions, one by one.

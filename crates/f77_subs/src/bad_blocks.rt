@@ -1,8 +1,8 @@
 //! COMMON blocks whose names aren't alike in all units.
 ghost use Rattle.std.specs.Prelude.{◌≡◌, ◌≤◌, ◌<◌, length, IfOk};
 ghost use Rattle.std.specs.List.{list_any};
-ghost use Rattle.f77_layout.specs.Declarations.{all_commons};
-ghost use Rattle.f77_layout.specs.Faults.{first_answer};
+ghost use Rattle.layout_rules.specs.Declarations.{all_commons};
+ghost use Rattle.layout_rules.specs.Faults.{first_answer};
 ghost use Rattle.f77_subs.specs.Units.{unit_at};
 ghost use Rattle.f77_subs.specs.Refusals.{bad_block, is_odd_part};
 ghost use Rattle.f77_subs.specs.BlockTables.{AreBlockTables, AreOwners, IsTableOfBlocks, is_odd_block};

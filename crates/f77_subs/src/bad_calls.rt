@@ -1,7 +1,7 @@
 //! CALLs whose arguments aren't as the dummies of the subroutine are, and dummies that stand where they can't.
 ghost use Rattle.std.specs.Prelude.{◌≡◌, ◌+◌, ◌<◌, ◌≤◌, ◌||◌, ℕ, List, true, length, bytes_eq, if◌then◌else◌, IfOk};
 ghost use Rattle.indexmap.specs.IndexMap.{get};
-ghost use Rattle.f77_layout.specs.Faults.{first_line};
+ghost use Rattle.layout_rules.specs.Faults.{first_line};
 ghost use Rattle.f77_subs.specs.Units.{call_by, call_in, is_end as is_end_of, unit_at, units};
 ghost use Rattle.f77_subs.specs.CallTable.{unit_named};
 ghost use Rattle.f77_subs.specs.Refusals.{calls_wrongly, has_bad_call, has_wrong_dummy as has_wrong_dummy_of};

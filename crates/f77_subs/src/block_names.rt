@@ -5,8 +5,9 @@ ghost use Rattle.indexmap.specs.IndexMap.{get};
 ghost use Rattle.f77_tree.specs.Places.{same_block};
 ghost use Rattle.f77_subs.specs.BlockTables.{AreNoted, IsTableOfBlocks, decl_names, found_names};
 
+use declared_names::NameDeclarations;
 use df_sequence::{Copied, NoMemory, Sequence};
-use f77_layout::{NameDeclarations, commons_of};
+use f77_layout::commons_of;
 use f77_tree::{CommonPart, Decl, Labelled, Name, NameList};
 use indexmap::IndexMap;
 use std::alloc::Global;

@@ -3,7 +3,7 @@ ghost use Rattle.std.specs.Prelude.{◌≡◌, ℕ, List, Option, None, length, 
 ghost use Rattle.std.specs.List.{list_any, position_or_len};
 ghost use Rattle.indexmap.specs.IndexMap.{get};
 ghost use Rattle.f77_tree.specs.Places.{same_block};
-ghost use Rattle.f77_layout.specs.Faults.{answer_or};
+ghost use Rattle.layout_rules.specs.Faults.{answer_or};
 ghost use Rattle.f77_subs.specs.Names.{has_block};
 ghost use Rattle.f77_subs.specs.CallTable.{unit_if};
 ghost use Rattle.f77_subs.specs.BlockTables.{AreBlockTables, AreOwners, owner_in};

@@ -2,7 +2,7 @@
 ghost use Rattle.std.specs.Prelude.{◌≡◌, ◌+◌, ◌<◌, ◌++◌, ◌&&◌, ℕ, List, length, min, not, bytes_eq, IfOk, OnOk};
 ghost use Rattle.std.specs.Option.{is_some};
 ghost use Rattle.indexmap.specs.IndexMap.{get};
-ghost use Rattle.f77_layout.specs.Labels.{is_executable as is_executable_of};
+ghost use Rattle.layout_rules.specs.Labels.{is_executable as is_executable_of};
 ghost use Rattle.f77_subs.specs.Units.{call_by, guard_of, is_end as is_end_of, unit_at, unit_of as unit_of_name};
 ghost use Rattle.f77_subs.specs.Widths.{is_kept as is_kept_of};
 ghost use Rattle.f77_subs.specs.CallTable.{call_row as call_row_of, call_rows as call_rows_of, callee_of, own_lines as own_lines_of, own_width as own_width_of, unit_named};

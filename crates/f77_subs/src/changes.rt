@@ -1,6 +1,6 @@
 //! What changes in a copy: names, calls of intrinsic functions, jumps and ends of DOs.
 ghost use Rattle.std.specs.Prelude.{◌≡◌, ◌&&◌, not, map, option_map, slice_get, IfOk};
-ghost use Rattle.f77_layout.specs.Functions.{intrinsic_named};
+ghost use Rattle.declared_names.specs.Functions.{intrinsic_named};
 ghost use Rattle.f77_subs.specs.Changes.{changes_of, or_itself};
 
 use crate::unit_table::{CopyOf, NewName};

@@ -1,8 +1,8 @@
 //! Declarations of entities that are put in.
 ghost use Rattle.std.specs.Prelude.{◌≡◌, ◌<◌, ◌++◌, ◌∷◌, [], length, map, IfOk, OnOk};
 ghost use Rattle.std.specs.List.{range_with_len};
-ghost use Rattle.f77_layout.specs.Declarations.{kind_of};
-ghost use Rattle.f77_layout.specs.Executables.{kind_or_integer as kind_or_integer_of};
+ghost use Rattle.layout_rules.specs.Declarations.{kind_of};
+ghost use Rattle.layout_rules.specs.Executables.{kind_or_integer as kind_or_integer_of};
 ghost use Rattle.f77_subs.specs.Expansion.{block_size as block_size_of, common_decl as common_decl_of, declared_in as declared_in_of, type_decl as type_decl_of};
 ghost use Rattle.f77_subs.specs.Units.{unit_at};
 

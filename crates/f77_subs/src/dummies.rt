@@ -1,17 +1,17 @@
 //! Dummies that stand where they can't: twice in their list, or in COMMON, EQUIVALENCE or DATA.
 ghost use Rattle.std.specs.Prelude.{◌≡◌, [], fold, bytes_eq, IfOk, OnOk};
 ghost use Rattle.std.specs.List.{list_any};
-ghost use Rattle.f77_layout.specs.Appearances.{each_once, with_name};
-ghost use Rattle.f77_layout.specs.Described.{described, is_array_told};
-ghost use Rattle.f77_layout.specs.Faults.{has_repeat};
-ghost use Rattle.f77_layout.specs.KeptDeclarations.{said_by};
+ghost use Rattle.layout_rules.specs.Appearances.{each_once, with_name};
+ghost use Rattle.declared_names.specs.Described.{described, is_array_told};
+ghost use Rattle.layout_rules.specs.Faults.{has_repeat};
+ghost use Rattle.declared_names.specs.KeptDeclarations.{said_by};
 ghost use Rattle.f77_subs.specs.Units.{sub_dummies};
 ghost use Rattle.f77_subs.specs.Refusals.{names_of_storage};
 ghost use Rattle.f77_subs.specs.Dummies.{are_wrong_dummies as are_wrong_dummies_of, is_stored, stored};
 
 use crate::sub_names::SubNames;
+use declared_names::{AppearingNames, NameDeclarations};
 use df_sequence::NoMemory;
-use f77_layout::{AppearingNames, NameDeclarations};
 use f77_tree::{Labelled, Name, Stmt};
 use std::alloc::Global;
 

@@ -2,7 +2,7 @@
 ghost use Rattle.std.specs.Prelude.{◌≡◌, ◌<◌, ◌≤◌, ◌≢◌, ◌^◌, ℕ, List, Ok, Err, false, length, slice_index_or, sum_by, bytes_eq, IfOk, IfErr};
 ghost use Rattle.closed_walks.specs.Graph.{edge_count};
 ghost use Rattle.indexmap.specs.IndexMap.{get};
-ghost use Rattle.f77_layout.specs.Faults.{first_answer};
+ghost use Rattle.layout_rules.specs.Faults.{first_answer};
 ghost use Rattle.f77_subs.specs.CallGraph.{call_graph};
 ghost use Rattle.f77_subs.specs.CallTable.{unit_named};
 ghost use Rattle.f77_subs.specs.Expansion.{whole_list as whole_list_of};

@@ -1,6 +1,6 @@
 //! Refusals of units but for those that speak of the size of the expansion.
 ghost use Rattle.std.specs.Prelude.{◌≡◌, ◌≤◌, length, IfOk};
-ghost use Rattle.f77_layout.specs.Faults.{first_answer};
+ghost use Rattle.layout_rules.specs.Faults.{first_answer};
 ghost use Rattle.f77_subs.specs.Units.{units};
 ghost use Rattle.f77_subs.specs.Refusals.{AreSubNames, call_refusals, form_refusals};
 ghost use Rattle.f77_subs.specs.Texts.{IsText};

@@ -1,13 +1,13 @@
 //! Whether a text needs a name of a great number.
 ghost use Rattle.std.specs.Prelude.{◌≡◌, ◌+◌, ◌<◌, ◌^◌, ℕ, List, filter, length, nat_lt, IfOk};
 ghost use Rattle.std.specs.List.{list_any, range_with_len};
-ghost use Rattle.f77_layout.specs.Appearances.{each_once};
+ghost use Rattle.layout_rules.specs.Appearances.{each_once};
 ghost use Rattle.f77_subs.specs.NewNames.{first_free, is_free_of};
 
 use crate::put_counts::one_if;
 use crate::y_names::y_name;
+use declared_names::AppearingNames;
 use df_sequence::NoMemory;
-use f77_layout::AppearingNames;
 use std::alloc::Global;
 
 /// Whether one of the first so many free numbers is above this, where these are the names in use, each once. It tries no

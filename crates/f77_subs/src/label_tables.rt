@@ -1,7 +1,7 @@
 //! What stands for the statements with labels in the copies of a unit.
 ghost use Rattle.std.specs.Prelude.{◌≡◌, ◌+◌, ◌≤◌, ◌^◌, ℕ, if◌then◌else◌, nat_eq, Some, None, IfOk, OnOk};
 ghost use Rattle.indexmap.specs.IndexMap.{get};
-ghost use Rattle.f77_layout.specs.Faults.{answer_or};
+ghost use Rattle.layout_rules.specs.Faults.{answer_or};
 ghost use Rattle.f77_subs.specs.Units.{call_in};
 ghost use Rattle.f77_subs.specs.LabelTables.{AreLabelsOf};
 ghost use Rattle.f77_subs.specs.UnitTables.{labels_behind as labels_behind_of};

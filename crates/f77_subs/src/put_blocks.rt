@@ -3,7 +3,7 @@ ghost use Rattle.std.specs.Prelude.{◌≡◌, ◌<◌, [], ℕ, List, Option, f
 ghost use Rattle.std.specs.List.{list_any};
 ghost use Rattle.indexmap.specs.IndexMap.{get};
 ghost use Rattle.f77_tree.specs.Places.{same_block};
-ghost use Rattle.f77_layout.specs.Faults.{answer_or};
+ghost use Rattle.layout_rules.specs.Faults.{answer_or};
 ghost use Rattle.f77_subs.specs.CallTable.{unit_if};
 ghost use Rattle.f77_subs.specs.Expansion.{blocks as blocks_of, with_block};
 ghost use Rattle.f77_subs.specs.Names.{has_block};

@@ -4,7 +4,7 @@ ghost use Rattle.std.specs.List.{list_any};
 ghost use Rattle.indexmap.specs.IndexMap.{get};
 ghost use Rattle.f77_tree.specs.Places.{same_block};
 ghost use Rattle.f77_subs.specs.Expansion.{blocks as blocks_of, common_of, datas, is_running as is_running_of, put_in, ties, type_of, units_but_main};
-ghost use Rattle.f77_layout.specs.Layout.{last_line};
+ghost use Rattle.layout_rules.specs.Layout.{last_line};
 ghost use Rattle.f77_subs.specs.Names.{y_entities};
 ghost use Rattle.f77_subs.specs.PutIn.{first_with_block, is_put_in as is_put_in_of, is_run_block};
 ghost use Rattle.f77_subs.specs.Units.{runs as runs_of, unit_at};

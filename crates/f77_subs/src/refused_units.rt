@@ -1,9 +1,9 @@
 //! Units that are refused by themselves.
 ghost use Rattle.std.specs.Prelude.{◌≡◌, ◌≢◌, ℕ, List, Some, slice_get, IfOk};
 ghost use Rattle.f77_tree.specs.declared.statements.Labelled.{Labelled};
-ghost use Rattle.f77_layout.specs.Faults.{first_answer};
-ghost use Rattle.f77_layout.specs.Layout.{refusal};
-ghost use Rattle.f77_layout.specs.Source.{IsSource};
+ghost use Rattle.layout_rules.specs.Faults.{first_answer};
+ghost use Rattle.layout_rules.specs.Layout.{refusal};
+ghost use Rattle.layout_rules.specs.Source.{IsSource};
 ghost use Rattle.f77_subs.specs.Units.{standing_in as standing_in_of};
 ghost use Rattle.f77_subs.specs.Refusals.{layout_end, layout_end_of};
 

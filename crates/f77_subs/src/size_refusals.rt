@@ -2,7 +2,7 @@
 ghost use Rattle.std.specs.Prelude.{◌≡◌, ◌+◌, ◌<◌, ℕ, List, false, length, nat_lt, slice_index_or, bytes_eq, IfOk};
 ghost use Rattle.std.specs.List.{list_any};
 ghost use Rattle.indexmap.specs.IndexMap.{get};
-ghost use Rattle.f77_layout.specs.Faults.{first_answer};
+ghost use Rattle.layout_rules.specs.Faults.{first_answer};
 ghost use Rattle.f77_subs.specs.CallTable.{unit_named};
 ghost use Rattle.f77_subs.specs.Expansion.{total_width};
 ghost use Rattle.f77_subs.specs.Heights.{NoneCallsItself};

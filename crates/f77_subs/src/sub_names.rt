@@ -2,7 +2,7 @@
 ghost use Rattle.std.specs.Prelude.{◌≡◌, ◌++◌, [], ◌∷◌, not, true, false, IfOk, bytes_eq, option_to_list};
 ghost use Rattle.std.specs.List.{list_any};
 ghost use Rattle.std.specs.Result.{result_err};
-ghost use Rattle.f77_layout.specs.Faults.{first_line};
+ghost use Rattle.layout_rules.specs.Faults.{first_line};
 ghost use Rattle.f77_subs.specs.Units.{call_by, inner, sub_name};
 ghost use Rattle.f77_subs.specs.Refusals.{AreSubNames, is_sub_again, is_told, lacks_sub, lacks_told};
 

@@ -2,7 +2,7 @@
 ghost use Rattle.std.specs.Prelude.{◌≡◌, ℕ, List, Option, IfOk};
 ghost use Rattle.std.specs.List.{list_any};
 ghost use Rattle.f77_tree.specs.Places.{same_block};
-ghost use Rattle.f77_layout.specs.Appearances.{each_once};
+ghost use Rattle.layout_rules.specs.Appearances.{each_once};
 ghost use Rattle.f77_subs.specs.Names.{has_block, used_names as used_names_of, y_entities};
 ghost use Rattle.f77_subs.specs.Units.{unit_at};
 ghost use Rattle.f77_subs.specs.UnitEntities.{AreNamesOfAll};
@@ -12,8 +12,8 @@ use crate::splitting::Units;
 use crate::text_names::{Blocks, main_blocks, own_entities};
 use crate::unit_entities::{UnitNames, names_of_all};
 use crate::used_names::used_names;
+use declared_names::AppearingNames;
 use df_sequence::NoMemory;
-use f77_layout::AppearingNames;
 use std::alloc::Global;
 
 /// The entities of a text.

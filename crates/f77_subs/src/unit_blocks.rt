@@ -2,7 +2,7 @@
 ghost use Rattle.std.specs.Prelude.{◌≡◌, ◌+◌, ◌++◌, ◌∷◌, [], List, Option, ℕ, option_copied, if◌then◌else◌, Some, None, bytes_eq, IfOk, OnOk};
 ghost use Rattle.indexmap.specs.IndexMap.{get};
 ghost use Rattle.f77_tree.specs.Places.{same_block};
-ghost use Rattle.f77_layout.specs.Faults.{answer_or};
+ghost use Rattle.layout_rules.specs.Faults.{answer_or};
 ghost use Rattle.f77_subs.specs.Entities.{Entity as EntityOf, InBlock};
 ghost use Rattle.f77_subs.specs.Names.{same_entity};
 ghost use Rattle.f77_subs.specs.UnitBlocks.{AreBlocksOf, AreKept, InCommon, declared_by, in_commons, or_zero};

@@ -1,6 +1,6 @@
 //! Lines by which units are told.
 ghost use Rattle.std.specs.Prelude.{◌≡◌};
-ghost use Rattle.f77_layout.specs.Layout.{last_line};
+ghost use Rattle.layout_rules.specs.Layout.{last_line};
 ghost use Rattle.f77_subs.specs.Units.{unit_at};
 
 use crate::splitting::Units;

@@ -1,12 +1,12 @@
 //! The names of a unit.
 ghost use Rattle.std.specs.Prelude.{◌≡◌, fold, IfOk, OnOk};
-ghost use Rattle.f77_layout.specs.Appearances.{with_name};
-ghost use Rattle.f77_layout.specs.Described.{described, is_array_told};
-ghost use Rattle.f77_layout.specs.KeptDeclarations.{said_by};
+ghost use Rattle.layout_rules.specs.Appearances.{with_name};
+ghost use Rattle.declared_names.specs.Described.{described, is_array_told};
+ghost use Rattle.declared_names.specs.KeptDeclarations.{said_by};
 ghost use Rattle.f77_subs.specs.Names.{appearing_here, names_of_unit};
 
+use declared_names::{AppearingNames, NameDeclarations};
 use df_sequence::NoMemory;
-use f77_layout::{AppearingNames, NameDeclarations};
 use f77_tree::{Labelled, Name, Stmt};
 use std::alloc::Global;
 

@@ -1,7 +1,7 @@
 //! The order of units: SUBROUTINE stands directly after END, and no other statement does.
 ghost use Rattle.std.specs.Prelude.{◌≡◌, ◌&&◌, ◌||◌};
 ghost use Rattle.std.specs.Option.{is_some};
-ghost use Rattle.f77_layout.specs.Faults.{first_line};
+ghost use Rattle.layout_rules.specs.Faults.{first_line};
 ghost use Rattle.f77_subs.specs.Units.{inner, is_return, sub_name};
 ghost use Rattle.f77_subs.specs.Refusals.{differ as differ_of, is_out_of_unit};
 

@@ -1,7 +1,7 @@
 //! The first refusal of the units of a text.
 ghost use Rattle.std.specs.Prelude.{◌≡◌, ◌<◌, ◌^◌, length, IfOk};
 ghost use Rattle.closed_walks.specs.Graph.{edge_count};
-ghost use Rattle.f77_layout.specs.Faults.{first_answer};
+ghost use Rattle.layout_rules.specs.Faults.{first_answer};
 ghost use Rattle.f77_subs.specs.CallGraph.{call_graph};
 ghost use Rattle.f77_subs.specs.Heights.{NoneCallsItself};
 ghost use Rattle.f77_subs.specs.Refusals.{size_refusals, unit_refusal};

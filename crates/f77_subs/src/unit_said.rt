@@ -1,14 +1,14 @@
 //! What is asked of a unit where another one calls it.
 ghost use Rattle.std.specs.Prelude.{◌≡◌, ◌++◌, not, IfOk, OnOk};
-ghost use Rattle.f77_layout.specs.KeptDeclarations.{said_by};
+ghost use Rattle.declared_names.specs.KeptDeclarations.{said_by};
 ghost use Rattle.f77_subs.specs.Units.{dummies_of, sub_dummies};
 ghost use Rattle.f77_subs.specs.Alike.{are_alike_told};
 ghost use Rattle.f77_subs.specs.Said.{IsSaidOf};
 
 use crate::alike::are_alike;
 use crate::dummies::storage_names;
+use declared_names::{AppearingNames, NameDeclarations};
 use df_sequence::{Copied, NoMemory};
-use f77_layout::{AppearingNames, NameDeclarations};
 use f77_tree::{Labelled, Name, Stmt};
 use std::alloc::Global;
 

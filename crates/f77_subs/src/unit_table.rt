@@ -2,7 +2,7 @@
 ghost use Rattle.std.specs.Prelude.{◌≡◌, ◌<◌, ◌^◌, length};
 
 use crate::label_counts::LabelCounts;
-use f77_layout::NameDeclarations;
+use declared_names::NameDeclarations;
 use f77_tree::Name;
 use indexmap::IndexMap;
 

@@ -1,7 +1,7 @@
 //! The names that are in use in a text.
 ghost use Rattle.std.specs.Prelude.{◌≡◌, fold, flat_map, IfOk, OnOk};
-ghost use Rattle.f77_layout.specs.Appearances.{each_once, with_name};
-ghost use Rattle.f77_layout.specs.Declarations.{all_commons};
+ghost use Rattle.layout_rules.specs.Appearances.{each_once, with_name};
+ghost use Rattle.layout_rules.specs.Declarations.{all_commons};
 ghost use Rattle.f77_subs.specs.Names.{option_names, used_names as used_names_of};
 ghost use Rattle.f77_subs.specs.Units.{sub_name};
 ghost use Rattle.f77_subs.specs.UnitEntities.{AreNamesOfAll, used_by};
@@ -9,8 +9,9 @@ ghost use Rattle.f77_subs.specs.UnitEntities.{AreNamesOfAll, used_by};
 use crate::splitting::Units;
 use crate::unit_entities::UnitNames;
 use crate::unit_names::note_names;
+use declared_names::{AppearingNames, NameDeclarations};
 use df_sequence::NoMemory;
-use f77_layout::{AppearingNames, NameDeclarations, commons_of};
+use f77_layout::commons_of;
 use f77_tree::{CommonPart, Labelled, Name, Stmt};
 use std::alloc::Global;
 

@@ -1,7 +1,7 @@
 //! The main program with copies in place of its CALLs, and with what is put in.
 ghost use Rattle.std.specs.Prelude.{◌≡◌, ◌<◌, ◌≤◌, ◌^◌, ℕ, List, length, nat_lt, not, sum_by, bytes_eq, IfOk};
 ghost use Rattle.indexmap.specs.IndexMap.{get};
-ghost use Rattle.f77_layout.specs.Order.{rank};
+ghost use Rattle.layout_rules.specs.Order.{rank};
 ghost use Rattle.f77_subs.specs.CallTable.{unit_named};
 ghost use Rattle.f77_subs.specs.Expansion.{declared_first as declared_first_of, whole_list as whole_list_of};
 ghost use Rattle.f77_subs.specs.Heights.{NoneCallsItself};

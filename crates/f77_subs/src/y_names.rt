@@ -3,8 +3,8 @@ ghost use Rattle.std.specs.Prelude.{◌≡◌, ◌++◌, if◌then◌else◌, []
 ghost use Rattle.f77_subs.specs.Names.{y_text, zeros as zeros_of};
 ghost use Rattle.f77_subs.specs.NewNames.{AreFree, is_free_of};
 
+use declared_names::AppearingNames;
 use df_sequence::NoMemory;
-use f77_layout::AppearingNames;
 use f77_tree::Name;
 use itoa::Buffer;
 use std::alloc::Global;

@@ -15,7 +15,7 @@ use Rattle.f77_tree.specs.Declarations.{index_of, part_names}
 use Rattle.f77_tree.specs.Places.{same_block, block_names}
 use Rattle.f77_tree.specs.StatementGrammar.{WrittenStatement, statement_of, decl_of}
 use Rattle.f77_tree.proofs.NameLemmas.{same_block-same}
-use Rattle.f77_layout.specs.Declarations.{parts_of}
+use Rattle.layout_rules.specs.Declarations.{parts_of}
 use Rattle.flat_programs.specs.Declarations.{name_alone, block_decls, block_statement, is_continued, common_at, commons}
 use Rattle.read_back.proofs.GatheredParts.{of_written}
 use Rattle.read_back.proofs.MarkPlaces.{take_next, take_all}

@@ -23,8 +23,8 @@ use Rattle.f77_tree.proofs.AllLemmas.{All-nil, All-cons, All-first, All-rest}
 use Rattle.f77_tree.proofs.NameLemmas.{bytes_eq-same, index_of-name}
 use Rattle.f77_expr.specs.Printing.{name_in}
 use Rattle.f77_expr.proofs.PrintedNumbers.{number_of-decimal}
-use Rattle.f77_layout.specs.Declarations.{declarators, dims_told, dims_or_none, dims_of, kind_typed, kind_implied, kind_by_default, is_implicit_none, kind_of}
-use Rattle.f77_layout.specs.Faults.{first_answer, answer_or}
+use Rattle.layout_rules.specs.Declarations.{declarators, dims_told, dims_or_none, dims_of, kind_typed, kind_implied, kind_by_default, is_implicit_none, kind_of}
+use Rattle.layout_rules.specs.Faults.{first_answer, answer_or}
 use Rattle.flat_programs.specs.declared.statements.FlatLine.{FlatLine}
 use Rattle.flat_programs.specs.Declarations.{signed, written_dim, typed_name, name_alone, same_block, block_decls, block_statement}
 use Rattle.read_back.specs.PrintedStatements.{LabelledStatement, declaration}

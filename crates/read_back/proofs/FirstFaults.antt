@@ -4,7 +4,7 @@ use Rattle.std.specs.Prelude.{flat_map, slice_get}
 use Rattle.std.specs.List.{list_any}
 use Rattle.std.proofs.lemmas.List.Folds.{list_any-append}
 use Rattle.f77_tree.specs.declared.statements.Labelled.{Labelled}
-use Rattle.f77_layout.specs.Faults.{first_after, first_line}
+use Rattle.layout_rules.specs.Faults.{first_after, first_line}
 
 none_after : (fault : List Labelled → Labelled → Bool) (above stmts : List Labelled) → ((k : ℕ) (s : Labelled) → slice_get stmts k ≡ Some s → fault (above ++ take k stmts) s ≡ false) → first_after fault above stmts ≡ None
 none_after fault above [] none = refl

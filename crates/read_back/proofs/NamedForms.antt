@@ -15,9 +15,9 @@ use Rattle.f77_tree.specs.Declarations.{NamesDiffer, index_of}
 use Rattle.f77_tree.specs.Kinds.{IsProper, AllOfKind, operand_kind}
 use Rattle.f77_tree.proofs.AllLemmas.{All-nil, All-cons}
 use Rattle.f77_expr.specs.Printing.{name_at, plain, Form, plain_form, forms_alone, operator_form, access_form, form, row_forms, raw_form}
-use Rattle.f77_layout.specs.Appearances.{called_name, names_in}
-use Rattle.f77_layout.specs.Types.{is_intrinsic}
-use Rattle.f77_layout.proofs.NamesIn.{names_in-Call, names_in-Apply}
+use Rattle.layout_rules.specs.Appearances.{called_name, names_in}
+use Rattle.layout_rules.specs.Types.{is_intrinsic}
+use Rattle.layout_rules.proofs.NamesIn.{names_in-Call, names_in-Apply}
 use Rattle.read_back.proofs.PrintedKinds.{index-name}
 
 -- no array bears a name with which an intrinsic function is printed, by a test for arrays

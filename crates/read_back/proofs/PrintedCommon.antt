@@ -17,9 +17,9 @@ use Rattle.f77_tree.specs.Declarations.{CommonOnce, index_of, part_names}
 use Rattle.f77_tree.specs.StatementGrammar.{WrittenStatement, statement_of, decl_of}
 use Rattle.f77_tree.proofs.AllLemmas.{get-longer}
 use Rattle.f77_tree.proofs.NameLemmas.{bytes_eq-same}
-use Rattle.f77_layout.specs.Faults.{first_line, has_repeat}
-use Rattle.f77_layout.specs.StorageFaults.{common_names, is_common_twice}
-use Rattle.f77_layout.proofs.FirstLine.{has_repeat-append}
+use Rattle.layout_rules.specs.Faults.{first_line, has_repeat}
+use Rattle.layout_rules.specs.StorageFaults.{common_names, is_common_twice}
+use Rattle.layout_rules.proofs.FirstLine.{has_repeat-append}
 use Rattle.flat_programs.specs.declared.statements.FlatLine.{FlatLine}
 use Rattle.flat_programs.specs.Declarations.{same_block, name_alone, block_decls, block_statement, is_continued, common_at, commons, group_statement, init_statement}
 use Rattle.read_back.specs.PrintedStatements.{CanBeText}

@@ -11,10 +11,10 @@ use Rattle.f77_tree.specs.declared.programs.Program.{Program}
 use Rattle.f77_tree.specs.declared.statements.Labelled.{Labelled}
 use Rattle.f77_tree.specs.InitialWords.{IsInitPart, part_kinds, part_words, constants, lit_kind, given_words}
 use Rattle.f77_tree.proofs.AllLemmas.{All-nil, All-cons, All-first, All-rest, get-longer}
-use Rattle.f77_layout.specs.Declarations.{all_inits, inits_of}
-use Rattle.f77_layout.specs.Faults.{first_line, has_repeat}
-use Rattle.f77_layout.specs.StorageFaults.{are_same_kinds, is_wrong_part, has_wrong_part, has_wrong_data}
-use Rattle.f77_layout.proofs.FirstLine.{has_repeat-append}
+use Rattle.layout_rules.specs.Declarations.{all_inits, inits_of}
+use Rattle.layout_rules.specs.Faults.{first_line, has_repeat}
+use Rattle.layout_rules.specs.StorageFaults.{are_same_kinds, is_wrong_part, has_wrong_part, has_wrong_data}
+use Rattle.layout_rules.proofs.FirstLine.{has_repeat-append}
 use Rattle.flat_programs.specs.declared.statements.FlatLine.{FlatLine}
 use Rattle.read_back.specs.PrintedStatements.{CanBeText}
 use Rattle.read_back.specs.SourceStatements.{statements_read}

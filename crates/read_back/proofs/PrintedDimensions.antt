@@ -20,11 +20,11 @@ use Rattle.f77_tree.specs.StatementGrammar.{WrittenStatement, statement_of, whol
 use Rattle.f77_tree.specs.Value.{extent as width, size_of, dims_of}
 use Rattle.f77_tree.proofs.AllLemmas.{All-nil, All-first, All-rest, All-get}
 use Rattle.f77_tree.proofs.NameLemmas.{bytes_eq-same}
-use Rattle.f77_layout.specs.Declarations.{declarators, has_dims}
-use Rattle.f77_layout.specs.Faults.{first_line, has_repeat}
-use Rattle.f77_layout.specs.Layout.{names_of}
-use Rattle.f77_layout.specs.Storage.{extent, elements}
-use Rattle.f77_layout.specs.StorageFaults.{array_names, dimensioned, has_dims_twice, are_wrong_dims, has_wrong_dims, are_within, is_member, members_of, has_wrong_member}
+use Rattle.layout_rules.specs.Declarations.{declarators, has_dims}
+use Rattle.layout_rules.specs.Faults.{first_line, has_repeat}
+use Rattle.layout_rules.specs.Layout.{names_of}
+use Rattle.layout_rules.specs.Storage.{extent, elements}
+use Rattle.layout_rules.specs.StorageFaults.{array_names, dimensioned, has_dims_twice, are_wrong_dims, has_wrong_dims, are_within, is_member, members_of, has_wrong_member}
 use Rattle.flat_programs.specs.declared.statements.FlatLine.{FlatLine}
 use Rattle.flat_programs.specs.Declarations.{signed, typed_name, written_member, group_statement, init_statement, commons}
 use Rattle.read_back.specs.PrintedArrays.{HasNoPrintedArrays}

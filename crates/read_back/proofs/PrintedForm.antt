@@ -7,12 +7,12 @@ use Rattle.f77_tree.specs.declared.programs.Program.{Program}
 use Rattle.f77_tree.specs.declared.statements.Labelled.{Labelled}
 use Rattle.f77_tree.specs.InitialWords.{initial_word, AreInitial}
 use Rattle.f77_tree.specs.Places.{ArePlaces, equations}
-use Rattle.f77_layout.specs.Declarations.{all_inits}
-use Rattle.f77_layout.specs.Faults.{first_after}
-use Rattle.f77_layout.specs.Layout.{names_of, placed_names, word_count, last_line, line_of_words, program}
-use Rattle.f77_layout.specs.StorageFaults.{has_dims_twice, has_wrong_dims, is_common_twice, has_wrong_member, has_wrong_places, has_wrong_data, has_wrong_storage}
-use Rattle.f77_layout.specs.StorageLines.{storage_line}
-use Rattle.f77_layout.proofs.FaultLines.{storage-without}
+use Rattle.layout_rules.specs.Declarations.{all_inits}
+use Rattle.layout_rules.specs.Faults.{first_after}
+use Rattle.layout_rules.specs.Layout.{names_of, placed_names, word_count, last_line, line_of_words, program}
+use Rattle.layout_rules.specs.StorageFaults.{has_dims_twice, has_wrong_dims, is_common_twice, has_wrong_member, has_wrong_places, has_wrong_data, has_wrong_storage}
+use Rattle.layout_rules.specs.StorageLines.{storage_line}
+use Rattle.storage_checks.proofs.FaultLines.{storage-without}
 use Rattle.flat_programs.specs.declared.statements.FlatLine.{FlatLine}
 use Rattle.read_back.specs.PrintedArrays.{HasNoPrintedArrays}
 use Rattle.read_back.specs.PrintedStatements.{CanBeText}

@@ -13,10 +13,10 @@ use Rattle.f77_tree.specs.Execution.{words_taken}
 use Rattle.f77_tree.specs.Grammar.{number_of}
 use Rattle.f77_tree.specs.StatementGrammar.{WrittenStatement, statement_of as statement_read}
 use Rattle.f77_tree.proofs.AllLemmas.{All-first, All-get}
-use Rattle.f77_layout.specs.Faults.{first_line}
-use Rattle.f77_layout.specs.Jumps.{Span, span_of, span_if_any, lies_in, leads_into, jumps_into}
-use Rattle.f77_layout.specs.Labels.{statement_of, jumps as jumps_read}
-use Rattle.f77_layout.proofs.LabelLemmas.{statement_of-own}
+use Rattle.layout_rules.specs.Faults.{first_line}
+use Rattle.layout_rules.specs.Jumps.{Span, span_of, span_if_any, lies_in, leads_into, jumps_into}
+use Rattle.layout_rules.specs.Labels.{statement_of, jumps as jumps_read}
+use Rattle.control_structure.proofs.LabelLemmas.{statement_of-own}
 use Rattle.flat_programs.specs.declared.statements.Flat.{Flat}
 use Rattle.flat_programs.specs.declared.statements.Flat.TheVariants.{Mark, Assignment, Output, LogicalIf, ArithmeticIf, ComputedGoTo, DoLoop, Jump, Finish}
 use Rattle.flat_programs.specs.declared.statements.FlatLine.{FlatLine}

@@ -24,7 +24,7 @@ use Rattle.f77_tree.specs.Value.{dims_of, kind_of, row_length}
 use Rattle.f77_tree.proofs.NameLemmas.{index_of-name}
 use Rattle.f77_expr.specs.Printing.{name_in, name_at, plain, Form, plain_form, forms_alone, operator_form, access_form, form, row_forms, raw_form}
 use Rattle.read_back.specs.PrintedArrays.{HasNoPrintedArrays}
-use Rattle.f77_layout.specs.Types.{kind_in, is_row_of, is_of_kind, is_kind, count_of_row, kind_of_call, is_array_in, dims_named, kind_named, takes}
+use Rattle.layout_rules.specs.Types.{kind_in, is_row_of, is_of_kind, is_kind, count_of_row, kind_of_call, is_array_in, dims_named, kind_named, takes}
 
 -- ---- rows
 

@@ -16,8 +16,8 @@ use Rattle.f77_tree.specs.Grammar.{number_of, reading}
 use Rattle.f77_tree.specs.StatementGrammar.{WrittenStatement, statement_of}
 use Rattle.f77_tree.proofs.AllLemmas.{All-first, All-rest, All-get}
 use Rattle.f77_expr.proofs.PrintedNumbers.{number_of-decimal}
-use Rattle.f77_layout.specs.Faults.{first_line}
-use Rattle.f77_layout.specs.Labels.{is_labelled_twice, lacks_label, bears, used, is_executable, is_arm, jumps as jumps_read}
+use Rattle.layout_rules.specs.Faults.{first_line}
+use Rattle.layout_rules.specs.Labels.{is_labelled_twice, lacks_label, bears, used, is_executable, is_arm, jumps as jumps_read}
 use Rattle.flat_programs.specs.declared.statements.Flat.{Flat}
 use Rattle.flat_programs.specs.declared.statements.Flat.TheVariants.{Mark, Assignment, Output, LogicalIf, ArithmeticIf, ComputedGoTo, DoLoop, Jump, Finish}
 use Rattle.flat_programs.specs.declared.statements.FlatLine.{FlatLine}

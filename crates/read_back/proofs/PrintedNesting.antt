@@ -1,18 +1,20 @@
 -- The DOs of a printed program are nested: what is open at a flat statement are the DOs above it whose ranges end there or after it, the
 -- innermost first.
-use Rattle.std.proofs.Common.{◌≡◌, ◌≢◌, ◌==◌, ℕ, suc, ◌+◌, ◌-◌, ◌<◌, ◌≤◌, Bool, true, false, cond, not, List, [], ◌∷◌, length, map, ◌&&◌, ◌||◌, refl, sym, ap, ◌∙◌, subst, ⊎_elim, arith, Option, Some, None}
+use Rattle.std.proofs.Common.{◌≡◌, ◌≢◌, ◌==◌, ℕ, suc, ◌+◌, ◌-◌, ◌<◌, ◌≤◌, Bool, true, false, cond, List, [], ◌∷◌, length, map, ◌&&◌, ◌||◌, refl, sym, ap, ◌∙◌, subst, ⊎_elim, arith, Option, Some, None}
 use Rattle.std.specs.Prelude.{All, decimal, slice_get, slice_index}
-use Rattle.std.specs.List.{list_any}
 use Rattle.std.proofs.lemmas.Bool.{cases_eq, cases_lt, ne_eqb, eq-eqb}
 use Rattle.f77_tree.specs.declared.programs.Program.{Program}
 use Rattle.f77_tree.specs.declared.statements.Labelled.{Labelled}
-use Rattle.f77_tree.specs.declared.statements.Stmt.{Stmt}
 use Rattle.f77_tree.specs.Execution.{words_taken}
 use Rattle.f77_tree.specs.Grammar.{number_of}
 use Rattle.f77_tree.specs.StatementGrammar.{WrittenStatement, statement_of}
 use Rattle.f77_tree.proofs.AllLemmas.{All-first, All-get}
-use Rattle.f77_layout.specs.Labels.{is_executable}
-use Rattle.f77_layout.specs.Nesting.{Open, Loop, is_loop_to, can_end, without_loops, after_ends, after_statement, open_after, line_or, first_unnested}
+use Rattle.layout_rules.specs.Nesting.{is_loop_to, has_loop_to, without_loops, after_ends, after_role, stack_after, itself, open_after, line_or, first_unnested}
+use Rattle.layout_rules.specs.Roles.{role_of, is_no_end}
+use Rattle.layout_rules.specs.declared.nesting.Opened.{Opened}
+use Rattle.layout_rules.specs.declared.nesting.Opened.TheVariants.{Loop}
+use Rattle.layout_rules.specs.declared.nesting.Role.{Role}
+use Rattle.layout_rules.specs.declared.nesting.Role.TheVariants.{Declaration, BeginLoop, Finish, Leave, Plain}
 use Rattle.flat_programs.specs.declared.statements.Flat.{Flat}
 use Rattle.flat_programs.specs.declared.statements.Flat.TheVariants.{Mark, Assignment, Output, LogicalIf, ArithmeticIf, ComputedGoTo, DoLoop, Jump, Finish}
 use Rattle.flat_programs.specs.declared.statements.FlatLine.{FlatLine}
@@ -29,12 +31,12 @@ use Rattle.read_back.proofs.PrintedPlaces.{got_within, IsDeclaredAt, IsFlatAt, f
 -- ---- walks
 
 -- a walk whose stack keeps an invariant meets no fault
-record GoesOn (Inv : ℕ → List Open → Type 0) (k : ℕ) (s : Labelled) (stack : List Open) : Type 0 where
-  beyond : List Open
+record GoesOn (Inv : ℕ → List Opened → Type 0) (k : ℕ) (s : Labelled) (stack : List Opened) : Type 0 where
+  beyond : List Opened
   is : open_after s stack ≡ Some beyond
   keeps : Inv (suc k) beyond
 
-walk : (Inv : ℕ → List Open → Type 0) (stmts : List Labelled) → ((k : ℕ) (s : Labelled) (stack : List Open) → slice_get stmts k ≡ Some s → Inv k stack → GoesOn Inv k s stack) → (k : ℕ) (rest : List Labelled) → ((j : ℕ) (s : Labelled) → slice_get rest j ≡ Some s → slice_get stmts (k + j) ≡ Some s) → (stack : List Open) → Inv k stack → first_unnested stack rest ≡ None
+walk : (Inv : ℕ → List Opened → Type 0) (stmts : List Labelled) → ((k : ℕ) (s : Labelled) (stack : List Opened) → slice_get stmts k ≡ Some s → Inv k stack → GoesOn Inv k s stack) → (k : ℕ) (rest : List Labelled) → ((j : ℕ) (s : Labelled) → slice_get rest j ≡ Some s → slice_get stmts (k + j) ≡ Some s) → (stack : List Opened) → Inv k stack → first_unnested stack rest ≡ None
 walk Inv stmts step k [] there stack holds = refl
 walk Inv stmts step k (s ∷ rest) there stack holds =
     let here : k + 0 ≡ k = omega arith in
@@ -44,40 +46,41 @@ walk Inv stmts step k (s ∷ rest) there stack holds =
     in
     ap (λ found. line_or s.line found (λ beyond. first_unnested beyond rest)) goes.is ∙ walk Inv stmts step (suc k) rest later goes.beyond goes.keeps
 
-never_unnested : (Inv : ℕ → List Open → Type 0) (stmts : List Labelled) → ((k : ℕ) (s : Labelled) (stack : List Open) → slice_get stmts k ≡ Some s → Inv k stack → GoesOn Inv k s stack) → Inv 0 [] → first_unnested [] stmts ≡ None
+never_unnested : (Inv : ℕ → List Opened → Type 0) (stmts : List Labelled) → ((k : ℕ) (s : Labelled) (stack : List Opened) → slice_get stmts k ≡ Some s → Inv k stack → GoesOn Inv k s stack) → Inv 0 [] → first_unnested [] stmts ≡ None
 never_unnested Inv stmts step holds = walk Inv stmts step 0 stmts (λ j s is. let e : 0 + j ≡ j = omega arith in ap (slice_get stmts) e ∙ is) [] holds
 
 -- ---- stacks
 
-without_none : (label : ℕ) (stack : List Open) → list_any (is_loop_to label) stack ≡ false → without_loops label stack ≡ stack
+without_none : (label : ℕ) (stack : List Opened) → has_loop_to itself label stack ≡ false → without_loops itself label stack ≡ stack
 without_none label [] none = refl
 without_none label (top ∷ rest) none =
-    ap (λ b. cond b (without_loops label rest) (top ∷ rest)) (first (is_loop_to label top) (list_any (is_loop_to label) rest) none)
+    ap (λ b. cond b (without_loops itself label rest) (top ∷ rest)) (first (is_loop_to label top) (has_loop_to itself label rest) none)
   where
     first : (a b : Bool) → (a || b) ≡ false → a ≡ false
     first true b h = absurd cc
     first false b h = refl
 
-ends_none : (label : ℕ) (stack : List Open) → list_any (is_loop_to label) stack ≡ false → after_ends label (without_loops label stack) ≡ Some stack
+ends_none : (label : ℕ) (stack : List Opened) → has_loop_to itself label stack ≡ false → after_ends itself label (without_loops itself label stack) ≡ Some stack
 ends_none label stack none =
-    ap (after_ends label) (without_none label stack none) ∙ ap (λ b. cond b None (Some stack)) none
+    ap (after_ends itself label) (without_none label stack none) ∙ ap (λ b. cond b None (Some stack)) none
+
+abbrev gone_by : Role → (label : ℕ) → List Opened → Option (List Opened)
+gone_by role label stack = after_role itself itself role label stack
+
+never : (b : Bool) → (b && false) ≡ false
+never true = refl
+never false = refl
 
 -- a statement at which no range ends
-passes_on : (s : Labelled) (stack : List Open) → is_executable s.stmt ≡ true → list_any (is_loop_to s.label) stack ≡ false → open_after s stack ≡ after_statement s.stmt s.label stack
-passes_on s stack executable none =
-    ap (λ b. cond (not b) (Some stack) (cond (list_any (is_loop_to s.label) stack && not (can_end s.stmt)) None (after_statement s.stmt s.label stack))) executable
-    ∙ ap (λ b. cond (b && not (can_end s.stmt)) None (after_statement s.stmt s.label stack)) none
+passes_on : (s : Labelled) (stack : List Opened) → has_loop_to itself s.label stack ≡ false → open_after s stack ≡ gone_by (role_of s.stmt) s.label stack
+passes_on s stack none = ap (λ b. cond (b && is_no_end (role_of s.stmt)) None (gone_by (role_of s.stmt) s.label stack)) none
 
--- one at which ranges may end
-may_end : (s : Labelled) (stack : List Open) → is_executable s.stmt ≡ true → can_end s.stmt ≡ true → open_after s stack ≡ after_statement s.stmt s.label stack
-may_end s stack executable can =
-    ap (λ b. cond (not b) (Some stack) (cond (list_any (is_loop_to s.label) stack && not (can_end s.stmt)) None (after_statement s.stmt s.label stack))) executable
-    ∙ ap (λ b. cond (list_any (is_loop_to s.label) stack && not b) None (after_statement s.stmt s.label stack)) can
-    ∙ ap (λ b. cond b None (after_statement s.stmt s.label stack)) (never (list_any (is_loop_to s.label) stack))
-  where
-    never : (b : Bool) → (b && false) ≡ false
-    never true = refl
-    never false = refl
+-- one at which ranges may end, or a declaration
+may_end : (s : Labelled) (stack : List Opened) (role : Role) → role_of s.stmt ≡ role → is_no_end role ≡ false → open_after s stack ≡ gone_by role s.label stack
+may_end s stack role is can =
+    ap (λ (r : Role). stack_after itself itself r s.label stack) is
+    ∙ ap (λ b. cond (has_loop_to itself s.label stack && b) None (gone_by role s.label stack)) can
+    ∙ ap (λ b. cond b None (gone_by role s.label stack)) (never (has_loop_to itself s.label stack))
 
 -- ---- what is open
 
@@ -86,7 +89,7 @@ end_number None = 0
 end_number (Some l) = slice_index (range_end l.stmt) 0
 
 module _ (flat : List FlatLine) (form : IsFlat flat) where
-  abbrev loop_from : ℕ → Open
+  abbrev loop_from : ℕ → Opened
   loop_from head = Loop (end_number (slice_get flat head))
 
   -- the DO at a place, whose range ends at this place or after it, is the innermost one of those above the bound
@@ -167,14 +170,14 @@ module _ (flat : List FlatLine) (form : IsFlat flat) where
 
   -- ---- labels of what is open
 
-  no_loop_to : (label place bound : ℕ) (heads : List ℕ) → ((head last : ℕ) → (span : IsSpan flat head last) → place ≤ last → span.end ≢ label) → AreOpen place bound heads → list_any (is_loop_to label) (map loop_from heads) ≡ false
+  no_loop_to : (label place bound : ℕ) (heads : List ℕ) → ((head last : ℕ) → (span : IsSpan flat head last) → place ≤ last → span.end ≢ label) → AreOpen place bound heads → has_loop_to itself label (map loop_from heads) ≡ false
   no_loop_to label place bound [] none are = refl
   no_loop_to label place bound (head ∷ heads) none are =
       let is = are.0 in
       let differs : end_number (slice_get flat head) ≢ label = λ same. none head is.last is.span is.up_to (sym (number-is head is.last is.span) ∙ same) in
-      ap (λ b. b || list_any (is_loop_to label) (map loop_from heads)) (ne_eqb (end_number (slice_get flat head)) label differs) ∙ no_loop_to label place head heads none are.1
+      ap (λ b. b || has_loop_to itself label (map loop_from heads)) (ne_eqb (end_number (slice_get flat head)) label differs) ∙ no_loop_to label place head heads none are.1
 
-  no_loop_to_zero : (place bound : ℕ) (heads : List ℕ) → AreOpen place bound heads → list_any (is_loop_to 0) (map loop_from heads) ≡ false
+  no_loop_to_zero : (place bound : ℕ) (heads : List ℕ) → AreOpen place bound heads → has_loop_to itself 0 (map loop_from heads) ≡ false
   no_loop_to_zero place bound heads are =
       no_loop_to 0 place bound heads (λ head last span le same. let least = (number-of head last span).least in omega (arith, least, same)) are
 
@@ -207,22 +210,22 @@ module _ (flat : List FlatLine) (form : IsFlat flat) where
 
   -- ---- statements that are no marks
 
-  plain_step : (place : ℕ) (l : FlatLine) → slice_get flat place ≡ Some l → is_mark l.stmt ≡ false → range_end l.stmt ≡ [] → (s : Labelled) (stmt : Stmt) → s.label ≡ 0 → s.stmt ≡ stmt → is_executable stmt ≡ true → ((stack : List Open) → after_statement stmt 0 stack ≡ after_ends 0 (without_loops 0 stack)) → (heads : List ℕ) → AreOpen place place heads → NextOpen place s heads
-  plain_step place l there other none s stmt label is executable goes heads are =
+  plain_step : (place : ℕ) (l : FlatLine) → slice_get flat place ≡ Some l → is_mark l.stmt ≡ false → range_end l.stmt ≡ [] → (s : Labelled) (role : Role) → s.label ≡ 0 → role_of s.stmt ≡ role → ((stack : List Opened) → gone_by role 0 stack ≡ after_ends itself 0 (without_loops itself 0 stack)) → (heads : List ℕ) → AreOpen place place heads → NextOpen place s heads
+  plain_step place l there other none s role label is goes heads are =
       let stack = map loop_from heads in
       let zero_none = no_loop_to_zero place place heads are in
       record {
         heads = heads;
-        is = passes_on s stack (ap is_executable is ∙ executable) (ap (λ n. list_any (is_loop_to n) stack) label ∙ zero_none)
-            ∙ ap (λ n. after_statement s.stmt n stack) label
-            ∙ ap (λ t. after_statement t 0 stack) is
+        is = passes_on s stack (ap (λ n. has_loop_to itself n stack) label ∙ zero_none)
+            ∙ ap (λ n. gone_by (role_of s.stmt) n stack) label
+            ∙ ap (λ (r : Role). gone_by r 0 stack) is
             ∙ goes stack
             ∙ ends_none 0 stack zero_none;
         are = stays_open place heads (ends_at_no_other place l there other) (begins_no_range place l there none) are;
       }
 
-  do_step : (place : ℕ) (l : FlatLine) → slice_get flat place ≡ Some l → is_mark l.stmt ≡ false → (end : ℕ) → range_end l.stmt ≡ end ∷ [] → (s : Labelled) (stmt : Stmt) → s.label ≡ 0 → s.stmt ≡ stmt → is_executable stmt ≡ true → ((stack : List Open) → after_statement stmt 0 stack ≡ Some (Loop end ∷ stack)) → (heads : List ℕ) → AreOpen place place heads → NextOpen place s heads
-  do_step place l there other end range s stmt label is executable opens heads are =
+  do_step : (place : ℕ) (l : FlatLine) → slice_get flat place ≡ Some l → is_mark l.stmt ≡ false → (end : ℕ) → range_end l.stmt ≡ end ∷ [] → (s : Labelled) → s.label ≡ 0 → role_of s.stmt ≡ BeginLoop end → (heads : List ℕ) → AreOpen place place heads → NextOpen place s heads
+  do_step place l there other end range s label is heads are =
       let stack = map loop_from heads in
       let last = place_of flat end in
       let span : IsSpan flat place last = record { here = l; is = there; end = end; ends = range; place = refl } in
@@ -230,10 +233,9 @@ module _ (flat : List FlatLine) (form : IsFlat flat) where
       let number : end_number (slice_get flat place) ≡ end = number-is place last span in
       record {
         heads = place ∷ heads;
-        is = passes_on s stack (ap is_executable is ∙ executable) (ap (λ n. list_any (is_loop_to n) stack) label ∙ no_loop_to_zero place place heads are)
-            ∙ ap (λ n. after_statement s.stmt n stack) label
-            ∙ ap (λ t. after_statement t 0 stack) is
-            ∙ opens stack
+        is = passes_on s stack (ap (λ n. has_loop_to itself n stack) label ∙ no_loop_to_zero place place heads are)
+            ∙ ap (λ n. gone_by (role_of s.stmt) n stack) label
+            ∙ ap (λ (r : Role). gone_by r 0 stack) is
             ∙ ap (λ n. Some (Loop n ∷ stack)) (sym number);
         are = (
           record {
@@ -268,12 +270,12 @@ module _ (flat : List FlatLine) (form : IsFlat flat) where
 
   -- ---- marks
 
-  module _ (place : ℕ) (l : FlatLine) (there : slice_get flat place ≡ Some l) (marks : is_mark l.stmt ≡ true) (none : range_end l.stmt ≡ []) (s : Labelled) (label : s.label ≡ mark_at flat place) (executable : is_executable s.stmt ≡ true) (can : can_end s.stmt ≡ true) (goes : (n : ℕ) (stack : List Open) → after_statement s.stmt n stack ≡ after_ends n (without_loops n stack)) where
+  module _ (place : ℕ) (l : FlatLine) (there : slice_get flat place ≡ Some l) (marks : is_mark l.stmt ≡ true) (none : range_end l.stmt ≡ []) (s : Labelled) (label : s.label ≡ mark_at flat place) (role : role_of s.stmt ≡ Plain) where
     abbrev number : ℕ
     number = mark_at flat place
 
-    goes_on : (stack : List Open) → open_after s stack ≡ after_ends number (without_loops number stack)
-    goes_on stack = may_end s stack executable can ∙ ap (λ n. after_statement s.stmt n stack) label ∙ goes number stack
+    goes_on : (stack : List Opened) → open_after s stack ≡ after_ends itself number (without_loops itself number stack)
+    goes_on stack = may_end s stack Plain role refl ∙ ap (λ n. gone_by Plain n stack) label
 
     ends_here : (head last : ℕ) → (span : IsSpan flat head last) → span.end ≡ number → last ≡ place
     ends_here head last span same = span.place ∙ ap (place_of flat) same ∙ place_of-mark flat place l there marks
@@ -303,7 +305,7 @@ module _ (flat : List FlatLine) (form : IsFlat flat) where
         record {
           heads = heads;
           is = goes_on (loop_from head ∷ stack)
-              ∙ ap (λ b. after_ends number (cond b (without_loops number stack) (loop_from head ∷ stack))) (eq-eqb (end_number (slice_get flat head)) number first)
+              ∙ ap (λ b. after_ends itself number (cond b (without_loops itself number stack) (loop_from head ∷ stack))) (eq-eqb (end_number (slice_get flat head)) number first)
               ∙ ends_none number stack no_more;
           are = wider (suc place) head (suc place) heads (omega (arith, above))
               (λ other last its ge lt.
@@ -353,9 +355,9 @@ module _ (q : Program) (flat : List FlatLine) (form : IsFlat flat) (few : length
   abbrev stmts : List Labelled
   stmts = statements_read q flat
 
-  nothing_declared : (k : ℕ) (s : Labelled) → IsDeclaredAt q k s → is_executable s.stmt ≡ false
+  nothing_declared : (k : ℕ) (s : Labelled) → IsDeclaredAt q k s → role_of s.stmt ≡ Declaration
   nothing_declared k s is =
-      ap is_executable is.stmt ∙ All-get (λ w. is_executable (statement_of w) ≡ false) (declared q) k is.w (declared_each (λ w. is_executable (statement_of w) ≡ false) q (λ block. refl) (λ info. refl) (λ group. refl) (λ part. refl)) is.there
+      ap role_of is.stmt ∙ All-get (λ w. role_of (statement_of w) ≡ Declaration) (declared q) k is.w (declared_each (λ w. role_of (statement_of w) ≡ Declaration) q (λ block. refl) (λ info. refl) (λ group. refl) (λ part. refl)) is.there
 
   module _ (place : ℕ) (s : Labelled) (is : IsFlatAt q flat place s) (heads : List ℕ) (are : AreOpen flat form place place heads) where
     abbrev Next : Type 0
@@ -367,17 +369,13 @@ module _ (q : Program) (flat : List FlatLine) (form : IsFlat flat) (few : length
     unlabelled : (stmt : Flat) → is.l.stmt ≡ stmt → is_mark stmt ≡ false → s.label ≡ 0
     unlabelled stmt same other = is.label ∙ ap (λ t. cond (is_mark t) (mark_at flat place) 0) same ∙ ap (λ b. cond b (mark_at flat place) 0) other
 
-    plain : (stmt : Flat) → is.l.stmt ≡ stmt → is_mark stmt ≡ false → range_end stmt ≡ [] → is_executable (statement_of (shown q.names stmt)) ≡ true → ((stack : List Open) → after_statement (statement_of (shown q.names stmt)) 0 stack ≡ after_ends 0 (without_loops 0 stack)) → Next
-    plain stmt same other none executable goes =
-        plain_step flat form place is.l is.there (ap is_mark same ∙ other) (ap range_end same ∙ none) s (statement_of (shown q.names stmt)) (unlabelled stmt same other) (shown_as stmt same) executable goes heads are
+    plain : (stmt : Flat) (role : Role) → is.l.stmt ≡ stmt → is_mark stmt ≡ false → range_end stmt ≡ [] → role_of (statement_of (shown q.names stmt)) ≡ role → ((stack : List Opened) → gone_by role 0 stack ≡ after_ends itself 0 (without_loops itself 0 stack)) → Next
+    plain stmt role same other none plays goes =
+        plain_step flat form place is.l is.there (ap is_mark same ∙ other) (ap range_end same ∙ none) s role (unlabelled stmt same other) (ap role_of (shown_as stmt same) ∙ plays) goes heads are
 
-    executable_if : (b : Bool) (v w : WrittenStatement) → is_executable (statement_of v) ≡ true → is_executable (statement_of w) ≡ true → is_executable (statement_of (cond b v w)) ≡ true
-    executable_if true v w a c = a
-    executable_if false v w a c = c
-
-    goes_if : (b : Bool) (v w : WrittenStatement) (stack : List Open) → after_statement (statement_of v) 0 stack ≡ after_ends 0 (without_loops 0 stack) → after_statement (statement_of w) 0 stack ≡ after_ends 0 (without_loops 0 stack) → after_statement (statement_of (cond b v w)) 0 stack ≡ after_ends 0 (without_loops 0 stack)
-    goes_if true v w stack a c = a
-    goes_if false v w stack a c = c
+    plain_if : (b : Bool) (v w : WrittenStatement) → role_of (statement_of v) ≡ Plain → role_of (statement_of w) ≡ Plain → role_of (statement_of (cond b v w)) ≡ Plain
+    plain_if true v w a c = a
+    plain_if false v w a c = c
 
     ranges : (end : ℕ) → range_end is.l.stmt ≡ end ∷ [] → number_of (decimal end) ≡ end
     ranges end range =
@@ -385,29 +383,27 @@ module _ (q : Program) (flat : List FlatLine) (form : IsFlat flat) (few : length
 
     step_by : (stmt : Flat) → is.l.stmt ≡ stmt → Next
     step_by Mark same =
-        let continues = shown_as Mark same in
         mark_step flat form place is.l is.there (ap is_mark same) (ap range_end same) s
         (is.label ∙ ap (λ t. cond (is_mark t) (mark_at flat place) 0) same)
-        (ap is_executable continues)
-        (ap can_end continues)
-        (λ n stack. ap (λ t. after_statement t n stack) continues)
+        (ap role_of (shown_as Mark same))
         heads are
     step_by (Assignment target value) same =
-        plain (Assignment target value) same refl refl (executable_if (words_taken value == 1) _ _ refl refl) (λ stack. goes_if (words_taken value == 1) _ _ stack refl refl)
-    step_by (Output items) same = plain (Output items) same refl refl refl (λ stack. refl)
-    step_by (LogicalIf condition target) same = plain (LogicalIf condition target) same refl refl refl (λ stack. refl)
-    step_by (ArithmeticIf value below at above) same = plain (ArithmeticIf value below at above) same refl refl refl (λ stack. refl)
-    step_by (ComputedGoTo value targets) same = plain (ComputedGoTo value targets) same refl refl refl (λ stack. refl)
+        plain (Assignment target value) Plain same refl refl (plain_if (words_taken value == 1) _ _ refl refl) (λ stack. refl)
+    step_by (Output items) same = plain (Output items) Plain same refl refl refl (λ stack. refl)
+    step_by (LogicalIf condition target) same = plain (LogicalIf condition target) Plain same refl refl refl (λ stack. refl)
+    step_by (ArithmeticIf value below at above) same = plain (ArithmeticIf value below at above) Leave same refl refl refl (λ stack. refl)
+    step_by (ComputedGoTo value targets) same = plain (ComputedGoTo value targets) Plain same refl refl refl (λ stack. refl)
     step_by (DoLoop end var first last step) same =
         let range : range_end is.l.stmt ≡ end ∷ [] = ap range_end same in
-        do_step flat form place is.l is.there (ap is_mark same) end range s (statement_of (shown q.names (DoLoop end var first last step))) (unlabelled (DoLoop end var first last step) same refl) (shown_as (DoLoop end var first last step) same) refl (λ stack. ap (λ n. Some (Loop n ∷ stack)) (ranges end range)) heads are
-    step_by (Jump target) same = plain (Jump target) same refl refl refl (λ stack. refl)
+        let role = ap role_of (shown_as (DoLoop end var first last step) same) ∙ ap BeginLoop (ranges end range) in
+        do_step flat form place is.l is.there (ap is_mark same) end range s (unlabelled (DoLoop end var first last step) same refl) role heads are
+    step_by (Jump target) same = plain (Jump target) Leave same refl refl refl (λ stack. refl)
     step_by Finish same =
         let ends : open_after s [] ≡ Some [] = ap (λ n. open_after (record { label = n; line = s.line; stmt = s.stmt }) []) (unlabelled Finish same refl) ∙ ap (λ t. open_after (record { label = 0; line = s.line; stmt = t }) []) (shown_as Finish same) in
         end_step flat form place is.l is.there (ap is_mark same) (ap range_end same) ((form.ended place is.l is.there).0 same) s ends heads are
 
   -- what is open at a statement
-  record OpenAt (k : ℕ) (stack : List Open) : Type 0 where
+  record OpenAt (k : ℕ) (stack : List Opened) : Type 0 where
     heads : List ℕ
     is : stack ≡ map (loop_from flat form) heads
     are : AreOpen flat form (k - first_flat q flat) (k - first_flat q flat) heads
@@ -417,7 +413,7 @@ module _ (q : Program) (flat : List FlatLine) (form : IsFlat flat) (few : length
       let none : 0 - first_flat q flat ≡ 0 = omega arith in
       record { heads = []; is = refl; are = λ head last span lt. absurd (omega (arith, lt, none)) }
 
-  step : (k : ℕ) (s : Labelled) (stack : List Open) → slice_get stmts k ≡ Some s → OpenAt k stack → GoesOn OpenAt k s stack
+  step : (k : ℕ) (s : Labelled) (stack : List Opened) → slice_get stmts k ≡ Some s → OpenAt k stack → GoesOn OpenAt k s stack
   step k s stack there open_now =
       ⊎_elim
       (λ (lt : k < first_flat q flat).
@@ -425,7 +421,7 @@ module _ (q : Program) (flat : List FlatLine) (form : IsFlat flat) (few : length
       let e : k - first_flat q flat ≡ suc k - first_flat q flat = omega (arith, lt) in
       record {
         beyond = stack;
-        is = ap (λ b. cond (not b) (Some stack) (cond (list_any (is_loop_to s.label) stack && not (can_end s.stmt)) None (after_statement s.stmt s.label stack))) none;
+        is = may_end s stack Declaration none refl;
         keeps = record { heads = open_now.heads; is = open_now.is; are = subst (λ (n : ℕ). AreOpen flat form n n open_now.heads) e open_now.are };
       })
       (λ (le : first_flat q flat ≤ k).

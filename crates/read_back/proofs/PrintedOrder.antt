@@ -9,8 +9,8 @@ use Rattle.f77_tree.specs.declared.statements.Labelled.{Labelled}
 use Rattle.f77_tree.specs.Execution.{words_taken}
 use Rattle.f77_tree.specs.StatementGrammar.{WrittenStatement, statement_of}
 use Rattle.f77_tree.proofs.AllLemmas.{All-get, get-longer}
-use Rattle.f77_layout.specs.Faults.{first_line}
-use Rattle.f77_layout.specs.Order.{rank, is_out_of_order}
+use Rattle.layout_rules.specs.Faults.{first_line}
+use Rattle.layout_rules.specs.Order.{rank, is_out_of_order}
 use Rattle.flat_programs.specs.declared.statements.Flat.{Flat}
 use Rattle.flat_programs.specs.declared.statements.Flat.TheVariants.{Mark, Assignment, Output, LogicalIf, ArithmeticIf, ComputedGoTo, DoLoop, Jump, Finish}
 use Rattle.flat_programs.specs.declared.statements.FlatLine.{FlatLine}

@@ -3,19 +3,19 @@ use Rattle.std.proofs.Common.{◌≡◌, ℕ, Bool, List, [], refl, sym, ap, ◌
 use Rattle.std.specs.Prelude.{IfErr, Result}
 use Rattle.f77_tree.specs.declared.programs.Program.{Program}
 use Rattle.f77_tree.specs.declared.statements.Labelled.{Labelled}
-use Rattle.f77_layout.specs.declared.layout_end.LayoutEnd.{LayoutEnd}
-use Rattle.f77_layout.specs.declared.layout_end.LayoutEnd.TheVariants.{OutOfOrder, RealName, TypeWrong, LayoutWrong, LabelTwice, LabelMissing, BadNesting, JumpInto, TooManyWords, TooManyOps}
-use Rattle.f77_layout.specs.Appearances.{has_real_name}
-use Rattle.f77_layout.specs.Counts.{is_too_great}
-use Rattle.f77_layout.specs.Faults.{first_line, answer_or}
-use Rattle.f77_layout.specs.Jumps.{jumps_into}
-use Rattle.f77_layout.specs.Labels.{is_labelled_twice, lacks_label}
-use Rattle.f77_layout.specs.Layout.{names_of, placed_names, line_of_words, at_line, refusal, layout, program, unless_refused, HasForm}
-use Rattle.f77_layout.specs.LowestLines.{lowest_line}
-use Rattle.f77_layout.specs.Nesting.{first_unnested}
-use Rattle.f77_layout.specs.Order.{is_out_of_order}
-use Rattle.f77_layout.specs.StorageLines.{storage_line}
-use Rattle.f77_layout.specs.TypeFaults.{has_wrong_type}
+use Rattle.layout_rules.specs.declared.layout_end.LayoutEnd.{LayoutEnd}
+use Rattle.layout_rules.specs.declared.layout_end.LayoutEnd.TheVariants.{OutOfOrder, RealName, TypeWrong, LayoutWrong, LabelTwice, LabelMissing, BadNesting, JumpInto, TooManyWords, TooManyOps}
+use Rattle.layout_rules.specs.Appearances.{has_real_name}
+use Rattle.layout_rules.specs.Counts.{is_too_great}
+use Rattle.layout_rules.specs.Faults.{first_line, answer_or}
+use Rattle.layout_rules.specs.Jumps.{jumps_into}
+use Rattle.layout_rules.specs.Labels.{is_labelled_twice, lacks_label}
+use Rattle.layout_rules.specs.Layout.{names_of, placed_names, line_of_words, at_line, refusal, layout, program, unless_refused, HasForm}
+use Rattle.layout_rules.specs.LowestLines.{lowest_line}
+use Rattle.layout_rules.specs.Nesting.{first_unnested}
+use Rattle.layout_rules.specs.Order.{is_out_of_order}
+use Rattle.layout_rules.specs.StorageLines.{storage_line}
+use Rattle.layout_rules.specs.TypeFaults.{has_wrong_type}
 use Rattle.flat_programs.specs.declared.statements.FlatLine.{FlatLine}
 use Rattle.read_back.specs.PrintedArrays.{HasNoPrintedArrays}
 use Rattle.read_back.specs.PrintedStatements.{CanBeText}

@@ -19,23 +19,23 @@ use Rattle.f77_tree.specs.StatementGrammar.{WrittenStatement, statement_of}
 use Rattle.f77_tree.specs.Value.{dims_of, dims_in, size_of, place_of}
 use Rattle.f77_tree.proofs.AllLemmas.{All-get}
 use Rattle.f77_tree.proofs.OnePlacing.{one-count, one-table}
-use Rattle.f77_layout.specs.Declarations.{all_commons, all_groups, parts_of, groups_of}
-use Rattle.f77_layout.specs.Faults.{first_line, has_repeat}
-use Rattle.f77_layout.specs.Layout.{names_of, spots_of, placed_from, placed_names, word_count}
-use Rattle.f77_layout.specs.Standings.{AreGroupsKnown}
-use Rattle.f77_layout.specs.Storage.{Standing, standings, size_at, common_equations as common_solved, group_equations as group_solved, equations as solved}
-use Rattle.f77_layout.specs.StorageFaults.{are_wrong_dims, is_equivalence, gives_places, has_wrong_places}
-use Rattle.f77_layout.proofs.DeclaredCommon.{names_in_part, common_names-all, once_in_common}
-use Rattle.f77_layout.proofs.DeclaredEquations.{linked-within}
-use Rattle.f77_layout.proofs.DeclaredForms.{All-flat_map}
-use Rattle.f77_layout.proofs.DeclaredKnown.{all_commons-known, all_groups-known}
-use Rattle.f77_layout.proofs.DeclaredStandings.{is_of, name_of, names_standing}
-use Rattle.f77_layout.proofs.DeclaredSizes.{size-exact}
-use Rattle.f77_layout.proofs.ElementCounts.{right-count}
-use Rattle.f77_layout.proofs.PlacedAlike.{places-alike}
-use Rattle.f77_layout.proofs.PlacedEquations.{AreInTable, standings-in, standings-once, ends-in}
-use Rattle.f77_layout.proofs.PlacedLinks.{length-spots}
-use Rattle.f77_layout.proofs.PlacedProgram.{placed-is, places-are}
+use Rattle.layout_rules.specs.Declarations.{all_commons, all_groups, parts_of, groups_of}
+use Rattle.layout_rules.specs.Faults.{first_line, has_repeat}
+use Rattle.layout_rules.specs.Layout.{names_of, spots_of, placed_from, placed_names, word_count}
+use Rattle.layout_rules.specs.Standings.{AreGroupsKnown}
+use Rattle.layout_rules.specs.Storage.{Standing, standings, size_at, common_equations as common_solved, group_equations as group_solved, equations as solved}
+use Rattle.layout_rules.specs.StorageFaults.{are_wrong_dims, is_equivalence, gives_places, has_wrong_places}
+use Rattle.storage_laws.proofs.DeclaredCommon.{names_in_part, common_names-all, once_in_common}
+use Rattle.storage_laws.proofs.DeclaredEquations.{linked-within}
+use Rattle.storage_laws.proofs.DeclaredForms.{All-flat_map}
+use Rattle.storage_laws.proofs.DeclaredKnown.{all_commons-known, all_groups-known}
+use Rattle.storage_laws.proofs.DeclaredStandings.{is_of, name_of, names_standing}
+use Rattle.storage_laws.proofs.DeclaredSizes.{size-exact}
+use Rattle.layout_rules.proofs.ElementCounts.{right-count}
+use Rattle.storage_laws.proofs.PlacedAlike.{places-alike}
+use Rattle.storage_laws.proofs.PlacedEquations.{AreInTable, standings-in, standings-once, ends-in}
+use Rattle.storage_laws.proofs.PlacedLinks.{length-spots}
+use Rattle.storage_laws.proofs.PlacedProgram.{placed-is, places-are}
 use Rattle.flat_programs.specs.declared.statements.FlatLine.{FlatLine}
 use Rattle.flat_programs.specs.Declarations.{commons, group_statement, init_statement}
 use Rattle.read_back.specs.PrintedArrays.{HasNoPrintedArrays}

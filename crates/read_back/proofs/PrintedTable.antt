@@ -38,14 +38,14 @@ use Rattle.f77_tree.proofs.AllLemmas.{All-nil, All-cons, All-first, All-rest, Al
 use Rattle.f77_tree.proofs.Equations.{All-filter}
 use Rattle.f77_tree.proofs.NameLemmas.{bytes_eq-same, index_of-name}
 use Rattle.f77_expr.specs.Printing.{name_in, name_at, raw_form}
-use Rattle.f77_layout.specs.Appearances.{names_in, names_in_item, names_if_any, appearing, with_name, each_once, all_names, has_real_name}
-use Rattle.f77_layout.specs.Declarations.{is_array, kind_of, dims_of}
-use Rattle.f77_layout.specs.Executables.{kind_or_integer}
-use Rattle.f77_layout.specs.Faults.{first_line}
-use Rattle.f77_layout.specs.Layout.{name_info, names_of}
-use Rattle.f77_layout.specs.Types.{is_array_in}
-use Rattle.f77_layout.proofs.DeclaredKnown.{each_part}
-use Rattle.f77_layout.proofs.NamesOf.{appearing-ThenIf}
+use Rattle.layout_rules.specs.Appearances.{names_in, names_in_item, names_if_any, appearing, with_name, each_once, all_names, has_real_name}
+use Rattle.layout_rules.specs.Declarations.{is_array, kind_of, dims_of}
+use Rattle.layout_rules.specs.Executables.{kind_or_integer}
+use Rattle.layout_rules.specs.Faults.{first_line}
+use Rattle.layout_rules.specs.Layout.{name_info, names_of}
+use Rattle.layout_rules.specs.Types.{is_array_in}
+use Rattle.storage_laws.proofs.DeclaredKnown.{each_part}
+use Rattle.layout_rules.proofs.NamesOf.{appearing-ThenIf}
 use Rattle.flat_programs.specs.declared.statements.Flat.{Flat}
 use Rattle.flat_programs.specs.declared.statements.Flat.TheVariants.{Mark, Assignment, Output, LogicalIf, ArithmeticIf, ComputedGoTo, DoLoop, Jump, Finish}
 use Rattle.flat_programs.specs.declared.statements.FlatLine.{FlatLine}

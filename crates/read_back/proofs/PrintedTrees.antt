@@ -23,8 +23,8 @@ use Rattle.f77_tree.proofs.KindLemmas.{IsProper-operation, IsProper-element}
 use Rattle.f77_expr.specs.Printing.{name_at, plain, Form, plain_form, forms_alone, operator_form, access_form, form, raw_form}
 use Rattle.f77_expr.proofs.PrintedItems.{form-Apply, form-Read}
 use Rattle.read_back.specs.PrintedArrays.{HasNoPrintedArrays}
-use Rattle.f77_layout.specs.Types.{intrinsics, is_array_in}
-use Rattle.f77_layout.specs.Resolved.{in_dialect, nested, intrinsic_call, resolved_call, resolved, resolved_row, access_of}
+use Rattle.layout_rules.specs.Types.{intrinsics, is_array_in}
+use Rattle.layout_rules.specs.Resolved.{in_dialect, nested, intrinsic_call, resolved_call, resolved, resolved_row, access_of}
 use Rattle.read_back.proofs.ExpressionInduction.{Holds, every_expression}
 use Rattle.read_back.proofs.PrintedKinds.{index-name}
 

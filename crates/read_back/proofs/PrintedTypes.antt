@@ -31,11 +31,11 @@ use Rattle.f77_tree.specs.WellFormed.{IsProperItem, IsDo}
 use Rattle.f77_tree.proofs.AllLemmas.{All-first, All-rest, All-get}
 use Rattle.f77_tree.proofs.NameLemmas.{bytes_eq-same}
 use Rattle.f77_expr.specs.Printing.{name_at, Form, access_form, row_forms, raw_form}
-use Rattle.f77_layout.specs.Declarations.{is_implicit_none}
-use Rattle.f77_layout.specs.Faults.{first_line, has_repeat}
-use Rattle.f77_layout.specs.Layout.{names_of}
-use Rattle.f77_layout.specs.TypeFaults.{typed_names, implied_letters, is_implicit, types_twice, implies_twice, is_beside_none, has_wrong_type}
-use Rattle.f77_layout.specs.Types.{kind_in, is_row_of, is_of_kind, is_kind, kind_of_call, count_of_row, takes, is_array_in, dims_named, kind_named, is_variable, is_target, is_item, is_step, is_kind_of_target, is_well_kinded}
+use Rattle.layout_rules.specs.Declarations.{is_implicit_none}
+use Rattle.layout_rules.specs.Faults.{first_line, has_repeat}
+use Rattle.layout_rules.specs.Layout.{names_of}
+use Rattle.layout_rules.specs.TypeFaults.{typed_names, implied_letters, is_implicit, types_twice, implies_twice, is_beside_none, has_wrong_type}
+use Rattle.layout_rules.specs.Types.{kind_in, is_row_of, is_of_kind, is_kind, kind_of_call, count_of_row, takes, is_array_in, dims_named, kind_named, is_variable, is_target, is_item, is_step, is_kind_of_target, is_well_kinded}
 use Rattle.flat_programs.specs.declared.statements.Flat.{Flat}
 use Rattle.flat_programs.specs.declared.statements.Flat.TheVariants.{Mark, Assignment, Output, LogicalIf, ArithmeticIf, ComputedGoTo, DoLoop, Jump, Finish}
 use Rattle.flat_programs.specs.declared.statements.FlatLine.{FlatLine}

@@ -16,7 +16,7 @@ use Rattle.f77_tree.specs.InitialWords.{IsLit, IsInitValue, IsInitPart}
 use Rattle.f77_tree.specs.StatementGrammar.{WrittenStatement, statement_of, member_of, constant_of, times_of, value_of}
 use Rattle.f77_tree.proofs.AllLemmas.{All-first, All-rest}
 use Rattle.f77_expr.proofs.PrintedNumbers.{number_of-decimal}
-use Rattle.f77_layout.specs.Declarations.{groups_of, inits_of, all_groups, all_inits}
+use Rattle.layout_rules.specs.Declarations.{groups_of, inits_of, all_groups, all_inits}
 use Rattle.flat_programs.specs.declared.statements.FlatLine.{FlatLine}
 use Rattle.flat_programs.specs.Declarations.{written_member, written_constant, written_value, group_statement, init_statement, commons}
 use Rattle.flat_programs.specs.Text as page

@@ -31,11 +31,11 @@ use Rattle.f77_tree.specs.StatementGrammar.{WrittenStatement, statement_of as st
 use Rattle.f77_tree.specs.WellFormed.{IsDo}
 use Rattle.f77_tree.proofs.AllLemmas.{All-first, All-rest, All-get}
 use Rattle.f77_expr.specs.Printing.{name_at, raw_form}
-use Rattle.f77_layout.specs.Executables.{own_executables, is_do, kind_or_integer, loops_to, first_of, met, labelled, beyond, loop_number, exit_among, exit_after, exit_of, increments_at, own_kinds, do_variable, variable_of, increments, kinds_at, executables_if_any, executables}
-use Rattle.f77_layout.specs.Labels.{statement_of}
-use Rattle.f77_layout.specs.Layout.{names_of}
-use Rattle.f77_layout.specs.Resolved.{resolved, resolved_step}
-use Rattle.f77_layout.specs.Types.{kind_in}
+use Rattle.layout_rules.specs.Executables.{own_executables, is_do, kind_or_integer, loops_to, first_of, met, labelled, beyond, loop_number, exit_among, exit_after, exit_of, increments_at, own_kinds, do_variable, variable_of, increments, kinds_at, executables_if_any, executables}
+use Rattle.layout_rules.specs.Labels.{statement_of}
+use Rattle.layout_rules.specs.Layout.{names_of}
+use Rattle.layout_rules.specs.Resolved.{resolved, resolved_step}
+use Rattle.layout_rules.specs.Types.{kind_in}
 use Rattle.flat_programs.specs.declared.statements.Flat.{Flat}
 use Rattle.flat_programs.specs.declared.statements.Flat.TheVariants.{Mark, Assignment, Output, LogicalIf, ArithmeticIf, ComputedGoTo, DoLoop, Jump, Finish}
 use Rattle.flat_programs.specs.declared.statements.FlatLine.{FlatLine}

@@ -11,7 +11,7 @@ use Rattle.f77_tree.specs.declared.statements.Labelled.{Labelled}
 use Rattle.f77_tree.specs.Execution.{words_taken}
 use Rattle.f77_tree.specs.StatementGrammar.{WrittenStatement, statement_of}
 use Rattle.f77_tree.proofs.AllLemmas.{All-first, All-rest}
-use Rattle.f77_layout.specs.Executables.{is_do}
+use Rattle.layout_rules.specs.Executables.{is_do}
 use Rattle.flat_programs.specs.declared.statements.Flat.{Flat}
 use Rattle.flat_programs.specs.declared.statements.Flat.TheVariants.{Mark, Assignment, Output, LogicalIf, ArithmeticIf, ComputedGoTo, DoLoop, Jump, Finish}
 use Rattle.flat_programs.specs.declared.statements.FlatLine.{FlatLine}

@@ -17,8 +17,8 @@ use Rattle.f77_tree.specs.declared.statements.Stmt.TheVariants.{GoTo, ThenIf}
 use Rattle.f77_tree.specs.Execution.{words_taken}
 use Rattle.f77_tree.specs.StatementGrammar.{WrittenStatement, statement_of}
 use Rattle.f77_tree.proofs.AllLemmas.{All-first, All-get}
-use Rattle.f77_layout.specs.Executables.{own_executables, is_do_to, is_do_in, loops_to, executables_with_ends, first_of, met_after, met}
-use Rattle.f77_layout.specs.Labels.{is_arm, is_executable}
+use Rattle.layout_rules.specs.Executables.{own_executables, is_do_to, is_do_in, loops_to, executables_with_ends, first_of, met_after, met}
+use Rattle.layout_rules.specs.Labels.{is_arm, is_executable}
 use Rattle.f77_expr.specs.Printing.{raw_form}
 use Rattle.flat_programs.specs.declared.statements.Flat.{Flat}
 use Rattle.flat_programs.specs.declared.statements.Flat.TheVariants.{Mark, Assignment, Output, LogicalIf, ArithmeticIf, ComputedGoTo, DoLoop, Jump, Finish}

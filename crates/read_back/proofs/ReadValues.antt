@@ -21,9 +21,9 @@ use Rattle.f77_tree.specs.Value.{kind_of}
 use Rattle.f77_tree.specs.WellFormed.{IsProperItem}
 use Rattle.f77_tree.proofs.AllLemmas.{All-first, All-rest}
 use Rattle.f77_expr.specs.Printing.{raw_form}
-use Rattle.f77_layout.specs.Executables.{kind_or_integer}
-use Rattle.f77_layout.specs.Resolved.{in_dialect, resolved_call, resolved, resolved_row, access_of, resolved_item, resolved_step, intrinsic_call}
-use Rattle.f77_layout.specs.Types.{intrinsics, is_array_in, kind_in}
+use Rattle.layout_rules.specs.Executables.{kind_or_integer}
+use Rattle.layout_rules.specs.Resolved.{in_dialect, resolved_call, resolved, resolved_row, access_of, resolved_item, resolved_step, intrinsic_call}
+use Rattle.layout_rules.specs.Types.{intrinsics, is_array_in, kind_in}
 use Rattle.flat_programs.specs.Shown.{is_one}
 use Rattle.read_back.specs.PrintedArrays.{HasNoPrintedArrays}
 use Rattle.read_back.proofs.PrintedTrees.{printed_tree, printed_target}

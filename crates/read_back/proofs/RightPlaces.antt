@@ -7,10 +7,10 @@ use Rattle.std.proofs.lemmas.Bool.{cases_Bool, eqb-true, and_from, or_left, or_r
 use Rattle.std.proofs.lemmas.List.FromFn.{length-range_with_len, get_or-range_with_len}
 use Rattle.std.proofs.lemmas.Slice.Eq.{bytes_eq-Decides}
 use Rattle.f77_tree.specs.Places.{Equation, Linked, same_block}
-use Rattle.f77_layout.specs.Storage.{Spot, Standing, spots_by, is_kept, shares_storage, blocks_are_apart, none_before, blocks_begin, are_right}
-use Rattle.f77_layout.specs.Trees.{storage_at, distance_at}
-use Rattle.f77_layout.proofs.PlacedEquations.{AreInTable}
-use Rattle.f77_layout.proofs.PlacedLinks.{AreEquations, storage-linked_names}
+use Rattle.layout_rules.specs.Storage.{Spot, Standing, spots_by, is_kept, shares_storage, blocks_are_apart, none_before, blocks_begin, are_right}
+use Rattle.layout_rules.specs.Spots.{storage_at, distance_at}
+use Rattle.storage_laws.proofs.PlacedEquations.{AreInTable}
+use Rattle.storage_laws.proofs.PlacedLinks.{AreEquations, storage-linked_names}
 use Rattle.read_back.proofs.SpotPlaces.{Holds, at_spots, kept, in_order}
 
 -- ---- tests

@@ -16,12 +16,12 @@ use Rattle.f77_tree.specs.Declarations.{index_of, part_names, member_index, memb
 use Rattle.f77_tree.specs.Places.{Equation, same_block, block_names, neighbours, common_equations, equated, group_equations, equations}
 use Rattle.f77_tree.proofs.AllLemmas.{All-first, All-rest}
 use Rattle.f77_tree.proofs.NameLemmas.{same_block-same}
-use Rattle.f77_layout.specs.Storage.{Standing, size_of as counted, standings, standings_of, standing_equations, size_at, distance_of, member_distance, common_equations as common_solved, equated as equated_solved, group_equations as group_solved, equations as solved}
-use Rattle.f77_layout.specs.StorageFaults.{are_wrong_dims}
-use Rattle.f77_layout.proofs.DeclaredSizes.{size-exact, distance-exact}
-use Rattle.f77_layout.proofs.DeclaredStandings.{names_standing, beyond, standing_equations-from, standing_equations-to}
-use Rattle.f77_layout.proofs.PlacedBlocks.{block-names}
-use Rattle.f77_layout.proofs.PlacedEquations.{standings-once}
+use Rattle.layout_rules.specs.Storage.{Standing, size_of as counted, standings, standings_of, standing_equations, size_at, distance_of, member_distance, common_equations as common_solved, equated as equated_solved, group_equations as group_solved, equations as solved}
+use Rattle.layout_rules.specs.StorageFaults.{are_wrong_dims}
+use Rattle.storage_laws.proofs.DeclaredSizes.{size-exact, distance-exact}
+use Rattle.storage_laws.proofs.DeclaredStandings.{names_standing, beyond, standing_equations-from, standing_equations-to}
+use Rattle.storage_laws.proofs.PlacedBlocks.{block-names}
+use Rattle.storage_laws.proofs.PlacedEquations.{standings-once}
 use Rattle.read_back.proofs.BlockNames.{filter_nothing}
 
 abbrev equation : ℕ → ℕ → ℤ → Equation

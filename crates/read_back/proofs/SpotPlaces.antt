@@ -9,10 +9,10 @@ use Rattle.std.proofs.lemmas.Bool.Decides.{nat_tests, Decides-int_eq}
 use Rattle.std.proofs.lemmas.List.{length-map}
 use Rattle.std.proofs.lemmas.List.FromFn.{length-map-range_with_len}
 use Rattle.f77_tree.specs.Places.{Equation}
-use Rattle.f77_layout.specs.Storage.{Spot, spot_at, spot_or_alone, alone, moved, united, linked, spots_by, is_kept}
-use Rattle.f77_layout.specs.Trees.{storage_at, distance_at}
-use Rattle.f77_layout.proofs.PlacedBlocks.{contains-cases}
-use Rattle.f77_layout.proofs.PlacedLinks.{AreEquations}
+use Rattle.layout_rules.specs.Storage.{Spot, spot_at, spot_or_alone, alone, moved, united, linked, spots_by, is_kept}
+use Rattle.layout_rules.specs.Spots.{storage_at, distance_at}
+use Rattle.storage_laws.proofs.PlacedBlocks.{contains-cases}
+use Rattle.storage_laws.proofs.PlacedLinks.{AreEquations}
 use Rattle.read_back.proofs.PrintedPlaces.{get_some}
 
 -- ---- spots by their places

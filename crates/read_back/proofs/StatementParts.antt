@@ -17,7 +17,7 @@ use Rattle.f77_tree.specs.declared.statements.Stmt.{Stmt}
 use Rattle.f77_tree.specs.Execution.{words_taken}
 use Rattle.f77_tree.specs.StatementGrammar.{WrittenStatement, Print_star, Read_star, statement_of}
 use Rattle.f77_tree.proofs.AllLemmas.{All-nil, All-first, All-rest}
-use Rattle.f77_layout.specs.Faults.{first_answer, answer_or}
+use Rattle.layout_rules.specs.Faults.{first_answer, answer_or}
 use Rattle.flat_programs.specs.declared.statements.Flat.{Flat}
 use Rattle.flat_programs.specs.declared.statements.Flat.TheVariants.{Mark, Assignment, Output, LogicalIf, ArithmeticIf, ComputedGoTo, DoLoop, Jump, Finish}
 use Rattle.flat_programs.specs.declared.statements.FlatLine.{FlatLine}

@@ -4,12 +4,12 @@ use Rattle.std.specs.Prelude.{Result}
 use Rattle.alias_classes.specs.Number.{number_of_classes}
 use Rattle.f77_tree.specs.declared.programs.Program.{Program}
 use Rattle.f77_tree.specs.declared.statements.Labelled.{Labelled}
-use Rattle.f77_layout.specs.declared.layout_end.LayoutEnd.{LayoutEnd}
-use Rattle.f77_layout.specs.declared.layout_end.LayoutEnd.TheVariants.{TooManyOps}
-use Rattle.f77_layout.specs.Counts.{is_too_great}
-use Rattle.f77_layout.specs.Faults.{first_answer, answer_or}
-use Rattle.f77_layout.specs.LowestLines.{lowest_line}
-use Rattle.f77_layout.specs.Layout.{names_of, at_line, refusals_of_form, refusal, HasForm, program, layout, unless_refused, last_line}
+use Rattle.layout_rules.specs.declared.layout_end.LayoutEnd.{LayoutEnd}
+use Rattle.layout_rules.specs.declared.layout_end.LayoutEnd.TheVariants.{TooManyOps}
+use Rattle.layout_rules.specs.Counts.{is_too_great}
+use Rattle.layout_rules.specs.Faults.{first_answer, answer_or}
+use Rattle.layout_rules.specs.LowestLines.{lowest_line}
+use Rattle.layout_rules.specs.Layout.{names_of, at_line, refusals_of_form, refusal, HasForm, program, layout, unless_refused, last_line}
 use Rattle.f77_source.specs.declared.source_end.Code.TheVariants as code
 use Rattle.f77_source.specs.declared.source_end.Refusal.{Refusal}
 use Rattle.f77_source.specs.Reading.{Reads, told, most_classes, program_laid, program_from, program_of as read_of, program_in, reading}

@@ -1,7 +1,7 @@
 -- Arrays that bear the names of intrinsic functions.
 use Rattle.std.specs.Prelude.{◌≡◌, false, List, codes}
 use Rattle.f77_tree.specs.declared.programs.NameInfo.{NameInfo}
-use Rattle.f77_layout.specs.Types.{is_array_in}
+use Rattle.layout_rules.specs.Types.{is_array_in}
 
 -- no array bears a name with which an intrinsic function is printed
 pub record HasNoPrintedArrays (names : List NameInfo) : Type 0 where

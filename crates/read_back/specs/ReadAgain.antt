@@ -5,7 +5,7 @@ use Rattle.f77_tree.specs.declared.programs.ExecKind.{ExecKind}
 use Rattle.f77_tree.specs.declared.programs.Program.{Program}
 use Rattle.f77_tree.specs.Places.{block_names}
 use Rattle.f77_tree.specs.WellFormed.{IsWellFormed}
-use Rattle.f77_layout.specs.Layout.{program}
+use Rattle.layout_rules.specs.Layout.{program}
 use Rattle.f77_source.specs.declared.source_end.Code.TheVariants.{TooManyOps, TooManyClasses}
 use Rattle.f77_source.specs.declared.source_end.Refusal.{Refusal}
 use Rattle.f77_source.specs.Listed.{is_one_unit}

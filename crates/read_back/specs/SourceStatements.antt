@@ -4,7 +4,7 @@ use Rattle.f77_tree.specs.declared.programs.Program.{Program}
 use Rattle.f77_tree.specs.declared.statements.Labelled.{Labelled}
 use Rattle.fixed_form.specs.declared.raw_stmt.RawStmt.{RawStmt}
 use Rattle.fixed_form.specs.Reading as lines
-use Rattle.f77_layout.specs.Faults.{first_line}
+use Rattle.layout_rules.specs.Faults.{first_line}
 use Rattle.f77_source.specs.Reading.{statements_of}
 use Rattle.flat_programs.specs.declared.statements.FlatLine.{FlatLine}
 use Rattle.read_back.specs.PrintedArrays.{HasNoPrintedArrays}

@@ -1,6 +1,6 @@
 -- Refusals of the layout for what a program asks for: storage and operations.
-use Rattle.f77_layout.specs.declared.layout_end.LayoutEnd.{LayoutEnd}
-use Rattle.f77_layout.specs.declared.layout_end.LayoutEnd.TheVariants.{LayoutWrong, TooManyWords, TooManyOps}
+use Rattle.layout_rules.specs.declared.layout_end.LayoutEnd.{LayoutEnd}
+use Rattle.layout_rules.specs.declared.layout_end.LayoutEnd.TheVariants.{LayoutWrong, TooManyWords, TooManyOps}
 
 -- storage contradicts itself or has too many words, or a statement asks too much
 abbrev pub IsOfStorage : LayoutEnd → Type 0

@@ -2,8 +2,8 @@
 
 ghost use Rattle.std.specs.Prelude.{◌≡◌, List, filter, length};
 ghost use Rattle.f77_tree.specs.declared.programs.Program.{Program};
-ghost use Rattle.f77_layout.specs.Declarations.{all_groups, all_inits};
-ghost use Rattle.f77_layout.specs.Executables.{is_do};
+ghost use Rattle.layout_rules.specs.Declarations.{all_groups, all_inits};
+ghost use Rattle.layout_rules.specs.Executables.{is_do};
 ghost use Rattle.flat_programs.specs.declared.statements.FlatLine.{FlatLine};
 ghost use Rattle.flat_programs.specs.Marks.{loop_count};
 ghost use Rattle.read_back.specs.PrintedStatements.{CanBeText};

@@ -8,8 +8,8 @@ ghost use Rattle.f77_tree.specs.Dialects.{HasDialect};
 ghost use Rattle.f77_tree.specs.Kinds.{IsProper};
 ghost use Rattle.f77_tree.specs.Line.{kind_of_expression};
 ghost use Rattle.f77_expr.specs.Printing.{raw_form};
-ghost use Rattle.f77_layout.specs.Resolved.{resolved};
-ghost use Rattle.f77_layout.specs.Types.{kind_in};
+ghost use Rattle.layout_rules.specs.Resolved.{resolved};
+ghost use Rattle.layout_rules.specs.Types.{kind_in};
 ghost use Rattle.read_back.specs.PrintedArrays.{HasNoPrintedArrays};
 
 /// The form that a printed expression is read as has the kind of the expression (ANSI X3.9-1978, section 6), so that none of its

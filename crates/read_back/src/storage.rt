@@ -2,8 +2,8 @@
 
 ghost use Rattle.std.specs.Prelude.{◌≡◌, Bool, List};
 ghost use Rattle.f77_tree.specs.declared.programs.Program.{Program};
-ghost use Rattle.f77_layout.specs.Layout.{HasForm, names_of, placed_names, word_count};
-ghost use Rattle.f77_layout.specs.StorageFaults.{has_wrong_data, has_wrong_places};
+ghost use Rattle.layout_rules.specs.Layout.{HasForm, names_of, placed_names, word_count};
+ghost use Rattle.layout_rules.specs.StorageFaults.{has_wrong_data, has_wrong_places};
 ghost use Rattle.flat_programs.specs.declared.statements.FlatLine.{FlatLine};
 ghost use Rattle.read_back.specs.ReadAgain.{HasText, program_read};
 ghost use Rattle.read_back.specs.SourceStatements.{NoneHas, statements_read};

@@ -21,7 +21,7 @@ use Rattle.f77_subs.specs.Refusals.{expansion, list_unless, unit_refusal}
 use Rattle.f77_subs.specs.Units.{guard_of, in_first, is_end, unit_at, unit_of, units}
 use Rattle.expanded_sources.proofs.HeldPieces.{Holds, IsInUnit, Whole, all-come, list-holds, whole-append, whole-each, whole-flat, whole-map}
 use Rattle.f77_source.specs.Listed.{is_one_unit, listed}
-use Rattle.f77_layout.specs.Layout.{last_line}
+use Rattle.layout_rules.specs.Layout.{last_line}
 use Rattle.read_dialects.proofs.PlainOperators.{IsPlain, IsPlainItem, IsPlainStep, IsPlainStmt, written-plain, changed-plain}
 
 -- ---- statements of the grammar

@@ -12,8 +12,8 @@ use Rattle.f77_tree.specs.Declarations.{index_of}
 use Rattle.f77_tree.specs.Dialects.{is_of_dialect, HasDialect}
 use Rattle.f77_tree.proofs.AllLemmas.{All-nil, All-cons, All-first, All-rest}
 use Rattle.f77_tree.proofs.DialectLaws.{Apply-dialect, Read-dialect}
-use Rattle.f77_layout.specs.Resolved.{in_dialect, nested, intrinsic_call, resolved_call, resolved, resolved_row, access_of}
-use Rattle.f77_layout.specs.Types.{Intrinsic, intrinsics, is_array_in}
+use Rattle.layout_rules.specs.Resolved.{in_dialect, nested, intrinsic_call, resolved_call, resolved, resolved_row, access_of}
+use Rattle.layout_rules.specs.Types.{Intrinsic, intrinsics, is_array_in}
 use Rattle.read_dialects.proofs.PlainOperators.{IsPlain, ArePlain}
 
 -- ---- operators

@@ -13,8 +13,8 @@ use Rattle.f77_tree.specs.declared.statements.Stmt.TheVariants.{Assign, Print, T
 use Rattle.f77_tree.specs.Dialects.{is_of_dialect}
 use Rattle.f77_tree.specs.Grammar.{Written, Arguments, level, left_level, operator_level, IsGrammatical, AreGrammatical, reading, readings}
 use Rattle.f77_tree.proofs.AllLemmas.{All-nil, All-cons, All-first, All-rest}
-use Rattle.f77_layout.specs.Functions.{intrinsic_named}
-use Rattle.f77_layout.specs.Types.{Intrinsic, intrinsics}
+use Rattle.declared_names.specs.Functions.{intrinsic_named}
+use Rattle.layout_rules.specs.Types.{Intrinsic, intrinsics}
 use Rattle.f77_subs.specs.Copies.{Change, pairs, intrinsic_or, changed_call, changed, changed_row}
 
 -- ---- expressions

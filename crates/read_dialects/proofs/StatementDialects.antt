@@ -26,10 +26,10 @@ use Rattle.f77_tree.proofs.Equations.{All-flat}
 use Rattle.fixed_form.specs.declared.raw_stmt.RawStmt.{RawStmt}
 use Rattle.f77_parse.specs.declared.stmt_end.StmtEnd.{StmtEnd}
 use Rattle.f77_parse.specs.Parsing.{IsParsed, reading_of}
-use Rattle.f77_layout.specs.Executables.{at_line, beyond, executables, executables_at, executables_if_any, first_of, increments, kind_or_integer, loops_to, own_executables, own_kinds, taking}
-use Rattle.f77_layout.specs.Layout.{names_of}
-use Rattle.f77_layout.specs.Resolved.{access_of, resolved_item, resolved_step}
-use Rattle.f77_layout.specs.Types.{kind_in}
+use Rattle.layout_rules.specs.Executables.{at_line, beyond, executables, executables_at, executables_if_any, first_of, increments, kind_or_integer, loops_to, own_executables, own_kinds, taking}
+use Rattle.layout_rules.specs.Layout.{names_of}
+use Rattle.layout_rules.specs.Resolved.{access_of, resolved_item, resolved_step}
+use Rattle.layout_rules.specs.Types.{kind_in}
 use Rattle.expanded_sources.proofs.HeldPieces.{whole-each}
 use Rattle.f77_source.specs.declared.source_end.Refusal.{Refusal}
 use Rattle.f77_source.specs.Reading.{Reads, statement_before, statements_of}

@@ -4,7 +4,7 @@ use Rattle.std.specs.Prelude.{Result}
 use Rattle.f77_tree.specs.declared.programs.Program.{Program}
 use Rattle.f77_tree.specs.declared.statements.Labelled.{Labelled}
 use Rattle.f77_tree.specs.Run.{PrintAlike, Reaches, State, source}
-use Rattle.f77_layout.specs.Layout.{program}
+use Rattle.layout_rules.specs.Layout.{program}
 use Rattle.f77_source.specs.Listed.{listed}
 use Rattle.f77_source.specs.Reading.{Reads, statements_of}
 use Rattle.rewriting.specs.Running.{RewrittenProgramsPrintAlike}

@@ -9,7 +9,7 @@ use Rattle.f77_tree.specs.declared.programs.Program.{Program}
 use Rattle.f77_tree.specs.Declarations.{index_of}
 use Rattle.f77_tree.specs.Value.{dims_of}
 use Rattle.f77_tree.proofs.AllLemmas.{All-first, All-nil, All-rest}
-use Rattle.f77_layout.specs.Types.{is_array_in}
+use Rattle.layout_rules.specs.Types.{is_array_in}
 use Rattle.redundancy.specs.Available.{Availability}
 use Rattle.regenerate.specs.Shared.{shared, temporaries, temporary_at, temporary_info, with_temporaries}
 use Rattle.read_back.specs.PrintedArrays.{HasNoPrintedArrays}

@@ -1,6 +1,6 @@
 use Rattle.std.proofs.Common.{subst}
 use Rattle.f77_layout.specs.Answers.{IsLaidAs}
-use Rattle.f77_layout.specs.Layout.{layout}
+use Rattle.layout_rules.specs.Layout.{layout}
 use Rattle.f77_layout.proofs.Answers.{laid_accepted, laid_modest, laid_refused, laid_well_formed}
 use Rattle.f77_layout.proofs.assembly.assemble.Goals as goal
 

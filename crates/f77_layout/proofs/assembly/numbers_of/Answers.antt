@@ -1,5 +1,5 @@
 use Rattle.std.proofs.Common.{length, sym, ap, ◌∙◌}
-use Rattle.f77_layout.proofs.KnownStatements.{statements-known}
+use Rattle.storage_laws.proofs.KnownStatements.{statements-known}
 use Rattle.f77_layout.proofs.MadePrograms.{as-many, found-is, stored-placed}
 use Rattle.f77_layout.proofs.assembly.numbers_of.Goals as goal
 

@@ -1,5 +1,5 @@
 use Rattle.std.proofs.Common.{◌≡◌, ◌≤◌}
-use Rattle.f77_layout.specs.Executables.{loop_number}
+use Rattle.layout_rules.specs.Executables.{loop_number}
 use Rattle.f77_layout.proofs.collecting.count_loops.Given as goal
 
 abbrev pub invariant-loop-s : goal.invariant-loop-s

@@ -1,6 +1,6 @@
 use Rattle.std.proofs.Common.{◌≡◌, take}
 use Rattle.std.specs.Prelude.{flat_map}
-use Rattle.f77_layout.specs.Declarations.{groups_of}
+use Rattle.layout_rules.specs.Declarations.{groups_of}
 use Rattle.f77_layout.proofs.collecting.groups_of.Given as goal
 
 abbrev pub invariant-loop-s : goal.invariant-loop-s

@@ -1,6 +1,6 @@
 use Rattle.std.proofs.Common.{◌≡◌, take}
 use Rattle.std.specs.Prelude.{flat_map}
-use Rattle.f77_layout.specs.Declarations.{inits_of}
+use Rattle.layout_rules.specs.Declarations.{inits_of}
 use Rattle.f77_layout.proofs.collecting.inits_of.Given as goal
 
 abbrev pub invariant-loop-s : goal.invariant-loop-s

@@ -1,7 +1,7 @@
 use Rattle.std.proofs.Common.{◌≡◌, [], ◌∷◌, ◌++◌, length, get_or, take, Some, slice_get, sym, ap, subst, ◌∙◌, arith}
 use Rattle.std.specs.Prelude.{IfSome}
 use Rattle.std.proofs.lemmas.Option.{slice_get-get_or}
-use Rattle.f77_layout.specs.PlacedNames.{with_places}
+use Rattle.layout_rules.specs.PlacedNames.{with_places}
 use Rattle.f77_layout.proofs.NamesPlaced.{with_places-more, with_places-length}
 use Rattle.f77_layout.proofs.collecting.placed_names.Goals as goal
 

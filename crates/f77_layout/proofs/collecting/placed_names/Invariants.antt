@@ -1,5 +1,5 @@
 use Rattle.std.proofs.Common.{◌≡◌, take}
-use Rattle.f77_layout.specs.PlacedNames.{with_places}
+use Rattle.layout_rules.specs.PlacedNames.{with_places}
 use Rattle.f77_layout.proofs.collecting.placed_names.Given as goal
 
 abbrev pub invariant-loop-k : goal.invariant-loop-k

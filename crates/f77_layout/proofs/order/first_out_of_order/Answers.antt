@@ -1,6 +1,6 @@
 use Rattle.std.proofs.Common.{◌≡◌, ◌∙◌, sym, ap, true, false, take}
-use Rattle.f77_layout.specs.Order.{rank, is_out_of_order}
-use Rattle.f77_layout.proofs.FirstLine.{first_after-here, first_after-next}
+use Rattle.layout_rules.specs.Order.{rank, is_out_of_order}
+use Rattle.layout_rules.proofs.FirstLine.{first_after-here, first_after-next}
 use Rattle.f77_layout.proofs.Ranks.{is_late, late-more}
 use Rattle.f77_layout.proofs.order.first_out_of_order.Goals as goal
 

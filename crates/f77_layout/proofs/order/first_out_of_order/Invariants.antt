@@ -1,8 +1,8 @@
 use Rattle.std.proofs.Common.{◌≡◌, ◌&&◌, ◌||◌, ◌==◌, ℕ, take, drop}
 use Rattle.std.specs.Prelude.{nat_lt}
 use Rattle.std.specs.List.{list_any}
-use Rattle.f77_layout.specs.Faults.{first_line, first_after}
-use Rattle.f77_layout.specs.Order.{rank, is_out_of_order}
+use Rattle.layout_rules.specs.Faults.{first_line, first_after}
+use Rattle.layout_rules.specs.Order.{rank, is_out_of_order}
 use Rattle.f77_layout.proofs.order.first_out_of_order.Given as goal
 
 abbrev pub invariant-loop-s : goal.invariant-loop-s

@@ -1,6 +1,6 @@
 use Rattle.std.proofs.Common.{◌≡◌, ◌<◌, true, false, length, sym, ◌∙◌, arith}
 use Rattle.std.specs.Prelude.{slice_get}
-use Rattle.f77_layout.specs.KeptDeclarations.{said_by}
+use Rattle.declared_names.specs.KeptDeclarations.{said_by}
 use Rattle.f77_subs.specs.Alike.{is_alike_told}
 use Rattle.f77_subs.specs.Alike.{are_both}
 use Rattle.f77_subs.proofs.AlikeOnes.{fit-end, fit-inside, fit-more, fit-none}

@@ -1,5 +1,5 @@
 use Rattle.std.proofs.Common.{◌≡◌, ◌≤◌, length, drop}
-use Rattle.f77_layout.specs.KeptDeclarations.{said_by}
+use Rattle.declared_names.specs.KeptDeclarations.{said_by}
 use Rattle.f77_subs.specs.Alike.{are_alike_told, is_alike_told}
 use Rattle.f77_subs.proofs.AlikeOnes.{all_fit}
 use Rattle.f77_subs.proofs.alike.are_alike.Given as goal

@@ -1,7 +1,7 @@
 use Rattle.std.proofs.Common.{length, slice_get, refl, sym, ◌∙◌}
 use Rattle.std.proofs.lemmas.Bool.{ltb-false, ltb-true}
 use Rattle.std.proofs.lemmas.Option.{slice_get_past, slice_get_read}
-use Rattle.f77_layout.specs.KeptDeclarations.{said_by}
+use Rattle.declared_names.specs.KeptDeclarations.{said_by}
 use Rattle.f77_subs.specs.Alike.{is_alike_told}
 use Rattle.f77_subs.proofs.AlikeOnes.{both-some, first-none, second-none}
 use Rattle.f77_subs.proofs.alike.is_alike_at.Goals as goal

@@ -1,7 +1,7 @@
 use Rattle.std.proofs.Common.{◌≡◌, ◌<◌, Bool, true, false, List, length, Some, None, sym, ap, ◌∙◌, arith}
 use Rattle.std.specs.Prelude.{slice_get}
 use Rattle.f77_tree.specs.declared.statements.Labelled.{Labelled}
-use Rattle.f77_layout.specs.Layout.{line_or_none}
+use Rattle.layout_rules.specs.Layout.{line_or_none}
 use Rattle.f77_subs.specs.Units.{unit_at}
 use Rattle.f77_subs.specs.Refusals.{bad_block, first_line_if}
 use Rattle.f77_subs.proofs.UnitsMet.{answer-end, answer-here, answer-next}

@@ -1,5 +1,5 @@
 use Rattle.std.proofs.Common.{◌≡◌, drop}
-use Rattle.f77_layout.specs.Faults.{first_answer}
+use Rattle.layout_rules.specs.Faults.{first_answer}
 use Rattle.f77_subs.specs.Refusals.{bad_block}
 use Rattle.f77_subs.proofs.bad_blocks.first_odd.Given as goal
 

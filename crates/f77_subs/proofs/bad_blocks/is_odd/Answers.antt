@@ -1,6 +1,6 @@
 use Rattle.std.proofs.Common.{◌≤◌, ℕ, List, [], length, not, sym, ap, subst, ◌∙◌}
 use Rattle.std.specs.Prelude.{unwrap_or}
-use Rattle.f77_layout.specs.KeptDeclarations.{said_by}
+use Rattle.declared_names.specs.KeptDeclarations.{said_by}
 use Rattle.f77_subs.specs.Alike.{are_alike_told}
 use Rattle.f77_subs.specs.BlockTables.{found_names}
 use Rattle.f77_subs.proofs.OddBlocks.{odd-by, owner-inside}

@@ -1,6 +1,6 @@
 use Rattle.std.proofs.Common.{◌≡◌, ◌+◌, ◌||◌, ℕ, true, false, take, length, sym, ap, ◌∙◌, arith}
 use Rattle.std.specs.Prelude.{if◌then◌else◌}
-use Rattle.f77_layout.proofs.FirstLine.{first_after-end, first_after-here, first_after-next}
+use Rattle.layout_rules.proofs.FirstLine.{first_after-end, first_after-here, first_after-next}
 use Rattle.f77_subs.specs.Units.{call_in, is_end, unit_at}
 use Rattle.f77_subs.specs.Refusals.{calls_wrongly, has_bad_call, has_wrong_dummy}
 use Rattle.f77_subs.proofs.BadCalls.{below-more, end-inside, units-enough}

@@ -1,5 +1,5 @@
 use Rattle.std.proofs.Common.{◌≡◌, take, drop}
-use Rattle.f77_layout.specs.Faults.{first_after, first_line}
+use Rattle.layout_rules.specs.Faults.{first_after, first_line}
 use Rattle.f77_subs.specs.Refusals.{has_bad_call, unit_below}
 use Rattle.f77_subs.proofs.bad_calls.first_bad_call.Given as goal
 

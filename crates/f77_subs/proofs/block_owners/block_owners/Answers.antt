@@ -4,7 +4,7 @@ use Rattle.std.proofs.lemmas.List.{take_all}
 use Rattle.std.proofs.lemmas.Option.{slice_get_read}
 use Rattle.f77_tree.specs.declared.statements.Labelled.{Labelled}
 use Rattle.f77_tree.specs.Places.{same_block}
-use Rattle.f77_layout.specs.Faults.{answer_or}
+use Rattle.layout_rules.specs.Faults.{answer_or}
 use Rattle.f77_subs.specs.declared.block_names.BlockTable.{BlockTable}
 use Rattle.f77_subs.specs.CallTable.{unit_if}
 use Rattle.f77_subs.specs.Names.{has_block}

@@ -1,6 +1,6 @@
 use Rattle.std.proofs.Common.{rules, arith, ◌&&◌, not, true, Some, option_map, length, ◌≤◌, ◌≡◌, [], List, take, map, fold, sym, ap, subst, ◌∙◌}
 use Rattle.std.specs.Prelude.{IfOk}
-use Rattle.f77_layout.specs.Functions.{intrinsic_named}
+use Rattle.declared_names.specs.Functions.{intrinsic_named}
 use Rattle.std.proofs.lemmas.List.{take_all}
 use Rattle.f77_tree.specs.declared.statements.RawExpr.{RawExpr}
 use Rattle.f77_tree.specs.declared.statements.RawExpr.TheVariants.{Apply}

@@ -1,5 +1,5 @@
 use Rattle.std.proofs.Common.{ap, ◌∙◌}
-use Rattle.f77_layout.specs.Executables.{kind_or_integer}
+use Rattle.layout_rules.specs.Executables.{kind_or_integer}
 use Rattle.f77_subs.proofs.KeptNames.{kept-at}
 use Rattle.f77_subs.proofs.PutDecls.{decl-made, dims-told, kind-told}
 use Rattle.f77_subs.proofs.declaring.type_decl.Goals as goal

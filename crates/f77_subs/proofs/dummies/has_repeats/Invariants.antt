@@ -1,6 +1,6 @@
 use Rattle.std.proofs.Common.{◌≡◌, [], take, drop}
 use Rattle.std.specs.Prelude.{bytes_eq}
-use Rattle.f77_layout.specs.Faults.{has_repeat}
+use Rattle.layout_rules.specs.Faults.{has_repeat}
 use Rattle.f77_subs.proofs.dummies.has_repeats.Given as goal
 
 abbrev pub invariant-loop-name : goal.invariant-loop-name

@@ -2,10 +2,10 @@ use Rattle.std.proofs.Common.{ℕ, List, fold, ap, ◌∙◌, arith}
 use Rattle.std.specs.Prelude.{flat_map}
 use Rattle.std.proofs.lemmas.List.{take_all}
 use Rattle.f77_tree.specs.declared.statements.Labelled.{Labelled}
-use Rattle.f77_layout.specs.Appearances.{each_once, with_name}
-use Rattle.f77_layout.specs.Declarations.{is_array}
-use Rattle.f77_layout.specs.Described.{is_array_told}
-use Rattle.f77_layout.specs.KeptDeclarations.{said_by}
+use Rattle.layout_rules.specs.Appearances.{each_once, with_name}
+use Rattle.layout_rules.specs.Declarations.{is_array}
+use Rattle.declared_names.specs.Described.{is_array_told}
+use Rattle.declared_names.specs.KeptDeclarations.{said_by}
 use Rattle.f77_subs.specs.Dummies.{stored}
 use Rattle.f77_subs.proofs.StoredNames.{storage-is, storage-more}
 use Rattle.f77_subs.proofs.dummies.storage_names.Goals as goal

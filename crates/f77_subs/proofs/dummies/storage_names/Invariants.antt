@@ -1,7 +1,7 @@
 use Rattle.std.proofs.Common.{◌≡◌, take}
 use Rattle.std.specs.Prelude.{flat_map}
-use Rattle.f77_layout.specs.Appearances.{each_once}
-use Rattle.f77_layout.specs.Declarations.{is_array}
+use Rattle.layout_rules.specs.Appearances.{each_once}
+use Rattle.layout_rules.specs.Declarations.{is_array}
 use Rattle.f77_subs.specs.Dummies.{stored}
 use Rattle.f77_subs.proofs.dummies.storage_names.Given as goal
 

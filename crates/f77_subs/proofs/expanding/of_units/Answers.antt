@@ -1,5 +1,5 @@
 use Rattle.std.proofs.Common.{sym, ◌∙◌}
-use Rattle.f77_layout.specs.Faults.{first_answer}
+use Rattle.layout_rules.specs.Faults.{first_answer}
 use Rattle.f77_subs.specs.Expansion.{whole_list}
 use Rattle.f77_subs.specs.Refusals.{size_refusals}
 use Rattle.f77_subs.proofs.AcceptedTexts.{few-statements, listed, refused}

@@ -1,7 +1,7 @@
 use Rattle.std.proofs.Common.{◌≡◌, ◌+◌, ◌<◌, ◌^◌, ℕ, List, false, filter, length, nat_lt, sym, ap, ◌∙◌, arith}
 use Rattle.std.specs.List.{range_with_len}
 use Rattle.std.proofs.lemmas.Bool.{ltb-false}
-use Rattle.f77_layout.specs.Appearances.{each_once}
+use Rattle.layout_rules.specs.Appearances.{each_once}
 use Rattle.f77_subs.specs.NewNames.{is_free_of}
 use Rattle.f77_subs.proofs.GreatNames.{few-sum, great-is, none-great}
 use Rattle.f77_subs.proofs.great_names.has_number_above.Goals as goal

@@ -1,7 +1,7 @@
 use Rattle.std.proofs.Common.{◌≡◌, ◌<◌, ◌≤◌, Bool, true, List, length, Some, sym, ap, ◌∙◌, arith}
 use Rattle.std.specs.Prelude.{slice_get, slice_index_or, false}
 use Rattle.f77_tree.specs.declared.statements.Labelled.{Labelled}
-use Rattle.f77_layout.specs.Layout.{line_or_none}
+use Rattle.layout_rules.specs.Layout.{line_or_none}
 use Rattle.f77_subs.specs.Units.{reaches, unit_at}
 use Rattle.f77_subs.specs.Refusals.{recursion, first_line_if}
 use Rattle.f77_subs.proofs.GrowingGraph.{first-at, none-at}

@@ -1,6 +1,6 @@
 use Rattle.std.proofs.Common.{ap, sym, ◌∙◌}
 use Rattle.std.specs.Prelude.{Err}
-use Rattle.f77_layout.specs.declared.layout_end.LayoutEnd.{LayoutEnd}
+use Rattle.layout_rules.specs.declared.layout_end.LayoutEnd.{LayoutEnd}
 use Rattle.f77_subs.specs.Units.{standing_in}
 use Rattle.f77_subs.proofs.RefusedUnits.{none-refused, some-refused}
 use Rattle.f77_subs.proofs.refused_units.refused.Goals as goal

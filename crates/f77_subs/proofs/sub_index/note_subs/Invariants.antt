@@ -2,7 +2,7 @@ use Rattle.std.proofs.Common.{◌≡◌, ℕ, List, take}
 use Rattle.std.specs.Prelude.{bytes_eq}
 use Rattle.std.specs.List.{list_any}
 use Rattle.indexmap.specs.IndexMap.{get}
-use Rattle.f77_layout.specs.Faults.{answer_or}
+use Rattle.layout_rules.specs.Faults.{answer_or}
 use Rattle.f77_subs.specs.Units.{is_sub_of}
 use Rattle.f77_subs.specs.CallTable.{unit_if}
 use Rattle.f77_subs.proofs.sub_index.note_subs.Given as goal

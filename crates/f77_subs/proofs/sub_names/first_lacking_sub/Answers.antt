@@ -1,6 +1,6 @@
 use Rattle.std.proofs.Common.{◌≡◌, true, false, take, sym, ap, ◌∙◌}
 use Rattle.f77_tree.specs.declared.statements.Stmt.{Stmt}
-use Rattle.f77_layout.proofs.FirstLine.{first_after-here, first_after-next}
+use Rattle.layout_rules.proofs.FirstLine.{first_after-here, first_after-next}
 use Rattle.f77_subs.specs.Units.{call_by}
 use Rattle.f77_subs.specs.Refusals.{lacks_sub, lacks_told}
 use Rattle.f77_subs.proofs.SubNames.{lacking-is}

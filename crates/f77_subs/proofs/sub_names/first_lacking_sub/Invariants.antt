@@ -1,5 +1,5 @@
 use Rattle.std.proofs.Common.{◌≡◌, take, drop}
-use Rattle.f77_layout.specs.Faults.{first_line, first_after}
+use Rattle.layout_rules.specs.Faults.{first_line, first_after}
 use Rattle.f77_subs.specs.Refusals.{lacks_sub}
 use Rattle.f77_subs.proofs.sub_names.first_lacking_sub.Given as goal
 

@@ -1,5 +1,5 @@
 use Rattle.std.proofs.Common.{◌≡◌, ◌+◌, ℕ, List, true, false, take, length, sym, subst, ◌∙◌, arith}
-use Rattle.f77_layout.proofs.FirstLine.{first_after-here}
+use Rattle.layout_rules.proofs.FirstLine.{first_after-here}
 use Rattle.f77_subs.specs.Refusals.{is_sub_again}
 use Rattle.f77_subs.proofs.SubNames.{AreAbove, names-all, names-more, again-is}
 use Rattle.f77_subs.proofs.sub_names.sub_names.Goals as goal

@@ -1,9 +1,9 @@
 use Rattle.std.proofs.Common.{◌≡◌, ℕ, List, fold, ap, sym, subst, ◌∙◌}
 use Rattle.std.specs.Prelude.{OnOk}
 use Rattle.f77_tree.specs.declared.statements.Stmt.{Stmt}
-use Rattle.f77_layout.specs.Appearances.{with_name}
-use Rattle.f77_layout.specs.Described.{is_array_told}
-use Rattle.f77_layout.specs.KeptDeclarations.{said_by}
+use Rattle.layout_rules.specs.Appearances.{with_name}
+use Rattle.declared_names.specs.Described.{is_array_told}
+use Rattle.declared_names.specs.KeptDeclarations.{said_by}
 use Rattle.f77_subs.specs.Names.{appearing_here}
 use Rattle.f77_subs.proofs.NamesMet.{met-ThenIf}
 use Rattle.f77_subs.proofs.unit_names.+note_here.Goals as goal

@@ -1,5 +1,5 @@
 use Rattle.std.proofs.Common.{◌≡◌, fold, take}
-use Rattle.f77_layout.specs.Appearances.{with_name}
+use Rattle.layout_rules.specs.Appearances.{with_name}
 use Rattle.f77_subs.proofs.unit_names.note_names.Given as goal
 
 abbrev pub invariant-loop-name : goal.invariant-loop-name

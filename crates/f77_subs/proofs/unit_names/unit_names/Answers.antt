@@ -1,7 +1,7 @@
 use Rattle.std.proofs.Common.{ℕ, List, fold, ap, ◌∙◌}
-use Rattle.f77_layout.specs.Appearances.{with_name}
-use Rattle.f77_layout.specs.Described.{is_array_told}
-use Rattle.f77_layout.specs.KeptDeclarations.{said_by}
+use Rattle.layout_rules.specs.Appearances.{with_name}
+use Rattle.declared_names.specs.Described.{is_array_told}
+use Rattle.declared_names.specs.KeptDeclarations.{said_by}
 use Rattle.f77_subs.specs.Names.{appearing_here}
 use Rattle.f77_subs.proofs.NamesMet.{met-more}
 use Rattle.f77_subs.proofs.unit_names.unit_names.Goals as goal

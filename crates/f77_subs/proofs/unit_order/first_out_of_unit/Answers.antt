@@ -1,5 +1,5 @@
 use Rattle.std.proofs.Common.{◌≡◌, ◌&&◌, Bool, true, false, not, ◌+◌, take, sym, subst, ◌∙◌}
-use Rattle.f77_layout.proofs.FirstLine.{first_after-here}
+use Rattle.layout_rules.proofs.FirstLine.{first_after-here}
 use Rattle.f77_subs.specs.Refusals.{is_out_of_unit}
 use Rattle.f77_subs.proofs.UnitWalk.{IsAbove, above-none, above-more, fault-is}
 use Rattle.f77_subs.proofs.unit_order.first_out_of_unit.Goals as goal

@@ -1,6 +1,6 @@
 use Rattle.std.proofs.Common.{◌^◌, List, Option, None, Some, refl, sym, subst, ap, ◌∙◌, arith}
 use Rattle.f77_tree.specs.declared.statements.Labelled.{Labelled}
-use Rattle.f77_layout.specs.Faults.{first_answer}
+use Rattle.layout_rules.specs.Faults.{first_answer}
 use Rattle.f77_subs.specs.declared.sub_end.SubEnd.{SubEnd}
 use Rattle.f77_subs.specs.Heights.{NoneCallsItself}
 use Rattle.f77_subs.specs.Refusals.{size_refusals}

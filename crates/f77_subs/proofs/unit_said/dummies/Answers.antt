@@ -1,6 +1,6 @@
 use Rattle.std.proofs.Common.{◌++◌, ℕ, List, ap, sym, ◌∙◌}
 use Rattle.f77_tree.specs.declared.statements.Labelled.{Labelled}
-use Rattle.f77_layout.proofs.FlatParts.{flat_map_taken}
+use Rattle.layout_rules.proofs.FlatParts.{flat_map_taken}
 use Rattle.f77_subs.specs.Units.{sub_dummies}
 use Rattle.f77_subs.proofs.unit_said.dummies.Goals as goal
 

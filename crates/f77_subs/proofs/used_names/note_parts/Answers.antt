@@ -1,4 +1,4 @@
-use Rattle.f77_layout.specs.Appearances.{with_name}
+use Rattle.layout_rules.specs.Appearances.{with_name}
 use Rattle.f77_subs.specs.Names.{option_names}
 use Rattle.f77_subs.proofs.PutLists.{fold-more}
 use Rattle.f77_subs.proofs.used_names.note_parts.Goals as goal

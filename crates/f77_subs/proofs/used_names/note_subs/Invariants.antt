@@ -1,6 +1,6 @@
 use Rattle.std.proofs.Common.{◌≡◌, fold, take}
 use Rattle.std.specs.Prelude.{flat_map}
-use Rattle.f77_layout.specs.Appearances.{with_name}
+use Rattle.layout_rules.specs.Appearances.{with_name}
 use Rattle.f77_subs.specs.Names.{option_names}
 use Rattle.f77_subs.specs.Units.{sub_name}
 use Rattle.f77_subs.proofs.used_names.note_subs.Given as goal

@@ -1,5 +1,5 @@
 use Rattle.std.proofs.Common.{◌≡◌, take}
-use Rattle.f77_layout.specs.Appearances.{each_once}
+use Rattle.layout_rules.specs.Appearances.{each_once}
 use Rattle.f77_subs.specs.Names.{used_names}
 use Rattle.f77_subs.proofs.used_names.used_names.Given as goal
 

@@ -1,6 +1,6 @@
 use Rattle.std.proofs.Common.{◌≡◌, Bool, true, false, not, nat_lt, get_or, refl, sym}
 use Rattle.std.proofs.lemmas.Option.{slice_get-get_or}
-use Rattle.f77_layout.specs.Order.{rank}
+use Rattle.layout_rules.specs.Order.{rank}
 use Rattle.f77_tree.specs.declared.statements.Labelled.{Labelled}
 use Rattle.f77_subs.proofs.WholeLists.{stops-at}
 use Rattle.f77_subs.proofs.whole_list.declared_first.Goals as goal

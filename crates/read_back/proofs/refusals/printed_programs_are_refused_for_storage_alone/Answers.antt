@@ -1,4 +1,4 @@
-use Rattle.f77_layout.specs.Layout.{layout}
+use Rattle.layout_rules.specs.Layout.{layout}
 use Rattle.read_back.specs.SourceStatements.{statements_read}
 use Rattle.read_back.specs.StorageRefusals.{IsOfStorage}
 use Rattle.read_back.proofs.PrintedRefusals.{if_refused, refused_for_storage}

@@ -1,4 +1,4 @@
-use Rattle.f77_layout.specs.Layout.{placed_names}
+use Rattle.layout_rules.specs.Layout.{placed_names}
 use Rattle.read_back.specs.SourceStatements.{statements_read}
 use Rattle.read_back.proofs.PrintedData.{none_wrong_data}
 use Rattle.read_back.proofs.PrintedForm.{initial_again}

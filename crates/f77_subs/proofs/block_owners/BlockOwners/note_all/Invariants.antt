@@ -1,7 +1,7 @@
 use Rattle.std.proofs.Common.{◌≡◌, ℕ, List, Option, take}
 use Rattle.std.specs.List.{list_any}
 use Rattle.f77_tree.specs.Places.{same_block}
-use Rattle.f77_layout.specs.Faults.{answer_or}
+use Rattle.layout_rules.specs.Faults.{answer_or}
 use Rattle.f77_subs.specs.CallTable.{unit_if}
 use Rattle.f77_subs.specs.BlockTables.{owner_in}
 use Rattle.f77_subs.proofs.block_owners.BlockOwners.note_all.Given as goal

@@ -1,7 +1,7 @@
 use Rattle.std.proofs.Common.{◌≡◌, ℕ, Bool, List, Option, Some, None, ap, subst, ◌∙◌}
 use Rattle.std.specs.Prelude.{IfSome}
 use Rattle.std.specs.List.{position, position_or_len}
-use Rattle.f77_layout.proofs.NameEntries.{position-some}
+use Rattle.symbol_table.proofs.NameEntries.{position-some}
 use Rattle.f77_subs.specs.Entities.{Entity}
 use Rattle.f77_subs.specs.Names.{same_entity}
 use Rattle.f77_subs.proofs.EntityKeys.{same-keys}

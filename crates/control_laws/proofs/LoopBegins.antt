@@ -1,0 +1,156 @@
+-- The executables that begin and increment each DO.
+use Rattle.std.proofs.Common.{◌≡◌, ℕ, zero, suc, ◌+◌, ◌-◌, ◌<◌, ◌≤◌, Bool, true, false, ◌⊎◌, inl, inr, List, length, drop, refl, sym, ap, ◌∙◌, arith, Option, Some, None, All}
+use Rattle.std.specs.Prelude.{slice_get}
+use Rattle.std.proofs.lemmas.Bool.{cases_lt, cases_Bool}
+use Rattle.std.proofs.lemmas.Option.{slice_get_within}
+use Rattle.f77_tree.specs.declared.programs.Exec.{Exec}
+use Rattle.f77_tree.specs.declared.programs.ExecKind.{ExecKind}
+use Rattle.f77_tree.specs.declared.programs.ExecKind.TheVariants.{DoStart}
+use Rattle.f77_tree.specs.declared.programs.NameInfo.{NameInfo}
+use Rattle.f77_tree.specs.declared.statements.Labelled.{Labelled}
+use Rattle.f77_tree.specs.declared.statements.RawExpr.{RawExpr}
+use Rattle.f77_tree.specs.declared.statements.Stmt.{Stmt}
+use Rattle.f77_tree.specs.declared.statements.Stmt.TheVariants.{Do}
+use Rattle.f77_tree.specs.Declarations.{index_of}
+use Rattle.f77_tree.specs.Loops.{Loop, begun, incremented, begun_in, incremented_in, begun_at, incremented_at}
+use Rattle.layout_rules.specs.Resolved.{resolved, resolved_step}
+use Rattle.layout_rules.specs.Executables.{beyond, own_executables, own_kinds, increments, loops_to, first_of, executables, is_do, loop_number, exit_of}
+use Rattle.layout_rules.specs.Tables.{IsUsable}
+use Rattle.control_structure.proofs.ExecutableLemmas.{length-increments}
+use Rattle.control_laws.proofs.LoopPlaces.{Located, located, length-own_kinds, length-executables, usable-at, own-at, end-at}
+use Rattle.control_laws.proofs.LoopKinds.{no_loops-got, loop_of, next_kind, next_loop, StartsAt, NextAt, own-no_loops, increments-at, increments-got}
+use Rattle.control_structure.proofs.Walks.{item_at}
+
+-- an executable of a statement's own
+pub record OwnAt (names : List NameInfo) (checked : Bool) (whole : List Labelled) (k : ℕ) (kind : ExecKind) : Type 0 where
+  pub place : ℕ
+  pub s : Labelled
+  pub j : ℕ
+  pub stands : slice_get whole place ≡ Some s
+  pub at : k ≡ first_of whole place + j
+  pub own : j < own_executables s.stmt
+  pub got : slice_get (own_kinds names checked whole place (first_of whole place) (beyond whole place s) s.stmt) j ≡ Some kind
+
+-- an increment
+pub record EndAt (names : List NameInfo) (whole : List Labelled) (k : ℕ) (kind : ExecKind) : Type 0 where
+  pub place : ℕ
+  pub s : Labelled
+  pub m : ℕ
+  pub d : ℕ
+  pub stands : slice_get whole place ≡ Some s
+  pub got : slice_get (loops_to whole s.label) m ≡ Some d
+  pub at : k ≡ first_of whole place + own_executables s.stmt + m
+  pub is : kind ≡ next_kind names whole place d k (drop (suc m) (loops_to whole s.label))
+
+module _ (names : List NameInfo) (checked : Bool) (whole : List Labelled) (usable : All (IsUsable whole) whole) where
+  abbrev execs : List Exec
+  execs = executables names checked whole
+
+  same_kind : (k line : ℕ) (e : Exec) (kind : ExecKind) → slice_get execs k ≡ Some e → slice_get execs k ≡ Some (record { line = line; kind = kind }) → e.kind ≡ kind
+  same_kind k line e kind is there = let same : e ≡ record { line = line; kind = kind } = let both : Some e ≡ Some (record { line = line; kind = kind }) = sym is ∙ there in cc in ap (λ (x : Exec). x.kind) same
+
+  comes-own : (k : ℕ) (e : Exec) (l : Located whole k) → slice_get execs k ≡ Some e → l.offset < own_executables l.s.stmt → OwnAt names checked whole k e.kind
+  comes-own k e l is lt =
+      let own = own_kinds names checked whole l.place (first_of whole l.place) (beyond whole l.place l.s) l.s.stmt in
+      let x = item_at own l.offset (omega (arith, lt, length-own_kinds names checked whole usable l.place l.s l.stands)) in
+      let there = own-at names checked whole usable l.place l.offset l.s x.0 l.stands x.1 in
+      let same = same_kind k l.s.line e x.0 is (ap (slice_get execs) l.is ∙ there) in
+      record { place = l.place; s = l.s; j = l.offset; stands = l.stands; at = l.is; own = lt; got = x.1 ∙ ap Some (sym same) }
+
+  end-from : (k place m : ℕ) (s : Labelled) (e : Exec) (kind : ExecKind) → slice_get whole place ≡ Some s → slice_get (increments names whole place (first_of whole place + own_executables s.stmt) (loops_to whole s.label)) m ≡ Some kind → k ≡ first_of whole place + own_executables s.stmt + m → slice_get execs k ≡ Some e → EndAt names whole k e.kind
+  end-from k place m s e kind here got at is =
+      let there = end-at names checked whole usable place m s kind here got in
+      let one = increments-got names checked whole place (first_of whole place + own_executables s.stmt) k m kind (loops_to whole s.label) at got in
+      let same : e.kind ≡ kind = same_kind k s.line e kind is (ap (slice_get execs) at ∙ there) in
+      record { place = place; s = s; m = m; d = one.d; stands = here; got = one.got; at = at; is = same ∙ one.is }
+
+  comes-end : (k : ℕ) (e : Exec) (l : Located whole k) → slice_get execs k ≡ Some e → own_executables l.s.stmt ≤ l.offset → EndAt names whole k e.kind
+  comes-end k e l is ge =
+      let index = first_of whole l.place + own_executables l.s.stmt in
+      let m = l.offset - own_executables l.s.stmt in
+      let ends = increments names whole l.place index (loops_to whole l.s.label) in
+      let x = item_at ends m (omega (arith, ge, l.within, length-increments names checked whole l.place index (loops_to whole l.s.label))) in
+      end-from k l.place m l.s e x.0 l.stands x.1 (omega (arith, ge, l.is)) is
+
+  -- each executable is a statement's own or an increment
+  pub comes : (k : ℕ) (e : Exec) → slice_get execs k ≡ Some e → OwnAt names checked whole k e.kind ⊎ EndAt names whole k e.kind
+  comes k e is =
+      let l = located whole (length whole) k (omega arith) (omega (arith, slice_get_within execs k e is, length-executables names checked whole usable)) in
+      elim (cases_lt l.offset (own_executables l.s.stmt)) as (λ _. OwnAt names checked whole k e.kind ⊎ EndAt names whole k e.kind) [
+        | inl lt ↦ inl (comes-own k e l is lt)
+        | inr ge ↦ inr (comes-end k e l is ge)
+      ]
+
+  -- ---- the DoStart
+
+  pub start-at : (d : ℕ) (s : Labelled) (label : ℕ) (variable : List ℕ) (first last : RawExpr) (step : Option RawExpr) → slice_get whole d ≡ Some s → s.stmt ≡ Do label variable first last step → begun_at execs (first_of whole d) ≡ Some (loop_of names whole d label variable)
+  start-at d s label variable first last step here is =
+      let kind = DoStart (loop_number whole d) (index_of names variable) (resolved names checked first) (resolved names checked last) (resolved_step names checked step) (first_of whole d + 1) (exit_of whole label d) in
+      let got : slice_get (own_kinds names checked whole d (first_of whole d) (beyond whole d s) s.stmt) 0 ≡ Some kind = ap (λ (t : Stmt). slice_get (own_kinds names checked whole d (first_of whole d) (beyond whole d s) t) 0) is in
+      let at : first_of whole d ≡ first_of whole d + 0 = omega arith in
+      ap begun_in (ap (slice_get execs) at ∙ own-at names checked whole usable d 0 s kind here got)
+
+  do-own : (place index next j : ℕ) (stmt : Stmt) (kind : ExecKind) (loop : Loop) → is_do stmt ≡ true → slice_get (own_kinds names checked whole place index next stmt) j ≡ Some kind → begun kind ≡ Some loop → (j ≡ 0) × (loop.number ≡ loop_number whole place)
+  do-own place index next zero (Do label variable first last step) kind loop e got is =
+      let begins : begun kind ≡ Some (record { number = loop_number whole place; variable = index_of names variable; body = index + 1; exit = exit_of whole label place }) =
+      let same : kind ≡ DoStart (loop_number whole place) (index_of names variable) (resolved names checked first) (resolved names checked last) (resolved_step names checked step) (index + 1) (exit_of whole label place) = cc in ap begun same in
+      let one : loop ≡ record { number = loop_number whole place; variable = index_of names variable; body = index + 1; exit = exit_of whole label place } = cc in
+      (refl, ap (λ (l : Loop). l.number) one)
+  do-own place index next (suc j) (Do label variable first last step) kind loop e got is = let h : None ≡ Some kind = got in absurd cc
+  do-own place index next j _ kind loop e got is = let h : false ≡ true = e in absurd cc
+
+  start-from : (k : ℕ) (e : Exec) (loop : Loop) → begun e.kind ≡ Some loop → OwnAt names checked whole k e.kind ⊎ EndAt names whole k e.kind → StartsAt whole k loop
+  start-from k e loop is from = elim from as (λ _. StartsAt whole k loop) [
+    | inl own ↦ elim (cases_Bool (is_do own.s.stmt)) as (λ _. StartsAt whole k loop) [
+      | inl yes_do ↦
+          let h = do-own own.place (first_of whole own.place) (beyond whole own.place own.s) own.j own.s.stmt e.kind loop yes_do own.got is in
+          record { d = own.place; s = own.s; stands = own.stands; is_do = yes_do; at = omega (arith, own.at, h.0); number = h.1 }
+      | inr no_do ↦
+          let none = no_loops-got (own_kinds names checked whole own.place (first_of whole own.place) (beyond whole own.place own.s) own.s.stmt) own.j e.kind (own-no_loops names checked whole own.place (first_of whole own.place) (beyond whole own.place own.s) own.s.stmt (usable-at names checked whole usable own.place own.s own.stands).inner no_do) own.got in
+          let h : None ≡ Some loop = sym none.0 ∙ is in absurd cc
+    ]
+    | inr end ↦ let h : None ≡ Some loop = sym (ap begun end.is) ∙ is in absurd cc
+  ]
+
+  pub start-only : (k : ℕ) (loop : Loop) → begun_at execs k ≡ Some loop → StartsAt whole k loop
+  start-only k loop is = by (slice_get execs k) refl is
+    where
+      by : (o : Option Exec) → slice_get execs k ≡ o → begun_in o ≡ Some loop → StartsAt whole k loop
+      by None at h = let e : None ≡ Some loop = h in absurd cc
+      by (Some e) at h = start-from k e loop h (comes k e at)
+
+  -- ---- the DoNext
+
+  pub next-at : (place m d : ℕ) (s : Labelled) → slice_get whole place ≡ Some s → slice_get (loops_to whole s.label) m ≡ Some d → incremented_at execs (first_of whole place + own_executables s.stmt + m) ≡ Some (next_loop names whole place d (first_of whole place + own_executables s.stmt + m) (drop (suc m) (loops_to whole s.label)))
+  next-at place m d s here got =
+      let index = first_of whole place + own_executables s.stmt in
+      let ds = loops_to whole s.label in
+      ap incremented_in (end-at names checked whole usable place m s (next_kind names whole place d (index + m) (drop (suc m) ds)) here (increments-at names checked whole place index (index + m) m d ds got refl))
+
+  do-none : (place index next j : ℕ) (stmt : Stmt) (kind : ExecKind) → is_do stmt ≡ true → slice_get (own_kinds names checked whole place index next stmt) j ≡ Some kind → incremented kind ≡ None
+  do-none place index next zero (Do label variable first last step) kind e got =
+      let same : DoStart (loop_number whole place) (index_of names variable) (resolved names checked first) (resolved names checked last) (resolved_step names checked step) (index + 1) (exit_of whole label place) ≡ kind = cc in sym (ap incremented same)
+  do-none place index next (suc j) (Do label variable first last step) kind e got = let h : None ≡ Some kind = got in absurd cc
+  do-none place index next j _ kind e got = let h : false ≡ true = e in absurd cc
+
+  next-from : (k : ℕ) (e : Exec) (loop : Loop) → incremented e.kind ≡ Some loop → OwnAt names checked whole k e.kind ⊎ EndAt names whole k e.kind → NextAt whole k loop
+  next-from k e loop is from = elim from as (λ _. NextAt whole k loop) [
+    | inl own ↦ elim (cases_Bool (is_do own.s.stmt)) as (λ _. NextAt whole k loop) [
+      | inl yes_do ↦ let h : None ≡ Some loop = sym (do-none own.place (first_of whole own.place) (beyond whole own.place own.s) own.j own.s.stmt e.kind yes_do own.got) ∙ is in absurd cc
+      | inr no_do ↦
+          let none = no_loops-got (own_kinds names checked whole own.place (first_of whole own.place) (beyond whole own.place own.s) own.s.stmt) own.j e.kind (own-no_loops names checked whole own.place (first_of whole own.place) (beyond whole own.place own.s) own.s.stmt (usable-at names checked whole usable own.place own.s own.stands).inner no_do) own.got in
+          let h : None ≡ Some loop = sym none.1 ∙ is in absurd cc
+    ]
+    | inr end ↦
+        let its = next_loop names whole end.place end.d k (drop (suc end.m) (loops_to whole end.s.label)) in
+        let one : Some its ≡ Some loop = sym (ap incremented end.is) ∙ is in
+        let same : its ≡ loop = cc in
+        record { place = end.place; s = end.s; m = end.m; d = end.d; stands = end.stands; got = end.got; at = end.at; number = sym (ap (λ (l : Loop). l.number) same) }
+  ]
+
+  pub next-only : (k : ℕ) (loop : Loop) → incremented_at execs k ≡ Some loop → NextAt whole k loop
+  next-only k loop is = by (slice_get execs k) refl is
+    where
+      by : (o : Option Exec) → slice_get execs k ≡ o → incremented_in o ≡ Some loop → NextAt whole k loop
+      by None at h = let e : None ≡ Some loop = h in absurd cc
+      by (Some e) at h = next-from k e loop h (comes k e at)

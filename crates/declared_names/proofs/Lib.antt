@@ -1,0 +1,6 @@
+mod Appearing
+mod Describing
+mod KindsGiven
+mod Repeats
+mod StatementKinds
+mod Telling

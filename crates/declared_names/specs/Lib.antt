@@ -1,0 +1,5 @@
+pub mod Described
+pub mod Functions
+pub mod KeptDeclarations
+pub mod KindsGiven
+pub mod Noting

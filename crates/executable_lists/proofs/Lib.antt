@@ -1,0 +1,4 @@
+mod CountedOperations
+mod ResolvedRows
+mod StatementOperations
+mod Tables

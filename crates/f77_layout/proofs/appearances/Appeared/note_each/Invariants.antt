@@ -1,8 +1,0 @@
-use Rattle.std.proofs.Common.{◌≡◌, take, fold, flat_map}
-use Rattle.f77_layout.specs.Appearances.{names_in}
-use Rattle.f77_layout.specs.KeptDeclarations.{is_array_by}
-use Rattle.f77_layout.specs.Noting.{noted}
-use Rattle.f77_layout.proofs.appearances.Appeared.note_each.Given as goal
-
-abbrev pub invariant-loop-e : goal.invariant-loop-e
-invariant-loop-e l = l.self ≡ fold (noted l.declared) l.initial.self (flat_map (names_in (is_array_by l.declared)) (take l.e-index l.es))

@@ -1,8 +1,0 @@
-use Rattle.std.proofs.Common.{◌≡◌, take, fold, flat_map}
-use Rattle.f77_layout.specs.Appearances.{names_in_item}
-use Rattle.f77_layout.specs.KeptDeclarations.{is_array_by}
-use Rattle.f77_layout.specs.Noting.{noted}
-use Rattle.f77_layout.proofs.appearances.Appeared.note_items.Given as goal
-
-abbrev pub invariant-loop-item : goal.invariant-loop-item
-invariant-loop-item l = l.self ≡ fold (noted l.declared) l.initial.self (flat_map (names_in_item (is_array_by l.declared)) (take l.item-index l.items))

@@ -1,8 +1,0 @@
-use Rattle.f77_layout.proofs.EndsMet.{IsWalkBack}
-use Rattle.f77_layout.proofs.blocks.ends_after.Given as goal
-
-abbrev pub invariant-loop-i : goal.invariant-loop-i
-invariant-loop-i l = IsWalkBack l.are_arms l.stmts l.i l.met.items l.ends.items
-
-abbrev pub decreases-loop-i : goal.decreases-loop-i
-decreases-loop-i l = l.i

@@ -1,9 +1,0 @@
-use Rattle.std.proofs.Common.{◌≡◌, length, drop}
-use Rattle.f77_layout.specs.Runs.{all_constants}
-use Rattle.f77_layout.proofs.constants.Constants.take.Given as goal
-
-abbrev pub invariant-loop-first : goal.invariant-loop-first
-invariant-loop-first l = drop l.self-inside.taken (all_constants l.self-inside.values.now) ≡ drop l.initial.self-inside.taken (all_constants l.initial.self-inside.values.now)
-
-abbrev pub decreases-loop-first : goal.decreases-loop-first
-decreases-loop-first l = length l.self-inside.values.now

@@ -1,9 +1,0 @@
-use Rattle.std.proofs.Common.{◌≡◌, ℕ, List, take}
-use Rattle.std.specs.Prelude.{bytes_eq}
-use Rattle.indexmap.specs.IndexMap.{get}
-use Rattle.f77_layout.specs.Faults.{answer_or, first_answer}
-use Rattle.f77_layout.specs.Declarations.{dims_told}
-use Rattle.f77_layout.proofs.declarations.keep_dims.Given as goal
-
-abbrev pub invariant-loop-decl : goal.invariant-loop-decl
-invariant-loop-decl l = (name : List ℕ) → get bytes_eq l.dims name ≡ answer_or (get bytes_eq l.initial.dims name) (first_answer (dims_told name) (take l.decl-index l.decls))

@@ -1,6 +1,0 @@
-use Rattle.std.proofs.Common.{◌≡◌, map, take}
-use Rattle.f77_layout.specs.Resolved.{resolved_item}
-use Rattle.f77_layout.proofs.executables.Maker.items.Given as goal
-
-abbrev pub invariant-loop-item : goal.invariant-loop-item
-invariant-loop-item l = l.list ≡ map (resolved_item l.self.names.now l.self.checked) (take l.item-index l.item-items)

@@ -1,8 +1,0 @@
-use Rattle.std.proofs.Common.{arith}
-use Rattle.f77_layout.proofs.Meeting.{statement_of-within}
-use Rattle.f77_layout.proofs.flow.Flow.labelled.Goals as goal
-
-pub index-requires : goal.index-requires
-index-requires c =
-    let flow = c.requires in
-    omega (arith, c.place.ensures, flow.labels c.args.label, flow.first.size, statement_of-within c.args.stmts.now c.args.label)

@@ -1,5 +1,0 @@
-use Rattle.f77_layout.proofs.LabelTables.{IsTable}
-use Rattle.f77_layout.proofs.labels.Labels.of.Given as goal
-
-abbrev pub invariant-loop-i : goal.invariant-loop-i
-invariant-loop-i l = IsTable l.stmts l.i l.count l.places.items

@@ -1,7 +1,0 @@
-use Rattle.std.proofs.Common.{◌≡◌, false, not, take}
-use Rattle.std.specs.List.{list_any}
-use Rattle.f77_layout.specs.Labels.{bears}
-use Rattle.f77_layout.proofs.labels.is_one_lacking.Given as goal
-
-abbrev pub invariant-loop-label : goal.invariant-loop-label
-invariant-loop-label l = list_any (λ label. not (list_any (bears label) l.stmts)) (take l.label-index l.targets) ≡ false

@@ -1,5 +1,0 @@
-use Rattle.f77_layout.proofs.Describing.{described-same}
-use Rattle.f77_layout.proofs.name_declarations.NameDeclarations.of.Goals as goal
-
-pub returns : goal.returns
-returns c = described-same c.in_ok-of.field-0 c.args.stmts.now c.in_ok-of.ensures

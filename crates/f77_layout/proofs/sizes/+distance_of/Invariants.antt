@@ -1,5 +1,0 @@
-use Rattle.std.proofs.Common.{length}
-use Rattle.f77_layout.proofs.sizes.+distance_of.Given as goal
-
-abbrev pub decreases-distance_of : goal.decreases-distance_of
-decreases-distance_of l = length l.dims.now

@@ -1,0 +1,60 @@
+-- The search for the lowest line with a fault, statement by statement. A loop over the statements keeps
+-- `lowest_line fault stmts ≡ lower_line lowest (lowest_after fault (take i stmts) (drop i stmts))`.
+use Rattle.std.proofs.Common.{◌≡◌, ℕ, ◌+◌, ◌<◌, ◌≤◌, min, suc, Bool, true, false, cond, List, [], ◌∷◌, ◌++◌, length, get_or, take, drop, Option, Some, None, ⊎_elim, refl, sym, ap, ◌∙◌, add-one, drop-cons, arith}
+use Rattle.std.proofs.Math.Seq.{take-suc}
+use Rattle.std.proofs.lemmas.Bool.{cases_lt, lt-ltb, le-ltb}
+use Rattle.f77_tree.specs.declared.statements.Labelled.{Labelled}
+use Rattle.layout_rules.specs.Faults.{first_after}
+use Rattle.layout_rules.specs.LowestLines.{lower_line, lower_or, lowest_after}
+use Rattle.layout_rules.proofs.FirstLine.{drop_all}
+
+lower-min : (a b : ℕ) → lower_or a (Some b) ≡ min a b
+lower-min a b =
+    ⊎_elim
+    (λ (lt : b < a). ap (λ c. cond c b a) (lt-ltb b a lt) ∙ (let e : b ≡ min a b = omega arith in e))
+    (λ (ge : a ≤ b). ap (λ c. cond c b a) (le-ltb b a ge) ∙ (let e : a ≡ min a b = omega arith in e))
+    (cases_lt b a)
+
+lower-assoc : (a b : ℕ) (o : Option ℕ) → lower_or (lower_or a (Some b)) o ≡ lower_or a (Some (lower_or b o))
+lower-assoc a b None = refl
+lower-assoc a b (Some c) =
+    let middle : min (min a b) c ≡ min a (min b c) = omega arith in
+    lower-min (lower_or a (Some b)) c ∙ ap (λ n. min n c) (lower-min a b) ∙ middle ∙ ap (λ n. min a n) (sym (lower-min b c)) ∙ sym (lower-min a (lower_or b (Some c)))
+
+-- a line more
+lower_line-one : (low : Option ℕ) (line : ℕ) (rest : Option ℕ) → lower_line low (Some (lower_or line rest)) ≡ lower_line (lower_line low (Some line)) rest
+lower_line-one None line rest = refl
+lower_line-one (Some l) line rest = ap Some (sym (lower-assoc l line rest))
+
+pub lower_line-none : (low : Option ℕ) → lower_line low None ≡ low
+lower_line-none None = refl
+lower_line-none (Some line) = refl
+
+module _ (fault : List Labelled → Labelled → Bool) (stmts : List Labelled) (low : Option ℕ) (i : ℕ) where
+  step : (b : Bool) (line : ℕ) (rest : Option ℕ) → lower_line low (cond b (Some (lower_or line rest)) rest) ≡ lower_line (cond b (lower_line low (Some line)) low) rest
+  step true line rest = lower_line-one low line rest
+  step false line rest = refl
+
+  pub lowest-next : (s : Labelled) → i < length stmts → s ≡ get_or stmts i s
+      → lower_line low (lowest_after fault (take i stmts) (drop i stmts)) ≡ lower_line (cond (fault (take i stmts) s) (lower_line low (Some s.line)) low) (lowest_after fault (take (i + 1) stmts) (drop (i + 1) stmts))
+  lowest-next s lt is = rw (add-one, take-suc stmts i s lt, drop-cons stmts i s lt, ← is) (step (fault (take i stmts) s) s.line (lowest_after fault (take i stmts ++ s ∷ []) (drop (suc i) stmts)))
+
+  pub lowest-end : length stmts ≤ i → lower_line low (lowest_after fault (take i stmts) (drop i stmts)) ≡ low
+  lowest-end le = ap (λ rest. lower_line low (lowest_after fault (take i stmts) rest)) (drop_all stmts i le) ∙ lower_line-none low
+
+-- no line is the lowest exactly where none is the first
+pub lowest-none : (fault : List Labelled → Labelled → Bool) (above stmts : List Labelled) → lowest_after fault above stmts ≡ None → first_after fault above stmts ≡ None
+lowest-none fault above [] none = refl
+lowest-none fault above (s ∷ rest) none = by (fault above s) (lowest-none fault (above ++ s ∷ []) rest) none
+  where
+    by : (b : Bool) → (lowest_after fault (above ++ s ∷ []) rest ≡ None → first_after fault (above ++ s ∷ []) rest ≡ None) → cond b (Some (lower_or s.line (lowest_after fault (above ++ s ∷ []) rest))) (lowest_after fault (above ++ s ∷ []) rest) ≡ None → cond b (Some s.line) (first_after fault (above ++ s ∷ []) rest) ≡ None
+    by true later h = let e : Some (lower_or s.line (lowest_after fault (above ++ s ∷ []) rest)) ≡ None = h in absurd cc
+    by false later h = later h
+
+pub first-none : (fault : List Labelled → Labelled → Bool) (above stmts : List Labelled) → first_after fault above stmts ≡ None → lowest_after fault above stmts ≡ None
+first-none fault above [] none = refl
+first-none fault above (s ∷ rest) none = by (fault above s) (first-none fault (above ++ s ∷ []) rest) none
+  where
+    by : (b : Bool) → (first_after fault (above ++ s ∷ []) rest ≡ None → lowest_after fault (above ++ s ∷ []) rest ≡ None) → cond b (Some s.line) (first_after fault (above ++ s ∷ []) rest) ≡ None → cond b (Some (lower_or s.line (lowest_after fault (above ++ s ∷ []) rest))) (lowest_after fault (above ++ s ∷ []) rest) ≡ None
+    by true later h = let e : Some s.line ≡ None = h in absurd cc
+    by false later h = later h

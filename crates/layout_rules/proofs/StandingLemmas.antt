@@ -1,0 +1,91 @@
+-- One more name of COMMON.
+use Rattle.std.proofs.Common.{◌≡◌, ℕ, ⊎_elim, Bool, true, false, cond, ◌==◌, List, [], ◌∷◌, ◌++◌, get_or, Contains, Option, Some, None, refl, sym, ap, subst, ◌∙◌, arith, append_assoc, append-nil}
+use Rattle.std.specs.Prelude.{◌||◌, if◌then◌else◌, fold}
+use Rattle.std.specs.List.{list_any}
+use Rattle.std.specs.Option.{is_some}
+use Rattle.std.proofs.lemmas.Bool.{eq-eqb, or_right, or_left}
+use Rattle.std.proofs.lemmas.List.Sums.{fold_push}
+use Rattle.std.proofs.lemmas.List.Elements.{Contains-append_cases}
+use Rattle.f77_tree.specs.declared.programs.NameInfo.{NameInfo}
+use Rattle.f77_tree.specs.Places.{same_block}
+use Rattle.layout_rules.specs.Storage.{Standing, with_standing, last_standing, following, standing_equations}
+use Rattle.layout_rules.specs.Standings.{firsts_after}
+
+pub equations-push : (names : List NameInfo) (seen xs : List Standing) (s : Standing) → standing_equations names seen (xs ++ s ∷ []) ≡ standing_equations names seen xs ++ following names (last_standing s.block (seen ++ xs)) s.name
+equations-push names seen [] s = append-nil (following names (last_standing s.block seen) s.name) ∙ ap (λ ys. following names (last_standing s.block ys) s.name) (sym (append-nil seen))
+equations-push names seen (x ∷ xs) s =
+    let here = following names (last_standing x.block seen) x.name in
+    ap (λ ys. here ++ ys) (equations-push names (seen ++ x ∷ []) xs s)
+    ∙ sym (append_assoc here (standing_equations names (seen ++ x ∷ []) xs) (following names (last_standing s.block ((seen ++ x ∷ []) ++ xs)) s.name))
+    ∙ ap (λ ys. (here ++ standing_equations names (seen ++ x ∷ []) xs) ++ following names (last_standing s.block ys) s.name) (append_assoc seen (x ∷ []) xs)
+
+abbrev first_if : List Standing → Standing → List ℕ
+first_if seen s = if list_any (λ a. same_block a.block s.block) seen then [] else s.name ∷ []
+
+pub firsts-push : (seen xs : List Standing) (s : Standing) → firsts_after seen (xs ++ s ∷ []) ≡ firsts_after seen xs ++ first_if (seen ++ xs) s
+firsts-push seen [] s = append-nil (first_if seen s) ∙ ap (λ ys. first_if ys s) (sym (append-nil seen))
+firsts-push seen (x ∷ xs) s =
+    let here = first_if seen x in
+    ap (λ ys. here ++ ys) (firsts-push (seen ++ x ∷ []) xs s)
+    ∙ sym (append_assoc here (firsts_after (seen ++ x ∷ []) xs) (first_if ((seen ++ x ∷ []) ++ xs) s))
+    ∙ ap (λ ys. (here ++ firsts_after (seen ++ x ∷ []) xs) ++ first_if ys s) (append_assoc seen (x ∷ []) xs)
+
+abbrev later : Option (List ℕ) → Option ℕ → Standing → Option ℕ
+later block last s = if same_block s.block block then Some s.name else last
+
+pub last-push : (block : Option (List ℕ)) (xs : List Standing) (s : Standing) → last_standing block (xs ++ s ∷ []) ≡ later block (last_standing block xs) s
+last-push block xs s = fold_push (later block) None xs s
+
+-- a block has a last name exactly where a name stands in it
+some-last : (block : Option (List ℕ)) (last : Option ℕ) (xs : List Standing) → is_some (fold (later block) last xs) ≡ (is_some last || list_any (λ a. same_block a.block block) xs)
+some-last block last [] = or-false (is_some last)
+  where
+    or-false : (b : Bool) → b ≡ (b || false)
+    or-false true = refl
+    or-false false = refl
+some-last block last (s ∷ xs) =
+    some-last block (later block last s) xs ∙ step (same_block s.block block) last (list_any (λ a. same_block a.block block) xs)
+  where
+    step : (b : Bool) (last : Option ℕ) (rest : Bool) → (is_some (cond b (Some s.name) last) || rest) ≡ (is_some last || (b || rest))
+    step true None rest = refl
+    step true (Some k) rest = refl
+    step false last rest = refl
+
+pub last-none : (block : Option (List ℕ)) (xs : List Standing) → last_standing block xs ≡ None → list_any (λ a. same_block a.block block) xs ≡ false
+last-none block xs e = sym (some-last block None xs) ∙ ap is_some e
+
+pub last-some : (block : Option (List ℕ)) (xs : List Standing) (k : ℕ) → last_standing block xs ≡ Some k → list_any (λ a. same_block a.block block) xs ≡ true
+last-some block xs k e = sym (some-last block None xs) ∙ ap is_some e
+
+-- one name more
+pub any-push : (k : ℕ) (xs : List Standing) (s : Standing) → list_any (λ a. a.name == k) (xs ++ s ∷ []) ≡ (list_any (λ a. a.name == k) xs || (s.name == k))
+any-push k [] s = or-false (s.name == k)
+  where
+    or-false : (b : Bool) → (b || false) ≡ b
+    or-false true = refl
+    or-false false = refl
+any-push k (x ∷ xs) s = ap (λ b. (x.name == k) || b) (any-push k xs s) ∙ or-assoc (x.name == k) (list_any (λ a. a.name == k) xs) (s.name == k)
+  where
+    or-assoc : (a b c : Bool) → (a || (b || c)) ≡ (a || b || c)
+    or-assoc true b c = refl
+    or-assoc false b c = refl
+
+-- a first name stands in COMMON
+pub firsts-stand : (seen xs : List Standing) (k : ℕ) → Contains (firsts_after seen xs) k → list_any (λ a. a.name == k) xs ≡ true
+firsts-stand seen [] k h = absurd (omega (arith, h.1))
+firsts-stand seen (x ∷ xs) k h =
+    ⊎_elim
+    (λ here. or_left (x.name == k) (list_any (λ a. a.name == k) xs) (first-stands (list_any (λ a. same_block a.block x.block) seen) here))
+    (λ there. or_right (x.name == k) (list_any (λ a. a.name == k) xs) (firsts-stand (seen ++ x ∷ []) xs k there))
+    (Contains-append_cases (first_if seen x) (firsts_after (seen ++ x ∷ []) xs) k h)
+  where
+    first-stands : (b : Bool) → Contains (cond b [] (x.name ∷ [])) k → (x.name == k) ≡ true
+    first-stands true c = absurd (omega (arith, c.1))
+    first-stands false c = let zeroth : c.0 ≡ 0 = omega (arith, c.1) in eq-eqb x.name k (let P : ℕ → Type 0 = λ i. get_or (x.name ∷ []) i k ≡ k in subst P zeroth c.2)
+
+-- a name that stands already changes nothing
+pub with-old : (xs : List Standing) (s : Standing) → list_any (λ a. a.name == s.name) xs ≡ true → with_standing xs s ≡ xs
+with-old xs s h = ap (λ b. cond b xs (xs ++ s ∷ [])) h
+
+pub with-new : (xs : List Standing) (s : Standing) → list_any (λ a. a.name == s.name) xs ≡ false → with_standing xs s ≡ xs ++ s ∷ []
+with-new xs s h = ap (λ b. cond b xs (xs ++ s ∷ [])) h

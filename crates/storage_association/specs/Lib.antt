@@ -1,0 +1,4 @@
+pub mod CommonStorages
+pub mod Storages
+pub mod Trees
+pub mod WordNumbers

@@ -1,0 +1,131 @@
+-- Words in intervals, and whether some of them are given twice.
+use Rattle.std.proofs.Common.{◌≡◌, ℕ, zero, suc, ◌+◌, ◌<◌, ◌≤◌, ◌==◌, Bool, true, false, cond, ◌||◌, List, [], ◌∷◌, ◌++◌, Option, Some, None, ⊎_elim, refl, sym, ap, ◌∙◌, arith}
+use Rattle.std.specs.List.{list_any}
+use Rattle.std.specs.Option.{is_some}
+use Rattle.std.specs.Ordering.{nat_cmp, is_eq, is_lt}
+use Rattle.std.specs.declared.cmp.Ordering.TheVariants.{Less, Equal, Greater}
+use Rattle.std.proofs.lemmas.Bool.{eq-eqb, eqb-true, ne_eqb, cases_eq, cases_lt, cases_Bool, or_cases, or_left, or_right, or_from, true≢false, lt-ltb, le-ltb}
+use Rattle.std.proofs.lemmas.List.Folds.{list_any-append}
+use Rattle.f77_tree.specs.InitialWords.{words_from}
+use Rattle.layout_rules.specs.Faults.{has_repeat}
+use Rattle.storage_checks.specs.GivenWords.{IsWithin, Holds, IsLastBefore}
+
+abbrev stands : ℕ → List ℕ → Bool
+stands word words = list_any (λ x. word == x) words
+
+-- ---- the words of an interval
+
+pub stands-words_from : (word first n : ℕ) → first ≤ word → word < first + n → stands word (words_from first n) ≡ true
+stands-words_from word first zero low high = absurd (omega arith)
+stands-words_from word first (suc n) low high =
+    ⊎_elim
+    (λ (e : word ≡ first). or_left (word == first) (stands word (words_from (suc first) n)) (eq-eqb word first e))
+    (λ (ne : word ≡ first → ⊥). or_right (word == first) (stands word (words_from (suc first) n)) (stands-words_from word (suc first) n (omega arith) (omega arith)))
+    (cases_eq word first)
+
+pub words_from-stands : (word first n : ℕ) → stands word (words_from first n) ≡ true → (first ≤ word) × (word < first + n)
+words_from-stands word first zero h = absurd (true≢false (sym h))
+words_from-stands word first (suc n) h =
+    ⊎_elim
+    (λ (e : (word == first) ≡ true). let same : word ≡ first = eqb-true word first e in (omega arith, omega arith))
+    (λ (later : stands word (words_from (suc first) n) ≡ true). let inside : (suc first ≤ word) × (word < suc first + n) = words_from-stands word (suc first) n later in (omega arith, omega arith))
+    (or_cases (word == first) (stands word (words_from (suc first) n)) h)
+
+stands-push : (word : ℕ) (seen : List ℕ) (x : ℕ) → stands word (seen ++ x ∷ []) ≡ (stands word seen || ((word == x) || false))
+stands-push word seen x = list_any-append (λ y. word == y) seen (x ∷ [])
+
+-- ---- words that are given twice
+
+pub none_twice : (seen : List ℕ) (first n : ℕ) → ((word : ℕ) → first ≤ word → word < first + n → stands word seen ≡ false) → has_repeat (λ a b. a == b) seen (words_from first n) ≡ false
+none_twice seen first zero free = refl
+none_twice seen first (suc n) free =
+    or_from (stands first seen) (has_repeat (λ a b. a == b) (seen ++ first ∷ []) (words_from (suc first) n)) (free first (omega arith) (omega arith)) (none_twice (seen ++ first ∷ []) (suc first) n (λ word low high.
+    stands-push word seen first ∙ or_from (stands word seen) ((word == first) || false) (free word (omega arith) (omega arith)) (or_from (word == first) false (ne_eqb word first (λ e. omega arith)) refl)))
+
+pub one_twice : (seen : List ℕ) (first n word : ℕ) → first ≤ word → word < first + n → stands word seen ≡ true → has_repeat (λ a b. a == b) seen (words_from first n) ≡ true
+one_twice seen first zero word low high is = absurd (omega arith)
+one_twice seen first (suc n) word low high is =
+    ⊎_elim
+    (λ (e : word ≡ first). or_left (stands first seen) (has_repeat (λ a b. a == b) (seen ++ first ∷ []) (words_from (suc first) n)) (ap (λ (w : ℕ). stands w seen) (sym e) ∙ is))
+    (λ (ne : word ≡ first → ⊥). or_right (stands first seen) (has_repeat (λ a b. a == b) (seen ++ first ∷ []) (words_from (suc first) n)) (one_twice (seen ++ first ∷ []) (suc first) n word (omega arith) (omega arith) (stands-push word seen first ∙ or_left (stands word seen) ((word == first) || false) is)))
+    (cases_eq word first)
+
+-- ---- against the intervals that are held
+
+module _ (end_of : ℕ → Option ℕ) (seen : List ℕ) (holds : Holds end_of seen) (first len : ℕ) where
+  abbrev repeats : Bool
+  repeats = has_repeat (λ a b. a == b) seen (words_from first len)
+
+  -- a word that lies in no interval isn't held
+  free_at : (word : ℕ) → (IsWithin end_of word → ⊥) → stands word seen ≡ false
+  free_at word outside = ⊎_elim (λ (is : stands word seen ≡ true). absurd (outside (holds.held_all word is))) (λ (is : stands word seen ≡ false). is) (cases_Bool (stands word seen))
+
+  pub free_without : IsLastBefore end_of (first + len) None → repeats ≡ false
+  free_without last =
+      none_twice seen first len (λ word low high.
+      free_at word (λ within.
+      let empty : end_of within.first ≡ None = last within.first (omega (arith, within.from)) in
+      let stands_there = within.stands in
+      cc))
+
+  -- the interval that holds one of the words begins no later than the last one before them
+  no_later : (found : ℕ × ℕ) → IsLastBefore end_of (first + len) (Some found) → (word : ℕ) → word < first + len → (within : IsWithin end_of word) → within.first ≤ found.0
+  no_later found last word high within = last.2 within.first (omega (arith, within.from)) (ap (λ (o : Option ℕ). is_some o) within.stands)
+
+  -- an interval that begins no later than another ends no later
+  ends_no_later : (a b end last : ℕ) → end_of a ≡ Some end → end_of b ≡ Some last → a ≤ b → end ≤ last
+  ends_no_later a b end last first_is last_is le =
+      ⊎_elim
+      (λ (lt : a < b). let apart : end ≤ b = holds.apart a end b last first_is last_is lt in let some : b < last = holds.some b last last_is in omega arith)
+      (λ (ge : b ≤ a).
+      let same : a ≡ b = omega arith in
+      let one : Some end ≡ Some last = sym first_is ∙ ap end_of same ∙ last_is in
+      let ends : end ≡ last = cc in
+      omega arith)
+      (cases_lt a b)
+
+  pub free_after : (found : ℕ × ℕ) → IsLastBefore end_of (first + len) (Some found) → found.1 ≤ first → repeats ≡ false
+  free_after found last le =
+      none_twice seen first len (λ word low high.
+      free_at word (λ within.
+      let ends : within.end ≤ found.1 = ends_no_later within.first found.0 within.end found.1 within.stands last.1 (no_later found last word high within) in
+      omega (arith, within.before)))
+
+  -- the last interval before the words ends after their first one: that word, or the interval's first one, is held
+  pub taken_inside : (found : ℕ × ℕ) → 0 < len → IsLastBefore end_of (first + len) (Some found) → first < found.1 → repeats ≡ true
+  taken_inside found some last lt =
+      let held : (word : ℕ) → found.0 ≤ word → word < found.1 → stands word seen ≡ true = λ word low high. holds.seen_all word (record { first = found.0; end = found.1; stands = last.1; from = low; before = high }) in
+      ⊎_elim
+      (λ (before : found.0 < first). one_twice seen first len first (omega arith) (omega arith) (held first (omega arith) lt))
+      (λ (beyond : first ≤ found.0). one_twice seen first len found.0 beyond last.0 (held found.0 (omega arith) (holds.some found.0 found.1 last.1)))
+      (cases_lt found.0 first)
+
+-- a place other than the one of a query, by their order
+pub is_other : (k q : ℕ) → (k ≡ q → ⊥) → is_eq (nat_cmp k q) ≡ false
+is_other k q ne =
+    ⊎_elim
+    (λ (lt : k < q). rw (lt-ltb k q lt) refl)
+    (λ (ge : q ≤ k). rw (le-ltb k q ge, ne_eqb k q ne) refl)
+    (cases_lt k q)
+
+pub below_from_less : (x y : ℕ) → nat_cmp x y ≡ Less → x < y
+below_from_less x y is =
+    ⊎_elim
+    (λ (lt : x < y). lt)
+    (λ (ge : y ≤ x).
+    let order : nat_cmp x y ≡ cond (x == y) Equal Greater = rw (le-ltb x y ge) refl in
+    ⊎_elim
+    (λ (e : (x == y) ≡ true). let equal : cond (x == y) Equal Greater ≡ Equal = rw e refl in cc)
+    (λ (ne : (x == y) ≡ false). let greater : cond (x == y) Equal Greater ≡ Greater = rw ne refl in cc)
+    (cases_Bool (x == y)))
+    (cases_lt x y)
+
+pub less_below : (x y : ℕ) → x < y → nat_cmp x y ≡ Less
+less_below x y lt = rw (lt-ltb x y lt) refl
+
+pub not_below : (x y : ℕ) → is_lt (nat_cmp x y) ≡ false → y ≤ x
+not_below x y is =
+    ⊎_elim
+    (λ (lt : x < y). let less : is_lt (nat_cmp x y) ≡ true = ap is_lt (less_below x y lt) in absurd (true≢false (sym less ∙ is)))
+    (λ (ge : y ≤ x). ge)
+    (cases_lt x y)

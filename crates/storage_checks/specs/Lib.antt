@@ -1,0 +1,3 @@
+pub mod GivenWords
+pub mod Runs
+pub mod Writing

@@ -1,0 +1,28 @@
+pub mod DeclaredCommon
+pub mod DeclaredData
+mod DeclaredDims
+pub mod DeclaredEquations
+pub mod DeclaredForms
+pub mod DeclaredKnown
+mod DeclaredMembers
+mod DeclaredNames
+pub mod DeclaredOnce
+pub mod DeclaredPrograms
+pub mod DeclaredSizes
+pub mod DeclaredStandings
+pub mod KnownStatements
+pub mod NameTable
+pub mod PlacedAlike
+pub mod PlacedBlocks
+mod PlacedBounds
+mod PlacedCommon
+pub mod PlacedDeclared
+pub mod PlacedEquations
+pub mod PlacedLinks
+mod PlacedNames
+pub mod PlacedProgram
+mod PlacedRight
+pub mod PlacedWords
+pub mod RightStorage
+mod StoredPrograms
+pub mod SymbolicNames
