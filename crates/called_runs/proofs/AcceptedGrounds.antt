@@ -4,14 +4,14 @@ use Rattle.std.specs.List.{slice_get}
 use Rattle.std.proofs.lemmas.Bool.{lt-ltb}
 use Rattle.f77_tree.specs.declared.programs.Program.{Program}
 use Rattle.f77_tree.specs.declared.statements.Labelled.{Labelled}
-use Rattle.f77_layout.specs.declared.layout_end.LayoutEnd.{LayoutEnd}
-use Rattle.f77_layout.specs.Executables.{is_do_to}
-use Rattle.f77_layout.specs.Jumps.{end_after, is_block_if, is_end_if}
-use Rattle.f77_layout.specs.Labels.{is_arm, statement_of}
-use Rattle.f77_layout.specs.Layout.{layout, program, refusal, unless_refused}
-use Rattle.f77_layout.specs.Source.{IsSource}
+use Rattle.layout_rules.specs.declared.layout_end.LayoutEnd.{LayoutEnd}
+use Rattle.layout_rules.specs.Executables.{is_do_to}
+use Rattle.layout_rules.specs.Jumps.{end_after, is_block_if, is_end_if}
+use Rattle.layout_rules.specs.Labels.{is_arm, statement_of}
+use Rattle.layout_rules.specs.Layout.{layout, program, refusal, unless_refused}
+use Rattle.layout_rules.specs.Source.{IsSource}
 use Rattle.f77_layout.proofs.LabelsLead.{labels-lead}
-use Rattle.f77_layout.proofs.SuccessorBlocks.{IsEnded as EndsInEnd, stops}
+use Rattle.control_laws.proofs.SuccessorBlocks.{IsEnded as EndsInEnd, stops}
 use Rattle.f77_subs.specs.Units.{is_end, standing_in, unit_at, unit_or_none, units}
 use Rattle.f77_subs.specs.Widths.{body_labels}
 use Rattle.f77_subs.specs.Contexts.{IsReached}

@@ -8,7 +8,7 @@ use Rattle.f77_tree.specs.declared.statements.Labelled.{Labelled}
 use Rattle.f77_tree.specs.declared.statements.RawExpr.{RawExpr}
 use Rattle.f77_tree.specs.declared.statements.Stmt.{Stmt}
 use Rattle.f77_tree.specs.declared.statements.Stmt.TheVariants.{Do}
-use Rattle.f77_layout.specs.Executables.{is_do, loop_number}
+use Rattle.layout_rules.specs.Executables.{is_do, loop_number}
 use Rattle.f77_subs.specs.Units.{Call, call_in, guard_of, unit_at, unit_of}
 use Rattle.f77_subs.specs.Widths.{body_width, is_kept, lines_around, width, width_by}
 use Rattle.f77_subs.specs.Copies.{Context, copy, number_at}

@@ -6,10 +6,10 @@ use Rattle.f77_tree.specs.declared.programs.Program.{Program}
 use Rattle.f77_tree.specs.declared.declarations.CommonPart.{CommonPart}
 use Rattle.f77_tree.specs.declared.statements.Labelled.{Labelled}
 use Rattle.f77_tree.specs.WellFormed.{IsWellFormed}
-use Rattle.f77_layout.specs.declared.layout_end.LayoutEnd.{LayoutEnd}
-use Rattle.f77_layout.specs.Declarations.{all_commons}
-use Rattle.f77_layout.specs.Layout.{layout, program, unless_refused}
-use Rattle.f77_layout.specs.Source.{IsSource}
+use Rattle.layout_rules.specs.declared.layout_end.LayoutEnd.{LayoutEnd}
+use Rattle.layout_rules.specs.Declarations.{all_commons}
+use Rattle.layout_rules.specs.Layout.{layout, program, unless_refused}
+use Rattle.layout_rules.specs.Source.{IsSource}
 use Rattle.f77_subs.proofs.NoAnswer.{laid, no-end, none-at}
 use Rattle.f77_subs.specs.declared.entity.Entity.TheVariants.{InBlock}
 use Rattle.f77_subs.specs.Entities.{block_list, entity_of, entity_or}

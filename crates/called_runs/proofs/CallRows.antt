@@ -12,7 +12,7 @@ use Rattle.f77_tree.specs.declared.statements.Stmt.TheVariants.{CallTo, Continue
 use Rattle.f77_tree.specs.Loops.{InRange}
 use Rattle.f77_tree.specs.Run.{State, step}
 use Rattle.f77_tree.specs.Touched.{SetsStep}
-use Rattle.f77_layout.specs.Executables.{beyond, first_of, own_kinds}
+use Rattle.layout_rules.specs.Executables.{beyond, first_of, own_kinds}
 use Rattle.f77_subs.specs.declared.entity.Entity.{Entity}
 use Rattle.f77_subs.specs.Calls.{CallState, Calls, act, act_of_pass}
 use Rattle.f77_subs.specs.Contexts.{IsReached, called}

@@ -7,10 +7,10 @@ use Rattle.f77_tree.specs.declared.declarations.Dim.{Dim}
 use Rattle.f77_tree.specs.declared.programs.NameInfo.{NameInfo}
 use Rattle.f77_tree.specs.declared.statements.Labelled.{Labelled}
 use Rattle.f77_tree.specs.OtherPlaces.{DifferInPlaces}
-use Rattle.f77_layout.proofs.NameTable.{arrays_in_table}
-use Rattle.f77_layout.specs.Declarations.{dims_of, is_array}
-use Rattle.f77_layout.specs.Layout.{names_of}
-use Rattle.f77_layout.specs.Types.{is_array_in, is_intrinsic}
+use Rattle.storage_laws.proofs.NameTable.{arrays_in_table}
+use Rattle.layout_rules.specs.Declarations.{dims_of, is_array}
+use Rattle.layout_rules.specs.Layout.{names_of}
+use Rattle.layout_rules.specs.Types.{is_array_in, is_intrinsic}
 use Rattle.copied_values.proofs.SameTrees.{same-array}
 use Rattle.copied_values.specs.ChangedTables.{AreChangedTables}
 use Rattle.f77_subs.proofs.OwnNames.{own-name}

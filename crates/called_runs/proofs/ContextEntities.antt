@@ -8,7 +8,7 @@ use Rattle.std.proofs.lemmas.Bool.{cases_Bool, eq-eqb, eqb-true, or_cases, or_le
 use Rattle.std.proofs.lemmas.Map.Keys.{any_passes_from_place}
 use Rattle.std.proofs.lemmas.Option.{slice_get-map}
 use Rattle.f77_tree.specs.declared.statements.Labelled.{Labelled}
-use Rattle.f77_layout.specs.Declarations.{is_array}
+use Rattle.layout_rules.specs.Declarations.{is_array}
 use Rattle.f77_subs.proofs.AcceptedTables.{alike-lengths, not-not}
 use Rattle.f77_subs.proofs.CalledNames.{call-names}
 use Rattle.f77_subs.proofs.CallReach.{chain-from, reach-at, reach-by, reach-few}

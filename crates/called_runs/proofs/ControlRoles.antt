@@ -3,9 +3,9 @@ use Rattle.std.proofs.Common.{◌≡◌, ℕ, ◌+◌, refl, ap}
 use Rattle.std.proofs.lemmas.List.{length-map}
 use Rattle.f77_tree.specs.declared.statements.Stmt.{Stmt, more_of-Stmt}
 use Rattle.f77_tree.specs.declared.statements.Stmt.TheVariants.{Program, Implicit, ImplicitNone, TypeOf, Dimension, Common, Equivalence, Init, Assign, Print, Take, Continue, Stop, GoTo, PickGoTo, SignIf, ThenIf', BlockIf, ElseIf, Else, EndIf, Do, Sub, CallTo, Back, End}
-use Rattle.f77_layout.specs.Executables.{is_do, is_do_to, own_executables}
-use Rattle.f77_layout.specs.Jumps.{is_block_if, is_end_if}
-use Rattle.f77_layout.specs.Labels.{is_arm, is_executable}
+use Rattle.layout_rules.specs.Executables.{is_do, is_do_to, own_executables}
+use Rattle.layout_rules.specs.Jumps.{is_block_if, is_end_if}
+use Rattle.layout_rules.specs.Labels.{is_arm, is_executable}
 use Rattle.f77_subs.specs.Copies.{Change, changed, changed_stmt}
 use Rattle.f77_subs.specs.Units.{stand_in, stand_in_alone}
 

@@ -3,8 +3,8 @@ use Rattle.std.proofs.Common.{◌≡◌, ℕ, zero, suc, ◌+◌, ◌<◌, ⊎_e
 use Rattle.std.specs.List.{slice_get}
 use Rattle.std.proofs.lemmas.Bool.{cases_order, eqb-true}
 use Rattle.f77_tree.specs.declared.statements.Labelled.{Labelled}
-use Rattle.f77_layout.specs.Executables.{is_do_to, loops_to}
-use Rattle.f77_layout.specs.Labels.{statement_of}
+use Rattle.layout_rules.specs.Executables.{is_do_to, loops_to}
+use Rattle.layout_rules.specs.Labels.{statement_of}
 use Rattle.f77_subs.specs.Units.{Call, call_in, unit_at, unit_of}
 use Rattle.f77_subs.specs.Widths.{is_kept, labels, body_labels}
 use Rattle.f77_subs.specs.Copies.{Context, changes, end_by, number_at}

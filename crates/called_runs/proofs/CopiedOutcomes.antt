@@ -14,9 +14,9 @@ use Rattle.f77_tree.specs.declared.statements.Stmt.{Stmt}
 use Rattle.f77_tree.specs.Declarations.{index_of}
 use Rattle.f77_tree.specs.Execution.{Memory, Outcome, Goes, Stops, Ends, outcome}
 use Rattle.f77_tree.specs.Touched.{SetsStep}
-use Rattle.f77_layout.specs.Appearances.{appearing, names_in}
-use Rattle.f77_layout.specs.Resolved.{resolved, resolved_step}
-use Rattle.f77_layout.specs.Types.{is_array_in, is_of_kind, is_target, is_well_kinded, is_kind, is_step, kind_named}
+use Rattle.layout_rules.specs.Appearances.{appearing, names_in}
+use Rattle.layout_rules.specs.Resolved.{resolved, resolved_step}
+use Rattle.layout_rules.specs.Types.{is_array_in, is_of_kind, is_target, is_well_kinded, is_kind, is_step, kind_named}
 use Rattle.f77_subs.specs.Copies.{Change}
 use Rattle.copied_values.specs.SideBySide.{AreSideBySide, AreTied, GoAlike, HoldAlike, with_pair}
 use Rattle.copied_values.proofs.CopiedSteps.{assigns, increments, picks, prints, signs, starts, takes, tests}

@@ -12,8 +12,8 @@ use Rattle.f77_tree.specs.declared.declarations.CommonPart.{CommonPart}
 use Rattle.f77_tree.specs.declared.declarations.Dim.{Dim}
 use Rattle.f77_tree.specs.declared.declarations.Kind.{Kind}
 use Rattle.f77_tree.specs.declared.statements.Labelled.{Labelled}
-use Rattle.f77_layout.specs.Declarations.{all_commons, dims_of, kind_of}
-use Rattle.f77_layout.specs.Faults.{answer_or, first_after, first_answer, first_line}
+use Rattle.layout_rules.specs.Declarations.{all_commons, dims_of, kind_of}
+use Rattle.layout_rules.specs.Faults.{answer_or, first_after, first_answer, first_line}
 use Rattle.f77_subs.specs.declared.sub_end.SubEnd.TheVariants.{BadBlock, BadCall}
 use Rattle.f77_subs.specs.Contexts.{IsReached, called, main}
 use Rattle.f77_subs.specs.Copies.{Context}

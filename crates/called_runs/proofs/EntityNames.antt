@@ -10,9 +10,9 @@ use Rattle.std.proofs.lemmas.Slice.Eq.{bytes_eq-Decides}
 use Rattle.f77_tree.specs.declared.declarations.CommonPart.{CommonPart}
 use Rattle.f77_tree.specs.declared.statements.Labelled.{Labelled}
 use Rattle.f77_tree.specs.Places.{same_block}
-use Rattle.f77_layout.specs.Declarations.{all_commons, dims_of, kind_of}
-use Rattle.f77_layout.specs.Executables.{kind_or_integer}
-use Rattle.f77_layout.specs.Faults.{answer_or, first_answer}
+use Rattle.layout_rules.specs.Declarations.{all_commons, dims_of, kind_of}
+use Rattle.layout_rules.specs.Executables.{kind_or_integer}
+use Rattle.layout_rules.specs.Faults.{answer_or, first_answer}
 use Rattle.f77_subs.proofs.AcceptedTables.{not-not, or-parts}
 use Rattle.f77_subs.proofs.MainNames.{Tells, found-at, in-first, later, named}
 use Rattle.f77_subs.proofs.OwnNames.{blocks-same}
@@ -131,7 +131,7 @@ module _ (us : List (List Labelled)) where
 
     module _ (noted : (k : ℕ) (x : List ℕ) → 0 < k → k < length us → list_any (bytes_eq x) (own_names us k) ≡ true → is_main us (entity_of us k x) ≡ false → list_any (same_entity (entity_of us k x)) (y_entities us) ≡ true) where
       -- names of a unit's own are names of it
-      of-own : (k : ℕ) (x : List ℕ) → Contains (own_names us k) x → list_any (bytes_eq x) (names_of_unit (unit_at us k)) ≡ true
+      pub of-own : (k : ℕ) (x : List ℕ) → Contains (own_names us k) x → list_any (bytes_eq x) (names_of_unit (unit_at us k)) ≡ true
       of-own k x there =
           let own : List ℕ → Bool = λ y. not (list_any (bytes_eq y) (dummies_of (unit_at us k))) in
           let names = names_of_unit (unit_at us k) in

@@ -2,8 +2,8 @@
 use Rattle.std.proofs.Common.{◌≡◌, Bool, List, Option, Some, None, Ok, Err, refl, sym, ap, subst, ◌∙◌}
 use Rattle.f77_tree.specs.declared.programs.Program.{Program}
 use Rattle.f77_tree.specs.declared.statements.Labelled.{Labelled}
-use Rattle.f77_layout.specs.Layout.{layout}
-use Rattle.f77_layout.specs.Source.{IsSource}
+use Rattle.layout_rules.specs.Layout.{layout}
+use Rattle.layout_rules.specs.Source.{IsSource}
 use Rattle.f77_subs.specs.declared.sub_end.SubEnd.{SubEnd}
 use Rattle.f77_subs.specs.Expansion.{whole_list}
 use Rattle.f77_subs.specs.Refusals.{expansion, list_unless, unit_refusal}

@@ -12,8 +12,8 @@ use Rattle.f77_tree.specs.declared.statements.Labelled.{Labelled}
 use Rattle.f77_tree.specs.Declarations.{AreWithin, IsDim, IsMember, index_of, offset_of}
 use Rattle.f77_tree.specs.InitialWords.{item_words, part_words, words_at, words_from}
 use Rattle.f77_tree.specs.Value.{dims_of as dims_at, place_of, size_of}
-use Rattle.f77_layout.specs.Declarations.{dims_of}
-use Rattle.f77_layout.specs.Types.{dims_named}
+use Rattle.layout_rules.specs.Declarations.{dims_of}
+use Rattle.layout_rules.specs.Types.{dims_named}
 use Rattle.f77_subs.specs.declared.entity.Entity.{Entity}
 use Rattle.f77_subs.specs.Entities.{entity_of}
 use Rattle.f77_subs.specs.Expansion.{declared_in, init_for, member_for, members_for, whole_list}

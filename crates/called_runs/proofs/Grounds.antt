@@ -3,11 +3,11 @@ use Rattle.std.proofs.Common.{◌≡◌, ℕ, ◌+◌, ◌<◌, Bool, true, fals
 use Rattle.std.specs.List.{range_with_len, slice_get}
 use Rattle.f77_tree.specs.declared.programs.Exec.{Exec}
 use Rattle.f77_tree.specs.declared.statements.Labelled.{Labelled}
-use Rattle.f77_layout.specs.Executables.{is_do_to, loops_to}
-use Rattle.f77_layout.specs.Faults.{first_line}
-use Rattle.f77_layout.specs.Jumps.{end_after, is_block_if, is_end_if}
-use Rattle.f77_layout.specs.Labels.{is_arm, is_labelled_twice, statement_of}
-use Rattle.f77_layout.specs.Source.{IsSource}
+use Rattle.layout_rules.specs.Executables.{is_do_to, loops_to}
+use Rattle.layout_rules.specs.Faults.{first_line}
+use Rattle.layout_rules.specs.Jumps.{end_after, is_block_if, is_end_if}
+use Rattle.layout_rules.specs.Labels.{is_arm, is_labelled_twice, statement_of}
+use Rattle.layout_rules.specs.Source.{IsSource}
 use Rattle.f77_subs.specs.Units.{is_end, standing_in, unit_at}
 use Rattle.f77_subs.specs.Widths.{labels_written}
 use Rattle.f77_subs.specs.Copies.{Context}

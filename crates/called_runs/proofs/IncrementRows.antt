@@ -10,9 +10,9 @@ use Rattle.f77_tree.specs.declared.statements.Stmt.{Stmt}
 use Rattle.f77_tree.specs.declared.statements.Stmt.TheVariants.{Do}
 use Rattle.f77_tree.specs.Declarations.{index_of}
 use Rattle.f77_tree.specs.Run.{State}
-use Rattle.f77_layout.specs.Executables.{exit_after, first_of, increments, is_do_to, loop_number, loops_to, own_executables, variable_of}
-use Rattle.f77_layout.specs.Labels.{is_executable}
-use Rattle.f77_layout.proofs.ExecutableLemmas.{length-increments}
+use Rattle.layout_rules.specs.Executables.{exit_after, first_of, increments, is_do_to, loop_number, loops_to, own_executables, variable_of}
+use Rattle.layout_rules.specs.Labels.{is_executable}
+use Rattle.control_structure.proofs.ExecutableLemmas.{length-increments}
 use Rattle.f77_subs.specs.declared.entity.Entity.{Entity}
 use Rattle.f77_subs.specs.Calls.{CallState, Does, act}
 use Rattle.f77_subs.specs.Contexts.{IsReached}

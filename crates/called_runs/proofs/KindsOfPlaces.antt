@@ -12,7 +12,7 @@ use Rattle.f77_tree.specs.declared.statements.RawItem.TheVariants.{Value, Chars}
 use Rattle.f77_tree.specs.declared.statements.Stmt.{Stmt, more_of-Stmt}
 use Rattle.f77_tree.specs.declared.statements.Stmt.TheVariants.{Assign, Print, Take, PickGoTo, SignIf, ThenIf', BlockIf, ElseIf, Do}
 use Rattle.f77_tree.specs.OtherPlaces.{DifferInPlaces}
-use Rattle.f77_layout.specs.Types.{is_array_in, is_item, is_kind, is_kind_of_target, is_of_kind, is_step, is_target, is_variable, is_well_kinded, kind_in, kind_named}
+use Rattle.layout_rules.specs.Types.{is_array_in, is_item, is_kind, is_kind_of_target, is_of_kind, is_step, is_target, is_variable, is_well_kinded, kind_in, kind_named}
 use Rattle.copied_values.proofs.SameTrees.{kinds-same, same-array, same-kind}
 
 module _ (names others : List NameInfo) (differ : DifferInPlaces names others) where

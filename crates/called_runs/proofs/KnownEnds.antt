@@ -8,7 +8,7 @@ use Rattle.f77_tree.specs.declared.declarations.Member.{Member as Named}
 use Rattle.f77_tree.specs.declared.programs.NameInfo.{NameInfo}
 use Rattle.f77_tree.specs.declared.statements.Labelled.{Labelled}
 use Rattle.f77_tree.specs.Declarations.{IsCommonPart, IsGroup, index_of}
-use Rattle.f77_layout.specs.Declarations.{all_commons, all_groups}
+use Rattle.layout_rules.specs.Declarations.{all_commons, all_groups}
 use Rattle.f77_subs.proofs.MainNames.{names_of_block}
 use Rattle.f77_subs.specs.declared.entity.Entity.{Entity}
 use Rattle.f77_subs.specs.declared.entity.Entity.TheVariants.{InBlock}

@@ -10,12 +10,12 @@ use Rattle.f77_tree.specs.declared.statements.Labelled.{Labelled}
 use Rattle.f77_tree.specs.declared.statements.RawExpr.{RawExpr}
 use Rattle.f77_tree.specs.declared.statements.Stmt.{Stmt, more_of-Stmt}
 use Rattle.f77_tree.specs.declared.statements.Stmt.TheVariants.{TypeOf, Dimension, Common, Equivalence, Init, ThenIf', BlockIf, CallTo, End}
-use Rattle.f77_layout.proofs.NamesOf.{appearing-ThenIf}
-use Rattle.f77_layout.specs.Appearances.{appearing, names_in}
-use Rattle.f77_layout.specs.Declarations.{is_array}
-use Rattle.f77_layout.specs.Labels.{is_executable}
-use Rattle.f77_layout.specs.Tables.{has_simple_inner, is_simple}
-use Rattle.f77_layout.specs.Types.{is_array_in, is_of_kind, is_well_kinded}
+use Rattle.layout_rules.proofs.NamesOf.{appearing-ThenIf}
+use Rattle.layout_rules.specs.Appearances.{appearing, names_in}
+use Rattle.layout_rules.specs.Declarations.{is_array}
+use Rattle.layout_rules.specs.Labels.{is_executable}
+use Rattle.layout_rules.specs.Tables.{has_simple_inner, is_simple}
+use Rattle.layout_rules.specs.Types.{is_array_in, is_of_kind, is_well_kinded}
 use Rattle.f77_subs.proofs.Having.{got}
 use Rattle.f77_subs.proofs.Kept.{kept-by}
 use Rattle.f77_subs.specs.Entities.{stands_for}

@@ -10,8 +10,8 @@ use Rattle.f77_tree.specs.declared.statements.Stmt.{Stmt, more_of-Stmt}
 use Rattle.f77_tree.specs.declared.statements.Stmt.TheVariants.{Stop, Back, End, ThenIf'}
 use Rattle.f77_tree.specs.Run.{Running, State, step, Ended as HasEnded}
 use Rattle.f77_tree.proofs.RunLaws.{step-running}
-use Rattle.f77_layout.specs.Executables.{beyond, first_of, labelled, own_executables, own_kinds}
-use Rattle.f77_layout.specs.Resolved.{resolved}
+use Rattle.layout_rules.specs.Executables.{beyond, first_of, labelled, own_executables, own_kinds}
+use Rattle.layout_rules.specs.Resolved.{resolved}
 use Rattle.f77_subs.specs.declared.entity.Entity.{Entity}
 use Rattle.f77_subs.specs.Calls.{CallState, Halts, Returns, act, act_of_pass}
 use Rattle.f77_subs.specs.Contexts.{IsReached}

@@ -27,6 +27,7 @@ mod ListedExecutables
 mod ListedParts
 mod ListedStorage
 mod LiveLoops
+mod NameNumbers
 mod NamesOfUnits
 mod Neighbours
 mod OnceInCommon
@@ -51,6 +52,7 @@ mod RunTies
 mod RunsBegun
 mod ShownNames
 mod ShownStatements
+mod SpareNumbers
 mod SpareWords
 mod StandingBegins
 mod StandingCalls

@@ -13,8 +13,8 @@ use Rattle.f77_tree.specs.declared.programs.NameInfo.{NameInfo}
 use Rattle.f77_tree.specs.declared.statements.Labelled.{Labelled}
 use Rattle.f77_tree.specs.Declarations.{IsCommonName, IsCommonPart, IsGroup, IsMember, index_of, member_index}
 use Rattle.f77_tree.specs.Places.{Equation, IsWordOf as IsListedWord, Linked as AreTied, against as back_to, along as on_to, block_names, common_equations, equated, equations, group_equations, itself as at_once, neighbours, same_block}
-use Rattle.f77_layout.specs.Declarations.{all_commons, all_groups, dims_of, groups_of}
-use Rattle.f77_layout.specs.Types.{dims_named}
+use Rattle.layout_rules.specs.Declarations.{all_commons, all_groups, dims_of, groups_of}
+use Rattle.layout_rules.specs.Types.{dims_named}
 use Rattle.f77_subs.proofs.MainNames.{names_of_block}
 use Rattle.f77_subs.specs.declared.entity.Entity.{Entity}
 use Rattle.f77_subs.specs.declared.entity.Entity.TheVariants.{InBlock}

@@ -14,7 +14,7 @@ use Rattle.list_laws.proofs.Members.{Member-filtered, Member-flat_map, Member-fr
 use Rattle.f77_tree.specs.declared.declarations.CommonPart.{CommonPart}
 use Rattle.f77_tree.specs.declared.statements.Labelled.{Labelled}
 use Rattle.f77_tree.specs.Places.{same_block}
-use Rattle.f77_layout.specs.Declarations.{all_commons, parts_of}
+use Rattle.layout_rules.specs.Declarations.{all_commons, parts_of}
 use Rattle.f77_subs.proofs.AcceptedTables.{alike-lengths, or-parts}
 use Rattle.f77_subs.proofs.MainNames.{names_of_block}
 use Rattle.f77_subs.proofs.ManyBlocks.{block-sym, has-told, told-blocks}

@@ -7,8 +7,8 @@ use Rattle.f77_tree.specs.declared.statements.Labelled.{Labelled}
 use Rattle.f77_tree.specs.declared.statements.RawExpr.{RawExpr}
 use Rattle.f77_tree.specs.declared.statements.Stmt.{Stmt, more_of-Stmt}
 use Rattle.f77_tree.specs.declared.statements.Stmt.TheVariants.{Program, Implicit, ImplicitNone, TypeOf, Dimension, Common, Equivalence, Init, Take, ThenIf', Else, Do, Sub}
-use Rattle.f77_layout.specs.Executables.{executables_with_ends, first_of, is_do_to, labelled, loops_to, own_executables}
-use Rattle.f77_layout.specs.Labels.{bears, is_arm, is_executable, used}
+use Rattle.layout_rules.specs.Executables.{executables_with_ends, first_of, is_do_to, labelled, loops_to, own_executables}
+use Rattle.layout_rules.specs.Labels.{bears, is_arm, is_executable, used}
 use Rattle.f77_layout.specs.Leading.{IsLedTo}
 use Rattle.f77_subs.specs.CopiedLoops.{loop_if, loops_from}
 use Rattle.f77_subs.specs.ListedCopies.{HasAt}

@@ -10,9 +10,9 @@ use Rattle.f77_tree.specs.declared.declarations.Member.{Member}
 use Rattle.f77_tree.specs.declared.statements.Labelled.{Labelled}
 use Rattle.f77_tree.specs.declared.statements.Stmt.{Stmt}
 use Rattle.f77_tree.specs.declared.statements.Stmt.TheVariants.{Common, Equivalence, Init}
-use Rattle.f77_layout.specs.Declarations.{all_commons, all_groups, all_inits, groups_of, inits_of, parts_of}
-use Rattle.f77_layout.specs.Labels.{is_executable}
-use Rattle.f77_layout.specs.Layout.{last_line}
+use Rattle.layout_rules.specs.Declarations.{all_commons, all_groups, all_inits, groups_of, inits_of, parts_of}
+use Rattle.layout_rules.specs.Labels.{is_executable}
+use Rattle.layout_rules.specs.Layout.{last_line}
 use Rattle.f77_subs.specs.Expansion.{block_size, blocks, common_decl, common_of, datas, declared_first, init_for, is_running, members_for, put_in, ties, type_of, units_but_main, whole_list}
 use Rattle.copied_values.specs.ListedDeclarations.{declarations, unless_executable}
 use Rattle.f77_subs.specs.Names.{y_entities}

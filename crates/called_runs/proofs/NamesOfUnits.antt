@@ -13,7 +13,7 @@ use Rattle.f77_tree.specs.declared.declarations.CommonPart.{CommonPart}
 use Rattle.f77_tree.specs.declared.statements.Labelled.{Labelled}
 use Rattle.f77_tree.specs.declared.statements.Stmt.{Stmt}
 use Rattle.f77_tree.specs.declared.statements.Stmt.TheVariants.{Common}
-use Rattle.f77_layout.specs.Declarations.{all_commons, is_array, parts_of}
+use Rattle.layout_rules.specs.Declarations.{all_commons, is_array, parts_of}
 use Rattle.f77_subs.proofs.StoredNames.{told-all}
 use Rattle.f77_subs.specs.Entities.{block_list}
 use Rattle.f77_subs.specs.Expansion.{units_but_main}

@@ -16,8 +16,8 @@ use Rattle.f77_tree.specs.declared.programs.NameInfo.{NameInfo}
 use Rattle.f77_tree.specs.declared.statements.Labelled.{Labelled}
 use Rattle.f77_tree.specs.Declarations.{CommonOnce, index_of, part_names}
 use Rattle.f77_tree.specs.Places.{same_block}
-use Rattle.f77_layout.specs.Declarations.{all_commons}
-use Rattle.f77_layout.specs.Faults.{answer_or, first_answer}
+use Rattle.layout_rules.specs.Declarations.{all_commons}
+use Rattle.layout_rules.specs.Faults.{answer_or, first_answer}
 use Rattle.f77_subs.proofs.AcceptedTables.{or-parts}
 use Rattle.f77_subs.proofs.MainNames.{found-at, named, names_of_block}
 use Rattle.f77_subs.proofs.OwnNames.{blocks-same}

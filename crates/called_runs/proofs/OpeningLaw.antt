@@ -1,5 +1,5 @@
 -- What a text declares and gives, for the words with which its runs begin.
-use Rattle.std.proofs.Common.{◌≡◌, ℕ, ◌<◌, Bool, true, arith, List, [], length, map, flat_map, take, drop, ◌++◌, None, Some, sym, ap, subst, ◌∙◌, ℤ, Contains, ◌≤◌}
+use Rattle.std.proofs.Common.{◌≡◌, ℕ, ◌<◌, Bool, true, arith, List, [], length, map, flat_map, take, drop, ◌++◌, None, Some, sym, ap, subst, ◌∙◌, ℤ, Contains}
 use Rattle.std.specs.Prelude.{Ok}
 use Rattle.std.specs.List.{slice_get}
 use Rattle.std.proofs.lemmas.List.Elements.{All-contains}
@@ -16,11 +16,11 @@ use Rattle.f77_tree.specs.InitialWords.{IsInitPart, given, part_words}
 use Rattle.f77_tree.specs.OtherPlaces.{DifferInPlaces}
 use Rattle.f77_tree.specs.Value.{dims_of as dims_at, size_of}
 use Rattle.f77_tree.specs.WellFormed.{IsWellFormed}
-use Rattle.f77_layout.proofs.NameTable.{dims_in_table}
-use Rattle.f77_layout.specs.Declarations.{all_inits, dims_of, inits_of}
-use Rattle.f77_layout.specs.Layout.{layout, names_of, program}
-use Rattle.f77_layout.specs.Source.{IsSource}
-use Rattle.f77_layout.specs.Types.{dims_named}
+use Rattle.storage_laws.proofs.NameTable.{dims_in_table}
+use Rattle.layout_rules.specs.Declarations.{all_inits, dims_of, inits_of}
+use Rattle.layout_rules.specs.Layout.{layout, names_of, program}
+use Rattle.layout_rules.specs.Source.{IsSource}
+use Rattle.layout_rules.specs.Types.{dims_named}
 use Rattle.copied_values.proofs.SameTrees.{same-dims}
 use Rattle.copied_values.specs.SideBySide.{IsPairing}
 use Rattle.f77_subs.specs.declared.entity.Entity.{Entity}
@@ -34,13 +34,14 @@ use Rattle.f77_subs.specs.Texts.{IsText}
 use Rattle.f77_subs.specs.Units.{runs, standing_in, unit_at, units}
 use Rattle.called_runs.specs.DeclaredNames.{AreDeclaredAlike}
 use Rattle.called_runs.specs.PairedWords.{IsPaired, IsPlacing, listed_spot}
-use Rattle.called_runs.specs.SpareWords.{HasStorage, names_of_all}
+use Rattle.called_runs.specs.SpareWords.{HasStorage}
 use Rattle.called_runs.proofs.BlocksOfTexts.{unit-laid}
 use Rattle.called_runs.proofs.DeclaredAlike.{blocks-even, dummies-right, own-declared}
 use Rattle.called_runs.proofs.GivenPairs.{part-zipped}
 use Rattle.called_runs.proofs.KnownEnds.{IsKnown}
 use Rattle.called_runs.proofs.ListedParts.{IsPartOf, init-same, part-back, part-there}
 use Rattle.called_runs.proofs.OpeningWords.{from-list, room-here, room-there, start, to-list}
+use Rattle.called_runs.proofs.SpareNumbers.{HaveNumbers}
 use Rattle.called_runs.proofs.SpareWords.{all_words, pair-same, spare_opening, spare_spot, storage}
 use Rattle.called_runs.proofs.StandingDeclared.{inits-same}
 use Rattle.called_runs.proofs.StoredNames.{init-stored, stored-run, there-at}
@@ -128,9 +129,9 @@ module _ (stmts : List Labelled) (checked : Bool) (text : IsText stmts) (accepte
 
     -- ---- with the words of the program, and spare ones
 
-    module _ (placing : IsPlacing us p.names (listed_spot us p.names)) (ends : (d : Distance) → Declares us d → IsKnown us p.names d.from × IsKnown us p.names d.to) (apart : (e f : Entity) → IsOfRun us e → IsOfRun us f → name_for us e ≡ name_for us f → e ≡ f) where
+    module _ (placing : IsPlacing us p.names (listed_spot us p.names)) (ends : (d : Distance) → Declares us d → IsKnown us p.names d.from × IsKnown us p.names d.to) (apart : (e f : Entity) → IsOfRun us e → IsOfRun us f → name_for us e ≡ name_for us f → e ≡ f) (numbers : HaveNumbers us) where
       abbrev at : Entity → ℕ
-      at = spare_spot us checked formed
+      at = spare_spot us checked formed numbers
 
       abbrev inits-of : ℕ → List (ℕ × Lit)
       inits-of k = given (placed us at k [] (own k).names) (all_inits (unit_at us k))
@@ -138,14 +139,14 @@ module _ (stmts : List Labelled) (checked : Bool) (text : IsText stmts) (accepte
       nowhere : (w : ℕ) (c : Lit) → Member (given p.names (all_inits list)) (w, c) → ((k : ℕ) (q : ℕ × Lit) → runs us k ≡ true → Contains (inits-of k) q → q.0 ≡ w → ⊥) → ⊥
       nowhere w c m none =
           let of = from-list us checked at formed size (zipped at) listed of-list w c m in
-          none of.unit (of.word, c) of.runs_it (Contains-from_Member (inits-of of.unit) (of.word, c) of.among) (pair-same us checked formed of.word w of.paired)
+          none of.unit (of.word, c) of.runs_it (Contains-from_Member (inits-of of.unit) (of.word, c) of.among) (pair-same us checked formed numbers of.word w of.paired)
 
-      pub has-storage : length (names_of_all us) ≤ 2147221503 → HasStorage us checked
-      has-storage few = record {
+      pub has-storage : HasStorage us checked
+      has-storage = record {
         spot = at;
-        words = all_words us checked formed;
-        opening = spare_opening us checked formed;
-        storage = storage us checked formed size placing ends apart few
+        words = all_words us checked formed numbers;
+        opening = spare_opening us checked formed numbers;
+        storage = storage us checked formed numbers size placing ends apart
             (λ k q run among. to-list us checked at formed size (zipped at) listed of-list k q.0 q.1 run (Member-from_Contains (inits-of k) q among))
             (room-there us checked at formed size)
             nowhere;

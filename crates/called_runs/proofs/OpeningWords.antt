@@ -17,8 +17,8 @@ use Rattle.f77_tree.specs.Declarations.{index_of}
 use Rattle.f77_tree.specs.InitialWords.{IsInitPart, constants, given, item_kinds, item_words, lit_kind, part_words, word_of_pair}
 use Rattle.f77_tree.specs.Value.{dims_of as dims_at, size_of}
 use Rattle.f77_tree.specs.WellFormed.{IsWellFormed}
-use Rattle.f77_layout.specs.Declarations.{all_inits, inits_of}
-use Rattle.f77_layout.specs.Layout.{program}
+use Rattle.layout_rules.specs.Declarations.{all_inits, inits_of}
+use Rattle.layout_rules.specs.Layout.{program}
 use Rattle.copied_values.specs.SideBySide.{IsPairing}
 use Rattle.f77_subs.specs.declared.entity.Entity.{Entity}
 use Rattle.f77_subs.specs.Expansion.{init_for, whole_list}

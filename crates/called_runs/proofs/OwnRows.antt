@@ -15,11 +15,11 @@ use Rattle.f77_tree.specs.Run.{Running, State, Ended as HasEnded}
 use Rattle.f77_tree.specs.StatementGrammar.{is_of_subroutines}
 use Rattle.f77_tree.proofs.AllLemmas.{All-get}
 use Rattle.f77_tree.proofs.RunLaws.{step-running}
-use Rattle.f77_layout.specs.Executables.{beyond, first_of, own_executables, own_kinds, taking}
-use Rattle.f77_layout.specs.Labels.{is_executable}
-use Rattle.f77_layout.specs.StatementTrees.{IsTree}
-use Rattle.f77_layout.specs.Tables.{has_simple_inner, is_simple}
-use Rattle.f77_layout.proofs.ExecutableLemmas.{length-own}
+use Rattle.layout_rules.specs.Executables.{beyond, first_of, own_executables, own_kinds, taking}
+use Rattle.layout_rules.specs.Labels.{is_executable}
+use Rattle.layout_rules.specs.StatementTrees.{IsTree}
+use Rattle.layout_rules.specs.Tables.{has_simple_inner, is_simple}
+use Rattle.control_structure.proofs.ExecutableLemmas.{length-own}
 use Rattle.f77_subs.specs.declared.entity.Entity.{Entity}
 use Rattle.f77_subs.specs.Calls.{CallState, Does, Halts, Returns, act}
 use Rattle.f77_subs.specs.Contexts.{IsReached}

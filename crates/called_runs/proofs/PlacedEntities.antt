@@ -15,8 +15,8 @@ use Rattle.f77_tree.specs.declared.statements.Labelled.{Labelled}
 use Rattle.f77_tree.specs.Declarations.{index_of, member_offset, offset_of}
 use Rattle.f77_tree.specs.Places.{Equation, block_names, common_equations, equated, equations, group_equations, neighbours, same_block}
 use Rattle.f77_tree.specs.Value.{dims_of as dims_at, place_of, size_of}
-use Rattle.f77_layout.specs.Declarations.{all_commons, all_groups, dims_of}
-use Rattle.f77_layout.specs.Types.{dims_named}
+use Rattle.layout_rules.specs.Declarations.{all_commons, all_groups, dims_of}
+use Rattle.layout_rules.specs.Types.{dims_named}
 use Rattle.f77_subs.proofs.MainNames.{names_of_block}
 use Rattle.f77_subs.proofs.OwnNames.{blocks-same}
 use Rattle.f77_subs.specs.declared.entity.Entity.{Entity}

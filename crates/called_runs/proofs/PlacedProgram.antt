@@ -7,11 +7,11 @@ use Rattle.f77_tree.specs.declared.programs.Program.{Program}
 use Rattle.f77_tree.specs.declared.statements.Labelled.{Labelled}
 use Rattle.f77_tree.specs.Places.{IsWordOf, Linked, equations}
 use Rattle.f77_tree.specs.WellFormed.{IsWellFormed}
-use Rattle.f77_layout.proofs.NameTable.{dims_in_table}
-use Rattle.f77_layout.specs.declared.layout_end.LayoutEnd.{LayoutEnd}
-use Rattle.f77_layout.specs.Declarations.{all_commons, all_groups, dims_of, groups_of}
-use Rattle.f77_layout.specs.Layout.{layout, names_of, program, refusal, unless_refused}
-use Rattle.f77_layout.specs.Types.{dims_named}
+use Rattle.storage_laws.proofs.NameTable.{dims_in_table}
+use Rattle.layout_rules.specs.declared.layout_end.LayoutEnd.{LayoutEnd}
+use Rattle.layout_rules.specs.Declarations.{all_commons, all_groups, dims_of, groups_of}
+use Rattle.layout_rules.specs.Layout.{layout, names_of, program, refusal, unless_refused}
+use Rattle.layout_rules.specs.Types.{dims_named}
 use Rattle.f77_subs.specs.declared.entity.Entity.{Entity}
 use Rattle.f77_subs.specs.declared.entity.Entity.TheVariants.{InBlock}
 use Rattle.f77_subs.specs.Entities.{block_list, entity_of}

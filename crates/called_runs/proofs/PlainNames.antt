@@ -5,9 +5,9 @@ use Rattle.f77_tree.specs.declared.declarations.Kind.TheVariants.{Logical}
 use Rattle.f77_tree.specs.declared.programs.NameInfo.{NameInfo}
 use Rattle.f77_tree.specs.declared.statements.Stmt.{Stmt, more_of-Stmt}
 use Rattle.f77_tree.specs.declared.statements.Stmt.TheVariants.{Sub, CallTo, Back, ThenIf'}
-use Rattle.f77_layout.proofs.NamesOf.{appearing-ThenIf}
-use Rattle.f77_layout.specs.Appearances.{appearing, names_in}
-use Rattle.f77_layout.specs.Types.{is_of_kind, is_well_kinded}
+use Rattle.layout_rules.proofs.NamesOf.{appearing-ThenIf}
+use Rattle.layout_rules.specs.Appearances.{appearing, names_in}
+use Rattle.layout_rules.specs.Types.{is_of_kind, is_well_kinded}
 use Rattle.f77_subs.specs.Units.{stand_in, stand_in_alone}
 
 module _ (arrays : List ℕ → Bool) where

@@ -10,7 +10,7 @@ use Rattle.f77_tree.specs.declared.statements.Labelled.{Labelled}
 use Rattle.f77_tree.specs.declared.statements.Stmt.{Stmt}
 use Rattle.f77_tree.specs.declared.statements.Stmt.TheVariants.{Continue, End}
 use Rattle.f77_tree.specs.Run.{Running, State, step}
-use Rattle.f77_layout.specs.Executables.{beyond, first_of, labelled, own_kinds}
+use Rattle.layout_rules.specs.Executables.{beyond, first_of, labelled, own_kinds}
 use Rattle.f77_subs.specs.declared.entity.Entity.{Entity}
 use Rattle.f77_subs.specs.Calls.{CallState, Frame, Halts, Returns, act}
 use Rattle.f77_subs.specs.Contexts.{IsReached}

@@ -7,11 +7,11 @@ use Rattle.f77_tree.specs.declared.programs.ExecKind.TheVariants.{End as Ended}
 use Rattle.f77_tree.specs.declared.programs.Program.{Program}
 use Rattle.f77_tree.specs.declared.statements.Labelled.{Labelled}
 use Rattle.f77_tree.specs.declared.statements.Stmt.{Stmt}
-use Rattle.f77_layout.specs.Executables.{beyond, first_of, loops_to, met, own_executables, own_kinds}
-use Rattle.f77_layout.specs.Jumps.{end_of_block}
-use Rattle.f77_layout.specs.Labels.{is_arm, is_executable}
-use Rattle.f77_layout.specs.Layout.{layout, names_of}
-use Rattle.f77_layout.specs.Source.{IsSource}
+use Rattle.layout_rules.specs.Executables.{beyond, first_of, loops_to, met, own_executables, own_kinds}
+use Rattle.layout_rules.specs.Jumps.{end_of_block}
+use Rattle.layout_rules.specs.Labels.{is_arm, is_executable}
+use Rattle.layout_rules.specs.Layout.{layout, names_of}
+use Rattle.layout_rules.specs.Source.{IsSource}
 use Rattle.f77_layout.proofs.LabelsLead.{own-stand}
 use Rattle.f77_subs.specs.Units.{unit_at}
 use Rattle.f77_subs.specs.Widths.{labels_before}

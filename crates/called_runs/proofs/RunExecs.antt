@@ -19,11 +19,11 @@ use Rattle.f77_tree.specs.declared.statements.Stmt.TheVariants.{Assign, Print, T
 use Rattle.f77_tree.specs.Declarations.{index_of}
 use Rattle.f77_tree.specs.Kinds.{taken_as}
 use Rattle.f77_tree.specs.OtherPlaces.{DifferInPlaces}
-use Rattle.f77_layout.specs.Executables.{beyond, exit_after, exit_of, first_of, increments, kind_or_integer, labelled, loop_number, loops_to, met, own_executables, own_kinds, taking, variable_of, when_false}
-use Rattle.f77_layout.specs.Layout.{layout, names_of}
-use Rattle.f77_layout.specs.Resolved.{access_of, resolved, resolved_item, resolved_step}
-use Rattle.f77_layout.specs.Source.{IsSource}
-use Rattle.f77_layout.specs.Types.{kind_in}
+use Rattle.layout_rules.specs.Executables.{beyond, exit_after, exit_of, first_of, increments, kind_or_integer, labelled, loop_number, loops_to, met, own_executables, own_kinds, taking, variable_of, when_false}
+use Rattle.layout_rules.specs.Layout.{layout, names_of}
+use Rattle.layout_rules.specs.Resolved.{access_of, resolved, resolved_item, resolved_step}
+use Rattle.layout_rules.specs.Source.{IsSource}
+use Rattle.layout_rules.specs.Types.{kind_in}
 use Rattle.f77_layout.proofs.LabelsLead.{increments-stand, own-stand}
 use Rattle.copied_values.proofs.SameTrees.{accesses-same, kinds-same, same-index, trees-same}
 

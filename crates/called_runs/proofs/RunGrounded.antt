@@ -5,12 +5,12 @@ use Rattle.f77_tree.specs.declared.programs.Program.{Program}
 use Rattle.f77_tree.specs.declared.statements.Labelled.{Labelled}
 use Rattle.f77_tree.specs.OtherPlaces.{DifferInPlaces}
 use Rattle.f77_tree.specs.Value.{ArePlaced}
-use Rattle.f77_layout.specs.Appearances.{appearing}
-use Rattle.f77_layout.specs.Declarations.{is_array}
-use Rattle.f77_layout.specs.Executables.{is_do}
-use Rattle.f77_layout.specs.Labels.{is_executable}
-use Rattle.f77_layout.specs.Layout.{names_of, program}
-use Rattle.f77_layout.specs.Types.{is_well_kinded}
+use Rattle.layout_rules.specs.Appearances.{appearing}
+use Rattle.layout_rules.specs.Declarations.{is_array}
+use Rattle.layout_rules.specs.Executables.{is_do}
+use Rattle.layout_rules.specs.Labels.{is_executable}
+use Rattle.layout_rules.specs.Layout.{names_of, program}
+use Rattle.layout_rules.specs.Types.{is_well_kinded}
 use Rattle.copied_values.specs.ChangedTables.{AreChangedTables}
 use Rattle.copied_values.specs.SideBySide.{AreTied, IsPairing}
 use Rattle.copied_values.proofs.FrameTables.{frame-table, program-table}

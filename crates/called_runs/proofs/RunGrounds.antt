@@ -7,9 +7,9 @@ use Rattle.f77_tree.specs.declared.programs.Program.{Program}
 use Rattle.f77_tree.specs.declared.statements.Labelled.{Labelled}
 use Rattle.f77_tree.specs.Loops.{AreLoops}
 use Rattle.f77_tree.specs.Value.{ArePlaced}
-use Rattle.f77_layout.specs.Executables.{beyond, first_of, increments, loops_to, met, own_executables, own_kinds}
-use Rattle.f77_layout.specs.Labels.{is_executable}
-use Rattle.f77_layout.specs.Source.{EndsWithEnd}
+use Rattle.layout_rules.specs.Executables.{beyond, first_of, increments, loops_to, met, own_executables, own_kinds}
+use Rattle.layout_rules.specs.Labels.{is_executable}
+use Rattle.layout_rules.specs.Source.{EndsWithEnd}
 use Rattle.copied_values.specs.ChangedTables.{AreChangedTables}
 use Rattle.copied_values.specs.SideBySide.{IsPairing}
 use Rattle.f77_subs.specs.declared.entity.Entity.{Entity}

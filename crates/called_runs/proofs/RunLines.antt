@@ -4,10 +4,10 @@ use Rattle.std.specs.List.{slice_get, list_any}
 use Rattle.std.proofs.lemmas.Bool.{eq-eqb, ne_eqb, or_parts}
 use Rattle.f77_tree.specs.declared.statements.Labelled.{Labelled}
 use Rattle.f77_tree.specs.Loops.{AreLoops}
-use Rattle.f77_layout.specs.Faults.{first_line}
-use Rattle.f77_layout.proofs.LabelLemmas.{faultless}
+use Rattle.layout_rules.specs.Faults.{first_line}
+use Rattle.control_structure.proofs.LabelLemmas.{faultless}
 use Rattle.f77_layout.proofs.WellFormedPrograms.{laid-well_formed}
-use Rattle.f77_layout.specs.Layout.{program}
+use Rattle.layout_rules.specs.Layout.{program}
 use Rattle.f77_subs.specs.declared.sub_end.SubEnd.TheVariants.{UnitOrder}
 use Rattle.f77_subs.specs.Refusals.{differ, end_at, follows_end, is_out_of_unit, unit_refusal, unit_refusals}
 use Rattle.f77_subs.specs.Texts.{IsText}

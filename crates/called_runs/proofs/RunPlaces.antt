@@ -6,7 +6,7 @@ use Rattle.std.proofs.lemmas.Option.{slice_get_within}
 use Rattle.f77_tree.specs.declared.statements.Labelled.{Labelled}
 use Rattle.f77_tree.specs.declared.statements.Stmt.{Stmt}
 use Rattle.f77_tree.specs.declared.statements.Stmt.TheVariants.{Do}
-use Rattle.f77_layout.specs.Executables.{is_do, loop_number}
+use Rattle.layout_rules.specs.Executables.{is_do, loop_number}
 use Rattle.f77_subs.specs.Units.{Call, call_in, guard_of, unit_at}
 use Rattle.f77_subs.specs.Contexts.{IsReached, called}
 use Rattle.f77_subs.specs.Copies.{Change, Context, changed_stmt, changes}

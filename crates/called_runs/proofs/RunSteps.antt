@@ -7,8 +7,8 @@ use Rattle.f77_tree.specs.declared.statements.Labelled.{Labelled}
 use Rattle.f77_tree.specs.declared.statements.RawExpr.{RawExpr}
 use Rattle.f77_tree.specs.declared.statements.Stmt.TheVariants.{BlockIf, Continue, EndIf}
 use Rattle.f77_tree.specs.Run.{Running, State, step}
-use Rattle.f77_layout.specs.Executables.{beyond, first_of, met, when_false}
-use Rattle.f77_layout.specs.Resolved.{resolved}
+use Rattle.layout_rules.specs.Executables.{beyond, first_of, met, when_false}
+use Rattle.layout_rules.specs.Resolved.{resolved}
 use Rattle.f77_subs.specs.declared.entity.Entity.{Entity}
 use Rattle.f77_subs.specs.Calls.{Act, CallState, Frame, act, act_of_pass, acted, executed, on_top, pass_on, step_from}
 use Rattle.f77_subs.specs.Copies.{Context, bare}

@@ -5,10 +5,10 @@ use Rattle.f77_tree.specs.declared.programs.Program.{Program}
 use Rattle.f77_tree.specs.declared.statements.Labelled.{Labelled}
 use Rattle.f77_tree.specs.Value.{ArePlaced}
 use Rattle.f77_tree.specs.WellFormed.{IsWellFormed}
-use Rattle.f77_layout.specs.Appearances.{appearing}
-use Rattle.f77_layout.specs.Declarations.{is_array}
-use Rattle.f77_layout.specs.Labels.{is_executable}
-use Rattle.f77_layout.specs.Types.{is_well_kinded}
+use Rattle.layout_rules.specs.Appearances.{appearing}
+use Rattle.layout_rules.specs.Declarations.{is_array}
+use Rattle.layout_rules.specs.Labels.{is_executable}
+use Rattle.layout_rules.specs.Types.{is_well_kinded}
 use Rattle.copied_values.specs.ChangedTables.{AreChangedTables}
 use Rattle.copied_values.specs.SideBySide.{AreTied, IsPairing}
 use Rattle.f77_subs.specs.Contexts.{IsReached}

@@ -12,10 +12,10 @@ use Rattle.f77_tree.specs.declared.statements.RawExpr.{RawExpr, Row_of-RawExpr, 
 use Rattle.f77_tree.specs.declared.statements.RawExpr.TheVariants.{Int, Truth, Named, Call as Called, Call', Apply, Apply'}
 use Rattle.f77_tree.specs.Kinds.{operand_kind}
 use Rattle.f77_tree.specs.Line.{kind_of_op}
-use Rattle.f77_layout.proofs.NamesIn.{names_in-Apply, names_in-Call}
-use Rattle.f77_layout.specs.Appearances.{called_name, names_in, names_in_row}
-use Rattle.f77_layout.specs.Functions.{intrinsic_named}
-use Rattle.f77_layout.specs.Types.{Intrinsic, count_of_row, is_array_in, is_intrinsic, is_kind, is_row_of, kind_in, kind_of_call}
+use Rattle.layout_rules.proofs.NamesIn.{names_in-Apply, names_in-Call}
+use Rattle.layout_rules.specs.Appearances.{called_name, names_in, names_in_row}
+use Rattle.declared_names.specs.Functions.{intrinsic_named}
+use Rattle.layout_rules.specs.Types.{Intrinsic, count_of_row, is_array_in, is_intrinsic, is_kind, is_row_of, kind_in, kind_of_call}
 use Rattle.copied_values.proofs.ChangedValues.{Array, Function, IsCall, IsFunction, call-is, function, kinds-same}
 use Rattle.f77_subs.specs.Copies.{Change, changed, changed_call, changed_row, intrinsic_or, pairs}
 

@@ -13,9 +13,9 @@ use Rattle.f77_tree.specs.declared.statements.RawItem.{RawItem}
 use Rattle.f77_tree.specs.declared.statements.RawItem.TheVariants.{Value, Chars}
 use Rattle.f77_tree.specs.declared.statements.Stmt.{Stmt, more_of-Stmt}
 use Rattle.f77_tree.specs.declared.statements.Stmt.TheVariants.{Program, Implicit, ImplicitNone, TypeOf, Dimension, Common, Equivalence, Init, Assign, Print, Take, Continue, Stop, GoTo, PickGoTo, SignIf, ThenIf', BlockIf, ElseIf, Else, EndIf, Do, Sub, CallTo, Back, End}
-use Rattle.f77_layout.proofs.NamesOf.{appearing-ThenIf}
-use Rattle.f77_layout.specs.Appearances.{appearing, names_if_any, names_in, names_in_item}
-use Rattle.f77_layout.specs.Types.{is_array_in, is_item, is_kind, is_kind_of_target, is_of_kind, is_step, is_target, is_variable, is_well_kinded, kind_in, kind_named}
+use Rattle.layout_rules.proofs.NamesOf.{appearing-ThenIf}
+use Rattle.layout_rules.specs.Appearances.{appearing, names_if_any, names_in, names_in_item}
+use Rattle.layout_rules.specs.Types.{is_array_in, is_item, is_kind, is_kind_of_target, is_of_kind, is_step, is_target, is_variable, is_well_kinded, kind_in, kind_named}
 use Rattle.f77_subs.specs.Copies.{Change, changed, changed_item, changed_step, changed_stmt}
 use Rattle.called_runs.proofs.ShownNames.{has-kind, shown}
 

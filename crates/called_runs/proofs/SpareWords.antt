@@ -1,17 +1,14 @@
--- A storage for a text: the words of the program that it comes to, and behind them a word for each name.
-use Rattle.std.proofs.Common.{◌≡◌, ℕ, suc, ◌+◌, ◌-◌, ◌<◌, ◌≤◌, ◌==◌, ◌⊎◌, inl, inr, Bool, true, false, not, map, filter, List, [], ◌∷◌, ◌++◌, length, get_or, replicate, find, Option, Some, None, if◌then◌else◌, ⊎_elim, refl, sym, ap, subst, ◌∙◌, arith, length-append, ℤ, pos, ◌+ℤ◌, ◌≤ℤ◌, Contains}
-use Rattle.std.specs.Prelude.{bytes_eq, nat_lt, zip}
-use Rattle.std.specs.List.{list_any, position_or_len, range_with_len, slice_get}
+-- A storage for a text: the words of the program that it comes to, and behind them a word for each number of an entity.
+use Rattle.std.proofs.Common.{◌≡◌, ℕ, suc, ◌+◌, ◌-◌, ◌<◌, ◌≤◌, ◌==◌, ◌⊎◌, inl, inr, Bool, true, false, List, [], ◌∷◌, ◌++◌, length, replicate, find, Option, Some, None, if◌then◌else◌, ⊎_elim, refl, sym, ap, subst, ◌∙◌, arith, length-append, ℤ, pos, ◌+ℤ◌, ◌≤ℤ◌, Contains}
+use Rattle.std.specs.Prelude.{nat_lt, zip}
+use Rattle.std.specs.List.{list_any, slice_get}
 use Rattle.std.proofs.lemmas.Bool.{cases_lt, eq-eqb, eqb-true, lt-ltb}
 use Rattle.std.proofs.lemmas.Bool.Decides.{nat_tests}
 use Rattle.std.proofs.lemmas.Int.{ints}
 use Rattle.std.proofs.lemmas.List.{get_or-replicate, length-replicate}
 use Rattle.std.proofs.lemmas.Option.{slice_get-get_or, slice_get_past}
-use Rattle.std.proofs.lemmas.Slice.Eq.{bytes_eq-Decides}
-use Rattle.list_laws.proofs.KeyPlaces.{IsFound, found}
-use Rattle.list_laws.proofs.Members.{Member-flat_map, Member-from_Contains, Member-map, Member-range, list_any_member}
+use Rattle.list_laws.proofs.Members.{list_any_member}
 use Rattle.list_laws.specs.Member.{Member}
-use Rattle.f77_tree.proofs.NameLemmas.{bytes_eq-same}
 use Rattle.f77_tree.specs.declared.declarations.Lit.{Lit}
 use Rattle.f77_tree.specs.declared.programs.NameInfo.{NameInfo}
 use Rattle.f77_tree.specs.declared.programs.Program.{Program}
@@ -20,19 +17,18 @@ use Rattle.f77_tree.specs.Declarations.{index_of}
 use Rattle.f77_tree.specs.InitialWords.{given, given_constants, given_words, lit_word, word_of_pair}
 use Rattle.f77_tree.specs.Value.{dims_in, dims_of as dims_at, size_of}
 use Rattle.f77_tree.specs.WellFormed.{IsWellFormed}
-use Rattle.f77_layout.proofs.LoopPlaces.{got_left, got_right}
-use Rattle.f77_layout.specs.Declarations.{all_inits}
-use Rattle.f77_layout.specs.Layout.{program}
+use Rattle.control_laws.proofs.LoopPlaces.{got_left, got_right}
+use Rattle.layout_rules.specs.Declarations.{all_inits}
+use Rattle.layout_rules.specs.Layout.{program}
 use Rattle.f77_subs.specs.declared.entity.Entity.{Entity}
-use Rattle.f77_subs.specs.Entities.{entity_of}
 use Rattle.f77_subs.specs.Expansion.{whole_list}
 use Rattle.f77_subs.specs.Layouts.{own_program}
-use Rattle.f77_subs.specs.Names.{name_for, names_of_unit, own_names}
+use Rattle.f77_subs.specs.Names.{name_for}
 use Rattle.f77_subs.specs.Storage.{Declares, Distance, IsOfRun, IsStorage, IsWordOf, Linked, itself, placed, size_in}
-use Rattle.f77_subs.specs.Units.{dummies_of, runs, unit_at, unit_or_none}
+use Rattle.f77_subs.specs.Units.{runs, unit_at}
 use Rattle.called_runs.specs.PairedWords.{IsPaired, IsPlacing, listed_spot}
-use Rattle.called_runs.specs.SpareWords.{names_of_all}
 use Rattle.called_runs.proofs.KnownEnds.{IsKnown}
+use Rattle.called_runs.proofs.SpareNumbers.{HaveNumbers}
 use Rattle.called_runs.proofs.ZippedWords.{found-none, found-there}
 
 -- ---- what stands beside a word once
@@ -48,28 +44,9 @@ beside-at (y ∷ xs) [] x c m = absurd m
 beside-at (y ∷ xs) (d ∷ cs) x c (inl same) = record { at = 0; first = ap (λ p. Some (p.0)) same; second = ap (λ p. Some (p.1)) same }
 beside-at (y ∷ xs) (d ∷ cs) x c (inr m) = let more = beside-at xs cs x c m in record { at = suc (IsBeside.at more); first = IsBeside.first more; second = IsBeside.second more }
 
--- ---- the names of all units
-
-own-nowhere : (us : List (List Labelled)) (k : ℕ) (x : List ℕ) → slice_get us k ≡ None → Member (own_names us k) x → ⊥
-own-nowhere us k x none m = by (slice_get us k) none m
-  where
-    by : (o : Option (List Labelled)) → o ≡ None → Member (filter (λ y. not (list_any (bytes_eq y) (dummies_of (unit_or_none o)))) (names_of_unit (unit_or_none o))) x → ⊥
-    by None is m = m
-    by (Some u) is m = absurd cc
-
-named : (us : List (List Labelled)) (e : Entity) → IsOfRun us e → list_any (bytes_eq (name_for us e)) (names_of_all us) ≡ true
-named us e run =
-    let k = run.unit in
-    let own = Member-from_Contains (own_names us k) run.name run.appears in
-    let here : k < length us = ⊎_elim (λ (less : k < length us). less) (λ (most : length us ≤ k). absurd (own-nowhere us k run.name (slice_get_past us k most) own)) (cases_lt k (length us)) in
-    let of : ℕ → List (List ℕ) = λ j. map (λ x. name_for us (entity_of us j x)) (own_names us j) in
-    let among = Member-flat_map of (range_with_len 0 (length us)) k (name_for us (entity_of us k run.name)) (Member-range 0 (length us) k (omega arith) (omega (arith, here))) (Member-map (λ x. name_for us (entity_of us k x)) (own_names us k) run.name own) in
-    let mine = subst (λ (f : Entity). Member (names_of_all us) (name_for us f)) run.is among in
-    list_any_member (bytes_eq (name_for us e)) (names_of_all us) (name_for us e) mine ((bytes_eq-Decides (name_for us e) (name_for us e)).1 refl)
-
 -- ---- places
 
-module _ (us : List (List Labelled)) (checked : Bool) (formed : IsWellFormed (program (whole_list us) checked)) where
+module _ (us : List (List Labelled)) (checked : Bool) (formed : IsWellFormed (program (whole_list us) checked)) (numbers : HaveNumbers us) where
   abbrev p : Program
   p = program (whole_list us) checked
 
@@ -79,14 +56,11 @@ module _ (us : List (List Labelled)) (checked : Bool) (formed : IsWellFormed (pr
   abbrev index : Entity → ℕ
   index e = index_of names (name_for us e)
 
-  abbrev behind : Entity → ℕ
-  behind e = position_or_len (bytes_eq (name_for us e)) (names_of_all us)
-
   abbrev pub spare_spot : Entity → ℕ
-  spare_spot e = if nat_lt (index e) (length names) then listed_spot us names e else p.words + behind e
+  spare_spot e = if nat_lt (index e) (length names) then listed_spot us names e else p.words + numbers.number e
 
   abbrev spare : ℕ
-  spare = length (names_of_all us)
+  spare = numbers.count
 
   abbrev pub all_words : ℕ
   all_words = p.words + spare
@@ -95,10 +69,10 @@ module _ (us : List (List Labelled)) (checked : Bool) (formed : IsWellFormed (pr
   spare_opening = p.initial ++ replicate spare (pos 0)
 
   known-spot : (e : Entity) → IsKnown us names e → spare_spot e ≡ listed_spot us names e
-  known-spot e known = ap (λ (b : Bool). if b then listed_spot us names e else p.words + behind e) (lt-ltb (index e) (length names) known)
+  known-spot e known = ap (λ (b : Bool). if b then listed_spot us names e else p.words + numbers.number e) (lt-ltb (index e) (length names) known)
 
-  other-spot : (e : Entity) → length names ≤ index e → spare_spot e ≡ p.words + behind e
-  other-spot e most = let test : nat_lt (index e) (length names) ≡ false = grind (arith, nat_tests, most) in ap (λ (b : Bool). if b then listed_spot us names e else p.words + behind e) test
+  other-spot : (e : Entity) → length names ≤ index e → spare_spot e ≡ p.words + numbers.number e
+  other-spot e most = let test : nat_lt (index e) (length names) ≡ false = grind (arith, nat_tests, most) in ap (λ (b : Bool). if b then listed_spot us names e else p.words + numbers.number e) test
 
   pub pair-same : (v w : ℕ) → IsPaired us names spare_spot (listed_spot us names) v w → v ≡ w
   pair-same v w is = let first = is.first in let second = is.second in let same = known-spot is.entity is.shown.known in omega (arith, first, second, same)
@@ -182,32 +156,22 @@ module _ (us : List (List Labelled)) (checked : Bool) (formed : IsWellFormed (pr
     one-word : (e : Entity) → IsOfRun us e → length names ≤ index e → size_in us e ≡ pos 1
     one-word e run most = sym (size e run) ∙ ap (λ (o : Option NameInfo). size_of (dims_in o)) (slice_get_past names (index e) most)
 
-    place-of : (e : Entity) → IsOfRun us e → IsFound bytes_eq [] (name_for us e) (names_of_all us)
-    place-of e run = found bytes_eq [] (name_for us e) (names_of_all us) (named us e run)
-
     within : (e : Entity) → IsOfRun us e → (pos (spare_spot e) +ℤ size_in us e) ≤ℤ pos all_words
     within e run = ⊎_elim
         (λ (known : IsKnown us names e). let here = known-within e run known in omega (arith, ints, here))
-        (λ (most : length names ≤ index e). let same = other-spot e most in let many = one-word e run most in let less = (place-of e run).within in omega (arith, ints, same, many, less))
+        (λ (most : length names ≤ index e). let same = other-spot e most in let many = one-word e run most in let less = numbers.within e run in omega (arith, ints, same, many, less))
         (cases_lt (index e) (length names))
 
     word-below : (e : Entity) (word : ℕ) → IsOfRun us e → IsKnown us names e → IsWordOf us spare_spot e word → word < p.words
     word-below e word run known is = let inside = known-within e run known in let last = is.ends in omega (arith, ints, inside, last)
 
-    word-behind : (e : Entity) (word : ℕ) → IsOfRun us e → length names ≤ index e → IsWordOf us spare_spot e word → word ≡ p.words + behind e
+    word-behind : (e : Entity) (word : ℕ) → IsOfRun us e → length names ≤ index e → IsWordOf us spare_spot e word → word ≡ p.words + numbers.number e
     word-behind e word run most is = let same = other-spot e most in let many = one-word e run most in let first = is.begins in let last = is.ends in omega (arith, ints, same, many, first, last)
 
     listed-word : (e : Entity) (word : ℕ) → IsKnown us names e → IsWordOf us spare_spot e word → IsWordOf us (listed_spot us names) e word
     listed-word e word known is =
         let same = known-spot e known in
         record { begins = let first = is.begins in omega (arith, same, first); ends = let last = is.ends in omega (arith, ints, same, last) }
-
-    same-name : (e f : Entity) → IsOfRun us e → IsOfRun us f → behind e ≡ behind f → name_for us e ≡ name_for us f
-    same-name e f one two same =
-        let all = names_of_all us in
-        let mine : name_for us e ≡ get_or all (behind e) [] = bytes_eq-same (name_for us e) (get_or all (behind e) []) (place-of e one).equal in
-        let other : name_for us f ≡ get_or all (behind f) [] = bytes_eq-same (name_for us f) (get_or all (behind f) []) (place-of f two).equal in
-        mine ∙ ap (λ (i : ℕ). get_or all i []) same ∙ sym other
 
     linked : (e f : Entity) (word : ℕ) → IsOfRun us e → IsOfRun us f → IsWordOf us spare_spot e word → IsWordOf us spare_spot f word → Linked us e f
     linked e f word one two at_e at_f = by (cases_lt (index e) (length names)) (cases_lt (index f) (length names))
@@ -219,22 +183,21 @@ module _ (us : List (List Labelled)) (checked : Bool) (formed : IsWellFormed (pr
         by (inr a) (inr b) =
             let mine = word-behind e word one a at_e in
             let other = word-behind f word two b at_f in
-            let same : e ≡ f = apart e f one two (same-name e f one two (omega (arith, mine, other))) in
+            let same : e ≡ f = apart e f one two (numbers.apart e f one two (omega (arith, mine, other))) in
             subst (λ (g : Entity). Linked us e g) same itself
 
     abbrev Given : ℕ → ℕ × Lit → Type 0
     Given k q = Contains (given (placed us spare_spot k [] (own_program (unit_at us k) checked).names) (all_inits (unit_at us k))) q
 
-    pub storage : spare ≤ 2147221503
-        → ((k : ℕ) (q : ℕ × Lit) → runs us k ≡ true → Given k q → (w : ℕ) × IsPaired us names spare_spot (listed_spot us names) q.0 w × Member (given names (all_inits (whole_list us))) (w, q.1))
+    pub storage : ((k : ℕ) (q : ℕ × Lit) → runs us k ≡ true → Given k q → (w : ℕ) × IsPaired us names spare_spot (listed_spot us names) q.0 w × Member (given names (all_inits (whole_list us))) (w, q.1))
         → ((v w : ℕ) → IsPaired us names spare_spot (listed_spot us names) v w → w < p.words)
         → ((w : ℕ) (c : Lit) → Member (given names (all_inits (whole_list us))) (w, c) → ((k : ℕ) (q : ℕ × Lit) → runs us k ≡ true → Given k q → q.0 ≡ w → ⊥) → ⊥)
         → IsStorage us checked spare_spot all_words spare_opening
-    storage few to-list room-there from-list = record {
+    storage to-list room-there from-list = record {
       distances = distance;
       within = within;
       apart = linked;
-      few = let most = formed.word_count in omega (arith, few, most);
+      few = let most = formed.word_count in let few = numbers.few in omega (arith, few, most);
       as_many = let one = length-append p.initial (replicate spare (pos 0)) in let many = formed.initial_count in let more = length-replicate spare (pos 0) in omega (arith, one, many, more);
       given_words = λ k q run among.
           let there = to-list k q run among in

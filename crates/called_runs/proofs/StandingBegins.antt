@@ -5,9 +5,9 @@ use Rattle.std.specs.List.{slice_get}
 use Rattle.f77_tree.specs.declared.statements.Labelled.{Labelled}
 use Rattle.f77_tree.specs.declared.statements.Stmt.{Stmt}
 use Rattle.f77_tree.specs.declared.statements.Stmt.TheVariants.{ElseIf, Else}
-use Rattle.f77_layout.specs.Executables.{first_of, met, own_executables}
-use Rattle.f77_layout.specs.Jumps.{end_of_block, is_block_if, is_end_if}
-use Rattle.f77_layout.specs.Labels.{is_arm, is_executable}
+use Rattle.layout_rules.specs.Executables.{first_of, met, own_executables}
+use Rattle.layout_rules.specs.Jumps.{end_of_block, is_block_if, is_end_if}
+use Rattle.layout_rules.specs.Labels.{is_arm, is_executable}
 use Rattle.f77_subs.specs.Units.{unit_at}
 use Rattle.f77_subs.specs.Copies.{Context}
 use Rattle.f77_subs.specs.OpenBlocks.{are_closed}

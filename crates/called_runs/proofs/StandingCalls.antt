@@ -4,9 +4,9 @@ use Rattle.std.specs.List.{slice_get}
 use Rattle.f77_tree.specs.declared.statements.Labelled.{Labelled}
 use Rattle.f77_tree.specs.declared.statements.RawExpr.{RawExpr}
 use Rattle.f77_tree.specs.declared.statements.Stmt.TheVariants.{Continue, BlockIf}
-use Rattle.f77_layout.specs.Executables.{beyond, first_of, met, met_after}
-use Rattle.f77_layout.specs.Jumps.{end_of_block}
-use Rattle.f77_layout.specs.Labels.{is_arm, is_executable}
+use Rattle.layout_rules.specs.Executables.{beyond, first_of, met, met_after}
+use Rattle.layout_rules.specs.Jumps.{end_of_block}
+use Rattle.layout_rules.specs.Labels.{is_arm, is_executable}
 use Rattle.f77_subs.specs.Units.{Call, call_in, guard_of, unit_at, unit_of}
 use Rattle.f77_subs.specs.Entities.{stands_for}
 use Rattle.f77_subs.specs.Widths.{body_labels, is_kept}

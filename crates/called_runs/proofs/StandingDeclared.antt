@@ -11,8 +11,8 @@ use Rattle.f77_tree.specs.declared.declarations.Member.{Member}
 use Rattle.f77_tree.specs.declared.statements.Labelled.{Labelled}
 use Rattle.f77_tree.specs.declared.statements.Stmt.{Stmt, more_of-Stmt}
 use Rattle.f77_tree.specs.declared.statements.Stmt.TheVariants.{Program, Implicit, ImplicitNone, TypeOf, Dimension, Common, Equivalence, Init, Assign, Print, Take, Continue, Stop, GoTo, PickGoTo, SignIf, ThenIf', BlockIf, ElseIf, Else, EndIf, Do, Sub, CallTo, Back, End}
-use Rattle.f77_layout.specs.Declarations.{all_commons, all_declarators, all_groups, all_inits, declarators, dims_told, dims_or_none, groups_of, inits_of, is_implicit_none, kind_by_default, kind_implied, kind_of, kind_typed, parts_of}
-use Rattle.f77_layout.specs.Faults.{answer_or, first_answer}
+use Rattle.layout_rules.specs.Declarations.{all_commons, all_declarators, all_groups, all_inits, declarators, dims_told, dims_or_none, groups_of, inits_of, is_implicit_none, kind_by_default, kind_implied, kind_of, kind_typed, parts_of}
+use Rattle.layout_rules.specs.Faults.{answer_or, first_answer}
 use Rattle.called_runs.specs.DeclaredNames.{AreDeclaredAlike}
 use Rattle.f77_subs.specs.Units.{stand_in, standing_in}
 

@@ -6,7 +6,7 @@ use Rattle.std.proofs.lemmas.Option.{slice_get_within}
 use Rattle.f77_tree.specs.declared.statements.Labelled.{Labelled}
 use Rattle.f77_tree.specs.declared.statements.Stmt.{Stmt}
 use Rattle.f77_tree.specs.declared.statements.Stmt.TheVariants.{Do}
-use Rattle.f77_layout.specs.Executables.{exit_after, exit_among, first_of, is_do_to, loops_to, own_executables}
+use Rattle.layout_rules.specs.Executables.{exit_after, exit_among, first_of, is_do_to, loops_to, own_executables}
 use Rattle.f77_subs.specs.Units.{Call, call_in, is_end, unit_at}
 use Rattle.f77_subs.specs.Widths.{is_kept}
 use Rattle.f77_subs.specs.Copies.{Context, number_at}

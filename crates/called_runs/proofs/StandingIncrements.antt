@@ -11,7 +11,7 @@ use Rattle.f77_tree.specs.declared.statements.RawExpr.{RawExpr}
 use Rattle.f77_tree.specs.declared.statements.Stmt.{Stmt}
 use Rattle.f77_tree.specs.declared.statements.Stmt.TheVariants.{Do}
 use Rattle.f77_tree.specs.Declarations.{index_of}
-use Rattle.f77_layout.specs.Executables.{exit_after, first_of, increments, is_do, is_do_to, loop_number, loops_to, own_executables, variable_of}
+use Rattle.layout_rules.specs.Executables.{exit_after, first_of, increments, is_do, is_do_to, loop_number, loops_to, own_executables, variable_of}
 use Rattle.f77_subs.specs.Units.{is_end, standing_in, unit_at}
 use Rattle.f77_subs.specs.Widths.{is_kept}
 use Rattle.f77_subs.specs.Copies.{Context, changed_stmt, changes}

@@ -4,8 +4,8 @@ use Rattle.std.specs.List.{slice_get}
 use Rattle.std.proofs.lemmas.Bool.{and_parts, eqb-true, ne_eqb}
 use Rattle.std.proofs.lemmas.Option.{slice_get_within}
 use Rattle.f77_tree.specs.declared.statements.Labelled.{Labelled}
-use Rattle.f77_layout.specs.Executables.{first_of, labelled}
-use Rattle.f77_layout.specs.Labels.{is_arm, is_executable, statement_of}
+use Rattle.layout_rules.specs.Executables.{first_of, labelled}
+use Rattle.layout_rules.specs.Labels.{is_arm, is_executable, statement_of}
 use Rattle.f77_layout.specs.Leading.{IsLedTo}
 use Rattle.f77_subs.specs.Units.{Call, call_in, is_end, standing_in, unit_at}
 use Rattle.f77_subs.specs.Widths.{is_kept, labels, labels_by, body_labels}

@@ -15,11 +15,11 @@ use Rattle.f77_tree.specs.declared.statements.Stmt.{Stmt, more_of-Stmt}
 use Rattle.f77_tree.specs.declared.statements.Stmt.TheVariants.{Program, Implicit, ImplicitNone, TypeOf, Dimension, Common, Equivalence, Init, Assign, Print, Take, Continue, Stop, GoTo, PickGoTo, SignIf, ThenIf', BlockIf, ElseIf, Else, EndIf, Do, Sub, CallTo, Back, End}
 use Rattle.f77_tree.specs.Declarations.{IsDim, IsNameInfo}
 use Rattle.f77_tree.specs.Value.{size_of}
-use Rattle.f77_layout.proofs.NamesOf.{appearing-ThenIf}
-use Rattle.f77_layout.specs.Appearances.{all_names, appearing, names_in}
-use Rattle.f77_layout.specs.Declarations.{dims_of, is_array}
-use Rattle.f77_layout.specs.Layout.{name_info, names_of, placed_from, placed_names, spots_of}
-use Rattle.f77_layout.specs.Storage.{Spot}
+use Rattle.layout_rules.proofs.NamesOf.{appearing-ThenIf}
+use Rattle.layout_rules.specs.Appearances.{all_names, appearing, names_in}
+use Rattle.layout_rules.specs.Declarations.{dims_of, is_array}
+use Rattle.layout_rules.specs.Layout.{name_info, names_of, placed_from, placed_names, spots_of}
+use Rattle.layout_rules.specs.Storage.{Spot}
 use Rattle.f77_subs.proofs.StoredNames.{told-all}
 use Rattle.f77_subs.specs.declared.entity.Entity.{Entity}
 use Rattle.f77_subs.specs.Entities.{stands_for}

@@ -7,9 +7,9 @@ use Rattle.std.proofs.lemmas.Option.{slice_get_within}
 use Rattle.f77_tree.specs.declared.statements.Labelled.{Labelled}
 use Rattle.f77_tree.specs.declared.statements.Stmt.{Stmt}
 use Rattle.f77_tree.specs.declared.statements.Stmt.TheVariants.{ElseIf, Else, EndIf}
-use Rattle.f77_layout.specs.Executables.{beyond, first_of, is_else_at, loops_to, met, own_executables, when_false}
-use Rattle.f77_layout.specs.Jumps.{end_of_arm, is_block_if, is_end_if}
-use Rattle.f77_layout.specs.Labels.{is_arm}
+use Rattle.layout_rules.specs.Executables.{beyond, first_of, is_else_at, loops_to, met, own_executables, when_false}
+use Rattle.layout_rules.specs.Jumps.{end_of_arm, is_block_if, is_end_if}
+use Rattle.layout_rules.specs.Labels.{is_arm}
 use Rattle.f77_subs.specs.Units.{Call, call_in, is_end, standing_in, unit_at}
 use Rattle.f77_subs.specs.Widths.{is_kept}
 use Rattle.f77_subs.specs.Copies.{Context, changes, changed_stmt}

@@ -9,12 +9,11 @@ use Rattle.f77_tree.specs.declared.statements.RawExpr.{RawExpr}
 use Rattle.f77_tree.specs.declared.statements.Stmt.{Stmt, more_of-Stmt}
 use Rattle.f77_tree.specs.declared.statements.Stmt.TheVariants.{Program, Implicit, ImplicitNone, TypeOf, Dimension, Common, Equivalence, Init, Assign, Print, Take, Continue, Stop, GoTo, PickGoTo, SignIf, ThenIf', BlockIf, ElseIf, Else, EndIf, Do, Sub, CallTo, Back, End}
 use Rattle.f77_tree.proofs.AllLemmas.{All-get}
-use Rattle.f77_layout.specs.Executables.{beyond, first_of, is_do, is_do_to, labelled, loop_number, met, own_executables, own_kinds, exit_of, when_false}
-use Rattle.f77_layout.specs.Jumps.{is_block_if}
-use Rattle.f77_layout.specs.LabelTable.{IsLabel}
-use Rattle.f77_layout.specs.Labels.{is_arm, jumps, used}
-use Rattle.f77_layout.specs.StatementTrees.{IsTree}
-use Rattle.f77_layout.specs.Tables.{has_simple_inner, is_simple}
+use Rattle.layout_rules.specs.Executables.{beyond, first_of, is_do, is_do_to, labelled, loop_number, met, own_executables, own_kinds, exit_of, when_false}
+use Rattle.layout_rules.specs.Jumps.{is_block_if}
+use Rattle.layout_rules.specs.Labels.{IsLabel, is_arm, jumps, used}
+use Rattle.layout_rules.specs.StatementTrees.{IsTree}
+use Rattle.layout_rules.specs.Tables.{has_simple_inner, is_simple}
 use Rattle.f77_subs.specs.Units.{call_by, call_in, inner, is_end, stand_in, stand_in_alone, standing_in, unit_at}
 use Rattle.f77_subs.specs.Copies.{Context, changed_stmt, changes}
 use Rattle.copied_control.proofs.WhichPieces.{IsPlain}

@@ -9,10 +9,10 @@ use Rattle.f77_tree.specs.declared.statements.Labelled.{Labelled}
 use Rattle.f77_tree.specs.declared.statements.Stmt.{Stmt}
 use Rattle.f77_tree.specs.declared.statements.Stmt.TheVariants.{End}
 use Rattle.f77_tree.proofs.AllLemmas.{All-get}
-use Rattle.f77_layout.specs.Executables.{first_of, loops_to, met, own_executables}
-use Rattle.f77_layout.specs.Jumps.{end_of_block, is_block_if}
-use Rattle.f77_layout.specs.Labels.{is_arm, is_executable}
-use Rattle.f77_layout.specs.StatementTrees.{IsTree}
+use Rattle.layout_rules.specs.Executables.{first_of, loops_to, met, own_executables}
+use Rattle.layout_rules.specs.Jumps.{end_of_block, is_block_if}
+use Rattle.layout_rules.specs.Labels.{is_arm, is_executable}
+use Rattle.layout_rules.specs.StatementTrees.{IsTree}
 use Rattle.f77_subs.specs.Units.{is_end, stand_in, standing_in, unit_at}
 use Rattle.f77_subs.specs.Widths.{is_kept}
 use Rattle.f77_subs.specs.Copies.{Context, changes, number_at}

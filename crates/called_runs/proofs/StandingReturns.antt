@@ -6,8 +6,8 @@ use Rattle.f77_tree.specs.declared.statements.Labelled.{Labelled}
 use Rattle.f77_tree.specs.declared.statements.RawExpr.{RawExpr}
 use Rattle.f77_tree.specs.declared.statements.Stmt.{Stmt}
 use Rattle.f77_tree.specs.declared.statements.Stmt.TheVariants.{Continue, BlockIf, EndIf, End}
-use Rattle.f77_layout.specs.Executables.{beyond, first_of, is_else_at, labelled, met, own_executables, when_false}
-use Rattle.f77_layout.specs.Labels.{is_arm, is_executable, statement_of}
+use Rattle.layout_rules.specs.Executables.{beyond, first_of, is_else_at, labelled, met, own_executables, when_false}
+use Rattle.layout_rules.specs.Labels.{is_arm, is_executable, statement_of}
 use Rattle.f77_subs.specs.Units.{Call, call_in, guard_of, is_end, unit_at, unit_of}
 use Rattle.f77_subs.specs.Entities.{stands_for}
 use Rattle.f77_subs.specs.Widths.{body_labels, body_width, is_kept, labels}

@@ -4,7 +4,7 @@ use Rattle.f77_tree.specs.declared.programs.Program.{Program}
 use Rattle.f77_tree.specs.declared.statements.Labelled.{Labelled}
 use Rattle.f77_tree.specs.declared.statements.RawExpr.{RawExpr}
 use Rattle.f77_tree.specs.Run.{State}
-use Rattle.f77_layout.specs.Executables.{first_of, own_executables}
+use Rattle.layout_rules.specs.Executables.{first_of, own_executables}
 use Rattle.f77_subs.specs.declared.entity.Entity.{Entity}
 use Rattle.f77_subs.specs.Calls.{CallState}
 use Rattle.f77_subs.specs.Contexts.{IsReached}

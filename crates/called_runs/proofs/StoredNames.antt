@@ -16,9 +16,9 @@ use Rattle.f77_tree.specs.declared.statements.Stmt.{Stmt}
 use Rattle.f77_tree.specs.declared.statements.Stmt.TheVariants.{Common, Equivalence, Init}
 use Rattle.f77_tree.specs.declared.declarations.Member.{Member as Named}
 use Rattle.f77_tree.specs.Places.{same_block}
-use Rattle.f77_layout.specs.Appearances.{appearing}
-use Rattle.f77_layout.specs.Declarations.{all_commons, all_groups, all_inits, groups_of, inits_of, is_array, parts_of}
-use Rattle.f77_layout.specs.Faults.{has_repeat}
+use Rattle.layout_rules.specs.Appearances.{appearing}
+use Rattle.layout_rules.specs.Declarations.{all_commons, all_groups, all_inits, groups_of, inits_of, is_array, parts_of}
+use Rattle.layout_rules.specs.Faults.{has_repeat}
 use Rattle.f77_subs.proofs.AcceptedTables.{or-parts}
 use Rattle.f77_subs.proofs.StoredNames.{told-all}
 use Rattle.f77_subs.specs.Entities.{block_list, entity_of}

@@ -11,9 +11,9 @@ use Rattle.f77_tree.specs.declared.statements.Stmt.TheVariants.{Continue, ThenIf
 use Rattle.f77_tree.specs.Execution.{Outcome, outcome}
 use Rattle.f77_tree.specs.Run.{State, step, after as program_after}
 use Rattle.f77_tree.proofs.RunLaws.{step-running}
-use Rattle.f77_layout.specs.Executables.{beyond, first_of, met, own_kinds, when_false}
-use Rattle.f77_layout.specs.Labels.{is_executable}
-use Rattle.f77_layout.specs.Resolved.{resolved}
+use Rattle.layout_rules.specs.Executables.{beyond, first_of, met, own_kinds, when_false}
+use Rattle.layout_rules.specs.Labels.{is_executable}
+use Rattle.layout_rules.specs.Resolved.{resolved}
 use Rattle.f77_subs.specs.declared.entity.Entity.{Entity}
 use Rattle.f77_subs.specs.Calls.{CallState, Does, after}
 use Rattle.f77_subs.specs.Contexts.{IsReached, called}

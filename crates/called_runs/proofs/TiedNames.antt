@@ -14,14 +14,14 @@ use Rattle.f77_tree.specs.declared.statements.Labelled.{Labelled}
 use Rattle.f77_tree.specs.Declarations.{index_of}
 use Rattle.f77_tree.specs.OtherPlaces.{DifferInPlaces}
 use Rattle.f77_tree.specs.Value.{place_of, size_of}
-use Rattle.f77_layout.proofs.NameTable.{appearing_index, appearing_kind, arrays_in_table, dims_in_table}
-use Rattle.f77_layout.specs.Appearances.{appearing}
-use Rattle.f77_layout.specs.Declarations.{dims_of, is_array, kind_of}
-use Rattle.f77_layout.specs.Executables.{kind_or_integer}
-use Rattle.f77_layout.specs.Labels.{is_executable}
-use Rattle.f77_layout.specs.Layout.{names_of}
-use Rattle.f77_layout.specs.Tables.{has_simple_inner}
-use Rattle.f77_layout.specs.Types.{is_array_in, is_well_kinded}
+use Rattle.storage_laws.proofs.NameTable.{appearing_index, appearing_kind, arrays_in_table, dims_in_table}
+use Rattle.layout_rules.specs.Appearances.{appearing}
+use Rattle.layout_rules.specs.Declarations.{dims_of, is_array, kind_of}
+use Rattle.layout_rules.specs.Executables.{kind_or_integer}
+use Rattle.layout_rules.specs.Labels.{is_executable}
+use Rattle.layout_rules.specs.Layout.{names_of}
+use Rattle.layout_rules.specs.Tables.{has_simple_inner}
+use Rattle.layout_rules.specs.Types.{is_array_in, is_well_kinded}
 use Rattle.copied_values.proofs.SameTrees.{same-dims, same-index, same-kind}
 use Rattle.copied_values.specs.ChangedTables.{IsKnownAs}
 use Rattle.f77_subs.proofs.StoredNames.{told-all}

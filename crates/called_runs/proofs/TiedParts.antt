@@ -7,8 +7,8 @@ use Rattle.f77_tree.specs.declared.programs.NameInfo.{NameInfo}
 use Rattle.f77_tree.specs.declared.statements.RawExpr.{RawExpr}
 use Rattle.f77_tree.specs.declared.statements.Stmt.{Stmt, more_of-Stmt}
 use Rattle.f77_tree.specs.declared.statements.Stmt.TheVariants.{ThenIf', BlockIf, ElseIf}
-use Rattle.f77_layout.specs.Appearances.{appearing, names_in}
-use Rattle.f77_layout.specs.Types.{is_of_kind, is_well_kinded}
+use Rattle.layout_rules.specs.Appearances.{appearing, names_in}
+use Rattle.layout_rules.specs.Types.{is_of_kind, is_well_kinded}
 use Rattle.f77_subs.specs.Copies.{Change}
 use Rattle.f77_subs.specs.Units.{guard_of, inner}
 use Rattle.copied_values.specs.SideBySide.{AreTied}

@@ -6,15 +6,15 @@ use Rattle.std.proofs.lemmas.Bool.{ne_eqb}
 use Rattle.std.proofs.lemmas.List.Elements.{All-contains}
 use Rattle.std.proofs.lemmas.Option.{slice_get-map}
 use Rattle.f77_tree.specs.declared.statements.Labelled.{Labelled}
-use Rattle.f77_layout.specs.declared.layout_end.LayoutEnd.TheVariants.{TypeWrong}
-use Rattle.f77_layout.proofs.LabelLemmas.{faultless}
-use Rattle.f77_layout.specs.Faults.{first_line}
-use Rattle.f77_layout.specs.Layout.{at_line, names_of, refusals}
-use Rattle.f77_layout.specs.Source.{IsSource}
-use Rattle.f77_layout.specs.StatementTrees.{IsTree}
-use Rattle.f77_layout.specs.Tables.{has_simple_inner}
-use Rattle.f77_layout.specs.TypeFaults.{has_wrong_type, implies_twice, is_beside_none, types_twice}
-use Rattle.f77_layout.specs.Types.{is_well_kinded}
+use Rattle.layout_rules.specs.declared.layout_end.LayoutEnd.TheVariants.{TypeWrong}
+use Rattle.control_structure.proofs.LabelLemmas.{faultless}
+use Rattle.layout_rules.specs.Faults.{first_line}
+use Rattle.layout_rules.specs.Layout.{at_line, names_of, refusals}
+use Rattle.layout_rules.specs.Source.{IsSource}
+use Rattle.layout_rules.specs.StatementTrees.{IsTree}
+use Rattle.layout_rules.specs.Tables.{has_simple_inner}
+use Rattle.layout_rules.specs.TypeFaults.{has_wrong_type, implies_twice, is_beside_none, types_twice}
+use Rattle.layout_rules.specs.Types.{is_well_kinded}
 use Rattle.f77_subs.proofs.AcceptedTables.{not-not, or-parts}
 use Rattle.f77_subs.proofs.NoAnswer.{laid, line-none, none-at}
 use Rattle.f77_subs.specs.Contexts.{IsReached, called, main}

@@ -4,7 +4,7 @@ use Rattle.std.specs.Prelude.{slice_index}
 use Rattle.f77_tree.specs.declared.statements.Labelled.{Labelled}
 use Rattle.f77_tree.specs.Execution.{Memory}
 use Rattle.f77_tree.specs.Value.{word_at}
-use Rattle.f77_layout.specs.Executables.{beyond}
+use Rattle.layout_rules.specs.Executables.{beyond}
 use Rattle.f77_subs.specs.Calls.{Frame}
 use Rattle.f77_subs.specs.Contexts.{IsReached, called, main}
 use Rattle.f77_subs.specs.Copies.{Context}

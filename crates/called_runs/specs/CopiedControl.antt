@@ -3,7 +3,7 @@ use Rattle.std.specs.Prelude.{◌≡◌, ℕ, ◌+◌, Bool, List, map, Some}
 use Rattle.f77_tree.specs.declared.programs.NameInfo.{NameInfo}
 use Rattle.f77_tree.specs.declared.statements.Labelled.{Labelled}
 use Rattle.f77_tree.specs.declared.statements.RawExpr.{RawExpr}
-use Rattle.f77_layout.specs.Executables.{beyond, first_of, increments, loops_to, own_executables, own_kinds}
+use Rattle.layout_rules.specs.Executables.{beyond, first_of, increments, loops_to, own_executables, own_kinds}
 use Rattle.f77_subs.specs.Copies.{Context, changed_stmt, changes}
 use Rattle.f77_subs.specs.Expansion.{whole_list}
 use Rattle.f77_subs.specs.Units.{stand_in, standing_in, unit_at}

@@ -9,9 +9,9 @@ use Rattle.f77_tree.specs.declared.statements.Stmt.{Stmt}
 use Rattle.f77_tree.specs.declared.statements.Stmt.TheVariants.{Assign, Print, Take, PickGoTo, SignIf, ThenIf', BlockIf, ElseIf, Do}
 use Rattle.f77_tree.specs.Declarations.{index_of}
 use Rattle.f77_tree.specs.Kinds.{taken_as}
-use Rattle.f77_layout.specs.Executables.{kind_or_integer}
-use Rattle.f77_layout.specs.Resolved.{access_of, resolved, resolved_item, resolved_step}
-use Rattle.f77_layout.specs.Types.{kind_in}
+use Rattle.layout_rules.specs.Executables.{kind_or_integer}
+use Rattle.layout_rules.specs.Resolved.{access_of, resolved, resolved_item, resolved_step}
+use Rattle.layout_rules.specs.Types.{kind_in}
 use Rattle.f77_subs.specs.Copies.{Change, changed, changed_item, changed_step}
 
 -- the condition of an IF or ELSE IF

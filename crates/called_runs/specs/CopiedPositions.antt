@@ -4,7 +4,7 @@ use Rattle.f77_tree.specs.declared.statements.Labelled.{Labelled}
 use Rattle.f77_tree.specs.declared.statements.RawExpr.{RawExpr}
 use Rattle.f77_tree.specs.declared.statements.Stmt.{Stmt}
 use Rattle.f77_tree.specs.declared.statements.Stmt.TheVariants.{Continue, Stop, Back}
-use Rattle.f77_layout.specs.Executables.{first_of, is_do, is_do_to, labelled, loop_number, loops_to, own_executables}
+use Rattle.layout_rules.specs.Executables.{first_of, is_do, is_do_to, labelled, loop_number, loops_to, own_executables}
 use Rattle.f77_subs.specs.Units.{Call, call_in, guard_of, inner, is_end, stand_in, unit_at, unit_of}
 use Rattle.f77_subs.specs.Widths.{body_labels, is_kept}
 use Rattle.f77_subs.specs.Contexts.{IsReached}

@@ -1,7 +1,7 @@
 -- What units declare of names, and of what these stand for.
 use Rattle.std.specs.Prelude.{◌≡◌, ℕ, List}
 use Rattle.f77_tree.specs.declared.statements.Labelled.{Labelled}
-use Rattle.f77_layout.specs.Declarations.{dims_of, kind_of}
+use Rattle.layout_rules.specs.Declarations.{dims_of, kind_of}
 use Rattle.f77_subs.specs.declared.entity.Entity.{Entity}
 use Rattle.f77_subs.specs.Expansion.{declared_in}
 

@@ -2,8 +2,8 @@
 use Rattle.std.specs.Prelude.{◌≡◌, Bool, List, None, Ok}
 use Rattle.f77_tree.specs.declared.programs.Program.{Program}
 use Rattle.f77_tree.specs.declared.statements.Labelled.{Labelled}
-use Rattle.f77_layout.specs.Layout.{layout}
-use Rattle.f77_layout.specs.Source.{IsSource}
+use Rattle.layout_rules.specs.Layout.{layout}
+use Rattle.layout_rules.specs.Source.{IsSource}
 use Rattle.f77_subs.specs.Expansion.{whole_list}
 use Rattle.f77_subs.specs.Refusals.{unit_refusal}
 use Rattle.f77_subs.specs.Texts.{IsText}

@@ -7,7 +7,7 @@ use Rattle.f77_tree.specs.Loops.{InRange}
 use Rattle.f77_tree.specs.Run.{Running, State}
 use Rattle.f77_tree.specs.Steps.{IsMemoryOf}
 use Rattle.f77_tree.specs.Value.{word_at}
-use Rattle.f77_layout.specs.Executables.{beyond}
+use Rattle.layout_rules.specs.Executables.{beyond}
 use Rattle.f77_subs.specs.Calls.{CallState, Frame}
 use Rattle.f77_subs.specs.Copies.{Context}
 use Rattle.f77_subs.specs.Expansion.{main_context, whole_list}

@@ -4,7 +4,7 @@ use Rattle.f77_tree.specs.declared.programs.NameInfo.{NameInfo}
 use Rattle.f77_tree.specs.declared.statements.Labelled.{Labelled}
 use Rattle.f77_tree.specs.Declarations.{index_of}
 use Rattle.f77_tree.specs.Value.{place_of, size_of}
-use Rattle.f77_layout.specs.Types.{dims_named}
+use Rattle.layout_rules.specs.Types.{dims_named}
 use Rattle.f77_subs.specs.Copies.{Change}
 use Rattle.f77_subs.specs.declared.entity.Entity.{Entity}
 use Rattle.f77_subs.specs.Entities.{stands_for}

@@ -4,7 +4,7 @@ ghost use Rattle.std.specs.Prelude.{◌≡◌, ◌+◌, Bool, true, false, ℕ, 
 ghost use Rattle.f77_tree.specs.declared.programs.NameInfo.{NameInfo};
 ghost use Rattle.f77_tree.specs.declared.programs.Program.{Program};
 ghost use Rattle.f77_tree.specs.declared.statements.Labelled.{Labelled};
-ghost use Rattle.f77_layout.specs.Executables.{beyond, first_of, labelled};
+ghost use Rattle.layout_rules.specs.Executables.{beyond, first_of, labelled};
 ghost use Rattle.f77_subs.specs.Copies.{Context, changes};
 ghost use Rattle.f77_subs.specs.Expansion.{whole_list};
 ghost use Rattle.f77_subs.specs.ListedCopies.{called_context, copied_place, lines_before};

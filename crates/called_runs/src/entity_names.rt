@@ -2,8 +2,8 @@
 
 ghost use Rattle.std.specs.Prelude.{◌≡◌, Bool, ℕ, List, None, Option, Some, slice_get};
 ghost use Rattle.f77_tree.specs.declared.statements.Labelled.{Labelled};
-ghost use Rattle.f77_layout.specs.Declarations.{dims_of, kind_of};
-ghost use Rattle.f77_layout.specs.Executables.{kind_or_integer};
+ghost use Rattle.layout_rules.specs.Declarations.{dims_of, kind_of};
+ghost use Rattle.layout_rules.specs.Executables.{kind_or_integer};
 ghost use Rattle.f77_subs.specs.declared.entity.Entity.{Entity};
 ghost use Rattle.f77_subs.specs.declared.entity.Entity.TheVariants.{InBlock};
 ghost use Rattle.f77_subs.specs.Entities.{block_list, entity_of};

@@ -3,8 +3,8 @@
 ghost use Rattle.std.specs.Prelude.{◌≡◌, Bool, List, Ok};
 ghost use Rattle.f77_tree.specs.declared.programs.Program.{Program};
 ghost use Rattle.f77_tree.specs.declared.statements.Labelled.{Labelled};
-ghost use Rattle.f77_layout.specs.Layout.{layout};
-ghost use Rattle.f77_layout.specs.Source.{IsSource};
+ghost use Rattle.layout_rules.specs.Layout.{layout};
+ghost use Rattle.layout_rules.specs.Source.{IsSource};
 ghost use Rattle.f77_subs.specs.Refusals.{expansion};
 ghost use Rattle.f77_subs.specs.Texts.{IsText};
 ghost use Rattle.called_runs.specs.Expanded.{IsExpanded};

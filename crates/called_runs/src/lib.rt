@@ -4,7 +4,7 @@
 
 mod contexts;
 mod control;
-mod declared_names;
+mod copied_names;
 mod entity_names;
 mod expanded;
 mod listed_storage;
@@ -18,7 +18,7 @@ pub use contexts::{
     tables_have_entities,
 };
 pub use control::copies_keep_control;
-pub use declared_names::{copied_names_are_declared_alike, stand_ins_are_declared_alike};
+pub use copied_names::{copied_names_are_declared_alike, stand_ins_are_declared_alike};
 pub use entity_names::{entities_keep_their_declarations, names_of_blocks_stand_once};
 pub use expanded::laid_expansions_are_expanded;
 pub use listed_storage::lists_share_storage;

@@ -3,7 +3,7 @@
 ghost use Rattle.std.specs.Prelude.{◌≡◌, ◌<◌, ◌++◌, ℕ, List, drop, filter, flat_map, map, take};
 ghost use Rattle.std.specs.List.{range_with_len};
 ghost use Rattle.f77_tree.specs.declared.statements.Labelled.{Labelled};
-ghost use Rattle.f77_layout.specs.Declarations.{all_commons, all_groups, all_inits};
+ghost use Rattle.layout_rules.specs.Declarations.{all_commons, all_groups, all_inits};
 ghost use Rattle.f77_subs.specs.Expansion.{block_size, blocks, common_decl, declared_first, init_for, members_for, put_in, units_but_main, whole_list};
 ghost use Rattle.f77_subs.specs.PutIn.{is_put_in};
 ghost use Rattle.f77_subs.specs.Units.{unit_at, unit_of};

@@ -9,7 +9,7 @@ ghost use Rattle.f77_subs.specs.Units.{units};
 ghost use Rattle.called_runs.specs.Expanded.{IsExpanded};
 ghost use Rattle.called_runs.specs.PairedWords.{IsPaired, listed_spot};
 
-use crate::declared_names::stand_ins_are_declared_alike;
+use crate::copied_names::stand_ins_are_declared_alike;
 use crate::entity_names::entities_keep_their_declarations;
 use crate::listed_storage::lists_share_storage;
 use crate::placings::{placings_pair_words, programs_place_their_entities};

@@ -15,7 +15,7 @@ ghost use Rattle.copied_values.specs.SideBySide.{ArePaired, IsPairing};
 ghost use Rattle.f77_subs.specs.Storage.{IsStorage, placed};
 ghost use Rattle.f77_subs.specs.Units.{units};
 
-use crate::declared_names::copied_names_are_declared_alike;
+use crate::copied_names::copied_names_are_declared_alike;
 use crate::entity_names::{entities_keep_their_declarations, names_of_blocks_stand_once};
 use crate::listed_storage::lists_share_storage;
 use copied_values::{lists_declare, places_decide_no_trees};

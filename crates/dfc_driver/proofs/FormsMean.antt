@@ -1,12 +1,11 @@
 -- What rewritten forms mean for their programs.
-use Rattle.std.proofs.Common.{◌≡◌, ◌≢◌, ◌↔◌, ◌⊎◌, inl, inr, ℕ, ◌+◌, ◌-◌, ◌<◌, ◌≤◌, ℤ, Bool, List, [], ◌∷◌, ◌++◌, length, refl, sym, ap, subst, ◌∙◌, ⊎_elim, append_assoc, append-nil, length-append, arith}
+use Rattle.std.proofs.Common.{◌≡◌, ◌≢◌, ◌↔◌, ◌⊎◌, inl, inr, ℕ, ◌+◌, ◌-◌, ◌<◌, ◌≤◌, ℤ, Bool, List, [], refl, sym, ap, subst, ◌∙◌, ⊎_elim, append-nil, arith}
 use Rattle.std.specs.Prelude.{All}
 use Rattle.op_table.specs.declared.Trap.{Trap}
 use Rattle.op_table.specs.Words.{IsWord}
 use Rattle.f77_tree.specs.declared.programs.Program.{Program}
-use Rattle.f77_tree.specs.Prefixes.{IsPrefix}
 use Rattle.f77_tree.specs.Run as runs
-use Rattle.f77_tree.specs.Run.{HasEnded, HasTrapped, Mark, PrintAlike, Reaches, State, out, source}
+use Rattle.f77_tree.specs.Run.{HasEnded, HasTrapped, Mark, PrintAlike, State, out, source}
 use Rattle.f77_tree.specs.Steps.{StopsWithin}
 use Rattle.flat_programs.specs.declared.statements.FlatLine.{FlatLine}
 use Rattle.flat_programs.specs.FlatForm.{AreStatementsOf}
@@ -20,9 +19,10 @@ use Rattle.read_back.specs.ReadAgain.{IsReadBack}
 use Rattle.dfc_driver.specs.declared.status.Status.{Status}
 use Rattle.dfc_driver.specs.declared.status.Status.TheVariants as status
 use Rattle.dfc_driver.specs.Due.{Due, IsDueByEnd, IsDueLimit, IsDueRegen, IsDueRun, IsDueRunOf, IsOutputDue, IsPrinted, IsTextDue, MakesSteps, due_by_mark, done, trapped_alone}
-use Rattle.dfc_driver.specs.GameLaws.{StopFirst}
 use Rattle.dfc_driver.specs.Headline.{MeansEnd, MeansOn, MeansRegen, MeansRun, MeansStop, MeansText, run_bound}
+use Rattle.dfc_driver.specs.SourceRuns.{Writes, run_of}
 use Rattle.dfc_driver.specs.Words.{Regen, Run}
+use Rattle.dfc_driver.proofs.SameOutputs.{RunsStay, print_the_same, same_end}
 
 -- ---- one rewritten form
 
@@ -85,13 +85,13 @@ FormsPrintAlike p checked = (s : Program) (input : List ℤ) → IsRewritten p c
 abbrev pub TextsAreReadBack : Program → (checked : Bool) → Type 0
 TextsAreReadBack p checked = (text : List ℕ) → HasNoPrintedArrays p.names → (is : IsRewrittenText p checked text) → IsReadBack text checked is.form
 
-text_means : (p : Program) (checked : Bool) → FormsPrintAlike p checked → TextsAreReadBack p checked → (due : Due) → IsTextDue p checked due → MeansText checked p due.text
-text_means p checked alike again due is = record {
+text_means : RunsStay → (p : Program) (checked : Bool) → FormsPrintAlike p checked → TextsAreReadBack p checked → (due : Due) → IsTextDue p checked due → MeansText checked p (run_of p) due.text
+text_means stay p checked alike again due is = record {
   form = is.form;
   flat = is.printed.flat;
   statements = is.printed.statements;
   is = ap (λ (d : Due). d.text) is.printed.is;
-  alike = λ input words. alike is.form input is.rewritten words;
+  alike = λ input words. print_the_same stay p is.form input (alike is.form input is.rewritten words);
   read = λ arrays. again due.text arrays (record {
     form = is.form;
     rewritten = is.rewritten;
@@ -101,21 +101,21 @@ text_means p checked alike again due is = record {
   });
 }
 
-regen_means : (p : Program) (checked : Bool) → FormsPrintAlike p checked → TextsAreReadBack p checked → (due : Due) → IsDueRegen p checked due → MeansRegen checked p due
-regen_means p checked alike again due is = record {
+regen_means : RunsStay → (p : Program) (checked : Bool) → FormsPrintAlike p checked → TextsAreReadBack p checked → (due : Due) → IsDueRegen p checked due → MeansRegen checked p (run_of p) due
+regen_means stay p checked alike again due is = record {
   ends =
       ⊎_elim
       (λ (x : IsTextDue p checked due). inl (ap (λ (d : Due). d.status) x.printed.is))
       (λ (x : IsDueLimit p checked due). inr (refused x.end due x.is))
       is;
   text = λ told. ⊎_elim
-      (λ (x : IsTextDue p checked due). text_means p checked alike again due x)
+      (λ (x : IsTextDue p checked due). text_means stay p checked alike again due x)
       (λ (x : IsDueLimit p checked due). absurd (not_refused p checked due status.Done (λ e. absurd cc) x told))
       is;
 }
 
-pub regen_on : OneList → (p : Program) (checked : Bool) → IsOneForm p checked → FormsPrintAlike p checked → TextsAreReadBack p checked → MeansOn Regen checked p
-regen_on lists p checked one alike again = record { one = one_regen lists p checked one; means = regen_means p checked alike again }
+pub regen_on : RunsStay → OneList → (p : Program) (checked : Bool) → IsOneForm p checked → FormsPrintAlike p checked → TextsAreReadBack p checked → MeansOn Regen checked p (run_of p)
+regen_on stay lists p checked one alike again = record { one = one_regen lists p checked one; means = regen_means stay p checked alike again }
 
 -- ---- runs
 
@@ -149,64 +149,17 @@ one_run p checked input limit one a b is also =
 
 -- ---- what runs that print alike come to
 
--- two lists that are prefixes of each other are the same
-both_ways : (a b x y : List ℕ) → b ≡ a ++ x → a ≡ b ++ y → a ≡ b
-both_ways a b x y is also =
-    let long = length-append a x in
-    let back = length-append b y in
-    let size : length b ≡ length (a ++ x) = ap length is in
-    let other : length a ≡ length (b ++ y) = ap length also in
-    let none : length x ≡ 0 = omega (arith, long, back, size, other) in
-    sym (is ∙ ap (λ (end : List ℕ). a ++ end) (empty x none) ∙ append-nil a)
-  where
-    empty : (x : List ℕ) → length x ≡ 0 → x ≡ []
-    empty [] is = refl
-    empty (c ∷ x) is = absurd cc
-
--- what is known of runs
-pub record RunsStay : Type 0 where
-  pub ended : (p : Program) (input : List ℤ) (n k : ℕ) → (source p input n).mark ≡ runs.Ended → source p input (k + n) ≡ source p input n
-  pub trapped : (p : Program) (input : List ℤ) (n k : ℕ) (trap : Trap) (line : ℕ) → (source p input n).mark ≡ runs.Trapped trap line → source p input (k + n) ≡ source p input n
-  pub text : (p : Program) (input : List ℤ) (n k : ℕ) → IsPrefix (out p input n) (out p input (k + n))
-  pub first : StopFirst
-
 module _ (stay : RunsStay) (p s : Program) (input : List ℤ) (alike : PrintAlike (source p input) (source s input)) where
-  -- what was written at any time is a prefix of what was written at the end
-  before_end : (q : Program) (n m : ℕ) → (source q input n).mark ≡ runs.Ended → IsPrefix (out q input m) (out q input n)
-  before_end q n m ended = on (n_or_more n m)
-    where
-      n_or_more : (n m : ℕ) → (m ≤ n) ⊎ (n ≤ m)
-      n_or_more n m = grind arith
-
-      on : (m ≤ n) ⊎ (n ≤ m) → IsPrefix (out q input m) (out q input n)
-      on (inl low) =
-          let sum : n - m + m ≡ n = omega (arith, low) in
-          subst (λ k. IsPrefix (out q input m) (out q input k)) sum (stay.text q input m (n - m))
-      on (inr high) =
-          let sum : m - n + n ≡ m = omega (arith, high) in
-          let same : out q input m ≡ out q input n = ap (out q input) (sym sum) ∙ ap (λ (x : State). x.out) (stay.ended q input n (m - n) ended) in
-          record { more = []; is = sym same ∙ sym (append-nil (out q input m)) }
-
-  -- where both have ended, they have written the same
-  same_end : (m n : ℕ) → (source p input m).mark ≡ runs.Ended → (source s input n).mark ≡ runs.Ended → out s input n ≡ out p input m
-  same_end m n ended also =
-      let there : Reaches (source s input) (out p input m) = alike.prefix m in
-      let back : Reaches (source p input) (out s input n) = alike.back n in
-      let wide = before_end s n there.steps also in
-      let whole = before_end p m back.steps ended in
-      sym (both_ways (out p input m) (out s input n) (there.rest ++ wide.more) (back.rest ++ whole.more)
-      (wide.is ∙ ap (λ (bytes : List ℕ). bytes ++ wide.more) there.is ∙ append_assoc (out p input m) there.rest wide.more)
-      (whole.is ∙ ap (λ (bytes : List ℕ). bytes ++ whole.more) back.is ∙ append_assoc (out s input n) back.rest whole.more))
-
   -- where the run of the rewritten form has ended, so has that of the program
-  end_means : (n : ℕ) (text : List ℕ) → (source s input n).mark ≡ runs.Ended → text ≡ out s input n → MeansEnd input p text
+  end_means : (n : ℕ) (text : List ℕ) → (source s input n).mark ≡ runs.Ended → text ≡ out s input n → MeansEnd input p (run_of p input) text
   end_means n text ended is =
       let has : HasEnded (source p input) = alike.ends.1 (record { steps = n; ended = ended }) in
       let stop : StopsWithin p input has.steps runs.Ended = stay.first p input has.steps runs.Ended (λ e. absurd cc) has.ended in
-      record { steps = stop.count; ends = stop.stops; output = is ∙ same_end stop.count n stop.stops.reached ended }
+      let same : text ≡ out p input stop.count = is ∙ same_end stay p s input alike stop.count n stop.stops.reached ended in
+      record { run_ends = record { steps = stop.count; is = stop.stops.reached; whole = sym same }; steps = stop.count; ends = stop.stops; output = same }
 
   -- and so with a trap
-  stop_means : (n : ℕ) (trap : Trap) (line : ℕ) (due : Due) → (source s input n).mark ≡ runs.Trapped trap line → due ≡ trapped_alone (out s input n) trap → MeansStop input p due
+  stop_means : (n : ℕ) (trap : Trap) (line : ℕ) (due : Due) → (source s input n).mark ≡ runs.Trapped trap line → due ≡ trapped_alone (out s input n) trap → MeansStop input p (run_of p input) due
   stop_means n trap line due trapped is =
       let text : due.text ≡ out s input n = ap (λ (d : Due). d.text) is in
       let has : HasTrapped (source p input) trap (out s input n) = (alike.traps trap (out s input n)).1 (record { steps = n; line = line; trapped = trapped; whole = refl }) in
@@ -219,6 +172,7 @@ module _ (stay : RunsStay) (p s : Program) (input : List ℤ) (alike : PrintAlik
         steps = stop.count;
         trap = trap;
         line = has.line;
+        run_traps = record { steps = stop.count; is = stop.stops.reached; whole = sym (text ∙ sym has.whole ∙ same) };
         traps = stop.stops;
         is = is ∙ ap (λ (bytes : List ℕ). trapped_alone bytes trap) (sym text);
         output = text ∙ sym has.whole ∙ same;
@@ -265,18 +219,22 @@ module _ (stay : RunsStay) (p s : Program) (input : List ℤ) (alike : PrintAlik
         le_trans : (a b c : ℕ) → a ≤ b → b ≤ c → a ≤ c
         le_trans a b c low high = omega (arith, low, high)
 
+  -- what the rewritten form has written the program writes too
+  written_here : (n : ℕ) → Writes (run_of p input) (out s input n)
+  written_here n = let here = alike.back n in record { steps = here.steps; rest = here.rest; is = here.is }
+
   -- what is due of a run means what the run of the program does
   record MeansOutput (due : Due) : Type 0 where
-    prefix : Reaches (source p input) due.text
-    ends : due.status ≡ status.Done → MeansEnd input p due.text
-    traps : due.status ≡ status.Trapped → MeansStop input p due
+    prefix : Writes (run_of p input) due.text
+    ends : due.status ≡ status.Done → MeansEnd input p (run_of p input) due.text
+    traps : due.status ≡ status.Trapped → MeansStop input p (run_of p input) due
 
   by_mark : (limit n : ℕ) (due : Due) (mark : Mark) → (source s input n).mark ≡ mark → due ≡ due_by_mark mark (out s input n) limit → MeansOutput due
   by_mark limit n due runs.Running at is =
       let text : due.text ≡ out s input n = ap (λ (d : Due). d.text) is in
       let state : due.status ≡ status.Limit = ap (λ (d : Due). d.status) is in
       record {
-        prefix = subst (Reaches (source p input)) (sym text) (alike.back n);
+        prefix = subst (Writes (run_of p input)) (sym text) (written_here n);
         ends = λ told. let e : status.Limit ≡ status.Done = sym state ∙ told in absurd cc;
         traps = λ told. let e : status.Limit ≡ status.Trapped = sym state ∙ told in absurd cc;
       }
@@ -284,7 +242,7 @@ module _ (stay : RunsStay) (p s : Program) (input : List ℤ) (alike : PrintAlik
       let text : due.text ≡ out s input n = ap (λ (d : Due). d.text) is in
       let state : due.status ≡ status.Done = ap (λ (d : Due). d.status) is in
       record {
-        prefix = subst (Reaches (source p input)) (sym text) (alike.back n);
+        prefix = subst (Writes (run_of p input)) (sym text) (written_here n);
         ends = λ told. end_means n due.text at text;
         traps = λ told. let e : status.Done ≡ status.Trapped = sym state ∙ told in absurd cc;
       }
@@ -292,12 +250,12 @@ module _ (stay : RunsStay) (p s : Program) (input : List ℤ) (alike : PrintAlik
       let text : due.text ≡ out s input n = ap (λ (d : Due). d.text) is in
       let state : due.status ≡ status.Trapped = ap (λ (d : Due). d.status) is in
       record {
-        prefix = subst (Reaches (source p input)) (sym text) (alike.back n);
+        prefix = subst (Writes (run_of p input)) (sym text) (written_here n);
         ends = λ told. let e : status.Trapped ≡ status.Done = sym state ∙ told in absurd cc;
         traps = λ told. stop_means n trap line due at is;
       }
 
-  output_means : ((n : ℕ) → FollowsWithin p s input n) → (limit : ℕ) (due : Due) → IsDueRunOf s input limit due → MeansRun limit input p due
+  output_means : ((n : ℕ) → FollowsWithin p s input n) → (limit : ℕ) (due : Due) → IsDueRunOf s input limit due → MeansRun limit input p (run_of p input) due
   output_means follows limit due is =
       let k = is.steps in
       let text = out s input k in
@@ -321,7 +279,7 @@ no_text rewrite_end.TooManyStatements due is = ap (λ (d : Due). d.text) is
 no_text rewrite_end.LongText due is = ap (λ (d : Due). d.text) is
 no_text rewrite_end.NoMemory due is = absurd is
 
-limit_means : (p : Program) (checked : Bool) (limit : ℕ) (input : List ℤ) (due : Due) → IsDueLimit p checked due → MeansRun limit input p due
+limit_means : (p : Program) (checked : Bool) (limit : ℕ) (input : List ℤ) (due : Due) → IsDueLimit p checked due → MeansRun limit input p (run_of p input) due
 limit_means p checked limit input due is = record {
   prefix = record { steps = 0; rest = []; is = sym (append-nil due.text ∙ no_text is.end due is.is) };
   ends = λ told. absurd (not_refused p checked due status.Done (λ e. absurd cc) is told);
@@ -334,12 +292,12 @@ limit_means p checked limit input due is = record {
 abbrev pub FormsFollow : Program → (checked : Bool) → Type 0
 FormsFollow p checked = (s : Program) (input : List ℤ) (n : ℕ) → IsRewritten p checked s → All IsWord input → FollowsWithin p s input n
 
-run_means : RunsStay → (p : Program) (checked : Bool) (input : List ℤ) (limit : ℕ) → All IsWord input → FormsPrintAlike p checked → FormsFollow p checked → (due : Due) → IsDueRun p checked input limit due → MeansRun limit input p due
+run_means : RunsStay → (p : Program) (checked : Bool) (input : List ℤ) (limit : ℕ) → All IsWord input → FormsPrintAlike p checked → FormsFollow p checked → (due : Due) → IsDueRun p checked input limit due → MeansRun limit input p (run_of p input) due
 run_means stay p checked input limit words alike follow due is =
     ⊎_elim
     (λ (x : IsOutputDue p checked input limit due). output_means stay p x.form input (alike x.form input x.rewritten words) (λ n. follow x.form input n x.rewritten words) limit due x.ran)
     (λ (x : IsDueLimit p checked due). limit_means p checked limit input due x)
     is
 
-pub run_on : RunsStay → (p : Program) (checked : Bool) (input : List ℤ) (limit : ℕ) → All IsWord input → IsOneForm p checked → FormsPrintAlike p checked → FormsFollow p checked → MeansOn (Run limit input) checked p
+pub run_on : RunsStay → (p : Program) (checked : Bool) (input : List ℤ) (limit : ℕ) → All IsWord input → IsOneForm p checked → FormsPrintAlike p checked → FormsFollow p checked → MeansOn (Run limit input) checked p (run_of p)
 run_on stay p checked input limit words one alike follow = record { one = one_run p checked input limit one; means = run_means stay p checked input limit words alike follow }

@@ -12,6 +12,7 @@ use Rattle.dfc_driver.specs.declared.words.Told.{Told}
 use Rattle.dfc_driver.specs.Due.{Due, IsDueBy, IsDuePlay, IsToldBy, told_by_forks, told_text}
 use Rattle.dfc_driver.specs.Game.{GameKind, Place, fork_game, operation_game}
 use Rattle.dfc_driver.specs.Headline.{MeansOn, MeansPlay, bound_of}
+use Rattle.dfc_driver.specs.SourceRuns.{run_of}
 use Rattle.dfc_driver.specs.Playing.{Game, opening, way_of}
 use Rattle.dfc_driver.specs.Words.{Asked, Forks, Play}
 use Rattle.dfc_driver.specs.GameLaws.{GameLaws}
@@ -41,7 +42,7 @@ module _ {M : Type 0} (kind : GameKind M) (laws : GameLaws kind) (what : Told) (
       one_due left.played.game left.firings right.firings a b left.played.played
       (subst (λ (x : Game M Place). IsToldBy kind what p (way_of x asked.picks) (opening x) asked.limit right.firings b) game right.played.played)
 
-  pub game_due_means : (due : Due) → IsDuePlay kind what asked p due → MeansPlay kind what asked p due
+  pub game_due_means : (due : Due) → IsDuePlay kind what asked p due → MeansPlay kind what asked p (run_of p asked.input) due
   game_due_means due is =
       let game = is.played.game in
       let own = is.played.own in
@@ -62,8 +63,8 @@ module _ {M : Type 0} (kind : GameKind M) (laws : GameLaws kind) (what : Told) (
         fails = λ steps trap line fails none enough. fails_by kind laws.stop_first what asked p due game lockstep store within is.firings is.played all due_runs steps trap line fails none enough end run told;
       }
 
-pub game_means : GameLaws operation_game → (what : Told) (asked : Asked) (checked : Bool) (p : Program) → IsFlowGraph (flow p.execs).graph → MeansOn (Play what asked) checked p
+pub game_means : GameLaws operation_game → (what : Told) (asked : Asked) (checked : Bool) (p : Program) → IsFlowGraph (flow p.execs).graph → MeansOn (Play what asked) checked p (run_of p)
 game_means laws what asked checked p strong = record { one = one_game_due operation_game laws what asked p strong; means = game_due_means operation_game laws what asked p strong }
 
-pub forks_mean : GameLaws fork_game → (nodes : Bool) (asked : Asked) (checked : Bool) (p : Program) → IsFlowGraph (flow p.execs).graph → MeansOn (Forks nodes asked) checked p
+pub forks_mean : GameLaws fork_game → (nodes : Bool) (asked : Asked) (checked : Bool) (p : Program) → IsFlowGraph (flow p.execs).graph → MeansOn (Forks nodes asked) checked p (run_of p)
 forks_mean laws nodes asked checked p strong = record { one = one_game_due fork_game laws (told_by_forks nodes) asked p strong; means = game_due_means fork_game laws (told_by_forks nodes) asked p strong }

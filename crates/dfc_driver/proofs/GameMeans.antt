@@ -20,8 +20,9 @@ use Rattle.dfc_driver.specs.declared.words.Told.TheVariants.{Output, Nodes, Stor
 use Rattle.dfc_driver.specs.Due.{Due, IsDueBy, IsPlayed, told_text, trapped}
 use Rattle.dfc_driver.specs.Game.{GameKind, Place}
 use Rattle.dfc_driver.specs.GameLaws.{StopFirst}
-use Rattle.dfc_driver.specs.Headline.{IsPrefixOfRun, MeansRest, MeansTrap, TellsEnd, TellsPrefix, TellsTrap, bound_of, lines_in}
+use Rattle.dfc_driver.specs.Headline.{MeansRest, MeansTrap, TellsEnd, TellsPrefix, TellsTrap, bound_of, lines_in}
 use Rattle.dfc_driver.specs.Playing.{Game, StaysInLockstep, opening, stage, stage_of, way_of}
+use Rattle.dfc_driver.specs.SourceRuns.{Writes, run_of}
 use Rattle.dfc_driver.specs.StoreText.{fired_line, store_text}
 use Rattle.dfc_driver.specs.Words.{Asked}
 use Rattle.dfc_driver.proofs.NameLines.{name_lines}
@@ -100,17 +101,18 @@ module _ {M : Type 0} (kind : GameKind M) (stop_first : StopFirst) (what : Told)
     other_status : (a b : Status) (text : Due) → (a ≡ b → ⊥) → due ≡ text → text.status ≡ a → due.status ≡ b → ⊥
     other_status a b text differ is has told = differ (sym has ∙ ap (λ (d : Due). d.status) (sym is) ∙ told)
 
-    output_prefix : (bytes : List ℕ) → bytes ≡ shown w show.Output (opening game) firings → IsPrefixOfRun asked p bytes
+    output_prefix : (bytes : List ℕ) → bytes ≡ shown w show.Output (opening game) firings → Writes (run_of p asked.input) bytes
     output_prefix bytes is =
         let f : WritesPrefix (out p asked.input) (written game.moves game.start ks) = lockstep.follows.prefix ks all.are.order in
-        record { steps = f.steps; prefix = subst (λ l. IsPrefix l (out p asked.input f.steps)) (all.are.lines ∙ sym is) f.prefix }
+        let prefix : IsPrefix bytes (out p asked.input f.steps) = subst (λ l. IsPrefix l (out p asked.input f.steps)) (all.are.lines ∙ sym is) f.prefix in
+        record { steps = f.steps; rest = prefix.more; is = prefix.is }
 
-    tells_prefix : (shown_as : Told) (end : PlayEnd) → due.text ≡ told_text kind shown_as p w (opening game) firings end → TellsPrefix shown_as asked p due.text
+    tells_prefix : (shown_as : Told) (end : PlayEnd) → due.text ≡ told_text kind shown_as p w (opening game) firings end → TellsPrefix shown_as (run_of p asked.input) due.text
     tells_prefix Output end is = output_prefix due.text is
     tells_prefix Nodes end is = tt
     tells_prefix Store end is = tt
 
-    pub prefix_of_run : (end : PlayEnd) → IsDueBy end asked.limit (text end) due → TellsPrefix what asked p due.text
+    pub prefix_of_run : (end : PlayEnd) → IsDueBy end asked.limit (text end) due → TellsPrefix what (run_of p asked.input) due.text
     prefix_of_run end is = tells_prefix what end (text_is end (text end) is)
 
     -- the marking that the firings lead to
@@ -139,7 +141,7 @@ module _ {M : Type 0} (kind : GameKind M) (stop_first : StopFirst) (what : Told)
     tells_trap Nodes trap line steps lines is = tt
     tells_trap Store trap line steps lines is = is
 
-    pub rests : (end : PlayEnd) → IsRun w (opening game) asked.limit firings end → IsDueBy end asked.limit (text end) due → due.status ≡ status.Done → MeansRest kind what asked p due
+    pub rests : (end : PlayEnd) → IsRun w (opening game) asked.limit firings end → IsDueBy end asked.limit (text end) due → due.status ≡ status.Done → MeansRest kind what asked p (run_of p asked.input) due
     rests (WriteFault n) run is told = absurd is
     rests Limit run is told = absurd (other_status status.Limit status.Done _ (λ e. cc) is refl told)
     rests (Trapped trap line) run is told = absurd (other_status status.Trapped status.Done _ (λ e. cc) is refl told)
@@ -156,13 +158,14 @@ module _ {M : Type 0} (kind : GameKind M) (stop_first : StopFirst) (what : Told)
         record {
           steps = first.count;
           ends = first.stops;
+          run_ends = record { steps = first.count; is = first.stops.reached; whole = refl };
           firings = firings;
           played = whole;
           few = omega (arith, count, made, few);
           told = tells_end what n first.count run.ends.0 (e.lines ∙ first_text e.steps Ended (λ c. cc) first) (store_is first.count first.stops count) (text_is (Rest n) (text (Rest n)) is);
         }
 
-    pub traps : (end : PlayEnd) → IsRun w (opening game) asked.limit firings end → IsDueBy end asked.limit (text end) due → due.status ≡ status.Trapped → MeansTrap what asked p due
+    pub traps : (end : PlayEnd) → IsRun w (opening game) asked.limit firings end → IsDueBy end asked.limit (text end) due → due.status ≡ status.Trapped → MeansTrap what asked p (run_of p asked.input) due
     traps (WriteFault n) run is told = absurd is
     traps Limit run is told = absurd (other_status status.Limit status.Trapped _ (λ e. cc) is refl told)
     traps (Rest n) run is told = absurd (other_status status.Done status.Trapped _ (λ e. cc) is refl told)
@@ -176,6 +179,7 @@ module _ {M : Type 0} (kind : GameKind M) (stop_first : StopFirst) (what : Told)
           trap = trap;
           line = line;
           traps = first.stops;
+          run_traps = record { steps = first.count; is = first.stops.reached; whole = refl };
           is = is ∙ ap (λ bytes. trapped bytes trap line) (sym (text_is (Trapped trap line) (text (Trapped trap line)) is));
           told = tells_trap what trap line first.count (e.lines ∙ first_text e.steps (runs.Trapped trap line) (λ c. cc) first) (text_is (Trapped trap line) (text (Trapped trap line)) is);
         }

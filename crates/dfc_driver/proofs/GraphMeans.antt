@@ -22,6 +22,7 @@ use Rattle.dfc_driver.specs.Due.{Due, IsDueOn, done}
 use Rattle.dfc_driver.specs.Game.{AreToldByRanges, IsNetOn}
 use Rattle.dfc_driver.specs.GraphText.{TellsGraph, graph_text}
 use Rattle.dfc_driver.specs.Headline.{MeansGraph, MeansOn}
+use Rattle.dfc_driver.specs.SourceRuns.{run_of}
 use Rattle.dfc_driver.proofs.NetParts.{found_parts, found_ranges}
 use Rattle.dfc_driver.proofs.OneNet.{OneOfEach, one_net}
 
@@ -119,7 +120,7 @@ module _ (each : OneOfEach) (p : Program) (strong : IsFlowGraph (flow p.execs).g
     fired = fired due.text is.text;
   }
 
-  pub graph_means : (checked : Bool) → MeansOn Graph checked p
+  pub graph_means : (checked : Bool) → MeansOn Graph checked p (run_of p)
   graph_means checked = record { one = one checked; means = means checked }
 
 -- what was found of a program makes a net whose text tells it

@@ -33,3 +33,6 @@ mod LinesTold
 mod NameWords
 mod MarkedRows
 mod WiresTold
+mod SameOutputs
+mod OtherRuns
+mod TextRuns

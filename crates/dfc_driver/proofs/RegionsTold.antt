@@ -16,6 +16,7 @@ use Rattle.dfc_driver.specs.Words.{Regions}
 use Rattle.dfc_driver.specs.Due.{Due, IsDueOn, done}
 use Rattle.dfc_driver.specs.Found.{IsFoundOf, text_of}
 use Rattle.dfc_driver.specs.Headline.{Means, MeansOn}
+use Rattle.dfc_driver.specs.SourceRuns.{run_of}
 use Rattle.dfc_driver.specs.Regions.{counts_line, piece_lines, region_lines, regions_text, TellsRegions}
 
 -- the first part, after an empty buffer
@@ -69,7 +70,7 @@ one_text p a b one_numbering one_tree strong first second =
     first.is ∙ ap (λ (xs : List ℕ). regions_text f xs first.tree) classes ∙ ap (regions_text f second.classes) tree ∙ sym second.is
 
 -- what is due tells each piece, edge and region once
-regions_told : (checked : Bool) (p : Program) (due : Due) → IsDueOn Regions checked p due → Means Regions checked p due
+regions_told : (checked : Bool) (p : Program) (due : Due) → IsDueOn Regions checked p due → Means Regions checked p (run_of p) due
 regions_told checked p due is =
     let f = flow p.execs in
     record {
@@ -81,7 +82,7 @@ regions_told checked p due is =
       regions = is.text.regions;
     }
 
-pub regions_mean : (checked : Bool) (p : Program) → OneNumbering → OneTree → IsFlowGraph (flow p.execs).graph → MeansOn Regions checked p
+pub regions_mean : (checked : Bool) (p : Program) → OneNumbering → OneTree → IsFlowGraph (flow p.execs).graph → MeansOn Regions checked p (run_of p)
 regions_mean checked p one_numbering one_tree strong = record {
   one = λ a b first second. first.done ∙ ap done (one_text p a.text b.text one_numbering one_tree strong first.text second.text) ∙ sym second.done;
   means = regions_told checked p;

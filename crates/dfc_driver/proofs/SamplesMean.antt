@@ -11,6 +11,7 @@ use Rattle.dfc_driver.specs.declared.words.Told.TheVariants.{Output}
 use Rattle.dfc_driver.specs.Due.{Due, IsDueBy, IsDueLimit, IsDuePlay, IsDueSample, IsOutputDue, IsSampleDue, TellsSizes, after_text, all_due, done, due_by_mark, first_line, followed, followed_by, sample_line, up_to}
 use Rattle.dfc_driver.specs.Game.{operation_game}
 use Rattle.dfc_driver.specs.Headline.{MeansEnd, MeansOn, MeansRest, MeansSample, MeansTwice, bound_of, run_bound}
+use Rattle.dfc_driver.specs.SourceRuns.{run_of}
 use Rattle.dfc_driver.specs.Words.{Regions, Graph, Play, Run}
 use Rattle.dfc_driver.proofs.FormsMean.{refused}
 
@@ -48,7 +49,7 @@ not_refused runs.Running text limit is = let e : status.Limit ≡ status.Refused
 not_refused runs.Ended text limit is = let e : status.Done ≡ status.Refused = is in absurd cc
 not_refused (runs.Trapped trap line) text limit is = let e : status.Trapped ≡ status.Refused = is in absurd cc
 
-module _ (n bytes limit : ℕ) (p : Program) (regions : MeansOn Regions false p) (graph : MeansOn Graph false p) (fired : MeansOn (Play Output (up_to limit)) false p) (ran : MeansOn (Run limit []) false p) where
+module _ (n bytes limit : ℕ) (p : Program) (regions : MeansOn Regions false p (run_of p)) (graph : MeansOn Graph false p (run_of p)) (fired : MeansOn (Play Output (up_to limit)) false p (run_of p)) (ran : MeansOn (Run limit []) false p (run_of p)) where
   -- ---- one sample
 
   one_size : (a b : List ℕ) → TellsSizes n bytes p a → TellsSizes n bytes p b → a ≡ b
@@ -104,8 +105,8 @@ module _ (n bytes limit : ℕ) (p : Program) (regions : MeansOn Regions false p)
   twice_on : (due : Due) → IsSampleDue n bytes limit p due → due.status ≡ status.Done → MeansTwice n bytes p due.text
   twice_on due is told =
       let parts : AreDone is.fired is.ran = both_done is.fired.status is.fired is.ran refl (sym (ap (λ (d : Due). d.status) is.is) ∙ told) in
-      let rest : MeansRest operation_game Output (up_to limit) p is.fired = (fired.means is.fired is.is_fired).rests parts.one in
-      let end : MeansEnd [] p is.ran.text = (ran.means is.ran (inl is.is_ran)).ends parts.next in
+      let rest : MeansRest operation_game Output (up_to limit) p (run_of p []) is.fired = (fired.means is.fired is.is_fired).rests parts.one in
+      let end : MeansEnd [] p (run_of p []) is.ran.text = (ran.means is.ran (inl is.is_ran)).ends parts.next in
       let last : is.fired.last ≡ [] = no_last is.is_fired.played.played.end limit _ is.fired is.is_fired.played.played.is parts.one in
       let first : all_due is.fired ≡ out p [] rest.steps = ap (λ text. is.fired.text ++ text) last ∙ append-nil is.fired.text ∙ rest.told in
       let second : is.ran.text ≡ out p [] rest.steps = end.output ∙ ap (out p []) (same_steps end.steps rest.steps end.ends rest.ends) in

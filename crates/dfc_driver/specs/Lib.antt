@@ -21,3 +21,4 @@ pub mod Samples
 pub mod GameLaws
 pub mod Answers
 pub mod Headline
+pub mod SourceRuns

@@ -11,6 +11,7 @@ ghost use Rattle.dfc_driver.specs.Game.{fork_game};
 ghost use Rattle.dfc_driver.specs.GameLaws.{GameLaws};
 ghost use Rattle.dfc_driver.specs.Headline.{MeansOn};
 ghost use Rattle.dfc_driver.specs.Meant.{AreGameWords, asked_in};
+ghost use Rattle.dfc_driver.specs.SourceRuns.{run_of};
 ghost use Rattle.dfc_driver.specs.Words.{Asked, Forks};
 
 use crate::game::tell_game;
@@ -43,7 +44,7 @@ pub fn play_forks<K: Sink>(
     requires program { IsWellFormed program.now }
     requires few { HasFewClasses program.now }
     ensures due { AnswersAs (IsDuePlay fork_game (told_by_forks nodes) (asked_in words.entry) program.now) (K.got sink.old) (K.got sink.new) result }
-    ensures means { result ≢ Status.NoMemory → (checked : Bool) → MeansOn (Forks nodes (asked_in words.entry)) checked program.now }
+    ensures means { result ≢ Status.NoMemory → (checked : Bool) → MeansOn (Forks nodes (asked_in words.entry)) checked program.now (run_of program.now) }
     ensures usage { result ≢ Status.Usage }
     ensures reads { result ≢ Status.ReadFault }
     ensures later { K.faults sink.old ≤ K.faults sink.new }
@@ -137,7 +138,7 @@ fn show_of(nodes: bool) -> Show
 /// These games mean what the runs of their programs do.
 pub fn forks_mean(program: &Program)
     requires { IsWellFormed program.now }
-    ensures { (nodes : Bool) (asked : Asked) (checked : Bool) → MeansOn (Forks nodes asked) checked program.now }
+    ensures { (nodes : Bool) (asked : Asked) (checked : Bool) → MeansOn (Forks nodes asked) checked program.now (run_of program.now) }
 {
     fork_game_laws();
     flow_graph_is_strong();

@@ -20,6 +20,7 @@ ghost use Rattle.dfc_driver.specs.EdgeTables.{AreTablesOf};
 ghost use Rattle.dfc_driver.specs.GraphText.{TellsGraph, graph_text};
 ghost use Rattle.dfc_driver.specs.Headline.{MeansOn};
 ghost use Rattle.dfc_driver.specs.NameSets.{AreNameSets};
+ghost use Rattle.dfc_driver.specs.SourceRuns.{run_of};
 ghost use Rattle.dfc_driver.specs.Words.{Graph};
 
 use crate::edge_tables::{EdgeTables, tables_of_edges};
@@ -58,7 +59,7 @@ pub fn tell_graph<K: Sink>(alloc: Global, program: &Program, sink: &mut K) -> St
     ensures reads { result ≢ Status.ReadFault }
     ensures later { K.faults sink.old ≤ K.faults sink.new }
     ensures fault { result ≡ Status.WriteFault → Rose (K.faults sink.old) (K.faults sink.new) }
-    ensures means { result ≢ Status.NoMemory → (checked : Bool) → MeansOn Graph checked program.now }
+    ensures means { result ≢ Status.NoMemory → (checked : Bool) → MeansOn Graph checked program.now (run_of program.now) }
 {
     graph_means(program);
     match draw(alloc, program) {
@@ -204,7 +205,7 @@ fn tell_size<K: Sink>(
 /// A program has one such text, and it tells the net over whatever data.
 pub fn graph_means(program: &Program)
     requires { IsWellFormed program.now }
-    ensures { (checked : Bool) → MeansOn Graph checked program.now }
+    ensures { (checked : Bool) → MeansOn Graph checked program.now (run_of program.now) }
 {
     one_numbering();
     one_range_touching();

@@ -27,6 +27,7 @@ mod sample_laws;
 mod sample_lines;
 mod status;
 mod store;
+mod text_runs;
 mod top;
 mod words;
 

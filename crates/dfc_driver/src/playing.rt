@@ -13,6 +13,7 @@ ghost use Rattle.dfc_driver.specs.GameLaws.{GameLaws};
 ghost use Rattle.dfc_driver.specs.Headline.{MeansOn};
 ghost use Rattle.dfc_driver.specs.Meant.{AreGameWords, asked_in};
 ghost use Rattle.dfc_driver.specs.PlayedNets.{CanBePlayed, IsOpeningNet, IsToldOf};
+ghost use Rattle.dfc_driver.specs.SourceRuns.{run_of};
 ghost use Rattle.dfc_driver.specs.Words.{Asked, Play};
 
 use crate::game::{play_game, tell_game};
@@ -46,7 +47,7 @@ pub fn play<K: Sink>(
     requires program { IsWellFormed program.now }
     requires few { HasFewClasses program.now }
     ensures due { AnswersAs (IsDuePlay operation_game told (asked_in words.entry) program.now) (K.got sink.old) (K.got sink.new) result }
-    ensures means { result ≢ Status.NoMemory → (checked : Bool) → MeansOn (Play told (asked_in words.entry)) checked program.now }
+    ensures means { result ≢ Status.NoMemory → (checked : Bool) → MeansOn (Play told (asked_in words.entry)) checked program.now (run_of program.now) }
     ensures usage { result ≢ Status.Usage }
     ensures reads { result ≢ Status.ReadFault }
     ensures later { K.faults sink.old ≤ K.faults sink.new }
@@ -203,7 +204,7 @@ fn tell_rest<K: Sink>(
 /// Games mean what the runs of their programs do.
 pub fn games_mean(program: &Program)
     requires { IsWellFormed program.now }
-    ensures { (told : Told) (asked : Asked) (checked : Bool) → MeansOn (Play told asked) checked program.now }
+    ensures { (told : Told) (asked : Asked) (checked : Bool) → MeansOn (Play told asked) checked program.now (run_of program.now) }
 {
     game_laws();
     flow_graph_is_strong();

@@ -3,6 +3,7 @@ ghost use Rattle.df_io.specs.Faults.{Rose};
 ghost use Rattle.f77_tree.specs.Dialects.{IsOfDialect};
 ghost use Rattle.f77_tree.specs.WellFormed.{IsWellFormed};
 ghost use Rattle.alias_classes.specs.Number.{HasFewClasses};
+ghost use Rattle.f77_source.specs.Reading.{IsProgramOf};
 ghost use Rattle.dfc_driver.specs.Codes.{name_of};
 ghost use Rattle.dfc_driver.specs.Reading.{reading, most_bytes, IsReadAs, IsReadFor, IsReadWithin};
 
@@ -96,6 +97,7 @@ pub fn read_program<S: Source>(
     checked: bool,
 ) -> Result<Program, NoProgram>
     ensures reads { IfSome (S.left source.old) (λ bytes. IsReadAs (reading checked bytes) result) }
+    ensures statements { IfSome (S.left source.old) (λ bytes. IfOk result (IsProgramOf bytes checked)) }
     ensures well_formed { IfOk result (λ program. IsWellFormed program) }
     ensures dialect { IfOk result (λ program. IsOfDialect checked program) }
     ensures few { IfOk result (λ program. HasFewClasses program) }
@@ -137,6 +139,7 @@ pub fn read_bytes(alloc: Global, bytes: &[u8], checked: bool) -> Result<Program,
 fn read_text(alloc: Global, bytes: &[u8], checked: bool) -> Result<Program, NoProgram>
     requires { length bytes.now ≤ most_bytes }
     ensures reads { IsReadAs (reading checked bytes.now) result }
+    ensures statements { IfOk result (IsProgramOf bytes.now checked) }
     ensures well_formed { IfOk result (λ program. IsWellFormed program) }
     ensures dialect { IfOk result (λ program. IsOfDialect checked program) }
     ensures few { IfOk result (λ program. HasFewClasses program) }

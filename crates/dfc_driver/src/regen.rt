@@ -8,6 +8,7 @@ ghost use Rattle.f77_tree.specs.WellFormed.{IsWellFormed};
 ghost use Rattle.dfc_driver.specs.Answers.{AnswersAs, Tells};
 ghost use Rattle.dfc_driver.specs.Due.{IsDueRegen, done};
 ghost use Rattle.dfc_driver.specs.Headline.{MeansOn};
+ghost use Rattle.dfc_driver.specs.SourceRuns.{run_of};
 ghost use Rattle.dfc_driver.specs.Words.{Regen};
 
 use crate::rewriting_end::tell_end;
@@ -24,7 +25,7 @@ pub fn tell_regen<K: Sink>(alloc: Global, program: &Program, checked: bool, sink
     requires dialect { IsOfDialect checked program.now }
     requires few { HasFewClasses program.now }
     ensures due { AnswersAs (IsDueRegen program.now checked) (K.got sink.old) (K.got sink.new) result }
-    ensures means { result ≢ Status.NoMemory → MeansOn Regen checked program.now }
+    ensures means { result ≢ Status.NoMemory → MeansOn Regen checked program.now (run_of program.now) }
     ensures words { result ≢ Status.Usage }
     ensures reads { result ≢ Status.ReadFault }
     ensures later { K.faults sink.old ≤ K.faults sink.new }

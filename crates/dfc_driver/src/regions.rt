@@ -15,6 +15,7 @@ ghost use Rattle.dfc_driver.specs.Found.{IsFoundOf, text_of};
 ghost use Rattle.dfc_driver.specs.Headline.{MeansOn};
 ghost use Rattle.dfc_driver.specs.Words.{Regions};
 ghost use Rattle.dfc_driver.specs.Regions.{TellsRegions, piece_lines, edge_lines, region_lines};
+ghost use Rattle.dfc_driver.specs.SourceRuns.{run_of};
 
 use crate::region_line::{counts_line, edge_line, piece_line, region_line};
 use crate::status::Status;
@@ -40,7 +41,7 @@ struct Found {
 pub fn tell_regions<K: Sink>(alloc: Global, program: &Program, sink: &mut K) -> Status
     requires { IsWellFormed program.now }
     ensures due { AnswersAs (IsDoneBy (TellsRegions program.now)) (K.got sink.old) (K.got sink.new) result }
-    ensures means { result ≢ Status.NoMemory → (checked : Bool) → MeansOn Regions checked program.now }
+    ensures means { result ≢ Status.NoMemory → (checked : Bool) → MeansOn Regions checked program.now (run_of program.now) }
     ensures words { result ≢ Status.Usage }
     ensures reads { result ≢ Status.ReadFault }
     ensures later { K.faults sink.old ≤ K.faults sink.new }
@@ -171,7 +172,7 @@ fn tell_tree<K: Sink>(
 /// A program has one such text, and it tells each edge with its class.
 pub fn regions_mean(program: &Program)
     requires { IsWellFormed program.now }
-    ensures { (checked : Bool) → MeansOn Regions checked program.now }
+    ensures { (checked : Bool) → MeansOn Regions checked program.now (run_of program.now) }
 {
     one_numbering();
     one_tree();

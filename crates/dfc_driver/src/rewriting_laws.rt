@@ -5,6 +5,7 @@ ghost use Rattle.op_table.specs.Words.{IsWord};
 ghost use Rattle.f77_tree.specs.Dialects.{IsOfDialect};
 ghost use Rattle.f77_tree.specs.WellFormed.{IsWellFormed};
 ghost use Rattle.dfc_driver.specs.Headline.{MeansOn};
+ghost use Rattle.dfc_driver.specs.SourceRuns.{run_of};
 ghost use Rattle.dfc_driver.specs.Words.{Regen, Run};
 
 use f77_tree::{Program, runs_stop_first, stopped_runs_stay};
@@ -16,18 +17,20 @@ use rewritten_texts::rewritten_texts_are_read_back;
 pub fn regenerated_texts_mean(program: &Program, checked: bool)
     requires program { IsWellFormed program.now }
     requires dialect { IsOfDialect checked program.now }
-    ensures { MeansOn Regen checked program.now }
+    ensures { MeansOn Regen checked program.now (run_of program.now) }
 {
     executables_tell_statements();
     rewritten_forms_are_one();
     rewritten_programs_print_alike();
     rewritten_texts_are_read_back();
+    runs_stop_first();
+    stopped_runs_stay();
 }
 
 /// The output of a program's rewritten form means what the run of the program does, over all data of words.
 pub fn runs_mean(program: &Program, checked: bool)
     requires { IsWellFormed program.now }
-    ensures { (limit : ℕ) (input : List ℤ) → All IsWord input → MeansOn (Run limit input) checked program.now }
+    ensures { (limit : ℕ) (input : List ℤ) → All IsWord input → MeansOn (Run limit input) checked program.now (run_of program.now) }
 {
     rewritten_forms_are_one();
     rewritten_programs_print_alike();

@@ -15,6 +15,7 @@ ghost use Rattle.dfc_driver.specs.Answers.{AnswersAs};
 ghost use Rattle.dfc_driver.specs.Due.{IsDueRun, IsDueRunOf};
 ghost use Rattle.dfc_driver.specs.Headline.{MeansOn};
 ghost use Rattle.dfc_driver.specs.Meant.{MayStand};
+ghost use Rattle.dfc_driver.specs.SourceRuns.{run_of};
 ghost use Rattle.dfc_driver.specs.Stopping.{IsAtStart, IsBrokenOff, IsMade, IsWritten};
 ghost use Rattle.dfc_driver.specs.Words.{Run as Run_task, values_in, word_value};
 
@@ -44,7 +45,7 @@ pub fn tell_run<K: Sink>(
     requires program { IsWellFormed program.now }
     requires few { HasFewClasses program.now }
     ensures due { AnswersAs (IsDueRun program.now checked (values_in word_value words.entry.input.now) words.entry.limit) (K.got sink.old) (K.got sink.new) result }
-    ensures means { result ≢ Status.NoMemory → MeansOn (Run_task words.entry.limit (values_in word_value words.entry.input.now)) checked program.now }
+    ensures means { result ≢ Status.NoMemory → MeansOn (Run_task words.entry.limit (values_in word_value words.entry.input.now)) checked program.now (run_of program.now) }
     ensures usage { result ≢ Status.Usage }
     ensures reads { result ≢ Status.ReadFault }
     ensures later { K.faults sink.old ≤ K.faults sink.new }

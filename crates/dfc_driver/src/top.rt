@@ -9,6 +9,7 @@ ghost use Rattle.dfc_driver.specs.Due.{IsDue, IsDueFor, IsDueOn, IsDueRead};
 ghost use Rattle.dfc_driver.specs.Headline.{MeansFor, MeansOn, MeansRead};
 ghost use Rattle.dfc_driver.specs.Meant.{IsJob, IsTask, job_meant, task_meant};
 ghost use Rattle.dfc_driver.specs.Reading.{reading};
+ghost use Rattle.dfc_driver.specs.SourceRuns.{run_of};
 ghost use Rattle.dfc_driver.specs.Words.{job_of};
 
 use crate::forks::play_forks;
@@ -21,6 +22,7 @@ use crate::regions::tell_regions;
 use crate::run::tell_run;
 use crate::sample::tell_sample;
 use crate::status::Status;
+use crate::text_runs::texts_run_as_programs;
 use crate::words::{Job, Task, read_words};
 use df_io::{Sink, Source};
 use f77_tree::Program;
@@ -89,10 +91,11 @@ fn on_text<S: Source, K: Sink>(
     ensures due { IfSome (S.left source.old) (λ bytes. AnswersAs (IsDueRead (task_meant task.entry) checked (reading checked bytes)) (K.got sink.old) (K.got sink.new) result) }
     ensures words { result ≢ Status.Usage }
     ensures unwritten { IsUnwritten (K.got sink.old) (K.got sink.new) (code_of result) }
-    ensures means { HasAll (code_of result) → IfSome (S.left source.old) (λ bytes. MeansRead (task_meant task.entry) checked (reading checked bytes)) }
+    ensures means { HasAll (code_of result) → IfSome (S.left source.old) (λ bytes. MeansRead (task_meant task.entry) checked bytes (reading checked bytes)) }
     ensures takes { ReadsText (S.left source.old) (S.left source.new) (code_of result) }
     ensures blames { Blames (S.faults source.old) (S.faults source.new) (K.faults sink.old) (K.faults sink.new) (code_of result) }
 {
+    texts_run_as_programs();
     match read_program(alloc, source, checked) {
         Ok(program) => on_program(alloc, task, checked, &program, sink),
         Err(NoProgram::Refused { line, code }) => tell_refusal(line, code, sink),
@@ -116,7 +119,7 @@ fn on_program<K: Sink>(
     ensures due { AnswersAs (IsDueOn (task_meant task.entry) checked program.now) (K.got sink.old) (K.got sink.new) result }
     ensures words { result ≢ Status.Usage }
     ensures reads { result ≢ Status.ReadFault }
-    ensures means { result ≢ Status.NoMemory → MeansOn (task_meant task.entry) checked program.now }
+    ensures means { result ≢ Status.NoMemory → MeansOn (task_meant task.entry) checked program.now (run_of program.now) }
     ensures later { K.faults sink.old ≤ K.faults sink.new }
     ensures fault { result ≡ Status.WriteFault → Rose (K.faults sink.old) (K.faults sink.new) }
 {

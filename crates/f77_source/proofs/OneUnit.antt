@@ -6,7 +6,7 @@ use Rattle.f77_tree.specs.declared.statements.Labelled.{Labelled}
 use Rattle.f77_tree.specs.declared.statements.Stmt.TheVariants.{End}
 use Rattle.f77_tree.specs.StatementGrammar.{is_of_subroutines}
 use Rattle.f77_tree.proofs.AllLemmas.{All-nil, All-cons}
-use Rattle.f77_layout.specs.Source.{EndsWithEnd, IsSource}
+use Rattle.layout_rules.specs.Source.{EndsWithEnd, IsSource}
 use Rattle.f77_layout.proofs.GivenTrees.{given-IsTree}
 use Rattle.f77_subs.specs.Texts.{IsText}
 use Rattle.f77_subs.specs.Units.{is_end}

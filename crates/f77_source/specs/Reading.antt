@@ -9,13 +9,14 @@ use Rattle.f77_tree.specs.declared.statements.Labelled.{Labelled}
 use Rattle.f77_parse.specs.declared.stmt_end.StmtEnd.{StmtEnd}
 use Rattle.f77_parse.specs.declared.stmt_end.StmtEnd.TheVariants as stmt
 use Rattle.f77_parse.specs.Parsing.{reading_of}
-use Rattle.f77_layout.specs.declared.layout_end.LayoutEnd.{LayoutEnd}
-use Rattle.f77_layout.specs.declared.layout_end.LayoutEnd.TheVariants as layout
-use Rattle.f77_layout.specs.Layout as laid
+use Rattle.layout_rules.specs.declared.layout_end.LayoutEnd.{LayoutEnd}
+use Rattle.layout_rules.specs.declared.layout_end.LayoutEnd.TheVariants as layout
+use Rattle.layout_rules.specs.Layout as laid
 use Rattle.alias_classes.specs.Number.{number_of_classes}
 use Rattle.alias_classes.specs.declared.TheConstants.{CLASS_WORDS}
 use Rattle.f77_subs.specs.declared.sub_end.SubEnd.{SubEnd}
 use Rattle.f77_subs.specs.declared.sub_end.SubEnd.TheVariants as sub
+use Rattle.f77_subs.specs.Texts.{IsText}
 use Rattle.f77_source.specs.Listed.{listed}
 use Rattle.f77_source.specs.declared.source_end.Code.{Code}
 use Rattle.f77_source.specs.declared.source_end.Code.TheVariants as code
@@ -121,3 +122,30 @@ pub record Reads (bytes : List ℕ) (checked : Bool) (p : Program) : Type 0 wher
   pub units : listed stmts checked ≡ Ok list
   pub form : laid.HasForm list
   pub is : laid.program list checked ≡ p
+
+-- ---- texts that are programs
+
+-- these are the statements of the text
+pub record HasStatements (bytes : List ℕ) (stmts : List Labelled) : Type 0 where
+  pub raws : List RawStmt
+  pub lines : lines.reading bytes ≡ Ok raws
+  pub statements : statements_of raws ≡ Ok stmts
+
+-- The statements were read from a text, and what they come to is laid out as this program.
+pub record AreStatementsOf (stmts : List Labelled) (checked : Bool) (p : Program) : Type 0 where
+  pub text : IsText stmts
+  pub list : List Labelled
+  pub units : listed stmts checked ≡ Ok list
+  pub laid : laid.layout list checked ≡ Ok p
+
+-- the text is this program, by its statements
+pub record IsProgramOf (bytes : List ℕ) (checked : Bool) (p : Program) : Type 0 where
+  pub stmts : List Labelled
+  pub has : HasStatements bytes stmts
+  pub are : AreStatementsOf stmts checked p
+
+-- so are texts that were cut into statements
+pub record IsProgramFrom (raws : List RawStmt) (checked : Bool) (p : Program) : Type 0 where
+  pub stmts : List Labelled
+  pub statements : statements_of raws ≡ Ok stmts
+  pub are : AreStatementsOf stmts checked p

@@ -2,7 +2,7 @@
 ghost use Rattle.std.specs.Prelude.{◌≡◌, ◌≢◌, ◌<◌, length, IfOk, IfErr, Ok, Err};
 ghost use Rattle.std.specs.List.{list_all};
 ghost use Rattle.f77_tree.specs.StatementGrammar.{is_of_subroutines as is_of_subroutines_of};
-ghost use Rattle.f77_layout.specs.Source.{IsSource};
+ghost use Rattle.layout_rules.specs.Source.{IsSource};
 ghost use Rattle.f77_subs.specs.Texts.{IsText};
 ghost use Rattle.f77_source.specs.Listed.{is_one_unit as is_one_unit_of, listed as listed_of, stays_in_unit as stays_in_unit_of};
 

@@ -3,12 +3,12 @@ ghost use Rattle.fixed_form.specs.Limits.{AreWithinForm};
 ghost use Rattle.f77_tree.specs.Operations.{HasFewOperations};
 ghost use Rattle.f77_tree.specs.WellFormed.{IsWellFormed};
 ghost use Rattle.alias_classes.specs.Number.{HasFewClasses, number_of_classes};
-ghost use Rattle.f77_layout.specs.Layout.{layout, last_line};
-ghost use Rattle.f77_layout.specs.Source.{IsSource};
+ghost use Rattle.layout_rules.specs.Layout.{layout, last_line};
+ghost use Rattle.layout_rules.specs.Source.{IsSource};
 ghost use Rattle.f77_subs.specs.Texts.{IsText};
 ghost use Rattle.f77_source.specs.Accepted.{IsAccepted};
 ghost use Rattle.f77_source.specs.Answers.{IsReadAs, told_form, told_stmt, told_sub, told_layout};
-ghost use Rattle.f77_source.specs.Reading.{reading, statements_of, most_classes, program_of as program_of_statements, program_from as program_from_list};
+ghost use Rattle.f77_source.specs.Reading.{IsProgramFrom, IsProgramOf, reading, statements_of, most_classes, program_of as program_of_statements, program_from as program_from_list};
 
 use crate::listed::listed;
 use crate::{Code, Refusal, SourceEnd};
@@ -32,6 +32,7 @@ use std::alloc::Global;
 pub fn read_program(alloc: Global, bytes: &[u8], checked: bool) -> Result<Program, SourceEnd>
     requires { length bytes.now + 1 < 2 ^ 32 }
     ensures read { IsReadAs (reading bytes.now checked) result }
+    ensures statements { IfOk result (IsProgramOf bytes.now checked) }
     ensures well_formed { IfOk result (λ program. IsWellFormed program) }
     ensures modest { IfOk result (λ program. HasFewOperations program) }
     ensures few { IfOk result (λ program. HasFewClasses program) }
@@ -47,6 +48,7 @@ fn program_of(alloc: Global, raws: &RawStmtList, checked: bool) -> Result<Progra
     requires within { AreWithinForm raws.now }
     requires accepted { IsAccepted raws.now }
     ensures read { IsReadAs (program_of_statements checked (statements_of raws.now)) result }
+    ensures statements { IfOk result (IsProgramFrom raws.now checked) }
     ensures well_formed { IfOk result (λ program. IsWellFormed program) }
     ensures modest { IfOk result (λ program. HasFewOperations program) }
     ensures few { IfOk result (λ program. HasFewClasses program) }
@@ -62,6 +64,7 @@ fn program_of(alloc: Global, raws: &RawStmtList, checked: bool) -> Result<Progra
 fn program_from(alloc: Global, list: &LabelledList, checked: bool) -> Result<Program, SourceEnd>
     requires { IsSource list.now }
     ensures read { IsReadAs (program_from_list checked (Ok list.now)) result }
+    ensures laid { IfOk result (λ program. layout list.now checked ≡ Ok program) }
     ensures well_formed { IfOk result (λ program. IsWellFormed program) }
     ensures modest { IfOk result (λ program. HasFewOperations program) }
     ensures few { IfOk result (λ program. HasFewClasses program) }

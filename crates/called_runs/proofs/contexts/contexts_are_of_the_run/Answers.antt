@@ -1,6 +1,6 @@
 use Rattle.std.proofs.Common.{◌≡◌, Bool, List, [], None, refl}
 use Rattle.f77_tree.specs.declared.statements.Labelled.{Labelled}
-use Rattle.f77_layout.specs.Faults.{first_line}
+use Rattle.layout_rules.specs.Faults.{first_line}
 use Rattle.f77_subs.specs.declared.sub_end.SubEnd.TheVariants.{UnitOrder}
 use Rattle.f77_subs.proofs.AcceptedTables.{main-dummies}
 use Rattle.f77_subs.proofs.NoAnswer.{no-end, none-at}

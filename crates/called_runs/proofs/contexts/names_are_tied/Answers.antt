@@ -2,9 +2,9 @@ use Rattle.std.proofs.Common.{ℕ, List, Contains, sym, subst, ◌∙◌}
 use Rattle.list_laws.proofs.Members.{Member-from_Contains}
 use Rattle.list_laws.specs.Member.{Member}
 use Rattle.f77_tree.specs.declared.programs.Program.{Program}
-use Rattle.f77_layout.specs.Appearances.{appearing}
-use Rattle.f77_layout.specs.Declarations.{is_array}
-use Rattle.f77_layout.specs.Layout.{names_of, program}
+use Rattle.layout_rules.specs.Appearances.{appearing}
+use Rattle.layout_rules.specs.Declarations.{is_array}
+use Rattle.layout_rules.specs.Layout.{names_of, program}
 use Rattle.copied_values.specs.SideBySide.{AreTied}
 use Rattle.f77_subs.specs.Copies.{changes}
 use Rattle.f77_subs.specs.Expansion.{whole_list}

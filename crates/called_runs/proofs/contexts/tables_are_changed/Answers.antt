@@ -1,6 +1,6 @@
 use Rattle.std.proofs.Common.{subst}
 use Rattle.f77_tree.specs.declared.programs.Program.{Program}
-use Rattle.f77_layout.specs.Layout.{program}
+use Rattle.layout_rules.specs.Layout.{program}
 use Rattle.copied_values.specs.ChangedTables.{AreChangedTables}
 use Rattle.f77_subs.specs.Copies.{change_in}
 use Rattle.f77_subs.specs.Expansion.{whole_list}

@@ -5,8 +5,8 @@ use Rattle.f77_tree.specs.declared.programs.Program.{Program}
 use Rattle.f77_tree.specs.declared.statements.Labelled.{Labelled}
 use Rattle.f77_tree.specs.Declarations.{IsNameInfo}
 use Rattle.f77_tree.specs.WellFormed.{IsWellFormed}
-use Rattle.f77_layout.specs.Layout.{layout}
-use Rattle.f77_layout.specs.Source.{IsSource}
+use Rattle.layout_rules.specs.Layout.{layout}
+use Rattle.layout_rules.specs.Source.{IsSource}
 use Rattle.f77_subs.specs.Layouts.{own_program}
 use Rattle.f77_subs.specs.Refusals.{unit_refusal}
 use Rattle.f77_subs.specs.Texts.{IsText}

@@ -2,7 +2,7 @@ use Rattle.std.proofs.Common.{◌≡◌, ℕ, ◌<◌, length, sym, subst}
 use Rattle.std.specs.Prelude.{Ok}
 use Rattle.std.specs.List.{slice_get}
 use Rattle.f77_tree.specs.declared.programs.Program.{Program}
-use Rattle.f77_layout.specs.Layout.{layout, program}
+use Rattle.layout_rules.specs.Layout.{layout, program}
 use Rattle.f77_subs.specs.Expansion.{whole_list}
 use Rattle.f77_subs.specs.Units.{units}
 use Rattle.called_runs.specs.PairedWords.{IsPaired, IsPlacing, listed_spot}

@@ -6,8 +6,9 @@ returns c =
     let p = c.args.program.now in
     let checked = c.args.checked in
     let one = c.rewritten_forms_are_one.ensures in
+    let stay = c.stopped_runs_stay.ensures in
     let well = c.requires.program in
-    regen_on c.executables_tell_statements.ensures.one p checked
+    regen_on (record { ended = stay.ended; trapped = stay.trapped; text = stay.text; first = c.runs_stop_first.ensures }) c.executables_tell_statements.ensures.one p checked
     (record {
       form = λ s r is also. one.rewritten p checked s r well is also;
       none = λ s end is passes. one.none p checked s end well is passes;

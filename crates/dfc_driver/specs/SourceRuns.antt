@@ -1,0 +1,80 @@
+-- The runs of a text: those of the program that it is, or of its units by a stack of frames.
+use Rattle.std.specs.Prelude.{◌≡◌, ◌↔◌, ℕ, ℤ, Bool, true, false, List}
+use Rattle.op_table.specs.declared.Trap.{Trap}
+use Rattle.f77_tree.specs.declared.programs.Program.{Program}
+use Rattle.f77_tree.specs.declared.statements.Labelled.{Labelled}
+use Rattle.f77_tree.specs.Run.{Mark, Ended, Trapped, source}
+use Rattle.f77_subs.specs.declared.entity.Entity.{Entity}
+use Rattle.f77_subs.specs.Calls.{HasMark, ReachesText, called}
+use Rattle.f77_subs.specs.Storage.{IsStorage}
+use Rattle.f77_subs.specs.Units.{units}
+use Rattle.f77_source.specs.Listed.{is_one_unit}
+use Rattle.f77_source.specs.Reading.{HasStatements}
+
+-- What is seen of a run: what was written in so many steps, and whether it then goes on, has ended or has trapped, at which line.
+pub record SourceRun : Type 0 where
+  pub out : (steps : ℕ) → List ℕ
+  pub mark : (steps : ℕ) → Mark
+
+-- a run over each list of data
+abbrev pub SourceRuns : Type 0
+SourceRuns = (input : List ℤ) → SourceRun
+
+-- that of a program
+abbrev pub run_of : Program → SourceRuns
+run_of p input = record { out = λ n. (source p input n).out; mark = λ n. (source p input n).mark }
+
+-- that of units, where a CALL puts a frame on a stack and RETURN takes it away, over a storage of words for locals and blocks
+abbrev pub run_of_units : List (List Labelled) → (checked : Bool) → (spot : Entity → ℕ) → (opening : List ℤ) → SourceRuns
+run_of_units us checked spot opening input =
+    let run = called us checked spot input opening in
+    record { out = λ n. (run n).out; mark = λ n. (run n).mark }
+
+-- The runs of a text that is this program: of one unit without subroutines those of the program; of several those of the units, over
+-- any storage that obeys their declarations.
+pub data AreRunsOf (bytes : List ℕ) (checked : Bool) (p : Program) : SourceRuns → Type 0 where
+  of_one_unit : (stmts : List Labelled) → HasStatements bytes stmts → is_one_unit stmts ≡ true → AreRunsOf bytes checked p (run_of p)
+  of_units : (stmts : List Labelled) → HasStatements bytes stmts → is_one_unit stmts ≡ false
+      → (spot : Entity → ℕ) (words : ℕ) (opening : List ℤ) → IsStorage (units stmts) checked spot words opening
+      → AreRunsOf bytes checked p (run_of_units (units stmts) checked spot opening)
+
+pub record HasRuns (bytes : List ℕ) (checked : Bool) (p : Program) : Type 0 where
+  pub runs : SourceRuns
+  pub are : AreRunsOf bytes checked p runs
+
+-- ---- what a run comes to
+
+-- what the run writes begins with this text
+abbrev pub Writes : SourceRun → (text : List ℕ) → Type 0
+Writes run text = ReachesText run.out text
+
+-- the run stops with this mark, and the text is all that it writes
+abbrev pub Stops : SourceRun → Mark → (text : List ℕ) → Type 0
+Stops run mark text = HasMark run.mark run.out mark text
+
+-- it traps at some line
+pub record StopsByTrap (run : SourceRun) (trap : Trap) (text : List ℕ) : Type 0 where
+  pub line : ℕ
+  pub stops : Stops run (Trapped trap line) text
+
+-- ---- two runs
+
+-- What either has written the other writes too; one ends exactly where the other ends, and one traps exactly where the other traps,
+-- with the same trap, line and whole output.
+pub record AreAlike (a b : SourceRun) : Type 0 where
+  pub front : (n : ℕ) → Writes b (a.out n)
+  pub back : (n : ℕ) → Writes a (b.out n)
+  pub ends : (text : List ℕ) → Stops a Ended text ↔ Stops b Ended text
+  pub traps : (trap : Trap) (line : ℕ) (text : List ℕ) → Stops a (Trapped trap line) text ↔ Stops b (Trapped trap line) text
+
+-- the same of programs with lines of their own: a trap may come at another line
+pub record PrintTheSame (a b : SourceRun) : Type 0 where
+  pub front : (n : ℕ) → Writes b (a.out n)
+  pub back : (n : ℕ) → Writes a (b.out n)
+  pub ends : (text : List ℕ) → Stops a Ended text ↔ Stops b Ended text
+  pub traps : (trap : Trap) (text : List ℕ) → StopsByTrap a trap text ↔ StopsByTrap b trap text
+
+-- The text has runs, and any runs of it are alike with those of the program.
+pub record RunsAs (bytes : List ℕ) (checked : Bool) (p : Program) : Type 0 where
+  pub has : HasRuns bytes checked p
+  pub alike : (runs : SourceRuns) → AreRunsOf bytes checked p runs → (input : List ℤ) → AreAlike (runs input) (run_of p input)
