@@ -179,17 +179,6 @@ total_put flags k false inside differ =
     let same : member_count (set flags k false) ≡ rank (set flags k false) (length flags) = ap (rank (set flags k false)) (length-set flags k false) in
     omega (arith, more, same)
 
-module _ (flags : List Bool) (low mid high : List ℕ) (total : ℕ) (are : IsCounted flags low mid high total) where
-  pub all_put : (k : ℕ) (ready : Bool) (new_mid new_high : List ℕ) → k < length flags → has flags k ≢ ready → (32768 < length flags → new_mid ≡ set mid (k / 32768) (shifted (get_or mid (k / 32768) 0) ready)) → (32768 < length flags → new_high ≡ set high (k / 1048576) (shifted (get_or high (k / 1048576) 0) ready)) → IsCounted (set flags k ready) (set low (k / 1024) (shifted (get_or low (k / 1024) 0) ready)) new_mid new_high (shifted total ready)
-  all_put k ready new_mid new_high inside differ mid_is high_is =
-      let room = length-set flags k ready in
-      record {
-        low_counts = counts_put 1024 low flags k (k / 1024) ready are.low_counts inside differ (omega arith) (omega arith);
-        mid_counts = λ many. let large : 32768 < length flags = omega (arith, many, room) in subst (λ counts. AreCounts 32768 counts (set flags k ready)) (sym (mid_is large)) (counts_put 32768 mid flags k (k / 32768) ready (are.mid_counts large) inside differ (omega arith) (omega arith));
-        high_counts = λ many. let large : 32768 < length flags = omega (arith, many, room) in subst (λ counts. AreCounts 1048576 counts (set flags k ready)) (sym (high_is large)) (counts_put 1048576 high flags k (k / 1048576) ready (are.high_counts large) inside differ (omega arith) (omega arith));
-        all = ap (λ n. shifted n ready) are.all ∙ sym (total_put flags k ready inside differ);
-      }
-
 -- what a number that comes needs of a count, and what one that goes does
 come_fits : (width : ℕ) (counts : List ℕ) (flags : List Bool) (k b : ℕ) → AreCounts width counts flags → k < length flags → width * b ≤ k → get_or counts b 0 ≤ width
 come_fits width counts flags k b are inside low = count_fits width counts flags are b (block_inside width counts flags are k b inside low)
@@ -199,7 +188,7 @@ go_some width counts flags k b ready are inside differ low high is =
     let member : has flags k ≡ true = ⊎_elim (λ e. e) (λ e. absurd (differ (e ∙ sym is))) (cases_Bool (has flags k)) in
     count_some width counts flags are k b (block_inside width counts flags are k b inside low) member low high
 
-pub can_shift : (width : ℕ) (counts : List ℕ) (flags : List Bool) (k b : ℕ) (ready : Bool) → AreCounts width counts flags → k < length flags → has flags k ≢ ready → width < 2 ^ 32 - 1 → width * b ≤ k → k < width * b + width → CanShift counts b ready
+can_shift : (width : ℕ) (counts : List ℕ) (flags : List Bool) (k b : ℕ) (ready : Bool) → AreCounts width counts flags → k < length flags → has flags k ≢ ready → width < 2 ^ 32 - 1 → width * b ≤ k → k < width * b + width → CanShift counts b ready
 can_shift width counts flags k b ready are inside differ small low high = record {
   inside = block_inside width counts flags are k b inside low;
   fits = λ is. let fits = come_fits width counts flags k b are inside low in omega (arith, fits, small);
@@ -214,6 +203,30 @@ total_some flags k ready inside differ is =
     let member : has flags k ≡ true = ⊎_elim (λ e. e) (λ e. absurd (differ (e ∙ sym is))) (cases_Bool (has flags k)) in
     let more = rank_member flags k 0 (length flags) member (omega arith) inside in
     omega (arith, more)
+
+-- ---- the counts of all levels in a set of a room
+
+module _ (flags : List Bool) (low mid high : List ℕ) (total room : ℕ) (are : IsCounted flags low mid high total) (room_is : length flags ≡ room) (k : ℕ) (ready : Bool) (inside : k < length flags) (differs : has flags k ≢ ready) where
+  pub low_shifts : 1024 < room → CanShift low (k / 1024) ready
+  low_shifts many = can_shift 1024 low flags k (k / 1024) ready (are.low_counts (omega (arith, many, room_is))) inside differs (omega arith) (omega arith) (omega arith)
+
+  pub mid_shifts : 32768 < room → CanShift mid (k / 32768) ready
+  mid_shifts many = can_shift 32768 mid flags k (k / 32768) ready (are.mid_counts (omega (arith, many, room_is))) inside differs (omega arith) (omega arith) (omega arith)
+
+  pub high_shifts : 32768 < room → CanShift high (k / 1048576) ready
+  high_shifts many = can_shift 1048576 high flags k (k / 1048576) ready (are.high_counts (omega (arith, many, room_is))) inside differs (omega arith) (omega arith) (omega arith)
+
+  pub all_put : (new_low new_mid new_high : List ℕ) → (1024 < room → new_low ≡ set low (k / 1024) (shifted (get_or low (k / 1024) 0) ready)) → (32768 < room → new_mid ≡ set mid (k / 32768) (shifted (get_or mid (k / 32768) 0) ready)) → (32768 < room → new_high ≡ set high (k / 1048576) (shifted (get_or high (k / 1048576) 0) ready)) → IsCounted (set flags k ready) new_low new_mid new_high (shifted total ready)
+  all_put new_low new_mid new_high low_is mid_is high_is =
+      let same = length-set flags k ready in
+      let room_of : (n : ℕ) → n < length (set flags k ready) → n < room = λ n many. omega (arith, many, same, room_is) in
+      let large : (n : ℕ) → n < length (set flags k ready) → n < length flags = λ n many. omega (arith, many, same) in
+      record {
+        low_counts = λ many. subst (λ counts. AreCounts 1024 counts (set flags k ready)) (sym (low_is (room_of 1024 many))) (counts_put 1024 low flags k (k / 1024) ready (are.low_counts (large 1024 many)) inside differs (omega arith) (omega arith));
+        mid_counts = λ many. subst (λ counts. AreCounts 32768 counts (set flags k ready)) (sym (mid_is (room_of 32768 many))) (counts_put 32768 mid flags k (k / 32768) ready (are.mid_counts (large 32768 many)) inside differs (omega arith) (omega arith));
+        high_counts = λ many. subst (λ counts. AreCounts 1048576 counts (set flags k ready)) (sym (high_is (room_of 32768 many))) (counts_put 1048576 high flags k (k / 1048576) ready (are.high_counts (large 32768 many)) inside differs (omega arith) (omega arith));
+        all = ap (λ n. shifted n ready) are.all ∙ sym (total_put flags k ready inside differs);
+      }
 
 -- ---- the empty set
 
@@ -230,7 +243,7 @@ none_counted width room blocks enough = record {
 
 pub empty_counted : (room : ℕ) → IsCounted (replicate room false) (replicate (room / 1024 + 1) 0) (replicate (room / 32768 + 1) 0) (replicate (room / 1048576 + 1) 0) 0
 empty_counted room = record {
-  low_counts = none_counted 1024 room (room / 1024 + 1) (omega arith);
+  low_counts = λ many. none_counted 1024 room (room / 1024 + 1) (omega arith);
   mid_counts = λ many. none_counted 32768 room (room / 32768 + 1) (omega arith);
   high_counts = λ many. none_counted 1048576 room (room / 1048576 + 1) (omega arith);
   all = sym (rank_empty room (length (replicate room false)));

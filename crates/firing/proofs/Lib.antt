@@ -6,6 +6,7 @@ pub mod DigitLemmas
 pub mod DueLemmas
 pub mod Ending
 pub mod FootprintLemmas
+mod LineLemmas
 pub mod MarkLemmas
 pub mod OwnLemmas
 pub mod Pacing

@@ -21,8 +21,8 @@ length_flags words room = length-map-range_with_len (digit_at words) 0 room
 pub length_seen : (words : List ℕ) (room : ℕ) (value : List Bool) → flags_of words room ≡ value → length value ≡ room
 length_seen words room value seen = ap length (sym seen) ∙ length_flags words room
 
-pub large_seen : (words : List ℕ) (room : ℕ) (value : List Bool) → flags_of words room ≡ value → 32768 < length value → 32768 < length (flags_of words room)
-large_seen words room value seen many = subst (λ set. 32768 < length set) (sym seen) many
+pub large_seen : (n : ℕ) (words : List ℕ) (room : ℕ) (value : List Bool) → flags_of words room ≡ value → n < length value → n < length (flags_of words room)
+large_seen n words room value seen many = subst (λ set. n < length set) (sym seen) many
 
 pub has_flag : (words : List ℕ) (room k : ℕ) → AreWords words room → has (flags_of words room) k ≡ digit_at words k
 has_flag words room k are = ⊎_elim

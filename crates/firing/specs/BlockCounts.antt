@@ -53,9 +53,9 @@ pub record CanShift (counts : List ℕ) (b : ℕ) (more : Bool) : Type 0 where
   pub fits : more ≡ true → get_or counts b 0 < 2 ^ 32 - 1
   pub some : more ≡ false → 0 < get_or counts b 0
 
--- counts of three widths, of which the two wider ones serve only large sets, and of all
+-- counts of three widths, each of which serves only sets that are large enough for it, and of all
 pub record IsCounted (flags : List Bool) (low mid high : List ℕ) (total : ℕ) : Type 0 where
-  pub low_counts : AreCounts 1024 low flags
+  pub low_counts : 1024 < length flags → AreCounts 1024 low flags
   pub mid_counts : 32768 < length flags → AreCounts 32768 mid flags
   pub high_counts : 32768 < length flags → AreCounts 1048576 high flags
   pub all : total ≡ member_count flags

@@ -1,21 +1,17 @@
 // The line that names a node, in a buffer without memory.
 
-ghost use Rattle.std.specs.Prelude.{◌≡◌, ◌+◌, ◌≤◌, ◌++◌, codes, decimal, length, OnOk, OnErr};
+ghost use Rattle.std.specs.Prelude.{◌≡◌, ◌+◌, ◌≤◌, ◌++◌, codes, decimal, drop, length, OnOk, OnErr};
 ghost use Rattle.std.specs.Io.KnownBytes.{Appends};
-ghost use Rattle.arrayvec.specs.ArrayString.{array_string_len};
 ghost use Rattle.df_io.specs.Faults.{Rose};
 ghost use Rattle.df_io.specs.Write.{AppendsPrefix};
 ghost use Rattle.firing.specs.NameLine.{name_line};
 
 use crate::NodeName;
-use arrayvec::ArrayString;
 use df_io::{Sink, WriteFault, write_all};
-use itoa::Buffer;
+use itoa::write_digits;
 
 // The longest line: three numbers of ten digits, the longest kind with its blanks, a blank and the line feed.
 const LENGTH: usize = 40;
-
-type Line = ArrayString<LENGTH>;
 
 // Writes the line that names the node, at once.
 pub fn write_name<K: Sink>(sink: &mut K, k: u32, name: NodeName) -> Result<(), WriteFault>
@@ -24,52 +20,60 @@ pub fn write_name<K: Sink>(sink: &mut K, k: u32, name: NodeName) -> Result<(), W
     ensures later { K.faults sink.old ≤ K.faults sink.new }
     ensures fault { OnErr result (Rose (K.faults sink.old) (K.faults sink.new)) }
 {
-    let line = line_of(k, name);
-    write_all(sink, line.as_str().as_bytes())
+    let mut line = [0; LENGTH];
+    let start = put_line(&mut line, k, name);
+    write_all(sink, &line[start..])
 }
 
-fn line_of(k: u32, name: NodeName) -> Line
-    ensures { result.bytes ≡ name_line k name }
+// Puts the line at the end of the buffer, from its last byte to its first, and answers where it starts.
+fn put_line(line: &mut [u8], k: u32, name: NodeName) -> usize
+    requires { length line.old ≡ LENGTH }
+    ensures bytes { drop result line.new ≡ name_line k name }
+    ensures within { result ≤ length line.new }
 {
     match name {
-        NodeName::Act(piece) => one_number(k, " ACT ", piece),
-        NodeName::Merge(piece, line) => two_numbers(k, " MERGE ", piece, line),
-        NodeName::Switch(piece, line) => two_numbers(k, " SWITCH ", piece, line),
-        NodeName::Op(piece, i) => two_numbers(k, " OP ", piece, i),
+        NodeName::Act(piece) => put_one(line, k, " ACT ", piece),
+        NodeName::Merge(piece, turn) => put_two(line, k, " MERGE ", piece, turn),
+        NodeName::Switch(piece, turn) => put_two(line, k, " SWITCH ", piece, turn),
+        NodeName::Op(piece, i) => put_two(line, k, " OP ", piece, i),
     }
 }
 
-fn one_number(k: u32, kind: &str, first: u32) -> Line
-    requires { length kind.now ≤ 8 }
-    ensures { result.bytes ≡ decimal k ++ kind.now ++ decimal first ++ codes "\n" }
+#[inline(always)]
+fn put_one(line: &mut [u8], k: u32, kind: &str, first: u32) -> usize
+    requires room { length line.old ≡ LENGTH }
+    requires short { length kind.now ≤ 8 }
+    ensures bytes { drop result line.new ≡ decimal k ++ kind.now ++ decimal first ++ codes "\n" }
+    ensures within { result ≤ length line.new }
 {
-    let mut line = ArrayString::new();
-    push_number(&mut line, k);
-    line.push_str(kind);
-    push_number(&mut line, first);
-    line.push_str("\n");
-    line
+    line[LENGTH - 1] = b'\n';
+    let at = write_digits(u64::from(first), line, LENGTH - 1);
+    put_start(line, at, k, kind)
 }
 
-fn two_numbers(k: u32, kind: &str, first: u32, second: u32) -> Line
-    requires { length kind.now ≤ 8 }
-    ensures { result.bytes ≡ decimal k ++ kind.now ++ decimal first ++ codes " " ++ decimal second ++ codes "\n" }
+#[inline(always)]
+fn put_two(line: &mut [u8], k: u32, kind: &str, first: u32, second: u32) -> usize
+    requires room { length line.old ≡ LENGTH }
+    requires short { length kind.now ≤ 8 }
+    ensures bytes { drop result line.new ≡ decimal k ++ kind.now ++ decimal first ++ codes " " ++ decimal second ++ codes "\n" }
+    ensures within { result ≤ length line.new }
 {
-    let mut line = ArrayString::new();
-    push_number(&mut line, k);
-    line.push_str(kind);
-    push_number(&mut line, first);
-    line.push_str(" ");
-    push_number(&mut line, second);
-    line.push_str("\n");
-    line
+    line[LENGTH - 1] = b'\n';
+    let at = write_digits(u64::from(second), line, LENGTH - 1) - 1;
+    line[at] = b' ';
+    let at = write_digits(u64::from(first), line, at);
+    put_start(line, at, k, kind)
 }
 
-fn push_number(line: &mut Line, n: u32)
-    requires { array_string_len line.old + 10 ≤ LENGTH }
-    ensures bytes { line.new.bytes ≡ line.old.bytes ++ decimal n }
-    ensures len { array_string_len line.new ≤ array_string_len line.old + 10 }
+// Puts the node's number and the kind of its name before what stands from a place on.
+#[inline(always)]
+fn put_start(line: &mut [u8], end: usize, k: u32, kind: &str) -> usize
+    requires room { 10 + length kind.now ≤ end }
+    requires within { end ≤ length line.old }
+    ensures bytes { drop result line.new ≡ decimal k ++ kind.now ++ drop end line.old }
+    ensures within { result ≤ length line.new }
 {
-    let mut buffer = Buffer::new();
-    line.push_str(buffer.format(n));
+    let at = end - kind.len();
+    line[at..end].copy_from_slice(kind.as_bytes());
+    write_digits(u64::from(k), line, at)
 }

@@ -2,14 +2,15 @@
 
 ghost use Rattle.std.specs.Prelude.{◌≡◌, ◌+◌, ◌*◌, ◌/◌, ◌<◌, ◌≤◌, true, false, length, get_or, replicate, set, count_ones, IfOk};
 ghost use Rattle.firing.specs.BlockCounts.{CanShift, IsDigitAt, IsInBlock, before, ones_of, shifted};
-ghost use Rattle.firing.specs.ReadySet.{IsMemberAt, member_count};
+ghost use Rattle.firing.specs.ReadySet.{IsMemberAt, has, member_count};
 
 use df_io::NoMemory;
 use std::alloc::Global;
 use std::marker::Model;
 
 // How many numbers a word and a block of each level hold. A block has 16 or 32 of the level below, so that few counts are
-// read on the way to a member. The two upper levels are used only where there are more numbers than a middle block holds.
+// read on the way to a member. The lowest level is used only where there are more numbers than one of its blocks holds, and
+// the two upper ones only where there are more than a middle block holds.
 const WORD: usize = 64;
 
 const LOW: usize = 16 * WORD;
@@ -75,9 +76,9 @@ impl ReadySet {
             return;
         }
         self.words[k / WORD] = word ^ digit;
-        shift(&mut self.low, k / LOW, ready);
-        shift_upper(
-            self.room as usize > MID,
+        shift_blocks(
+            self.room,
+            &mut self.low,
             &mut self.mid,
             &mut self.high,
             k,
@@ -90,7 +91,50 @@ impl ReadySet {
         }
     }
 
+    /// Puts a number into the set that is none of its members.
+    #[inline(always)]
+    pub fn put_in(&mut self, k: u32)
+        requires inside { k < length self.old }
+        requires out { has self.old k ≡ false }
+        ensures { self.new ≡ set self.old k true }
+    {
+        let k = k as usize;
+        let word = self.words[k / WORD];
+        self.words[k / WORD] = word | 1 << (k % WORD);
+        shift_blocks(
+            self.room,
+            &mut self.low,
+            &mut self.mid,
+            &mut self.high,
+            k,
+            true,
+        );
+        self.total += 1;
+    }
+
+    /// Takes a member out of the set.
+    #[inline(always)]
+    pub fn take_out(&mut self, k: u32)
+        requires inside { k < length self.old }
+        requires member { has self.old k ≡ true }
+        ensures { self.new ≡ set self.old k false }
+    {
+        let k = k as usize;
+        let word = self.words[k / WORD];
+        self.words[k / WORD] = word ^ 1 << (k % WORD);
+        shift_blocks(
+            self.room,
+            &mut self.low,
+            &mut self.mid,
+            &mut self.high,
+            k,
+            false,
+        );
+        self.total -= 1;
+    }
+
     /// The member at this place, counted from 0 in number order.
+    #[inline(always)]
     pub fn at(&self, place: u32) -> u32
         requires { place < member_count self.now }
         ensures { IsMemberAt self.now place result }
@@ -102,17 +146,23 @@ impl ReadySet {
     }
 
     // The word that has the member at this place, and its place in the word. The other functions tell so of a block.
+    #[inline(always)]
     fn word(&self, place: u32) -> (usize, u32)
         requires { place < member_count self.now }
         ensures { IsInBlock self.now 64 place result.0 result.1 }
     {
-        let (b, left) = self.low_block(place);
         let words = self.words.as_slice();
+        if self.room as usize <= LOW {
+            return scan_words(words, 0, place);
+        }
+        let (b, left) = self.low_block(place);
         scan_words(words, 16 * b, left)
     }
 
+    #[inline(always)]
     fn low_block(&self, place: u32) -> (usize, u32)
-        requires { place < member_count self.now }
+        requires many { 1024 < length self.now }
+        requires place { place < member_count self.now }
         ensures { IsInBlock self.now 1024 place result.0 result.1 }
     {
         if self.room as usize <= MID {
@@ -122,6 +172,7 @@ impl ReadySet {
         scan(&self.low, 32 * b, left)
     }
 
+    #[inline(never)]
     fn mid_block(&self, place: u32) -> (usize, u32)
         requires many { 32768 < length self.now }
         requires place { place < member_count self.now }
@@ -152,7 +203,31 @@ fn shift(counts: &mut Vec<u32>, b: usize, more: bool)
     }
 }
 
+// Counts a number, which comes or goes, in the blocks of each level that is used in a set of this room.
+#[inline(always)]
+fn shift_blocks(
+    room: u32,
+    low: &mut Vec<u32>,
+    mid: &mut Vec<u32>,
+    high: &mut Vec<u32>,
+    k: usize,
+    more: bool,
+)
+    requires low { 1024 < room → CanShift low.old.items (k / 1024) more }
+    requires mid { 32768 < room → CanShift mid.old.items (k / 32768) more }
+    requires high { 32768 < room → CanShift high.old.items (k / 1048576) more }
+    ensures low { 1024 < room → low.new.items ≡ set low.old.items (k / 1024) (shifted (get_or low.old.items (k / 1024) 0) more) }
+    ensures mid { 32768 < room → mid.new.items ≡ set mid.old.items (k / 32768) (shifted (get_or mid.old.items (k / 32768) 0) more) }
+    ensures high { 32768 < room → high.new.items ≡ set high.old.items (k / 1048576) (shifted (get_or high.old.items (k / 1048576) 0) more) }
+{
+    if room as usize > LOW {
+        shift(low, k / LOW, more);
+        shift_upper(room as usize > MID, mid, high, k, more);
+    }
+}
+
 // Counts a number, which comes or goes, in the two upper levels, if they are used.
+#[inline(always)]
 fn shift_upper(used: bool, mid: &mut Vec<u32>, high: &mut Vec<u32>, k: usize, more: bool)
     requires mid { used ≡ true → CanShift mid.old.items (k / 32768) more }
     requires high { used ≡ true → CanShift high.old.items (k / 1048576) more }

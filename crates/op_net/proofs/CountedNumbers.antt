@@ -1,12 +1,12 @@
 -- Counts and marks, after one count has changed.
-use Rattle.std.proofs.Common.{◌≡◌, ◌⊎◌, inl, inr, ℕ, ◌+◌, ◌-◌, ◌<◌, ◌≤◌, ◌==◌, Bool, true, false, List, length, get_or, set, map, refl, sym, ap, ◌∙◌, arith}
+use Rattle.std.proofs.Common.{◌≡◌, ◌⊎◌, ⊎_elim, inl, inr, ℕ, ◌+◌, ◌-◌, ◌<◌, ◌≤◌, ◌==◌, Bool, true, false, if◌then◌else◌, List, length, get_or, set, map, refl, sym, ap, ◌∙◌, arith}
 use Rattle.std.specs.List.{range_with_len}
 use Rattle.std.proofs.lemmas.Bool.{cases_eq, eq-eqb, ne_eqb}
 use Rattle.std.proofs.lemmas.List.{length-set, get_or-set_same, get_or-set_other}
 use Rattle.std.proofs.lemmas.List.FromFn.{fill_by_all, get_or-map-range_with_len, length-map-range_with_len}
 use Rattle.firing.specs.ReadySet.{has}
 use Rattle.op_net.specs.Waits.{one_if}
-use Rattle.op_net.specs.Counts.{AreCounts, one_more}
+use Rattle.op_net.specs.Counts.{AreCounts, more_of, one_more}
 
 module _ (n : ℕ) where
   pub count_at : (f : ℕ → ℕ) (counts : List ℕ) (k : ℕ) → counts ≡ map f (range_with_len 0 n) → k < n → get_or counts k 0 ≡ f k
@@ -111,3 +111,36 @@ module _ (n : ℕ) (f : ℕ → ℕ) (k : ℕ) where
         let at = less_at are inside count is in
         counts_kept n (one_more f k) f but counts marks are k inside (λ j differ. sym (other_same j differ)) count at
         (ap (λ c. c == 0) here_more ∙ zero_not (f k) ∙ sym (ne_eqb (f k) 0 (λ e. some (at ∙ e))))
+
+-- ---- so many more
+
+module _ (n : ℕ) (f : ℕ → ℕ) (k much : ℕ) where
+  other_of : (j : ℕ) → (j ≡ k → ⊥) → more_of f k much j ≡ f j
+  other_of j differ = let e : (if j == k then much else 0) ≡ 0 = ap (λ b. if b then much else 0) (ne_eqb j k differ) in omega (arith, e)
+
+  here_of : more_of f k much k ≡ f k + much
+  here_of = ap (λ b. f k + (if b then much else 0)) (eq-eqb k k refl)
+
+  module _ (but : ℕ → Bool) (counts : List ℕ) (marks : List Bool) (are : AreCounts n f but counts marks) where
+    pub anew_outside : n ≤ k → AreCounts n (more_of f k much) but counts marks
+    anew_outside past = counts_same n f (more_of f k much) but counts marks are (λ j below. other_of j (λ e. omega (arith, e, below, past)))
+
+    module _ (inside : k < n) (count : ℕ) (is : count ≡ get_or counts k 0) where
+      count_here : count ≡ f k
+      count_here = is ∙ count_at n f counts k are.counts inside
+
+      pub anew_marked : 0 < much → AreCounts n (more_of f k much) but (set counts k (count + much)) (set marks k false)
+      anew_marked some =
+          counts_put n f (more_of f k much) but counts marks are k inside other_of (count + much) false (ap (λ c. c + much) count_here ∙ sym here_of)
+          (sym (ap (λ c. c == 0) here_of ∙ ne_eqb (f k + much) 0 (λ e. omega (arith, e, some))))
+
+      pub anew_kept : (count ≡ 0 → much ≡ 0) → AreCounts n (more_of f k much) but (set counts k (count + much)) marks
+      anew_kept none =
+          counts_kept n f (more_of f k much) but counts marks are k inside other_of (count + much) (ap (λ c. c + much) count_here ∙ sym here_of)
+          (zero_alike (f k) much (λ e. none (count_here ∙ e)) ∙ sym (ap (λ c. c == 0) here_of))
+        where
+          zero_alike : (c m : ℕ) → (c ≡ 0 → m ≡ 0) → (c == 0) ≡ (c + m == 0)
+          zero_alike c m same = ⊎_elim
+              (λ (e : c ≡ 0). let none = same e in eq-eqb c 0 e ∙ sym (eq-eqb (c + m) 0 (omega (arith, e, none))))
+              (λ (differ : c ≡ 0 → ⊥). ne_eqb c 0 differ ∙ sym (ne_eqb (c + m) 0 (λ e. differ (omega (arith, e)))))
+              (cases_eq c 0)

@@ -1,6 +1,6 @@
 -- It is counted for how much nodes wait, before and after a change.
 use Rattle.std.proofs.Common.{◌≡◌, ◌<◌, ◌≤◌, ◌+◌, ◌-◌, ◌^◌, ◌==◌, ⊎_elim, ℕ, Bool, true, false, List, [], All, length, get_or, refl, sym, ap, ◌∙◌, subst, arith}
-use Rattle.std.proofs.lemmas.Bool.{cases_Bool, eq-eqb}
+use Rattle.std.proofs.lemmas.Bool.{cases_Bool, eq-eqb, ne_eqb}
 use Rattle.firing.specs.ReadySet.{has}
 use Rattle.op_board.specs.OperationNets.{OperationNet}
 use Rattle.op_board.specs.OperationTokens.{OperationTokens}
@@ -95,6 +95,18 @@ module _ (x : OperationNet) (old : Places) (are : IsCounted x old) where
         let one : one_if (to == to) ≡ 1 = ap one_if (eq-eqb to to refl) in
         let same_led : one_if (has mid.apart.items to) ≡ one_if (has apart to) = ap (λ (led : List Bool). one_if (has led to)) led in
         omega (arith, at, one, same_led))
+        (λ (none : mid.counted ≡ false). let e = ap length (none_there none) in absurd (omega (arith, inside, e)))
+        (cases_Bool mid.counted)
+
+    -- since it waits for something, it isn't marked
+    pub less_right : to < length mid.counts.items → has mid.apart.items to ≡ false → has mid.set to ≡ false
+    less_right inside free = ⊎_elim
+        (λ (counted : mid.counted ≡ true).
+        let long = mid_long counted in
+        let at = count_at (node_total x) (one_more (count_in new) to) mid.counts.items to (mid_counts counted).counts (omega (arith, inside, long)) in
+        let some = less_some inside in
+        (mid_counts counted).marks.right to (omega (arith, inside, long)) (ap (λ (l : List Bool). has l to) (sym led) ∙ free)
+        ∙ ne_eqb (one_more (count_in new) to to) 0 (λ none. omega (arith, at, some, none)))
         (λ (none : mid.counted ≡ false). let e = ap length (none_there none) in absurd (omega (arith, inside, e)))
         (cases_Bool mid.counted)
 

@@ -1,5 +1,5 @@
 -- It is counted after several changes as it was before.
-use Rattle.std.proofs.Common.{◌≡◌, ◌≤◌, ◌<◌, ℕ, Bool, true, false, List, set, refl, ap, sym, subst, ◌∙◌, arith}
+use Rattle.std.proofs.Common.{◌≡◌, ℕ, Bool, true, false, List, set, refl, ap, sym, subst, ◌∙◌, arith}
 use Rattle.std.proofs.lemmas.List.{get_or-set_other}
 use Rattle.firing.specs.ReadySet.{has}
 use Rattle.op_net.specs.declared.places.Places.{Places}
@@ -21,6 +21,13 @@ keeps_more s t u first second = record {
 -- a node that waits for nothing is led by no other game
 pub none_apart : (apart : List Bool) (k : ℕ) → one_if (has apart k) ≡ 0 → has apart k ≡ true → ⊥
 none_apart apart k none is = let one : one_if (has apart k) ≡ 1 = ap one_if is in absurd (omega (arith, none, one))
+
+pub led_not : (apart : List Bool) (k : ℕ) → one_if (has apart k) ≡ 0 → has apart k ≡ false
+led_not apart k none = by (has apart k) none
+  where
+    by : (b : Bool) → one_if b ≡ 0 → b ≡ false
+    by true one = absurd (omega (arith, one))
+    by false one = refl
 
 -- where the mark of another node changes, those of nodes that another game leads stay
 pub flags_kept : (apart flags : List Bool) (k : ℕ) (b : Bool) → (has apart k ≡ true → ⊥) → (j : ℕ) → has apart j ≡ true → has (set flags k b) j ≡ has flags j

@@ -29,6 +29,9 @@ none_there (Some e) is = let no : false ≡ true = is in absurd cc
 pub row_at : (k end : ℕ) → k < end → range_with_len k (end - k) ≡ k ∷ range_with_len (k + 1) (end - (k + 1))
 row_at k end low = let more : end - k ≡ suc (end - (k + 1)) = omega (arith, low) in ap (range_with_len k) more
 
+pub row_next : (k end : ℕ) → k < end → length (range_with_len k (end - k)) ≡ 1 + length (range_with_len (k + 1) (end - (k + 1)))
+row_next k end low = let same : length (range_with_len k (end - k)) ≡ suc (length (range_with_len (k + 1) (end - (k + 1)))) = ap length (row_at k end low) in omega (arith, same)
+
 pub row_none : (k end : ℕ) → end ≤ k → range_with_len k (end - k) ≡ []
 row_none k end past = let none : end - k ≡ 0 = omega (arith, past) in ap (range_with_len k) none
 

@@ -3,7 +3,7 @@ use Rattle.std.proofs.Common.{◌≡◌, ◌⊎◌, ◌+◌, inl, inr, ℕ, ℤ,
 use Rattle.std.specs.List.{list_all}
 use Rattle.op_table.specs.declared.Trap.{Trap}
 use Rattle.cfg_build.specs.Passes.{out}
-use Rattle.f77_tree.specs.Execution.{Memory}
+use Rattle.f77_tree.specs.Execution.{Memory, next_word}
 use Rattle.f77_tree.specs.declared.programs.NameInfo.{NameInfo}
 use Rattle.firing.specs.declared.system.Fired.{Fired}
 use Rattle.firing.specs.declared.system.Fired.TheVariants.{Line, Moved, Trapped}
@@ -13,7 +13,8 @@ use Rattle.firing.specs.Moves.{FiredIs, newest}
 use Rattle.net_board.specs.Nodes.{graph_in, switches}
 use Rattle.net_board.specs.Tokens.{written, with_all, led_from}
 use Rattle.net_board.proofs.ListPlaces.{get_set_same, get_set_other, put, same_list, same_or_not}
-use Rattle.op_board.specs.Effects.{Effect, gives, performed, tells}
+use Rattle.op_table.specs.Operators.{applied}
+use Rattle.op_board.specs.Effects.{Effect, gives, performed, result_given, taken_from, tells}
 use Rattle.op_board.specs.Operations.{Advance, Begin, DecideFirst, DecideNumber, DecideSign, DecideTrips, DecideTruth, From, Known, Load, Operand, Operate, Operation, Store, Take, Work, Write, gives_value, is_decision}
 use Rattle.op_board.specs.OperationNets.{OperationNet, first_operation, last_needed, needed, operation_at, operation_node}
 use Rattle.op_board.specs.OperationTokens.{OperationTokens, can_operate, fired_as, givers, has_room, are_clear, is_given, line_as, operand_in, operated, operated_on, operation_moves, passed_after, performed_at, replaced, stands_before, stopped_by, taken_values, text_written, value_at, value_of, zero_effect}
@@ -131,6 +132,10 @@ gives_tell_nothing (DecideNumber count) gives = absurd cc
 gives_tell_nothing (DecideTrips loop_no) gives = absurd cc
 gives_tell_nothing DecideFirst gives = absurd cc
 
+abbrev given_in : Result Effect Trap → Bool
+given_in (Err trap) = true
+given_in (Ok e) = is_some e.value
+
 module _ (names : List NameInfo) (input : List ℤ) (m : Memory) where
   -- what gives a value is an operation that does
   pub giving : (work : Work) (args : List ℤ) (after : Memory) (z : ℤ) → performed names input m work args ≡ Ok (gives after z) → gives_value work ≡ true
@@ -154,24 +159,35 @@ module _ (names : List NameInfo) (input : List ℤ) (m : Memory) where
   trapping (DecideTrips loop_no) args trap is = absurd cc
   trapping DecideFirst args trap is = absurd cc
 
-  abbrev text_in : Result Effect Trap → List ℕ
-  text_in (Err trap) = []
-  text_in (Ok e) = e.text
+  given_is : (work : Work) (args : List ℤ) (e : Effect) → performed names input m work args ≡ Ok e → gives_value work ≡ true → is_some e.value ≡ true
+  given_is (Load name subs) args e is gives = ap given_in (sym is)
+  given_is (Operate op) args e is gives = given_by (applied op args) is
+    where
+      given_by : (r : Result ℤ Trap) → result_given m r ≡ Ok e → is_some e.value ≡ true
+      given_by (Ok z) is = ap given_in (sym is)
+      given_by (Err trap) is = absurd cc
+  given_is (Store name subs) args e is gives = absurd cc
+  given_is Take args e is gives = taken_by (next_word input m) is
+    where
+      taken_by : (o : Option ℤ) → taken_from m o ≡ Ok e → is_some e.value ≡ true
+      taken_by (Some z) is = ap given_in (sym is)
+      taken_by None is = absurd cc
+  given_is (Write items) args e is gives = absurd cc
+  given_is (Begin loop_no var) args e is gives = absurd cc
+  given_is (Advance loop_no var) args e is gives = absurd cc
+  given_is DecideTruth args e is gives = absurd cc
+  given_is DecideSign args e is gives = absurd cc
+  given_is (DecideNumber count) args e is gives = absurd cc
+  given_is (DecideTrips loop_no) args e is gives = absurd cc
+  given_is DecideFirst args e is gives = absurd cc
 
-  -- a decision writes nothing
-  pub writing : (work : Work) (args : List ℤ) (e : Effect) → performed names input m work args ≡ Ok e → (e.text ≡ [] → ⊥) → is_decision work ≡ false
-  writing (Load name subs) args e is text = refl
-  writing (Operate op) args e is text = refl
-  writing (Store name subs) args e is text = refl
-  writing Take args e is text = refl
-  writing (Write items) args e is text = refl
-  writing (Begin loop_no var) args e is text = refl
-  writing (Advance loop_no var) args e is text = refl
-  writing DecideTruth args e is text = absurd (text (ap text_in (sym is)))
-  writing DecideSign args e is text = absurd (text (ap text_in (sym is)))
-  writing (DecideNumber count) args e is text = absurd (text (ap text_in (sym is)))
-  writing (DecideTrips loop_no) args e is text = absurd (text (ap text_in (sym is)))
-  writing DecideFirst args e is text = absurd (text (ap text_in (sym is)))
+  -- what gives no value is an operation that gives none
+  pub giving_none : (work : Work) (args : List ℤ) (e : Effect) → performed names input m work args ≡ Ok e → e.value ≡ None → gives_value work ≡ false
+  giving_none work args e is none = by (gives_value work) refl
+    where
+      by : (b : Bool) → gives_value work ≡ b → b ≡ false
+      by true h = let clash : false ≡ true = sym (ap (λ (o : Option ℤ). is_some o) none) ∙ given_is work args e is h in absurd cc
+      by false h = refl
 
 -- ---- markings
 
@@ -212,16 +228,17 @@ module _ (x : OperationNet) (m : OperationTokens) (k piece i : ℕ) where
   pub gave_gives : (memory : Memory) (z : ℤ) → result ≡ Ok (gives memory z) → gives_value op.work ≡ true
   gave_gives memory z is = giving x.net.program.names x.net.input m.tokens.memory op.work (map (operand_in x m piece) op.operands) memory z is
 
+  pub tells_give_nothing : (e : Effect) → result ≡ Ok e → e.value ≡ None → gives_value op.work ≡ false
+  tells_give_nothing e is none = giving_none x.net.program.names x.net.input m.tokens.memory op.work (map (operand_in x m piece) op.operands) e is none
+
   pub told_marking : (memory : Memory) (choice : ℕ) → value_at m k ≡ None → result ≡ Ok (tells memory choice) → told_on x (worked_on x m piece i memory) piece i choice ≡ operated x m k piece i op result
   told_marking memory choice none is =
       ap (λ values. made (is_decision op.work) choice memory values) (sym (no_value none))
       ∙ ap (operated x m k piece i op) (sym is)
 
-  pub wrote_marking : (memory : Memory) (text : List ℕ) → value_at m k ≡ None → (text ≡ [] → ⊥) → result ≡ Ok (record { value = None; memory = memory; text = text; choice = 0 }) → gone_on x (worked_on x m piece i memory) piece i 0 ≡ operated x m k piece i op result
-  wrote_marking memory text none some is =
-      let silent : is_decision op.work ≡ false = writing x.net.program.names x.net.input m.tokens.memory op.work (map (operand_in x m piece) op.operands) (record { value = None; memory = memory; text = text; choice = 0 }) is some in
-      ap (λ values. made false 0 memory values) (sym (no_value none))
-      ∙ ap (λ (b : Bool). made b 0 memory (slice_set (taken_values x m piece op) k None)) (sym silent)
+  pub wrote_marking : (memory : Memory) (text : List ℕ) → value_at m k ≡ None → result ≡ Ok (record { value = None; memory = memory; text = text; choice = 0 }) → told_on x (worked_on x m piece i memory) piece i 0 ≡ operated x m k piece i op result
+  wrote_marking memory text none is =
+      ap (λ values. made (is_decision op.work) 0 memory values) (sym (no_value none))
       ∙ ap (operated x m k piece i op) (sym is)
 
   zero_is : gives_value op.work ≡ true → gives m.tokens.memory (pos 0) ≡ zero_effect m op.work

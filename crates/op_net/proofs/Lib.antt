@@ -28,10 +28,13 @@ pub mod LookedUp
 pub mod TurnNodes
 pub mod RisingLines
 pub mod CountsKept
+pub mod MadeUp
+pub mod CountedAhead
 pub mod DueFirings
 pub mod JoinedFirings
 pub mod NetFirings
 pub mod RowFacts
+pub mod RowReads
 pub mod HopFacts
 pub mod WaitBounds
 pub mod FoldedLists
@@ -50,10 +53,12 @@ pub mod RowRooms
 pub mod RowEntries
 pub mod RowTakers
 pub mod RowMade
+pub mod RowOperands
 pub mod RowWaits
 pub mod CountedBelow
 pub mod OperationWaits
 pub mod NextNets
+pub mod OperatedNets
 pub mod TaskPropositions
 pub mod ReadyNodes
 pub mod PlannedOperations
@@ -62,3 +67,4 @@ pub mod PieceLines
 pub mod PieceValues
 pub mod ApartNets
 pub mod PassedNodes
+pub mod FirstThree

@@ -59,6 +59,9 @@ module _ {W : ℕ} (board : OperationBoard W) (s t : Places) (are : ArePlaces (o
     lie = subst (λ (m : OperationTokens). AreEdges x.net m.tokens.edges) (sym is) lie;
   }
 
+  pub same_kept : standing t ≡ standing s → ArePlaces x t
+  same_kept is = places_with (standing s) is refl refl refl refl are.stand are.lie
+
   pub taken_kept : (piece i : ℕ) → standing t ≡ values_taken x (standing s) piece i → ArePlaces x t
   taken_kept piece i is = places_with (values_taken x (standing s) piece i) is refl refl refl (length_replaced s.values.items (givers x piece (operation_at x piece i).operands) (λ k. None)) are.stand are.lie
 

@@ -9,7 +9,7 @@ use Rattle.op_board.specs.OperationNets.{OperationNet, needed, operation_at}
 use Rattle.op_board.specs.Operations.{Operand, Known, From}
 use Rattle.operation_lists.specs.Seen.{operand_seen}
 use Rattle.operation_lists.specs.declared.operations.Operand as kept
-use Rattle.op_net.specs.OperationRows.{IsHop, IsRow}
+use Rattle.op_net.specs.OperationRows.{IsHop, IsRow, first_three}
 use Rattle.op_net.specs.declared.hops.Hop.{Hop}
 use Rattle.op_net.specs.declared.rows.Row.{Row}
 
@@ -41,6 +41,12 @@ module _ (x : OperationNet) (piece i : ℕ) (row : Row) (is : ∥ IsRow x piece 
 
   pub row_operands : map operand_seen row.operands.items ≡ (operation_at x piece i).operands
   row_operands = sym (same_operands (map operand_seen row.operands.items)) ∙ ap back pairs_same ∙ same_operands (operation_at x piece i).operands
+
+  few_pairs : map as_pair (map operand_seen row.few) ≡ map as_pair (first_three (operation_at x piece i).operands)
+  few_pairs = ∥∥₁_elim is (Prim.hlevel props) (λ (r : IsRow x piece i row). ap (map as_pair) r.few)
+
+  pub row_few : map operand_seen row.few ≡ first_three (operation_at x piece i).operands
+  row_few = sym (same_operands (map operand_seen row.few)) ∙ ap back few_pairs ∙ same_operands (first_three (operation_at x piece i).operands)
 
   pub row_lines : map (λ (hop : Hop). hop.line) row.hops.items ≡ needed x piece i
   row_lines = ∥∥₁_elim is (Prim.hlevel props) (λ (r : IsRow x piece i row). r.lines)

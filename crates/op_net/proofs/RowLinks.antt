@@ -57,6 +57,9 @@ module _ (x : OperationNet) (piece i : ℕ) where
       takes = is.takes;
       room = is.room;
       operands = is.operands;
+      few = is.few;
+      count = is.count;
+      waits = is.waits;
       gives = is.gives;
       decides = is.decides;
       serial = is.serial;

@@ -12,7 +12,7 @@ use Rattle.op_board.specs.Operations.{Operand, Known, From}
 use Rattle.op_board.proofs.OperationsApart.{operation_get}
 use Rattle.op_board.proofs.ValueTaking.{taken_once, takes_by_more, takes_one_same}
 use Rattle.op_net.specs.OperationRows.{IsTaker}
-use Rattle.op_net.specs.PlaceSteps.{IsOwnOperand, operand_taken}
+use Rattle.op_net.specs.PlaceSteps.{IsOwnOperand, operand_taken, values_for}
 use Rattle.op_net.specs.PlacesView.{value_put}
 use Rattle.op_net.specs.StandingChanges.{values_taken}
 use Rattle.op_net.specs.Waits.{IsNodeAfter, node_total}
@@ -57,7 +57,7 @@ module _ (x : OperationNet) (piece : ℕ) where
       let most = once number in
       omega (arith, some, one, most)
 
-  still_given : (m : OperationTokens) (operand : Operand) (rest : List Operand) → ((number : ℕ) → takes_by (operand ∷ rest) number ≤ 1) → list_all (is_given x m piece) rest ≡ true → list_all (is_given x (operand_taken x piece m operand) piece) rest ≡ true
+  pub still_given : (m : OperationTokens) (operand : Operand) (rest : List Operand) → ((number : ℕ) → takes_by (operand ∷ rest) number ≤ 1) → list_all (is_given x m piece) rest ≡ true → list_all (is_given x (operand_taken x piece m operand) piece) rest ≡ true
   still_given m (Known z) rest once given = given
   still_given m (From number) rest once given =
       same_tests (is_given x (value_put m (first_operation x piece + number) None) piece) (is_given x m piece) rest
@@ -72,7 +72,7 @@ module _ (x : OperationNet) (piece : ℕ) where
   same_reads f g [] same = refl
   same_reads f g (operand ∷ operands) same = ap (λ z. z ∷ map f operands) (same operand (inl refl)) ∙ ap (λ zs. g operand ∷ zs) (same_reads f g operands (λ other among. same other (inr among)))
 
-  still_read : (m : OperationTokens) (operand : Operand) (rest : List Operand) → ((number : ℕ) → takes_by (operand ∷ rest) number ≤ 1) → map (operand_in x (operand_taken x piece m operand) piece) rest ≡ map (operand_in x m piece) rest
+  pub still_read : (m : OperationTokens) (operand : Operand) (rest : List Operand) → ((number : ℕ) → takes_by (operand ∷ rest) number ≤ 1) → map (operand_in x (operand_taken x piece m operand) piece) rest ≡ map (operand_in x m piece) rest
   still_read m (Known z) rest once = refl
   still_read m (From number) rest once =
       same_reads (operand_in x (value_put m (first_operation x piece + number) None) piece) (operand_in x m piece) rest
@@ -84,7 +84,7 @@ module _ (x : OperationNet) (piece : ℕ) where
     own_operand (Known z) among = tt
     own_operand (From number) among = record { inside = inside; takes = member_takes (operation_at x piece i).operands number among }
 
-    once_taken : (number : ℕ) → takes_by (operation_at x piece i).operands number ≤ 1
+    pub once_taken : (number : ℕ) → takes_by (operation_at x piece i).operands number ≤ 1
     once_taken number =
         let most = no_more (operations_at x piece) i number (operation_at x piece i) (operation_get x piece i inside) in
         let one = taken_once x.net.program.names (kind_in x.net piece) (exec_kind x.net.program piece) number in
@@ -107,6 +107,11 @@ module _ (x : OperationNet) (piece : ℕ) where
         let some : takes_by (operand ∷ rest) number ≤ takes_by (operation_at x piece i).operands number = subst (λ (os : List Operand). takes_by os number ≤ takes_by (operation_at x piece i).operands number) is (left_takes (operation_at x piece i).operands place number) in
         let one = once_taken number in
         omega (arith, some, one))
+
+  -- so many values are taken for the first and for those after it
+  pub values_next : (operand : Operand) (rest : List Operand) → length (givers x piece (operand ∷ rest)) ≡ values_for operand + length (givers x piece rest)
+  values_next (Known z) rest = omega arith
+  values_next (From number) rest = omega arith
 
   pub operands_taken : (m : OperationTokens) (i : ℕ) → fold (operand_taken x piece) m (operation_at x piece i).operands ≡ values_taken x m piece i
   operands_taken m i = all_taken m (operation_at x piece i).operands

@@ -5,20 +5,22 @@ use Rattle.std.proofs.lemmas.List.{length-map}
 use Rattle.std.specs.List.{list_all}
 use Rattle.list_laws.specs.Member.{Member}
 use Rattle.net_board.proofs.ListPlaces.{length_slice_set}
-use Rattle.op_board.specs.OperationNets.{OperationNet, needed, operation_at, operation_count}
-use Rattle.op_board.specs.OperationTokens.{OperationTokens, is_given, operand_in, stands_before}
+use Rattle.op_board.specs.OperationNets.{OperationNet, first_operation, needed, operation_at, operation_count}
+use Rattle.op_board.specs.OperationTokens.{OperationTokens, givers, is_given, operand_in, stands_before}
 use Rattle.op_board.specs.Operations.{Operand}
 use Rattle.op_board.proofs.NeededLines.{needed_has}
 use Rattle.operation_lists.specs.Seen.{operand_seen}
 use Rattle.operation_lists.specs.declared.operations.Operand as rust
 use Rattle.op_net.specs.OperationRows.{IsHop, IsRow}
-use Rattle.op_net.specs.PlaceSteps.{IsOwnOperand, line_dropped, line_moved, operand_taken}
-use Rattle.op_net.specs.PlacesView.{line_put}
+use Rattle.op_net.specs.PlaceSteps.{IsOwnOperand, line_dropped, line_moved, operand_taken, values_for}
+use Rattle.op_net.specs.PlacesView.{IsAheadBy, MakesUp, line_put}
 use Rattle.op_net.specs.declared.hops.Hop.{Hop}
+use Rattle.op_net.specs.declared.places.Places.{Places}
 use Rattle.op_net.specs.declared.rows.Row.{Row}
+use Rattle.op_net.proofs.MadeUp.{LeavesAhead, leaves_ahead, leaves_next}
 use Rattle.op_net.proofs.FoldedLists.{Member-left_at, first_passes, fold_next, left_at, map_next, not_left, rest_passes}
 use Rattle.op_net.proofs.MovedLines.{distinct_needed, moved_length, moved_passed, moved_stand, still_stand}
-use Rattle.op_net.proofs.TakenOperands.{own_operand, rest_given, rest_read, taken_length}
+use Rattle.op_net.proofs.TakenOperands.{own_operand, rest_given, rest_read, taken_length, values_next}
 
 get_or_any : {A : Type 0} (xs : List A) (i : ℕ) (a b : A) → i < length xs → get_or xs i a ≡ get_or xs i b
 get_or_any [] i a b low = absurd (omega (arith, low))
@@ -49,6 +51,21 @@ module _ (x : OperationNet) (piece i : ℕ) where
 
     left_operands : drop j operands ≡ operand ∷ drop (j + 1) operands
     left_operands = left_get operand_seen items operands j d seen low
+
+    -- so many values are taken for it and for those after it
+    takes_next : length (givers x piece (drop j operands)) ≡ values_for operand + length (givers x piece (drop (j + 1) operands))
+    takes_next = ap (λ (os : List Operand). length (givers x piece os)) left_operands ∙ values_next x piece operand (drop (j + 1) operands)
+
+    module _ (old now : Places) (first : ℕ) (is : first ≡ first_operation x piece) (leaves : LeavesAhead x old now (first_operation x piece + i) (length (givers x piece operands)) (length (givers x piece (drop j operands)))) where
+      pub operand_ahead : ∥ IsAheadBy x old (first_operation x piece + i) (length (givers x piece operands)) ∥₁ → ∥ IsAheadBy x now (first + i) (values_for operand) ∥₁
+      operand_ahead ahead =
+          subst (λ (f : ℕ). ∥ IsAheadBy x now (f + i) (values_for operand) ∥₁) (sym is)
+          (leaves_ahead x (first_operation x piece + i) old now (length (givers x piece operands)) (length (givers x piece (drop j operands))) (values_for operand) (length (givers x piece (drop (j + 1) operands))) ahead leaves takes_next)
+
+      pub operand_leaves : (new : Places) → MakesUp x now new (first + i) (values_for operand) → LeavesAhead x old new (first_operation x piece + i) (length (givers x piece operands)) (length (givers x piece (drop (j + 1) operands)))
+      operand_leaves new makes =
+          leaves_next x (first_operation x piece + i) old now new (length (givers x piece operands)) (length (givers x piece (drop j operands))) (values_for operand) (length (givers x piece (drop (j + 1) operands))) leaves takes_next
+          (subst (λ (f : ℕ). MakesUp x now new (f + i) (values_for operand)) is makes)
 
     pub own_at : i < operation_count x piece → IsOwnOperand x piece i operand
     own_at inside = own_operand x piece i inside operand (Member-left_at operands j operand (drop (j + 1) operands) left_operands)
@@ -89,6 +106,21 @@ module _ (x : OperationNet) (piece i : ℕ) where
 
     left_lines : drop j lines ≡ line ∷ drop (j + 1) lines
     left_lines = left_get line_of items lines j d seen low
+
+    -- with it one more is left than after it
+    lines_next : length (drop j lines) ≡ 1 + length (drop (j + 1) lines)
+    lines_next = let same : length (drop j lines) ≡ suc (length (drop (j + 1) lines)) = ap length left_lines in omega (arith, same)
+
+    module _ (old now : Places) (first : ℕ) (is : first ≡ first_operation x piece) (leaves : LeavesAhead x old now (first_operation x piece + i) (length lines) (length (drop j lines))) where
+      pub line_ahead : ∥ IsAheadBy x old (first_operation x piece + i) (length lines) ∥₁ → ∥ IsAheadBy x now (first + i) 1 ∥₁
+      line_ahead ahead =
+          subst (λ (f : ℕ). ∥ IsAheadBy x now (f + i) 1 ∥₁) (sym is)
+          (leaves_ahead x (first_operation x piece + i) old now (length lines) (length (drop j lines)) 1 (length (drop (j + 1) lines)) ahead leaves lines_next)
+
+      pub line_leaves : (new : Places) → MakesUp x now new (first + i) 1 → LeavesAhead x old new (first_operation x piece + i) (length lines) (length (drop (j + 1) lines))
+      line_leaves new makes =
+          leaves_next x (first_operation x piece + i) old now new (length lines) (length (drop j lines)) 1 (length (drop (j + 1) lines)) leaves lines_next
+          (subst (λ (f : ℕ). MakesUp x now new (f + i) 1) is makes)
 
     line_needed : Member lines line
     line_needed = Member-left_at lines j line (drop (j + 1) lines) left_lines

@@ -1,5 +1,5 @@
 -- Numbers that are counted, and marks of those whose count is 0.
-use Rattle.std.specs.Prelude.{◌≡◌, ◌<◌, ◌+◌, ◌==◌, ℕ, Bool, false, List, length, map}
+use Rattle.std.specs.Prelude.{◌≡◌, ◌<◌, ◌+◌, ◌==◌, ℕ, Bool, false, if◌then◌else◌, List, length, map}
 use Rattle.std.specs.List.{range_with_len}
 use Rattle.firing.specs.ReadySet.{has}
 use Rattle.op_net.specs.Waits.{one_if}
@@ -17,3 +17,7 @@ pub record AreCounts (n : ℕ) (count : ℕ → ℕ) (but : ℕ → Bool) (numbe
 -- these counts, with one more of k
 abbrev pub one_more : (ℕ → ℕ) → (k : ℕ) → ℕ → ℕ
 one_more count k j = count j + one_if (j == k)
+
+-- these counts, with so many more of k
+abbrev pub more_of : (ℕ → ℕ) → (k n : ℕ) → ℕ → ℕ
+more_of count k n j = count j + (if j == k then n else 0)

@@ -1,16 +1,18 @@
 -- What the rows of operations hold.
-use Rattle.std.specs.Prelude.{◌≡◌, ◌<◌, ◌≤◌, ℕ, suc, true, false, List, length, map, All, Option, Some, None, slice_get}
+use Rattle.std.specs.Prelude.{◌≡◌, ◌<◌, ◌≤◌, ◌+◌, ◌++◌, ℕ, pos, suc, true, false, if◌then◌else◌, List, [], ◌∷◌, length, map, take, All, Option, Some, None, slice_get}
 use Rattle.cfg_build.specs.Passes.{out}
 use Rattle.f77_meaning.specs.Room.{most_room}
-use Rattle.net_board.specs.Nodes.{graph_in, is_acting, kind_in, touched}
-use Rattle.op_board.specs.Operations.{Operation, gives_value, is_decision}
+use Rattle.net_board.specs.Nodes.{graph_in, is_acting, kind_in, switches, touched}
+use Rattle.op_board.specs.Operations.{Operand, Known, Operation, gives_value, is_decision}
 use Rattle.op_board.specs.OperationLists.{takes_by}
 use Rattle.op_board.specs.OperationNets.{OperationNet, is_last_at, needed, needing_before, operation_at, operation_count, operation_in}
+use Rattle.op_board.specs.OperationTokens.{givers}
 use Rattle.operation_lists.specs.Seen.{operand_seen}
 use Rattle.operation_effects.specs.Tasks.{CanPerform, IsTaskOf, TakesOperands, task_room}
 use Rattle.op_net.specs.declared.hops.Hop.{Hop}
 use Rattle.op_net.specs.declared.rows.Row.{Row}
 use Rattle.op_net.specs.declared.rows.PieceRows.{PieceRows}
+use Rattle.op_net.specs.Waits.{one_if}
 
 -- ---- the lines of an operation
 
@@ -48,6 +50,22 @@ pub record IsTakerIn (ops : List Operation) (number taker : ℕ) : Type 0 where
   pub inside : taker < length ops
   pub takes : 0 < takes_by (operation_in (slice_get ops taker)).operands number
 
+-- how many switches a decision waits for once it has fired
+abbrev pub room_of : OperationNet → (piece i : ℕ) → ℕ
+room_of x piece i = if is_decision (operation_at x piece i).work then length (switches x.net piece) else 0
+
+-- For how much an operation waits once it has fired: for the lines that it needs, the values that it takes, its own to be taken, and where
+-- it is a decision for the switches of its piece.
+abbrev pub waits_anew : OperationNet → (piece i : ℕ) → ℕ
+waits_anew x piece i =
+    length (needed x piece i)
+    + (length (givers x piece (operation_at x piece i).operands)
+    + (one_if (gives_value (operation_at x piece i).work) + room_of x piece i))
+
+-- the first three operands, with known zeros after them where there are fewer
+abbrev pub first_three : List Operand → List Operand
+first_three operands = take 3 (operands ++ Known (pos 0) ∷ Known (pos 0) ∷ Known (pos 0) ∷ [])
+
 -- what the firing of an operation looks up, with what is told of its lines
 pub record IsRowWith (IsHopOf : Hop → Type 0) (x : OperationNet) (piece i : ℕ) (row : Row) : Type 0 where
   pub task : IsTaskOf x.net.program.names (operation_at x piece i).work row.task
@@ -55,6 +73,9 @@ pub record IsRowWith (IsHopOf : Hop → Type 0) (x : OperationNet) (piece i : �
   pub takes : TakesOperands row.task (length row.operands.items)
   pub room : task_room row.task ≤ most_room x.net.program.execs
   pub operands : map operand_seen row.operands.items ≡ (operation_at x piece i).operands
+  pub few : map operand_seen row.few ≡ first_three (operation_at x piece i).operands
+  pub count : row.count ≡ length (operation_at x piece i).operands
+  pub waits : row.waits ≡ waits_anew x piece i
   pub gives : row.gives ≡ gives_value (operation_at x piece i).work
   pub decides : row.decides ≡ is_decision (operation_at x piece i).work
   pub serial : row.serial ≡ x.needs piece i 0

@@ -17,6 +17,11 @@ abbrev pub operand_taken : OperationNet → (piece : ℕ) → OperationTokens �
 operand_taken x piece m (Known z) = m
 operand_taken x piece m (From number) = value_put m (first_operation x piece + number) None
 
+-- how many values are taken for the operand
+abbrev pub values_for : Operand → ℕ
+values_for (Known z) = 0
+values_for (From number) = 1
+
 -- A line that stands before the operation has passed it, or is led along the edge where no later operation of the piece needs it.
 abbrev pub line_moved : OperationNet → (piece i edge : ℕ) → OperationTokens → (line : ℕ) → OperationTokens
 line_moved x piece i edge m line = if is_last_at x piece i line then line_put m line (led_from x.net edge line) 0 else line_put m line (edge_of m.tokens line) (suc (needing_before x piece i line))

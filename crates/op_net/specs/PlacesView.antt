@@ -1,12 +1,12 @@
 -- What contracts see of the places of lines, decisions and values.
-use Rattle.std.specs.Prelude.{◌≡◌, ◌≤◌, ◌==◌, ℕ, ℤ, true, false, [], All, length, map, Option, None, slice_set, vec_capacity}
+use Rattle.std.specs.Prelude.{◌≡◌, ◌≤◌, ◌==◌, ◌+◌, ℕ, ℤ, true, false, [], All, length, map, Option, None, slice_set, vec_capacity}
 use Rattle.std.specs.List.{range_with_len}
 use Rattle.f77_tree.specs.Execution.{Memory}
 use Rattle.firing.specs.ReadySet.{has}
 use Rattle.op_board.specs.OperationNets.{OperationNet}
 use Rattle.op_board.specs.OperationTokens.{OperationTokens}
 use Rattle.op_net.specs.declared.places.Places.{Places}
-use Rattle.op_net.specs.Counts.{AreMarksBut}
+use Rattle.op_net.specs.Counts.{AreMarksBut, more_of}
 use Rattle.op_net.specs.Leads.{IsLead}
 use Rattle.op_net.specs.Waits.{awaits, node_total}
 
@@ -38,6 +38,23 @@ pub record IsCounted (x : OperationNet) (s : Places) : Type 0 where
   pub marks : s.counted ≡ true → AreMarksBut (node_total x) (has s.apart.items) (λ k. awaits x s.apart.items (standing s) k == 0) s.set
   pub none : s.counted ≡ false → s.counts.items ≡ []
   pub leads : All (IsLead x) s.leads.items
+
+-- The same while node k fires. For what it waits anew is counted at once, so its count is ahead of what it waits for by as much as its
+-- firing has still to change.
+pub record IsCountedAhead (x : OperationNet) (s : Places) (k ahead : ℕ) : Type 0 where
+  pub counts : s.counted ≡ true → s.counts.items ≡ map (more_of (awaits x s.apart.items (standing s)) k ahead) (range_with_len 0 (node_total x))
+  pub marks : s.counted ≡ true → AreMarksBut (node_total x) (has s.apart.items) (λ j. more_of (awaits x s.apart.items (standing s)) k ahead j == 0) s.set
+  pub none : s.counted ≡ false → s.counts.items ≡ []
+  pub leads : All (IsLead x) s.leads.items
+
+-- the count of k is ahead by so much at least
+pub record IsAheadBy (x : OperationNet) (s : Places) (k least : ℕ) : Type 0 where
+  pub rest : ℕ
+  pub counted : IsCountedAhead x s k (least + rest)
+
+-- a change makes up for so much of what the count of k is ahead by
+abbrev pub MakesUp : OperationNet → (old new : Places) (k much : ℕ) → Type 0
+MakesUp x old new k much = (rest : ℕ) → IsCountedAhead x old k (much + rest) → IsCountedAhead x new k rest
 
 -- it is counted after a change as it was before, and the marks of the nodes that another game leads are as they were
 pub record KeepsCounts (old new : Places) : Type 0 where

@@ -25,6 +25,7 @@ ghost use Rattle.op_net.specs.Waits.{IsNodeBefore, node_total, one_if, takes_fro
 
 use crate::control_moves::{due_at, steered};
 use crate::leads::lead_of;
+use crate::net_firing::{count_ahead, work_with};
 use crate::standing::{entry, head, is_needed, node_before, turn_of};
 use crate::telling::{operand_at, work_name};
 use crate::waiting::waits_for_operands;
@@ -119,26 +120,26 @@ impl<const W: usize> OpNet<'_, W> {
         ensures kept { KeepsApart self.old self.new }
         ensures last { self.new.text.items ≡ self.old.text.items }
     {
-        let Did::Gave(z) = self.work(piece, i) else {
-            return;
-        };
-        self.give_apart(k, piece, i, z);
-    }
-
-    // Gives the value of an operation to the one that takes it.
-    fn give_apart(&mut self, k: u32, piece: u32, i: u32, z: i32)
-        requires node { k < node_total (net_of self.old) }
-        requires name { operation_node (net_of self.old) k ≡ Op piece i }
-        requires gives { gives_value (operation_at (net_of self.old) piece i).work ≡ true }
-        requires empty { value_at (marking_of self.old) k ≡ None }
-        ensures net { net_of self.new ≡ net_of self.old }
-        ensures marking { marking_of self.new ≡ value_put (marking_of self.old) k (Some z) }
-        ensures place { self.new.control ≡ self.old.control }
-        ensures kept { KeepsApart self.old self.new }
-        ensures last { self.new.text.items ≡ self.old.text.items }
-    {
-        let taker = self.taker(k, piece, i);
-        self.places.give(&self.board, k, z, taker);
+        let board = &self.board;
+        let row = board.row(piece, i);
+        let places = &mut self.places;
+        // That game moves the lines that it needs.
+        count_ahead(board, places, k, row.waits - row.hops.len() as u32);
+        let did = work_with(
+            board,
+            places,
+            piece,
+            i,
+            k - i,
+            row,
+            &board.plan.board.plan.input,
+            &mut self.storage,
+            &mut self.draft,
+            &mut self.args,
+        );
+        if let Did::Gave(z) = did {
+            places.give(board, k, z, k - i + row.taker);
+        }
     }
 
     /// Whether an operation gives a value.

@@ -1,9 +1,10 @@
 //! The firings of a net of operations.
 
-ghost use Rattle.std.specs.Prelude.{◌≡◌, ◌<◌, ◌+◌, None, Some, true};
+ghost use Rattle.std.specs.Prelude.{◌≡◌, ◌<◌, ◌≤◌, ◌+◌, None, Some, length, true, vec_capacity};
 ghost use Rattle.std.specs.List.{list_all};
 ghost use Rattle.cfg_build.specs.Passes.{out};
 ghost use Rattle.closed_walks.specs.Graph.{edge_count};
+ghost use Rattle.f77_meaning.specs.Room.{most_room};
 ghost use Rattle.f77_meaning.specs.Storage.{memory_of};
 ghost use Rattle.firing.specs.Control.{steered as steered_in};
 ghost use Rattle.firing.specs.Moves.{FiredIs, newest};
@@ -13,22 +14,33 @@ ghost use Rattle.net_board.specs.SoundNets.{HasSizesOf};
 ghost use Rattle.net_board.specs.Tokens.{edge_of, led_from};
 ghost use Rattle.op_board.specs.OperationCourse.{due_operation, operation_course};
 ghost use Rattle.op_board.specs.OperationNets.{first_operation, needed, operation_at, operation_count, operation_node};
-ghost use Rattle.op_board.specs.OperationTokens.{can_operate, has_room, is_given, line_as, merged_on, operated, operation_moves, passed_by, performed_at, ready_as, stands_before, switched_on, value_at};
+ghost use Rattle.op_board.specs.OperationTokens.{can_operate, givers, has_room, is_given, line_as, merged_on, operated, operation_moves, passed_by, performed_at, ready_as, stands_before, switched_on, value_at};
 ghost use Rattle.op_board.specs.Operations.{gives_value};
 ghost use Rattle.operation_effects.specs.Done.{KeepsLine, KeepsStorage, told};
 ghost use Rattle.op_net.specs.ApartLoads.{KeepsApart};
-ghost use Rattle.op_net.specs.FiringChanges.{AnswersTrap, given_on, gone_on, room_left, stopped_on, told_on, trapped_on, worked_on};
+ghost use Rattle.op_net.specs.BoardView.{operation_net_on};
+ghost use Rattle.op_net.specs.FiringChanges.{given_on, remembered, room_left, told_on};
 ghost use Rattle.op_net.specs.NetView.{marking_of, net_of};
-ghost use Rattle.op_net.specs.PlacesView.{line_put};
+ghost use Rattle.op_net.specs.OperationRows.{IsRow, room_of};
+ghost use Rattle.op_net.specs.PlacesView.{IsAheadBy, IsCounted, IsCountedAhead, KeepsCounts, MakesUp, standing};
+ghost use Rattle.op_net.specs.SoundPlaces.{ArePlaces};
+ghost use Rattle.op_net.specs.StandingChanges.{lines_dropped, values_taken};
+ghost use Rattle.op_net.specs.Turns.{is_turning};
 ghost use Rattle.op_net.specs.Steering.{LeadsBy};
 ghost use Rattle.op_net.specs.Visits.{IsVisit};
-ghost use Rattle.op_net.specs.Waits.{goes_through, node_total, stands_at};
+ghost use Rattle.op_net.specs.Waits.{node_total};
 
 use crate::OpNet;
 use crate::control_moves::{Visit, passed_on};
-use crate::operating::{chosen_edge, drop_needed, fill_room, lead_line, move_lines, take_operands};
+use crate::lookups::OperationBoard;
+use crate::operating::{
+    chosen_edge, drop_needed, fill_room, lead_line, move_lines, take_few, take_operands,
+};
+use crate::places::Places;
+use crate::rows::Row;
+use crate::waiting::waits_are_few;
+use f77_meaning::Storage;
 use firing::{Fired, NodeName};
-use op_table::Trap;
 use operation_effects::{Did, perform};
 use std::mem::swap;
 
@@ -51,9 +63,30 @@ impl<const W: usize> OpNet<'_, W> {
     {
         match self.board.name(k) {
             NodeName::Op(piece, i) => self.operate(k, piece, i),
-            NodeName::Switch(piece, line) => (Fired::Moved, self.switch(k, piece, line)),
-            NodeName::Merge(piece, line) => (Fired::Moved, self.merge(k, piece, line)),
-            NodeName::Act(_) => (Fired::Moved, 0),
+            _ => (Fired::Moved, self.turn(k)),
+        }
+    }
+
+    // Fires a ready switch or merge, and tells the edge along which its line is led.
+    #[inline(always)]
+    fn turn(&mut self, k: u32) -> u32
+        requires node { k < node_total (net_of self.old) }
+        requires turn { is_turning (operation_node (net_of self.old) k) ≡ true }
+        requires ready { ready_as (net_of self.old) (marking_of self.old) k (operation_node (net_of self.old) k) ≡ true }
+        ensures net { net_of self.new ≡ net_of self.old }
+        ensures marking { marking_of self.new ≡ (operation_moves (net_of self.old)).fired (marking_of self.old) k }
+        ensures control { self.new.control ≡ self.old.control }
+        ensures leads { LeadsBy (net_of self.old) (marking_of self.old) k result }
+        ensures edge { result < edge_count (graph_in (net_of self.old).net) }
+        ensures kept { KeepsApart self.old self.new }
+        ensures text { self.new.text.items ≡ self.old.text.items }
+    {
+        match self.board.name(k) {
+            NodeName::Switch(piece, line) => {
+                switch(&self.board, &mut self.places, k, piece, line)
+            }
+            NodeName::Merge(piece, line) => merge(&self.board, &mut self.places, k, piece, line),
+            NodeName::Act(_) | NodeName::Op(_, _) => 0,
         }
     }
 
@@ -123,230 +156,331 @@ impl<const W: usize> OpNet<'_, W> {
         ensures fired { FiredIs (operation_moves (net_of self.old)) (marking_of self.old) k result.0 }
         ensures last { self.new.text.items ≡ newest (line_as (net_of self.old) (marking_of self.old) (Op piece i)) self.old.text.items }
     {
-        match self.work(piece, i) {
-            Did::Gave(z) => (Fired::Moved, self.give(k, piece, i, z)),
-            Did::Changed => (Fired::Moved, self.tell(piece, i, 0)),
-            Did::Wrote => {
-                swap(&mut self.text, &mut self.draft);
-                (Fired::Line, self.go(piece, i, 0))
-            }
-            Did::Told(choice) => (Fired::Moved, self.tell(piece, i, choice)),
-            Did::Trapped(trap) => self.stop_or_go(k, piece, i, trap),
-        }
-    }
-
-    /// Takes the operands of an operation, and performs it.
-    #[inline(always)]
-    pub(crate) fn work(&mut self, piece: u32, i: u32) -> Did
-        requires piece { piece < (graph_in (net_of self.old).net).nodes }
-        requires operation { i < operation_count (net_of self.old) piece }
-        requires given { list_all (is_given (net_of self.old) (marking_of self.old) piece) (operation_at (net_of self.old) piece i).operands ≡ true }
-        requires sizes { HasSizesOf (net_of self.old).net.program (marking_of self.old).tokens.memory }
-        ensures net { net_of self.new ≡ net_of self.old }
-        ensures effect { performed_at (net_of self.old) (marking_of self.old) piece (operation_at (net_of self.old) piece i) ≡ told result (memory_of self.new.storage) self.new.draft.items }
-        ensures marking { marking_of self.new ≡ worked_on (net_of self.old) (marking_of self.old) piece i (memory_of self.new.storage) }
-        ensures memory { KeepsStorage result self.old.storage self.new.storage }
-        ensures line { KeepsLine result self.old.draft.items self.new.draft.items }
-        ensures control { self.new.control ≡ self.old.control }
-        ensures kept { KeepsApart self.old self.new }
-        ensures text { self.new.text.items ≡ self.old.text.items }
-    {
         let board = &self.board;
         let row = board.row(piece, i);
-        take_operands(board, &mut self.places, piece, i, row, &mut self.args);
+        let places = &mut self.places;
+        count_ahead(board, places, k, row.waits);
         let plan = &board.plan.board.plan;
-        perform(
-            row.task,
-            self.args.as_slice(),
-            plan.program,
+        let did = work_with(
+            board,
+            places,
+            piece,
+            i,
+            k - i,
+            row,
             &plan.input,
             &mut self.storage,
             &mut self.draft,
-        )
-    }
-
-    // Gives a value to the operation that takes it, and leads on the lines that the operation needs.
-    #[inline(always)]
-    fn give(&mut self, k: u32, piece: u32, i: u32, z: i32) -> u32
-        requires node { k < node_total (net_of self.old) }
-        requires name { operation_node (net_of self.old) k ≡ Op piece i }
-        requires gives { gives_value (operation_at (net_of self.old) piece i).work ≡ true }
-        requires empty { value_at (marking_of self.old) k ≡ None }
-        requires stand { list_all (stands_before (net_of self.old) (marking_of self.old) piece i) (needed (net_of self.old) piece i) ≡ true }
-        ensures net { net_of self.new ≡ net_of self.old }
-        ensures marking { marking_of self.new ≡ given_on (net_of self.old) (marking_of self.old) k piece i z }
-        ensures control { self.new.control ≡ self.old.control }
-        ensures edge { result ≡ out (graph_in (net_of self.old).net) piece 0 }
-        ensures exists { result < edge_count (graph_in (net_of self.old).net) }
-        ensures kept { KeepsApart self.old self.new }
-        ensures text { self.new.text.items ≡ self.old.text.items }
-    {
-        let board = &self.board;
-        let row = board.row(piece, i);
-        let edge = chosen_edge(board, piece, i, row, 0);
-        let taker = k - i + row.taker;
-        self.places.give(board, k, z, taker);
-        move_lines(board, &mut self.places, piece, i, row, edge);
-        edge
-    }
-
-    // Leads on the lines that an operation needs, along the edge with this number, which it tells.
-    #[inline(never)]
-    fn go(&mut self, piece: u32, i: u32, choice: u32) -> u32
-        requires piece { piece < (graph_in (net_of self.old).net).nodes }
-        requires operation { i < operation_count (net_of self.old) piece }
-        requires stand { list_all (stands_before (net_of self.old) (marking_of self.old) piece i) (needed (net_of self.old) piece i) ≡ true }
-        ensures net { net_of self.new ≡ net_of self.old }
-        ensures marking { marking_of self.new ≡ gone_on (net_of self.old) (marking_of self.old) piece i choice }
-        ensures control { self.new.control ≡ self.old.control }
-        ensures edge { result ≡ out (graph_in (net_of self.old).net) piece choice }
-        ensures exists { result < edge_count (graph_in (net_of self.old).net) }
-        ensures kept { KeepsApart self.old self.new }
-        ensures text { self.new.text.items ≡ self.old.text.items }
-    {
-        let board = &self.board;
-        let row = board.row(piece, i);
-        let edge = chosen_edge(board, piece, i, row, choice);
-        move_lines(board, &mut self.places, piece, i, row, edge);
-        edge
-    }
-
-    // Leads on the lines that an operation needs, and where it is a decision leaves the edge with this number for the switches.
-    #[inline(never)]
-    fn tell(&mut self, piece: u32, i: u32, choice: u32) -> u32
-        requires piece { piece < (graph_in (net_of self.old).net).nodes }
-        requires operation { i < operation_count (net_of self.old) piece }
-        requires stand { list_all (stands_before (net_of self.old) (marking_of self.old) piece i) (needed (net_of self.old) piece i) ≡ true }
-        requires room { has_room (net_of self.old) (marking_of self.old) piece (operation_at (net_of self.old) piece i).work ≡ true }
-        ensures net { net_of self.new ≡ net_of self.old }
-        ensures marking { marking_of self.new ≡ told_on (net_of self.old) (marking_of self.old) piece i choice }
-        ensures control { self.new.control ≡ self.old.control }
-        ensures edge { result ≡ out (graph_in (net_of self.old).net) piece choice }
-        ensures exists { result < edge_count (graph_in (net_of self.old).net) }
-        ensures kept { KeepsApart self.old self.new }
-        ensures text { self.new.text.items ≡ self.old.text.items }
-    {
-        self.leave(piece, i, choice);
-        self.go(piece, i, choice)
-    }
-
-    // A decision leaves the edge with this number for the switches of its piece.
-    fn leave(&mut self, piece: u32, i: u32, choice: u32)
-        requires piece { piece < (graph_in (net_of self.old).net).nodes }
-        requires operation { i < operation_count (net_of self.old) piece }
-        requires room { has_room (net_of self.old) (marking_of self.old) piece (operation_at (net_of self.old) piece i).work ≡ true }
-        ensures net { net_of self.new ≡ net_of self.old }
-        ensures marking { marking_of self.new ≡ room_left (net_of self.old) (marking_of self.old) piece i (out (graph_in (net_of self.old).net) piece choice) }
-        ensures control { self.new.control ≡ self.old.control }
-        ensures kept { KeepsApart self.old self.new }
-        ensures text { self.new.text.items ≡ self.old.text.items }
-    {
-        if self.board.row(piece, i).decides {
-            let edge = self.board.out_edge(piece, choice);
-            fill_room(&self.board, &mut self.places, piece, i, edge);
+            &mut self.args,
+        );
+        match did {
+            Did::Gave(z) => (Fired::Moved, give(board, places, k, piece, i, row, z)),
+            Did::Changed => (Fired::Moved, tell(board, places, piece, i, row, 0)),
+            Did::Wrote => {
+                swap(&mut self.text, &mut self.draft);
+                (Fired::Line, tell(board, places, piece, i, row, 0))
+            }
+            Did::Told(choice) => (Fired::Moved, tell(board, places, piece, i, row, choice)),
+            Did::Trapped(trap) => {
+                if !row.serial {
+                    return (Fired::Moved, give(board, places, k, piece, i, row, 0));
+                }
+                let line = plan.flow.piece(piece).line;
+                self.trapped = Some((trap, line));
+                (Fired::Trapped, stop(board, places, k, piece, i, row))
+            }
         }
     }
+}
 
-    // A trap stops the net at an operation that needs the line of output. Another one gives 0.
-    #[inline(never)]
-    fn stop_or_go(&mut self, k: u32, piece: u32, i: u32, trap: Trap) -> (Fired, u32)
-        requires node { k < node_total (net_of self.old) }
-        requires name { operation_node (net_of self.old) k ≡ Op piece i }
-        requires gives { gives_value (operation_at (net_of self.old) piece i).work ≡ true }
-        requires empty { value_at (marking_of self.old) k ≡ None }
-        requires stand { list_all (stands_before (net_of self.old) (marking_of self.old) piece i) (needed (net_of self.old) piece i) ≡ true }
-        ensures net { net_of self.new ≡ net_of self.old }
-        ensures marking { marking_of self.new ≡ trapped_on (net_of self.old) (marking_of self.old) k piece i trap }
-        ensures control { self.new.control ≡ self.old.control }
-        ensures edge { result.1 ≡ out (graph_in (net_of self.old).net) piece 0 }
-        ensures exists { result.1 < edge_count (graph_in (net_of self.old).net) }
-        ensures kept { KeepsApart self.old self.new }
-        ensures text { self.new.text.items ≡ self.old.text.items }
-        ensures fired { AnswersTrap (net_of self.old) piece i result.0 }
-    {
-        if self.board.row(piece, i).serial {
-            return (Fired::Trapped, self.stop(piece, i, trap));
-        }
-        (Fired::Moved, self.give(k, piece, i, 0))
-    }
+/// A node that fires waits anew for so much, which is counted at once.
+#[inline(always)]
+pub(crate) fn count_ahead<const W: usize>(
+    board: &OperationBoard<W>,
+    places: &mut Places,
+    k: u32,
+    more: u32,
+)
+    requires node { k < node_total (operation_net_on board.now) }
+    requires places { ArePlaces (operation_net_on board.now) places.old }
+    requires counted { IsCounted (operation_net_on board.now) places.old }
+    ensures ahead { IsCountedAhead (operation_net_on board.now) places.new k more }
+    ensures standing { standing places.new ≡ standing places.old }
+    ensures kept { KeepsCounts places.old places.new }
+    ensures places { ArePlaces (operation_net_on board.now) places.new }
+{
+    waits_are_few(board);
+    places.wait_anew(k, more);
+}
 
-    // The lines that an operation needs vanish at a trap.
-    fn stop(&mut self, piece: u32, i: u32, trap: Trap) -> u32
-        requires piece { piece < (graph_in (net_of self.old).net).nodes }
-        requires operation { i < operation_count (net_of self.old) piece }
-        requires stand { list_all (stands_before (net_of self.old) (marking_of self.old) piece i) (needed (net_of self.old) piece i) ≡ true }
-        ensures net { net_of self.new ≡ net_of self.old }
-        ensures marking { marking_of self.new ≡ stopped_on (net_of self.old) (marking_of self.old) piece i trap }
-        ensures control { self.new.control ≡ self.old.control }
-        ensures edge { result ≡ out (graph_in (net_of self.old).net) piece 0 }
-        ensures exists { result < edge_count (graph_in (net_of self.old).net) }
-        ensures kept { KeepsApart self.old self.new }
-        ensures text { self.new.text.items ≡ self.old.text.items }
-    {
-        let line = self.board.plan.board.plan.flow.piece(piece).line;
-        let edge = self.board.out_edge(piece, 0);
-        drop_needed(&self.board, &mut self.places, piece, i);
-        self.trapped = Some((trap, line));
-        edge
+/// Takes the operands of an operation, and performs it.
+#[inline(always)]
+pub(crate) fn work_with<'a, const W: usize>(
+    board: &OperationBoard<'a, W>,
+    places: &mut Places,
+    piece: u32,
+    i: u32,
+    first: u32,
+    row: &Row<'a>,
+    input: &Vec<i32>,
+    storage: &mut Storage,
+    draft: &mut Vec<u8>,
+    args: &mut Vec<i32>,
+) -> Did
+    requires piece { piece < (graph_in (operation_net_on board.now).net).nodes }
+    requires operation { i < operation_count (operation_net_on board.now) piece }
+    requires first { first ≡ first_operation (operation_net_on board.now) piece }
+    requires row { ∥ IsRow (operation_net_on board.now) piece i row.now ∥₁ }
+    requires places { ArePlaces (operation_net_on board.now) places.old }
+    requires given { list_all (is_given (operation_net_on board.now) (standing places.old) piece) (operation_at (operation_net_on board.now) piece i).operands ≡ true }
+    requires sizes { HasSizesOf (operation_net_on board.now).net.program (memory_of storage.old) }
+    requires data { input.now.items ≡ (operation_net_on board.now).net.input }
+    requires taken { storage.old.taken ≤ length input.now.items }
+    requires room { board.now.tables.most ≤ vec_capacity args.old }
+    requires draft_room { most_room (operation_net_on board.now).net.program.execs ≤ vec_capacity draft.old }
+    requires ahead { ∥ IsAheadBy (operation_net_on board.now) places.old (first_operation (operation_net_on board.now) piece + i) (length (givers (operation_net_on board.now) piece (operation_at (operation_net_on board.now) piece i).operands)) ∥₁ }
+    ensures effect { performed_at (operation_net_on board.now) (remembered (standing places.old) (memory_of storage.old)) piece (operation_at (operation_net_on board.now) piece i) ≡ told result (memory_of storage.new) draft.new.items }
+    ensures standing { standing places.new ≡ values_taken (operation_net_on board.now) (standing places.old) piece i }
+    ensures memory { KeepsStorage result storage.old storage.new }
+    ensures line { KeepsLine result draft.old.items draft.new.items }
+    ensures data { storage.new.taken ≤ length input.now.items }
+    ensures room { vec_capacity args.old ≤ vec_capacity args.new }
+    ensures draft_room { vec_capacity draft.old ≤ vec_capacity draft.new }
+    ensures counted { MakesUp (operation_net_on board.now) places.old places.new (first_operation (operation_net_on board.now) piece + i) (length (givers (operation_net_on board.now) piece (operation_at (operation_net_on board.now) piece i).operands)) }
+    ensures kept { KeepsCounts places.old places.new }
+    ensures places { ArePlaces (operation_net_on board.now) places.new }
+{
+    if row.count > 3 {
+        return work_with_many(board, places, piece, i, row, input, storage, draft, args);
     }
+    let few = take_few(board, places, piece, i, first, row);
+    let program = board.plan.board.plan.program;
+    perform(
+        row.task,
+        &few[..row.count as usize],
+        program,
+        input,
+        storage,
+        draft,
+    )
+}
 
-    // Leads a line on along the edge that was left for it, which it tells.
-    #[inline(always)]
-    fn switch(&mut self, k: u32, piece: u32, line: u32) -> u32
-        requires node { k < node_total (net_of self.old) }
-        requires name { operation_node (net_of self.old) k ≡ Switch piece line }
-        requires ready { ready_as (net_of self.old) (marking_of self.old) k (Switch piece line) ≡ true }
-        ensures net { net_of self.new ≡ net_of self.old }
-        ensures marking { marking_of self.new ≡ switched_on (net_of self.old) (marking_of self.old) piece line }
-        ensures control { self.new.control ≡ self.old.control }
-        ensures edge { result < edge_count (graph_in (net_of self.old).net) }
-        ensures kept { KeepsApart self.old self.new }
-        ensures text { self.new.text.items ≡ self.old.text.items }
-    {
-        let switch = self.board.switch_number(k, piece);
-        if let Some(edge) = self.places.edges[switch as usize] {
-            let decision = self.board.decision(piece);
-            self.places.clear(&self.board, switch, k, decision);
-            self.lead(k, line, edge);
-            edge
-        } else {
-            0
-        }
-    }
+// The same for an operation of any number of operands.
+#[inline(never)]
+fn work_with_many<'a, const W: usize>(
+    board: &OperationBoard<'a, W>,
+    places: &mut Places,
+    piece: u32,
+    i: u32,
+    row: &Row<'a>,
+    input: &Vec<i32>,
+    storage: &mut Storage,
+    draft: &mut Vec<u8>,
+    args: &mut Vec<i32>,
+) -> Did
+    requires piece { piece < (graph_in (operation_net_on board.now).net).nodes }
+    requires operation { i < operation_count (operation_net_on board.now) piece }
+    requires row { ∥ IsRow (operation_net_on board.now) piece i row.now ∥₁ }
+    requires places { ArePlaces (operation_net_on board.now) places.old }
+    requires given { list_all (is_given (operation_net_on board.now) (standing places.old) piece) (operation_at (operation_net_on board.now) piece i).operands ≡ true }
+    requires sizes { HasSizesOf (operation_net_on board.now).net.program (memory_of storage.old) }
+    requires data { input.now.items ≡ (operation_net_on board.now).net.input }
+    requires taken { storage.old.taken ≤ length input.now.items }
+    requires room { board.now.tables.most ≤ vec_capacity args.old }
+    requires draft_room { most_room (operation_net_on board.now).net.program.execs ≤ vec_capacity draft.old }
+    requires ahead { ∥ IsAheadBy (operation_net_on board.now) places.old (first_operation (operation_net_on board.now) piece + i) (length (givers (operation_net_on board.now) piece (operation_at (operation_net_on board.now) piece i).operands)) ∥₁ }
+    ensures effect { performed_at (operation_net_on board.now) (remembered (standing places.old) (memory_of storage.old)) piece (operation_at (operation_net_on board.now) piece i) ≡ told result (memory_of storage.new) draft.new.items }
+    ensures standing { standing places.new ≡ values_taken (operation_net_on board.now) (standing places.old) piece i }
+    ensures memory { KeepsStorage result storage.old storage.new }
+    ensures line { KeepsLine result draft.old.items draft.new.items }
+    ensures data { storage.new.taken ≤ length input.now.items }
+    ensures room { vec_capacity args.old ≤ vec_capacity args.new }
+    ensures draft_room { vec_capacity draft.old ≤ vec_capacity draft.new }
+    ensures counted { MakesUp (operation_net_on board.now) places.old places.new (first_operation (operation_net_on board.now) piece + i) (length (givers (operation_net_on board.now) piece (operation_at (operation_net_on board.now) piece i).operands)) }
+    ensures kept { KeepsCounts places.old places.new }
+    ensures places { ArePlaces (operation_net_on board.now) places.new }
+{
+    take_operands(board, places, piece, i, row, args);
+    let program = board.plan.board.plan.program;
+    perform(row.task, args.as_slice(), program, input, storage, draft)
+}
 
-    // Leads a line on along the edge that leaves the piece, which it tells.
-    #[inline(always)]
-    fn merge(&mut self, k: u32, piece: u32, line: u32) -> u32
-        requires node { k < node_total (net_of self.old) }
-        requires name { operation_node (net_of self.old) k ≡ Merge piece line }
-        requires ready { ready_as (net_of self.old) (marking_of self.old) k (Merge piece line) ≡ true }
-        ensures net { net_of self.new ≡ net_of self.old }
-        ensures marking { marking_of self.new ≡ merged_on (net_of self.old) (marking_of self.old) piece line }
-        ensures control { self.new.control ≡ self.old.control }
-        ensures edge { result ≡ out (graph_in (net_of self.old).net) piece 0 }
-        ensures exists { result < edge_count (graph_in (net_of self.old).net) }
-        ensures kept { KeepsApart self.old self.new }
-        ensures text { self.new.text.items ≡ self.old.text.items }
-    {
-        let edge = self.board.out_edge(piece, 0);
-        self.lead(k, line, edge);
-        edge
-    }
+// Gives a value to the operation that takes it, and leads on the lines that the operation needs.
+#[inline(always)]
+fn give<const W: usize>(
+    board: &OperationBoard<W>,
+    places: &mut Places,
+    k: u32,
+    piece: u32,
+    i: u32,
+    row: &Row,
+    z: i32,
+) -> u32
+    requires node { k < node_total (operation_net_on board.now) }
+    requires name { operation_node (operation_net_on board.now) k ≡ Op piece i }
+    requires piece { piece < (graph_in (operation_net_on board.now).net).nodes }
+    requires operation { i < operation_count (operation_net_on board.now) piece }
+    requires row { ∥ IsRow (operation_net_on board.now) piece i row.now ∥₁ }
+    requires places { ArePlaces (operation_net_on board.now) places.old }
+    requires gives { gives_value (operation_at (operation_net_on board.now) piece i).work ≡ true }
+    requires empty { value_at (standing places.old) k ≡ None }
+    requires stand { list_all (stands_before (operation_net_on board.now) (standing places.old) piece i) (needed (operation_net_on board.now) piece i) ≡ true }
+    requires ahead { ∥ IsAheadBy (operation_net_on board.now) places.old k (1 + length (needed (operation_net_on board.now) piece i)) ∥₁ }
+    ensures standing { standing places.new ≡ given_on (operation_net_on board.now) (standing places.old) k piece i z }
+    ensures counted { MakesUp (operation_net_on board.now) places.old places.new k (1 + length (needed (operation_net_on board.now) piece i)) }
+    ensures kept { KeepsCounts places.old places.new }
+    ensures places { ArePlaces (operation_net_on board.now) places.new }
+    ensures edge { result ≡ out (graph_in (operation_net_on board.now).net) piece 0 }
+    ensures exists { result < edge_count (graph_in (operation_net_on board.now).net) }
+{
+    let first = k - i;
+    places.give(board, k, z, first + row.taker);
+    move_lines(board, places, piece, i, first, row, row.edge);
+    row.edge
+}
 
-    // Leads a line on along an edge from a switch or a merge.
-    #[inline(never)]
-    fn lead(&mut self, k: u32, line: u32, edge: u32)
-        requires node { k < node_total (net_of self.old) }
-        requires line { line < (net_of self.old).net.routing.lines }
-        requires edge { edge < edge_count (graph_in (net_of self.old).net) }
-        requires through { goes_through (net_of self.old) (operation_node (net_of self.old) k) line ≡ true }
-        requires stands { stands_at (net_of self.old) (edge_of (marking_of self.old).tokens line) (passed_by (marking_of self.old) line) (operation_node (net_of self.old) k) line ≡ true }
-        ensures net { net_of self.new ≡ net_of self.old }
-        ensures marking { marking_of self.new ≡ line_put (marking_of self.old) line (led_from (net_of self.old).net edge line) 0 }
-        ensures control { self.new.control ≡ self.old.control }
-        ensures kept { KeepsApart self.old self.new }
-        ensures text { self.new.text.items ≡ self.old.text.items }
-    {
-        lead_line(&self.board, &mut self.places, line, edge, k);
+// Leads on the lines that an operation needs along the edge with this number, which it tells, and where it is a decision leaves that
+// edge for the switches.
+#[inline(never)]
+fn tell<const W: usize>(
+    board: &OperationBoard<W>,
+    places: &mut Places,
+    piece: u32,
+    i: u32,
+    row: &Row,
+    choice: u32,
+) -> u32
+    requires piece { piece < (graph_in (operation_net_on board.now).net).nodes }
+    requires operation { i < operation_count (operation_net_on board.now) piece }
+    requires row { ∥ IsRow (operation_net_on board.now) piece i row.now ∥₁ }
+    requires places { ArePlaces (operation_net_on board.now) places.old }
+    requires stand { list_all (stands_before (operation_net_on board.now) (standing places.old) piece i) (needed (operation_net_on board.now) piece i) ≡ true }
+    requires room { has_room (operation_net_on board.now) (standing places.old) piece (operation_at (operation_net_on board.now) piece i).work ≡ true }
+    requires ahead { ∥ IsAheadBy (operation_net_on board.now) places.old (first_operation (operation_net_on board.now) piece + i) (room_of (operation_net_on board.now) piece i + length (needed (operation_net_on board.now) piece i)) ∥₁ }
+    ensures standing { standing places.new ≡ told_on (operation_net_on board.now) (standing places.old) piece i choice }
+    ensures counted { MakesUp (operation_net_on board.now) places.old places.new (first_operation (operation_net_on board.now) piece + i) (room_of (operation_net_on board.now) piece i + length (needed (operation_net_on board.now) piece i)) }
+    ensures kept { KeepsCounts places.old places.new }
+    ensures places { ArePlaces (operation_net_on board.now) places.new }
+    ensures edge { result ≡ out (graph_in (operation_net_on board.now).net) piece choice }
+    ensures exists { result < edge_count (graph_in (operation_net_on board.now).net) }
+{
+    let edge = chosen_edge(board, piece, i, row, choice);
+    leave_room(board, places, piece, i, row, edge);
+    let first = board.first(piece);
+    move_lines(board, places, piece, i, first, row, edge);
+    edge
+}
+
+// A decision leaves an edge for the switches of its piece.
+#[inline(always)]
+fn leave_room<const W: usize>(
+    board: &OperationBoard<W>,
+    places: &mut Places,
+    piece: u32,
+    i: u32,
+    row: &Row,
+    edge: u32,
+)
+    requires piece { piece < (graph_in (operation_net_on board.now).net).nodes }
+    requires operation { i < operation_count (operation_net_on board.now) piece }
+    requires row { ∥ IsRow (operation_net_on board.now) piece i row.now ∥₁ }
+    requires edge { edge < edge_count (graph_in (operation_net_on board.now).net) }
+    requires places { ArePlaces (operation_net_on board.now) places.old }
+    requires room { has_room (operation_net_on board.now) (standing places.old) piece (operation_at (operation_net_on board.now) piece i).work ≡ true }
+    requires ahead { ∥ IsAheadBy (operation_net_on board.now) places.old (first_operation (operation_net_on board.now) piece + i) (room_of (operation_net_on board.now) piece i) ∥₁ }
+    ensures standing { standing places.new ≡ room_left (operation_net_on board.now) (standing places.old) piece i edge }
+    ensures counted { MakesUp (operation_net_on board.now) places.old places.new (first_operation (operation_net_on board.now) piece + i) (room_of (operation_net_on board.now) piece i) }
+    ensures kept { KeepsCounts places.old places.new }
+    ensures places { ArePlaces (operation_net_on board.now) places.new }
+{
+    if row.decides {
+        fill_room(board, places, piece, i, edge);
     }
+}
+
+// At a trap the lines that an operation needs vanish, and no value is given.
+#[inline(never)]
+fn stop<const W: usize>(
+    board: &OperationBoard<W>,
+    places: &mut Places,
+    k: u32,
+    piece: u32,
+    i: u32,
+    row: &Row,
+) -> u32
+    requires node { k < node_total (operation_net_on board.now) }
+    requires name { operation_node (operation_net_on board.now) k ≡ Op piece i }
+    requires piece { piece < (graph_in (operation_net_on board.now).net).nodes }
+    requires operation { i < operation_count (operation_net_on board.now) piece }
+    requires row { ∥ IsRow (operation_net_on board.now) piece i row.now ∥₁ }
+    requires places { ArePlaces (operation_net_on board.now) places.old }
+    requires stand { list_all (stands_before (operation_net_on board.now) (standing places.old) piece i) (needed (operation_net_on board.now) piece i) ≡ true }
+    requires ahead { ∥ IsAheadBy (operation_net_on board.now) places.old k (1 + length (needed (operation_net_on board.now) piece i)) ∥₁ }
+    ensures standing { standing places.new ≡ lines_dropped (operation_net_on board.now) (standing places.old) piece i }
+    ensures counted { MakesUp (operation_net_on board.now) places.old places.new k (1 + length (needed (operation_net_on board.now) piece i)) }
+    ensures kept { KeepsCounts places.old places.new }
+    ensures places { ArePlaces (operation_net_on board.now) places.new }
+    ensures edge { result ≡ out (graph_in (operation_net_on board.now).net) piece 0 }
+    ensures exists { result < edge_count (graph_in (operation_net_on board.now).net) }
+{
+    drop_needed(board, places, piece, i);
+    places.wait_less(k);
+    row.edge
+}
+
+// Leads a line on along the edge that was left for it, which it tells.
+#[inline(always)]
+fn switch<const W: usize>(
+    board: &OperationBoard<W>,
+    places: &mut Places,
+    k: u32,
+    piece: u32,
+    line: u32,
+) -> u32
+    requires node { k < node_total (operation_net_on board.now) }
+    requires name { operation_node (operation_net_on board.now) k ≡ Switch piece line }
+    requires ready { ready_as (operation_net_on board.now) (standing places.old) k (Switch piece line) ≡ true }
+    requires places { ArePlaces (operation_net_on board.now) places.old }
+    requires counted { IsCounted (operation_net_on board.now) places.old }
+    ensures standing { standing places.new ≡ switched_on (operation_net_on board.now) (standing places.old) piece line }
+    ensures counted { IsCounted (operation_net_on board.now) places.new }
+    ensures kept { KeepsCounts places.old places.new }
+    ensures places { ArePlaces (operation_net_on board.now) places.new }
+    ensures edge { result < edge_count (graph_in (operation_net_on board.now).net) }
+{
+    let switch = board.switch_number(k, piece);
+    let Some(edge) = places.edges[switch as usize] else {
+        return 0;
+    };
+    count_ahead(board, places, k, 2);
+    places.clear(board, switch, k, board.decision(piece));
+    lead_line(board, places, line, edge, k);
+    edge
+}
+
+// Leads a line on along the edge that leaves the piece, which it tells.
+#[inline(always)]
+fn merge<const W: usize>(
+    board: &OperationBoard<W>,
+    places: &mut Places,
+    k: u32,
+    piece: u32,
+    line: u32,
+) -> u32
+    requires node { k < node_total (operation_net_on board.now) }
+    requires name { operation_node (operation_net_on board.now) k ≡ Merge piece line }
+    requires ready { ready_as (operation_net_on board.now) (standing places.old) k (Merge piece line) ≡ true }
+    requires places { ArePlaces (operation_net_on board.now) places.old }
+    requires counted { IsCounted (operation_net_on board.now) places.old }
+    ensures standing { standing places.new ≡ merged_on (operation_net_on board.now) (standing places.old) piece line }
+    ensures counted { IsCounted (operation_net_on board.now) places.new }
+    ensures kept { KeepsCounts places.old places.new }
+    ensures places { ArePlaces (operation_net_on board.now) places.new }
+    ensures edge { result ≡ out (graph_in (operation_net_on board.now).net) piece 0 }
+    ensures exists { result < edge_count (graph_in (operation_net_on board.now).net) }
+{
+    let edge = board.out_edge(piece, 0);
+    count_ahead(board, places, k, 1);
+    lead_line(board, places, line, edge, k);
+    edge
 }

@@ -7,13 +7,13 @@ ghost use Rattle.net_board.specs.Nodes.{graph_in, switches};
 ghost use Rattle.net_board.specs.Tokens.{edge_of, led_from, with_all};
 ghost use Rattle.op_board.specs.Operations.{is_decision};
 ghost use Rattle.op_board.specs.OperationNets.{first_operation, last_needed, needed, operation_at, operation_count};
-ghost use Rattle.op_board.specs.OperationTokens.{are_clear, is_given, operand_in, passed_after, passed_by, replaced, stands_before, taken_values};
+ghost use Rattle.op_board.specs.OperationTokens.{are_clear, givers, is_given, operand_in, passed_after, passed_by, replaced, stands_before, taken_values};
 ghost use Rattle.std.specs.List.{list_all};
 ghost use Rattle.operation_lists.specs.Seen.{operand_seen};
 ghost use Rattle.op_net.specs.BoardView.{operation_net_on};
-ghost use Rattle.op_net.specs.OperationRows.{IsHop, IsRow};
-ghost use Rattle.op_net.specs.PlaceSteps.{IsOwnOperand, line_moved, operand_taken};
-ghost use Rattle.op_net.specs.PlacesView.{IsCounted, KeepsCounts, line_put, standing};
+ghost use Rattle.op_net.specs.OperationRows.{IsHop, IsRow, first_three};
+ghost use Rattle.op_net.specs.PlaceSteps.{IsOwnOperand, line_moved, operand_taken, values_for};
+ghost use Rattle.op_net.specs.PlacesView.{IsAheadBy, KeepsCounts, MakesUp, line_put, standing};
 ghost use Rattle.op_net.specs.SoundPlaces.{ArePlaces};
 ghost use Rattle.op_net.specs.StandingChanges.{lines_dropped, lines_moved, room_filled, values_taken};
 ghost use Rattle.op_net.specs.Waits.{IsNodeBefore, node_total};
@@ -34,6 +34,36 @@ pub(crate) fn push_argument(args: &mut Vec<i32>, z: i32)
     let _pushed = args.push(z);
 }
 
+/// Takes the values of the operands of an operation that has at most three. After them stand zeros.
+#[inline(always)]
+pub(crate) fn take_few<const W: usize>(
+    board: &OperationBoard<W>,
+    places: &mut Places,
+    piece: u32,
+    i: u32,
+    first: u32,
+    row: &Row,
+) -> [i32; 3]
+    requires piece { piece < (graph_in (operation_net_on board.now).net).nodes }
+    requires operation { i < operation_count (operation_net_on board.now) piece }
+    requires first { first ≡ first_operation (operation_net_on board.now) piece }
+    requires row { ∥ IsRow (operation_net_on board.now) piece i row.now ∥₁ }
+    requires few { length (operation_at (operation_net_on board.now) piece i).operands ≤ 3 }
+    requires places { ArePlaces (operation_net_on board.now) places.old }
+    requires ahead { ∥ IsAheadBy (operation_net_on board.now) places.old (first + i) (length (givers (operation_net_on board.now) piece (operation_at (operation_net_on board.now) piece i).operands)) ∥₁ }
+    requires given { list_all (is_given (operation_net_on board.now) (standing places.old) piece) (operation_at (operation_net_on board.now) piece i).operands ≡ true }
+    ensures args { map (operand_in (operation_net_on board.now) (standing places.old) piece) (first_three (operation_at (operation_net_on board.now) piece i).operands) ≡ result }
+    ensures standing { standing places.new ≡ values_taken (operation_net_on board.now) (standing places.old) piece i }
+    ensures counted { MakesUp (operation_net_on board.now) places.old places.new (first + i) (length (givers (operation_net_on board.now) piece (operation_at (operation_net_on board.now) piece i).operands)) }
+    ensures kept { KeepsCounts places.old places.new }
+{
+    [
+        take_operand(board, places, piece, i, first, row.few[0]),
+        take_operand(board, places, piece, i, first, row.few[1]),
+        take_operand(board, places, piece, i, first, row.few[2]),
+    ]
+}
+
 /// Takes the values of the operands of an operation.
 #[inline(always)]
 pub(crate) fn take_operands<const W: usize>(
@@ -48,13 +78,13 @@ pub(crate) fn take_operands<const W: usize>(
     requires operation { i < operation_count (operation_net_on board.now) piece }
     requires row { ∥ IsRow (operation_net_on board.now) piece i row.now ∥₁ }
     requires places { ArePlaces (operation_net_on board.now) places.old }
-    requires counted { IsCounted (operation_net_on board.now) places.old }
+    requires ahead { ∥ IsAheadBy (operation_net_on board.now) places.old (first_operation (operation_net_on board.now) piece + i) (length (givers (operation_net_on board.now) piece (operation_at (operation_net_on board.now) piece i).operands)) ∥₁ }
     requires given { list_all (is_given (operation_net_on board.now) (standing places.old) piece) (operation_at (operation_net_on board.now) piece i).operands ≡ true }
     requires room { board.now.tables.most ≤ vec_capacity args.old }
     ensures args { args.new.items ≡ map (operand_in (operation_net_on board.now) (standing places.old) piece) (operation_at (operation_net_on board.now) piece i).operands }
     ensures capacity { vec_capacity args.old ≤ vec_capacity args.new }
     ensures standing { standing places.new ≡ values_taken (operation_net_on board.now) (standing places.old) piece i }
-    ensures counted { IsCounted (operation_net_on board.now) places.new }
+    ensures counted { MakesUp (operation_net_on board.now) places.old places.new (first_operation (operation_net_on board.now) piece + i) (length (givers (operation_net_on board.now) piece (operation_at (operation_net_on board.now) piece i).operands)) }
     ensures kept { KeepsCounts places.old places.new }
 {
     let first = board.first(piece);
@@ -80,12 +110,12 @@ fn take_operand<const W: usize>(
     requires first { first ≡ first_operation (operation_net_on board.now) piece }
     requires values { length places.old.values.items ≡ node_total (operation_net_on board.now) }
     requires marks { length places.old.set ≡ node_total (operation_net_on board.now) }
-    requires counted { IsCounted (operation_net_on board.now) places.old }
+    requires ahead { ∥ IsAheadBy (operation_net_on board.now) places.old (first + i) (values_for (operand_seen operand)) ∥₁ }
     requires own { IsOwnOperand (operation_net_on board.now) piece i (operand_seen operand) }
     requires given { is_given (operation_net_on board.now) (standing places.old) piece (operand_seen operand) ≡ true }
     ensures value { result ≡ operand_in (operation_net_on board.now) (standing places.old) piece (operand_seen operand) }
     ensures standing { standing places.new ≡ operand_taken (operation_net_on board.now) piece (standing places.old) (operand_seen operand) }
-    ensures counted { IsCounted (operation_net_on board.now) places.new }
+    ensures counted { MakesUp (operation_net_on board.now) places.old places.new (first + i) (values_for (operand_seen operand)) }
     ensures kept { KeepsCounts places.old places.new }
 {
     match operand {
@@ -126,21 +156,22 @@ pub(crate) fn move_lines<const W: usize>(
     places: &mut Places,
     piece: u32,
     i: u32,
+    first: u32,
     row: &Row,
     edge: u32,
 )
+    requires first { first ≡ first_operation (operation_net_on board.now) piece }
     requires piece { piece < (graph_in (operation_net_on board.now).net).nodes }
     requires operation { i < operation_count (operation_net_on board.now) piece }
     requires row { ∥ IsRow (operation_net_on board.now) piece i row.now ∥₁ }
     requires edge { edge < edge_count (graph_in (operation_net_on board.now).net) }
     requires places { ArePlaces (operation_net_on board.now) places.old }
-    requires counted { IsCounted (operation_net_on board.now) places.old }
+    requires ahead { ∥ IsAheadBy (operation_net_on board.now) places.old (first_operation (operation_net_on board.now) piece + i) (length (needed (operation_net_on board.now) piece i)) ∥₁ }
     requires stand { list_all (stands_before (operation_net_on board.now) (standing places.old) piece i) (needed (operation_net_on board.now) piece i) ≡ true }
     ensures standing { standing places.new ≡ lines_moved (operation_net_on board.now) (standing places.old) piece i edge }
-    ensures counted { IsCounted (operation_net_on board.now) places.new }
+    ensures counted { MakesUp (operation_net_on board.now) places.old places.new (first_operation (operation_net_on board.now) piece + i) (length (needed (operation_net_on board.now) piece i)) }
     ensures kept { KeepsCounts places.old places.new }
 {
-    let first = board.first(piece);
     for hop in &row.hops {
         move_line(board, places, piece, i, first, *hop, edge);
     }
@@ -164,23 +195,20 @@ fn move_line<const W: usize>(
     requires lines { length places.old.lines.items ≡ (operation_net_on board.now).net.routing.lines }
     requires passed { length places.old.passed.items ≡ (operation_net_on board.now).net.routing.lines }
     requires marks { length places.old.set ≡ node_total (operation_net_on board.now) }
-    requires counted { IsCounted (operation_net_on board.now) places.old }
+    requires ahead { ∥ IsAheadBy (operation_net_on board.now) places.old (first + i) 1 ∥₁ }
     requires hop { ∥ IsHop (operation_net_on board.now) piece i hop ∥₁ }
     requires needs { (operation_net_on board.now).needs piece i hop.line ≡ true }
     requires stands { stands_before (operation_net_on board.now) (standing places.old) piece i hop.line ≡ true }
     ensures standing { standing places.new ≡ line_moved (operation_net_on board.now) piece i edge (standing places.old) hop.line }
-    ensures counted { IsCounted (operation_net_on board.now) places.new }
+    ensures counted { MakesUp (operation_net_on board.now) places.old places.new (first + i) 1 }
     ensures kept { KeepsCounts places.old places.new }
 {
     match hop.next {
         Some(n) => {
-            let old = places.lines[hop.line as usize];
-            let passed = hop.before as u32 + 1;
-            places.put_line(
+            places.pass_on(
                 board,
                 hop.line as u32,
-                old,
-                passed,
+                hop.before as u32 + 1,
                 first + i,
                 first + n as u32,
             );
@@ -204,14 +232,14 @@ pub(crate) fn lead_line<const W: usize>(
     requires passed { length places.old.passed.items ≡ (operation_net_on board.now).net.routing.lines }
     requires marks { length places.old.set ≡ node_total (operation_net_on board.now) }
     requires node { k < node_total (operation_net_on board.now) }
-    requires counted { IsCounted (operation_net_on board.now) places.old }
+    requires ahead { ∥ IsAheadBy (operation_net_on board.now) places.old k 1 ∥₁ }
     requires from { IsNodeBefore (operation_net_on board.now) line (edge_of (standing places.old).tokens line) (passed_by (standing places.old) line) k }
     ensures standing { standing places.new ≡ line_put (standing places.old) line (led_from (operation_net_on board.now).net edge line) 0 }
-    ensures counted { IsCounted (operation_net_on board.now) places.new }
+    ensures counted { MakesUp (operation_net_on board.now) places.old places.new k 1 }
     ensures kept { KeepsCounts places.old places.new }
 {
     let lead = lead_of(board, places.counted, &mut places.leads, line, edge);
-    places.put_line(board, line, Some(lead.wire), 0, k, lead.node);
+    places.lead_on(board, line, lead.wire, k, lead.node);
 }
 
 /// The lines that an operation needs vanish.
@@ -224,16 +252,15 @@ pub(crate) fn drop_needed<const W: usize>(
     requires piece { piece < (graph_in (operation_net_on board.now).net).nodes }
     requires operation { i < operation_count (operation_net_on board.now) piece }
     requires places { ArePlaces (operation_net_on board.now) places.old }
-    requires counted { IsCounted (operation_net_on board.now) places.old }
+    requires ahead { ∥ IsAheadBy (operation_net_on board.now) places.old (first_operation (operation_net_on board.now) piece + i) (length (needed (operation_net_on board.now) piece i)) ∥₁ }
     requires stand { list_all (stands_before (operation_net_on board.now) (standing places.old) piece i) (needed (operation_net_on board.now) piece i) ≡ true }
     ensures standing { standing places.new ≡ lines_dropped (operation_net_on board.now) (standing places.old) piece i }
-    ensures counted { IsCounted (operation_net_on board.now) places.new }
+    ensures counted { MakesUp (operation_net_on board.now) places.old places.new (first_operation (operation_net_on board.now) piece + i) (length (needed (operation_net_on board.now) piece i)) }
     ensures kept { KeepsCounts places.old places.new }
 {
     let k = board.first(piece) + i;
-    let none = board.nodes();
     for hop in &board.row(piece, i).hops {
-        places.put_line(board, hop.line as u32, None, 0, k, none);
+        places.take_off(board, hop.line as u32, k);
     }
 }
 
@@ -250,10 +277,10 @@ pub(crate) fn fill_room<const W: usize>(
     requires decides { is_decision (operation_at (operation_net_on board.now) piece i).work ≡ true }
     requires edge { edge < edge_count (graph_in (operation_net_on board.now).net) }
     requires places { ArePlaces (operation_net_on board.now) places.old }
-    requires counted { IsCounted (operation_net_on board.now) places.old }
+    requires ahead { ∥ IsAheadBy (operation_net_on board.now) places.old (first_operation (operation_net_on board.now) piece + i) (length (switches (operation_net_on board.now).net piece)) ∥₁ }
     requires clear { are_clear (operation_net_on board.now) (standing places.old) piece ≡ true }
     ensures standing { standing places.new ≡ room_filled (operation_net_on board.now) (standing places.old) piece edge }
-    ensures counted { IsCounted (operation_net_on board.now) places.new }
+    ensures counted { MakesUp (operation_net_on board.now) places.old places.new (first_operation (operation_net_on board.now) piece + i) (length (switches (operation_net_on board.now).net piece)) }
     ensures kept { KeepsCounts places.old places.new }
 {
     let decision = board.first(piece) + i;

@@ -1,22 +1,25 @@
 //! What the firing of an operation looks up.
 
-ghost use Rattle.std.specs.Prelude.{◌≡◌, ◌+◌, ◌^◌, ◌<◌, ℕ, true, IfOk, OnOk};
-ghost use Rattle.net_board.specs.Nodes.{graph_in};
-ghost use Rattle.op_board.specs.Operations.{gives_value};
-ghost use Rattle.op_board.specs.OperationNets.{operation_at, operation_count};
-ghost use Rattle.op_net.specs.OperationRows.{AreRows, HasRows, IsCountedHop, IsHop, IsRowWith, IsTaker};
+ghost use Rattle.std.specs.Prelude.{◌≡◌, ◌+◌, ◌^◌, ◌<◌, ◌≤◌, [], ◌∷◌, ℕ, pos, true, if◌then◌else◌, IfOk, OnOk, get_or, length, map};
+ghost use Rattle.net_board.specs.Nodes.{graph_in, is_acting, kind_in, switches};
+ghost use Rattle.op_board.specs.Operations.{Known, gives_value, is_decision};
+ghost use Rattle.op_board.specs.OperationNets.{OperationNet, needed, operation_at, operation_count};
+ghost use Rattle.op_board.specs.OperationTokens.{givers};
+ghost use Rattle.op_net.specs.OperationRows.{AreRows, HasRows, IsCountedHop, IsHop, IsRowWith, IsTaker, first_three, waits_anew};
+ghost use Rattle.operation_lists.specs.Seen.{operand_seen, operation_seen, work_seen};
 ghost use Rattle.op_net.specs.PlanView.{operations_in};
 ghost use Rattle.op_net.specs.ScratchLines.{AreCounted, AreLinked, IsClean};
 
 use crate::entries::{clear_lines, first_entries};
 use crate::hops::{Hop, Scratch, link_hops, short, unlinked_hops};
+use crate::names::number_of;
 use crate::plan::OperationPlan;
 use crate::row_laws::{needed_lines_exist, operations_fit};
 use crate::takers::{copied_operands, operation_total, value_takers};
 use df_sequence::NoMemory;
 use op_board::values_are_taken_once;
 use operation_effects::{Task, task_of};
-use operation_lists::{Operands, gives_value, is_decision};
+use operation_lists::{Operand, Operands, Operation, Work, gives_value, is_decision};
 use std::alloc::Global;
 
 /// An operation, ready to fire. Operations are told by their numbers in the piece.
@@ -24,6 +27,10 @@ use std::alloc::Global;
 pub(crate) struct Row<'a> {
     pub(crate) task: Task<'a>,
     pub(crate) operands: Operands,
+    /// The first three of its operands, and 0 where there are fewer.
+    pub(crate) few: [Operand; 3],
+    /// How many operands there are.
+    pub(crate) count: u32,
     /// The lines that it needs, in rising order.
     pub(crate) hops: Vec<Hop>,
     /// The operation that takes its value. It is of no meaning where there is no value.
@@ -36,6 +43,8 @@ pub(crate) struct Row<'a> {
     pub(crate) serial: bool,
     /// The first of the edges that leave the piece.
     pub(crate) edge: u32,
+    /// For how much it waits once it has fired and given a value.
+    pub(crate) waits: u32,
 }
 
 /// The operations of a piece, and for each line that it touches the first one that needs it.
@@ -136,15 +145,97 @@ fn unlinked_row<'a, const W: usize>(
     let operation = &operations.operations[i as usize];
     let needs = operations.needs.at(i as usize);
     let operands = copied_operands(alloc, &operation.operands)?;
+    let count = number_of(operands.len())?;
     let hops = unlinked_hops(alloc, &needs, scratch)?;
+    let lines = number_of(hops.len())?;
+    let waits = number_of(waits_anew(plan, piece, operation, lines))?;
     Ok(Row {
         task: task_of(plan.board.plan.program, operation.work),
+        few: first_operands(&operands),
         operands,
+        count,
         hops,
         taker,
         gives: gives_value(&operation.work),
         decides: is_decision(&operation.work),
         serial: needs.holds(0),
         edge: plan.board.first_out(piece),
+        waits,
     })
+}
+
+/// For how much an operation that needs so many lines waits once it has fired and given a value: for those lines, the operands that
+/// others give, its value to be taken, and where it is a decision for the switches of the piece.
+fn waits_anew<const W: usize>(
+    plan: &OperationPlan<W>,
+    piece: u32,
+    operation: &Operation,
+    lines: u32,
+) -> usize
+    requires piece { piece < (graph_in (operations_in plan.now).net).nodes }
+    requires acts { is_acting (kind_in (operations_in plan.now).net piece) ≡ true }
+    ensures { (i : ℕ) → operation_at (operations_in plan.now) piece i ≡ operation_seen operation.now → lines ≡ length (needed (operations_in plan.now) piece i) → result ≡ waits_anew (operations_in plan.now) piece i }
+{
+    let values = values_of_others(operation.operands.as_slice());
+    let own = usize::from(gives_value(&operation.work));
+    let switches = switches_told(plan, piece, &operation.work) as usize;
+    lines as usize + (values + (own + switches))
+}
+
+/// How many operands are values that others give.
+fn values_of_others(operands: &[Operand]) -> usize
+    ensures count { (x : OperationNet) (piece : ℕ) → result ≡ length (givers x piece (map operand_seen operands.now)) }
+    ensures few { result ≤ length operands.now }
+{
+    let mut count = 0;
+    for operand in operands {
+        count += one_if_value(operand);
+    }
+    count
+}
+
+/// 1 where the operand is a value that another operation gives.
+fn one_if_value(operand: &Operand) -> usize
+    ensures count { (x : OperationNet) (piece : ℕ) → result ≡ length (givers x piece (operand_seen operand.now ∷ [])) }
+    ensures few { result ≤ 1 }
+{
+    match operand {
+        Operand::Known(_) => 0,
+        Operand::Node(_) => 1,
+    }
+}
+
+/// How many switches an operation of a piece tells the edge.
+fn switches_told<const W: usize>(plan: &OperationPlan<W>, piece: u32, work: &Work) -> u32
+    requires piece { piece < (graph_in (operations_in plan.now).net).nodes }
+    requires acts { is_acting (kind_in (operations_in plan.now).net piece) ≡ true }
+    ensures { result ≡ if is_decision (work_seen work.now) then length (switches (operations_in plan.now).net piece) else 0 }
+{
+    if is_decision(work) {
+        plan.board.end(piece) - (plan.board.first(piece) + 1)
+    } else {
+        0
+    }
+}
+
+/// The first three operands, and 0 where there are fewer.
+fn first_operands(operands: &Operands) -> [Operand; 3]
+    ensures { map operand_seen result ≡ first_three (map operand_seen operands.now.items) }
+{
+    [
+        operand_or_zero(operands, 0),
+        operand_or_zero(operands, 1),
+        operand_or_zero(operands, 2),
+    ]
+}
+
+/// The operand with this number, or 0 where there are fewer.
+fn operand_or_zero(operands: &Operands, j: usize) -> Operand
+    ensures { operand_seen result ≡ get_or (map operand_seen operands.now.items) j (Known (pos 0)) }
+{
+    if j < operands.len() {
+        operands.as_slice()[j]
+    } else {
+        Operand::Known(0)
+    }
 }

@@ -1,6 +1,9 @@
 -- A task does what its operation does.
-use Rattle.std.proofs.Common.{◌≡◌, ℕ, ◌+◌, ℤ, pos, if◌then◌else◌, List, [], ◌∷◌, ◌++◌, length, None, Ok, slice_index, nat_lt, refl, sym, ap, ◌∙◌, arith}
+use Rattle.std.proofs.Common.{◌≡◌, ℕ, ◌+◌, ℤ, pos, if◌then◌else◌, List, [], ◌∷◌, ◌++◌, length, None, Some, Ok, slice_index, nat_lt, refl, sym, ap, ◌∙◌, arith}
 use Rattle.std.specs.Prelude.{◌&&◌, int_le, int_lt}
+use Rattle.std.proofs.lemmas.Option.{none-some}
+use Rattle.op_table.specs.declared.Op.{Op}
+use Rattle.op_table.specs.declared.Op.TheVariants as operator
 use Rattle.op_table.specs.Operators.{applied, picked}
 use Rattle.op_table.specs.Trips.{at_least_zero}
 use Rattle.f77_tree.specs.declared.declarations.Kind.{Kind}
@@ -13,7 +16,7 @@ use Rattle.op_board.specs.Operations as board
 use Rattle.op_board.specs.Effects.{changes, gives, performed, result_given, stored_at, tells}
 use Rattle.operation_effects.specs.declared.tasks.Task.{Task}
 use Rattle.operation_effects.specs.declared.tasks.Task.TheVariants as task
-use Rattle.operation_effects.specs.Tasks.{IsTaskOf, TakesOperands, loop_advanced, loop_begun, task_done}
+use Rattle.operation_effects.specs.Tasks.{IsTaskOf, TakesOperands, loop_advanced, loop_begun, operator_of, task_done}
 
 no_line : (byte : ℕ) (rest : List ℕ) → byte ∷ rest ≡ [] → ⊥
 no_line byte rest is = cc
@@ -47,6 +50,25 @@ module _ (names : List NameInfo) (input : List ℤ) (m : Memory) where
   advanced_alike loop_no number word other numbers words =
       ap (λ n. loop_advanced m n other) (sym numbers) ∙ ap (λ w. loop_advanced m number w) (sym words)
 
+  -- the value of an operator
+  same_operator : (own op : Op) (args : List ℤ) → Some own ≡ Some op → result_given m (applied op args) ≡ result_given m (applied own args)
+  same_operator own op args is = let same : op ≡ own = cc in ap (λ (o : Op). result_given m (applied o args)) same
+
+  operator_effect : (of_work : Task) (op : Op) (args : List ℤ) → operator_of of_work ≡ Some op → result_given m (applied op args) ≡ task_done names input m of_work args
+  operator_effect (task.Operate own) op args is = same_operator own op args is
+  operator_effect task.Add op args is = same_operator operator.Add op args is
+  operator_effect task.Sub op args is = same_operator operator.Sub op args is
+  operator_effect task.Mul op args is = same_operator operator.Mul op args is
+  operator_effect task.Lt op args is = same_operator operator.Lt op args is
+  operator_effect task.Le op args is = same_operator operator.Le op args is
+  operator_effect task.Eq op args is = same_operator operator.Eq op args is
+  operator_effect task.Ne op args is = same_operator operator.Ne op args is
+  operator_effect task.Ge op args is = same_operator operator.Ge op args is
+  operator_effect task.Gt op args is = same_operator operator.Gt op args is
+  operator_effect task.Bound op args is = same_operator operator.Bound op args is
+  operator_effect task.Place op args is = same_operator operator.Place op args is
+  operator_effect of_work op args is = absurd (none-some op is)
+
   pub task_effect : (work : board.Work) (of_work : Task) (args : List ℤ) → IsTaskOf names work of_work → TakesOperands of_work (length args) → performed names input m work args ≡ task_done names input m of_work args
   task_effect (board.Load name []) (task.Load word kind) [] is takes =
       ap (λ w. Ok (gives m (read_as (kind_of names name) (word_at m.store w)))) (sym is.0)
@@ -55,7 +77,7 @@ module _ (names : List NameInfo) (input : List ℤ) (m : Memory) where
   task_effect (board.Load name (sub ∷ subs)) (task.LoadAt word size kind) [] is takes = absurd (omega (arith, takes))
   task_effect (board.Load name (sub ∷ subs)) (task.LoadAt word size kind) (place ∷ args) is takes =
       ap (λ z. Ok (gives m z)) (at_place word (place_of names name) (pos size) (size_of (dims_of names name)) kind (kind_of names name) place is.0 is.1 is.2)
-  task_effect (board.Operate op) (task.Operate operator) args is takes = ap (λ o. result_given m (applied o args)) (sym is)
+  task_effect (board.Operate op) of_work args is takes = operator_effect of_work op args is
   task_effect (board.Store name []) (task.Store word) [] is takes = absurd (omega (arith, takes))
   task_effect (board.Store name []) (task.Store word) (z ∷ []) is takes = ap (λ w. Ok (changes (stored_at m w z))) (sym is)
   task_effect (board.Store name []) (task.Store word) (z ∷ y ∷ args) is takes = absurd (omega (arith, takes))

@@ -10,6 +10,17 @@ abbrev pub only_gives : Task → Bool
 only_gives (task.Load word kind) = true
 only_gives (task.LoadAt word size kind) = true
 only_gives (task.Operate op) = true
+only_gives task.Add = true
+only_gives task.Sub = true
+only_gives task.Mul = true
+only_gives task.Lt = true
+only_gives task.Le = true
+only_gives task.Eq = true
+only_gives task.Ne = true
+only_gives task.Ge = true
+only_gives task.Gt = true
+only_gives task.Bound = true
+only_gives task.Place = true
 only_gives _ = false
 
 -- the value of an operator, if it doesn't trap

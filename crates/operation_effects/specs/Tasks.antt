@@ -1,5 +1,7 @@
 -- The tasks of operations: what operations do, with what they look up of names.
-use Rattle.std.specs.Prelude.{◌≡◌, ◌<◌, ◌≤◌, ◌+◌, ◌-◌, ◌+ℤ◌, ℕ, ℤ, pos, int_le, int_lt, nat_lt, ◌&&◌, Bool, if◌then◌else◌, List, [], ◌∷◌, All, None, Result, Ok, slice_index, slice_set}
+use Rattle.std.specs.Prelude.{◌≡◌, ◌<◌, ◌≤◌, ◌+◌, ◌-◌, ◌+ℤ◌, ℕ, ℤ, pos, int_le, int_lt, nat_lt, ◌&&◌, Bool, if◌then◌else◌, List, [], ◌∷◌, All, Option, None, Some, Result, Ok, slice_index, slice_set}
+use Rattle.op_table.specs.declared.Op.{Op}
+use Rattle.op_table.specs.declared.Op.TheVariants.{Add, Bound, Eq, Ge, Gt, Le, Lt, Mul, Ne, Place, Sub}
 use Rattle.op_table.specs.declared.Trap.{Trap}
 use Rattle.op_table.specs.Operators.{applied, arity_of, picked, which_of_three}
 use Rattle.op_table.specs.Trips.{at_least_zero}
@@ -18,11 +20,27 @@ use Rattle.operation_effects.specs.declared.tasks.Task.TheVariants as task
 
 -- ---- the task of an operation
 
+-- the operator of a task that gives the value of one
+abbrev pub operator_of : Task → Option Op
+operator_of (task.Operate op) = Some op
+operator_of task.Add = Some Add
+operator_of task.Sub = Some Sub
+operator_of task.Mul = Some Mul
+operator_of task.Lt = Some Lt
+operator_of task.Le = Some Le
+operator_of task.Eq = Some Eq
+operator_of task.Ne = Some Ne
+operator_of task.Ge = Some Ge
+operator_of task.Gt = Some Gt
+operator_of task.Bound = Some Bound
+operator_of task.Place = Some Place
+operator_of _ = None
+
 -- an access of a scalar has no subscripts, and a task without a place
 abbrev pub IsTaskOf : List NameInfo → board.Work → Task → Type 0
 IsTaskOf names (board.Load name []) (task.Load word kind) = (word ≡ place_of names name) × (kind ≡ kind_of names name)
 IsTaskOf names (board.Load name (sub ∷ subs)) (task.LoadAt word size kind) = (word ≡ place_of names name) × (pos size ≡ size_of (dims_of names name)) × (kind ≡ kind_of names name)
-IsTaskOf names (board.Operate op) (task.Operate operator) = operator ≡ op
+IsTaskOf names (board.Operate op) of_work = operator_of of_work ≡ Some op
 IsTaskOf names (board.Store name []) (task.Store word) = word ≡ place_of names name
 IsTaskOf names (board.Store name (sub ∷ subs)) (task.StoreAt word size) = (word ≡ place_of names name) × (pos size ≡ size_of (dims_of names name))
 IsTaskOf names board.Take task.Take = Unit {0}
@@ -55,6 +73,17 @@ abbrev pub TakesOperands : Task → ℕ → Type 0
 TakesOperands (task.Load word kind) count = count ≡ 0
 TakesOperands (task.LoadAt word size kind) count = count ≡ 1
 TakesOperands (task.Operate op) count = count ≡ arity_of op
+TakesOperands task.Add count = count ≡ 2
+TakesOperands task.Sub count = count ≡ 2
+TakesOperands task.Mul count = count ≡ 2
+TakesOperands task.Lt count = count ≡ 2
+TakesOperands task.Le count = count ≡ 2
+TakesOperands task.Eq count = count ≡ 2
+TakesOperands task.Ne count = count ≡ 2
+TakesOperands task.Ge count = count ≡ 2
+TakesOperands task.Gt count = count ≡ 2
+TakesOperands task.Bound count = count ≡ 3
+TakesOperands task.Place count = count ≡ 3
 TakesOperands (task.Store word) count = count ≡ 1
 TakesOperands (task.StoreAt word size) count = count ≡ 2
 TakesOperands (task.Begin loop_no word) count = count ≡ 3
@@ -99,6 +128,17 @@ abbrev pub task_done : List NameInfo → (input : List ℤ) → Memory → Task 
 task_done names input m (task.Load word kind) args = Ok (gives m (read_as kind (word_at m.store word)))
 task_done names input m (task.LoadAt word size kind) args = Ok (gives m (loaded_at m.store word size kind (word_at args 0)))
 task_done names input m (task.Operate op) args = result_given m (applied op args)
+task_done names input m task.Add args = result_given m (applied Add args)
+task_done names input m task.Sub args = result_given m (applied Sub args)
+task_done names input m task.Mul args = result_given m (applied Mul args)
+task_done names input m task.Lt args = result_given m (applied Lt args)
+task_done names input m task.Le args = result_given m (applied Le args)
+task_done names input m task.Eq args = result_given m (applied Eq args)
+task_done names input m task.Ne args = result_given m (applied Ne args)
+task_done names input m task.Ge args = result_given m (applied Ge args)
+task_done names input m task.Gt args = result_given m (applied Gt args)
+task_done names input m task.Bound args = result_given m (applied Bound args)
+task_done names input m task.Place args = result_given m (applied Place args)
 task_done names input m (task.Store word) args = Ok (changes (stored_at m word (word_at args 0)))
 task_done names input m (task.StoreAt word size) args = Ok (changes (stored_in m word size (word_at args 0) (word_at args 1)))
 task_done names input m task.Take args = taken_from m (next_word input m)

@@ -62,6 +62,17 @@ fn give_of_task(
             Some(load_at(&s.store, word, size, kind, place))
         }
         Task::Operate(op) => applied_over(op, operands, values),
+        Task::Add => applied_over(Op::Add, operands, values),
+        Task::Sub => applied_over(Op::Sub, operands, values),
+        Task::Mul => applied_over(Op::Mul, operands, values),
+        Task::Lt => applied_over(Op::Lt, operands, values),
+        Task::Le => applied_over(Op::Le, operands, values),
+        Task::Eq => applied_over(Op::Eq, operands, values),
+        Task::Ne => applied_over(Op::Ne, operands, values),
+        Task::Ge => applied_over(Op::Ge, operands, values),
+        Task::Gt => applied_over(Op::Gt, operands, values),
+        Task::Bound => applied_over(Op::Bound, operands, values),
+        Task::Place => applied_over(Op::Place, operands, values),
         _ => None,
     }
 }

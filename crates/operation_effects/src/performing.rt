@@ -87,6 +87,17 @@ fn perform_task(
             Did::Gave(load_at(&s.store, word, size, kind, place))
         }
         Task::Operate(op) => operate(op, args),
+        Task::Add => operate(Op::Add, args),
+        Task::Sub => operate(Op::Sub, args),
+        Task::Mul => operate(Op::Mul, args),
+        Task::Lt => operate(Op::Lt, args),
+        Task::Le => operate(Op::Le, args),
+        Task::Eq => operate(Op::Eq, args),
+        Task::Ne => operate(Op::Ne, args),
+        Task::Ge => operate(Op::Ge, args),
+        Task::Gt => operate(Op::Gt, args),
+        Task::Bound => operate(Op::Bound, args),
+        Task::Place => operate(Op::Place, args),
         Task::Store(word) => {
             store_word(s, word, value_at(args, 0));
             Did::Changed
@@ -117,6 +128,7 @@ fn perform_task(
 }
 
 // The value of an operator, or its trap.
+#[inline(always)]
 fn operate(op: Op, args: &[i32]) -> Did
     requires { length args.now ≡ arity_of op }
     ensures effect { (m : Memory) (line : List ℕ) → result_given m (applied op args.now) ≡ told result m line }

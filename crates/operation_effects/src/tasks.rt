@@ -1,11 +1,12 @@
 //! What operations do, with what they look up of names.
 
-ghost use Rattle.std.specs.Prelude.{◌≡◌, ◌<◌, ◌≤◌, ◌+◌, ℕ, pos, length, map};
+ghost use Rattle.std.specs.Prelude.{◌≡◌, ◌<◌, ◌≤◌, ◌+◌, ℕ, Some, pos, length, map};
+ghost use Rattle.op_table.specs.Operators.{arity_of};
 ghost use Rattle.f77_tree.specs.Known.{known};
 ghost use Rattle.f77_tree.specs.Value.{dims_of, place_of, size_of, ArePlaced};
 ghost use Rattle.op_board.specs.Operations as board;
 ghost use Rattle.operation_lists.specs.Seen.{work_seen};
-ghost use Rattle.operation_effects.specs.Tasks.{CanPerform, IsTaskOf, TakesOperands};
+ghost use Rattle.operation_effects.specs.Tasks.{CanPerform, IsTaskOf, TakesOperands, operator_of};
 ghost use Rattle.operation_effects.specs.Works.{FitsProgram, HasOperands};
 
 use crate::sizes::size;
@@ -20,8 +21,21 @@ pub enum Task<'a> {
     Load(u32, Kind),
     /// Gives the word at a place of an array, whose first word is this and that has so many words, as a name of this kind is read.
     LoadAt(u32, u32, Kind),
-    /// Gives the value of an operator.
+    /// Gives the value of an operator that has no task of its own.
     Operate(Op),
+    /// Gives the value of this operator. Those that nearly every loop has are tasks of their own, so that one choice among the tasks
+    /// finds what is done.
+    Add,
+    Sub,
+    Mul,
+    Lt,
+    Le,
+    Eq,
+    Ne,
+    Ge,
+    Gt,
+    Bound,
+    Place,
     /// Writes a word.
     Store(u32),
     /// Writes the word at a place of an array, whose first word is this and that has so many words.
@@ -56,7 +70,7 @@ pub fn task_of<'a>(p: &Program, work: Work<'a>) -> Task<'a>
 {
     match work {
         Work::Load(access) => load_of(p, access),
-        Work::Operate(op) => Task::Operate(op),
+        Work::Operate(op) => operate_of(op),
         Work::Store(access) => store_of(p, access),
         Work::Take => Task::Take,
         Work::Write(items) => Task::Write(items),
@@ -67,6 +81,28 @@ pub fn task_of<'a>(p: &Program, work: Work<'a>) -> Task<'a>
         Work::DecideNumber(count) => Task::DecideNumber(count),
         Work::DecideTrips(loop_no) => Task::DecideTrips(loop_no),
         Work::DecideFirst => Task::DecideFirst,
+    }
+}
+
+// The task of an operator.
+fn operate_of<'a>(op: Op) -> Task<'a>
+    ensures task { operator_of result ≡ Some op }
+    ensures can { (p : Program) → CanPerform p result }
+    ensures operands { (count : ℕ) → count ≡ arity_of op → TakesOperands result count }
+{
+    match op {
+        Op::Add => Task::Add,
+        Op::Sub => Task::Sub,
+        Op::Mul => Task::Mul,
+        Op::Lt => Task::Lt,
+        Op::Le => Task::Le,
+        Op::Eq => Task::Eq,
+        Op::Ne => Task::Ne,
+        Op::Ge => Task::Ge,
+        Op::Gt => Task::Gt,
+        Op::Bound => Task::Bound,
+        Op::Place => Task::Place,
+        _ => Task::Operate(op),
     }
 }
 

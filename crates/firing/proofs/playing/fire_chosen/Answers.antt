@@ -2,9 +2,8 @@ use Rattle.std.proofs.Common.{◌≡◌, ◌+◌, ◌%◌, ◌<◌, length, slic
 use Rattle.std.proofs.Math.Nat.{mod-add-mod}
 use Rattle.firing.specs.Control.{IsInStep}
 use Rattle.firing.specs.Moves.{CanFire}
-use Rattle.firing.specs.Play.{Moment, by_picks, moment}
+use Rattle.firing.specs.Play.{by_picks, moment}
 use Rattle.firing.proofs.ChosenLemmas.{none_ready, pick_chosen, pick_fires}
-use Rattle.firing.proofs.ControlLemmas.{in_step_next}
 use Rattle.firing.proofs.PlayLemmas.{appends_told, prefix_told, moment_told, run_breaks, run_on, run_rests, run_stops}
 use Rattle.firing.proofs.playing.fire_chosen.Goals as goal
 

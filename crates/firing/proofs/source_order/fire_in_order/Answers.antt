@@ -1,4 +1,4 @@
-use Rattle.std.proofs.Common.{◌≡◌, ◌+◌, ◌<◌, ◌≤◌, None, Some, sym, ap, subst, ◌∙◌, rules, arith}
+use Rattle.std.proofs.Common.{◌≡◌, ◌+◌, ◌≤◌, None, Some, sym, ap, ◌∙◌, rules, arith}
 use Rattle.firing.specs.declared.playing.Show.TheVariants.{Nodes}
 use Rattle.firing.specs.Control.{due_at, due_node}
 use Rattle.firing.specs.Play.{by_order, moment, node_of}

@@ -1,18 +1,17 @@
-use Rattle.std.proofs.Common.{◌≡◌, ◌<◌, ℕ, None, get_or, map, drop, sym, ap, ◌∙◌, subst, arith}
-use Rattle.op_board.specs.OperationNets.{needed}
+use Rattle.std.proofs.Common.{◌≡◌, ◌<◌, ◌+◌, ℕ, None, get_or, length, map, drop, sym, ap, ◌∙◌, subst, arith}
+use Rattle.op_board.specs.OperationNets.{first_operation, needed}
 use Rattle.op_net.specs.BoardView.{operation_net_on}
 use Rattle.op_net.specs.PlacesView.{standing}
 use Rattle.op_net.specs.declared.hops.Hop.{Hop}
+use Rattle.op_net.proofs.MadeUp.{leaves_all, leaves_end}
 use Rattle.op_net.proofs.CountsKept.{keeps_more, keeps_own}
 use Rattle.op_net.proofs.RowFacts.{row_lines}
 use Rattle.op_net.proofs.WalkedRows as walked
 use Rattle.op_net.proofs.FoldedLists.{fold_end, left_none}
 use Rattle.op_net.specs.PlaceSteps.{line_dropped}
 use Rattle.op_net.specs.StandingChanges.{lines_dropped}
-use Rattle.op_net.specs.Waits.{IsNodeBefore}
 use Rattle.op_net.proofs.HopFacts.{before_here}
 use Rattle.op_net.proofs.MovedLines.{needed_dropped}
-use Rattle.op_net.proofs.NodesBefore.{none_before}
 use Rattle.op_net.proofs.TakenOperands.{own_node}
 use Rattle.op_net.proofs.operating.drop_needed.Goals as goal
 
@@ -28,12 +27,12 @@ loop-hop-init g c = record {
   stand = c.requires.stand;
   lines = c.requires.places.lines;
   passed = c.requires.places.passed;
-  counted = c.requires.counted;
+  counted = leaves_all (operation_net_on c.args.board.now) (first_operation (operation_net_on c.args.board.now) c.args.piece + c.args.i) c.args.places.now (length (needed (operation_net_on c.args.board.now) c.args.piece c.args.i));
   kept = keeps_own c.args.places.now;
 }
 
-pub put_line-requires : goal.put_line-requires
-put_line-requires g c =
+pub take_off-requires : goal.take_off-requires
+take_off-requires g c =
     let x = operation_net_on c.args.board.now in
     let items = c.deref-hop-items.result.now in
     let j = c.loop-hop.hop-index in
@@ -56,11 +55,8 @@ put_line-requires g c =
             (
               c.loop-hop.invariant.kept.marks ∙ c.requires.places.marks,
               (
-                c.loop-hop.invariant.counted,
-                (
-                  (λ counted. before_here x c.args.board.now.plan.facts c.args.piece c.args.i hop.line m c.requires.piece c.requires.operation needs stands c.first.result c.first.ensures),
-                  (λ counted. subst (λ (n : ℕ). IsNodeBefore x hop.line None 0 n) (sym c.nodes-none.ensures) (none_before x hop.line 0)),
-                ),
+                walked.line_ahead x c.args.piece c.args.i items j (record { line = 0; before = 0; next = None }) seen c.loop-hop-test.true c.args.places.now c.loop-hop.places c.first.result c.first.ensures c.loop-hop.invariant.counted c.requires.ahead,
+                (λ counted. before_here x c.args.board.now.plan.facts c.args.piece c.args.i hop.line m c.requires.piece c.requires.operation needs stands c.first.result c.first.ensures),
               ),
             ),
           ),
@@ -74,14 +70,14 @@ loop-hop-preserved g c =
     let items = c.deref-hop-items.result.now in
     let j = c.loop-hop.hop-index in
     let seen : map (λ (hop : Hop). hop.line) items ≡ needed x c.args.piece c.args.i = ap (map (λ (hop : Hop). hop.line)) c.deref-hop-items.ensures.value ∙ row_lines x c.args.piece c.args.i c.row.result.now c.row.ensures in
-    let r = walked.dropped_next x c.args.piece c.args.i items j _ seen c.loop-hop-test.true (standing c.loop-hop.places) (standing c.put_line.new.self) (lines_dropped x (standing c.args.places.now) c.args.piece c.args.i) c.put_line.ensures.standing c.loop-hop.invariant.dropped c.loop-hop.invariant.stand in
+    let r = walked.dropped_next x c.args.piece c.args.i items j _ seen c.loop-hop-test.true (standing c.loop-hop.places) (standing c.take_off.new.self) (lines_dropped x (standing c.args.places.now) c.args.piece c.args.i) c.take_off.ensures.standing c.loop-hop.invariant.dropped c.loop-hop.invariant.stand in
     record {
       dropped = r.moved;
       stand = r.stand;
       lines = r.long ∙ c.loop-hop.invariant.lines;
       passed = r.passed ∙ c.loop-hop.invariant.passed;
-      counted = c.put_line.ensures.counted;
-      kept = keeps_more c.args.places.now c.loop-hop.places c.put_line.new.self c.loop-hop.invariant.kept c.put_line.ensures.kept;
+      counted = walked.line_leaves x c.args.piece c.args.i items j (record { line = 0; before = 0; next = None }) seen c.loop-hop-test.true c.args.places.now c.loop-hop.places c.first.result c.first.ensures c.loop-hop.invariant.counted c.take_off.new.self c.take_off.ensures.counted;
+      kept = keeps_more c.args.places.now c.loop-hop.places c.take_off.new.self c.loop-hop.invariant.kept c.take_off.ensures.kept;
     }
 
 pub returns-clause-standing : goal.returns-clause-standing
@@ -91,3 +87,12 @@ returns-clause-standing g c =
     let j = c.loop-hop.hop-index in
     let seen : map (λ (hop : Hop). hop.line) items ≡ needed x c.args.piece c.args.i = ap (map (λ (hop : Hop). hop.line)) c.deref-hop-items.ensures.value ∙ row_lines x c.args.piece c.args.i c.row.result.now c.row.ensures in
     fold_end line_dropped (standing c.loop-hop.places) (lines_dropped x (standing c.args.places.now) c.args.piece c.args.i) (drop j (needed x c.args.piece c.args.i)) (left_none (λ (hop : Hop). hop.line) items (needed x c.args.piece c.args.i) j seen c.loop-hop-test.false) c.loop-hop.invariant.dropped
+
+pub returns-clause-counted : goal.returns-clause-counted
+returns-clause-counted g c =
+    let x = operation_net_on c.args.board.now in
+    let items = c.deref-hop-items.result.now in
+    let j = c.loop-hop.hop-index in
+    let seen : map (λ (hop : Hop). hop.line) items ≡ needed x c.args.piece c.args.i = ap (map (λ (hop : Hop). hop.line)) c.deref-hop-items.ensures.value ∙ row_lines x c.args.piece c.args.i c.row.result.now c.row.ensures in
+    leaves_end x (first_operation x c.args.piece + c.args.i) c.args.places.now c.loop-hop.places (length (needed x c.args.piece c.args.i)) (length (drop j (needed x c.args.piece c.args.i))) c.loop-hop.invariant.counted
+    (ap length (left_none (λ (hop : Hop). hop.line) items (needed x c.args.piece c.args.i) j seen c.loop-hop-test.false))

@@ -1,11 +1,12 @@
-use Rattle.std.proofs.Common.{◌≡◌, true, drop, fold, length}
+use Rattle.std.proofs.Common.{◌≡◌, ◌+◌, true, drop, fold, length}
 use Rattle.std.specs.List.{list_all}
-use Rattle.op_board.specs.OperationNets.{needed}
+use Rattle.op_board.specs.OperationNets.{first_operation, needed}
 use Rattle.op_board.specs.OperationTokens.{stands_before}
 use Rattle.op_net.specs.BoardView.{operation_net_on}
 use Rattle.op_net.specs.PlaceSteps.{line_dropped}
-use Rattle.op_net.specs.PlacesView.{IsCounted, KeepsCounts, standing}
+use Rattle.op_net.specs.PlacesView.{KeepsCounts, standing}
 use Rattle.op_net.specs.StandingChanges.{lines_dropped}
+use Rattle.op_net.proofs.MadeUp.{LeavesAhead}
 use Rattle.op_net.proofs.operating.drop_needed.Given as goal
 
 abbrev pub invariant-loop-hop : goal.invariant-loop-hop
@@ -17,6 +18,6 @@ invariant-loop-hop g l =
       stand : list_all (stands_before x (standing l.places) l.piece l.i) left ≡ true;
       lines : length l.places.lines.items ≡ x.net.routing.lines;
       passed : length l.places.passed.items ≡ x.net.routing.lines;
-      counted : IsCounted x l.places;
+      counted : LeavesAhead x l.fn.places l.places (first_operation x l.piece + l.i) (length (needed x l.piece l.i)) (length left);
       kept : KeepsCounts l.fn.places l.places;
     }

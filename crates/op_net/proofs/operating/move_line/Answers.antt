@@ -1,6 +1,5 @@
-use Rattle.std.proofs.Common.{◌≡◌, ◌+◌, suc, ap, ◌∙◌, arith, add-one}
-use Rattle.net_board.specs.TokenEdges.{edge_at}
-use Rattle.net_tables.proofs.TokenLineLemmas.{read_edge}
+use Rattle.std.proofs.Common.{◌+◌, suc, refl, ap, ◌∙◌, arith, add-one}
+use Rattle.net_board.specs.Tokens.{edge_of}
 use Rattle.op_net.specs.BoardView.{operation_net_on}
 use Rattle.op_net.specs.OperationRows.{IsNextNeed}
 use Rattle.op_net.specs.PlacesView.{standing}
@@ -9,14 +8,8 @@ use Rattle.op_net.proofs.OperationRanges.{few_operations}
 use Rattle.op_net.proofs.TakenOperands.{own_node}
 use Rattle.op_net.proofs.operating.move_line.Goals as goal
 
-pub index-old-requires : goal.index-old-requires
-index-old-requires g c =
-    let exists = hop_exists (operation_net_on c.args.board.now) c.args.piece c.args.i c.args.hop c.requires.hop in
-    let lines = c.requires.lines in
-    omega (arith, exists, lines)
-
-pub overflow_add-passed : goal.overflow_add-passed
-overflow_add-passed g c =
+pub overflow_add-hop : goal.overflow_add-hop
+overflow_add-hop g c =
     let x = operation_net_on c.args.board.now in
     let few = few_operations x c.args.board.now.tables c.args.board.now.own_tables c.args.piece c.requires.piece in
     record { fits = passed_few x c.args.piece c.args.i c.args.hop c.requires.hop c.in-Some.n c.in-Some.is few }
@@ -41,8 +34,8 @@ overflow_add-first-in-None g c =
     let few = c.args.board.now.own_tables.few in
     record { fits = omega (arith, below, few) }
 
-pub put_line-requires : goal.put_line-requires
-put_line-requires g c =
+pub pass_on-requires : goal.pass_on-requires
+pass_on-requires g c =
     let x = operation_net_on c.args.board.now in
     let m = standing c.args.places.now in
     let hop = c.args.hop in
@@ -50,8 +43,7 @@ put_line-requires g c =
     let lines = c.requires.lines in
     let passed = c.requires.passed in
     let facts = c.args.board.now.plan.facts in
-    let next : IsNextNeed x c.args.piece c.args.i hop.line c.in-Some.n = hop_next x c.args.piece c.args.i hop c.requires.hop c.in-Some.n c.in-Some.is in
-    let at : edge_at c.args.places.now.lines.items hop.line ≡ c.index-old.result.now = read_edge c.args.places.now.lines.items hop.line c.index-old.result.now (omega (arith, exists, lines)) c.index-old.ensures in (
+    let next : IsNextNeed x c.args.piece c.args.i hop.line c.in-Some.n = hop_next x c.args.piece c.args.i hop c.requires.hop c.in-Some.n c.in-Some.is in (
       omega arith,
       (
         exists,
@@ -62,10 +54,10 @@ put_line-requires g c =
             (
               c.requires.marks,
               (
-                c.requires.counted,
+                c.requires.ahead,
                 (
                   (λ counted. before_here x facts c.args.piece c.args.i hop.line m c.requires.piece c.requires.operation c.requires.needs c.requires.stands c.args.first c.requires.first),
-                  (λ counted. before_next x facts c.args.piece c.args.i hop.line m c.requires.piece c.requires.operation c.requires.needs c.requires.stands c.args.first c.in-Some.n (hop.before + 1) c.index-old.result.now c.requires.first next at (add-one hop.before ∙ ap suc (hop_before x c.args.piece c.args.i hop c.requires.hop))),
+                  (λ counted. before_next x facts c.args.piece c.args.i hop.line m c.requires.piece c.requires.operation c.requires.needs c.requires.stands c.args.first c.in-Some.n (hop.before + 1) (edge_of m.tokens hop.line) c.requires.first next refl (add-one hop.before ∙ ap suc (hop_before x c.args.piece c.args.i hop c.requires.hop))),
                 ),
               ),
             ),
@@ -93,7 +85,7 @@ lead_line-requires g c =
                 (
                   own_node x c.args.piece c.args.i c.args.first c.requires.piece c.requires.operation c.requires.first,
                   (
-                    c.requires.counted,
+                    c.requires.ahead,
                     before_here x c.args.board.now.plan.facts c.args.piece c.args.i hop.line (standing c.args.places.now) c.requires.piece c.requires.operation c.requires.needs c.requires.stands c.args.first c.requires.first,
                   ),
                 ),
@@ -107,14 +99,11 @@ lead_line-requires g c =
 pub returns-in-Some-clause-standing : goal.returns-in-Some-clause-standing
 returns-in-Some-clause-standing g c =
     let x = operation_net_on c.args.board.now in
+    let m = standing c.args.places.now in
     let hop = c.args.hop in
-    let exists = hop_exists x c.args.piece c.args.i hop c.requires.hop in
-    let lines = c.requires.lines in
     let next : IsNextNeed x c.args.piece c.args.i hop.line c.in-Some.n = hop_next x c.args.piece c.args.i hop c.requires.hop c.in-Some.n c.in-Some.is in
-    c.put_line.ensures.standing
-    ∙ moved_past x c.args.piece c.args.i c.args.edge hop.line (standing c.args.places.now) c.index-old.result.now (hop.before + 1) next.more
-    (read_edge c.args.places.now.lines.items hop.line c.index-old.result.now (omega (arith, exists, lines)) c.index-old.ensures)
-    (add-one hop.before ∙ ap suc (hop_before x c.args.piece c.args.i hop c.requires.hop))
+    c.pass_on.ensures.standing
+    ∙ moved_past x c.args.piece c.args.i c.args.edge hop.line m (edge_of m.tokens hop.line) (hop.before + 1) next.more refl (add-one hop.before ∙ ap suc (hop_before x c.args.piece c.args.i hop c.requires.hop))
 
 pub returns-in-None-clause-standing : goal.returns-in-None-clause-standing
 returns-in-None-clause-standing g c =

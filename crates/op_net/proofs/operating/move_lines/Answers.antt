@@ -1,8 +1,9 @@
-use Rattle.std.proofs.Common.{◌≡◌, map, drop, ap, ◌∙◌, arith}
-use Rattle.op_board.specs.OperationNets.{needed}
+use Rattle.std.proofs.Common.{◌≡◌, ◌+◌, None, length, map, drop, ap, ◌∙◌, arith}
+use Rattle.op_board.specs.OperationNets.{first_operation, needed}
 use Rattle.op_net.specs.BoardView.{operation_net_on}
 use Rattle.op_net.specs.PlacesView.{standing}
 use Rattle.op_net.specs.declared.hops.Hop.{Hop}
+use Rattle.op_net.proofs.MadeUp.{leaves_all, leaves_end}
 use Rattle.op_net.proofs.CountsKept.{keeps_more, keeps_own}
 use Rattle.op_net.proofs.RowFacts.{row_lines}
 use Rattle.op_net.proofs.WalkedRows as walked
@@ -18,7 +19,7 @@ loop-hop-init g c = record {
   stand = c.requires.stand;
   lines = c.requires.places.lines;
   passed = c.requires.places.passed;
-  counted = c.requires.counted;
+  counted = leaves_all (operation_net_on c.args.board.now) (first_operation (operation_net_on c.args.board.now) c.args.piece + c.args.i) c.args.places.now (length (needed (operation_net_on c.args.board.now) c.args.piece c.args.i));
   kept = keeps_own c.args.places.now;
 }
 
@@ -34,7 +35,7 @@ move_line-requires g c =
         (
           c.requires.operation,
           (
-            c.first-first.ensures,
+            c.requires.first,
             (
               c.requires.edge,
               (
@@ -44,7 +45,7 @@ move_line-requires g c =
                   (
                     c.loop-hop.invariant.kept.marks ∙ c.requires.places.marks,
                     (
-                      c.loop-hop.invariant.counted,
+                      walked.line_ahead x c.args.piece c.args.i items j (record { line = 0; before = 0; next = None }) seen c.loop-hop-test.true c.args.places.now c.loop-hop.places c.args.first c.requires.first c.loop-hop.invariant.counted c.requires.ahead,
                       (
                         walked.hop_at x c.args.piece c.args.i c.args.row.now items j _ c.requires.row c.deref-hop-items.ensures.value c.loop-hop-test.true,
                         (
@@ -74,7 +75,7 @@ loop-hop-preserved g c =
       stand = r.stand;
       lines = r.long ∙ c.loop-hop.invariant.lines;
       passed = r.passed ∙ c.loop-hop.invariant.passed;
-      counted = c.move_line.ensures.counted;
+      counted = walked.line_leaves x c.args.piece c.args.i items j (record { line = 0; before = 0; next = None }) seen c.loop-hop-test.true c.args.places.now c.loop-hop.places c.args.first c.requires.first c.loop-hop.invariant.counted c.move_line.new.places c.move_line.ensures.counted;
       kept = keeps_more c.args.places.now c.loop-hop.places c.move_line.new.places c.loop-hop.invariant.kept c.move_line.ensures.kept;
     }
 
@@ -85,3 +86,12 @@ returns-clause-standing g c =
     let j = c.loop-hop.hop-index in
     let seen : map (λ (hop : Hop). hop.line) items ≡ needed x c.args.piece c.args.i = ap (map (λ (hop : Hop). hop.line)) c.deref-hop-items.ensures.value ∙ row_lines x c.args.piece c.args.i c.args.row.now c.requires.row in
     fold_end (line_moved x c.args.piece c.args.i c.args.edge) (standing c.loop-hop.places) (lines_moved x (standing c.args.places.now) c.args.piece c.args.i c.args.edge) (drop j (needed x c.args.piece c.args.i)) (left_none (λ (hop : Hop). hop.line) items (needed x c.args.piece c.args.i) j seen c.loop-hop-test.false) c.loop-hop.invariant.moved
+
+pub returns-clause-counted : goal.returns-clause-counted
+returns-clause-counted g c =
+    let x = operation_net_on c.args.board.now in
+    let items = c.deref-hop-items.result.now in
+    let j = c.loop-hop.hop-index in
+    let seen : map (λ (hop : Hop). hop.line) items ≡ needed x c.args.piece c.args.i = ap (map (λ (hop : Hop). hop.line)) c.deref-hop-items.ensures.value ∙ row_lines x c.args.piece c.args.i c.args.row.now c.requires.row in
+    leaves_end x (first_operation x c.args.piece + c.args.i) c.args.places.now c.loop-hop.places (length (needed x c.args.piece c.args.i)) (length (drop j (needed x c.args.piece c.args.i))) c.loop-hop.invariant.counted
+    (ap length (left_none (λ (hop : Hop). hop.line) items (needed x c.args.piece c.args.i) j seen c.loop-hop-test.false))

@@ -7,8 +7,9 @@ use Rattle.operation_lists.specs.Seen.{operand_seen}
 use Rattle.operation_lists.specs.declared.operations.Operand.{Operand}
 use Rattle.op_net.specs.BoardView.{operation_net_on}
 use Rattle.op_net.specs.OperationRows.{IsTaker}
-use Rattle.op_net.specs.PlaceSteps.{IsOwnOperand}
-use Rattle.op_net.specs.PlacesView.{standing}
+use Rattle.op_net.specs.PlaceSteps.{IsOwnOperand, values_for}
+use Rattle.op_net.specs.PlacesView.{IsAheadBy, MakesUp, standing}
+use Rattle.op_net.proofs.MadeUp.{makes_none}
 use Rattle.op_net.proofs.TakenOperands.{giver_after, giver_exists, giver_full, own_node, read_value}
 use Rattle.op_net.proofs.operating.take_operand.Goals as goal
 
@@ -42,10 +43,11 @@ take-requires g c =
     let number = c.in-Node.number in
     let own : IsTaker x c.args.piece number c.args.i = subst (λ (o : Operand). IsOwnOperand x c.args.piece c.args.i (operand_seen o)) c.in-Node.is c.requires.own in
     let given : is_given x (standing c.args.places.now) c.args.piece (From number) ≡ true = subst (λ (o : Operand). is_given x (standing c.args.places.now) c.args.piece (operand_seen o) ≡ true) c.in-Node.is c.requires.given in
+    let ahead : ∥ IsAheadBy x c.args.places.now (first + c.args.i) 1 ∥₁ = subst (λ (o : Operand). ∥ IsAheadBy x c.args.places.now (first + c.args.i) (values_for (operand_seen o)) ∥₁) c.in-Node.is c.requires.ahead in
     let giver = giver_exists x c.args.piece c.args.i number c.requires.piece own first c.requires.first in
     let values = c.requires.values in
     let full = giver_full x c.args.piece c.args.i number c.requires.piece own (standing c.args.places.now) first c.requires.first given in
-    (omega arith, (omega (arith, giver, values), (own_node x c.args.piece c.args.i first c.requires.piece c.requires.operation c.requires.first, (c.requires.marks, (c.requires.counted, (full, λ counted. giver_after x c.args.piece c.args.i number c.requires.piece own first c.requires.first))))))
+    (omega arith, (omega (arith, giver, values), (own_node x c.args.piece c.args.i first c.requires.piece c.requires.operation c.requires.first, (c.requires.marks, (ahead, (full, λ counted. giver_after x c.args.piece c.args.i number c.requires.piece own first c.requires.first))))))
 
 pub returns-in-Node-clause-value : goal.returns-in-Node-clause-value
 returns-in-Node-clause-value g c =
@@ -60,3 +62,11 @@ returns-in-Node-clause-value g c =
     ∙ ap (λ (o : Option ℤ). unwrap_or o (pos 0)) (sym (read_value c.args.places.now.values.items (c.args.first + c.in-Node.number) c.index.result.now (omega (arith, below, values)) c.index.ensures))
     ∙ ap (λ (f : ℕ). unwrap_or (value_at m (f + c.in-Node.number)) (pos 0)) c.requires.first
     ∙ ap (λ (o : Operand). operand_in x m c.args.piece (operand_seen o)) (sym c.in-Node.is)
+
+pub returns-in-Node-clause-counted : goal.returns-in-Node-clause-counted
+returns-in-Node-clause-counted g c =
+    subst (λ (o : Operand). MakesUp (operation_net_on c.args.board.now) c.args.places.now c.take.new.self (c.args.first + c.args.i) (values_for (operand_seen o))) (sym c.in-Node.is) c.take.ensures.counted
+
+pub returns-in-Known-clause-counted : goal.returns-in-Known-clause-counted
+returns-in-Known-clause-counted g c =
+    subst (λ (o : Operand). MakesUp (operation_net_on c.args.board.now) c.args.places.now c.args.places.now (c.args.first + c.args.i) (values_for (operand_seen o))) (sym c.in-Known.is) (makes_none (operation_net_on c.args.board.now) (c.args.first + c.args.i) c.args.places.now)

@@ -1,12 +1,14 @@
-use Rattle.std.proofs.Common.{◌≡◌, ◌++◌, ◌∷◌, [], w32, length, map, drop, vec_len, sym, ap, ◌∙◌, arith, rules}
+use Rattle.std.proofs.Common.{◌≡◌, ◌+◌, ◌++◌, ◌∷◌, List, [], w32, length, map, drop, vec_len, sym, ap, ◌∙◌, arith, rules}
 use mir.Val.{SFits}
 use Rattle.std.proofs.lemmas.Int.{to_z-of_z}
 use Rattle.std.proofs.lemmas.List.{length-map}
-use Rattle.op_board.specs.OperationNets.{operation_at}
-use Rattle.op_board.specs.OperationTokens.{operand_in}
+use Rattle.op_board.specs.OperationNets.{first_operation, operation_at}
+use Rattle.op_board.specs.Operations.{Operand}
+use Rattle.op_board.specs.OperationTokens.{givers, operand_in}
 use Rattle.operation_lists.specs.Seen.{operand_seen}
 use Rattle.op_net.specs.BoardView.{operation_net_on}
 use Rattle.op_net.specs.PlacesView.{standing}
+use Rattle.op_net.proofs.MadeUp.{leaves_all, leaves_end}
 use Rattle.op_net.proofs.CountsKept.{keeps_more, keeps_own}
 use Rattle.op_net.proofs.RowFacts.{row_operands}
 use Rattle.op_net.proofs.WalkedRows as walked
@@ -26,7 +28,7 @@ loop-operand-init g c =
       taken = operands_taken x c.args.piece (standing c.args.places.now) c.args.i;
       given = c.requires.given;
       values = c.requires.places.values;
-      counted = c.requires.counted;
+      counted = leaves_all x (first_operation x c.args.piece + c.args.i) c.args.places.now (length (givers x c.args.piece operands));
       kept = keeps_own c.args.places.now;
     }
 
@@ -38,7 +40,7 @@ take_operand-z-requires g c =
     let seen : map operand_seen items ≡ (operation_at x c.args.piece c.args.i).operands = ap (map operand_seen) c.as_slice-operand-items.ensures ∙ row_operands x c.args.piece c.args.i c.args.row.now c.requires.row in
     let own = walked.own_at x c.args.piece c.args.i items j _ seen c.loop-operand-test.true c.requires.operation in
     let given = walked.given_at x c.args.piece c.args.i items j _ seen c.loop-operand-test.true (standing c.loop-operand.places) c.loop-operand.invariant.given in
-    (omega arith, (c.requires.piece, (c.requires.operation, (c.first-first.ensures, (c.loop-operand.invariant.values, (c.loop-operand.invariant.kept.marks ∙ c.requires.places.marks, (c.loop-operand.invariant.counted, (own, given))))))))
+    (omega arith, (c.requires.piece, (c.requires.operation, (c.first-first.ensures, (c.loop-operand.invariant.values, (c.loop-operand.invariant.kept.marks ∙ c.requires.places.marks, (walked.operand_ahead x c.args.piece c.args.i items j _ seen c.loop-operand-test.true c.args.places.now c.loop-operand.places c.first-first.result c.first-first.ensures c.loop-operand.invariant.counted c.requires.ahead, (own, given))))))))
 
 pub push_argument-requires : goal.push_argument-requires
 push_argument-requires g c =
@@ -76,7 +78,7 @@ loop-operand-preserved g c =
       taken = r.taken;
       given = r.given;
       values = r.values ∙ c.loop-operand.invariant.values;
-      counted = c.take_operand-z.ensures.counted;
+      counted = walked.operand_leaves x c.args.piece c.args.i items j _ seen c.loop-operand-test.true c.args.places.now c.loop-operand.places c.first-first.result c.first-first.ensures c.loop-operand.invariant.counted c.take_operand-z.new.places c.take_operand-z.ensures.counted;
       kept = keeps_more c.args.places.now c.loop-operand.places c.take_operand-z.new.places c.loop-operand.invariant.kept c.take_operand-z.ensures.kept;
     }
 
@@ -95,3 +97,13 @@ returns-clause-standing g c =
     let items = c.as_slice-operand-items.result.now in
     let seen : map operand_seen items ≡ operands = ap (map operand_seen) c.as_slice-operand-items.ensures ∙ row_operands x c.args.piece c.args.i c.args.row.now c.requires.row in
     fold_end (operand_taken x c.args.piece) (standing c.loop-operand.places) (values_taken x (standing c.args.places.now) c.args.piece c.args.i) (drop c.loop-operand.operand-index operands) (left_none operand_seen items operands c.loop-operand.operand-index seen c.loop-operand-test.false) c.loop-operand.invariant.taken
+
+pub returns-clause-counted : goal.returns-clause-counted
+returns-clause-counted g c =
+    let x = operation_net_on c.args.board.now in
+    let operands = (operation_at x c.args.piece c.args.i).operands in
+    let items = c.as_slice-operand-items.result.now in
+    let j = c.loop-operand.operand-index in
+    let seen : map operand_seen items ≡ operands = ap (map operand_seen) c.as_slice-operand-items.ensures ∙ row_operands x c.args.piece c.args.i c.args.row.now c.requires.row in
+    leaves_end x (first_operation x c.args.piece + c.args.i) c.args.places.now c.loop-operand.places (length (givers x c.args.piece operands)) (length (givers x c.args.piece (drop j operands))) c.loop-operand.invariant.counted
+    (ap (λ (os : List Operand). length (givers x c.args.piece os)) (left_none operand_seen items operands j seen c.loop-operand-test.false))

@@ -1,12 +1,13 @@
-use Rattle.std.proofs.Common.{◌≡◌, ◌≤◌, ◌++◌, true, drop, fold, length, map, vec_capacity}
+use Rattle.std.proofs.Common.{◌≡◌, ◌≤◌, ◌+◌, ◌++◌, true, drop, fold, length, map, vec_capacity}
 use Rattle.std.specs.List.{list_all}
-use Rattle.op_board.specs.OperationNets.{operation_at}
-use Rattle.op_board.specs.OperationTokens.{is_given, operand_in}
+use Rattle.op_board.specs.OperationNets.{first_operation, operation_at}
+use Rattle.op_board.specs.OperationTokens.{givers, is_given, operand_in}
 use Rattle.op_net.specs.BoardView.{operation_net_on}
 use Rattle.op_net.specs.PlaceSteps.{operand_taken}
-use Rattle.op_net.specs.PlacesView.{IsCounted, KeepsCounts, standing}
+use Rattle.op_net.specs.PlacesView.{KeepsCounts, standing}
 use Rattle.op_net.specs.StandingChanges.{values_taken}
 use Rattle.op_net.specs.Waits.{node_total}
+use Rattle.op_net.proofs.MadeUp.{LeavesAhead}
 use Rattle.op_net.proofs.operating.take_operands.Given as goal
 
 abbrev pub invariant-loop-operand : goal.invariant-loop-operand
@@ -20,6 +21,6 @@ invariant-loop-operand g l =
       taken : fold (operand_taken x l.piece) (standing l.places) left ≡ values_taken x (standing l.fn.places) l.piece l.i;
       given : list_all (is_given x (standing l.places) l.piece) left ≡ true;
       values : length l.places.values.items ≡ node_total x;
-      counted : IsCounted x l.places;
+      counted : LeavesAhead x l.fn.places l.places (first_operation x l.piece + l.i) (length (givers x l.piece operands)) (length (givers x l.piece left));
       kept : KeepsCounts l.fn.places l.places;
     }

@@ -8,12 +8,12 @@ pub scan-requires-clause-some : goal.scan-requires-clause-some
 scan-requires-clause-some c =
     let s = c.self.inside in
     let set = c.args.self.now in
-    let are = counts_of 1048576 c.deref.result.now s.high.items (flags_of s.words.items s.room) set c.deref.ensures.value c.self.view_is (c.self.invariant.1.high_counts (large_seen s.words.items s.room set c.self.view_is c.requires.many)) in
+    let are = counts_of 1048576 c.deref.result.now s.high.items (flags_of s.words.items s.room) set c.deref.ensures.value c.self.view_is (c.self.invariant.1.high_counts (large_seen 32768 s.words.items s.room set c.self.view_is c.requires.many)) in
     (starts_first 1048576 c.deref.result.now set are c.args.place c.requires.place).some
 
 pub returns : goal.returns
 returns c =
     let s = c.self.inside in
     let set = c.args.self.now in
-    let are = counts_of 1048576 c.deref.result.now s.high.items (flags_of s.words.items s.room) set c.deref.ensures.value c.self.view_is (c.self.invariant.1.high_counts (large_seen s.words.items s.room set c.self.view_is c.requires.many)) in
+    let are = counts_of 1048576 c.deref.result.now s.high.items (flags_of s.words.items s.room) set c.deref.ensures.value c.self.view_is (c.self.invariant.1.high_counts (large_seen 32768 s.words.items s.room set c.self.view_is c.requires.many)) in
     found 1048576 c.deref.result.now set are c.args.place c.requires.place c.scan.result.0 c.scan.result.1 c.scan.ensures.within (omega (arith, c.scan.ensures.same)) c.scan.ensures.short

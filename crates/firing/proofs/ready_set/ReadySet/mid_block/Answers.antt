@@ -16,20 +16,20 @@ pub scan-requires-clause-inside : goal.scan-requires-clause-inside
 scan-requires-clause-inside c =
     let s = c.self.inside in
     let set = c.args.self.now in
-    let are = counts_of 32768 c.deref.result.now s.mid.items (flags_of s.words.items s.room) set c.deref.ensures.value c.self.view_is (c.self.invariant.1.mid_counts (large_seen s.words.items s.room set c.self.view_is c.requires.many)) in
+    let are = counts_of 32768 c.deref.result.now s.mid.items (flags_of s.words.items s.room) set c.deref.ensures.value c.self.view_is (c.self.invariant.1.mid_counts (large_seen 32768 s.words.items s.room set c.self.view_is c.requires.many)) in
     (starts 32768 c.deref.result.now set are c.args.place c.requires.place 32 c.high_block-b.result.0 c.high_block-b.result.1 c.high_block-b.ensures).inside
 
 pub scan-requires-clause-some : goal.scan-requires-clause-some
 scan-requires-clause-some c =
     let s = c.self.inside in
     let set = c.args.self.now in
-    let are = counts_of 32768 c.deref.result.now s.mid.items (flags_of s.words.items s.room) set c.deref.ensures.value c.self.view_is (c.self.invariant.1.mid_counts (large_seen s.words.items s.room set c.self.view_is c.requires.many)) in
+    let are = counts_of 32768 c.deref.result.now s.mid.items (flags_of s.words.items s.room) set c.deref.ensures.value c.self.view_is (c.self.invariant.1.mid_counts (large_seen 32768 s.words.items s.room set c.self.view_is c.requires.many)) in
     (starts 32768 c.deref.result.now set are c.args.place c.requires.place 32 c.high_block-b.result.0 c.high_block-b.result.1 c.high_block-b.ensures).some
 
 pub returns : goal.returns
 returns c =
     let s = c.self.inside in
     let set = c.args.self.now in
-    let are = counts_of 32768 c.deref.result.now s.mid.items (flags_of s.words.items s.room) set c.deref.ensures.value c.self.view_is (c.self.invariant.1.mid_counts (large_seen s.words.items s.room set c.self.view_is c.requires.many)) in
+    let are = counts_of 32768 c.deref.result.now s.mid.items (flags_of s.words.items s.room) set c.deref.ensures.value c.self.view_is (c.self.invariant.1.mid_counts (large_seen 32768 s.words.items s.room set c.self.view_is c.requires.many)) in
     let start = starts 32768 c.deref.result.now set are c.args.place c.requires.place 32 c.high_block-b.result.0 c.high_block-b.result.1 c.high_block-b.ensures in
     found 32768 c.deref.result.now set are c.args.place c.requires.place c.scan.result.0 c.scan.result.1 c.scan.ensures.within (c.scan.ensures.same ∙ start.same) c.scan.ensures.short

@@ -1,8 +1,33 @@
 use Rattle.std.proofs.Common.{ℕ, ◌+◌, ◌*◌, ◌<◌, ◌∙◌, Fits, w64, get_or, subst, sym, arith, rules}
 use Rattle.firing.specs.BlockCounts.{before, ones_of}
-use Rattle.firing.proofs.CountLemmas.{block_few, starts, found}
+use Rattle.firing.proofs.CountLemmas.{block_few, starts, starts_first, found}
 use Rattle.firing.proofs.WordLemmas.{length_ones, length_seen, word_counts_of}
 use Rattle.firing.proofs.ready_set.ReadySet.word.Goals as goal
+
+pub scan_words-requires-clause-some : goal.scan_words-requires-clause-some
+scan_words-requires-clause-some c =
+    let s = c.self.inside in
+    let words = c.as_slice-words.result.now in
+    let set = c.args.self.now in
+    let are = word_counts_of words s.words.items s.room set c.as_slice-words.ensures.value c.self.view_is c.self.invariant.0 (λ b. let h = c.type_inv.words b in omega (arith, h)) in
+    subst (λ n. 0 + c.args.place < before (ones_of words) n) (length_ones words) (starts_first 64 (ones_of words) set are c.args.place c.requires).some
+
+pub returns-then-self-le-LOW : goal.returns-then-self-le-LOW
+returns-then-self-le-LOW c =
+    let s = c.self.inside in
+    let words = c.as_slice-words.result.now in
+    let set = c.args.self.now in
+    let small : (b : ℕ) → Fits w64 (get_or words b 0) = search rules in
+    let are = word_counts_of words s.words.items s.room set c.as_slice-words.ensures.value c.self.view_is c.self.invariant.0 (λ b. let h = small b in omega (arith, h)) in
+    let did = c.scan_words.ensures in
+    found 64 (ones_of words) set are c.args.place c.requires c.scan_words.result.0 c.scan_words.result.1 (subst (λ n. c.scan_words.result.0 < n) (sym (length_ones words)) did.within) (omega (arith, did.same)) did.short
+
+pub low_block-b-requires-clause-many : goal.low_block-b-requires-clause-many
+low_block-b-requires-clause-many c =
+    let s = c.self.inside in
+    let room = length_seen s.words.items s.room c.args.self.now c.self.view_is in
+    let more = c.if-self-le-LOW.false in
+    omega (arith, room, more)
 
 pub overflow_mul-b : goal.overflow_mul-b
 overflow_mul-b c =
@@ -12,8 +37,8 @@ overflow_mul-b c =
     let fits = c.self.invariant.0.room_fits in
     omega (arith, few, room, fits)
 
-pub scan_words-requires-clause-inside : goal.scan_words-requires-clause-inside
-scan_words-requires-clause-inside c =
+pub scan_words-requires-2-clause-inside : goal.scan_words-requires-2-clause-inside
+scan_words-requires-2-clause-inside c =
     let s = c.self.inside in
     let words = c.as_slice-words.result.now in
     let set = c.args.self.now in
@@ -23,8 +48,8 @@ scan_words-requires-clause-inside c =
     let many = length_ones words in
     omega (arith, inside, many)
 
-pub scan_words-requires-clause-some : goal.scan_words-requires-clause-some
-scan_words-requires-clause-some c =
+pub scan_words-requires-2-clause-some : goal.scan_words-requires-2-clause-some
+scan_words-requires-2-clause-some c =
     let s = c.self.inside in
     let words = c.as_slice-words.result.now in
     let set = c.args.self.now in
@@ -40,5 +65,5 @@ returns c =
     let small : (b : ℕ) → Fits w64 (get_or words b 0) = search rules in
     let are = word_counts_of words s.words.items s.room set c.as_slice-words.ensures.value c.self.view_is c.self.invariant.0 (λ b. let h = small b in omega (arith, h)) in
     let start = starts 64 (ones_of words) set are c.args.place c.requires 16 c.low_block-b.result.0 c.low_block-b.result.1 c.low_block-b.ensures in
-    let did = c.scan_words.ensures in
-    found 64 (ones_of words) set are c.args.place c.requires c.scan_words.result.0 c.scan_words.result.1 (subst (λ n. c.scan_words.result.0 < n) (sym (length_ones words)) did.within) (did.same ∙ start.same) did.short
+    let did = c.scan_words-2.ensures in
+    found 64 (ones_of words) set are c.args.place c.requires c.scan_words-2.result.0 c.scan_words-2.result.1 (subst (λ n. c.scan_words-2.result.0 < n) (sym (length_ones words)) did.within) (did.same ∙ start.same) did.short

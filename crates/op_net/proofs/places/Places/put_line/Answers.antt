@@ -3,7 +3,7 @@ use Rattle.op_board.specs.OperationTokens.{OperationTokens}
 use Rattle.op_net.specs.BoardView.{operation_net_on}
 use Rattle.op_net.specs.PlacesView.{line_put, standing}
 use Rattle.op_net.specs.Waits.{node_total, one_if, waits}
-use Rattle.op_net.proofs.CountedPlaces.{counted_after, counted_apart, counted_few, counted_marks, less_marks, less_some}
+use Rattle.op_net.proofs.CountedPlaces.{counted_after, counted_apart, counted_few, counted_marks, less_marks, less_right, less_some}
 use Rattle.op_net.proofs.CountsKept.{keeps_more}
 use Rattle.op_net.proofs.WaitChanges.{line_waits}
 use Rattle.op_net.proofs.places.Places.put_line.Goals as goal
@@ -25,6 +25,15 @@ wait_less-requires-clause-some g c =
     let change : old.counted ≡ true → (j : ℕ) → j < node_total x → waits x new j + one_if (j == c.args.to) ≡ waits x (standing old) j + one_if (j == c.args.from) =
     λ counted. line_waits x (standing old) c.args.line c.args.edge c.args.passed c.requires.exists c.requires.line c.requires.passed c.args.from c.args.to (c.requires.from counted) (c.requires.to counted) in
     less_some x old c.requires.counted c.wait_more.new.self new c.args.from c.args.to change c.wait_more.ensures.kept.counted c.wait_more.ensures.kept.apart c.wait_more.ensures.none c.wait_more.ensures.counts
+
+pub wait_less-requires-clause-right : goal.wait_less-requires-clause-right
+wait_less-requires-clause-right g c inside some free =
+    let x = operation_net_on c.args.board.now in
+    let old = c.args.self.now in
+    let new : OperationTokens = line_put (standing old) c.args.line c.args.edge c.args.passed in
+    let change : old.counted ≡ true → (j : ℕ) → j < node_total x → waits x new j + one_if (j == c.args.to) ≡ waits x (standing old) j + one_if (j == c.args.from) =
+    λ counted. line_waits x (standing old) c.args.line c.args.edge c.args.passed c.requires.exists c.requires.line c.requires.passed c.args.from c.args.to (c.requires.from counted) (c.requires.to counted) in
+    less_right x old c.requires.counted c.wait_more.new.self new c.args.from c.args.to change c.wait_more.ensures.kept.counted c.wait_more.ensures.kept.apart c.wait_more.ensures.none c.wait_more.ensures.counts inside free
 
 pub wait_less-requires-clause-marks : goal.wait_less-requires-clause-marks
 wait_less-requires-clause-marks g c =

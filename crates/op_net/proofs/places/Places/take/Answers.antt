@@ -1,22 +1,12 @@
-use Rattle.std.proofs.Common.{◌≡◌, ◌<◌, ◌+◌, ◌==◌, ℕ, true, None, is_some, sym, ap, ◌∙◌}
+use Rattle.std.proofs.Common.{◌≡◌, ◌<◌, ◌+◌, ◌==◌, ℕ, true, None, is_some, sym, ap}
 use Rattle.op_board.specs.OperationTokens.{OperationTokens, value_of}
 use Rattle.op_net.specs.BoardView.{operation_net_on}
 use Rattle.op_net.specs.PlacesView.{value_put, standing}
 use Rattle.op_net.specs.Waits.{node_total, one_if, waits}
-use Rattle.op_net.proofs.CountedPlaces.{counted_after, counted_apart, counted_few, counted_marks, less_marks, less_some}
-use Rattle.op_net.proofs.CountsKept.{keeps_more}
+use Rattle.op_net.proofs.CountedAhead.{ahead_after, less_marks, less_right, less_some}
 use Rattle.op_net.proofs.WaitChanges.{put_elsewhere, put_there, value_waits}
 use Rattle.op_net.proofs.ValueNodes.{giver_operates}
 use Rattle.op_net.proofs.places.Places.take.Goals as goal
-
-pub wait_more-requires-clause-few : goal.wait_more-requires-clause-few
-wait_more-requires-clause-few g c = counted_few (operation_net_on c.args.board.now) c.args.self.now c.requires.counted c.args.taker c.waits_are_few.ensures
-
-pub wait_more-requires-clause-apart : goal.wait_more-requires-clause-apart
-wait_more-requires-clause-apart g c = counted_apart (operation_net_on c.args.board.now) c.args.self.now c.requires.counted c.args.taker
-
-pub wait_more-requires-clause-marks : goal.wait_more-requires-clause-marks
-wait_more-requires-clause-marks g c = counted_marks (operation_net_on c.args.board.now) c.args.self.now c.requires.counted c.requires.marks
 
 pub wait_less-requires-clause-some : goal.wait_less-requires-clause-some
 wait_less-requires-clause-some g c =
@@ -25,7 +15,16 @@ wait_less-requires-clause-some g c =
     let new : OperationTokens = value_put (standing old) c.args.k None in
     let change : old.counted ≡ true → (j : ℕ) → j < node_total x → waits x new j + one_if (j == c.args.k) ≡ waits x (standing old) j + one_if (j == c.args.taker) =
     λ counted j below. sym (value_waits x (standing old) new.values old.values.items c.args.k (λ i differ. sym (put_elsewhere old.values.items c.args.k i None differ)) (ap (λ o. is_some (value_of o)) (put_there old.values.items c.args.k None c.requires.value)) c.requires.full c.args.taker (giver_operates x c.args.board.now.plan.facts c.args.k c.args.taker c.requires.node (c.requires.taker counted)) (c.requires.taker counted) j below) in
-    less_some x old c.requires.counted c.wait_more.new.self new c.args.taker c.args.k change c.wait_more.ensures.kept.counted c.wait_more.ensures.kept.apart c.wait_more.ensures.none c.wait_more.ensures.counts
+    less_some x old c.args.taker new c.args.k change c.requires.ahead
+
+pub wait_less-requires-clause-right : goal.wait_less-requires-clause-right
+wait_less-requires-clause-right g c inside some free =
+    let x = operation_net_on c.args.board.now in
+    let old = c.args.self.now in
+    let new : OperationTokens = value_put (standing old) c.args.k None in
+    let change : old.counted ≡ true → (j : ℕ) → j < node_total x → waits x new j + one_if (j == c.args.k) ≡ waits x (standing old) j + one_if (j == c.args.taker) =
+    λ counted j below. sym (value_waits x (standing old) new.values old.values.items c.args.k (λ i differ. sym (put_elsewhere old.values.items c.args.k i None differ)) (ap (λ o. is_some (value_of o)) (put_there old.values.items c.args.k None c.requires.value)) c.requires.full c.args.taker (giver_operates x c.args.board.now.plan.facts c.args.k c.args.taker c.requires.node (c.requires.taker counted)) (c.requires.taker counted) j below) in
+    less_right x old c.args.taker new c.args.k change c.requires.ahead inside free
 
 pub wait_less-requires-clause-marks : goal.wait_less-requires-clause-marks
 wait_less-requires-clause-marks g c =
@@ -34,7 +33,7 @@ wait_less-requires-clause-marks g c =
     let new : OperationTokens = value_put (standing old) c.args.k None in
     let change : old.counted ≡ true → (j : ℕ) → j < node_total x → waits x new j + one_if (j == c.args.k) ≡ waits x (standing old) j + one_if (j == c.args.taker) =
     λ counted j below. sym (value_waits x (standing old) new.values old.values.items c.args.k (λ i differ. sym (put_elsewhere old.values.items c.args.k i None differ)) (ap (λ o. is_some (value_of o)) (put_there old.values.items c.args.k None c.requires.value)) c.requires.full c.args.taker (giver_operates x c.args.board.now.plan.facts c.args.k c.args.taker c.requires.node (c.requires.taker counted)) (c.requires.taker counted) j below) in
-    less_marks x old c.requires.counted c.wait_more.new.self new c.args.taker c.args.k change c.wait_more.ensures.kept.counted c.wait_more.ensures.kept.apart c.wait_more.ensures.none c.wait_more.ensures.counts
+    less_marks x old c.args.taker new c.args.k change c.requires.ahead
 
 pub returns-clause-counted : goal.returns-clause-counted
 returns-clause-counted g c =
@@ -43,10 +42,9 @@ returns-clause-counted g c =
     let new : OperationTokens = value_put (standing old) c.args.k None in
     let change : old.counted ≡ true → (j : ℕ) → j < node_total x → waits x new j + one_if (j == c.args.k) ≡ waits x (standing old) j + one_if (j == c.args.taker) =
     λ counted j below. sym (value_waits x (standing old) new.values old.values.items c.args.k (λ i differ. sym (put_elsewhere old.values.items c.args.k i None differ)) (ap (λ o. is_some (value_of o)) (put_there old.values.items c.args.k None c.requires.value)) c.requires.full c.args.taker (giver_operates x c.args.board.now.plan.facts c.args.k c.args.taker c.requires.node (c.requires.taker counted)) (c.requires.taker counted) j below) in
-    counted_after x old c.requires.counted c.wait_more.new.self new c.args.taker c.args.k change c.wait_more.ensures.kept.counted c.wait_more.ensures.kept.apart c.wait_more.ensures.none c.wait_more.ensures.counts
-    c.wait_less.new.self c.wait_less.ensures.kept.counted c.wait_less.ensures.kept.apart (c.wait_less.ensures.standing ∙ c.wait_more.ensures.standing) c.wait_less.ensures.none c.wait_less.ensures.counts (c.wait_less.ensures.leads ∙ c.wait_more.ensures.leads)
+    ahead_after x old c.args.taker new c.args.k change c.wait_less.new.self c.wait_less.ensures.kept.counted c.wait_less.ensures.kept.apart (c.wait_less.ensures.standing) c.wait_less.ensures.none c.wait_less.ensures.counts c.wait_less.ensures.leads
 
 pub returns-clause-kept : goal.returns-clause-kept
 returns-clause-kept g c =
-    let more = c.wait_more.ensures.kept in
-    keeps_more c.args.self.now c.wait_more.new.self c.wait_less.new.self (record { counted = more.counted; marks = more.marks; room = more.room; apart = more.apart; flags = more.flags }) c.wait_less.ensures.kept
+    let less = c.wait_less.ensures.kept in
+    record { counted = less.counted; marks = less.marks; room = less.room; apart = less.apart; flags = less.flags }

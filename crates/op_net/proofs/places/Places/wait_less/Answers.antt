@@ -4,8 +4,19 @@ use Rattle.firing.specs.ReadySet.{has}
 use Rattle.op_net.specs.Waits.{one_if}
 use Rattle.op_net.specs.Counts.{AreCounts}
 use Rattle.op_net.proofs.CountedNumbers.{less_kept, less_marked, less_outside}
-use Rattle.op_net.proofs.CountsKept.{flags_kept, none_apart}
+use Rattle.op_net.proofs.CountsKept.{flags_kept, led_not, none_apart}
 use Rattle.op_net.proofs.places.Places.wait_less.Goals as goal
+
+pub take_in-requires-clause-out : goal.take_in-requires-clause-out
+take_in-requires-clause-out c =
+    let old = c.args.self.now in
+    let items = old.counts.items in
+    let was = c.index.result.now in
+    let inside : c.args.k < length items = omega (arith, c.if-k-len.true, c.len.ensures) in
+    let at : was ≡ get_or items c.args.k 0 = c.index.ensures ∙ get_or_default items c.args.k was 0 inside in
+    let low : one_if (has old.apart.items c.args.k) < get_or items c.args.k 0 = c.requires.some inside in
+    let none : one_if (has old.apart.items c.args.k) ≡ 0 = omega (arith, at, low, c.if-count-eq0.true) in
+    c.requires.right inside (omega (arith, low)) (led_not old.apart.items c.args.k none)
 
 pub returns-then-count-eq0-clause-counts : goal.returns-then-count-eq0-clause-counts
 returns-then-count-eq0-clause-counts c count but are =
