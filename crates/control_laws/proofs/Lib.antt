@@ -1,4 +1,3 @@
-mod ControlLaws
 pub mod EndLaws
 mod LoopBegins
 mod LoopBlocks
@@ -12,9 +11,7 @@ mod LoopRanges
 mod LoopSpans
 mod LoopSuccessors
 mod LoopsHold
-mod LoopsOfProgram
-pub mod LoopsOfSource
-mod OpenAtEnd
+pub mod LoopsOfProgram
 mod StructuredPrograms
 pub mod SuccessorBlocks
 pub mod SuccessorLaws

@@ -42,6 +42,14 @@ pub record EndAt (names : List NameInfo) (whole : List Labelled) (k : ℕ) (kind
   pub at : k ≡ first_of whole place + own_executables s.stmt + m
   pub is : kind ≡ next_kind names whole place d k (drop (suc m) (loops_to whole s.label))
 
+pub begun-exec : (o : Option Exec) (loop : Loop) → begun_in o ≡ Some loop → (e : Exec) × (o ≡ Some e) × (begun e.kind ≡ Some loop)
+begun-exec None loop is = let h : None ≡ Some loop = is in absurd cc
+begun-exec (Some e) loop is = (e, refl, is)
+
+pub incremented-exec : (o : Option Exec) (loop : Loop) → incremented_in o ≡ Some loop → (e : Exec) × (o ≡ Some e) × (incremented e.kind ≡ Some loop)
+incremented-exec None loop is = let h : None ≡ Some loop = is in absurd cc
+incremented-exec (Some e) loop is = (e, refl, is)
+
 module _ (names : List NameInfo) (checked : Bool) (whole : List Labelled) (usable : All (IsUsable whole) whole) where
   abbrev execs : List Exec
   execs = executables names checked whole
@@ -113,11 +121,7 @@ module _ (names : List NameInfo) (checked : Bool) (whole : List Labelled) (usabl
   ]
 
   pub start-only : (k : ℕ) (loop : Loop) → begun_at execs k ≡ Some loop → StartsAt whole k loop
-  start-only k loop is = by (slice_get execs k) refl is
-    where
-      by : (o : Option Exec) → slice_get execs k ≡ o → begun_in o ≡ Some loop → StartsAt whole k loop
-      by None at h = let e : None ≡ Some loop = h in absurd cc
-      by (Some e) at h = start-from k e loop h (comes k e at)
+  start-only k loop is = let at = begun-exec (slice_get execs k) loop is in start-from k at.0 loop at.2 (comes k at.0 at.1)
 
   -- ---- the DoNext
 
@@ -149,8 +153,4 @@ module _ (names : List NameInfo) (checked : Bool) (whole : List Labelled) (usabl
   ]
 
   pub next-only : (k : ℕ) (loop : Loop) → incremented_at execs k ≡ Some loop → NextAt whole k loop
-  next-only k loop is = by (slice_get execs k) refl is
-    where
-      by : (o : Option Exec) → slice_get execs k ≡ o → incremented_in o ≡ Some loop → NextAt whole k loop
-      by None at h = let e : None ≡ Some loop = h in absurd cc
-      by (Some e) at h = next-from k e loop h (comes k e at)
+  next-only k loop is = let at = incremented-exec (slice_get execs k) loop is in next-from k at.0 loop at.2 (comes k at.0 at.1)

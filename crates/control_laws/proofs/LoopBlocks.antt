@@ -3,17 +3,19 @@ use Rattle.std.proofs.Common.{◌≡◌, ℕ, zero, suc, ◌+◌, ◌-◌, ◌<�
 use Rattle.std.specs.Prelude.{slice_get}
 use Rattle.std.proofs.lemmas.Bool.{cases_lt, cases_Bool, eqb-true}
 use Rattle.std.proofs.lemmas.Option.{slice_get_within}
+use Rattle.std.proofs.Math.Seq.{drop-nil}
 use Rattle.f77_tree.specs.declared.statements.Labelled.{Labelled}
 use Rattle.f77_tree.specs.declared.statements.Stmt.{Stmt}
-use Rattle.f77_tree.specs.declared.statements.Stmt.TheVariants.{BlockIf, ElseIf, Else}
+use Rattle.f77_tree.specs.declared.statements.Stmt.TheVariants.{BlockIf, Do, ElseIf, Else}
 use Rattle.layout_rules.specs.declared.nesting.Opened.TheVariants.{Block}
 use Rattle.layout_rules.specs.Source.{EndsWithEnd}
 use Rattle.layout_rules.specs.Labels.{statement_of, is_executable, is_arm}
 use Rattle.layout_rules.specs.Jumps.{end_after, end_of_block, end_of_arm, is_block_if, is_end_if}
 use Rattle.layout_rules.specs.Nesting.{first_unnested}
 use Rattle.layout_rules.specs.Roles.{role_of}
+use Rattle.layout_rules.specs.Tables.{begins_arm}
 use Rattle.layout_rules.specs.Executables.{first_of, met}
-use Rattle.control_structure.proofs.Meeting.{met-own, met-arm, met-passed, end_of_block-within}
+use Rattle.control_structure.proofs.Meeting.{arm-begins, met-own, met-arm, met-passed, end_of_block-within}
 use Rattle.control_structure.proofs.RoleLemmas.{opened_by}
 use Rattle.control_structure.proofs.OpenSpans.{OpensAt, AreLabelled}
 use Rattle.control_laws.proofs.LoopPlaces.{first-rises}
@@ -57,9 +59,7 @@ arm_ends inner (s ∷ rest) place = by (is_block_if s.stmt) (eqb inner 0) (is_en
     at arms b z e a = cond b (end_after arms (inner + 1) rest (place + 1)) (cond (z && (e || (arms && a))) place (cond e (end_after arms (inner - 1) rest (place + 1)) (end_after arms inner rest (place + 1))))
 
     is : (arms b z e a : Bool) → is_block_if s.stmt ≡ b → eqb inner 0 ≡ z → is_end_if s.stmt ≡ e → is_arm s.stmt ≡ a → end_after arms inner (s ∷ rest) place ≡ at arms b z e a
-    is arms b z e a is_b is_z is_e is_a =
-        ap (λ x. at arms x (eqb inner 0) (is_end_if s.stmt) (is_arm s.stmt)) is_b ∙ ap (λ x. at arms b x (is_end_if s.stmt) (is_arm s.stmt)) is_z
-        ∙ ap (λ x. at arms b z x (is_arm s.stmt)) is_e ∙ ap (λ x. at arms b z e x) is_a
+    is arms b z e a is_b is_z is_e is_a = rw (is_b, is_z, is_e, is_a) refl
 
     by : (b z e a : Bool) → is_block_if s.stmt ≡ b → eqb inner 0 ≡ z → is_end_if s.stmt ≡ e → is_arm s.stmt ≡ a → ((n : ℕ) → ArmEnds n rest (place + 1)) → ArmEnds inner (s ∷ rest) place
     by true z e a is_b is_z is_e is_a on = passes inner (inner + 1) place s rest (is true true z e a is_b is_z is_e is_a) (is false true z e a is_b is_z is_e is_a) (on (inner + 1))
@@ -78,18 +78,14 @@ arm_ends inner (s ∷ rest) place = by (is_block_if s.stmt) (eqb inner 0) (is_en
     by false false true a is_b is_z is_e is_a on = passes inner (inner - 1) place s rest (is true false false true a is_b is_z is_e is_a) (is false false false true a is_b is_z is_e is_a) (on (inner - 1))
     by false false false a is_b is_z is_e is_a on = passes inner inner place s rest (is true false false false a is_b is_z is_e is_a) (is false false false false a is_b is_z is_e is_a) (on inner)
 
-got_drop : {X : Type 0} (xs : List X) (n j : ℕ) → slice_get (drop n xs) j ≡ slice_get xs (n + j)
+pub got_drop : {X : Type 0} (xs : List X) (n j : ℕ) → slice_get (drop n xs) j ≡ slice_get xs (n + j)
 got_drop xs zero j = ap (slice_get xs) (let e : j ≡ 0 + j = omega arith in e)
 got_drop [] (suc n) j = refl
 got_drop (x ∷ xs) (suc n) j = got_drop xs n j ∙ ap (slice_get (x ∷ xs)) (let e : suc (n + j) ≡ suc n + j = omega arith in e)
 
-drop_none : (X : Type 0) (n : ℕ) → drop {A = X} n [] ≡ []
-drop_none X zero = refl
-drop_none X (suc n) = refl
-
 drop_twice : {X : Type 0} (xs : List X) (m n : ℕ) → drop m (drop n xs) ≡ drop (n + m) xs
 drop_twice xs m zero = ap (λ k. drop k xs) (let e : m ≡ 0 + m = omega arith in e)
-drop_twice {X = X} [] m (suc n) = drop_none X m ∙ sym (drop_none X (suc n + m))
+drop_twice [] m (suc n) = drop-nil m ∙ sym (drop-nil (suc n + m))
 drop_twice (x ∷ xs) m (suc n) = drop_twice xs m n ∙ ap (λ k. drop k (x ∷ xs)) (let e : suc (n + m) ≡ suc n + m = omega arith in e)
 
 -- the next arm of the block after an IF, ELSE IF or ELSE
@@ -115,18 +111,6 @@ arm_or_block whole p = elim (arm_ends 0 (drop (p + 1) whole) (p + 1)) as (λ _. 
 
 -- ---- a DO in a block
 
--- an arm of an IF begins after the statement
-abbrev pub begins_arm : Stmt → Bool
-begins_arm (BlockIf condition) = true
-begins_arm (ElseIf condition) = true
-begins_arm Else = true
-begins_arm _ = false
-
-arm-begins : (stmt : Stmt) → is_arm stmt ≡ true → begins_arm stmt ≡ true
-arm-begins (ElseIf condition) e = refl
-arm-begins Else e = refl
-arm-begins _ e = let h : false ≡ true = e in absurd cc
-
 pub record BeginsArm (whole : List Labelled) (p : ℕ) : Type 0 where
   pub is_last : Bool
   pub opens : OpensAt whole p (Block is_last)
@@ -140,13 +124,16 @@ begins-arm whole p s here is = by s.stmt refl is
     by Else same e = record { is_last = true; opens = record { s = s; stands = here; opens = ap (λ (t : Stmt). opened_by (role_of t)) same } }
     by _ same e = let h : false ≡ true = e in absurd cc
 
--- a DO is no arm
-pub not-arm : (whole : List Labelled) (d label p : ℕ) (s : Labelled) → IsDo whole d label → slice_get whole p ≡ Some s → is_arm s.stmt ≡ true → d ≡ p → ⊥
-not-arm whole d label p s it here arm same =
+-- a statement that a test tells from a DO stands elsewhere
+pub apart-do : (whole : List Labelled) (d label p : ℕ) (s : Labelled) (it : IsDo whole d label) → slice_get whole p ≡ Some s → (test : Stmt → Bool) → (test (Do label it.variable it.first it.last it.step) ≡ test s.stmt → ⊥) → d ≡ p → ⊥
+apart-do whole d label p s it here test other same =
     let there : slice_get whole d ≡ Some s = ap (slice_get whole) same ∙ here in
     let one : it.s ≡ s = let e : Some it.s ≡ Some s = sym it.stands ∙ there in cc in
-    let e : false ≡ true = sym (ap is_arm it.is) ∙ (ap (λ (t : Labelled). is_arm t.stmt) one ∙ arm) in
-    absurd cc
+    other (sym (ap test it.is) ∙ ap (λ (t : Labelled). test t.stmt) one)
+
+-- a DO is no arm
+pub not-arm : (whole : List Labelled) (d label p : ℕ) (s : Labelled) → IsDo whole d label → slice_get whole p ≡ Some s → is_arm s.stmt ≡ true → d ≡ p → ⊥
+not-arm whole d label p s it here arm = apart-do whole d label p s it here is_arm (λ e. let h : false ≡ true = e ∙ arm in absurd cc)
 
 module _ (whole : List Labelled) (are : AreLabelled whole) (ended : EndsWithEnd whole) (nested : first_unnested [] whole ≡ None) where
   -- a DO in an arm ends in it

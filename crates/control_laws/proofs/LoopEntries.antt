@@ -1,7 +1,7 @@
 -- Nothing but its beginning leads into the range of a DO.
 use Rattle.std.proofs.Common.{◌≡◌, ℕ, ◌+◌, ◌-◌, ◌<◌, ◌≤◌, Bool, true, false, nat_lt, ◌==◌, cond, inl, inr, List, [], ◌∷◌, length, drop, All, refl, sym, ap, subst, ◌∙◌, arith, Some, None}
 use Rattle.std.specs.Prelude.{slice_get, reverse}
-use Rattle.std.proofs.lemmas.Bool.{cases_lt, cases_eq, cases_order, cases_Bool, and_parts, ltb-true}
+use Rattle.std.proofs.lemmas.Bool.{cases_lt, cases_eq, cases_Bool, and_parts, ltb-true}
 use Rattle.std.proofs.lemmas.Option.{slice_get_within}
 use Rattle.f77_tree.specs.declared.programs.NameInfo.{NameInfo}
 use Rattle.f77_tree.specs.declared.statements.Labelled.{Labelled}
@@ -11,7 +11,7 @@ use Rattle.layout_rules.specs.Source.{EndsWithEnd}
 use Rattle.layout_rules.specs.Labels.{jumps, statement_of, is_arm}
 use Rattle.layout_rules.specs.Jumps.{end_of_arm, jumps_into}
 use Rattle.layout_rules.specs.Nesting.{first_unnested}
-use Rattle.layout_rules.specs.Tables.{IsUsable}
+use Rattle.layout_rules.specs.Tables.{begins_arm, IsUsable}
 use Rattle.layout_rules.specs.Executables.{own_executables, loops_above, loops_to, first_of, met, labelled, beyond, when_false, is_else_at, executables, is_do, loop_number, exit_after, exit_of}
 use Rattle.control_structure.proofs.FlowLemmas.{when_false-else, when_false-other}
 use Rattle.control_structure.proofs.Meeting.{end_of_arm-within, statement_of-within, else-inside}
@@ -20,7 +20,7 @@ use Rattle.control_laws.proofs.LoopPlaces.{first-next, first-rises}
 use Rattle.control_laws.proofs.LoopSpans.{IsDo, ends-nested, ends-before}
 use Rattle.control_laws.proofs.LoopRanges.{Spot, next_of, end_after-later, met-later, next-before, start-own, start-before, exit-is, next-nested}
 use Rattle.control_laws.proofs.LoopsHold.{label-once, next-is}
-use Rattle.control_laws.proofs.LoopBlocks.{begins_arm, BeginsArm, begins-arm, not-arm, ends-in_arm, falls-outside}
+use Rattle.control_laws.proofs.LoopBlocks.{BeginsArm, begins-arm, apart-do, not-arm, ends-in_arm, falls-outside}
 use Rattle.control_laws.proofs.LoopJumps.{jump-stays}
 use Rattle.control_structure.proofs.Walks.{item_at}
 
@@ -35,11 +35,7 @@ into-next a b k s outside is after upto = elim (cases_lt a k) as (λ _. (k ≡ a
 ]
 
 pub is-do : (whole : List Labelled) (d label i : ℕ) (s : Labelled) → IsDo whole d label → slice_get whole i ≡ Some s → is_do s.stmt ≡ false → d ≡ i → ⊥
-is-do whole d label i s it here other same =
-    let there : slice_get whole d ≡ Some s = ap (slice_get whole) same ∙ here in
-    let one : it.s ≡ s = let e : Some it.s ≡ Some s = sym it.stands ∙ there in cc in
-    let e : true ≡ false = sym (ap is_do it.is) ∙ (ap (λ (t : Labelled). is_do t.stmt) one ∙ other) in
-    absurd cc
+is-do whole d label i s it here other = apart-do whole d label i s it here is_do (λ e. let h : true ≡ false = e ∙ other in absurd cc)
 
 module _ (names : List NameInfo) (checked : Bool) (whole : List Labelled) (usable : All (IsUsable whole) whole) (are : AreLabelled whole) (ended : EndsWithEnd whole) (nested : first_unnested [] whole ≡ None) (d label : ℕ) (spot : Spot whole d label) where
   -- the executable that begins the DO
@@ -66,14 +62,8 @@ module _ (names : List NameInfo) (checked : Bool) (whole : List Labelled) (usabl
   -- a statement that begins in the range
   first-in : (p : ℕ) → p ≤ length whole → its_start < first_of whole p → first_of whole p ≤ its_next → (d < p) × (p ≤ its_last)
   first-in p within after upto =
-      let low : d < p = elim (cases_lt d p) as (λ _. d < p) [
-        | inl lt ↦ lt
-        | inr ge ↦ absurd (omega (arith, after, first-rises whole p d ge (omega (arith, head-inside))))
-      ] in
-      let high : p ≤ its_last = elim (cases_lt its_last p) as (λ _. p ≤ its_last) [
-        | inl lt ↦ absurd (omega (arith, upto, past p within lt))
-        | inr ge ↦ ge
-      ] in
+      let low : d < p = (let not : p ≤ d → ⊥ = λ ge. omega (arith, after, first-rises whole p d ge (omega (arith, head-inside))) in omega (arith, not)) in
+      let high : p ≤ its_last = (let not : its_last < p → ⊥ = λ lt. omega (arith, upto, past p within lt) in omega (arith, not)) in
       (low, high)
 
   -- the own executables of a statement in the range
@@ -102,28 +92,16 @@ module _ (names : List NameInfo) (checked : Bool) (whole : List Labelled) (usabl
 
     met-away : (d ≡ i → ⊥) → its_start < met whole (i + 1) → met whole (i + 1) ≤ its_next → ⊥
     met-away other after upto =
-        let low : d < i = elim (cases_lt i d) as (λ _. d < i) [
-          | inl lt ↦ absurd (falls-outside whole are ended nested d label spot (i + 1) (omega (arith, lt)) after upto)
-          | inr ge ↦ omega (arith, ge, other)
-        ] in
-        let high : i ≤ its_last = elim (cases_lt its_last i) as (λ _. i ≤ its_last) [
-          | inl lt ↦ absurd (omega (arith, upto, past (i + 1) (omega (arith, i-inside)) (omega (arith, lt)), met-later whole (i + 1) (omega (arith, i-inside))))
-          | inr ge ↦ ge
-        ] in
+        let low : d < i = (let not : i < d → ⊥ = λ lt. falls-outside whole are ended nested d label spot (i + 1) (omega (arith, lt)) after upto in omega (arith, not, other)) in
+        let high : i ≤ its_last = (let not : its_last < i → ⊥ = λ lt. omega (arith, upto, past (i + 1) (omega (arith, i-inside)) (omega (arith, lt)), met-later whole (i + 1) (omega (arith, i-inside))) in omega (arith, not)) in
         away low high
 
     -- to the increments after it
     ends-away : (d ≡ i → ⊥) → 0 < length (loops_to whole s.label) → its_start < first_of whole i + own_executables s.stmt → first_of whole i + own_executables s.stmt ≤ its_next → ⊥
     ends-away other some after upto =
         let next = first-next whole i s here in
-        let low : d < i = elim (cases_lt i d) as (λ _. d < i) [
-          | inl lt ↦ absurd (omega (arith, after, next, some, first-rises whole (i + 1) d (omega (arith, lt)) (omega (arith, head-inside))))
-          | inr ge ↦ omega (arith, ge, other)
-        ] in
-        let high : i ≤ its_last = elim (cases_lt its_last i) as (λ _. i ≤ its_last) [
-          | inl lt ↦ absurd (omega (arith, upto, past i (omega (arith, i-inside)) lt))
-          | inr ge ↦ ge
-        ] in
+        let low : d < i = (let not : i < d → ⊥ = λ lt. omega (arith, after, next, some, first-rises whole (i + 1) d (omega (arith, lt)) (omega (arith, head-inside))) in omega (arith, not, other)) in
+        let high : i ≤ its_last = (let not : its_last < i → ⊥ = λ lt. omega (arith, upto, past i (omega (arith, i-inside)) lt) in omega (arith, not)) in
         away low high
 
     pub after-into : (k : ℕ) → (d ≡ i → ⊥) → Into its_start its_next k (beyond whole i s)
@@ -139,7 +117,7 @@ module _ (names : List NameInfo) (checked : Bool) (whole : List Labelled) (usabl
     pub stop-into : (k : ℕ) → Into its_start its_next k (first_of whole (length whole - 1))
     stop-into k after upto =
         let at = first-in (length whole - 1) (omega arith) after upto in
-        absurd (omega (arith, at.1, terminal-within, ends-before whole are ended nested d label spot.it terminal-within))
+        absurd (omega (arith, at.1, terminal-within, ends-before whole are ended nested d label spot.it))
 
     pub jump-into : (k m target : ℕ) → first_line (jumps_into whole) whole ≡ None → slice_get (jumps s.stmt) m ≡ Some target → Into its_start its_next k (labelled whole target)
     jump-into k m target none got after upto =
@@ -162,14 +140,8 @@ module _ (names : List NameInfo) (checked : Bool) (whole : List Labelled) (usabl
         let inside : e < length whole = else-inside whole e is in
         let at = item_at whole e inside in
         let arm : is_arm at.0.stmt ≡ true = (and_parts (is_arm at.0.stmt) (own_executables at.0.stmt == 0) (sym (ap is_else_at at.1) ∙ is)).0 in
-        let low : d < e = elim (cases_lt e d) as (λ _. d < e) [
-          | inl lt ↦ absurd (falls-outside whole are ended nested d label spot (e + 1) (omega (arith, lt)) after upto)
-          | inr ge ↦ let apart : d ≡ e → ⊥ = not-arm whole d label e at.0 spot.it at.1 arm in omega (arith, ge, apart)
-        ] in
-        let high : e ≤ its_last = elim (cases_lt its_last e) as (λ _. e ≤ its_last) [
-          | inl lt ↦ absurd (omega (arith, upto, past (e + 1) (omega (arith, inside)) (omega (arith, lt)), met-later whole (e + 1) (omega (arith, inside))))
-          | inr ge ↦ ge
-        ] in
+        let low : d < e = (let not : e < d → ⊥ = λ lt. falls-outside whole are ended nested d label spot (e + 1) (omega (arith, lt)) after upto in omega (arith, not, not-arm whole d label e at.0 spot.it at.1 arm)) in
+        let high : e ≤ its_last = (let not : its_last < e → ⊥ = λ lt. omega (arith, upto, past (e + 1) (omega (arith, inside)) (omega (arith, lt)), met-later whole (e + 1) (omega (arith, inside))) in omega (arith, not)) in
         arm-away other begins low high
 
     pub false-into : (k : ℕ) → (d ≡ i → ⊥) → begins_arm s.stmt ≡ true → Into its_start its_next k (when_false whole i)
@@ -208,37 +180,23 @@ module _ (names : List NameInfo) (checked : Bool) (whole : List Labelled) (usabl
     exit-met : its_start < met whole (statement_of whole its + 1) → met whole (statement_of whole its + 1) ≤ its_next → (its_start < first_of whole c) × (next_of whole c its one ≤ its_next)
     exit-met after upto =
         let u = statement_of whole its in
-        let low : d ≤ u = elim (cases_lt u d) as (λ _. d ≤ u) [
-          | inl lt ↦ absurd (falls-outside whole are ended nested d label spot (u + 1) (omega (arith, lt)) after upto)
-          | inr ge ↦ ge
-        ] in
-        let high : u < its_last = elim (cases_lt u its_last) as (λ _. u < its_last) [
-          | inl lt ↦ lt
-          | inr ge ↦ absurd (omega (arith, upto, past (u + 1) lasterminal-within (omega (arith, ge)), met-later whole (u + 1) lasterminal-within))
-        ] in
-        let order : d < c = elim (cases_order c d) as (λ _. d < c) [
-          | inl same ↦ absurd (omega (arith, high, same-last same))
-          | inr apart ↦ elim apart as (λ _. d < c) [
-            | inl less ↦ absurd (omega (arith, high, (ends-nested whole are ended nested c d its label one.it spot.it less low).1))
-            | inr more ↦ more
-          ]
-        ] in
+        let low : d ≤ u = (let not : u < d → ⊥ = λ lt. falls-outside whole are ended nested d label spot (u + 1) (omega (arith, lt)) after upto in omega (arith, not)) in
+        let high : u < its_last = (let not : its_last ≤ u → ⊥ = λ ge. omega (arith, upto, past (u + 1) lasterminal-within (omega (arith, ge)), met-later whole (u + 1) lasterminal-within) in omega (arith, not)) in
+        let same : c ≡ d → ⊥ = λ e. omega (arith, high, same-last e) in
+        let less : c < d → ⊥ = λ lt. omega (arith, high, (ends-nested whole are ended nested c d its label one.it spot.it lt low).1) in
+        let order : d < c = omega (arith, same, less) in
         let before : next_of whole c its one < first_of whole (u + 1) = next-before whole c its one in
         (below order, omega (arith, before, first-rises whole (u + 1) its_last (omega (arith, high)) (omega (arith, terminal-within))))
 
     -- to the next increment
     exit-step : its_start < next_of whole c its one + 1 → next_of whole c its one + 1 ≤ its_next → (its_start < first_of whole c) × (next_of whole c its one ≤ its_next)
     exit-step after upto =
-        let order : d < c = elim (cases_order c d) as (λ _. d < c) [
-          | inl same ↦ absurd (omega (arith, upto, same-next same))
-          | inr apart ↦ elim apart as (λ _. d < c) [
-            | inl less ↦ elim (cases_lt (statement_of whole its) d) as (λ _. d < c) [
-              | inl above ↦ absurd (omega (arith, after, next-before whole c its one, first-rises whole (statement_of whole its + 1) d (omega (arith, above)) (omega (arith, head-inside))))
-              | inr low ↦ absurd (omega (arith, upto, next-nested whole c d its label one spot less (ends-nested whole are ended nested c d its label one.it spot.it less low).1))
-            ]
-            | inr more ↦ more
-          ]
+        let same : c ≡ d → ⊥ = λ e. omega (arith, upto, same-next e) in
+        let less : c < d → ⊥ = λ lt. elim (cases_lt (statement_of whole its) d) as (λ _. ⊥) [
+          | inl above ↦ omega (arith, after, next-before whole c its one, first-rises whole (statement_of whole its + 1) d (omega (arith, above)) (omega (arith, head-inside)))
+          | inr low ↦ omega (arith, upto, next-nested whole c d its label one spot lt (ends-nested whole are ended nested c d its label one.it spot.it lt low).1)
         ] in
+        let order : d < c = omega (arith, same, less) in
         (below order, omega (arith, upto))
 
     -- where it ends
@@ -259,15 +217,10 @@ module _ (names : List NameInfo) (checked : Bool) (whole : List Labelled) (usabl
 
     -- to its body again
     pub body-into : (k : ℕ) → k ≡ next_of whole c its one → (its_start < k → k ≤ its_next → ⊥) → Into its_start its_next k (first_of whole c + 1)
-    body-into k at outside after upto = elim (cases_order c d) as (λ _. (k ≡ its_start) × (first_of whole c + 1 ≡ its_start + 1)) [
-      | inl same ↦ absurd (outside (omega (arith, at, same-next same, start-before whole d label spot)) (omega (arith, at, same-next same)))
-      | inr apart ↦ elim apart as (λ _. (k ≡ its_start) × (first_of whole c + 1 ≡ its_start + 1)) [
-        | inl less ↦ absurd (omega (arith, after, start-own whole c its one, first-rises whole (c + 1) d (omega (arith, less)) (omega (arith, head-inside))))
-        | inr more ↦ elim (cases_lt its_last c) as (λ _. (k ≡ its_start) × (first_of whole c + 1 ≡ its_start + 1)) [
-          | inl lt ↦ absurd (omega (arith, upto, past c (omega (arith, c-inside)) lt))
-          | inr low ↦
-              let ends = next-nested whole d c label its spot one more (ends-nested whole are ended nested d c label its spot.it one.it more low).1 in
-              absurd (outside (omega (arith, at, below more, start-before whole c its one)) (omega (arith, at, ends)))
-        ]
-      ]
-    ]
+    body-into k at outside after upto =
+        let same : c ≡ d → ⊥ = λ e. outside (omega (arith, at, same-next e, start-before whole d label spot)) (omega (arith, at, same-next e)) in
+        let less : c < d → ⊥ = λ lt. omega (arith, after, start-own whole c its one, first-rises whole (c + 1) d (omega (arith, lt)) (omega (arith, head-inside))) in
+        let order : d < c = omega (arith, same, less) in
+        let low : c ≤ its_last = (let not : its_last < c → ⊥ = λ lt. omega (arith, upto, past c (omega (arith, c-inside)) lt) in omega (arith, not)) in
+        let ends = next-nested whole d c label its spot one order (ends-nested whole are ended nested d c label its spot.it one.it order low).1 in
+        absurd (outside (omega (arith, at, below order, start-before whole c its one)) (omega (arith, at, ends)))

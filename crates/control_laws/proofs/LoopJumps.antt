@@ -5,20 +5,15 @@ use Rattle.std.specs.List.{list_any, range_with_len}
 use Rattle.std.proofs.lemmas.Bool.{cases_eq, or_parts, and_parts, and_from, ltb-true, leb-true, lt-ltb, le-leb}
 use Rattle.std.proofs.lemmas.List.{length-take-le, flat_map_more}
 use Rattle.std.proofs.lemmas.List.Folds.{list_any-append}
-use Rattle.std.proofs.lemmas.Option.{slice_get_within}
+use Rattle.std.proofs.lemmas.Option.{slice_get_within, get_or_from_slice_get}
 use Rattle.f77_tree.specs.declared.statements.Labelled.{Labelled}
 use Rattle.layout_rules.specs.Faults.{first_line}
 use Rattle.layout_rules.specs.Labels.{jumps, statement_of}
 use Rattle.layout_rules.specs.Jumps.{Span, span_of, span_if_any, lies_in, leads_into, jumps_into}
+use Rattle.layout_rules.proofs.FlatParts.{list_any-none_at}
 use Rattle.control_structure.proofs.LabelLemmas.{faultless}
 use Rattle.control_structure.proofs.LoopTables.{range-more}
 use Rattle.control_laws.proofs.LoopSpans.{IsDo}
-
--- none of the list passes
-none-at : {X : Type 0} (q : X → Bool) (xs : List X) (j : ℕ) (x : X) → list_any q xs ≡ false → slice_get xs j ≡ Some x → q x ≡ false
-none-at q [] j x none at = let e : None ≡ Some x = at in absurd cc
-none-at q (y ∷ ys) zero x none at = let same : y ≡ x = cc in ap q (sym same) ∙ (or_parts (q y) (list_any q ys) none).0
-none-at q (y ∷ ys) (suc j) x none at = none-at q ys j x (or_parts (q y) (list_any q ys) none).1 at
 
 none-among : {X : Type 0} (q : X → Bool) (f : ℕ → List X) (n i : ℕ) → list_any q (flat_map f (range_with_len 0 n)) ≡ false → i < n → list_any q (f i) ≡ false
 none-among q f zero i none lt = absurd (omega (arith, lt))
@@ -44,7 +39,7 @@ module _ (whole : List Labelled) (d label : ℕ) (it : IsDo whole d label) where
       let q : Span → Bool = λ x. lies_in x to && not (lies_in x from) in
       let one : span_if_any whole d (slice_get whole d) ≡ span ∷ [] = ap (span_if_any whole d) it.stands ∙ ap (span_of whole d) it.is in
       let here : list_any q (span ∷ []) ≡ false = ap (λ (xs : List Span). list_any q xs) (sym one) ∙ none-among q (λ p. span_if_any whole p (slice_get whole p)) (length whole) d none (slice_get_within whole d it.s it.stands) in
-      let its : q span ≡ false = none-at q (span ∷ []) 0 span here refl in
+      let its : q span ≡ false = (or_parts (q span) false here).0 in
       let target : lies_in span to ≡ true = and_from (nat_lt d to) (nat_le to (statement_of whole label)) (lt-ltb d to after) (le-leb to (statement_of whole label) upto) in
       let parts = and_parts (nat_lt d from) (nat_le from (statement_of whole label)) (second (lies_in span to) (lies_in span from) target its) in
       (ltb-true d from parts.0, leb-true from (statement_of whole label) parts.1)
@@ -53,5 +48,5 @@ module _ (whole : List Labelled) (d label : ℕ) (it : IsDo whole d label) where
   jump-stays none i m target s here got after upto =
       let length_is : length (take i whole) ≡ i = length-take-le i whole (omega (arith, slice_get_within whole i s here)) in
       let no = faultless (jumps_into whole) [] whole none i s here in
-      let one : leads_into whole (length (take i whole)) (statement_of whole target) ≡ false = none-at (λ l. leads_into whole (length (take i whole)) (statement_of whole l)) (jumps s.stmt) m target no got in
+      let one : leads_into whole (length (take i whole)) (statement_of whole target) ≡ false = list_any-none_at (λ l. leads_into whole (length (take i whole)) (statement_of whole l)) (jumps s.stmt) m target (slice_get_within (jumps s.stmt) m target got) (sym (get_or_from_slice_get (jumps s.stmt) m target target got)) no in
       not-into i (statement_of whole target) (ap (λ n. leads_into whole n (statement_of whole target)) (sym length_is) ∙ one) after upto

@@ -4,11 +4,13 @@ use Rattle.std.specs.Prelude.{slice_get, filter}
 use Rattle.std.proofs.lemmas.Bool.{cases_lt, cases_order}
 use Rattle.std.proofs.lemmas.List.{take_more, take_all}
 use Rattle.std.proofs.lemmas.List.Elements.{filter-append}
+use Rattle.std.proofs.lemmas.List.Sums.{length-filter}
 use Rattle.std.proofs.lemmas.Option.{slice_get_within, get_or_from_slice_get}
 use Rattle.f77_tree.specs.declared.statements.Labelled.{Labelled}
 use Rattle.f77_tree.specs.declared.statements.Stmt.{Stmt}
 use Rattle.f77_tree.specs.declared.statements.Stmt.TheVariants.{Do}
 use Rattle.layout_rules.specs.Executables.{is_do, loop_number}
+use Rattle.control_laws.proofs.LoopPlaces.{sum-rises}
 use Rattle.control_laws.proofs.LoopSpans.{IsDo}
 use Rattle.control_structure.proofs.Walks.{item_at}
 
@@ -35,21 +37,10 @@ bit : (b : Bool) (m n k : ℕ) → n ≡ m + cond b 1 0 → m ≤ k → k < n �
 bit true m n k is le lt = (refl, omega (arith, is, le, lt))
 bit false m n k is le lt = absurd (omega (arith, is, le, lt))
 
-bit-rises : (b : Bool) (m n : ℕ) → n ≡ m + cond b 1 0 → m ≤ n
-bit-rises true m n is = omega (arith, is)
-bit-rises false m n is = omega (arith, is)
-
-number-more : (whole : List Labelled) (n i : ℕ) → i + n ≤ length whole → loop_number whole i ≤ loop_number whole (i + n)
-number-more whole zero i within = let same : i ≡ i + 0 = omega arith in subst (λ (k : ℕ). loop_number whole i ≤ loop_number whole k) same (omega arith)
-number-more whole (suc n) i within =
-    let here = item_at whole (i + n) (omega (arith, within)) in
-    let rest = number-more whole n i (omega (arith, within)) in
-    let last = bit-rises (is_do here.0.stmt) (loop_number whole (i + n)) (loop_number whole (i + n + 1)) (number-next whole (i + n) here.0 here.1) in
-    let on : i + n + 1 ≡ i + suc n = omega arith in
-    subst (λ (k : ℕ). loop_number whole i ≤ loop_number whole k) on (omega (arith, rest, last))
-
-number-rises : (whole : List Labelled) (i j : ℕ) → i ≤ j → j ≤ length whole → loop_number whole i ≤ loop_number whole j
-number-rises whole i j le within = subst (λ (k : ℕ). loop_number whole i ≤ loop_number whole k) (let e : i + (j - i) ≡ j = omega (arith, le) in e) (number-more whole (j - i) i (omega (arith, le, within)))
+pub number-rises : (whole : List Labelled) (i j : ℕ) → i ≤ j → j ≤ length whole → loop_number whole i ≤ loop_number whole j
+number-rises whole i j le within =
+    let p : Labelled → Bool = λ t. is_do t.stmt in
+    omega (arith, length-filter p (take i whole), length-filter p (take j whole), sum-rises (λ (t : Labelled). cond (is_do t.stmt) 1 0) whole i j le)
 
 -- a later DO has a greater number
 pub number-less : (whole : List Labelled) (c d label : ℕ) → IsDo whole c label → c < d → d ≤ length whole → loop_number whole c < loop_number whole d

@@ -1,10 +1,11 @@
 -- Where the executables of each statement stand among all.
-use Rattle.std.proofs.Common.{◌≡◌, ℕ, zero, suc, ◌+◌, ◌-◌, ◌<◌, ◌≤◌, Bool, inl, inr, ⊎_elim, List, [], ◌∷◌, ◌++◌, length, refl, sym, ap, subst, ◌∙◌, arith, Option, Some, All, length-append}
-use Rattle.std.specs.Prelude.{slice_get, flat_map}
+use Rattle.std.proofs.Common.{◌≡◌, ℕ, zero, suc, ◌+◌, ◌-◌, ◌<◌, ◌≤◌, Bool, inl, inr, ⊎_elim, List, [], ◌∷◌, ◌++◌, length, take, refl, sym, ap, subst, ◌∙◌, arith, Option, Some, All, length-append}
+use Rattle.std.specs.Prelude.{slice_get, flat_map, sum_by}
 use Rattle.std.specs.List.{range_with_len}
 use Rattle.std.specs.Option.{option_map}
 use Rattle.std.proofs.lemmas.Bool.{cases_eq, cases_lt}
 use Rattle.std.proofs.lemmas.List.{length-map, flat_map_more}
+use Rattle.std.proofs.lemmas.List.Sums.{sum_by-cons}
 use Rattle.std.proofs.lemmas.Option.{slice_get_within, get_or_from_slice_get, slice_get-map}
 use Rattle.f77_tree.specs.declared.programs.Exec.{Exec}
 use Rattle.f77_tree.specs.declared.programs.ExecKind.{ExecKind}
@@ -36,19 +37,16 @@ got_right (x ∷ xs) ys (suc n) k is = got_right xs ys n k (omega (arith, is))
 pub first-next : (whole : List Labelled) (i : ℕ) (s : Labelled) → slice_get whole i ≡ Some s → first_of whole (i + 1) ≡ first_of whole i + executables_with_ends whole s
 first-next whole i s here = first_of-next whole i s (slice_get_within whole i s here) (sym (get_or_from_slice_get whole i s s here))
 
-first-more : (whole : List Labelled) (n i : ℕ) → i + n ≤ length whole → first_of whole i ≤ first_of whole (i + n)
-first-more whole zero i within = omega (arith, ap (first_of whole) (let e : i + 0 ≡ i = omega arith in e))
-first-more whole (suc n) i within =
-    let here = item_at whole (i + n) (omega (arith, within)) in
-    let rest = first-more whole n i (omega (arith, within)) in
-    let last = first-next whole (i + n) here.0 here.1 in
-    let on : i + suc n ≡ i + n + 1 = omega arith in
-    let same : first_of whole (i + suc n) ≡ first_of whole (i + n + 1) = ap (first_of whole) on in
-    omega (arith, rest, last, same)
+-- a sum over more items is no less
+pub sum-rises : {X : Type 0} (f : X → ℕ) (xs : List X) (i j : ℕ) → i ≤ j → sum_by f (take i xs) ≤ sum_by f (take j xs)
+sum-rises f xs zero j le = omega arith
+sum-rises f xs (suc i) zero le = absurd (omega (arith, le))
+sum-rises f [] (suc i) (suc j) le = omega arith
+sum-rises f (x ∷ xs) (suc i) (suc j) le = omega (arith, sum_by-cons f x (take i xs), sum_by-cons f x (take j xs), sum-rises f xs i j (omega (arith, le)))
 
 -- no statement has its executables before those of one above it
 pub first-rises : (whole : List Labelled) (i j : ℕ) → i ≤ j → j ≤ length whole → first_of whole i ≤ first_of whole j
-first-rises whole i j le within = subst (λ (k : ℕ). first_of whole i ≤ first_of whole k) (let e : i + (j - i) ≡ j = omega (arith, le) in e) (first-more whole (j - i) i (omega (arith, le, within)))
+first-rises whole i j le within = sum-rises (executables_with_ends whole) whole i j le
 
 -- ---- all executables
 

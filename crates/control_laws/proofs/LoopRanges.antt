@@ -8,18 +8,17 @@ use Rattle.std.proofs.lemmas.Option.{slice_get_within}
 use Rattle.f77_tree.specs.declared.programs.Exec.{Exec}
 use Rattle.f77_tree.specs.declared.programs.NameInfo.{NameInfo}
 use Rattle.f77_tree.specs.declared.statements.Labelled.{Labelled}
-use Rattle.f77_tree.specs.Loops.{Loop, begun, incremented, begun_in, incremented_in, is_number}
+use Rattle.f77_tree.specs.Loops.{Loop, is_number}
 use Rattle.layout_rules.specs.Source.{EndsWithEnd}
 use Rattle.layout_rules.specs.Labels.{statement_of, is_executable, is_arm}
 use Rattle.layout_rules.specs.Jumps.{end_after, end_of_block, is_block_if, is_end_if}
 use Rattle.layout_rules.specs.Nesting.{first_unnested}
 use Rattle.layout_rules.specs.Tables.{IsUsable}
 use Rattle.layout_rules.specs.Executables.{own_executables, loops_above, loops_to, first_of, met, met_after, exit_after, exit_among, exit_of, increments_at}
-use Rattle.control_structure.proofs.Exits.{label-of_statement}
+use Rattle.control_structure.proofs.Exits.{label-of_statement, EndsAmong, ends_among, among-length, among-exit, ends-more}
 use Rattle.control_structure.proofs.Meeting.{met-step, end_of_block-within}
 use Rattle.control_structure.proofs.OpenSpans.{AreLabelled}
 use Rattle.control_laws.proofs.LoopPlaces.{first-next, first-rises}
-use Rattle.control_laws.proofs.LoopEnds.{EndsAmong, ends_among, among-length, among-exit, ends-more}
 use Rattle.control_laws.proofs.LoopSpans.{IsDo, do-in, ends-later, ends-inside}
 use Rattle.control_structure.proofs.Walks.{item_at}
 
@@ -81,14 +80,6 @@ pub position-number : (f : Exec → Option Loop) (execs : List Exec) (n k : ℕ)
 position-number f execs n k e loop at is number only = position-only (λ x. is_number n (f x)) execs k e at (ap (is_number n) is ∙ eq-eqb loop.number n number)
     (λ j x got passes. let its = number-of n (f x) passes in only j x its.0 got its.1 its.2)
 
-pub begun-exec : (o : Option Exec) (loop : Loop) → begun_in o ≡ Some loop → (e : Exec) × (o ≡ Some e) × (begun e.kind ≡ Some loop)
-begun-exec None loop is = let h : None ≡ Some loop = is in absurd cc
-begun-exec (Some e) loop is = (e, refl, is)
-
-pub incremented-exec : (o : Option Exec) (loop : Loop) → incremented_in o ≡ Some loop → (e : Exec) × (o ≡ Some e) × (incremented e.kind ≡ Some loop)
-incremented-exec None loop is = let h : None ≡ Some loop = is in absurd cc
-incremented-exec (Some e) loop is = (e, refl, is)
-
 -- ---- the executables of a DO
 
 -- a DO with the statement at which its range ends
@@ -113,7 +104,7 @@ module _ (names : List NameInfo) (checked : Bool) (whole : List Labelled) (usabl
         terminal = terminal.0;
         stands = terminal.1;
         its = label-of_statement whole label terminal.0 terminal.1;
-        among = ends_among whole label d (slice_get_within whole d it.s it.stands) (do-in whole d label it);
+        among = ends_among whole label d (length whole) (slice_get_within whole d it.s it.stands) (do-in whole d label it);
         later = ends-later whole are ended nested d label it;
       }
 

@@ -1,6 +1,7 @@
 -- Where the executables of a statement's own lead, one after another.
-use Rattle.std.proofs.Common.{◌≡◌, ℕ, zero, suc, ◌+◌, ◌-◌, Bool, true, false, List, [], ◌∷◌, ◌++◌, length, map, refl, subst, arith, Option, Some, None}
+use Rattle.std.proofs.Common.{◌≡◌, ℕ, zero, suc, ◌+◌, ◌-◌, Bool, true, false, List, [], ◌∷◌, ◌++◌, length, map, refl, subst, arith, Some, None}
 use Rattle.std.specs.Prelude.{slice_get}
+use Rattle.std.proofs.lemmas.Bool.{eq-eqb}
 use Rattle.f77_tree.specs.declared.programs.ExecKind.{ExecKind}
 use Rattle.f77_tree.specs.declared.programs.NameInfo.{NameInfo}
 use Rattle.f77_tree.specs.declared.statements.Labelled.{Labelled}
@@ -9,10 +10,9 @@ use Rattle.f77_tree.specs.declared.statements.Stmt.{Stmt, more_of-Stmt}
 use Rattle.f77_tree.specs.declared.statements.Stmt.TheVariants.{Assign, Print, Take, Continue, Stop, GoTo, PickGoTo, SignIf, ThenIf', BlockIf, ElseIf, EndIf, Do, End}
 use Rattle.f77_tree.specs.Control.{successors}
 use Rattle.layout_rules.specs.Labels.{jumps}
-use Rattle.layout_rules.specs.Tables.{is_simple, has_simple_inner}
-use Rattle.layout_rules.specs.Executables.{own_kinds, taking, first_of, labelled, met, when_false, is_do, exit_of}
-use Rattle.control_laws.proofs.LoopBlocks.{begins_arm}
-use Rattle.control_laws.proofs.LoopEnds.{AllOf}
+use Rattle.layout_rules.specs.Tables.{begins_arm, is_simple, has_simple_inner}
+use Rattle.layout_rules.specs.Executables.{own_kinds, taking, first_of, labelled, met, when_false, is_do, is_do_to, exit_of}
+use Rattle.control_structure.proofs.Exits.{AllOf}
 
 module _ (names : List NameInfo) (checked : Bool) (whole : List Labelled) (k : ℕ) (P : ℕ → Type 0) where
   -- the executable k, if it is one of these, leads to where P holds
@@ -64,8 +64,10 @@ module _ (names : List NameInfo) (checked : Bool) (whole : List Labelled) (k : �
   own-leads place index next End inner other on stop step js arms = (λ e. tt, tt)
   own-leads place index next _ inner other on stop step js arms = tt
 
-  pub do-leads : (place index next label : ℕ) (variable : List ℕ) (first last : RawExpr) (value : Option RawExpr) → ((s : ℕ) → s ≡ k + 1 → P s) → P (exit_of whole label place) → EachLeads index (own_kinds names checked whole place index next (Do label variable first last value))
-  do-leads place index next label variable first last value step exit = (λ e. (step (index + 1) (omega (arith, e)), (exit, tt)), tt)
+  -- what a DO needs
+  pub do-leads : (place index next : ℕ) (stmt : Stmt) → is_do stmt ≡ true → ((s : ℕ) → s ≡ k + 1 → P s) → ((label : ℕ) → is_do_to label stmt ≡ true → P (exit_of whole label place)) → EachLeads index (own_kinds names checked whole place index next stmt)
+  do-leads place index next (Do label variable first last value) is step exit = (λ e. (step (index + 1) (omega (arith, e)), (exit label (eq-eqb label label refl), tt)), tt)
+  do-leads place index next _ is step exit = let h : false ≡ true = is in absurd cc
 
 -- what all of the list have, a member has
 pub AllOf-from : (P : ℕ → Type 0) (xs : List ℕ) → ((m x : ℕ) → slice_get xs m ≡ Some x → P x) → AllOf P xs

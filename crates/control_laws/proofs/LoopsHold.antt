@@ -1,5 +1,5 @@
 -- Each DO has one DoStart and one DoNext, and the ranges of DOs are nested.
-use Rattle.std.proofs.Common.{◌≡◌, ℕ, suc, ◌+◌, ◌<◌, Bool, ◌⊎◌, inl, inr, List, [], length, drop, All, refl, sym, ap, subst, ◌∙◌, arith, Some, None}
+use Rattle.std.proofs.Common.{◌≡◌, ℕ, suc, ◌+◌, ◌<◌, ◌≤◌, Bool, ◌⊎◌, inl, inr, List, [], length, drop, All, refl, sym, ap, subst, ◌∙◌, arith, Some, None}
 use Rattle.std.specs.Prelude.{slice_get, reverse, filter}
 use Rattle.std.proofs.lemmas.Bool.{cases_lt, cases_order}
 use Rattle.std.proofs.lemmas.Option.{slice_get_within}
@@ -17,11 +17,11 @@ use Rattle.layout_rules.specs.Executables.{own_executables, loops_above, loops_t
 use Rattle.control_structure.proofs.OpenSpans.{AreLabelled}
 use Rattle.control_laws.proofs.LoopPlaces.{first-rises}
 use Rattle.control_laws.proofs.LoopKinds.{loop_of, next_loop}
-use Rattle.control_laws.proofs.LoopBegins.{start-at, start-only, next-at, next-only}
+use Rattle.control_laws.proofs.LoopBegins.{begun-exec, incremented-exec, start-at, start-only, next-at, next-only}
 use Rattle.control_laws.proofs.LoopEnds.{AllOf-got, IsEnding, ends-dos, among-got, among-outer, among-once}
 use Rattle.control_laws.proofs.LoopSpans.{IsDo, do-from, opens-do, ends-nested}
-use Rattle.control_laws.proofs.LoopNumbers.{is_do-do, number-once, number-less, numbered, number-below}
-use Rattle.control_laws.proofs.LoopRanges.{position-number, begun-exec, incremented-exec, Spot, next_of, spot-of, next-before, start-own, start-before, exit-is, exit-later, next-nested}
+use Rattle.control_laws.proofs.LoopNumbers.{is_do-do, number-once, number-rises, numbered, number-below}
+use Rattle.control_laws.proofs.LoopRanges.{position-number, Spot, next_of, spot-of, next-before, start-own, start-before, exit-is, exit-later, next-nested}
 
 -- a DO names one label
 pub label-once : (whole : List Labelled) (d a b : ℕ) → IsDo whole d a → IsDo whole d b → a ≡ b
@@ -132,16 +132,9 @@ module _ (names : List NameInfo) (checked : Bool) (whole : List Labelled) (usabl
 
   -- the one with the lower number stands above
   above-by : (c d outer inner : ℕ) → IsDo whole c outer → IsDo whole d inner → loop_number whole c < loop_number whole d → c < d
-  above-by c d outer inner one other less = elim (cases_lt c d) as (λ _. c < d) [
-    | inl lt ↦ lt
-    | inr ge ↦ elim (cases_order c d) as (λ _. c < d) [
-      | inl same ↦ absurd (omega (arith, less, ap (loop_number whole) same))
-      | inr order ↦ elim order as (λ _. c < d) [
-        | inl lt ↦ lt
-        | inr gt ↦ absurd (omega (arith, less, number-less whole d c inner other gt (omega (arith, slice_get_within whole c one.s one.stands))))
-      ]
-    ]
-  ]
+  above-by c d outer inner one other less =
+      let not : d ≤ c → ⊥ = λ ge. omega (arith, less, number-rises whole d c ge (omega (arith, slice_get_within whole c one.s one.stands))) in
+      omega (arith, not)
 
   pub starts-apart : (c d outer inner : ℕ) → IsDo whole c outer → IsDo whole d inner → c < d → first_of whole c < first_of whole d
   starts-apart c d outer inner one other lt =

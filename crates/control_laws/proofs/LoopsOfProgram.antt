@@ -13,23 +13,29 @@ use Rattle.f77_tree.specs.Control.{successors, successors_in, LeadsTo}
 use Rattle.f77_tree.specs.Loops.{incremented, incremented_in, incremented_at, IsEnteredAtStart, AreLoops}
 use Rattle.layout_rules.specs.Faults.{first_line}
 use Rattle.layout_rules.specs.Source.{IsSource, EndsWithEnd}
-use Rattle.layout_rules.specs.Labels.{jumps, statement_of, is_labelled_twice}
+use Rattle.layout_rules.specs.Labels.{jumps, statement_of, is_labelled_twice, lacks_label}
 use Rattle.layout_rules.specs.Jumps.{jumps_into}
 use Rattle.layout_rules.specs.Nesting.{first_unnested}
 use Rattle.layout_rules.specs.Tables.{IsUsable}
-use Rattle.layout_rules.specs.Executables.{own_executables, own_kinds, loops_to, first_of, labelled, beyond, executables, is_do, loop_number, exit_after}
+use Rattle.layout_rules.specs.Executables.{own_executables, own_kinds, loops_to, first_of, labelled, beyond, executables, is_do, is_do_in, loop_number, exit_after}
 use Rattle.control_structure.proofs.SourceLabels.{AreLabelled-source}
 use Rattle.control_structure.proofs.OpenSpans.{AreLabelled}
+use Rattle.control_structure.proofs.Usable.{usable as usable_source}
+use Rattle.control_structure.proofs.Exits.{AllOf}
 use Rattle.control_laws.proofs.LoopPlaces.{usable-at}
 use Rattle.control_laws.proofs.LoopKinds.{next_loop}
 use Rattle.control_laws.proofs.LoopBegins.{OwnAt, EndAt, comes}
-use Rattle.control_laws.proofs.LoopEnds.{AllOf, AllOf-got, IsEnding, ends-dos}
+use Rattle.control_laws.proofs.LoopEnds.{AllOf-got, IsEnding, ends-dos}
 use Rattle.control_laws.proofs.LoopSpans.{IsDo, do-from, opens-do}
-use Rattle.control_laws.proofs.LoopNumbers.{is_do-do, numbered}
+use Rattle.control_laws.proofs.LoopNumbers.{numbered}
 use Rattle.control_laws.proofs.LoopRanges.{Spot, next_of, spot-of}
 use Rattle.control_laws.proofs.LoopsHold.{start-is, next-once, next-is, is_loop, starts-below, nexts-below, starts-rise, ranges-nested}
-use Rattle.control_laws.proofs.LoopSuccessors.{EachLeads, each-got, own-leads, do-leads, AllOf-from}
+use Rattle.control_laws.proofs.LoopSuccessors.{each-got, own-leads, do-leads, AllOf-from}
 use Rattle.control_laws.proofs.LoopEntries.{Into, into-next, is-do, after-into, met-into, stop-into, jump-into, false-into, start-into, end-into, body-into}
+
+own-single : (stmt : Stmt) → is_do stmt ≡ true → own_executables stmt ≡ 1
+own-single (Do label variable first last step) is = refl
+own-single _ is = let h : false ≡ true = is in absurd cc
 
 all-contained : (P : ℕ → Type 0) (xs : List ℕ) (s : ℕ) → AllOf P xs → Contains xs s → P s
 all-contained P xs s all in_list = subst P in_list.2 (AllOf-got P xs in_list.0 (get_or xs in_list.0 s) all (slice_get-get_or xs in_list.0 s in_list.1))
@@ -44,18 +50,12 @@ module _ (names : List NameInfo) (checked : Bool) (whole : List Labelled) (usabl
 
     leads-do : (kind : ExecKind) (at : OwnAt names checked whole k kind) → is_do at.s.stmt ≡ true → AllOf P (successors kind)
     leads-do kind at its =
-        let one = is_do-do whole at.place at.s at.stands its in
-        let it = one.1 in
-        let same : at.s ≡ it.s = let e : Some at.s ≡ Some it.s = sym at.stands ∙ it.stands in cc in
-        let stmt : at.s.stmt ≡ Do one.0 it.variable it.first it.last it.step = ap (λ (x : Labelled). x.stmt) same ∙ it.is in
-        let single : own_executables at.s.stmt ≡ 1 = ap own_executables stmt in
-        let first : k ≡ first_of whole at.place = omega (arith, at.at, at.own, single) in
         let index = first_of whole at.place in
         let next = beyond whole at.place at.s in
-        let exit = start-into names checked whole usable are ended nested d label spot at.place one.0 (spot-of names checked whole usable are ended nested at.place one.0 it) k first outside in
-        let each = do-leads names checked whole k P at.place index next one.0 it.variable it.first it.last it.step (λ s is. into-next (first_of whole d) (next_of whole d label spot) k s outside is) exit in
+        let first : k ≡ index = omega (arith, at.at, at.own, own-single at.s.stmt its) in
         each-got names checked whole k P index at.j (own_kinds names checked whole at.place index next at.s.stmt) kind
-        (subst (λ (x : Stmt). EachLeads names checked whole k P index (own_kinds names checked whole at.place index next x)) (sym stmt) each) at.got at.at
+        (do-leads names checked whole k P at.place index next at.s.stmt its (λ s is. into-next (first_of whole d) (next_of whole d label spot) k s outside is)
+        (λ other ends. start-into names checked whole usable are ended nested d label spot at.place other (spot-of names checked whole usable are ended nested at.place other (do-from whole at.place other (ap (is_do_in other) at.stands ∙ ends))) k first outside)) at.got at.at
 
     leads-other : (kind : ExecKind) (at : OwnAt names checked whole k kind) → is_do at.s.stmt ≡ false → AllOf P (successors kind)
     leads-other kind at other =
@@ -124,6 +124,6 @@ module _ (names : List NameInfo) (checked : Bool) (whole : List Labelled) (usabl
   }
 
 -- The DOs of a source whose labels, nesting and jumps are right.
-pub AreLoops-executables : (names : List NameInfo) (checked : Bool) (whole : List Labelled) → IsSource whole → All (IsUsable whole) whole → first_line is_labelled_twice whole ≡ None → first_unnested [] whole ≡ None → first_line (jumps_into whole) whole ≡ None
+pub AreLoops-source : (names : List NameInfo) (checked : Bool) (whole : List Labelled) → IsSource whole → first_line is_labelled_twice whole ≡ None → first_line (lacks_label whole) whole ≡ None → first_unnested [] whole ≡ None → first_line (jumps_into whole) whole ≡ None
     → AreLoops (executables names checked whole) (length (filter (λ s. is_do s.stmt) whole))
-AreLoops-executables names checked whole source usable once nested none = loops names checked whole usable (AreLabelled-source whole source once) source.ended nested none
+AreLoops-source names checked whole source once standing nested none = loops names checked whole (usable_source whole source standing) (AreLabelled-source whole source once) source.ended nested none

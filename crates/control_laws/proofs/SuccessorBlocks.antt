@@ -9,6 +9,7 @@ use Rattle.layout_rules.specs.Labels.{is_arm}
 use Rattle.layout_rules.specs.Jumps.{is_block_if, is_end_if, end_after}
 use Rattle.layout_rules.specs.Nesting.{open_after, first_unnested}
 use Rattle.layout_rules.specs.declared.nesting.Opened.{Opened}
+use Rattle.control_laws.proofs.LoopBlocks.{got_drop}
 use Rattle.layout_rules.proofs.OpenWalks.{goes_on, nothing-at-end, blocks_in, one_if, after-blocks, begins-no_end, heads-block}
 
 -- ---- where a block or an arm ends
@@ -49,10 +50,7 @@ module _ (arms : Bool) where
       on n = end_after arms n rest (place + 1)
 
       step : (b e x : Bool) → is_block_if s.stmt ≡ b → is_end_if s.stmt ≡ e → ((inner == 0) && is_stop arms s.stmt) ≡ x → end_after arms inner (s ∷ rest) place ≡ cond b (on (inner + 1)) (cond x place (cond e (on (inner - 1)) (on inner)))
-      step b e x is_b is_e is_x =
-          ap (λ (v : Bool). cond v (on (inner + 1)) (cond ((inner == 0) && is_stop arms s.stmt) place (cond (is_end_if s.stmt) (on (inner - 1)) (on inner)))) is_b
-          ∙ ap (λ (v : Bool). cond b (on (inner + 1)) (cond v place (cond (is_end_if s.stmt) (on (inner - 1)) (on inner)))) is_x
-          ∙ ap (λ (v : Bool). cond b (on (inner + 1)) (cond x place (cond v (on (inner - 1)) (on inner)))) is_e
+      step b e x is_b is_e is_x = rw (is_b, is_x, is_e) refl
 
       count : blocks_in beyond + one_if (is_end_if s.stmt) ≡ blocks_in stack + one_if (is_block_if s.stmt)
       count = after-blocks s stack beyond opened
@@ -113,12 +111,6 @@ module _ (arms : Bool) where
       let goes = goes_on t (next ∷ rest) stack none in
       begins (next ∷ rest) goes.beyond ended goes.nested i s here heads place
 
--- the item so far after a place
-got-drop : {X : Type 0} (n k : ℕ) (xs : List X) → slice_get (drop n xs) k ≡ slice_get xs (n + k)
-got-drop zero k xs = let e : k ≡ zero + k = omega arith in ap (slice_get xs) e
-got-drop (suc n) k [] = refl
-got-drop (suc n) k (x ∷ xs) = let e : suc (n + k) ≡ suc n + k = omega arith in got-drop n k xs ∙ ap (slice_get (x ∷ xs)) e
-
 -- a place at which a block or an arm ends
 pub record StopsAt (arms : Bool) (stmts : List Labelled) (place : ℕ) : Type 0 where
   pub s : Labelled
@@ -132,6 +124,6 @@ stops arms stmts ended none i s here heads =
     let at : EndsAt arms 0 (drop (i + 1) stmts) (i + 1) = subst (λ (n : ℕ). EndsAt arms 0 (drop n stmts) (i + 1)) next (begins arms stmts [] ended none i s here heads (i + 1)) in
     record {
       s = at.s;
-      stands = ap (slice_get stmts) at.is ∙ sym (got-drop (i + 1) at.offset stmts) ∙ at.stands;
+      stands = ap (slice_get stmts) at.is ∙ sym (got_drop stmts (i + 1) at.offset) ∙ at.stands;
       ends = at.ends;
     }

@@ -1,9 +1,9 @@
 -- The executables that places of statements stand for are among those of the program.
-use Rattle.std.proofs.Common.{◌≡◌, ◌≢◌, ℕ, suc, zero, ◌+◌, ◌-◌, ◌<◌, ◌≤◌, Bool, true, false, ◌||◌, ◌&&◌, ◌==◌, nat_lt, cond, List, [], ◌∷◌, length, Some, None, refl, sym, ap, ◌∙◌, arith, ⊎_elim}
+use Rattle.std.proofs.Common.{◌≡◌, ◌≢◌, ℕ, suc, zero, ◌+◌, ◌-◌, ◌<◌, ◌≤◌, Bool, true, false, ◌||◌, ◌&&◌, ◌==◌, nat_lt, cond, inl, inr, List, [], ◌∷◌, length, Some, None, refl, sym, ap, ◌∙◌, arith, ⊎_elim}
 use Rattle.std.specs.Prelude.{slice_get, sum_by}
-use Rattle.std.proofs.lemmas.Bool.{cases_eq}
+use Rattle.std.proofs.lemmas.Bool.{cases_eq, cases_Bool, or_right}
 use Rattle.std.proofs.lemmas.List.{take_all}
-use Rattle.std.proofs.lemmas.Option.{slice_get_within, slice_get_cases, get_or_from_slice_get}
+use Rattle.std.proofs.lemmas.Option.{slice_get_within}
 use Rattle.f77_tree.specs.declared.statements.Labelled.{Labelled}
 use Rattle.f77_tree.specs.declared.statements.Stmt.{Stmt}
 use Rattle.f77_tree.specs.declared.statements.Stmt.TheVariants.{End}
@@ -12,8 +12,9 @@ use Rattle.layout_rules.specs.Labels.{is_executable, is_arm}
 use Rattle.layout_rules.specs.Nesting.{first_unnested}
 use Rattle.layout_rules.specs.Jumps.{is_block_if, end_of_block, end_of_arm}
 use Rattle.layout_rules.specs.Executables.{own_executables, loops_to, executables_with_ends, first_of, met, beyond, is_else_at, when_false}
-use Rattle.control_structure.proofs.ExecutableLemmas.{first_of-next}
 use Rattle.control_structure.proofs.Meeting.{met-arm, met-own, met-passed}
+use Rattle.control_structure.proofs.Walks.{item_at}
+use Rattle.control_laws.proofs.LoopPlaces.{first-next, first-rises}
 use Rattle.control_laws.proofs.SuccessorBlocks.{IsEnded, StopsAt, stops}
 
 -- ---- the executables up to a place
@@ -40,37 +41,21 @@ module _ (stmts : List Labelled) (source : IsSource stmts) (nested : first_unnes
       let same : s ≡ source.ended.last = cc in
       ap (λ (a : Labelled). a.stmt) same ∙ source.ended.is
 
-  pub some : 0 < length stmts
+  some : 0 < length stmts
   some = let inside = slice_get_within stmts (length stmts - 1) source.ended.last source.ended.stands in omega (arith, inside)
 
-  pub ended : IsEnded stmts
+  ended : IsEnded stmts
   ended = last-ended stmts some is_last
 
-  all_taken : first_of stmts (length stmts) ≡ total stmts
+  pub all_taken : first_of stmts (length stmts) ≡ total stmts
   all_taken = ap (sum_by (executables_with_ends stmts)) (take_all (length stmts) stmts (omega arith))
-
-  -- the executables of a statement stand after those above it
-  pub next_of : (place : ℕ) (s : Labelled) → slice_get stmts place ≡ Some s → first_of stmts (place + 1) ≡ first_of stmts place + (own_executables s.stmt + length (loops_to stmts s.label))
-  next_of place s at = first_of-next stmts place s (slice_get_within stmts place s at) (sym (get_or_from_slice_get stmts place s s at))
-
-  rises : (place k : ℕ) → place + k ≤ length stmts → first_of stmts place ≤ first_of stmts (place + k)
-  rises place zero within = let e : place ≡ place + zero = omega arith in let f = ap (first_of stmts) e in omega (arith, f)
-  rises place (suc k) within =
-      let inside : place + k < length stmts = omega (arith, within) in
-      let before = rises place k (omega (arith, within)) in
-      let e : place + k + 1 ≡ place + suc k = omega arith in
-      let f = ap (first_of stmts) e in
-      ⊎_elim
-      (λ h. let step = next_of (place + k) h.0 h.2 in omega (arith, f, step, before))
-      (λ h. absurd (omega (arith, h.0, inside)))
-      (slice_get_cases stmts (place + k)).1
 
   -- END has an executable
   last-some : first_of stmts (length stmts - 1) < total stmts
   last-some =
       let last = source.ended.last in
       let m = length stmts - 1 in
-      let step = next_of m last source.ended.stands in
+      let step = first-next stmts m last source.ended.stands in
       let own : own_executables last.stmt ≡ 1 = ap own_executables source.ended.is in
       let e : m + 1 ≡ length stmts = omega (arith, some) in
       let f = ap (first_of stmts) e in
@@ -79,11 +64,8 @@ module _ (stmts : List Labelled) (source : IsSource stmts) (nested : first_unnes
   -- the first executable of each statement is among them, and for a statement with none that of the next
   pub first-exists : (place : ℕ) → place < length stmts → first_of stmts place < total stmts
   first-exists place inside =
-      let k = length stmts - 1 - place in
-      let e : place + k ≡ length stmts - 1 = omega (arith, inside) in
-      let f = ap (first_of stmts) e in
-      let up = rises place k (omega (arith, inside)) in
-      omega (arith, up, f, last-some)
+      let up = first-rises stmts place (length stmts - 1) (omega (arith, inside)) (omega arith) in
+      omega (arith, up, last-some)
 
   -- a statement that isn't END stands above another
   pub not-last : (place : ℕ) (s : Labelled) → slice_get stmts place ≡ Some s → (s.stmt ≡ End → ⊥) → place + 1 < length stmts
@@ -95,7 +77,7 @@ module _ (stmts : List Labelled) (source : IsSource stmts) (nested : first_unnes
   -- what comes after the executables of a statement above the last
   pub up_to-exists : (place : ℕ) (s : Labelled) → slice_get stmts place ≡ Some s → place + 1 < length stmts → first_of stmts place + (own_executables s.stmt + length (loops_to stmts s.label)) < total stmts
   up_to-exists place s at above =
-      let e = next_of place s at in
+      let e = first-next stmts place s at in
       let f = first-exists (place + 1) above in
       omega (arith, e, f)
 
@@ -104,29 +86,19 @@ module _ (stmts : List Labelled) (source : IsSource stmts) (nested : first_unnes
   met-at : (n place : ℕ) → place < length stmts → length stmts ≤ place + n → met stmts place < total stmts
   met-at zero place inside least = absurd (omega (arith, inside, least))
   met-at (suc n) place inside least =
-      ⊎_elim
-      (λ h. by h.0 h.2 (is_arm h.0.stmt) (is_executable h.0.stmt) refl refl (λ below. met-at n (place + 1) below (omega (arith, least))))
-      (λ h. absurd (omega (arith, h.0, inside)))
-      (slice_get_cases stmts place).1
-    where
-      by : (s : Labelled) → slice_get stmts place ≡ Some s → (arm own : Bool) → is_arm s.stmt ≡ arm → is_executable s.stmt ≡ own → (place + 1 < length stmts → met stmts (place + 1) < total stmts) → met stmts place < total stmts
-      by s at true own is_a is_x later =
-          let end : StopsAt false stmts (end_of_block stmts place) = stops false stmts ended nested place s at (heads (is_block_if s.stmt) (is_arm s.stmt) is_a) in
-          let there = first-exists (end_of_block stmts place) (slice_get_within stmts (end_of_block stmts place) end.s end.stands) in
-          let e = met-arm stmts place s at is_a in
-          omega (arith, e, there)
-        where
-          heads : (a b : Bool) → b ≡ true → (a || b) ≡ true
-          heads true b e = refl
-          heads false b e = e
-      by s at false true is_a is_x later =
-          let e = met-own stmts place s at is_a is_x in
-          let there = first-exists place inside in
-          omega (arith, e, there)
-      by s at false false is_a is_x later =
-          let e = met-passed stmts place s at is_a is_x in
-          let there = later (not-last place s at (λ end. let x : is_executable s.stmt ≡ true = ap is_executable end in let z : true ≡ false = sym x ∙ is_x in absurd cc)) in
-          omega (arith, e, there)
+      let here = item_at stmts place inside in
+      let s = here.0 in
+      elim (cases_Bool (is_arm s.stmt)) as (λ _. met stmts place < total stmts) [
+        | inl arm ↦
+            let end : StopsAt false stmts (end_of_block stmts place) = stops false stmts ended nested place s here.1 (or_right (is_block_if s.stmt) (is_arm s.stmt) arm) in
+            omega (arith, met-arm stmts place s here.1 arm, first-exists (end_of_block stmts place) (slice_get_within stmts (end_of_block stmts place) end.s end.stands))
+        | inr no_arm ↦ elim (cases_Bool (is_executable s.stmt)) as (λ _. met stmts place < total stmts) [
+          | inl own ↦ omega (arith, met-own stmts place s here.1 no_arm own, first-exists place inside)
+          | inr none ↦
+              let above = not-last place s here.1 (λ end. let z : true ≡ false = sym (ap is_executable end) ∙ none in absurd cc) in
+              omega (arith, met-passed stmts place s here.1 no_arm none, met-at n (place + 1) above (omega (arith, least)))
+        ]
+      ]
 
   pub met-exists : (place : ℕ) → place < length stmts → met stmts place < total stmts
   met-exists place inside = met-at (length stmts) place inside (omega arith)

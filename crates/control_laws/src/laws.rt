@@ -9,5 +9,6 @@ ghost use Rattle.layout_rules.specs.Executables.{executables};
 /// Where labels, loops and blocks have no fault, control leads from each executable to others of the program, and the DOs are
 /// the loops of the executables.
 pub fn control_leads_within_programs()
-    ensures { (names : List NameInfo) (checked : Bool) (stmts : List Labelled) → IsStructured stmts → LeadsWithin (executables names checked stmts) (loop_count stmts) }
+    ensures { (names : List NameInfo) (checked : Bool) (stmts : List Labelled) → IsStructured stmts
+        → LeadsWithin (executables names checked stmts) (loop_count stmts) }
 {}

@@ -1,8 +1,7 @@
 -- How many executables a statement has.
-use Rattle.std.proofs.Common.{◌≡◌, ℕ, suc, ◌+◌, ◌<◌, Bool, true, false, List, [], ◌∷◌, ◌++◌, length, take, get_or, refl, sym, ap, ◌∙◌, arith, Option, Some, length-append, append_assoc}
-use Rattle.std.specs.Prelude.{slice_get, sum_by}
-use Rattle.std.proofs.lemmas.List.{take_more, map-append, length-map}
-use Rattle.std.proofs.lemmas.List.Sums.{sum_by-append}
+use Rattle.std.proofs.Common.{◌≡◌, ℕ, suc, ◌+◌, ◌<◌, Bool, true, false, List, [], ◌∷◌, ◌++◌, length, get_or, refl, sym, ap, ◌∙◌, arith, Option, Some, length-append, append_assoc}
+use Rattle.std.specs.Prelude.{slice_get}
+use Rattle.std.proofs.lemmas.List.{map-append, length-map}
 use Rattle.f77_tree.specs.declared.programs.Exec.{Exec}
 use Rattle.f77_tree.specs.declared.programs.ExecKind.{ExecKind}
 use Rattle.f77_tree.specs.declared.programs.NameInfo.{NameInfo}
@@ -13,6 +12,7 @@ use Rattle.f77_tree.specs.declared.statements.Stmt.TheVariants.{Take, ThenIf', C
 use Rattle.f77_tree.specs.StatementGrammar.{is_of_subroutines}
 use Rattle.layout_rules.specs.Executables.{beyond, own_executables, own_kinds, taking, increments, loops_to, executables_with_ends, first_of, at_line, executables_if_any}
 use Rattle.layout_rules.specs.Tables.{is_simple, has_simple_inner, IsUsable}
+use Rattle.control_structure.proofs.StatementCounts.{sum-more}
 use Rattle.std.proofs.lemmas.Option.{slice_get_read}
 
 module _ (names : List NameInfo) (checked : Bool) (whole : List Labelled) (place : ℕ) where
@@ -42,10 +42,7 @@ module _ (names : List NameInfo) (checked : Bool) (whole : List Labelled) (place
 
 -- the executables of the statements up to and with one
 pub first_of-next : (stmts : List Labelled) (place : ℕ) (s : Labelled) → place < length stmts → s ≡ get_or stmts place s → first_of stmts (place + 1) ≡ first_of stmts place + (own_executables s.stmt + length (loops_to stmts s.label))
-first_of-next stmts place s inside is =
-    let f = executables_with_ends stmts in
-    let here : sum_by f (get_or stmts place s ∷ []) ≡ 0 + f s = ap (λ (a : Labelled). sum_by f (a ∷ [])) (sym is) in
-    ap (sum_by f) (take_more stmts place s inside) ∙ sum_by-append f (take place stmts) (get_or stmts place s ∷ []) ∙ omega (arith, here)
+first_of-next stmts place s inside is = sum-more (executables_with_ends stmts) stmts place s inside is
 
 -- a statement's own executables, and after them its increments
 pub record AreAll (names : List NameInfo) (checked : Bool) (whole : List Labelled) (place : ℕ) (s : Labelled) (old own : List Exec) : Type 0 where

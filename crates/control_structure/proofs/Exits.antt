@@ -1,102 +1,81 @@
 -- Where control goes after a DO, by how many DOs above it end at the same label.
-use Rattle.std.proofs.Common.{◌≡◌, ℕ, suc, zero, ◌+◌, ◌-◌, ◌<◌, Bool, true, false, not, eqb, cond, List, [], ◌∷◌, ◌++◌, length, refl, sym, ap, subst, ◌∙◌, arith, Some, None, append-nil, length-append}
+use Rattle.std.proofs.Common.{◌≡◌, ℕ, suc, zero, ◌+◌, ◌-◌, ◌<◌, Bool, true, false, eqb, cond, List, [], ◌∷◌, ◌++◌, length, refl, sym, ap, subst, ◌∙◌, arith, Some, append-nil, length-append}
 use Rattle.std.specs.Prelude.{slice_get, reverse}
-use Rattle.std.specs.List.{position_or_len}
 use Rattle.std.proofs.Math.Dec.{eqb-suc-zero}
 use Rattle.std.proofs.lemmas.Bool.{eq-eqb, ne_eqb, eqb-true}
 use Rattle.std.proofs.lemmas.List.{reverse-append, length-reverse}
 use Rattle.f77_tree.specs.declared.statements.Labelled.{Labelled}
 use Rattle.layout_rules.specs.Labels.{statement_of}
 use Rattle.layout_rules.specs.Executables.{is_do_in, loops_above, loops_to, met, exit_after, exit_among}
+use Rattle.control_structure.proofs.LabelTables.{position-passes}
 use Rattle.control_structure.proofs.LoopTables.{loops_above-next}
 
 -- the statement with a label has that label
-position-passes : {X : Type 0} (p : X → Bool) (xs : List X) (x : X) → slice_get xs (position_or_len p xs) ≡ Some x → p x ≡ true
-position-passes p [] x at = absurd (let h : None ≡ Some x = at in cc)
-position-passes {X = X} p (y ∷ ys) x at = by (p y) refl (position-passes p ys x)
-  where
-    by : (b : Bool) → p y ≡ b → (slice_get ys (position_or_len p ys) ≡ Some x → p x ≡ true) → p x ≡ true
-    by true is later =
-        let stands : slice_get (y ∷ ys) (cond (not (p y)) (1 + position_or_len p ys) 0) ≡ Some x = at in
-        let e : Some y ≡ Some x = rw is at stands in
-        let same : y ≡ x = cc in
-        ap p (sym same) ∙ is
-    by false is later =
-        let stands : slice_get (y ∷ ys) (cond (not (p y)) (1 + position_or_len p ys) 0) ≡ Some x = at in
-        let e : slice_get (y ∷ ys) (1 + position_or_len p ys) ≡ Some x = rw is at stands in
-        let next : 1 + position_or_len p ys ≡ suc (position_or_len p ys) = omega arith in
-        later (subst (λ (k : ℕ). slice_get (y ∷ ys) k ≡ Some x) next e)
-
 pub label-of_statement : (stmts : List Labelled) (label : ℕ) (s : Labelled) → slice_get stmts (statement_of stmts label) ≡ Some s → s.label ≡ label
 label-of_statement stmts label s at = eqb-true s.label label (position-passes (λ (a : Labelled). eqb a.label label) stmts s at)
 
-module _ (stmts : List Labelled) (label terminal : ℕ) where
-  -- a DO further inside is passed over
-  passed : (b : Bool) (n d increment : ℕ) (above : List ℕ) → d < n → exit_among stmts terminal increment (reverse (above ++ cond b (n ∷ []) [])) d ≡ exit_among stmts terminal (increment + cond b 1 0) (reverse above) d
-  passed true n d increment above inner =
-      ap (λ (ds : List ℕ). exit_among stmts terminal increment ds d) (reverse-append above (n ∷ []))
-      ∙ ap (λ b. cond b (exit_after stmts terminal increment (reverse above)) (exit_among stmts terminal (increment + 1) (reverse above) d)) (ne_eqb n d (λ e. absurd (omega arith)))
-  passed false n d increment above inner =
-      ap (λ (ds : List ℕ). exit_among stmts terminal increment (reverse ds) d) (append-nil above)
-      ∙ ap (λ k. exit_among stmts terminal k (reverse above) d) (omega arith)
+abbrev pub AllOf : (ℕ → Type 0) → List ℕ → Type 0
+AllOf P [] = Unit {0}
+AllOf P (x ∷ xs) = P x × AllOf P xs
 
-  -- how many DOs after it end at its label, and where control goes after it
-  pub record Leaves (d n increment : ℕ) : Type 0 where
-    pub inner : ℕ
-    pub counted : length (loops_above stmts label n) ≡ length (loops_above stmts label d) + 1 + inner
-    pub leaves : exit_among stmts terminal increment (reverse (loops_above stmts label n)) d ≡ exit_after stmts terminal (increment + inner) (reverse (loops_above stmts label d))
+-- the DOs that end at the label with the one at the place d among them
+pub record EndsAmong (whole : List Labelled) (label d : ℕ) (ds : List ℕ) : Type 0 where
+  pub inner : List ℕ
+  pub is : ds ≡ inner ++ d ∷ reverse (loops_above whole label d)
+  pub beyond : AllOf (λ x. d < x) inner
 
-  found : (d increment : ℕ) → is_do_in label (slice_get stmts d) ≡ true → Leaves d (d + 1) increment
-  found d increment is =
-      let more : loops_above stmts label (d + 1) ≡ loops_above stmts label d ++ d ∷ [] = loops_above-next stmts label d ∙ ap (λ b. loops_above stmts label d ++ cond b (d ∷ []) []) is in
-      record {
-        inner = 0;
-        counted = ap (λ (ds : List ℕ). length ds) more ∙ length-append (loops_above stmts label d) (d ∷ []) ∙ omega arith;
-        leaves =
-            ap (λ (ds : List ℕ). exit_among stmts terminal increment (reverse ds) d) more
-            ∙ ap (λ (ds : List ℕ). exit_among stmts terminal increment ds d) (reverse-append (loops_above stmts label d) (d ∷ []))
-            ∙ ap (λ b. cond b (exit_after stmts terminal increment (reverse (loops_above stmts label d))) (exit_among stmts terminal (increment + 1) (reverse (loops_above stmts label d)) d)) (eq-eqb d d refl)
-            ∙ ap (λ k. exit_after stmts terminal k (reverse (loops_above stmts label d))) (omega arith);
-      }
+module _ (whole : List Labelled) (label : ℕ) where
+  grown : (b : Bool) (xs : List ℕ) (n : ℕ) → reverse (xs ++ cond b (n ∷ []) []) ≡ cond b (n ∷ reverse xs) (reverse xs)
+  grown true xs n = reverse-append xs (n ∷ [])
+  grown false xs n = ap (λ (ys : List ℕ). reverse ys) (append-nil xs)
 
-  further : (d n increment : ℕ) (b : Bool) → d < n → is_do_in label (slice_get stmts n) ≡ b → Leaves d n (increment + cond b 1 0) → Leaves d (n + 1) increment
-  further d n increment b inner is l =
-      let more : loops_above stmts label (n + 1) ≡ loops_above stmts label n ++ cond b (n ∷ []) [] = loops_above-next stmts label n ∙ ap (λ c. loops_above stmts label n ++ cond c (n ∷ []) []) is in
-      record {
-        inner = cond b 1 0 + l.inner;
-        counted = ap (λ (ds : List ℕ). length ds) more ∙ length-append (loops_above stmts label n) (cond b (n ∷ []) []) ∙ count b l.counted;
-        leaves =
-            ap (λ (ds : List ℕ). exit_among stmts terminal increment (reverse ds) d) more
-            ∙ passed b n d increment (loops_above stmts label n) inner
-            ∙ l.leaves
-            ∙ ap (λ k. exit_after stmts terminal k (reverse (loops_above stmts label d))) (omega arith);
-      }
+  pub more : (n : ℕ) (b : Bool) → is_do_in label (slice_get whole n) ≡ b → reverse (loops_above whole label (n + 1)) ≡ cond b (n ∷ reverse (loops_above whole label n)) (reverse (loops_above whole label n))
+  more n b is =
+      ap (λ (xs : List ℕ). reverse xs) (loops_above-next whole label n ∙ ap (λ c. loops_above whole label n ++ cond c (n ∷ []) []) is) ∙ grown b (loops_above whole label n) n
+
+  among-step : (d n : ℕ) → d < n → EndsAmong whole label d (reverse (loops_above whole label n)) → EndsAmong whole label d (reverse (loops_above whole label (n + 1)))
+  among-step d n lt a = by (is_do_in label (slice_get whole n)) refl
     where
-      count : (c : Bool) → length (loops_above stmts label n) ≡ length (loops_above stmts label d) + 1 + l.inner → length (loops_above stmts label n) + length (cond c (n ∷ []) []) ≡ length (loops_above stmts label d) + 1 + (cond c 1 0 + l.inner)
-      count true e = omega arith
-      count false e = omega arith
+      by : (b : Bool) → is_do_in label (slice_get whole n) ≡ b → EndsAmong whole label d (reverse (loops_above whole label (n + 1)))
+      by true is = record { inner = n ∷ a.inner; is = more n true is ∙ ap (λ (xs : List ℕ). n ∷ xs) a.is; beyond = (lt, a.beyond) }
+      by false is = record { inner = a.inner; is = more n false is ∙ a.is; beyond = a.beyond }
 
-  pub leaving : (d increment m : ℕ) → is_do_in label (slice_get stmts d) ≡ true → Leaves d (d + 1 + m) increment
-  leaving d increment zero is = subst (λ (n : ℕ). Leaves d n increment) (omega arith) (found d increment is)
-  leaving d increment (suc m) is =
-      let b = is_do_in label (slice_get stmts (d + 1 + m)) in
-      subst (λ (n : ℕ). Leaves d n increment) (omega arith) (further d (d + 1 + m) increment b (omega arith) refl (leaving d (increment + cond b 1 0) m is))
+  among-from : (d m : ℕ) → is_do_in label (slice_get whole d) ≡ true → EndsAmong whole label d (reverse (loops_above whole label (d + 1 + m)))
+  among-from d zero is = subst (λ (n : ℕ). EndsAmong whole label d (reverse (loops_above whole label n))) (let e : d + 1 ≡ d + 1 + 0 = omega arith in e) (record { inner = []; is = more d true is; beyond = tt })
+  among-from d (suc m) is = subst (λ (n : ℕ). EndsAmong whole label d (reverse (loops_above whole label n))) (let e : d + 1 + m + 1 ≡ d + 1 + suc m = omega arith in e) (among-step d (d + 1 + m) (omega arith) (among-from d m is))
 
-  pub after-empty : (k : ℕ) (ds : List ℕ) → exit_after stmts terminal k ds ≡ cond (eqb (length ds) 0) (met stmts (terminal + 1)) (k + 1)
+  pub ends_among : (d n : ℕ) → d < n → is_do_in label (slice_get whole d) ≡ true → EndsAmong whole label d (reverse (loops_above whole label n))
+  ends_among d n above is = subst (λ (k : ℕ). EndsAmong whole label d (reverse (loops_above whole label k))) (let e : d + 1 + (n - (d + 1)) ≡ n = omega (arith, above) in e) (among-from d (n - (d + 1)) is)
+
+  pub among-length : (d : ℕ) {ds : List ℕ} (a : EndsAmong whole label d ds) → length ds ≡ length a.inner + 1 + length (loops_above whole label d)
+  among-length d a = ap (λ (xs : List ℕ). length xs) a.is ∙ length-append a.inner (d ∷ reverse (loops_above whole label d)) ∙ omega (arith, length-reverse (loops_above whole label d))
+
+  exit-passes : (d terminal increment : ℕ) (xs : List ℕ) → AllOf (λ x. d < x) xs → exit_among whole terminal increment (xs ++ d ∷ reverse (loops_above whole label d)) d ≡ exit_after whole terminal (increment + length xs) (reverse (loops_above whole label d))
+  exit-passes d terminal increment [] all =
+      ap (λ b. cond b (exit_after whole terminal increment (reverse (loops_above whole label d))) (exit_among whole terminal (increment + 1) (reverse (loops_above whole label d)) d)) (eq-eqb d d refl)
+      ∙ ap (λ k. exit_after whole terminal k (reverse (loops_above whole label d))) (let e : increment ≡ increment + 0 = omega arith in e)
+  exit-passes d terminal increment (x ∷ xs) all =
+      ap (λ b. cond b (exit_after whole terminal increment (xs ++ d ∷ reverse (loops_above whole label d))) (exit_among whole terminal (increment + 1) (xs ++ d ∷ reverse (loops_above whole label d)) d)) (ne_eqb x d (λ e. absurd (omega (arith, all.0, e))))
+      ∙ exit-passes d terminal (increment + 1) xs all.1
+      ∙ ap (λ k. exit_after whole terminal k (reverse (loops_above whole label d))) (let e : increment + 1 + length xs ≡ increment + length (x ∷ xs) = omega arith in e)
+
+  pub among-exit : (d : ℕ) {ds : List ℕ} (a : EndsAmong whole label d ds) (terminal increment : ℕ) → exit_among whole terminal increment ds d ≡ exit_after whole terminal (increment + length a.inner) (reverse (loops_above whole label d))
+  among-exit d a terminal increment = ap (λ (xs : List ℕ). exit_among whole terminal increment xs d) a.is ∙ exit-passes d terminal increment a.inner a.beyond
+
+module _ (stmts : List Labelled) (label terminal : ℕ) where
+  after-empty : (k : ℕ) (ds : List ℕ) → exit_after stmts terminal k ds ≡ cond (eqb (length ds) 0) (met stmts (terminal + 1)) (k + 1)
   after-empty k [] = refl
   after-empty k (d ∷ ds) = ap (λ b. cond b (met stmts (terminal + 1)) (k + 1)) (sym (eqb-suc-zero (length ds)))
 
   -- the exit, by numbers
   pub exit-by_rank : (d increment : ℕ) → d < length stmts → is_do_in label (slice_get stmts d) ≡ true → exit_among stmts terminal increment (loops_to stmts label) d ≡ cond (eqb (length (loops_above stmts label d)) 0) (met stmts (terminal + 1)) (increment + (length (loops_to stmts label) - length (loops_above stmts label d)))
   exit-by_rank d increment inside is =
-      let l : Leaves d (length stmts) increment = subst (λ (n : ℕ). Leaves d n increment) (omega arith) (leaving d increment (length stmts - (d + 1)) is) in
-      l.leaves
-      ∙ after-empty (increment + l.inner) (reverse (loops_above stmts label d))
-      ∙ ap (λ n. cond (eqb n 0) (met stmts (terminal + 1)) (increment + l.inner + 1)) (length-reverse (loops_above stmts label d))
-      ∙ ap (λ n. cond (eqb (length (loops_above stmts label d)) 0) (met stmts (terminal + 1)) n) (omega (arith, l.counted, length-reverse (loops_above stmts label (length stmts))))
+      let a = ends_among stmts label d (length stmts) inside is in
+      among-exit stmts label d a terminal increment
+      ∙ after-empty (increment + length a.inner) (reverse (loops_above stmts label d))
+      ∙ ap (λ n. cond (eqb n 0) (met stmts (terminal + 1)) (increment + length a.inner + 1)) (length-reverse (loops_above stmts label d))
+      ∙ ap (λ n. cond (eqb (length (loops_above stmts label d)) 0) (met stmts (terminal + 1)) n) (omega (arith, among-length stmts label d a))
 
--- fewer DOs end at a label above one of them than in all
-pub ranks-within : (stmts : List Labelled) (label place : ℕ) → place < length stmts → is_do_in label (slice_get stmts place) ≡ true → length (loops_above stmts label place) < length (loops_above stmts label (length stmts))
-ranks-within stmts label place inside is =
-    let l : Leaves stmts label 0 place (length stmts) 0 = subst (λ (n : ℕ). Leaves stmts label 0 place n 0) (omega arith) (leaving stmts label 0 place 0 (length stmts - (place + 1)) is) in
-    omega (arith, l.counted)
+-- a DO further down has more above it
+pub ends-more : (stmts : List Labelled) (label c d : ℕ) → is_do_in label (slice_get stmts c) ≡ true → c < d → length (loops_above stmts label c) < length (loops_above stmts label d)
+ends-more stmts label c d is above = omega (arith, among-length stmts label c (ends_among stmts label c d above is), length-reverse (loops_above stmts label d))

@@ -12,7 +12,7 @@ use Rattle.layout_rules.specs.Labels.{statement_of}
 use Rattle.layout_rules.specs.Jumps.{end_of_arm}
 use Rattle.layout_rules.specs.Executables.{own_executables, executables_with_ends, is_do_to, is_do_in, is_else_at, loops_above, loops_to, first_of, met, when_false, increments_at, exit_of}
 use Rattle.layout_rules.specs.Tables.{rank, rank_at, rank_of}
-use Rattle.control_structure.proofs.Exits.{exit-by_rank, label-of_statement, ranks-within}
+use Rattle.control_structure.proofs.Exits.{exit-by_rank, label-of_statement, ends-more}
 
 pub when_false-else : (stmts : List Labelled) (place end : ℕ) → end ≡ end_of_arm stmts place → is_else_at (slice_get stmts end) ≡ true → met stmts (end + 1) ≡ when_false stmts place
 when_false-else stmts place end is other =
@@ -70,7 +70,7 @@ exit-numbers stmts label place first own len outer s inside is at first_is own_i
     let e = executables-within stmts terminal s there same in
     let l = ap (λ k. length (loops_to stmts k)) (label-of_statement stmts label s at) in
     record {
-      inner = omega (arith, ranks-within stmts label place inside is);
+      inner = omega (arith, ends-more stmts label place (length stmts) is inside);
       fits = omega (arith, e, l, all);
       exit = λ some.
           let value = exit-inner stmts label place inside is s at (omega arith) in

@@ -8,6 +8,7 @@ use Rattle.f77_tree.specs.StatementGrammar.{is_bad_label}
 use Rattle.layout_rules.specs.Faults.{first_after, first_line}
 use Rattle.layout_rules.specs.Labels.{IsLabel, statement_of, is_labelled_twice}
 use Rattle.f77_tree.specs.Grammar.{number_of}
+use Rattle.layout_rules.proofs.StorageLines.{after_clear, after_next}
 
 -- ---- no fault
 
@@ -16,18 +17,10 @@ pub faultless : (fault : List Labelled → Labelled → Bool) (above stmts : Lis
 faultless fault above [] none i s h = let e : None ≡ Some s = h in absurd cc
 faultless fault above (x ∷ rest) none zero s h =
     let same : x ≡ s = cc in
-    ap (λ (xs : List Labelled). fault xs s) (append-nil above) ∙ (ap (fault above) (sym same) ∙ (first (fault above x) x (first_after fault (above ++ x ∷ []) rest) none).0)
-  where
-    first : (b : Bool) (y : Labelled) (o : Option ℕ) → (if b then Some y.line else o) ≡ None → (b ≡ false) × (o ≡ None)
-    first true y o h = let e : Some y.line ≡ None = h in absurd cc
-    first false y o h = (refl, h)
+    ap (λ (xs : List Labelled). fault xs s) (append-nil above) ∙ (ap (fault above) (sym same) ∙ after_clear fault above rest x none)
 faultless fault above (x ∷ rest) none (suc i) s h =
     ap (λ (xs : List Labelled). fault xs s) (sym (append_assoc above (x ∷ []) (take i rest)))
-    ∙ faultless fault (above ++ x ∷ []) rest (next (fault above x) x (first_after fault (above ++ x ∷ []) rest) none) i s h
-  where
-    next : (b : Bool) (y : Labelled) (o : Option ℕ) → (if b then Some y.line else o) ≡ None → o ≡ None
-    next true y o h = let e : Some y.line ≡ None = h in absurd cc
-    next false y o h = h
+    ∙ faultless fault (above ++ x ∷ []) rest (sym (after_next fault above rest x (after_clear fault above rest x none)) ∙ none) i s h
 
 -- ---- places
 

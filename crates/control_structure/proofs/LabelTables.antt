@@ -1,9 +1,11 @@
 -- The table of the places of labels, and what stands there.
-use Rattle.std.proofs.Common.{◌≡◌, ℕ, zero, suc, ◌+◌, ◌<◌, ◌≤◌, Bool, true, false, not, ◌&&◌, ◌||◌, if◌then◌else◌, ◌==◌, List, [], ◌∷◌, ◌⊎◌, inl, inr, length, take, slice_get, get_or, set, Some, None, refl, sym, ap, subst, ◌∙◌, arith}
+use Rattle.std.proofs.Common.{◌≡◌, ℕ, suc, ◌+◌, ◌<◌, ◌≤◌, Bool, true, false, not, ◌&&◌, ◌||◌, if◌then◌else◌, ◌==◌, List, [], ◌∷◌, ◌⊎◌, inl, inr, length, take, slice_get, get_or, set, Some, None, refl, sym, ap, subst, ◌∙◌, arith}
 use Rattle.std.specs.List.{list_any, position_or_len}
-use Rattle.std.proofs.lemmas.Bool.{cases_eq, or_parts, or_cases, or_left, or_right, or_from, and_parts, and_from, eqb-true, eq-eqb, ne_eqb, false_from_ne_true}
-use Rattle.std.proofs.lemmas.List.{get_or-set_same, get_or-set_other, take_all}
-use Rattle.std.proofs.lemmas.Option.{slice_get_within}
+use Rattle.std.proofs.lemmas.Bool.{cases_eq, cases_lt, or_parts, or_cases, or_from, and_parts, and_from, eqb-true, eq-eqb, ne_eqb, false_from_ne_true}
+use Rattle.std.proofs.lemmas.List.{get_or-set_same, get_or-set_other, get_or-take, length-take-le, take_all}
+use Rattle.std.proofs.lemmas.List.Folds.{list_any_at, list_any_more, list_any_none}
+use Rattle.std.proofs.lemmas.List.Sums.{passes_at_first, fails_before_first, prefix_len-le-length}
+use Rattle.std.proofs.lemmas.Option.{slice_get_within, get_or_from_slice_get}
 use Rattle.f77_tree.specs.declared.statements.Labelled.{Labelled}
 use Rattle.f77_tree.specs.declared.statements.Stmt.{Stmt}
 use Rattle.f77_tree.specs.declared.statements.Stmt.TheVariants.{Else}
@@ -28,24 +30,10 @@ any-exists p (x ∷ xs) h = elim (or_cases (p x) (list_any p xs) h) as (λ _. Pa
 ]
 
 pub any-from : {X : Type 0} → (p : X → Bool) (xs : List X) (i : ℕ) (x : X) → slice_get xs i ≡ Some x → p x ≡ true → list_any p xs ≡ true
-any-from p [] i x h is = let e : None ≡ Some x = h in absurd cc
-any-from p (y ∷ ys) zero x h is = let same : y ≡ x = cc in or_left (p y) (list_any p ys) (ap p same ∙ is)
-any-from p (y ∷ ys) (suc i) x h is = or_right (p y) (list_any p ys) (any-from p ys i x h is)
-
-or_assoc : (a b c : Bool) → (a || (b || c)) ≡ ((a || b) || c)
-or_assoc true b c = refl
-or_assoc false b c = refl
-
-or_none : (a : Bool) → (a || false) ≡ a
-or_none true = refl
-or_none false = refl
+any-from p xs i x h is = list_any_at p xs i x (slice_get_within xs i x h) (ap p (get_or_from_slice_get xs i x x h) ∙ is)
 
 pub any-more : {X : Type 0} → (p : X → Bool) (xs : List X) (i : ℕ) (x : X) → slice_get xs i ≡ Some x → list_any p (take (i + 1) xs) ≡ (list_any p (take i xs) || p x)
-any-more p [] i x h = let e : None ≡ Some x = h in absurd cc
-any-more p (y ∷ ys) zero x h = let same : y ≡ x = cc in ap (λ z. p z || false) same ∙ or_none (p x)
-any-more p (y ∷ ys) (suc i) x h =
-    let more : suc i + 1 ≡ suc (i + 1) = omega arith in
-    ap (λ n. list_any p (take n (y ∷ ys))) more ∙ (ap (λ b. p y || b) (any-more p ys i x h) ∙ or_assoc (p y) (list_any p (take i ys)) (p x))
+any-more p xs i x h = list_any_more p xs i x (slice_get_within xs i x h) ∙ ap (λ y. list_any p (take i xs) || p y) (get_or_from_slice_get xs i x x h)
 
 pub position-none : {X : Type 0} → (p : X → Bool) (xs : List X) → list_any p xs ≡ false → position_or_len p xs ≡ length xs
 position-none p [] h = refl
@@ -55,17 +43,21 @@ position-none p (x ∷ xs) h =
 
 -- an earlier place passes
 pub position-before : {X : Type 0} → (p : X → Bool) (xs : List X) (i : ℕ) → list_any p (take i xs) ≡ true → position_or_len p xs < i
-position-before p xs zero h = let e : false ≡ true = h in absurd cc
-position-before p [] (suc i) h = let e : false ≡ true = h in absurd cc
-position-before p (x ∷ xs) (suc i) h = by (p x) refl (λ later. position-before p xs i later)
-  where
-    by : (b : Bool) → p x ≡ b → (list_any p (take i xs) ≡ true → position_or_len p xs < i) → position_or_len p (x ∷ xs) < suc i
-    by true is rest = let e : position_or_len p (x ∷ xs) ≡ 0 = ap (λ (b : Bool). if not b then 1 + position_or_len p xs else 0) is in omega (arith, e)
-    by false is rest =
-        let e : position_or_len p (x ∷ xs) ≡ 1 + position_or_len p xs = ap (λ (b : Bool). if not b then 1 + position_or_len p xs else 0) is in
-        let later : list_any p (take i xs) ≡ true = sym (ap (λ (b : Bool). b || list_any p (take i xs)) is) ∙ h in
-        let less = rest later in
-        omega (arith, e, less)
+position-before p xs i h = elim (cases_lt (position_or_len p xs) i) as (λ _. position_or_len p xs < i) [
+  | inl lt ↦ lt
+  | inr le ↦
+      let many = length-take-le i xs (omega (arith, le, prefix_len-le-length (λ x. not (p x)) xs)) in
+      let none = list_any_none p (take i xs) (λ k d below. let lt : k < i = omega (arith, below, many) in ap p (get_or-take i xs k d lt) ∙ fails_before_first p xs k d (omega (arith, lt, le))) in
+      let e : true ≡ false = sym h ∙ none in
+      absurd cc
+]
+
+-- the first that passes stands no later than another
+pub position-upto : {X : Type 0} → (p : X → Bool) (xs : List X) (i : ℕ) (x : X) → slice_get xs i ≡ Some x → p x ≡ true → position_or_len p xs ≤ i
+position-upto p xs i x h is = elim (cases_lt i (position_or_len p xs)) as (λ _. position_or_len p xs ≤ i) [
+  | inl lt ↦ let e : true ≡ false = sym is ∙ (sym (ap p (get_or_from_slice_get xs i x x h)) ∙ fails_before_first p xs i x lt) in absurd cc
+  | inr le ↦ le
+]
 
 -- ---- the table
 
@@ -166,16 +158,8 @@ target_by : (stmt : Stmt) → (is_executable stmt && not (is_arm stmt)) ≡ is_t
 target_by Else = refl
 target_by _ = refl
 
-position-passes : {X : Type 0} → (p : X → Bool) (xs : List X) (x : X) → slice_get xs (position_or_len p xs) ≡ Some x → p x ≡ true
-position-passes p [] x h = let e : None ≡ Some x = h in absurd cc
-position-passes p (y ∷ ys) x h = by (p y) refl (λ rest. position-passes p ys x rest)
-  where
-    by : (b : Bool) → p y ≡ b → (slice_get ys (position_or_len p ys) ≡ Some x → p x ≡ true) → p x ≡ true
-    by true is rest = let first : position_or_len p (y ∷ ys) ≡ 0 = ap (λ (b : Bool). if not b then 1 + position_or_len p ys else 0) is in
-        let at : Some y ≡ Some x = sym (ap (slice_get (y ∷ ys)) first) ∙ h in
-        let same : y ≡ x = cc in ap p (sym same) ∙ is
-    by false is rest = let later : position_or_len p (y ∷ ys) ≡ suc (position_or_len p ys) = ap (λ (b : Bool). if not b then 1 + position_or_len p ys else 0) is ∙ omega arith in
-        rest (sym (ap (slice_get (y ∷ ys)) later) ∙ h)
+pub position-passes : {X : Type 0} → (p : X → Bool) (xs : List X) (x : X) → slice_get xs (position_or_len p xs) ≡ Some x → p x ≡ true
+position-passes p xs x h = sym (ap p (get_or_from_slice_get xs (position_or_len p xs) x x h)) ∙ passes_at_first p xs x (slice_get_within xs (position_or_len p xs) x h)
 
 module _ (stmts : List Labelled) (once : first_line is_labelled_twice stmts ≡ None) (label : ℕ) (some : label ≡ 0 → ⊥) where
   -- the label stands where it is found

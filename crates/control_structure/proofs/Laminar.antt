@@ -1,5 +1,5 @@
 -- Where all statements are nested right, ranges and arms lie one in the other or apart.
-use Rattle.std.proofs.Common.{◌≡◌, ℕ, zero, suc, ◌+◌, ◌-◌, ◌<◌, ◌≤◌, Bool, true, false, ◌&&◌, if◌then◌else◌, List, [], ◌∷◌, ◌⊎◌, inl, inr, length, slice_get, Option, Some, None, refl, sym, ap, subst, ◌∙◌, arith}
+use Rattle.std.proofs.Common.{◌≡◌, ℕ, zero, suc, ◌+◌, ◌-◌, ◌<◌, ◌≤◌, Bool, true, false, List, [], ◌∷◌, ◌⊎◌, inl, inr, length, slice_get, Some, None, refl, sym, ap, subst, ◌∙◌, arith}
 use Rattle.std.specs.List.{list_any}
 use Rattle.std.proofs.lemmas.Bool.{cases_lt}
 use Rattle.std.proofs.lemmas.Option.{slice_get_within}
@@ -18,7 +18,7 @@ use Rattle.control_structure.specs.Innermost.{AreNested}
 use Rattle.control_structure.specs.OpenStack.{ends_at, begun, kind}
 use Rattle.control_structure.proofs.RoleLemmas.{opened_by, last_of}
 use Rattle.control_structure.proofs.OpenSpans.{OpensAt, after_of, after_entry, AreLabelled, AreFalling, AreWithin, Has, Stands}
-use Rattle.control_structure.proofs.OpenSteps.{held, Keeps-after}
+use Rattle.control_structure.proofs.OpenSteps.{held, Keeps-after, not_refused}
 use Rattle.control_structure.proofs.Walks.{item_at, unnested_from, goes_on, nothing_at_end, AreWithin-nested, AreWithin-held}
 use Rattle.control_structure.proofs.NestingWalk.{IsWalk-begin}
 use Rattle.control_structure.proofs.InnermostSpans.{span_opens, has-top, reaches, last_le}
@@ -30,29 +30,19 @@ pub record StackAt (stmts : List Labelled) (i : ℕ) : Type 0 where
   pub stands : Stands stmts i stack
   pub nested : unnested_from stmts i stack ≡ None
 
-passed : (b d : Bool) (x : Option (List Entry)) (beyond : List Entry) → (if b && d then None else x) ≡ Some beyond → x ≡ Some beyond
-passed true true x beyond h = let e : None ≡ Some beyond = h in absurd cc
-passed true false x beyond h = h
-passed false d x beyond h = h
+turned : (is_last : Bool) (i : ℕ) (p : Opened) (rest beyond : List Entry) (o : Opened) → Some (Block is_last) ≡ Some o → arm_in_place (begun i) is_last p rest ≡ Some beyond → beyond ≡ begun i o ∷ rest
+turned is_last i (Block false) rest beyond o opens h = let same : Block is_last ≡ o = cc in let e : begun i (Block is_last) ∷ rest ≡ beyond = cc in sym e ∙ ap (λ (p : Opened). begun i p ∷ rest) same
+turned is_last i (Block true) rest beyond o opens h = let e : None ≡ Some beyond = h in absurd cc
+turned is_last i (Loop terminal) rest beyond o opens h = let e : None ≡ Some beyond = h in absurd cc
 
--- what is opened stands on top
-on_top : (role : Role) (i label : ℕ) (stack beyond : List Entry) (o : Opened) → opened_by role ≡ Some o → after_role kind (begun i) role label stack ≡ Some beyond → (rest : List Entry) × (beyond ≡ begun i o ∷ rest)
-on_top (BeginLoop terminal) i label stack beyond o opens h = let same : Loop terminal ≡ o = cc in let e : begun i (Loop terminal) ∷ stack ≡ beyond = cc in (stack, sym e ∙ ap (λ (p : Opened). begun i p ∷ stack) same)
-on_top BeginBlock i label stack beyond o opens h = let same : Block false ≡ o = cc in let e : begun i (Block false) ∷ stack ≡ beyond = cc in (stack, sym e ∙ ap (λ (p : Opened). begun i p ∷ stack) same)
+-- what is opened stands on what holds its statement
+on_top : (role : Role) (i label : ℕ) (stack beyond : List Entry) (o : Opened) → opened_by role ≡ Some o → after_role kind (begun i) role label stack ≡ Some beyond → beyond ≡ begun i o ∷ held role stack
+on_top (BeginLoop terminal) i label stack beyond o opens h = let same : Loop terminal ≡ o = cc in let e : begun i (Loop terminal) ∷ stack ≡ beyond = cc in sym e ∙ ap (λ (p : Opened). begun i p ∷ stack) same
+on_top BeginBlock i label stack beyond o opens h = let same : Block false ≡ o = cc in let e : begun i (Block false) ∷ stack ≡ beyond = cc in sym e ∙ ap (λ (p : Opened). begun i p ∷ stack) same
 on_top NextArm i label [] beyond o opens h = let e : None ≡ Some beyond = h in absurd cc
-on_top NextArm i label (top ∷ rest) beyond o opens h = (rest, turned false i top.opened rest beyond o opens h)
-  where
-    turned : (is_last : Bool) (i : ℕ) (p : Opened) (rest beyond : List Entry) (o : Opened) → Some (Block is_last) ≡ Some o → arm_in_place (begun i) is_last p rest ≡ Some beyond → beyond ≡ begun i o ∷ rest
-    turned is_last i (Block false) rest beyond o opens h = let same : Block is_last ≡ o = cc in let e : begun i (Block is_last) ∷ rest ≡ beyond = cc in sym e ∙ ap (λ (p : Opened). begun i p ∷ rest) same
-    turned is_last i (Block true) rest beyond o opens h = let e : None ≡ Some beyond = h in absurd cc
-    turned is_last i (Loop terminal) rest beyond o opens h = let e : None ≡ Some beyond = h in absurd cc
+on_top NextArm i label (top ∷ rest) beyond o opens h = turned false i top.opened rest beyond o opens h
 on_top LastArm i label [] beyond o opens h = let e : None ≡ Some beyond = h in absurd cc
-on_top LastArm i label (top ∷ rest) beyond o opens h = (rest, turned true i top.opened rest beyond o opens h)
-  where
-    turned : (is_last : Bool) (i : ℕ) (p : Opened) (rest beyond : List Entry) (o : Opened) → Some (Block is_last) ≡ Some o → arm_in_place (begun i) is_last p rest ≡ Some beyond → beyond ≡ begun i o ∷ rest
-    turned is_last i (Block false) rest beyond o opens h = let same : Block is_last ≡ o = cc in let e : begun i (Block is_last) ∷ rest ≡ beyond = cc in sym e ∙ ap (λ (p : Opened). begun i p ∷ rest) same
-    turned is_last i (Block true) rest beyond o opens h = let e : None ≡ Some beyond = h in absurd cc
-    turned is_last i (Loop terminal) rest beyond o opens h = let e : None ≡ Some beyond = h in absurd cc
+on_top LastArm i label (top ∷ rest) beyond o opens h = turned true i top.opened rest beyond o opens h
 on_top _ i label stack beyond o opens h = let e : None ≡ Some o = opens in absurd cc
 
 -- a loop on top holds the next statement
@@ -94,26 +84,30 @@ module _ (stmts : List Labelled) (are : AreLabelled stmts) (ended : EndsWithEnd 
       let more : i + 1 ≡ suc i = omega arith in
       subst (λ (n : ℕ). StackAt stmts n) more (record { stack = next.beyond; stands = (Keeps-after stmts are i s.0 s.1 at.stack next.beyond at.stands next.is).stands; nested = next.nested })
 
-  record OpenedAt (h : ℕ) (o : Opened) : Type 0 where
-    rest : List Entry
-    stands : Stands stmts (h + 1) (begun h o ∷ rest)
-    nested : unnested_from stmts (h + 1) (begun h o ∷ rest) ≡ None
+  -- what is open after a statement that opens something: that stands on what holds the statement
+  pub record OpenedAt (h : ℕ) (o : Opened) : Type 0 where
+    pub rest : List Entry
+    pub stands : Stands stmts (h + 1) (begun h o ∷ rest)
+    pub nested : unnested_from stmts (h + 1) (begun h o ∷ rest) ≡ None
+    pub holds : (g : ℕ) (p : Opened) → g < h → OpensAt stmts g p → h < after_of stmts g p → Has g p rest
 
-  opened_stack : (h : ℕ) (o : Opened) → OpensAt stmts h o → OpenedAt h o
+  pub opened_stack : (h : ℕ) (o : Opened) → OpensAt stmts h o → OpenedAt h o
   opened_stack h o opens =
       let lt = slice_get_within stmts h opens.s opens.stands in
+      let role = role_of opens.s.stmt in
       let at = stack_at h (omega (arith, lt)) in
       let next = goes_on stmts h opens.s at.stack opens.stands at.nested in
-      let stands = (Keeps-after stmts are h opens.s opens.stands at.stack next.beyond at.stands next.is).stands in
-      let top = on_top (role_of opens.s.stmt) h opens.s.label at.stack next.beyond o opens.opens (passed (list_any (ends_at opens.s.label) at.stack) (is_no_end (role_of opens.s.stmt)) (after_role kind (begun h) (role_of opens.s.stmt) opens.s.label at.stack) next.beyond next.is) in
+      let keeps = Keeps-after stmts are h opens.s opens.stands at.stack next.beyond at.stands next.is in
+      let top = on_top role h opens.s.label at.stack next.beyond o opens.opens (not_refused (list_any (ends_at opens.s.label) at.stack) (is_no_end role) (after_role kind (begun h) role opens.s.label at.stack) next.beyond next.is) in
       record {
-        rest = top.0;
-        stands = subst (λ (xs : List Entry). Stands stmts (h + 1) xs) top.1 stands;
-        nested = subst (λ (xs : List Entry). unnested_from stmts (h + 1) xs ≡ None) top.1 next.nested;
+        rest = held role at.stack;
+        stands = subst (λ (xs : List Entry). Stands stmts (h + 1) xs) top keeps.stands;
+        nested = subst (λ (xs : List Entry). unnested_from stmts (h + 1) xs ≡ None) top next.nested;
+        holds = λ g p less begins later. keeps.holds g p later (at.stands.covered g p less begins later);
       }
 
   -- END opens nothing
-  before_end : (h : ℕ) (o : Opened) → OpensAt stmts h o → h + 1 < length stmts
+  pub before_end : (h : ℕ) (o : Opened) → OpensAt stmts h o → h + 1 < length stmts
   before_end h o opens = elim (cases_lt (h + 1) (length stmts)) as (λ _. h + 1 < length stmts) [
     | inl lt ↦ lt
     | inr le ↦
@@ -131,7 +125,7 @@ module _ (stmts : List Labelled) (are : AreLabelled stmts) (ended : EndsWithEnd 
       let opened = opened_stack h o opens in
       (AreWithin-nested stmts are ended (h + 1) (begun h o ∷ opened.rest) (before_end h o opens) opened.stands opened.nested).0
 
-  ends_before : (h : ℕ) (o : Opened) → OpensAt stmts h o → after_of stmts h o < length stmts
+  pub ends_before : (h : ℕ) (o : Opened) → OpensAt stmts h o → after_of stmts h o < length stmts
   ends_before h o opens = elim (cases_lt (after_of stmts h o) (length stmts)) as (λ _. after_of stmts h o < length stmts) [
     | inl lt ↦ lt
     | inr le ↦
@@ -146,7 +140,7 @@ module _ (stmts : List Labelled) (are : AreLabelled stmts) (ended : EndsWithEnd 
   ]
 
   -- a DO doesn't end its own range
-  terminal_after : (h terminal : ℕ) → OpensAt stmts h (Loop terminal) → h < statement_of stmts terminal
+  pub terminal_after : (h terminal : ℕ) → OpensAt stmts h (Loop terminal) → h < statement_of stmts terminal
   terminal_after h terminal opens =
       let opened = opened_stack h (Loop terminal) opens in
       let inside = before_end h (Loop terminal) opens in
@@ -154,7 +148,7 @@ module _ (stmts : List Labelled) (are : AreLabelled stmts) (ended : EndsWithEnd 
       let stack : List Entry = begun h (Loop terminal) ∷ opened.rest in
       let next = goes_on stmts (h + 1) s.0 (begun h (Loop terminal) ∷ opened.rest) s.1 opened.nested in
       let within = AreWithin-held stmts are ended (h + 1) s.0 (begun h (Loop terminal) ∷ opened.rest) next.beyond s.1 inside opened.stands next.is next.nested in
-      let all = held-loop (role_of s.0.stmt) (h + 1) s.0.label h terminal opened.rest next.beyond (passed (list_any (ends_at s.0.label) (begun h (Loop terminal) ∷ opened.rest)) (is_no_end (role_of s.0.stmt)) (after_role kind (begun (h + 1)) (role_of s.0.stmt) s.0.label (begun h (Loop terminal) ∷ opened.rest)) next.beyond next.is) in
+      let all = held-loop (role_of s.0.stmt) (h + 1) s.0.label h terminal opened.rest next.beyond (not_refused (list_any (ends_at s.0.label) (begun h (Loop terminal) ∷ opened.rest)) (is_no_end (role_of s.0.stmt)) (after_role kind (begun (h + 1)) (role_of s.0.stmt) s.0.label (begun h (Loop terminal) ∷ opened.rest)) next.beyond next.is) in
       let top = (subst (λ (xs : List Entry). AreWithin stmts (h + 1 + 1) xs) all within).0 in
       omega (arith, top)
 

@@ -8,8 +8,8 @@ pub mod FlowLemmas
 pub mod IncrementLemmas
 pub mod InnermostSpans
 pub mod LabelLemmas
-mod LabelTables
-mod Laminar
+pub mod LabelTables
+pub mod Laminar
 pub mod LoopTables
 pub mod Meeting
 mod NestingWalk

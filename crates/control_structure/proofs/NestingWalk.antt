@@ -1,5 +1,5 @@
 -- What the walk over the statements knows before each.
-use Rattle.std.proofs.Common.{◌≡◌, ℕ, ◌+◌, ◌<◌, ◌≤◌, Bool, true, false, ◌&&◌, if◌then◌else◌, List, [], ◌∷◌, ◌++◌, inl, inr, length, drop, get_or, slice_get, Option, Some, None, refl, sym, ap, subst, ◌∙◌, arith}
+use Rattle.std.proofs.Common.{◌≡◌, ℕ, ◌+◌, ◌<◌, ◌≤◌, true, false, List, [], ◌∷◌, ◌++◌, inl, inr, length, drop, get_or, slice_get, Option, Some, None, refl, sym, ap, subst, ◌∙◌, arith}
 use Rattle.std.specs.List.{list_any}
 use Rattle.std.proofs.lemmas.Bool.{cases_eq}
 use Rattle.std.proofs.lemmas.List.{drop_all, get_or_append_left, get_or_at, length_push}
@@ -20,7 +20,7 @@ use Rattle.control_structure.specs.OpenStack.{ends_at, entries_after, head_of, k
 use Rattle.control_structure.proofs.EntryLemmas.{opens}
 use Rattle.layout_rules.proofs.RoleTests.{is_arm-role}
 use Rattle.control_structure.proofs.OpenSpans.{Stands}
-use Rattle.control_structure.proofs.OpenSteps.{held, Keeps-after}
+use Rattle.control_structure.proofs.OpenSteps.{held, Keeps-after, not_refused}
 use Rattle.control_structure.proofs.SourceLabels.{AreLabelled-source}
 use Rattle.control_structure.proofs.Walks.{unnested_from, line_or_more, unnested-step}
 use Rattle.control_structure.proofs.InnermostSpans.{Covers-innermost, Covers-held}
@@ -56,11 +56,6 @@ IsWalk-fault stmts i s stack heads here walk fault = sym walk.nested ∙ unneste
 
 -- ---- the head of what holds a statement
 
-refused : (b d : Bool) (x : Option (List Entry)) (beyond : List Entry) → (if b && d then None else x) ≡ Some beyond → x ≡ Some beyond
-refused true true x beyond h = let e : None ≡ Some beyond = h in absurd cc
-refused true false x beyond h = h
-refused false d x beyond h = h
-
 ended_head : (stack beyond : List Entry) → after_end_if kind stack ≡ Some beyond → head_of beyond ≡ head_of (drop 1 stack)
 ended_head [] beyond h = let e : None ≡ Some beyond = h in absurd cc
 ended_head (e ∷ rest) beyond h = by e.opened h
@@ -71,7 +66,7 @@ ended_head (e ∷ rest) beyond h = by e.opened h
 
 pub head-ended : (role : Role) (i label : ℕ) (stack beyond : List Entry) → role ≡ EndBlock → entries_after role i label stack ≡ Some beyond → head_of beyond ≡ head_of (held role stack)
 head-ended role i label stack beyond is h =
-    ended_head stack beyond (refused (list_any (ends_at label) stack) true (after_end_if kind stack) beyond (sym (ap (λ (r : Role). entries_after r i label stack) is) ∙ h))
+    ended_head stack beyond (not_refused (list_any (ends_at label) stack) true (after_end_if kind stack) beyond (sym (ap (λ (r : Role). entries_after r i label stack) is) ∙ h))
     ∙ ap (λ (r : Role). head_of (held r stack)) (sym is)
 
 pub head-inside : (role : Role) (stack : List Entry) → (role ≡ EndBlock → ⊥) → turns_arm role ≡ false → head_of stack ≡ head_of (held role stack)

@@ -22,6 +22,12 @@ held LastArm stack = drop 1 stack
 held EndBlock stack = drop 1 stack
 held _ stack = stack
 
+-- what comes of a statement that isn't refused
+pub not_refused : (b d : Bool) (x : Option (List Entry)) (beyond : List Entry) → (if b && d then None else x) ≡ Some beyond → x ≡ Some beyond
+not_refused true true x beyond h = let e : None ≡ Some beyond = h in absurd cc
+not_refused true false x beyond h = h
+not_refused false d x beyond h = h
+
 pub record Keeps (stmts : List Labelled) (i : ℕ) (role : Role) (stack beyond : List Entry) : Type 0 where
   pub stands : Stands stmts (i + 1) beyond
   -- what is after the statement tells how far that reaches which holds it, and that tells of what is first
@@ -195,11 +201,6 @@ module _ (stmts : List Labelled) (are : AreLabelled stmts) (i : ℕ) (s : Labell
   by_role Finish (e ∷ rest) beyond is stands h = no_stack beyond h
   by_role Leave stack beyond is stands h = loops_end Leave stack beyond is refl refl refl stands h
   by_role Plain stack beyond is stands h = loops_end Plain stack beyond is refl refl refl stands h
-
-  not_refused : (b d : Bool) (x : Option (List Entry)) (beyond : List Entry) → (if b && d then None else x) ≡ Some beyond → x ≡ Some beyond
-  not_refused true true x beyond h = no_stack beyond h
-  not_refused true false x beyond h = h
-  not_refused false d x beyond h = h
 
   -- a statement that is nested right keeps all of it
   pub Keeps-after : (stack beyond : List Entry) → Stands stmts i stack → entries_after (role_of s.stmt) i s.label stack ≡ Some beyond → Keeps stmts i (role_of s.stmt) stack beyond

@@ -1,8 +1,9 @@
 -- The list of all ranges and arms, and the jumps that lead into one.
-use Rattle.std.proofs.Common.{◌≡◌, ℕ, zero, suc, ◌+◌, ◌<◌, Bool, true, false, not, ◌&&◌, ◌||◌, nat_lt, nat_le, ◌==◌, get_or, List, [], ◌∷◌, ◌++◌, inl, inr, length, flat_map, slice_get, Option, Some, None, refl, sym, ap, subst, ◌∙◌, arith}
+use Rattle.std.proofs.Common.{◌≡◌, ℕ, ◌+◌, ◌<◌, Bool, true, false, not, ◌&&◌, nat_lt, nat_le, ◌==◌, get_or, List, [], ◌∷◌, inl, inr, length, slice_get, Option, Some, None, refl, sym, ap, subst, ◌∙◌, arith}
 use Rattle.std.specs.List.{list_any, range_with_len}
-use Rattle.std.proofs.lemmas.Bool.{or_cases, or_left, or_right, and_parts, and_from, false_from_ne_true, not-true, eqb-true, ltb-true, leb-true, lt-ltb, le-leb}
-use Rattle.std.proofs.lemmas.Option.{slice_get_within}
+use Rattle.std.proofs.lemmas.Bool.{or_cases, or_left, and_parts, and_from, false_from_ne_true, not-true, eqb-true, ltb-true, leb-true, lt-ltb, le-leb}
+use Rattle.std.proofs.lemmas.List.FromFn.{length-range_with_len, get_or-range_with_len}
+use Rattle.std.proofs.lemmas.Option.{slice_get_within, slice_get_read}
 use Rattle.f77_tree.specs.declared.statements.Labelled.{Labelled}
 use Rattle.layout_rules.specs.declared.nesting.Opened.{Opened}
 use Rattle.layout_rules.specs.Roles.{role_of}
@@ -10,36 +11,12 @@ use Rattle.layout_rules.specs.Jumps.{Span, span_if_any, spans, lies_in, leads_in
 use Rattle.control_structure.specs.Innermost.{IsSpan, LiesWithin, IsInnermostHead, IsInnermost, AreInnermost}
 use Rattle.layout_rules.specs.Labels.{IsBorne, bears, is_arm, is_executable, is_labelled_twice, statement_of}
 use Rattle.control_structure.proofs.RoleLemmas.{opened_by, last_of, span_by, span_of-role}
+use Rattle.layout_rules.proofs.FlatParts.{list_any-flat_map}
 use Rattle.layout_rules.specs.Faults.{first_line}
-use Rattle.control_structure.proofs.LabelTables.{Passes, any-exists, place-own}
+use Rattle.control_structure.proofs.LabelTables.{any-exists, any-from, place-own}
 
--- ---- lists of lists
-
-any-append : {X : Type 0} (q : X → Bool) (xs ys : List X) → list_any q (xs ++ ys) ≡ (list_any q xs || list_any q ys)
-any-append q [] ys = refl
-any-append q (x ∷ xs) ys = ap (λ b. q x || b) (any-append q xs ys) ∙ assoc (q x) (list_any q xs) (list_any q ys)
-  where
-    assoc : (a b c : Bool) → (a || (b || c)) ≡ ((a || b) || c)
-    assoc true b c = refl
-    assoc false b c = refl
-
--- an item of one of the lists passes
-pub any-flat : {A X : Type 0} (q : X → Bool) (f : A → List X) (items : List A) → list_any q (flat_map f items) ≡ true → Passes (λ a. list_any q (f a)) items
-any-flat q f [] h = let e : false ≡ true = h in absurd cc
-any-flat q f (a ∷ rest) h = elim (or_cases (list_any q (f a)) (list_any q (flat_map f rest)) (sym (any-append q (f a) (flat_map f rest)) ∙ h)) as (λ _. Passes (λ a. list_any q (f a)) (a ∷ rest)) [
-  | inl here ↦ record { place = 0; item = a; stands = refl; is = here }
-  | inr later ↦ let found = any-flat q f rest later in record { place = suc found.place; item = found.item; stands = found.stands; is = found.is }
-]
-
-pub flat-any : {A X : Type 0} (q : X → Bool) (f : A → List X) (items : List A) (i : ℕ) (a : A) → slice_get items i ≡ Some a → list_any q (f a) ≡ true → list_any q (flat_map f items) ≡ true
-flat-any q f [] i a h is = let e : None ≡ Some a = h in absurd cc
-flat-any q f (b ∷ rest) zero a h is = let same : b ≡ a = cc in any-append q (f b) (flat_map f rest) ∙ or_left (list_any q (f b)) (list_any q (flat_map f rest)) (ap (λ x. list_any q (f x)) same ∙ is)
-flat-any q f (b ∷ rest) (suc i) a h is = any-append q (f b) (flat_map f rest) ∙ or_right (list_any q (f b)) (list_any q (flat_map f rest)) (flat-any q f rest i a h is)
-
-range_at : (a n i : ℕ) → i < n → slice_get (range_with_len a n) i ≡ Some (a + i)
-range_at a zero i lt = absurd (omega (arith, lt))
-range_at a (suc n) zero lt = ap (λ (k : ℕ). Some k) (omega arith)
-range_at a (suc n) (suc i) lt = range_at (a + 1) n i (omega (arith, lt)) ∙ ap (λ (k : ℕ). Some k) (omega arith)
+range_at : (n i : ℕ) → i < n → slice_get (range_with_len 0 n) i ≡ Some i
+range_at n i lt = let same : 0 + i ≡ i = omega arith in slice_get_read (range_with_len 0 n) n i i (sym (length-range_with_len 0 n)) lt (sym (get_or-range_with_len 0 n i i lt ∙ same))
 
 -- ---- all ranges and arms
 
@@ -65,7 +42,7 @@ passes_at stmts q place (Some s) here h = passes_by stmts q place s (opened_by (
 
 pub span_passes : (stmts : List Labelled) (q : Span → Bool) → list_any q (spans stmts) ≡ true → SpanPasses stmts q
 span_passes stmts q h =
-    let found = any-flat q (λ place. span_if_any stmts place (slice_get stmts place)) (range_with_len 0 (length stmts)) h in
+    let found = any-exists (λ place. list_any q (span_if_any stmts place (slice_get stmts place))) (range_with_len 0 (length stmts)) (sym (list_any-flat_map q (λ place. span_if_any stmts place (slice_get stmts place)) (range_with_len 0 (length stmts))) ∙ h) in
     passes_at stmts q found.item (slice_get stmts found.item) refl found.is
 
 span_inside : (stmts : List Labelled) (span : Span) (s : Option Labelled) → slice_get stmts span.head ≡ s → span_if_any stmts span.head s ≡ span ∷ [] → span.head < length stmts
@@ -77,8 +54,8 @@ head_inside stmts span is = span_inside stmts span (slice_get stmts span.head) r
 
 pub passes_span : (stmts : List Labelled) (q : Span → Bool) (span : Span) → IsSpan stmts span → q span ≡ true → list_any q (spans stmts) ≡ true
 passes_span stmts q span is passes =
-    flat-any q (λ place. span_if_any stmts place (slice_get stmts place)) (range_with_len 0 (length stmts)) span.head span.head (range_at 0 (length stmts) span.head (head_inside stmts span is) ∙ ap (λ (k : ℕ). Some k) (omega arith))
-    (ap (list_any q) is ∙ or_left (q span) false passes)
+    list_any-flat_map q (λ place. span_if_any stmts place (slice_get stmts place)) (range_with_len 0 (length stmts))
+    ∙ any-from (λ place. list_any q (span_if_any stmts place (slice_get stmts place))) (range_with_len 0 (length stmts)) span.head span.head (range_at (length stmts) span.head (head_inside stmts span is)) (ap (list_any q) is ∙ or_left (q span) false passes)
 
 -- ---- jumps
 

@@ -1,8 +1,7 @@
 -- The operations, labels and items of statements.
 use Rattle.std.proofs.Common.{◌≡◌, ℕ, ◌+◌, ◌<◌, min, Bool, List, [], ◌∷◌, length, take, get_or, refl, sym, ap, ◌∙◌, arith}
 use Rattle.std.specs.Prelude.{sum_by}
-use Rattle.std.proofs.lemmas.List.{take_more}
-use Rattle.std.proofs.lemmas.List.Sums.{sum_by-append, sum_by-cons}
+use Rattle.std.proofs.lemmas.List.Sums.{sum_by_more, sum_by-cons}
 use Rattle.op_table.specs.declared.Op.TheVariants.{Truth}
 use Rattle.f77_tree.specs.declared.expressions.Expr.TheVariants.{Input, Apply}
 use Rattle.f77_tree.specs.declared.programs.NameInfo.{NameInfo}
@@ -35,16 +34,10 @@ taken_logical =
     let one = sum_by-cons operations Input [] in
     omega (arith, whole, one)
 
--- one count more
-pub counted-more : {X : Type 0} (f : X → ℕ) (xs : List X) (i : ℕ) (x : X) (count here result : ℕ) → i < length xs → x ≡ get_or xs i x → count ≡ counted (sum_by f (take i xs)) → here ≡ counted (f x) → result ≡ min (count + here) 4294967295 → result ≡ counted (sum_by f (take (i + 1) xs))
-counted-more {X = X} f xs i x count here result inside is count_is here_is result_is =
-    let one : sum_by f (get_or xs i x ∷ []) ≡ 0 + f x = ap (λ (y : X). sum_by f (y ∷ [])) (sym is) in
-    let more = ap (sum_by f) (take_more xs i x inside) ∙ sum_by-append f (take i xs) (get_or xs i x ∷ []) in
-    omega (arith, one, more)
-
 -- one term more
 pub sum-more : {X : Type 0} (f : X → ℕ) (xs : List X) (i : ℕ) (x : X) → i < length xs → x ≡ get_or xs i x → sum_by f (take (i + 1) xs) ≡ sum_by f (take i xs) + f x
-sum-more {X = X} f xs i x inside is =
-    let one : sum_by f (get_or xs i x ∷ []) ≡ 0 + f x = ap (λ (y : X). sum_by f (y ∷ [])) (sym is) in
-    let more = ap (sum_by f) (take_more xs i x inside) ∙ sum_by-append f (take i xs) (get_or xs i x ∷ []) in
-    omega (arith, one, more)
+sum-more f xs i x inside is = sum_by_more f xs i x inside ∙ ap (λ y. sum_by f (take i xs) + f y) (sym is)
+
+-- one count more
+pub counted-more : {X : Type 0} (f : X → ℕ) (xs : List X) (i : ℕ) (x : X) (count here result : ℕ) → i < length xs → x ≡ get_or xs i x → count ≡ counted (sum_by f (take i xs)) → here ≡ counted (f x) → result ≡ min (count + here) 4294967295 → result ≡ counted (sum_by f (take (i + 1) xs))
+counted-more f xs i x count here result inside is count_is here_is result_is = omega (arith, sum-more f xs i x inside is)

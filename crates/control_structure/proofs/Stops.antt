@@ -82,7 +82,7 @@ choice : (b : Bool) (x y n : ℕ) → x ≤ n → y ≤ n → (if b then x else 
 choice true x y n a b = a
 choice false x y n a b = b
 
-end_after-le : (arms : Bool) (inner : ℕ) (stmts : List Labelled) (place : ℕ) → end_after arms inner stmts place ≤ place + length stmts
+pub end_after-le : (arms : Bool) (inner : ℕ) (stmts : List Labelled) (place : ℕ) → end_after arms inner stmts place ≤ place + length stmts
 end_after-le arms inner [] place = omega arith
 end_after-le arms inner (s ∷ rest) place =
     let deeper = end_after-le arms (inner + 1) rest (place + 1) in

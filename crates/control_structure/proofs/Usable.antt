@@ -1,9 +1,7 @@
 -- The statements of a source without the faults of labels and counts, as the executables rely on them.
-use Rattle.std.proofs.Common.{◌≡◌, ℕ, suc, ◌+◌, ◌<◌, Bool, true, false, not, ◌&&◌, ◌==◌, cond, inl, inr, List, [], ◌∷◌, length, get_or, Some, None, All, refl, sym, ap, subst, ◌∙◌, arith}
+use Rattle.std.proofs.Common.{◌≡◌, ℕ, ◌<◌, true, false, not, ◌&&◌, ◌==◌, List, [], get_or, Some, None, All, refl, sym, ap, subst, ◌∙◌, arith}
 use Rattle.std.specs.Prelude.{slice_get}
-use Rattle.std.specs.List.{list_any, position_or_len}
-use Rattle.std.proofs.lemmas.Bool.{and_parts, or_parts, or_cases}
-use Rattle.std.proofs.lemmas.List.Elements.{All-nil, All-cons}
+use Rattle.std.proofs.lemmas.Bool.{and_parts}
 use Rattle.std.proofs.lemmas.Option.{slice_get_within, slice_get-get_or, get_or_from_slice_get}
 use Rattle.f77_tree.specs.declared.statements.Labelled.{Labelled}
 use Rattle.f77_tree.specs.declared.statements.Stmt.{Stmt}
@@ -12,11 +10,11 @@ use Rattle.f77_tree.specs.StatementGrammar.{WrittenStatement, IsStatement, IsGiv
 use Rattle.f77_tree.proofs.Subroutines.{guarded_subroutines}
 use Rattle.layout_rules.specs.Faults.{first_line}
 use Rattle.layout_rules.specs.Source.{IsSource}
-use Rattle.layout_rules.specs.Labels.{bears, used, lacks_label, statement_of, is_executable, is_arm, IsLabel}
+use Rattle.layout_rules.specs.Labels.{IsBorne, bears, used, lacks_label, is_executable, is_arm}
 use Rattle.layout_rules.specs.Tables.{is_simple, has_simple_inner, IsStanding, IsUsable}
-use Rattle.control_structure.proofs.LabelLemmas.{faultless}
+use Rattle.control_structure.proofs.LabelTables.{any-exists, position-upto}
 use Rattle.control_structure.proofs.SourceTrees.{label_is_small, tree_at}
-use Rattle.control_structure.proofs.UsedLabels.{used_labels}
+use Rattle.control_structure.proofs.UsedLabels.{used_borne}
 use Rattle.control_structure.proofs.OwnExecutables.{guarded_simple}
 
 -- ---- after a condition
@@ -47,37 +45,12 @@ inner_given stmt given none =
 
 -- ---- labels
 
-one-more : (b : Bool) (r n : ℕ) → r < n → cond b (1 + r) 0 < suc n
-one-more true r n less = omega arith
-one-more false r n less = omega arith
-
-position-within : {X : Type 0} (p q : X → Bool) → ((x : X) → q x ≡ true → p x ≡ true) → (xs : List X) → list_any q xs ≡ true → position_or_len p xs < length xs
-position-within p q means [] e = let h : false ≡ true = e in absurd cc
-position-within p q means (x ∷ xs) e = elim (or_cases (q x) (list_any q xs) e) as (λ _. position_or_len p (x ∷ xs) < suc (length xs)) [
-  | inl here ↦
-      let at : position_or_len p (x ∷ xs) ≡ 0 = ap (λ (b : Bool). cond (not b) (1 + position_or_len p xs) 0) (means x here) in
-      omega (arith, at)
-  | inr later ↦ one-more (not (p x)) (position_or_len p xs) (length xs) (position-within p q means xs later)
-]
-
 -- a label that is borne is a statement's
-standing : (stmts : List Labelled) (label : ℕ) → list_any (bears label) stmts ≡ true → statement_of stmts label < length stmts
+standing : (stmts : List Labelled) (label : ℕ) → IsBorne stmts label → IsStanding stmts label
 standing stmts label borne =
-    position-within (λ (s : Labelled). s.label == label) (bears label) (λ s e. (and_parts (s.label == label) (is_executable s.stmt) (and_parts ((s.label == label) && is_executable s.stmt) (not (is_arm s.stmt)) e).0).0) stmts borne
-
-not-true : (b : Bool) → not b ≡ false → b ≡ true
-not-true true e = refl
-not-true false e = let h : true ≡ false = e in absurd cc
-
--- no label that is used lacks its statement
-all-standing : (stmts : List Labelled) (labels : List ℕ) → All IsLabel labels → list_any (λ label. not (list_any (bears label) stmts)) labels ≡ false → All (IsStanding stmts) labels
-all-standing stmts [] are none = All-nil (IsStanding stmts)
-all-standing stmts (label ∷ labels) are none =
-    let parts = or_parts (not (list_any (bears label) stmts)) (list_any (λ l. not (list_any (bears l) stmts)) labels) none in
-    let first : IsLabel label = are 0 0 (omega arith) in
-    All-cons (IsStanding stmts) label labels
-    (record { number = first.1; stands = standing stmts label (not-true (list_any (bears label) stmts) parts.0) })
-    (all-standing stmts labels (λ k d below. are (suc k) d (omega arith)) parts.1)
+    let found = any-exists (bears label) stmts borne.1 in
+    let has = (and_parts (found.item.label == label) (is_executable found.item.stmt) (and_parts ((found.item.label == label) && is_executable found.item.stmt) (not (is_arm found.item.stmt)) found.is).0).0 in
+    record { number = borne.0.1; stands = omega (arith, slice_get_within stmts found.place found.item found.stands, position-upto (λ s. s.label == label) stmts found.place found.item found.stands has) }
 
 module _ (stmts : List Labelled) (source : IsSource stmts) where
   usable_at : first_line (lacks_label stmts) stmts ≡ None → (i : ℕ) (s : Labelled) → slice_get stmts i ≡ Some s → IsUsable stmts s
@@ -88,7 +61,7 @@ module _ (stmts : List Labelled) (source : IsSource stmts) where
       record {
         label = label_is_small stmts source i s here;
         inner = (tree_at stmts source i s here).inner;
-        labels = all-standing stmts (used s.stmt) (used_labels stmts source i s here) (faultless (lacks_label stmts) [] stmts none i s here);
+        labels = λ k d below. standing stmts (get_or (used s.stmt) k d) (used_borne stmts source none i s here k d below);
         no_subroutine = no_subroutine;
       }
 

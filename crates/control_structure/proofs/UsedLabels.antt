@@ -1,7 +1,7 @@
 -- Labels that the statements of a source use are numbers from 1 to 99999.
-use Rattle.std.proofs.Common.{◌≡◌, ℕ, ◌+◌, Bool, true, false, List, [], ◌∷◌, map, slice_get, not, Some, None, All, refl, sym, subst}
+use Rattle.std.proofs.Common.{◌≡◌, ℕ, ◌+◌, false, List, [], ◌∷◌, map, slice_get, not, Some, None, All, refl, sym, subst}
 use Rattle.std.specs.List.{list_any}
-use Rattle.std.proofs.lemmas.Bool.{or_parts}
+use Rattle.std.proofs.lemmas.Bool.{or_parts, not-false}
 use Rattle.std.proofs.lemmas.List.Elements.{All-nil, All-cons, All-head, All-tail}
 use Rattle.f77_tree.specs.declared.statements.Labelled.{Labelled}
 use Rattle.f77_tree.specs.declared.statements.RawExpr.{RawExpr}
@@ -66,20 +66,19 @@ used_labels stmts source i s here = (tree_at stmts source i s here).labels
 
 -- ---- labels that stand where they may
 
-used_jumps : (P : ℕ → Type 0) (stmt : Stmt) → All P (used stmt) → All P (jumps stmt)
+pub used_jumps : (P : ℕ → Type 0) (stmt : Stmt) → All P (used stmt) → All P (jumps stmt)
 used_jumps P (Do label variable first last step) h = All-nil P
 used_jumps P _ h = h
-
-not_lacking : (b : Bool) → not b ≡ false → b ≡ true
-not_lacking true h = refl
-not_lacking false h = let e : true ≡ false = h in absurd cc
 
 borne_all : (stmts : List Labelled) (labels : List ℕ) → All IsLabel labels → list_any (λ label. not (list_any (bears label) stmts)) labels ≡ false → All (IsBorne stmts) labels
 borne_all stmts [] are h = All-nil (IsBorne stmts)
 borne_all stmts (label ∷ rest) are h =
     let parts = or_parts (not (list_any (bears label) stmts)) (list_any (λ l. not (list_any (bears l) stmts)) rest) h in
-    All-cons (IsBorne stmts) label rest (All-head IsLabel label rest are, not_lacking (list_any (bears label) stmts) parts.0) (borne_all stmts rest (All-tail IsLabel label rest are) parts.1)
+    All-cons (IsBorne stmts) label rest (All-head IsLabel label rest are, not-false (list_any (bears label) stmts) parts.0) (borne_all stmts rest (All-tail IsLabel label rest are) parts.1)
 
--- where no statement lacks a label the targets of all jumps stand where they may
+-- where no statement lacks a label those that are used stand where they may
+pub used_borne : (stmts : List Labelled) → IsSource stmts → first_line (lacks_label stmts) stmts ≡ None → (i : ℕ) (s : Labelled) → slice_get stmts i ≡ Some s → All (IsBorne stmts) (used s.stmt)
+used_borne stmts source none i s here = borne_all stmts (used s.stmt) (used_labels stmts source i s here) (faultless (lacks_label stmts) [] stmts none i s here)
+
 pub jumps_borne : (stmts : List Labelled) → IsSource stmts → first_line (lacks_label stmts) stmts ≡ None → (i : ℕ) (s : Labelled) → slice_get stmts i ≡ Some s → All (IsBorne stmts) (jumps s.stmt)
-jumps_borne stmts source none i s here = used_jumps (IsBorne stmts) s.stmt (borne_all stmts (used s.stmt) (used_labels stmts source i s here) (faultless (lacks_label stmts) [] stmts none i s here))
+jumps_borne stmts source none i s here = used_jumps (IsBorne stmts) s.stmt (used_borne stmts source none i s here)

@@ -16,17 +16,8 @@ laid_accepted laid (Ok program) is = is
 laid_accepted laid (Err end) is = tt
 
 refused_by : (laid : Result Program LayoutEnd) (end : LayoutEnd) → IsLaidAs laid (Err end) → end ≢ NoMemory → laid ≡ Err end
-refused_by laid (OutOfOrder line) is other = is
-refused_by laid (RealName line) is other = is
-refused_by laid (TypeWrong line) is other = is
-refused_by laid (LayoutWrong line) is other = is
-refused_by laid (LabelTwice line) is other = is
-refused_by laid (LabelMissing line) is other = is
-refused_by laid (BadNesting line) is other = is
-refused_by laid (JumpInto line) is other = is
-refused_by laid (TooManyWords line) is other = is
-refused_by laid (TooManyOps line) is other = is
 refused_by laid NoMemory is other = absurd (other refl)
+refused_by laid _ is other = is
 
 pub laid_refused : (laid result : Result Program LayoutEnd) → IsLaidAs laid result → IfErr result (λ end. end ≢ NoMemory → laid ≡ Err end)
 laid_refused laid (Ok program) is = tt

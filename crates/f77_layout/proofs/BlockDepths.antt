@@ -12,7 +12,7 @@ use Rattle.layout_rules.specs.Layout.{layout}
 use Rattle.layout_rules.specs.Nesting.{open_after, line_or, first_unnested}
 use Rattle.layout_rules.specs.declared.nesting.Opened.{Opened}
 use Rattle.layout_rules.proofs.OpenWalks.{goes_on, nothing-at-end, blocks_in, one_if, after-blocks, heads-block}
-use Rattle.f77_layout.proofs.LaidFacts.{laid-nested}
+use Rattle.f77_layout.proofs.LaidFacts.{laid-faultless}
 
 -- ---- the walk over the statements
 
@@ -59,7 +59,7 @@ walked (t ∷ rest) stack none (suc i) s at =
 
 module _ (stmts : List Labelled) (checked : Bool) (p : Program) (laid : layout stmts checked ≡ Ok p) (i : ℕ) (s : Labelled) (at : slice_get stmts i ≡ Some s) where
   depth : IsDepthAt (blocks_open stmts i) s.stmt
-  depth = walked stmts [] (laid-nested stmts checked p laid) i s at
+  depth = walked stmts [] (laid-faultless stmts checked p laid).nested i s at
 
   pub block-within : (is_arm s.stmt || is_end_if s.stmt) ≡ true → 1 ≤ blocks_open stmts i
   block-within = depth.within

@@ -14,16 +14,18 @@ use Rattle.f77_tree.specs.declared.statements.Stmt.TheVariants.{Program as Progr
 use Rattle.f77_tree.specs.StatementGrammar.{WrittenStatement, IsStatement, statement_of as stmt_of}
 use Rattle.f77_tree.specs.Grammar.{reading}
 use Rattle.layout_rules.specs.Executables.{beyond, first_of, increments, labelled, loops_to, own_executables, own_kinds, executables}
-use Rattle.layout_rules.specs.Labels.{bears, used, lacks_label, statement_of, is_executable, is_arm, IsLabel}
+use Rattle.layout_rules.specs.Labels.{IsBorne, bears, used, statement_of, is_executable, is_arm, IsLabel}
 use Rattle.layout_rules.specs.Layout.{layout, names_of}
 use Rattle.f77_layout.specs.Leading.{IsLedTo}
 use Rattle.layout_rules.specs.Source.{IsSource}
-use Rattle.control_structure.proofs.LabelLemmas.{faultless, statement_of-own}
+use Rattle.control_structure.proofs.LabelLemmas.{statement_of-own}
+use Rattle.control_structure.proofs.LabelTables.{Passes, any-exists}
 use Rattle.control_laws.proofs.LoopPlaces.{length-own_kinds, own-at, end-at}
 use Rattle.control_structure.proofs.SourceTrees.{tree_at}
 use Rattle.control_structure.proofs.Usable.{usable}
-use Rattle.control_structure.proofs.UsedLabels.{used_labels}
-use Rattle.f77_layout.proofs.WellFormedPrograms.{AreFaultless, laid-faultless, laid-is}
+use Rattle.control_structure.proofs.UsedLabels.{used_borne}
+use Rattle.control_structure.proofs.Walks.{item_at}
+use Rattle.f77_layout.proofs.LaidFacts.{AreFaultless, laid-faultless, laid-program}
 
 -- ---- statements have executables
 
@@ -49,30 +51,12 @@ own_some (Init parts) some x a = let h : false ≡ true = x in absurd cc
 own_some (Sub name dummies) some x a = let h : false ≡ true = x in absurd cc
 own_some _ some x a = omega arith
 
--- ---- the statement that bears a label
-
-record Bearer (stmts : List Labelled) (label : ℕ) : Type 0 where
-  place : ℕ
-  statement : Labelled
-  stands : slice_get stmts place ≡ Some statement
-  bears_it : bears label statement ≡ true
-
-bearer : (label : ℕ) (stmts : List Labelled) → list_any (bears label) stmts ≡ true → Bearer stmts label
-bearer label [] e = let h : false ≡ true = e in absurd cc
-bearer label (s ∷ rest) e = by (bears label s) refl (bearer label rest)
-  where
-    by : (b : Bool) → bears label s ≡ b → (list_any (bears label) rest ≡ true → Bearer rest label) → Bearer (s ∷ rest) label
-    by true is next = record { place = 0; statement = s; stands = refl; bears_it = is }
-    by false is next =
-        let found = next (rw (← ap (λ b. b || list_any (bears label) rest) is) e) in
-        record { place = suc found.place; statement = found.statement; stands = found.stands; bears_it = found.bears_it }
-
 module _ (stmts : List Labelled) (checked : Bool) (p : Program) (source : IsSource stmts) (laid : layout stmts checked ≡ Ok p) where
   none : AreFaultless stmts checked
-  none = laid-faultless stmts checked source p laid
+  none = laid-faultless stmts checked p laid
 
   execs_are : executables (names_of stmts) checked stmts ≡ p.execs
-  execs_are = ap (λ (q : Program). q.execs) (laid-is stmts checked source p laid)
+  execs_are = ap (λ (q : Program). q.execs) (laid-program stmts checked p laid)
 
   pub own-stand : (i j : ℕ) (s : Labelled) (kind : ExecKind) → slice_get stmts i ≡ Some s → slice_get (own_kinds (names_of stmts) checked stmts i (first_of stmts i) (beyond stmts i s) s.stmt) j ≡ Some kind → slice_get p.execs (first_of stmts i + j) ≡ Some (record { line = s.line; kind = kind })
   own-stand i j s kind here is =
@@ -87,43 +71,30 @@ module _ (stmts : List Labelled) (checked : Bool) (p : Program) (source : IsSour
   label_is : (label : ℕ) (s : Labelled) → bears label s ≡ true → s.label ≡ label
   label_is label s e = eqb-true s.label label (and_parts (s.label == label) (is_executable s.stmt) (and_parts ((s.label == label) && is_executable s.stmt) (not (is_arm s.stmt)) e).0).0
 
-  used_label : (i j : ℕ) (s : Labelled) (label : ℕ) → slice_get stmts i ≡ Some s → slice_get (used s.stmt) j ≡ Some label → IsLabel label
-  used_label i j s label here is =
-      subst IsLabel (get_or_from_slice_get (used s.stmt) j label label is) (used_labels stmts source i s here j label (slice_get_within (used s.stmt) j label is))
-
-  borne : (i j : ℕ) (s : Labelled) (label : ℕ) → slice_get stmts i ≡ Some s → slice_get (used s.stmt) j ≡ Some label → list_any (bears label) stmts ≡ true
-  borne i j s label here is =
-      let lacks : ℕ → Bool = λ label. not (list_any (bears label) stmts) in
-      let kept : list_any lacks (used s.stmt) ≡ false = faultless (lacks_label stmts) [] stmts none.borne i s here in
-      let not_lacking : lacks label ≡ false = false_from_ne_true (lacks label) (λ e. let h : true ≡ false = sym (any_passes_from_place lacks (used s.stmt) j label is e) ∙ kept in absurd cc) in
-      not-false (list_any (bears label) stmts) not_lacking
-
-  first_item : (xs : List ExecKind) → 1 ≤ length xs → (kind : ExecKind) × (slice_get xs 0 ≡ Some kind)
-  first_item [] some = absurd (omega (arith, some))
-  first_item (kind ∷ xs) some = (kind, refl)
-
-  led : (label : ℕ) → IsLabel label → Bearer stmts label → IsLedTo stmts p.execs label (labelled stmts label)
-  led label is b =
-      let same = label_is label b.statement b.bears_it in
-      let some : b.statement.label ≡ 0 → ⊥ = λ e. is.0 (sym same ∙ e) in
-      let at : statement_of stmts label ≡ b.place = ap (statement_of stmts) (sym same) ∙ statement_of-own stmts none.once b.place b.statement b.stands some in
-      let parts = and_parts ((b.statement.label == label) && is_executable b.statement.stmt) (not (is_arm b.statement.stmt)) b.bears_it in
-      let tree = tree_at stmts source b.place b.statement b.stands in
-      let own = own_kinds (names_of stmts) checked stmts b.place (first_of stmts b.place) (beyond stmts b.place b.statement) b.statement.stmt in
-      let many = length-own_kinds (names_of stmts) checked stmts (usable stmts source none.borne) b.place b.statement b.stands in
-      let one = own_some b.statement.stmt tree.takes (and_parts (b.statement.label == label) (is_executable b.statement.stmt) parts.0).1 (not-true (is_arm b.statement.stmt) parts.1) in
-      let item = first_item own (omega (arith, many, one)) in
+  led : (label : ℕ) → IsLabel label → Passes (bears label) stmts → IsLedTo stmts p.execs label (labelled stmts label)
+  led label number b =
+      let same = label_is label b.item b.is in
+      let some : b.item.label ≡ 0 → ⊥ = λ e. number.0 (sym same ∙ e) in
+      let at : statement_of stmts label ≡ b.place = ap (statement_of stmts) (sym same) ∙ statement_of-own stmts none.once b.place b.item b.stands some in
+      let parts = and_parts ((b.item.label == label) && is_executable b.item.stmt) (not (is_arm b.item.stmt)) b.is in
+      let tree = tree_at stmts source b.place b.item b.stands in
+      let own = own_kinds (names_of stmts) checked stmts b.place (first_of stmts b.place) (beyond stmts b.place b.item) b.item.stmt in
+      let many = length-own_kinds (names_of stmts) checked stmts (usable stmts source none.borne) b.place b.item b.stands in
+      let one = own_some b.item.stmt tree.takes (and_parts (b.item.label == label) (is_executable b.item.stmt) parts.0).1 (not-true (is_arm b.item.stmt) parts.1) in
+      let item = item_at own 0 (omega (arith, many, one)) in
       record {
         place = b.place;
-        statement = b.statement;
+        statement = b.item;
         stands = b.stands;
-        bears_it = b.bears_it;
-        alone = λ j other there e. sym (statement_of-own stmts none.once j other there (λ z. is.0 (sym e ∙ z))) ∙ ap (statement_of stmts) e ∙ at;
+        bears_it = b.is;
+        alone = λ j other there e. sym (statement_of-own stmts none.once j other there (λ z. number.0 (sym e ∙ z))) ∙ ap (statement_of stmts) e ∙ at;
         first = ap (first_of stmts) at;
-        exec = record { line = b.statement.line; kind = item.0 };
-        is = ap (slice_get p.execs) (let e : labelled stmts label ≡ first_of stmts b.place + 0 = omega (arith, ap (first_of stmts) at) in e) ∙ own-stand b.place 0 b.statement item.0 b.stands item.1;
+        exec = record { line = b.item.line; kind = item.0 };
+        is = ap (slice_get p.execs) (let e : labelled stmts label ≡ first_of stmts b.place + 0 = omega (arith, ap (first_of stmts) at) in e) ∙ own-stand b.place 0 b.item item.0 b.stands item.1;
         line = refl;
       }
 
   pub labels-lead : (i j : ℕ) (s : Labelled) (label : ℕ) → slice_get stmts i ≡ Some s → slice_get (used s.stmt) j ≡ Some label → IsLedTo stmts p.execs label (labelled stmts label)
-  labels-lead i j s label here is = led label (used_label i j s label here is) (bearer label stmts (borne i j s label here is))
+  labels-lead i j s label here is =
+      let borne = subst (IsBorne stmts) (get_or_from_slice_get (used s.stmt) j label label is) (used_borne stmts source none.borne i s here j label (slice_get_within (used s.stmt) j label is)) in
+      led label borne.0 (any-exists (bears label) stmts borne.1)

@@ -8,7 +8,6 @@ mod LaidWords
 mod MadePrograms
 mod NamesPlaced
 mod Ranks
-mod Refusals
 mod RisingLines
 mod ToldLines
 pub mod WellFormedPrograms

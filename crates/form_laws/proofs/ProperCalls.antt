@@ -5,7 +5,7 @@ use Rattle.std.specs.List.{list_any}
 use Rattle.std.proofs.lemmas.List.Elements.{All-nil, All-cons, All-head, All-tail}
 use Rattle.std.proofs.lemmas.Bool.Decides.{nat_tests}
 use Rattle.op_table.specs.declared.Op.{Op}
-use Rattle.op_table.specs.declared.Op.TheVariants.{Add, Sub, Mul, Neg, Abs, Pow}
+use Rattle.op_table.specs.declared.Op.TheVariants.{Add}
 use Rattle.op_table.specs.Operators.{arity_of}
 use Rattle.f77_tree.specs.declared.declarations.Kind.{Kind}
 use Rattle.f77_tree.specs.declared.declarations.Kind.TheVariants.{Integer}
@@ -31,11 +31,6 @@ pub record IsAlike (op other : Op) : Type 0 where
 pub in_dialect-alike : (checked : Bool) (op : Op) → IsAlike op (in_dialect checked op)
 in_dialect-alike false op = record { written = refl; as_many = refl; operands = refl; gives = refl }
 in_dialect-alike true Add = record { written = refl; as_many = refl; operands = refl; gives = refl }
-in_dialect-alike true Sub = record { written = refl; as_many = refl; operands = refl; gives = refl }
-in_dialect-alike true Mul = record { written = refl; as_many = refl; operands = refl; gives = refl }
-in_dialect-alike true Neg = record { written = refl; as_many = refl; operands = refl; gives = refl }
-in_dialect-alike true Abs = record { written = refl; as_many = refl; operands = refl; gives = refl }
-in_dialect-alike true Pow = record { written = refl; as_many = refl; operands = refl; gives = refl }
 in_dialect-alike true _ = record { written = refl; as_many = refl; operands = refl; gives = refl }
 
 -- an operator at its operands

@@ -1,11 +1,12 @@
 -- How much a program asks whose statements don't ask too much: labels in computed GO TO, operations, executables.
-use Rattle.std.proofs.Common.{◌≡◌, ℕ, zero, suc, ◌+◌, ◌≤◌, ◌||◌, Bool, true, false, not, cond, if◌then◌else◌, List, [], ◌∷◌, ◌++◌, length, take, All, Option, Some, None, refl, sym, ap, subst, ◌∙◌, append_assoc, append-nil, arith}
+use Rattle.std.proofs.Common.{◌≡◌, ℕ, zero, suc, ◌+◌, ◌≤◌, ◌||◌, Bool, true, false, not, cond, List, [], ◌∷◌, ◌++◌, length, take, get_or, All, Option, Some, None, refl, sym, ap, subst, ◌∙◌, append_assoc, append-nil, arith}
 use Rattle.std.specs.Prelude.{nat_lt, sum_by, slice_get}
 use Rattle.std.specs.List.{range_with_len}
 use Rattle.std.proofs.lemmas.Bool.{or_parts}
 use Rattle.std.proofs.lemmas.Bool.Decides.{nat_tests}
-use Rattle.std.proofs.lemmas.List.{length-map}
-use Rattle.std.proofs.lemmas.List.Sums.{sum_by-cons, sum_by-append}
+use Rattle.std.proofs.lemmas.List.{length-map, length-take-le, take_all}
+use Rattle.std.proofs.lemmas.Option.{slice_get_within, slice_get-get_or}
+use Rattle.std.proofs.lemmas.List.Sums.{sum_by-cons, sum_by-append, sum_by_more}
 use Rattle.std.proofs.lemmas.List.Elements.{All-nil, All-cons}
 use Rattle.f77_tree.specs.declared.programs.NameInfo.{NameInfo}
 use Rattle.f77_tree.specs.declared.programs.ExecKind.{ExecKind}
@@ -20,43 +21,29 @@ use Rattle.f77_tree.specs.Operations.{exec_operations, is_increment, others, sta
 use Rattle.layout_rules.specs.Faults.{first_after, first_line}
 use Rattle.layout_rules.specs.Executables.{own_executables, loops_to, first_of, labelled, beyond, taking, own_kinds, increments, kinds_at, executables_at, executables_if_any, executables}
 use Rattle.layout_rules.specs.Counts.{labels_picked, items_taken, asks_too_much}
-use Rattle.form_laws.proofs.ProperExecutables.{all_joined}
+use Rattle.f77_tree.proofs.Equations.{All-flat}
+use Rattle.layout_rules.proofs.StorageLines.{after_clear, after_next}
 use Rattle.form_laws.proofs.ProperSums.{sum_by-flat_map, sum_by-map, sum_by-places}
-
--- ---- sums that a fault keeps small
-
-module _ (fault : List Labelled → Labelled → Bool) (f : Labelled → ℕ) (gives : (above : List Labelled) (s : Labelled) → fault above s ≡ false → sum_by f above + f s ≤ 4000) where
-  few_after : (above stmts : List Labelled) → sum_by f above ≤ 4000 → first_after fault above stmts ≡ None → sum_by f (above ++ stmts) ≤ 4000
-  few_after above [] few none = subst (λ (xs : List Labelled). sum_by f xs ≤ 4000) (sym (append-nil above)) few
-  few_after above (s ∷ rest) few none = by (fault above s) refl none (few_after (above ++ s ∷ []) rest)
-    where
-      by : (b : Bool) → fault above s ≡ b → (if b then Some s.line else first_after fault (above ++ s ∷ []) rest) ≡ None → (sum_by f (above ++ s ∷ []) ≤ 4000 → first_after fault (above ++ s ∷ []) rest ≡ None → sum_by f ((above ++ s ∷ []) ++ rest) ≤ 4000) → sum_by f (above ++ s ∷ rest) ≤ 4000
-      by true is none more = absurd cc
-      by false is none more =
-          let here = gives above s is in
-          let both = sum_by-append f above (s ∷ []) in
-          let one = sum_by-cons f s [] in
-          subst (λ (xs : List Labelled). sum_by f xs ≤ 4000) (append_assoc above (s ∷ []) rest) (more (omega (arith, here, both, one)) none)
-
-  pub few_in_all : (stmts : List Labelled) → first_line fault stmts ≡ None → sum_by f stmts ≤ 4000
-  few_in_all stmts none = few_after [] stmts (omega arith) none
 
 -- the statement at a place has no fault
 pub none_at : (fault : List Labelled → Labelled → Bool) (above stmts : List Labelled) (k : ℕ) (s : Labelled) → first_after fault above stmts ≡ None → slice_get stmts k ≡ Some s → fault (above ++ take k stmts) s ≡ false
 none_at fault above [] k s none is = absurd cc
-none_at fault above (x ∷ rest) k s none is = by (fault above x) refl none k is (λ j. none_at fault (above ++ x ∷ []) rest j s)
-  where
-    by : (b : Bool) → fault above x ≡ b → (if b then Some x.line else first_after fault (above ++ x ∷ []) rest) ≡ None → (k : ℕ) → slice_get (x ∷ rest) k ≡ Some s → ((j : ℕ) → first_after fault (above ++ x ∷ []) rest ≡ None → slice_get rest j ≡ Some s → fault ((above ++ x ∷ []) ++ take j rest) s ≡ false) → fault (above ++ take k (x ∷ rest)) s ≡ false
-    by true fails none k is more = absurd cc
-    by false passes none zero is more =
-        let same : x ≡ s = cc in
-        subst (λ (xs : List Labelled). fault xs s ≡ false) (sym (append-nil above)) (subst (λ (y : Labelled). fault above y ≡ false) same passes)
-    by false passes none (suc k) is more = subst (λ (xs : List Labelled). fault xs s ≡ false) (append_assoc above (x ∷ []) (take k rest)) (more k none is)
+none_at fault above (x ∷ rest) zero s none is =
+    let same : x ≡ s = cc in
+    ap (λ (xs : List Labelled). fault xs s) (append-nil above) ∙ (ap (fault above) (sym same) ∙ after_clear fault above rest x none)
+none_at fault above (x ∷ rest) (suc k) s none is =
+    ap (λ (xs : List Labelled). fault xs s) (sym (append_assoc above (x ∷ []) (take k rest)))
+    ∙ none_at fault (above ++ x ∷ []) rest k s (sym (after_next fault above rest x (after_clear fault above rest x none)) ∙ none) is
 
-length_before : (xs : List Labelled) (k : ℕ) (x : Labelled) → slice_get xs k ≡ Some x → length (take k xs) ≡ k
-length_before [] k x is = absurd cc
-length_before (y ∷ xs) zero x is = refl
-length_before (y ∷ xs) (suc k) x is = ap suc (length_before xs k x is)
+-- a sum that a fault keeps small, by the last statement
+pub few_in_all : (fault : List Labelled → Labelled → Bool) (f : Labelled → ℕ) → ((above : List Labelled) (s : Labelled) → fault above s ≡ false → sum_by f above + f s ≤ 4000) → (stmts : List Labelled) → first_line fault stmts ≡ None → sum_by f stmts ≤ 4000
+few_in_all fault f gives [] none = omega arith
+few_in_all fault f gives (s ∷ rest) none =
+    let stmts = s ∷ rest in
+    let k = length rest in
+    let few = gives (take k stmts) (get_or stmts k s) (none_at fault [] stmts k (get_or stmts k s) none (slice_get-get_or stmts k s (omega arith))) in
+    let all : take (k + 1) stmts ≡ stmts = take_all (k + 1) stmts (omega arith) in
+    omega (arith, few, sum_by_more f stmts k s (omega arith), ap (sum_by f) all)
 
 module _ (names : List NameInfo) (checked : Bool) (whole : List Labelled) where
   -- ---- what a statement doesn't ask too much of
@@ -101,11 +88,11 @@ module _ (names : List NameInfo) (checked : Bool) (whole : List Labelled) where
       by None is = All-nil (λ (exec : Exec). exec_operations exec.kind ≤ 500)
       by (Some s) is =
           let few = (little (take place whole) s (none_at (asks_too_much names checked whole) [] whole place s none is)).operations in
-          each_few (executables_at names checked whole place s) (subst (λ n. statement_operations (executables_at names checked whole n s) ≤ 500) (length_before whole place s is) few)
+          each_few (executables_at names checked whole place s) (subst (λ n. statement_operations (executables_at names checked whole n s) ≤ 500) (length-take-le place whole (omega (arith, slice_get_within whole place s is))) few)
 
   -- no executable takes more operations than a statement may ask
   pub executables-few_operations : first_line (asks_too_much names checked whole) whole ≡ None → All (λ exec. exec_operations exec.kind ≤ 500) (executables names checked whole)
-  executables-few_operations none = all_joined (λ (exec : Exec). exec_operations exec.kind ≤ 500) (λ place. executables_if_any names checked whole place (slice_get whole place)) (range_with_len 0 (length whole)) (λ place. at_place_few place none)
+  executables-few_operations none = All-flat (λ (exec : Exec). exec_operations exec.kind ≤ 500) (λ place. executables_if_any names checked whole place (slice_get whole place)) (range_with_len 0 (length whole)) (λ k d below. at_place_few (get_or (range_with_len 0 (length whole)) k d) none)
 
   -- ---- labels of computed GO TO
 
@@ -142,17 +129,13 @@ module _ (names : List NameInfo) (checked : Bool) (whole : List Labelled) where
       let second = increment_targets place (first_of whole place + own_executables s.stmt) (loops_to whole s.label) in
       mapped ∙ both ∙ omega (arith, first, second)
 
-  targets_at_place : (place n : ℕ) (s : Labelled) → n ≡ 0 + place → slice_get whole place ≡ Some s → sum_by exec_targets (executables_if_any names checked whole n (slice_get whole n)) ≤ labels_picked s.stmt
-  targets_at_place place n s at is =
-      let same : n ≡ place = omega arith in
-      let found : slice_get whole n ≡ Some s = ap (slice_get whole) same ∙ is in
-      let counts = targets_at n s in
-      subst (λ (o : Option Labelled). sum_by exec_targets (executables_if_any names checked whole n o) ≤ labels_picked s.stmt) (sym found) (omega (arith, counts))
+  targets_at_place : (place : ℕ) (s : Labelled) → slice_get whole place ≡ Some s → sum_by exec_targets (executables_if_any names checked whole place (slice_get whole place)) ≤ labels_picked s.stmt
+  targets_at_place place s is = omega (arith, ap (λ (o : Option Labelled). sum_by exec_targets (executables_if_any names checked whole place o)) is, targets_at place s)
 
   -- at most 4,000 labels stand in computed GO TO
   pub executables-few_targets : first_line (asks_too_much names checked whole) whole ≡ None → sum_by (λ exec. length (targets_of exec.kind)) (executables names checked whole) ≤ 4000
   executables-few_targets none =
       let parts = sum_by-flat_map exec_targets (λ place. executables_if_any names checked whole place (slice_get whole place)) (range_with_len 0 (length whole)) in
-      let places = sum_by-places (λ place. sum_by exec_targets (executables_if_any names checked whole place (slice_get whole place))) (λ s. labels_picked s.stmt) whole 0 targets_at_place in
+      let places = sum_by-places (λ place. sum_by exec_targets (executables_if_any names checked whole place (slice_get whole place))) (λ s. labels_picked s.stmt) whole targets_at_place in
       let few = few_in_all (asks_too_much names checked whole) (λ s. labels_picked s.stmt) (λ above s h. (little above s h).labels) whole none in
       omega (arith, parts, places, few)

@@ -1,5 +1,5 @@
 -- Each executable of a program is one by itself: its expressions have the kinds that their places ask for.
-use Rattle.std.proofs.Common.{◌≡◌, ℕ, ◌+◌, ◌-◌, ◌<◌, inl, inr, ◌&&◌, Bool, true, false, not, List, [], ◌∷◌, ◌++◌, length, map, reverse, All, Option, Some, None, refl, sym, ap, subst, ◌∙◌, arith}
+use Rattle.std.proofs.Common.{◌≡◌, ℕ, ◌+◌, ◌-◌, ◌<◌, inl, inr, ◌&&◌, Bool, true, false, not, List, [], ◌∷◌, ◌++◌, length, map, reverse, get_or, All, Option, Some, None, refl, sym, ap, subst, ◌∙◌, arith}
 use Rattle.std.specs.Prelude.{nat_lt, flat_map, slice_get, filter}
 use Rattle.std.specs.List.{list_all, range_with_len}
 use Rattle.std.specs.Option.{is_some}
@@ -23,6 +23,7 @@ use Rattle.f77_tree.specs.Declarations.{index_of, IsIntegerScalar}
 use Rattle.f77_tree.specs.Kinds.{IsOfKind, IsAssignment, taken_as}
 use Rattle.f77_tree.specs.WellFormed.{IsProperItem, IsDo, IsExecutable}
 use Rattle.f77_tree.proofs.AllLemmas.{All-get}
+use Rattle.f77_tree.proofs.Equations.{All-flat}
 use Rattle.layout_rules.specs.Types.{dims_named, kind_named, is_array_in, is_kind, is_of_kind, kind_in, is_variable, is_target, is_item, is_step, is_kind_of_target, is_well_kinded}
 use Rattle.layout_rules.specs.Appearances.{names_in, names_in_item, names_if_any, appearing}
 use Rattle.layout_rules.specs.Resolved.{resolved, resolved_item, resolved_step, access_of}
@@ -52,10 +53,6 @@ reversed P xs all k d lt =
     let as_many = length-reverse xs in
     let within : k < length xs = omega (arith, as_many, lt) in
     subst P (sym (get_or-reverse xs k d within)) (all (length xs - 1 - k) d (omega (arith, within)))
-
-pub all_joined : {X A : Type 0} (P : A → Type 0) (f : X → List A) (xs : List X) → ((x : X) → All P (f x)) → All P (flat_map f xs)
-all_joined P f [] each = All-nil P
-all_joined P f (x ∷ xs) each = All-append P (f x) (flat_map f xs) (each x) (all_joined P f xs each)
 
 -- the DOs that end at a label are DOs to it
 pub loops : (whole : List Labelled) (label : ℕ) → All (λ d. is_do_in label (slice_get whole d) ≡ true) (loops_to whole label)
@@ -214,4 +211,4 @@ module _ (names : List NameInfo) (checked : Bool) (arrays : List ℕ → Bool) w
 
   -- each executable of statements that fit the table is one by itself
   pub executables-AllExecutable : (whole : List Labelled) → All (λ s. Fits names arrays s.stmt) whole → All (λ exec. IsExecutable names exec.kind) (executables names checked whole)
-  executables-AllExecutable whole all = all_joined (λ (exec : Exec). IsExecutable names exec.kind) (λ place. executables_if_any names checked whole place (slice_get whole place)) (range_with_len 0 (length whole)) (λ place. if_any whole place all)
+  executables-AllExecutable whole all = All-flat (λ (exec : Exec). IsExecutable names exec.kind) (λ place. executables_if_any names checked whole place (slice_get whole place)) (range_with_len 0 (length whole)) (λ k d below. if_any whole (get_or (range_with_len 0 (length whole)) k d) all)

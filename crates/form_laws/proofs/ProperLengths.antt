@@ -72,14 +72,8 @@ module _ (names : List NameInfo) (checked : Bool) (whole : List Labelled) where
       let test = λ (d : ℕ). is_do_in label (slice_get whole d) in
       let backwards = length-reverse (filter test (range_with_len 0 (length whole))) in
       let kept = length-kept test (range_with_len 0 (length whole)) in
-      let places = sum_by-places (λ n. one_if (is_do_in label (slice_get whole n))) (λ d. one_if (is_do_to label d.stmt)) whole 0 at in
+      let places = sum_by-places (λ n. one_if (is_do_in label (slice_get whole n))) (λ d. one_if (is_do_to label d.stmt)) whole (λ k d is. omega (arith, ap (λ (o : Option Labelled). one_if (is_do_in label o)) is)) in
       omega (arith, backwards, kept, places)
-    where
-      at : (k n : ℕ) (d : Labelled) → n ≡ 0 + k → slice_get whole k ≡ Some d → one_if (is_do_in label (slice_get whole n)) ≤ one_if (is_do_to label d.stmt)
-      at k n d same is =
-          let place : n ≡ k = omega arith in
-          let found : slice_get whole n ≡ Some d = ap (slice_get whole) place ∙ is in
-          subst (λ (o : Option Labelled). one_if (is_do_in label o) ≤ one_if (is_do_to label d.stmt)) (sym found) (omega arith)
 
   ends_once : (stmt : Stmt) → IsReadStatement stmt → first_line is_labelled_twice whole ≡ None → sum_by (λ s. one_if (is_do_to s.label stmt)) whole ≤ 1
   ends_once (Do terminal variable first last step) reads none = once_after terminal [] whole reads.3 (omega arith) none
@@ -125,18 +119,14 @@ module _ (names : List NameInfo) (checked : Bool) (whole : List Labelled) where
       let second = length-increments place (first_of whole place + own_executables s.stmt) (loops_to whole s.label) in
       omega (arith, mapped, both, first, second)
 
-  length-at_place : All (λ s. IsReadStatement s.stmt) whole → (place n : ℕ) (s : Labelled) → n ≡ 0 + place → slice_get whole place ≡ Some s → length (executables_if_any names checked whole n (slice_get whole n)) ≤ 2 + items_taken s.stmt + length (loops_to whole s.label)
-  length-at_place reads place n s at is =
-      let same : n ≡ place = omega arith in
-      let found : slice_get whole n ≡ Some s = ap (slice_get whole) same ∙ is in
-      subst (λ (o : Option Labelled). length (executables_if_any names checked whole n o) ≤ 2 + items_taken s.stmt + length (loops_to whole s.label)) (sym found)
-      (length-at n s (All-get (λ s. IsReadStatement s.stmt) whole place s reads is))
+  length-at_place : All (λ s. IsReadStatement s.stmt) whole → (place : ℕ) (s : Labelled) → slice_get whole place ≡ Some s → length (executables_if_any names checked whole place (slice_get whole place)) ≤ 2 + items_taken s.stmt + length (loops_to whole s.label)
+  length-at_place reads place s is = omega (arith, ap (λ (o : Option Labelled). length (executables_if_any names checked whole place o)) is, length-at place s (All-get (λ s. IsReadStatement s.stmt) whole place s reads is))
 
   -- at most 20,000 executables: two for each statement, one for each item of READ, and one for each DO
   pub executables-few : All (λ s. IsReadStatement s.stmt) whole → length whole ≤ 4000 → first_line is_labelled_twice whole ≡ None → first_line (asks_too_much names checked whole) whole ≡ None → length (executables names checked whole) ≤ 20000
   executables-few reads few once little_asked =
       let parts = length-flat_map (λ place. executables_if_any names checked whole place (slice_get whole place)) (range_with_len 0 (length whole)) in
-      let places = sum_by-places (λ place. length (executables_if_any names checked whole place (slice_get whole place))) (λ s. 2 + items_taken s.stmt + length (loops_to whole s.label)) whole 0 (length-at_place reads) in
+      let places = sum_by-places (λ place. length (executables_if_any names checked whole place (slice_get whole place))) (λ s. 2 + items_taken s.stmt + length (loops_to whole s.label)) whole (length-at_place reads) in
       let two = sum_by-two (λ (s : Labelled). 2 + items_taken s.stmt) (λ s. length (loops_to whole s.label)) whole in
       let own = sum_by-constant 2 (λ (s : Labelled). items_taken s.stmt) whole in
       let items = few_in_all (asks_too_much names checked whole) (λ s. items_taken s.stmt) (λ above s h. (little names checked whole above s h).items) whole little_asked in

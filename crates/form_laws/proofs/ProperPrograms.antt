@@ -1,10 +1,11 @@
 -- Each executable of a source without wrong types is one by itself, over the table of its names.
-use Rattle.std.proofs.Common.{◌≡◌, ℕ, suc, ◌+◌, ◌<◌, ◌||◌, Bool, true, false, not, cond, if◌then◌else◌, List, [], ◌∷◌, ◌++◌, length, map, fold, All, Some, None, refl, sym, ap, ◌∙◌, arith}
+use Rattle.std.proofs.Common.{◌≡◌, ℕ, suc, ◌+◌, ◌<◌, ◌||◌, Bool, true, false, not, cond, if◌then◌else◌, List, [], ◌∷◌, ◌++◌, length, map, fold, take, get_or, All, None, refl, sym, ap, ◌∙◌, arith}
 use Rattle.std.specs.Prelude.{◌≤◌, sum_by, flat_map, bytes_eq}
 use Rattle.std.specs.List.{list_any}
 use Rattle.std.proofs.lemmas.Bool.{or_parts, or_left, or_right, not-false}
 use Rattle.std.proofs.lemmas.List.Folds.{list_any-append}
 use Rattle.std.proofs.lemmas.List.Elements.{All-nil, All-cons, All-weaker}
+use Rattle.std.proofs.lemmas.Option.{slice_get-get_or}
 use Rattle.std.proofs.lemmas.Slice.Eq.{bytes_eq-Decides}
 use Rattle.f77_tree.specs.declared.programs.NameInfo.{NameInfo}
 use Rattle.f77_tree.specs.declared.statements.Labelled.{Labelled}
@@ -14,7 +15,7 @@ use Rattle.f77_tree.specs.Control.{targets_of}
 use Rattle.f77_tree.specs.Operations.{HasFewOperations}
 use Rattle.f77_tree.specs.WellFormed.{IsExecutable}
 use Rattle.layout_rules.specs.Source.{IsSource}
-use Rattle.layout_rules.specs.Faults.{first_after, first_line}
+use Rattle.layout_rules.specs.Faults.{first_line}
 use Rattle.layout_rules.specs.Declarations.{is_array}
 use Rattle.layout_rules.specs.Appearances.{appearing, with_name, all_names}
 use Rattle.layout_rules.specs.Types.{is_well_kinded}
@@ -25,21 +26,10 @@ use Rattle.layout_rules.specs.Executables.{executables}
 use Rattle.layout_rules.specs.Layout.{name_info, names_of, placed_names, program}
 use Rattle.symbol_table.proofs.NameEntries.{bytes_eq-sym}
 use Rattle.form_laws.proofs.ProperExpressions.{IsKnown, prefix, rear}
-use Rattle.form_laws.proofs.ProperCounts.{executables-few_operations, executables-few_targets}
+use Rattle.form_laws.proofs.ProperCounts.{none_at, executables-few_operations, executables-few_targets}
 use Rattle.form_laws.proofs.ProperLengths.{executables-few}
 use Rattle.layout_rules.proofs.ProperPlaced.{placed_names-agrees, IsExecutable-placed}
 use Rattle.form_laws.proofs.ProperExecutables.{Fits, executables-AllExecutable}
-
--- ---- statements without a fault
-
--- what the absence of a fault gives holds of each statement
-pub all_without : (fault : List Labelled → Labelled → Bool) (P : Labelled → Type 0) → ((above : List Labelled) (s : Labelled) → fault above s ≡ false → P s) → (above stmts : List Labelled) → first_after fault above stmts ≡ None → All P stmts
-all_without fault P gives above [] none = All-nil P
-all_without fault P gives above (s ∷ rest) none = by (fault above s) refl none (all_without fault P gives (above ++ s ∷ []) rest)
-  where
-    by : (b : Bool) → fault above s ≡ b → (if b then Some s.line else first_after fault (above ++ s ∷ []) rest) ≡ None → (first_after fault (above ++ s ∷ []) rest ≡ None → All P rest) → All P (s ∷ rest)
-    by true is none more = absurd cc
-    by false is none more = All-cons P s rest (gives above s is) (more none)
 
 right_kinds : (names : List NameInfo) (above : List Labelled) (s : Labelled) → has_wrong_type names above s ≡ false → is_well_kinded names s.stmt ≡ true
 right_kinds names above s h = not-false (is_well_kinded names s.stmt) (or_parts (types_twice above s || implies_twice above s || is_beside_none above s) (not (is_well_kinded names s.stmt)) h).1
@@ -96,8 +86,7 @@ each_part P f (x ∷ xs) all = All-cons (λ x. All P (f x)) x xs (prefix P (f x)
 pub source-AllFit : (whole : List Labelled) → IsSource whole → first_line (has_wrong_type (names_of whole)) whole ≡ None → All (λ s. Fits (names_of whole) (is_array whole) s.stmt) whole
 source-AllFit whole source none =
     let known = each_part (IsKnown (names_of whole)) (λ (s : Labelled). appearing (is_array whole) s.stmt) whole (names_of-known whole) in
-    let kinds = all_without (has_wrong_type (names_of whole)) (λ s. is_well_kinded (names_of whole) s.stmt ≡ true) (right_kinds (names_of whole)) [] whole none in
-    λ k d lt. record { reads = (source.trees k d lt).reads; known = known k d lt; kinds = kinds k d lt }
+    λ k d lt. record { reads = (source.trees k d lt).reads; known = known k d lt; kinds = right_kinds (names_of whole) (take k whole) (get_or whole k d) (none_at (has_wrong_type (names_of whole)) [] whole k (get_or whole k d) none (slice_get-get_or whole k d lt)) }
 
 pub source-AllExecutable : (whole : List Labelled) (checked : Bool) → IsSource whole → first_line (has_wrong_type (names_of whole)) whole ≡ None → All (λ exec. IsExecutable (names_of whole) exec.kind) (executables (names_of whole) checked whole)
 source-AllExecutable whole checked source none = executables-AllExecutable (names_of whole) checked (is_array whole) whole (source-AllFit whole source none)

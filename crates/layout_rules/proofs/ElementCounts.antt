@@ -1,5 +1,5 @@
 -- The number of elements of an array.
-use Rattle.std.proofs.Common.{◌≡◌, ℕ, ◌+◌, ◌*◌, ◌<◌, ◌≤◌, ℤ, pos, negsuc, ◌*ℤ◌, ◌≤ℤ◌, nat_abs, Bool, true, false, ◌||◌, List, [], ◌∷◌, length, get_or, drop, ⊎_elim, refl, sym, ap, ◌∙◌, arith}
+use Rattle.std.proofs.Common.{◌≡◌, ℕ, ◌+◌, ◌*◌, ◌<◌, ◌≤◌, pos, ◌*ℤ◌, ◌≤ℤ◌, Bool, true, false, ◌||◌, List, [], ◌∷◌, length, get_or, drop, ⊎_elim, refl, sym, ap, ◌∙◌, arith}
 use Rattle.std.specs.Prelude.{int_lt, nat_lt}
 use Rattle.std.specs.List.{list_any}
 use Rattle.std.proofs.Math.Nat.{mul-le-mul_left, mul_assoc}
@@ -8,6 +8,7 @@ use Rattle.std.proofs.lemmas.Bool.{cases_Bool, or_parts, or_left, or_right, lt-l
 use Rattle.std.proofs.lemmas.List.{at_drop_more}
 use Rattle.f77_tree.specs.declared.declarations.Dim.{Dim}
 use Rattle.f77_tree.specs.Value.{extent as width, size_of}
+use Rattle.f77_tree.proofs.Places.{nonneg}
 use Rattle.layout_rules.specs.Storage.{extent, elements}
 use Rattle.layout_rules.specs.StorageFaults.{are_wrong_dims}
 
@@ -55,12 +56,8 @@ module _ (count : ℕ) (dims : List Dim) (i : ℕ) (dim : Dim) (lt : i < length 
 
 -- ---- the number of elements as f77_tree counts them
 
-nonneg : (z : ℤ) → pos 0 ≤ℤ z → z ≡ pos (nat_abs z)
-nonneg (pos n) h = refl
-nonneg (negsuc n) h = absurd (omega (arith, ints))
-
 -- the number of subscripts, where there is one
-extent-pos : (dim : Dim) → dim.lo ≤ℤ dim.hi → width dim ≡ pos (extent dim)
+pub extent-pos : (dim : Dim) → dim.lo ≤ℤ dim.hi → width dim ≡ pos (extent dim)
 extent-pos dim order =
     let forward : int_lt dim.hi dim.lo ≡ false = grind (arith, ints) in
     rw forward (nonneg (width dim) (omega (arith, ints)))

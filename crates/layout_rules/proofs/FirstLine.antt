@@ -1,24 +1,14 @@
 -- The search for the first fault of a kind, statement by statement. A loop over the statements keeps
 -- `first_line fault stmts ≡ first_after fault (take i stmts) (drop i stmts)`, and what it knows of `take i stmts` tells
 -- whether the statement at i has the fault.
-use Rattle.std.proofs.Common.{◌≡◌, ℕ, ◌+◌, ◌<◌, ◌≤◌, Bool, true, false, ◌||◌, List, [], ◌∷◌, ◌++◌, length, get_or, take, drop, Option, Some, None, refl, sym, ap, ◌∙◌, add-one, drop-cons, append_assoc, append-nil, suc, zero, arith}
+use Rattle.std.proofs.Common.{◌≡◌, ℕ, ◌+◌, ◌<◌, ◌≤◌, Bool, true, false, ◌||◌, List, [], ◌∷◌, ◌++◌, length, get_or, take, drop, Option, Some, None, refl, sym, ap, ◌∙◌, add-one, drop-cons, append_assoc, append-nil, arith}
 use Rattle.std.proofs.Math.Seq.{take-suc}
-use Rattle.std.proofs.lemmas.List.{flat_map_more}
+use Rattle.std.proofs.lemmas.List.{drop_all, flat_map_more}
 use Rattle.std.proofs.lemmas.Option.{get_or_from_slice_get, slice_get-get_or}
 use Rattle.std.specs.Prelude.{flat_map}
 use Rattle.std.specs.List.{list_any}
 use Rattle.f77_tree.specs.declared.statements.Labelled.{Labelled}
 use Rattle.layout_rules.specs.Faults.{first_after, has_repeat, first_answer, answer_or}
-
-pub drop_all : {A : Type 0} (xs : List A) (i : ℕ) → length xs ≤ i → drop i xs ≡ []
-drop_all [] zero le = refl
-drop_all [] (suc i) le = refl
-drop_all (x ∷ xs) zero le = absurd (omega arith)
-drop_all (x ∷ xs) (suc i) le = drop_all xs i (omega arith)
-
-or_assoc : (a b c : Bool) → (a || (b || c)) ≡ (a || b || c)
-or_assoc true b c = refl
-or_assoc false b c = refl
 
 answer_or_assoc : {B : Type 0} (a b c : Option B) → answer_or a (answer_or b c) ≡ answer_or (answer_or a b) c
 answer_or_assoc None b c = refl
@@ -52,7 +42,7 @@ first_after-here fault stmts i s lt is some =
 -- there is no further statement
 pub first_after-end : (fault : List Labelled → Labelled → Bool) (stmts : List Labelled) (i : ℕ) → length stmts ≤ i → first_after fault (take i stmts) (drop i stmts) ≡ None
 first_after-end fault stmts i le =
-    ap (first_after fault (take i stmts)) (drop_all stmts i le)
+    ap (first_after fault (take i stmts)) (drop_all i stmts le)
 
 -- ---- what was met before
 
@@ -62,7 +52,7 @@ has_repeat-append same seen [] ys = ap (λ before. has_repeat same before ys) (s
 has_repeat-append same seen (x ∷ xs) ys =
     ap (λ rest. list_any (same x) seen || rest) (has_repeat-append same (seen ++ x ∷ []) xs ys)
     ∙ ap (λ before. list_any (same x) seen || (has_repeat same (seen ++ x ∷ []) xs || has_repeat same before ys)) (append_assoc seen (x ∷ []) xs)
-    ∙ or_assoc (list_any (same x) seen) (has_repeat same (seen ++ x ∷ []) xs) (has_repeat same (seen ++ x ∷ xs) ys)
+    ∙ grind arith
 
 -- the answer that an earlier item gives holds
 pub first_answer-append : {A B : Type 0} (f : A → Option B) (xs ys : List A) → first_answer f (xs ++ ys) ≡ answer_or (first_answer f xs) (first_answer f ys)

@@ -12,7 +12,9 @@ pub mod OpenWalks
 pub mod ProperPlaced
 pub mod RawRows
 pub mod RightDims
+pub mod RightPlaces
 pub mod RoleTests
 pub mod StandingLemmas
+pub mod StorageBounds
 pub mod StorageLines
 pub mod WordsBefore

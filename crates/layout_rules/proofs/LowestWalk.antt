@@ -1,25 +1,19 @@
 -- The search for the lowest line with a fault, statement by statement. A loop over the statements keeps
 -- `lowest_line fault stmts ≡ lower_line lowest (lowest_after fault (take i stmts) (drop i stmts))`.
-use Rattle.std.proofs.Common.{◌≡◌, ℕ, ◌+◌, ◌<◌, ◌≤◌, min, suc, Bool, true, false, cond, List, [], ◌∷◌, ◌++◌, length, get_or, take, drop, Option, Some, None, ⊎_elim, refl, sym, ap, ◌∙◌, add-one, drop-cons, arith}
+use Rattle.std.proofs.Common.{◌≡◌, ℕ, ◌+◌, ◌<◌, ◌≤◌, min, suc, Bool, true, false, cond, List, [], ◌∷◌, ◌++◌, length, get_or, take, drop, Option, Some, None, refl, sym, ap, ◌∙◌, add-one, drop-cons, arith}
 use Rattle.std.proofs.Math.Seq.{take-suc}
-use Rattle.std.proofs.lemmas.Bool.{cases_lt, lt-ltb, le-ltb}
+use Rattle.std.proofs.lemmas.Bool.Decides.{nat_tests}
+use Rattle.std.proofs.lemmas.List.{drop_all}
 use Rattle.f77_tree.specs.declared.statements.Labelled.{Labelled}
 use Rattle.layout_rules.specs.Faults.{first_after}
 use Rattle.layout_rules.specs.LowestLines.{lower_line, lower_or, lowest_after}
-use Rattle.layout_rules.proofs.FirstLine.{drop_all}
 
 lower-min : (a b : ℕ) → lower_or a (Some b) ≡ min a b
-lower-min a b =
-    ⊎_elim
-    (λ (lt : b < a). ap (λ c. cond c b a) (lt-ltb b a lt) ∙ (let e : b ≡ min a b = omega arith in e))
-    (λ (ge : a ≤ b). ap (λ c. cond c b a) (le-ltb b a ge) ∙ (let e : a ≡ min a b = omega arith in e))
-    (cases_lt b a)
+lower-min a b = grind (arith, nat_tests)
 
 lower-assoc : (a b : ℕ) (o : Option ℕ) → lower_or (lower_or a (Some b)) o ≡ lower_or a (Some (lower_or b o))
 lower-assoc a b None = refl
-lower-assoc a b (Some c) =
-    let middle : min (min a b) c ≡ min a (min b c) = omega arith in
-    lower-min (lower_or a (Some b)) c ∙ ap (λ n. min n c) (lower-min a b) ∙ middle ∙ ap (λ n. min a n) (sym (lower-min b c)) ∙ sym (lower-min a (lower_or b (Some c)))
+lower-assoc a b (Some c) = grind (arith, nat_tests)
 
 -- a line more
 lower_line-one : (low : Option ℕ) (line : ℕ) (rest : Option ℕ) → lower_line low (Some (lower_or line rest)) ≡ lower_line (lower_line low (Some line)) rest
@@ -40,7 +34,7 @@ module _ (fault : List Labelled → Labelled → Bool) (stmts : List Labelled) (
   lowest-next s lt is = rw (add-one, take-suc stmts i s lt, drop-cons stmts i s lt, ← is) (step (fault (take i stmts) s) s.line (lowest_after fault (take i stmts ++ s ∷ []) (drop (suc i) stmts)))
 
   pub lowest-end : length stmts ≤ i → lower_line low (lowest_after fault (take i stmts) (drop i stmts)) ≡ low
-  lowest-end le = ap (λ rest. lower_line low (lowest_after fault (take i stmts) rest)) (drop_all stmts i le) ∙ lower_line-none low
+  lowest-end le = ap (λ rest. lower_line low (lowest_after fault (take i stmts) rest)) (drop_all i stmts le) ∙ lower_line-none low
 
 -- no line is the lowest exactly where none is the first
 pub lowest-none : (fault : List Labelled → Labelled → Bool) (above stmts : List Labelled) → lowest_after fault above stmts ≡ None → first_after fault above stmts ≡ None

@@ -1,7 +1,7 @@
 -- The names of an expression: its own name, and those of its parts.
 use Rattle.std.proofs.Common.{◌≡◌, ℕ, ◌+◌, ◌<◌, ◌≤◌, get_or, map, add-one, Bool, ◌⊎◌, ⊎_elim, List, [], ◌∷◌, ◌++◌, length, take, fold, refl, ap, sym, ◌∙◌}
 use Rattle.std.proofs.Math.Seq.{take-suc}
-use Rattle.std.proofs.lemmas.List.{take_all, flat_map_more}
+use Rattle.std.proofs.lemmas.List.{take_all, flat_map_more, map-append}
 use Rattle.std.proofs.lemmas.List.Sums.{fold-append}
 use Rattle.std.specs.Prelude.{flat_map}
 use mathlib.Core.Former.{Count}
@@ -48,11 +48,7 @@ pub noted_more : {A X S : Type 0} (note : S → A → S) (name : X → A) (start
     → note (fold note start (map name (take i items))) (name x) ≡ fold note start (map name (take (i + 1) items))
 noted_more note name start items i x lt is =
     let more : take (i + 1) items ≡ take i items ++ x ∷ [] = rw (add-one, take-suc items i x lt, ← is) refl in
-    sym (fold-append note start (map name (take i items)) (name x ∷ [])) ∙ ap (fold note start) (map_one name (take i items) x ∙ ap (map name) (sym more))
-  where
-    map_one : {A X : Type 0} (f : X → A) (xs : List X) (x : X) → map f xs ++ f x ∷ [] ≡ map f (xs ++ x ∷ [])
-    map_one f [] x = refl
-    map_one f (y ∷ xs) x = ap (λ rest. f y ∷ rest) (map_one f xs x)
+    sym (fold-append note start (map name (take i items)) (name x ∷ [])) ∙ ap (fold note start) (sym (map-append name (take i items) (x ∷ [])) ∙ ap (map name) (sym more))
 
 -- the names of one item more
 pub noted_flat_more : {A X S : Type 0} (note : S → A → S) (names : X → List A) (start : S) (items : List X) (i : ℕ) (x : X) → i < length items → x ≡ get_or items i x

@@ -39,19 +39,8 @@ module _ (spots : List Spot) (firsts : List ℕ) (all : List Equation) (r name :
   more-right : IsStart spots firsts r None → (low : ℤ) → IsLow spots r low → d ≤ℤ low → AreRight spots firsts all → AreRight spots more all
   more-right none low is_low le right = record {
     kept = right.kept;
-    apart = λ x y fx fy same.
-        ⊎_elim
-        (λ ox. ⊎_elim (λ oy. right.apart x y ox oy same) (λ (e : name ≡ y). absurd (none x ox (same ∙ sym (ap (λ z. storage_at spots z) e) ∙ sym there.together))) (Contains-push_cases firsts name y fy))
-        (λ (e : name ≡ x). ⊎_elim (λ oy. absurd (none y oy (sym same ∙ sym (ap (λ z. storage_at spots z) e) ∙ sym there.together))) (λ (e' : name ≡ y). sym e ∙ e') (Contains-push_cases firsts name y fy))
-        (Contains-push_cases firsts name x fx);
-    begins = λ x y fx lt same.
-        ⊎_elim
-        (λ ox. right.begins x y ox lt same)
-        (λ (e : name ≡ x).
-        let here : distance_at spots name ≡ distance_at spots x = ap (λ z. distance_at spots z) e in
-        let s : storage_at spots r ≡ storage_at spots y = there.together ∙ ap (λ z. storage_at spots z) e ∙ same in
-        omega (arith, ints, there.beyond, is_low.least y lt s))
-        (Contains-push_cases firsts name x fx);
+    apart = λ x y fx fy same. grind (arith, Contains-push_cases firsts name x fx, Contains-push_cases firsts name y fy, right.apart x y, none x, none y, there.together);
+    begins = λ x y fx lt same. grind (arith, ints, Contains-push_cases firsts name x fx, right.begins x y, there.together, there.beyond, is_low.least y lt);
   }
 
   abbrev Tells : Option Part → Type 0

@@ -1,11 +1,11 @@
 -- The storages after one more name of COMMON.
-use Rattle.std.proofs.Common.{◌≡◌, ℕ, ◌+◌, ◌<◌, ⊎_elim, pos, Bool, true, false, cond, ◌==◌, List, [], ◌∷◌, ◌++◌, length, get_or, set, Contains, Option, Some, None, refl, sym, ap, subst, ◌∙◌, arith, append-nil, append_assoc, replicate, take}
+use Rattle.std.proofs.Common.{◌≡◌, ℕ, ◌+◌, ◌<◌, ⊎_elim, pos, Bool, true, false, cond, ◌==◌, List, [], ◌∷◌, ◌++◌, length, get_or, set, Contains, Option, Some, None, refl, sym, ap, subst, ◌∙◌, arith, append-nil, replicate, take}
 use Rattle.std.specs.Prelude.{◌||◌, if◌then◌else◌, fold, flat_map}
 use Rattle.std.specs.List.{list_any}
 use Rattle.std.proofs.lemmas.Bool.{cases_eq, eq-eqb, ne_eqb}
 use Rattle.std.proofs.lemmas.List.{length-set, get_or-set_same, get_or-set_other, length-replicate, get_or-replicate, take_more, flat_map_more}
 use Rattle.std.proofs.lemmas.List.Sums.{fold-append}
-use Rattle.f77_tree.specs.declared.declarations.CommonPart.{CommonPart}
+use Rattle.std.proofs.lemmas.List.Concat.{flat_map-append}
 use Rattle.f77_tree.specs.declared.statements.Labelled.{Labelled}
 use Rattle.layout_rules.specs.Declarations.{all_commons, parts_of}
 use Rattle.f77_tree.specs.declared.programs.NameInfo.{NameInfo}
@@ -51,22 +51,14 @@ module _ (names : List NameInfo) (xs : List Standing) (s : Standing) where
         stood = λ k i. ⊎_elim
             (λ (e : k ≡ s.name).
             subst (λ (j : ℕ). get_or c'.stood.items j false ≡ list_any (λ a. a.name == j) more) (sym e)
-            (ap (λ ys. get_or ys s.name false) stands ∙ get_or-set_same c.stood.items s.name true false (omega (arith, are.each)) ∙ sym (any-push s.name xs s ∙ ap (λ b. list_any (λ a. a.name == s.name) xs || b) (eq-eqb s.name s.name refl) ∙ or-true (list_any (λ a. a.name == s.name) xs))))
-            (λ ne. ap (λ ys. get_or ys k false) stands ∙ get_or-set_other c.stood.items s.name k true false ne ∙ are.stood k i ∙ sym (any-push k xs s ∙ ap (λ b. list_any (λ a. a.name == k) xs || b) (ne_eqb s.name k (λ e. ne (sym e))) ∙ or-false (list_any (λ a. a.name == k) xs)))
+            (ap (λ ys. get_or ys s.name false) stands ∙ get_or-set_same c.stood.items s.name true false (omega (arith, are.each)) ∙ sym (any-push s.name xs s ∙ ap (λ b. list_any (λ a. a.name == s.name) xs || b) (eq-eqb s.name s.name refl) ∙ grind arith)))
+            (λ ne. ap (λ ys. get_or ys k false) stands ∙ get_or-set_other c.stood.items s.name k true false ne ∙ are.stood k i ∙ sym (any-push k xs s ∙ ap (λ b. list_any (λ a. a.name == k) xs || b) (ne_eqb s.name k (λ e. ne (sym e))) ∙ grind arith))
             (cases_eq k s.name);
         lasts = λ block. lasts block ∙ ap (λ l. cond (same_block s.block block) (Some s.name) l) (are.lasts block) ∙ sym (last_now block);
         known = λ block k e. known-now block k (same_block s.block block) (sym (last_now block) ∙ e);
       } in
       rw is_new now
     where
-      or-true : (b : Bool) → (b || true) ≡ true
-      or-true true = refl
-      or-true false = refl
-
-      or-false : (b : Bool) → (b || false) ≡ b
-      or-false true = refl
-      or-false false = refl
-
       known-now : (block : Option (List ℕ)) (k : ℕ) (b : Bool) → cond b (Some s.name) (last_standing block xs) ≡ Some k → k < length names
       known-now block k true h = let same : s.name ≡ k = cc in omega (arith, lt)
       known-now block k false h = are.known block k h
@@ -85,12 +77,8 @@ nothing-stands names c held stood lasts = record {
 commons-next : (stmts : List Labelled) (i : ℕ) (s : Labelled) → i < length stmts → s ≡ get_or stmts i s → all_commons (take (i + 1) stmts) ≡ all_commons (take i stmts) ++ parts_of s.stmt
 commons-next stmts i s lt is = ap all_commons (take_more stmts i s lt ∙ ap (λ x. take i stmts ++ x ∷ []) (sym is)) ∙ sym (flat_map_more (λ (x : Labelled). parts_of x.stmt) [] (take i stmts) s)
 
-flat-append : (names : List NameInfo) (xs ys : List CommonPart) → flat_map (standings_of names) (xs ++ ys) ≡ flat_map (standings_of names) xs ++ flat_map (standings_of names) ys
-flat-append names [] ys = refl
-flat-append names (x ∷ xs) ys = ap (λ zs. standings_of names x ++ zs) (flat-append names xs ys) ∙ sym (append_assoc (standings_of names x) (flat_map (standings_of names) xs) (flat_map (standings_of names) ys))
-
 pub standings-next : (names : List NameInfo) (stmts : List Labelled) (i : ℕ) (s : Labelled) → i < length stmts → s ≡ get_or stmts i s → fold with_standing (standings names (all_commons (take i stmts))) (flat_map (standings_of names) (parts_of s.stmt)) ≡ standings names (all_commons (take (i + 1) stmts))
 standings-next names stmts i s lt is =
     let before = all_commons (take i stmts) in
-    let now : flat_map (standings_of names) (all_commons (take (i + 1) stmts)) ≡ flat_map (standings_of names) before ++ flat_map (standings_of names) (parts_of s.stmt) = ap (flat_map (standings_of names)) (commons-next stmts i s lt is) ∙ flat-append names before (parts_of s.stmt) in
+    let now : flat_map (standings_of names) (all_commons (take (i + 1) stmts)) ≡ flat_map (standings_of names) before ++ flat_map (standings_of names) (parts_of s.stmt) = ap (flat_map (standings_of names)) (commons-next stmts i s lt is) ∙ flat_map-append (standings_of names) before (parts_of s.stmt) in
     sym (ap (fold with_standing []) now ∙ fold-append with_standing [] (flat_map (standings_of names) before) (flat_map (standings_of names) (parts_of s.stmt)))

@@ -20,17 +20,8 @@ up nodes spots name at d node forest lt is below =
 
 -- ---- distances within a storage
 
-fits : (z : ℤ) (n : ℕ) → n ≤ 262145 * 2 ^ 32 → z ≤ℤ pos n → (pos 0 -ℤ z) ≤ℤ pos n → FitsSigned w64 z
-fits z n few low high = omega (arith, ints)
-
 count-few : (spots : List Spot) (k : ℕ) → count_in spots k ≤ length spots
 count-few spots k = count_by-le-length _ spots
-
-pub below-fits : (spots : List Spot) (name other : ℕ) (d : ℤ) → AreNear spots → length spots < 2 ^ 32 → name < length spots → other < length spots → IsBelow spots name other d → FitsSigned w64 d
-below-fits spots name other d near few n o below =
-    let up_to = near other name o n below.together in
-    let down_to = near name other n o (sym below.together) in
-    fits d (262145 * length spots) (omega arith) (omega (arith, ints, count-few spots (storage_at spots other))) (omega (arith, ints, count-few spots (storage_at spots name)))
 
 -- a number of words within all storages
 pub record IsClose (z : ℤ) : Type 0 where
@@ -45,6 +36,11 @@ below-close spots name other d near few n o below =
       low = omega (arith, ints, below.beyond, count-few spots (storage_at spots name));
       high = omega (arith, ints, below.beyond, count-few spots (storage_at spots other));
     }
+
+pub below-fits : (spots : List Spot) (name other : ℕ) (d : ℤ) → AreNear spots → length spots < 2 ^ 32 → name < length spots → other < length spots → IsBelow spots name other d → FitsSigned w64 d
+below-fits spots name other d near few n o below =
+    let close = below-close spots name other d near few n o below in
+    omega (arith, ints, close.low, close.high)
 
 -- the sum as the code computes it
 pub sum-fits : (d o : ℤ) → SFits w64 o → FitsSigned w64 (d +ℤ o) → FitsSigned w64 (d +ℤ to_z w64 (of_z w64 o))

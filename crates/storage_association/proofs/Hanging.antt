@@ -33,27 +33,12 @@ module _ (nodes : List Node) (c r : ℕ) (o : ℤ) where
   hung-other x nc nr = get_or-set_other first_set r x _ no_node nr ∙ get_or-set_other nodes c x _ no_node nc
 
   -- all but the child keep their parents and offsets
-  pub hung-parent : r < length nodes → (x : ℕ) → x ≢ c → (node_at new x).parent ≡ (node_at nodes x).parent
-  hung-parent lt x nc =
-      ⊎_elim
-      (λ e. subst (λ (y : ℕ). (node_at new y).parent ≡ (node_at nodes y).parent) (sym e) (ap (λ (n : Node). n.parent) (hung-root lt)))
-      (λ ne. ap (λ (n : Node). n.parent) (hung-other x nc ne))
-      (cases_eq x r)
-
-  pub hung-offset : r < length nodes → (x : ℕ) → x ≢ c → (node_at new x).offset ≡ (node_at nodes x).offset
-  hung-offset lt x nc =
-      ⊎_elim
-      (λ e. subst (λ (y : ℕ). (node_at new y).offset ≡ (node_at nodes y).offset) (sym e) (ap (λ (n : Node). n.offset) (hung-root lt)))
-      (λ ne. ap (λ (n : Node). n.offset) (hung-other x nc ne))
-      (cases_eq x r)
+  hung-up : r < length nodes → (x : ℕ) → x ≢ c → ((node_at new x).parent ≡ (node_at nodes x).parent) × ((node_at new x).offset ≡ (node_at nodes x).offset)
+  hung-up lt x nc = (grind (arith, hung-root lt, hung-other x nc), grind (arith, hung-root lt, hung-other x nc))
 
   -- all but the root keep their counts
   pub hung-count : c < length nodes → c ≢ r → (x : ℕ) → x ≢ r → (node_at new x).count ≡ (node_at nodes x).count
-  hung-count lt ncr x nr =
-      ⊎_elim
-      (λ e. subst (λ (y : ℕ). (node_at new y).count ≡ (node_at nodes y).count) (sym e) (ap (λ (n : Node). n.count) (hung-child lt ncr)))
-      (λ ne. ap (λ (n : Node). n.count) (hung-other x ne nr))
-      (cases_eq x c)
+  hung-count lt ncr x nr = grind (arith, hung-child lt ncr, hung-other x)
 
 -- ---- the trees afterwards
 
@@ -65,9 +50,7 @@ module _ (nodes : List Node) (spots : List Spot) (e : Equation) (c r : ℕ) (o :
   places = linked spots e
 
   differ : c ≢ r
-  differ e' =
-      let same : storage_at spots c ≡ storage_at spots r = ap (λ x. storage_at spots x) e' in
-      ⊎_elim (λ h. apart (sym h.0 ∙ same ∙ h.1)) (λ h. apart (sym h.1 ∙ sym same ∙ h.0)) ends
+  differ e' = grind (arith, ends, apart)
 
   in_spots : (x : ℕ) → x < length nodes → x < length spots
   in_spots x lt = omega (arith, forest.all)
@@ -82,21 +65,11 @@ module _ (nodes : List Node) (spots : List Spot) (e : Equation) (c r : ℕ) (o :
       let moved : (node_at later c).parent ≡ r = ap (λ (n : Node). n.parent) (hung-child nodes c r o c_known differ) in
       let still : (node_at later c).parent ≡ c = subst (λ (y : ℕ). (node_at later y).parent ≡ y) e' root in
       differ (sym still ∙ moved)
-      in (sym (hung-parent nodes c r o r_known x nc) ∙ root, nc)
+      in (sym (hung-up nodes c r o r_known x nc).0 ∙ root, nc)
 
   -- a root of the one storage or the other is the child or the root
   the-root : (x : ℕ) → x < length nodes → IsRoot nodes x → x ≢ c → (storage_at spots x ≡ storage_at spots e.from) ⊎ (storage_at spots x ≡ storage_at spots e.to) → x ≡ r
-  the-root x lt root nc here =
-      ⊎_elim
-      (λ (h : (storage_at spots c ≡ storage_at spots e.from) × (storage_at spots r ≡ storage_at spots e.to)). ⊎_elim
-      (λ a. absurd (nc (forest.one_root x c lt c_known root c_root (a ∙ sym h.0))))
-      (λ b. forest.one_root x r lt r_known root r_root (b ∙ sym h.1))
-      here)
-      (λ (h : (storage_at spots c ≡ storage_at spots e.to) × (storage_at spots r ≡ storage_at spots e.from)). ⊎_elim
-      (λ a. forest.one_root x r lt r_known root r_root (a ∙ sym h.1))
-      (λ b. absurd (nc (forest.one_root x c lt c_known root c_root (b ∙ sym h.0))))
-      here)
-      ends
+  the-root x lt root nc here = grind (arith, forest.one_root x c lt c_known root c_root, forest.one_root x r lt r_known root r_root, ends)
 
   -- the root's storage is one of the two
   root-there : (storage_at spots r ≡ storage_at spots e.from) ⊎ (storage_at spots r ≡ storage_at spots e.to)
@@ -129,17 +102,11 @@ module _ (nodes : List Node) (spots : List Spot) (e : Equation) (c r : ℕ) (o :
   -- no count falls
   count-stays : (x : ℕ) → x < length nodes → (node_at nodes x).count ≤ (node_at later x).count
   count-stays x lt =
-      ⊎_elim
-      (λ e'. subst (λ (y : ℕ). (node_at nodes y).count ≤ (node_at later y).count) (sym e') (let now : (node_at later r).count ≡ (node_at nodes r).count + (node_at nodes c).count = ap (λ (n : Node). n.count) (hung-root nodes c r o r_known) in omega arith))
-      (λ ne. let same = hung-count nodes c r o c_known differ x ne in omega arith)
-      (cases_eq x r)
+      let now : (node_at later r).count ≡ (node_at nodes r).count + (node_at nodes c).count = ap (λ (n : Node). n.count) (hung-root nodes c r o r_known) in
+      grind (arith, now, hung-count nodes c r o c_known differ x)
 
   later-together : (x : ℕ) → x < length nodes → storage_at places (node_at later x).parent ≡ storage_at places x
-  later-together x lt =
-      ⊎_elim
-      (λ e'. subst (λ (y : ℕ). storage_at places (node_at later y).parent ≡ storage_at places y) (sym e') (ap (λ y. storage_at places y) child-parent ∙ met))
-      (λ ne. ap (λ y. storage_at places y) (hung-parent nodes c r o r_known x ne) ∙ together-after spots e (node_at nodes x).parent x (in_spots (node_at nodes x).parent (forest.parents x lt)) (in_spots x lt) (forest.together x lt))
-      (cases_eq x c)
+  later-together x lt = grind (arith, child-parent, met, hung-up nodes c r o r_known x, together-after spots e (node_at nodes x).parent x (in_spots (node_at nodes x).parent (forest.parents x lt)) (in_spots x lt) (forest.together x lt))
 
   later-after : (x : ℕ) → x < length nodes → distance_at places x ≡ distance_at places (node_at later x).parent +ℤ (node_at later x).offset
   later-after x lt =
@@ -151,8 +118,8 @@ module _ (nodes : List Node) (spots : List Spot) (e : Equation) (c r : ℕ) (o :
       (λ ne.
       let p = (node_at nodes x).parent in
       let old = below-after spots e x p (node_at nodes x).offset (in_spots x lt) (in_spots p (forest.parents x lt)) (record { together = forest.together x lt; beyond = forest.beyond x lt }) in
-      let away = hung-offset nodes c r o r_known x ne in
-      let parent : distance_at places (node_at later x).parent ≡ distance_at places p = ap (λ y. distance_at places y) (hung-parent nodes c r o r_known x ne) in
+      let away = (hung-up nodes c r o r_known x ne).1 in
+      let parent : distance_at places (node_at later x).parent ≡ distance_at places p = ap (λ y. distance_at places y) (hung-up nodes c r o r_known x ne).0 in
       omega (arith, ints, old.beyond))
       (cases_eq x c)
 
@@ -160,53 +127,25 @@ module _ (nodes : List Node) (spots : List Spot) (e : Equation) (c r : ℕ) (o :
   later-one x y i j root root' same =
       let old = roots-left x i root in
       let old' = roots-left y j root' in
-      ⊎_elim
-      (λ s. forest.one_root x y i j old.0 old'.0 s)
-      (λ h. ⊎_elim
-      (λ ab. the-root x i old.0 old.1 (inl ab.0) ∙ sym (the-root y j old'.0 old'.1 (inr ab.1)))
-      (λ ba. the-root x i old.0 old.1 (inr ba.0) ∙ sym (the-root y j old'.0 old'.1 (inl ba.1)))
-      h)
-      (apart-after spots e x y (in_spots x i) (in_spots y j) same)
+      grind (arith, apart-after spots e x y (in_spots x i) (in_spots y j) same, forest.one_root x y i j old.0 old'.0, the-root x i old.0 old.1, the-root y j old'.0 old'.1)
 
   later-counts : (x : ℕ) → x < length nodes → IsRoot later x → (node_at later x).count ≡ count_in places (storage_at places x)
   later-counts x lt root =
       let old = roots-left x lt root in
-      ⊎_elim
-      (λ e'. subst (λ (y : ℕ). (node_at later y).count ≡ count_in places (storage_at places y)) (sym e') root-count)
-      (λ ne. hung-count nodes c r o c_known differ x ne ∙ forest.counts x lt old.0 ∙ sym (others-after spots e x (in_spots x lt) (λ a. ne (the-root x lt old.0 old.1 (inl a))) (λ b. ne (the-root x lt old.0 old.1 (inr b)))))
-      (cases_eq x r)
+      grind (arith, root-count, hung-count nodes c r o c_known differ x, forest.counts x lt old.0, others-after spots e x (in_spots x lt), the-root x lt old.0 old.1)
 
   later-rising : (x : ℕ) → x < length nodes → (node_at later x).parent ≢ x → (node_at later x).count < (node_at later (node_at later x).parent).count
   later-rising x lt ne =
-      ⊎_elim
-      (λ e'. subst (λ (y : ℕ). (node_at later y).count < (node_at later (node_at later y).parent).count) (sym e')
-      (let now : (node_at later r).count ≡ (node_at nodes r).count + (node_at nodes c).count = ap (λ (n : Node). n.count) (hung-root nodes c r o r_known) in
-      let own = hung-count nodes c r o c_known differ c differ in
-      let up : (node_at later (node_at later c).parent).count ≡ (node_at later r).count = ap (λ y. (node_at later y).count) child-parent in
-      omega (arith, forest.some r r_known)))
-      (λ nc.
-      let parent = hung-parent nodes c r o r_known x nc in
-      let nr : x ≢ r = λ e'. ne (parent ∙ subst (λ (y : ℕ). (node_at nodes y).parent ≡ y) (sym e') r_root) in
-      let own = hung-count nodes c r o c_known differ x nr in
-      let old = forest.rising x lt (λ s. ne (parent ∙ s)) in
-      let up : (node_at later (node_at later x).parent).count ≡ (node_at later (node_at nodes x).parent).count = ap (λ y. (node_at later y).count) parent in
-      let stays = count-stays (node_at nodes x).parent (forest.parents x lt) in
-      omega arith)
-      (cases_eq x c)
+      let now : (node_at later r).count ≡ (node_at nodes r).count + (node_at nodes c).count = ap (λ (n : Node). n.count) (hung-root nodes c r o r_known) in
+      grind (arith, child-parent, now, hung-count nodes c r o c_known differ x, hung-count nodes c r o c_known differ c differ, hung-up nodes c r o r_known x, r_root, forest.some r r_known, forest.rising x lt, count-stays (node_at nodes x).parent (forest.parents x lt))
 
   later-parents : (x : ℕ) → x < length nodes → (node_at later x).parent < length nodes
-  later-parents x lt =
-      ⊎_elim
-      (λ e'. subst (λ (y : ℕ). (node_at later y).parent < length nodes) (sym e') (rw child-parent r_known))
-      (λ nc. rw (hung-parent nodes c r o r_known x nc) (forest.parents x lt))
-      (cases_eq x c)
+  later-parents x lt = grind (arith, child-parent, hung-up nodes c r o r_known x, forest.parents x lt)
 
   later-few : (x : ℕ) → x < length nodes → (node_at later x).count ≤ length nodes
   later-few x lt =
-      ⊎_elim
-      (λ e'. subst (λ (y : ℕ). (node_at later y).count ≤ length nodes) (sym e') (let all : count_in places (storage_at places r) ≤ length places = count_by-le-length _ places in omega (arith, root-count, length-after spots e, forest.all)))
-      (λ nr. let own = hung-count nodes c r o c_known differ x nr in omega (arith, forest.few x lt))
-      (cases_eq x r)
+      let all : count_in places (storage_at places r) ≤ length places = count_by-le-length _ places in
+      grind (arith, root-count, length-after spots e, forest.all, all, hung-count nodes c r o c_known differ x, forest.few x lt)
 
   pub forest-after : IsReach e.distance → e.from < length spots → e.to < length spots → IsForest later places
   forest-after reach from to = record {

@@ -1,8 +1,9 @@
 -- The storages after one more equation.
-use Rattle.std.proofs.Common.{◌≡◌, ◌≢◌, ℕ, ◌<◌, ◌^◌, ⊎_elim, ℤ, ◌+ℤ◌, true, false, List, [], ◌∷◌, ◌++◌, length, set, Contains, Option, Some, None, MatchOption, refl, sym, ap, subst, ◌∙◌, arith, w64, FitsSigned}
-use Rattle.std.proofs.lemmas.Int.{ints}
+use Rattle.std.proofs.Common.{◌≡◌, ◌≢◌, ℕ, ◌<◌, ◌^◌, ⊎_elim, ℤ, ◌+ℤ◌, true, false, List, [], ◌∷◌, ◌++◌, length, get_or, set, Contains, Option, Some, None, MatchOption, refl, sym, ap, subst, ◌∙◌, arith, w64, FitsSigned}
+use mir.Val.{SFits}
+use Rattle.std.proofs.lemmas.Int.{ints, to_z-of_z}
 use Rattle.std.proofs.lemmas.Bool.{cases_eq}
-use Rattle.std.proofs.lemmas.List.{length-set, get_or-set_same, get_or-set_other}
+use Rattle.std.proofs.lemmas.List.{length-set, get_or-set_same, get_or-set_other, get_or_read}
 use Rattle.std.proofs.lemmas.List.Sums.{fold_push}
 use Rattle.std.proofs.lemmas.List.Elements.{Contains-push, Contains-append_left, Contains-push_cases}
 use Rattle.f77_tree.specs.Places.{Equation}
@@ -17,11 +18,11 @@ use Rattle.layout_rules.specs.Spots.{storage_at, IsBelow}
 use Rattle.storage_association.specs.Storages.{AreRight, IsStart, IsPart, IsLinked, part_at, no_part, joined_part, moved_part, AreParts, AreStorages}
 use Rattle.layout_rules.proofs.Linking.{length-after, together-after, meet-after}
 use Rattle.storage_association.proofs.Forests.{below-close}
-use Rattle.storage_association.proofs.Joining.{linked-same, close-fits}
+use Rattle.storage_association.proofs.Joining.{linked-same, close-fits, again}
 use Rattle.layout_rules.proofs.Lowest.{lowest-after}
 use Rattle.storage_association.proofs.Parts.{moves, part-other, right-before, tells}
 
-module _ (count : ℕ) (firsts : List ℕ) (all : List Equation) (s : Storages) (held : AreStorages count firsts all s) (e : Equation) (from : e.from < count) (to : e.to < count) where
+module _ {count : ℕ} {firsts : List ℕ} {all : List Equation} {s : Storages} (held : AreStorages count firsts all s) (e : Equation) (first : e.from < length s.parts.items) (second : e.to < length s.parts.items) where
   abbrev before : List Spot
   before = spots_by count all
 
@@ -38,10 +39,10 @@ module _ (count : ℕ) (firsts : List ℕ) (all : List Equation) (s : Storages) 
   length-before = sym held.forest.all ∙ held.names
 
   from_in : e.from < length before
-  from_in = omega (arith, length-before)
+  from_in = omega (arith, length-before, held.parts)
 
   to_in : e.to < length before
-  to_in = omega (arith, length-before)
+  to_in = omega (arith, length-before, held.parts)
 
   known : (x : ℕ) → Contains firsts x → x < length before
   known x h = omega (arith, length-before, held.known x h)
@@ -106,7 +107,7 @@ module _ (count : ℕ) (firsts : List ℕ) (all : List Equation) (s : Storages) 
 
   -- ---- two storages become one
 
-  module _ (nodes : List Node) (c r : ℕ) (o : ℤ) (joined : IsJoined s.forest.nodes.items nodes before e (Hung c r o)) where
+  module _ {nodes : List Node} (c r : ℕ) (o : ℤ) (joined : IsJoined s.forest.nodes.items nodes before e (Hung c r o)) where
     hung : IsHung s.forest.nodes.items nodes before e c r o
     hung = joined.answer
 
@@ -138,16 +139,22 @@ module _ (count : ℕ) (firsts : List ℕ) (all : List Equation) (s : Storages) 
     pub start-fits : s.right ≡ true → (x : ℤ) → (part_at s.parts.items c).start ≡ Some x → FitsSigned w64 (x +ℤ o)
     start-fits right = start-close (part_at s.parts.items c).start ((held.right right).each c hung.child_known hung.child_root).start
 
-    told : s.right ≡ true → MatchOption (joined_part (part_at s.parts.items r) (moved_part (part_at s.parts.items c) o)) (AreRight after firsts more → ⊥) (λ part. IsPart after firsts r part × AreRight after firsts more)
+    -- the part of the new storage, or that the places are wrong
+    abbrev Tells : Option Part → Type 0
+    Tells answer = MatchOption answer (AreRight after firsts more → ⊥) (λ part. IsPart after firsts r part × AreRight after firsts more)
+
+    told : s.right ≡ true → Tells (joined_part (part_at s.parts.items r) (moved_part (part_at s.parts.items c) o))
     told right =
         let old = held.right right in
         tells s.forest.nodes.items nodes before e firsts all c r o held.forest hung known held.linked from_in to_in old.right (part_at s.parts.items r) (part_at s.parts.items c) (old.each r hung.root_known hung.root_root) (old.each c hung.child_known hung.child_root)
 
-    told-none : (answer : Option Part) → answer ≡ None → MatchOption answer (AreRight after firsts more → ⊥) (λ part. IsPart after firsts r part × AreRight after firsts more) → AreRight after firsts more → ⊥
-    told-none answer is h = let now : MatchOption None (AreRight after firsts more → ⊥) (λ part. IsPart after firsts r part × AreRight after firsts more) = subst (λ (a : Option Part). MatchOption a (AreRight after firsts more → ⊥) (λ part. IsPart after firsts r part × AreRight after firsts more)) is h in now
-
-    told-some : (answer : Option Part) (part : Part) → answer ≡ Some part → MatchOption answer (AreRight after firsts more → ⊥) (λ p. IsPart after firsts r p × AreRight after firsts more) → IsPart after firsts r part × AreRight after firsts more
-    told-some answer part is h = let now : MatchOption (Some part) (AreRight after firsts more → ⊥) (λ p. IsPart after firsts r p × AreRight after firsts more) = subst (λ (a : Option Part). MatchOption a (AreRight after firsts more → ⊥) (λ p. IsPart after firsts r p × AreRight after firsts more)) is h in now
+    -- as the code asks for the part of the new storage
+    pub answer-is : {child root under : Part} {answer : Option Part} → child ≡ get_or s.parts.items c child → root ≡ get_or s.parts.items r root → under ≡ moved_part child (again o) → answer ≡ joined_part root under → SFits w64 o → joined_part (part_at s.parts.items r) (moved_part (part_at s.parts.items c) o) ≡ answer
+    answer-is {child} {root} {under} {answer} is_child is_root is_under is_answer fits =
+        let a : child ≡ part_at s.parts.items c = get_or_read s.parts.items c child child-in is_child no_part in
+        let b : root ≡ part_at s.parts.items r = get_or_read s.parts.items r root root-in is_root no_part in
+        let z = to_z-of_z w64 o fits in
+        cc
 
     each-after : s.right ≡ true → (part : Part) → IsPart after firsts r part → (x : ℕ) → x < length nodes → IsRoot nodes x → IsPart after firsts x (part_at (set s.parts.items r part) x)
     each-after right part is x lt root =
@@ -165,7 +172,7 @@ module _ (count : ℕ) (firsts : List ℕ) (all : List Equation) (s : Storages) 
 
     pub held-joined : (s' : Storages) → s'.forest.nodes.items ≡ nodes → s.right ≡ true → (part : Part) → joined_part (part_at s.parts.items r) (moved_part (part_at s.parts.items c) o) ≡ Some part → s'.parts.items ≡ set s.parts.items r part → s'.right ≡ s.right → AreStorages count firsts more s'
     held-joined s' is right part answer parts stays =
-        let now = told-some _ part answer (told right) in
+        let now : IsPart after firsts r part × AreRight after firsts more = subst Tells answer (told right) in
         let there : AreParts nodes (set s.parts.items r part) after firsts more = record { right = now.1; each = each-after right part now.0 } in
         held-after s' (Hung c r o) (rw is joined) (ap length parts ∙ length-set s.parts.items r part ∙ held.parts)
         (λ h. rw (is, parts) there)
@@ -175,7 +182,7 @@ module _ (count : ℕ) (firsts : List ℕ) (all : List Equation) (s : Storages) 
     held-refused s' is right answer parts wrong =
         held-after s' (Hung c r o) (rw is joined) (ap length parts ∙ held.parts)
         (λ h. let impossible : true ≡ false = sym h ∙ wrong in absurd cc)
-        (λ h. told-none _ answer (told right))
+        (λ h. let wrong : AreRight after firsts more → ⊥ = subst Tells answer (told right) in wrong)
 
     pub held-wrong : (s' : Storages) → s'.forest.nodes.items ≡ nodes → s.right ≡ false → s'.parts.items ≡ s.parts.items → s'.right ≡ s.right → AreStorages count firsts more s'
     held-wrong s' is wrong parts stays =

@@ -29,7 +29,7 @@ linked-same spots e same = map-same (united (spot_at spots e.from) (spot_at spot
 
 -- ---- the three answers
 
-module _ (nodes : List Node) (spots : List Spot) (e : Equation) (a b : Rooted) (forest : IsForest nodes spots) (at_a : IsRooted nodes spots e.from a) (at_b : IsRooted nodes spots e.to b) where
+module _ {nodes : List Node} {spots : List Spot} (e : Equation) {a b : Rooted} (forest : IsForest nodes spots) (at_a : IsRooted nodes spots e.from a) (at_b : IsRooted nodes spots e.to b) where
   pub join-same : a.root ≡ b.root → IsJoined nodes nodes spots e (Same (b.distance -ℤ a.distance))
   join-same same =
       let roots : distance_at spots a.root ≡ distance_at spots b.root = ap (λ x. distance_at spots x) same in
@@ -96,14 +96,14 @@ close-fits z close = omega (arith, ints, close.low, close.high)
 reach-fits : (z : ℤ) → IsReach z → SFits w64 z
 reach-fits z reach = omega (arith, ints, reach.low, reach.high)
 
-module _ (p q : ℤ) (near_p : IsClose p) (near_q : IsClose q) where
+module _ {p q : ℤ} (near_p : IsClose p) (near_q : IsClose q) where
   pub gap-fits : FitsSigned w64 (again q -ℤ again p)
   gap-fits = rw (to_z-of_z w64 p (close-fits p near_p), to_z-of_z w64 q (close-fits q near_q)) (omega (arith, ints, near_p.low, near_p.high, near_q.low, near_q.high))
 
   pub gap-is : again (again q -ℤ again p) ≡ q -ℤ p
   gap-is = to_z-of_z w64 (again q -ℤ again p) gap-fits ∙ rw (to_z-of_z w64 p (close-fits p near_p), to_z-of_z w64 q (close-fits q near_q)) refl
 
-  module _ (d : ℤ) (reach : IsReach d) where
+  module _ {d : ℤ} (reach : IsReach d) where
     pub sum-fits : FitsSigned w64 (again p +ℤ again d)
     sum-fits = rw (to_z-of_z w64 p (close-fits p near_p), to_z-of_z w64 d (reach-fits d reach)) (omega (arith, ints, near_p.low, near_p.high, reach.low, reach.high))
 
@@ -124,22 +124,22 @@ module _ (p q : ℤ) (near_p : IsClose p) (near_q : IsClose q) where
 
 -- ---- the code's facts
 
-pub rooted-close : (nodes : List Node) (name : ℕ) (rooted : Rooted) → (trees : AreTrees nodes) → length nodes < 2 ^ 32 → name < length nodes → ((spots : List Spot) → IsForest nodes spots → IsRooted nodes spots name rooted) → IsClose rooted.distance
-rooted-close nodes name rooted trees few lt found =
+pub rooted-close : {nodes : List Node} {name : ℕ} {rooted : Rooted} → (trees : AreTrees nodes) → length nodes < 2 ^ 32 → name < length nodes → ((spots : List Spot) → IsForest nodes spots → IsRooted nodes spots name rooted) → IsClose rooted.distance
+rooted-close {nodes} {name} {rooted} trees few lt found =
     let forest = trees.forest in
     let at = found trees.spots forest in
     below-close trees.spots name rooted.root rooted.distance forest.near (omega (arith, forest.all)) (omega (arith, forest.all)) (omega (arith, forest.all, at.known)) at.below
 
 -- what a call of `hang` tells
-pub told : (nodes items : List Node) (spots : List Spot) (e : Equation) (answer : Joined) (child root : ℕ) (given offset : ℤ) → given ≡ offset → items ≡ hung nodes child root given → answer ≡ Hung child root given → IsJoined nodes (hung nodes child root offset) spots e (Hung child root offset) → IsJoined nodes items spots e answer
-told nodes items spots e answer child root given offset same is says h =
+pub told : {nodes items : List Node} {spots : List Spot} {e : Equation} {answer : Joined} {child root : ℕ} {given offset : ℤ} → given ≡ offset → items ≡ hung nodes child root given → answer ≡ Hung child root given → IsJoined nodes (hung nodes child root offset) spots e (Hung child root offset) → IsJoined nodes items spots e answer
+told {nodes} {items} {spots} {e} {answer} {child} {root} {given} {offset} same is says h =
     let new : hung nodes child root offset ≡ items = ap (hung nodes child root) (sym same) ∙ sym is in
     let now : Hung child root offset ≡ answer = ap (Hung child root) (sym same) ∙ sym says in
     subst (λ (a : Joined). IsJoined nodes items spots e a) now (subst (λ (xs : List Node). IsJoined nodes xs spots e (Hung child root offset)) new h)
 
 -- the equation, as the code passes it
-pub as-passed : (old new : List Node) (spots : List Spot) (from to : ℕ) (d : ℤ) (answer : Joined) → SFits w64 d → IsJoined old new spots (record { from = from; to = to; distance = again d }) answer → IsJoined old new spots (record { from = from; to = to; distance = d }) answer
-as-passed old new spots from to d answer f h = subst (λ (z : ℤ). IsJoined old new spots (record { from = from; to = to; distance = z }) answer) (to_z-of_z w64 d f) h
+pub as-passed : {old new : List Node} {spots : List Spot} {from to : ℕ} {d : ℤ} {answer : Joined} → SFits w64 d → IsJoined old new spots (record { from = from; to = to; distance = again d }) answer → IsJoined old new spots (record { from = from; to = to; distance = d }) answer
+as-passed {old} {new} {spots} {from} {to} {d} {answer} f h = subst (λ (z : ℤ). IsJoined old new spots (record { from = from; to = to; distance = z }) answer) (to_z-of_z w64 d f) h
 
 pub plain-sum : (x o : ℤ) → SFits w64 o → FitsSigned w64 (x +ℤ o) → FitsSigned w64 (x +ℤ again o)
 plain-sum x o f h = rw (to_z-of_z w64 o f) h

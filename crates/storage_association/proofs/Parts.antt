@@ -1,5 +1,5 @@
 -- What is known of a storage after an equation joined two.
-use Rattle.std.proofs.Common.{◌≡◌, ◌≢◌, ℕ, ◌<◌, ◌⊎◌, inl, inr, ⊎_elim, ℤ, ◌+ℤ◌, ◌-ℤ◌, ◌≤ℤ◌, Bool, true, false, cond, List, [], ◌∷◌, ◌++◌, length, Contains, Option, Some, None, MatchOption, refl, sym, ap, subst, ◌∙◌, arith}
+use Rattle.std.proofs.Common.{◌≡◌, ◌≢◌, ℕ, ◌<◌, ◌⊎◌, ⊎_elim, ℤ, ◌+ℤ◌, ◌-ℤ◌, ◌≤ℤ◌, Bool, true, false, cond, List, [], ◌∷◌, ◌++◌, length, Contains, Option, Some, None, MatchOption, refl, sym, ap, subst, ◌∙◌, arith}
 use Rattle.std.specs.Int.{int_min}
 use Rattle.std.proofs.lemmas.Int.{ints}
 use Rattle.std.proofs.lemmas.Bool.{cases_eq, cases_Bool}
@@ -31,25 +31,11 @@ module _ (old new : List Node) (spots : List Spot) (e : Equation) (firsts : List
 
   -- the names of the new storage are those of the two
   either : (y : ℕ) → y < length spots → storage_at after r ≡ storage_at after y → (storage_at spots c ≡ storage_at spots y) ⊎ (storage_at spots r ≡ storage_at spots y)
-  either y lt same =
-      ⊎_elim
-      (λ s. inr s)
-      (λ h. ⊎_elim
-      (λ ab. ⊎_elim (λ ends. absurd (hung.apart (sym ab.0 ∙ ends.1))) (λ ends. inl (ends.0 ∙ sym ab.1)) hung.ends)
-      (λ ba. ⊎_elim (λ ends. inl (ends.0 ∙ sym ba.1)) (λ ends. absurd (hung.apart (sym ends.1 ∙ ba.0))) hung.ends)
-      h)
-      (apart-after spots e r y r_in lt same)
+  either y lt same = grind (arith, apart-after spots e r y r_in lt same, hung.ends, hung.apart)
 
   -- names of another storage were in it before
   others : (x y : ℕ) → x < length spots → y < length spots → storage_at spots x ≢ storage_at spots c → storage_at spots x ≢ storage_at spots r → storage_at after x ≡ storage_at after y → storage_at spots x ≡ storage_at spots y
-  others x y i j nc nr same =
-      ⊎_elim
-      (λ s. s)
-      (λ h. ⊎_elim
-      (λ ab. ⊎_elim (λ ends. absurd (nc (ab.0 ∙ sym ends.0))) (λ ends. absurd (nr (ab.0 ∙ sym ends.1))) hung.ends)
-      (λ ba. ⊎_elim (λ ends. absurd (nr (ba.0 ∙ sym ends.1))) (λ ends. absurd (nc (ba.0 ∙ sym ends.0))) hung.ends)
-      h)
-      (apart-after spots e x y i j same)
+  others x y i j nc nr same = grind (arith, apart-after spots e x y i j same, hung.ends)
 
   pub moves : (y : ℕ) (d : ℤ) → y < length spots → IsBelow spots y c d → IsBelow after y r (d +ℤ o)
   moves y d lt below =
@@ -128,14 +114,7 @@ module _ (old new : List Node) (spots : List Spot) (e : Equation) (firsts : List
 
   module _ (right : AreRight spots firsts all) (one : OneBlock) where
     firsts-apart : (x y : ℕ) → Contains firsts x → Contains firsts y → storage_at after x ≡ storage_at after y → x ≡ y
-    firsts-apart x y fx fy same =
-        ⊎_elim
-        (λ s. right.apart x y fx fy s)
-        (λ h. ⊎_elim
-        (λ ab. ⊎_elim (λ ends. absurd (one x y fx fy (ab.0 ∙ sym ends.0) (ab.1 ∙ sym ends.1))) (λ ends. absurd (one y x fy fx (ab.1 ∙ sym ends.0) (ab.0 ∙ sym ends.1))) hung.ends)
-        (λ ba. ⊎_elim (λ ends. absurd (one y x fy fx (ba.1 ∙ sym ends.0) (ba.0 ∙ sym ends.1))) (λ ends. absurd (one x y fx fy (ba.0 ∙ sym ends.0) (ba.1 ∙ sym ends.1))) hung.ends)
-        h)
-        (apart-after spots e x y (known x fx) (known y fy) same)
+    firsts-apart x y fx fy same = grind (arith, apart-after spots e x y (known x fx) (known y fy) same, right.apart x y fx fy, one x y fx fy, one y x fy fx, hung.ends)
 
     -- a first name of the new storage begins with its lowest word
     begins-here : (start : Option ℤ) (low : ℤ) → IsStart after firsts r start → starts_right start low ≡ true → IsLow after r low → (x y : ℕ) → Contains firsts x → y < length after → storage_at after x ≡ storage_at after r → storage_at after x ≡ storage_at after y → distance_at after x ≤ℤ distance_at after y

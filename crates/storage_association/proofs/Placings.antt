@@ -1,20 +1,16 @@
 -- EQUIVALENCE statements, one after another.
-use Rattle.std.proofs.Common.{◌≡◌, ℕ, ◌+◌, ◌<◌, ◌≤◌, true, ⊎_elim, List, [], ◌∷◌, ◌++◌, length, get_or, take, Some, refl, sym, ap, subst, ◌∙◌, arith, append_assoc, append-nil}
+use Rattle.std.proofs.Common.{◌≡◌, ℕ, ◌+◌, ◌<◌, ◌≤◌, true, ⊎_elim, List, [], ◌∷◌, ◌++◌, length, get_or, take, Some, sym, ap, subst, ◌∙◌, arith, append_assoc, append-nil}
 use Rattle.std.specs.Prelude.{flat_map, slice_get}
 use Rattle.std.proofs.lemmas.Bool.{cases_eq}
 use Rattle.std.proofs.lemmas.List.{take_all, take_more, flat_map_more}
+use Rattle.std.proofs.lemmas.List.Concat.{flat_map-append}
 use Rattle.std.proofs.lemmas.Option.{slice_get-get_or}
-use Rattle.f77_tree.specs.declared.declarations.Member.{Member}
 use Rattle.f77_tree.specs.declared.programs.NameInfo.{NameInfo}
 use Rattle.f77_tree.specs.declared.statements.Labelled.{Labelled}
 use Rattle.layout_rules.specs.Declarations.{all_commons, all_groups, groups_of}
 use Rattle.layout_rules.specs.Storage.{common_equations, group_equations, equations}
 use Rattle.layout_rules.specs.StorageFaults.{is_equivalence}
 use Rattle.storage_association.specs.CommonStorages.{equations_to, AreRightTo, StayRight}
-
-flat-append : (names : List NameInfo) (xs ys : List (List Member)) → flat_map (group_equations names) (xs ++ ys) ≡ flat_map (group_equations names) xs ++ flat_map (group_equations names) ys
-flat-append names [] ys = refl
-flat-append names (x ∷ xs) ys = ap (λ zs. group_equations names x ++ zs) (flat-append names xs ys) ∙ sym (append_assoc (group_equations names x) (flat_map (group_equations names) xs) (flat_map (group_equations names) ys))
 
 pub equations-start : (names : List NameInfo) (stmts : List Labelled) → equations_to names stmts 0 ≡ common_equations names (all_commons stmts)
 equations-start names stmts = append-nil (common_equations names (all_commons stmts))
@@ -25,7 +21,7 @@ equations-next names stmts i s lt is =
     let before = all_groups (take i stmts) in
     let groups : all_groups (take (i + 1) stmts) ≡ before ++ groups_of s.stmt = ap all_groups (take_more stmts i s lt ∙ ap (λ x. take i stmts ++ x ∷ []) (sym is)) ∙ sym (flat_map_more (λ (x : Labelled). groups_of x.stmt) [] (take i stmts) s) in
     append_assoc commons (flat_map (group_equations names) before) (flat_map (group_equations names) (groups_of s.stmt))
-    ∙ ap (λ es. commons ++ es) (sym (ap (flat_map (group_equations names)) groups ∙ flat-append names before (groups_of s.stmt)))
+    ∙ ap (λ es. commons ++ es) (sym (ap (flat_map (group_equations names)) groups ∙ flat_map-append (group_equations names) before (groups_of s.stmt)))
 
 pub equations-all : (names : List NameInfo) (stmts : List Labelled) (i : ℕ) → length stmts ≤ i → equations_to names stmts i ≡ equations names (all_commons stmts) (all_groups stmts)
 equations-all names stmts i le = ap (λ (ss : List Labelled). equations names (all_commons stmts) (all_groups ss)) (take_all i stmts le)

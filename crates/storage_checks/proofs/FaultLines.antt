@@ -35,8 +35,7 @@ and-from true b h = h refl
 and-from false b h = refl
 
 and-true : (a b : Bool) → a ≡ true → (a && b) ≡ false → b ≡ false
-and-true true b is h = h
-and-true false b is h = absurd (true≢false (sym is))
+and-true a b is h = rw is at h
 
 pub by-test : {P : Type 0} (b : Bool) → (b ≡ true → P) → (b ≡ false → P) → P
 by-test true on_true on_false = on_true refl

@@ -1,16 +1,17 @@
 -- Words in intervals, and whether some of them are given twice.
-use Rattle.std.proofs.Common.{◌≡◌, ℕ, zero, suc, ◌+◌, ◌<◌, ◌≤◌, ◌==◌, Bool, true, false, cond, ◌||◌, List, [], ◌∷◌, ◌++◌, Option, Some, None, ⊎_elim, refl, sym, ap, ◌∙◌, arith}
+use Rattle.std.proofs.Common.{◌≡◌, ℕ, zero, suc, ◌+◌, ◌<◌, ◌≤◌, ◌==◌, Bool, true, false, ◌||◌, List, [], ◌∷◌, ◌++◌, Option, Some, None, ⊎_elim, refl, sym, ap, ◌∙◌, arith}
 use Rattle.std.specs.List.{list_any}
 use Rattle.std.specs.Option.{is_some}
 use Rattle.std.specs.Ordering.{nat_cmp, is_eq, is_lt}
-use Rattle.std.specs.declared.cmp.Ordering.TheVariants.{Less, Equal, Greater}
-use Rattle.std.proofs.lemmas.Bool.{eq-eqb, eqb-true, ne_eqb, cases_eq, cases_lt, cases_Bool, or_cases, or_left, or_right, or_from, true≢false, lt-ltb, le-ltb}
+use Rattle.std.specs.declared.cmp.Ordering.TheVariants.{Less}
+use Rattle.std.proofs.lemmas.Bool.Decides.{nat_tests}
+use Rattle.std.proofs.lemmas.Bool.{eq-eqb, eqb-true, ne_eqb, cases_eq, cases_lt, or_cases, or_left, or_right, or_from, true≢false}
 use Rattle.std.proofs.lemmas.List.Folds.{list_any-append}
 use Rattle.f77_tree.specs.InitialWords.{words_from}
 use Rattle.layout_rules.specs.Faults.{has_repeat}
 use Rattle.storage_checks.specs.GivenWords.{IsWithin, Holds, IsLastBefore}
 
-abbrev stands : ℕ → List ℕ → Bool
+abbrev pub stands : ℕ → List ℕ → Bool
 stands word words = list_any (λ x. word == x) words
 
 -- ---- the words of an interval
@@ -58,7 +59,7 @@ module _ (end_of : ℕ → Option ℕ) (seen : List ℕ) (holds : Holds end_of s
 
   -- a word that lies in no interval isn't held
   free_at : (word : ℕ) → (IsWithin end_of word → ⊥) → stands word seen ≡ false
-  free_at word outside = ⊎_elim (λ (is : stands word seen ≡ true). absurd (outside (holds.held_all word is))) (λ (is : stands word seen ≡ false). is) (cases_Bool (stands word seen))
+  free_at word outside = grind arith
 
   pub free_without : IsLastBefore end_of (first + len) None → repeats ≡ false
   free_without last =
@@ -74,15 +75,7 @@ module _ (end_of : ℕ → Option ℕ) (seen : List ℕ) (holds : Holds end_of s
 
   -- an interval that begins no later than another ends no later
   ends_no_later : (a b end last : ℕ) → end_of a ≡ Some end → end_of b ≡ Some last → a ≤ b → end ≤ last
-  ends_no_later a b end last first_is last_is le =
-      ⊎_elim
-      (λ (lt : a < b). let apart : end ≤ b = holds.apart a end b last first_is last_is lt in let some : b < last = holds.some b last last_is in omega arith)
-      (λ (ge : b ≤ a).
-      let same : a ≡ b = omega arith in
-      let one : Some end ≡ Some last = sym first_is ∙ ap end_of same ∙ last_is in
-      let ends : end ≡ last = cc in
-      omega arith)
-      (cases_lt a b)
+  ends_no_later a b end last first_is last_is le = grind arith
 
   pub free_after : (found : ℕ × ℕ) → IsLastBefore end_of (first + len) (Some found) → found.1 ≤ first → repeats ≡ false
   free_after found last le =
@@ -102,30 +95,13 @@ module _ (end_of : ℕ → Option ℕ) (seen : List ℕ) (holds : Holds end_of s
 
 -- a place other than the one of a query, by their order
 pub is_other : (k q : ℕ) → (k ≡ q → ⊥) → is_eq (nat_cmp k q) ≡ false
-is_other k q ne =
-    ⊎_elim
-    (λ (lt : k < q). rw (lt-ltb k q lt) refl)
-    (λ (ge : q ≤ k). rw (le-ltb k q ge, ne_eqb k q ne) refl)
-    (cases_lt k q)
+is_other k q ne = grind (arith, nat_tests)
 
 pub below_from_less : (x y : ℕ) → nat_cmp x y ≡ Less → x < y
-below_from_less x y is =
-    ⊎_elim
-    (λ (lt : x < y). lt)
-    (λ (ge : y ≤ x).
-    let order : nat_cmp x y ≡ cond (x == y) Equal Greater = rw (le-ltb x y ge) refl in
-    ⊎_elim
-    (λ (e : (x == y) ≡ true). let equal : cond (x == y) Equal Greater ≡ Equal = rw e refl in cc)
-    (λ (ne : (x == y) ≡ false). let greater : cond (x == y) Equal Greater ≡ Greater = rw ne refl in cc)
-    (cases_Bool (x == y)))
-    (cases_lt x y)
+below_from_less x y is = grind (arith, nat_tests)
 
 pub less_below : (x y : ℕ) → x < y → nat_cmp x y ≡ Less
-less_below x y lt = rw (lt-ltb x y lt) refl
+less_below x y lt = grind (arith, nat_tests)
 
 pub not_below : (x y : ℕ) → is_lt (nat_cmp x y) ≡ false → y ≤ x
-not_below x y is =
-    ⊎_elim
-    (λ (lt : x < y). let less : is_lt (nat_cmp x y) ≡ true = ap is_lt (less_below x y lt) in absurd (true≢false (sym less ∙ is)))
-    (λ (ge : y ≤ x). ge)
-    (cases_lt x y)
+not_below x y is = grind (arith, nat_tests)

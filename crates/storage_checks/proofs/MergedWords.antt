@@ -1,15 +1,11 @@
 -- An interval of words that takes in the others that it meets.
-use Rattle.std.proofs.Common.{◌≡◌, ℕ, ◌+◌, ◌<◌, ◌≤◌, ◌==◌, min, max, Bool, true, List, ◌++◌, Option, Some, None, ◌⊎◌, ⊎_elim, inl, inr, sym, ap, ◌∙◌, arith}
-use Rattle.std.specs.List.{list_any}
+use Rattle.std.proofs.Common.{◌≡◌, ℕ, ◌+◌, ◌<◌, ◌≤◌, ◌==◌, min, max, true, List, ◌++◌, Option, Some, None, ◌⊎◌, ⊎_elim, inl, inr, sym, ap, ◌∙◌, arith}
 use Rattle.std.specs.Option.{is_some}
 use Rattle.std.proofs.lemmas.Bool.{cases_eq, cases_lt, or_cases, or_left, or_right}
 use Rattle.std.proofs.lemmas.List.Folds.{list_any-append}
 use Rattle.f77_tree.specs.InitialWords.{words_from}
 use Rattle.storage_checks.specs.GivenWords.{AreClear, Holds, HoldsBeside, IsLastBefore, IsLastReaching, IsWithin}
-use Rattle.storage_checks.proofs.GivenWordLemmas.{stands-words_from, words_from-stands}
-
-abbrev stands : ℕ → List ℕ → Bool
-stands word words = list_any (λ x. word == x) words
+use Rattle.storage_checks.proofs.GivenWordLemmas.{stands, stands-words_from, words_from-stands}
 
 -- more words beside those that are held
 pub beside-words : (end_of : ℕ → Option ℕ) (seen : List ℕ) → Holds end_of seen → (first len : ℕ) → HoldsBeside end_of first (first + len) (seen ++ words_from first len)
@@ -30,11 +26,7 @@ module _ (end_of after : ℕ → Option ℕ) (from to : ℕ) (seen : List ℕ) (
 
   module _ (other last : ℕ) (stands_there : end_of other ≡ Some last) (gone : after other ≡ None) (others : (q : ℕ) → (other ≡ q → ⊥) → after q ≡ end_of q) (before : other < to) (reaches : from < last) where
     old : (q end : ℕ) → after q ≡ Some end → end_of q ≡ Some end
-    old q end is =
-        ⊎_elim
-        (λ (e : other ≡ q). let nothing : None ≡ Some end = sym gone ∙ ap after e ∙ is in absurd cc)
-        (λ (ne : other ≡ q → ⊥). sym (others q ne) ∙ is)
-        (cases_eq other q)
+    old q end is = grind arith
 
     beside : (word : ℕ) → min from other ≤ word → word < max to last → stands word seen ≡ true
     beside word low high =
@@ -92,42 +84,13 @@ module _ (end_of after : ℕ → Option ℕ) (from to : ℕ) (seen : List ℕ) (
 
   module _ (clear : AreClear end_of from to) (some_words : from < to) (at : after from ≡ Some to) (others : (q : ℕ) → (from ≡ q → ⊥) → after q ≡ end_of q) where
     old_or_new : (q end : ℕ) → after q ≡ Some end → ((q ≡ from) × (end ≡ to)) ⊎ (end_of q ≡ Some end)
-    old_or_new q end is =
-        ⊎_elim
-        (λ (e : from ≡ q). let one : Some to ≡ Some end = sym at ∙ ap after e ∙ is in let ends : to ≡ end = cc in inl (sym e, sym ends))
-        (λ (ne : from ≡ q → ⊥). inr (sym (others q ne) ∙ is))
-        (cases_eq from q)
+    old_or_new q end is = grind arith
 
     some_after : (q end : ℕ) → after q ≡ Some end → q < end
-    some_after q end is =
-        ⊎_elim
-        (λ (w : (q ≡ from) × (end ≡ to)). omega (arith, w.0, w.1))
-        (λ (is_old : end_of q ≡ Some end). holds.some q end is_old)
-        (old_or_new q end is)
+    some_after q end is = grind (arith, old_or_new)
 
     apart_after : (q end next last : ℕ) → after q ≡ Some end → after next ≡ Some last → q < next → end ≤ next
-    apart_after q end next last is is_next lt =
-        ⊎_elim
-        (λ (w : (q ≡ from) × (end ≡ to)).
-        ⊎_elim
-        (λ (v : (next ≡ from) × (last ≡ to)). omega (arith, w.0, v.0))
-        (λ (is_old : end_of next ≡ Some last).
-        let some : next < last = holds.some next last is_old in
-        ⊎_elim
-        (λ (le : last ≤ from). absurd (omega (arith, w.0)))
-        (λ (le : to ≤ next). omega (arith, w.1))
-        (clear next last is_old))
-        (old_or_new next last is_next))
-        (λ (is_old : end_of q ≡ Some end).
-        ⊎_elim
-        (λ (v : (next ≡ from) × (last ≡ to)).
-        ⊎_elim
-        (λ (le : end ≤ from). omega (arith, v.0))
-        (λ (le : to ≤ q). absurd (omega (arith, v.0)))
-        (clear q end is_old))
-        (λ (old_next : end_of next ≡ Some last). holds.apart q end next last is_old old_next lt)
-        (old_or_new next last is_next))
-        (old_or_new q end is)
+    apart_after q end next last is is_next lt = grind (arith, old_or_new)
 
     seen_after : (word : ℕ) → IsWithin after word → stands word seen ≡ true
     seen_after word within =

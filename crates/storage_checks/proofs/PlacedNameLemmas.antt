@@ -18,30 +18,13 @@ index_of-placed [] (place ∷ places) name e = refl
 index_of-placed (info ∷ names) [] name e = absurd (omega arith)
 index_of-placed (info ∷ names) (place ∷ places) name e = ap (λ (k : ℕ). cond (not (bytes_eq info.name name)) (1 + k) 0) (index_of-placed names places name (omega arith))
 
-pub kind_of-placed : (names : List NameInfo) (places : List ℕ) (k : ℕ) → length places ≡ length names → kind_of (with_places names places) k ≡ kind_of names k
-kind_of-placed [] [] k e = refl
-kind_of-placed [] (place ∷ places) k e = refl
-kind_of-placed (info ∷ names) [] k e = absurd (omega arith)
-kind_of-placed (info ∷ names) (place ∷ places) zero e = refl
-kind_of-placed (info ∷ names) (place ∷ places) (suc k) e = kind_of-placed names places k (omega arith)
-
-pub dims_of-placed : (names : List NameInfo) (places : List ℕ) (k : ℕ) → length places ≡ length names → dims_of (with_places names places) k ≡ dims_of names k
-dims_of-placed [] [] k e = refl
-dims_of-placed [] (place ∷ places) k e = refl
-dims_of-placed (info ∷ names) [] k e = absurd (omega arith)
-dims_of-placed (info ∷ names) (place ∷ places) zero e = refl
-dims_of-placed (info ∷ names) (place ∷ places) (suc k) e = dims_of-placed names places k (omega arith)
-
-pub place_of-placed : (names : List NameInfo) (places : List ℕ) (k : ℕ) → length places ≡ length names → place_of (with_places names places) k ≡ get_or places k 0
-place_of-placed [] [] k e = refl
-place_of-placed [] (place ∷ places) k e = absurd (omega arith)
-place_of-placed (info ∷ names) [] k e = absurd (omega arith)
-place_of-placed (info ∷ names) (place ∷ places) zero e = refl
-place_of-placed (info ∷ names) (place ∷ places) (suc k) e = place_of-placed names places k (omega arith)
-
--- ---- dimensions
-
--- ---- kinds
+-- the kind and the dimensions are those of the name, the place is that given to it
+line-placed : (names : List NameInfo) (places : List ℕ) (k : ℕ) → length places ≡ length names → (kind_of (with_places names places) k ≡ kind_of names k) × (dims_of (with_places names places) k ≡ dims_of names k) × (place_of (with_places names places) k ≡ get_or places k 0)
+line-placed [] [] k e = (refl, refl, refl)
+line-placed [] (place ∷ places) k e = absurd (omega arith)
+line-placed (info ∷ names) [] k e = absurd (omega arith)
+line-placed (info ∷ names) (place ∷ places) zero e = (refl, refl, refl)
+line-placed (info ∷ names) (place ∷ places) (suc k) e = line-placed names places k (omega arith)
 
 pub kinds-words_from : (kind : Kind) (first n : ℕ) → map (λ word. kind) (words_from first n) ≡ replicate n kind
 kinds-words_from kind first zero = refl
@@ -60,10 +43,10 @@ module _ (names : List NameInfo) (places : List ℕ) (as_many : length places �
   same_index = index_of-placed names places item.name as_many
 
   same_place : place_of placed k ≡ get_or places k 0
-  same_place = place_of-placed names places k as_many
+  same_place = (line-placed names places k as_many).2
 
   same_dims : dims_of placed k ≡ dims_of names k
-  same_dims = dims_of-placed names places k as_many
+  same_dims = (line-placed names places k as_many).1
 
   -- a name alone stands for all its words
   pub words-alone : (first len : ℕ) → item.subs ≡ [] → first ≡ get_or places k 0 → size_of (dims_of names k) ≡ pos len → words_from first len ≡ item_words placed item
@@ -90,7 +73,7 @@ module _ (names : List NameInfo) (places : List ℕ) (as_many : length places �
 
   pub kinds-item : (first len : ℕ) (kind : Kind) → kind ≡ kind_of names k → words_from first len ≡ item_words placed item → replicate len kind ≡ item_kinds placed item
   kinds-item first len kind kind_is words =
-      let same : kind ≡ kind_of placed (member_index placed item) = kind_is ∙ sym (kind_of-placed names places k as_many) ∙ ap (kind_of placed) (sym same_index) in
+      let same : kind ≡ kind_of placed (member_index placed item) = kind_is ∙ sym ((line-placed names places k as_many).0) ∙ ap (kind_of placed) (sym same_index) in
       sym (kinds-words_from kind first len)
       ∙ ap (λ (ws : List ℕ). map (λ word. kind) ws) words
       ∙ ap (λ (one : Kind). map (λ word. one) (item_words placed item)) same

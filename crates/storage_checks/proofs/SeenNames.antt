@@ -2,7 +2,8 @@
 use Rattle.std.proofs.Common.{◌≡◌, ℕ, ◌+◌, ◌<◌, ◌≤◌, true, false, List, [], ◌∷◌, ◌++◌, length, get_or, map, take, drop, refl, sym, ap, ◌∙◌}
 use Rattle.std.specs.Prelude.{bytes_eq, filter, cond}
 use Rattle.std.specs.List.{flat_map}
-use Rattle.std.proofs.lemmas.List.{append_assoc, take_all, drop_all}
+use Rattle.std.proofs.lemmas.List.{append_assoc, take_all, drop_all, map-append}
+use Rattle.std.proofs.lemmas.List.Elements.{filter-append}
 use Rattle.f77_tree.specs.declared.declarations.Decl.{Decl}
 use Rattle.f77_tree.specs.declared.declarations.CommonPart.{CommonPart}
 use Rattle.layout_rules.specs.Faults.{has_repeat}
@@ -45,12 +46,7 @@ array_names-each [] = refl
 array_names-each (decl ∷ decls) =
     elim (has_dims decl) as (λ b. map (λ (d : Decl). d.name) (cond b (decl ∷ []) []) ++ flat_map (λ d. array_names (d ∷ [])) decls ≡ map (λ (d : Decl). d.name) (cond b (decl ∷ filter has_dims decls) (filter has_dims decls))) [ true ↦ ap (λ names. decl.name ∷ names) (array_names-each decls) | false ↦ array_names-each decls ]
 
-filter-append : (xs ys : List Decl) → array_names (xs ++ ys) ≡ array_names xs ++ array_names ys
-filter-append [] ys = refl
-filter-append (decl ∷ xs) ys =
-    elim (has_dims decl) as (λ b. map (λ (d : Decl). d.name) (cond b (decl ∷ filter has_dims (xs ++ ys)) (filter has_dims (xs ++ ys))) ≡ map (λ (d : Decl). d.name) (cond b (decl ∷ filter has_dims xs) (filter has_dims xs)) ++ array_names ys) [ true ↦ ap (λ names. decl.name ∷ names) (filter-append xs ys) | false ↦ filter-append xs ys ]
-
 pub array_names-parts : (parts : List CommonPart) → flat_map (λ part. array_names part.decls) parts ≡ array_names (flat_map (λ part. part.decls) parts)
 array_names-parts [] = refl
 array_names-parts (part ∷ parts) =
-    ap (λ names. array_names part.decls ++ names) (array_names-parts parts) ∙ sym (filter-append part.decls (flat_map (λ p. p.decls) parts))
+    ap (λ names. array_names part.decls ++ names) (array_names-parts parts) ∙ sym (ap (map (λ (d : Decl). d.name)) (filter-append has_dims part.decls (flat_map (λ p. p.decls) parts)) ∙ map-append (λ (d : Decl). d.name) (filter has_dims part.decls) (filter has_dims (flat_map (λ p. p.decls) parts)))

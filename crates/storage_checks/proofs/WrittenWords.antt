@@ -1,8 +1,8 @@
 -- Words after constants were written to them, and the initial words that DATA gives.
-use Rattle.std.proofs.Common.{◌≡◌, ℕ, zero, suc, ◌+◌, ◌-◌, ◌<◌, ◌==◌, ℤ, pos, Bool, true, false, not, cond, ◌||◌, List, [], ◌∷◌, ◌++◌, length, get_or, set, map, take, drop, replicate, Option, Some, None, ⊎_elim, refl, sym, ap, ◌∙◌, arith}
+use Rattle.std.proofs.Common.{◌≡◌, ℕ, suc, ◌+◌, ◌-◌, ◌<◌, ◌==◌, ℤ, pos, Bool, true, false, not, cond, List, [], ◌∷◌, ◌++◌, length, get_or, set, map, take, drop, replicate, Option, Some, None, ⊎_elim, refl, sym, ap, ◌∙◌, arith}
 use Rattle.std.specs.Prelude.{zip, find}
 use Rattle.std.specs.List.{list_any, flat_map, range_with_len}
-use Rattle.std.proofs.lemmas.Bool.{cases_eq, eq-eqb, ne_eqb, true≢false, or_parts, or_left, or_from, not-false, and_parts}
+use Rattle.std.proofs.lemmas.Bool.{cases_eq, eq-eqb, ne_eqb, true≢false, or_parts, or_left, or_right, or_from, not-false, and_parts}
 use Rattle.std.proofs.lemmas.List.{length-set, length-replicate, length-map, length-append, get_or-replicate, get_or-set_same, get_or-set_other, same_lists, drop_all, take_all, append-nil}
 use Rattle.std.proofs.lemmas.List.Folds.{list_any-append}
 use Rattle.std.proofs.lemmas.List.FromFn.{length-map-range_with_len, get_or-map-range_with_len}
@@ -50,10 +50,6 @@ zip-append [] ys cs = refl
 zip-append (x ∷ xs) ys [] = sym (zip-none ys)
 zip-append (x ∷ xs) ys (c ∷ cs) = ap (λ (ps : List (ℕ × Lit)). (x, c) ∷ ps) (zip-append xs ys cs)
 
-pub length-words_from : (first n : ℕ) → length (words_from first n) ≡ n
-length-words_from first zero = refl
-length-words_from first (suc n) = ap suc (length-words_from (suc first) n)
-
 -- ---- what a word is afterwards
 
 abbrev found : ℕ → List (ℕ × Lit) → Option (ℕ × Lit)
@@ -67,12 +63,7 @@ stands-push : (word : ℕ) (seen : List ℕ) (x : ℕ) → stands word seen ≡ 
 stands-push word seen x is = list_any-append (λ y. word == y) seen (x ∷ []) ∙ or_left (stands word seen) (stands word (x ∷ [])) is
 
 stands-last : (word : ℕ) (seen : List ℕ) → stands word (seen ++ word ∷ []) ≡ true
-stands-last word [] = or_left (word == word) false (eq-eqb word word refl)
-stands-last word (x ∷ seen) = ap (λ b. (word == x) || b) (stands-last word seen) ∙ or_true (word == x)
-  where
-    or_true : (b : Bool) → (b || true) ≡ true
-    or_true true = refl
-    or_true false = refl
+stands-last word seen = list_any-append (λ y. word == y) seen (word ∷ []) ∙ or_right (stands word seen) (stands word (word ∷ [])) (or_left (word == word) false (eq-eqb word word refl))
 
 -- a word that was met isn't given once more
 none_found : (word : ℕ) (seen : List ℕ) (pairs : List (ℕ × Lit)) → repeats seen (words_of pairs) ≡ false → stands word seen ≡ true → found word pairs ≡ None

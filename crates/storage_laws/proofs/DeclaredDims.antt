@@ -18,8 +18,8 @@ use Rattle.layout_rules.specs.Declarations.{declarators, all_declarators, has_di
 use Rattle.layout_rules.specs.StorageFaults.{array_names, dimensioned, has_dims_twice, has_wrong_dims, is_common_twice, has_wrong_member, has_wrong_declaration, has_wrong_places, has_wrong_data, has_wrong_storage}
 use Rattle.layout_rules.proofs.FirstLine.{has_repeat-append}
 use Rattle.storage_laws.proofs.DeclaredForms.{All-flat_map}
-use Rattle.storage_laws.proofs.DeclaredOnce.{once_in_all}
 use Rattle.storage_laws.proofs.DeclaredKnown.{each_part}
+use Rattle.storage_laws.proofs.DeclaredOnce.{once_in_all}
 
 -- ---- statements without a fault
 
@@ -41,13 +41,10 @@ right_declaration names placed whole above s right =
 array_names-append : (xs ys : List Decl) → array_names (xs ++ ys) ≡ array_names xs ++ array_names ys
 array_names-append xs ys = ap (map (λ (decl : Decl). decl.name)) (filter-append has_dims xs ys) ∙ map-append (λ (decl : Decl). decl.name) (filter has_dims xs) (filter has_dims ys)
 
-same_name : (name : List ℕ) → bytes_eq name name ≡ true
-same_name name = nat_list_eq_equiv.refl name
-
 -- no declarator before it gives the name dimensions
 told_here : (before rest : List Decl) (decl : Decl) → has_dims decl ≡ true → list_any (bytes_eq decl.name) (array_names before) ≡ false → dims_or_none (first_answer (dims_told decl.name) (before ++ decl ∷ rest)) ≡ decl.dims
 told_here [] rest decl is none =
-    ap (λ b. dims_or_none (answer_or (cond b (Some decl.dims) None) (first_answer (dims_told decl.name) rest))) (and_from (bytes_eq decl.name decl.name) (has_dims decl) (same_name decl.name) is)
+    ap (λ b. dims_or_none (answer_or (cond b (Some decl.dims) None) (first_answer (dims_told decl.name) rest))) (and_from (bytes_eq decl.name decl.name) (has_dims decl) (nat_list_eq_equiv.refl decl.name) is)
 told_here (d ∷ before) rest decl is none = by (has_dims d) refl none (told_here before rest decl is)
   where
     by : (b : Bool) → has_dims d ≡ b → list_any (bytes_eq decl.name) (map (λ x. x.name) (cond b (d ∷ filter has_dims before) (filter has_dims before))) ≡ false

@@ -1,12 +1,14 @@
 -- Declarations that are read from a text: their numbers, and how many parts each of their lists has.
-use Rattle.std.proofs.Common.{◌≡◌, ℕ, ◌<◌, ◌≤◌, ◌||◌, ◌&&◌, Bool, true, false, List, [], ◌∷◌, length, map, All, Option, Some, None, refl, sym, subst, ◌∙◌, arith}
+use Rattle.std.proofs.Common.{◌≡◌, ℕ, ◌<◌, ◌≤◌, ◌||◌, ◌&&◌, Bool, true, false, List, [], ◌∷◌, length, map, get_or, All, Contains, Option, Some, None, ⊎_elim, sym, subst, ◌∙◌, arith}
 use Rattle.std.specs.Prelude.{flat_map, nat_lt, nat_le, ◌==◌}
 use Rattle.std.specs.List.{list_all, list_any}
-use Rattle.std.proofs.lemmas.Bool.{and_parts, or_parts, ltb-false, ltb-true}
+use Rattle.std.proofs.lemmas.Bool.{and_parts, or_parts, ltb-false, ltb-true, true≢false, false_from_ne_true}
 use Rattle.std.proofs.lemmas.Bool.Decides.{nat_tests}
 use Rattle.std.proofs.lemmas.Int.{ints}
 use Rattle.std.proofs.lemmas.List.{length-map}
-use Rattle.std.proofs.lemmas.List.Elements.{All-nil, All-cons, All-head, All-tail, All-append, All-weaker}
+use Rattle.std.proofs.lemmas.List.Elements.{All-nil, All-head, All-tail, All-append, All-weaker, All-map, Contains-append_left, Contains-append_right, Contains-append_cases, Contains-push_cases}
+use Rattle.std.proofs.lemmas.List.Folds.{list_any_at}
+use Rattle.std.proofs.lemmas.List.Sums.{AllPass-from_list_all}
 use Rattle.f77_tree.specs.declared.declarations.CommonPart.{CommonPart}
 use Rattle.f77_tree.specs.declared.statements.Labelled.{Labelled}
 use Rattle.f77_tree.specs.declared.statements.Stmt.{Stmt}
@@ -21,19 +23,13 @@ use Rattle.layout_rules.proofs.FlatParts.{list_any-flat_map}
 
 -- ---- lists
 
+-- no item is bad where none of them is
+pub none-bad : {W : Type 0} (bad : W → Bool) (ws : List W) → list_any bad ws ≡ false → All (λ w. bad w ≡ false) ws
+none-bad bad ws none k d lt = false_from_ne_true (bad (get_or ws k d)) (λ h. true≢false (sym (list_any_at bad ws k d lt h) ∙ none))
+
 -- what holds of what is read from each item
 read_each : {W X : Type 0} (Q : W → Type 0) (bad : W → Bool) (of : W → X) (P : X → Type 0) → ((w : W) → Q w → bad w ≡ false → P (of w)) → (ws : List W) → All Q ws → list_any bad ws ≡ false → All P (map of ws)
-read_each Q bad of P gives [] all few = All-nil P
-read_each Q bad of P gives (w ∷ ws) all few =
-    let parts = or_parts (bad w) (list_any bad ws) few in
-    All-cons P (of w) (map of ws) (gives w (All-head Q w ws all) parts.0) (read_each Q bad of P gives ws (All-tail Q w ws all) parts.1)
-
--- each item passes a test that all of them pass
-all_tested : {W : Type 0} (test : W → Bool) (ws : List W) → list_all test ws ≡ true → All (λ w. test w ≡ true) ws
-all_tested test [] h = All-nil (λ w. test w ≡ true)
-all_tested test (w ∷ ws) h =
-    let parts = and_parts (test w) (list_all test ws) h in
-    All-cons (λ w. test w ≡ true) w ws parts.0 (all_tested test ws parts.1)
+read_each Q bad of P gives ws all few = All-map P of ws (λ k d lt. gives (get_or ws k d) (all k d lt) (none-bad bad ws few k d lt))
 
 -- what holds of each item of each part
 pub All-flat_map : {S X : Type 0} (P : X → Type 0) (f : S → List X) (ss : List S) → All (λ s. All P (f s)) ss → All P (flat_map f ss)
@@ -41,9 +37,14 @@ All-flat_map P f [] all = All-nil P
 All-flat_map P f (s ∷ ss) all =
     All-append P (f s) (flat_map f ss) (All-head (λ s. All P (f s)) s ss all) (All-flat_map P f ss (All-tail (λ s. All P (f s)) s ss all))
 
-none_bad : {W : Type 0} (ws : List W) → list_any (λ w. false) ws ≡ false
-none_bad [] = refl
-none_bad (w ∷ ws) = none_bad ws
+-- an item of a part is one of all
+pub of-part : {S X : Type 0} (f : S → List X) (parts : List S) (part : S) (x : X) → Contains parts part → Contains (f part) x → Contains (flat_map f parts) x
+of-part f [] part x among there = absurd (omega (arith, among.1))
+of-part f (p ∷ parts) part x among there =
+    ⊎_elim
+    (λ here. Contains-append_left (f p) (flat_map f parts) x (subst (λ q. Contains (f q) x) (sym (⊎_elim (λ (none : Contains [] part). absurd (omega (arith, none.1))) (λ e. e) (Contains-push_cases [] p part here))) there))
+    (λ later. Contains-append_right (f p) (flat_map f parts) x (of-part f parts part x later there))
+    (Contains-append_cases (p ∷ []) parts part among)
 
 -- ---- numbers
 
@@ -106,7 +107,7 @@ read_part p is =
     record { block_name = a_block p.block is.block; some = omega (arith, as_many, some) }
 
 read_parts : (w : WrittenStatement) → IsStatement w → All IsReadPart (parts_of (statement_of w))
-read_parts (WrittenStatement.common parts) is = read_each IsPart (λ p. false) part_of IsReadPart (λ p part h. read_part p part) parts is.1 (none_bad parts)
+read_parts (WrittenStatement.common parts) is = All-map IsReadPart part_of parts (λ k d lt. read_part _ (is.1 k d lt))
 read_parts _ is = All-nil IsReadPart
 
 -- ---- EQUIVALENCE
@@ -119,8 +120,7 @@ read_group members is =
     omega (arith, as_many, some)
 
 read_groups : (w : WrittenStatement) → IsStatement w → All IsReadGroup (groups_of (statement_of w))
-read_groups (WrittenStatement.equivalence groups) is =
-    read_each (λ members. is_group members ≡ true) (λ members. false) (λ members. map member_of members) IsReadGroup (λ members is_one h. read_group members is_one) groups (all_tested is_group groups is.1) (none_bad groups)
+read_groups (WrittenStatement.equivalence groups) is = All-map IsReadGroup (λ members. map member_of members) groups (λ k d lt. read_group _ (AllPass-from_list_all is_group groups is.1 k d lt))
 read_groups _ is = All-nil IsReadGroup
 
 -- ---- DATA
@@ -155,7 +155,7 @@ read_init d is few =
     }
 
 read_inits : (w : WrittenStatement) → IsStatement w → has_bad_constant w ≡ false → All IsReadInit (inits_of (statement_of w))
-read_inits (WrittenStatement.init parts) is few = read_each (λ d. is_data d ≡ true) bad_numbers data_of IsReadInit read_init parts (all_tested is_data parts is.1) few
+read_inits (WrittenStatement.init parts) is few = read_each (λ d. is_data d ≡ true) bad_numbers data_of IsReadInit read_init parts (AllPass-from_list_all is_data parts is.1) few
 read_inits _ is few = All-nil IsReadInit
 
 -- ---- statements

@@ -1,7 +1,7 @@
 -- The names in COMMON, EQUIVALENCE and DATA stand in the table of names.
-use Rattle.std.proofs.Common.{ℕ, ◌<◌, List, [], ◌∷◌, ◌++◌, length, map, get_or, All, refl}
+use Rattle.std.proofs.Common.{ℕ, ◌<◌, List, [], ◌∷◌, length, map, get_or, All, refl}
 use Rattle.std.specs.Prelude.{bytes_eq, flat_map}
-use Rattle.std.proofs.lemmas.List.Elements.{All-nil, All-cons, All-head, All-tail, All-weaker}
+use Rattle.std.proofs.lemmas.List.Elements.{All-contains, Contains-get_or, All-nil, All-cons, All-head, All-tail, All-weaker}
 use Rattle.std.proofs.lemmas.List.Folds.{list_any_at}
 use Rattle.std.proofs.lemmas.Option.{slice_get-get_or}
 use Rattle.std.proofs.lemmas.Slice.Eq.{bytes_eq-Decides}
@@ -17,34 +17,21 @@ use Rattle.layout_rules.specs.Appearances.{appearing}
 use Rattle.layout_rules.specs.Declarations.{is_array, parts_of, all_commons, groups_of, all_groups, inits_of, all_inits}
 use Rattle.layout_rules.specs.Layout.{names_of}
 use Rattle.storage_laws.proofs.NameTable.{appearing_index}
-use Rattle.storage_laws.proofs.DeclaredForms.{All-flat_map}
+use Rattle.storage_laws.proofs.DeclaredForms.{All-flat_map, of-part}
 
 -- ---- lists
 
-prefix : {A : Type 0} (P : A → Type 0) (xs ys : List A) → All P (xs ++ ys) → All P xs
-prefix P [] ys all = All-nil P
-prefix P (x ∷ xs) ys all = All-cons P x xs (All-head P x (xs ++ ys) all) (prefix P xs ys (All-tail P x (xs ++ ys) all))
-
-rear : {A : Type 0} (P : A → Type 0) (xs ys : List A) → All P (xs ++ ys) → All P ys
-rear P [] ys all = all
-rear P (x ∷ xs) ys all = rear P xs ys (All-tail P x (xs ++ ys) all)
-
-before_map : {X A : Type 0} (P : A → Type 0) (f : X → A) (xs : List X) → All P (map f xs) → All (λ x. P (f x)) xs
+pub before_map : {X A : Type 0} (P : A → Type 0) (f : X → A) (xs : List X) → All P (map f xs) → All (λ x. P (f x)) xs
 before_map P f [] all = All-nil (λ x. P (f x))
 before_map P f (x ∷ xs) all = All-cons (λ x. P (f x)) x xs (All-head P (f x) (map f xs) all) (before_map P f xs (All-tail P (f x) (map f xs) all))
 
--- what holds of the name of each item of each part
-of_each_part : {S X A : Type 0} (P : A → Type 0) (items : S → List X) (name : X → A) (parts : List S) → All P (flat_map (λ part. map name (items part)) parts) → All (λ part. All (λ x. P (name x)) (items part)) parts
-of_each_part P items name [] all = All-nil (λ part. All (λ x. P (name x)) (items part))
-of_each_part P items name (part ∷ parts) all =
-    let rest = flat_map (λ p. map name (items p)) parts in
-    All-cons (λ p. All (λ x. P (name x)) (items p)) part parts (before_map P name (items part) (prefix P (map name (items part)) rest all)) (of_each_part P items name parts (rear P (map name (items part)) rest all))
-
 -- what holds of each item of each part
 pub each_part : {S X : Type 0} (P : X → Type 0) (items : S → List X) (parts : List S) → All P (flat_map items parts) → All (λ part. All P (items part)) parts
-each_part P items [] all = All-nil (λ part. All P (items part))
-each_part P items (part ∷ parts) all =
-    All-cons (λ p. All P (items p)) part parts (prefix P (items part) (flat_map items parts) all) (each_part P items parts (rear P (items part) (flat_map items parts) all))
+each_part P items parts all k d lt j e within = All-contains P (flat_map items parts) _ all (of-part items parts _ _ (Contains-get_or parts k d lt) (Contains-get_or _ j e within))
+
+-- what holds of the name of each item of each part
+of_each_part : {S X A : Type 0} (P : A → Type 0) (items : S → List X) (name : X → A) (parts : List S) → All P (flat_map (λ part. map name (items part)) parts) → All (λ part. All (λ x. P (name x)) (items part)) parts
+of_each_part P items name parts all k d lt = before_map P name (items (get_or parts k d)) (each_part P (λ part. map name (items part)) parts all k d lt)
 
 -- ---- names that appear
 
@@ -69,32 +56,23 @@ module _ (whole : List Labelled) where
   abbrev pub ItemsKnown : InitPart → Type 0
   ItemsKnown part = All (λ item. Known item.name) part.items
 
-  in_parts : (s : Labelled) → All Known (appearing (is_array whole) s.stmt) → All PartKnown (parts_of s.stmt)
-  in_parts s all = by s.stmt all
-    where
-      by : (stmt : Stmt) → All Known (appearing (is_array whole) stmt) → All PartKnown (parts_of stmt)
-      by (Common parts) all = of_each_part Known (λ (part : CommonPart). part.decls) (λ (decl : Decl). decl.name) parts all
-      by _ all = All-nil PartKnown
+  in_parts : (stmt : Stmt) → All Known (appearing (is_array whole) stmt) → All PartKnown (parts_of stmt)
+  in_parts (Common parts) all = of_each_part Known (λ (part : CommonPart). part.decls) (λ (decl : Decl). decl.name) parts all
+  in_parts _ all = All-nil PartKnown
 
-  in_groups : (s : Labelled) → All Known (appearing (is_array whole) s.stmt) → All GroupKnown (groups_of s.stmt)
-  in_groups s all = by s.stmt all
-    where
-      by : (stmt : Stmt) → All Known (appearing (is_array whole) stmt) → All GroupKnown (groups_of stmt)
-      by (Equivalence groups) all = of_each_part Known (λ (group : List Member). group) (λ (member : Member). member.name) groups all
-      by _ all = All-nil GroupKnown
+  in_groups : (stmt : Stmt) → All Known (appearing (is_array whole) stmt) → All GroupKnown (groups_of stmt)
+  in_groups (Equivalence groups) all = of_each_part Known (λ (group : List Member). group) (λ (member : Member). member.name) groups all
+  in_groups _ all = All-nil GroupKnown
 
-  in_items : (s : Labelled) → All Known (appearing (is_array whole) s.stmt) → All ItemsKnown (inits_of s.stmt)
-  in_items s all = by s.stmt all
-    where
-      by : (stmt : Stmt) → All Known (appearing (is_array whole) stmt) → All ItemsKnown (inits_of stmt)
-      by (Init parts) all = of_each_part Known (λ (part : InitPart). part.items) (λ (item : Member). item.name) parts all
-      by _ all = All-nil ItemsKnown
+  in_items : (stmt : Stmt) → All Known (appearing (is_array whole) stmt) → All ItemsKnown (inits_of stmt)
+  in_items (Init parts) all = of_each_part Known (λ (part : InitPart). part.items) (λ (item : Member). item.name) parts all
+  in_items _ all = All-nil ItemsKnown
 
   pub all_commons-known : All PartKnown (all_commons whole)
-  all_commons-known = All-flat_map PartKnown (λ s. parts_of s.stmt) whole (All-weaker (λ (s : Labelled). All Known (appearing (is_array whole) s.stmt)) (λ s. All PartKnown (parts_of s.stmt)) in_parts whole appearing-known)
+  all_commons-known = All-flat_map PartKnown (λ s. parts_of s.stmt) whole (All-weaker (λ (s : Labelled). All Known (appearing (is_array whole) s.stmt)) (λ s. All PartKnown (parts_of s.stmt)) (λ s. in_parts s.stmt) whole appearing-known)
 
   pub all_groups-known : All GroupKnown (all_groups whole)
-  all_groups-known = All-flat_map GroupKnown (λ s. groups_of s.stmt) whole (All-weaker (λ (s : Labelled). All Known (appearing (is_array whole) s.stmt)) (λ s. All GroupKnown (groups_of s.stmt)) in_groups whole appearing-known)
+  all_groups-known = All-flat_map GroupKnown (λ s. groups_of s.stmt) whole (All-weaker (λ (s : Labelled). All Known (appearing (is_array whole) s.stmt)) (λ s. All GroupKnown (groups_of s.stmt)) (λ s. in_groups s.stmt) whole appearing-known)
 
   pub all_inits-known : All ItemsKnown (all_inits whole)
-  all_inits-known = All-flat_map ItemsKnown (λ s. inits_of s.stmt) whole (All-weaker (λ (s : Labelled). All Known (appearing (is_array whole) s.stmt)) (λ s. All ItemsKnown (inits_of s.stmt)) in_items whole appearing-known)
+  all_inits-known = All-flat_map ItemsKnown (λ s. inits_of s.stmt) whole (All-weaker (λ (s : Labelled). All Known (appearing (is_array whole) s.stmt)) (λ s. All ItemsKnown (inits_of s.stmt)) (λ s. in_items s.stmt) whole appearing-known)

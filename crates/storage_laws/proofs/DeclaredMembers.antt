@@ -1,10 +1,10 @@
 -- The members of EQUIVALENCE and the items of DATA of a source without faults of storage.
-use Rattle.std.proofs.Common.{◌≡◌, ◌<◌, ◌&&◌, ⊎_elim, inl, inr, ℤ, Bool, true, false, not, List, [], ◌∷◌, ◌++◌, length, All, None, refl, sym, ap, subst, ◌∙◌, arith}
+use Rattle.std.proofs.Common.{◌≡◌, ◌<◌, ◌&&◌, ⊎_elim, inl, inr, ℤ, true, false, not, List, [], ◌∷◌, length, All, None, refl, sym, ap, subst, ◌∙◌, arith}
 use Rattle.std.specs.Prelude.{int_le, ◌==◌}
 use Rattle.std.specs.List.{list_any}
-use Rattle.std.proofs.lemmas.Bool.{or_parts, or_cases, and_parts, not-false, eqb-true, true≢false}
+use Rattle.std.proofs.lemmas.Bool.{or_cases, and_parts, not-false, eqb-true, true≢false}
 use Rattle.std.proofs.lemmas.Int.{ints}
-use Rattle.std.proofs.lemmas.List.Elements.{All-nil, All-cons, All-weaker}
+use Rattle.std.proofs.lemmas.List.Elements.{All-nil, All-weaker}
 use Rattle.f77_tree.specs.declared.declarations.Dim.{Dim}
 use Rattle.f77_tree.specs.declared.declarations.InitPart.{InitPart}
 use Rattle.f77_tree.specs.declared.declarations.Member.{Member}
@@ -14,17 +14,17 @@ use Rattle.f77_tree.specs.declared.statements.Stmt.{Stmt}
 use Rattle.f77_tree.specs.declared.statements.Stmt.TheVariants.{Equivalence, Init}
 use Rattle.f77_tree.specs.Value.{dims_of}
 use Rattle.f77_tree.specs.Declarations.{index_of, member_index, AreWithin, IsMember, IsGroup}
-use Rattle.layout_rules.specs.Faults.{first_line, first_after}
+use Rattle.layout_rules.specs.Faults.{first_line}
 use Rattle.layout_rules.specs.Declarations.{groups_of, all_groups, inits_of, all_inits}
 use Rattle.layout_rules.specs.Layout.{names_of, placed_names}
 use Rattle.layout_rules.specs.Source.{IsSource}
 use Rattle.layout_rules.specs.StorageFaults.{are_within, is_member, members_of, has_wrong_member, has_wrong_storage}
 use Rattle.layout_rules.specs.ReadDeclarations.{IsReadGroup}
 use Rattle.layout_rules.proofs.ProperPlaced.{placed_names-agrees}
-use Rattle.layout_rules.proofs.StorageLines.{after_clear, after_next}
-use Rattle.storage_laws.proofs.DeclaredForms.{All-flat_map, all_groups-read}
+use Rattle.storage_laws.proofs.DeclaredForms.{none-bad, All-flat_map, all_groups-read}
+use Rattle.storage_laws.proofs.RightStorage.{none-any}
 use Rattle.storage_laws.proofs.DeclaredNames.{same_index}
-use Rattle.storage_laws.proofs.DeclaredKnown.{GroupKnown, all_groups-known, all_inits-known, each_part}
+use Rattle.storage_laws.proofs.DeclaredKnown.{each_part, GroupKnown, all_groups-known, all_inits-known}
 use Rattle.storage_laws.proofs.DeclaredDims.{right_declaration}
 use Rattle.storage_laws.proofs.DeclaredCommon.{known_placed}
 
@@ -49,27 +49,14 @@ no_subs (sub ∷ subs) is = let none = eqb-true (length (sub ∷ subs)) 0 is in 
 abbrev IsRight : List NameInfo → Member → Type 0
 IsRight names member = not (is_member names member) ≡ false
 
-all_right : {X : Type 0} (bad : X → Bool) (xs : List X) → list_any bad xs ≡ false → All (λ x. bad x ≡ false) xs
-all_right bad [] none = All-nil (λ x. bad x ≡ false)
-all_right bad (x ∷ xs) none =
-    let parts = or_parts (bad x) (list_any bad xs) none in
-    All-cons (λ x. bad x ≡ false) x xs parts.0 (all_right bad xs parts.1)
-
 module _ (names : List NameInfo) where
   in_groups : (stmt : Stmt) → list_any (λ member. not (is_member names member)) (members_of stmt) ≡ false → All (λ group. All (IsRight names) group) (groups_of stmt)
-  in_groups (Equivalence groups) none = each_part (IsRight names) (λ (group : List Member). group) groups (all_right (λ member. not (is_member names member)) (members_of (Equivalence groups)) none)
+  in_groups (Equivalence groups) none = each_part (IsRight names) (λ (group : List Member). group) groups (none-bad (λ member. not (is_member names member)) (members_of (Equivalence groups)) none)
   in_groups _ none = All-nil (λ (group : List Member). All (IsRight names) group)
 
   in_items : (stmt : Stmt) → list_any (λ member. not (is_member names member)) (members_of stmt) ≡ false → All (λ part. All (IsRight names) part.items) (inits_of stmt)
-  in_items (Init parts) none = each_part (IsRight names) (λ (part : InitPart). part.items) parts (all_right (λ member. not (is_member names member)) (members_of (Init parts)) none)
+  in_items (Init parts) none = each_part (IsRight names) (λ (part : InitPart). part.items) parts (none-bad (λ member. not (is_member names member)) (members_of (Init parts)) none)
   in_items _ none = All-nil (λ (part : InitPart). All (IsRight names) part.items)
-
-  no_wrong_members : (placed : List NameInfo) (whole above stmts : List Labelled) → first_after (has_wrong_storage names placed whole) above stmts ≡ None → All (λ s. has_wrong_member names s ≡ false) stmts
-  no_wrong_members placed whole above [] none = All-nil (λ s. has_wrong_member names s ≡ false)
-  no_wrong_members placed whole above (s ∷ rest) none =
-      let clear = after_clear (has_wrong_storage names placed whole) above rest s none in
-      All-cons (λ a. has_wrong_member names a ≡ false) s rest (right_declaration names placed whole above s clear).members
-      (no_wrong_members placed whole (above ++ s ∷ []) rest (sym (after_next (has_wrong_storage names placed whole) above rest s clear) ∙ none))
 
 module _ (whole : List Labelled) (source : IsSource whole) (right : first_line (has_wrong_storage (names_of whole) (placed_names whole) whole) whole ≡ None) where
   abbrev names : List NameInfo
@@ -89,7 +76,7 @@ module _ (whole : List Labelled) (source : IsSource whole) (right : first_line (
   }
 
   right_members : All (λ s. has_wrong_member names s ≡ false) whole
-  right_members = no_wrong_members names placed whole [] whole right
+  right_members = none-bad (has_wrong_member names) whole (none-any (has_wrong_storage names placed whole) (has_wrong_member names) (λ above s clear. (right_declaration names placed whole above s clear).members) [] whole right)
 
   -- ---- EQUIVALENCE
 

@@ -4,7 +4,7 @@ use Rattle.std.specs.Prelude.{bytes_eq, int_lt, nat_lt, slice_get}
 use Rattle.std.specs.List.{list_any}
 use Rattle.std.proofs.lemmas.Bool.{or_parts}
 use Rattle.std.proofs.lemmas.Int.{ints}
-use Rattle.std.proofs.lemmas.List.Elements.{All-nil, All-cons, All-head, All-tail}
+use Rattle.std.proofs.lemmas.List.Elements.{All-nil, All-cons, All-head, All-tail, All-map}
 use Rattle.f77_tree.specs.declared.declarations.Dim.{Dim}
 use Rattle.f77_tree.specs.declared.declarations.Decl.{Decl}
 use Rattle.f77_tree.specs.declared.programs.NameInfo.{NameInfo}
@@ -25,7 +25,8 @@ use Rattle.layout_rules.proofs.ElementCounts.{right-count, right-size}
 use Rattle.storage_laws.proofs.RightStorage.{right_dims_of}
 use Rattle.storage_laws.proofs.NameTable.{names_differ}
 use Rattle.storage_laws.proofs.SymbolicNames.{table_symbolic}
-use Rattle.storage_laws.proofs.DeclaredForms.{all_declarators-read}
+use Rattle.storage_laws.proofs.DeclaredForms.{all_declarators-read, none-bad}
+use Rattle.storage_laws.proofs.DeclaredKnown.{before_map}
 
 -- ---- dimensions
 
@@ -33,13 +34,9 @@ abbrev is_backwards : Dim → Bool
 is_backwards dim = int_lt dim.hi dim.lo
 
 are_bounds : (dims : List Dim) → All (λ dim. CanBeWritten dim.lo) dims → All (λ dim. CanBeWritten dim.hi) dims → list_any is_backwards dims ≡ false → All IsDim dims
-are_bounds [] lower upper forward = All-nil IsDim
-are_bounds (dim ∷ dims) lower upper forward =
-    let parts = or_parts (is_backwards dim) (list_any is_backwards dims) forward in
-    let here = parts.0 in
-    All-cons IsDim dim dims
-    (record { lower = All-head (λ d. CanBeWritten d.lo) dim dims lower; upper = All-head (λ d. CanBeWritten d.hi) dim dims upper; order = grind (arith, ints, here) })
-    (are_bounds dims (All-tail (λ d. CanBeWritten d.lo) dim dims lower) (All-tail (λ d. CanBeWritten d.hi) dim dims upper) parts.1)
+are_bounds dims lower upper forward k d lt =
+    let here = none-bad is_backwards dims forward k d lt in
+    record { lower = lower k d lt; upper = upper k d lt; order = grind (arith, ints, here) }
 
 -- dimensions of a source that aren't wrong
 pub are_dims : (dims : List Dim) → IsReadDims dims → are_wrong_dims dims ≡ false → AreDims dims
@@ -68,13 +65,11 @@ read_told name (decl ∷ decls) all =
     by false later = later
 
 infos : (whole : List Labelled) → All IsReadDecl (all_declarators whole) → (names : List (List ℕ)) → All (λ info. is_name info.name ≡ true) (map (name_info whole) names) → All HasRightDims (map (name_info whole) names) → All IsNameInfo (map (name_info whole) names)
-infos whole read [] symbolic right = All-nil IsNameInfo
-infos whole read (name ∷ names) symbolic right =
-    let info = name_info whole name in
-    let rest = map (name_info whole) names in
-    All-cons IsNameInfo info rest
-    (record { symbolic = All-head (λ (i : NameInfo). is_name i.name ≡ true) info rest symbolic; dimensions = are_dims info.dims (read_told name (all_declarators whole) read) (All-head HasRightDims info rest right) })
-    (infos whole read names (All-tail (λ (i : NameInfo). is_name i.name ≡ true) info rest symbolic) (All-tail HasRightDims info rest right))
+infos whole read names symbolic right =
+    All-map IsNameInfo (name_info whole) names (λ k d lt. record {
+      symbolic = before_map (λ (i : NameInfo). is_name i.name ≡ true) (name_info whole) names symbolic k d lt;
+      dimensions = are_dims _ (read_told _ (all_declarators whole) read) (before_map HasRightDims (name_info whole) names right k d lt);
+    })
 
 -- ---- the table with places
 
@@ -109,7 +104,7 @@ module _ (names : List NameInfo) (spots : List Spot) where
       let other = line k infos j b at_j in
       differ i j one.info other.info one.stands other.stands (one.same ∙ same ∙ sym other.same)
 
-  same_index_from : (k : ℕ) (infos : List NameInfo) (name : List ℕ) → index_of (placed_from names spots k infos) name ≡ index_of infos name
+  pub same_index_from : (k : ℕ) (infos : List NameInfo) (name : List ℕ) → index_of (placed_from names spots k infos) name ≡ index_of infos name
   same_index_from k [] name = refl
   same_index_from k (info ∷ infos) name = ap (λ (i : ℕ). cond (not (bytes_eq info.name name)) (1 + i) 0) (same_index_from (k + 1) infos name)
 

@@ -1,14 +1,15 @@
 -- Sizes and distances of arrays without fault: none is too great to count exactly in the equations of storage.
-use Rattle.std.proofs.Common.{◌≡◌, ℕ, ◌+◌, ◌*◌, ◌<◌, ◌≤◌, ◌⊎◌, ⊎_elim, min, ℤ, pos, negsuc, ◌+ℤ◌, ◌-ℤ◌, ◌*ℤ◌, ◌≤ℤ◌, nat_abs, false, List, [], ◌∷◌, refl, sym, ap, ◌∙◌, arith}
+use Rattle.std.proofs.Common.{◌≡◌, ℕ, ◌+◌, ◌*◌, ◌<◌, ◌≤◌, ◌⊎◌, ⊎_elim, min, ℤ, pos, ◌+ℤ◌, ◌-ℤ◌, ◌*ℤ◌, nat_abs, false, List, [], ◌∷◌, refl, sym, ap, ◌∙◌, arith}
 use Rattle.std.specs.Prelude.{int_lt}
 use Rattle.std.proofs.Math.Nat.{mul-le-mul_left, mul_comm}
 use Rattle.std.proofs.lemmas.Int.{ints}
 use Rattle.f77_tree.specs.declared.declarations.Dim.{Dim}
 use Rattle.f77_tree.specs.Value.{extent as width, size_of}
 use Rattle.f77_tree.specs.Declarations.{AreWithin, offset_of}
+use Rattle.f77_tree.proofs.Places.{nonneg}
 use Rattle.layout_rules.specs.Storage.{too_many, extent, elements, subscripts_before, distance_of, size_of as counted}
 use Rattle.layout_rules.specs.StorageFaults.{are_wrong_dims}
-use Rattle.layout_rules.proofs.ElementCounts.{right-count, right-size}
+use Rattle.layout_rules.proofs.ElementCounts.{right-count, right-size, extent-pos}
 
 -- ---- sizes
 
@@ -19,15 +20,6 @@ size-exact dims right =
     right-size dims right ∙ ap pos (omega (arith, most))
 
 -- ---- distances
-
-nonneg : (z : ℤ) → pos 0 ≤ℤ z → z ≡ pos (nat_abs z)
-nonneg (pos n) h = refl
-nonneg (negsuc n) h = absurd (omega (arith, ints, h))
-
-width-pos : (dim : Dim) → dim.lo ≤ℤ dim.hi → width dim ≡ pos (extent dim)
-width-pos dim order =
-    let forward : int_lt dim.hi dim.lo ≡ false = grind (arith, ints) in
-    rw forward (nonneg (width dim) (omega (arith, ints)))
 
 -- how many elements stand before one of them
 record IsDistance (dims : List Dim) (subs : List ℤ) : Type 0 where
@@ -48,7 +40,7 @@ distance-within (dim ∷ dims) (sub ∷ subs) within =
     let low = within.0 in
     let high = within.1 in
     let rest = distance-within dims subs within.2 in
-    let wide = width-pos dim (omega (arith, ints, low, high)) in
+    let wide = extent-pos dim (omega (arith, ints, low, high)) in
     let before = nat_abs (sub -ℤ dim.lo) in
     let is_before : (sub -ℤ dim.lo) ≡ pos before = nonneg (sub -ℤ dim.lo) (omega (arith, ints, low)) in
     let first : before < extent dim = omega (arith, ints, is_before, wide, high) in
@@ -59,10 +51,6 @@ distance-within (dim ∷ dims) (sub ∷ subs) within =
           ∙ ap (λ z. pos before +ℤ pos (extent dim) *ℤ z) rest.is;
       below = longer before rest.distance (extent dim) (elements dims) first rest.below;
     }
-
-no_subscripts : (dims : List Dim) → offset_of dims [] ≡ pos 0
-no_subscripts [] = refl
-no_subscripts (dim ∷ dims) = refl
 
 some-wide : (w n : ℕ) → 0 < w → n ≤ w * n
 some-wide w n some =
@@ -80,7 +68,7 @@ distance-is (dim ∷ dims) (sub ∷ subs) within few =
     let high = within.1 in
     let rest = distance-within dims subs within.2 in
     let whole = distance-within (dim ∷ dims) (sub ∷ subs) within in
-    let wide = width-pos dim (omega (arith, ints, low, high)) in
+    let wide = extent-pos dim (omega (arith, ints, low, high)) in
     let is_before : (sub -ℤ dim.lo) ≡ pos (nat_abs (sub -ℤ dim.lo)) = nonneg (sub -ℤ dim.lo) (omega (arith, ints, low)) in
     let first : nat_abs (sub -ℤ dim.lo) < extent dim = omega (arith, ints, is_before, wide, high) in
     let fewer : elements dims ≤ 262144 = omega (arith, some-wide (extent dim) (elements dims) (omega (arith, first)), few) in
@@ -91,14 +79,14 @@ distance-is (dim ∷ dims) (sub ∷ subs) within few =
     ∙ ap (λ n. min too_many (nat_abs (sub -ℤ dim.lo) + extent dim * n)) (distance-is dims subs within.2 fewer)
     ∙ omega (arith, below, few)
 
-no_distance : (dims : List Dim) → distance_of dims [] ≡ 0
-no_distance [] = refl
-no_distance (dim ∷ dims) = refl
+no_subscripts : (dims : List Dim) → offset_of dims [] ≡ pos (distance_of dims [])
+no_subscripts [] = refl
+no_subscripts (dim ∷ dims) = refl
 
 -- how far a member of an array without fault lies after the first element
 pub distance-exact : (dims : List Dim) (subs : List ℤ) → are_wrong_dims dims ≡ false → (subs ≡ []) ⊎ AreWithin dims subs → offset_of dims subs ≡ pos (distance_of dims subs)
 distance-exact dims subs right is =
     ⊎_elim
-    (λ (none : subs ≡ []). rw none (no_subscripts dims ∙ ap pos (sym (no_distance dims))))
+    (λ (none : subs ≡ []). rw none (no_subscripts dims))
     (λ (within : AreWithin dims subs). (distance-within dims subs within).is ∙ ap pos (sym (distance-is dims subs within (right-count dims right).1)))
     is

@@ -14,7 +14,6 @@ pub mod KnownStatements
 pub mod NameTable
 pub mod PlacedAlike
 pub mod PlacedBlocks
-mod PlacedBounds
 mod PlacedCommon
 pub mod PlacedDeclared
 pub mod PlacedEquations
@@ -24,5 +23,4 @@ pub mod PlacedProgram
 mod PlacedRight
 pub mod PlacedWords
 pub mod RightStorage
-mod StoredPrograms
 pub mod SymbolicNames

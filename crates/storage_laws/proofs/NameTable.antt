@@ -4,6 +4,7 @@ use Rattle.std.proofs.Common.{◌≡◌, ℕ, zero, suc, ◌+◌, ◌<◌, Bool,
 use Rattle.std.specs.Prelude.{bytes_eq, cond, flat_map, if◌then◌else◌, nat_lt, slice_get}
 use Rattle.std.specs.List.{list_any}
 use Rattle.std.specs.Cmp.Lexicographic.{nat_list_eq_equiv}
+use Rattle.std.proofs.lemmas.Bool.{or_parts, or_right}
 use Rattle.std.proofs.lemmas.List.Folds.{list_any-append}
 use Rattle.std.proofs.lemmas.Map.Steps.{list_any_congr}
 use Rattle.std.proofs.lemmas.Option.{slice_get_within}
@@ -30,28 +31,7 @@ abbrev has : List (List ℕ) → List ℕ → Bool
 has names name = list_any (bytes_eq name) names
 
 or_false : (a : Bool) → (a || false) ≡ a
-or_false true = refl
-or_false false = refl
-
-or_assoc : (a b c : Bool) → ((a || b) || c) ≡ (a || (b || c))
-or_assoc true b c = refl
-or_assoc false b c = refl
-
-left_false : (a b : Bool) → (a || b) ≡ false → a ≡ false
-left_false false b h = refl
-left_false true b h = absurd cc
-
-right_false : (a b : Bool) → (a || b) ≡ false → b ≡ false
-right_false false b h = h
-right_false true b h = absurd cc
-
-or_true : (a : Bool) → (a || true) ≡ true
-or_true true = refl
-or_true false = refl
-
-right_true : (a b : Bool) → a ≡ false → (a || b) ≡ true → b ≡ true
-right_true false b none h = h
-right_true true b none h = absurd cc
+or_false a = grind arith
 
 abbrev AreApart : List (List ℕ) → Type 0
 AreApart [] = Unit {0}
@@ -60,7 +40,7 @@ AreApart (x ∷ xs) = (has xs x ≡ false) × AreApart xs
 apart_one : (xs : List (List ℕ)) (y : List ℕ) → AreApart xs → has xs y ≡ false → AreApart (xs ++ y ∷ [])
 apart_one [] y apart absent = (refl, tt)
 apart_one (x ∷ xs) y apart absent =
-    (list_any-append (bytes_eq x) xs (y ∷ []) ∙ ap (λ b. b || (bytes_eq x y || false)) apart.0 ∙ or_false (bytes_eq x y) ∙ nat_list_eq_equiv.symm x y ∙ left_false (bytes_eq y x) (has xs y) absent, apart_one xs y apart.1 (right_false (bytes_eq y x) (has xs y) absent))
+    (list_any-append (bytes_eq x) xs (y ∷ []) ∙ ap (λ b. b || (bytes_eq x y || false)) apart.0 ∙ or_false (bytes_eq x y) ∙ nat_list_eq_equiv.symm x y ∙ (or_parts (bytes_eq y x) (has xs y) absent).0, apart_one xs y apart.1 ((or_parts (bytes_eq y x) (has xs y) absent).1))
 
 apart_with : (seen : List (List ℕ)) (name : List ℕ) → AreApart seen → AreApart (with_name seen name)
 apart_with seen name apart = by (has seen name) refl
@@ -84,7 +64,7 @@ module _ (stmts : List Labelled) where
       let met : name ≡ x = same ∙ sym (ap (λ (i : NameInfo). i.name) line) in
       ap (λ b. b || has names name) (ap (bytes_eq name) (sym met) ∙ nat_list_eq_equiv.refl name)
   has_at (x ∷ names) name (suc k) info at same =
-      ap (λ b. bytes_eq name x || b) (has_at names name k info at same) ∙ or_true (bytes_eq name x)
+      ap (λ b. bytes_eq name x || b) (has_at names name k info at same) ∙ or_right (bytes_eq name x) true refl
 
   -- a name doesn't stand after its first place
   alone : (x : List ℕ) (names : List (List ℕ)) (k : ℕ) (a b : NameInfo) → has names x ≡ false → Some (name_info stmts x) ≡ Some a → slice_get (lines names) k ≡ Some b → a.name ≡ b.name → ⊥
@@ -120,7 +100,7 @@ has_with seen x name = by (has seen x) refl
 has_fold : (seen names : List (List ℕ)) (name : List ℕ) → has (fold with_name seen names) name ≡ (has seen name || has names name)
 has_fold seen [] name = sym (or_false (has seen name))
 has_fold seen (x ∷ names) name =
-    has_fold (with_name seen x) names name ∙ ap (λ b. b || has names name) (has_with seen x name) ∙ or_assoc (has seen name) (bytes_eq name x) (has names name)
+    has_fold (with_name seen x) names name ∙ ap (λ b. b || has names name) (has_with seen x name) ∙ grind arith
 
 has_part : {X : Type 0} (names : X → List (List ℕ)) (xs : List X) (j : ℕ) (x : X) (name : List ℕ) → slice_get xs j ≡ Some x → has (names x) name ≡ true → has (flat_map names xs) name ≡ true
 has_part names [] j x name at there = absurd cc
@@ -128,7 +108,7 @@ has_part names (y ∷ xs) zero x name at there =
     let same : y ≡ x = cc in
     list_any-append (bytes_eq name) (names y) (flat_map names xs) ∙ ap (λ b. b || has (flat_map names xs) name) (ap (λ z. has (names z) name) same ∙ there)
 has_part names (y ∷ xs) (suc j) x name at there =
-    list_any-append (bytes_eq name) (names y) (flat_map names xs) ∙ ap (λ b. has (names y) name || b) (has_part names xs j x name at there) ∙ or_true (has (names y) name)
+    list_any-append (bytes_eq name) (names y) (flat_map names xs) ∙ ap (λ b. has (names y) name || b) (has_part names xs j x name at there) ∙ or_right (has (names y) name) true refl
 
 module _ (stmts : List Labelled) where
   line_after : (x : List ℕ) (names : List (List ℕ)) (name : List ℕ) (same : Bool) → bytes_eq x name ≡ same → (bytes_eq x name ≡ false → slice_get (lines stmts names) (index_of (lines stmts names) name) ≡ Some (name_info stmts name))
@@ -142,17 +122,17 @@ module _ (stmts : List Labelled) where
   -- where a name stands, its line has what the declarations say of it
   line_at : (names : List (List ℕ)) (name : List ℕ) → has names name ≡ true → slice_get (lines stmts names) (index_of (lines stmts names) name) ≡ Some (name_info stmts name)
   line_at [] name there = absurd cc
-  line_at (x ∷ names) name there = line_after x names name (bytes_eq x name) refl (λ other. line_at names name (right_true (bytes_eq name x) (has names name) (nat_list_eq_equiv.symm name x ∙ other) there))
+  line_at (x ∷ names) name there = line_after x names name (bytes_eq x name) refl (λ other. line_at names name (sym (ap (λ b. b || has names name) (nat_list_eq_equiv.symm name x ∙ other)) ∙ there))
 
   -- a name that isn't there has no line
   no_line : (names : List (List ℕ)) (name : List ℕ) → has names name ≡ false → slice_get (lines stmts names) (index_of (lines stmts names) name) ≡ None
   no_line [] name absent = refl
   no_line (x ∷ names) name absent =
-      let other : bytes_eq x name ≡ false = nat_list_eq_equiv.symm x name ∙ left_false (bytes_eq name x) (has names name) absent in
+      let other : bytes_eq x name ≡ false = nat_list_eq_equiv.symm x name ∙ (or_parts (bytes_eq name x) (has names name) absent).0 in
       let k = index_of (lines stmts names) name in
       let next : suc k ≡ 1 + k = omega arith in
       subst (λ (b : Bool). slice_get (lines stmts (x ∷ names)) (cond (not b) (1 + k) 0) ≡ None) (sym other)
-      (subst (λ (i : ℕ). slice_get (lines stmts (x ∷ names)) i ≡ None) next (no_line names name (right_false (bytes_eq name x) (has names name) absent)))
+      (subst (λ (i : ℕ). slice_get (lines stmts (x ∷ names)) i ≡ None) next (no_line names name ((or_parts (bytes_eq name x) (has names name) absent).1)))
 
   -- a name that appears in a statement
   abbrev Appears : List ℕ → Type 0
@@ -178,8 +158,8 @@ module _ (stmts : List Labelled) where
 undeclared : (decls : List Decl) (name : List ℕ) → has (map (λ decl. decl.name) decls) name ≡ false → first_answer (dims_told name) decls ≡ None
 undeclared [] name absent = refl
 undeclared (decl ∷ decls) name absent =
-    let other : bytes_eq decl.name name ≡ false = nat_list_eq_equiv.symm decl.name name ∙ left_false (bytes_eq name decl.name) (has (map (λ d. d.name) decls) name) absent in
-    rw other (undeclared decls name (right_false (bytes_eq name decl.name) (has (map (λ d. d.name) decls) name) absent))
+    let other : bytes_eq decl.name name ≡ false = nat_list_eq_equiv.symm decl.name name ∙ (or_parts (bytes_eq name decl.name) (has (map (λ d. d.name) decls) name) absent).0 in
+    rw other (undeclared decls name ((or_parts (bytes_eq name decl.name) (has (map (λ d. d.name) decls) name) absent).1))
 
 undeclared_parts : (parts : List CommonPart) (name : List ℕ) → has (flat_map (λ part. map (λ decl. decl.name) part.decls) parts) name ≡ false → first_answer (dims_told name) (flat_map (λ part. part.decls) parts) ≡ None
 undeclared_parts [] name absent = refl
@@ -188,8 +168,8 @@ undeclared_parts (part ∷ parts) name absent =
     let rest = flat_map (λ (p : CommonPart). map (λ (decl : Decl). decl.name) p.decls) parts in
     let parted : (has names name || has rest name) ≡ false = sym (list_any-append (bytes_eq name) names rest) ∙ absent in
     first_answer-append (dims_told name) part.decls (flat_map (λ p. p.decls) parts)
-    ∙ ap (λ told. answer_or told (first_answer (dims_told name) (flat_map (λ p. p.decls) parts))) (undeclared part.decls name (left_false (has names name) (has rest name) parted))
-    ∙ undeclared_parts parts name (right_false (has names name) (has rest name) parted)
+    ∙ ap (λ told. answer_or told (first_answer (dims_told name) (flat_map (λ p. p.decls) parts))) (undeclared part.decls name ((or_parts (has names name) (has rest name) parted).0))
+    ∙ undeclared_parts parts name ((or_parts (has names name) (has rest name) parted).1)
 
 undeclared_in : (arrays : List ℕ → Bool) (stmt : Stmt) (name : List ℕ) → has (appearing arrays stmt) name ≡ false → first_answer (dims_told name) (declarators stmt) ≡ None
 undeclared_in arrays (TypeOf kind decls) name absent = undeclared decls name absent
@@ -204,8 +184,8 @@ undeclared_all arrays (s ∷ stmts) name absent =
     let rest = flat_map (λ (a : Labelled). appearing arrays a.stmt) stmts in
     let parted : (has names name || has rest name) ≡ false = sym (list_any-append (bytes_eq name) names rest) ∙ absent in
     first_answer-append (dims_told name) (declarators s.stmt) (all_declarators stmts)
-    ∙ ap (λ told. answer_or told (first_answer (dims_told name) (all_declarators stmts))) (undeclared_in arrays s.stmt name (left_false (has names name) (has rest name) parted))
-    ∙ undeclared_all arrays stmts name (right_false (has names name) (has rest name) parted)
+    ∙ ap (λ told. answer_or told (first_answer (dims_told name) (all_declarators stmts))) (undeclared_in arrays s.stmt name ((or_parts (has names name) (has rest name) parted).0))
+    ∙ undeclared_all arrays stmts name ((or_parts (has names name) (has rest name) parted).1)
 
 module _ (stmts : List Labelled) where
   dims_known : (name : List ℕ) (there : Bool) → has (all_names stmts) name ≡ there → dims_named (names_of stmts) name ≡ dims_of stmts name

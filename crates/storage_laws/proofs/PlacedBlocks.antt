@@ -1,22 +1,21 @@
 -- No two blocks of COMMON share a storage, and none gets a word before its first.
-use Rattle.std.proofs.Common.{◌≡◌, ℕ, zero, suc, ◌<◌, ◌⊎◌, inl, inr, ⊎_elim, ◌≤ℤ◌, Bool, true, false, cond, not, List, [], ◌∷◌, ◌++◌, length, map, get_or, Option, Some, refl, sym, ap, ◌∙◌, arith, Contains}
-use Rattle.std.specs.Prelude.{filter, flat_map, slice_get, int_le, ◌||◌}
-use Rattle.std.specs.List.{list_all, list_any, range_with_len}
-use Rattle.std.proofs.lemmas.Bool.{cases_Bool, eq-eqb, and_parts, or_from}
+use Rattle.std.proofs.Common.{◌≡◌, ℕ, zero, suc, ◌<◌, ◌⊎◌, inl, inr, ⊎_elim, Bool, true, false, cond, List, [], ◌∷◌, ◌++◌, length, map, get_or, Option, Some, refl, sym, ap, subst, ◌∙◌, arith, Contains}
+use Rattle.std.specs.Prelude.{filter, flat_map, slice_get}
+use Rattle.std.specs.List.{list_any}
+use mathlib.Core.Path.{fun_ext}
+use Rattle.std.proofs.lemmas.Bool.{cases_Bool, or_from}
 use Rattle.std.proofs.lemmas.List.{map-append}
-use Rattle.std.proofs.lemmas.List.Elements.{filter-append}
+use Rattle.std.proofs.lemmas.List.Elements.{filter-append, Contains-append_left, Contains-append_right}
 use Rattle.std.proofs.lemmas.List.Folds.{list_any-append}
-use Rattle.std.proofs.lemmas.List.FromFn.{length-range_with_len, get_or-range_with_len}
 use Rattle.f77_tree.specs.declared.declarations.CommonPart.{CommonPart}
 use Rattle.f77_tree.specs.declared.declarations.Decl.{Decl}
 use Rattle.f77_tree.specs.declared.programs.NameInfo.{NameInfo}
 use Rattle.f77_tree.specs.Declarations.{part_names, index_of}
 use Rattle.f77_tree.specs.Places.{same_block, block_names}
 use Rattle.f77_tree.proofs.NameLemmas.{same_block-same}
-use Rattle.layout_rules.specs.Storage.{Spot, Standing, standings_of, spot_at, shares_storage, blocks_are_apart, none_before, blocks_begin}
-use Rattle.layout_rules.specs.Spots.{storage_at, distance_at}
-use Rattle.layout_rules.proofs.Bounds.{le-yes}
-use Rattle.storage_laws.proofs.PlacedLinks.{all-test}
+use Rattle.layout_rules.specs.Storage.{Standing, standings_of}
+use Rattle.layout_rules.specs.Standings.{firsts_after}
+use Rattle.layout_rules.proofs.StandingLemmas.{first_if, first-there}
 
 -- ---- lists
 
@@ -95,42 +94,20 @@ module _ (names : List NameInfo) (block : Option (List ℕ)) where
       ∙ sym apart)
       (cases_Bool (same_block part.block block))
 
--- ---- blocks that are apart
+-- the names of a block in the table with places are those that stand in it
+pub placed-block_names : (names placed : List NameInfo) → ((name : List ℕ) → index_of placed name ≡ index_of names name) → (block : Option (List ℕ)) (commons : List CommonPart) → block_names placed commons block ≡ map name_in (filter (in_block block) (flat_map (standings_of names) commons))
+placed-block_names names placed index block commons =
+    ap (λ (f : List ℕ → ℕ). flat_map (λ (part : CommonPart). map (λ (decl : Decl). f decl.name) part.decls) (filter (λ (part : CommonPart). same_block part.block block) commons)) (fun_ext index)
+    ∙ block-names names block commons
 
-module _ (spots : List Spot) (standings : List Standing) where
-  pub one-block : blocks_are_apart spots standings ≡ true → (a b : Option (List ℕ)) (x y : ℕ) → IsImage name_in (in_block a) standings x → IsImage name_in (in_block b) standings y → storage_at spots x ≡ storage_at spots y → a ≡ b
-  one-block apart a b x y at_x at_y same =
-      let s = at_x.element in
-      let t = at_y.element in
-      let each = all-test (λ (z : Standing). list_all (λ (w : Standing). not (shares_storage spots z.name w.name) || same_block z.block w.block) standings) standings apart s at_x.there in
-      let both : (not (shares_storage spots s.name t.name) || same_block s.block t.block) ≡ true = all-test (λ (w : Standing). not (shares_storage spots s.name w.name) || same_block s.block w.block) standings each t at_y.there in
-      let together : storage_at spots s.name ≡ storage_at spots t.name = ap (λ k. storage_at spots k) at_x.value ∙ same ∙ ap (λ k. storage_at spots k) (sym at_y.value) in
-      let shares : shares_storage spots s.name t.name ≡ true = eq-eqb (storage_at spots s.name) (storage_at spots t.name) together in
-      let one : same_block s.block t.block ≡ true = ap (λ b. not b || same_block s.block t.block) (sym shares) ∙ both in
-      sym (same_block-same s.block a at_x.passes) ∙ same_block-same s.block t.block one ∙ same_block-same t.block b at_y.passes
-
--- ---- first names
-
-pub begins-before : (count : ℕ) (spots : List Spot) (x : ℕ) → none_before count spots x ≡ true → (y : ℕ) → y < count → storage_at spots x ≡ storage_at spots y → distance_at spots x ≤ℤ distance_at spots y
-begins-before count spots x h y lt same =
-    let at : get_or (range_with_len 0 count) y y ≡ y = get_or-range_with_len 0 count y y lt ∙ omega arith in
-    let inside : y < length (range_with_len 0 count) = omega (arith, length-range_with_len 0 count) in
-    let here : (not (shares_storage spots x y) || int_le (spot_at spots x).distance (spot_at spots y).distance) ≡ true = all-test (λ z. not (shares_storage spots x z) || int_le (spot_at spots x).distance (spot_at spots z).distance) (range_with_len 0 count) h y (y, inside, at) in
-    let shares : shares_storage spots x y ≡ true = eq-eqb (storage_at spots x) (storage_at spots y) same in
-    le-yes (distance_at spots x) (distance_at spots y) (ap (λ b. not b || int_le (distance_at spots x) (distance_at spots y)) (sym shares) ∙ here)
-
--- no name of the storage of a block's first name begins before it
-pub first-begins : (count : ℕ) (spots : List Spot) (block : Option (List ℕ)) (seen rest : List Standing) (x : ℕ) → list_any (in_block block) seen ≡ false → blocks_begin count spots seen rest ≡ true → slice_get (map name_in (filter (in_block block) rest)) 0 ≡ Some x → none_before count spots x ≡ true
-first-begins count spots block seen [] x none begin first = absurd cc
-first-begins count spots block seen (s ∷ rest) x none begin first = by (in_block block s) refl first (λ more out. first-begins count spots block (seen ++ s ∷ []) rest x out both.1 more)
+-- the first name of a block is one of the first names
+pub first-among : (block : Option (List ℕ)) (seen rest : List Standing) (x : ℕ) → list_any (in_block block) seen ≡ false → slice_get (map name_in (filter (in_block block) rest)) 0 ≡ Some x → Contains (firsts_after seen rest) x
+first-among block seen [] x none first = absurd cc
+first-among block seen (s ∷ rest) x none first = by (in_block block s) refl first (λ more out. first-among block (seen ++ s ∷ []) rest x out more)
   where
-    both : ((list_any (λ a. same_block a.block s.block) seen || none_before count spots s.name) ≡ true) × (blocks_begin count spots (seen ++ s ∷ []) rest ≡ true)
-    both = and_parts (list_any (λ a. same_block a.block s.block) seen || none_before count spots s.name) (blocks_begin count spots (seen ++ s ∷ []) rest) begin
-
-    by : (b : Bool) → in_block block s ≡ b → slice_get (map name_in (cond b (s ∷ filter (in_block block) rest) (filter (in_block block) rest))) 0 ≡ Some x → (slice_get (map name_in (filter (in_block block) rest)) 0 ≡ Some x → list_any (in_block block) (seen ++ s ∷ []) ≡ false → none_before count spots x ≡ true) → none_before count spots x ≡ true
-    by false e head later = later head (list_any-append (in_block block) seen (s ∷ []) ∙ or_from (list_any (in_block block) seen) (list_any (in_block block) (s ∷ [])) none (or_from (in_block block s) false e refl))
+    by : (b : Bool) → in_block block s ≡ b → slice_get (map name_in (cond b (s ∷ filter (in_block block) rest) (filter (in_block block) rest))) 0 ≡ Some x → (slice_get (map name_in (filter (in_block block) rest)) 0 ≡ Some x → list_any (in_block block) (seen ++ s ∷ []) ≡ false → Contains (firsts_after (seen ++ s ∷ []) rest) x) → Contains (firsts_after seen (s ∷ rest)) x
+    by false e head later = Contains-append_right (first_if seen s) (firsts_after (seen ++ s ∷ []) rest) x (later head (list_any-append (in_block block) seen (s ∷ []) ∙ or_from (list_any (in_block block) seen) (list_any (in_block block) (s ∷ [])) none (or_from (in_block block s) false e refl)))
     by true e head later =
-        let own : s.block ≡ block = same_block-same s.block block e in
         let is : s.name ≡ x = cc in
-        let none_seen : list_any (λ a. same_block a.block s.block) seen ≡ false = ap (λ b. list_any (in_block b) seen) own ∙ none in
-        ap (none_before count spots) (sym is) ∙ ap (λ b. b || none_before count spots s.name) (sym none_seen) ∙ both.0
+        let fresh : list_any (λ a. same_block a.block s.block) seen ≡ false = ap (λ b. list_any (in_block b) seen) (same_block-same s.block block e) ∙ none in
+        Contains-append_left (first_if seen s) (firsts_after (seen ++ s ∷ []) rest) x (subst (λ (k : ℕ). Contains (first_if seen s) k) is (first-there seen s fresh))

@@ -1,54 +1,22 @@
 -- COMMON alone never makes places wrong.
-use Rattle.std.proofs.Common.{◌≡◌, ◌≢◌, ℕ, zero, suc, ◌<◌, ◌⊎◌, inl, inr, ⊎_elim, pos, ◌-ℤ◌, ◌≤ℤ◌, Bool, true, false, cond, ◌==◌, List, [], ◌∷◌, ◌++◌, length, get_or, Option, Some, None, refl, sym, ap, subst, ◌∙◌, arith, append-nil, Contains}
-use Rattle.std.specs.Prelude.{fold}
+use Rattle.std.proofs.Common.{◌≡◌, ◌≢◌, ℕ, ◌<◌, ⊎_elim, pos, ◌-ℤ◌, ◌≤ℤ◌, Bool, true, false, cond, ◌==◌, List, [], ◌∷◌, ◌++◌, length, Some, None, refl, sym, ap, subst, ◌∙◌, arith, append-nil, Contains}
 use Rattle.std.specs.List.{list_any}
 use Rattle.std.proofs.lemmas.Int.{ints}
-use Rattle.std.proofs.lemmas.Bool.{eq-eqb, or_parts, or_left, or_right}
+use Rattle.std.proofs.lemmas.Bool.Decides.{nat_tests}
+use Rattle.std.proofs.lemmas.Bool.{or_parts}
 use Rattle.std.proofs.lemmas.List.Elements.{Contains-push_cases}
-use Rattle.f77_tree.specs.Places.{Equation, same_block}
-use Rattle.f77_tree.proofs.NameLemmas.{same_block-same}
+use Rattle.f77_tree.specs.Places.{Equation}
 use Rattle.layout_rules.specs.Storage.{Spot, Standing, linked, alone, last_standing}
 use Rattle.layout_rules.specs.Standings.{firsts_of}
 use Rattle.layout_rules.specs.Spots.{storage_at, distance_at, IsBelow}
 use Rattle.layout_rules.proofs.Alone.{length-alone, storage-alone}
 use Rattle.layout_rules.proofs.Linking.{length-after, below-after, apart-after, meet-after, across-after}
-use Rattle.layout_rules.proofs.StandingLemmas.{firsts-push, last-none, last-some, any-push, firsts-stand}
+use Rattle.layout_rules.proofs.StandingLemmas.{firsts-push, last-none, last-some, any-push, firsts-stand, stands-each, IsStanding}
 use Rattle.storage_laws.proofs.PlacedLinks.{IsEquation, AreEquations}
 
 -- whether a name is one of these
 abbrev pub stands_in : List Standing → ℕ → Bool
 stands_in xs k = list_any (λ a. a.name == k) xs
-
-stands-each : (xs : List Standing) (t : Standing) → Contains xs t → stands_in xs t.name ≡ true
-stands-each [] t h = absurd (omega (arith, h.1))
-stands-each (x ∷ xs) t h = by h.0 h.1 h.2 (λ more. stands-each xs t more)
-  where
-    by : (i : ℕ) → i < length (x ∷ xs) → get_or (x ∷ xs) i t ≡ t → (Contains xs t → stands_in xs t.name ≡ true) → stands_in (x ∷ xs) t.name ≡ true
-    by zero lt e later = or_left (x.name == t.name) (stands_in xs t.name) (eq-eqb x.name t.name (ap (λ (z : Standing). z.name) e))
-    by (suc i) lt e later = or_right (x.name == t.name) (stands_in xs t.name) (later (i, omega arith, e))
-
--- a name of COMMON, in this block
-pub record IsLast (xs : List Standing) (block : Option (List ℕ)) (k : ℕ) : Type 0 where
-  pub standing : Standing
-  pub there : Contains xs standing
-  pub own : standing.block ≡ block
-  pub named : standing.name ≡ k
-
--- the last name of a block is one of its names
-pub last-of : (block : Option (List ℕ)) (last : Option ℕ) (xs : List Standing) (k : ℕ) → fold (λ l s. cond (same_block s.block block) (Some s.name) l) last xs ≡ Some k → (last ≡ Some k) ⊎ IsLast xs block k
-last-of block last [] k e = inl e
-last-of block last (x ∷ xs) k e =
-    ⊎_elim
-    (λ h. here (same_block x.block block) refl h)
-    (λ is. inr (later is))
-    (last-of block (cond (same_block x.block block) (Some x.name) last) xs k e)
-  where
-    later : IsLast xs block k → IsLast (x ∷ xs) block k
-    later is = record { standing = is.standing; there = (suc is.there.0, omega (arith, is.there.1), is.there.2); own = is.own; named = is.named }
-
-    here : (b : Bool) → same_block x.block block ≡ b → cond b (Some x.name) last ≡ Some k → (last ≡ Some k) ⊎ IsLast (x ∷ xs) block k
-    here true same h = let named : x.name ≡ k = cc in inr (record { standing = x; there = (0, omega arith, refl); own = same_block-same x.block block same; named = named })
-    here false same h = inl h
 
 -- ---- the places that some names of COMMON give
 
@@ -97,29 +65,12 @@ module _ (count : ℕ) (xs : List Standing) (all : List Equation) (spots : List 
         loose = λ k y i j out same. old.loose k y i j (not-more k out).0 same;
         ends = old.ends;
         kept = old.kept;
-        apart = λ a b at_a at_b same.
-            ⊎_elim
-            (λ old_a. ⊎_elim
-            (λ old_b. old.apart a b old_a old_b same)
-            (λ (new_b : s ≡ b). absurd (not-standing a old_a (same ∙ ap (λ (z : Standing). storage_at spots z.name) (sym new_b))))
-            (Contains-push_cases xs s b at_b))
-            (λ (new_a : s ≡ a). ⊎_elim
-            (λ old_b. absurd (not-standing b old_b (sym same ∙ ap (λ (z : Standing). storage_at spots z.name) (sym new_a))))
-            (λ (new_b : s ≡ b). ap (λ (z : Standing). z.block) (sym new_a ∙ new_b))
-            (Contains-push_cases xs s b at_b))
-            (Contains-push_cases xs s a at_a);
-        begins = λ x y h i j same.
-            ⊎_elim
-            (λ first. old.begins x y first i j same)
-            (λ (new : s.name ≡ x).
-            let e : y ≡ s.name = old.loose s.name y lt j fresh (sym same ∙ ap (λ z. storage_at spots z) (sym new)) in
-            let d : distance_at spots x ≡ distance_at spots y = ap (λ z. distance_at spots z) (sym new ∙ sym e) in
-            omega (arith, ints))
-            (Contains-push_cases (firsts_of xs) s.name x (subst (λ (ks : List ℕ). Contains ks x) firsts h));
+        apart = λ a b at_a at_b same. grind (arith, Contains-push_cases xs s a at_a, Contains-push_cases xs s b at_b, old.apart a b, not-standing a, not-standing b);
+        begins = λ x y h i j same. grind (arith, ints, Contains-push_cases (firsts_of xs) s.name x (subst (λ (ks : List ℕ). Contains ks x) firsts h), old.begins x y, old.loose s.name y lt j fresh);
       }
 
   -- a name after another one of its block
-  module _ (b : ℕ) (last : IsLast xs s.block b) (size : ℕ) where
+  module _ (b : ℕ) (last : IsStanding xs s.block b) (size : ℕ) where
     abbrev link : Equation
     link = record { from = b; to = s.name; distance = pos size }
 
@@ -127,10 +78,10 @@ module _ (count : ℕ) (xs : List Standing) (all : List Equation) (spots : List 
     after = linked spots link
 
     b_in : b < count
-    b_in = subst (λ (k : ℕ). k < count) last.named (known last.standing last.there)
+    b_in = subst (λ (k : ℕ). k < count) last.name_is (known last.standing last.stands)
 
     b_stands : stands_in xs b ≡ true
-    b_stands = ap (stands_in xs) (sym last.named) ∙ stands-each xs last.standing last.there
+    b_stands = ap (stands_in xs) (sym last.name_is) ∙ stands-each xs last.standing last.stands
 
     inside : (x : ℕ) → x < count → x < length spots
     inside x i = omega (arith, old.names)
@@ -140,21 +91,7 @@ module _ (count : ℕ) (xs : List Standing) (all : List Equation) (spots : List 
 
     -- names of one storage were in one, or one of them is the new name
     loose-after : (k y : ℕ) → k < count → y < count → stands_in more k ≡ false → storage_at after y ≡ storage_at after k → y ≡ k
-    loose-after k y i j out same =
-        let none = not-more k out in
-        ⊎_elim
-        (λ h. old.loose k y i j none.0 h)
-        (λ h. ⊎_elim
-        (λ ab.
-        let e : s.name ≡ k = old.loose k s.name i lt none.0 (sym ab.1) in
-        let impossible : true ≡ false = sym (eq-eqb s.name k e) ∙ none.1 in
-        absurd cc)
-        (λ ba.
-        let e : b ≡ k = old.loose k b i b_in none.0 (sym ba.1) in
-        let impossible : true ≡ false = sym b_stands ∙ ap (stands_in xs) e ∙ none.0 in
-        absurd cc)
-        h)
-        (apart-after spots link y k (inside y j) (inside k i) same)
+    loose-after k y i j out same = grind (arith, apart-after spots link y k (inside y j) (inside k i) same, old.loose k y i j (not-more k out).0, old.loose k s.name i lt (not-more k out).0, old.loose k b i b_in (not-more k out).0, (not-more k out).0, (not-more k out).1, b_stands, nat_tests)
 
     own-after : IsBelow after s.name b (pos size)
     own-after =
@@ -177,34 +114,13 @@ module _ (count : ℕ) (xs : List Standing) (all : List Equation) (spots : List 
 
     -- a name of COMMON that now shares a storage with the new one is of its block
     with-new : (t : Standing) → Contains xs t → storage_at after t.name ≡ storage_at after s.name → t.block ≡ s.block
-    with-new t h same =
-        ⊎_elim
-        (λ z. absurd (not-standing t h z))
-        (λ z. ⊎_elim
-        (λ ab. old.apart t last.standing h last.there (ab.0 ∙ ap (λ k. storage_at spots k) (sym last.named)) ∙ last.own)
-        (λ ba. absurd (not-standing t h ba.0))
-        z)
-        (apart-after spots link t.name s.name (inside t.name (known t h)) (inside s.name lt) same)
+    with-new t h same = grind (arith, apart-after spots link t.name s.name (inside t.name (known t h)) (inside s.name lt) same, old.apart t last.standing h last.stands, last.name_is, last.block_is, not-standing t h)
 
     both-old : (t u : Standing) → Contains xs t → Contains xs u → storage_at after t.name ≡ storage_at after u.name → t.block ≡ u.block
-    both-old t u h g same =
-        ⊎_elim
-        (λ z. old.apart t u h g z)
-        (λ z. ⊎_elim (λ ab. absurd (not-standing u g ab.1)) (λ ba. absurd (not-standing t h ba.0)) z)
-        (apart-after spots link t.name u.name (inside t.name (known t h)) (inside u.name (known u g)) same)
+    both-old t u h g same = grind (arith, apart-after spots link t.name u.name (inside t.name (known t h)) (inside u.name (known u g)) same, old.apart t u h g, not-standing t h, not-standing u g)
 
     apart-more : (t u : Standing) → Contains more t → Contains more u → storage_at after t.name ≡ storage_at after u.name → t.block ≡ u.block
-    apart-more t u at_t at_u same =
-        ⊎_elim
-        (λ old_t. ⊎_elim
-        (λ old_u. both-old t u old_t old_u same)
-        (λ (new_u : s ≡ u). with-new t old_t (same ∙ ap (λ (z : Standing). storage_at after z.name) (sym new_u)) ∙ ap (λ (z : Standing). z.block) new_u)
-        (Contains-push_cases xs s u at_u))
-        (λ (new_t : s ≡ t). ⊎_elim
-        (λ old_u. sym (with-new u old_u (sym same ∙ ap (λ (z : Standing). storage_at after z.name) (sym new_t)) ∙ ap (λ (z : Standing). z.block) new_t))
-        (λ (new_u : s ≡ u). ap (λ (z : Standing). z.block) (sym new_t ∙ new_u))
-        (Contains-push_cases xs s u at_u))
-        (Contains-push_cases xs s t at_t)
+    apart-more t u at_t at_u same = grind (arith, Contains-push_cases xs s t at_t, Contains-push_cases xs s u at_u, both-old t u, with-new t, with-new u)
 
     begins-after : (x y : ℕ) → Contains (firsts_of xs) x → x < count → y < count → storage_at after x ≡ storage_at after y → distance_at after x ≤ℤ distance_at after y
     begins-after x y first i j same =

@@ -12,10 +12,10 @@ use Rattle.layout_rules.specs.StorageFaults.{has_wrong_storage}
 use Rattle.layout_rules.proofs.ElementCounts.{right-count}
 use Rattle.storage_laws.proofs.DeclaredKnown.{all_commons-known, all_groups-known}
 use Rattle.storage_laws.proofs.DeclaredCommon.{all_commons-once}
-use Rattle.storage_laws.proofs.DeclaredEquations.{sizes-exact, equations-agree}
+use Rattle.storage_laws.proofs.DeclaredEquations.{linked-within, sizes-exact, equations-agree}
 use Rattle.layout_rules.proofs.RightDims.{right_dims}
 use Rattle.storage_laws.proofs.RightStorage.{right_dims_of}
-use Rattle.storage_laws.proofs.PlacedAlike.{linked-by-more, places-alike}
+use Rattle.storage_laws.proofs.PlacedAlike.{places-alike}
 use Rattle.storage_laws.proofs.PlacedProgram.{places-of, shared-of}
 
 module _ (whole : List Labelled) (source : IsSource whole) (none : first_line (has_wrong_storage (names_of whole) (placed_names whole) whole) whole ≡ None) where
@@ -33,5 +33,5 @@ module _ (whole : List Labelled) (source : IsSource whole) (none : first_line (h
   pub program-shared : (checked : Bool) (x y word : ℕ) → IsWordOf (program whole checked).names x word → IsWordOf (program whole checked).names y word → Linked (equations_of (program whole checked).names (program whole checked).commons (program whole checked).groups) x y
   program-shared checked x y word at_x at_y =
       let same = equations-agree whole none source in
-      linked-by-more (equations (names_of whole) (all_commons whole) (all_groups whole)) (equations_of (placed_names whole) (all_commons whole) (all_groups whole)) same.to x y
+      linked-within (equations (names_of whole) (all_commons whole) (all_groups whole)) (equations_of (placed_names whole) (all_commons whole) (all_groups whole)) same.to x y
       (shared-of whole (λ x. (sizes-exact whole none x, some x)) (all_commons-known whole) (all_groups-known whole) (all_commons-once whole none) none x y word at_x at_y)

@@ -1,20 +1,21 @@
 -- The equations of COMMON and EQUIVALENCE lead from names of the table to names of the table.
-use Rattle.std.proofs.Common.{◌≡◌, ℕ, suc, ◌<◌, ⊎_elim, pos, Bool, true, false, cond, ◌==◌, List, [], ◌∷◌, ◌++◌, length, map, Option, Some, None, refl, sym, ap, subst, ◌∙◌, arith, append_assoc, append-nil, Contains, All}
+use Rattle.std.proofs.Common.{◌≡◌, ℕ, suc, ◌<◌, ⊎_elim, pos, true, false, ◌==◌, List, [], ◌∷◌, ◌++◌, length, map, get_or, Option, Some, None, refl, sym, ap, subst, ◌∙◌, arith, append_assoc, append-nil, Contains, All}
 use Rattle.std.specs.Prelude.{flat_map, slice_get, fold}
 use Rattle.std.specs.List.{list_any}
 use Rattle.std.proofs.lemmas.Bool.{cases_Bool, eqb-true, or_from}
 use Rattle.std.proofs.lemmas.List.{map-append}
-use Rattle.std.proofs.lemmas.List.Elements.{All-head, All-tail, Contains-append_cases, Contains-push_cases}
+use Rattle.std.proofs.lemmas.List.Elements.{All-nil, All-head, All-tail, All-map, All-contains, Contains-append_cases, Contains-push_cases}
 use Rattle.f77_tree.specs.declared.declarations.CommonPart.{CommonPart}
 use Rattle.f77_tree.specs.declared.declarations.Decl.{Decl}
 use Rattle.f77_tree.specs.declared.declarations.Member.{Member}
 use Rattle.f77_tree.specs.declared.programs.NameInfo.{NameInfo}
 use Rattle.f77_tree.specs.Declarations.{part_names, index_of, member_index, CommonOnce}
-use Rattle.f77_tree.specs.Places.{Equation, same_block}
+use Rattle.f77_tree.specs.Places.{Equation}
 use Rattle.layout_rules.specs.Storage.{Standing, standings, standings_of, with_standing, last_standing, following, standing_equations, common_equations, equated, group_equations, equations, size_at}
 use Rattle.layout_rules.specs.Standings.{ArePartsKnown, AreGroupsKnown}
-use Rattle.layout_rules.proofs.StandingLemmas.{with-new}
+use Rattle.layout_rules.proofs.StandingLemmas.{with-new, last-stands}
 use Rattle.storage_laws.proofs.PlacedLinks.{IsEquation, AreEquations}
+use Rattle.storage_laws.proofs.DeclaredForms.{All-flat_map}
 use Rattle.storage_laws.proofs.PlacedBlocks.{contains-cases, name_in}
 
 -- ---- names of COMMON where none stands twice
@@ -80,33 +81,13 @@ AreInTable count xs = (s : Standing) → Contains xs s → s.name < count
 
 module _ (names : List NameInfo) (count : ℕ) where
   -- where each name of COMMON is in the table, each that stands is
-  decls-in : (block : Option (List ℕ)) (decls : List Decl) → All (λ (decl : Decl). index_of names decl.name < count) decls → AreInTable count (map (standing names block) decls)
-  decls-in block [] all s h = absurd (omega (arith, h.1))
-  decls-in block (decl ∷ decls) all s h =
-      ⊎_elim
-      (λ (is : standing names block decl ≡ s). subst (λ (z : Standing). z.name < count) is (All-head (λ (d : Decl). index_of names d.name < count) decl decls all))
-      (λ more. decls-in block decls (All-tail (λ (d : Decl). index_of names d.name < count) decl decls all) s more)
-      (contains-cases (standing names block decl) (map (standing names block) decls) s h)
-
   abbrev PartIn : CommonPart → Type 0
   PartIn part = All (λ (decl : Decl). index_of names decl.name < count) part.decls
 
   pub standings-in : (commons : List CommonPart) → All PartIn commons → AreInTable count (flat_map (standings_of names) commons)
-  standings-in [] all s h = absurd (omega (arith, h.1))
-  standings-in (part ∷ commons) all s h =
-      ⊎_elim
-      (λ here. decls-in part.block part.decls (All-head PartIn part commons all) s here)
-      (λ more. standings-in commons (All-tail PartIn part commons all) s more)
-      (Contains-append_cases (standings_of names part) (flat_map (standings_of names) commons) s h)
-
-  -- the last name of a block is one of those that stand
-  last-in : (block : Option (List ℕ)) (last : Option ℕ) (xs : List Standing) → ((k : ℕ) → last ≡ Some k → k < count) → AreInTable count xs → (k : ℕ) → fold (λ l s. cond (same_block s.block block) (Some s.name) l) last xs ≡ Some k → k < count
-  last-in block last [] known all k e = known k e
-  last-in block last (s ∷ xs) known all k e = last-in block (cond (same_block s.block block) (Some s.name) last) xs (now (same_block s.block block)) (λ z h. all z (suc h.0, omega (arith, h.1), h.2)) k e
-    where
-      now : (b : Bool) → (j : ℕ) → cond b (Some s.name) last ≡ Some j → j < count
-      now true j same = let is : s.name ≡ j = cc in subst (λ (i : ℕ). i < count) is (all s (0, omega arith, refl))
-      now false j same = known j same
+  standings-in commons all s h =
+      let known : (z : Standing) → Type 0 = λ z. z.name < count in
+      All-contains known (flat_map (standings_of names) commons) s (All-flat_map known (standings_of names) commons (λ k d lt. All-map known (standing names (get_or commons k d).block) (get_or commons k d).decls (all k d lt))) h
 
   following-in : (last : Option ℕ) (name : ℕ) → ((k : ℕ) → last ≡ Some k → k < count) → name < count → AreEquations count (following names last name)
   following-in None name known lt e h = absurd (omega (arith, h.1))
@@ -124,32 +105,19 @@ module _ (names : List NameInfo) (count : ℕ) where
   standing-ends seen (s ∷ xs) stood all e h =
       let here : s.name < count = all s (0, omega arith, refl) in
       ⊎_elim
-      (λ first. following-in (last_standing s.block seen) s.name (last-in s.block None seen (λ k none. absurd cc) stood) here e first)
+      (λ first. following-in (last_standing s.block seen) s.name (λ k is. let f = last-stands s.block seen k is in subst (λ (i : ℕ). i < count) f.name_is (stood f.standing f.stands)) here e first)
       (λ more. standing-ends (seen ++ s ∷ []) xs (λ z c. ⊎_elim (λ old. stood z old) (λ (is : s ≡ z). subst (λ (w : Standing). w.name < count) is here) (Contains-push_cases seen s z c)) (λ z c. all z (suc c.0, omega (arith, c.1), c.2)) e more)
       (Contains-append_cases (following names (last_standing s.block seen) s.name) (standing_equations names (seen ++ s ∷ []) xs) e h)
 
   abbrev MemberIn : Member → Type 0
   MemberIn member = member_index names member < count
 
-  members-in : (first : Member) (rest : List Member) → MemberIn first → All MemberIn rest → AreEquations count (map (equated names first) rest)
-  members-in first [] known all e h = absurd (omega (arith, h.1))
-  members-in first (member ∷ rest) known all e h =
-      ⊎_elim
-      (λ is. subst (IsEquation count) is (record { first = known; second = All-head MemberIn member rest all }))
-      (λ more. members-in first rest known (All-tail MemberIn member rest all) e more)
-      (contains-cases (equated names first member) (map (equated names first) rest) e h)
-
-  group-in : (group : List Member) → All MemberIn group → AreEquations count (group_equations names group)
-  group-in [] all e h = absurd (omega (arith, h.1))
-  group-in (first ∷ rest) all e h = members-in first rest (All-head MemberIn first rest all) (All-tail MemberIn first rest all) e h
+  group-in : (group : List Member) → All MemberIn group → All (IsEquation count) (group_equations names group)
+  group-in [] all = All-nil (IsEquation count)
+  group-in (first ∷ rest) all = All-map (IsEquation count) (equated names first) rest (λ k d lt. record { first = All-head MemberIn first rest all; second = All-tail MemberIn first rest all k d lt })
 
   groups-in : (groups : List (List Member)) → All (All MemberIn) groups → AreEquations count (flat_map (group_equations names) groups)
-  groups-in [] all e h = absurd (omega (arith, h.1))
-  groups-in (group ∷ groups) all e h =
-      ⊎_elim
-      (λ here. group-in group (All-head (All MemberIn) group groups all) e here)
-      (λ more. groups-in groups (All-tail (All MemberIn) group groups all) e more)
-      (Contains-append_cases (group_equations names group) (flat_map (group_equations names) groups) e h)
+  groups-in groups all e h = All-contains (IsEquation count) (flat_map (group_equations names) groups) e (All-flat_map (IsEquation count) (group_equations names) groups (λ k d lt. group-in _ (all k d lt))) h
 
 -- where the names of COMMON and EQUIVALENCE are in the table, so are the ends of their equations
 pub ends-in : (names : List NameInfo) (commons : List CommonPart) (groups : List (List Member)) → ArePartsKnown names commons → AreGroupsKnown names groups → CommonOnce names commons → AreEquations (length names) (equations names commons groups)

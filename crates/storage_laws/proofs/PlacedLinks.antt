@@ -1,13 +1,8 @@
 -- Names share a storage exactly where equations link them.
-use Rattle.std.proofs.Common.{◌≡◌, ℕ, suc, ◌<◌, ⊎_elim, ◌+ℤ◌, Bool, true, List, [], ◌∷◌, length, Contains, refl, sym, ap, subst, ◌∙◌, arith}
-use Rattle.std.specs.Prelude.{fold, ◌==◌}
-use Rattle.std.specs.List.{list_all}
-use Rattle.std.specs.Ordering.{int_eq}
-use Rattle.std.proofs.lemmas.Bool.{eqb-true, and_parts}
-use Rattle.std.proofs.lemmas.Bool.Decides.{Decides-int_eq}
-use Rattle.std.proofs.lemmas.List.Sums.{AllPass-from_list_all}
+use Rattle.std.proofs.Common.{◌≡◌, ℕ, suc, ◌<◌, ⊎_elim, List, [], ◌∷◌, length, Contains, refl, sym, subst, ◌∙◌, arith}
+use Rattle.std.specs.Prelude.{fold}
 use Rattle.f77_tree.specs.Places.{Equation, Linked, itself, along, against}
-use Rattle.layout_rules.specs.Storage.{Spot, spot_at, spots_by, linked, alone, is_kept}
+use Rattle.layout_rules.specs.Storage.{Spot, spots_by, linked, alone}
 use Rattle.layout_rules.specs.Spots.{storage_at, AreLowest, IsBelow}
 use Rattle.layout_rules.proofs.Linking.{length-after, apart-after}
 use Rattle.layout_rules.proofs.Lowest.{lowest-after, lowest-alone}
@@ -92,21 +87,8 @@ module _ (count : ℕ) where
     pub storage-linked_names : (x y : ℕ) → x < count → y < count → storage_at (spots_by count all) x ≡ storage_at (spots_by count all) y → Linked all x y
     storage-linked_names = in_all.links
 
--- ---- equations that hold
-
-pub all-test : {X : Type 0} (test : X → Bool) (xs : List X) → list_all test xs ≡ true → (x : X) → Contains xs x → test x ≡ true
-all-test test xs h x here = ap test (sym here.2) ∙ AllPass-from_list_all test xs h here.0 x here.1
-
-pub kept-each : (spots : List Spot) (all : List Equation) → list_all (is_kept spots) all ≡ true → (e : Equation) → Contains all e → IsBelow spots e.to e.from e.distance
-kept-each spots all h e here =
-    let a = spot_at spots e.from in
-    let b = spot_at spots e.to in
-    let holds : is_kept spots e ≡ true = all-test (is_kept spots) all h e here in
-    let both = and_parts (a.storage == b.storage) (int_eq b.distance (a.distance +ℤ e.distance)) holds in
-    record { together = eqb-true a.storage b.storage both.0; beyond = (Decides-int_eq b.distance (a.distance +ℤ e.distance)).0 both.1 }
-
--- linked names have one storage
-pub linked-storage : (spots : List Spot) (all : List Equation) → list_all (is_kept spots) all ≡ true → (x y : ℕ) → Linked all x y → storage_at spots x ≡ storage_at spots y
+-- linked names have one storage, where the equations hold
+pub linked-storage : (spots : List Spot) (all : List Equation) → ((e : Equation) → Contains all e → IsBelow spots e.to e.from e.distance) → (x y : ℕ) → Linked all x y → storage_at spots x ≡ storage_at spots y
 linked-storage spots all kept x y itself = refl
-linked-storage spots all kept x y (along e here rest) = (kept-each spots all kept e here).together ∙ linked-storage spots all kept e.to y rest
-linked-storage spots all kept x y (against e here rest) = sym (kept-each spots all kept e here).together ∙ linked-storage spots all kept e.from y rest
+linked-storage spots all kept x y (along e here rest) = (kept e here).together ∙ linked-storage spots all kept e.to y rest
+linked-storage spots all kept x y (against e here rest) = sym (kept e here).together ∙ linked-storage spots all kept e.from y rest

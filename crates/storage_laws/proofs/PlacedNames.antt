@@ -1,14 +1,14 @@
 -- Places that the equations give are places of a program.
-use Rattle.std.proofs.Common.{◌≡◌, ℕ, zero, suc, ◌<◌, ◌⊎◌, inl, inr, ⊎_elim, pos, ◌+ℤ◌, ◌≤ℤ◌, true, List, length, refl, sym, ap, ◌∙◌, arith, Contains}
-use Rattle.std.specs.List.{list_all}
+use Rattle.std.proofs.Common.{◌≡◌, ℕ, ◌<◌, ◌⊎◌, inl, inr, ⊎_elim, pos, ◌+ℤ◌, ◌≤ℤ◌, List, length, sym, ap, ◌∙◌, arith, Contains}
 use Rattle.std.proofs.lemmas.Int.{ints}
+use Rattle.std.proofs.lemmas.Bool.{cases_order}
 use Rattle.f77_tree.specs.declared.programs.NameInfo.{NameInfo}
 use Rattle.f77_tree.specs.Value.{dims_of, size_of, place_of as placed_at}
 use Rattle.f77_tree.specs.Declarations.{index_of}
 use Rattle.f77_tree.specs.Places.{Equation, Linked, itself, along, against, IsEarlier, IsLowest, BeginsAfter, EndsAt, IsWordOf, end_of}
-use Rattle.layout_rules.specs.Storage.{Spot, spots_by, size_at, is_kept, place_of, words_in_all}
-use Rattle.layout_rules.specs.Spots.{storage_at, AreLowest}
-use Rattle.storage_laws.proofs.PlacedLinks.{AreEquations, length-spots, lowest-spots, storage-linked_names, linked-storage, kept-each, link-back}
+use Rattle.layout_rules.specs.Storage.{Spot, spots_by, size_at, place_of, words_in_all}
+use Rattle.layout_rules.specs.Spots.{storage_at, AreLowest, IsBelow}
+use Rattle.storage_laws.proofs.PlacedLinks.{AreEquations, length-spots, lowest-spots, storage-linked_names, linked-storage, link-back}
 use Rattle.storage_laws.proofs.PlacedWords.{within-all, in-order, apart-by, begins-storage, ends-before}
 
 -- The second table is the first one with these places; its arrays are without fault, so their sizes are those of the first.
@@ -25,13 +25,7 @@ link-inside count all are x y lt itself = lt
 link-inside count all are x y lt (along e here rest) = link-inside count all are e.to y (are e here).second rest
 link-inside count all are x y lt (against e here rest) = link-inside count all are e.from y (are e here).first rest
 
-neither-less : (a b : ℕ) → (a < b → ⊥) → (b < a → ⊥) → a ≡ b
-neither-less zero zero first second = refl
-neither-less zero (suc b) first second = absurd (first (omega arith))
-neither-less (suc a) zero first second = absurd (second (omega arith))
-neither-less (suc a) (suc b) first second = ap suc (neither-less a b (λ h. first (omega (arith, h))) (λ h. second (omega (arith, h))))
-
-module _ (names placed : List NameInfo) (count : ℕ) (all : List Equation) (are : AreEquations count all) (kept : list_all (is_kept (spots_by count all)) all ≡ true) (is : IsPlaced names placed (spots_by count all)) where
+module _ (names placed : List NameInfo) (count : ℕ) (all : List Equation) (are : AreEquations count all) (kept : (e : Equation) → Contains all e → IsBelow (spots_by count all) e.to e.from e.distance) (is : IsPlaced names placed (spots_by count all)) where
   abbrev spots : List Spot
   spots = spots_by count all
 
@@ -82,7 +76,7 @@ module _ (names placed : List NameInfo) (count : ℕ) (all : List Equation) (are
   equal e here =
       let from = (are e here).first in
       let to = (are e here).second in
-      let apart = apart-by names spots lowest e.from e.to e.distance (inside e.from from) (inside e.to to) (kept-each spots all kept e here) in
+      let apart = apart-by names spots lowest e.from e.to e.distance (inside e.from from) (inside e.to to) (kept e here) in
       ap pos (is.places e.to (in_table e.to to)) ∙ apart ∙ ap (λ p. pos p +ℤ e.distance) (sym (is.places e.from (in_table e.from from)))
 
   -- each word has a number below that of all words
@@ -105,7 +99,7 @@ module _ (names placed : List NameInfo) (count : ℕ) (all : List Equation) (are
 
   pub shared : (x y word : ℕ) → IsWordOf placed x word → IsWordOf placed y word → Linked all x y
   shared x y word at_x at_y =
-      let same = neither-less (storage_at spots x) (storage_at spots y) (not-before x y word at_x at_y) (not-before y x word at_y at_x) in
+      let same : storage_at spots x ≡ storage_at spots y = ⊎_elim (λ e. e) (λ h. ⊎_elim (λ lt. absurd (not-before x y word at_x at_y lt)) (λ lt. absurd (not-before y x word at_y at_x lt)) h) (cases_order (storage_at spots x) (storage_at spots y)) in
       storage-linked_names count all are x y (counted x at_x.known) (counted y at_y.known) same
 
   has-words : (x : ℕ) → x < length spots → 0 < size_at names x

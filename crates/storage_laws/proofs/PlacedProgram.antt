@@ -1,29 +1,30 @@
 -- The places of a program's names are places of a program.
-use Rattle.std.proofs.Common.{◌≡◌, ℕ, zero, suc, ◌+◌, ◌<◌, ◌≤◌, pos, ◌-ℤ◌, true, cond, not, List, [], ◌∷◌, length, map, Option, Some, None, refl, sym, ap, subst, ◌∙◌, arith, Contains}
-use Rattle.std.specs.Prelude.{filter, flat_map, slice_get, bytes_eq, ◌&&◌}
-use Rattle.std.specs.List.{list_all}
+use Rattle.std.proofs.Common.{◌≡◌, ℕ, zero, suc, ◌+◌, ◌<◌, ◌≤◌, pos, ◌-ℤ◌, true, List, [], ◌∷◌, length, map, Option, Some, None, refl, sym, ap, subst, ◌∙◌, arith, Contains}
+use Rattle.std.specs.Prelude.{filter, flat_map, slice_get}
 use mathlib.Core.Path.{fun_ext}
 use Rattle.std.proofs.lemmas.Int.{ints}
-use Rattle.std.proofs.lemmas.Bool.{and_parts}
 use Rattle.f77_tree.specs.declared.declarations.CommonPart.{CommonPart}
 use Rattle.f77_tree.specs.declared.declarations.Decl.{Decl}
 use Rattle.f77_tree.specs.declared.declarations.Member.{Member}
 use Rattle.f77_tree.specs.declared.programs.NameInfo.{NameInfo}
 use Rattle.f77_tree.specs.declared.statements.Labelled.{Labelled}
 use Rattle.f77_tree.specs.Value.{dims_of, size_of, place_of as placed_at}
-use Rattle.f77_tree.specs.Declarations.{index_of, CommonOnce}
-use Rattle.f77_tree.specs.Places.{Equation, Linked, same_block, block_names, IsFirstOfBlock, ArePlaces, IsWordOf}
+use Rattle.f77_tree.specs.Declarations.{CommonOnce}
+use Rattle.f77_tree.specs.Places.{Equation, Linked, block_names, IsFirstOfBlock, ArePlaces, IsWordOf}
 use Rattle.layout_rules.specs.Declarations.{all_commons, all_groups}
-use Rattle.layout_rules.specs.Storage.{Spot, Standing, standings, standings_of, spots_by, size_at, is_kept, blocks_are_apart, blocks_begin, are_right, equations, place_of, words_in_all}
+use Rattle.layout_rules.specs.Storage.{Spot, Standing, standings, standings_of, spots_by, size_at, are_right, equations, place_of, words_in_all}
 use Rattle.layout_rules.specs.Standings.{ArePartsKnown, AreGroupsKnown}
-use Rattle.layout_rules.specs.Spots.{distance_at}
+use Rattle.layout_rules.specs.Spots.{storage_at, distance_at}
+use Rattle.layout_rules.proofs.RightPlaces.{ArePlacedRight, right-yes}
+use Rattle.f77_tree.proofs.NameLemmas.{same_block-same}
 use Rattle.layout_rules.specs.Faults.{first_line}
 use Rattle.layout_rules.specs.StorageFaults.{has_wrong_storage}
 use Rattle.layout_rules.specs.Layout.{names_of, spots_of, placed_from, placed_names, word_count}
 use Rattle.storage_laws.proofs.PlacedLinks.{AreEquations, length-spots, lowest-spots, linked-storage}
 use Rattle.storage_laws.proofs.PlacedWords.{apart-by}
 use Rattle.storage_laws.proofs.PlacedNames.{IsPlaced, link-inside, equal, within, ordered, shared, begins, ends}
-use Rattle.storage_laws.proofs.PlacedBlocks.{IsImage, image-of, in_block, name_in, block-names, one-block, begins-before, first-begins}
+use Rattle.storage_laws.proofs.PlacedBlocks.{IsImage, image-of, in_block, name_in, placed-block_names, first-among}
+use Rattle.storage_laws.proofs.DeclaredNames.{same_index_from}
 use Rattle.storage_laws.proofs.PlacedEquations.{standings-once, standings-in, ends-in}
 use Rattle.storage_laws.proofs.PlacedRight.{all-right}
 
@@ -41,38 +42,31 @@ module _ (names placed : List NameInfo) (commons : List CommonPart) (groups : Li
     are : AreEquations (length names) all
     are = ends-in names commons groups parts members once
 
-    record IsRight : Type 0 where
-      kept : list_all (is_kept spots) all ≡ true
-      apart : blocks_are_apart spots standing ≡ true
-      begin : blocks_begin (length names) spots [] standing ≡ true
+    is-right : ArePlacedRight (length names) spots standing all
+    is-right = subst (λ (xs : List Standing). ArePlacedRight (length names) spots xs all) (standings-once names commons once) (right-yes (length names) spots (standings names commons) all right)
 
-    right-parts : IsRight
-    right-parts =
-        let stand = standings-once names commons once in
-        let outer = and_parts (list_all (is_kept spots) all && blocks_are_apart spots (standings names commons)) (blocks_begin (length names) spots [] (standings names commons)) right in
-        let inner = and_parts (list_all (is_kept spots) all) (blocks_are_apart spots (standings names commons)) outer.0 in
-        record { kept = inner.0; apart = ap (blocks_are_apart spots) (sym stand) ∙ inner.1; begin = ap (blocks_begin (length names) spots []) (sym stand) ∙ outer.1 }
-
-    -- the names of a block, by the names that stand in COMMON
     names-of-block : (block : Option (List ℕ)) → block_names placed commons block ≡ map name_in (filter (in_block block) standing)
-    names-of-block block =
-        ap (λ (f : List ℕ → ℕ). flat_map (λ (part : CommonPart). map (λ (decl : Decl). f decl.name) part.decls) (filter (λ (part : CommonPart). same_block part.block block) commons)) (fun_ext is.indices)
-        ∙ block-names names block commons
+    names-of-block block = placed-block_names names placed is.indices block commons
 
     in-common : (block : Option (List ℕ)) (x : ℕ) → Contains (block_names placed commons block) x → IsImage name_in (in_block block) standing x
     in-common block x h = image-of name_in (in_block block) standing x (subst (λ (xs : List ℕ). Contains xs x) (names-of-block block) h)
 
     blocks : (a b : Option (List ℕ)) (x y : ℕ) → Contains (block_names placed commons a) x → Contains (block_names placed commons b) y → Linked all x y → a ≡ b
-    blocks a b x y at_x at_y link = one-block spots standing right-parts.apart a b x y (in-common a x at_x) (in-common b y at_y) (linked-storage spots all right-parts.kept x y link)
+    blocks a b x y at_x at_y link =
+        let s = in-common a x at_x in
+        let t = in-common b y at_y in
+        let same = ap (λ k. storage_at spots k) s.value ∙ linked-storage spots all is-right.kept x y link ∙ ap (λ k. storage_at spots k) (sym t.value) in
+        sym (same_block-same s.element.block a s.passes) ∙ is-right.apart s.element t.element s.there t.there same ∙ same_block-same t.element.block b t.passes
 
     extended : (x y : ℕ) → IsFirstOfBlock placed commons x → Linked all x y → placed_at placed x ≤ placed_at placed y
     extended x y first link =
         let head : slice_get (map name_in (filter (in_block first.block) standing)) 0 ≡ Some x = ap (λ xs. slice_get xs 0) (sym (names-of-block first.block)) ∙ first.first in
-        let i : x < length names = known x (in-common first.block x (first-in (block_names placed commons first.block) first.first)) in
+        let first_x = first-among first.block [] standing x refl head in
+        let image = in-common first.block x (first-in (block_names placed commons first.block) first.first) in
+        let i : x < length names = subst (λ (k : ℕ). k < length names) image.value (standings-in names (length names) commons parts image.element image.there) in
         let j : y < length names = link-inside (length names) all are x y i link in
-        let same = linked-storage spots all right-parts.kept x y link in
-        let none = first-begins (length names) spots first.block [] standing x refl right-parts.begin head in
-        let before = begins-before (length names) spots x none y j same in
+        let same = linked-storage spots all is-right.kept x y link in
+        let before = is-right.begins x first_x y j same in
         let x_in : x < length spots = omega (arith, length-spots (length names) all are) in
         let y_in : y < length spots = omega (arith, length-spots (length names) all are) in
         let apart = apart-by names spots (lowest-spots (length names) all are) x y (distance_at spots y -ℤ distance_at spots x) x_in y_in (record { together = same; beyond = omega (arith, ints) }) in
@@ -82,24 +76,21 @@ module _ (names placed : List NameInfo) (commons : List CommonPart) (groups : Li
         first-in [] e = absurd cc
         first-in (z ∷ xs) e = let same : z ≡ x = cc in (0, omega arith, same)
 
-        known : (z : ℕ) → IsImage name_in (in_block first.block) standing z → z < length names
-        known z image = subst (λ (k : ℕ). k < length names) image.value (standings-in names (length names) commons parts image.element image.there)
-
     -- the places are places of a program
     pub places-are : ArePlaces placed commons all (words_in_all names spots)
     places-are = record {
-      equal = equal names placed (length names) all are right-parts.kept is;
+      equal = equal names placed (length names) all are is-right.kept is;
       blocks = blocks;
       extended = extended;
-      within = within names placed (length names) all are right-parts.kept is;
-      ordered = ordered names placed (length names) all are right-parts.kept is;
-      begins = begins names placed (length names) all are right-parts.kept is;
-      ends = ends names placed (length names) all are right-parts.kept is;
+      within = within names placed (length names) all are is-right.kept is;
+      ordered = ordered names placed (length names) all are is-right.kept is;
+      begins = begins names placed (length names) all are is-right.kept is;
+      ends = ends names placed (length names) all are is-right.kept is;
     }
 
     -- names that share a word share a storage
     pub words-shared : (x y word : ℕ) → IsWordOf placed x word → IsWordOf placed y word → Linked all x y
-    words-shared = shared names placed (length names) all are right-parts.kept is
+    words-shared = shared names placed (length names) all are is-right.kept is
 
 -- ---- the table with places
 
@@ -112,10 +103,6 @@ module _ (names : List NameInfo) (spots : List Spot) where
   place-placed k [] j i lt e = absurd (omega arith)
   place-placed k (info ∷ infos) zero i lt e = let same : k ≡ i = omega arith in ap (place_of names spots) same
   place-placed k (info ∷ infos) (suc j) i lt e = place-placed (k + 1) infos j i (omega arith) (omega arith)
-
-  index-placed : (k : ℕ) (infos : List NameInfo) (name : List ℕ) → index_of (placed_from names spots k infos) name ≡ index_of infos name
-  index-placed k [] name = refl
-  index-placed k (info ∷ infos) name = ap (λ (i : ℕ). cond (not (bytes_eq info.name name)) (1 + i) 0) (index-placed (k + 1) infos name)
 
   abbrev placed : List NameInfo
   placed = placed_from names spots 0 names
@@ -130,14 +117,14 @@ module _ (names : List NameInfo) (spots : List Spot) where
     places = λ x lt. place-placed 0 names x x (omega (arith, length-placed 0 names)) (omega arith);
     sizes = λ x lt. (sized x).0;
     some = λ x lt. (sized x).1;
-    indices = index-placed 0 names;
+    indices = same_index_from names spots 0 names;
   }
 
   -- no name stands twice in COMMON, whichever table knows it
   pub placed-once : (commons : List CommonPart) → CommonOnce placed commons → CommonOnce names commons
   placed-once commons once =
       let P : (List ℕ → ℕ) → Type 0 = λ f. (j k x : ℕ) → slice_get (flat_map (λ (part : CommonPart). map (λ (decl : Decl). f decl.name) part.decls) commons) j ≡ Some x → slice_get (flat_map (λ (part : CommonPart). map (λ (decl : Decl). f decl.name) part.decls) commons) k ≡ Some x → j ≡ k in
-      subst P (fun_ext (index-placed 0 names)) once
+      subst P (fun_ext (same_index_from names spots 0 names)) once
 
 module _ (whole : List Labelled) (sized : AreSized (names_of whole) (spots_of whole)) (parts : ArePartsKnown (names_of whole) (all_commons whole)) (members : AreGroupsKnown (names_of whole) (all_groups whole)) (placed_once : CommonOnce (placed_names whole) (all_commons whole)) (none : first_line (has_wrong_storage (names_of whole) (placed_names whole) whole) whole ≡ None) where
   abbrev names_here : List NameInfo

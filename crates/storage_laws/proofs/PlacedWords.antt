@@ -1,17 +1,14 @@
 -- The words of names: each storage lies after the one before it.
-use Rattle.std.proofs.Common.{◌≡◌, ℕ, zero, suc, ◌+◌, ◌<◌, ◌≤◌, ◌⊎◌, inl, inr, ⊎_elim, ℤ, pos, negsuc, ◌+ℤ◌, ◌-ℤ◌, ◌≤ℤ◌, true, false, cond, List, length, refl, sym, ap, ◌∙◌, arith}
-use Rattle.std.specs.Prelude.{nat_abs, ◌-◌}
+use Rattle.std.proofs.Common.{◌≡◌, ℕ, zero, suc, ◌+◌, ◌<◌, ◌≤◌, ◌⊎◌, inl, inr, ⊎_elim, ℤ, pos, ◌+ℤ◌, ◌-ℤ◌, ◌≤ℤ◌, true, false, cond, List, length, refl, sym, ap, ◌∙◌, arith}
+use Rattle.std.specs.Prelude.{◌-◌}
 use Rattle.std.proofs.lemmas.Int.{ints}
 use Rattle.std.proofs.lemmas.Bool.{cases_Bool, eqb-true, eq-eqb}
 use Rattle.f77_tree.specs.declared.programs.NameInfo.{NameInfo}
+use Rattle.f77_tree.proofs.Places.{nonneg}
 use Rattle.layout_rules.specs.Storage.{Spot, size_at, low_of, high_of, words_of, is_storage, words_before, place_of, words_in_all}
 use Rattle.layout_rules.specs.Spots.{storage_at, distance_at, AreLowest, IsBelow}
 use Rattle.layout_rules.proofs.WordsBefore.{words_before-next}
-use Rattle.storage_laws.proofs.PlacedBounds.{low-zero, zero-high, low-below, below-high, low-reached, high-reached}
-
-nat_abs-is : (z : ℤ) → pos 0 ≤ℤ z → pos (nat_abs z) ≡ z
-nat_abs-is (pos n) h = refl
-nat_abs-is (negsuc n) h = absurd (omega (arith, ints))
+use Rattle.layout_rules.proofs.StorageBounds.{low-zero, zero-high, low-below, below-high, low-reached, high-reached}
 
 module _ (names : List NameInfo) (spots : List Spot) where
   -- ---- the words before a name
@@ -23,32 +20,23 @@ module _ (names : List NameInfo) (spots : List Spot) where
   before-other k other = words_before-next names spots k ∙ ap (λ b. words_before names spots k + cond b (words_of names spots k) 0) other ∙ omega arith
 
   before-more : (j n : ℕ) → words_before names spots j ≤ words_before names spots (j + n)
-  before-more j zero =
-      let same : j + 0 ≡ j = omega arith in
-      let e : words_before names spots (j + 0) ≡ words_before names spots j = ap (λ k. words_before names spots k) same in
-      omega arith
-  before-more j (suc n) =
-      let same : j + suc n ≡ suc (j + n) = omega arith in
-      let e : words_before names spots (j + suc n) ≡ words_before names spots (suc (j + n)) = ap (λ k. words_before names spots k) same in
-      omega (arith, before-more j n, words_before-next names spots (j + n))
+  before-more j zero = grind arith
+  before-more j (suc n) = let e : j + suc n ≡ suc (j + n) = omega arith in rw e (omega (arith, before-more j n, words_before-next names spots (j + n)))
 
   pub before-rises : (j k : ℕ) → j ≤ k → words_before names spots j ≤ words_before names spots k
-  before-rises j k le =
-      let same : j + (k - j) ≡ k = omega arith in
-      let e : words_before names spots (j + (k - j)) ≡ words_before names spots k = ap (λ i. words_before names spots i) same in
-      omega (arith, before-more j (k - j))
+  before-rises j k le = grind (arith, before-more j (k - j))
 
   module _ (lowest : AreLowest spots) where
     module _ (s : ℕ) (known : s < length spots) (own : storage_at spots s ≡ s) where
       -- as many words as lie between its first and its last
       pub words-between : pos (words_of names spots s) ≡ high_of names spots s -ℤ low_of spots s
-      words-between = nat_abs-is (high_of names spots s -ℤ low_of spots s) (omega (arith, ints, low-zero names spots lowest s known own, zero-high names spots lowest s known own))
+      words-between = sym (nonneg (high_of names spots s -ℤ low_of spots s) (omega (arith, ints, low-zero names spots lowest s known own, zero-high names spots lowest s known own)))
 
       pub place-in : (x : ℕ) → x < length spots → storage_at spots x ≡ s → pos (place_of names spots x) ≡ pos (words_before names spots s) +ℤ (distance_at spots x -ℤ low_of spots s)
       place-in x lt same =
           let low : low_of spots (storage_at spots x) ≡ low_of spots s = ap (λ k. low_of spots k) same in
           let before : words_before names spots (storage_at spots x) ≡ words_before names spots s = ap (λ k. words_before names spots k) same in
-          let beyond = nat_abs-is (distance_at spots x -ℤ low_of spots (storage_at spots x)) (omega (arith, ints, low-below names spots lowest s known own x lt same)) in
+          let beyond = nonneg (distance_at spots x -ℤ low_of spots (storage_at spots x)) (omega (arith, ints, low-below names spots lowest s known own x lt same)) in
           omega (arith, ints)
 
       pub end-in : (x : ℕ) → x < length spots → storage_at spots x ≡ s → (pos (place_of names spots x) +ℤ pos (size_at names x)) ≤ℤ pos (words_before names spots (suc s))

@@ -1,9 +1,8 @@
 -- What is so of statements whose layout of storage has no fault.
-use Rattle.std.proofs.Common.{◌≡◌, ℕ, ◌+◌, Bool, true, false, not, ◌||◌, List, [], ◌∷◌, ◌++◌, length, map, All, None, refl, sym, ap, ◌∙◌}
+use Rattle.std.proofs.Common.{◌≡◌, ℕ, ◌+◌, Bool, false, not, ◌||◌, List, [], ◌∷◌, ◌++◌, length, map, All, None, refl, sym, ap, ◌∙◌, arith}
 use Rattle.std.specs.List.{list_any, flat_map, range_with_len}
 use Rattle.std.proofs.lemmas.Bool.{or_parts, or_from}
 use Rattle.std.proofs.lemmas.List.{append-nil, append_assoc}
-use Rattle.std.proofs.lemmas.List.Folds.{list_any-append}
 use Rattle.std.proofs.lemmas.List.Concat.{flat_map-append}
 use Rattle.f77_tree.specs.declared.declarations.Member.{Member}
 use Rattle.f77_tree.specs.declared.declarations.InitPart.{InitPart}
@@ -37,11 +36,7 @@ has_wrong_part-append placed given [] ys = ap (λ (words : List ℕ). has_wrong_
 has_wrong_part-append placed given (part ∷ xs) ys =
     ap (λ b. is_wrong_part placed given part || b) (has_wrong_part-append placed (given ++ part_words placed part) xs ys)
     ∙ ap (λ (words : List ℕ). is_wrong_part placed given part || (has_wrong_part placed (given ++ part_words placed part) xs || has_wrong_part placed words ys)) (append_assoc given (part_words placed part) (flat_map (part_words placed) xs))
-    ∙ or_assoc (is_wrong_part placed given part) (has_wrong_part placed (given ++ part_words placed part) xs) (has_wrong_part placed (given ++ (part_words placed part ++ flat_map (part_words placed) xs)) ys)
-  where
-    or_assoc : (a b c : Bool) → (a || (b || c)) ≡ (a || b || c)
-    or_assoc true b c = refl
-    or_assoc false b c = refl
+    ∙ grind arith
 
 abbrev is_wrong_member : List NameInfo → Member → Bool
 is_wrong_member names member = not (is_member names member)
@@ -52,6 +47,13 @@ no_wrong_item names s right = none s.stmt right
     none : (stmt : Stmt) → list_any (is_wrong_member names) (members_of stmt) ≡ false → list_any (λ part. list_any (is_wrong_member names) part.items) (inits_of stmt) ≡ false
     none (Init parts) right = sym (list_any-flat_map (is_wrong_member names) (λ (part : InitPart). part.items) parts) ∙ right
     none _ right = refl
+
+-- where no statement has the fault, none is bad, if a bad one has it
+pub none-any : (fault : List Labelled → Labelled → Bool) (bad : Labelled → Bool) → ((above : List Labelled) (s : Labelled) → fault above s ≡ false → bad s ≡ false) → (above stmts : List Labelled) → first_after fault above stmts ≡ None → list_any bad stmts ≡ false
+none-any fault bad lacks above [] right = refl
+none-any fault bad lacks above (s ∷ rest) right =
+    let clear = after_clear fault above rest s right in
+    or_from (bad s) (list_any bad rest) (lacks above s clear) (none-any fault bad lacks (above ++ s ∷ []) rest (sym (after_next fault above rest s clear) ∙ right))
 
 module _ (names placed : List NameInfo) (whole : List Labelled) where
   abbrev fault : List Labelled → Labelled → Bool
@@ -65,18 +67,12 @@ module _ (names placed : List NameInfo) (whole : List Labelled) where
   right_data above s clear = (or_parts (has_wrong_declaration names above s || has_wrong_places names whole above s) (has_wrong_data placed above s) clear).1
 
   dims_after : (above stmts : List Labelled) → first_after fault above stmts ≡ None → list_any has_wrong_dims stmts ≡ false
-  dims_after above [] right = refl
-  dims_after above (s ∷ rest) right =
-      let clear = after_clear fault above rest s right in
-      or_from (has_wrong_dims s) (list_any has_wrong_dims rest) (dims_clear names above s (right_declaration above s clear)) (dims_after (above ++ s ∷ []) rest (sym (after_next fault above rest s clear) ∙ right))
+  dims_after = none-any fault has_wrong_dims (λ above s clear. dims_clear names above s (right_declaration above s clear))
 
   items_after : (above stmts : List Labelled) → first_after fault above stmts ≡ None → list_any (λ part. list_any (is_wrong_member names) part.items) (all_inits stmts) ≡ false
-  items_after above [] right = refl
-  items_after above (s ∷ rest) right =
-      let clear = after_clear fault above rest s right in
-      let member = (or_parts (has_dims_twice above s || has_wrong_dims s || is_common_twice above s) (has_wrong_member names s) (right_declaration above s clear)).1 in
-      list_any-append (λ (part : InitPart). list_any (is_wrong_member names) part.items) (inits_of s.stmt) (all_inits rest)
-      ∙ or_from (list_any (λ part. list_any (is_wrong_member names) part.items) (inits_of s.stmt)) (list_any (λ part. list_any (is_wrong_member names) part.items) (all_inits rest)) (no_wrong_item names s member) (items_after (above ++ s ∷ []) rest (sym (after_next fault above rest s clear) ∙ right))
+  items_after above stmts right =
+      list_any-flat_map (λ (part : InitPart). list_any (is_wrong_member names) part.items) (λ (s : Labelled). inits_of s.stmt) stmts
+      ∙ none-any fault (λ s. list_any (λ part. list_any (is_wrong_member names) part.items) (inits_of s.stmt)) (λ above s clear. no_wrong_item names s (or_parts (has_dims_twice above s || has_wrong_dims s || is_common_twice above s) (has_wrong_member names s) (right_declaration above s clear)).1) above stmts right
 
   all_inits-push : (above : List Labelled) (s : Labelled) → all_inits (above ++ s ∷ []) ≡ all_inits above ++ inits_of s.stmt
   all_inits-push above s = flat_map-append (λ (t : Labelled). inits_of t.stmt) above (s ∷ []) ∙ ap (λ (parts : List InitPart). all_inits above ++ parts) (append-nil (inits_of s.stmt))

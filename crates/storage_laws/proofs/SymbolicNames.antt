@@ -2,14 +2,17 @@
 use Rattle.std.proofs.Common.{◌≡◌, ℕ, Bool, true, false, not, ◌&&◌, ◌||◌, List, [], ◌∷◌, ◌++◌, length, map, Option, Some, None, All, refl, sym, subst, ◌∙◌}
 use Rattle.std.specs.Prelude.{bytes_eq, flat_map, fold, if◌then◌else◌, nat_le, nat_lt}
 use Rattle.std.specs.List.{list_all, list_any}
+use Rattle.std.proofs.lemmas.Bool.{and_from, and_parts}
+use Rattle.std.proofs.lemmas.List.Elements.{All-map}
 use Rattle.std.proofs.lemmas.List.Folds.{list_all-append}
+use Rattle.std.proofs.lemmas.List.Sums.{AllPass-from_list_all}
 use Rattle.op_table.specs.declared.Op.TheVariants.{Neg, Not}
 use Rattle.f77_tree.specs.Grammar.{Arguments, AreGrammatical, IsGrammatical, Written, reading, readings}
 use Rattle.f77_tree.specs.declared.statements.Labelled.{Labelled}
 use Rattle.f77_tree.specs.declared.statements.Stmt.{Stmt}
 use Rattle.f77_tree.specs.Name.{is_name}
 use Rattle.f77_tree.specs.StatementGrammar.{IsDecl, IsGiven, IsItem, IsPart, IsStatement, IsStep, IsVariable, WrittenData, WrittenDecl, WrittenItem, Expression, Characters, WrittenMember, WrittenStatement, data_of, decl_of, is_data, is_group, is_member, is_signed, is_value, item_of, member_of, part_of, statement_of, step_of}
-use Rattle.f77_tree.proofs.AllLemmas.{All-cons, All-first, All-nil, All-rest}
+use Rattle.f77_tree.proofs.AllLemmas.{All-first, All-rest}
 use Rattle.layout_rules.specs.Appearances.{all_names, appearing, called_name, names_if_any, names_in, names_in_item, with_name}
 use Rattle.layout_rules.specs.Declarations.{is_array}
 use Rattle.layout_rules.specs.Layout.{name_info, names_of}
@@ -23,23 +26,11 @@ use Rattle.layout_rules.proofs.NamesOf.{appearing-ThenIf}
 abbrev AreSymbolic : List (List ℕ) → Type 0
 AreSymbolic names = list_all is_name names ≡ true
 
-both : (a b : Bool) → a ≡ true → b ≡ true → (a && b) ≡ true
-both true b h i = i
-both false b h i = absurd cc
-
-left_true : (a b : Bool) → (a && b) ≡ true → a ≡ true
-left_true true b h = refl
-left_true false b h = absurd cc
-
-right_true : (a b : Bool) → (a && b) ≡ true → b ≡ true
-right_true true b h = h
-right_true false b h = absurd cc
-
 joined : (xs ys : List (List ℕ)) → AreSymbolic xs → AreSymbolic ys → AreSymbolic (xs ++ ys)
-joined xs ys h i = list_all-append is_name xs ys ∙ both (list_all is_name xs) (list_all is_name ys) h i
+joined xs ys h i = list_all-append is_name xs ys ∙ and_from (list_all is_name xs) (list_all is_name ys) h i
 
 one : (name : List ℕ) → is_name name ≡ true → AreSymbolic (name ∷ [])
-one name is = both (is_name name) true is refl
+one name is = and_from (is_name name) true is refl
 
 -- the names of each item
 each : {W X : Type 0} (P : W → Type 0) (of : W → X) (names : X → List (List ℕ)) → ((w : W) → P w → AreSymbolic (names (of w))) → (ws : List W) → All P ws → AreSymbolic (flat_map names (map of ws))
@@ -51,7 +42,7 @@ each P of names symbolic (w ∷ ws) all =
 each_name : {W X : Type 0} (P : W → Type 0) (of : W → X) (name : X → List ℕ) → ((w : W) → P w → is_name (name (of w)) ≡ true) → (ws : List W) → All P ws → AreSymbolic (map name (map of ws))
 each_name P of name symbolic [] all = refl
 each_name P of name symbolic (w ∷ ws) all =
-    both (is_name (name (of w))) (list_all is_name (map name (map of ws))) (symbolic w (All-first P w ws all)) (each_name P of name symbolic ws (All-rest P w ws all))
+    and_from (is_name (name (of w))) (list_all is_name (map name (map of ws))) (symbolic w (All-first P w ws all)) (each_name P of name symbolic ws (All-rest P w ws all))
 
 -- ---- expressions
 
@@ -96,30 +87,20 @@ decls_symbolic : (decls : List WrittenDecl) → All IsDecl decls → AreSymbolic
 decls_symbolic decls all = each_name IsDecl decl_of (λ decl. decl.name) (λ w is. is.symbolic) decls all
 
 members_symbolic : (members : List WrittenMember) → list_all is_member members ≡ true → AreSymbolic (map (λ member. member.name) (map member_of members))
-members_symbolic [] tested = refl
-members_symbolic (m ∷ members) tested =
-    both (is_name m.name) (list_all is_name (map (λ member. member.name) (map member_of members))) (left_true (is_name m.name) (list_all is_signed m.subs) (left_true (is_member m) (list_all is_member members) tested))
-    (members_symbolic members (right_true (is_member m) (list_all is_member members) tested))
+members_symbolic members tested = each_name (λ m. is_member m ≡ true) member_of (λ member. member.name) (λ m is. (and_parts (is_name m.name) (list_all is_signed m.subs) is).0) members (AllPass-from_list_all is_member members tested)
 
 groups_symbolic : (groups : List (List WrittenMember)) → list_all is_group groups ≡ true → AreSymbolic (flat_map (λ group. map (λ member. member.name) group) (map (λ members. map member_of members) groups))
-groups_symbolic [] tested = refl
-groups_symbolic (members ∷ groups) tested =
-    joined (map (λ member. member.name) (map member_of members)) (flat_map (λ group. map (λ member. member.name) group) (map (λ ms. map member_of ms) groups))
-    (members_symbolic members (right_true (nat_le 2 (length members)) (list_all is_member members) (left_true (is_group members) (list_all is_group groups) tested)))
-    (groups_symbolic groups (right_true (is_group members) (list_all is_group groups) tested))
+groups_symbolic groups tested =
+    each (λ members. is_group members ≡ true) (λ members. map member_of members) (λ group. map (λ member. member.name) group) (λ members is. members_symbolic members (and_parts (nat_le 2 (length members)) (list_all is_member members) is).1) groups (AllPass-from_list_all is_group groups tested)
 
 items_tested : (d : WrittenData) → is_data d ≡ true → list_all is_member d.items ≡ true
 items_tested d tested =
-    right_true (nat_lt 0 (length d.items)) (list_all is_member d.items)
-    (left_true (nat_lt 0 (length d.items) && list_all is_member d.items) (nat_lt 0 (length d.values))
-    (left_true (nat_lt 0 (length d.items) && list_all is_member d.items && nat_lt 0 (length d.values)) (list_all is_value d.values) tested))
+    let with_values = and_parts (nat_lt 0 (length d.items) && list_all is_member d.items && nat_lt 0 (length d.values)) (list_all is_value d.values) tested in
+    let some = and_parts (nat_lt 0 (length d.items) && list_all is_member d.items) (nat_lt 0 (length d.values)) with_values.0 in
+    (and_parts (nat_lt 0 (length d.items)) (list_all is_member d.items) some.0).1
 
 data_symbolic : (parts : List WrittenData) → list_all is_data parts ≡ true → AreSymbolic (flat_map (λ part. map (λ item. item.name) part.items) (map data_of parts))
-data_symbolic [] tested = refl
-data_symbolic (d ∷ parts) tested =
-    joined (map (λ item. item.name) (map member_of d.items)) (flat_map (λ part. map (λ item. item.name) part.items) (map data_of parts))
-    (members_symbolic d.items (items_tested d (left_true (is_data d) (list_all is_data parts) tested)))
-    (data_symbolic parts (right_true (is_data d) (list_all is_data parts) tested))
+data_symbolic parts tested = each (λ d. is_data d ≡ true) data_of (λ part. map (λ item. item.name) part.items) (λ d is. members_symbolic d.items (items_tested d is)) parts (AllPass-from_list_all is_data parts tested)
 
 -- ---- statements
 
@@ -142,7 +123,7 @@ statement_symbolic arrays (WrittenStatement.block_if w) is = expression_symbolic
 statement_symbolic arrays (WrittenStatement.else_if w) is = expression_symbolic arrays w is
 statement_symbolic arrays (WrittenStatement.do_loop label comma variable first last step) is =
     let beyond = names_in arrays (reading first) ++ names_in arrays (reading last) ++ names_if_any arrays (step_of step) in
-    both (is_name variable) (list_all is_name beyond) is.1
+    and_from (is_name variable) (list_all is_name beyond) is.1
     (joined (names_in arrays (reading first) ++ names_in arrays (reading last)) (names_if_any arrays (step_of step))
     (joined (names_in arrays (reading first)) (names_in arrays (reading last)) (expression_symbolic arrays first is.2) (expression_symbolic arrays last is.3))
     (step_symbolic arrays step is.4))
@@ -170,14 +151,9 @@ with_symbolic seen name symbolic is = by (list_any (bytes_eq name) seen)
 once_symbolic : (seen names : List (List ℕ)) → AreSymbolic seen → AreSymbolic names → AreSymbolic (fold with_name seen names)
 once_symbolic seen [] symbolic rest = symbolic
 once_symbolic seen (name ∷ names) symbolic rest =
-    once_symbolic (with_name seen name) names (with_symbolic seen name symbolic (left_true (is_name name) (list_all is_name names) rest)) (right_true (is_name name) (list_all is_name names) rest)
-
-lines_symbolic : (stmts : List Labelled) (names : List (List ℕ)) → AreSymbolic names → All (λ info. is_name info.name ≡ true) (map (name_info stmts) names)
-lines_symbolic stmts [] symbolic = All-nil (λ info. is_name info.name ≡ true)
-lines_symbolic stmts (name ∷ names) symbolic =
-    All-cons (λ info. is_name info.name ≡ true) (name_info stmts name) (map (name_info stmts) names) (left_true (is_name name) (list_all is_name names) symbolic) (lines_symbolic stmts names (right_true (is_name name) (list_all is_name names) symbolic))
+    once_symbolic (with_name seen name) names (with_symbolic seen name symbolic ((and_parts (is_name name) (list_all is_name names) rest).0)) ((and_parts (is_name name) (list_all is_name names) rest).1)
 
 -- each name in the table is symbolic
 pub table_symbolic : (stmts : List Labelled) → IsSource stmts → All (λ info. is_name info.name ≡ true) (names_of stmts)
 table_symbolic stmts source =
-    lines_symbolic stmts (all_names stmts) (once_symbolic [] (flat_map (λ s. appearing (is_array stmts) s.stmt) stmts) refl (statements_symbolic (is_array stmts) stmts source.trees))
+    All-map (λ info. is_name info.name ≡ true) (name_info stmts) (all_names stmts) (AllPass-from_list_all is_name (all_names stmts) (once_symbolic [] (flat_map (λ s. appearing (is_array stmts) s.stmt) stmts) refl (statements_symbolic (is_array stmts) stmts source.trees)))

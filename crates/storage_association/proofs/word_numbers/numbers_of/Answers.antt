@@ -1,5 +1,5 @@
-use Rattle.std.proofs.Common.{ℕ, List, Result, Ok, Err, length, sym, ap, subst, ◌∙◌}
-use Rattle.std.specs.Prelude.{IfOk}
+use Rattle.std.proofs.Common.{ℕ, List, length, sym, ap, subst, ◌∙◌}
+use Rattle.std.proofs.lemmas.Result.{IfOk-weaker}
 use Rattle.f77_tree.specs.Places.{Equation}
 use Rattle.storage_association.specs.declared.forest.Forest.{Forest}
 use Rattle.layout_rules.specs.Storage.{Spot, spots_by}
@@ -8,10 +8,6 @@ use Rattle.layout_rules.specs.Spots.{AreLowest}
 use Rattle.storage_association.specs.Storages.{AreStorages}
 use Rattle.storage_association.specs.WordNumbers.{AreNumbers}
 use Rattle.storage_association.proofs.word_numbers.numbers_of.Goals as goal
-
-on-map : {T E : Type 0} (r : Result T E) (P Q : T → Type 0) → ((x : T) → P x → Q x) → IfOk r P → IfOk r Q
-on-map (Ok x) P Q f h = f x h
-on-map (Err e) P Q f h = tt
 
 pub word_numbers-requires : goal.word_numbers-requires
 word_numbers-requires c =
@@ -25,7 +21,7 @@ word_numbers-requires c =
 pub returns : goal.returns
 returns c =
     let names = c.args.names.now in
-    on-map c.word_numbers.result
+    IfOk-weaker c.word_numbers.result
     (λ w. (spots : List Spot) → IsForest c.forest.result.now.nodes.items spots → AreLowest spots → AreNumbers names spots w)
     (λ w. (firsts : List ℕ) (all : List Equation) → AreStorages (length names) firsts all c.args.storages.now → AreNumbers names (spots_by (length names) all) w)
     (λ w numbers firsts all held. numbers (spots_by (length names) all) (subst (λ (f : Forest). IsForest f.nodes.items (spots_by (length names) all)) (sym c.forest.ensures) held.forest) held.lowest)

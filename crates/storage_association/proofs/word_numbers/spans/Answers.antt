@@ -1,5 +1,4 @@
-use Rattle.std.proofs.Common.{◌≡◌, ◌<◌, ℕ, pos, length, ap, subst, ◌∙◌, arith, rules, w64}
-use mir.Val.{SFits}
+use Rattle.std.proofs.Common.{◌≡◌, ◌<◌, ℕ, pos, length, ap, subst, ◌∙◌, arith, rules}
 use Rattle.std.proofs.lemmas.List.{get_or_read, length-set}
 use Rattle.layout_rules.specs.Storage.{size_at, size_of}
 use Rattle.storage_association.specs.WordNumbers.{AreSpans, span_at, no_span}
@@ -9,9 +8,8 @@ use Rattle.storage_association.proofs.word_numbers.spans.Goals as goal
 
 pub overflow_add-end : goal.overflow_add-end
 overflow_add-end c =
-    let nodes = c.args.forest.now.nodes.items in
     let size : c.from.result ≡ pos (size_at c.args.names.now c.loop-name.name) = c.from.ensures ∙ ap pos (c.size_of.ensures ∙ ap (λ dims. size_of dims) c.dims.ensures) in
-    let close = rooted-close nodes c.loop-name.name c.find-root.result c.requires.trees (omega (arith, c.requires.names)) (omega (arith, c.requires.names)) c.find-root.ensures in
+    let close = rooted-close c.requires.trees (omega (arith, c.requires.names)) (omega (arith, c.requires.names)) c.find-root.ensures in
     end-sum-fits c.find-root.result.distance c.from.result (size_at c.args.names.now c.loop-name.name) close (size-few c.args.names.now c.loop-name.name) size
 
 pub loop-name-preserved : goal.loop-name-preserved
@@ -23,15 +21,11 @@ loop-name-preserved c =
     let r = c.find-root.result.root in
     let d = c.find-root.result.distance in
     let size : c.from.result ≡ pos (size_at names k) = c.from.ensures ∙ ap pos (c.size_of.ensures ∙ ap (λ dims. size_of dims) c.dims.ensures) in
-    let close = rooted-close nodes k c.find-root.result c.requires.trees (omega (arith, c.requires.names)) (omega (arith, c.requires.names)) c.find-root.ensures in
+    let close = rooted-close c.requires.trees (omega (arith, c.requires.names)) (omega (arith, c.requires.names)) c.find-root.ensures in
     let found = c.find-root.ensures c.requires.trees.spots c.requires.trees.forest in
     let in_spans : r < length spans = omega (arith, found.known, c.requires.names, c.loop-name.invariant.all) in
     let here : c.index-span.result.now ≡ span_at spans r = get_or_read spans r c.index-span.result.now in_spans c.index-span.ensures no_span in
-    let fits_a : SFits w64 c.index-span.result.now.low = search rules in
-    let fits_b : SFits w64 c.index-span.result.now.high = search rules in
-    let fits_low : SFits w64 c.min.result = search rules in
-    let fits_high : SFits w64 c.max.result = search rules in
-    let new = span-read (span_at spans r) c.index-span.result.now d c.from.result c.min.result c.max.result (size_at names k) here close (size-few names k) size fits_a fits_b fits_low fits_high c.min.ensures.value c.max.ensures.value in
+    let new = span-read (span_at spans r) c.index-span.result.now d c.from.result c.min.result c.max.result (size_at names k) here close (size-few names k) size (search rules) (search rules) (search rules) (search rules) c.min.ensures.value c.max.ensures.value in
     record {
       all = length-set spans r _ ∙ c.loop-name.invariant.all;
       so_far = λ spots forest.

@@ -5,7 +5,8 @@ use Rattle.f77_tree.specs.declared.declarations.Lit.{Lit}
 use Rattle.storage_checks.specs.Runs.{span_words}
 use Rattle.storage_checks.specs.Writing.{written}
 use Rattle.layout_rules.proofs.FlatParts.{flat_map_left}
-use Rattle.storage_checks.proofs.WrittenWords.{written-part, length-words_from}
+use Rattle.f77_tree.proofs.NameWords.{length-from}
+use Rattle.storage_checks.proofs.WrittenWords.{written-part}
 use Rattle.storage_checks.proofs.initial.write_spans.Goals as goal
 
 pub loop-span-preserved : goal.loop-span-preserved
@@ -18,7 +19,7 @@ loop-span-preserved c =
     let constants = c.loop-span.constants in
     ap (λ (words : List ℤ). written words (zip others c.write_span.new.constants)) c.write_span.ensures.cells
     ∙ ap (λ (left : List Lit). written (written cells (zip (span_words span) constants)) (zip others left)) c.write_span.ensures.constants
-    ∙ ap (λ (n : ℕ). written (written cells (zip (span_words span) constants)) (zip others (drop n constants))) (sym (length-words_from span.first span.len))
+    ∙ ap (λ (n : ℕ). written (written cells (zip (span_words span) constants)) (zip others (drop n constants))) (sym (length-from span.first span.len))
     ∙ written-part cells (span_words span) others constants
     ∙ ap (λ (words : List ℕ). written cells (zip words constants)) (sym (flat_map_left span_words spans i span c.loop-span-test.true c.span-item.is))
     ∙ c.loop-span.invariant

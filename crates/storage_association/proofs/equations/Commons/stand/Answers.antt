@@ -1,5 +1,5 @@
-use Rattle.std.proofs.Common.{◌≡◌, ◌<◌, ℕ, ℤ, pos, List, [], ◌∷◌, ◌++◌, length, Contains, cond, get_or, set, true, false, Option, None, Some, Result, Ok, Err, sym, ap, subst, ◌∙◌, refl, arith, rules, w64, to_z, of_z}
-use Rattle.std.specs.Prelude.{OnOk}
+use Rattle.std.proofs.Common.{◌≡◌, ◌<◌, ℕ, ℤ, pos, List, [], ◌∷◌, ◌++◌, length, Contains, cond, get_or, set, true, false, Option, None, Some, sym, ap, subst, ◌∙◌, refl, arith, rules, w64, to_z, of_z}
+use Rattle.std.proofs.lemmas.Result.{on_ok_weaker}
 use Rattle.std.proofs.lemmas.Int.{to_z-of_z}
 use Rattle.std.proofs.lemmas.List.{get_or_read}
 use mir.Val.{SFits}
@@ -15,10 +15,6 @@ use Rattle.storage_association.proofs.CommonSteps.{held-first, held-later, stand
 use Rattle.storage_association.proofs.equations.Commons.stand.Goals as goal
 use Rattle.storage_association.proofs.equations.Commons.stand.Goals.{in-None, in-Some}
 
-on-map : {T E : Type 0} (r : Result T E) (P Q : Type 0) → (P → Q) → OnOk r P → OnOk r Q
-on-map (Ok x) P Q f h = f h
-on-map (Err e) P Q f h = tt
-
 pub returns-then-index : goal.returns-then-index
 returns-then-index c = λ standings are.
     let s : Standing = record { block = c.args.block.now; name = index_of c.args.names.now c.args.name.now } in
@@ -32,7 +28,7 @@ returns c =
     let s : Standing = record { block = c.args.block.now; name = index_of c.args.names.now c.args.name.now } in
     let names = c.args.names.now in
     let old = c.args.self.now in
-    on-map c.put.result _ _
+    on_ok_weaker c.put.result
     (λ (lasts : (other : Option (List ℕ)) → last_in c.put.new.self other ≡ cond (same_block c.args.block.now other) (Some c.index-k.result) (last_in c.match-last.self.blocks other)) standings are.
     let stood = old.stood.items in
     let lt : c.index-k.result < length stood = omega (arith, are.each, c.index-k.ensures, c.requires.known) in
