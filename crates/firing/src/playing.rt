@@ -114,12 +114,28 @@ fn fire_chosen<S: StepSystem, K: Sink>(
     }
 }
 
-// The place that a pick chooses among so many. Most picks are less than the count, and a division takes long.
+// The place that a pick chooses among so many. Most picks are less than four times the count, and a division takes long, where each
+// firing waits for the one before.
+#[inline(always)]
 fn place_in(pick: u32, count: u32) -> u32
     requires { 0 < count }
     ensures { result ≡ pick % count }
 {
-    if pick < count { pick } else { pick % count }
+    if pick / 4 < count {
+        once_less(once_less(once_less(pick, count), count), count)
+    } else {
+        pick % count
+    }
+}
+
+// Takes the count off a place that isn't below it.
+#[inline(always)]
+fn once_less(place: u32, count: u32) -> u32
+    requires { 0 < count }
+    ensures rest { result % count ≡ place % count }
+    ensures less { (k : ℕ) → count ≤ k → place < k + count → result < k }
+{
+    if place < count { place } else { place - count }
 }
 
 // The place after this one in a list of so many, which is gone through over and over.

@@ -4,6 +4,9 @@ pub mod HopWalks
 pub mod TakerLemmas
 pub mod RowLawLemmas
 pub mod GrownLists
+mod FirstRows
+mod NodeRecords
+mod NodeRows
 pub mod NameLemmas
 pub mod NewNetLemmas
 pub mod PlanLemmas

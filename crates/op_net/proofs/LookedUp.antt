@@ -1,7 +1,7 @@
 -- What is looked up in the tables of a net of operations is there.
-use Rattle.std.proofs.Common.{◌≡◌, ◌<◌, ◌≤◌, ◌+◌, ℕ, true, List, length, get_or, Option, Some, None, slice_get, refl, ap, subst, arith}
-use Rattle.std.proofs.lemmas.Option.{slice_get_read, slice_get_within}
-use Rattle.std.proofs.Math.Logic.{∥∥₁_elim, ∥∥₁_map}
+use Rattle.std.proofs.Common.{◌≡◌, ◌≢◌, ◌<◌, ◌≤◌, ◌+◌, ◌∙◌, ℕ, suc, true, List, length, get_or, Option, Some, None, Vec, Global, Bor, HoldsAt, MatchOption, option_copied, slice_get, slice_index, refl, sym, ap, subst, arith}
+use Rattle.std.proofs.lemmas.Option.{get_or_from_slice_get, slice_get_past, slice_get_read, slice_get_within}
+use Rattle.std.proofs.Math.Logic.{∥∥₁_elim}
 use Rattle.std.proofs.Props.{props}
 use Rattle.firing.specs.declared.system.NodeName.{NodeName}
 use Rattle.firing.specs.declared.system.NodeName.TheVariants.{Act, Merge, Switch, Op}
@@ -10,29 +10,77 @@ use Rattle.net_board.specs.WokenNodes.{switch_number}
 use Rattle.op_board.specs.OperationNets.{OperationNet, first_operation, operation_count, operation_node, operation_node_count}
 use Rattle.op_board.proofs.PieceNodes.{acting_count}
 use Rattle.op_net.specs.BoardView.{operation_net_on}
-use Rattle.op_net.specs.OperationRows.{AreRows, EntryIs, IsEntry, IsRow}
+use Rattle.op_net.specs.OperationRows.{EntryIs, IsEntry, IsRow}
+use Rattle.op_net.specs.OperationTables.{RowOfNode}
+use Rattle.op_net.specs.PieceTables.{AreFirstRows, entry_in, rows_before}
 use Rattle.op_net.specs.Waits.{IsSwitchOf, node_total}
 use Rattle.op_net.specs.declared.lookups.OperationBoard.{OperationBoard}
-use Rattle.op_net.specs.declared.rows.PieceRows.{PieceRows}
 use Rattle.op_net.specs.declared.rows.Row.{Row}
-use Rattle.op_net.proofs.NodeNames.{IsSwitchAt, switch_at_node}
+use Rattle.op_net.proofs.FirstRows.{row_low, row_there, rows_rise, start_at, starts_count}
+use Rattle.op_net.proofs.GrownLists.{get_some}
+use Rattle.op_net.proofs.NodeNames.{IsOperationAt, IsSwitchAt, operation_at_node, switch_at_node}
+
+module _ {X : Type 0} where
+  -- what is read at a place stands there
+  pub item_copied : (xs : List X) (i : ℕ) (r : Option (Bor X)) → MatchOption r (length xs ≤ i) (λ x. (i < length xs) × HoldsAt (λ y. x.now ≡ y) xs i) → option_copied r ≡ slice_get xs i
+  item_copied xs i None is = sym (slice_get_past xs i is)
+  item_copied xs i (Some x) is = sym (slice_get_read xs (length xs) i x.now refl is.0 (is.1 x.now))
 
 module _ {W : ℕ} (board : OperationBoard W) where
-  pub rows_at : (piece : ℕ) (rows : PieceRows) → piece < (graph_in (operation_net_on board).net).nodes → rows ≡ get_or board.tables.pieces.items piece rows → ∥ AreRows (operation_net_on board) piece rows ∥₁
-  rows_at piece rows exists at =
-      let count = board.own_tables.pieces in
-      board.own_tables.rows piece rows (slice_get_read board.tables.pieces.items (length board.tables.pieces.items) piece rows refl (omega (arith, exists, count)) at)
+  abbrev net : OperationNet
+  net = operation_net_on board
 
-  pub count_at : (piece : ℕ) (rows : PieceRows) → piece < (graph_in (operation_net_on board).net).nodes → rows ≡ get_or board.tables.pieces.items piece rows → length rows.rows.items ≡ operation_count (operation_net_on board) piece
-  count_at piece rows exists at = ∥∥₁_elim (rows_at piece rows exists at) (Prim.hlevel props) (λ are. are.count)
+  abbrev all : List Row
+  all = board.tables.rows.items
 
-  pub rows_told : (piece : ℕ) (rows : PieceRows) → piece < (graph_in (operation_net_on board).net).nodes → rows ≡ get_or board.tables.pieces.items piece rows → (i : ℕ) (row : Row) → slice_get rows.rows.items i ≡ Some row → ∥ IsRow (operation_net_on board) piece i row ∥₁
-  rows_told piece rows exists at i row there = ∥∥₁_map (rows_at piece rows exists at) (λ are. are.rows i row there)
+  -- ---- rows by their pieces
 
-  pub row_at : (piece i : ℕ) (rows : PieceRows) (row : Row) → piece < (graph_in (operation_net_on board).net).nodes → i < operation_count (operation_net_on board) piece → rows ≡ get_or board.tables.pieces.items piece rows → row ≡ get_or rows.rows.items i row → ∥ IsRow (operation_net_on board) piece i row ∥₁
-  row_at piece i rows row exists inside at own =
-      let count = count_at piece rows exists at in
-      ∥∥₁_map (rows_at piece rows exists at) (λ are. are.rows i row (slice_get_read rows.rows.items (length rows.rows.items) i row refl (omega (arith, inside, count)) own))
+  pub starts_long : length board.tables.starts.items ≡ suc (graph_in net.net).nodes
+  starts_long = starts_count net (graph_in net.net).nodes all board.tables.starts.items board.tables.entries.items board.own_tables.rows
+
+  pub start_is : (piece n : ℕ) → piece ≤ (graph_in net.net).nodes → n ≡ get_or board.tables.starts.items piece n → n ≡ rows_before net piece
+  start_is piece n low at = at ∙ start_at net (graph_in net.net).nodes all board.tables.starts.items board.tables.entries.items board.own_tables.rows piece n low
+
+  pub end_is : (piece n : ℕ) → piece < (graph_in net.net).nodes → n ≡ get_or board.tables.starts.items (piece + 1) n → n ≡ rows_before net piece + operation_count net piece
+  end_is piece n exists at = start_is (piece + 1) n (omega (arith, exists)) at ∙ ap (rows_before net) (let one : piece + 1 ≡ suc piece = omega arith in one)
+
+  pub row_exists : (piece i : ℕ) → piece < (graph_in net.net).nodes → i < operation_count net piece → rows_before net piece + i < length all
+  row_exists piece i exists inside = row_low net (graph_in net.net).nodes all board.tables.starts.items board.tables.entries.items board.own_tables.rows piece i exists inside
+
+  pub row_is : (piece i : ℕ) (row : Row) → piece < (graph_in net.net).nodes → i < operation_count net piece → row ≡ get_or all (rows_before net piece + i) row → ∥ IsRow net piece i row ∥₁
+  row_is piece i row exists inside at = row_there net (graph_in net.net).nodes all board.tables.starts.items board.tables.entries.items board.own_tables.rows piece i row exists inside at
+
+  pub rows_end : (piece : ℕ) → piece < (graph_in net.net).nodes → rows_before net piece + operation_count net piece ≤ length all
+  rows_end piece exists = let rise = rows_rise net piece (graph_in net.net).nodes exists in let count = board.own_tables.rows.count in omega (arith, rise, count)
+
+  -- ---- rows by their nodes
+
+  record_is : (k n : ℕ) → k < node_total net → n ≡ get_or board.tables.records.items k n → slice_index board.tables.records.items k ≡ n
+  record_is k n below at =
+      let records = board.tables.records.items in
+      let count = board.own_tables.records in
+      get_or_from_slice_get records k n 0 (slice_get_read records (length records) k n refl (omega (arith, below, count)) at)
+
+  pub number_is : (k n piece i : ℕ) → k < node_total net → operation_node net k ≡ Op piece i → n ≡ get_or board.tables.records.items k n → n ≡ rows_before net piece + i
+  number_is k n piece i below is at = sym (record_is k n below at) ∙ board.own_tables.operations k piece i below is
+
+  past_rows : (k n : ℕ) → k < node_total net → ((piece i : ℕ) → operation_node net k ≢ Op piece i) → n ≡ get_or board.tables.records.items k n → slice_get all n ≡ None
+  past_rows k n below other at =
+      let is = record_is k n below at in
+      let past = board.own_tables.others k below other in
+      slice_get_past all n (omega (arith, is, past))
+
+  row_found : (k n : ℕ) (name : NodeName) → k < node_total net → operation_node net k ≡ name → n ≡ get_or board.tables.records.items k n → RowOfNode net name (slice_get all n)
+  row_found k n (Op piece i) below is at =
+      let own : IsOperationAt net k piece i = operation_at_node net k piece i below is in
+      let found = get_some all (rows_before net piece + i) (row_exists piece i own.exists own.inside) in
+      subst (λ (o : Option Row). RowOfNode net (Op piece i) o) (sym (ap (slice_get all) (number_is k n piece i below is at) ∙ found.1)) (board.own_tables.rows.rows piece i found.0 own.exists own.inside found.1)
+  row_found k n (Switch piece line) below is at = past_rows k n below (λ p i e. let no : Switch piece line ≡ Op p i = sym is ∙ e in cc) at
+  row_found k n (Merge piece line) below is at = past_rows k n below (λ p i e. let no : Merge piece line ≡ Op p i = sym is ∙ e in cc) at
+  row_found k n (Act piece) below is at = past_rows k n below (λ p i e. let no : Act piece ≡ Op p i = sym is ∙ e in cc) at
+
+  pub row_of_node : (k n : ℕ) → k < node_total net → n ≡ get_or board.tables.records.items k n → RowOfNode net (operation_node net k) (slice_get all n)
+  row_of_node k n below at = row_found k n (operation_node net k) below refl at
 
   -- ---- the first operation that needs a line
 
@@ -45,13 +93,19 @@ module _ {W : ℕ} (board : OperationBoard W) where
       let low = in_entries x piece line place entries (slice_get entries place) refl is in
       subst (λ (o : Option ℕ). EntryIs x piece line o) (slice_get_read entries (length entries) place n refl low own) is
 
-  pub entry_exists : (piece line place : ℕ) (rows : PieceRows) → piece < (graph_in (operation_net_on board).net).nodes → rows ≡ get_or board.tables.pieces.items piece rows → is_acting (kind_in (operation_net_on board).net piece) ≡ true → slice_get (touched (operation_net_on board).net piece) place ≡ Some line → place < length rows.entries.items
-  entry_exists piece line place rows exists at acts touched =
-      ∥∥₁_elim (rows_at piece rows exists at) (Prim.hlevel props) (λ are. in_entries (operation_net_on board) piece line place rows.entries.items (slice_get rows.entries.items place) refl (are.entries acts place line touched))
+  module _ (piece line place : ℕ) (own : Vec ℕ Global) (exists : piece < (graph_in net.net).nodes) (at : own ≡ get_or board.tables.entries.items piece own) (acts : is_acting (kind_in net.net piece) ≡ true) (touches : slice_get (touched net.net piece) place ≡ Some line) where
+    entry_there : ∥ EntryIs net piece line (slice_get own.items place) ∥₁
+    entry_there =
+        let entries = board.tables.entries.items in
+        let count = board.own_tables.rows.pieces in
+        let there : slice_get entries piece ≡ Some own = slice_get_read entries (length entries) piece own refl (omega (arith, exists, count)) at in
+        subst (λ (o : Option (Vec ℕ Global)). ∥ EntryIs net piece line (entry_in o place) ∥₁) there (board.own_tables.rows.entries piece place line exists acts touches)
 
-  pub entry_at : (piece line place n : ℕ) (rows : PieceRows) → piece < (graph_in (operation_net_on board).net).nodes → rows ≡ get_or board.tables.pieces.items piece rows → is_acting (kind_in (operation_net_on board).net piece) ≡ true → slice_get (touched (operation_net_on board).net piece) place ≡ Some line → n ≡ get_or rows.entries.items place n → IsEntry (operation_net_on board) piece line n
-  entry_at piece line place n rows exists at acts touched own =
-      ∥∥₁_elim (rows_at piece rows exists at) (Prim.hlevel props) (λ are. own_entry (operation_net_on board) piece line place n rows.entries.items own (are.entries acts place line touched))
+    pub entry_exists : place < length own.items
+    entry_exists = ∥∥₁_elim entry_there (Prim.hlevel props) (λ (is : EntryIs net piece line (slice_get own.items place)). in_entries net piece line place own.items (slice_get own.items place) refl is)
+
+    pub entry_is : (n : ℕ) → n ≡ get_or own.items place n → IsEntry net piece line n
+    entry_is n here = ∥∥₁_elim entry_there (Prim.hlevel props) (λ (is : EntryIs net piece line (slice_get own.items place)). own_entry net piece line place n own.items here is)
 
 module _ (x : OperationNet) where
   record IsNamedSwitch (name : NodeName) (piece : ℕ) : Type 0 where

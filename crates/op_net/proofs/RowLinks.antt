@@ -52,6 +52,8 @@ module _ (x : OperationNet) (piece i : ℕ) where
     -- the row with its lines linked
     pub row_linked : (row other : Row) → IsRowWith (IsCountedHop x piece i) x piece i row → other.hops.items ≡ map (linked s) row.hops.items → (IsRowWith (IsHop x piece i) x piece i (record row { hops = other.hops }))
     row_linked row other is hops_are = record {
+      own_piece = is.own_piece;
+      own_number = is.own_number;
       task = is.task;
       can = is.can;
       takes = is.takes;

@@ -17,7 +17,7 @@ use Rattle.operation_lists.specs.Seen.{operand_seen, operation_seen, work_seen}
 use Rattle.op_net.specs.declared.hops.Hop.{Hop}
 use Rattle.op_net.specs.declared.hops.Scratch.{Scratch}
 use Rattle.op_net.specs.declared.rows.Row.{Row}
-use Rattle.op_net.specs.OperationRows.{IsCountedHop, IsRowWith, IsTaker, first_three, waits_anew}
+use Rattle.op_net.specs.OperationRows.{IsCountedHop, IsRowWith, IsTaker, first_three, short_count, waits_anew}
 use Rattle.op_net.specs.RowRoom.{work_room}
 use Rattle.op_net.specs.ScratchLines.{AreCounted, before_at}
 use Rattle.op_net.specs.Waits.{one_if}
@@ -53,23 +53,25 @@ module _ (x : OperationNet) (piece i : ℕ) where
   -- ---- the row
 
   module _ (op : Operation) (op_is : operation_at x piece i ≡ operation_seen op) (row : Row) where
-    pub row_made : IsTaskOf x.net.program.names (work_seen op.work) row.task → CanPerform x.net.program row.task → ((count : ℕ) → HasOperands (work_seen op.work) count → TakesOperands row.task count)
+    pub row_made : row.piece ≡ piece → row.number ≡ i → IsTaskOf x.net.program.names (work_seen op.work) row.task → CanPerform x.net.program row.task → ((count : ℕ) → HasOperands (work_seen op.work) count → TakesOperands row.task count)
         → OperationFits x.net.program (operation_at x piece i) → work_room (operation_at x piece i).work ≤ most_room x.net.program.execs
-        → row.operands.items ≡ op.operands.items → map operand_seen row.few ≡ first_three (map operand_seen op.operands.items) → row.count ≡ length op.operands.items → row.waits ≡ waits_anew x piece i → row.gives ≡ board.gives_value (work_seen op.work) → row.decides ≡ board.is_decision (work_seen op.work) → row.serial ≡ x.needs piece i 0 → row.edge ≡ out (graph_in x.net) piece 0
+        → row.operands.items ≡ op.operands.items → map operand_seen row.few ≡ first_three (map operand_seen op.operands.items) → row.count ≡ short_count (length op.operands.items) → row.waits ≡ waits_anew x piece i → row.gives ≡ board.gives_value (work_seen op.work) → row.decides ≡ board.is_decision (work_seen op.work) → row.serial ≡ x.needs piece i 0 → row.edge ≡ out (graph_in x.net) piece 0
         → (board.gives_value (operation_at x piece i).work ≡ true → IsTaker x piece i row.taker) → map line_of row.hops.items ≡ needed x piece i → All (IsCountedHop x piece i) row.hops.items
         → IsRowWith (IsCountedHop x piece i) x piece i row
-    row_made is_task can takes fits room operands few count waits gives decides serial edge taker lines hops =
+    row_made own_piece own_number is_task can takes fits room operands few count waits gives decides serial edge taker lines hops =
         let task : IsTaskOf x.net.program.names (operation_at x piece i).work row.task = subst (λ (o : board.Operation). IsTaskOf x.net.program.names o.work row.task) (sym op_is) is_task in
         let given : row.gives ≡ board.gives_value (operation_at x piece i).work = gives ∙ sym (ap (λ (o : board.Operation). board.gives_value o.work) op_is) in
         let has : HasOperands (work_seen op.work) (length (map operand_seen op.operands.items)) = subst (λ (o : board.Operation). HasOperands o.work (length o.operands)) op_is fits.1 in
         record {
+          own_piece = own_piece;
+          own_number = own_number;
           task = task;
           can = can;
           takes = takes (length row.operands.items) (subst (λ n. HasOperands (work_seen op.work) n) (length-map op.operands.items operand_seen ∙ ap length (sym operands)) has);
           room = task_within x.net.program.names (operation_at x piece i).work row.task (most_room x.net.program.execs) task room;
           operands = ap (map operand_seen) operands ∙ sym (ap (λ (o : board.Operation). o.operands) op_is);
           few = few ∙ sym (ap (λ (o : board.Operation). first_three o.operands) op_is);
-          count = count ∙ sym (length-map op.operands.items operand_seen) ∙ sym (ap (λ (o : board.Operation). length o.operands) op_is);
+          count = count ∙ ap short_count (sym (length-map op.operands.items operand_seen) ∙ sym (ap (λ (o : board.Operation). length o.operands) op_is));
           waits = waits;
           gives = given;
           decides = decides ∙ sym (ap (λ (o : board.Operation). board.is_decision o.work) op_is);

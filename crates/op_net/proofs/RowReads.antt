@@ -1,7 +1,8 @@
 -- What the firing of an operation reads in its row, where the row is known to be true.
-use Rattle.std.proofs.Common.{◌≡◌, ◌<◌, ◌≤◌, ◌+◌, ◌-◌, ℕ, true, length, map, ap, sym, subst, ◌∙◌, arith}
+use Rattle.std.proofs.Common.{◌≡◌, ◌<◌, ◌≤◌, ◌+◌, ◌-◌, ◌≢◌, ◌⊎◌, ⊎_elim, inl, inr, if◌then◌else◌, ℕ, true, lt-ltb, le-ltb, length, map, ap, sym, subst, ◌∙◌, arith}
 use Rattle.std.proofs.Math.Logic.{∥∥₁_elim}
 use Rattle.std.proofs.Props.{props}
+use Rattle.std.proofs.lemmas.Bool.{cases_lt}
 use Rattle.cfg_build.specs.Passes.{out}
 use Rattle.closed_walks.specs.Graph.{edge_count}
 use Rattle.net_board.specs.Nodes.{graph_in}
@@ -12,12 +13,25 @@ use Rattle.op_board.specs.Operations.{gives_value, is_decision}
 use Rattle.op_net.specs.declared.lookups.OperationBoard.{OperationBoard}
 use Rattle.op_net.specs.declared.rows.Row.{Row}
 use Rattle.op_net.specs.BoardView.{operation_net_on}
-use Rattle.op_net.specs.OperationRows.{IsRow, IsTaker, waits_anew}
+use Rattle.op_net.specs.OperationRows.{IsRow, IsTaker, short_count, waits_anew}
 use Rattle.op_net.specs.Waits.{IsNodeAfter, node_total}
 use Rattle.op_net.proofs.NodeNames.{operation_within}
 use Rattle.op_net.proofs.NodesAfter.{one_after}
 
+-- there are more than three, or there are as many as are counted
+short_counts : (n : ℕ) → (short_count n ≡ 4) ⊎ ((n ≤ 3) × (short_count n ≡ n))
+short_counts n = ⊎_elim
+    (λ (many : 3 < n). inl (ap (λ b. if b then 4 else n) (lt-ltb 3 n many)))
+    (λ (few : n ≤ 3). inr (few, ap (λ b. if b then 4 else n) (le-ltb 3 n few)))
+    (cases_lt 3 n)
+
 module _ (x : OperationNet) (piece i : ℕ) (row : Row) (is : ∥ IsRow x piece i row ∥₁) where
+  pub row_piece : row.piece ≡ piece
+  row_piece = ∥∥₁_elim is (Prim.hlevel props) (λ (r : IsRow x piece i row). r.own_piece)
+
+  pub row_number : row.number ≡ i
+  row_number = ∥∥₁_elim is (Prim.hlevel props) (λ (r : IsRow x piece i row). r.own_number)
+
   pub row_edge : row.edge ≡ out (graph_in x.net) piece 0
   row_edge = ∥∥₁_elim is (Prim.hlevel props) (λ (r : IsRow x piece i row). r.edge)
 
@@ -30,8 +44,24 @@ module _ (x : OperationNet) (piece i : ℕ) (row : Row) (is : ∥ IsRow x piece 
   pub row_waits : row.waits ≡ waits_anew x piece i
   row_waits = ∥∥₁_elim is (Prim.hlevel props) (λ (r : IsRow x piece i row). r.waits)
 
-  pub row_count : row.count ≡ length (operation_at x piece i).operands
-  row_count = ∥∥₁_elim is (Prim.hlevel props) (λ (r : IsRow x piece i row). r.count)
+  row_short : row.count ≡ short_count (length (operation_at x piece i).operands)
+  row_short = ∥∥₁_elim is (Prim.hlevel props) (λ (r : IsRow x piece i row). r.count)
+
+  module _ (few : row.count ≢ 4) where
+    pub row_count : row.count ≡ length (operation_at x piece i).operands
+    row_count = ⊎_elim
+        (λ (many : short_count (length (operation_at x piece i).operands) ≡ 4). absurd (few (row_short ∙ many)))
+        (λ (own : _ × _). row_short ∙ own.1)
+        (short_counts (length (operation_at x piece i).operands))
+
+    pub row_at_most : length (operation_at x piece i).operands ≤ 3
+    row_at_most = ⊎_elim
+        (λ (many : short_count (length (operation_at x piece i).operands) ≡ 4). absurd (few (row_short ∙ many)))
+        (λ (own : _ × _). own.0)
+        (short_counts (length (operation_at x piece i).operands))
+
+    pub row_count_low : row.count ≤ 3
+    row_count_low = let count = row_count in let low = row_at_most in omega (arith, count, low)
 
   pub row_taker : gives_value (operation_at x piece i).work ≡ true → IsTaker x piece i row.taker
   row_taker gives = ∥∥₁_elim is (Prim.hlevel props) (λ (r : IsRow x piece i row). r.taker (r.gives ∙ gives))

@@ -1,4 +1,4 @@
--- The rows of all pieces, and the most operands of an operation.
+-- The most operands of an operation.
 use Rattle.std.proofs.Common.{◌≡◌, ◌<◌, ◌≤◌, ⊎_elim, ℕ, ◌+◌, List, [], ◌∷◌, ◌++◌, length, slice_get, None, Some, map, sym, ap, ◌∙◌, subst, arith, length-append}
 use mathlib.Core.Logic.{∥∥₁_elim}
 use Rattle.std.proofs.Props.{props}
@@ -22,33 +22,6 @@ use Rattle.op_net.specs.OperationRows.{AreRows}
 use Rattle.op_net.specs.PieceTables.{AreAllRows}
 use Rattle.op_net.specs.PlanView.{operations_in}
 use Rattle.op_net.proofs.GrownLists.{get_last, get_some}
-
--- ---- rows
-
--- the rows of so many pieces
-pub record AreFirstRows (x : OperationNet) (n : ℕ) (pieces : List PieceRows) : Type 0 where
-  pub count : length pieces ≡ n
-  pub rows : (piece : ℕ) (rows : PieceRows) → slice_get pieces piece ≡ Some rows → ∥ AreRows x piece rows ∥₁
-
-module _ (x : OperationNet) where
-  pub no_rows : (pieces : List PieceRows) → pieces ≡ [] → AreFirstRows x 0 pieces
-  no_rows pieces none = record {
-    count = ap length none;
-    rows = λ piece rows at. let nothing : slice_get {X = PieceRows} [] piece ≡ Some rows = ap (λ xs. slice_get xs piece) (sym none) ∙ at in let past : slice_get {X = PieceRows} [] piece ≡ None = slice_get_past [] piece (omega arith) in absurd cc;
-  }
-
-  pub next_rows : (n : ℕ) (pieces new : List PieceRows) (made : PieceRows) → AreFirstRows x n pieces → ∥ AreRows x n made ∥₁ → new ≡ pieces ++ made ∷ [] → AreFirstRows x (n + 1) new
-  next_rows n pieces new made first here are = record {
-    count = let l = length-append pieces (made ∷ []) in let e = ap length are in omega (arith, l, e, first.count);
-    rows = λ piece other at. ⊎_elim
-        (λ (before : slice_get pieces piece ≡ Some other). first.rows piece other before)
-        (λ (last : (piece ≡ length pieces) × (made ≡ other)).
-        subst (λ (k : ℕ). ∥ AreRows x k other ∥₁) (sym (last.0 ∙ first.count)) (subst (λ (y : PieceRows). ∥ AreRows x n y ∥₁) last.1 here))
-        (get_last pieces made other piece (ap (λ xs. slice_get xs piece) (sym are) ∙ at));
-  }
-
-  pub rows_done : (n : ℕ) (pieces : List PieceRows) → AreFirstRows x n pieces → n ≡ (graph_in x.net).nodes → AreAllRows x pieces
-  rows_done n pieces first all = record { count = first.count ∙ all; rows = first.rows }
 
 -- ---- operands
 

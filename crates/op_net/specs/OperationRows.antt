@@ -1,5 +1,5 @@
 -- What the rows of operations hold.
-use Rattle.std.specs.Prelude.{◌≡◌, ◌<◌, ◌≤◌, ◌+◌, ◌++◌, ℕ, pos, suc, true, false, if◌then◌else◌, List, [], ◌∷◌, length, map, take, All, Option, Some, None, slice_get}
+use Rattle.std.specs.Prelude.{◌≡◌, ◌<◌, ◌≤◌, ◌+◌, ◌++◌, nat_lt, ℕ, pos, suc, true, false, if◌then◌else◌, List, [], ◌∷◌, length, map, take, All, Option, Some, None, slice_get}
 use Rattle.cfg_build.specs.Passes.{out}
 use Rattle.f77_meaning.specs.Room.{most_room}
 use Rattle.net_board.specs.Nodes.{graph_in, is_acting, kind_in, switches, touched}
@@ -66,15 +66,21 @@ waits_anew x piece i =
 abbrev pub first_three : List Operand → List Operand
 first_three operands = take 3 (operands ++ Known (pos 0) ∷ Known (pos 0) ∷ Known (pos 0) ∷ [])
 
+-- how many operands there are, where 4 stands for more than three
+abbrev pub short_count : (count : ℕ) → ℕ
+short_count count = if nat_lt 3 count then 4 else count
+
 -- what the firing of an operation looks up, with what is told of its lines
 pub record IsRowWith (IsHopOf : Hop → Type 0) (x : OperationNet) (piece i : ℕ) (row : Row) : Type 0 where
+  pub own_piece : row.piece ≡ piece
+  pub own_number : row.number ≡ i
   pub task : IsTaskOf x.net.program.names (operation_at x piece i).work row.task
   pub can : CanPerform x.net.program row.task
   pub takes : TakesOperands row.task (length row.operands.items)
   pub room : task_room row.task ≤ most_room x.net.program.execs
   pub operands : map operand_seen row.operands.items ≡ (operation_at x piece i).operands
   pub few : map operand_seen row.few ≡ first_three (operation_at x piece i).operands
-  pub count : row.count ≡ length (operation_at x piece i).operands
+  pub count : row.count ≡ short_count (length (operation_at x piece i).operands)
   pub waits : row.waits ≡ waits_anew x piece i
   pub gives : row.gives ≡ gives_value (operation_at x piece i).work
   pub decides : row.decides ≡ is_decision (operation_at x piece i).work

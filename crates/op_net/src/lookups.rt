@@ -1,15 +1,16 @@
 //! Looking up the nodes of a net of operations, and what their firings need.
 
 ghost use Rattle.std.specs.Prelude.{◌≡◌, ◌+◌, ◌<◌, ◌≤◌, ◌-◌, ℕ, Some, length, slice_get};
+ghost use Rattle.std.specs.Option.{option_copied};
 ghost use Rattle.closed_walks.specs.Graph.{edge_count};
 ghost use Rattle.cfg_build.specs.Passes.{out};
-ghost use Rattle.firing.specs.declared.system.NodeName.TheVariants.{Switch};
+ghost use Rattle.firing.specs.declared.system.NodeName.TheVariants.{Op, Switch};
 ghost use Rattle.net_board.specs.Nodes.{graph_in, nodes_of};
 ghost use Rattle.net_board.specs.WokenNodes.{switch_number};
 ghost use Rattle.op_board.specs.OperationNets.{first_operation, operation_count, operation_node, operation_node_count};
 ghost use Rattle.op_net.specs.OperationRows.{IsRow};
 ghost use Rattle.op_net.specs.declared.rows.Row.{Row};
-ghost use Rattle.op_net.specs.OperationTables.{AreOperationTables};
+ghost use Rattle.op_net.specs.OperationTables.{AreOperationTables, RowOfNode};
 ghost use Rattle.op_net.specs.PlanView.{operations_in};
 ghost use Rattle.op_net.specs.Waits.{IsSwitchOf, node_total};
 
@@ -75,7 +76,7 @@ impl<'a, const W: usize> OperationBoard<'a, W> {
         requires { piece < (graph_in (operation_net_on self.now).net).nodes }
         ensures { result ≡ operation_count (operation_net_on self.now) piece }
     {
-        self.tables.pieces[piece as usize].rows.len() as u32
+        self.tables.starts[piece as usize + 1] - self.tables.starts[piece as usize]
     }
 
     /// What the firing of an operation looks up.
@@ -84,7 +85,29 @@ impl<'a, const W: usize> OperationBoard<'a, W> {
         requires operation { i < operation_count (operation_net_on self.now) piece }
         ensures { ∥ IsRow (operation_net_on self.now) piece i result.now ∥₁ }
     {
-        &self.tables.pieces[piece as usize].rows[i as usize]
+        &self.tables.rows[(self.tables.starts[piece as usize] + i) as usize]
+    }
+
+    /// What the firing of a node looks up, if it is an operation.
+    #[inline(always)]
+    pub(crate) fn row_at(&self, k: u32) -> Option<&Row<'a>>
+        requires { k < node_total (operation_net_on self.now) }
+        ensures { RowOfNode (operation_net_on self.now) (operation_node (operation_net_on self.now) k) (option_copied result) }
+    {
+        self.tables
+            .rows
+            .get(self.tables.records[k as usize] as usize)
+    }
+
+    /// What the firing of this node looks up, which is an operation. It is nearer by the node than by the piece.
+    #[inline(always)]
+    pub(crate) fn row_of(&self, k: u32, piece: u32, i: u32) -> &Row<'a>
+        requires node { k < node_total (operation_net_on self.now) }
+        requires name { operation_node (operation_net_on self.now) k ≡ Op piece i }
+        ensures { ∥ IsRow (operation_net_on self.now) piece i result.now ∥₁ }
+    {
+        let _ = (piece, i);
+        &self.tables.rows[self.tables.records[k as usize] as usize]
     }
 
     /// What the firings of the operations of a piece look up.
@@ -93,7 +116,9 @@ impl<'a, const W: usize> OperationBoard<'a, W> {
         ensures count { length result.now ≡ operation_count (operation_net_on self.now) piece }
         ensures rows { (i : ℕ) (row : Row) → slice_get result.now i ≡ Some row → ∥ IsRow (operation_net_on self.now) piece i row ∥₁ }
     {
-        self.tables.pieces[piece as usize].rows.as_slice()
+        let from = self.tables.starts[piece as usize] as usize;
+        let end = self.tables.starts[piece as usize + 1] as usize;
+        &self.tables.rows[from..end]
     }
 
     /// The number of a switch in the net of statements.

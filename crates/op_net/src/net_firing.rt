@@ -37,7 +37,7 @@ use crate::operating::{
     chosen_edge, drop_needed, fill_room, lead_line, move_lines, take_few, take_operands,
 };
 use crate::places::Places;
-use crate::rows::Row;
+use crate::rows::{MANY, Row};
 use crate::waiting::waits_are_few;
 use f77_meaning::Storage;
 use firing::{Fired, NodeName};
@@ -61,9 +61,13 @@ impl<const W: usize> OpNet<'_, W> {
         ensures fired { FiredIs (operation_moves (net_of self.old)) (marking_of self.old) k result.0 }
         ensures last { self.new.text.items ≡ newest ((operation_moves (net_of self.old)).line (marking_of self.old) k) self.old.text.items }
     {
-        match self.board.name(k) {
-            NodeName::Op(piece, i) => self.operate(k, piece, i),
-            _ => (Fired::Moved, self.turn(k)),
+        match self.board.row_at(k) {
+            Some(row) => {
+                let piece = row.piece;
+                let i = row.number;
+                self.operate(k, piece, i)
+            }
+            None => (Fired::Moved, self.turn(k)),
         }
     }
 
@@ -157,7 +161,7 @@ impl<const W: usize> OpNet<'_, W> {
         ensures last { self.new.text.items ≡ newest (line_as (net_of self.old) (marking_of self.old) (Op piece i)) self.old.text.items }
     {
         let board = &self.board;
-        let row = board.row(piece, i);
+        let row = board.row_of(k, piece, i);
         let places = &mut self.places;
         count_ahead(board, places, k, row.waits);
         let plan = &board.plan.board.plan;
@@ -250,14 +254,14 @@ pub(crate) fn work_with<'a, const W: usize>(
     ensures kept { KeepsCounts places.old places.new }
     ensures places { ArePlaces (operation_net_on board.now) places.new }
 {
-    if row.count > 3 {
+    if row.count == MANY {
         return work_with_many(board, places, piece, i, row, input, storage, draft, args);
     }
     let few = take_few(board, places, piece, i, first, row);
     let program = board.plan.board.plan.program;
     perform(
         row.task,
-        &few[..row.count as usize],
+        &few[..usize::from(row.count)],
         program,
         input,
         storage,

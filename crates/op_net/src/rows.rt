@@ -5,7 +5,7 @@ ghost use Rattle.net_board.specs.Nodes.{graph_in, is_acting, kind_in, switches};
 ghost use Rattle.op_board.specs.Operations.{Known, gives_value, is_decision};
 ghost use Rattle.op_board.specs.OperationNets.{OperationNet, needed, operation_at, operation_count};
 ghost use Rattle.op_board.specs.OperationTokens.{givers};
-ghost use Rattle.op_net.specs.OperationRows.{AreRows, HasRows, IsCountedHop, IsHop, IsRowWith, IsTaker, first_three, waits_anew};
+ghost use Rattle.op_net.specs.OperationRows.{AreRows, HasRows, IsCountedHop, IsHop, IsRowWith, IsTaker, first_three, short_count, waits_anew};
 ghost use Rattle.operation_lists.specs.Seen.{operand_seen, operation_seen, work_seen};
 ghost use Rattle.op_net.specs.PlanView.{operations_in};
 ghost use Rattle.op_net.specs.ScratchLines.{AreCounted, AreLinked, IsClean};
@@ -22,15 +22,19 @@ use operation_effects::{Task, task_of};
 use operation_lists::{Operand, Operands, Operation, Work, gives_value, is_decision};
 use std::alloc::Global;
 
+/// Stands for more operands than an operation has room for in its row.
+pub(crate) const MANY: u8 = 4;
+
 /// An operation, ready to fire. Operations are told by their numbers in the piece.
 #[derive(Drop)]
 pub(crate) struct Row<'a> {
     pub(crate) task: Task<'a>,
+    /// The piece of the operation, and its number there.
+    pub(crate) piece: u32,
+    pub(crate) number: u32,
     pub(crate) operands: Operands,
     /// The first three of its operands, and 0 where there are fewer.
     pub(crate) few: [Operand; 3],
-    /// How many operands there are.
-    pub(crate) count: u32,
     /// The lines that it needs, in rising order.
     pub(crate) hops: Vec<Hop>,
     /// The operation that takes its value. It is of no meaning where there is no value.
@@ -41,6 +45,8 @@ pub(crate) struct Row<'a> {
     pub(crate) decides: bool,
     /// Whether it needs the line of output.
     pub(crate) serial: bool,
+    /// How many operands there are, or `MANY` where there are more than three.
+    pub(crate) count: u8,
     /// The first of the edges that leave the piece.
     pub(crate) edge: u32,
     /// For how much it waits once it has fired and given a value.
@@ -145,7 +151,7 @@ fn unlinked_row<'a, const W: usize>(
     let operation = &operations.operations[i as usize];
     let needs = operations.needs.at(i as usize);
     let operands = copied_operands(alloc, &operation.operands)?;
-    let count = number_of(operands.len())?;
+    let count = count_of(&operands);
     let hops = unlinked_hops(alloc, &needs, scratch)?;
     let lines = number_of(hops.len())?;
     let waits = number_of(waits_anew(plan, piece, operation, lines))?;
@@ -154,6 +160,8 @@ fn unlinked_row<'a, const W: usize>(
         few: first_operands(&operands),
         operands,
         count,
+        piece,
+        number: i,
         hops,
         taker,
         gives: gives_value(&operation.work),
@@ -215,6 +223,17 @@ fn switches_told<const W: usize>(plan: &OperationPlan<W>, piece: u32, work: &Wor
         plan.board.end(piece) - (plan.board.first(piece) + 1)
     } else {
         0
+    }
+}
+
+/// How many operands there are, or `MANY` where there are more than three.
+fn count_of(operands: &Operands) -> u8
+    ensures { result ≡ short_count (length operands.now.items) }
+{
+    if operands.len() > 3 {
+        MANY
+    } else {
+        operands.len() as u8
     }
 }
 

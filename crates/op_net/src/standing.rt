@@ -77,7 +77,7 @@ pub(crate) fn entry<const W: usize>(board: &OperationBoard<W>, piece: u32, line:
 {
     let touched = board.plan.board.touched(piece);
     match touched.binary_search(&line) {
-        Ok(place) => Some(board.tables.pieces[piece as usize].entries[place]),
+        Ok(place) => Some(board.tables.entries[piece as usize][place]),
         Err(_) => None,
     }
 }

@@ -1,18 +1,20 @@
 //! The tables of a net of operations, made from its plan.
 
 ghost use Rattle.std.specs.Prelude.{◌≡◌, ◌<◌, ◌≤◌, ◌+◌, ℕ, IfOk, Some, length, slice_get};
+ghost use Rattle.firing.specs.declared.system.NodeName.{NodeName};
 ghost use Rattle.operation_lists.specs.declared.operations.Operation.{Operation};
 ghost use Rattle.op_board.specs.OperationNets.{operation_at, operation_count};
 ghost use Rattle.op_net.specs.NodeTables.{AreNodeTables};
 ghost use Rattle.op_net.specs.OperationTables.{AreOperationTables};
-ghost use Rattle.op_net.specs.PieceTables.{AreAllRows};
+ghost use Rattle.op_net.specs.PieceTables.{AreAllRows, IsCounted, record_in};
 ghost use Rattle.op_net.specs.PlanView.{operations_in};
 
 use crate::hops::make_scratch;
 use crate::names::{number_of, numbered_nodes};
 use crate::plan::OperationPlan;
-use crate::rows::{PieceRows, make_rows};
+use crate::rows::{PieceRows, Row, make_rows};
 use df_sequence::NoMemory;
+use firing::NodeName;
 use node_names::NameList;
 use operation_lists::Operation;
 use std::alloc::Global;
@@ -35,8 +37,14 @@ pub(crate) struct OperationTables<'a> {
     pub(crate) names: NameList,
     /// For each piece the number of its first node, and last the number of all nodes.
     pub(crate) firsts: Vec<u32>,
-    /// For each piece its operations.
-    pub(crate) pieces: Vec<PieceRows<'a>>,
+    /// The rows of all operations, piece by piece.
+    pub(crate) rows: Vec<Row<'a>>,
+    /// For each piece the number of its first row, and last the number of all rows.
+    pub(crate) starts: Vec<u32>,
+    /// For each node the number of its row, or a greater one than any row's where it is no operation.
+    pub(crate) records: Vec<u32>,
+    /// For each piece and each line that it touches the first operation that needs it.
+    pub(crate) entries: Vec<Vec<u32>>,
     /// There are no more operations before one in its piece together with its operands than this, which can be numbered.
     pub(crate) most: usize,
 }
@@ -66,28 +74,84 @@ pub(crate) fn make_tables<'a, const W: usize>(
     requires { AreNodeTables (operations_in plan.now) nodes }
     ensures { IfOk result (λ t. AreOperationTables (operations_in plan.now) t) }
 {
-    let pieces = all_rows(alloc, plan)?;
+    let AllRows {
+        rows,
+        starts,
+        entries,
+    } = all_rows(alloc, plan)?;
+    let records = records_of(alloc, &nodes.names, &starts)?;
     Ok(OperationTables {
         names: nodes.names,
         firsts: nodes.firsts,
-        pieces,
+        rows,
+        starts,
+        records,
+        entries,
         most: nodes.most,
     })
 }
 
-/// For each piece the rows of its operations.
+/// The rows of all operations.
+#[derive(Drop)]
+pub(crate) struct AllRows<'a> {
+    /// They stand piece by piece.
+    pub(crate) rows: Vec<Row<'a>>,
+    /// For each piece the number of its first row, and last the number of all rows.
+    pub(crate) starts: Vec<u32>,
+    /// For each piece and each line that it touches the first operation that needs it.
+    pub(crate) entries: Vec<Vec<u32>>,
+}
+
+/// The rows of all operations. More rows than can be numbered are allocation failure.
 fn all_rows<'a, const W: usize>(
     alloc: Global,
     plan: &OperationPlan<'a, W>,
-) -> Result<Vec<PieceRows<'a>>, NoMemory>
-    ensures { IfOk result (λ pieces. AreAllRows (operations_in plan.now) pieces.items) }
+) -> Result<AllRows<'a>, NoMemory>
+    ensures { IfOk result (λ t. AreAllRows (operations_in plan.now) t) }
 {
     let mut scratch = make_scratch(alloc, plan.board.plan.routes.lines())?;
-    let mut pieces = Vec::with_capacity(alloc, plan.pieces.len())?;
+    let mut rows = Vec::new(alloc);
+    let mut starts = Vec::with_capacity(alloc, plan.board.plan.flow.pieces() as usize + 1)?;
+    let mut entries = Vec::with_capacity(alloc, plan.pieces.len())?;
+    starts.push(0)?;
     for piece in 0..plan.board.plan.flow.pieces() {
-        pieces.push(make_rows(alloc, plan, piece, &mut scratch)?)?;
+        let PieceRows {
+            rows: mut own,
+            entries: firsts,
+        } = make_rows(alloc, plan, piece, &mut scratch)?;
+        rows.append(&mut own)?;
+        starts.push(number_of(rows.len())?)?;
+        entries.push(firsts)?;
     }
-    Ok(pieces)
+    Ok(AllRows {
+        rows,
+        starts,
+        entries,
+    })
+}
+
+/// For each node the number of its row, or a greater one than any row's where it is no operation.
+fn records_of(alloc: Global, names: &NameList, starts: &Vec<u32>) -> Result<Vec<u32>, NoMemory>
+    requires { (k : ℕ) (name : NodeName) → slice_get names.now k ≡ Some name → IsCounted starts.now.items name }
+    ensures count { IfOk result (λ records. length records.items ≡ length names.now) }
+    ensures records { IfOk result (λ records. (k : ℕ) (name : NodeName) → slice_get names.now k ≡ Some name → slice_get records.items k ≡ Some (record_in starts.now.items name)) }
+{
+    let mut records = Vec::with_capacity(alloc, names.len())?;
+    for k in 0..names.len() {
+        records.push(record_of(names.at(k), starts))?;
+    }
+    Ok(records)
+}
+
+/// The number of the row of a node, or a greater one than any row's where it is no operation.
+fn record_of(name: NodeName, starts: &Vec<u32>) -> u32
+    requires { IsCounted starts.now.items name }
+    ensures { result ≡ record_in starts.now.items name }
+{
+    match name {
+        NodeName::Op(piece, i) => starts[piece as usize] + i,
+        _ => u32::MAX,
+    }
 }
 
 /// There are no more operations before one in its piece together with its operands than this.

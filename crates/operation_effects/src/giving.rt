@@ -77,8 +77,8 @@ fn give_of_task(
     }
 }
 
-// The value of an operator, unless it traps.
-#[inline(always)]
+// The value of an operator, unless it traps. A hint, and no order, for the reason that stands beside `operate`.
+#[inline]
 fn applied_over(op: Op, operands: &[Operand], values: &[i32]) -> Option<i32>
     requires operands { length operands.now ≡ arity_of op }
     requires among { All (λ (operand : Operand). IsAmong (length values.now) (operand_seen operand)) operands.now }

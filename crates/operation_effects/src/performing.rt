@@ -127,8 +127,9 @@ fn perform_task(
     }
 }
 
-// The value of an operator, or its trap.
-#[inline(always)]
+// The value of an operator, or its trap. A hint, and no order: twelve copies of the whole table of operators would make the function above
+// too large to stand in its callers itself.
+#[inline]
 fn operate(op: Op, args: &[i32]) -> Did
     requires { length args.now ≡ arity_of op }
     ensures effect { (m : Memory) (line : List ℕ) → result_given m (applied op args.now) ≡ told result m line }

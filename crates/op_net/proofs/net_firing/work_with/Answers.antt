@@ -16,7 +16,7 @@ use Rattle.op_net.specs.PlacesView.{IsAheadBy, MakesUp, standing}
 use Rattle.op_net.proofs.FiringParts.{args_same}
 use Rattle.op_net.proofs.PlacesKept.{taken_kept}
 use Rattle.op_net.proofs.RowOperands.{taken_three}
-use Rattle.op_net.proofs.RowReads.{row_count}
+use Rattle.op_net.proofs.RowReads.{row_at_most, row_count, row_count_low}
 use Rattle.op_net.proofs.TaskPropositions.{can_prop, result_prop, takes_prop}
 use Rattle.op_net.proofs.net_firing.work_with.Goals as goal
 
@@ -24,12 +24,15 @@ pub take_few-few-requires : goal.take_few-few-requires
 take_few-few-requires g c =
     let x = operation_net_on c.args.board.now in
     let ops = (operation_at x c.args.piece c.args.i).operands in
-    let count = row_count x c.args.piece c.args.i c.args.row.now c.requires.row in
-    let low = c.if-row-gt3.false in
-    let few : length ops ≤ 3 = omega (arith, count, low) in
+    let few : length ops ≤ 3 = row_at_most x c.args.piece c.args.i c.args.row.now c.requires.row c.if-row-eq-MANY.false in
     let there : first_operation x c.args.piece + c.args.i ≡ c.args.first + c.args.i = ap (λ (n : ℕ). n + c.args.i) (sym c.requires.first) in
     let ahead = subst (λ (k : ℕ). ∥ IsAheadBy x c.args.places.now k (length (givers x c.args.piece ops)) ∥₁) there c.requires.ahead in
     (omega arith, (c.requires.piece, (c.requires.operation, (c.requires.first, (c.requires.row, (few, (c.requires.places, (ahead, c.requires.given))))))))
+
+pub slice_bounds-perform-end : goal.slice_bounds-perform-end
+slice_bounds-perform-end g c =
+    let low : c.args.row.now.count ≤ 3 = row_count_low (operation_net_on c.args.board.now) c.args.piece c.args.i c.args.row.now c.requires.row c.if-row-eq-MANY.false in
+    search (rules, low)
 
 pub perform-requires-clause-task : goal.perform-requires-clause-task
 perform-requires-clause-task g c =
@@ -43,8 +46,10 @@ perform-requires-clause-operands g c =
     let i = c.args.i in
     let ops = (operation_at x piece i).operands in
     let f = operand_in x (standing c.args.places.now) piece in
-    let args = taken_three f ops c.args.row.now.count c.take_few-few.result (row_count x piece i c.args.row.now c.requires.row) c.if-row-gt3.false c.take_few-few.ensures.args in
-    ∥∥₁_elim c.requires.row (takes_prop c.args.row.now.task (length (take c.args.row.now.count c.take_few-few.result))) (λ (row : IsRow x piece i c.args.row.now).
+    let told : c.from.result ≡ c.args.row.now.count = search rules in
+    let low = row_count_low x piece i c.args.row.now c.requires.row c.if-row-eq-MANY.false in
+    let args = taken_three f ops c.from.result c.take_few-few.result (told ∙ row_count x piece i c.args.row.now c.requires.row c.if-row-eq-MANY.false) (omega (arith, told, low)) c.take_few-few.ensures.args in
+    ∥∥₁_elim c.requires.row (takes_prop c.args.row.now.task (length (take c.from.result c.take_few-few.result))) (λ (row : IsRow x piece i c.args.row.now).
     subst (TakesOperands c.args.row.now.task) (sym (length-map c.args.row.now.operands.items operand_seen) ∙ ap length row.operands ∙ sym (length-map ops f) ∙ ap length (sym args)) row.takes)
 
 pub perform-requires-clause-room : goal.perform-requires-clause-room
@@ -64,10 +69,12 @@ returns-clause-effect g c =
     let i = c.args.i in
     let ops = (operation_at x piece i).operands in
     let f = operand_in x m piece in
-    let args = taken_three f ops c.args.row.now.count c.take_few-few.result (row_count x piece i c.args.row.now c.requires.row) c.if-row-gt3.false c.take_few-few.ensures.args in
+    let told : c.from.result ≡ c.args.row.now.count = search rules in
+    let low = row_count_low x piece i c.args.row.now c.requires.row c.if-row-eq-MANY.false in
+    let args = taken_three f ops c.from.result c.take_few-few.result (told ∙ row_count x piece i c.args.row.now c.requires.row c.if-row-eq-MANY.false) (omega (arith, told, low)) c.take_few-few.ensures.args in
     ∥∥₁_elim c.requires.row (result_prop _ _) (λ (row : IsRow x piece i c.args.row.now).
     ap (performed x.net.program.names x.net.input memory (operation_at x piece i).work) (args_same x piece (remembered m memory) m refl ops ∙ sym args)
-    ∙ ap (λ (data' : List ℤ). performed x.net.program.names data' memory (operation_at x piece i).work (take c.args.row.now.count c.take_few-few.result)) (sym c.requires.«data»)
+    ∙ ap (λ (data' : List ℤ). performed x.net.program.names data' memory (operation_at x piece i).work (take c.from.result c.take_few-few.result)) (sym c.requires.«data»)
     ∙ c.perform.ensures.effect (operation_at x piece i).work row.task)
 
 pub returns-clause-counted : goal.returns-clause-counted

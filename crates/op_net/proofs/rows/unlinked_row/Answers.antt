@@ -1,4 +1,4 @@
-use Rattle.std.proofs.Common.{◌≡◌, ◌<◌, ◌+◌, ◌∙◌, ℕ, Bool, true, List, length, map, filter, sym, ap, subst, arith, rules}
+use Rattle.std.proofs.Common.{◌≡◌, ◌<◌, ◌+◌, ◌∙◌, ℕ, Bool, true, refl, List, length, map, filter, sym, ap, subst, arith, rules}
 use Rattle.std.specs.List.{range_with_len}
 use Rattle.std.proofs.lemmas.List.{length-map}
 use Rattle.std.proofs.Props.{props}
@@ -12,7 +12,7 @@ use Rattle.operation_lists.specs.declared.operations.Operation.{Operation}
 use Rattle.operation_lists.specs.declared.operations.Operand.{Operand}
 use Rattle.operation_lists.specs.Seen.{operand_seen, operation_seen, work_seen}
 use Rattle.op_net.specs.declared.rows.Row.{Row}
-use Rattle.op_net.specs.OperationRows.{first_three, waits_anew}
+use Rattle.op_net.specs.OperationRows.{first_three, short_count, waits_anew}
 use Rattle.op_net.specs.PlanView.{operations_in}
 use Rattle.op_net.specs.ScratchLines.{before_at}
 use Rattle.op_net.specs.Waits.{one_if}
@@ -84,15 +84,15 @@ returns-clause-row g c =
     let needs : ◌≡◌ {A = ℕ → Bool} (λ line. x.needs piece i line) (λ line. holds set line) = needs_are plan piece planned c.requires.piece c.index-operations.ensures i set c.at-needs.ensures in
     let lines : map line_of hops ≡ needed x piece i = lines_needed (map line_of hops) (λ line. x.needs piece i line) (λ line. holds set line) (length c.args.scratch.now.before.items) x.net.routing.lines c.in_ok-hops.ensures.lines c.requires.counted.all.before needs in
     let few : map operand_seen c.first_operands.result ≡ first_three (map operand_seen op.operands.items) = c.first_operands.ensures ∙ ap (λ (os : List Operand). first_three (map operand_seen os)) c.in_ok-operands.ensures in
-    let count : c.in_ok-count.count ≡ length op.operands.items = c.in_ok-count.ensures ∙ c.len.ensures.value ∙ ap length c.in_ok-operands.ensures in
-    let hop_count : c.len-2.result ≡ length hops = search rules in
+    let count : c.count_of-count.result ≡ short_count (length op.operands.items) = c.count_of-count.ensures ∙ ap (λ (os : List Operand). short_count (length os)) c.in_ok-operands.ensures in
+    let hop_count : c.len.result ≡ length hops = search rules in
     let waits : map operation_seen planned.operations.items ≡ operations_at x piece → c.in_ok-waits.waits ≡ waits_anew x piece i = λ own.
     c.in_ok-waits.ensures ∙ c.waits_anew.ensures i (operation_is plan piece planned c.requires.piece c.index-operations.ensures i op low c.index-operation.ensures own) (c.in_ok-lines.ensures ∙ hop_count ∙ sym (length-map hops line_of) ∙ ap length lines) in
-    let row : Row = record { task = c.task_of.result; operands = c.in_ok-operands.operands; few = c.first_operands.result; count = c.in_ok-count.count; waits = c.in_ok-waits.waits; hops = c.in_ok-hops.hops; taker = c.args.taker; gives = c.gives_value.result; decides = c.is_decision.result; serial = c.holds.result; edge = c.first_out.result } in
+    let row : Row = record { task = c.task_of.result; operands = c.in_ok-operands.operands; few = c.first_operands.result; piece = piece; number = i; count = c.count_of-count.result; waits = c.in_ok-waits.waits; hops = c.in_ok-hops.hops; taker = c.args.taker; gives = c.gives_value.result; decides = c.is_decision.result; serial = c.holds.result; edge = c.first_out.result } in
     ∥∥₁_elim plan.is_net (hlevel props) (λ (is : IsOperationNet x).
     ∥∥₁_map (plan.own_operations piece planned (found plan piece planned c.requires.piece c.index-operations.ensures)) (λ (own : map operation_seen planned.operations.items ≡ operations_at x piece).
     row_made x piece i op (operation_is plan piece planned c.requires.piece c.index-operations.ensures i op low c.index-operation.ensures own) row
-    c.task_of.ensures.task c.task_of.ensures.can c.task_of.ensures.operands
+    refl refl c.task_of.ensures.task c.task_of.ensures.can c.task_of.ensures.operands
     (c.operations_fit.ensures.fits x piece i is c.requires.operation) (c.operations_fit.ensures.room x piece i is c.requires.piece c.requires.operation)
     c.in_ok-operands.ensures few count (waits own) c.gives_value.ensures c.is_decision.ensures (c.holds.ensures.member ∙ sym (ap (λ (test : ℕ → Bool). test 0) needs)) c.first_out.ensures.edge
     c.requires.taker lines (hops_counted x piece i c.args.scratch.now c.requires.counted hops lines c.in_ok-hops.ensures.before)))

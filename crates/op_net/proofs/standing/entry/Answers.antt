@@ -1,9 +1,12 @@
 use Rattle.std.proofs.Common.{◌<◌, arith}
 use Rattle.op_net.specs.BoardView.{operation_net_on}
-use Rattle.op_net.proofs.LookedUp.{entry_at, entry_exists}
+use Rattle.op_net.proofs.LookedUp.{entry_exists, entry_is}
 use Rattle.op_net.proofs.NodeNames.{acts_where}
 use Rattle.op_net.proofs.RisingLines.{found, not_missed}
 use Rattle.op_net.proofs.standing.entry.Goals as goal
+
+pub index-requires : goal.index-requires
+index-requires g c = let count = c.args.board.now.own_tables.rows.pieces in omega (arith, count, c.requires.piece)
 
 pub index-requires-in-Ok : goal.index-requires-in-Ok
 index-requires-in-Ok g c =
@@ -18,7 +21,7 @@ returns-in-Ok g c =
     let board = c.args.board.now in
     let x = operation_net_on board in
     let at = found x.net c.args.piece c.args.line c.touched-touched.result.now c.in-Ok.place c.touched-touched.ensures.lines c.in-Ok.ensures.position in
-    entry_at board c.args.piece c.args.line c.in-Ok.place c.index-in-Ok.result.now c.index.result.now c.requires.piece c.index.ensures (acts_where x c.args.piece 0 c.requires.some) at c.index-in-Ok.ensures
+    entry_is board c.args.piece c.args.line c.in-Ok.place c.index.result.now c.requires.piece c.index.ensures (acts_where x c.args.piece 0 c.requires.some) at c.index-in-Ok.result.now c.index-in-Ok.ensures
 
 pub returns-in-Err : goal.returns-in-Err
 returns-in-Err g c =

@@ -24,15 +24,8 @@ use Rattle.op_net.proofs.OperatedNets.{HasWorked, IsOperated, ahead_by, ahead_gi
 use Rattle.op_net.proofs.RowReads.{row_serial, row_waits}
 use Rattle.op_net.proofs.net.OpNet.operate.Goals as goal
 
-pub row-row-requires : goal.row-row-requires
-row-row-requires g c =
-    let x = net_of c.args.self.now in
-    let m = standing c.args.self.now.places in
-    let k = c.args.k in let piece = c.args.piece in let i = c.args.i in
-    let memory = memory_of c.args.self.now.storage in
-    let trap = c.args.self.now.trapped in
-    let n : IsOperationAt x k piece i = operation_at_node x k piece i c.requires.node c.requires.name in
-    (omega arith, (n.exists, n.inside))
+pub row_of-row-requires : goal.row_of-row-requires
+row_of-row-requires g c = (omega arith, (c.requires.node, c.requires.name))
 
 pub overflow_sub-k : goal.overflow_sub-k
 overflow_sub-k g c =
@@ -59,9 +52,9 @@ work_with-did-requires g c =
     let own = c.count_ahead.ensures.places in
     let ops = (operation_at x piece i).operands in
     let given : list_all (is_given x (standing s1) piece) ops ≡ true = given_same x piece (standing s1) (marking_of c.args.self.now) (ap (λ (t : Rattle.op_board.specs.OperationTokens.OperationTokens). t.values) c.count_ahead.ensures.standing) ops ∙ r.given in
-    let all = ahead_whole x s1 k piece i n.number (subst (IsCountedAhead x s1 k) (row_waits x piece i c.row-row.result.now c.row-row.ensures) c.count_ahead.ensures.ahead) in
+    let all = ahead_whole x s1 k piece i n.number (subst (IsCountedAhead x s1 k) (row_waits x piece i c.row_of-row.result.now c.row_of-row.ensures) c.count_ahead.ensures.ahead) in
     let ahead = ahead_by x s1 _ (length (givers x piece ops)) _ all in
-    (omega arith, (n.exists, (n.inside, (omega (arith, is), (c.row-row.ensures, (own, (given, (c.requires.sizes, (refl, (c.args.self.now.data, (c.args.self.now.args_room, (c.args.self.now.draft_room, ahead))))))))))))
+    (omega arith, (n.exists, (n.inside, (omega (arith, is), (c.row_of-row.ensures, (own, (given, (c.requires.sizes, (refl, (c.args.self.now.data, (c.args.self.now.args_room, (c.args.self.now.draft_room, ahead))))))))))))
 
 pub piece-line-requires : goal.piece-line-requires
 piece-line-requires g c =
@@ -87,11 +80,11 @@ give-requires g c =
     let mem = memory_of c.work_with-did.new.storage in
     let draft = c.work_with-did.new.draft.items in
     let did : performed_at x (marking_of c.args.self.now) piece (operation_at x piece i) ≡ Ok (gives mem c.in-Gave.z) = performed_so x m memory trap piece i (standing s1) _ c.count_ahead.ensures.standing c.work_with-did.ensures.effect ∙ ap (λ (d : Did). told d mem draft) c.in-Gave.is in
-    let w : HasWorked x m s2 k piece i = has_worked x m memory trap s1 s2 k piece i c.row-row.result.now.waits r n.number (row_waits x piece i c.row-row.result.now c.row-row.ensures) c.count_ahead.ensures.ahead c.count_ahead.ensures.standing c.work_with-did.ensures.standing c.work_with-did.ensures.counted in
+    let w : HasWorked x m s2 k piece i = has_worked x m memory trap s1 s2 k piece i c.row_of-row.result.now.waits r n.number (row_waits x piece i c.row_of-row.result.now c.row_of-row.ensures) c.count_ahead.ensures.ahead c.count_ahead.ensures.standing c.work_with-did.ensures.standing c.work_with-did.ensures.counted in
     let gives_one : gives_value (operation_at x piece i).work ≡ true = gave_gives x (marking_of c.args.self.now) k piece i mem c.in-Gave.z did in
     let there = ahead_gives x s2 k piece i n.number gives_one w.ahead in
     let ahead = ahead_by x s2 k (1 + length (needed x piece i)) 0 there in
-    (omega arith, (c.requires.node, (c.requires.name, (n.exists, (n.inside, (c.row-row.ensures, (c.work_with-did.ensures.places, (gives_one, (w.empty, (w.stand, ahead))))))))))
+    (omega arith, (c.requires.node, (c.requires.name, (n.exists, (n.inside, (c.row_of-row.ensures, (c.work_with-did.ensures.places, (gives_one, (w.empty, (w.stand, ahead))))))))))
 
 pub invariant_of-self : goal.invariant_of-self
 invariant_of-self g c =
@@ -107,7 +100,7 @@ invariant_of-self g c =
     let mem = memory_of c.work_with-did.new.storage in
     let draft = c.work_with-did.new.draft.items in
     let did : performed_at x (marking_of c.args.self.now) piece (operation_at x piece i) ≡ Ok (gives mem c.in-Gave.z) = performed_so x m memory trap piece i (standing s1) _ c.count_ahead.ensures.standing c.work_with-did.ensures.effect ∙ ap (λ (d : Did). told d mem draft) c.in-Gave.is in
-    let w : HasWorked x m s2 k piece i = has_worked x m memory trap s1 s2 k piece i c.row-row.result.now.waits r n.number (row_waits x piece i c.row-row.result.now c.row-row.ensures) c.count_ahead.ensures.ahead c.count_ahead.ensures.standing c.work_with-did.ensures.standing c.work_with-did.ensures.counted in
+    let w : HasWorked x m s2 k piece i = has_worked x m memory trap s1 s2 k piece i c.row_of-row.result.now.waits r n.number (row_waits x piece i c.row_of-row.result.now c.row_of-row.ensures) c.count_ahead.ensures.ahead c.count_ahead.ensures.standing c.work_with-did.ensures.standing c.work_with-did.ensures.counted in
     let gives_one : gives_value (operation_at x piece i).work ≡ true = gave_gives x (marking_of c.args.self.now) k piece i mem c.in-Gave.z did in
     let there = ahead_gives x s2 k piece i n.number gives_one w.ahead in
     let ahead = ahead_by x s2 k (1 + length (needed x piece i)) 0 there in
@@ -136,7 +129,7 @@ returns-in-Gave-clause-marking g c =
     let mem = memory_of c.work_with-did.new.storage in
     let draft = c.work_with-did.new.draft.items in
     let did : performed_at x (marking_of c.args.self.now) piece (operation_at x piece i) ≡ Ok (gives mem c.in-Gave.z) = performed_so x m memory trap piece i (standing s1) _ c.count_ahead.ensures.standing c.work_with-did.ensures.effect ∙ ap (λ (d : Did). told d mem draft) c.in-Gave.is in
-    let w : HasWorked x m s2 k piece i = has_worked x m memory trap s1 s2 k piece i c.row-row.result.now.waits r n.number (row_waits x piece i c.row-row.result.now c.row-row.ensures) c.count_ahead.ensures.ahead c.count_ahead.ensures.standing c.work_with-did.ensures.standing c.work_with-did.ensures.counted in
+    let w : HasWorked x m s2 k piece i = has_worked x m memory trap s1 s2 k piece i c.row_of-row.result.now.waits r n.number (row_waits x piece i c.row_of-row.result.now c.row_of-row.ensures) c.count_ahead.ensures.ahead c.count_ahead.ensures.standing c.work_with-did.ensures.standing c.work_with-did.ensures.counted in
     let fits : SFits w32 c.in-Gave.z = search rules in
     let to = c.give.ensures.standing ∙ ap (given_on x (standing s2) k piece i) (to_z-of_z w32 c.in-Gave.z fits) ∙ ap (λ (t : Rattle.op_board.specs.OperationTokens.OperationTokens). given_on x t k piece i c.in-Gave.z) w.taken in
     let o = has_given x c.args.self.now.board.plan.facts m memory trap c.requires.going k piece i c.requires.node c.requires.name (standing c.give.new.places) mem c.give.result c.args.self.now.text.items c.in-Gave.z did to c.give.ensures.edge in
@@ -156,7 +149,7 @@ returns-in-Gave-clause-leads g c =
     let mem = memory_of c.work_with-did.new.storage in
     let draft = c.work_with-did.new.draft.items in
     let did : performed_at x (marking_of c.args.self.now) piece (operation_at x piece i) ≡ Ok (gives mem c.in-Gave.z) = performed_so x m memory trap piece i (standing s1) _ c.count_ahead.ensures.standing c.work_with-did.ensures.effect ∙ ap (λ (d : Did). told d mem draft) c.in-Gave.is in
-    let w : HasWorked x m s2 k piece i = has_worked x m memory trap s1 s2 k piece i c.row-row.result.now.waits r n.number (row_waits x piece i c.row-row.result.now c.row-row.ensures) c.count_ahead.ensures.ahead c.count_ahead.ensures.standing c.work_with-did.ensures.standing c.work_with-did.ensures.counted in
+    let w : HasWorked x m s2 k piece i = has_worked x m memory trap s1 s2 k piece i c.row_of-row.result.now.waits r n.number (row_waits x piece i c.row_of-row.result.now c.row_of-row.ensures) c.count_ahead.ensures.ahead c.count_ahead.ensures.standing c.work_with-did.ensures.standing c.work_with-did.ensures.counted in
     let fits : SFits w32 c.in-Gave.z = search rules in
     let to = c.give.ensures.standing ∙ ap (given_on x (standing s2) k piece i) (to_z-of_z w32 c.in-Gave.z fits) ∙ ap (λ (t : Rattle.op_board.specs.OperationTokens.OperationTokens). given_on x t k piece i c.in-Gave.z) w.taken in
     let o = has_given x c.args.self.now.board.plan.facts m memory trap c.requires.going k piece i c.requires.node c.requires.name (standing c.give.new.places) mem c.give.result c.args.self.now.text.items c.in-Gave.z did to c.give.ensures.edge in
@@ -176,7 +169,7 @@ returns-in-Gave-clause-fired g c =
     let mem = memory_of c.work_with-did.new.storage in
     let draft = c.work_with-did.new.draft.items in
     let did : performed_at x (marking_of c.args.self.now) piece (operation_at x piece i) ≡ Ok (gives mem c.in-Gave.z) = performed_so x m memory trap piece i (standing s1) _ c.count_ahead.ensures.standing c.work_with-did.ensures.effect ∙ ap (λ (d : Did). told d mem draft) c.in-Gave.is in
-    let w : HasWorked x m s2 k piece i = has_worked x m memory trap s1 s2 k piece i c.row-row.result.now.waits r n.number (row_waits x piece i c.row-row.result.now c.row-row.ensures) c.count_ahead.ensures.ahead c.count_ahead.ensures.standing c.work_with-did.ensures.standing c.work_with-did.ensures.counted in
+    let w : HasWorked x m s2 k piece i = has_worked x m memory trap s1 s2 k piece i c.row_of-row.result.now.waits r n.number (row_waits x piece i c.row_of-row.result.now c.row_of-row.ensures) c.count_ahead.ensures.ahead c.count_ahead.ensures.standing c.work_with-did.ensures.standing c.work_with-did.ensures.counted in
     let fits : SFits w32 c.in-Gave.z = search rules in
     let to = c.give.ensures.standing ∙ ap (given_on x (standing s2) k piece i) (to_z-of_z w32 c.in-Gave.z fits) ∙ ap (λ (t : Rattle.op_board.specs.OperationTokens.OperationTokens). given_on x t k piece i c.in-Gave.z) w.taken in
     let o = has_given x c.args.self.now.board.plan.facts m memory trap c.requires.going k piece i c.requires.node c.requires.name (standing c.give.new.places) mem c.give.result c.args.self.now.text.items c.in-Gave.z did to c.give.ensures.edge in
@@ -196,11 +189,11 @@ tell-requires g c =
     let mem = memory_of c.work_with-did.new.storage in
     let draft = c.work_with-did.new.draft.items in
     let did : performed_at x (marking_of c.args.self.now) piece (operation_at x piece i) ≡ Ok (tells mem 0) = performed_so x m memory trap piece i (standing s1) _ c.count_ahead.ensures.standing c.work_with-did.ensures.effect ∙ ap (λ (d : Did). told d mem draft) c.in-Changed.is in
-    let w : HasWorked x m s2 k piece i = has_worked x m memory trap s1 s2 k piece i c.row-row.result.now.waits r n.number (row_waits x piece i c.row-row.result.now c.row-row.ensures) c.count_ahead.ensures.ahead c.count_ahead.ensures.standing c.work_with-did.ensures.standing c.work_with-did.ensures.counted in
+    let w : HasWorked x m s2 k piece i = has_worked x m memory trap s1 s2 k piece i c.row_of-row.result.now.waits r n.number (row_waits x piece i c.row_of-row.result.now c.row_of-row.ensures) c.count_ahead.ensures.ahead c.count_ahead.ensures.standing c.work_with-did.ensures.standing c.work_with-did.ensures.counted in
     let gives_none : gives_value (operation_at x piece i).work ≡ false = tells_give_nothing x (marking_of c.args.self.now) k piece i (tells mem 0) did refl in
     let there = ahead_tells x s2 k piece i n.number gives_none w.ahead in
     let ahead = ahead_by x s2 _ (room_of x piece i + length (needed x piece i)) 0 there in
-    (omega arith, (n.exists, (n.inside, (c.row-row.ensures, (c.work_with-did.ensures.places, (w.stand, (w.room, ahead)))))))
+    (omega arith, (n.exists, (n.inside, (c.row_of-row.ensures, (c.work_with-did.ensures.places, (w.stand, (w.room, ahead)))))))
 
 pub invariant_of-self-in-Changed : goal.invariant_of-self-in-Changed
 invariant_of-self-in-Changed g c =
@@ -216,7 +209,7 @@ invariant_of-self-in-Changed g c =
     let mem = memory_of c.work_with-did.new.storage in
     let draft = c.work_with-did.new.draft.items in
     let did : performed_at x (marking_of c.args.self.now) piece (operation_at x piece i) ≡ Ok (tells mem 0) = performed_so x m memory trap piece i (standing s1) _ c.count_ahead.ensures.standing c.work_with-did.ensures.effect ∙ ap (λ (d : Did). told d mem draft) c.in-Changed.is in
-    let w : HasWorked x m s2 k piece i = has_worked x m memory trap s1 s2 k piece i c.row-row.result.now.waits r n.number (row_waits x piece i c.row-row.result.now c.row-row.ensures) c.count_ahead.ensures.ahead c.count_ahead.ensures.standing c.work_with-did.ensures.standing c.work_with-did.ensures.counted in
+    let w : HasWorked x m s2 k piece i = has_worked x m memory trap s1 s2 k piece i c.row_of-row.result.now.waits r n.number (row_waits x piece i c.row_of-row.result.now c.row_of-row.ensures) c.count_ahead.ensures.ahead c.count_ahead.ensures.standing c.work_with-did.ensures.standing c.work_with-did.ensures.counted in
     let gives_none : gives_value (operation_at x piece i).work ≡ false = tells_give_nothing x (marking_of c.args.self.now) k piece i (tells mem 0) did refl in
     let there = ahead_tells x s2 k piece i n.number gives_none w.ahead in
     let ahead = ahead_by x s2 _ (room_of x piece i + length (needed x piece i)) 0 there in
@@ -245,7 +238,7 @@ returns-in-Changed-clause-marking g c =
     let mem = memory_of c.work_with-did.new.storage in
     let draft = c.work_with-did.new.draft.items in
     let did : performed_at x (marking_of c.args.self.now) piece (operation_at x piece i) ≡ Ok (tells mem 0) = performed_so x m memory trap piece i (standing s1) _ c.count_ahead.ensures.standing c.work_with-did.ensures.effect ∙ ap (λ (d : Did). told d mem draft) c.in-Changed.is in
-    let w : HasWorked x m s2 k piece i = has_worked x m memory trap s1 s2 k piece i c.row-row.result.now.waits r n.number (row_waits x piece i c.row-row.result.now c.row-row.ensures) c.count_ahead.ensures.ahead c.count_ahead.ensures.standing c.work_with-did.ensures.standing c.work_with-did.ensures.counted in
+    let w : HasWorked x m s2 k piece i = has_worked x m memory trap s1 s2 k piece i c.row_of-row.result.now.waits r n.number (row_waits x piece i c.row_of-row.result.now c.row_of-row.ensures) c.count_ahead.ensures.ahead c.count_ahead.ensures.standing c.work_with-did.ensures.standing c.work_with-did.ensures.counted in
     let to = c.tell.ensures.standing ∙ ap (λ (t : Rattle.op_board.specs.OperationTokens.OperationTokens). Rattle.op_net.specs.FiringChanges.told_on x t piece i 0) w.taken in
     let o = has_told x c.args.self.now.board.plan.facts m memory trap c.requires.going k piece i c.requires.node c.requires.name (standing c.tell.new.places) mem c.tell.result c.args.self.now.text.items 0 did r.empty to c.tell.ensures.edge in
     o.marking
@@ -264,7 +257,7 @@ returns-in-Changed-clause-leads g c =
     let mem = memory_of c.work_with-did.new.storage in
     let draft = c.work_with-did.new.draft.items in
     let did : performed_at x (marking_of c.args.self.now) piece (operation_at x piece i) ≡ Ok (tells mem 0) = performed_so x m memory trap piece i (standing s1) _ c.count_ahead.ensures.standing c.work_with-did.ensures.effect ∙ ap (λ (d : Did). told d mem draft) c.in-Changed.is in
-    let w : HasWorked x m s2 k piece i = has_worked x m memory trap s1 s2 k piece i c.row-row.result.now.waits r n.number (row_waits x piece i c.row-row.result.now c.row-row.ensures) c.count_ahead.ensures.ahead c.count_ahead.ensures.standing c.work_with-did.ensures.standing c.work_with-did.ensures.counted in
+    let w : HasWorked x m s2 k piece i = has_worked x m memory trap s1 s2 k piece i c.row_of-row.result.now.waits r n.number (row_waits x piece i c.row_of-row.result.now c.row_of-row.ensures) c.count_ahead.ensures.ahead c.count_ahead.ensures.standing c.work_with-did.ensures.standing c.work_with-did.ensures.counted in
     let to = c.tell.ensures.standing ∙ ap (λ (t : Rattle.op_board.specs.OperationTokens.OperationTokens). Rattle.op_net.specs.FiringChanges.told_on x t piece i 0) w.taken in
     let o = has_told x c.args.self.now.board.plan.facts m memory trap c.requires.going k piece i c.requires.node c.requires.name (standing c.tell.new.places) mem c.tell.result c.args.self.now.text.items 0 did r.empty to c.tell.ensures.edge in
     o.leads
@@ -283,7 +276,7 @@ returns-in-Changed-clause-fired g c =
     let mem = memory_of c.work_with-did.new.storage in
     let draft = c.work_with-did.new.draft.items in
     let did : performed_at x (marking_of c.args.self.now) piece (operation_at x piece i) ≡ Ok (tells mem 0) = performed_so x m memory trap piece i (standing s1) _ c.count_ahead.ensures.standing c.work_with-did.ensures.effect ∙ ap (λ (d : Did). told d mem draft) c.in-Changed.is in
-    let w : HasWorked x m s2 k piece i = has_worked x m memory trap s1 s2 k piece i c.row-row.result.now.waits r n.number (row_waits x piece i c.row-row.result.now c.row-row.ensures) c.count_ahead.ensures.ahead c.count_ahead.ensures.standing c.work_with-did.ensures.standing c.work_with-did.ensures.counted in
+    let w : HasWorked x m s2 k piece i = has_worked x m memory trap s1 s2 k piece i c.row_of-row.result.now.waits r n.number (row_waits x piece i c.row_of-row.result.now c.row_of-row.ensures) c.count_ahead.ensures.ahead c.count_ahead.ensures.standing c.work_with-did.ensures.standing c.work_with-did.ensures.counted in
     let to = c.tell.ensures.standing ∙ ap (λ (t : Rattle.op_board.specs.OperationTokens.OperationTokens). Rattle.op_net.specs.FiringChanges.told_on x t piece i 0) w.taken in
     let o = has_told x c.args.self.now.board.plan.facts m memory trap c.requires.going k piece i c.requires.node c.requires.name (standing c.tell.new.places) mem c.tell.result c.args.self.now.text.items 0 did r.empty to c.tell.ensures.edge in
     o.fired_is
@@ -302,7 +295,7 @@ returns-in-Changed-clause-last g c =
     let mem = memory_of c.work_with-did.new.storage in
     let draft = c.work_with-did.new.draft.items in
     let did : performed_at x (marking_of c.args.self.now) piece (operation_at x piece i) ≡ Ok (tells mem 0) = performed_so x m memory trap piece i (standing s1) _ c.count_ahead.ensures.standing c.work_with-did.ensures.effect ∙ ap (λ (d : Did). told d mem draft) c.in-Changed.is in
-    let w : HasWorked x m s2 k piece i = has_worked x m memory trap s1 s2 k piece i c.row-row.result.now.waits r n.number (row_waits x piece i c.row-row.result.now c.row-row.ensures) c.count_ahead.ensures.ahead c.count_ahead.ensures.standing c.work_with-did.ensures.standing c.work_with-did.ensures.counted in
+    let w : HasWorked x m s2 k piece i = has_worked x m memory trap s1 s2 k piece i c.row_of-row.result.now.waits r n.number (row_waits x piece i c.row_of-row.result.now c.row_of-row.ensures) c.count_ahead.ensures.ahead c.count_ahead.ensures.standing c.work_with-did.ensures.standing c.work_with-did.ensures.counted in
     let to = c.tell.ensures.standing ∙ ap (λ (t : Rattle.op_board.specs.OperationTokens.OperationTokens). Rattle.op_net.specs.FiringChanges.told_on x t piece i 0) w.taken in
     let o = has_told x c.args.self.now.board.plan.facts m memory trap c.requires.going k piece i c.requires.node c.requires.name (standing c.tell.new.places) mem c.tell.result c.args.self.now.text.items 0 did r.empty to c.tell.ensures.edge in
     o.last
@@ -321,11 +314,11 @@ tell-requires-in-Wrote g c =
     let mem = memory_of c.work_with-did.new.storage in
     let draft = c.work_with-did.new.draft.items in
     let did : performed_at x (marking_of c.args.self.now) piece (operation_at x piece i) ≡ Ok (record { value = None; memory = mem; text = draft; choice = 0 }) = performed_so x m memory trap piece i (standing s1) _ c.count_ahead.ensures.standing c.work_with-did.ensures.effect ∙ ap (λ (d : Did). told d mem draft) c.in-Wrote.is in
-    let w : HasWorked x m s2 k piece i = has_worked x m memory trap s1 s2 k piece i c.row-row.result.now.waits r n.number (row_waits x piece i c.row-row.result.now c.row-row.ensures) c.count_ahead.ensures.ahead c.count_ahead.ensures.standing c.work_with-did.ensures.standing c.work_with-did.ensures.counted in
+    let w : HasWorked x m s2 k piece i = has_worked x m memory trap s1 s2 k piece i c.row_of-row.result.now.waits r n.number (row_waits x piece i c.row_of-row.result.now c.row_of-row.ensures) c.count_ahead.ensures.ahead c.count_ahead.ensures.standing c.work_with-did.ensures.standing c.work_with-did.ensures.counted in
     let gives_none : gives_value (operation_at x piece i).work ≡ false = tells_give_nothing x (marking_of c.args.self.now) k piece i (record { value = None; memory = mem; text = draft; choice = 0 }) did refl in
     let there = ahead_tells x s2 k piece i n.number gives_none w.ahead in
     let ahead = ahead_by x s2 _ (room_of x piece i + length (needed x piece i)) 0 there in
-    (omega arith, (n.exists, (n.inside, (c.row-row.ensures, (c.work_with-did.ensures.places, (w.stand, (w.room, ahead)))))))
+    (omega arith, (n.exists, (n.inside, (c.row_of-row.ensures, (c.work_with-did.ensures.places, (w.stand, (w.room, ahead)))))))
 
 pub invariant_of-self-in-Wrote : goal.invariant_of-self-in-Wrote
 invariant_of-self-in-Wrote g c =
@@ -341,7 +334,7 @@ invariant_of-self-in-Wrote g c =
     let mem = memory_of c.work_with-did.new.storage in
     let draft = c.work_with-did.new.draft.items in
     let did : performed_at x (marking_of c.args.self.now) piece (operation_at x piece i) ≡ Ok (record { value = None; memory = mem; text = draft; choice = 0 }) = performed_so x m memory trap piece i (standing s1) _ c.count_ahead.ensures.standing c.work_with-did.ensures.effect ∙ ap (λ (d : Did). told d mem draft) c.in-Wrote.is in
-    let w : HasWorked x m s2 k piece i = has_worked x m memory trap s1 s2 k piece i c.row-row.result.now.waits r n.number (row_waits x piece i c.row-row.result.now c.row-row.ensures) c.count_ahead.ensures.ahead c.count_ahead.ensures.standing c.work_with-did.ensures.standing c.work_with-did.ensures.counted in
+    let w : HasWorked x m s2 k piece i = has_worked x m memory trap s1 s2 k piece i c.row_of-row.result.now.waits r n.number (row_waits x piece i c.row_of-row.result.now c.row_of-row.ensures) c.count_ahead.ensures.ahead c.count_ahead.ensures.standing c.work_with-did.ensures.standing c.work_with-did.ensures.counted in
     let gives_none : gives_value (operation_at x piece i).work ≡ false = tells_give_nothing x (marking_of c.args.self.now) k piece i (record { value = None; memory = mem; text = draft; choice = 0 }) did refl in
     let there = ahead_tells x s2 k piece i n.number gives_none w.ahead in
     let ahead = ahead_by x s2 _ (room_of x piece i + length (needed x piece i)) 0 there in
@@ -372,7 +365,7 @@ returns-in-Wrote-clause-marking g c =
     let mem = memory_of c.work_with-did.new.storage in
     let draft = c.work_with-did.new.draft.items in
     let did : performed_at x (marking_of c.args.self.now) piece (operation_at x piece i) ≡ Ok (record { value = None; memory = mem; text = draft; choice = 0 }) = performed_so x m memory trap piece i (standing s1) _ c.count_ahead.ensures.standing c.work_with-did.ensures.effect ∙ ap (λ (d : Did). told d mem draft) c.in-Wrote.is in
-    let w : HasWorked x m s2 k piece i = has_worked x m memory trap s1 s2 k piece i c.row-row.result.now.waits r n.number (row_waits x piece i c.row-row.result.now c.row-row.ensures) c.count_ahead.ensures.ahead c.count_ahead.ensures.standing c.work_with-did.ensures.standing c.work_with-did.ensures.counted in
+    let w : HasWorked x m s2 k piece i = has_worked x m memory trap s1 s2 k piece i c.row_of-row.result.now.waits r n.number (row_waits x piece i c.row_of-row.result.now c.row_of-row.ensures) c.count_ahead.ensures.ahead c.count_ahead.ensures.standing c.work_with-did.ensures.standing c.work_with-did.ensures.counted in
     let some : draft ≡ [] → ⊥ = subst (λ (d : Did). KeepsLine d c.args.self.now.draft.items draft) c.in-Wrote.is c.work_with-did.ensures.line in
     let to = c.tell-in-Wrote.ensures.standing ∙ ap (λ (t : Rattle.op_board.specs.OperationTokens.OperationTokens). Rattle.op_net.specs.FiringChanges.told_on x t piece i 0) w.taken in
     let o = has_written x c.args.self.now.board.plan.facts m memory trap c.requires.going k piece i c.requires.node c.requires.name (standing c.tell-in-Wrote.new.places) mem c.tell-in-Wrote.result c.args.self.now.text.items draft some did r.empty to c.tell-in-Wrote.ensures.edge in
@@ -392,7 +385,7 @@ returns-in-Wrote-clause-leads g c =
     let mem = memory_of c.work_with-did.new.storage in
     let draft = c.work_with-did.new.draft.items in
     let did : performed_at x (marking_of c.args.self.now) piece (operation_at x piece i) ≡ Ok (record { value = None; memory = mem; text = draft; choice = 0 }) = performed_so x m memory trap piece i (standing s1) _ c.count_ahead.ensures.standing c.work_with-did.ensures.effect ∙ ap (λ (d : Did). told d mem draft) c.in-Wrote.is in
-    let w : HasWorked x m s2 k piece i = has_worked x m memory trap s1 s2 k piece i c.row-row.result.now.waits r n.number (row_waits x piece i c.row-row.result.now c.row-row.ensures) c.count_ahead.ensures.ahead c.count_ahead.ensures.standing c.work_with-did.ensures.standing c.work_with-did.ensures.counted in
+    let w : HasWorked x m s2 k piece i = has_worked x m memory trap s1 s2 k piece i c.row_of-row.result.now.waits r n.number (row_waits x piece i c.row_of-row.result.now c.row_of-row.ensures) c.count_ahead.ensures.ahead c.count_ahead.ensures.standing c.work_with-did.ensures.standing c.work_with-did.ensures.counted in
     let some : draft ≡ [] → ⊥ = subst (λ (d : Did). KeepsLine d c.args.self.now.draft.items draft) c.in-Wrote.is c.work_with-did.ensures.line in
     let to = c.tell-in-Wrote.ensures.standing ∙ ap (λ (t : Rattle.op_board.specs.OperationTokens.OperationTokens). Rattle.op_net.specs.FiringChanges.told_on x t piece i 0) w.taken in
     let o = has_written x c.args.self.now.board.plan.facts m memory trap c.requires.going k piece i c.requires.node c.requires.name (standing c.tell-in-Wrote.new.places) mem c.tell-in-Wrote.result c.args.self.now.text.items draft some did r.empty to c.tell-in-Wrote.ensures.edge in
@@ -412,7 +405,7 @@ returns-in-Wrote-clause-fired g c =
     let mem = memory_of c.work_with-did.new.storage in
     let draft = c.work_with-did.new.draft.items in
     let did : performed_at x (marking_of c.args.self.now) piece (operation_at x piece i) ≡ Ok (record { value = None; memory = mem; text = draft; choice = 0 }) = performed_so x m memory trap piece i (standing s1) _ c.count_ahead.ensures.standing c.work_with-did.ensures.effect ∙ ap (λ (d : Did). told d mem draft) c.in-Wrote.is in
-    let w : HasWorked x m s2 k piece i = has_worked x m memory trap s1 s2 k piece i c.row-row.result.now.waits r n.number (row_waits x piece i c.row-row.result.now c.row-row.ensures) c.count_ahead.ensures.ahead c.count_ahead.ensures.standing c.work_with-did.ensures.standing c.work_with-did.ensures.counted in
+    let w : HasWorked x m s2 k piece i = has_worked x m memory trap s1 s2 k piece i c.row_of-row.result.now.waits r n.number (row_waits x piece i c.row_of-row.result.now c.row_of-row.ensures) c.count_ahead.ensures.ahead c.count_ahead.ensures.standing c.work_with-did.ensures.standing c.work_with-did.ensures.counted in
     let some : draft ≡ [] → ⊥ = subst (λ (d : Did). KeepsLine d c.args.self.now.draft.items draft) c.in-Wrote.is c.work_with-did.ensures.line in
     let to = c.tell-in-Wrote.ensures.standing ∙ ap (λ (t : Rattle.op_board.specs.OperationTokens.OperationTokens). Rattle.op_net.specs.FiringChanges.told_on x t piece i 0) w.taken in
     let o = has_written x c.args.self.now.board.plan.facts m memory trap c.requires.going k piece i c.requires.node c.requires.name (standing c.tell-in-Wrote.new.places) mem c.tell-in-Wrote.result c.args.self.now.text.items draft some did r.empty to c.tell-in-Wrote.ensures.edge in
@@ -432,7 +425,7 @@ returns-in-Wrote-clause-last g c =
     let mem = memory_of c.work_with-did.new.storage in
     let draft = c.work_with-did.new.draft.items in
     let did : performed_at x (marking_of c.args.self.now) piece (operation_at x piece i) ≡ Ok (record { value = None; memory = mem; text = draft; choice = 0 }) = performed_so x m memory trap piece i (standing s1) _ c.count_ahead.ensures.standing c.work_with-did.ensures.effect ∙ ap (λ (d : Did). told d mem draft) c.in-Wrote.is in
-    let w : HasWorked x m s2 k piece i = has_worked x m memory trap s1 s2 k piece i c.row-row.result.now.waits r n.number (row_waits x piece i c.row-row.result.now c.row-row.ensures) c.count_ahead.ensures.ahead c.count_ahead.ensures.standing c.work_with-did.ensures.standing c.work_with-did.ensures.counted in
+    let w : HasWorked x m s2 k piece i = has_worked x m memory trap s1 s2 k piece i c.row_of-row.result.now.waits r n.number (row_waits x piece i c.row_of-row.result.now c.row_of-row.ensures) c.count_ahead.ensures.ahead c.count_ahead.ensures.standing c.work_with-did.ensures.standing c.work_with-did.ensures.counted in
     let some : draft ≡ [] → ⊥ = subst (λ (d : Did). KeepsLine d c.args.self.now.draft.items draft) c.in-Wrote.is c.work_with-did.ensures.line in
     let to = c.tell-in-Wrote.ensures.standing ∙ ap (λ (t : Rattle.op_board.specs.OperationTokens.OperationTokens). Rattle.op_net.specs.FiringChanges.told_on x t piece i 0) w.taken in
     let o = has_written x c.args.self.now.board.plan.facts m memory trap c.requires.going k piece i c.requires.node c.requires.name (standing c.tell-in-Wrote.new.places) mem c.tell-in-Wrote.result c.args.self.now.text.items draft some did r.empty to c.tell-in-Wrote.ensures.edge in
@@ -453,11 +446,11 @@ tell-requires-in-Told g c =
     let mem = memory_of c.work_with-did.new.storage in
     let draft = c.work_with-did.new.draft.items in
     let did : performed_at x (marking_of c.args.self.now) piece (operation_at x piece i) ≡ Ok (tells mem c.in-Told.choice) = performed_so x m memory trap piece i (standing s1) _ c.count_ahead.ensures.standing c.work_with-did.ensures.effect ∙ ap (λ (d : Did). told d mem draft) c.in-Told.is in
-    let w : HasWorked x m s2 k piece i = has_worked x m memory trap s1 s2 k piece i c.row-row.result.now.waits r n.number (row_waits x piece i c.row-row.result.now c.row-row.ensures) c.count_ahead.ensures.ahead c.count_ahead.ensures.standing c.work_with-did.ensures.standing c.work_with-did.ensures.counted in
+    let w : HasWorked x m s2 k piece i = has_worked x m memory trap s1 s2 k piece i c.row_of-row.result.now.waits r n.number (row_waits x piece i c.row_of-row.result.now c.row_of-row.ensures) c.count_ahead.ensures.ahead c.count_ahead.ensures.standing c.work_with-did.ensures.standing c.work_with-did.ensures.counted in
     let gives_none : gives_value (operation_at x piece i).work ≡ false = tells_give_nothing x (marking_of c.args.self.now) k piece i (tells mem c.in-Told.choice) did refl in
     let there = ahead_tells x s2 k piece i n.number gives_none w.ahead in
     let ahead = ahead_by x s2 _ (room_of x piece i + length (needed x piece i)) 0 there in
-    (omega arith, (n.exists, (n.inside, (c.row-row.ensures, (c.work_with-did.ensures.places, (w.stand, (w.room, ahead)))))))
+    (omega arith, (n.exists, (n.inside, (c.row_of-row.ensures, (c.work_with-did.ensures.places, (w.stand, (w.room, ahead)))))))
 
 pub invariant_of-self-in-Told : goal.invariant_of-self-in-Told
 invariant_of-self-in-Told g c =
@@ -473,7 +466,7 @@ invariant_of-self-in-Told g c =
     let mem = memory_of c.work_with-did.new.storage in
     let draft = c.work_with-did.new.draft.items in
     let did : performed_at x (marking_of c.args.self.now) piece (operation_at x piece i) ≡ Ok (tells mem c.in-Told.choice) = performed_so x m memory trap piece i (standing s1) _ c.count_ahead.ensures.standing c.work_with-did.ensures.effect ∙ ap (λ (d : Did). told d mem draft) c.in-Told.is in
-    let w : HasWorked x m s2 k piece i = has_worked x m memory trap s1 s2 k piece i c.row-row.result.now.waits r n.number (row_waits x piece i c.row-row.result.now c.row-row.ensures) c.count_ahead.ensures.ahead c.count_ahead.ensures.standing c.work_with-did.ensures.standing c.work_with-did.ensures.counted in
+    let w : HasWorked x m s2 k piece i = has_worked x m memory trap s1 s2 k piece i c.row_of-row.result.now.waits r n.number (row_waits x piece i c.row_of-row.result.now c.row_of-row.ensures) c.count_ahead.ensures.ahead c.count_ahead.ensures.standing c.work_with-did.ensures.standing c.work_with-did.ensures.counted in
     let gives_none : gives_value (operation_at x piece i).work ≡ false = tells_give_nothing x (marking_of c.args.self.now) k piece i (tells mem c.in-Told.choice) did refl in
     let there = ahead_tells x s2 k piece i n.number gives_none w.ahead in
     let ahead = ahead_by x s2 _ (room_of x piece i + length (needed x piece i)) 0 there in
@@ -502,7 +495,7 @@ returns-in-Told-clause-marking g c =
     let mem = memory_of c.work_with-did.new.storage in
     let draft = c.work_with-did.new.draft.items in
     let did : performed_at x (marking_of c.args.self.now) piece (operation_at x piece i) ≡ Ok (tells mem c.in-Told.choice) = performed_so x m memory trap piece i (standing s1) _ c.count_ahead.ensures.standing c.work_with-did.ensures.effect ∙ ap (λ (d : Did). told d mem draft) c.in-Told.is in
-    let w : HasWorked x m s2 k piece i = has_worked x m memory trap s1 s2 k piece i c.row-row.result.now.waits r n.number (row_waits x piece i c.row-row.result.now c.row-row.ensures) c.count_ahead.ensures.ahead c.count_ahead.ensures.standing c.work_with-did.ensures.standing c.work_with-did.ensures.counted in
+    let w : HasWorked x m s2 k piece i = has_worked x m memory trap s1 s2 k piece i c.row_of-row.result.now.waits r n.number (row_waits x piece i c.row_of-row.result.now c.row_of-row.ensures) c.count_ahead.ensures.ahead c.count_ahead.ensures.standing c.work_with-did.ensures.standing c.work_with-did.ensures.counted in
     let to = c.tell-in-Told.ensures.standing ∙ ap (λ (t : Rattle.op_board.specs.OperationTokens.OperationTokens). Rattle.op_net.specs.FiringChanges.told_on x t piece i c.in-Told.choice) w.taken in
     let o = has_told x c.args.self.now.board.plan.facts m memory trap c.requires.going k piece i c.requires.node c.requires.name (standing c.tell-in-Told.new.places) mem c.tell-in-Told.result c.args.self.now.text.items c.in-Told.choice did r.empty to c.tell-in-Told.ensures.edge in
     o.marking
@@ -521,7 +514,7 @@ returns-in-Told-clause-leads g c =
     let mem = memory_of c.work_with-did.new.storage in
     let draft = c.work_with-did.new.draft.items in
     let did : performed_at x (marking_of c.args.self.now) piece (operation_at x piece i) ≡ Ok (tells mem c.in-Told.choice) = performed_so x m memory trap piece i (standing s1) _ c.count_ahead.ensures.standing c.work_with-did.ensures.effect ∙ ap (λ (d : Did). told d mem draft) c.in-Told.is in
-    let w : HasWorked x m s2 k piece i = has_worked x m memory trap s1 s2 k piece i c.row-row.result.now.waits r n.number (row_waits x piece i c.row-row.result.now c.row-row.ensures) c.count_ahead.ensures.ahead c.count_ahead.ensures.standing c.work_with-did.ensures.standing c.work_with-did.ensures.counted in
+    let w : HasWorked x m s2 k piece i = has_worked x m memory trap s1 s2 k piece i c.row_of-row.result.now.waits r n.number (row_waits x piece i c.row_of-row.result.now c.row_of-row.ensures) c.count_ahead.ensures.ahead c.count_ahead.ensures.standing c.work_with-did.ensures.standing c.work_with-did.ensures.counted in
     let to = c.tell-in-Told.ensures.standing ∙ ap (λ (t : Rattle.op_board.specs.OperationTokens.OperationTokens). Rattle.op_net.specs.FiringChanges.told_on x t piece i c.in-Told.choice) w.taken in
     let o = has_told x c.args.self.now.board.plan.facts m memory trap c.requires.going k piece i c.requires.node c.requires.name (standing c.tell-in-Told.new.places) mem c.tell-in-Told.result c.args.self.now.text.items c.in-Told.choice did r.empty to c.tell-in-Told.ensures.edge in
     o.leads
@@ -540,7 +533,7 @@ returns-in-Told-clause-fired g c =
     let mem = memory_of c.work_with-did.new.storage in
     let draft = c.work_with-did.new.draft.items in
     let did : performed_at x (marking_of c.args.self.now) piece (operation_at x piece i) ≡ Ok (tells mem c.in-Told.choice) = performed_so x m memory trap piece i (standing s1) _ c.count_ahead.ensures.standing c.work_with-did.ensures.effect ∙ ap (λ (d : Did). told d mem draft) c.in-Told.is in
-    let w : HasWorked x m s2 k piece i = has_worked x m memory trap s1 s2 k piece i c.row-row.result.now.waits r n.number (row_waits x piece i c.row-row.result.now c.row-row.ensures) c.count_ahead.ensures.ahead c.count_ahead.ensures.standing c.work_with-did.ensures.standing c.work_with-did.ensures.counted in
+    let w : HasWorked x m s2 k piece i = has_worked x m memory trap s1 s2 k piece i c.row_of-row.result.now.waits r n.number (row_waits x piece i c.row_of-row.result.now c.row_of-row.ensures) c.count_ahead.ensures.ahead c.count_ahead.ensures.standing c.work_with-did.ensures.standing c.work_with-did.ensures.counted in
     let to = c.tell-in-Told.ensures.standing ∙ ap (λ (t : Rattle.op_board.specs.OperationTokens.OperationTokens). Rattle.op_net.specs.FiringChanges.told_on x t piece i c.in-Told.choice) w.taken in
     let o = has_told x c.args.self.now.board.plan.facts m memory trap c.requires.going k piece i c.requires.node c.requires.name (standing c.tell-in-Told.new.places) mem c.tell-in-Told.result c.args.self.now.text.items c.in-Told.choice did r.empty to c.tell-in-Told.ensures.edge in
     o.fired_is
@@ -559,7 +552,7 @@ returns-in-Told-clause-last g c =
     let mem = memory_of c.work_with-did.new.storage in
     let draft = c.work_with-did.new.draft.items in
     let did : performed_at x (marking_of c.args.self.now) piece (operation_at x piece i) ≡ Ok (tells mem c.in-Told.choice) = performed_so x m memory trap piece i (standing s1) _ c.count_ahead.ensures.standing c.work_with-did.ensures.effect ∙ ap (λ (d : Did). told d mem draft) c.in-Told.is in
-    let w : HasWorked x m s2 k piece i = has_worked x m memory trap s1 s2 k piece i c.row-row.result.now.waits r n.number (row_waits x piece i c.row-row.result.now c.row-row.ensures) c.count_ahead.ensures.ahead c.count_ahead.ensures.standing c.work_with-did.ensures.standing c.work_with-did.ensures.counted in
+    let w : HasWorked x m s2 k piece i = has_worked x m memory trap s1 s2 k piece i c.row_of-row.result.now.waits r n.number (row_waits x piece i c.row_of-row.result.now c.row_of-row.ensures) c.count_ahead.ensures.ahead c.count_ahead.ensures.standing c.work_with-did.ensures.standing c.work_with-did.ensures.counted in
     let to = c.tell-in-Told.ensures.standing ∙ ap (λ (t : Rattle.op_board.specs.OperationTokens.OperationTokens). Rattle.op_net.specs.FiringChanges.told_on x t piece i c.in-Told.choice) w.taken in
     let o = has_told x c.args.self.now.board.plan.facts m memory trap c.requires.going k piece i c.requires.node c.requires.name (standing c.tell-in-Told.new.places) mem c.tell-in-Told.result c.args.self.now.text.items c.in-Told.choice did r.empty to c.tell-in-Told.ensures.edge in
     o.last
@@ -578,11 +571,11 @@ give-requires-then-not-row g c =
     let mem = memory_of c.work_with-did.new.storage in
     let draft = c.work_with-did.new.draft.items in
     let did : performed_at x (marking_of c.args.self.now) piece (operation_at x piece i) ≡ Err c.in-Trapped.trap = performed_so x m memory trap piece i (standing s1) _ c.count_ahead.ensures.standing c.work_with-did.ensures.effect ∙ ap (λ (d : Did). told d mem draft) c.in-Trapped.is in
-    let w : HasWorked x m s2 k piece i = has_worked x m memory trap s1 s2 k piece i c.row-row.result.now.waits r n.number (row_waits x piece i c.row-row.result.now c.row-row.ensures) c.count_ahead.ensures.ahead c.count_ahead.ensures.standing c.work_with-did.ensures.standing c.work_with-did.ensures.counted in
+    let w : HasWorked x m s2 k piece i = has_worked x m memory trap s1 s2 k piece i c.row_of-row.result.now.waits r n.number (row_waits x piece i c.row_of-row.result.now c.row_of-row.ensures) c.count_ahead.ensures.ahead c.count_ahead.ensures.standing c.work_with-did.ensures.standing c.work_with-did.ensures.counted in
     let gives_one : gives_value (operation_at x piece i).work ≡ true = trapped_gives x (marking_of c.args.self.now) k piece i c.in-Trapped.trap did in
     let there = ahead_gives x s2 k piece i n.number gives_one w.ahead in
     let ahead = ahead_by x s2 k (1 + length (needed x piece i)) 0 there in
-    (omega arith, (c.requires.node, (c.requires.name, (n.exists, (n.inside, (c.row-row.ensures, (c.work_with-did.ensures.places, (gives_one, (w.empty, (w.stand, ahead))))))))))
+    (omega arith, (c.requires.node, (c.requires.name, (n.exists, (n.inside, (c.row_of-row.ensures, (c.work_with-did.ensures.places, (gives_one, (w.empty, (w.stand, ahead))))))))))
 
 pub invariant_of-self-then-not-row : goal.invariant_of-self-then-not-row
 invariant_of-self-then-not-row g c =
@@ -598,7 +591,7 @@ invariant_of-self-then-not-row g c =
     let mem = memory_of c.work_with-did.new.storage in
     let draft = c.work_with-did.new.draft.items in
     let did : performed_at x (marking_of c.args.self.now) piece (operation_at x piece i) ≡ Err c.in-Trapped.trap = performed_so x m memory trap piece i (standing s1) _ c.count_ahead.ensures.standing c.work_with-did.ensures.effect ∙ ap (λ (d : Did). told d mem draft) c.in-Trapped.is in
-    let w : HasWorked x m s2 k piece i = has_worked x m memory trap s1 s2 k piece i c.row-row.result.now.waits r n.number (row_waits x piece i c.row-row.result.now c.row-row.ensures) c.count_ahead.ensures.ahead c.count_ahead.ensures.standing c.work_with-did.ensures.standing c.work_with-did.ensures.counted in
+    let w : HasWorked x m s2 k piece i = has_worked x m memory trap s1 s2 k piece i c.row_of-row.result.now.waits r n.number (row_waits x piece i c.row_of-row.result.now c.row_of-row.ensures) c.count_ahead.ensures.ahead c.count_ahead.ensures.standing c.work_with-did.ensures.standing c.work_with-did.ensures.counted in
     let gives_one : gives_value (operation_at x piece i).work ≡ true = trapped_gives x (marking_of c.args.self.now) k piece i c.in-Trapped.trap did in
     let there = ahead_gives x s2 k piece i n.number gives_one w.ahead in
     let ahead = ahead_by x s2 k (1 + length (needed x piece i)) 0 there in
@@ -627,9 +620,9 @@ returns-then-not-row-clause-marking g c =
     let mem = memory_of c.work_with-did.new.storage in
     let draft = c.work_with-did.new.draft.items in
     let did : performed_at x (marking_of c.args.self.now) piece (operation_at x piece i) ≡ Err c.in-Trapped.trap = performed_so x m memory trap piece i (standing s1) _ c.count_ahead.ensures.standing c.work_with-did.ensures.effect ∙ ap (λ (d : Did). told d mem draft) c.in-Trapped.is in
-    let w : HasWorked x m s2 k piece i = has_worked x m memory trap s1 s2 k piece i c.row-row.result.now.waits r n.number (row_waits x piece i c.row-row.result.now c.row-row.ensures) c.count_ahead.ensures.ahead c.count_ahead.ensures.standing c.work_with-did.ensures.standing c.work_with-did.ensures.counted in
+    let w : HasWorked x m s2 k piece i = has_worked x m memory trap s1 s2 k piece i c.row_of-row.result.now.waits r n.number (row_waits x piece i c.row_of-row.result.now c.row_of-row.ensures) c.count_ahead.ensures.ahead c.count_ahead.ensures.standing c.work_with-did.ensures.standing c.work_with-did.ensures.counted in
     let same : mem ≡ memory = ap memory_of (subst (λ (d : Did). KeepsStorage d c.args.self.now.storage c.work_with-did.new.storage) c.in-Trapped.is c.work_with-did.ensures.memory) in
-    let needs : x.needs piece i 0 ≡ false = sym (row_serial x piece i c.row-row.result.now c.row-row.ensures) ∙ c.if-not-row.true in
+    let needs : x.needs piece i 0 ≡ false = sym (row_serial x piece i c.row_of-row.result.now c.row_of-row.ensures) ∙ c.if-not-row.true in
     let to = c.give-then-not-row.ensures.standing ∙ ap (λ (t : Rattle.op_board.specs.OperationTokens.OperationTokens). given_on x t k piece i (Rattle.std.proofs.Common.pos 0)) w.taken in
     let o = has_passed x c.args.self.now.board.plan.facts m memory trap c.requires.going k piece i c.requires.node c.requires.name (standing c.give-then-not-row.new.places) mem c.give-then-not-row.result c.args.self.now.text.items c.in-Trapped.trap did same c.give-then-not-row.ensures.edge needs to in
     o.marking
@@ -648,9 +641,9 @@ returns-then-not-row-clause-leads g c =
     let mem = memory_of c.work_with-did.new.storage in
     let draft = c.work_with-did.new.draft.items in
     let did : performed_at x (marking_of c.args.self.now) piece (operation_at x piece i) ≡ Err c.in-Trapped.trap = performed_so x m memory trap piece i (standing s1) _ c.count_ahead.ensures.standing c.work_with-did.ensures.effect ∙ ap (λ (d : Did). told d mem draft) c.in-Trapped.is in
-    let w : HasWorked x m s2 k piece i = has_worked x m memory trap s1 s2 k piece i c.row-row.result.now.waits r n.number (row_waits x piece i c.row-row.result.now c.row-row.ensures) c.count_ahead.ensures.ahead c.count_ahead.ensures.standing c.work_with-did.ensures.standing c.work_with-did.ensures.counted in
+    let w : HasWorked x m s2 k piece i = has_worked x m memory trap s1 s2 k piece i c.row_of-row.result.now.waits r n.number (row_waits x piece i c.row_of-row.result.now c.row_of-row.ensures) c.count_ahead.ensures.ahead c.count_ahead.ensures.standing c.work_with-did.ensures.standing c.work_with-did.ensures.counted in
     let same : mem ≡ memory = ap memory_of (subst (λ (d : Did). KeepsStorage d c.args.self.now.storage c.work_with-did.new.storage) c.in-Trapped.is c.work_with-did.ensures.memory) in
-    let needs : x.needs piece i 0 ≡ false = sym (row_serial x piece i c.row-row.result.now c.row-row.ensures) ∙ c.if-not-row.true in
+    let needs : x.needs piece i 0 ≡ false = sym (row_serial x piece i c.row_of-row.result.now c.row_of-row.ensures) ∙ c.if-not-row.true in
     let to = c.give-then-not-row.ensures.standing ∙ ap (λ (t : Rattle.op_board.specs.OperationTokens.OperationTokens). given_on x t k piece i (Rattle.std.proofs.Common.pos 0)) w.taken in
     let o = has_passed x c.args.self.now.board.plan.facts m memory trap c.requires.going k piece i c.requires.node c.requires.name (standing c.give-then-not-row.new.places) mem c.give-then-not-row.result c.args.self.now.text.items c.in-Trapped.trap did same c.give-then-not-row.ensures.edge needs to in
     o.leads
@@ -669,9 +662,9 @@ returns-then-not-row-clause-fired g c =
     let mem = memory_of c.work_with-did.new.storage in
     let draft = c.work_with-did.new.draft.items in
     let did : performed_at x (marking_of c.args.self.now) piece (operation_at x piece i) ≡ Err c.in-Trapped.trap = performed_so x m memory trap piece i (standing s1) _ c.count_ahead.ensures.standing c.work_with-did.ensures.effect ∙ ap (λ (d : Did). told d mem draft) c.in-Trapped.is in
-    let w : HasWorked x m s2 k piece i = has_worked x m memory trap s1 s2 k piece i c.row-row.result.now.waits r n.number (row_waits x piece i c.row-row.result.now c.row-row.ensures) c.count_ahead.ensures.ahead c.count_ahead.ensures.standing c.work_with-did.ensures.standing c.work_with-did.ensures.counted in
+    let w : HasWorked x m s2 k piece i = has_worked x m memory trap s1 s2 k piece i c.row_of-row.result.now.waits r n.number (row_waits x piece i c.row_of-row.result.now c.row_of-row.ensures) c.count_ahead.ensures.ahead c.count_ahead.ensures.standing c.work_with-did.ensures.standing c.work_with-did.ensures.counted in
     let same : mem ≡ memory = ap memory_of (subst (λ (d : Did). KeepsStorage d c.args.self.now.storage c.work_with-did.new.storage) c.in-Trapped.is c.work_with-did.ensures.memory) in
-    let needs : x.needs piece i 0 ≡ false = sym (row_serial x piece i c.row-row.result.now c.row-row.ensures) ∙ c.if-not-row.true in
+    let needs : x.needs piece i 0 ≡ false = sym (row_serial x piece i c.row_of-row.result.now c.row_of-row.ensures) ∙ c.if-not-row.true in
     let to = c.give-then-not-row.ensures.standing ∙ ap (λ (t : Rattle.op_board.specs.OperationTokens.OperationTokens). given_on x t k piece i (Rattle.std.proofs.Common.pos 0)) w.taken in
     let o = has_passed x c.args.self.now.board.plan.facts m memory trap c.requires.going k piece i c.requires.node c.requires.name (standing c.give-then-not-row.new.places) mem c.give-then-not-row.result c.args.self.now.text.items c.in-Trapped.trap did same c.give-then-not-row.ensures.edge needs to in
     o.fired_is
@@ -690,11 +683,11 @@ stop-requires g c =
     let mem = memory_of c.work_with-did.new.storage in
     let draft = c.work_with-did.new.draft.items in
     let did : performed_at x (marking_of c.args.self.now) piece (operation_at x piece i) ≡ Err c.in-Trapped.trap = performed_so x m memory trap piece i (standing s1) _ c.count_ahead.ensures.standing c.work_with-did.ensures.effect ∙ ap (λ (d : Did). told d mem draft) c.in-Trapped.is in
-    let w : HasWorked x m s2 k piece i = has_worked x m memory trap s1 s2 k piece i c.row-row.result.now.waits r n.number (row_waits x piece i c.row-row.result.now c.row-row.ensures) c.count_ahead.ensures.ahead c.count_ahead.ensures.standing c.work_with-did.ensures.standing c.work_with-did.ensures.counted in
+    let w : HasWorked x m s2 k piece i = has_worked x m memory trap s1 s2 k piece i c.row_of-row.result.now.waits r n.number (row_waits x piece i c.row_of-row.result.now c.row_of-row.ensures) c.count_ahead.ensures.ahead c.count_ahead.ensures.standing c.work_with-did.ensures.standing c.work_with-did.ensures.counted in
     let gives_one : gives_value (operation_at x piece i).work ≡ true = trapped_gives x (marking_of c.args.self.now) k piece i c.in-Trapped.trap did in
     let there = ahead_gives x s2 k piece i n.number gives_one w.ahead in
     let ahead = ahead_by x s2 k (1 + length (needed x piece i)) 0 there in
-    (omega arith, (c.requires.node, (c.requires.name, (n.exists, (n.inside, (c.row-row.ensures, (c.work_with-did.ensures.places, (w.stand, ahead))))))))
+    (omega arith, (c.requires.node, (c.requires.name, (n.exists, (n.inside, (c.row_of-row.ensures, (c.work_with-did.ensures.places, (w.stand, ahead))))))))
 
 pub invariant_of-self-in-Trapped : goal.invariant_of-self-in-Trapped
 invariant_of-self-in-Trapped g c =
@@ -710,7 +703,7 @@ invariant_of-self-in-Trapped g c =
     let mem = memory_of c.work_with-did.new.storage in
     let draft = c.work_with-did.new.draft.items in
     let did : performed_at x (marking_of c.args.self.now) piece (operation_at x piece i) ≡ Err c.in-Trapped.trap = performed_so x m memory trap piece i (standing s1) _ c.count_ahead.ensures.standing c.work_with-did.ensures.effect ∙ ap (λ (d : Did). told d mem draft) c.in-Trapped.is in
-    let w : HasWorked x m s2 k piece i = has_worked x m memory trap s1 s2 k piece i c.row-row.result.now.waits r n.number (row_waits x piece i c.row-row.result.now c.row-row.ensures) c.count_ahead.ensures.ahead c.count_ahead.ensures.standing c.work_with-did.ensures.standing c.work_with-did.ensures.counted in
+    let w : HasWorked x m s2 k piece i = has_worked x m memory trap s1 s2 k piece i c.row_of-row.result.now.waits r n.number (row_waits x piece i c.row_of-row.result.now c.row_of-row.ensures) c.count_ahead.ensures.ahead c.count_ahead.ensures.standing c.work_with-did.ensures.standing c.work_with-did.ensures.counted in
     let gives_one : gives_value (operation_at x piece i).work ≡ true = trapped_gives x (marking_of c.args.self.now) k piece i c.in-Trapped.trap did in
     let there = ahead_gives x s2 k piece i n.number gives_one w.ahead in
     let ahead = ahead_by x s2 k (1 + length (needed x piece i)) 0 there in
@@ -739,10 +732,10 @@ returns-else-not-row-clause-marking g c =
     let mem = memory_of c.work_with-did.new.storage in
     let draft = c.work_with-did.new.draft.items in
     let did : performed_at x (marking_of c.args.self.now) piece (operation_at x piece i) ≡ Err c.in-Trapped.trap = performed_so x m memory trap piece i (standing s1) _ c.count_ahead.ensures.standing c.work_with-did.ensures.effect ∙ ap (λ (d : Did). told d mem draft) c.in-Trapped.is in
-    let w : HasWorked x m s2 k piece i = has_worked x m memory trap s1 s2 k piece i c.row-row.result.now.waits r n.number (row_waits x piece i c.row-row.result.now c.row-row.ensures) c.count_ahead.ensures.ahead c.count_ahead.ensures.standing c.work_with-did.ensures.standing c.work_with-did.ensures.counted in
+    let w : HasWorked x m s2 k piece i = has_worked x m memory trap s1 s2 k piece i c.row_of-row.result.now.waits r n.number (row_waits x piece i c.row_of-row.result.now c.row_of-row.ensures) c.count_ahead.ensures.ahead c.count_ahead.ensures.standing c.work_with-did.ensures.standing c.work_with-did.ensures.counted in
     let same : mem ≡ memory = ap memory_of (subst (λ (d : Did). KeepsStorage d c.args.self.now.storage c.work_with-did.new.storage) c.in-Trapped.is c.work_with-did.ensures.memory) in
     let line_is = line_told c.args.self.now.board.plan.board.plan.flow.now _ piece c.piece-line.result c.args.self.now.board.plan.board.plan.own_flow c.piece-line.ensures in
-    let needs : x.needs piece i 0 ≡ true = sym (row_serial x piece i c.row-row.result.now c.row-row.ensures) ∙ c.if-not-row.false in
+    let needs : x.needs piece i 0 ≡ true = sym (row_serial x piece i c.row_of-row.result.now c.row_of-row.ensures) ∙ c.if-not-row.false in
     let to = c.stop.ensures.standing ∙ ap (λ (t : Rattle.op_board.specs.OperationTokens.OperationTokens). Rattle.op_net.specs.StandingChanges.lines_dropped x t piece i) w.taken in
     let o = has_stopped x c.args.self.now.board.plan.facts m memory trap c.requires.going k piece i c.requires.node c.requires.name (standing c.stop.new.places) mem c.stop.result c.args.self.now.text.items c.in-Trapped.trap did same c.stop.ensures.edge c.piece-line.result.line line_is needs to in
     o.marking
@@ -761,10 +754,10 @@ returns-else-not-row-clause-leads g c =
     let mem = memory_of c.work_with-did.new.storage in
     let draft = c.work_with-did.new.draft.items in
     let did : performed_at x (marking_of c.args.self.now) piece (operation_at x piece i) ≡ Err c.in-Trapped.trap = performed_so x m memory trap piece i (standing s1) _ c.count_ahead.ensures.standing c.work_with-did.ensures.effect ∙ ap (λ (d : Did). told d mem draft) c.in-Trapped.is in
-    let w : HasWorked x m s2 k piece i = has_worked x m memory trap s1 s2 k piece i c.row-row.result.now.waits r n.number (row_waits x piece i c.row-row.result.now c.row-row.ensures) c.count_ahead.ensures.ahead c.count_ahead.ensures.standing c.work_with-did.ensures.standing c.work_with-did.ensures.counted in
+    let w : HasWorked x m s2 k piece i = has_worked x m memory trap s1 s2 k piece i c.row_of-row.result.now.waits r n.number (row_waits x piece i c.row_of-row.result.now c.row_of-row.ensures) c.count_ahead.ensures.ahead c.count_ahead.ensures.standing c.work_with-did.ensures.standing c.work_with-did.ensures.counted in
     let same : mem ≡ memory = ap memory_of (subst (λ (d : Did). KeepsStorage d c.args.self.now.storage c.work_with-did.new.storage) c.in-Trapped.is c.work_with-did.ensures.memory) in
     let line_is = line_told c.args.self.now.board.plan.board.plan.flow.now _ piece c.piece-line.result c.args.self.now.board.plan.board.plan.own_flow c.piece-line.ensures in
-    let needs : x.needs piece i 0 ≡ true = sym (row_serial x piece i c.row-row.result.now c.row-row.ensures) ∙ c.if-not-row.false in
+    let needs : x.needs piece i 0 ≡ true = sym (row_serial x piece i c.row_of-row.result.now c.row_of-row.ensures) ∙ c.if-not-row.false in
     let to = c.stop.ensures.standing ∙ ap (λ (t : Rattle.op_board.specs.OperationTokens.OperationTokens). Rattle.op_net.specs.StandingChanges.lines_dropped x t piece i) w.taken in
     let o = has_stopped x c.args.self.now.board.plan.facts m memory trap c.requires.going k piece i c.requires.node c.requires.name (standing c.stop.new.places) mem c.stop.result c.args.self.now.text.items c.in-Trapped.trap did same c.stop.ensures.edge c.piece-line.result.line line_is needs to in
     o.leads
@@ -783,10 +776,10 @@ returns-else-not-row-clause-fired g c =
     let mem = memory_of c.work_with-did.new.storage in
     let draft = c.work_with-did.new.draft.items in
     let did : performed_at x (marking_of c.args.self.now) piece (operation_at x piece i) ≡ Err c.in-Trapped.trap = performed_so x m memory trap piece i (standing s1) _ c.count_ahead.ensures.standing c.work_with-did.ensures.effect ∙ ap (λ (d : Did). told d mem draft) c.in-Trapped.is in
-    let w : HasWorked x m s2 k piece i = has_worked x m memory trap s1 s2 k piece i c.row-row.result.now.waits r n.number (row_waits x piece i c.row-row.result.now c.row-row.ensures) c.count_ahead.ensures.ahead c.count_ahead.ensures.standing c.work_with-did.ensures.standing c.work_with-did.ensures.counted in
+    let w : HasWorked x m s2 k piece i = has_worked x m memory trap s1 s2 k piece i c.row_of-row.result.now.waits r n.number (row_waits x piece i c.row_of-row.result.now c.row_of-row.ensures) c.count_ahead.ensures.ahead c.count_ahead.ensures.standing c.work_with-did.ensures.standing c.work_with-did.ensures.counted in
     let same : mem ≡ memory = ap memory_of (subst (λ (d : Did). KeepsStorage d c.args.self.now.storage c.work_with-did.new.storage) c.in-Trapped.is c.work_with-did.ensures.memory) in
     let line_is = line_told c.args.self.now.board.plan.board.plan.flow.now _ piece c.piece-line.result c.args.self.now.board.plan.board.plan.own_flow c.piece-line.ensures in
-    let needs : x.needs piece i 0 ≡ true = sym (row_serial x piece i c.row-row.result.now c.row-row.ensures) ∙ c.if-not-row.false in
+    let needs : x.needs piece i 0 ≡ true = sym (row_serial x piece i c.row_of-row.result.now c.row_of-row.ensures) ∙ c.if-not-row.false in
     let to = c.stop.ensures.standing ∙ ap (λ (t : Rattle.op_board.specs.OperationTokens.OperationTokens). Rattle.op_net.specs.StandingChanges.lines_dropped x t piece i) w.taken in
     let o = has_stopped x c.args.self.now.board.plan.facts m memory trap c.requires.going k piece i c.requires.node c.requires.name (standing c.stop.new.places) mem c.stop.result c.args.self.now.text.items c.in-Trapped.trap did same c.stop.ensures.edge c.piece-line.result.line line_is needs to in
     o.fired_is
