@@ -7,7 +7,7 @@ use Rattle.f77_tree.specs.declared.declarations.Dim.{Dim}
 use Rattle.f77_tree.specs.declared.programs.NameInfo.{NameInfo}
 use Rattle.f77_tree.specs.declared.statements.Labelled.{Labelled}
 use Rattle.f77_tree.specs.OtherPlaces.{DifferInPlaces}
-use Rattle.storage_laws.proofs.NameTable.{arrays_in_table}
+use Rattle.layout_rules.proofs.NameTable.{arrays_in_table}
 use Rattle.layout_rules.specs.Declarations.{dims_of, is_array}
 use Rattle.layout_rules.specs.Layout.{names_of}
 use Rattle.layout_rules.specs.Types.{is_array_in, is_intrinsic}

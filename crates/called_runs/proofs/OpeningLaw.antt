@@ -16,7 +16,7 @@ use Rattle.f77_tree.specs.InitialWords.{IsInitPart, given, part_words}
 use Rattle.f77_tree.specs.OtherPlaces.{DifferInPlaces}
 use Rattle.f77_tree.specs.Value.{dims_of as dims_at, size_of}
 use Rattle.f77_tree.specs.WellFormed.{IsWellFormed}
-use Rattle.storage_laws.proofs.NameTable.{dims_in_table}
+use Rattle.layout_rules.proofs.NameTable.{dims_in_table}
 use Rattle.layout_rules.specs.Declarations.{all_inits, dims_of, inits_of}
 use Rattle.layout_rules.specs.Layout.{layout, names_of, program}
 use Rattle.layout_rules.specs.Source.{IsSource}

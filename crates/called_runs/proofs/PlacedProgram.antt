@@ -7,7 +7,7 @@ use Rattle.f77_tree.specs.declared.programs.Program.{Program}
 use Rattle.f77_tree.specs.declared.statements.Labelled.{Labelled}
 use Rattle.f77_tree.specs.Places.{IsWordOf, Linked, equations}
 use Rattle.f77_tree.specs.WellFormed.{IsWellFormed}
-use Rattle.storage_laws.proofs.NameTable.{dims_in_table}
+use Rattle.layout_rules.proofs.NameTable.{dims_in_table}
 use Rattle.layout_rules.specs.declared.layout_end.LayoutEnd.{LayoutEnd}
 use Rattle.layout_rules.specs.Declarations.{all_commons, all_groups, dims_of, groups_of}
 use Rattle.layout_rules.specs.Layout.{layout, names_of, program, refusal, unless_refused}

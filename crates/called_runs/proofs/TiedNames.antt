@@ -14,7 +14,7 @@ use Rattle.f77_tree.specs.declared.statements.Labelled.{Labelled}
 use Rattle.f77_tree.specs.Declarations.{index_of}
 use Rattle.f77_tree.specs.OtherPlaces.{DifferInPlaces}
 use Rattle.f77_tree.specs.Value.{place_of, size_of}
-use Rattle.storage_laws.proofs.NameTable.{appearing_index, appearing_kind, arrays_in_table, dims_in_table}
+use Rattle.layout_rules.proofs.NameTable.{appearing_index, appearing_kind, arrays_in_table, dims_in_table}
 use Rattle.layout_rules.specs.Appearances.{appearing}
 use Rattle.layout_rules.specs.Declarations.{dims_of, is_array, kind_of}
 use Rattle.layout_rules.specs.Executables.{kind_or_integer}

@@ -20,14 +20,13 @@ use Rattle.layout_rules.specs.Order.{rank, is_out_of_order}
 use Rattle.layout_rules.specs.Executables.{own_kinds, own_executables, taking, beyond, first_of, executables}
 use Rattle.layout_rules.specs.Labels.{is_labelled_twice, lacks_label}
 use Rattle.layout_rules.specs.Nesting.{first_unnested}
-use Rattle.layout_rules.specs.Tables.{is_simple, has_simple_inner, IsUsable}
+use Rattle.layout_rules.specs.Tables.{has_simple_inner, IsUsable}
 use Rattle.layout_rules.proofs.FlatParts.{list_any-none_at}
 use Rattle.control_structure.proofs.LabelLemmas.{faultless}
 use Rattle.control_structure.proofs.Usable.{usable as all_usable}
 use Rattle.control_laws.proofs.LoopPlaces.{first-next, length-executables, usable-at, own-at}
-use Rattle.control_laws.proofs.LoopBegins.{OwnAt, EndAt, comes}
-use Rattle.control_laws.proofs.SuccessorPlaces.{is_last}
-use Rattle.control_laws.proofs.SuccessorLoops.{no_loops-end}
+use Rattle.control_laws.proofs.LoopBegins.{OwnAt, EndAt, comes, simple-is}
+use Rattle.control_laws.proofs.SuccessorLaws.{is_last, no_loops-end}
 
 abbrev is_end : ExecKind → Bool
 is_end Ended = true
@@ -39,15 +38,9 @@ module _ (names : List NameInfo) (checked : Bool) (whole : List Labelled) (place
   no_end-taking index next (target ∷ []) = refl
   no_end-taking index next (target ∷ another ∷ rest) = no_end-taking (index + 1) next (another ∷ rest)
 
-  no_end-simple : (index next : ℕ) (stmt : Stmt) → is_simple stmt ≡ true → list_any is_end (own_kinds names checked whole place index next stmt) ≡ false
-  no_end-simple index next (Take targets) e = no_end-taking index next targets
-  no_end-simple index next (ThenIf' condition shape (more_of-Stmt stmt rest)) e = let h : false ≡ true = e in absurd cc
-  no_end-simple index next End e = let h : false ≡ true = e in absurd cc
-  no_end-simple index next _ e = refl
-
   no_end-own : (index next : ℕ) (stmt : Stmt) → has_simple_inner stmt ≡ true → (stmt ≡ End → ⊥) → list_any is_end (own_kinds names checked whole place index next stmt) ≡ false
   no_end-own index next (Take targets) e other = no_end-taking index next targets
-  no_end-own index next (ThenIf' condition shape (more_of-Stmt stmt rest)) e other = no_end-simple (index + 1) next stmt e
+  no_end-own index next (ThenIf' condition shape (more_of-Stmt stmt rest)) e other = let is = simple-is stmt e in no_end-own (index + 1) next stmt is.0 is.3
   no_end-own index next End e other = absurd (other refl)
   no_end-own index next _ e other = refl
 

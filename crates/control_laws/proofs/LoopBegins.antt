@@ -1,25 +1,115 @@
 -- The executables that begin and increment each DO.
-use Rattle.std.proofs.Common.{◌≡◌, ℕ, zero, suc, ◌+◌, ◌-◌, ◌<◌, ◌≤◌, Bool, true, false, ◌⊎◌, inl, inr, List, length, drop, refl, sym, ap, ◌∙◌, arith, Option, Some, None, All}
+use Rattle.std.proofs.Common.{◌≡◌, ℕ, zero, suc, ◌+◌, ◌-◌, ◌<◌, ◌≤◌, Bool, true, false, ◌⊎◌, inl, inr, List, length, drop, refl, sym, ap, ◌∙◌, arith, Option, Some, None, All, rules, [], ◌∷◌}
 use Rattle.std.specs.Prelude.{slice_get}
 use Rattle.std.proofs.lemmas.Bool.{cases_lt, cases_Bool}
 use Rattle.std.proofs.lemmas.Option.{slice_get_within}
 use Rattle.f77_tree.specs.declared.programs.Exec.{Exec}
 use Rattle.f77_tree.specs.declared.programs.ExecKind.{ExecKind}
-use Rattle.f77_tree.specs.declared.programs.ExecKind.TheVariants.{DoStart}
+use Rattle.f77_tree.specs.declared.programs.ExecKind.TheVariants.{DoStart, DoNext}
 use Rattle.f77_tree.specs.declared.programs.NameInfo.{NameInfo}
 use Rattle.f77_tree.specs.declared.statements.Labelled.{Labelled}
 use Rattle.f77_tree.specs.declared.statements.RawExpr.{RawExpr}
-use Rattle.f77_tree.specs.declared.statements.Stmt.{Stmt}
-use Rattle.f77_tree.specs.declared.statements.Stmt.TheVariants.{Do}
+use Rattle.f77_tree.specs.declared.statements.Stmt.{Stmt, more_of-Stmt}
+use Rattle.f77_tree.specs.declared.statements.Stmt.TheVariants.{Do, Take, ThenIf', BlockIf, ElseIf, Else, End}
 use Rattle.f77_tree.specs.Declarations.{index_of}
 use Rattle.f77_tree.specs.Loops.{Loop, begun, incremented, begun_in, incremented_in, begun_at, incremented_at}
 use Rattle.layout_rules.specs.Resolved.{resolved, resolved_step}
-use Rattle.layout_rules.specs.Executables.{beyond, own_executables, own_kinds, increments, loops_to, first_of, executables, is_do, loop_number, exit_of}
-use Rattle.layout_rules.specs.Tables.{IsUsable}
+use Rattle.layout_rules.specs.Executables.{beyond, own_executables, own_kinds, increments, loops_to, first_of, executables, is_do, loop_number, exit_of, taking, exit_after, variable_of}
+use Rattle.layout_rules.specs.Tables.{IsUsable, begins_arm, is_simple, has_simple_inner}
 use Rattle.control_structure.proofs.ExecutableLemmas.{length-increments}
-use Rattle.control_laws.proofs.LoopPlaces.{Located, located, length-own_kinds, length-executables, usable-at, own-at, end-at}
-use Rattle.control_laws.proofs.LoopKinds.{no_loops-got, loop_of, next_kind, next_loop, StartsAt, NextAt, own-no_loops, increments-at, increments-got}
 use Rattle.control_structure.proofs.Walks.{item_at}
+use Rattle.control_laws.proofs.LoopPlaces.{Located, located, length-own_kinds, length-executables, usable-at, own-at, end-at}
+
+-- ---- a statement's own
+
+-- a simple statement has no other in it, is no DO, begins no arm, and is not END
+pub simple-is : (stmt : Stmt) → is_simple stmt ≡ true → (has_simple_inner stmt ≡ true) × (is_do stmt ≡ false) × (begins_arm stmt ≡ false) × (stmt ≡ End → ⊥)
+simple-is (Take targets) e = (refl, refl, refl, λ h. absurd cc)
+simple-is (ThenIf' condition shape (more_of-Stmt stmt rest)) e = let h : false ≡ true = e in absurd cc
+simple-is (BlockIf condition) e = let h : false ≡ true = e in absurd cc
+simple-is (ElseIf condition) e = let h : false ≡ true = e in absurd cc
+simple-is Else e = let h : false ≡ true = e in absurd cc
+simple-is (Do label variable first last step) e = let h : false ≡ true = e in absurd cc
+simple-is End e = let h : false ≡ true = e in absurd cc
+simple-is _ e = (refl, refl, refl, λ h. absurd cc)
+
+-- none of them begins or increments a DO
+abbrev pub NoLoops : List ExecKind → Type 0
+NoLoops [] = Unit {0}
+NoLoops (kind ∷ rest) = (begun kind ≡ None) × (incremented kind ≡ None) × NoLoops rest
+
+pub no_loops-got : (kinds : List ExecKind) (j : ℕ) (kind : ExecKind) → NoLoops kinds → slice_get kinds j ≡ Some kind → (begun kind ≡ None) × (incremented kind ≡ None)
+no_loops-got [] j kind none is = let e : None ≡ Some kind = is in absurd cc
+no_loops-got (x ∷ rest) zero kind none is = let same : x ≡ kind = cc in (ap begun (sym same) ∙ none.0, ap incremented (sym same) ∙ none.1)
+no_loops-got (x ∷ rest) (suc j) kind none is = no_loops-got rest j kind none.2 is
+
+-- the DO that a DO statement begins
+abbrev pub loop_of : List NameInfo → List Labelled → (d label : ℕ) → (variable : List ℕ) → Loop
+loop_of names whole d label variable = record { number = loop_number whole d; variable = index_of names variable; body = first_of whole d + 1; exit = exit_of whole label d }
+
+-- the executable that increments the DO at the place d, with the DOs further out that end where it does
+abbrev pub next_kind : List NameInfo → List Labelled → (place d index : ℕ) → (outer : List ℕ) → ExecKind
+next_kind names whole place d index outer = DoNext (loop_number whole d) (index_of names (variable_of (slice_get whole d))) (first_of whole d + 1) (exit_after whole place index outer)
+
+-- the DO that it increments
+abbrev pub next_loop : List NameInfo → List Labelled → (place d index : ℕ) → (outer : List ℕ) → Loop
+next_loop names whole place d index outer = record { number = loop_number whole d; variable = index_of names (variable_of (slice_get whole d)); body = first_of whole d + 1; exit = exit_after whole place index outer }
+
+-- an increment among those of a statement
+pub record IncrementIs (names : List NameInfo) (whole : List Labelled) (place index m : ℕ) (ds : List ℕ) (kind : ExecKind) : Type 0 where
+  pub d : ℕ
+  pub got : slice_get ds m ≡ Some d
+  pub is : kind ≡ next_kind names whole place d index (drop (suc m) ds)
+
+-- the DO whose DoStart the executable is
+pub record StartsAt (whole : List Labelled) (k : ℕ) (loop : Loop) : Type 0 where
+  pub d : ℕ
+  pub s : Labelled
+  pub stands : slice_get whole d ≡ Some s
+  pub is_do : is_do s.stmt ≡ true
+  pub at : k ≡ first_of whole d
+  pub number : loop.number ≡ loop_number whole d
+
+-- the DO whose DoNext the executable is
+pub record NextAt (whole : List Labelled) (k : ℕ) (loop : Loop) : Type 0 where
+  pub place : ℕ
+  pub s : Labelled
+  pub m : ℕ
+  pub d : ℕ
+  pub stands : slice_get whole place ≡ Some s
+  pub got : slice_get (loops_to whole s.label) m ≡ Some d
+  pub at : k ≡ first_of whole place + own_executables s.stmt + m
+  pub number : loop.number ≡ loop_number whole d
+
+module _ (names : List NameInfo) (checked : Bool) (whole : List Labelled) where
+  taking-no_loops : (index next : ℕ) (targets : List RawExpr) → NoLoops (taking names checked index next targets)
+  taking-no_loops index next [] = tt
+  taking-no_loops index next (target ∷ []) = (refl, refl, tt)
+  taking-no_loops index next (target ∷ another ∷ rest) = (refl, refl, taking-no_loops (index + 1) next (another ∷ rest))
+
+  pub own-no_loops : (place index next : ℕ) (stmt : Stmt) → has_simple_inner stmt ≡ true → is_do stmt ≡ false → NoLoops (own_kinds names checked whole place index next stmt)
+  own-no_loops place index next (Take targets) inner e = taking-no_loops index next targets
+  own-no_loops place index next (ThenIf' condition shape (more_of-Stmt stmt rest)) inner e = let is = simple-is stmt inner in (refl, refl, own-no_loops place (index + 1) next stmt is.0 is.1)
+  own-no_loops place index next (Do label variable first last step) inner e = let h : true ≡ false = e in absurd cc
+  own-no_loops place index next stmt inner e = search rules
+
+  -- ---- increments
+
+  pub increments-at : (place index at m d : ℕ) (ds : List ℕ) → slice_get ds m ≡ Some d → at ≡ index + m → slice_get (increments names whole place index ds) m ≡ Some (next_kind names whole place d at (drop (suc m) ds))
+  increments-at place index at m d [] got is = let e : None ≡ Some d = got in absurd cc
+  increments-at place index at zero d (x ∷ ds) got is =
+      let same : x ≡ d = cc in
+      let here : index ≡ at = omega (arith, is) in
+      ap (λ (y : ℕ). Some (next_kind names whole place y index ds)) same ∙ ap (λ (k : ℕ). Some (next_kind names whole place d k ds)) here
+  increments-at place index at (suc m) d (x ∷ ds) got is = increments-at place (index + 1) at m d ds got (omega (arith, is))
+
+  pub increments-got : (place index at m : ℕ) (kind : ExecKind) (ds : List ℕ) → at ≡ index + m → slice_get (increments names whole place index ds) m ≡ Some kind → IncrementIs names whole place at m ds kind
+  increments-got place index at m kind ds is got =
+      let inside : m < length ds = omega (arith, slice_get_within (increments names whole place index ds) m kind got, length-increments names checked whole place index ds) in
+      let d = item_at ds m inside in
+      let there = increments-at place index at m d.0 ds d.1 is in
+      let same : kind ≡ next_kind names whole place d.0 at (drop (suc m) ds) = let e : Some kind ≡ Some (next_kind names whole place d.0 at (drop (suc m) ds)) = sym got ∙ there in cc in
+      record { d = d.0; got = d.1; is = same }
 
 -- an executable of a statement's own
 pub record OwnAt (names : List NameInfo) (checked : Bool) (whole : List Labelled) (k : ℕ) (kind : ExecKind) : Type 0 where
@@ -65,20 +155,16 @@ module _ (names : List NameInfo) (checked : Bool) (whole : List Labelled) (usabl
       let same = same_kind k l.s.line e x.0 is (ap (slice_get execs) l.is ∙ there) in
       record { place = l.place; s = l.s; j = l.offset; stands = l.stands; at = l.is; own = lt; got = x.1 ∙ ap Some (sym same) }
 
-  end-from : (k place m : ℕ) (s : Labelled) (e : Exec) (kind : ExecKind) → slice_get whole place ≡ Some s → slice_get (increments names whole place (first_of whole place + own_executables s.stmt) (loops_to whole s.label)) m ≡ Some kind → k ≡ first_of whole place + own_executables s.stmt + m → slice_get execs k ≡ Some e → EndAt names whole k e.kind
-  end-from k place m s e kind here got at is =
-      let there = end-at names checked whole usable place m s kind here got in
-      let one = increments-got names checked whole place (first_of whole place + own_executables s.stmt) k m kind (loops_to whole s.label) at got in
-      let same : e.kind ≡ kind = same_kind k s.line e kind is (ap (slice_get execs) at ∙ there) in
-      record { place = place; s = s; m = m; d = one.d; stands = here; got = one.got; at = at; is = same ∙ one.is }
-
   comes-end : (k : ℕ) (e : Exec) (l : Located whole k) → slice_get execs k ≡ Some e → own_executables l.s.stmt ≤ l.offset → EndAt names whole k e.kind
   comes-end k e l is ge =
       let index = first_of whole l.place + own_executables l.s.stmt in
       let m = l.offset - own_executables l.s.stmt in
       let ends = increments names whole l.place index (loops_to whole l.s.label) in
       let x = item_at ends m (omega (arith, ge, l.within, length-increments names checked whole l.place index (loops_to whole l.s.label))) in
-      end-from k l.place m l.s e x.0 l.stands x.1 (omega (arith, ge, l.is)) is
+      let at : k ≡ index + m = omega (arith, ge, l.is) in
+      let one = increments-got names checked whole l.place index k m x.0 (loops_to whole l.s.label) at x.1 in
+      let same = same_kind k l.s.line e x.0 is (ap (slice_get execs) at ∙ end-at names checked whole usable l.place m l.s x.0 l.stands x.1) in
+      record { place = l.place; s = l.s; m = m; d = one.d; stands = l.stands; got = one.got; at = at; is = same ∙ one.is }
 
   -- each executable is a statement's own or an increment
   pub comes : (k : ℕ) (e : Exec) → slice_get execs k ≡ Some e → OwnAt names checked whole k e.kind ⊎ EndAt names whole k e.kind
@@ -98,21 +184,20 @@ module _ (names : List NameInfo) (checked : Bool) (whole : List Labelled) (usabl
       let at : first_of whole d ≡ first_of whole d + 0 = omega arith in
       ap begun_in (ap (slice_get execs) at ∙ own-at names checked whole usable d 0 s kind here got)
 
-  do-own : (place index next j : ℕ) (stmt : Stmt) (kind : ExecKind) (loop : Loop) → is_do stmt ≡ true → slice_get (own_kinds names checked whole place index next stmt) j ≡ Some kind → begun kind ≡ Some loop → (j ≡ 0) × (loop.number ≡ loop_number whole place)
-  do-own place index next zero (Do label variable first last step) kind loop e got is =
-      let begins : begun kind ≡ Some (record { number = loop_number whole place; variable = index_of names variable; body = index + 1; exit = exit_of whole label place }) =
-      let same : kind ≡ DoStart (loop_number whole place) (index_of names variable) (resolved names checked first) (resolved names checked last) (resolved_step names checked step) (index + 1) (exit_of whole label place) = cc in ap begun same in
-      let one : loop ≡ record { number = loop_number whole place; variable = index_of names variable; body = index + 1; exit = exit_of whole label place } = cc in
-      (refl, ap (λ (l : Loop). l.number) one)
-  do-own place index next (suc j) (Do label variable first last step) kind loop e got is = let h : None ≡ Some kind = got in absurd cc
-  do-own place index next j _ kind loop e got is = let h : false ≡ true = e in absurd cc
+  do-own : (place index next j : ℕ) (stmt : Stmt) (kind : ExecKind) → is_do stmt ≡ true → slice_get (own_kinds names checked whole place index next stmt) j ≡ Some kind → (j ≡ 0) × ((loop : Loop) → begun kind ≡ Some loop → loop.number ≡ loop_number whole place) × (incremented kind ≡ None)
+  do-own place index next zero (Do label variable first last step) kind e got =
+      let same : DoStart (loop_number whole place) (index_of names variable) (resolved names checked first) (resolved names checked last) (resolved_step names checked step) (index + 1) (exit_of whole label place) ≡ kind = cc in
+      let its : Loop = record { number = loop_number whole place; variable = index_of names variable; body = index + 1; exit = exit_of whole label place } in
+      (refl, (λ loop is. let both : Some its ≡ Some loop = ap begun same ∙ is in let one : its ≡ loop = cc in sym (ap (λ (l : Loop). l.number) one)), sym (ap incremented same))
+  do-own place index next (suc j) (Do label variable first last step) kind e got = let h : None ≡ Some kind = got in absurd cc
+  do-own place index next j _ kind e got = let h : false ≡ true = e in absurd cc
 
   start-from : (k : ℕ) (e : Exec) (loop : Loop) → begun e.kind ≡ Some loop → OwnAt names checked whole k e.kind ⊎ EndAt names whole k e.kind → StartsAt whole k loop
   start-from k e loop is from = elim from as (λ _. StartsAt whole k loop) [
     | inl own ↦ elim (cases_Bool (is_do own.s.stmt)) as (λ _. StartsAt whole k loop) [
       | inl yes_do ↦
-          let h = do-own own.place (first_of whole own.place) (beyond whole own.place own.s) own.j own.s.stmt e.kind loop yes_do own.got is in
-          record { d = own.place; s = own.s; stands = own.stands; is_do = yes_do; at = omega (arith, own.at, h.0); number = h.1 }
+          let h = do-own own.place (first_of whole own.place) (beyond whole own.place own.s) own.j own.s.stmt e.kind yes_do own.got in
+          record { d = own.place; s = own.s; stands = own.stands; is_do = yes_do; at = omega (arith, own.at, h.0); number = h.1 loop is }
       | inr no_do ↦
           let none = no_loops-got (own_kinds names checked whole own.place (first_of whole own.place) (beyond whole own.place own.s) own.s.stmt) own.j e.kind (own-no_loops names checked whole own.place (first_of whole own.place) (beyond whole own.place own.s) own.s.stmt (usable-at names checked whole usable own.place own.s own.stands).inner no_do) own.got in
           let h : None ≡ Some loop = sym none.0 ∙ is in absurd cc
@@ -131,16 +216,10 @@ module _ (names : List NameInfo) (checked : Bool) (whole : List Labelled) (usabl
       let ds = loops_to whole s.label in
       ap incremented_in (end-at names checked whole usable place m s (next_kind names whole place d (index + m) (drop (suc m) ds)) here (increments-at names checked whole place index (index + m) m d ds got refl))
 
-  do-none : (place index next j : ℕ) (stmt : Stmt) (kind : ExecKind) → is_do stmt ≡ true → slice_get (own_kinds names checked whole place index next stmt) j ≡ Some kind → incremented kind ≡ None
-  do-none place index next zero (Do label variable first last step) kind e got =
-      let same : DoStart (loop_number whole place) (index_of names variable) (resolved names checked first) (resolved names checked last) (resolved_step names checked step) (index + 1) (exit_of whole label place) ≡ kind = cc in sym (ap incremented same)
-  do-none place index next (suc j) (Do label variable first last step) kind e got = let h : None ≡ Some kind = got in absurd cc
-  do-none place index next j _ kind e got = let h : false ≡ true = e in absurd cc
-
   next-from : (k : ℕ) (e : Exec) (loop : Loop) → incremented e.kind ≡ Some loop → OwnAt names checked whole k e.kind ⊎ EndAt names whole k e.kind → NextAt whole k loop
   next-from k e loop is from = elim from as (λ _. NextAt whole k loop) [
     | inl own ↦ elim (cases_Bool (is_do own.s.stmt)) as (λ _. NextAt whole k loop) [
-      | inl yes_do ↦ let h : None ≡ Some loop = sym (do-none own.place (first_of whole own.place) (beyond whole own.place own.s) own.j own.s.stmt e.kind yes_do own.got) ∙ is in absurd cc
+      | inl yes_do ↦ let h : None ≡ Some loop = sym (do-own own.place (first_of whole own.place) (beyond whole own.place own.s) own.j own.s.stmt e.kind yes_do own.got).2 ∙ is in absurd cc
       | inr no_do ↦
           let none = no_loops-got (own_kinds names checked whole own.place (first_of whole own.place) (beyond whole own.place own.s) own.s.stmt) own.j e.kind (own-no_loops names checked whole own.place (first_of whole own.place) (beyond whole own.place own.s) own.s.stmt (usable-at names checked whole usable own.place own.s own.stands).inner no_do) own.got in
           let h : None ≡ Some loop = sym none.1 ∙ is in absurd cc

@@ -20,7 +20,7 @@ use Rattle.control_structure.proofs.RoleLemmas.{opened_by}
 use Rattle.control_structure.proofs.OpenSpans.{OpensAt, AreLabelled}
 use Rattle.control_laws.proofs.LoopPlaces.{first-rises}
 use Rattle.control_laws.proofs.LoopSpans.{IsDo, ends-within}
-use Rattle.control_laws.proofs.LoopRanges.{Spot, next_of, next-before, end_after-later, end_of_block-later}
+use Rattle.control_laws.proofs.LoopRanges.{Spot, next_of, past, end_after-later, end_of_block-later}
 use Rattle.control_structure.proofs.Walks.{item_at}
 
 -- ---- the arms of a block
@@ -170,9 +170,6 @@ module _ (whole : List Labelled) (are : AreLabelled whole) (ended : EndsWithEnd 
     inside-d : d < length whole
     inside-d = slice_get_within whole d spot.it.s spot.it.stands
 
-    past : (p : ℕ) → p ≤ length whole → statement_of whole label < p → next_of whole d label spot < first_of whole p
-    past p within lt = omega (arith, next-before whole d label spot, first-rises whole (statement_of whole label + 1) p (omega (arith, lt)) within)
-
     falls-block : (p : ℕ) (s : Labelled) → slice_get whole p ≡ Some s → is_arm s.stmt ≡ true → p < d → first_of whole d < first_of whole (end_of_block whole p) → first_of whole (end_of_block whole p) ≤ next_of whole d label spot → ⊥
     falls-block p s here arm lt after upto =
         let block = end_of_block whole p in
@@ -180,7 +177,7 @@ module _ (whole : List Labelled) (are : AreLabelled whole) (ended : EndsWithEnd 
         elim (cases_lt d block) as (λ _. ⊥) [
           | inl inside ↦
               let ends : statement_of whole label < block = ends-in_block p d label (begins-arm whole p s here (arm-begins s.stmt arm)) spot.it lt inside in
-              omega (arith, past block within ends, upto)
+              omega (arith, past whole d label spot block ends within, upto)
           | inr ge ↦ omega (arith, after, first-rises whole block d ge (omega (arith, inside-d)))
         ]
 

@@ -32,6 +32,14 @@ got_right [] ys n k is = ap (slice_get ys) (omega (arith, is))
 got_right (x ∷ xs) ys zero k is = absurd (omega (arith, is))
 got_right (x ∷ xs) ys (suc n) k is = got_right xs ys n k (omega (arith, is))
 
+-- the step in which a number is passed
+pub step-at : (f : ℕ → ℕ) (n k : ℕ) → f 0 ≡ 0 → k < f n → (i : ℕ) × (i < n) × (f i ≤ k) × (k < f (i + 1))
+step-at f zero k start below = absurd (omega (arith, start, below))
+step-at f (suc n) k start below = ⊎_elim
+    (λ (lt : k < f n). let at = step-at f n k start lt in (at.0, omega (arith, at.1), at.2, at.3))
+    (λ (ge : f n ≤ k). (n, omega arith, ge, omega (arith, below, ap f (suc_more n))))
+    (cases_lt k (f n))
+
 -- ---- the first executable of each statement
 
 pub first-next : (whole : List Labelled) (i : ℕ) (s : Labelled) → slice_get whole i ≡ Some s → first_of whole (i + 1) ≡ first_of whole i + executables_with_ends whole s
@@ -60,16 +68,10 @@ pub record Located (whole : List Labelled) (k : ℕ) : Type 0 where
   pub is : k ≡ first_of whole place + offset
 
 pub located : (whole : List Labelled) (n k : ℕ) → n ≤ length whole → k < first_of whole n → Located whole k
-located whole zero k within below = absurd (omega (arith, below))
-located whole (suc n) k within below =
-    let here = item_at whole n (omega (arith, within)) in
-    let s = here.0 in
-    let next = first-next whole n s here.1 in
-    let same : first_of whole (suc n) ≡ first_of whole (n + 1) = ap (first_of whole) (suc_more n) in
-    ⊎_elim
-    (λ (lt : k < first_of whole n). located whole n k (omega (arith, within)) lt)
-    (λ (ge : first_of whole n ≤ k). record { place = n; s = s; offset = k - first_of whole n; stands = here.1; within = omega (arith, ge, below, next, same); is = omega (arith, ge) })
-    (cases_lt k (first_of whole n))
+located whole n k within below =
+    let at = step-at (first_of whole) n k refl below in
+    let here = item_at whole at.0 (omega (arith, at.1, within)) in
+    record { place = at.0; s = here.0; offset = k - first_of whole at.0; stands = here.1; within = omega (arith, at.2, at.3, first-next whole at.0 here.0 here.1); is = omega (arith, at.2) }
 
 module _ (names : List NameInfo) (checked : Bool) (whole : List Labelled) (usable : All (IsUsable whole) whole) where
   pub usable-at : (i : ℕ) (s : Labelled) → slice_get whole i ≡ Some s → IsUsable whole s

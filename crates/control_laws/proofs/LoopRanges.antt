@@ -1,5 +1,5 @@
 -- The executables in the range of each DO.
-use Rattle.std.proofs.Common.{◌≡◌, ℕ, zero, suc, ◌+◌, ◌-◌, ◌<◌, ◌≤◌, Bool, true, false, not, cond, inl, inr, List, [], ◌∷◌, length, drop, All, refl, sym, ap, subst, ◌∙◌, arith, Option, Some, None}
+use Rattle.std.proofs.Common.{◌≡◌, ℕ, zero, suc, ◌+◌, ◌-◌, ◌<◌, ◌≤◌, Bool, true, false, cond, inl, inr, List, [], ◌∷◌, length, drop, All, refl, sym, ap, subst, ◌∙◌, arith, Option, Some, None}
 use Rattle.std.specs.Prelude.{slice_get, reverse}
 use Rattle.std.specs.List.{position_or_len}
 use Rattle.std.proofs.lemmas.Bool.{cases_eq, eq-eqb, eqb-true}
@@ -16,6 +16,7 @@ use Rattle.layout_rules.specs.Nesting.{first_unnested}
 use Rattle.layout_rules.specs.Tables.{IsUsable}
 use Rattle.layout_rules.specs.Executables.{own_executables, loops_above, loops_to, first_of, met, met_after, exit_after, exit_among, exit_of, increments_at}
 use Rattle.control_structure.proofs.Exits.{label-of_statement, EndsAmong, ends_among, among-length, among-exit, ends-more}
+use Rattle.control_structure.proofs.LabelLemmas.{position-passes, position-upto}
 use Rattle.control_structure.proofs.Meeting.{met-step, end_of_block-within}
 use Rattle.control_structure.proofs.OpenSpans.{AreLabelled}
 use Rattle.control_laws.proofs.LoopPlaces.{first-next, first-rises}
@@ -24,15 +25,15 @@ use Rattle.control_structure.proofs.Walks.{item_at}
 
 -- ---- where control comes to
 
+no-less : (least : ℕ) (b : Bool) (m n : ℕ) → least ≤ m → least ≤ n → least ≤ cond b m n
+no-less least true m n one other = one
+no-less least false m n one other = other
+
 pub end_after-later : (arms : Bool) (inner : ℕ) (rest : List Labelled) (place : ℕ) → place ≤ end_after arms inner rest place
 end_after-later arms inner [] place = omega arith
 end_after-later arms inner (s ∷ rest) place =
     let on : (n : ℕ) → place ≤ end_after arms n rest (place + 1) = λ n. omega (arith, end_after-later arms n rest (place + 1)) in
-    least (is_block_if s.stmt) _ _ (on (inner + 1)) (least _ place _ (omega arith) (least (is_end_if s.stmt) _ _ (on (inner - 1)) (on inner)))
-  where
-    least : (b : Bool) (m n : ℕ) → place ≤ m → place ≤ n → place ≤ cond b m n
-    least true m n one other = one
-    least false m n one other = other
+    no-less place (is_block_if s.stmt) _ _ (on (inner + 1)) (no-less place _ place _ (omega arith) (no-less place (is_end_if s.stmt) _ _ (on (inner - 1)) (on inner)))
 
 pub end_of_block-later : (whole : List Labelled) (place : ℕ) → place < end_of_block whole place
 end_of_block-later whole place = omega (arith, end_after-later false 0 (drop (place + 1) whole) (place + 1))
@@ -44,15 +45,11 @@ met-more whole zero place sum =
 met-more whole (suc n) place sum =
     let here = item_at whole place (omega (arith, sum)) in
     let block = end_of_block whole place in
+    let first = first_of whole place in
     let arm : first_of whole place ≤ first_of whole block = first-rises whole place block (omega (arith, end_of_block-later whole place)) (end_of_block-within whole place (omega (arith, sum))) in
     let rest : first_of whole (place + 1) ≤ met whole (place + 1) = met-more whole n (place + 1) (omega (arith, sum)) in
     let up = first-rises whole place (place + 1) (omega arith) (omega (arith, sum)) in
-    subst (λ (k : ℕ). first_of whole place ≤ k) (sym (met-step whole place here.0 here.1)) (by (is_arm here.0.stmt) (is_executable here.0.stmt) (first_of whole block) (met whole (place + 1)) arm (omega (arith, rest, up)))
-  where
-    by : (a b : Bool) (m n : ℕ) → first_of whole place ≤ m → first_of whole place ≤ n → first_of whole place ≤ cond a m (cond b (first_of whole place) n)
-    by true b m n one other = one
-    by false true m n one other = omega arith
-    by false false m n one other = other
+    subst (λ (k : ℕ). first_of whole place ≤ k) (sym (met-step whole place here.0 here.1)) (no-less first (is_arm here.0.stmt) _ _ arm (no-less first (is_executable here.0.stmt) first _ (omega arith) (omega (arith, rest, up))))
 
 -- control falls to no statement above
 pub met-later : (whole : List Labelled) (place : ℕ) → place ≤ length whole → first_of whole place ≤ met whole place
@@ -61,15 +58,9 @@ met-later whole place within = met-more whole (length whole - place) place (omeg
 -- ---- the first item that passes
 
 position-only : {X : Type 0} (p : X → Bool) (xs : List X) (k : ℕ) (x : X) → slice_get xs k ≡ Some x → p x ≡ true → ((j : ℕ) (y : X) → slice_get xs j ≡ Some y → p y ≡ true → j ≡ k) → position_or_len p xs ≡ k
-position-only p [] k x at passes only = let e : None ≡ Some x = at in absurd cc
-position-only p (y ∷ ys) zero x at passes only = let same : y ≡ x = cc in ap (λ b. cond (not b) (1 + position_or_len p ys) 0) (ap p same ∙ passes)
-position-only {X = X} p (y ∷ ys) (suc k) x at passes only = by (p y) refl (position-only p ys k x at passes)
-  where
-    by : (b : Bool) → p y ≡ b → (((j : ℕ) (z : X) → slice_get ys j ≡ Some z → p z ≡ true → j ≡ k) → position_or_len p ys ≡ k) → cond (not (p y)) (1 + position_or_len p ys) 0 ≡ suc k
-    by true is found = let e : 0 ≡ suc k = only 0 y refl is in absurd (omega (arith, e))
-    by false is found =
-        let rest = found (λ j z got h. let e : suc j ≡ suc k = only (suc j) z got h in omega (arith, e)) in
-        ap (λ b. cond (not b) (1 + position_or_len p ys) 0) is ∙ omega (arith, rest)
+position-only p xs k x at passes only =
+    let y = item_at xs (position_or_len p xs) (omega (arith, position-upto p xs k x at passes, slice_get_within xs k x at)) in
+    only (position_or_len p xs) y.0 y.1 (position-passes p xs y.0 y.1)
 
 number-of : (n : ℕ) (o : Option Loop) → is_number n o ≡ true → (loop : Loop) × (o ≡ Some loop) × (loop.number ≡ n)
 number-of n None e = let h : false ≡ true = e in absurd cc
@@ -129,10 +120,15 @@ module _ (whole : List Labelled) (d label : ℕ) (spot : Spot whole d label) whe
   terminal-inside : statement_of whole label + 1 ≤ length whole
   terminal-inside = omega (arith, slice_get_within whole (statement_of whole label) spot.terminal spot.stands)
 
+  -- a statement below the DO begins later, and one below the range after it
+  pub later : (p : ℕ) → d < p → p ≤ length whole → first_of whole d < first_of whole p
+  later p lt within = omega (arith, start-own, first-rises whole (d + 1) p (omega (arith, lt)) within)
+
+  pub past : (p : ℕ) → statement_of whole label < p → p ≤ length whole → next_of whole d label spot < first_of whole p
+  past p lt within = omega (arith, next-before, first-rises whole (statement_of whole label + 1) p (omega (arith, lt)) within)
+
   pub start-before : first_of whole d < next_of whole d label spot
-  start-before =
-      let up = first-rises whole (d + 1) (statement_of whole label) (omega (arith, spot.later)) (omega (arith, terminal-inside)) in
-      omega (arith, start-own, up)
+  start-before = omega (arith, later (statement_of whole label) spot.later (omega (arith, terminal-inside)))
 
   pub exit-is : exit_of whole label d ≡ exit_after whole (statement_of whole label) (next_of whole d label spot) (reverse (loops_above whole label d))
   exit-is =
@@ -160,7 +156,5 @@ next-nested whole c d outer inner one other lt le = elim (cases_eq (statement_of
       let first = ap (first_of whole) same in
       let fewer = ends-more whole outer c d (do-in whole c outer one.it) lt in
       omega (arith, own, many, above, first, fewer, among-length whole outer c one.among, among-length whole inner d other.among)
-  | inr apart ↦
-      let up = first-rises whole (statement_of whole inner + 1) (statement_of whole outer) (omega (arith, le, apart)) (omega (arith, slice_get_within whole (statement_of whole outer) one.terminal one.stands)) in
-      omega (arith, up, next-before whole d inner other)
+  | inr apart ↦ omega (arith, past whole d inner other (statement_of whole outer) (omega (arith, le, apart)) (omega (arith, slice_get_within whole (statement_of whole outer) one.terminal one.stands)))
 ]

@@ -1,8 +1,10 @@
 -- Each DO has one DoStart and one DoNext, and the ranges of DOs are nested.
-use Rattle.std.proofs.Common.{◌≡◌, ℕ, suc, ◌+◌, ◌<◌, ◌≤◌, Bool, ◌⊎◌, inl, inr, List, [], length, drop, All, refl, sym, ap, subst, ◌∙◌, arith, Some, None}
+use Rattle.std.proofs.Common.{◌≡◌, ℕ, suc, ◌+◌, ◌<◌, ◌≤◌, Bool, ◌⊎◌, inl, inr, ⊎_elim, List, [], length, drop, All, refl, sym, ap, subst, ◌∙◌, arith, Some, None, true, false, cond, take}
 use Rattle.std.specs.Prelude.{slice_get, reverse, filter}
 use Rattle.std.proofs.lemmas.Bool.{cases_lt, cases_order}
-use Rattle.std.proofs.lemmas.Option.{slice_get_within}
+use Rattle.std.proofs.lemmas.Option.{slice_get_within, get_or_from_slice_get}
+use Rattle.std.proofs.lemmas.List.{take_all}
+use Rattle.std.proofs.lemmas.List.Sums.{length-filter}
 use Rattle.f77_tree.specs.declared.programs.Exec.{Exec}
 use Rattle.f77_tree.specs.declared.programs.NameInfo.{NameInfo}
 use Rattle.f77_tree.specs.declared.statements.Labelled.{Labelled}
@@ -15,13 +17,70 @@ use Rattle.layout_rules.specs.Nesting.{first_unnested}
 use Rattle.layout_rules.specs.Tables.{IsUsable}
 use Rattle.layout_rules.specs.Executables.{own_executables, loops_above, loops_to, first_of, executables, do_variable, variable_of, is_do, loop_number, exit_after, exit_of}
 use Rattle.control_structure.proofs.OpenSpans.{AreLabelled}
-use Rattle.control_laws.proofs.LoopPlaces.{first-rises}
-use Rattle.control_laws.proofs.LoopKinds.{loop_of, next_loop}
-use Rattle.control_laws.proofs.LoopBegins.{begun-exec, incremented-exec, start-at, start-only, next-at, next-only}
-use Rattle.control_laws.proofs.LoopEnds.{AllOf-got, IsEnding, ends-dos, among-got, among-outer, among-once}
-use Rattle.control_laws.proofs.LoopSpans.{IsDo, do-from, opens-do, ends-nested}
-use Rattle.control_laws.proofs.LoopNumbers.{is_do-do, number-once, number-rises, numbered, number-below}
-use Rattle.control_laws.proofs.LoopRanges.{position-number, Spot, next_of, spot-of, next-before, start-own, start-before, exit-is, exit-later, next-nested}
+use Rattle.f77_tree.specs.declared.statements.Stmt.{Stmt}
+use Rattle.control_structure.proofs.OwnExecutables.{sum-more}
+use Rattle.control_structure.proofs.Walks.{item_at}
+use Rattle.control_laws.proofs.LoopPlaces.{step-at, sum-rises}
+use Rattle.control_laws.proofs.LoopBegins.{begun-exec, incremented-exec, start-at, start-only, next-at, next-only, loop_of, next_loop}
+use Rattle.control_laws.proofs.LoopSpans.{IsDo, ends-do, opens-do, ends-nested, among-got, among-outer, among-once}
+use Rattle.control_laws.proofs.LoopRanges.{position-number, Spot, next_of, spot-of, start-before, exit-is, exit-later, next-nested, later, past}
+
+pub is_do-do : (whole : List Labelled) (d : ℕ) (s : Labelled) → slice_get whole d ≡ Some s → is_do s.stmt ≡ true → (label : ℕ) × IsDo whole d label
+is_do-do whole d s here is = by s.stmt refl is
+  where
+    by : (stmt : Stmt) → s.stmt ≡ stmt → is_do stmt ≡ true → (label : ℕ) × IsDo whole d label
+    by (Do label variable first last step) same e = (label, record { s = s; variable = variable; first = first; last = last; step = step; stands = here; is = same })
+    by _ same e = let h : false ≡ true = e in absurd cc
+
+number-next : (whole : List Labelled) (i : ℕ) (s : Labelled) → slice_get whole i ≡ Some s → loop_number whole (i + 1) ≡ loop_number whole i + cond (is_do s.stmt) 1 0
+number-next whole i s here =
+    let p : Labelled → Bool = λ t. is_do t.stmt in
+    let more = sum-more (λ (t : Labelled). cond (is_do t.stmt) 1 0) whole i s (slice_get_within whole i s here) (sym (get_or_from_slice_get whole i s s here)) in
+    omega (arith, length-filter p (take (i + 1) whole), length-filter p (take i whole), more)
+
+bit : (b : Bool) (m n k : ℕ) → n ≡ m + cond b 1 0 → m ≤ k → k < n → (b ≡ true) × (k ≡ m)
+bit true m n k is le lt = (refl, omega (arith, is, le, lt))
+bit false m n k is le lt = absurd (omega (arith, is, le, lt))
+
+pub number-rises : (whole : List Labelled) (i j : ℕ) → i ≤ j → j ≤ length whole → loop_number whole i ≤ loop_number whole j
+number-rises whole i j le within =
+    let p : Labelled → Bool = λ t. is_do t.stmt in
+    omega (arith, length-filter p (take i whole), length-filter p (take j whole), sum-rises (λ (t : Labelled). cond (is_do t.stmt) 1 0) whole i j le)
+
+-- a later DO has a greater number
+pub number-less : (whole : List Labelled) (c d label : ℕ) → IsDo whole c label → c < d → d ≤ length whole → loop_number whole c < loop_number whole d
+number-less whole c d label it lt within =
+    let next : loop_number whole (c + 1) ≡ loop_number whole c + 1 = number-next whole c it.s it.stands ∙ ap (λ (t : Stmt). loop_number whole c + cond (is_do t) 1 0) it.is in
+    omega (arith, next, number-rises whole (c + 1) d (omega (arith, lt)) within)
+
+-- each DO has a number of its own
+pub number-once : (whole : List Labelled) (c d outer inner : ℕ) → IsDo whole c outer → IsDo whole d inner → loop_number whole c ≡ loop_number whole d → c ≡ d
+number-once whole c d outer inner one other same =
+    let less : c < d → ⊥ = λ lt. omega (arith, same, number-less whole c d outer one lt (omega (arith, slice_get_within whole d other.s other.stands))) in
+    let more : d < c → ⊥ = λ lt. omega (arith, same, number-less whole d c inner other lt (omega (arith, slice_get_within whole c one.s one.stands))) in
+    omega (arith, less, more)
+
+-- the DO with this number
+pub record Numbered (whole : List Labelled) (n : ℕ) : Type 0 where
+  pub d : ℕ
+  pub label : ℕ
+  pub it : IsDo whole d label
+  pub number : loop_number whole d ≡ n
+
+-- there are as many numbers as DOs
+pub count-is : (whole : List Labelled) → length (filter (λ s. is_do s.stmt) whole) ≡ loop_number whole (length whole)
+count-is whole = sym (ap (λ (xs : List Labelled). length (filter (λ (s : Labelled). is_do s.stmt) xs)) (take_all (length whole) whole (omega arith)))
+
+pub numbered : (whole : List Labelled) (n : ℕ) → n < length (filter (λ s. is_do s.stmt) whole) → Numbered whole n
+numbered whole n lt =
+    let at = step-at (loop_number whole) (length whole) n refl (omega (arith, lt, count-is whole)) in
+    let here = item_at whole at.0 at.1 in
+    let is = bit (is_do here.0.stmt) (loop_number whole at.0) (loop_number whole (at.0 + 1)) n (number-next whole at.0 here.0 here.1) at.2 at.3 in
+    let it = is_do-do whole at.0 here.0 here.1 is.0 in
+    record { d = at.0; label = it.0; it = it.1; number = sym is.1 }
+
+pub number-below : (whole : List Labelled) (d label : ℕ) → IsDo whole d label → loop_number whole d < length (filter (λ s. is_do s.stmt) whole)
+number-below whole d label it = omega (arith, count-is whole, number-less whole d (length whole) label it (slice_get_within whole d it.s it.stands) (omega arith))
 
 -- a DO names one label
 pub label-once : (whole : List Labelled) (d a b : ℕ) → IsDo whole d a → IsDo whole d b → a ≡ b
@@ -73,8 +132,7 @@ module _ (names : List NameInfo) (checked : Bool) (whole : List Labelled) (usabl
     pub next-once : (k : ℕ) (other : Loop) → incremented_at execs k ≡ Some other → other.number ≡ loop_number whole d → k ≡ next_of whole d label spot
     next-once k other is number =
         let at = next-only names checked whole usable k other is in
-        let passes = AllOf-got (IsEnding whole at.s.label (length whole)) (loops_to whole at.s.label) at.m at.d (ends-dos whole at.s.label (length whole)) at.got in
-        let one = do-from whole at.d at.s.label passes.0 in
+        let one = ends-do whole at.s.label at.m at.d at.got in
         let same : at.d ≡ d = number-once whole at.d d at.s.label label one spot.it (sym at.number ∙ number) in
         let its : at.s.label ≡ label = label-once whole d at.s.label label (subst (λ (c : ℕ). IsDo whole c at.s.label) same one) spot.it in
         let own : statement_of whole at.s.label ≡ at.place = are.places at.place at.s at.stands (are.loops at.d at.s.label (opens-do whole at.d at.s.label one)) in
@@ -125,8 +183,7 @@ module _ (names : List NameInfo) (checked : Bool) (whole : List Labelled) (usabl
   pub nexts-below : (k : ℕ) (loop : Loop) → incremented_at execs k ≡ Some loop → loop.number < length (filter (λ s. is_do s.stmt) whole)
   nexts-below k loop is =
       let at = next-only names checked whole usable k loop is in
-      let passes = AllOf-got (IsEnding whole at.s.label (length whole)) (loops_to whole at.s.label) at.m at.d (ends-dos whole at.s.label (length whole)) at.got in
-      omega (arith, at.number, number-below whole at.d at.s.label (do-from whole at.d at.s.label passes.0))
+      omega (arith, at.number, number-below whole at.d at.s.label (ends-do whole at.s.label at.m at.d at.got))
 
   -- ---- two DOs
 
@@ -138,9 +195,7 @@ module _ (names : List NameInfo) (checked : Bool) (whole : List Labelled) (usabl
 
   pub starts-apart : (c d outer inner : ℕ) → IsDo whole c outer → IsDo whole d inner → c < d → first_of whole c < first_of whole d
   starts-apart c d outer inner one other lt =
-      let own = start-own whole c outer (spot-of names checked whole usable are ended nested c outer one) in
-      let up = first-rises whole (c + 1) d (omega (arith, lt)) (omega (arith, slice_get_within whole d other.s other.stands)) in
-      omega (arith, own, up)
+      later whole c outer (spot-of names checked whole usable are ended nested c outer one) d lt (omega (arith, slice_get_within whole d other.s other.stands))
 
   pub starts-rise : (m n : ℕ) → m < n → n < length (filter (λ s. is_do s.stmt) whole) → do_start execs m < do_start execs n
   starts-rise m n lt below =
@@ -162,9 +217,8 @@ module _ (names : List NameInfo) (checked : Bool) (whole : List Labelled) (usabl
       let its_next = next-is d inner within in
       elim (cases_lt (statement_of whole outer) d) as (λ _. Holds execs (loop_number whole c) (loop_number whole d) ⊎ ShareNone execs (loop_number whole c) (loop_number whole d)) [
         | inl apart ↦
-            let up = first-rises whole (statement_of whole outer + 1) d (omega (arith, apart)) (omega (arith, slice_get_within whole d other.s other.stands)) in
-            let before = next-before whole c outer spot in
-            inr (λ k a b. omega (arith, a.up_to_next, b.after_start, next, its_start, up, before))
+            let before = past whole c outer spot d apart (omega (arith, slice_get_within whole d other.s other.stands)) in
+            inr (λ k a b. omega (arith, a.up_to_next, b.after_start, next, its_start, before))
         | inr le ↦
             let ends = ends-nested whole are ended nested c d outer inner one other lt le in
             let reach = next-nested whole c d outer inner spot within lt ends.1 in
@@ -178,14 +232,8 @@ module _ (names : List NameInfo) (checked : Bool) (whole : List Labelled) (usabl
       elim (cases_order c d) as (λ _. P) [
         | inl same ↦ inl (subst (λ (e : ℕ). Holds execs (loop_number whole c) (loop_number whole e)) same (λ k inside. inside))
         | inr order ↦ elim order as (λ _. P) [
-          | inl lt ↦ elim (ordered c d outer inner one other lt) as (λ _. P) [
-            | inl holds ↦ inl holds
-            | inr none ↦ inr (inr none)
-          ]
-          | inr gt ↦ elim (ordered d c inner outer other one gt) as (λ _. P) [
-            | inl holds ↦ inr (inl holds)
-            | inr none ↦ inr (inr (λ k a b. none k b a))
-          ]
+          | inl lt ↦ ⊎_elim inl (λ none. inr (inr none)) (ordered c d outer inner one other lt)
+          | inr gt ↦ ⊎_elim (λ holds. inr (inl holds)) (λ none. inr (inr (λ k a b. none k b a))) (ordered d c inner outer other one gt)
         ]
       ]
 

@@ -1,7 +1,6 @@
 -- The DO loops of the executables of a program.
 use Rattle.std.proofs.Common.{◌≡◌, ℕ, suc, ◌+◌, ◌<◌, ◌≤◌, Bool, true, false, inl, inr, List, [], length, drop, All, get_or, refl, sym, ap, subst, ◌∙◌, arith, Option, Some, None}
 use Rattle.std.specs.Prelude.{slice_get, filter, Contains}
-use Rattle.std.proofs.lemmas.Bool.{cases_Bool}
 use Rattle.std.proofs.lemmas.Option.{slice_get-get_or}
 use Rattle.f77_tree.specs.declared.programs.Exec.{Exec}
 use Rattle.f77_tree.specs.declared.programs.ExecKind.{ExecKind}
@@ -13,29 +12,26 @@ use Rattle.f77_tree.specs.Control.{successors, successors_in, LeadsTo}
 use Rattle.f77_tree.specs.Loops.{incremented, incremented_in, incremented_at, IsEnteredAtStart, AreLoops}
 use Rattle.layout_rules.specs.Faults.{first_line}
 use Rattle.layout_rules.specs.Source.{IsSource, EndsWithEnd}
-use Rattle.layout_rules.specs.Labels.{jumps, statement_of, is_labelled_twice, lacks_label}
+use Rattle.layout_rules.specs.Labels.{statement_of, is_labelled_twice, lacks_label}
 use Rattle.layout_rules.specs.Jumps.{jumps_into}
 use Rattle.layout_rules.specs.Nesting.{first_unnested}
 use Rattle.layout_rules.specs.Tables.{IsUsable}
-use Rattle.layout_rules.specs.Executables.{own_executables, own_kinds, loops_to, first_of, labelled, beyond, executables, is_do, is_do_in, loop_number, exit_after}
+use Rattle.layout_rules.specs.Executables.{own_executables, loops_to, first_of, executables, is_do, is_do_to, is_do_in, loop_number, exit_after}
 use Rattle.control_structure.proofs.SourceLabels.{AreLabelled-source}
 use Rattle.control_structure.proofs.OpenSpans.{AreLabelled}
 use Rattle.control_structure.proofs.Usable.{usable as usable_source}
 use Rattle.control_structure.proofs.Exits.{AllOf}
 use Rattle.control_laws.proofs.LoopPlaces.{usable-at}
-use Rattle.control_laws.proofs.LoopKinds.{next_loop}
-use Rattle.control_laws.proofs.LoopBegins.{OwnAt, EndAt, comes}
-use Rattle.control_laws.proofs.LoopEnds.{AllOf-got, IsEnding, ends-dos}
-use Rattle.control_laws.proofs.LoopSpans.{IsDo, do-from, opens-do}
-use Rattle.control_laws.proofs.LoopNumbers.{numbered}
+use Rattle.control_laws.proofs.LoopBegins.{OwnAt, EndAt, comes, next_loop}
+use Rattle.control_laws.proofs.LoopSpans.{IsDo, do-from, ends-do, opens-do, AllOf-got}
 use Rattle.control_laws.proofs.LoopRanges.{Spot, next_of, spot-of}
-use Rattle.control_laws.proofs.LoopsHold.{start-is, next-once, next-is, is_loop, starts-below, nexts-below, starts-rise, ranges-nested}
-use Rattle.control_laws.proofs.LoopSuccessors.{each-got, own-leads, do-leads, AllOf-from}
+use Rattle.control_laws.proofs.LoopsHold.{start-is, next-once, next-is, is_loop, starts-below, nexts-below, starts-rise, ranges-nested, numbered}
+use Rattle.control_laws.proofs.LoopSuccessors.{own-lead}
 use Rattle.control_laws.proofs.LoopEntries.{Into, into-next, is-do, after-into, met-into, stop-into, jump-into, false-into, start-into, end-into, body-into}
 
-own-single : (stmt : Stmt) → is_do stmt ≡ true → own_executables stmt ≡ 1
-own-single (Do label variable first last step) is = refl
-own-single _ is = let h : false ≡ true = is in absurd cc
+own-single : (label : ℕ) (stmt : Stmt) → is_do_to label stmt ≡ true → own_executables stmt ≡ 1
+own-single label (Do terminal variable first last step) is = refl
+own-single label _ is = let h : false ≡ true = is in absurd cc
 
 all-contained : (P : ℕ → Type 0) (xs : List ℕ) (s : ℕ) → AllOf P xs → Contains xs s → P s
 all-contained P xs s all in_list = subst P in_list.2 (AllOf-got P xs in_list.0 (get_or xs in_list.0 s) all (slice_get-get_or xs in_list.0 s in_list.1))
@@ -48,36 +44,30 @@ module _ (names : List NameInfo) (checked : Bool) (whole : List Labelled) (usabl
     abbrev P : ℕ → Type 0
     P = Into (first_of whole d) (next_of whole d label spot) k
 
-    leads-do : (kind : ExecKind) (at : OwnAt names checked whole k kind) → is_do at.s.stmt ≡ true → AllOf P (successors kind)
-    leads-do kind at its =
+    leads-own : (kind : ExecKind) (at : OwnAt names checked whole k kind) → AllOf P (successors kind)
+    leads-own kind at =
         let index = first_of whole at.place in
-        let next = beyond whole at.place at.s in
-        let first : k ≡ index = omega (arith, at.at, at.own, own-single at.s.stmt its) in
-        each-got names checked whole k P index at.j (own_kinds names checked whole at.place index next at.s.stmt) kind
-        (do-leads names checked whole k P at.place index next at.s.stmt its (λ s is. into-next (first_of whole d) (next_of whole d label spot) k s outside is)
-        (λ other ends. start-into names checked whole usable are ended nested d label spot at.place other (spot-of names checked whole usable are ended nested at.place other (do-from whole at.place other (ap (is_do_in other) at.stands ∙ ends))) k first outside)) at.got at.at
-
-    leads-other : (kind : ExecKind) (at : OwnAt names checked whole k kind) → is_do at.s.stmt ≡ false → AllOf P (successors kind)
-    leads-other kind at other =
-        let index = first_of whole at.place in
-        let next = beyond whole at.place at.s in
-        let apart : d ≡ at.place → ⊥ = is-do whole d label at.place at.s spot.it at.stands other in
         let out : first_of whole d < index + at.j → index + at.j ≤ next_of whole d label spot → ⊥ = λ x y. outside (omega (arith, x, at.at)) (omega (arith, y, at.at)) in
-        let each = own-leads names checked whole k P at.place index next at.s.stmt (usable-at names checked whole usable at.place at.s at.stands).inner other
-        (after-into names checked whole usable are ended nested d label spot at.place at.j at.s at.stands at.own out k apart)
+        let apart : is_do at.s.stmt ≡ false → d ≡ at.place → ⊥ = is-do whole d label at.place at.s spot.it at.stands in
+        own-lead names checked whole k P kind at (usable-at names checked whole usable at.place at.s at.stands).inner
         (stop-into names checked whole usable are ended nested d label spot at.place at.j at.s at.stands at.own out k)
         (λ s is. into-next (first_of whole d) (next_of whole d label spot) k s outside is)
-        (AllOf-from (λ l. P (labelled whole l)) (jumps at.s.stmt) (λ m x got. jump-into names checked whole usable are ended nested d label spot at.place at.j at.s at.stands at.own out k m x none got))
-        (λ arm. (met-into names checked whole usable are ended nested d label spot at.place at.j at.s at.stands at.own out k apart, false-into names checked whole usable are ended nested d label spot at.place at.j at.s at.stands at.own out k apart arm)) in
-        each-got names checked whole k P index at.j (own_kinds names checked whole at.place index next at.s.stmt) kind each at.got at.at
+        (λ m x got. jump-into names checked whole usable are ended nested d label spot at.place at.j at.s at.stands at.own out k m x none got)
+        (λ its ends. start-into names checked whole usable are ended nested d label spot at.place its (spot-of names checked whole usable are ended nested at.place its (do-from whole at.place its (ap (is_do_in its) at.stands ∙ ends))) k (omega (arith, at.at, at.own, own-single its at.s.stmt ends)) outside)
+        (λ other. (
+          after-into names checked whole usable are ended nested d label spot at.place at.j at.s at.stands at.own out k (apart other),
+          λ arm. (
+            met-into names checked whole usable are ended nested d label spot at.place at.j at.s at.stands at.own out k (apart other),
+            false-into names checked whole usable are ended nested d label spot at.place at.j at.s at.stands at.own out k (apart other) arm,
+          ),
+        ))
 
     leads-end : (e : Exec) → slice_get execs k ≡ Some e → EndAt names whole k e.kind → AllOf P (successors e.kind)
     leads-end e is at =
         let c = at.d in
         let its = at.s.label in
         let outer = drop (suc at.m) (loops_to whole its) in
-        let passes = AllOf-got (IsEnding whole its (length whole)) (loops_to whole its) at.m c (ends-dos whole its (length whole)) at.got in
-        let it = do-from whole c its passes.0 in
+        let it = ends-do whole its at.m c at.got in
         let one = spot-of names checked whole usable are ended nested c its it in
         let place : statement_of whole its ≡ at.place = are.places at.place at.s at.stands (are.loops c its (opens-do whole c its it)) in
         let told : incremented_at execs k ≡ Some (next_loop names whole at.place c k outer) = ap incremented_in is ∙ ap incremented at.is in
@@ -89,10 +79,7 @@ module _ (names : List NameInfo) (checked : Bool) (whole : List Labelled) (usabl
 
     leads : (e : Exec) → slice_get execs k ≡ Some e → AllOf P (successors e.kind)
     leads e is = elim (comes names checked whole usable k e is) as (λ _. AllOf P (successors e.kind)) [
-      | inl own ↦ elim (cases_Bool (is_do own.s.stmt)) as (λ _. AllOf P (successors e.kind)) [
-        | inl its ↦ leads-do e.kind own its
-        | inr other ↦ leads-other e.kind own other
-      ]
+      | inl own ↦ leads-own e.kind own
       | inr end ↦ leads-end e is end
     ]
 

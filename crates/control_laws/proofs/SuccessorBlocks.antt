@@ -1,5 +1,5 @@
 -- Where statements are nested right, each block of IF and each arm ends at a statement.
-use Rattle.std.proofs.Common.{◌≡◌, ◌≢◌, ℕ, suc, zero, ◌+◌, ◌-◌, ◌<◌, Bool, true, false, ◌||◌, ◌&&◌, ◌==◌, cond, List, [], ◌∷◌, drop, Option, Some, None, refl, sym, ap, subst, ◌∙◌, arith, ⊎_elim}
+use Rattle.std.proofs.Common.{◌≡◌, ◌≢◌, ℕ, suc, zero, ◌+◌, ◌-◌, ◌<◌, Bool, true, false, ◌||◌, ◌&&◌, ◌==◌, cond, List, [], ◌∷◌, drop, Some, None, refl, sym, ap, subst, ◌∙◌, arith, ⊎_elim}
 use Rattle.std.specs.Prelude.{slice_get}
 use Rattle.std.proofs.lemmas.Bool.{and_parts, cases_eq, eq-eqb}
 use Rattle.f77_tree.specs.declared.statements.Labelled.{Labelled}
@@ -92,15 +92,12 @@ module _ (arms : Bool) where
   -- a block or an arm whose IF, ELSE IF or ELSE stands at this place ends after it
   begins : (stmts : List Labelled) (stack : List Opened) → IsEnded stmts → first_unnested stack stmts ≡ None → (i : ℕ) (s : Labelled) → slice_get stmts i ≡ Some s → (is_block_if s.stmt || is_arm s.stmt) ≡ true → (place : ℕ) → EndsAt arms 0 (drop (suc i) stmts) place
   begins [] stack ended none i s here heads place = absurd ended
-  begins (t ∷ []) stack ended none zero s here heads place = absurd (by t.stmt ended (ap (λ (o : Option Labelled). heads_in o) here ∙ heads))
-    where
-      heads_in : Option Labelled → Bool
-      heads_in None = true
-      heads_in (Some u) = is_block_if u.stmt || is_arm u.stmt
-
-      by : (stmt : Stmt) → stmt ≡ End → (is_block_if stmt || is_arm stmt) ≡ true → ⊥
-      by End e f = let h : false ≡ true = f in absurd cc
-      by _ e f = absurd cc
+  begins (t ∷ []) stack ended none zero s here heads place =
+      let h : Some t ≡ Some s = here in
+      let same : t ≡ s = cc in
+      let goes = goes_on t [] stack none in
+      let some = heads-block t stack goes.beyond (ap (λ (u : Labelled). is_block_if u.stmt || is_arm u.stmt) same ∙ heads) goes.is in
+      absurd (omega (arith, some, after-blocks t stack goes.beyond goes.is, ap blocks_in (nothing-at-end t stack ended none), ap (λ (stmt : Stmt). one_if (is_block_if stmt)) ended))
   begins (t ∷ []) stack ended none (suc i) s here heads place = let h : None ≡ Some s = here in absurd cc
   begins (t ∷ next ∷ rest) stack ended none zero s here heads place =
       let h : Some t ≡ Some s = here in

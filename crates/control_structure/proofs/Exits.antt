@@ -1,13 +1,19 @@
 -- Where control goes after a DO, by how many DOs above it end at the same label.
-use Rattle.std.proofs.Common.{◌≡◌, ℕ, suc, zero, ◌+◌, ◌-◌, ◌<◌, Bool, true, false, eqb, cond, List, [], ◌∷◌, ◌++◌, length, refl, sym, ap, subst, ◌∙◌, arith, Some, append-nil, length-append}
-use Rattle.std.specs.Prelude.{slice_get, reverse}
+use Rattle.std.proofs.Common.{◌≡◌, ℕ, suc, zero, ◌+◌, ◌-◌, ◌<◌, Bool, true, false, eqb, cond, List, [], ◌∷◌, ◌++◌, length, refl, sym, ap, subst, ◌∙◌, arith, Some, append-nil, length-append, ◌≤◌, get_or, Option, None}
+use Rattle.std.specs.Prelude.{slice_get, reverse, sum_by}
 use Rattle.std.proofs.Math.Dec.{eqb-suc-zero}
 use Rattle.std.proofs.lemmas.Bool.{eq-eqb, ne_eqb, eqb-true}
 use Rattle.std.proofs.lemmas.List.{reverse-append, length-reverse}
+use Rattle.std.proofs.lemmas.Option.{slice_get_within, get_or_from_slice_get}
+use Rattle.std.proofs.lemmas.List.Sums.{sum_by_more_le}
 use Rattle.f77_tree.specs.declared.statements.Labelled.{Labelled}
 use Rattle.layout_rules.specs.Labels.{statement_of}
-use Rattle.layout_rules.specs.Executables.{is_do_in, loops_above, loops_to, met, exit_after, exit_among}
-use Rattle.control_structure.proofs.LabelTables.{position-passes}
+use Rattle.layout_rules.specs.Executables.{is_do_in, loops_above, loops_to, met, exit_after, exit_among, own_executables, executables_with_ends, is_do_to, is_else_at, first_of, when_false, increments_at, exit_of}
+use Rattle.f77_tree.specs.declared.statements.Stmt.{Stmt}
+use Rattle.f77_tree.specs.declared.statements.Stmt.TheVariants.{Do}
+use Rattle.layout_rules.specs.Jumps.{end_of_arm}
+use Rattle.layout_rules.specs.Tables.{rank, rank_at, rank_of}
+use Rattle.control_structure.proofs.LabelLemmas.{position-passes}
 use Rattle.control_structure.proofs.LoopTables.{loops_above-next}
 
 -- the statement with a label has that label
@@ -79,3 +85,64 @@ module _ (stmts : List Labelled) (label terminal : ℕ) where
 -- a DO further down has more above it
 pub ends-more : (stmts : List Labelled) (label c d : ℕ) → is_do_in label (slice_get stmts c) ≡ true → c < d → length (loops_above stmts label c) < length (loops_above stmts label d)
 ends-more stmts label c d is above = omega (arith, among-length stmts label c (ends_among stmts label c d above is), length-reverse (loops_above stmts label d))
+
+-- ---- what is looked up in the tables
+
+pub when_false-is : (stmts : List Labelled) (place end : ℕ) (b : Bool) → end ≡ end_of_arm stmts place → is_else_at (slice_get stmts end) ≡ b → cond b (met stmts (end + 1)) (first_of stmts end) ≡ when_false stmts place
+when_false-is stmts place end b is other =
+    sym (ap (λ e. cond (is_else_at (slice_get stmts e)) (met stmts (e + 1)) (first_of stmts e)) (sym is) ∙ ap (λ b. cond b (met stmts (end + 1)) (first_of stmts end)) other)
+
+-- the executables up to and with a statement's
+pub executables-within : (stmts : List Labelled) (place : ℕ) (s : Labelled) → place < length stmts → s ≡ get_or stmts place s → first_of stmts place + (own_executables s.stmt + length (loops_to stmts s.label)) ≤ sum_by (executables_with_ends stmts) stmts
+executables-within stmts place s inside is =
+    let more = sum_by_more_le (executables_with_ends stmts) stmts place s inside in
+    omega (arith, more, ap (executables_with_ends stmts) is)
+
+module _ (stmts : List Labelled) (label place : ℕ) (inside : place < length stmts) (is : is_do_in label (slice_get stmts place) ≡ true) where
+  pub exit-outermost : length (loops_above stmts label place) ≡ 0 → met stmts (statement_of stmts label + 1) ≡ exit_of stmts label place
+  exit-outermost none =
+      let terminal = statement_of stmts label in
+      let increment = increments_at stmts terminal (slice_get stmts terminal) in
+      sym (exit-by_rank stmts label terminal place increment inside is ∙ ap (λ b. cond b (met stmts (terminal + 1)) (increment + (length (loops_to stmts label) - length (loops_above stmts label place)))) (eq-eqb _ 0 none))
+
+  pub exit-inner : (s : Labelled) → slice_get stmts (statement_of stmts label) ≡ Some s → 0 < length (loops_above stmts label place) → first_of stmts (statement_of stmts label) + own_executables s.stmt + (length (loops_to stmts label) - length (loops_above stmts label place)) ≡ exit_of stmts label place
+  exit-inner s at some =
+      let terminal = statement_of stmts label in
+      let increment = increments_at stmts terminal (slice_get stmts terminal) in
+      sym (exit-by_rank stmts label terminal place increment inside is
+      ∙ ap (λ b. cond b (met stmts (terminal + 1)) (increment + (length (loops_to stmts label) - length (loops_above stmts label place)))) (ne_eqb _ 0 (λ e. absurd (omega arith)))
+      ∙ ap (λ o. increments_at stmts terminal o + (length (loops_to stmts label) - length (loops_above stmts label place))) at)
+
+-- ranks of DOs
+pub rank-do : (stmts : List Labelled) (label place : ℕ) → is_do_in label (slice_get stmts place) ≡ true → rank stmts place ≡ length (loops_above stmts label place)
+rank-do stmts label place is = by (slice_get stmts place) is
+  where
+    of : (stmt : Stmt) → is_do_to label stmt ≡ true → rank_of stmts place stmt ≡ length (loops_above stmts label place)
+    of (Do terminal variable first last step) e = ap (λ l. length (loops_above stmts l place)) (eqb-true terminal label e)
+    of _ e = let h : false ≡ true = e in absurd cc
+
+    by : (o : Option Labelled) → is_do_in label o ≡ true → rank_at stmts place o ≡ length (loops_above stmts label place)
+    by None e = let h : false ≡ true = e in absurd cc
+    by (Some s) e = of s.stmt e
+
+-- the exit of a DO in numbers that are looked up
+pub record IsExit (stmts : List Labelled) (label place first own len outer : ℕ) : Type 0 where
+  pub inner : outer < len
+  pub fits : first + own + len ≤ sum_by (executables_with_ends stmts) stmts
+  pub exit : 0 < outer → first + own + (len - outer) ≡ exit_of stmts label place
+
+pub exit-numbers : (stmts : List Labelled) (label place first own len outer : ℕ) (s : Labelled) → place < length stmts → is_do_in label (slice_get stmts place) ≡ true → slice_get stmts (statement_of stmts label) ≡ Some s → first ≡ first_of stmts (statement_of stmts label) → own ≡ own_executables s.stmt → len ≡ length (loops_above stmts label (length stmts)) → outer ≡ length (loops_above stmts label place) → IsExit stmts label place first own len outer
+exit-numbers stmts label place first own len outer s inside is at first_is own_is len_is outer_is =
+    let terminal = statement_of stmts label in
+    let all = length-reverse (loops_above stmts label (length stmts)) in
+    let there = slice_get_within stmts terminal s at in
+    let same : s ≡ get_or stmts terminal s = sym (get_or_from_slice_get stmts terminal s s at) in
+    let e = executables-within stmts terminal s there same in
+    let l = ap (λ k. length (loops_to stmts k)) (label-of_statement stmts label s at) in
+    record {
+      inner = omega (arith, ends-more stmts label place (length stmts) is inside);
+      fits = omega (arith, e, l, all);
+      exit = λ some.
+          let value = exit-inner stmts label place inside is s at (omega arith) in
+          omega (arith, value, all);
+    }

@@ -17,11 +17,10 @@ use Rattle.layout_rules.specs.Nesting.{first_unnested, arm_in_place, after_role}
 use Rattle.control_structure.specs.Innermost.{AreNested}
 use Rattle.control_structure.specs.OpenStack.{ends_at, begun, kind}
 use Rattle.control_structure.proofs.RoleLemmas.{opened_by, last_of}
-use Rattle.control_structure.proofs.OpenSpans.{OpensAt, after_of, after_entry, AreLabelled, AreFalling, AreWithin, Has, Stands}
-use Rattle.control_structure.proofs.OpenSteps.{held, Keeps-after, not_refused}
+use Rattle.control_structure.proofs.OpenSpans.{OpensAt, after_of, after_entry, AreLabelled, AreFalling, AreWithin, Has, Stands, held, Keeps-after, not_refused}
 use Rattle.control_structure.proofs.Walks.{item_at, unnested_from, goes_on, nothing_at_end, AreWithin-nested, AreWithin-held}
 use Rattle.control_structure.proofs.NestingWalk.{IsWalk-begin}
-use Rattle.control_structure.proofs.InnermostSpans.{span_opens, has-top, reaches, last_le}
+use Rattle.control_structure.proofs.InnermostSpans.{span_opens, has-within, has-top, reaches, last_le}
 
 -- ---- the stack at each place
 
@@ -52,13 +51,6 @@ held-loop LastArm i label h terminal rest beyond is = let e : None ≡ Some beyo
 held-loop EndBlock i label h terminal rest beyond is = let e : None ≡ Some beyond = is in absurd cc
 held-loop _ i label h terminal rest beyond is = refl
 
-has-below : (stmts : List Labelled) (h : ℕ) (p : Opened) (place : ℕ) (stack : List Entry) → AreFalling place stack → Has h p stack → h < place
-has-below stmts h p place [] falling has = absurd has
-has-below stmts h p place (e ∷ rest) falling has = elim has as (λ _. h < place) [
-  | inl top ↦ omega (arith, top.0, falling.0)
-  | inr deeper ↦ (let less = has-below stmts h p e.begin rest falling.1 deeper in omega (arith, less, falling.0))
-]
-
 -- of two entries the one that begins later ends no later
 pub nested_entries : (stmts : List Labelled) (place low g h : ℕ) (o p : Opened) (stack : List Entry) → AreFalling place stack → AreWithin stmts low stack → Has g o stack → Has h p stack → g < h → after_of stmts h p ≤ after_of stmts g o
 nested_entries stmts place low g h o p [] falling within outer inner lt = absurd outer
@@ -67,7 +59,7 @@ nested_entries stmts place low g h o p (e ∷ rest) falling within outer inner l
       let here : after_of stmts h p ≡ after_entry stmts e = ap (λ (n : ℕ). after_of stmts n p) (sym top.0) ∙ ap (after_of stmts e.begin) (sym top.1) in
       let below = (has-top stmts g o e rest falling.1 within.1 outer).beyond in omega (arith, here, below)
   | inr deeper ↦ elim outer as (λ _. after_of stmts h p ≤ after_of stmts g o) [
-    | inl first ↦ let less = (has-below stmts h p e.begin rest falling.1 deeper) in absurd (omega (arith, less, first.0, lt))
+    | inl first ↦ absurd (omega (arith, (has-within stmts e.begin (after_entry stmts e) h p rest falling.1 within.1 deeper).0, first.0, lt))
     | inr below ↦ nested_entries stmts e.begin (after_entry stmts e) g h o p rest falling.1 within.1 below deeper lt
   ]
 ]
@@ -108,17 +100,13 @@ module _ (stmts : List Labelled) (are : AreLabelled stmts) (ended : EndsWithEnd 
 
   -- END opens nothing
   pub before_end : (h : ℕ) (o : Opened) → OpensAt stmts h o → h + 1 < length stmts
-  before_end h o opens = elim (cases_lt (h + 1) (length stmts)) as (λ _. h + 1 < length stmts) [
-    | inl lt ↦ lt
-    | inr le ↦
-        let inside = slice_get_within stmts h opens.s opens.stands in
-        let place : h ≡ length stmts - 1 = omega (arith, le, inside) in
-        let at : slice_get stmts h ≡ Some ended.last = ap (slice_get stmts) place ∙ ended.stands in
-        let stands = opens.stands in
-        let same : opens.s ≡ ended.last = cc in
-        let e : None ≡ Some o = sym (ap (λ (t : Labelled). opened_by (role_of t.stmt)) same ∙ ap (λ (t : Stmt). opened_by (role_of t)) ended.is) ∙ opens.opens in
-        absurd cc
-  ]
+  before_end h o opens =
+      let last : h ≡ length stmts - 1 → ⊥ = λ place.
+      let both : Some opens.s ≡ Some ended.last = sym opens.stands ∙ (ap (slice_get stmts) place ∙ ended.stands) in
+      let same : opens.s ≡ ended.last = cc in
+      let e : None ≡ Some o = sym (ap (λ (t : Labelled). opened_by (role_of t.stmt)) same ∙ ap (λ (t : Stmt). opened_by (role_of t)) ended.is) ∙ opens.opens in
+      absurd cc in
+      omega (arith, last, slice_get_within stmts h opens.s opens.stands)
 
   reaches_on : (h : ℕ) (o : Opened) → OpensAt stmts h o → h + 1 ≤ after_of stmts h o
   reaches_on h o opens =
@@ -126,18 +114,13 @@ module _ (stmts : List Labelled) (are : AreLabelled stmts) (ended : EndsWithEnd 
       (AreWithin-nested stmts are ended (h + 1) (begun h o ∷ opened.rest) (before_end h o opens) opened.stands opened.nested).0
 
   pub ends_before : (h : ℕ) (o : Opened) → OpensAt stmts h o → after_of stmts h o < length stmts
-  ends_before h o opens = elim (cases_lt (after_of stmts h o) (length stmts)) as (λ _. after_of stmts h o < length stmts) [
-    | inl lt ↦ lt
-    | inr le ↦
-        let inside = before_end h o opens in
-        let n : ℕ = length stmts - 1 in
-        let at = stack_at (length stmts - 1) (omega arith) in
-        let s = item_at stmts (length stmts - 1) (omega (arith, inside)) in
-        let next = goes_on stmts (length stmts - 1) s.0 at.stack s.1 at.nested in
-        let nothing = nothing_at_end stmts ended (length stmts - 1) s.0 at.stack next.beyond (omega (arith, inside)) s.1 next.is in
-        let has : Has h o at.stack = at.stands.covered h o (omega (arith, inside)) opens (omega (arith, inside, le)) in
-        absurd (subst (λ (xs : List Entry). Has h o xs) nothing has)
-  ]
+  ends_before h o opens =
+      let inside = before_end h o opens in
+      let at = stack_at (length stmts - 1) (omega arith) in
+      let next = goes_on stmts (length stmts - 1) ended.last at.stack ended.stands at.nested in
+      let nothing = nothing_at_end stmts ended (length stmts - 1) ended.last at.stack next.beyond (omega (arith, inside)) ended.stands next.is in
+      let beyond : length stmts ≤ after_of stmts h o → ⊥ = λ le. subst (λ (xs : List Entry). Has h o xs) nothing (at.stands.covered h o (omega (arith, inside)) opens (omega (arith, inside, le))) in
+      omega (arith, beyond)
 
   -- a DO doesn't end its own range
   pub terminal_after : (h terminal : ℕ) → OpensAt stmts h (Loop terminal) → h < statement_of stmts terminal

@@ -1,10 +1,10 @@
 -- The DOs above a place, one statement on.
-use Rattle.std.proofs.Common.{◌≡◌, ℕ, ◌+◌, ◌≤◌, Bool, false, cond, List, [], ◌∷◌, ◌++◌, length, refl, sym, ap, ◌∙◌, arith, Option, Some, append-nil}
+use Rattle.std.proofs.Common.{◌≡◌, ℕ, ◌+◌, ◌≤◌, Bool, false, cond, List, [], ◌∷◌, ◌++◌, length, refl, sym, ap, ◌∙◌, arith, Option, Some, append-nil, ◌<◌, true, All}
 use Rattle.std.specs.Prelude.{◌==◌, slice_get, filter}
 use Rattle.std.specs.List.{range_with_len}
 use Rattle.std.proofs.lemmas.List.{map-id}
-use Rattle.std.proofs.lemmas.List.FromFn.{map-range_with_len_more, length-range_with_len}
-use Rattle.std.proofs.lemmas.List.Elements.{filter-append}
+use Rattle.std.proofs.lemmas.List.FromFn.{map-range_with_len_more, length-range_with_len, get_or-range_with_len}
+use Rattle.std.proofs.lemmas.List.Elements.{filter-append, All-filter, filter_passes}
 use Rattle.std.proofs.lemmas.List.Sums.{length-filter, count_by-le-length}
 use Rattle.f77_tree.specs.declared.statements.Labelled.{Labelled}
 use Rattle.f77_tree.specs.declared.statements.Stmt.{Stmt}
@@ -68,3 +68,14 @@ pub loops_above-few : (stmts : List Labelled) (label place : ℕ) → length (lo
 loops_above-few stmts label place =
     let p : ℕ → Bool = λ d. is_do_in label (slice_get stmts d) in
     omega (arith, length-filter p (range_with_len 0 place), count_by-le-length p (range_with_len 0 place), length-range_with_len 0 place)
+
+-- ---- the DOs that end at a label
+
+-- they are DOs, and stand among the statements
+pub loops_above-dos : (stmts : List Labelled) (label place : ℕ) → All (λ d. is_do_in label (slice_get stmts d) ≡ true) (loops_above stmts label place)
+loops_above-dos stmts label place = filter_passes (λ d. is_do_in label (slice_get stmts d)) (range_with_len 0 place)
+
+pub loops_above-within : (stmts : List Labelled) (label place : ℕ) → All (λ d. d < place) (loops_above stmts label place)
+loops_above-within stmts label place =
+    All-filter (λ d. is_do_in label (slice_get stmts d)) (λ d. d < place) (range_with_len 0 place)
+    (λ k d below. let inside : k < place = omega (arith, length-range_with_len 0 place) in omega (arith, get_or-range_with_len 0 place k d inside))

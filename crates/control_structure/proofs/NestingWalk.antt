@@ -17,12 +17,10 @@ use Rattle.layout_rules.specs.Roles.{role_of, turns_arm}
 use Rattle.layout_rules.specs.Nesting.{first_unnested, after_end_if, after_block}
 use Rattle.control_structure.specs.Innermost.{IsInnermost, AreInnermost}
 use Rattle.control_structure.specs.OpenStack.{ends_at, entries_after, head_of, kind}
-use Rattle.control_structure.proofs.EntryLemmas.{opens}
 use Rattle.layout_rules.proofs.RoleTests.{is_arm-role}
-use Rattle.control_structure.proofs.OpenSpans.{Stands}
-use Rattle.control_structure.proofs.OpenSteps.{held, Keeps-after, not_refused}
+use Rattle.control_structure.proofs.OpenSpans.{Stands, held, Keeps-after, not_refused}
 use Rattle.control_structure.proofs.SourceLabels.{AreLabelled-source}
-use Rattle.control_structure.proofs.Walks.{unnested_from, line_or_more, unnested-step}
+use Rattle.control_structure.proofs.Walks.{unnested_from, line_or_more, unnested-step, opens}
 use Rattle.control_structure.proofs.InnermostSpans.{Covers-innermost, Covers-held}
 
 -- ---- the walk

@@ -2,7 +2,7 @@
 use Rattle.std.proofs.Common.{◌≡◌, ℕ, ◌+◌, ◌-◌, ◌<◌, ◌≤◌, Bool, true, false, ◌||◌, nat_lt, if◌then◌else◌, ◌==◌, List, [], ◌∷◌, ◌++◌, reverse, length, refl, sym, ap, inl, inr, subst, ◌∙◌, arith, get_or, set}
 use Rattle.std.specs.List.{list_any}
 use Rattle.std.proofs.lemmas.List.{get_or-set_same, get_or-set_other, get_or_past, get_or_read, reverse-append}
-use Rattle.std.proofs.lemmas.Bool.{cases_eq, cases_lt}
+use Rattle.std.proofs.lemmas.Bool.{cases_eq}
 use Rattle.control_structure.specs.declared.open_stack.Entry.{Entry}
 use Rattle.layout_rules.specs.declared.nesting.Opened.TheVariants.{Loop, Block}
 use Rattle.control_structure.specs.OpenStack.{ends_at, loops_at, AreCounted}
@@ -62,10 +62,9 @@ AreCounted-block e stack loops is_last h are label = omega (arith, are label, ap
 
 -- the loop on top is counted
 pub top_within : (e : Entry) (stack : List Entry) (loops : List ℕ) (terminal : ℕ) → e.opened ≡ Loop terminal → AreCounted (e ∷ stack) loops → terminal < length loops
-top_within e stack loops terminal h are = elim (cases_lt terminal (length loops)) as (λ _. terminal < length loops) [
-  | inl less ↦ less
-  | inr past ↦ absurd (omega (arith, get_or_past loops terminal 0 past, are terminal, ap one_if (at_loop e terminal h terminal) ∙ same_one terminal))
-]
+top_within e stack loops terminal h are =
+    let past : length loops ≤ terminal → ⊥ = λ le. omega (arith, get_or_past loops terminal 0 le, are terminal, ap one_if (at_loop e terminal h terminal) ∙ same_one terminal) in
+    omega (arith, past)
 
 pub counted_top : (e : Entry) (stack : List Entry) (loops : List ℕ) (terminal v : ℕ) → v ≡ get_or loops terminal v → e.opened ≡ Loop terminal → AreCounted (e ∷ stack) loops → 1 ≤ v
 counted_top e stack loops terminal v read h are =

@@ -1,8 +1,9 @@
 -- The names of a whole program, as they appear one by one.
-use Rattle.std.proofs.Common.{◌≡◌, ℕ, Bool, true, false, not, ◌||◌, List, [], ◌∷◌, ◌++◌, length, map, fold, Option, refl, ap, ◌∙◌}
+use Rattle.std.proofs.Common.{◌≡◌, ℕ, Bool, true, false, not, ◌||◌, List, [], ◌∷◌, ◌++◌, length, map, fold, Option, refl, sym, ap, ◌∙◌, arith}
 use Rattle.std.specs.Prelude.{bytes_eq, nat_lt, flat_map, slice_index, if◌then◌else◌}
 use Rattle.std.specs.List.{list_any}
 use Rattle.std.specs.Option.{is_some}
+use Rattle.std.proofs.lemmas.List.{map-append}
 use mathlib.Core.Path.{fun_ext}
 use Rattle.f77_tree.specs.declared.declarations.Dim.{Dim}
 use Rattle.f77_tree.specs.declared.declarations.Kind.{Kind}
@@ -14,6 +15,7 @@ use Rattle.layout_rules.specs.Appearances.{appearing, each_once, has_real_name, 
 use Rattle.layout_rules.specs.Declarations.{dims_of, dims_or_none, is_array, kind_of}
 use Rattle.layout_rules.specs.Executables.{kind_or_integer}
 use Rattle.declared_names.specs.KeptDeclarations.{Tells, dims_by, is_array_by, kind_by}
+use Rattle.layout_rules.proofs.FlatParts.{list_any-map}
 use Rattle.layout_rules.specs.Layout.{name_info, names_of}
 use Rattle.declared_names.specs.Noting.{info_by, noted, with_info}
 
@@ -36,22 +38,6 @@ module _ (declared : Declarations) (stmts : List Labelled) (tells : Tells declar
 
 -- ---- names that are noted one by one
 
-or_false : (a : Bool) → a ≡ (a || false)
-or_false true = refl
-or_false false = refl
-
-or_assoc : (a b c : Bool) → ((a || b) || c) ≡ (a || (b || c))
-or_assoc true b c = refl
-or_assoc false b c = refl
-
-any-map : (test : NameInfo → Bool) (info : List ℕ → NameInfo) (seen : List (List ℕ)) → list_any test (map info seen) ≡ list_any (λ name. test (info name)) seen
-any-map test info [] = refl
-any-map test info (name ∷ seen) = ap (λ rest. test (info name) || rest) (any-map test info seen)
-
-map-one : (info : List ℕ → NameInfo) (seen : List (List ℕ)) (name : List ℕ) → map info seen ++ info name ∷ [] ≡ map info (seen ++ name ∷ [])
-map-one info [] name = refl
-map-one info (x ∷ seen) name = ap (λ rest. info x ∷ rest) (map-one info seen name)
-
 module _ (declared : Declarations) where
   abbrev info : List ℕ → NameInfo
   info = info_by declared
@@ -61,8 +47,8 @@ module _ (declared : Declarations) where
 
   with_info-map : (seen : List (List ℕ)) (name : List ℕ) → with_info (info name) (map info seen) ≡ map info (with_name seen name)
   with_info-map seen name =
-      ap (λ met. if met then map info seen else map info seen ++ info name ∷ []) (any-map (λ old. bytes_eq name old.name) info seen)
-      ∙ elim (list_any (bytes_eq name) seen) as (λ met. (if met then map info seen else map info seen ++ info name ∷ []) ≡ map info (if met then seen else seen ++ name ∷ [])) [ true ↦ refl | false ↦ map-one info seen name ]
+      ap (λ met. if met then map info seen else map info seen ++ info name ∷ []) (list_any-map (λ old. bytes_eq name old.name) info seen)
+      ∙ elim (list_any (bytes_eq name) seen) as (λ met. (if met then map info seen else map info seen ++ info name ∷ []) ≡ map info (if met then seen else seen ++ name ∷ [])) [ true ↦ refl | false ↦ sym (map-append info seen (name ∷ [])) ]
 
   -- the table has each name once
   noted-table : (seen : List (List ℕ)) (state : Appeared) → state.names ≡ map info seen → (names : List (List ℕ)) → (fold (noted declared) state names).names ≡ map info (fold with_name seen names)
@@ -70,8 +56,8 @@ module _ (declared : Declarations) where
   noted-table seen state is (name ∷ names) = noted-table (with_name seen name) (noted declared state name) (ap (with_info (info name)) is ∙ with_info-map seen name) names
 
   noted-real : (state : Appeared) (names : List (List ℕ)) → (fold (noted declared) state names).has_real ≡ (state.has_real || list_any is_real names)
-  noted-real state [] = or_false state.has_real
-  noted-real state (name ∷ names) = noted-real (noted declared state name) names ∙ or_assoc state.has_real (is_real name) (list_any is_real names)
+  noted-real state [] = grind arith
+  noted-real state (name ∷ names) = noted-real (noted declared state name) names ∙ grind arith
 
 module _ (declared : Declarations) (stmts : List Labelled) (tells : Tells declared stmts) where
   -- a statement has a real name where one of its names is real

@@ -1,7 +1,8 @@
 -- What was kept of the declarations of some statements is what they say of each name, and names are noted each once.
-use Rattle.std.proofs.Common.{◌≡◌, ℕ, zero, suc, ◌+◌, ◌<◌, Bool, not, ◌||◌, List, [], ◌∷◌, ◌++◌, length, map, fold, Option, Some, true, false, Ok, Err, refl, ap, ◌∙◌, arith}
+use Rattle.std.proofs.Common.{◌≡◌, ℕ, zero, suc, ◌+◌, ◌<◌, not, List, [], ◌∷◌, ◌++◌, length, map, fold, Option, Some, true, false, Ok, Err, refl, sym, ap, ◌∙◌, arith}
 use Rattle.std.specs.Prelude.{bytes_eq, slice_get, cond, if◌then◌else◌, Result, IfSome, OnOk}
 use Rattle.std.specs.List.{list_any, position_or_len}
+use Rattle.std.proofs.lemmas.List.{map-append}
 use mathlib.Core.Path.{fun_ext}
 use Rattle.f77_tree.specs.declared.declarations.Dim.{Dim}
 use Rattle.f77_tree.specs.declared.declarations.Kind.{Kind}
@@ -10,6 +11,7 @@ use Rattle.f77_tree.specs.declared.statements.Labelled.{Labelled}
 use Rattle.f77_tree.specs.Declarations.{index_of}
 use Rattle.declared_names.specs.declared.appearances.Appeared.{Appeared}
 use Rattle.declared_names.specs.declared.declarations.Declarations.{Declarations}
+use Rattle.layout_rules.proofs.FlatParts.{list_any-map}
 use Rattle.layout_rules.specs.Appearances.{with_name}
 use Rattle.layout_rules.specs.Declarations.{kind_of}
 use Rattle.declared_names.specs.Described.{described}
@@ -28,18 +30,10 @@ described-same declared stmts tells =
 abbrev pub names_in_table : List NameInfo → List (List ℕ)
 names_in_table names = map (λ info. info.name) names
 
-pub any-names : (test : List ℕ → Bool) (names : List NameInfo) → list_any (λ info. test info.name) names ≡ list_any test (names_in_table names)
-any-names test [] = refl
-any-names test (info ∷ names) = ap (λ rest. test info.name || rest) (any-names test names)
-
-names-one : (names : List NameInfo) (info : NameInfo) → names_in_table (names ++ info ∷ []) ≡ names_in_table names ++ info.name ∷ []
-names-one [] info = refl
-names-one (x ∷ names) info = ap (λ rest. x.name ∷ rest) (names-one names info)
-
 with_info-names : (info : NameInfo) (names : List NameInfo) → names_in_table (with_info info names) ≡ with_name (names_in_table names) info.name
 with_info-names info names =
-    elim (list_any (λ old. bytes_eq info.name old.name) names) as (λ met. names_in_table (if met then names else names ++ info ∷ []) ≡ (if met then names_in_table names else names_in_table names ++ info.name ∷ [])) [ true ↦ refl | false ↦ names-one names info ]
-    ∙ ap (λ met. if met then names_in_table names else names_in_table names ++ info.name ∷ []) (any-names (bytes_eq info.name) names)
+    elim (list_any (λ old. bytes_eq info.name old.name) names) as (λ met. names_in_table (if met then names else names ++ info ∷ []) ≡ (if met then names_in_table names else names_in_table names ++ info.name ∷ [])) [ true ↦ refl | false ↦ map-append (λ (i : NameInfo). i.name) names (info ∷ []) ]
+    ∙ ap (λ met. if met then names_in_table names else names_in_table names ++ info.name ∷ []) (sym (list_any-map (bytes_eq info.name) (λ (i : NameInfo). i.name) names))
 
 -- names that are noted one by one are noted each once
 pub noted-names : (declared : Declarations) (state : Appeared) (names : List (List ℕ)) → names_in_table (fold (noted declared) state names).names ≡ fold with_name (names_in_table state.names) names

@@ -1,5 +1,5 @@
 -- What is known of the kinds that the statements above give, as they are kept.
-use Rattle.std.proofs.Common.{◌≡◌, ℕ, ◌+◌, ◌<◌, Bool, true, false, not, ◌&&◌, ◌||◌, ◌==◌, List, [], ◌∷◌, ◌++◌, length, get_or, take, refl, sym, ap, ◌∙◌, add-one, append-nil}
+use Rattle.std.proofs.Common.{◌≡◌, ℕ, ◌+◌, ◌<◌, Bool, true, false, not, ◌&&◌, ◌||◌, ◌==◌, List, [], ◌∷◌, ◌++◌, length, get_or, take, refl, sym, ap, ◌∙◌, add-one, append-nil, arith}
 use Rattle.std.specs.Prelude.{flat_map, bytes_eq}
 use Rattle.std.specs.List.{list_any}
 use Rattle.std.proofs.lemmas.List.Folds.{list_any-append}
@@ -31,13 +31,7 @@ none-implicit (Implicit ranges) h = refl
 none-implicit _ h = absurd cc
 
 one-beside : (p q n x y : Bool) → (q ≡ true → p ≡ true) → ((p && (q || n)) || ((n && x) || y)) ≡ ((n && (p || x)) || (q || y))
-one-beside true true true x y h = refl
-one-beside true true false x y h = refl
-one-beside true false true x y h = refl
-one-beside true false false x y h = refl
-one-beside false true n x y h = let e : false ≡ true = h refl in absurd cc
-one-beside false false true x y h = refl
-one-beside false false false x y h = refl
+one-beside p q n x y h = grind (arith, h)
 
 beside : (n : Bool) (above : List Labelled) → list_any (λ a. is_implicit a.stmt && (is_implicit_none a.stmt || n)) above ≡ ((n && list_any (λ a. is_implicit a.stmt) above) || list_any (λ a. is_implicit_none a.stmt) above)
 beside true [] = refl
@@ -63,11 +57,7 @@ given-fault names above given s is =
 -- ---- one statement more
 
 one_any : (p : Labelled → Bool) (above : List Labelled) (s : Labelled) → list_any p (above ++ s ∷ []) ≡ (list_any p above || p s)
-one_any p above s = list_any-append p above (s ∷ []) ∙ ap (λ b. list_any p above || b) (or-false (p s))
-  where
-    or-false : (b : Bool) → (b || false) ≡ b
-    or-false true = refl
-    or-false false = refl
+one_any p above s = list_any-append p above (s ∷ []) ∙ grind arith
 
 one_given : {A : Type 0} (f : Labelled → List A) (above : List Labelled) (s : Labelled) → flat_map f (above ++ s ∷ []) ≡ flat_map f above ++ f s
 one_given f above s = flat_map-append f above (s ∷ []) ∙ ap (λ xs. flat_map f above ++ xs) (append-nil (f s))

@@ -1,21 +1,8 @@
 -- Items that stand before, one after another.
-use Rattle.std.proofs.Common.{◌≡◌, ℕ, suc, ◌+◌, ◌-◌, ◌<◌, ◌||◌, Bool, true, false, List, [], ◌∷◌, ◌++◌, length, get_or, drop, refl, sym, ap, ◌∙◌, add-one, drop-cons, append_assoc, arith}
-use Rattle.std.specs.Prelude.{flat_map}
-use Rattle.std.specs.List.{list_any, range_with_len}
+use Rattle.std.proofs.Common.{◌≡◌, ℕ, suc, ◌+◌, ◌-◌, ◌<◌, ◌||◌, Bool, true, false, List, ◌∷◌, ◌++◌, sym, ap, ◌∙◌, append_assoc, arith}
+use Rattle.std.specs.List.{range_with_len}
 use Rattle.layout_rules.specs.Faults.{has_repeat}
 use Rattle.layout_rules.proofs.FirstLine.{has_repeat-append}
-
-module _ {A : Type 0} (same : A → A → Bool) (seen items rest : List A) (x : A) (is : items ≡ x ∷ rest) where
-  -- the first item stands before
-  pub repeats_here : list_any (same x) seen ≡ true → has_repeat same seen items ≡ true
-  repeats_here there = ap (has_repeat same seen) is ∙ ap (λ b. b || has_repeat same (seen ++ x ∷ []) rest) there
-
-  -- it doesn't
-  pub repeats_later : list_any (same x) seen ≡ false → has_repeat same seen items ≡ has_repeat same (seen ++ x ∷ []) rest
-  repeats_later absent = ap (has_repeat same seen) is ∙ ap (λ b. b || has_repeat same (seen ++ x ∷ []) rest) absent
-
-  pub one_more : (seen ++ x ∷ []) ++ rest ≡ seen ++ items
-  one_more = append_assoc seen (x ∷ []) rest ∙ ap (λ xs. seen ++ xs) (sym is)
 
 module _ {A : Type 0} (same : A → A → Bool) (seen items first rest : List A) (is : items ≡ first ++ rest) where
   -- one of the first items stands before
@@ -34,7 +21,3 @@ pub range_next : (a b : ℕ) → a < b → range_with_len a (b - a) ≡ a ∷ ra
 range_next a b lt =
     let longer : b - a ≡ suc (b - (a + 1)) = omega arith in
     ap (range_with_len a) longer
-
--- what the items from i on give
-pub given_from : {X A : Type 0} (f : X → List A) (xs : List X) (i : ℕ) (d : X) → i < length xs → flat_map f (drop i xs) ≡ f (get_or xs i d) ++ flat_map f (drop (i + 1) xs)
-given_from f xs i d lt = rw (add-one, drop-cons xs i d lt) refl

@@ -12,7 +12,7 @@ use Rattle.f77_tree.specs.declared.programs.NameInfo.{NameInfo}
 use Rattle.f77_tree.specs.declared.statements.Labelled.{Labelled}
 use Rattle.f77_tree.specs.declared.statements.RawExpr.{RawExpr}
 use Rattle.f77_tree.specs.declared.statements.Stmt.{Stmt, more_of-Stmt}
-use Rattle.f77_tree.specs.declared.statements.Stmt.TheVariants.{Assign, Print, Take, PickGoTo, SignIf, ThenIf', BlockIf, ElseIf, Do}
+use Rattle.f77_tree.specs.declared.statements.Stmt.TheVariants.{Print, Take, ThenIf'}
 use Rattle.f77_tree.specs.Kinds.{taken_as}
 use Rattle.f77_tree.specs.Operations.{exec_operations, item_operations, is_increment, statement_operations}
 use Rattle.control_structure.specs.Counted.{counted}
@@ -57,18 +57,12 @@ module _ (names : List NameInfo) (checked : Bool) (whole : List Labelled) (place
       omega (arith, more, sum, asked-target target (index + 1), asked-taking (index + 1) next (another ∷ rest))
 
   asked-own : (index next : ℕ) (stmt : Stmt) → asked line (own_kinds names checked whole place index next stmt) ≡ own_operations names checked stmt
-  asked-own index next (Assign target value) = omega arith
   asked-own index next (Print items) = let sum = sum_by-map item_operations (resolved_item names checked) items in omega (arith, sum)
   asked-own index next (Take targets) = asked-taking index next targets
-  asked-own index next (PickGoTo labels e) = omega arith
-  asked-own index next (SignIf e negative zero positive) = omega arith
   asked-own index next (ThenIf' condition shape (more_of-Stmt stmt rest)) =
       let more = asked-append line (Test (resolved names checked condition) (index + 1) next ∷ []) (own_kinds names checked whole place (index + 1) next stmt) in
       omega (arith, more, asked-own (index + 1) next stmt)
-  asked-own index next (BlockIf condition) = omega arith
-  asked-own index next (ElseIf condition) = omega arith
-  asked-own index next (Do label variable first last step) = omega arith
-  asked-own index next _ = refl
+  asked-own index next _ = omega arith
 
 pub statement-operations : (names : List NameInfo) (checked : Bool) (whole : List Labelled) (place : ℕ) (s : Labelled) → statement_operations (executables_at names checked whole place s) ≡ own_operations names checked s.stmt
 statement-operations names checked whole place s =

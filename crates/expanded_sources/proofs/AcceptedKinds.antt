@@ -17,7 +17,7 @@ use Rattle.layout_rules.specs.StatementTrees.{IsTree}
 use Rattle.layout_rules.specs.TypeFaults.{has_wrong_type, implies_twice, is_beside_none, types_twice}
 use Rattle.layout_rules.specs.Types.{is_array_in, is_well_kinded}
 use Rattle.control_structure.proofs.LabelLemmas.{faultless}
-use Rattle.storage_laws.proofs.NameTable.{arrays_in_table}
+use Rattle.layout_rules.proofs.NameTable.{arrays_in_table}
 use Rattle.f77_subs.specs.Refusals.{unit_refusal}
 use Rattle.f77_subs.specs.Texts.{IsText}
 use Rattle.f77_subs.specs.Units.{stand_in, standing_in, unit_at, unit_or_none, units}

@@ -12,7 +12,7 @@ use Rattle.f77_tree.specs.declared.statements.Labelled.{Labelled}
 use Rattle.f77_tree.specs.Places.{same_block}
 use Rattle.layout_rules.specs.Declarations.{all_commons}
 use Rattle.layout_rules.specs.Faults.{answer_or, first_answer, has_repeat}
-use Rattle.storage_laws.proofs.DeclaredOnce.{one_place}
+use Rattle.layout_rules.proofs.DeclaredOnce.{one_place}
 use Rattle.layout_rules.proofs.FirstLine.{has_repeat-append}
 use Rattle.symbol_table.proofs.NameEntries.{bytes_eq-sym}
 use Rattle.f77_subs.specs.declared.entity.Entity.{Entity}

@@ -17,7 +17,7 @@ use Rattle.layout_rules.specs.LowestLines.{lower_line, lowest_line}
 use Rattle.layout_rules.specs.StorageFaults.{common_names, has_dims_twice, has_wrong_dims, has_wrong_places, is_common_twice}
 use Rattle.layout_rules.specs.StorageLines.{declares_wrongly, groups_wrongly, initializes_wrongly, storage_line}
 use Rattle.storage_laws.proofs.DeclaredCommon.{common_names-all}
-use Rattle.storage_laws.proofs.DeclaredOnce.{once_in_all}
+use Rattle.layout_rules.proofs.DeclaredOnce.{once_in_all}
 use Rattle.f77_subs.specs.Refusals.{unit_refusal}
 use Rattle.f77_subs.specs.Units.{stand_in, standing_in, unit_at, unit_or_none, units}
 use Rattle.f77_subs.proofs.MainNames.{decl_names}

@@ -37,9 +37,9 @@ closed-at : (s : Labelled) (stack beyond : List Opened) → open_after s stack �
 closed-at s stack beyond is last = ap blocks_in (nothing-at-end s stack last (ap (λ (o : Option (List Opened)). line_or s.line o (λ b. None)) is))
 
 -- so many blocks are open at the statement
-record IsDepthAt (depth : ℕ) (stmt : Stmt) : Type 0 where
-  within : (is_arm stmt || is_end_if stmt) ≡ true → 1 ≤ depth
-  closed : stmt ≡ End → depth ≡ 0
+pub record IsDepthAt (depth : ℕ) (stmt : Stmt) : Type 0 where
+  pub within : (is_arm stmt || is_end_if stmt) ≡ true → 1 ≤ depth
+  pub closed : stmt ≡ End → depth ≡ 0
 
 abbrev depth_from : ℕ → List Labelled → ℕ
 depth_from depth above = fold (λ count s. blocks_after count s.stmt) depth above
@@ -55,14 +55,6 @@ walked (t ∷ rest) stack none (suc i) s at =
     let next = goes_on t rest stack none in
     subst (λ (depth : ℕ). IsDepthAt (depth_from depth (take i rest)) s.stmt) (depth-after t stack next.beyond next.is) (walked rest next.beyond next.nested i s at)
 
--- ---- statements that are laid out
-
-module _ (stmts : List Labelled) (checked : Bool) (p : Program) (laid : layout stmts checked ≡ Ok p) (i : ℕ) (s : Labelled) (at : slice_get stmts i ≡ Some s) where
-  depth : IsDepthAt (blocks_open stmts i) s.stmt
-  depth = walked stmts [] (laid-faultless stmts checked p laid).nested i s at
-
-  pub block-within : (is_arm s.stmt || is_end_if s.stmt) ≡ true → 1 ≤ blocks_open stmts i
-  block-within = depth.within
-
-  pub blocks-closed : s.stmt ≡ End → blocks_open stmts i ≡ 0
-  blocks-closed = depth.closed
+-- statements that are laid out
+pub depth : (stmts : List Labelled) (checked : Bool) (p : Program) → layout stmts checked ≡ Ok p → (i : ℕ) (s : Labelled) → slice_get stmts i ≡ Some s → IsDepthAt (blocks_open stmts i) s.stmt
+depth stmts checked p laid = walked stmts [] (laid-faultless stmts checked p laid).nested

@@ -7,8 +7,7 @@ use Rattle.storage_laws.proofs.DeclaredForms.{given-IsReadDeclaration}
 use Rattle.f77_layout.proofs.LabelsLead.{taken_some}
 use Rattle.form_laws.proofs.ProperStatements.{given-IsReadStatement}
 use Rattle.storage_laws.proofs.SymbolicNames.{given_symbolic}
-use Rattle.control_structure.proofs.Usable.{inner_given}
-use Rattle.control_structure.proofs.UsedLabels.{used-given}
+use Rattle.control_structure.proofs.Usable.{inner_given, used-given}
 
 pub given-IsTree : (stmt : Stmt) → IsGiven stmt → is_of_subroutines stmt ≡ false → IsTree stmt
 given-IsTree stmt given none = record {

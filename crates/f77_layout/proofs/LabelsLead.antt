@@ -1,5 +1,5 @@
 -- The executables of a program stand where its statements do, and labels lead to them.
-use Rattle.std.proofs.Common.{◌≡◌, ℕ, suc, ◌+◌, ◌≤◌, Bool, true, false, not, ◌&&◌, ◌||◌, ◌==◌, List, [], ◌∷◌, length, Some, Ok, slice_get, map, refl, sym, ap, subst, ◌∙◌, arith}
+use Rattle.std.proofs.Common.{rules, ◌≡◌, ℕ, suc, ◌+◌, ◌≤◌, Bool, true, false, not, ◌&&◌, ◌||◌, ◌==◌, List, [], ◌∷◌, length, Some, Ok, slice_get, map, refl, sym, ap, subst, ◌∙◌, arith}
 use Rattle.std.specs.List.{list_any}
 use Rattle.std.proofs.lemmas.Bool.{and_parts, eqb-true, false_from_ne_true, not-false, not-true}
 use Rattle.std.proofs.lemmas.List.{length-map}
@@ -18,12 +18,10 @@ use Rattle.layout_rules.specs.Labels.{IsBorne, bears, used, statement_of, is_exe
 use Rattle.layout_rules.specs.Layout.{layout, names_of}
 use Rattle.f77_layout.specs.Leading.{IsLedTo}
 use Rattle.layout_rules.specs.Source.{IsSource}
-use Rattle.control_structure.proofs.LabelLemmas.{statement_of-own}
-use Rattle.control_structure.proofs.LabelTables.{Passes, any-exists}
+use Rattle.control_structure.proofs.LabelLemmas.{statement_of-own, Passes, any-exists, bears-parts}
 use Rattle.control_laws.proofs.LoopPlaces.{length-own_kinds, own-at, end-at}
-use Rattle.control_structure.proofs.SourceTrees.{tree_at}
-use Rattle.control_structure.proofs.Usable.{usable}
-use Rattle.control_structure.proofs.UsedLabels.{used_borne}
+use Rattle.control_structure.proofs.SourceLabels.{tree_at}
+use Rattle.control_structure.proofs.Usable.{usable, used_borne}
 use Rattle.control_structure.proofs.Walks.{item_at}
 use Rattle.f77_layout.proofs.LaidFacts.{AreFaultless, laid-faultless, laid-program}
 
@@ -39,17 +37,7 @@ taken_some _ is targets e = cc
 own_some : (stmt : Stmt) → ((targets : List RawExpr) → stmt ≡ Take targets → 1 ≤ length targets) → is_executable stmt ≡ true → is_arm stmt ≡ false → 1 ≤ own_executables stmt
 own_some (Take targets) some x a = some targets refl
 own_some (ThenIf' condition shape (more_of-Stmt stmt rest)) some x a = omega arith
-own_some Else some x a = let h : true ≡ false = a in absurd cc
-own_some Program' some x a = let h : false ≡ true = x in absurd cc
-own_some (Implicit ranges) some x a = let h : false ≡ true = x in absurd cc
-own_some ImplicitNone some x a = let h : false ≡ true = x in absurd cc
-own_some (TypeOf kind decls) some x a = let h : false ≡ true = x in absurd cc
-own_some (Dimension decls) some x a = let h : false ≡ true = x in absurd cc
-own_some (Common parts) some x a = let h : false ≡ true = x in absurd cc
-own_some (Equivalence groups) some x a = let h : false ≡ true = x in absurd cc
-own_some (Init parts) some x a = let h : false ≡ true = x in absurd cc
-own_some (Sub name dummies) some x a = let h : false ≡ true = x in absurd cc
-own_some _ some x a = omega arith
+own_some _ some x a = search (arith, rules)
 
 module _ (stmts : List Labelled) (checked : Bool) (p : Program) (source : IsSource stmts) (laid : layout stmts checked ≡ Ok p) where
   none : AreFaultless stmts checked
@@ -68,19 +56,17 @@ module _ (stmts : List Labelled) (checked : Bool) (p : Program) (source : IsSour
 
   -- ---- where a label leads
 
-  label_is : (label : ℕ) (s : Labelled) → bears label s ≡ true → s.label ≡ label
-  label_is label s e = eqb-true s.label label (and_parts (s.label == label) (is_executable s.stmt) (and_parts ((s.label == label) && is_executable s.stmt) (not (is_arm s.stmt)) e).0).0
-
   led : (label : ℕ) → IsLabel label → Passes (bears label) stmts → IsLedTo stmts p.execs label (labelled stmts label)
   led label number b =
-      let same = label_is label b.item b.is in
+      let parts = bears-parts label b.item b.is in
+      let same = eqb-true b.item.label label parts.0 in
       let some : b.item.label ≡ 0 → ⊥ = λ e. number.0 (sym same ∙ e) in
       let at : statement_of stmts label ≡ b.place = ap (statement_of stmts) (sym same) ∙ statement_of-own stmts none.once b.place b.item b.stands some in
-      let parts = and_parts ((b.item.label == label) && is_executable b.item.stmt) (not (is_arm b.item.stmt)) b.is in
+      let target = and_parts (is_executable b.item.stmt) (not (is_arm b.item.stmt)) parts.1 in
       let tree = tree_at stmts source b.place b.item b.stands in
       let own = own_kinds (names_of stmts) checked stmts b.place (first_of stmts b.place) (beyond stmts b.place b.item) b.item.stmt in
       let many = length-own_kinds (names_of stmts) checked stmts (usable stmts source none.borne) b.place b.item b.stands in
-      let one = own_some b.item.stmt tree.takes (and_parts (b.item.label == label) (is_executable b.item.stmt) parts.0).1 (not-true (is_arm b.item.stmt) parts.1) in
+      let one = own_some b.item.stmt tree.takes target.0 (not-true (is_arm b.item.stmt) target.1) in
       let item = item_at own 0 (omega (arith, many, one)) in
       record {
         place = b.place;

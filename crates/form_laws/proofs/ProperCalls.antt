@@ -76,20 +76,17 @@ abbrev fitting : (names : List NameInfo) (checked : Bool) (op : Op) (args : List
 fitting names checked op args = IsOfKind names Integer (nested (in_dialect checked op) args)
 
 nested_pairs : (names : List NameInfo) (checked : Bool) (op : Op) (args : List Expr) → IsOfIntegers op → 2 ≡ arity_of op → 2 ≤ length args → All (IsOfKind names Integer) args → fitting names checked op args
-nested_pairs names checked op [] is two many all = absurd (omega arith)
-nested_pairs names checked op (a ∷ []) is two many all = absurd (omega arith)
 nested_pairs names checked op (a ∷ b ∷ rest) is two many all =
     let P = IsOfKind names Integer in
     let beyond = All-tail P a (b ∷ rest) all in
     pairs names checked op (Apply (in_dialect checked op) (a ∷ b ∷ [])) rest is two
     (integers names checked op (a ∷ b ∷ []) is two (All-cons P a (b ∷ []) (All-head P a (b ∷ rest) all) (All-cons P b [] (All-head P b rest beyond) (All-nil P))))
     (All-tail P b rest beyond)
+nested_pairs names checked op _ is two many all = absurd (omega arith)
 
 nested_once : (names : List NameInfo) (checked : Bool) (op : Op) (args : List Expr) → IsOfIntegers op → length args ≡ arity_of op → arity_of op ≤ 2 → All (IsOfKind names Integer) args → fitting names checked op args
-nested_once names checked op [] is as_many few all = integers names checked op [] is as_many all
-nested_once names checked op (a ∷ []) is as_many few all = integers names checked op (a ∷ []) is as_many all
-nested_once names checked op (a ∷ b ∷ []) is as_many few all = integers names checked op (a ∷ b ∷ []) is as_many all
 nested_once names checked op (a ∷ b ∷ c ∷ rest) is as_many few all = absurd (omega arith)
+nested_once names checked op _ is as_many few all = integers names checked op _ is as_many all
 
 -- ---- intrinsic functions
 

@@ -81,18 +81,19 @@ module _ (names : List NameInfo) (checked : Bool) (whole : List Labelled) where
           let sum = sum_by-cons (λ (e : Exec). exec_operations e.kind) exec (others execs) in
           All-cons (λ (e : Exec). exec_operations e.kind ≤ 500) exec execs (omega (arith, sum, few)) (more (omega (arith, sum, few)))
 
-  at_place_few : (place : ℕ) → first_line (asks_too_much names checked whole) whole ≡ None → All (λ exec. exec_operations exec.kind ≤ 500) (executables_if_any names checked whole place (slice_get whole place))
-  at_place_few place none = by (slice_get whole place) refl
+  -- what holds of the executables of each statement holds of all
+  pub each_executable : (P : Exec → Type 0) → ((place : ℕ) (s : Labelled) → slice_get whole place ≡ Some s → All P (executables_at names checked whole place s)) → All P (executables names checked whole)
+  each_executable P holds = All-flat P (λ place. executables_if_any names checked whole place (slice_get whole place)) (range_with_len 0 (length whole)) (λ k d below. let place = get_or (range_with_len 0 (length whole)) k d in by place (slice_get whole place) refl)
     where
-      by : (o : Option Labelled) → slice_get whole place ≡ o → All (λ exec. exec_operations exec.kind ≤ 500) (executables_if_any names checked whole place o)
-      by None is = All-nil (λ (exec : Exec). exec_operations exec.kind ≤ 500)
-      by (Some s) is =
-          let few = (little (take place whole) s (none_at (asks_too_much names checked whole) [] whole place s none is)).operations in
-          each_few (executables_at names checked whole place s) (subst (λ n. statement_operations (executables_at names checked whole n s) ≤ 500) (length-take-le place whole (omega (arith, slice_get_within whole place s is))) few)
+      by : (place : ℕ) (o : Option Labelled) → slice_get whole place ≡ o → All P (executables_if_any names checked whole place o)
+      by place None is = All-nil P
+      by place (Some s) is = holds place s is
 
   -- no executable takes more operations than a statement may ask
   pub executables-few_operations : first_line (asks_too_much names checked whole) whole ≡ None → All (λ exec. exec_operations exec.kind ≤ 500) (executables names checked whole)
-  executables-few_operations none = All-flat (λ (exec : Exec). exec_operations exec.kind ≤ 500) (λ place. executables_if_any names checked whole place (slice_get whole place)) (range_with_len 0 (length whole)) (λ k d below. at_place_few (get_or (range_with_len 0 (length whole)) k d) none)
+  executables-few_operations none = each_executable (λ exec. exec_operations exec.kind ≤ 500) (λ place s is.
+      let few = (little (take place whole) s (none_at (asks_too_much names checked whole) [] whole place s none is)).operations in
+      each_few (executables_at names checked whole place s) (subst (λ n. statement_operations (executables_at names checked whole n s) ≤ 500) (length-take-le place whole (omega (arith, slice_get_within whole place s is))) few))
 
   -- ---- labels of computed GO TO
 

@@ -8,6 +8,7 @@ use Rattle.std.proofs.lemmas.Bool.Decides.{nat_tests}
 use Rattle.std.proofs.lemmas.Int.{ints}
 use Rattle.std.proofs.lemmas.List.{length-map, length-reverse, get_or-reverse}
 use Rattle.std.proofs.lemmas.List.Elements.{All-nil, All-cons, All-head, All-tail, All-append, All-map, filter_passes}
+use Rattle.std.proofs.lemmas.List.Sums.{AllPass-from_list_all}
 use Rattle.f77_tree.specs.declared.declarations.Kind.{Kind}
 use Rattle.f77_tree.specs.declared.declarations.Kind.TheVariants.{Integer, Logical}
 use Rattle.f77_tree.specs.declared.programs.NameInfo.{NameInfo}
@@ -23,13 +24,14 @@ use Rattle.f77_tree.specs.Declarations.{index_of, IsIntegerScalar}
 use Rattle.f77_tree.specs.Kinds.{IsOfKind, IsAssignment, taken_as}
 use Rattle.f77_tree.specs.WellFormed.{IsProperItem, IsDo, IsExecutable}
 use Rattle.f77_tree.proofs.AllLemmas.{All-get}
-use Rattle.f77_tree.proofs.Equations.{All-flat}
 use Rattle.layout_rules.specs.Types.{dims_named, kind_named, is_array_in, is_kind, is_of_kind, kind_in, is_variable, is_target, is_item, is_step, is_kind_of_target, is_well_kinded}
 use Rattle.layout_rules.specs.Appearances.{names_in, names_in_item, names_if_any, appearing}
 use Rattle.layout_rules.specs.Resolved.{resolved, resolved_item, resolved_step, access_of}
-use Rattle.layout_rules.specs.Executables.{own_executables, is_do_to, is_do_in, loops_to, first_of, labelled, beyond, kind_or_integer, taking, own_kinds, do_variable, variable_of, increments, kinds_at, executables_at, executables_if_any, executables}
+use Rattle.layout_rules.specs.Executables.{own_executables, is_do_to, is_do_in, loops_to, first_of, labelled, beyond, kind_or_integer, taking, own_kinds, do_variable, variable_of, increments, kinds_at, executables_at, executables}
 use Rattle.layout_rules.specs.ReadExpressions.{IsReading}
 use Rattle.layout_rules.specs.ReadStatements.{IsReadItem, IsReadStep, IsReadStatement}
+use Rattle.layout_rules.proofs.FlatParts.{each_part}
+use Rattle.form_laws.proofs.ProperCounts.{each_executable}
 use Rattle.form_laws.proofs.ProperExpressions.{IsKnown, resolved-IsOfKind, resolved-asked, access_of-IsAccessOf, is_kind-some, prefix, rear}
 
 -- a statement that fits the table of names: what a text gives, names of the table, and kinds as their places ask for
@@ -103,12 +105,8 @@ module _ (names : List NameInfo) (checked : Bool) (arrays : List ℕ → Bool) w
   printed (Chars text) reads known kinds = reads
 
   all_printed : (items : List RawItem) → All IsReadItem items → Known (flat_map (names_in_item arrays) items) → list_all (is_item names) items ≡ true → All (IsProperItem names) (map (resolved_item names checked) items)
-  all_printed [] reads known kinds = All-nil (IsProperItem names)
-  all_printed (item ∷ items) reads known kinds =
-      let parts = and_parts (is_item names item) (list_all (is_item names) items) kinds in
-      let names_after = flat_map (names_in_item arrays) items in
-      All-cons (IsProperItem names) (resolved_item names checked item) (map (resolved_item names checked) items) (printed item (All-head IsReadItem item items reads) (prefix (IsKnown names) (names_in_item arrays item) names_after known) parts.0)
-      (all_printed items (All-tail IsReadItem item items reads) (rear (IsKnown names) (names_in_item arrays item) names_after known) parts.1)
+  all_printed items reads known kinds =
+      All-map (IsProperItem names) (resolved_item names checked) items (λ k d lt. printed (get_or items k d) (reads k d lt) (each_part (IsKnown names) (names_in_item arrays) items known k d lt) (AllPass-from_list_all (is_item names) items kinds k d lt))
 
   -- ---- DO
 
@@ -202,13 +200,6 @@ module _ (names : List NameInfo) (checked : Bool) (arrays : List ℕ → Bool) w
       (own whole place (first_of whole place) (beyond whole place s) s.stmt fits)
       (all_increments whole s.label place (first_of whole place + own_executables s.stmt) (loops_to whole s.label) all (loops whole s.label)))
 
-  if_any : (whole : List Labelled) (place : ℕ) → All (λ s. Fits names arrays s.stmt) whole → All (λ exec. IsExecutable names exec.kind) (executables_if_any names checked whole place (slice_get whole place))
-  if_any whole place all = by (slice_get whole place) refl
-    where
-      by : (o : Option Labelled) → slice_get whole place ≡ o → All (λ exec. IsExecutable names exec.kind) (executables_if_any names checked whole place o)
-      by None is = All-nil (λ (exec : Exec). IsExecutable names exec.kind)
-      by (Some s) is = at_statement whole place s all (All-get (λ s. Fits names arrays s.stmt) whole place s all is)
-
   -- each executable of statements that fit the table is one by itself
   pub executables-AllExecutable : (whole : List Labelled) → All (λ s. Fits names arrays s.stmt) whole → All (λ exec. IsExecutable names exec.kind) (executables names checked whole)
-  executables-AllExecutable whole all = All-flat (λ (exec : Exec). IsExecutable names exec.kind) (λ place. executables_if_any names checked whole place (slice_get whole place)) (range_with_len 0 (length whole)) (λ k d below. if_any whole (get_or (range_with_len 0 (length whole)) k d) all)
+  executables-AllExecutable whole all = each_executable names checked whole (λ exec. IsExecutable names exec.kind) (λ place s is. at_statement whole place s all (All-get (λ s. Fits names arrays s.stmt) whole place s all is))

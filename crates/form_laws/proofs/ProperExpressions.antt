@@ -40,10 +40,7 @@ only_unless false x y h = (refl, h)
 pub is_kind-some : (kind : Kind) (o : Option Kind) → is_kind kind o ≡ true → o ≡ Some kind
 is_kind-some Integer (Some Integer) h = refl
 is_kind-some Logical (Some Logical) h = refl
-is_kind-some Integer (Some Logical) h = absurd cc
-is_kind-some Logical (Some Integer) h = absurd cc
-is_kind-some Integer None h = absurd cc
-is_kind-some Logical None h = absurd cc
+is_kind-some _ _ h = absurd cc
 
 -- ---- names
 

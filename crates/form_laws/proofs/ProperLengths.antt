@@ -1,8 +1,8 @@
 -- How many executables a program has whose statements don't ask too much.
-use Rattle.std.proofs.Common.{◌≡◌, ℕ, suc, ◌+◌, ◌<◌, ◌≤◌, ◌&&◌, ◌==◌, Bool, true, false, not, if◌then◌else◌, List, [], ◌∷◌, ◌++◌, length, All, Option, Some, None, refl, sym, ap, subst, ◌∙◌, append_assoc, append-nil, arith}
+use Rattle.std.proofs.Common.{⊎_elim, ◌≡◌, ℕ, suc, ◌+◌, ◌<◌, ◌≤◌, ◌&&◌, ◌==◌, Bool, true, false, not, List, [], ◌∷◌, ◌++◌, length, All, Option, Some, None, refl, sym, ap, ◌∙◌, arith}
 use Rattle.std.specs.Prelude.{sum_by, filter, slice_get}
 use Rattle.std.specs.List.{list_any, range_with_len}
-use Rattle.std.proofs.lemmas.Bool.{or_parts}
+use Rattle.std.proofs.lemmas.Bool.{or_parts, eqb-true, cases_Bool}
 use Rattle.std.proofs.lemmas.Bool.Decides.{nat_tests}
 use Rattle.std.proofs.lemmas.List.{length-append, length-map, length-reverse}
 use Rattle.std.proofs.lemmas.List.Concat.{length-flat_map}
@@ -15,11 +15,12 @@ use Rattle.f77_tree.specs.declared.statements.RawExpr.{RawExpr}
 use Rattle.f77_tree.specs.declared.statements.Stmt.{Stmt, more_of-Stmt}
 use Rattle.f77_tree.specs.declared.statements.Stmt.TheVariants.{Take, ThenIf', Do}
 use Rattle.f77_tree.proofs.AllLemmas.{All-get}
-use Rattle.layout_rules.specs.Faults.{first_after, first_line}
+use Rattle.layout_rules.specs.Faults.{first_line}
 use Rattle.layout_rules.specs.Labels.{is_labelled_twice}
 use Rattle.layout_rules.specs.Executables.{own_executables, is_do_to, is_do_in, loops_to, first_of, beyond, taking, own_kinds, increments, kinds_at, executables_at, executables_if_any, executables}
 use Rattle.layout_rules.specs.Counts.{items_taken, asks_too_much}
 use Rattle.layout_rules.specs.ReadStatements.{IsReadStatement, is_guarded}
+use Rattle.layout_rules.proofs.StorageLines.{kept-after}
 use Rattle.form_laws.proofs.ProperSums.{sum_by-two, sum_by-constant, sum_by-places, sum_by-once, sum_by-nothing, one_if, length-kept}
 use Rattle.form_laws.proofs.ProperCounts.{few_in_all, little}
 
@@ -42,27 +43,14 @@ stands_once : (label : ℕ) (above : List Labelled) (s : Labelled) → 0 < label
 stands_once label above s some once few =
     let both = sum_by-append (λ (a : Labelled). one_if (label == a.label)) above (s ∷ []) in
     let one = sum_by-cons (λ (a : Labelled). one_if (label == a.label)) s [] in
-    by (label == s.label) refl both one
-  where
-    by : (b : Bool) → (label == s.label) ≡ b → standings label (above ++ s ∷ []) ≡ standings label above + standings label (s ∷ []) → standings label (s ∷ []) ≡ one_if (label == s.label) + 0 → standings label (above ++ s ∷ []) ≤ 1
-    by true is both one =
-        let same : label ≡ s.label = grind (arith, nat_tests) in
-        let said : not (s.label == 0) ≡ true = grind (arith, nat_tests) in
-        let none : list_any (λ (a : Labelled). a.label == s.label) above ≡ false = sym (ap (λ (b : Bool). b && list_any (λ (a : Labelled). a.label == s.label) above) said) ∙ once in
-        let absent = not_there label s.label above same none in
-        let here : one_if (label == s.label) ≡ 1 = ap one_if is in
-        omega (arith, absent, both, one, here)
-    by false is both one =
-        let here : one_if (label == s.label) ≡ 0 = ap one_if is in
-        omega (arith, both, one, here)
-
-once_after : (label : ℕ) (above stmts : List Labelled) → 0 < label → standings label above ≤ 1 → first_after is_labelled_twice above stmts ≡ None → standings label (above ++ stmts) ≤ 1
-once_after label above [] some few none = subst (λ (xs : List Labelled). standings label xs ≤ 1) (sym (append-nil above)) few
-once_after label above (s ∷ rest) some few none = by (is_labelled_twice above s) refl none (once_after label (above ++ s ∷ []) rest some)
-  where
-    by : (b : Bool) → is_labelled_twice above s ≡ b → (if b then Some s.line else first_after is_labelled_twice (above ++ s ∷ []) rest) ≡ None → (standings label (above ++ s ∷ []) ≤ 1 → first_after is_labelled_twice (above ++ s ∷ []) rest ≡ None → standings label ((above ++ s ∷ []) ++ rest) ≤ 1) → standings label (above ++ s ∷ rest) ≤ 1
-    by true is none more = absurd cc
-    by false is none more = subst (λ (xs : List Labelled). standings label xs ≤ 1) (append_assoc above (s ∷ []) rest) (more (stands_once label above s some is few) none)
+    ⊎_elim
+    (λ (is : (label == s.label) ≡ true).
+    let same : label ≡ s.label = eqb-true label s.label is in
+    let said : not (s.label == 0) ≡ true = grind (arith, nat_tests) in
+    let none : list_any (λ (a : Labelled). a.label == s.label) above ≡ false = sym (ap (λ (b : Bool). b && list_any (λ (a : Labelled). a.label == s.label) above) said) ∙ once in
+    omega (arith, not_there label s.label above same none, both, one, ap one_if is))
+    (λ (is : (label == s.label) ≡ false). omega (arith, both, one, ap one_if is))
+    (cases_Bool (label == s.label))
 
 module _ (names : List NameInfo) (checked : Bool) (whole : List Labelled) where
   -- ---- the loops that end at a statement
@@ -76,7 +64,7 @@ module _ (names : List NameInfo) (checked : Bool) (whole : List Labelled) where
       omega (arith, backwards, kept, places)
 
   ends_once : (stmt : Stmt) → IsReadStatement stmt → first_line is_labelled_twice whole ≡ None → sum_by (λ s. one_if (is_do_to s.label stmt)) whole ≤ 1
-  ends_once (Do terminal variable first last step) reads none = once_after terminal [] whole reads.3 (omega arith) none
+  ends_once (Do terminal variable first last step) reads none = kept-after is_labelled_twice (λ stmts. standings terminal stmts ≤ 1) (λ above s once few. stands_once terminal above s reads.3 once few) [] whole none (omega arith)
   ends_once _ reads none = let is = sum_by-nothing whole in omega (arith, is)
 
   -- each DO ends at one statement

@@ -6,25 +6,20 @@ use Rattle.std.proofs.lemmas.Bool.{or_parts}
 use Rattle.std.proofs.lemmas.Bool.Decides.{nat_tests}
 use Rattle.std.proofs.lemmas.Int.{ints}
 use Rattle.op_table.specs.declared.Op.{Op}
-use Rattle.op_table.specs.declared.Op.TheVariants.{Add, Sub, Mul, Div, Pow, Neg, Lt, Le, Eq, Ne, Ge, Gt, Not, And, Or, Eqv, Neqv}
+use Rattle.op_table.specs.declared.Op.TheVariants.{Add, Neg, Not}
 use Rattle.op_table.specs.Operators.{arity_of}
 use Rattle.f77_tree.specs.declared.statements.RawExpr.{RawExpr, Row_of-RawExpr, end_of-RawExpr, more_of-RawExpr, items-the_row-RawExpr, items_hidden-the_row-RawExpr-0}
 use Rattle.f77_tree.specs.declared.statements.RawExpr.TheVariants.{Call, Apply}
 use Rattle.f77_tree.specs.Kinds.{is_written, IsConstant}
 use Rattle.f77_tree.specs.Grammar.{Written, Arguments, IsGrammatical, AreGrammatical, reading, readings, level, operator_level, left_level, number_of, greatest_constant, has_great_number, have_great_number}
 use Rattle.layout_rules.specs.ReadExpressions.{IsReading, AllReadings}
-use Rattle.layout_rules.specs.Types.{count_of_row}
-use Rattle.layout_rules.proofs.RawRows.{row_of}
+use Rattle.layout_rules.proofs.RawRows.{row_of, count_of_row-items}
 
 -- ---- rows are lists
 
 items-readings : (n : _) (row : Row_of-RawExpr n) → All IsReading (items-the_row-RawExpr n row) → AllReadings row
 items-readings n end_of-RawExpr all = tt
 items-readings n (more_of-RawExpr e rest) all = (All-head IsReading e (items-the_row-RawExpr _ rest) all, items-readings _ rest (All-tail IsReading e (items-the_row-RawExpr _ rest) all))
-
-as_many_items : (n : _) (row : Row_of-RawExpr n) → count_of_row row ≡ length (items-the_row-RawExpr n row)
-as_many_items n end_of-RawExpr = refl
-as_many_items n (more_of-RawExpr e rest) = let more = as_many_items _ rest in omega (arith, more)
 
 IsReading-Call : (name : List ℕ) (args : List RawExpr) → All IsReading args → IsReading (Call name args)
 IsReading-Call name args all =
@@ -35,7 +30,7 @@ IsReading-Apply : (op : Op) (args : List RawExpr) → is_written op ≡ true →
 IsReading-Apply op args written as_many all =
     let row = row_of (Apply op args) in
     let items = items_hidden-the_row-RawExpr-0 args in
-    (written, as_many_items row.0 row.1 ∙ ap length items ∙ as_many, items-readings row.0 row.1 (subst (λ (es : List RawExpr). All IsReading es) (sym items) all))
+    (written, count_of_row-items row.0 row.1 ∙ ap length items ∙ as_many, items-readings row.0 row.1 (subst (λ (es : List RawExpr). All IsReading es) (sym items) all))
 
 -- ---- operators of the grammar
 
@@ -46,21 +41,7 @@ record IsBinary (op : Op) : Type 0 where
 
 binary_operator : (op : Op) → left_level op ≤ 8 → IsBinary op
 binary_operator Add h = record { low = omega arith; written = refl; two = refl }
-binary_operator Sub h = record { low = omega arith; written = refl; two = refl }
-binary_operator Mul h = record { low = omega arith; written = refl; two = refl }
-binary_operator Div h = record { low = omega arith; written = refl; two = refl }
-binary_operator Pow h = record { low = omega arith; written = refl; two = refl }
-binary_operator Lt h = record { low = omega arith; written = refl; two = refl }
-binary_operator Le h = record { low = omega arith; written = refl; two = refl }
-binary_operator Eq h = record { low = omega arith; written = refl; two = refl }
-binary_operator Ne h = record { low = omega arith; written = refl; two = refl }
-binary_operator Ge h = record { low = omega arith; written = refl; two = refl }
-binary_operator Gt h = record { low = omega arith; written = refl; two = refl }
-binary_operator And h = record { low = omega arith; written = refl; two = refl }
-binary_operator Or h = record { low = omega arith; written = refl; two = refl }
-binary_operator Eqv h = record { low = omega arith; written = refl; two = refl }
-binary_operator Neqv h = record { low = omega arith; written = refl; two = refl }
-binary_operator _ h = absurd (omega arith)
+binary_operator _ h = record { low = omega arith; written = grind arith; two = omega arith }
 
 -- no expression of the grammar has a level above that of primaries
 level_most : (w : Written) → IsGrammatical w → level w ≤ 8

@@ -6,7 +6,7 @@ use Rattle.std.proofs.lemmas.Bool.{and_parts, or_parts}
 use Rattle.std.proofs.lemmas.Bool.Decides.{nat_tests}
 use Rattle.std.proofs.lemmas.List.{length-map}
 use Rattle.std.proofs.lemmas.List.Folds.{list_all-append}
-use Rattle.std.proofs.lemmas.List.Elements.{All-nil, All-cons, All-head, All-tail}
+use Rattle.std.proofs.lemmas.List.Elements.{All-nil, All-cons}
 use Rattle.f77_tree.specs.declared.statements.RawExpr.{RawExpr}
 use Rattle.f77_tree.specs.declared.statements.Stmt.{Stmt}
 use Rattle.f77_tree.specs.declared.statements.Stmt.TheVariants.{ThenIf}
@@ -15,6 +15,7 @@ use Rattle.f77_tree.specs.Grammar.{Written, reading, spelling, has_great_number,
 use Rattle.f77_tree.specs.StatementGrammar.{WrittenStatement, WrittenItem, Expression, Characters, PrintForm, Print_star, Write_star, Write_six, IsStatement, IsVariable, IsItem, IsStep, IsGiven, statement_of, statement_text, is_simple, has_bad_constant, is_bad_label, is_printable, item_of, item_text, item_is_great, step_of, step_is_great, print_text, after_commas, with_commas, in_brackets, character_text, characters_text}
 use Rattle.layout_rules.specs.ReadExpressions.{IsReading}
 use Rattle.layout_rules.specs.ReadStatements.{IsReadItem, IsReadStep, is_guarded, IsReadStatement}
+use Rattle.layout_rules.proofs.FlatParts.{before_map, read_each}
 use Rattle.form_laws.proofs.ProperReading.{reading-IsReading}
 
 -- ---- characters
@@ -60,21 +61,15 @@ printed_each Write_six texts h = with_commas_each texts h
 -- ---- lists
 
 read_items : (items : List WrittenItem) → All IsItem items → list_any item_is_great items ≡ false → All Shows (map item_text items) → All IsReadItem (map item_of items)
-read_items [] are few shown = All-nil IsReadItem
-read_items (item ∷ items) are few shown =
-    let parts = or_parts (item_is_great item) (list_any item_is_great items) few in
-    All-cons IsReadItem (item_of item) (map item_of items) (one item (All-head IsItem item items are) parts.0 (All-head Shows (item_text item) (map item_text items) shown))
-    (read_items items (All-tail IsItem item items are) parts.1 (All-tail Shows (item_text item) (map item_text items) shown))
+read_items items are few shown =
+    read_each (λ item. IsItem item × Shows (item_text item)) item_is_great item_of IsReadItem (λ item is great. one item is.0 great is.1) items (λ k d lt. (are k d lt, before_map Shows item_text items shown k d lt)) few
   where
     one : (item : WrittenItem) → IsItem item → item_is_great item ≡ false → Shows (item_text item) → IsReadItem (item_of item)
     one (Expression w) is few shown = reading-IsReading w is few
     one (Characters cs) is few shown = character_constant cs is shown
 
 read_targets : (targets : List Written) → All IsVariable targets → list_any has_great_number targets ≡ false → All IsReading (map reading targets)
-read_targets [] are few = All-nil IsReading
-read_targets (w ∷ targets) are few =
-    let parts = or_parts (has_great_number w) (list_any has_great_number targets) few in
-    All-cons IsReading (reading w) (map reading targets) (reading-IsReading w (All-head IsVariable w targets are).grammatical parts.0) (read_targets targets (All-tail IsVariable w targets are) parts.1)
+read_targets targets are few = read_each IsVariable has_great_number reading IsReading (λ w is great. reading-IsReading w is.grammatical great) targets are few
 
 read_step : (step : Option Written) → IsStep step → step_is_great step ≡ false → IsReadStep (step_of step)
 read_step None is few = tt

@@ -1,10 +1,11 @@
 -- The number of elements of an array.
-use Rattle.std.proofs.Common.{◌≡◌, ℕ, ◌+◌, ◌*◌, ◌<◌, ◌≤◌, pos, ◌*ℤ◌, ◌≤ℤ◌, Bool, true, false, ◌||◌, List, [], ◌∷◌, length, get_or, drop, ⊎_elim, refl, sym, ap, ◌∙◌, arith}
+use Rattle.std.proofs.Common.{◌≡◌, ℕ, ◌+◌, ◌*◌, ◌<◌, ◌≤◌, pos, ◌*ℤ◌, ◌≤ℤ◌, Bool, true, false, ◌||◌, List, [], ◌∷◌, length, get_or, drop, refl, sym, ap, ◌∙◌, arith}
 use Rattle.std.specs.Prelude.{int_lt, nat_lt}
 use Rattle.std.specs.List.{list_any}
 use Rattle.std.proofs.Math.Nat.{mul-le-mul_left, mul_assoc}
 use Rattle.std.proofs.lemmas.Int.{ints}
-use Rattle.std.proofs.lemmas.Bool.{cases_Bool, or_parts, or_left, or_right, lt-ltb, ltb-false}
+use Rattle.std.proofs.lemmas.Bool.Decides.{nat_tests}
+use Rattle.std.proofs.lemmas.Bool.{or_parts, ltb-false}
 use Rattle.std.proofs.lemmas.List.{at_drop_more}
 use Rattle.f77_tree.specs.declared.declarations.Dim.{Dim}
 use Rattle.f77_tree.specs.Value.{extent as width, size_of}
@@ -36,13 +37,8 @@ is_too_large count dims = list_any is_backwards dims || nat_lt 262144 (count * e
 
 pub too_large-more : (count : ℕ) (dims : List Dim) → 262144 < count → is_too_large count dims ≡ true
 too_large-more count dims lt =
-    ⊎_elim
-    (λ (back : list_any is_backwards dims ≡ true). or_left (list_any is_backwards dims) (nat_lt 262144 (count * elements dims)) back)
-    (λ (forward : list_any is_backwards dims ≡ false).
-    let one : 1 ≤ elements dims = elements-some dims forward in
-    let le : count * 1 ≤ count * elements dims = mul-le-mul_left count one in
-    or_right (list_any is_backwards dims) (nat_lt 262144 (count * elements dims)) (lt-ltb 262144 (count * elements dims) (omega (arith, le))))
-    (cases_Bool (list_any is_backwards dims))
+    let some : list_any is_backwards dims ≡ false → count * 1 ≤ count * elements dims = λ forward. mul-le-mul_left count (elements-some dims forward) in
+    grind (arith, some, nat_tests)
 
 module _ (count : ℕ) (dims : List Dim) (i : ℕ) (dim : Dim) (lt : i < length dims) (is : dim ≡ get_or dims i dim) where
   at_next : is_too_large count (drop i dims) ≡ is_too_large count (dim ∷ drop (i + 1) dims)

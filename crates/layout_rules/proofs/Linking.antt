@@ -2,7 +2,7 @@
 use Rattle.std.proofs.Common.{◌≡◌, ◌≢◌, ℕ, ◌+◌, ◌<◌, ◌≤◌, ◌⊎◌, inl, inr, ℤ, pos, ◌+ℤ◌, ◌-ℤ◌, Bool, cond, if◌then◌else◌, ◌==◌, nat_lt, List, [], ◌∷◌, length, map, get_or, ⊎_elim, refl, sym, ap, ◌∙◌, arith}
 use Rattle.std.proofs.lemmas.Int.{ints}
 use Rattle.std.proofs.lemmas.Bool.Decides.{nat_tests}
-use Rattle.std.proofs.lemmas.Bool.{cases_order, cases_eq}
+use Rattle.std.proofs.lemmas.Bool.{cases_order}
 use Rattle.std.proofs.lemmas.List.{length-map, get_or-map}
 use Rattle.std.proofs.lemmas.List.Sums.{sum_by-cons}
 use Rattle.std.proofs.lemmas.Option.{slice_get-get_or}
@@ -152,14 +152,7 @@ module _ (spots : List Spot) (e : Equation) where
   others-after x i ne ne' = ap (λ s. count_in after s) (storage-linked spots e x i) ∙ count_in-other A B e.distance (storage_at spots x) ne ne' spots
 
   pub more-after : A.storage ≢ B.storage → (x : ℕ) → x < length spots → count_in spots (storage_at spots x) ≤ count_in after (storage_at after x)
-  more-after ne x i =
-      ⊎_elim
-      (λ a. let whole = joined-after ne x i (inl a) in let here : count_in spots (storage_at spots x) ≡ count_in spots A.storage = ap (λ s. count_in spots s) a in omega arith)
-      (λ na. ⊎_elim
-      (λ b. let whole = joined-after ne x i (inr b) in let here : count_in spots (storage_at spots x) ≡ count_in spots B.storage = ap (λ s. count_in spots s) b in omega arith)
-      (λ nb. let whole = others-after x i na nb in omega arith)
-      (cases_eq (storage_at spots x) B.storage))
-      (cases_eq (storage_at spots x) A.storage)
+  more-after ne x i = grind (arith, joined-after ne x i, others-after x i)
 
   pub near-after : A.storage ≢ B.storage → e.from < length spots → e.to < length spots → IsReach e.distance → AreNear spots → AreNear after
   near-after ne from to reach near x y i j same =

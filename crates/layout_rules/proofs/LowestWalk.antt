@@ -1,15 +1,12 @@
 -- The search for the lowest line with a fault, statement by statement. A loop over the statements keeps
 -- `lowest_line fault stmts ≡ lower_line lowest (lowest_after fault (take i stmts) (drop i stmts))`.
-use Rattle.std.proofs.Common.{◌≡◌, ℕ, ◌+◌, ◌<◌, ◌≤◌, min, suc, Bool, true, false, cond, List, [], ◌∷◌, ◌++◌, length, get_or, take, drop, Option, Some, None, refl, sym, ap, ◌∙◌, add-one, drop-cons, arith}
+use Rattle.std.proofs.Common.{◌≡◌, ℕ, ◌+◌, ◌<◌, ◌≤◌, suc, Bool, true, false, cond, List, [], ◌∷◌, ◌++◌, length, get_or, take, drop, Option, Some, None, refl, sym, ap, ◌∙◌, add-one, drop-cons, arith}
 use Rattle.std.proofs.Math.Seq.{take-suc}
 use Rattle.std.proofs.lemmas.Bool.Decides.{nat_tests}
 use Rattle.std.proofs.lemmas.List.{drop_all}
 use Rattle.f77_tree.specs.declared.statements.Labelled.{Labelled}
 use Rattle.layout_rules.specs.Faults.{first_after}
 use Rattle.layout_rules.specs.LowestLines.{lower_line, lower_or, lowest_after}
-
-lower-min : (a b : ℕ) → lower_or a (Some b) ≡ min a b
-lower-min a b = grind (arith, nat_tests)
 
 lower-assoc : (a b : ℕ) (o : Option ℕ) → lower_or (lower_or a (Some b)) o ≡ lower_or a (Some (lower_or b o))
 lower-assoc a b None = refl
@@ -39,16 +36,8 @@ module _ (fault : List Labelled → Labelled → Bool) (stmts : List Labelled) (
 -- no line is the lowest exactly where none is the first
 pub lowest-none : (fault : List Labelled → Labelled → Bool) (above stmts : List Labelled) → lowest_after fault above stmts ≡ None → first_after fault above stmts ≡ None
 lowest-none fault above [] none = refl
-lowest-none fault above (s ∷ rest) none = by (fault above s) (lowest-none fault (above ++ s ∷ []) rest) none
-  where
-    by : (b : Bool) → (lowest_after fault (above ++ s ∷ []) rest ≡ None → first_after fault (above ++ s ∷ []) rest ≡ None) → cond b (Some (lower_or s.line (lowest_after fault (above ++ s ∷ []) rest))) (lowest_after fault (above ++ s ∷ []) rest) ≡ None → cond b (Some s.line) (first_after fault (above ++ s ∷ []) rest) ≡ None
-    by true later h = let e : Some (lower_or s.line (lowest_after fault (above ++ s ∷ []) rest)) ≡ None = h in absurd cc
-    by false later h = later h
+lowest-none fault above (s ∷ rest) none = grind (arith, none, lowest-none fault (above ++ s ∷ []) rest)
 
 pub first-none : (fault : List Labelled → Labelled → Bool) (above stmts : List Labelled) → first_after fault above stmts ≡ None → lowest_after fault above stmts ≡ None
 first-none fault above [] none = refl
-first-none fault above (s ∷ rest) none = by (fault above s) (first-none fault (above ++ s ∷ []) rest) none
-  where
-    by : (b : Bool) → (first_after fault (above ++ s ∷ []) rest ≡ None → lowest_after fault (above ++ s ∷ []) rest ≡ None) → cond b (Some s.line) (first_after fault (above ++ s ∷ []) rest) ≡ None → cond b (Some (lower_or s.line (lowest_after fault (above ++ s ∷ []) rest))) (lowest_after fault (above ++ s ∷ []) rest) ≡ None
-    by true later h = let e : Some s.line ≡ None = h in absurd cc
-    by false later h = later h
+first-none fault above (s ∷ rest) none = grind (arith, none, first-none fault (above ++ s ∷ []) rest)

@@ -26,7 +26,7 @@ pub record AgreesButPlaces (names placed : List NameInfo) : Type 0 where
   pub kinds : (k : ℕ) → kind_of placed k ≡ kind_of names k
   pub dims : (k : ℕ) → dims_of placed k ≡ dims_of names k
 
-placed_from-agrees : (names : List NameInfo) (spots : List Spot) (k : ℕ) (rest : List NameInfo) → AgreesButPlaces rest (placed_from names spots k rest)
+pub placed_from-agrees : (names : List NameInfo) (spots : List Spot) (k : ℕ) (rest : List NameInfo) → AgreesButPlaces rest (placed_from names spots k rest)
 placed_from-agrees names spots k [] = record { as_many = refl; kinds = λ j. refl; dims = λ j. refl }
 placed_from-agrees names spots k (info ∷ rest) =
     let more = placed_from-agrees names spots (k + 1) rest in

@@ -21,7 +21,7 @@ is_row_of-items : (names : List NameInfo) (kind : Kind) (n : _) (row : Row_of-Ra
 is_row_of-items names kind n end_of-RawExpr = refl
 is_row_of-items names kind n (more_of-RawExpr e rest) = ap (λ b. is_of_kind names kind e && b) (is_row_of-items names kind _ rest)
 
-count_of_row-items : (n : _) (row : Row_of-RawExpr n) → count_of_row row ≡ length (items-the_row-RawExpr n row)
+pub count_of_row-items : (n : _) (row : Row_of-RawExpr n) → count_of_row row ≡ length (items-the_row-RawExpr n row)
 count_of_row-items n end_of-RawExpr = refl
 count_of_row-items n (more_of-RawExpr e rest) = let more = count_of_row-items _ rest in omega (arith, more)
 

@@ -5,7 +5,8 @@ use Rattle.std.specs.List.{list_any}
 use Rattle.std.specs.Option.{is_some}
 use Rattle.std.proofs.lemmas.Bool.{eq-eqb, or_right, or_left}
 use Rattle.std.proofs.lemmas.List.Sums.{fold_push}
-use Rattle.std.proofs.lemmas.List.Elements.{Contains-append_right, Contains-append_cases, Contains-push_cases}
+use Rattle.std.proofs.lemmas.List.Folds.{list_any_at, list_any-append}
+use Rattle.std.proofs.lemmas.List.Elements.{Contains-append_right, Contains-append_cases}
 use Rattle.f77_tree.specs.declared.programs.NameInfo.{NameInfo}
 use Rattle.f77_tree.specs.Places.{same_block}
 use Rattle.f77_tree.proofs.NameLemmas.{same_block-same}
@@ -56,8 +57,7 @@ last-some block xs k e = sym (some-last block None xs) ∙ ap is_some e
 
 -- one name more
 pub any-push : (k : ℕ) (xs : List Standing) (s : Standing) → list_any (λ a. a.name == k) (xs ++ s ∷ []) ≡ (list_any (λ a. a.name == k) xs || (s.name == k))
-any-push k [] s = grind arith
-any-push k (x ∷ xs) s = ap (λ b. (x.name == k) || b) (any-push k xs s) ∙ grind arith
+any-push k xs s = list_any-append (λ a. a.name == k) xs (s ∷ []) ∙ grind arith
 
 -- ---- a first name
 
@@ -84,12 +84,7 @@ firsts-stand seen (x ∷ xs) k h =
 -- ---- a name that stands
 
 pub stands-each : (xs : List Standing) (s : Standing) → Contains xs s → list_any (λ a. a.name == s.name) xs ≡ true
-stands-each [] s h = absurd (omega (arith, h.1))
-stands-each (x ∷ xs) s h =
-    ⊎_elim
-    (λ (here : Contains (x ∷ []) s). or_left (x.name == s.name) (list_any (λ a. a.name == s.name) xs) (eq-eqb x.name s.name (ap (λ (a : Standing). a.name) (⊎_elim (λ (none : Contains [] s). absurd (omega (arith, none.1))) (λ e. e) (Contains-push_cases [] x s here)))))
-    (λ there. or_right (x.name == s.name) (list_any (λ a. a.name == s.name) xs) (stands-each xs s there))
-    (Contains-append_cases (x ∷ []) xs s h)
+stands-each xs s h = list_any_at (λ a. a.name == s.name) xs h.0 s h.1 (ap (λ (a : Standing). a.name == s.name) h.2 ∙ eq-eqb s.name s.name refl)
 
 -- a name of COMMON, in this block
 pub record IsStanding (xs : List Standing) (block : Option (List ℕ)) (k : ℕ) : Type 0 where

@@ -1,8 +1,8 @@
 -- The first fault of a kind, and what the order of statements says of declarations and DATA.
-use Rattle.std.proofs.Common.{◌≡◌, ℕ, ◌<◌, Bool, true, false, not, ◌&&◌, ◌||◌, cond, List, [], ◌∷◌, ◌++◌, length, get_or, All, Some, None, ⊎_elim, refl, sym, ap, ◌∙◌, arith}
+use Rattle.std.proofs.Common.{◌≡◌, ℕ, ◌<◌, Bool, true, false, not, ◌&&◌, ◌||◌, cond, List, [], ◌∷◌, ◌++◌, length, get_or, All, Some, None, ⊎_elim, refl, sym, ap, subst, ◌∙◌, append_assoc, append-nil, arith}
 use Rattle.std.specs.Prelude.{nat_lt, ◌==◌, bytes_eq}
 use Rattle.std.specs.List.{list_any}
-use Rattle.std.proofs.lemmas.Bool.{cases_Bool, or_parts, or_left, or_cases, true≢false, eqb-true, and_left}
+use Rattle.std.proofs.lemmas.Bool.{false_from_ne_true, or_parts, or_from, or_left, or_cases, true≢false, eqb-true, and_left}
 use Rattle.std.proofs.lemmas.List.{length-map, get_or-map}
 use Rattle.std.proofs.lemmas.List.Folds.{list_any-append}
 use Rattle.f77_tree.specs.declared.declarations.Decl.{Decl}
@@ -13,23 +13,19 @@ use Rattle.f77_tree.specs.declared.statements.Stmt.TheVariants.{Equivalence, Ini
 use Rattle.layout_rules.specs.Faults.{first_after, first_answer, answer_or}
 use Rattle.layout_rules.specs.Declarations.{declarators, all_declarators, has_dims, dims_told, dims_or_none, all_groups, groups_of}
 use Rattle.layout_rules.specs.Order.{rank, is_out_of_order}
-use Rattle.layout_rules.specs.StorageFaults.{is_equivalence, is_data, are_wrong_dims, has_dims_twice, is_common_twice, has_wrong_member, gives_places, has_wrong_dims, has_wrong_declaration, has_wrong_places}
+use Rattle.layout_rules.specs.StorageFaults.{is_equivalence, is_data, are_wrong_dims, has_dims_twice, is_common_twice, has_wrong_member, gives_places, has_wrong_dims, has_wrong_declaration, has_wrong_places, has_wrong_data, has_wrong_storage}
 use Rattle.layout_rules.specs.Appearances.{all_names}
 use Rattle.layout_rules.specs.Layout.{name_info, names_of}
 use Rattle.layout_rules.specs.PlacedNames.{HasRightDims}
 use Rattle.layout_rules.proofs.FlatParts.{list_any-flat_map}
 
-abbrev Fault : Type 0
+abbrev pub Fault : Type 0
 Fault = List Labelled → Labelled → Bool
 
 -- ---- a statement without the fault, and one with it
 
 pub after_clear : (fault : Fault) (above rest : List Labelled) (s : Labelled) → first_after fault above (s ∷ rest) ≡ None → fault above s ≡ false
-after_clear fault above rest s none =
-    ⊎_elim
-    (λ (is : fault above s ≡ true). let some : first_after fault above (s ∷ rest) ≡ Some s.line = rw is refl in cc)
-    (λ (is : fault above s ≡ false). is)
-    (cases_Bool (fault above s))
+after_clear fault above rest s none = false_from_ne_true (fault above s) (λ is. let some : first_after fault above (s ∷ rest) ≡ Some s.line = rw is refl in cc)
 
 pub after_next : (fault : Fault) (above rest : List Labelled) (s : Labelled) → fault above s ≡ false → first_after fault above (s ∷ rest) ≡ first_after fault (above ++ s ∷ []) rest
 after_next fault above rest s clear = rw clear refl
@@ -98,9 +94,43 @@ pub data_late : (stmt : Stmt) → is_data stmt ≡ true → (rank stmt == 3) ≡
 data_late (Init parts) is = refl
 data_late _ is = absurd (true≢false (sym is))
 
--- a statement that declares nothing wrong has no wrong dimensions
-pub dims_clear : (names : List NameInfo) (above : List Labelled) (s : Labelled) → has_wrong_declaration names above s ≡ false → has_wrong_dims s ≡ false
-dims_clear names above s clear =
-    let most = or_parts (has_dims_twice above s || has_wrong_dims s || is_common_twice above s) (has_wrong_member names s) clear in
-    let more = or_parts (has_dims_twice above s || has_wrong_dims s) (is_common_twice above s) most.0 in
-    (or_parts (has_dims_twice above s) (has_wrong_dims s) more.0).1
+-- what a statement without a fault of storage lacks
+pub record IsRightStatement (names placed : List NameInfo) (whole above : List Labelled) (s : Labelled) : Type 0 where
+  pub first : (has_dims_twice above s || has_wrong_dims s || is_common_twice above s) ≡ false
+  pub dims_once : has_dims_twice above s ≡ false
+  pub dims : has_wrong_dims s ≡ false
+  pub common_once : is_common_twice above s ≡ false
+  pub members : has_wrong_member names s ≡ false
+  pub places : has_wrong_places names whole above s ≡ false
+  pub values : has_wrong_data placed above s ≡ false
+
+-- what no statement has twice or wrong, whatever else it lacks
+pub declared_right : (above : List Labelled) (s : Labelled) (other : Bool) → (has_dims_twice above s || has_wrong_dims s || is_common_twice above s || other) ≡ false → (has_dims_twice above s ≡ false) × (has_wrong_dims s ≡ false) × (is_common_twice above s ≡ false)
+declared_right above s other clear =
+    let most = or_parts (has_dims_twice above s || has_wrong_dims s) (is_common_twice above s) (or_parts (has_dims_twice above s || has_wrong_dims s || is_common_twice above s) other clear).0 in
+    let dims = or_parts (has_dims_twice above s) (has_wrong_dims s) most.0 in
+    (dims.0, dims.1, most.1)
+
+pub right_statement : (names placed : List NameInfo) (whole above : List Labelled) (s : Labelled) → has_wrong_storage names placed whole above s ≡ false → IsRightStatement names placed whole above s
+right_statement names placed whole above s clear =
+    let both = or_parts (has_wrong_declaration names above s || has_wrong_places names whole above s) (has_wrong_data placed above s) clear in
+    let parts = or_parts (has_wrong_declaration names above s) (has_wrong_places names whole above s) both.0 in
+    let declaration = or_parts (has_dims_twice above s || has_wrong_dims s || is_common_twice above s) (has_wrong_member names s) parts.0 in
+    let each = declared_right above s (has_wrong_member names s) parts.0 in
+    record { first = declaration.0; dims_once = each.0; dims = each.1; common_once = each.2; members = declaration.1; places = parts.1; values = both.1 }
+
+-- ---- all statements
+
+-- what each statement without the fault keeps is so after all of them
+pub kept-after : (fault : Fault) (P : List Labelled → Type 0) → ((above : List Labelled) (s : Labelled) → fault above s ≡ false → P above → P (above ++ s ∷ [])) → (above rest : List Labelled) → first_after fault above rest ≡ None → P above → P (above ++ rest)
+kept-after fault P keeps above [] none so = subst P (sym (append-nil above)) so
+kept-after fault P keeps above (s ∷ rest) none so =
+    let clear = after_clear fault above rest s none in
+    subst P (append_assoc above (s ∷ []) rest) (kept-after fault P keeps (above ++ s ∷ []) rest (sym (after_next fault above rest s clear) ∙ none) (keeps above s clear so))
+
+-- where no statement has the fault, none is bad, if a bad one has it
+pub none-any : (fault : Fault) (bad : Labelled → Bool) → ((above : List Labelled) (s : Labelled) → fault above s ≡ false → bad s ≡ false) → (above stmts : List Labelled) → first_after fault above stmts ≡ None → list_any bad stmts ≡ false
+none-any fault bad lacks above [] right = refl
+none-any fault bad lacks above (s ∷ rest) right =
+    let clear = after_clear fault above rest s right in
+    or_from (bad s) (list_any bad rest) (lacks above s clear) (none-any fault bad lacks (above ++ s ∷ []) rest (sym (after_next fault above rest s clear) ∙ right))

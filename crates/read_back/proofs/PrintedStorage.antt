@@ -50,7 +50,8 @@ use Rattle.read_back.proofs.PrintedDimensions.{right_dims}
 use Rattle.read_back.proofs.PrintedTable.{table_same}
 use Rattle.read_back.proofs.PrintedTypes.{bare-index, bare-dims}
 use Rattle.read_back.proofs.ReadDeclarations.{groups_same}
-use Rattle.read_back.proofs.RightPlaces.{same_block-itself, MeetRules, right_places}
+use Rattle.layout_rules.proofs.RightPlaces.{same_block-itself}
+use Rattle.read_back.proofs.RightPlaces.{MeetRules, right_places}
 use Rattle.read_back.proofs.SameEquations.{AreAlike, equations-to, equations-from, standing-names}
 use Rattle.read_back.proofs.StatementParts.{HoldsOfRead}
 

@@ -44,7 +44,7 @@ use Rattle.layout_rules.specs.Executables.{kind_or_integer}
 use Rattle.layout_rules.specs.Faults.{first_line}
 use Rattle.layout_rules.specs.Layout.{name_info, names_of}
 use Rattle.layout_rules.specs.Types.{is_array_in}
-use Rattle.storage_laws.proofs.DeclaredKnown.{each_part}
+use Rattle.layout_rules.proofs.FlatParts.{each_part}
 use Rattle.layout_rules.proofs.NamesOf.{appearing-ThenIf}
 use Rattle.flat_programs.specs.declared.statements.Flat.{Flat}
 use Rattle.flat_programs.specs.declared.statements.Flat.TheVariants.{Mark, Assignment, Output, LogicalIf, ArithmeticIf, ComputedGoTo, DoLoop, Jump, Finish}

@@ -13,7 +13,7 @@ use Rattle.f77_tree.specs.Places.{block_names}
 use Rattle.f77_tree.proofs.AllLemmas.{All-first}
 use Rattle.layout_rules.specs.Declarations.{all_commons}
 use Rattle.layout_rules.specs.Layout.{HasForm, program}
-use Rattle.storage_laws.proofs.DeclaredKnown.{each_part}
+use Rattle.layout_rules.proofs.FlatParts.{each_part}
 use Rattle.flat_programs.specs.declared.statements.FlatLine.{FlatLine}
 use Rattle.flat_programs.specs.Executables.{leading, following, executables, executables_in, executables_at}
 use Rattle.flat_programs.specs.FlatForm.{AreProper}

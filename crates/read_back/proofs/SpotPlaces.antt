@@ -1,30 +1,20 @@
 -- Places that meet equations: a name lies as far after the lowest name of its storage as its place after that one's.
-use Rattle.std.proofs.Common.{◌≡◌, ℕ, zero, suc, ◌+◌, ◌<◌, ⊎_elim, ℤ, pos, ◌+ℤ◌, ◌-ℤ◌, ◌≤ℤ◌, Bool, true, false, cond, if◌then◌else◌, ◌==◌, nat_lt, List, [], ◌∷◌, length, map, Option, Some, None, Contains, refl, sym, ap, subst, ◌∙◌, arith}
+use Rattle.std.proofs.Common.{◌≡◌, ℕ, zero, suc, ◌+◌, ◌<◌, ⊎_elim, ℤ, pos, ◌+ℤ◌, ◌-ℤ◌, ◌≤ℤ◌, Bool, true, false, cond, ◌==◌, nat_lt, List, [], ◌∷◌, length, map, Option, Some, None, Contains, refl, sym, ap, subst, arith}
 use Rattle.std.specs.Prelude.{fold, slice_get}
+use Rattle.std.specs.Option.{option_map}
 use Rattle.std.specs.List.{range_with_len}
-use Rattle.std.specs.Ordering.{int_eq}
 use Rattle.std.proofs.lemmas.Int.{ints}
-use Rattle.std.proofs.lemmas.Bool.{eqb-true, eq-eqb, and_from}
-use Rattle.std.proofs.lemmas.Bool.Decides.{nat_tests, Decides-int_eq}
-use Rattle.std.proofs.lemmas.List.{length-map}
-use Rattle.std.proofs.lemmas.List.FromFn.{length-map-range_with_len}
+use Rattle.std.proofs.lemmas.Bool.{eqb-true}
+use Rattle.std.proofs.lemmas.Option.{slice_get-map}
 use Rattle.f77_tree.specs.Places.{Equation}
-use Rattle.layout_rules.specs.Storage.{Spot, spot_at, spot_or_alone, alone, moved, united, linked, spots_by, is_kept}
-use Rattle.layout_rules.specs.Spots.{storage_at, distance_at}
+use Rattle.layout_rules.specs.Storage.{Spot, spot_at, spot_or_alone, alone, moved, united, linked, spots_by}
+use Rattle.layout_rules.specs.Spots.{storage_at, distance_at, IsBelow}
+use Rattle.layout_rules.proofs.Alone.{length-alone}
+use Rattle.layout_rules.proofs.Linking.{length-after, together-after, meet-after}
 use Rattle.storage_laws.proofs.PlacedBlocks.{contains-cases}
 use Rattle.storage_laws.proofs.PlacedLinks.{AreEquations}
-use Rattle.read_back.proofs.PrintedPlaces.{get_some}
 
 -- ---- spots by their places
-
-abbrev mapped : {X Y : Type 0} → (X → Y) → Option X → Option Y
-mapped f None = None
-mapped f (Some x) = Some (f x)
-
-got-map : {X Y : Type 0} (f : X → Y) (xs : List X) (k : ℕ) → slice_get (map f xs) k ≡ mapped f (slice_get xs k)
-got-map f [] k = refl
-got-map f (x ∷ xs) zero = refl
-got-map f (x ∷ xs) (suc k) = got-map f xs k
 
 abbrev alone_at : ℕ → Spot
 alone_at k = record { storage = k; distance = pos 0 }
@@ -67,7 +57,7 @@ module _ (P : ℕ → ℤ) where
       low true = at_moved b.storage a.storage (a.distance +ℤ d -ℤ b.distance) first k s is
       low false = high (nat_lt b.storage a.storage)
 
-  at_mapped : (f : Spot → Spot) → ((k : ℕ) (s : Spot) → IsAt k s → IsAt k (f s)) → (k : ℕ) (s : Option Spot) → IsAt k (spot_or_alone k s) → IsAt k (spot_or_alone k (mapped f s))
+  at_mapped : (f : Spot → Spot) → ((k : ℕ) (s : Spot) → IsAt k s → IsAt k (f s)) → (k : ℕ) (s : Option Spot) → IsAt k (spot_or_alone k s) → IsAt k (spot_or_alone k (option_map f s))
   at_mapped f keeps k None is = is
   at_mapped f keeps k (Some s) is = keeps k s is
 
@@ -75,7 +65,7 @@ module _ (P : ℕ → ℤ) where
   at_linked spots e are holds k =
       let f = united (spot_at spots e.from) (spot_at spots e.to) e.distance in
       let keeps : (j : ℕ) (s : Spot) → IsAt j s → IsAt j (f s) = at_united (spot_at spots e.from) (spot_at spots e.to) e.from e.to e.distance (are e.from) (are e.to) holds in
-      subst (λ (o : Option Spot). IsAt k (spot_or_alone k o)) (sym (got-map f spots k)) (at_mapped f keeps k (slice_get spots k) (are k))
+      subst (λ (o : Option Spot). IsAt k (spot_or_alone k o)) (sym (slice_get-map f spots k)) (at_mapped f keeps k (slice_get spots k) (are k))
 
   at_all : (all : List Equation) (spots : List Spot) → AreAt spots → ((e : Equation) → Contains all e → Holds e) → AreAt (fold linked spots all)
   at_all [] spots are holds = are
@@ -93,33 +83,11 @@ module _ (P : ℕ → ℤ) where
 
 -- ---- names of one storage
 
--- the storage of a name after those of a and b became one
-abbrev label : ℕ → ℕ → ℕ → ℕ
-label a b s = if nat_lt a b then (if s == b then a else s) else if nat_lt b a then (if s == a then b else s) else s
-
-storage-united : (a b : Spot) (d : ℤ) (s : Spot) → (united a b d s).storage ≡ label a.storage b.storage s.storage
-storage-united a b d s = grind (arith, nat_tests)
-
-label-joins : (a b : ℕ) → label a b a ≡ label a b b
-label-joins a b = grind (arith, nat_tests)
-
-spot-linked : (spots : List Spot) (e : Equation) (k : ℕ) → k < length spots → spot_at (linked spots e) k ≡ united (spot_at spots e.from) (spot_at spots e.to) e.distance (spot_at spots k)
-spot-linked spots e k lt =
-    let f = united (spot_at spots e.from) (spot_at spots e.to) e.distance in
-    let found = get_some spots k lt in
-    ap (spot_or_alone k) (got-map f spots k ∙ ap (mapped f) found.1) ∙ sym (ap (λ (o : Option Spot). f (spot_or_alone k o)) found.1)
-
-storage-linked : (spots : List Spot) (e : Equation) (k : ℕ) → k < length spots → storage_at (linked spots e) k ≡ label (storage_at spots e.from) (storage_at spots e.to) (storage_at spots k)
-storage-linked spots e k lt =
-    ap (λ (s : Spot). s.storage) (spot-linked spots e k lt) ∙ storage-united (spot_at spots e.from) (spot_at spots e.to) e.distance (spot_at spots k)
-
 stay : (spots : List Spot) (all : List Equation) (x y : ℕ) → x < length spots → y < length spots → storage_at spots x ≡ storage_at spots y → storage_at (fold linked spots all) x ≡ storage_at (fold linked spots all) y
 stay spots [] x y i j same = same
 stay spots (e ∷ all) x y i j same =
-    let f = united (spot_at spots e.from) (spot_at spots e.to) e.distance in
-    let long = length-map spots f in
-    let now = storage-linked spots e x i ∙ ap (label (storage_at spots e.from) (storage_at spots e.to)) same ∙ sym (storage-linked spots e y j) in
-    stay (linked spots e) all x y (omega (arith, long, i)) (omega (arith, long, j)) now
+    let long = length-after spots e in
+    stay (linked spots e) all x y (omega (arith, long, i)) (omega (arith, long, j)) (together-after spots e x y i j same)
 
 abbrev AreWithin : List Spot → List Equation → Type 0
 AreWithin spots all = (e : Equation) → Contains all e → (e.from < length spots) × (e.to < length spots)
@@ -127,15 +95,13 @@ AreWithin spots all = (e : Equation) → Contains all e → (e.from < length spo
 meet : (spots : List Spot) (all : List Equation) → AreWithin spots all → (e : Equation) → Contains all e → storage_at (fold linked spots all) e.from ≡ storage_at (fold linked spots all) e.to
 meet spots [] within e there = absurd (omega (arith, there.1))
 meet spots (x ∷ all) within e there =
-    let f = united (spot_at spots x.from) (spot_at spots x.to) x.distance in
-    let long = length-map spots f in
+    let long = length-after spots x in
     let inside : AreWithin spots (x ∷ all) = within in
     ⊎_elim
     (λ (same : x ≡ e).
     let i = (inside x (0, omega arith, refl)).0 in
     let j = (inside x (0, omega arith, refl)).1 in
-    let joined = storage-linked spots x x.from i ∙ label-joins (storage_at spots x.from) (storage_at spots x.to) ∙ sym (storage-linked spots x x.to j) in
-    subst (λ (z : Equation). storage_at (fold linked (linked spots x) all) z.from ≡ storage_at (fold linked (linked spots x) all) z.to) same (stay (linked spots x) all x.from x.to (omega (arith, long, i)) (omega (arith, long, j)) joined))
+    subst (λ (z : Equation). storage_at (fold linked (linked spots x) all) z.from ≡ storage_at (fold linked (linked spots x) all) z.to) same (stay (linked spots x) all x.from x.to (omega (arith, long, i)) (omega (arith, long, j)) (meet-after spots x x.from x.to i j refl refl)))
     (λ (later : Contains all e).
     meet (linked spots x) all (λ z h.
     let both = inside z (suc h.0, omega (arith, h.1), h.2) in
@@ -144,11 +110,8 @@ meet spots (x ∷ all) within e there =
 
 -- ---- equations that hold
 
-length-alone : (n : ℕ) → length (alone n) ≡ n
-length-alone n = length-map-range_with_len alone_at 0 n
-
 -- the spots that equations give keep each of them, where some places meet them all
-pub kept : (P : ℕ → ℤ) (count : ℕ) (all : List Equation) → AreEquations count all → ((e : Equation) → Contains all e → Holds P e) → (e : Equation) → Contains all e → is_kept (spots_by count all) e ≡ true
+pub kept : (P : ℕ → ℤ) (count : ℕ) (all : List Equation) → AreEquations count all → ((e : Equation) → Contains all e → Holds P e) → (e : Equation) → Contains all e → IsBelow (spots_by count all) e.to e.from e.distance
 kept P count all are holds e there =
     let spots = spots_by count all in
     let long = length-alone count in
@@ -156,8 +119,7 @@ kept P count all are holds e there =
     let together : storage_at spots e.from ≡ storage_at spots e.to = meet (alone count) all within e there in
     let at = at_spots P count all holds in
     let begins : P (storage_at spots e.from) ≡ P (storage_at spots e.to) = ap P together in
-    let apart : distance_at spots e.to ≡ distance_at spots e.from +ℤ e.distance = omega (arith, ints, at e.from, at e.to, begins, holds e there) in
-    and_from (storage_at spots e.from == storage_at spots e.to) (int_eq (distance_at spots e.to) (distance_at spots e.from +ℤ e.distance)) (eq-eqb (storage_at spots e.from) (storage_at spots e.to) together) ((Decides-int_eq (distance_at spots e.to) (distance_at spots e.from +ℤ e.distance)).1 apart)
+    record { together = together; beyond = omega (arith, ints, at e.from, at e.to, begins, holds e there) }
 
 -- names of one storage stand as their places do
 pub in_order : (P : ℕ → ℤ) (spots : List Spot) → AreAt P spots → (x y : ℕ) → storage_at spots x ≡ storage_at spots y → P x ≤ℤ P y → distance_at spots x ≤ℤ distance_at spots y

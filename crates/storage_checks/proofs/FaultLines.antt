@@ -1,7 +1,6 @@
 -- No line of storage or of counts is told exactly where no statement has such a fault.
 use Rattle.std.proofs.Common.{◌≡◌, ℕ, ◌+◌, ◌≤◌, Bool, true, false, not, ◌&&◌, ◌||◌, cond, List, [], ◌∷◌, ◌++◌, length, All, Option, Some, None, refl, sym, ap, subst, ◌∙◌, arith}
 use Rattle.std.specs.Prelude.{flat_map, nat_lt, sum_by}
-use Rattle.std.specs.List.{list_any}
 use Rattle.std.proofs.lemmas.Bool.{true≢false, or_from, or_parts, le-leb, ltb-false}
 use Rattle.std.proofs.lemmas.List.Concat.{flat_map-append}
 use Rattle.std.proofs.lemmas.List.Sums.{sum_by-append}
@@ -22,11 +21,11 @@ use Rattle.layout_rules.specs.PlacedNames.{HasRightDims}
 use Rattle.layout_rules.specs.StorageFaults.{is_data, has_dims_twice, has_wrong_data, has_wrong_declaration, has_wrong_dims, has_wrong_member, has_wrong_part, has_wrong_places, has_wrong_storage, is_common_twice}
 use Rattle.layout_rules.specs.StorageLines.{declares_wrongly, given_by, groups_wrongly, initializes_wrongly, storage_line}
 use Rattle.layout_rules.proofs.LowestWalk.{first-none, lowest-none}
-use Rattle.layout_rules.proofs.StorageLines.{after_clear, after_here, after_next, right_sizes}
+use Rattle.layout_rules.proofs.StorageLines.{Fault, after_clear, after_here, after_next, right_sizes, declared_right, none-any, right_statement}
 
 -- ---- DATA
 
-pub no-inits : (stmt : Stmt) → is_data stmt ≡ false → inits_of stmt ≡ []
+no-inits : (stmt : Stmt) → is_data stmt ≡ false → inits_of stmt ≡ []
 no-inits (Init parts) is = absurd (true≢false is)
 no-inits _ is = refl
 
@@ -34,19 +33,37 @@ pub and-from : (a b : Bool) → (a ≡ true → b ≡ false) → (a && b) ≡ fa
 and-from true b h = h refl
 and-from false b h = refl
 
-and-true : (a b : Bool) → a ≡ true → (a && b) ≡ false → b ≡ false
-and-true a b is h = rw is at h
-
 pub by-test : {P : Type 0} (b : Bool) → (b ≡ true → P) → (b ≡ false → P) → P
 by-test true on_true on_false = on_true refl
 by-test false on_true on_false = on_false refl
 
+-- ---- one fault or another
+
+abbrev pub either : Fault → Fault → Fault
+either f g above s = f above s || g above s
+
+pub none-either : (f g : Fault) (above stmts : List Labelled) → first_after f above stmts ≡ None → first_after g above stmts ≡ None → first_after (either f g) above stmts ≡ None
+none-either f g above [] no_f no_g = refl
+none-either f g above (s ∷ rest) no_f no_g =
+    let clear_f = after_clear f above rest s no_f in
+    let clear_g = after_clear g above rest s no_g in
+    after_next (either f g) above rest s (or_from (f above s) (g above s) clear_f clear_g)
+    ∙ none-either f g (above ++ s ∷ []) rest (sym (after_next f above rest s clear_f) ∙ no_f) (sym (after_next g above rest s clear_g) ∙ no_g)
+
+either-none : (f g : Fault) (above stmts : List Labelled) → first_after (either f g) above stmts ≡ None → (first_after f above stmts ≡ None) × (first_after g above stmts ≡ None)
+either-none f g above [] none = (refl, refl)
+either-none f g above (s ∷ rest) none =
+    let clear = after_clear (either f g) above rest s none in
+    let parts = or_parts (f above s) (g above s) clear in
+    let later = either-none f g (above ++ s ∷ []) rest (sym (after_next (either f g) above rest s clear) ∙ none) in
+    (after_next f above rest s parts.0 ∙ later.0, after_next g above rest s parts.1 ∙ later.1)
+
 module _ (names placed : List NameInfo) (whole : List Labelled) where
   -- what DATA with right items gives is all that it has
-  pub gives-all : (s : Labelled) → has_wrong_member names s ≡ false → given_by names s ≡ inits_of s.stmt
+  gives-all : (s : Labelled) → has_wrong_member names s ≡ false → given_by names s ≡ inits_of s.stmt
   gives-all s right = ap (λ b. cond b [] (inits_of s.stmt)) right
 
-  pub given-push : (above : List Labelled) (s : Labelled) → flat_map (given_by names) above ≡ all_inits above → given_by names s ≡ inits_of s.stmt → flat_map (given_by names) (above ++ s ∷ []) ≡ all_inits (above ++ s ∷ [])
+  given-push : (above : List Labelled) (s : Labelled) → flat_map (given_by names) above ≡ all_inits above → given_by names s ≡ inits_of s.stmt → flat_map (given_by names) (above ++ s ∷ []) ≡ all_inits (above ++ s ∷ [])
   given-push above s same one =
       flat_map-append (given_by names) above (s ∷ [])
       ∙ ap (λ (xs : List InitPart). xs ++ (given_by names s ++ [])) same
@@ -58,59 +75,33 @@ module _ (names placed : List NameInfo) (whole : List Labelled) where
   abbrev values_wrong : List Labelled → Labelled → Bool
   values_wrong above s = has_wrong_part placed (flat_map (part_words placed) (flat_map (given_by names) above)) (inits_of s.stmt)
 
-  member-right : (above : List Labelled) (s : Labelled) → declares_wrongly names above s ≡ false → initializes_wrongly names placed above s ≡ false → has_wrong_member names s ≡ false
-  member-right above s d i =
-      by-test (is_data s.stmt)
-      (λ is. (or_parts (has_wrong_member names s) (values_wrong above s) (and-true (is_data s.stmt) (has_wrong_member names s || values_wrong above s) is i)).0)
-      (λ is. and-true (not (is_data s.stmt)) (has_wrong_member names s) (ap not is) (or_parts (has_dims_twice above s || has_wrong_dims s || is_common_twice above s) (groups_wrongly names s) d).1)
-
-  pub same-values : (above : List Labelled) (s : Labelled) → flat_map (given_by names) above ≡ all_inits above → values_wrong above s ≡ has_wrong_data placed above s
+  same-values : (above : List Labelled) (s : Labelled) → flat_map (given_by names) above ≡ all_inits above → values_wrong above s ≡ has_wrong_data placed above s
   same-values above s same = ap (λ (xs : List InitPart). has_wrong_part placed (flat_map (part_words placed) xs) (inits_of s.stmt)) same
 
-  data-right : (above : List Labelled) (s : Labelled) → flat_map (given_by names) above ≡ all_inits above → initializes_wrongly names placed above s ≡ false → has_wrong_data placed above s ≡ false
-  data-right above s same i =
-      by-test (is_data s.stmt)
-      (λ is. sym (same-values above s same) ∙ (or_parts (has_wrong_member names s) (values_wrong above s) (and-true (is_data s.stmt) (has_wrong_member names s || values_wrong above s) is i)).1)
-      (λ is. ap (has_wrong_part placed (flat_map (part_words placed) (all_inits above))) (no-inits s.stmt is))
+  abbrev pub declared_or_placed : Fault
+  declared_or_placed = either (declares_wrongly names) (has_wrong_places names whole)
 
-  one-right : (above : List Labelled) (s : Labelled) → flat_map (given_by names) above ≡ all_inits above → declares_wrongly names above s ≡ false → has_wrong_places names whole above s ≡ false → initializes_wrongly names placed above s ≡ false → has_wrong_storage names placed whole above s ≡ false
-  one-right above s same d p i =
-      let first = (or_parts (has_dims_twice above s || has_wrong_dims s || is_common_twice above s) (groups_wrongly names s) d).0 in
-      or_from (has_wrong_declaration names above s || has_wrong_places names whole above s) (has_wrong_data placed above s)
-      (or_from (has_wrong_declaration names above s) (has_wrong_places names whole above s) (or_from (has_dims_twice above s || has_wrong_dims s || is_common_twice above s) (has_wrong_member names s) first (member-right above s d i)) p)
-      (data-right above s same i)
+  agree : (f m p v d : Bool) → (d ≡ false → v ≡ false) → (f || m || p || v) ≡ (f || (not d && m) || p || (d && (m || v)))
+  agree f m p v d none = grind (arith, none)
 
-  -- ---- all statements
+  -- a statement has a fault of storage exactly where one of the three kinds is told of it
+  same-fault : (above : List Labelled) (s : Labelled) → flat_map (given_by names) above ≡ all_inits above → has_wrong_storage names placed whole above s ≡ either declared_or_placed (initializes_wrongly names placed) above s
+  same-fault above s same =
+      ap (λ b. has_wrong_declaration names above s || has_wrong_places names whole above s || b) (sym (same-values above s same))
+      ∙ agree (has_dims_twice above s || has_wrong_dims s || is_common_twice above s) (has_wrong_member names s) (has_wrong_places names whole above s) (values_wrong above s) (is_data s.stmt)
+      (λ none. ap (has_wrong_part placed (flat_map (part_words placed) (flat_map (given_by names) above))) (no-inits s.stmt none))
 
-  none-wrong : (above stmts : List Labelled) → flat_map (given_by names) above ≡ all_inits above → first_after (declares_wrongly names) above stmts ≡ None → first_after (has_wrong_places names whole) above stmts ≡ None → first_after (initializes_wrongly names placed) above stmts ≡ None → first_after (has_wrong_storage names placed whole) above stmts ≡ None
-  none-wrong above [] same d p i = refl
-  none-wrong above (s ∷ rest) same d p i =
-      let cd = after_clear (declares_wrongly names) above rest s d in
-      let cp = after_clear (has_wrong_places names whole) above rest s p in
-      let ci = after_clear (initializes_wrongly names placed) above rest s i in
-      after_next (has_wrong_storage names placed whole) above rest s (one-right above s same cd cp ci)
-      ∙ none-wrong (above ++ s ∷ []) rest (given-push above s same (gives-all s (member-right above s cd ci))) (sym (after_next (declares_wrongly names) above rest s cd) ∙ d) (sym (after_next (has_wrong_places names whole) above rest s cp) ∙ p) (sym (after_next (initializes_wrongly names placed) above rest s ci) ∙ i)
-
-  record NoneTold (above stmts : List Labelled) : Type 0 where
-    declared : first_after (declares_wrongly names) above stmts ≡ None
-    placed_right : first_after (has_wrong_places names whole) above stmts ≡ None
-    given : first_after (initializes_wrongly names placed) above stmts ≡ None
-
-  none-told : (above stmts : List Labelled) → flat_map (given_by names) above ≡ all_inits above → first_after (has_wrong_storage names placed whole) above stmts ≡ None → NoneTold above stmts
-  none-told above [] same none = record { declared = refl; placed_right = refl; given = refl }
-  none-told above (s ∷ rest) same none =
-      let clear = after_clear (has_wrong_storage names placed whole) above rest s none in
-      let parts = or_parts (has_wrong_declaration names above s || has_wrong_places names whole above s) (has_wrong_data placed above s) clear in
-      let both = or_parts (has_wrong_declaration names above s) (has_wrong_places names whole above s) parts.0 in
-      let declaration = or_parts (has_dims_twice above s || has_wrong_dims s || is_common_twice above s) (has_wrong_member names s) both.0 in
-      let cd : declares_wrongly names above s ≡ false = or_from (has_dims_twice above s || has_wrong_dims s || is_common_twice above s) (groups_wrongly names s) declaration.0 (and-from (not (is_data s.stmt)) (has_wrong_member names s) (λ is. declaration.1)) in
-      let ci : initializes_wrongly names placed above s ≡ false = and-from (is_data s.stmt) (has_wrong_member names s || values_wrong above s) (λ is. or_from (has_wrong_member names s) (values_wrong above s) declaration.1 (same-values above s same ∙ parts.1)) in
-      let later = none-told (above ++ s ∷ []) rest (given-push above s same (gives-all s declaration.1)) (sym (after_next (has_wrong_storage names placed whole) above rest s clear) ∙ none) in
-      record {
-        declared = after_next (declares_wrongly names) above rest s cd ∙ later.declared;
-        placed_right = after_next (has_wrong_places names whole) above rest s both.1 ∙ later.placed_right;
-        given = after_next (initializes_wrongly names placed) above rest s ci ∙ later.given;
-      }
+  pub same-first : (above stmts : List Labelled) → flat_map (given_by names) above ≡ all_inits above → first_after (has_wrong_storage names placed whole) above stmts ≡ first_after (either declared_or_placed (initializes_wrongly names placed)) above stmts
+  same-first above [] same = refl
+  same-first above (s ∷ rest) same =
+      let fault = same-fault above s same in
+      let all = either declared_or_placed (initializes_wrongly names placed) in
+      by-test (has_wrong_storage names placed whole above s)
+      (λ is. after_here (has_wrong_storage names placed whole) above rest s is ∙ sym (after_here all above rest s (sym fault ∙ is)))
+      (λ is.
+      after_next (has_wrong_storage names placed whole) above rest s is
+      ∙ same-first (above ++ s ∷ []) rest (given-push above s same (gives-all s (right_statement names placed whole above s is).members))
+      ∙ sym (after_next all above rest s (sym fault ∙ is)))
 
 -- ---- the line of storage
 
@@ -127,41 +118,19 @@ module _ (names placed : List NameInfo) (stmts : List Labelled) where
   no-storage-fault none =
       let parts = no-answer (lower_line (first_line (declares_wrongly names) stmts) (first_line (has_wrong_places names stmts) stmts)) (lowest_line (initializes_wrongly names placed) stmts) none in
       let lines = no-lower (first_line (declares_wrongly names) stmts) (first_line (has_wrong_places names stmts) stmts) parts.0 in
-      none-wrong names placed stmts [] stmts refl lines.0 lines.1 (lowest-none (initializes_wrongly names placed) [] stmts parts.1)
+      same-first names placed stmts [] stmts refl ∙ none-either (declared_or_placed names placed stmts) (initializes_wrongly names placed) [] stmts (none-either (declares_wrongly names) (has_wrong_places names stmts) [] stmts lines.0 lines.1) (lowest-none (initializes_wrongly names placed) [] stmts parts.1)
 
   pub storage-without : first_line (has_wrong_storage names placed stmts) stmts ≡ None → storage_line names placed stmts ≡ None
   storage-without none =
-      let told = none-told names placed stmts [] stmts refl none in
-      let given = first-none (initializes_wrongly names placed) [] stmts told.given in
-      ap (λ o. answer_or (lower_line o (first_line (has_wrong_places names stmts) stmts)) (lowest_line (initializes_wrongly names placed) stmts)) told.declared
-      ∙ ap (λ o. answer_or o (lowest_line (initializes_wrongly names placed) stmts)) told.placed_right
-      ∙ given
-
-  -- ---- where a declaration is wrong, or places are, or neither
-
-  pub told-declared : (line : ℕ) → first_line (declares_wrongly names) stmts ≡ Some line → first_line (has_wrong_places names stmts) stmts ≡ None → storage_line names placed stmts ≡ Some line
-  told-declared line is right = ap (λ o. answer_or (lower_line o (first_line (has_wrong_places names stmts) stmts)) (lowest_line (initializes_wrongly names placed) stmts)) is ∙ ap (λ o. answer_or (lower_line (Some line) o) (lowest_line (initializes_wrongly names placed) stmts)) right
-
-  pub told-data : first_line (declares_wrongly names) stmts ≡ None → first_line (has_wrong_places names stmts) stmts ≡ None → storage_line names placed stmts ≡ lowest_line (initializes_wrongly names placed) stmts
-  told-data none right = ap (λ o. answer_or (lower_line o (first_line (has_wrong_places names stmts) stmts)) (lowest_line (initializes_wrongly names placed) stmts)) none ∙ ap (λ o. answer_or o (lowest_line (initializes_wrongly names placed) stmts)) right
-
-  pub told-both : (first line : ℕ) → first_line (declares_wrongly names) stmts ≡ Some first → first_line (has_wrong_places names stmts) stmts ≡ Some line → storage_line names placed stmts ≡ Some (lower_or first (Some line))
-  told-both first line is wrong = ap (λ o. answer_or (lower_line o (first_line (has_wrong_places names stmts) stmts)) (lowest_line (initializes_wrongly names placed) stmts)) is ∙ ap (λ o. answer_or (lower_line (Some first) o) (lowest_line (initializes_wrongly names placed) stmts)) wrong
-
-  pub told-places : (line : ℕ) → first_line (declares_wrongly names) stmts ≡ None → first_line (has_wrong_places names stmts) stmts ≡ Some line → storage_line names placed stmts ≡ Some line
-  told-places line none wrong = ap (λ o. answer_or (lower_line o (first_line (has_wrong_places names stmts) stmts)) (lowest_line (initializes_wrongly names placed) stmts)) none ∙ ap (λ o. answer_or o (lowest_line (initializes_wrongly names placed) stmts)) wrong
+      let told = either-none (declared_or_placed names placed stmts) (initializes_wrongly names placed) [] stmts (sym (same-first names placed stmts [] stmts refl) ∙ none) in
+      let both = either-none (declares_wrongly names) (has_wrong_places names stmts) [] stmts told.0 in
+      ap (λ o. answer_or (lower_line o (first_line (has_wrong_places names stmts) stmts)) (lowest_line (initializes_wrongly names placed) stmts)) both.0
+      ∙ ap (λ o. answer_or o (lowest_line (initializes_wrongly names placed) stmts)) both.1
+      ∙ first-none (initializes_wrongly names placed) [] stmts told.1
 
 -- dimensions are right where no declaration is wrong
-dims-after : (names : List NameInfo) (above stmts : List Labelled) → first_after (declares_wrongly names) above stmts ≡ None → list_any has_wrong_dims stmts ≡ false
-dims-after names above [] none = refl
-dims-after names above (s ∷ rest) none =
-    let clear = after_clear (declares_wrongly names) above rest s none in
-    let most = or_parts (has_dims_twice above s || has_wrong_dims s || is_common_twice above s) (groups_wrongly names s) clear in
-    let more = or_parts (has_dims_twice above s || has_wrong_dims s) (is_common_twice above s) most.0 in
-    or_from (has_wrong_dims s) (list_any has_wrong_dims rest) (or_parts (has_dims_twice above s) (has_wrong_dims s) more.0).1 (dims-after names (above ++ s ∷ []) rest (sym (after_next (declares_wrongly names) above rest s clear) ∙ none))
-
 pub sizes-right : (names : List NameInfo) (stmts : List Labelled) → first_line (declares_wrongly names) stmts ≡ None → All HasRightDims (names_of stmts)
-sizes-right names stmts none = right_sizes stmts (dims-after names [] stmts none)
+sizes-right names stmts none = right_sizes stmts (none-any (declares_wrongly names) has_wrong_dims (λ above s clear. (declared_right above s (groups_wrongly names s) clear).1) [] stmts none)
 
 -- ---- counts
 

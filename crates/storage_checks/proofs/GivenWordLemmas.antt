@@ -5,7 +5,7 @@ use Rattle.std.specs.Option.{is_some}
 use Rattle.std.specs.Ordering.{nat_cmp, is_eq, is_lt}
 use Rattle.std.specs.declared.cmp.Ordering.TheVariants.{Less}
 use Rattle.std.proofs.lemmas.Bool.Decides.{nat_tests}
-use Rattle.std.proofs.lemmas.Bool.{eq-eqb, eqb-true, ne_eqb, cases_eq, cases_lt, or_cases, or_left, or_right, or_from, true≢false}
+use Rattle.std.proofs.lemmas.Bool.{ne_eqb, cases_eq, cases_lt, or_left, or_right, or_from, true≢false}
 use Rattle.std.proofs.lemmas.List.Folds.{list_any-append}
 use Rattle.f77_tree.specs.InitialWords.{words_from}
 use Rattle.layout_rules.specs.Faults.{has_repeat}
@@ -18,19 +18,11 @@ stands word words = list_any (λ x. word == x) words
 
 pub stands-words_from : (word first n : ℕ) → first ≤ word → word < first + n → stands word (words_from first n) ≡ true
 stands-words_from word first zero low high = absurd (omega arith)
-stands-words_from word first (suc n) low high =
-    ⊎_elim
-    (λ (e : word ≡ first). or_left (word == first) (stands word (words_from (suc first) n)) (eq-eqb word first e))
-    (λ (ne : word ≡ first → ⊥). or_right (word == first) (stands word (words_from (suc first) n)) (stands-words_from word (suc first) n (omega arith) (omega arith)))
-    (cases_eq word first)
+stands-words_from word first (suc n) low high = grind (arith, nat_tests, stands-words_from word (suc first) n)
 
 pub words_from-stands : (word first n : ℕ) → stands word (words_from first n) ≡ true → (first ≤ word) × (word < first + n)
 words_from-stands word first zero h = absurd (true≢false (sym h))
-words_from-stands word first (suc n) h =
-    ⊎_elim
-    (λ (e : (word == first) ≡ true). let same : word ≡ first = eqb-true word first e in (omega arith, omega arith))
-    (λ (later : stands word (words_from (suc first) n) ≡ true). let inside : (suc first ≤ word) × (word < suc first + n) = words_from-stands word (suc first) n later in (omega arith, omega arith))
-    (or_cases (word == first) (stands word (words_from (suc first) n)) h)
+words_from-stands word first (suc n) h = (grind (arith, nat_tests, words_from-stands word (suc first) n), grind (arith, nat_tests, words_from-stands word (suc first) n))
 
 stands-push : (word : ℕ) (seen : List ℕ) (x : ℕ) → stands word (seen ++ x ∷ []) ≡ (stands word seen || ((word == x) || false))
 stands-push word seen x = list_any-append (λ y. word == y) seen (x ∷ [])

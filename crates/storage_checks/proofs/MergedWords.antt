@@ -30,14 +30,8 @@ module _ (end_of after : ℕ → Option ℕ) (from to : ℕ) (seen : List ℕ) (
 
     beside : (word : ℕ) → min from other ≤ word → word < max to last → stands word seen ≡ true
     beside word low high =
-        ⊎_elim
-        (λ (lt : word < from). holds.seen_all word (record { first = other; end = last; stands = stands_there; from = omega arith; before = omega arith }))
-        (λ (ge : from ≤ word).
-        ⊎_elim
-        (λ (inside : word < to). holds.seen_beside word ge inside)
-        (λ (beyond : to ≤ word). holds.seen_all word (record { first = other; end = last; stands = stands_there; from = omega arith; before = omega arith }))
-        (cases_lt word to))
-        (cases_lt word from)
+        let inside : other ≤ word → word < last → stands word seen ≡ true = λ from_other to_last. holds.seen_all word (record { first = other; end = last; stands = stands_there; from = from_other; before = to_last }) in
+        grind (arith, inside, holds.seen_beside word)
 
     held : (word : ℕ) → IsWithin end_of word ⊎ ((from ≤ word) × (word < to)) → IsWithin after word ⊎ ((min from other ≤ word) × (word < max to last))
     held word is =
@@ -65,20 +59,9 @@ module _ (end_of after : ℕ → Option ℕ) (from to : ℕ) (seen : List ℕ) (
     -- and where it is the last one before a word, those that begin behind it begin behind the words too
     pub beyond_taken : (limit : ℕ) → IsLastBefore end_of limit (Some (other, last)) → ((q end : ℕ) → end_of q ≡ Some end → limit ≤ q → to ≤ q) → (q end : ℕ) → after q ≡ Some end → other ≤ q → max to last ≤ q
     beyond_taken limit is beyond q end is_q le =
-        ⊎_elim
-        (λ (e : other ≡ q). let nothing : None ≡ Some end = sym gone ∙ ap after e ∙ is_q in absurd cc)
-        (λ (ne : other ≡ q → ⊥).
         let is_old = old q end is_q in
-        ⊎_elim
-        (λ (lt : other < q).
-        let apart : last ≤ q = holds.apart other last q end stands_there is_old lt in
-        ⊎_elim
-        (λ (early : q < limit). let no_later : q ≤ other = is.2 q early (ap (λ (o : Option ℕ). is_some o) is_old) in absurd (omega arith))
-        (λ (late : limit ≤ q). let le_to : to ≤ q = beyond q end is_old late in omega arith)
-        (cases_lt q limit))
-        (λ (ge : q ≤ other). absurd (ne (omega arith)))
-        (cases_lt other q))
-        (cases_eq other q)
+        let no_later : q < limit → q ≤ other = λ early. is.2 q early (ap (λ (o : Option ℕ). is_some o) is_old) in
+        grind (arith, gone, is_q, no_later, holds.apart other last q end stands_there is_old, beyond q end is_old)
 
   -- ---- where none meets the words, they are an interval
 
@@ -127,17 +110,7 @@ module _ (end_of after : ℕ → Option ℕ) (from to : ℕ) (seen : List ℕ) (
       (λ (found : (found : ℕ × ℕ) × IsLastBefore end_of limit (Some found) × (found.1 ≤ from)).
       let no_later : q ≤ found.0.0 = found.1.2 q early (ap (λ (o : Option ℕ). is_some o) is) in
       let last_is : end_of found.0.0 ≡ Some found.0.1 = found.1.1 in
-      ⊎_elim
-      (λ (lt : q < found.0.0).
-      let apart : end ≤ found.0.0 = holds.apart q end found.0.0 found.0.1 is last_is lt in
-      let some : found.0.0 < found.0.1 = holds.some found.0.0 found.0.1 last_is in
-      inl (omega (arith, found.2)))
-      (λ (ge : found.0.0 ≤ q).
-      let same : q ≡ found.0.0 = omega arith in
-      let one : Some end ≡ Some found.0.1 = sym is ∙ ap end_of same ∙ last_is in
-      let ends : end ≡ found.0.1 = cc in
-      inl (omega (arith, found.2)))
-      (cases_lt q found.0.0))
+      inl (grind (arith, no_later, last_is, is, holds.apart q end found.0.0 found.0.1 is last_is, holds.some found.0.0 found.0.1 last_is, found.2)))
       last)
       (λ (late : limit ≤ q). inr (beyond q end is late))
       (cases_lt q limit)

@@ -1,23 +1,22 @@
 -- Words after constants were written to them, and the initial words that DATA gives.
-use Rattle.std.proofs.Common.{◌≡◌, ℕ, suc, ◌+◌, ◌-◌, ◌<◌, ◌==◌, ℤ, pos, Bool, true, false, not, cond, List, [], ◌∷◌, ◌++◌, length, get_or, set, map, take, drop, replicate, Option, Some, None, ⊎_elim, refl, sym, ap, ◌∙◌, arith}
+use Rattle.std.proofs.Common.{◌≡◌, ℕ, suc, ◌+◌, ◌-◌, ◌<◌, ◌==◌, ℤ, pos, Bool, true, false, cond, List, [], ◌∷◌, ◌++◌, length, get_or, set, map, take, drop, replicate, Option, Some, None, ⊎_elim, refl, sym, ap, ◌∙◌, arith}
 use Rattle.std.specs.Prelude.{zip, find}
 use Rattle.std.specs.List.{list_any, flat_map, range_with_len}
-use Rattle.std.proofs.lemmas.Bool.{cases_eq, eq-eqb, ne_eqb, true≢false, or_parts, or_left, or_right, or_from, not-false, and_parts}
+use Rattle.std.proofs.lemmas.Bool.{cases_eq, eq-eqb, ne_eqb, true≢false, or_parts, or_left, or_right}
 use Rattle.std.proofs.lemmas.List.{length-set, length-replicate, length-map, length-append, get_or-replicate, get_or-set_same, get_or-set_other, same_lists, drop_all, take_all, append-nil}
 use Rattle.std.proofs.lemmas.List.Folds.{list_any-append}
 use Rattle.std.proofs.lemmas.List.FromFn.{length-map-range_with_len, get_or-map-range_with_len}
-use Rattle.f77_tree.specs.declared.declarations.Kind.{Kind}
 use Rattle.f77_tree.specs.declared.declarations.Lit.{Lit}
 use Rattle.f77_tree.specs.declared.declarations.InitPart.{InitPart}
 use Rattle.f77_tree.specs.declared.declarations.Member.{Member}
 use Rattle.f77_tree.specs.declared.programs.NameInfo.{NameInfo}
 use Rattle.f77_tree.specs.Value.{kind_of}
 use Rattle.f77_tree.specs.Declarations.{member_index}
-use Rattle.f77_tree.specs.InitialWords.{lit_kind, lit_word, words_from, item_words, item_kinds, part_words, part_kinds, constants, given, given_words, given_constants, word_of_pair, initial_word}
+use Rattle.f77_tree.specs.InitialWords.{lit_kind, lit_word, words_from, item_words, item_kinds, part_words, constants, given, given_words, given_constants, word_of_pair, initial_word}
 use Rattle.layout_rules.specs.Faults.{has_repeat}
-use Rattle.layout_rules.specs.StorageFaults.{same_kind, are_same_kinds, is_wrong_part, has_wrong_part}
+use Rattle.layout_rules.specs.StorageFaults.{is_wrong_part, has_wrong_part}
 use Rattle.storage_checks.specs.Writing.{written, part_pairs}
-use Rattle.layout_rules.proofs.FirstLine.{has_repeat-append}
+use Rattle.layout_rules.proofs.RightParts.{right_part, words_once}
 
 abbrev stands : ℕ → List ℕ → Bool
 stands word words = list_any (λ x. word == x) words
@@ -140,12 +139,6 @@ words_of-zip [] cs e = refl
 words_of-zip (x ∷ xs) [] e = absurd (omega arith)
 words_of-zip (x ∷ xs) (c ∷ cs) e = ap (λ (ws : List ℕ). x ∷ ws) (words_of-zip xs cs (omega arith))
 
-same_length : (kinds others : List Kind) → are_same_kinds kinds others ≡ true → length kinds ≡ length others
-same_length [] [] same = refl
-same_length [] (b ∷ others) same = absurd (true≢false (sym same))
-same_length (a ∷ kinds) [] same = absurd (true≢false (sym same))
-same_length (a ∷ kinds) (b ∷ others) same = ap suc (same_length kinds others (and_parts (same_kind a b) (are_same_kinds kinds others) same).1)
-
 module _ (names : List NameInfo) where
   length-kinds : (items : List Member) → length (flat_map (item_kinds names) items) ≡ length (flat_map (item_words names) items)
   length-kinds [] = refl
@@ -157,8 +150,7 @@ module _ (names : List NameInfo) where
 
   length-part : (seen : List ℕ) (part : InitPart) → is_wrong_part names seen part ≡ false → length (part_words names part) ≡ length (constants part)
   length-part seen part right =
-      let same = not-false (are_same_kinds (part_kinds names part) (map lit_kind (constants part))) (or_parts (not (are_same_kinds (part_kinds names part) (map lit_kind (constants part)))) (repeats seen (part_words names part)) right).0 in
-      sym (length-kinds part.items) ∙ same_length (part_kinds names part) (map lit_kind (constants part)) same ∙ length-map (constants part) lit_kind
+      sym (length-kinds part.items) ∙ ap length (right_part names seen part right).kinds ∙ length-map (constants part) lit_kind
 
   length-given : (seen : List ℕ) (parts : List InitPart) → has_wrong_part names seen parts ≡ false → length (given_words names parts) ≡ length (given_constants parts)
   length-given seen [] right = refl
@@ -176,18 +168,10 @@ module _ (names : List NameInfo) where
       ap (λ (ps : List (ℕ × Lit)). part_pairs names part ++ ps) (pairs-given (seen ++ part_words names part) parts both.1)
       ∙ sym (zip-both (part_words names part) (given_words names parts) (constants part) (given_constants parts) (length-part seen part both.0))
 
-  given-once : (seen : List ℕ) (parts : List InitPart) → has_wrong_part names seen parts ≡ false → repeats seen (given_words names parts) ≡ false
-  given-once seen [] right = refl
-  given-once seen (part ∷ parts) right =
-      let both = or_parts (is_wrong_part names seen part) (has_wrong_part names (seen ++ part_words names part) parts) right in
-      let here = or_parts (not (are_same_kinds (part_kinds names part) (map lit_kind (constants part)))) (repeats seen (part_words names part)) both.0 in
-      has_repeat-append (λ a b. a == b) seen (part_words names part) (given_words names parts)
-      ∙ or_from (repeats seen (part_words names part)) (repeats (seen ++ part_words names part) (given_words names parts)) here.1 (given-once (seen ++ part_words names part) parts both.1)
-
   pub initial-written : (n : ℕ) (parts : List InitPart) → has_wrong_part names [] parts ≡ false → written (replicate n (pos 0)) (flat_map (part_pairs names) parts) ≡ map (initial_word names parts) (range_with_len 0 n)
   initial-written n parts right =
       ap (written (replicate n (pos 0))) (pairs-given [] parts right)
-      ∙ written-zeros n (given names parts) (ap (repeats []) (words_of-zip (given_words names parts) (given_constants parts) (length-given [] parts right)) ∙ given-once [] parts right)
+      ∙ written-zeros n (given names parts) (ap (repeats []) (words_of-zip (given_words names parts) (given_constants parts) (length-given [] parts right)) ∙ words_once names [] parts right)
 
 -- what is left of a buffer of which each word was written anew
 pub kept : (cells words : List ℤ) (n : ℕ) → length cells ≡ length words → length words ≡ n → take n (cells ++ drop (length cells) words) ≡ cells

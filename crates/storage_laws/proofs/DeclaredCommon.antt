@@ -1,5 +1,5 @@
 -- COMMON of a source without faults of storage: its blocks, its names, and that no name stands there twice.
-use Rattle.std.proofs.Common.{◌≡◌, ℕ, zero, suc, ◌<◌, ⊎_elim, inl, inr, List, [], ◌∷◌, ◌++◌, false, length, map, All, Option, Some, None, refl, sym, ap, ◌∙◌, arith}
+use Rattle.std.proofs.Common.{◌≡◌, ℕ, ◌<◌, ⊎_elim, inl, inr, List, [], ◌∷◌, ◌++◌, false, length, map, All, Option, Some, None, refl, sym, ap, ◌∙◌, arith}
 use Rattle.std.specs.Prelude.{bytes_eq, flat_map, slice_get}
 use Rattle.std.specs.Cmp.Lexicographic.{nat_list_eq_equiv}
 use Rattle.std.proofs.lemmas.List.{map-append}
@@ -19,13 +19,14 @@ use Rattle.layout_rules.specs.Layout.{names_of, placed_names}
 use Rattle.layout_rules.specs.Source.{IsSource}
 use Rattle.layout_rules.specs.StorageFaults.{common_names, has_wrong_storage}
 use Rattle.layout_rules.specs.ReadDeclarations.{IsReadPart}
-use Rattle.storage_laws.proofs.NameTable.{dims_in_table}
+use Rattle.layout_rules.proofs.NameTable.{dims_in_table, item-of_map}
+use Rattle.layout_rules.proofs.StorageLines.{right_statement}
 use Rattle.layout_rules.proofs.ProperPlaced.{placed_names-agrees}
 use Rattle.storage_laws.proofs.DeclaredForms.{All-flat_map, all_commons-read}
 use Rattle.storage_laws.proofs.DeclaredNames.{same_index}
-use Rattle.storage_laws.proofs.DeclaredOnce.{one_place, once_in_all}
+use Rattle.layout_rules.proofs.DeclaredOnce.{one_place, once_in_all}
 use Rattle.storage_laws.proofs.DeclaredKnown.{PartKnown, all_commons-known}
-use Rattle.storage_laws.proofs.DeclaredDims.{HasDimsOf, right_declaration, all_commons-dims}
+use Rattle.storage_laws.proofs.DeclaredDims.{HasDimsOf, all_commons-dims}
 
 -- ---- names in the table with places
 
@@ -82,19 +83,6 @@ module _ (names : List NameInfo) where
       ∙ ap (λ (ks : List ℕ). map (index_of names) (names_in_part part) ++ ks) (parts_names-map commons)
       ∙ sym (map-append (index_of names) (names_in_part part) (flat_map names_in_part commons))
 
-  -- an item of a list of indices is the index of an item
-  record IsIndexAt (xs : List (List ℕ)) (j x : ℕ) : Type 0 where
-    name : List ℕ
-    stands : slice_get xs j ≡ Some name
-    same : index_of names name ≡ x
-
-  index_at : (xs : List (List ℕ)) (j x : ℕ) → slice_get (map (index_of names) xs) j ≡ Some x → IsIndexAt xs j x
-  index_at [] j x at = absurd cc
-  index_at (name ∷ xs) zero x at = let same : index_of names name ≡ x = cc in record { name = name; stands = refl; same = same }
-  index_at (name ∷ xs) (suc j) x at =
-      let later = index_at xs j x at in
-      record { name = later.name; stands = later.stands; same = later.same }
-
   abbrev name_in : Option NameInfo → List ℕ
   name_in None = []
   name_in (Some info) = info.name
@@ -106,10 +94,10 @@ module _ (names : List NameInfo) where
   pub once_in_common : (commons : List CommonPart) → All (λ name. index_of names name < length names) (flat_map names_in_part commons) → has_repeat bytes_eq [] (flat_map names_in_part commons) ≡ false → CommonOnce names commons
   once_in_common commons known once j k x at_j at_k =
       let all = flat_map names_in_part commons in
-      let one = index_at all j x (sym (ap (λ (ks : List ℕ). slice_get ks j) (parts_names-map commons)) ∙ at_j) in
-      let other = index_at all k x (sym (ap (λ (ks : List ℕ). slice_get ks k) (parts_names-map commons)) ∙ at_k) in
-      let name_same : one.name ≡ other.name = one_name one.name other.name (All-get (λ name. index_of names name < length names) all j one.name known one.stands) (All-get (λ name. index_of names name < length names) all k other.name known other.stands) (one.same ∙ sym other.same) in
-      one_place bytes_eq nat_list_eq_equiv.refl [] all once j k other.name (one.stands ∙ ap (λ (name : List ℕ). Some name) name_same) other.stands
+      let one = item-of_map (index_of names) all j x (sym (ap (λ (ks : List ℕ). slice_get ks j) (parts_names-map commons)) ∙ at_j) in
+      let other = item-of_map (index_of names) all k x (sym (ap (λ (ks : List ℕ). slice_get ks k) (parts_names-map commons)) ∙ at_k) in
+      let name_same : one.0 ≡ other.0 = one_name one.0 other.0 (All-get (λ name. index_of names name < length names) all j one.0 known one.1) (All-get (λ name. index_of names name < length names) all k other.0 known other.1) (one.2 ∙ sym other.2) in
+      one_place bytes_eq nat_list_eq_equiv.refl [] all once j k other.0 (one.1 ∙ ap (λ (name : List ℕ). Some name) name_same) other.1
 
 pub all_commons-once : (whole : List Labelled) → first_line (has_wrong_storage (names_of whole) (placed_names whole) whole) whole ≡ None → CommonOnce (placed_names whole) (all_commons whole)
 all_commons-once whole right =
@@ -119,4 +107,4 @@ all_commons-once whole right =
     (λ k d lt. All-map (λ name. index_of placed name < length placed) (λ (decl : Decl). decl.name) _ (λ j e within. known_placed whole _ (all_commons-known whole k d lt j e within))) in
     once_in_common placed (all_commons whole) known
     (ap (has_repeat bytes_eq []) (common_names-all whole)
-    ∙ once_in_all bytes_eq (has_wrong_storage (names_of whole) placed whole) (λ s. common_names s.stmt) (λ above s clear. (right_declaration (names_of whole) placed whole above s clear).common_once) [] whole right)
+    ∙ once_in_all bytes_eq (has_wrong_storage (names_of whole) placed whole) (λ s. common_names s.stmt) (λ above s clear. (right_statement (names_of whole) placed whole above s clear).common_once) [] whole right)

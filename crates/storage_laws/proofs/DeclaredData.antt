@@ -1,49 +1,28 @@
 -- DATA of a source without faults of storage: its constants, the words that it gives values to, and the initial words.
-use Rattle.std.proofs.Common.{◌≡◌, ℕ, ◌<◌, ◌≤◌, ℤ, pos, Bool, true, false, not, cond, List, [], ◌∷◌, ◌++◌, length, map, All, Some, None, refl, sym, ap, ◌∙◌, arith}
+use Rattle.std.proofs.Common.{◌≡◌, ℕ, ◌<◌, ◌≤◌, ℤ, pos, Bool, false, cond, List, [], ◌∷◌, ◌++◌, length, map, All, Some, None, refl, sym, ap, ◌∙◌, arith}
 use Rattle.std.specs.Prelude.{◌==◌, flat_map, nat_lt}
-use Rattle.std.proofs.lemmas.Bool.{or_parts, or_from, and_parts, not-false, eq-eqb, ltb-false, true≢false}
+use Rattle.std.proofs.lemmas.Bool.{eq-eqb, ltb-false, false_from_ne_true}
 use Rattle.std.proofs.lemmas.List.Elements.{All-nil, All-cons}
 use Rattle.std.proofs.lemmas.List.FromFn.{length-map-range_with_len, get_or-map-range_with_len}
 use Rattle.std.proofs.lemmas.Option.{slice_get-get_or}
-use Rattle.f77_tree.specs.declared.declarations.Kind.{Kind}
-use Rattle.f77_tree.specs.declared.declarations.Kind.TheVariants.{Integer, Logical}
 use Rattle.f77_tree.specs.declared.declarations.InitPart.{InitPart}
 use Rattle.f77_tree.specs.declared.programs.NameInfo.{NameInfo}
 use Rattle.f77_tree.specs.declared.statements.Labelled.{Labelled}
 use Rattle.f77_tree.specs.Declarations.{IsMember}
 use Rattle.f77_tree.specs.InitialWords.{IsInitPart, GivenOnce, AreInitial, part_kinds, part_words, constants, lit_kind, initial_word}
-use Rattle.layout_rules.specs.Faults.{first_line, has_repeat}
+use Rattle.layout_rules.specs.Faults.{first_line}
 use Rattle.layout_rules.specs.Declarations.{all_inits}
 use Rattle.layout_rules.specs.Layout.{names_of, placed_names, word_count, last_line, line_of_words, program}
 use Rattle.layout_rules.specs.Source.{IsSource}
-use Rattle.layout_rules.specs.StorageFaults.{has_wrong_storage, same_kind, are_same_kinds, is_wrong_part, has_wrong_part}
+use Rattle.layout_rules.specs.StorageFaults.{has_wrong_storage, has_wrong_part}
 use Rattle.layout_rules.specs.ReadDeclarations.{IsReadInit}
 use Rattle.storage_laws.proofs.RightStorage.{right_data_of}
-use Rattle.layout_rules.proofs.FirstLine.{has_repeat-append}
+use Rattle.layout_rules.proofs.RightParts.{right_parts, words_once}
 use Rattle.storage_laws.proofs.DeclaredForms.{all_inits-read}
-use Rattle.storage_laws.proofs.DeclaredOnce.{one_place}
+use Rattle.layout_rules.proofs.DeclaredOnce.{one_place}
 use Rattle.storage_laws.proofs.DeclaredMembers.{all_items-right}
 
--- ---- kinds
-
-one_kind : (a b : Kind) → same_kind a b ≡ true → a ≡ b
-one_kind Integer Integer is = refl
-one_kind Logical Logical is = refl
-one_kind Integer Logical is = absurd (true≢false (sym is))
-one_kind Logical Integer is = absurd (true≢false (sym is))
-
-one_list : (more others : List Kind) → are_same_kinds more others ≡ true → more ≡ others
-one_list [] [] is = refl
-one_list [] (b ∷ others) is = absurd (true≢false (sym is))
-one_list (a ∷ more) [] is = absurd (true≢false (sym is))
-one_list (a ∷ more) (b ∷ others) is =
-    let parts = and_parts (same_kind a b) (are_same_kinds more others) is in
-    ap (λ (k : Kind). k ∷ more) (one_kind a b parts.0) ∙ ap (λ (ks : List Kind). b ∷ ks) (one_list more others parts.1)
-
 -- ---- parts without faults
-
-abbrev same_word : ℕ → ℕ → Bool
-same_word a b = a == b
 
 module _ (names : List NameInfo) where
   abbrev HasKinds : InitPart → Type 0
@@ -52,17 +31,8 @@ module _ (names : List NameInfo) where
   all_kinds : (given : List ℕ) (parts : List InitPart) → has_wrong_part names given parts ≡ false → All HasKinds parts
   all_kinds given [] right = All-nil HasKinds
   all_kinds given (part ∷ parts) right =
-      let both = or_parts (is_wrong_part names given part) (has_wrong_part names (given ++ part_words names part) parts) right in
-      let here = or_parts (not (are_same_kinds (part_kinds names part) (map lit_kind (constants part)))) (has_repeat same_word given (part_words names part)) both.0 in
-      All-cons HasKinds part parts (one_list (part_kinds names part) (map lit_kind (constants part)) (not-false (are_same_kinds (part_kinds names part) (map lit_kind (constants part))) here.0)) (all_kinds (given ++ part_words names part) parts both.1)
-
-  words_once : (given : List ℕ) (parts : List InitPart) → has_wrong_part names given parts ≡ false → has_repeat same_word given (flat_map (part_words names) parts) ≡ false
-  words_once given [] right = refl
-  words_once given (part ∷ parts) right =
-      let both = or_parts (is_wrong_part names given part) (has_wrong_part names (given ++ part_words names part) parts) right in
-      let here = or_parts (not (are_same_kinds (part_kinds names part) (map lit_kind (constants part)))) (has_repeat same_word given (part_words names part)) both.0 in
-      has_repeat-append same_word given (part_words names part) (flat_map (part_words names) parts)
-      ∙ or_from (has_repeat same_word given (part_words names part)) (has_repeat same_word (given ++ part_words names part) (flat_map (part_words names) parts)) here.1 (words_once (given ++ part_words names part) parts both.1)
+      let are = right_parts names given part parts right in
+      All-cons HasKinds part parts are.here.kinds (all_kinds (given ++ part_words names part) parts are.later)
 
   init_part : (part : InitPart) → IsReadInit part → All (IsMember names) part.items → HasKinds part → IsInitPart names part
   init_part part read members kinds = record { some_items = read.some_items; some_values = read.some_values; members = members; written = read.written; kinds = kinds }
@@ -76,7 +46,7 @@ module _ (whole : List Labelled) (right : first_line (has_wrong_storage (names_o
   -- no word is given a value twice
   pub all_inits-once : GivenOnce (placed_names whole) (all_inits whole)
   all_inits-once j k word at_j at_k =
-      one_place same_word (λ a. eq-eqb a a refl) [] (flat_map (part_words (placed_names whole)) (all_inits whole)) (words_once (placed_names whole) [] (all_inits whole) (right_data_of (names_of whole) (placed_names whole) whole right)) j k word at_j at_k
+      one_place (λ a b. a == b) (λ a. eq-eqb a a refl) [] (flat_map (part_words (placed_names whole)) (all_inits whole)) (words_once (placed_names whole) [] (all_inits whole) (right_data_of (names_of whole) (placed_names whole) whole right)) j k word at_j at_k
 
 -- ---- initial words
 
@@ -92,9 +62,6 @@ module _ (whole : List Labelled) (checked : Bool) where
       slice_get-get_or (program whole checked).initial word (pos 0) lt
       ∙ ap (λ (z : ℤ). Some z) (get_or-map-range_with_len f 0 (word_count whole) word word (pos 0) few (omega arith))
 
-  few_words : (b : Bool) → (nat_lt 262144 (word_count whole)) ≡ b → cond b (Some (last_line whole)) None ≡ None → word_count whole ≤ 262144
-  few_words true is none = absurd cc
-  few_words false is none = ltb-false 262144 (word_count whole) is
-
   pub program-word_count : line_of_words whole ≡ None → (program whole checked).words ≤ 262144
-  program-word_count none = few_words (nat_lt 262144 (word_count whole)) refl none
+  program-word_count none =
+      ltb-false 262144 (word_count whole) (false_from_ne_true (nat_lt 262144 (word_count whole)) (λ many. let told : Some (last_line whole) ≡ None = sym (ap (λ b. cond b (Some (last_line whole)) None) many) ∙ none in absurd cc))

@@ -1,9 +1,9 @@
 -- Where no name has dimensions twice, each declarator with dimensions gives its name the dimensions that the table has.
-use Rattle.std.proofs.Common.{◌≡◌, ℕ, ◌||◌, ◌⊎◌, Bool, true, false, cond, List, [], ◌∷◌, ◌++◌, length, map, All, Some, None, inl, inr, refl, sym, ap, subst, ◌∙◌, arith}
+use Rattle.std.proofs.Common.{◌≡◌, ℕ, ◌⊎◌, Bool, true, false, cond, List, [], ◌∷◌, ◌++◌, length, map, All, Some, None, inl, inr, ⊎_elim, refl, sym, ap, subst, ◌∙◌, arith}
 use Rattle.std.specs.Prelude.{bytes_eq, nat_lt, flat_map, filter}
 use Rattle.std.specs.List.{list_any}
 use Rattle.std.specs.Cmp.Lexicographic.{nat_list_eq_equiv}
-use Rattle.std.proofs.lemmas.Bool.{or_parts, and_left, and_right, and_from, ltb-false}
+use Rattle.std.proofs.lemmas.Bool.{or_parts, and_left, and_right, and_from, ltb-false, cases_Bool}
 use Rattle.std.proofs.lemmas.List.{append_assoc, map-append}
 use Rattle.std.proofs.lemmas.List.Elements.{All-nil, All-cons, All-weaker, filter-append}
 use Rattle.f77_tree.specs.declared.declarations.Dim.{Dim}
@@ -15,26 +15,12 @@ use Rattle.f77_tree.specs.declared.statements.Stmt.{Stmt}
 use Rattle.f77_tree.specs.declared.statements.Stmt.TheVariants.{Common}
 use Rattle.layout_rules.specs.Faults.{first_line, first_answer, answer_or, has_repeat}
 use Rattle.layout_rules.specs.Declarations.{declarators, all_declarators, has_dims, dims_told, dims_or_none, dims_of, parts_of, all_commons}
-use Rattle.layout_rules.specs.StorageFaults.{array_names, dimensioned, has_dims_twice, has_wrong_dims, is_common_twice, has_wrong_member, has_wrong_declaration, has_wrong_places, has_wrong_data, has_wrong_storage}
+use Rattle.layout_rules.specs.StorageFaults.{array_names, dimensioned, has_wrong_storage}
 use Rattle.layout_rules.proofs.FirstLine.{has_repeat-append}
+use Rattle.layout_rules.proofs.StorageLines.{right_statement}
 use Rattle.storage_laws.proofs.DeclaredForms.{All-flat_map}
-use Rattle.storage_laws.proofs.DeclaredKnown.{each_part}
-use Rattle.storage_laws.proofs.DeclaredOnce.{once_in_all}
-
--- ---- statements without a fault
-
-pub record IsRightDeclaration (names : List NameInfo) (above : List Labelled) (s : Labelled) : Type 0 where
-  pub dims_once : has_dims_twice above s ≡ false
-  pub common_once : is_common_twice above s ≡ false
-  pub members : has_wrong_member names s ≡ false
-
-pub right_declaration : (names placed : List NameInfo) (whole above : List Labelled) (s : Labelled) → has_wrong_storage names placed whole above s ≡ false → IsRightDeclaration names above s
-right_declaration names placed whole above s right =
-    let most = or_parts (has_wrong_declaration names above s || has_wrong_places names whole above s) (has_wrong_data placed above s) right in
-    let declared = or_parts (has_wrong_declaration names above s) (has_wrong_places names whole above s) most.0 in
-    let members = or_parts (has_dims_twice above s || has_wrong_dims s || is_common_twice above s) (has_wrong_member names s) declared.0 in
-    let commons = or_parts (has_dims_twice above s || has_wrong_dims s) (is_common_twice above s) members.0 in
-    record { dims_once = (or_parts (has_dims_twice above s) (has_wrong_dims s) commons.0).0; common_once = commons.1; members = members.1 }
+use Rattle.layout_rules.proofs.FlatParts.{each_part}
+use Rattle.layout_rules.proofs.DeclaredOnce.{once_in_all}
 
 -- ---- declarators
 
@@ -45,17 +31,16 @@ array_names-append xs ys = ap (map (λ (decl : Decl). decl.name)) (filter-append
 told_here : (before rest : List Decl) (decl : Decl) → has_dims decl ≡ true → list_any (bytes_eq decl.name) (array_names before) ≡ false → dims_or_none (first_answer (dims_told decl.name) (before ++ decl ∷ rest)) ≡ decl.dims
 told_here [] rest decl is none =
     ap (λ b. dims_or_none (answer_or (cond b (Some decl.dims) None) (first_answer (dims_told decl.name) rest))) (and_from (bytes_eq decl.name decl.name) (has_dims decl) (nat_list_eq_equiv.refl decl.name) is)
-told_here (d ∷ before) rest decl is none = by (has_dims d) refl none (told_here before rest decl is)
-  where
-    by : (b : Bool) → has_dims d ≡ b → list_any (bytes_eq decl.name) (map (λ x. x.name) (cond b (d ∷ filter has_dims before) (filter has_dims before))) ≡ false
-        → (list_any (bytes_eq decl.name) (array_names before) ≡ false → dims_or_none (first_answer (dims_told decl.name) (before ++ decl ∷ rest)) ≡ decl.dims) → dims_or_none (first_answer (dims_told decl.name) (d ∷ before ++ decl ∷ rest)) ≡ decl.dims
-    by true has absent more =
-        let parts = or_parts (bytes_eq decl.name d.name) (list_any (bytes_eq decl.name) (array_names before)) absent in
-        ap (λ b. dims_or_none (answer_or (cond b (Some d.dims) None) (first_answer (dims_told decl.name) (before ++ decl ∷ rest)))) (and_left (bytes_eq d.name decl.name) (has_dims d) (nat_list_eq_equiv.symm d.name decl.name ∙ parts.0))
-        ∙ more parts.1
-    by false has absent more =
-        ap (λ b. dims_or_none (answer_or (cond b (Some d.dims) None) (first_answer (dims_told decl.name) (before ++ decl ∷ rest)))) (and_right (bytes_eq d.name decl.name) (has_dims d) has)
-        ∙ more absent
+told_here (d ∷ before) rest decl is none =
+    let later = first_answer (dims_told decl.name) (before ++ decl ∷ rest) in
+    ⊎_elim
+    (λ (has : has_dims d ≡ true).
+    let parts = or_parts (bytes_eq decl.name d.name) (list_any (bytes_eq decl.name) (array_names before)) (sym (ap (λ b. list_any (bytes_eq decl.name) (map (λ (x : Decl). x.name) (cond b (d ∷ filter has_dims before) (filter has_dims before)))) has) ∙ none) in
+    ap (λ b. dims_or_none (answer_or (cond b (Some d.dims) None) later)) (and_left (bytes_eq d.name decl.name) (has_dims d) (nat_list_eq_equiv.symm d.name decl.name ∙ parts.0)) ∙ told_here before rest decl is parts.1)
+    (λ (has : has_dims d ≡ false).
+    let absent = sym (ap (λ b. list_any (bytes_eq decl.name) (map (λ (x : Decl). x.name) (cond b (d ∷ filter has_dims before) (filter has_dims before)))) has) ∙ none in
+    ap (λ b. dims_or_none (answer_or (cond b (Some d.dims) None) later)) (and_right (bytes_eq d.name decl.name) (has_dims d) has) ∙ told_here before rest decl is absent)
+    (cases_Bool (has_dims d))
 
 -- a declarator without dimensions, or with those that the declarators give its name
 abbrev HasOwnDims : List Decl → Decl → Type 0
@@ -99,7 +84,7 @@ in_parts whole _ all = All-nil (λ (part : CommonPart). All (HasDimsOf whole) pa
 pub all_commons-dims : (names placed : List NameInfo) (whole : List Labelled) → first_line (has_wrong_storage names placed whole) whole ≡ None → All (λ part. All (HasDimsOf whole) part.decls) (all_commons whole)
 all_commons-dims names placed whole right =
     let once : has_repeat bytes_eq [] (array_names (all_declarators whole)) ≡ false =
-    ap (has_repeat bytes_eq []) (array_names-all whole) ∙ once_in_all bytes_eq (has_wrong_storage names placed whole) (λ s. dimensioned s.stmt) (λ above s clear. (right_declaration names placed whole above s clear).dims_once) [] whole right in
+    ap (has_repeat bytes_eq []) (array_names-all whole) ∙ once_in_all bytes_eq (has_wrong_storage names placed whole) (λ s. dimensioned s.stmt) (λ above s clear. (right_statement names placed whole above s clear).dims_once) [] whole right in
     let each = each_part (HasDimsOf whole) (λ (s : Labelled). declarators s.stmt) whole (own_dims [] (all_declarators whole) once) in
     All-flat_map (λ (part : CommonPart). All (HasDimsOf whole) part.decls) (λ (s : Labelled). parts_of s.stmt) whole
     (All-weaker (λ (s : Labelled). All (HasDimsOf whole) (declarators s.stmt)) (λ s. All (λ part. All (HasDimsOf whole) part.decls) (parts_of s.stmt)) (λ s. in_parts whole s.stmt) whole each)

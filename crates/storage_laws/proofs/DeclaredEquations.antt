@@ -1,7 +1,7 @@
 -- The equations that the layout of storage solves are those that the declarations of the program give.
-use Rattle.std.proofs.Common.{◌≡◌, ℕ, ◌⊎◌, ⊎_elim, ℤ, pos, ◌-ℤ◌, false, List, [], ◌∷◌, ◌++◌, map, All, Contains, Option, Some, None, refl, sym, ap, subst, ◌∙◌, arith}
+use Rattle.std.proofs.Common.{◌≡◌, ℕ, ◌⊎◌, ⊎_elim, ℤ, pos, ◌-ℤ◌, false, List, [], ◌∷◌, ◌++◌, map, get_or, All, Contains, Option, Some, None, refl, sym, ap, subst, ◌∙◌}
 use Rattle.std.specs.Prelude.{flat_map}
-use Rattle.std.proofs.lemmas.List.Elements.{All-head, All-tail, All-map, Contains-get_or, Contains-append_left, Contains-append_right, Contains-append_cases, Contains-push}
+use Rattle.std.proofs.lemmas.List.Elements.{All-contains, All-head, All-tail, All-map, Contains-get_or, Contains-append_left, Contains-append_right, Contains-append_cases}
 use Rattle.f77_tree.specs.declared.declarations.Dim.{Dim}
 use Rattle.f77_tree.specs.declared.declarations.Decl.{Decl}
 use Rattle.f77_tree.specs.declared.declarations.CommonPart.{CommonPart}
@@ -17,10 +17,11 @@ use Rattle.layout_rules.specs.Storage.{Standing, standings, standings_of, standi
 use Rattle.layout_rules.specs.StorageFaults.{are_wrong_dims, has_wrong_storage}
 use Rattle.layout_rules.specs.Layout.{names_of, spots_of, placed_names}
 use Rattle.layout_rules.specs.Source.{IsSource}
+use Rattle.layout_rules.proofs.FlatParts.{of-part}
 use Rattle.layout_rules.proofs.RightDims.{right_dims}
 use Rattle.storage_laws.proofs.RightStorage.{right_dims_of}
 use Rattle.layout_rules.proofs.ProperPlaced.{placed_names-agrees}
-use Rattle.storage_laws.proofs.DeclaredForms.{All-flat_map, of-part}
+use Rattle.storage_laws.proofs.DeclaredForms.{All-flat_map}
 use Rattle.storage_laws.proofs.DeclaredNames.{same_index as same_index_in}
 use Rattle.storage_laws.proofs.DeclaredCommon.{all_commons-once}
 use Rattle.storage_laws.proofs.DeclaredMembers.{all_groups-right}
@@ -49,14 +50,8 @@ record IsInPart {S X : Type 0} (f : S → List X) (parts : List S) (x : X) : Typ
   there : Contains (f part) x
 
 in_part : {S X : Type 0} (f : S → List X) (parts : List S) (x : X) → Contains (flat_map f parts) x → IsInPart f parts x
-in_part f [] x there = absurd (omega (arith, there.1))
-in_part f (part ∷ parts) x there =
-    ⊎_elim
-    (λ here. record { part = part; among = Contains-append_left (part ∷ []) parts part (Contains-push [] part); there = here })
-    (λ later.
-    let rest = in_part f parts x later in
-    record { part = rest.part; among = Contains-append_right (part ∷ []) parts rest.part rest.among; there = rest.there })
-    (Contains-append_cases (f part) (flat_map f parts) x there)
+in_part f parts x there =
+    All-contains (IsInPart f parts) (flat_map f parts) x (All-flat_map (IsInPart f parts) f parts (λ k d lt j e within. record { part = get_or parts k d; among = Contains-get_or parts k d lt; there = Contains-get_or _ j e within })) there
 
 -- ---- COMMON
 

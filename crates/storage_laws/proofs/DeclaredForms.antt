@@ -1,13 +1,12 @@
 -- Declarations that are read from a text: their numbers, and how many parts each of their lists has.
-use Rattle.std.proofs.Common.{◌≡◌, ℕ, ◌<◌, ◌≤◌, ◌||◌, ◌&&◌, Bool, true, false, List, [], ◌∷◌, length, map, get_or, All, Contains, Option, Some, None, ⊎_elim, sym, subst, ◌∙◌, arith}
+use Rattle.std.proofs.Common.{◌≡◌, ℕ, ◌<◌, ◌≤◌, ◌||◌, ◌&&◌, Bool, true, false, List, [], ◌∷◌, length, map, All, Option, Some, None, sym, subst, ◌∙◌, arith}
 use Rattle.std.specs.Prelude.{flat_map, nat_lt, nat_le, ◌==◌}
 use Rattle.std.specs.List.{list_all, list_any}
-use Rattle.std.proofs.lemmas.Bool.{and_parts, or_parts, ltb-false, ltb-true, true≢false, false_from_ne_true}
+use Rattle.std.proofs.lemmas.Bool.{and_parts, or_parts, ltb-false, ltb-true}
 use Rattle.std.proofs.lemmas.Bool.Decides.{nat_tests}
 use Rattle.std.proofs.lemmas.Int.{ints}
 use Rattle.std.proofs.lemmas.List.{length-map}
-use Rattle.std.proofs.lemmas.List.Elements.{All-nil, All-head, All-tail, All-append, All-weaker, All-map, Contains-append_left, Contains-append_right, Contains-append_cases, Contains-push_cases}
-use Rattle.std.proofs.lemmas.List.Folds.{list_any_at}
+use Rattle.std.proofs.lemmas.List.Elements.{All-nil, All-head, All-tail, All-append, All-weaker, All-map}
 use Rattle.std.proofs.lemmas.List.Sums.{AllPass-from_list_all}
 use Rattle.f77_tree.specs.declared.declarations.CommonPart.{CommonPart}
 use Rattle.f77_tree.specs.declared.statements.Labelled.{Labelled}
@@ -19,32 +18,15 @@ use Rattle.f77_tree.specs.InitialWords.{IsLit, IsInitValue}
 use Rattle.layout_rules.specs.Declarations.{declarators, all_declarators, parts_of, all_commons, groups_of, all_groups, inits_of, all_inits}
 use Rattle.layout_rules.specs.ReadDeclarations.{IsReadDecl, IsReadPart, IsReadGroup, IsReadInit, IsReadDeclaration}
 use Rattle.layout_rules.specs.StatementTrees.{IsTree}
-use Rattle.layout_rules.proofs.FlatParts.{list_any-flat_map}
+use Rattle.layout_rules.proofs.FlatParts.{list_any-flat_map, read_each}
 
 -- ---- lists
-
--- no item is bad where none of them is
-pub none-bad : {W : Type 0} (bad : W → Bool) (ws : List W) → list_any bad ws ≡ false → All (λ w. bad w ≡ false) ws
-none-bad bad ws none k d lt = false_from_ne_true (bad (get_or ws k d)) (λ h. true≢false (sym (list_any_at bad ws k d lt h) ∙ none))
-
--- what holds of what is read from each item
-read_each : {W X : Type 0} (Q : W → Type 0) (bad : W → Bool) (of : W → X) (P : X → Type 0) → ((w : W) → Q w → bad w ≡ false → P (of w)) → (ws : List W) → All Q ws → list_any bad ws ≡ false → All P (map of ws)
-read_each Q bad of P gives ws all few = All-map P of ws (λ k d lt. gives (get_or ws k d) (all k d lt) (none-bad bad ws few k d lt))
 
 -- what holds of each item of each part
 pub All-flat_map : {S X : Type 0} (P : X → Type 0) (f : S → List X) (ss : List S) → All (λ s. All P (f s)) ss → All P (flat_map f ss)
 All-flat_map P f [] all = All-nil P
 All-flat_map P f (s ∷ ss) all =
     All-append P (f s) (flat_map f ss) (All-head (λ s. All P (f s)) s ss all) (All-flat_map P f ss (All-tail (λ s. All P (f s)) s ss all))
-
--- an item of a part is one of all
-pub of-part : {S X : Type 0} (f : S → List X) (parts : List S) (part : S) (x : X) → Contains parts part → Contains (f part) x → Contains (flat_map f parts) x
-of-part f [] part x among there = absurd (omega (arith, among.1))
-of-part f (p ∷ parts) part x among there =
-    ⊎_elim
-    (λ here. Contains-append_left (f p) (flat_map f parts) x (subst (λ q. Contains (f q) x) (sym (⊎_elim (λ (none : Contains [] part). absurd (omega (arith, none.1))) (λ e. e) (Contains-push_cases [] p part here))) there))
-    (λ later. Contains-append_right (f p) (flat_map f parts) x (of-part f parts part x later there))
-    (Contains-append_cases (p ∷ []) parts part among)
 
 -- ---- numbers
 

@@ -20,12 +20,12 @@ use Rattle.layout_rules.specs.Layout.{names_of, placed_names}
 use Rattle.layout_rules.specs.Source.{IsSource}
 use Rattle.layout_rules.specs.StorageFaults.{are_within, is_member, members_of, has_wrong_member, has_wrong_storage}
 use Rattle.layout_rules.specs.ReadDeclarations.{IsReadGroup}
+use Rattle.layout_rules.proofs.FlatParts.{each_part, none-bad}
+use Rattle.layout_rules.proofs.StorageLines.{none-any, right_statement}
 use Rattle.layout_rules.proofs.ProperPlaced.{placed_names-agrees}
-use Rattle.storage_laws.proofs.DeclaredForms.{none-bad, All-flat_map, all_groups-read}
-use Rattle.storage_laws.proofs.RightStorage.{none-any}
+use Rattle.storage_laws.proofs.DeclaredForms.{All-flat_map, all_groups-read}
 use Rattle.storage_laws.proofs.DeclaredNames.{same_index}
-use Rattle.storage_laws.proofs.DeclaredKnown.{each_part, GroupKnown, all_groups-known, all_inits-known}
-use Rattle.storage_laws.proofs.DeclaredDims.{right_declaration}
+use Rattle.storage_laws.proofs.DeclaredKnown.{GroupKnown, all_groups-known, all_inits-known}
 use Rattle.storage_laws.proofs.DeclaredCommon.{known_placed}
 
 -- ---- members
@@ -76,7 +76,7 @@ module _ (whole : List Labelled) (source : IsSource whole) (right : first_line (
   }
 
   right_members : All (λ s. has_wrong_member names s ≡ false) whole
-  right_members = none-bad (has_wrong_member names) whole (none-any (has_wrong_storage names placed whole) (has_wrong_member names) (λ above s clear. (right_declaration names placed whole above s clear).members) [] whole right)
+  right_members = none-bad (has_wrong_member names) whole (none-any (has_wrong_storage names placed whole) (has_wrong_member names) (λ above s clear. (right_statement names placed whole above s clear).members) [] whole right)
 
   -- ---- EQUIVALENCE
 

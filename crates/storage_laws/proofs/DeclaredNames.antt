@@ -1,8 +1,8 @@
 -- The table of the names of a program: each has dimensions that a source can write, and their places change nothing of it.
-use Rattle.std.proofs.Common.{◌≡◌, ℕ, zero, suc, ◌+◌, ◌&&◌, pos, ◌≤ℤ◌, Bool, true, false, not, cond, List, [], ◌∷◌, map, All, Option, Some, None, refl, sym, ap, subst, ◌∙◌, arith}
+use Rattle.std.proofs.Common.{◌≡◌, ℕ, zero, suc, ◌+◌, ◌&&◌, pos, ◌≤ℤ◌, Bool, true, false, not, cond, List, [], ◌∷◌, map, All, Some, None, refl, sym, ap, subst, ◌∙◌, arith}
 use Rattle.std.specs.Prelude.{bytes_eq, int_lt, nat_lt, slice_get}
 use Rattle.std.specs.List.{list_any}
-use Rattle.std.proofs.lemmas.Bool.{or_parts}
+use Rattle.std.proofs.lemmas.Bool.{or_parts, cond_both}
 use Rattle.std.proofs.lemmas.Int.{ints}
 use Rattle.std.proofs.lemmas.List.Elements.{All-nil, All-cons, All-head, All-tail, All-map}
 use Rattle.f77_tree.specs.declared.declarations.Dim.{Dim}
@@ -15,7 +15,7 @@ use Rattle.f77_tree.specs.Declarations.{IsDim, AreDims, IsNameInfo, NamesDiffer,
 use Rattle.layout_rules.specs.Faults.{first_line, first_answer, answer_or}
 use Rattle.layout_rules.specs.Declarations.{all_declarators, has_dims, dims_told, dims_or_none}
 use Rattle.layout_rules.specs.Appearances.{all_names}
-use Rattle.layout_rules.specs.Storage.{Spot, elements}
+use Rattle.layout_rules.specs.Storage.{Spot, elements, place_of}
 use Rattle.layout_rules.specs.StorageFaults.{are_wrong_dims, has_wrong_storage}
 use Rattle.layout_rules.specs.Layout.{name_info, names_of, spots_of, placed_from, placed_names}
 use Rattle.layout_rules.specs.PlacedNames.{HasRightDims}
@@ -23,10 +23,10 @@ use Rattle.layout_rules.specs.Source.{IsSource}
 use Rattle.layout_rules.specs.ReadDeclarations.{IsReadDims, IsReadDecl}
 use Rattle.layout_rules.proofs.ElementCounts.{right-count, right-size}
 use Rattle.storage_laws.proofs.RightStorage.{right_dims_of}
-use Rattle.storage_laws.proofs.NameTable.{names_differ}
+use Rattle.layout_rules.proofs.NameTable.{names_differ}
 use Rattle.storage_laws.proofs.SymbolicNames.{table_symbolic}
-use Rattle.storage_laws.proofs.DeclaredForms.{all_declarators-read, none-bad}
-use Rattle.storage_laws.proofs.DeclaredKnown.{before_map}
+use Rattle.storage_laws.proofs.DeclaredForms.{all_declarators-read}
+use Rattle.layout_rules.proofs.FlatParts.{before_map, none-bad}
 
 -- ---- dimensions
 
@@ -58,11 +58,8 @@ no_dims = record { lower = All-nil (λ (dim : Dim). CanBeWritten dim.lo); upper 
 read_told : (name : List ℕ) (decls : List Decl) → All IsReadDecl decls → IsReadDims (dims_or_none (first_answer (dims_told name) decls))
 read_told name [] all = no_dims
 read_told name (decl ∷ decls) all =
-    by (bytes_eq decl.name name && has_dims decl) (read_told name decls (All-tail IsReadDecl decl decls all))
-  where
-    by : (b : Bool) → IsReadDims (dims_or_none (first_answer (dims_told name) decls)) → IsReadDims (dims_or_none (answer_or (cond b (Some decl.dims) None) (first_answer (dims_told name) decls)))
-    by true later = All-head IsReadDecl decl decls all
-    by false later = later
+    cond_both (bytes_eq decl.name name && has_dims decl) (Some decl.dims) None (λ told. IsReadDims (dims_or_none (answer_or told (first_answer (dims_told name) decls))))
+    (λ here. All-head IsReadDecl decl decls all) (λ later. read_told name decls (All-tail IsReadDecl decl decls all))
 
 infos : (whole : List Labelled) → All IsReadDecl (all_declarators whole) → (names : List (List ℕ)) → All (λ info. is_name info.name ≡ true) (map (name_info whole) names) → All HasRightDims (map (name_info whole) names) → All IsNameInfo (map (name_info whole) names)
 infos whole read names symbolic right =
@@ -89,11 +86,7 @@ module _ (names : List NameInfo) (spots : List Spot) where
 
   line : (k : ℕ) (infos : List NameInfo) (j : ℕ) (a : NameInfo) → slice_get (placed_from names spots k infos) j ≡ Some a → IsLine infos j a.name
   line k [] j a at = absurd cc
-  line k (info ∷ infos) zero a at = record { info = info; stands = refl; same = ap (λ o. name_or info.name o) at }
-    where
-      name_or : List ℕ → Option NameInfo → List ℕ
-      name_or d None = d
-      name_or d (Some i) = i.name
+  line k (info ∷ infos) zero a at = let is : record info { place = place_of names spots k } ≡ a = cc in record { info = info; stands = refl; same = ap (λ (i : NameInfo). i.name) is }
   line k (info ∷ infos) (suc j) a at =
       let later = line (k + 1) infos j a at in
       record { info = later.info; stands = later.stands; same = later.same }

@@ -1,6 +1,7 @@
 -- The names that stand in COMMON, one after another, give the equations that the names of each block give.
 use Rattle.std.proofs.Common.{◌≡◌, ℕ, ⊎_elim, Bool, true, false, cond, List, [], ◌∷◌, ◌++◌, map, All, Contains, Option, Some, None, refl, sym, ap, subst, ◌∙◌, arith}
 use Rattle.std.specs.Prelude.{filter}
+use Rattle.std.proofs.lemmas.Bool.{cond_both}
 use Rattle.std.proofs.lemmas.List.Elements.{All-head, All-tail, Contains-append_left, Contains-append_right, Contains-append_cases}
 use Rattle.f77_tree.specs.declared.programs.NameInfo.{NameInfo}
 use Rattle.f77_tree.specs.Places.{Equation, same_block}
@@ -60,13 +61,9 @@ module _ (names : List NameInfo) where
   from_block block seen (s ∷ more) e there =
       let here = following names (last_standing s.block seen) s.name in
       ⊎_elim
-      (λ first. Contains-append_left here (standing_equations names (seen ++ s ∷ []) more) e (by (is_of block s) first))
+      (λ first. Contains-append_left here (standing_equations names (seen ++ s ∷ []) more) e (cond_both (is_of block s) here [] (λ es. Contains es e → Contains here e) (λ is h. h) (λ other none. absurd (omega (arith, none.1))) first))
       (λ later. Contains-append_right here (standing_equations names (seen ++ s ∷ []) more) e (from_block block (seen ++ s ∷ []) more e later))
       (Contains-append_cases (cond (is_of block s) here []) (in_block block (seen ++ s ∷ []) more) e there)
-    where
-      by : (b : Bool) → Contains (cond b (following names (last_standing s.block seen) s.name) []) e → Contains (following names (last_standing s.block seen) s.name) e
-      by true first = first
-      by false first = absurd (omega (arith, first.1))
 
   to_block : (Q : Option (List ℕ) → Type 0) (seen more : List Standing) (e : Equation) → All (λ s. Q s.block) more → Contains (standing_equations names seen more) e → IsOfBlock Q (λ block. Contains (in_block block seen more) e)
   to_block Q seen [] e told there = absurd (omega (arith, there.1))

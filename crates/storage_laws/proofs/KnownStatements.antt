@@ -4,7 +4,8 @@ use Rattle.f77_tree.specs.declared.statements.Labelled.{Labelled}
 use Rattle.layout_rules.specs.Declarations.{parts_of, groups_of}
 use Rattle.layout_rules.specs.Layout.{names_of}
 use Rattle.layout_rules.specs.Standings.{AreKnown}
-use Rattle.storage_laws.proofs.DeclaredKnown.{each_part, PartKnown, GroupKnown, all_commons-known, all_groups-known}
+use Rattle.layout_rules.proofs.FlatParts.{each_part}
+use Rattle.storage_laws.proofs.DeclaredKnown.{PartKnown, GroupKnown, all_commons-known, all_groups-known}
 
 pub statements-known : (whole : List Labelled) → AreKnown (names_of whole) whole
 statements-known whole = λ j s lt.

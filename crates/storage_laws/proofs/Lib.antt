@@ -6,12 +6,10 @@ pub mod DeclaredForms
 pub mod DeclaredKnown
 mod DeclaredMembers
 mod DeclaredNames
-pub mod DeclaredOnce
 pub mod DeclaredPrograms
 pub mod DeclaredSizes
 pub mod DeclaredStandings
 pub mod KnownStatements
-pub mod NameTable
 pub mod PlacedAlike
 pub mod PlacedBlocks
 mod PlacedCommon

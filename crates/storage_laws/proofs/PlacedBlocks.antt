@@ -5,7 +5,7 @@ use Rattle.std.specs.List.{list_any}
 use mathlib.Core.Path.{fun_ext}
 use Rattle.std.proofs.lemmas.Bool.{cases_Bool, or_from}
 use Rattle.std.proofs.lemmas.List.{map-append}
-use Rattle.std.proofs.lemmas.List.Elements.{filter-append, Contains-append_left, Contains-append_right}
+use Rattle.std.proofs.lemmas.List.Elements.{All-contains, All-contains_itself, All-filter, All-map, filter_passes, filter-append, Contains-append_left, Contains-append_right}
 use Rattle.std.proofs.lemmas.List.Folds.{list_any-append}
 use Rattle.f77_tree.specs.declared.declarations.CommonPart.{CommonPart}
 use Rattle.f77_tree.specs.declared.declarations.Decl.{Decl}
@@ -15,6 +15,7 @@ use Rattle.f77_tree.specs.Places.{same_block, block_names}
 use Rattle.f77_tree.proofs.NameLemmas.{same_block-same}
 use Rattle.layout_rules.specs.Storage.{Standing, standings_of}
 use Rattle.layout_rules.specs.Standings.{firsts_after}
+use Rattle.storage_laws.proofs.DeclaredStandings.{is_of, name_of}
 use Rattle.layout_rules.proofs.StandingLemmas.{first_if, first-there}
 
 -- ---- lists
@@ -34,53 +35,37 @@ pub record IsImage {X Y : Type 0} (f : X → Y) (test : X → Bool) (xs : List X
   pub value : f element ≡ y
 
 pub image-of : {X Y : Type 0} (f : X → Y) (test : X → Bool) (xs : List X) (y : Y) → Contains (map f (filter test xs)) y → IsImage f test xs y
-image-of f test [] y h = absurd (omega (arith, h.1))
-image-of {X} {Y} f test (x ∷ xs) y h = by (test x) refl (λ more. image-of f test xs y more) h
-  where
-    later : IsImage f test xs y → IsImage f test (x ∷ xs) y
-    later is = record { element = is.element; there = (suc is.there.0, omega (arith, is.there.1), is.there.2); passes = is.passes; value = is.value }
-
-    by : (b : Bool) → test x ≡ b → (Contains (map f (filter test xs)) y → IsImage f test xs y) → Contains (map f (cond b (x ∷ filter test xs) (filter test xs))) y → IsImage f test (x ∷ xs) y
-    by false e rest here = later (rest here)
-    by true e rest here =
-        ⊎_elim
-        (λ is. record { element = x; there = (0, omega arith, refl); passes = e; value = is })
-        (λ more. later (rest more))
-        (contains-cases (f x) (map f (filter test xs)) y here)
+image-of f test xs y h =
+    All-contains (IsImage f test xs) (map f (filter test xs)) y
+    (All-map (IsImage f test xs) f (filter test xs) (λ k d lt. record { element = get_or (filter test xs) k d; there = All-filter test (Contains xs) xs (All-contains_itself xs) k d lt; passes = filter_passes test xs k d lt; value = refl })) h
 
 -- ---- the names of a block
-
-abbrev pub in_block : Option (List ℕ) → Standing → Bool
-in_block block s = same_block s.block block
-
-abbrev pub name_in : Standing → ℕ
-name_in s = s.name
 
 module _ (names : List NameInfo) (block : Option (List ℕ)) where
   abbrev standing : Option (List ℕ) → Decl → Standing
   standing own decl = record { block = own; name = index_of names decl.name }
 
   -- the names of one part are all in the block, or none of them is
-  part-in : (own : Option (List ℕ)) (decls : List Decl) → same_block own block ≡ true → map name_in (filter (in_block block) (map (standing own) decls)) ≡ map (λ (decl : Decl). index_of names decl.name) decls
+  part-in : (own : Option (List ℕ)) (decls : List Decl) → same_block own block ≡ true → map name_of (filter (is_of block) (map (standing own) decls)) ≡ map (λ (decl : Decl). index_of names decl.name) decls
   part-in own [] h = refl
   part-in own (decl ∷ decls) h =
-      ap (λ b. map name_in (cond b (standing own decl ∷ filter (in_block block) (map (standing own) decls)) (filter (in_block block) (map (standing own) decls)))) h
+      ap (λ b. map name_of (cond b (standing own decl ∷ filter (is_of block) (map (standing own) decls)) (filter (is_of block) (map (standing own) decls)))) h
       ∙ ap (λ xs. index_of names decl.name ∷ xs) (part-in own decls h)
 
-  part-out : (own : Option (List ℕ)) (decls : List Decl) → same_block own block ≡ false → filter (in_block block) (map (standing own) decls) ≡ []
+  part-out : (own : Option (List ℕ)) (decls : List Decl) → same_block own block ≡ false → filter (is_of block) (map (standing own) decls) ≡ []
   part-out own [] h = refl
   part-out own (decl ∷ decls) h =
-      ap (λ b. cond b (standing own decl ∷ filter (in_block block) (map (standing own) decls)) (filter (in_block block) (map (standing own) decls))) h
+      ap (λ b. cond b (standing own decl ∷ filter (is_of block) (map (standing own) decls)) (filter (is_of block) (map (standing own) decls))) h
       ∙ part-out own decls h
 
   abbrev block_of : List Standing → List ℕ
-  block_of standings = map name_in (filter (in_block block) standings)
+  block_of standings = map name_of (filter (is_of block) standings)
 
   pub block-names : (commons : List CommonPart) → block_names names commons block ≡ block_of (flat_map (standings_of names) commons)
   block-names [] = refl
   block-names (part ∷ commons) =
       let rest = flat_map (standings_of names) commons in
-      let apart : block_of (standings_of names part ++ rest) ≡ block_of (standings_of names part) ++ block_of rest = ap (map name_in) (filter-append (in_block block) (standings_of names part) rest) ∙ map-append name_in (filter (in_block block) (standings_of names part)) (filter (in_block block) rest) in
+      let apart : block_of (standings_of names part ++ rest) ≡ block_of (standings_of names part) ++ block_of rest = ap (map name_of) (filter-append (is_of block) (standings_of names part) rest) ∙ map-append name_of (filter (is_of block) (standings_of names part)) (filter (is_of block) rest) in
       ⊎_elim
       (λ (h : same_block part.block block ≡ true).
       ap (λ b. flat_map (part_names names) (cond b (part ∷ filter (λ (p : CommonPart). same_block p.block block) commons) (filter (λ (p : CommonPart). same_block p.block block) commons))) h
@@ -90,24 +75,24 @@ module _ (names : List NameInfo) (block : Option (List ℕ)) where
       (λ (h : same_block part.block block ≡ false).
       ap (λ b. flat_map (part_names names) (cond b (part ∷ filter (λ (p : CommonPart). same_block p.block block) commons) (filter (λ (p : CommonPart). same_block p.block block) commons))) h
       ∙ block-names commons
-      ∙ ap (λ (xs : List Standing). map name_in xs ++ block_of rest) (sym (part-out part.block part.decls h))
+      ∙ ap (λ (xs : List Standing). map name_of xs ++ block_of rest) (sym (part-out part.block part.decls h))
       ∙ sym apart)
       (cases_Bool (same_block part.block block))
 
 -- the names of a block in the table with places are those that stand in it
-pub placed-block_names : (names placed : List NameInfo) → ((name : List ℕ) → index_of placed name ≡ index_of names name) → (block : Option (List ℕ)) (commons : List CommonPart) → block_names placed commons block ≡ map name_in (filter (in_block block) (flat_map (standings_of names) commons))
+pub placed-block_names : (names placed : List NameInfo) → ((name : List ℕ) → index_of placed name ≡ index_of names name) → (block : Option (List ℕ)) (commons : List CommonPart) → block_names placed commons block ≡ map name_of (filter (is_of block) (flat_map (standings_of names) commons))
 placed-block_names names placed index block commons =
     ap (λ (f : List ℕ → ℕ). flat_map (λ (part : CommonPart). map (λ (decl : Decl). f decl.name) part.decls) (filter (λ (part : CommonPart). same_block part.block block) commons)) (fun_ext index)
     ∙ block-names names block commons
 
 -- the first name of a block is one of the first names
-pub first-among : (block : Option (List ℕ)) (seen rest : List Standing) (x : ℕ) → list_any (in_block block) seen ≡ false → slice_get (map name_in (filter (in_block block) rest)) 0 ≡ Some x → Contains (firsts_after seen rest) x
+pub first-among : (block : Option (List ℕ)) (seen rest : List Standing) (x : ℕ) → list_any (is_of block) seen ≡ false → slice_get (map name_of (filter (is_of block) rest)) 0 ≡ Some x → Contains (firsts_after seen rest) x
 first-among block seen [] x none first = absurd cc
-first-among block seen (s ∷ rest) x none first = by (in_block block s) refl first (λ more out. first-among block (seen ++ s ∷ []) rest x out more)
+first-among block seen (s ∷ rest) x none first = by (is_of block s) refl first (λ more out. first-among block (seen ++ s ∷ []) rest x out more)
   where
-    by : (b : Bool) → in_block block s ≡ b → slice_get (map name_in (cond b (s ∷ filter (in_block block) rest) (filter (in_block block) rest))) 0 ≡ Some x → (slice_get (map name_in (filter (in_block block) rest)) 0 ≡ Some x → list_any (in_block block) (seen ++ s ∷ []) ≡ false → Contains (firsts_after (seen ++ s ∷ []) rest) x) → Contains (firsts_after seen (s ∷ rest)) x
-    by false e head later = Contains-append_right (first_if seen s) (firsts_after (seen ++ s ∷ []) rest) x (later head (list_any-append (in_block block) seen (s ∷ []) ∙ or_from (list_any (in_block block) seen) (list_any (in_block block) (s ∷ [])) none (or_from (in_block block s) false e refl)))
+    by : (b : Bool) → is_of block s ≡ b → slice_get (map name_of (cond b (s ∷ filter (is_of block) rest) (filter (is_of block) rest))) 0 ≡ Some x → (slice_get (map name_of (filter (is_of block) rest)) 0 ≡ Some x → list_any (is_of block) (seen ++ s ∷ []) ≡ false → Contains (firsts_after (seen ++ s ∷ []) rest) x) → Contains (firsts_after seen (s ∷ rest)) x
+    by false e head later = Contains-append_right (first_if seen s) (firsts_after (seen ++ s ∷ []) rest) x (later head (list_any-append (is_of block) seen (s ∷ []) ∙ or_from (list_any (is_of block) seen) (list_any (is_of block) (s ∷ [])) none (or_from (is_of block s) false e refl)))
     by true e head later =
         let is : s.name ≡ x = cc in
-        let fresh : list_any (λ a. same_block a.block s.block) seen ≡ false = ap (λ b. list_any (in_block b) seen) (same_block-same s.block block e) ∙ none in
+        let fresh : list_any (λ a. same_block a.block s.block) seen ≡ false = ap (λ b. list_any (is_of b) seen) (same_block-same s.block block e) ∙ none in
         Contains-append_left (first_if seen s) (firsts_after (seen ++ s ∷ []) rest) x (subst (λ (k : ℕ). Contains (first_if seen s) k) is (first-there seen s fresh))

@@ -1,8 +1,8 @@
 -- The equations of COMMON and EQUIVALENCE lead from names of the table to names of the table.
-use Rattle.std.proofs.Common.{◌≡◌, ℕ, suc, ◌<◌, ⊎_elim, pos, true, false, ◌==◌, List, [], ◌∷◌, ◌++◌, length, map, get_or, Option, Some, None, refl, sym, ap, subst, ◌∙◌, arith, append_assoc, append-nil, Contains, All}
+use Rattle.std.proofs.Common.{◌≡◌, ℕ, suc, ◌<◌, ⊎_elim, pos, false, ◌==◌, List, [], ◌∷◌, ◌++◌, length, map, get_or, Option, Some, None, refl, sym, ap, subst, ◌∙◌, arith, append_assoc, append-nil, Contains, All}
 use Rattle.std.specs.Prelude.{flat_map, slice_get, fold}
 use Rattle.std.specs.List.{list_any}
-use Rattle.std.proofs.lemmas.Bool.{cases_Bool, eqb-true, or_from}
+use Rattle.std.proofs.lemmas.Bool.{false_from_ne_true, eqb-true, or_from}
 use Rattle.std.proofs.lemmas.List.{map-append}
 use Rattle.std.proofs.lemmas.List.Elements.{All-nil, All-head, All-tail, All-map, All-contains, Contains-append_cases, Contains-push_cases}
 use Rattle.f77_tree.specs.declared.declarations.CommonPart.{CommonPart}
@@ -16,18 +16,19 @@ use Rattle.layout_rules.specs.Standings.{ArePartsKnown, AreGroupsKnown}
 use Rattle.layout_rules.proofs.StandingLemmas.{with-new, last-stands}
 use Rattle.storage_laws.proofs.PlacedLinks.{IsEquation, AreEquations}
 use Rattle.storage_laws.proofs.DeclaredForms.{All-flat_map}
-use Rattle.storage_laws.proofs.PlacedBlocks.{contains-cases, name_in}
+use Rattle.storage_laws.proofs.DeclaredStandings.{name_of}
+use Rattle.storage_laws.proofs.PlacedBlocks.{contains-cases}
 
 -- ---- names of COMMON where none stands twice
 
 abbrev pub AreDistinct : List Standing → Type 0
-AreDistinct xs = (j k x : ℕ) → slice_get (map name_in xs) j ≡ Some x → slice_get (map name_in xs) k ≡ Some x → j ≡ k
+AreDistinct xs = (j k x : ℕ) → slice_get (map name_of xs) j ≡ Some x → slice_get (map name_of xs) k ≡ Some x → j ≡ k
 
 distinct-tail : (s : Standing) (xs : List Standing) → AreDistinct (s ∷ xs) → AreDistinct xs
 distinct-tail s xs once j k x at_j at_k = let e : suc j ≡ suc k = once (suc j) (suc k) x at_j at_k in omega arith
 
 -- a name after some others
-beyond : (seen rest : List Standing) (s : Standing) → (i : ℕ) × (slice_get (map name_in (seen ++ s ∷ rest)) i ≡ Some s.name)
+beyond : (seen rest : List Standing) (s : Standing) → (i : ℕ) × (slice_get (map name_of (seen ++ s ∷ rest)) i ≡ Some s.name)
 beyond [] rest s = (0, refl)
 beyond (a ∷ seen) rest s = let more = beyond seen rest s in (suc more.0, more.1)
 
@@ -35,13 +36,9 @@ pub absent : (seen rest : List Standing) (s : Standing) → AreDistinct (seen ++
 absent [] rest s once = refl
 absent (a ∷ seen) rest s once =
     let more = beyond seen rest s in
-    let here : (a.name == s.name) ≡ false = ⊎_elim
-    (λ (h : (a.name == s.name) ≡ true).
+    let here : (a.name == s.name) ≡ false = false_from_ne_true (a.name == s.name) (λ h.
     let e : 0 ≡ suc more.0 = once 0 (suc more.0) s.name (ap Some (eqb-true a.name s.name h)) more.1 in
-    absurd (omega arith))
-    (λ h. h)
-    (cases_Bool (a.name == s.name))
-    in
+    absurd (omega arith)) in
     or_from (a.name == s.name) (list_any (λ b. b.name == s.name) seen) here (absent seen rest s (distinct-tail a (seen ++ s ∷ rest) once))
 
 all-stand : (seen rest : List Standing) → AreDistinct (seen ++ rest) → fold with_standing seen rest ≡ seen ++ rest
@@ -55,15 +52,15 @@ module _ (names : List NameInfo) where
   abbrev standing : Option (List ℕ) → Decl → Standing
   standing block decl = record { block = block; name = index_of names decl.name }
 
-  names-of-part : (block : Option (List ℕ)) (decls : List Decl) → map name_in (map (standing block) decls) ≡ map (λ (decl : Decl). index_of names decl.name) decls
+  names-of-part : (block : Option (List ℕ)) (decls : List Decl) → map name_of (map (standing block) decls) ≡ map (λ (decl : Decl). index_of names decl.name) decls
   names-of-part block [] = refl
   names-of-part block (decl ∷ decls) = ap (λ xs. index_of names decl.name ∷ xs) (names-of-part block decls)
 
-  pub names-of-standings : (commons : List CommonPart) → map name_in (flat_map (standings_of names) commons) ≡ flat_map (part_names names) commons
+  pub names-of-standings : (commons : List CommonPart) → map name_of (flat_map (standings_of names) commons) ≡ flat_map (part_names names) commons
   names-of-standings [] = refl
   names-of-standings (part ∷ commons) =
-      map-append name_in (standings_of names part) (flat_map (standings_of names) commons)
-      ∙ ap (λ xs. xs ++ map name_in (flat_map (standings_of names) commons)) (names-of-part part.block part.decls)
+      map-append name_of (standings_of names part) (flat_map (standings_of names) commons)
+      ∙ ap (λ xs. xs ++ map name_of (flat_map (standings_of names) commons)) (names-of-part part.block part.decls)
       ∙ ap (λ xs. part_names names part ++ xs) (names-of-standings commons)
 
   pub standings-distinct : (commons : List CommonPart) → CommonOnce names commons → AreDistinct (flat_map (standings_of names) commons)

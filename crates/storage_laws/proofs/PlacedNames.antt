@@ -1,7 +1,6 @@
 -- Places that the equations give are places of a program.
 use Rattle.std.proofs.Common.{◌≡◌, ℕ, ◌<◌, ◌⊎◌, inl, inr, ⊎_elim, pos, ◌+ℤ◌, ◌≤ℤ◌, List, length, sym, ap, ◌∙◌, arith, Contains}
 use Rattle.std.proofs.lemmas.Int.{ints}
-use Rattle.std.proofs.lemmas.Bool.{cases_order}
 use Rattle.f77_tree.specs.declared.programs.NameInfo.{NameInfo}
 use Rattle.f77_tree.specs.Value.{dims_of, size_of, place_of as placed_at}
 use Rattle.f77_tree.specs.Declarations.{index_of}
@@ -99,7 +98,7 @@ module _ (names placed : List NameInfo) (count : ℕ) (all : List Equation) (are
 
   pub shared : (x y word : ℕ) → IsWordOf placed x word → IsWordOf placed y word → Linked all x y
   shared x y word at_x at_y =
-      let same : storage_at spots x ≡ storage_at spots y = ⊎_elim (λ e. e) (λ h. ⊎_elim (λ lt. absurd (not-before x y word at_x at_y lt)) (λ lt. absurd (not-before y x word at_y at_x lt)) h) (cases_order (storage_at spots x) (storage_at spots y)) in
+      let same : storage_at spots x ≡ storage_at spots y = grind (arith, not-before x y word at_x at_y, not-before y x word at_y at_x) in
       storage-linked_names count all are x y (counted x at_x.known) (counted y at_y.known) same
 
   has-words : (x : ℕ) → x < length spots → 0 < size_at names x

@@ -15,6 +15,7 @@ use Rattle.layout_rules.specs.Declarations.{all_commons, all_groups}
 use Rattle.layout_rules.specs.Storage.{Spot, Standing, standings, standings_of, spots_by, size_at, are_right, equations, place_of, words_in_all}
 use Rattle.layout_rules.specs.Standings.{ArePartsKnown, AreGroupsKnown}
 use Rattle.layout_rules.specs.Spots.{storage_at, distance_at}
+use Rattle.layout_rules.proofs.ProperPlaced.{placed_from-agrees}
 use Rattle.layout_rules.proofs.RightPlaces.{ArePlacedRight, right-yes}
 use Rattle.f77_tree.proofs.NameLemmas.{same_block-same}
 use Rattle.layout_rules.specs.Faults.{first_line}
@@ -23,7 +24,8 @@ use Rattle.layout_rules.specs.Layout.{names_of, spots_of, placed_from, placed_na
 use Rattle.storage_laws.proofs.PlacedLinks.{AreEquations, length-spots, lowest-spots, linked-storage}
 use Rattle.storage_laws.proofs.PlacedWords.{apart-by}
 use Rattle.storage_laws.proofs.PlacedNames.{IsPlaced, link-inside, equal, within, ordered, shared, begins, ends}
-use Rattle.storage_laws.proofs.PlacedBlocks.{IsImage, image-of, in_block, name_in, placed-block_names, first-among}
+use Rattle.storage_laws.proofs.PlacedBlocks.{IsImage, image-of, placed-block_names, first-among}
+use Rattle.storage_laws.proofs.DeclaredStandings.{is_of, name_of}
 use Rattle.storage_laws.proofs.DeclaredNames.{same_index_from}
 use Rattle.storage_laws.proofs.PlacedEquations.{standings-once, standings-in, ends-in}
 use Rattle.storage_laws.proofs.PlacedRight.{all-right}
@@ -45,11 +47,11 @@ module _ (names placed : List NameInfo) (commons : List CommonPart) (groups : Li
     is-right : ArePlacedRight (length names) spots standing all
     is-right = subst (λ (xs : List Standing). ArePlacedRight (length names) spots xs all) (standings-once names commons once) (right-yes (length names) spots (standings names commons) all right)
 
-    names-of-block : (block : Option (List ℕ)) → block_names placed commons block ≡ map name_in (filter (in_block block) standing)
+    names-of-block : (block : Option (List ℕ)) → block_names placed commons block ≡ map name_of (filter (is_of block) standing)
     names-of-block block = placed-block_names names placed is.indices block commons
 
-    in-common : (block : Option (List ℕ)) (x : ℕ) → Contains (block_names placed commons block) x → IsImage name_in (in_block block) standing x
-    in-common block x h = image-of name_in (in_block block) standing x (subst (λ (xs : List ℕ). Contains xs x) (names-of-block block) h)
+    in-common : (block : Option (List ℕ)) (x : ℕ) → Contains (block_names placed commons block) x → IsImage name_of (is_of block) standing x
+    in-common block x h = image-of name_of (is_of block) standing x (subst (λ (xs : List ℕ). Contains xs x) (names-of-block block) h)
 
     blocks : (a b : Option (List ℕ)) (x y : ℕ) → Contains (block_names placed commons a) x → Contains (block_names placed commons b) y → Linked all x y → a ≡ b
     blocks a b x y at_x at_y link =
@@ -60,7 +62,7 @@ module _ (names placed : List NameInfo) (commons : List CommonPart) (groups : Li
 
     extended : (x y : ℕ) → IsFirstOfBlock placed commons x → Linked all x y → placed_at placed x ≤ placed_at placed y
     extended x y first link =
-        let head : slice_get (map name_in (filter (in_block first.block) standing)) 0 ≡ Some x = ap (λ xs. slice_get xs 0) (sym (names-of-block first.block)) ∙ first.first in
+        let head : slice_get (map name_of (filter (is_of first.block) standing)) 0 ≡ Some x = ap (λ xs. slice_get xs 0) (sym (names-of-block first.block)) ∙ first.first in
         let first_x = first-among first.block [] standing x refl head in
         let image = in-common first.block x (first-in (block_names placed commons first.block) first.first) in
         let i : x < length names = subst (λ (k : ℕ). k < length names) image.value (standings-in names (length names) commons parts image.element image.there) in
@@ -95,10 +97,6 @@ module _ (names placed : List NameInfo) (commons : List CommonPart) (groups : Li
 -- ---- the table with places
 
 module _ (names : List NameInfo) (spots : List Spot) where
-  length-placed : (k : ℕ) (infos : List NameInfo) → length (placed_from names spots k infos) ≡ length infos
-  length-placed k [] = refl
-  length-placed k (info ∷ infos) = ap suc (length-placed (k + 1) infos)
-
   place-placed : (k : ℕ) (infos : List NameInfo) (j i : ℕ) → j < length infos → k + j ≡ i → placed_at (placed_from names spots k infos) j ≡ place_of names spots i
   place-placed k [] j i lt e = absurd (omega arith)
   place-placed k (info ∷ infos) zero i lt e = let same : k ≡ i = omega arith in ap (place_of names spots) same
@@ -113,8 +111,8 @@ module _ (names : List NameInfo) (spots : List Spot) where
 
   pub placed-is : length spots ≡ length names → AreSized → IsPlaced names placed spots
   placed-is as_many sized = record {
-    as_many = length-placed 0 names ∙ sym as_many;
-    places = λ x lt. place-placed 0 names x x (omega (arith, length-placed 0 names)) (omega arith);
+    as_many = (placed_from-agrees names spots 0 names).as_many ∙ sym as_many;
+    places = λ x lt. place-placed 0 names x x (omega (arith, (placed_from-agrees names spots 0 names).as_many)) (omega arith);
     sizes = λ x lt. (sized x).0;
     some = λ x lt. (sized x).1;
     indices = same_index_from names spots 0 names;

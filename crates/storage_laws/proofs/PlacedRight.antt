@@ -1,7 +1,7 @@
 -- Where no EQUIVALENCE makes the places wrong, they are right.
-use Rattle.std.proofs.Common.{◌≡◌, ℕ, suc, ◌<◌, ⊎_elim, pos, Bool, true, false, cond, not, List, [], ◌∷◌, ◌++◌, length, Option, Some, None, refl, sym, ap, subst, ◌∙◌, arith, append_assoc, append-nil, Contains}
-use Rattle.std.specs.Prelude.{flat_map, ◌||◌, ◌&&◌}
-use Rattle.std.proofs.lemmas.Bool.{or_parts, not-false}
+use Rattle.std.proofs.Common.{◌≡◌, ℕ, suc, ◌<◌, ⊎_elim, pos, true, false, not, List, [], ◌∷◌, ◌++◌, length, Option, Some, None, refl, sym, ap, subst, ◌∙◌, arith, append_assoc, append-nil, Contains}
+use Rattle.std.specs.Prelude.{flat_map, ◌&&◌}
+use Rattle.std.proofs.lemmas.Bool.{not-false}
 use Rattle.std.proofs.lemmas.List.Sums.{fold_push}
 use Rattle.std.proofs.lemmas.List.Elements.{Contains-append_left, Contains-append_right, Contains-append_cases}
 use Rattle.std.proofs.lemmas.List.Concat.{flat_map-append}
@@ -13,11 +13,12 @@ use Rattle.f77_tree.specs.declared.statements.Stmt.{Stmt}
 use Rattle.f77_tree.specs.declared.statements.Stmt.TheVariants.{Equivalence}
 use Rattle.f77_tree.specs.Declarations.{CommonOnce}
 use Rattle.f77_tree.specs.Places.{Equation}
-use Rattle.layout_rules.specs.Faults.{first_line, first_after}
+use Rattle.layout_rules.specs.Faults.{first_line}
 use Rattle.layout_rules.specs.Declarations.{all_commons, all_groups, groups_of}
-use Rattle.layout_rules.specs.StorageFaults.{is_equivalence, gives_places, has_dims_twice, has_wrong_dims, is_common_twice, has_wrong_member, has_wrong_places, has_wrong_data, has_wrong_storage}
+use Rattle.layout_rules.specs.StorageFaults.{is_equivalence, gives_places, has_wrong_storage}
 use Rattle.layout_rules.specs.Storage.{Standing, standings, standings_of, size_at, spots_by, linked, alone, last_standing, following, standing_equations, equations, are_right}
 use Rattle.layout_rules.specs.Standings.{ArePartsKnown, firsts_after}
+use Rattle.layout_rules.proofs.StorageLines.{kept-after, right_statement}
 use Rattle.layout_rules.proofs.StandingLemmas.{equations-push, last-stands, first_if, first-here}
 use Rattle.storage_laws.proofs.PlacedEquations.{AreDistinct, absent, standings-once, standings-distinct, standings-in, AreInTable}
 use Rattle.layout_rules.proofs.RightPlaces.{right-from}
@@ -87,28 +88,12 @@ module _ (names placed : List NameInfo) (whole : List Labelled) where
   abbrev Right : List (List Member) → Type 0
   Right groups = gives_places names whole groups ≡ true
 
-  abbrev fault : List Labelled → Labelled → Bool
-  fault = has_wrong_storage names placed whole
-
   -- a statement without fault leaves right places right
   right-next : (above : List Labelled) (stmt : Stmt) → (is_equivalence stmt && not (gives_places names whole (all_groups above ++ groups_of stmt))) ≡ false → Right (all_groups above) → Right (all_groups above ++ groups_of stmt)
   right-next above (Equivalence groups) clear right = not-false (gives_places names whole (all_groups above ++ groups)) clear
   right-next above _ clear right = subst Right (sym (append-nil (all_groups above))) right
 
-  right-after : (above rest : List Labelled) → first_after fault above rest ≡ None → Right (all_groups above) → Right (all_groups (above ++ rest))
-  right-after above [] none right = subst (λ (stmts : List Labelled). Right (all_groups stmts)) (sym (append-nil above)) right
-  right-after above (s ∷ rest) none right = by (fault above s) refl none (λ later now. right-after (above ++ s ∷ []) rest later now)
-    where
-      declared : Bool
-      declared = has_dims_twice above s || has_wrong_dims s || is_common_twice above s || has_wrong_member names s
-
-      by : (b : Bool) → fault above s ≡ b → cond b (Some s.line) (first_after fault (above ++ s ∷ []) rest) ≡ None → (first_after fault (above ++ s ∷ []) rest ≡ None → Right (all_groups (above ++ s ∷ [])) → Right (all_groups ((above ++ s ∷ []) ++ rest))) → Right (all_groups (above ++ s ∷ rest))
-      by true is found later = absurd cc
-      by false clear found later =
-          let places = (or_parts declared (has_wrong_places names whole above s) (or_parts (declared || has_wrong_places names whole above s) (has_wrong_data placed above s) clear).0).1 in
-          let now : Right (all_groups (above ++ s ∷ [])) = subst Right (sym (groups-push above s)) (right-next above s.stmt places right) in
-          subst (λ (stmts : List Labelled). Right (all_groups stmts)) (append_assoc above (s ∷ []) rest) (later found now)
-
 -- where storage is without fault, all statements give right places
 pub all-right : (names placed : List NameInfo) (whole : List Labelled) → ArePartsKnown names (all_commons whole) → CommonOnce names (all_commons whole) → first_line (has_wrong_storage names placed whole) whole ≡ None → gives_places names whole (all_groups whole) ≡ true
-all-right names placed whole parts once none = right-after names placed whole [] whole none (common-right names (all_commons whole) parts once)
+all-right names placed whole parts once none =
+    kept-after (has_wrong_storage names placed whole) (λ stmts. Right names placed whole (all_groups stmts)) (λ above s clear right. subst (Right names placed whole) (sym (groups-push above s)) (right-next names placed whole above s.stmt (right_statement names placed whole above s clear).places right)) [] whole none (common-right names (all_commons whole) parts once)

@@ -1,7 +1,7 @@
 -- What is so of statements whose layout of storage has no fault.
 use Rattle.std.proofs.Common.{◌≡◌, ℕ, ◌+◌, Bool, false, not, ◌||◌, List, [], ◌∷◌, ◌++◌, length, map, All, None, refl, sym, ap, ◌∙◌, arith}
 use Rattle.std.specs.List.{list_any, flat_map, range_with_len}
-use Rattle.std.proofs.lemmas.Bool.{or_parts, or_from}
+use Rattle.std.proofs.lemmas.Bool.{or_from}
 use Rattle.std.proofs.lemmas.List.{append-nil, append_assoc}
 use Rattle.std.proofs.lemmas.List.Concat.{flat_map-append}
 use Rattle.f77_tree.specs.declared.declarations.Member.{Member}
@@ -14,11 +14,11 @@ use Rattle.f77_tree.specs.InitialWords.{part_words}
 use Rattle.layout_rules.specs.Faults.{first_line, first_after}
 use Rattle.layout_rules.specs.Declarations.{all_inits, inits_of}
 use Rattle.layout_rules.specs.Storage.{Spot, place_of}
-use Rattle.layout_rules.specs.StorageFaults.{is_member, members_of, has_wrong_dims, has_wrong_member, is_wrong_part, has_wrong_part, has_dims_twice, is_common_twice, has_wrong_declaration, has_wrong_places, has_wrong_data, has_wrong_storage}
+use Rattle.layout_rules.specs.StorageFaults.{is_member, members_of, has_wrong_dims, has_wrong_member, is_wrong_part, has_wrong_part, has_wrong_data, has_wrong_storage}
 use Rattle.layout_rules.specs.Layout.{names_of, spots_of, placed_from, placed_names}
 use Rattle.layout_rules.specs.PlacedNames.{with_places, HasRightDims}
 use Rattle.layout_rules.proofs.FlatParts.{list_any-flat_map}
-use Rattle.layout_rules.proofs.StorageLines.{after_clear, after_next, dims_clear, right_sizes}
+use Rattle.layout_rules.proofs.StorageLines.{right_statement, kept-after, none-any, right_sizes}
 
 -- ---- the table of names with the places that storages give
 
@@ -48,49 +48,27 @@ no_wrong_item names s right = none s.stmt right
     none (Init parts) right = sym (list_any-flat_map (is_wrong_member names) (λ (part : InitPart). part.items) parts) ∙ right
     none _ right = refl
 
--- where no statement has the fault, none is bad, if a bad one has it
-pub none-any : (fault : List Labelled → Labelled → Bool) (bad : Labelled → Bool) → ((above : List Labelled) (s : Labelled) → fault above s ≡ false → bad s ≡ false) → (above stmts : List Labelled) → first_after fault above stmts ≡ None → list_any bad stmts ≡ false
-none-any fault bad lacks above [] right = refl
-none-any fault bad lacks above (s ∷ rest) right =
-    let clear = after_clear fault above rest s right in
-    or_from (bad s) (list_any bad rest) (lacks above s clear) (none-any fault bad lacks (above ++ s ∷ []) rest (sym (after_next fault above rest s clear) ∙ right))
-
 module _ (names placed : List NameInfo) (whole : List Labelled) where
   abbrev fault : List Labelled → Labelled → Bool
   fault = has_wrong_storage names placed whole
 
-  right_declaration : (above : List Labelled) (s : Labelled) → fault above s ≡ false → has_wrong_declaration names above s ≡ false
-  right_declaration above s clear =
-      (or_parts (has_wrong_declaration names above s) (has_wrong_places names whole above s) (or_parts (has_wrong_declaration names above s || has_wrong_places names whole above s) (has_wrong_data placed above s) clear).0).0
-
-  right_data : (above : List Labelled) (s : Labelled) → fault above s ≡ false → has_wrong_data placed above s ≡ false
-  right_data above s clear = (or_parts (has_wrong_declaration names above s || has_wrong_places names whole above s) (has_wrong_data placed above s) clear).1
-
-  dims_after : (above stmts : List Labelled) → first_after fault above stmts ≡ None → list_any has_wrong_dims stmts ≡ false
-  dims_after = none-any fault has_wrong_dims (λ above s clear. dims_clear names above s (right_declaration above s clear))
-
   items_after : (above stmts : List Labelled) → first_after fault above stmts ≡ None → list_any (λ part. list_any (is_wrong_member names) part.items) (all_inits stmts) ≡ false
   items_after above stmts right =
       list_any-flat_map (λ (part : InitPart). list_any (is_wrong_member names) part.items) (λ (s : Labelled). inits_of s.stmt) stmts
-      ∙ none-any fault (λ s. list_any (λ part. list_any (is_wrong_member names) part.items) (inits_of s.stmt)) (λ above s clear. no_wrong_item names s (or_parts (has_dims_twice above s || has_wrong_dims s || is_common_twice above s) (has_wrong_member names s) (right_declaration above s clear)).1) above stmts right
+      ∙ none-any fault (λ s. list_any (λ part. list_any (is_wrong_member names) part.items) (inits_of s.stmt)) (λ above s clear. no_wrong_item names s (right_statement names placed whole above s clear).members) above stmts right
 
-  all_inits-push : (above : List Labelled) (s : Labelled) → all_inits (above ++ s ∷ []) ≡ all_inits above ++ inits_of s.stmt
-  all_inits-push above s = flat_map-append (λ (t : Labelled). inits_of t.stmt) above (s ∷ []) ∙ ap (λ (parts : List InitPart). all_inits above ++ parts) (append-nil (inits_of s.stmt))
+  abbrev RightData : List Labelled → Type 0
+  RightData stmts = has_wrong_part placed [] (all_inits stmts) ≡ false
 
-  data_after : (above stmts : List Labelled) → first_after fault above stmts ≡ None → has_wrong_part placed (flat_map (part_words placed) (all_inits above)) (all_inits stmts) ≡ false
-  data_after above [] right = refl
-  data_after above (s ∷ rest) right =
-      let clear = after_clear fault above rest s right in
-      let words = flat_map (part_words placed) (all_inits above) in
-      let here : has_wrong_part placed words (inits_of s.stmt) ≡ false = right_data above s clear in
-      let later = data_after (above ++ s ∷ []) rest (sym (after_next fault above rest s clear) ∙ right) in
-      let same : flat_map (part_words placed) (all_inits (above ++ s ∷ [])) ≡ words ++ flat_map (part_words placed) (inits_of s.stmt) = ap (λ (parts : List InitPart). flat_map (part_words placed) parts) (all_inits-push above s) ∙ flat_map-append (part_words placed) (all_inits above) (inits_of s.stmt) in
-      has_wrong_part-append placed words (inits_of s.stmt) (all_inits rest)
-      ∙ or_from (has_wrong_part placed words (inits_of s.stmt)) (has_wrong_part placed (words ++ flat_map (part_words placed) (inits_of s.stmt)) (all_inits rest)) here (ap (λ (ws : List ℕ). has_wrong_part placed ws (all_inits rest)) (sym same) ∙ later)
+  data_next : (above : List Labelled) (s : Labelled) → fault above s ≡ false → RightData above → RightData (above ++ s ∷ [])
+  data_next above s clear so =
+      ap (has_wrong_part placed []) (flat_map-append (λ (t : Labelled). inits_of t.stmt) above (s ∷ []) ∙ ap (λ (parts : List InitPart). all_inits above ++ parts) (append-nil (inits_of s.stmt)))
+      ∙ has_wrong_part-append placed [] (all_inits above) (inits_of s.stmt)
+      ∙ or_from (has_wrong_part placed [] (all_inits above)) (has_wrong_data placed above s) so (right_statement names placed whole above s clear).values
 
 -- the dimensions of all names are right
 pub right_dims_of : (names placed : List NameInfo) (stmts : List Labelled) → first_line (has_wrong_storage names placed stmts) stmts ≡ None → All HasRightDims (names_of stmts)
-right_dims_of names placed stmts right = right_sizes stmts (dims_after names placed stmts [] stmts right)
+right_dims_of names placed stmts right = right_sizes stmts (none-any (has_wrong_storage names placed stmts) has_wrong_dims (λ above s clear. (right_statement names placed stmts above s clear).dims) [] stmts right)
 
 -- each item of DATA is a name or an element
 pub right_items_of : (names placed : List NameInfo) (stmts : List Labelled) → first_line (has_wrong_storage names placed stmts) stmts ≡ None → list_any (λ part. list_any (λ member. not (is_member names member)) part.items) (all_inits stmts) ≡ false
@@ -98,4 +76,4 @@ right_items_of names placed stmts right = items_after names placed stmts [] stmt
 
 -- the values of DATA fit its items, and no word has two
 pub right_data_of : (names placed : List NameInfo) (stmts : List Labelled) → first_line (has_wrong_storage names placed stmts) stmts ≡ None → has_wrong_part placed [] (all_inits stmts) ≡ false
-right_data_of names placed stmts right = data_after names placed stmts [] stmts right
+right_data_of names placed stmts right = kept-after (has_wrong_storage names placed stmts) (RightData names placed stmts) (data_next names placed stmts) [] stmts right refl

@@ -1,8 +1,8 @@
 -- The names in the statements of a source are symbolic names.
-use Rattle.std.proofs.Common.{◌≡◌, ℕ, Bool, true, false, not, ◌&&◌, ◌||◌, List, [], ◌∷◌, ◌++◌, length, map, Option, Some, None, All, refl, sym, subst, ◌∙◌}
-use Rattle.std.specs.Prelude.{bytes_eq, flat_map, fold, if◌then◌else◌, nat_le, nat_lt}
+use Rattle.std.proofs.Common.{◌≡◌, ℕ, Bool, true, not, ◌&&◌, ◌||◌, List, [], ◌∷◌, ◌++◌, length, map, Option, Some, None, All, refl, sym, subst, ◌∙◌}
+use Rattle.std.specs.Prelude.{bytes_eq, flat_map, fold, nat_le, nat_lt}
 use Rattle.std.specs.List.{list_all, list_any}
-use Rattle.std.proofs.lemmas.Bool.{and_from, and_parts}
+use Rattle.std.proofs.lemmas.Bool.{and_from, and_parts, cond_both}
 use Rattle.std.proofs.lemmas.List.Elements.{All-map}
 use Rattle.std.proofs.lemmas.List.Folds.{list_all-append}
 use Rattle.std.proofs.lemmas.List.Sums.{AllPass-from_list_all}
@@ -48,11 +48,7 @@ each_name P of name symbolic (w ∷ ws) all =
 
 module _ (arrays : List ℕ → Bool) where
   called_symbolic : (name : List ℕ) → is_name name ≡ true → AreSymbolic (called_name arrays name)
-  called_symbolic name is = by (arrays name || not (is_intrinsic name))
-    where
-      by : (b : Bool) → AreSymbolic (if b then name ∷ [] else [])
-      by true = one name is
-      by false = refl
+  called_symbolic name is = cond_both (arrays name || not (is_intrinsic name)) (name ∷ []) [] AreSymbolic (λ t. one name is) (λ f. refl)
 
   mutual
     pub expression_symbolic : (w : Written) → IsGrammatical w → AreSymbolic (names_in arrays (reading w))
@@ -142,11 +138,7 @@ statements_symbolic arrays (s ∷ stmts) all =
     joined (appearing arrays s.stmt) (flat_map (λ a. appearing arrays a.stmt) stmts) ((All-first (λ a. IsTree a.stmt) s stmts all).names arrays) (statements_symbolic arrays stmts (All-rest (λ a. IsTree a.stmt) s stmts all))
 
 with_symbolic : (seen : List (List ℕ)) (name : List ℕ) → AreSymbolic seen → is_name name ≡ true → AreSymbolic (with_name seen name)
-with_symbolic seen name symbolic is = by (list_any (bytes_eq name) seen)
-  where
-    by : (met : Bool) → AreSymbolic (if met then seen else seen ++ name ∷ [])
-    by true = symbolic
-    by false = joined seen (name ∷ []) symbolic (one name is)
+with_symbolic seen name symbolic is = cond_both (list_any (bytes_eq name) seen) seen (seen ++ name ∷ []) AreSymbolic (λ met. symbolic) (λ absent. joined seen (name ∷ []) symbolic (one name is))
 
 once_symbolic : (seen names : List (List ℕ)) → AreSymbolic seen → AreSymbolic names → AreSymbolic (fold with_name seen names)
 once_symbolic seen [] symbolic rest = symbolic

@@ -3,7 +3,7 @@ use Rattle.std.specs.List.{list_any}
 use Rattle.f77_tree.specs.declared.statements.Stmt.{Stmt}
 use Rattle.layout_rules.specs.Labels.{IsBorne, jumps, statement_of}
 use Rattle.layout_rules.specs.Jumps.{leads_into}
-use Rattle.control_structure.proofs.UsedLabels.{jumps-ThenIf, guards, guards-ThenIf}
+use Rattle.control_structure.proofs.Usable.{jumps-ThenIf, guards, guards-ThenIf}
 use Rattle.control_structure.proofs.jumps.+enters_from.Goals as goal
 
 pub enters_from-requires : goal.enters_from-requires

@@ -1,4 +1,4 @@
-use Rattle.control_structure.proofs.UsedLabels.{guards}
+use Rattle.control_structure.proofs.Usable.{guards}
 use Rattle.control_structure.proofs.jumps.+enters_from.Given as goal
 
 abbrev pub decreases-enters_from : goal.decreases-enters_from

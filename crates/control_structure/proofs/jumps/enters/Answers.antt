@@ -1,5 +1,5 @@
 use Rattle.std.proofs.Common.{Some, None, sym, ◌∙◌, arith}
-use Rattle.control_structure.proofs.SpanLists.{leads-none, leads-innermost, target_of, Target-inside, Target-innermost, inner_inside}
+use Rattle.control_structure.proofs.InnermostSpans.{leads-none, leads-innermost, target_of, Target-inside, Target-innermost, inner_inside}
 use Rattle.control_structure.proofs.jumps.enters.Goals as goal
 
 pub bounds : goal.bounds

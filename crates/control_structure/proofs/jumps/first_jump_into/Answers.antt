@@ -6,7 +6,7 @@ use Rattle.f77_tree.specs.declared.statements.Labelled.{Labelled}
 use Rattle.layout_rules.specs.Jumps.{jumps_into, leads_into}
 use Rattle.layout_rules.specs.Labels.{jumps, statement_of}
 use Rattle.layout_rules.proofs.FirstLine.{first_after-here, first_after-next}
-use Rattle.control_structure.proofs.UsedLabels.{jumps_borne}
+use Rattle.control_structure.proofs.Usable.{jumps_borne}
 use Rattle.control_structure.proofs.jumps.first_jump_into.Goals as goal
 
 pub enters_from-requires-clause-targets : goal.enters_from-requires-clause-targets

@@ -1,7 +1,7 @@
 use Rattle.std.proofs.Common.{◌≡◌, not, ℕ, List, All, sym, ap, subst, ◌∙◌, arith}
 use Rattle.std.specs.List.{list_any}
 use Rattle.layout_rules.specs.Labels.{bears, jumps, IsLabel}
-use Rattle.control_structure.proofs.UsedLabels.{jumps-ThenIf, guards, guards-ThenIf}
+use Rattle.control_structure.proofs.Usable.{jumps-ThenIf, guards, guards-ThenIf}
 use Rattle.control_structure.proofs.labels.+lacks_target.Goals as goal
 
 pub lacks_target-requires : goal.lacks_target-requires

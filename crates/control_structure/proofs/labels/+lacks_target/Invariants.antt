@@ -1,4 +1,4 @@
-use Rattle.control_structure.proofs.UsedLabels.{guards}
+use Rattle.control_structure.proofs.Usable.{guards}
 use Rattle.control_structure.proofs.labels.+lacks_target.Given as goal
 
 abbrev pub decreases-lacks_target : goal.decreases-lacks_target

@@ -2,7 +2,7 @@ use Rattle.std.proofs.Common.{length, refl, sym, ◌∙◌}
 use Rattle.std.proofs.lemmas.Option.{slice_get_read}
 use Rattle.layout_rules.specs.Labels.{is_labelled_twice}
 use Rattle.layout_rules.proofs.FirstLine.{first_after-here, first_after-next}
-use Rattle.control_structure.proofs.LabelTables.{is_twice, not_twice-first, not_twice-blank}
+use Rattle.control_structure.proofs.LabelLemmas.{is_twice, not_twice-first, not_twice-blank}
 use Rattle.control_structure.proofs.labels.first_labelled_twice.Goals as goal
 use Rattle.control_structure.proofs.labels.first_labelled_twice.Goals.{else-s-ne0-via-then-s-ne0+else-place-i, else-s-ne0-via-else-s-ne0}
 

@@ -2,7 +2,7 @@ use Rattle.std.proofs.Common.{length, refl, sym, ◌∙◌}
 use Rattle.std.proofs.lemmas.Option.{slice_get_read}
 use Rattle.layout_rules.specs.Labels.{lacks_label}
 use Rattle.layout_rules.proofs.FirstLine.{first_after-here, first_after-next}
-use Rattle.control_structure.proofs.UsedLabels.{used_labels}
+use Rattle.control_structure.proofs.Usable.{used_labels}
 use Rattle.control_structure.proofs.labels.first_lacking_label.Goals as goal
 
 pub lacks_one-requires-clause-targets : goal.lacks_one-requires-clause-targets

@@ -2,7 +2,7 @@ use Rattle.std.proofs.Common.{◌≡◌, length, sym, ap, ◌∙◌, slice_get, 
 use Rattle.std.proofs.lemmas.Option.{slice_get_read, slice_get_past}
 use Rattle.layout_rules.specs.Labels.{statement_of}
 use Rattle.layout_rules.specs.Roles.{is_target_role}
-use Rattle.control_structure.proofs.LabelTables.{borne-at, borne-none}
+use Rattle.control_structure.proofs.LabelLemmas.{borne-at, borne-none}
 use Rattle.control_structure.proofs.labels.is_borne.Goals as goal
 
 pub returns-in-Some : goal.returns-in-Some

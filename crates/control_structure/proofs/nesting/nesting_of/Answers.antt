@@ -3,7 +3,7 @@ use Rattle.std.proofs.lemmas.Option.{slice_get_read}
 use Rattle.layout_rules.specs.declared.nesting.Role.{Role}
 use Rattle.layout_rules.specs.Roles.{role_of, turns_arm}
 use Rattle.control_structure.specs.OpenStack.{entries_after, head_of}
-use Rattle.control_structure.proofs.OpenSteps.{held}
+use Rattle.control_structure.proofs.OpenSpans.{held}
 use Rattle.control_structure.proofs.Laminar.{AreNested-walk}
 use Rattle.control_structure.proofs.SourceLabels.{AreLabelled-source}
 use Rattle.control_structure.proofs.NestingWalk.{IsWalk-fault, IsWalk-step, IsWalk-end, head-ended, head-inside}

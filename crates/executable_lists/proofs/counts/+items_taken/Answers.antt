@@ -1,7 +1,7 @@
 use Rattle.std.proofs.Common.{◌≡◌, rules, sym, ap, ◌∙◌}
 use Rattle.f77_tree.specs.declared.statements.Stmt.TheVariants.{ThenIf}
 use Rattle.layout_rules.specs.Counts.{items_taken as spec_items_taken}
-use Rattle.control_structure.proofs.StatementCounts.{guarded_items}
+use Rattle.control_structure.proofs.OwnExecutables.{guarded_items}
 use Rattle.executable_lists.proofs.counts.+items_taken.Goals as goal
 
 pub returns-in-ThenIf : goal.returns-in-ThenIf

@@ -1,7 +1,7 @@
 use Rattle.std.proofs.Common.{◌≡◌, rules, sym, ap, ◌∙◌}
 use Rattle.f77_tree.specs.declared.statements.Stmt.TheVariants.{ThenIf}
 use Rattle.layout_rules.specs.Counts.{labels_picked as spec_labels_picked}
-use Rattle.control_structure.proofs.StatementCounts.{guarded_labels}
+use Rattle.control_structure.proofs.OwnExecutables.{guarded_labels}
 use Rattle.executable_lists.proofs.counts.+labels_picked.Goals as goal
 
 pub returns-in-ThenIf : goal.returns-in-ThenIf

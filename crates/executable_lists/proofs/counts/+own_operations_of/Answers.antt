@@ -3,7 +3,7 @@ use Rattle.f77_tree.specs.Operations.{operations}
 use Rattle.control_structure.specs.Counted.{counted}
 use Rattle.control_structure.specs.OwnOperations.{own_operations}
 use Rattle.layout_rules.specs.Resolved.{resolved}
-use Rattle.control_structure.proofs.StatementCounts.{guarded_operations}
+use Rattle.control_structure.proofs.OwnExecutables.{guarded_operations}
 use Rattle.executable_lists.proofs.counts.+own_operations_of.Goals as goal
 
 pub returns-in-ThenIf : goal.returns-in-ThenIf

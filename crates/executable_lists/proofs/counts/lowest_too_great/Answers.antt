@@ -5,7 +5,7 @@ use Rattle.layout_rules.specs.Counts.{is_too_great, labels_picked, items_taken}
 use Rattle.layout_rules.specs.LowestLines.{lower_line, lowest_after}
 use Rattle.control_structure.specs.OwnOperations.{own_operations}
 use Rattle.layout_rules.proofs.LowestWalk.{lowest-next, lowest-end}
-use Rattle.control_structure.proofs.StatementCounts.{sum-more}
+use Rattle.control_structure.proofs.OwnExecutables.{sum-more}
 use Rattle.executable_lists.proofs.StatementOperations.{great-counted}
 use Rattle.executable_lists.proofs.counts.lowest_too_great.Goals as goal
 

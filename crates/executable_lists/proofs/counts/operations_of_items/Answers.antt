@@ -1,5 +1,5 @@
 use Rattle.control_structure.specs.OwnOperations.{printed_operations}
-use Rattle.control_structure.proofs.StatementCounts.{counted-more}
+use Rattle.control_structure.proofs.OwnExecutables.{counted-more}
 use Rattle.executable_lists.proofs.counts.operations_of_items.Goals as goal
 
 pub loop-item-preserved : goal.loop-item-preserved

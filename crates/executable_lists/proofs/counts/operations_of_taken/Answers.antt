@@ -3,7 +3,7 @@ use Rattle.f77_tree.specs.declared.declarations.Kind.TheVariants.{Logical}
 use Rattle.f77_tree.specs.Kinds.{taken_as}
 use Rattle.f77_tree.specs.Operations.{operations}
 use Rattle.layout_rules.specs.Executables.{kind_or_integer}
-use Rattle.control_structure.proofs.StatementCounts.{taken_logical}
+use Rattle.control_structure.proofs.OwnExecutables.{taken_logical}
 use Rattle.executable_lists.proofs.counts.operations_of_taken.Goals as goal
 
 pub returns-in-Some-Logical : goal.returns-in-Some-Logical

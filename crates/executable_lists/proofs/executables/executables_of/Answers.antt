@@ -1,4 +1,4 @@
-use Rattle.control_structure.proofs.FewExecutables.{executables_few}
+use Rattle.control_structure.proofs.ExecutableLemmas.{executables_few}
 use Rattle.control_structure.proofs.Usable.{usable}
 use Rattle.executable_lists.proofs.executables.executables_of.Goals as goal
 

@@ -54,11 +54,6 @@ returns c =
     ∙ ap (λ placed. map (initial_word placed c.as_slice.result.now) (range_with_len 0 c.args.numbers.now.words)) (placed-is stmts c.args.numbers.now words.numbered)
     ∙ ap (λ inits. map (initial_word (placed_names stmts) inits) (range_with_len 0 c.args.numbers.now.words)) (c.as_slice.ensures.items ∙ c.in_ok-inits.ensures)
     ∙ ap (λ n. map (initial_word (placed_names stmts) (all_inits stmts)) (range_with_len 0 n)) words_are in
-    program-is
-    c.in_ok-placed_names.field-0 (placed_names stmts) c.args.numbers.now.words (word_count stmts)
-    c.in_ok-initial_words.field-0 (map (initial_word (placed_names stmts) (all_inits stmts)) (range_with_len 0 (word_count stmts)))
-    c.in_ok-commons_of.field-0 (all_commons stmts) c.in_ok-groups_of.field-0 (all_groups stmts)
-    c.inits.inside.items.items (all_inits stmts)
-    c.in_ok-executables_of.field-0 (executables (names_of stmts) c.args.checked stmts) c.count_loops.result (length (filter (λ s. is_do s.stmt) stmts))
+    program-is _ _ _ _ _ _ _ _ _ _ _ _ _ _ _ _
     (c.in_ok-placed_names.ensures ∙ placed_are) words_are
     initial_are c.in_ok-commons_of.ensures c.in_ok-groups_of.ensures inits_are (c.in_ok-executables_of.ensures ∙ ap (λ names. executables names c.args.checked stmts) words.named.table) c.count_loops.ensures

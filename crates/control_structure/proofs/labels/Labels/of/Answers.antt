@@ -1,7 +1,7 @@
 use Rattle.std.proofs.Common.{length, refl, sym, ◌∙◌}
 use Rattle.std.proofs.lemmas.List.{get_or_read}
 use Rattle.std.proofs.lemmas.Option.{slice_get_read}
-use Rattle.control_structure.proofs.LabelTables.{IsTable-begin, IsTable-alike, IsTable-keep, IsTable-set, IsTable-end}
+use Rattle.control_structure.proofs.LabelLemmas.{IsTable-begin, IsTable-alike, IsTable-keep, IsTable-set, IsTable-end}
 use Rattle.control_structure.proofs.labels.Labels.of.Goals as goal
 use Rattle.control_structure.proofs.labels.Labels.of.Goals.{then-index-count, else-index-count}
 

@@ -1,4 +1,4 @@
-use Rattle.control_structure.proofs.LabelTables.{IsTable}
+use Rattle.control_structure.proofs.LabelLemmas.{IsTable}
 use Rattle.control_structure.proofs.labels.Labels.of.Given as goal
 
 abbrev pub invariant-loop-i : goal.invariant-loop-i

@@ -1,7 +1,7 @@
 use Rattle.std.proofs.Common.{arith, ◌≡◌, ℕ, ◌-◌, ◌<◌, true, All, List, length, sym, subst, ◌∙◌}
 use Rattle.std.specs.Prelude.{slice_get}
 use Rattle.layout_rules.specs.Executables.{is_do_in, loops_above}
-use Rattle.control_structure.proofs.IncrementLemmas.{loops_above-dos, loops_above-within}
+use Rattle.control_structure.proofs.LoopTables.{loops_above-dos, loops_above-within}
 use Rattle.executable_lists.proofs.executables.Maker.increments.Goals as goal
 
 pub increment-kind-requires-clause-place : goal.increment-kind-requires-clause-place

@@ -7,21 +7,28 @@ use Rattle.layout_rules.specs.Labels.{statement_of}
 use Rattle.layout_rules.specs.Executables.{is_do_in, own_executables, loops_above, first_of, met}
 use Rattle.executable_lists.specs.declared.flow.Flow.{Flow}
 use Rattle.executable_lists.specs.Flows.{IsFlow}
-use Rattle.control_structure.proofs.FlowLemmas.{exit-outermost, exit-numbers, IsExit, rank-do}
+use Rattle.control_structure.proofs.Exits.{exit-outermost, exit-numbers, IsExit, rank-do}
 use Rattle.executable_lists.proofs.flow.Flow.exit.Goals as goal
+use Rattle.executable_lists.proofs.flow.Flow.exit.Goals.{After-own_executables}
 
 -- what is looked up first: the statement at which the range ends, and how many DOs further out end there
 outer-is : (stmts : List Labelled) (flow : Flow) (label place read : ℕ) → IsFlow stmts flow → place < length stmts → is_do_in label (slice_get stmts place) ≡ true → read ≡ slice_index flow.loops.ranks.items place → read ≡ length (loops_above stmts label place)
 outer-is stmts flow label place read is inside begins e = e ∙ is.ranks.entry place inside ∙ rank-do stmts label place begins
 
 -- where the range goes on, the statement at which it ends is looked up too
-exit-is : (stmts : List Labelled) (flow : Flow) (label place read first own len outer : ℕ) (s : Labelled) → IsFlow stmts flow → place < length stmts → is_do_in label (slice_get stmts place) ≡ true → statement_of stmts label < length stmts → read ≡ statement_of stmts label → s ≡ get_or stmts read s
-    → first ≡ get_or flow.first.items read first → own ≡ own_executables s.stmt → len ≡ length (loops_above stmts label (length stmts)) → outer ≡ slice_index flow.loops.ranks.items place → IsExit stmts label place first own len outer
-exit-is stmts flow label place read first own len outer s is inside begins stands at s_is first_is own_is len_is outer_read =
+exits : (c : After-own_executables) → IsExit c.args.stmts.now c.args.label c.args.place c.index-2.result.now c.own_executables.result (length (loops_above c.args.stmts.now c.args.label (length c.args.stmts.now))) c.rank-outer.result
+exits c =
+    let flow = c.requires.flow in
+    let stmts = c.args.stmts.now in
+    let label = c.args.label in
+    let place = c.args.place in
     let terminal = statement_of stmts label in
-    let here : slice_get stmts terminal ≡ Some s = slice_get_read stmts (length stmts) terminal s refl stands (subst (λ (t : ℕ). s ≡ get_or stmts t s) at s_is) in
-    let first_at : first ≡ first_of stmts terminal = get_or_read flow.first.items read first (omega (arith, at, stands, is.first.size)) first_is 0 ∙ is.first.entry read (omega (arith, at, stands)) ∙ ap (λ t. first_of stmts t) at in
-    exit-numbers stmts label place first own len outer s inside begins here first_at own_is len_is (outer-is stmts flow label place outer is inside begins outer_read)
+    let s = c.index-stmts-terminal.result in
+    let at : c.place-terminal.result ≡ terminal = c.place-terminal.ensures ∙ flow.labels label in
+    let here : slice_get stmts terminal ≡ Some s = slice_get_read stmts (length stmts) terminal s refl c.requires.stands (subst (λ (t : ℕ). s ≡ get_or stmts t s) at c.index-stmts-terminal.is) in
+    let first = get_or_read c.args.self.now.first.items c.place-terminal.result c.index-2.result.now (omega (arith, at, c.requires.stands, flow.first.size)) c.index-2.ensures 0 ∙ flow.first.entry c.place-terminal.result (omega (arith, at, c.requires.stands)) ∙ ap (first_of stmts) at in
+    let own : c.own_executables.result ≡ own_executables s.stmt = search rules in
+    exit-numbers stmts label place _ _ _ _ s c.requires.place c.requires.begins here first own refl (outer-is stmts c.args.self.now label place c.rank-outer.result flow c.requires.place c.requires.begins c.rank-outer.ensures)
 
 pub returns-then-outer-eq0 : goal.returns-then-outer-eq0
 returns-then-outer-eq0 c =
@@ -38,44 +45,19 @@ returns-then-outer-eq0 c =
     ∙ exit-outermost stmts label place c.requires.place c.requires.begins (omega (arith, outer))
 
 pub overflow_add-increments : goal.overflow_add-increments
-overflow_add-increments c =
-    let flow = c.requires.flow in
-    let stmts = c.args.stmts.now in
-    let label = c.args.label in
-    let s = c.index-stmts-terminal.result in
-    let own : c.own_executables.result ≡ own_executables s.stmt = search rules in
-    let is = exit-is stmts c.args.self.now label c.args.place c.place-terminal.result c.index-2.result.now c.own_executables.result (length (loops_above stmts label (length stmts))) c.rank-outer.result s flow c.requires.place c.requires.begins c.requires.stands (c.place-terminal.ensures ∙ flow.labels label) c.index-stmts-terminal.is c.index-2.ensures own refl c.rank-outer.ensures in
-    search (rules, is.fits, flow.few)
+overflow_add-increments c = let is = exits (goal.at.overflow_add-increments c).After-own_executables in search (rules, is.fits, c.requires.flow.few)
 
 pub overflow_sub-result : goal.overflow_sub-result
 overflow_sub-result c =
-    let flow = c.requires.flow in
-    let stmts = c.args.stmts.now in
-    let label = c.args.label in
-    let s = c.index-stmts-terminal.result in
-    let own : c.own_executables.result ≡ own_executables s.stmt = search rules in
-    let len : c.len.result ≡ length (loops_above stmts label (length stmts)) = c.len.ensures ∙ ap (λ (ds : List ℕ). length ds) (c.to.ensures ∙ flow.loops label) in
-    let is = exit-is stmts c.args.self.now label c.args.place c.place-terminal.result c.index-2.result.now c.own_executables.result c.len.result c.rank-outer.result s flow c.requires.place c.requires.begins c.requires.stands (c.place-terminal.ensures ∙ flow.labels label) c.index-stmts-terminal.is c.index-2.ensures own len c.rank-outer.ensures in
-    omega (arith, is.inner)
+    let is = exits (goal.at.overflow_sub-result c).After-own_executables in
+    omega (arith, is.inner, c.len.ensures ∙ ap (λ (ds : List ℕ). length ds) (c.to.ensures ∙ c.requires.flow.loops c.args.label))
 
 pub overflow_add-result : goal.overflow_add-result
 overflow_add-result c =
-    let flow = c.requires.flow in
-    let stmts = c.args.stmts.now in
-    let label = c.args.label in
-    let s = c.index-stmts-terminal.result in
-    let own : c.own_executables.result ≡ own_executables s.stmt = search rules in
-    let len : c.len.result ≡ length (loops_above stmts label (length stmts)) = c.len.ensures ∙ ap (λ (ds : List ℕ). length ds) (c.to.ensures ∙ flow.loops label) in
-    let is = exit-is stmts c.args.self.now label c.args.place c.place-terminal.result c.index-2.result.now c.own_executables.result c.len.result c.rank-outer.result s flow c.requires.place c.requires.begins c.requires.stands (c.place-terminal.ensures ∙ flow.labels label) c.index-stmts-terminal.is c.index-2.ensures own len c.rank-outer.ensures in
-    search (rules, is.fits, is.inner, flow.few)
+    let is = exits (goal.at.overflow_add-result c).After-own_executables in
+    omega (arith, is.fits, is.inner, c.requires.flow.few, c.len.ensures ∙ ap (λ (ds : List ℕ). length ds) (c.to.ensures ∙ c.requires.flow.loops c.args.label))
 
 pub returns : goal.returns
 returns c =
-    let flow = c.requires.flow in
-    let stmts = c.args.stmts.now in
-    let label = c.args.label in
-    let s = c.index-stmts-terminal.result in
-    let own : c.own_executables.result ≡ own_executables s.stmt = search rules in
-    let len : c.len.result ≡ length (loops_above stmts label (length stmts)) = c.len.ensures ∙ ap (λ (ds : List ℕ). length ds) (c.to.ensures ∙ flow.loops label) in
-    let is = exit-is stmts c.args.self.now label c.args.place c.place-terminal.result c.index-2.result.now c.own_executables.result c.len.result c.rank-outer.result s flow c.requires.place c.requires.begins c.requires.stands (c.place-terminal.ensures ∙ flow.labels label) c.index-stmts-terminal.is c.index-2.ensures own len c.rank-outer.ensures in
-    is.exit (omega arith)
+    let is = exits (goal.at.returns c).After-own_executables in
+    omega (arith, is.exit (omega arith), c.len.ensures ∙ ap (λ (ds : List ℕ). length ds) (c.to.ensures ∙ c.requires.flow.loops c.args.label))

@@ -23,9 +23,11 @@ module _ {A : Type 0} (same : A → A → Bool) where
       (or_parts (list_any (same a) seen) (list_any (same a) (x ∷ [])) (sym (list_any-append (same a) seen (x ∷ [])) ∙ later)).0
 
   module _ (reflexive : (a : A) → same a a ≡ true) where
-    not_again : (seen xs : List A) (k : ℕ) (a : A) → has_repeat same (seen ++ a ∷ []) xs ≡ false → slice_get xs k ≡ Some a → ⊥
-    not_again seen xs k a once at =
-        let none = none_before (seen ++ a ∷ []) xs k a once at in
+    not_again : (seen xs : List A) (x : A) (k : ℕ) (a : A) → has_repeat same seen (x ∷ xs) ≡ false → Some x ≡ Some a → slice_get xs k ≡ Some a → ⊥
+    not_again seen xs x k a once first at =
+        let is : x ≡ a = cc in
+        let later = subst (λ y. has_repeat same (seen ++ y ∷ []) xs ≡ false) is (or_parts (list_any (same x) seen) (has_repeat same (seen ++ x ∷ []) xs) once).1 in
+        let none = none_before (seen ++ a ∷ []) xs k a later at in
         let here = (or_parts (list_any (same a) seen) (list_any (same a) (a ∷ [])) (sym (list_any-append (same a) seen (a ∷ [])) ∙ none)).1 in
         true≢false (sym (reflexive a) ∙ (or_parts (same a a) false here).0)
 
@@ -33,12 +35,8 @@ module _ {A : Type 0} (same : A → A → Bool) where
     pub one_place : (seen xs : List A) → has_repeat same seen xs ≡ false → (j k : ℕ) (a : A) → slice_get xs j ≡ Some a → slice_get xs k ≡ Some a → j ≡ k
     one_place seen [] once j k a at_j at_k = absurd cc
     one_place seen (x ∷ xs) once zero zero a at_j at_k = refl
-    one_place seen (x ∷ xs) once zero (suc k) a at_j at_k =
-        let is : x ≡ a = cc in
-        absurd (not_again seen xs k a (subst (λ y. has_repeat same (seen ++ y ∷ []) xs ≡ false) is (or_parts (list_any (same x) seen) (has_repeat same (seen ++ x ∷ []) xs) once).1) at_k)
-    one_place seen (x ∷ xs) once (suc j) zero a at_j at_k =
-        let is : x ≡ a = cc in
-        absurd (not_again seen xs j a (subst (λ y. has_repeat same (seen ++ y ∷ []) xs ≡ false) is (or_parts (list_any (same x) seen) (has_repeat same (seen ++ x ∷ []) xs) once).1) at_j)
+    one_place seen (x ∷ xs) once zero (suc k) a at_j at_k = absurd (not_again seen xs x k a once at_j at_k)
+    one_place seen (x ∷ xs) once (suc j) zero a at_j at_k = absurd (not_again seen xs x j a once at_k at_j)
     one_place seen (x ∷ xs) once (suc j) (suc k) a at_j at_k =
         ap suc (one_place (seen ++ x ∷ []) xs (or_parts (list_any (same x) seen) (has_repeat same (seen ++ x ∷ []) xs) once).1 j k a at_j at_k)
 
