@@ -12,6 +12,7 @@ use Rattle.op_board.proofs.PieceNodes.{acting_count}
 use Rattle.op_net.specs.BoardView.{operation_net_on}
 use Rattle.op_net.specs.OperationRows.{EntryIs, IsEntry, IsRow}
 use Rattle.op_net.specs.OperationTables.{RowOfNode}
+use Rattle.op_net.specs.Telling.{IsOperation}
 use Rattle.op_net.specs.PieceTables.{AreFirstRows, entry_in, rows_before}
 use Rattle.op_net.specs.Waits.{IsSwitchOf, node_total}
 use Rattle.op_net.specs.declared.lookups.OperationBoard.{OperationBoard}
@@ -61,7 +62,7 @@ module _ {W : ℕ} (board : OperationBoard W) where
       let count = board.own_tables.records in
       get_or_from_slice_get records k n 0 (slice_get_read records (length records) k n refl (omega (arith, below, count)) at)
 
-  pub number_is : (k n piece i : ℕ) → k < node_total net → operation_node net k ≡ Op piece i → n ≡ get_or board.tables.records.items k n → n ≡ rows_before net piece + i
+  number_is : (k n piece i : ℕ) → k < node_total net → operation_node net k ≡ Op piece i → n ≡ get_or board.tables.records.items k n → n ≡ rows_before net piece + i
   number_is k n piece i below is at = sym (record_is k n below at) ∙ board.own_tables.operations k piece i below is
 
   past_rows : (k n : ℕ) → k < node_total net → ((piece i : ℕ) → operation_node net k ≢ Op piece i) → n ≡ get_or board.tables.records.items k n → slice_get all n ≡ None
@@ -81,6 +82,16 @@ module _ {W : ℕ} (board : OperationBoard W) where
 
   pub row_of_node : (k n : ℕ) → k < node_total net → n ≡ get_or board.tables.records.items k n → RowOfNode net (operation_node net k) (slice_get all n)
   row_of_node k n below at = row_found k n (operation_node net k) below refl at
+
+  row_inside : (n : ℕ) (name : NodeName) (row : Option Row) → slice_get all n ≡ row → IsOperation name → RowOfNode net name row → n < length all
+  row_inside n (Op piece i) (Some row) at is found = slice_get_within all n row at
+  row_inside n (Op piece i) None at is found = absurd found
+  row_inside n (Switch piece line) row at is found = absurd is
+  row_inside n (Merge piece line) row at is found = absurd is
+  row_inside n (Act piece) row at is found = absurd is
+
+  pub record_low : (k n : ℕ) → k < node_total net → IsOperation (operation_node net k) → n ≡ get_or board.tables.records.items k n → n < length all
+  record_low k n below is at = row_inside n (operation_node net k) (slice_get all n) refl is (row_of_node k n below at)
 
   -- ---- the first operation that needs a line
 

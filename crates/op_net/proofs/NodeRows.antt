@@ -1,9 +1,10 @@
 -- What the row of a node tells of its name.
-use Rattle.std.proofs.Common.{◌≡◌, ◌≢◌, ◌∙◌, ℕ, Option, Some, None, ap, sym}
+use Rattle.std.proofs.Common.{◌≡◌, ◌≢◌, ◌∙◌, ℕ, Option, Some, None, ap, subst, sym}
 use Rattle.firing.specs.declared.system.NodeName.{NodeName}
 use Rattle.firing.specs.declared.system.NodeName.TheVariants.{Act, Merge, Op, Switch}
 use Rattle.op_board.specs.OperationNets.{OperationNet}
 use Rattle.op_net.specs.declared.rows.Row.{Row}
+use Rattle.op_net.specs.OperationRows.{IsRow}
 use Rattle.op_net.specs.OperationTables.{RowOfNode}
 use Rattle.op_net.proofs.RowReads.{row_number, row_piece}
 
@@ -11,6 +12,10 @@ no_more : (row : Row) → {A : Type 0} → ◌≡◌ {A = Option Row} (Some row)
 no_more row is = absurd cc
 
 module _ (x : OperationNet) where
+  -- the row of a node of which it is known which operation it is
+  pub row_by_name : (name : NodeName) (piece i : ℕ) (row : Row) → name ≡ Op piece i → RowOfNode x name (Some row) → ∥ IsRow x piece i row ∥₁
+  row_by_name name piece i row is own = subst (λ (n : NodeName). RowOfNode x n (Some row)) is own
+
   -- a node that has a row is the operation of which the row tells
   pub named_by_row : (name : NodeName) (row : Row) → RowOfNode x name (Some row) → name ≡ Op row.piece row.number
   named_by_row (Op piece i) row is = ap (λ p. Op p i) (sym (row_piece x piece i row is)) ∙ ap (λ n. Op row.piece n) (sym (row_number x piece i row is))

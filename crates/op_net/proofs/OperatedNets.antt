@@ -1,5 +1,5 @@
 -- The firing of an operation, put together from what its parts change of the places.
-use Rattle.std.proofs.Common.{◌≡◌, ◌<◌, ◌+◌, ◌-◌, ℕ, ℤ, pos, Bool, true, false, if◌then◌else◌, List, [], length, map, Option, None, Some, Result, Ok, Err, slice_get, refl, sym, ap, subst, ◌∙◌, arith}
+use Rattle.std.proofs.Common.{◌≡◌, ◌≢◌, ◌<◌, ◌+◌, ◌-◌, ℕ, ℤ, pos, Bool, true, false, if◌then◌else◌, List, [], length, map, Option, None, Some, Result, Ok, Err, slice_get, refl, sym, ap, subst, ◌∙◌, arith}
 use Rattle.std.specs.List.{list_all}
 use Rattle.op_table.specs.declared.Trap.{Trap}
 use Rattle.cfg_build.specs.declared.pieces.Piece.{Piece}
@@ -16,8 +16,11 @@ use Rattle.net_board.specs.Tokens.{source_line}
 use Rattle.op_board.specs.Effects.{Effect, gives, performed, tells}
 use Rattle.op_board.specs.OperationCourse.{choice_of}
 use Rattle.op_board.specs.OperationNets.{OperationNet, first_operation, needed, operation_at, operation_node}
-use Rattle.op_board.specs.OperationTokens.{OperationTokens, givers, has_room, line_as, operated, operation_moves, performed_at, stands_before, value_at}
+use Rattle.op_board.specs.OperationTokens.{OperationTokens, can_operate, givers, has_room, line_as, operated, operation_moves, performed_at, stands_before, value_at}
 use Rattle.op_board.specs.Operations.{Operation, gives_value, is_decision}
+use Rattle.operation_effects.specs.declared.performing.Did.{Did}
+use Rattle.operation_effects.specs.declared.performing.Did.TheVariants as did
+use Rattle.operation_effects.specs.Done.{told}
 use Rattle.op_net.specs.declared.places.Places.{Places}
 use Rattle.op_net.specs.FiringChanges.{given_on, remembered, stopped_on, told_on, trapped_on}
 use Rattle.op_net.specs.OperationRows.{room_of, waits_anew}
@@ -27,7 +30,8 @@ use Rattle.op_net.specs.StandingChanges.{lines_dropped, values_taken}
 use Rattle.op_net.specs.Steering.{LeadsBy}
 use Rattle.op_net.specs.Waits.{node_total, one_if}
 use Rattle.op_net.proofs.ControlMoveLemmas.{operation_leads}
-use Rattle.op_net.proofs.FiringParts.{IsReadyOperation, args_same, gave_marking, gives_tell_nothing, new_line, same_at_trap, same_line, silent, taken_empty, told_marking, trap_answered, trapped_marking, wrote, wrote_marking}
+use Rattle.op_net.proofs.NodeNames.{IsOperationAt, operation_at_node}
+use Rattle.op_net.proofs.FiringParts.{IsReadyOperation, args_same, gave_gives, gave_marking, gives_tell_nothing, new_line, ready_operation, same_at_trap, same_line, silent, taken_empty, tells_give_nothing, told_marking, trap_answered, trapped_gives, trapped_marking, wrote, wrote_marking}
 
 -- the places with this memory and this trap make this marking
 abbrev pub whole : OperationTokens → Memory → Option (Trap × ℕ) → OperationTokens
@@ -101,29 +105,6 @@ module _ (x : OperationNet) (s : Places) (k piece i : ℕ) (is : k ≡ first_ope
   pub counted_there : IsCountedAhead x s (first_operation x piece + i) 0 → IsCountedAhead x s k 0
   counted_there ahead = at_node 0 0 refl ahead
 
--- ---- an operation whose operands are taken, and that hasn't given its value
-
-pub record HasWorked (x : OperationNet) (m : OperationTokens) (s : Places) (k piece i : ℕ) : Type 0 where
-  pub taken : standing s ≡ values_taken x m piece i
-  pub ahead : IsCountedAhead x s (first_operation x piece + i) (length (needed x piece i) + (one_if (gives_value (operation_at x piece i).work) + room_of x piece i))
-  pub empty : value_at (standing s) k ≡ None
-  pub stand : list_all (stands_before x (standing s) piece i) (needed x piece i) ≡ true
-  pub room : has_room x (standing s) piece (operation_at x piece i).work ≡ true
-
-pub has_worked : (x : OperationNet) (m : OperationTokens) (memory : Memory) (trap : Option (Trap × ℕ)) (s t : Places) (k piece i waits : ℕ)
-    → IsReadyOperation x (whole m memory trap) k piece i → k ≡ first_operation x piece + i → waits ≡ waits_anew x piece i → IsCountedAhead x s k waits → standing s ≡ m
-    → standing t ≡ values_taken x (standing s) piece i → MakesUp x s t (first_operation x piece + i) (length (givers x piece (operation_at x piece i).operands)) → HasWorked x m t k piece i
-has_worked x m memory trap s t k piece i waits ready number waits_is ahead same taken made =
-    let all : standing t ≡ values_taken x m piece i = taken ∙ ap (λ (n : OperationTokens). values_taken x n piece i) same in
-    let still : (P : OperationTokens → Type 0) → P (values_taken x m piece i) → P (standing t) = λ P holds. subst P (sym all) holds in
-    record {
-      taken = all;
-      ahead = made _ (ahead_whole x s k piece i number (subst (IsCountedAhead x s k) waits_is ahead));
-      empty = ap (λ (n : OperationTokens). value_at n k) all ∙ taken_empty x m k piece i ready.empty;
-      stand = still (λ n. list_all (stands_before x n piece i) (needed x piece i) ≡ true) ready.stand;
-      room = still (λ n. has_room x n piece (operation_at x piece i).work ≡ true) ready.room;
-    }
-
 -- ---- what the firing does
 
 -- the marking to which it leads, the edge that it tells, what it answers and the newest line
@@ -140,71 +121,164 @@ performed_so x m memory before piece i n r same is =
     ∙ ap (λ (t : OperationTokens). performed_at x (remembered t memory) piece (operation_at x piece i)) (sym same)
     ∙ is
 
-module _ (x : OperationNet) (facts : PlanFacts x) (m : OperationTokens) (memory : Memory) (before : Option (Trap × ℕ)) (going : before ≡ None) (k piece i : ℕ) (node : k < node_total x) (name : operation_node x k ≡ Op piece i) where
+-- ---- an operation that is performed, and that hasn't given its value
+
+-- a ready operation is performed, whose operands are taken then: it did this, and left this memory and this line
+pub record IsPerformed (x : OperationNet) (m : OperationTokens) (memory : Memory) (before : Option (Trap × ℕ)) (t : Places) (k piece i : ℕ) (d : Did) (after : Memory) (line : List ℕ) : Type 0 where
+  pub node : k < node_total x
+  pub name : operation_node x k ≡ Op piece i
+  pub at : IsOperationAt x k piece i
+  pub ready : IsReadyOperation x (whole m memory before) k piece i
+  pub taken : standing t ≡ values_taken x m piece i
+  pub ahead : IsCountedAhead x t (first_operation x piece + i) (length (needed x piece i) + (one_if (gives_value (operation_at x piece i).work) + room_of x piece i))
+  pub done : performed_at x (whole m memory before) piece (operation_at x piece i) ≡ told d after line
+  pub line_some : d ≡ did.Wrote → line ≢ []
+  pub memory_same : (trap : Trap) → d ≡ did.Trapped trap → after ≡ memory
+
+pub has_performed : (x : OperationNet) (m : OperationTokens) (memory : Memory) (before : Option (Trap × ℕ)) (s t : Places) (k piece i waits : ℕ) (d : Did) (after : Memory) (line : List ℕ)
+    → k < node_total x → operation_node x k ≡ Op piece i → can_operate x (whole m memory before) k piece i (operation_at x piece i) ≡ true
+    → waits ≡ waits_anew x piece i → IsCountedAhead x s k waits → standing s ≡ m
+    → standing t ≡ values_taken x (standing s) piece i → MakesUp x s t (first_operation x piece + i) (length (givers x piece (operation_at x piece i).operands))
+    → performed_at x (remembered (standing s) memory) piece (operation_at x piece i) ≡ told d after line → (d ≡ did.Wrote → line ≢ []) → ((trap : Trap) → d ≡ did.Trapped trap → after ≡ memory)
+    → IsPerformed x m memory before t k piece i d after line
+has_performed x m memory before s t k piece i waits d after line node name ready waits_is ahead same taken made done some kept =
+    let at : IsOperationAt x k piece i = operation_at_node x k piece i node name in
+    record {
+      node = node;
+      name = name;
+      at = at;
+      ready = ready_operation x (whole m memory before) k piece i ready;
+      taken = taken ∙ ap (λ (n : OperationTokens). values_taken x n piece i) same;
+      ahead = made _ (ahead_whole x s k piece i at.number (subst (IsCountedAhead x s k) waits_is ahead));
+      done = performed_so x m memory before piece i (standing s) _ same done;
+      line_some = some;
+      memory_same = kept;
+    }
+
+-- whether an operation gives a value that did this
+abbrev gives_by : Did → Bool
+gives_by (did.Gave z) = true
+gives_by did.Changed = false
+gives_by did.Wrote = false
+gives_by (did.Told choice) = false
+gives_by (did.Trapped trap) = true
+
+gives_as : (x : OperationNet) (m : OperationTokens) (k piece i : ℕ) (d : Did) (after : Memory) (line : List ℕ) → performed_at x m piece (operation_at x piece i) ≡ told d after line → gives_value (operation_at x piece i).work ≡ gives_by d
+gives_as x m k piece i (did.Gave z) after line is = gave_gives x m k piece i after z is
+gives_as x m k piece i did.Changed after line is = tells_give_nothing x m k piece i (tells after 0) is refl
+gives_as x m k piece i did.Wrote after line is = tells_give_nothing x m k piece i (record { value = None; memory = after; text = line; choice = 0 }) is refl
+gives_as x m k piece i (did.Told choice) after line is = tells_give_nothing x m k piece i (tells after choice) is refl
+gives_as x m k piece i (did.Trapped trap) after line is = trapped_gives x m k piece i trap is
+
+-- what is left to do for an operation: to give its value, or to tell an edge
+pub record IsGiving (x : OperationNet) (t : Places) (k piece i : ℕ) : Type 0 where
+  pub gives : gives_value (operation_at x piece i).work ≡ true
+  pub counted : IsCountedAhead x t k (1 + length (needed x piece i) + 0)
+  pub ahead : ∥ IsAheadBy x t k (1 + length (needed x piece i)) ∥₁
+
+pub record IsTelling (x : OperationNet) (t : Places) (piece i : ℕ) : Type 0 where
+  pub counted : IsCountedAhead x t (first_operation x piece + i) (room_of x piece i + length (needed x piece i) + 0)
+  pub ahead : ∥ IsAheadBy x t (first_operation x piece + i) (room_of x piece i + length (needed x piece i)) ∥₁
+
+module _ {x : OperationNet} {m : OperationTokens} {memory : Memory} {before : Option (Trap × ℕ)} {t : Places} {k piece i : ℕ} {d : Did} {after : Memory} {line : List ℕ} (p : IsPerformed x m memory before t k piece i d after line) where
   abbrev op : Operation
   op = operation_at x piece i
 
   abbrev start : OperationTokens
   start = whole m memory before
 
-  abbrev taken : OperationTokens
-  taken = values_taken x m piece i
-
   abbrev result : Result Effect Trap
   result = performed_at x start piece op
 
-  module _ (new : OperationTokens) (after : Memory) (edge : ℕ) (old : List ℕ) where
+  still : (P : OperationTokens → Type 0) → P (values_taken x m piece i) → P (standing t)
+  still P holds = subst P (sym p.taken) holds
+
+  pub place_empty : value_at (standing t) k ≡ None
+  place_empty = still (λ n. value_at n k ≡ None) (taken_empty x m k piece i p.ready.empty)
+
+  pub lines_stand : list_all (stands_before x (standing t) piece i) (needed x piece i) ≡ true
+  lines_stand = still (λ n. list_all (stands_before x n piece i) (needed x piece i) ≡ true) p.ready.stand
+
+  pub room_there : has_room x (standing t) piece op.work ≡ true
+  room_there = still (λ n. has_room x n piece op.work ≡ true) p.ready.room
+
+  gives_so : gives_value op.work ≡ gives_by d
+  gives_so = gives_as x start k piece i d after line p.done
+
+  pub giving : (e : Did) → d ≡ e → gives_by e ≡ true → IsGiving x t k piece i
+  giving e is some =
+      let gives = gives_so ∙ ap gives_by is ∙ some in
+      let counted = ahead_gives x t k piece i p.at.number gives p.ahead in
+      record { gives = gives; counted = counted; ahead = ahead_by x t k (1 + length (needed x piece i)) 0 counted }
+
+  pub telling : (e : Did) → d ≡ e → gives_by e ≡ false → IsTelling x t piece i
+  telling e is none =
+      let counted = ahead_tells x t k piece i p.at.number (gives_so ∙ ap gives_by is ∙ none) p.ahead in
+      record { counted = counted; ahead = ahead_by x t (first_operation x piece + i) (room_of x piece i + length (needed x piece i)) 0 counted }
+
+  module _ (facts : PlanFacts x) (going : before ≡ None) (new : OperationTokens) (edge : ℕ) (old : List ℕ) where
     leads_so : (choice : ℕ) → choice_of result ≡ choice → edge ≡ out (graph_in x.net) piece choice → LeadsBy x start k edge
-    leads_so choice chosen is = subst (LeadsBy x start k) (sym is) (operation_leads x facts k node start piece i choice name chosen)
+    leads_so choice chosen is = subst (LeadsBy x start k) (sym is) (operation_leads x facts k p.node start piece i choice p.name chosen)
 
-    pub has_given : (z : ℤ) → result ≡ Ok (gives after z) → new ≡ given_on x taken k piece i z → edge ≡ out (graph_in x.net) piece 0 → IsOperated x start (whole new after before) k piece i edge Moved old old
-    has_given z did is out_is = record {
-      marking = ap (λ (n : OperationTokens). whole n after before) is ∙ gave_marking x start k piece i after z did;
-      leads = leads_so 0 (ap choice_of did) out_is;
-      fired_is = silent x start k piece i name going (gives after z) did refl;
-      last = same_line x start k piece i (gives after z) old did refl;
-    }
+    done_so : (e : Did) → d ≡ e → result ≡ told e after line
+    done_so e is = p.done ∙ ap (λ (e : Did). told e after line) is
 
-    pub has_told : (choice : ℕ) → result ≡ Ok (tells after choice) → value_at m k ≡ None → new ≡ told_on x taken piece i choice → edge ≡ out (graph_in x.net) piece choice → IsOperated x start (whole new after before) k piece i edge Moved old old
-    has_told choice did empty is out_is = record {
-      marking = ap (λ (n : OperationTokens). whole n after before) is ∙ told_marking x start k piece i after choice empty did;
-      leads = leads_so choice (ap choice_of did) out_is;
-      fired_is = silent x start k piece i name going (tells after choice) did refl;
-      last = same_line x start k piece i (tells after choice) old did refl;
-    }
-
-    pub has_written : (line : List ℕ) → (line ≡ [] → ⊥) → result ≡ Ok (record { value = None; memory = after; text = line; choice = 0 }) → value_at m k ≡ None → new ≡ told_on x taken piece i 0 → edge ≡ out (graph_in x.net) piece 0 → IsOperated x start (whole new after before) k piece i edge Line old line
-    has_written line some did empty is out_is =
-        let effect : Effect = record { value = None; memory = after; text = line; choice = 0 } in
+    pub has_given : (z : ℤ) → d ≡ did.Gave z → new ≡ given_on x (standing t) k piece i z → edge ≡ out (graph_in x.net) piece 0 → IsOperated x start (whole new after before) k piece i edge Moved old old
+    has_given z is new_is out_is =
+        let done : result ≡ Ok (gives after z) = done_so (did.Gave z) is in
         record {
-          marking = ap (λ (n : OperationTokens). whole n after before) is ∙ wrote_marking x start k piece i after line empty did;
-          leads = leads_so 0 (ap choice_of did) out_is;
-          fired_is = wrote x start k piece i name going effect did some;
-          last = new_line x start k piece i effect old did some;
+          marking = ap (λ (n : OperationTokens). whole n after before) (new_is ∙ ap (λ (n : OperationTokens). given_on x n k piece i z) p.taken) ∙ gave_marking x start k piece i after z done;
+          leads = leads_so 0 (ap choice_of done) out_is;
+          fired_is = silent x start k piece i p.name going (gives after z) done refl;
+          last = same_line x start k piece i (gives after z) old done refl;
         }
 
-    module _ (trap : Trap) (did : result ≡ Err trap) (same : after ≡ memory) (out_is : edge ≡ out (graph_in x.net) piece 0) where
-      trapped_as : (b : Bool) → x.needs piece i 0 ≡ b → (if b then stopped_on x (whole taken after before) piece i trap else given_on x (whole taken after before) k piece i (pos 0)) ≡ operated x start k piece i op result
+    pub has_told : (e : Did) (choice : ℕ) → d ≡ e → told e after line ≡ Ok (tells after choice) → new ≡ told_on x (standing t) piece i choice → edge ≡ out (graph_in x.net) piece choice → IsOperated x start (whole new after before) k piece i edge Moved old old
+    has_told e choice is tells_is new_is out_is =
+        let done : result ≡ Ok (tells after choice) = done_so e is ∙ tells_is in
+        record {
+          marking = ap (λ (n : OperationTokens). whole n after before) (new_is ∙ ap (λ (n : OperationTokens). told_on x n piece i choice) p.taken) ∙ told_marking x start k piece i after choice p.ready.empty done;
+          leads = leads_so choice (ap choice_of done) out_is;
+          fired_is = silent x start k piece i p.name going (tells after choice) done refl;
+          last = same_line x start k piece i (tells after choice) old done refl;
+        }
+
+    pub has_written : d ≡ did.Wrote → new ≡ told_on x (standing t) piece i 0 → edge ≡ out (graph_in x.net) piece 0 → IsOperated x start (whole new after before) k piece i edge Line old line
+    has_written is new_is out_is =
+        let effect : Effect = record { value = None; memory = after; text = line; choice = 0 } in
+        let done : result ≡ Ok effect = done_so did.Wrote is in
+        record {
+          marking = ap (λ (n : OperationTokens). whole n after before) (new_is ∙ ap (λ (n : OperationTokens). told_on x n piece i 0) p.taken) ∙ wrote_marking x start k piece i after line p.ready.empty done;
+          leads = leads_so 0 (ap choice_of done) out_is;
+          fired_is = wrote x start k piece i p.name going effect done (p.line_some is);
+          last = new_line x start k piece i effect old done (p.line_some is);
+        }
+
+    module _ (trap : Trap) (is : d ≡ did.Trapped trap) (out_is : edge ≡ out (graph_in x.net) piece 0) where
+      failed : result ≡ Err trap
+      failed = done_so (did.Trapped trap) is
+
+      trapped_as : (b : Bool) → x.needs piece i 0 ≡ b → (if b then stopped_on x (whole (values_taken x m piece i) after before) piece i trap else given_on x (whole (values_taken x m piece i) after before) k piece i (pos 0)) ≡ operated x start k piece i op result
       trapped_as b needs =
-          ap (λ (b : Bool). if b then stopped_on x (whole taken after before) piece i trap else given_on x (whole taken after before) k piece i (pos 0)) (sym needs)
-          ∙ trapped_marking x start k piece i after trap same did
+          ap (λ (b : Bool). if b then stopped_on x (whole (values_taken x m piece i) after before) piece i trap else given_on x (whole (values_taken x m piece i) after before) k piece i (pos 0)) (sym needs)
+          ∙ trapped_marking x start k piece i after trap (p.memory_same trap is) failed
 
       -- an operation that doesn't need the line of output gives 0
-      pub has_passed : x.needs piece i 0 ≡ false → new ≡ given_on x taken k piece i (pos 0) → IsOperated x start (whole new after before) k piece i edge Moved old old
-      has_passed needs is = record {
-        marking = ap (λ (n : OperationTokens). whole n after before) is ∙ trapped_as false needs;
-        leads = leads_so 0 (ap choice_of did) out_is;
-        fired_is = trap_answered x start k piece i name going trap Moved did needs;
-        last = same_at_trap x start k piece i trap old did;
+      pub has_passed : x.needs piece i 0 ≡ false → new ≡ given_on x (standing t) k piece i (pos 0) → IsOperated x start (whole new after before) k piece i edge Moved old old
+      has_passed needs new_is = record {
+        marking = ap (λ (n : OperationTokens). whole n after before) (new_is ∙ ap (λ (n : OperationTokens). given_on x n k piece i (pos 0)) p.taken) ∙ trapped_as false needs;
+        leads = leads_so 0 (ap choice_of failed) out_is;
+        fired_is = trap_answered x start k piece i p.name going trap Moved failed needs;
+        last = same_at_trap x start k piece i trap old failed;
       }
 
-      pub has_stopped : (line : ℕ) → line ≡ source_line x.net piece → x.needs piece i 0 ≡ true → new ≡ lines_dropped x taken piece i → IsOperated x start (whole new after (Some (trap, line))) k piece i edge Trapped old old
-      has_stopped line line_is needs is = record {
+      pub has_stopped : (source : ℕ) → source ≡ source_line x.net piece → x.needs piece i 0 ≡ true → new ≡ lines_dropped x (standing t) piece i → IsOperated x start (whole new after (Some (trap, source))) k piece i edge Trapped old old
+      has_stopped source source_is needs new_is = record {
         marking =
-            ap (λ (l : ℕ). whole new after (Some (trap, l))) line_is
-            ∙ ap (λ (n : OperationTokens). whole n after (Some (trap, source_line x.net piece))) is
+            ap (λ (l : ℕ). whole new after (Some (trap, l))) source_is
+            ∙ ap (λ (n : OperationTokens). whole n after (Some (trap, source_line x.net piece))) (new_is ∙ ap (λ (n : OperationTokens). lines_dropped x n piece i) p.taken)
             ∙ trapped_as true needs;
-        leads = leads_so 0 (ap choice_of did) out_is;
-        fired_is = trap_answered x start k piece i name going trap Trapped did needs;
-        last = same_at_trap x start k piece i trap old did;
+        leads = leads_so 0 (ap choice_of failed) out_is;
+        fired_is = trap_answered x start k piece i p.name going trap Trapped failed needs;
+        last = same_at_trap x start k piece i trap old failed;
       }

@@ -4,7 +4,7 @@ ghost use Rattle.std.specs.Prelude.{◌≡◌, ◌+◌, ◌<◌, ◌≤◌, ◌-
 ghost use Rattle.std.specs.Option.{option_copied};
 ghost use Rattle.closed_walks.specs.Graph.{edge_count};
 ghost use Rattle.cfg_build.specs.Passes.{out};
-ghost use Rattle.firing.specs.declared.system.NodeName.TheVariants.{Op, Switch};
+ghost use Rattle.firing.specs.declared.system.NodeName.TheVariants.{Switch};
 ghost use Rattle.net_board.specs.Nodes.{graph_in, nodes_of};
 ghost use Rattle.net_board.specs.WokenNodes.{switch_number};
 ghost use Rattle.op_board.specs.OperationNets.{first_operation, operation_count, operation_node, operation_node_count};
@@ -30,6 +30,7 @@ pub(crate) struct OperationBoard<'a, const W: usize> {
 
 impl<'a, const W: usize> OperationBoard<'a, W> {
     ghost use Rattle.op_net.specs.BoardView.{operation_net_on};
+    ghost use Rattle.op_net.specs.Telling.{IsOperation};
 
     /// How many nodes there are.
     pub(crate) fn nodes(&self) -> u32
@@ -101,12 +102,11 @@ impl<'a, const W: usize> OperationBoard<'a, W> {
 
     /// What the firing of this node looks up, which is an operation. It is nearer by the node than by the piece.
     #[inline(always)]
-    pub(crate) fn row_of(&self, k: u32, piece: u32, i: u32) -> &Row<'a>
+    pub(crate) fn row_of(&self, k: u32) -> &Row<'a>
         requires node { k < node_total (operation_net_on self.now) }
-        requires name { operation_node (operation_net_on self.now) k ≡ Op piece i }
-        ensures { ∥ IsRow (operation_net_on self.now) piece i result.now ∥₁ }
+        requires operation { IsOperation (operation_node (operation_net_on self.now) k) }
+        ensures { RowOfNode (operation_net_on self.now) (operation_node (operation_net_on self.now) k) (Some result.now) }
     {
-        let _ = (piece, i);
         &self.tables.rows[self.tables.records[k as usize] as usize]
     }
 

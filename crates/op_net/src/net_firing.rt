@@ -161,7 +161,7 @@ impl<const W: usize> OpNet<'_, W> {
         ensures last { self.new.text.items ≡ newest (line_as (net_of self.old) (marking_of self.old) (Op piece i)) self.old.text.items }
     {
         let board = &self.board;
-        let row = board.row_of(k, piece, i);
+        let row = board.row_of(k);
         let places = &mut self.places;
         count_ahead(board, places, k, row.waits);
         let plan = &board.plan.board.plan;
