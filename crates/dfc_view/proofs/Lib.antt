@@ -1,5 +1,4 @@
 mod Greatest
-mod Marks
 mod NumberLists
 mod NumbersAgain
 mod Pieces

@@ -15,13 +15,6 @@ glue : (all : List ℕ) (n : ℕ) (o : Option (List ℕ)) → option_map (λ ns.
 glue all n None = refl
 glue all n (Some ns) = ap Some (append_assoc all (n ∷ []) ns)
 
-begin : (o : Option (List ℕ)) → option_map (λ ns. [] ++ ns) o ≡ o
-begin None = refl
-begin (Some ns) = refl
-
-pub numbers_begin : (text : List ℕ) → with_rest [] None text ≡ numbers_on None text
-numbers_begin text = begin (numbers_on None text)
-
 -- a number that ends at a comma
 pub numbers_comma : (all : List ℕ) (n : ℕ) (text : List ℕ) (whole : Option (List ℕ)) → with_rest all (Some n) (44 ∷ text) ≡ whole → with_rest (all ++ n ∷ []) None text ≡ whole
 unfolding numbers_on
@@ -58,14 +51,7 @@ numbers_none all whole so_far = sym so_far
 -- a fault is passed on where nothing is meant any more
 pub fault_passes : {X Y A B : Type 0} (meaning : X → A) (other : Y → B) (why : Fault) (meant : Option A) (whole : Option B) → Answers meaning (Err why) meant → (meant ≡ None → whole ≡ None) → Answers other (Err why) whole
 fault_passes meaning other fault.Usage meant whole none then = then none
-fault_passes meaning other fault.NoMemory meant whole none then = none
-fault_passes meaning other (fault.Line n) meant whole none then = none
-fault_passes meaning other (fault.Firing n) meant whole none then = none
-fault_passes meaning other fault.NoText meant whole none then = none
-fault_passes meaning other fault.TooLong meant whole none then = none
-fault_passes meaning other fault.Read meant whole none then = none
-fault_passes meaning other fault.Write meant whole none then = none
-fault_passes meaning other fault.NoWords meant whole none then = none
+fault_passes meaning other _ meant whole none then = none
 
 -- what is read so far, before this place of a text and at it
 pub at_place : (all : List ℕ) (begun : Option ℕ) (text : List ℕ) (i c d : ℕ) (whole : Option (List ℕ)) → i < length text → get_or text i d ≡ c → with_rest all begun (drop i text) ≡ whole → with_rest all begun (c ∷ drop (i + 1) text) ≡ whole

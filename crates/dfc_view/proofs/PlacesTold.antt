@@ -1,5 +1,5 @@
 -- Where the operands of nodes stand, and tables before any firing.
-use Rattle.std.proofs.Common.{◌≡◌, ℕ, zero, suc, ◌+◌, ◌<◌, Bool, true, false, ◌&&◌, ◌==◌, if◌then◌else◌, List, [], ◌∷◌, length, drop, get_or, replicate, subst, Some, slice_get, slice_index, nat_lt, refl, ap, sym, ◌∙◌, add-one}
+use Rattle.std.proofs.Common.{◌≡◌, ℕ, suc, ◌+◌, ◌<◌, Bool, true, false, ◌&&◌, ◌==◌, if◌then◌else◌, List, [], ◌∷◌, length, drop, get_or, subst, Some, slice_get, slice_index, nat_lt, ap, sym, ◌∙◌, add-one}
 use Rattle.std.proofs.Math.Seq.{drop-cons}
 use Rattle.std.proofs.lemmas.Bool.{lt-ltb}
 use Rattle.std.proofs.lemmas.Option.{slice_get-get_or}
@@ -21,11 +21,3 @@ one_more_place values i place nodes old new v inside is at count marked told k l
     ap (operands_in (drop (i + 1) values) k) own
     ∙ ap (λ vs. operands_in vs k (operands_by (slice_index old k) values)) (sym rest)
     ∙ told k lt
-
-pub nothing_at : (n i : ℕ) → slice_index (replicate n 0) i ≡ 0
-nothing_at zero i = refl
-nothing_at (suc n) zero = refl
-nothing_at (suc n) (suc i) = nothing_at n i
-
-pub none_told : (ns : List ℕ) (n : ℕ) → ns ≡ replicate n 0 → (i : ℕ) → slice_index ns i ≡ 0
-none_told ns n is i = ap (λ (xs : List ℕ). slice_index xs i) is ∙ nothing_at n i

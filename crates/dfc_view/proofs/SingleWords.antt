@@ -8,6 +8,6 @@ use Rattle.dfc_view.specs.Words.{alone}
 differ : (word other : List ℕ) → (word ≡ other → ⊥) → bytes_eq word other ≡ false
 differ word other apart = false_from_ne_true (bytes_eq word other) (λ same. apart ((bytes_eq-Decides word other).0 same))
 
-pub alone_none : (word : List ℕ) → (word ≡ codes "--help" → ⊥) → (word ≡ codes "--version" → ⊥) → (word ≡ codes "json" → ⊥) → (word ≡ codes "profile" → ⊥) → (word ≡ codes "dot" → ⊥) → alone word ≡ None
-alone_none word help version json profile dot =
-    rw (differ word (codes "--help") help, differ word (codes "--version") version, differ word (codes "json") json, differ word (codes "profile") profile, differ word (codes "dot") dot) refl
+pub alone_none : (word : List ℕ) → (word ≡ codes "-h" → ⊥) → (word ≡ codes "--help" → ⊥) → (word ≡ codes "--version" → ⊥) → (word ≡ codes "json" → ⊥) → (word ≡ codes "profile" → ⊥) → (word ≡ codes "dot" → ⊥) → alone word ≡ None
+alone_none word short help version json profile dot =
+    rw (differ word (codes "-h") short, differ word (codes "--help") help, differ word (codes "--version") version, differ word (codes "json") json, differ word (codes "profile") profile, differ word (codes "dot") dot) refl

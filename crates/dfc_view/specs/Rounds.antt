@@ -131,8 +131,3 @@ waits_by g rs k (Some (node.Merge piece line)) = last_round (moves g line) rs
 -- A firing comes a round after them. Rounds that are too many for 32 bits count as the last one.
 abbrev pub next_round : PrintedGraph → List Round → (k : ℕ) → ℕ
 next_round g rs k = min (suc (waits_by g rs k (slice_get g.nodes.items k))) (2 ^ 32 - 1)
-
--- the firings of these nodes, in this order, after others
-abbrev pub rounds_after : PrintedGraph → List Round → List ℕ → List Round
-rounds_after g rs [] = rs
-rounds_after g rs (k ∷ ks) = rounds_after g (record { node = k; round = next_round g rs k } ∷ rs) ks

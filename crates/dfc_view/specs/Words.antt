@@ -46,7 +46,7 @@ numbers_on begun (c ∷ text) = if c == 44 then option_and_then (λ n. option_ma
 -- ---- words
 
 abbrev pub alone : (word : List ℕ) → Option Asked
-alone word = if bytes_eq word (codes "--help") then Some Help else if bytes_eq word (codes "--version") then Some Version else if bytes_eq word (codes "json") then Some Json else if bytes_eq word (codes "profile") then Some Profile else if bytes_eq word (codes "dot") then Some Dot else None
+alone word = if bytes_eq word (codes "-h") then Some Help else if bytes_eq word (codes "--help") then Some Help else if bytes_eq word (codes "--version") then Some Version else if bytes_eq word (codes "json") then Some Json else if bytes_eq word (codes "profile") then Some Profile else if bytes_eq word (codes "dot") then Some Dot else None
 
 -- the picture that the words after `dot` ask for
 abbrev pub picture_of : List (List ℕ) → Option Asked

@@ -17,7 +17,7 @@ pub const HELP: &str = "\
 usage: dfc_view dot [--regions] [--lines N,N..]
        dfc_view json
        dfc_view profile
-       dfc_view --help | --version
+       dfc_view --help | -h | --version
 
 Reads what `dfc` printed of a program from standard input: the texts of
 `dfc regions`, `dfc graph` and `dfc trace`, each or none, in this order.
@@ -27,10 +27,12 @@ dot      a picture for Graphviz: of the dataflow graph where the text has one,
          --regions      the flow graph, with its regions as nested boxes
          --lines N,N..  only these lines of tokens
 json     the same as JSON
-profile  of a graph and a trace: how many nodes could have fired at once
+profile  of a graph and a trace: how many nodes could have fired at once; not of
+         what `dfc forks` fired, in which loads don't wait for one another
 
-Status: 0 done, 1 no such command, 2 the text can't be read, 5 standard input
-failed, 6 standard output failed, 7 memory ran out, 8 no arguments.
+Status: 0 done, 1 no such command, 2 the text can't be read, lacks what is
+asked for, or is a refusal by `dfc`, which is passed on, 5 standard input failed,
+6 standard output failed, 7 memory ran out, 8 the arguments can't be read.
 ";
 
 /// What is asked for.
@@ -94,6 +96,7 @@ fn job_of_word(word: &str) -> Result<Job, Fault>
     ensures { Answers meant result (alone word.now) }
 {
     match word {
+        "-h" => Ok(Job::Help),
         "--help" => Ok(Job::Help),
         "--version" => Ok(Job::Version),
         "json" => Ok(Job::Show(Task::Json)),

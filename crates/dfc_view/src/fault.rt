@@ -15,6 +15,10 @@ pub enum Fault {
     Line(u64),
     /// This line of the text tells a firing of a node that the graph doesn't have.
     Firing(u64),
+    /// The text is a refusal by `dfc`, which was passed on.
+    Refused,
+    /// The graph doesn't have this line of tokens.
+    NoLine(u32),
     /// The text lacks what is to be shown.
     NoText,
     /// The text is too long.
@@ -35,7 +39,8 @@ pub fn status(fault: Fault) -> u8
 {
     match fault {
         Fault::Usage => 1,
-        Fault::Line(_) | Fault::Firing(_) | Fault::NoText | Fault::TooLong => 2,
+        Fault::Line(_) | Fault::Firing(_) | Fault::Refused => 2,
+        Fault::NoLine(_) | Fault::NoText | Fault::TooLong => 2,
         Fault::Read => 5,
         Fault::Write => 6,
         Fault::NoMemory => 7,

@@ -1,4 +1,4 @@
-//! A picture of a flow graph, for Graphviz. Edges have the colours of their classes.
+//! A picture of a flow graph, for Graphviz. Edges have the numbers of their classes, and a colour for each.
 
 use crate::clusters::write_clusters;
 use crate::fault::Fault;
@@ -7,7 +7,7 @@ use df_io::Sink;
 use printed_graphs::{Edge, Piece, PrintedFlow, kind_name};
 use std::alloc::Global;
 
-/// The colour of a class or of a line of tokens: twelve that can be told apart, used over and over.
+/// The colour of a class or of a line of tokens: twelve that can be told apart, used over and over, so the number stands beside each.
 pub fn colour(number: u32) -> &'static str {
     match number % 12 {
         0 => "#1f77b4",
@@ -32,7 +32,9 @@ pub fn write<K: Sink + Drop>(
     with_regions: bool,
     output: &mut Output<K>,
 ) -> Result<(), Fault> {
-    output.text("digraph flow {\n  node [shape=box, fontname=\"sans-serif\", fontsize=11];\n")?;
+    output.text(
+        "digraph flow {\n  newrank=true;\n  node [shape=box, fontname=\"sans-serif\", fontsize=11];\n",
+    )?;
     output.text("  edge [fontname=\"sans-serif\", fontsize=9];\n")?;
     for (k, piece) in flow.pieces.as_slice().iter().enumerate() {
         write_piece(k as u64, piece, output)?;
@@ -58,13 +60,20 @@ fn write_piece<K: Sink + Drop>(k: u64, piece: &Piece, output: &mut Output<K>) ->
     output.text("\"];\n")
 }
 
-// An edge with its number, in the colour of its class.
+// An edge with its number and that of its class, in a colour of the class. START stands on top and END below: the edge from END to START,
+// number 0, and those to earlier pieces move no piece.
 fn write_edge<K: Sink + Drop>(k: u64, edge: &Edge, output: &mut Output<K>) -> Result<(), Fault> {
     output.item("  p", edge.from)?;
     output.item(" -> p", edge.to)?;
     output.text(" [label=\"")?;
     output.number(k)?;
+    output.item(":c", edge.class)?;
     output.text("\", color=\"")?;
     output.text(colour(edge.class))?;
-    output.text("\"];\n")
+    let end = if k == 0 || edge.to <= edge.from {
+        "\", constraint=false];\n"
+    } else {
+        "\"];\n"
+    };
+    output.text(end)
 }

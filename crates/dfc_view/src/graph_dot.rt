@@ -20,7 +20,9 @@ pub fn write<K: Sink + Drop>(
     lines: &Lines,
     output: &mut Output<K>,
 ) -> Result<(), Fault> {
-    output.text("digraph dataflow {\n  node [shape=box, fontname=\"sans-serif\", fontsize=11];\n")?;
+    output.text(
+        "digraph dataflow {\n  newrank=true;\n  node [shape=box, fontname=\"sans-serif\", fontsize=11];\n",
+    )?;
     write_pieces(graph.nodes.as_slice(), output)?;
     for value in graph.values.as_slice() {
         write_value(value, output)?;

@@ -1,6 +1,6 @@
 //! What was printed, as JSON. docs/VIEWING.md has the schema.
 
-ghost use Rattle.std.specs.Prelude.{ℕ, List, [], ◌++◌, OnOk, codes};
+ghost use Rattle.std.specs.Prelude.{ℕ, List, [], OnOk};
 ghost use Rattle.std.specs.Fmt.{decimal};
 ghost use Rattle.dfc_view.specs.Json.{edge_json, end_json, firing_json, flow_json, in_commas, numbers_json, or_null, piece_json, printed_json, region_json, rows, separated, trace_json};
 ghost use Rattle.dfc_view.specs.Told.{Adds, told};

@@ -1,7 +1,6 @@
 //! A dataflow graph as JSON.
 
-ghost use Rattle.std.specs.Prelude.{◌++◌, OnOk, codes};
-ghost use Rattle.std.specs.Fmt.{decimal};
+ghost use Rattle.std.specs.Prelude.{OnOk};
 ghost use Rattle.dfc_view.specs.Json.{bypass_json, graph_json, leading_json, line_json, name_json, node_json, operand_json, value_json, wires_json};
 ghost use Rattle.dfc_view.specs.Told.{Adds, told};
 

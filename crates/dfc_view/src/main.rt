@@ -71,8 +71,14 @@ fn words_of(rt: &HostRuntime) -> Result<Vec<String>, Fault> {
 fn tell(rt: &HostRuntime, fault: Fault) -> io::Result<()> {
     match fault {
         Fault::Usage => eprintln!(rt; "dfc_view: no such command or option; try dfc_view --help"),
-        Fault::Line(line) => eprintln!(rt; "dfc_view: line {line} can't be read"),
+        Fault::Line(line) => {
+            eprintln!(rt;
+                "dfc_view: line {line} can't be read; regions, graph and trace come in this order"
+            )
+        }
         Fault::Firing(line) => eprintln!(rt; "dfc_view: line {line} fires no node of the graph"),
+        Fault::Refused => eprintln!(rt; "dfc_view: dfc refused the program"),
+        Fault::NoLine(line) => eprintln!(rt; "dfc_view: the graph has no token line {line}"),
         Fault::NoText => eprintln!(rt; "dfc_view: what is asked for is not in the text"),
         Fault::TooLong => eprintln!(rt; "dfc_view: the text is too long"),
         Fault::Read => eprintln!(rt; "dfc_view: standard input failed"),
