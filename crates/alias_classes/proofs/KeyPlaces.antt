@@ -1,8 +1,7 @@
 -- A key's place among keys.
-use Rattle.std.proofs.Common.{◌≡◌, ℕ, zero, suc, Bool, true, false, nat_eq, ◌+◌, ◌<◌, ◌≤◌, List, [], ◌∷◌, length, get_or, refl, ap, arith}
+use Rattle.std.proofs.Common.{◌≡◌, ℕ, true, nat_eq, [], refl}
 use Rattle.std.proofs.lemmas.Bool.{and_parts, and_from, eqb-true, eq-eqb}
-use Rattle.std.specs.List.{list_any, position_or_len}
-use Rattle.alias_classes.specs.Walk.{no_key, same_keys}
+use Rattle.alias_classes.specs.Walk.{same_keys}
 
 pub same_keys-equal : (x y : ℕ × ℕ) → same_keys x y ≡ true → x ≡ y
 same_keys-equal x y both =

@@ -35,9 +35,6 @@ well-placed p is = record {
   few = let few = is.word_count in omega (arith, few);
 }
 
-pub ends-below : (p : Program) → IsWellFormed p → (k : ℕ) → k < length p.names → end_of p.names k ≤ℤ pos 262144
-ends-below p is k lt = let inside = is.places.within k lt in let few = is.word_count in omega (arith, ints, inside, few)
-
 -- a name has a word
 pub some-word : (p : Program) → IsWellFormed p → (k : ℕ) → k < length p.names → pos (place_of p.names k) <ℤ end_of p.names k
 some-word p is k lt = ⊎_elim

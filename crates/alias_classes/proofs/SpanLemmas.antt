@@ -64,17 +64,6 @@ next-place words begins ends reaches last word next reach lasts some within shor
     })
     (cases_eq next 1)
 
-pub last-here : (words : ℕ) (begins ends reaches : List ℕ) (word next : ℕ) → AreReaches words begins ends reaches → next ≤ word + 1 → ((k : ℕ) → Holds begins ends k word → get_or begins k 0 < next) → (0 < next → word < get_or reaches (next - 1) 0) → IsLastBegin begins ends word next
-last-here words begins ends reaches word next reach within most far = record {
-  most = most;
-  own = λ some.
-      let is_far = far some in
-      let found = reach.own (next - 1) (omega (arith, is_far)) in
-      let begin = found.2 in
-      let end = found.3 in
-      (found.0, record { known = found.1; from = omega (arith, begin, within, some); below = omega (arith, end, is_far) }, omega (arith, begin, some));
-}
-
 -- one word more
 pub last-push : (word q : ℕ) (begins ends last : List ℕ) → AreLastBegins word begins ends last → IsLastBegin begins ends word q → AreLastBegins (word + 1) begins ends (last ++ q ∷ [])
 last-push word q begins ends last lasts here = record {

@@ -52,9 +52,6 @@ module _ (covers : ℕ → ℕ → Type 0) (key : ℕ → ℕ × ℕ) where
     numbered-other : (v : ℕ) → 1 ≤ get_or numbers v 0 → v ≢ w
     numbered-other v is same = absurd (omega (arith, is, blank, ap (λ x. get_or numbers x 0) same))
 
-    met-other : (v : ℕ) → IsMet covers k w v → v ≢ w
-    met-other v met = numbered-other v (walked.met v met)
-
     still : (v : ℕ) → 1 ≤ get_or numbers v 0 → get_or new v 0 ≡ get_or numbers v 0
     still v is = other v (numbered-other v is)
 

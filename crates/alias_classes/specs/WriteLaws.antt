@@ -8,7 +8,6 @@ use Rattle.f77_tree.specs.Steps.{Changes}
 use Rattle.f77_tree.specs.Touched.{ExecMayChange}
 use Rattle.f77_tree.specs.Value.{ArePlaced}
 use Rattle.alias_classes.specs.Classes.{ClassTable, IsClasses, class_of_word, class_of_loop}
-use Rattle.alias_classes.specs.Needs.{ExecNeeds}
 use Rattle.alias_classes.specs.Number.{number_of_classes}
 use Rattle.alias_classes.specs.Writes.{ExecWrites, ExecWritesOrCounts}
 

@@ -1,23 +1,18 @@
 //! The classes of a program are made.
 
-ghost use Rattle.std.specs.Prelude.{◌≡◌, ◌≢◌, ◌≤◌, ◌<◌, ◌+◌, ◌*◌, ℕ, length, slice_index, IfOk, slice_index_or};
+ghost use Rattle.std.specs.Prelude.{◌≡◌, ◌≤◌, ◌<◌, ◌+◌, ◌*◌, ℕ, length, slice_index, IfOk, slice_index_or};
 ghost use Rattle.class_set.specs.declared.ClassSet.{ClassSet};
 ghost use Rattle.class_set.specs.Members.{IsWidth};
-ghost use Rattle.f77_tree.specs.Places.{IsWordOf};
-ghost use Rattle.f77_tree.specs.WellFormed.{IsWellFormed};
-ghost use Rattle.alias_classes.specs.Classes.{IsNumbering, IsClasses, class_count};
-ghost use Rattle.alias_classes.specs.Kept.{AreKept};
-ghost use Rattle.alias_classes.specs.Runs.{AreStarts, IsSetOf};
-ghost use Rattle.alias_classes.specs.Spans.{AreSpansOf, AreSpans, AreLastBegins, AreFromEnd, Holds};
+ghost use Rattle.alias_classes.specs.Classes.{IsNumbering};
+ghost use Rattle.alias_classes.specs.Runs.{IsSetOf};
+ghost use Rattle.alias_classes.specs.Spans.{AreSpans, Holds};
 ghost use Rattle.alias_classes.specs.Walk.{KeysTell, key_of};
 
-use crate::needs::WordClasses;
 use crate::runs::{classes_between, starts};
-use crate::spans::{Spans, from_end, last_begins, name_spans};
+use crate::spans::{Spans, from_end, last_begins};
 use crate::walk::{Marks, Walk, walk_names};
 use class_set::ClassSet;
 use df_sequence::NoMemory;
-use f77_tree::Program;
 use std::alloc::Global;
 
 // What tells the class of each word.

@@ -1,6 +1,6 @@
 //! The classes of each name, from runs of words of one class.
 
-ghost use Rattle.std.specs.Prelude.{◌≡◌, ◌≤◌, ◌<◌, ◌+◌, ◌-◌, ◌*◌, ◌==◌, ◌&&◌, if◌then◌else◌, nat_lt, ℕ, length, slice_index, IfOk};
+ghost use Rattle.std.specs.Prelude.{◌≡◌, ◌≤◌, ◌<◌, ◌-◌, ◌*◌, ◌==◌, ◌&&◌, if◌then◌else◌, nat_lt, ℕ, length, slice_index, IfOk};
 ghost use Rattle.class_set.specs.Members.{IsWidth};
 ghost use Rattle.alias_classes.specs.Runs.{AreStarts, IsSetOf};
 

@@ -3,7 +3,7 @@
 ghost use Rattle.std.specs.Prelude.{◌≡◌, ◌≤◌, ◌<◌, ◌+◌, ◌≤ℤ◌, ℕ, pos, length, slice_index, All, IfOk};
 ghost use Rattle.f77_tree.specs.Declarations.{IsNameInfo, IsDim, AreDims};
 ghost use Rattle.f77_tree.specs.Places.{end_of};
-ghost use Rattle.f77_tree.specs.Value.{extent, size_of, ArePlaced};
+ghost use Rattle.f77_tree.specs.Value.{extent, size_of};
 ghost use Rattle.alias_classes.specs.Spans.{AreSpansOf, AreSpans, AreReaches, IsLastBegin, AreLastBegins, AreFromEnd};
 
 use df_sequence::NoMemory;

@@ -1,6 +1,6 @@
 //! The walk through the words of names in order, which numbers the classes of words.
 
-ghost use Rattle.std.specs.Prelude.{◌≡◌, ◌≢◌, ◌≤◌, ◌<◌, ◌+◌, ◌*◌, ◌^◌, ℕ, [], length, slice_index, OnOk, OnErr, IfOk};
+ghost use Rattle.std.specs.Prelude.{◌≡◌, ◌≤◌, ◌<◌, ◌+◌, ℕ, [], length, slice_index, OnOk, IfOk};
 ghost use Rattle.alias_classes.specs.Spans.{AreSpans, Holds};
 ghost use Rattle.alias_classes.specs.Walk.{key_of, IsMarked, AreSkips, IsWalked};
 

@@ -22,7 +22,7 @@ pub struct Swings {
 }
 
 impl Swings {
-    ghost use Rattle.std.specs.Prelude.{◌≡◌, ◌*◌, ◌<◌, ◌≤◌, ◌^◌, ℕ, Bool, true, [], ◌∷◌, IfOk, vec_len};
+    ghost use Rattle.std.specs.Prelude.{◌≡◌, ◌*◌, ◌<◌, ◌^◌, ℕ, Bool, true, [], ◌∷◌, IfOk, vec_len};
     ghost use Rattle.firing.specs.Marks.{AreMarks, DifferAt};
     ghost use Rattle.bench_firing.specs.Swinging.{is_ready, other_node};
     ghost use Rattle.bench_firing.specs.SwingsView.{pairs_of, rest_of};

@@ -33,14 +33,6 @@ stands_without (z ∷ zs) x y stands = ⊎_elim
     (λ later. kept_or z y zs (without zs x) (stands_without zs x y) later)
     (stands_if (z == x) zs (z ∷ without zs x) y stands)
 
-once_if : (b : Bool) (xs ys : List ℕ) → IsOnce xs → IsOnce ys → IsOnce (if b then xs else ys)
-once_if true xs ys first second = first
-once_if false xs ys first second = second
-
-pub once_without : (xs : List ℕ) (x : ℕ) → IsOnce xs → IsOnce (without xs x)
-once_without [] x once = once
-once_without (z ∷ zs) x (not, once) = once_if (z == x) zs (z ∷ without zs x) once (λ stands. not (stands_without zs x z stands), once_without zs x once)
-
 -- ---- all lists
 
 module _ (lists : List (List ℕ)) (are : AreApart lists) where

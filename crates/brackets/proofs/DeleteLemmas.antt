@@ -115,9 +115,6 @@ module _ (cells : List (Option Cell)) (lists : List Ends) (are : AreKept cells l
   pub has_lower : HasCell cells cell.below
   has_lower = subst (HasCell cells) (sym lower_is) (has_first cells lists are l here ends read parts.under (λ y there. range y (stands_back parts.over (x ∷ parts.under) y (inr there))))
 
-  pub size_some : 1 ≤ ends.size
-  size_some = let size = old.size in let all = length-append parts.over (x ∷ parts.under) in let next : length (x ∷ parts.under) ≡ length parts.under + 1 = omega arith in omega (arith, size, all, next)
-
   once_under : IsOnce parts.under
   once_under = once.second.1
 

@@ -18,7 +18,7 @@ pub struct Buffer {
 }
 
 impl Buffer {
-    ghost use Rattle.std.specs.Prelude.{◌≡◌, ◌<◌, ◌+◌, [], ◌++◌, take, length, IfOk, OnOk, OnErr};
+    ghost use Rattle.std.specs.Prelude.{◌≡◌, ◌<◌, [], ◌++◌, take, length, IfOk, OnOk, OnErr};
     ghost use Rattle.df_io.specs.Faults.{Rose};
     ghost use Rattle.df_io.specs.TextBuffer.{IsWrittenBut};
     ghost use Rattle.buffered_sink.specs.Held.{held_in};

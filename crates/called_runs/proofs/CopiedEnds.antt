@@ -6,7 +6,7 @@ use Rattle.f77_tree.specs.declared.statements.Labelled.{Labelled}
 use Rattle.layout_rules.specs.Executables.{is_do_to, loops_to}
 use Rattle.layout_rules.specs.Labels.{statement_of}
 use Rattle.f77_subs.specs.Units.{Call, call_in, unit_at, unit_of}
-use Rattle.f77_subs.specs.Widths.{is_kept, labels, body_labels}
+use Rattle.f77_subs.specs.Widths.{is_kept, body_labels}
 use Rattle.f77_subs.specs.Copies.{Context, changes, end_by, number_at}
 use Rattle.f77_subs.specs.CopiedLoops.{IsEndOf, last_number, loops_from}
 use Rattle.f77_subs.specs.ListedCopies.{piece_at}
@@ -29,9 +29,6 @@ module _ (us : List (List Labelled)) (list : List Labelled) (laid : AreLaid us l
 
   abbrev number : ℕ → ℕ
   number place = number_at us c.depth c.unit c.base place
-
-  abbrev count : Labelled → ℕ
-  count = labels (body_labels us c.depth) us c.unit
 
   -- a label leads to the statement that has it
   pub own-place : (place : ℕ) (s : Labelled) → slice_get unit place ≡ Some s → 0 < s.label → statement_of unit s.label ≡ place

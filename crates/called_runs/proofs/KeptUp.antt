@@ -1,15 +1,10 @@
 -- Two runs of which the second keeps up with the first: what they have written, and how they stop.
-use Rattle.std.proofs.Common.{◌≡◌, ◌≢◌, ℕ, zero, suc, ◌+◌, ◌-◌, ◌<◌, ◌≤◌, ◌⊎◌, List, [], refl, sym, ap, subst, ◌∙◌, ⊎_elim, inl, inr, arith, append-nil}
+use Rattle.std.proofs.Common.{◌≡◌, ◌≢◌, ℕ, zero, suc, ◌+◌, ◌-◌, ◌<◌, ◌≤◌, ◌⊎◌, List, [], sym, ap, subst, ◌∙◌, ⊎_elim, inl, inr, arith, append-nil}
 use Rattle.std.proofs.lemmas.Bool.{cases_eq, cases_lt}
 use Rattle.f77_tree.specs.Prefixes.{IsPrefix}
-use Rattle.f77_tree.specs.Run.{Mark, Running, Ended, Trapped}
+use Rattle.f77_tree.specs.Run.{Mark, Running}
 use Rattle.f77_tree.proofs.RunLaws.{grows_not, grows_on}
 use Rattle.f77_subs.specs.Calls.{HasMark, ReachesText}
-
-running-or-not : (mark : Mark) → (mark ≡ Running) ⊎ (mark ≢ Running)
-running-or-not Running = inl refl
-running-or-not Ended = inr (λ h. let no : Ended ≡ Running = h in cc)
-running-or-not (Trapped trap line) = inr (λ h. let no : Trapped trap line ≡ Running = h in cc)
 
 -- ---- one run, by its marks and its output after each number of steps
 

@@ -1,18 +1,12 @@
 -- Where the run of the list begins, and where it ends.
-use Rattle.std.proofs.Common.{◌≡◌, ℕ, ◌+◌, ◌-◌, Bool, true, false, nat_lt, List, [], ◌∷◌, ◌++◌, length, drop, take, Some, Ok, if◌then◌else◌, refl, sym, ap, ◌∙◌, arith}
+use Rattle.std.proofs.Common.{◌≡◌, ℕ, ◌+◌, Bool, true, false, nat_lt, List, [], ◌∷◌, ◌++◌, length, drop, take, Some, if◌then◌else◌, refl, sym, ap, ◌∙◌, arith}
 use Rattle.std.specs.List.{slice_get}
 use Rattle.std.proofs.lemmas.Bool.{ltb-false}
 use Rattle.std.proofs.lemmas.List.{append_assoc}
-use Rattle.f77_tree.specs.declared.programs.ExecKind.TheVariants.{End as Ended}
-use Rattle.f77_tree.specs.declared.programs.Program.{Program}
 use Rattle.f77_tree.specs.declared.statements.Labelled.{Labelled}
-use Rattle.f77_tree.specs.declared.statements.Stmt.{Stmt}
-use Rattle.layout_rules.specs.Executables.{beyond, first_of, loops_to, met, own_executables, own_kinds}
+use Rattle.layout_rules.specs.Executables.{first_of, loops_to, met, own_executables}
 use Rattle.layout_rules.specs.Jumps.{end_of_block}
 use Rattle.layout_rules.specs.Labels.{is_arm, is_executable}
-use Rattle.layout_rules.specs.Layout.{layout, names_of}
-use Rattle.layout_rules.specs.Source.{IsSource}
-use Rattle.f77_layout.proofs.LabelsLead.{own-stand}
 use Rattle.f77_subs.specs.Units.{unit_at}
 use Rattle.f77_subs.specs.Widths.{labels_before}
 use Rattle.f77_subs.specs.Contexts.{main}
@@ -90,18 +84,3 @@ module _ (us : List (List Labelled)) (laid : AreLaid us (whole_list us)) where
   -- the run of the list begins at the main program
   pub run-begins : met (whole_list us) (main_place us 0) ≡ 0
   run-begins = met-first us (whole_list us) laid (main_context us) (main_place us) (laid.copied (main_context us) (main_place us) main) ∙ front-none
-
--- the list ends with END
-pub record EndsInEnd (list : List Labelled) (p : Program) : Type 0 where
-  pub line : ℕ
-  pub is : slice_get p.execs (first_of list (length list - 1)) ≡ Some (record { line = line; kind = Ended })
-
-pub list-ends : (list : List Labelled) (checked : Bool) (p : Program) → IsSource list → layout list checked ≡ Ok p → EndsInEnd list p
-list-ends list checked p source laid =
-    let last = source.ended in
-    let i = length list - 1 in
-    let made : slice_get (own_kinds (names_of list) checked list i (first_of list i) (beyond list i last.last) last.last.stmt) 0 ≡ Some Ended = ap (λ (t : Stmt). slice_get (own_kinds (names_of list) checked list i (first_of list i) (beyond list i last.last) t) 0) last.is in
-    record {
-      line = last.last.line;
-      is = ap (λ (n : ℕ). slice_get p.execs n) (let e : first_of list i ≡ first_of list i + 0 = omega arith in e) ∙ own-stand list checked p source laid i 0 last.last Ended last.stands made;
-    }

@@ -1,16 +1,11 @@
 -- Words and names of frames and of the program, as a run beside the program needs them.
-use Rattle.std.proofs.Common.{◌≡◌, ℕ, ◌<◌, Bool, true, List, length, None, Some, ℤ, subst}
-use Rattle.std.specs.List.{slice_get}
+use Rattle.std.proofs.Common.{◌≡◌, ℕ, ◌<◌, Bool, List, length, None, ℤ, subst}
 use Rattle.f77_tree.specs.declared.programs.Program.{Program}
 use Rattle.f77_tree.specs.declared.statements.Labelled.{Labelled}
 use Rattle.f77_tree.specs.Value.{ArePlaced}
 use Rattle.f77_tree.specs.WellFormed.{IsWellFormed}
-use Rattle.layout_rules.specs.Appearances.{appearing}
-use Rattle.layout_rules.specs.Declarations.{is_array}
-use Rattle.layout_rules.specs.Labels.{is_executable}
-use Rattle.layout_rules.specs.Types.{is_well_kinded}
 use Rattle.copied_values.specs.ChangedTables.{AreChangedTables}
-use Rattle.copied_values.specs.SideBySide.{AreTied, IsPairing}
+use Rattle.copied_values.specs.SideBySide.{IsPairing}
 use Rattle.f77_subs.specs.Contexts.{IsReached}
 use Rattle.f77_subs.specs.Copies.{Context, change_in, changes}
 use Rattle.f77_subs.specs.declared.entity.Entity.{Entity}
@@ -21,7 +16,6 @@ use Rattle.f77_subs.specs.Texts.{IsText}
 use Rattle.f77_subs.specs.Units.{unit_at, units}
 use Rattle.called_runs.specs.Expanded.{IsExpanded}
 use Rattle.called_runs.specs.PairedWords.{IsPaired, listed_spot}
-use Rattle.called_runs.proofs.CopiedOutcomes.{IsTiedStatement}
 use Rattle.called_runs.proofs.RunGrounds.{table_of}
 
 module _ (stmts : List Labelled) (checked : Bool) (p : Program) (expanded : IsExpanded stmts checked p) (spot : Entity → ℕ) where
@@ -33,15 +27,6 @@ module _ (stmts : List Labelled) (checked : Bool) (p : Program) (expanded : IsEx
   pub ties-tables : ((ss : List Labelled) (ch : Bool) (q : Program) → IsExpanded ss ch q → (at : Entity → ℕ) (k : ℕ) (arguments : List Entity) (depth base : ℕ) → AreChangedTables (placed (units ss) at k arguments (own_program (unit_at (units ss) k) ch).names) q.names (change_in (units ss) depth k base arguments))
       → (c : Context) → AreChangedTables (table_of (units stmts) checked spot c) p.names (changes (units stmts) c)
   ties-tables law c = law stmts checked p expanded spot c.unit c.arguments c.depth c.base
-
-  pub ties-statement : ((ss : List Labelled) (ch : Bool) (q : Program) → IsExpanded ss ch q → (spot : Entity → ℕ) (c : Context) (at : ℕ → ℕ) → IsReached (units ss) c at → (place : ℕ) (s : Labelled) → slice_get (unit_at (units ss) c.unit) place ≡ Some s → is_executable s.stmt ≡ true
-      → AreTied (IsPaired (units ss) q.names spot (listed_spot (units ss) q.names)) (placed (units ss) spot c.unit c.arguments (own_program (unit_at (units ss) c.unit) ch).names) q.names (changes (units ss) c) (appearing (is_array (unit_at (units ss) c.unit)) s.stmt))
-      → ((ss : List Labelled) (ch : Bool) → unit_refusal ss ch ≡ None → (spot : Entity → ℕ) (k : ℕ) (arguments : List Entity) (place : ℕ) (s : Labelled) → slice_get (unit_at (units ss) k) place ≡ Some s → is_well_kinded (placed (units ss) spot k arguments (own_program (unit_at (units ss) k) ch).names) s.stmt ≡ true)
-      → (c : Context) (at : ℕ → ℕ) → IsReached (units stmts) c at → (place : ℕ) (s : Labelled) → slice_get (unit_at (units stmts) c.unit) place ≡ Some s → is_executable s.stmt ≡ true → IsTiedStatement Paired (table_of (units stmts) checked spot c) p.names (changes (units stmts) c) s.stmt
-  ties-statement tied kinded c at reached place s there does = record {
-    tied = tied stmts checked p expanded spot c at reached place s there does;
-    kinded = kinded stmts checked expanded.accepted spot c.unit c.arguments place s there;
-  }
 
   -- ---- of a storage
 

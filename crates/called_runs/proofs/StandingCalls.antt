@@ -16,7 +16,7 @@ use Rattle.f77_subs.proofs.Having.{alike, got}
 use Rattle.copied_control.proofs.LoopsTo.{first-loops}
 use Rattle.copied_control.proofs.MappedArms.{drop_here}
 use Rattle.copied_control.proofs.WhichPieces.{piece-around}
-use Rattle.called_runs.specs.CopiedPositions.{Stands, last_place}
+use Rattle.called_runs.specs.CopiedPositions.{Stands}
 use Rattle.called_runs.proofs.Grounds.{AreLaid, IsCopied}
 use Rattle.called_runs.proofs.StandingNexts.{gone_on}
 use Rattle.f77_subs.proofs.Kept.{kept_or_none}
@@ -49,9 +49,6 @@ module _ (us : List (List Labelled)) (list : List Labelled) (laid : AreLaid us l
     -- the label behind the copy
     abbrev pub b : ℕ
     b = number place + body_labels us c.depth (unit_of us call.name) + 1
-
-    abbrev last : ℕ
-    last = last_place us c at place s
 
     abbrev body : List Labelled
     body = copy us c.depth (unit_of us call.name) (map (stands_for us c.unit c.arguments) call.arguments) (number place)

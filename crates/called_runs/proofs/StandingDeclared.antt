@@ -11,7 +11,7 @@ use Rattle.f77_tree.specs.declared.declarations.Member.{Member}
 use Rattle.f77_tree.specs.declared.statements.Labelled.{Labelled}
 use Rattle.f77_tree.specs.declared.statements.Stmt.{Stmt, more_of-Stmt}
 use Rattle.f77_tree.specs.declared.statements.Stmt.TheVariants.{Program, Implicit, ImplicitNone, TypeOf, Dimension, Common, Equivalence, Init, Assign, Print, Take, Continue, Stop, GoTo, PickGoTo, SignIf, ThenIf', BlockIf, ElseIf, Else, EndIf, Do, Sub, CallTo, Back, End}
-use Rattle.layout_rules.specs.Declarations.{all_commons, all_declarators, all_groups, all_inits, declarators, dims_told, dims_or_none, groups_of, inits_of, is_implicit_none, kind_by_default, kind_implied, kind_of, kind_typed, parts_of}
+use Rattle.layout_rules.specs.Declarations.{all_commons, all_declarators, all_inits, declarators, dims_told, dims_or_none, groups_of, inits_of, is_implicit_none, kind_by_default, kind_implied, kind_of, kind_typed, parts_of}
 use Rattle.layout_rules.specs.Faults.{answer_or, first_answer}
 use Rattle.called_runs.specs.DeclaredNames.{AreDeclaredAlike}
 use Rattle.f77_subs.specs.Units.{stand_in, standing_in}
@@ -96,9 +96,6 @@ module _ {X : Type 0} (f : Stmt → List X) (same : (s : Stmt) → f (stand_in s
 
 pub commons-same : (u : List Labelled) → all_commons (standing_in u) ≡ all_commons u
 commons-same u = of-same parts_of (λ s. ap (λ (t : Told). t.parts) (told-same [] s)) u
-
-pub groups-same : (u : List Labelled) → all_groups (standing_in u) ≡ all_groups u
-groups-same u = of-same groups_of (λ s. ap (λ (t : Told). t.groups) (told-same [] s)) u
 
 pub inits-same : (u : List Labelled) → all_inits (standing_in u) ≡ all_inits u
 inits-same u = of-same inits_of (λ s. ap (λ (t : Told). t.inits) (told-same [] s)) u

@@ -9,7 +9,7 @@ use Rattle.f77_tree.specs.declared.statements.Stmt.TheVariants.{Do}
 use Rattle.layout_rules.specs.Executables.{exit_after, exit_among, first_of, is_do_to, loops_to, own_executables}
 use Rattle.f77_subs.specs.Units.{Call, call_in, is_end, unit_at}
 use Rattle.f77_subs.specs.Widths.{is_kept}
-use Rattle.f77_subs.specs.Copies.{Context, number_at}
+use Rattle.f77_subs.specs.Copies.{Context}
 use Rattle.copied_control.proofs.WhichPieces.{IsPlain}
 use Rattle.called_runs.specs.CopiedPositions.{Stands, at_increment, first_increment, last_place, own_of_last}
 use Rattle.called_runs.proofs.Grounds.{AreLaid, IsCopied}
@@ -51,9 +51,6 @@ drop-got (z ∷ xs) ys (suc i) x is = drop-got xs ys i x is
 module _ (us : List (List Labelled)) (list : List Labelled) (laid : AreLaid us list) (c : Context) (at : ℕ → ℕ) (held : IsCopied us list c at) where
   abbrev unit : List Labelled
   unit = unit_at us c.unit
-
-  abbrev number : ℕ → ℕ
-  number place = number_at us c.depth c.unit c.base place
 
   abbrev Comes : ℕ → ℕ → Type 0
   Comes position r = Stands us list c at position r

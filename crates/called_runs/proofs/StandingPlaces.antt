@@ -15,7 +15,7 @@ use Rattle.layout_rules.specs.Labels.{is_arm, is_executable}
 use Rattle.layout_rules.specs.StatementTrees.{IsTree}
 use Rattle.f77_subs.specs.Units.{is_end, stand_in, standing_in, unit_at}
 use Rattle.f77_subs.specs.Widths.{is_kept}
-use Rattle.f77_subs.specs.Copies.{Context, changes, number_at}
+use Rattle.f77_subs.specs.Copies.{Context, changes}
 use Rattle.f77_subs.specs.ListedCopies.{piece_at}
 use Rattle.f77_subs.specs.OpenBlocks.{IsEnded}
 use Rattle.copied_control.specs.Landings.{landing, landing_after}
@@ -65,9 +65,6 @@ end-from unit place ended inside =
 module _ (us : List (List Labelled)) (list : List Labelled) (laid : AreLaid us list) (c : Context) (at : ℕ → ℕ) (held : IsCopied us list c at) where
   abbrev unit : List Labelled
   unit = unit_at us c.unit
-
-  abbrev number : ℕ → ℕ
-  number place = number_at us c.depth c.unit c.base place
 
   -- ---- statements without executables
 

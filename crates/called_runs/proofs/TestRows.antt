@@ -100,9 +100,6 @@ module _ (us : List (List Labelled)) (checked : Bool) (spot : Entity → ℕ) (i
     tests = test-tied Paired table p.names (changes us c) s.stmt condition (guard-condition s.stmt condition guarded) (grounds.tied place s is (guard-does s.stmt condition guarded))
 
     module _ (N : ℕ → ℕ → Type 0) (x : CallState) (y : State) (b : Beside us checked p input words Paired c at N x y) (here : b.position ≡ first_of unit place) (there : y.position ≡ first_of list (at place)) where
-      abbrev a : Labelled
-      a = bare (number_at us c.depth c.unit c.base place) s.line Continue
-
       -- at the IF THEN
       abbrev y1 : State
       y1 = moved y (first_of list (at place + 1))

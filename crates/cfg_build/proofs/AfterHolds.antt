@@ -9,10 +9,6 @@ use Rattle.cfg_build.specs.Holds.{with_hold}
 use Rattle.cfg_build.proofs.HoldSteps.{hold_graph, more_edges, from_old, to_other, to_held, from_new, to_stay, to_leave}
 
 module _ (g : Graph) (finish : ℕ) (edge_of : ℕ → ℕ) (hs : List ℕ) where
-  -- the piece that gets the hold with this number, and the edge on which that stands
-  abbrev pub held_at : ℕ → ℕ
-  held_at q = get_or hs q 0
-
   abbrev pub edge_at : ℕ → ℕ
   edge_at q = edge_of (get_or hs q 0)
 

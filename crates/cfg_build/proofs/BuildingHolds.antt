@@ -192,10 +192,3 @@ module _ (told : IsTold) (g : Graph) (sound : IsGraph g) (finish : ℕ) (finish_
   pub test_is_held : (x : ℕ) (held : List ℕ) (marks : List Bool) → x < g.nodes → AreHeldBelow g finish x held marks → (not (get_or marks x false) && (is_entered_from_above g x && is_on_cycle g x)) ≡ is_held g finish x
   test_is_held x held marks node before =
       stays_is_held x (get_or marks x false) node (subst (λ (hs : List ℕ). (get_or marks x false ≡ true) ↔ Leaves g finish hs x) before.pieces (before.leaving x))
-
-  -- at first those leave that reach the end
-  pub none_held : (marks : List Bool) → ((v : ℕ) → (get_or marks v false ≡ true) ↔ Reaches g v finish) → AreHeldBelow g finish 0 [] marks
-  none_held marks marked = record {
-    pieces = refl;
-    leaving = λ y. (λ h. inl ((marked y).0 h), λ leaves. ⊎_elim (λ end. (marked y).1 end) (λ (one : ReachesOne g [] y). absurd (omega (arith, one.exists))) leaves);
-  }

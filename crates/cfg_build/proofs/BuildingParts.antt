@@ -1,8 +1,7 @@
 -- The parts of a program, executable by executable.
 use Rattle.std.proofs.Common.{◌≡◌, ℕ, ◌+◌, ◌<◌, ◌≤◌, true, false, List, [], ◌∷◌, ◌++◌, length, get_or, set, slice_index, Option, Some, None, ap, sym, ◌∙◌, refl, arith, ⊎_elim, cond}
-use Rattle.std.proofs.lemmas.List.{append-nil, map-id, get_or-set_same, get_or-set_other}
+use Rattle.std.proofs.lemmas.List.{append-nil, get_or-set_same, get_or-set_other}
 use Rattle.std.proofs.lemmas.List.Concat.{flat_map-append}
-use Rattle.std.proofs.lemmas.List.FromFn.{map-range_with_len_more}
 use Rattle.std.proofs.lemmas.Bool.{cases_eq, cases_lt}
 use Rattle.std.proofs.lemmas.Option.{slice_get_past, same_Some}
 use Rattle.std.specs.List.{flat_map, range_with_len, slice_get}

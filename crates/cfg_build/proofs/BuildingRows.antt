@@ -14,12 +14,6 @@ use Rattle.cfg_build.specs.Tables.{number_in, IsLedTo, AreParts, is_joined_by, r
 use Rattle.cfg_build.proofs.BuildingControl.{fan-append}
 use Rattle.cfg_build.proofs.PieceNumbers.{part_at, first_piece, number_is, length_rows_on}
 
-abbrev heads_in : List Row → List (List ℕ)
-heads_in rs = map (λ (row : Row). row.heads) rs
-
-abbrev pieces_in : List Row → List Piece
-pieces_in rs = map (λ (row : Row). row.piece) rs
-
 -- ---- the edges of one part
 
 pub joined_edges : (before middle after : List (ℕ × ℕ)) (first join node : ℕ) (joined : Bool) (part : Part) (heads : List ℕ) → joined ≡ true → join ≡ first → node ≡ first + 1

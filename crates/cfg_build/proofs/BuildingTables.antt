@@ -8,27 +8,15 @@ use Rattle.std.proofs.lemmas.List.Sums.{count_by_more_yes, count_by_more_no, cou
 use Rattle.cfg_build.specs.declared.numbers.ByTarget.{ByTarget}
 use Rattle.cfg_build.specs.declared.parts.Part.{Part}
 use Rattle.cfg_build.specs.declared.parts.Target.{Target}
-use Rattle.cfg_build.specs.declared.parts.Target.TheVariants.{Start, First, Test}
+use Rattle.cfg_build.specs.declared.parts.Target.TheVariants.{Start}
 use Rattle.cfg_build.specs.Parts.{start_part}
 use Rattle.cfg_build.specs.Joined.{is_same, is_joined, ways_to, width, number}
-use Rattle.cfg_build.specs.Tables.{number_in, IsIn, HasRoom, IsOf, IsLedTo, AreParts, is_joined_by}
+use Rattle.cfg_build.specs.Tables.{number_in, AreParts, is_joined_by}
 use Rattle.cfg_build.proofs.PartOrder.{is_same_itself, same_of, not_same}
 use Rattle.cfg_build.proofs.PieceNumbers.{part_at, first_piece, number_is}
 
-pub IsIn-room : (execs : ℕ) (table : ByTarget) (t : Target) → HasRoom execs table → IsOf execs t → IsIn table t
-IsIn-room execs table Start room of = tt
-IsIn-room execs table (First k) room of = omega (arith, room.firsts, of)
-IsIn-room execs table (Test k) room of = omega (arith, room.tests, of)
-
 pub differ_back : (t s : Target) → is_same t s ≡ false → is_same s t ≡ false
 differ_back t s apart = not_same s t (λ (same : s ≡ t). false≢true (sym apart ∙ ap (is_same t) same ∙ is_same_itself t))
-
--- ---- the targets of a list of parts
-
-module _ (execs : ℕ) (ps : List Part) (are : AreParts execs ps) where
-  -- a target to which a part leads is one of an executable
-  pub led_of : (t : Target) → IsLedTo ps t → IsOf execs t
-  led_of t led = subst (λ (x : Target). IsOf execs x) led.own (are.owns led.place led.exists)
 
 -- ---- counting ways
 

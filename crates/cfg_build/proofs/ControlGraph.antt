@@ -6,7 +6,7 @@ use Rattle.f77_tree.specs.declared.programs.Exec.{Exec}
 use Rattle.f77_tree.specs.Control.{successors, successors_in, LeadsTo, SuccessorsExist}
 use Rattle.cfg_build.specs.Control.{fan, control, is_reached}
 use Rattle.cfg_build.proofs.Fans.{places_before, get_or-fan, fan_below, IsInFan, cases_fan}
-use Rattle.cfg_build.proofs.ReachedNodes.{IsTold, Reaches, IsEdge, stay, along_last, kept}
+use Rattle.cfg_build.proofs.ReachedNodes.{IsTold, Reaches, IsEdge, stay, along_last}
 
 abbrev pub heads_of : List Exec → List (List ℕ)
 heads_of execs = map (λ exec. successors exec.kind) execs
@@ -107,6 +107,3 @@ module _ (execs : List Exec) (exist : SuccessorsExist execs) where
     -- a successor of an executable that control comes to
     pub reached_next : (k s : ℕ) → k < length execs → is_reached execs k ≡ true → LeadsTo execs k s → is_reached execs s ≡ true
     reached_next k s node h leads = is_reached_of s (along_last (control execs) 0 k s (reached_of k h) (edge_of_lead execs k s node leads))
-
-    pub reached_below : (k : ℕ) → Reaches (control execs) 0 k → k < length execs
-    reached_below k r = kept (control execs) (λ x. x < length execs) (λ e edge here. control_sound.ends e edge) 0 k r some

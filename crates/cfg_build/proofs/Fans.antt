@@ -1,5 +1,5 @@
 -- Edges by the nodes at which they begin: how many there are, at which place each stands, and that there are no others.
-use Rattle.std.proofs.Common.{◌≡◌, ℕ, zero, suc, ◌+◌, ◌-◌, ◌<◌, ◌≤◌, List, [], ◌∷◌, ◌++◌, length, get_or, take, map, sum_by, refl, sym, ap, ◌∙◌, ⊎_elim, add-zero, append_assoc, arith}
+use Rattle.std.proofs.Common.{◌≡◌, ℕ, zero, suc, ◌+◌, ◌-◌, ◌<◌, ◌≤◌, List, [], ◌∷◌, ◌++◌, length, get_or, take, map, sum_by, refl, sym, ap, ◌∙◌, ⊎_elim, add-zero, arith}
 use Rattle.std.proofs.lemmas.Bool.{cases_lt}
 use Rattle.std.proofs.lemmas.List.{length-append, get_or_append_left, get_or-append-add}
 use Rattle.std.proofs.lemmas.List.Sums.{sum_by-cons}
@@ -30,13 +30,6 @@ length-fan first (heads ∷ rest) =
     let e3 : length (fan (suc first) rest) ≡ sum_by (λ heads. length heads) rest = length-fan (suc first) rest in
     let e4 : sum_by (λ heads. length heads) (heads ∷ rest) ≡ length heads + sum_by (λ heads. length heads) rest = sum_by-cons (λ (x : List ℕ). length x) heads rest in
     omega (arith, e1, e2, e3, e4)
-
-pub fan-append : (first : ℕ) (xs ys : List (List ℕ)) → fan first (xs ++ ys) ≡ fan first xs ++ fan (first + length xs) ys
-fan-append first [] ys = ap (λ n. fan n ys) (sym (add-zero first))
-fan-append first (heads ∷ rest) ys =
-    let same : suc first + length rest ≡ first + length (heads ∷ rest) = omega arith in
-    ap (λ (more : List (ℕ × ℕ)). spread first heads ++ more) (fan-append (suc first) rest ys ∙ ap (λ n. fan (suc first) rest ++ fan n ys) same)
-    ∙ sym (append_assoc (spread first heads) (fan (suc first) rest) (fan (first + length (heads ∷ rest)) ys))
 
 places_before_suc : (heads : List ℕ) (rest : List (List ℕ)) (j : ℕ) → places_before (heads ∷ rest) (suc j) ≡ length heads + places_before rest j
 places_before_suc heads rest j = sum_by-cons (λ (x : List ℕ). length x) heads (take j rest)

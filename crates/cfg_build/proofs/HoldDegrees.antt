@@ -100,9 +100,6 @@ module _ (g : FlowGraph) (finish : ℕ) where
   }
 
   module _ (end : finish < g.graph.nodes) (f : FlowGraph) (h : HasHolds f) (e : ℕ) (edge : e < edge_count g.graph) (piece : Piece) where
-    abbrev f' : FlowGraph
-    f' = with_hold finish f e piece
-
     below : e < edge_count f.graph
     below = let more : edge_count g.graph ≤ edge_count f.graph = h.edges in omega (arith, more, edge)
 

@@ -13,9 +13,6 @@ use Rattle.cfg_build.proofs.Lowest.{IsOnCycle, cycle_of, is_on_cycle_from}
 use Rattle.cfg_build.proofs.ReachedNodes.{IsTold, Reaches, stay, join, along_last, kept}
 
 module _ (g : Graph) (sound : IsGraph g) (finish : ℕ) (edge_of : ℕ → ℕ) (hs : List ℕ) (f : Graph) (h : AfterHolds g finish edge_of hs (length hs) f) where
-  abbrev edge_at : ℕ → ℕ
-  edge_at q = edge_of (get_or hs q 0)
-
   abbrev Left : ℕ → Type 0
   Left u = Leaves g finish hs u
 

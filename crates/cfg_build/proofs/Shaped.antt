@@ -9,7 +9,7 @@ use Rattle.cfg_build.specs.declared.pieces.Piece.{Piece}
 use Rattle.cfg_build.specs.declared.pieces.PieceKind.{PieceKind}
 use Rattle.cfg_build.specs.declared.pieces.PieceKind.TheVariants.{Start, Join, Hold, End}
 use Rattle.cfg_build.specs.Parts.{parts}
-use Rattle.cfg_build.specs.Joined.{FlowGraph, rows, finish, joined}
+use Rattle.cfg_build.specs.Joined.{rows, finish, joined}
 use Rattle.cfg_build.specs.Holds.{is_join}
 use Rattle.cfg_build.specs.Flow.{flow, held, piece_at}
 use Rattle.cfg_build.specs.Degrees.{in_degree, out_degree}
@@ -57,9 +57,6 @@ not_join_of End h = refl
 module _ (told : IsTold) (met : IsMet) (names : List NameInfo) (execs : List Exec) (loops : ℕ) (well : AreExecs names execs loops) where
   abbrev g : Graph
   g = row_graph (parts execs) (finish execs)
-
-  abbrev f : FlowGraph
-  f = flow execs
 
   abbrev end : ℕ
   end = finish execs

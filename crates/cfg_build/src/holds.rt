@@ -1,6 +1,6 @@
 //! Holds: pieces that stand where control can't come to the end.
 
-ghost use Rattle.std.specs.Prelude.{◌≡◌, ◌+◌, ◌*◌, ◌<◌, ◌≤◌, ◌^◌, ◌&&◌, ◌↔◌, ◌==◌, ℕ, true, false, not, All, length, filter, fold, slice_index_or, IfOk, OnOk};
+ghost use Rattle.std.specs.Prelude.{◌≡◌, ◌+◌, ◌<◌, ◌^◌, ◌&&◌, ◌==◌, ℕ, true, false, not, All, length, filter, fold, slice_index_or, IfOk, OnOk};
 ghost use Rattle.std.specs.List.{range_with_len, position_or_len};
 ghost use Rattle.closed_walks.specs.Graph.{IsGraph, edge_count};
 ghost use Rattle.cfg_build.specs.Flow.{piece_at};

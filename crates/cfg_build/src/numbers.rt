@@ -5,7 +5,7 @@ ghost use Rattle.cfg_build.specs.declared.parts.Target.{Target};
 ghost use Rattle.cfg_build.specs.declared.parts.Target.TheVariants.{Start};
 ghost use Rattle.cfg_build.specs.Parts.{start_part};
 ghost use Rattle.cfg_build.specs.Joined.{is_same, is_end, ways_to, number, width};
-ghost use Rattle.cfg_build.specs.Tables.{number_in, IsIn, HasRoom, IsLedTo, AreParts, is_joined_by};
+ghost use Rattle.cfg_build.specs.Tables.{number_in, IsIn, HasRoom, AreParts, is_joined_by};
 
 use crate::parts::{Part, Target};
 use crate::pieces::PieceKind;

@@ -1,6 +1,6 @@
 //! The parts that the executables of a program have in its flow graph, each with where it leads.
 
-ghost use Rattle.std.specs.Prelude.{◌≡◌, ◌+◌, ◌<◌, ◌++◌, ◌∷◌, [], ℕ, false, length, map, IfOk, OnOk, slice_index, slice_index_or, slice_get, Option};
+ghost use Rattle.std.specs.Prelude.{◌≡◌, ◌+◌, ◌<◌, ◌++◌, ◌∷◌, [], ℕ, false, length, IfOk, OnOk, slice_index, slice_index_or, slice_get, Option};
 ghost use Rattle.std.specs.Option.{option_map};
 ghost use Rattle.f77_tree.specs.Loops.{begun, do_start, Loop};
 ghost use Rattle.f77_tree.specs.WellFormed.{IsWellFormed};

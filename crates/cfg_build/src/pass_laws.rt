@@ -1,6 +1,6 @@
 //! Laws on runs through flow graphs, as contracts of functions that do nothing.
 
-ghost use Rattle.std.specs.Prelude.{◌≡◌, ◌≢◌, ◌≤◌, ◌<◌, ℕ, suc, ℤ, List, Some, true, length, slice_get, All};
+ghost use Rattle.std.specs.Prelude.{◌≡◌, ◌≢◌, ◌≤◌, ◌<◌, ℕ, suc, ℤ, List, Some, true, slice_get, All};
 ghost use Rattle.op_table.specs.Words.{IsWord};
 ghost use Rattle.closed_walks.specs.Graph.{edge_count, from, to};
 ghost use Rattle.f77_tree.specs.declared.programs.Exec.{Exec};

@@ -1,6 +1,6 @@
 //! Which executables control can come to.
 
-ghost use Rattle.std.specs.Prelude.{◌≡◌, ◌+◌, ◌-◌, ◌<◌, ◌^◌, ℕ, [], ◌∷◌, ◌++◌, All, length, map, IfOk, OnOk, slice_index_or, false};
+ghost use Rattle.std.specs.Prelude.{◌≡◌, ◌+◌, ◌<◌, ◌^◌, ℕ, [], ◌∷◌, ◌++◌, All, length, map, IfOk, OnOk, slice_index_or, false};
 ghost use Rattle.closed_walks.specs.Graph.{edge_count};
 ghost use Rattle.f77_tree.specs.Control.{successors};
 ghost use Rattle.f77_tree.specs.WellFormed.{IsWellFormed};

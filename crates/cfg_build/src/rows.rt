@@ -1,7 +1,7 @@
 //! The pieces in the order of their numbers, and the edges in the order of theirs.
 
 ghost use Rattle.std.specs.Prelude.{◌≡◌, ◌+◌, ◌<◌, ◌^◌, ℕ, [], ◌∷◌, ◌++◌, All, length, map, slice_index_or, IfOk, OnOk};
-ghost use Rattle.closed_walks.specs.Graph.{Graph, IsGraph};
+ghost use Rattle.closed_walks.specs.Graph.{IsGraph};
 ghost use Rattle.cfg_build.specs.declared.parts.Target.{Target};
 ghost use Rattle.cfg_build.specs.Control.{fan};
 ghost use Rattle.cfg_build.specs.Parts.{start_part};

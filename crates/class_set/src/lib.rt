@@ -1,7 +1,7 @@
 //! Small sets of numbers, as of the alias classes that a statement touches.
 #![tactic(auto)]
 
-ghost use Rattle.std.specs.Prelude.{◌≡◌, ◌*◌, ◌<◌, ◌≤◌, ◌↔◌, ◌==◌, ◌||◌, ◌&&◌, ℕ, false, true, not, IsTrue, MatchOption, IfSome, All};
+ghost use Rattle.std.specs.Prelude.{◌≡◌, ◌*◌, ◌<◌, ◌≤◌, ◌↔◌, ◌==◌, ◌||◌, ◌&&◌, ℕ, false, true, not, IsTrue, MatchOption, IfSome};
 ghost use Rattle.class_set.specs.Members.{first_above, IsNext, IsLast, IsWidth};
 
 mod words;

@@ -1,6 +1,6 @@
 -- Marks of the nodes from which a node is reached.
-use Rattle.std.proofs.Common.{◌≡◌, ℕ, ◌<◌, ◌⊎◌, ◌↔◌, Bool, true, false, List, [], ◌∷◌, length, set, refl, sym, ◌∙◌, subst, inl, inr, ⊎_elim, arith, get_or-set_same, length-set}
-use Rattle.std.proofs.lemmas.Bool.{cases_Bool, false≢true}
+use Rattle.std.proofs.Common.{◌≡◌, ℕ, ◌<◌, ◌⊎◌, ◌↔◌, Bool, true, false, List, [], ◌∷◌, length, set, subst, inl, inr, ⊎_elim, arith, get_or-set_same, length-set}
+use Rattle.std.proofs.lemmas.Bool.{cases_Bool}
 use Rattle.closed_walks.specs.Graph.{Graph, edge_count, from, to}
 use Rattle.closed_walks.specs.Walk.{Reach, no_edge}
 use Rattle.closed_walks.specs.Search.{is_visited, Leads, IsOpen, Nothing}
@@ -34,47 +34,12 @@ module _ (g : Graph) (node : ℕ) where
   module _ (before : List Bool) (size : length before ≡ g.nodes) (closed : IsClosedBack g before) (exists : node < g.nodes) where
     pub IsMarking-begin : IsMarking g node before (set before node true) (node ∷ [])
     IsMarking-begin =
-        let inside : node < length before = omega (arith, size, exists) in
-        record {
-          leaves = record {
-            nodes = length-set before node true ∙ (size ∙ sym (nodes-turned g));
-            waiting = λ v holds. ⊎_elim
-                (λ (same : node ≡ v). subst (λ n. is_visited (set before node true) n ≡ true) same (get_or-set_same before node true false inside))
-                (λ none. absurd none)
-                holds;
-            leaving = λ e edge other tail head.
-                let outside = visited-not before node (to (turned g) e) inside head in
-                ⊎_elim
-                (λ (same : from (turned g) e ≡ node). inl (inl (sym same)))
-                (λ (old : is_visited before (from (turned g) e) ≡ true).
-                absurd (false≢true (sym outside.1 ∙ (rw (to-turned g e) (closed e (omega (arith, edge, edge_count-turned g)) (subst (λ n. is_visited before n ≡ true) (from-turned g e) old))))))
-                (visited-cases before node (from (turned g) e) tail);
-          };
-          begun = get_or-set_same before node true false inside;
-          kept_on = λ v old. visited-old before node v inside old;
-          reached = λ v now. ⊎_elim
-              (λ (same : v ≡ node). inr (stay (turned g) no_edge node v (sym same)))
-              (λ old. inl old)
-              (visited-cases before node v now);
-          size = length-set before node true;
-        }
+        grind (arith, length-set, nodes-turned, get_or-set_same, visited-not, to-turned, edge_count-turned, from-turned, visited-cases, visited-old, stay)
 
   -- a node of the frontier was gone through
   pub IsMarking-step : (before marks after : List Bool) (frontier next : List ℕ) (u : ℕ) → IsClosedBack g before → IsMarking g node before marks frontier → is_visited marks u ≡ true → IsOpen (turned g) (edge_count g) after next Nothing → ((v : ℕ) → is_visited after v ≡ true → (is_visited marks v ≡ true) ⊎ Leads (turned g) (edge_count g) u v) → ((v : ℕ) → is_visited marks v ≡ true → is_visited after v ≡ true) → length after ≡ length marks → IsMarking g node before after next
-  IsMarking-step before marks after frontier next u closed m here leaves grown kept_now size = record {
-    leaves = leaves;
-    begun = kept_now node m.begun;
-    kept_on = λ v old. kept_now v (m.kept_on v old);
-    reached = λ v now. ⊎_elim
-        (λ old. m.reached v old)
-        (λ (l : Leads (turned g) (edge_count g) u v). ⊎_elim
-        (λ (old : is_visited before u ≡ true). inl (subst (λ n. is_visited before n ≡ true) (sym (to-turned g l.edge) ∙ l.ends)
-        (closed l.edge (omega (arith, l.exists, edge_count-turned g)) (subst (λ n. is_visited before n ≡ true) (sym l.begins ∙ from-turned g l.edge) old))))
-        (λ (way : Reach (turned g) no_edge node u). inr (subst (λ n. Reach (turned g) no_edge node n) l.ends (along_last (turned g) no_edge l.edge node l.exists refl (subst (λ n. Reach (turned g) no_edge node n) (sym l.begins) way))))
-        (m.reached u here))
-        (grown v now);
-    size = size ∙ m.size;
-  }
+  IsMarking-step before marks after frontier next u closed m here leaves grown kept_now size =
+      grind (arith, to-turned, edge_count-turned, from-turned, along_last)
 
   -- with nothing on the frontier the marked nodes are those that were, and those from which the node is reached
   pub IsMarking-end : (before marks : List Bool) → IsMarking g node before marks [] → (v : ℕ) → (is_visited marks v ≡ true) ↔ ((is_visited before v ≡ true) ⊎ Reach g no_edge v node)
@@ -90,7 +55,4 @@ module _ (g : Graph) (node : ℕ) where
 
   -- so they are closed again
   pub closed_again : (before marks : List Bool) → IsClosedBack g before → ((v : ℕ) → (is_visited marks v ≡ true) ↔ ((is_visited before v ≡ true) ⊎ Reach g no_edge v node)) → IsClosedBack g marks
-  closed_again before marks closed are e edge tail = (are (from g e)).1 (⊎_elim
-      (λ (old : is_visited before (to g e) ≡ true). inl (closed e edge old))
-      (λ (way : Reach g no_edge (to g e) node). inr (along_first g no_edge e node edge refl way))
-      ((are (to g e)).0 tail))
+  closed_again before marks closed are e edge tail = grind (arith, along_first)

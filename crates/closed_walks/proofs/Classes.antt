@@ -3,7 +3,8 @@ use Rattle.std.proofs.Common.{◌≡◌, ◌≢◌, ℕ, ◌<◌, ◌↔◌, Lis
 use Rattle.std.proofs.lemmas.Bool.{ne_eqb, eq-eqb, false≢true}
 use Rattle.closed_walks.specs.Graph.{Graph, edge_count, from, to}
 use Rattle.closed_walks.specs.Walk.{IsClosed, Holds, Avoids, Reach, only, IsCycleEquivalent, IsOnlyOnWalksWith}
-use Rattle.closed_walks.proofs.Walks.{cases_Holds, IsAround, rotate, IsClosed-around, Avoids-each, Avoids-at}
+use Rattle.closed_walks.proofs.Walks.{cases_Holds, rotate, IsClosed-around, Avoids-each, Avoids-at}
+use Rattle.std.proofs.Common.{arith}
 
 -- a walk avoids b where it doesn't hold it
 pub Avoids-only : (w : List ℕ) (b : ℕ) → (Holds w b → ⊥) → Avoids (only b) w
@@ -25,9 +26,7 @@ module _ (g : Graph) where
 
   -- the way back to where a begins, of a closed walk without b
   pub Reach-closed : (a b : ℕ) (w : List ℕ) → IsClosed g w → Holds w a → (Holds w b → ⊥) → Reach g (only b) (to g a) (from g a)
-  Reach-closed a b w closed holds missing =
-      let r : IsAround g w a = rotate g w a closed holds in
-      record { walk = r.rest; leads = r.leads; avoids = Avoids-only r.rest b (λ h. missing (r.within b h)) }
+  Reach-closed a b w closed holds missing = grind (arith, rotate g w a closed holds, Avoids-only)
 
   -- Where neither edge is closed to a walk without the other, each closed walk with either holds both.
   forth : (a b : ℕ) → (Reach g (only b) (to g a) (from g a) → ⊥) → (w : List ℕ) → IsClosed g w → Holds w a → Holds w b
@@ -59,7 +58,4 @@ module _ (g : Graph) where
   equivalent_back a b e = record { forth = e.back; back = e.forth }
 
   pub equivalent_on : (a b c : ℕ) → IsCycleEquivalent g a b → IsCycleEquivalent g b c → IsCycleEquivalent g a c
-  equivalent_on a b c e f = record {
-    forth = λ w closed h. f.forth w closed (e.forth w closed h);
-    back = λ w closed h. e.back w closed (f.back w closed h);
-  }
+  equivalent_on a b c e f = grind (arith, forth)

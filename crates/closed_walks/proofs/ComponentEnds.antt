@@ -1,5 +1,5 @@
 -- The end of a component in a walk: its nodes are on cycles, or it is one node without a loop.
-use Rattle.std.proofs.Common.{◌≡◌, ◌≢◌, ℕ, ◌+◌, ◌<◌, ◌≤◌, ◌⊎◌, ◌↔◌, Bool, true, false, List, [], ◌∷◌, ◌++◌, length, get_or, take, drop, refl, sym, ap, ◌∙◌, subst, inl, inr, ⊎_elim, arith}
+use Rattle.std.proofs.Common.{◌≡◌, ◌≢◌, ℕ, ◌+◌, ◌<◌, ◌≤◌, ◌⊎◌, ◌↔◌, Bool, true, false, List, [], ◌∷◌, length, get_or, take, drop, refl, sym, ap, ◌∙◌, subst, inl, inr, ⊎_elim, arith}
 use Rattle.std.proofs.lemmas.Bool.{cases_eq, cases_lt}
 use Rattle.std.proofs.lemmas.List.{get_or-take, length-take-le}
 use Rattle.closed_walks.specs.Graph.{Graph, from, to}
@@ -21,12 +21,8 @@ Turns g avoided members first = (first + 1 < length members) ⊎ HasEdge g avoid
 -- two nodes that reach one another are on cycles
 cycle_through : (g : Graph) (avoided : ℕ → Bool) (u v : ℕ) → u ≢ v → (w x : List ℕ) → Walk g u w v → Avoids avoided w → Walk g v x u → Avoids avoided x → IsOnCycle g avoided u
 cycle_through g avoided u v apart [] x there free back free_back = absurd (apart there)
-cycle_through g avoided u v apart (e ∷ w) x there free back free_back = record {
-  first = e;
-  rest = w ++ x;
-  closed = Walk-append g u v u (e ∷ w) x there back;
-  avoids = Avoids-append avoided (e ∷ w) x free free_back;
-}
+cycle_through g avoided u v apart (e ∷ w) x there free back free_back =
+    grind (arith, Walk-append g u v u (e ∷ w) x there back, Avoids-append avoided (e ∷ w) x free free_back)
 
 module _ (g : Graph) (avoided : ℕ → Bool) (stages : List Stage) (marks : List Bool) (members bounds pending : List ℕ) (s : IsState g avoided Nothing stages marks members bounds pending) where
   -- all that is reached from a node that is done is done
@@ -42,10 +38,7 @@ module _ (g : Graph) (avoided : ℕ → Bool) (stages : List Stage) (marks : Lis
 
     -- the edges of the members of the last segment are settled
     settled_edge : (e p : ℕ) → IsFree g avoided e → stage_of stages (from g e) ≡ Member p → first ≤ p → IsSettled bounds p (stage_of stages (to g e))
-    settled_edge e p free is after = ⊎_elim
-        (λ holds. let low = stands-below (stage_of stages (from g e)) p first is (scanned e holds) in absurd (omega (arith, low, after)))
-        (⊎_elim (λ h. h) (λ none. absurd none))
-        (s.settled e p free is)
+    settled_edge e p free is after = grind (arith, stands-below (stage_of stages (from g e)) p first is)
 
     in_last : (p q : ℕ) → first ≤ p → first ≤ q → p < length members → q < length members → Reach g avoided (get_or members p 0) (get_or members q 0)
     in_last p q after_p after_q in_p in_q = s.reaches p q in_p in_q
@@ -54,11 +47,7 @@ module _ (g : Graph) (avoided : ℕ → Bool) (stages : List Stage) (marks : Lis
     -- two nodes of the segment reach one another
     cycle_of_two : (p q : ℕ) → p ≢ q → first ≤ p → first ≤ q → p < length members → q < length members → IsOnCycle g avoided (get_or members p 0)
     cycle_of_two p q apart after_p after_q in_p in_q =
-        let there = in_last p q after_p after_q in_p in_q in
-        let back = in_last q p after_q after_p in_q in_p in
-        cycle_through g avoided (get_or members p 0) (get_or members q 0)
-        (λ same. apart (Member-same p q (sym (s.stage_at p in_p) ∙ (ap (stage_of stages) same ∙ s.stage_at q in_q))))
-        there.walk back.walk there.leads there.avoids back.leads back.avoids
+        grind (arith, in_last p q after_p after_q in_p in_q, in_last q p after_q after_p in_q in_p, cycle_through g avoided (get_or members p 0) (get_or members q 0), Member-same p q)
 
     cycle_of_loop : HasEdge g avoided (get_or members first 0) (get_or members first 0) → IsOnCycle g avoided (get_or members first 0)
     cycle_of_loop h = record { first = h.edge; rest = []; closed = (h.free.exists, h.begins, h.ends); avoids = (h.free.free, tt) }
@@ -105,23 +94,13 @@ module _ (g : Graph) (avoided : ℕ → Bool) (stages : List Stage) (marks : Lis
       gone_at v h = ap (stage_of stages) (sym h.is) ∙ s.stage_at h.at h.within
 
       stays : (v p : ℕ) → stage_of stages v ≡ Member p → p < first → stage_of new_stages v ≡ Member p
-      stays v p is low = d.other_stage v
-          (λ holds.
-          let h : StandsFrom members first v = from-Holds members first v holds in
-          let same : p ≡ h.at = Member-same p h.at (sym is ∙ gone_at v h) in
-          absurd (omega (arith, same, low, h.after)))
-          ∙ is
+      stays v p is low = grind (arith, from-Holds members first v, Member-same p, gone_at v)
 
       done_stays : (v : ℕ) → stage_of stages v ≡ Done → stage_of new_stages v ≡ Done
       done_stays v is = ⊎_elim (λ holds. d.done v holds) (λ none. d.other_stage v none ∙ is) (cases_Holds (drop first members) v)
 
       was_member : (v p : ℕ) → stage_of new_stages v ≡ Member p → (stage_of stages v ≡ Member p) × (p < first)
-      was_member v p is = ⊎_elim
-          (λ holds. absurd (Member-done (stage_of new_stages v) p (d.done v holds) is))
-          (λ none.
-          let old : stage_of stages v ≡ Member p = sym (d.other_stage v none) ∙ is in
-          (old, ⊎_elim (λ (low : p < first). low) (λ (after : first ≤ p). absurd (none (gone v p old after))) (cases_lt p first)))
-          (cases_Holds (drop first members) v)
+      was_member v p is = grind (arith, Member-done (stage_of new_stages v), gone v)
 
       size : length (take first members) ≡ first
       size = length-take-le first members (omega (arith, in_first))
@@ -131,8 +110,7 @@ module _ (g : Graph) (avoided : ℕ → Bool) (stages : List Stage) (marks : Lis
 
       begins_old : (e : ℕ) → Holds pending e → stage_of new_stages (from g e) ≡ stage_of stages (from g e)
       begins_old e holds =
-          let is = s.waiting.begin e holds in
-          stays (from g e) (place (stage_of stages (from g e))) is (stands-below (stage_of stages (from g e)) (place (stage_of stages (from g e))) first is (scanned e holds)) ∙ sym is
+          grind (arith, stays (from g e) (place (stage_of stages (from g e))), stands-below (stage_of stages (from g e)) (place (stage_of stages (from g e))) first)
 
       settled_end : (e p : ℕ) → IsFree g avoided e → stage_of new_stages (from g e) ≡ Member p → Holds pending e ⊎ (IsSettled l.prefix p (stage_of new_stages (to g e)) ⊎ Nothing e)
       settled_end e p free is =

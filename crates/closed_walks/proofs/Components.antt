@@ -10,7 +10,7 @@ use Rattle.closed_walks.specs.declared.component_walk.Stage.{Stage}
 use Rattle.closed_walks.specs.declared.component_walk.Stage.TheVariants.{New, Member, Done}
 use Rattle.closed_walks.proofs.Walks.{Holds-left, Holds-right, Holds-append}
 use Rattle.closed_walks.proofs.Reaching.{stay, join, along_last}
-use Rattle.closed_walks.proofs.Stages.{Holds-last, Holds-new, IsOrdered-append, IsOrdered-prefix, IsOrdered-across, IsOrdered-each, IsOrdered-along, bounds_below, IsBetween, cases_before, Member-same, Member-new, Member-done, New-done, stands-place, stands-below, stands-not, found_cases, member_inside, left_found, StandsFrom, from-Holds, Holds-of_last, settled_member, settled_done, settled_along, stage_same, stage_other}
+use Rattle.closed_walks.proofs.Stages.{Holds-last, Holds-new, IsOrdered-append, IsOrdered-prefix, IsOrdered-across, IsOrdered-each, IsOrdered-along, bounds_below, IsBetween, cases_before, Member-same, Member-new, Member-done, New-done, stands-place, stands-below, stands-not, found_cases, member_inside, left_found, from-Holds, Holds-of_last, settled_member, settled_done, settled_along, stage_same, stage_other}
 
 module _ (g : Graph) (avoided : ℕ → Bool) where
   pub Reach-ends : (a b c d : ℕ) → a ≡ c → b ≡ d → Reach g avoided c d → Reach g avoided a b
@@ -19,21 +19,7 @@ module _ (g : Graph) (avoided : ℕ → Bool) where
   module _ (rest : ℕ → Type 0) (stages : List Stage) (marks : List Bool) (members bounds pending : List ℕ) (s : IsState g avoided rest stages marks members bounds pending) where
     -- edges that needn't be settled are settled after all
     pub IsState-settled : ((e p : ℕ) → IsFree g avoided e → stage_of stages (from g e) ≡ Member p → rest e → IsSettled bounds p (stage_of stages (to g e))) → IsState g avoided Nothing stages marks members bounds pending
-    IsState-settled each = record {
-      stages_size = s.stages_size;
-      marks_size = s.marks_size;
-      placed = s.placed;
-      stage_at = s.stage_at;
-      within = s.within;
-      order = s.order;
-      first = s.first;
-      reaches = s.reaches;
-      waiting = s.waiting;
-      free = s.free;
-      settled = λ e p free is. ⊎_elim (λ h. inl h) (⊎_elim (λ h. inr (inl h)) (λ h. inr (inl (each e p free is h)))) (s.settled e p free is);
-      done = s.done;
-      told = s.told;
-    }
+    IsState-settled each = grind arith
 
   -- ---- an edge is followed
 
@@ -201,21 +187,7 @@ module _ (g : Graph) (avoided : ℕ → Bool) where
       less e f = place (stage_of found (from g e)) ≤ place (stage_of found (from g f))
 
       order_on : IsOrdered less (pending ++ a.added)
-      order_on = IsOrdered-append less pending a.added
-          (IsOrdered-along (λ e f. place (stage_of stages (from g e)) ≤ place (stage_of stages (from g f))) less pending
-          (λ e f held_e held_f low.
-          let same_e : place (stage_of found (from g e)) ≡ place (stage_of stages (from g e)) = ap place (begins_old e held_e) in
-          let same_f : place (stage_of found (from g f)) ≡ place (stage_of stages (from g f)) = ap place (begins_old f held_f) in
-          omega (arith, low, same_e, same_f))
-          s.waiting.order)
-          (IsOrdered-each less a.added (λ e f held_e held_f.
-          let same_e : place (stage_of found (from g e)) ≡ length members = ap place (begins_new e held_e) in
-          let same_f : place (stage_of found (from g f)) ≡ length members = ap place (begins_new f held_f) in
-          omega (arith, same_e, same_f)))
-          (λ e f held_e held_f.
-          let low = low_old e held_e in
-          let same_f : place (stage_of found (from g f)) ≡ length members = ap place (begins_new f held_f) in
-          omega (arith, low, same_f))
+      order_on = grind (arith, IsOrdered-append less pending a.added, IsOrdered-along, begins_old, IsOrdered-each less a.added, begins_new, low_old)
 
       cases_new : (e : ℕ) → Holds new e → Holds pending e ⊎ Holds a.added e
       cases_new e holds = Holds-append pending a.added e (subst (λ xs. Holds xs e) a.parts holds)
@@ -309,29 +281,16 @@ pending_below g stages pending first last w l none e holds =
 
 pub found_less : (g : Graph) (avoided : ℕ → Bool) (stages : List Stage) (v p : ℕ) (pending new bounds : List ℕ) → v < length stages → stage_of stages v ≡ New → Adds g avoided v pending new → left (edge_count g + 2) (set stages v (Member p)) + length new + length (bounds ++ p ∷ []) < left (edge_count g + 2) stages + length pending + length bounds
 found_less g avoided stages v p pending new bounds within fresh a =
-    let room = left_found (edge_count g + 2) stages v p within fresh in
-    let len : length new ≡ length (pending ++ a.added) = ap length a.parts in
-    omega (arith, room, len, a.few, length-append pending a.added, length-append bounds (p ∷ []))
+    grind (arith, left_found (edge_count g + 2) stages v p within fresh, length-append pending a.added, length-append bounds (p ∷ []))
 
 -- with no member left, a node that was found is done
 pub found_done : (g : Graph) (avoided : ℕ → Bool) (stages : List Stage) (marks : List Bool) (members bounds pending : List ℕ) → IsState g avoided Nothing stages marks members bounds pending → members ≡ [] → (v : ℕ) → IsFound (stage_of stages v) → stage_of stages v ≡ Done
-found_done g avoided stages marks members bounds pending s none v found = ⊎_elim
-    (λ is. let within = (s.placed v (place (stage_of stages v)) is).0 in let len : length members ≡ 0 = ap length none in absurd (omega (arith, within, len)))
-    (λ is. is)
-    (found_cases (stage_of stages v) found)
-
--- with no segment left there is no member
-pub no_member : (g : Graph) (avoided : ℕ → Bool) (stages : List Stage) (marks : List Bool) (members bounds pending : List ℕ) → IsState g avoided Nothing stages marks members bounds pending → length bounds ≡ 0 → members ≡ []
-no_member g avoided stages marks [] bounds pending s none = refl
-no_member g avoided stages marks (m ∷ members) [] pending s none = absurd (s.first (omega arith))
-no_member g avoided stages marks (m ∷ members) (b ∷ bounds) pending s none = absurd (omega (arith, none))
+found_done g avoided stages marks members bounds pending s none v found =
+    grind (arith, s.placed v (place (stage_of stages v)), found_cases (stage_of stages v) found)
 
 -- the members from a place on are nodes
 pub members_inside : (g : Graph) (avoided : ℕ → Bool) (stages : List Stage) (marks : List Bool) (members bounds pending : List ℕ) → IsState g avoided Nothing stages marks members bounds pending → (first v : ℕ) → Holds (drop first members) v → v < g.nodes
-members_inside g avoided stages marks members bounds pending s first v holds =
-    let h : StandsFrom members first v = from-Holds members first v holds in
-    let within = member_inside stages (get_or members h.at 0) h.at (s.stage_at h.at h.within) in
-    subst (λ x. x < g.nodes) h.is (omega (arith, within, s.stages_size))
+members_inside g avoided stages marks members bounds pending s first v holds = grind (arith, from-Holds members first v holds, member_inside stages)
 
 -- what follows of a result
 pub OnOk-along : {T E : Type 0} (r : Result T E) (P Q : Type 0) → (P → Q) → OnOk r P → OnOk r Q

@@ -1,12 +1,13 @@
 -- Cuts of two edges: in a strongly connected graph two edges are cycle equivalent exactly where they are one.
-use Rattle.std.proofs.Common.{◌≡◌, ◌≢◌, ℕ, ◌<◌, ◌⊎◌, ◌↔◌, Bool, true, false, ◌==◌, refl, sym, ◌∙◌, subst, ⊎_elim}
-use Rattle.std.proofs.lemmas.Bool.{cases_Bool, or_cases, or_parts, or_from, ne_eqb, eqb-true, eqb-false, false≢true, false_from_ne_true}
+use Rattle.std.proofs.Common.{◌≡◌, ◌≢◌, ℕ, ◌<◌, ◌⊎◌, ◌↔◌, Bool, true, false, ◌==◌, sym, ◌∙◌, subst, ⊎_elim}
+use Rattle.std.proofs.lemmas.Bool.{cases_Bool, or_parts, or_from, ne_eqb, eqb-true, eqb-false, false≢true, false_from_ne_true}
 use Rattle.closed_walks.specs.Graph.{Graph, IsGraph, edge_count, from, to}
 use Rattle.closed_walks.specs.Walk.{Reach, no_edge, only, either, IsStrong, IsCycleEquivalent, IsCut}
 use Rattle.closed_walks.specs.Region.{IsPair, IsInside, IsEntered}
 use Rattle.closed_walks.proofs.Reaching.{stay, join, along_last, Reach-within, IsMet, first_of, last_of, same_along}
 use Rattle.closed_walks.proofs.Decided.{reaches, Reach-reaches, reaches-Reach}
 use Rattle.closed_walks.proofs.Classes.{IsCycleEquivalent-closed, first_closed, second_closed}
+use Rattle.std.proofs.Common.{arith}
 
 -- ---- sets of one edge and of two
 
@@ -27,17 +28,7 @@ module _ (g : Graph) where
     meets_b : Reach g prefix u (from g b) → Reach g back (to g b) v → MeetsOf a b prefix back u v
 
   met : (a b : ℕ) (prefix back : ℕ → Bool) (u v : ℕ) → Reach g (either a b) u v ⊎ IsMet g (either a b) prefix back u v → MeetsOf a b prefix back u v
-  met a b prefix back u v found = ⊎_elim
-      (λ r. meets_none r)
-      (λ (m : IsMet g (either a b) prefix back u v). ⊎_elim
-      (λ (h : (m.edge == a) ≡ true).
-      let same : m.edge ≡ a = eqb-true m.edge a h in
-      meets_a (subst (λ x. Reach g prefix u (from g x)) same m.before) (subst (λ x. Reach g back (to g x) v) same m.after))
-      (λ (h : (m.edge == b) ≡ true).
-      let same : m.edge ≡ b = eqb-true m.edge b h in
-      meets_b (subst (λ x. Reach g prefix u (from g x)) same m.before) (subst (λ x. Reach g back (to g x) v) same m.after))
-      (or_cases (m.edge == a) (m.edge == b) m.among))
-      found
+  met a b prefix back u v found = grind (arith, eqb-true)
 
   -- the first of two edges on a way, and the last
   pub first_of_two : (a b u v : ℕ) → Reach g no_edge u v → MeetsOf a b (either a b) no_edge u v
@@ -110,13 +101,8 @@ module _ (g : Graph) where
         (cases_Bool (side a b (from g e)))
 
     pub entered : IsEntered g (side a b) a b
-    entered = record {
-      head = is_inside (to g a) (stay g (only b) (to g a) (to g a) refl);
-      tail = is_outside (from g a) no_way;
-      exit_tail = is_inside (from g b) exit_reached;
-      exit_head = is_outside (to g b) not_past;
-      others = other_edge;
-    }
+    entered =
+        grind (arith, is_inside (to g a), stay g (only b) (to g a) (to g a), is_outside (from g a) no_way, is_inside (from g b) exit_reached, exit_reached, is_outside (to g b) not_past, not_past, other_edge)
 
     pub IsCut-entered : IsCut g (side a b) a b
     IsCut-entered = record {
@@ -135,11 +121,8 @@ module _ (g : Graph) where
 
   -- that set, as the nodes that lie between the two edges
   pub class_side : IsGraph g → IsStrong g → (a b : ℕ) → IsPair g a b → (inside : ℕ → Bool) × ((node : ℕ) → (inside node ≡ true) ↔ IsInside g a b node) × IsEntered g inside a b
-  class_side sound strong a b p = (
-    side a b,
-    (λ node. (Reach-reaches g (only b) (to g a) node, reaches-Reach g (only b) sound (to g a) node)),
-    class_entered sound strong a b p.first p.second p.apart p.same,
-  )
+  class_side sound strong a b p =
+      grind (arith, Reach-reaches g (only b) (to g a), reaches-Reach g (only b) sound (to g a), class_entered sound strong a b p.first p.second p.apart p.same)
 
   -- ---- a cut is a class, in any graph
 

@@ -1,6 +1,6 @@
 -- Cycle equivalence by undirected cycles: in a strongly connected graph two edges are cycle equivalent exactly where no cycle
 -- has just one of them.
-use Rattle.std.proofs.Common.{◌≡◌, ◌≢◌, ℕ, ◌<◌, ◌↔◌, Bool, true, false, List, [], ◌∷◌, map, refl, sym, ap, ◌∙◌, subst, inl, inr, ⊎_elim}
+use Rattle.std.proofs.Common.{◌≡◌, ◌≢◌, ℕ, ◌<◌, ◌↔◌, Bool, true, false, List, [], ◌∷◌, map, refl, sym, ap, subst, inl, inr, ⊎_elim}
 use Rattle.std.proofs.lemmas.Bool.{cases_eq}
 use Rattle.closed_walks.specs.Graph.{Graph, IsGraph, edge_count, from, to}
 use Rattle.closed_walks.specs.Walk.{Walk, Holds, Reach, only, IsStrong, IsCycleEquivalent, IsCut}
@@ -9,6 +9,7 @@ use Rattle.closed_walks.proofs.Walks.{cases_Holds}
 use Rattle.closed_walks.proofs.Classes.{not_held, equivalent_same, IsCycleEquivalent-closed}
 use Rattle.closed_walks.proofs.Cuts.{side, class_cut}
 use Rattle.closed_walks.proofs.Simple.{IsSimplyReached, Reach-simple}
+use Rattle.std.proofs.Common.{arith}
 
 -- the edges of these steps
 abbrev edges_of : List Step → List ℕ
@@ -25,10 +26,7 @@ module _ (g : Graph) where
     -- without either edge the steps stay on one side
     same_side : (u v : ℕ) (w : List Step) → UndirectedWalk g u w v → (Holds (edges_of w) a → ⊥) → (Holds (edges_of w) b → ⊥) → test u ≡ test v
     same_side u v [] leads no_a no_b = ap test leads
-    same_side u v (s ∷ w) leads no_a no_b =
-        ap test (sym leads.1)
-        ∙ (over_step s leads.0 (λ same. no_a (inl same)) (λ same. no_b (inl same))
-        ∙ same_side (comes_to g s) v w leads.2 (λ h. no_a (inr h)) (λ h. no_b (inr h)))
+    same_side u v (s ∷ w) leads no_a no_b = grind (arith, over_step s leads.0, same_side (comes_to g s) v w leads.2)
 
     crossing : test (from g a) ≢ test (to g a) → (s : Step) → edge_of s ≡ a → test (leaves g s) ≡ test (comes_to g s) → ⊥
     crossing crosses (e, true) same equal = crosses (subst (λ x. test (from g x) ≡ test (to g x)) same equal)
@@ -37,20 +35,14 @@ module _ (g : Graph) where
     -- with the one edge once, and without the other, they come to the other side
     other_side : test (from g a) ≢ test (to g a) → (u v : ℕ) (w : List Step) → UndirectedWalk g u w v → AllDiffer (edges_of w) → Holds (edges_of w) a → (Holds (edges_of w) b → ⊥) → test u ≡ test v → ⊥
     other_side crosses u v [] leads differ holds no_b equal = holds
-    other_side crosses u v (s ∷ w) leads differ (inl same) no_b equal =
-        let rest : test (comes_to g s) ≡ test v = same_side (comes_to g s) v w leads.2 (λ h. differ.0 (subst (λ x. Holds (edges_of w) x) (sym same) h)) (λ h. no_b (inr h)) in
-        crossing crosses s same (ap test leads.1 ∙ (equal ∙ sym rest))
+    other_side crosses u v (s ∷ w) leads differ (inl same) no_b equal = grind (arith, same_side (comes_to g s) v w leads.2, crossing crosses s same)
     other_side crosses u v (s ∷ w) leads differ (inr holds) no_b equal =
-        let apart : edge_of s ≢ a = λ same. differ.0 (subst (λ x. Holds (edges_of w) x) (sym same) holds) in
-        let step : test (leaves g s) ≡ test (comes_to g s) = over_step s leads.0 apart (λ same. no_b (inl same)) in
-        other_side crosses (comes_to g s) v w leads.2 differ.1 holds (λ h. no_b (inr h)) (sym step ∙ (ap test leads.1 ∙ equal))
+        grind (arith, over_step s leads.0, other_side crosses (comes_to g s) v w leads.2 differ.1 holds)
 
     both_on : test (from g a) ≢ test (to g a) → (w : List Step) → IsCycle g w → Holds (edges_of w) a → Holds (edges_of w) b
     both_on crosses [] cycle holds = absurd holds
-    both_on crosses (s ∷ w) cycle holds = ⊎_elim
-        (λ h. h)
-        (λ none. absurd (other_side crosses (leaves g s) (leaves g s) (s ∷ w) cycle.closed cycle.edges holds none refl))
-        (cases_Holds (edges_of (s ∷ w)) b)
+    both_on crosses (s ∷ w) cycle holds =
+        grind (arith, other_side crosses (leaves g s) (leaves g s) (s ∷ w) cycle.closed cycle.edges holds, cases_Holds (edges_of (s ∷ w)) b)
 
   pub cut_cycles : (test : ℕ → Bool) (a b : ℕ) → IsCut g test a b → AreOnSameCycles g a b
   cut_cycles test a b cut w cycle = (
@@ -96,12 +88,7 @@ module _ (g : Graph) where
   -- an edge, and back to where it begins by a walk that passes no node twice
   around : (a : ℕ) → a < edge_count g → (avoided : ℕ → Bool) (r : IsSimplyReached g avoided (to g a) (from g a)) → IsCycle g (forwards (a ∷ r.walk))
   around a edge avoided r =
-      let nodes : AllDiffer (map (from g) (a ∷ r.walk)) = (r.simple.ends, r.simple.passes) in
-      record {
-        closed = (edge, refl, walk_forwards (to g a) (from g a) r.walk r.leads);
-        edges = subst (λ x. AllDiffer x) (sym (edges_forwards (a ∷ r.walk))) (AllDiffer-map (from g) (a ∷ r.walk) nodes);
-        nodes = subst (λ x. AllDiffer x) (sym (leaves_forwards (a ∷ r.walk))) nodes;
-      }
+      grind (arith, walk_forwards (to g a) (from g a) r.walk r.leads, edges_forwards (a ∷ r.walk), AllDiffer-map (from g) (a ∷ r.walk), leaves_forwards (a ∷ r.walk))
 
   not_around : (a b : ℕ) → a < edge_count g → a ≢ b → ((w : List Step) → IsCycle g w → Holds (edges_of w) a → Holds (edges_of w) b) → Reach g (only b) (to g a) (from g a) → ⊥
   not_around a b edge apart each way =

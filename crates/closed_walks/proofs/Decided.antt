@@ -1,6 +1,6 @@
 -- A test for whether a node is reached from another without some edges. It lets the nodes that a way may pass grow one by one.
-use Rattle.std.proofs.Common.{◌≡◌, ℕ, zero, suc, ◌<◌, ◌≤◌, ◌⊎◌, Bool, true, false, not, ◌&&◌, ◌||◌, ◌==◌, List, [], ◌∷◌, refl, sym, ◌∙◌, subst, inl, inr, ⊎_elim, arith}
-use Rattle.std.proofs.lemmas.Bool.{cases_Bool, cases_order, or_cases, or_left, or_right, and_parts, and_from, not_from_false, not-true, eqb-true, eq-eqb, false≢true}
+use Rattle.std.proofs.Common.{◌≡◌, ℕ, zero, suc, ◌<◌, ◌≤◌, ◌⊎◌, Bool, true, false, not, ◌&&◌, ◌||◌, ◌==◌, List, [], ◌∷◌, refl, subst, ⊎_elim, arith}
+use Rattle.std.proofs.lemmas.Bool.{cases_order, or_cases, or_left, or_right, and_parts, and_from, not_from_false, not-true, eqb-true, eq-eqb, false≢true}
 use Rattle.closed_walks.specs.Graph.{Graph, IsGraph, edge_count, from, to}
 use Rattle.closed_walks.specs.Walk.{Walk, Avoids, Reach}
 use Rattle.closed_walks.proofs.Reaching.{stay, join, along}
@@ -24,13 +24,7 @@ module _ (g : Graph) (avoided : ℕ → Bool) where
 
   Reach-over : (e u v : ℕ) → e < edge_count g → leads_over e u v ≡ true → Reach g avoided u v
   unfolding leads_over
-  Reach-over e u v edge test =
-      let parts = and_parts ((from g e == u) && (to g e == v)) (not (avoided e)) test in
-      let ends = and_parts (from g e == u) (to g e == v) parts.0 in
-      let begins : from g e ≡ u = eqb-true (from g e) u ends.0 in
-      let ends_at : to g e ≡ v = eqb-true (to g e) v ends.1 in
-      let free : avoided e ≡ false = not-true (avoided e) parts.1 in
-      subst (λ n. Reach g avoided n v) begins (subst (λ n. Reach g avoided (from g e) n) ends_at (along g avoided e edge free))
+  Reach-over e u v edge test = grind (arith, eqb-true (from g e) u, eqb-true (to g e) v, not-true (avoided e), along g avoided e edge)
 
   Reach-steps : (k u v : ℕ) → k ≤ edge_count g → steps_below k u v ≡ true → Reach g avoided u v
   Reach-steps zero u v some test = absurd (false≢true test)
@@ -40,10 +34,7 @@ module _ (g : Graph) (avoided : ℕ → Bool) where
       (or_cases (steps_below k u v) (leads_over k u v) test)
 
   Reach-passes : (k u v : ℕ) → passes_below k u v ≡ true → Reach g avoided u v
-  Reach-passes zero u v test = ⊎_elim
-      (λ (h : (u == v) ≡ true). stay g avoided u v (eqb-true u v h))
-      (λ (h : steps_below (edge_count g) u v ≡ true). Reach-steps (edge_count g) u v (omega arith) h)
-      (or_cases (u == v) (steps_below (edge_count g) u v) test)
+  Reach-passes zero u v test = grind (arith, stay, eqb-true, Reach-steps)
   Reach-passes (suc k) u v test = ⊎_elim
       (λ (h : passes_below k u v ≡ true). Reach-passes k u v h)
       (λ (h : (passes_below k u k && passes_below k k v) ≡ true).
@@ -56,9 +47,7 @@ module _ (g : Graph) (avoided : ℕ → Bool) where
   over_edge : (e : ℕ) → avoided e ≡ false → leads_over e (from g e) (to g e) ≡ true
   unfolding leads_over
   over_edge e free =
-      and_from ((from g e == from g e) && (to g e == to g e)) (not (avoided e))
-      (and_from (from g e == from g e) (to g e == to g e) (eq-eqb (from g e) (from g e) refl) (eq-eqb (to g e) (to g e) refl))
-      (not_from_false (avoided e) free)
+      grind (arith, and_from ((from g e == from g e) && (to g e == to g e)) (not (avoided e)), and_from (from g e == from g e) (to g e == to g e), eq-eqb (from g e) (from g e), eq-eqb (to g e) (to g e), not_from_false (avoided e) free)
 
   steps_edge : (k e : ℕ) → e < k → avoided e ≡ false → steps_below k (from g e) (to g e) ≡ true
   steps_edge zero e below free = absurd (omega (arith, below))
@@ -135,7 +124,4 @@ module _ (g : Graph) (avoided : ℕ → Bool) where
   reaches-Reach sound u v r = passes_on sound u v r.walk r.leads r.avoids
 
   pub cases_Reach : IsGraph g → (u v : ℕ) → Reach g avoided u v ⊎ (Reach g avoided u v → ⊥)
-  cases_Reach sound u v = ⊎_elim
-      (λ (h : reaches u v ≡ true). inl (Reach-reaches u v h))
-      (λ (h : reaches u v ≡ false). inr (λ r. false≢true (sym h ∙ reaches-Reach sound u v r)))
-      (cases_Bool (reaches u v))
+  cases_Reach sound u v = grind (arith, Reach-reaches, reaches-Reach sound)

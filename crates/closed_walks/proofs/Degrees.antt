@@ -9,10 +9,7 @@ abbrev one_if : Bool → ℕ
 one_if b = if b then 1 else 0
 
 one_of_two : (x y : Bool) → one_if (x || y) ≤ one_if x + one_if y
-one_of_two true true = omega arith
-one_of_two true false = omega arith
-one_of_two false true = omega arith
-one_of_two false false = omega arith
+one_of_two h h2 = grind arith
 
 -- how often a number is among the n from `first` on
 spots : (a first n : ℕ) → ℕ
@@ -22,10 +19,7 @@ spots a first (suc n) = one_if (a == first) + spots a (suc first) n
 spots-past : (a first n : ℕ) → a < first → spots a first n ≡ 0
 unfolding spots
 spots-past a first zero past = refl
-spots-past a first (suc n) past =
-    let rest = spots-past a (suc first) n (omega arith) in
-    let here = ap one_if (ne_eqb a first (λ same. omega (arith, past, same))) in
-    omega (arith, rest, here)
+spots-past a first (suc n) past = grind (arith, spots-past a (suc first) n, ne_eqb a first)
 
 spots-one : (a first n : ℕ) → spots a first n ≤ 1
 unfolding spots
@@ -54,10 +48,7 @@ module _ (g : Graph) where
   touched-ends : (k first n : ℕ) → touched k first n ≤ spots (from g k) first n + spots (to g k) first n
   unfolding touched spots
   touched-ends k first zero = omega arith
-  touched-ends k first (suc n) =
-      let rest = touched-ends k (suc first) n in
-      let here = one_of_two (from g k == first) (to g k == first) in
-      omega (arith, rest, here)
+  touched-ends k first (suc n) = grind (arith, touched-ends k (suc first) n, one_of_two (from g k == first) (to g k == first))
 
   length-if : (b : Bool) (k : ℕ) → length (if b then k ∷ [] else []) ≡ one_if b
   length-if true k = refl
@@ -72,20 +63,12 @@ module _ (g : Graph) where
   unfolding degrees touched
   degrees-more k first zero = refl
   degrees-more k first (suc n) =
-      let rest = degrees-more k (suc first) n in
-      let here = length-append (touching_below g first k) (if touches g first k then k ∷ [] else []) in
-      let one = length-if (touches g first k) k in
-      omega (arith, rest, here, one)
+      grind (arith, degrees-more k (suc first) n, length-append (touching_below g first k), length-if (touches g first k) k)
 
   degrees-few : (k first n : ℕ) → degrees k first n ≤ 2 * k
   degrees-few zero first n = let none = degrees-none first n in omega (arith, none)
   degrees-few (suc k) first n =
-      let rest = degrees-few k first n in
-      let more = degrees-more k first n in
-      let ends = touched-ends k first n in
-      let begins = spots-one (from g k) first n in
-      let stops = spots-one (to g k) first n in
-      omega (arith, rest, more, ends, begins, stops)
+      grind (arith, degrees-few k first n, degrees-more k first n, touched-ends k first n, spots-one (from g k) first n, spots-one (to g k) first n)
 
   sum-degrees : (counts : List ℕ) (first : ℕ) → ((i : ℕ) → i < length counts → get_or counts i 0 ≤ length (edges_at g (first + i))) → sum counts ≤ degrees (edge_count g) first (length counts)
   unfolding degrees edges_at
@@ -99,7 +82,4 @@ module _ (g : Graph) where
 
   -- Where no node has a count above the number of its edges, the counts are at most two for each edge.
   pub sum-edges_at : (counts : List ℕ) → ((node : ℕ) → node < length counts → get_or counts node 0 ≤ length (edges_at g node)) → sum counts ≤ 2 * edge_count g
-  sum-edges_at counts each =
-      let all = sum-degrees counts 0 (λ i within. let e : i ≡ 0 + i = omega arith in subst (λ x. get_or counts i 0 ≤ length (edges_at g x)) e (each i within)) in
-      let few = degrees-few (edge_count g) 0 (length counts) in
-      omega (arith, all, few)
+  sum-edges_at counts each = grind (arith, sum-degrees counts 0, degrees-few (edge_count g) 0 (length counts))

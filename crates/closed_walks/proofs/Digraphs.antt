@@ -1,6 +1,6 @@
 -- What a `Digraph` keeps, at its beginning and as edges are added.
-use Rattle.std.proofs.Common.{◌≡◌, ◌≢◌, ℕ, zero, suc, ◌+◌, ◌<◌, ◌≤◌, ◌^◌, ◌⊎◌, ◌==◌, ◌||◌, if◌then◌else◌, List, [], ◌∷◌, ◌++◌, length, get_or, set, refl, sym, ap, ◌∙◌, inl, inr, ⊎_elim, arith, lit<, length-append, get_or-set_same}
-use Rattle.std.proofs.lemmas.Bool.{cases_order, cases_eq, cases_lt}
+use Rattle.std.proofs.Common.{◌≡◌, ◌≢◌, ℕ, zero, suc, ◌+◌, ◌<◌, ◌≤◌, ◌^◌, ◌⊎◌, ◌==◌, ◌||◌, if◌then◌else◌, List, [], ◌∷◌, ◌++◌, length, get_or, set, refl, ap, ◌∙◌, ⊎_elim, arith, lit<, length-append, get_or-set_same}
+use Rattle.std.proofs.lemmas.Bool.{cases_order}
 use Rattle.std.proofs.lemmas.List.{get_or_append_left, get_or_default, get_or_past, get_or_push, set-set, set-get_or}
 use Rattle.closed_walks.specs.Graph.{Graph, IsGraph, edge_count, from, to, with_edge, touching_below, edges_at}
 use Rattle.closed_walks.specs.Digraph.{Keeps}
@@ -27,9 +27,7 @@ edge_count-with g u v = omega (arith, length-append g.edges ((u, v) ∷ []))
 
 -- an edge of the larger graph is an old one or the new one
 pub cases_edge : (g : Graph) (u v e : ℕ) → e < edge_count (with_edge g u v) → (e < edge_count g) ⊎ (e ≡ edge_count g)
-cases_edge g u v e edge =
-    let more = edge_count-with g u v in
-    ⊎_elim (λ h. inr h) (⊎_elim (λ h. inl h) (λ h. absurd (omega arith))) (cases_order e (edge_count g))
+cases_edge g u v e edge = grind (arith, edge_count-with g u v, cases_order e (edge_count g))
 
 pub IsGraph-with : (g : Graph) (u v : ℕ) → IsGraph g → u < g.nodes → v < g.nodes → IsGraph (with_edge g u v)
 IsGraph-with g u v sound begins ends = record {
@@ -49,35 +47,20 @@ touching_below-with g u v node (suc k) few = rw (touching_below-with g u v node 
 
 pub edges_at-with : (g : Graph) (u v node : ℕ) → edges_at (with_edge g u v) node ≡ edges_at g node ++ (if (u == node) || (v == node) then edge_count g ∷ [] else [])
 unfolding edges_at
-edges_at-with g u v node =
-    ap (touching_below (with_edge g u v) node) (edge_count-with g u v)
-    ∙ rw (touching_below-with g u v node (edge_count g) (omega arith), from-new g u v, to-new g u v) refl
+edges_at-with g u v node = grind (arith, edge_count-with g u v, touching_below-with g u v node (edge_count g), from-new g u v, to-new g u v)
 
 pub Keeps-new : (nodes : ℕ) (edges : List (ℕ × ℕ)) (lists : List (List ℕ)) → nodes < 2 ^ 32 → edges ≡ [] → length lists ≡ nodes → ((node : ℕ) → get_or lists node [] ≡ []) → Keeps (record { nodes = nodes; edges = edges }) lists
 unfolding edges_at
-Keeps-new nodes edges lists few none len blank = rw none (record {
-  few_nodes = few;
-  few_edges = lit< tt;
-  sound = record { begins = λ e edge. absurd (omega arith); ends = λ e edge. absurd (omega arith) };
-  nodes = len;
-  lists = blank;
-})
+Keeps-new nodes edges lists few none len blank = grind (arith, lit<)
 
 pub Keeps-with : (g : Graph) (u v : ℕ) (lists new : List (List ℕ)) → Keeps g lists → u < g.nodes → v < g.nodes → edge_count g + 1 < 2 ^ 31 → length new ≡ length lists → ((node : ℕ) → get_or new node [] ≡ get_or lists node [] ++ (if (u == node) || (v == node) then edge_count g ∷ [] else [])) → Keeps (with_edge g u v) new
-Keeps-with g u v lists new kept begins ends few len more = record {
-  few_nodes = kept.few_nodes;
-  few_edges = omega (arith, edge_count-with g u v);
-  sound = IsGraph-with g u v kept.sound begins ends;
-  nodes = len ∙ kept.nodes;
-  lists = λ node. more node ∙ ap (λ xs. xs ++ (if (u == node) || (v == node) then edge_count g ∷ [] else [])) (kept.lists node) ∙ sym (edges_at-with g u v node);
-}
+Keeps-with g u v lists new kept begins ends few len more =
+    grind (arith, edge_count-with g u v, IsGraph-with g u v kept.sound begins ends, edges_at-with g u v)
 
 -- an edge that was put into the one list, and not into the other, is taken out again
 pub set-undone : (lists : List (List ℕ)) (u v e : ℕ) (pushed same prefix : List ℕ) → u ≢ v → u < length lists → pushed ≡ get_or lists u [] ++ e ∷ [] → same ≡ get_or (set lists u pushed) v [] → ((xs : List ℕ) → get_or (set (set lists u pushed) v same) u [] ≡ xs ++ e ∷ [] → prefix ≡ xs) → set (set (set lists u pushed) v same) u prefix ≡ lists
 set-undone lists u v e pushed same prefix apart within push unchanged undo =
-    let once : set (set lists u pushed) v same ≡ set lists u pushed = ap (set (set lists u pushed) v) unchanged ∙ set-get_or (set lists u pushed) v [] in
-    let old : prefix ≡ get_or lists u [] = undo (get_or lists u []) (ap (λ xs. get_or xs u []) once ∙ (get_or-set_same lists u pushed [] within ∙ push)) in
-    ap (λ xs. set xs u prefix) once ∙ (set-set lists u pushed prefix ∙ (ap (set lists u) old ∙ set-get_or lists u []))
+    grind (arith, set-get_or (set lists u pushed) v, get_or-set_same lists u pushed, set-set lists u pushed prefix, set-get_or lists u)
 
 -- the ends that were read at an edge's place are its own
 pub from-read : (g : Graph) (e : ℕ) (p : ℕ × ℕ) → e < edge_count g → p ≡ get_or g.edges e p → p.0 ≡ from g e
@@ -90,10 +73,4 @@ to-read g e p edge read = ap (λ q. q.1) (read ∙ get_or_default g.edges e p (0
 
 -- the blank lists of the nodes, and one more
 pub blank-push : (lists : List (List ℕ)) → ((node : ℕ) → get_or lists node [] ≡ []) → (node : ℕ) → get_or (lists ++ [] ∷ []) node [] ≡ []
-blank-push lists blank node = ⊎_elim
-    (λ (h : node < length lists). get_or_append_left lists ([] ∷ []) [] node h ∙ blank node)
-    (λ (h : length lists ≤ node). ⊎_elim
-    (λ (same : node ≡ length lists). rw same (get_or_push lists [] [] (length lists) refl))
-    (λ (apart : node ≢ length lists). get_or_past (lists ++ [] ∷ []) node [] (omega (arith, length-append lists ([] ∷ []))))
-    (cases_eq node (length lists)))
-    (cases_lt node (length lists))
+blank-push lists blank node = grind (arith, get_or_append_left, get_or_push, get_or_past, length-append)

@@ -1,6 +1,6 @@
 -- What lists hold, and lists whose items all differ.
 use Rattle.std.proofs.Common.{◌≡◌, ℕ, zero, suc, ◌<◌, ◌≤◌, ◌⊎◌, Bool, true, false, List, [], ◌∷◌, ◌++◌, length, take, replicate, get_or, refl, sym, ap, subst, inl, inr, ⊎_elim, arith}
-use Rattle.std.proofs.lemmas.Bool.{cases_Bool, cases_lt}
+use Rattle.std.proofs.lemmas.Bool.{cases_Bool}
 use Rattle.std.proofs.lemmas.List.{get_or-replicate, get_or_past, length-replicate}
 use Rattle.std.specs.List.{filter}
 use Rattle.closed_walks.specs.Walk.{Holds}
@@ -35,12 +35,6 @@ pub at_Holds : (xs : List ℕ) (e : ℕ) → Holds xs e → IsAt xs e
 at_Holds [] e h = absurd h
 at_Holds (x ∷ xs) e (inl same) = record { place = zero; within = omega arith; is = same }
 at_Holds (x ∷ xs) e (inr h) = let p : IsAt xs e = at_Holds xs e h in record { place = suc p.place; within = omega (arith, p.within); is = p.is }
-
-pub Holds-take : (n : ℕ) (xs : List ℕ) (e : ℕ) → Holds (take n xs) e → Holds xs e
-Holds-take zero xs e h = absurd h
-Holds-take (suc n) [] e h = absurd h
-Holds-take (suc n) (x ∷ xs) e (inl same) = inl same
-Holds-take (suc n) (x ∷ xs) e (inr h) = inr (Holds-take n xs e h)
 
 -- a longer prefix holds what the first list of two holds
 pub Holds-take_append : (n : ℕ) (xs ys : List ℕ) (e : ℕ) → length xs ≤ n → Holds xs e → Holds (take n (xs ++ ys)) e
@@ -93,13 +87,6 @@ AllDiffer-rising (x ∷ xs) rises = (
   AllDiffer-rising xs (λ i j less within. rises (suc i) (suc j) (omega arith) (omega arith)),
 )
 
--- an item stands once
-pub AllDiffer-prefix : (xs : List ℕ) (n : ℕ) → AllDiffer xs → n < length xs → Holds (take n xs) (get_or xs n 0) → ⊥
-AllDiffer-prefix [] n differ within h = absurd (omega (arith, within))
-AllDiffer-prefix (x ∷ xs) zero differ within h = h
-AllDiffer-prefix (x ∷ xs) (suc n) differ within (inl same) = differ.0 (subst (λ y. Holds xs y) (sym same) (Holds-at xs n (omega arith)))
-AllDiffer-prefix (x ∷ xs) (suc n) differ within (inr h) = AllDiffer-prefix xs n differ.1 (omega arith) h
-
 pub AllDiffer-right : (xs ys : List ℕ) → AllDiffer (xs ++ ys) → AllDiffer ys
 AllDiffer-right [] ys differ = differ
 AllDiffer-right (x ∷ xs) ys differ = AllDiffer-right xs ys differ.1
@@ -117,7 +104,4 @@ split_at (x ∷ xs) e (inr h) = let s : IsSplitAt xs e = split_at xs e h in reco
 
 -- a list of zeros
 pub zero_of : (xs : List ℕ) (n : ℕ) → xs ≡ replicate n 0 → (k : ℕ) → get_or xs k 0 ≡ 0
-zero_of xs n is k = ⊎_elim
-    (λ (l : k < n). rw is (get_or-replicate n k 0 0 l))
-    (λ (past : n ≤ k). rw is (get_or_past (replicate n 0) k 0 (let size = length-replicate {A = ℕ} n 0 in omega (arith, size, past))))
-    (cases_lt k n)
+zero_of xs n is k = grind (arith, get_or-replicate, get_or_past, length-replicate {A = ℕ})

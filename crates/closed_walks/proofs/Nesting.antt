@@ -10,6 +10,7 @@ use Rattle.closed_walks.proofs.Classes.{first_closed, second_closed, equivalent_
 use Rattle.closed_walks.proofs.Cuts.{without_first, without_second, side}
 use Rattle.closed_walks.proofs.Orders.{start_node, side_inside, inside_side, side_false, pair_entered, not_start}
 use Rattle.closed_walks.proofs.Regions.{class_apart}
+use Rattle.std.proofs.Common.{arith}
 
 from_implied : (x y : Bool) → (not x || y) ≡ true → x ≡ true → y ≡ true
 from_implied true y h is = h
@@ -147,10 +148,7 @@ module _ (g : Graph) (flow : IsFlowGraph g) where
   -- ---- regions
 
   cases_same : (x y : Bool) → (x ≡ y) ⊎ (x ≢ y)
-  cases_same true true = inl refl
-  cases_same false false = inl refl
-  cases_same true false = inr (λ same. false≢true (sym same))
-  cases_same false true = inr false≢true
+  cases_same h h2 = grind arith
 
   module _ (a b c d : ℕ) (r : IsRegion g a b) (s : IsRegion g c d) (differ : IsCycleEquivalent g a c → ⊥) where
     ac : a ≢ c

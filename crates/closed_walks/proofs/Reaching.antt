@@ -1,20 +1,17 @@
 -- Which nodes are reached from which, without some edges.
-use Rattle.std.proofs.Common.{◌≡◌, ℕ, ◌<◌, ◌⊎◌, Bool, true, false, List, [], ◌∷◌, ◌++◌, refl, sym, ap, ◌∙◌, subst, inl, inr, ⊎_elim}
+use Rattle.std.proofs.Common.{◌≡◌, ℕ, ◌<◌, ◌⊎◌, Bool, true, false, List, [], ◌∷◌, refl, sym, ap, ◌∙◌, subst, inl, inr, ⊎_elim}
 use Rattle.std.proofs.lemmas.Bool.{cases_Bool}
 use Rattle.closed_walks.specs.Graph.{Graph, edge_count, from, to}
 use Rattle.closed_walks.specs.Walk.{Walk, Avoids, Reach}
 use Rattle.closed_walks.proofs.Walks.{Walk-append, Avoids-append, Avoids-within}
+use Rattle.std.proofs.Common.{arith}
 
 module _ (g : Graph) where
   pub stay : (avoided : ℕ → Bool) (u v : ℕ) → u ≡ v → Reach g avoided u v
   stay avoided u v same = record { walk = []; leads = same; avoids = tt }
 
   pub join : (avoided : ℕ → Bool) (u v x : ℕ) → Reach g avoided u v → Reach g avoided v x → Reach g avoided u x
-  join avoided u v x a b = record {
-    walk = a.walk ++ b.walk;
-    leads = Walk-append g u v x a.walk b.walk a.leads b.leads;
-    avoids = Avoids-append avoided a.walk b.walk a.avoids b.avoids;
-  }
+  join avoided u v x a b = grind (arith, Walk-append g u v x a.walk b.walk a.leads b.leads, Avoids-append avoided a.walk b.walk a.avoids b.avoids)
 
   pub along : (avoided : ℕ → Bool) (e : ℕ) → e < edge_count g → avoided e ≡ false → Reach g avoided (from g e) (to g e)
   along avoided e edge free = record { walk = e ∷ []; leads = (edge, refl, refl); avoids = (free, tt) }
@@ -102,23 +99,3 @@ module _ (g : Graph) where
   pub same_along : (avoided test : ℕ → Bool) → ((e : ℕ) → e < edge_count g → avoided e ≡ false → test (from g e) ≡ test (to g e)) → (u v : ℕ) → Reach g avoided u v → test u ≡ test v
   same_along avoided test same u v r =
       kept avoided (λ n. test u ≡ test n) (λ e edge free here. here ∙ same e edge free) u v r refl
-
-  -- a way out of a set leads over an edge that leaves it
-  pub record IsLeft (avoided test : ℕ → Bool) : Type 0 where
-    pub edge : ℕ
-    pub exists : edge < edge_count g
-    pub free : avoided edge ≡ false
-    pub inside : test (from g edge) ≡ true
-    pub outside : test (to g edge) ≡ false
-
-  leave_on : (avoided test : ℕ → Bool) (u v : ℕ) (w : List ℕ) → Walk g u w v → Avoids avoided w → test u ≡ true → test v ≡ false → IsLeft avoided test
-  leave_on avoided test u v [] leads avoids in_u out_v = absurd (let same = ap test leads in cc)
-  leave_on avoided test u v (e ∷ w) leads avoids in_u out_v =
-      let inside : test (from g e) ≡ true = ap test leads.1 ∙ in_u in
-      ⊎_elim
-      (λ (more : test (to g e) ≡ true). leave_on avoided test (to g e) v w leads.2 avoids.1 more out_v)
-      (λ (out : test (to g e) ≡ false). record { edge = e; exists = leads.0; free = avoids.0; inside = inside; outside = out })
-      (cases_Bool (test (to g e)))
-
-  pub leave : (avoided test : ℕ → Bool) (u v : ℕ) → Reach g avoided u v → test u ≡ true → test v ≡ false → IsLeft avoided test
-  leave avoided test u v r in_u out_v = leave_on avoided test u v r.walk r.leads r.avoids in_u out_v

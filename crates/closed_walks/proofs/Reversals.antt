@@ -1,11 +1,11 @@
 -- Ways in a graph with each edge turned round, and strong connection by them.
-use Rattle.std.proofs.Common.{◌≡◌, ℕ, ◌+◌, ◌<◌, List, [], ◌∷◌, refl, sym, ap, ◌∙◌, subst, ⊎_elim, arith}
+use Rattle.std.proofs.Common.{◌≡◌, ℕ, ◌+◌, ◌<◌, List, [], ◌∷◌, refl, sym, arith}
 use Rattle.std.proofs.lemmas.Bool.{ne_eqb}
 use Rattle.closed_walks.specs.Graph.{Graph, edge_count, from, to, with_edge}
 use Rattle.closed_walks.specs.Walk.{Walk, Avoids, Reach, no_edge, only, IsStrong}
 use Rattle.closed_walks.specs.Reversed.{IsReversed}
 use Rattle.closed_walks.proofs.Reaching.{stay, join, along_last, Reach-within}
-use Rattle.closed_walks.proofs.Digraphs.{from-old, to-old, from-new, to-new, edge_count-with, cases_edge}
+use Rattle.closed_walks.proofs.Digraphs.{from-old, to-old, from-new, to-new, edge_count-with}
 
 -- a number that is no edge is avoided by each walk
 Avoids-none : (g : Graph) (n u v : ℕ) (w : List ℕ) → n ≡ edge_count g → Walk g u w v → Avoids (only n) w
@@ -22,20 +22,13 @@ Reach-with_none g n u v r = Reach-within g (only n) no_edge (λ e free. refl) u 
 turned_on : (g back : Graph) → edge_count g ≡ edge_count back → ((e : ℕ) → e < edge_count back → from back e ≡ to g e) → ((e : ℕ) → e < edge_count back → to back e ≡ from g e) → (u v : ℕ) (w : List ℕ) → Walk g u w v → Reach back no_edge v u
 turned_on g back same begins ends u v [] leads = stay back no_edge v u (sym leads)
 turned_on g back same begins ends u v (e ∷ w) leads =
-    let edge : e < edge_count back = omega (arith, leads.0, same) in
-    let rest : Reach back no_edge v (from back e) = rw (begins e edge) (turned_on g back same begins ends (to g e) v w leads.2) in
-    subst (λ n. Reach back no_edge v n) (ends e edge ∙ leads.1) (along_last back no_edge e v edge refl rest)
+    grind (arith, turned_on g back same begins ends (to g e) v w leads.2, along_last back no_edge e v)
 
 pub Reach-turned : (g back : Graph) → IsReversed g back → (u v : ℕ) → Reach g no_edge u v → Reach back no_edge v u
 Reach-turned g back r u v way = turned_on g back (sym r.edges) r.begins r.ends u v way.walk way.leads
 
 pub IsReversed-back : (g back : Graph) → IsReversed g back → IsReversed back g
-IsReversed-back g back r = record {
-  nodes = sym r.nodes;
-  edges = sym r.edges;
-  begins = λ e edge. sym (r.ends e (omega (arith, edge, r.edges)));
-  ends = λ e edge. sym (r.begins e (omega (arith, edge, r.edges)));
-}
+IsReversed-back g back r = grind arith
 
 -- each node is reached from node 0
 abbrev pub ToAll : Graph → Type 0
@@ -59,15 +52,4 @@ pub record IsReversedBelow (g back : Graph) (e : ℕ) : Type 0 where
   pub ends : (d : ℕ) → d < edge_count back → to back d ≡ from g d
 
 pub IsReversedBelow-more : (g back : Graph) (e u v : ℕ) → u ≡ to g e → v ≡ from g e → IsReversedBelow g back e → IsReversedBelow g (with_edge back u v) (e + 1)
-IsReversedBelow-more g back e u v begins ends r = record {
-  nodes = r.nodes;
-  edges = omega (arith, edge_count-with back u v, r.edges);
-  begins = λ d edge. ⊎_elim
-      (λ (old : d < edge_count back). from-old back u v d old ∙ r.begins d old)
-      (λ (new : d ≡ edge_count back). rw (new, from-new back u v) (begins ∙ ap (to g) (sym r.edges)))
-      (cases_edge back u v d edge);
-  ends = λ d edge. ⊎_elim
-      (λ (old : d < edge_count back). to-old back u v d old ∙ r.ends d old)
-      (λ (new : d ≡ edge_count back). rw (new, to-new back u v) (ends ∙ ap (from g) (sym r.edges)))
-      (cases_edge back u v d edge);
-}
+IsReversedBelow-more g back e u v begins ends r = grind (arith, edge_count-with, from-old, from-new, to-old, to-new)

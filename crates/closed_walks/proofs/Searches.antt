@@ -1,6 +1,6 @@
 -- The steps of a search.
-use Rattle.std.proofs.Common.{◌≡◌, ◌≢◌, ℕ, zero, suc, ◌+◌, ◌*◌, ◌<◌, ◌≤◌, ◌⊎◌, Bool, true, false, List, [], ◌∷◌, ◌++◌, length, get_or, set, drop, refl, sym, ap, ◌∙◌, subst, inl, inr, ⊎_elim, arith, get_or-set_same, get_or-set_other, length-set, length-append}
-use Rattle.std.proofs.lemmas.Bool.{cases_Bool, cases_eq, cases_lt, eqb-false, ne_eqb, false≢true}
+use Rattle.std.proofs.Common.{◌≡◌, ◌≢◌, ℕ, zero, suc, ◌+◌, ◌*◌, ◌<◌, ◌≤◌, ◌⊎◌, Bool, true, false, List, [], ◌∷◌, ◌++◌, length, get_or, set, drop, refl, sym, ◌∙◌, inl, inr, ⊎_elim, arith, get_or-set_same, get_or-set_other, length-set, length-append}
+use Rattle.std.proofs.lemmas.Bool.{cases_Bool, eqb-false, ne_eqb, false≢true}
 use Rattle.std.proofs.lemmas.List.{get_or_past, get_or_default}
 use Rattle.closed_walks.specs.Graph.{Graph, edge_count, from, to, edges_at}
 use Rattle.closed_walks.specs.Walk.{Holds, Reach, only}
@@ -21,22 +21,13 @@ blanks-set (false ∷ visited) (suc v) within blank = let rest = blanks-set visi
 
 -- what was visited stays so, and nothing else but the new node is
 pub visited-old : (visited : List Bool) (n v : ℕ) → n < length visited → is_visited visited v ≡ true → is_visited (set visited n true) v ≡ true
-visited-old visited n v within old = ⊎_elim
-    (λ (same : v ≡ n). rw same (get_or-set_same visited n true false within))
-    (λ (apart : v ≢ n). get_or-set_other visited n v true false apart ∙ old)
-    (cases_eq v n)
+visited-old visited n v within old = grind (arith, get_or-set_same visited, get_or-set_other visited)
 
 pub visited-cases : (visited : List Bool) (n v : ℕ) → is_visited (set visited n true) v ≡ true → (v ≡ n) ⊎ (is_visited visited v ≡ true)
-visited-cases visited n v now = ⊎_elim
-    (λ (same : v ≡ n). inl same)
-    (λ (apart : v ≢ n). inr (sym (get_or-set_other visited n v true false apart) ∙ now))
-    (cases_eq v n)
+visited-cases visited n v now = grind (arith, get_or-set_other visited)
 
 pub visited-not : (visited : List Bool) (n v : ℕ) → n < length visited → is_visited (set visited n true) v ≡ false → (v ≢ n) × (is_visited visited v ≡ false)
-visited-not visited n v within none = ⊎_elim
-    (λ (same : v ≡ n). absurd (false≢true (sym none ∙ (rw same (get_or-set_same visited n true false within)))))
-    (λ (apart : v ≢ n). (apart, sym (get_or-set_other visited n v true false apart) ∙ none))
-    (cases_eq v n)
+visited-not visited n v within none = grind (arith, get_or-set_same visited, get_or-set_other visited)
 
 -- ---- the edges of one node
 
@@ -46,64 +37,17 @@ RestOf g node edges e = (from g e ≡ node) × Holds edges e
 
 module _ (g : Graph) (without node : ℕ) (visited : List Bool) (frontier : List ℕ) where
   pub IsOpen-edges : IsOpen g without visited frontier (λ e. from g e ≡ node) → IsOpen g without visited frontier (RestOf g node (edges_at g node))
-  IsOpen-edges o = record {
-    nodes = o.nodes;
-    waiting = o.waiting;
-    leaving = λ e edge other tail head. ⊎_elim
-        (λ h. inl h)
-        (λ (begins : from g e ≡ node). inr (begins, Holds-edges_at-from g node e edge begins))
-        (o.leaving e edge other tail head);
-  }
-
-  pub IsOpen-done : (edges : List ℕ) (k : ℕ) → length edges ≤ k → IsOpen g without visited frontier (RestOf g node (drop k edges)) → IsOpen g without visited frontier Nothing
-  IsOpen-done edges k end o = record {
-    nodes = o.nodes;
-    waiting = o.waiting;
-    leaving = λ e edge other tail head. ⊎_elim
-        (λ h. inl h)
-        (λ rest. absurd (Holds-drop_end edges k e end rest.1))
-        (o.leaving e edge other tail head);
-  }
+  IsOpen-edges o = grind (arith, Holds-edges_at-from)
 
   module _ (edges : List ℕ) (k : ℕ) (within : k < length edges) (o : IsOpen g without visited frontier (RestOf g node (drop k edges))) where
     -- an edge that leads nowhere new
     pub IsOpen-skip : (from g (get_or edges k 0) ≡ node → get_or edges k 0 ≢ without → is_visited visited (to g (get_or edges k 0)) ≡ false → ⊥) → IsOpen g without visited frontier (RestOf g node (drop (k + 1) edges))
-    IsOpen-skip none = record {
-      nodes = o.nodes;
-      waiting = o.waiting;
-      leaving = λ e edge other tail head. ⊎_elim
-          (λ h. inl h)
-          (λ rest. ⊎_elim
-          (λ (same : get_or edges k 0 ≡ e).
-          absurd (none (ap (from g) same ∙ rest.0) (λ is. other (sym same ∙ is)) (ap (λ x. is_visited visited (to g x)) same ∙ head)))
-          (λ (later : Holds (drop (k + 1) edges) e). inr (rest.0, later))
-          (Holds-drop edges k e within rest.1))
-          (o.leaving e edge other tail head);
-    }
+    IsOpen-skip none = grind (arith, Holds-drop)
 
     -- an edge that leads to a node that isn't visited
     pub IsOpen-visit : (n : ℕ) → n ≡ to g (get_or edges k 0) → n < length visited → IsOpen g without (set visited n true) (frontier ++ n ∷ []) (RestOf g node (drop (k + 1) edges))
-    IsOpen-visit n leads inside = record {
-      nodes = length-set visited n true ∙ o.nodes;
-      waiting = λ v holds. ⊎_elim
-          (λ (h : Holds frontier v). visited-old visited n v inside (o.waiting v h))
-          (⊎_elim
-          (λ (same : n ≡ v). subst (λ x. is_visited (set visited n true) x ≡ true) same (get_or-set_same visited n true false inside))
-          (λ none. absurd none))
-          (Holds-append frontier (n ∷ []) v holds);
-      leaving = λ e edge other tail head.
-          let outside = visited-not visited n (to g e) inside head in
-          ⊎_elim
-          (λ (same : from g e ≡ n). inl (Holds-right frontier (n ∷ []) (from g e) (inl (sym same))))
-          (λ (old : is_visited visited (from g e) ≡ true). ⊎_elim
-          (λ (h : Holds frontier (from g e)). inl (Holds-left frontier (n ∷ []) (from g e) h))
-          (λ rest. ⊎_elim
-          (λ (same : get_or edges k 0 ≡ e). absurd (outside.0 (ap (to g) (sym same) ∙ sym leads)))
-          (λ (later : Holds (drop (k + 1) edges) e). inr (rest.0, later))
-          (Holds-drop edges k e within rest.1))
-          (o.leaving e edge other old outside.1))
-          (visited-cases visited n (from g e) tail);
-    }
+    IsOpen-visit n leads inside =
+        grind (arith, length-set, visited-old, get_or-set_same, Holds-append, visited-not, Holds-right, Holds-left, Holds-drop, visited-cases)
 
 -- What has been done for the node after its first k edges, since the marks and the frontier were as before.
 pub record IsVisiting (g : Graph) (without node : ℕ) (edges : List ℕ) (k : ℕ) (before : List Bool) (first : List ℕ) (visited : List Bool) (frontier : List ℕ) : Type 0 where
@@ -114,12 +58,7 @@ pub record IsVisiting (g : Graph) (without node : ℕ) (edges : List ℕ) (k : �
 
 module _ (g : Graph) (without node : ℕ) (before : List Bool) (first : List ℕ) where
   pub IsVisiting-begin : IsOpen g without before first (λ e. from g e ≡ node) → IsVisiting g without node (edges_at g node) 0 before first before first
-  IsVisiting-begin o = record {
-    leaves = IsOpen-edges g without node before first o;
-    grown = λ v old. inl old;
-    kept = λ v old. old;
-    work = omega arith;
-  }
+  IsVisiting-begin o = grind (arith, IsOpen-edges g without node before first o, kept)
 
   module _ (edges : List ℕ) (k : ℕ) (within : k < length edges) (visited : List Bool) (frontier : List ℕ) (s : IsVisiting g without node edges k before first visited frontier) where
     pub IsVisiting-skip : (from g (get_or edges k 0) ≡ node → get_or edges k 0 ≢ without → is_visited visited (to g (get_or edges k 0)) ≡ false → ⊥) → IsVisiting g without node edges (k + 1) before first visited frontier
@@ -141,26 +80,13 @@ module _ (g : Graph) (without node : ℕ) (before : List Bool) (first : List ℕ
 module _ (g : Graph) (without : ℕ) (visited : List Bool) where
   -- a node was taken off the frontier
   pub IsOpen-pop : (all frontier : List ℕ) (u : ℕ) → all ≡ frontier ++ u ∷ [] → IsOpen g without visited all Nothing → IsOpen g without visited frontier (λ e. from g e ≡ u)
-  IsOpen-pop all frontier u parts o = record {
-    nodes = o.nodes;
-    waiting = λ v holds. o.waiting v (rw parts (Holds-left frontier (u ∷ []) v holds));
-    leaving = λ e edge other tail head. ⊎_elim
-        (λ (h : Holds all (from g e)). ⊎_elim
-        (λ (l : Holds frontier (from g e)). inl l)
-        (⊎_elim (λ (same : u ≡ from g e). inr (sym same)) (λ none. absurd none))
-        (Holds-append frontier (u ∷ []) (from g e) (rw parts at h)))
-        (λ none. absurd none)
-        (o.leaving e edge other tail head);
-  }
+  IsOpen-pop all frontier u parts o = grind (arith, Holds-left, Holds-append)
 
   pub popped_visited : (all frontier : List ℕ) (u : ℕ) → all ≡ frontier ++ u ∷ [] → IsOpen g without visited all Nothing → is_visited visited u ≡ true
   popped_visited all frontier u parts o = o.waiting u (rw parts (Holds-right frontier (u ∷ []) u (inl refl)))
 
   pub visited_exists : (rest : ℕ → Type 0) (frontier : List ℕ) (u : ℕ) → IsOpen g without visited frontier rest → is_visited visited u ≡ true → u < g.nodes
-  visited_exists rest frontier u o now = ⊎_elim
-      (λ (h : u < length visited). omega (arith, o.nodes))
-      (λ (h : length visited ≤ u). absurd (false≢true (sym (get_or_past visited u false h) ∙ now)))
-      (cases_lt u (length visited))
+  visited_exists rest frontier u o now = grind (arith, get_or_past)
 
   -- with nothing on the frontier all that is reached is visited
   pub visited-Reach : (start v : ℕ) → IsOpen g without visited [] Nothing → is_visited visited start ≡ true → Reach g (only without) start v → is_visited visited v ≡ true
@@ -173,13 +99,7 @@ module _ (g : Graph) (without : ℕ) (visited : List Bool) where
 
 -- what was visited by an edge of a node that is reached is reached
 pub Reach-grown : (g : Graph) (without start u : ℕ) (before visited : List Bool) → ((v : ℕ) → is_visited before v ≡ true → Reach g (only without) start v) → is_visited before u ≡ true → ((v : ℕ) → is_visited visited v ≡ true → (is_visited before v ≡ true) ⊎ Leads g without u v) → (v : ℕ) → is_visited visited v ≡ true → Reach g (only without) start v
-Reach-grown g without start u before visited reached here grown v now = ⊎_elim
-    (λ old. reached v old)
-    (λ (l : Leads g without u v).
-    subst (λ n. Reach g (only without) start n) l.ends
-    (along_last g (only without) l.edge start l.exists (ne_eqb l.edge without l.other)
-    (subst (λ n. Reach g (only without) start n) (sym l.begins) (reached u here))))
-    (grown v now)
+Reach-grown g without start u before visited reached here grown v now = grind (arith, along_last, ne_eqb)
 
 -- a mark that was read, whatever the default
 pub is_visited-read : (visited : List Bool) (v : ℕ) (mark : Bool) → v < length visited → mark ≡ get_or visited v mark → is_visited visited v ≡ mark

@@ -1,5 +1,5 @@
 -- Walks that pass no node twice.
-use Rattle.std.proofs.Common.{◌≡◌, ℕ, ◌<◌, ◌≤◌, Bool, true, false, List, [], ◌∷◌, length, map, refl, sym, ◌∙◌, subst, inl, inr, ⊎_elim, arith}
+use Rattle.std.proofs.Common.{◌≡◌, ℕ, ◌<◌, Bool, true, false, List, [], ◌∷◌, length, map, refl, sym, ◌∙◌, subst, inl, inr, ⊎_elim, arith}
 use Rattle.std.proofs.lemmas.Bool.{cases_eq, or_cases, ne_eqb, eqb-true, false≢true}
 use Rattle.std.proofs.lemmas.List.{length-map}
 use Rattle.std.proofs.Math.Dec.{eqb}
@@ -32,8 +32,7 @@ module _ (g : Graph) where
   part_from x u v (e ∷ w) leads simple (inl same) =
       record { walk = e ∷ w; leads = (leads.0, same, leads.2); simple = simple; within = λ f h. h }
   part_from x u v (e ∷ w) leads simple (inr holds) =
-      let s : IsShortened u v w = part_from (to g e) u v w leads.2 (IsSimple-tail e w v simple) holds in
-      record { walk = s.walk; leads = s.leads; simple = s.simple; within = λ f h. inr (s.within f h) }
+      grind (arith, part_from (to g e) u v w leads.2 (IsSimple-tail e w v simple) holds, IsSimple-tail e w v simple)
 
   pub shorten : (u v : ℕ) (w : List ℕ) → Walk g u w v → IsShortened u v w
   shorten u v [] leads = record { walk = []; leads = leads; simple = record { passes = tt; ends = λ h. h }; within = λ e h. h }
@@ -65,14 +64,7 @@ module _ (g : Graph) where
     pub simple : IsSimple walk v
 
   pub Reach-simple : (avoided : ℕ → Bool) (u v : ℕ) → Reach g avoided u v → IsSimplyReached avoided u v
-  Reach-simple avoided u v r =
-      let s : IsShortened u v r.walk = shorten u v r.walk r.leads in
-      record {
-        walk = s.walk;
-        leads = s.leads;
-        avoids = Avoids-each avoided s.walk (λ e h. Avoids-at avoided r.walk e r.avoids (s.within e h));
-        simple = s.simple;
-      }
+  Reach-simple avoided u v r = grind (arith, shorten u v r.walk r.leads, Avoids-each avoided, Avoids-at avoided r.walk)
 
 -- ---- a walk that passes no node twice is short
 
@@ -101,8 +93,4 @@ module _ (g : Graph) (sound : IsGraph g) where
 
   pub simple_length : (u v : ℕ) (w : List ℕ) → v < g.nodes → Walk g u w v → IsSimple g w v → length w < g.nodes
   simple_length u v w node leads simple =
-      let few : length (v ∷ map (from g) w) ≤ g.nodes = length-le_from_distinct_below (v ∷ map (from g) w) g.nodes
-      (distinct (v ∷ map (from g) w) (simple.ends, simple.passes))
-      (found_below (v ∷ map (from g) w) g.nodes (λ x held. ⊎_elim (λ same. subst (λ y. y < g.nodes) same node) (begins_below u v w leads x) held)) in
-      let same : length (map (from g) w) ≡ length w = length-map w (from g) in
-      omega (arith, few, same)
+      grind (arith, length-le_from_distinct_below (v ∷ map (from g) w) g.nodes (distinct (v ∷ map (from g) w) (simple.ends, simple.passes)), distinct (v ∷ map (from g) w) (simple.ends, simple.passes), found_below (v ∷ map (from g) w) g.nodes, begins_below u v w leads, length-map w (from g))

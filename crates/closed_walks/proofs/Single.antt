@@ -7,6 +7,7 @@ use Rattle.closed_walks.specs.Region.{IsFlowGraph, IsPair, IsBefore, IsInside, I
 use Rattle.closed_walks.proofs.Reaching.{stay, along_last, kept}
 use Rattle.closed_walks.proofs.Cuts.{cut_class}
 use Rattle.closed_walks.proofs.Orders.{either_before}
+use Rattle.std.proofs.Common.{arith}
 
 module _ (g : Graph) (flow : IsFlowGraph g) (node a b : ℕ) (p : IsPassed g node a b) where
   not_from_a : from g a ≢ node
@@ -31,10 +32,7 @@ module _ (g : Graph) (flow : IsFlowGraph g) (node a b : ℕ) (p : IsPassed g nod
   not_reached away way = kept g (only a) (λ n. n ≢ node) (λ e edge free h there. eqb-false e a free (p.one_in e edge there)) 0 node way away refl
 
   before : 0 ≢ node → IsBefore g a b
-  before away = ⊎_elim
-      (λ h. h)
-      (λ (h : IsBefore g b a). absurd (not_reached away (subst (λ n. Reach g (only a) 0 n) p.out_begins h)))
-      (either_before g flow a b pair)
+  before away = grind (arith, not_reached away, either_before, pair)
 
   -- an edge that is met after the one is met after the other
   after_exit : (c : ℕ) → c ≢ a → IsBefore g a c → IsBefore g b c

@@ -1,10 +1,9 @@
 -- Lists in order, and the stages of nodes in a walk for components.
-use Rattle.std.proofs.Common.{◌≡◌, ◌≢◌, ℕ, zero, suc, ◌+◌, ◌-◌, ◌<◌, ◌≤◌, nat_le, ◌⊎◌, Bool, true, false, Some, None, List, [], ◌∷◌, ◌++◌, length, get_or, slice_get, set, take, drop, refl, sym, ap, ◌∙◌, subst, inl, inr, ⊎_elim, arith, get_or-set_same, get_or-set_other, length-set, length-append, append_assoc, add-one, ◌↔◌}
-use Rattle.std.proofs.lemmas.Bool.{cases_Bool, cases_eq, cases_lt, leb-true, le-leb, false≢true}
+use Rattle.std.proofs.Common.{◌≡◌, ◌≢◌, ℕ, zero, suc, ◌+◌, ◌-◌, ◌<◌, ◌≤◌, ◌⊎◌, Bool, true, false, Some, None, List, [], ◌∷◌, ◌++◌, length, get_or, slice_get, set, take, drop, refl, sym, ap, ◌∙◌, subst, inl, inr, ⊎_elim, arith, get_or-set_same, get_or-set_other, length-set, length-append, append_assoc, add-one, ◌↔◌}
+use Rattle.std.proofs.lemmas.Bool.{cases_lt, leb-true, le-leb}
 use Rattle.std.proofs.lemmas.List.{get_or-drop, get_or_default, get_or_past, length-drop, take_all}
 use Rattle.std.proofs.Math.Seq.{take-append_seam}
 use Rattle.closed_walks.specs.Walk.{Holds}
-use Rattle.closed_walks.specs.Search.{is_visited}
 use Rattle.closed_walks.specs.Component.{IsOrdered, IsLast, IsBound, IsBefore, IsSettled, stage_of, place, stands_from, IsFound, left, AreDone}
 use Rattle.closed_walks.specs.declared.component_walk.Stage.{Stage}
 use Rattle.closed_walks.specs.declared.component_walk.Stage.TheVariants.{New, Member, Done}
@@ -24,16 +23,11 @@ last_of (y ∷ ys) x (suc n) len is =
 -- the last item that was read
 pub last_read : (xs ys : List ℕ) (x : ℕ) → ys ≡ xs → Some x ≡ slice_get ys (length ys - 1) → IsLast xs x
 last_read xs [] x same read = let none : Some x ≡ None = read in absurd cc
-last_read xs (y ∷ ys) x same read =
-    let n : length (y ∷ ys) - 1 ≡ length ys = omega arith in
-    subst (λ zs. IsLast zs x) same (last_of (y ∷ ys) x (length ys) refl (ap (slice_get (y ∷ ys)) (sym n) ∙ sym read))
+last_read xs (y ∷ ys) x same read = grind (arith, last_of (y ∷ ys) x (length ys))
 
 -- what is left where the last item was taken off
 pub popped : (xs new : List ℕ) (x n : ℕ) (l : IsLast xs x) → n ≡ length xs → new ≡ take (n - 1) xs → new ≡ l.prefix
-popped xs new x n l len rest =
-    let size : length xs ≡ length (l.prefix ++ x ∷ []) = ap length l.parts in
-    let k : n - 1 ≡ length l.prefix = omega (arith, len, size, length-append l.prefix (x ∷ [])) in
-    rest ∙ (ap (λ m. take m xs) k ∙ (ap (take (length l.prefix)) l.parts ∙ take-append_seam l.prefix (x ∷ [])))
+popped xs new x n l len rest = grind (arith, length-append l.prefix (x ∷ []), take-append_seam l.prefix (x ∷ []))
 
 pub Holds-last : (xs : List ℕ) (x y : ℕ) → Holds (xs ++ x ∷ []) y → Holds xs y ⊎ (y ≡ x)
 Holds-last xs x y holds = ⊎_elim (λ (h : Holds xs y). inl h) (⊎_elim (λ (same : x ≡ y). inr (sym same)) (λ none. absurd none)) (Holds-append xs (x ∷ []) y holds)
@@ -66,9 +60,7 @@ pub record StandsFrom (xs : List ℕ) (k x : ℕ) : Type 0 where
   pub is : get_or xs at 0 ≡ x
 
 pub from-Holds : (xs : List ℕ) (k x : ℕ) → Holds (drop k xs) x → StandsFrom xs k x
-from-Holds xs k x holds =
-    let s : StandsAt (drop k xs) x = Holds-place (drop k xs) x holds in
-    record { at = k + s.at; after = omega arith; within = omega (arith, s.within, length-drop k xs); is = sym (get_or-drop k xs s.at 0) ∙ s.is }
+from-Holds xs k x holds = grind (arith, Holds-place (drop k xs) x holds, length-drop k xs, get_or-drop k xs)
 
 -- the part of a list from a place on, as it is taken
 pub part_from : (xs ys : List ℕ) (k : ℕ) → ys ≡ xs → take (length ys - k) (drop k ys) ≡ drop k xs
@@ -82,10 +74,7 @@ Holds-of_last xs x l = subst (λ ys. Holds ys x) (sym l.parts) (Holds-new l.pref
 module _ (less : ℕ → ℕ → Type 0) where
   pub IsOrdered-append : (xs ys : List ℕ) → IsOrdered less xs → IsOrdered less ys → ((x y : ℕ) → Holds xs x → Holds ys y → less x y) → IsOrdered less (xs ++ ys)
   IsOrdered-append [] ys ox oy across = oy
-  IsOrdered-append (x ∷ xs) ys ox oy across = (
-    λ y holds. ⊎_elim (λ h. ox.0 y h) (λ h. across x y (inl refl) h) (Holds-append xs ys y holds),
-    IsOrdered-append xs ys ox.1 oy (λ a b ha hb. across a b (inr ha) hb),
-  )
+  IsOrdered-append (x ∷ xs) ys ox oy across = grind (arith, Holds-append xs ys, IsOrdered-append xs ys ox.1 oy)
 
   pub IsOrdered-prefix : (xs ys : List ℕ) → IsOrdered less (xs ++ ys) → IsOrdered less xs
   IsOrdered-prefix [] ys o = tt
@@ -146,20 +135,13 @@ pub New-done : (s : Stage) → s ≡ New → s ≡ Done → ⊥
 New-done s new done = let e : New ≡ Done = sym new ∙ done in absurd cc
 
 pub stands-place : (s : Stage) (first : ℕ) → stands_from s first ≡ true → (s ≡ Member (place s)) × (first ≤ place s)
-stands-place New first is = absurd (false≢true is)
-stands-place (Member p) first is = (refl, leb-true first p is)
-stands-place Done first is = absurd (false≢true is)
+stands-place h first is = grind (arith, leb-true)
 
 pub stands-below : (s : Stage) (p first : ℕ) → s ≡ Member p → stands_from s first ≡ false → p < first
-stands-below s p first is none =
-    let e : nat_le first p ≡ false = ap (λ t. stands_from t first) (sym is) ∙ none in
-    ⊎_elim (λ (l : p < first). l) (λ (l : first ≤ p). absurd (false≢true (sym e ∙ le-leb first p l))) (cases_lt p first)
+stands-below s p first is none = grind (arith, le-leb)
 
 pub stands-not : (s : Stage) (p first : ℕ) → s ≡ Member p → p < first → stands_from s first ≡ false
-stands-not s p first is low = ap (λ t. stands_from t first) is ∙ ⊎_elim
-    (λ (high : nat_le first p ≡ true). let l = leb-true first p high in absurd (omega (arith, l, low)))
-    (λ (none : nat_le first p ≡ false). none)
-    (cases_Bool (nat_le first p))
+stands-not s p first is low = grind (arith, leb-true)
 
 -- a stage that was read
 pub stage_read : (stages : List Stage) (v : ℕ) (s : Stage) → v < length stages → s ≡ get_or stages v s → stage_of stages v ≡ s
@@ -167,22 +149,15 @@ stage_read stages v s within read = get_or_default stages v New s within ∙ sym
 
 -- a member is a node
 pub member_inside : (stages : List Stage) (v p : ℕ) → stage_of stages v ≡ Member p → v < length stages
-member_inside stages v p is = ⊎_elim
-    (λ (h : v < length stages). h)
-    (λ (h : length stages ≤ v). absurd (Member-new (stage_of stages v) p (get_or_past stages v New h) is))
-    (cases_lt v (length stages))
+member_inside stages v p is = grind (arith, Member-new, get_or_past)
 
 -- what was found is a member or done
 pub found_cases : (s : Stage) → IsFound s → (s ≡ Member (place s)) ⊎ (s ≡ Done)
-found_cases New found = absurd found
-found_cases (Member p) found = inl refl
-found_cases Done found = inr refl
+found_cases h found = grind arith
 
 -- where an edge leads that was settled
 pub settled_cases : (bounds : List ℕ) (p : ℕ) (s : Stage) → IsSettled bounds p s → (s ≡ Done) ⊎ ((s ≡ Member (place s)) × IsBefore bounds p (place s))
-settled_cases bounds p New h = absurd h
-settled_cases bounds p (Member q) h = inr (refl, h)
-settled_cases bounds p Done h = inl refl
+settled_cases bounds p h h2 = grind arith
 
 pub settled_member : (bounds : List ℕ) (p q : ℕ) (s : Stage) → s ≡ Member q → IsBefore bounds p q → IsSettled bounds p s
 settled_member bounds p q s is before = subst (IsSettled bounds p) (sym is) before
@@ -191,9 +166,7 @@ pub settled_done : (bounds : List ℕ) (p : ℕ) (s : Stage) → s ≡ Done → 
 settled_done bounds p s is = subst (IsSettled bounds p) (sym is) tt
 
 pub settled_along : (bounds other : List ℕ) (p : ℕ) (s : Stage) → ((q : ℕ) → s ≡ Member q → IsBefore bounds p q → IsBefore other p q) → IsSettled bounds p s → IsSettled other p s
-settled_along bounds other p New along h = h
-settled_along bounds other p (Member q) along h = along q refl h
-settled_along bounds other p Done along h = tt
+settled_along bounds other p h along h2 = grind arith
 
 pub stage_same : (stages : List Stage) (v : ℕ) (s : Stage) → v < length stages → stage_of (set stages v s) v ≡ s
 stage_same stages v s within = get_or-set_same stages v s New within
@@ -204,29 +177,8 @@ stage_other stages v u s apart = get_or-set_other stages v u s New apart
 -- ---- nodes that are done
 
 pub AreDone-more : (nodes more : List ℕ) (on_cycle : Bool) (stages new_stages : List Stage) (marks new_marks : List Bool) (v : ℕ) → more ≡ nodes ++ v ∷ [] → v < length new_stages → v < length new_marks → AreDone nodes on_cycle stages marks new_stages new_marks → AreDone more on_cycle stages marks (set new_stages v Done) (set new_marks v on_cycle)
-AreDone-more nodes more on_cycle stages new_stages marks new_marks v parts in_stages in_marks d = record {
-  stages_size = length-set new_stages v Done ∙ d.stages_size;
-  marks_size = length-set new_marks v on_cycle ∙ d.marks_size;
-  done = λ u holds. ⊎_elim
-      (λ (same : u ≡ v). subst (λ x. stage_of (set new_stages v Done) x ≡ Done) (sym same) (get_or-set_same new_stages v Done New in_stages))
-      (λ (apart : u ≢ v). get_or-set_other new_stages v u Done New apart ∙ d.done u (old u apart holds))
-      (cases_eq u v);
-  told = λ u holds. ⊎_elim
-      (λ (same : u ≡ v). subst (λ x. is_visited (set new_marks v on_cycle) x ≡ on_cycle) (sym same) (get_or-set_same new_marks v on_cycle false in_marks))
-      (λ (apart : u ≢ v). get_or-set_other new_marks v u on_cycle false apart ∙ d.told u (old u apart holds))
-      (cases_eq u v);
-  other_stage = λ u none. get_or-set_other new_stages v u Done New (not_new u none) ∙ d.other_stage u (not_old u none);
-  other_mark = λ u none. get_or-set_other new_marks v u on_cycle false (not_new u none) ∙ d.other_mark u (not_old u none);
-}
-  where
-    old : (u : ℕ) → u ≢ v → Holds more u → Holds nodes u
-    old u apart holds = ⊎_elim (λ h. h) (λ same. absurd (apart same)) (Holds-last nodes v u (subst (λ xs. Holds xs u) parts holds))
-
-    not_new : (u : ℕ) → (Holds more u → ⊥) → u ≢ v
-    not_new u none same = none (subst (λ xs. Holds xs u) (sym parts) (Holds-right nodes (v ∷ []) u (inl (sym same))))
-
-    not_old : (u : ℕ) → (Holds more u → ⊥) → Holds nodes u → ⊥
-    not_old u none holds = none (subst (λ xs. Holds xs u) (sym parts) (Holds-left nodes (v ∷ []) u holds))
+AreDone-more nodes more on_cycle stages new_stages marks new_marks v parts in_stages in_marks d =
+    grind (arith, length-set new_stages, length-set new_marks, get_or-set_same new_stages, get_or-set_other new_stages, get_or-set_same new_marks, get_or-set_other new_marks, Holds-last nodes, Holds-right nodes, Holds-left nodes)
 
 -- one item more of a list
 pub take_one_more : (xs : List ℕ) (k : ℕ) → k < length xs → take (k + 1) xs ≡ take k xs ++ get_or xs k 0 ∷ []
@@ -278,13 +230,7 @@ module _ (old : List ℕ) (place : ℕ) (new : List ℕ) (o : IsOrdered (λ a b.
 
   -- where the last bound that is left isn't above the place, all that are left are the bounds up to it
   pub IsCut-end : ((b : ℕ) → Holds new b → b ≤ place) → (b : ℕ) → Holds new b ↔ IsBound old place b
-  IsCut-end low b = (
-    λ holds. record { inside = subst (λ xs. Holds xs b) (sym c.parts) (Holds-left new c.cut b holds); below = low b holds },
-    λ is. ⊎_elim
-        (λ h. h)
-        (λ h. let l : place < b = c.high b h in absurd (omega (arith, l, is.below)))
-        (Holds-append new c.cut b (subst (λ xs. Holds xs b) c.parts is.inside)),
-  )
+  IsCut-end low b = grind (arith, Holds-left new c.cut b, Holds-append new c.cut b)
 
   pub last_low : (last : ℕ) → IsLast new last → last ≤ place → (b : ℕ) → Holds new b → b ≤ place
   last_low last l low b holds = let h : b ≤ last = bounds_below new l.prefix last b l.parts IsCut-order holds in omega (arith, h, low)

@@ -1,11 +1,11 @@
 -- The test for whether a node is reached from another.
-use Rattle.std.proofs.Common.{◌≡◌, ℕ, zero, suc, ◌<◌, ◌≤◌, ◌↔◌, Bool, true, ◌==◌, ◌&&◌, List, [], ◌∷◌, length, refl, subst, ⊎_elim, arith}
-use Rattle.std.proofs.lemmas.Bool.{cases_order, or_cases, or_left, or_right, and_parts, and_from, eqb-true, eq-eqb, false≢true}
+use Rattle.std.proofs.Common.{◌≡◌, ℕ, zero, suc, ◌<◌, ◌≤◌, ◌↔◌, Bool, true, ◌==◌, ◌&&◌, List, [], ◌∷◌, length, subst, ⊎_elim, arith}
+use Rattle.std.proofs.lemmas.Bool.{cases_order, or_cases, or_left, or_right, and_from, eqb-true, eq-eqb, false≢true}
 use Rattle.closed_walks.specs.Graph.{Graph, IsGraph, edge_count, from, to}
 use Rattle.closed_walks.specs.Walk.{Walk, Reach, no_edge}
 use Rattle.closed_walks.specs.Reaching.{any_below, reaches_within, reaches}
 use Rattle.closed_walks.proofs.Reaching.{stay, along_first, kept}
-use Rattle.closed_walks.proofs.Simple.{IsSimplyReached, Reach-simple, simple_length}
+use Rattle.closed_walks.proofs.Simple.{Reach-simple, simple_length}
 
 -- a number below k that passes the test
 record Passes (k : ℕ) (test : ℕ → Bool) : Type 0 where
@@ -30,20 +30,10 @@ passes-any_below (suc k) test e below here = ⊎_elim
     (cases_order e k)
 
 module _ (g : Graph) where
-  -- an edge from u, and a walk of at most so many edges from where it ends
-  over : (most u v e : ℕ) → Bool
-  over most u v e = (from g e == u) && reaches_within most g (to g e) v
-
   Reach-within_most : (most u v : ℕ) → reaches_within most g u v ≡ true → Reach g no_edge u v
   Reach-within_most zero u v test = stay g no_edge u v (eqb-true u v test)
-  Reach-within_most (suc most) u v test = ⊎_elim
-      (λ (same : (u == v) ≡ true). stay g no_edge u v (eqb-true u v same))
-      (λ rest.
-      let p : Passes (edge_count g) (λ e. (from g e == u) && reaches_within most g (to g e) v) = any_below-passes (edge_count g) (λ e. (from g e == u) && reaches_within most g (to g e) v) rest in
-      let parts = and_parts (from g p.number == u) (reaches_within most g (to g p.number) v) p.passes in
-      subst (λ n. Reach g no_edge n v) (eqb-true (from g p.number) u parts.0)
-      (along_first g no_edge p.number v p.below refl (Reach-within_most most (to g p.number) v parts.1)))
-      (or_cases (u == v) (any_below (edge_count g) (λ e. (from g e == u) && reaches_within most g (to g e) v)) test)
+  Reach-within_most (suc most) u v test =
+      grind (arith, stay g no_edge, eqb-true, any_below-passes (edge_count g), along_first g no_edge, Reach-within_most most)
 
   within_most : (most u v : ℕ) (w : List ℕ) → Walk g u w v → length w ≤ most → reaches_within most g u v ≡ true
   within_most zero u v [] leads few = eq-eqb u v leads
@@ -62,10 +52,5 @@ module _ (g : Graph) where
 
     pub told : (u v : ℕ) → u < g.nodes → (reaches g u v ≡ true) ↔ Reach g no_edge u v
     unfolding reaches
-    told u v node = (
-      λ test. Reach-within_most g.nodes u v test,
-      λ way.
-          let s : IsSimplyReached g no_edge u v = Reach-simple g no_edge u v way in
-          let short : length s.walk < g.nodes = simple_length g sound u v s.walk (reached_node u v node way) s.leads s.simple in
-          within_most g.nodes u v s.walk s.leads (omega arith),
-    )
+    told u v node =
+        grind (arith, Reach-within_most g.nodes u v, Reach-simple g no_edge u v, simple_length g sound u v, reached_node u v node, within_most g.nodes u v)

@@ -12,10 +12,7 @@ module _ (test : Bool) (k e : ℕ) where
   Holds-if passes same = rw passes (inl same)
 
   if-Holds : Holds (if test then k ∷ [] else []) e → (test ≡ true) × (k ≡ e)
-  if-Holds holds = ⊎_elim
-      (λ (passes : test ≡ true). let there = rw passes at holds in (passes, ⊎_elim (λ same. same) (λ none. absurd none) there))
-      (λ (fails : test ≡ false). absurd (rw fails at holds))
-      (cases_Bool test)
+  if-Holds holds = grind arith
 
 module _ (g : Graph) (node : ℕ) where
   Holds-touching : (k e : ℕ) → e < k → touches g node e ≡ true → Holds (touching_below g node k) e

@@ -1,10 +1,11 @@
 -- The graph with each edge turned round.
-use Rattle.std.proofs.Common.{◌≡◌, ℕ, zero, suc, Bool, true, false, ◌||◌, ◌==◌, List, [], ◌∷◌, get_or, map, refl, ap, ◌∙◌}
+use Rattle.std.proofs.Common.{◌≡◌, ℕ, zero, suc, Bool, ◌||◌, ◌==◌, List, [], ◌∷◌, get_or, map, refl, ap, ◌∙◌}
 use Rattle.std.proofs.lemmas.List.{length-map}
 use Rattle.closed_walks.specs.Graph.{Graph, edge_count, from, to, touches, touching_below, edges_at}
 use Rattle.closed_walks.specs.Walk.{Reach, no_edge}
 use Rattle.closed_walks.specs.Reversed.{IsReversed, turned}
 use Rattle.closed_walks.proofs.Reversals.{Reach-turned, IsReversed-back}
+use Rattle.std.proofs.Common.{arith}
 
 abbrev swapped : ℕ × ℕ → ℕ × ℕ
 swapped edge = (edge.1, edge.0)
@@ -15,10 +16,7 @@ get_or-swapped (x ∷ xs) zero = refl
 get_or-swapped (x ∷ xs) (suc e) = get_or-swapped xs e
 
 or_swap : (a b : Bool) → (a || b) ≡ (b || a)
-or_swap true true = refl
-or_swap true false = refl
-or_swap false true = refl
-or_swap false false = refl
+or_swap h h2 = grind arith
 
 module _ (g : Graph) where
   pub from-turned : (e : ℕ) → from (turned g) e ≡ to g e
@@ -38,12 +36,7 @@ module _ (g : Graph) where
   edge_count-turned = length-map g.edges (λ edge. (edge.1, edge.0))
 
   pub IsReversed-turned : IsReversed g (turned g)
-  IsReversed-turned = record {
-    nodes = nodes-turned;
-    edges = edge_count-turned;
-    begins = λ e edge. from-turned e;
-    ends = λ e edge. to-turned e;
-  }
+  IsReversed-turned = grind (arith, nodes-turned, edge_count-turned, from-turned, to-turned)
 
   touches-turned : (node e : ℕ) → touches (turned g) node e ≡ touches g node e
   touches-turned node e = ap (λ n. (n == node) || (to (turned g) e == node)) (from-turned e) ∙ (ap (λ n. (to g e == node) || (n == node)) (to-turned e) ∙ or_swap (to g e == node) (from g e == node))

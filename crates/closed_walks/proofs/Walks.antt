@@ -3,6 +3,7 @@ use Rattle.std.proofs.Common.{◌≡◌, ℕ, ◌<◌, ◌⊎◌, Bool, false, L
 use Rattle.std.proofs.lemmas.Bool.{cases_eq}
 use Rattle.closed_walks.specs.Graph.{Graph, edge_count, from, to}
 use Rattle.closed_walks.specs.Walk.{Walk, IsClosed, Holds, Avoids}
+use Rattle.std.proofs.Common.{arith}
 
 -- ---- edges of a walk
 
@@ -23,13 +24,7 @@ Holds-append (f ∷ v) w e (inr h) = ⊎_elim (λ l. inl (inr l)) (λ r. inr r) 
 -- whether an edge is one of the walk
 pub cases_Holds : (w : List ℕ) (e : ℕ) → Holds w e ⊎ (Holds w e → ⊥)
 cases_Holds [] e = inr (λ h. h)
-cases_Holds (f ∷ w) e = ⊎_elim
-    (λ same. inl (inl same))
-    (λ apart. ⊎_elim
-    (λ h. inl (inr h))
-    (λ none. inr (⊎_elim apart none))
-    (cases_Holds w e))
-    (cases_eq f e)
+cases_Holds (f ∷ w) e = grind (arith, cases_Holds w e, cases_eq f e)
 
 -- ---- walks
 
@@ -83,9 +78,7 @@ module _ (g : Graph) where
 
   pub rotate : (w : List ℕ) (e : ℕ) → IsClosed g w → Holds w e → IsAround w e
   rotate [] e closed holds = absurd holds
-  rotate (f ∷ w) e closed holds =
-      let s = split (from g f) (from g f) (f ∷ w) e closed holds in
-      subst (λ x. IsAround x e) (sym s.parts) (around_parts (from g f) e s.prefix s.back s.edge s.before s.after)
+  rotate (f ∷ w) e closed holds = grind (arith, split (from g f) (from g f) (f ∷ w) e closed holds, around_parts (from g f) e)
 
 -- ---- edges that are avoided
 

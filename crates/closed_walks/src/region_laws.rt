@@ -4,7 +4,7 @@
 //! Source: Johnson, Pearson and Pingali, "The program structure tree", PLDI 1994.
 
 ghost use Rattle.std.specs.Prelude.{◌≡◌, ◌≢◌, ◌<◌, ◌↔◌, ◌⊎◌, ℕ, Bool, true, List, length, take, slice_index_or};
-ghost use Rattle.closed_walks.specs.Graph.{Graph, IsGraph, edge_count, from, to};
+ghost use Rattle.closed_walks.specs.Graph.{Graph, IsGraph, from};
 ghost use Rattle.closed_walks.specs.Walk.{Holds, Reach, only, IsStrong};
 ghost use Rattle.closed_walks.specs.Region.{IsFlowGraph, IsPair, IsBefore, IsInside, IsEntered, IsRegion, IsRank, IsGrown, IsPassed, AreApart, IsWithin};
 

@@ -40,9 +40,6 @@ to-new g u v = ap (λ p. p.1) (get_or_push g.edges (u, v) (0, 0) (edge_count g) 
 -- ---- kept edges
 
 module _ (g : Graph) (excluded : ℕ → Bool) where
-  pub kept-none : IsKeptGraph g excluded 0 (record { nodes = g.nodes; edges = [] })
-  kept-none = record { nodes = refl; edges = refl; begins = λ e l. absurd (omega (arith, l)); ends = λ e l. absurd (omega (arith, l)) }
-
   -- one edge more
   pub kept-more : (n u v : ℕ) (kept : Graph) → u ≡ from g n → v ≡ cond (excluded n) (from g n) (to g n) → IsKeptGraph g excluded n kept → IsKeptGraph g excluded (n + 1) (with_edge kept u v)
   kept-more n u v kept begins ends old =

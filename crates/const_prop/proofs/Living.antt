@@ -21,7 +21,7 @@ use Rattle.dep_routing.specs.Sound.{comes_to}
 use Rattle.dep_routing.specs.Touches.{piece_kind, exec_kind}
 use Rattle.const_prop.specs.declared.known.Known.{Known}
 use Rattle.const_prop.specs.declared.known.Known.TheVariants.{Nothing, One, Any}
-use Rattle.const_prop.specs.Closed.{IsClosed, IsWay, KindAllows, Allows, decided, decided_after, selected, is_action, is_switch, words_on}
+use Rattle.const_prop.specs.Closed.{IsClosed, IsWay, KindAllows, decided, decided_after, selected, is_switch, words_on}
 use Rattle.const_prop.specs.Facts.{PlaceFacts, RunFacts}
 use Rattle.const_prop.specs.Known.{IsSomething, one_of, as_index}
 use Rattle.const_prop.specs.Live.{IsLive, is_excluded, is_other, IsKnownOutAfter}

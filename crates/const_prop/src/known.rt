@@ -1,6 +1,6 @@
 //! What is known of a value.
 
-ghost use Rattle.std.specs.Prelude.{◌≡◌, MatchOption};
+ghost use Rattle.std.specs.Prelude.{MatchOption};
 ghost use Rattle.const_prop.specs.Known.{AtMost};
 ghost use Rattle.const_prop.specs.Rise.{IsRise};
 

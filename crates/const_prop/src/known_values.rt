@@ -1,6 +1,6 @@
 //! What is known of expressions on an edge.
 
-ghost use Rattle.std.specs.Prelude.{◌≡◌, ◌<◌, ◌+◌, ℕ, [], map, length, All};
+ghost use Rattle.std.specs.Prelude.{◌≡◌, ◌<◌, ◌+◌, [], map, length, All};
 ghost use Rattle.std.specs.Option.{option_map, option_and_then};
 ghost use Rattle.op_table.specs.Operators.{arity_of};
 ghost use Rattle.f77_tree.specs.Known.{known};

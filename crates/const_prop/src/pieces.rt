@@ -1,6 +1,6 @@
 //! What pieces write and decide.
 
-ghost use Rattle.std.specs.Prelude.{◌≡◌, ◌<◌, ◌^◌, ◌*◌, ◌↔◌, [], pos, IsTrue, length};
+ghost use Rattle.std.specs.Prelude.{◌≡◌, ◌<◌, ◌^◌, ◌↔◌, [], pos, IsTrue, length};
 ghost use Rattle.closed_walks.specs.Graph.{edge_count};
 ghost use Rattle.op_table.specs.Operators.{which_of_three, picked};
 ghost use Rattle.op_table.specs.Trips.{at_least_zero};

@@ -1,14 +1,13 @@
 //! What the rules of constants read: a program with its flow graph, its classes and its wires.
 
-ghost use Rattle.std.specs.Prelude.{◌≡◌, ◌<◌, ◌+◌, ◌*◌, ◌==◌, ℕ, Some, List, [], length, slice_get, slice_index, slice_index_or, count_by, All, IfOk};
+ghost use Rattle.std.specs.Prelude.{◌≡◌, ◌<◌, ◌==◌, ℕ, Some, [], length, slice_get, slice_index, slice_index_or, count_by, All, IfOk};
 ghost use Rattle.class_set.specs.Members.{IsWidth};
-ghost use Rattle.closed_walks.specs.Graph.{IsGraph, edge_count, to};
+ghost use Rattle.closed_walks.specs.Graph.{edge_count, to};
 ghost use Rattle.cfg_build.specs.Flow.{piece_at, flow};
 ghost use Rattle.cfg_build.specs.Passes.{outs, kind_in};
 ghost use Rattle.cfg_build.specs.Shape.{kind_at};
 ghost use Rattle.dep_routing.specs.Touch.{touches_in};
-ghost use Rattle.dep_routing.specs.Touches.{piece_kind, exec_kind};
-ghost use Rattle.const_prop.specs.Setting.{IsProgram, AreLines, TellOneWord, AreOuts, AreTouched, IsSetting, IsTouchedRow};
+ghost use Rattle.const_prop.specs.Setting.{IsProgram, AreLines, TellOneWord, AreTouched, IsSetting, IsTouchedRow};
 
 use crate::row::Row;
 use alias_classes::Classes;
@@ -91,15 +90,6 @@ impl<'a, const W: usize> Setting<'a, W> {
         ensures { result.now ≡ kind_in (slice_get self.now.program.now.execs (piece_at self.now.flow.now.pieces node).exec) }
     {
         &self.program.execs.at(self.flow.piece(node).exec).kind
-    }
-
-    /// Whether the piece at which the edge ends touches the line.
-    pub(crate) fn touches(&self, line: u32, edge: u32) -> bool
-        requires setting { IsSetting self.now.program.now self.now.flow.now self.now.classes.now self.now.touch.now self.now.lines.now self.now.one_word.items self.now.outs.items self.now.touched.items }
-        requires edge { edge < edge_count self.now.flow.now.graph }
-        ensures { result ≡ touches_in self.now.touch.now (to self.now.flow.now.graph edge) line }
-    {
-        self.touch.at(self.head(edge)).holds(line)
     }
 }
 

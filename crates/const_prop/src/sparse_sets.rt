@@ -1,6 +1,6 @@
 //! Sets for keys, of which most are empty.
 
-ghost use Rattle.std.specs.Prelude.{◌≡◌, ◌≢◌, ◌*◌, ◌<◌, ◌==◌, ◌&&◌, ◌||◌, ℕ, not, false, length, IfOk};
+ghost use Rattle.std.specs.Prelude.{◌≡◌, ◌≢◌, ◌*◌, ◌<◌, ◌==◌, ◌&&◌, ◌||◌, ℕ, not, false, IfOk};
 ghost use Rattle.class_set.specs.ClassSet.{holds};
 ghost use Rattle.class_set.specs.Members.{IsWidth};
 ghost use Rattle.const_prop.specs.SparseSets.{keys_of, number_of, set_holds};

@@ -2,7 +2,7 @@
 
 ghost use Rattle.std.specs.Prelude.{◌≡◌, ◌<◌, ◌≤◌, ◌||◌, ℕ, false, true, IsTrue, ◌↔◌};
 ghost use Rattle.class_set.specs.ClassSet.{holds};
-ghost use Rattle.closed_walks.specs.Graph.{edge_count, to};
+ghost use Rattle.closed_walks.specs.Graph.{edge_count};
 ghost use Rattle.dep_routing.specs.Routing.{next_at};
 ghost use Rattle.dep_routing.specs.Touch.{touches_in};
 ghost use Rattle.const_prop.specs.declared.known.Known.TheVariants.{Any};

@@ -1,13 +1,12 @@
 -- The stack of the ends that were met, on the way from the last statement to the first.
-use Rattle.std.proofs.Common.{◌≡◌, ℕ, zero, suc, ◌+◌, ◌<◌, ◌≤◌, Bool, true, ◌&&◌, if◌then◌else◌, ◌==◌, List, [], ◌∷◌, ◌++◌, ◌⊎◌, inl, inr, reverse, length, slice_get, get_or, set, replicate, Option, Some, None, MatchOption, option_to_list, refl, sym, ap, subst, ◌∙◌, arith}
+use Rattle.std.proofs.Common.{◌≡◌, ℕ, zero, suc, ◌+◌, ◌<◌, ◌≤◌, Bool, true, ◌&&◌, if◌then◌else◌, ◌==◌, List, [], ◌∷◌, ◌++◌, ◌⊎◌, inl, inr, reverse, length, slice_get, get_or, set, Option, Some, None, MatchOption, option_to_list, refl, sym, ap, subst, ◌∙◌, arith}
 use Rattle.std.proofs.lemmas.Bool.{cases_eq, ne_eqb}
-use Rattle.std.proofs.lemmas.List.{reverse-append, drop_all, get_or-set_same, get_or-set_other, get_or_read, length-set, length-replicate}
+use Rattle.std.proofs.lemmas.List.{reverse-append, get_or-set_same, get_or-set_other, get_or_read, length-set}
 use Rattle.f77_tree.specs.declared.statements.Labelled.{Labelled}
 use Rattle.layout_rules.specs.declared.nesting.Role.{Role}
 use Rattle.layout_rules.specs.declared.nesting.Role.TheVariants.{NextArm, LastArm}
 use Rattle.layout_rules.specs.Roles.{role_of}
 use Rattle.control_structure.specs.BlockEnds.{end_by, AreEnds}
-use Rattle.layout_rules.specs.Jumps.{end_after}
 use Rattle.control_structure.proofs.Stops.{end_at, end_at-step, end_at-le}
 use mathlib.Core.Path.{fun_ext}
 
@@ -44,14 +43,6 @@ pub record IsWalkBack (arms : Bool) (stmts : List Labelled) (i : ℕ) (met ends 
   pub inside : i ≤ length stmts
   pub told : (place : ℕ) → i ≤ place → place < length stmts → get_or ends place 0 ≡ end_at arms stmts (place + 1) 0
 
-pub IsWalkBack-begin : (arms : Bool) (stmts : List Labelled) → IsWalkBack arms stmts (length stmts) [] (replicate (length stmts) 0)
-IsWalkBack-begin arms stmts = record {
-  stack = λ k. sym (ap (λ (xs : List Labelled). end_after arms k xs (length stmts)) (drop_all (length stmts) stmts (omega arith)));
-  as_many = length-replicate {A = ℕ} (length stmts) 0;
-  inside = omega arith;
-  told = λ place le lt. absurd (omega (arith, le, lt));
-}
-
 pub IsWalkBack-step : (arms : Bool) (stmts : List Labelled) (i : ℕ) (s : Labelled) (met beyond ends : List ℕ) (top : ℕ) → slice_get stmts i ≡ Some s → i < length stmts → IsWalkBack arms stmts (i + 1) met ends → top ≡ get_or (reverse met) 0 (length stmts)
     → ((none inner : ℕ) → get_or (reverse beyond) inner none ≡ end_by arms (role_of s.stmt) i (λ k. get_or (reverse met) k none) inner) → IsWalkBack arms stmts i beyond (set ends i top)
 IsWalkBack-step arms stmts i s met beyond ends top here lt walk is_top is = record {
@@ -62,12 +53,6 @@ IsWalkBack-step arms stmts i s met beyond ends top here lt walk is_top is = reco
     | inl same ↦ subst (λ (n : ℕ). get_or (set ends i top) n 0 ≡ end_at arms stmts (n + 1) 0) (sym same) (get_or-set_same ends i top 0 (omega (arith, walk.as_many, lt)) ∙ (is_top ∙ walk.stack 0))
     | inr other ↦ get_or-set_other ends i place top 0 other ∙ walk.told place (omega (arith, le, other)) less
   ];
-}
-
-pub IsWalkBack-end : (arms : Bool) (stmts : List Labelled) (i : ℕ) (met ends : List ℕ) → i ≤ 0 → IsWalkBack arms stmts i met ends → AreEnds arms stmts ends
-IsWalkBack-end arms stmts i met ends le walk = record {
-  as_many = walk.as_many;
-  told = λ place lt. walk.told place (omega (arith, le)) lt;
 }
 
 -- where arms are told, one ends at ELSE IF and ELSE

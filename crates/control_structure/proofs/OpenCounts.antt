@@ -49,17 +49,6 @@ same_one terminal = grind arith
 other_none : (terminal label : ℕ) → (label ≡ terminal → ⊥) → one_if (terminal == label) ≡ 0
 other_none terminal label h = grind arith
 
-pub AreCounted-loop : (e : Entry) (stack : List Entry) (loops : List ℕ) (terminal v : ℕ) → terminal < length loops → v ≡ get_or loops terminal v → e.opened ≡ Loop terminal → AreCounted stack loops → AreCounted (e ∷ stack) (set loops terminal (v + 1))
-AreCounted-loop e stack loops terminal v in_table read h are label = elim (cases_eq label terminal) as (λ _. get_or (set loops terminal (v + 1)) label 0 ≡ loops_at label (e ∷ stack)) [
-  | inl same ↦ subst (λ l. get_or (set loops terminal (v + 1)) l 0 ≡ loops_at l (e ∷ stack)) (sym same) (get_or-set_same loops terminal (v + 1) 0 in_table
-      ∙ (omega (arith, get_or_read loops terminal v in_table read 0, are terminal, ap one_if (at_loop e terminal h terminal) ∙ same_one terminal)))
-  | inr other ↦ get_or-set_other loops terminal label (v + 1) 0 other
-      ∙ (omega (arith, are label, ap one_if (at_loop e terminal h label) ∙ other_none terminal label other))
-]
-
-pub AreCounted-block : (e : Entry) (stack : List Entry) (loops : List ℕ) (is_last : Bool) → e.opened ≡ Block is_last → AreCounted stack loops → AreCounted (e ∷ stack) loops
-AreCounted-block e stack loops is_last h are label = omega (arith, are label, ap one_if (at_block e is_last h label))
-
 -- the loop on top is counted
 pub top_within : (e : Entry) (stack : List Entry) (loops : List ℕ) (terminal : ℕ) → e.opened ≡ Loop terminal → AreCounted (e ∷ stack) loops → terminal < length loops
 top_within e stack loops terminal h are =

@@ -1,5 +1,5 @@
 -- The statements of a source without the faults of labels and counts, as the executables rely on them.
-use Rattle.std.proofs.Common.{◌≡◌, ℕ, ◌<◌, true, false, not, ◌==◌, List, [], get_or, Some, None, All, refl, sym, ap, subst, ◌∙◌, arith, ◌+◌, ◌∷◌, map, slice_get}
+use Rattle.std.proofs.Common.{◌≡◌, ℕ, true, false, not, ◌==◌, List, [], get_or, Some, None, All, refl, sym, ap, subst, ◌∙◌, arith, ◌+◌, ◌∷◌, map, slice_get}
 use Rattle.std.specs.Prelude.{slice_get}
 use Rattle.std.proofs.lemmas.Bool.{or_parts, not-false}
 use Rattle.std.proofs.lemmas.Option.{slice_get_within, slice_get-get_or, get_or_from_slice_get}
@@ -134,6 +134,3 @@ module _ (stmts : List Labelled) (source : IsSource stmts) where
 
   pub usable : first_line (lacks_label stmts) stmts ≡ None → All (IsUsable stmts) stmts
   usable none k d below = usable_at none k (get_or stmts k d) (slice_get-get_or stmts k d below)
-
-  pub small_labels : All (λ s. s.label < 100000) stmts
-  small_labels k d below = label_is_small stmts source k (get_or stmts k d) (slice_get-get_or stmts k d below)

@@ -1,6 +1,6 @@
 //! Labels: where they stand, and whether each one that is used stands where it may.
 
-ghost use Rattle.std.specs.Prelude.{◌≡◌, ◌<◌, All, None, IfOk, not};
+ghost use Rattle.std.specs.Prelude.{◌≡◌, All, None, IfOk, not};
 ghost use Rattle.std.specs.List.{list_any};
 ghost use Rattle.layout_rules.specs.Faults.{first_line};
 ghost use Rattle.control_structure.specs.LabelTable.{ArePlacesOf, place_in};

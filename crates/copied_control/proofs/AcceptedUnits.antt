@@ -1,20 +1,16 @@
 -- In a text whose units nothing refuses, blocks and loops end in their units, none calls itself, and each context is in its place.
-use Rattle.std.proofs.Common.{◌≡◌, ℕ, zero, suc, ◌+◌, ◌<◌, Bool, true, false, List, [], ◌∷◌, length, Option, Some, None, refl, sym, ap, subst, ◌∙◌, arith}
+use Rattle.std.proofs.Common.{◌≡◌, ℕ, Bool, true, List, [], length, Option, Some, None, refl, sym, ap, subst, ◌∙◌}
 use Rattle.std.specs.List.{slice_get, range_with_len}
-use Rattle.std.proofs.lemmas.List.FromFn.{get_or-range_with_len, length-range_with_len}
-use Rattle.std.proofs.lemmas.Option.{slice_get-get_or}
 use Rattle.f77_tree.specs.declared.statements.Labelled.{Labelled}
-use Rattle.layout_rules.specs.declared.layout_end.LayoutEnd.{LayoutEnd}
 use Rattle.layout_rules.specs.Faults.{first_answer}
 use Rattle.layout_rules.specs.Layout.{refusal}
-use Rattle.f77_subs.specs.declared.sub_end.SubEnd.{SubEnd}
 use Rattle.f77_subs.specs.declared.sub_end.SubEnd.TheVariants.{Recursion}
 use Rattle.f77_subs.specs.Contexts.{IsInPlace, IsReached}
 use Rattle.f77_subs.specs.Copies.{Context}
 use Rattle.f77_subs.specs.CopiedLoops.{HasEndOf, HaveEnds}
 use Rattle.f77_subs.specs.Heights.{NoneCallsItself}
 use Rattle.f77_subs.specs.OpenBlocks.{AreClosedUnits, IsEnded, are_closed}
-use Rattle.f77_subs.specs.Refusals.{end_at, first_line_if, layout_end, layout_end_of, recursion, unit_refusal, unit_refusals}
+use Rattle.f77_subs.specs.Refusals.{end_at, recursion, unit_refusal, unit_refusals}
 use Rattle.f77_subs.specs.Texts.{IsText}
 use Rattle.f77_subs.specs.Units.{reaches, standing_in, unit_at, unit_or_none, units}
 use Rattle.copied_control.proofs.ClosedUnits.{accepted-closed}

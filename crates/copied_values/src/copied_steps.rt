@@ -1,6 +1,6 @@
 //! Laws on what executables of copies do, as contracts of functions that do nothing.
 
-ghost use Rattle.std.specs.Prelude.{◌≡◌, ◌+◌, ◌≤◌, ◌++◌, Bool, ℕ, ℤ, List, [], ◌∷◌, flat_map, length, map, true, false, Option, slice_index};
+ghost use Rattle.std.specs.Prelude.{◌≡◌, ◌≤◌, ◌++◌, Bool, ℕ, ℤ, List, [], ◌∷◌, flat_map, length, map, true, false, Option, slice_index};
 ghost use Rattle.std.specs.List.{list_all};
 ghost use Rattle.f77_tree.specs.declared.programs.ExecKind.TheVariants.{Assign as Assigned, Print as Printed, Test, Sign, Pick, DoStart, DoNext};
 ghost use Rattle.f77_tree.specs.declared.programs.NameInfo.{NameInfo};

@@ -1,6 +1,6 @@
 //! Laws on the values of expressions in copies, as contracts of functions that do nothing.
 
-ghost use Rattle.std.specs.Prelude.{◌≡◌, Bool, ℕ, ℤ, List, flat_map, length, map, true, Option, None, Result};
+ghost use Rattle.std.specs.Prelude.{◌≡◌, Bool, ℕ, ℤ, List, flat_map, length, map, true, Option, Result};
 ghost use Rattle.std.specs.List.{list_all};
 ghost use Rattle.std.specs.Option.{is_some};
 ghost use Rattle.op_table.specs.declared.Trap.{Trap};

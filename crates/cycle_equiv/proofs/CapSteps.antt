@@ -43,12 +43,7 @@ ended_push edges f xs (d ∷ fs) = ap (λ ys. without ys (edges + d)) (ended_pus
 
 module _ (edges f : ℕ) (fs : List ℕ) where
   pub caps_fewer : (xs : List ℕ) → HaveCaps edges xs (fs ++ f ∷ []) → HaveCaps edges (without xs (edges + f)) fs
-  caps_fewer xs h = record {
-    once = once_prefix fs f h.once;
-    stand = λ d stands. stands_still xs (edges + f) (edges + d) (h.stand d (stands_push fs f d stands))
-        (λ same. once_last fs f h.once (let equal : d ≡ f = omega (arith, same) in subst (Stands fs) equal stands));
-    few = λ d stands. h.few d (stands_push fs f d stands);
-  }
+  caps_fewer xs h = grind (arith, once_prefix fs f h.once, stands_still xs (edges + f), stands_push fs f, once_last fs f h.once)
 
   pub caps_last : (xs : List ℕ) → HaveCaps edges xs (fs ++ f ∷ []) → Stands xs (edges + f) × (edges + f < 2 ^ 32)
   caps_last xs h = (h.stand f (stands_last fs f), h.few f (stands_last fs f))
@@ -56,11 +51,8 @@ module _ (edges f : ℕ) (fs : List ℕ) where
   pub caps_step : (lists : List (List ℕ)) (list : ℕ) → Stands (list_at lists list) (edges + f)
       → (list_at (set lists list (without (list_at lists list) (edges + f))) list ≡ without (list_at lists list) (edges + f))
       × (set (set lists list (without (list_at lists list) (edges + f))) list (ended edges (without (list_at lists list) (edges + f)) fs) ≡ set lists list (ended edges (list_at lists list) (fs ++ f ∷ [])))
-  caps_step lists list stands = (
-    get_or-set_same lists list (without (list_at lists list) (edges + f)) [] (list_inside lists list (edges + f) stands),
-    set_twice lists list (without (list_at lists list) (edges + f)) (ended edges (without (list_at lists list) (edges + f)) fs)
-        ∙ ap (set lists list) (sym (ended_push edges f (list_at lists list) fs)),
-  )
+  caps_step lists list stands =
+      grind (arith, get_or-set_same lists list (without (list_at lists list) (edges + f)), list_inside lists list (edges + f) stands, set_twice lists list (without (list_at lists list) (edges + f)) (ended edges (without (list_at lists list) (edges + f)) fs), ended_push edges f (list_at lists list) fs)
 
 -- ---- the node's own capping bracket
 
@@ -71,19 +63,8 @@ stands_ended edges xs (f ∷ fs) y stands = stands_ended edges xs fs y (stands_w
 module _ (lists : List (List ℕ)) (f edges : ℕ) (inside : f < length lists) where
   -- a bracket in no list is in none after some went
   pub free_ended : (fs : List ℕ) (b : ℕ) → IsFree lists b → IsFree (set lists f (ended edges (list_at lists f) fs)) b
-  free_ended fs b free l stands = ⊎_elim
-      (λ (same : l ≡ f). free f (stands_ended edges (list_at lists f) fs b
-      (subst (λ xs. Stands xs b) (get_or-set_same lists f (ended edges (list_at lists f) fs) [] inside) (subst (λ k. Stands (list_at (set lists f (ended edges (list_at lists f) fs)) k) b) same stands))))
-      (λ (apart : l ≢ f). free l (subst (λ xs. Stands xs b) (get_or-set_other lists f l (ended edges (list_at lists f) fs) [] apart) stands))
-      (cases_eq l f)
+  free_ended fs b free l stands = grind (arith, stands_ended edges, get_or-set_same lists, get_or-set_other lists)
 
   pub own_pushed : (caps : List (List ℕ)) (place second : ℕ) (fs : List ℕ) (mid new : List (List ℕ)) → second < place → fs ≡ caps_at caps place
       → mid ≡ set lists f (ended edges (list_at lists f) fs) → new ≡ set mid f ((edges + f) ∷ list_at mid f) → new ≡ set lists f (ended_list edges lists caps f place second)
-  own_pushed caps place second fs mid new above is first then =
-      let xs = ended edges (list_at lists f) fs in
-      let here : list_at mid f ≡ xs = ap (λ ls. list_at ls f) first ∙ get_or-set_same lists f xs [] inside in
-      then
-      ∙ ap (λ ys. set mid f ((edges + f) ∷ ys)) here
-      ∙ ap (λ ls. set ls f ((edges + f) ∷ xs)) first
-      ∙ set_twice lists f xs ((edges + f) ∷ xs)
-      ∙ rw (lt-ltb second place above) (ap (λ gs. set lists f ((edges + f) ∷ ended edges (list_at lists f) gs)) is)
+  own_pushed caps place second fs mid new above is first then = grind (arith, get_or-set_same lists f, set_twice lists f, lt-ltb second place above)

@@ -61,11 +61,7 @@ module _ (g : Graph) (x : ℕ) where
 -- fewer edges stand before an edge than its number
 pub earlier_few : (g : Graph) (x e : ℕ) → earlier g x e ≤ e
 earlier_few g x zero = omega arith
-earlier_few g x (suc e) =
-    let rest = earlier_few g x e in
-    let long = length-append (touching_below g x e) (if touches g x e then e ∷ [] else []) in
-    let one = length_if (touches g x e) e in
-    omega (arith, rest, long, one)
+earlier_few g x (suc e) = grind (arith, earlier_few g x e, length-append (touching_below g x e), length_if (touches g x e) e)
 
 -- what an answer says
 pub answered_edge : (o : Option ℕ) (e : ℕ) → Edge e ≡ edge_end o → o ≡ Some e

@@ -1,5 +1,5 @@
 -- The lists of brackets, where the walk is at its end.
-use Rattle.std.proofs.Common.{◌≡◌, ℕ, ◌<◌, ◌≤◌, true, List, Option, Some, refl, sym, ap, ◌∙◌, subst, inl, inr, ⊎_elim, arith}
+use Rattle.std.proofs.Common.{◌≡◌, ℕ, ◌<◌, ◌≤◌, true, List, Option, Some, sym, ap, ◌∙◌, subst, inl, inr, ⊎_elim, arith}
 use Rattle.closed_walks.specs.Graph.{Graph, IsGraph, edge_count, touches, from, to}
 use Rattle.closed_walks.specs.Walk.{IsStrong}
 use Rattle.cycle_equiv.specs.DepthFirst.{Joins, IsChild, IsBackEdge, IsBelow, IsDepthFirst}
@@ -124,10 +124,8 @@ module _ (g : Graph) (w : Trail) (walk : IsTrail g w w.tree.root) (counted : IsC
         (λ y y_found other. back.found_none y (record { node = walk.node y y_found; other = other }))
 
     back_name : (b : ℕ) → IsBackEdge g w.tree b → (tops b ≡ Some b) × (sizes b ≡ 1)
-    back_name b back = ⊎_elim
-        (λ (up : w.tree.preorder (from g b) < w.tree.preorder (to g b)). back_named b (to g b) (from g b) (sound.ends b back.edge) back (inr (refl, refl)) (omega (arith, up)))
-        (λ (down : w.tree.preorder (to g b) ≤ w.tree.preorder (from g b)). back_named b (from g b) (to g b) (sound.begins b back.edge) back (inl (refl, refl)) down)
-        (cases_lt (w.tree.preorder (from g b)) (w.tree.preorder (to g b)))
+    back_name b back =
+        grind (arith, back_named b (to g b) (from g b) (sound.ends b back.edge) back, back_named b (from g b) (to g b) (sound.begins b back.edge) back, cases_lt (w.tree.preorder (from g b)) (w.tree.preorder (to g b)))
 
     names : AreNames g w.tree (record { second_reach = r.second; list = final }) tops sizes
     names = record {

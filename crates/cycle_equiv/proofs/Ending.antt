@@ -1,7 +1,7 @@
 -- Where the walk took all edges of the root and is there again, its tree is a depth-first tree of all nodes.
-use Rattle.std.proofs.Common.{◌≡◌, ◌≢◌, ℕ, zero, suc, ◌+◌, ◌<◌, ◌≤◌, ◌⊎◌, Bool, true, false, List, [], ◌∷◌, refl, sym, ap, ◌∙◌, subst, inl, inr, ⊎_elim, arith}
+use Rattle.std.proofs.Common.{◌≡◌, ◌≢◌, ℕ, zero, suc, ◌+◌, ◌<◌, ◌≤◌, ◌⊎◌, Bool, true, false, List, [], ◌∷◌, refl, sym, ap, ◌∙◌, subst, inl, ⊎_elim, arith}
 use Rattle.std.proofs.lemmas.Bool.{cases_eq, cases_lt, cases_Bool}
-use Rattle.closed_walks.specs.Graph.{Graph, IsGraph, edge_count, touches, from, to}
+use Rattle.closed_walks.specs.Graph.{Graph, IsGraph, edge_count, touches, to}
 use Rattle.closed_walks.specs.Walk.{Walk, IsStrong}
 use Rattle.cycle_equiv.specs.DepthFirst.{Joins, IsChild, IsBackEdge, IsBelow, IsDepthFirst}
 use Rattle.cycle_equiv.specs.Walking.{Trail, IsTaken, IsOpen, IsTrail, IsCounted, unfound, put}
@@ -32,23 +32,14 @@ unfound_find f v (suc n) less hidden = ⊎_elim
 module _ (g : Graph) (w : Trail) (walk : IsTrail g w w.tree.root) (counted : IsCounted g w)
     (taken : (e : ℕ) → e < edge_count g → touches g w.tree.root e ≡ true → IsTaken g w w.tree.root e) where
   root_alone : (x : ℕ) → IsOpen w x → x ≡ w.tree.root
-  root_alone x stands =
-      let last = walk.last x stands in
-      let zero_place = walk.root_first in
-      walk.one_place x w.tree.root stands.found walk.root_open.found (omega (arith, last, zero_place))
+  root_alone x stands = grind arith
 
   -- the walk left all other nodes
   pub left_or_root : (x : ℕ) → w.found x ≡ true → (x ≡ w.tree.root) ⊎ (w.left x ≡ true)
-  left_or_root x found = ⊎_elim
-      (λ (left : w.left x ≡ true). inr left)
-      (λ (stays : w.left x ≡ false). inl (root_alone x (record { found = found; stays = stays })))
-      (cases_Bool (w.left x))
+  left_or_root x found = grind (arith, root_alone x)
 
   pub all_taken : (x e : ℕ) → w.found x ≡ true → e < edge_count g → touches g x e ≡ true → IsTaken g w x e
-  all_taken x e found edge touched = ⊎_elim
-      (λ (root : x ≡ w.tree.root). subst (λ n. IsTaken g w n e) (sym root) (taken e edge (subst (λ n. touches g n e ≡ true) root touched)))
-      (λ (left : w.left x ≡ true). walk.left_edges x e left edge touched)
-      (left_or_root x found)
+  all_taken x e found edge touched = grind (arith, left_or_root x found)
 
   found_along : (u v : ℕ) (path : List ℕ) → w.found u ≡ true → Walk g u path v → w.found v ≡ true
   found_along u v [] found leads = subst (λ n. w.found n ≡ true) leads found
@@ -66,43 +57,21 @@ module _ (g : Graph) (w : Trail) (walk : IsTrail g w w.tree.root) (counted : IsC
     all_found x node = let way = strong w.tree.root x root_node node in found_along w.tree.root x way.walk walk.root_open.found way.leads
 
     left_finish : (x : ℕ) → w.found x ≡ true → w.tree.finish x ≤ w.count
-    left_finish x found = ⊎_elim
-        (λ (root : x ≡ w.tree.root). let finish = walk.open_finish w.tree.root walk.root_open in let here = ap w.tree.finish root in omega (arith, finish, here))
-        (λ (left : w.left x ≡ true). walk.left_finish x left)
-        (left_or_root x found)
+    left_finish x found = grind (arith, left_or_root x found)
 
     few : w.count ≤ g.nodes
     few = let c = counted.count in omega (arith, c)
 
     nested : (c x : ℕ) → c < g.nodes → x < g.nodes → IsBelow w.tree c x → w.tree.finish x ≤ w.tree.finish c
-    nested c x c_node x_node below = ⊎_elim
-        (λ (root : c ≡ w.tree.root).
-        let most = left_finish x (all_found x x_node) in
-        let finish = walk.open_finish w.tree.root walk.root_open in
-        let here = ap w.tree.finish root in
-        omega (arith, most, finish, here))
-        (λ (left : w.left c ≡ true). walk.nested c x left (all_found x x_node) below)
-        (left_or_root c (all_found c c_node))
+    nested c x c_node x_node below =
+        grind (arith, left_finish x (all_found x x_node), all_found x x_node, left_or_root c (all_found c c_node), all_found c c_node)
 
     left_later : (x : ℕ) → x < g.nodes → w.tree.preorder x < w.tree.finish x
-    left_later x node = ⊎_elim
-        (λ (root : x ≡ w.tree.root).
-        let finish = walk.open_finish w.tree.root walk.root_open in
-        let here = ap w.tree.finish root in
-        let inside = walk.in_range x (all_found x node) in
-        omega (arith, finish, here, inside))
-        (λ (left : w.left x ≡ true). walk.left_later x left)
-        (left_or_root x (all_found x node))
+    left_later x node = grind (arith, all_found x node, left_or_root x (all_found x node))
 
     module _ (sound : IsGraph g) where
       joined_node : (e u v : ℕ) → e < edge_count g → Joins g e u v → (u < g.nodes) × (v < g.nodes)
-      joined_node e u v edge ends =
-          let first = sound.begins e edge in
-          let second = sound.ends e edge in
-          ⊎_elim
-          (λ (h : (from g e ≡ u) × (to g e ≡ v)). (subst (λ n. n < g.nodes) h.0 first, subst (λ n. n < g.nodes) h.1 second))
-          (λ (h : (from g e ≡ v) × (to g e ≡ u)). (subst (λ n. n < g.nodes) h.1 second, subst (λ n. n < g.nodes) h.0 first))
-          ends
+      joined_node e u v edge ends = grind arith
 
       back_ends : (e u v : ℕ) → IsBackEdge g w.tree e → Joins g e u v → w.tree.preorder u ≤ w.tree.preorder v → w.tree.preorder v < w.tree.finish u
       back_ends e u v back ends order =

@@ -27,10 +27,7 @@ module _ (g : Graph) (w : Trail) (u : ℕ) (walk : IsTrail g w u) (e v : ℕ) (e
   found_still x found = put_other w.found v true x (known x found) ∙ found
 
   pub found_was : (x : ℕ) → after.found x ≡ true → (x ≡ v) ⊎ (w.found x ≡ true)
-  found_was x found = ⊎_elim
-      (λ (same : x ≡ v). inl same)
-      (λ (other : x ≢ v). inr (sym (put_other w.found v true x other) ∙ found))
-      (cases_eq x v)
+  found_was x found = grind (arith, put_other w.found)
 
   pub parent_old : (x : ℕ) → x ≢ v → after.tree.parent x ≡ w.tree.parent x
   parent_old x other = put_other w.tree.parent v u x other
@@ -51,16 +48,10 @@ module _ (g : Graph) (w : Trail) (u : ℕ) (walk : IsTrail g w u) (e v : ℕ) (e
   finish_open x stays = rw stays refl
 
   stays_new : w.left v ≡ false
-  stays_new = ⊎_elim
-      (λ (left : w.left v ≡ true). absurd (false≢true (sym hidden ∙ walk.left_found v left)))
-      (λ (stays : w.left v ≡ false). stays)
-      (cases_Bool (w.left v))
+  stays_new = grind arith
 
   pub open_was : (x : ℕ) → IsOpen after x → (x ≡ v) ⊎ IsOpen w x
-  open_was x h = ⊎_elim
-      (λ (same : x ≡ v). inl same)
-      (λ (found : w.found x ≡ true). inr (record { found = found; stays = h.stays }))
-      (found_was x h.found)
+  open_was x h = grind (arith, found_was)
 
   pub open_still : (x : ℕ) → IsOpen w x → IsOpen after x
   open_still x h = record { found = found_still x h.found; stays = h.stays }
@@ -74,22 +65,10 @@ module _ (g : Graph) (w : Trail) (u : ℕ) (walk : IsTrail g w u) (e v : ℕ) (e
   -- ---- the edges that were taken
 
   taken_as : (x d : ℕ) → x ≢ v → IsTaken g (taking w u) x d → IsTaken g after x d
-  taken_as x d other h =
-      let same : after.taken x ≡ put w.taken u (w.taken u + 1) x = put_other (put w.taken u (w.taken u + 1)) v 0 x other in
-      let early = h.early in
-      record { edge = h.edge; touched = h.touched; early = omega (arith, same, early) }
+  taken_as x d other h = grind (arith, put_other (put w.taken u (w.taken u + 1)) v 0 x other)
 
   pub taken_back : (x d : ℕ) → IsTaken g after x d → (x ≢ v) × IsTaken g (taking w u) x d
-  taken_back x d h = ⊎_elim
-      (λ (same : x ≡ v).
-      let none : after.taken x ≡ 0 = put_same (put w.taken u (w.taken u + 1)) v 0 x same in
-      let early = h.early in
-      absurd (omega (arith, none, early)))
-      (λ (other : x ≢ v).
-      let same : after.taken x ≡ put w.taken u (w.taken u + 1) x = put_other (put w.taken u (w.taken u + 1)) v 0 x other in
-      let early = h.early in
-      (other, record { edge = h.edge; touched = h.touched; early = omega (arith, same, early) }))
-      (cases_eq x v)
+  taken_back x d h = grind (arith, put_same (put w.taken u (w.taken u + 1)), put_other (put w.taken u (w.taken u + 1)))
 
   pub taken_on : (x d : ℕ) → w.found x ≡ true → IsTaken g w x d → IsTaken g after x d
   taken_on x d found h = taken_as x d (known x found) (taken_still g w u x d h)
@@ -137,29 +116,14 @@ module _ (g : Graph) (w : Trail) (u : ℕ) (walk : IsTrail g w u) (e v : ℕ) (e
 
   -- the new node is below no node that was left
   new_outside : (c : ℕ) → w.left c ≡ true → IsBelow after.tree c v → ⊥
-  new_outside c left h =
-      let f = finish_left c left in
-      let most = walk.left_finish c left in
-      let place = place_new v refl in
-      let down = h.before in
-      omega (arith, f, most, place, down)
+  new_outside c left h = grind (arith, finish_left c left, place_new v)
 
   new_inside : (c : ℕ) → IsOpen w c → IsBelow after.tree c v
-  new_inside c stands =
-      let f = finish_open c stands.stays in
-      let place = place_new v refl in
-      let pc = place_old c stands.found in
-      let inside = walk.in_range c stands.found in
-      record { after = omega (arith, place, pc, inside); before = omega (arith, f, place) }
+  new_inside c stands = grind (arith, finish_open c stands.stays, place_new v, place_old c stands.found)
 
   -- no node is below the new one
   none_under : (x : ℕ) → w.found x ≡ true → IsBelow after.tree v x → ⊥
-  none_under x found h =
-      let place = place_new v refl in
-      let px = place_old x found in
-      let inside = walk.in_range x found in
-      let up = h.after in
-      omega (arith, place, px, inside, up)
+  none_under x found h = grind (arith, place_new v, place_old x found)
 
   -- ---- the walk
 
@@ -207,18 +171,7 @@ module _ (g : Graph) (w : Trail) (u : ℕ) (walk : IsTrail g w u) (e v : ℕ) (e
 
   by_edge_new : (x : ℕ) → x ≡ v → IsFoundBy g after x
   by_edge_new x same =
-      let up = parent_new x same in
-      let by = edge_new x same in
-      let place = place_new x same in
-      let up_place : after.tree.preorder (after.tree.parent x) ≡ w.tree.preorder u = ap after.tree.preorder up ∙ place_old u walk.here.found in
-      let inside = walk.in_range u walk.here.found in
-      record {
-        parent = subst (λ p. after.found p ≡ true) (sym up) (found_still u walk.here.found);
-        first = omega (arith, place, up_place, inside);
-        ends = subst (λ n. Joins g n (after.tree.parent x) x) (sym by) (subst (λ p. Joins g e p x) (sym up) (subst (λ n. Joins g e u n) (sym same) ends));
-        taken = subst (λ n. IsTaken g after (after.tree.parent x) n) (sym by) (subst (λ p. IsTaken g after p e) (sym up)
-            (taken_as u e (known u walk.here.found) (taken_now g w u e edge touched next)));
-      }
+      grind (arith, parent_new x same, edge_new x same, place_new x same, place_old u walk.here.found, found_still u walk.here.found, taken_as u e (known u walk.here.found) (taken_now g w u e edge touched next), known u walk.here.found, taken_now g w u e edge touched next)
 
   by_edge_old : (x : ℕ) → w.found x ≡ true → x ≢ w.tree.root → IsFoundBy g after x
   by_edge_old x found not_root =
@@ -317,43 +270,23 @@ module _ (g : Graph) (w : Trail) (u : ℕ) (walk : IsTrail g w u) (e v : ℕ) (e
       omega (arith, py, px, less)
 
   left_apart : (x y : ℕ) → w.left x ≡ true → IsOpen after y → IsBelow after.tree x y → ⊥
-  left_apart x y left y_open below = ⊎_elim
-      (λ (new : y ≡ v). new_outside x left (subst (λ n. IsBelow after.tree x n) new below))
-      (λ (old : IsOpen w y). walk.left_apart x y left old (below_was x y (walk.left_found x left) old.found below))
-      (open_was y y_open)
+  left_apart x y left y_open below = grind (arith, new_outside x left, below_was x, open_was)
 
   under_left : (c x : ℕ) → w.left c ≡ true → after.found x ≡ true → IsBelow after.tree c x → w.found x ≡ true
-  under_left c x left found below = ⊎_elim
-      (λ (new : x ≡ v). absurd (new_outside c left (subst (λ n. IsBelow after.tree c n) new below)))
-      (λ (old : w.found x ≡ true). old)
-      (found_was x found)
+  under_left c x left found below = grind (arith, new_outside c left, found_was)
 
   nested_left : (c x : ℕ) → w.left c ≡ true → after.found x ≡ true → IsBelow after.tree c x → w.left x ≡ true
-  nested_left c x left found below =
-      let old = under_left c x left found below in
-      walk.nested_left c x left old (below_was c x (walk.left_found c left) old below)
+  nested_left c x left found below = grind (arith, under_left c x left found below, below_was c x (walk.left_found c left))
 
   nested : (c x : ℕ) → w.left c ≡ true → after.found x ≡ true → IsBelow after.tree c x → after.tree.finish x ≤ after.tree.finish c
   nested c x left found below =
-      let old = under_left c x left found below in
-      let less = walk.nested c x left old (below_was c x (walk.left_found c left) old below) in
-      let fc = finish_left c left in
-      let fx = finish_left x (nested_left c x left found below) in
-      omega (arith, less, fc, fx)
+      grind (arith, under_left c x left found below, below_was c x (walk.left_found c left), finish_left c left, finish_left x (nested_left c x left found below), nested_left c x left found below)
 
   last : (y : ℕ) → IsOpen after y → after.tree.preorder y ≤ after.tree.preorder v
-  last y y_open =
-      let new = place_new v refl in
-      ⊎_elim
-      (λ (same : y ≡ v). let p = place_new y same in omega (arith, p, new))
-      (λ (old : IsOpen w y). let p = place_old y old.found in let inside = walk.in_range y old.found in omega (arith, p, inside, new))
-      (open_was y y_open)
+  last y y_open = grind (arith, place_new, place_old, open_was)
 
   in_range : (x : ℕ) → after.found x ≡ true → after.tree.preorder x < w.count + 1
-  in_range x found = ⊎_elim
-      (λ (same : x ≡ v). let p = place_new x same in omega (arith, p))
-      (λ (old : w.found x ≡ true). let p = place_old x old in let inside = walk.in_range x old in omega (arith, p, inside))
-      (found_was x found)
+  in_range x found = grind (arith, place_new, place_old, found_was)
 
   pub find_trail : IsTrail g (finding w u e v) v
   find_trail = record {

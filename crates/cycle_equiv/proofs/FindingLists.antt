@@ -121,9 +121,7 @@ module _ (g : Graph) (w : Trail) (u : ℕ) (walk : IsTrail g w u) (e v : ℕ) (e
 
     pub place_same : (b low end : ℕ) → LeadsUp g w r b low end → place g after.tree b ≡ place g w.tree b
     place_same b low end h =
-        place_leads g after v find_trail begun b low end (leads_still b low end h)
-        ∙ place_old low (leads_found b low end h)
-        ∙ sym (place_leads g w u walk r b low end h)
+        grind (arith, place_leads g after v find_trail begun b low end (leads_still b low end h), find_trail, leads_still b low end h, place_old low (leads_found b low end h), leads_found b low end h, place_leads g w u walk r b low end h)
 
     pending_still : (b low : ℕ) → IsPending g w r b low → IsPending g after begun b low
     pending_still b low h = record {
@@ -208,12 +206,7 @@ module _ (g : Graph) (w : Trail) (u : ℕ) (walk : IsTrail g w u) (e v : ℕ) (e
 
     -- no node was found by the edge before
     new_edge : (x : ℕ) → w.found x ≡ true → x ≢ w.tree.root → w.tree.parent_edge x ≢ e
-    new_edge x found not_root same =
-        let by = walk.by_edge x found not_root in
-        ⊎_elim
-        (λ (crossed : (w.tree.parent x ≡ v) × (u ≡ x)). known (w.tree.parent x) by.parent crossed.0)
-        (λ (equal : x ≡ v). known x found equal)
-        (two_ends g e (w.tree.parent x) x u v (subst (λ n. Joins g n (w.tree.parent x) x) same by.ends) ends)
+    new_edge x found not_root same = grind (arith, known, two_ends g e)
 
     module _ (lists : ℕ → List ℕ) (kept : AreOpenLists g w r lists) where
       old_listed : (p b : ℕ) → IsOpen w p → p ≢ w.tree.root → Holds (lists (after.tree.parent_edge p)) b ↔ IsCarried g after begun p b

@@ -1,5 +1,5 @@
 -- How far back edges lead, where the walk finds a node.
-use Rattle.std.proofs.Common.{◌≡◌, ◌≢◌, ℕ, ◌<◌, ◌≤◌, ◌⊎◌, true, false, min, sym, ap, ◌∙◌, subst, ⊎_elim, arith}
+use Rattle.std.proofs.Common.{◌≡◌, ◌≢◌, ℕ, ◌<◌, ◌≤◌, ◌⊎◌, true, false, sym, ◌∙◌, subst, ⊎_elim, arith}
 use Rattle.closed_walks.specs.Graph.{Graph, edge_count, touches}
 use Rattle.cycle_equiv.specs.DepthFirst.{Joins, IsBelow}
 use Rattle.cycle_equiv.specs.Walking.{Trail, IsTaken, IsOpen, IsTrail, earlier, taking, finding}
@@ -57,16 +57,7 @@ module _ (g : Graph) (w : Trail) (u : ℕ) (walk : IsTrail g w u) (e v : ℕ) (e
 
   pub upwards_still : (d x z : ℕ) → IsUpwards g w d x z → IsUpwards g after d x z
   upwards_still d x z b =
-      let px = place_old x b.found in
-      let pz = place_old z (walk.ends_found x z d b.found b.taken b.joins) in
-      let above = b.above in
-      record {
-        found = found_still x b.found;
-        taken = taken_on x d b.found b.taken;
-        joins = b.joins;
-        above = omega (arith, px, pz, above);
-        other = λ same. b.other (same ∙ edge_old x (known x b.found));
-      }
+      grind (arith, place_old x b.found, place_old z (walk.ends_found x z d b.found b.taken b.joins), found_still x b.found, taken_on x d b.found b.taken, edge_old x (known x b.found), known x b.found)
 
   pub upwards_was : (d x z : ℕ) → IsUpwards g after d x z → IsUpwards g w d x z
   upwards_was d x z b =
@@ -117,9 +108,7 @@ module _ (g : Graph) (w : Trail) (u : ℕ) (walk : IsTrail g w u) (e v : ℕ) (e
     second_new x same = put_same r.second v w.count x same
 
     highest_left : (c : ℕ) → w.left c ≡ true → highest begun c ≡ highest r c
-    highest_left c left =
-        let apart = known c (walk.left_found c left) in
-        ap (λ n. min n (begun.own c)) (first_old c apart) ∙ ap (λ n. min (r.first c) n) (own_old c apart)
+    highest_left c left = grind (arith, known c (walk.left_found c left), first_old c, own_old c)
 
     child_was : (x c : ℕ) → IsLeftChild after x c → IsLeftChild w x c
     child_was x c h = record { left = h.left; other = h.other; parent = sym (parent_old c (known c (walk.left_found c h.left))) ∙ h.parent }
@@ -150,10 +139,7 @@ module _ (g : Graph) (w : Trail) (u : ℕ) (walk : IsTrail g w u) (e v : ℕ) (e
 
     -- the node at a place above a node that was found before was found before
     pub old_place : (x z : ℕ) → w.found x ≡ true → after.found z ≡ true → after.tree.preorder z < w.tree.preorder x → w.found z ≡ true
-    old_place x z x_found z_found less = ⊎_elim
-        (λ (new : z ≡ v). let pz = place_new z new in let inside = walk.in_range x x_found in absurd (omega (arith, pz, inside, less)))
-        (λ (old : w.found z ≡ true). old)
-        (found_was z z_found)
+    old_place x z x_found z_found less = grind (arith, place_new, found_was)
 
     module _ (x : ℕ) (found : after.found x ≡ true) where
       own_some : begun.own x < after.tree.preorder x → LeadsTo g after x (begun.own x)
@@ -190,56 +176,23 @@ module _ (g : Graph) (w : Trail) (u : ℕ) (walk : IsTrail g w u) (e v : ℕ) (e
           (found_was x found)
 
       own_most : begun.own x ≤ after.tree.preorder x
-      own_most = ⊎_elim
-          (λ (new : x ≡ v). let o = own_new x new in let px = place_new x new in omega (arith, o, px))
-          (λ (old : w.found x ≡ true). let o = own_old x (known x old) in let px = place_old x old in let most = reaches.own_most x old in omega (arith, o, px, most))
-          (found_was x found)
+      own_most = grind (arith, own_new, place_new, own_old, known, place_old, found_was)
 
       second_most : begun.second x ≤ after.tree.preorder x
-      second_most = ⊎_elim
-          (λ (new : x ≡ v). let o = second_new x new in let px = place_new x new in omega (arith, o, px))
-          (λ (old : w.found x ≡ true). let o = second_old x (known x old) in let px = place_old x old in let most = reaches.second_most x old in omega (arith, o, px, most))
-          (found_was x found)
+      second_most = grind (arith, second_new, place_new, second_old, known, place_old, found_was)
 
       order : begun.first x ≤ begun.second x
-      order = ⊎_elim
-          (λ (new : x ≡ v). let f = first_new x new in let s = second_new x new in omega (arith, f, s))
-          (λ (old : w.found x ≡ true). let f = first_old x (known x old) in let s = second_old x (known x old) in let most = reaches.order x old in omega (arith, f, s, most))
-          (found_was x found)
+      order = grind (arith, first_new, second_new, first_old, known, second_old, found_was)
 
     module _ (x z : ℕ) (stands : IsOpen after x) (found : after.found z ≡ true) where
       own_open : after.tree.preorder z ≡ begun.own x → begun.own x < after.tree.preorder x → IsOpen after z
-      own_open exact less = ⊎_elim
-          (λ (new : x ≡ v). let o = own_new x new in let px = place_new x new in absurd (omega (arith, o, px, less)))
-          (λ (old : IsOpen w x).
-          let o = own_old x (known x old.found) in
-          let px = place_old x old.found in
-          let z_old = old_place x z old.found found (omega (arith, exact, less, px)) in
-          let pz = place_old z z_old in
-          open_still z (reaches.own_open x z old z_old (omega (arith, exact, pz, o)) (omega (arith, o, px, less))))
-          (open_was x stands)
+      own_open exact less = grind (arith, own_new, place_new, own_old, known, place_old, old_place, place_old z, open_still z, open_was)
 
       first_open : after.tree.preorder z ≡ begun.first x → begun.first x < after.tree.preorder x → IsOpen after z
-      first_open exact less = ⊎_elim
-          (λ (new : x ≡ v). let o = first_new x new in let px = place_new x new in absurd (omega (arith, o, px, less)))
-          (λ (old : IsOpen w x).
-          let o = first_old x (known x old.found) in
-          let px = place_old x old.found in
-          let z_old = old_place x z old.found found (omega (arith, exact, less, px)) in
-          let pz = place_old z z_old in
-          open_still z (reaches.first_open x z old z_old (omega (arith, exact, pz, o)) (omega (arith, o, px, less))))
-          (open_was x stands)
+      first_open exact less = grind (arith, first_new, place_new, first_old, known, place_old, old_place, place_old z, open_still z, open_was)
 
       second_open : after.tree.preorder z ≡ begun.second x → begun.second x < after.tree.preorder x → IsOpen after z
-      second_open exact less = ⊎_elim
-          (λ (new : x ≡ v). let o = second_new x new in let px = place_new x new in absurd (omega (arith, o, px, less)))
-          (λ (old : IsOpen w x).
-          let o = second_old x (known x old.found) in
-          let px = place_old x old.found in
-          let z_old = old_place x z old.found found (omega (arith, exact, less, px)) in
-          let pz = place_old z z_old in
-          open_still z (reaches.second_open x z old z_old (omega (arith, exact, pz, o)) (omega (arith, o, px, less))))
-          (open_was x stands)
+      second_open exact less = grind (arith, second_new, place_new, second_old, known, place_old, old_place, place_old z, open_still z, open_was)
 
     second_above : (x z : ℕ) → w.left x ≡ true → after.found z ≡ true → after.tree.preorder z ≡ begun.second x → begun.second x < after.tree.preorder x → IsBelow after.tree z x
     second_above x z left found exact less =

@@ -1,5 +1,5 @@
 -- Which brackets lead from below a node to above a place.
-use Rattle.std.proofs.Common.{◌≡◌, ℕ, zero, suc, ◌+◌, ◌-◌, ◌<◌, ◌≤◌, ◌⊎◌, false, ltb, if◌then◌else◌, refl, sym, ap, ◌∙◌, subst, inl, inr, ⊎_elim, arith}
+use Rattle.std.proofs.Common.{◌≡◌, ℕ, zero, suc, ◌+◌, ◌-◌, ◌<◌, ◌≤◌, ◌⊎◌, ltb, if◌then◌else◌, refl, sym, ap, ◌∙◌, subst, inl, inr, ⊎_elim, arith}
 use Rattle.std.proofs.lemmas.Bool.{cases_lt, lt-ltb, le-ltb}
 use Rattle.closed_walks.specs.Graph.{Graph, IsGraph, edge_count, from, to}
 use Rattle.closed_walks.specs.Walk.{Reach, only, IsStrong}
@@ -53,10 +53,7 @@ module _ (g : Graph) (t : Tree) (tree : IsDepthFirst g t) where
         changes_at_own g t tree c child (edge_along g (below t c) (t.parent_edge c) (t.parent c) c (tree.tree_ends c child) (sym same))
 
     pub has_bracket : HasBracket c
-    has_bracket = ⊎_elim
-        (λ (found : HasBracket c). found)
-        (λ (none : (e : ℕ) → e < edge_count g → IsBracket g t c e → ⊥). absurd (no_way_back none))
-        (has_below c (edge_count g) (omega arith))
+    has_bracket = grind (arith, no_way_back, has_below)
 
   -- ---- the places of brackets
 
@@ -64,20 +61,10 @@ module _ (g : Graph) (t : Tree) (tree : IsDepthFirst g t) where
   back_place b edge = ap (λ test. lower_end g t (if test then b else b - edge_count g)) (lt-ltb b (edge_count g) edge)
 
   pub tree_lower : (x : ℕ) → IsChild g t x → lower_end g t (t.parent_edge x) ≡ t.preorder x
-  tree_lower x child =
-      let first = tree.parent_first x child in
-      ⊎_elim
-      (λ (h : (from g (t.parent_edge x) ≡ t.parent x) × (to g (t.parent_edge x) ≡ x)).
-      let begins = ap t.preorder h.0 in let ends = ap t.preorder h.1 in omega (arith, begins, ends, first))
-      (λ (h : (from g (t.parent_edge x) ≡ x) × (to g (t.parent_edge x) ≡ t.parent x)).
-      let begins = ap t.preorder h.0 in let ends = ap t.preorder h.1 in omega (arith, begins, ends, first))
-      (tree.tree_ends x child)
+  tree_lower x child = grind arith
 
   pub cap_place : (b x : ℕ) → IsChild g t x → b ≡ edge_count g + t.parent_edge x → place g t b ≡ t.preorder x
-  cap_place b x child number =
-      let past : ltb b (edge_count g) ≡ false = le-ltb b (edge_count g) (omega (arith, number)) in
-      let rest : b - edge_count g ≡ t.parent_edge x = omega (arith, number) in
-      ap (λ test. lower_end g t (if test then b else b - edge_count g)) past ∙ ap (λ e. lower_end g t e) rest ∙ tree_lower x child
+  cap_place b x child number = grind (arith, ltb, le-ltb b (edge_count g), tree_lower x child)
 
   -- the node at the lower end of an edge
   pub record HasLower (e : ℕ) : Type 0 where
@@ -86,17 +73,11 @@ module _ (g : Graph) (t : Tree) (tree : IsDepthFirst g t) where
     pub lower : t.preorder low ≡ lower_end g t e
 
   pub lower_node : IsGraph g → (e : ℕ) → e < edge_count g → HasLower e
-  lower_node sound e edge = ⊎_elim
-      (λ (less : t.preorder (from g e) < t.preorder (to g e)). record { low = to g e; node = sound.ends e edge; lower = omega (arith, less) })
-      (λ (more : t.preorder (to g e) ≤ t.preorder (from g e)). record { low = from g e; node = sound.begins e edge; lower = omega (arith, more) })
-      (cases_lt (t.preorder (from g e)) (t.preorder (to g e)))
+  lower_node sound e edge = grind (arith, sound.ends e edge, sound.begins e edge, cases_lt (t.preorder (from g e)) (t.preorder (to g e)))
 
   -- what leads above a place from below a node does so from below its ancestors
   pub leads_up : (c d k e : ℕ) → c < g.nodes → d < g.nodes → IsBelow t c d → LeadsAbove g t d k e → LeadsAbove g t c k e
-  leads_up c d k e c_node d_node up leads =
-      let end = tree.nested c d c_node d_node up in
-      let after = leads.after in let before = leads.before in
-      record { back = leads.back; after = omega (arith, after, up.after); before = omega (arith, before, end); above = leads.above }
+  leads_up c d k e c_node d_node up leads = grind arith
 
   pub leads_more : (c k l e : ℕ) → k ≤ l → LeadsAbove g t c k e → LeadsAbove g t c l e
   leads_more c k l e few leads = let above = leads.above in record { back = leads.back; after = leads.after; before = leads.before; above = omega (arith, few, above) }
@@ -112,10 +93,7 @@ module _ (g : Graph) (t : Tree) (tree : IsDepthFirst g t) where
         h.bracket
 
     pub held_node : (k c b : ℕ) (h : IsHeld g t s k c b) → h.low < g.nodes
-    held_node k c b h = ⊎_elim
-        (λ (e : IsBackBracket g t b h.low h.reach). e.node)
-        (λ (e : IsCap g t s b h.low h.reach). e.child.node)
-        h.bracket
+    held_node k c b h = grind arith
 
     -- a bracket that leads from below a node leads from below its ancestors
     pub held_up : (k c d b : ℕ) → c < g.nodes → d < g.nodes → IsBelow t c d → IsHeld g t s k d b → IsHeld g t s k c b
@@ -156,10 +134,7 @@ module _ (g : Graph) (t : Tree) (tree : IsDepthFirst g t) where
 
     -- a child of a node below c is below c, but for c itself
     pub child_under : (c x d : ℕ) → c < g.nodes → IsChild g t d → t.parent d ≡ x → IsBelow t c x → IsBelow t c d
-    child_under c x d c_node child parent under =
-        let first = tree.parent_first d child in
-        let at_parent : IsBelow t c (t.parent d) = subst (λ y. IsBelow t c y) (sym parent) under in
-        (tree.by_parent c d c_node child (λ same. parent_above g t tree d child (subst (λ y. IsBelow t y (t.parent d)) same at_parent))).0 at_parent
+    child_under c x d c_node child parent under = grind (arith, parent_above g t tree d child)
 
     pub witness : AreBracketLists g t s → (k c b : ℕ) → c < g.nodes → IsHeld g t s k c b → IsWitness k c
     witness lists k c b c_node h = ⊎_elim

@@ -1,6 +1,6 @@
 -- A depth-first walk goes on where it leaves a node, all of whose edges were taken, for the parent.
-use Rattle.std.proofs.Common.{◌≡◌, ◌≢◌, ℕ, ◌<◌, ◌≤◌, ◌⊎◌, true, false, refl, sym, ap, ◌∙◌, subst, inl, inr, ⊎_elim, arith}
-use Rattle.std.proofs.lemmas.Bool.{cases_eq, cases_lt, cases_Bool, false≢true}
+use Rattle.std.proofs.Common.{◌≡◌, ◌≢◌, ℕ, ◌<◌, ◌≤◌, ◌⊎◌, true, false, refl, sym, ap, ◌∙◌, subst, ⊎_elim, arith}
+use Rattle.std.proofs.lemmas.Bool.{cases_lt, cases_Bool, false≢true}
 use Rattle.closed_walks.specs.Graph.{Graph, edge_count, touches}
 use Rattle.cycle_equiv.specs.DepthFirst.{Joins, IsBelow}
 use Rattle.cycle_equiv.specs.Walking.{Trail, IsTaken, IsOpen, IsFoundBy, IsTrail, put, leaving}
@@ -9,11 +9,7 @@ use Rattle.cycle_equiv.proofs.Steps.{put_same, put_other, joins_touches}
 module _ (g : Graph) (w : Trail) (u : ℕ) (walk : IsTrail g w u) where
   -- open nodes are above the one at which the walk is
   pub open_above : (y : ℕ) → IsOpen w y → IsBelow w.tree y u
-  open_above y stands =
-      let last = walk.last y stands in
-      let finish = walk.open_finish y stands in
-      let place = walk.in_range u walk.here.found in
-      record { after = last; before = omega (arith, finish, place) }
+  open_above y stands = grind arith
 
   module _ (other : u ≢ w.tree.root) where
     up : IsFoundBy g w u
@@ -33,24 +29,15 @@ module _ (g : Graph) (w : Trail) (u : ℕ) (walk : IsTrail g w u) where
           (cases_Bool (w.left (w.tree.parent u)));
     }
 
-    left_u : put w.left u true u ≡ true
-    left_u = put_same w.left u true u refl
-
     left_other : (x : ℕ) → x ≢ u → put w.left u true x ≡ w.left x
     left_other x differs = put_other w.left u true x differs
 
     -- a node that was left is this one, or was left before
     left_was : (x : ℕ) → put w.left u true x ≡ true → (x ≡ u) ⊎ (w.left x ≡ true)
-    left_was x left = ⊎_elim
-        (λ (same : x ≡ u). inl same)
-        (λ (differs : x ≢ u). inr (sym (left_other x differs) ∙ left))
-        (cases_eq x u)
+    left_was x left = grind (arith, left_other)
 
     left_still : (x : ℕ) → w.left x ≡ true → put w.left u true x ≡ true
-    left_still x left = ⊎_elim
-        (λ (same : x ≡ u). put_same w.left u true x same)
-        (λ (differs : x ≢ u). left_other x differs ∙ left)
-        (cases_eq x u)
+    left_still x left = grind (arith, put_same w.left, left_other)
 
     apart : (x : ℕ) → IsOpen (leaving w u) x → x ≢ u
     apart x h same = false≢true (sym h.stays ∙ put_same w.left u true x same)
@@ -63,12 +50,7 @@ module _ (g : Graph) (w : Trail) (u : ℕ) (walk : IsTrail g w u) where
 
     -- the other open nodes were found before
     open_first : (x : ℕ) → IsOpen (leaving w u) x → w.tree.preorder x < w.tree.preorder u
-    open_first x h =
-        let last = walk.last x (open_was x h) in
-        ⊎_elim
-        (λ (less : w.tree.preorder x < w.tree.preorder u). less)
-        (λ (more : w.tree.preorder u ≤ w.tree.preorder x). absurd (apart x h (walk.one_place x u h.found walk.here.found (omega (arith, last, more)))))
-        (cases_lt (w.tree.preorder x) (w.tree.preorder u))
+    open_first x h = grind (arith, open_was x h, apart x h, cases_lt (w.tree.preorder x) (w.tree.preorder u))
 
     module _ (taken : (e : ℕ) → e < edge_count g → touches g u e ≡ true → IsTaken g w u e) where
       taken_same : (x e : ℕ) → IsTaken g w x e → IsTaken g (leaving w u) x e
@@ -81,9 +63,7 @@ module _ (g : Graph) (w : Trail) (u : ℕ) (walk : IsTrail g w u) where
       last y h = ((walk.by_parent y u h.found walk.here.found other (apart y h)).1 (open_above y (open_was y h))).after
 
       by_edge : (x : ℕ) → w.found x ≡ true → x ≢ w.tree.root → IsFoundBy g (leaving w u) x
-      by_edge x found not_root =
-          let h = walk.by_edge x found not_root in
-          record { parent = h.parent; first = h.first; ends = h.ends; taken = taken_same (w.tree.parent x) (w.tree.parent_edge x) h.taken }
+      by_edge x found not_root = grind (arith, taken_same (w.tree.parent x) (w.tree.parent_edge x))
 
       u_found : (x : ℕ) → x ≡ u → w.found x ≡ true
       u_found x same = subst (λ n. w.found n ≡ true) (sym same) walk.here.found
@@ -92,22 +72,13 @@ module _ (g : Graph) (w : Trail) (u : ℕ) (walk : IsTrail g w u) where
       left_found x left = ⊎_elim (u_found x) (λ (old : w.left x ≡ true). walk.left_found x old) (left_was x left)
 
       left_later : (x : ℕ) → put w.left u true x ≡ true → w.tree.preorder x < w.tree.finish x
-      left_later x left = ⊎_elim
-          (λ (same : x ≡ u). subst (λ n. w.tree.preorder n < w.tree.finish n) (sym same) (open_above u walk.here).before)
-          (λ (old : w.left x ≡ true). walk.left_later x old)
-          (left_was x left)
+      left_later x left = grind (arith, open_above, left_was)
 
       left_finish : (x : ℕ) → put w.left u true x ≡ true → w.tree.finish x ≤ w.count
-      left_finish x left = ⊎_elim
-          (λ (same : x ≡ u). let finish = walk.open_finish u walk.here in let here = ap w.tree.finish same in omega (arith, finish, here))
-          (λ (old : w.left x ≡ true). walk.left_finish x old)
-          (left_was x left)
+      left_finish x left = grind (arith, left_was)
 
       left_edges : (x e : ℕ) → put w.left u true x ≡ true → e < edge_count g → touches g x e ≡ true → IsTaken g (leaving w u) x e
-      left_edges x e left edge touched = taken_same x e (⊎_elim
-          (λ (same : x ≡ u). subst (λ n. IsTaken g w n e) (sym same) (taken e edge (subst (λ n. touches g n e ≡ true) same touched)))
-          (λ (old : w.left x ≡ true). walk.left_edges x e old edge touched)
-          (left_was x left))
+      left_edges x e left edge touched = grind (arith, taken_same, left_was)
 
       left_ends : (x y e : ℕ) → put w.left u true x ≡ true → e < edge_count g → Joins g e x y → w.tree.preorder y < w.tree.finish x
       left_ends x y e left edge joins = ⊎_elim
@@ -127,40 +98,17 @@ module _ (g : Graph) (w : Trail) (u : ℕ) (walk : IsTrail g w u) where
           (left_was x left)
 
       left_apart : (x y : ℕ) → put w.left u true x ≡ true → IsOpen (leaving w u) y → IsBelow w.tree x y → ⊥
-      left_apart x y left stands below = ⊎_elim
-          (λ (same : x ≡ u).
-          let first = open_first y stands in
-          let here = ap w.tree.preorder same in
-          let after = below.after in
-          omega (arith, first, here, after))
-          (λ (old : w.left x ≡ true). walk.left_apart x y old (open_was y stands) below)
-          (left_was x left)
+      left_apart x y left stands below = grind (arith, open_first y stands, open_was y stands, left_was)
 
       -- the nodes below this one are left
       under : (x : ℕ) → w.found x ≡ true → IsBelow w.tree u x → put w.left u true x ≡ true
-      under x found below = ⊎_elim
-          (λ (is : put w.left u true x ≡ true). is)
-          (λ (stays : put w.left u true x ≡ false).
-          let first = open_first x (record { found = found; stays = stays }) in
-          let after = below.after in
-          absurd (omega (arith, first, after)))
-          (cases_Bool (put w.left u true x))
+      under x found below = grind (arith, open_first x)
 
       nested_left : (c x : ℕ) → put w.left u true c ≡ true → w.found x ≡ true → IsBelow w.tree c x → put w.left u true x ≡ true
-      nested_left c x left found below = ⊎_elim
-          (λ (same : c ≡ u). under x found (subst (λ n. IsBelow w.tree n x) same below))
-          (λ (old : w.left c ≡ true). left_still x (walk.nested_left c x old found below))
-          (left_was c left)
+      nested_left c x left found below = grind (arith, under x found, left_still x, left_was)
 
       nested : (c x : ℕ) → put w.left u true c ≡ true → w.found x ≡ true → IsBelow w.tree c x → w.tree.finish x ≤ w.tree.finish c
-      nested c x left found below = ⊎_elim
-          (λ (same : c ≡ u).
-          let most = left_finish x (nested_left c x left found below) in
-          let finish = walk.open_finish u walk.here in
-          let here = ap w.tree.finish same in
-          omega (arith, most, finish, here))
-          (λ (old : w.left c ≡ true). walk.nested c x old found below)
-          (left_was c left)
+      nested c x left found below = grind (arith, left_finish x, nested_left, left_was)
 
       pub leave_trail : IsTrail g (leaving w u) (w.tree.parent u)
       leave_trail = record {

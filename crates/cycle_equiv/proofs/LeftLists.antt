@@ -42,17 +42,7 @@ module _ (g : Graph) (w : Trail) (u : ℕ) (walk : IsTrail g w u) (e v : ℕ) (e
 
   held_still : (c b : ℕ) → w.left c ≡ true → IsHeldNow g w r c b → IsHeldNow g after begun c b
   held_still c b left h =
-      let known = ends_known b h.low h.end h.leads in
-      let c_place = same_place c (walk.left_found c left) in
-      let end_place = same_place h.end known.1 in
-      let above = h.above in
-      record {
-        low = h.low;
-        end = h.end;
-        leads = leads_still b h.low h.end h.leads;
-        below = below_as g w u walk e v edge touched next ends node hidden c h.low (walk.left_found c left) known.0 h.below;
-        above = omega (arith, c_place, end_place, above);
-      }
+      grind (arith, ends_known b h.low h.end h.leads, same_place c (walk.left_found c left), same_place h.end, leads_still b h.low h.end h.leads, below_as g w u walk e v edge touched next ends node hidden c h.low (walk.left_found c left))
 
   held_was : (c b : ℕ) → w.left c ≡ true → IsHeldNow g after begun c b → IsHeldNow g w r c b
   held_was c b left h =

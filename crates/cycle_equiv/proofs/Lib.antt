@@ -15,7 +15,6 @@ pub mod LeftLists
 pub mod Named
 pub mod NamedClasses
 pub mod NamedEdges
-pub mod NamedNumbers
 pub mod Numbers
 pub mod OpenPath
 pub mod Ordered

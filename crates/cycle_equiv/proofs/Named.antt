@@ -55,26 +55,12 @@ module _ (g : Graph) (w : Trail) (u : ℕ) (walk : IsTrail g w u) (e v : ℕ) (e
 
   -- no node was found by the edge, but for the node at which the walk is
   pub not_found_by : ((u ≢ w.tree.root) → w.tree.parent_edge u ≢ e) → (y : ℕ) → w.found y ≡ true → y ≢ w.tree.root → w.tree.parent_edge y ≢ e
-  not_found_by not_here y found other same =
-      let by = walk.by_edge y found other in
-      let joins : Joins g e (w.tree.parent y) y = subst (λ n. Joins g n (w.tree.parent y) y) same by.ends in
-      ⊎_elim
-      (λ (crossed : (w.tree.parent y ≡ v) × (u ≡ y)).
-      not_here (λ root. other (sym crossed.1 ∙ root)) (ap w.tree.parent_edge crossed.1 ∙ same))
-      (λ (down : y ≡ v).
-      let from_u : w.tree.parent y ≡ u = joins_one g e v u (w.tree.parent y) (joins_back g e u v ends) (subst (λ n. Joins g e n (w.tree.parent y)) down (joins_back g e (w.tree.parent y) y joins)) in
-      let taken : IsTaken g w u e = subst (λ n. IsTaken g w n e) from_u (subst (λ n. IsTaken g w (w.tree.parent y) n) same by.taken) in
-      let early = taken.early in
-      omega (arith, early, next))
-      (two_ends g e (w.tree.parent y) y u v joins ends)
+  not_found_by not_here y found other same = grind (arith, joins_one g e, joins_back g e u, joins_back g e, two_ends g e)
 
 -- ---- a node was found
 
 module _ (g : Graph) (w : Trail) (u : ℕ) (walk : IsTrail g w u) (e v : ℕ) (edge : e < edge_count g) (touched : touches g u e ≡ true)
     (next : earlier g u e ≡ w.taken u) (ends : Joins g e u v) (node : v < g.nodes) (hidden : w.found v ≡ false) where
-  abbrev after : Trail
-  after = finding w u e v
-
   pub find_named : (final : ℕ → List ℕ) (tops : ℕ → Option ℕ) (sizes : ℕ → ℕ) → AreNamed g w final tops sizes → AreNamed g (finding w u e v) final tops sizes
   find_named final tops sizes named = record {
     back_edge = λ d x z found taken joins order none. ⊎_elim

@@ -108,10 +108,7 @@ module _ (g : Graph) (t : Tree) (tree : IsDepthFirst g t) (s : Brackets) (lists 
     )
 
     turned : (a b : ℕ) → IsCycleEquivalent g a b ↔ HaveOneName a b → IsCycleEquivalent g b a ↔ HaveOneName b a
-    turned a b h = (
-      λ equivalent. let named = h.0 (equivalent_back g b a equivalent) in (sym named.0, sym named.1),
-      λ named. equivalent_back g a b (h.1 (sym named.0, sym named.1)),
-    )
+    turned a b h = grind (arith, equivalent_back g b a, equivalent_back g a b)
 
     -- Two edges are cycle equivalent exactly where they have one name.
     pub classes_by_names : AreClassNames g tops sizes

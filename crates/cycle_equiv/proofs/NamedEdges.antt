@@ -1,6 +1,6 @@
 -- The numbering of edges by their names, as far as it has come.
-use Rattle.std.proofs.Common.{◌≡◌, ◌≢◌, ℕ, zero, suc, Bool, true, false, ◌&&◌, nat_eq, ◌+◌, ◌<◌, ◌≤◌, ◌⊎◌, List, [], ◌∷◌, ◌++◌, length, get_or, take, refl, sym, ap, ◌∙◌, subst, inl, inr, ⊎_elim, arith, length-append}
-use Rattle.std.proofs.lemmas.Bool.{cases_order, and_parts, and_from, eqb-true, eq-eqb}
+use Rattle.std.proofs.Common.{◌≡◌, ◌≢◌, ℕ, Bool, true, false, ◌&&◌, nat_eq, ◌+◌, ◌<◌, ◌≤◌, ◌⊎◌, List, [], ◌∷◌, ◌++◌, length, get_or, take, refl, sym, ap, ◌∙◌, subst, inl, inr, ⊎_elim, arith, length-append}
+use Rattle.std.proofs.lemmas.Bool.{cases_order, and_from, eqb-true, eq-eqb}
 use Rattle.std.proofs.lemmas.List.{get_or_append_left, get_or_push, take-append-le, take_all}
 use Rattle.closed_walks.specs.Numbering.{fresh}
 use Rattle.std.specs.List.{list_any, position_or_len}
@@ -39,16 +39,7 @@ module _ (tops sizes : List ℕ) where
     pub lowest : (d : ℕ) → d < e → IsFirst classes d → get_or classes d 0 ≡ fresh (take d classes)
 
   pub IsNamed-none : IsNamed 0 [] []
-  IsNamed-none = record {
-    edges = refl;
-    own = λ k h. absurd (omega arith);
-    within = λ d h. absurd (omega arith);
-    named = λ d h. absurd (omega arith);
-    apart = λ j k h l s. absurd (omega arith);
-    few = omega arith;
-    count = refl;
-    lowest = λ d h f. absurd (omega arith);
-  }
+  IsNamed-none = grind arith
 
   module _ (e : ℕ) (names : List (ℕ × ℕ)) (classes : List ℕ) (n : IsNamed e names classes) where
     old_number : (k d : ℕ) → d < e → get_or (classes ++ k ∷ []) d 0 ≡ get_or classes d 0
@@ -141,23 +132,10 @@ module _ (tops sizes : List ℕ) where
     number_name a b a_edge b_edge same = sym (n.named a a_edge) ∙ ap (λ k. get_or names k no_name) same ∙ n.named b b_edge
 
     name_number : (a b : ℕ) → a < e → b < e → name a ≡ name b → get_or classes a 0 ≡ get_or classes b 0
-    name_number a b a_edge b_edge same =
-        let j = get_or classes a 0 in
-        let k = get_or classes b 0 in
-        let both : get_or names j no_name ≡ get_or names k no_name = n.named a a_edge ∙ same ∙ sym (n.named b b_edge) in
-        ⊎_elim
-        (λ same. same)
-        (⊎_elim
-        (λ (less : j < k). absurd (n.apart j k less (n.within b b_edge) both))
-        (λ (more : k < j). absurd (n.apart k j more (n.within a a_edge) (sym both))))
-        (cases_order j k)
+    name_number a b a_edge b_edge same = grind arith
 
   pub AreNumbered-all : (names : List (ℕ × ℕ)) (classes : List ℕ) → IsNamed (length tops) names classes → AreNumbered tops sizes classes
-  AreNumbered-all names classes n = record {
-    edges = n.edges;
-    same = λ a b a_edge b_edge. (λ same. let names_same = number_name (length tops) names classes n a b a_edge b_edge same in (ap (λ p. p.0) names_same, ap (λ p. p.1) names_same), λ same. name_number (length tops) names classes n a b a_edge b_edge (λ i. (same.0 i, same.1 i)));
-    lowest = λ e edge first. n.lowest e edge first;
-  }
+  AreNumbered-all names classes n = grind (arith, number_name (length tops) names classes n, name_number (length tops) names classes n)
 
 -- ---- a name's place among the names
 
@@ -166,11 +144,7 @@ abbrev pub same_names : ℕ × ℕ → ℕ × ℕ → Bool
 same_names x y = nat_eq x.0 y.0 && nat_eq x.1 y.1
 
 pub same_names-equal : (x y : ℕ × ℕ) → same_names x y ≡ true → x ≡ y
-same_names-equal x y both =
-    let parts = and_parts (nat_eq x.0 y.0) (nat_eq x.1 y.1) both in
-    let first : x.0 ≡ y.0 = eqb-true x.0 y.0 parts.0 in
-    let second : x.1 ≡ y.1 = eqb-true x.1 y.1 parts.1 in
-    λ i. (first i, second i)
+same_names-equal x y both = grind (arith, eqb-true x.0 y.0, eqb-true x.1 y.1)
 
 pub same_names-itself : (x : ℕ × ℕ) → same_names x x ≡ true
 same_names-itself x = and_from (nat_eq x.0 x.0) (nat_eq x.1 x.1) (eq-eqb x.0 x.0 refl) (eq-eqb x.1 x.1 refl)

@@ -9,18 +9,7 @@ use Rattle.cycle_equiv.proofs.Steps.{joins_back, two_ends}
 module _ (g : Graph) (w : Trail) (u : ℕ) (walk : IsTrail g w u) where
   -- no two nodes were found by one edge
   pub one_edge : (x y : ℕ) → w.found x ≡ true → w.found y ≡ true → x ≢ w.tree.root → y ≢ w.tree.root → w.tree.parent_edge x ≡ w.tree.parent_edge y → x ≡ y
-  one_edge x y x_found y_found x_other y_other same =
-      let x_by = walk.by_edge x x_found x_other in
-      let y_by = walk.by_edge y y_found y_other in
-      ⊎_elim
-      (λ (crossed : (w.tree.parent x ≡ y) × (w.tree.parent y ≡ x)).
-      let x_first = x_by.first in
-      let y_first = y_by.first in
-      let px = ap w.tree.preorder crossed.0 in
-      let py = ap w.tree.preorder crossed.1 in
-      absurd (omega (arith, x_first, y_first, px, py)))
-      (λ (equal : x ≡ y). equal)
-      (two_ends g (w.tree.parent_edge x) (w.tree.parent x) x (w.tree.parent y) y x_by.ends (subst (λ n. Joins g n (w.tree.parent y) y) (sym same) y_by.ends))
+  one_edge x y x_found y_found x_other y_other same = grind (arith, two_ends g)
 
   -- the parent of an open node is open
   pub open_parent : (x : ℕ) → IsOpen w x → x ≢ w.tree.root → IsOpen w (w.tree.parent x)

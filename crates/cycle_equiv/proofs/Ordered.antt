@@ -1,5 +1,5 @@
 -- Lists in a strict order: one is determined by its members.
-use Rattle.std.proofs.Common.{◌≡◌, ◌≢◌, ℕ, ◌<◌, ◌≤◌, List, [], ◌∷◌, ◌++◌, length, refl, sym, ap, ap₂, ◌∙◌, subst, inl, inr, ⊎_elim, arith}
+use Rattle.std.proofs.Common.{◌≡◌, ◌≢◌, ℕ, ◌<◌, ◌≤◌, List, [], ◌∷◌, ◌++◌, length, refl, sym, ap₂, ◌∙◌, subst, inl, inr, ⊎_elim, arith}
 use Rattle.std.proofs.lemmas.Bool.{cases_eq, eq-eqb, ne_eqb}
 use Rattle.closed_walks.specs.Graph.{Graph}
 use Rattle.closed_walks.specs.Walk.{Holds}
@@ -14,42 +14,19 @@ IsWithin xs ys = (z : ℕ) → Holds xs z → Holds ys z
 
 module _ (g : Graph) (t : Tree) where
   pub over_apart : (b c : ℕ) → IsOver g t b c → IsOver g t c b → ⊥
-  over_apart b c first second = ⊎_elim
-      (λ (less : place g t b < place g t c). ⊎_elim
-      (λ (more : place g t c < place g t b). omega (arith, less, more))
-      (λ (same : (place g t c ≡ place g t b) × (b < c)). omega (arith, less, same.0))
-      second)
-      (λ (same : (place g t b ≡ place g t c) × (c < b)). ⊎_elim
-      (λ (more : place g t c < place g t b). omega (arith, more, same.0))
-      (λ (back : (place g t c ≡ place g t b) × (b < c)). omega (arith, same.1, back.1))
-      second)
-      first
+  over_apart b c first second = grind arith
 
   -- a list within another one, without the first of each, or the whole within the rest
   tails_within : (x y : ℕ) (xs ys : List ℕ) → AreInOrder g t (x ∷ xs) → IsWithin (x ∷ xs) (y ∷ ys) → x ≡ y → IsWithin xs ys
-  tails_within x y xs ys order within same z holds = ⊎_elim
-      (λ (here : y ≡ z). absurd (over_apart x z (order.0 z holds) (subst (λ v. IsOver g t v x) (same ∙ here) (subst (λ v. IsOver g t x v) (sym (same ∙ here)) (order.0 z holds)))))
-      (λ (h : Holds ys z). h)
-      (within z (inr holds))
+  tails_within x y xs ys order within same z holds = grind (arith, over_apart x)
 
   whole_within : (x y : ℕ) (xs ys : List ℕ) → AreInOrder g t (x ∷ xs) → AreInOrder g t (y ∷ ys) → IsWithin (x ∷ xs) (y ∷ ys) → x ≢ y → IsWithin (x ∷ xs) ys
-  whole_within x y xs ys order others within apart z holds =
-      let x_later : Holds ys x = ⊎_elim (λ (same : y ≡ x). absurd (apart (sym same))) (λ (h : Holds ys x). h) (within x (inl refl)) in
-      ⊎_elim
-      (λ (here : y ≡ z). ⊎_elim
-      (λ (same : x ≡ z). absurd (apart (same ∙ sym here)))
-      (λ (h : Holds xs z). absurd (over_apart x y (subst (λ v. IsOver g t x v) (sym here) (order.0 z h)) (others.0 x x_later)))
-      holds)
-      (λ (h : Holds ys z). h)
-      (within z holds)
+  whole_within x y xs ys order others within apart z holds = grind (arith, over_apart)
 
   pub not_longer : (xs ys : List ℕ) → AreInOrder g t xs → AreInOrder g t ys → IsWithin xs ys → length xs ≤ length ys
   not_longer [] ys order others within = omega arith
   not_longer (x ∷ xs) [] order others within = absurd (within x (inl refl))
-  not_longer (x ∷ xs) (y ∷ ys) order others within = ⊎_elim
-      (λ (same : x ≡ y). let rest = not_longer xs ys order.1 others.1 (tails_within x y xs ys order within same) in omega (arith, rest))
-      (λ (apart : x ≢ y). let rest = not_longer (x ∷ xs) ys order others.1 (whole_within x y xs ys order others within apart) in omega (arith, rest))
-      (cases_eq x y)
+  not_longer (x ∷ xs) (y ∷ ys) order others within = grind (arith, not_longer xs ys order.1 others.1, tails_within, whole_within)
 
   pub same_list : (xs ys : List ℕ) → AreInOrder g t xs → AreInOrder g t ys → IsWithin xs ys → length xs ≡ length ys → xs ≡ ys
   same_list [] [] order others within long = refl
@@ -63,9 +40,7 @@ module _ (g : Graph) (t : Tree) where
   -- lists in order with the same members are the same
   pub one_list : (xs ys : List ℕ) → AreInOrder g t xs → AreInOrder g t ys → IsWithin xs ys → IsWithin ys xs → xs ≡ ys
   one_list xs ys order others within back =
-      let first = not_longer xs ys order others within in
-      let second = not_longer ys xs others order back in
-      same_list xs ys order others within (omega (arith, first, second))
+      grind (arith, not_longer xs ys order others within, not_longer ys xs others order back, same_list xs ys order others within)
 
   -- a list in order that has one member
   pub single : (xs : List ℕ) (b : ℕ) → AreInOrder g t xs → Holds xs b → ((z : ℕ) → Holds xs z → z ≡ b) → xs ≡ b ∷ []
@@ -75,13 +50,7 @@ module _ (g : Graph) (t : Tree) where
 
   -- the first of a list in order stands no lower than the others
   pub first_least : (x : ℕ) (xs : List ℕ) → AreInOrder g t (x ∷ xs) → (z : ℕ) → Holds (x ∷ xs) z → place g t x ≤ place g t z
-  first_least x xs order z holds = ⊎_elim
-      (λ (same : x ≡ z). let places : place g t x ≡ place g t z = ap (λ v. place g t v) same in omega (arith, places))
-      (λ (h : Holds xs z). ⊎_elim
-      (λ (less : place g t x < place g t z). omega (arith, less))
-      (λ (same : (place g t x ≡ place g t z) × (z < x)). omega (arith, same.0))
-      (order.0 z h))
-      holds
+  first_least x xs order z holds = grind arith
 
 -- a list whose brackets have the same places in another tree
 pub in_order_as : (g : Graph) (s t : Tree) (xs : List ℕ) → ((b : ℕ) → Holds xs b → place g t b ≡ place g s b) → AreInOrder g s xs → AreInOrder g t xs
@@ -110,10 +79,7 @@ module _ (g : Graph) (t : Tree) where
 
   pub in_order_without : (xs : List ℕ) (e : ℕ) → AreInOrder g t xs → AreInOrder g t (without xs e)
   in_order_without [] e order = tt
-  in_order_without (x ∷ xs) e order = ⊎_elim
-      (λ (same : x ≡ e). rw (eq-eqb x e same) order.1)
-      (λ (apart : x ≢ e). rw (ne_eqb x e apart) (λ c holds. order.0 c (without_was xs e c holds), in_order_without xs e order.1))
-      (cases_eq x e)
+  in_order_without (x ∷ xs) e order = grind (arith, eq-eqb, ne_eqb, without_was xs, in_order_without xs)
 
   pub without_apart : (xs : List ℕ) (e c : ℕ) → AreInOrder g t xs → Holds (without xs e) c → c ≢ e
   without_apart [] e c order holds = absurd holds

@@ -1,5 +1,5 @@
 -- The lists of brackets, where the walk leaves a node for its parent.
-use Rattle.std.proofs.Common.{◌≡◌, ◌≢◌, ℕ, ◌+◌, ◌<◌, ◌≤◌, ◌⊎◌, ◌↔◌, true, false, List, ◌∷◌, ◌++◌, min, max, refl, sym, ap, ◌∙◌, subst, inl, inr, ⊎_elim, arith}
+use Rattle.std.proofs.Common.{◌≡◌, ◌≢◌, ℕ, ◌+◌, ◌<◌, ◌≤◌, ◌⊎◌, ◌↔◌, true, false, List, ◌∷◌, ◌++◌, min, max, sym, ap, ◌∙◌, subst, inl, inr, ⊎_elim, arith}
 use Rattle.std.proofs.lemmas.Bool.{cases_eq, cases_lt, cases_Bool, false≢true}
 use Rattle.closed_walks.specs.Graph.{Graph, edge_count, touches}
 use Rattle.closed_walks.specs.Walk.{Holds}
@@ -39,16 +39,10 @@ module _ (g : Graph) (w : Trail) (u : ℕ) (walk : IsTrail g w u) (r : Reaches) 
   second_left x left = second_other x (λ same. false≢true (sym up.stays ∙ subst (λ n. w.left n ≡ true) same left))
 
   left_still : (x : ℕ) → w.left x ≡ true → after.left x ≡ true
-  left_still x left = ⊎_elim
-      (λ (same : x ≡ u). put_same w.left u true x same)
-      (λ (apart : x ≢ u). put_other w.left u true x apart ∙ left)
-      (cases_eq x u)
+  left_still x left = grind (arith, put_same w.left, put_other w.left)
 
   left_was : (x : ℕ) → after.left x ≡ true → (x ≡ u) ⊎ (w.left x ≡ true)
-  left_was x left = ⊎_elim
-      (λ (same : x ≡ u). inl same)
-      (λ (apart : x ≢ u). inr (sym (put_other w.left u true x apart) ∙ left))
-      (cases_eq x u)
+  left_was x left = grind (arith, put_other w.left)
 
   open_still : (x : ℕ) → x ≢ u → IsOpen w x → IsOpen after x
   open_still x apart h = record { found = h.found; stays = put_other w.left u true x apart ∙ h.stays }
@@ -73,32 +67,17 @@ module _ (g : Graph) (w : Trail) (u : ℕ) (walk : IsTrail g w u) (r : Reaches) 
   capping_still b low end h = record { left = left_still low h.left; other = h.other; number = h.number; found = h.found; exact = h.exact ∙ sym (second_left low h.left); above = h.above }
 
   capping_was : (b low end : ℕ) → low ≢ u → IsCapping g after merged b low end → IsCapping g w r b low end
-  capping_was b low end apart h =
-      let left : w.left low ≡ true = sym (put_other w.left u true low apart) ∙ h.left in
-      record { left = left; other = h.other; number = h.number; found = h.found; exact = h.exact ∙ second_left low left; above = h.above }
+  capping_was b low end apart h = grind (arith, put_other, second_left low)
 
   -- the capping bracket of the node itself
   own_capping : (end : ℕ) → w.found end ≡ true → w.tree.preorder end ≡ r.second u → r.second u < w.tree.preorder u → IsCapping g after merged (edge_count g + w.tree.parent_edge u) u end
-  own_capping end found exact above = record {
-    left = put_same w.left u true u refl;
-    other = not_root;
-    number = refl;
-    found = found;
-    exact = exact ∙ sym (second_other u u_apart);
-    above = omega (arith, exact, above);
-  }
+  own_capping end found exact above = grind (arith, put_same w.left u true u, second_other u u_apart, u_apart)
 
   -- ---- what leads from below the node to above it
 
   -- a node above u that is above a node below u is open
   open_over : (end low : ℕ) → w.found end ≡ true → w.tree.preorder end < w.tree.preorder u → w.tree.preorder u ≤ w.tree.preorder low → w.tree.preorder low < w.tree.finish end → IsOpen w end
-  open_over end low found above later inside = record {
-    found = found;
-    stays = ⊎_elim
-        (λ (left : w.left end ≡ true). absurd (walk.left_apart end u left walk.here (record { after = omega (arith, above); before = omega (arith, later, inside) })))
-        (λ (stays : w.left end ≡ false). stays)
-        (cases_Bool (w.left end));
-  }
+  open_over end low found above later inside = grind arith
 
   -- a back edge from below u to above it wasn't taken at its upper end
   back_pending : (b low end : ℕ) → IsUpwards g w b low end → w.tree.preorder u ≤ w.tree.preorder low → w.tree.preorder end < w.tree.preorder u → IsOpen w end × (IsTaken g w end b → ⊥)
@@ -153,10 +132,7 @@ module _ (g : Graph) (w : Trail) (u : ℕ) (walk : IsTrail g w u) (r : Reaches) 
       h
 
   below_u : (low : ℕ) → w.found low ≡ true → w.tree.preorder u ≤ w.tree.preorder low → IsBelow w.tree u low
-  below_u low found later =
-      let finish = walk.open_finish u walk.here in
-      let inside = walk.in_range low found in
-      record { after = later; before = omega (arith, finish, inside) }
+  below_u low found later = grind arith
 
   module _ (lists : ℕ → List ℕ) (kept : AreOpenLists g w r lists) (caps : ℕ → List ℕ) (capped : AreCaps g w r caps)
       -- the list after the capping brackets that lead to the node were taken out
@@ -252,13 +228,7 @@ module _ (g : Graph) (w : Trail) (u : ℕ) (walk : IsTrail g w u) (r : Reaches) 
 
     -- the node's list, where it gets no capping bracket
     pub held_without_cap : w.tree.preorder u ≤ r.second u → (b : ℕ) → Holds xs b ↔ IsHeldNow g after merged u b
-    held_without_cap none b = (
-      rest_held b,
-      λ h. ⊎_elim
-          (λ (own : (b ≡ edge_count g + w.tree.parent_edge u) × (r.second u < w.tree.preorder u)). let less = own.1 in absurd (omega (arith, none, less)))
-          (λ (holds : Holds xs b). holds)
-          (held_rest b h),
-    )
+    held_without_cap none b = grind (arith, rest_held, held_rest)
 
     -- and where it gets one
     pub held_with_cap : (end : ℕ) → w.found end ≡ true → w.tree.preorder end ≡ r.second u → r.second u < w.tree.preorder u → (b : ℕ) → Holds ((edge_count g + w.tree.parent_edge u) ∷ xs) b ↔ IsHeldNow g after merged u b

@@ -1,6 +1,6 @@
 -- The lists of brackets, where the walk takes an edge to a node that was found before.
-use Rattle.std.proofs.Common.{◌≡◌, ◌≢◌, ℕ, ◌+◌, ◌-◌, ◌<◌, ◌≤◌, ◌⊎◌, ◌↔◌, true, false, List, ◌∷◌, refl, sym, ap, ◌∙◌, subst, inl, inr, ⊎_elim, arith}
-use Rattle.std.proofs.lemmas.Bool.{cases_eq, cases_lt, cases_Bool, false≢true, lt-ltb, le-ltb}
+use Rattle.std.proofs.Common.{◌≡◌, ◌≢◌, ℕ, ◌+◌, ◌<◌, ◌≤◌, ◌⊎◌, ◌↔◌, true, List, ◌∷◌, refl, sym, ap, ◌∙◌, subst, inl, inr, ⊎_elim, arith}
+use Rattle.std.proofs.lemmas.Bool.{cases_eq, cases_lt, false≢true, lt-ltb, le-ltb}
 use Rattle.closed_walks.specs.Graph.{Graph, edge_count, touches}
 use Rattle.closed_walks.specs.Walk.{Holds}
 use Rattle.cycle_equiv.specs.DepthFirst.{Joins, IsBelow}
@@ -15,27 +15,18 @@ use Rattle.cycle_equiv.proofs.Reached.{upper_is}
 -- ---- the place from which a bracket leads
 
 pub place_upwards : (g : Graph) (w : Trail) (b low end : ℕ) → IsUpwards g w b low end → place g w.tree b ≡ w.tree.preorder low
-place_upwards g w b low end h =
-    let lower = (upper_is g w.tree b low end h.joins h.above).1 in
-    rw (lt-ltb b (edge_count g) h.taken.edge) lower
+place_upwards g w b low end h = grind (arith, upper_is g w.tree b low end h.joins h.above, lt-ltb b (edge_count g) h.taken.edge)
 
 module _ (g : Graph) (w : Trail) (u : ℕ) (walk : IsTrail g w u) (r : Reaches) where
   pub place_capping : (b low end : ℕ) → IsCapping g w r b low end → place g w.tree b ≡ w.tree.preorder low
   place_capping b low end h =
-      let by = walk.by_edge low (walk.left_found low h.left) h.other in
-      let number = h.number in
-      let lower = (upper_is g w.tree (w.tree.parent_edge low) low (w.tree.parent low) (joins_back g (w.tree.parent_edge low) (w.tree.parent low) low by.ends) by.first).1 in
-      let edge : b - edge_count g ≡ w.tree.parent_edge low = omega (arith, number) in
-      rw (le-ltb b (edge_count g) (omega (arith, number)), edge) lower
+      grind (arith, upper_is g w.tree (w.tree.parent_edge low) low (w.tree.parent low), joins_back g (w.tree.parent_edge low) (w.tree.parent low) low, le-ltb b (edge_count g))
 
   pub place_leads : (b low end : ℕ) → LeadsUp g w r b low end → place g w.tree b ≡ w.tree.preorder low
   place_leads b low end h = ⊎_elim (λ (back : IsUpwards g w b low end). place_upwards g w b low end back) (λ (cap : IsCapping g w r b low end). place_capping b low end cap) h
 
   pub pending_leads : (b low : ℕ) (h : IsPending g w r b low) → LeadsUp g w r b low h.end
-  pending_leads b low h = ⊎_elim
-      (λ (back : IsUpwards g w b low h.end × (IsTaken g w h.end b → ⊥)). inl back.0)
-      (λ (cap : IsCapping g w r b low h.end × IsOpen w h.end). inr cap.0)
-      h.kind
+  pending_leads b low h = grind arith
 
   pub place_pending : (b low : ℕ) → IsPending g w r b low → place g w.tree b ≡ w.tree.preorder low
   place_pending b low h = place_leads b low h.end (pending_leads b low h)
@@ -45,11 +36,7 @@ module _ (g : Graph) (w : Trail) (u : ℕ) (walk : IsTrail g w u) (r : Reaches) 
   carrier_here low later = record { later = later; last = λ y stands before. walk.last y stands }
 
   pub no_other_open : (p : ℕ) → u ≡ w.tree.root → IsOpen w p → p ≢ w.tree.root → ⊥
-  no_other_open p at_root stands other =
-      let last = walk.last p stands in
-      let zero_place = walk.root_first in
-      let here = ap w.tree.preorder at_root in
-      other (walk.one_place p w.tree.root stands.found walk.root_open.found (omega (arith, last, zero_place, here)))
+  no_other_open p at_root stands other = grind arith
 
 module _ (g : Graph) (w : Trail) (u : ℕ) (walk : IsTrail g w u) (r : Reaches) (lists : ℕ → List ℕ) (kept : AreOpenLists g w r lists)
     (e v : ℕ) (edge : e < edge_count g) (touched : touches g u e ≡ true) (next : earlier g u e ≡ w.taken u) (ends : Joins g e u v) (known : w.found v ≡ true) where
@@ -189,32 +176,14 @@ module _ (g : Graph) (w : Trail) (u : ℕ) (walk : IsTrail g w u) (r : Reaches) 
     up_not_root same = let place = ap w.tree.preorder same in let zero_place = walk.root_first in omega (arith, place, zero_place, above)
 
     v_open : IsOpen w v
-    v_open = record {
-      found = known;
-      stays = ⊎_elim
-          (λ (left : w.left v ≡ true).
-          let less = walk.left_above v u e left walk.here edge (joins_back g e u v ends) in
-          absurd (omega (arith, less, above)))
-          (λ (stays : w.left v ≡ false). stays)
-          (cases_Bool (w.left v));
-    }
+    v_open = grind (arith, joins_back g e u v ends)
 
     new_upwards : IsUpwards g (taking w u) e u v
     new_upwards = record { found = walk.here.found; taken = taken_now g w u e edge touched next; joins = ends; above = above; other = other }
 
     new_carried : (s : Reaches) → IsCarried g (taking w u) s u e
-    new_carried s = record {
-      low = u;
-      pending = record {
-        end = v;
-        kind = inl (
-          new_upwards,
-          λ taken. not_taken_above g w u walk e v ends v_open above other
-              (taken_elsewhere g w u v e (λ same. let places = ap w.tree.preorder same in omega (arith, places, above)) taken),
-        );
-      };
-      carrier = carrier_still u u (carrier_here g w u walk r u (omega arith));
-    }
+    new_carried s =
+        grind (arith, new_upwards, not_taken_above g w u walk e v ends v_open above other, v_open, taken_elsewhere g w u v e, carrier_still u u, carrier_here g w u walk r u)
 
     -- only the node at which the walk is carries it
     only_here : (p : ℕ) → IsOpen w p → IsCarried g (taking w u) (reaching r u (w.tree.preorder v)) p e → p ≡ u
@@ -239,18 +208,7 @@ module _ (g : Graph) (w : Trail) (u : ℕ) (walk : IsTrail g w u) (r : Reaches) 
 
     -- the edge was in no list
     pub not_listed : (l : ℕ) → Holds (lists l) e → ⊥
-    not_listed l holds =
-        let h = kept.bracket l e holds in
-        ⊎_elim
-        (λ (old : IsUpwards g w e h.low h.end).
-        let up = old.above in
-        ⊎_elim
-        (λ (crossed : (h.end ≡ u) × (v ≡ h.low)).
-        let x = ap w.tree.preorder crossed.0 in let y = ap w.tree.preorder crossed.1 in omega (arith, x, y, up, above))
-        (λ (same : h.low ≡ u). not_taken (subst (λ n. IsTaken g w n e) same old.taken))
-        (two_ends g e h.end h.low v u (joins_back g e h.low h.end old.joins) (joins_back g e u v ends)))
-        (λ (cap : IsCapping g w r e h.low h.end). capping_number r h.low h.end cap)
-        h.leads
+    not_listed l holds = grind (arith, not_taken, two_ends g e, joins_back g e, joins_back g e u v ends, capping_number r)
 
     -- it stands above all others of the list
     on_top : (c : ℕ) → Holds (lists (w.tree.parent_edge u)) c → IsOver g w.tree e c
@@ -342,10 +300,7 @@ module _ (g : Graph) (w : Trail) (u : ℕ) (walk : IsTrail g w u) (r : Reaches) 
 
   module _ (below : w.tree.preorder u < w.tree.preorder v) (not_root : u ≢ w.tree.root) where
     v_left : w.left v ≡ true
-    v_left = ⊎_elim
-        (λ (left : w.left v ≡ true). left)
-        (λ (stays : w.left v ≡ false). let last = walk.last v (record { found = known; stays = stays }) in absurd (omega (arith, last, below)))
-        (cases_Bool (w.left v))
+    v_left = grind arith
 
     v_other : v ≢ w.tree.root
     v_other same = let place = ap w.tree.preorder same in let zero_place = walk.root_first in omega (arith, place, zero_place, below)
@@ -373,14 +328,7 @@ module _ (g : Graph) (w : Trail) (u : ℕ) (walk : IsTrail g w u) (r : Reaches) 
     })
 
     low_is : (low z : ℕ) → IsUpwards g w e low z → (low ≡ v) × (z ≡ u)
-    low_is low z b =
-        let up = b.above in
-        ⊎_elim
-        (λ (crossed : (low ≡ v) × (u ≡ z)). (crossed.0, sym crossed.1))
-        (λ (same : z ≡ v).
-        let here : u ≡ low = joins_one g e v low u (subst (λ n. Joins g e n low) same (joins_back g e low z b.joins)) (joins_back g e u v ends) in
-        let x = ap w.tree.preorder here in let y = ap w.tree.preorder same in absurd (omega (arith, x, y, up, below)))
-        (two_ends g e low z u v b.joins ends)
+    low_is low z b = grind (arith, joins_one g e, joins_back g e, two_ends g e)
 
     only_this : (p : ℕ) → IsOpen w p → IsCarried g w r p e → p ≡ u
     only_this p stands c = ⊎_elim

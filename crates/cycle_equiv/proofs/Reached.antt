@@ -1,5 +1,5 @@
 -- What the reaches tell of back edges, where the walk is at its end.
-use Rattle.std.proofs.Common.{◌≡◌, ◌≢◌, ℕ, zero, suc, ◌+◌, ◌<◌, ◌≤◌, true, List, refl, sym, ap, ◌∙◌, subst, inl, inr, ⊎_elim, arith}
+use Rattle.std.proofs.Common.{◌≡◌, ◌≢◌, ℕ, zero, suc, ◌+◌, ◌<◌, ◌≤◌, true, List, refl, sym, ap, ◌∙◌, subst, ⊎_elim, arith}
 use Rattle.std.proofs.lemmas.Bool.{cases_eq, cases_lt}
 use Rattle.closed_walks.specs.Graph.{Graph, IsGraph, edge_count, touches, from, to}
 use Rattle.closed_walks.specs.Walk.{IsStrong}
@@ -13,10 +13,7 @@ use Rattle.cycle_equiv.proofs.Ending.{all_found, all_taken, left_or_root, walk_d
 
 -- the places of an edge's ends, where it leads up
 pub upper_is : (g : Graph) (t : Tree) (e x z : ℕ) → Joins g e x z → t.preorder z < t.preorder x → (upper_end g t e ≡ t.preorder z) × (lower_end g t e ≡ t.preorder x)
-upper_is g t e x z ends above = ⊎_elim
-    (λ (h : (from g e ≡ x) × (to g e ≡ z)). let f = ap t.preorder h.0 in let l = ap t.preorder h.1 in (omega (arith, f, l, above), omega (arith, f, l, above)))
-    (λ (h : (from g e ≡ z) × (to g e ≡ x)). let f = ap t.preorder h.0 in let l = ap t.preorder h.1 in (omega (arith, f, l, above), omega (arith, f, l, above)))
-    ends
+upper_is g t e x z ends above = grind arith
 
 -- the two ends of an edge, the upper one last
 pub record HasEnds (g : Graph) (t : Tree) (e : ℕ) : Type 0 where
@@ -26,10 +23,7 @@ pub record HasEnds (g : Graph) (t : Tree) (e : ℕ) : Type 0 where
   pub above : t.preorder high < t.preorder low
 
 pub ends_of : (g : Graph) (t : Tree) (e : ℕ) → upper_end g t e < lower_end g t e → HasEnds g t e
-ends_of g t e less = ⊎_elim
-    (λ (up : t.preorder (from g e) < t.preorder (to g e)). record { low = to g e; high = from g e; ends = inr (refl, refl); above = up })
-    (λ (down : t.preorder (to g e) ≤ t.preorder (from g e)). record { low = from g e; high = to g e; ends = inl (refl, refl); above = omega (arith, down, less) })
-    (cases_lt (t.preorder (from g e)) (t.preorder (to g e)))
+ends_of g t e less = grind (arith, t.preorder (to g e), t.preorder (from g e), cases_lt (t.preorder (from g e)) (t.preorder (to g e)))
 
 module _ (g : Graph) (w : Trail) (walk : IsTrail g w w.tree.root) (counted : IsCounted g w)
     (taken : (e : ℕ) → e < edge_count g → touches g w.tree.root e ≡ true → IsTaken g w w.tree.root e) (strong : IsStrong g) (sound : IsGraph g) where
@@ -68,15 +62,7 @@ module _ (g : Graph) (w : Trail) (walk : IsTrail g w w.tree.root) (counted : IsC
 
   pub back_upwards : (e x z : ℕ) → x < g.nodes → IsBackEdge g w.tree e → Joins g e x z → w.tree.preorder z < w.tree.preorder x → IsUpwards g w e x z
   back_upwards e x z node back ends above =
-      let zero_place = walk.root_first in
-      let other : x ≢ w.tree.root = λ same. let px = ap w.tree.preorder same in omega (arith, px, zero_place, above) in
-      record {
-        found = found x node;
-        taken = all_taken g w walk counted taken x e (found x node) back.edge (joins_touches g e x z ends);
-        joins = ends;
-        above = above;
-        other = λ same. back.found_none x (record { node = node; other = other }) (sym same);
-      }
+      grind (arith, found, found x node, all_taken g w walk counted taken x e (found x node) back.edge (joins_touches g e x z ends), joins_touches g e x z ends, back.found_none x)
 
   module _ (r : Reaches) (reaches : AreReaches g w r) where
     highest_below : (k c e x z : ℕ) → w.count ≤ w.tree.preorder c + k → c < g.nodes → IsUpwards g w e x z → IsBelow w.tree c x → highest r c ≤ w.tree.preorder z
@@ -170,13 +156,7 @@ module _ (g : Graph) (w : Trail) (walk : IsTrail g w w.tree.root) (counted : IsC
 
     leads_above : (c k : ℕ) (l : Leads c) → highest r c < k → LeadsAbove g w.tree c k l.edge
     leads_above c k l less =
-        let places = upper_is g w.tree l.edge l.low l.high l.upwards.joins l.upwards.above in
-        let upper = places.0 in
-        let lower = places.1 in
-        let exact = l.exact in
-        let after = l.below.after in
-        let before = l.below.before in
-        record { back = upwards_back l.edge l.low l.high l.upwards; after = omega (arith, lower, after); before = omega (arith, lower, before); above = omega (arith, upper, exact, less) }
+        grind (arith, upper_is g w.tree l.edge l.low l.high l.upwards.joins l.upwards.above, upwards_back l.edge l.low l.high l.upwards)
 
     pub reached : (lists : ℕ → List ℕ) (x : ℕ) → IsChild g w.tree x → r.second x < w.tree.preorder x → IsReached g w.tree (record { second_reach = r.second; list = lists }) x
     reached lists x child less =

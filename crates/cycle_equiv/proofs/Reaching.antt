@@ -1,5 +1,5 @@
 -- Where a child is left, its parent's reaches take in the child's.
-use Rattle.std.proofs.Common.{◌≡◌, ◌≢◌, ℕ, ◌<◌, ◌≤◌, ◌⊎◌, true, min, max, refl, sym, ap, ◌∙◌, subst, inl, inr, ⊎_elim, arith}
+use Rattle.std.proofs.Common.{◌≡◌, ◌≢◌, ℕ, ◌<◌, ◌≤◌, ◌⊎◌, true, min, max, refl, sym, ap, ◌∙◌, subst, ⊎_elim, arith}
 use Rattle.std.proofs.lemmas.Bool.{cases_eq, cases_lt, false≢true}
 use Rattle.closed_walks.specs.Graph.{Graph}
 use Rattle.cycle_equiv.specs.DepthFirst.{IsBelow}
@@ -46,44 +46,22 @@ module _ (g : Graph) (w : Trail) (u : ℕ) (walk : IsTrail g w u) (r : Reaches) 
   -- ---- the children that were left
 
   child_still : (x c : ℕ) → IsLeftChild w x c → IsLeftChild (leaving w u) x c
-  child_still x c child = record {
-    left = ⊎_elim
-        (λ (same : c ≡ u). put_same w.left u true c same)
-        (λ (apart : c ≢ u). put_other w.left u true c apart ∙ child.left)
-        (cases_eq c u);
-    other = child.other;
-    parent = child.parent;
-  }
+  child_still x c child = grind (arith, put_same w.left, put_other w.left)
 
   child_new : (x : ℕ) → x ≡ w.tree.parent u → IsLeftChild (leaving w u) x u
   child_new x same = record { left = put_same w.left u true u refl; other = other; parent = sym same }
 
   child_was : (x c : ℕ) → IsLeftChild (leaving w u) x c → ((c ≡ u) × (x ≡ w.tree.parent u)) ⊎ IsLeftChild w x c
-  child_was x c child = ⊎_elim
-      (λ (same : c ≡ u). inl (same, sym child.parent ∙ ap w.tree.parent same))
-      (λ (apart : c ≢ u). inr (record { left = sym (put_other w.left u true c apart) ∙ child.left; other = child.other; parent = child.parent }))
-      (cases_eq c u)
+  child_was x c child = grind (arith, put_other w.left)
 
   u_apart_from : (x c : ℕ) → IsLeftChild w x c → c ≢ u
   u_apart_from x c child same = false≢true (sym walk.here.stays ∙ subst (λ n. w.left n ≡ true) same child.left)
 
   upwards_was : (e x z : ℕ) → IsUpwards g (leaving w u) e x z → IsUpwards g w e x z
-  upwards_was e x z b = record {
-    found = b.found;
-    taken = record { edge = b.taken.edge; touched = b.taken.touched; early = b.taken.early };
-    joins = b.joins;
-    above = b.above;
-    other = b.other;
-  }
+  upwards_was e x z b = grind arith
 
   upwards_still : (e x z : ℕ) → IsUpwards g w e x z → IsUpwards g (leaving w u) e x z
-  upwards_still e x z b = record {
-    found = b.found;
-    taken = record { edge = b.taken.edge; touched = b.taken.touched; early = b.taken.early };
-    joins = b.joins;
-    above = b.above;
-    other = b.other;
-  }
+  upwards_still e x z b = grind arith
 
   highest_child : (x c : ℕ) → IsLeftChild w x c → highest after c ≡ highest r c
   highest_child x c child = highest_left c child.left
@@ -234,24 +212,14 @@ module _ (g : Graph) (w : Trail) (u : ℕ) (walk : IsTrail g w u) (r : Reaches) 
   -- ---- the places to which they lead
 
   open_was : (x : ℕ) → IsOpen (leaving w u) x → (x ≢ u) × IsOpen w x
-  open_was x stands =
-      let apart : x ≢ u = λ same. false≢true (sym stands.stays ∙ put_same w.left u true x same) in
-      (apart, record { found = stands.found; stays = sym (put_other w.left u true x apart) ∙ stands.stays })
+  open_was x stands = grind (arith, put_same w.left u true x, put_other w.left u true x)
 
   -- an open node that was found before another open one stays open
   stays_open : (x z : ℕ) → IsOpen (leaving w u) x → IsOpen w z → w.tree.preorder z < w.tree.preorder x → IsOpen (leaving w u) z
-  stays_open x z x_open z_open less =
-      let last = walk.last x (open_was x x_open).1 in
-      record {
-        found = z_open.found;
-        stays = put_other w.left u true z (λ same. let places = ap w.tree.preorder same in omega (arith, last, less, places)) ∙ z_open.stays;
-      }
+  stays_open x z x_open z_open less = grind (arith, open_was x x_open, put_other w.left u true z)
 
   reach_open : (z : ℕ) → w.found z ≡ true → w.tree.preorder z ≡ highest r u → highest r u < w.tree.preorder u → IsOpen w z
-  reach_open z found exact less = ⊎_elim
-      (λ (own : r.own u < r.first u). reaches.own_open u z walk.here found (omega (arith, exact, own)) (omega (arith, less, own)))
-      (λ (first : r.first u ≤ r.own u). reaches.first_open u z walk.here found (omega (arith, exact, first)) (omega (arith, less, first)))
-      (cases_lt (r.own u) (r.first u))
+  reach_open z found exact less = grind (arith, cases_lt (r.own u) (r.first u))
 
   first_open : (x z : ℕ) → IsOpen (leaving w u) x → w.found z ≡ true → w.tree.preorder z ≡ after.first x → after.first x < w.tree.preorder x → IsOpen (leaving w u) z
   first_open x z x_open found exact less =
@@ -274,16 +242,7 @@ module _ (g : Graph) (w : Trail) (u : ℕ) (walk : IsTrail g w u) (r : Reaches) 
 
   second_open_parent : (x z : ℕ) → x ≡ w.tree.parent u → IsOpen w x → w.found z ≡ true → w.tree.preorder z ≡ after.second x → after.second x < w.tree.preorder x → IsOpen w z
   second_open_parent x z same was found exact less =
-      let s = second_at x same in
-      let place = ap w.tree.preorder same in
-      let first = up_first in
-      ⊎_elim
-      (λ (nearer : after.second x < r.second x). ⊎_elim
-      (λ (farther : highest r u < r.first x). reaches.first_open x z was found (omega (arith, s, nearer, farther, exact)) (omega (arith, s, nearer, farther, less)))
-      (λ (as_far : r.first x ≤ highest r u). reach_open z found (omega (arith, s, nearer, as_far, exact)) (omega (arith, s, nearer, as_far, less, place, first)))
-      (cases_lt (highest r u) (r.first x)))
-      (λ (old : r.second x ≤ after.second x). reaches.second_open x z was found (omega (arith, s, old, exact)) (omega (arith, s, old, less)))
-      (cases_lt (after.second x) (r.second x))
+      grind (arith, second_at x same, up_first, reach_open z found, cases_lt (highest r u), cases_lt (after.second x) (r.second x))
 
   second_open : (x z : ℕ) → IsOpen (leaving w u) x → w.found z ≡ true → w.tree.preorder z ≡ after.second x → after.second x < w.tree.preorder x → IsOpen (leaving w u) z
   second_open x z x_open found exact less =
@@ -298,17 +257,7 @@ module _ (g : Graph) (w : Trail) (u : ℕ) (walk : IsTrail g w u) (r : Reaches) 
       (omega (arith, exact, less))
 
   second_above : (x z : ℕ) → put w.left u true x ≡ true → w.found z ≡ true → w.tree.preorder z ≡ after.second x → after.second x < w.tree.preorder x → IsBelow w.tree z x
-  second_above x z left found exact less = ⊎_elim
-      (λ (same : x ≡ u).
-      let s : after.second x ≡ r.second u = second_other x (λ e. u_apart (sym same ∙ e)) ∙ ap r.second same in
-      let place = ap w.tree.preorder same in
-      subst (IsBelow w.tree z) (sym same)
-      (open_above g w u walk z (reaches.second_open u z walk.here found (omega (arith, s, exact)) (omega (arith, s, less, place)))))
-      (λ (apart : x ≢ u).
-      let was : w.left x ≡ true = sym (put_other w.left u true x apart) ∙ left in
-      let s = second_other x (apart_from_parent x was) in
-      reaches.second_above x z was found (omega (arith, s, exact)) (omega (arith, s, less)))
-      (cases_eq x u)
+  second_above x z left found exact less = grind (arith, second_other, u_apart, open_above g w, put_other w.left, apart_from_parent)
 
   pub leave_reaches : AreReaches g (leaving w u) (merging r (w.tree.parent u) (highest r u))
   leave_reaches = record {

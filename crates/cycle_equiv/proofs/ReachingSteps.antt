@@ -1,6 +1,6 @@
 -- How far back edges lead, where the walk takes an edge.
-use Rattle.std.proofs.Common.{◌≡◌, ◌≢◌, ℕ, ◌<◌, ◌≤◌, ◌⊎◌, true, false, min, refl, sym, ap, ◌∙◌, subst, inl, inr, ⊎_elim, arith}
-use Rattle.std.proofs.lemmas.Bool.{cases_eq, cases_lt, cases_Bool, false≢true}
+use Rattle.std.proofs.Common.{◌≡◌, ◌≢◌, ℕ, ◌<◌, ◌≤◌, ◌⊎◌, true, min, refl, sym, ap, ◌∙◌, subst, inl, inr, ⊎_elim, arith}
+use Rattle.std.proofs.lemmas.Bool.{cases_eq, cases_lt, false≢true}
 use Rattle.closed_walks.specs.Graph.{Graph, edge_count, touches}
 use Rattle.cycle_equiv.specs.DepthFirst.{Joins}
 use Rattle.cycle_equiv.specs.Walking.{Trail, IsTaken, IsOpen, IsTrail, earlier, taking}
@@ -93,15 +93,7 @@ module _ (g : Graph) (w : Trail) (u : ℕ) (walk : IsTrail g w u) (r : Reaches) 
 
     -- the node to which it leads is open
     pub above_open : IsOpen w v
-    above_open = record {
-      found = known;
-      stays = ⊎_elim
-          (λ (left : w.left v ≡ true).
-          let less = walk.left_above v u e left walk.here edge (⊎_elim (λ h. inr h) (λ h. inl h) ends) in
-          absurd (omega (arith, less, above)))
-          (λ (stays : w.left v ≡ false). stays)
-          (cases_Bool (w.left v));
-    }
+    above_open = grind arith
 
     own_at : (x : ℕ) → x ≡ u → after.own x ≡ min (r.own x) (w.tree.preorder v)
     own_at x same = put_same r.own u (min (r.own u) (w.tree.preorder v)) x same ∙ ap (λ n. min (r.own n) (w.tree.preorder v)) (sym same)
@@ -113,10 +105,7 @@ module _ (g : Graph) (w : Trail) (u : ℕ) (walk : IsTrail g w u) (r : Reaches) 
     highest_left c left = ap (λ n. min (r.first c) n) (own_other c (λ same. false≢true (sym walk.here.stays ∙ subst (λ n. w.left n ≡ true) same left)))
 
     own_less : (x : ℕ) → after.own x ≤ r.own x
-    own_less x = ⊎_elim
-        (λ (same : x ≡ u). let o = own_at x same in omega (arith, o))
-        (λ (apart : x ≢ u). let o = own_other x apart in omega (arith, o))
-        (cases_eq x u)
+    own_less x = grind (arith, own_at, own_other)
 
     own_least : (d x z : ℕ) → IsUpwards g (taking w u) d x z → after.own x ≤ w.tree.preorder z
     own_least d x z b = ⊎_elim

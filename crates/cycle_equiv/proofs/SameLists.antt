@@ -38,9 +38,8 @@ module _ (g : Graph) (t : Tree) (tree : IsDepthFirst g t) (s : Brackets) (lists 
     d_held = (lists.listed d d_child b).0 (top_held (s.list d) b d_top)
 
     one_low : c_held.low ≡ d_held.low
-    one_low = tree.one_place c_held.low d_held.low
-        (held_node g t tree s (t.preorder c) c b c_held) (held_node g t tree s (t.preorder d) d b d_held)
-        (sym (held_place g t tree s (t.preorder c) c b c_held) ∙ held_place g t tree s (t.preorder d) d b d_held)
+    one_low =
+        grind (arith, held_node g t tree s (t.preorder c) c b c_held, c_held, held_node g t tree s (t.preorder d) d b d_held, d_held, held_place g t tree s (t.preorder c) c b c_held, held_place g t tree s (t.preorder d) d b d_held)
 
     pub nested_by_top : IsBelow t c d ⊎ IsBelow t d c
     nested_by_top = below_either g t tree c d c_held.low c_held.below (subst (λ x. IsBelow t d x) (sym one_low) d_held.below)
@@ -75,11 +74,7 @@ module _ (g : Graph) (t : Tree) (tree : IsDepthFirst g t) (s : Brackets) (lists 
       (alike : (e : ℕ) → IsBracket g t c e ↔ IsBracket g t d e) where
     -- a child of x leads to what reaches above c, and so is in one line with d
     to_line : (x k e : ℕ) → IsChild g t x → IsBracket g t d e → LeadsAbove g t x k e → IsBelow t d x ⊎ IsBelow t x d
-    to_line x k e x_child b leads =
-        let l = lower_node g t tree sound e b.back.edge in
-        let in_d : IsBelow t d l.low = record { after = subst (λ p. t.preorder d ≤ p) (sym l.lower) b.after; before = subst (λ p. p < t.finish d) (sym l.lower) b.before } in
-        let in_x : IsBelow t x l.low = record { after = subst (λ p. t.preorder x ≤ p) (sym l.lower) leads.after; before = subst (λ p. p < t.finish x) (sym l.lower) leads.before } in
-        below_either g t tree d x l.low in_d in_x
+    to_line x k e x_child b leads = grind (arith, lower_node g t tree sound e b.back.edge, below_either g t tree d x)
 
     -- a capping bracket of the lower edge's list is one of the upper edge's
     cap_up : (b low reach : ℕ) → IsCap g t s b low reach → IsBelow t d low → reach < t.preorder d → IsHeld g t s (t.preorder c) c b

@@ -66,24 +66,14 @@ module _ (g : Graph) (w : Trail) (u : ℕ) (walk : IsTrail g w u) (e v : ℕ) (e
         (cases_lt (earlier g u (w.tree.parent_edge u)) (w.taken u))
 
     back_least : (x : ℕ) → one_if (goes_back g (taking w u) x) ≤ one_if (goes_back g w x)
-    back_least x = ⊎_elim
-        (λ (same : x ≡ u).
-        subst (λ n. one_if (goes_back g (taking w u) n) ≤ one_if (goes_back g w n)) (sym same)
-        (and_least (not (u == w.tree.root)) (ltb (earlier g u (w.tree.parent_edge u)) (put w.taken u (w.taken u + 1) u)) (ltb (earlier g u (w.tree.parent_edge u)) (w.taken u))
-        (λ other. rw (put_same w.taken u (w.taken u + 1) u refl) (back_here (not_other u w.tree.root other)))))
-        (λ (apart : x ≢ u). let as_it_was = ap one_if (back_elsewhere x apart) in omega (arith, as_it_was))
-        (cases_eq x u)
+    back_least x = grind (arith, and_least, ltb, put_same w.taken, back_here, not_other, back_elsewhere)
 
     pub saved_level : saved g (taking w u) ≤ saved g w
-    saved_level =
-        let most = sum_least (λ x. one_if (goes_back g (taking w u) x)) (λ x. one_if (goes_back g w x)) g.nodes (λ x less. back_least x) in
-        omega (arith, most)
+    saved_level = grind (arith, sum_least, back_least)
 
   takes_more : sum_to (put w.taken u (w.taken u + 1)) g.nodes ≡ sum_to w.taken g.nodes + 1
   takes_more =
-      sum_more w.taken (put w.taken u (w.taken u + 1)) u 1 g.nodes node
-      (put_same w.taken u (w.taken u + 1) u refl)
-      (λ x less apart. put_other w.taken u (w.taken u + 1) x apart)
+      grind (arith, sum_more w.taken (put w.taken u (w.taken u + 1)) u 1 g.nodes node, node, put_same w.taken u (w.taken u + 1) u, put_other w.taken u (w.taken u + 1))
 
   module _ (r : Reaches) where
     caps_as : (s : Reaches) → s.second ≡ r.second → how_many (has_cap w s) g.nodes ≡ how_many (has_cap w r) g.nodes
@@ -102,33 +92,14 @@ module _ (g : Graph) (w : Trail) (u : ℕ) (walk : IsTrail g w u) (e v : ℕ) (e
     after = finding w u e v
 
     not_back : u ≢ w.tree.root → w.tree.parent_edge u ≢ e
-    not_back other same =
-        let by = walk.by_edge u walk.here.found other in
-        let joins : Joins g e u (w.tree.parent u) = joins_back g e (w.tree.parent u) u (subst (λ n. Joins g n (w.tree.parent u) u) same by.ends) in
-        let up : w.tree.parent u ≡ v = joins_one g e u v (w.tree.parent u) ends joins in
-        false≢true (sym hidden ∙ subst (λ n. w.found n ≡ true) up by.parent)
+    not_back other same = grind (arith, joins_back g e (w.tree.parent u) u, joins_one g e u v (w.tree.parent u) ends)
 
     back_found : (x : ℕ) → one_if (goes_back g after x) ≤ one_if (goes_back g w x)
-    back_found x = ⊎_elim
-        (λ (new : x ≡ v).
-        let none = put_same (put w.taken u (w.taken u + 1)) v 0 x new in
-        let here = and_none (not (x == w.tree.root)) (ltb (earlier g x (after.tree.parent_edge x)) (after.taken x)) (le-ltb (earlier g x (after.tree.parent_edge x)) (after.taken x) (omega (arith, none))) in
-        omega (arith, here))
-        (λ (old : x ≢ v).
-        let by = put_other w.tree.parent_edge v e x old in
-        let takes = put_other (put w.taken u (w.taken u + 1)) v 0 x old in
-        let same : goes_back g after x ≡ goes_back g (taking w u) x =
-        ap (λ d. not (x == w.tree.root) && ltb (earlier g x d) (after.taken x)) by
-        ∙ ap (λ n. not (x == w.tree.root) && ltb (earlier g x (w.tree.parent_edge x)) n) takes in
-        let as_taken = ap one_if same in
-        let least = back_least not_back x in
-        omega (arith, as_taken, least))
-        (cases_eq x v)
+    back_found x =
+        grind (arith, put_same (put w.taken u (w.taken u + 1)), and_none, ltb, le-ltb, put_other w.tree.parent_edge, put_other (put w.taken u (w.taken u + 1)), back_least not_back, not_back)
 
     pub saved_find : saved g (finding w u e v) ≤ saved g w + 1
-    saved_find =
-        let most = sum_least (λ x. one_if (goes_back g after x)) (λ x. one_if (goes_back g w x)) g.nodes (λ x less. back_found x) in
-        omega (arith, most)
+    saved_find = grind (arith, sum_least, back_found)
 
     takes_found : sum_to after.taken g.nodes ≡ sum_to w.taken g.nodes + 1
     takes_found =

@@ -1,5 +1,5 @@
 -- What the walk spends where it leaves a node.
-use Rattle.std.proofs.Common.{◌≡◌, ◌≢◌, ℕ, ◌+◌, ◌*◌, ◌<◌, ◌≤◌, Bool, true, false, ◌&&◌, not, ltb, min, max, refl, sym, ap, ◌∙◌, subst, ⊎_elim, arith}
+use Rattle.std.proofs.Common.{◌≡◌, ◌≢◌, ℕ, ◌+◌, ◌*◌, ◌<◌, ◌≤◌, Bool, true, ◌&&◌, not, ltb, min, max, refl, sym, ap, ◌∙◌, subst, ⊎_elim, arith}
 use Rattle.std.proofs.lemmas.Bool.{cases_eq, cases_lt, false≢true, lt-ltb, le-ltb}
 use Rattle.closed_walks.specs.Graph.{Graph}
 use Rattle.cycle_equiv.specs.Walking.{Trail, IsOpen, IsTrail, leaving}
@@ -57,20 +57,10 @@ module _ (g : Graph) (w : Trail) (u : ℕ) (walk : IsTrail g w u) (r : Reaches) 
   -- ---- nodes that were left, and their parents weren't
 
   stays_left : (x : ℕ) → one_if (not (after.left x)) ≤ one_if (not (w.left x))
-  stays_left x = ⊎_elim
-      (λ (same : x ≡ u). rw (put_same w.left u true x same) (omega arith))
-      (λ (apart : x ≢ u). let as_it_was = ap (λ b. one_if (not b)) (put_other w.left u true x apart) in omega (arith, as_it_was))
-      (cases_eq x u)
+  stays_left x = grind (arith, put_same w.left, one_if, put_other w.left)
 
   alone_elsewhere : (x : ℕ) → x ≢ u → one_if (left_alone after x) ≤ one_if (left_alone w x)
-  alone_elsewhere x apart =
-      let same = ap (λ b. one_if (b && not (after.left (w.tree.parent x)))) (put_other w.left u true x apart) in
-      let least = below (w.left x) in
-      omega (arith, same, least)
-    where
-      below : (b : Bool) → one_if (b && not (after.left (w.tree.parent x))) ≤ one_if (b && not (w.left (w.tree.parent x)))
-      below true = stays_left (w.tree.parent x)
-      below false = omega arith
+  alone_elsewhere x apart = grind (arith, one_if, put_other w.left u, stays_left (w.tree.parent x))
 
   -- one more at most
   alone_more : how_many (left_alone after) g.nodes ≤ how_many (left_alone w) g.nodes + 1
@@ -88,16 +78,10 @@ module _ (g : Graph) (w : Trail) (u : ℕ) (walk : IsTrail g w u) (r : Reaches) 
   child_apart c child same = false≢true (sym walk.here.stays ∙ subst (λ n. w.left n ≡ true) same child.left)
 
   child_was : (c : ℕ) → IsLeftChild w u c → one_if (left_alone w c) ≡ 1
-  child_was c child =
-      ap (λ b. one_if (b && not (w.left (w.tree.parent c)))) child.left
-      ∙ ap (λ n. one_if (not (w.left n))) child.parent
-      ∙ ap (λ b. one_if (not b)) walk.here.stays
+  child_was c child = cc
 
   child_now : (c : ℕ) → IsLeftChild w u c → one_if (left_alone after c) ≡ 0
-  child_now c child =
-      ap (λ b. one_if (b && not (after.left (w.tree.parent c)))) (put_other w.left u true c (child_apart c child) ∙ child.left)
-      ∙ ap (λ n. one_if (not (after.left n))) child.parent
-      ∙ ap (λ b. one_if (not b)) (put_same w.left u true u refl)
+  child_now c child = grind (arith, one_if, put_other w.left u true c (child_apart c child), child_apart c child, put_same w.left u true u)
 
   -- one less, where the node had two children
   alone_less : (k : ℕ) → HasChildren w r u k → how_many (left_alone after) g.nodes + 1 ≤ how_many (left_alone w) g.nodes

@@ -1,7 +1,7 @@
 -- What a step of a depth-first walk changes of edges that were taken.
-use Rattle.std.proofs.Common.{◌≡◌, ◌≢◌, ℕ, zero, suc, ◌+◌, ◌<◌, ◌≤◌, ◌⊎◌, true, ◌==◌, if◌then◌else◌, [], ◌∷◌, refl, sym, ap, ◌∙◌, inl, inr, ⊎_elim, arith, length-append}
-use Rattle.std.proofs.lemmas.Bool.{cases_eq, cases_lt, cases_order, or_left, or_right, eq-eqb, ne_eqb}
-use Rattle.closed_walks.specs.Graph.{Graph, edge_count, from, to, touches, touching_below}
+use Rattle.std.proofs.Common.{◌≡◌, ◌≢◌, ℕ, zero, suc, ◌+◌, ◌<◌, ◌≤◌, ◌⊎◌, true, if◌then◌else◌, [], ◌∷◌, refl, inl, inr, ⊎_elim, arith, length-append}
+use Rattle.std.proofs.lemmas.Bool.{cases_lt, or_left, or_right, eq-eqb, ne_eqb}
+use Rattle.closed_walks.specs.Graph.{Graph, edge_count, touches, touching_below}
 use Rattle.cycle_equiv.specs.DepthFirst.{Joins}
 use Rattle.cycle_equiv.specs.Walking.{Trail, IsTaken, earlier, put, taking}
 
@@ -16,39 +16,18 @@ put_other f x a y other = rw (ne_eqb y x other) refl
 -- ---- the ends of an edge
 
 pub joins_touches : (g : Graph) (e x y : ℕ) → Joins g e x y → touches g x e ≡ true
-joins_touches g e x y ends = ⊎_elim
-    (λ (h : (from g e ≡ x) × (to g e ≡ y)). or_left (from g e == x) (to g e == x) (eq-eqb (from g e) x h.0))
-    (λ (h : (from g e ≡ y) × (to g e ≡ x)). or_right (from g e == x) (to g e == x) (eq-eqb (to g e) x h.1))
-    ends
+joins_touches g e x y ends = grind (arith, or_left, eq-eqb, or_right)
 
 -- the one end tells the other
 pub joins_one : (g : Graph) (e x y z : ℕ) → Joins g e x y → Joins g e x z → z ≡ y
-joins_one g e x y z first second = ⊎_elim
-    (λ (h : (from g e ≡ x) × (to g e ≡ y)). ⊎_elim
-    (λ (k : (from g e ≡ x) × (to g e ≡ z)). sym k.1 ∙ h.1)
-    (λ (k : (from g e ≡ z) × (to g e ≡ x)). sym k.0 ∙ h.0 ∙ sym k.1 ∙ h.1)
-    second)
-    (λ (h : (from g e ≡ y) × (to g e ≡ x)). ⊎_elim
-    (λ (k : (from g e ≡ x) × (to g e ≡ z)). sym k.1 ∙ h.1 ∙ sym k.0 ∙ h.0)
-    (λ (k : (from g e ≡ z) × (to g e ≡ x)). sym k.0 ∙ h.0)
-    second)
-    first
+joins_one g e x y z first second = grind arith
 
 pub joins_back : (g : Graph) (e x y : ℕ) → Joins g e x y → Joins g e y x
 joins_back g e x y ends = ⊎_elim (λ h. inr h) (λ h. inl h) ends
 
 -- two pairs of ends of an edge are the same, or turned round
 pub two_ends : (g : Graph) (e u x v y : ℕ) → Joins g e u x → Joins g e v y → ((u ≡ y) × (v ≡ x)) ⊎ (x ≡ y)
-two_ends g e u x v y first second = ⊎_elim
-    (λ (h : (from g e ≡ u) × (to g e ≡ x)). ⊎_elim
-    (λ (k : (from g e ≡ v) × (to g e ≡ y)). inr (sym h.1 ∙ k.1))
-    (λ (k : (from g e ≡ y) × (to g e ≡ v)). inl (sym h.0 ∙ k.0, sym k.1 ∙ h.1))
-    second)
-    (λ (h : (from g e ≡ x) × (to g e ≡ u)). ⊎_elim
-    (λ (k : (from g e ≡ v) × (to g e ≡ y)). inl (sym h.1 ∙ k.1, sym k.0 ∙ h.0))
-    (λ (k : (from g e ≡ y) × (to g e ≡ v)). inr (sym h.0 ∙ k.0))
-    second)
-    first
+two_ends g e u x v y first second = grind arith
 
 -- ---- how many edges of lower numbers touch a node
 
@@ -67,52 +46,23 @@ module _ (g : Graph) (x : ℕ) where
       (cases_lt e (suc d))
 
   pub earlier_less : (e d : ℕ) → touches g x e ≡ true → e < d → earlier g x e < earlier g x d
-  earlier_less e d touched less =
-      let next = earlier_next e touched in
-      let rest = earlier_grows (suc e) d (omega arith) in
-      omega arith
+  earlier_less e d touched less = grind (arith, earlier_next e touched, earlier_grows (suc e) d)
 
   pub earlier_one : (e d : ℕ) → touches g x e ≡ true → touches g x d ≡ true → earlier g x e ≡ earlier g x d → e ≡ d
-  earlier_one e d e_touched d_touched same = ⊎_elim
-      (λ equal. equal)
-      (⊎_elim
-      (λ (l : e < d). let less = earlier_less e d e_touched l in absurd (omega arith))
-      (λ (l : d < e). let less = earlier_less d e d_touched l in absurd (omega arith)))
-      (cases_order e d)
+  earlier_one e d e_touched d_touched same = grind (arith, earlier_less)
 
 -- ---- one edge more was taken
 
 module _ (g : Graph) (w : Trail) (u : ℕ) where
   pub taken_still : (x e : ℕ) → IsTaken g w x e → IsTaken g (taking w u) x e
-  taken_still x e h = ⊎_elim
-      (λ (same : x ≡ u).
-      let more : put w.taken u (w.taken u + 1) x ≡ w.taken u + 1 = put_same w.taken u (w.taken u + 1) x same in
-      let old : w.taken x ≡ w.taken u = ap w.taken same in
-      let early = h.early in
-      record { edge = h.edge; touched = h.touched; early = omega (arith, more, old, early) })
-      (λ (other : x ≢ u).
-      let as_it_was : put w.taken u (w.taken u + 1) x ≡ w.taken x = put_other w.taken u (w.taken u + 1) x other in
-      let early = h.early in
-      record { edge = h.edge; touched = h.touched; early = omega (arith, as_it_was, early) })
-      (cases_eq x u)
+  taken_still x e h = grind (arith, put_same w.taken, put_other w.taken)
 
   pub taken_elsewhere : (x e : ℕ) → x ≢ u → IsTaken g (taking w u) x e → IsTaken g w x e
-  taken_elsewhere x e other h =
-      let as_it_was : put w.taken u (w.taken u + 1) x ≡ w.taken x = put_other w.taken u (w.taken u + 1) x other in
-      let early = h.early in
-      record { edge = h.edge; touched = h.touched; early = omega (arith, as_it_was, early) }
+  taken_elsewhere x e other h = grind (arith, put_other w.taken u (w.taken u + 1) x other)
 
   module _ (e : ℕ) (edge : e < edge_count g) (touched : touches g u e ≡ true) (next : earlier g u e ≡ w.taken u) where
     pub taken_now : IsTaken g (taking w u) u e
-    taken_now =
-        let more : put w.taken u (w.taken u + 1) u ≡ w.taken u + 1 = put_same w.taken u (w.taken u + 1) u refl in
-        record { edge = edge; touched = touched; early = omega (arith, more, next) }
+    taken_now = grind (arith, put_same w.taken u (w.taken u + 1) u)
 
     pub taken_here : (d : ℕ) → IsTaken g (taking w u) u d → (d ≡ e) ⊎ IsTaken g w u d
-    taken_here d h =
-        let more : put w.taken u (w.taken u + 1) u ≡ w.taken u + 1 = put_same w.taken u (w.taken u + 1) u refl in
-        let early = h.early in
-        ⊎_elim
-        (λ (old : earlier g u d < w.taken u). inr (record { edge = h.edge; touched = h.touched; early = old }))
-        (λ (new : w.taken u ≤ earlier g u d). inl (earlier_one g u d e h.touched touched (omega (arith, new, early, more, next))))
-        (cases_lt (earlier g u d) (w.taken u))
+    taken_here d h = grind (arith, put_same w.taken u (w.taken u + 1) u, earlier_one g u d e h.touched touched, cases_lt (earlier g u d) (w.taken u))

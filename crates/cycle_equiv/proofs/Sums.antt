@@ -1,5 +1,5 @@
 -- Sums of functions over the numbers below one.
-use Rattle.std.proofs.Common.{◌≡◌, ◌≢◌, ℕ, zero, suc, ◌+◌, ◌<◌, ◌≤◌, Bool, true, false, ◌==◌, if◌then◌else◌, List, [], ◌∷◌, length, get_or, sum, refl, ap, ⊎_elim, arith}
+use Rattle.std.proofs.Common.{◌≡◌, ◌≢◌, ℕ, zero, suc, ◌+◌, ◌<◌, ◌≤◌, Bool, ◌==◌, if◌then◌else◌, List, [], ◌∷◌, length, get_or, sum, refl, ap, ⊎_elim, arith}
 use Rattle.std.proofs.lemmas.Bool.{cases_eq, eq-eqb, ne_eqb}
 use Rattle.std.proofs.lemmas.List.Sums.{sum_by-cons}
 use Rattle.cycle_equiv.specs.WalkSteps.{sum_to, how_many}
@@ -16,17 +16,11 @@ at_other a x apart = rw (ne_eqb x a apart) refl
 
 pub sum_least : (f h : ℕ → ℕ) (n : ℕ) → ((x : ℕ) → x < n → f x ≤ h x) → sum_to f n ≤ sum_to h n
 sum_least f h zero each = omega arith
-sum_least f h (suc n) each =
-    let rest = sum_least f h n (λ x less. each x (omega (arith, less))) in
-    let here = each n (omega arith) in
-    omega (arith, rest, here)
+sum_least f h (suc n) each = grind (arith, sum_least f h n)
 
 pub sum_same : (f h : ℕ → ℕ) (n : ℕ) → ((x : ℕ) → x < n → f x ≡ h x) → sum_to f n ≡ sum_to h n
 sum_same f h zero each = refl
-sum_same f h (suc n) each =
-    let rest = sum_same f h n (λ x less. each x (omega (arith, less))) in
-    let here = each n (omega arith) in
-    omega (arith, rest, here)
+sum_same f h (suc n) each = grind (arith, sum_same f h n)
 
 pub sum_plus : (f h : ℕ → ℕ) (n : ℕ) → sum_to (λ x. f x + h x) n ≡ sum_to f n + sum_to h n
 sum_plus f h zero = refl
@@ -42,10 +36,7 @@ sum_none (suc n) = let rest = sum_none n in omega (arith, rest)
 
 sum_past : (a n : ℕ) → n ≤ a → sum_to (at_one a) n ≡ 0
 sum_past a zero past = refl
-sum_past a (suc n) past =
-    let rest = sum_past a n (omega (arith, past)) in
-    let here = at_other a n (λ same. omega (arith, same, past)) in
-    omega (arith, rest, here)
+sum_past a (suc n) past = grind (arith, sum_past a n, at_other a n)
 
 pub sum_one : (a n : ℕ) → a < n → sum_to (at_one a) n ≡ 1
 sum_one a zero less = absurd (omega (arith, less))
@@ -85,14 +76,3 @@ sum_list (x ∷ xs) =
     let total = sum_by-cons (λ (n : ℕ). n) x xs in
     let long : length (x ∷ xs) ≡ suc (length xs) = refl in
     omega (arith, rest, first, total)
-
--- a test that fails nowhere, or at one number alone
-pub many_most : (test : ℕ → Bool) (n : ℕ) → how_many test n ≤ n
-many_most test n =
-    let most = sum_least (λ x. if test x then 1 else 0) (λ x. 1) n (λ x less. one_most (test x)) in
-    let all = sum_ones n in
-    omega (arith, most, all)
-  where
-    one_most : (b : Bool) → (if b then 1 else 0) ≤ 1
-    one_most true = omega arith
-    one_most false = omega arith

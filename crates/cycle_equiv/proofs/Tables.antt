@@ -1,5 +1,5 @@
 -- Lists that have the values of a function.
-use Rattle.std.proofs.Common.{◌≡◌, ◌≢◌, ℕ, ◌<◌, List, [], ◌∷◌, length, get_or, set, replicate, Option, Some, None, unwrap_or, refl, sym, ap, ◌∙◌, ⊎_elim, arith, get_or-set_same, get_or-set_other, length-set, subst}
+use Rattle.std.proofs.Common.{◌≡◌, ◌≢◌, ℕ, ◌<◌, List, [], ◌∷◌, length, get_or, set, replicate, Option, unwrap_or, refl, sym, ap, ◌∙◌, ⊎_elim, arith, get_or-set_same, get_or-set_other, length-set, subst}
 use Rattle.std.proofs.lemmas.Bool.{cases_eq}
 use Rattle.std.proofs.lemmas.List.{length-replicate, get_or-replicate, get_or_default}
 use Rattle.cycle_equiv.specs.Walking.{put}
@@ -11,15 +11,7 @@ use Rattle.cycle_equiv.proofs.Steps.{put_same, put_other}
 module _ {A : Type 0} (n : ℕ) (default : A) where
   -- a write
   pub table_put : (xs : List A) (f : ℕ → A) (i : ℕ) (a : A) → i < length xs → IsTable n xs default f → IsTable n (set xs i a) default (put f i a)
-  table_put xs f i a inside t =
-      let long = t.size in
-      record {
-        size = length-set xs i a ∙ t.size;
-        exact = λ k less. ⊎_elim
-            (λ (same : k ≡ i). subst (λ j. get_or (set xs i a) j default ≡ a) (sym same) (get_or-set_same xs i a default inside) ∙ sym (put_same f i a k same))
-            (λ (apart : k ≢ i). get_or-set_other xs i k a default apart ∙ t.exact k less ∙ sym (put_other f i a k apart))
-            (cases_eq k i);
-      }
+  table_put xs f i a inside t = grind (arith, length-set xs, get_or-set_same xs, put_same f, get_or-set_other xs, put_other f)
 
   -- a function that has the same values
   pub table_as : (xs : List A) (f h : ℕ → A) → ((k : ℕ) → k < n → f k ≡ h k) → IsTable n xs default f → IsTable n xs default h
@@ -33,9 +25,7 @@ module _ {A : Type 0} (n : ℕ) (default : A) where
 
   -- what is read is the function's value
   pub table_read : (xs : List A) (f : ℕ → A) (k : ℕ) (a : A) → k < length xs → a ≡ get_or xs k a → IsTable n xs default f → a ≡ f k
-  table_read xs f k a inside is t =
-      let long = t.size in
-      is ∙ get_or_default xs k a default inside ∙ t.exact k (omega (arith, inside, long))
+  table_read xs f k a inside is t = grind (arith, get_or_default xs k a default inside, t.exact k)
 
   pub table_set : (xs new : List A) (f : ℕ → A) (i : ℕ) (a : A) → i < n → new ≡ set xs i a → IsTable n xs default f → IsTable n new default (put f i a)
   table_set xs new f i a less is t = subst (λ ys. IsTable n ys default (put f i a)) (sym is) (table_put xs f i a (table_inside xs f t i less) t)
@@ -52,16 +42,10 @@ tops_put n xs new tops e t less is table =
 
 -- they tell them, with the sizes
 pub told_put : (tops : ℕ → Option ℕ) (sizes : ℕ → ℕ) (e : ℕ) (t : Option ℕ) (n : ℕ) → IsTold t n → ((k : ℕ) → IsTold (tops k) (sizes k)) → (k : ℕ) → IsTold (put tops e t k) (put sizes e n k)
-told_put tops sizes e t n here there k = ⊎_elim
-    (λ (same : k ≡ e). rw (put_same tops e t k same, put_same sizes e n k same) here)
-    (λ (apart : k ≢ e). rw (put_other tops e t k apart, put_other sizes e n k apart) (there k))
-    (cases_eq k e)
+told_put tops sizes e t n here there k = grind (arith, put_same tops, put_same sizes, put_other tops, put_other sizes)
 
 pub told_same : (s t : Option ℕ) (m n : ℕ) → IsTold s m → IsTold t n → m ≡ n → unwrap_or s 0 ≡ unwrap_or t 0 → s ≡ t
-told_same None None m n s_told t_told same tops = refl
-told_same None (Some b) m n s_told t_told same tops = absurd (omega (arith, s_told, t_told, same))
-told_same (Some a) None m n s_told t_told same tops = absurd (omega (arith, s_told, t_told, same))
-told_same (Some a) (Some b) m n s_told t_told same tops = ap (λ x. Some x) tops
+told_same h h2 m n s_told t_told same tops = grind arith
 
 pub told_list : (xs : List ℕ) → IsTold (top xs) (length xs)
 told_list [] = refl

@@ -1,5 +1,5 @@
 -- A depth-first walk goes on where it takes an edge to a node that was found before.
-use Rattle.std.proofs.Common.{◌≡◌, ◌≢◌, ℕ, ◌<◌, ◌⊎◌, true, sym, ap, ◌∙◌, subst, ⊎_elim, arith}
+use Rattle.std.proofs.Common.{◌≡◌, ◌≢◌, ℕ, ◌<◌, ◌⊎◌, true, sym, subst, ⊎_elim, arith}
 use Rattle.std.proofs.lemmas.Bool.{cases_eq}
 use Rattle.closed_walks.specs.Graph.{Graph, edge_count, touches}
 use Rattle.cycle_equiv.specs.DepthFirst.{Joins}
@@ -9,11 +9,7 @@ use Rattle.cycle_equiv.proofs.Steps.{joins_one, taken_still, taken_elsewhere, ta
 module _ (g : Graph) (w : Trail) (u : ℕ) (walk : IsTrail g w u) where
   -- the node at which the walk is has no open child
   pub no_open_child : (y : ℕ) → IsOpen w y → y ≢ w.tree.root → w.tree.parent y ≡ u → ⊥
-  no_open_child y stands other parent =
-      let first = (walk.by_edge y stands.found other).first in
-      let last = walk.last y stands in
-      let place = ap w.tree.preorder parent in
-      omega (arith, first, last, place)
+  no_open_child y stands other parent = grind arith
 
   module _ (e v : ℕ) (edge : e < edge_count g) (touched : touches g u e ≡ true) (next : earlier g u e ≡ w.taken u) (ends : Joins g e u v) (found : w.found v ≡ true) where
     ends_found : (x y d : ℕ) → w.found x ≡ true → IsTaken g (taking w u) x d → Joins g d x y → w.found y ≡ true
@@ -28,10 +24,7 @@ module _ (g : Graph) (w : Trail) (u : ℕ) (walk : IsTrail g w u) where
         (cases_eq x u)
 
     before : (x y z d : ℕ) → IsOpen w x → IsOpen w y → y ≢ w.tree.root → w.tree.parent y ≡ x → IsTaken g (taking w u) x d → Joins g d x z → (d ≡ w.tree.parent_edge y) ⊎ (w.tree.preorder z < w.tree.preorder y)
-    before x y z d x_open y_open other parent taken joins =
-        walk.before x y z d x_open y_open other parent
-        (taken_elsewhere g w u x d (λ same. no_open_child y y_open other (parent ∙ same)) taken)
-        joins
+    before x y z d x_open y_open other parent taken joins = grind (arith, taken_elsewhere g w u x d, no_open_child y y_open other)
 
     by_edge : (x : ℕ) → w.found x ≡ true → x ≢ w.tree.root → IsFoundBy g (taking w u) x
     by_edge x x_found other =

@@ -1,9 +1,9 @@
 -- Along which edges a walk comes to a node's descendants, or leaves them.
-use Rattle.std.proofs.Common.{◌≡◌, ◌≢◌, ℕ, zero, suc, ◌<◌, ◌≤◌, ◌⊎◌, ◌↔◌, Bool, true, false, ◌&&◌, leb, ltb, refl, sym, ap, ◌∙◌, subst, inl, inr, ⊎_elim, arith}
-use Rattle.std.proofs.lemmas.Bool.{cases_eq, cases_lt, le-leb, lt-ltb, leb-true, ltb-true, and_from, and_parts, false_from_ne_true, false≢true}
+use Rattle.std.proofs.Common.{◌≡◌, ◌≢◌, ℕ, zero, suc, ◌<◌, ◌≤◌, ◌⊎◌, ◌↔◌, Bool, true, false, ◌&&◌, leb, ltb, sym, ap, ◌∙◌, subst, inl, inr, ⊎_elim, arith}
+use Rattle.std.proofs.lemmas.Bool.{cases_eq, cases_lt, le-leb, lt-ltb, leb-true, ltb-true, and_from, false_from_ne_true, false≢true}
 use Rattle.closed_walks.specs.Graph.{Graph, IsGraph, edge_count, from, to}
 use Rattle.cycle_equiv.specs.DepthFirst.{Tree, Joins, IsChild, IsBackEdge, IsBelow, IsDepthFirst, IsBracket, upper_end, lower_end}
-use Rattle.cycle_equiv.proofs.Trees.{cases_below, below_itself, parent_above}
+use Rattle.cycle_equiv.proofs.Trees.{below_itself, parent_above}
 
 -- whether x is c or a descendant of c
 abbrev pub below : Tree → (c x : ℕ) → Bool
@@ -17,17 +17,13 @@ module _ (t : Tree) (c : ℕ) where
 
   pub true-below : (x : ℕ) → below t c x ≡ true → IsBelow t c x
   true-below x h =
-      let both = and_parts (leb (t.preorder c) (t.preorder x)) (ltb (t.preorder x) (t.finish c)) h in
-      record { after = leb-true (t.preorder c) (t.preorder x) both.0; before = ltb-true (t.preorder x) (t.finish c) both.1 }
+      grind (arith, leb (t.preorder c) (t.preorder x), ltb (t.preorder x) (t.finish c), leb-true (t.preorder c) (t.preorder x), ltb-true (t.preorder x) (t.finish c))
 
   pub below-false : (x : ℕ) → (IsBelow t c x → ⊥) → below t c x ≡ false
   below-false x none = false_from_ne_true (below t c x) (λ h. none (true-below x h))
 
   pub below-same : (x y : ℕ) → IsBelow t c x ↔ IsBelow t c y → below t c x ≡ below t c y
-  below-same x y h = ⊎_elim
-      (λ (inside : IsBelow t c x). below-true x inside ∙ sym (below-true y (h.0 inside)))
-      (λ (outside : IsBelow t c x → ⊥). below-false x outside ∙ sym (below-false y (λ inside. outside (h.1 inside))))
-      (cases_below t c x)
+  below-same x y h = grind (arith, below-true, below-true y, below-false, below-false y)
 
   pub below-apart : (x y : ℕ) → (IsBelow t c x → ⊥) → IsBelow t c y → below t c x ≢ below t c y
   below-apart x y outside inside same = false≢true (sym (below-false x outside) ∙ same ∙ below-true y inside)
@@ -35,16 +31,10 @@ module _ (t : Tree) (c : ℕ) where
 -- a test that is the same at both ends of an edge
 module _ (g : Graph) (test : ℕ → Bool) (e u v : ℕ) (ends : Joins g e u v) where
   pub along_edge : test u ≡ test v → test (from g e) ≡ test (to g e)
-  along_edge same = ⊎_elim
-      (λ (h : (from g e ≡ u) × (to g e ≡ v)). ap test h.0 ∙ same ∙ sym (ap test h.1))
-      (λ (h : (from g e ≡ v) × (to g e ≡ u)). ap test h.0 ∙ sym same ∙ sym (ap test h.1))
-      ends
+  along_edge same = grind arith
 
   pub edge_along : test (from g e) ≡ test (to g e) → test u ≡ test v
-  edge_along same = ⊎_elim
-      (λ (h : (from g e ≡ u) × (to g e ≡ v)). sym (ap test h.0) ∙ same ∙ ap test h.1)
-      (λ (h : (from g e ≡ v) × (to g e ≡ u)). sym (ap test h.1) ∙ sym same ∙ ap test h.0)
-      ends
+  edge_along same = grind arith
 
 module _ (g : Graph) (t : Tree) (tree : IsDepthFirst g t) where
   -- ---- the edge of a tree by which a node was found
@@ -75,10 +65,7 @@ module _ (g : Graph) (t : Tree) (tree : IsDepthFirst g t) where
 
   -- an edge is a tree edge or a back edge
   pub cases_tree : (e : ℕ) → e < edge_count g → IsFound e ⊎ IsBackEdge g t e
-  cases_tree e edge = ⊎_elim
-      (λ found. inl found)
-      (λ none. inr (record { edge = edge; found_none = λ x child. none x child.node child }))
-      (found_below e g.nodes (omega arith))
+  cases_tree e edge = grind (arith, found_below e g.nodes)
 
   -- ---- a tree edge leads to the descendants of the one node that was found by it
 
@@ -129,13 +116,7 @@ module _ (g : Graph) (t : Tree) (tree : IsDepthFirst g t) where
         (cases_lt (t.preorder u) (t.preorder c))
 
     none_same : (IsBracket g t c e → ⊥) → below t c u ≡ below t c v
-    none_same none = below-same t c u v (
-      down,
-      λ inside. ⊎_elim
-          (λ (h : IsBelow t c u). h)
-          (λ (outside : IsBelow t c u → ⊥). absurd (none (bracket_since inside outside)))
-          (cases_below t c u),
-    )
+    none_same none = grind (arith, below-same, down, bracket_since)
 
   module _ (sound : IsGraph g) (c e : ℕ) (c_node : c < g.nodes) (back : IsBackEdge g t e) where
     from_node : from g e < g.nodes
@@ -145,26 +126,15 @@ module _ (g : Graph) (t : Tree) (tree : IsDepthFirst g t) where
     to_node = sound.ends e back.edge
 
     pub bracket_changes : IsBracket g t c e → below t c (from g e) ≢ below t c (to g e)
-    bracket_changes b = ⊎_elim
-        (λ (less : t.preorder (from g e) < t.preorder (to g e)).
-        bracket_apart c e (from g e) (to g e) c_node from_node back (inl (refl, refl)) (omega arith) (omega arith) (omega arith) b)
-        (λ (more : t.preorder (to g e) ≤ t.preorder (from g e)).
-        λ same. bracket_apart c e (to g e) (from g e) c_node to_node back (inr (refl, refl)) more (omega arith) (omega arith) b (sym same))
-        (cases_lt (t.preorder (from g e)) (t.preorder (to g e)))
+    bracket_changes b =
+        grind (arith, bracket_apart c e (from g e) (to g e) c_node from_node back, from_node, bracket_apart c e (to g e) (from g e) c_node to_node back, to_node, cases_lt (t.preorder (from g e)) (t.preorder (to g e)))
 
     pub same_without_bracket : (IsBracket g t c e → ⊥) → below t c (from g e) ≡ below t c (to g e)
-    same_without_bracket none = ⊎_elim
-        (λ (less : t.preorder (from g e) < t.preorder (to g e)).
-        none_same c e (from g e) (to g e) c_node from_node back (inl (refl, refl)) (omega arith) (omega arith) (omega arith) none)
-        (λ (more : t.preorder (to g e) ≤ t.preorder (from g e)).
-        sym (none_same c e (to g e) (from g e) c_node to_node back (inr (refl, refl)) more (omega arith) (omega arith) none))
-        (cases_lt (t.preorder (from g e)) (t.preorder (to g e)))
+    same_without_bracket none =
+        grind (arith, none_same c e (from g e) (to g e) c_node from_node back, from_node, none_same c e (to g e) (from g e) c_node to_node back, to_node, cases_lt (t.preorder (from g e)) (t.preorder (to g e)))
 
     pub changes_by_bracket : below t c (from g e) ≢ below t c (to g e) → IsBracket g t c e
-    changes_by_bracket apart = ⊎_elim
-        (λ (b : IsBracket g t c e). b)
-        (λ (none : IsBracket g t c e → ⊥). absurd (apart (same_without_bracket none)))
-        (cases_bracket c e back)
+    changes_by_bracket apart = grind (arith, same_without_bracket)
 
   -- ---- tests that don't change along the tree edges
 

@@ -1,18 +1,12 @@
 -- Descendants in a depth-first tree, and which edges leave them.
-use Rattle.std.proofs.Common.{◌≡◌, ◌≢◌, ℕ, zero, suc, ◌<◌, ◌≤◌, ◌⊎◌, sym, ap, ◌∙◌, subst, inl, inr, ⊎_elim, arith}
+use Rattle.std.proofs.Common.{◌≡◌, ◌≢◌, ℕ, zero, suc, ◌<◌, ◌⊎◌, sym, ap, ◌∙◌, subst, ⊎_elim, arith}
 use Rattle.std.proofs.lemmas.Bool.{cases_eq, cases_lt}
 use Rattle.closed_walks.specs.Graph.{Graph}
 use Rattle.cycle_equiv.specs.DepthFirst.{Tree, IsChild, IsBelow, IsDepthFirst}
 
 -- a test of whether one node is below another
 pub cases_below : (t : Tree) (c x : ℕ) → IsBelow t c x ⊎ (IsBelow t c x → ⊥)
-cases_below t c x = ⊎_elim
-    (λ (early : t.preorder x < t.preorder c). inr (λ (b : IsBelow t c x). omega arith))
-    (λ (late : t.preorder c ≤ t.preorder x). ⊎_elim
-    (λ (inside : t.preorder x < t.finish c). inl (record { after = late; before = inside }))
-    (λ (past : t.finish c ≤ t.preorder x). inr (λ (b : IsBelow t c x). omega arith))
-    (cases_lt (t.preorder x) (t.finish c)))
-    (cases_lt (t.preorder x) (t.preorder c))
+cases_below t c x = grind arith
 
 module _ (g : Graph) (t : Tree) (tree : IsDepthFirst g t) where
   -- ---- descendants
@@ -25,33 +19,23 @@ module _ (g : Graph) (t : Tree) (tree : IsDepthFirst g t) where
 
   -- the ancestors of a node are below one another
   pub below_either : (a b x : ℕ) → IsBelow t a x → IsBelow t b x → IsBelow t a b ⊎ IsBelow t b a
-  below_either a b x first second = ⊎_elim
-      (λ (less : t.preorder a < t.preorder b). inl (record { after = omega arith; before = omega arith }))
-      (λ (more : t.preorder b ≤ t.preorder a). inr (record { after = more; before = omega arith }))
-      (cases_lt (t.preorder a) (t.preorder b))
+  below_either a b x first second = grind (arith, cases_lt (t.preorder a) (t.preorder b))
 
   pub parent_above : (x : ℕ) → IsChild g t x → IsBelow t x (t.parent x) → ⊥
   parent_above x child below = let first = tree.parent_first x child in omega arith
 
   -- a child is below its parent
   pub child_below : (x : ℕ) → IsChild g t x → IsBelow t (t.parent x) x
-  child_below x child =
-      let first = tree.parent_first x child in
-      (tree.by_parent (t.parent x) x (tree.parent_node x child) child (λ same. let places = ap t.preorder same in omega arith)).0
-      (below_itself (t.parent x) (tree.parent_node x child))
+  child_below x child = grind (arith, below_itself (t.parent x) (tree.parent_node x child))
 
   -- a child that is below another one is below the parent of neither
   pub not_nested : (a b : ℕ) → IsChild g t a → IsChild g t b → t.parent a ≡ t.parent b → a ≢ b → IsBelow t a b → ⊥
-  not_nested a b a_child b_child same apart below =
-      let up : IsBelow t a (t.parent b) = (tree.by_parent a b a_child.node b_child apart).1 below in
-      parent_above a a_child (subst (λ p. IsBelow t a p) (sym same) up)
+  not_nested a b a_child b_child same apart below = grind (arith, parent_above a a_child)
 
   -- two children of one node have no descendant in common
   pub children_apart : (a b x : ℕ) → IsChild g t a → IsChild g t b → t.parent a ≡ t.parent b → a ≢ b → IsBelow t a x → IsBelow t b x → ⊥
-  children_apart a b x a_child b_child same apart first second = ⊎_elim
-      (not_nested a b a_child b_child same apart)
-      (not_nested b a b_child a_child (sym same) (λ e. apart (sym e)))
-      (below_either a b x first second)
+  children_apart a b x a_child b_child same apart first second =
+      grind (arith, not_nested a b a_child b_child same apart, not_nested b a b_child a_child, below_either a b x first second)
 
   -- the child of p that x is below
   pub record IsThrough (p x : ℕ) : Type 0 where

@@ -1,14 +1,14 @@
 -- The walk, where it begins.
-use Rattle.std.proofs.Common.{◌≡◌, ℕ, ◌<◌, Bool, true, false, ◌==◌, ◌&&◌, not, ltb, List, [], replicate, length, None, refl, ap, ◌∙◌, arith}
+use Rattle.std.proofs.Common.{◌≡◌, ℕ, ◌<◌, Bool, true, false, ◌&&◌, ltb, List, [], replicate, None, refl, ap, arith}
 use Rattle.std.proofs.lemmas.Bool.{false≢true, le-ltb}
 use Rattle.std.proofs.lemmas.List.Folds.{sum_by-replicate}
 use Rattle.closed_walks.specs.Graph.{Graph, edge_count}
 use Rattle.cycle_equiv.specs.CapLists.{caps_total}
-use Rattle.cycle_equiv.specs.Walking.{beginning, earlier}
+use Rattle.cycle_equiv.specs.Walking.{beginning}
 use Rattle.cycle_equiv.specs.TrailReaches.{Reaches}
 use Rattle.cycle_equiv.specs.WalkTables.{IsTreeTable, IsReachTable}
 use Rattle.cycle_equiv.specs.WalkState.{IsPaidWalk, IsCountable}
-use Rattle.cycle_equiv.specs.WalkSteps.{goes_back, saved}
+use Rattle.cycle_equiv.specs.WalkSteps.{saved}
 use Rattle.cycle_equiv.specs.declared.walk.BracketWalk.{BracketWalk}
 use Rattle.cycle_equiv.proofs.Beginning.{begin_counted, begin_trail, begin_reaches, begin_lists, begin_left_lists, begin_caps, begin_places}
 use Rattle.cycle_equiv.proofs.Spending.{one_if}
@@ -19,19 +19,14 @@ abbrev level : Reaches
 level = record { own = λ x. 0; first = λ x. 0; second = λ x. 0 }
 
 pub no_caps_total : (n : ℕ) (caps : List (List ℕ)) → caps ≡ replicate n [] → caps_total caps ≡ 0
-no_caps_total n caps is =
-    let none = sum_by-replicate (λ (xs : List ℕ). length xs) n [] in
-    ap caps_total is ∙ omega (arith, none)
+no_caps_total n caps is = grind (arith, sum_by-replicate)
 
 none_back : (a b : Bool) → b ≡ false → one_if (a && b) ≡ 0
 none_back true b none = ap one_if none
 none_back false b none = refl
 
 begin_saved : (g : Graph) (root : ℕ) → saved g (beginning root) ≡ 1
-begin_saved g root =
-    let same = sum_same (λ x. one_if (goes_back g (beginning root) x)) (λ x. 0) g.nodes (λ x less. none_back (not (x == root)) (ltb (earlier g x 0) 0) (le-ltb (earlier g x 0) 0 (omega arith))) in
-    let none = sum_none g.nodes in
-    omega (arith, same, none)
+begin_saved g root = grind (arith, sum_same, one_if, none_back, ltb, le-ltb, sum_none g.nodes)
 
 pub begun_walk : (g : Graph) (root : ℕ) → root < g.nodes → IsCountable g → (c : BracketWalk) → IsTreeTable g.nodes c.tree (beginning root)
     → IsReachTable g.nodes c.reaches (record { own = λ x. 0; first = λ x. 0; second = λ x. 0 }) → c.lists ≡ replicate (edge_count g) [] → c.caps.items ≡ replicate g.nodes []

@@ -10,7 +10,7 @@ use Rattle.cycle_equiv.specs.WalkSteps.{sum_to, how_many, goes_back, spent, save
 use Rattle.std.proofs.lemmas.Bool.{cases_eq, ne_eqb, lt-ltb}
 use Rattle.cycle_equiv.specs.WalkState.{IsWalk, AreNamesOf, left_weight, progress}
 use Rattle.cycle_equiv.specs.declared.walk_tree.Mark.{Mark}
-use Rattle.cycle_equiv.specs.declared.walk_tree.Mark.TheVariants.{New, Open, Left}
+use Rattle.cycle_equiv.specs.declared.walk_tree.Mark.TheVariants.{New, Left}
 use Rattle.cycle_equiv.specs.declared.walk.BracketWalk.{BracketWalk}
 use Rattle.cycle_equiv.proofs.EdgeAt.{edge_at_none}
 use Rattle.cycle_equiv.proofs.Ending.{all_found, all_taken}
@@ -22,17 +22,11 @@ use Rattle.cycle_equiv.proofs.Tables.{told_same}
 use Rattle.cycle_equiv.proofs.WalkReads.{here_node, row, open_mark, taken_all}
 
 weight_most : (m : Mark) → left_weight m ≤ 1
-weight_most New = omega arith
-weight_most Open = omega arith
-weight_most Left = omega arith
+weight_most h = grind arith
 
 left_most : (marks : List Mark) → sum_by left_weight marks ≤ length marks
 left_most [] = omega arith
-left_most (m ∷ marks) =
-    let one = weight_most m in
-    let rest = left_most marks in
-    let total = sum_by-cons left_weight m marks in
-    omega (arith, one, rest, total)
+left_most (m ∷ marks) = grind (arith, weight_most m, left_most marks, sum_by-cons left_weight m marks)
 
 unfound_none : (found : ℕ → Bool) (n : ℕ) → ((x : ℕ) → x < n → found x ≡ true) → unfound found n ≡ 0
 unfound_none found zero all = refl
@@ -62,10 +56,7 @@ module _ (g : Graph) (c : BracketWalk) (u : ℕ) (h : IsWalk g c u) where
     trail = subst (λ n. IsTrail g h.trail n) at_root h.is_trail
 
     taken : (e : ℕ) → e < edge_count g → touches g h.trail.tree.root e ≡ true → IsTaken g h.trail h.trail.tree.root e
-    taken e edge touched =
-        let here : touches g u e ≡ true = subst (λ n. touches g n e ≡ true) (sym at_root) touched in
-        subst (λ n. IsTaken g h.trail n e) at_root
-        (record { edge = edge; touched = here; early = edge_at_none g u (h.trail.taken u) e (taken_all g c u h none) edge here })
+    taken e edge touched = grind (arith, at_root, edge_at_none g u (h.trail.taken u) e (taken_all g c u h none) edge, taken_all g c u h none)
 
     pub ended_names : AreNamesOf g c.names
     ended_names = record {
@@ -139,10 +130,4 @@ module _ (g : Graph) (c : BracketWalk) (u : ℕ) (h : IsWalk g c u) where
 
     pub steps_few : (start now : ℕ) → now + caps_total c.caps.items + saved g h.trail ≤ start + spent g.nodes h.trail h.reaches + 1 → now + 1 ≤ start + (4 * edge_count g + 3 * g.nodes)
     steps_few start now paid =
-        let takes = takes_most in
-        let left = left_few in
-        let back = back_all in
-        let caps = h.few_caps.caps in
-        let count = h.counted.count in
-        let none = unfound_none h.trail.found g.nodes (λ x less. all_found g h.trail trail h.counted taken strong x less) in
-        omega (arith, paid, takes, left, back, caps, count, none)
+        grind (arith, takes_most, left_few, back_all, unfound_none h.trail.found g.nodes, all_found g h.trail trail h.counted taken strong, trail, taken)

@@ -38,11 +38,7 @@ module _ (g : Graph) (c : BracketWalk) (u : ℕ) (h : IsWalk g c u) (e v : ℕ) 
 
   -- there is room for one node more
   pub find_room : w.count < 2 ^ 32 - 1
-  find_room =
-      let one = unfound_find w.found v g.nodes node hidden in
-      let count = h.counted.count in
-      let few = h.graph.few_nodes in
-      omega (arith, one, count, few)
+  find_room = grind (arith, unfound_find w.found v g.nodes node hidden)
 
   none_taken : (x : ℕ) → put w.found v true x ≡ false → put (put w.taken u (w.taken u + 1)) v 0 x ≡ 0
   none_taken x unfound = ⊎_elim
@@ -55,20 +51,7 @@ module _ (g : Graph) (c : BracketWalk) (u : ℕ) (h : IsWalk g c u) (e v : ℕ) 
       (cases_eq x v)
 
   few_taken : (x : ℕ) → x < g.nodes → put (put w.taken u (w.taken u + 1)) v 0 x ≤ length (edges_at g x)
-  few_taken x inside = ⊎_elim
-      (λ (new : x ≡ v). let none = put_same (put w.taken u (w.taken u + 1)) v 0 x new in omega (arith, none))
-      (λ (old : x ≢ v).
-      let same = put_other (put w.taken u (w.taken u + 1)) v 0 x old in
-      ⊎_elim
-      (λ (here : x ≡ u).
-      let more = put_same w.taken u (w.taken u + 1) x here in
-      subst (λ n. put (put w.taken u (w.taken u + 1)) v 0 x ≤ length (edges_at g n)) (sym here) (let few = still_few g c u h e next in omega (arith, same, more, few)))
-      (λ (there : x ≢ u).
-      let as_it_was = put_other w.taken u (w.taken u + 1) x there in
-      let few = h.few_taken x inside in
-      omega (arith, same, as_it_was, few))
-      (cases_eq x u))
-      (cases_eq x v)
+  few_taken x inside = grind (arith, put_same, put_other, put_same w.taken, still_few g c, put_other w.taken)
 
   pub find_walk : (new : BracketWalk) (start now after : ℕ) → now + caps_total c.caps.items + saved g w ≤ start + spent g.nodes w h.reaches + 1 → after ≤ now + 1 → caps_total new.caps.items ≡ caps_total c.caps.items
       → IsKept g new (finding w u e v) (starting h.reaches v w.count) h.lists h.caps h.tops h.sizes → IsPaidWalk g new v start after

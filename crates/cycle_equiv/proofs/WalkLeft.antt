@@ -1,6 +1,6 @@
 -- The walk goes on where it leaves a node for its parent.
 use Rattle.std.proofs.Common.{◌≡◌, ◌≢◌, ℕ, ◌+◌, ◌*◌, ◌<◌, ◌≤◌, ◌⊎◌, ◌↔◌, true, if◌then◌else◌, ltb, List, [], ◌∷◌, ◌++◌, length, slice_get, None, refl, sym, ap, ◌∙◌, subst, inl, inr, ⊎_elim, arith}
-use Rattle.std.proofs.lemmas.Bool.{cases_eq, cases_lt, false≢true, lt-ltb, le-ltb}
+use Rattle.std.proofs.lemmas.Bool.{cases_eq, cases_lt, lt-ltb, le-ltb}
 use Rattle.brackets.specs.Brackets.{IsOnce}
 use Rattle.brackets.proofs.ApartLemmas.{once_append}
 use Rattle.closed_walks.specs.Graph.{Graph, edge_count, touches, edges_at}
@@ -132,10 +132,7 @@ module _ (g : Graph) (c : BracketWalk) (u : ℕ) (h : IsWalk g c u) (not_root : 
 
   -- no capping bracket has the edge's number yet
   no_cap : (low end : ℕ) → IsCapping g w r (edge_count g + own_edge) low end → ⊥
-  no_cap low end cap =
-      let number = cap.number in
-      let same = one_edge g w u h.is_trail low u (h.is_trail.left_found low cap.left) h.is_trail.here.found cap.other not_root (omega (arith, number)) in
-      false≢true (sym h.is_trail.here.stays ∙ subst (λ n. w.left n ≡ true) same cap.left)
+  no_cap low end cap = grind (arith, one_edge g w u h.is_trail low u (h.is_trail.left_found low cap.left) h.is_trail.here.found cap.other not_root)
 
   pub own_free : (l : ℕ) → Holds (h.lists l) (edge_count g + own_edge) → ⊥
   own_free l holds =
@@ -224,10 +221,7 @@ module _ (g : Graph) (c : BracketWalk) (u : ℕ) (h : IsWalk g c u) (not_root : 
       (cases_lt (r.second u) place)
 
   emptied_once : (k : ℕ) → IsOnce (put h.caps place [] k)
-  emptied_once k = ⊎_elim
-      (λ (here : k ≡ place). subst IsOnce (sym (put_same h.caps place [] k here)) tt)
-      (λ (there : k ≢ place). subst IsOnce (sym (put_other h.caps place [] k there)) (h.caps_once k))
-      (cases_eq k place)
+  emptied_once k = grind (arith, put_same h.caps, put_other h.caps)
 
   second_once : (above : r.second u < place) → IsOnce (h.caps (r.second u) ++ own_edge ∷ [])
   second_once above =

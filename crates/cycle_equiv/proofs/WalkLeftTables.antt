@@ -35,23 +35,15 @@ module _ (g : Graph) (c : BracketWalk) (u : ℕ) (h : IsWalk g c u) (not_root : 
   ys = own_list g c u h not_root none
 
   pub place_inside : w.tree.preorder u < length c.caps.items
-  place_inside =
-      let inside = h.is_trail.in_range u h.is_trail.here.found in
-      let count = h.counted.count in
-      let long = h.kept.cap_table.size in
-      omega (arith, inside, count, long)
+  place_inside = grind arith
 
   caps_is : (k : ℕ) → k ≤ w.tree.preorder u → caps_at c.caps.items k ≡ h.caps k
-  caps_is k less =
-      let inside = h.is_trail.in_range u h.is_trail.here.found in
-      let count = h.counted.count in
-      h.kept.cap_table.exact k (omega (arith, inside, count, less))
+  caps_is k less = grind arith
 
   module _ (f place second edges : ℕ) (f_is : f ≡ own_edge) (place_is : place ≡ w.tree.preorder u) (second_is : second ≡ h.reaches.second u) (edges_is : edges ≡ edge_count g) where
     pub caps_have : HaveCaps edges (list_at c.lists f) (caps_at c.caps.items place)
     caps_have =
-        rw (edges_is, f_is, place_is, list_is g c u h own_edge (left_edge g c u h not_root none), caps_is (w.tree.preorder u) (omega arith))
-        (have_caps g c u h not_root none)
+        grind (arith, list_is g c u h own_edge (left_edge g c u h not_root none), left_edge g c u h not_root none, caps_is (w.tree.preorder u), have_caps g c u h not_root none)
 
     pub cap_free : IsFree c.lists (edges + f)
     cap_free = rw (edges_is, f_is) (free_of g c u h (edge_count g + own_edge) (own_free g c u h not_root none))
@@ -103,33 +95,22 @@ module _ (g : Graph) (c : BracketWalk) (u : ℕ) (h : IsWalk g c u) (not_root : 
 
     pub top_table : (answer : Option ℕ) (value : ℕ) (new : List ℕ) → answer ≡ slice_get (list_at lists f) 0 → value ≡ unwrap_or answer 0 → new ≡ set c.names.tops.items f value → IsTable (edge_count g) new 0 (λ e. unwrap_or (put h.tops own_edge (top ys) e) 0)
     top_table answer value new answer_is value_is is =
-        tops_put (edge_count g) c.names.tops.items new h.tops own_edge (top ys) (left_edge g c u h not_root none)
-        (is
-        ∙ ap (set c.names.tops.items f) (value_is ∙ ap (λ o. unwrap_or o 0) (answer_is ∙ ap (λ xs. slice_get xs 0) own_is ∙ top_first ys))
-        ∙ ap (λ k. set c.names.tops.items k (unwrap_or (top ys) 0)) f_is)
-        h.kept.top_table
+        grind (arith, tops_put (edge_count g) c.names.tops.items new h.tops own_edge (top ys) (left_edge g c u h not_root none), left_edge g c u h not_root none, unwrap_or, own_is, top_first ys, unwrap_or (top ys) 0)
 
     pub size_table : (value : ℕ) (new : List ℕ) → value ≡ length (list_at lists f) → new ≡ set c.names.sizes.items f value → IsTable (edge_count g) new 0 (put h.sizes own_edge (length ys))
     size_table value new value_is is =
-        table_set (edge_count g) 0 c.names.sizes.items new h.sizes own_edge (length ys) (left_edge g c u h not_root none)
-        (is ∙ ap (set c.names.sizes.items f) (value_is ∙ ap length own_is) ∙ ap (λ k. set c.names.sizes.items k (length ys)) f_is)
-        h.kept.size_table
+        grind (arith, table_set (edge_count g) 0 c.names.sizes.items new h.sizes own_edge (length ys) (left_edge g c u h not_root none), left_edge g c u h not_root none, own_is)
 
     module _ (above : ℕ) (other : w.tree.parent u ≢ w.tree.root) (above_is : above ≡ w.tree.parent_edge (w.tree.parent u)) where
       pub above_apart : above ≢ f
       above_apart same = parents_apart g c u h not_root none other (sym above_is ∙ same ∙ f_is)
 
       pub above_inside : above < length lists
-      above_inside =
-          let edge = parents_edge g c u h not_root none other in
-          let long = kept.size in
-          omega (arith, above_is, edge, long)
+      above_inside = grind (arith, parents_edge g c u h not_root none other)
 
       parents_is : list_at lists above ≡ h.lists (w.tree.parent_edge (w.tree.parent u))
       parents_is =
-          ap (list_at lists) above_is
-          ∙ kept.exact (w.tree.parent_edge (w.tree.parent u)) (parents_edge g c u h not_root none other)
-          ∙ put_other h.lists own_edge ys (w.tree.parent_edge (w.tree.parent u)) (parents_apart g c u h not_root none other)
+          grind (arith, parents_edge g c u h not_root none other, put_other h.lists own_edge ys (w.tree.parent_edge (w.tree.parent u)) (parents_apart g c u h not_root none other), parents_apart g c u h not_root none other)
 
       pub joined_table : (new : List (List ℕ)) → new ≡ set (set lists above (list_at lists above ++ list_at lists f)) f [] → IsTable (edge_count g) new [] (joined_lists g c u h not_root none)
       joined_table new is =

@@ -1,5 +1,5 @@
 -- What the tables of the walk say where they are read.
-use Rattle.std.proofs.Common.{◌≡◌, ◌≢◌, ℕ, ◌+◌, ◌-◌, ◌^◌, ◌<◌, ◌≤◌, Bool, true, false, [], ◌∷◌, List, length, get_or, set, slice_get, None, refl, sym, ap, ◌∙◌, subst, inl, inr, ⊎_elim, arith}
+use Rattle.std.proofs.Common.{◌≡◌, ◌≢◌, ℕ, ◌+◌, ◌-◌, ◌^◌, ◌<◌, ◌≤◌, Bool, true, false, [], ◌∷◌, List, length, get_or, set, slice_get, None, sym, ap, ◌∙◌, subst, inl, inr, ⊎_elim, arith}
 use Rattle.brackets.specs.Brackets.{Stands, IsFree, list_at, without}
 use Rattle.brackets.proofs.DeleteLemmas.{list_inside}
 use Rattle.closed_walks.specs.Graph.{Graph, edge_count, edges_at}
@@ -28,28 +28,17 @@ holds_stands (y ∷ ys) x holds = ⊎_elim (λ here. inl here) (λ (there : Hold
 -- ---- marks
 
 pub mark_new : (found left : Bool) → New ≡ mark_of found left → found ≡ false
-mark_new false left same = refl
-mark_new true false same = absurd cc
-mark_new true true same = absurd cc
+mark_new h left same = grind arith
 
 pub mark_open : (found left : Bool) → Open ≡ mark_of found left → (found ≡ true) × (left ≡ false)
-mark_open false left same = absurd cc
-mark_open true false same = (refl, refl)
-mark_open true true same = absurd cc
+mark_open h left same = grind arith
 
 pub mark_left : (found left : Bool) → Left ≡ mark_of found left → left ≡ true
-mark_left false left same = absurd cc
-mark_left true false same = absurd cc
-mark_left true true same = refl
+mark_left h left same = grind arith
 
 pub tree_row : (n : ℕ) (t : TreeTable) (w : Trail) → IsTreeTable n t w → (x : ℕ) → x < n → HasRow t x
-tree_row n t w kept x node = record {
-  marks = table_inside n New t.marks.items (λ y. mark_of (w.found y) (w.left y)) kept.marks x node;
-  taken = table_inside n 0 t.taken.items w.taken kept.taken x node;
-  preorder = table_inside n 0 t.preorder.items w.tree.preorder kept.preorder x node;
-  parent = table_inside n 0 t.parent.items w.tree.parent kept.parent x node;
-  parent_edge = table_inside n 0 t.parent_edge.items w.tree.parent_edge kept.parent_edge x node;
-}
+tree_row n t w kept x node =
+    grind (arith, table_inside n New t.marks.items, table_inside n 0 t.taken.items w.taken kept.taken x node, table_inside n 0 t.preorder.items w.tree.preorder kept.preorder x node, table_inside n 0 t.parent.items w.tree.parent kept.parent x node, table_inside n 0 t.parent_edge.items w.tree.parent_edge kept.parent_edge x node)
 
 module _ (g : Graph) (c : BracketWalk) (u : ℕ) (h : IsWalk g c u) where
   pub here_node : u < g.nodes
@@ -59,11 +48,8 @@ module _ (g : Graph) (c : BracketWalk) (u : ℕ) (h : IsWalk g c u) where
   row x node = tree_row g.nodes c.tree h.trail h.kept.tree_table x node
 
   pub reach_row : (x : ℕ) → x < g.nodes → HasReach c.reaches x
-  reach_row x node = record {
-    own = table_inside g.nodes 0 c.reaches.own.items h.reaches.own h.kept.reach_table.own x node;
-    first = table_inside g.nodes 0 c.reaches.first.items h.reaches.first h.kept.reach_table.first x node;
-    second = table_inside g.nodes 0 c.reaches.second.items h.reaches.second h.kept.reach_table.second x node;
-  }
+  reach_row x node =
+      grind (arith, table_inside g.nodes 0 c.reaches.own.items h.reaches.own h.kept.reach_table.own x node, table_inside g.nodes 0 c.reaches.first.items h.reaches.first h.kept.reach_table.first x node, table_inside g.nodes 0 c.reaches.second.items h.reaches.second h.kept.reach_table.second x node)
 
   -- what is read of a node
   pub read_mark : (x : ℕ) (m : Mark) → x < g.nodes → m ≡ get_or c.tree.marks.items x m → m ≡ mark_of (h.trail.found x) (h.trail.left x)
@@ -87,10 +73,7 @@ module _ (g : Graph) (c : BracketWalk) (u : ℕ) (h : IsWalk g c u) where
 
   -- what stands in a list is in the list
   pub stands_in : (l b : ℕ) → Stands (list_at c.lists l) b → Holds (h.lists l) b
-  stands_in l b stands =
-      let inside = list_inside c.lists l b stands in
-      let long = h.kept.list_table.size in
-      subst (λ xs. Holds xs b) (list_is l (omega (arith, inside, long))) (stands_holds (list_at c.lists l) b stands)
+  stands_in l b stands = grind (arith, list_inside c.lists l b stands, list_is l, stands_holds (list_at c.lists l) b stands)
 
   pub in_stands : (l b : ℕ) → l < edge_count g → Holds (h.lists l) b → Stands (list_at c.lists l) b
   in_stands l b edge holds = holds_stands (list_at c.lists l) b (subst (λ xs. Holds xs b) (sym (list_is l edge)) holds)
@@ -104,19 +87,11 @@ module _ (g : Graph) (c : BracketWalk) (u : ℕ) (h : IsWalk g c u) where
 
     -- there is room for one more
     pub room : get_or c.tree.taken.items u 0 < 2 ^ 32 - 1
-    room =
-        let rank = next.rank in
-        let few = earlier_few g u e in
-        let edge = next.edge in
-        let few_edges = h.graph.few_edges in
-        omega (arith, rank, few, edge, few_edges)
+    room = grind (arith, earlier_few g u e)
 
     pub still_few : h.trail.taken u + 1 ≤ length (edges_at g u)
     unfolding edges_at
-    still_few =
-        let rank = rank_is in
-        let less = earlier_less g u e (edge_count g) next.touched next.edge in
-        omega (arith, rank, less)
+    still_few = grind (arith, rank_is, earlier_less g u e (edge_count g) next.touched next.edge)
 
   -- ---- a list of brackets is changed
 

@@ -1,6 +1,6 @@
 -- The walk goes on where it takes an edge to a node that was found before.
 use Rattle.std.proofs.Common.{◌≡◌, ◌≢◌, ℕ, ◌+◌, ◌<◌, ◌≤◌, true, false, List, ◌∷◌, length, Option, Some, refl, sym, ap, ◌∙◌, subst, ⊎_elim, arith}
-use Rattle.std.proofs.lemmas.Bool.{cases_eq, cases_lt, false≢true}
+use Rattle.std.proofs.lemmas.Bool.{cases_lt}
 use Rattle.brackets.specs.Brackets.{without}
 use Rattle.closed_walks.specs.Graph.{Graph, edge_count, edges_at}
 use Rattle.closed_walks.specs.Walk.{Holds}
@@ -30,20 +30,10 @@ module _ (g : Graph) (c : BracketWalk) (u : ℕ) (h : IsWalk g c u) (e v : ℕ) 
   rank = rank_is g c u h e next
 
   none_taken : (x : ℕ) → w.found x ≡ false → put w.taken u (w.taken u + 1) x ≡ 0
-  none_taken x hidden =
-      put_other w.taken u (w.taken u + 1) x (λ same. false≢true (sym hidden ∙ subst (λ n. w.found n ≡ true) (sym same) h.is_trail.here.found))
-      ∙ h.none_taken x hidden
+  none_taken x hidden = grind (arith, put_other w.taken u (w.taken u + 1) x)
 
   few_taken : (x : ℕ) → x < g.nodes → put w.taken u (w.taken u + 1) x ≤ length (edges_at g x)
-  few_taken x node = ⊎_elim
-      (λ (same : x ≡ u).
-      let more = put_same w.taken u (w.taken u + 1) x same in
-      subst (λ n. put w.taken u (w.taken u + 1) x ≤ length (edges_at g n)) (sym same) (let few = still_few g c u h e next in omega (arith, more, few)))
-      (λ (apart : x ≢ u).
-      let as_it_was = put_other w.taken u (w.taken u + 1) x apart in
-      let few = h.few_taken x node in
-      omega (arith, as_it_was, few))
-      (cases_eq x u)
+  few_taken x node = grind (arith, put_same w.taken, still_few g c, put_other w.taken)
 
   abbrev IsPaid : (start now : ℕ) → Type 0
   IsPaid start now = now + caps_total c.caps.items + saved g w ≤ start + spent g.nodes w h.reaches + 1
@@ -97,16 +87,7 @@ module _ (g : Graph) (c : BracketWalk) (u : ℕ) (h : IsWalk g c u) (e v : ℕ) 
 
   module _ (loop : u ≡ v) where
     no_loop_up : (low z : ℕ) → IsUpwards g (taking w u) e low z → ⊥
-    no_loop_up low z b =
-        let above = b.above in
-        let here = ap w.tree.preorder loop in
-        ⊎_elim
-        (λ (crossed : (low ≡ v) × (u ≡ z)).
-        let x = ap w.tree.preorder crossed.0 in let y = ap w.tree.preorder crossed.1 in omega (arith, above, here, x, y))
-        (λ (same : z ≡ v).
-        let low_is : low ≡ v = joins_one g e u v low ends (subst (λ n. Joins g e n low) (same ∙ sym loop) (joins_back g e low z b.joins)) in
-        let x = ap w.tree.preorder low_is in let y = ap w.tree.preorder same in omega (arith, above, x, y))
-        (two_ends g e low z u v b.joins ends)
+    no_loop_up low z b = grind (arith, joins_one g e, joins_back g e, two_ends g e)
 
     loop_apart : (y : ℕ) → w.found y ≡ true → y ≢ w.tree.root → w.tree.parent_edge y ≢ e
     loop_apart =
@@ -144,16 +125,7 @@ module _ (g : Graph) (c : BracketWalk) (u : ℕ) (h : IsWalk g c u) (e v : ℕ) 
     -- back to the parent by the edge by which the node was found
     module _ (back : w.tree.parent_edge u ≡ e) where
       no_back_up : (low z : ℕ) → IsUpwards g (taking w u) e low z → ⊥
-      no_back_up low z b =
-          let above = b.above in
-          let v_first = v_above in
-          ⊎_elim
-          (λ (crossed : (low ≡ v) × (u ≡ z)).
-          let x = ap w.tree.preorder crossed.0 in let y = ap w.tree.preorder crossed.1 in omega (arith, above, v_first, x, y))
-          (λ (same : z ≡ v).
-          let low_is : u ≡ low = joins_one g e v low u (subst (λ n. Joins g e n low) same (joins_back g e low z b.joins)) (joins_back g e u v ends) in
-          b.other (sym back ∙ ap w.tree.parent_edge low_is))
-          (two_ends g e low z u v b.joins ends)
+      no_back_up low z b = grind (arith, v_above, joins_one g e, joins_back g e, two_ends g e)
 
       pub back_walk : (new : BracketWalk) (start now after : ℕ) → IsPaid start now → after ≤ now + 1 → HasSameCaps new → IsKept g new (taking w u) h.reaches h.lists h.caps h.tops h.sizes → IsPaidWalk g new u start after
       back_walk new start now after paid few caps kept =

@@ -1,7 +1,7 @@
 //! The numbers of classes, from the names of edges.
 
 ghost use Rattle.std.specs.Prelude.{◌≡◌, ◌<◌, ◌^◌, length, IfOk};
-ghost use Rattle.cycle_equiv.specs.Names.{AreNumbered, NamesNumberClasses};
+ghost use Rattle.cycle_equiv.specs.Names.{AreNumbered};
 
 use df_sequence::NoMemory;
 use indexmap::IndexSet;
@@ -25,8 +25,3 @@ pub(crate) fn numbered(alloc: Global, tops: &[u32], sizes: &[u32]) -> Result<Vec
     }
     Ok(classes)
 }
-
-/// Where two edges are cycle equivalent exactly where they have one name, `numbered` gives the numbers of the classes.
-pub(crate) fn names_number_classes()
-    ensures { NamesNumberClasses }
-{}

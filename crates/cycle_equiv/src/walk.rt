@@ -2,8 +2,8 @@
 //!
 //! Johnson, Pearson and Pingali, "The program structure tree", PLDI 1994.
 
-ghost use Rattle.std.specs.Prelude.{◌≡◌, ◌≢◌, ◌+◌, ◌*◌, ◌<◌, ◌≤◌, ℕ, [], true, length, replicate, slice_get, slice_index, IfNone, IfOk, IfSome, OnOk, None};
-ghost use Rattle.closed_walks.specs.Graph.{edge_count, edges_at, from, touches};
+ghost use Rattle.std.specs.Prelude.{◌≡◌, ◌≢◌, ◌+◌, ◌*◌, ◌<◌, ◌≤◌, ℕ, [], true, replicate, slice_get, slice_index, IfNone, IfOk, IfSome, OnOk, None};
+ghost use Rattle.closed_walks.specs.Graph.{edge_count, edges_at, touches};
 ghost use Rattle.closed_walks.specs.Walk.{IsStrong};
 ghost use Rattle.cycle_equiv.specs.DepthFirst.{Joins};
 ghost use Rattle.cycle_equiv.specs.WalkState.{AreNamesOf, IsWalk, IsNextEdge, IsPaidWalk, progress};

@@ -1,6 +1,6 @@
 //! The capping brackets that lead to a place.
 
-ghost use Rattle.std.specs.Prelude.{◌≡◌, ◌+◌, ◌<◌, ◌≤◌, ◌^◌, ℕ, List, [], ◌∷◌, ◌++◌, length, nat_lt, set, if◌then◌else◌, IfOk, OnOk, OnErr};
+ghost use Rattle.std.specs.Prelude.{◌≡◌, ◌+◌, ◌<◌, ◌≤◌, ◌^◌, ℕ, List, [], ◌∷◌, ◌++◌, length, nat_lt, set, if◌then◌else◌, OnOk};
 ghost use Rattle.brackets.specs.Brackets.{IsFree, list_at};
 ghost use Rattle.cycle_equiv.specs.CapLists.{HaveCaps, caps_at, caps_total, ended, ended_caps, ended_list};
 

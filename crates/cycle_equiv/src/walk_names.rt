@@ -1,6 +1,6 @@
 //! Names of edges.
 
-ghost use Rattle.std.specs.Prelude.{◌≡◌, ◌<◌, ℕ, length, set};
+ghost use Rattle.std.specs.Prelude.{◌≡◌, ◌<◌, length, set};
 
 /// The names of the edges: for each the top of a list of brackets, and how long it is. The top of an empty list is 0.
 #[derive(Drop)]

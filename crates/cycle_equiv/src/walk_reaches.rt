@@ -1,6 +1,6 @@
 //! How far up the back edges lead that a depth-first walk took so far.
 
-ghost use Rattle.std.specs.Prelude.{◌≡◌, ◌<◌, ℕ, IfOk};
+ghost use Rattle.std.specs.Prelude.{◌≡◌, ℕ, IfOk};
 ghost use Rattle.cycle_equiv.specs.TrailReaches.{Reaches, highest, merging, reaching, starting};
 ghost use Rattle.cycle_equiv.specs.WalkTables.{HasReach, IsReachTable};
 

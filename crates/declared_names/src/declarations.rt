@@ -1,4 +1,4 @@
-ghost use Rattle.std.specs.Prelude.{◌≡◌, ◌&&◌, ◌||◌, ℕ, List, flat_map, if◌then◌else◌, nat_le, bytes_eq, nat_eq, slice_index, Some, None, OnOk, IfOk};
+ghost use Rattle.std.specs.Prelude.{◌≡◌, ◌&&◌, flat_map, if◌then◌else◌, bytes_eq, nat_eq, slice_index, Some, None, OnOk, IfOk};
 ghost use Rattle.std.specs.List.{list_any};
 ghost use Rattle.layout_rules.specs.Faults.{first_answer};
 ghost use Rattle.layout_rules.specs.Declarations.{dims_told, kind_of_range, kind_by_default};

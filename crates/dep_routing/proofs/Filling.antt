@@ -51,6 +51,3 @@ module _ (test : ℕ → Bool) (new old : ℕ → ℕ) where
                 (cases_eq k line);
             ahead = λ k from end. other k (omega (arith, from, above)) ∙ f.ahead k (omega (arith, from, above)) end;
           }
-
-    pub IsFilling-end : (next : ℕ) (row : List ℕ) → lines ≤ next → IsFilling test new old lines next row → (k : ℕ) → k < lines → get_or row k 0 ≡ (if test k then new k else old k)
-    IsFilling-end next row past f k low = f.done k (omega (arith, past, low))

@@ -36,17 +36,6 @@ module _ (t : Tree) where
     pub new : (q : ℕ) → is_marked marks q ≡ true → (is_marked before q ≡ true) ⊎ ((k : ℕ) × (above t k region ≡ q))
     pub up : (q : ℕ) → IsNumber t q → is_marked marks q ≡ true → IsNoneOrMarked marks (parent_of t q) ⊎ (parent_of t q ≡ r)
 
-  pub IsMarking-begin : (region : ℕ) (marks : List Bool) → region < length t.entries → IsMarkedUp t marks → IsMarking region region marks marks
-  IsMarking-begin region marks within up = record {
-    size = refl;
-    within = within;
-    here = inr refl;
-    come = (zero, refl);
-    kept = λ q h. h;
-    new = λ q h. inl h;
-    up = λ q number h. inl (up q number h);
-  }
-
   module _ (region r : ℕ) (before marks : List Bool) (m : IsMarking region r before marks) where
     pub IsMarking-step : HaveParents t → 0 < r → r < length marks → IsMarking region (parent_of t r) before (set marks r true)
     IsMarking-step p away inside =
@@ -77,17 +66,6 @@ module _ (t : Tree) where
               (λ (is : parent_of t q ≡ r). inr (subst (λ n. is_marked (set marks r true) n ≡ true) (sym is) marked_r))
               (m.up q number (sym (get_or-set_other marks r q true false apart) ∙ h))))
               (cases_eq q r);
-        }
-
-    pub IsMarking-end : IsNoneOrMarked marks r → IsMarkedFrom t region before marks
-    IsMarking-end h =
-        let at : (q : ℕ) → q ≡ r → IsNoneOrMarked marks q = λ q same. subst (λ n. IsNoneOrMarked marks n) (sym same) h in
-        record {
-          size = m.size;
-          here = ⊎_elim (λ old. old) (λ same. at region same) m.here;
-          kept = m.kept;
-          new = m.new;
-          up = λ q number marked. ⊎_elim (λ old. old) (λ same. at (parent_of t q) same) (m.up q number marked);
         }
 
 -- The marks go up from the nodes below k that touch the line, and from no others.
@@ -281,14 +259,6 @@ pub record IsAdding {W : ℕ} (t : Tree) (region r : ℕ) (lines : ClassSet W) (
   pub others : (line : ℕ) → holds lines line ≡ false → marks_of sets line ≡ marks_of before line
 
 module _ {W : ℕ} (t : Tree) (region : ℕ) (lines : ClassSet W) where
-  pub IsAdding-begin : (sets : List (ClassSet W)) → region < length t.entries → ((line : ℕ) → IsMarkedUp t (marks_of sets line)) → IsAdding t region region lines sets sets
-  IsAdding-begin sets within up = record {
-    size = refl;
-    within = within;
-    added = λ line member. IsMarking-begin t region (marks_of sets line) within (up line);
-    others = λ line none. refl;
-  }
-
   module _ (r : ℕ) (before sets : List (ClassSet W)) (a : IsAdding t region r lines before sets) where
     pub IsAdding-step : HaveParents t → 0 < r → r < length sets → (old new : ClassSet W) → old ≡ get_or sets r old → ((line : ℕ) → holds new line ≡ (holds old line || holds lines line)) → IsAdding t region (parent_of t r) lines before (set sets r new)
     IsAdding-step p away inside old new read is = record {
@@ -304,9 +274,6 @@ module _ {W : ℕ} (t : Tree) (region : ℕ) (lines : ClassSet W) where
             (λ (none : parent_of t r ≡ 0). let some = p.some in omega (arith, none, some))
             (λ (other : parent_of t r ≢ 0). (p.numbers r number other).1)
             (cases_eq (parent_of t r) 0)
-
-    pub IsAdding-end : ((line : ℕ) → holds lines line ≡ true → IsNoneOrMarked (marks_of sets line) r) → (line : ℕ) → holds lines line ≡ true → IsMarkedFrom t region (marks_of before line) (marks_of sets line)
-    IsAdding-end there line member = IsMarking-end t region r (marks_of before line) (marks_of sets line) (a.added line member) (there line member)
 
 -- From the nodes below k the lines that they touch went up.
 pub record AreHeard {W : ℕ} (g : Graph) (t : Tree) (touches : ℕ → ℕ → Bool) (k : ℕ) (sets : List (ClassSet W)) : Type 0 where

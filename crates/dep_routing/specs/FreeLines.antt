@@ -1,6 +1,6 @@
 -- Which lines are led to a node, which of them pass it, and which bypass the region that an edge enters: by the table of wires alone.
-use Rattle.std.specs.Prelude.{ℕ, ◌&&◌, ◌==◌, Bool, not, List, filter}
-use Rattle.std.specs.List.{list_any, range_with_len}
+use Rattle.std.specs.Prelude.{ℕ, ◌&&◌, ◌==◌, Bool, not}
+use Rattle.std.specs.List.{list_any}
 use Rattle.closed_walks.specs.Graph.{Graph, edges_at, from, to}
 use Rattle.dep_routing.specs.Routing.{Routing, wire_at}
 
@@ -19,17 +19,3 @@ is_passing g r touches node line = is_free g r node line && not (touches node li
 -- The line is led to the node at which the edge begins, and no further along it: it bypasses the region that the edge enters.
 abbrev pub is_bypass : Graph → Routing → (edge line : ℕ) → Bool
 is_bypass g r edge line = is_free g r (from g edge) line && not (wire_at r line edge)
-
--- ---- the lines, in rising order
-
-abbrev pub all_lines : Routing → List ℕ
-all_lines r = range_with_len 0 r.lines
-
-abbrev pub free_at : Graph → Routing → (node : ℕ) → List ℕ
-free_at g r node = filter (is_free g r node) (all_lines r)
-
-abbrev pub passing_at : Graph → Routing → (touches : ℕ → ℕ → Bool) → (node : ℕ) → List ℕ
-passing_at g r touches node = filter (is_passing g r touches node) (all_lines r)
-
-abbrev pub bypasses_at : Graph → Routing → (edge : ℕ) → List ℕ
-bypasses_at g r edge = filter (is_bypass g r edge) (all_lines r)

@@ -93,9 +93,6 @@ NeedsOutBy p c may node = KindNeedsOutBy p c node (may (exec_at p node)) (piece_
 abbrev pub CanTrapAt : Program → (k : ℕ) → Type 0
 CanTrapAt p k = ExecMayTrap p.names (kind_in (slice_get p.execs k))
 
-abbrev pub NeedsOut : Program → ClassTable → ℕ → Type 0
-NeedsOut p c node = NeedsOutBy p c (CanTrapAt p) node
-
 -- ---- all lines
 
 -- the piece at the node touches the line, where it is told which executables may trap

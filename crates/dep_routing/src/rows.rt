@@ -1,6 +1,6 @@
 //! The rows of the edges: of which lines each is a wire, and to which edges lines are led from it.
 
-ghost use Rattle.std.specs.Prelude.{◌≡◌, ◌<◌, ◌≤◌, ◌*◌, ◌&&◌, ℕ, true, length, replicate, slice_index, nat_lt, if◌then◌else◌, IfOk, IfSome, OnOk};
+ghost use Rattle.std.specs.Prelude.{◌≡◌, ◌<◌, ◌≤◌, ◌*◌, ◌&&◌, ℕ, length, replicate, slice_index, nat_lt, if◌then◌else◌, IfOk, IfSome, OnOk};
 ghost use Rattle.class_set.specs.ClassSet.{holds};
 ghost use Rattle.class_set.specs.Members.{IsWidth};
 ghost use Rattle.closed_walks.specs.Graph.{edge_count, to};

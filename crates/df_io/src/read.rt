@@ -1,4 +1,4 @@
-ghost use Rattle.std.specs.Prelude.{◌≡◌, ◌+◌, ◌≤◌, IfSome, OnErr, IfOk, IsErrOf, vec_len};
+ghost use Rattle.std.specs.Prelude.{◌≡◌, ◌+◌, ◌≤◌, IfSome, IfOk, IsErrOf, vec_len};
 ghost use Rattle.df_io.specs.Faults.{Rose};
 ghost use Rattle.df_io.specs.Read.{ReadAllTakes, ReadsAll};
 ghost use Rattle.df_io.specs.declared.read.ReadEnd.TheVariants.{NoMemory};

@@ -1,5 +1,5 @@
 -- What is told of rewritten forms.
-use Rattle.std.proofs.Common.{◌≡◌, ℕ, ℤ, Bool, List, [], ◌++◌, ◌⊎◌, inl, inr, Option, Result, Ok, Err, refl, sym, ap, subst, ◌∙◌, ⊎_elim, append-nil}
+use Rattle.std.proofs.Common.{◌≡◌, ℕ, ℤ, Bool, List, [], inl, inr, Option, Err, refl, sym, ap, subst, ◌∙◌, ⊎_elim, append-nil}
 use Rattle.std.specs.Prelude.{IsErrOf}
 use Rattle.std.specs.Io.KnownBytes.{Appends}
 use Rattle.df_io.specs.Write.{AppendsPrefix}
@@ -10,12 +10,12 @@ use Rattle.f77_tree.specs.Run as runs
 use Rattle.f77_tree.specs.Run.{Mark, out, source}
 use Rattle.regenerate.specs.declared.ends.RewriteEnd.{RewriteEnd}
 use Rattle.regenerate.specs.declared.ends.RewriteEnd.TheVariants as rewrite_end
-use Rattle.rewriting.specs.Rewritten.{IsRewritten, IsRewrittenText, PassesLimit}
+use Rattle.rewriting.specs.Rewritten.{IsRewrittenText, PassesLimit}
 use Rattle.dfc_driver.specs.declared.run.RunEnd.{RunEnd}
 use Rattle.dfc_driver.specs.declared.run.RunEnd.TheVariants as end
 use Rattle.dfc_driver.specs.declared.status.Status.{Status}
-use Rattle.dfc_driver.specs.declared.status.Status.TheVariants.{Done, Trapped, Limit, WriteFault}
-use Rattle.dfc_driver.specs.Answers.{AnswersAs, IsBegun, IsTold, Tells}
+use Rattle.dfc_driver.specs.declared.status.Status.TheVariants.{Done, Trapped, WriteFault}
+use Rattle.dfc_driver.specs.Answers.{AnswersAs, Tells}
 use Rattle.dfc_driver.specs.Due.{Due, IsDueByEnd, IsDueLimit, IsDueRun, IsDueRegen, IsDueRunOf, IsJust, due_by_mark, done, stopped, trapped_alone}
 use Rattle.dfc_driver.specs.Stopping.{IsBrokenOff, IsWritten, end_by}
 use Rattle.dfc_driver.proofs.GameTold.{begun_on, limit_after, told_on}
@@ -120,10 +120,6 @@ module _ (p : Program) (input : List ℤ) (limit : ℕ) (old mid : Option (List 
         is = record { steps = b.steps; made = b.made; is = refl };
         prefix = AppendsPrefix-longer old mid due.text due.last (subst (AppendsPrefix old mid) (sym (text_due mark text limit)) b.prefix);
       }
-
--- a run of the rewritten form is due on the program
-pub run_due : (p : Program) (checked : Bool) (input : List ℤ) (limit : ℕ) (form : Program) → IsRewritten p checked form → (due : Due) → IsDueRunOf form input limit due → IsDueRun p checked input limit due
-run_due p checked input limit form is due ran = inl (record { form = form; rewritten = is; ran = ran })
 
 pub no_run_due : (p : Program) (checked : Bool) (input : List ℤ) (limit : ℕ) (end : RewriteEnd) → IsEndOf p checked end → (due : Due) → IsDueByEnd end due → IsDueRun p checked input limit due
 no_run_due p checked input limit end is due told = inr (limit_due p checked end is due told)

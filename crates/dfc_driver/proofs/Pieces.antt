@@ -86,10 +86,6 @@ pub record AreTaken {A : Type 0} (test : List ℕ → Bool) (value : List ℕ �
   pub good : list_all test (pieces_after (part text begin k) (drop k text)) ≡ true
 
 module _ {A : Type 0} (test : List ℕ → Bool) (value : List ℕ → A) (text : List ℕ) where
-  -- at the beginning
-  pub none_taken : list_all test (pieces_after [] text) ≡ true → AreTaken test value text 0 0 []
-  none_taken good = record { order = omega arith; within = omega arith; same = refl; good = good }
-
   module _ (begin k d : ℕ) (taken : List A) (before : AreTaken test value text begin k taken) where
     -- a character that is no comma goes on with the piece
     rest_on : k < length text → (get_or text k d == 44) ≡ false → pieces_after (part text begin k) (drop k text) ≡ pieces_after (part text begin (k + 1)) (drop (k + 1) text)

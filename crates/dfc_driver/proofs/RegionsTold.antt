@@ -1,7 +1,7 @@
 -- The text of regions, part after part, and what it means.
-use Rattle.std.proofs.Common.{◌≡◌, ℕ, Bool, List, [], ◌++◌, Option, sym, ap, subst, ◌∙◌, length}
-use Rattle.closed_walks.specs.Graph.{Graph, edge_count}
-use Rattle.closed_walks.specs.Numbering.{fresh, IsNumbering}
+use Rattle.std.proofs.Common.{◌≡◌, ℕ, Bool, List, [], ◌++◌, Option, sym, ap, subst, ◌∙◌}
+use Rattle.closed_walks.specs.Graph.{Graph}
+use Rattle.closed_walks.specs.Numbering.{IsNumbering}
 use Rattle.closed_walks.specs.Region.{IsFlowGraph}
 use Rattle.cfg_build.specs.Joined.{FlowGraph}
 use Rattle.cfg_build.specs.Flow.{flow}
@@ -10,14 +10,14 @@ use Rattle.df_io.specs.Write.{AppendsPrefix}
 use Rattle.df_io.proofs.Prefixes.{AppendsPrefix-longer}
 use Rattle.df_io.proofs.LongTexts.{fault_at_piece}
 use Rattle.f77_tree.specs.declared.programs.Program.{Program}
-use Rattle.region_tree.specs.Tree.{Tree, IsRegionTree, region_count}
+use Rattle.region_tree.specs.Tree.{Tree, IsRegionTree}
 use Rattle.dfc_driver.specs.declared.regions.Found.{Found}
 use Rattle.dfc_driver.specs.Words.{Regions}
 use Rattle.dfc_driver.specs.Due.{Due, IsDueOn, done}
 use Rattle.dfc_driver.specs.Found.{IsFoundOf, text_of}
 use Rattle.dfc_driver.specs.Headline.{Means, MeansOn}
 use Rattle.dfc_driver.specs.SourceRuns.{run_of}
-use Rattle.dfc_driver.specs.Regions.{counts_line, piece_lines, region_lines, regions_text, TellsRegions}
+use Rattle.dfc_driver.specs.Regions.{counts_line, regions_text, TellsRegions}
 
 -- the first part, after an empty buffer
 pub told_first : (a b : Option (List ℕ)) (empty held bytes part : List ℕ) → empty ≡ [] → bytes ≡ part → IsWrittenBut held a b (empty ++ bytes) → IsWrittenBut held a b part

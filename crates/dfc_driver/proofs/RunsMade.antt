@@ -1,6 +1,5 @@
 -- Runs that are made step after step.
-use Rattle.std.proofs.Common.{◌≡◌, ℕ, zero, suc, ◌+◌, ◌-◌, ◌<◌, ◌≤◌, ℤ, List, [], ◌++◌, Option, refl, sym, ap, subst, ◌∙◌, ◌⊎◌, ⊎_elim, append_assoc, append-nil, arith}
-use Rattle.std.specs.Io.KnownBytes.{Appends}
+use Rattle.std.proofs.Common.{◌≡◌, ℕ, zero, suc, ◌+◌, ◌-◌, ◌<◌, ◌≤◌, ℤ, List, [], ◌++◌, Option, refl, sym, ap, subst, ◌∙◌, ◌⊎◌, ⊎_elim, append-nil, arith}
 use Rattle.df_io.specs.TextBuffer.{IsWrittenBut}
 use Rattle.df_io.specs.Write.{AppendsPrefix}
 use Rattle.df_io.proofs.LongTexts.{fault_at_piece, one_more_piece}
@@ -10,7 +9,7 @@ use Rattle.f77_meaning.specs.declared.stepper.Stepper.{Stepper}
 use Rattle.f77_meaning.specs.Stepper.{input_of, last_line, program_of, state_of, told_mark, told_text}
 use Rattle.f77_tree.specs.declared.programs.Program.{Program}
 use Rattle.f77_tree.specs.Prefixes.{IsPrefix}
-use Rattle.f77_tree.specs.Run.{Mark, Running, Ended, Trapped, State, out, source, start, step}
+use Rattle.f77_tree.specs.Run.{Mark, Running, Ended, Trapped, State, out, source, step}
 use Rattle.dfc_driver.specs.declared.run.RunEnd.{RunEnd}
 use Rattle.dfc_driver.specs.Due.{MakesSteps}
 use Rattle.dfc_driver.specs.Stopping.{IsBrokenOff, IsMade, end_by}

@@ -1,14 +1,14 @@
 -- What samples mean: their parts mean what the jobs promise that owe them.
-use Rattle.std.proofs.Common.{◌≡◌, ◌≢◌, ◌⊎◌, inl, inr, ℕ, ◌<◌, ◌≤◌, false, List, [], ◌++◌, refl, sym, ap, subst, ◌∙◌, ⊎_elim, append_assoc, append-nil, arith}
+use Rattle.std.proofs.Common.{◌≡◌, ◌⊎◌, inl, inr, ℕ, ◌<◌, ◌≤◌, false, List, [], ◌++◌, refl, sym, ap, ◌∙◌, ⊎_elim, append_assoc, append-nil, arith}
 use Rattle.f77_tree.specs.declared.programs.Program.{Program}
 use Rattle.f77_tree.specs.Run as runs
-use Rattle.f77_tree.specs.Run.{EndsIn, Mark, out, source}
+use Rattle.f77_tree.specs.Run.{EndsIn, Mark, out}
 use Rattle.firing.specs.declared.playing.PlayEnd.{PlayEnd}
 use Rattle.firing.specs.declared.playing.PlayEnd.TheVariants.{Rest, Trapped, Limit, WriteFault}
 use Rattle.dfc_driver.specs.declared.status.Status.{Status}
 use Rattle.dfc_driver.specs.declared.status.Status.TheVariants as status
 use Rattle.dfc_driver.specs.declared.words.Told.TheVariants.{Output}
-use Rattle.dfc_driver.specs.Due.{Due, IsDueBy, IsDueLimit, IsDuePlay, IsDueSample, IsOutputDue, IsSampleDue, TellsSizes, after_text, all_due, done, due_by_mark, first_line, followed, followed_by, sample_line, up_to}
+use Rattle.dfc_driver.specs.Due.{Due, IsDueBy, IsDueLimit, IsDueSample, IsSampleDue, TellsSizes, after_text, all_due, done, due_by_mark, first_line, followed, followed_by, sample_line, up_to}
 use Rattle.dfc_driver.specs.Game.{operation_game}
 use Rattle.dfc_driver.specs.Headline.{MeansEnd, MeansOn, MeansRest, MeansSample, MeansTwice, bound_of, run_bound}
 use Rattle.dfc_driver.specs.SourceRuns.{run_of}

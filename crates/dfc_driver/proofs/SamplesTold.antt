@@ -1,5 +1,5 @@
 -- What is told of a sample, part after part.
-use Rattle.std.proofs.Common.{◌≡◌, ◌≢◌, ℕ, ℤ, zero, suc, ◌+◌, ◌<◌, ◌≤◌, false, List, [], ◌++◌, ◌⊎◌, inl, inr, Option, refl, sym, ap, subst, ◌∙◌, ⊎_elim, append_assoc, arith}
+use Rattle.std.proofs.Common.{◌≡◌, ◌≢◌, ℕ, ℤ, zero, suc, ◌<◌, List, [], ◌++◌, ◌⊎◌, inl, inr, Option, refl, sym, ap, subst, ◌∙◌, ⊎_elim, append_assoc, arith}
 use Rattle.std.proofs.KnownBytes.{Appends-trans}
 use Rattle.std.specs.Io.KnownBytes.{Appends}
 use Rattle.df_io.specs.Write.{AppendsPrefix}
@@ -12,7 +12,7 @@ use Rattle.firing.specs.Play.{Moment, Way, shown}
 use Rattle.firing.specs.Runs.{HasEnd}
 use Rattle.dfc_driver.specs.declared.status.Status.{Status}
 use Rattle.dfc_driver.specs.declared.status.Status.TheVariants.{Done, Usage, Refused, Trapped, Limit, ReadFault, WriteFault, NoMemory}
-use Rattle.dfc_driver.specs.Answers.{AnswersAs, IsBegun, IsTold}
+use Rattle.dfc_driver.specs.Answers.{AnswersAs, IsTold}
 use Rattle.dfc_driver.specs.Due.{Due, IsDueRunOf, IsGameOf, MakesSteps, after_text, all_due, due_by_mark, followed, followed_by}
 use Rattle.dfc_driver.specs.Samples.{AreBothOf, IsAfter}
 use Rattle.dfc_driver.proofs.GameTold.{answers_more, due_with}

@@ -19,8 +19,7 @@ use class_set::ClassSet;
 use df_io::{NoMemory, Sink, TextBuffer, WriteFault};
 use df_sequence::Sequence;
 use f77_tree::{
-    Access, Exec, ExecKind, ExecList, Expr, NameInfo, NameInfoList, Program,
-    well_formed_programs_can_run,
+    Access, Exec, ExecKind, Expr, NameInfo, NameInfoList, Program, well_formed_programs_can_run,
 };
 use std::alloc::Global;
 

@@ -1,10 +1,7 @@
 //! Runs of programs' rewritten forms.
 
-ghost use Rattle.std.specs.Prelude.{◌≡◌, ◌≢◌, ◌≤◌, ◌++◌, [], ℕ, IfOk, OnOk, OnErr};
-ghost use Rattle.std.specs.Io.KnownBytes.{Appends};
+ghost use Rattle.std.specs.Prelude.{◌≡◌, ◌≢◌, ◌≤◌, [], IfOk, OnErr};
 ghost use Rattle.df_io.specs.Faults.{Rose};
-ghost use Rattle.df_io.specs.TextBuffer.{IsWrittenBut};
-ghost use Rattle.df_io.specs.Write.{AppendsPrefix};
 ghost use Rattle.alias_classes.specs.Number.{HasFewClasses};
 ghost use Rattle.f77_meaning.specs.Stepper.{input_of, program_of, state_of};
 ghost use Rattle.f77_tree.specs.CanRun.{CanRun};

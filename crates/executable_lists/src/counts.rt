@@ -1,5 +1,5 @@
 //! How much a program and each of its statements may ask.
-ghost use Rattle.std.specs.Prelude.{◌≡◌, ◌+◌, ◌≤◌, ◌&&◌, ◌||◌, Bool, length, nat_le, nat_lt, sum_by};
+ghost use Rattle.std.specs.Prelude.{◌≡◌, ◌≤◌, ◌&&◌, ◌||◌, Bool, length, nat_le, nat_lt, sum_by};
 ghost use Rattle.f77_tree.specs.Kinds.{taken_as};
 ghost use Rattle.f77_tree.specs.Operations.{operations};
 ghost use Rattle.control_structure.specs.Counted.{counted};

@@ -1,6 +1,6 @@
 //! The executables of a program, statement by statement.
-ghost use Rattle.std.specs.Prelude.{◌≡◌, ℕ, ◌+◌, ◌<◌, ◌≤◌, ◌^◌, [], ◌∷◌, ◌++◌, List, Some, None, true, All, length, map, slice_get, IfOk, OnOk};
-ghost use Rattle.layout_rules.specs.Resolved.{resolved, resolved_item, access_of};
+ghost use Rattle.std.specs.Prelude.{◌≡◌, ℕ, ◌+◌, ◌<◌, ◌^◌, [], ◌∷◌, ◌++◌, Some, None, true, All, length, map, slice_get, IfOk, OnOk};
+ghost use Rattle.layout_rules.specs.Resolved.{resolved_item};
 ghost use Rattle.layout_rules.specs.Source.{IsSource};
 ghost use Rattle.layout_rules.specs.Faults.{first_line};
 ghost use Rattle.layout_rules.specs.Labels.{used, lacks_label};

@@ -1,5 +1,5 @@
 //! Tables over the statements, from which each executable's successors are read at once.
-ghost use Rattle.std.specs.Prelude.{◌≡◌, ℕ, ◌+◌, ◌-◌, ◌<◌, ◌≤◌, ◌^◌, length, slice_index, IfOk};
+ghost use Rattle.std.specs.Prelude.{◌≡◌, ◌+◌, ◌-◌, ◌<◌, ◌≤◌, ◌^◌, length, IfOk};
 ghost use Rattle.std.specs.Prelude.{All, Some, slice_get, sum_by};
 ghost use Rattle.layout_rules.specs.Executables.{own_executables as own_executables_of, executables_with_ends, first_of, loop_number, loops_above, met as met_of, labelled as labelled_in, beyond as after_of, when_false as when_false_in, exit_of, is_do_in, is_else_at as is_else_in};
 ghost use Rattle.layout_rules.specs.Labels.{statement_of, is_executable as is_executable_of, is_arm as is_arm_of};

@@ -1,5 +1,5 @@
 //! The executables that increment the DOs.
-ghost use Rattle.std.specs.Prelude.{◌≡◌, ℕ, ◌+◌, ◌<◌, ◌≤◌, ◌^◌, ◌++◌, Some, true, length, slice_get, OnOk};
+ghost use Rattle.std.specs.Prelude.{◌≡◌, ◌+◌, ◌<◌, ◌^◌, ◌++◌, Some, true, length, slice_get, OnOk};
 ghost use Rattle.f77_tree.specs.Declarations.{index_of};
 ghost use Rattle.layout_rules.specs.Executables.{is_do_in, loop_number, first_of, variable_of, loops_to, increments, at_line};
 ghost use Rattle.executable_lists.specs.Flows.{IsFlow};

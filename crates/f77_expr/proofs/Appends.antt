@@ -25,16 +25,7 @@ pub appended_all : {T E : Type 0} (old text new : List ℕ) (r : Result T E) →
 appended_all old text new (Ok done) is = is
 appended_all old text new (Err none) begins = tt
 
-pub on_ok : {T E P : Type 0} (r : Result T E) → P → OnOk r P
-on_ok (Ok x) p = p
-on_ok (Err e) p = tt
-
 -- ---- few operands
-
-pub one_item : {X : Type 0} (xs : List X) (x : X) → length xs ≡ 1 → slice_get xs 0 ≡ Some x → xs ≡ x ∷ []
-one_item [] x len is = absurd (omega (arith, len))
-one_item (y ∷ []) x len is = let same : y ≡ x = cc in ap (λ z. z ∷ []) same
-one_item (y ∷ z ∷ xs) x len is = absurd (omega (arith, len))
 
 pub two_items : {X : Type 0} (xs : List X) (x y : X) → length xs ≡ 2 → slice_get xs 0 ≡ Some x → slice_get xs 1 ≡ Some y → xs ≡ x ∷ y ∷ []
 two_items [] x y len is also = absurd (omega (arith, len))
@@ -45,11 +36,6 @@ two_items (a ∷ b ∷ c ∷ xs) x y len is also = absurd (omega (arith, len))
 pub all_one : {X : Type 0} (P : X → Type 0) (x : X) → P x → All P (x ∷ [])
 all_one P x p zero d lt = p
 all_one P x p (suc k) d lt = absurd (omega (arith, lt))
-
-pub all_two : {X : Type 0} (P : X → Type 0) (x y : X) → P x → P y → All P (x ∷ y ∷ [])
-all_two P x y p q zero d lt = p
-all_two P x y p q (suc zero) d lt = q
-all_two P x y p q (suc (suc k)) d lt = absurd (omega (arith, lt))
 
 -- ---- two texts before the last
 

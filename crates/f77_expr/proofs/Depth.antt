@@ -149,17 +149,5 @@ arguments-step text =
     let n : ℕ = 3 * length text + 3 in
     (enough_agree (suc n)).arguments text (omega arith) ∙ sym ((one_more n).arguments text (omega arith))
 
--- what they read leaves a shorter rest
-pub expression_shorter : (least : ℕ) (text : List ℕ) (w : Written) (rest : List ℕ) → expression_at least text ≡ Some (w, rest) → length rest < length text
-expression_shorter least text w rest e = each_at (λ v tail. length tail < length text) (expression_at least text) (the_readers_shorter.expression least text) w rest e
-
-pub chain_shorter : (least : ℕ) (v : Written) (text : List ℕ) (w : Written) (rest : List ℕ) → chain_at least v text ≡ Some (w, rest) → length rest ≤ length text
-chain_shorter least v text w rest e =
-    let less : length rest < suc (length text) = each_at (λ u tail. length tail < suc (length text)) (chain_at least v text) (the_readers_shorter.chain least v text) w rest e in
-    omega arith
-
 pub primary_shorter : (text : List ℕ) (w : Written) (rest : List ℕ) → primary_at text ≡ Some (w, rest) → length rest < length text
 primary_shorter text w rest e = each_at (λ v tail. length tail < length text) (primary_at text) (the_readers_shorter.primary text) w rest e
-
-pub arguments_shorter : (text : List ℕ) (args : Arguments) (rest : List ℕ) → arguments_at text ≡ Some (args, rest) → length rest < length text
-arguments_shorter text args rest e = each_at (λ v tail. length tail < length text) (arguments_at text) (the_readers_shorter.arguments text) args rest e

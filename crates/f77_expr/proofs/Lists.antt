@@ -92,15 +92,6 @@ module _ (r : Readers) (w : Written) where
       by false true n e = let same : text ≡ rest = cc in ap last_before same
       by false false n e = absurd cc
 
-  pub passed-neither : (text : List ℕ) → passed 44 text ≡ None → passed 41 text ≡ None → more_arguments r w text ≡ None
-  passed-neither [] no_comma no_end = refl
-  passed-neither (c ∷ text) no_comma no_end = by (c == 44) (c == 41) no_comma no_end
-    where
-      by : (b d : Bool) → (if b then Some text else None) ≡ None → (if d then Some text else None) ≡ None → (if b then read_as (λ more. Arguments.before w more) (r.arguments text) else (if d then last_before text else None)) ≡ None
-      by true d n e = absurd cc
-      by false true n e = absurd cc
-      by false false n e = refl
-
 -- ---- arguments that are being read
 
 module _ (text : List ℕ) (great : Bool) where
@@ -161,6 +152,3 @@ module _ (text : List ℕ) (great : Bool) where
           is_great = b.is_great ∙ or_assoc great (some_great b.before) (has_great_number b.written) ∙ ap (λ g. great || g) (sym (great-after b.before b.written));
           shorter = omega arith;
         }
-
-    pub no_bracket : passed 44 rest ≡ None → passed 41 rest ≡ None → arguments_at text ≡ None
-    no_bracket no_comma none = b.go_on ∙ ap (λ found. read_as (λ arguments. beyond b.before arguments) found) (passed-neither the_readers b.written rest no_comma none)

@@ -6,10 +6,7 @@ use Rattle.f77_tree.specs.Grammar.{Written, IsGrammatical, IsWritten, spelling}
 use Rattle.f77_expr.specs.Piece.{Open, nothing_open, open_after, ends_piece, piece_from, piece, deepest_from}
 use Rattle.f77_expr.specs.Reader.{expression_at}
 use Rattle.f77_expr.proofs.EachRead.{if_true}
-use Rattle.f77_expr.proofs.Prefixes.{drop_prefix}
 use Rattle.f77_expr.proofs.Followers.{is_follower}
-use Rattle.f77_expr.proofs.Spelled.{expression_spells}
-use Rattle.f77_expr.proofs.Soundness.{expression_sound}
 use Rattle.f77_expr.proofs.Completeness.{read_at_start}
 use Rattle.f77_expr.proofs.Quiet.{brackets_open, quiet_written}
 
@@ -51,16 +48,6 @@ read_piece text w is =
     let rest : List ℕ = drop (length (piece text)) text in
     let whole : spelling w ++ rest ≡ text = ap (λ prefix. prefix ++ rest) is.is ∙ piece_and_rest nothing_open text in
     ap (expression_at 0) (sym whole) ∙ read_at_start w rest is.grammatical (after_piece nothing_open text)
-
--- and what is read from the text up to the end of the piece is what the piece is
-pub piece_read : (text : List ℕ) (w : Written) (rest : List ℕ) → expression_at 0 text ≡ Some (w, rest) → piece rest ≡ [] → IsWritten (piece text) w × (rest ≡ drop (length (piece text)) text)
-piece_read text w rest e ends =
-    let grammatical : IsGrammatical w = (expression_sound 0 text w rest (omega arith) e).0 in
-    let whole : spelling w ++ rest ≡ text = expression_spells 0 text w rest e in
-    let prefix : piece text ≡ spelling w = ap piece (sym whole) ∙ piece_spelled w rest grammatical ends in (
-      record { grammatical = grammatical; is = sym prefix },
-      sym (drop_prefix (spelling w) rest) ∙ ap (λ t. drop (length (spelling w)) t) whole ∙ ap (λ (xs : List ℕ). drop (length xs) text) (sym prefix),
-    )
 
 not_quote : (c : ℕ) → not (c == 39) ≡ true → c ≢ 39
 not_quote c h e = absurd (true≢false (sym (eq-eqb c 39 e) ∙ not-true (c == 39) h))

@@ -1,8 +1,8 @@
 -- Pieces of texts, as a scan finds them.
-use Rattle.std.proofs.Common.{◌≡◌, ◌==◌, ℕ, suc, ◌+◌, ◌<◌, ◌≤◌, true, false, if◌then◌else◌, max, List, [], ◌∷◌, ◌++◌, length, get_or, take, drop, refl, sym, ap, ◌∙◌, arith, append_assoc, subst}
+use Rattle.std.proofs.Common.{◌≡◌, ◌==◌, ℕ, suc, ◌+◌, ◌<◌, ◌≤◌, false, if◌then◌else◌, max, List, [], ◌∷◌, ◌++◌, length, get_or, take, drop, sym, ap, ◌∙◌, arith, append_assoc, subst}
 use Rattle.std.proofs.lemmas.Bool.{cond_both}
-use Rattle.std.proofs.lemmas.List.{append-nil, take_more, at_drop_more, at_drop_all, take_all}
-use Rattle.f77_expr.specs.Piece.{Open, nothing_open, open_after, ends_piece, piece_from, piece, deepest_from, bracket_depth}
+use Rattle.std.proofs.lemmas.List.{take_more, at_drop_more}
+use Rattle.f77_expr.specs.Piece.{Open, open_after, ends_piece, piece_from, piece, deepest_from, bracket_depth}
 
 -- what a scan knows at the index i
 pub record IsScanned (text : List ℕ) (open_now : Open) (depth i : ℕ) : Type 0 where
@@ -10,9 +10,6 @@ pub record IsScanned (text : List ℕ) (open_now : Open) (depth i : ℕ) : Type 
   pub deepest : bracket_depth (piece text) ≡ max depth (deepest_from open_now (piece_from open_now (drop i text)))
   pub least : open_now.brackets ≤ depth
   pub room : open_now.brackets ≤ i
-
-pub scan_begins : (text : List ℕ) → IsScanned text nothing_open 0 0
-scan_begins text = record { whole = refl; deepest = omega arith; least = omega arith; room = omega arith }
 
 -- brackets that are open are counted
 deepest_least : (open_now : Open) (text : List ℕ) → open_now.brackets ≤ deepest_from open_now text
@@ -27,23 +24,6 @@ open_more open_now c =
     cond_both open_now.quoted _ _ P (λ quoted. omega arith) (λ not_quoted.
     cond_both (c == 40) _ _ P (λ opens. omega arith) (λ other.
     cond_both (c == 41) _ _ P (λ closes. omega arith) (λ none. omega arith))))
-
-ends_there : (text : List ℕ) (open_now : Open) (depth i : ℕ) → IsScanned text open_now depth i → piece_from open_now (drop i text) ≡ [] → (take i text ≡ piece text) × (depth ≡ bracket_depth (piece text))
-ends_there text open_now depth i s e =
-    let least = s.least in
-    let deepest : bracket_depth (piece text) ≡ max depth open_now.brackets = s.deepest ∙ ap (λ p. max depth (deepest_from open_now p)) e in
-    (sym (s.whole ∙ ap (λ p. take i text ++ p) e ∙ append-nil (take i text)), omega arith)
-
--- the scan ends at the end of the text
-pub scan_ends : (text : List ℕ) (open_now : Open) (depth i : ℕ) → IsScanned text open_now depth i → length text ≤ i → (text ≡ piece text) × (depth ≡ bracket_depth (piece text))
-scan_ends text open_now depth i s all =
-    let ends = ends_there text open_now depth i s (at_drop_all (λ rest. piece_from open_now rest) text i all) in
-    (sym (take_all i text all) ∙ ends.0, ends.1)
-
--- or at a character that ends the piece
-pub scan_stops : (text : List ℕ) (open_now : Open) (depth i d : ℕ) → IsScanned text open_now depth i → i < length text → ends_piece open_now (get_or text i d) ≡ true → (take i text ≡ piece text) × (depth ≡ bracket_depth (piece text))
-scan_stops text open_now depth i d s lt ends =
-    ends_there text open_now depth i s (at_drop_more (λ rest. piece_from open_now rest) text i d lt ∙ ap (λ b. if b then [] else (get_or text i d ∷ piece_from (open_after open_now (get_or text i d)) (drop (i + 1) text))) ends)
 
 -- else it goes on
 pub scan_goes_on : (text : List ℕ) (open_now next : Open) (depth i d : ℕ) → IsScanned text open_now depth i → i < length text → ends_piece open_now (get_or text i d) ≡ false → next ≡ open_after open_now (get_or text i d) → IsScanned text next (max next.brackets depth) (i + 1)

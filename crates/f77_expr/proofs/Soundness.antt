@@ -145,12 +145,3 @@ the_readers_sound = record {
 
 pub expression_sound : (least : ℕ) (text : List ℕ) (w : Written) (rest : List ℕ) → least ≤ 8 → expression_at least text ≡ Some (w, rest) → IsAtLeast least w
 expression_sound least text w rest few e = each_at (λ v tail. IsAtLeast least v) (expression_at least text) (the_readers_sound.expression least text few) w rest e
-
-pub chain_sound : (least : ℕ) (v : Written) (text : List ℕ) (w : Written) (rest : List ℕ) → IsAtLeast least v → chain_at least v text ≡ Some (w, rest) → IsAtLeast least w
-chain_sound least v text w rest is e = each_at (λ u tail. IsAtLeast least u) (chain_at least v text) (the_readers_sound.chain least v text is) w rest e
-
-pub primary_sound_at : (text : List ℕ) (w : Written) (rest : List ℕ) → primary_at text ≡ Some (w, rest) → IsGrammatical w × (level w ≡ 8)
-primary_sound_at text w rest e = each_at (λ v tail. IsGrammatical v × (level v ≡ 8)) (primary_at text) (the_readers_sound.primary text) w rest e
-
-pub arguments_sound : (text : List ℕ) (args : Arguments) (rest : List ℕ) → arguments_at text ≡ Some (args, rest) → AreGrammatical args
-arguments_sound text args rest e = each_at (λ v tail. AreGrammatical v) (arguments_at text) (the_readers_sound.arguments text) args rest e

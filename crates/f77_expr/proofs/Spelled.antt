@@ -1,14 +1,12 @@
 -- What the readers read is spelled before the rest.
-use Rattle.std.proofs.Common.{◌≡◌, ◌==◌, ℕ, zero, suc, ◌+◌, ◌-◌, ◌≤◌, List, [], ◌∷◌, ◌++◌, length, drop, take_while, Some, None, if◌then◌else◌, ◌&&◌, nat_le, refl, sym, ap, ◌∙◌, arith, append_assoc, length-append}
-use Rattle.std.proofs.Math.Seq.{drop-append-add}
+use Rattle.std.proofs.Common.{◌≡◌, ◌==◌, ℕ, zero, suc, List, [], ◌∷◌, ◌++◌, length, drop, take_while, Some, None, if◌then◌else◌, ◌&&◌, nat_le, refl, sym, ap, ◌∙◌}
 use Rattle.std.proofs.lemmas.Bool.{eqb-true}
 use Rattle.op_table.specs.declared.Op.{Op}
 use Rattle.f77_tree.specs.Name.{is_capital, is_figure}
 use Rattle.f77_tree.specs.Grammar.{Written, Arguments, symbol, level, operator_level, left_level, right_level, spelling, spellings}
 use Rattle.f77_expr.specs.Reader.{Reads, read_as, and_then_read, operator_at, Prefix, prefix_at, operand_level, prefixed, truth_at, is_symbolic, closed, Readers, begun, continued, named, primary_by, more_arguments, deeper, readers, enough, expression_at, chain_at, primary_at, arguments_at, the_readers}
-use Rattle.f77_expr.proofs.Depth.{chain_shorter}
 use Rattle.f77_expr.proofs.EachRead.{Each, each_at, each_if, each_then, each_as, each_weaker}
-use Rattle.f77_expr.proofs.Prefixes.{IsOperatorIn, operator_prefix, IsPrefixIn, prefix_at_start, prefix_text, IsTruthIn, truth_prefix, run_and_rest, drop_prefix}
+use Rattle.f77_expr.proofs.Prefixes.{IsOperatorIn, operator_prefix, IsPrefixIn, prefix_at_start, prefix_text, IsTruthIn, truth_prefix, run_and_rest}
 use Rattle.f77_expr.proofs.Spellings.{binary_spelling, call_spelling, bracketed_spelling, before_spelling, prefixed_spelling}
 
 -- what readers read is spelled before the rest
@@ -136,38 +134,3 @@ the_readers_spell = record {
 
 pub expression_spells : (least : ℕ) (text : List ℕ) (w : Written) (rest : List ℕ) → expression_at least text ≡ Some (w, rest) → spelling w ++ rest ≡ text
 expression_spells least text w rest e = each_at (λ v tail. spelling v ++ tail ≡ text) (expression_at least text) (the_readers_spell.expression least text) w rest e
-
-pub chain_spells : (least : ℕ) (v : Written) (text : List ℕ) (w : Written) (rest : List ℕ) → chain_at least v text ≡ Some (w, rest) → spelling w ++ rest ≡ spelling v ++ text
-chain_spells least v text w rest e = each_at (λ u tail. spelling u ++ tail ≡ spelling v ++ text) (chain_at least v text) (the_readers_spell.chain least v text) w rest e
-
-pub primary_spells_text : (text : List ℕ) (w : Written) (rest : List ℕ) → primary_at text ≡ Some (w, rest) → spelling w ++ rest ≡ text
-primary_spells_text text w rest e = each_at (λ v tail. spelling v ++ tail ≡ text) (primary_at text) (the_readers_spell.primary text) w rest e
-
-pub arguments_spell : (text : List ℕ) (args : Arguments) (rest : List ℕ) → arguments_at text ≡ Some (args, rest) → spellings args ++ 41 ∷ rest ≡ text
-arguments_spell text args rest e = each_at (λ v tail. spellings v ++ 41 ∷ tail ≡ text) (arguments_at text) (the_readers_spell.arguments text) args rest e
-
--- ---- each rest is what is left of the text after some place
-
-rest_is : (prefix text rest : List ℕ) → prefix ++ rest ≡ text → rest ≡ drop (length text - length rest) text
-rest_is prefix text rest e =
-    let whole : length text ≡ length prefix + length rest = ap length (sym e) ∙ length-append prefix rest in
-    let place : length prefix ≡ length text - length rest = omega arith in
-    sym (drop_prefix prefix rest) ∙ ap (λ t. drop (length prefix) t) e ∙ ap (λ n. drop n text) place
-
-pub expression_rest : (least : ℕ) (text : List ℕ) (w : Written) (rest : List ℕ) → expression_at least text ≡ Some (w, rest) → rest ≡ drop (length text - length rest) text
-expression_rest least text w rest e = rest_is (spelling w) text rest (expression_spells least text w rest e)
-
-pub chain_rest : (least : ℕ) (v : Written) (text : List ℕ) (w : Written) (rest : List ℕ) → chain_at least v text ≡ Some (w, rest) → rest ≡ drop (length text - length rest) text
-chain_rest least v text w rest e =
-    let le : length rest ≤ length text = chain_shorter least v text w rest e in
-    let whole : length (spelling v ++ text) ≡ length (spelling v) + length text = length-append (spelling v) text in
-    let place : length (spelling v ++ text) - length rest ≡ length (spelling v) + (length text - length rest) = omega arith in
-    rest_is (spelling w) (spelling v ++ text) rest (chain_spells least v text w rest e)
-    ∙ ap (λ n. drop n (spelling v ++ text)) place ∙ drop-append-add (spelling v) text (length text - length rest)
-
-pub primary_rest : (text : List ℕ) (w : Written) (rest : List ℕ) → primary_at text ≡ Some (w, rest) → rest ≡ drop (length text - length rest) text
-primary_rest text w rest e = rest_is (spelling w) text rest (primary_spells_text text w rest e)
-
-pub arguments_rest : (text : List ℕ) (args : Arguments) (rest : List ℕ) → arguments_at text ≡ Some (args, rest) → rest ≡ drop (length text - length rest) text
-arguments_rest text args rest e =
-    rest_is (spellings args ++ (41 ∷ [])) text rest (append_assoc (spellings args) (41 ∷ []) rest ∙ arguments_spell text args rest e)

@@ -1,4 +1,4 @@
-ghost use Rattle.std.specs.Prelude.{◌≡◌, nat_abs, decimal, ◌≤ℤ◌, pos};
+ghost use Rattle.std.specs.Prelude.{nat_abs, decimal, ◌≤ℤ◌, pos};
 ghost use Rattle.f77_tree.specs.Grammar.{truth_text};
 ghost use Rattle.f77_expr.specs.Appending.{Appended};
 

@@ -1,4 +1,4 @@
-ghost use Rattle.std.specs.Prelude.{◌≡◌, ◌<◌, ◌≤◌, drop, length};
+ghost use Rattle.std.specs.Prelude.{◌≡◌, ◌≤◌, drop, length};
 ghost use Rattle.f77_expr.specs.Piece.{piece as spec_piece, bracket_depth, ends_piece as spec_ends_piece};
 ghost use Rattle.f77_expr.specs.Parsing.{IsParsed, IsPieceRead};
 ghost use Rattle.f77_expr.specs.Scanning.{what_is_open};

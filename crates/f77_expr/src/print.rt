@@ -1,7 +1,6 @@
-ghost use Rattle.std.specs.Prelude.{◌≡◌, ◌≤◌, ◌<◌, ◌++◌, List, [], map, length, codes, true, All, IfOk, OnOk, OnErr};
-ghost use Rattle.op_table.specs.Operators.{arity_of};
+ghost use Rattle.std.specs.Prelude.{◌≡◌, ◌≤◌, ◌<◌, ◌++◌, List, [], map, length, codes, true, All, OnOk, OnErr};
 ghost use Rattle.f77_tree.specs.declared.programs.NameInfo.{NameInfo};
-ghost use Rattle.f77_tree.specs.Grammar.{Arguments, IsGrammatical, Written, level, reading, spelling, spellings, left_level as left_of, right_level as right_of};
+ghost use Rattle.f77_tree.specs.Grammar.{IsGrammatical, Written, level, reading, spelling, spellings, left_level as left_of, right_level as right_of};
 ghost use Rattle.f77_tree.specs.Kinds.{IsProper};
 ghost use Rattle.f77_tree.specs.Name.{is_name};
 ghost use Rattle.f77_expr.specs.Appending.{Appended, BeginsWith, arguments_text, listed_in, operator_of};

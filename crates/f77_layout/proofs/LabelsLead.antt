@@ -1,16 +1,14 @@
 -- The executables of a program stand where its statements do, and labels lead to them.
-use Rattle.std.proofs.Common.{rules, ◌≡◌, ℕ, suc, ◌+◌, ◌≤◌, Bool, true, false, not, ◌&&◌, ◌||◌, ◌==◌, List, [], ◌∷◌, length, Some, Ok, slice_get, map, refl, sym, ap, subst, ◌∙◌, arith}
-use Rattle.std.specs.List.{list_any}
-use Rattle.std.proofs.lemmas.Bool.{and_parts, eqb-true, false_from_ne_true, not-false, not-true}
+use Rattle.std.proofs.Common.{rules, ◌≡◌, ℕ, ◌+◌, ◌≤◌, Bool, true, false, not, List, [], length, Some, Ok, slice_get, map, refl, sym, ap, subst, ◌∙◌, arith}
+use Rattle.std.proofs.lemmas.Bool.{and_parts, eqb-true, not-true}
 use Rattle.std.proofs.lemmas.List.{length-map}
 use Rattle.std.proofs.lemmas.Option.{slice_get_within, get_or_from_slice_get}
-use Rattle.std.proofs.lemmas.Map.Keys.{any_passes_from_place}
 use Rattle.f77_tree.specs.declared.programs.ExecKind.{ExecKind}
 use Rattle.f77_tree.specs.declared.programs.Program.{Program}
 use Rattle.f77_tree.specs.declared.statements.Labelled.{Labelled}
 use Rattle.f77_tree.specs.declared.statements.RawExpr.{RawExpr}
 use Rattle.f77_tree.specs.declared.statements.Stmt.{Stmt, more_of-Stmt}
-use Rattle.f77_tree.specs.declared.statements.Stmt.TheVariants.{Program as Program', Implicit, ImplicitNone, TypeOf, Dimension, Common, Equivalence, Init, Sub, Take, Else, ThenIf'}
+use Rattle.f77_tree.specs.declared.statements.Stmt.TheVariants.{Take, ThenIf'}
 use Rattle.f77_tree.specs.StatementGrammar.{WrittenStatement, IsStatement, statement_of as stmt_of}
 use Rattle.f77_tree.specs.Grammar.{reading}
 use Rattle.layout_rules.specs.Executables.{beyond, first_of, increments, labelled, loops_to, own_executables, own_kinds, executables}

@@ -1,6 +1,6 @@
 //! The declarations of a program, as its statements have them, in the order of the text.
 
-ghost use Rattle.std.specs.Prelude.{◌≡◌, ◌<◌, ◌≤◌, ◌++◌, ◌∷◌, [], ◌^◌, length, filter, All, IfOk, OnOk};
+ghost use Rattle.std.specs.Prelude.{◌≡◌, ◌<◌, ◌≤◌, ◌++◌, [], ◌^◌, length, filter, All, IfOk, OnOk};
 ghost use Rattle.layout_rules.specs.Declarations.{all_commons, all_groups, all_inits, parts_of, groups_of as groups_of_stmt, inits_of as inits_of_stmt};
 ghost use Rattle.layout_rules.specs.Executables.{is_do as is_do_of};
 ghost use Rattle.layout_rules.specs.PlacedNames.{with_places};

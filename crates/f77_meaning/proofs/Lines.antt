@@ -1,10 +1,9 @@
 -- Lines, item by item.
-use Rattle.std.proofs.Common.{◌≡◌, ℕ, zero, suc, ◌≤◌, ℤ, ◌+◌, ◌<◌, List, [], ◌∷◌, ◌++◌, length, get_or, map, drop, max, Some, slice_get, subst, arith, Result, Ok, Err, refl, sym, ap, ◌∙◌, add-one, drop-cons, append_assoc}
+use Rattle.std.proofs.Common.{◌≡◌, ℕ, zero, suc, ◌≤◌, ◌+◌, ◌<◌, List, [], ◌∷◌, ◌++◌, length, get_or, map, drop, max, Some, slice_get, subst, arith, Result, Ok, Err, refl, sym, ap, ◌∙◌, add-one, drop-cons, append_assoc}
 use Rattle.op_table.specs.declared.Trap.{Trap}
 use Rattle.f77_tree.specs.declared.programs.Exec.{Exec}
 use Rattle.f77_tree.specs.declared.programs.Item.{Item}
-use Rattle.f77_tree.specs.declared.programs.NameInfo.{NameInfo}
-use Rattle.f77_tree.specs.Line.{item_before, line_of_texts, text_with, values_after, line_with, item_room, line_room}
+use Rattle.f77_tree.specs.Line.{item_before, line_of_texts, item_room, line_room}
 use Rattle.f77_meaning.specs.Room.{item_pushed, line_after, kind_room, most_room}
 
 after_item : (text : Result (List ℕ) Trap) (xs ys : List ℕ) (more : Result (List ℕ) Trap) → item_pushed xs text ≡ Ok ys → line_after xs (item_before text more) ≡ line_after ys more
@@ -31,15 +30,6 @@ line_trap f items i item xs trap lt is was =
 -- what is left needs less room
 pub room_next : (items : List Item) (i : ℕ) (item : Item) → i < length items → item ≡ get_or items i item → line_room (drop i items) ≡ item_room item + line_room (drop (i + 1) items)
 room_next items i item lt is = rw (add-one, drop-cons items i item, ← is) refl
-
-pub line_after_none : (line : Result (List ℕ) Trap) → line_after [] line ≡ line
-line_after_none (Err trap) = refl
-line_after_none (Ok bytes) = refl
-
--- one item more of the line of values
-pub with_next : (names : List NameInfo) (items : List Item) (i : ℕ) (item : Item) (line : List ℕ) (values : List ℤ) → i < length items → item ≡ get_or items i item → line ++ line_with names (drop i items) values ≡ (line ++ 32 ∷ text_with names item values) ++ line_with names (drop (i + 1) items) (values_after item values)
-with_next names items i item line values lt is =
-    rw (add-one, drop-cons items i item, ← is) (sym (append_assoc line (32 ∷ text_with names item values) (line_with names (drop (suc i) items) (values_after item values))))
 
 -- the most of what is left
 pub most_next : (execs : List Exec) (i : ℕ) (exec : Exec) → i < length execs → exec ≡ get_or execs i exec → most_room (drop i execs) ≡ max (kind_room exec.kind) (most_room (drop (i + 1) execs))

@@ -1,10 +1,10 @@
 -- A step, by what comes of its executable.
-use Rattle.std.proofs.Common.{◌≡◌, ◌≢◌, refl, ℕ, ◌<◌, ℤ, List, [], ◌++◌, length, Some, slice_get, sym, ap, ◌∙◌, append-nil}
+use Rattle.std.proofs.Common.{◌≡◌, ℕ, ◌<◌, ℤ, List, [], ◌++◌, length, Some, slice_get, sym, ap, ◌∙◌, append-nil}
 use Rattle.op_table.specs.declared.Trap.{Trap}
 use Rattle.f77_tree.specs.declared.programs.Exec.{Exec}
 use Rattle.f77_tree.specs.declared.programs.Program.{Program}
-use Rattle.f77_tree.specs.Execution.{Memory, Outcome, Goes, Stops, Ends, outcome}
-use Rattle.f77_tree.specs.Run.{Mark, Running, Ended, Trapped, State, after, step_from, step}
+use Rattle.f77_tree.specs.Execution.{Memory, Outcome, Goes, Stops, outcome}
+use Rattle.f77_tree.specs.Run.{Mark, Running, Trapped, State, after, step}
 use Rattle.f77_tree.specs.CanRun.{CanExecute}
 use Rattle.f77_tree.specs.declared.programs.ExecKind.{ExecKind}
 use Rattle.f77_tree.proofs.Outcomes.{goes}
@@ -27,15 +27,3 @@ module _ (p : Program) (input : List ℤ) (position : ℕ) (memory : Memory) (ma
 
   pub step_stops : (out : List ℕ) (exec : Exec) (trap : Trap) → slice_get p.execs position ≡ Some exec → outcome p.names input memory exec.kind ≡ Stops trap → step p input (state position memory out mark) ≡ state position memory (out ++ []) (Trapped trap exec.line)
   step_stops out exec trap at is = ran out exec (Stops trap) at is ∙ ap (λ (xs : List ℕ). state position memory xs (Trapped trap exec.line)) (sym (append-nil out))
-
-  pub step_ends : (out : List ℕ) (exec : Exec) → slice_get p.execs position ≡ Some exec → outcome p.names input memory exec.kind ≡ Ends → step p input (state position memory out mark) ≡ state position memory (out ++ []) Ended
-  step_ends out exec at is = ran out exec Ends at is ∙ ap (λ (xs : List ℕ). state position memory xs Ended) (sym (append-nil out))
-
--- a state whose mark isn't Running stays as it is
-pub step_stays : (p : Program) (input : List ℤ) (x : State) (out : List ℕ) → x.mark ≢ Running → step p input (record x { out = out }) ≡ record x { out = out ++ [] }
-step_stays p input x out other = stays x.mark other ∙ ap (λ (xs : List ℕ). record x { out = xs }) (sym (append-nil out))
-  where
-    stays : (mark : Mark) → mark ≢ Running → step_from p input (record x { out = out }) mark ≡ record x { out = out }
-    stays Running differs = absurd (differs refl)
-    stays Ended differs = refl
-    stays (Trapped trap line) differs = refl

@@ -18,10 +18,6 @@ use Rattle.f77_parse.proofs.PartNames.{named_sound}
 use Rattle.f77_parse.proofs.PartNumbers.{number_sound, labels_sound}
 use Rattle.f77_parse.proofs.PartReaders.{where_sound, comma_is, between}
 
--- what was read after a prefix of the text
-abbrev pub IsAfter : List ℕ → List ℕ → WrittenStatement → List ℕ → Type 0
-IsAfter prefix text s rest = IsStatement s × (statement_text s ++ rest ≡ prefix ++ text)
-
 -- what was read from the text
 abbrev pub IsStatementAtStart : List ℕ → WrittenStatement → List ℕ → Type 0
 IsStatementAtStart text s rest = IsStatement s × (statement_text s ++ rest ≡ text)

@@ -133,20 +133,6 @@ unfolding characters_kept
 quoting_begins bad text = record { fuel = suc (length text); enough = omega arith; goes_on = refl; room = omega arith }
 
 module _ (text : List ℕ) (total : Keeps (List ℕ)) (list : List ℕ) (bad : Bool) (rest : List ℕ) (q : IsQuoting text total list bad rest) where
-  pub quoting_fails : next_character_kept bad rest ≡ None → total ≡ None
-  quoting_fails none = q.goes_on ∙ by q.fuel
-    where
-      by : (n : ℕ) → characters_onto n list bad rest ≡ None
-      by zero = refl
-      by (suc n) = ap (λ x. keep_then x (λ next bad_now more. characters_next (characters_onto n) list bad_now more next)) none
-
-  pub quoting_ends : (bad_now : Bool) (later : List ℕ) → next_character_kept bad rest ≡ Some (None, bad_now, later) → total ≡ Some (list, bad_now, later)
-  quoting_ends bad_now later ends = q.goes_on ∙ by q.fuel q.enough
-    where
-      by : (n : ℕ) → length rest < n → characters_onto n list bad rest ≡ Some (list, bad_now, later)
-      by zero enough = absurd (omega arith)
-      by (suc n) enough = ap (λ x. keep_then x (λ next bad_now more. characters_next (characters_onto n) list bad_now more next)) ends
-
   pub quoting_goes_on : (c : ℕ) (bad_now : Bool) (later : List ℕ) → next_character_kept bad rest ≡ Some (Some c, bad_now, later) → length later < length rest → IsQuoting text total (list ++ c ∷ []) bad_now later
   quoting_goes_on c bad_now later some less = by q.fuel q.enough q.goes_on
     where
@@ -186,18 +172,8 @@ first_letters bad text list bad_now rest some less room = record {
 }
 
 module _ (text : List ℕ) (total : Keeps (List LetterRange)) (list : List LetterRange) (bad : Bool) (rest : List ℕ) (r : AreRanged text total list bad rest) where
-  pub last_letters : after_comma rest ≡ None → total ≡ Some (list, bad, rest)
-  last_letters none = r.goes_on ∙ ap (λ x. kept_next (ranges_onto r.fuel) list bad rest x) none
-
   letters_after : (next : List ℕ) → after_comma rest ≡ Some next → total ≡ ranges_onto r.fuel list bad next
   letters_after next comma = r.goes_on ∙ ap (λ x. kept_next (ranges_onto r.fuel) list bad rest x) comma
-
-  pub no_next_letters : (next : List ℕ) → after_comma rest ≡ Some next → letters_kept list bad next ≡ None → total ≡ None
-  no_next_letters next comma none = letters_after next comma ∙ by r.fuel
-    where
-      by : (n : ℕ) → ranges_onto n list bad next ≡ None
-      by zero = refl
-      by (suc n) = ap (λ x. keep_then x (λ longer bad_now more. kept_next (ranges_onto n) longer bad_now more (after_comma more))) none
 
   pub next_letters : (next : List ℕ) (longer : List LetterRange) (bad_now : Bool) (later : List ℕ) → after_comma rest ≡ Some next → length next < length rest → letters_kept list bad next ≡ Some (longer, bad_now, later) → length later < length next → length longer + length later ≤ length list + length next → AreRanged text total longer bad_now later
   next_letters next longer bad_now later comma less some shorter grows = by r.fuel r.enough (letters_after next comma)

@@ -1,6 +1,5 @@
 //! Whole statements: what tells their form (ANSI X3.9-1978, sections 4 to 12).
 
-ghost use Rattle.std.specs.Prelude.{◌≡◌};
 ghost use Rattle.f77_parse.specs.KeptForms.{kept_whole, form_kept, equated_kept, keyword_kept, storage_kept, executable_kept};
 ghost use Rattle.f77_parse.specs.Answers.{Gives};
 

@@ -1,6 +1,6 @@
 //! Lists with commas between their items.
 
-ghost use Rattle.std.specs.Prelude.{◌≡◌, ℕ, Bool, List};
+ghost use Rattle.std.specs.Prelude.{ℕ, Bool, List};
 ghost use Rattle.f77_parse.specs.Keeping.{Keeps, kept_list, kept_parts, first_part_kept, part_kept, init_part_kept, next_init_part_kept, label_kept, signed_kept, value_kept, dim_kept, decl_kept, member_kept, group_kept, name_kept, expression_kept, item_kept, variable_kept};
 ghost use Rattle.f77_parse.specs.Answers.{Gives, Shortens};
 

@@ -1,6 +1,6 @@
 //! A reader of the text of one statement. It never goes back, and nothing is read twice.
 
-ghost use Rattle.std.specs.Prelude.{◌≡◌, ◌≤◌, ◌<◌, ◌+◌, ◌-◌, ◌||◌, ◌&&◌, ◌^◌, nat_lt, length, [], drop, take_while, true, false, Some, None, MatchBool, IfOk};
+ghost use Rattle.std.specs.Prelude.{◌≡◌, ◌≤◌, ◌<◌, ◌+◌, ◌-◌, ◌||◌, ◌&&◌, nat_lt, length, [], drop, take_while, true, false, Some, None, MatchBool, IfOk};
 ghost use Rattle.f77_tree.specs.Name.{is_figure};
 ghost use Rattle.f77_expr.specs.Reader.{after_prefix as spec_after_prefix};
 ghost use Rattle.f77_parse.specs.Parts.{after_comma};

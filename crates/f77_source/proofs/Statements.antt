@@ -65,14 +65,6 @@ pub record AreRead (raws : List RawStmt) (i : ℕ) (stmts : List Labelled) : Typ
   pub each : (k : ℕ) (r : RawStmt) (s : Labelled) → k < i → IsParsed (get_or raws k r) (Ok (get_or stmts k s))
   pub given : All (λ s. IsGiven s.stmt) stmts
 
-pub read_none : (raws : List RawStmt) → AreRead raws 0 []
-read_none raws = record {
-  read = refl;
-  count = refl;
-  each = λ k r s lt. absurd (omega (arith, lt));
-  given = λ k d lt. absurd (omega (arith, lt));
-}
-
 each_next : (raws : List RawStmt) (i : ℕ) (raw : RawStmt) (stmts : List Labelled) (s : Labelled) → length stmts ≡ i → i < length raws → raw ≡ get_or raws i raw → IsParsed raw (Ok s)
     → ((k : ℕ) (r : RawStmt) (t : Labelled) → k < i → IsParsed (get_or raws k r) (Ok (get_or stmts k t)))
     → (k : ℕ) (r : RawStmt) (t : Labelled) → k < i + 1 → IsParsed (get_or raws k r) (Ok (get_or (stmts ++ s ∷ []) k t))
@@ -99,16 +91,6 @@ refused_here raws i raw stmts end lt is one before =
     ap statements_of (sym (take-append-drop i raws))
     ∙ statements_append (take i raws) (drop i raws)
     ∙ rw (before.read, drop-cons raws i raw lt, ← is, one) refl
-
-take_all : (raws : List RawStmt) (i : ℕ) → length raws ≤ i → take i raws ≡ raws
-take_all [] zero le = refl
-take_all [] (suc i) le = refl
-take_all (raw ∷ raws) zero le = absurd (omega (arith, le))
-take_all (raw ∷ raws) (suc i) le = ap (λ more. raw ∷ more) (take_all raws i (omega (arith, le)))
-
--- all texts are statements
-pub all_read : (raws : List RawStmt) (i : ℕ) (stmts : List Labelled) → length raws ≤ i → AreRead raws i stmts → statements_of raws ≡ Ok stmts
-all_read raws i stmts le before = subst (λ xs. statements_of xs ≡ Ok stmts) (take_all raws i le) before.read
 
 -- ---- the statements of a text in fixed form
 

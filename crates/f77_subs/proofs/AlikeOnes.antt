@@ -2,11 +2,10 @@
 use Rattle.std.proofs.Common.{◌≡◌, ℕ, zero, suc, ◌+◌, ◌<◌, ◌≤◌, Bool, true, false, ◌&&◌, List, [], ◌∷◌, length, drop, eqb, nat_lt, Option, Some, None, ⊎_elim, refl, sym, ap, ◌∙◌, add-one, arith}
 use Rattle.std.specs.Prelude.{slice_get}
 use Rattle.std.proofs.lemmas.Bool.{cases_Bool, eq-eqb, ne_eqb, ltb-true, ltb-false}
-use Rattle.f77_tree.specs.declared.declarations.Dim.{Dim}
 use Rattle.f77_tree.specs.declared.statements.Labelled.{Labelled}
-use Rattle.declared_names.specs.Described.{Described, described}
-use Rattle.f77_subs.specs.Refusals.{is_same_dim, are_same_dims, are_alike, is_alike}
-use Rattle.f77_subs.specs.Alike.{are_alike_told, are_both, is_alike_told}
+use Rattle.declared_names.specs.Described.{described}
+use Rattle.f77_subs.specs.Refusals.{are_alike, is_alike}
+use Rattle.f77_subs.specs.Alike.{are_alike_told, are_both}
 
 module _ {A B : Type 0} (fits : A → B → Bool) where
   -- as many, which fit one by one
@@ -97,18 +96,6 @@ module _ {A B : Type 0} (fits : A → B → Bool) where
       (cases_Bool (nat_lt (length xs) (length ys)))
 
 -- ---- the two comparisons
-
-pub dims-fit : (xs ys : List Dim) → are_same_dims xs ys ≡ all_fit is_same_dim xs ys
-dims-fit [] [] = refl
-dims-fit [] (y ∷ ys) = refl
-dims-fit (x ∷ xs) [] = refl
-dims-fit (x ∷ xs) (y ∷ ys) = ap (λ (b : Bool). is_same_dim x y && b) (dims-fit xs ys)
-
-pub names-fit : (u v : Described) (xs ys : List (List ℕ)) → are_alike_told u v xs ys ≡ all_fit (is_alike_told u v) xs ys
-names-fit u v [] [] = refl
-names-fit u v [] (y ∷ ys) = refl
-names-fit u v (x ∷ xs) [] = refl
-names-fit u v (x ∷ xs) (y ∷ ys) = ap (λ (b : Bool). is_alike_told u v x y && b) (names-fit u v xs ys)
 
 -- what the declarations of two units say
 pub alike-told : (u v : List Labelled) (xs ys : List (List ℕ)) → are_alike_told (described u) (described v) xs ys ≡ are_alike u v xs ys

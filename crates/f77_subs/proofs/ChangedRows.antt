@@ -1,5 +1,5 @@
 -- Changed expressions, by the lists of their operands.
-use Rattle.std.proofs.Common.{◌≡◌, ◌≤◌, ◌<◌, ℕ, ◌+◌, ◌∷◌, ◌++◌, length, take, length-take, get_or, arith, Bool, true, false, not, ◌&&◌, List, [], map, fold, if◌then◌else◌, Option, Some, None, option_map, refl, sym, ap, ◌∙◌}
+use Rattle.std.proofs.Common.{◌≡◌, ◌≤◌, ◌<◌, ℕ, ◌+◌, ◌∷◌, ◌++◌, length, take, length-take, get_or, arith, Bool, true, not, ◌&&◌, List, [], map, fold, if◌then◌else◌, Option, Some, None, option_map, refl, sym, ap, ◌∙◌}
 use Rattle.std.proofs.lemmas.List.{length-map, map-append, take_more}
 use Rattle.std.proofs.lemmas.List.Sums.{fold-append}
 use mathlib.Core.Former.{Count}
@@ -49,23 +49,10 @@ intrinsic-by : (f : Option Intrinsic) (op : Op) (name : List ℕ) (args : List R
 intrinsic-by None op name args is = absurd cc
 intrinsic-by (Some f) op name args is = let same : f.op ≡ op = cc in ap (λ (o : Op). pairs o args) same
 
-intrinsic-none : (f : Option Intrinsic) (name : List ℕ) (args : List RawExpr) → None ≡ option_map (λ f. f.op) f → intrinsic_or f name args ≡ Call name args
-intrinsic-none None name args is = refl
-intrinsic-none (Some f) name args is = absurd cc
-
 -- a call of an intrinsic function in a copy
 pub changed_call-pairs : (c : Change) (name : List ℕ) (args : List RawExpr) (op : Op) → (c.copied && not (c.arrays name)) ≡ true → Some op ≡ option_map (λ f. f.op) (intrinsic_named name) → changed_call c name args ≡ pairs op args
 changed_call-pairs c name args op free is =
     ap (λ (b : Bool). if b then intrinsic_or (intrinsic_named name) (c.name name) args else Call (c.name name) args) free ∙ intrinsic-by (intrinsic_named name) op (c.name name) args is
-
--- a call of no intrinsic function in a copy
-pub changed_call-other : (c : Change) (name : List ℕ) (args : List RawExpr) → (c.copied && not (c.arrays name)) ≡ true → None ≡ option_map (λ f. f.op) (intrinsic_named name) → changed_call c name args ≡ Call (c.name name) args
-changed_call-other c name args free is =
-    ap (λ (b : Bool). if b then intrinsic_or (intrinsic_named name) (c.name name) args else Call (c.name name) args) free ∙ intrinsic-none (intrinsic_named name) (c.name name) args is
-
--- elsewhere calls stay
-pub changed_call-kept : (c : Change) (name : List ℕ) (args : List RawExpr) → (c.copied && not (c.arrays name)) ≡ false → changed_call c name args ≡ Call (c.name name) args
-changed_call-kept c name args kept = ap (λ (b : Bool). if b then intrinsic_or (intrinsic_named name) (c.name name) args else Call (c.name name) args) kept
 
 -- ---- statements
 

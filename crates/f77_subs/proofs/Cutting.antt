@@ -50,9 +50,6 @@ units-end s rest is = ap (λ (b : Bool). if b then (s ∷ []) ∷ units rest els
 units-other : (s : Labelled) (rest : List Labelled) → is_end s.stmt ≡ false → units (s ∷ rest) ≡ in_first s (units rest)
 units-other s rest is = ap (λ (b : Bool). if b then (s ∷ []) ∷ units rest else in_first s (units rest)) is
 
-pub cut-begun : (stmts : List Labelled) → IsCut stmts [] 0 0
-cut-begun stmts = record { rising = omega arith; inside = λ k d h. absurd (omega (arith, h)); same = refl }
-
 module _ (stmts : List Labelled) (spans : List Span) (from i : ℕ) (s : Labelled) (cut : IsCut stmts spans from i) (inside : i < length stmts) (stands : s ≡ get_or stmts i s) where
   here : drop i stmts ≡ s ∷ drop (i + 1) stmts
   here = drop_more stmts i s inside ∙ ap (λ (x : Labelled). x ∷ drop (i + 1) stmts) (sym stands)

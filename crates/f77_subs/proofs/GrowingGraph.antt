@@ -1,9 +1,9 @@
 -- The graph of CALLs, made statement by statement and unit by unit.
-use Rattle.std.proofs.Common.{◌≡◌, ℕ, zero, suc, ◌+◌, ◌-◌, ◌<◌, ◌≤◌, List, [], ◌∷◌, ◌++◌, map, length, get_or, take, drop, Option, Some, None, refl, sym, ap, subst, ◌∙◌, arith, append_assoc, append-nil, length-append, take-append-drop}
+use Rattle.std.proofs.Common.{◌≡◌, ℕ, zero, suc, ◌+◌, ◌-◌, ◌<◌, ◌≤◌, List, [], ◌∷◌, ◌++◌, map, length, get_or, take, drop, Option, Some, None, refl, sym, ap, subst, ◌∙◌, arith, append-nil, length-append, take-append-drop}
 use Rattle.std.specs.Prelude.{flat_map}
 use Rattle.std.specs.List.{range_with_len}
 use Rattle.std.proofs.lemmas.Grind.{flat_map-append}
-use Rattle.std.proofs.lemmas.List.{map-append, take_more}
+use Rattle.std.proofs.lemmas.List.{take_more}
 use Rattle.std.proofs.lemmas.List.Concat.{flat_map-cons}
 use Rattle.std.proofs.lemmas.List.FromFn.{map-range_with_len_more}
 use Rattle.std.proofs.lemmas.List.Sums.{prefix_len-le-length}
@@ -47,13 +47,6 @@ module _ (us : List (List Labelled)) where
       let c = length-append (callees us (take (i + 1) stmts)) (callees us (drop (i + 1) stmts)) in
       let d = ap length whole in
       omega (arith, a, b, c, d)
-
-  pub edges-more : (edges : List (ℕ × ℕ)) (k : ℕ) (stmts : List Labelled) (i : ℕ) (s : Labelled) → i < length stmts → s ≡ get_or stmts i s
-      → (edges ++ edges_from k (callees us (take i stmts))) ++ edges_from k (calls_of s) ≡ edges ++ edges_from k (callees us (take (i + 1) stmts))
-  edges-more edges k stmts i s inside there =
-      append_assoc edges (edges_from k (callees us (take i stmts))) (edges_from k (calls_of s))
-      ∙ ap (λ es. edges ++ es) (sym (map-append (λ g. (k, g)) (callees us (take i stmts)) (calls_of s)))
-      ∙ ap (λ gs. edges ++ edges_from k gs) (sym (callees-more stmts i s inside there))
 
   -- ---- unit by unit
 

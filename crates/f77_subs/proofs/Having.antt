@@ -6,9 +6,6 @@ use Rattle.std.proofs.lemmas.List.Sums.{sum_by-cons}
 use Rattle.f77_subs.specs.ListedCopies.{HasAt}
 
 module _ {A : Type 0} where
-  rest_at : (items : List A) (n m k : ℕ) → n + m ≡ k → drop (n + m) items ≡ drop k items
-  rest_at items n m k same = ap (λ (x : ℕ). drop x items) same
-
   pub moved : (items part : List A) (n m : ℕ) → n ≡ m → HasAt items n part → HasAt items m part
   moved items part n m same has = subst (λ (x : ℕ). HasAt items x part) same has
 

@@ -1,13 +1,10 @@
 -- Which statements of a subroutine stand in its copies.
-use Rattle.std.proofs.Common.{◌≡◌, ℕ, zero, suc, ◌⊎◌, true, false, not, ◌&&◌, ◌==◌, Option, Some, None, inl, inr, refl}
-use Rattle.std.specs.Option.{is_some}
-use Rattle.f77_tree.specs.declared.statements.RawExpr.{RawExpr}
+use Rattle.std.proofs.Common.{◌≡◌, ℕ, zero, suc, ◌⊎◌, true, false, not, ◌&&◌, ◌==◌, None, inl, inr, refl}
 use Rattle.f77_tree.specs.declared.statements.Stmt.{Stmt}
 use Rattle.f77_tree.specs.declared.statements.Stmt.TheVariants.{Program, Implicit, ImplicitNone, TypeOf, Dimension, Common, Equivalence, Init, Assign, Print, Take, Continue, Stop, GoTo, PickGoTo, SignIf, ThenIf', BlockIf, ElseIf, Else, EndIf, Do, Sub, CallTo, Back, End}
 use Rattle.layout_rules.specs.Labels.{is_executable}
-use Rattle.f77_subs.specs.Units.{Call, call_in, is_end}
+use Rattle.f77_subs.specs.Units.{call_in, is_end}
 use Rattle.f77_subs.specs.Widths.{is_kept}
-use Rattle.f77_subs.specs.CallTable.{own_by, own_lines}
 
 kept-copied : (k : ℕ) (s : Stmt) → is_kept (suc k) s ≡ (not (is_end s) && is_executable s)
 kept-copied k Program = refl
@@ -73,9 +70,3 @@ kept_copied_or k End = inr refl
 pub kept_or_none : (k : ℕ) (s : Stmt) → (is_kept k s ≡ true) ⊎ (call_in s ≡ None)
 kept_or_none zero s = inl refl
 kept_or_none (suc k) s = kept_copied_or k s
-
-pub own-lines : (guard : Option RawExpr) (call : Option Call) → own_by guard call ≡ own_lines (is_some guard) (is_some call)
-own-lines None None = refl
-own-lines None (Some call) = refl
-own-lines (Some e) None = refl
-own-lines (Some e) (Some call) = refl

@@ -83,19 +83,6 @@ used-more us k u kept old new inside stands are before is =
     ∙ sym (fold-append with_name [] (flat_map used_in (take k us)) (used_in u))
     ∙ ap each_once (sym (flat_map_taken used_in us k u inside stands))
 
-pub used-all : (kept : UnitNames) (u : List Labelled) (old a b c d : List (List ℕ)) → a ≡ fold with_name old kept.names → b ≡ fold with_name a kept.dummies.items → c ≡ fold with_name b (flat_map (λ s. option_names (sub_name s.stmt)) u)
-    → d ≡ fold with_name c (flat_map (λ part. option_names part.block) (all_commons u)) → d ≡ fold with_name old (used_by kept u)
-used-all kept u old a b c d first second third fourth =
-    let w = kept.names in
-    let x = kept.dummies.items in
-    let y = flat_map (λ s. option_names (sub_name s.stmt)) u in
-    let z = flat_map (λ part. option_names part.block) (all_commons u) in
-    fourth
-    ∙ ap (λ (seen : List (List ℕ)). fold with_name seen z) (third ∙ ap (λ (seen : List (List ℕ)). fold with_name seen y) (second ∙ ap (λ (seen : List (List ℕ)). fold with_name seen x) first))
-    ∙ ap (λ (seen : List (List ℕ)). fold with_name (fold with_name seen y) z) (sym (fold-append with_name old w x))
-    ∙ ap (λ (seen : List (List ℕ)). fold with_name seen z) (sym (fold-append with_name old (w ++ x) y))
-    ∙ sym (fold-append with_name old ((w ++ x) ++ y) z)
-
 -- ---- new names, one by one
 
 pub named-more : (us : List (List Labelled)) (k : ℕ) (names : List (List ℕ)) (i : ℕ) (n : List ℕ) (old new : List ℕ → Option NewName) (v : NewName) → slice_get names i ≡ Some n → ((x : List ℕ) → list_any (bytes_eq x) (take i names) ≡ true → old x ≡ Some (new_name us k x))

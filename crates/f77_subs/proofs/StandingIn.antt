@@ -1,6 +1,5 @@
 -- The statements that stand in for a unit's, one after another.
-use Rattle.std.proofs.Common.{◌≡◌, ℕ, suc, ◌+◌, ◌<◌, ◌≤◌, List, [], ◌∷◌, ◌++◌, length, get_or, take, refl, sym, ap, ◌∙◌, arith, length-take}
-use Rattle.std.proofs.lemmas.List.{map-append, take_more}
+use Rattle.std.proofs.Common.{◌≡◌, ℕ, suc, ◌≤◌, List, [], ◌∷◌, length, take, refl, ap, arith, length-take}
 use Rattle.f77_tree.specs.declared.statements.Labelled.{Labelled}
 use Rattle.f77_tree.specs.declared.statements.RawExpr.{RawExpr}
 use Rattle.f77_tree.specs.declared.statements.Stmt.{Stmt}
@@ -14,13 +13,6 @@ stand_in-ThenIf condition stmt = refl
 pub inner-ThenIf : (condition : RawExpr) (stmt : Stmt) → inner (ThenIf condition stmt) ≡ stmt
 unfolding Rattle.f77_tree.specs.declared.statements.Stmt.TheBlock.hidden-the_row-Stmt-0 denote.Hole.Carrier.hidden
 inner-ThenIf condition stmt = refl
-
-pub standing-more : (unit : List Labelled) (i : ℕ) (s : Labelled) (made : Stmt) → i < length unit → s ≡ get_or unit i s → made ≡ stand_in s.stmt
-    → standing_in (take i unit) ++ record { label = s.label; line = s.line; stmt = made } ∷ [] ≡ standing_in (take (i + 1) unit)
-standing-more unit i s made inside stands is =
-    ap (λ (m : Stmt). standing_in (take i unit) ++ record { label = s.label; line = s.line; stmt = m } ∷ []) is
-    ∙ sym (map-append (λ (a : Labelled). record a { stmt = stand_in a.stmt }) (take i unit) (s ∷ []))
-    ∙ ap standing_in (sym (take_more unit i s inside ∙ ap (λ (x : Labelled). take i unit ++ x ∷ []) (sym stands)))
 
 pub standing-length : (xs : List Labelled) → length (standing_in xs) ≡ length xs
 standing-length [] = refl

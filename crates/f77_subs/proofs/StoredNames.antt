@@ -1,6 +1,5 @@
 -- Names of storage and dummies, met one by one.
-use Rattle.std.proofs.Common.{◌≡◌, ℕ, ◌+◌, ◌<◌, Bool, true, false, ◌||◌, cond, List, [], ◌∷◌, ◌++◌, length, get_or, take, drop, fold, refl, sym, ap, ◌∙◌, add-one, drop-cons}
-use Rattle.std.proofs.Math.Seq.{take-suc}
+use Rattle.std.proofs.Common.{◌≡◌, ℕ, ◌+◌, ◌<◌, Bool, true, false, ◌||◌, cond, List, [], ◌∷◌, ◌++◌, length, get_or, take, fold, refl, sym, ap, ◌∙◌}
 use Rattle.std.specs.Prelude.{bytes_eq, filter, flat_map, if◌then◌else◌}
 use Rattle.std.specs.List.{list_any}
 use Rattle.std.proofs.lemmas.List.Sums.{fold-append}
@@ -45,27 +44,6 @@ storage-more unit i s said inside stands is =
     ap (λ (told : Described). fold with_name (each_once (flat_map (here unit) (take i unit))) (stored (is_array_told told) s.stmt)) is
     ∙ sym (fold-append with_name [] (flat_map (here unit) (take i unit)) (here unit s))
     ∙ ap each_once (sym (flat_map_taken (here unit) unit i s inside stands))
-
--- ---- names that stand twice
-
-pub repeat-more : (names : List (List ℕ)) (i : ℕ) (x : List ℕ) → i < length names → x ≡ get_or names i x → list_any (bytes_eq x) (take i names) ≡ false
-    → has_repeat bytes_eq (take i names) (drop i names) ≡ has_repeat bytes_eq (take (i + 1) names) (drop (i + 1) names)
-repeat-more names i x lt is none =
-    rw (add-one, take-suc names i x lt, drop-cons names i x lt, ← is, none) refl
-
-pub repeat-here : (names : List (List ℕ)) (i : ℕ) (x : List ℕ) → i < length names → x ≡ get_or names i x → list_any (bytes_eq x) (take i names) ≡ true → has_repeat bytes_eq (take i names) (drop i names) ≡ true
-repeat-here names i x lt is some =
-    rw (drop-cons names i x lt, ← is, some) refl
-
-drop_all : {A : Type 0} (xs : List A) → drop (length xs) xs ≡ []
-drop_all [] = refl
-drop_all (x ∷ xs) = drop_all xs
-
-pub repeat-end : (names seen : List (List ℕ)) → has_repeat bytes_eq seen (drop (length names) names) ≡ false
-repeat-end names seen = ap (has_repeat bytes_eq seen) (drop_all names)
-
-pub taken-more : (names : List (List ℕ)) (i : ℕ) (x : List ℕ) → i < length names → x ≡ get_or names i x → take i names ++ x ∷ [] ≡ take (i + 1) names
-taken-more names i x lt is = rw (add-one, take-suc names i x lt, ← is) refl
 
 -- ---- names that are told once are those that are told
 

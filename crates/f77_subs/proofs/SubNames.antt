@@ -30,9 +30,6 @@ pub record AreAbove (stmts : List Labelled) (i : ℕ) (names : List (List ℕ)) 
   pub first : first_line is_sub_again stmts ≡ first_after is_sub_again (take i stmts) (drop i stmts)
   pub same : (x : List ℕ) → list_any (bytes_eq x) names ≡ list_any (is_sub_of x) (take i stmts)
 
-pub names-none : (stmts : List Labelled) → AreAbove stmts 0 []
-names-none stmts = record { first = refl; same = λ x. refl }
-
 module _ (stmts : List Labelled) (i : ℕ) (names : List (List ℕ)) (above : AreAbove stmts i names) where
   told-is : (name : Option (List ℕ)) → is_told names name ≡ is_one_of name (take i stmts)
   told-is None = refl

@@ -40,9 +40,6 @@ module _ (us : List (List Labelled)) (limit : ℕ) (counts : List ℕ) (k : ℕ)
     pub first : option_map (λ (n : NewLabel). n.first) found ≡ (if nat_lt (statement_of stmts l) (length stmts) then Some (number stmts (statement_of stmts l)) else None)
     pub last : option_map (λ (n : NewLabel). n.last) found ≡ (if nat_lt (statement_of stmts l) (length stmts) then Some (number stmts (statement_of stmts l) + behind stmts (statement_of stmts l)) else None)
 
-  pub told-none : (l : ℕ) → Told [] l None
-  told-none l = record { first = refl; last = refl }
-
   inside-if : (stmts : List Labelled) (l : ℕ) (n : NewLabel) → Told stmts l (Some n) → (statement_of stmts l) < length stmts
   inside-if stmts l n told = ⊎_elim
       (λ (h : nat_lt (statement_of stmts l) (length stmts) ≡ true). ltb-true (statement_of stmts l) (length stmts) h)
@@ -63,9 +60,6 @@ module _ (us : List (List Labelled)) (limit : ℕ) (counts : List ℕ) (k : ℕ)
 
     abbrev place : ℕ
     place = statement_of stmts l
-
-    most : place ≤ length stmts
-    most = prefix_len-le-length (λ (x : Labelled). not (x.label == l)) stmts
 
     as_many : length more ≡ length stmts + 1
     as_many = length_push stmts s

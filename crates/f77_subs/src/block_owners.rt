@@ -1,7 +1,6 @@
 //! The first unit that has a COMMON block.
-ghost use Rattle.std.specs.Prelude.{◌≡◌, ℕ, List, Option, None, length, bytes_eq, IfOk, OnOk};
+ghost use Rattle.std.specs.Prelude.{◌≡◌, ℕ, List, Option, None, IfOk, OnOk};
 ghost use Rattle.std.specs.List.{list_any, position_or_len};
-ghost use Rattle.indexmap.specs.IndexMap.{get};
 ghost use Rattle.f77_tree.specs.Places.{same_block};
 ghost use Rattle.layout_rules.specs.Faults.{answer_or};
 ghost use Rattle.f77_subs.specs.Names.{has_block};

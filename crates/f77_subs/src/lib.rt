@@ -10,7 +10,6 @@ mod call_rows;
 mod changed;
 mod changed_stmts;
 mod changes;
-mod copy_laws;
 mod copying;
 mod declaring;
 mod dummies;
@@ -46,7 +45,6 @@ mod unit_laws;
 mod unit_lines;
 mod unit_names;
 mod unit_order;
-mod unit_refusals;
 mod unit_said;
 mod unit_table;
 mod unit_tables;
@@ -65,4 +63,3 @@ pub use unit_laws::{
     names_of_texts_are_short, own_names_are_new, short_names_are_new, stand_ins_are_given,
     units_are_sources, units_end_once,
 };
-pub use unit_refusals::first_refusal;

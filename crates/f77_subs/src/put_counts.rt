@@ -2,7 +2,7 @@
 ghost use Rattle.std.specs.Prelude.{◌≡◌, ◌+◌, ◌-◌, ◌<◌, ◌≤◌, ℕ, List, Option, false, cond, filter, length, min, slice_index_or, IfOk};
 ghost use Rattle.std.specs.List.{list_any, count_by};
 ghost use Rattle.f77_tree.specs.Places.{same_block};
-ghost use Rattle.f77_subs.specs.Expansion.{blocks as blocks_of, is_running as is_running_of, put_in};
+ghost use Rattle.f77_subs.specs.Expansion.{is_running as is_running_of, put_in};
 ghost use Rattle.f77_subs.specs.Names.{has_block, y_entities};
 ghost use Rattle.f77_subs.specs.PutCounts.{is_added_by, is_put as is_put_of, storage_below, storage_of};
 ghost use Rattle.f77_subs.specs.PutIn.{is_run_block};

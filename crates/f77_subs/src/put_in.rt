@@ -15,11 +15,10 @@ use crate::entity::{Entity, copy_of_block};
 use crate::new_names::NewNames;
 use crate::put_blocks::{all_blocks, first_units, running_blocks};
 use crate::put_storage::{put_datas_if, put_ties_if};
-use crate::splitting::Units;
 use crate::text_names::Blocks;
 use crate::unit_lines::line_of_end;
 use df_sequence::{NoMemory, Sequence};
-use f77_tree::{CommonPart, Labelled, LabelledList, Name, Stmt};
+use f77_tree::{CommonPart, LabelledList, Name, Stmt};
 use indexmap::IndexMap;
 use std::alloc::Global;
 

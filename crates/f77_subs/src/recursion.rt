@@ -1,11 +1,11 @@
 //! Subroutines that call themselves.
-ghost use Rattle.std.specs.Prelude.{◌≡◌, ◌+◌, ◌<◌, ◌≤◌, ◌++◌, ◌^◌, ℕ, List, length, map, replicate, bytes_eq, false, IfOk, OnOk, slice_get, slice_index_or};
+ghost use Rattle.std.specs.Prelude.{◌≡◌, ◌+◌, ◌<◌, ◌≤◌, ◌++◌, ◌^◌, ℕ, List, length, replicate, bytes_eq, false, IfOk, OnOk, slice_get, slice_index_or};
 ghost use Rattle.std.specs.List.{range_with_len};
 ghost use Rattle.indexmap.specs.IndexMap.{get};
 ghost use Rattle.closed_walks.specs.Graph.{edge_count};
 ghost use Rattle.layout_rules.specs.Faults.{first_answer};
 ghost use Rattle.layout_rules.specs.Layout.{line_or_none};
-ghost use Rattle.f77_subs.specs.Units.{call_by, reaches, unit_at, unit_of as unit_of_name};
+ghost use Rattle.f77_subs.specs.Units.{call_by, reaches, unit_of as unit_of_name};
 ghost use Rattle.f77_subs.specs.CallTable.{callee_of, callees, unit_named};
 ghost use Rattle.f77_subs.specs.CallGraph.{call_graph as call_graph_of, edges_from};
 ghost use Rattle.f77_subs.specs.Refusals.{recursion};

@@ -1,5 +1,5 @@
 //! What is kept of the names of units.
-ghost use Rattle.std.specs.Prelude.{◌≡◌, bytes_eq, IfOk};
+ghost use Rattle.std.specs.Prelude.{◌≡◌, IfOk};
 ghost use Rattle.f77_subs.specs.UnitEntities.{AreNamesOf, AreNamesOfAll, entity_by};
 
 use crate::dummy_places::dummy_places;

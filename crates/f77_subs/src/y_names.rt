@@ -1,5 +1,5 @@
 //! Names that a text doesn't have: Y and five digits.
-ghost use Rattle.std.specs.Prelude.{◌≡◌, ◌++◌, if◌then◌else◌, [], ◌∷◌, not, IfOk, OnOk};
+ghost use Rattle.std.specs.Prelude.{◌≡◌, ◌++◌, if◌then◌else◌, [], ◌∷◌, IfOk, OnOk};
 ghost use Rattle.f77_subs.specs.Names.{y_text, zeros as zeros_of};
 ghost use Rattle.f77_subs.specs.NewNames.{AreFree, is_free_of};
 

@@ -98,11 +98,6 @@ Read-IsExpression names access is =
     let items = items_hidden-the_row-Expr-0 access.subs in
     (is.known, row_length-items row.0 row.1 ∙ ap length items ∙ is.as_many, items-AllExpressions names row.0 row.1 (subst (λ (es : List Expr). All (IsExpression names) es) (sym items) is.subscripts))
 
--- an operator at two operands
-pub IsExpression-two : (names : List NameInfo) (op : Op) (a b : Expr) (args : List Expr) → args ≡ a ∷ b ∷ [] → arity_of op ≡ 2 → IsExpression names a → IsExpression names b → IsExpression names (Apply op args)
-IsExpression-two names op a b args is two first second =
-    Apply-IsExpression names op args (ap length is ∙ sym two) (subst (All (IsExpression names)) (sym is) (All-cons (IsExpression names) a (b ∷ []) first (All-cons (IsExpression names) b [] second (λ k d lt. absurd (omega (arith, lt))))))
-
 pub arity_of-le : (op : Op) → arity_of op ≤ 3
 arity_of-le Neg = omega arith
 arity_of-le Not = omega arith
@@ -131,11 +126,6 @@ after_before xs y (Ok ys) = ap Ok (sym (append_assoc xs (y ∷ []) ys))
 pub values_after-next : (f : Expr → Result ℤ Trap) (es : List Expr) (i : ℕ) (e : Expr) (xs : List ℤ) (y : ℤ) → i < length es → e ≡ get_or es i e → f e ≡ Ok y → values_after xs (all_values (map f (drop i es))) ≡ values_after (xs ++ y ∷ []) (all_values (map f (drop (i + 1) es)))
 values_after-next f es i e xs y lt is was =
     rw (add-one, drop-cons es i e, ← is, was) (after_before xs y (all_values (map f (drop (suc i) es))))
-
--- the next operand traps
-pub values_after-trap : (f : Expr → Result ℤ Trap) (es : List Expr) (i : ℕ) (e : Expr) (xs : List ℤ) (trap : Trap) → i < length es → e ≡ get_or es i e → f e ≡ Err trap → values_after xs (all_values (map f (drop i es))) ≡ Err trap
-values_after-trap f es i e xs trap lt is was =
-    rw (drop-cons es i e, ← is, was) refl
 
 pub values_after-none : (values : Result (List ℤ) Trap) → values_after [] values ≡ values
 values_after-none (Err trap) = refl

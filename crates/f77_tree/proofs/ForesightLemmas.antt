@@ -1,5 +1,5 @@
 -- What is known of operands and subscripts, over lists.
-use Rattle.std.proofs.Common.{◌≡◌, ℕ, zero, suc, ◌+◌, ◌<◌, ◌≤◌, ℤ, List, [], ◌∷◌, ◌++◌, length, get_or, map, take, drop, Option, Bool, true, false, ◌||◌, Any, inl, inr, ⊎_elim, refl, sym, ap, subst, ◌∙◌, add-one, drop-cons, length-append, arith}
+use Rattle.std.proofs.Common.{◌≡◌, ℕ, zero, suc, ◌+◌, ◌<◌, ◌≤◌, ℤ, List, [], ◌∷◌, ◌++◌, length, get_or, map, take, drop, Option, Bool, true, false, ◌||◌, Any, inl, inr, ⊎_elim, refl, sym, ap, subst, ◌∙◌, length-append, arith}
 use Rattle.std.specs.Prelude.{◌⊎◌, ◌↔◌, IsTrue}
 use Rattle.std.proofs.lemmas.Bool.{cases_lt}
 use Rattle.std.proofs.lemmas.List.{take_more, take_all, map-append, get_or_append_left, get_or_push}
@@ -79,10 +79,6 @@ or-tells a b {A} {B} one other = (
   λ some. ⊎_elim (λ x. true_or a b (one.1 x)) (λ y. or_of_true a b (other.1 y)) some,
 )
 
--- no item stands before the first
-pub none-yet : {X : Type 0} (P : X → Type 0) (xs : List X) → IsTrue false ↔ Any P (take 0 xs)
-none-yet P xs = (λ (is : false ≡ true). absurd cc, λ some. absurd (Any-none P some))
-
 -- one item more
 pub one-more : {X : Type 0} (P : X → Type 0) (xs : List X) (i : ℕ) (x : X) (before here : Bool) → i < length xs → x ≡ get_or xs i x → IsTrue before ↔ Any P (take i xs) → IsTrue here ↔ P x → IsTrue (before || here) ↔ Any P (take (i + 1) xs)
 one-more P xs i x before here lt at so_far one =
@@ -91,12 +87,6 @@ one-more P xs i x before here lt at so_far one =
       λ is. subst (Any P) (sym prefix) (⊎_elim (λ some. Any-prefix P (take i xs) x some) (λ p. Any-last P (take i xs) x p) (both.0 is)),
       λ some. both.1 (Any-either P (take i xs) x (subst (Any P) prefix some)),
     )
-
--- all items
-pub all-done : {X : Type 0} (P : X → Type 0) (xs : List X) (i : ℕ) (b : Bool) → length xs ≤ i → IsTrue b ↔ Any P (take i xs) → IsTrue b ↔ Any P xs
-all-done P xs i b end so_far =
-    let whole = take_all i xs end in
-    (λ is. subst (Any P) whole (so_far.0 is), λ some. so_far.1 (subst (Any P) (sym whole) some))
 
 -- what is known of one operand more
 pub known-more : (es : List Expr) (i : ℕ) (e : Expr) (ks : List (Option ℤ)) → i < length es → e ≡ get_or es i e → ks ≡ map known (take i es) → ks ++ known e ∷ [] ≡ map known (take (i + 1) es)
@@ -167,13 +157,6 @@ module _ (names : List NameInfo) where
   -- the subscripts from k on
   abbrev pub TrapsFrom : List Dim → List Expr → ℕ → Type 0
   TrapsFrom dims subs k = ListMayTrap (drop k dims) (drop k subs)
-
-  pub traps-split : (dims : List Dim) (subs : List Expr) (k : ℕ) (dim : Dim) (e : Expr) → k < length dims → k < length subs → dim ≡ get_or dims k dim → e ≡ get_or subs k e → TrapsFrom dims subs k ↔ (OneMayTrap dim e ⊎ TrapsFrom dims subs (k + 1))
-  traps-split dims subs k dim e lt_dim lt_sub at_dim at_sub =
-      let ds : drop k dims ≡ dim ∷ drop (k + 1) dims = drop-cons dims k dim lt_dim ∙ ap (λ d. d ∷ drop (suc k) dims) (sym at_dim) ∙ ap (λ j. dim ∷ drop j dims) (sym (add-one k)) in
-      let es : drop k subs ≡ e ∷ drop (k + 1) subs = drop-cons subs k e lt_sub ∙ ap (λ x. x ∷ drop (suc k) subs) (sym at_sub) ∙ ap (λ j. e ∷ drop j subs) (sym (add-one k)) in
-      let same : TrapsFrom dims subs k ≡ (OneMayTrap dim e ⊎ TrapsFrom dims subs (k + 1)) = ap (λ xs. ListMayTrap xs (drop k subs)) ds ∙ ap (λ xs. ListMayTrap (dim ∷ drop (k + 1) dims) xs) es in
-      (λ may. subst (λ (X : Type 0). X) same may, λ may. subst (λ (X : Type 0). X) (sym same) may)
 
 -- ---- an operator, after all its operands
 

@@ -2,7 +2,6 @@ pub mod AddedNames
 pub mod AddedPlaces
 pub mod AddedWords
 pub mod Agreement
-pub mod AlikeLaws
 pub mod AllLemmas
 pub mod Coverage
 pub mod DialectLaws

@@ -1,21 +1,13 @@
 -- Laws of lines: the line of items is the line of their values, it ends with its line feed, and it has no more characters
 -- than there is room for.
-use Rattle.std.proofs.Common.{◌≡◌, ℕ, ◌≤◌, ℤ, pos, negsuc, Bool, true, false, List, [], ◌∷◌, ◌++◌, length, map, None, Result, Ok, Err, All, refl, sym, ap, ◌∙◌, append_assoc, arith}
-use Rattle.std.specs.Prelude.{if◌then◌else◌}
-use Rattle.std.proofs.lemmas.Fmt.{length_signed_le}
-use Rattle.std.proofs.lemmas.Int.{ints}
-use Rattle.std.proofs.lemmas.List.{length-append}
+use Rattle.std.proofs.Common.{◌≡◌, ℕ, ℤ, List, [], ◌∷◌, ◌++◌, map, None, Result, Ok, Err, refl, sym, ap, ◌∙◌, append_assoc}
 use Rattle.op_table.specs.declared.Trap.{Trap}
-use Rattle.op_table.specs.Words.{IsWord, is_true}
-use Rattle.f77_tree.specs.declared.declarations.Kind.{Kind}
-use Rattle.f77_tree.specs.declared.declarations.Kind.TheVariants.{Integer, Logical}
 use Rattle.f77_tree.specs.declared.expressions.Expr.{Expr}
 use Rattle.f77_tree.specs.declared.programs.Item.{Item}
 use Rattle.f77_tree.specs.declared.programs.Item.TheVariants.{Value, Chars}
 use Rattle.f77_tree.specs.declared.programs.NameInfo.{NameInfo}
 use Rattle.f77_tree.specs.Value.{value, and_then, value_before, all_values}
-use Rattle.f77_tree.specs.Line.{text_of, kind_of_expression, item_text, item_before, line_of_texts, line_of, IsLine, item_values, line_with, line_room}
-use Rattle.f77_tree.proofs.AllLemmas.{All-first, All-rest}
+use Rattle.f77_tree.specs.Line.{text_of, kind_of_expression, item_text, item_before, line_of_texts, line_of, IsLine, item_values, line_with}
 
 -- ---- values
 
@@ -55,31 +47,3 @@ texts-line (text ∷ texts) line is = text-first text (line_of_texts texts) line
 -- a line that is written ends with its line feed
 pub line-feed : (names : List NameInfo) (store : List ℤ) (items : List Item) (line : List ℕ) → line_of names store items ≡ Ok line → IsLine line
 line-feed names store items line is = texts-line (map (item_text names store) items) line is
-
--- ---- room
-
-truth-room : (b : Bool) → length {A = ℕ} (if b then 84 ∷ [] else (70 ∷ [])) ≤ 11
-truth-room true = omega arith
-truth-room false = omega arith
-
--- a word has eleven characters at most
-pub text-room : (kind : Kind) (z : ℤ) → IsWord z → length (text_of kind z) ≤ 11
-text-room Integer (pos n) word = length_signed_le 10 (pos n) (omega (arith, ints, word)) (omega (arith, ints, word))
-text-room Integer (negsuc n) word = length_signed_le 10 (negsuc n) (omega (arith, ints, word)) (omega (arith, ints, word))
-text-room Logical z word = truth-room (is_true z)
-
--- a line of words has no more characters than there is room for
-pub line-fits : (names : List NameInfo) (items : List Item) (zs : List ℤ) → All IsWord zs → length (line_with names items zs) ≤ line_room items
-line-fits names [] zs words = omega arith
-line-fits names (Chars text ∷ items) zs words =
-    let rest = line-fits names items zs words in
-    let whole = length-append text (line_with names items zs) in
-    omega (arith, rest, whole)
-line-fits names (Value e ∷ items) [] words =
-    let rest = line-fits names items [] words in
-    omega (arith, rest)
-line-fits names (Value e ∷ items) (z ∷ zs) words =
-    let first = text-room (kind_of_expression names e) z (All-first IsWord z zs words) in
-    let rest = line-fits names items zs (All-rest IsWord z zs words) in
-    let whole = length-append (text_of (kind_of_expression names e) z) (line_with names items zs) in
-    omega (arith, first, rest, whole)

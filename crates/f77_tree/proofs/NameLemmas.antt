@@ -1,5 +1,5 @@
 -- Names that are found in the table.
-use Rattle.std.proofs.Common.{◌≡◌, ℕ, suc, ◌+◌, ◌<◌, ◌&&◌, List, [], ◌∷◌, length, Bool, true, false, Option, Some, None, refl, ap, subst, arith}
+use Rattle.std.proofs.Common.{◌≡◌, ℕ, suc, ◌+◌, ◌<◌, List, [], ◌∷◌, length, Bool, true, false, Option, Some, None, refl, ap, subst, arith}
 use Rattle.std.specs.Prelude.{slice_get, bytes_eq, nat_eq, not, cond}
 use Rattle.std.specs.Cmp.{unsigned_Decides}
 use Rattle.f77_tree.specs.declared.programs.NameInfo.{NameInfo}

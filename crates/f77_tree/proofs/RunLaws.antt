@@ -1,12 +1,11 @@
 -- Laws of runs: what a step reads and changes, and how runs end.
-use Rattle.std.proofs.Common.{◌≡◌, ◌≢◌, ℕ, zero, suc, ◌+◌, ◌-◌, ◌<◌, ◌≤◌, ℤ, List, [], ◌++◌, Option, Some, None, slice_get, refl, sym, ap, ◌∙◌, append_assoc, append-nil, subst, ⊎_elim, arith}
-use Rattle.std.proofs.lemmas.Bool.{cases_lt}
+use Rattle.std.proofs.Common.{◌≡◌, ℕ, zero, suc, ◌+◌, ℤ, List, [], ◌++◌, Option, Some, None, slice_get, refl, sym, ap, ◌∙◌, append_assoc, append-nil, subst, arith}
 use Rattle.op_table.specs.declared.Trap.{Trap}
 use Rattle.f77_tree.specs.declared.programs.Exec.{Exec}
 use Rattle.f77_tree.specs.declared.programs.Program.{Program}
 use Rattle.f77_tree.specs.Execution.{Outcome, Goes, Stops, Ends, outcome}
 use Rattle.f77_tree.specs.Prefixes.{IsPrefix}
-use Rattle.f77_tree.specs.Run.{Mark, Running, Ended, Trapped, State, after, executed_at, step_from, step, source, out, StopsFirst}
+use Rattle.f77_tree.specs.Run.{Mark, Running, Ended, Trapped, State, after, executed_at, step_from, step, source, out}
 
 -- ---- more was written
 
@@ -20,15 +19,6 @@ after-out : (x : State) (line : ℕ) (o : Outcome) → IsPrefix x.out (after x l
 after-out x line (Goes next memory text) = record { more = text; is = refl }
 after-out x line (Stops trap) = grows_not x.out
 after-out x line Ends = grows_not x.out
-
--- a state with other output before its own
-abbrev pub written_before : List ℕ → State → State
-written_before text x = record x { out = text ++ x.out }
-
-after-before : (text : List ℕ) (x : State) (line : ℕ) (o : Outcome) → after (written_before text x) line o ≡ written_before text (after x line o)
-after-before text x line (Goes next memory line_text) = ap (λ (xs : List ℕ). record x { position = next; memory = memory; out = xs }) (append_assoc text x.out line_text)
-after-before text x line (Stops trap) = refl
-after-before text x line Ends = refl
 
 module _ (p : Program) (input : List ℤ) where
   -- ---- a run that has ended or trapped stays as it is
@@ -74,29 +64,3 @@ module _ (p : Program) (input : List ℤ) where
   out-grows n (suc k) =
       let e : suc (k + n) ≡ suc k + n = omega arith in
       subst (λ m. IsPrefix (out p input n) (out p input m)) e (grows_on _ _ _ (out-grows n k) (step-out (source p input (k + n))))
-
-  executed-before : (text : List ℕ) (x : State) (exec : Option Exec) → executed_at p input (written_before text x) exec ≡ written_before text (executed_at p input x exec)
-  executed-before text x None = refl
-  executed-before text x (Some exec) = after-before text x exec.line (outcome p.names input x.memory exec.kind)
-
-  step_from-before : (text : List ℕ) (x : State) (mark : Mark) → step_from p input (written_before text x) mark ≡ written_before text (step_from p input x mark)
-  step_from-before text x Running = executed-before text x (slice_get p.execs x.position)
-  step_from-before text x Ended = refl
-  step_from-before text x (Trapped trap line) = refl
-
-  -- other output before a state's own stands before it after a step too
-  pub step-before : (text : List ℕ) (x : State) → step p input (written_before text x) ≡ written_before text (step p input x)
-  step-before text x = step_from-before text x x.mark
-
-  -- ---- a run ends or traps at one step only
-
-  pub stops-once : (n k : ℕ) (mark : Mark) → mark ≢ Running → StopsFirst p input n mark → (source p input k).mark ≢ Running → n ≤ k
-  stops-once n k mark other first at = ⊎_elim (λ (is : k < n). absurd (at (first.before k is))) (λ is. omega (arith, is)) (cases_lt k n)
-
-  -- no step runs once the run has stopped
-  pub stopped-before : (n m : ℕ) → m < n → (source p input n).mark ≡ Running → (source p input m).mark ≢ Ended
-  stopped-before n m lt is ended =
-      let e : (n - m) + m ≡ n = omega (arith, lt) in
-      let there : (source p input n).mark ≡ Ended = ap (λ k. (source p input k).mark) (sym e) ∙ ap (λ (x : State). x.mark) (source-ended m (n - m) ended) ∙ ended in
-      let both : Running ≡ Ended = sym is ∙ there in
-      absurd cc

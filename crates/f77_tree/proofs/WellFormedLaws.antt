@@ -1,6 +1,6 @@
 -- What a well-formed program gives to the crates that work on it: each step of it reads and writes only what there is.
-use Rattle.std.proofs.Common.{◌≡◌, ℕ, zero, suc, ◌<◌, ℤ, Option, Ok, pos, List, [], ◌∷◌, ◌++◌, length, get_or, Some, ◌⊎◌, inl, inr, refl, sym, ap, subst, ◌∙◌, arith}
-use Rattle.std.specs.Prelude.{All, Contains, slice_get, ◌≤ℤ◌, ◌+ℤ◌}
+use Rattle.std.proofs.Common.{◌≡◌, ℕ, zero, suc, ◌<◌, pos, List, [], ◌∷◌, ◌++◌, length, get_or, Some, ◌⊎◌, inl, inr, refl, sym, ap, subst, ◌∙◌, arith}
+use Rattle.std.specs.Prelude.{All, slice_get, ◌≤ℤ◌, ◌+ℤ◌}
 use Rattle.std.proofs.lemmas.Int.{ints}
 use Rattle.op_table.specs.declared.Op.TheVariants.{Truth}
 use Rattle.f77_tree.specs.declared.declarations.Kind.{Kind}
@@ -15,18 +15,16 @@ use Rattle.f77_tree.specs.declared.programs.Exec.{Exec}
 use Rattle.f77_tree.specs.declared.programs.ExecKind.{ExecKind}
 use Rattle.f77_tree.specs.declared.programs.ExecKind.TheVariants.{Assign, Print, Pass, Test, Sign, Pick, DoStart, DoNext, End}
 use Rattle.f77_tree.specs.declared.programs.Program.{Program}
-use Rattle.f77_tree.specs.Value.{place, place_of, kind_of, dims_of, size_of, place_in, dims_in, IsExpression, IsAccess, ArePlaced}
+use Rattle.f77_tree.specs.Value.{place_of, kind_of, dims_of, size_of, place_in, dims_in, IsExpression, IsAccess, ArePlaced}
 use Rattle.f77_tree.specs.CanRun.{CanRun, CanExecute, IsNext, CanLoop, CanPrint}
 use Rattle.f77_tree.specs.Declarations.{IsNameInfo, IsDim, IsIntegerScalar}
 use Rattle.f77_tree.specs.Kinds.{IsOfKind, IsProperAccess, IsAssignment, taken_as}
 use Rattle.f77_tree.specs.Control.{successors}
-use Rattle.f77_tree.specs.Loops.{Loop, begun, incremented, begun_in, incremented_in, begun_at, incremented_at}
-use Rattle.f77_tree.specs.Places.{Equation, IsWordOf, end_of, equations}
+use Rattle.f77_tree.specs.Loops.{Loop, begun, incremented, begun_in, incremented_in}
+use Rattle.f77_tree.specs.Places.{end_of}
 use Rattle.f77_tree.specs.WellFormed.{IsWellFormed, IsExecutable, IsProperItem}
 use Rattle.f77_tree.proofs.AllLemmas.{All-nil, All-cons, All-get, All-first, All-rest}
-use Rattle.f77_tree.proofs.Coverage.{Touches, covered}
-use Rattle.f77_tree.proofs.Equations.{TouchesIfEqual, equations-touch, size-one}
-use Rattle.f77_tree.proofs.Places.{place-inside}
+use Rattle.f77_tree.proofs.Equations.{size-one}
 use Rattle.f77_tree.proofs.ExpressionLemmas.{Apply-IsExpression}
 use Rattle.f77_tree.proofs.KindLemmas.{IsProper-expression, IsProper-element}
 
@@ -145,35 +143,3 @@ table-bounds (info ∷ names) all (suc x) lt = table-bounds names (All-rest IsNa
 -- each name of a well-formed program has a word
 pub well_formed-size : (p : Program) → IsWellFormed p → (x : ℕ) → x < length p.names → pos 1 ≤ℤ size_of (dims_of p.names x)
 well_formed-size p is = size-one p.names (table-bounds p.names is.declarations.table)
-
--- each word of a well-formed program is a word of some name
-pub well_formed-covered : (p : Program) → IsWellFormed p → (word : ℕ) → word < p.words → (x : ℕ) × IsWordOf p.names x word
-well_formed-covered p is word lt =
-    covered p.names p.commons (equations p.names p.commons p.groups) p.words is.places touch (well_formed-size p is) word lt
-  where
-    touch : (e : Equation) → Contains (equations p.names p.commons p.groups) e → Touches p.names e
-    touch e at =
-        let all = equations-touch p.names (table-bounds p.names is.declarations.table) p.commons p.groups is.declarations.common is.declarations.equivalence in
-        subst (λ q. TouchesIfEqual p.names (table-bounds p.names is.declarations.table) q) at.2 (all at.0 e at.1) (is.places.equal e at)
-
--- ---- loops
-
--- the DO n of a well-formed program begins at one executable alone
-pub well_formed-one_start : (p : Program) → IsWellFormed p → (j k : ℕ) (a b : Loop) → begun_at p.execs j ≡ Some a → begun_at p.execs k ≡ Some b → a.number ≡ b.number → j ≡ k
-well_formed-one_start p is j k a b at_j at_k same =
-    let loop = is.execs.loops_nest.each b.number (is.execs.loops_nest.starts k b at_k) in
-    loop.one_start j a at_j same ∙ sym (loop.one_start k b at_k refl)
-
--- the DO n of a well-formed program is incremented at one executable alone
-pub well_formed-one_next : (p : Program) → IsWellFormed p → (j k : ℕ) (a b : Loop) → incremented_at p.execs j ≡ Some a → incremented_at p.execs k ≡ Some b → a.number ≡ b.number → j ≡ k
-well_formed-one_next p is j k a b at_j at_k same =
-    let loop = is.execs.loops_nest.each b.number (is.execs.loops_nest.nexts k b at_k) in
-    loop.one_next j a at_j same ∙ sym (loop.one_next k b at_k refl)
-
--- ---- accesses
-
--- an access of a well-formed program whose subscripts have values within their bounds names a word of the program
-pub well_formed-access : (p : Program) (store : List ℤ) (next : Option ℤ) (access : Access) (word : ℕ) → IsWellFormed p → IsProperAccess p.names access → length store ≡ p.words → place p.names store next access ≡ Ok word → word < p.words
-well_formed-access p store next access word is proper whole at =
-    let placed = subst (λ words. ArePlaced p.names words) (sym whole) (well_formed-placed p is) in
-    subst (λ words. word < words) whole (place-inside p.names store next access word placed (access-of p.names access proper) at)

@@ -215,9 +215,3 @@ abbrev mutual
 pub record IsWritten (text : List ℕ) (w : Written) : Type 0 where
   pub grammatical : IsGrammatical w
   pub is : spelling w ≡ text
-
--- a text that is read as an expression
-pub record IsExpressionText (text : List ℕ) (e : RawExpr) : Type 0 where
-  pub written : Written
-  pub spells : IsWritten text written
-  pub is : reading written ≡ e

@@ -20,7 +20,6 @@ pub mod Results
 pub mod Run
 pub mod StatementGrammar
 pub mod Steps
-pub mod Straight
 pub mod Touched
 pub mod Value
 pub mod WellFormed

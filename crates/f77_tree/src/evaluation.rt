@@ -1,4 +1,4 @@
-ghost use Rattle.std.specs.Prelude.{◌≡◌, ◌<ℤ◌, ◌≤ℤ◌, ◌*ℤ◌, pos, length};
+ghost use Rattle.std.specs.Prelude.{◌≡◌, ◌<ℤ◌, ◌≤ℤ◌, pos, length};
 ghost use Rattle.f77_tree.specs.Value.{value, place, moved, read_as, extent, IsExpression, IsAccess, ArePlaced};
 
 use crate::{Access, Dim, Expr, Kind, NameInfoList};

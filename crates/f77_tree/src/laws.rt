@@ -1,6 +1,6 @@
 //! Laws on runs, and on what executables read and change, as contracts of functions that do nothing.
 
-ghost use Rattle.std.specs.Prelude.{◌≡◌, ◌≢◌, ◌≤◌, ◌<◌, ◌↔◌, Bool, true, false, ℕ, ◌+◌, ℤ, List, ◌++◌, All, Contains, Any, flat_map, length, Option, Some, None, Ok, slice_get, slice_index};
+ghost use Rattle.std.specs.Prelude.{◌≡◌, ◌≢◌, ◌≤◌, ◌<◌, ◌↔◌, Bool, true, false, ℕ, ◌+◌, ℤ, List, ◌++◌, All, Contains, Any, flat_map, length, Option, Some, Ok, slice_get, slice_index};
 ghost use Rattle.op_table.specs.declared.Trap.{Trap};
 ghost use Rattle.op_table.specs.Words.{IsWord};
 ghost use Rattle.f77_tree.specs.declared.declarations.Dim.{Dim};

@@ -43,11 +43,6 @@ module _ {M P : Type 0} {sound : M → Type 0} {s : Moves M} {course : Course M 
   none_due order m None some is_sound step none is = absurd (some refl)
   none_due order m (Some p) some is_sound step none is = order.over m p is_sound (step none) none is
 
--- what a system tells of its control
-pub some_control : {P : Type 0} (c : Option P) → true ≡ is_some c → c ≢ None
-some_control None is = absurd cc
-some_control (Some p) is = λ e. absurd cc
-
 pub lost_control : {P : Type 0} (c : Option P) → false ≡ is_some c → c ≡ None
 lost_control None is = refl
 lost_control (Some p) is = absurd cc

@@ -1,5 +1,5 @@
 -- Counts of members by blocks: what they add up to, and how a member that comes or goes changes them.
-use Rattle.std.proofs.Common.{◌≡◌, ◌≢◌, ◌⊎◌, inl, inr, ℕ, zero, suc, ◌+◌, ◌-◌, ◌*◌, ◌/◌, ◌<◌, ◌≤◌, ◌^◌, Bool, true, false, List, length, get_or, set, replicate, refl, sym, ap, subst, ◌∙◌, ⊎_elim, add-one, arith, length-set}
+use Rattle.std.proofs.Common.{◌≡◌, ◌≢◌, ℕ, zero, suc, ◌+◌, ◌-◌, ◌*◌, ◌/◌, ◌<◌, ◌≤◌, ◌^◌, Bool, true, false, List, length, get_or, set, replicate, refl, sym, ap, subst, ◌∙◌, ⊎_elim, arith, length-set}
 use Rattle.std.proofs.lemmas.Bool.{cases_eq, cases_Bool, cases_lt}
 use Rattle.std.proofs.lemmas.List.{length-replicate, get_or_past, get_or-set_same, get_or-set_other}
 use Rattle.std.proofs.Math.Nat.{mul-suc, mul-zero, mul-le-mul_left}
@@ -8,16 +8,6 @@ use Rattle.firing.specs.ReadySet.{has, rank, member_count}
 use Rattle.firing.proofs.RankLemmas.{HasOneMore, rank_past, rank_slow, rank_member, rank_short, rank_before, rank_after, rank_empty, more_put, more_taken}
 
 -- ---- sums of counts
-
-pub before_next : (counts : List ℕ) (n : ℕ) → before counts (n + 1) ≡ before counts n + get_or counts n 0
-before_next counts n = rw add-one refl
-
--- a sum that falls short ends within
-pub before_inside : (counts : List ℕ) (b left : ℕ) → b ≤ length counts → before counts b + left < before counts (length counts) → b < length counts
-before_inside counts b left within short = ⊎_elim
-    (λ (same : b ≡ length counts). let e : before counts b ≡ before counts (length counts) = ap (before counts) same in absurd (omega (arith, short, e)))
-    (λ differ. omega (arith, within, differ))
-    (cases_eq b (length counts))
 
 module _ (width : ℕ) (counts : List ℕ) (flags : List Bool) (are : AreCounts width counts flags) where
   pub before_rank : (b : ℕ) → b ≤ length counts → before counts b ≡ rank flags (width * b)
@@ -54,17 +44,6 @@ module _ (width : ℕ) (counts : List ℕ) (flags : List Bool) (are : AreCounts 
       let covered = are.covered in
       absurd (omega (arith, inside, low, le, covered)))
       (cases_lt b (length counts))
-
-  -- a block with a member begins in the room
-  pub block_begins : (b left : ℕ) → b < length counts → left < get_or counts b 0 → width * b < length flags
-  block_begins b left inside short = ⊎_elim
-      (λ lt. lt)
-      (λ (past : length flags ≤ width * b).
-      let here = are.counted b inside in
-      let first = rank_past flags (width * b) past in
-      let last = rank_past flags (width * b + width) (omega (arith, past)) in
-      absurd (omega (arith, here, first, last, short)))
-      (cases_lt (width * b) (length flags))
 
 -- ---- a change of one count
 
@@ -162,12 +141,6 @@ counts_put width counts flags k b false are inside differ low high =
     holding : (b : Bool) → b ≢ false → b ≡ true
     holding true not = refl
     holding false not = absurd (not refl)
-
-same_bool : (a b : Bool) → (a ≡ b) ⊎ (a ≢ b)
-same_bool true true = inl refl
-same_bool true false = inr (λ e. absurd cc)
-same_bool false true = inr (λ e. absurd cc)
-same_bool false false = inl refl
 
 total_put : (flags : List Bool) (k : ℕ) (ready : Bool) → k < length flags → has flags k ≢ ready → member_count (set flags k ready) ≡ shifted (member_count flags) ready
 total_put flags k true inside differ =

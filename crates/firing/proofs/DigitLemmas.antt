@@ -97,9 +97,6 @@ pub record Takes (word rest taken : ℕ) : Type 0 where
   pub count : count_ones rest + taken ≡ count_ones word
   pub kept : (i : ℕ) → bit_at rest i ≡ 1 → IsKept word rest taken i
 
-pub takes_none : (word : ℕ) → Takes word word 0
-takes_none word = record { count = omega arith; kept = λ i is_set. record { is_set = is_set; below = omega arith } }
-
 pub some_left : (word rest taken : ℕ) → Takes word rest taken → taken < count_ones word → 0 < rest
 some_left word zero taken takes lt = let count = takes.count in let none = none_set in absurd (omega (arith, count, none, lt))
 some_left word (suc n) taken takes lt = omega arith

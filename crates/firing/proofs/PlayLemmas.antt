@@ -1,11 +1,10 @@
 -- Runs, one firing after another.
-use Rattle.std.proofs.Common.{◌≡◌, ℕ, suc, ◌+◌, ◌<◌, ◌≤◌, List, length, take, Option, Some, None, refl, ap, subst, ◌∙◌, ⊎_elim, add-one, arith}
+use Rattle.std.proofs.Common.{◌≡◌, ℕ, suc, ◌+◌, ◌<◌, ◌≤◌, List, length, take, Option, None, refl, ap, subst, ◌∙◌, ⊎_elim, add-one, arith}
 use Rattle.std.proofs.lemmas.Bool.{cases_eq}
-use Rattle.std.proofs.KnownBytes.{Appends-nil, Appends-trans}
+use Rattle.std.proofs.KnownBytes.{Appends-trans}
 use Rattle.std.specs.Io.KnownBytes.{Appends}
 use Rattle.df_io.specs.Write.{AppendsPrefix}
-use Rattle.op_table.specs.declared.Trap.{Trap}
-use Rattle.firing.specs.declared.playing.PlayEnd.TheVariants.{Rest, Trapped, Limit, WriteFault}
+use Rattle.firing.specs.declared.playing.PlayEnd.TheVariants.{Rest, Limit, WriteFault}
 use Rattle.firing.specs.declared.playing.Show.{Show}
 use Rattle.firing.specs.Control.{Course, steered}
 use Rattle.firing.specs.Moves.{Moves, CanFire}
@@ -20,14 +19,6 @@ pub record Running {M P : Type 0} (w : Way M P) (start now : Moment M P) (limit 
   pub written : Appends old new (shown w show start made)
 
 module _ {M P : Type 0} (w : Way M P) (start : Moment M P) where
-  pub run_starts : (limit : ℕ) (show : Show) (got : Option (List ℕ)) → Running w start start limit show 0 got got
-  run_starts limit show got = record {
-    leads = refl;
-    going = λ n lt. absurd (omega (arith, lt));
-    bounded = omega arith;
-    written = Appends-nil got;
-  }
-
   module _ {now : Moment M P} {limit : ℕ} {show : Show} {made : ℕ} {old mid : Option (List ℕ)} (run : Running w start now limit show made old mid) where
     -- ---- one firing more
     module _ {k : ℕ} (below : made < limit) (at : k ≡ w.choice made now) (can : CanFire w.moves now.marking k) where
@@ -82,16 +73,6 @@ module _ {M P : Type 0} (w : Way M P) (start : Moment M P) where
       going = run.going;
       bounded = run.bounded;
       ends = (refl, subst (λ (x : Moment M P). w.moves.trap x.marking ≡ None) run.leads none, subst (λ (x : Moment M P). IsOver w.moves x.marking) run.leads over);
-      writes = run.written;
-    }
-
-    pub run_traps : (trap : Trap) (line : ℕ) → w.moves.trap now.marking ≡ Some (trap, line) → Plays w start limit show now old mid (Trapped trap line)
-    run_traps trap line is = record {
-      firings = made;
-      leads = run.leads;
-      going = run.going;
-      bounded = run.bounded;
-      ends = subst (λ (x : Moment M P). w.moves.trap x.marking ≡ Some (trap, line)) run.leads is;
       writes = run.written;
     }
 

@@ -1,26 +1,17 @@
 -- The fault of a line, by its kind.
 use Rattle.std.proofs.Common.{◌≡◌, ℕ, ◌<◌, ◌≤◌, Bool, true, false, not, cond, leb, eqb, arith, List, Some, None, refl, ap, ◌∙◌}
 use Rattle.std.proofs.lemmas.Option.{same_Some}
-use Rattle.std.proofs.lemmas.Bool.{cond-true, cond-false, le-leb, lt-leb, eq-eqb, ne_eqb}
-use Rattle.fixed_form.specs.declared.form_end.FormEnd.TheVariants.{BadByte, BadLabelField, StrayContinuation, TooManyContinuations, TooManyStatements}
-use Rattle.fixed_form.specs.declared.line.LineKind.TheVariants.{Comment, Initial, Continuation}
+use Rattle.std.proofs.lemmas.Bool.{cond-true, cond-false, le-leb, lt-leb, ne_eqb}
+use Rattle.fixed_form.specs.declared.form_end.FormEnd.TheVariants.{BadLabelField, StrayContinuation, TooManyContinuations, TooManyStatements}
+use Rattle.fixed_form.specs.declared.line.LineKind.TheVariants.{Initial, Continuation}
 use Rattle.fixed_form.specs.Columns.{kind, is_blank, label_field, has_bad_label, has_bad_byte}
 use Rattle.fixed_form.specs.SourceLine.{SourceLine}
 use Rattle.fixed_form.specs.Fault.{initial_count, continuation_count, fault_of_kind, fault}
 
 module _ (above : List SourceLine) (line : SourceLine) where
-  pub comment : kind line.card ≡ Comment → fault above line ≡ None
-  comment k = ap (λ x. fault_of_kind x above line) k
-
   module _ (k : kind line.card ≡ Initial) where
-    pub initial_bad_byte : has_bad_byte line.card ≡ true → fault above line ≡ Some (BadByte line.number)
-    initial_bad_byte b = ap (λ x. fault_of_kind x above line) k ∙ cond-true (has_bad_byte line.card) _ _ b
-
     initial_good_byte : has_bad_byte line.card ≡ false → fault above line ≡ cond (has_bad_label line.card) (Some (BadLabelField line.number)) (cond (leb 4000 (initial_count above)) (Some (TooManyStatements line.number)) None)
     initial_good_byte b = ap (λ x. fault_of_kind x above line) k ∙ cond-false (has_bad_byte line.card) _ _ b
-
-    pub initial_bad_label : has_bad_byte line.card ≡ false → has_bad_label line.card ≡ true → fault above line ≡ Some (BadLabelField line.number)
-    initial_bad_label b l = initial_good_byte b ∙ cond-true (has_bad_label line.card) _ _ l
 
     initial_good_label : has_bad_byte line.card ≡ false → has_bad_label line.card ≡ false → fault above line ≡ cond (leb 4000 (initial_count above)) (Some (TooManyStatements line.number)) None
     initial_good_label b l = initial_good_byte b ∙ cond-false (has_bad_label line.card) _ _ l
@@ -32,26 +23,14 @@ module _ (above : List SourceLine) (line : SourceLine) where
     initial_fine b l h = initial_good_label b l ∙ cond-false (leb 4000 (initial_count above)) _ _ (lt-leb 4000 (initial_count above) h)
 
   module _ (k : kind line.card ≡ Continuation) where
-    pub continuation_bad_byte : has_bad_byte line.card ≡ true → fault above line ≡ Some (BadByte line.number)
-    continuation_bad_byte b = ap (λ x. fault_of_kind x above line) k ∙ cond-true (has_bad_byte line.card) _ _ b
-
     after_byte : has_bad_byte line.card ≡ false → fault above line ≡ cond (not (is_blank (label_field line.card))) (Some (BadLabelField line.number)) (cond (eqb (initial_count above) 0) (Some (StrayContinuation line.number)) (cond (leb 19 (continuation_count above)) (Some (TooManyContinuations line.number)) None))
     after_byte b = ap (λ x. fault_of_kind x above line) k ∙ cond-false (has_bad_byte line.card) _ _ b
-
-    pub continuation_bad_label : has_bad_byte line.card ≡ false → is_blank (label_field line.card) ≡ false → fault above line ≡ Some (BadLabelField line.number)
-    continuation_bad_label b l = after_byte b ∙ cond-true (not (is_blank (label_field line.card))) _ _ (ap not l)
 
     after_label : has_bad_byte line.card ≡ false → is_blank (label_field line.card) ≡ true → fault above line ≡ cond (eqb (initial_count above) 0) (Some (StrayContinuation line.number)) (cond (leb 19 (continuation_count above)) (Some (TooManyContinuations line.number)) None)
     after_label b l = after_byte b ∙ cond-false (not (is_blank (label_field line.card))) _ _ (ap not l)
 
-    pub stray : has_bad_byte line.card ≡ false → is_blank (label_field line.card) ≡ true → initial_count above ≡ 0 → fault above line ≡ Some (StrayContinuation line.number)
-    stray b l h = after_label b l ∙ cond-true (eqb (initial_count above) 0) _ _ (eq-eqb (initial_count above) 0 h)
-
     after_stray : has_bad_byte line.card ≡ false → is_blank (label_field line.card) ≡ true → 0 < initial_count above → fault above line ≡ cond (leb 19 (continuation_count above)) (Some (TooManyContinuations line.number)) None
     after_stray b l h = after_label b l ∙ cond-false (eqb (initial_count above) 0) _ _ (ne_eqb (initial_count above) 0 (λ e. omega (arith, e)))
-
-    pub continuation_too_many : has_bad_byte line.card ≡ false → is_blank (label_field line.card) ≡ true → 0 < initial_count above → 19 ≤ continuation_count above → fault above line ≡ Some (TooManyContinuations line.number)
-    continuation_too_many b l h m = after_stray b l h ∙ cond-true (leb 19 (continuation_count above)) _ _ (le-leb 19 (continuation_count above) m)
 
     pub continuation_fine : has_bad_byte line.card ≡ false → is_blank (label_field line.card) ≡ true → 0 < initial_count above → continuation_count above < 19 → fault above line ≡ None
     continuation_fine b l h m = after_stray b l h ∙ cond-false (leb 19 (continuation_count above)) _ _ (lt-leb 19 (continuation_count above) m)

@@ -4,7 +4,7 @@ use Rattle.std.proofs.lemmas.List.{length_push}
 use Rattle.std.proofs.lemmas.Bool.{cond-true, cond-false}
 use Rattle.std.specs.List.{filter}
 use Rattle.fixed_form.specs.declared.form_end.FormEnd.TheVariants.{NoEnd}
-use Rattle.fixed_form.specs.declared.line.LineKind.TheVariants.{Comment, Initial, Continuation}
+use Rattle.fixed_form.specs.declared.line.LineKind.TheVariants.{Initial, Continuation}
 use Rattle.fixed_form.specs.declared.raw_stmt.RawStmt.{RawStmt}
 use Rattle.fixed_form.specs.declared.open_stmt.OpenStmt.{OpenStmt}
 use Rattle.fixed_form.specs.Columns.{kind, label, statement_field}
@@ -31,21 +31,6 @@ initial_count_is None done above counts bounds =
 initial_count_is (Some stmt) done above counts bounds = counts.0 ∙ sym (length_push done (closed stmt))
 
 module _ (line : SourceLine) where
-  -- a line of each kind before others
-  module _ (k : kind line.card ≡ Comment) where
-    pub comment_dropped : (more : List SourceLine) → filter is_statement_line (line ∷ more) ≡ filter is_statement_line more
-    comment_dropped more = cond-false (is_statement_line line) _ _ (ap is_statement_kind k)
-
-    comment_initials : (more : List SourceLine) → initial_count (line ∷ more) ≡ initial_count more
-    comment_initials more = ap length (cond-false (is_initial_line line) (line ∷ filter is_initial_line more) (filter is_initial_line more) (ap is_initial_kind k))
-
-    comment_continuations : (more : List SourceLine) → continuation_count (line ∷ more) ≡ continuation_count more
-    comment_continuations more = ap (λ ls. length (continuations ls)) (comment_dropped more)
-
-    pub comment_counts : (last : Option OpenStmt) (done : List RawStmt) (above : List SourceLine) → CountsLast last done above → CountsLast last done (line ∷ above)
-    comment_counts None done above counts = comment_initials above ∙ counts
-    comment_counts (Some stmt) done above counts = (comment_initials above ∙ counts.0, counts.1 ∙ sym (comment_continuations above))
-
   module _ (k : kind line.card ≡ Initial) where
     initial_kept : (more : List SourceLine) → filter is_statement_line (line ∷ more) ≡ line ∷ filter is_statement_line more
     initial_kept more = cond-true (is_statement_line line) _ _ (ap is_statement_kind k)

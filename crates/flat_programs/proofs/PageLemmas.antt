@@ -1,9 +1,8 @@
 -- Statements that are put on a page, one after another.
-use Rattle.std.proofs.Common.{◌≡◌, ℕ, ◌+◌, Bool, true, false, List, [], ◌∷◌, ◌++◌, map, take, refl, sym, ap, subst, ◌∙◌, append_assoc, append-nil, Some}
-use Rattle.std.specs.Prelude.{slice_get, flat_map, ◌||◌, if◌then◌else◌}
-use Rattle.std.specs.List.{list_any, range_with_len}
+use Rattle.std.proofs.Common.{◌≡◌, ℕ, ◌+◌, List, [], ◌∷◌, ◌++◌, map, take, sym, ap, subst, ◌∙◌, append_assoc, Some}
+use Rattle.std.specs.Prelude.{slice_get, flat_map, if◌then◌else◌}
+use Rattle.std.specs.List.{range_with_len}
 use Rattle.std.proofs.lemmas.List.{map-append}
-use Rattle.std.proofs.lemmas.Grind.{flat_map-append}
 use Rattle.f77_tree.specs.declared.programs.NameInfo.{NameInfo}
 use Rattle.f77_tree.specs.declared.programs.Program.{Program}
 use Rattle.f77_tree.specs.StatementGrammar.{WrittenStatement}
@@ -12,31 +11,12 @@ use Rattle.flat_programs.specs.Declarations.{commons, declared, group_statement,
 use Rattle.flat_programs.specs.Marks.{is_mark, mark_at}
 use Rattle.flat_programs.specs.Shown.{shown}
 use Rattle.flat_programs.specs.declared.page.Page.{Page}
-use Rattle.flat_programs.specs.Lines.{Typeset, lines_of, is_long}
+use Rattle.flat_programs.specs.Lines.{Typeset}
 use Rattle.flat_programs.specs.Typeset.{typeset}
 use Rattle.flat_programs.specs.Text.{unlabelled, label_at, typeset_in, typeset_at}
 use Rattle.flat_programs.specs.Pages.{IsPage, Grows}
 use Rattle.flat_programs.proofs.MarkLemmas.{take_next}
 use Rattle.flat_programs.proofs.LineLemmas.{flat_map_next}
-
-any_last : (ts : List Typeset) (t : Typeset) → list_any is_long (ts ++ t ∷ []) ≡ (is_long t || list_any is_long ts)
-any_last [] t = refl
-any_last (u ∷ ts) t = ap (λ b. is_long u || b) (any_last ts t) ∙ swap (is_long u) (is_long t) (list_any is_long ts)
-  where
-    swap : (a b c : Bool) → (a || (b || c)) ≡ (b || (a || c))
-    swap true true c = refl
-    swap true false c = refl
-    swap false b c = refl
-
--- one statement more
-pub put_next : (old new : Page) (t : Typeset) → new.bytes.items ≡ old.bytes.items ++ lines_of t → new.is_long ≡ (is_long t || old.is_long) → Grows old new (t ∷ [])
-put_next old new t bytes long = λ ts is. record {
-  bytes = bytes ∙ ap (λ s. s ++ lines_of t) is.bytes ∙ ap (λ s. flat_map lines_of ts ++ s) (sym (append-nil (lines_of t))) ∙ sym (flat_map-append lines_of ts (t ∷ []));
-  is_long = long ∙ ap (λ b. is_long t || b) is.is_long ∙ sym (any_last ts t);
-}
-
-pub grows_none : (page : Page) → Grows page page []
-grows_none page = λ ts is. subst (λ (us : List Typeset). IsPage page us) (sym (append-nil ts)) is
 
 pub grows_then : (a b c : Page) (xs ys : List Typeset) → Grows a b xs → Grows b c ys → Grows a c (xs ++ ys)
 grows_then a b c xs ys first second = λ ts is. subst (λ (us : List Typeset). IsPage c us) (append_assoc ts xs ys) (second (ts ++ xs) (first ts is))

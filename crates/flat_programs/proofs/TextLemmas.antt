@@ -1,21 +1,14 @@
 -- Texts of lists and numbers.
-use Rattle.std.proofs.Common.{◌≡◌, ℕ, ℤ, zero, suc, pos, negsuc, ◌+◌, Bool, true, false, cond, List, [], ◌∷◌, ◌++◌, length, map, take, refl, sym, ap, ◌∙◌, append_assoc, append-nil, Some, drop, filter}
-use Rattle.std.specs.Prelude.{slice_get, codes, flat_map, Option}
+use Rattle.std.proofs.Common.{◌≡◌, ℕ, zero, suc, ◌+◌, Bool, cond, List, [], ◌∷◌, ◌++◌, length, map, take, refl, sym, ap, ◌∙◌, append_assoc, append-nil, Some, drop}
+use Rattle.std.specs.Prelude.{slice_get, codes, Option}
 use Rattle.std.proofs.lemmas.List.{map-append}
-use Rattle.std.proofs.lemmas.List.Elements.{filter-append}
-use Rattle.std.proofs.lemmas.Grind.{flat_map-append}
 use Rattle.std.proofs.Math.Dec.{eqb-suc-zero}
-use Rattle.std.specs.Fmt.{signed_decimal}
 use Rattle.f77_tree.specs.declared.declarations.CommonPart.{CommonPart}
 use Rattle.f77_tree.specs.declared.declarations.Decl.{Decl}
-use Rattle.f77_tree.specs.StatementGrammar.{with_commas, after_commas, bracketed_list, in_brackets, signed_text, block_text, decl_text, WrittenDecl}
-use Rattle.flat_programs.specs.Declarations.{signed, same_block, block_decls, block_statement, name_alone, written_block}
+use Rattle.f77_tree.specs.StatementGrammar.{with_commas, after_commas, bracketed_list, in_brackets, block_text, decl_text}
+use Rattle.flat_programs.specs.Declarations.{block_decls, block_statement, name_alone, written_block}
 use Rattle.flat_programs.specs.Typeset.{blank, comma_at, typeset}
 use Rattle.flat_programs.proofs.MarkLemmas.{take_next}
-
-pub signed_text-decimal : (z : ℤ) → signed_text (signed z) ≡ signed_decimal z
-signed_text-decimal (pos n) = refl
-signed_text-decimal (negsuc n) = refl
 
 -- ---- lists with commas
 
@@ -91,42 +84,6 @@ three_texts old a b c first second new whole is-first is-second is-new is =
     ∙ ap (λ t. t ++ c) (append_assoc old a b) ∙ append_assoc old (a ++ b) c ∙ ap (λ t. old ++ t) (sym is)
 
 -- ---- names of a block
-
-module _ (parts : List CommonPart) (block : Option (List ℕ)) where
-  abbrev decls_if : Bool → CommonPart → List WrittenDecl
-  decls_if b part = cond b (map name_alone part.decls) []
-
-  block_one : (part : CommonPart) (b : Bool) → same_block part.block block ≡ b → block_decls (part ∷ []) block ≡ decls_if b part
-  block_one part true is = rw is (append-nil (map name_alone part.decls))
-  block_one part false is = rw is refl
-
-  block_more : (k : ℕ) (part : CommonPart) → slice_get parts k ≡ Some part → block_decls (take (k + 1) parts) block ≡ block_decls (take k parts) block ++ block_decls (part ∷ []) block
-  block_more k part at =
-      let of : CommonPart → List WrittenDecl = λ p. map name_alone p.decls in
-      let test : CommonPart → Bool = λ p. same_block p.block block in
-      ap (λ ps. flat_map of (filter test ps)) (take_next parts k part at)
-      ∙ ap (flat_map of) (filter-append test (take k parts) (part ∷ []))
-      ∙ flat_map-append of (filter test (take k parts)) (filter test (part ∷ []))
-
-  abbrev names_text : List WrittenDecl → List ℕ
-  names_text decls = after_commas (map decl_text decls)
-
-  names_text-append : (a b : List WrittenDecl) → names_text (a ++ b) ≡ names_text a ++ names_text b
-  names_text-append a b = ap after_commas (map-append decl_text a b) ∙ after_commas-append (map decl_text a) (map decl_text b)
-
-  -- one part more, of the block or of another one
-  pub block_next : (k : ℕ) (part : CommonPart) (begun old new : List ℕ) → slice_get parts k ≡ Some part → same_block part.block block ≡ true → old ≡ begun ++ names_text (block_decls (take k parts) block) → new ≡ old ++ names_text (map name_alone part.decls) → new ≡ begun ++ names_text (block_decls (take (k + 1) parts) block)
-  block_next k part begun old new at same is more =
-      let a = block_decls (take k parts) block in
-      let b = map name_alone part.decls in
-      let e : block_decls (take (k + 1) parts) block ≡ a ++ b = block_more k part at ∙ ap (λ ds. a ++ ds) (block_one part true same) in
-      more ∙ ap (λ t. t ++ names_text b) is ∙ append_assoc begun (names_text a) (names_text b) ∙ ap (λ t. begun ++ t) (sym (ap names_text e ∙ names_text-append a b))
-
-  pub block_skip : (k : ℕ) (part : CommonPart) (begun old : List ℕ) → slice_get parts k ≡ Some part → same_block part.block block ≡ false → old ≡ begun ++ names_text (block_decls (take k parts) block) → old ≡ begun ++ names_text (block_decls (take (k + 1) parts) block)
-  block_skip k part begun old at other is =
-      let a = block_decls (take k parts) block in
-      let e : block_decls (take (k + 1) parts) block ≡ a ++ [] = block_more k part at ∙ ap (λ ds. a ++ ds) (block_one part false other) in
-      is ∙ ap (λ ds. begun ++ names_text ds) (sym (e ∙ append-nil a))
 
 -- one name more
 pub names_next : (decls : List Decl) (k : ℕ) (decl : Decl) (begun old mid new : List ℕ) → slice_get decls k ≡ Some decl → old ≡ begun ++ after_commas (map decl_text (map name_alone (take k decls))) → mid ≡ old ++ codes "," → new ≡ mid ++ decl.name → new ≡ begun ++ after_commas (map decl_text (map name_alone (take (k + 1) decls)))

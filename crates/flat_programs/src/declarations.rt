@@ -1,5 +1,5 @@
 //! The texts of declarations.
-ghost use Rattle.std.specs.Prelude.{◌≡◌, ◌++◌, ◌<◌, ◌≤◌, Some, [], ◌∷◌, codes, OnOk, drop, map, length, slice_get};
+ghost use Rattle.std.specs.Prelude.{◌≡◌, ◌++◌, ◌≤◌, Some, [], OnOk, drop, map, length};
 ghost use Rattle.f77_tree.specs.StatementGrammar.{after_commas, block_text, bracketed_list, constant_text, decl_text, dim_text, kind_text, low_text, member_text, signed_text, times_text, value_text, with_commas};
 ghost use Rattle.flat_programs.specs.Declarations.{block_decls, block_statement, commons, declared, group_statement, init_statement, is_continued as is_continued_in, name_alone, same_block, signed, typed_name, written_block, written_constant, written_dim, written_low, written_member, written_times, written_value};
 ghost use Rattle.flat_programs.specs.Typeset.{blank, typeset};

@@ -1,5 +1,5 @@
 //! What is looked up of the statements of a flat program.
-ghost use Rattle.std.specs.Prelude.{◌≡◌, ◌+◌, ◌<◌, ◌≤◌, ◌^◌, length, count_by, IfOk};
+ghost use Rattle.std.specs.Prelude.{◌≡◌, ◌+◌, ◌<◌, ◌≤◌, ◌^◌, length, IfOk};
 ghost use Rattle.flat_programs.specs.Marks.{is_end, is_mark as is_mark_of, is_loop as is_loop_of, mark_at, mark_count, mark_places as places_of_marks, place_of, loop_at, loop_to as place_of_loop};
 ghost use Rattle.flat_programs.specs.Executables.{first_of, width_by, marked as executable_of_mark, beyond as executable_beyond};
 ghost use Rattle.flat_programs.specs.Flow.{IsTable, IsFlow};

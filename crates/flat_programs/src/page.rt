@@ -1,5 +1,5 @@
 //! The printed text of a flat program.
-ghost use Rattle.std.specs.Prelude.{◌≡◌, ◌+◌, ◌<◌, List, [], ◌∷◌, if◌then◌else◌, map, flat_map, length, slice_get, true, false, IfOk, MatchOption, OnOk};
+ghost use Rattle.std.specs.Prelude.{◌≡◌, ◌<◌, List, [], ◌∷◌, if◌then◌else◌, map, flat_map, length, slice_get, true, false, IfOk, MatchOption, OnOk};
 ghost use Rattle.std.specs.List.{range_with_len};
 ghost use Rattle.flat_programs.specs.declared.statements.FlatLine.{FlatLine};
 ghost use Rattle.flat_programs.specs.FlatForm.{AreProper, AreStatementsOf, IsFlatProgram};

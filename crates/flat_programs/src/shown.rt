@@ -1,15 +1,13 @@
 //! The texts of statements.
 ghost use Rattle.std.specs.Prelude.{◌≡◌, ◌++◌, ◌<◌, ◌==◌, true, All, codes, decimal, OnOk, map, length};
-ghost use Rattle.f77_tree.specs.declared.declarations.Kind.TheVariants.{Integer};
 ghost use Rattle.f77_tree.specs.Execution.{count_if, is_input, is_truth, words_taken};
-ghost use Rattle.f77_tree.specs.Grammar.{spelling};
 ghost use Rattle.f77_tree.specs.Kinds.{IsAssignment, IsProper};
 ghost use Rattle.f77_tree.specs.StatementGrammar.{item_text, step_text, with_commas};
-ghost use Rattle.f77_tree.specs.WellFormed.{IsDo, IsProperItem};
+ghost use Rattle.f77_tree.specs.WellFormed.{IsProperItem};
 ghost use Rattle.f77_expr.specs.Printing.{name_at, printed_text};
 ghost use Rattle.flat_programs.specs.declared.statements.Flat.TheVariants.{Assignment, Output, LogicalIf, ArithmeticIf, ComputedGoTo, DoLoop, Jump};
 ghost use Rattle.flat_programs.specs.FlatForm.{IsProperFlat};
-ghost use Rattle.flat_programs.specs.Shown.{is_one as is_one_of, shown, written, written_item, written_step};
+ghost use Rattle.flat_programs.specs.Shown.{is_one as is_one_of, shown, written_item, written_step};
 ghost use Rattle.flat_programs.specs.Typeset.{blank, typeset};
 
 use crate::Flat;

@@ -1,6 +1,6 @@
 //! All that the jobs on a program share.
 
-ghost use Rattle.std.specs.Prelude.{◌≡◌, ◌<◌, ◌*◌, IfOk};
+ghost use Rattle.std.specs.Prelude.{◌<◌, ◌*◌, IfOk};
 ghost use Rattle.f77_tree.specs.WellFormed.{IsWellFormed};
 ghost use Rattle.alias_classes.specs.Classes.{IsClasses, class_count};
 ghost use Rattle.alias_classes.specs.Number.{HasFewClasses};

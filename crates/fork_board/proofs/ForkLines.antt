@@ -89,11 +89,6 @@ module _ (x : OperationNet) (line : ℕ) where
   pub other_stays : (p i q j : ℕ) (s : Standing) → ((p ≡ q) × (i ≡ j) → ⊥) → IsOpen q j s → read_by x line p i s ≡ record s { loaded = with_load p i s.loaded }
   other_stays p i q j s differ stood = stays p i q j s stood (still_none p i q j s.loaded differ stood.fresh)
 
-  pub still_open : (p i q j : ℕ) (s : Standing) → ((p ≡ q) × (i ≡ j) → ⊥) → IsOpen q j s → IsOpen q j (read_by x line p i s)
-  still_open p i q j s differ stood =
-      let open_then : IsOpen q j (record s { loaded = with_load p i s.loaded }) = record { edge = stood.edge; stands = stood.stands; among = stood.among; fresh = still_none p i q j s.loaded differ stood.fresh } in
-      subst (λ t. IsOpen q j t) (sym (other_stays p i q j s differ stood)) open_then
-
   -- ---- the places for a line
 
   put_back : {A : Type 0} (f : Option A → A) (o : Option A) → ((a : A) → f (Some a) ≡ a) → put_in (f o) o ≡ o

@@ -20,18 +20,6 @@ both_ways b yes' no' = let e : true ≡ false = sym yes' ∙ no' in absurd cc
 
 -- ---- sites in lists
 
-or_last : (a b : Bool) → (a || b) ≡ (b || (a || false))
-or_last true true = refl
-or_last true false = refl
-or_last false true = refl
-or_last false false = refl
-
-or_joins : (a b c d : Bool) → (a || b) ≡ (c || (d || false)) → (e : Bool) → (a || (e || b)) ≡ (e || (c || (d || false)))
-or_joins true b c d same true = refl
-or_joins true b c d same false = same
-or_joins false b c d same true = refl
-or_joins false b c d same false = same
-
 with_last : (sites : List Site) (p i q j : ℕ) → with_load p i (is_among sites) q j ≡ is_among (sites ++ site p i ∷ []) q j
 with_last [] p i q j = or_none ((p == q) && (i == j))
   where

@@ -16,7 +16,7 @@ use Rattle.net_board.proofs.FiringLaws.{touched_line}
 use Rattle.net_board.proofs.ListPlaces.{put, same_tests, with_all_other, with_all_same}
 use Rattle.net_board.proofs.NodeLaws.{get_some}
 use Rattle.op_board.specs.OperationFootprints.{OperationPart, Token, foot_as}
-use Rattle.op_board.specs.OperationNets.{OperationNet, all_operation_nodes, is_last_at, last_needed, needed, needing_before, operation_at, operation_count, operation_node}
+use Rattle.op_board.specs.OperationNets.{OperationNet, all_operation_nodes, is_last_at, last_needed, needed, needing_before, operation_at, operation_count}
 use Rattle.op_board.specs.OperationTokens.{OperationTokens, fired_as, has_room, is_given, passed_after, passed_by, ready_as, stands_before, value_at}
 use Rattle.op_board.specs.SoundOperationNets.{IsOperationNet, OperationsCanCome}
 use Rattle.op_board.proofs.FiringOperations.{same_given, same_own}
@@ -42,9 +42,6 @@ all_of test [] each = refl
 all_of test (y ∷ xs) each = and_from (test y) (list_all test xs) (each y (inl refl)) (all_of test xs (λ z among. each z (inr among)))
 
 module _ (ground : ProgramFacts) (x : OperationNet) (n : IsOperationNet x) (facts : FiringFacts x n.is_net.classes) (once : ComeOnce x) where
-  abbrev node : ℕ → NodeName
-  node k = operation_node x k
-
   -- ---- markings in step
 
   -- Each line is in step, and all else is the same.

@@ -17,9 +17,6 @@ same_list (x ∷ xs) (y ∷ ys) same = by (same 0) (same_list xs ys (λ k. same 
     by : Some x ≡ Some y → xs ≡ ys → (x ∷ xs) ≡ (y ∷ ys)
     by first rest = cc
 
-pub same_length : {X : Type 0} (xs ys : List X) → ((k : ℕ) → slice_get xs k ≡ slice_get ys k) → length xs ≡ length ys
-same_length xs ys same = ap length (same_list xs ys same)
-
 -- ---- an item that is replaced
 
 -- what stands at a place after something is put there

@@ -15,7 +15,7 @@ use Rattle.net_board.specs.SoundNets.{IsNet}
 use Rattle.net_board.specs.FlowFacts.{FlowFacts}
 use Rattle.net_board.specs.NetLockstep.{IsBetween}
 use Rattle.net_board.specs.Nodes.{NetOf, graph_in, kind_in, switches, nodes_at, nodes_of, node_count, node_at, first_node}
-use Rattle.net_board.specs.Tokens.{Tokens, net_moves, pass_at, left_for, led_from, gone, stopped, acted, switched, merged, fired_as, line_as, text_of, written as text_written}
+use Rattle.net_board.specs.Tokens.{Tokens, net_moves, pass_at, left_for, gone, stopped, acted, switched, fired_as, line_as, text_of, written as text_written}
 use Rattle.net_board.proofs.WithinPieceLaws.{NodeCase}
 use Rattle.net_board.proofs.OrderJoins.{after_join, order_join, written_join, range_more}
 use Rattle.net_board.proofs.ListPrefixes.{HasItem, item_at}

@@ -135,9 +135,6 @@ module _ (net : NetOf) (is_net : IsNet net) (ground : FlowFacts net is_net.tree)
     }
 
     module _ (m : Tokens) (amid : IsAmid net s m piece (node_count net piece) memory (pass_at net piece memory)) (d : ℕ) (leaves : leaving net piece (pass_at net piece memory) ≡ d) (exit : d < edge_count (graph_in net)) (begins : from (graph_in net) d ≡ piece) where
-      moved : List ℕ
-      moved = moved_first net (nodes_at net piece) (node_count net piece)
-
       moved_is : moved_first net (nodes_at net piece) (node_count net piece) ≡ moved_by_all net piece (kind_in net piece)
       moved_is = ap (flat_map (moved_by net)) (take_whole (nodes_at net piece))
 

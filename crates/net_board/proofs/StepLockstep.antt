@@ -7,7 +7,7 @@ use Rattle.cfg_build.specs.Passes.{Passed, Along, Traps, Done, PassState, pass, 
 use Rattle.dep_routing.specs.Quiet.{IsFree}
 use Rattle.dep_routing.specs.Sound.{DoesTrap, comes_to}
 use Rattle.firing.specs.Orders.{after, counted, serial_count}
-use Rattle.firing.specs.Pacing.{Stage, Going, IsBusy, IsSimulation}
+use Rattle.firing.specs.Pacing.{Going, IsBusy, IsSimulation}
 use Rattle.firing.specs.Pacing as pacing
 use Rattle.firing.specs.declared.system.NodeName.{NodeName}
 use Rattle.firing.specs.declared.system.NodeName.TheVariants.{Act, Merge, Switch, Op}

@@ -1,5 +1,5 @@
 -- Lists of what is found piece by piece, line by line and edge by edge.
-use Rattle.std.proofs.Common.{◌≡◌, ◌<◌, ◌≤◌, ◌^◌, ◌⊎◌, ⊎_elim, ℕ, zero, suc, ◌+◌, ◌||◌, ◌&&◌, ◌==◌, nat_eq, not, Bool, true, false, cond, if◌then◌else◌, List, [], ◌∷◌, ◌++◌, length, get_or, slice_index, slice_get, Some, map, flat_map, filter, take, inl, inr, add-one, refl, sym, ap, ◌∙◌, subst, arith, All, length-append, length-take}
+use Rattle.std.proofs.Common.{◌≡◌, ◌<◌, ◌≤◌, ◌^◌, ⊎_elim, ℕ, zero, suc, ◌+◌, ◌||◌, ◌&&◌, ◌==◌, nat_eq, not, Bool, true, false, cond, if◌then◌else◌, List, [], ◌∷◌, ◌++◌, length, get_or, slice_index, slice_get, Some, map, flat_map, filter, take, inl, inr, add-one, refl, sym, ap, ◌∙◌, subst, arith, All, length-append, length-take}
 use Rattle.std.specs.List.{range_with_len}
 use Rattle.std.proofs.lemmas.Bool.{cases_lt, eq-eqb, ne_eqb}
 use Rattle.std.proofs.lemmas.List.{get_or_past}
@@ -21,11 +21,6 @@ use Rattle.net_board.specs.ControlCourse.{arrival, is_idle, passed, passed_times
 use Rattle.list_laws.proofs.Members.{Member-cases, Member-at, Member-filtered, Member-in_range}
 use Rattle.net_tables.specs.NetTables.{all_edges}
 use Rattle.list_laws.proofs.Ranges.{range_more}
-
--- one number more
-pub range_push : (a n : ℕ) → range_with_len a (suc n) ≡ range_with_len a n ++ (a + n) ∷ []
-range_push a zero = let e : a ≡ a + 0 = omega arith in ap (λ x. x ∷ []) e
-range_push a (suc n) = let e : (a + 1) + n ≡ a + suc n = omega arith in ap (λ xs. a ∷ xs) (range_push (a + 1) n ∙ ap (λ x. range_with_len (a + 1) n ++ x ∷ []) e)
 
 module _ {X Y : Type 0} where
   map_append : (f : X → Y) (xs ys : List X) → map f (xs ++ ys) ≡ map f xs ++ map f ys

@@ -16,16 +16,12 @@ use Rattle.f77_tree.specs.Known.{known, row_known}
 use Rattle.f77_tree.specs.KnownWith.{known_word}
 use Rattle.f77_tree.specs.Value.{and_then, subscripted, word_of, extent, dims_of, place_of, row_length, ArePlaced}
 use Rattle.f77_tree.proofs.Places.{IsOrdered, All-tail, count_of}
-use Rattle.op_board.specs.Operations.{Operand, Known, From, Operation, known_of, operated, operated_by, place_moved, place_operands, compiled, place_compiled}
+use Rattle.op_board.specs.Operations.{Operand, Known, Operation, known_of, operated, operated_by, place_moved, place_operands, compiled, place_compiled}
 use Rattle.op_board.specs.Effects.{word_at_place}
 use Rattle.op_board.proofs.NeededOperations.{known_same}
 use Rattle.op_board.proofs.OperationPlaces.{IsOffsetAt, MovesBoth, in_array, is_array, moves_both}
 
 -- ---- operands of which all is known
-
-known_is : (operand : Operand) (z : ℤ) → known_of operand ≡ Some z → operand ≡ Known z
-known_is (Known y) z is = let same : y ≡ z = cc in ap (λ v. Known v) same
-known_is (From number) z is = absurd cc
 
 folded_three : (op : Op) (ks : List (Option ℤ)) (a b c v : ℤ) → ks ≡ (Some a ∷ Some b ∷ Some c ∷ []) → applied op (a ∷ b ∷ c ∷ []) ≡ Ok v → folded op ks ≡ Some v
 unfolding folded

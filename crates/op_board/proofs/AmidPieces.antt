@@ -6,7 +6,7 @@ use Rattle.f77_tree.specs.Execution.{Memory, Outcome, Goes, Stops, Ends, outcome
 use Rattle.f77_tree.specs.Steps.{HoldsWords}
 use Rattle.cfg_build.specs.declared.pieces.PieceKind.{PieceKind}
 use Rattle.cfg_build.specs.declared.pieces.PieceKind.TheVariants as kind
-use Rattle.cfg_build.specs.Passes.{Passed, Along, Traps, Done, out, pass_of}
+use Rattle.cfg_build.specs.Passes.{out, pass_of}
 use Rattle.dep_routing.specs.Sound.{DoesTrap}
 use Rattle.dep_routing.specs.Touches.{exec_kind}
 use Rattle.alias_classes.specs.Classes.{ClassTable}
@@ -25,8 +25,8 @@ use Rattle.op_board.specs.Operations.{Operation, Work, Operate, Load, Store, Tak
 use Rattle.op_board.specs.Effects.{Effect, ran}
 use Rattle.op_board.specs.Needs.{WorkNeeds}
 use Rattle.op_board.specs.OperationFacts.{OperationFacts, is_parting}
-use Rattle.op_board.specs.OperationLists.{DoesAsPass, IsOperationList, takes_by}
-use Rattle.op_board.specs.OperationNets.{OperationNet, all_operation_nodes, first_operation, is_last_at, last_needed, needed, needing_before, operation_at, operation_count, operation_in, operation_node, operation_node_count, operations_at}
+use Rattle.op_board.specs.OperationLists.{IsOperationList, takes_by}
+use Rattle.op_board.specs.OperationNets.{OperationNet, all_operation_nodes, first_operation, needed, needing_before, operation_at, operation_count, operation_in, operation_node, operations_at}
 use Rattle.op_board.specs.OperationOrder.{ran_at}
 use Rattle.op_board.specs.OperationTokens.{OperationTokens, are_clear, between_pieces, can_operate, has_room, is_given, operation_moves, passed_by, ready_as, stands_before, value_at, value_of}
 use Rattle.op_board.specs.SoundOperationNets.{IsOperationNet}
@@ -99,14 +99,8 @@ not_given values i true long = outside values i (omega (arith, long))
     outside (y ∷ xs) (suc j) high = outside xs j (omega (arith, high))
 
 module _ (x : OperationNet) (n : IsOperationNet x) (facts : OperationFacts x) (piece : ℕ) (m : Tokens) (at : IsAtPiece x piece m) where
-  abbrev ops : List Operation
-  ops = operations_at x piece
-
   abbrev count : ℕ
   count = operation_count x piece
-
-  abbrev first : ℕ
-  first = first_operation x piece
 
   -- the edge by which control leaves the piece
   abbrev pub exit : ℕ
@@ -128,9 +122,6 @@ module _ (x : OperationNet) (n : IsOperationNet x) (facts : OperationFacts x) (p
     pub passed_are : ArePassed x piece i t.passed
     pub own : (j : ℕ) → j < operation_count x piece → slice_get t.values (first_operation x piece + j) ≡ Some (waiting (operations_at x piece) values i j)
     pub others : (k : ℕ) → ((j : ℕ) → j < operation_count x piece → first_operation x piece + j ≡ k → ⊥) → slice_get t.values k ≡ slice_get (replicate (length (all_operation_nodes x)) None) k
-
-  some_operations : 0 < operation_count x piece
-  some_operations = list.some
 
   pub own_below : (j : ℕ) → j < operation_count x piece → first_operation x piece + j < length (all_operation_nodes x)
   own_below j low = operation_below x piece j at.exists (below_length (Rattle.op_board.specs.OperationNets.operation_nodes_at x piece) j (Op piece j) (is_operation x piece j at.acts low))

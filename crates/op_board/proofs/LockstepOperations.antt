@@ -18,7 +18,7 @@ use Rattle.firing.specs.Orders.{IsOrder, IsOver, after}
 use Rattle.firing.specs.declared.system.NodeName.TheVariants.{Act}
 use Rattle.firing.specs.SourceOrder.{IsSourceOrder}
 use Rattle.net_board.specs.declared.control.Control.{Control}
-use Rattle.net_board.specs.ControlCourse.{due_node, moved_on, net_course, taken}
+use Rattle.net_board.specs.ControlCourse.{due_node, moved_on, net_course}
 use Rattle.net_board.specs.NetLockstep.{IsBetween, IsInLockstep}
 use Rattle.net_board.specs.Nodes.{graph_in, kind_in, first_node, is_acting, node_count, nodes_at}
 use Rattle.net_board.specs.SoundNets.{CanCome}

@@ -1,5 +1,5 @@
 -- Where a run ends, nothing is ready in a net of operations.
-use Rattle.std.proofs.Common.{◌≡◌, ◌≢◌, ◌<◌, ◌≤◌, ◌⊎◌, ⊎_elim, ℕ, zero, suc, ◌+◌, ◌&&◌, ◌==◌, not, ℤ, Bool, true, false, List, [], ◌∷◌, ◌++◌, length, length-append, flat_map, replicate, Option, Some, None, is_some, slice_get, refl, sym, ap, ◌∙◌, subst, inl, inr, append-nil, arith, eqb-true}
+use Rattle.std.proofs.Common.{◌≡◌, ◌<◌, ◌≤◌, ◌⊎◌, ⊎_elim, ℕ, zero, suc, ◌+◌, ◌&&◌, ◌==◌, not, Bool, true, false, List, [], ◌∷◌, ◌++◌, length, length-append, flat_map, replicate, None, is_some, slice_get, refl, sym, ap, ◌∙◌, subst, inl, inr, append-nil, arith, eqb-true}
 use Rattle.std.proofs.lemmas.Bool.{and_parts, cases_Bool}
 use Rattle.std.specs.List.{list_all, range_with_len}
 use Rattle.closed_walks.specs.Graph.{to}
@@ -22,7 +22,7 @@ use Rattle.op_board.specs.Operations.{Operand, Known, From}
 use Rattle.op_board.specs.OperationLockstep.{act_count}
 use Rattle.op_board.specs.OperationNets.{OperationNet, all_operation_nodes, first_operation, needed, needing_before, operation_at, operation_count, operation_node, operation_node_count, operation_nodes_at}
 use Rattle.op_board.specs.OperationTokens as game
-use Rattle.op_board.specs.OperationTokens.{OperationTokens, between_pieces, has_room, is_given, operation_moves, passed_by, stands_before, value_at, value_of}
+use Rattle.op_board.specs.OperationTokens.{between_pieces, has_room, is_given, operation_moves, passed_by, stands_before, value_at, value_of}
 use Rattle.op_board.proofs.NeededLines.{needed_in, IsDistance, distance}
 use Rattle.op_board.proofs.OtherNodes.{Commutes, IsBeside, beside, beside_count}
 use Rattle.op_board.proofs.PieceLines.{low_or_high}

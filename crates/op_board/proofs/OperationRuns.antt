@@ -27,12 +27,6 @@ HaveValues values _ _ = ⊥
 abbrev pub Keeps : List ℤ → List ℤ → Type 0
 Keeps values now = (operand : Operand) (z : ℤ) → HasValue values operand z → HasValue now operand z
 
-pub keeps_all : (values now : List ℤ) (operands : List Operand) (zs : List ℤ) → Keeps values now → HaveValues values operands zs → HaveValues now operands zs
-keeps_all values now [] [] keeps have = tt
-keeps_all values now [] (z ∷ zs) keeps have = absurd have
-keeps_all values now (operand ∷ operands) [] keeps have = absurd have
-keeps_all values now (operand ∷ operands) (z ∷ zs) keeps have = (keeps operand z have.0, keeps_all values now operands zs keeps have.1)
-
 pub keeps_appended : (values more : List ℤ) → Keeps values (values ++ more)
 keeps_appended values more operand z has = λ others. ap (λ vs. operand_at vs operand) (append_assoc values more others) ∙ has (more ++ others)
 

@@ -7,7 +7,7 @@ use Rattle.cfg_build.specs.Passes.{passes}
 use Rattle.firing.specs.Laws.{IsLawful}
 use Rattle.firing.specs.Orders.{IsOver, serial_count}
 use Rattle.firing.specs.Pacing as pacing
-use Rattle.firing.specs.Pacing.{Stage, Going, Done, EndsWith, FollowsSource, IsBusy, IsSimulation}
+use Rattle.firing.specs.Pacing.{Going, Done, EndsWith, FollowsSource, IsBusy}
 use Rattle.firing.proofs.Pacing.{follows}
 use Rattle.net_board.specs.FlowFacts.{FlowFacts}
 use Rattle.net_board.specs.NetLockstep.{IsBetween}

@@ -1,5 +1,5 @@
 -- What the firing of the next operation of a piece leads to.
-use Rattle.std.proofs.Common.{◌≡◌, ◌<◌, ◌≤◌, ◌⊎◌, ⊎_elim, ℕ, zero, suc, ◌+◌, ◌&&◌, ◌==◌, ℤ, Bool, true, false, if◌then◌else◌, List, [], ◌∷◌, ◌++◌, length, length-append, map, drop, replicate, slice_set, Option, Some, None, slice_get, Result, Ok, Err, refl, sym, ap, ◌∙◌, subst, inl, inr, eq-eqb, arith}
+use Rattle.std.proofs.Common.{◌≡◌, ◌<◌, ◌⊎◌, ⊎_elim, ℕ, zero, suc, ◌+◌, ◌&&◌, ◌==◌, ℤ, Bool, true, false, if◌then◌else◌, [], ◌∷◌, ◌++◌, length, length-append, map, drop, replicate, Option, Some, None, slice_get, Result, Ok, Err, refl, sym, ap, ◌∙◌, subst, inl, inr, eq-eqb, arith}
 use Rattle.std.proofs.lemmas.Bool.{cases_Bool}
 use Rattle.op_table.specs.declared.Trap.{Trap}
 use Rattle.f77_tree.specs.Execution.{Memory}
@@ -7,7 +7,7 @@ use Rattle.cfg_build.specs.Passes.{Passed, Along, Traps, Done, out}
 use Rattle.dep_routing.specs.Sound.{DoesTrap}
 use Rattle.list_laws.specs.Member.{Member}
 use Rattle.net_board.specs.Nodes.{graph_in, kind_in, switches}
-use Rattle.net_board.specs.Tokens.{Tokens, gone, led_from, pass_at, source_line, with_all}
+use Rattle.net_board.specs.Tokens.{Tokens, led_from, pass_at, source_line, with_all}
 use Rattle.net_board.proofs.ListPlaces.{get_set_other, get_set_same, put, same_or_not}
 use Rattle.net_board.proofs.ListPrefixes.{HasItem, item_at}
 use Rattle.op_board.specs.Operations.{Operation, is_decision}

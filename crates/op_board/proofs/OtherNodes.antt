@@ -1,5 +1,5 @@
 -- Switches and merges do the same in a net of operations as in its net of statements.
-use Rattle.std.proofs.Common.{◌≡◌, ◌<◌, ◌⊎◌, ℕ, zero, suc, ◌+◌, ◌&&◌, Bool, true, false, not, if◌then◌else◌, List, [], ◌∷◌, length, map, replicate, Option, Some, None, is_some, slice_get, refl, sym, ap, ◌∙◌, subst, inl, inr, arith}
+use Rattle.std.proofs.Common.{◌≡◌, ◌<◌, ◌⊎◌, ℕ, zero, suc, ◌+◌, ◌&&◌, Bool, true, false, not, if◌then◌else◌, List, [], length, map, replicate, Some, None, is_some, slice_get, refl, sym, ap, ◌∙◌, subst, inl, inr, arith}
 use Rattle.std.proofs.lemmas.Bool.{and_parts, cases_Bool}
 use Rattle.cfg_build.specs.declared.pieces.PieceKind.{PieceKind}
 use Rattle.cfg_build.specs.declared.pieces.PieceKind.TheVariants as kind
@@ -15,7 +15,7 @@ use Rattle.net_board.proofs.PieceSteps.{node_below, node_named}
 use Rattle.op_board.specs.OperationLockstep.{act_count}
 use Rattle.op_board.specs.OperationNets.{OperationNet, first_operation, operation_count, operation_node, operation_node_count}
 use Rattle.op_board.specs.OperationTokens as game
-use Rattle.op_board.specs.OperationTokens.{OperationTokens, between_pieces, operation_moves}
+use Rattle.op_board.specs.OperationTokens.{between_pieces, operation_moves}
 use Rattle.op_board.proofs.PieceNodes.{acting_count, no_operations, nodes_same, operation_named, others_same}
 use Rattle.op_board.proofs.ReplacedItems.{set_replicate}
 
@@ -74,9 +74,6 @@ module _ (x : OperationNet) where
   not_true : (b : Bool) → not b ≡ true → b ≡ false
   not_true true is = absurd cc
   not_true false is = refl
-
-  same_line : (piece a b : ℕ) → Switch piece a ≡ Switch piece b → a ≡ b
-  same_line piece a b e = cc
 
   -- what comes after the first node of such a piece is a switch
   pub record IsSwitchOf (piece : ℕ) (name : NodeName) : Type 0 where

@@ -3,7 +3,7 @@ use Rattle.std.proofs.Common.{◌≡◌, ◌<◌, ◌≤◌, ◌⊎◌, ⊎_elim
 use Rattle.std.proofs.lemmas.Bool.{cases_Bool}
 use Rattle.list_laws.specs.Member.{Member}
 use Rattle.net_board.proofs.ListPlaces.{same_or_not}
-use Rattle.net_board.proofs.ListPrefixes.{below_length, get_left, get_right, take_more, take_whole}
+use Rattle.net_board.proofs.ListPrefixes.{below_length, get_right, take_more, take_whole}
 use Rattle.op_board.specs.Operations.{Operand, Known, From, Operation}
 use Rattle.op_board.specs.OperationLists.{takes_one, takes_by, takes_of, IsOperationList}
 use Rattle.op_board.specs.OperationNets.{OperationNet, first_operation}
@@ -98,11 +98,6 @@ module _ (x : OperationNet) (piece : ℕ) where
 -- the value of an operation, where those before one have these values: it waits until it is taken
 abbrev pub waiting : List Operation → (values : List ℤ) → (i j : ℕ) → Option ℤ
 waiting ops values i j = if takes_of (take i ops) j == 0 then slice_get values j else None
-
-get_outside : {X : Type 0} (xs : List X) (j : ℕ) → length xs ≤ j → slice_get xs j ≡ None
-get_outside [] j high = refl
-get_outside (y ∷ xs) zero high = absurd (omega (arith, high))
-get_outside (y ∷ xs) (suc j) high = get_outside xs j (omega (arith, high))
 
 abbrev no_value : Option ℤ
 no_value = None

@@ -7,13 +7,11 @@ use Rattle.firing.specs.ReadySet.{has}
 use Rattle.op_table.specs.declared.Trap.{Trap}
 use Rattle.f77_tree.specs.Execution.{Memory}
 use Rattle.f77_tree.specs.declared.programs.NameInfo.{NameInfo}
-use Rattle.net_board.specs.WokenNodes.{passing_below}
 use Rattle.op_board.specs.Effects.{Effect, gives, loaded, performed}
 use Rattle.op_board.specs.Operations.{Work, Load, Operate, Store, Take, Write, Begin, Advance, DecideTruth, DecideSign, DecideNumber, DecideTrips, DecideFirst, gives_value}
 use Rattle.op_board.specs.OperationCourse.{choice_of}
 use Rattle.op_board.specs.OperationNets.{OperationNet, first_operation, operation_at}
 use Rattle.op_board.specs.OperationTokens.{OperationTokens, is_given, operand_in, operated, performed_at}
-use Rattle.op_board.proofs.NeededLines.{one_more, passing_more}
 use Rattle.op_net.specs.ApartLoads.{is_load_name, loaded_apart}
 use Rattle.op_net.specs.FiringChanges.{worked_on}
 use Rattle.operation_effects.specs.declared.performing.Did.{Did}
@@ -213,19 +211,6 @@ module _ (test : ℕ → Bool) where
                 ∙ ap (λ b. length (Rattle.std.proofs.Common.cond b (a ∷ filter test (range_with_len (a + 1) (i - (a + 1)))) (filter test (range_with_len (a + 1) (i - (a + 1)))))) fails
                 ∙ rest.before;
           }
-
--- ---- how many of them there are
-
-pub counted_fails : (test : ℕ → Bool) (i n : ℕ) → n ≡ passing_below test i → test i ≡ false → n ≡ passing_below test (i + 1)
-counted_fails test i n is fails =
-    let next : suc i ≡ i + 1 = omega arith in
-    is ∙ ap (λ b. one_more b (passing_below test i)) (sym fails) ∙ sym (passing_more test i) ∙ ap (passing_below test) next
-
-pub counted_passes : (test : ℕ → Bool) (i n : ℕ) → n ≡ passing_below test i → test i ≡ true → n + 1 ≡ passing_below test (i + 1)
-counted_passes test i n is passes =
-    let next : suc i ≡ i + 1 = omega arith in
-    let more : n + 1 ≡ suc (passing_below test i) = omega (arith, is) in
-    more ∙ ap (λ b. one_more b (passing_below test i)) (sym passes) ∙ sym (passing_more test i) ∙ ap (passing_below test) next
 
 -- ---- values
 

@@ -42,12 +42,6 @@ module _ (x : OperationNet) (m : OperationTokens) where
   stays_or_goes : (c : Control) (goes : Bool) → (nat_lt (suc c.fired) (operation_node_count x c.piece) || is_end (kind_in x.net c.piece)) ≡ goes → control_after x m c ≡ (if goes then record { piece = c.piece; fired = suc c.fired; leaves = edge_taken x m c } else arrived x.net (edge_taken x m c))
   stays_or_goes c goes is = ap (λ (b : Bool). if b then record { piece = c.piece; fired = suc c.fired; leaves = edge_taken x m c } else arrived x.net (edge_taken x m c)) is
 
-  pub moved_if : (c : Control) (leaves fired : ℕ) → leaves ≡ edge_taken x m c → fired ≡ suc c.fired → (nat_lt (suc c.fired) (operation_node_count x c.piece) || is_end (kind_in x.net c.piece)) ≡ true → (record { piece = c.piece; fired = fired; leaves = leaves }) ≡ control_after x m c
-  moved_if c leaves fired are one stays =
-      ap (λ (f : ℕ). record { piece = c.piece; fired = f; leaves = leaves }) one
-      ∙ ap (λ (l : ℕ). record { piece = c.piece; fired = suc c.fired; leaves = l }) are
-      ∙ sym (stays_or_goes c true stays)
-
   pub moved_unless : (c : Control) (leaves piece : ℕ) → leaves ≡ edge_taken x m c → piece ≡ arrival x.net leaves → (nat_lt (suc c.fired) (operation_node_count x c.piece) || is_end (kind_in x.net c.piece)) ≡ false → (record { piece = piece; fired = 0; leaves = 0 }) ≡ control_after x m c
   moved_unless c leaves piece are comes goes =
       ap (λ (p : ℕ). record { piece = p; fired = 0; leaves = 0 }) comes
@@ -76,12 +70,6 @@ module _ (x : OperationNet) (v : Visit) (is : IsVisit x v) where
   due_none high =
       let test : nat_lt v.control.fired (operation_node_count x v.control.piece) ≡ false = ap (nat_lt v.control.fired) (sym is.count) ∙ le-ltb v.control.fired v.count high in
       ap (λ (b : Bool). if b then Some number_due else None) (sym test)
-
-  pub stays_as : (end : Bool) → (nat_lt (suc v.control.fired) v.count || end) ≡ (nat_lt (suc v.control.fired) (operation_node_count x v.control.piece) || end)
-  stays_as end = ap (λ (n : ℕ). nat_lt (suc v.control.fired) n || end) is.count
-
-  pub takes_as : (edge : ℕ) → (if v.control.fired == v.operations - 1 then edge else v.control.leaves) ≡ (if v.control.fired == operation_count x v.control.piece - 1 then edge else v.control.leaves)
-  takes_as edge = ap (λ (n : ℕ). if v.control.fired == n - 1 then edge else v.control.leaves) is.operations
 
 pub one_of : (bound edge old leaves : ℕ) (b : Bool) → leaves ≡ (if b then edge else old) → edge < bound → old < bound → leaves < bound
 one_of bound edge old leaves true is new before = subst (λ (e : ℕ). e < bound) (sym is) new

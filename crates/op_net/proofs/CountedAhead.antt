@@ -1,5 +1,5 @@
 -- It is counted for how much nodes wait, while a node fires whose count is ahead.
-use Rattle.std.proofs.Common.{◌≡◌, ◌<◌, ◌≤◌, ◌+◌, ◌-◌, ◌^◌, ◌==◌, ⊎_elim, ℕ, Bool, true, false, if◌then◌else◌, List, [], All, length, get_or, refl, sym, ap, ◌∙◌, subst, arith}
+use Rattle.std.proofs.Common.{◌≡◌, ◌<◌, ◌≤◌, ◌+◌, ◌^◌, ◌==◌, ⊎_elim, ℕ, Bool, true, false, if◌then◌else◌, List, [], All, length, get_or, refl, sym, ap, ◌∙◌, subst, arith}
 use Rattle.std.proofs.Math.Logic.{∥∥₁_elim}
 use Rattle.std.proofs.Props.{props}
 use Rattle.std.proofs.lemmas.Bool.{cases_Bool, eq-eqb, ne_eqb}
@@ -36,14 +36,6 @@ moved_one new old apart n r one b both is = let more = if_more b r in omega (ari
 module _ (x : OperationNet) (s : Places) (k : ℕ) where
   abbrev count_now : ℕ → ℕ
   count_now = awaits x s.apart.items (standing s)
-
-  pub counted_ahead : IsCounted x s → IsCountedAhead x s k 0
-  counted_ahead are = record {
-    counts = λ counted. subst (λ (f : ℕ → ℕ). s.counts.items ≡ Rattle.std.proofs.Common.map f (Rattle.std.specs.List.range_with_len 0 (node_total x))) (sym (more_none count_now k)) (are.counts counted);
-    marks = λ counted. subst (λ (f : ℕ → ℕ). AreMarksBut (node_total x) (has s.apart.items) (λ j. f j == 0) s.set) (sym (more_none count_now k)) (are.marks counted);
-    none = are.none;
-    leads = are.leads;
-  }
 
   pub ahead_counted : IsCountedAhead x s k 0 → IsCounted x s
   ahead_counted are = record {

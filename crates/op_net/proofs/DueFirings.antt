@@ -1,5 +1,5 @@
 -- Several firings of nodes that are due, one after another, in a system whose net stays the same.
-use Rattle.std.proofs.Common.{◌≡◌, ◌≢◌, ◌<◌, ◌+◌, ℕ, List, Option, None, Some, sym, subst, ◌∙◌}
+use Rattle.std.proofs.Common.{◌≡◌, ◌≢◌, ◌<◌, ℕ, List, Option, None, Some, sym, subst, ◌∙◌}
 use Rattle.firing.specs.declared.system.Fired.{Fired}
 use Rattle.firing.specs.declared.system.Fired.TheVariants.{Moved, Trapped}
 use Rattle.firing.specs.Control.{Course, IsInStep, KeepsStep, due_at, steered}
@@ -8,7 +8,7 @@ use Rattle.firing.specs.Moves.{CanFire, FiredIs, Moves, newest}
 use Rattle.firing.specs.Play.{Moment, by_order, moment}
 use Rattle.firing.specs.SourceOrder.{FiresTo, IsSourceOrder, newest_after}
 use Rattle.firing.proofs.ControlLemmas.{due_control, due_fires}
-use Rattle.firing.proofs.DueLemmas.{fires_more, in_step_after, line_more, one_due, one_line, sound_after, trap_told_after}
+use Rattle.firing.proofs.DueLemmas.{in_step_after, one_due, one_line, sound_after, trap_told_after}
 
 -- What a system tells of one firing of the node that is due.
 pub record IsDueFiring {M P : Type 0} (s : Moves M) (course : Course M P) (m : M) (c : Option P) (k : ℕ) (fired : Fired) (then : M) (later : Option P) (before after : List ℕ) : Type 0 where
@@ -38,15 +38,6 @@ module _ {M P : Type 0} (s : Moves M) (course : Course M P) where
   }
 
 module _ {N M P : Type 0} (moves : N → Moves M) (course : N → Course M P) where
-  pub next_firing : {x y : N} {start : Moment M P} {old before after : List ℕ} {most count k : ℕ} {last fired : Fired} {m then : M} {c later : Option P} → y ≡ x → last ≡ Moved → count < most → AreDueFirings (moves x) (course x) start old most count last m c before → IsDueFiring (moves y) (course y) m c k fired then later before after → AreDueFirings (moves x) (course x) start old most (count + 1) fired then later after
-  next_firing {x} {y} {start} {old} {before} {after} {most} {count} {k} {last} {fired} {m} {then} {c} {later} same moved below are firing =
-      let f : IsDueFiring (moves x) (course x) m c k fired then later before after = subst (λ (n : N). IsDueFiring (moves n) (course n) m c k fired then later before after) same firing in
-      let to : FiresTo (by_order (moves x) (course x)) start most count Moved (moment m c) = subst (λ (d : Fired). FiresTo (by_order (moves x) (course x)) start most count d (moment m c)) moved are.to in
-      record {
-        to = fires_more (moves x) (course x) to k f.due fired below f.can f.did f.marking f.place;
-        line = line_more (moves x) (course x) to k f.due old are.line f.line;
-      }
-
   module _ {sound : N → M → Type 0} {in_step : N → M → P → Type 0} (lawful : (n : N) → IsLawful (sound n) (moves n)) (steady : (n : N) → KeepsStep (sound n) (moves n) (course n) (in_step n)) (order : (n : N) → IsSourceOrder (sound n) (moves n) (course n) (in_step n)) where
     pub goes_on_due : {x y : N} {start m : M} {place c : Option P} {most count : ℕ} {fired : Fired} → y ≡ x → fired ≡ Moved → sound x start → IsInStep (moves x) (in_step x) start place → due_at (course x) start place ≢ None → FiresTo (by_order (moves x) (course x)) (moment start place) most count fired (moment m c) → GoesOnDue (sound y) (moves y) (in_step y) m c
     goes_on_due {x} {y} {start} {m} {place} {c} {most} {count} {fired} same moved is_sound step due to =

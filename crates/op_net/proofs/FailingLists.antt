@@ -73,10 +73,6 @@ module _ (p q : ℕ → Bool) (a : ℕ) (others : (x : ℕ) → (x ≡ a → ⊥
   abbrev is_in : (s l : ℕ) → Bool
   is_in s l = list_any (λ x. x == a) (range_with_len s l)
 
-  none_past : (s l : ℕ) → a < s → is_in s l ≡ false
-  none_past s zero past = refl
-  none_past s (suc l) past = ap (λ b. b || is_in (s + 1) l) (ne_eqb s a (λ e. omega (arith, e, past))) ∙ none_past (s + 1) l (omega (arith, past))
-
   past_row : (s l : ℕ) → a < s → failing q (range_with_len s l) ≡ failing p (range_with_len s l)
   past_row s zero past = refl
   past_row s (suc l) past =

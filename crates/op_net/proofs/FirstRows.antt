@@ -1,17 +1,17 @@
 -- The rows of the first pieces, where one piece more comes, and what is found among them.
-use Rattle.std.proofs.Common.{◌≡◌, ◌<◌, ◌≤◌, ◌⊎◌, ◌+◌, ◌-◌, ◌++◌, ⊎_elim, ℕ, zero, suc, true, List, [], ◌∷◌, length, map, take, drop, get_or, Option, None, Some, Vec, Global, slice_get, refl, sym, ap, ◌∙◌, subst, arith, length-append}
+use Rattle.std.proofs.Common.{◌≡◌, ◌<◌, ◌≤◌, ◌+◌, ◌++◌, ⊎_elim, ℕ, zero, suc, true, List, [], ◌∷◌, length, map, take, drop, get_or, Option, Some, Vec, Global, slice_get, refl, sym, ap, ◌∙◌, subst, arith, length-append}
 use Rattle.std.proofs.Math.Logic.{∥∥₁_elim, ∥∥₁_map}
 use Rattle.std.proofs.Props.{props}
 use Rattle.std.specs.List.{range_with_len}
 use Rattle.std.proofs.lemmas.Bool.{cases_lt}
-use Rattle.std.proofs.lemmas.Option.{slice_get_read, slice_get_within}
-use Rattle.net_board.specs.Nodes.{graph_in, is_acting, kind_in, touched}
+use Rattle.std.proofs.lemmas.Option.{slice_get_read}
+use Rattle.net_board.specs.Nodes.{is_acting, kind_in, touched}
 use Rattle.op_board.specs.OperationNets.{OperationNet, operation_count}
 use Rattle.op_net.specs.declared.rows.PieceRows.{PieceRows}
 use Rattle.op_net.specs.declared.rows.Row.{Row}
 use Rattle.op_net.specs.OperationRows.{AreRows, EntryIs, IsRow}
 use Rattle.op_net.specs.PieceTables.{AreFirstRows, entry_at, entry_in, rows_before}
-use Rattle.op_net.proofs.GrownLists.{get_before, get_end, get_some, mapped_at, mapped_length, mapped_more}
+use Rattle.op_net.proofs.GrownLists.{get_before, get_end, mapped_at, mapped_length, mapped_more}
 
 module _ {X : Type 0} where
   -- what stands behind the first ones
@@ -45,17 +45,6 @@ module _ (x : OperationNet) where
       let same : piece ≡ n = omega (arith, past, low) in
       subst (λ (k : ℕ). rows_before x k + operation_count x k ≤ rows_before x (suc n)) (sym same) (omega arith))
       (cases_lt piece n)
-
-  -- no rows of no pieces
-  pub no_rows : (rows : List Row) (starts : List ℕ) (entries : List (Vec ℕ Global)) → rows ≡ [] → starts ≡ 0 ∷ [] → entries ≡ [] → AreFirstRows x 0 rows starts entries
-  no_rows rows starts entries no_row start no_entry = record {
-    starts = start;
-    count = ap length no_row;
-    few = let none = ap length no_row in omega (arith, none);
-    rows = λ piece i row below. absurd (omega (arith, below));
-    pieces = ap length no_entry;
-    entries = λ piece place line below. absurd (omega (arith, below));
-  }
 
   -- ---- the rows of one piece more
 

@@ -7,11 +7,6 @@ module _ {X : Type 0} (f : X → X) where
   front_mapped (suc j) [] = []
   front_mapped (suc j) (x ∷ xs) = f x ∷ front_mapped j xs
 
-  pub front_length : (j : ℕ) (xs : List X) → length (front_mapped j xs) ≡ length xs
-  front_length zero xs = refl
-  front_length (suc j) [] = refl
-  front_length (suc j) (x ∷ xs) = ap suc (front_length j xs)
-
   -- the next item isn't mapped
   pub front_at : (j : ℕ) (xs : List X) (d : X) → get_or (front_mapped j xs) j d ≡ get_or xs j d
   front_at zero xs d = refl

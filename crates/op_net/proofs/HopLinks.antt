@@ -10,7 +10,7 @@ use Rattle.std.proofs.lemmas.List.Kept.{AllPairs-from_increasing}
 use Rattle.op_net.specs.declared.hops.Hop.{Hop}
 use Rattle.op_net.specs.declared.hops.Scratch.{Scratch}
 use Rattle.op_net.specs.ScratchLines.{first_at, linked}
-use Rattle.op_net.proofs.HopFronts.{front_at, front_length, front_mapped, front_next}
+use Rattle.op_net.proofs.HopFronts.{front_at, front_mapped, front_next}
 
 no_any : {X : Type 0} (p : X → Bool) (xs : List X) → ((k : ℕ) (d : X) → k < length xs → p (get_or xs k d) ≡ false) → list_any p xs ≡ false
 no_any p [] none = refl
@@ -61,9 +61,6 @@ module _ (xs : List Hop) (j : ℕ) (d : Hop) (low : j < length xs) where
 module _ (s : Scratch) (old hops : List Hop) (j : ℕ) (front : hops ≡ front_mapped (linked s) j old) where
   pub next_hop : (hop : Hop) → hop ≡ get_or hops j hop → hop ≡ get_or old j hop
   next_hop hop is = is ∙ ap (λ (xs : List Hop). get_or xs j hop) front ∙ front_at (linked s) j old hop
-
-  pub inside_front : j < length hops → j < length old
-  inside_front low = let same = ap length front ∙ front_length (linked s) j old in omega (arith, same, low)
 
   pub next_linked : (hop : Hop) (next : Option ℕ) → j < length old → hop ≡ get_or hops j hop → next ≡ first_at s hop.line → set hops j (record hop { next = next }) ≡ front_mapped (linked s) (j + 1) old
   next_linked hop next low is next_is =

@@ -115,11 +115,3 @@ module _ (test : ℕ → Bool) where
             and_false : (b : Bool) → (b && false) ≡ false
             and_false true = refl
             and_false false = refl
-
-    -- at last each member below the bound is
-    pub counts_end : ((k : ℕ) → test k ≡ true → k < lines) → (old new : ℕ → ℕ) → ((k : ℕ) → new k ≡ old k + one_if (test k && nat_lt k lines)) → (k : ℕ) → new k ≡ old k + one_if (test k)
-    counts_end exist old new counted k = counted k ∙ ap (λ b. old k + one_if b) (by (test k) refl)
-      where
-        by : (b : Bool) → test k ≡ b → (b && nat_lt k lines) ≡ b
-        by true is = lt-ltb k lines (exist k is)
-        by false is = refl

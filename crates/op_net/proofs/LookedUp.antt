@@ -13,7 +13,7 @@ use Rattle.op_net.specs.BoardView.{operation_net_on}
 use Rattle.op_net.specs.OperationRows.{EntryIs, IsEntry, IsRow}
 use Rattle.op_net.specs.OperationTables.{RowOfNode}
 use Rattle.op_net.specs.Telling.{IsOperation}
-use Rattle.op_net.specs.PieceTables.{AreFirstRows, entry_in, rows_before}
+use Rattle.op_net.specs.PieceTables.{entry_in, rows_before}
 use Rattle.op_net.specs.Waits.{IsSwitchOf, node_total}
 use Rattle.op_net.specs.declared.lookups.OperationBoard.{OperationBoard}
 use Rattle.op_net.specs.declared.rows.Row.{Row}

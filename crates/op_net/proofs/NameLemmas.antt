@@ -1,18 +1,14 @@
 -- The nodes of a net of operations, piece by piece.
 use Rattle.std.proofs.Common.{◌≡◌, ◌<◌, ◌≤◌, ℕ, suc, ◌+◌, ◌-◌, true, List, [], ◌∷◌, ◌++◌, length, slice_get, Some, map, flat_map, refl, sym, ap, ◌∙◌, arith, length-append}
 use Rattle.std.specs.List.{range_with_len}
-use Rattle.cfg_build.specs.declared.pieces.Piece.{Piece}
 use Rattle.cfg_build.specs.declared.pieces.PieceKind.{PieceKind}
 use Rattle.cfg_build.specs.declared.pieces.PieceKind.TheVariants as kind
-use Rattle.cfg_build.specs.Flow.{piece_in}
-use Rattle.cfg_build.specs.Joined.{FlowGraph}
-use Rattle.cfg_build.specs.Shape.{kind_at}
 use Rattle.firing.specs.declared.system.NodeName.{NodeName}
 use Rattle.firing.specs.declared.system.NodeName.TheVariants.{Act, Switch}
 use Rattle.net_board.specs.Nodes.{NetOf, first_node, graph_in, kind_in, name_in, node_at, node_count, nodes_at, nodes_below, nodes_by, switch_lines}
 use Rattle.op_board.specs.OperationFacts.{is_parting}
-use Rattle.op_board.specs.OperationNets.{OperationNet, first_operation, operation_node_count, operation_nodes, operation_nodes_at, operation_nodes_below, operation_nodes_by}
-use Rattle.op_net.proofs.GrownLists.{append_assoc, flat_map_next, named_more, rows_split}
+use Rattle.op_board.specs.OperationNets.{OperationNet, operation_nodes, operation_nodes_at, operation_nodes_by}
+use Rattle.op_net.proofs.GrownLists.{append_assoc, named_more, rows_split}
 
 get_here : (xs : List NodeName) (y : NodeName) (ys : List NodeName) → slice_get (xs ++ y ∷ ys) (length xs) ≡ Some y
 get_here [] y ys = refl
@@ -91,11 +87,6 @@ parting_operations x piece kind.Join is = absurd cc
 parting_operations x piece kind.End is = absurd cc
 
 module _ (x : OperationNet) (piece : ℕ) where
-  pub parting_count : is_parting (kind_in x.net piece) ≡ true → 1 ≤ node_count x.net piece
-  parting_count parts =
-      let count : node_count x.net piece ≡ suc (length (map (Switch piece) (switch_lines x.net piece (kind_in x.net piece)))) = ap length (parting_nodes x.net piece (kind_in x.net piece) parts) in
-      omega (arith, count)
-
   -- the operations, and the switches behind them
   pub parting_named : (old mid new : List NodeName) (from end : ℕ) → piece < (graph_in x.net).nodes → is_parting (kind_in x.net piece) ≡ true → from ≡ first_node x.net piece + 1 → end ≡ first_node x.net piece + node_count x.net piece → mid ≡ old ++ operation_nodes x piece → new ≡ mid ++ map (node_at x.net) (range_with_len from (end - from)) → new ≡ old ++ operation_nodes_at x piece
   parting_named old mid new from end exists parts is last before after =
@@ -105,9 +96,3 @@ module _ (x : OperationNet) (piece : ℕ) where
       ∙ ap (λ xs. (old ++ operation_nodes x piece) ++ xs) turns
       ∙ append_assoc old (operation_nodes x piece) (map (Switch piece) (switch_lines x.net piece (kind_in x.net piece)))
       ∙ ap (λ xs. old ++ xs) (sym (parting_operations x piece (kind_in x.net piece) parts))
-
-  pub first_next : first_operation x (piece + 1) ≡ first_operation x piece + operation_node_count x piece
-  first_next = ap length (flat_map_next (operation_nodes_at x) piece) ∙ length-append (operation_nodes_below x piece) (operation_nodes_at x piece)
-
-pub kind_told : (f h : FlowGraph) (node : ℕ) (x : Piece) → f ≡ h → slice_get f.pieces node ≡ Some x → x.kind ≡ kind_at h node
-kind_told f h node x same is = sym (ap (λ o. (piece_in o).kind) (ap (λ (k : FlowGraph). slice_get k.pieces node) (sym same) ∙ is))

@@ -2,7 +2,7 @@
 use Rattle.std.proofs.Common.{◌≡◌, ◌<◌, ◌⊎◌, inl, inr, ⊎_elim, ℕ, suc, ◌+◌, ◌&&◌, Bool, true, false, not, List, ◌++◌, length, map, Some, slice_get, refl, sym, ap, ◌∙◌, subst, arith}
 use Rattle.std.specs.List.{range_with_len}
 use Rattle.std.specs.Option.{option_map}
-use Rattle.std.proofs.lemmas.Bool.{and_from, and_parts, cases_Bool}
+use Rattle.std.proofs.lemmas.Bool.{and_parts, cases_Bool}
 use Rattle.std.proofs.lemmas.Option.{slice_get-map}
 use Rattle.cfg_build.specs.declared.pieces.PieceKind.{PieceKind}
 use Rattle.cfg_build.specs.declared.pieces.PieceKind.TheVariants as kind
@@ -144,10 +144,6 @@ module _ (x : OperationNet) where
   passing_at : (piece line : ℕ) → piece < (graph_in x.net).nodes → is_parting (kind_in x.net piece) ≡ true → line < x.net.routing.lines → passes piece line ≡ true → IsNodeAt (first_operation x piece + (operation_count x piece + switch_place piece line)) (Switch piece line)
   passing_at piece line exists parts low is =
       node_is_at piece (operation_count x piece + switch_place piece line) (Switch piece line) exists (passing_here piece line parts low is)
-
-  pub switch_name_at : (piece line : ℕ) → piece < (graph_in x.net).nodes → is_parting (kind_in x.net piece) ≡ true → line < x.net.routing.lines → is_free x.net piece line ≡ true → x.net.touches piece line ≡ false → IsNodeAt (first_operation x piece + (operation_count x piece + switch_place piece line)) (Switch piece line)
-  switch_name_at piece line exists parts low free untouched =
-      passing_at piece line exists parts low (and_from (is_free x.net piece line) (not (x.net.touches piece line)) free (ap not untouched))
 
   pub switch_at_node : (k piece line : ℕ) → k < node_total x → operation_node x k ≡ Switch piece line → IsSwitchAt k piece line
   switch_at_node k piece line below is =

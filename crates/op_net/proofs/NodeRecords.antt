@@ -1,11 +1,11 @@
 -- The number of the row of each node.
-use Rattle.std.proofs.Common.{◌≡◌, ◌≢◌, ◌<◌, ◌≤◌, ◌+◌, ℕ, suc, List, ◌∷◌, [], ◌++◌, length, get_or, Some, Vec, Global, slice_get, slice_index, refl, sym, ap, ◌∙◌, subst, arith, ⊎_elim}
+use Rattle.std.proofs.Common.{◌≡◌, ◌≢◌, ◌<◌, ◌≤◌, ◌+◌, ℕ, List, ◌∷◌, [], ◌++◌, length, Some, Vec, Global, slice_get, slice_index, refl, sym, ap, ◌∙◌, arith, ⊎_elim}
 use Rattle.std.proofs.lemmas.Bool.{cases_lt}
 use Rattle.std.proofs.lemmas.Option.{get_or_from_slice_get, slice_get_within}
 use Rattle.firing.specs.declared.system.NodeName.{NodeName}
 use Rattle.firing.specs.declared.system.NodeName.TheVariants.{Act, Merge, Op, Switch}
 use Rattle.net_board.specs.Nodes.{graph_in, name_in}
-use Rattle.op_board.specs.OperationNets.{OperationNet, all_operation_nodes, operation_count, operation_node}
+use Rattle.op_board.specs.OperationNets.{OperationNet, all_operation_nodes, operation_node}
 use Rattle.op_net.specs.declared.rows.Row.{Row}
 use Rattle.op_net.specs.PieceTables.{AreFirstRows, IsCounted, record_in, rows_before}
 use Rattle.op_net.specs.Waits.{node_total}

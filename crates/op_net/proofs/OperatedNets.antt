@@ -1,5 +1,5 @@
 -- The firing of an operation, put together from what its parts change of the places.
-use Rattle.std.proofs.Common.{◌≡◌, ◌≢◌, ◌<◌, ◌+◌, ◌-◌, ℕ, ℤ, pos, Bool, true, false, if◌then◌else◌, List, [], length, map, Option, None, Some, Result, Ok, Err, slice_get, refl, sym, ap, subst, ◌∙◌, arith}
+use Rattle.std.proofs.Common.{◌≡◌, ◌≢◌, ◌<◌, ◌+◌, ◌-◌, ℕ, ℤ, pos, Bool, true, false, if◌then◌else◌, List, [], length, Option, None, Some, Result, Ok, Err, slice_get, refl, sym, ap, subst, ◌∙◌, arith}
 use Rattle.std.specs.List.{list_all}
 use Rattle.op_table.specs.declared.Trap.{Trap}
 use Rattle.cfg_build.specs.declared.pieces.Piece.{Piece}
@@ -22,7 +22,7 @@ use Rattle.operation_effects.specs.declared.performing.Did.{Did}
 use Rattle.operation_effects.specs.declared.performing.Did.TheVariants as did
 use Rattle.operation_effects.specs.Done.{told}
 use Rattle.op_net.specs.declared.places.Places.{Places}
-use Rattle.op_net.specs.FiringChanges.{given_on, remembered, stopped_on, told_on, trapped_on}
+use Rattle.op_net.specs.FiringChanges.{given_on, remembered, stopped_on, told_on}
 use Rattle.op_net.specs.OperationRows.{room_of, waits_anew}
 use Rattle.op_net.specs.PlanFacts.{PlanFacts}
 use Rattle.op_net.specs.PlacesView.{IsAheadBy, IsCountedAhead, MakesUp, standing}
@@ -101,9 +101,6 @@ module _ (x : OperationNet) (s : Places) (k piece i : ℕ) (is : k ≡ first_ope
 
   pub ahead_load : IsCountedAhead x s (first_operation x piece + i) 1 → IsCountedAhead x s k 1
   ahead_load ahead = at_node 1 1 refl ahead
-
-  pub counted_there : IsCountedAhead x s (first_operation x piece + i) 0 → IsCountedAhead x s k 0
-  counted_there ahead = at_node 0 0 refl ahead
 
 -- ---- what the firing does
 

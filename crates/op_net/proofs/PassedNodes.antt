@@ -1,5 +1,5 @@
 -- Before which node a line stands that has passed operations of a piece which need it, and the next one of those.
-use Rattle.std.proofs.Common.{◌≡◌, ◌<◌, ◌⊎◌, inl, inr, ℕ, suc, ◌+◌, ◌-◌, ◌&&◌, ◌==◌, Bool, true, false, length, filter, Option, Some, None, slice_get, refl, sym, ap, ◌∙◌, subst, arith}
+use Rattle.std.proofs.Common.{◌≡◌, ◌<◌, ◌⊎◌, inl, inr, ℕ, ◌+◌, ◌-◌, ◌&&◌, ◌==◌, true, false, length, filter, Some, None, slice_get, refl, sym, ap, ◌∙◌, subst, arith}
 use Rattle.std.specs.List.{range_with_len}
 use Rattle.std.proofs.lemmas.Bool.{and_parts, cases_Bool, eqb-true, eq-eqb, ne_eqb}
 use Rattle.closed_walks.specs.Graph.{to}
@@ -7,35 +7,17 @@ use Rattle.firing.specs.declared.system.NodeName.{NodeName}
 use Rattle.firing.specs.declared.system.NodeName.TheVariants.{Act, Merge, Switch, Op}
 use Rattle.net_board.specs.Nodes.{graph_in, is_acting, kind_in}
 use Rattle.net_board.specs.Tokens.{leads_to}
-use Rattle.net_board.specs.WokenNodes.{passing_below}
 use Rattle.net_board.proofs.NodeNumbers.{among}
 use Rattle.op_net.specs.PlanFacts.{PlanFacts}
-use Rattle.op_board.specs.OperationNets.{OperationNet, first_operation, is_last_at, needing_before, operation_count, operation_node}
+use Rattle.op_board.specs.OperationNets.{OperationNet, first_operation, needing_before, operation_count, operation_node}
 use Rattle.op_board.proofs.FiringOperations.{both_ways}
-use Rattle.op_board.proofs.NeededLines.{passing_some}
-use Rattle.op_net.specs.ApartLoads.{FirstIs, needing}
-use Rattle.op_net.specs.OperationRows.{EntryIs, NextIs}
+use Rattle.op_net.specs.ApartLoads.{needing}
 use Rattle.op_net.specs.Waits.{IsNodeBefore, goes_through, node_total, stands_at}
-use Rattle.op_net.proofs.ApartNets.{IsPassing, counted_passes, passing_at}
+use Rattle.op_net.proofs.ApartNets.{IsPassing, passing_at}
 use Rattle.op_net.proofs.NodeNames.{IsMergeAt, IsOperationAt, IsSwitchAt, acts_where, merge_at_node, operation_at_node, switch_at_node}
 use Rattle.op_net.proofs.NodesBefore.{operation_before}
 
 module _ (x : OperationNet) (facts : PlanFacts x) where
-  untouched_needs : (piece i line : ℕ) → piece < (graph_in x.net).nodes → i < operation_count x piece → x.net.touches piece line ≡ false → x.needs piece i line ≡ false
-  untouched_needs piece i line exists inside untouched = by (cases_Bool (x.needs piece i line))
-    where
-      by : (x.needs piece i line ≡ true) ⊎ (x.needs piece i line ≡ false) → x.needs piece i line ≡ false
-      by (inl needs) = both_ways (x.net.touches piece line) (facts.touched piece i line exists inside needs) untouched
-      by (inr free) = free
-
-  -- no operation needs a line that the piece doesn't touch
-  pub first_none : (piece line : ℕ) → piece < (graph_in x.net).nodes → (0 < operation_count x piece → x.net.touches piece line ≡ false) → FirstIs x piece line None
-  first_none piece line exists untouched i inside = untouched_needs piece i line exists inside (untouched (omega (arith, inside)))
-
-  pub first_entry : (piece line : ℕ) (o : Option ℕ) → EntryIs x piece line o → FirstIs x piece line o
-  first_entry piece line None entry = absurd entry
-  first_entry piece line (Some n) entry = entry
-
   -- the operation that the line has come to
   pub numbered_before : (piece line edge passed i : ℕ) → piece < (graph_in x.net).nodes → to (graph_in x.net) edge ≡ piece → slice_get (needing x piece line) passed ≡ Some i → IsNodeBefore x line (Some edge) passed (first_operation x piece + i)
   numbered_before piece line edge passed i exists leads at =
@@ -81,23 +63,3 @@ module _ (x : OperationNet) (facts : PlanFacts x) where
 
     pub none_numbered : IsNodeBefore x line (Some edge) passed (node_total x)
     none_numbered j below = not_before j below ∙ sym (ne_eqb j (node_total x) (λ e. omega (arith, below, e)))
-
-  -- ---- the next operation that needs the line
-
-  module _ (piece i line : ℕ) where
-    abbrev passed_at : ℕ → ℕ
-    passed_at n = passing_below (λ j. x.needs piece j line) n
-
-    pub next_begins : x.needs piece i line ≡ true → passed_at (i + 1) ≡ suc (passed_at i)
-    next_begins needs = let one : passed_at i + 1 ≡ suc (passed_at i) = omega arith in sym (counted_passes (λ j. x.needs piece j line) i (passed_at i) refl needs) ∙ one
-
-    pub next_found : (n : ℕ) → n < operation_count x piece → x.needs piece n line ≡ true → passed_at n ≡ suc (passed_at i) → NextIs x piece i line (Some n)
-    next_found n inside needs after = record {
-      inside = inside;
-      needs = needs;
-      after = after;
-      more = let up = passing_some (λ j. x.needs piece j line) n (operation_count x piece) inside needs in ne_eqb (passed_at (operation_count x piece)) (suc (passed_at i)) (λ e. omega (arith, up, after, e));
-    }
-
-    pub next_none : passed_at (operation_count x piece) ≡ suc (passed_at i) → NextIs x piece i line None
-    next_none all = eq-eqb (passed_at (operation_count x piece)) (suc (passed_at i)) all

@@ -1,12 +1,11 @@
 -- The operations of a piece, performed one after another over the values that those before gave.
 use Rattle.std.proofs.Common.{◌≡◌, ◌<◌, ℕ, ℤ, ◌+◌, ◌++◌, Bool, true, false, List, [], ◌∷◌, length, map, drop, take, All, get_or, Option, None, Some, IfSome, Ok, sym, ap, ◌∙◌, subst, arith, add-one, drop_of_length-le}
 use mathlib.Core.Logic.{∥∥₁_elim}
-use Rattle.std.proofs.lemmas.List.{map_push, nil_from_length, take_more}
+use Rattle.std.proofs.lemmas.List.{map_push, take_more}
 use Rattle.f77_tree.specs.Execution.{Memory}
 use Rattle.f77_tree.specs.declared.programs.NameInfo.{NameInfo}
 use Rattle.op_board.specs.Effects.{All_done, Effect, after_one, changes, gives, operand_at, performed, ran, value_or_zero}
 use Rattle.op_board.specs.OperationNets.{OperationNet, operation_at, operation_count, operations_at}
-use Rattle.op_board.specs.OperationOrder.{ran_at}
 use Rattle.op_board.specs.Operations.{From, Known, Operand, Operation, Work, gives_value}
 use Rattle.op_board.proofs.OperationsApart.{operation_get}
 use Rattle.operation_effects.specs.Done.{told}
@@ -71,9 +70,6 @@ module _ (x : OperationNet) (piece : ℕ) where
   last_ran last m values effect all is =
       ran_one last m values effect (omega (arith, all)) is
       ∙ ap (λ (left : List Operation). ran names x.net.input (values ++ value_or_zero effect.value ∷ []) effect left) (drop_of_length-le ops (omega (arith, all)))
-
-  pub none_ran : (m : Memory) → operation_count x piece ≡ 0 → ran_at x piece m ≡ All_done (changes m)
-  none_ran m none = ap (λ (left : List Operation). ran names x.net.input [] (changes m) left) (nil_from_length ops none)
 
   -- ---- the values of operands
 

@@ -1,9 +1,9 @@
 -- The operations of pieces, as they are planned, make a net of operations.
-use Rattle.std.proofs.Common.{◌≡◌, ◌<◌, ◌≤◌, ⊎_elim, ◌↔◌, ℕ, ℤ, zero, suc, ◌+◌, Bool, true, List, [], ◌∷◌, ◌++◌, length, slice_get, Option, None, Some, map, All, sym, ap, ◌∙◌, subst, arith, length-append}
+use Rattle.std.proofs.Common.{◌≡◌, ◌<◌, ◌≤◌, ⊎_elim, ◌↔◌, ℕ, ℤ, zero, suc, ◌+◌, Bool, true, List, [], ◌∷◌, ◌++◌, length, slice_get, Option, Some, map, All, sym, ap, ◌∙◌, subst, arith, length-append}
 use Rattle.std.specs.Option.{option_map}
 use Rattle.std.proofs.lemmas.Bool.{cases_lt}
 use Rattle.std.proofs.lemmas.List.{length-map}
-use Rattle.std.proofs.lemmas.Option.{slice_get-map, slice_get_within, slice_get_past}
+use Rattle.std.proofs.lemmas.Option.{slice_get-map, slice_get_within}
 use mathlib.Core.Path.{fun_ext}
 use Rattle.op_table.specs.Words.{IsWord}
 use Rattle.class_set.specs.ClassSet.{holds}
@@ -14,13 +14,9 @@ use Rattle.f77_tree.specs.declared.programs.Program.{Program}
 use Rattle.f77_tree.specs.CanRun.{CanRun}
 use Rattle.f77_tree.specs.WellFormed.{IsWellFormed}
 use Rattle.alias_classes.specs.Classes.{ClassTable}
-use Rattle.cfg_build.specs.declared.pieces.Piece.{Piece}
-use Rattle.cfg_build.specs.Flow.{flow, piece_in}
 use Rattle.cfg_build.specs.Joined.{FlowGraph}
-use Rattle.cfg_build.specs.Passes.{kind_in as exec_kind_in}
 use Rattle.dep_routing.specs.Routing.{Routing}
 use Rattle.dep_routing.specs.Touch.{touches_in}
-use Rattle.dep_routing.specs.Touches.{exec_kind}
 use Rattle.net_board.specs.Nodes.{NetOf, graph_in}
 use Rattle.net_board.specs.NetParts.{net_with}
 use Rattle.net_board.specs.SoundNets.{IsNet}
@@ -63,9 +59,6 @@ pub record AreFirstNeeds {W : ℕ} (c : ClassTable) (touches : ℕ → Bool) (op
   pub each : (i line : ℕ) (operation : Operation) → i < n → slice_get operations i ≡ Some operation → (test_at needs i line ≡ true) ↔ OperationNeeds c touches (operation_seen operation) line
 
 module _ {W : ℕ} (c : ClassTable) (touches : ℕ → Bool) (operations : List Operation) where
-  pub no_needs : (needs : SetList W) → set_count needs ≡ 0 → AreFirstNeeds c touches operations 0 needs
-  no_needs needs none = record { count = none; each = λ i line operation below. absurd (omega (arith, below)) }
-
   -- those of one operation more
   pub next_needs : (n : ℕ) (needs new : SetList W) (operation : Operation) (set : ClassSet W) → AreFirstNeeds c touches operations n needs → slice_get operations n ≡ Some operation → ((line : ℕ) → (holds set line ≡ true) ↔ OperationNeeds c touches (operation_seen operation) line)
       → set_count new ≡ set_count needs + 1 → ((line : ℕ) → test_at new (set_count needs) line ≡ holds set line) → ((i line : ℕ) → i < set_count needs → test_at new i line ≡ test_at needs i line) → AreFirstNeeds c touches operations (n + 1) new
@@ -92,24 +85,12 @@ module _ {W : ℕ} (c : ClassTable) (touches : ℕ → Bool) (operations : List 
 
 -- ---- the operations of pieces
 
--- the flow graph tells what the piece is, and of which executable it is a part
-pub planned_operations : (p : Program) (f : FlowGraph) (piece : ℕ) (x : Piece) (operations : List board.Operation) → f ≡ flow p.execs → slice_get f.pieces piece ≡ Some x → operations ≡ board.operations_of p.names x.kind (exec_kind_in (slice_get p.execs x.exec)) → operations ≡ board.operations_of p.names (Rattle.cfg_build.specs.Shape.kind_at (flow p.execs) piece) (exec_kind p piece)
-planned_operations p f piece x operations own at are =
-    let same : x ≡ piece_in (slice_get (flow p.execs).pieces piece) = sym (ap piece_in at) ∙ ap (λ (g : FlowGraph). piece_in (slice_get g.pieces piece)) own in
-    are ∙ ap (λ (y : Piece). board.operations_of p.names y.kind (exec_kind_in (slice_get p.execs y.exec))) same
-
 -- the operations of so many pieces
 pub record AreFirstPlanned {W : ℕ} (net : NetOf) (c : ClassTable) (n : ℕ) (pieces : List (PieceOperations W)) : Type 0 where
   pub count : length pieces ≡ n
   pub each : (piece : ℕ) (planned : PieceOperations W) → slice_get pieces piece ≡ Some planned → AreOperationsOf net c piece planned
 
 module _ {W : ℕ} (net : NetOf) (c : ClassTable) where
-  pub none_planned : (pieces : List (PieceOperations W)) → pieces ≡ [] → AreFirstPlanned net c 0 pieces
-  none_planned pieces none = record {
-    count = ap length none;
-    each = λ piece planned at. let nothing : slice_get {X = PieceOperations W} [] piece ≡ Some planned = ap (λ xs. slice_get xs piece) (sym none) ∙ at in let past : slice_get {X = PieceOperations W} [] piece ≡ None = slice_get_past [] piece (omega arith) in absurd cc;
-  }
-
   pub next_planned : (n : ℕ) (pieces new : List (PieceOperations W)) (planned : PieceOperations W) → AreFirstPlanned net c n pieces → AreOperationsOf net c n planned → new ≡ pieces ++ planned ∷ [] → AreFirstPlanned net c (n + 1) new
   next_planned n pieces new planned first here are = record {
     count = let l = length-append pieces (planned ∷ []) in let e = ap length are in omega (arith, l, e, first.count);
@@ -119,9 +100,6 @@ module _ {W : ℕ} (net : NetOf) (c : ClassTable) where
         subst (λ (k : ℕ). AreOperationsOf net c k other) (sym (last.0 ∙ first.count)) (subst (λ (y : PieceOperations W). AreOperationsOf net c n y) last.1 here))
         (get_last pieces planned other piece (ap (λ xs. slice_get xs piece) (sym are) ∙ at));
   }
-
-  pub planned_done : (n : ℕ) (pieces : List (PieceOperations W)) → AreFirstPlanned net c n pieces → n ≡ (graph_in net).nodes → ArePlanned net c pieces
-  planned_done n pieces first all = record { every_piece = first.count ∙ all; each = first.each }
 
 -- ---- the net of them
 

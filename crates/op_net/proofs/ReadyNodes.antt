@@ -1,5 +1,5 @@
 -- Which nodes are ready, told by what they wait for.
-use Rattle.std.proofs.Common.{◌≡◌, ◌<◌, ◌+◌, ◌==◌, ℕ, Bool, true, false, List, Option, refl, sym, ap, ◌∙◌, arith}
+use Rattle.std.proofs.Common.{◌≡◌, ◌<◌, ◌==◌, ℕ, Bool, true, false, List, Option, sym, ap, ◌∙◌, arith}
 use Rattle.op_table.specs.declared.Trap.{Trap}
 use Rattle.f77_tree.specs.Execution.{Memory}
 use Rattle.f77_meaning.specs.Storage.{memory_of}

@@ -1,5 +1,5 @@
 -- Which operands of an operation are values of others, and which of them come first.
-use Rattle.std.proofs.Common.{◌≡◌, ◌<◌, ◌≤◌, ◌+◌, ℕ, ℤ, pos, List, [], ◌∷◌, ◌++◌, length, get_or, map, take, refl, sym, ap, ◌∙◌, arith}
+use Rattle.std.proofs.Common.{◌≡◌, ◌<◌, ◌≤◌, ◌+◌, ℕ, ℤ, List, [], ◌∷◌, ◌++◌, length, get_or, map, take, refl, sym, ap, ◌∙◌, arith}
 use Rattle.std.proofs.lemmas.List.{take_more}
 use Rattle.op_board.specs.Operations as board
 use Rattle.op_board.specs.OperationNets.{OperationNet}
@@ -8,12 +8,6 @@ use Rattle.operation_lists.specs.declared.operations.Operand.{Operand}
 use Rattle.operation_lists.specs.declared.operations.Operand.TheVariants.{Known, Node}
 use Rattle.operation_lists.specs.Seen.{operand_seen}
 use Rattle.op_net.specs.OperationRows.{first_three}
-
-pub three_first : (operands : List board.Operand) → get_or operands 0 (board.Known (pos 0)) ∷ get_or operands 1 (board.Known (pos 0)) ∷ get_or operands 2 (board.Known (pos 0)) ∷ [] ≡ first_three operands
-three_first [] = refl
-three_first (a ∷ []) = refl
-three_first (a ∷ b ∷ []) = refl
-three_first (a ∷ b ∷ d ∷ more) = refl
 
 -- of at most three operands nothing else is taken
 pub taken_three : (f : board.Operand → ℤ) (operands : List board.Operand) (count : ℕ) (args : List ℤ) → count ≡ length operands → count ≤ 3 → map f (first_three operands) ≡ args → take count args ≡ map f operands

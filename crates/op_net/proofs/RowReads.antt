@@ -1,5 +1,5 @@
 -- What the firing of an operation reads in its row, where the row is known to be true.
-use Rattle.std.proofs.Common.{◌≡◌, ◌<◌, ◌≤◌, ◌+◌, ◌-◌, ◌≢◌, ◌⊎◌, ⊎_elim, inl, inr, if◌then◌else◌, ℕ, true, lt-ltb, le-ltb, length, map, ap, sym, subst, ◌∙◌, arith}
+use Rattle.std.proofs.Common.{◌≡◌, ◌<◌, ◌≤◌, ◌+◌, ◌-◌, ◌≢◌, ◌⊎◌, ⊎_elim, inl, inr, if◌then◌else◌, ℕ, true, lt-ltb, le-ltb, length, ap, sym, subst, ◌∙◌, arith}
 use Rattle.std.proofs.Math.Logic.{∥∥₁_elim}
 use Rattle.std.proofs.Props.{props}
 use Rattle.std.proofs.lemmas.Bool.{cases_lt}

@@ -1,7 +1,7 @@
 -- What the lines and the operands in the row of an operation wait for, and what waits for switches.
 use Rattle.std.proofs.Common.{◌≡◌, ◌<◌, ◌≤◌, ◌+◌, ◌-◌, ◌&&◌, ◌==◌, ℕ, ℤ, zero, suc, Bool, true, false, not, is_some, List, [], ◌∷◌, ◌++◌, length, get_or, take, map, All, Option, slice_get, refl, sym, ap, ◌∙◌, subst, inl, inr, arith}
 use Rattle.std.specs.List.{range_with_len}
-use Rattle.std.proofs.lemmas.List.{take_more, length-take-le}
+use Rattle.std.proofs.lemmas.List.{take_more}
 use Rattle.list_laws.specs.Member.{Member}
 use Rattle.list_laws.proofs.Members.{IsAt, Member-at, Member-map, at_of}
 use Rattle.list_laws.proofs.Ranges.{range_last}
@@ -19,7 +19,7 @@ use Rattle.op_net.specs.declared.hops.Hop.{Hop}
 use Rattle.op_net.specs.OperationRows.{IsHop}
 use Rattle.op_net.specs.RowWaits.{IsBelow, hop_stands, is_there}
 use Rattle.op_net.specs.Waits.{failing, one_if}
-use Rattle.op_net.proofs.FailingLists.{failing_same, failing_short}
+use Rattle.op_net.proofs.FailingLists.{failing_same}
 use Rattle.op_net.proofs.NodeNames.{IsOperationAt}
 use Rattle.op_net.proofs.NodesAfter.{giver_before}
 use Rattle.op_net.proofs.SwitchNodes.{switch_count}
@@ -39,22 +39,6 @@ module _ {A : Type 0} (p : A → Bool) where
   pub failing_next : (xs : List A) (i : ℕ) (d : A) → i < length xs → failing p (take (i + 1) xs) ≡ failing p (take i xs) + one_if (not (p (get_or xs i d)))
   failing_next xs i d inside = ap (failing p) (take_more xs i d inside) ∙ failing_last (take i xs) (get_or xs i d)
 
-  -- no more fail than were tried
-  pub failing_tried : (xs : List A) (i : ℕ) → i ≤ length xs → failing p (take i xs) ≤ i
-  failing_tried xs i within =
-      let f = failing_short p (take i xs) in
-      let l = length-take-le i xs within in
-      omega (arith, f, l)
-
-  take_all : (xs : List A) (i : ℕ) → length xs ≤ i → take i xs ≡ xs
-  take_all [] zero all = refl
-  take_all [] (suc i) all = refl
-  take_all (x ∷ xs) zero all = absurd (omega (arith, all))
-  take_all (x ∷ xs) (suc i) all = ap (λ ys. x ∷ ys) (take_all xs i (omega (arith, all)))
-
-  pub failing_all : (xs : List A) (i : ℕ) → length xs ≤ i → failing p (take i xs) ≡ failing p xs
-  failing_all xs i all = ap (failing p) (take_all xs i all)
-
 module _ (p : ℕ → Bool) where
   pub row_next : (first k : ℕ) → suc first ≤ k → failing p (range_with_len (suc first) (k + 1 - suc first)) ≡ failing p (range_with_len (suc first) (k - suc first)) + one_if (not (p k))
   row_next first k low =
@@ -64,9 +48,6 @@ module _ (p : ℕ → Bool) where
       ∙ ap (failing p) (range_last (suc first) (k - suc first))
       ∙ failing_last p (range_with_len (suc first) (k - suc first)) (suc first + (k - suc first))
       ∙ ap (λ n. failing p (range_with_len (suc first) (k - suc first)) + one_if (not (p n))) last
-
-  pub row_none : (first k : ℕ) → k ≤ suc first → failing p (range_with_len (suc first) (k - suc first)) ≡ 0
-  row_none first k low = let none : k - suc first ≡ 0 = omega (arith, low) in ap (λ n. failing p (range_with_len (suc first) n)) none
 
 all_member : {A : Type 0} (P : A → Type 0) (xs : List A) (x : A) → All P xs → Member xs x → P x
 all_member P xs x all m = let r : IsAt xs x = at_of xs x m in subst P (r.is x) (all r.place x r.exists)
@@ -146,8 +127,3 @@ pub read_value : (xs : List (Option ℤ)) (k : ℕ) (v : Option ℤ) → k < len
 read_value [] k v below is = absurd (omega (arith, below))
 read_value (y ∷ ys) zero v below is = sym is
 read_value (y ∷ ys) (suc k) v below is = read_value ys k v (omega (arith, below)) is
-
-pub read_number : (xs : List ℕ) (k v : ℕ) → k < length xs → v ≡ get_or xs k v → get_or xs k 0 ≡ v
-read_number [] k v below is = absurd (omega (arith, below))
-read_number (y ∷ ys) zero v below is = sym is
-read_number (y ∷ ys) (suc k) v below is = read_number ys k v (omega (arith, below)) is

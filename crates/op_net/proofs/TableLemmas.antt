@@ -1,5 +1,5 @@
 -- The most operands of an operation.
-use Rattle.std.proofs.Common.{◌≡◌, ◌<◌, ◌≤◌, ⊎_elim, ℕ, ◌+◌, List, [], ◌∷◌, ◌++◌, length, slice_get, None, Some, map, sym, ap, ◌∙◌, subst, arith, length-append}
+use Rattle.std.proofs.Common.{◌≡◌, ◌<◌, ◌≤◌, ⊎_elim, ℕ, ◌+◌, List, [], length, slice_get, None, Some, map, sym, ap, ◌∙◌, subst, arith}
 use mathlib.Core.Logic.{∥∥₁_elim}
 use Rattle.std.proofs.Props.{props}
 use Rattle.std.specs.Option.{option_map}
@@ -17,11 +17,8 @@ use Rattle.operation_lists.specs.declared.operations.Operation.{Operation}
 use Rattle.operation_lists.specs.Seen.{operand_seen, operation_seen}
 use Rattle.op_net.specs.declared.plan.OperationPlan.{OperationPlan}
 use Rattle.op_net.specs.declared.plan.PieceOperations.{PieceOperations}
-use Rattle.op_net.specs.declared.rows.PieceRows.{PieceRows}
-use Rattle.op_net.specs.OperationRows.{AreRows}
-use Rattle.op_net.specs.PieceTables.{AreAllRows}
 use Rattle.op_net.specs.PlanView.{operations_in}
-use Rattle.op_net.proofs.GrownLists.{get_last, get_some}
+use Rattle.op_net.proofs.GrownLists.{get_some}
 
 -- ---- operands
 
@@ -30,23 +27,6 @@ pub record AreMost {W : ℕ} (pieces : List (PieceOperations W)) (n most : ℕ) 
   pub each : (piece i : ℕ) (planned : PieceOperations W) (operation : Operation) → piece < n → slice_get pieces piece ≡ Some planned → slice_get planned.operations.items i ≡ Some operation → i + length operation.operands.items ≤ most
 
 module _ {W : ℕ} where
-  pub none_most : (pieces : List (PieceOperations W)) → AreMost pieces 0 0
-  none_most pieces = record { each = λ piece i planned operation below. absurd (omega (arith, below)) }
-
-  pub next_most : (pieces : List (PieceOperations W)) (n old here new : ℕ) (planned : PieceOperations W) → AreMost pieces n old → slice_get pieces n ≡ Some planned → ((i : ℕ) (operation : Operation) → slice_get planned.operations.items i ≡ Some operation → i + length operation.operands.items ≤ here) → old ≤ new → here ≤ new → AreMost pieces (n + 1) new
-  next_most pieces n old here new planned before at all low high = record {
-    each = λ piece i other operation below is has. ⊎_elim
-        (λ (l : piece < n). let r = before.each piece i other operation l is has in omega (arith, r, low))
-        (λ (past : n ≤ piece).
-        let same : piece ≡ n = omega (arith, past, below) in
-        let found : Some planned ≡ Some other = sym at ∙ ap (slice_get pieces) (sym same) ∙ is in
-        let own : planned ≡ other = cc in
-        let there : slice_get planned.operations.items i ≡ Some operation = ap (λ (y : PieceOperations W). slice_get y.operations.items i) own ∙ has in
-        let r = all i operation there in
-        omega (arith, r, high))
-        (cases_lt piece n);
-  }
-
   -- a piece that isn't there is the start, which has no operations
   no_operations : (plan : OperationPlan W) (piece : ℕ) → (graph_in (operations_in plan).net).nodes ≤ piece → operation_count (operations_in plan) piece ≡ 0
   no_operations plan piece past =

@@ -10,7 +10,6 @@ use Rattle.op_net.specs.declared.net.OpNet.{OpNet}
 use Rattle.op_net.specs.declared.telling.OpName.{OpName}
 use Rattle.op_net.specs.declared.telling.OpName.TheVariants.{Load}
 use Rattle.op_net.specs.NetView.{marking_of, net_of}
-use Rattle.op_net.specs.OperationRows.{IsEntry}
 use Rattle.op_net.specs.PlacesView.{KeepsCounts}
 use Rattle.op_net.specs.Waits.{node_total}
 
@@ -49,11 +48,6 @@ loaded_apart x m k piece i = record m { values = (fired_as x m k (Op piece i)).v
 -- the operations of a piece that need a line
 abbrev pub needing : OperationNet → (piece line : ℕ) → List ℕ
 needing x piece line = filter (λ i. x.needs piece i line) (range_with_len 0 (operation_count x piece))
-
--- the first operation of the piece that needs the line, where there is one
-abbrev pub FirstIs : OperationNet → (piece line : ℕ) → Option ℕ → Type 0
-FirstIs x piece line None = (i : ℕ) → i < operation_count x piece → x.needs piece i line ≡ false
-FirstIs x piece line (Some n) = IsEntry x piece line n
 
 -- the operation of its piece that gives the operand, unless that is known
 abbrev pub giver_of : Operand → Option ℕ

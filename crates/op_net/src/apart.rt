@@ -1,6 +1,6 @@
 //! What a game needs that leads some nodes by itself: loads, and the lines of loads.
 
-ghost use Rattle.std.specs.Prelude.{◌≡◌, ◌<◌, ◌≤◌, ◌&&◌, ◌==◌, ℕ, None, Some, is_some, length, map, not, set, slice_get, true};
+ghost use Rattle.std.specs.Prelude.{◌≡◌, ◌<◌, ◌&&◌, ◌==◌, ℕ, None, Some, is_some, length, map, not, set, slice_get, true};
 ghost use Rattle.std.specs.List.{list_all};
 ghost use Rattle.closed_walks.specs.Graph.{edge_count, to};
 ghost use Rattle.cfg_build.specs.Passes.{out};
@@ -15,10 +15,10 @@ ghost use Rattle.op_board.specs.OperationNets.{needed, needing_before, operation
 ghost use Rattle.op_board.specs.OperationTokens.{OperationTokens, is_given, passed_by, value_at};
 ghost use Rattle.op_board.specs.Operations.{gives_value};
 ghost use Rattle.operation_lists.specs.Seen.{operand_seen};
-ghost use Rattle.op_net.specs.ApartLoads.{FirstIs, IsCounting, IsUncounted, KeepsApart, MarksOthers, apart_of, flags_of, giver_of, is_apart, is_load_name, loaded_apart, needing};
+ghost use Rattle.op_net.specs.ApartLoads.{IsCounting, IsUncounted, KeepsApart, MarksOthers, apart_of, flags_of, giver_of, is_apart, is_load_name, loaded_apart, needing};
 ghost use Rattle.op_net.specs.NetView.{marking_of, net_of};
 ghost use Rattle.op_net.specs.OperationRows.{NextIs};
-ghost use Rattle.op_net.specs.PlacesView.{line_put, value_put};
+ghost use Rattle.op_net.specs.PlacesView.{line_put};
 ghost use Rattle.op_net.specs.Steering.{LeadsBy};
 ghost use Rattle.op_net.specs.Telling.{operation_name};
 ghost use Rattle.op_net.specs.Waits.{IsNodeBefore, node_total, one_if, takes_from};
@@ -26,7 +26,7 @@ ghost use Rattle.op_net.specs.Waits.{IsNodeBefore, node_total, one_if, takes_fro
 use crate::control_moves::{due_at, steered};
 use crate::leads::lead_of;
 use crate::net_firing::{count_ahead, work_with};
-use crate::standing::{entry, head, is_needed, node_before, turn_of};
+use crate::standing::{head, is_needed, node_before, turn_of};
 use crate::telling::{operand_at, work_name};
 use crate::waiting::waits_for_operands;
 use crate::{OpName, OpNet, Operand};
@@ -75,13 +75,6 @@ impl<const W: usize> OpNet<'_, W> {
         ensures { result ≡ self.now.places.counted }
     {
         self.places.counted
-    }
-
-    /// Whether another game leads a node.
-    pub fn is_apart(&self, k: u32) -> bool
-        ensures { result ≡ is_apart self.now k }
-    {
-        self.places.is_apart(k)
     }
 
     /// The marks of nodes.
@@ -173,47 +166,6 @@ impl<const W: usize> OpNet<'_, W> {
     {
         let row = self.board.row(piece, i);
         k - i + row.taker
-    }
-
-    /// Puts a line on an edge, where it has passed so many of the operations that need it.
-    pub fn put_line(&mut self, line: u32, edge: u32, passed: u32)
-        requires line { line < (net_of self.old).net.routing.lines }
-        requires edge { edge < edge_count (graph_in (net_of self.old).net) }
-        ensures net { net_of self.new ≡ net_of self.old }
-        ensures marking { marking_of self.new ≡ line_put (marking_of self.old) line (Some edge) passed }
-        ensures place { self.new.control ≡ self.old.control }
-        ensures kept { KeepsApart self.old self.new }
-        ensures last { self.new.text.items ≡ self.old.text.items }
-    {
-        let (from, to) = self.ends_between(line, edge, passed);
-        self.places
-            .put_line(&self.board, line, Some(edge), passed, from, to);
-    }
-
-    // The node before which a line stands, and the one before which it comes to stand on an edge, where it has passed so many of the
-    // operations that need it. They are looked for only while it is counted for how much nodes wait.
-    fn ends_between(&self, line: u32, edge: u32, passed: u32) -> (u32, u32)
-        requires line { line < (net_of self.now).net.routing.lines }
-        requires edge { edge < edge_count (graph_in (net_of self.now).net) }
-        ensures from { IsCounting self.now → IsNodeBefore (net_of self.now) line (edge_of (marking_of self.now).tokens line) (passed_by (marking_of self.now) line) result.0 }
-        ensures to { IsCounting self.now → IsNodeBefore (net_of self.now) line (Some edge) passed result.1 }
-    {
-        if !self.places.counted {
-            return (0, 0);
-        }
-        let from = self.node_before(line);
-        (from, self.node_at(line, edge, passed))
-    }
-
-    // The node before which a line stands, or the number of all nodes.
-    fn node_before(&self, line: u32) -> u32
-        requires { line < (net_of self.now).net.routing.lines }
-        ensures { IsNodeBefore (net_of self.now) line (edge_of (marking_of self.now).tokens line) (passed_by (marking_of self.now) line) result }
-    {
-        match self.edge_of(line) {
-            Some(edge) => self.node_at(line, edge, self.passed(line)),
-            None => self.board.nodes(),
-        }
     }
 
     /// Puts a line that stands before one node on an edge, where it has passed so many of the operations that need it, so that it stands
@@ -362,22 +314,7 @@ impl<const W: usize> OpNet<'_, W> {
         self.board.plan.board.plan.routes.lines()
     }
 
-    /// How many pieces there are.
-    pub fn pieces(&self) -> u32
-        ensures { result ≡ (graph_in (net_of self.now).net).nodes }
-    {
-        self.board.plan.board.plan.flow.pieces()
-    }
-
     // ---- operations
-
-    /// How many operations a piece has.
-    pub fn operations(&self, piece: u32) -> u32
-        requires { piece < (graph_in (net_of self.now).net).nodes }
-        ensures { result ≡ operation_count (net_of self.now) piece }
-    {
-        self.board.operations(piece)
-    }
 
     /// Whether an operation is a load.
     pub fn loads(&self, piece: u32, i: u32) -> bool
@@ -419,51 +356,6 @@ impl<const W: usize> OpNet<'_, W> {
                 return Some(i);
             }
             left -= 1;
-        }
-        None
-    }
-
-    /// How many operations of a piece need a line.
-    pub fn needing_count(&self, piece: u32, line: u32) -> u32
-        requires { piece < (graph_in (net_of self.now).net).nodes }
-        ensures { result ≡ length (needing (net_of self.now) piece line) }
-    {
-        let count = self.board.operations(piece);
-        let mut needing = 0;
-        for i in 0..count {
-            if !self.needs_line(piece, i, line) {
-                continue;
-            }
-            needing += 1;
-        }
-        needing
-    }
-
-    /// The first operation of a piece that needs a line.
-    pub fn first_needing(&self, piece: u32, line: u32) -> Option<u32>
-        requires piece { piece < (graph_in (net_of self.now).net).nodes }
-        requires line { line < (net_of self.now).net.routing.lines }
-        ensures { FirstIs (net_of self.now) piece line result }
-    {
-        if is_needed(&self.board, piece, line) {
-            entry(&self.board, piece, line)
-        } else {
-            None
-        }
-    }
-
-    /// The next operation of a piece that needs a line which this one needs.
-    pub fn next_needing(&self, piece: u32, i: u32, line: u32) -> Option<u32>
-        requires piece { piece < (graph_in (net_of self.now).net).nodes }
-        requires operation { i < operation_count (net_of self.now) piece }
-        requires needs { (net_of self.now).needs piece i line ≡ true }
-        ensures { NextIs (net_of self.now) piece i line result }
-    {
-        let count = self.board.operations(piece);
-        for n in i + 1..count {
-            if self.needs_line(piece, n, line) {
-                return Some(n);
-            }
         }
         None
     }

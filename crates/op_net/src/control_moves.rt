@@ -1,7 +1,7 @@
 //! How the firing of the node that is due moves control on.
 
 ghost use Rattle.std.specs.Option.{ForSome};
-ghost use Rattle.std.specs.Prelude.{◌≡◌, ◌<◌, ◌==◌, ◌-◌, ◌||◌, ℕ, suc, nat_lt, if◌then◌else◌};
+ghost use Rattle.std.specs.Prelude.{◌≡◌, ◌<◌, ◌==◌, ◌-◌, ◌||◌, suc, nat_lt, if◌then◌else◌};
 ghost use Rattle.closed_walks.specs.Graph.{edge_count};
 ghost use Rattle.cfg_build.specs.Joined.{is_end};
 ghost use Rattle.firing.specs.Control.{steered as steered_in};

@@ -7,7 +7,7 @@ ghost use Rattle.op_board.specs.OperationTokens.{passed_by, value_at};
 ghost use Rattle.op_net.specs.BoardView.{operation_net_on};
 ghost use Rattle.op_net.specs.Counts.{AreCounts, more_of, one_more};
 ghost use Rattle.op_net.specs.PlacesView.{IsAheadBy, IsCounted, KeepsCounts, MakesUp, edge_put, line_put, standing, value_put};
-ghost use Rattle.op_net.specs.Waits.{AreSwitchNodes, IsNodeAfter, IsNodeBefore, node_total, one_if, waits};
+ghost use Rattle.op_net.specs.Waits.{AreSwitchNodes, IsNodeAfter, IsNodeBefore, node_total, one_if};
 
 use crate::lookups::OperationBoard;
 use crate::places::Places;

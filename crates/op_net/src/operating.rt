@@ -1,13 +1,13 @@
 //! What the firing of an operation takes, and where it leads lines.
 
-ghost use Rattle.std.specs.Prelude.{◌≡◌, ◌<◌, ◌≤◌, ◌+◌, ◌++◌, [], ◌∷◌, ℕ, None, Some, length, map, true, vec_capacity, vec_len};
+ghost use Rattle.std.specs.Prelude.{◌≡◌, ◌<◌, ◌≤◌, ◌+◌, ◌++◌, [], ◌∷◌, None, Some, length, map, true, vec_capacity, vec_len};
 ghost use Rattle.closed_walks.specs.Graph.{edge_count};
 ghost use Rattle.cfg_build.specs.Passes.{out};
 ghost use Rattle.net_board.specs.Nodes.{graph_in, switches};
-ghost use Rattle.net_board.specs.Tokens.{edge_of, led_from, with_all};
+ghost use Rattle.net_board.specs.Tokens.{edge_of, led_from};
 ghost use Rattle.op_board.specs.Operations.{is_decision};
-ghost use Rattle.op_board.specs.OperationNets.{first_operation, last_needed, needed, operation_at, operation_count};
-ghost use Rattle.op_board.specs.OperationTokens.{are_clear, givers, is_given, operand_in, passed_after, passed_by, replaced, stands_before, taken_values};
+ghost use Rattle.op_board.specs.OperationNets.{first_operation, needed, operation_at, operation_count};
+ghost use Rattle.op_board.specs.OperationTokens.{are_clear, givers, is_given, operand_in, passed_by, stands_before};
 ghost use Rattle.std.specs.List.{list_all};
 ghost use Rattle.operation_lists.specs.Seen.{operand_seen};
 ghost use Rattle.op_net.specs.BoardView.{operation_net_on};

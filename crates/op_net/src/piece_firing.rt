@@ -10,7 +10,6 @@ ghost use Rattle.net_board.specs.ControlCourse.{arrived};
 ghost use Rattle.net_board.specs.Nodes.{graph_in, kind_in};
 ghost use Rattle.net_board.specs.Tokens.{written};
 ghost use Rattle.op_board.specs.OperationCourse.{due_operation};
-ghost use Rattle.op_board.specs.OperationNets.{operation_node_count};
 ghost use Rattle.op_board.specs.OperationTokens.{operation_moves};
 ghost use Rattle.op_board.specs.SoundOperationNets.{OperationsCanCome};
 ghost use Rattle.op_board.specs.WholePieces.{answer_of};

@@ -1,6 +1,6 @@
 //! All operations of a piece, performed one after another, without places for their values.
 
-ghost use Rattle.std.specs.Prelude.{◌≡◌, ◌≢◌, ◌<◌, ◌≤◌, [], ℕ, All, IfSome, None, Ok, Some, length, take, true, vec_capacity};
+ghost use Rattle.std.specs.Prelude.{◌≡◌, ◌≢◌, ◌<◌, ◌≤◌, [], All, IfSome, None, Ok, Some, length, take, true, vec_capacity};
 ghost use Rattle.f77_meaning.specs.Storage.{memory_of};
 ghost use Rattle.net_board.specs.Nodes.{graph_in};
 ghost use Rattle.net_board.specs.SoundNets.{HasSizesOf};

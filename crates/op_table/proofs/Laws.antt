@@ -1,15 +1,15 @@
 -- What the crates above may use of the operators' values.
-use Rattle.std.proofs.Common.{◌≡◌, zero, suc, ℤ, pos, negsuc, ◌+ℤ◌, ◌-ℤ◌, ◌*ℤ◌, ◌≤ℤ◌, Bool, true, false, List, [], ◌∷◌, Option, Some, None, Result, Ok, Err, refl, ap, subst, ◌∙◌, w32, arith}
+use Rattle.std.proofs.Common.{◌≡◌, ℤ, pos, ◌+ℤ◌, ◌-ℤ◌, ◌*ℤ◌, ◌≤ℤ◌, Bool, true, false, List, [], ◌∷◌, Option, Some, None, Result, Ok, Err, refl, ap, subst, ◌∙◌, w32, arith}
 use Rattle.std.specs.Prelude.{is_ok, is_err, int_lt, ◌||◌, if◌then◌else◌}
 use Rattle.std.specs.Option.{option_map, option_and_then}
 use Rattle.std.specs.Result.{result_ok}
 use Rattle.std.proofs.lemmas.Int.{SFits-int_wrap, int_wrap_fits, ints}
 use Rattle.op_table.specs.declared.Op.{Op}
-use Rattle.op_table.specs.declared.Op.TheVariants.{Add, Truth, Bound, Place, Three, Step}
+use Rattle.op_table.specs.declared.Op.TheVariants.{Truth, Bound, Place, Step}
 use Rattle.op_table.specs.declared.Trap.{Trap}
 use Rattle.op_table.specs.declared.Trap.TheVariants.{Subscript, Step as NoStep}
 use Rattle.op_table.specs.Words.{IsWord, wrapped, is_true, truth}
-use Rattle.op_table.specs.Operators.{applied, unary, binary, ternary, in_a_word, which_of_three}
+use Rattle.op_table.specs.Operators.{applied, unary, binary, ternary, in_a_word}
 use Rattle.op_table.specs.Known.{all_known, folded, MayAllBe, CanTrap}
 use Rattle.op_table.proofs.Powers.{int_eq-no}
 
@@ -70,10 +70,6 @@ cannot_trap op known args h may = by (applied op args) refl
 
 -- ---- rows that other definitions are made of
 
-pub applied-Add : (a b : ℤ) → applied Add (a ∷ b ∷ []) ≡ Ok (wrapped (a +ℤ b))
-unfolding applied binary
-applied-Add a b = refl
-
 truth-word : (b : Bool) → IsWord (truth b)
 truth-word true = omega (arith, ints)
 truth-word false = omega (arith, ints)
@@ -81,15 +77,6 @@ truth-word false = omega (arith, ints)
 pub applied-Truth : (a : ℤ) → applied Truth (a ∷ []) ≡ Ok (truth (is_true a))
 unfolding applied unary
 applied-Truth a = ap (λ z. Ok z) (int_wrap_fits w32 (truth (is_true a)) (truth-word (is_true a)))
-
-three-word : (a : ℤ) → IsWord (which_of_three a)
-three-word (negsuc n) = omega (arith, ints)
-three-word (pos zero) = omega (arith, ints)
-three-word (pos (suc n)) = omega (arith, ints)
-
-pub applied-Three : (a : ℤ) → applied Three (a ∷ []) ≡ Ok (which_of_three a)
-unfolding applied unary
-applied-Three a = ap (λ z. Ok z) (int_wrap_fits w32 (which_of_three a) (three-word a))
 
 pub applied-Step-zero : applied Step (pos 0 ∷ []) ≡ Err NoStep
 unfolding applied unary

@@ -109,14 +109,3 @@ not_word-is_word z h = by (is_word z) refl
 pub word_or_overflow : (z : ℤ) (o : Option ℤ) → SomeIff o (IsWord z) z → ok_or o Overflow ≡ in_a_word (checked z)
 word_or_overflow z None h = rw (not_word-is_word z h) refl
 word_or_overflow z (Some x) h = rw (word-is_word z h.0) (ap Ok (h.1 ∙ sym (int_wrap_fits w32 z h.0)))
-
-word-absolute : (a : ℤ) → IsWord a → IsWord (neg_ℤ a) → IsWord (absolute a)
-word-absolute a f g = record { sfits = omega (arith, ints) }
-
-absolute-word : (a : ℤ) → IsWord a → IsWord (absolute a) → IsWord (neg_ℤ a)
-absolute-word a f g = omega (arith, ints)
-
--- the absolute value is a word just where the negative is
-pub absolute_some : (a : ℤ) (o : Option ℤ) → IsWord a → SomeIff o (IsWord (neg_ℤ a)) (absolute a) → SomeIff o (IsWord (absolute a)) (absolute a)
-absolute_some a None f h = λ g. h (absolute-word a f g)
-absolute_some a (Some x) f h = (word-absolute a f h.0, h.1)

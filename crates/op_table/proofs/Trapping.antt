@@ -141,17 +141,6 @@ T-true : (b : Bool) → T b → b ≡ true
 T-true true t = refl
 T-true false t = absurd t
 
-pub below_can : (k j : Option ℤ) → int_lt (least k) (greatest j) ≡ true ↔ MayBeBelow k j
-below_can k j = (
-  λ e. record { low = least k; high = greatest j; may_be_low = least_may k; may_be_high = greatest_may j; below = omega (arith, ints) },
-  λ m.
-      let at_least = least-le k m.low m.may_be_low in
-      let at_most = le-greatest j m.high m.may_be_high in
-      let below = m.below in
-      let lt : least k <ℤ greatest j = omega (arith, ints) in
-      T-true (int_lt (least k) (greatest j)) lt.lt,
-)
-
 -- ---- operators that trap at a zero
 
 quotient-err : (a b : ℤ) → is_err (quotient a b) ≡ true → b ≡ pos 0
@@ -266,9 +255,6 @@ word-checked z e = is_word-word z (falls_to (is_word z) (λ f. let no : true ≡
 between : (x y z : ℤ) → x ≤ℤ y → y ≤ℤ z → IsWord x → IsWord z → IsWord y
 between x y z h g f k = omega (arith, ints)
 
-pub add_low : (a b : Option ℤ) → is_err (binary AddChecked (least a) (least b)) ≡ true → TrapsAtTwo AddChecked a b
-add_low a b e = record { x = least a; y = least b; may_x = least_may a; may_y = least_may b; traps = e }
-
 pub add_high : (a b : Option ℤ) → is_err (binary AddChecked (greatest a) (greatest b)) ≡ true → TrapsAtTwo AddChecked a b
 add_high a b e = record { x = greatest a; y = greatest b; may_x = greatest_may a; may_y = greatest_may b; traps = e }
 
@@ -280,9 +266,6 @@ add_else a b e t = not_word-checked (greatest a +ℤ greatest b) (λ w.
     let above_x = le-greatest a t.x t.may_x in
     let above_y = le-greatest b t.y t.may_y in
     checked-err (t.x +ℤ t.y) t.traps (between (least a +ℤ least b) (t.x +ℤ t.y) (greatest a +ℤ greatest b) (omega (arith, ints)) (omega (arith, ints)) (word-checked (least a +ℤ least b) e) w))
-
-pub sub_low : (a b : Option ℤ) → is_err (binary SubChecked (least a) (greatest b)) ≡ true → TrapsAtTwo SubChecked a b
-sub_low a b e = record { x = least a; y = greatest b; may_x = least_may a; may_y = greatest_may b; traps = e }
 
 pub sub_high : (a b : Option ℤ) → is_err (binary SubChecked (greatest a) (least b)) ≡ true → TrapsAtTwo SubChecked a b
 sub_high a b e = record { x = greatest a; y = least b; may_x = greatest_may a; may_y = least_may b; traps = e }
@@ -395,10 +378,6 @@ powc_exponent_one t =
 pub powc_any : TrapsAtTwo PowChecked None None
 unfolding binary
 powc_any = record { x = pos 0; y = negsuc 0; may_x = omega (arith, ints); may_y = omega (arith, ints); traps = ap is_err (inverse-zero 1 (omega arith)) }
-
--- where both are known, they are the only ones
-pub two_known : (op : Op) (k j : ℤ) → is_err (binary op k j) ≡ true ↔ TrapsAtTwo op (Some k) (Some j)
-two_known op k j = (λ e. record { x = k; y = j; may_x = refl; may_y = refl; traps = e }, λ t. subst (λ z. is_err (binary op k z) ≡ true) t.may_y (subst (λ z. is_err (binary op z t.y) ≡ true) t.may_x t.traps))
 
 -- what a row's function answers is an error just where the row over whole numbers is
 pub one_err : (op : Op) (a x : ℤ) (r : Result ℤ Trap) → IsWord x → a ≡ x → r ≡ applied op (to_z w32 (of_z w32 x) ∷ []) → is_err r ≡ is_err (unary op a)

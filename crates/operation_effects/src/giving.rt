@@ -1,6 +1,6 @@
 //! The values of operations that do nothing but give one, over the values of earlier operations.
 
-ghost use Rattle.std.specs.Prelude.{◌≡◌, ◌<◌, ◌≤◌, ℕ, ℤ, List, All, IfSome, Ok, length, take};
+ghost use Rattle.std.specs.Prelude.{◌≡◌, ◌<◌, ◌≤◌, ℤ, List, All, IfSome, Ok, length, take};
 ghost use Rattle.op_table.specs.Operators.{applied, arity_of};
 ghost use Rattle.f77_tree.specs.Value.{word_at};
 ghost use Rattle.f77_meaning.specs.Storage.{memory_of};

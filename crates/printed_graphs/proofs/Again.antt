@@ -4,8 +4,7 @@ use Rattle.std.specs.Char.{is_ascii_digit}
 use Rattle.std.specs.Fmt.{decimal}
 use Rattle.std.proofs.lemmas.Bool.{cases_eq, eq-eqb, ne_eqb, lt-ltb, le-leb, le-ltb, and_right, and_from}
 use Rattle.std.proofs.lemmas.Fmt.{decimal_by_steps}
-use Rattle.printed_graphs.specs.Reading.{after_word, digit_at, digits_on, long_number_at, number_at, after_number, field_at, after_short}
-use Rattle.printed_graphs.specs.Words.{field_text}
+use Rattle.printed_graphs.specs.Reading.{after_word, digit_at, digits_on, long_number_at, number_at, after_number, after_short}
 
 -- ---- words
 
@@ -107,10 +106,6 @@ number_again n rest fits end =
 pub after_number_again : (n : ℕ) (rest : List ℕ) → n < 2 ^ 32 → digit_at rest ≡ None → after_number n (decimal n ++ rest) ≡ Some rest
 unfolding after_number
 after_number_again n rest fits end = rw (number_again n rest fits end, eq-eqb n n refl) refl
-
-pub field_again : (n : ℕ) (rest : List ℕ) → n < 2 ^ 32 → digit_at rest ≡ None → field_at (field_text n ++ rest) ≡ Some (n, rest)
-unfolding field_at after_word
-field_again n rest fits end = number_again n rest fits end
 
 pub after_short_again : (n : ℕ) (rest : List ℕ) → n < 2 ^ 32 → digit_at rest ≡ None → after_short (decimal n ++ rest) ≡ Some rest
 unfolding after_short

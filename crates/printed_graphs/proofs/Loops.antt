@@ -14,18 +14,12 @@ use Rattle.std.proofs.lemmas.List.{at_drop_more, get_or-take}
 use Rattle.std.proofs.lemmas.List.Elements.{All-same, All-push}
 use Rattle.std.proofs.lemmas.List.Folds.{length-prefix_len}
 use Rattle.std.proofs.lemmas.List.Sums.{prefix_len_passes}
-use Rattle.printed_graphs.specs.Reading.{◌>>=◌, choose, after_word, begins_with, after_minus, after_signed, fits_signed, digit_at, number_at, after_short, lines_at, parts_at, all_at}
+use Rattle.printed_graphs.specs.Reading.{◌>>=◌, choose, after_word, begins_with, after_minus, after_signed, fits_signed, digit_at, number_at, after_short, lines_at, parts_at}
 
 -- before the next of so many lines
 one_line : (line : ℕ → List ℕ → Option (List ℕ)) (k left rest : ℕ) (text : List ℕ) → left ≡ suc rest → lines_at line k left text ≡ (line k text >>= lines_at line (k + 1) rest)
 unfolding lines_at
 one_line line k left rest text same = ap (λ n. lines_at line k n text) same
-
--- before the first line
-pub lines_begin : (line : ℕ → List ℕ → Option (List ℕ)) (k count : ℕ) (text : List ℕ) → k ≡ 0 → lines_at line k (count - k) text ≡ lines_at line 0 count text
-lines_begin line k count text first =
-    let left : count - k ≡ count = omega arith in
-    ap (λ n. lines_at line n (count - k) text) first ∙ ap (λ n. lines_at line 0 n text) left
 
 -- a line that is read
 pub lines_go : (line : ℕ → List ℕ → Option (List ℕ)) (k count : ℕ) (text after : List ℕ) (whole : Option (List ℕ)) → k < count → line k text ≡ Some after → lines_at line k (count - k) text ≡ whole → lines_at line (k + 1) (count - (k + 1)) after ≡ whole
@@ -65,9 +59,6 @@ pub record PartsLeft (begin part : List ℕ → Option (List ℕ)) (text : List 
   pub most : ℕ
   pub enough : length text ≤ most
   pub same : parts_at begin part most text ≡ whole
-
-pub parts_begin : (begin part : List ℕ → Option (List ℕ)) (text : List ℕ) → PartsLeft begin part text (all_at begin part text)
-parts_begin begin part text = record { most = length text; enough = omega arith; same = refl }
 
 pub one_part : (begin part : List ℕ → Option (List ℕ)) (most : ℕ) (text inner : List ℕ) → begin text ≡ Some inner → parts_at begin part (suc most) text ≡ (part inner >>= parts_at begin part most)
 unfolding parts_at

@@ -1,4 +1,4 @@
-ghost use Rattle.std.specs.Prelude.{◌≡◌, ◌<◌, ◌≤◌, ◌+◌, ◌++◌, [], IfOk, IfSome, IsOkUnless, length};
+ghost use Rattle.std.specs.Prelude.{◌≡◌, ◌<◌, ◌++◌, [], IfOk, IfSome, IsOkUnless, length};
 ghost use Rattle.printed_graphs.specs.GraphReading.{flow_part_at, graph_part_at, trace_part_at, printed_at};
 ghost use Rattle.printed_graphs.specs.Reading.{PassesInMemory};
 ghost use Rattle.printed_graphs.specs.Printable.{IsPrintableFlow, IsPrintableGraph, IsPrintableTrace, IsPrintable, IsPrintedText};

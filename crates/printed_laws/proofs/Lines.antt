@@ -49,13 +49,6 @@ pub each_of_parts : {X Y : Type 0} (P : X → Type 0) (Q : Y → Type 0) (f : X 
 each_of_parts P Q f [] each all = All-nil Q
 each_of_parts P Q f (x ∷ xs) each all = All-append Q (f x) (flat_map f xs) (each x (All-head P x xs all)) (each_of_parts P Q f xs each (All-tail P x xs all))
 
--- parts that are the same
-pub same_parts : {X Y : Type 0} (P : X → Type 0) (f g : X → List Y) (xs : List X) → ((x : X) → P x → f x ≡ g x) → All P xs → flat_map f xs ≡ flat_map g xs
-same_parts P f g [] each all = refl
-same_parts P f g (x ∷ xs) each all =
-    ap (λ l. l ++ flat_map f xs) (each x (All-head P x xs all))
-    ∙ ap (λ r. g x ++ r) (same_parts P f g xs each (All-tail P x xs all))
-
 filtered_by : {X : Type 0} (test : X → Bool) (xs : List X) (x : X) (b : Bool) → length (filter test xs) ≤ length xs → length (cond b (x ∷ filter test xs) (filter test xs)) ≤ suc (length xs)
 filtered_by test xs x true most = omega (arith, most)
 filtered_by test xs x false most = omega (arith, most)

@@ -16,14 +16,6 @@ use Rattle.range_lines.specs.Marks.{is_seen, flags, bound_flags}
 -- ---- a list that is appended piece by piece
 
 module _ {X Y : Type 0} (f : X → List Y) where
-  pub piece-next : (row more new : List Y) (all : List Y) (xs : List X) (i : ℕ) (x : X) → i < length xs → x ≡ get_or xs i x → row ++ flat_map f (drop i xs) ≡ all → new ≡ row ++ f x → new ++ flat_map f (drop (i + 1) xs) ≡ all
-  piece-next row more new all xs i x lt at before is =
-      let head : drop i xs ≡ x ∷ drop (i + 1) xs = drop-cons xs i x lt ∙ ap (λ y. y ∷ drop (suc i) xs) (sym at) ∙ ap (λ j. x ∷ drop j xs) (sym (add-one i)) in
-      ap (λ r. r ++ flat_map f (drop (i + 1) xs)) is
-      ∙ append_assoc row (f x) (flat_map f (drop (i + 1) xs))
-      ∙ ap (λ ys. row ++ flat_map f ys) (sym head)
-      ∙ before
-
   pub pieces-all : (row all : List Y) (xs : List X) (i : ℕ) → length xs ≤ i → row ++ flat_map f (drop i xs) ≡ all → row ≡ all
   pieces-all row all xs i end before = sym (append-nil row) ∙ ap (λ ys. row ++ flat_map f ys) (sym (drop_of_length-le xs end)) ∙ before
 

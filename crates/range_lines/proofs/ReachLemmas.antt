@@ -29,9 +29,6 @@ get-inside (y ∷ xs) (suc k) x is = let lt = get-inside xs k x is in omega (ari
 same-loop : (a b : Loop) → Some a ≡ Some b → a ≡ b
 same-loop a b is = cc
 
-same-parameters : (a b : Parameters) → Some a ≡ Some b → a ≡ b
-same-parameters a b is = cc
-
 -- ---- reaches of parameters
 
 -- the parameters of a reach

@@ -1,5 +1,5 @@
 -- What can trap but in excepted subscripts, over lists.
-use Rattle.std.proofs.Common.{◌≡◌, ℕ, suc, ◌+◌, ◌<◌, ◌≤◌, ℤ, List, [], ◌∷◌, length, get_or, map, take, drop, Option, Bool, true, false, Any, inl, inr, ⊎_elim, refl, sym, ap, subst, ◌∙◌, add-one, drop-cons, arith}
+use Rattle.std.proofs.Common.{◌≡◌, ℕ, ◌≤◌, ℤ, List, [], ◌∷◌, length, map, take, drop, Option, Bool, true, false, Any, inl, inr, ⊎_elim, refl, sym, ap, subst, ◌∙◌, arith}
 use Rattle.std.specs.Prelude.{◌⊎◌, ◌↔◌, IsTrue}
 use Rattle.std.proofs.lemmas.List.{take_all}
 use Rattle.op_table.specs.declared.Op.{Op}
@@ -83,13 +83,6 @@ module _ (excepted : Expr → Dim → Type 0) (names : List NameInfo) where
   -- the subscripts from k on
   abbrev pub TrapsFrom : List Dim → List Expr → ℕ → Type 0
   TrapsFrom dims subs k = ListMayTrap (drop k dims) (drop k subs)
-
-  pub traps-split : (dims : List Dim) (subs : List Expr) (k : ℕ) (dim : Dim) (e : Expr) → k < length dims → k < length subs → dim ≡ get_or dims k dim → e ≡ get_or subs k e → TrapsFrom dims subs k ↔ (OneMayTrap dim e ⊎ TrapsFrom dims subs (k + 1))
-  traps-split dims subs k dim e lt_dim lt_sub at_dim at_sub =
-      let ds : drop k dims ≡ dim ∷ drop (k + 1) dims = drop-cons dims k dim lt_dim ∙ ap (λ d. d ∷ drop (suc k) dims) (sym at_dim) ∙ ap (λ j. dim ∷ drop j dims) (sym (add-one k)) in
-      let es : drop k subs ≡ e ∷ drop (k + 1) subs = drop-cons subs k e lt_sub ∙ ap (λ x. x ∷ drop (suc k) subs) (sym at_sub) ∙ ap (λ j. e ∷ drop j subs) (sym (add-one k)) in
-      let same : TrapsFrom dims subs k ≡ (OneMayTrap dim e ⊎ TrapsFrom dims subs (k + 1)) = ap (λ xs. ListMayTrap xs (drop k subs)) ds ∙ ap (λ xs. ListMayTrap (dim ∷ drop (k + 1) dims) xs) es in
-      (λ may. subst (λ (X : Type 0). X) same may, λ may. subst (λ (X : Type 0). X) (sym same) may)
 
   -- ---- an operator, after all its operands
 

@@ -36,9 +36,6 @@ module _ (a b c : ℤ) (u : IsWord a) (v : IsWord b) (small : unsigned_abs c ≤
     same_sum : product_of +ℤ to_z w64 (of_z w64 c) ≡ a *ℤ b +ℤ c
     same_sum = ap (λ x. x +ℤ to_z w64 (of_z w64 c)) product_is ∙ ap (λ x. a *ℤ b +ℤ x) constant_is
 
-    pub code_fits : FitsSigned w64 (product_of +ℤ to_z w64 (of_z w64 c))
-    code_fits = subst (FitsSigned w64) (sym same_sum) sum_fits
-
     pub code_is : to_z w64 (of_z w64 (product_of +ℤ to_z w64 (of_z w64 c))) ≡ a *ℤ b +ℤ c
     code_is = ap (λ x. to_z w64 (of_z w64 x)) same_sum ∙ to_z-of_z w64 (a *ℤ b +ℤ c) sum_fits
 

@@ -1,6 +1,6 @@
 //! The subscripts of an executable, one after another, and whether each is seen in range.
 
-ghost use Rattle.std.specs.Prelude.{◌≡◌, ◌&&◌, ◌≤◌, ◌^◌, unsigned_abs, [], ◌∷◌, ◌++◌, All, length, map, flat_map, OnOk, IfOk};
+ghost use Rattle.std.specs.Prelude.{◌≡◌, ◌&&◌, ◌≤◌, ◌^◌, unsigned_abs, [], ◌∷◌, ◌++◌, All, map, flat_map, OnOk, IfOk};
 ghost use Rattle.f77_tree.specs.CanRun.{CanExecute, CanPrint};
 ghost use Rattle.f77_tree.specs.Value.{IsExpression, IsAccess};
 ghost use Rattle.loop_ranges.specs.Subscripts.{item_subscripts};

@@ -6,7 +6,7 @@ use Rattle.std.specs.List.{list_all, fold}
 use Rattle.std.proofs.lemmas.Bool.{and_parts, and_from, leb-true, le-leb, ne_eqb, lt-ltb, cond-true, eqb-true}
 use Rattle.std.proofs.lemmas.List.Folds.{list_all-append}
 use Rattle.std.proofs.lemmas.List.Sums.{fold-append}
-use Rattle.f77_tree.specs.StatementGrammar.{character_text, characters_text, with_commas, after_commas}
+use Rattle.f77_tree.specs.StatementGrammar.{character_text, characters_text, after_commas}
 use Rattle.fixed_form.specs.Columns.{is_character}
 use Rattle.fixed_form.specs.Statement.{kept, inside_after, text, text_from}
 use Rattle.read_back.proofs.FoldedTexts.{text_from-append}
@@ -108,12 +108,6 @@ AllFold (t ∷ ts) = Folds t t × AllFold ts
 
 comma_folds : Folds (codes ",") (codes ",")
 comma_folds = plain_folds (codes ",") refl
-
-pub commas_fold : (ts : List (List ℕ)) → AllFold ts → Folds (with_commas ts) (with_commas ts)
-commas_fold [] all = record { is = refl; closed = refl; characters = refl }
-commas_fold (t ∷ []) all = all.0
-commas_fold (t ∷ next ∷ more) all =
-    both (t ++ codes ",") (with_commas (next ∷ more)) (t ++ codes ",") (with_commas (next ∷ more)) (both t (codes ",") t (codes ",") all.0 comma_folds) (commas_fold (next ∷ more) all.1)
 
 pub after_commas_fold : (ts : List (List ℕ)) → AllFold ts → Folds (after_commas ts) (after_commas ts)
 after_commas_fold [] all = record { is = refl; closed = refl; characters = refl }

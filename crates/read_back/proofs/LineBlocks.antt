@@ -106,9 +106,6 @@ count_initial above line is = ap (λ (b : Bool). length (cond b (line ∷ filter
 count_continuation : (above : List SourceLine) (line : SourceLine) → IsContinuation line → initial_count (line ∷ above) ≡ initial_count above
 count_continuation above line is = ap (λ (b : Bool). length (cond b (line ∷ filter is_initial_line above) (filter is_initial_line above))) (goes_on_initial line is)
 
-abbrev standing : SourceLine → List SourceLine → List SourceLine
-standing line above = cond (is_statement_line line) (line ∷ filter is_statement_line above) (filter is_statement_line above)
-
 initial_none : (above : List SourceLine) (line : SourceLine) → IsInitial line → continuation_count (line ∷ above) ≡ 0
 initial_none above line is =
     ap (λ (b : Bool). length (continuations (cond b (line ∷ filter is_statement_line above) (filter is_statement_line above)))) (initial_stands line is)

@@ -66,20 +66,6 @@ none_seen seen (y ∷ xs) x none was there =
     none_seen (seen ++ y ∷ []) xs x parts.1 (list_any-append (bytes_eq x) seen (y ∷ []) ∙ ap (λ b. b || list_any (bytes_eq x) (y ∷ [])) was) (ap (λ b. b || list_any (bytes_eq x) xs) (sym other) ∙ there))
     (cases_Bool (bytes_eq x y))
 
-apart_from : (seen xs : Names) (x : List ℕ) → has_repeat bytes_eq seen xs ≡ false → list_any (bytes_eq x) xs ≡ true → list_any (bytes_eq x) seen ≡ false
-apart_from seen xs x none there =
-    ⊎_elim
-    (λ (was : list_any (bytes_eq x) seen ≡ true). absurd (none_seen seen xs x none was there))
-    (λ (other : list_any (bytes_eq x) seen ≡ false). other)
-    (cases_Bool (list_any (bytes_eq x) seen))
-
-not_after : (seen xs : Names) (x : List ℕ) → has_repeat bytes_eq seen xs ≡ false → list_any (bytes_eq x) seen ≡ true → list_any (bytes_eq x) xs ≡ false
-not_after seen xs x none was =
-    ⊎_elim
-    (λ (there : list_any (bytes_eq x) xs ≡ true). absurd (none_seen seen xs x none was there))
-    (λ (other : list_any (bytes_eq x) xs ≡ false). other)
-    (cases_Bool (list_any (bytes_eq x) xs))
-
 -- others were seen, none of which is among them
 more_seen : (seen own xs : Names) → has_repeat bytes_eq own xs ≡ false → ((x : List ℕ) → list_any (bytes_eq x) xs ≡ true → list_any (bytes_eq x) seen ≡ false) → has_repeat bytes_eq (seen ++ own) xs ≡ false
 more_seen seen own [] none apart = refl

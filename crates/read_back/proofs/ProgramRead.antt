@@ -84,10 +84,6 @@ list_any-map : {X Y : Type 0} (p : Y → Bool) (f : X → Y) (xs : List X) → l
 list_any-map p f [] = refl
 list_any-map p f (x ∷ xs) = ap (λ b. p (f x) || b) (list_any-map p f xs)
 
-none_any : {X : Type 0} (p : X → Bool) (xs : List X) → list_any p xs ≡ false → All (λ x. p x ≡ false) xs
-none_any p [] h = All-nil (λ x. p x ≡ false)
-none_any p (x ∷ xs) h = let parts = or_parts (p x) (list_any p xs) h in All-cons (λ y. p y ≡ false) x xs parts.0 (none_any p xs parts.1)
-
 -- neither long nor deep
 pub record IsShort (xs : List ℕ) : Type 0 where
   pub length_few : length xs ≤ most_characters

@@ -81,17 +81,6 @@ loop_same names (DoLoop end var first last step) = refl
 loop_same names (Jump target) = refl
 loop_same names Finish = refl
 
-is_loop_at : (number : ℕ) (stmt : Flat) → ends_at number stmt ≡ true → is_loop stmt ≡ true
-is_loop_at number Mark is = absurd cc
-is_loop_at number (Assignment target value) is = absurd cc
-is_loop_at number (Output items) is = absurd cc
-is_loop_at number (LogicalIf condition target) is = absurd cc
-is_loop_at number (ArithmeticIf value below at above) is = absurd cc
-is_loop_at number (ComputedGoTo value targets) is = absurd cc
-is_loop_at number (DoLoop end var first last step) is = refl
-is_loop_at number (Jump target) is = absurd cc
-is_loop_at number Finish is = absurd cc
-
 loop_width : (ends : Bool) (number : ℕ) (stmt : Flat) → ends_at number stmt ≡ true → width_by ends stmt ≡ 1
 loop_width ends number Mark is = absurd cc
 loop_width ends number (Assignment target value) is = absurd cc
@@ -215,11 +204,6 @@ module _ (q : Program) (flat : List FlatLine) (given : CanBeText q flat) (free :
         ap (λ label. cond (nat_lt 0 (length (loops_to stmts label))) (first_of stmts (front + place) + own_executables is.s.stmt) (met stmts (front + place + 1))) unlabelled
         ∙ ap (λ (xs : List ℕ). cond (nat_lt 0 (length xs)) (first_of stmts (front + place) + own_executables is.s.stmt) (met stmts (front + place + 1))) (none_unlabelled q flat given free)
         ∙ met_next place l there
-
-    no_increments : is_mark l.stmt ≡ false → (index : ℕ) → increments table stmts (front + place) index (loops_to stmts is.s.label) ≡ []
-    no_increments none index =
-        let unlabelled : is.s.label ≡ 0 = is.label ∙ ap (λ b. cond b number 0) none in
-        ap (λ label. increments table stmts (front + place) index (loops_to stmts label)) unlabelled ∙ ap (increments table stmts (front + place) index) (none_unlabelled q flat given free)
 
     -- after a mark comes the increment or the next statement
     mark_next : l.stmt ≡ Mark → (ends : Bool) → is_end flat number ≡ ends → beyond stmts (front + place) is.s ≡ first_flat_of flat place + 1

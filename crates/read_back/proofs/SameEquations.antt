@@ -149,6 +149,3 @@ module _ (names table : List NameInfo) (commons parts : List CommonPart) (are : 
   -- the names of a block, as they stand in COMMON
   pub standing-names : (block : Option (List ℕ)) → names_standing block (standings table parts) ≡ block_names names commons block
   standing-names block = ap (names_standing block) (standings-once table parts are.once) ∙ names-of_block block
-
-  pub sizes-are : (k : ℕ) → size_of (dims_of names k) ≡ pos (size_at table k)
-  sizes-are = sizes

@@ -57,10 +57,6 @@ module _ (x : OperationNet) (line piece number : ℕ) (old new : Loaded) where
   pub opened_one : IsPut line piece number true old new → old line piece number ≡ false → Member (needed x piece number) line → closed_of x old (Op piece number) ≡ suc (closed_of x new (Op piece number))
   opened_one put was among = one_fewer line (λ a. old a piece number) (λ a. new a piece number) was put.here (of_others put) (needed x piece number) (needed_distinct x piece number) among
 
-  -- the load waits for one line more
-  pub closed_one : IsPut line piece number false old new → old line piece number ≡ true → Member (needed x piece number) line → closed_of x new (Op piece number) ≡ suc (closed_of x old (Op piece number))
-  closed_one put was among = one_fewer line (λ a. new a piece number) (λ a. old a piece number) put.here was (λ a differ. sym (of_others put a differ)) (needed x piece number) (needed_distinct x piece number) among
-
   -- other loads wait for as many lines as before
   pub closed_others : {b : Bool} → IsPut line piece number b old new → (name : NodeName) → (name ≡ Op piece number → ⊥) → closed_of x new name ≡ closed_of x old name
   closed_others put (Op p n) differ =

@@ -35,9 +35,6 @@ module _ (x : OperationNet) (links : List Link) (piece i line n : ℕ) (follows 
   pub next_name : operation_node x k ≡ Op piece n
   next_name = ap (operation_node x) is ∙ name_there x piece n exists follows.inside n follows.inside
 
-  pub next_below : k < node_total x
-  next_below = let low = operation_exists x piece n exists follows.inside in omega (arith, is, low)
-
   module _ (next : Step) (step : IsStep x links k next) where
     load_next : next.loads ≡ is_load (operation_at x piece n).work
     load_next = step.loads ∙ ap (is_load_node x) next_name

@@ -1,5 +1,5 @@
 -- Where a line stands after a load of a group, by the way of the load's link.
-use Rattle.std.proofs.Common.{◌≡◌, ◌<◌, ◌≤◌, ℕ, suc, ◌+◌, ◌^◌, true, false, if◌then◌else◌, List, Option, Some, None, is_some, refl, sym, ap, ◌∙◌, subst, arith}
+use Rattle.std.proofs.Common.{◌≡◌, ◌<◌, ◌≤◌, ℕ, suc, ◌+◌, ◌^◌, true, if◌then◌else◌, List, Some, None, is_some, sym, ap, ◌∙◌, subst, arith}
 use Rattle.std.proofs.Math.Logic.{∥∥₁_elim}
 use Rattle.std.proofs.Props.{props}
 use Rattle.closed_walks.specs.Graph.{edge_count, to}
@@ -30,10 +30,6 @@ below a b c first second = omega (arith, first, second)
 
 some : (c a : ℕ) → a < c → 0 < c
 some c a low = omega (arith, low)
-
-no_load : (o : Option Site) → is_some o ≡ false → o ≡ None
-no_load None none = refl
-no_load (Some load) none = absurd cc
 
 module _ (x : OperationNet) (heads : HasHeads x) (alone : StandAlone x) (line : ℕ) (s : Spot) (exists : s.edge < edge_count (graph_in x.net)) (piece i : ℕ) (here : load_at x line s ≡ Some (site piece i)) (t : Spot) where
   own : IsNeeding x line s (site piece i)

@@ -57,15 +57,6 @@ module _ (links : List Link) (step : Step) (line : ℕ) (rise : AreRising links 
         contrary : middle ≤ h.place → ⊥
         contrary over = ⊎_elim (λ (same : middle ≡ h.place). let is = h.is in let e = ap (line_at links) same in absurd (omega (arith, e, is, more))) (λ (less : middle < h.place). later less) (same_or_less over)
 
-  -- where one place is left, it is that
-  pub only_place : (low high : ℕ) → IsAmid links step line low high → high - low ≤ 1 → line_at links low ≡ line
-  only_place low high amid one =
-      let h = amid.here in
-      let from = h.from in
-      let below = h.below in
-      let same : h.place ≡ low = omega (arith, from, below, one) in
-      subst (λ (n : ℕ). line_at links n ≡ line) same h.is
-
 -- the line of a link that is read
 pub line_read_at : (links : List Link) (n : ℕ) (link : Link) → n < length links → link ≡ get_or links n link → line_at links n ≡ link.line
 line_read_at links n link inside at = ap line_in (slice_get_read links (length links) n link refl inside at)

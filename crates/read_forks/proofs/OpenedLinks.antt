@@ -5,8 +5,8 @@ use Rattle.std.proofs.lemmas.Bool.{and_from, and_parts, cases_lt, eq-eqb, false_
 use Rattle.firing.specs.declared.system.NodeName.{NodeName}
 use Rattle.firing.specs.declared.system.NodeName.TheVariants.{Act, Merge, Op, Switch}
 use Rattle.net_board.proofs.NodeLaws.{get_some}
-use Rattle.op_board.specs.OperationNets.{OperationNet, first_operation, operation_node}
-use Rattle.op_board.proofs.OperationNumbers.{one_operation_number, operation_number}
+use Rattle.op_board.specs.OperationNets.{OperationNet, operation_node}
+use Rattle.op_board.proofs.OperationNumbers.{one_operation_number}
 use Rattle.read_forks.specs.LoadChanges.{IsPut}
 use Rattle.read_forks.specs.NodeLinks.{AreSteps, IsOwnLink, names_operation, opened_in, opens}
 use Rattle.read_forks.specs.RisingLinks.{line_at, line_in}
@@ -107,10 +107,6 @@ module _ (x : OperationNet) (links : List Link) where
       absurd cc)
 
   module _ (steps : List Step) (are : AreSteps x steps links) where
-    -- the node of the operation for which a line is open
-    pub open_node : (line piece number : ℕ) (o : IsOpenLink x links line piece number) → o.link.node ≡ first_operation x piece + number
-    open_node line piece number o = operation_number x o.link.node piece number (are.own o.place o.link o.at).node o.name
-
     not_before : (n m : ℕ) (l r : Link) → slice_get links n ≡ Some l → slice_get links m ≡ Some r → l.node ≡ r.node → l.line ≡ r.line → n < m → ⊥
     not_before n m l r first second node line less =
         let own : IsOwnLink x steps n l = are.own n l first in

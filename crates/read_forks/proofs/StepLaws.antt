@@ -10,10 +10,10 @@ use Rattle.op_board.specs.OperationNets.{OperationNet, all_operation_nodes, need
 use Rattle.op_board.proofs.NeededLines.{needed_has}
 use Rattle.op_board.proofs.OperationLaws.{firing_facts}
 use Rattle.op_board.proofs.OperationNumbers.{IsOperationNamed, operation_named}
-use Rattle.fork_board.specs.ForkTokens.{ForkTokens, can_load, first_fork_tokens, fork_fired_as, fork_moves, fork_ready_as, is_load_node, is_open, standing}
+use Rattle.fork_board.specs.ForkTokens.{ForkTokens, first_fork_tokens, fork_fired_as, fork_moves, fork_ready_as, is_load_node, is_open, standing}
 use Rattle.fork_board.specs.LoadGroups.{is_load}
 use Rattle.fork_board.specs.SoundForks.{ForksCanCome}
-use Rattle.fork_board.proofs.ForkNodes.{IsLoadNamed, load_named, load_ready, other_fired, other_ready}
+use Rattle.fork_board.proofs.ForkNodes.{IsLoadNamed, load_named, other_fired, other_ready}
 use Rattle.fork_board.proofs.ForksApart.{IsReadyLoad, needed_line, ready_load}
 use Rattle.read_forks.specs.LoadSteps.{line_read, lines_read, load_fired, load_performed}
 use Rattle.read_forks.specs.LoadedGroups.{AreNear}
@@ -56,11 +56,6 @@ module _ (x : OperationNet) where
       (λ line among. let low = (needed_has x piece i line among).0 in (subst (λ n. line < n) (sym comes.is_marking.tokens.lines) low, subst (λ n. line < n) (sym comes.is_marking.passed) low))
       (λ line among. all_pass (λ line. is_open x line piece i (standing m line)) (needed x piece i) line can.lines among)
       near)
-
-  pub load_fired_near : (m : ForkTokens) (k piece i : ℕ) → ForksCanCome x m → k < length (all_operation_nodes x) → can_load x m k piece i (operation_at x piece i) ≡ true → operation_node x k ≡ Op piece i → is_load (operation_at x piece i).work ≡ true → AreNear x m → AreNear x (load_fired x m k piece i)
-  load_fired_near m k piece i comes below can name loads near =
-      subst (λ (f : ForkTokens). AreNear x f) (in_steps m k piece i comes below name loads)
-      (load_near m k piece i comes below (ap (fork_ready_as x m k) name ∙ load_ready x m k piece i loads ∙ can) name loads near)
 
   pub stays_near : (m : ForkTokens) (k : ℕ) → ForksCanCome x m → CanFire (fork_moves x) m k → AreNear x m → AreNear x ((fork_moves x).fired m k)
   stays_near m k comes can near = ⊎_elim

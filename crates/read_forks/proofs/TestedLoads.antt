@@ -1,26 +1,20 @@
 -- Which loads are tested: those whose values an operation takes, and the one that takes its value.
-use Rattle.std.proofs.Common.{◌≡◌, ◌<◌, inl, inr, ℕ, zero, suc, ◌+◌, ◌==◌, ◌||◌, Bool, true, false, List, [], ◌∷◌, length, map, Some, None, slice_get, refl, sym, ap, ◌∙◌, subst, eqb-true, arith}
+use Rattle.std.proofs.Common.{◌≡◌, ◌<◌, inl, inr, ℕ, zero, suc, ◌+◌, ◌==◌, ◌||◌, Bool, true, false, List, [], ◌∷◌, length, map, Some, None, slice_get, refl, ap, ◌∙◌, eqb-true, arith}
 use Rattle.std.specs.List.{list_any}
 use Rattle.list_laws.specs.Member.{Member}
 use Rattle.firing.specs.declared.system.NodeName.{NodeName}
 use Rattle.firing.specs.declared.system.NodeName.TheVariants.{Act, Merge, Switch, Op}
 use Rattle.net_board.specs.Nodes.{graph_in, is_acting, kind_in}
 use Rattle.dep_routing.specs.Touches.{exec_kind}
-use Rattle.op_board.specs.Operations.{Operand, Known, From, gives_value}
-use Rattle.op_board.specs.OperationFootprints.{is_giver}
-use Rattle.op_board.specs.OperationLists.{IsOperationList}
-use Rattle.op_board.specs.OperationNets.{OperationNet, all_operation_nodes, first_operation, operation_at, operation_count, operation_node, operations_at}
+use Rattle.op_board.specs.Operations.{Operand, Known, From}
+use Rattle.op_board.specs.OperationNets.{OperationNet, first_operation, operation_at, operation_count, operation_node}
 use Rattle.op_board.specs.OperationTokens.{givers}
-use Rattle.op_board.proofs.OperationLaws.{firing_facts}
-use Rattle.op_board.proofs.OperationNumbers.{IsOperationNamed, operation_name, operation_named}
+use Rattle.op_board.proofs.OperationNumbers.{operation_name}
 use Rattle.op_board.proofs.OperationTakers.{takes_among}
-use Rattle.op_board.proofs.OperationsApart.{IsTaker, operation_get, taker}
+use Rattle.op_board.proofs.OperationsApart.{operation_get}
 use Rattle.op_board.proofs.ValueTaking.{taken_later}
 use Rattle.op_net.specs.ApartLoads.{giver_of}
 use Rattle.op_net.specs.Waits.{one_if, operands_from, takes_from}
-use Rattle.fork_board.specs.ForkTokens.{ForkTokens, is_load_node}
-use Rattle.fork_board.specs.SoundForks.{ForksCanCome}
-use Rattle.fork_board.proofs.ForkFirings.{both_ways}
 use Rattle.fork_board.proofs.ForksApart.{acting_with}
 use Rattle.read_forks.specs.Retests.{takes}
 
@@ -54,13 +48,6 @@ unmapped [] k number is = let e : None ≡ Some (Some number) = is in absurd cc
 unmapped (Known z ∷ xs) zero number is = let e : Some None ≡ Some (Some number) = is in absurd cc
 unmapped (From n ∷ xs) zero number is = let e : n ≡ number = cc in ap (λ m. Some (From m)) e
 unmapped (y ∷ xs) (suc k) number is = unmapped xs k number is
-
--- the operand is the value of this operation, and of no other one
-pub giver_is : (xs : List Operand) (k number other : ℕ) → slice_get (map giver_of xs) k ≡ Some (Some number) → slice_get xs k ≡ Some (From other) → number ≡ other
-giver_is xs k number other told is = let e : Some (Some number) ≡ Some (Some other) = sym told ∙ mapped giver_of xs k (From other) is in cc
-
-pub no_giver : {P : Type 0} (xs : List Operand) (k other : ℕ) → slice_get (map giver_of xs) k ≡ Some None → slice_get xs k ≡ Some (From other) → P
-no_giver xs k other told is = let e : Some None ≡ Some (Some other) = sym told ∙ mapped giver_of xs k (From other) is in absurd cc
 
 -- ---- counts of takers
 
@@ -101,48 +88,3 @@ module _ (x : OperationNet) (piece i : ℕ) (exists : piece < (graph_in x.net).n
 
   pub name_there : (number : ℕ) → number < operation_count x piece → operation_node x (first_operation x piece + number) ≡ Op piece number
   name_there number low = operation_name x piece number exists acts low
-
--- ---- all givers
-
-pub record IsGiverAt (x : OperationNet) (piece i j : ℕ) : Type 0 where
-  pub number : ℕ
-  pub place : ℕ
-  pub inside : place < length (operation_at x piece i).operands
-  pub at : slice_get (operation_at x piece i).operands place ≡ Some (From number)
-  pub is : first_operation x piece + number ≡ j
-  pub loads : is_load_node x (Op piece number) ≡ is_load_node x (operation_node x j)
-
-pub giver_at : (x : OperationNet) (m : ForkTokens) (piece i j : ℕ) → ForksCanCome x m → piece < (graph_in x.net).nodes → i < operation_count x piece → is_giver x piece i j ≡ true → IsGiverAt x piece i j
-giver_at x m piece i j comes exists inside gives =
-    let t : IsTaker comes.ground x comes.is_net.is_net (firing_facts comes.ground x comes.is_net).touched piece i j = taker comes.ground x comes.is_net.is_net (firing_facts comes.ground x comes.is_net).touched piece i j gives in
-    let p : IsPlaced (operation_at x piece i).operands (From t.number) = placed (operation_at x piece i).operands (From t.number) t.among in
-    record {
-      number = t.number;
-      place = p.place;
-      inside = p.inside;
-      at = p.is;
-      is = t.gives_it;
-      loads = ap (is_load_node x) (sym (name_there x piece i exists inside t.number (given_inside x piece i exists inside t.number t.among))) ∙ ap (λ k. is_load_node x (operation_node x k)) t.gives_it;
-    }
-
--- ---- an operation that gives no value has no taker
-
-pub untaken : {P : Type 0} (x : OperationNet) (m : ForkTokens) (k piece i j : ℕ) → ForksCanCome x m → ((p : ℕ) → p < (graph_in x.net).nodes → is_acting (kind_in x.net p) ≡ true → IsOperationList (operations_at x p)) → k < length (all_operation_nodes x) → operation_node x k ≡ Op piece i → j < length (all_operation_nodes x)
-    → gives_value (operation_at x piece i).work ≡ false → takes x (operation_node x j) k ≡ true → P
-untaken {P} x m k piece i j comes lists below name low none gives = by (operation_node x j) refl gives
-  where
-    by : (n : NodeName) → operation_node x j ≡ n → takes x n k ≡ true → P
-    by (Op q s) is gives =
-        let named : IsOperationNamed x (Op q s) = subst (λ a. IsOperationNamed x a) is (operation_named x j low) in
-        let t : IsTaker comes.ground x comes.is_net.is_net (firing_facts comes.ground x comes.is_net).touched q s k = taker comes.ground x comes.is_net.is_net (firing_facts comes.ground x comes.is_net).touched q s k gives in
-        let high = named.fits.2 in
-        let before = taken_later x.net.program.names (kind_in x.net q) (exec_kind x.net.program q) s t.number (operation_at x q s) (operation_get x q s high) (takes_among (operation_at x q s).operands t.number t.among) in
-        let inside : t.number < operation_count x q = omega (arith, before, high) in
-        let own : Op q t.number ≡ Op piece i = sym (name_there x q s named.exists high t.number inside) ∙ ap (operation_node x) t.gives_it ∙ name in
-        let same_piece : q ≡ piece = cc in
-        let same_number : t.number ≡ i = cc in
-        let some : gives_value (operation_at x q t.number).work ≡ true = (lists q named.exists named.fits.1).gives t.number (operation_at x q t.number) (operation_get x q t.number inside) (omega (arith, before, high)) in
-        both_ways (gives_value (operation_at x piece i).work) (subst (λ p. gives_value (operation_at x p i).work ≡ true) same_piece (subst (λ n. gives_value (operation_at x q n).work ≡ true) same_number some)) none
-    by (Switch piece line) is gives = let e : false ≡ true = gives in absurd cc
-    by (Merge piece line) is gives = let e : false ≡ true = gives in absurd cc
-    by (Act piece) is gives = let e : false ≡ true = gives in absurd cc

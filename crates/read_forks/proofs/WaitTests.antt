@@ -1,14 +1,11 @@
 -- Marks of loads that are tested, and the loads that wait for nothing.
-use Rattle.std.proofs.Common.{◌≡◌, ◌<◌, ⊎_elim, ℕ, zero, suc, ◌==◌, ◌&&◌, Bool, false, not, List, [], ◌∷◌, length, set, Option, Some, is_some, slice_get, slice_index, refl, sym, ap, ◌∙◌, subst, length-set, arith}
-use Rattle.std.specs.List.{list_all}
+use Rattle.std.proofs.Common.{◌≡◌, ◌<◌, ⊎_elim, ℕ, zero, suc, ◌&&◌, Bool, false, List, [], ◌∷◌, length, set, Option, slice_get, slice_index, refl, sym, ap, ◌∙◌, subst, length-set, arith}
 use Rattle.std.proofs.lemmas.Bool.{cases_eq, ne_eqb}
 use Rattle.std.proofs.lemmas.List.{get_or-set_other, get_or-set_same}
 use Rattle.firing.specs.ReadySet.{has}
-use Rattle.firing.specs.declared.system.NodeName.{NodeName}
-use Rattle.firing.specs.declared.system.NodeName.TheVariants.{Op}
 use Rattle.net_board.proofs.ListPlaces.{get_set_other}
-use Rattle.op_board.specs.OperationNets.{OperationNet, operation_at, operation_node}
-use Rattle.op_board.specs.OperationTokens.{OperationTokens, is_given, value_at}
+use Rattle.op_board.specs.OperationNets.{OperationNet, operation_node}
+use Rattle.op_board.specs.OperationTokens.{OperationTokens}
 use Rattle.read_forks.specs.WaitingLoads.{KeepsMarks, has_values, is_none_left, waits_for_nothing}
 
 -- ---- numbers of closed lines
@@ -20,12 +17,6 @@ some_closed (n ∷ closed) (suc k) some = some_closed closed k some
 
 module _ (x : OperationNet) (m : OperationTokens) where
   -- ---- what a load waits for, as code asks for it
-
-  pub waits_is : (closed : List ℕ) (k piece i left : ℕ) (values : Bool) → operation_node x k ≡ Op piece i → slice_get closed k ≡ Some left → values ≡ (list_all (is_given x m piece) (operation_at x piece i).operands && not (is_some (value_at m k)))
-      → ((left == 0) && values) ≡ waits_for_nothing x m closed k
-  waits_is closed k piece i left values name at is =
-      ap (λ b. (left == 0) && b) is
-      ∙ sym (ap (λ (o : Option ℕ). is_none_left o && has_values x m k (operation_node x k)) at ∙ ap (λ (n : NodeName). (left == 0) && has_values x m k n) name)
 
   pub waits_closed : (closed : List ℕ) (k : ℕ) → 0 < slice_index closed k → waits_for_nothing x m closed k ≡ false
   waits_closed closed k some = ap (λ b. b && has_values x m k (operation_node x k)) (some_closed closed k some)

@@ -1,6 +1,6 @@
 //! Lines are closed for loads that have fired.
 
-ghost use Rattle.std.specs.Prelude.{◌≡◌, ◌<◌, ◌≤◌, ◌+◌, ℕ, Some, false, length, slice_get, true};
+ghost use Rattle.std.specs.Prelude.{◌≡◌, ◌<◌, ◌≤◌, ◌+◌, ℕ, Some, false, slice_get, true};
 ghost use Rattle.list_laws.specs.Member.{Member};
 ghost use Rattle.firing.specs.declared.system.NodeName.TheVariants.{Op};
 ghost use Rattle.op_board.specs.OperationNets.{needed, operation_node};

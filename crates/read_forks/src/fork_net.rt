@@ -22,7 +22,6 @@ pub struct ForkNet<'a, const W: usize> {
 impl<'a, const W: usize> ForkNet<'a, W> {
     ghost use Rattle.std.specs.Prelude.{◌≡◌, ◌<◌, length};
     ghost use Rattle.f77_tree.specs.Value.{word_at};
-    ghost use Rattle.op_net.specs.Waits.{node_total};
     ghost use Rattle.read_forks.specs.ForkView.{marking_of};
 
     /// The word of the store with this number.

@@ -1,6 +1,6 @@
 //! The tables of a net in which the loads of a group fire in any order.
 
-ghost use Rattle.std.specs.Prelude.{◌≡◌, ◌≢◌, ◌<◌, ◌+◌, ◌++◌, [], ◌∷◌, filter, length, map, true, ℕ, Some, IfOk, OnOk, slice_get};
+ghost use Rattle.std.specs.Prelude.{◌≡◌, ◌<◌, ◌+◌, ◌++◌, [], ◌∷◌, filter, length, map, true, ℕ, Some, IfOk, OnOk, slice_get};
 ghost use Rattle.firing.specs.declared.system.NodeName.TheVariants.{Op};
 ghost use Rattle.firing.specs.ReadySet.{has};
 ghost use Rattle.net_board.specs.Nodes.{graph_in};

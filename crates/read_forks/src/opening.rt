@@ -1,17 +1,16 @@
 //! Lines that come before groups are opened for the loads of these.
 
-ghost use Rattle.std.specs.Prelude.{◌≡◌, ◌<◌, ◌≤◌, ◌+◌, ◌-◌, ◌^◌, ◌∷◌, ℕ, None, Some, [], false, length, set, slice_get, slice_index, true};
+ghost use Rattle.std.specs.Prelude.{◌≡◌, ◌<◌, ◌+◌, ◌^◌, ◌∷◌, ℕ, None, Some, [], false, length, slice_get, true};
 ghost use Rattle.firing.specs.declared.system.NodeName.TheVariants.{Op};
 ghost use Rattle.op_board.specs.OperationNets.{first_operation, operation_node};
 ghost use Rattle.closed_walks.specs.Graph.{edge_count};
 ghost use Rattle.net_board.specs.Nodes.{graph_in};
 ghost use Rattle.op_board.specs.SoundOperationNets.{IsOperationNet};
-ghost use Rattle.op_net.specs.ApartLoads.{KeepsApart, flags_of};
+ghost use Rattle.op_net.specs.ApartLoads.{flags_of};
 ghost use Rattle.op_net.specs.NetView.{marking_of as operations_on, net_of as net_in};
-ghost use Rattle.op_net.specs.Waits.{node_total};
 ghost use Rattle.fork_board.specs.ForkTokens.{is_load_node};
 ghost use Rattle.read_forks.specs.MarkedNets.{AreLoadsApart};
-ghost use Rattle.read_forks.specs.WaitingLoads.{IsRemarked, KeepsMarks, waits_for_nothing};
+ghost use Rattle.read_forks.specs.WaitingLoads.{IsRemarked, KeepsMarks};
 ghost use Rattle.net_board.specs.Tokens.{edge_of};
 ghost use Rattle.op_board.specs.OperationTokens.{passed_by};
 ghost use Rattle.op_net.specs.Waits.{IsNodeBefore};

@@ -3,7 +3,6 @@
 ghost use Rattle.firing.specs.Moves.{CanFire};
 ghost use Rattle.std.specs.Prelude.{◌≡◌, ◌<◌, ℕ, length, true};
 ghost use Rattle.op_board.specs.OperationNets.{OperationNet, all_operation_nodes, operation_at, operation_node};
-ghost use Rattle.op_board.specs.SoundOperationNets.{IsOperationNet};
 ghost use Rattle.firing.specs.declared.system.NodeName.TheVariants.{Op};
 ghost use Rattle.fork_board.specs.ForkTokens.{ForkTokens, first_fork_tokens, fork_moves};
 ghost use Rattle.fork_board.specs.LoadGroups.{is_load};

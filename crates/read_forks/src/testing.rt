@@ -7,7 +7,6 @@ ghost use Rattle.op_net.specs.ApartLoads.{flags_of};
 ghost use Rattle.op_net.specs.NetView.{marking_of as operations_on, net_of as net_in};
 ghost use Rattle.op_net.specs.Waits.{node_total};
 ghost use Rattle.fork_board.specs.ForkTokens.{is_load_node};
-ghost use Rattle.fork_board.specs.SoundForks.{ForksCanCome};
 ghost use Rattle.read_forks.specs.ForkView.{KeepsSet, marking_of, net_of, place_of};
 ghost use Rattle.read_forks.specs.MarkedNets.{AreLoadsApart};
 ghost use Rattle.read_forks.specs.Retests.{takes};

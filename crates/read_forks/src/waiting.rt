@@ -1,16 +1,14 @@
 //! For what loads wait, and the marks of those that wait for nothing.
 
-ghost use Rattle.std.specs.Prelude.{◌≡◌, ◌<◌, ◌≤◌, ◌+◌, ◌-◌, ◌∷◌, ℕ, None, Some, [], false, length, set, slice_get, slice_index, true};
+ghost use Rattle.std.specs.Prelude.{◌≡◌, ◌<◌, ◌-◌, Some, [], length, set, slice_get, slice_index, true};
 ghost use Rattle.firing.specs.declared.system.NodeName.TheVariants.{Op};
-ghost use Rattle.op_board.specs.OperationNets.{first_operation, operation_node};
-ghost use Rattle.op_net.specs.ApartLoads.{KeepsApart, flags_of};
+ghost use Rattle.op_board.specs.OperationNets.{operation_node};
+ghost use Rattle.op_net.specs.ApartLoads.{flags_of};
 ghost use Rattle.op_net.specs.NetView.{marking_of as operations_on, net_of as net_in};
 ghost use Rattle.op_net.specs.Waits.{node_total};
 ghost use Rattle.fork_board.specs.ForkTokens.{is_load_node};
 ghost use Rattle.read_forks.specs.MarkedNets.{AreLoadsApart};
 ghost use Rattle.read_forks.specs.WaitingLoads.{IsRemarked, KeepsMarks, waits_for_nothing};
-ghost use Rattle.read_forks.specs.NodeLinks.{AreValueLoads, IsStep};
-ghost use Rattle.read_forks.specs.Retests.{takes};
 
 use crate::steps::{Group, Link, Step, Steps};
 use firing::StepSystem;

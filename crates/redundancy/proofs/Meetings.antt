@@ -10,10 +10,6 @@ use Rattle.redundancy.specs.Killing.{Meet}
 use Rattle.redundancy.specs.Numbers.{with_bit}
 use Rattle.redundancy.proofs.Marking.{with_bit_tells}
 
-or_true : (a b : Bool) → a ≡ true → (a || b) ≡ true
-or_true true b is = refl
-or_true false b is = absurd (false≢true is)
-
 or_right : (a b : Bool) → b ≡ true → (a || b) ≡ true
 or_right true b is = refl
 or_right false b is = is

@@ -1,16 +1,15 @@
 -- What the kinds of pieces compute and write.
-use Rattle.std.proofs.Common.{◌≡◌, ℕ, List, [], Option, refl, ap, ◌∙◌, subst}
+use Rattle.std.proofs.Common.{◌≡◌, List, [], Option, refl, ap, ◌∙◌}
 use Rattle.std.specs.Prelude.{Some, None, slice_get, flat_map}
 use Rattle.f77_tree.specs.declared.programs.Exec.{Exec}
 use Rattle.f77_tree.specs.declared.programs.ExecKind.{ExecKind}
 use Rattle.f77_tree.specs.declared.programs.ExecKind.TheVariants as exec
-use Rattle.alias_classes.specs.Classes.{ClassTable}
 use Rattle.cfg_build.specs.declared.pieces.Piece.{Piece}
 use Rattle.cfg_build.specs.declared.pieces.PieceKind.{PieceKind}
 use Rattle.cfg_build.specs.declared.pieces.PieceKind.TheVariants.{Start, Act, Pass, Branch, Join, Hold, End}
 use Rattle.cfg_build.specs.Passes.{kind_in}
 use Rattle.redundancy.specs.Candidates.{subexpressions}
-use Rattle.redundancy.specs.Computed.{evaluated, computed_by, kind_of_piece, PieceWrites}
+use Rattle.redundancy.specs.Computed.{evaluated, computed_by, kind_of_piece}
 
 end_evaluates : (kind : PieceKind) → evaluated kind exec.End ≡ []
 end_evaluates Start = refl
@@ -39,26 +38,3 @@ nothing_of_others execs piece a b = ap (flat_map subexpressions) (other_evaluate
 -- a piece of an executable with this kind
 pub computed_of : (execs : List Exec) (piece : Piece) (x : Exec) → slice_get execs piece.exec ≡ Some x → computed_by execs piece ≡ flat_map subexpressions (evaluated piece.kind x.kind)
 computed_of execs piece x is = ap (λ (o : Option Exec). flat_map subexpressions (evaluated piece.kind (kind_in o))) is
-
--- ---- writes
-
-end_writes : (c : ClassTable) (kind : PieceKind) (n : ℕ) → PieceWrites c kind exec.End n → ⊥
-end_writes c Start n w = w
-end_writes c Act n w = w
-end_writes c Pass n w = w
-end_writes c Branch n w = w
-end_writes c Join n w = w
-end_writes c Hold n w = w
-end_writes c End n w = w
-
-pub none_writes : (c : ClassTable) (execs : List Exec) (piece : Piece) (n : ℕ) → slice_get execs piece.exec ≡ None → PieceWrites c piece.kind (kind_of_piece execs piece) n → ⊥
-none_writes c execs piece n none w = end_writes c piece.kind n (subst (λ (o : Option Exec). PieceWrites c piece.kind (kind_in o) n) none w)
-
-pub other_writes : (c : ClassTable) (kind : PieceKind) (k : ExecKind) (n : ℕ) → (kind ≡ Act → ⊥) → PieceWrites c kind k n → ⊥
-other_writes c Start k n a w = w
-other_writes c Act k n a w = a refl
-other_writes c Pass k n a w = w
-other_writes c Branch k n a w = w
-other_writes c Join k n a w = w
-other_writes c Hold k n a w = w
-other_writes c End k n a w = w

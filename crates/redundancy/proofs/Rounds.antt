@@ -33,9 +33,6 @@ AreNodes-push nodes done last waiting is less s = record {
       (cases_eq v last);
 }
 
-pub AreNodes-end : (nodes done : ℕ) (waiting : List ℕ) → nodes ≤ done → AreNodes nodes done waiting → (v : ℕ) → Holds waiting v ↔ (v < nodes)
-AreNodes-end nodes done waiting end s v = (λ holds. s.are v holds, λ within. s.all v within (omega arith))
-
 -- ---- the search
 
 pub first_node : (g : Graph) → IsFlowGraph g → 0 < g.nodes

@@ -1,6 +1,6 @@
 -- The steps of finding what is missing where.
-use Rattle.std.proofs.Common.{◌≡◌, ◌≢◌, ℕ, zero, suc, ◌+◌, ◌^◌, ◌<◌, ◌≤◌, ◌⊎◌, Bool, true, false, not, ◌==◌, ◌&&◌, ◌||◌, ◌↔◌, List, [], ◌∷◌, ◌++◌, length, get_or, set, drop, refl, sym, ap, ◌∙◌, subst, inl, inr, ⊎_elim, arith, add-one, drop-cons, bit_or, get_or-set_same, get_or-set_other, length-set, length-append}
-use Rattle.std.proofs.lemmas.Bool.{cases_eq, or_left, eq-eqb}
+use Rattle.std.proofs.Common.{◌≡◌, ◌≢◌, ℕ, zero, suc, ◌+◌, ◌^◌, ◌<◌, ◌≤◌, ◌⊎◌, Bool, true, false, not, ◌&&◌, ◌||◌, ◌↔◌, List, [], ◌∷◌, ◌++◌, length, get_or, set, drop, refl, sym, ap, ◌∙◌, subst, inl, inr, ⊎_elim, arith, add-one, drop-cons, bit_or, get_or-set_same, get_or-set_other, length-set, length-append}
+use Rattle.std.proofs.lemmas.Bool.{cases_eq, or_left}
 use Rattle.std.proofs.lemmas.List.{drop_all, get_or_default}
 use Rattle.std.proofs.lemmas.Nat.{le_or_l}
 use Rattle.closed_walks.specs.Graph.{Graph, edge_count, from, to, touches, edges_at}
@@ -76,25 +76,6 @@ abbrev pub IsAfter : (computes kills before : List ℕ) → (node word : ℕ) �
 IsAfter computes kills before node word = (k : ℕ) → k < 64 → has_bit word k ≡ missing_after (bit computes k) (bit kills k) (bit before k) node
 
 module _ (g : Graph) (computes kills : List ℕ) (node : ℕ) (before first : List ℕ) where
-  pub spread-begin : ((node e : ℕ) → Holds (edges_at g node) e ↔ ((e < edge_count g) × (touches g node e ≡ true))) → IsSolving g computes kills before first (λ e. from g e ≡ node) → IsSpreading g computes kills node (edges_at g node) 0 before first before first
-  spread-begin touch s = record {
-    edges_are = refl;
-    solving = record {
-      nodes = s.nodes;
-      waits = s.waits;
-      start = s.start;
-      lost = s.lost;
-      closed = λ e k edge within after. ⊎_elim
-          (λ has. inl has)
-          (⊎_elim
-          (λ waits. inr (inl waits))
-          (λ (begins : from g e ≡ node). inr (inr (begins, (touch node e).1 (edge, or_left (from g e == node) (to g e == node) (eq-eqb (from g e) node begins))))))
-          (s.closed e k edge within after);
-    };
-    same = inl refl;
-    less = omega arith;
-  }
-
   module _ (edges : List ℕ) (i : ℕ) (missing waiting : List ℕ) (s : IsSpreading g computes kills node edges i before first missing waiting) where
     pub spread-done : length edges ≤ i → IsSolving g computes kills missing waiting Nothing
     spread-done end = record {

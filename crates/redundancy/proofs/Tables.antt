@@ -65,9 +65,6 @@ get_of_contains xs x c = get_at xs c.0 x c.1 c.2
 pub contains_of_get : {X : Type 0} (xs : List X) (k : ℕ) (x : X) → slice_get xs k ≡ Some x → Contains xs x
 contains_of_get xs k x is = (k, get_within xs k x is, at_get xs k x is)
 
-get_none : (k : ℕ) (e : Expr) → slice_get [] k ≡ Some e → ⊥
-get_none k e is = cc
-
 -- ---- searches in a bucket
 
 pub not_found : (exprs : List Expr) (numbers : List ℕ) (e : Expr) (i : ℕ) → length numbers ≤ i → ((j : ℕ) → j < i → slice_get exprs (get_or numbers j 0) ≡ Some e → ⊥) → (k : ℕ) → Contains numbers k → slice_get exprs k ≡ Some e → ⊥
@@ -77,14 +74,6 @@ not_found exprs numbers e i end none k c is =
     none c.0 (omega (arith, lt, end)) (ap (slice_get exprs) same ∙ is)
 
 -- ---- the table
-
-pub table-new : (buckets : List (List ℕ)) → 0 < length buckets → ((b : ℕ) → get_or buckets b [] ≡ []) → IsTable [] buckets
-table-new buckets some empty = record {
-  some = some;
-  few = omega arith;
-  inside = λ b. subst (λ (z : List ℕ). All (λ k. k < 0) z) (sym (empty b)) (λ k d lt. absurd (omega (arith, lt)));
-  all = λ k e is. absurd (get_none k e is);
-}
 
 pub table-more : (exprs : List Expr) (buckets : List (List ℕ)) (e : Expr) → length exprs < 4294967295 → IsTable exprs buckets → IsTable (exprs ++ e ∷ []) (set buckets (digest e % length buckets) (get_or buckets (digest e % length buckets) [] ++ length exprs ∷ []))
 table-more exprs buckets e few t =
@@ -134,9 +123,6 @@ found_in_table exprs buckets e bucket (Some k) t is at = at
 
 pub numbered-new : (exprs : List Expr) (e : Expr) (k : ℕ) → k ≡ length exprs → (Contains exprs e → ⊥) → IsNumbered e exprs (exprs ++ e ∷ []) k
 numbered-new exprs e k is none = record { at = subst (λ x. slice_get (exprs ++ e ∷ []) x ≡ Some e) (sym is) (get_last exprs e); grows = inr (refl, none) }
-
-pub numbered-old : (exprs : List Expr) (e : Expr) (k : ℕ) → slice_get exprs k ≡ Some e → IsNumbered e exprs exprs k
-numbered-old exprs e k is = record { at = is; grows = inl refl }
 
 -- a bucket that was read
 pub bucket_read : (buckets : List (List ℕ)) (at key : ℕ) (bucket : List ℕ) → at ≡ key % length buckets → 0 < length buckets → bucket ≡ get_or buckets at bucket → bucket ≡ get_or buckets (key % length buckets) []

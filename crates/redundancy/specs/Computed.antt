@@ -7,10 +7,9 @@ use Rattle.f77_tree.specs.declared.programs.ExecKind.TheVariants.{Assign, Print,
 use Rattle.f77_tree.specs.declared.programs.Item.{Item}
 use Rattle.f77_tree.specs.declared.programs.Item.TheVariants.{Value, Chars}
 use Rattle.f77_tree.specs.declared.programs.Program.{Program}
-use Rattle.f77_tree.specs.Value.{place_of}
 use Rattle.alias_classes.specs.Writes.{ExecWrites}
-use Rattle.alias_classes.specs.Classes.{ClassTable, class_of_word}
-use Rattle.alias_classes.specs.Needs.{Hits, ExprNeeds}
+use Rattle.alias_classes.specs.Classes.{ClassTable}
+use Rattle.alias_classes.specs.Needs.{ExprNeeds}
 use Rattle.cfg_build.specs.declared.pieces.Piece.{Piece}
 use Rattle.cfg_build.specs.declared.pieces.PieceKind.{PieceKind}
 use Rattle.cfg_build.specs.declared.pieces.PieceKind.TheVariants.{Act, Branch}

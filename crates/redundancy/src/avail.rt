@@ -1,6 +1,6 @@
 //! The table of available expressions.
 
-ghost use Rattle.std.specs.Prelude.{◌≡◌, ◌<◌, ◌≤◌, ◌+◌, ◌*◌, ◌↔◌, ℕ, List, [], true, All, Some, length, slice_get, slice_index_or, IfOk, OnOk, take, drop};
+ghost use Rattle.std.specs.Prelude.{◌≡◌, ◌<◌, ◌≤◌, ◌*◌, ◌↔◌, ℕ, List, [], true, All, Some, length, slice_get, slice_index_or, IfOk, take, drop};
 ghost use Rattle.class_set.specs.declared.ClassSet.{ClassSet};
 ghost use Rattle.class_set.specs.ClassSet.{holds};
 ghost use Rattle.class_set.specs.Members.{IsWidth};

@@ -1,8 +1,7 @@
 //! Which candidates pieces compute.
 
-ghost use Rattle.std.specs.Prelude.{◌≡◌, ◌<◌, ◌++◌, ◌↔◌, ℕ, List, true, Some, All, length, map, slice_get, IfOk, OnOk};
+ghost use Rattle.std.specs.Prelude.{◌≡◌, ◌<◌, ◌++◌, ◌↔◌, ℕ, List, true, Some, length, map, slice_get, IfOk, OnOk};
 ghost use Rattle.f77_tree.specs.declared.expressions.Expr.{Expr};
-ghost use Rattle.f77_tree.specs.Value.{IsExpression};
 ghost use Rattle.f77_tree.specs.WellFormed.{IsWellFormed};
 ghost use Rattle.redundancy.specs.Available.{has_mark};
 ghost use Rattle.redundancy.specs.Computed.{AreCandidates, Computes};

@@ -7,8 +7,6 @@ ghost use Rattle.class_set.specs.Members.{IsWidth};
 ghost use Rattle.f77_tree.specs.Value.{place_of, IsExpression};
 ghost use Rattle.alias_classes.specs.Classes.{class_of_word};
 ghost use Rattle.f77_tree.specs.WellFormed.{IsWellFormed};
-ghost use Rattle.cfg_build.specs.Flow.{piece_at};
-ghost use Rattle.redundancy.specs.Candidates.{subexpressions};
 ghost use Rattle.redundancy.specs.Collected.{IsGrown, all_subexpressions};
 ghost use Rattle.redundancy.specs.Computed.{expressions, selectors, in_item, computed_by, kind_of_piece, PieceWrites};
 ghost use Rattle.alias_classes.specs.Writes.{ExecWrites};

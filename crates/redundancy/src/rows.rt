@@ -1,12 +1,12 @@
 //! Rows of words: a row for each 64 candidates, with a word for each piece.
 
-ghost use Rattle.std.specs.Prelude.{◌≡◌, ◌≢◌, ◌<◌, ◌≤◌, ◌+◌, ◌*◌, ◌↔◌, ◌==◌, ◌||◌, ℕ, true, false, [], length, slice_index, slice_set, slice_index_or, IfOk, OnOk, bit_or};
+ghost use Rattle.std.specs.Prelude.{◌≡◌, ◌<◌, ◌≤◌, ◌+◌, ◌*◌, ◌↔◌, ◌==◌, ℕ, true, [], length, slice_index_or, IfOk, OnOk};
 ghost use Rattle.class_set.specs.declared.ClassSet.{ClassSet};
 ghost use Rattle.class_set.specs.ClassSet.{holds};
 ghost use Rattle.class_set.specs.Members.{IsWidth};
 ghost use Rattle.redundancy.specs.Available.{has_bit};
-ghost use Rattle.redundancy.specs.Noted.{AreRows, IsMarked};
-ghost use Rattle.redundancy.specs.Solving.{HasBit, bit};
+ghost use Rattle.redundancy.specs.Noted.{IsMarked};
+ghost use Rattle.redundancy.specs.Solving.{HasBit};
 ghost use Rattle.redundancy.specs.Killing.{AreUsers, Meet};
 
 use crate::listed::Listed;

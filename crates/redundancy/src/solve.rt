@@ -1,6 +1,6 @@
 //! The greatest solution of the equations of available expressions, for 64 candidates at once.
 
-ghost use Rattle.std.specs.Prelude.{◌≡◌, ◌≢◌, ◌+◌, ◌<◌, ◌≤◌, ◌&&◌, ◌||◌, ◌↔◌, ℕ, not, false, length, IfOk, OnOk};
+ghost use Rattle.std.specs.Prelude.{◌≡◌, ◌<◌, ◌≤◌, ◌&&◌, ◌||◌, ◌↔◌, ℕ, not, false, length, IfOk, OnOk};
 ghost use Rattle.closed_walks.specs.Graph.{from};
 ghost use Rattle.closed_walks.specs.Region.{IsFlowGraph};
 ghost use Rattle.closed_walks.specs.Walk.{Holds};

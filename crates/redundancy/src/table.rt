@@ -1,6 +1,6 @@
 //! Numbers for expressions.
 
-ghost use Rattle.std.specs.Prelude.{◌≡◌, ◌<◌, ◌^◌, ◌%◌, ℕ, [], All, Contains, Some, length, slice_get, slice_index_or, OnOk, IfOk, MatchOption};
+ghost use Rattle.std.specs.Prelude.{◌≡◌, ◌<◌, ◌%◌, ℕ, [], All, Contains, Some, length, slice_get, slice_index_or, OnOk, IfOk, MatchOption};
 ghost use Rattle.redundancy.specs.Digests.{digest as spec_digest};
 ghost use Rattle.redundancy.specs.Numbers.{IsNumbered, IsTable};
 

@@ -1,6 +1,6 @@
 //! Which expressions are the same tree.
 
-ghost use Rattle.std.specs.Prelude.{◌≡◌, ◌↔◌, IsTrue, length};
+ghost use Rattle.std.specs.Prelude.{◌≡◌, ◌↔◌, IsTrue};
 ghost use Rattle.redundancy.specs.Digests.{digest, digest_of_all, mixed};
 
 use f77_tree::{Expr, ExprList};

@@ -4,7 +4,6 @@ use Rattle.std.specs.Prelude.{if◌then◌else◌, slice_get}
 use Rattle.std.proofs.lemmas.Bool.{cases_Bool}
 use Rattle.list_laws.specs.Member.{Member}
 use Rattle.list_laws.proofs.Members.{Member-left, Member-right}
-use Rattle.f77_tree.specs.declared.programs.Exec.{Exec}
 use Rattle.f77_tree.specs.declared.programs.ExecKind.{ExecKind}
 use Rattle.f77_tree.specs.declared.programs.ExecKind.TheVariants.{Pass}
 use Rattle.f77_tree.specs.declared.programs.Program.{Program}
@@ -29,10 +28,6 @@ pub record AreInPlace (flat : List FlatLine) : Type 0 where
   pub second : (place : ℕ) (l : FlatLine) (kind : ExecKind) → slice_get flat place ≡ Some l → following flat place l.stmt ≡ Some kind → slice_get (executables flat) (first_of flat place + 1) ≡ Some (record { line = l.line; kind = kind })
   pub next : (place : ℕ) (l : FlatLine) → slice_get flat place ≡ Some l → first_of flat (place + 1) ≡ first_of flat place + width flat place l.stmt
 
-if-not : (b : Bool) (s : ℕ) → b ≡ false → Member (if b then [] else s ∷ []) s
-if-not true s is = absurd cc
-if-not false s is = inl refl
-
 module _ (p : Program) (c : ClassTable) (t : Knowns) (checked : Bool) (is_item : ℕ → Bool) (input : List ℤ) where
   abbrev pub new_form : Program
   new_form = program_of p (form p c t checked is_item)
@@ -48,9 +43,6 @@ module _ (p : Program) (c : ClassTable) (t : Knowns) (checked : Bool) (is_item :
 
   pub leads-at : (from to : ℕ) → from ≡ to → Leads from to
   leads-at from to same = record { extra = 0; most = omega arith; comes = λ y runs at. comes-none new_form input y to runs (at ∙ same) }
-
-  pub leads-pass : (from to : ℕ) (exec : Exec) → slice_get (executables (form p c t checked is_item)) from ≡ Some exec → ((y : State) → y.mark ≡ Running → y.position ≡ from → Comes new_form input y to 1) → Leads from to
-  leads-pass from to exec found comes = record { extra = 1; most = omega arith; comes = comes }
 
   -- no step is needed only where the executable is a later one
   pub record LeadsOn (from k s : ℕ) : Type 0 where

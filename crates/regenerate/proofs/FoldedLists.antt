@@ -69,12 +69,6 @@ module _ (names : List NameInfo) (checked : Bool) (words : ℕ → Option ℤ) w
   other-unknown : (kind : Kind) (told : Option ℤ) (other : Expr) → told ≡ None → other ≡ literal_or checked kind told other
   other-unknown kind told other is = ap (λ (o : Option ℤ). literal_or checked kind o other) (sym is)
 
-  pub read-known : (e made : Expr) (access : Access) (z : ℤ) → e ≡ Read access → known_with names words e ≡ Some z → made ≡ literal checked (kind_of_expression names e) z → made ≡ folded names checked words e
-  read-known e made access z is told made_is =
-      literal-known (kind_of_expression names (Read access)) z (known_with names words (Read access)) made (Read (access_at access (map (folded names checked words) access.subs))) (ap (known_with names words) (sym is) ∙ told) (made_is ∙ ap (λ x. literal checked (kind_of_expression names x) z) is)
-      ∙ sym (folded-Read access)
-      ∙ ap (folded names checked words) (sym is)
-
   pub read-unknown : (e : Expr) (access : Access) (subs : List Expr) → e ≡ Read access → known_with names words e ≡ None → subs ≡ map (folded names checked words) access.subs → Read (access_at access subs) ≡ folded names checked words e
   read-unknown e access subs is told are =
       ap (λ (es : List Expr). Read (access_at access es)) are

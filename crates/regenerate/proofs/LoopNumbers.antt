@@ -3,15 +3,10 @@ use Rattle.std.proofs.Common.{◌≡◌, ℕ, ◌<◌, List, length, Option, Som
 use Rattle.std.specs.Prelude.{slice_get}
 use Rattle.std.proofs.lemmas.Option.{slice_get_within}
 use Rattle.f77_tree.specs.declared.programs.Exec.{Exec}
-use Rattle.f77_tree.specs.declared.programs.ExecKind.TheVariants.{DoStart, DoNext}
-use Rattle.f77_tree.specs.declared.expressions.Expr.{Expr}
-use Rattle.f77_tree.specs.Loops.{Loop, begun, begun_in, incremented, incremented_in, do_start, do_next, AreLoops}
+use Rattle.f77_tree.specs.declared.programs.ExecKind.TheVariants.{DoNext}
+use Rattle.f77_tree.specs.Loops.{Loop, begun_in, incremented, incremented_in, do_start, do_next, AreLoops}
 
 module _ (execs : List Exec) (count : ℕ) (loops : AreLoops execs count) where
-  pub start_number : (k : ℕ) (exec : Exec) (n var body exit : ℕ) (first last step : Expr) → slice_get execs k ≡ Some exec → exec.kind ≡ DoStart n var first last step body exit → n < count
-  start_number k exec n var body exit first last step found is =
-      loops.starts k (record { number = n; variable = var; body = body; exit = exit }) (ap begun_in found ∙ ap begun is)
-
   pub next_number : (k : ℕ) (exec : Exec) (n var body exit : ℕ) → slice_get execs k ≡ Some exec → exec.kind ≡ DoNext n var body exit → n < count
   next_number k exec n var body exit found is =
       loops.nexts k (record { number = n; variable = var; body = body; exit = exit }) (ap incremented_in found ∙ ap incremented is)

@@ -1,6 +1,6 @@
 -- A flat program in which no candidate is shared: no temporary stands for anything in it, and nothing is assigned to one.
 use Rattle.std.proofs.Common.{◌≡◌, ℕ, zero, suc, ◌+◌, ◌<◌, ◌≤◌, All, ⊎_elim, Bool, true, false, not, ◌&&◌, List, [], ◌∷◌, ◌++◌, get_or, length, map, take, filter, fold, Option, Some, None, refl, sym, ap, subst, ◌∙◌, arith}
-use Rattle.std.specs.Prelude.{flat_map, slice_get, if◌then◌else◌}
+use Rattle.std.specs.Prelude.{slice_get, if◌then◌else◌}
 use Rattle.std.specs.List.{range_with_len}
 use Rattle.std.proofs.lemmas.Bool.{cases_Bool, cond-false}
 use Rattle.std.proofs.lemmas.List.{take_all, take_more}
@@ -11,7 +11,7 @@ use Rattle.list_laws.proofs.Members.{Member-filter, Member-range}
 use Rattle.op_table.specs.declared.Op.{Op}
 use Rattle.cfg_build.specs.Flow.{flow, piece_at}
 use Rattle.f77_tree.specs.declared.expressions.Access.{Access}
-use Rattle.f77_tree.specs.declared.expressions.Expr.{Expr, Const, Truth, Input, Apply, Read, Expr-F, map-Expr, roll-Expr}
+use Rattle.f77_tree.specs.declared.expressions.Expr.{Expr, Apply, Read, Expr-F, map-Expr, roll-Expr}
 use Rattle.f77_tree.specs.declared.expressions.Expr.TheFolds.{ind-Expr}
 use Rattle.f77_tree.specs.declared.expressions.Expr.TheVariants.{rolls-Const, rolls-Truth, rolls-Input, rolls-Apply, rolls-Read}
 use Rattle.f77_tree.specs.declared.programs.Item.{Item}

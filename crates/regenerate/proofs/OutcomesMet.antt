@@ -79,9 +79,6 @@ module _ (p : Program) (c : ClassTable) (t : Knowns) (checked : Bool) (is_item :
     branched-meets next_at new_at leads (Err trap) = refl
     branched-meets next_at new_at leads (Ok z) = record { text_is = refl; memory = same; leads = leads z }
 
-    pub gone-meets : (next new_next : ℕ) → LeadsTo new_next next → MeetsOf (Goes next m []) (Goes new_next new [])
-    gone-meets next new_next leads = record { text_is = refl; memory = same; leads = leads }
-
     -- ---- DO
 
     module _ (n : ℕ) (few : n < p.loops) (item : is_item (do_start p.execs n) ≡ true) (room : length m.counts ≡ p.loops) (step_room : length m.steps ≡ p.loops)

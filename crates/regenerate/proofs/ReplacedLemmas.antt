@@ -24,10 +24,6 @@ choice_none : (b : Bool) (t : ℕ) (other : Expr) → told_by b t ≡ None → (
 choice_none true t other h = let e : Some t ≡ None = h in absurd cc
 choice_none false t other h = refl
 
-choice_some : (b : Bool) (t name : ℕ) (other : Expr) → told_by b t ≡ Some name → (if b then Read (name_alone t) else other) ≡ Read (name_alone name)
-choice_some true t name other h = let e : Some t ≡ Some name = h in let i : t ≡ name = cc in ap (λ x. Read (name_alone x)) i
-choice_some false t name other h = let e : None ≡ Some name = h in absurd cc
-
 module _ (q : Program) (a : Availability) where
   row_replaced-items : (m : _) (row : Row_of-Expr m) → row_replaced q a (number_of a) row ≡ map (replaced q a (number_of a)) (items-the_row-Expr m row)
   row_replaced-items m end_of-Expr = refl
@@ -47,16 +43,6 @@ module _ (q : Program) (a : Availability) where
   or_none : (o : Option ℕ) (other : Expr) → option_and_then (temporary_of q a) o ≡ None → temporary_or q a (number_of a) o other ≡ other
   or_none None other h = refl
   or_none (Some n) other h = choice_none (is_shared q a (number_of a) n) (temporary q a (number_of a) n) other h
-
-  or_some : (o : Option ℕ) (name : ℕ) (other : Expr) → option_and_then (temporary_of q a) o ≡ Some name → temporary_or q a (number_of a) o other ≡ Read (name_alone name)
-  or_some None name other h = let e : None ≡ Some name = h in absurd cc
-  or_some (Some n) name other h = choice_some (is_shared q a (number_of a) n) (temporary q a (number_of a) n) name other h
-
-  pub replaced-shared : (e : Expr) (op : Op) (args : List Expr) (name : ℕ) (told : Option ℕ) → e ≡ Apply op args → told ≡ option_and_then (temporary_of q a) (number_of a e) → told ≡ Some name → Read (name_alone name) ≡ replaced q a (number_of a) e
-  replaced-shared e op args name told is are some =
-      sym (or_some (number_of a (Apply op args)) name (Apply op (map (replaced q a (number_of a)) args)) (ap (λ (x : Expr). option_and_then (temporary_of q a) (number_of a x)) (sym is) ∙ sym are ∙ some))
-      ∙ sym (replaced-Apply op args)
-      ∙ ap (replaced q a (number_of a)) (sym is)
 
   pub replaced-other : (e : Expr) (op : Op) (args trees : List Expr) (told : Option ℕ) → e ≡ Apply op args → told ≡ option_and_then (temporary_of q a) (number_of a e) → told ≡ None → trees ≡ map (replaced q a (number_of a)) args → Apply op trees ≡ replaced q a (number_of a) e
   replaced-other e op args trees told is are none trees_are =

@@ -11,7 +11,7 @@ use Rattle.f77_tree.specs.declared.programs.Program.{Program}
 use Rattle.flat_programs.specs.declared.statements.Flat.{Flat}
 use Rattle.flat_programs.specs.declared.statements.Flat.TheVariants.{Mark, Assignment, Output, LogicalIf, ArithmeticIf, ComputedGoTo, DoLoop, Jump, Finish}
 use Rattle.flat_programs.specs.declared.statements.FlatLine.{FlatLine}
-use Rattle.flat_programs.specs.Executables.{first_of, width_by}
+use Rattle.flat_programs.specs.Executables.{first_of}
 use Rattle.flat_programs.specs.Marks.{ends_at, is_loop, is_mark}
 use Rattle.redundancy.specs.Available.{Availability}
 use Rattle.regenerate.specs.Numbered.{number_of}
@@ -54,17 +54,6 @@ module _ (q : Program) (a : Availability) where
   same-ends number (DoLoop end var first last step) = refl
   same-ends number (Jump target) = refl
   same-ends number Finish = refl
-
-  pub same-width : (b : Bool) (stmt : Flat) → width_by b (replaced_in q a (number_of a) stmt) ≡ width_by b stmt
-  same-width b Mark = refl
-  same-width b (Assignment target value) = refl
-  same-width b (Output items) = refl
-  same-width b (LogicalIf cond target) = refl
-  same-width b (ArithmeticIf value below at above) = refl
-  same-width b (ComputedGoTo value targets) = refl
-  same-width b (DoLoop end var first last step) = refl
-  same-width b (Jump target) = refl
-  same-width b Finish = refl
 
   -- ---- places
 

@@ -111,9 +111,6 @@ module _ (p : Program) (c : ClassTable) (t : Knowns) (checked : Bool) (is_item :
       let same = length-map all (at (line_in (slice_get p.execs k))) in
       if-most (is_item k) (map (at (line_in (slice_get p.execs k))) all) 3 (omega (arith, most, same))
 
-  pub lines-none : is_item k ≡ false → lines p c t checked is_item k ≡ []
-  lines-none none = ap (λ b. if b then map (at (line_in (slice_get p.execs k))) (stmts (own_edge p k) (kind_at p k) (decided p t k)) else []) none
-
   lines-are : (exec : Exec) (edge : ℕ) (d : Option ℕ) → is_item k ≡ true → slice_get p.execs k ≡ Some exec → edge ≡ own_edge p k → d ≡ decided p t k → map (at exec.line) (stmts edge exec.kind d) ≡ lines p c t checked is_item k
   lines-are exec edge d item found edge_is d_is =
       ap (λ e. map (at exec.line) (stmts e exec.kind d)) edge_is

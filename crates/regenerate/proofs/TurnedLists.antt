@@ -1,17 +1,9 @@
 -- Lists that are gone through by taking the last item of their reverse.
-use Rattle.std.proofs.Common.{◌≡◌, ℕ, zero, suc, ◌+◌, ◌<◌, ◌≤◌, List, [], ◌∷◌, ◌++◌, drop, length, reverse, Some, sym, ap, ◌∙◌, arith, append_assoc}
+use Rattle.std.proofs.Common.{◌≡◌, ℕ, zero, suc, ◌+◌, ◌<◌, List, [], ◌∷◌, ◌++◌, drop, length, reverse, Some, sym, ap, ◌∙◌, arith}
 use Rattle.std.specs.Prelude.{slice_get}
-use Rattle.std.proofs.lemmas.List.{length-drop, reverse-append}
+use Rattle.std.proofs.lemmas.List.{reverse-append}
 
 module _ {X : Type 0} where
-  -- an item that moves from the end of a list to the end of the reverse of what stood behind it
-  pub turned-more : (whole old new turned longer : List X) (x : X) → whole ≡ old ++ reverse turned → old ≡ new ++ x ∷ [] → longer ≡ turned ++ x ∷ [] → whole ≡ new ++ reverse longer
-  turned-more whole old new turned longer x is popped pushed =
-      is
-      ∙ ap (λ (xs : List X). xs ++ reverse turned) popped
-      ∙ append_assoc new (x ∷ []) (reverse turned)
-      ∙ ap (λ (xs : List X). new ++ xs) (sym (ap reverse pushed ∙ reverse-append turned (x ∷ [])))
-
   -- what stands at the first place of a rest
   pub record StandsFirst (xs : List X) (k : ℕ) (x : X) (rest : List X) : Type 0 where
     pub item : slice_get xs k ≡ Some x
@@ -33,7 +25,3 @@ module _ {X : Type 0} where
   -- the last item of the reverse of a rest is its first one
   pub next-turned : (xs : List X) (k : ℕ) (x : X) (old new : List X) → drop k xs ≡ reverse old → old ≡ new ++ x ∷ [] → StandsFirst xs k x (reverse new)
   next-turned xs k x old new is popped = stands-first xs k x (reverse new) (is ∙ ap reverse popped ∙ reverse-append new (x ∷ []))
-
-  -- a rest whose reverse is empty
-  pub none-turned : (xs : List X) (k : ℕ) (old : List X) → drop k xs ≡ reverse old → old ≡ [] → k ≤ length xs → k ≡ length xs
-  none-turned xs k old is none most = let size = length-drop k xs in let gone = ap length (is ∙ ap reverse none) in omega (arith, size, gone, most)

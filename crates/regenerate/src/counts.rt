@@ -1,6 +1,6 @@
 //! How many tests are passed.
 
-ghost use Rattle.std.specs.Prelude.{◌≡◌, ◌+◌, ◌≤◌, length, count_by, IfOk};
+ghost use Rattle.std.specs.Prelude.{◌+◌, ◌≤◌, length, count_by, IfOk};
 ghost use Rattle.std.specs.List.{range_with_len};
 ghost use Rattle.regenerate.specs.Plans.{answer};
 ghost use Rattle.regenerate.specs.Tables.{IsTable};

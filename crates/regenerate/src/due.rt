@@ -1,6 +1,6 @@
 //! Assignments to temporaries, and statements in which temporaries stand for shared candidates.
 
-ghost use Rattle.std.specs.Prelude.{◌≡◌, ◌<◌, [], ◌&&◌, not, if◌then◌else◌, All, Some, length, filter, fold, map, IfOk, OnOk};
+ghost use Rattle.std.specs.Prelude.{◌≡◌, ◌<◌, [], ◌&&◌, not, if◌then◌else◌, All, Some, length, filter, fold, IfOk, OnOk};
 ghost use Rattle.cfg_build.specs.Flow.{flow};
 ghost use Rattle.redundancy.specs.Available.{available_at};
 ghost use Rattle.regenerate.specs.Items.{own_piece};

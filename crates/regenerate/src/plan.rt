@@ -1,6 +1,6 @@
 //! Which marks the items of a program have.
 
-ghost use Rattle.std.specs.Prelude.{◌≡◌, ◌+◌, ◌<◌, ◌==◌, ◌&&◌, ◌||◌, ℕ, length, IfOk};
+ghost use Rattle.std.specs.Prelude.{◌≡◌, ◌+◌, ◌<◌, ◌==◌, ◌&&◌, ◌||◌, length, IfOk};
 ghost use Rattle.std.specs.List.{position_or_len, range_with_len};
 ghost use Rattle.closed_walks.specs.Graph.{edge_count, to};
 ghost use Rattle.f77_tree.specs.WellFormed.{IsWellFormed};

@@ -1,6 +1,6 @@
 //! Expressions in which temporaries stand for shared candidates.
 
-ghost use Rattle.std.specs.Prelude.{◌≡◌, ◌<◌, map, Option, Some, length, IfOk, MatchOption};
+ghost use Rattle.std.specs.Prelude.{◌≡◌, ◌<◌, map, Option, Some, length, IfOk};
 ghost use Rattle.std.specs.Option.{option_and_then};
 ghost use Rattle.regenerate.specs.Numbered.{AreTemporaries, name_alone, number_of, temporary_of};
 ghost use Rattle.regenerate.specs.Shared.{replaced, replaced_access, replaced_in, replaced_item};

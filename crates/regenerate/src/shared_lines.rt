@@ -1,10 +1,10 @@
 //! Statements in which temporaries stand for shared candidates, and the assignments to these.
 
-ghost use Rattle.std.specs.Prelude.{◌≡◌, ◌+◌, ◌<◌, ◌≤◌, ◌^◌, ◌++◌, [], ◌∷◌, true, All, map, length, reverse, slice_get, IfOk, OnOk, MatchOption};
+ghost use Rattle.std.specs.Prelude.{◌≡◌, ◌+◌, ◌<◌, ◌^◌, ◌++◌, [], ◌∷◌, All, map, length, reverse, IfOk, OnOk, MatchOption};
 ghost use Rattle.cfg_build.specs.Flow.{flow};
-ghost use Rattle.flat_programs.specs.Executables.{executables, first_of};
+ghost use Rattle.flat_programs.specs.Executables.{executables};
 ghost use Rattle.regenerate.specs.Numbered.{AreTemporaries, IsSharedNumber, number_of};
-ghost use Rattle.regenerate.specs.Shared.{is_shared, kept_value as value_kept, replaced_in, shared as shared_of, shared_flat, shared_lines, temporary};
+ghost use Rattle.regenerate.specs.Shared.{kept_value as value_kept, replaced_in, shared as shared_of, shared_flat, temporary};
 ghost use Rattle.regenerate.specs.Simplified.{most_statements};
 
 use crate::due::due;

@@ -1,6 +1,6 @@
 //! Which candidates executables compute, and which of them are shared.
 
-ghost use Rattle.std.specs.Prelude.{◌≡◌, ◌<◌, ◌++◌, ◌||◌, ◌&&◌, ℕ, All, Some, flat_map, length, slice_get, IfOk, OnOk, [], ◌∷◌};
+ghost use Rattle.std.specs.Prelude.{◌≡◌, ◌<◌, ◌++◌, ◌||◌, ◌&&◌, ℕ, All, Some, flat_map, length, IfOk, OnOk, [], ◌∷◌};
 ghost use Rattle.cfg_build.specs.Flow.{flow, piece_at};
 ghost use Rattle.redundancy.specs.Available.{available_at};
 ghost use Rattle.redundancy.specs.Candidates.{subexpressions};

@@ -4,19 +4,6 @@ use Rattle.std.proofs.lemmas.Bool.{cases_lt}
 use Rattle.std.proofs.lemmas.List.{get_or_append_left, get_or_push}
 use Rattle.region_tree.specs.Listing.{next_at, IsListedAt, HasListed, IsListing, AreEntryNumbers}
 
-pub IsListing-none : (next : List (Option ℕ)) → IsListing next 0 [] (0 ∷ []) (0 ∷ [])
-IsListing-none next = record {
-  some = omega arith;
-  few = omega arith;
-  exits_size = refl;
-  no_entry = refl;
-  no_exit = refl;
-  listed = λ r some within. absurd (omega (arith, some, within));
-  rises = λ q r some less within. absurd (omega (arith, some, less, within));
-  numbers_size = refl;
-  numbered = λ e below. absurd (omega (arith, below));
-}
-
 -- a longer list has what it had at its places
 IsListedAt-more : (entries : List ℕ) (x e r : ℕ) → IsListedAt entries e r → IsListedAt (entries ++ x ∷ []) e r
 IsListedAt-more entries x e r l = record {
@@ -95,16 +82,6 @@ module _ (next : List (Option ℕ)) (k : ℕ) (numbers entries exits : List ℕ)
 -- ---- the numbers of entries
 
 module _ (next : List (Option ℕ)) (count : ℕ) (numbers entries exits : List ℕ) (l : IsListing next count numbers entries exits) where
-  -- the places of two equal entries are equal
-  pub one_place : (q r : ℕ) → 0 < q → q < length entries → 0 < r → r < length entries → get_or entries q 0 ≡ get_or entries r 0 → q ≡ r
-  one_place q r some_q in_q some_r in_r same = ⊎_elim
-      (λ (less : q < r). let up = l.rises q r some_q less in_r in absurd (omega (arith, up, same)))
-      (λ (more : r ≤ q). ⊎_elim
-      (λ (less : r < q). let up = l.rises r q some_r less in_q in absurd (omega (arith, up, same)))
-      (λ (most : q ≤ r). omega (arith, more, most))
-      (cases_lt r q))
-      (cases_lt q r)
-
   entered_at : (e : ℕ) (n : Option ℕ) → HasListed entries e (get_or numbers e 0) n → get_or numbers e 0 ≢ 0 → IsListedAt entries e (get_or numbers e 0)
   entered_at e None h some = absurd (some h)
   entered_at e (Some f) h some = h

@@ -12,14 +12,6 @@ pub record IsLinked (classes edges : List ℕ) (first next : List (Option ℕ)) 
   pub nexts : (e : ℕ) → e < length classes → next_at next e ≡ next_of classes e edges
 
 module _ (classes : List ℕ) where
-  pub IsLinked-none : (first next : List (Option ℕ)) → length first ≡ length classes → length next ≡ length classes → ((k : ℕ) → next_at first k ≡ None) → ((k : ℕ) → next_at next k ≡ None) → IsLinked classes [] first next
-  IsLinked-none first next first_size next_size no_first no_next = record {
-    first_size = first_size;
-    next_size = next_size;
-    firsts = λ class within. no_first class;
-    nexts = λ e within. no_next e;
-  }
-
   pub IsLinked-step : (edges : List ℕ) (first next : List (Option ℕ)) (e : ℕ) → IsLinked classes edges first next → e < length classes → get_or classes e 0 < length classes → IsLinked classes (e ∷ edges) (set first (get_or classes e 0) (Some e)) (set next e (next_at first (get_or classes e 0)))
   IsLinked-step edges first next e l edge below =
       let class = get_or classes e 0 in

@@ -1,6 +1,6 @@
 -- What the firings of the counters wake, and the set of their ready nodes.
-use Rattle.std.proofs.Common.{◌≡◌, ◌≢◌, ◌<◌, ℕ, zero, suc, true, false, List, [], ◌∷◌, All, Contains, None, refl, sym, ap, subst, ◌∙◌, arith}
-use Rattle.firing.specs.Marks.{AreMarks, Wakes}
+use Rattle.std.proofs.Common.{◌≡◌, ◌≢◌, ◌<◌, ℕ, zero, suc, true, false, List, [], All, Contains, None, refl, sym, ◌∙◌, arith}
+use Rattle.firing.specs.Marks.{AreMarks}
 use Rattle.firing.specs.Moves.{CanFire}
 use Rattle.firing.proofs.ChosenLemmas.{woken_differ}
 use Rattle.sample_nets.specs.declared.counts.Counts.{Counts}

@@ -1,5 +1,5 @@
 -- The counters keep the laws of firing.
-use Rattle.std.proofs.Common.{◌≡◌, ◌+◌, ◌-◌, ◌<◌, ◌&&◌, ℕ, zero, suc, Bool, true, false, nat_lt, nat_eq, None, refl, sym, ap, arith}
+use Rattle.std.proofs.Common.{◌≡◌, ◌+◌, ◌-◌, ◌<◌, ◌&&◌, ℕ, zero, suc, true, false, nat_lt, nat_eq, None, refl, sym, ap, arith}
 use Rattle.std.proofs.lemmas.Bool.{ltb-true, lt-ltb, eqb-true, and_from}
 use Rattle.sample_nets.specs.declared.counts.Counts.{Counts}
 use Rattle.firing.specs.Laws.{IsLawful, AreReady}

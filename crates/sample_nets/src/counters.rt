@@ -146,11 +146,10 @@ impl ReadyMarks for Counters {
 }
 
 impl StepSystem for Counters {
-    ghost use Rattle.std.specs.Prelude.{◌≡◌, ◌<◌, ⊤, true, None, length, slice_index, take};
-    ghost use Rattle.firing.specs.Choice.{ready_nodes};
-    ghost use Rattle.firing.specs.Control.{IsInStep, steered};
+    ghost use Rattle.std.specs.Prelude.{◌≡◌, ◌<◌, ⊤, true, None, length, take};
+    ghost use Rattle.firing.specs.Control.{steered};
     ghost use Rattle.firing.specs.Marks.{AreMarks};
-    ghost use Rattle.firing.specs.Moves.{FiredIs, newest};
+    ghost use Rattle.firing.specs.Moves.{newest};
     ghost use Rattle.sample_nets.specs.declared.counts.Counts.{Counts as Marking_of};
     ghost use Rattle.sample_nets.specs.declared.turn.Turn.{Turn as Place_of};
     ghost use Rattle.sample_nets.specs.Counting.{AreSmall, counter_moves};

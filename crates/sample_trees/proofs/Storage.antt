@@ -16,9 +16,6 @@ common = record { from = 1; to = 2; distance = pos 1 }
 abbrev equivalence : Equation
 equivalence = record { from = 3; to = 2; distance = negsuc 0 }
 
-the_equations : equations names commons groups ≡ common ∷ equivalence ∷ []
-the_equations = refl
-
 -- ---- the places
 
 -- J, A and K share a storage, and I is alone

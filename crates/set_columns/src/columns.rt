@@ -24,7 +24,7 @@ pub struct Columns {
 }
 
 impl Columns {
-    ghost use Rattle.std.specs.Prelude.{◌<◌, ◌==◌, ◌&&◌, ◌||◌, ℕ, false, true, IfOk, IfSome, MatchOption};
+    ghost use Rattle.std.specs.Prelude.{◌<◌, ◌==◌, ◌&&◌, ◌||◌, ℕ, false, true, IfOk, MatchOption};
     ghost use Rattle.class_set.specs.ClassSet.{holds};
     ghost use Rattle.class_set.specs.Members.{IsLast, IsLeast, IsNext, IsPast, IsWidth};
     ghost use Rattle.set_columns.specs.Marks.{marked};

@@ -1,9 +1,9 @@
 -- Rows as lists of cells: tables whose cells are alike, one more row, another number in a cell.
-use Rattle.std.proofs.Common.{◌≡◌, ◌≢◌, ℕ, suc, ◌+◌, ◌*◌, ◌/◌, ◌<◌, ◌≤◌, All, List, [], ◌∷◌, ◌++◌, length, map, set, get_or, sym, ap, ◌∙◌, subst, ⊎_elim, zero-add, arith, length-set, get_or-set_same, get_or-set_other}
+use Rattle.std.proofs.Common.{◌≡◌, ◌≢◌, ℕ, ◌+◌, ◌*◌, ◌/◌, ◌<◌, ◌≤◌, All, List, [], ◌∷◌, ◌++◌, length, map, set, get_or, sym, ap, ◌∙◌, zero-add, arith, length-set}
 use Rattle.std.specs.List.{range_with_len}
-use Rattle.std.proofs.lemmas.Bool.{cases_eq, cases_lt}
 use Rattle.std.proofs.lemmas.List.FromFn.{fill_by_all, get_or-map-range_with_len, length-map-range_with_len, map-range_with_len_more}
-use Rattle.std.proofs.lemmas.Nat.{mul-le}
+use Rattle.std.proofs.lemmas.Nat.{rows as row_laws}
+use Rattle.std.proofs.lemmas.Grind.{elements}
 use Rattle.shared_rows.specs.Blocks.{cell, row, rows}
 
 module _ {X : Type 0} (f : ℕ → X) (n : ℕ) where
@@ -22,45 +22,28 @@ module _ {X : Type 0} (f : ℕ → X) (n : ℕ) where
       (λ k below. get_or-map-range_with_len g 0 n k k (f 0) below (zero-add k) ∙ same k below)
 
   pub listed_set : (g : ℕ → X) (at : ℕ) (x : X) → at < n → g at ≡ x → ((k : ℕ) → k < n → k ≢ at → g k ≡ f k) → map g (range_with_len 0 n) ≡ set listed at x
-  listed_set g at x below here other = sym (fill_by_all g (set listed at x) n x (length-set listed at x ∙ listed_length) (λ k low. ⊎_elim
-      (λ (same : k ≡ at). ap (λ j. get_or (set listed at x) j x) same
-      ∙ get_or-set_same listed at x x (subst (λ m. at < m) (sym listed_length) below) ∙ sym here ∙ ap g (sym same))
-      (λ (apart : k ≢ at). get_or-set_other listed at k x x apart ∙ listed_at k x low ∙ sym (other k low apart))
-      (cases_eq k at)))
+  listed_set g at x below here other = sym (fill_by_all g (set listed at x) n x (length-set listed at x ∙ listed_length) (λ k low. grind (arith, elements, here, other k, listed_at k x, listed_length)))
 
 -- ---- places
 
 module _ (blocks : ℕ) where
   pub next_row : (j k : ℕ) → j < k → j * blocks + blocks ≤ k * blocks
-  next_row j k below =
-      let more = mul-le (suc j) blocks k blocks below (omega arith) in
-      omega (arith, more)
+  next_row j k below = grind (arith, row_laws)
 
   pub place_below : (width count k column : ℕ) → width < 16 * blocks → k < count → column < width → k * blocks + column / 16 < count * blocks
-  place_below width count k column wide row inside =
-      let more = next_row k count row in
-      omega (arith, more, wide, inside)
+  place_below width count k column wide row inside = omega (arith, next_row k count row)
 
   pub place_apart : (j k a b : ℕ) → a < blocks → b < blocks → j * blocks + a ≡ k * blocks + b → j ≡ k
-  place_apart j k a b left right same = ⊎_elim
-      (λ (before : j < k). let more = next_row j k before in absurd (omega (arith, more, left, same)))
-      (λ (past : k ≤ j). ⊎_elim
-      (λ (after : k < j). let more = next_row k j after in absurd (omega (arith, more, right, same)))
-      (λ (most : j ≤ k). omega (arith, past, most))
-      (cases_lt k j))
-      (cases_lt j k)
+  place_apart j k a b left right same = grind (arith, next_row j k, next_row k j)
 
 -- ---- tables
 
 pub rows_full : (pool : List (List ℕ)) (numbers : List ℕ) (blocks width count : ℕ) → All (λ (r : List ℕ). length r ≡ width) (rows pool numbers blocks width count)
-rows_full pool numbers blocks width count k d low =
-    let below : k < count = subst (λ n. k < n) (listed_length (row pool numbers blocks width) count) low in
-    ap length (listed_at (row pool numbers blocks width) count k d below) ∙ listed_length (cell pool numbers blocks k) width
+rows_full pool numbers blocks width count k d low = grind (arith, listed_length (row pool numbers blocks width) count, listed_at (row pool numbers blocks width) count k d, listed_length (cell pool numbers blocks k) width)
 
 -- the number in a cell of a table
 pub cell_read : (pool : List (List ℕ)) (numbers : List ℕ) (blocks width count k column : ℕ) → k < count → column < width → get_or (get_or (rows pool numbers blocks width count) k []) column 0 ≡ cell pool numbers blocks k column
-cell_read pool numbers blocks width count k column below inside =
-    ap (λ (r : List ℕ). get_or r column 0) (listed_at (row pool numbers blocks width) count k [] below) ∙ listed_at (cell pool numbers blocks k) width column 0 inside
+cell_read pool numbers blocks width count k column below inside = rw (listed_at (row pool numbers blocks width) count k [] below) (listed_at (cell pool numbers blocks k) width column 0 inside)
 
 module _ (pool pool' : List (List ℕ)) (numbers numbers' : List ℕ) (blocks width count : ℕ) where
   -- the cells of both tables are alike
@@ -74,9 +57,7 @@ module _ (pool pool' : List (List ℕ)) (numbers numbers' : List ℕ) (blocks wi
   -- one more row
   pub rows_more : AreAlike → (last : List ℕ) → length last ≡ width → ((column : ℕ) → column < width → get_or last column 0 ≡ cell pool' numbers' blocks count column)
       → rows pool' numbers' blocks width (count + 1) ≡ rows pool numbers blocks width count ++ last ∷ []
-  rows_more alike last long cells = map-range_with_len_more (row pool' numbers' blocks width) 0 count count (zero-add count)
-      ∙ ap (λ (xs : List (List ℕ)). xs ++ row pool' numbers' blocks width count ∷ []) (rows_alike alike)
-      ∙ ap (λ (xs : List ℕ). rows pool numbers blocks width count ++ xs ∷ []) (sym (fill_by_all (cell pool' numbers' blocks count) last width 0 long cells))
+  rows_more alike last long cells = rw (map-range_with_len_more (row pool' numbers' blocks width) 0 count count (zero-add count), rows_alike alike, fill_by_all (cell pool' numbers' blocks count) last width 0 long cells)
 
   -- another number in a cell
   pub rows_written : (k column number : ℕ) → k < count → column < width

@@ -1,7 +1,7 @@
 -- Rows that are told by their numbers, where there are any.
-use Rattle.std.proofs.Common.{◌≡◌, ℕ, suc, ◌+◌, ◌<◌, List, [], ◌∷◌, ◌++◌, Option, None, Some, IfSome, length, get_or, refl, sym, ap, ◌∙◌, arith, length-append}
+use Rattle.std.proofs.Common.{◌≡◌, ℕ, suc, ◌+◌, ◌<◌, List, [], ◌∷◌, Option, None, Some, IfSome, length, get_or, refl, sym, ap, ◌∙◌, arith, length-append}
 use Rattle.std.proofs.lemmas.List.{get_or_default}
-use Rattle.shared_rows.specs.Table.{AreThere, Table, numbered_row, numbered_rows, row_at, with_row}
+use Rattle.shared_rows.specs.Table.{AreThere, Table, numbered_rows, row_at, with_row}
 use Rattle.shared_rows.proofs.Tables.{older_row}
 
 -- the row with a number that stands in a list is there

@@ -1,8 +1,8 @@
 -- One more row stands after the others, of blocks that may stand in other places too.
-use Rattle.std.proofs.Common.{◌≡◌, ℕ, ◌+◌, ◌-◌, ◌*◌, ◌/◌, ◌%◌, ◌<◌, ◌≤◌, List, [], ◌∷◌, ◌++◌, length, take, drop, replicate, get_or, refl, sym, ap, ◌∙◌, subst, ⊎_elim, arith, length-append, length-drop, length-take-le, get_or-take, get_or-drop, get_or-append-add}
+use Rattle.std.proofs.Common.{◌≡◌, ℕ, ◌+◌, ◌-◌, ◌*◌, ◌/◌, ◌%◌, ◌<◌, ◌≤◌, List, [], ◌∷◌, ◌++◌, length, take, replicate, get_or, refl, sym, ap, ◌∙◌, arith, length-append, get_or-append-add}
 use Rattle.std.specs.List.{slice_range}
-use Rattle.std.proofs.lemmas.Bool.{cases_lt}
-use Rattle.std.proofs.lemmas.List.{get_or-append_right, get_or_append_left, get_or-replicate, get_or_push, length-replicate, take_all}
+use Rattle.std.proofs.lemmas.Grind.{elements}
+use Rattle.std.proofs.lemmas.List.{get_or_append_left, get_or-replicate, get_or_push, length-replicate, take_all}
 use Rattle.shared_rows.specs.Blocks.{AreKept, IsKept, cell, place, row as row_of, rows, table_of}
 use Rattle.shared_rows.specs.Table.{row_at}
 use Rattle.shared_rows.specs.declared.rows.SharedRows.TheInside.{Inside}
@@ -11,16 +11,10 @@ use Rattle.shared_rows.proofs.Cells.{AreAlike, cell_read, listed_at, listed_leng
 module _ (pool pool' : List (List ℕ)) (numbers added : List ℕ) (own blocks width count : ℕ) (wide : width < 16 * blocks) (size : length numbers ≡ count * blocks) (kept : AreKept pool numbers own)
     (more : length pool ≤ length pool') (stay : (b : ℕ) → b < length pool → get_or pool' b [] ≡ get_or pool b []) (many : length added ≡ blocks) where
   pub pushed_size : length (numbers ++ added) ≡ (count + 1) * blocks
-  pushed_size = let e = length-append numbers added in omega (arith, e, size, many)
-
-  left : (i : ℕ) → i < length numbers → get_or (numbers ++ added) i 0 ≡ get_or numbers i 0
-  left i low = get_or_append_left numbers added 0 i low
+  pushed_size = omega (arith, length-append numbers added, size, many)
 
   alike : AreAlike pool pool' numbers (numbers ++ added) blocks width count
-  alike k column below inside =
-      let within : place blocks k column < length numbers = subst (λ n. place blocks k column < n) (sym size) (place_below blocks width count k column wide below inside) in
-      ap (λ (xs : List ℕ). get_or xs (column % 16) 0)
-      (ap (λ n. get_or pool' n []) (left (place blocks k column) within) ∙ stay (get_or numbers (place blocks k column) 0) (kept.exist (place blocks k column) within))
+  alike k column below inside = grind (arith, get_or_append_left, place_below blocks width count k column wide below inside, kept.exist (place blocks k column), stay, size)
 
   pub pushed_rows : (last : List ℕ) → length last ≡ width → ((c : ℕ) → c < width → get_or last c 0 ≡ get_or (get_or pool' (get_or added (c / 16) 0) []) (c % 16) 0)
       → rows pool' (numbers ++ added) blocks width (count + 1) ≡ rows pool numbers blocks width count ++ last ∷ []
@@ -30,38 +24,28 @@ module _ (pool pool' : List (List ℕ)) (numbers added : List ℕ) (own blocks w
 
   module _ (exist : (i : ℕ) → i < blocks → get_or added i 0 < length pool') (full : (b : ℕ) → b < length pool' → length (get_or pool' b []) ≡ 16) where
     there : (i : ℕ) → i < length (numbers ++ added) → get_or (numbers ++ added) i 0 < length pool'
-    there i low = ⊎_elim
-        (λ (old : i < length numbers). let e = left i old in let h = kept.exist i old in omega (arith, e, h, more))
-        (λ (new : length numbers ≤ i).
-        let e = get_or-append_right numbers added (length numbers) i 0 refl new in
-        let all = length-append numbers added in
-        let h = exist (i - length numbers) (omega (arith, low, new, all, many)) in
-        omega (arith, e, h))
-        (cases_lt i (length numbers))
+    there i low = grind (arith, elements, kept.exist i, exist (i - length numbers), many)
 
     pub pushed_kept : (now : ℕ) → now ≡ length pool' → AreKept pool' (numbers ++ added) now
     pushed_kept now is = record {
       few = omega (arith, is);
       exist = there;
       full = full;
-      alone = λ i j low low' mine same. let h = there i low in absurd (omega (arith, h, mine, is));
+      alone = λ i j low low' mine same. absurd (omega (arith, there i low, mine, is));
     }
 
 -- a part of a list
 module _ (xs : List ℕ) (from n : ℕ) (within : from + n ≤ length xs) where
   part_length : length (slice_range xs from (from + n)) ≡ n
-  part_length =
-      let e : (from + n) - from ≡ n = omega arith in
-      let d = length-drop from xs in
-      ap (λ m. length (take m (drop from xs))) e ∙ length-take-le n (drop from xs) (omega (arith, d, within))
+  part_length = grind (arith, elements)
 
   part_at : (i : ℕ) → i < n → get_or (slice_range xs from (from + n)) i 0 ≡ get_or xs (from + i) 0
-  part_at i low = get_or-take ((from + n) - from) (drop from xs) i 0 (omega (arith, low)) ∙ get_or-drop from xs i 0
+  part_at i low = grind (arith, elements)
 
 -- the blocks of a row once more
 module _ (d : Inside) (kept : IsKept d) (row : ℕ) (below : row < d.count) where
   pub part_within : place d.blocks row 0 + d.blocks ≤ length d.numbers.items
-  part_within = let n = next_row d.blocks row d.count below in let size = kept.size in omega (arith, n, size)
+  part_within = omega (arith, next_row d.blocks row d.count below, kept.size)
 
   abbrev pub part : List ℕ
   part = slice_range d.numbers.items (place d.blocks row 0) (place d.blocks row 0 + d.blocks)
@@ -90,10 +74,7 @@ module _ (d : Inside) (kept : IsKept d) (row : ℕ) (below : row < d.count) wher
 
 -- a list that was filled up with so many numbers
 pub filled_up : (xs kept ys : List ℕ) (len len' n b number : ℕ) → ys ≡ take (len + n) kept ++ replicate ((len + n) - len') b → kept ≡ xs → len ≡ len' → len' ≡ length kept → b ≡ number → ys ≡ xs ++ replicate n number
-filled_up xs kept ys len len' n b number is same equal all value =
-    let e : (len + n) - len' ≡ n = omega (arith, equal) in
-    is ∙ ap (λ (zs : List ℕ). zs ++ replicate ((len + n) - len') b) (take_all (len + n) kept (omega (arith, equal, all)) ∙ same)
-    ∙ ap (λ m. xs ++ replicate m b) e ∙ ap (λ v. xs ++ replicate n v) value
+filled_up xs kept ys len len' n b number is same equal all value = grind (arith, take_all)
 
 -- one new block, in all places of the row
 module _ (d : Inside) (kept : IsKept d) (number : ℕ) where
@@ -116,13 +97,7 @@ module _ (d : Inside) (kept : IsKept d) (number : ℕ) where
   filled_at i low = get_or-replicate d.blocks i (length d.pool.items) 0 low
 
   full : (b : ℕ) → b < length grown → length (get_or grown b []) ≡ 16
-  full b low = ⊎_elim
-      (λ (old : b < length d.pool.items). ap length (stays b old) ∙ kept.blocks.full b old)
-      (λ (new : length d.pool.items ≤ b).
-      let many = grown_length in
-      let same : b ≡ length d.pool.items = omega (arith, many, low, new) in
-      ap (λ n. length (get_or grown n [])) same ∙ ap length newest ∙ length-replicate 16 number)
-      (cases_lt b (length d.pool.items))
+  full b low = grind (arith, elements, grown_length, stays b, newest, kept.blocks.full b, length-replicate)
 
   pub filled_kept : (now : ℕ) → now ≡ length grown → AreKept grown (d.numbers.items ++ filled) now
   filled_kept = pushed_kept d.pool.items grown d.numbers.items filled d.own d.blocks d.width d.count kept.wide kept.size kept.blocks (let e = grown_length in omega (arith, e)) stays

@@ -1,5 +1,5 @@
 -- The last row of a table.
-use Rattle.std.proofs.Common.{◌≡◌, ℕ, ◌<◌, List, [], ◌∷◌, ◌++◌, length, set, get_or, refl, ap, ◌∙◌, get_or-set_same}
+use Rattle.std.proofs.Common.{◌≡◌, ℕ, ◌<◌, List, [], ◌∷◌, length, set, get_or, refl, ap, ◌∙◌, get_or-set_same}
 use Rattle.std.proofs.lemmas.List.{get_or_append_left, get_or_push, set-get_or, set-set, set_at}
 use Rattle.shared_rows.specs.Table.{Table, row_at, with_number, with_row, with_row_at}
 
@@ -9,10 +9,6 @@ module _ (t : Table) (row : List ℕ) where
 
   pub older_row : (k : ℕ) → k < length t.rows → row_at (with_row t row) k ≡ row_at t k
   older_row k below = get_or_append_left t.rows (row ∷ []) [] k below
-
-  pub last_written : (column number : ℕ) → with_number (with_row t row) (length t.rows) column number ≡ with_row t (set row column number)
-  last_written column number = ap (λ (xs : List (List ℕ)). record { width = t.width; rows = xs })
-      (ap (λ (r : List ℕ). set (t.rows ++ row ∷ []) (length t.rows) (set r column number)) last_row ∙ set_at t.rows row [] (set row column number) (length t.rows) refl)
 
   pub last_replaced : (other : List ℕ) → with_row_at (with_row t row) (length t.rows) other ≡ with_row t other
   last_replaced other = ap (λ (xs : List (List ℕ)). record { width = t.width; rows = xs }) (set_at t.rows row [] other (length t.rows) refl)

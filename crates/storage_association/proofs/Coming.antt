@@ -1,5 +1,5 @@
 -- Names of COMMON and equations that come one after another.
-use Rattle.std.proofs.Common.{◌≡◌, ℕ, ◌+◌, ◌<◌, ◌≤◌, List, [], ◌∷◌, ◌++◌, length, get_or, map, take, refl, sym, ap, subst, ◌∙◌, arith, append_assoc, append-nil, ℤ, pos, ◌-ℤ◌, w64}
+use Rattle.std.proofs.Common.{◌≡◌, ℕ, ◌+◌, ◌<◌, ◌≤◌, List, [], ◌∷◌, ◌++◌, length, get_or, map, take, refl, sym, ap, subst, ◌∙◌, arith, append_assoc, ℤ, pos, ◌-ℤ◌, w64}
 use Rattle.std.specs.Prelude.{fold, flat_map}
 use mir.Val.{SFits}
 use Rattle.std.proofs.lemmas.Int.{ints, to_z-of_z}
@@ -31,12 +31,6 @@ links-next f count old now new xs i d x lt is so_far step firsts all held =
     let joined : (all ++ map f (take i xs)) ++ f x ∷ [] ≡ all ++ map f (take (i + 1) xs) = append_assoc all (map f (take i xs)) (f x ∷ []) ∙ ap (λ ys. all ++ ys) (sym came) in
     subst (λ (es : List Equation). AreStorages count firsts es new) joined (step firsts (all ++ map f (take i xs)) (so_far firsts all held))
 
-pub links-all : {X : Type 0} (f : X → Equation) (count : ℕ) (old now : Storages) (xs ys : List X) (i : ℕ) → length xs ≤ i → xs ≡ ys → Links count old now (map f (take i xs)) → Links count old now (map f ys)
-links-all f count old now xs ys i le is so_far firsts all held = subst (λ (zs : List _). AreStorages count firsts (all ++ map f zs) now) (take_all i xs le ∙ is) (so_far firsts all held)
-
-pub links-none : (count : ℕ) (s : Storages) → Links count s s []
-links-none count s firsts all held = subst (λ (es : List Equation). AreStorages count firsts es s) (sym (append-nil all)) held
-
 -- the equation that a call passed
 pub told-equation : (count : ℕ) (firsts : List ℕ) (all : List Equation) (new : Storages) (from to : ℕ) (z : ℤ) (e : Equation) → AreStorages count firsts (all ++ (record { from = from; to = to; distance = z }) ∷ []) new → from ≡ e.from → to ≡ e.to → z ≡ e.distance → AreStorages count firsts (all ++ e ∷ []) new
 told-equation count firsts all new from to z e held a b d =
@@ -50,12 +44,6 @@ difference-is p q m n is_p is_q few_m few_n =
     let fits_q : SFits w64 q = rw is_q (omega (arith, ints)) in
     let fits : SFits w64 (again p -ℤ again q) = rw (to_z-of_z w64 p fits_p, to_z-of_z w64 q fits_q, is_p, is_q) (omega (arith, ints)) in
     to_z-of_z w64 (again p -ℤ again q) fits ∙ rw (to_z-of_z w64 p fits_p, to_z-of_z w64 q fits_q, is_p, is_q) refl
-
-pub again-difference : (p q : ℤ) (m n : ℕ) → p ≡ pos m → q ≡ pos n → m ≤ 262145 → n ≤ 262145 → again (again (again p -ℤ again q)) ≡ pos m -ℤ pos n
-again-difference p q m n is_p is_q few_m few_n =
-    let once = difference-is p q m n is_p is_q few_m few_n in
-    let fits : SFits w64 (pos m -ℤ pos n) = omega (arith, ints) in
-    ap again once ∙ to_z-of_z w64 (pos m -ℤ pos n) fits
 
 -- the storages go on being storages of so many names
 pub some-next : (count : ℕ) (old new : Storages) (came : List Equation) → AreSome old → length old.parts.items ≡ count → Links count old new came → AreSome new × (length new.parts.items ≡ count)
@@ -71,9 +59,6 @@ links-flat f count old now new xs i d x lt is so_far step firsts all held =
     let came : flat_map f (take (i + 1) xs) ≡ flat_map f (take i xs) ++ f x = ap (flat_map f) (take_more xs i d lt ∙ ap (λ y. take i xs ++ y ∷ []) (sym is)) ∙ sym (flat_map_more f [] (take i xs) x) in
     let joined : (all ++ flat_map f (take i xs)) ++ f x ≡ all ++ flat_map f (take (i + 1) xs) = append_assoc all (flat_map f (take i xs)) (f x) ∙ ap (λ ys. all ++ ys) (sym came) in
     subst (λ (es : List Equation). AreStorages count firsts es new) joined (step firsts (all ++ flat_map f (take i xs)) (so_far firsts all held))
-
-pub links-flat-all : {X : Type 0} (f : X → List Equation) (count : ℕ) (old now : Storages) (xs : List X) (i : ℕ) → length xs ≤ i → Links count old now (flat_map f (take i xs)) → Links count old now (flat_map f xs)
-links-flat-all f count old now xs i le so_far firsts all held = subst (λ (zs : List _). AreStorages count firsts (all ++ flat_map f zs) now) (take_all i xs le) (so_far firsts all held)
 
 pub extends-flat : {X : Type 0} (f : X → List Standing) (names : List NameInfo) (old now new : Commons) (xs : List X) (i : ℕ) (d x : X) → i < length xs → x ≡ get_or xs i d → Extends names old now (flat_map f (take i xs)) → Extends names now new (f x) → Extends names old new (flat_map f (take (i + 1) xs))
 extends-flat f names old now new xs i d x lt is so_far step standings are =

@@ -1,4 +1,4 @@
-ghost use Rattle.std.specs.Prelude.{◌≡◌, ◌<◌, ℕ, [], ◌∷◌, List, length, if◌then◌else◌, Option, Some, None, bytes_eq, OnOk, IfOk, All, flat_map};
+ghost use Rattle.std.specs.Prelude.{◌≡◌, ◌<◌, ℕ, [], ◌∷◌, List, length, if◌then◌else◌, Option, Some, None, OnOk, IfOk, All, flat_map};
 ghost use Rattle.f77_tree.specs.Declarations.{index_of, member_index};
 ghost use Rattle.f77_tree.specs.Places.{same_block};
 ghost use Rattle.layout_rules.specs.Declarations.{all_commons, groups_of, parts_of};

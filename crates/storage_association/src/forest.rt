@@ -1,4 +1,4 @@
-ghost use Rattle.std.specs.Prelude.{◌≡◌, ◌≢◌, ◌+◌, ◌<◌, ◌^◌, List, length, vec_len, IfOk};
+ghost use Rattle.std.specs.Prelude.{◌≡◌, ◌≢◌, ◌+◌, ◌<◌, ◌^◌, List, length, IfOk};
 ghost use Rattle.layout_rules.specs.Storage.{Spot, alone};
 ghost use Rattle.storage_association.specs.Trees.{AreTrees, IsForest, IsJoined, IsRooted, hung, node_at};
 ghost use Rattle.layout_rules.specs.Spots.{IsReach};

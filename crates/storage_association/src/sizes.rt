@@ -1,5 +1,5 @@
 ghost use Rattle.std.specs.Prelude.{◌≡◌, ◌≤◌, ◌^◌};
-ghost use Rattle.layout_rules.specs.Storage.{distance_of, elements, extent, size_of, subscripts_before, too_many};
+ghost use Rattle.layout_rules.specs.Storage.{distance_of, extent, size_of, subscripts_before, too_many};
 
 use f77_tree::Dim;
 

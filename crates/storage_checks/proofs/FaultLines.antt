@@ -22,6 +22,7 @@ use Rattle.layout_rules.specs.StorageFaults.{is_data, has_dims_twice, has_wrong_
 use Rattle.layout_rules.specs.StorageLines.{declares_wrongly, given_by, groups_wrongly, initializes_wrongly, storage_line}
 use Rattle.layout_rules.proofs.LowestWalk.{first-none, lowest-none}
 use Rattle.layout_rules.proofs.StorageLines.{Fault, after_clear, after_here, after_next, right_sizes, declared_right, none-any, right_statement}
+use Rattle.std.proofs.lemmas.Grind.{elements}
 
 -- ---- DATA
 
@@ -44,19 +45,11 @@ either f g above s = f above s || g above s
 
 pub none-either : (f g : Fault) (above stmts : List Labelled) → first_after f above stmts ≡ None → first_after g above stmts ≡ None → first_after (either f g) above stmts ≡ None
 none-either f g above [] no_f no_g = refl
-none-either f g above (s ∷ rest) no_f no_g =
-    let clear_f = after_clear f above rest s no_f in
-    let clear_g = after_clear g above rest s no_g in
-    after_next (either f g) above rest s (or_from (f above s) (g above s) clear_f clear_g)
-    ∙ none-either f g (above ++ s ∷ []) rest (sym (after_next f above rest s clear_f) ∙ no_f) (sym (after_next g above rest s clear_g) ∙ no_g)
+none-either f g above (s ∷ rest) no_f no_g = grind (arith, after_clear f above rest s no_f, after_clear g above rest s no_g, after_next (either f g) above rest s, or_from (f above s) (g above s), none-either f g (above ++ s ∷ []) rest, after_next f above rest s, after_next g above rest s)
 
 either-none : (f g : Fault) (above stmts : List Labelled) → first_after (either f g) above stmts ≡ None → (first_after f above stmts ≡ None) × (first_after g above stmts ≡ None)
 either-none f g above [] none = (refl, refl)
-either-none f g above (s ∷ rest) none =
-    let clear = after_clear (either f g) above rest s none in
-    let parts = or_parts (f above s) (g above s) clear in
-    let later = either-none f g (above ++ s ∷ []) rest (sym (after_next (either f g) above rest s clear) ∙ none) in
-    (after_next f above rest s parts.0 ∙ later.0, after_next g above rest s parts.1 ∙ later.1)
+either-none f g above (s ∷ rest) none = grind (arith, after_clear (either f g) above rest s none, or_parts (f above s) (g above s), either-none f g (above ++ s ∷ []) rest, after_next (either f g) above rest s, after_next f above rest s, after_next g above rest s)
 
 module _ (names placed : List NameInfo) (whole : List Labelled) where
   -- what DATA with right items gives is all that it has
@@ -64,11 +57,7 @@ module _ (names placed : List NameInfo) (whole : List Labelled) where
   gives-all s right = ap (λ b. cond b [] (inits_of s.stmt)) right
 
   given-push : (above : List Labelled) (s : Labelled) → flat_map (given_by names) above ≡ all_inits above → given_by names s ≡ inits_of s.stmt → flat_map (given_by names) (above ++ s ∷ []) ≡ all_inits (above ++ s ∷ [])
-  given-push above s same one =
-      flat_map-append (given_by names) above (s ∷ [])
-      ∙ ap (λ (xs : List InitPart). xs ++ (given_by names s ++ [])) same
-      ∙ ap (λ (xs : List InitPart). all_inits above ++ (xs ++ [])) one
-      ∙ sym (flat_map-append (λ (t : Labelled). inits_of t.stmt) above (s ∷ []))
+  given-push above s same one = grind (arith, elements, flat_map-append, given_by, all_inits, inits_of)
 
   -- ---- one statement
 
@@ -86,10 +75,7 @@ module _ (names placed : List NameInfo) (whole : List Labelled) where
 
   -- a statement has a fault of storage exactly where one of the three kinds is told of it
   same-fault : (above : List Labelled) (s : Labelled) → flat_map (given_by names) above ≡ all_inits above → has_wrong_storage names placed whole above s ≡ either declared_or_placed (initializes_wrongly names placed) above s
-  same-fault above s same =
-      ap (λ b. has_wrong_declaration names above s || has_wrong_places names whole above s || b) (sym (same-values above s same))
-      ∙ agree (has_dims_twice above s || has_wrong_dims s || is_common_twice above s) (has_wrong_member names s) (has_wrong_places names whole above s) (values_wrong above s) (is_data s.stmt)
-      (λ none. ap (has_wrong_part placed (flat_map (part_words placed) (flat_map (given_by names) above))) (no-inits s.stmt none))
+  same-fault above s same = grind (arith, elements, has_wrong_declaration, has_wrong_places, same-values, agree, has_dims_twice, has_wrong_dims, is_common_twice, has_wrong_member, is_data, has_wrong_part, flat_map, part_words, given_by, no-inits)
 
   pub same-first : (above stmts : List Labelled) → flat_map (given_by names) above ≡ all_inits above → first_after (has_wrong_storage names placed whole) above stmts ≡ first_after (either declared_or_placed (initializes_wrongly names placed)) above stmts
   same-first above [] same = refl
@@ -115,18 +101,10 @@ no-answer (Some line) b none = let e : Some line ≡ None = none in absurd cc
 
 module _ (names placed : List NameInfo) (stmts : List Labelled) where
   pub no-storage-fault : storage_line names placed stmts ≡ None → first_line (has_wrong_storage names placed stmts) stmts ≡ None
-  no-storage-fault none =
-      let parts = no-answer (lower_line (first_line (declares_wrongly names) stmts) (first_line (has_wrong_places names stmts) stmts)) (lowest_line (initializes_wrongly names placed) stmts) none in
-      let lines = no-lower (first_line (declares_wrongly names) stmts) (first_line (has_wrong_places names stmts) stmts) parts.0 in
-      same-first names placed stmts [] stmts refl ∙ none-either (declared_or_placed names placed stmts) (initializes_wrongly names placed) [] stmts (none-either (declares_wrongly names) (has_wrong_places names stmts) [] stmts lines.0 lines.1) (lowest-none (initializes_wrongly names placed) [] stmts parts.1)
+  no-storage-fault none = grind (arith, elements, no-answer, lower_line, first_line, declares_wrongly, has_wrong_places, lowest_line, initializes_wrongly, no-lower, same-first, none-either, lowest-none)
 
   pub storage-without : first_line (has_wrong_storage names placed stmts) stmts ≡ None → storage_line names placed stmts ≡ None
-  storage-without none =
-      let told = either-none (declared_or_placed names placed stmts) (initializes_wrongly names placed) [] stmts (sym (same-first names placed stmts [] stmts refl) ∙ none) in
-      let both = either-none (declares_wrongly names) (has_wrong_places names stmts) [] stmts told.0 in
-      ap (λ o. answer_or (lower_line o (first_line (has_wrong_places names stmts) stmts)) (lowest_line (initializes_wrongly names placed) stmts)) both.0
-      ∙ ap (λ o. answer_or o (lowest_line (initializes_wrongly names placed) stmts)) both.1
-      ∙ first-none (initializes_wrongly names placed) [] stmts told.1
+  storage-without none = grind (arith, elements, either-none, initializes_wrongly, same-first, declares_wrongly, has_wrong_places, answer_or, lower_line, first_line, lowest_line, first-none)
 
 -- dimensions are right where no declaration is wrong
 pub sizes-right : (names : List NameInfo) (stmts : List Labelled) → first_line (declares_wrongly names) stmts ≡ None → All HasRightDims (names_of stmts)
@@ -170,6 +148,3 @@ module _ (names : List NameInfo) (checked : Bool) (stmts : List Labelled) where
 
   pub none-too-great : lowest_line (is_too_great names checked stmts) stmts ≡ None → first_line (asks_too_much names checked stmts) stmts ≡ None
   none-too-great none = sym first-great ∙ lowest-none (is_too_great names checked stmts) [] stmts none
-
-  pub modest-without : first_line (asks_too_much names checked stmts) stmts ≡ None → lowest_line (is_too_great names checked stmts) stmts ≡ None
-  modest-without none = first-none (is_too_great names checked stmts) [] stmts (first-great ∙ none)

@@ -1,6 +1,6 @@
 //! The words of items of DATA (ANSI X3.9-1978, section 9).
 
-ghost use Rattle.std.specs.Prelude.{◌≡◌, ◌<◌, ◌≤◌, ◌^◌, not, true, false, length, slice_index, flat_map, All, IfOk};
+ghost use Rattle.std.specs.Prelude.{◌≡◌, ◌<◌, ◌≤◌, ◌^◌, not, true, false, slice_index, flat_map, All, IfOk};
 ghost use Rattle.std.specs.List.{list_any};
 ghost use Rattle.f77_tree.specs.InitialWords.{item_words, item_kinds};
 ghost use Rattle.layout_rules.specs.Storage.{elements};

@@ -1,6 +1,6 @@
 //! The words that DATA has given values to (ANSI X3.9-1978, section 9).
 
-ghost use Rattle.std.specs.Prelude.{◌≡◌, ℕ, ◌<◌, ◌+◌, ◌-◌, ◌^◌, [], ◌++◌, not, ◌==◌, true, List, flat_map, IfOk};
+ghost use Rattle.std.specs.Prelude.{◌≡◌, ℕ, ◌<◌, ◌+◌, ◌^◌, [], ◌++◌, not, ◌==◌, true, List, flat_map, IfOk};
 ghost use Rattle.std.specs.Ordering.{nat_cmp};
 ghost use Rattle.std.specs.BTreeMap.{get};
 ghost use Rattle.f77_tree.specs.InitialWords.{words_from};

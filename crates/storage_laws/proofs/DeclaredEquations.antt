@@ -13,7 +13,7 @@ use Rattle.f77_tree.specs.Declarations.{index_of, member_index, member_offset, o
 use Rattle.f77_tree.specs.Places.{Equation, Linked, block_names, neighbours, common_equations, equated, group_equations, equations}
 use Rattle.layout_rules.specs.Faults.{first_line}
 use Rattle.layout_rules.specs.Declarations.{all_commons, all_groups}
-use Rattle.layout_rules.specs.Storage.{Standing, standings, standings_of, standing_equations, size_at, member_distance, common_equations as common_solved, equated as equated_solved, group_equations as group_solved, equations as solved}
+use Rattle.layout_rules.specs.Storage.{Standing, standings_of, standing_equations, size_at, member_distance, common_equations as common_solved, equated as equated_solved, group_equations as group_solved, equations as solved}
 use Rattle.layout_rules.specs.StorageFaults.{are_wrong_dims, has_wrong_storage}
 use Rattle.layout_rules.specs.Layout.{names_of, spots_of, placed_names}
 use Rattle.layout_rules.specs.Source.{IsSource}
@@ -170,10 +170,6 @@ module _ (whole : List Labelled) (right : first_line (has_wrong_storage (names_o
   -- the sizes of names count exactly
   pub sizes-exact : (k : ℕ) → size_of (dims_of filled k) ≡ pos (size_at table k)
   sizes-exact k = ap size_of ((placed_names-agrees whole).dims k) ∙ size-exact (dims_of table k) (right_at k)
-
-  -- the names of a block are those that stand in it
-  pub names-of_block : (block : Option (List ℕ)) → block_names filled (all_commons whole) block ≡ names_standing block (standings table (all_commons whole))
-  names-of_block block = placed-block_names table filled (same_index_in whole) block (all_commons whole) ∙ ap (names_standing block) (sym (standings-once table (all_commons whole) once))
 
   -- and so do the distances of members
   pub member-exact : (member : Member) → IsMember filled member → member_offset filled member ≡ member_distance table member

@@ -1,5 +1,5 @@
 -- Pieces that act, and their switches.
-use Rattle.std.proofs.Common.{◌≡◌, ◌<◌, ◌≤◌, ◌+◌, ◌-◌, ◌&&◌, ℕ, zero, suc, Bool, true, false, not, is_some, List, [], ◌∷◌, length, map, All, Option, Some, None, refl, sym, ap, ◌∙◌, subst, arith}
+use Rattle.std.proofs.Common.{◌≡◌, ◌<◌, ◌≤◌, ◌+◌, ◌-◌, ◌&&◌, ℕ, suc, Bool, true, false, not, is_some, List, [], length, Option, Some, None, refl, sym, ap, ◌∙◌, subst, arith}
 use Rattle.std.specs.List.{list_all, range_with_len}
 use Rattle.std.proofs.lemmas.List.{length-map}
 use Rattle.std.proofs.lemmas.List.FromFn.{length-range_with_len}
@@ -9,10 +9,8 @@ use Rattle.cfg_build.specs.declared.pieces.PieceKind.TheVariants as kind
 use Rattle.firing.specs.Control.{steered, is_node}
 use Rattle.firing.specs.declared.system.NodeName.TheVariants.{Act, Merge, Switch}
 use Rattle.net_board.specs.declared.control.Control.{Control}
-use Rattle.net_board.specs.SoundNets.{CanCome}
 use Rattle.net_board.specs.ControlCourse.{due_node, moved_on, net_course}
 use Rattle.net_board.specs.Nodes.{is_acting, NetOf, graph_in, kind_in, all_lines, is_free, touched, passing, nodes_by, nodes_of, node_at, node_count, first_node, switch_lines, switches}
-use Rattle.net_board.specs.TokenEdges.{IsReadable}
 use Rattle.net_board.specs.Tokens.{Tokens, is_before, left_for, ready_as}
 use Rattle.net_board.proofs.NodeLaws.{IsNamed, named}
 use Rattle.net_tables.proofs.NodeRanges.{nodes_within}
@@ -105,10 +103,6 @@ pub ready_unless : (net : NetOf) (m : Tokens) (piece k : ℕ) (before : Bool) (m
 ready_unless net m piece k before moved lines all no' =
     let here : list_all (is_before net m piece) (touched net piece) ≡ false = ap (list_all (is_before net m piece)) (sym lines) ∙ sym all ∙ no' in
     no' ∙ ap (λ b. b && list_all (λ switch. not (is_some (left_for m switch))) (switches net piece)) (sym here)
-
--- a marking that can come is one that firings can read
-pub readable : (net : NetOf) (m : Tokens) → CanCome net m → IsReadable net m
-readable net m comes = record { can_run = comes.is_net.can_run; sizes = comes.is_marking.memory; stand = comes.is_marking.stand; lie = comes.is_marking.lie }
 
 -- ---- control
 

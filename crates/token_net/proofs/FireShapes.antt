@@ -1,5 +1,5 @@
 -- The markings that firings make, and what they name, from what their steps do.
-use Rattle.std.proofs.Common.{◌≡◌, ◌<◌, ℕ, true, false, List, [], ◌∷◌, length, All, Contains, Option, Some, None, is_some, slice_set, inl, inr, refl, sym, ap, ◌∙◌, subst}
+use Rattle.std.proofs.Common.{◌≡◌, ◌<◌, ℕ, true, false, List, [], ◌∷◌, length, All, Contains, Option, Some, None, is_some, slice_set, inl, inr, sym, ap, ◌∙◌, subst}
 use Rattle.dep_routing.specs.Routing.{next_at}
 use Rattle.op_table.specs.declared.Trap.{Trap}
 use Rattle.cfg_build.specs.Passes.{Traps, out}

@@ -1,8 +1,7 @@
 -- What firings answer, and the set of the ready nodes after them.
 use Rattle.std.proofs.Common.{◌≡◌, ℕ, Bool, true, false, if◌then◌else◌, List, length, None, sym, ap, ◌∙◌, subst}
 use Rattle.op_table.specs.declared.Trap.{Trap}
-use Rattle.f77_tree.specs.Execution.{Memory}
-use Rattle.cfg_build.specs.Passes.{Passed, Along, Traps, out}
+use Rattle.cfg_build.specs.Passes.{Passed, Traps, out}
 use Rattle.firing.specs.declared.system.Fired.{Fired}
 use Rattle.firing.specs.declared.system.Fired.TheVariants.{Moved, Line, Trapped}
 use Rattle.firing.specs.declared.system.NodeName.{NodeName}
@@ -18,8 +17,6 @@ use Rattle.net_board.specs.TokenEdges.{IsReadable}
 use Rattle.net_board.specs.WokenNodes.{IsWoken}
 use Rattle.net_board.proofs.FiringLaws.{net_laws}
 use Rattle.net_board.proofs.WokenNodeLaws.{wakes}
-use Rattle.token_net.specs.PieceRuns.{going_on}
-use Rattle.token_net.proofs.FiringLemmas.{acted_told}
 
 -- ---- the set of the ready nodes
 
@@ -69,9 +66,6 @@ module _ (net : NetOf) (m : Tokens) (k : ℕ) (going : m.trap ≡ None) where
   silent_as name is line trap = record { line = ap (line_as net m) is ∙ line; trap = ap (λ (n : NodeName). (fired_as net m k n).trap) is ∙ trap }
 
   module _ (piece : ℕ) (name : node_at net k ≡ Act piece) where
-    goes : (edge : ℕ) (new : Memory) (text : List ℕ) → going_on (out (graph_in net) piece 0) m.memory (pass_at net piece m.memory) ≡ Along edge new text → (fired_as net m k (Act piece)).trap ≡ None
-    goes edge new text is = ap (λ (t : Tokens). t.trap) (acted_told net piece m edge new text (pass_at net piece m.memory) is) ∙ going
-
     trap_by : (trap : Trap) (b : Bool) → net.touches piece 0 ≡ b → acted net m piece (Traps trap) ≡ (if b then stopped net m piece trap else gone net m piece (out (graph_in net) piece 0) m.memory)
     trap_by trap b is = ap (λ (x : Bool). if x then stopped net m piece trap else gone net m piece (out (graph_in net) piece 0) m.memory) is
 

@@ -13,9 +13,6 @@ use Rattle.token_net.specs.PieceRuns.{going_on}
 use Rattle.net_tables.proofs.TableLemmas.{out_exists}
 
 module _ (net : NetOf) (piece : ℕ) (m : Tokens) where
-  first : ℕ
-  first = out (graph_in net) piece 0
-
   -- ---- a piece that takes an edge
 
   module _ (edge : ℕ) (new : Memory) (text : List ℕ) where

@@ -1,6 +1,6 @@
 //! Firings of pieces that act lead lines away.
 
-ghost use Rattle.std.specs.Prelude.{◌≡◌, ◌<◌, ℕ, Some, length, true};
+ghost use Rattle.std.specs.Prelude.{◌≡◌, ◌<◌, Some, length, true};
 ghost use Rattle.closed_walks.specs.Graph.{edge_count};
 ghost use Rattle.net_board.specs.Nodes.{is_acting, graph_in, kind_in, nodes_of, switches, touched};
 ghost use Rattle.net_board.specs.Tokens.{led_from, with_all};

@@ -1,4 +1,4 @@
-use Rattle.std.proofs.Common.{◌≡◌, ◌∙◌, arith}
+use Rattle.std.proofs.Common.{◌∙◌, arith}
 use Rattle.closed_walks.specs.Graph.{edge_count}
 use Rattle.dep_routing.specs.Routing.{wire_at}
 use Rattle.dfc_driver.proofs.MarkedRows.{all_rows, none_yet, row_more}

@@ -1,4 +1,3 @@
-use Rattle.std.specs.Prelude.{◌≡◌, ◌<◌, ◌&&◌, ℕ, nat_lt}
 use Rattle.closed_walks.specs.Graph.{edge_count}
 use Rattle.dep_routing.specs.Routing.{wire_at}
 use Rattle.dfc_driver.proofs.MarkedRows.{AreMarked}

@@ -1,6 +1,5 @@
-use Rattle.std.proofs.Common.{◌≡◌, ◌++◌, ◌+◌, ◌∙◌, ℕ, List, sym, ap, subst, arith}
+use Rattle.std.proofs.Common.{◌≡◌, ◌++◌, ◌+◌, ◌∙◌, ℕ, List, sym, ap, arith}
 use Rattle.std.specs.Prelude.{flat_map}
-use Rattle.closed_walks.specs.Graph.{edge_count}
 use Rattle.class_set.specs.Members.{first_above}
 use Rattle.set_columns.specs.Marks.{marked}
 use Rattle.dfc_driver.specs.GraphText.{hop_line, hops_text}

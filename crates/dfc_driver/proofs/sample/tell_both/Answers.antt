@@ -1,13 +1,11 @@
-use Rattle.std.proofs.Common.{[], List, ℤ, subst, sym, ◌∙◌}
-use Rattle.f77_meaning.specs.Stepper.{input_of, program_of}
+use Rattle.std.proofs.Common.{[], List, ℤ, subst}
+use Rattle.f77_meaning.specs.Stepper.{program_of}
 use Rattle.firing.specs.Play.{moment}
 use Rattle.op_board.specs.OperationCourse.{operation_course}
 use Rattle.op_board.specs.OperationTokens.{operation_moves}
 use Rattle.op_net.specs.NetView.{marking_of, net_of}
-use Rattle.dfc_driver.specs.declared.status.Status.{Status}
 use Rattle.dfc_driver.specs.Answers.{AnswersAs}
-use Rattle.dfc_driver.specs.Due.{IsDueRunOf, IsGameOf}
-use Rattle.firing.specs.declared.playing.Show.TheVariants.{Output}
+use Rattle.dfc_driver.specs.Due.{IsDueRunOf}
 use Rattle.dfc_driver.specs.Playing.{way_by}
 use Rattle.dfc_driver.proofs.SamplesTold.{both_told, first_told}
 use Rattle.dfc_driver.proofs.sample.tell_both.Goals as goal

@@ -1,8 +1,7 @@
-use Rattle.std.proofs.Common.{◌≡◌, [], refl, ap, ◌∙◌, arith}
+use Rattle.std.proofs.Common.{◌≡◌, [], refl, ap, ◌∙◌}
 use Rattle.std.proofs.lemmas.List.Elements.{All-nil}
 use Rattle.op_table.specs.Words.{IsWord}
 use Rattle.cfg_build.specs.Flow.{flow}
-use Rattle.dep_routing.specs.Routing.{Routing}
 use Rattle.dep_routing.specs.Touch.{touches_in}
 use Rattle.f77_meaning.specs.Stepper.{program_of}
 use Rattle.firing.specs.Play.{moment}

@@ -1,7 +1,7 @@
 use Rattle.std.proofs.Common.{◌≡◌, ◌≢◌, Bool, List, Result, Ok, Err, IfOk, IfErr, refl, subst}
 use Rattle.f77_tree.specs.declared.programs.Program.{Program}
 use Rattle.layout_rules.specs.declared.layout_end.LayoutEnd.{LayoutEnd}
-use Rattle.layout_rules.specs.declared.layout_end.LayoutEnd.TheVariants.{OutOfOrder, RealName, TypeWrong, LayoutWrong, LabelTwice, LabelMissing, BadNesting, JumpInto, TooManyWords, TooManyOps, NoMemory}
+use Rattle.layout_rules.specs.declared.layout_end.LayoutEnd.TheVariants.{NoMemory}
 use Rattle.f77_tree.specs.declared.statements.Labelled.{Labelled}
 use Rattle.f77_tree.specs.Operations.{HasFewOperations}
 use Rattle.f77_tree.specs.WellFormed.{IsWellFormed}

@@ -1,9 +1,9 @@
 use Rattle.std.proofs.Common.{map, length, sym, ap, ◌∙◌}
-use Rattle.std.specs.List.{range_with_len, filter}
+use Rattle.std.specs.List.{range_with_len}
 use Rattle.f77_tree.specs.InitialWords.{initial_word}
-use Rattle.layout_rules.specs.Declarations.{all_commons, all_groups, all_inits}
-use Rattle.layout_rules.specs.Executables.{executables, is_do}
-use Rattle.layout_rules.specs.Layout.{names_of, placed_names, word_count}
+use Rattle.layout_rules.specs.Declarations.{all_inits}
+use Rattle.layout_rules.specs.Executables.{executables}
+use Rattle.layout_rules.specs.Layout.{names_of, placed_names}
 use Rattle.layout_rules.specs.PlacedNames.{with_places}
 use Rattle.storage_checks.proofs.FaultLines.{no-storage-fault, none-too-great}
 use Rattle.f77_layout.proofs.MadePrograms.{as-many, small-places, placed-is, are-places, items-right, data-right, program-is}

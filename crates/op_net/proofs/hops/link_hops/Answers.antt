@@ -1,4 +1,4 @@
-use Rattle.std.proofs.Common.{◌≡◌, ◌<◌, ℕ, Some, None, List, length, set, get_or, slice_index_or, sym, ap, ◌∙◌, subst, arith, rules, if◌then◌else◌}
+use Rattle.std.proofs.Common.{◌≡◌, ◌<◌, ℕ, Some, None, length, set, get_or, slice_index_or, sym, ap, ◌∙◌, subst, arith, rules, if◌then◌else◌}
 use Rattle.std.proofs.lemmas.List.{get_or-set_same, get_or-set_other, get_or_read, length-set}
 use Rattle.op_net.specs.declared.hops.Hop.{Hop}
 use Rattle.op_net.specs.ScratchLines.{first_at, linked}

@@ -1,4 +1,4 @@
-use Rattle.std.proofs.Common.{◌≡◌, ◌<◌, ◌+◌, ◌^◌, length, arith}
+use Rattle.std.proofs.Common.{◌<◌, ◌^◌, arith}
 use Rattle.op_net.specs.BoardView.{operation_net_on}
 use Rattle.op_net.proofs.CountedAhead.{anew_ahead, anew_apart, anew_few, anew_marks, anew_right}
 use Rattle.op_net.proofs.PlacesKept.{same_kept}

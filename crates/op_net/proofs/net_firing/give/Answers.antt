@@ -1,11 +1,11 @@
-use Rattle.std.proofs.Common.{◌≡◌, ◌+◌, ◌-◌, ℕ, ℤ, true, Some, length, w32, ap, subst, sym, ◌∙◌, arith}
+use Rattle.std.proofs.Common.{◌≡◌, ℕ, true, length, w32, ap, subst, sym, ◌∙◌, arith}
 use Rattle.std.specs.List.{list_all}
 use Rattle.std.proofs.lemmas.Int.{to_z-of_z}
-use Rattle.op_board.specs.OperationNets.{first_operation, needed}
+use Rattle.op_board.specs.OperationNets.{needed}
 use Rattle.op_board.specs.OperationTokens.{OperationTokens, stands_before}
 use Rattle.op_net.specs.BoardView.{operation_net_on}
 use Rattle.op_net.specs.FiringChanges.{given_on, gone_on}
-use Rattle.op_net.specs.PlacesView.{IsAheadBy, MakesUp, standing, value_put}
+use Rattle.op_net.specs.PlacesView.{IsAheadBy, MakesUp, standing}
 use Rattle.op_net.specs.StandingChanges.{lines_moved}
 use Rattle.op_net.proofs.CountsKept.{keeps_more}
 use Rattle.op_net.proofs.MadeUp.{ahead_left, ahead_less, makes_more}

@@ -1,5 +1,4 @@
-use Rattle.std.proofs.Common.{◌≡◌, ◌+◌, ℕ, Bool, true, false, if◌then◌else◌, length, subst, sym, ap, ◌∙◌, arith}
-use Rattle.net_board.specs.Nodes.{switches}
+use Rattle.std.proofs.Common.{◌≡◌, ◌+◌, ℕ, true, false, subst, sym, ◌∙◌, arith}
 use Rattle.op_board.specs.Operations.{is_decision}
 use Rattle.op_board.specs.OperationNets.{first_operation, operation_at}
 use Rattle.op_net.specs.BoardView.{operation_net_on}

@@ -1,4 +1,4 @@
-use Rattle.std.proofs.Common.{◌≡◌, ◌<◌, ◌+◌, ℕ, true, subst, sym, ap, ◌∙◌, arith}
+use Rattle.std.proofs.Common.{◌≡◌, true, subst, sym, ap, ◌∙◌, arith}
 use Rattle.dep_routing.specs.Routing.{next_at}
 use Rattle.net_board.specs.Tokens.{edge_of, led_from}
 use Rattle.net_tables.proofs.TokenLineLemmas.{led_below}

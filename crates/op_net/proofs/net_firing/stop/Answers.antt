@@ -1,5 +1,5 @@
 use Rattle.std.proofs.Common.{◌≡◌, ◌<◌, ◌+◌, ◌==◌, ℕ, true, length, refl, subst, sym, ◌∙◌, arith}
-use Rattle.op_board.specs.OperationNets.{first_operation, needed}
+use Rattle.op_board.specs.OperationNets.{needed}
 use Rattle.op_net.specs.BoardView.{operation_net_on}
 use Rattle.op_net.specs.PlacesView.{IsAheadBy, MakesUp, standing}
 use Rattle.op_net.specs.Waits.{node_total, one_if, waits}

@@ -1,4 +1,4 @@
-use Rattle.std.proofs.Common.{◌≡◌, ◌<◌, ◌+◌, ℕ, true, false, Option, None, Some, is_some, length, refl, subst, sym, ap, ◌∙◌, arith, rules}
+use Rattle.std.proofs.Common.{◌≡◌, ◌<◌, ℕ, true, false, Option, None, Some, is_some, refl, subst, sym, ap, ◌∙◌, arith, rules}
 use Rattle.closed_walks.specs.Graph.{edge_count}
 use Rattle.dep_routing.specs.Routing.{next_at}
 use Rattle.firing.specs.declared.system.NodeName.{NodeName}
@@ -13,7 +13,7 @@ use Rattle.op_net.specs.PlacesView.{IsCountedAhead, edge_put, line_put, standing
 use Rattle.op_net.specs.SoundPlaces.{ArePlaces}
 use Rattle.op_net.specs.Waits.{AreSwitchNodes, IsSwitchOf, stands_at}
 use Rattle.op_net.proofs.CountedAhead.{ahead_counted}
-use Rattle.op_net.proofs.CountsKept.{keeps_more, keeps_own}
+use Rattle.op_net.proofs.CountsKept.{keeps_more}
 use Rattle.op_net.proofs.LedLines.{IsReadySwitch, ready_switch, switch_marking, switch_stands, switch_through}
 use Rattle.op_net.proofs.NodeNames.{IsSwitchAt, switch_at_node}
 use Rattle.op_net.proofs.NodesBefore.{one_before}

@@ -1,11 +1,9 @@
 use Rattle.std.proofs.Common.{◌≡◌, ◌+◌, ℕ, true, length, subst, sym, ap, ◌∙◌, arith}
 use Rattle.std.specs.List.{list_all}
-use Rattle.cfg_build.specs.Passes.{out}
-use Rattle.net_board.specs.Nodes.{graph_in}
 use Rattle.op_board.specs.OperationNets.{first_operation, needed}
 use Rattle.op_board.specs.OperationTokens.{OperationTokens, stands_before}
 use Rattle.op_net.specs.BoardView.{operation_net_on}
-use Rattle.op_net.specs.FiringChanges.{gone_on, room_left, told_on}
+use Rattle.op_net.specs.FiringChanges.{room_left}
 use Rattle.op_net.specs.OperationRows.{room_of}
 use Rattle.op_net.specs.PlacesView.{standing}
 use Rattle.op_net.specs.StandingChanges.{lines_moved}

@@ -1,4 +1,4 @@
-use Rattle.std.proofs.Common.{◌≡◌, ◌≤◌, ◌<◌, ◌+◌, ℕ, ℤ, List, length, map, take, vec_capacity, refl, ap, subst, sym, ◌∙◌, arith, rules}
+use Rattle.std.proofs.Common.{◌≡◌, ◌≤◌, ◌+◌, ℕ, ℤ, List, length, take, vec_capacity, refl, ap, subst, sym, ◌∙◌, arith, rules}
 use mathlib.Core.Logic.{∥∥₁_elim}
 use Rattle.std.proofs.Props.{props}
 use Rattle.std.proofs.lemmas.List.{length-map}
@@ -11,7 +11,7 @@ use Rattle.operation_lists.specs.Seen.{operand_seen}
 use Rattle.operation_effects.specs.Tasks.{TakesOperands, task_room}
 use Rattle.op_net.specs.BoardView.{operation_net_on}
 use Rattle.op_net.specs.FiringChanges.{remembered}
-use Rattle.op_net.specs.OperationRows.{IsRow, first_three}
+use Rattle.op_net.specs.OperationRows.{IsRow}
 use Rattle.op_net.specs.PlacesView.{IsAheadBy, MakesUp, standing}
 use Rattle.op_net.proofs.FiringParts.{args_same}
 use Rattle.op_net.proofs.PlacesKept.{taken_kept}

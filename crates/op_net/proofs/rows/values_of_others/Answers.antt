@@ -1,4 +1,4 @@
-use Rattle.std.proofs.Common.{◌≡◌, ◌+◌, [], ◌∷◌, take, sym, ap, ◌∙◌, arith}
+use Rattle.std.proofs.Common.{◌+◌, [], take, sym, ap, ◌∙◌, arith}
 use Rattle.op_net.proofs.RowOperands.{others, others_next}
 use Rattle.op_net.proofs.rows.values_of_others.Goals as goal
 

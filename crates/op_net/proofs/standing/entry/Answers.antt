@@ -1,4 +1,4 @@
-use Rattle.std.proofs.Common.{◌<◌, arith}
+use Rattle.std.proofs.Common.{arith}
 use Rattle.op_net.specs.BoardView.{operation_net_on}
 use Rattle.op_net.proofs.LookedUp.{entry_exists, entry_is}
 use Rattle.op_net.proofs.NodeNames.{acts_where}

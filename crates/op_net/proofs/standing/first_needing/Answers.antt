@@ -1,4 +1,4 @@
-use Rattle.std.proofs.Common.{◌≡◌, ◌+◌, ℕ, Option, Some, None, subst, sym, arith}
+use Rattle.std.proofs.Common.{◌+◌, ℕ, Option, Some, None, subst, sym, arith}
 use Rattle.op_net.specs.BoardView.{operation_net_on}
 use Rattle.op_net.specs.OperationRows.{EntryIs, IsEntry}
 use Rattle.op_net.specs.Waits.{IsNodeBefore}

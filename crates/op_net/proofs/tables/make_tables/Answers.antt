@@ -1,4 +1,4 @@
-use Rattle.std.proofs.Common.{◌≡◌, ◌∙◌, ℕ, List, Some, length, slice_get, ap, subst, sym}
+use Rattle.std.proofs.Common.{◌∙◌, List, length, slice_get, ap, sym}
 use Rattle.firing.specs.declared.system.NodeName.{NodeName}
 use Rattle.op_board.specs.OperationNets.{all_operation_nodes}
 use Rattle.op_net.specs.PlanView.{operations_in}

@@ -1,4 +1,3 @@
-use Rattle.std.proofs.Common.{◌++◌}
 use Rattle.sample_texts.specs.SampleText.{first_lines}
 use Rattle.sample_texts.proofs.Joined.{block_next}
 use Rattle.sample_texts.proofs.sample.sample_text.Goals as goal

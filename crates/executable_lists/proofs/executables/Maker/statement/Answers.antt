@@ -1,10 +1,10 @@
-use Rattle.std.proofs.Common.{rules, arith, ◌≡◌, ◌++◌, ◌<◌, ℕ, Bool, List, length, get_or, All, Result, sym, ap, subst, ◌∙◌}
+use Rattle.std.proofs.Common.{rules, arith, ◌≡◌, ◌++◌, ℕ, List, length, get_or, Result, sym, ap, subst, ◌∙◌}
 use Rattle.std.specs.Result.{OnOk}
 use Rattle.indexmap.proofs.MapLemmas.{OnOk-map}
 use Rattle.f77_tree.specs.declared.programs.Exec.{Exec}
 use Rattle.f77_tree.specs.declared.programs.NameInfo.{NameInfo}
 use Rattle.f77_tree.specs.declared.statements.Labelled.{Labelled}
-use Rattle.layout_rules.specs.Executables.{beyond, own_kinds, at_line, loops_to, increments, first_of}
+use Rattle.layout_rules.specs.Executables.{beyond, own_kinds, at_line, loops_to, increments}
 use Rattle.layout_rules.specs.Tables.{IsUsable}
 use Rattle.f77_tree.proofs.ExpressionLemmas.{All-at}
 use Rattle.control_structure.proofs.Exits.{executables-within}

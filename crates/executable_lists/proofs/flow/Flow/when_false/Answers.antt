@@ -1,7 +1,6 @@
 use Rattle.std.proofs.Common.{rules, length, ◌≡◌, ◌+◌, ◌<◌, true, false, arith, ◌∙◌}
 use Rattle.std.specs.Prelude.{slice_get}
 use Rattle.std.proofs.lemmas.List.{get_or_read}
-use Rattle.layout_rules.specs.Jumps.{end_of_arm}
 use Rattle.layout_rules.specs.Executables.{is_else_at}
 use Rattle.control_structure.proofs.Meeting.{end_of_arm-within, else-inside}
 use Rattle.control_structure.proofs.Exits.{when_false-is}

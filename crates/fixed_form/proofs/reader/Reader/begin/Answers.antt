@@ -12,7 +12,7 @@ use Rattle.fixed_form.proofs.Limits.{closed_each, begun_within}
 use Rattle.fixed_form.proofs.Faults.{label_some, initial_too_many, initial_fine}
 use Rattle.fixed_form.proofs.Steps.{new_stmt, initial_count_is, begin_counts, begin_statements}
 use Rattle.fixed_form.proofs.reader.Reader.begin.Goals as goal
-use Rattle.fixed_form.proofs.reader.Reader.begin.Goals.{Then-len-ge-MOST_STATEMENTS, Joined-self}
+use Rattle.fixed_form.proofs.reader.Reader.begin.Goals.{Joined-self}
 
 pub returns-then-len-ge-MOST_STATEMENTS-clause-reads :
     goal.returns-then-len-ge-MOST_STATEMENTS-clause-reads

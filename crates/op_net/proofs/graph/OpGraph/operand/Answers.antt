@@ -1,4 +1,4 @@
-use Rattle.std.proofs.Common.{◌<◌, ◌+◌, ◌≡◌, ℕ, Some, length, slice_get, sym, ap, subst, ◌∙◌, arith}
+use Rattle.std.proofs.Common.{◌<◌, ◌+◌, ℕ, Some, length, slice_get, sym, ap, subst, ◌∙◌, arith}
 use Rattle.firing.specs.declared.system.NodeName.{NodeName}
 use Rattle.op_board.specs.OperationNets.{first_operation, operation_at}
 use Rattle.operation_lists.specs.declared.operations.Operand.{Operand}

@@ -1,7 +1,4 @@
 use Rattle.std.proofs.Common.{◌≡◌, ◌+◌, ℕ, get_or, subst, arith}
-use Rattle.op_net.specs.BoardView.{operation_net_on}
-use Rattle.op_net.specs.PieceTables.{rows_before}
-use Rattle.op_net.specs.declared.rows.Row.{Row}
 use Rattle.op_net.proofs.LookedUp.{row_exists, row_is, start_is, starts_long}
 use Rattle.op_net.proofs.lookups.OperationBoard.row.Goals as goal
 

@@ -1,7 +1,5 @@
-use Rattle.std.proofs.Common.{◌≡◌, ◌<◌, ◌≤◌, ◌+◌, ◌-◌, ◌∙◌, ℕ, List, Some, length, drop, take, slice_get, ap, subst, sym, arith, length-drop}
+use Rattle.std.proofs.Common.{◌≡◌, ◌≤◌, ◌+◌, ◌-◌, ◌∙◌, ℕ, List, Some, length, drop, take, slice_get, ap, sym, arith, length-drop}
 use lib.Seq.{length-take-le}
-use Rattle.net_board.specs.Nodes.{graph_in}
-use Rattle.op_board.specs.OperationNets.{operation_count}
 use Rattle.op_net.specs.BoardView.{operation_net_on}
 use Rattle.op_net.specs.PieceTables.{rows_before}
 use Rattle.op_net.specs.declared.rows.Row.{Row}

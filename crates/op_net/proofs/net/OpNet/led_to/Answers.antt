@@ -1,4 +1,4 @@
-use Rattle.std.proofs.Common.{true, refl, arith}
+use Rattle.std.proofs.Common.{refl, arith}
 use Rattle.op_net.proofs.net.OpNet.led_to.Goals as goal
 
 pub lead_of-lead-requires : goal.lead_of-lead-requires

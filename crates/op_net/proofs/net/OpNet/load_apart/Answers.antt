@@ -1,13 +1,13 @@
-use Rattle.std.proofs.Common.{◌≡◌, ◌<◌, ◌≤◌, ◌+◌, ◌-◌, ℤ, true, None, Some, length, refl, sym, ap, subst, w32, ◌∙◌, arith, rules}
+use Rattle.std.proofs.Common.{◌≡◌, ◌+◌, ℤ, true, None, Some, length, refl, ap, w32, ◌∙◌, arith, rules}
 use mir.Val.{to_z, of_z}
 use Rattle.std.specs.List.{list_all}
 use Rattle.std.proofs.lemmas.Int.{ints}
 use Rattle.f77_meaning.specs.Storage.{memory_of}
-use Rattle.op_board.specs.OperationNets.{first_operation, needed, operation_at}
+use Rattle.op_board.specs.OperationNets.{first_operation, operation_at}
 use Rattle.op_board.specs.OperationTokens.{OperationTokens, givers, is_given, value_at}
 use Rattle.op_net.specs.FiringChanges.{worked_on}
 use Rattle.op_net.specs.NetView.{marking_of, net_of}
-use Rattle.op_net.specs.PlacesView.{IsCountedAhead, standing, value_put}
+use Rattle.op_net.specs.PlacesView.{standing, value_put}
 use Rattle.op_net.specs.StandingChanges.{values_taken}
 use Rattle.op_net.proofs.ApartNets.{IsGivenAs, apart_marking, gives_one, load_gives_value}
 use Rattle.op_net.proofs.CountedAhead.{ahead_counted}

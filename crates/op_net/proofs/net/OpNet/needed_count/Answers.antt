@@ -1,4 +1,4 @@
-use Rattle.std.proofs.Common.{◌≡◌, ◌<◌, ◌≤◌, ◌^◌, length, ◌∙◌, arith, rules}
+use Rattle.std.proofs.Common.{◌≡◌, length, ◌∙◌, arith, rules}
 use Rattle.std.proofs.lemmas.List.FromFn.{length-range_with_len}
 use Rattle.net_board.specs.Nodes.{all_lines}
 use Rattle.net_tables.proofs.TableLemmas.{short_filter}

@@ -1,4 +1,4 @@
-use Rattle.std.proofs.Common.{◌≡◌, ◌<◌, length, arith}
+use Rattle.std.proofs.Common.{arith}
 use Rattle.op_net.specs.NetView.{net_of}
 use Rattle.op_net.proofs.RowFacts.{row_line_at, row_line_count}
 use Rattle.op_net.proofs.net.OpNet.needed_line.Goals as goal

@@ -1,4 +1,4 @@
-use Rattle.std.proofs.Common.{◌≡◌, ◌<◌, ℕ, length, None, Some, slice_get, true, sym, subst, arith, rules}
+use Rattle.std.proofs.Common.{◌≡◌, ◌<◌, ℕ, length, Some, slice_get, true, sym, subst, arith, rules}
 use Rattle.op_board.specs.OperationNets.{is_last_at, needed}
 use Rattle.op_net.specs.NetView.{net_of}
 use Rattle.op_net.specs.OperationRows.{IsNextNeed}

@@ -1,4 +1,4 @@
-use Rattle.std.proofs.Common.{ℕ, Some, sym, subst, arith}
+use Rattle.std.proofs.Common.{ℕ, Some, sym, subst}
 use Rattle.op_net.specs.NetView.{net_of}
 use Rattle.op_net.specs.Waits.{IsNodeBefore}
 use Rattle.op_net.proofs.net.OpNet.node_at.Goals as goal

@@ -1,4 +1,4 @@
-use Rattle.std.proofs.Common.{◌≡◌, ◌≤◌, ◌+◌, Some, vec_capacity, true, w32, rules, length, refl, sym, ap, subst, ◌∙◌, arith}
+use Rattle.std.proofs.Common.{◌≡◌, ◌≤◌, Some, vec_capacity, true, w32, rules, length, refl, sym, ap, subst, ◌∙◌, arith}
 use Rattle.std.specs.List.{list_all}
 use Rattle.std.proofs.lemmas.Int.{to_z-of_z}
 use mir.Val.{SFits}
@@ -11,7 +11,7 @@ use Rattle.op_board.specs.OperationNets.{operation_at, operation_node}
 use Rattle.op_board.specs.OperationTokens.{OperationTokens, givers, is_given}
 use Rattle.operation_effects.specs.declared.performing.Did.{Did}
 use Rattle.operation_effects.specs.declared.performing.Did.TheVariants as did
-use Rattle.operation_effects.specs.Done.{KeepsLine, KeepsStorage, told}
+use Rattle.operation_effects.specs.Done.{KeepsLine, KeepsStorage}
 use Rattle.op_net.specs.FiringChanges.{given_on}
 use Rattle.op_net.specs.NetView.{marking_of, net_of}
 use Rattle.op_net.specs.OperationRows.{IsRow}

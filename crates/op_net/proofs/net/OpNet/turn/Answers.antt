@@ -1,18 +1,13 @@
-use Rattle.std.proofs.Common.{◌≡◌, true, sym, ap, subst, ◌∙◌, arith}
-use Rattle.closed_walks.specs.Graph.{edge_count}
+use Rattle.std.proofs.Common.{◌≡◌, sym, ap, subst, ◌∙◌, arith}
 use Rattle.f77_meaning.specs.Storage.{memory_of}
-use Rattle.firing.specs.declared.system.NodeName.{NodeName}
-use Rattle.firing.specs.declared.system.NodeName.TheVariants.{Merge, Op, Switch}
-use Rattle.net_board.specs.Nodes.{graph_in}
+use Rattle.firing.specs.declared.system.NodeName.TheVariants.{Merge, Switch}
 use Rattle.op_board.specs.OperationNets.{operation_node}
-use Rattle.op_board.specs.OperationTokens.{OperationTokens, fired_as, ready_as}
+use Rattle.op_board.specs.OperationTokens.{fired_as, ready_as}
 use Rattle.op_net.specs.NetView.{marking_of, net_of}
 use Rattle.op_net.specs.PlacesView.{standing}
 use Rattle.op_net.specs.Steering.{LeadsBy}
-use Rattle.op_net.specs.Turns.{is_turning}
 use Rattle.op_net.proofs.ControlMoveLemmas.{merge_leads, switch_leads}
 use Rattle.op_net.proofs.LedLines.{merge_whole, switch_whole}
-use Rattle.op_net.proofs.NodeNames.{no_act}
 use Rattle.op_net.proofs.net.OpNet.turn.Goals as goal
 
 pub switch-requires : goal.switch-requires

@@ -1,5 +1,4 @@
-use Rattle.std.proofs.Common.{◌≡◌, ◌≤◌, arith}
-use Rattle.firing.specs.ReadySet.{has}
+use Rattle.std.proofs.Common.{◌≡◌, arith}
 use Rattle.op_net.specs.PlacesView.{standing}
 use Rattle.op_net.specs.Waits.{one_if}
 use Rattle.op_net.proofs.FailingLists.{one_at_most}

@@ -1,4 +1,4 @@
-use Rattle.std.proofs.Common.{◌≡◌, true, None, sym, ap, subst, ◌∙◌}
+use Rattle.std.proofs.Common.{◌≡◌, true, sym, ap, subst, ◌∙◌}
 use Rattle.firing.specs.Marks.{AreMarks, DifferAt}
 use Rattle.firing.specs.Moves.{CanFire}
 use Rattle.sample_nets.specs.Counting.{after_node, counter_moves, is_ready, woken_by}

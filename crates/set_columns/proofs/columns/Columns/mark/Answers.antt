@@ -1,4 +1,4 @@
-use Rattle.std.proofs.Common.{◌*◌, ◌+◌, ◌/◌, ◌<◌, length, arith, ap, subst}
+use Rattle.std.proofs.Common.{◌*◌, ◌+◌, ◌/◌, ◌<◌, length, arith}
 use Rattle.std.proofs.lemmas.Nat.{mul-add-lt}
 use Rattle.set_columns.specs.Marks.{marked}
 use Rattle.set_columns.proofs.Marking.{one_marked}
