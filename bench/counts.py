@@ -76,6 +76,8 @@ def kept(path):
 
 
 def main():
+    if not sys.argv[1:] or sys.argv[1].startswith("-"):
+        sys.exit(__doc__)
     whole = Counts()
     for path in sys.argv[1:]:
         whole.join(kept(path))

@@ -4,7 +4,7 @@
     python3 bench/graphs.py DFC OTHER [--count N] [--seed S] [--limit L] [--forks]
 
 DFC and OTHER are commands in quotes, run as `COMMAND graph [checked] < text` and as `COMMAND fire|trace|store limit=N [picks=..] [data=..]
-[checked] < text`. A text is a program written at random as in `lines.py`: arrays under EQUIVALENCE and COMMON, subscripts that are
+[checked] < text`. A text is a program written at random as in `texts.py`: arrays under EQUIVALENCE and COMMON, subscripts that are
 known, out of bounds or read, jumps, loops and blocks, READ and traps; three in ten are in the checked dialect. Each graph is printed,
 and fired in the source's own order and by three lists of picks, with the limit L (300) or one below 60 for `trace`, and one of up to 20,000 for
 `fire` and `store`; with --forks there are runs of `forks` and `forks nodes` in place of all these. The two agree where they answer the same status and the same bytes, at a limit too. Prints up to five texts on which they
@@ -18,8 +18,8 @@ import random
 import shlex
 import sys
 
-import lines
 import regions
+import texts
 
 
 def picks(chance):
@@ -43,7 +43,7 @@ def words_of(chance, limit, forks):
 def compare(options, number):
     """The text with that number, the words on which something differs, and the statuses of its runs; or None for a refusal."""
     chance = random.Random(options.seed * 1000003 + number)
-    text = lines.declarations(chance) + lines.Writer(chance).program()
+    text = texts.declarations(chance) + texts.Writer(chance).program()
     wrong, statuses = [], collections.Counter()
     for words in words_of(chance, options.limit, options.forks):
         ours = regions.answer(shlex.split(options.dfc), words, text)
@@ -57,7 +57,7 @@ def compare(options, number):
 
 
 def main():
-    parser = argparse.ArgumentParser()
+    parser = argparse.ArgumentParser(description=__doc__, formatter_class=argparse.RawDescriptionHelpFormatter)
     parser.add_argument("dfc")
     parser.add_argument("other")
     parser.add_argument("--count", type=int, default=500)
@@ -75,7 +75,7 @@ def main():
                 unlike += 1
                 if unlike <= 5:
                     print(f"{' '.join(words)}: they differ on\n{text}")
-    print(f"{refused} texts refused; runs by status: {', '.join(f'{key}: {statuses[key]}' for key in sorted(statuses))}")
+    print(f"{refused} texts refused; runs by status: {', '.join(f'{key}: {statuses[key]}' for key in sorted(statuses, key=str))}")
     print(f"{options.count} texts, {sum(statuses.values())} runs, {unlike} differ")
     return bool(unlike)
 

@@ -62,7 +62,7 @@ def cost(command, text):
 
 
 def main():
-    if len(sys.argv) != 2:
+    if len(sys.argv) != 2 or sys.argv[1] in ("-h", "--help"):
         sys.exit(__doc__)
     dfc = shlex.split(sys.argv[1])
     jobs = [

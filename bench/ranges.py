@@ -267,7 +267,7 @@ def compare(options, number):
 
 
 def main():
-    parser = argparse.ArgumentParser()
+    parser = argparse.ArgumentParser(description=__doc__, formatter_class=argparse.RawDescriptionHelpFormatter)
     parser.add_argument("dfc")
     parser.add_argument("other")
     parser.add_argument("--count", type=int, default=500)
@@ -285,7 +285,7 @@ def main():
                 if unlike <= 5:
                     print(f"{' '.join(words)}: they differ on\n{text}")
     print(f"{refused} texts refused; {leaving} graphs with a subscript that leaves the line of output")
-    print(f"runs by status: {', '.join(f'{key}: {statuses[key]}' for key in sorted(statuses))}")
+    print(f"runs by status: {', '.join(f'{key}: {statuses[key]}' for key in sorted(statuses, key=str))}")
     print(f"{options.count} texts, {sum(statuses.values())} runs, {unlike} differ")
     return bool(unlike)
 

@@ -161,7 +161,7 @@ def show(dfc, job, title, statements):
 
 
 def main():
-    if len(sys.argv) != 2:
+    if len(sys.argv) != 2 or sys.argv[1] in ("-h", "--help"):
         sys.exit(__doc__)
     dfc = shlex.split(sys.argv[1])
     for title, statements in GRAPHS:

@@ -4,7 +4,7 @@
     python3 bench/rewriting.py DFC OTHER [--count N] [--seed S]
 
 DFC and OTHER are commands in quotes, run as `COMMAND regen [checked] < text` and as `COMMAND run limit=N [data=..] [checked] < text`. A text is a
-program written at random as in `lines.py`: arrays under EQUIVALENCE and COMMON, subscripts that are known, out of bounds or read, jumps,
+program written at random as in `texts.py`: arrays under EQUIVALENCE and COMMON, subscripts that are known, out of bounds or read, jumps,
 loops and blocks, READ and traps; four in ten are in the checked dialect. It is rewritten, and run over data with one of three limits. The two agree where
 they answer the same status and the same bytes. What DFC writes is read by DFC again: it must be a program, and where the first text ends or
 traps within a limit, `fire` and `run` of the second one must write the same output and end alike, but for the line of a trap. Prints up
@@ -18,8 +18,8 @@ import random
 import shlex
 import sys
 
-import lines
 import regions
+import texts
 
 
 def output(answer):
@@ -33,7 +33,7 @@ def output(answer):
 def compare(options, number):
     """The text with that number, the words on which something differs, and the statuses of its runs; or None for a refusal."""
     chance = random.Random(options.seed * 1000003 + number)
-    text = lines.declarations(chance) + lines.Writer(chance).program()
+    text = texts.declarations(chance) + texts.Writer(chance).program()
     last = ["checked"] if chance.random() < 0.4 else []
     data = [f"data={','.join(str(chance.randint(-5, 9)) for _ in range(chance.randint(1, 6)))}"] if chance.random() < 0.6 else []
     dfc, other = shlex.split(options.dfc), shlex.split(options.other)
@@ -60,7 +60,7 @@ def compare(options, number):
 
 
 def main():
-    parser = argparse.ArgumentParser()
+    parser = argparse.ArgumentParser(description=__doc__, formatter_class=argparse.RawDescriptionHelpFormatter)
     parser.add_argument("dfc")
     parser.add_argument("other")
     parser.add_argument("--count", type=int, default=500)
@@ -76,7 +76,7 @@ def main():
                 unlike += 1
                 if unlike <= 5:
                     print(f"{' '.join(words)}: they differ on\n{text}")
-    print(f"{refused} texts refused; runs by status: {', '.join(f'{key}: {statuses[key]}' for key in sorted(statuses))}")
+    print(f"{refused} texts refused; runs by status: {', '.join(f'{key}: {statuses[key]}' for key in sorted(statuses, key=str))}")
     print(f"{options.count} texts, {sum(statuses.values())} runs, {unlike} differ")
     return bool(unlike)
 
