@@ -1,0 +1,2 @@
+mod Grid
+mod Marks

@@ -1,0 +1,2 @@
+pub mod ChartMarks
+pub mod RoundsGrid
