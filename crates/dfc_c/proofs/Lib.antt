@@ -1,0 +1,2 @@
+mod NoAnswers
+mod WordLists
