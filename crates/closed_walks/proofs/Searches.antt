@@ -7,7 +7,7 @@ use Rattle.closed_walks.specs.Walk.{Holds, Reach, only}
 use Rattle.closed_walks.specs.Search.{is_visited, blanks, Leads, IsOpen, Nothing}
 use Rattle.closed_walks.proofs.Walks.{Holds-left, Holds-right, Holds-append}
 use Rattle.closed_walks.proofs.Reaching.{along_last, kept}
-use Rattle.closed_walks.proofs.Touching.{Holds-edges_at-from, Holds-drop, Holds-drop_end}
+use Rattle.closed_walks.proofs.Touching.{Holds-edges_at-from, Holds-drop}
 
 -- ---- marks
 

@@ -1,5 +1,5 @@
 -- A depth-first walk goes on where it leaves a node, all of whose edges were taken, for the parent.
-use Rattle.std.proofs.Common.{◌≡◌, ◌≢◌, ℕ, ◌<◌, ◌≤◌, ◌⊎◌, true, false, refl, sym, ap, ◌∙◌, subst, ⊎_elim, arith}
+use Rattle.std.proofs.Common.{◌≡◌, ◌≢◌, ℕ, ◌<◌, ◌≤◌, ◌⊎◌, true, false, sym, ap, ◌∙◌, subst, ⊎_elim, arith}
 use Rattle.std.proofs.lemmas.Bool.{cases_lt, cases_Bool, false≢true}
 use Rattle.closed_walks.specs.Graph.{Graph, edge_count, touches}
 use Rattle.cycle_equiv.specs.DepthFirst.{Joins, IsBelow}
