@@ -1,7 +1,7 @@
 -- What a call from C answers.
 use Rattle.std.specs.Prelude.{◌≡◌, ◌++◌, ℕ, List, [], Some, length, take, drop}
-use Rattle.dfc_driver.specs.Answers.{Answers}
-use Rattle.dfc_driver.specs.Due.{IsDue}
+use Rattle.dfc_jobs.specs.Answers.{Answers}
+use Rattle.dfc_driver.specs.WordsDue.{IsDue}
 use Rattle.dfc_c.specs.Words.{words_in}
 
 -- What the words between the blanks of `words` ask for was done on the text: the exit status is this one, so many bytes were written, and

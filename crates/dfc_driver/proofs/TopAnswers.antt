@@ -1,19 +1,15 @@
 -- What the top call answers, by what a job answers.
-use Rattle.std.proofs.Common.{◌≡◌, ◌≢◌, ◌≤◌, ℕ, Bool, List, Option, Some, None, refl, sym, ap, subst, arith}
+use Rattle.std.proofs.Common.{◌≡◌, ◌≢◌, ◌≤◌, ℕ, List, Option, Some, None, refl, sym, ap, subst, arith}
 use Rattle.std.specs.Prelude.{IfSome}
 use Rattle.df_io.specs.Faults.{Rose}
-use Rattle.f77_tree.specs.declared.programs.Program.{Program}
-use Rattle.f77_source.specs.Reading.{IsProgramOf}
 use Rattle.sample_texts.specs.SampleText.{sample_text}
-use Rattle.dfc_driver.specs.declared.status.Status.{Status}
-use Rattle.dfc_driver.specs.declared.status.Status.TheVariants.{Done, Usage, Refused, Trapped, Limit, ReadFault, WriteFault, NoMemory}
-use Rattle.dfc_driver.specs.Answers.{Answers, AnswersAs, Blames, HasAll, TellsSample, TellsWords, code_of}
-use Rattle.dfc_driver.specs.Due.{IsDueFor, IsDueSampleText, sample_limit}
-use Rattle.dfc_driver.specs.Headline.{MeansFor, MeansOn, MeansRead, MeansSampleText}
-use Rattle.dfc_driver.specs.Reading.{Accepted, reading}
-use Rattle.dfc_driver.specs.SourceRuns.{RunsAs, run_of}
-use Rattle.dfc_driver.specs.Words.{Job, Sample, Task}
-use Rattle.dfc_driver.proofs.OtherRuns.{accepted_means}
+use Rattle.dfc_jobs.specs.declared.status.Status.{Status}
+use Rattle.dfc_jobs.specs.declared.status.Status.TheVariants.{Done, Usage, Refused, Trapped, Limit, ReadFault, WriteFault, NoMemory}
+use Rattle.dfc_jobs.specs.Answers.{Answers, AnswersAs, Blames, HasAll, code_of}
+use Rattle.dfc_jobs.specs.Due.{IsDueSampleText, sample_limit}
+use Rattle.job_laws.specs.Headline.{MeansSampleText}
+use Rattle.dfc_driver.specs.Words.{Job, Sample}
+use Rattle.dfc_driver.specs.WordsDue.{IsDueFor, MeansFor, TellsSample, TellsWords}
 
 -- the same, of words that ask for this job, and by the exit status
 pub answers_on : (left : Option (List ℕ)) (job also : Option Job) (old new : Option (List ℕ)) (s : Status) (code : ℕ) → job ≡ also → code ≡ code_of s
@@ -28,15 +24,10 @@ answers_on (Some bytes) job also old new s code same is answers = record {
 pub words_on : (job also : Option Job) (old new : Option (List ℕ)) (s : Status) (code : ℕ) → job ≡ also → code ≡ code_of s → TellsWords job old new (code_of s) → TellsWords also old new code
 words_on job also old new s code same is told = subst (TellsWords also old new) (sym is) (subst (λ (x : Option Job). TellsWords x old new (code_of s)) same told)
 
--- ---- texts
-
--- what a task means of the program of a text it means of the text
-pub text_promises : (left : Option (List ℕ)) (task : Task) (checked : Bool) (p : Program) (s : Status) → ((bytes : List ℕ) → IsProgramOf bytes checked p → RunsAs bytes checked p)
-    → IfSome left (λ bytes. reading checked bytes ≡ Accepted p) → IfSome left (λ bytes. IsProgramOf bytes checked p) → (s ≢ NoMemory → MeansOn task checked p (run_of p))
-    → HasAll (code_of s) → IfSome left (λ bytes. MeansRead task checked bytes (reading checked bytes))
-text_promises None task checked p s runs read is means all = tt
-text_promises (Some bytes) task checked p s runs read is means all =
-    subst (MeansRead task checked bytes) (sym read) (accepted_means task checked bytes p (runs bytes is) (means (λ (e : s ≡ NoMemory). all.memory (ap code_of e))))
+-- what follows for every text follows for the one that a source has
+pub promised : (left : Option (List ℕ)) (P Q : List ℕ → Type 0) → ((bytes : List ℕ) → P bytes → Q bytes) → IfSome left P → IfSome left Q
+promised None P Q all holds = tt
+promised (Some bytes) P Q all holds = all bytes holds
 
 -- ---- samples
 

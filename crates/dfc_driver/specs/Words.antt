@@ -5,29 +5,11 @@ use Rattle.std.specs.Str.{bytes_eq}
 use Rattle.f77_tree.specs.Name.{is_figure}
 use Rattle.fixed_form.specs.Columns.{number}
 use Rattle.f77_tree.specs.Grammar.{greatest_constant}
-use Rattle.dfc_driver.specs.declared.words.Told.{Told}
-use Rattle.dfc_driver.specs.declared.words.Told.TheVariants.{Output, Nodes, Store}
+use Rattle.dfc_jobs.specs.declared.task.Told.{Told}
+use Rattle.dfc_jobs.specs.declared.task.Told.TheVariants.{Output, Nodes, Store}
+use Rattle.dfc_jobs.specs.Tasks.{Asked, Task, Regions, Graph, Play, Forks, Regen, Run}
 use Rattle.dfc_driver.specs.declared.words.Setting.{Setting}
 use Rattle.dfc_driver.specs.declared.words.Setting.TheVariants.{Limit, Picks, Data}
-
--- what a game is asked to do: the most firings, the picks that choose the nodes, of which there are none where the source's own
--- order does, and the words that READ takes
-pub record Asked : Type 0 where
-  pub limit : ℕ
-  pub picks : List ℕ
-  pub input : List ℤ
-
--- what is done with a program
-pub data Task : Type 0 where
-  Regions : Task
-  Graph : Task
-  Play : (told : Told) (asked : Asked) → Task
-  -- the game is played in which the loads of a group fire in any order, and its output is told, or its nodes as they fire
-  Forks : (nodes : Bool) (asked : Asked) → Task
-  -- the text of its rewritten form is written
-  Regen : Task
-  -- its rewritten form is run, for so many steps at most, over these words for READ
-  Run : (limit : ℕ) (input : List ℤ) → Task
 
 -- a task on the program of a text, in the checked dialect or in the plain one, or the sample with this number
 pub data Job : Type 0 where

@@ -1,31 +1,18 @@
-ghost use Rattle.std.specs.Prelude.{◌≡◌, ◌≢◌, ◌≤◌, map, IfSome};
+ghost use Rattle.std.specs.Prelude.{◌≢◌, ◌≤◌, ℕ, List, map, IfSome};
 ghost use Rattle.std.specs.String.{string_bytes};
-ghost use Rattle.df_io.specs.Faults.{Rose};
-ghost use Rattle.f77_tree.specs.Dialects.{IsOfDialect};
-ghost use Rattle.f77_tree.specs.WellFormed.{IsWellFormed};
-ghost use Rattle.alias_classes.specs.Number.{HasFewClasses};
-ghost use Rattle.dfc_driver.specs.Answers.{Answers, AnswersAs, Blames, HasAll, IsUnwritten, ReadsFor, ReadsText, TellsWords, code_of};
-ghost use Rattle.dfc_driver.specs.Due.{IsDue, IsDueFor, IsDueOn, IsDueRead};
-ghost use Rattle.dfc_driver.specs.Headline.{MeansFor, MeansOn, MeansRead};
+ghost use Rattle.dfc_jobs.specs.Answers.{Answers, AnswersAs, Blames, HasAll, IsUnwritten, ReadsText, code_of};
+ghost use Rattle.dfc_jobs.specs.Due.{IsDueRead};
+ghost use Rattle.dfc_jobs.specs.Reading.{reading};
+ghost use Rattle.job_laws.specs.Headline.{MeansRead};
 ghost use Rattle.dfc_driver.specs.Meant.{IsJob, IsTask, job_meant, task_meant};
-ghost use Rattle.dfc_driver.specs.Reading.{reading};
-ghost use Rattle.dfc_driver.specs.SourceRuns.{run_of};
 ghost use Rattle.dfc_driver.specs.Words.{job_of};
+ghost use Rattle.dfc_driver.specs.WordsDue.{IsDue, IsDueFor, IsOwnFor, MeansFor, ReadsFor, TellsWords};
 
-use crate::forks::play_forks;
-use crate::graph::tell_graph;
-use crate::lines::{tell_refusal, tell_usage};
-use crate::playing::play;
-use crate::reading::{NoProgram, read_program};
-use crate::regen::tell_regen;
-use crate::regions::tell_regions;
-use crate::run::tell_run;
-use crate::sample::tell_sample;
-use crate::status::Status;
-use crate::text_runs::texts_run_as_programs;
-use crate::words::{Job, Task, read_words};
+use crate::numbers::{data_in, picks_in};
+use crate::words::{Job, TaskWords, read_words};
 use df_io::{Sink, Source};
-use f77_tree::Program;
+use dfc_jobs::{Status, do_task, tell_sample, tell_usage};
+use job_laws::{sample_texts_mean, texts_mean};
 use std::alloc::Global;
 
 /// Does what the words ask for, on the bytes of the source, and writes to the sink. It answers the exit status: 0 done,
@@ -73,62 +60,44 @@ fn do_job<S: Source, K: Sink>(alloc: Global, job: Job<'_>, source: &mut S, sink:
     ensures takes { ReadsFor S.left (Some (job_meant job.entry)) source.old source.new (code_of result) }
     ensures blames { Blames (S.faults source.old) (S.faults source.new) (K.faults sink.old) (K.faults sink.new) (code_of result) }
 {
+    sample_texts_mean();
     match job {
-        Job::On(task, checked) => on_text(alloc, task, checked, source, sink),
+        Job::On(task, checked) => on_words(alloc, task, checked, source, sink),
         Job::Sample(n) => tell_sample(alloc, n, sink),
     }
 }
 
-// Does a task on the program of the text that the source has.
-fn on_text<S: Source, K: Sink>(
+// Does a task that words tell.
+fn on_words<S: Source, K: Sink>(
     alloc: Global,
-    task: Task<'_>,
+    words: TaskWords<'_>,
     checked: bool,
     source: &mut S,
     sink: &mut K,
 ) -> Status
-    requires { IsTask task }
-    ensures due { IfSome (S.left source.old) (λ bytes. AnswersAs (IsDueRead (task_meant task.entry) checked (reading checked bytes)) (K.got sink.old) (K.got sink.new) result) }
+    requires { IsTask words }
+    ensures due { IfSome (S.left source.old) (λ bytes. AnswersAs (IsDueRead (task_meant words.entry) checked (reading checked bytes)) (K.got sink.old) (K.got sink.new) result) }
     ensures words { result ≢ Status.Usage }
     ensures unwritten { IsUnwritten (K.got sink.old) (K.got sink.new) (code_of result) }
-    ensures means { HasAll (code_of result) → IfSome (S.left source.old) (λ bytes. MeansRead (task_meant task.entry) checked bytes (reading checked bytes)) }
+    ensures means { HasAll (code_of result) → IfSome (S.left source.old) (λ bytes. MeansRead (task_meant words.entry) checked bytes (reading checked bytes)) }
     ensures takes { ReadsText (S.left source.old) (S.left source.new) (code_of result) }
     ensures blames { Blames (S.faults source.old) (S.faults source.new) (K.faults sink.old) (K.faults sink.new) (code_of result) }
 {
-    texts_run_as_programs();
-    match read_program(alloc, source, checked) {
-        Ok(program) => on_program(alloc, task, checked, &program, sink),
-        Err(NoProgram::Refused { line, code }) => tell_refusal(line, code, sink),
-        Err(NoProgram::ReadFault) => Status::ReadFault,
-        Err(NoProgram::NoMemory) => Status::NoMemory,
-    }
+    texts_mean();
+    let Ok(picks) = picks_in(alloc, words.picks()) else {
+        return Status::NoMemory;
+    };
+    let Ok(data) = data_in(alloc, words.data()) else {
+        return Status::NoMemory;
+    };
+    do_task(alloc, words.task(&picks, &data), checked, source, sink)
 }
 
-// Does a task on a program.
-fn on_program<K: Sink>(
-    alloc: Global,
-    task: Task<'_>,
-    checked: bool,
-    program: &Program,
-    sink: &mut K,
-) -> Status
-    requires task { IsTask task }
-    requires program { IsWellFormed program.now }
-    requires dialect { IsOfDialect checked program.now }
-    requires few { HasFewClasses program.now }
-    ensures due { AnswersAs (IsDueOn (task_meant task.entry) checked program.now) (K.got sink.old) (K.got sink.new) result }
-    ensures words { result ≢ Status.Usage }
-    ensures reads { result ≢ Status.ReadFault }
-    ensures means { result ≢ Status.NoMemory → MeansOn (task_meant task.entry) checked program.now (run_of program.now) }
-    ensures later { K.faults sink.old ≤ K.faults sink.new }
-    ensures fault { result ≡ Status.WriteFault → Rose (K.faults sink.old) (K.faults sink.new) }
+/// What is due for any words and any text means what the job promises that the words ask for, where the program of the text is laid out
+/// from its statements.
+pub fn words_mean()
+    ensures { (words : List (List ℕ)) (bytes : List ℕ) → IsOwnFor (job_of words) bytes → MeansFor (job_of words) bytes }
 {
-    match task {
-        Task::Regions => tell_regions(alloc, program, sink),
-        Task::Graph => tell_graph(alloc, program, sink),
-        Task::Play(told, words) => play(alloc, told, words, program, sink),
-        Task::Forks(nodes, words) => play_forks(alloc, nodes, words, program, sink),
-        Task::Regen => tell_regen(alloc, program, checked, sink),
-        Task::Run(words) => tell_run(alloc, words, program, checked, sink),
-    }
+    texts_mean();
+    sample_texts_mean();
 }

@@ -3,22 +3,25 @@ ghost use Rattle.std.specs.List.{list_all};
 ghost use Rattle.std.specs.String.{string_bytes};
 ghost use Rattle.f77_tree.specs.Name.{is_figure};
 ghost use Rattle.fixed_form.specs.Columns.{number};
-ghost use Rattle.dfc_driver.specs.Meant.{AreGameWords, IsJob, IsSampleNumber, asked_in, MayStand, meant};
-ghost use Rattle.dfc_driver.specs.Words.{job_of, told_by as spec_told_by, play_of, forks_of, asked_of, dialect_after, run_of, sample_of, is_sample, after, text_of, limit_in as spec_limit_in, dialect_of, are_digits_to as spec_are_digits_to, is_piece as spec_is_piece, is_setting, is_text as spec_is_text, is_word as spec_is_word, is_number_to as spec_is_number_to, name_of, pieces_after};
+ghost use Rattle.dfc_jobs.specs.Tasks.{IsSampleNumber, asked_in as given_asked, task_meant as given_meant};
+ghost use Rattle.dfc_driver.specs.Meant.{AreGameWords, IsJob, IsTask, asked_in, data_text, MayStand, meant, picks_text, task_meant};
+ghost use Rattle.dfc_driver.specs.Words.{job_of, told_by as spec_told_by, play_of, forks_of, asked_of, dialect_after, run_of, sample_of, is_sample, after, text_of, limit_in as spec_limit_in, dialect_of, are_digits_to as spec_are_digits_to, is_piece as spec_is_piece, is_setting, is_text as spec_is_text, is_word as spec_is_word, is_number_to as spec_is_number_to, name_of, pieces_after, values_in, word_value};
+
+use dfc_jobs::{Asked, Task, Told};
 
 /// What the words after the program's name ask for.
 #[derive(Clone, Copy, Debug, PartialEq, Eq)]
 pub enum Job<'a> {
     /// A task on the program of the text that the source has, in the checked dialect, where a result that is no word traps, or in
     /// the plain one, where results wrap to words.
-    On(Task<'a>, bool),
+    On(TaskWords<'a>, bool),
     /// The sample program with this number, and what becomes of it.
     Sample(u32),
 }
 
-/// What is done with a program.
+/// What is done with a program, as far as words tell it without memory.
 #[derive(Clone, Copy, Debug, PartialEq, Eq)]
-pub enum Task<'a> {
+pub enum TaskWords<'a> {
     /// The pieces, edges, classes and regions of its flow graph are written.
     Regions,
     /// The lines, nodes and wires of its net of operations are written.
@@ -34,15 +37,47 @@ pub enum Task<'a> {
     Run(RunWords<'a>),
 }
 
-/// What is told of a game.
-#[derive(Clone, Copy, Debug, PartialEq, Eq)]
-pub enum Told {
-    /// The output of the program.
-    Output,
-    /// The nodes as they fire.
-    Nodes,
-    /// The store after it, where it came to rest, and how many nodes fired.
-    Store,
+impl<'a> TaskWords<'a> {
+    /// Its picks, as they stand in a word, or nothing.
+    pub fn picks(self) -> &'a [u8]
+        requires { IsTask self }
+        ensures is { result.now ≡ picks_text self.entry }
+        ensures may { MayStand Setting.Picks result.now }
+    {
+        match self {
+            TaskWords::Play(_, words) | TaskWords::Forks(_, words) => words.picks,
+            TaskWords::Regions | TaskWords::Graph | TaskWords::Regen | TaskWords::Run(_) => &[],
+        }
+    }
+
+    /// Its data, as they stand in a word, or nothing.
+    pub fn data(self) -> &'a [u8]
+        requires { IsTask self }
+        ensures is { result.now ≡ data_text self.entry }
+        ensures may { MayStand Setting.Data result.now }
+    {
+        match self {
+            TaskWords::Play(_, words) | TaskWords::Forks(_, words) => words.input,
+            TaskWords::Run(words) => words.input,
+            TaskWords::Regions | TaskWords::Graph | TaskWords::Regen => &[],
+        }
+    }
+
+    /// The task, with its picks and its data.
+    pub fn task<'b>(self, picks: &'b [u32], input: &'b Vec<i32>) -> Task<'b>
+        requires picks { picks.now ≡ values_in number (picks_text self) }
+        requires input { input.now.items ≡ values_in word_value (data_text self) }
+        ensures { given_meant result ≡ task_meant self.entry }
+    {
+        match self {
+            TaskWords::Regions => Task::Regions,
+            TaskWords::Graph => Task::Graph,
+            TaskWords::Play(told, words) => Task::Play(told, words.asked(picks, input)),
+            TaskWords::Forks(nodes, words) => Task::Forks(nodes, words.asked(picks, input)),
+            TaskWords::Regen => Task::Regen,
+            TaskWords::Run(words) => Task::Run(words.limit, input),
+        }
+    }
 }
 
 /// What a game is asked to do, as far as words tell it without memory.
@@ -54,6 +89,21 @@ pub struct GameWords<'a> {
     pub picks: &'a [u8],
     /// The words that READ takes, as they stand in a word, or nothing.
     pub input: &'a [u8],
+}
+
+impl GameWords<'_> {
+    /// What the game is asked to do, with its picks and its data.
+    pub fn asked<'b>(self, picks: &'b [u32], input: &'b Vec<i32>) -> Asked<'b>
+        requires picks { picks.now ≡ values_in number self.picks.now }
+        requires input { input.now.items ≡ values_in word_value self.input.now }
+        ensures { given_asked result ≡ asked_in self.entry }
+    {
+        Asked {
+            limit: self.limit,
+            picks,
+            input,
+        }
+    }
 }
 
 /// What a run is asked to do, as far as words tell it without memory.
@@ -84,15 +134,15 @@ pub fn read_words(words: &[String]) -> Option<Job<'_>>
     match words {
         [word, options @ ..] if word.as_str() == "regions" => {
             let checked = read_dialect(options)?;
-            Some(Job::On(Task::Regions, checked))
+            Some(Job::On(TaskWords::Regions, checked))
         }
         [word, options @ ..] if word.as_str() == "graph" => {
             let checked = read_dialect(options)?;
-            Some(Job::On(Task::Graph, checked))
+            Some(Job::On(TaskWords::Graph, checked))
         }
         [word, options @ ..] if word.as_str() == "regen" => {
             let checked = read_dialect(options)?;
-            Some(Job::On(Task::Regen, checked))
+            Some(Job::On(TaskWords::Regen, checked))
         }
         [word, options @ ..] if word.as_str() == "run" => read_run(options),
         [word, options @ ..] if word.as_str() == "sample" => read_sample(options),
@@ -126,7 +176,7 @@ fn read_game(told: Told, words: &[String]) -> Option<Job<'_>>
     ensures texts { IfSome result IsJob }
 {
     let (asked, checked) = read_settings(words)?;
-    Some(Job::On(Task::Play(told, asked), checked))
+    Some(Job::On(TaskWords::Play(told, asked), checked))
 }
 
 // The game that the words after `forks` ask for.
@@ -137,11 +187,11 @@ fn read_forks(words: &[String]) -> Option<Job<'_>>
     match words {
         [word, options @ ..] if word.as_str() == "nodes" => {
             let (asked, checked) = read_settings(options)?;
-            Some(Job::On(Task::Forks(true, asked), checked))
+            Some(Job::On(TaskWords::Forks(true, asked), checked))
         }
         _ => {
             let (asked, checked) = read_settings(words)?;
-            Some(Job::On(Task::Forks(false, asked), checked))
+            Some(Job::On(TaskWords::Forks(false, asked), checked))
         }
     }
 }
@@ -176,7 +226,7 @@ fn read_run(words: &[String]) -> Option<Job<'_>>
     let (input, words) = split_setting(Setting::Data, words);
     let checked = read_dialect(words)?;
     let limit = limit_in(limit);
-    Some(Job::On(Task::Run(RunWords { limit, input }), checked))
+    Some(Job::On(TaskWords::Run(RunWords { limit, input }), checked))
 }
 
 // The sample that the words after `sample` ask for.

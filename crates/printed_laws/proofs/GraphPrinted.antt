@@ -8,7 +8,7 @@ use Rattle.f77_tree.specs.WellFormed.{IsWellFormed}
 use Rattle.alias_classes.specs.Classes.{ClassTable, class_count}
 use Rattle.net_board.specs.Nodes.{graph_in}
 use Rattle.op_board.specs.OperationNets.{OperationNet, all_operation_nodes, operation_node}
-use Rattle.dfc_driver.specs.GraphText.{graph_text, hop_lines, line_lines, node_lines, size_line, value_lines, wire_lines}
+use Rattle.graph_texts.specs.GraphText.{graph_text, hop_lines, line_lines, node_lines, size_line, value_lines, wire_lines}
 use Rattle.printed_graphs.specs.declared.dataflow.Bypass.{Bypass}
 use Rattle.printed_graphs.specs.declared.dataflow.Node.{Node}
 use Rattle.printed_graphs.specs.declared.dataflow.PrintedGraph.{PrintedGraph}

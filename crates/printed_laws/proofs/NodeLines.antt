@@ -14,8 +14,8 @@ use Rattle.op_board.specs.OperationNets.{OperationNet, all_operation_nodes, need
 use Rattle.op_net.specs.declared.telling.OpName.{OpName}
 use Rattle.op_net.specs.declared.telling.OpName.TheVariants as name
 use Rattle.op_net.specs.Telling.{operation_name}
-use Rattle.dfc_driver.specs.GraphText.{node_line, node_lines, node_text as told_text, numbers_text}
-use Rattle.dfc_driver.specs.OperationNames.{op_name, operator_name, work_name}
+use Rattle.graph_texts.specs.GraphText.{node_line, node_lines, node_text as told_text, numbers_text}
+use Rattle.graph_texts.specs.OperationNames.{op_name, operator_name, work_name}
 use Rattle.printed_graphs.specs.declared.dataflow.Node.{Node}
 use Rattle.printed_graphs.specs.declared.dataflow.Node.TheVariants as node
 use Rattle.printed_graphs.specs.declared.dataflow.Work.{Work}

@@ -17,7 +17,7 @@ use Rattle.f77_tree.specs.Declarations.{IsNameInfo}
 use Rattle.f77_tree.specs.Loops.{begun}
 use Rattle.f77_tree.specs.Name.{is_capital, is_figure}
 use Rattle.alias_classes.specs.Classes.{ClassTable, class_of_loop}
-use Rattle.dfc_driver.specs.GraphText.{has_class, class_line, class_lines, line_lines, loop_line, loop_lines}
+use Rattle.graph_texts.specs.GraphText.{has_class, class_line, class_lines, line_lines, loop_line, loop_lines}
 use Rattle.printed_graphs.specs.declared.dataflow.TokenLine.{TokenLine}
 use Rattle.printed_graphs.specs.declared.dataflow.TokenLine.TheVariants as token
 use Rattle.printed_graphs.specs.DataflowText.{names_text, token_line_text}

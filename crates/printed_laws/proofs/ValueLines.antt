@@ -11,7 +11,7 @@ use Rattle.firing.specs.declared.system.NodeName.{NodeName}
 use Rattle.firing.specs.declared.system.NodeName.TheVariants.{Act, Merge, Switch, Op}
 use Rattle.op_board.specs.Operations.{Operand, Known, From}
 use Rattle.op_board.specs.OperationNets.{OperationNet, all_operation_nodes, first_operation, operation_at, operation_node}
-use Rattle.dfc_driver.specs.GraphText.{operand_text, operands_line, value_lines, value_text}
+use Rattle.graph_texts.specs.GraphText.{operand_text, operands_line, value_lines, value_text}
 use Rattle.printed_graphs.specs.declared.dataflow.Operand.{Operand as PrintedOperand}
 use Rattle.printed_graphs.specs.declared.dataflow.Operand.TheVariants as operand
 use Rattle.printed_graphs.specs.declared.dataflow.Value.{Value}

@@ -10,7 +10,7 @@ use Rattle.std.proofs.lemmas.List.FromFn.{length-range_with_len, length-map-rang
 use Rattle.closed_walks.specs.Graph.{Graph, edge_count}
 use Rattle.dep_routing.specs.FreeLines.{is_bypass}
 use Rattle.dep_routing.specs.Routing.{Routing, next_at, wire_at}
-use Rattle.dfc_driver.specs.GraphText.{hop_lines, hops_of, hops_text, numbers_text, wire_line, wire_lines, wires_of}
+use Rattle.graph_texts.specs.GraphText.{hop_lines, hops_of, hops_text, numbers_text, wire_line, wire_lines, wires_of}
 use Rattle.printed_graphs.specs.declared.dataflow.Bypass.{Bypass}
 use Rattle.printed_graphs.specs.declared.dataflow.Wires.{Wires}
 use Rattle.printed_graphs.specs.DataflowText.{bypass_text, wires_text}

@@ -2,10 +2,11 @@
 use Rattle.std.specs.Prelude.{◌≡◌, ℕ, Bool, List, Some}
 use Rattle.f77_tree.specs.declared.programs.Program.{Program}
 use Rattle.op_board.specs.OperationNets.{OperationNet}
-use Rattle.dfc_driver.specs.declared.words.Told.TheVariants.{Nodes}
-use Rattle.dfc_driver.specs.Due.{Due, IsDuePlay}
-use Rattle.dfc_driver.specs.Game.{operation_game}
-use Rattle.dfc_driver.specs.Words.{Asked, On, Play, job_of}
+use Rattle.dfc_jobs.specs.declared.task.Told.TheVariants.{Nodes}
+use Rattle.dfc_jobs.specs.Due.{Due, IsDuePlay}
+use Rattle.dfc_jobs.specs.Game.{operation_game}
+use Rattle.dfc_jobs.specs.Tasks.{Asked, Play}
+use Rattle.dfc_driver.specs.Words.{On, job_of}
 
 -- The words ask for a trace, and this is due of it on the program.
 pub record IsTraceOf (words : List (List ℕ)) (p : Program) (due : Due) : Type 0 where

@@ -4,11 +4,11 @@ ghost use Rattle.std.specs.Prelude.{List, ℕ};
 ghost use Rattle.f77_tree.specs.declared.programs.Program.{Program};
 ghost use Rattle.alias_classes.specs.Number.{HasFewClasses};
 ghost use Rattle.cfg_build.specs.Flow.{flow};
-ghost use Rattle.dfc_driver.specs.GraphText.{TellsGraph};
 ghost use Rattle.printed_graphs.specs.Printable.{IsPrintedText};
 ghost use Rattle.printed_laws.specs.ShortFlow.{IsShortFlow};
 ghost use Rattle.printed_laws.specs.ShortNet.{IsShortNet};
 ghost use Rattle.printed_laws.specs.ShortProgram.{IsShortProgram};
+ghost use Rattle.dfc_jobs.specs.Due.{TellsGraph};
 
 use alias_classes::classes_are_counted;
 use cfg_build::{flow_graph_is_strong, pieces_are_few};

@@ -1,4 +1,4 @@
-//! What `dfc` prints can be read again: laws over the texts that `dfc_driver` tells and those that `printed_graphs` reads. No code of the
+//! What `dfc` prints can be read again: laws over the texts that `dfc_jobs` tells and those that `printed_graphs` reads. No code of the
 //! compiler is here.
 #![tactic(auto)]
 

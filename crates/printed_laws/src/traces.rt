@@ -4,7 +4,7 @@ ghost use Rattle.std.specs.Prelude.{List, ℕ};
 ghost use Rattle.f77_tree.specs.declared.programs.Program.{Program};
 ghost use Rattle.alias_classes.specs.Number.{HasFewClasses};
 ghost use Rattle.cfg_build.specs.Flow.{flow};
-ghost use Rattle.dfc_driver.specs.Due.{Due, all_due};
+ghost use Rattle.dfc_jobs.specs.Due.{Due, all_due};
 ghost use Rattle.printed_graphs.specs.Printable.{IsPrintedText};
 ghost use Rattle.printed_laws.specs.ShortFlow.{IsShortFlow};
 ghost use Rattle.printed_laws.specs.ShortNet.{IsShortNet};

@@ -1,5 +1,0 @@
-use Rattle.dfc_driver.specs.NameSets.{AreNameSetsTo}
-use Rattle.dfc_driver.proofs.graph_lines.name_sets.Given as goal
-
-abbrev pub invariant-loop-name : goal.invariant-loop-name
-invariant-loop-name l = AreNameSetsTo l.p.names l.c l.name l.sets.items

@@ -1,9 +1,0 @@
-use Rattle.std.specs.Prelude.{flat_map}
-use Rattle.std.specs.List.{range_with_len}
-use Rattle.op_net.specs.GraphView.{operations_of}
-use Rattle.dfc_driver.specs.GraphText.{node_line}
-use Rattle.dfc_driver.proofs.Texts.{IsTelling}
-use Rattle.dfc_driver.proofs.graph_nodes.tell_nodes.Given as goal
-
-abbrev pub invariant-loop-k : goal.invariant-loop-k
-invariant-loop-k g l = IsTelling l.initial.buffer l.buffer (g.K.Sink.got l.initial.sink) (g.K.Sink.got l.sink) (g.K.Sink.faults l.initial.sink) (g.K.Sink.faults l.sink) (flat_map (node_line (operations_of l.net)) (range_with_len 0 l.k))

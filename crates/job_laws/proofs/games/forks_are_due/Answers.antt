@@ -1,0 +1,22 @@
+use Rattle.std.proofs.Common.{ℕ, List, [], ◌∷◌}
+use Rattle.firing.specs.Runs.{HasEnd}
+use Rattle.op_board.specs.OperationNets.{OperationNet}
+use Rattle.op_board.specs.SoundOperationNets.{IsOperationNet}
+use Rattle.dfc_jobs.specs.Game.{fork_game, fork_game_of}
+use Rattle.dfc_jobs.specs.Playing.{opening, way_of}
+use Rattle.job_laws.proofs.Existing.{game_due}
+use Rattle.job_laws.proofs.games.forks_are_due.Goals as goal
+
+pub returns : goal.returns
+returns c = λ p what asked game own. game_due fork_game ends p what asked game own
+  where
+    ends : (x : OperationNet) (picks : List ℕ) (limit : ℕ) → IsOperationNet x → HasEnd (way_of (fork_game_of x) picks) (opening (fork_game_of x)) limit
+    ends x [] limit is = c.runs_end.ensures.order x (opening (fork_game_of x)) limit
+        (c.forks_begin_soundly.ensures x is)
+        (λ none. record {
+          lockstep = c.forks_stay_in_lockstep.ensures.begins x is;
+          steady = c.forks_stay_in_lockstep.ensures.steady x;
+          ordered = c.forks_stay_in_lockstep.ensures.ordered x;
+        })
+        (λ lost. absurd cc)
+    ends x (pick ∷ picks) limit is = c.runs_end.ensures.picks x (pick ∷ picks) (opening (fork_game_of x)) limit
