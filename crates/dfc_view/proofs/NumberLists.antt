@@ -3,8 +3,8 @@ use Rattle.std.proofs.Common.{◌≡◌, ℕ, ◌+◌, ◌<◌, false, eqb, List
 use Rattle.std.specs.Prelude.{option_map, option_and_then, unwrap_or}
 use Rattle.std.proofs.lemmas.List.{at_drop_more}
 use Rattle.std.specs.Prelude.{Err}
-use Rattle.dfc_view.specs.declared.fault.Fault.{Fault}
-use Rattle.dfc_view.specs.declared.fault.Fault.TheVariants as fault
+use Rattle.view_output.specs.declared.fault.Fault.{Fault}
+use Rattle.view_output.specs.declared.fault.Fault.TheVariants as fault
 use Rattle.dfc_view.specs.Words.{Answers, numbers_on, with_digit}
 
 -- what is read so far, and what is still to come

@@ -7,7 +7,7 @@ use Rattle.std.specs.List.{All}
 use Rattle.std.proofs.lemmas.Bool.{ne_eqb, lt-ltb, le-leb, and_from}
 use Rattle.std.proofs.lemmas.Fmt.{decimal_by_steps}
 use Rattle.std.proofs.lemmas.List.Elements.{All-head, All-tail}
-use Rattle.dfc_view.specs.Json.{in_commas}
+use Rattle.graph_json.specs.Json.{in_commas}
 use Rattle.dfc_view.specs.Words.{numbers_on, with_digit}
 
 is_digit : (d : ℕ) → d < 10 → is_ascii_digit (48 + d) ≡ true

@@ -1,38 +1,28 @@
-//! `dfc_view`: pictures, JSON and profiles of what `dfc regions`, `dfc graph` and `dfc trace` print.
+//! `dfc_view`: charts, pictures, JSON and profiles of a program.
 //!
-//! It reads standard input and writes standard output; what it can't do it tells on standard error. Every function
-//! is proved to be safe and to end. docs/VIEWING.md shows the commands.
+//! It takes a file, or what `dfc` printed of a program from standard input, and writes standard output; what it can't do it tells on standard error.
+//! Every function is proved to be safe and to end. docs/VIEWING.md shows the commands.
 #![tactic(auto)]
 
 mod arguments;
-mod bars;
-mod clusters;
-mod fault;
-mod flow_dot;
-mod graph_dot;
-mod json;
-mod json_graph;
-mod output;
-mod places;
-mod profile;
-mod rounds;
-mod tables;
+mod charts;
+mod files;
+mod texts;
 mod view;
-mod wires_dot;
 
-use arguments::{Job, job_of};
-use df_io::{StdSink, StdSource};
-use fault::Fault;
-use output::Output;
+use arguments::{Input, Job, Task, job_of};
+use df_io::{Sink, StdSink, StdSource};
+use files::show_file;
 use std::process::ExitCode;
 use std::{env, io};
+use view_output::{Fault, Output, status};
 
 fn main(rt: HostRuntime) -> ExitCode {
     match run(&rt) {
         Ok(()) => ExitCode::SUCCESS,
         Err(fault) => {
             let _ = tell(&rt, fault);
-            ExitCode::from(fault::status(fault))
+            ExitCode::from(status(fault))
         }
     }
 }
@@ -45,12 +35,25 @@ fn run(rt: &HostRuntime) -> Result<(), Fault> {
     match job {
         Job::Help => output.text(arguments::HELP)?,
         Job::Version => output.text(arguments::VERSION)?,
-        Job::Show(task) => {
-            let mut source = StdSource::new(rt.stdin());
-            view::show(rt.alloc(), task, &mut source, &mut output)?;
-        }
+        Job::Show(task, input) => show(rt, task, input, &mut output)?,
     }
     output.finish()
+}
+
+// Shows something of a program.
+fn show<K: Sink + Drop>(
+    rt: &HostRuntime,
+    task: Task,
+    input: Input<'_>,
+    output: &mut Output<K>,
+) -> Result<(), Fault> {
+    match input {
+        Input::Printed => {
+            let mut source = StdSource::new(rt.stdin());
+            view::show(rt.alloc(), task, &mut source, output)
+        }
+        Input::File(name, words) => show_file(rt, task, name, words, output),
+    }
 }
 
 // The words after the program's name.
@@ -79,6 +82,7 @@ fn tell(rt: &HostRuntime, fault: Fault) -> io::Result<()> {
         Fault::Firing(line) => eprintln!(rt; "dfc_view: line {line} fires no node of the graph"),
         Fault::Refused => eprintln!(rt; "dfc_view: dfc refused the program"),
         Fault::NoLine(line) => eprintln!(rt; "dfc_view: the graph has no token line {line}"),
+        Fault::File => eprintln!(rt; "dfc_view: the file can't be read"),
         Fault::NoText => eprintln!(rt; "dfc_view: what is asked for is not in the text"),
         Fault::TooLong => eprintln!(rt; "dfc_view: the text is too long"),
         Fault::Read => eprintln!(rt; "dfc_view: standard input failed"),

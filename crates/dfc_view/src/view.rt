@@ -1,19 +1,19 @@
 //! Reads a text and shows it.
 
-ghost use Rattle.std.specs.Prelude.{◌≡◌, ◌==◌, OnOk};
-ghost use Rattle.std.specs.List.{position};
+ghost use Rattle.std.specs.Prelude.{◌≡◌, OnOk};
 ghost use Rattle.dfc_view.specs.declared.arguments.Task.TheVariants as task_kind;
-ghost use Rattle.dfc_view.specs.Shown.{ShowsJson};
-ghost use Rattle.dfc_view.specs.Told.{told};
+ghost use Rattle.dfc_view.specs.Shown.{ShowsJson, ShowsText};
+ghost use Rattle.view_output.specs.Told.{told};
 
-use crate::arguments::{Lines, Task};
-use crate::fault::Fault;
-use crate::json::Json;
-use crate::output::Output;
-use crate::{flow_dot, graph_dot, profile};
+use crate::arguments::Task;
+use crate::charts::{ShownRun, write_chart, write_page_of_one, write_rounds};
 use df_io::{Sink, Source, read_all};
+use graph_json::Json;
+use graph_pictures::{Lines, write_flow, write_graph};
 use printed_graphs::{Printed, ReadFault, read_printed};
 use std::alloc::Global;
+use trace_profiles::write_profile;
+use view_output::{Fault, Output, line_of};
 
 // The most bytes of a text.
 const LONGEST: u32 = 4_294_967_294;
@@ -28,14 +28,37 @@ pub fn show<S: Source, K: Sink + Drop>(
     ensures json { task ≡ task_kind.Json → OnOk result (ShowsJson (S.left source.old) (S.left source.new) (told K.got output.old) (told K.got output.new)) }
 {
     let text = read_all(alloc, source, LONGEST)?;
+    show_text(alloc, task, text.as_slice(), &[], output)
+}
+
+/// Shows what was printed of a program, whose own text may be empty.
+pub fn show_text<K: Sink + Drop>(
+    alloc: Global,
+    task: Task,
+    text: &[u8],
+    source: &[u8],
+    output: &mut Output<K>,
+) -> Result<(), Fault>
+    ensures json { task ≡ task_kind.Json → OnOk result (ShowsText text.now (told K.got output.old) (told K.got output.new)) }
+{
     if text.is_empty() {
         return Err(Fault::NoText);
     }
-    let printed = match read_printed(alloc, text.as_slice()) {
+    let printed = match read_printed(alloc, text) {
         Ok(printed) => printed,
-        Err(fault) => return Err(unread(text.as_slice(), fault, output)?),
+        Err(fault) => return Err(unread(text, fault, output)?),
     };
     match task {
+        Task::Chart => write_chart(alloc, &printed, source, output),
+        Task::Rounds => write_rounds(alloc, &printed, source, output),
+        Task::Page => {
+            let run = ShownRun {
+                name: "The run",
+                printed: &printed,
+                output: &[],
+            };
+            write_page_of_one(alloc, run, source, output)
+        }
         Task::Regions => flow_picture(alloc, &printed, true, output),
         Task::Dot(lines) => picture(alloc, &printed, &lines, output),
         Task::Json => printed.write(output),
@@ -62,39 +85,6 @@ fn unread<K: Sink + Drop>(
     Ok(Fault::Refused)
 }
 
-// A line of a text, counted from 1, or nothing past the last one.
-fn line_of(text: &[u8], number: u64) -> &[u8] {
-    let mut rest = text;
-    for _ in 1..number {
-        match after_line(rest) {
-            Some(after) => rest = after,
-            None => return &[],
-        }
-    }
-    first_line(rest)
-}
-
-// The first line of a text.
-fn first_line(text: &[u8]) -> &[u8] {
-    match first_break(text) {
-        Some(end) => &text[..end],
-        None => text,
-    }
-}
-
-// The text after its first line, if an LF ends that.
-fn after_line(text: &[u8]) -> Option<&[u8]> {
-    let end = first_break(text)?;
-    Some(&text[end + 1..])
-}
-
-// The place of the first LF.
-fn first_break(text: &[u8]) -> Option<usize>
-    ensures { result ≡ position (λ c. c == 10) text.now }
-{
-    text.iter().position(|c| *c == b'\n')
-}
-
 // A picture of the dataflow graph where there is one, or else of the flow graph.
 fn picture<K: Sink + Drop>(
     alloc: Global,
@@ -105,7 +95,7 @@ fn picture<K: Sink + Drop>(
     match (&printed.graph, lines) {
         (Some(graph), _) => {
             check_lines(lines, graph.lines.len())?;
-            graph_dot::write(alloc, graph, printed.flow.as_ref(), lines, output)
+            write_graph(alloc, graph, printed.flow.as_ref(), lines, output)
         }
         (None, Lines::All) => flow_picture(alloc, printed, false, output),
         (None, Lines::Only(_)) => Err(Fault::NoText),
@@ -137,7 +127,7 @@ fn flow_picture<K: Sink + Drop>(
     output: &mut Output<K>,
 ) -> Result<(), Fault> {
     match &printed.flow {
-        Some(flow) => flow_dot::write(alloc, flow, with_regions, output),
+        Some(flow) => write_flow(alloc, flow, with_regions, output),
         None => Err(Fault::NoText),
     }
 }
@@ -150,5 +140,5 @@ fn profile_of<K: Sink + Drop>(
 ) -> Result<(), Fault> {
     let graph = printed.graph.as_ref().ok_or(Fault::NoText)?;
     let trace = printed.trace.as_ref().ok_or(Fault::NoText)?;
-    profile::write(alloc, printed.flow.as_ref(), graph, trace, output)
+    write_profile(alloc, printed.flow.as_ref(), graph, trace, output)
 }

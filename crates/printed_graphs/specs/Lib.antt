@@ -2,6 +2,7 @@ pub mod DataflowText
 pub mod FlowText
 pub mod GraphReading
 pub mod Names
+pub mod Nodes
 pub mod Printable
 pub mod Printed
 pub mod Reading

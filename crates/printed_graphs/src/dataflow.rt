@@ -1,3 +1,6 @@
+ghost use Rattle.std.specs.Prelude.{◌≡◌};
+ghost use Rattle.printed_graphs.specs.Nodes.{piece_of};
+
 use op_table::Op;
 
 /// A line that tokens move on.
@@ -60,6 +63,19 @@ pub enum Node {
         /// The line.
         line: u32,
     },
+}
+
+impl Node {
+    /// The number of its piece.
+    pub fn piece(&self) -> u32
+        ensures { result ≡ piece_of self.now }
+    {
+        match self {
+            Node::Operation { piece, .. } => *piece,
+            Node::Switch { piece, .. } => *piece,
+            Node::Merge { piece, .. } => *piece,
+        }
+    }
 }
 
 /// An operand of an operation.

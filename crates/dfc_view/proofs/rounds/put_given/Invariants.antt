@@ -1,9 +1,0 @@
-use Rattle.std.proofs.Common.{◌≡◌, take, length}
-use Rattle.dfc_view.specs.Tables.{IsMarked, is_giver}
-use Rattle.dfc_view.proofs.rounds.put_given.Given as goal
-
-abbrev pub invariant-loop-operand : goal.invariant-loop-operand
-invariant-loop-operand l = record {
-  marked : IsMarked l.initial.numbers.items l.numbers.items (is_giver (take l.operand-index l.operands)) l.n;
-  count : length l.numbers.items ≡ length l.initial.numbers.items;
-}

@@ -1,0 +1,7 @@
+//! What `dfc` printed, as JSON.
+#![tactic(auto)]
+
+mod json;
+mod json_graph;
+
+pub use json::Json;

@@ -1,0 +1,18 @@
+/// Which lines of tokens are shown.
+#[derive(Drop)]
+pub enum Lines {
+    /// All of them.
+    All,
+    /// Only these.
+    Only(Vec<u32>),
+}
+
+impl Lines {
+    /// Whether this line is shown.
+    pub fn shows(&self, line: u32) -> bool {
+        match self {
+            Lines::All => true,
+            Lines::Only(lines) => lines.as_slice().contains(&line),
+        }
+    }
+}

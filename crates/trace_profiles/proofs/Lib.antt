@@ -1,0 +1,3 @@
+mod Greatest
+mod PlacesTold
+mod WaitsTold
