@@ -23,7 +23,7 @@ const WAY: u32 = 8;
 const LETTER: u32 = 8;
 
 // The width of a page that has room for what the marks mean.
-const NARROWEST: u32 = 640;
+const NARROWEST: u32 = 680;
 
 // The most names above a lane.
 const NAMES: usize = 3;

@@ -3,7 +3,7 @@
 use crate::ChartFault;
 use crate::chart_marks::lines_of;
 use crate::nodes::{Nodes, piece_of};
-use printed_graphs::{Node, PieceKind};
+use printed_graphs::{Node, Piece, PieceKind};
 use std::alloc::Global;
 
 /// Where the first row begins, in pixels from above.
@@ -51,7 +51,7 @@ pub fn rows_of(alloc: Global, nodes: &Nodes<'_>) -> Result<Rows, ChartFault> {
         begun: false,
     };
     for (piece, numbers) in nodes.flow.pieces.iter().zip(by_piece.iter()) {
-        if piece.kind != PieceKind::Start {
+        if stack.shows(*piece) {
             stack.begin(piece.line)?;
         }
         for number in numbers.iter() {
@@ -97,6 +97,19 @@ struct Stack {
 }
 
 impl Stack {
+    // Whether a piece has a row. One that only goes on has none on a line that is shown: there a copy of a subroutine ends.
+    fn shows(&self, piece: Piece) -> bool {
+        match piece.kind {
+            PieceKind::Start => false,
+            PieceKind::Pass => self
+                .rows
+                .statements
+                .iter()
+                .all(|begun| begun.line != piece.line),
+            _ => true,
+        }
+    }
+
     // Begins a piece of a statement, and the statement where it is a new one.
     fn begin(&mut self, line: u32) -> Result<(), ChartFault> {
         let is_new = match self.rows.statements.last() {

@@ -18,6 +18,9 @@ const LETTER: u32 = 8;
 
 const LETTERS: usize = 72;
 
+// How far from a lane an answer of a decision stands, and from another one.
+const LABEL: u32 = 6;
+
 // How many colours there are.
 const COLOURS: usize = 8;
 
@@ -41,7 +44,7 @@ pub fn lane_chart(
     put_head(&mut drawing, &chart);
     put_grounds(&mut drawing, &chart, &lines);
     for (k, column) in chart.columns.iter().enumerate() {
-        put_ways(&mut drawing, column, k % COLOURS);
+        put_ways(&mut drawing, column, chart.rows.height, k % COLOURS);
     }
     let mut terms = Terms::new(alloc, &nodes);
     for (k, column) in chart.columns.iter().enumerate() {
@@ -140,12 +143,21 @@ fn put_name(drawing: &mut Drawing, column: &Column, colour: usize) {
     drawing.put("</text>\n");
 }
 
-// The ways along a lane.
-fn put_ways(drawing: &mut Drawing, column: &Column, colour: usize) {
+// The ways along a lane that ends so far down. A way to the end is faint: nothing takes the token after it.
+fn put_ways(drawing: &mut Drawing, column: &Column, end: u32, colour: usize) {
     let x = column.x;
+    let mut beside = LABEL;
+    let mut last = None;
     for way in column.ways.iter() {
+        beside = match last {
+            Some((from, to)) if from == way.from && to == way.to => beside.saturating_add(LABEL),
+            _ => LABEL,
+        };
+        last = Some((way.from, way.to));
         drawing.item("<path class=\"way c", colour as u64);
-        if column.is_read {
+        if way.to == end {
+            drawing.put(" faint");
+        } else if column.is_read {
             drawing.put(" thin");
         }
         drawing.put("\" d=\"");
@@ -154,7 +166,7 @@ fn put_ways(drawing: &mut Drawing, column: &Column, colour: usize) {
         if way.side == Side::Back || way.side == Side::Past {
             put_arrow(drawing, x, *way, colour);
         }
-        put_exit(drawing, x, *way);
+        put_exit(drawing, x, beside, *way);
     }
 }
 
@@ -223,14 +235,18 @@ fn put_arrow(drawing: &mut Drawing, x: u32, way: Way, colour: usize) {
     }
 }
 
-// By which answer of a decision a way leaves a switch.
-fn put_exit(drawing: &mut Drawing, x: u32, way: Way) {
+// By which answer of a decision a way leaves a switch, so far beside its lane if it runs straight.
+fn put_exit(drawing: &mut Drawing, x: u32, beside: u32, way: Way) {
     let x = u64::from(x);
     let y = u64::from(way.from);
+    let beside = u64::from(beside);
     let at = match way.side {
-        Side::Past | Side::Out => (x.saturating_sub(15), y.saturating_sub(5)),
-        Side::Straight => (x + 5, y + 17),
-        Side::Back => (x + 10, y.saturating_sub(3)),
+        Side::Past | Side::Out => (
+            x.saturating_sub(u64::from(reach(way))).saturating_add(1),
+            y.saturating_sub(4),
+        ),
+        Side::Straight => (x + beside, y + 17),
+        Side::Back => (x + beside, y.saturating_sub(3)),
     };
     if way.exit == Exit::Only {
         return;
@@ -276,7 +292,8 @@ fn put_mark(
     Ok(())
 }
 
-// The shape of a mark: a triangle for a merge, a diamond for a switch, a ring for a load, a disc for what else there is.
+// The shape of a mark: a triangle for a merge, a diamond for a switch, a ring for a load, a square for an operator that may
+// stop the run, a disc for what else there is.
 fn put_shape(drawing: &mut Drawing, node: &Node, x: u64, y: u64, colour: u64) {
     match node {
         Node::Merge { .. } => {
@@ -295,17 +312,32 @@ fn put_shape(drawing: &mut Drawing, node: &Node, x: u64, y: u64, colour: u64) {
             drawing.put("l7 7l-7 7l-7 -7z\"/>");
         }
         Node::Operation { work, .. } => {
-            if *work == Work::Load {
-                drawing.item("<circle r=\"5\" class=\"mark way open c", colour);
-            } else {
-                drawing.item("<circle r=\"6\" class=\"mark f", colour);
-            }
-            drawing.put("\"");
-            drawing.attribute("cx", x);
-            drawing.attribute("cy", y);
-            drawing.put("/>");
+            put_operation(drawing, *work, x, y, colour);
         }
     }
+}
+
+// The shape of an operation.
+fn put_operation(drawing: &mut Drawing, work: Work, x: u64, y: u64, colour: u64) {
+    match work {
+        Work::Apply(_) => {
+            drawing.item("<path class=\"mark f", colour);
+            put_point(
+                drawing,
+                "\" d=\"M",
+                x.saturating_sub(5),
+                y.saturating_sub(5),
+            );
+            drawing.put("h10v10h-10z\"/>");
+            return;
+        }
+        Work::Load => drawing.item("<circle r=\"5\" class=\"mark way open c", colour),
+        _ => drawing.item("<circle r=\"6\" class=\"mark f", colour),
+    }
+    drawing.put("\"");
+    drawing.attribute("cx", x);
+    drawing.attribute("cy", y);
+    drawing.put("/>");
 }
 
 // What the marks mean.
@@ -314,7 +346,7 @@ fn put_foot(drawing: &mut Drawing, chart: &Chart) {
     put_legend(
         drawing,
         y,
-        "\u{25cb} reads, \u{25cf} writes, prints, begins or decides, \u{25c7} parts, \u{25bd} comes together",
+        "\u{25cb} reads, \u{25cf} writes, prints, begins or decides, \u{25a0} may stop the run, \u{25c7} parts, \u{25bd} comes together",
     );
     put_legend(
         drawing,

@@ -8,6 +8,7 @@ use printed_graphs::{Firing, Node, PrintedFlow, PrintedGraph, PrintedTrace, Work
 use std::alloc::Global;
 
 /// A run of a program.
+#[derive(Clone, Copy)]
 pub struct Run<'a> {
     /// What stands above it.
     pub name: &'a str,
@@ -33,11 +34,12 @@ pub fn page(
     drawing.put("<!DOCTYPE html>\n<html lang=\"en\"><head><meta charset=\"utf-8\">");
     drawing.put("<title>A program and its runs</title>\n");
     drawing.put(PAGE_SHEET);
-    drawing.put("</head><body>\n");
+    drawing.put("</head><body>\n<div class=\"runs\">\n");
     for run in runs {
         let rounds = rounds_chart(alloc, flow, graph, run.trace, run.rounds, source)?;
         put_run(&mut drawing, graph, run, chart.as_str(), rounds.as_str());
     }
+    drawing.put("</div>\n");
     drawing.put(SCRIPT);
     drawing.put("</body></html>\n");
     drawing.finish()
@@ -48,13 +50,14 @@ fn put_run(drawing: &mut Drawing, graph: &PrintedGraph, run: &Run<'_>, chart: &s
     let firings = run.trace.firings.as_slice();
     drawing.put("<section class=\"run\"><h2>");
     drawing.escaped(run.name.as_bytes());
-    drawing.put("</h2>\n<div class=\"bar-of-steps\"><button data-by=\"-1\">back</button> ");
+    drawing.put("</h2>\n<div class=\"bar-of-steps\"><button data-by=\"-1e9\">first</button> ");
+    drawing.put("<button data-by=\"-1\">back</button> ");
     drawing.item(
         "<input type=\"range\" min=\"0\" max=\"",
         firings.len() as u64,
     );
     drawing.put(
-        "\" value=\"0\"> <button data-by=\"1\">on</button> <span class=\"told\"></span></div>\n",
+        "\" value=\"0\"> <button data-by=\"1\">on</button> <button data-by=\"1e9\">last</button> <span class=\"told\"></span></div>\n",
     );
     drawing.put("<div class=\"scroll\">");
     drawing.put(chart);

@@ -2,11 +2,12 @@
 
 /// How the page around the pictures looks.
 pub const PAGE_SHEET: &str = "<style>
-body{font:14px sans-serif;margin:16px;background:#fff;color:#1f2328}.scroll{overflow:auto;max-width:100%;border:1px solid #d0d7de;margin:8px 0}
-.bar-of-steps{position:sticky;top:0;background:inherit;padding:6px 0}.bar-of-steps input{width:40%;vertical-align:middle}
+body{font:14px sans-serif;margin:16px;background:#fff;color:#1f2328}h2{font-size:16px;margin:8px 0}.runs{display:flex;gap:24px;align-items:flex-start}
+.run{flex:1;min-width:0}.scroll{overflow:auto;max-height:80vh;border:1px solid #d0d7de;margin:8px 0}.scroll svg{display:block}
+.bar-of-steps{position:sticky;top:0;background:#fff;padding:6px 0;z-index:1}.bar-of-steps input{width:30%;vertical-align:middle}
 .printed{font:13px monospace;background:#f6f8fa;padding:8px;min-height:1em}.token{fill:#ffd33d;stroke:#1f2328;pointer-events:none}
 .now rect,.now .mark{stroke:#d1242f;stroke-width:3}.later rect{fill-opacity:.25}[hidden]{display:none}
-@media (prefers-color-scheme:dark){body{background:#0d1117;color:#e6edf3}.printed{background:#161b22}}
+@media (prefers-color-scheme:dark){body,.bar-of-steps{background:#0d1117;color:#e6edf3}.printed{background:#161b22}}
 </style>
 ";
 
