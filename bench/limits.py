@@ -5,7 +5,7 @@
 
 PROGRAM is a built dfc, or another compiler of the language. docs/LIMITS.md has a row for each name here. A row gives a text and arguments for
 a number: for the limit `greatest` and for one more, or, where it is a least number, for `least` and for one less; and what is due for
-each. Prints the rows that differ, and last `N passed, M failed`; compares the names with those of docs/LIMITS.md. With --store, writes those texts
+each. Five of them are tried under each job in each dialect too. Prints the rows that differ, and last `N passed, M failed`; compares the names with those of docs/LIMITS.md. With --store, writes those texts
 of at most 60,000 bytes as stored cases: NAME_at and NAME_past.
 """
 import argparse
@@ -232,6 +232,11 @@ LIMITS = [
 ]
 
 
+# The jobs that read a text, and the limits at which each is tried.
+JOBS = ["regions", "graph", "fire", "trace", "store", "forks", "forks nodes", "regen", "run"]
+OF_EACH_JOB = ["text_bytes", "statements", "elements", "words", "operations"]
+
+
 def status_of(due):
     return STATUS.get(due.split("\n")[-2].split(" ")[0], 0) if due else 0
 
@@ -251,6 +256,23 @@ def cases(limit):
 def is_due(due, status, out):
     """Without bytes due the text has to be accepted."""
     return (status, out) == (status_of(due), due) if due is not None else status == 0 and out.startswith("PIECES ")
+
+
+def under_each_job(program, limit):
+    """What each job doesn't accept at a limit, or doesn't refuse past it."""
+    for name, _, given, due in cases(limit):
+        for words in [job.split() + dialect for job in JOBS for dialect in ([], ["checked"])]:
+            is_long = limit.name == "statements" and words[0] in ("regen", "run")
+            status, out = answer(program, words, given)
+            if name.endswith("_past"):
+                good = (status, out) == (2, due)
+            elif is_long:
+                good = (status, out) == (2, "REFUSED 0 MANYSTMTS\n")
+            else:
+                # (`regions` tells lines of the text)
+                short = text("PRINT *,1") if limit.name == "text_bytes" and words[0] != "regions" else given
+                good = (status, out) == (0, answer(program, words, short)[1])
+            yield None if good else f"{name} ({' '.join(words)}): status {status}, {out[:60]!r}"
 
 
 def store(folder, name, words, given, out):
@@ -282,6 +304,9 @@ def main():
                 print(f"{name} ({' '.join(words)[:60]}): status {status}, {out[:60]!r}, due {due!r}")
             if good and options.store and len(given) <= SMALL:
                 store(options.store, name, words, given, out)
+        wrong = list(under_each_job(options.program, limit)) if limit.name in OF_EACH_JOB else []
+        passed, failed = passed + wrong.count(None), failed + len(wrong) - wrong.count(None)
+        print("".join(it + "\n" for it in wrong if it), end="")
     if not options.only:
         differ = documented() ^ {it.name for it in LIMITS}
         passed, failed = passed + (not differ), failed + bool(differ)

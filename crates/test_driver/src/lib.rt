@@ -1,16 +1,8 @@
-//! Tests of `dfc_driver`: words and texts with the status and the bytes that are due, and faults of the source and of the sink. They go
-//! over public calls alone, and stand apart because a crate that has tests is proved a second time with them.
+//! Tests of `dfc_driver` where its source or its sink fails, or gives and takes single bytes; and where neither can ever fail. What is
+//! due for words and texts is shown by the stored cases, which are run on the program.
 #![tactic(auto)]
 
 #[cfg(test)]
-mod every_job;
-#[cfg(test)]
-mod jobs;
-#[cfg(test)]
-mod limits;
+mod faults;
 #[cfg(test)]
 mod never;
-#[cfg(test)]
-mod samples;
-#[cfg(test)]
-mod top;

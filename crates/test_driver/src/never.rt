@@ -1,14 +1,16 @@
+//! A source and a sink that can't fail are never blamed.
+
 ghost use Rattle.std.specs.Prelude.{◌≢◌};
 
+use crate::faults::{RUNS, Told, arguments, lines};
 use df_io::{NeverSink, NeverSource};
 use dfc_driver::dfc_main;
 use std::alloc::Global;
 use std::test::Fail;
 
-// It has 52 bytes.
-pub(crate) const TEXT: &str = "      I=2\n      J=I*I+1\n      PRINT *,J,I\n      END\n";
+const TEXT: &str = "      I=2;      J=I*I+1;      PRINT *,J,I;      END;";
 
-// Over a source and a sink that never fail, neither is ever blamed.
+/// The status of a run. Its clauses follow from what `dfc_main` promises of each source and each sink.
 fn status_over(
     alloc: Global,
     words: &Vec<String>,
@@ -23,32 +25,15 @@ fn status_over(
 
 #[test]
 fn blames_neither(rt: HostRuntime) -> Result<(), Fail> {
-    for (words, taken, status, written) in [
-        (["fire"].as_slice(), 52, 0, 5),
-        (["fire", "picks=3,1,2"].as_slice(), 52, 0, 5),
-        (["fire", "limit=8"].as_slice(), 52, 4, 8),
-        (["regions"].as_slice(), 52, 0, 179),
-        (["graph"].as_slice(), 52, 0, 304),
-        (["graph", "checked"].as_slice(), 52, 0, 312),
-        (["trace"].as_slice(), 52, 0, 81),
-        (["store"].as_slice(), 52, 0, 16),
-        (["forks"].as_slice(), 52, 0, 5),
-        (["forks", "nodes"].as_slice(), 52, 0, 81),
-        (["run"].as_slice(), 52, 0, 5),
-        (["regen"].as_slice(), 52, 0, 80),
-        (["fire"].as_slice(), 24, 2, 16),
-        (["fires"].as_slice(), 52, 1, 6),
-        (["sample", "1"].as_slice(), 52, 0, 90),
-    ] {
-        let mut given = Vec::new(rt.alloc());
-        for word in words {
-            given.push(String::from_str(rt.alloc(), word)?)?;
-        }
-        let mut source = NeverSource::new(rt.alloc(), &TEXT.as_bytes()[..taken])?;
+    let text = lines(rt.alloc(), TEXT)?;
+    for run in RUNS.lines() {
+        let words = arguments(rt.alloc(), run)?;
+        let whole = Told::whole(rt.alloc(), &words, text.as_slice())?;
+        let mut source = NeverSource::new(rt.alloc(), text.as_slice())?;
         let mut sink = NeverSink::new();
-        let answer = status_over(rt.alloc(), &given, &mut source, &mut sink);
-        assert_eq!(&rt; answer, status);
-        assert_eq!(&rt; sink.count(), written);
+        let status = status_over(rt.alloc(), &words, &mut source, &mut sink);
+        let is_as = status == whole.status && sink.count() == whole.sink.written().len() as u64;
+        assert!(&rt; is_as, "under {run}");
     }
     Ok(())
 }

@@ -1,4 +1,0 @@
-use Rattle.test_ground.proofs.graphs.classes_are_those_known.Given as goal
-
-abbrev pub ghosts-classes_of : goal.ghosts-classes_of
-ghosts-classes_of g a = record { name = a.blank.name; parts = a.blank.parts }
