@@ -18,13 +18,21 @@ _dfc() {
 }
 
 _dfc_view() {
-    local word=${COMP_WORDS[COMP_CWORD]} options=
+    local word=${COMP_WORDS[COMP_CWORD]} command=${COMP_WORDS[1]} options=
     if [ "$COMP_CWORD" -eq 1 ]; then
-        options='dot json profile --help -h --version'
-    elif [ "${COMP_WORDS[1]}" = dot ]; then
-        options='--regions --lines'
+        options='chart rounds page dot json profile --help -h --version'
+    elif [ "$COMP_CWORD" -eq 2 ]; then
+        COMPREPLY=($(compgen -f -- "$word"))
+        [ "$command" = dot ] && options='--regions --lines'
+    else
+        case $command in
+        rounds | page | profile) options='limit= picks= data= checked forks' ;;
+        *) options='checked' ;;
+        esac
     fi
-    COMPREPLY=($(compgen -W "$options" -- "$word"))
+    COMPREPLY+=($(compgen -W "$options" -- "$word"))
+    # A number follows the equals sign.
+    case ${COMPREPLY[0]} in *=) compopt -o nospace ;; esac
 }
 
 complete -F _dfc dfc
