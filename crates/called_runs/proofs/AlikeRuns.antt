@@ -1,5 +1,5 @@
 -- The run of units and that of a program, of which the second keeps up with the first, are alike.
-use Rattle.std.proofs.Common.{◌≡◌, ◌≢◌, ℕ, zero, suc, ◌+◌, ◌<◌, ◌⊎◌, ℤ, Bool, List, [], ◌∷◌, Option, Some, None, refl, sym, ap, subst, ◌∙◌, inl, inr, arith}
+use Rattle.std.proofs.Common.{◌≡◌, ◌≢◌, ℕ, zero, suc, ◌+◌, ◌<◌, ◌≤◌, ◌⊎◌, ℤ, Bool, List, [], ◌∷◌, Option, Some, None, refl, sym, ap, subst, ◌∙◌, inl, inr, arith}
 use Rattle.std.specs.Prelude.{slice_get}
 use Rattle.op_table.specs.declared.Trap.{Trap}
 use Rattle.f77_tree.specs.declared.programs.Exec.{Exec}
@@ -8,13 +8,14 @@ use Rattle.f77_tree.specs.declared.statements.Labelled.{Labelled}
 use Rattle.f77_tree.specs.Execution.{Outcome, Goes, Stops, Ends, outcome}
 use Rattle.f77_tree.specs.Prefixes.{IsPrefix}
 use Rattle.f77_tree.specs.Run.{Mark, Running, Ended, Trapped, State, source, step}
+use Rattle.f77_tree.specs.Value.{word_at}
 use Rattle.f77_tree.proofs.RunLaws.{grows_not, step-ended, step-out, step-trapped}
 use Rattle.f77_subs.specs.Calls.{Act, Calls, CallState, Does, Frame, Halts, Returns, RunsAlike, act, acted, after, called, executed, memory_of, on_top, step_from}
 use Rattle.f77_subs.specs.declared.entity.Entity.{Entity}
 use Rattle.f77_subs.specs.Layouts.{own_program}
 use Rattle.f77_subs.specs.Storage.{placed}
 use Rattle.f77_subs.specs.Units.{unit_at}
-use Rattle.called_runs.proofs.KeptUp.{HaveStopped, IsRun, KeepsUp, back, front, stops, stops-back}
+use Rattle.called_runs.proofs.KeptUp.{HaveStopped, IsRun, KeepsUp, Paces, back, front, paces, stops, stops-back}
 
 -- the state of a program after some steps more
 abbrev pub steps_on : Program → List ℤ → (count : ℕ) → State → State
@@ -88,16 +89,22 @@ module _ (us : List (List Labelled)) (checked : Bool) (spot : Entity → ℕ) (i
 
     -- ---- both
 
-    module _ (p : Program) (rank : CallState → ℕ) (R : CallState → State → Type 0) where
-      -- both have stopped, in one way, with the same whole output
+    module _ (p : Program) (rank : CallState → ℕ) (Paired : ℕ → ℕ → Type 0) (R : CallState → State → Type 0) where
+      -- paired words are the same
+      abbrev pub HoldAlike : CallState → State → Type 0
+      HoldAlike x y = (v w : ℕ) → Paired v w → word_at x.store v ≡ word_at y.memory.store w
+
+      -- both have stopped, in one way, with the same whole output and the same words
       pub record StopAlike (x : CallState) (y : State) : Type 0 where
         pub stopped : x.mark ≢ Running
         pub marks : x.mark ≡ y.mark
         pub outs : x.out ≡ y.out
+        pub store : HoldAlike x y
 
       -- a step of the units is matched by some of the program
       pub record IsFollowed (x : CallState) (y : State) : Type 0 where
         pub count : ℕ
+        pub few : count ≤ 4
         pub come : R (call_step x) (steps_on p input count y) ⊎ StopAlike (call_step x) (steps_on p input count y)
         pub later : count ≡ 0 → rank (call_step x) < rank x
 
@@ -107,20 +114,28 @@ module _ (us : List (List Labelled)) (checked : Bool) (spot : Entity → ℕ) (i
         pub runs : (x : CallState) (y : State) → R x y → x.mark ≡ Running
         pub other_runs : (x : CallState) (y : State) → R x y → y.mark ≡ Running
         pub same : (x : CallState) (y : State) → R x y → x.out ≡ y.out
+        pub store : (x : CallState) (y : State) → R x y → HoldAlike x y
         pub follows : (x : CallState) (y : State) → R x y → IsFollowed x y
 
       abbrev InStep : ℕ → ℕ → Type 0
       InStep n m = R (run n) (source p input m)
 
+      abbrev Kept : ℕ → ℕ → Type 0
+      Kept n m = HoldAlike (run n) (source p input m)
+
       abbrev Stopped : ℕ → ℕ → Type 0
-      Stopped n m = HaveStopped (λ i. (run i).mark) (λ i. (source p input i).mark) (λ i. (run i).out) (λ i. (source p input i).out) n m
+      Stopped n m = HaveStopped (λ i. (run i).mark) (λ i. (source p input i).mark) (λ i. (run i).out) (λ i. (source p input i).out) Kept n m
+
+      -- after few steps the program is where the units have come to
+      abbrev pub HasPace : ℕ → Type 0
+      HasPace n = Paces (λ i. (run i).mark) (λ i. (source p input i).mark) (λ i. (run i).out) (λ i. (source p input i).out) Kept n
 
       module _ (matches : Matches) where
         come-on : (n m count : ℕ) → R (call_step (run n)) (steps_on p input count (source p input m)) ⊎ StopAlike (call_step (run n)) (steps_on p input count (source p input m)) → InStep (suc n) (count + m) ⊎ Stopped (suc n) (count + m)
         come-on n m count (inl next) = inl (subst (λ (y : State). R (run (suc n)) y) (sym (source-on p input count m)) next)
         come-on n m count (inr s) =
             let e = source-on p input count m in
-            inr (record { stopped = s.stopped; marks = s.marks ∙ sym (ap (λ (y : State). y.mark) e); outs = s.outs ∙ sym (ap (λ (y : State). y.out) e) })
+            inr (record { stopped = s.stopped; marks = s.marks ∙ sym (ap (λ (y : State). y.mark) e); outs = s.outs ∙ sym (ap (λ (y : State). y.out) e); kept = subst (λ (y : State). HoldAlike (run (suc n)) y) (sym e) s.store })
 
         abbrev marks : ℕ → Mark
         marks n = (run n).mark
@@ -137,7 +152,7 @@ module _ (us : List (List Labelled)) (checked : Bool) (spot : Entity → ℕ) (i
         abbrev ranks : ℕ → ℕ
         ranks n = rank (run n)
 
-        keeps-up : KeepsUp marks other_marks outs other_outs ranks InStep
+        keeps-up : KeepsUp marks other_marks outs other_outs Kept ranks InStep
         keeps-up = record {
           first_run = called-run;
           second_run = source-run p input;
@@ -145,7 +160,9 @@ module _ (us : List (List Labelled)) (checked : Bool) (spot : Entity → ℕ) (i
           runs = λ n m r. matches.runs (run n) (source p input m) r;
           other_runs = λ n m r. matches.other_runs (run n) (source p input m) r;
           same = λ n m r. matches.same (run n) (source p input m) r;
-          follows = λ n m r. let f = matches.follows (run n) (source p input m) r in record { count = f.count; come = come-on n m f.count f.come; later = f.later };
+          kept = λ n m r. matches.store (run n) (source p input m) r;
+          kept_on = λ n m stopped kept. subst (λ (x : CallState). HoldAlike x (source p input m)) (sym (call-stays (run n) (run n).mark refl stopped)) kept;
+          follows = λ n m r. let f = matches.follows (run n) (source p input m) r in record { count = f.count; few = f.few; come = come-on n m f.count f.come; later = f.later };
         }
 
         ends-stop : Ended ≢ Running
@@ -156,8 +173,11 @@ module _ (us : List (List Labelled)) (checked : Bool) (spot : Entity → ℕ) (i
 
         pub runs-alike : RunsAlike run (source p input)
         runs-alike = record {
-          front = front marks other_marks outs other_outs ranks InStep keeps-up;
-          back = back marks other_marks outs other_outs ranks InStep keeps-up;
-          ends = λ text. (stops marks other_marks outs other_outs ranks InStep keeps-up Ended text, stops-back marks other_marks outs other_outs ranks InStep keeps-up Ended text ends-stop);
-          traps = λ trap line text. (stops marks other_marks outs other_outs ranks InStep keeps-up (Trapped trap line) text, stops-back marks other_marks outs other_outs ranks InStep keeps-up (Trapped trap line) text (traps-stop trap line));
+          front = front marks other_marks outs other_outs Kept ranks InStep keeps-up;
+          back = back marks other_marks outs other_outs Kept ranks InStep keeps-up;
+          ends = λ text. (stops marks other_marks outs other_outs Kept ranks InStep keeps-up Ended text, stops-back marks other_marks outs other_outs Kept ranks InStep keeps-up Ended text ends-stop);
+          traps = λ trap line text. (stops marks other_marks outs other_outs Kept ranks InStep keeps-up (Trapped trap line) text, stops-back marks other_marks outs other_outs Kept ranks InStep keeps-up (Trapped trap line) text (traps-stop trap line));
         }
+
+        pub run-paces : (n : ℕ) → HasPace n
+        run-paces = paces marks other_marks outs other_outs Kept ranks InStep keeps-up

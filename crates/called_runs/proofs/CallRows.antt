@@ -134,11 +134,11 @@ module _ (us : List (List Labelled)) (checked : Bool) (spot : Entity → ℕ) (i
           let a = bare (number_at us c.depth c.unit c.base place) s.line Continue in
           let found : slice_get own.execs (first_of unit place) ≡ Some e = ap (slice_get own.execs) (let z : first_of unit place ≡ first_of unit place + 0 = omega arith in z) ∙ found-at 0 (ap call-index none) in
           let gone : step p input y ≡ moved y (beyond list (at place) a) = by-label us checked spot input opening p words Paired g.execs y (at place) (number_at us c.depth c.unit c.base place) s.line b.other_going (label-at us list g.laid c at held place s call is calls) there in
-          followed us checked spot input opening p words Paired x y entered (moved y (beyond list (at place) a)) 1 (calls-it (first_of unit place) here found) gone (inl (stands-within (beyond list (at place) a) (ap (slice_get own.execs) here ∙ found) within)) (λ e. absurd cc)
+          followed us checked spot input opening p words Paired x y entered (moved y (beyond list (at place) a)) 1 (omega arith) (calls-it (first_of unit place) here found) gone (inl (stands-within (beyond list (at place) a) (ap (slice_get own.execs) here ∙ found) within)) (λ e. absurd cc)
 
       -- one whose condition was true: the program has come to the copy
       pub at-guarded : (condition : RawExpr) → guard_of s.stmt ≡ Some condition → b.position ≡ first_of unit place + 1 → Stands us list (inside us c place call) (inside_at us c at place s call) 0 y.position → Followed us checked spot input opening p words Paired x y
       at-guarded condition guarded here within =
           let found = found-at 1 (ap call-index guarded) in
           let innermost_is : innermost x ≡ b.position = ap position_of b.frames in
-          followed us checked spot input opening p words Paired x y entered y 0 (calls-it (first_of unit place + 1) here found) refl (inl (stands-within y.position (ap (slice_get own.execs) here ∙ found) within)) (λ e. omega (arith, innermost_is, here))
+          followed us checked spot input opening p words Paired x y entered y 0 (omega arith) (calls-it (first_of unit place + 1) here found) refl (inl (stands-within y.position (ap (slice_get own.execs) here ∙ found) within)) (λ e. omega (arith, innermost_is, here))

@@ -1,5 +1,5 @@
--- Two runs of which the second keeps up with the first: what they have written, and how they stop.
-use Rattle.std.proofs.Common.{◌≡◌, ◌≢◌, ℕ, zero, suc, ◌+◌, ◌-◌, ◌<◌, ◌≤◌, ◌⊎◌, List, [], sym, ap, subst, ◌∙◌, ⊎_elim, inl, inr, arith, append-nil}
+-- Two runs of which the second keeps up with the first: what they have written, how they stop, and in how many steps.
+use Rattle.std.proofs.Common.{◌≡◌, ◌≢◌, ℕ, zero, suc, ◌+◌, ◌*◌, ◌-◌, ◌<◌, ◌≤◌, ◌⊎◌, List, [], sym, ap, subst, ◌∙◌, ⊎_elim, inl, inr, arith, append-nil}
 use Rattle.std.proofs.lemmas.Bool.{cases_eq, cases_lt}
 use Rattle.f77_tree.specs.Prefixes.{IsPrefix}
 use Rattle.f77_tree.specs.Run.{Mark, Running}
@@ -40,18 +40,29 @@ module _ (mark : ℕ → Mark) (out : ℕ → List ℕ) (run : IsRun mark out) w
 
 -- ---- two runs
 
-module _ (mark other : ℕ → Mark) (out written : ℕ → List ℕ) where
+-- `Kept` is what both have in common beside marks and output
+module _ (mark other : ℕ → Mark) (out written : ℕ → List ℕ) (Kept : ℕ → ℕ → Type 0) where
   -- both have stopped, in one way, with the same whole output
   pub record HaveStopped (n m : ℕ) : Type 0 where
     pub stopped : mark n ≢ Running
     pub marks : mark n ≡ other m
     pub outs : out n ≡ written m
+    pub kept : Kept n m
+
+  -- after few steps the second is where the first has come to
+  pub record Paces (n : ℕ) : Type 0 where
+    pub steps : ℕ
+    pub few : steps ≤ 4 * n
+    pub marks : mark n ≡ other steps
+    pub outs : out n ≡ written steps
+    pub kept : Kept n steps
 
   module _ (rank : ℕ → ℕ) (InStep : ℕ → ℕ → Type 0) where
     -- after one step more of the first run and some of the second they are in step again, or both have stopped; where the second
     -- takes none, the rank falls
     pub record Follows (n m : ℕ) : Type 0 where
       pub count : ℕ
+      pub few : count ≤ 4
       pub come : InStep (suc n) (count + m) ⊎ HaveStopped (suc n) (count + m)
       pub later : count ≡ 0 → rank (suc n) < rank n
 
@@ -63,6 +74,8 @@ module _ (mark other : ℕ → Mark) (out written : ℕ → List ℕ) where
       pub runs : (n m : ℕ) → InStep n m → mark n ≡ Running
       pub other_runs : (n m : ℕ) → InStep n m → other m ≡ Running
       pub same : (n m : ℕ) → InStep n m → out n ≡ written m
+      pub kept : (n m : ℕ) → InStep n m → Kept n m
+      pub kept_on : (n m : ℕ) → mark n ≢ Running → Kept n m → Kept (suc n) m
       pub follows : (n m : ℕ) → InStep n m → Follows n m
 
     module _ (keeps : KeepsUp) where
@@ -79,22 +92,30 @@ module _ (mark other : ℕ → Mark) (out written : ℕ → List ℕ) where
 
       -- ---- each step of the first is matched
 
+      same-kept : (n m : ℕ) → Comes n m → Kept n m
+      same-kept n m (inl step) = keeps.kept n m step
+      same-kept n m (inr stopped) = stopped.kept
+
       record IsMatched (n : ℕ) : Type 0 where
         steps : ℕ
+        few : steps ≤ 4 * n
         come : Comes n steps
 
       stop-kept : (n m : ℕ) → HaveStopped n m → HaveStopped (suc n) m
       stop-kept n m h =
           let marks = keeps.first_run.mark_stays n h.stopped in
-          record { stopped = λ e. h.stopped (sym marks ∙ e); marks = marks ∙ h.marks; outs = keeps.first_run.out_stays n h.stopped ∙ h.outs }
+          record { stopped = λ e. h.stopped (sym marks ∙ e); marks = marks ∙ h.marks; outs = keeps.first_run.out_stays n h.stopped ∙ h.outs; kept = keeps.kept_on n m h.stopped h.kept }
 
-      one-more : (n m : ℕ) → Comes n m → IsMatched (suc n)
-      one-more n m (inl step) = let f = keeps.follows n m step in record { steps = f.count + m; come = f.come }
-      one-more n m (inr stopped) = record { steps = m; come = inr (stop-kept n m stopped) }
+      one-more : (n m : ℕ) → m ≤ 4 * n → Comes n m → IsMatched (suc n)
+      one-more n m le (inl step) = let f = keeps.follows n m step in let few = f.few in record { steps = f.count + m; few = omega (arith, few, le); come = f.come }
+      one-more n m le (inr stopped) = record { steps = m; few = omega (arith, le); come = inr (stop-kept n m stopped) }
 
       matched : (n : ℕ) → IsMatched n
-      matched zero = record { steps = 0; come = inl keeps.begin }
-      matched (suc n) = let before = matched n in one-more n before.steps before.come
+      matched zero = record { steps = 0; few = omega arith; come = inl keeps.begin }
+      matched (suc n) = let before = matched n in one-more n before.steps before.few before.come
+
+      pub paces : (n : ℕ) → Paces n
+      paces n = let s = matched n in record { steps = s.steps; few = s.few; marks = same-mark n s.steps s.come; outs = same-out n s.steps s.come; kept = same-kept n s.steps s.come }
 
       -- ---- each step of the second is come to
 

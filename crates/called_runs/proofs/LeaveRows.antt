@@ -156,16 +156,16 @@ module _ (us : List (List Labelled)) (checked : Bool) (spot : Entity → ℕ) (i
       stops-both same =
           let y1 = moved y (first_of list (length list - 1)) in
           let one : step p input y ≡ y1 = first-step ∙ ap (λ (t : Stmt). moved y (left_to list (changes us c) t)) same in
-          followed us checked spot input opening p words Paired x y (record x { mark = HasEnded }) (record y1 { mark = HasEnded }) 2
+          followed us checked spot input opening p words Paired x y (record x { mark = HasEnded }) (record y1 { mark = HasEnded }) 2 (omega arith)
           (frame-executes us checked spot input opening p words Paired c at Comes x y b (first_of unit place + index) here r Halts found (acts ∙ ap (act_of_pass ends_at) same))
           (ap (step p input) one ∙ list-ends y1 b.other_going refl)
-          (inr (record { stopped = λ h. let no : HasEnded ≡ Running = h in cc; marks = refl; outs = b.out })) (λ none. absurd cc)
+          (inr (record { stopped = λ h. let no : HasEnded ≡ Running = h in cc; marks = refl; outs = b.out; store = b.store })) (λ none. absurd cc)
 
       returns-both : inner s.stmt ≡ Back → Followed us checked spot input opening p words Paired x y
       returns-both same =
           let one : step p input y ≡ moved y (labelled list (changes us c).back) = first-step ∙ ap (λ (t : Stmt). moved y (left_to list (changes us c) t)) same in
           let sub : is_kept c.unit End ≡ false = sub-end c.unit (λ main. let no : true ≡ false = ap is_return (sym same) ∙ grounds.no_return main place s is in cc) in
-          followed us checked spot input opening p words Paired x y (returned us checked spot input opening p words Paired g x b.rest) (step p input (step p input y)) 2
+          followed us checked spot input opening p words Paired x y (returned us checked spot input opening p words Paired g x b.rest) (step p input (step p input y)) 2 (omega arith)
           (frame-executes us checked spot input opening p words Paired c at Comes x y b (first_of unit place + index) here r Returns found (acts ∙ ap (act_of_pass ends_at) same))
           refl
           (inl (comes-back us checked spot input opening p words Paired g c at b.rest Comes x y (step p input y) b.waits sub b one)) (λ none. absurd cc)

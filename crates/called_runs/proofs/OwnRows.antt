@@ -148,10 +148,10 @@ module _ (us : List (List Labelled)) (checked : Bool) (spot : Entity → ℕ) (i
       ends line first found found' =
           let r : Exec = record { line = line; kind = Ended } in
           let halts : act us c.unit r ≡ Halts = ap (λ (k : ℕ). if k == 0 then Halts else Returns) first in
-          followed us checked spot input opening p words Paired x y (record x { mark = HasEnded }) (record y { mark = HasEnded }) 1
+          followed us checked spot input opening p words Paired x y (record x { mark = HasEnded }) (record y { mark = HasEnded }) 1 (omega arith)
           (frame-executes us checked spot input opening p words Paired c at Comes x y b b.position refl r Halts found halts)
           (step-running p input y r b.other_going found')
-          (inr (record { stopped = λ h. let no : HasEnded ≡ Running = h in cc; marks = refl; outs = b.out })) (λ none. absurd cc)
+          (inr (record { stopped = λ h. let no : HasEnded ≡ Running = h in cc; marks = refl; outs = b.out; store = b.store })) (λ none. absurd cc)
 
       module _ (stays : leaves (inner s.stmt) ≡ false) (j : ℕ) (here : b.position ≡ first_of unit place + j) (there : y.position ≡ first_of list (at place) + j) (both : HavePair (Like us checked spot input opening p words Paired g c at reached) kinds others j) where
         abbrev r : Exec

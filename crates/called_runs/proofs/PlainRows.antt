@@ -80,7 +80,7 @@ module _ (us : List (List Labelled)) (checked : Bool) (spot : Entity → ℕ) (i
   InStep = AreInStep us checked p input words Paired
 
   abbrev Stopped : CallState → State → Type 0
-  Stopped = StopAlike us checked spot input opening p innermost InStep
+  Stopped = StopAlike us checked spot input opening p innermost Paired InStep
 
   module _ (c : Context) (at : ℕ → ℕ) (reached : IsReached us c at) where
     abbrev unit : List Labelled
@@ -126,7 +126,7 @@ module _ (us : List (List Labelled)) (checked : Bool) (spot : Entity → ℕ) (i
           (side us checked spot input opening p words Paired g c at Comes Comes x y b) r.kind r'.kind alike
           (λ i j variable body exit same loop. live us checked spot input opening p words Paired g c at Comes Comes x y b r found i j variable body exit same loop) in
           let comes = come us checked spot input opening p words Paired g c at Comes Comes x y b r r' found line (copied-loop (IsTiedStatement Paired table p.names (changes us c)) (IsTiedTest Paired table p.names (changes us c)) Comes Loops table p.names checked (changes us c) r.kind r'.kind alike) goes in
-          followed us checked spot input opening p words Paired x y x' y' 1
+          followed us checked spot input opening p words Paired x y x' y' 1 (omega arith)
           (frame-executes us checked spot input opening p words Paired c at Comes x y b b.position refl r Does found does)
           (step-running p input y r' b.other_going found')
           (by x' y' comes) (λ none. absurd cc)

@@ -102,7 +102,7 @@ module _ (us : List (List Labelled)) (checked : Bool) (spot : Entity → ℕ) (i
       -- END, at the label behind the copy
       pub at-label : y.position ≡ labelled list (changes us c).back → Followed us checked spot input opening p words Paired x y
       at-label there =
-          followed us checked spot input opening p words Paired x y (returned x b.rest) (step p input y) 1 returns refl (inl (comes-back c at b.rest N x y y b.waits none b (ap (λ (n : ℕ). moved y n) there))) (λ e. absurd cc)
+          followed us checked spot input opening p words Paired x y (returned x b.rest) (step p input y) 1 (omega arith) returns refl (inl (comes-back c at b.rest N x y y b.waits none b (ap (λ (n : ℕ). moved y n) there))) (λ e. absurd cc)
 
       -- END, to which control fell
       pub at-end : y.position ≡ first_of list (at place) → Followed us checked spot input opening p words Paired x y
@@ -112,4 +112,4 @@ module _ (us : List (List Labelled)) (checked : Bool) (spot : Entity → ℕ) (i
           by (at_once leads) = at-label (there ∙ leads)
           by (by_end_if line stands leads) =
               let first : step p input y ≡ moved y (labelled list (changes us c).back) = by-end-if us checked spot input opening p words Paired g.execs y (at place) line b.other_going stands there ∙ ap (λ (n : ℕ). moved y n) leads in
-              followed us checked spot input opening p words Paired x y (returned x b.rest) (step p input (step p input y)) 2 returns refl (inl (comes-back c at b.rest N x y (step p input y) b.waits none b first)) (λ e. absurd cc)
+              followed us checked spot input opening p words Paired x y (returned x b.rest) (step p input (step p input y)) 2 (omega arith) returns refl (inl (comes-back c at b.rest N x y (step p input y) b.waits none b first)) (λ e. absurd cc)

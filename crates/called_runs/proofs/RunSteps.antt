@@ -1,5 +1,5 @@
 -- Steps of units and of the program, as what they come to.
-use Rattle.std.proofs.Common.{◌≡◌, ℕ, ◌+◌, ◌<◌, ◌==◌, ◌⊎◌, ℤ, Bool, List, ◌∷◌, Some, find, slice_get, refl, sym, ap, subst, ◌∙◌, arith}
+use Rattle.std.proofs.Common.{◌≡◌, ℕ, ◌+◌, ◌<◌, ◌≤◌, ◌==◌, ◌⊎◌, ℤ, Bool, List, ◌∷◌, Some, find, slice_get, refl, sym, ap, subst, ◌∙◌, arith}
 use Rattle.f77_tree.specs.declared.programs.Exec.{Exec}
 use Rattle.f77_tree.specs.declared.programs.ExecKind.TheVariants.{Pass, Test}
 use Rattle.f77_tree.specs.declared.programs.Program.{Program}
@@ -28,14 +28,15 @@ module _ (us : List (List Labelled)) (checked : Bool) (spot : Entity → ℕ) (i
   InStep = AreInStep us checked p input words Paired
 
   abbrev Stopped : CallState → State → Type 0
-  Stopped = StopAlike us checked spot input opening p innermost InStep
+  Stopped = StopAlike us checked spot input opening p innermost Paired InStep
 
   abbrev pub Followed : CallState → State → Type 0
-  Followed = IsFollowed us checked spot input opening p innermost InStep
+  Followed = IsFollowed us checked spot input opening p innermost Paired InStep
 
-  pub followed : (x : CallState) (y : State) (x' : CallState) (y' : State) (count : ℕ) → call_step us checked spot input x ≡ x' → steps_on p input count y ≡ y' → InStep x' y' ⊎ Stopped x' y' → (count ≡ 0 → innermost x' < innermost x) → Followed x y
-  followed x y x' y' count first second come later = record {
+  pub followed : (x : CallState) (y : State) (x' : CallState) (y' : State) (count : ℕ) → count ≤ 4 → call_step us checked spot input x ≡ x' → steps_on p input count y ≡ y' → InStep x' y' ⊎ Stopped x' y' → (count ≡ 0 → innermost x' < innermost x) → Followed x y
+  followed x y x' y' count few first second come later = record {
     count = count;
+    few = few;
     come = subst (λ (z : CallState). InStep z (steps_on p input count y) ⊎ Stopped z (steps_on p input count y)) (sym first) (subst (λ (z : State). InStep x' z ⊎ Stopped x' z) (sym second) come);
     later = λ none. subst (λ (z : CallState). innermost z < innermost x) (sym first) (later none);
   }

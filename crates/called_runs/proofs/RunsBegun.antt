@@ -1,4 +1,4 @@
--- The runs begin in step, and so they are alike.
+-- The runs begin in step, and so they are alike, and the program keeps pace.
 use Rattle.std.proofs.Common.{◌≡◌, ℕ, ℤ, pos, Bool, List, [], length, replicate, refl, subst}
 use Rattle.std.proofs.lemmas.List.{length-replicate}
 use Rattle.f77_tree.specs.declared.programs.Program.{Program}
@@ -16,7 +16,7 @@ use Rattle.f77_subs.specs.ListedCopies.{main_place}
 use Rattle.f77_subs.specs.Units.{unit_at}
 use Rattle.called_runs.specs.CopiedPositions.{Stands}
 use Rattle.called_runs.specs.FramesInStep.{AreInStep, innermost, nobody}
-use Rattle.called_runs.proofs.AlikeRuns.{runs-alike}
+use Rattle.called_runs.proofs.AlikeRuns.{HasPace, Matches, run-paces, runs-alike}
 use Rattle.called_runs.proofs.LiveLoops.{none-first}
 use Rattle.called_runs.proofs.RunGrounds.{AreRunGrounds}
 use Rattle.called_runs.proofs.StandingBegins.{stands-begin}
@@ -56,11 +56,18 @@ module _ (us : List (List Labelled)) (checked : Bool) (spot : Entity → ℕ) (i
     out = refl;
   }
 
-  pub run-alike : RunsAlike (called us checked spot input opening) (source p input)
-  run-alike = runs-alike us checked spot input opening p innermost InStep (record {
+  matches : Matches us checked spot input opening p innermost Paired InStep
+  matches = record {
     begin = begun;
     runs = λ x y s. s.going;
     other_runs = λ x y s. s.other_going;
     same = λ x y s. s.out;
+    store = λ x y s. s.store;
     follows = λ x y s. follows us checked spot input opening p words Paired g x y s;
-  })
+  }
+
+  pub run-alike : RunsAlike (called us checked spot input opening) (source p input)
+  run-alike = runs-alike us checked spot input opening p innermost Paired InStep matches
+
+  pub run-paced : (n : ℕ) → HasPace us checked spot input opening p innermost Paired InStep n
+  run-paced = run-paces us checked spot input opening p innermost Paired InStep matches

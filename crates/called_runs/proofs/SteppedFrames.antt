@@ -51,7 +51,7 @@ module _ (us : List (List Labelled)) (checked : Bool) (spot : Entity → ℕ) (i
   InStep = AreInStep us checked p input words Paired
 
   abbrev pub Stopped : CallState → State → Type 0
-  Stopped = StopAlike us checked spot input opening p innermost InStep
+  Stopped = StopAlike us checked spot input opening p innermost Paired InStep
 
   abbrev pub memory : CallState → (counts : List ℕ) → (steps : List ℤ) → Memory
   memory x counts steps = record { store = x.store; counts = counts; steps = steps; taken = x.taken }
@@ -157,8 +157,8 @@ module _ (us : List (List Labelled)) (checked : Bool) (spot : Entity → ℕ) (i
         by-outcomes (Stops trap) Ends go leads mine theirs keeps = absurd go
         by-outcomes Ends (Goes next new text) go leads mine theirs keeps = absurd go
         by-outcomes Ends (Stops trap) go leads mine theirs keeps = absurd go
-        by-outcomes (Stops trap) (Stops trap') go leads mine theirs keeps = inr (record { stopped = λ h. let no : Trapped trap e.line ≡ Running = h in cc; marks = ap (λ (t : Trap). Trapped t e.line) go ∙ ap (λ (n : ℕ). Trapped trap' n) (sym line); outs = b.out })
-        by-outcomes Ends Ends go leads mine theirs keeps = inr (record { stopped = λ h. let no : Ended ≡ Running = h in cc; marks = refl; outs = b.out })
+        by-outcomes (Stops trap) (Stops trap') go leads mine theirs keeps = inr (record { stopped = λ h. let no : Trapped trap e.line ≡ Running = h in cc; marks = ap (λ (t : Trap). Trapped t e.line) go ∙ ap (λ (n : ℕ). Trapped trap' n) (sym line); outs = b.out; store = b.store })
+        by-outcomes Ends Ends go leads mine theirs keeps = inr (record { stopped = λ h. let no : Ended ≡ Running = h in cc; marks = refl; outs = b.out; store = b.store })
 
         -- what both come to
         pub come : GoAlike Paired (Held e.kind (Live b.position) Loops) N (outcome table input m e.kind) (outcome p.names input y.memory e'.kind) → Come (outcome table input m e.kind) (outcome p.names input y.memory e'.kind)

@@ -57,7 +57,7 @@ module _ (us : List (List Labelled)) (checked : Bool) (spot : Entity → ℕ) (i
   InStep = AreInStep us checked p input words Paired
 
   abbrev Stopped : CallState → State → Type 0
-  Stopped = StopAlike us checked spot input opening p innermost InStep
+  Stopped = StopAlike us checked spot input opening p innermost Paired InStep
 
   module _ (c : Context) (at : ℕ → ℕ) (reached : IsReached us c at) (place : ℕ) (s : Labelled) (call : Call) (condition : RawExpr) (is : slice_get (unit_at us c.unit) place ≡ Some s) (calls : call_in s.stmt ≡ Some call) (guarded : guard_of s.stmt ≡ Some condition) where
     abbrev unit : List Labelled
@@ -175,11 +175,11 @@ module _ (us : List (List Labelled)) (checked : Bool) (spot : Entity → ℕ) (i
       at-test = by comes
         where
           two : InStep x' y2 ⊎ Stopped x' y2 → Followed us checked spot input opening p words Paired x y
-          two come_to = followed us checked spot input opening p words Paired x y x' y2 2 units-step second-step come_to (λ none. absurd cc)
+          two come_to = followed us checked spot input opening p words Paired x y x' y2 2 (omega arith) units-step second-step come_to (λ none. absurd cc)
 
           by-leads : (b2 : Beside us checked p input words Paired c at Leads x' y2) → Leads b2.position y2.position → Followed us checked spot input opening p words Paired x y
           by-leads b2 (inl true') = two (inl (come-in b2 true'.0 true'.1))
-          by-leads b2 (inr false') = followed us checked spot input opening p words Paired x y x' (step p input (step p input y2)) 4 units-step (ap (λ (z : State). step p input (step p input z)) second-step) (inl (passed-over b2 false'.0 false'.1)) (λ none. absurd cc)
+          by-leads b2 (inr false') = followed us checked spot input opening p words Paired x y x' (step p input (step p input y2)) 4 (omega arith) units-step (ap (λ (z : State). step p input (step p input z)) second-step) (inl (passed-over b2 false'.0 false'.1)) (λ none. absurd cc)
 
           by : Beside us checked p input words Paired c at Leads x' y2 ⊎ Stopped x' y2 → Followed us checked spot input opening p words Paired x y
           by (inl b2) = by-leads b2 b2.follows

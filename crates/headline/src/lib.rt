@@ -5,7 +5,8 @@
 //! `specs/Headline.antt` of `job_laws`). After `ReadFault` and `NoMemory` nothing was written, and after `WriteFault` a prefix of what is due.
 //!
 //! A run of n steps takes at most K(n + 1) firings, where K is 5(L + 1) + M, L the number of token lines and M the most operations that a
-//! statement asks (`bound_of`); its rewritten form takes at most (M + 3)n steps (`run_bound`).
+//! statement asks (`bound_of`); its rewritten form takes at most (M + 3)n steps (`run_bound`). Of a text with subroutines n counts steps of
+//! the program with copies of them, at most four for each step of the text's run (`KeepsUp`).
 #![tactic(auto)]
 
 ghost use Rattle.std.specs.Prelude.{◌≢◌};
@@ -98,8 +99,8 @@ pub fn trace<S: Source, K: Sink>(
     do_task(alloc, Task::Play(Told::Nodes, asked), checked, source, sink)
 }
 
-/// Fires the net as `fire` does. Where it comes to rest, writes each name with its words as the program leaves them, and how many nodes
-/// fired; else nothing but how it ended.
+/// Fires the net as `fire` does. Where it comes to rest, writes each name with its words as the program leaves them, which are those of the
+/// text's run for the variable that has the name (`EndsByName`), and how many nodes fired; else nothing but how it ended.
 pub fn store<S: Source, K: Sink>(
     alloc: Global,
     checked: bool,

@@ -24,6 +24,7 @@ use Rattle.job_laws.specs.Headline.{MeansEnd, MeansOn, MeansRegen, MeansRun, Mea
 use Rattle.job_laws.specs.SourceRuns.{Writes, run_of}
 use Rattle.dfc_jobs.specs.Tasks.{Regen, Run}
 use Rattle.job_laws.proofs.SameOutputs.{RunsStay, print_the_same, same_end}
+use Rattle.job_laws.proofs.Soon.{keeps_up_itself, means_run}
 
 -- ---- one rewritten form
 
@@ -295,18 +296,14 @@ module _ (stay : RunsStay) (p s : Program) (input : List ℤ) (alike : PrintAlik
       let k = is.steps in
       let text = out s input k in
       let m = by_mark limit k due (source s input k).mark refl is.is in
-      record {
-        prefix = m.prefix;
-        ends = m.ends;
-        traps = m.traps;
-        finishes = λ n ends enough.
-            let mark = mark_of_program follows limit k is.made n runs.Ended (λ e. absurd cc) ends.reached enough in
-            inl (ap (λ (d : Due). d.status) (is.is ∙ ap (λ (x : Mark). due_by_mark x text limit) mark));
-        fails = λ n trap line traps enough.
-            let mark = mark_of_program follows limit k is.made n (runs.Trapped trap line) (λ e. absurd cc) traps.reached enough in
-            inl (ap (λ (d : Due). d.status) (is.is ∙ ap (λ (x : Mark). due_by_mark x text limit) mark));
-        reaches = λ n enough. inl (subst (IsPrefix (out p input n)) (sym (told_text (source s input k).mark text limit due is.is)) (written_by follows limit k is.made n enough));
-      }
+      means_run stay.first p input (run_of p input) (keeps_up_itself (run_of p input)) limit due m.prefix m.ends m.traps
+      (λ n ends enough.
+      let mark = mark_of_program follows limit k is.made n runs.Ended (λ e. absurd cc) ends.reached enough in
+      inl (ap (λ (d : Due). d.status) (is.is ∙ ap (λ (x : Mark). due_by_mark x text limit) mark)))
+      (λ n trap line traps enough.
+      let mark = mark_of_program follows limit k is.made n (runs.Trapped trap line) (λ e. absurd cc) traps.reached enough in
+      inl (ap (λ (d : Due). d.status) (is.is ∙ ap (λ (x : Mark). due_by_mark x text limit) mark)))
+      (λ n enough. inl (subst (IsPrefix (out p input n)) (sym (told_text (source s input k).mark text limit due is.is)) (written_by follows limit k is.made n enough)))
 
 -- nothing is written before the line that tells of a limit of the rewriting
 no_text : (end : RewriteEnd) (due : Due) → IsDueByEnd end due → due.text ≡ []
@@ -323,6 +320,11 @@ limit_means p checked limit input due is = record {
   finishes = λ n ends enough. inr (refused is.end due is.is);
   fails = λ n trap line traps enough. inr (refused is.end due is.is);
   reaches = λ n enough. inr (refused is.end due is.is);
+  soon = record {
+    finishes = λ n ends enough. inr (refused is.end due is.is);
+    fails = λ n trap line traps enough. inr (refused is.end due is.is);
+    reaches = λ n enough. inr (refused is.end due is.is);
+  };
 }
 
 -- and they follow it in few steps

@@ -21,6 +21,7 @@ use Rattle.dfc_jobs.specs.Tasks.{Asked, Forks, Play}
 use Rattle.job_laws.specs.GameLaws.{GameLaws}
 use Rattle.job_laws.proofs.GameMeans.{done_by, fails_by, prefix_of_run, rests, shows, traps}
 use Rattle.job_laws.proofs.Progress.{all_shown}
+use Rattle.job_laws.proofs.Soon.{keeps_up_itself, means_play}
 
 same_due : (e f : PlayEnd) (limit : ℕ) (text : List ℕ) (a b : Due) → e ≡ f → IsDueBy e limit text a → IsDueBy f limit text b → a ≡ b
 same_due e f limit text a b same left right = on e (subst (λ x. IsDueBy x limit text b) (sym same) right) left
@@ -59,20 +60,19 @@ module _ {M : Type 0} (kind : GameKind M) (laws : GameLaws kind) (what : Told) (
       let within : (n : ℕ) → length (game.own_order n) ≤ bound_of p n = λ n. let few = lockstep.few n in let enough = laws.few p asked.input game n own in omega (arith, few, enough) in
       let due_runs : (steps : ℕ) (e : PlayEnd) → asked.picks ≡ [] → IsRun (way_of game asked.picks) (opening game) asked.limit is.firings e → IsOver game.moves (after game.moves game.start (game.own_order steps)) → length (game.own_order steps) ≤ asked.limit → e ≢ Limit =
       λ steps e none made over few. laws.due p asked.input game own (game.own_order steps) asked.limit is.firings e (lockstep.due steps) over few (subst (λ picks. IsRun (way_of game picks) (opening game) asked.limit is.firings e) none made) in
-      record {
-        prefix = prefix_of_run kind laws.stop_first what asked p due game lockstep store within is.firings is.played all end told;
-        rests = rests kind laws.stop_first what asked p due game lockstep store within is.firings is.played all end run told;
-        traps = traps kind laws.stop_first what asked p due game lockstep store within is.firings is.played all end run told;
-        ends = λ steps ends enough. done_by kind laws.stop_first what asked p due game lockstep store within is.firings is.played all steps ends enough end run told;
-        fails = λ steps trap line fails none enough. fails_by kind laws.stop_first what asked p due game lockstep store within is.firings is.played all due_runs steps trap line fails none enough end run told;
-        reaches = λ steps none enough.
-            let few = within steps in
-            let in_order = subst (λ picks. IsRun (way_of game picks) (opening game) asked.limit is.firings end) none run in
-            let due_lines = all_shown game (game.own_order steps) asked.limit is.firings (lockstep.due steps) (lockstep.simulated.order steps) (omega (arith, few, enough)) end in_order in
-            let own_lines = subst (λ bytes. IsPrefix bytes (shown (way_of game []) Output (opening game) is.firings)) (lockstep.simulated.lines steps) due_lines in
-            shows kind laws.stop_first what asked p due game lockstep store within is.firings is.played all end told (out p asked.input steps)
-            (subst (λ picks. IsPrefix (out p asked.input steps) (shown (way_of game picks) Output (opening game) is.firings)) (sym none) own_lines);
-      }
+      means_play kind laws.stop_first what asked p (run_of p asked.input) (keeps_up_itself (run_of p asked.input)) due
+      (prefix_of_run kind laws.stop_first what asked p due game lockstep store within is.firings is.played all end told)
+      (rests kind laws.stop_first what asked p due game lockstep store within is.firings is.played all end run told)
+      (traps kind laws.stop_first what asked p due game lockstep store within is.firings is.played all end run told)
+      (λ steps ends enough. done_by kind laws.stop_first what asked p due game lockstep store within is.firings is.played all steps ends enough end run told)
+      (λ steps trap line fails none enough. fails_by kind laws.stop_first what asked p due game lockstep store within is.firings is.played all due_runs steps trap line fails none enough end run told)
+      (λ steps none enough.
+      let few = within steps in
+      let in_order = subst (λ picks. IsRun (way_of game picks) (opening game) asked.limit is.firings end) none run in
+      let due_lines = all_shown game (game.own_order steps) asked.limit is.firings (lockstep.due steps) (lockstep.simulated.order steps) (omega (arith, few, enough)) end in_order in
+      let own_lines = subst (λ bytes. IsPrefix bytes (shown (way_of game []) Output (opening game) is.firings)) (lockstep.simulated.lines steps) due_lines in
+      shows kind laws.stop_first what asked p due game lockstep store within is.firings is.played all end told (out p asked.input steps)
+      (subst (λ picks. IsPrefix (out p asked.input steps) (shown (way_of game picks) Output (opening game) is.firings)) (sym none) own_lines))
 
 pub game_means : GameLaws operation_game → (what : Told) (asked : Asked) (checked : Bool) (p : Program) → IsFlowGraph (flow p.execs).graph → MeansOn (Play what asked) checked p (run_of p)
 game_means laws what asked checked p strong = record { one = one_game_due operation_game laws what asked p strong; means = game_due_means operation_game laws what asked p strong }

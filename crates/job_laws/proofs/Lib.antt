@@ -9,6 +9,7 @@ mod GameMeans
 mod GraphMeans
 mod SamplesMean
 pub mod OtherRuns
+mod Soon
 mod TextRuns
 mod RegionsMean
 mod TextsMean

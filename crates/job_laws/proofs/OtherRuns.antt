@@ -8,8 +8,10 @@ use Rattle.dfc_jobs.specs.declared.task.Told.TheVariants.{Output, Nodes, Store}
 use Rattle.dfc_jobs.specs.Due.{Due, told_by_forks}
 use Rattle.dfc_jobs.specs.Game.{GameKind, fork_game, operation_game}
 use Rattle.job_laws.specs.Headline.{Means, MeansAccepted, MeansEnd, MeansOn, MeansPlay, MeansRest, MeansRun, MeansStop, MeansText, MeansTrap, TellsPrefix}
-use Rattle.job_laws.specs.SourceRuns.{AreAlike, PrintTheSame, RunsAs, SourceRun, SourceRuns, StopsByTrap, Writes, run_of}
+use Rattle.job_laws.specs.GameLaws.{StopFirst}
+use Rattle.job_laws.specs.SourceRuns.{AreAlike, KeepsUp, PrintTheSame, RunsAs, SourceRun, SourceRuns, StopsByTrap, Writes, run_of}
 use Rattle.dfc_jobs.specs.Tasks.{Asked, Task, Regions, Graph, Play, Forks, Regen, Run}
+use Rattle.job_laws.proofs.Soon.{means_play, means_run}
 
 -- what a text that is written begins with is written
 shorter : (run : SourceRun) (text rest all : List ℕ) → all ≡ text ++ rest → Writes run all → Writes run text
@@ -19,7 +21,7 @@ shorter run text rest all is writes = record {
   is = writes.is ∙ ap (λ (bytes : List ℕ). bytes ++ writes.rest) is ∙ append_assoc text rest writes.rest;
 }
 
-module _ (a b : SourceRun) (alike : AreAlike a b) where
+module _ (stop_first : StopFirst) (a b : SourceRun) (alike : AreAlike a b) where
   writes : (text : List ℕ) → Writes b text → Writes a text
   writes text is = shorter a text is.rest (b.out is.steps) is.is (alike.back is.steps)
 
@@ -69,15 +71,9 @@ module _ (a b : SourceRun) (alike : AreAlike a b) where
       told = is.told;
     }
 
-    play_on : MeansPlay kind what asked p b due → MeansPlay kind what asked p a due
-    play_on is = record {
-      prefix = prefix_on what due.text is.prefix;
-      rests = λ done. rest_on (is.rests done);
-      traps = λ trapped. trap_on (is.traps trapped);
-      ends = is.ends;
-      fails = is.fails;
-      reaches = is.reaches;
-    }
+    play_on : ((n : ℕ) → KeepsUp a (run_of p asked.input) n) → MeansPlay kind what asked p b due → MeansPlay kind what asked p a due
+    play_on keeps_up is =
+        means_play kind stop_first what asked p a keeps_up due (prefix_on what due.text is.prefix) (λ done. rest_on (is.rests done)) (λ trapped. trap_on (is.traps trapped)) is.ends is.fails is.reaches
 
   -- ---- runs of rewritten programs
 
@@ -95,41 +91,35 @@ module _ (a b : SourceRun) (alike : AreAlike a b) where
     output = is.output;
   }
 
-  run_on : (limit : ℕ) (input : List ℤ) (p : Program) (due : Due) → MeansRun limit input p b due → MeansRun limit input p a due
-  run_on limit input p due is = record {
-    prefix = writes due.text is.prefix;
-    ends = λ done. end_on input p due.text (is.ends done);
-    traps = λ trapped. stop_on input p due (is.traps trapped);
-    finishes = is.finishes;
-    fails = is.fails;
-    reaches = is.reaches;
-  }
+  run_on : (limit : ℕ) (input : List ℤ) (p : Program) (due : Due) → ((n : ℕ) → KeepsUp a (run_of p input) n) → MeansRun limit input p b due → MeansRun limit input p a due
+  run_on limit input p due keeps_up is =
+      means_run stop_first p input a keeps_up limit due (writes due.text is.prefix) (λ done. end_on input p due.text (is.ends done)) (λ trapped. stop_on input p due (is.traps trapped)) is.finishes is.fails is.reaches
 
-module _ (checked : Bool) (p : Program) (runs : SourceRuns) (alike : (input : List ℤ) → AreAlike (runs input) (run_of p input)) where
+module _ (stop_first : StopFirst) (checked : Bool) (p : Program) (runs : SourceRuns) (alike : (input : List ℤ) → AreAlike (runs input) (run_of p input)) where
   text_on : (text : List ℕ) → MeansText checked p (run_of p) text → MeansText checked p runs text
   text_on text is = record {
     form = is.form;
     flat = is.flat;
     statements = is.statements;
     is = is.is;
-    alike = λ input words. prints_the_same (runs input) (run_of p input) (alike input) (run_of is.form input) (is.alike input words);
+    alike = λ input words. prints_the_same stop_first (runs input) (run_of p input) (alike input) (run_of is.form input) (is.alike input words);
     read = is.read;
   }
 
   means_of : (task : Task) (due : Due) → Means task checked p (run_of p) due → Means task checked p runs due
   means_of Regions due is = is
   means_of Graph due is = is
-  means_of (Play what asked) due is = play_on (runs asked.input) (run_of p asked.input) (alike asked.input) operation_game what asked p due is
-  means_of (Forks nodes asked) due is = play_on (runs asked.input) (run_of p asked.input) (alike asked.input) fork_game (told_by_forks nodes) asked p due is
+  means_of (Play what asked) due is = play_on stop_first (runs asked.input) (run_of p asked.input) (alike asked.input) operation_game what asked p due (alike asked.input).keeps_up is
+  means_of (Forks nodes asked) due is = play_on stop_first (runs asked.input) (run_of p asked.input) (alike asked.input) fork_game (told_by_forks nodes) asked p due (alike asked.input).keeps_up is
   means_of Regen due is = record { ends = is.ends; text = λ done. text_on due.text (is.text done) }
-  means_of (Run limit input) due is = run_on (runs input) (run_of p input) (alike input) limit input p due is
+  means_of (Run limit input) due is = run_on stop_first (runs input) (run_of p input) (alike input) limit input p due (alike input).keeps_up is
 
   means_on : (task : Task) → MeansOn task checked p (run_of p) → MeansOn task checked p runs
   means_on task is = record { one = is.one; means = λ due owed. means_of task due (is.means due owed) }
 
 -- what is meant of the program is meant of its text
-pub accepted_means : (task : Task) (checked : Bool) (bytes : List ℕ) (p : Program) → RunsAs bytes checked p → MeansOn task checked p (run_of p) → MeansAccepted task checked bytes p
-accepted_means task checked bytes p runs_as is = record {
+pub accepted_means : StopFirst → (task : Task) (checked : Bool) (bytes : List ℕ) (p : Program) → RunsAs bytes checked p → MeansOn task checked p (run_of p) → MeansAccepted task checked bytes p
+accepted_means stop_first task checked bytes p runs_as is = record {
   runs = runs_as;
-  means = λ runs are. means_on checked p runs (runs_as.alike runs are) task is;
+  means = λ runs are. means_on stop_first checked p runs (runs_as.alike runs are) task is;
 }

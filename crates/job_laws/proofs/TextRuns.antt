@@ -1,9 +1,9 @@
 -- The runs of a text are alike with those of the program that it comes to.
-use Rattle.std.proofs.Common.{◌≡◌, ℕ, ℤ, Bool, true, false, cond, List, [], Ok, Err, refl, sym, ap, subst, ◌∙◌, append-nil}
+use Rattle.std.proofs.Common.{◌≡◌, ℕ, ◌+◌, ◌-◌, arith, ℤ, Bool, true, false, cond, List, [], Ok, Err, refl, sym, ap, subst, ◌∙◌, append-nil}
 use Rattle.std.specs.Prelude.{Result}
 use Rattle.f77_tree.specs.declared.programs.Program.{Program}
 use Rattle.f77_tree.specs.declared.statements.Labelled.{Labelled}
-use Rattle.f77_tree.specs.Run.{source}
+use Rattle.f77_tree.specs.Run.{Ended, State, source}
 use Rattle.layout_rules.specs.Layout.{layout}
 use Rattle.layout_rules.specs.Source.{IsSource}
 use Rattle.f77_subs.specs.declared.entity.Entity.{Entity}
@@ -13,13 +13,15 @@ use Rattle.f77_subs.specs.Storage.{IsStorage}
 use Rattle.f77_subs.specs.Texts.{IsText}
 use Rattle.f77_subs.specs.Units.{units}
 use Rattle.called_runs.specs.Expanded.{IsExpanded}
-use Rattle.called_runs.specs.RunsAsCalled.{RunsAsCalled}
+use Rattle.called_runs.specs.RunsAsCalled.{HoldsByName, KeepsPace, KeepsPaceWithCalls, RunsAsCalled}
 use Rattle.called_runs.specs.SpareWords.{HasStorage}
 use Rattle.fixed_form.specs.declared.raw_stmt.RawStmt.{RawStmt}
 use Rattle.fixed_form.specs.Reading as lines
 use Rattle.f77_source.specs.Listed.{is_one_unit}
 use Rattle.f77_source.specs.Reading.{HasStatements, IsProgramOf, statements_of}
-use Rattle.job_laws.specs.SourceRuns.{AreAlike, AreRunsOf, HasRuns, RunsAs, SourceRun, SourceRuns, of_one_unit, of_units, run_of, run_of_units}
+use Rattle.job_laws.specs.GameLaws.{StopFirst}
+use Rattle.job_laws.specs.SourceRuns.{AreAlike, AreRunsOf, UnitsEndByName, EndsByName, HasRuns, RunsAs, SourceRun, SourceRuns, of_one_unit, of_units, run_of, run_of_units}
+use Rattle.job_laws.proofs.Soon.{keeps_up_itself}
 
 -- ---- a text has its statements
 
@@ -32,6 +34,10 @@ same_statements bytes a b is also =
     let same : is.raws ≡ also.raws = same_value (lines.reading bytes) is.raws also.raws is.lines also.lines in
     same_value (statements_of also.raws) a b (subst (λ (raws : List RawStmt). statements_of raws ≡ Ok a) same is.statements) also.statements
 
+-- a run that has ended stays as it is
+abbrev pub StaysEnded : Type 0
+StaysEnded = (p : Program) (input : List ℤ) (n k : ℕ) → (source p input n).mark ≡ Ended → source p input (k + n) ≡ source p input n
+
 -- ---- runs that are alike
 
 alike_itself : (run : SourceRun) → AreAlike run run
@@ -40,10 +46,34 @@ alike_itself run = record {
   back = λ n. record { steps = n; rest = []; is = sym (append-nil (run.out n)) };
   ends = λ text. (λ is. is, λ is. is);
   traps = λ trap line text. (λ is. is, λ is. is);
+  keeps_up = keeps_up_itself run;
 }
 
-alike_called : (us : List (List Labelled)) (checked : Bool) (spot : Entity → ℕ) (opening input : List ℤ) (p : Program) → RunsAlike (called us checked spot input opening) (source p input) → AreAlike (run_of_units us checked spot opening input) (run_of p input)
-alike_called us checked spot opening input p is = record { front = is.front; back = is.back; ends = is.ends; traps = is.traps }
+module _ (us : List (List Labelled)) (checked : Bool) (spot : Entity → ℕ) (opening input : List ℤ) (p : Program) (paced : (n : ℕ) → KeepsPace us p.names spot (called us checked spot input opening) (source p input) n) where
+  alike_called : RunsAlike (called us checked spot input opening) (source p input) → AreAlike (run_of_units us checked spot opening input) (run_of p input)
+  alike_called is = record {
+    front = is.front;
+    back = is.back;
+    ends = is.ends;
+    traps = is.traps;
+    keeps_up = λ n. let s = paced n in record { steps = s.steps; few = s.few; outs = s.outs; marks = s.marks };
+  }
+
+  -- the program ends too, and then it stays
+  ends_by_name : StopFirst → StaysEnded → (n : ℕ) → (called us checked spot input opening n).mark ≡ Ended → EndsByName us spot (called us checked spot input opening n) p input n
+  ends_by_name stop_first stays n ended =
+      let s = paced n in
+      let first = stop_first p input s.steps Ended (λ e. absurd cc) (sym s.marks ∙ ended) in
+      let few = s.few in
+      let within = first.within in
+      let sum : s.steps - first.count + first.count ≡ s.steps = omega (arith, within) in
+      let same : source p input s.steps ≡ source p input first.count = ap (source p input) (sym sum) ∙ stays p input first.count (s.steps - first.count) first.stops.reached in
+      record {
+        steps = first.count;
+        few = omega (arith, few, within);
+        ends = first.stops;
+        words = subst (λ (y : State). HoldsByName us p.names spot (called us checked spot input opening n).store y.memory.store) same s.words;
+      }
 
 -- ---- texts
 
@@ -52,7 +82,10 @@ pub record CallLaws : Type 0 where
   pub sources : (stmts list : List Labelled) (checked : Bool) → IsText stmts → expansion stmts checked ≡ Ok list → IsSource list
   pub expanded : (stmts list : List Labelled) (checked : Bool) (p : Program) → IsText stmts → expansion stmts checked ≡ Ok list → IsSource list → layout list checked ≡ Ok p → IsExpanded stmts checked p
   pub runs : (stmts : List Labelled) (checked : Bool) (p : Program) → IsExpanded stmts checked p → RunsAsCalled stmts checked p
+  pub paced : (stmts : List Labelled) (checked : Bool) (p : Program) → IsExpanded stmts checked p → KeepsPaceWithCalls stmts checked p
   pub storage : (stmts : List Labelled) (checked : Bool) (p : Program) → IsExpanded stmts checked p → HasStorage (units stmts) checked
+  pub first : StopFirst
+  pub stays : StaysEnded
 
 module _ (laws : CallLaws) (bytes : List ℕ) (checked : Bool) (p : Program) (is : IsProgramOf bytes checked p) where
   abbrev stmts : List Labelled
@@ -82,7 +115,17 @@ module _ (laws : CallLaws) (bytes : List ℕ) (checked : Bool) (p : Program) (is
       let here : is_one_unit stmts ≡ false = subst (λ (xs : List Labelled). is_one_unit xs ≡ false) same several in
       let laid : IsStorage (units stmts) checked spot words opening = subst (λ (xs : List Labelled). IsStorage (units xs) checked spot words opening) same storage in
       subst (λ (xs : List Labelled). AreAlike (run_of_units (units xs) checked spot opening input) (run_of p input)) (sym same)
-      (alike_called (units stmts) checked spot opening input p (laws.runs stmts checked p (expanded here) spot words opening input laid))
+      (alike_called (units stmts) checked spot opening input p (laws.paced stmts checked p (expanded here) spot words opening input laid) (laws.runs stmts checked p (expanded here) spot words opening input laid))
+
+  by_name : (several : is_one_unit stmts ≡ false) → UnitsEndByName stmts checked p
+  by_name several spot words opening input n storage ended =
+      ends_by_name (units stmts) checked spot opening input p (laws.paced stmts checked p (expanded several) spot words opening input storage) laws.first laws.stays n ended
 
   pub runs_as : RunsAs bytes checked p
-  runs_as = record { has = has_runs (is_one_unit stmts) refl; alike = runs_alike }
+  runs_as = record {
+    has = has_runs (is_one_unit stmts) refl;
+    alike = runs_alike;
+    ends = λ others has several.
+        let same : others ≡ stmts = same_statements bytes others stmts has is.has in
+        subst (λ (xs : List Labelled). UnitsEndByName xs checked p) (sym same) (by_name (subst (λ (xs : List Labelled). is_one_unit xs ≡ false) same several));
+  }

@@ -1,5 +1,5 @@
 -- What each job promises of a text that is a program, beyond the bytes that are due: output, ends and traps are those of a run of the
--- text, steps and the final store those of the program that it comes to.
+-- text, which the program that it comes to follows in at most four times as many steps, with the same words by name (`RunsAs`).
 use Rattle.std.specs.Prelude.{◌≡◌, ◌<◌, ◌≤◌, ◌+◌, ◌*◌, ◌++◌, ◌↔◌, ◌⊎◌, ℕ, ℤ, suc, Bool, false, All, List, [], length, slice_index}
 use Rattle.op_table.specs.declared.Trap.{Trap}
 use Rattle.op_table.specs.Words.{IsWord}
@@ -88,6 +88,13 @@ pub record MeansTrap (what : Told) (asked : Asked) (p : Program) (run : SourceRu
   pub is : due ≡ trapped due.text trap line
   pub told : TellsTrap what asked p steps due.text
 
+-- The same by steps of the run of the text, of which the program takes at most four each (`KeepsUp`): where the run ends, the game is
+-- done; where it traps, the game traps in the source's own order; and what it has written is told in that order.
+pub record MeansSoon (what : Told) (asked : Asked) (p : Program) (run : SourceRun) (due : Due) : Type 0 where
+  pub ends : (n : ℕ) → run.mark n ≡ Ended → bound_of p (4 * n) ≤ asked.limit → due.status ≡ Done
+  pub fails : (n : ℕ) (trap : Trap) (line : ℕ) → run.mark n ≡ marks.Trapped trap line → asked.picks ≡ [] → bound_of p (4 * n) ≤ asked.limit → due.status ≡ Trapped
+  pub reaches : (n : ℕ) → asked.picks ≡ [] → bound_of p (4 * n) ≤ asked.limit → TellsAtLeast what (run.out n) due.text
+
 -- What is written as output is a prefix of what the run writes, whatever the picks and the limit. The game is done only where the run
 -- ends, and traps only where it traps. Where the run of the program ends and the limit is large enough, the game is done; where it traps
 -- and the limit is large enough, the game traps in the source's own order. In that order what the program has written after some steps is
@@ -99,6 +106,7 @@ pub record MeansPlay {M : Type 0} (kind : GameKind M) (what : Told) (asked : Ask
   pub ends : (steps : ℕ) → EndsIn p asked.input steps → bound_of p steps ≤ asked.limit → due.status ≡ Done
   pub fails : (steps : ℕ) (trap : Trap) (line : ℕ) → TrapsAt p asked.input steps trap line → asked.picks ≡ [] → bound_of p steps ≤ asked.limit → due.status ≡ Trapped
   pub reaches : (steps : ℕ) → asked.picks ≡ [] → bound_of p steps ≤ asked.limit → TellsAtLeast what (out p asked.input steps) due.text
+  pub soon : MeansSoon what asked p run due
 
 -- ---- graphs
 
@@ -159,6 +167,12 @@ pub record MeansStop (input : List ℤ) (p : Program) (run : SourceRun) (due : D
   pub is : due ≡ trapped_alone due.text trap
   pub output : due.text ≡ out p input steps
 
+-- The same by steps of the run of the text, of which the program takes at most four each.
+pub record RunsSoon (limit : ℕ) (p : Program) (run : SourceRun) (due : Due) : Type 0 where
+  pub finishes : (n : ℕ) → run.mark n ≡ Ended → run_bound p (4 * n) ≤ limit → (due.status ≡ Done) ⊎ (due.status ≡ Refused_status)
+  pub fails : (n : ℕ) (trap : Trap) (line : ℕ) → run.mark n ≡ marks.Trapped trap line → run_bound p (4 * n) ≤ limit → (due.status ≡ Trapped) ⊎ (due.status ≡ Refused_status)
+  pub reaches : (n : ℕ) → run_bound p (4 * n) ≤ limit → IsPrefix (run.out n) due.text ⊎ (due.status ≡ Refused_status)
+
 -- What is written as output is a prefix of what the run writes. The job is done only where the run ends, and tells of a trap only where
 -- it traps. Where that of the program ends or traps and the limit is large enough, so it is, but for a limit of the rewriting. What the
 -- program has written after some steps is told, where the limit is large enough for these steps, but for a limit of the rewriting.
@@ -169,6 +183,7 @@ pub record MeansRun (limit : ℕ) (input : List ℤ) (p : Program) (run : Source
   pub finishes : (steps : ℕ) → EndsIn p input steps → run_bound p steps ≤ limit → (due.status ≡ Done) ⊎ (due.status ≡ Refused_status)
   pub fails : (steps : ℕ) (trap : Trap) (line : ℕ) → TrapsAt p input steps trap line → run_bound p steps ≤ limit → (due.status ≡ Trapped) ⊎ (due.status ≡ Refused_status)
   pub reaches : (steps : ℕ) → run_bound p steps ≤ limit → IsPrefix (out p input steps) due.text ⊎ (due.status ≡ Refused_status)
+  pub soon : RunsSoon limit p run due
 
 -- what each task promises
 abbrev pub Means : Task → (checked : Bool) → Program → SourceRuns → Due → Type 0

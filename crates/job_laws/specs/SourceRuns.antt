@@ -1,13 +1,14 @@
 -- The runs of a text: those of the program that it is, or of its units by a stack of frames.
-use Rattle.std.specs.Prelude.{◌≡◌, ◌↔◌, ℕ, ℤ, Bool, true, false, List}
+use Rattle.std.specs.Prelude.{◌≡◌, ◌↔◌, ◌≤◌, ◌*◌, ℕ, ℤ, Bool, true, false, List}
 use Rattle.op_table.specs.declared.Trap.{Trap}
 use Rattle.f77_tree.specs.declared.programs.Program.{Program}
 use Rattle.f77_tree.specs.declared.statements.Labelled.{Labelled}
-use Rattle.f77_tree.specs.Run.{Mark, Ended, Trapped, source}
+use Rattle.f77_tree.specs.Run.{Mark, Ended, EndsIn, Trapped, source}
 use Rattle.f77_subs.specs.declared.entity.Entity.{Entity}
-use Rattle.f77_subs.specs.Calls.{HasMark, ReachesText, called}
+use Rattle.f77_subs.specs.Calls.{CallState, HasMark, ReachesText, called}
 use Rattle.f77_subs.specs.Storage.{IsStorage}
 use Rattle.f77_subs.specs.Units.{units}
+use Rattle.called_runs.specs.RunsAsCalled.{HoldsByName}
 use Rattle.f77_source.specs.Listed.{is_one_unit}
 use Rattle.f77_source.specs.Reading.{HasStatements}
 
@@ -59,22 +60,46 @@ pub record StopsByTrap (run : SourceRun) (trap : Trap) (text : List ℕ) : Type 
 
 -- ---- two runs
 
+-- After some steps of the second, at most four for each of the first, both have written the same, and have the same mark.
+pub record KeepsUp (a b : SourceRun) (n : ℕ) : Type 0 where
+  pub steps : ℕ
+  pub few : steps ≤ 4 * n
+  pub outs : a.out n ≡ b.out steps
+  pub marks : a.mark n ≡ b.mark steps
+
 -- What either has written the other writes too; one ends exactly where the other ends, and one traps exactly where the other traps,
--- with the same trap, line and whole output.
+-- with the same trap, line and whole output. The second keeps up with the first.
 pub record AreAlike (a b : SourceRun) : Type 0 where
   pub front : (n : ℕ) → Writes b (a.out n)
   pub back : (n : ℕ) → Writes a (b.out n)
   pub ends : (text : List ℕ) → Stops a Ended text ↔ Stops b Ended text
   pub traps : (trap : Trap) (line : ℕ) (text : List ℕ) → Stops a (Trapped trap line) text ↔ Stops b (Trapped trap line) text
+  pub keeps_up : (n : ℕ) → KeepsUp a b n
 
--- the same of programs with lines of their own: a trap may come at another line
+-- the same, whatever the steps, of programs with lines of their own: a trap may come at another line
 pub record PrintTheSame (a b : SourceRun) : Type 0 where
   pub front : (n : ℕ) → Writes b (a.out n)
   pub back : (n : ℕ) → Writes a (b.out n)
   pub ends : (text : List ℕ) → Stops a Ended text ↔ Stops b Ended text
   pub traps : (trap : Trap) (text : List ℕ) → StopsByTrap a trap text ↔ StopsByTrap b trap text
 
--- The text has runs, and any runs of it are alike with those of the program.
+-- Where the run of units comes to this state by n steps and ends, the program ends in at most four times as many, and holds the words of
+-- each entity under its name.
+pub record EndsByName (us : List (List Labelled)) (spot : Entity → ℕ) (x : CallState) (p : Program) (input : List ℤ) (n : ℕ) : Type 0 where
+  pub steps : ℕ
+  pub few : steps ≤ 4 * n
+  pub ends : EndsIn p input steps
+  pub words : HoldsByName us p.names spot x.store (source p input steps).memory.store
+
+-- so it is of the units of these statements, over any storage and data
+abbrev pub UnitsEndByName : List Labelled → (checked : Bool) → Program → Type 0
+UnitsEndByName stmts checked p =
+    (spot : Entity → ℕ) (words : ℕ) (opening input : List ℤ) (n : ℕ) → IsStorage (units stmts) checked spot words opening
+    → (called (units stmts) checked spot input opening n).mark ≡ Ended → EndsByName (units stmts) spot (called (units stmts) checked spot input opening n) p input n
+
+-- The text has runs, and any runs of it are alike with those of the program. Where several units end, so does the program, with the words
+-- of entities under their names.
 pub record RunsAs (bytes : List ℕ) (checked : Bool) (p : Program) : Type 0 where
   pub has : HasRuns bytes checked p
   pub alike : (runs : SourceRuns) → AreRunsOf bytes checked p runs → (input : List ℤ) → AreAlike (runs input) (run_of p input)
+  pub ends : (stmts : List Labelled) → HasStatements bytes stmts → is_one_unit stmts ≡ false → UnitsEndByName stmts checked p

@@ -14,8 +14,10 @@ use crate::games::{forks_mean, games_mean};
 use crate::graphs::{graphs_mean, regions_mean};
 use called_runs::{expansions_run_as_calls, laid_expansions_are_expanded, programs_have_storage};
 use expanded_sources::expansions_are_sources;
+use f77_tree::{runs_stop_first, stopped_runs_stay};
 
-/// A text runs as the program that it comes to does: one of several units with a frame for each CALL, over any storage.
+/// A text runs as the program that it comes to does: one of several units with a frame for each CALL, over any storage. The program takes
+/// at most four steps for one of the units, and leaves the words of each entity under its name.
 pub fn texts_run_as_programs()
     ensures { (bytes : List ℕ) (checked : Bool) (p : Program) → IsProgramOf bytes checked p → RunsAs bytes checked p }
 {
@@ -23,6 +25,8 @@ pub fn texts_run_as_programs()
     laid_expansions_are_expanded();
     expansions_run_as_calls();
     programs_have_storage();
+    runs_stop_first();
+    stopped_runs_stay();
 }
 
 /// What is due of a task on the program of a text means what the task promises of the runs of the text.
@@ -36,4 +40,5 @@ pub fn texts_mean()
     forks_mean();
     regenerated_texts_mean();
     runs_mean();
+    runs_stop_first();
 }

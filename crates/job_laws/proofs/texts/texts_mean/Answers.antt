@@ -9,7 +9,7 @@ use Rattle.job_laws.proofs.TextsMean.{task_means}
 use Rattle.job_laws.proofs.texts.texts_mean.Goals as goal
 
 pub returns : goal.returns
-returns c = λ task checked bytes own words. task_means task checked bytes (reading checked bytes) own (c.texts_run_as_programs.ensures bytes checked) (on task checked bytes words)
+returns c = λ task checked bytes own words. task_means c.runs_stop_first.ensures task checked bytes (reading checked bytes) own (c.texts_run_as_programs.ensures bytes checked) (on task checked bytes words)
   where
     on : (task : Task) (checked : Bool) (bytes : List ℕ) → HasWords task → (p : Program) → IsOf bytes checked p → MeansOn task checked p (run_of p)
     on Regions checked bytes words p of = c.regions_mean.ensures p checked of.well_formed
